@@ -1,0 +1,170 @@
+-- The rows of the table's parts, both ways.
+use Rattle.std.proofs.Common.{◌≡◌, ◌≢◌, ◌⊎◌, inl, inr, ⊎_elim, ℕ, zero, suc, ◌+◌, ◌-◌, ◌<◌, List, [], ◌∷◌, refl, sym, ap, ◌∙◌, subst, arith, Option, Some, None}
+use Rattle.std.proofs.lemmas.Bool.{cases_eq}
+use Rattle.std.proofs.lemmas.Bool.Decides.{nat_tests}
+use Rattle.std.specs.Prelude.{slice_get}
+use Rattle.sm_words.specs.Words.{nth}
+use Rattle.insn_decode.specs.declared.insn.TwoOp.{TwoOp}
+use Rattle.insn_decode.specs.declared.insn.TwoOp.TheVariants.{Mov, Add, Addc, Subc, Sub, Cmp, Dadd, Bit, Bic, Bis, Xor, And}
+use Rattle.insn_decode.specs.declared.insn.OneOp.{OneOp}
+use Rattle.insn_decode.specs.declared.insn.OneOp.TheVariants.{Rrc, Swpb, Rra, Sxt, Push, Call}
+use Rattle.insn_decode.specs.declared.insn.Operand.{Operand}
+use Rattle.insn_decode.specs.declared.insn.Operand.TheVariants.{Reg, Const, Imm, Indexed, Symbolic, Absolute, Indirect, Increment}
+use Rattle.insn_decode.specs.Code.{source_row, source_of, dest_of, two_ops, one_ops}
+use Rattle.insn_decode.specs.Means.{two_code, one_code, IsPlain, Source, register, symbolic, absolute, indexed, indirect, increment, immediate, four, eight, nought, one, two, all_ones, Destination, to_register, to_symbolic, to_absolute, to_indexed}
+
+pub apart : {A : Type 0} {P : Type 0} (o : Option A) (x : A) → o ≡ None → o ≡ Some x → P
+apart o x e f = cc
+
+pub some_is : {A : Type 0} (x y : A) → Some x ≡ Some y → x ≡ y
+some_is x y e = cc
+
+-- ---- sources
+
+plain_row : (r x : ℕ) → IsPlain r → source_row r x ≡ (Some (Reg r) ∷ Some (Indexed r x) ∷ Some (Indirect r) ∷ Some (Increment r) ∷ [])
+plain_row r x p = let a : r ≢ 0 = p.not_pc in let b : r ≢ 2 = p.not_sr in let c : r ≢ 3 = p.not_constants in grind (arith, nat_tests)
+
+plain_at : (m r x : ℕ) → IsPlain r → source_of m r x ≡ nth m (Some (Reg r) ∷ Some (Indexed r x) ∷ Some (Indirect r) ∷ Some (Increment r) ∷ []) None
+plain_at m r x p = ap (λ (row : List (Option Operand)). nth m row None) (plain_row r x p)
+
+-- a register is one of the three with modes of their own, or plain
+kind_of : (r : ℕ) → (r ≡ 0) ⊎ ((r ≡ 2) ⊎ ((r ≡ 3) ⊎ IsPlain r))
+kind_of r =
+    ⊎_elim (λ a. inl a)
+    (λ a. inr (⊎_elim (λ b. inl b)
+    (λ b. inr (⊎_elim (λ c. inl c) (λ c. inr (record { not_pc = a; not_sr = b; not_constants = c })) (cases_eq r 3)))
+    (cases_eq r 2)))
+    (cases_eq r 0)
+
+pub source_found : {m r x : ℕ} {o : Operand} → Source m r x o → source_of m r x ≡ Some o
+source_found (register r x ne) = found (kind_of r)
+  where
+    found : (r ≡ 0) ⊎ ((r ≡ 2) ⊎ ((r ≡ 3) ⊎ IsPlain r)) → source_of 0 r x ≡ Some (Reg r)
+    found (inl e) = subst (λ (n : ℕ). source_of 0 n x ≡ Some (Reg n)) (sym e) refl
+    found (inr (inl e)) = subst (λ (n : ℕ). source_of 0 n x ≡ Some (Reg n)) (sym e) refl
+    found (inr (inr (inl e))) = absurd (ne e)
+    found (inr (inr (inr p))) = plain_at 0 r x p
+source_found (symbolic x) = refl
+source_found (absolute x) = refl
+source_found (indexed r x p) = plain_at 1 r x p
+source_found (indirect r x p) = plain_at 2 r x p
+source_found (increment r x p) = plain_at 3 r x p
+source_found (immediate x) = refl
+source_found (four x) = refl
+source_found (eight x) = refl
+source_found (nought x) = refl
+source_found (one x) = refl
+source_found (two x) = refl
+source_found (all_ones x) = refl
+
+pc_read : (m x : ℕ) (o : Operand) → source_of m 0 x ≡ Some o → Source m 0 x o
+pc_read zero x o e = subst (λ (p : Operand). Source 0 0 x p) (some_is (Reg 0) o e) (register 0 x (omega arith))
+pc_read (suc zero) x o e = subst (λ (p : Operand). Source 1 0 x p) (some_is (Symbolic x) o e) (symbolic x)
+pc_read (suc (suc zero)) x o e = absurd cc
+pc_read (suc (suc (suc zero))) x o e = subst (λ (p : Operand). Source 3 0 x p) (some_is (Imm x) o e) (immediate x)
+pc_read (suc (suc (suc (suc m)))) x o e = absurd cc
+
+sr_read : (m x : ℕ) (o : Operand) → source_of m 2 x ≡ Some o → Source m 2 x o
+sr_read zero x o e = subst (λ (p : Operand). Source 0 2 x p) (some_is (Reg 2) o e) (register 2 x (omega arith))
+sr_read (suc zero) x o e = subst (λ (p : Operand). Source 1 2 x p) (some_is (Absolute x) o e) (absolute x)
+sr_read (suc (suc zero)) x o e = subst (λ (p : Operand). Source 2 2 x p) (some_is (Const 4) o e) (four x)
+sr_read (suc (suc (suc zero))) x o e = subst (λ (p : Operand). Source 3 2 x p) (some_is (Const 8) o e) (eight x)
+sr_read (suc (suc (suc (suc m)))) x o e = absurd cc
+
+constant_read : (m x : ℕ) (o : Operand) → source_of m 3 x ≡ Some o → Source m 3 x o
+constant_read zero x o e = subst (λ (p : Operand). Source 0 3 x p) (some_is (Const 0) o e) (nought x)
+constant_read (suc zero) x o e = subst (λ (p : Operand). Source 1 3 x p) (some_is (Const 1) o e) (one x)
+constant_read (suc (suc zero)) x o e = subst (λ (p : Operand). Source 2 3 x p) (some_is (Const 2) o e) (two x)
+constant_read (suc (suc (suc zero))) x o e = subst (λ (p : Operand). Source 3 3 x p) (some_is (Const 65535) o e) (all_ones x)
+constant_read (suc (suc (suc (suc m)))) x o e = absurd cc
+
+plain_read : (m r x : ℕ) (o : Operand) → IsPlain r → nth m (Some (Reg r) ∷ Some (Indexed r x) ∷ Some (Indirect r) ∷ Some (Increment r) ∷ []) None ≡ Some o → Source m r x o
+plain_read zero r x o p e = subst (λ (q : Operand). Source 0 r x q) (some_is (Reg r) o e) (register r x p.not_constants)
+plain_read (suc zero) r x o p e = subst (λ (q : Operand). Source 1 r x q) (some_is (Indexed r x) o e) (indexed r x p)
+plain_read (suc (suc zero)) r x o p e = subst (λ (q : Operand). Source 2 r x q) (some_is (Indirect r) o e) (indirect r x p)
+plain_read (suc (suc (suc zero))) r x o p e = subst (λ (q : Operand). Source 3 r x q) (some_is (Increment r) o e) (increment r x p)
+plain_read (suc (suc (suc (suc m)))) r x o p e = absurd cc
+
+pub source_read : (m r x : ℕ) (o : Operand) → source_of m r x ≡ Some o → Source m r x o
+source_read m r x o e = read (kind_of r)
+  where
+    read : (r ≡ 0) ⊎ ((r ≡ 2) ⊎ ((r ≡ 3) ⊎ IsPlain r)) → Source m r x o
+    read (inl k) = subst (λ (n : ℕ). Source m n x o) (sym k) (pc_read m x o (subst (λ (n : ℕ). source_of m n x ≡ Some o) k e))
+    read (inr (inl k)) = subst (λ (n : ℕ). Source m n x o) (sym k) (sr_read m x o (subst (λ (n : ℕ). source_of m n x ≡ Some o) k e))
+    read (inr (inr (inl k))) = subst (λ (n : ℕ). Source m n x o) (sym k) (constant_read m x o (subst (λ (n : ℕ). source_of m n x ≡ Some o) k e))
+    read (inr (inr (inr p))) = plain_read m r x o p (sym (plain_at m r x p) ∙ e)
+
+-- ---- destinations, whose mode is 0 or 1
+
+plain_place : (r x : ℕ) → IsPlain r → dest_of 1 r x ≡ Some (Indexed r x)
+plain_place r x p = let a : r ≢ 0 = p.not_pc in let b : r ≢ 2 = p.not_sr in let c : r ≢ 3 = p.not_constants in grind (arith, nat_tests)
+
+pub destination_found : {m r x : ℕ} {o : Operand} → Destination m r x o → dest_of m r x ≡ Some o
+destination_found (to_register r x) = refl
+destination_found (to_symbolic x) = refl
+destination_found (to_absolute x) = refl
+destination_found (to_indexed r x p) = plain_place r x p
+
+pub destination_read : (m r x : ℕ) (o : Operand) → m < 2 → dest_of m r x ≡ Some o → Destination m r x o
+destination_read zero r x o h e = subst (λ (p : Operand). Destination 0 r x p) (some_is (Reg r) o e) (to_register r x)
+destination_read (suc zero) r x o h e = read (kind_of r)
+  where
+    read : (r ≡ 0) ⊎ ((r ≡ 2) ⊎ ((r ≡ 3) ⊎ IsPlain r)) → Destination 1 r x o
+    read (inl k) =
+        let f : dest_of 1 0 x ≡ Some o = subst (λ (n : ℕ). dest_of 1 n x ≡ Some o) k e in
+        subst (λ (n : ℕ). Destination 1 n x o) (sym k) (subst (λ (p : Operand). Destination 1 0 x p) (some_is (Symbolic x) o f) (to_symbolic x))
+    read (inr (inl k)) =
+        let f : dest_of 1 2 x ≡ Some o = subst (λ (n : ℕ). dest_of 1 n x ≡ Some o) k e in
+        subst (λ (n : ℕ). Destination 1 n x o) (sym k) (subst (λ (p : Operand). Destination 1 2 x p) (some_is (Absolute x) o f) (to_absolute x))
+    read (inr (inr (inl k))) =
+        apart (dest_of 1 3 x) o refl (subst (λ (n : ℕ). dest_of 1 n x ≡ Some o) k e)
+    read (inr (inr (inr p))) = subst (λ (q : Operand). Destination 1 r x q) (some_is (Indexed r x) o (sym (plain_place r x p) ∙ e)) (to_indexed r x p)
+destination_read (suc (suc m)) r x o h e = absurd (omega arith)
+
+-- ---- opcodes
+
+pub two_found : (op : TwoOp) → slice_get two_ops (two_code op - 4) ≡ Some op
+two_found Mov = refl
+two_found Add = refl
+two_found Addc = refl
+two_found Subc = refl
+two_found Sub = refl
+two_found Cmp = refl
+two_found Dadd = refl
+two_found Bit = refl
+two_found Bic = refl
+two_found Bis = refl
+two_found Xor = refl
+two_found And = refl
+
+pub two_read : (k : ℕ) (op : TwoOp) → slice_get two_ops k ≡ Some op → k + 4 ≡ two_code op
+two_read zero op e = ap two_code (some_is Mov op e)
+two_read (suc zero) op e = ap two_code (some_is Add op e)
+two_read (suc (suc zero)) op e = ap two_code (some_is Addc op e)
+two_read (suc (suc (suc zero))) op e = ap two_code (some_is Subc op e)
+two_read (suc (suc (suc (suc zero)))) op e = ap two_code (some_is Sub op e)
+two_read (suc (suc (suc (suc (suc zero))))) op e = ap two_code (some_is Cmp op e)
+two_read (suc (suc (suc (suc (suc (suc zero)))))) op e = ap two_code (some_is Dadd op e)
+two_read (suc (suc (suc (suc (suc (suc (suc zero))))))) op e = ap two_code (some_is Bit op e)
+two_read (suc (suc (suc (suc (suc (suc (suc (suc zero)))))))) op e = ap two_code (some_is Bic op e)
+two_read (suc (suc (suc (suc (suc (suc (suc (suc (suc zero))))))))) op e = ap two_code (some_is Bis op e)
+two_read (suc (suc (suc (suc (suc (suc (suc (suc (suc (suc zero)))))))))) op e = ap two_code (some_is Xor op e)
+two_read (suc (suc (suc (suc (suc (suc (suc (suc (suc (suc (suc zero))))))))))) op e = ap two_code (some_is And op e)
+two_read (suc (suc (suc (suc (suc (suc (suc (suc (suc (suc (suc (suc k)))))))))))) op e = absurd cc
+
+pub one_found : (op : OneOp) → slice_get one_ops (one_code op) ≡ Some op
+one_found Rrc = refl
+one_found Swpb = refl
+one_found Rra = refl
+one_found Sxt = refl
+one_found Push = refl
+one_found Call = refl
+
+pub one_read : (k : ℕ) (op : OneOp) → slice_get one_ops k ≡ Some op → k ≡ one_code op
+one_read zero op e = ap one_code (some_is Rrc op e)
+one_read (suc zero) op e = ap one_code (some_is Swpb op e)
+one_read (suc (suc zero)) op e = ap one_code (some_is Rra op e)
+one_read (suc (suc (suc zero))) op e = ap one_code (some_is Sxt op e)
+one_read (suc (suc (suc (suc zero)))) op e = ap one_code (some_is Push op e)
+one_read (suc (suc (suc (suc (suc zero))))) op e = ap one_code (some_is Call op e)
+one_read (suc (suc (suc (suc (suc (suc k)))))) op e = absurd cc

@@ -1,0 +1,155 @@
+-- The code table: what the words of an instruction mean, by quotients and remainders of the first
+-- (MSP430x1xx Family User's Guide SLAU049, sections 3.3 and 3.4; the unit instructions are this project's).
+use Rattle.std.specs.Prelude.{◌≡◌, ℕ, ◌+◌, ◌-◌, ◌*◌, ◌/◌, ◌%◌, ◌<◌, List, [], ◌∷◌, slice_get, ◌==◌, nat_lt, if◌then◌else◌, Bool, true, false, ◌&&◌, ◌||◌, Option, Some, None, ℤ, pos, negsuc, ◌-ℤ◌, IsTrue}
+use Rattle.sm_words.specs.Words.{nth}
+use Rattle.sm_words.specs.declared.width.Width.{Width}
+use Rattle.sm_words.specs.declared.width.Width.TheVariants.{Byte, Word}
+use Rattle.insn_decode.specs.declared.insn.TwoOp.{TwoOp}
+use Rattle.insn_decode.specs.declared.insn.TwoOp.TheVariants.{Mov, Add, Addc, Subc, Sub, Cmp, Dadd, Bit, Bic, Bis, Xor, And}
+use Rattle.insn_decode.specs.declared.insn.OneOp.{OneOp}
+use Rattle.insn_decode.specs.declared.insn.OneOp.TheVariants.{Rrc, Swpb, Rra, Sxt, Push, Call}
+use Rattle.insn_decode.specs.declared.insn.Operand.{Operand}
+use Rattle.insn_decode.specs.declared.insn.Operand.TheVariants.{Reg, Const, Imm, Indexed, Symbolic, Absolute, Indirect, Increment}
+use Rattle.insn_decode.specs.declared.insn.Insn.{Insn}
+use Rattle.insn_decode.specs.declared.insn.Insn.TheVariants.{Two, One, Jump, Reti, Unit as UnitOp}
+
+-- a register's row of the source modes 0 to 3; x is the extension word
+abbrev pub source_row : ℕ → ℕ → List (Option Operand)
+source_row r x =
+    if r == 0 then Some (Reg 0) ∷ Some (Symbolic x) ∷ None ∷ Some (Imm x) ∷ []
+    else (if r == 2 then Some (Reg 2) ∷ Some (Absolute x) ∷ Some (Const 4) ∷ Some (Const 8) ∷ []
+    else (if r == 3 then Some (Const 0) ∷ Some (Const 1) ∷ Some (Const 2) ∷ Some (Const 65535) ∷ []
+    else Some (Reg r) ∷ Some (Indexed r x) ∷ Some (Indirect r) ∷ Some (Increment r) ∷ []))
+
+-- a source operand by its mode and register
+abbrev pub source_of : ℕ → ℕ → ℕ → Option Operand
+source_of mode r x = nth mode (source_row r x) None
+
+-- a destination operand
+abbrev pub dest_of : ℕ → ℕ → ℕ → Option Operand
+dest_of mode r x =
+    if mode == 0 then Some (Reg r) else (if r == 3 then None else (if r == 0 then Some (Symbolic x) else (if r == 2 then Some (Absolute x) else Some (Indexed r x))))
+
+-- the number of extension words
+abbrev pub words_of : Operand → ℕ
+words_of (Imm x) = 1
+words_of (Indexed r x) = 1
+words_of (Symbolic x) = 1
+words_of (Absolute x) = 1
+words_of _ = 0
+
+-- the number of words
+abbrev pub length_of : Insn → ℕ
+length_of (Two op w s d) = 1 + words_of s + words_of d
+length_of (One op w a) = 1 + words_of a
+length_of _ = 1
+
+-- the width by the byte flag
+abbrev pub width_of : ℕ → Width
+width_of b = if b == 1 then Byte else Word
+
+-- the operations of format I, from opcode 4 on
+abbrev pub two_ops : List TwoOp
+two_ops = Mov ∷ Add ∷ Addc ∷ Subc ∷ Sub ∷ Cmp ∷ Dadd ∷ Bit ∷ Bic ∷ Bis ∷ Xor ∷ And ∷ []
+
+-- the operations of format II, from opcode 0 on
+abbrev pub one_ops : List OneOp
+one_ops = Rrc ∷ Swpb ∷ Rra ∷ Sxt ∷ Push ∷ Call ∷ []
+
+-- with a destination, if there is one
+abbrev pub two_and : TwoOp → Width → Operand → Option Operand → Option Insn
+two_and op w s None = None
+two_and op w s (Some d) = Some (Two op w s d)
+
+-- with a source, if there is one
+abbrev pub two_with : TwoOp → Width → Option Operand → (Operand → Option Operand) → Option Insn
+two_with op w None dest = None
+two_with op w (Some s) dest = two_and op w s (dest s)
+
+-- format I; the source's extension word stands before the destination's
+abbrev pub two_of : Option TwoOp → ℕ → ℕ → ℕ → Option Insn
+two_of None w0 w1 w2 = None
+two_of (Some op) w0 w1 w2 =
+    two_with op (width_of ((w0 / 64) % 2)) (source_of ((w0 / 16) % 4) ((w0 / 256) % 16) w1) (λ s. dest_of ((w0 / 128) % 2) (w0 % 16) (if words_of s == 1 then w2 else w1))
+
+-- what format II takes: three operations have no byte form, and a result needs a place
+abbrev pub one_fits : OneOp → Width → Operand → Bool
+one_fits Push w a = true
+one_fits Call Byte a = false
+one_fits Call Word a = true
+one_fits Swpb Byte a = false
+one_fits Sxt Byte a = false
+one_fits op w (Imm x) = false
+one_fits op w (Const c) = false
+one_fits op w a = true
+
+-- with an operand that it takes, if there is one
+abbrev pub one_with : OneOp → Width → Option Operand → Option Insn
+one_with op w None = None
+one_with op w (Some a) = if one_fits op w a then Some (One op w a) else None
+
+-- format II
+abbrev pub one_of : Option OneOp → ℕ → ℕ → Option Insn
+one_of None w0 w1 = None
+one_of (Some op) w0 w1 = one_with op (width_of ((w0 / 64) % 2)) (source_of ((w0 / 16) % 4) (w0 % 16) w1)
+
+-- a jump's offset in words: ten bits, signed
+abbrev pub offset_of : ℕ → ℤ
+offset_of n = if nat_lt n 512 then pos n else (pos n -ℤ pos 1024)
+
+-- a jump's offset as a distance in bytes, modulo 65,536
+abbrev pub distance : ℤ → ℕ
+distance (pos n) = (2 * n) % 65536
+distance (negsuc n) = 65536 - (2 * (n + 1)) % 65536
+
+-- the instruction that these words begin with, or none where the first is outside the table
+unfoldable pub insn_of : ℕ → ℕ → ℕ → Option Insn
+insn_of w0 w1 w2 =
+    if nat_lt 16383 w0 then two_of (slice_get two_ops (w0 / 4096 - 4)) w0 w1 w2
+    else (if w0 / 8192 == 1 then Some (Jump ((w0 / 1024) % 8) (offset_of (w0 % 1024)))
+    else (if w0 == 4864 then Some Reti
+    else (if nat_lt 4991 w0 && nat_lt w0 4999 then Some (UnitOp (w0 - 4992))
+    else (if w0 / 1024 == 4 then one_of (slice_get one_ops ((w0 / 128) % 8)) w0 w1
+    else None))))
+
+-- the length of an instruction, and 1 where there is none
+abbrev pub length_or_one : Option Insn → ℕ
+length_or_one (Some insn) = length_of insn
+length_or_one None = 1
+
+-- the number of words that a first word calls for, and 1 where it is outside the table
+abbrev pub length_at : ℕ → ℕ
+length_at w0 = length_or_one (insn_of w0 0 0)
+
+-- an instruction that some words mean
+pub record IsDecoded (insn : Insn) : Type 0 where
+  pub first : ℕ
+  pub second : ℕ
+  pub third : ℕ
+  pub means : insn_of first second third ≡ Some insn
+
+-- whether it is one of the unit instructions
+abbrev pub is_unit : Insn → Bool
+is_unit (UnitOp n) = true
+is_unit _ = false
+
+-- whether a number needs no extension word
+abbrev pub is_constant : ℕ → Bool
+is_constant c = (c == 0) || (c == 1) || (c == 2) || (c == 4) || (c == 8) || (c == 65535)
+
+-- an operand names one of the sixteen registers, or one of the six constants
+abbrev pub HasParts : Operand → Type 0
+HasParts (Reg r) = r < 16
+HasParts (Const c) = IsTrue (is_constant c)
+HasParts (Indexed r x) = r < 16
+HasParts (Indirect r) = r < 16
+HasParts (Increment r) = r < 16
+HasParts _ = Unit {0}
+
+-- what each instruction of the table keeps
+abbrev pub HasForm : Insn → Type 0
+HasForm (Two op w s d) = HasParts s × HasParts d
+HasForm (One op w a) = HasParts a × IsTrue (one_fits op w a)
+HasForm (Jump cond offset) = cond < 8
+HasForm Reti = Unit {0}
+HasForm (UnitOp n) = n < 7

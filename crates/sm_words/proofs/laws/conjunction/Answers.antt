@@ -1,0 +1,5 @@
+use Rattle.sm_words.proofs.Bits.{bit-and}
+use Rattle.sm_words.proofs.laws.conjunction.Goals as goal
+
+pub returns : goal.returns
+returns c = bit-and _ _

@@ -1,0 +1,5 @@
+use Rattle.sm_words.proofs.Bits.{bit-xor}
+use Rattle.sm_words.proofs.laws.difference.Goals as goal
+
+pub returns : goal.returns
+returns c = bit-xor _ _

@@ -1,0 +1,47 @@
+-- Words, the memory's words and the sixteen registers (MSP430x1xx Family User's Guide SLAU049, section 3.2).
+use Rattle.std.specs.Prelude.{◌≡◌, ℕ, ◌+◌, ◌-◌, ◌*◌, ◌/◌, ◌%◌, ◌<◌, List, length, slice_index, slice_set, slice_index_or, ◌==◌, if◌then◌else◌, ◌||◌}
+
+-- the n-th of these, or the last argument past them
+abbrev pub nth : {A : Type 0} → ℕ → List A → A → A
+nth n xs d = slice_index_or xs n d
+
+-- the word at an address, low byte first
+abbrev pub word_at : (ℕ → ℕ) → ℕ → ℕ
+word_at byte a = byte a + 256 * byte (a + 1)
+
+-- a core is a list of sixteen words; this is register n, and 0 past the sixteenth
+abbrev pub reg : List ℕ → ℕ → ℕ
+reg core n = slice_index core n
+
+-- what a register keeps of a word: PC and SP are even, SR has nine bits, R3 is 0
+abbrev pub kept_word : ℕ → ℕ → ℕ
+kept_word n w = if (n == 0) || (n == 1) then w - w % 2 else (if n == 2 then w % 512 else (if n == 3 then 0 else w))
+
+-- what a register keeps of a number: of its word
+abbrev pub kept : ℕ → ℕ → ℕ
+kept n v = kept_word n (v % 65536)
+
+-- the core once a number is written to register n
+abbrev pub put : List ℕ → ℕ → ℕ → List ℕ
+put core n v = slice_set core n (kept n v)
+
+-- the core that keeps of sixteen words what its registers keep
+abbrev pub core_of : List ℕ → List ℕ
+core_of words = put (put (put (put words 0 (reg words 0)) 1 (reg words 1)) 2 (reg words 2)) 3 (reg words 3)
+
+-- the rules of a core
+pub record IsCore (core : List ℕ) : Type 0 where
+  pub sixteen : length core ≡ 16
+  pub words : (n : ℕ) → reg core n < 65536
+  pub even_pc : reg core 0 % 2 ≡ 0
+  pub even_sp : reg core 1 % 2 ≡ 0
+  pub nine_bits : reg core 2 < 512
+  pub zero_three : reg core 3 ≡ 0
+
+-- the bit of a number whose worth is n
+abbrev pub bit : ℕ → ℕ → ℕ
+bit n v = (v / n) % 2
+
+-- a sum of words or addresses
+abbrev pub add16 : ℕ → ℕ → ℕ
+add16 a b = (a + b) % 65536

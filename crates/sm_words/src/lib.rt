@@ -1,0 +1,16 @@
+//! The words of the processor: the sixteen registers, and the operations on bytes and words.
+//!
+//! The rules are those of the MSP430x1xx Family User's Guide SLAU049, sections 3.2 and 3.4.
+#![tactic(auto)]
+
+pub mod laws;
+mod operations;
+mod registers;
+mod width;
+
+pub use operations::{add, and, dadd, rra, rrc, swpb, sxt, xor};
+pub use registers::Core;
+pub use width::{Sum, Width};
+
+#[cfg(test)]
+mod tests;
