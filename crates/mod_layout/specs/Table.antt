@@ -1,0 +1,132 @@
+-- Modules, their places in the address space, and the table that holds them.
+use Rattle.std.specs.Prelude.{ℕ, ◌+◌, ◌-◌, ◌%◌, List, [], ◌∷◌, ◌++◌, ◌==◌, nat_lt, nat_le, if◌then◌else◌, Bool, true, false, ◌&&◌, ◌||◌, not, Option, Some, None, is_none, length}
+use Rattle.mod_layout.specs.declared.Section.{Section}
+use Rattle.mod_layout.specs.declared.Module.{Module}
+use Rattle.mod_layout.specs.declared.Place.{Place}
+use Rattle.mod_layout.specs.declared.Place.TheVariants.{Open, Entry, Text, Data}
+use Rattle.mod_layout.specs.declared.TableFault.{TableFault}
+use Rattle.mod_layout.specs.declared.TableFault.TheVariants.{Empty, Odd, Overlap, Reserved, Full, Spent}
+
+-- the modules in the order in which they came, the number of ids given so far, and how many modules there may be
+pub record Table : Type 0 where
+  pub modules : List Module
+  pub given : ℕ
+  pub room : ℕ
+
+-- ---- places
+
+-- whether a section has this address: from its start on, below its end
+abbrev pub holds : Section → ℕ → Bool
+holds s a = nat_le s.start a && nat_lt a s.end
+
+-- how many bytes a section has
+abbrev pub size_of : Section → ℕ
+size_of s = s.end - s.start
+
+-- the first that fits: entry word, rest of the text, data, or what comes after
+abbrev pub place_by : Bool → Bool → Bool → ℕ → Place → Place
+place_by true text ram id rest = Entry id
+place_by false true ram id rest = Text id
+place_by false false true id rest = Data id
+place_by false false false id rest = rest
+
+-- what an address is to these modules; the entry word is the first word of the text
+abbrev pub place_in : List Module → ℕ → Place
+place_in [] a = Open
+place_in (m ∷ ms) a = place_by ((a == m.text.start) || (a == m.text.start + 1)) (holds m.text a) (holds m.ram a) m.id (place_in ms a)
+
+-- what an address is to a table
+unfoldable pub place_of : Table → ℕ → Place
+place_of t a = place_in t.modules a
+
+-- ---- look-ups by id
+
+-- the module with this id
+abbrev pub find_module : ℕ → List Module → Option Module
+find_module id [] = None
+find_module id (m ∷ ms) = if m.id == id then Some m else find_module id ms
+
+-- the module with this id that a table holds
+abbrev pub module_of : ℕ → Table → Option Module
+module_of id t = find_module id t.modules
+
+-- ---- a new module
+
+-- whether two sections have a byte in common
+abbrev pub shares : Section → Section → Bool
+shares a b = nat_lt a.start b.end && nat_lt b.start a.end
+
+-- whether one of two sections has a byte in common with a section of this module
+abbrev pub meets : Section → Section → Module → Bool
+meets text ram m = shares text m.text || shares text m.ram || shares ram m.text || shares ram m.ram
+
+-- whether a section's start is not below its end
+abbrev pub is_empty : Section → Bool
+is_empty s = not (nat_lt s.start s.end)
+
+-- whether a section's start or end is odd
+abbrev pub is_odd : Section → Bool
+is_odd s = not ((s.start % 2 == 0) && (s.end % 2 == 0))
+
+-- whether a section reaches below 0x0200, to the devices, or above 0xFFE0, to the vectors
+abbrev pub is_reserved : Section → Bool
+is_reserved s = nat_lt s.start 512 || nat_lt 65504 s.end
+
+-- the lower of two ids, where the second may be none
+abbrev pub least : ℕ → Option ℕ → ℕ
+least id None = id
+least id (Some x) = if nat_lt x id then x else id
+
+abbrev pub met_if : Bool → ℕ → Option ℕ → Option ℕ
+met_if true id rest = Some (least id rest)
+met_if false id rest = rest
+
+-- the lowest id of a module that these sections meet
+abbrev pub lowest_met : Section → Section → List Module → Option ℕ
+lowest_met text ram [] = None
+lowest_met text ram (m ∷ ms) = met_if (meets text ram m) m.id (lowest_met text ram ms)
+
+-- this fault where the test says so, and else what comes after
+abbrev pub fault_if : Bool → TableFault → Option TableFault → Option TableFault
+fault_if true f rest = Some f
+fault_if false f rest = rest
+
+-- sections that meet a held module, or else each other, and else what comes after
+abbrev pub overlap_or : Option ℕ → Bool → Option TableFault → Option TableFault
+overlap_or (Some id) own rest = Some (Overlap id)
+overlap_or None true rest = Some (Overlap 0)
+overlap_or None false rest = rest
+
+-- why a table refuses a module with these sections: the first that applies
+abbrev pub fault_of : Table → Section → Section → Option TableFault
+fault_of t text ram =
+    fault_if (is_empty text || is_empty ram) Empty
+    (fault_if (is_odd text || is_odd ram) Odd
+    (overlap_or (lowest_met text ram t.modules) (shares text ram)
+    (fault_if (is_reserved text || is_reserved ram) Reserved
+    (fault_if (not (nat_lt (length t.modules) t.room)) Full
+    (fault_if (not (nat_lt t.given 65535)) Spent None)))))
+
+-- whether a table takes a module with these sections
+abbrev pub takes : Table → Section → Section → Bool
+takes t text ram = is_none (fault_of t text ram)
+
+-- the table with one module more, whose id is the next that was never given
+abbrev pub with_module : Table → ℕ → Section → Section → Table
+with_module t vendor text ram =
+    record { modules = t.modules ++ record { id = t.given + 1; vendor = vendor; text = text; ram = ram } ∷ []; given = t.given + 1; room = t.room }
+
+-- ---- a module goes
+
+-- these modules but the one with this id
+abbrev pub drop_module : ℕ → List Module → List Module
+drop_module id [] = []
+drop_module id (m ∷ ms) = if m.id == id then ms else m ∷ drop_module id ms
+
+-- the table without this module; the number of ids given stays
+abbrev pub without : ℕ → Table → Table
+without id t = record { modules = drop_module id t.modules; given = t.given; room = t.room }
+
+-- a table with no module, of this room
+abbrev pub empty_table : ℕ → Table
+empty_table room = record { modules = []; given = 0; room = room }

@@ -1,0 +1,49 @@
+-- What a module table keeps.
+use Rattle.std.specs.Prelude.{◌≡◌, ◌≢◌, ◌⊎◌, ℕ, ◌+◌, ◌%◌, ◌<◌, ◌≤◌, List, [], ◌∷◌, length}
+use Rattle.mod_layout.specs.declared.Section.{Section}
+use Rattle.mod_layout.specs.declared.Module.{Module}
+use Rattle.mod_layout.specs.Table.{Table, size_of}
+
+-- one of the two ends before the other begins
+abbrev pub Apart : Section → Section → Type 0
+Apart a b = (a.start + size_of a ≤ b.start) ⊎ (b.start + size_of b ≤ a.start)
+
+-- a section is not empty, has even ends, and lies from 0x0200 up and below 0xFFE0
+pub record IsSection (s : Section) : Type 0 where
+  pub order : s.start < s.end
+  pub even_start : s.start % 2 ≡ 0
+  pub even_end : s.end % 2 ≡ 0
+  pub low : 512 ≤ s.start
+  pub high : s.end ≤ 65504
+
+-- a module's sections share no byte, and its id is one of those given so far
+pub record IsModule (given : ℕ) (x : Module) : Type 0 where
+  pub text_ok : IsSection x.text
+  pub ram_ok : IsSection x.ram
+  pub apart : Apart x.ram x.text
+  pub numbered : 0 < x.id
+  pub known : x.id ≤ given
+
+-- two modules share no byte, and no id
+pub record Separate (x y : Module) : Type 0 where
+  pub texts : Apart x.text y.text
+  pub text_ram : Apart x.text y.ram
+  pub ram_text : Apart x.ram y.text
+  pub rams : Apart x.ram y.ram
+  pub ids : x.id ≢ y.id
+
+-- a module is separate from each of these
+abbrev pub SeparateFrom : Module → List Module → Type 0
+SeparateFrom x [] = Unit {0}
+SeparateFrom x (y ∷ ys) = Separate x y × SeparateFrom x ys
+
+-- each of these is a module, and separate from those after it
+abbrev pub AreModules : ℕ → List Module → Type 0
+AreModules given [] = Unit {0}
+AreModules given (x ∷ xs) = IsModule given x × SeparateFrom x xs × AreModules given xs
+
+-- what every table keeps: modules that share nothing, no more than its room, which is 8 or 32
+pub record IsTable (t : Table) : Type 0 where
+  pub modules : AreModules t.given t.modules
+  pub fits : length t.modules ≤ t.room
+  pub room_ok : (t.room ≡ 8) ⊎ (t.room ≡ 32)

@@ -1,0 +1,118 @@
+//! Protected modules: their sections, the table that holds them, and what an address is to them.
+#![tactic(auto)]
+
+mod table;
+#[cfg(test)]
+mod tests;
+
+ghost use Rattle.std.specs.Prelude.{◌≡◌, ℕ, ◌+◌, ◌%◌, ◌==◌, ◌||◌};
+ghost use Rattle.mod_layout.specs.Table.{holds, shares, meets, is_empty, is_odd, is_reserved, Table, place_of};
+ghost use Rattle.mod_layout.specs.Tables.{IsTable};
+
+pub use table::ModuleTable;
+
+/// The addresses from `start` on, below `end`.
+#[derive(Clone, Copy, Debug, Default, PartialEq, Eq)]
+pub struct Section {
+    pub start: u16,
+    pub end: u16,
+}
+
+impl Section {
+    fn holds(self, addr: u16) -> bool
+        ensures { result ≡ holds self addr }
+    {
+        self.start <= addr && addr < self.end
+    }
+
+    fn shares(self, other: Section) -> bool
+        ensures { result ≡ shares self other }
+    {
+        self.start < other.end && other.start < self.end
+    }
+
+    fn is_empty(self) -> bool
+        ensures { result ≡ is_empty self }
+    {
+        self.start >= self.end
+    }
+
+    fn is_odd(self) -> bool
+        ensures { result ≡ is_odd self }
+    {
+        self.start % 2 != 0 || self.end % 2 != 0
+    }
+
+    fn is_reserved(self) -> bool
+        ensures { result ≡ is_reserved self }
+    {
+        self.start < 0x0200 || self.end > 0xFFE0
+    }
+}
+
+/// A protected module.
+#[derive(Clone, Copy, Debug, Default, PartialEq, Eq)]
+pub struct Module {
+    /// Its number, from 1 upwards, never given twice.
+    pub id: u16,
+    /// The number of its vendor.
+    pub vendor: u16,
+    /// Its code; the first word is its entry.
+    pub text: Section,
+    /// Its private data.
+    pub ram: Section,
+}
+
+impl Module {
+    // Whether the address is in the first word of the text.
+    fn has_entry(&self, addr: u16) -> bool
+        ensures { result ≡ (addr == self.now.text.start) || (addr == self.now.text.start + 1) }
+    {
+        addr >= self.text.start && addr - self.text.start < 2
+    }
+
+    fn meets(&self, text: Section, ram: Section) -> bool
+        ensures { result ≡ meets text ram self.now }
+    {
+        text.shares(self.text)
+            || text.shares(self.ram)
+            || ram.shares(self.text)
+            || ram.shares(self.ram)
+    }
+}
+
+/// What an address is to the modules of a table, with the module's id.
+#[derive(Clone, Copy, Debug, PartialEq, Eq)]
+pub enum Place {
+    /// In no section of a module.
+    Open,
+    /// In the first word of a module's text.
+    Entry(u16),
+    /// In a module's text, past its first word.
+    Text(u16),
+    /// In a module's data.
+    Data(u16),
+}
+
+/// Why a table refuses a module.
+#[derive(Clone, Copy, Debug, PartialEq, Eq)]
+pub enum TableFault {
+    /// A section's start is not below its end.
+    Empty,
+    /// A start or an end is odd.
+    Odd,
+    /// A section meets one of a held module, and `with` is the lowest such id. Where none is met and
+    /// the two sections meet each other, `with` is 0.
+    Overlap { with: u16 },
+    /// A start is below 0x0200, where the devices are, or an end above 0xFFE0, where the vectors are.
+    Reserved,
+    /// As many modules are held as there is room for.
+    Full,
+    /// All 65,535 ids were given.
+    Spent,
+}
+
+/// Both bytes of a word at an even address are in the same place: sections have even ends.
+pub fn words_lie_in_one_place()
+    ensures { (t : Table) (a : ℕ) → IsTable t → a % 2 ≡ 0 → place_of t (a + 1) ≡ place_of t a }
+{}
