@@ -1,0 +1,19 @@
+use Rattle.sm_cli.specs.Serve.{line_of}
+use Rattle.sm_io.proofs.Putting.{puts_same}
+use Rattle.sm_cli.proofs.lines.put_refusal.Goals as goal
+
+pub returns-in-Usage : goal.returns-in-Usage
+unfolding line_of
+returns-in-Usage g c = rw c.in-Usage.is c.put_all.ensures
+
+pub returns-in-NoMemory : goal.returns-in-NoMemory
+unfolding line_of
+returns-in-NoMemory g c = rw c.in-NoMemory.is c.put_all-in-NoMemory.ensures
+
+pub returns-in-CannotRead : goal.returns-in-CannotRead
+unfolding line_of
+returns-in-CannotRead g c = rw c.in-CannotRead.is c.put_named-in-CannotRead.ensures
+
+pub returns-in-BadFile : goal.returns-in-BadFile
+unfolding line_of
+returns-in-BadFile g c = rw c.in-BadFile.is (puts_same g.S.Sink.taken g.S.Sink.faults g.S.Sink.sure _ _ _ _ _ (rw c.text_of.ensures) c.put_named.ensures)

@@ -1,0 +1,224 @@
+// Worked runs, and each fault outside in turn.
+use super::*;
+use sm_io::{MemFiles, MemSink};
+use std::test::Fail;
+
+const EMPTY: &str = "sancus-image 1\nkey 00000000000000000000000000000000\nhandler 0000\nend\n";
+
+const FIRST: &str =
+    "sancus-image 1\nkey 00000000000000000000000000000000\nhandler 0000\nat 0200 354034120343ff3f0000000000000000\nat fff0 00000000000000000000000000000002\nend\n";
+
+const FIRST_END: &str =
+    "end 4 outside 0206 0000 0000 0000 0000 1234 0000 0000 0000 0000 0000 0000 0000 0000 0000 0000\n";
+
+// What a call gave.
+#[derive(Drop)]
+struct Given {
+    status: Status,
+    out: MemSink,
+    err: MemSink,
+}
+
+// Calls with the words of a line, on files and sinks of ample room, whose given calls fail.
+fn call(
+    rt: &HostRuntime,
+    line: &str,
+    mut files: MemFiles,
+    out_fails: Option<u64>,
+    err_fails: Option<u64>,
+) -> Result<Given, Fail> {
+    let alloc = rt.alloc();
+    let mut words = Vec::new(alloc);
+    for word in line.split(' ') {
+        words.push(String::from_str(alloc, word)?)?;
+    }
+    let mut out = MemSink::new(alloc, 1000)?;
+    if let Some(number) = out_fails {
+        out.fail_at(number)?;
+    }
+    let mut err = MemSink::new(alloc, 1000)?;
+    if let Some(number) = err_fails {
+        err.fail_at(number)?;
+    }
+    let status = serve(alloc, words.as_slice(), &mut files, &mut out, &mut err);
+    Ok(Given { status, out, err })
+}
+
+fn files_with(rt: &HostRuntime, text: &[u8]) -> Result<MemFiles, Fail> {
+    let mut files = MemFiles::new(rt.alloc());
+    files.put_file("a.img", text)?;
+    Ok(files)
+}
+
+#[test]
+fn worked_runs(rt: HostRuntime) -> Result<(), Fail> {
+    for (text, line, status, out, err) in [
+        (
+            EMPTY,
+            "image a.img - 0",
+            Status::Done,
+            "end 0 outside 0000 0000 0000 0000 0000 0000 0000 0000 0000 0000 0000 0000 0000 0000 0000 0000\n",
+            "",
+        ),
+        (
+            EMPTY,
+            "image a.img - 1",
+            Status::Stopped,
+            "0 stop FetchDevice pc 0000 addr 0000 module 0\nend 0 stopped\n",
+            "",
+        ),
+        (
+            FIRST,
+            "image a.img - 1",
+            Status::Done,
+            "end 1 outside 0204 0000 0000 0000 0000 1234 0000 0000 0000 0000 0000 0000 0000 0000 0000 0000\n",
+            "",
+        ),
+        (FIRST, "image a.img - 4", Status::Done, FIRST_END, ""),
+        (FIRST, "image -- a.img - 4", Status::Done, FIRST_END, ""),
+        (
+            FIRST,
+            "image a.img - 007",
+            Status::Usage,
+            "",
+            "sancus: usage\n",
+        ),
+        (
+            FIRST,
+            "image a.img - 1000000001",
+            Status::Usage,
+            "",
+            "sancus: usage\n",
+        ),
+        (
+            FIRST,
+            "image a.img -4 4",
+            Status::Usage,
+            "",
+            "sancus: usage\n",
+        ),
+        (FIRST, "image a.img 4", Status::Usage, "", "sancus: usage\n"),
+        (
+            FIRST,
+            "images a.img - 4",
+            Status::Usage,
+            "",
+            "sancus: usage\n",
+        ),
+        (
+            FIRST,
+            "image b.img - 4",
+            Status::BadFile,
+            "",
+            "sancus: bad file b.img: Absent\n",
+        ),
+    ] {
+        let given = call(&rt, line, files_with(&rt, text.as_bytes())?, None, None)?;
+        assert_eq!(rt; given.status, status, "{line}");
+        assert_eq!(rt; given.out.taken(), out.as_bytes(), "{line}");
+        assert_eq!(rt; given.err.taken(), err.as_bytes(), "{line}");
+    }
+    Ok(())
+}
+
+#[test]
+fn no_words(rt: HostRuntime) -> Result<(), Fail> {
+    let alloc = rt.alloc();
+    let mut files = MemFiles::new(alloc);
+    let mut out = MemSink::new(alloc, 0)?;
+    let mut err = MemSink::new(alloc, 14)?;
+    assert_eq!(rt;
+        serve(alloc, &[], &mut files, &mut out, &mut err),
+        Status::Usage
+    );
+    assert_eq!(rt; err.taken(), b"sancus: usage\n".as_slice());
+    assert_eq!(rt;
+        serve(alloc, &[], &mut files, &mut out, &mut err),
+        Status::WriteFault
+    );
+    Ok(())
+}
+
+#[test]
+fn bad_files(rt: HostRuntime) -> Result<(), Fail> {
+    let alloc = rt.alloc();
+    let long = vec![in alloc; b'0'; 1048577]?;
+    for (text, err) in [
+        (b"".as_slice(), "sancus: bad file a.img: NotText\n"),
+        (long.as_slice(), "sancus: bad file a.img: TooLong\n"),
+        (
+            &FIRST.as_bytes()[..100],
+            "sancus: bad file a.img: NotText\n",
+        ),
+        (
+            b"sancus-image 1\r\nkey 00000000000000000000000000000000\r\nhandler 0000\r\nend\r\n".as_slice(),
+            "sancus: bad file a.img: NotText\n",
+        ),
+        (
+            b"sancus-image 1\nkey 00000000000000000000000000000000\nhandler 000A\nend\n".as_slice(),
+            "sancus: bad file a.img: NotText\n",
+        ),
+    ] {
+        let given = call(&rt, "image a.img - 4", files_with(&rt, text)?, None, None)?;
+        assert_eq!(rt; given.status, Status::BadFile);
+        assert_eq!(rt; given.out.taken(), b"".as_slice());
+        assert_eq!(rt; given.err.taken(), err.as_bytes());
+    }
+    Ok(())
+}
+
+#[test]
+fn each_read_fails(rt: HostRuntime) -> Result<(), Fail> {
+    for number in 0..2u64 {
+        let mut files = files_with(&rt, FIRST.as_bytes())?;
+        files.fail_at(number)?;
+        let given = call(&rt, "image a.img - 4", files, None, None)?;
+        assert_eq!(rt; given.status, Status::ReadFault, "of read {number}");
+        assert_eq!(rt; given.out.taken(), b"".as_slice(), "of read {number}");
+        assert_eq!(rt;
+            given.err.taken(),
+            b"sancus: cannot read a.img\n".as_slice(),
+            "of read {number}"
+        );
+    }
+    Ok(())
+}
+
+#[test]
+fn each_write_fails(rt: HostRuntime) -> Result<(), Fail> {
+    let text = FIRST_END.as_bytes();
+    for number in 0..36u64 {
+        let given = call(
+            &rt,
+            "image a.img - 4",
+            files_with(&rt, FIRST.as_bytes())?,
+            Some(number),
+            None,
+        )?;
+        let taken = given.out.taken();
+        assert_eq!(rt; given.status, Status::WriteFault, "of write {number}");
+        assert!(rt;
+            text.starts_with(taken) && taken.len() < text.len(),
+            "of write {number}"
+        );
+        assert_eq!(rt; given.err.taken(), b"".as_slice(), "of write {number}");
+    }
+    for number in 0..5u64 {
+        let given = call(
+            &rt,
+            "image b.img - 4",
+            files_with(&rt, FIRST.as_bytes())?,
+            None,
+            Some(number),
+        )?;
+        let taken = given.err.taken();
+        let line = b"sancus: bad file b.img: Absent\n".as_slice();
+        assert_eq!(rt; given.status, Status::WriteFault, "of write {number}");
+        assert!(rt;
+            line.starts_with(taken) && taken.len() < line.len(),
+            "of write {number}"
+        );
+        assert_eq!(rt; given.out.taken(), b"".as_slice(), "of write {number}");
+    }
+    Ok(())
+}

@@ -1,0 +1,6 @@
+pub mod Calls
+pub mod Faults
+pub mod Files
+pub mod MemoryFiles
+pub mod MemorySink
+pub mod Sink

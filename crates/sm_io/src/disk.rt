@@ -1,0 +1,124 @@
+// The trusted edge: the system's files and streams. Nothing is told of what they hold.
+ghost use Rattle.std.specs.Prelude.{◌≡◌, ◌<◌, ◌≤◌, length, None, IfSome, false};
+ghost use Rattle.std.proofs.Common.{arith};
+ghost use Rattle.sm_io.specs.Faults.{counted};
+
+use crate::{Failed, Files, Sink, Unread};
+use std::io::{ErrorKind, Write};
+use std::marker::Model;
+use std::os::unix::fs::FileExt;
+use std::{fs, rt};
+
+/// The system's files. Contracts see the count of faults.
+#[derive(Drop)]
+pub struct DiskFiles<R: rt::Files<File = fs::File> + Drop> {
+    runtime: R,
+    faults: u64,
+}
+
+impl<R: rt::Files<File = fs::File> + Drop> Model for DiskFiles<R> {
+    ghost use Rattle.std.specs.Prelude.{ℕ};
+
+    ghost Value = { ℕ };
+
+    ghost view = { λ d. d.faults };
+}
+
+impl<R: rt::Files<File = fs::File> + Drop> DiskFiles<R> {
+    /// The files that the system shows, with no fault so far.
+    pub fn new(runtime: R) -> Self
+        ensures { result ≡ 0 }
+    {
+        DiskFiles { runtime, faults: 0 }
+    }
+}
+
+impl<R: rt::Files<File = fs::File> + Drop> Files for DiskFiles<R> {
+    ghost content = { λ _. None };
+
+    ghost faults = { λ count. counted count };
+
+    ghost sound = { λ _. false };
+
+    ghost counter = { λ _. Prim.omega arith };
+
+    /// `Absent` is the system's word for a name of no file.
+    fn read_at(&mut self, name: &str, at: u64, buf: &mut [u8]) -> Result<usize, Unread> {
+        let fault = match fs::open(&self.runtime, name) {
+            Ok(file) => match file.read_at(buf, at) {
+                Ok(count) => return Ok(count),
+                Err(fault) => fault.kind(),
+            },
+            Err(fault) => fault.kind(),
+        };
+        if fault == ErrorKind::NotFound {
+            return Err(Unread::Absent);
+        }
+        if fault == ErrorKind::OutOfMemory {
+            return Err(Unread::NoMemory);
+        }
+        self.faults = self.faults.saturating_add(1);
+        Err(Unread::Failed)
+    }
+}
+
+/// One of the system's streams. Contracts see the count of faults.
+#[derive(Drop)]
+pub struct StdSink<W: Write + Drop> {
+    writer: W,
+    faults: u64,
+}
+
+impl<W: Write + Drop> Model for StdSink<W> {
+    ghost use Rattle.std.specs.Prelude.{ℕ};
+
+    ghost Value = { ℕ };
+
+    ghost view = { λ s. s.faults };
+}
+
+impl<W: Write + Drop> StdSink<W> {
+    /// A sink that writes there, with no fault so far.
+    pub fn new(writer: W) -> Self
+        ensures { result ≡ 0 }
+    {
+        StdSink { writer, faults: 0 }
+    }
+
+    // Writes some bytes, and lets none of them wait in the stream.
+    fn write_through(&mut self, piece: &[u8]) -> Option<usize>
+        ensures bound { IfSome result (λ n. (0 < n) × (n ≤ length piece.now)) }
+        ensures same { self.new ≡ self.old }
+    {
+        match self.writer.write(piece) {
+            Ok(count) if count > 0 => match self.writer.flush() {
+                Ok(()) => Some(count),
+                Err(_) => None,
+            },
+            _ => None,
+        }
+    }
+}
+
+impl<W: Write + Drop> Sink for StdSink<W> {
+    ghost taken = { λ _. None };
+
+    ghost faults = { λ count. counted count };
+
+    ghost sure = { λ _. 0 };
+
+    ghost counter = { λ _. Prim.omega arith };
+
+    fn put(&mut self, piece: &[u8]) -> Result<usize, Failed> {
+        if piece.is_empty() {
+            return Ok(0);
+        }
+        match self.write_through(piece) {
+            Some(count) => Ok(count),
+            None => {
+                self.faults = self.faults.saturating_add(1);
+                Err(Failed)
+            }
+        }
+    }
+}

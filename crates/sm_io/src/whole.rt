@@ -1,0 +1,68 @@
+// Whole files and whole texts.
+ghost use Rattle.std.specs.Prelude.{◌≡◌, ◌≤◌, IsTrue, IfOk, IfSome, false, vec_len};
+ghost use Rattle.sm_io.specs.Faults.{HasCause};
+ghost use Rattle.sm_io.specs.Files.{WholeGives, whole_failed};
+ghost use Rattle.sm_io.specs.Sink.{Puts};
+
+use crate::{Failed, Files, Sink, Unread};
+use std::alloc::Global;
+
+const MAX_FILE: usize = 1048576;
+
+/// Why a whole file was not read.
+#[derive(Clone, Copy, Debug, PartialEq, Eq)]
+pub enum ReadFault {
+    /// A read failed, and the fault was counted.
+    Failed,
+    /// There is no file of that name.
+    Absent,
+    /// The file has more than 1,048,576 bytes.
+    TooLong,
+    /// Memory was wanting.
+    NoMemory,
+}
+
+/// The file's bytes, to its end.
+pub fn read_whole<F: Files>(alloc: Global, files: &mut F, name: &str) -> Result<Vec<u8>, ReadFault>
+    ensures bytes { IfSome (F.content files.old) (λ map. WholeGives (map name.now) result) }
+    ensures bound { IfOk result (λ v. vec_len v ≤ 1048576) }
+    ensures same_files { F.content files.new ≡ F.content files.old }
+    ensures cause { HasCause (F.faults files.old) (F.faults files.new) (whole_failed result) }
+    ensures same_sound { F.sound files.new ≡ F.sound files.old }
+    ensures never_fails { IsTrue (F.sound files.old) → whole_failed result ≡ false }
+{
+    let mut bytes = Vec::new(alloc);
+    let mut buf = [0u8; 4096];
+    while bytes.len() <= MAX_FILE {
+        let count = match files.read_at(name, bytes.len() as u64, &mut buf) {
+            Ok(count) => count,
+            Err(Unread::Absent) => return Err(ReadFault::Absent),
+            Err(Unread::Failed) => return Err(ReadFault::Failed),
+            Err(Unread::NoMemory) => return Err(ReadFault::NoMemory),
+        };
+        if bytes.extend_from_slice(&buf[..count]).is_err() {
+            return Err(ReadFault::NoMemory);
+        }
+        if count == 0 {
+            return Ok(bytes);
+        }
+    }
+    Err(ReadFault::TooLong)
+}
+
+/// Puts all the bytes, and takes no memory. After `Failed` the sink has taken a front of them.
+pub fn put_all<S: Sink>(sink: &mut S, bytes: &[u8]) -> Result<(), Failed>
+    ensures { Puts S.taken S.faults S.sure sink.old sink.new bytes.now result }
+{
+    let mut rest = bytes;
+    while !rest.is_empty() {
+        match sink.put(rest) {
+            Ok(count) => {
+                let (_, after) = rest.split_at(count);
+                rest = after;
+            }
+            Err(Failed) => return Err(Failed),
+        }
+    }
+    Ok(())
+}
