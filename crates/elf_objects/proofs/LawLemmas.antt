@@ -1,0 +1,317 @@
+-- What holds of the sections, symbols and relocations of an object.
+use Rattle.std.proofs.Common.{◌≡◌, ℕ, zero, suc, ◌+◌, ◌-◌, ◌/◌, ◌<◌, ◌≤◌, List, [], ◌∷◌, length, drop, Option, Some, None, Bool, true, false, not, ◌&&◌, ◌||◌, is_none, refl, ap, sym, ◌∙◌, ◌⊎◌, inl, inr, arith, subst, eqb, ltb, cond, unwrap_or, length-take, length-drop, length-append}
+use Rattle.std.proofs.lemmas.Bool.{cases_lt, ltb-true}
+use Rattle.std.proofs.lemmas.Bool.Decides.{nat_tests}
+use Rattle.std.proofs.lemmas.List.Elements.{All-append, All-push, All-nil, All-same}
+use Rattle.std.specs.List.{All, position_from}
+use Rattle.elf_objects.specs.declared.fault.ElfFault.{ElfFault}
+use Rattle.elf_objects.specs.declared.section.Header.{Header}
+use Rattle.elf_objects.specs.declared.object.Symbol.{Symbol}
+use Rattle.elf_objects.specs.declared.object.Home.TheVariants as home
+use Rattle.elf_objects.specs.Passes.{or_else, refuse_if, first_below, each_below, all_below}
+use Rattle.elf_objects.specs.Header.{section_count, name_table, table_fault}
+use Rattle.elf_objects.specs.Section.{header_of, is_absent, section_fault, link_fault, name_table_fault, content, section_faults, link_faults, symbol_table, index_if, is_kept_table, is_kind}
+use Rattle.elf_objects.specs.Names.{name_end, name_span, section_names, name_fault, name_faults, section_of, sections_of}
+use Rattle.elf_objects.specs.Symbol.{entry_of, count_in, strings_of, symbol_fault, symbol_of, home_of, symbols_header, header_at, count_of, faults_in, symbol_faults, symbols_in, symbols_of}
+use Rattle.elf_objects.specs.Relocation.{relocation_of, entry_fault, relocation_fault, relocation_faults, relocations_at, relocations_of}
+use Rattle.elf_objects.specs.Object.{elf_fault_of, contents_fault, ObjectValue, IsObject, IsWithin, IsSection, IsHome, IsSymbol, IsRelocation}
+use Rattle.elf_objects.proofs.ObjectLemmas.{no_sections_lists}
+
+-- ---- passes
+
+or_else_both : {A : Type 0} (a b : Option A) → or_else a b ≡ None → (a ≡ None) × (b ≡ None)
+or_else_both None b e = (refl, e)
+or_else_both (Some x) b e = cc
+
+not_refused : (b : Bool) (f : ElfFault) → refuse_if b f ≡ None → b ≡ false
+not_refused false f e = refl
+not_refused true f e = cc
+
+below_none_by : {A : Type 0} (f : ℕ → Option A) (n i : ℕ) → (i < n) ⊎ (n ≤ i) → i < suc n → (first_below f n ≡ None) × (f n ≡ None) → (first_below f n ≡ None → i < n → f i ≡ None) → f i ≡ None
+below_none_by f n i (inl lt) within e rest = rest e.0 lt
+below_none_by f n i (inr le) within e rest = let same : n ≡ i = omega arith in ap f (sym same) ∙ e.1
+
+-- no index below the count gives anything
+below_none : {A : Type 0} (f : ℕ → Option A) (n i : ℕ) → first_below f n ≡ None → i < n → f i ≡ None
+unfolding first_below
+below_none f zero i e lt = absurd (omega arith)
+below_none f (suc n) i e lt = below_none_by f n i (cases_lt i n) lt (or_else_both (first_below f n) (f n) e) (below_none f n i)
+
+below_some_by : {A : Type 0} (f : ℕ → Option A) (n : ℕ) (x : A) (o : Option A) → or_else o (f n) ≡ Some x → (o ≡ Some x → (i : ℕ) × (i < n) × (f i ≡ Some x)) → (i : ℕ) × (i < suc n) × (f i ≡ Some x)
+below_some_by f n x None e rest = (n, omega arith, e)
+below_some_by f n x (Some y) e rest = let k = rest e in (k.0, omega (arith, k.1), k.2)
+
+-- some index below the count gives what is found
+below_some : {A : Type 0} (f : ℕ → Option A) (n : ℕ) (x : A) → first_below f n ≡ Some x → (i : ℕ) × (i < n) × (f i ≡ Some x)
+unfolding first_below
+below_some f zero x e = cc
+below_some f (suc n) x e = below_some_by f n x (first_below f n) e (below_some f n x)
+
+-- what holds at each index holds of all values
+all_each_below : {A : Type 0} (P : A → Type 0) (f : ℕ → A) (n : ℕ) → ((i : ℕ) → i < n → P (f i)) → All P (each_below f n)
+unfolding each_below
+all_each_below P f zero each = All-nil P
+all_each_below P f (suc n) each = All-push P (each_below f n) (f n) (all_each_below P f n (λ i lt. each i (omega arith))) (each n (omega arith))
+
+all_all_below : {A : Type 0} (P : A → Type 0) (f : ℕ → List A) (n : ℕ) → ((i : ℕ) → i < n → All P (f i)) → All P (all_below f n)
+unfolding all_below
+all_all_below P f zero each = All-nil P
+all_all_below P f (suc n) each = All-append P (all_below f n) (f n) (all_all_below P f n (λ i lt. each i (omega arith))) (each n (omega arith))
+
+length_each_below : {A : Type 0} (f : ℕ → A) (n : ℕ) → length (each_below f n) ≡ n
+unfolding each_below
+length_each_below f zero = refl
+length_each_below f (suc n) = simp (length-append, length_each_below f n) (omega arith)
+
+-- ---- an object's file
+
+-- what holds of an object's file with sections
+record IsSound (file : List ℕ) : Type 0 where
+  sections : first_below (section_fault file) (section_count file) ≡ None
+  links : first_below (link_fault file) (section_count file) ≡ None
+  name_table : name_table_fault file ≡ None
+  names : first_below (name_fault file) (section_count file) ≡ None
+  symbols : symbol_faults file ≡ None
+  relocations : first_below (relocation_fault file (count_of (symbols_header file))) (section_count file) ≡ None
+
+contents_sound : (file : List ℕ) → contents_fault file ≡ None → IsSound file
+unfolding contents_fault section_faults link_faults name_faults relocation_faults
+contents_sound file e =
+    let a = or_else_both _ _ e in
+    let b = or_else_both _ _ a.1 in
+    let c = or_else_both _ _ b.1 in
+    let d = or_else_both _ _ c.1 in
+    let x = or_else_both _ _ d.1 in
+    let y = or_else_both _ _ x.1 in
+    let z = or_else_both _ _ y.1 in
+    let l = or_else_both _ _ b.0 in
+    record { sections = a.0; links = l.0; name_table = l.1; names = c.0; symbols = y.0; relocations = z.0 }
+
+some_sections : (file : List ℕ) (b : Bool) → b ≡ false → cond b None (or_else (table_fault file) (contents_fault file)) ≡ None → contents_fault file ≡ None
+some_sections file true e h = cc
+some_sections file false e h = (or_else_both _ _ h).1
+
+sound_of : (file : List ℕ) → elf_fault_of file ≡ None → 0 < section_count file → IsSound file
+unfolding elf_fault_of
+sound_of file e some = contents_sound file (some_sections file (eqb (section_count file) 0) (grind (arith, nat_tests)) (or_else_both _ _ e).1)
+
+-- ---- bytes and names
+
+-- the bytes of a section that is not absent
+section_ends : (file : List ℕ) (i : ℕ) → section_fault file i ≡ None → is_absent (header_of file i) ≡ false → (header_of file i).offset + (header_of file i).size ≤ length file
+unfolding section_fault
+section_ends file i e present = let no = not_refused _ _ e in grind (arith, nat_tests)
+
+bytes_within_by : (file : List ℕ) (h : Header) (b : Bool) → (b ≡ false → h.offset + h.size ≤ length file) → IsWithin (length file) (cond b (record { start = 0; end = 0 }) (record { start = h.offset; end = h.offset + h.size }))
+bytes_within_by file h true e = record { ordered = omega arith; within = omega arith }
+bytes_within_by file h false e = let k = e refl in record { ordered = omega arith; within = omega (arith, k) }
+
+bytes_within : (file : List ℕ) (i : ℕ) → IsSound file → i < section_count file → IsWithin (length file) ((section_of file i).bytes)
+unfolding section_of
+bytes_within file i sound lt = bytes_within_by file (header_of file i) (is_absent (header_of file i)) (section_ends file i (below_none _ _ i sound.sections lt))
+
+position_by : (b : Bool) (at n size : ℕ) (rest : Option ℕ) → cond b (Some at) rest ≡ Some n → (rest ≡ Some n → (at + 1 ≤ n) × (n < at + 1 + size)) → (at ≤ n) × (n < at + suc size)
+position_by true at n size rest e later = let same : at ≡ n = cc in (omega arith, omega arith)
+position_by false at n size rest e later = let k = later e in (omega (arith, k.0), omega (arith, k.1))
+
+-- the place that a search gives is one of those it looked at
+position_within : (p : ℕ → Bool) (at : ℕ) (bytes : List ℕ) (n : ℕ) → position_from p at bytes ≡ Some n → (at ≤ n) × (n < at + length bytes)
+position_within p at [] n e = cc
+position_within p at (byte ∷ bytes) n e = position_by (p byte) at n (length bytes) (position_from p (at + 1) bytes) e (position_within p (at + 1) bytes n)
+
+name_within_by : (file : List ℕ) (strings : Header) (offset : ℕ) (o : Option ℕ) → name_end file strings offset ≡ o → is_none o ≡ false → strings.offset + strings.size ≤ length file → IsWithin (length file) (record { start = strings.offset + offset; end = strings.offset + unwrap_or o offset })
+unfolding name_end
+name_within_by file strings offset None e some ends = cc
+name_within_by file strings offset (Some n) e some ends =
+    let at = position_within _ offset (drop offset (content file strings)) n e in
+    let low : offset ≤ n = at.0 in
+    let high : n < offset + length (drop offset (content file strings)) = at.1 in
+    let short : length (drop offset (content file strings)) ≤ strings.size - offset = simp (length-drop, length-take) (omega arith) in
+    record { ordered = omega arith; within = omega arith }
+
+-- a name of a string table that is in the file
+name_within : (file : List ℕ) (strings : Header) (offset : ℕ) → is_none (name_end file strings offset) ≡ false → strings.offset + strings.size ≤ length file → IsWithin (length file) (name_span file strings offset)
+name_within file strings offset some ends = name_within_by file strings offset (name_end file strings offset) refl some ends
+
+-- a section that is a string table is in the file
+strings_end : (file : List ℕ) (i : ℕ) → IsSound file → i < section_count file → eqb (header_of file i).kind 3 ≡ true → (header_of file i).offset + (header_of file i).size ≤ length file
+strings_end file i sound lt kind = section_ends file i (below_none _ _ i sound.sections lt) (grind (arith, nat_tests))
+
+-- the name table is a string table
+table_kind : (file : List ℕ) → link_fault file (name_table file) ≡ None → eqb (section_names file).kind 3 ≡ true
+unfolding link_fault
+table_kind file e = let no = not_refused _ _ e in grind (arith, nat_tests)
+
+table_index : (file : List ℕ) → name_table_fault file ≡ None → name_table file < section_count file
+unfolding name_table_fault
+table_index file e = let no = not_refused _ _ e in grind (arith, nat_tests)
+
+named_by : (file : List ℕ) (i : ℕ) → name_fault file i ≡ None → is_none (name_end file (section_names file) ((header_of file i).name)) ≡ false
+unfolding name_fault
+named_by file i e = not_refused _ _ e
+
+section_name_within : (file : List ℕ) (i : ℕ) → IsSound file → i < section_count file → IsWithin (length file) ((section_of file i).name)
+unfolding section_of
+section_name_within file i sound lt =
+    let at = table_index file sound.name_table in
+    let kind = table_kind file (below_none _ _ (name_table file) sound.links at) in
+    name_within file (section_names file) ((header_of file i).name) (named_by file i (below_none _ _ i sound.names lt)) (strings_end file (name_table file) sound at kind)
+
+-- ---- sections
+
+length_sections : (file : List ℕ) → length (sections_of file) ≡ section_count file
+unfolding sections_of
+length_sections file = length_each_below (section_of file) (section_count file)
+
+all_sections_of : (file : List ℕ) → elf_fault_of file ≡ None → All (IsSection (length file)) (sections_of file)
+unfolding sections_of
+all_sections_of file e =
+    all_each_below (IsSection (length file)) (section_of file) (section_count file)
+    (λ i lt. let sound = sound_of file e (omega arith) in record { name = section_name_within file i sound lt; bytes = bytes_within file i sound lt })
+
+-- the spans of sections are of the file
+pub all_sections : (object : ObjectValue) → IsObject object → All (IsSection (length object.file)) object.sections
+all_sections object is = All-same (IsSection (length object.file)) object.sections (sections_of object.file) is.sections (all_sections_of object.file is.sound)
+
+-- ---- symbols
+
+home_by : (count n : ℕ) (a b c : Bool) → eqb n 0xFFF1 ≡ b → eqb n 0xFFF2 ≡ c → (not (ltb n count) && not (eqb n 0xFFF1) && not (eqb n 0xFFF2)) ≡ false → IsHome count (cond a home.Undefined (cond b home.Absolute (cond c home.Common (home.In n))))
+home_by count n true b c eb ec e = tt
+home_by count n false true c eb ec e = tt
+home_by count n false false true eb ec e = tt
+home_by count n false false false eb ec e = grind (arith, nat_tests)
+
+home_in : (count n : ℕ) → (not (ltb n count) && not (eqb n 0xFFF1) && not (eqb n 0xFFF2)) ≡ false → IsHome count (home_of n)
+home_in count n e = home_by count n (eqb n 0) (eqb n 0xFFF1) (eqb n 0xFFF2) refl refl e
+
+bad_parts : (a b c d : Bool) → (a || b || c || d) ≡ false → (a ≡ false) × (c ≡ false)
+bad_parts false false false false e = (refl, refl)
+bad_parts false false false true e = cc
+bad_parts false false true d e = cc
+bad_parts false true c d e = cc
+bad_parts true b c d e = cc
+
+symbol_law : (file : List ℕ) (table : Header) (k : ℕ) → (strings_of file table).offset + (strings_of file table).size ≤ length file → symbol_fault file table k ≡ None → IsSymbol (length file) (section_count file) (symbol_of file table k)
+unfolding symbol_fault symbol_of
+symbol_law file table zero ends e = record { name = record { ordered = omega arith; within = omega arith }; home = tt }
+symbol_law file table (suc k) ends e =
+    let parts = bad_parts _ _ _ _ (not_refused _ _ e) in
+    record {
+      name = name_within file (strings_of file table) ((entry_of file table (suc k)).name) parts.0 ends;
+      home = home_in (section_count file) ((entry_of file table (suc k)).section) parts.1;
+    }
+
+index_if_some : (b : Bool) (i s : ℕ) → index_if b i ≡ Some s → (b ≡ true) × (i ≡ s)
+index_if_some true i s e = (refl, cc)
+index_if_some false i s e = cc
+
+-- the symbol table that is found is one
+symbol_table_found : (file : List ℕ) (s : ℕ) → symbol_table file ≡ Some s → (s < section_count file) × (eqb (header_of file s).kind 2 ≡ true)
+unfolding symbol_table
+symbol_table_found file s e =
+    let k = below_some (λ i. index_if (eqb (header_of file i).kind 2) i) (section_count file) s e in
+    let same = index_if_some _ k.0 s k.2 in
+    subst (λ (j : ℕ). (j < section_count file) × (eqb (header_of file j).kind 2 ≡ true)) same.1 (k.1, same.0)
+
+bad_link_parts : (p k x r s : Bool) → (p || (k && x) || r || s) ≡ false → k ≡ true → x ≡ false
+bad_link_parts false true false r s e is = refl
+bad_link_parts false true true r s e is = cc
+bad_link_parts false false x r s e is = cc
+bad_link_parts true k x r s e is = cc
+
+bad_table_parts : (a b c d : Bool) → (not a || not b || c || d) ≡ false → b ≡ true
+bad_table_parts true true c d e = refl
+bad_table_parts true false c d e = cc
+bad_table_parts false b c d e = cc
+
+strings_linked : (file : List ℕ) (s : ℕ) → link_fault file s ≡ None → eqb (header_of file s).kind 2 ≡ true → is_kind file 3 (header_of file s).link ≡ true
+unfolding link_fault
+strings_linked file s e kind = bad_table_parts _ _ _ _ (bad_link_parts _ _ _ _ _ (not_refused _ _ e) kind)
+
+both_true : (a b : Bool) → (a && b) ≡ true → (a ≡ true) × (b ≡ true)
+both_true true true e = (refl, refl)
+both_true true false e = cc
+both_true false b e = cc
+
+symbols_law : (file : List ℕ) (s : ℕ) → IsSound file → symbol_table file ≡ Some s → first_below (symbol_fault file (header_of file s)) (count_in (header_of file s)) ≡ None → All (IsSymbol (length file) (section_count file)) (each_below (symbol_of file (header_of file s)) (count_in (header_of file s)))
+symbols_law file s sound found e =
+    let at = symbol_table_found file s found in
+    let link : (ltb (header_of file s).link (section_count file) ≡ true) × (eqb (header_of file (header_of file s).link).kind 3 ≡ true) = both_true _ _ (strings_linked file s (below_none _ _ s sound.links at.0) at.1) in
+    let lt : (header_of file s).link < section_count file = ltb-true _ _ link.0 in
+    let ends = strings_end file (header_of file s).link sound lt link.1 in
+    all_each_below (IsSymbol (length file) (section_count file)) (symbol_of file (header_of file s)) (count_in (header_of file s))
+    (λ k lt. symbol_law file (header_of file s) k ends (below_none _ _ k e lt))
+
+all_symbols_by : (file : List ℕ) (o : Option ℕ) → IsSound file → symbol_table file ≡ o → faults_in file (header_at file o) ≡ None → All (IsSymbol (length file) (section_count file)) (symbols_in file (header_at file o))
+all_symbols_by file None sound found e = All-nil _
+all_symbols_by file (Some s) sound found e = symbols_law file s sound found e
+
+all_symbols_sound : (file : List ℕ) → IsSound file → All (IsSymbol (length file) (section_count file)) (symbols_of file)
+unfolding symbols_of symbol_faults symbols_header
+all_symbols_sound file sound = all_symbols_by file (symbol_table file) sound refl sound.symbols
+
+all_symbols_of : (file : List ℕ) → elf_fault_of file ≡ None → (section_count file ≡ 0) ⊎ (0 < section_count file) → All (IsSymbol (length file) (section_count file)) (symbols_of file)
+all_symbols_of file e (inl none) =
+    let P : Symbol → Type 0 = IsSymbol (length file) (section_count file) in
+    All-same P (symbols_of file) [] (no_sections_lists file none).1 (All-nil P)
+all_symbols_of file e (inr some) = all_symbols_sound file (sound_of file e some)
+
+none_or_some : (n : ℕ) → (n ≡ 0) ⊎ (0 < n)
+none_or_some zero = inl refl
+none_or_some (suc n) = inr (omega arith)
+
+count_sections : (object : ObjectValue) → IsObject object → length object.sections ≡ section_count object.file
+count_sections object is = ap length is.sections ∙ length_sections object.file
+
+-- the names of symbols are of the file, and their sections of the object
+pub all_symbols : (object : ObjectValue) → IsObject object → All (IsSymbol (length object.file) (length object.sections)) object.symbols
+all_symbols object is =
+    rw (count_sections object is)
+    (All-same (IsSymbol (length object.file) (section_count object.file)) object.symbols (symbols_of object.file) is.symbols
+    (all_symbols_of object.file is.sound (none_or_some (section_count object.file))))
+
+-- ---- relocations
+
+length_symbols_by : (file : List ℕ) (o : Option Header) → length (symbols_in file o) ≡ count_of o
+length_symbols_by file None = refl
+length_symbols_by file (Some table) = length_each_below (symbol_of file table) (count_in table)
+
+length_symbols : (file : List ℕ) → length (symbols_of file) ≡ count_of (symbols_header file)
+unfolding symbols_of
+length_symbols file = length_symbols_by file (symbols_header file)
+
+target_linked : (file : List ℕ) (i : ℕ) → link_fault file i ≡ None → is_kept_table file (header_of file i) ≡ true → (header_of file i).info < section_count file
+unfolding link_fault
+target_linked file i e kept = let no = not_refused _ _ e in grind (arith, nat_tests)
+
+symbol_there : (file : List ℕ) (symbols i : ℕ) (h : Header) (k : ℕ) → entry_fault file symbols i h k ≡ None → (relocation_of file i h k).symbol < symbols
+unfolding entry_fault
+symbol_there file symbols i h k e = let no = not_refused _ _ e in grind (arith, nat_tests)
+
+relocation_law : (file : List ℕ) (symbols i : ℕ) (h : Header) (k : ℕ) → i < section_count file → h.info < section_count file → entry_fault file symbols i h k ≡ None → IsRelocation (section_count file) symbols (relocation_of file i h k)
+unfolding relocation_of
+relocation_law file symbols i h k lt target e = record { table = lt; target = target; symbol = symbol_there file symbols i h k e }
+
+relocations_by : (file : List ℕ) (symbols i : ℕ) (b : Bool) → is_kept_table file (header_of file i) ≡ b → i < section_count file → link_fault file i ≡ None → cond b (first_below (entry_fault file symbols i (header_of file i)) ((header_of file i).size / 12)) None ≡ None → All (IsRelocation (section_count file) symbols) (cond b (each_below (relocation_of file i (header_of file i)) ((header_of file i).size / 12)) [])
+relocations_by file symbols i false kept lt link e = All-nil _
+relocations_by file symbols i true kept lt link e =
+    all_each_below (IsRelocation (section_count file) symbols) (relocation_of file i (header_of file i)) ((header_of file i).size / 12)
+    (λ k below. relocation_law file symbols i (header_of file i) k lt (target_linked file i link kept) (below_none _ _ k e below))
+
+relocations_law : (file : List ℕ) (symbols i : ℕ) → i < section_count file → link_fault file i ≡ None → relocation_fault file symbols i ≡ None → All (IsRelocation (section_count file) symbols) (relocations_at file i)
+unfolding relocation_fault relocations_at
+relocations_law file symbols i lt link e = relocations_by file symbols i (is_kept_table file (header_of file i)) refl lt link e
+
+all_relocations_of : (file : List ℕ) → elf_fault_of file ≡ None → All (IsRelocation (section_count file) (count_of (symbols_header file))) (relocations_of file)
+unfolding relocations_of
+all_relocations_of file e =
+    all_all_below (IsRelocation (section_count file) (count_of (symbols_header file))) (relocations_at file) (section_count file)
+    (λ i lt. let sound = sound_of file e (omega arith) in
+    relocations_law file (count_of (symbols_header file)) i lt (below_none _ _ i sound.links lt) (below_none _ _ i sound.relocations lt))
+
+-- the tables, targets and symbols of relocations are of the object
+pub all_relocations : (object : ObjectValue) → IsObject object → All (IsRelocation (length object.sections) (length object.symbols)) object.relocations
+all_relocations object is =
+    rw (count_sections object is, ap length is.symbols ∙ length_symbols object.file)
+    (All-same (IsRelocation (section_count object.file) (count_of (symbols_header object.file))) object.relocations (relocations_of object.file) is.relocations
+    (all_relocations_of object.file is.sound))

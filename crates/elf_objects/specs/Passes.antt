@@ -1,0 +1,51 @@
+-- The order of refusals: some conditions one after another, some at each index.
+use Rattle.std.specs.Prelude.{◌≡◌, ◌≢◌, ◌<◌, ℕ, zero, suc, Bool, true, false, List, [], ◌∷◌, ◌++◌, Option, Some, None, Result, Ok, Err}
+use Rattle.elf_objects.specs.declared.fault.ElfFault.{ElfFault}
+use Rattle.elf_objects.specs.declared.fault.ElfFault.TheVariants as fault
+
+-- this refusal, where its condition holds
+abbrev pub refuse_if : Bool → ElfFault → Option ElfFault
+refuse_if true fault = Some fault
+refuse_if false fault = None
+
+-- the first one, else the other
+abbrev pub or_else : {A : Type 0} → Option A → Option A → Option A
+or_else (Some found) other = Some found
+or_else None other = other
+
+-- the first refusal of a list
+abbrev pub first_of : List (Option ElfFault) → Option ElfFault
+first_of [] = None
+first_of (fault ∷ others) = or_else fault (first_of others)
+
+-- what the lowest index below a count gives that gives something
+unfoldable pub first_below : {A : Type 0} → (ℕ → Option A) → ℕ → Option A
+first_below found_at zero = None
+first_below found_at (suc n) = or_else (first_below found_at n) (found_at n)
+
+-- a value for each index below a count
+unfoldable pub each_below : {A : Type 0} → (ℕ → A) → ℕ → List A
+each_below value_at zero = []
+each_below value_at (suc n) = each_below value_at n ++ value_at n ∷ []
+
+-- the values of each index below a count
+unfoldable pub all_below : {A : Type 0} → (ℕ → List A) → ℕ → List A
+all_below values_at zero = []
+all_below values_at (suc n) = all_below values_at n ++ values_at n
+
+-- what is found at the indexes below a count is what this function gives
+abbrev pub FindsBelow : {A : Type 0} → ℕ → (ℕ → Option A → Type 0) → (ℕ → Option A) → Type 0
+FindsBelow {A} count found f = (k : ℕ) (r : Option A) → k < count → found k r → r ≡ f k
+
+-- nothing was found below an index
+abbrev pub NoneBelow : {A : Type 0} → ℕ → (ℕ → Option A → Type 0) → ℕ → Type 0
+NoneBelow {A} count found i = (f : ℕ → Option A) → FindsBelow count found f → first_below f i ≡ None
+
+-- a check answers this refusal, if there is one
+abbrev pub Answers : Result (Unit {0}) ElfFault → Option ElfFault → Type 0
+Answers (Ok _) refusal = refusal ≡ None
+Answers (Err f) refusal = refusal ≡ Some f
+
+-- unless memory ran out, this is the refusal
+abbrev pub IsFaultOf : Option ElfFault → ElfFault → Type 0
+IsFaultOf refusal f = f ≢ fault.NoMemory → refusal ≡ Some f

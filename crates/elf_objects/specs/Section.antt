@@ -1,0 +1,123 @@
+-- Section headers (TIS ELF 1.2, "Sections"), what is loaded, and which sections are refused.
+use Rattle.std.specs.Prelude.{ℕ, ◌+◌, ◌*◌, ◌/◌, ◌%◌, List, [], ◌∷◌, length, take, drop, Bool, true, false, not, ◌&&◌, ◌||◌, ◌==◌, nat_lt, if◌then◌else◌, Option, Some, None}
+use Rattle.std.specs.List.{list_any}
+use Rattle.elf_objects.specs.declared.fault.ElfFault.{ElfFault}
+use Rattle.elf_objects.specs.declared.fault.ElfFault.TheVariants as fault
+use Rattle.elf_objects.specs.declared.section.Header.{Header}
+use Rattle.elf_objects.specs.declared.object.Span.{Span}
+use Rattle.elf_objects.specs.Bytes.{word_at}
+use Rattle.elf_objects.specs.Passes.{refuse_if, or_else, first_below}
+use Rattle.elf_objects.specs.Header.{table_offset, section_count, name_table}
+
+-- the header of this index, the fields that are looked at
+unfoldable pub header_of : List ℕ → ℕ → Header
+header_of file index = let at = table_offset file + 40 * index in record {
+  name = word_at file at;
+  kind = word_at file (at + 4);
+  flags = word_at file (at + 8);
+  offset = word_at file (at + 16);
+  size = word_at file (at + 20);
+  link = word_at file (at + 24);
+  info = word_at file (at + 28);
+  align = word_at file (at + 32);
+  entry_size = word_at file (at + 36);
+}
+
+-- NULL and NOBITS have no bytes in the file
+abbrev pub is_absent : Header → Bool
+is_absent h = h.kind == 0 || h.kind == 8
+
+-- a kind and flags are loaded: with the alloc flag, and none of NULL, SYMTAB, STRTAB, RELA and REL
+abbrev pub is_loaded : ℕ → ℕ → Bool
+is_loaded kind flags = (flags / 2 % 2 == 1) && not (kind == 0 || kind == 2 || kind == 3 || kind == 4 || kind == 9)
+
+abbrev pub is_loaded_header : Header → Bool
+is_loaded_header h = is_loaded h.kind h.flags
+
+-- 0 or a power of two up to 32,768
+abbrev pub is_alignment : ℕ → Bool
+is_alignment n = list_any (λ a. n == a) (0 ∷ 1 ∷ 2 ∷ 4 ∷ 8 ∷ 16 ∷ 32 ∷ 64 ∷ 128 ∷ 256 ∷ 512 ∷ 1024 ∷ 2048 ∷ 4096 ∷ 8192 ∷ 16384 ∷ 32768 ∷ [])
+
+-- its bytes, as far as they are in the file
+abbrev pub content : List ℕ → Header → List ℕ
+content file h = take h.size (drop h.offset file)
+
+-- its bytes end past the file
+abbrev pub ends_past : List ℕ → Header → Bool
+ends_past file h = nat_lt (length file) (h.offset + h.size)
+
+-- at an index: bytes past the file, or a loaded section whose alignment is none
+unfoldable pub section_fault : List ℕ → ℕ → Option ElfFault
+section_fault file i = let h = header_of file i in
+    refuse_if ((not (is_absent h) && ends_past file h) || (is_loaded_header h && not (is_alignment h.align))) (fault.Section i)
+
+-- a section of this index and kind is there
+abbrev pub is_kind : List ℕ → ℕ → ℕ → Bool
+is_kind file kind i = nat_lt i (section_count file) && (header_of file i).kind == kind
+
+abbrev pub index_if : Bool → ℕ → Option ℕ
+index_if true i = Some i
+index_if false i = None
+
+-- the first SYMTAB
+unfoldable pub symbol_table : List ℕ → Option ℕ
+symbol_table file = first_below (λ i. index_if ((header_of file i).kind == 2) i) (section_count file)
+
+abbrev pub is_this : Option ℕ → ℕ → Bool
+is_this None i = false
+is_this (Some s) i = i == s
+
+-- a SYMTAB that is not the first one, or whose link is no STRTAB, or whose entries do not have 16 bytes
+abbrev pub is_bad_symbol_table : List ℕ → ℕ → Header → Bool
+is_bad_symbol_table file i h =
+    not (is_this (symbol_table file) i) || not (is_kind file 3 h.link) || not (h.entry_size == 16) || not (h.size % 16 == 0)
+
+-- the RELA of a loaded section
+abbrev pub is_kept_table : List ℕ → Header → Bool
+is_kept_table file h = h.kind == 4 && is_loaded_header (header_of file h.info)
+
+-- the RELA's link is not the SYMTAB, or its entries do not have 12 bytes
+abbrev pub is_bad_kept_table : List ℕ → Header → Bool
+is_bad_kept_table file h = not (is_this (symbol_table file) h.link) || not (h.entry_size == 12) || not (h.size % 12 == 0)
+
+abbrev pub is_bad_link : List ℕ → ℕ → Header → Bool
+is_bad_link file i h =
+    (i == name_table file && not (h.kind == 3))
+    || (h.kind == 2 && is_bad_symbol_table file i h)
+    || ((h.kind == 4 || h.kind == 9) && not (nat_lt h.info (section_count file)))
+    || (is_kept_table file h && is_bad_kept_table file h)
+
+-- at an index: what it points to is not what it must be
+unfoldable pub link_fault : List ℕ → ℕ → Option ElfFault
+link_fault file i = refuse_if (is_bad_link file i (header_of file i)) (fault.Link i)
+
+-- no section has the name table's index
+unfoldable pub name_table_fault : List ℕ → Option ElfFault
+name_table_fault file = refuse_if (not (nat_lt (name_table file) (section_count file))) (fault.Link (name_table file))
+
+-- at an index: a loaded section with the flag compressed
+unfoldable pub compressed_fault : List ℕ → ℕ → Option ElfFault
+compressed_fault file i = let h = header_of file i in
+    refuse_if (is_loaded_header h && h.flags / 2048 % 2 == 1) (fault.Compressed i)
+
+-- at an index: a REL of a loaded section
+unfoldable pub rel_fault : List ℕ → ℕ → Option ElfFault
+rel_fault file i = let h = header_of file i in
+    refuse_if (h.kind == 9 && is_loaded_header (header_of file h.info)) (fault.RelSection i)
+
+-- what is given of a section's bytes
+abbrev pub content_span : Header → Span
+content_span h = if is_absent h then record { start = 0; end = 0 } else record { start = h.offset; end = h.offset + h.size }
+
+-- the refusals Section, Link, Compressed and RelSection, each at the lowest index that has it
+unfoldable pub section_faults : List ℕ → Option ElfFault
+section_faults file = first_below (section_fault file) (section_count file)
+
+unfoldable pub link_faults : List ℕ → Option ElfFault
+link_faults file = or_else (first_below (link_fault file) (section_count file)) (name_table_fault file)
+
+unfoldable pub compressed_faults : List ℕ → Option ElfFault
+compressed_faults file = first_below (compressed_fault file) (section_count file)
+
+unfoldable pub rel_faults : List ℕ → Option ElfFault
+rel_faults file = first_below (rel_fault file) (section_count file)

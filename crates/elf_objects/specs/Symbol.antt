@@ -1,0 +1,95 @@
+-- Symbols (TIS ELF 1.2, "Symbol Table"), and which are refused.
+use Rattle.std.specs.Prelude.{ℕ, zero, suc, ◌+◌, ◌*◌, ◌/◌, List, [], slice_index, Bool, not, ◌&&◌, ◌||◌, ◌==◌, nat_lt, if◌then◌else◌, Option, Some, None, is_none}
+use Rattle.elf_objects.specs.declared.fault.ElfFault.{ElfFault}
+use Rattle.elf_objects.specs.declared.fault.ElfFault.TheVariants as fault
+use Rattle.elf_objects.specs.declared.section.Header.{Header}
+use Rattle.elf_objects.specs.declared.symbol.Entry.{Entry}
+use Rattle.elf_objects.specs.declared.object.Symbol.{Symbol}
+use Rattle.elf_objects.specs.declared.object.Binding.{Binding}
+use Rattle.elf_objects.specs.declared.object.Binding.TheVariants as binding
+use Rattle.elf_objects.specs.declared.object.Home.{Home}
+use Rattle.elf_objects.specs.declared.object.Home.TheVariants as home
+use Rattle.elf_objects.specs.Bytes.{half_at, word_at}
+use Rattle.elf_objects.specs.Passes.{refuse_if, first_below, each_below}
+use Rattle.elf_objects.specs.Header.{section_count}
+use Rattle.elf_objects.specs.Section.{header_of, symbol_table, is_alignment}
+use Rattle.elf_objects.specs.Names.{name_end, name_span}
+
+-- the entry of this index of a symbol table
+unfoldable pub entry_of : List ℕ → Header → ℕ → Entry
+entry_of file table index = let at = table.offset + 16 * index in record {
+  name = word_at file at;
+  value = word_at file (at + 4);
+  size = word_at file (at + 8);
+  binding = slice_index file (at + 12) / 16;
+  section = half_at file (at + 14);
+}
+
+abbrev pub count_in : Header → ℕ
+count_in table = table.size / 16
+
+-- the symbols' string table
+abbrev pub strings_of : List ℕ → Header → Header
+strings_of file table = header_of file table.link
+
+-- a common that is local, or whose value is no alignment
+abbrev pub is_bad_common : Entry → Bool
+is_bad_common e = e.section == 0xFFF2 && (e.binding == 0 || not (is_alignment e.value))
+
+-- the section's index is none of a section, absolute and common
+abbrev pub is_bad_home : List ℕ → Entry → Bool
+is_bad_home file e = not (nat_lt e.section (section_count file)) && not (e.section == 0xFFF1) && not (e.section == 0xFFF2)
+
+abbrev pub is_bad_symbol : List ℕ → Header → Entry → Bool
+is_bad_symbol file table e =
+    is_none (name_end file (strings_of file table) e.name) || nat_lt 2 e.binding || is_bad_home file e || is_bad_common e
+
+-- at an index, from 1 on
+unfoldable pub symbol_fault : List ℕ → Header → ℕ → Option ElfFault
+symbol_fault file table zero = None
+symbol_fault file table (suc k) = refuse_if (is_bad_symbol file table (entry_of file table (suc k))) (fault.Symbol (suc k))
+
+abbrev pub binding_of : ℕ → Binding
+binding_of zero = binding.Local
+binding_of (suc zero) = binding.Global
+binding_of (suc (suc n)) = binding.Weak
+
+abbrev pub home_of : ℕ → Home
+home_of n = if n == 0 then home.Undefined else if n == 0xFFF1 then home.Absolute else if n == 0xFFF2 then home.Common else home.In n
+
+-- symbol 0 is given as nothing, whatever its bytes are
+unfoldable pub symbol_of : List ℕ → Header → ℕ → Symbol
+symbol_of file table zero = record { name = record { start = 0; end = 0 }; value = 0; size = 0; binding = binding.Local; home = home.Undefined }
+symbol_of file table (suc k) = let e = entry_of file table (suc k) in record {
+  name = name_span file (strings_of file table) e.name;
+  value = e.value;
+  size = e.size;
+  binding = binding_of e.binding;
+  home = home_of e.section;
+}
+
+abbrev pub header_at : List ℕ → Option ℕ → Option Header
+header_at file None = None
+header_at file (Some i) = Some (header_of file i)
+
+-- the file's symbol table, if there is one
+unfoldable pub symbols_header : List ℕ → Option Header
+symbols_header file = header_at file (symbol_table file)
+
+abbrev pub count_of : Option Header → ℕ
+count_of None = 0
+count_of (Some table) = count_in table
+
+abbrev pub faults_in : List ℕ → Option Header → Option ElfFault
+faults_in file None = None
+faults_in file (Some table) = first_below (symbol_fault file table) (count_in table)
+
+unfoldable pub symbol_faults : List ℕ → Option ElfFault
+symbol_faults file = faults_in file (symbols_header file)
+
+abbrev pub symbols_in : List ℕ → Option Header → List Symbol
+symbols_in file None = []
+symbols_in file (Some table) = each_below (symbol_of file table) (count_in table)
+
+unfoldable pub symbols_of : List ℕ → List Symbol
+symbols_of file = symbols_in file (symbols_header file)

@@ -1,0 +1,5 @@
+use Rattle.layout_file.proofs.SoundLemmas.{IsLayout-LayoutOf}
+use Rattle.layout_file.proofs.laws.layouts_are_sound.Goals as goal
+
+pub returns : goal.returns
+returns c = IsLayout-LayoutOf c.args.bytes.now

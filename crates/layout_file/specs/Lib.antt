@@ -1,0 +1,9 @@
+pub mod Keys
+pub mod Values
+pub mod Checked
+pub mod Rows
+pub mod Clashes
+pub mod Overlaps
+pub mod Sound
+pub mod Views
+pub mod Layout
