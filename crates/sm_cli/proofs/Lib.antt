@@ -1,3 +1,4 @@
+pub mod Loading
 pub mod Runs
 pub mod Serving
 pub mod Words

@@ -3,7 +3,11 @@ use Rattle.std.proofs.Common.{◌≡◌, ◌≢◌, ℕ, ◌≤◌, ◌<◌, Boo
 use Rattle.sm_io.specs.Faults.{HasCause, Rose}
 use Rattle.sm_io.specs.Files.{FileMap}
 use Rattle.sm_io.specs.Sink.{Took, CutOff}
-use Rattle.image_text.specs.Image.{ImageValue, IsImage, image_text_of}
+use Rattle.image_text.specs.declared.ImageFault.{ImageFault}
+use Rattle.image_text.specs.Image.{Image, IsImage}
+use Rattle.image_text.specs.ImageText.{image_text}
+use Rattle.image_text.specs.Refusal.{refusal_of}
+use Rattle.image_text.proofs.OneText.{text_has_no_refusal, images_of_one_text}
 use Rattle.sm_cli.specs.declared.answers.FileFault.{FileFault}
 use Rattle.sm_cli.specs.declared.answers.FileFault.TheVariants as fault
 use Rattle.sm_cli.specs.declared.answers.Refusal.{Refusal}
@@ -13,26 +17,34 @@ use Rattle.sm_cli.specs.declared.answers.Status.TheVariants as status
 use Rattle.sm_cli.specs.Command.{Command, image, command_of}
 use Rattle.sm_cli.specs.Machine.{boot, state_after}
 use Rattle.sm_cli.specs.Trace.{trace}
-use Rattle.sm_cli.specs.Serve.{Call, call_of, needs_of, image_file, HasFault, IsFirstFault, Serves, Refuses, IsCalledFor, IsCause, IsFileCause, IsImageOf, IsRun, is_read_fault, status_of, line_of, Answer, IsAnswer, HasFile, run_answer, run_status, answer_of_image, Completes, IsOrOutside, IsRoomForAnswer, IsRoomForLine}
+use Rattle.sm_cli.specs.Serve.{Call, call_of, needs_of, image_file, HasFault, IsFirstFault, Serves, Refuses, IsCalledFor, IsCause, IsFileCause, IsBuilt, IsImageOf, IsRun, is_read_fault, status_of, line_of, Answer, IsAnswer, HasFile, run_answer, run_status, answer_of_image, Completes, IsOrOutside, IsRoomForAnswer, IsRoomForLine}
 
 -- The file of an image
 
 -- the file that serves has no fault
-no_fault : (f : FileFault) (file : Option (List ℕ)) (value : ImageValue) → IsImage value → length (image_text_of value) ≤ 1048576 → file ≡ Some (image_text_of value) → HasFault image_file file f → ⊥
-no_fault fault.Absent file value valid short is h = cc
-no_fault fault.TooLong file value valid short is h = let long = subst (λ o. HasFault image_file o fault.TooLong) is h in omega (arith, short, long)
-no_fault fault.NotText file value valid short is h = let none = subst (λ o. HasFault image_file o fault.NotText) is h in none.1 value valid refl
+no_fault : (f : FileFault) (file : Option (List ℕ)) (value : Image) → IsImage value → length (image_text value) ≤ 1048576 → IsBuilt value → file ≡ Some (image_text value) → HasFault image_file file f → ⊥
+no_fault fault.Absent file value valid short built is h = cc
+no_fault fault.TooLong file value valid short built is h = let long = subst (λ o. HasFault image_file o fault.TooLong) is h in omega (arith, short, long)
+no_fault (fault.Image refusal) file value valid short built is h =
+    let refused = subst (λ o. HasFault image_file o (fault.Image refusal)) is h in
+    let none : refusal_of (image_text value) ≡ None = text_has_no_refusal value valid in
+    let some : refusal_of (image_text value) ≡ Some refusal = refused.1 in
+    cc
+no_fault fault.NotBuilt file value valid short built is h =
+    let same : Some (image_text h.0) ≡ Some (image_text value) = sym h.2 ∙ is in
+    let texts : image_text h.0 ≡ image_text value = cc in
+    h.4 (subst (λ v. IsBuilt v) (sym (images_of_one_text h.0 value h.1 valid texts)) built)
 
 -- an image that has this text is the one that was read
-same_image : (files : Option FileMap) (map : FileMap) (name : List ℕ) (value other : ImageValue) → files ≡ Some map → IsImageOf files name value → IsImage other → map name ≡ Some (image_text_of other) → other ≡ value
+same_image : (files : Option FileMap) (map : FileMap) (name : List ℕ) (value other : Image) → files ≡ Some map → IsImageOf files name value → IsImage other → map name ≡ Some (image_text other) → other ≡ value
 same_image files map name value other told r valid is =
-    let own = subst (λ o. HasFile o name (image_text_of value)) told r.file in
-    let same : Some (image_text_of other) ≡ Some (image_text_of value) = sym is ∙ own in
-    let texts : image_text_of other ≡ image_text_of value = cc in
-    r.own other valid texts
+    let own = subst (λ o. HasFile o name (image_text value)) told r.file in
+    let same : Some (image_text other) ≡ Some (image_text value) = sym is ∙ own in
+    let texts : image_text other ≡ image_text value = cc in
+    images_of_one_text other value valid r.image texts
 
 -- the run of a command, at the command's name, cycles and image
-pub same_run : (files : Option FileMap) (map : FileMap) (own name : List ℕ) (k cycles : ℕ) (value other : ImageValue) → files ≡ Some map → Some (image own k) ≡ Some (image name cycles) → IsImageOf files own value → IsImage other → map name ≡ Some (image_text_of other) → (P : ℕ → ImageValue → Type 0) → P k value → P cycles other
+pub same_run : (files : Option FileMap) (map : FileMap) (own name : List ℕ) (k cycles : ℕ) (value other : Image) → files ≡ Some map → Some (image own k) ≡ Some (image name cycles) → IsImageOf files own value → IsImage other → map name ≡ Some (image_text other) → (P : ℕ → Image → Type 0) → P k value → P cycles other
 same_run files map own name k cycles value other told same r valid has P p =
     let named : own ≡ name = cc in
     let counted : k ≡ cycles = cc in
@@ -43,7 +55,7 @@ same_run files map own name k cycles value other told same r valid has P p =
 
 module _ (words : List (List ℕ)) (files : Option FileMap) (before after : ℕ) (name : List ℕ) (cycles : ℕ) (ended : Status) (took cut : List ℕ → Type 0) where
   is_answer : (r : IsRun files name cycles ended took cut) → IsAnswer files (image name cycles) (answer_of_image r.value cycles)
-  is_answer r = (r.value, r.image.image, r.image.file, r.image.short, refl)
+  is_answer r = (r.value, r.image.image, r.image.file, r.image.short, r.image.built, refl)
 
   pub when_done : Some (image name cycles) ≡ command_of words → IsRun files name cycles ended took cut → HasCause before after false → ended ≡ status.Done → Serves (call_of words files before after) status.Done took
   when_done c r quiet e =
@@ -65,10 +77,10 @@ module _ (words : List (List ℕ)) (files : Option FileMap) (before after : ℕ)
   run_no_fault map (image own k) other fault told c d r (inl h) =
       let same : Some (image name cycles) ≡ Some (image own k) = c ∙ d in
       let named : own ≡ name = cc in
-      no_fault fault (map other) r.value r.image.image r.image.short (ap map (sym h.0 ∙ named) ∙ subst (λ o. HasFile o name (image_text_of r.value)) told r.image.file) h.1
+      no_fault fault (map other) r.value r.image.image r.image.short r.image.built (ap map (sym h.0 ∙ named) ∙ subst (λ o. HasFile o name (image_text r.value)) told r.image.file) h.1
   run_no_fault map (image own k) other fault told c d r (inr h) = h.1
 
-  answer_completes : (value : ImageValue) → run_answer ended cycles (boot value) took cut → (told : Type 0) → Completes ended (answer_of_image value cycles) took cut told
+  answer_completes : (value : Image) → run_answer ended cycles (boot value) took cut → (told : Type 0) → Completes ended (answer_of_image value cycles) took cut told
   answer_completes value a told = by ended a
     where
       by : (s : Status) → run_answer s cycles (boot value) took cut → Completes s (answer_of_image value cycles) took cut told
@@ -86,7 +98,7 @@ module _ (words : List (List ℕ)) (files : Option FileMap) (before after : ℕ)
       let named : own ≡ name = cc in
       let counted : cycles ≡ k = cc in
       let value : a.0 ≡ r.value = same_image files map name r.value a.0 is r.image a.1 (ap map (sym named) ∙ a.2) in
-      let answers : answer_of_image r.value cycles ≡ answer = ap (λ v. answer_of_image v cycles) (sym value) ∙ ap (answer_of_image a.0) counted ∙ sym a.4 in
+      let answers : answer_of_image r.value cycles ≡ answer = ap (λ v. answer_of_image v cycles) (sym value) ∙ ap (answer_of_image a.0) counted ∙ sym a.5 in
       subst (λ x. Completes ended x took cut told) answers (answer_completes r.value r.answer told)
 
 -- Refusals
@@ -144,16 +156,16 @@ module _ (r : Refusal) (name : List ℕ) (ended : Status) (took cut : List ℕ �
 
       by : (q : Refusal) → IsFileCause image_file files before after q name → Completes (status_of q) answer whole part told
       by refusal.Usage h = absurd h
-      by (refusal.BadFile fault) h = absurd (no_fault fault (map name) a.0 a.1 a.3 (ap map (sym named) ∙ a.2) (subst (λ o. IfSome o (λ m. HasFault image_file (m name) fault)) is h.0))
+      by (refusal.BadFile fault) h = absurd (no_fault fault (map name) a.0 a.1 a.3 a.4 (ap map (sym named) ∙ a.2) (subst (λ o. IfSome o (λ m. HasFault image_file (m name) fault)) is h.0))
       by refusal.CannotRead h = tt
       by refusal.NoMemory h = tt
 
   -- the outside failed, where the files serve and memory is there
-  pub refused_outside : (words : List (List ℕ)) (files : Option FileMap) (map : FileMap) (before after : ℕ) (cycles : ℕ) (own : List ℕ) (k : ℕ) (value : ImageValue)
-      → files ≡ Some map → Some (image name cycles) ≡ command_of words → command_of words ≡ Some (image own k) → IsImage value → map own ≡ Some (image_text_of value) → length (image_text_of value) ≤ 1048576 → IsFileCause image_file files before after r name
+  pub refused_outside : (words : List (List ℕ)) (files : Option FileMap) (map : FileMap) (before after : ℕ) (cycles : ℕ) (own : List ℕ) (k : ℕ) (value : Image)
+      → files ≡ Some map → Some (image name cycles) ≡ command_of words → command_of words ≡ Some (image own k) → IsImage value → map own ≡ Some (image_text value) → length (image_text value) ≤ 1048576 → IsBuilt value → IsFileCause image_file files before after r name
       → ended ≢ status.NoMemory → (Rose before after → ⊥) → (cut (line_of r name) → ⊥) → Told → ⊥
-  refused_outside words files map before after cycles own k value is c d valid has short f some no_read no_cut (inr t) = no_cut t.1
-  refused_outside words files map before after cycles own k value is c d valid has short f some no_read no_cut (inl t) = by r f t.0
+  refused_outside words files map before after cycles own k value is c d valid has short built f some no_read no_cut (inr t) = no_cut t.1
+  refused_outside words files map before after cycles own k value is c d valid has short built f some no_read no_cut (inl t) = by r f t.0
     where
       same : Some (image name cycles) ≡ Some (image own k)
       same = c ∙ d
@@ -163,7 +175,7 @@ module _ (r : Refusal) (name : List ℕ) (ended : Status) (took cut : List ℕ �
 
       by : (q : Refusal) → IsFileCause image_file files before after q name → ended ≡ status_of q → ⊥
       by refusal.Usage h e = h
-      by (refusal.BadFile fault) h e = no_fault fault (map name) value valid short (ap map (sym named) ∙ has) (subst (λ o. IfSome o (λ m. HasFault image_file (m name) fault)) is h.0)
+      by (refusal.BadFile fault) h e = no_fault fault (map name) value valid short built (ap map (sym named) ∙ has) (subst (λ o. IfSome o (λ m. HasFault image_file (m name) fault)) is h.0)
       by refusal.CannotRead h e = no_read h.1
       by refusal.NoMemory h e = some e
 
@@ -177,7 +189,7 @@ module _ {S : Type 0} (taken : S → Option (List ℕ)) (faults sure : S → ℕ
   cut_room text h room = omega (arith, h.not_sure, room)
 
   -- what a run did to a sink that is sure of its text
-  pub run_sure : (ended : Status) (cycles : ℕ) (value : ImageValue) → run_answer ended cycles (boot value) (Took taken faults sure old new) (CutOff taken faults sure old new) → length (trace value cycles) ≤ sure old → (ended ≢ status.WriteFault) × (faults new ≡ faults old)
+  pub run_sure : (ended : Status) (cycles : ℕ) (value : Image) → run_answer ended cycles (boot value) (Took taken faults sure old new) (CutOff taken faults sure old new) → length (trace value cycles) ≤ sure old → (ended ≢ status.WriteFault) × (faults new ≡ faults old)
   run_sure status.Done cycles value a room = (λ e. cc, a.0.quiet)
   run_sure status.Stopped cycles value a room = (λ e. cc, a.0.quiet)
   run_sure status.WriteFault cycles value a room = absurd (cut_room (trace value cycles) a room)
@@ -187,7 +199,7 @@ module _ {S : Type 0} (taken : S → Option (List ℕ)) (faults sure : S → ℕ
   run_sure status.NoMemory cycles value a room = absurd a
 
   -- what a run did to a sink whose count did not rise
-  pub run_whole : (ended : Status) (cycles : ℕ) (value : ImageValue) → run_answer ended cycles (boot value) (Took taken faults sure old new) (CutOff taken faults sure old new) → (Rose (faults old) (faults new) → ⊥) → Took taken faults sure old new (trace value cycles) × (ended ≡ run_status (is_some (state_after cycles (boot value)).stop))
+  pub run_whole : (ended : Status) (cycles : ℕ) (value : Image) → run_answer ended cycles (boot value) (Took taken faults sure old new) (CutOff taken faults sure old new) → (Rose (faults old) (faults new) → ⊥) → Took taken faults sure old new (trace value cycles) × (ended ≡ run_status (is_some (state_after cycles (boot value)).stop))
   run_whole status.Done cycles value a quiet = (a.0, sym (ap (λ stop. run_status (is_some stop)) a.1))
   run_whole status.Stopped cycles value a quiet = (a.0, sym (ap run_status a.1))
   run_whole status.WriteFault cycles value a quiet = absurd (quiet (cut_rose (trace value cycles) a))

@@ -3,7 +3,7 @@
 use Rattle.std.specs.Prelude.{◌≡◌, ℕ, zero, suc, ◌+◌, ◌-◌, ◌*◌, ◌/◌, ◌%◌, ◌^◌, ◌<◌, ◌≤◌, Bool, true, false, not, ◌==◌, ◌&&◌, ◌||◌, List, [], ◌∷◌, length, replicate, slice_index, Option, Some, None, if◌then◌else◌, nat_lt, All}
 use Rattle.std.specs.Option.{option_map}
 use Rattle.sm_words.specs.Words.{reg, put, IsCore}
-use Rattle.image_text.specs.Image.{ImageValue}
+use Rattle.image_text.specs.Image.{Image}
 use Rattle.sm_cli.specs.declared.decode.Insn.{Insn}
 use Rattle.sm_cli.specs.declared.decode.Insn.TheVariants.{Jump, Mov}
 use Rattle.sm_cli.specs.declared.decode.Source.{Source}
@@ -148,5 +148,5 @@ state_after zero s = s
 state_after (suc n) s = state_after n (cycle_of s).0
 
 -- the state of cycle 0: all registers are 0 but PC, which is the reset vector's word
-unfoldable pub boot : ImageValue → State
+unfoldable pub boot : Image → State
 boot image = state_of (put (replicate 16 0) 0 (word image.memory 65534)) image.memory 0 0 None

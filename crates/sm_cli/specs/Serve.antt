@@ -1,17 +1,23 @@
 -- What a call of `serve` gives.
-use Rattle.std.specs.Prelude.{◌≡◌, ℕ, ◌<◌, ◌≤◌, Bool, true, false, List, [], ◌∷◌, length, Option, Some, None, IfSome, IsSomeAnd, IsSome, is_some, codes, map, ◌⊎◌, String}
+use Rattle.std.specs.Prelude.{◌≡◌, ℕ, ◌<◌, ◌≤◌, Bool, true, false, List, [], ◌∷◌, ◌++◌, length, Option, Some, None, IfSome, IsSomeAnd, IsSome, is_some, codes, map, ◌⊎◌, String}
 use Rattle.std.specs.String.{string_bytes}
 use Rattle.std.specs.declared.alloc.Global.{Global}
 use Rattle.sm_io.specs.Faults.{HasCause}
 use Rattle.sm_io.specs.Files.{FileMap}
-use Rattle.image_text.specs.Image.{ImageValue, IsImage, IsNoImageText, HasOwnText, image_text_of}
+use Rattle.std.specs.Fmt.{decimal}
+use Rattle.mod_layout.specs.declared.TableFault.{TableFault}
+use Rattle.mod_layout.specs.declared.TableFault.TheVariants as table_fault
+use Rattle.image_text.specs.declared.ImageFault.{ImageFault}
+use Rattle.image_text.specs.declared.ImageFault.TheVariants as image_fault
+use Rattle.image_text.specs.Image.{Image, IsImage}
+use Rattle.image_text.specs.ImageText.{image_text}
+use Rattle.image_text.specs.Refusal.{refusal_of}
 use Rattle.sm_cli.specs.declared.answers.Status.{Status}
 use Rattle.sm_cli.specs.declared.answers.Status.TheVariants as status
 use Rattle.sm_cli.specs.declared.answers.Refusal.{Refusal}
 use Rattle.sm_cli.specs.declared.answers.Refusal.TheVariants as refusal
 use Rattle.sm_cli.specs.declared.answers.FileFault.{FileFault}
 use Rattle.sm_cli.specs.declared.answers.FileFault.TheVariants as fault
-use Rattle.sm_cli.specs.Text.{joined}
 use Rattle.sm_cli.specs.Machine.{State, boot, state_after}
 use Rattle.sm_cli.specs.Trace.{trace, run_text}
 use Rattle.sm_cli.specs.Command.{Command, image, command_of}
@@ -44,15 +50,20 @@ pub record Need : Type 0 where
 abbrev pub needs_of : Command → List Need
 needs_of (image name cycles) = record { name = name; kind = image_file } ∷ []
 
+-- an image without modules, which is all that the machine knows yet
+abbrev pub IsBuilt : Image → Type 0
+IsBuilt value = value.table.modules ≡ []
+
 -- a file, or its absence, serves as this kind: it is there, it is not too long, and it is a text of that kind
 abbrev pub ServesAs : Kind → Option (List ℕ) → Type 0
-ServesAs image_file file = (value : ImageValue) × IsImage value × (file ≡ Some (image_text_of value)) × (length (image_text_of value) ≤ 1048576)
+ServesAs image_file file = (value : Image) × IsImage value × (file ≡ Some (image_text value)) × (length (image_text value) ≤ 1048576) × IsBuilt value
 
 -- a file, or its absence, has this fault as this kind
 abbrev pub HasFault : Kind → Option (List ℕ) → FileFault → Type 0
 HasFault kind file fault.Absent = file ≡ None
 HasFault kind file fault.TooLong = IsSomeAnd file (λ bytes. 1048576 < length bytes)
-HasFault image_file file fault.NotText = IsSomeAnd file (λ bytes. (length bytes ≤ 1048576) × IsNoImageText bytes)
+HasFault image_file file (fault.Image refusal) = IsSomeAnd file (λ bytes. (length bytes ≤ 1048576) × (refusal_of bytes ≡ Some refusal))
+HasFault image_file file fault.NotBuilt = (value : Image) × IsImage value × (file ≡ Some (image_text value)) × (length (image_text value) ≤ 1048576) × (IsBuilt value → ⊥)
 
 -- the file that is needed serves, as far as files are told
 abbrev pub IsServed : Option FileMap → Need → Type 0
@@ -83,7 +94,7 @@ run_status true = status.Stopped
 run_status false = status.Done
 
 -- the outside trace of an image
-abbrev pub answer_of_image : ImageValue → ℕ → Answer
+abbrev pub answer_of_image : Image → ℕ → Answer
 answer_of_image value cycles = record { text = trace value cycles; status = run_status (is_some (state_after cycles (boot value)).stop) }
 
 -- the file of that name is these bytes, as far as files are told
@@ -92,7 +103,7 @@ HasFile files name bytes = IfSome files (λ map. map name ≡ Some bytes)
 
 -- the files serve the command, and this is its answer
 abbrev pub IsAnswer : Option FileMap → Command → Answer → Type 0
-IsAnswer files (image name cycles) answer = (value : ImageValue) × IsImage value × HasFile files name (image_text_of value) × (length (image_text_of value) ≤ 1048576) × (answer ≡ answer_of_image value cycles)
+IsAnswer files (image name cycles) answer = (value : Image) × IsImage value × HasFile files name (image_text value) × (length (image_text value) ≤ 1048576) × IsBuilt value × (answer ≡ answer_of_image value cycles)
 
 -- the words are a command that the files serve, no read failed, and its answer has this status and its text P
 abbrev pub Serves : Call → Status → (List ℕ → Type 0) → Type 0
@@ -131,16 +142,34 @@ status_of (refusal.BadFile fault) = status.BadFile
 status_of refusal.CannotRead = status.ReadFault
 status_of refusal.NoMemory = status.NoMemory
 
+-- a fault as it is told: its name, then its fields, each after a space; numbers in decimal, a fault within it in the same way
+abbrev pub table_fault_text : TableFault → List ℕ
+table_fault_text table_fault.Empty = codes "Empty"
+table_fault_text table_fault.Odd = codes "Odd"
+table_fault_text (table_fault.Overlap with_id) = codes "Overlap " ++ decimal with_id
+table_fault_text table_fault.Reserved = codes "Reserved"
+table_fault_text table_fault.Full = codes "Full"
+table_fault_text table_fault.Spent = codes "Spent"
+
+abbrev pub image_fault_text : ImageFault → List ℕ
+image_fault_text (image_fault.Line n) = codes "Line " ++ decimal n
+image_fault_text (image_fault.Digit at) = codes "Digit " ++ decimal at
+image_fault_text (image_fault.Twice addr) = codes "Twice " ++ decimal addr
+image_fault_text (image_fault.Table id refusal) = (codes "Table " ++ decimal id) ++ (codes " " ++ table_fault_text refusal)
+image_fault_text (image_fault.Version n) = codes "Version " ++ decimal n
+image_fault_text image_fault.NoMemory = codes "NoMemory"
+
 abbrev pub fault_text : FileFault → List ℕ
 fault_text fault.Absent = codes "Absent"
 fault_text fault.TooLong = codes "TooLong"
-fault_text fault.NotText = codes "NotText"
+fault_text (fault.Image refusal) = image_fault_text refusal
+fault_text fault.NotBuilt = codes "NotBuilt"
 
 -- the line of a refusal, which may name a file
 unfoldable pub line_of : Refusal → List ℕ → List ℕ
 line_of refusal.Usage name = codes "sancus: usage\n"
-line_of (refusal.BadFile fault) name = joined (codes "sancus: bad file " ∷ name ∷ codes ": " ∷ fault_text fault ∷ codes "\n" ∷ [])
-line_of refusal.CannotRead name = joined (codes "sancus: cannot read " ∷ name ∷ codes "\n" ∷ [])
+line_of (refusal.BadFile fault) name = (codes "sancus: bad file " ++ (name ++ codes ": ")) ++ (fault_text fault ++ codes "\n")
+line_of refusal.CannotRead name = codes "sancus: cannot read " ++ (name ++ codes "\n")
 line_of refusal.NoMemory name = codes "sancus: no memory\n"
 
 -- some refusal has its cause, and this status, and its line has P
@@ -185,14 +214,14 @@ IsFileCause kind files before after refusal.CannotRead name = HasCause before af
 IsFileCause kind files before after refusal.NoMemory name = HasCause before after false
 
 -- an image that a file has the text of
-pub record IsImageOf (files : Option FileMap) (name : List ℕ) (value : ImageValue) : Type 0 where
+pub record IsImageOf (files : Option FileMap) (name : List ℕ) (value : Image) : Type 0 where
   pub image : IsImage value
-  pub own : HasOwnText value
-  pub file : HasFile files name (image_text_of value)
-  pub short : length (image_text_of value) ≤ 1048576
+  pub file : HasFile files name (image_text value)
+  pub short : length (image_text value) ≤ 1048576
+  pub built : IsBuilt value
 
 -- the file's image was run, and ended so
 pub record IsRun (files : Option FileMap) (name : List ℕ) (cycles : ℕ) (ended : Status) (took cut : List ℕ → Type 0) : Type 0 where
-  pub value : ImageValue
+  pub value : Image
   pub image : IsImageOf files name value
   pub answer : run_answer ended cycles (boot value) took cut

@@ -1,15 +1,17 @@
 // Lines of text, put to a sink.
-ghost use Rattle.std.specs.Prelude.{◌≡◌, ◌++◌, ◌∷◌, [], ◌^◌, ◌<◌, ◌%◌, ◌+◌, List, ℕ, map, length, All};
+ghost use Rattle.std.specs.Prelude.{◌≡◌, ◌++◌, ◌∷◌, [], ◌^◌, ◌<◌, ◌%◌, ◌+◌, List, ℕ, map, codes, length, All};
 ghost use Rattle.std.specs.List.{flat_map};
 ghost use Rattle.std.specs.Fmt.{decimal};
 ghost use Rattle.sm_io.specs.Sink.{Puts};
 ghost use Rattle.sm_cli.specs.Text.{hex_digit, hex_word};
 ghost use Rattle.sm_cli.specs.Machine.{State};
 ghost use Rattle.sm_cli.specs.Trace.{event_line, rule_name, register_text};
-ghost use Rattle.sm_cli.specs.Serve.{line_of, fault_text};
+ghost use Rattle.sm_cli.specs.Serve.{line_of, fault_text, image_fault_text, table_fault_text};
 
 use crate::{Event, FileFault, Refusal, Rule, Stop};
 use arrayvec::ArrayVec;
+use image_text::ImageFault;
+use mod_layout::TableFault;
 use sm_io::{Failed, Sink, put_all};
 
 /// Puts pieces, one after another.
@@ -122,24 +124,71 @@ pub fn put_registers<S: Sink>(sink: &mut S, registers: &[u16]) -> Result<(), Fai
     Ok(())
 }
 
-fn text_of(fault: FileFault) -> &'static [u8]
-    ensures { result.now ≡ fault_text fault }
+// Puts a name and a number.
+fn put_field<S: Sink>(sink: &mut S, name: &[u8], number: u64) -> Result<(), Failed>
+    ensures { Puts S.taken S.faults S.sure sink.old sink.new (name.now ++ decimal number) result }
+{
+    match put_all(sink, name) {
+        Ok(()) => {}
+        Err(Failed) => return Err(Failed),
+    }
+    put_all(sink, decimal_text(number).as_slice())
+}
+
+fn put_table_fault<S: Sink>(sink: &mut S, fault: TableFault) -> Result<(), Failed>
+    ensures { Puts S.taken S.faults S.sure sink.old sink.new (table_fault_text fault) result }
 {
     match fault {
-        FileFault::Absent => b"Absent",
-        FileFault::TooLong => b"TooLong",
-        FileFault::NotText => b"NotText",
+        TableFault::Empty => put_all(sink, b"Empty"),
+        TableFault::Odd => put_all(sink, b"Odd"),
+        TableFault::Overlap { with } => put_field(sink, b"Overlap ", u64::from(with)),
+        TableFault::Reserved => put_all(sink, b"Reserved"),
+        TableFault::Full => put_all(sink, b"Full"),
+        TableFault::Spent => put_all(sink, b"Spent"),
+    }
+}
+
+fn put_refused_module<S: Sink>(sink: &mut S, id: u64, fault: TableFault) -> Result<(), Failed>
+    ensures { Puts S.taken S.faults S.sure sink.old sink.new ((codes "Table " ++ decimal id) ++ (codes " " ++ table_fault_text fault)) result }
+{
+    match put_field(sink, b"Table ", id) {
+        Ok(()) => {}
+        Err(Failed) => return Err(Failed),
+    }
+    match put_all(sink, b" ") {
+        Ok(()) => {}
+        Err(Failed) => return Err(Failed),
+    }
+    put_table_fault(sink, fault)
+}
+
+fn put_image_fault<S: Sink>(sink: &mut S, fault: ImageFault) -> Result<(), Failed>
+    ensures { Puts S.taken S.faults S.sure sink.old sink.new (image_fault_text fault) result }
+{
+    match fault {
+        ImageFault::Line { n } => put_field(sink, b"Line ", n),
+        ImageFault::Digit { at } => put_field(sink, b"Digit ", at),
+        ImageFault::Twice { addr } => put_field(sink, b"Twice ", u64::from(addr)),
+        ImageFault::Table { module, fault } => put_refused_module(sink, module, fault),
+        ImageFault::Version { n } => put_field(sink, b"Version ", n),
+        ImageFault::NoMemory => put_all(sink, b"NoMemory"),
+    }
+}
+
+fn put_fault<S: Sink>(sink: &mut S, fault: FileFault) -> Result<(), Failed>
+    ensures { Puts S.taken S.faults S.sure sink.old sink.new (fault_text fault) result }
+{
+    match fault {
+        FileFault::Absent => put_all(sink, b"Absent"),
+        FileFault::TooLong => put_all(sink, b"TooLong"),
+        FileFault::Image(fault) => put_image_fault(sink, fault),
+        FileFault::NotBuilt => put_all(sink, b"NotBuilt"),
     }
 }
 
 // Puts a text, a name and another text.
-fn put_named<S: Sink>(
-    sink: &mut S,
-    before: &[u8],
-    name: &[u8],
-    after: &[&[u8]],
-) -> Result<(), Failed>
-    ensures { Puts S.taken S.faults S.sure sink.old sink.new (before.now ++ (name.now ++ flat_map (λ piece. piece.now) after.now)) result }
+fn put_named<S: Sink>(sink: &mut S, before: &[u8], name: &[u8], after: &[u8]) -> Result<(), Failed>
+    ensures { Puts S.taken S.faults S.sure sink.old sink.new (before.now ++ (name.now ++ after.now)) result }
 {
     match put_all(sink, before) {
         Ok(()) => {}
@@ -149,7 +198,21 @@ fn put_named<S: Sink>(
         Ok(()) => {}
         Err(Failed) => return Err(Failed),
     }
-    put_pieces(sink, after)
+    put_all(sink, after)
+}
+
+fn put_bad_file<S: Sink>(sink: &mut S, name: &[u8], fault: FileFault) -> Result<(), Failed>
+    ensures { Puts S.taken S.faults S.sure sink.old sink.new ((codes "sancus: bad file " ++ (name.now ++ codes ": ")) ++ (fault_text fault ++ codes "\n")) result }
+{
+    match put_named(sink, b"sancus: bad file ", name, b": ") {
+        Ok(()) => {}
+        Err(Failed) => return Err(Failed),
+    }
+    match put_fault(sink, fault) {
+        Ok(()) => {}
+        Err(Failed) => return Err(Failed),
+    }
+    put_all(sink, b"\n")
 }
 
 /// Puts the line of a refusal, which may name a file.
@@ -158,13 +221,8 @@ pub fn put_refusal<S: Sink>(sink: &mut S, refusal: Refusal, name: &[u8]) -> Resu
 {
     match refusal {
         Refusal::Usage => put_all(sink, b"sancus: usage\n"),
-        Refusal::BadFile(fault) => put_named(
-            sink,
-            b"sancus: bad file ",
-            name,
-            &[b": ", text_of(fault), b"\n"],
-        ),
-        Refusal::CannotRead => put_named(sink, b"sancus: cannot read ", name, &[b"\n"]),
+        Refusal::BadFile(fault) => put_bad_file(sink, name, fault),
+        Refusal::CannotRead => put_named(sink, b"sancus: cannot read ", name, b"\n"),
         Refusal::NoMemory => put_all(sink, b"sancus: no memory\n"),
     }
 }

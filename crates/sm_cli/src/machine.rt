@@ -52,7 +52,7 @@ impl Board {
     pub fn new(alloc: Global, image: &Image) -> Result<Board, NoMemory>
         ensures { IfOk result (λ board. board ≡ boot image.now) }
     {
-        let bytes = image.memory();
+        let bytes = image.memory.as_slice();
         let memory = bytes.to_vec(alloc)?;
         let mut core = Core::new([0; 16]);
         core.put(0, word_at(bytes, 65534));

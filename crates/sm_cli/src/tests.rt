@@ -143,26 +143,45 @@ fn no_words(rt: HostRuntime) -> Result<(), Fail> {
 fn bad_files(rt: HostRuntime) -> Result<(), Fail> {
     let alloc = rt.alloc();
     let long = vec![in alloc; b'0'; 1048577]?;
-    for (text, err) in [
-        (b"".as_slice(), "sancus: bad file a.img: NotText\n"),
-        (long.as_slice(), "sancus: bad file a.img: TooLong\n"),
+    for (text, fault) in [
+        (b"".as_slice(), "Line 1"),
+        (long.as_slice(), "TooLong"),
+        (&FIRST.as_bytes()[..100], "Line 4"),
         (
-            &FIRST.as_bytes()[..100],
-            "sancus: bad file a.img: NotText\n",
+            b"sancus-image 1\r\nkey 00000000000000000000000000000000\r\n".as_slice(),
+            "Line 1",
         ),
-        (
-            b"sancus-image 1\r\nkey 00000000000000000000000000000000\r\nhandler 0000\r\nend\r\n".as_slice(),
-            "sancus: bad file a.img: NotText\n",
-        ),
+        (b"sancus-image 3\n".as_slice(), "Version 3"),
         (
             b"sancus-image 1\nkey 00000000000000000000000000000000\nhandler 000A\nend\n".as_slice(),
-            "sancus: bad file a.img: NotText\n",
+            "Digit 63",
+        ),
+        (
+            b"sancus-image 1\nkey 00000000000000000000000000000000\nhandler 00g0\nend\n".as_slice(),
+            "Digit 62",
+        ),
+        (
+            b"sancus-image 1\nkey 00000000000000000000000000000000\nhandler 0000\nat 0200 354034120343ff3f0000000000000000\nat 0200 354034120343ff3f0000000000000000\n".as_slice(),
+            "Twice 512",
+        ),
+        (
+            b"sancus-image 1\nkey 00000000000000000000000000000000\nhandler 0000\nmodule 0007 0300 0306 0301 0402\n".as_slice(),
+            "Table 1 Odd",
+        ),
+        (
+            b"sancus-image 1\nkey 00000000000000000000000000000000\nhandler 0000\nmodule 0007 0300 0306 0400 0402\nmodule 0007 0304 0308 0500 0502\n".as_slice(),
+            "Table 2 Overlap 1",
+        ),
+        (
+            b"sancus-image 1\nkey 00000000000000000000000000000000\nhandler 0000\nmodule 0007 0300 0306 0400 0402\nend\n".as_slice(),
+            "NotBuilt",
         ),
     ] {
         let given = call(&rt, "image a.img - 4", files_with(&rt, text)?, None, None)?;
-        assert_eq!(rt; given.status, Status::BadFile);
-        assert_eq!(rt; given.out.taken(), b"".as_slice());
-        assert_eq!(rt; given.err.taken(), err.as_bytes());
+        assert_eq!(rt; given.status, Status::BadFile, "{fault}");
+        assert_eq!(rt; given.out.taken(), b"".as_slice(), "{fault}");
+        let line = format!(in alloc; "sancus: bad file a.img: {fault}\n")?;
+        assert_eq!(rt; given.err.taken(), line.as_bytes(), "{fault}");
     }
     Ok(())
 }

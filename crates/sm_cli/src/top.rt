@@ -3,13 +3,14 @@ ghost use Rattle.std.specs.Prelude.{◌≡◌, ◌≢◌, ◌⊎◌, ◌≤◌, 
 ghost use Rattle.sm_io.specs.Faults.{HasCause, Rose};
 ghost use Rattle.sm_io.specs.Files.{FileMap};
 ghost use Rattle.sm_io.specs.Sink.{Took, CutOff};
-ghost use Rattle.image_text.specs.Image.{ImageValue, IsImage, image_text_of};
+ghost use Rattle.image_text.specs.Image.{Image as ImageValue, IsImage};
+ghost use Rattle.image_text.specs.ImageText.{image_text as text_of_image};
 ghost use Rattle.sm_cli.specs.Machine.{boot, state_after};
 ghost use Rattle.sm_cli.specs.Trace.{trace};
 ghost use Rattle.sm_cli.specs.declared.answers.Status.{Status as Statuses};
 ghost use Rattle.sm_cli.specs.declared.answers.FileFault.{FileFault as FileFaults};
 ghost use Rattle.sm_cli.specs.Command.{Command, image, command_of};
-ghost use Rattle.sm_cli.specs.Serve.{Answer, texts, call_of, needs_of, image_file, IsFirstFault, Serves, Refuses, IsAnswer, IsFileCause, IsImageOf, IsRun, IsOrOutside, IsRoomForAnswer, IsRoomForLine, status_of, line_of, run_status, run_answer, Completes};
+ghost use Rattle.sm_cli.specs.Serve.{Answer, IsBuilt, texts, call_of, needs_of, image_file, IsFirstFault, Serves, Refuses, IsAnswer, IsFileCause, IsImageOf, IsRun, IsOrOutside, IsRoomForAnswer, IsRoomForLine, status_of, line_of, run_status, run_answer, Completes};
 
 use crate::command::read_command;
 use crate::lines::put_refusal;
@@ -26,11 +27,11 @@ pub fn serve<F: Files, O: Sink, E: Sink>(
     out: &mut O,
     err: &mut E,
 ) -> Status
-    // The headline: for every image, `out` takes exactly its outside trace, and `err` nothing, but for
+    // The headline: for every image without modules, `out` takes exactly its outside trace, and `err` nothing, but for
     // faults outside and want of memory.
     ensures headline { (map : FileMap) (name : List ℕ) (cycles : ℕ) (value : ImageValue) →
         F.content files.old ≡ Some map → command_of (texts words.now) ≡ Some (image name cycles) →
-        IsImage value → map name ≡ Some (image_text_of value) → length (image_text_of value) ≤ 1048576 →
+        IsImage value → map name ≡ Some (text_of_image value) → length (text_of_image value) ≤ 1048576 → IsBuilt value →
         ¬ (Rose (F.faults files.old) (F.faults files.new)) → ¬ (Rose (O.faults out.old) (O.faults out.new)) → ¬ (Rose (E.faults err.old) (E.faults err.new)) → result ≢ Status.NoMemory →
         Took O.taken O.faults O.sure out.old out.new (trace value cycles) × (err.new ≡ err.old)
         × (result ≡ run_status (is_some (state_after cycles (boot value)).stop)) }
@@ -148,11 +149,16 @@ fn load<F: Files>(alloc: Global, name: &str, files: &mut F) -> Result<Image, Ref
         Err(ReadFault::TooLong) => return Err(Refusal::BadFile(FileFault::TooLong)),
         Err(ReadFault::NoMemory) => return Err(Refusal::NoMemory),
     };
-    match image_text::read(alloc, &bytes) {
-        Ok(image) => Ok(image),
-        Err(ImageFault::NotText) => Err(Refusal::BadFile(FileFault::NotText)),
-        Err(ImageFault::NoMemory) => Err(Refusal::NoMemory),
+    let image = match image_text::read(alloc, &bytes) {
+        Ok(image) => image,
+        Err(ImageFault::NoMemory) => return Err(Refusal::NoMemory),
+        Err(fault) => return Err(Refusal::BadFile(FileFault::Image(fault))),
+    };
+    // Ids are given from 1 on, so an image with modules has a module 1.
+    if image.table.get(1).is_some() {
+        return Err(Refusal::BadFile(FileFault::NotBuilt));
     }
+    Ok(image)
 }
 
 // Runs the board and puts its trace.

@@ -1,5 +1,4 @@
 use Rattle.sm_cli.specs.Serve.{line_of}
-use Rattle.sm_io.proofs.Putting.{puts_same}
 use Rattle.sm_cli.proofs.lines.put_refusal.Goals as goal
 
 pub returns-in-Usage : goal.returns-in-Usage
@@ -12,8 +11,8 @@ returns-in-NoMemory g c = rw c.in-NoMemory.is c.put_all-in-NoMemory.ensures
 
 pub returns-in-CannotRead : goal.returns-in-CannotRead
 unfolding line_of
-returns-in-CannotRead g c = rw c.in-CannotRead.is c.put_named-in-CannotRead.ensures
+returns-in-CannotRead g c = rw c.in-CannotRead.is c.put_named.ensures
 
 pub returns-in-BadFile : goal.returns-in-BadFile
 unfolding line_of
-returns-in-BadFile g c = rw c.in-BadFile.is (puts_same g.S.Sink.taken g.S.Sink.faults g.S.Sink.sure _ _ _ _ _ (rw c.text_of.ensures) c.put_named.ensures)
+returns-in-BadFile g c = rw c.in-BadFile.is c.put_bad_file.ensures

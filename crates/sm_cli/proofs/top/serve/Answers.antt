@@ -1,6 +1,6 @@
 use Rattle.std.proofs.Common.{◌≡◌, [], inl, inr, refl, sym, ◌∙◌, ap, subst, Some}
 use Rattle.sm_io.specs.Sink.{Took, CutOff}
-use Rattle.image_text.specs.Image.{ImageValue}
+use Rattle.image_text.specs.Image.{Image}
 use Rattle.sm_cli.specs.Command.{image}
 use Rattle.sm_cli.specs.Machine.{boot}
 use Rattle.sm_cli.specs.Serve.{texts, call_of, answer_of_image, run_answer}
@@ -26,7 +26,7 @@ pub returns-in-Ok-clause-complete_bad_file : goal.returns-in-Ok-clause-complete_
 returns-in-Ok-clause-complete_bad_file g c = λ map command other fault told cmd first. absurd (run_no_fault (texts c.args.words.now) (g.F.Files.content c.args.files.now) (g.F.Files.faults c.args.files.now) (g.F.Files.faults c.args.files.now) c.in-Some.name.now c.in-Some.cycles c.in-Ok.status _ _ map command other fault told c.in-Some.ensures.command cmd c.in-Ok.ensures.ok first)
 
 pub returns-in-Ok-clause-headline : goal.returns-in-Ok-clause-headline
-returns-in-Ok-clause-headline g c = λ map name cycles value told cmd valid has short no_read no_out no_err some.
+returns-in-Ok-clause-headline g c = λ map name cycles value told cmd valid has short built no_read no_out no_err some.
     let r = c.in-Ok.ensures.ok in
     let same : Some (image c.in-Some.name.now c.in-Some.cycles) ≡ Some (image name cycles) = c.in-Some.ensures.command ∙ cmd in
     let whole = run_whole g.O.Sink.taken g.O.Sink.faults g.O.Sink.sure c.args.out.now c.run_image.new.out c.in-Ok.status cycles value (same_run (g.F.Files.content c.args.files.now) map c.in-Some.name.now name c.in-Some.cycles cycles r.value value told same r.image valid has (λ k v. run_answer c.in-Ok.status k (boot v) (Took g.O.Sink.taken g.O.Sink.faults g.O.Sink.sure c.args.out.now c.run_image.new.out) (CutOff g.O.Sink.taken g.O.Sink.faults g.O.Sink.sure c.args.out.now c.run_image.new.out)) r.answer) no_out in
@@ -36,7 +36,7 @@ pub returns-in-Ok-clause-sure : goal.returns-in-Ok-clause-sure
 returns-in-Ok-clause-sure g c = λ sound room line.
     let r = c.in-Ok.ensures.ok in
     let s = run_sure g.O.Sink.taken g.O.Sink.faults g.O.Sink.sure c.args.out.now c.run_image.new.out c.in-Ok.status c.in-Some.cycles r.value r.answer
-    (room (image c.in-Some.name.now c.in-Some.cycles) (answer_of_image r.value c.in-Some.cycles) (sym c.in-Some.ensures.command) (r.value, r.image.image, r.image.file, r.image.short, refl)) in
+    (room (image c.in-Some.name.now c.in-Some.cycles) (answer_of_image r.value c.in-Some.cycles) (sym c.in-Some.ensures.command) (r.value, r.image.image, r.image.file, r.image.short, r.image.built, refl)) in
     (s.0, s.1, refl)
 
 -- no command
@@ -78,9 +78,9 @@ returns-in-Err-clause-complete g c = λ map command answer told cmd is.
     (λ e. told_in_part c.in-Err.refusal c.in-Some.name.now c.tell-in-Err.result (Took g.E.Sink.taken g.E.Sink.faults g.E.Sink.sure c.args.err.now c.tell-in-Err.new.err) (CutOff g.E.Sink.taken g.E.Sink.faults g.E.Sink.sure c.args.err.now c.tell-in-Err.new.err) (call_of (texts c.args.words.now) files before after) cause e c.tell-in-Err.ensures.told)
 
 pub returns-in-Err-clause-headline : goal.returns-in-Err-clause-headline
-returns-in-Err-clause-headline g c = λ map name cycles value told cmd valid has short no_read no_out no_err some.
+returns-in-Err-clause-headline g c = λ map name cycles value told cmd valid has short built no_read no_out no_err some.
     absurd (refused_outside c.in-Err.refusal c.in-Some.name.now c.tell-in-Err.result (Took g.E.Sink.taken g.E.Sink.faults g.E.Sink.sure c.args.err.now c.tell-in-Err.new.err) (CutOff g.E.Sink.taken g.E.Sink.faults g.E.Sink.sure c.args.err.now c.tell-in-Err.new.err)
-    (texts c.args.words.now) (g.F.Files.content c.args.files.now) map (g.F.Files.faults c.args.files.now) (g.F.Files.faults c.run_image.new.files) c.in-Some.cycles name cycles value told c.in-Some.ensures.command cmd valid has short c.in-Err.ensures.refused some no_read
+    (texts c.args.words.now) (g.F.Files.content c.args.files.now) map (g.F.Files.faults c.args.files.now) (g.F.Files.faults c.run_image.new.files) c.in-Some.cycles name cycles value told c.in-Some.ensures.command cmd valid has short built c.in-Err.ensures.refused some no_read
     (λ cut. no_err (cut_rose g.E.Sink.taken g.E.Sink.faults g.E.Sink.sure c.args.err.now c.tell-in-Err.new.err _ cut)) c.tell-in-Err.ensures.told)
 
 pub returns-in-Err-clause-sure : goal.returns-in-Err-clause-sure

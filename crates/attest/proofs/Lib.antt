@@ -1,0 +1,11 @@
+pub mod Checks
+pub mod Slices
+pub mod Rows
+pub mod Places
+pub mod Cores
+pub mod Finished
+pub mod Attesting
+pub mod Protecting
+pub mod Tagging
+pub mod Moved
+pub mod Addresses

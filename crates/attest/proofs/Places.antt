@@ -1,0 +1,194 @@
+-- Which accesses are refused to no one: reads of a text, and writes to the data of a module that a table takes.
+use Rattle.std.proofs.Common.{◌≡◌, ◌⊎◌, inl, inr, ⊎_elim, ℕ, zero, suc, ◌+◌, ◌<◌, ◌≤◌, List, [], ◌∷◌, ◌++◌, Bool, true, false, cond, nat_lt, nat_le, ◌&&◌, ◌||◌, ◌==◌, Option, Some, None, IfSome, refl, sym, ◌∙◌, ap, subst, arith}
+use Rattle.std.proofs.lemmas.Bool.Decides.{nat_tests}
+use Rattle.sm_words.specs.declared.width.Width.TheVariants.{Byte}
+use Rattle.mod_layout.specs.declared.Section.{Section}
+use Rattle.mod_layout.specs.declared.Module.{Module}
+use Rattle.mod_layout.specs.declared.Place.{Place}
+use Rattle.mod_layout.specs.declared.Place.TheVariants.{Open, Entry, Text, Data}
+use Rattle.mod_layout.specs.Table.{Table, holds, size_of, place_by, place_in, place_of, find_module, module_of, with_module}
+use Rattle.mod_layout.specs.Tables.{Apart, IsSection, IsModule, Separate, SeparateFrom, AreModules, IsTable}
+use Rattle.pc_access.specs.declared.Kind.{Kind}
+use Rattle.pc_access.specs.declared.Kind.TheVariants.{Read, Write}
+use Rattle.pc_access.specs.Rights.{right, right_at, or_else, first_denied, access_of}
+use Rattle.attest.specs.Units.{each_byte, in_range, text_at, text_reads}
+use Rattle.attest.specs.Done.{own_of}
+
+-- where each access is allowed none is refused
+pub all_allowed : (t : Table) (active : Option ℕ) (held : List ℕ) (kind : Kind) (a n : ℕ) →
+    ((k : ℕ) → a ≤ k → k < a + n → right t active held (access_of kind k Byte) ≡ None) → first_denied t active held (each_byte kind a n) ≡ None
+all_allowed t active held kind a zero free = refl
+all_allowed t active held kind a (suc n) free =
+    let here : a < a + suc n = omega arith in
+    let rest : first_denied t active held (each_byte kind (a + 1) n) ≡ None =
+    all_allowed t active held kind (a + 1) n (λ k low high. free k (omega arith) (omega arith)) in
+    ap (λ d. or_else d (first_denied t active held (each_byte kind (a + 1) n))) (free a (omega arith) here) ∙ rest
+
+-- ---- sections
+
+and_false : (b : Bool) → (b && false) ≡ false
+and_false true = refl
+and_false false = refl
+
+pub and_true : (b c : Bool) → (b && c) ≡ true → (b ≡ true) × (c ≡ true)
+and_true true c e = (refl, e)
+and_true false c e = absurd (let h : false ≡ true = e in (cc))
+
+-- an address outside a section
+outside : (s : Section) (a : ℕ) → (a < s.start) ⊎ (s.end ≤ a) → holds s a ≡ false
+outside s a (inl h) = ap (λ (b : Bool). b && nat_lt a s.end) (let e : nat_le s.start a ≡ false = grind (arith, nat_tests) in e)
+outside s a (inr h) = ap (λ (b : Bool). nat_le s.start a && b) (let e : nat_lt a s.end ≡ false = grind (arith, nat_tests) in e) ∙ and_false (nat_le s.start a)
+
+within : (s : Section) (a : ℕ) → s.start ≤ a → a < s.end → holds s a ≡ true
+within s a low high =
+    ap (λ (b : Bool). b && nat_lt a s.end) (let e : nat_le s.start a ≡ true = grind (arith, nat_tests) in e)
+    ∙ (let e : nat_lt a s.end ≡ true = grind (arith, nat_tests) in e)
+
+-- an address of one section is outside one apart from it
+elsewhere : (s r : Section) (a : ℕ) → r.start ≤ a → a < r.end → s.start < s.end → Apart s r → (a < s.start) ⊎ (s.end ≤ a)
+elsewhere s r a low high order (inl h) = inr (omega arith)
+elsewhere s r a low high order (inr h) = inl (omega arith)
+
+-- ---- reads of a text
+
+-- anything may be read there but by its rights: it is no data
+abbrev NoData : Place → Type 0
+NoData Open = Unit {0}
+NoData (Entry id) = Unit {0}
+NoData (Text id) = Unit {0}
+NoData (Data id) = ⊥
+
+in_text : (e r : Bool) (id : ℕ) (rest : Place) → NoData (place_by e true r id rest)
+in_text true r id rest = tt
+in_text false r id rest = tt
+
+past_ram : (e t : Bool) (id : ℕ) (rest : Place) → NoData rest → NoData (place_by e t false id rest)
+past_ram true t id rest h = tt
+past_ram false true id rest h = tt
+past_ram false false id rest h = h
+
+read_freely : (p : Place) (active : Option ℕ) (held : List ℕ) (a : ℕ) → NoData p → right_at p active held Read a ≡ None
+read_freely Open active held a h = refl
+read_freely (Entry id) active held a h = refl
+read_freely (Text id) active held a h = refl
+read_freely (Data id) active held a h = absurd h
+
+found_first : (y m : Module) (rest : Option Module) (b : Bool) → cond b (Some y) rest ≡ Some m → (y ≡ m) ⊎ (rest ≡ Some m)
+found_first y m rest true e = inl (let k : y ≡ m = (cc) in k)
+found_first y m rest false e = inr e
+
+none_found : (m : Module) → None ≡ Some m → ⊥
+none_found m e = cc
+
+-- a module that was found is one of those that the first is separate from
+separate_found : (x m : Module) (id : ℕ) (ms : List Module) → SeparateFrom x ms → find_module id ms ≡ Some m → Separate x m
+separate_found x m id [] s e = absurd (none_found m e)
+separate_found x m id (y ∷ ms) s e =
+    ⊎_elim (λ k. subst (Separate x) k s.0) (λ k. separate_found x m id ms s.1 k) (found_first y m (find_module id ms) (y.id == id) e)
+
+pub module_found : (given id : ℕ) (m : Module) (ms : List Module) → AreModules given ms → find_module id ms ≡ Some m → IsModule given m
+module_found given id m [] are e = absurd (none_found m e)
+module_found given id m (y ∷ ms) are e =
+    ⊎_elim (λ k. subst (IsModule given) k are.0) (λ k. module_found given id m ms are.2 k) (found_first y m (find_module id ms) (y.id == id) e)
+
+text_is_no_data : (given id a : ℕ) (m : Module) (ms : List Module) → AreModules given ms → find_module id ms ≡ Some m →
+    m.text.start ≤ a → a < m.text.end → NoData (place_in ms a)
+text_is_no_data given id a m [] are e low high = tt
+text_is_no_data given id a m (y ∷ ms) are e low high =
+    let entry = (a == y.text.start) || (a == y.text.start + 1) in
+    let rest = place_in ms a in
+    ⊎_elim
+    (λ k.
+    let here : holds y.text a ≡ true = ap (λ (x : Module). holds x.text a) k ∙ within m.text a low high in
+    subst (λ (b : Bool). NoData (place_by entry b (holds y.ram a) y.id rest)) (sym here) (in_text entry (holds y.ram a) y.id rest))
+    (λ k.
+    let apart : Apart y.ram m.text = (separate_found y m id ms are.1 k).ram_text in
+    let out : holds y.ram a ≡ false = outside y.ram a (elsewhere y.ram m.text a low high are.0.ram_ok.order apart) in
+    subst (λ (b : Bool). NoData (place_by entry (holds y.text a) b y.id rest)) (sym out)
+    (past_ram entry (holds y.text a) y.id rest (text_is_no_data given id a m ms are.2 k low high)))
+    (found_first y m (find_module id ms) (y.id == id) e)
+
+-- a text may be read by anyone
+pub text_allowed : (t : Table) (active : Option ℕ) (held : List ℕ) (id : ℕ) (m : Module) → IsTable t → module_of id t ≡ Some m →
+    first_denied t active held (text_reads m) ≡ None
+unfolding right place_of
+text_allowed t active held id m ok found =
+    let order : m.text.start < m.text.end = (module_found t.given id m t.modules ok.modules found).text_ok.order in
+    all_allowed t active held Read m.text.start (size_of m.text)
+    (λ k low high. read_freely (place_of t k) active held k (text_is_no_data t.given id k m t.modules ok.modules found low (omega arith)))
+
+-- ---- the data of a module that a table takes
+
+separate_end : (x new : Module) (ms : List Module) → SeparateFrom x (ms ++ new ∷ []) → Separate x new
+separate_end x new [] s = s.0
+separate_end x new (y ∷ ms) s = separate_end x new ms s.1
+
+not_entry : (s : Section) (a : ℕ) → IsSection s → (a < s.start) ⊎ (s.end ≤ a) → ((a == s.start) || (a == s.start + 1)) ≡ false
+not_entry s a ok (inl h) =
+    ap (λ (b : Bool). b || (a == s.start + 1)) (let e : (a == s.start) ≡ false = grind (arith, nat_tests) in e)
+    ∙ (let e : (a == s.start + 1) ≡ false = grind (arith, nat_tests) in e)
+not_entry s a ok (inr h) =
+    let o = ok.order in let p = ok.even_start in let q = ok.even_end in
+    let two : s.start + 2 ≤ s.end = omega arith in
+    let far : s.start + 2 ≤ a = omega arith in
+    ap (λ (b : Bool). b || (a == s.start + 1)) (let e : (a == s.start) ≡ false = grind (arith, nat_tests) in e)
+    ∙ (let e : (a == s.start + 1) ≡ false = grind (arith, nat_tests) in e)
+
+open_ram : (given a : ℕ) (new : Module) (ms : List Module) → AreModules given (ms ++ new ∷ []) → new.ram.start ≤ a → a < new.ram.end →
+    place_in ms a ≡ Open
+open_ram given a new [] are low high = refl
+open_ram given a new (y ∷ ms) are low high =
+    let s = separate_end y new ms are.1 in
+    let rest = place_in ms a in
+    let past_text = elsewhere y.text new.ram a low high are.0.text_ok.order s.text_ram in
+    let past_data = elsewhere y.ram new.ram a low high are.0.ram_ok.order s.rams in
+    ap (λ (b : Bool). place_by b (holds y.text a) (holds y.ram a) y.id rest) (not_entry y.text a are.0.text_ok past_text)
+    ∙ ap (λ (b : Bool). place_by false b (holds y.ram a) y.id rest) (outside y.text a past_text)
+    ∙ ap (λ (b : Bool). place_by false false b y.id rest) (outside y.ram a past_data)
+    ∙ open_ram given a new ms are.2 low high
+
+last_ok : (given : ℕ) (new : Module) (ms : List Module) → AreModules given (ms ++ new ∷ []) → IsModule given new
+last_ok given new [] are = are.0
+last_ok given new (y ∷ ms) are = last_ok given new ms are.2
+
+-- its data may be written by anyone before it is taken
+pub ram_allowed : (t : Table) (active : Option ℕ) (held : List ℕ) (vendor : ℕ) (text ram : Section) → IsTable (with_module t vendor text ram) →
+    first_denied t active held (each_byte Write ram.start (size_of ram)) ≡ None
+unfolding right place_of
+ram_allowed t active held vendor text ram ok =
+    let new : Module = record { id = t.given + 1; vendor = vendor; text = text; ram = ram } in
+    let order : ram.start < ram.end = (last_ok (t.given + 1) new t.modules ok.modules).ram_ok.order in
+    all_allowed t active held Write ram.start (size_of ram)
+    (λ k low high. ap (λ p. right_at p active held Write k) (open_ram (t.given + 1) k new t.modules ok.modules low (omega arith)))
+
+pub found_kept : (t : Table) (id : ℕ) (r : Option Module) → r ≡ module_of id t → IsTable t → IfSome r (IsModule t.given)
+found_kept t id None e ok = tt
+found_kept t id (Some m) e ok = module_found t.given id m t.modules ok.modules (sym e)
+
+-- ---- the running module, and the one that attest is asked about
+
+pub own_text_allowed : (t : Table) (active active' : Option ℕ) (held : List ℕ) (m : Module) → IsTable t → own_of active' t ≡ Some m →
+    first_denied t active held (text_reads m) ≡ None
+own_text_allowed t active None held m ok e = absurd (none_found m e)
+own_text_allowed t active (Some id) held m ok e = text_allowed t active held id m ok e
+
+pub other_text_allowed : (t : Table) (active : Option ℕ) (place : Place) (held : List ℕ) (m : Module) → IsTable t → text_at t place ≡ Some m →
+    first_denied t active held (text_reads m) ≡ None
+other_text_allowed t active Open held m ok e = absurd (none_found m e)
+other_text_allowed t active (Entry id) held m ok e = text_allowed t active held id m ok e
+other_text_allowed t active (Text id) held m ok e = text_allowed t active held id m ok e
+other_text_allowed t active (Data id) held m ok e = absurd (none_found m e)
+
+-- ---- ranges
+
+pub record InRange (a b : ℕ) : Type 0 where
+  pub low : 512 ≤ a
+  pub high : b ≤ 65536
+  pub order : a ≤ b
+
+pub range_of : (a b : ℕ) → in_range a b ≡ true → InRange a b
+range_of a b e =
+    let p = and_true (nat_le 512 a && nat_le b 65536) (nat_le a b) e in
+    let q = and_true (nat_le 512 a) (nat_le b 65536) p.0 in
+    let q0 = q.0 in let q1 = q.1 in let p1 = p.1 in
+    record { low = grind (arith, nat_tests); high = grind (arith, nat_tests); order = grind (arith, nat_tests) }

@@ -1,0 +1,72 @@
+-- On bytes in a row.
+use Rattle.std.proofs.Common.{◌≡◌, ◌≢◌, ℕ, zero, suc, ◌+◌, ◌-◌, ◌<◌, ◌≤◌, List, [], ◌∷◌, ◌++◌, length, take, drop, Bool, true, false, ◌&&◌, ◌==◌, refl, sym, ◌∙◌, ap, arith, slice_index, slice_range, slice_set}
+use Rattle.std.proofs.lemmas.Bool.Decides.{nat_tests}
+use Rattle.pc_access.specs.declared.Access.{Access}
+use Rattle.pc_access.specs.Rights.{access_of}
+use Rattle.sm_words.specs.declared.width.Width.TheVariants.{Byte}
+use Rattle.pc_access.specs.declared.Kind.TheVariants.{Read, Write}
+use Rattle.mod_layout.specs.declared.Module.{Module}
+use Rattle.mod_layout.specs.Table.{size_of}
+use Rattle.mod_layout.specs.Tables.{IsSection}
+use Rattle.attest.specs.Units.{each_byte, same_bytes, text_reads}
+use Rattle.attest.specs.Accesses.{writes_of, values_in, stored_in, text_in}
+use Rattle.attest.proofs.Slices.{slice_range-cons}
+
+-- ---- bytes stored
+
+-- the first is stored, and then the others
+pub stored_in-next : (mem : List ℕ) (a n m v : ℕ) (vs ws : List ℕ) → n ≡ suc m → vs ≡ v ∷ ws →
+    stored_in mem (each_byte Write a n) vs ≡ stored_in (slice_set mem a v) (each_byte Write (a + 1) m) ws
+stored_in-next mem a n m v vs ws e f =
+    ap (λ k. stored_in mem (each_byte Write a k) vs) e ∙ ap (stored_in mem (each_byte Write a (suc m))) f
+
+-- with no byte to store nothing changes
+pub stored_in-none : (mem : List ℕ) (xs : List Access) → stored_in mem xs [] ≡ mem
+stored_in-none mem [] = refl
+stored_in-none mem (x ∷ xs) = refl
+
+-- ---- bytes compared
+
+pub same_bytes-next : (x y : ℕ) (xs ys us ws : List ℕ) → us ≡ x ∷ xs → ws ≡ y ∷ ys → x ≡ y → same_bytes us ws ≡ same_bytes xs ys
+same_bytes-next x y xs ys us ws e f same =
+    ap (λ cs. same_bytes cs ws) e ∙ ap (same_bytes (x ∷ xs)) f
+    ∙ ap (λ (b : Bool). b && same_bytes xs ys) (let h : (x == y) ≡ true = grind (arith, nat_tests) in h)
+
+pub same_bytes-other : (x y : ℕ) (xs ys us ws : List ℕ) → us ≡ x ∷ xs → ws ≡ y ∷ ys → x ≢ y → same_bytes us ws ≡ false
+same_bytes-other x y xs ys us ws e f other =
+    ap (λ cs. same_bytes cs ws) e ∙ ap (same_bytes (x ∷ xs)) f
+    ∙ ap (λ (b : Bool). b && same_bytes xs ys) (let h : (x == y) ≡ false = grind (arith, nat_tests) in h)
+
+-- ---- reads and writes among accesses
+
+pub values_in-reads : (mem : List ℕ) (a n : ℕ) (xs : List Access) → a + n ≤ length mem →
+    values_in mem (each_byte Read a n ++ xs) ≡ slice_range mem a (a + n) ++ values_in mem xs
+values_in-reads mem a zero xs h = ap (λ n. take n (drop a mem) ++ values_in mem xs) (let e : 0 ≡ a + 0 - a = omega arith in e)
+values_in-reads mem a (suc n) xs h =
+    let e : a + 1 + n ≡ a + suc n = omega arith in
+    let k : a + 1 + n ≤ length mem = omega arith in
+    let below : a < a + suc n = omega arith in
+    let within : a < length mem = omega arith in
+    ap (λ vs. slice_index mem a ∷ vs) (values_in-reads mem (a + 1) n xs k ∙ ap (λ b. slice_range mem (a + 1) b ++ values_in mem xs) e)
+    ∙ ap (λ vs. vs ++ values_in mem xs) (sym (slice_range-cons mem a (a + suc n) below within))
+
+pub values_in-writes : (mem : List ℕ) (a n : ℕ) (xs : List Access) → values_in mem (each_byte Write a n ++ xs) ≡ values_in mem xs
+values_in-writes mem a zero xs = refl
+values_in-writes mem a (suc n) xs = values_in-writes mem (a + 1) n xs
+
+pub writes_of-reads : (a n : ℕ) (xs : List Access) → writes_of (each_byte Read a n ++ xs) ≡ writes_of xs
+writes_of-reads a zero xs = refl
+writes_of-reads a (suc n) xs = writes_of-reads (a + 1) n xs
+
+pub writes_of-writes : (a n : ℕ) (xs : List Access) → writes_of (each_byte Write a n ++ xs) ≡ each_byte Write a n ++ writes_of xs
+writes_of-writes a zero xs = refl
+writes_of-writes a (suc n) xs = ap (λ ys. access_of Write a Byte ∷ ys) (writes_of-writes (a + 1) n xs)
+
+-- the reads of a text give the text
+pub text_values : (mem : List ℕ) → length mem ≡ 65536 → (m : Module) (xs : List Access) → IsSection m.text →
+    values_in mem (text_reads m ++ xs) ≡ text_in mem m ++ values_in mem xs
+text_values mem size m xs ok =
+    let o = ok.order in let h = ok.high in
+    let inside : m.text.start + size_of m.text ≤ length mem = omega arith in
+    let end : m.text.start + size_of m.text ≡ m.text.end = omega arith in
+    values_in-reads mem m.text.start (size_of m.text) xs inside ∙ ap (λ n. slice_range mem m.text.start n ++ values_in mem xs) end

@@ -1,0 +1,10 @@
+use Rattle.std.proofs.Common.{◌∙◌, ap, sym, refl}
+use Rattle.attest.specs.Units.{answer, caller_or_zero, unit_effect}
+use Rattle.attest.proofs.Finished.{answered}
+use Rattle.attest.proofs.instruction.caller_id.Goals as goal
+
+pub returns : goal.returns
+unfolding unit_effect
+returns c = λ key mem.
+    let id = c.caller_or_zero.ensures ∙ ap (λ o. caller_or_zero o c.args.who.caller) c.own_module-own.ensures.own in
+    answered _ _ _ _ _ _ _ _ _ (ap (λ v. answer c.args.core.now v 6) (sym id)) c.answer.ensures.core c.answer.ensures.done refl refl

@@ -1,0 +1,40 @@
+-- What a unit instruction does to core, memory and table.
+use Rattle.std.specs.Prelude.{◌≡◌, ◌<◌, ℕ, ◌+◌, List, if◌then◌else◌, Option, Some, None, slice_index, slice_set}
+use Rattle.sm_words.specs.Words.{reg}
+use Rattle.mod_layout.specs.declared.Module.{Module}
+use Rattle.mod_layout.specs.Table.{Table, module_of, takes}
+use Rattle.attest.specs.declared.Who.{Who}
+use Rattle.attest.specs.declared.UnitDone.{UnitDone}
+use Rattle.attest.specs.Units.{UnitName, Protect, Doer, Effect, new_text, new_ram, table_by, unit_effect, unit_plan}
+use Rattle.attest.specs.Accesses.{stored_in, values_in, writes_of}
+
+-- the active module of a table
+abbrev pub own_of : Option ℕ → Table → Option Module
+own_of None t = None
+own_of (Some id) t = module_of id t
+
+abbrev pub doer : Table → Who → List ℕ → Doer
+doer t who key = record { own = own_of who.active t; caller = who.caller; table = t; key = key }
+
+-- the effect, by the bytes that its reads give
+abbrev pub effect_in : Doer → UnitName → List ℕ → List ℕ → Effect
+effect_in who x core mem = unit_effect who x core (values_in mem (unit_plan who x core))
+
+-- the id of the module that it makes, or 0
+abbrev pub made_by : UnitName → Table → List ℕ → ℕ
+made_by Protect t core = if takes t (new_text core) (new_ram core) then t.given + 1 else 0
+made_by _ t core = 0
+
+-- a core with PC as it was
+abbrev pub standing : List ℕ → List ℕ → List ℕ
+standing old core = slice_set core 0 (reg old 0)
+
+-- it was done: core, memory and table are those of its effect, but that PC stays
+pub record IsDone (who : Doer) (x : UnitName) (core mem core' mem' : List ℕ) (table' : Table) (done : UnitDone) : Type 0 where
+  pub core_is : core' ≡ standing core (effect_in who x core mem).core
+  pub memory_is : mem' ≡ stored_in mem (writes_of (unit_plan who x core)) (effect_in who x core mem).stored
+  pub table_is : table' ≡ table_by x who.table core
+  pub cycles : done.cycles ≡ (effect_in who x core mem).cycles
+  pub bytes : (k : ℕ) → slice_index (effect_in who x core mem).stored k < 256
+  pub closing : done.closing ≡ (effect_in who x core mem).closing
+  pub made : done.made ≡ made_by x who.table core

@@ -1,0 +1,3 @@
+pub mod Units
+pub mod Accesses
+pub mod Done

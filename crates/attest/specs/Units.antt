@@ -1,0 +1,171 @@
+-- The unit instructions: protect and unprotect modules, tags and attestation, ids.
+use Rattle.std.specs.Prelude.{ℕ, zero, suc, ◌+◌, ◌-◌, ◌*◌, ◌/◌, List, [], ◌∷◌, ◌++◌, ◌==◌, nat_le, if◌then◌else◌, Bool, true, false, ◌&&◌, Option, Some, None, take, drop, replicate}
+use Rattle.sm_words.specs.Words.{reg, put, nth, add16}
+use Rattle.sm_words.specs.declared.width.Width.TheVariants.{Byte}
+use Rattle.mod_layout.specs.declared.Section.{Section}
+use Rattle.mod_layout.specs.declared.Module.{Module}
+use Rattle.mod_layout.specs.declared.Place.{Place}
+use Rattle.mod_layout.specs.declared.Place.TheVariants.{Open, Entry, Text, Data}
+use Rattle.mod_layout.specs.Table.{Table, place_of, module_of, size_of, takes, with_module}
+use Rattle.mod_keys.specs.Keys.{identity, tag_of}
+use Rattle.pc_access.specs.declared.Kind.{Kind}
+use Rattle.pc_access.specs.declared.Kind.TheVariants.{Read, Write}
+use Rattle.pc_access.specs.declared.Access.{Access}
+
+-- by their words, 0x1380 to 0x1386
+pub data UnitName : Type 0 where
+  Unprotect : UnitName
+  Protect : UnitName
+  Attest : UnitName
+  Tag : UnitName
+  IdOf : UnitName
+  OwnId : UnitName
+  CallerId : UnitName
+
+abbrev pub unit_named : ℕ → UnitName
+unit_named n = nth n (Unprotect ∷ Protect ∷ Attest ∷ Tag ∷ IdOf ∷ OwnId ∷ CallerId ∷ []) OwnId
+
+-- the one who does it: its module, or none outside; its caller's id; the table; and the node's key
+pub record Doer : Type 0 where
+  pub own : Option Module
+  pub caller : ℕ
+  pub table : Table
+  pub key : List ℕ
+
+-- ---- the accesses
+
+-- n accesses of a byte each, from an address on
+abbrev pub each_byte : Kind → ℕ → ℕ → List Access
+each_byte kind a zero = []
+each_byte kind a (suc n) = record { kind = kind; addr = a; width = Byte } ∷ each_byte kind (a + 1) n
+
+-- whether the range from a, below b, can be accessed: neither a device's nor past the last address
+abbrev pub in_range : ℕ → ℕ → Bool
+in_range a b = nat_le 512 a && nat_le b 65536 && nat_le a b
+
+-- the sections that protect is given: R12 and R13, R14 and R15
+abbrev pub new_text : List ℕ → Section
+new_text core = record { start = reg core 12; end = reg core 13 }
+
+abbrev pub new_ram : List ℕ → Section
+new_ram core = record { start = reg core 14; end = reg core 15 }
+
+-- the module whose text holds an address
+abbrev pub text_at : Table → Place → Option Module
+text_at t (Text id) = module_of id t
+text_at t (Entry id) = module_of id t
+text_at t _ = None
+
+-- the module that attest is asked about, by an address in R12
+abbrev pub attested : Doer → List ℕ → Option Module
+attested who core = text_at who.table (place_of who.table (reg core 12))
+
+-- Reads of a text are refused to no one. They come after the accesses that are checked one by
+-- one, and give the bytes from which an identity and the running module's key are made.
+abbrev pub text_reads : Module → List Access
+text_reads m = each_byte Read m.text.start (size_of m.text)
+
+-- the 16 bytes of the expected tag
+abbrev pub attest_plan : Option Module → Option Module → ℕ → List Access
+attest_plan (Some own) (Some other) a =
+    if in_range a (a + 16) then each_byte Read a 16 ++ text_reads other ++ text_reads own else []
+attest_plan _ _ a = []
+
+-- the message from a, below b, and then the place of its tag
+abbrev pub tag_plan : Option Module → ℕ → ℕ → ℕ → List Access
+tag_plan (Some own) a b out =
+    if in_range a b && in_range out (out + 16) then each_byte Read a (b - a) ++ each_byte Write out 16 ++ text_reads own else []
+tag_plan None a b out = []
+
+-- the accesses of a unit instruction, in order
+unfoldable pub unit_plan : Doer → UnitName → List ℕ → List Access
+unit_plan who Protect core = if takes who.table (new_text core) (new_ram core) then each_byte Write (reg core 14) (size_of (new_ram core)) else []
+unit_plan who Attest core = attest_plan who.own (attested who core) (reg core 13)
+unit_plan who Tag core = tag_plan who.own (reg core 12) (reg core 13) (reg core 14)
+unit_plan who _ core = []
+
+-- ---- the effect
+
+-- what an instruction leaves, but for the table
+pub record Effect : Type 0 where
+  pub core : List ℕ
+  pub stored : List ℕ
+  pub cycles : ℕ
+  pub closing : Bool
+
+-- the blocks of SHA-256 in a HMAC over n bytes under a key of 16
+abbrev pub blocks : ℕ → ℕ
+blocks n = 3 + (n + 72) / 64
+
+-- PC moves past the one word of the instruction
+abbrev pub next : List ℕ → List ℕ
+next core = put core 0 (add16 (reg core 0) 2)
+
+-- R15 takes the answer
+abbrev pub answer : List ℕ → ℕ → ℕ → Effect
+answer core v cycles = record { core = put (next core) 15 v; stored = []; cycles = cycles; closing = false }
+
+abbrev pub unprotected : Option Module → List ℕ → Effect
+unprotected None core = answer core 0 6
+unprotected (Some own) core = record { core = next core; stored = []; cycles = 6 + size_of own.ram / 2; closing = true }
+
+abbrev pub id_or_zero : Option Module → ℕ
+id_or_zero None = 0
+id_or_zero (Some m) = m.id
+
+abbrev pub caller_or_zero : Option Module → ℕ → ℕ
+caller_or_zero None c = 0
+caller_or_zero (Some m) c = c
+
+abbrev pub place_id : Place → ℕ
+place_id Open = 0
+place_id (Entry id) = id
+place_id (Text id) = id
+place_id (Data id) = id
+
+abbrev pub same_bytes : List ℕ → List ℕ → Bool
+same_bytes [] [] = true
+same_bytes (x ∷ xs) (y ∷ ys) = (x == y) && same_bytes xs ys
+same_bytes _ _ = false
+
+-- whether the first 16 values are the tag of the other's identity; its text and the own text follow
+abbrev pub genuine : List ℕ → Module → Module → List ℕ → Bool
+genuine key own other values =
+    let n = size_of other.text in
+    same_bytes (take 16 values) (tag_of key own (drop (16 + n) values) (identity other (take n (drop 16 values))))
+
+-- the id of the other where its tag is genuine
+abbrev pub attest_answer : List ℕ → Option Module → Option Module → List ℕ → List ℕ → Effect
+attest_answer key (Some own) (Some other) core values =
+    if in_range (reg core 13) (reg core 13 + 16)
+    then answer core (if genuine key own other values then other.id else 0) (6 + 64 * blocks (size_of other.text + 8))
+    else answer core 0 6
+attest_answer key _ _ core values = answer core 0 6
+
+-- the tag of the message; the values are the message and the own text
+abbrev pub tag_answer : List ℕ → Option Module → List ℕ → List ℕ → Effect
+tag_answer key (Some own) core values =
+    let n = reg core 13 - reg core 12 in
+    if in_range (reg core 12) (reg core 13) && in_range (reg core 14) (reg core 14 + 16)
+    then record (answer core 1 (6 + 64 * blocks n)) { stored = tag_of key own (drop n values) (take n values) }
+    else answer core 0 6
+tag_answer key None core values = answer core 0 6
+
+-- what a unit instruction leaves, once its reads gave these values
+unfoldable pub unit_effect : Doer → UnitName → List ℕ → List ℕ → Effect
+unit_effect who Unprotect core values = unprotected who.own core
+unit_effect who Protect core values =
+    let text = new_text core in let ram = new_ram core in
+    if takes who.table text ram
+    then record (answer core (who.table.given + 1) (6 + 64 * (blocks 2 + blocks (size_of text + 8)))) { stored = replicate (size_of ram) 0 }
+    else answer core 0 6
+unit_effect who Attest core values = attest_answer who.key who.own (attested who core) core values
+unit_effect who Tag core values = tag_answer who.key who.own core values
+unit_effect who IdOf core values = answer core (place_id (place_of who.table (reg core 12))) 6
+unit_effect who OwnId core values = answer core (id_or_zero who.own) 6
+unit_effect who CallerId core values = answer core (caller_or_zero who.own who.caller) 6
+
+-- the table after a unit instruction: only protect changes it
+abbrev pub table_by : UnitName → Table → List ℕ → Table
+table_by Protect t core = if takes t (new_text core) (new_ram core) then with_module t (reg core 11) (new_text core) (new_ram core) else t
+table_by _ t core = t

@@ -1,0 +1,300 @@
+//! One unit instruction.
+
+ghost use Rattle.std.specs.Prelude.{◌≡◌, ◌+◌, ◌<◌, ◌^◌, ◌&&◌, ℕ, List, Some, None, false, if◌then◌else◌, IfOk, IfErr, OnErr, OnOk, OnSome, IfSome};
+ghost use Rattle.sm_words.specs.Words.{put};
+ghost use Rattle.mod_layout.specs.Table.{place_of};
+ghost use Rattle.mod_layout.specs.Tables.{IsModule, IsTable};
+ghost use Rattle.pc_access.specs.Rights.{first_denied};
+ghost use Rattle.attest.specs.Units.{Attest, CallerId, IdOf, OwnId, Protect, Tag, Unprotect, blocks, caller_or_zero, id_or_zero, in_range, new_ram, new_text, place_id, text_at, unit_named, unit_plan};
+ghost use Rattle.attest.specs.Done.{IsDone, doer, own_of};
+
+use crate::hash::{identity_tag, message_tag};
+use crate::memory::{clear, stands_at, store};
+use crate::rights::{check, in_range};
+use crate::{UnitDone, Who};
+use mem_map::Memory;
+use mod_layout::{Module, ModuleTable, Place, Section};
+use pc_access::{Denied, Kind};
+use sm_words::Core;
+
+/// The cycles of a unit instruction that hashes nothing.
+const SHORT: u32 = 6;
+
+/// Does the unit instruction of the word 0x1380 plus `op`, but that PC stays and that closing is left to
+/// the caller.
+///
+/// Its accesses are checked byte by byte, in order, before anything is changed. A refusal comes exactly
+/// where one of them is refused, and then nothing is changed.
+pub fn unit(
+    op: u8,
+    core: &mut Core,
+    memory: &mut Memory,
+    table: &mut ModuleTable,
+    who: Who,
+    node_key: &[u8; 16],
+) -> Result<UnitDone, Denied>
+    requires { op < 7 }
+
+    // By the first of its accesses that is refused, whatever modules wait in frames.
+    ensures denied { IfErr result (λ denied. (held : List ℕ) → first_denied table.old who.active held
+        (unit_plan (doer table.old who node_key.now) (unit_named op) core.old) ≡ Some denied) }
+    ensures allowed { OnOk result ((held : List ℕ) → first_denied table.old who.active held
+        (unit_plan (doer table.old who node_key.now) (unit_named op) core.old) ≡ None) }
+
+    // Done, all is as the effect says; refused, nothing is changed.
+    ensures done { IfOk result (λ done. IsDone (doer table.old who node_key.now) (unit_named op)
+        core.old memory.old.bytes core.new memory.new.bytes table.new done) }
+    ensures core_kept { OnErr result (core.new ≡ core.old) }
+    ensures memory_kept { OnErr result (memory.new ≡ memory.old) }
+    ensures table_kept { OnErr result (table.new ≡ table.old) }
+{
+    match op {
+        0 => Ok(unprotect(core, table, who)),
+        1 => Ok(protect(core, memory, table, who)),
+        2 => attest(core, memory, table, who, node_key),
+        3 => tag(core, memory, table, who, node_key),
+        4 => Ok(id_of(core, table, who)),
+        5 => Ok(own_id(core, table, who)),
+        _ => Ok(caller_id(core, table, who)),
+    }
+}
+
+/// Inside: the module closes after its last cycle. Outside: R15 is 0.
+fn unprotect(core: &mut Core, table: &ModuleTable, who: Who) -> UnitDone
+    ensures { (key mem : List ℕ) → IsDone (doer table.now who key) Unprotect core.old mem core.new mem table.now result }
+{
+    match own_module(table, who) {
+        None => answer(core, 0, SHORT),
+        Some(own) => UnitDone {
+            cycles: SHORT + u32::from(own.ram.end - own.ram.start) / 2,
+            closing: true,
+            made: 0,
+        },
+    }
+}
+
+/// A new module of vendor R11 with the text from R12 to R13 and the data from R14 to R15, which are
+/// cleared. R15 is its id, or 0 where the table refuses it. No access of it is ever refused, since its
+/// data lie outside all modules.
+fn protect(core: &mut Core, memory: &mut Memory, table: &mut ModuleTable, who: Who) -> UnitDone
+    ensures allowed { (key held : List ℕ) → first_denied table.old who.active held
+        (unit_plan (doer table.old who key) Protect core.old) ≡ None }
+    ensures done { (key : List ℕ) → IsDone (doer table.old who key) Protect
+        core.old memory.old.bytes core.new memory.new.bytes table.new result }
+{
+    let text = new_text(core);
+    let ram = new_ram(core);
+    match table.add(core.get(11), text, ram) {
+        Err(_) => answer(core, 0, SHORT),
+        Ok(id) => {
+            clear(memory, ram);
+            let length = u32::from(text.end - text.start);
+            let done = answer(
+                core,
+                id,
+                SHORT + 64 * (hmac_blocks(2) + hmac_blocks(length + 8)),
+            );
+            UnitDone { made: id, ..done }
+        }
+    }
+}
+
+/// The text section that R12 and R13 give.
+fn new_text(core: &Core) -> Section
+    ensures { result ≡ new_text core.now }
+{
+    Section {
+        start: core.get(12),
+        end: core.get(13),
+    }
+}
+
+/// The data section that R14 and R15 give.
+fn new_ram(core: &Core) -> Section
+    ensures { result ≡ new_ram core.now }
+{
+    Section {
+        start: core.get(14),
+        end: core.get(15),
+    }
+}
+
+/// R15 is the id of the module in whose text R12 is, where the 16 bytes at R13 are the tag of its identity
+/// under the running module's key, else 0.
+fn attest(
+    core: &mut Core,
+    memory: &Memory,
+    table: &ModuleTable,
+    who: Who,
+    node_key: &[u8; 16],
+) -> Result<UnitDone, Denied>
+    ensures denied { IfErr result (λ denied. (held : List ℕ) → first_denied table.now who.active held
+        (unit_plan (doer table.now who node_key.now) Attest core.old) ≡ Some denied) }
+    ensures allowed { OnOk result ((held : List ℕ) → first_denied table.now who.active held
+        (unit_plan (doer table.now who node_key.now) Attest core.old) ≡ None) }
+    ensures done { IfOk result (λ done. IsDone (doer table.now who node_key.now) Attest
+        core.old memory.now.bytes core.new memory.now.bytes table.now done) }
+    ensures core_kept { OnErr result (core.new ≡ core.old) }
+{
+    let expected = core.get(13);
+    let Some(own) = own_module(table, who) else {
+        return Ok(answer(core, 0, SHORT));
+    };
+    let Some(other) = text_module(table, core.get(12)) else {
+        return Ok(answer(core, 0, SHORT));
+    };
+    if !in_range(u32::from(expected), u32::from(expected) + 16) {
+        return Ok(answer(core, 0, SHORT));
+    }
+    if let Err(denied) = check(table, who.active, Kind::Read, expected, 16) {
+        return Err(denied);
+    }
+    let tag = identity_tag(memory, node_key, &own, &other);
+    let id = id_if(stands_at(memory, expected, &tag), other.id);
+    let length = u32::from(other.text.end - other.text.start);
+    Ok(answer(core, id, SHORT + 64 * hmac_blocks(length + 8)))
+}
+
+/// The tag of the bytes from R12 to R13 under the running module's key is written at R14, and R15 is 1.
+fn tag(
+    core: &mut Core,
+    memory: &mut Memory,
+    table: &ModuleTable,
+    who: Who,
+    node_key: &[u8; 16],
+) -> Result<UnitDone, Denied>
+    ensures denied { IfErr result (λ denied. (held : List ℕ) → first_denied table.now who.active held
+        (unit_plan (doer table.now who node_key.now) Tag core.old) ≡ Some denied) }
+    ensures allowed { OnOk result ((held : List ℕ) → first_denied table.now who.active held
+        (unit_plan (doer table.now who node_key.now) Tag core.old) ≡ None) }
+    ensures done { IfOk result (λ done. IsDone (doer table.now who node_key.now) Tag
+        core.old memory.old.bytes core.new memory.new.bytes table.now done) }
+    ensures core_kept { OnErr result (core.new ≡ core.old) }
+    ensures memory_kept { OnErr result (memory.new ≡ memory.old) }
+{
+    let start = core.get(12);
+    let end = core.get(13);
+    let output = core.get(14);
+    let Some(own) = own_module(table, who) else {
+        return Ok(answer(core, 0, SHORT));
+    };
+    if !has_ranges(start, end, output) {
+        return Ok(answer(core, 0, SHORT));
+    }
+    if let Err(denied) = check(table, who.active, Kind::Read, start, end - start) {
+        return Err(denied);
+    }
+    if let Err(denied) = check(table, who.active, Kind::Write, output, 16) {
+        return Err(denied);
+    }
+    let tag = message_tag(memory, node_key, &own, start, end);
+    store(memory, output, &tag);
+    Ok(answer(core, 1, SHORT + 64 * hmac_blocks(u32::from(end - start))))
+}
+
+/// Whether the message and the 16 bytes of output can be accessed.
+fn has_ranges(start: u16, end: u16, output: u16) -> bool
+    ensures { result ≡ in_range start end && in_range output (output + 16) }
+{
+    in_range(u32::from(start), u32::from(end))
+        && in_range(u32::from(output), u32::from(output) + 16)
+}
+
+/// R15 is the id of the module whose text or data holds R12, else 0.
+fn id_of(core: &mut Core, table: &ModuleTable, who: Who) -> UnitDone
+    ensures { (key mem : List ℕ) → IsDone (doer table.now who key) IdOf core.old mem core.new mem table.now result }
+{
+    let place = table.at(core.get(12));
+    answer(core, place_id(place), SHORT)
+}
+
+/// R15 is the active module's id, else 0.
+fn own_id(core: &mut Core, table: &ModuleTable, who: Who) -> UnitDone
+    ensures { (key mem : List ℕ) → IsDone (doer table.now who key) OwnId core.old mem core.new mem table.now result }
+{
+    let own = own_module(table, who);
+    answer(core, id_or_zero(own), SHORT)
+}
+
+/// R15 is the id of the active module's caller; outside 0.
+fn caller_id(core: &mut Core, table: &ModuleTable, who: Who) -> UnitDone
+    ensures { (key mem : List ℕ) → IsDone (doer table.now who key) CallerId core.old mem core.new mem table.now result }
+{
+    let own = own_module(table, who);
+    answer(core, caller_or_zero(own, who.caller), SHORT)
+}
+
+fn place_id(place: Place) -> u16
+    ensures { result ≡ place_id place }
+{
+    match place {
+        Place::Open => 0,
+        Place::Entry(id) | Place::Text(id) | Place::Data(id) => id,
+    }
+}
+
+fn id_or_zero(own: Option<Module>) -> u16
+    ensures { result ≡ id_or_zero own }
+{
+    match own {
+        None => 0,
+        Some(module) => module.id,
+    }
+}
+
+fn caller_or_zero(own: Option<Module>, caller: u16) -> u16
+    ensures { result ≡ caller_or_zero own caller }
+{
+    match own {
+        None => 0,
+        Some(_) => caller,
+    }
+}
+
+fn id_if(genuine: bool, id: u16) -> u16
+    ensures { result ≡ (if genuine then id else 0) }
+{
+    if genuine { id } else { 0 }
+}
+
+/// Writes R15; the rest of a core but PC stays.
+fn answer(core: &mut Core, value: u16, cycles: u32) -> UnitDone
+    ensures core { core.new ≡ put core.old 15 value }
+    ensures done { result ≡ record { cycles = cycles; closing = false; made = 0 } }
+{
+    core.put(15, value);
+    UnitDone {
+        cycles,
+        closing: false,
+        made: 0,
+    }
+}
+
+/// The active module.
+fn own_module(table: &ModuleTable, who: Who) -> Option<Module>
+    ensures own { result ≡ own_of who.active table.now }
+    ensures kept { IfSome result (IsModule table.now.given) }
+    ensures table { OnSome result (IsTable table.now) }
+{
+    table.get(who.active?).copied()
+}
+
+/// The module whose text holds an address.
+fn text_module(table: &ModuleTable, addr: u16) -> Option<Module>
+    ensures text { result ≡ text_at table.now (place_of table.now addr) }
+    ensures kept { IfSome result (IsModule table.now.given) }
+    ensures table { IsTable table.now }
+{
+    match table.at(addr) {
+        Place::Entry(id) | Place::Text(id) => table.get(id).copied(),
+        Place::Open | Place::Data(_) => None,
+    }
+}
+
+/// The blocks of SHA-256 in a HMAC over so many bytes under a key of 16.
+fn hmac_blocks(length: u32) -> u32
+    requires { length < 2 ^ 20 }
+    ensures { result ≡ blocks length }
+{
+    3 + (length + 72) / 64
+}

@@ -1,0 +1,7 @@
+pub mod Plan
+pub mod Effect
+pub mod Fetched
+pub mod Asked
+pub mod Through
+pub mod Lone
+pub mod Bench

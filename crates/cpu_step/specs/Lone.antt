@@ -1,0 +1,235 @@
+-- A module by itself: what it does from an entry, and what it leaves.
+use Rattle.std.specs.Prelude.{◌≡◌, ℕ, zero, suc, ◌+◌, ◌-◌, ◌*◌, ◌/◌, ◌%◌, ◌<◌, List, [], ◌∷◌, map, slice_index, slice_set, if◌then◌else◌, Bool, true, false, ◌&&◌, ◌||◌, not, nat_lt, Option, Some, None, All}
+use Rattle.sm_words.specs.Words.{IsCore, reg, word_at}
+use Rattle.sm_words.specs.declared.width.Width.{Width}
+use Rattle.sm_words.specs.declared.width.Width.TheVariants.{Byte, Word}
+use Rattle.insn_decode.specs.Code.{insn_of, length_of}
+use Rattle.insn_decode.specs.declared.insn.Insn.{Insn}
+use Rattle.insn_decode.specs.declared.insn.Insn.TheVariants.{Reti, Unit as UnitOp}
+use Rattle.mod_layout.specs.Table.{Table, holds}
+use Rattle.mod_layout.specs.declared.Module.{Module}
+use Rattle.pc_access.specs.Rights.{misaligned}
+use Rattle.pc_access.specs.declared.Access.{Access}
+use Rattle.pc_access.specs.declared.Kind.{Kind}
+use Rattle.pc_access.specs.declared.Kind.TheVariants.{Fetch, Read, Write}
+use Rattle.attest.specs.Accesses.{reads_of, writes_of}
+use Rattle.attest.specs.Units.{Doer, UnitName, Protect, Attest, IdOf, unit_named}
+use Rattle.cpu_step.specs.Asked.{asks, effect}
+use Rattle.cpu_step.specs.Fetched.{insn_at}
+
+-- whose call it is: the image's key, the module, its text, and the caller id
+pub record Job : Type 0 where
+  pub key : List ℕ
+  pub owner : Module
+  pub text : List ℕ
+  pub caller : ℕ
+
+-- how a call stands: registers, data, the cycles that its instruction still needs, and whether it is closing
+pub record Lone : Type 0 where
+  pub core : List ℕ
+  pub data_bytes : List ℕ
+  pub rest : ℕ
+  pub closing : Bool
+
+-- an entry: the registers, and a caller id
+pub record Entry_of : Type 0 where
+  pub core : List ℕ
+  pub caller : ℕ
+
+-- a call at its entry
+abbrev pub starts : Entry_of → List ℕ → Lone
+starts e d = record { core = e.core; data_bytes = d; rest = 0; closing = false }
+
+-- the bytes of the two sections
+abbrev pub lone_byte : Job → List ℕ → ℕ → ℕ
+lone_byte j d a = if holds j.owner.text a then slice_index j.text (a - j.owner.text.start) else slice_index d (a - j.owner.ram.start)
+
+-- a table of this module alone
+abbrev pub lone_table : Job → Table
+lone_table j = record { modules = j.owner ∷ []; given = j.owner.id; room = 8 }
+
+-- the module as the one who does an instruction
+abbrev pub lone_who : Job → Doer
+lone_who j = record { own = Some j.owner; caller = j.caller; table = lone_table j; key = j.key }
+
+-- the unit instructions that a module by itself may do
+abbrev pub unit_alone : UnitName → Bool
+unit_alone Protect = false
+unit_alone Attest = false
+unit_alone IdOf = false
+unit_alone _ = true
+
+-- an instruction that a module by itself may do
+abbrev pub is_alone : Insn → Bool
+is_alone Reti = false
+is_alone (UnitOp n) = unit_alone (unit_named n)
+is_alone _ = true
+
+-- an access of this kind that stays in the two sections
+abbrev pub inside_by : Kind → Job → ℕ → Bool
+inside_by Read j a = holds j.owner.text a || holds j.owner.ram a
+inside_by Write j a = holds j.owner.ram a
+inside_by Fetch j a = false
+
+-- an access that is aligned and stays in the two sections
+abbrev pub is_inside : Job → Access → Bool
+is_inside j x = not (misaligned x.width x.addr) && inside_by x.kind j x.addr
+
+-- each of these accesses does
+abbrev pub all_inside : Job → List Access → Bool
+all_inside j [] = true
+all_inside j (x ∷ xs) = is_inside j x && all_inside j xs
+
+-- whether the k-th of n words of the instruction at pc, if there is one, is in the text
+abbrev pub text_word : Job → ℕ → ℕ → ℕ → Bool
+text_word j pc n k = not (nat_lt k n) || holds j.owner.text (pc + 2 * k)
+
+-- an instruction that it may do, and else none
+abbrev pub may_do : Job → Lone → Option Insn → Option Insn
+may_do j l None = None
+may_do j l (Some insn) = if is_alone insn && all_inside j (asks (lone_who j) insn l.core) then Some insn else None
+
+-- an instruction, where all its words are in the text
+abbrev pub if_home : Bool → Option Insn → Option Insn
+if_home true next = next
+if_home false next = None
+
+-- the first word tells whether it is an instruction, and the number of its words
+abbrev pub next_first : Option Insn → Job → Lone → Option Insn
+next_first None j l = None
+next_first (Some first) j l =
+    let pc = reg l.core 0 in
+    let n = length_of first in
+    if_home (text_word j pc n 1 && text_word j pc n 2) (may_do j l (insn_at (lone_byte j l.data_bytes) pc n))
+
+-- the next instruction, or none where the module is broken: the machine would stop, a byte outside the
+-- two sections is accessed, or it is protect, attest or id of address
+unfoldable pub next_insn : Job → Lone → Option Insn
+next_insn j l = next_first (insn_of (word_at (lone_byte j l.data_bytes) (reg l.core 0)) 0 0) j l
+
+-- what a read of this width gives
+abbrev pub value_at : Width → (ℕ → ℕ) → ℕ → ℕ
+value_at Byte byte a = byte a
+value_at Word byte a = word_at byte a
+
+-- what a read gives
+abbrev pub lone_read : Job → List ℕ → Access → ℕ
+lone_read j d x = value_at x.width (lone_byte j d) x.addr
+
+-- the data after a write of this width
+abbrev pub lone_write : Module → Width → List ℕ → ℕ → ℕ → List ℕ
+lone_write m Byte d a v = slice_set d (a - m.ram.start) (v % 256)
+lone_write m Word d a v = slice_set (slice_set d (a - m.ram.start) (v % 256)) (a + 1 - m.ram.start) (v / 256 % 256)
+
+-- the data after these writes, each with its value
+abbrev pub lone_writes : Module → List ℕ → List Access → List ℕ → List ℕ
+lone_writes m d [] values = d
+lone_writes m d (x ∷ xs) [] = d
+lone_writes m d (x ∷ xs) (v ∷ values) = lone_writes m (lone_write m x.width d x.addr v) xs values
+
+-- an instruction done in its first cycle; the rest is its cycles less 1
+unfoldable pub lone_does : Job → Insn → Lone → Lone
+lone_does j insn l =
+    let xs = asks (lone_who j) insn l.core in
+    let e = effect (lone_who j) insn l.core (map (lone_read j l.data_bytes) (reads_of xs)) in
+    record { core = e.core; data_bytes = lone_writes j.owner l.data_bytes (writes_of xs) e.stored; rest = e.cycles - 1; closing = e.closing }
+
+-- how a call ends, with the core, the data that it leaves, and its cycles
+pub data Outcome : Type 0 where
+  Exit : (core : List ℕ) (left : List ℕ) (cycles : ℕ) → Outcome
+  Closing : (core : List ℕ) (left : List ℕ) (cycles : ℕ) → Outcome
+  Broken : (left : List ℕ) (cycles : ℕ) → Outcome
+  Running : Outcome
+
+-- what comes a cycle later
+abbrev pub later : Outcome → Outcome
+later (Exit core left c) = Exit core left (c + 1)
+later (Closing core left c) = Closing core left (c + 1)
+later (Broken left c) = Broken left (c + 1)
+later Running = Running
+
+-- what the module does in its next cycle
+pub data Doing : Type 0 where
+  Waits : (rest : ℕ) → Doing
+  Closes : Doing
+  Leaves : Doing
+  Breaks : Doing
+  Does : (insn : Insn) → Doing
+
+-- the instruction, or none where the module is broken
+abbrev pub does_or_breaks : Option Insn → Doing
+does_or_breaks None = Breaks
+does_or_breaks (Some insn) = Does insn
+
+-- of the rest, whether it is closing, whether PC is in the text, and the next instruction
+abbrev pub doing_by : ℕ → Bool → Bool → Option Insn → Doing
+doing_by (suc r) closing in_text next = Waits r
+doing_by zero true in_text next = Closes
+doing_by zero false false next = Leaves
+doing_by zero false true next = does_or_breaks next
+
+-- what the module does next
+unfoldable pub doing : Job → Lone → Doing
+doing j l = doing_by l.rest l.closing (holds j.owner.text (reg l.core 0)) (next_insn j l)
+
+-- an end stays as it is
+abbrev pub lone_step_by : Doing → Job → Lone → Lone
+lone_step_by (Waits r) j l = record l { rest = r }
+lone_step_by (Does insn) j l = lone_does j insn l
+lone_step_by _ j l = l
+
+-- one cycle
+abbrev pub lone_step : Job → Lone → Lone
+lone_step j l = lone_step_by (doing j l) j l
+
+-- the module after c cycles by itself
+abbrev pub lone_after : Job → Lone → ℕ → Lone
+lone_after j l zero = l
+lone_after j l (suc c) = lone_step j (lone_after j l c)
+
+-- with no cycle left
+abbrev pub at_once : Doing → Lone → Outcome
+at_once Closes l = Closing l.core l.data_bytes 0
+at_once Leaves l = Exit l.core l.data_bytes 0
+at_once _ l = Running
+
+-- with a cycle left, where next is what comes after it
+abbrev pub in_time : Doing → (Lone → Outcome) → Job → Lone → Outcome
+in_time Closes next j l = Closing l.core l.data_bytes 0
+in_time Leaves next j l = Exit l.core l.data_bytes 0
+in_time Breaks next j l = Broken l.data_bytes 0
+in_time (Waits r) next j l = later (next (record l { rest = r }))
+in_time (Does insn) next j l = later (next (lone_does j insn l))
+
+-- the first end that is reached within n cycles
+abbrev pub outcome : Job → ℕ → Lone → Outcome
+outcome j zero l = at_once (doing j l) l
+outcome j (suc n) l = in_time (doing j l) (outcome j n) j l
+
+-- two ends that are alike, with what must hold of the data left
+abbrev pub alike : (List ℕ → List ℕ → Type 0) → Outcome → Outcome → Type 0
+alike rest Running Running = Unit {0}
+alike rest (Closing c d k) (Closing c' d' k') = (c ≡ c') × (k ≡ k')
+alike rest (Exit c d k) (Exit c' d' k') = (c ≡ c') × (k ≡ k') × rest d d'
+alike rest _ _ = ⊥
+
+-- the call of a module with this text
+abbrev pub job_of : List ℕ → Module → List ℕ → ℕ → Job
+job_of key m text caller = record { key = key; owner = m; text = text; caller = caller }
+
+-- these calls, one after another, end alike from both data, within n cycles each
+abbrev pub Even : List ℕ → Module → List ℕ → ℕ → List Entry_of → List ℕ → List ℕ → Type 0
+Even key m text n [] d1 d2 = Unit {0}
+Even key m text n (e ∷ es) d1 d2 =
+    let j = job_of key m text e.caller in
+    alike (Even key m text n es) (outcome j n (starts e d1)) (outcome j n (starts e d2))
+
+-- an entry of the module: a core whose PC is the text's start, and a caller id
+pub record IsEntry (m : Module) (e : Entry_of) : Type 0 where
+  pub core_ok : IsCore e.core
+  pub at_start : reg e.core 0 ≡ m.text.start
+  pub caller_ok : e.caller < 65536
+
+-- two data that no list of calls and no number of cycles tells apart
+abbrev pub AlwaysEven : List ℕ → Module → List ℕ → List ℕ → List ℕ → Type 0
+AlwaysEven key m text d1 d2 = (es : List Entry_of) (n : ℕ) → All (IsEntry m) es → Even key m text n es d1 d2

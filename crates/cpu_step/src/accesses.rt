@@ -1,0 +1,188 @@
+//! Which accesses an instruction makes.
+
+ghost use Rattle.std.specs.Prelude.{◌≡◌, ◌+◌, ◌*◌, ◌<◌, ◌≤◌, ◌++◌};
+ghost use Rattle.arrayvec.specs.ArrayVec.{array_vec_len};
+ghost use Rattle.sm_words.specs.Words.{add16, reg};
+ghost use Rattle.insn_decode.specs.Code.{words_of};
+ghost use Rattle.cpu_step.specs.Plan.{past, lowered, access_if, reads_dst, writes_dst, one_writes, plan};
+
+use crate::operand::{increment, place};
+use arrayvec::ArrayVec;
+use insn_decode::{Insn, OneOp, Operand, TwoOp};
+use pc_access::{Access, Kind};
+use sm_words::{Core, Width};
+
+/// Moves PC past the instruction.
+pub fn step_past(insn: &Insn, core: &mut Core)
+    ensures { core.new ≡ past insn.now core.old }
+{
+    let next = core.get(0).wrapping_add(2 * insn.length());
+    core.put(0, next);
+}
+
+/// Lowers SP by 2.
+pub fn lower(core: &mut Core)
+    ensures { core.new ≡ lowered core.old }
+{
+    let lowered = core.get(1).wrapping_sub(2);
+    core.put(1, lowered);
+}
+
+/// MOV does not read its destination.
+pub fn reads_destination(op: TwoOp) -> bool
+    ensures { result ≡ reads_dst op }
+{
+    op != TwoOp::Mov
+}
+
+/// CMP and BIT do not write.
+pub fn writes_destination(op: TwoOp) -> bool
+    ensures { result ≡ writes_dst op }
+{
+    !matches!(op, TwoOp::Cmp | TwoOp::Bit)
+}
+
+/// Where the first extension word stands.
+fn extension(core: &Core) -> u16
+    ensures { result ≡ add16 (reg core.now 0) 2 }
+{
+    core.get(0).wrapping_add(2)
+}
+
+/// Where the destination's extension word stands, behind the source's.
+fn second_extension(extension: u16, src: Operand) -> u16
+    ensures { result ≡ add16 extension (2 * words_of src) }
+{
+    extension.wrapping_add(2 * src.words())
+}
+
+/// Adds an access, if it is wanted and has an address.
+fn add_access(
+    accesses: &mut ArrayVec<Access, 3>,
+    wanted: bool,
+    kind: Kind,
+    width: Width,
+    addr: Option<u16>,
+)
+    requires { array_vec_len accesses.old < 3 }
+    ensures items { accesses.new.items ≡ accesses.old.items ++ access_if wanted kind width addr }
+    ensures length { array_vec_len accesses.new ≤ array_vec_len accesses.old + 1 }
+{
+    if let Some(addr) = addr
+        && wanted
+    {
+        accesses.push(Access { kind, addr, width });
+    }
+}
+
+/// The accesses of an instruction of format I: the source is read, the increment is done, the destination
+/// is read and written.
+fn plan_two(
+    insn: &Insn,
+    op: TwoOp,
+    width: Width,
+    src: Operand,
+    dst: Operand,
+    core: &Core,
+) -> ArrayVec<Access, 3>
+    requires { insn.now ≡ Insn.Two op width src dst }
+    ensures { result.items ≡ plan insn.now core.now }
+{
+    let mut after = *core;
+    step_past(insn, &mut after);
+    let extension = extension(core);
+    let source = place(src, &after, extension);
+    increment(width, src, &mut after);
+    let destination = place(dst, &after, second_extension(extension, src));
+    let mut accesses = ArrayVec::new();
+    add_access(&mut accesses, true, Kind::Read, width, source);
+    add_access(
+        &mut accesses,
+        reads_destination(op),
+        Kind::Read,
+        width,
+        destination,
+    );
+    add_access(
+        &mut accesses,
+        writes_destination(op),
+        Kind::Write,
+        width,
+        destination,
+    );
+    accesses
+}
+
+/// Adds what an instruction of format II writes: PUSH and CALL at the lowered SP, the others where they read.
+fn add_write(
+    accesses: &mut ArrayVec<Access, 3>,
+    op: OneOp,
+    width: Width,
+    operand: Option<u16>,
+    sp: u16,
+)
+    requires { array_vec_len accesses.old < 3 }
+    ensures { accesses.new.items ≡ accesses.old.items ++ one_writes op width operand sp }
+{
+    match op {
+        OneOp::Push => add_access(accesses, true, Kind::Write, width, Some(sp)),
+        OneOp::Call => add_access(accesses, true, Kind::Write, Width::Word, Some(sp)),
+        OneOp::Rrc | OneOp::Swpb | OneOp::Rra | OneOp::Sxt => {
+            add_access(accesses, true, Kind::Write, width, operand);
+        }
+    }
+}
+
+/// The accesses of an instruction of format II: the operand is read, its increment is done, and the result
+/// is written.
+fn plan_one(insn: &Insn, op: OneOp, width: Width, arg: Operand, core: &Core) -> ArrayVec<Access, 3>
+    requires { insn.now ≡ Insn.One op width arg }
+    ensures { result.items ≡ plan insn.now core.now }
+{
+    let mut after = *core;
+    step_past(insn, &mut after);
+    let operand = place(arg, &after, extension(core));
+    increment(width, arg, &mut after);
+    lower(&mut after);
+    let mut accesses = ArrayVec::new();
+    add_access(&mut accesses, true, Kind::Read, width, operand);
+    add_write(&mut accesses, op, width, operand, after.get(1));
+    accesses
+}
+
+/// RETI reads SR at SP and PC behind it.
+#[tactic(auto, unfolding(crate::specs::Plan::plan))]
+fn plan_reti(core: &Core) -> ArrayVec<Access, 3>
+    ensures { result.items ≡ plan Insn.Reti core.now }
+{
+    let sp = core.get(1);
+    let mut accesses = ArrayVec::new();
+    add_access(&mut accesses, true, Kind::Read, Width::Word, Some(sp));
+    add_access(
+        &mut accesses,
+        true,
+        Kind::Read,
+        Width::Word,
+        Some(sp.wrapping_add(2)),
+    );
+    accesses
+}
+
+/// The accesses of an instruction whose address is in PC, in their order. They follow from the registers
+/// and the extension words alone. A unit instruction's follow from more than that, and are not given here.
+#[tactic(auto, unfolding(crate::specs::Plan::plan))]
+pub fn plan(insn: &Insn, core: &Core) -> ArrayVec<Access, 3>
+    ensures exact { result.items ≡ plan insn.now core.now }
+{
+    match *insn {
+        Insn::Two {
+            op,
+            width,
+            src,
+            dst,
+        } => plan_two(insn, op, width, src, dst, core),
+        Insn::One { op, width, arg } => plan_one(insn, op, width, arg, core),
+        Insn::Reti => plan_reti(core),
+        Insn::Jump { .. } | Insn::Unit(_) => ArrayVec::new(),
+    }
+}

@@ -1,0 +1,18 @@
+//! One instruction: which accesses it makes, and what it does through any port.
+//!
+//! The rules are those of the MSP430x1xx Family User's Guide SLAU049, sections 3.3 and 3.4.
+#![tactic(auto)]
+
+mod accesses;
+mod effect;
+mod operand;
+mod port;
+mod result;
+mod step;
+#[cfg(test)]
+mod tests;
+
+pub use accesses::plan;
+pub use pc_access::{Access, Kind};
+pub use port::Port;
+pub use step::execute;

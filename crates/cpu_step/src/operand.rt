@@ -1,0 +1,84 @@
+//! Operands: where they stand, and what they give.
+
+ghost use Rattle.std.specs.Prelude.{◌≡◌};
+ghost use Rattle.sm_words.specs.Sums.{low};
+ghost use Rattle.cpu_step.specs.Plan.{place, step_of, stepped};
+ghost use Rattle.cpu_step.specs.Effect.{given, in_memory, after_given};
+
+use insn_decode::Operand;
+use sm_words::{Core, Width};
+
+/// The low byte, or the word.
+fn low(width: Width, value: u16) -> u16
+    ensures { result ≡ low width value }
+{
+    match width {
+        Width::Byte => value % 256,
+        Width::Word => value,
+    }
+}
+
+/// The operand's address in memory, where it has one; its extension word stands at `ext`.
+pub fn place(operand: Operand, core: &Core, ext: u16) -> Option<u16>
+    ensures { result ≡ place operand core.now ext }
+{
+    match operand {
+        Operand::Indexed { reg, x } => Some(core.get(reg).wrapping_add(x)),
+        Operand::Symbolic(x) => Some(ext.wrapping_add(x)),
+        Operand::Absolute(x) => Some(x),
+        Operand::Indirect(reg) | Operand::Increment(reg) => Some(core.get(reg)),
+        Operand::Reg(_) | Operand::Const(_) | Operand::Imm(_) => None,
+    }
+}
+
+/// By how much a register rises past its operand.
+fn step(width: Width, reg: u8) -> u16
+    ensures { result ≡ step_of width reg }
+{
+    match width {
+        Width::Byte if reg != 1 => 1,
+        Width::Byte | Width::Word => 2,
+    }
+}
+
+/// Does the operand's increment.
+pub fn increment(width: Width, operand: Operand, core: &mut Core)
+    ensures { core.new ≡ stepped width operand core.old }
+{
+    if let Operand::Increment(reg) = operand {
+        let raised = core.get(reg).wrapping_add(step(width, reg));
+        core.put(reg, raised);
+    }
+}
+
+/// Whether the operand stands in memory.
+fn is_in_memory(operand: Operand) -> bool
+    ensures { result ≡ in_memory operand }
+{
+    !matches!(
+        operand,
+        Operand::Reg(_) | Operand::Const(_) | Operand::Imm(_)
+    )
+}
+
+/// The value that the operand gives: of a register, of the instruction, or the first value read.
+pub fn given(operand: Operand, width: Width, core: &Core, values: &[u16]) -> u16
+    ensures { result ≡ given operand width core.now values.now }
+{
+    match operand {
+        Operand::Reg(reg) => low(width, core.get(reg)),
+        Operand::Const(value) | Operand::Imm(value) => low(width, value),
+        _ => values.first().copied().unwrap_or(0),
+    }
+}
+
+/// The values that are left once the operand took its own.
+pub fn after_given(operand: Operand, values: &[u16]) -> &[u16]
+    ensures { result.now ≡ after_given operand values.now }
+{
+    if is_in_memory(operand) {
+        values.get(1..).unwrap_or(&[])
+    } else {
+        values
+    }
+}

@@ -1,0 +1,89 @@
+//! What the operations give.
+
+ghost use Rattle.std.specs.Prelude.{◌≡◌};
+ghost use Rattle.sm_words.specs.Sums.{one_if, complement};
+ghost use Rattle.cpu_step.specs.Effect.{value_of, two_result, one_result, with_flags};
+
+use insn_decode::{OneOp, TwoOp};
+use sm_words::{Sum, Width};
+
+/// What an operation gives.
+#[derive(Clone, Copy, Debug, PartialEq, Eq)]
+pub enum Computed {
+    /// A value; the flags are kept.
+    Plain(u16),
+    /// A value with its flags.
+    Flagged(Sum),
+}
+
+impl Computed {
+    /// The value.
+    pub fn value(&self) -> u16
+        ensures { result ≡ value_of self.now }
+    {
+        match self {
+            Computed::Plain(value) => *value,
+            Computed::Flagged(sum) => sum.value,
+        }
+    }
+
+    /// SR with the flags: bits 0 C, 1 Z, 2 N and 8 V.
+    pub fn with_flags(&self, sr: u16) -> u16
+        ensures { result ≡ with_flags self.now sr }
+    {
+        match self {
+            Computed::Plain(_) => sr,
+            Computed::Flagged(sum) => {
+                u16::from(sum.c)
+                    + 2 * u16::from(sum.z)
+                    + 4 * u16::from(sum.n)
+                    + 8 * (sr / 8 % 32)
+                    + 256 * u16::from(sum.v)
+            }
+        }
+    }
+}
+
+/// Each bit of a byte or a word turned.
+fn complement(width: Width, value: u16) -> u16
+    ensures { result ≡ complement width value }
+{
+    match width {
+        Width::Byte => 255 - value % 256,
+        Width::Word => 65535 - value,
+    }
+}
+
+/// Format I: of the source and the destination, bytes or words, and C.
+pub fn two_result(op: TwoOp, width: Width, source: u16, destination: u16, carry: bool) -> Computed
+    ensures { result ≡ two_result op width source destination (one_if carry) }
+{
+    let turned = complement(width, source);
+    match op {
+        TwoOp::Mov => Computed::Plain(source),
+        TwoOp::Add => Computed::Flagged(sm_words::add(destination, source, false, width)),
+        TwoOp::Addc => Computed::Flagged(sm_words::add(destination, source, carry, width)),
+        TwoOp::Subc => Computed::Flagged(sm_words::add(destination, turned, carry, width)),
+        TwoOp::Sub | TwoOp::Cmp => {
+            Computed::Flagged(sm_words::add(destination, turned, true, width))
+        }
+        TwoOp::Dadd => Computed::Flagged(sm_words::dadd(destination, source, carry, width)),
+        TwoOp::Bit | TwoOp::And => Computed::Flagged(sm_words::and(destination, source, width)),
+        TwoOp::Bic => Computed::Plain(destination & turned),
+        TwoOp::Bis => Computed::Plain(destination | source),
+        TwoOp::Xor => Computed::Flagged(sm_words::xor(destination, source, width)),
+    }
+}
+
+/// Format II: of the operand, a byte or a word, and C.
+pub fn one_result(op: OneOp, width: Width, operand: u16, carry: bool) -> Computed
+    ensures { result ≡ one_result op width operand (one_if carry) }
+{
+    match op {
+        OneOp::Rrc => Computed::Flagged(sm_words::rrc(operand, carry, width)),
+        OneOp::Rra => Computed::Flagged(sm_words::rra(operand, width)),
+        OneOp::Swpb => Computed::Plain(sm_words::swpb(operand)),
+        OneOp::Sxt => Computed::Flagged(sm_words::sxt(operand)),
+        OneOp::Push | OneOp::Call => Computed::Plain(operand),
+    }
+}

@@ -1,0 +1,134 @@
+-- The state of the devices: three lines, a serial device and a timer, moved by a schedule, cycle by cycle.
+use Rattle.std.specs.Prelude.{ℕ, ◌+◌, ◌*◌, ◌/◌, ◌%◌, ◌^◌, List, [], ◌∷◌, ◌==◌, nat_le, if◌then◌else◌, Bool, true, false, ◌&&◌, ◌||◌, Option, Some, None}
+use Rattle.std.specs.Int.{bit_at}
+use Rattle.std.specs.Option.{option_or}
+use Rattle.schedule_file.specs.declared.Entry.{Entry}
+use Rattle.schedule_file.specs.declared.What.{What}
+use Rattle.schedule_file.specs.declared.What.TheVariants.{Serial, Up, Down}
+
+pub record Devices : Type 0 where
+  pub enabled : ℕ  -- the lines that may interrupt, a bit each
+  pub levels : ℕ  -- the lines that are up, a bit each
+  pub listening : Bool  -- whether the serial device may interrupt
+  pub got : Bool  -- whether it holds a byte that was not read
+  pub lost : Bool  -- whether a byte came before the one before it was read
+  pub byte : ℕ  -- the last byte that it received
+  pub running : Bool  -- whether the timer counts
+  pub alarm : Bool  -- whether it may interrupt
+  pub flag : Bool  -- whether its count came round
+  pub count : ℕ
+  pub limit : ℕ
+  pub schedule : List Entry
+  pub sent : Option ℕ  -- the byte that was sent in this cycle
+
+-- the devices of cycle 0
+abbrev pub silent : List Entry → Devices
+silent schedule = record { enabled = 0; levels = 0; listening = false; got = false; lost = false; byte = 0; running = false; alarm = false; flag = false; count = 0; limit = 0; schedule = schedule; sent = None }
+
+-- the number with bit n set to b
+abbrev pub with_bit : ℕ → ℕ → ℕ → ℕ
+with_bit v n b = v % 2 ^ n + 2 ^ n * b + 2 ^ (n + 1) * (v / 2 ^ (n + 1))
+
+-- a byte that was not read yet is lost to the one that comes; a line keeps its level until it moves
+abbrev pub happens : What → Devices → Devices
+happens (Serial b) d = record d { got = true; lost = d.lost || d.got; byte = b }
+happens (Up n) d = record d { levels = with_bit d.levels n 1 }
+happens (Down n) d = record d { levels = with_bit d.levels n 0 }
+
+abbrev pub happens_if : Bool → What → Devices → Devices
+happens_if true w d = happens w d
+happens_if false w d = d
+
+-- the entries of cycle k act in the list's order
+abbrev pub scheduled : List Entry → ℕ → Devices → Devices
+scheduled [] k d = d
+scheduled (e ∷ es) k d = scheduled es k (happens_if (e.cycle == k) e.what d)
+
+-- one tick of a timer: whether it runs, and whether the count is the limit
+abbrev pub counts_by : Bool → Bool → Devices → Devices
+counts_by true true d = record d { count = 0; flag = true }
+counts_by true false d = record d { count = (d.count + 1) % 65536 }
+counts_by false at_limit d = d
+
+abbrev pub counts : Devices → Devices
+counts d = counts_by d.running (d.count == d.limit) d
+
+-- what was sent before is over, the schedule acts, the timer counts
+unfoldable pub ticked_devices : Devices → ℕ → Devices
+ticked_devices d k = counts (scheduled d.schedule k (record d { sent = None }))
+
+-- a line raises its vector while it is enabled and up
+abbrev pub line_raised : Devices → ℕ → Bool
+line_raised d n = (bit_at d.enabled n == 1) && (bit_at d.levels n == 1)
+
+-- the highest raised vector: the timer's, then the serial device's, then those of the lines from the last down
+abbrev pub timer_line : Devices → Option ℕ
+timer_line d = if d.alarm && d.flag then Some 8 else None
+
+abbrev pub serial_line : Devices → Option ℕ
+serial_line d = if d.listening && d.got then Some 6 else None
+
+abbrev pub highest_line : Devices → Option ℕ
+highest_line d =
+    if line_raised d 3 then Some 4
+    else (if line_raised d 2 then Some 3
+    else (if line_raised d 1 then Some 2
+    else (if line_raised d 0 then Some 1 else None)))
+
+unfoldable pub line_of : Devices → Option ℕ
+line_of d = option_or (timer_line d) (option_or (serial_line d) (highest_line d))
+
+-- acceptance of the timer's vector clears its flag
+unfoldable pub accepted : Devices → ℕ → Devices
+accepted d v = if v == 8 then record d { flag = false } else d
+
+-- a bit of a control register
+abbrev pub bit_if : Bool → ℕ → ℕ
+bit_if true weight = weight
+bit_if false weight = 0
+
+-- the byte at an address: lines 0x0040 and 0x0041, serial 0x0070 and 0x0071, timer 0x0160 to 0x0165
+unfoldable pub read_of : Devices → ℕ → ℕ
+read_of d a =
+    if a == 0x0040 then d.enabled
+    else (if a == 0x0041 then d.levels
+    else (if a == 0x0070 then bit_if d.listening 1 + bit_if d.got 2 + bit_if d.lost 4
+    else (if a == 0x0071 then d.byte
+    else (if a == 0x0160 then bit_if d.running 1 + bit_if d.alarm 2 + bit_if d.flag 4
+    else (if a == 0x0162 then d.count % 256
+    else (if a == 0x0163 then d.count / 256
+    else (if a == 0x0164 then d.limit % 256
+    else (if a == 0x0165 then d.limit / 256 else 0))))))))
+
+-- reading the received byte clears that it is there and that one was lost
+unfoldable pub after_read : Devices → ℕ → Devices
+after_read d a = if a == 0x0071 then record d { got = false; lost = false } else d
+
+-- a word with its low byte, or its high byte, replaced
+abbrev pub with_low : ℕ → ℕ → ℕ
+with_low w b = 256 * (w / 256) + b
+
+abbrev pub with_high : ℕ → ℕ → ℕ
+with_high w b = w % 256 + 256 * b
+
+-- a byte written at an address
+unfoldable pub write_of : Devices → ℕ → ℕ → Devices
+write_of d a b =
+    if a == 0x0040 then record d { enabled = b % 16 }
+    else (if a == 0x0070 then record d { listening = bit_at b 0 == 1 }
+    else (if a == 0x0071 then record d { sent = Some b }
+    else (if a == 0x0160 then record d { running = bit_at b 0 == 1; alarm = bit_at b 1 == 1; flag = bit_at b 2 == 1 }
+    else (if a == 0x0162 then record d { count = with_low d.count b }
+    else (if a == 0x0163 then record d { count = with_high d.count b }
+    else (if a == 0x0164 then record d { limit = with_low d.limit b }
+    else (if a == 0x0165 then record d { limit = with_high d.limit b } else d)))))))
+
+-- the addresses of each device
+abbrev pub is_lines : ℕ → Bool
+is_lines a = nat_le 0x0040 a && nat_le a 0x0041
+
+abbrev pub is_serial : ℕ → Bool
+is_serial a = nat_le 0x0070 a && nat_le a 0x0071
+
+abbrev pub is_timer : ℕ → Bool
+is_timer a = nat_le 0x0160 a && nat_le a 0x0165

@@ -1,0 +1,4 @@
+pub mod Devices
+pub mod Time
+pub mod Parts
+pub mod Bus

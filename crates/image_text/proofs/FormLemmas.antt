@@ -1,0 +1,265 @@
+-- Forms, and the lines that have them.
+use Rattle.std.proofs.Common.{◌≡◌, ◌≢◌, ℕ, zero, suc, ◌+◌, ◌*◌, ◌-◌, ◌/◌, ◌%◌, ◌<◌, ◌≤◌, List, [], ◌∷◌, ◌++◌, length, take, drop, get_or, slice_range, codes, Bool, true, false, nat_lt, nat_le, cond, not, ◌&&◌, ◌||◌, ◌==◌, Option, Some, None, Ok, refl, sym, ap, ◌∙◌, subst, arith, one-add, add-one, drop-cons, length-drop, length-append}
+use Rattle.std.specs.Result.{result_unwrap_or}
+use Rattle.std.proofs.lemmas.List.{take_at}
+use Rattle.std.proofs.lemmas.Bool.Decides.{nat_tests}
+use Rattle.hex.specs.Hex.{IsBytes, lower_digits, encode_with, encode_lower, decode_of}
+use Rattle.hex.proofs.HexLemmas.{length-encode_with, decode_of-encode_lower}
+use Rattle.image_text.specs.declared.ImageFault.{ImageFault}
+use Rattle.image_text.specs.declared.ImageFault.TheVariants.{Line, Digit}
+use Rattle.image_text.specs.ImageText.{hex_word}
+use Rattle.image_text.specs.Refusal.{Spot, fits, has_form, is_digit, is_bad, bad_digit, digit_or, formed, line_fault, bytes_at, word_of, word_at}
+use Rattle.image_text.specs.Reading.{HasForm, CodedAt}
+
+and_left : (a b : Bool) → (a && b) ≡ true → a ≡ true
+and_left true b e = refl
+and_left false b e = e
+
+and_right : (a b : Bool) → (a && b) ≡ true → b ≡ true
+and_right true b e = e
+and_right false b e = cc
+
+pub form_length : (form line : List ℕ) → has_form form line ≡ true → length form ≡ length line
+form_length [] [] e = refl
+form_length [] (b ∷ line) e = cc
+form_length (mark ∷ form) [] e = cc
+form_length (mark ∷ form) (b ∷ line) e = let k = form_length form line (and_right (fits mark b) (has_form form line) e) in omega (arith, k)
+
+-- a line of another length has not the form
+pub other_length : (form line : List ℕ) → length form ≢ length line → has_form form line ≡ false
+other_length form line ne = by (has_form form line) refl
+  where
+    by : (c : Bool) → has_form form line ≡ c → has_form form line ≡ false
+    by true e = absurd (ne (form_length form line e))
+    by false e = e
+
+-- past a place whose digit is not bad
+pub bad_step : (form line : List ℕ) (i at : ℕ) → i < length form → i < length line → is_bad (get_or form i 0) (get_or line i 0) ≡ false
+    → bad_digit (drop i form) (drop i line) (at + i) ≡ bad_digit (drop (i + 1) form) (drop (i + 1) line) (at + (i + 1))
+bad_step form line i at f l e =
+    let next : at + i + 1 ≡ at + suc i = omega arith in
+    rw (add-one, drop-cons form i 0, drop-cons line i 0, e, next) refl
+
+-- at a place whose digit is bad
+pub bad_here : (form line : List ℕ) (i at : ℕ) → i < length form → i < length line → is_bad (get_or form i 0) (get_or line i 0) ≡ true
+    → bad_digit (drop i form) (drop i line) (at + i) ≡ Some (at + i)
+bad_here form line i at f l e = rw (drop-cons form i 0, drop-cons line i 0, e) refl
+
+-- whether a digit is bad does not hang on where the line begins
+bad_none : (form line : List ℕ) (at from : ℕ) → bad_digit form line at ≡ None → bad_digit form line from ≡ None
+bad_none [] line at from e = refl
+bad_none (mark ∷ form) [] at from e = refl
+bad_none (mark ∷ form) (b ∷ line) at from e = by (is_bad mark b) e (λ f. bad_none form line (at + 1) (from + 1) f)
+  where
+    by : (c : Bool) → cond c (Some at) (bad_digit form line (at + 1)) ≡ None → (bad_digit form line (at + 1) ≡ None → bad_digit form line (from + 1) ≡ None) → cond c (Some from) (bad_digit form line (from + 1)) ≡ None
+    by true f r = absurd cc
+    by false f r = r f
+
+pub has_form_of : (form line : List ℕ) (at : ℕ) → has_form form line ≡ true → bad_digit form line at ≡ None → HasForm form line
+has_form_of form line at e f = record { formed = e; digits = λ from. bad_none form line at from f }
+
+-- a line of the form leaves what comes after
+pub formed_ok : (form : List ℕ) (s : Spot) (line : List ℕ) (rest : Option ImageFault) → HasForm form line → formed form s line rest ≡ rest
+formed_ok form s line rest h = rw (h.formed, h.digits s.at) refl
+
+pub formed_not : (form : List ℕ) (s : Spot) (line : List ℕ) (rest : Option ImageFault) → has_form form line ≡ false → formed form s line rest ≡ Some (Line s.number)
+formed_not form s line rest e = rw e refl
+
+pub formed_bad : (form : List ℕ) (s : Spot) (line : List ℕ) (at : ℕ) (rest : Option ImageFault) → has_form form line ≡ true → bad_digit form line s.at ≡ Some at → formed form s line rest ≡ Some (Digit at)
+formed_bad form s line at rest e f = rw (e, f) refl
+
+-- ---- the parts of a line
+
+head_fits : (mark b : ℕ) (form line : List ℕ) → HasForm (mark ∷ form) (b ∷ line) → fits mark b ≡ true
+head_fits mark b form line h = and_left (fits mark b) (has_form form line) h.formed
+
+tail_bad : (mark b : ℕ) (form line : List ℕ) (at : ℕ) → bad_digit (mark ∷ form) (b ∷ line) at ≡ None → (is_bad mark b ≡ false) × (bad_digit form line (at + 1) ≡ None)
+tail_bad mark b form line at e = by (is_bad mark b) refl e
+  where
+    by : (c : Bool) → is_bad mark b ≡ c → cond c (Some at) (bad_digit form line (at + 1)) ≡ None → (is_bad mark b ≡ false) × (bad_digit form line (at + 1) ≡ None)
+    by true f g = absurd cc
+    by false f g = (f, g)
+
+tail_form : (mark b : ℕ) (form line : List ℕ) → HasForm (mark ∷ form) (b ∷ line) → HasForm form line
+tail_form mark b form line h = record {
+  formed = and_right (fits mark b) (has_form form line) h.formed;
+  digits = λ at. bad_none form line 1 at (tail_bad mark b form line 0 (h.digits 0)).1;
+}
+
+nothing_left : (line : List ℕ) → HasForm [] line → line ≡ []
+nothing_left [] h = refl
+nothing_left (b ∷ line) h = let e = h.formed in absurd cc
+
+-- a word of the form
+abbrev no_marks : List ℕ → Bool
+no_marks [] = true
+no_marks (c ∷ text) = not (c == 35) && no_marks text
+
+pub record AfterWord (text form line : List ℕ) : Type 0 where
+  pub rest : List ℕ
+  pub is : line ≡ text ++ rest
+  pub next : HasForm form rest
+
+pub after_word : (text form line : List ℕ) → no_marks text ≡ true → HasForm (text ++ form) line → AfterWord text form line
+after_word [] form line n h = record { rest = line; is = refl; next = h }
+after_word (c ∷ text) form [] n h = let e = h.formed in absurd cc
+after_word (c ∷ text) form (b ∷ line) n h =
+    let unmarked = and_left (not (c == 35)) (no_marks text) n in
+    let w = after_word text form line (and_right (not (c == 35)) (no_marks text) n) (tail_form c b (text ++ form) line h) in
+    let same = own (c == 35) refl unmarked (head_fits c b (text ++ form) line h) in
+    record { rest = w.rest; is = let k = w.is in let m : b ∷ line ≡ c ∷ (text ++ w.rest) = cc in m; next = w.next }
+  where
+    own : (k : Bool) → (c == 35) ≡ k → not k ≡ true → cond k (not (b == 32)) (b == c) ≡ true → b ≡ c
+    own true e u f = absurd cc
+    own false e u f = grind (arith, nat_tests)
+
+-- ---- digits
+
+abbrev pub digit_value : ℕ → ℕ
+digit_value c = cond (nat_lt c 58) (c - 48) (c - 87)
+
+-- the sixteen digits
+pub digit_at : (n : ℕ) → n < 16 → get_or lower_digits n 0 ≡ cond (nat_lt n 10) (48 + n) (87 + n)
+digit_at zero l = refl
+digit_at (suc zero) l = refl
+digit_at (suc (suc zero)) l = refl
+digit_at (suc (suc (suc zero))) l = refl
+digit_at (suc (suc (suc (suc zero)))) l = refl
+digit_at (suc (suc (suc (suc (suc zero))))) l = refl
+digit_at (suc (suc (suc (suc (suc (suc zero)))))) l = refl
+digit_at (suc (suc (suc (suc (suc (suc (suc zero))))))) l = refl
+digit_at (suc (suc (suc (suc (suc (suc (suc (suc zero)))))))) l = refl
+digit_at (suc (suc (suc (suc (suc (suc (suc (suc (suc zero))))))))) l = refl
+digit_at (suc (suc (suc (suc (suc (suc (suc (suc (suc (suc zero)))))))))) l = refl
+digit_at (suc (suc (suc (suc (suc (suc (suc (suc (suc (suc (suc zero))))))))))) l = refl
+digit_at (suc (suc (suc (suc (suc (suc (suc (suc (suc (suc (suc (suc zero)))))))))))) l = refl
+digit_at (suc (suc (suc (suc (suc (suc (suc (suc (suc (suc (suc (suc (suc zero))))))))))))) l = refl
+digit_at (suc (suc (suc (suc (suc (suc (suc (suc (suc (suc (suc (suc (suc (suc zero)))))))))))))) l = refl
+digit_at (suc (suc (suc (suc (suc (suc (suc (suc (suc (suc (suc (suc (suc (suc (suc zero))))))))))))))) l = refl
+digit_at (suc (suc (suc (suc (suc (suc (suc (suc (suc (suc (suc (suc (suc (suc (suc (suc n)))))))))))))))) l = absurd (omega arith)
+
+-- a digit is the text of its value
+pub digit_is : (c : ℕ) → is_digit c ≡ true → (digit_value c < 16) × (get_or lower_digits (digit_value c) 0 ≡ c)
+digit_is c e =
+    let small : digit_value c < 16 = grind (arith, nat_tests) in
+    let same : cond (nat_lt (digit_value c) 10) (48 + digit_value c) (87 + digit_value c) ≡ c = grind (arith, nat_tests) in
+    (small, digit_at (digit_value c) small ∙ same)
+
+good : (b : ℕ) → is_bad 35 b ≡ false → is_digit b ≡ true
+good b e = by (is_digit b) e
+  where
+    by : (c : Bool) → (true && not c) ≡ false → c ≡ true
+    by true f = refl
+    by false f = cc
+
+-- bytes that stand as digits at a place
+pub coded_at : (line rest : List ℕ) (from n : ℕ) (bytes : List ℕ) → 0 < n → IsBytes bytes → length bytes ≡ n → drop from line ≡ encode_lower bytes ++ rest
+    → CodedAt line from n × (bytes_at from (from + 2 * n) line ≡ bytes)
+coded_at line rest from n bytes some are len e =
+    let twice : length (encode_lower bytes) ≡ 2 * n = omega (arith, length-encode_with lower_digits bytes, len) in
+    let range : from + 2 * n - from ≡ 2 * n = omega arith in
+    let part : slice_range line from (from + 2 * n) ≡ encode_lower bytes = rw range (ap (take (2 * n)) e ∙ take_at (encode_lower bytes) rest (2 * n) twice) in
+    let value : bytes_at from (from + 2 * n) line ≡ bytes = ap (λ (l : List ℕ). result_unwrap_or (decode_of l) []) part ∙ ap (λ r. result_unwrap_or r []) (decode_of-encode_lower bytes are) in (
+      record {
+        within = omega (arith, length-drop from line, ap length e, length-append (encode_lower bytes) rest, twice, some);
+        are_bytes = subst IsBytes (sym value) are;
+        count = ap length value ∙ len;
+        text = part ∙ ap encode_lower (sym value);
+      },
+      value,
+    )
+
+-- ---- digits of a form
+
+abbrev pub marks : ℕ → List ℕ
+marks zero = []
+marks (suc n) = 35 ∷ 35 ∷ marks n
+
+digit_head : (b : ℕ) (form line : List ℕ) → HasForm (35 ∷ form) (b ∷ line) → is_digit b ≡ true
+digit_head b form line h = good b (tail_bad 35 b form line 0 (h.digits 0)).0
+
+pub bytes_cons : (b : ℕ) (bytes : List ℕ) → b < 256 → IsBytes bytes → IsBytes (b ∷ bytes)
+bytes_cons b bytes l h zero = l
+bytes_cons b bytes l h (suc k) = h k
+
+pub bytes_nil : IsBytes []
+bytes_nil k = omega arith
+
+pub record AfterDigits (n : ℕ) (form line : List ℕ) : Type 0 where
+  pub bytes : List ℕ
+  pub rest : List ℕ
+  pub is : line ≡ encode_lower bytes ++ rest
+  pub are : IsBytes bytes
+  pub count : length bytes ≡ n
+  pub next : HasForm form rest
+
+-- the digits of so many bytes
+pub after_digits : (n : ℕ) (form line : List ℕ) → HasForm (marks n ++ form) line → AfterDigits n form line
+unfolding encode_with
+after_digits zero form line h = record { bytes = []; rest = line; is = refl; are = bytes_nil; count = refl; next = h }
+after_digits (suc n) form [] h = absurd (let e = h.formed in cc)
+after_digits (suc n) form (a ∷ []) h = absurd (let e = (tail_form 35 a (35 ∷ (marks n ++ form)) [] h).formed in cc)
+after_digits (suc n) form (a ∷ b ∷ line) h =
+    let second = tail_form 35 a (35 ∷ (marks n ++ form)) (b ∷ line) h in
+    let r = after_digits n form line (tail_form 35 b (marks n ++ form) line second) in
+    let da = digit_is a (digit_head a (35 ∷ (marks n ++ form)) (b ∷ line) h) in
+    let db = digit_is b (digit_head b (marks n ++ form) line second) in
+    let byte : ℕ = 16 * digit_value a + digit_value b in
+    let high : byte / 16 ≡ digit_value a = omega (arith, da.0, db.0) in
+    let low : byte % 16 ≡ digit_value b = omega (arith, da.0, db.0) in
+    let ea = ap (λ (k : ℕ). get_or lower_digits k 0) high ∙ da.1 in
+    let eb = ap (λ (k : ℕ). get_or lower_digits k 0) low ∙ db.1 in
+    let all : a ∷ b ∷ line ≡ get_or lower_digits (byte / 16) 0 ∷ get_or lower_digits (byte % 16) 0 ∷ (encode_lower r.bytes ++ r.rest) = cc (ea, eb, r.is) in
+    record { bytes = byte ∷ r.bytes; rest = r.rest; is = all; are = bytes_cons byte r.bytes (omega (arith, da.0, db.0)) r.are; count = let k = r.count in omega (arith, k); next = r.next }
+
+-- ---- words of a form
+
+pub word_bytes : (w : ℕ) → w < 65536 → IsBytes (w / 256 ∷ w % 256 ∷ [])
+word_bytes w l = bytes_cons (w / 256) (w % 256 ∷ []) (omega arith) (bytes_cons (w % 256) [] (omega arith) bytes_nil)
+
+record TwoBytes (bytes : List ℕ) : Type 0 where
+  pub word : ℕ
+  pub small : word < 65536
+  pub is : word / 256 ∷ word % 256 ∷ [] ≡ bytes
+
+two_bytes : (bytes : List ℕ) → length bytes ≡ 2 → IsBytes bytes → TwoBytes bytes
+two_bytes [] e h = absurd (omega arith)
+two_bytes (a ∷ []) e h = absurd (omega arith)
+two_bytes (a ∷ b ∷ []) e h =
+    let la : a < 256 = h 0 in
+    let lb : b < 256 = h 1 in
+    let ea : (256 * a + b) / 256 ≡ a = omega arith in
+    let eb : (256 * a + b) % 256 ≡ b = omega arith in
+    let all : (256 * a + b) / 256 ∷ (256 * a + b) % 256 ∷ [] ≡ a ∷ b ∷ [] = cc in
+    record { word = 256 * a + b; small = omega arith; is = all }
+two_bytes (a ∷ b ∷ c ∷ bytes) e h = absurd (omega arith)
+
+pub record AfterFour (form line : List ℕ) : Type 0 where
+  pub word : ℕ
+  pub rest : List ℕ
+  pub is : line ≡ hex_word word ++ rest
+  pub small : word < 65536
+  pub next : HasForm form rest
+
+-- the four digits of a word
+pub after_four : (form line : List ℕ) → HasForm (35 ∷ 35 ∷ 35 ∷ 35 ∷ form) line → AfterFour form line
+after_four form line h =
+    let d = after_digits 2 form line h in
+    let t = two_bytes d.bytes d.count d.are in
+    record { word = t.word; rest = d.rest; is = d.is ∙ ap (λ (l : List ℕ). encode_lower l ++ d.rest) (sym t.is); small = t.small; next = d.next }
+
+-- a word at a place of a line
+pub word_here : (line rest : List ℕ) (from w : ℕ) → w < 65536 → drop from line ≡ hex_word w ++ rest → CodedAt line from 2 × (word_at from line ≡ w)
+word_here line rest from w l e =
+    let c = coded_at line rest from 2 (w / 256 ∷ w % 256 ∷ []) (omega arith) (word_bytes w l) refl e in
+    let joined : 256 * (w / 256) + w % 256 ≡ w = omega arith in
+    (c.0, ap word_of c.1 ∙ joined)
+
+pub nothing_after : (line : List ℕ) → HasForm [] line → line ≡ []
+nothing_after line h = nothing_left line h
+
+-- a word of two bytes
+pub word_of_two : (bytes : List ℕ) → length bytes ≡ 2 → word_of bytes ≡ 256 * get_or bytes 0 0 + get_or bytes 1 0
+word_of_two [] e = absurd (omega arith)
+word_of_two (a ∷ []) e = absurd (omega arith)
+word_of_two (a ∷ b ∷ bytes) e = refl

@@ -1,0 +1,686 @@
+-- The text of an image is not refused, and no other image has it.
+use Rattle.std.proofs.Common.{◌≡◌, ◌⊎◌, inl, inr, ⊎_elim, ℕ, zero, suc, ◌+◌, ◌*◌, ◌/◌, ◌%◌, ◌<◌, ◌≤◌, List, [], ◌∷◌, ◌++◌, length, take, drop, get_or, slice_index, codes, Bool, true, false, nat_lt, cond, not, ◌&&◌, ◌||◌, ◌==◌, Option, Some, None, unwrap_or, refl, sym, ap, ◌∙◌, subst, arith, append_assoc, length-append, length-take, length-drop}
+use Rattle.std.proofs.lemmas.List.{append-nil, append_cancel_left, take-append-drop}
+use Rattle.std.proofs.lemmas.Bool.{and_parts, cases_lt, eqb-true}
+use Rattle.std.proofs.lemmas.Bool.Decides.{nat_tests}
+use Rattle.hex.specs.Hex.{IsBytes, lower_digits, encode_with, encode_lower}
+use Rattle.mod_layout.specs.declared.Section.{Section}
+use Rattle.mod_layout.specs.declared.Module.{Module}
+use Rattle.mod_layout.specs.declared.TableFault.{TableFault}
+use Rattle.mod_layout.specs.declared.TableFault.TheVariants.{Empty, Odd, Reserved, Full, Spent}
+use Rattle.mod_layout.specs.Table.{Table, fault_of, with_module, empty_table, shares, lowest_met, met_if, fault_if, overlap_or, is_empty, is_odd, is_reserved}
+use Rattle.mod_layout.specs.Tables.{Apart, IsSection, IsModule, Separate, SeparateFrom, AreModules}
+use Rattle.image_text.specs.declared.ImageFault.{ImageFault}
+use Rattle.image_text.specs.declared.ImageFault.TheVariants.{Line, Twice}
+use Rattle.image_text.specs.Image.{Image, IsImage, AreNumbered}
+use Rattle.image_text.specs.ImageText.{ended, hex_word, first_line, key_line, handler_line, count_line, module_line, row_line, end_line, count_text, modules_text, is_zero, rows_text, memory_text, text_after_key, image_text}
+use Rattle.image_text.specs.Refusal.{Spot, past, lines_from, tail_from, key_form, handler_form, module_form, row_form, fits, has_form, is_bad, bytes_at, word_at, section_at, count_of, is_row, rows_refusal, taken, added, one_less, modules_refusal, counted, count_refusal, handler_refusal, key_refusal, first_refusal, refusal_of}
+use Rattle.image_text.specs.Reading.{HasForm, due_next}
+use Rattle.image_text.proofs.FormLemmas.{formed_ok, marks, bytes_cons, bytes_nil, word_bytes, word_here, coded_at}
+use Rattle.image_text.proofs.StageLemmas.{Stage, none_due, one_due}
+
+-- ---- lines
+
+abbrev no_lf : List ℕ → Bool
+no_lf [] = true
+no_lf (b ∷ line) = not (b == 10) && no_lf line
+
+not_so : (b : Bool) → not b ≡ true → b ≡ false
+not_so true e = cc
+not_so false e = refl
+
+lines_of : (line front rest : List ℕ) → no_lf line ≡ true → lines_from front (ended line rest) ≡ (front ++ line) ∷ lines_from [] rest
+lines_of [] front rest e = ap (λ (l : List ℕ). l ∷ lines_from [] rest) (sym (append-nil front))
+lines_of (b ∷ line) front rest e =
+    let p = and_parts (not (b == 10)) (no_lf line) e in
+    let n = not_so (b == 10) p.0 in
+    rw n (lines_of line (front ++ b ∷ []) rest p.1 ∙ ap (λ (l : List ℕ). l ∷ lines_from [] rest) (append_assoc front (b ∷ []) line))
+
+tail_of : (line front rest : List ℕ) → no_lf line ≡ true → tail_from front (ended line rest) ≡ tail_from [] rest
+tail_of [] front rest e = refl
+tail_of (b ∷ line) front rest e =
+    let p = and_parts (not (b == 10)) (no_lf line) e in
+    let n = not_so (b == 10) p.0 in
+    rw n (tail_of line (front ++ b ∷ []) rest p.1)
+
+-- what a rule says of a text
+abbrev says : Stage → Spot → List ℕ → Option ImageFault
+says R s text = R s (lines_from [] text) (tail_from [] text)
+
+at_line : (R : Stage) (s : Spot) (line rest : List ℕ) → no_lf line ≡ true → says R s (ended line rest) ≡ R s (line ∷ lines_from [] rest) (tail_from [] rest)
+at_line R s line rest e = ap (λ (l : List (List ℕ)). R s l (tail_from [] (ended line rest))) (lines_of line [] rest e) ∙ ap (λ (t : List ℕ). R s (line ∷ lines_from [] rest) t) (tail_of line [] rest e)
+
+-- equal texts begin with equal lines
+line_one : (k l r s : List ℕ) → no_lf k ≡ true → no_lf l ≡ true → ended k r ≡ ended l s → (k ≡ l) × (r ≡ s)
+line_one k l r s p q e =
+    let both : k ∷ lines_from [] r ≡ l ∷ lines_from [] s = sym (lines_of k [] r p) ∙ ap (lines_from []) e ∙ lines_of l [] s q in
+    let same : k ≡ l = cc in
+    let ends : 10 ∷ r ≡ 10 ∷ s = append_cancel_left l (10 ∷ r) (10 ∷ s) (sym (ap (λ (x : List ℕ). ended x r) same) ∙ e) in
+    let rest : r ≡ s = cc in
+    (same, rest)
+
+-- ---- tests of all numbers below one
+
+abbrev all_below : (ℕ → Bool) → ℕ → Bool
+all_below f zero = true
+all_below f (suc n) = f n && all_below f n
+
+below_at : (f : ℕ → Bool) (n k : ℕ) → all_below f n ≡ true → k < n → f k ≡ true
+below_at f zero k h l = absurd (omega arith)
+below_at f (suc n) k h l =
+    let p = and_parts (f n) (all_below f n) h in
+    elim (cases_lt k n) [
+      | inl below ↦ below_at f n k p.1 below
+      | inr top ↦ let e : k ≡ n = omega arith in rw e p.0
+    ]
+
+-- ---- forms
+
+record Lined (form line : List ℕ) : Type 0 where
+  pub has : HasForm form line
+  pub plain : no_lf line ≡ true
+
+lined_nil : Lined [] []
+lined_nil = record { has = record { formed = refl; digits = λ at. refl }; plain = refl }
+
+lined_cons : (mark b : ℕ) (form line : List ℕ) → fits mark b ≡ true → is_bad mark b ≡ false → (b == 10) ≡ false → Lined form line → Lined (mark ∷ form) (b ∷ line)
+lined_cons mark b form line f g n h = let k = h.has in record {
+  has = record { formed = rw f (k.formed); digits = λ at. rw g (k.digits (at + 1)) };
+  plain = rw n h.plain;
+}
+
+abbrev is_word : List ℕ → Bool
+is_word [] = true
+is_word (c ∷ text) = (not (c == 35) && not (c == 10)) && is_word text
+
+lined_word : (text form line : List ℕ) → is_word text ≡ true → Lined form line → Lined (text ++ form) (text ++ line)
+lined_word [] form line w h = h
+lined_word (c ∷ text) form line w h =
+    let p = and_parts (not (c == 35) && not (c == 10)) (is_word text) w in
+    let q = and_parts (not (c == 35)) (not (c == 10)) p.0 in
+    let unmarked = not_so (c == 35) q.0 in
+    let own : (c == c) ≡ true = grind (arith, nat_tests) in
+    lined_cons c c (text ++ form) (text ++ line) (rw unmarked own) (rw unmarked refl) (not_so (c == 10) q.1) (lined_word text form line p.1 h)
+
+abbrev digit_test : ℕ → Bool
+digit_test d = fits 35 (get_or lower_digits d 0) && (not (is_bad 35 (get_or lower_digits d 0)) && not (get_or lower_digits d 0 == 10))
+
+lined_digit : (d : ℕ) (form line : List ℕ) → d < 16 → Lined form line → Lined (35 ∷ form) (get_or lower_digits d 0 ∷ line)
+lined_digit d form line l h =
+    let t = below_at digit_test 16 d refl l in
+    let p = and_parts (fits 35 (get_or lower_digits d 0)) (not (is_bad 35 (get_or lower_digits d 0)) && not (get_or lower_digits d 0 == 10)) t in
+    let q = and_parts (not (is_bad 35 (get_or lower_digits d 0))) (not (get_or lower_digits d 0 == 10)) p.1 in
+    lined_cons 35 (get_or lower_digits d 0) form line p.0 (not_so (is_bad 35 (get_or lower_digits d 0)) q.0) (not_so (get_or lower_digits d 0 == 10) q.1) h
+
+lined_bytes : (n : ℕ) (bytes form line : List ℕ) → length bytes ≡ n → IsBytes bytes → Lined form line → Lined (marks n ++ form) (encode_lower bytes ++ line)
+unfolding encode_with
+lined_bytes zero [] form line e b h = h
+lined_bytes zero (x ∷ bytes) form line e b h = absurd (omega arith)
+lined_bytes (suc n) [] form line e b h = absurd (omega arith)
+lined_bytes (suc n) (x ∷ bytes) form line e b h =
+    let small : x < 256 = b 0 in
+    lined_digit (x / 16) (35 ∷ (marks n ++ form)) (get_or lower_digits (x % 16) 0 ∷ (encode_lower bytes ++ line)) (omega arith)
+    (lined_digit (x % 16) (marks n ++ form) (encode_lower bytes ++ line) (omega arith)
+    (lined_bytes n bytes form line (omega (arith, e)) (λ k. b (suc k)) h))
+
+lined_last : (n : ℕ) (bytes : List ℕ) → length bytes ≡ n → IsBytes bytes → Lined (marks n) (encode_lower bytes)
+lined_last n bytes e b = subst (λ (f : List ℕ). Lined f (encode_lower bytes)) (append-nil (marks n)) (subst (Lined (marks n ++ [])) (append-nil (encode_lower bytes)) (lined_bytes n bytes [] [] e b lined_nil))
+
+lined_four : (w : ℕ) (form line : List ℕ) → w < 65536 → Lined form line → Lined (35 ∷ 35 ∷ 35 ∷ 35 ∷ form) (hex_word w ++ line)
+lined_four w form line l h = lined_bytes 2 (w / 256 ∷ w % 256 ∷ []) form line refl (word_bytes w l) h
+
+-- ---- lines of values
+
+record KeyText (key : List ℕ) : Type 0 where
+  pub lined : Lined key_form (key_line key)
+  pub key_is : bytes_at 4 36 (key_line key) ≡ key
+
+key_text : (key : List ℕ) → length key ≡ 16 → IsBytes key → KeyText key
+key_text key e b = record {
+  lined = lined_word (codes "key ") (marks 16) (encode_lower key) refl (lined_last 16 key e b);
+  key_is = (coded_at (key_line key) [] 4 16 key (omega arith) b e (sym (append-nil (encode_lower key)))).1;
+}
+
+record HandlerText (sp : ℕ) : Type 0 where
+  pub lined : Lined handler_form (handler_line sp)
+  pub sp_is : word_at 8 (handler_line sp) ≡ sp
+
+handler_text : (sp : ℕ) → sp < 65536 → HandlerText sp
+handler_text sp l = record {
+  lined = lined_word (codes "handler ") (marks 2) (hex_word sp) refl (lined_last 2 (sp / 256 ∷ sp % 256 ∷ []) refl (word_bytes sp l));
+  sp_is = (word_here (handler_line sp) [] 8 sp l (sym (append-nil (hex_word sp)))).1;
+}
+
+record RowText (at : ℕ) (row : List ℕ) : Type 0 where
+  pub lined : Lined row_form (row_line at row)
+  pub at_is : word_at 3 (row_line at row) ≡ at
+  pub row_is : bytes_at 8 40 (row_line at row) ≡ row
+
+text_of_row : (at : ℕ) (row : List ℕ) → at < 65536 → length row ≡ 16 → IsBytes row → RowText at row
+unfolding encode_with
+text_of_row at row l e b = record {
+  lined = lined_word (codes "at ") (marks 2 ++ (32 ∷ marks 16)) (hex_word at ++ (32 ∷ encode_lower row)) refl
+      (lined_four at (32 ∷ marks 16) (32 ∷ encode_lower row) l
+      (lined_word (32 ∷ []) (marks 16) (encode_lower row) refl (lined_last 16 row e b)));
+  at_is = (word_here (row_line at row) (32 ∷ encode_lower row) 3 at l refl).1;
+  row_is = (coded_at (row_line at row) [] 8 16 row (omega arith) b e (sym (append-nil (encode_lower row)))).1;
+}
+
+record IsSmall (m : Module) : Type 0 where
+  pub vendor : m.vendor < 65536
+  pub text_start : m.text.start < 65536
+  pub text_end : m.text.end < 65536
+  pub ram_start : m.ram.start < 65536
+  pub ram_end : m.ram.end < 65536
+
+record ModuleText (m : Module) : Type 0 where
+  pub lined : Lined module_form (module_line m)
+  pub vendor_is : word_at 7 (module_line m) ≡ m.vendor
+  pub text_is : section_at 12 (module_line m) ≡ m.text
+  pub ram_is : section_at 22 (module_line m) ≡ m.ram
+
+same_section : (a b : ℕ) (s : Section) → a ≡ s.start → b ≡ s.end → (λ (x : Section). x) record { start = a; end = b } ≡ s
+same_section a b s e f =
+    let by_start = λ (x : ℕ). let t : Section = record { start = x; end = b } in t in
+    let by_end = λ (x : ℕ). let t : Section = record { start = s.start; end = x } in t in
+    ap by_start e ∙ ap by_end f
+
+text_of_module : (m : Module) → IsSmall m → ModuleText m
+unfolding encode_with
+text_of_module m k =
+    let a = m.text.start in
+    let b = m.text.end in
+    let c = m.ram.start in
+    let d = m.ram.end in
+    let f4 = marks 2 in
+    let f3 = marks 2 ++ (32 ∷ f4) in
+    let f2 = marks 2 ++ (32 ∷ f3) in
+    let f1 = marks 2 ++ (32 ∷ f2) in
+    let t4 = hex_word d in
+    let t3 = hex_word c ++ (32 ∷ t4) in
+    let t2 = hex_word b ++ (32 ∷ t3) in
+    let t1 = hex_word a ++ (32 ∷ t2) in
+    let l4 : Lined f4 t4 = lined_last 2 (d / 256 ∷ d % 256 ∷ []) refl (word_bytes d k.ram_end) in
+    let l3 : Lined f3 t3 = lined_four c (32 ∷ f4) (32 ∷ t4) k.ram_start (lined_word (32 ∷ []) f4 t4 refl l4) in
+    let l2 : Lined f2 t2 = lined_four b (32 ∷ f3) (32 ∷ t3) k.text_end (lined_word (32 ∷ []) f3 t3 refl l3) in
+    let l1 : Lined f1 t1 = lined_four a (32 ∷ f2) (32 ∷ t2) k.text_start (lined_word (32 ∷ []) f2 t2 refl l2) in
+    record {
+      lined = lined_word (codes "module ") (marks 2 ++ (32 ∷ f1)) (hex_word m.vendor ++ (32 ∷ t1)) refl (lined_four m.vendor (32 ∷ f1) (32 ∷ t1) k.vendor (lined_word (32 ∷ []) f1 t1 refl l1));
+      vendor_is = (word_here (module_line m) (32 ∷ t1) 7 m.vendor k.vendor refl).1;
+      text_is = same_section _ _ m.text (word_here (module_line m) (32 ∷ t2) 12 a k.text_start refl).1 (word_here (module_line m) (32 ∷ t3) 17 b k.text_end refl).1;
+      ram_is = same_section _ _ m.ram (word_here (module_line m) (32 ∷ t4) 22 c k.ram_start refl).1 (word_here (module_line m) [] 27 d k.ram_end refl).1;
+    }
+
+abbrev count_test : ℕ → Bool
+count_test n = no_lf (count_line n) && (unwrap_or (count_of (count_line n)) 99 == n)
+
+record CountText (n : ℕ) : Type 0 where
+  pub plain : no_lf (count_line n) ≡ true
+  pub count_is : count_of (count_line n) ≡ Some n
+
+some_of : (o : Option ℕ) (n : ℕ) → n < 99 → unwrap_or o 99 ≡ n → o ≡ Some n
+some_of (Some v) n l e = ap Some e
+some_of None n l e = absurd (omega arith)
+
+text_of_count : (n : ℕ) → n ≤ 32 → CountText n
+text_of_count n l =
+    let t = below_at count_test 33 n refl (omega arith) in
+    let p = and_parts (no_lf (count_line n)) (unwrap_or (count_of (count_line n)) 99 == n) t in
+    record { plain = p.0; count_is = some_of (count_of (count_line n)) n (omega arith) (eqb-true (unwrap_or (count_of (count_line n)) 99) n p.1) }
+
+-- ---- modules of one text
+
+small_module : (g : ℕ) (m : Module) → IsModule g m → m.vendor < 65536 → IsSmall m
+small_module g m h v =
+    let t = h.text_ok in
+    let r = h.ram_ok in
+    let a = t.order in
+    let b = t.high in
+    let c = r.order in
+    let d = r.high in
+    record { vendor = v; text_start = omega (arith, a, b); text_end = omega (arith, b); ram_start = omega (arith, c, d); ram_end = omega (arith, d) }
+
+same_module : (m n : Module) → m.id ≡ n.id → m.vendor ≡ n.vendor → m.text ≡ n.text → m.ram ≡ n.ram → m ≡ n
+same_module m n a b c d =
+    let by_id = λ (x : ℕ). let t : Module = record { id = x; vendor = m.vendor; text = m.text; ram = m.ram } in t in
+    let by_vendor = λ (x : ℕ). let t : Module = record { id = n.id; vendor = x; text = m.text; ram = m.ram } in t in
+    let by_text = λ (x : Section). let t : Module = record { id = n.id; vendor = n.vendor; text = x; ram = m.ram } in t in
+    let by_ram = λ (x : Section). let t : Module = record { id = n.id; vendor = n.vendor; text = n.text; ram = x } in t in
+    ap by_id a ∙ ap by_vendor b ∙ ap by_text c ∙ ap by_ram d
+
+-- lists that differ at a place
+other_place : (a b n : ℕ) (r s : List ℕ) → (a == b) ≡ false → get_or r n 0 ≡ a → get_or s n 0 ≡ b → r ≡ s → ⊥
+other_place a b n r s ne p q e = let same : a ≡ b = sym p ∙ ap (λ (l : List ℕ). get_or l n 0) e ∙ q in let t : (a == b) ≡ true = grind (arith, nat_tests) in let f : true ≡ false = sym t ∙ ne in cc
+
+-- no module's line begins this text
+abbrev NoModule : List ℕ → Type 0
+NoModule text = (x : List ℕ) → 109 ∷ x ≡ text → ⊥
+
+no_module : (n at : ℕ) (memory : List ℕ) → NoModule (rows_text n at memory (ended end_line []))
+unfolding rows_text
+no_module zero at memory x e = other_place 109 101 0 _ _ refl refl refl e
+no_module (suc n) at memory x e = by (is_zero (take 16 memory)) e (no_module n (at + 16) (drop 16 memory) x)
+  where
+    by : (c : Bool) → 109 ∷ x ≡ cond c (rows_text n (at + 16) (drop 16 memory) (ended end_line [])) (ended (row_line at (take 16 memory)) (rows_text n (at + 16) (drop 16 memory) (ended end_line [])))
+        → (109 ∷ x ≡ rows_text n (at + 16) (drop 16 memory) (ended end_line []) → ⊥) → ⊥
+    by true f r = r f
+    by false f r = other_place 109 97 0 _ _ refl refl refl f
+
+modules_one : (ms ns : List Module) (k g h : ℕ) (r s : List ℕ) → AreNumbered k ms → AreNumbered k ns → AreModules g ms → AreModules h ns → NoModule r → NoModule s
+    → modules_text ms r ≡ modules_text ns s → (ms ≡ ns) × (r ≡ s)
+modules_one [] [] k g h r s a b c d p q e = (refl, e)
+modules_one [] (n ∷ ns) k g h r s a b c d p q e = absurd (p _ (sym e))
+modules_one (m ∷ ms) [] k g h r s a b c d p q e = absurd (q _ e)
+modules_one (m ∷ ms) (n ∷ ns) k g h r s a b c d p q e =
+    let x = text_of_module m (small_module g m c.0 a.1) in
+    let y = text_of_module n (small_module h n d.0 b.1) in
+    let t = line_one (module_line m) (module_line n) (modules_text ms r) (modules_text ns s) x.lined.plain y.lined.plain e in
+    let u = modules_one ms ns (k + 1) g h r s a.2 b.2 c.2 d.2 p q t.1 in
+    let one : m ≡ n = same_module m n (a.0 ∙ sym b.0)
+    (sym x.vendor_is ∙ ap (word_at 7) t.0 ∙ y.vendor_is)
+    (sym x.text_is ∙ ap (section_at 12) t.0 ∙ y.text_is)
+    (sym x.ram_is ∙ ap (section_at 22) t.0 ∙ y.ram_is) in
+    (ap (λ (z : Module). z ∷ ms) one ∙ ap (λ (z : List Module). n ∷ z) u.0, u.1)
+
+-- ---- rows of one text
+
+bytes_drop : (n : ℕ) (xs : List ℕ) → IsBytes xs → IsBytes (drop n xs)
+bytes_drop zero xs h = h
+bytes_drop (suc n) [] h = h
+bytes_drop (suc n) (x ∷ xs) h = bytes_drop n xs (λ i. h (suc i))
+
+bytes_take : (n : ℕ) (xs : List ℕ) → IsBytes xs → IsBytes (take n xs)
+bytes_take zero xs h = bytes_nil
+bytes_take (suc n) [] h = h
+bytes_take (suc n) (x ∷ xs) h = bytes_cons x (take n xs) (h 0) (bytes_take n xs (λ i. h (suc i)))
+
+zeros_one : (xs ys : List ℕ) → length xs ≡ length ys → is_zero xs ≡ true → is_zero ys ≡ true → xs ≡ ys
+zeros_one [] [] l p q = refl
+zeros_one [] (y ∷ ys) l p q = absurd (omega arith)
+zeros_one (x ∷ xs) [] l p q = absurd (omega arith)
+zeros_one (x ∷ xs) (y ∷ ys) l p q =
+    let a = and_parts (x == 0) (is_zero xs) p in
+    let b = and_parts (y == 0) (is_zero ys) q in
+    let first : x ≡ y = eqb-true x 0 a.0 ∙ sym (eqb-true y 0 b.0) in
+    let rest = zeros_one xs ys (omega (arith, l)) a.1 b.1 in
+    ap (λ (z : ℕ). z ∷ xs) first ∙ ap (λ (z : List ℕ). y ∷ z) rest
+
+row_one : (a b : ℕ) (x y r s : List ℕ) → a < 65536 → b < 65536 → length x ≡ 16 → length y ≡ 16 → IsBytes x → IsBytes y → ended (row_line a x) r ≡ ended (row_line b y) s → (a ≡ b) × (x ≡ y) × (r ≡ s)
+row_one a b x y r s la lb lx ly p q e =
+    let t = text_of_row a x la lx p in
+    let u = text_of_row b y lb ly q in
+    let k = line_one (row_line a x) (row_line b y) r s t.lined.plain u.lined.plain e in
+    (sym t.at_is ∙ ap (word_at 3) k.0 ∙ u.at_is, sym t.row_is ∙ ap (bytes_at 8 40) k.0 ∙ u.row_is, k.1)
+
+first_row : (n : ℕ) (memory : List ℕ) → length memory ≡ 16 * suc n → length (take 16 memory) ≡ 16
+first_row n memory l = omega (arith, length-take 16 memory)
+
+later_rows : (n : ℕ) (memory : List ℕ) → length memory ≡ 16 * suc n → length (drop 16 memory) ≡ 16 * n
+later_rows n memory l = omega (arith, length-drop 16 memory)
+
+-- no line of these rows is for a row before them
+no_line : (n at next : ℕ) (row memory rest : List ℕ) → at < next → next + 16 * n ≤ 65536 → length row ≡ 16 → IsBytes row → length memory ≡ 16 * n → IsBytes memory → ended (row_line at row) rest ≡ rows_text n next memory (ended end_line []) → ⊥
+unfolding rows_text
+no_line zero at next row memory rest l m len p mem q e = other_place 97 101 0 _ _ refl refl refl e
+no_line (suc n) at next row memory rest l m len p mem q e =
+    by (is_zero (take 16 memory)) e (no_line n at (next + 16) row (drop 16 memory) rest (omega arith) (omega arith) len p (later_rows n memory mem) (bytes_drop 16 memory q))
+  where
+    by : (c : Bool) → ended (row_line at row) rest ≡ cond c (rows_text n (next + 16) (drop 16 memory) (ended end_line [])) (ended (row_line next (take 16 memory)) (rows_text n (next + 16) (drop 16 memory) (ended end_line [])))
+        → (ended (row_line at row) rest ≡ rows_text n (next + 16) (drop 16 memory) (ended end_line []) → ⊥) → ⊥
+    by true f r = r f
+    by false f r = let k = row_one at next row (take 16 memory) rest _ (omega arith) (omega arith) len (first_row n memory mem) p (bytes_take 16 memory q) f in omega (arith, k.0)
+
+nil_of : (m : List ℕ) → length m ≡ 0 → m ≡ []
+nil_of [] e = refl
+nil_of (x ∷ m) e = absurd (omega arith)
+
+joined_parts : (n : ℕ) (m k : List ℕ) → take n m ≡ take n k → drop n m ≡ drop n k → m ≡ k
+joined_parts n m k a b = sym (take-append-drop n m) ∙ ap (λ (l : List ℕ). l ++ drop n m) a ∙ ap (λ (l : List ℕ). take n k ++ l) b ∙ take-append-drop n k
+
+rows_one : (n at : ℕ) (m k : List ℕ) → at + 16 * n ≤ 65536 → length m ≡ 16 * n → length k ≡ 16 * n → IsBytes m → IsBytes k
+    → rows_text n at m (ended end_line []) ≡ rows_text n at k (ended end_line []) → m ≡ k
+unfolding rows_text
+rows_one zero at m k room lm lk p q e = nil_of m (omega (arith, lm)) ∙ sym (nil_of k (omega (arith, lk)))
+rows_one (suc n) at m k room lm lk p q e =
+    by (is_zero (take 16 m)) (is_zero (take 16 k)) refl refl e
+    (rows_one n (at + 16) (drop 16 m) (drop 16 k) (omega arith) (later_rows n m lm) (later_rows n k lk) (bytes_drop 16 m p) (bytes_drop 16 k q))
+  where
+    by : (b c : Bool) → is_zero (take 16 m) ≡ b → is_zero (take 16 k) ≡ c
+        → cond b (rows_text n (at + 16) (drop 16 m) (ended end_line [])) (ended (row_line at (take 16 m)) (rows_text n (at + 16) (drop 16 m) (ended end_line [])))
+        ≡ cond c (rows_text n (at + 16) (drop 16 k) (ended end_line [])) (ended (row_line at (take 16 k)) (rows_text n (at + 16) (drop 16 k) (ended end_line [])))
+        → (rows_text n (at + 16) (drop 16 m) (ended end_line []) ≡ rows_text n (at + 16) (drop 16 k) (ended end_line []) → drop 16 m ≡ drop 16 k) → m ≡ k
+    by true true y z f r = joined_parts 16 m k (zeros_one (take 16 m) (take 16 k) (first_row n m lm ∙ sym (first_row n k lk)) y z) (r f)
+    by true false y z f r = absurd (no_line n at (at + 16) (take 16 k) (drop 16 m) _ (omega arith) (omega arith) (first_row n k lk) (bytes_take 16 k q) (later_rows n m lm) (bytes_drop 16 m p) (sym f))
+    by false true y z f r = absurd (no_line n at (at + 16) (take 16 m) (drop 16 k) _ (omega arith) (omega arith) (first_row n m lm) (bytes_take 16 m p) (later_rows n k lk) (bytes_drop 16 k q) f)
+    by false false y z f r =
+        let t = row_one at at (take 16 m) (take 16 k) _ _ (omega arith) (omega arith) (first_row n m lm) (first_row n k lk) (bytes_take 16 m p) (bytes_take 16 k q) f in
+        joined_parts 16 m k t.1 (r t.2)
+
+same_front : (n : ℕ) (m k : List ℕ) → n ≤ length m → n ≤ length k → ((a : ℕ) → a < n → slice_index m a ≡ 0) → ((a : ℕ) → a < n → slice_index k a ≡ 0) → take n m ≡ take n k
+same_front zero m k l r p q = refl
+same_front (suc n) [] k l r p q = absurd (omega arith)
+same_front (suc n) (x ∷ m) [] l r p q = absurd (omega arith)
+same_front (suc n) (x ∷ m) (y ∷ k) l r p q =
+    let first : x ≡ y = p 0 (omega arith) ∙ sym (q 0 (omega arith)) in
+    let rest = same_front n m k (omega (arith, l)) (omega (arith, r)) (λ a f. p (suc a) (omega arith)) (λ a f. q (suc a) (omega arith)) in
+    ap (λ (z : ℕ). z ∷ take n m) first ∙ ap (λ (z : List ℕ). y ∷ z) rest
+
+-- ---- images of one text
+
+first_plain : (room : ℕ) → (room ≡ 8) ⊎ (room ≡ 32) → no_lf (first_line room) ≡ true
+first_plain room h = ⊎_elim (λ e. subst (λ (r : ℕ). no_lf (first_line r) ≡ true) (sym e) refl) (λ e. subst (λ (r : ℕ). no_lf (first_line r) ≡ true) (sym e) refl) h
+
+first_one : (a b : ℕ) → (a ≡ 8) ⊎ (a ≡ 32) → (b ≡ 8) ⊎ (b ≡ 32) → first_line a ≡ first_line b → a ≡ b
+first_one a b (inl p) (inl q) e = p ∙ sym q
+first_one a b (inr p) (inr q) e = p ∙ sym q
+first_one a b (inl p) (inr q) e =
+    let f : codes "sancus-image 1" ≡ codes "sancus-image 2" = sym (ap first_line p) ∙ e ∙ ap first_line q in
+    absurd (other_place 49 50 13 _ _ refl refl refl f)
+first_one a b (inr p) (inl q) e =
+    let f : codes "sancus-image 2" ≡ codes "sancus-image 1" = sym (ap first_line p) ∙ e ∙ ap first_line q in
+    absurd (other_place 50 49 13 _ _ refl refl refl f)
+
+count_one : (room a b : ℕ) (r s : List ℕ) → a ≤ 32 → b ≤ 32 → count_text room a r ≡ count_text room b s → r ≡ s
+count_one room a b r s la lb e = by (room == 8) e
+  where
+    by : (c : Bool) → cond c r (ended (count_line a) r) ≡ cond c s (ended (count_line b) s) → r ≡ s
+    by true f = f
+    by false f = let x = text_of_count a la in let y = text_of_count b lb in (line_one (count_line a) (count_line b) r s x.plain y.plain f).1
+
+same_table : (t u : Table) → t.modules ≡ u.modules → t.given ≡ u.given → t.room ≡ u.room → t ≡ u
+same_table t u a b c =
+    let by_modules = λ (x : List Module). let v : Table = record { modules = x; given = t.given; room = t.room } in v in
+    let by_given = λ (x : ℕ). let v : Table = record { modules = u.modules; given = x; room = t.room } in v in
+    let by_room = λ (x : ℕ). let v : Table = record { modules = u.modules; given = u.given; room = x } in v in
+    ap by_modules a ∙ ap by_given b ∙ ap by_room c
+
+same_image : (i j : Image) → i.memory ≡ j.memory → i.table ≡ j.table → i.node_key ≡ j.node_key → i.handler_sp ≡ j.handler_sp → i ≡ j
+same_image i j a b c d =
+    let by_memory = λ (x : List ℕ). let v : Image = record { memory = x; table = i.table; node_key = i.node_key; handler_sp = i.handler_sp } in v in
+    let by_table = λ (x : Table). let v : Image = record { memory = j.memory; table = x; node_key = i.node_key; handler_sp = i.handler_sp } in v in
+    let by_key = λ (x : List ℕ). let v : Image = record { memory = j.memory; table = j.table; node_key = x; handler_sp = i.handler_sp } in v in
+    let by_handler = λ (x : ℕ). let v : Image = record { memory = j.memory; table = j.table; node_key = j.node_key; handler_sp = x } in v in
+    ap by_memory a ∙ ap by_table b ∙ ap by_key c ∙ ap by_handler d
+
+few_given : (i : Image) → IsImage i → i.table.given ≤ 32
+few_given i h =
+    let t = h.table_ok in
+    let f = t.fits in
+    let a = h.all_held in
+    ⊎_elim (λ e. omega (arith, e, f, a)) (λ e. omega (arith, e, f, a)) t.room_ok
+
+-- no other image has the text of an image
+pub images_of_one_text : (i j : Image) → IsImage i → IsImage j → image_text i ≡ image_text j → i ≡ j
+unfolding image_text
+images_of_one_text i j p q e =
+    let pt = p.table_ok in
+    let qt = q.table_ok in
+    let rest_i : List ℕ = memory_text i.memory in
+    let rest_j : List ℕ = memory_text j.memory in
+    let a = line_one (first_line i.table.room) (first_line j.table.room) _ _ (first_plain i.table.room pt.room_ok) (first_plain j.table.room qt.room_ok) e in
+    let room : i.table.room ≡ j.table.room = first_one i.table.room j.table.room pt.room_ok qt.room_ok a.0 in
+    let ki = key_text i.node_key p.sixteen p.key_bytes in
+    let kj = key_text j.node_key q.sixteen q.key_bytes in
+    let b = line_one (key_line i.node_key) (key_line j.node_key) _ _ ki.lined.plain kj.lined.plain a.1 in
+    let key : i.node_key ≡ j.node_key = sym ki.key_is ∙ ap (bytes_at 4 36) b.0 ∙ kj.key_is in
+    let hi = handler_text i.handler_sp p.small_sp in
+    let hj = handler_text j.handler_sp q.small_sp in
+    let c = line_one (handler_line i.handler_sp) (handler_line j.handler_sp) _ _ hi.lined.plain hj.lined.plain b.1 in
+    let sp : i.handler_sp ≡ j.handler_sp = sym hi.sp_is ∙ ap (word_at 8) c.0 ∙ hj.sp_is in
+    let d = count_one j.table.room i.table.given j.table.given (modules_text i.table.modules rest_i) (modules_text j.table.modules rest_j) (few_given i p) (few_given j q)
+    (sym (ap (λ (n : ℕ). count_text n i.table.given (modules_text i.table.modules rest_i)) room) ∙ c.1) in
+    let f = modules_one i.table.modules j.table.modules 1 i.table.given j.table.given rest_i rest_j p.numbered q.numbered pt.modules qt.modules
+    (no_module 4064 512 (drop 512 i.memory)) (no_module 4064 512 (drop 512 j.memory)) d in
+    let given : i.table.given ≡ j.table.given = sym p.all_held ∙ ap length f.0 ∙ q.all_held in
+    let fi = p.full in
+    let fj = q.full in
+    let high : drop 512 i.memory ≡ drop 512 j.memory = rows_one 4064 512 (drop 512 i.memory) (drop 512 j.memory) (omega arith) (omega (arith, fi, length-drop 512 i.memory)) (omega (arith, fj, length-drop 512 j.memory)) (bytes_drop 512 i.memory p.bytes) (bytes_drop 512 j.memory q.bytes) f.1 in
+    let low : take 512 i.memory ≡ take 512 j.memory = same_front 512 i.memory j.memory (omega (arith, fi)) (omega (arith, fj)) p.low q.low in
+    same_image i j (joined_parts 512 i.memory j.memory low high) (same_table i.table j.table f.0 given room) key sp
+
+-- ---- no refusal: the rows
+
+abbrev placed_by : ℕ → Spot → ℕ → List ℕ → Option ImageFault → Option ImageFault
+placed_by last s at row rest = cond (is_row last at row) (cond (at == last) (Some (Twice at)) rest) (Some (Line s.number))
+
+row_serves : (at last : ℕ) (row : List ℕ) → at % 16 ≡ 0 → 512 ≤ at → last < at → is_zero row ≡ false → (is_row last at row ≡ true) × ((at == last) ≡ false)
+row_serves at last row even high above filled =
+    let a : (at % 16 == 0) ≡ true = grind (arith, nat_tests) in
+    let b : nat_lt at 512 ≡ false = grind (arith, nat_tests) in
+    let c : nat_lt at last ≡ false = grind (arith, nat_tests) in
+    let d : (at == last) ≡ false = grind (arith, nat_tests) in
+    (all (at % 16 == 0) (nat_lt at 512) (is_zero row) (nat_lt at last) a b filled c, d)
+  where
+    all : (x y z w : Bool) → x ≡ true → y ≡ false → z ≡ false → w ≡ false → (x && not y && not z && not w) ≡ true
+    all x y z w e f g h = rw (e, f, g, h) refl
+
+row_ok : (at last : ℕ) (row rest : List ℕ) (s : Spot) → at % 16 ≡ 0 → 512 ≤ at → at < 65536 → last < at → length row ≡ 16 → IsBytes row → is_zero row ≡ false
+    → says (rows_refusal last) s (ended (row_line at row) rest) ≡ says (rows_refusal at) (past (row_line at row) s) rest
+row_ok at last row rest s even high small above len are filled =
+    let t = text_of_row at row small len are in
+    let k = row_serves at last row even high above filled in
+    let line : List ℕ = row_line at row in
+    let next : Spot = past line s in
+    at_line (rows_refusal last) s line rest t.lined.plain
+    ∙ formed_ok row_form s (row_line at row) _ t.lined.has
+    ∙ ap (λ (a : ℕ). placed_by last s a (bytes_at 8 40 line) (says (rows_refusal a) next rest)) t.at_is
+    ∙ ap (λ (r : List ℕ). placed_by last s at r (says (rows_refusal at) next rest)) t.row_is
+    ∙ ap (λ (b : Bool). cond b (cond (at == last) (Some (Twice at)) (says (rows_refusal at) next rest)) (Some (Line s.number))) k.0
+    ∙ ap (λ (b : Bool). cond b (Some (Twice at)) (says (rows_refusal at) next rest)) k.1
+
+rows_ok : (n at last : ℕ) (memory : List ℕ) (s : Spot) → at % 16 ≡ 0 → 512 ≤ at → at + 16 * n ≤ 65536 → last < at → length memory ≡ 16 * n → IsBytes memory
+    → says (rows_refusal last) s (rows_text n at memory (ended end_line [])) ≡ None
+unfolding rows_text
+rows_ok zero at last memory s even high room above len are = at_line (rows_refusal last) s end_line [] refl
+rows_ok (suc n) at last memory s even high room above len are =
+    by (is_zero (take 16 memory)) refl
+    (λ l q below. rows_ok n (at + 16) l (drop 16 memory) q (omega arith) (omega arith) (omega arith) below (later_rows n memory len) (bytes_drop 16 memory are))
+  where
+    by : (c : Bool) → is_zero (take 16 memory) ≡ c
+        → ((l : ℕ) (q : Spot) → l < at + 16 → says (rows_refusal l) q (rows_text n (at + 16) (drop 16 memory) (ended end_line [])) ≡ None)
+        → says (rows_refusal last) s (cond c (rows_text n (at + 16) (drop 16 memory) (ended end_line [])) (ended (row_line at (take 16 memory)) (rows_text n (at + 16) (drop 16 memory) (ended end_line [])))) ≡ None
+    by true z rest = rest last s (omega arith)
+    by false z rest =
+        row_ok at last (take 16 memory) (rows_text n (at + 16) (drop 16 memory) (ended end_line [])) s even high (omega arith) above (first_row n memory len) (bytes_take 16 memory are) z
+        ∙ rest at (past (row_line at (take 16 memory)) s) (omega arith)
+
+-- no row's line is a module's
+rows_not_due : (n at : ℕ) (memory : List ℕ) → at + 16 * n ≤ 65536 → length memory ≡ 16 * n → IsBytes memory → due_next None (lines_from [] (rows_text n at memory (ended end_line []))) ≡ false
+unfolding rows_text
+rows_not_due zero at memory room len are = ap (due_next None) (lines_of end_line [] [] refl)
+rows_not_due (suc n) at memory room len are =
+    by (is_zero (take 16 memory)) (rows_not_due n (at + 16) (drop 16 memory) (omega arith) (later_rows n memory len) (bytes_drop 16 memory are))
+  where
+    by : (c : Bool) → due_next None (lines_from [] (rows_text n (at + 16) (drop 16 memory) (ended end_line []))) ≡ false
+        → due_next None (lines_from [] (cond c (rows_text n (at + 16) (drop 16 memory) (ended end_line [])) (ended (row_line at (take 16 memory)) (rows_text n (at + 16) (drop 16 memory) (ended end_line []))))) ≡ false
+    by true rest = rest
+    by false rest =
+        let t = text_of_row at (take 16 memory) (omega arith) (first_row n memory len) (bytes_take 16 memory are) in
+        ap (due_next None) (lines_of (row_line at (take 16 memory)) [] (rows_text n (at + 16) (drop 16 memory) (ended end_line [])) t.lined.plain)
+
+-- ---- no refusal: the modules
+
+shares_not : (a b : Section) → Apart a b → (shares a b ≡ false) × (shares b a ≡ false)
+shares_not a b h = ⊎_elim (λ l. (second (nat_lt a.start b.end) (nat_lt b.start a.end) (grind (arith, nat_tests)), first (nat_lt b.start a.end) (nat_lt a.start b.end) (grind (arith, nat_tests))))
+    (λ l. (first (nat_lt a.start b.end) (nat_lt b.start a.end) (grind (arith, nat_tests)), second (nat_lt b.start a.end) (nat_lt a.start b.end) (grind (arith, nat_tests)))) h
+  where
+    first : (x y : Bool) → x ≡ false → (x && y) ≡ false
+    first x y e = rw e refl
+
+    second : (x y : Bool) → y ≡ false → (x && y) ≡ false
+    second true y e = e
+    second false y e = refl
+
+abbrev ApartFrom : List Module → Module → Type 0
+ApartFrom [] m = Unit {0}
+ApartFrom (x ∷ xs) m = Separate x m × ApartFrom xs m
+
+lowest_none : (xs : List Module) (m : Module) → ApartFrom xs m → lowest_met m.text m.ram xs ≡ None
+lowest_none [] m h = refl
+lowest_none (x ∷ xs) m h =
+    let s = h.0 in
+    let none = meet_not (shares m.text x.text) (shares m.text x.ram) (shares m.ram x.text) (shares m.ram x.ram)
+    (shares_not x.text m.text s.texts).1 (shares_not x.ram m.text s.ram_text).1 (shares_not x.text m.ram s.text_ram).1 (shares_not x.ram m.ram s.rams).1 in
+    ap (λ (b : Bool). met_if b x.id (lowest_met m.text m.ram xs)) none ∙ lowest_none xs m h.1
+  where
+    meet_not : (a b c d : Bool) → a ≡ false → b ≡ false → c ≡ false → d ≡ false → (a || b || c || d) ≡ false
+    meet_not a b c d e f g h = rw (e, f, g, h) refl
+
+record IsFine (s : Section) : Type 0 where
+  pub filled : is_empty s ≡ false
+  pub even : is_odd s ≡ false
+  pub free : is_reserved s ≡ false
+
+is_fine : (s : Section) → IsSection s → IsFine s
+is_fine s h =
+    let l = h.order in
+    let lo = h.low in
+    let hi = h.high in
+    let es = h.even_start in
+    let ee = h.even_end in
+    let a : nat_lt s.start s.end ≡ true = grind (arith, nat_tests) in
+    let b : (s.start % 2 == 0) ≡ true = grind (arith, nat_tests) in
+    let c : (s.end % 2 == 0) ≡ true = grind (arith, nat_tests) in
+    let d : nat_lt s.start 512 ≡ false = grind (arith, nat_tests) in
+    let e : nat_lt 65504 s.end ≡ false = grind (arith, nat_tests) in
+    record { filled = ap not a; even = evens (s.start % 2 == 0) (s.end % 2 == 0) b c; free = frees (nat_lt s.start 512) (nat_lt 65504 s.end) d e }
+  where
+    evens : (x y : Bool) → x ≡ true → y ≡ true → not (x && y) ≡ false
+    evens x y p q = rw (p, q) refl
+
+    frees : (x y : Bool) → x ≡ false → y ≡ false → (x || y) ≡ false
+    frees x y p q = rw (p, q) refl
+
+no_fault : (t : Table) (g : ℕ) (m : Module) → IsModule g m → ApartFrom t.modules m → length t.modules < t.room → t.given < 65535 → fault_of t m.text m.ram ≡ None
+no_fault t g m h apart room few =
+    let a = is_fine m.text h.text_ok in
+    let b = is_fine m.ram h.ram_ok in
+    let c = lowest_none t.modules m apart in
+    let own = (shares_not m.ram m.text h.apart).1 in
+    let e : nat_lt (length t.modules) t.room ≡ true = grind (arith, nat_tests) in
+    let f : nat_lt t.given 65535 ≡ true = grind (arith, nat_tests) in
+    steps (is_empty m.text) (is_empty m.ram) (is_odd m.text) (is_odd m.ram) (is_reserved m.text) (is_reserved m.ram) (shares m.text m.ram) (nat_lt (length t.modules) t.room) (nat_lt t.given 65535) (lowest_met m.text m.ram t.modules)
+    a.filled b.filled a.even b.even a.free b.free own e f c
+  where
+    steps : (a b c d e f g h i : Bool) (o : Option ℕ) → a ≡ false → b ≡ false → c ≡ false → d ≡ false → e ≡ false → f ≡ false → g ≡ false → h ≡ true → i ≡ true → o ≡ None
+        → fault_if (a || b) Empty (fault_if (c || d) Odd (overlap_or o g (fault_if (e || f) Reserved (fault_if (not h) Full (fault_if (not i) Spent None))))) ≡ None
+    steps a b c d e f g h i o p1 p2 p3 p4 p5 p6 p7 p8 p9 p10 = rw (p1, p2, p3, p4, p10, p7, p5, p6, p8, p9) refl
+
+abbrev AllApart : List Module → List Module → Type 0
+AllApart [] ms = Unit {0}
+AllApart (x ∷ xs) ms = SeparateFrom x ms × AllApart xs ms
+
+heads_apart : (xs : List Module) (m : Module) (ms : List Module) → AllApart xs (m ∷ ms) → ApartFrom xs m
+heads_apart [] m ms h = tt
+heads_apart (x ∷ xs) m ms h = (h.0.0, heads_apart xs m ms h.1)
+
+more_apart : (xs : List Module) (m : Module) (ms : List Module) → AllApart xs (m ∷ ms) → SeparateFrom m ms → AllApart (xs ++ m ∷ []) ms
+more_apart [] m ms h s = (s, tt)
+more_apart (x ∷ xs) m ms h s = (h.0.1, more_apart xs m ms h.1 s)
+
+-- so many modules are due
+abbrev AreDue : Option ℕ → ℕ → Type 0
+AreDue None n = Unit {0}
+AreDue (Some k) n = k ≡ n
+
+due_here : (left : Option ℕ) (n : ℕ) (line : List ℕ) (more : List (List ℕ)) → AreDue left (suc n) → has_form module_form line ≡ true → due_next left (line ∷ more) ≡ true
+due_here None n line more d h = h
+due_here (Some k) n line more d h = let z : (k == 0) ≡ false = grind (arith, nat_tests) in ap not z
+
+due_less : (left : Option ℕ) (n : ℕ) → AreDue left (suc n) → AreDue (one_less left) n
+due_less None n d = tt
+due_less (Some k) n d = omega (arith, d)
+
+due_over : (left : Option ℕ) (lines : List (List ℕ)) → AreDue left 0 → due_next None lines ≡ false → due_next left lines ≡ false
+due_over None lines d h = h
+due_over (Some k) lines d h = let z : (k == 0) ≡ true = grind (arith, nat_tests) in ap not z
+
+module_ok : (t u : Table) (left : Option ℕ) (s : Spot) (line rest : List ℕ) → no_lf line ≡ true → HasForm module_form line → due_next left (line ∷ lines_from [] rest) ≡ true
+    → fault_of t (section_at 12 line) (section_at 22 line) ≡ None → added t line ≡ u
+    → says (modules_refusal t left) s (ended line rest) ≡ says (modules_refusal u (one_less left)) (past line s) rest
+module_ok t u left s line rest plain has due none is =
+    at_line (modules_refusal t left) s line rest plain
+    ∙ one_due t left s line (lines_from [] rest) (tail_from [] rest) due
+    ∙ formed_ok module_form s line _ has
+    ∙ ap (λ (o : Option TableFault). taken o (t.given + 1) (says (modules_refusal (added t line) (one_less left)) (past line s) rest)) none
+    ∙ ap (λ (v : Table). says (modules_refusal v (one_less left)) (past line s) rest) is
+
+modules_ok : (ms xs : List Module) (g k room : ℕ) (left : Option ℕ) (s : Spot) (rest : List ℕ) → g ≡ length xs → length xs + length ms ≤ room → room ≤ 32 → AreNumbered (g + 1) ms → AreModules k ms → AllApart xs ms
+    → AreDue left (length ms) → due_next None (lines_from [] rest) ≡ false → ((q : Spot) → says (rows_refusal 496) q rest ≡ None)
+    → says (modules_refusal record { modules = xs; given = g; room = room } left) s (modules_text ms rest) ≡ None
+modules_ok [] xs g k room left s rest gl held small num mods apart due other after =
+    none_due record { modules = xs; given = g; room = room } left s (lines_from [] rest) (tail_from [] rest) (due_over left (lines_from [] rest) due other) ∙ after s
+modules_ok (m ∷ ms) xs g k room left s rest gl held small num mods apart due other after =
+    let x = text_of_module m (small_module k m mods.0 num.1) in
+    let line : List ℕ = module_line m in
+    let t : Table = record { modules = xs; given = g; room = room } in
+    let u : Table = record { modules = xs ++ m ∷ []; given = g + 1; room = room } in
+    let fine : fault_of t m.text m.ram ≡ None = no_fault t k m mods.0 (heads_apart xs m ms apart) (omega (arith, held)) (omega (arith, gl, held, small)) in
+    let none : fault_of t (section_at 12 line) (section_at 22 line) ≡ None = ap (λ (a : Section). fault_of t a (section_at 22 line)) x.text_is ∙ ap (λ (b : Section). fault_of t m.text b) x.ram_is ∙ fine in
+    let by_vendor : added t line ≡ with_module t m.vendor m.text m.ram = ap (λ (v : ℕ). with_module t v (section_at 12 line) (section_at 22 line)) x.vendor_is
+    ∙ ap (λ (a : Section). with_module t m.vendor a (section_at 22 line)) x.text_is ∙ ap (λ (b : Section). with_module t m.vendor m.text b) x.ram_is in
+    let with_id = λ (i : ℕ). let n : Module = record { id = i; vendor = m.vendor; text = m.text; ram = m.ram } in let v : Table = record { modules = xs ++ n ∷ []; given = g + 1; room = room } in v in
+    let is : added t line ≡ u = by_vendor ∙ ap with_id (sym num.0) in
+    module_ok t u left s line (modules_text ms rest) x.lined.plain x.lined.has (due_here left (length ms) line (lines_from [] (modules_text ms rest)) due (let f = x.lined.has in f.formed)) none is
+    ∙ modules_ok ms (xs ++ m ∷ []) (g + 1) k room (one_less left) (past line s) rest (omega (arith, gl, length-append xs (m ∷ []))) (omega (arith, held, length-append xs (m ∷ []))) small num.2 mods.2 (more_apart xs m ms apart mods.1) (due_less left (length ms) due) other after
+
+-- ---- no refusal: the first lines
+
+first_ok : (room : ℕ) (s : Spot) (rest : List ℕ) → (room ≡ 8) ⊎ (room ≡ 32) → says first_refusal s (ended (first_line room) rest) ≡ says (key_refusal room) (past (first_line room) s) rest
+first_ok room s rest h =
+    ⊎_elim
+    (λ e. subst (λ (r : ℕ). says first_refusal s (ended (first_line r) rest) ≡ says (key_refusal r) (past (first_line r) s) rest) (sym e) (at_line first_refusal s (codes "sancus-image 1") rest refl))
+    (λ e. subst (λ (r : ℕ). says first_refusal s (ended (first_line r) rest) ≡ says (key_refusal r) (past (first_line r) s) rest) (sym e) (at_line first_refusal s (codes "sancus-image 2") rest refl))
+    h
+
+key_ok : (room : ℕ) (s : Spot) (key rest : List ℕ) → length key ≡ 16 → IsBytes key → says (key_refusal room) s (ended (key_line key) rest) ≡ says (handler_refusal room) (past (key_line key) s) rest
+key_ok room s key rest len are =
+    let t = key_text key len are in
+    at_line (key_refusal room) s (key_line key) rest t.lined.plain ∙ formed_ok key_form s (key_line key) _ t.lined.has
+
+handler_ok : (room : ℕ) (s : Spot) (sp : ℕ) (rest : List ℕ) → sp < 65536 → sp % 2 ≡ 0 → says (handler_refusal room) s (ended (handler_line sp) rest) ≡ says (count_refusal room) (past (handler_line sp) s) rest
+handler_ok room s sp rest small even =
+    let t = handler_text sp small in
+    let z : (sp % 2 == 0) ≡ true = grind (arith, nat_tests) in
+    let next = says (count_refusal room) (past (handler_line sp) s) rest in
+    at_line (handler_refusal room) s (handler_line sp) rest t.lined.plain ∙ formed_ok handler_form s (handler_line sp) _ t.lined.has
+    ∙ ap (λ (w : ℕ). cond (w % 2 == 0) next (Some (Line s.number))) t.sp_is
+    ∙ ap (λ (b : Bool). cond b next (Some (Line s.number))) z
+
+count_ok : (room n : ℕ) (s : Spot) (rest : List ℕ) → (room ≡ 8) ⊎ (room ≡ 32) → n ≤ 32
+    → ((left : Option ℕ) (q : Spot) → AreDue left n → says (modules_refusal (empty_table room) left) q rest ≡ None) → says (count_refusal room) s (count_text room n rest) ≡ None
+count_ok room n s rest h small after =
+    ⊎_elim
+    (λ e. subst (λ (r : ℕ). says (count_refusal r) s (count_text r n rest) ≡ None) (sym e) (subst (λ (r : ℕ). says (modules_refusal (empty_table r) None) s rest ≡ None) e (after None s tt)))
+    (λ e. subst (λ (r : ℕ). says (count_refusal r) s (count_text r n rest) ≡ None) (sym e)
+    (at_line (count_refusal 32) s (count_line n) rest t.plain
+    ∙ ap (λ (o : Option ℕ). counted o s (says (modules_refusal (empty_table 32) o) (past (count_line n) s) rest)) t.count_is
+    ∙ subst (λ (r : ℕ). says (modules_refusal (empty_table r) (Some n)) (past (count_line n) s) rest ≡ None) e (after (Some n) (past (count_line n) s) refl)))
+    h
+  where
+    t : CountText n
+    t = text_of_count n small
+
+-- the text of an image is not refused
+pub text_has_no_refusal : (i : Image) → IsImage i → refusal_of (image_text i) ≡ None
+unfolding refusal_of image_text
+text_has_no_refusal i h =
+    let t = h.table_ok in
+    let f = h.full in
+    let held = h.all_held in
+    let fits = t.fits in
+    let room = i.table.room in
+    let start : Spot = record { number = 1; at = 0 } in
+    let rest : List ℕ = memory_text i.memory in
+    let more : List ℕ = modules_text i.table.modules rest in
+    let len : length (drop 512 i.memory) ≡ 16 * 4064 = omega (arith, f, length-drop 512 i.memory) in
+    let are = bytes_drop 512 i.memory h.bytes in
+    let small : i.table.room ≤ 32 = ⊎_elim (λ e. omega (arith, e)) (λ e. omega (arith, e)) t.room_ok in
+    let after : (left : Option ℕ) (q : Spot) → AreDue left i.table.given → says (modules_refusal (empty_table i.table.room) left) q more ≡ None =
+    λ left q due. modules_ok i.table.modules [] 0 i.table.given i.table.room left q rest refl (omega (arith, fits)) small h.numbered t.modules tt (subst (AreDue left) (sym held) due)
+    (rows_not_due 4064 512 (drop 512 i.memory) (omega arith) len are)
+    (λ p. rows_ok 4064 512 496 (drop 512 i.memory) p refl (omega arith) (omega arith) (omega arith) len are) in
+    first_ok i.table.room start (ended (key_line i.node_key) (text_after_key i)) t.room_ok
+    ∙ key_ok i.table.room (past (first_line i.table.room) start) i.node_key (text_after_key i) h.sixteen h.key_bytes
+    ∙ handler_ok i.table.room (past (key_line i.node_key) (past (first_line i.table.room) start)) i.handler_sp (count_text i.table.room i.table.given more) h.small_sp h.even_sp
+    ∙ count_ok i.table.room i.table.given (past (handler_line i.handler_sp) (past (key_line i.node_key) (past (first_line i.table.room) start))) more t.room_ok (few_given i h) after

@@ -1,0 +1,228 @@
+-- Texts of rows of memory.
+use Rattle.std.proofs.Common.{◌≡◌, ℕ, zero, suc, ◌+◌, ◌-◌, ◌*◌, ◌/◌, ◌%◌, ◌<◌, ◌≤◌, List, [], ◌∷◌, ◌++◌, length, take, drop, replicate, slice_index, Bool, true, false, cond, not, ◌&&◌, ◌==◌, ◌≢◌, nat_eq, nat_lt, Option, Some, refl, sym, ap, ◌∙◌, subst, arith, append_assoc, length-append, length-drop, length-take}
+use Rattle.std.proofs.lemmas.Bool.Decides.{nat_tests}
+use Rattle.std.proofs.lemmas.List.{append-nil, take-append-le, drop-append-le, take_at, drop_at, replicate-append-replicate, get_or_append_left}
+use Rattle.hex.specs.Hex.{IsBytes}
+use Rattle.image_text.specs.ImageText.{ended, end_line, is_zero, row_line, row_text, rows_text, memory_text}
+use Rattle.std.specs.Cmp.Lexicographic.{pointwise}
+use Rattle.image_text.specs.declared.ImageFault.{ImageFault}
+use Rattle.image_text.specs.declared.ImageFault.TheVariants.{Line, Twice}
+use Rattle.image_text.specs.Refusal.{Spot, past, lines_from, tail_from, formed, row_form, placed, is_row, word_at, bytes_at, rows_refusal, end_refusal}
+use Rattle.image_text.proofs.FormLemmas.{formed_ok}
+use Rattle.image_text.proofs.LineTexts.{row_line_of}
+use Rattle.image_text.proofs.StageLemmas.{line_on, next_on, same_spot}
+use Rattle.image_text.specs.Reading.{Unread, on, ReadLine, HasForm, AddsRow, RowsSoFar, PassedMemory}
+
+nil_of : (m : List ℕ) → length m ≡ 0 → m ≡ []
+nil_of [] e = refl
+nil_of (x ∷ m) e = absurd (omega arith)
+
+-- rows, and more rows
+pub rows_append : (n k at : ℕ) (m1 m2 rest : List ℕ) → length m1 ≡ 16 * n → rows_text (n + k) at (m1 ++ m2) rest ≡ rows_text n at m1 (rows_text k (at + 16 * n) m2 rest)
+unfolding rows_text
+rows_append zero k at m1 m2 rest len =
+    let none : m1 ≡ [] = nil_of m1 (omega (arith, len)) in
+    let count : 0 + k ≡ k = omega arith in
+    let place : at + 16 * 0 ≡ at = omega arith in
+    ap (λ (c : ℕ). rows_text c at (m1 ++ m2) rest) count ∙ ap (λ (m : List ℕ). rows_text k at (m ++ m2) rest) none ∙ sym (ap (λ (a : ℕ). rows_text k a m2 rest) place)
+rows_append (suc n) k at m1 m2 rest len =
+    let count : suc n + k ≡ suc (n + k) = omega arith in
+    let place : at + 16 + 16 * n ≡ at + 16 * suc n = omega arith in
+    let front = take-append-le 16 m1 m2 (omega (arith, len)) in
+    let back = drop-append-le 16 m1 m2 (omega (arith, len)) in
+    let next = rows_append n k (at + 16) (drop 16 m1) m2 rest (omega (arith, len, length-drop 16 m1)) in
+    ap (λ (c : ℕ). rows_text c at (m1 ++ m2) rest) count
+    ∙ ap (λ (r : List ℕ). row_text at r (rows_text (n + k) (at + 16) (drop 16 (m1 ++ m2)) rest)) front
+    ∙ ap (λ (m : List ℕ). row_text at (take 16 m1) (rows_text (n + k) (at + 16) m rest)) back
+    ∙ ap (λ (t : List ℕ). row_text at (take 16 m1) t) (next ∙ ap (λ (a : ℕ). rows_text n (at + 16) (drop 16 m1) (rows_text k a m2 rest)) place)
+
+abbrev sixteen_zeros : List ℕ
+sixteen_zeros = 0 ∷ 0 ∷ 0 ∷ 0 ∷ 0 ∷ 0 ∷ 0 ∷ 0 ∷ 0 ∷ 0 ∷ 0 ∷ 0 ∷ 0 ∷ 0 ∷ 0 ∷ 0 ∷ []
+
+-- zeros have no lines
+pub rows_zeros : (k at : ℕ) (rest : List ℕ) → rows_text k at (replicate (16 * k) 0) rest ≡ rest
+unfolding rows_text
+rows_zeros zero at rest = refl
+rows_zeros (suc k) at rest =
+    let count : 16 * suc k ≡ 16 + 16 * k = omega arith in
+    let split : replicate (16 * suc k) 0 ≡ sixteen_zeros ++ replicate (16 * k) 0 = ap (λ (n : ℕ). replicate n 0) count ∙ sym (replicate-append-replicate 16 (16 * k) 0) in
+    ap (λ (m : List ℕ). rows_text (suc k) at m rest) split ∙ rows_zeros k (at + 16) rest
+
+-- one row that is not all zeros
+pub row_alone : (at : ℕ) (row rest : List ℕ) → length row ≡ 16 → is_zero row ≡ false → rows_text 1 at row rest ≡ ended (row_line at row) rest
+unfolding rows_text
+row_alone at row rest len e =
+    ap (λ (r : List ℕ). row_text at r rest) (ap (take 16) (sym (append-nil row)) ∙ take_at row [] 16 len) ∙ ap (λ b. cond b rest (ended (row_line at row) rest)) e
+
+-- the low part stays as memory grows
+low_kept : (memory more : List ℕ) → 512 ≤ length memory → ((a : ℕ) → a < 512 → slice_index memory a ≡ 0) → (a : ℕ) → a < 512 → slice_index (memory ++ more) a ≡ 0
+low_kept memory more l h a m = get_or_append_left memory more 0 a (omega arith) ∙ h a m
+
+bytes_append : (xs ys : List ℕ) → IsBytes xs → IsBytes ys → IsBytes (xs ++ ys)
+bytes_append [] ys p q k = q k
+bytes_append (x ∷ xs) ys p q zero = p 0
+bytes_append (x ∷ xs) ys p q (suc k) = bytes_append xs ys (λ i. p (suc i)) q k
+
+bytes_zeros : (n : ℕ) → IsBytes (replicate n 0)
+bytes_zeros zero k = omega arith
+bytes_zeros (suc n) zero = omega arith
+bytes_zeros (suc n) (suc k) = bytes_zeros n k
+
+pub rows_more : (rest : List ℕ) (last at : ℕ) (memory grown : List ℕ) (old new : Unread) → at % 16 ≡ 0 → RowsSoFar rest last memory old.rest → AddsRow last at old new memory grown → RowsSoFar rest at grown new.rest
+rows_more rest last at memory grown old new even h a =
+    let k = h.rows in
+    let size = h.size in
+    let last_is = h.last_is in
+    let above = a.above in
+    let j : ℕ = (at - length memory) / 16 in
+    let gap : at - length memory ≡ 16 * j = omega arith in
+    let place : 512 + 16 * k + 16 * j ≡ at = omega arith in
+    let d : List ℕ = drop 512 memory in
+    let z : List ℕ = replicate (16 * j) 0 in
+    let dlen : length d ≡ 16 * k = omega (arith, length-drop 512 memory) in
+    let zlen : length z ≡ 16 * j = length_zeros (16 * j) in
+    let dzlen : length (d ++ z) ≡ 16 * (k + j) = omega (arith, length-append d z) in
+    let joined : grown ≡ memory ++ (z ++ a.row) = a.memory_is ∙ ap (λ (n : ℕ). (memory ++ replicate n 0) ++ a.row) gap ∙ append_assoc memory z a.row in
+    let dropped : drop 512 grown ≡ (d ++ z) ++ a.row = ap (drop 512) joined ∙ drop-append-le 512 memory (z ++ a.row) (omega arith) ∙ sym (append_assoc d z a.row) in
+    record {
+      rows = k + j + 1;
+      size = omega (arith, ap length joined, length-append memory (z ++ a.row), length-append z a.row, a.sixteen, zlen);
+      last_is = omega arith;
+      low = λ b l. ap (λ (m : List ℕ). slice_index m b) joined ∙ low_kept memory (z ++ a.row) (omega arith) h.low b l;
+      are_bytes = subst IsBytes (sym joined) (bytes_append memory (z ++ a.row) h.are_bytes (bytes_append z a.row (bytes_zeros (16 * j)) a.are_bytes));
+      small = a.small;
+      text = h.text ∙ ap (λ (t : List ℕ). rows_text k 512 d t) (a.text ∙ sym (row_alone at a.row new.rest a.sixteen a.filled)
+          ∙ sym (rows_zeros j (512 + 16 * k) (rows_text 1 at a.row new.rest)))
+          ∙ sym (rows_append k j 512 d z (rows_text 1 at a.row new.rest) dlen)
+          ∙ ap (λ (b : ℕ). rows_text (k + j) 512 (d ++ z) (rows_text 1 b a.row new.rest)) (let p : at ≡ 512 + 16 * (k + j) = omega arith in p)
+          ∙ sym (rows_append (k + j) 1 512 (d ++ z) a.row new.rest dzlen)
+          ∙ ap (λ (m : List ℕ). rows_text (k + j + 1) 512 m new.rest) (sym dropped);
+    }
+  where
+    length_zeros : (n : ℕ) → length {A = ℕ} (replicate n 0) ≡ n
+    length_zeros zero = refl
+    length_zeros (suc n) = ap suc (length_zeros n)
+
+pub rows_none : (rest memory : List ℕ) → memory ≡ replicate 512 0 → RowsSoFar rest 496 memory rest
+unfolding rows_text
+rows_none rest memory e = record {
+  rows = 0;
+  size = ap length e;
+  last_is = refl;
+  low = λ a l. ap (λ (m : List ℕ). slice_index m a) e ∙ zeros_at 512 a l;
+  are_bytes = subst IsBytes (sym e) (bytes_zeros 512);
+  small = omega arith;
+  text = refl;
+}
+  where
+    zeros_at : (n a : ℕ) → a < n → slice_index (replicate n 0) a ≡ 0
+    zeros_at zero a l = absurd (omega arith)
+    zeros_at (suc n) zero l = refl
+    zeros_at (suc n) (suc a) l = zeros_at n a (omega arith)
+
+-- the memory is whole
+pub rows_done : (start : Unread) (last : ℕ) (memory filled : List ℕ) (left : List ℕ) → last % 16 ≡ 0 → RowsSoFar start.rest last memory left → left ≡ ended end_line [] → filled ≡ memory ++ replicate (65536 - length memory) 0 → PassedMemory filled start
+rows_done start last memory filled left even h is e =
+    let small = h.small in
+    let k = h.rows in
+    let size = h.size in
+    let last_is = h.last_is in
+    let j : ℕ = (65536 - length memory) / 16 in
+    let gap : 65536 - length memory ≡ 16 * j = omega arith in
+    let whole : k + j ≡ 4064 = omega arith in
+    let d : List ℕ = drop 512 memory in
+    let z : List ℕ = replicate (16 * j) 0 in
+    let dlen : length d ≡ 16 * k = omega (arith, length-drop 512 memory) in
+    let zlen : length z ≡ 16 * j = length_zeros (16 * j) in
+    let joined : filled ≡ memory ++ z = e ∙ ap (λ (n : ℕ). memory ++ replicate n 0) gap in
+    let dropped : drop 512 filled ≡ d ++ z = ap (drop 512) joined ∙ drop-append-le 512 memory z (omega arith) in
+    record {
+      text = h.text ∙ ap (λ (t : List ℕ). rows_text k 512 d t) (is ∙ sym (rows_zeros j (512 + 16 * k) (ended end_line [])))
+          ∙ sym (rows_append k j 512 d z (ended end_line []) dlen)
+          ∙ ap (λ (c : ℕ). rows_text c 512 (d ++ z) (ended end_line [])) whole
+          ∙ ap (λ (m : List ℕ). rows_text 4064 512 m (ended end_line [])) (sym dropped);
+      full = omega (arith, ap length joined, length-append memory z, zlen);
+      low = λ b l. ap (λ (m : List ℕ). slice_index m b) joined ∙ low_kept memory z (omega arith) h.low b l;
+      are_bytes = subst IsBytes (sym joined) (bytes_append memory z h.are_bytes (bytes_zeros (16 * j)));
+    }
+  where
+    length_zeros : (n : ℕ) → length {A = ℕ} (replicate n 0) ≡ n
+    length_zeros zero = refl
+    length_zeros (suc n) = ap suc (length_zeros n)
+
+-- ---- a row's line
+
+and_left : (a b : Bool) → (a && b) ≡ true → a ≡ true
+and_left true b e = refl
+and_left false b e = e
+
+and_right : (a b : Bool) → (a && b) ≡ true → b ≡ true
+and_right true b e = e
+and_right false b e = cc
+
+not_so : (b : Bool) → not b ≡ true → b ≡ false
+not_so true e = cc
+not_so false e = refl
+
+pub record IsPlaced (last a : ℕ) (row : List ℕ) : Type 0 where
+  pub even : a % 16 ≡ 0
+  pub filled : is_zero row ≡ false
+  pub above : last ≤ a
+
+pub is_placed : (last a : ℕ) (row : List ℕ) → is_row last a row ≡ true → IsPlaced last a row
+is_placed last a row e =
+    let abc = and_left ((a % 16 == 0) && not (nat_lt a 512) && not (is_zero row)) (not (nat_lt a last)) e in
+    let d = not_so (nat_lt a last) (and_right ((a % 16 == 0) && not (nat_lt a 512) && not (is_zero row)) (not (nat_lt a last)) e) in
+    let ab = and_left ((a % 16 == 0) && not (nat_lt a 512)) (not (is_zero row)) abc in
+    let c = not_so (is_zero row) (and_right ((a % 16 == 0) && not (nat_lt a 512)) (not (is_zero row)) abc) in
+    let first = and_left (a % 16 == 0) (not (nat_lt a 512)) ab in
+    record { even = grind (arith, nat_tests); filled = c; above = grind (arith, nat_tests) }
+
+module _ (last : ℕ) (old new : Unread) (line : List ℕ) (read : ReadLine old line new) (other : pointwise nat_eq line end_line ≡ false) where
+  row_on : on old (rows_refusal last) ≡ formed row_form old.spot line (placed last old.spot line (rows_refusal (word_at 3 line) (past line old.spot) (lines_from [] new.rest) (tail_from [] new.rest)))
+  row_on =
+      line_on (rows_refusal last) old new line read
+      ∙ ap (λ b. cond b (end_refusal (past line old.spot) (lines_from [] new.rest) (tail_from [] new.rest)) (formed row_form old.spot line (placed last old.spot line (rows_refusal (word_at 3 line) (past line old.spot) (lines_from [] new.rest) (tail_from [] new.rest))))) other
+
+  pub row_fails : (n a : ℕ) (fault : ImageFault) → n ≡ old.spot.number → a ≡ old.spot.at
+      → ((rest : Option ImageFault) → formed row_form record { number = n; at = a } line rest ≡ Some fault) → on old (rows_refusal last) ≡ Some fault
+  row_fails n a fault e f err =
+      row_on ∙ sym (ap (λ (s : Spot). formed row_form s line (placed last old.spot line (rows_refusal (word_at 3 line) (past line old.spot) (lines_from [] new.rest) (tail_from [] new.rest)))) (same_spot old.spot n a e f)) ∙ err _
+
+  module _ (form : HasForm row_form line) where
+    row_formed : on old (rows_refusal last) ≡ placed last old.spot line (rows_refusal (word_at 3 line) (past line old.spot) (lines_from [] new.rest) (tail_from [] new.rest))
+    row_formed = row_on ∙ formed_ok row_form old.spot line _ form
+
+    pub row_misplaced : is_row last (word_at 3 line) (bytes_at 8 40 line) ≡ false → on old (rows_refusal last) ≡ Some (Line old.spot.number)
+    row_misplaced e = row_formed ∙ ap (λ b. cond b (cond (word_at 3 line == last) (Some (Twice (word_at 3 line))) (rows_refusal (word_at 3 line) (past line old.spot) (lines_from [] new.rest) (tail_from [] new.rest))) (Some (Line old.spot.number))) e
+
+    row_is : is_row last (word_at 3 line) (bytes_at 8 40 line) ≡ true → on old (rows_refusal last) ≡ cond (word_at 3 line == last) (Some (Twice (word_at 3 line))) (rows_refusal (word_at 3 line) (past line old.spot) (lines_from [] new.rest) (tail_from [] new.rest))
+    row_is e = row_formed ∙ ap (λ b. cond b (cond (word_at 3 line == last) (Some (Twice (word_at 3 line))) (rows_refusal (word_at 3 line) (past line old.spot) (lines_from [] new.rest) (tail_from [] new.rest))) (Some (Line old.spot.number))) e
+
+    pub row_twice : is_row last (word_at 3 line) (bytes_at 8 40 line) ≡ true → (word_at 3 line == last) ≡ true → on old (rows_refusal last) ≡ Some (Twice (word_at 3 line))
+    row_twice e f = row_is e ∙ ap (λ b. cond b (Some (Twice (word_at 3 line))) (rows_refusal (word_at 3 line) (past line old.spot) (lines_from [] new.rest) (tail_from [] new.rest))) f
+
+    pub row_placed : is_row last (word_at 3 line) (bytes_at 8 40 line) ≡ true → (word_at 3 line == last) ≡ false → on old (rows_refusal last) ≡ on new (rows_refusal (word_at 3 line))
+    row_placed e f = row_is e ∙ ap (λ b. cond b (Some (Twice (word_at 3 line))) (rows_refusal (word_at 3 line) (past line old.spot) (lines_from [] new.rest) (tail_from [] new.rest))) f ∙ next_on (rows_refusal (word_at 3 line)) old new line read
+
+    -- the row is added
+    pub adds_row : (at : ℕ) (memory grown : List ℕ) → at ≡ word_at 3 line → is_row last (word_at 3 line) (bytes_at 8 40 line) ≡ true → (word_at 3 line == last) ≡ false
+        → grown ≡ (memory ++ replicate (at - length memory) 0) ++ bytes_at 8 40 line → AddsRow last at old new memory grown
+    adds_row at memory grown is e f m =
+        let k = row_line_of line form in
+        let r = k.row in
+        let p = is_placed last (word_at 3 line) (bytes_at 8 40 line) e in
+        let above = p.above in
+        let other_than : word_at 3 line ≢ last = grind (arith, nat_tests) in
+        record {
+          row = bytes_at 8 40 line;
+          sixteen = r.count;
+          are_bytes = r.are_bytes;
+          small = let l = k.small in omega (arith, is);
+          filled = p.filled;
+          even = ap (λ (n : ℕ). n % 16) is ∙ p.even;
+          above = omega arith;
+          text = let t = read in t.text ∙ ap (λ (l : List ℕ). ended l new.rest) (k.text ∙ ap (λ (n : ℕ). row_line n (bytes_at 8 40 line)) (sym is));
+          refusal = row_placed e f ∙ ap (λ (n : ℕ). on new (rows_refusal n)) (sym is);
+          memory_is = m;
+        }

@@ -1,0 +1,218 @@
+-- Why bytes are no image's text: the first line that does not serve.
+use Rattle.std.specs.Prelude.{◌≡◌, ℕ, zero, suc, ◌+◌, ◌-◌, ◌*◌, ◌%◌, ◌==◌, nat_lt, nat_le, if◌then◌else◌, Bool, true, false, not, ◌&&◌, ◌||◌, List, [], ◌∷◌, ◌++◌, length, take, drop, fold, nat_eq, slice_range, codes, Option, Some, None}
+use Rattle.std.specs.List.{list_all, starts_with}
+use Rattle.std.specs.Cmp.Lexicographic.{pointwise}
+use Rattle.std.specs.Result.{result_unwrap_or}
+use Rattle.hex.specs.Hex.{decode_of}
+use Rattle.mod_layout.specs.declared.Section.{Section}
+use Rattle.mod_layout.specs.declared.TableFault.{TableFault}
+use Rattle.mod_layout.specs.Table.{Table, fault_of, with_module, empty_table}
+use Rattle.image_text.specs.declared.ImageFault.{ImageFault}
+use Rattle.image_text.specs.declared.ImageFault.TheVariants.{Line, Digit, Twice, Table as TableRefuses, Version}
+use Rattle.image_text.specs.ImageText.{end_line, is_zero}
+
+-- ---- lines
+
+-- the lines of a text, each without its LF, where `front` was read of the first; bytes behind the last LF are no line
+abbrev pub lines_from : List ℕ → List ℕ → List (List ℕ)
+lines_from front [] = []
+lines_from front (b ∷ bytes) = if b == 10 then front ∷ lines_from [] bytes else lines_from (front ++ b ∷ []) bytes
+
+-- the bytes behind the last LF
+abbrev pub tail_from : List ℕ → List ℕ → List ℕ
+tail_from front [] = front
+tail_from front (b ∷ bytes) = if b == 10 then tail_from [] bytes else tail_from (front ++ b ∷ []) bytes
+
+-- where a line stands: its number, counted from 1, and its offset in the file
+pub record Spot : Type 0 where
+  pub number : ℕ
+  pub at : ℕ
+
+-- where the line after this one stands
+abbrev pub past : List ℕ → Spot → Spot
+past line s = record { number = s.number + 1; at = s.at + length line + 1 }
+
+abbrev pub line_fault : Spot → Option ImageFault
+line_fault s = Some (Line s.number)
+
+-- ---- forms, in which `#` stands for a digit
+
+abbrev pub key_form : List ℕ
+key_form = codes "key ################################"
+
+abbrev pub handler_form : List ℕ
+handler_form = codes "handler ####"
+
+abbrev pub module_form : List ℕ
+module_form = codes "module #### #### #### #### ####"
+
+abbrev pub row_form : List ℕ
+row_form = codes "at #### ################################"
+
+-- a digit's place takes any byte but a space here; any other place takes its own byte
+abbrev pub fits : ℕ → ℕ → Bool
+fits mark b = if mark == 35 then not (b == 32) else b == mark
+
+-- whether the words, the spaces and the length of a line are those of the form
+abbrev pub has_form : List ℕ → List ℕ → Bool
+has_form [] [] = true
+has_form [] (b ∷ line) = false
+has_form (mark ∷ form) [] = false
+has_form (mark ∷ form) (b ∷ line) = fits mark b && has_form form line
+
+-- `0` to `9` and `a` to `f`
+abbrev pub is_digit : ℕ → Bool
+is_digit b = (nat_le 48 b && nat_le b 57) || (nat_le 97 b && nat_le b 102)
+
+-- a digit's place that has no digit
+abbrev pub is_bad : ℕ → ℕ → Bool
+is_bad mark b = (mark == 35) && not (is_digit b)
+
+-- the offset of the first byte that should be a digit and is none, of a line that begins at this offset
+abbrev pub bad_digit : List ℕ → List ℕ → ℕ → Option ℕ
+bad_digit [] line at = None
+bad_digit (mark ∷ form) [] at = None
+bad_digit (mark ∷ form) (b ∷ line) at = if is_bad mark b then Some at else bad_digit form line (at + 1)
+
+abbrev pub digit_or : Option ℕ → Option ImageFault → Option ImageFault
+digit_or (Some at) rest = Some (Digit at)
+digit_or None rest = rest
+
+-- a line that should have this form: Line where it has not, Digit where a digit is none, and else what comes after
+abbrev pub formed : List ℕ → Spot → List ℕ → Option ImageFault → Option ImageFault
+formed form s line rest = if has_form form line then digit_or (bad_digit form line s.at) rest else line_fault s
+
+-- ---- values
+
+-- the bytes that digits stand for, from one place of a line up to another
+abbrev pub bytes_at : ℕ → ℕ → List ℕ → List ℕ
+bytes_at from to line = result_unwrap_or (decode_of (slice_range line from to)) []
+
+abbrev pub word_of : List ℕ → ℕ
+word_of [] = 0
+word_of (high ∷ []) = high
+word_of (high ∷ low ∷ rest) = 256 * high + low
+
+-- the word of the four digits at a place of a line
+abbrev pub word_at : ℕ → List ℕ → ℕ
+word_at from line = word_of (bytes_at from (from + 4) line)
+
+abbrev pub section_at : ℕ → List ℕ → Section
+section_at from line = record { start = word_at from line; end = word_at (from + 5) line }
+
+-- a decimal of 1 to 9 digits without leading zero
+abbrev pub is_decimal : ℕ → Bool
+is_decimal b = nat_le 48 b && nat_le b 57
+
+abbrev pub is_plain : List ℕ → Bool
+is_plain [] = false
+is_plain (b ∷ []) = is_decimal b
+is_plain (b ∷ c ∷ rest) = not (b == 48) && list_all is_decimal (b ∷ c ∷ rest) && nat_le (length rest) 7
+
+abbrev pub decimal_value : List ℕ → ℕ
+decimal_value digits = fold (λ n b. 10 * n + (b - 48)) 0 digits
+
+-- how many modules a line announces: a decimal of one or two digits without leading zero, of at most 32
+abbrev pub small_of : List ℕ → Option ℕ
+small_of [] = None
+small_of (b ∷ []) = if is_decimal b then Some (b - 48) else None
+small_of (b ∷ c ∷ []) = if is_decimal b && is_decimal c && not (b == 48) then Some (10 * (b - 48) + (c - 48)) else None
+small_of (b ∷ c ∷ d ∷ rest) = None
+
+abbrev pub at_most : ℕ → Option ℕ → Option ℕ
+at_most most None = None
+at_most most (Some n) = if nat_le n most then Some n else None
+
+abbrev pub count_of : List ℕ → Option ℕ
+count_of line = if starts_with nat_eq line (codes "modules ") then at_most 32 (small_of (drop 8 line)) else None
+
+-- ---- the refusals, from the last line back to the first
+
+-- nothing stands behind the line `end`
+abbrev pub end_refusal : Spot → List (List ℕ) → List ℕ → Option ImageFault
+end_refusal s [] [] = None
+end_refusal s [] (b ∷ tail) = line_fault s
+end_refusal s (line ∷ more) tail = line_fault s
+
+-- a row: its address is a multiple of 16 from 0x0200 up, it is not all zeros, and it stands above the row before it
+abbrev pub is_row : ℕ → ℕ → List ℕ → Bool
+is_row last a row = (a % 16 == 0) && not (nat_lt a 512) && not (is_zero row) && not (nat_lt a last)
+
+abbrev pub placed : ℕ → Spot → List ℕ → Option ImageFault → Option ImageFault
+placed last s line rest =
+    if is_row last (word_at 3 line) (bytes_at 8 40 line)
+    then (if word_at 3 line == last then Some (Twice (word_at 3 line)) else rest)
+    else line_fault s
+
+-- the rows and the end; `last` is the address of the row before, at first 0x01F0
+abbrev pub rows_refusal : ℕ → Spot → List (List ℕ) → List ℕ → Option ImageFault
+rows_refusal last s [] tail = line_fault s
+rows_refusal last s (line ∷ more) tail =
+    if pointwise nat_eq line end_line
+    then end_refusal (past line s) more tail
+    else formed row_form s line (placed last s line (rows_refusal (word_at 3 line) (past line s) more tail))
+
+-- the next module, where the table takes it
+abbrev pub taken : Option TableFault → ℕ → Option ImageFault → Option ImageFault
+taken (Some fault) id rest = Some (TableRefuses id fault)
+taken None id rest = rest
+
+-- the table with the module of a line
+abbrev pub added : Table → List ℕ → Table
+added t line = with_module t (word_at 7 line) (section_at 12 line) (section_at 22 line)
+
+-- whether the next line should be a module's: in version 2 so many are due, in version 1 the line's form tells
+abbrev pub is_due : Option ℕ → List ℕ → Bool
+is_due None line = has_form module_form line
+is_due (Some n) line = not (n == 0)
+
+abbrev pub one_less : Option ℕ → Option ℕ
+one_less None = None
+one_less (Some n) = Some (n - 1)
+
+abbrev pub modules_refusal : Table → Option ℕ → Spot → List (List ℕ) → List ℕ → Option ImageFault
+modules_refusal t due s [] tail = line_fault s
+modules_refusal t due s (line ∷ more) tail =
+    if is_due due line
+    then formed module_form s line (taken (fault_of t (section_at 12 line) (section_at 22 line)) (t.given + 1) (modules_refusal (added t line) (one_less due) (past line s) more tail))
+    else rows_refusal 496 s (line ∷ more) tail
+
+abbrev pub counted : Option ℕ → Spot → Option ImageFault → Option ImageFault
+counted None s rest = line_fault s
+counted (Some n) s rest = rest
+
+-- in version 2 alone, the number of modules
+abbrev pub count_refusal : ℕ → Spot → List (List ℕ) → List ℕ → Option ImageFault
+count_refusal room s lines tail = if room == 8 then modules_refusal (empty_table 8) None s lines tail else announced s lines tail
+  where
+    announced : Spot → List (List ℕ) → List ℕ → Option ImageFault
+    announced s [] tail = line_fault s
+    announced s (line ∷ more) tail = counted (count_of line) s (modules_refusal (empty_table 32) (count_of line) (past line s) more tail)
+
+-- an even start of the handlers' stack
+abbrev pub handler_refusal : ℕ → Spot → List (List ℕ) → List ℕ → Option ImageFault
+handler_refusal room s [] tail = line_fault s
+handler_refusal room s (line ∷ more) tail =
+    formed handler_form s line (if word_at 8 line % 2 == 0 then count_refusal room (past line s) more tail else line_fault s)
+
+abbrev pub key_refusal : ℕ → Spot → List (List ℕ) → List ℕ → Option ImageFault
+key_refusal room s [] tail = line_fault s
+key_refusal room s (line ∷ more) tail = formed key_form s line (handler_refusal room (past line s) more tail)
+
+-- a first line that is none of versions 1 and 2: Version where it is one of another version
+abbrev pub version_refusal : Spot → List ℕ → Option ImageFault
+version_refusal s line =
+    if starts_with nat_eq line (codes "sancus-image ") && is_plain (drop 13 line)
+    then Some (Version (decimal_value (drop 13 line)))
+    else line_fault s
+
+abbrev pub first_refusal : Spot → List (List ℕ) → List ℕ → Option ImageFault
+first_refusal s [] tail = line_fault s
+first_refusal s (line ∷ more) tail =
+    if pointwise nat_eq line (codes "sancus-image 1") then key_refusal 8 (past line s) more tail
+    else if pointwise nat_eq line (codes "sancus-image 2") then key_refusal 32 (past line s) more tail
+    else version_refusal s line
+
+-- the refusal of a text, or none
+unfoldable pub refusal_of : List ℕ → Option ImageFault
+refusal_of bytes = first_refusal record { number = 1; at = 0 } (lines_from [] bytes) (tail_from [] bytes)

@@ -1,0 +1,119 @@
+//! The forms of lines, in which `#` stands for a hexadecimal digit.
+
+ghost use Rattle.std.specs.Prelude.{◌≡◌, ◌+◌, ◌*◌, ◌<◌, ◌^◌, ◌≤◌, length, Option, Some, OnOk, IfErr};
+ghost use Rattle.image_text.specs.Refusal.{has_form as has_form_lem, fits as fits_lem, is_digit as is_digit_lem, is_bad as is_bad_lem, bad_digit as bad_digit_lem, bytes_at as bytes_at_lem, word_at as word_at_lem, section_at as section_at_lem, Spot, formed as formed_lem};
+ghost use Rattle.image_text.specs.Reading.{HasForm, CodedAt};
+
+use crate::ImageFault;
+use crate::lines::Line;
+use mod_layout::Section;
+
+pub(crate) const KEY: &[u8; 36] = b"key ################################";
+
+pub(crate) const HANDLER: &[u8; 12] = b"handler ####";
+
+pub(crate) const MODULE: &[u8; 31] = b"module #### #### #### #### ####";
+
+pub(crate) const ROW: &[u8; 40] = b"at #### ################################";
+
+/// Whether the words, the spaces and the length of a line are those of the form.
+pub(crate) fn has_form(form: &[u8], line: &[u8]) -> bool
+    ensures { result ≡ has_form_lem form.now line.now }
+{
+    if form.len() != line.len() {
+        return false;
+    }
+    for (index, byte) in line.iter().enumerate() {
+        if !fits(form[index], *byte) {
+            return false;
+        }
+    }
+    true
+}
+
+/// The offset of the first byte that should be a digit and is none, of a line that begins at this offset.
+pub(crate) fn bad_digit(form: &[u8], line: &[u8], at: u64) -> Option<u64>
+    requires form { length form.now ≡ length line.now }
+    requires bounded { at + length line.now < 2 ^ 63 }
+    ensures { result ≡ bad_digit_lem form.now line.now at }
+{
+    for (index, byte) in line.iter().enumerate() {
+        if is_bad(form[index], *byte) {
+            return Some(at + index as u64);
+        }
+    }
+    None
+}
+
+// A digit's place takes any byte but a space here.
+fn fits(mark: u8, byte: u8) -> bool
+    ensures { result ≡ fits_lem mark byte }
+{
+    if mark == b'#' {
+        byte != b' '
+    } else {
+        byte == mark
+    }
+}
+
+// A digit's place that has no digit.
+fn is_bad(mark: u8, byte: u8) -> bool
+    ensures { result ≡ is_bad_lem mark byte }
+{
+    mark == b'#' && !is_digit(byte)
+}
+
+fn is_digit(byte: u8) -> bool
+    ensures { result ≡ is_digit_lem byte }
+{
+    matches!(byte, b'0'..=b'9' | b'a'..=b'f')
+}
+
+/// Line where a line has not this form, and Digit where a digit is none.
+pub(crate) fn formed(line: Line<'_>, form: &[u8]) -> Result<(), ImageFault>
+    requires { line.at + length line.text.now < 2 ^ 63 }
+    ensures ok { OnOk result (HasForm form.now line.entry.text.now) }
+    ensures err { IfErr result (λ fault. (rest : Option ImageFault) → formed_lem form.now record { number = line.entry.number; at = line.entry.at } line.entry.text.now rest ≡ Some fault) }
+{
+    if !has_form(form, line.text) {
+        return Err(ImageFault::Line { n: line.number });
+    }
+    match bad_digit(form, line.text, line.at) {
+        Some(at) => Err(ImageFault::Digit { at }),
+        None => Ok(()),
+    }
+}
+
+/// The bytes that stand as digits from a place of a line on.
+pub(crate) fn bytes_at(line: &[u8], from: usize, out: &mut [u8])
+    requires { CodedAt line.now from (length out.old) }
+    ensures { out.new ≡ bytes_at_lem from (from + 2 * length out.old) line.now }
+{
+    let digits = &line[from..from + 2 * out.len()];
+    match hex::decode_to_slice(digits, out) {
+        Ok(()) => {}
+        Err(_) => unreachable!(),
+    }
+}
+
+/// The word of the four digits at a place of a line.
+pub(crate) fn word_at(line: &[u8], from: usize) -> u16
+    requires { CodedAt line.now from 2 }
+    ensures { result ≡ word_at_lem from line.now }
+{
+    let mut bytes = [0u8; 2];
+    bytes_at(line, from, &mut bytes);
+    256 * u16::from(bytes[0]) + u16::from(bytes[1])
+}
+
+/// The section whose ends stand at a place of a line.
+pub(crate) fn section_at(line: &[u8], from: usize) -> Section
+    requires start { CodedAt line.now from 2 }
+    requires end { CodedAt line.now (from + 5) 2 }
+    ensures { result ≡ section_at_lem from line.now }
+{
+    Section {
+        start: word_at(line, from),
+        end: word_at(line, from + 5),
+    }
+}

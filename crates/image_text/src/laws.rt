@@ -1,0 +1,10 @@
+//! The laws of an image's text, each the contract of a function that does nothing.
+
+ghost use Rattle.image_text.specs.Laws.{Accepted, Alone, ReadsBack};
+
+/// An image has one text: it is not refused, no other image has it, and what is written is read back.
+pub fn one_text()
+    ensures accepted { Accepted }
+    ensures alone { Alone }
+    ensures reads_back { ReadsBack }
+{}

@@ -1,0 +1,193 @@
+//! Writing an image's text.
+
+ghost use Rattle.std.specs.Prelude.{◌≡◌, ℕ, ◌+◌, ◌*◌, ◌<◌, ◌≤◌, ◌++◌, ◌∷◌, [], List, length, drop, is_some, IfOk, OnOk};
+ghost use Rattle.hex.specs.Hex.{encode_lower};
+ghost use Rattle.mod_layout.specs.Table.{module_of};
+ghost use Rattle.image_text.specs.Image.{AreNumbered};
+ghost use Rattle.image_text.specs.ImageText.{ended, hex_word, decimal, first_line, key_line, handler_line, count_line, section_words, module_line, row_line, row_text, rows_text, count_text, modules_text, image_text};
+
+use crate::Image;
+use crate::reader::is_zero;
+use mod_layout::{Module, ModuleTable, Section};
+use std::alloc::{AllocError, Global};
+
+/// The text of an image.
+pub fn write(alloc: Global, image: &Image) -> Result<Vec<u8>, AllocError>
+    ensures { IfOk result (λ text. text.items ≡ image_text image.now) }
+{
+    let mut text = Vec::new(alloc);
+    let room = image.table.room();
+    put_first(&mut text, room)?;
+    put_key(&mut text, &image.node_key)?;
+    put_handler(&mut text, image.handler_sp)?;
+    put_count(&mut text, room, &image.table)?;
+    put_modules(&mut text, &image.table)?;
+    put_rows(&mut text, &image.memory)?;
+    text.extend_from_slice(b"end\n")?;
+    Ok(text)
+}
+
+fn put_first(text: &mut Vec<u8>, room: u16) -> Result<(), AllocError>
+    ensures { OnOk result (text.new.items ≡ text.old.items ++ ended (first_line room) []) }
+{
+    if room == 8 {
+        text.extend_from_slice(b"sancus-image 1\n")?;
+    } else {
+        text.extend_from_slice(b"sancus-image 2\n")?;
+    }
+    Ok(())
+}
+
+fn put_key(text: &mut Vec<u8>, key: &[u8]) -> Result<(), AllocError>
+    requires { length key.now ≡ 16 }
+    ensures { OnOk result (text.new.items ≡ text.old.items ++ ended (key_line key.now) []) }
+{
+    text.extend_from_slice(b"key ")?;
+    put_sixteen(text, key)?;
+    text.extend_from_slice(b"\n")?;
+    Ok(())
+}
+
+fn put_handler(text: &mut Vec<u8>, handler_sp: u16) -> Result<(), AllocError>
+    ensures { OnOk result (text.new.items ≡ text.old.items ++ ended (handler_line handler_sp) []) }
+{
+    text.extend_from_slice(b"handler ")?;
+    put_word(text, handler_sp)?;
+    text.extend_from_slice(b"\n")?;
+    Ok(())
+}
+
+// In version 2 alone, how many modules follow.
+fn put_count(text: &mut Vec<u8>, room: u16, table: &ModuleTable) -> Result<(), AllocError>
+    requires numbered { AreNumbered 1 table.now.modules }
+    requires few { length table.now.modules ≤ 32 }
+    ensures { OnOk result (text.new.items ≡ text.old.items ++ count_text room (length table.now.modules) []) }
+{
+    if room != 8 {
+        text.extend_from_slice(b"modules ")?;
+        put_decimal(text, count(table))?;
+        text.extend_from_slice(b"\n")?;
+    }
+    Ok(())
+}
+
+// How many modules there are.
+fn count(table: &ModuleTable) -> u16
+    requires numbered { AreNumbered 1 table.now.modules }
+    requires few { length table.now.modules ≤ 32 }
+    ensures { result ≡ length table.now.modules }
+{
+    let mut count = 0;
+    while is_held(table, count + 1) {
+        count += 1;
+    }
+    count
+}
+
+fn is_held(table: &ModuleTable, id: u16) -> bool
+    ensures { result ≡ is_some (module_of id table.now) }
+{
+    table.get(id).is_some()
+}
+
+fn put_decimal(text: &mut Vec<u8>, number: u16) -> Result<(), AllocError>
+    requires { number < 100 }
+    ensures { OnOk result (text.new.items ≡ text.old.items ++ decimal number) }
+{
+    if number >= 10 {
+        text.push(b'0' + (number / 10) as u8)?;
+    }
+    text.push(b'0' + (number % 10) as u8)?;
+    Ok(())
+}
+
+// A line for each module, in the order of their ids.
+fn put_modules(text: &mut Vec<u8>, table: &ModuleTable) -> Result<(), AllocError>
+    requires numbered { AreNumbered 1 table.now.modules }
+    requires few { length table.now.modules ≤ 32 }
+    ensures { OnOk result ((rest : List ℕ) → text.new.items ++ rest ≡ text.old.items ++ modules_text table.now.modules rest) }
+{
+    let mut index = 0;
+    while let Some(module) = table.get(index + 1) {
+        put_module(text, *module)?;
+        index += 1;
+    }
+    Ok(())
+}
+
+fn put_module(text: &mut Vec<u8>, module: Module) -> Result<(), AllocError>
+    ensures { OnOk result (text.new.items ≡ text.old.items ++ ended (module_line «module») []) }
+{
+    text.extend_from_slice(b"module ")?;
+    put_word(text, module.vendor)?;
+    text.extend_from_slice(b" ")?;
+    put_section(text, module.text)?;
+    text.extend_from_slice(b" ")?;
+    put_section(text, module.ram)?;
+    text.extend_from_slice(b"\n")?;
+    Ok(())
+}
+
+fn put_section(text: &mut Vec<u8>, section: Section) -> Result<(), AllocError>
+    ensures { OnOk result (text.new.items ≡ text.old.items ++ section_words section) }
+{
+    put_word(text, section.start)?;
+    text.extend_from_slice(b" ")?;
+    put_word(text, section.end)?;
+    Ok(())
+}
+
+// A line for each row from 0x0200 on that is not all zeros.
+fn put_rows(text: &mut Vec<u8>, memory: &[u8]) -> Result<(), AllocError>
+    requires { length memory.now ≡ 65536 }
+    ensures { OnOk result ((rest : List ℕ) → text.new.items ++ rest ≡ text.old.items ++ rows_text 4064 512 (drop 512 memory.now) rest) }
+{
+    for row in 32..4096usize {
+        put_row(text, (16 * row) as u16, &memory[16 * row..16 * row + 16])?;
+    }
+    Ok(())
+}
+
+fn put_row(text: &mut Vec<u8>, at: u16, row: &[u8]) -> Result<(), AllocError>
+    requires { length row.now ≡ 16 }
+    ensures { OnOk result (text.new.items ≡ text.old.items ++ row_text at row.now []) }
+{
+    if is_zero(row) {
+        return Ok(());
+    }
+    text.extend_from_slice(b"at ")?;
+    put_word(text, at)?;
+    text.extend_from_slice(b" ")?;
+    put_sixteen(text, row)?;
+    text.extend_from_slice(b"\n")?;
+    Ok(())
+}
+
+// A word as four digits.
+fn put_word(text: &mut Vec<u8>, word: u16) -> Result<(), AllocError>
+    ensures { OnOk result (text.new.items ≡ text.old.items ++ hex_word word) }
+{
+    let bytes = [(word / 256) as u8, (word % 256) as u8];
+    put_digits(text, &bytes, &mut [0u8; 4])
+}
+
+// Sixteen bytes as 32 digits.
+fn put_sixteen(text: &mut Vec<u8>, bytes: &[u8]) -> Result<(), AllocError>
+    requires { length bytes.now ≡ 16 }
+    ensures { OnOk result (text.new.items ≡ text.old.items ++ encode_lower bytes.now) }
+{
+    put_digits(text, bytes, &mut [0u8; 32])
+}
+
+// Bytes by two digits each, for which there is room.
+fn put_digits(text: &mut Vec<u8>, bytes: &[u8], digits: &mut [u8]) -> Result<(), AllocError>
+    requires { length digits.old ≡ 2 * length bytes.now }
+    ensures { OnOk result (text.new.items ≡ text.old.items ++ encode_lower bytes.now) }
+{
+    match hex::encode_to_slice(bytes, digits) {
+        Ok(()) => {}
+        Err(_) => unreachable!(),
+    }
+    text.extend_from_slice(digits)?;
+    Ok(())
+}

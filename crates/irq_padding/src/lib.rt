@@ -1,0 +1,46 @@
+//! The padding of an interrupted module, and the case that a cycle ends in.
+#![tactic(auto)]
+
+ghost use Rattle.std.specs.Prelude.{◌≡◌, ◌-◌, ◌<◌, ◌≤◌};
+ghost use Rattle.irq_padding.specs.Padding.{padding, stepped};
+
+use reg_backup::{After, Phase};
+
+#[cfg(test)]
+mod tests;
+mod turn;
+
+pub use turn::{Turn, choose};
+
+/// The cycles of padding that follow the cycle in which an interrupt of a module is accepted.
+const PADDING: u8 = 11;
+
+/// The phase in which the machine is once an interrupt of a module was accepted.
+pub fn arrive() -> Phase
+    ensures { result ≡ Phase.Pad 11 }
+{
+    Phase::Pad { left: PADDING }
+}
+
+/// The phase, and what is settled after it, once one of the `left` cycles of padding has passed. With
+/// none left the handler starts.
+pub fn pad_step(left: u8) -> (Phase, After)
+    requires { 0 < left }
+    ensures { result ≡ padding (left - 1) }
+{
+    pad_by(left, 1)
+}
+
+/// The same once `n` of the `left` cycles of padding have passed.
+pub fn pad_by(left: u8, n: u8) -> (Phase, After)
+    requires some { 0 < n }
+    requires enough { n ≤ left }
+    ensures stepped { result ≡ stepped n (Phase.Pad left, After.Next) }
+    ensures padding { result ≡ padding (left - n) }
+{
+    if n < left {
+        (Phase::Pad { left: left - n }, After::Next)
+    } else {
+        (Phase::Run { rest: 0 }, After::Handler)
+    }
+}

@@ -1,0 +1,282 @@
+-- A cycle in which the module is active in both runs.
+use Rattle.std.proofs.Common.{◌≡◌, ⊎_elim, ℕ, zero, suc, ◌+◌, ◌*◌, ◌%◌, List, [], ◌∷◌, length, map, refl, sym, ap, ◌∙◌, subst, arith, Bool, true, false, cond, not, ◌&&◌, ◌||◌, ◌==◌, Option, Some, None}
+use Rattle.std.proofs.lemmas.Bool.Decides.{nat_tests}
+use Rattle.sm_words.specs.Sums.{one_if}
+use Rattle.sm_words.specs.Words.{reg, word_at, IsCore}
+use Rattle.insn_decode.specs.Code.{insn_of, length_of}
+use Rattle.insn_decode.specs.declared.insn.Insn.{Insn}
+use Rattle.mod_layout.specs.Table.{place_of, holds}
+use Rattle.mod_layout.specs.declared.Module.{Module}
+use Rattle.mod_layout.specs.declared.Place.{Place}
+use Rattle.mod_layout.specs.declared.Place.TheVariants.{Open, Entry, Text, Data}
+use Rattle.pc_access.specs.Rights.{is_id, is_held, refuse_if, right, right_at}
+use Rattle.pc_access.specs.declared.Kind.TheVariants.{Fetch}
+use Rattle.pc_access.specs.declared.Rule.{Rule}
+use Rattle.reg_backup.specs.Held.{held_ids}
+use Rattle.reg_backup.specs.Saved.{is_close}
+use Rattle.reg_backup.specs.declared.backup.Phase.{Phase}
+use Rattle.reg_backup.specs.declared.backup.Phase.TheVariants.{Run}
+use Rattle.reg_backup.specs.declared.frames.Frame.{Frame}
+use Rattle.reg_backup.specs.declared.frames.Frame.TheVariants.{Plain, Module as Held}
+use Rattle.attest.specs.Accesses.{reads_of}
+use Rattle.cpu_step.specs.Asked.{asks}
+use Rattle.cpu_step.specs.Fetched.{insn_at}
+use Rattle.cpu_step.specs.Lone.{Job, Lone, Doing, Waits, Closes, Leaves, Breaks, Does, doing, doing_by, next_insn, next_first, if_home, may_do, text_word, lone_does, lone_step_by, lone_read, lone_who, lone_byte, is_alone, all_inside, job_of}
+use Rattle.written_machine.specs.Cycle.{Step, quiet, told, pc_of, rest_of, due, arrive_inside, turn_by, turn, begin_unless, begin, enter_at, enter, fetch, act}
+use Rattle.written_machine.specs.Peers.{section}
+use Rattle.written_machine.specs.State.{State}
+use Rattle.isolation.proofs.Evenly.{Evenly, Together, next_together}
+use Rattle.isolation.proofs.Gie.{effect_gie}
+use Rattle.isolation.proofs.Hide.{veil_core, hide_by}
+use Rattle.isolation.proofs.Inside.{did_act}
+use Rattle.isolation.proofs.Lockstep.{Moves, moves_alike}
+use Rattle.isolation.proofs.Relation.{times, backup_of, run_by, run_of, lone_of, IsOpen, Secret, Open as IsOpenNow, Keeps, Ready, Alike, Outer, outer_alike, seen_inside, seen_active}
+use Rattle.isolation.proofs.Settled.{arrive_inside_stays}
+use Rattle.isolation.proofs.Settling.{arrive_hidden, due_hidden}
+
+pub active_some : (m : ℕ) (a : Option ℕ) → is_id m a ≡ true → a ≡ Some m
+active_some m None e = cc
+active_some m (Some x) e = let same : x ≡ m = grind (arith, nat_tests) in ap Some same
+
+-- ---- what the next instruction may be
+if_alone : (b : Bool) (x insn : Insn) (c : Bool) → b ≡ (is_alone x && c) → cond b (Some x) None ≡ Some insn → is_alone insn ≡ true
+if_alone true x insn c e f =
+    let same : x ≡ insn = cc in
+    let a : is_alone x ≡ true = left (is_alone x) c (sym e) in
+    subst (λ i. is_alone i ≡ true) same a
+  where
+    left : (p q : Bool) → (p && q) ≡ true → p ≡ true
+    left true q e = refl
+    left false q e = e
+if_alone false x insn c e f = cc
+
+may_alone : (j : Job) (l : Lone) (o : Option Insn) (insn : Insn) → may_do j l o ≡ Some insn → is_alone insn ≡ true
+may_alone j l None insn e = cc
+may_alone j l (Some x) insn e = if_alone (is_alone x && all_inside j (asks (lone_who j) x l.core)) x insn (all_inside j (asks (lone_who j) x l.core)) refl e
+
+home_alone : (b : Bool) (j : Job) (l : Lone) (o : Option Insn) (insn : Insn) → if_home b (may_do j l o) ≡ Some insn → is_alone insn ≡ true
+home_alone true j l o insn e = may_alone j l o insn e
+home_alone false j l o insn e = cc
+
+first_alone : (j : Job) (l : Lone) (o : Option Insn) (insn : Insn) → next_first o j l ≡ Some insn → is_alone insn ≡ true
+first_alone j l None insn e = cc
+first_alone j l (Some first) insn e =
+    let pc = reg l.core 0 in
+    let n = length_of first in
+    home_alone (text_word j pc n 1 && text_word j pc n 2) j l (insn_at (lone_byte j l.data_bytes) pc n) insn e
+
+next_alone : (j : Job) (l : Lone) (insn : Insn) → next_insn j l ≡ Some insn → is_alone insn ≡ true
+unfolding next_insn
+next_alone j l insn e = first_alone j l (insn_of (word_at (lone_byte j l.data_bytes) (reg l.core 0)) 0 0) insn e
+
+pub does_gie : (j : Job) (l : Lone) (insn : Insn) → next_insn j l ≡ Some insn → length l.core ≡ 16 → veil_core (lone_does j insn l).core ≡ veil_core l.core
+unfolding lone_does
+does_gie j l insn e len =
+    let g = effect_gie insn (lone_who j) l.core (map (lone_read j l.data_bytes) (reads_of (asks (lone_who j) insn l.core))) (next_alone j l insn e) refl len in
+    ap (λ b. 0 ∷ 0 ∷ 8 * b ∷ []) g
+
+-- ---- what the module is about to do
+waits_rest : (r : ℕ) (c t : Bool) (n : Option Insn) (r' : ℕ) → doing_by r c t n ≡ Waits r' → r ≡ suc r'
+waits_rest (suc r) c t n r' e = let k : r ≡ r' = cc in ap suc k
+waits_rest zero true t n r' e = cc
+waits_rest zero false false n r' e = cc
+waits_rest zero false true None r' e = cc
+waits_rest zero false true (Some i) r' e = cc
+
+does_now : (r : ℕ) (c t : Bool) (n : Option Insn) (i : Insn) → doing_by r c t n ≡ Does i → (r ≡ 0) × (t ≡ true) × (n ≡ Some i)
+does_now (suc r) c t n i e = absurd cc
+does_now zero true t n i e = absurd cc
+does_now zero false false n i e = absurd cc
+does_now zero false true None i e = absurd cc
+does_now zero false true (Some x) i e = let k : x ≡ i = cc in (refl, refl, ap Some k)
+
+held_by : (c : Bool) (n : ℕ) (x : Bool) → one_if c + n ≡ 0 → (n ≡ 0 → x ≡ false) → (c || x) ≡ false
+held_by true n x e h = absurd (omega arith)
+held_by false n x e h = h (omega arith)
+
+pub not_held : (m : ℕ) (fs : List Frame) → times m fs ≡ 0 → is_held m (held_ids fs) ≡ false
+not_held m [] e = refl
+not_held m (Plain ∷ fs) e = not_held m fs e
+not_held m (Held b ∷ fs) e = held_by (b.module == m) (times m fs) (is_held m (held_ids fs)) e (λ z. not_held m fs z)
+
+module _ (m : ℕ) (own : Module) (key text : List ℕ) (s : State) (k : Keeps m own key text s) (active_is : s.active ≡ Some m) where
+  pub act_moves : (l : Lone) (insn : Insn) → pc_of s % 2 ≡ 0 → holds own.text (pc_of s) ≡ true → l.core ≡ s.core → l.data_bytes ≡ section own.ram s.memory → next_insn (job_of key own text s.caller) l ≡ Some insn → Moves m own s (lone_does (job_of key own text s.caller) insn l) (act s)
+  act_moves l insn even here core_is bytes_are e =
+      let d = did_act m own s.table k.sound (job_of key own text s.caller) refl s refl active_is k.text_is k.key_is refl even here l core_is bytes_are insn e in
+      record { memory = d.memory; is = d.is; bytes = d.bytes; rest = d.rest; text = d.text }
+
+  same_id : (m == m) ≡ true
+  same_id = grind (arith, nat_tests)
+
+  is_active : is_id m s.active ≡ true
+  is_active = ap (is_id m) active_is ∙ same_id
+
+  no_frame : is_held m (held_ids s.frames) ≡ false
+  no_frame = not_held m s.frames (let a : one_if (is_id m s.active) ≡ 1 = ap one_if is_active in let k1 = k.once in omega arith)
+
+  fetch_allowed : holds own.text (pc_of s) ≡ true → right s.table s.active (held_ids s.frames) (fetch s) ≡ None
+  unfolding right
+  fetch_allowed here =
+      ap (λ a. right_at (place_of s.table (pc_of s)) a (held_ids s.frames) Fetch (pc_of s)) active_is
+      ∙ ⊎_elim
+      (λ p. ap (λ x. right_at x (Some m) (held_ids s.frames) Fetch (pc_of s)) p ∙ ap (λ b. refuse_if (not b) Rule.FetchNotEntry (pc_of s) m) same_id)
+      (λ p. ap (λ x. right_at x (Some m) (held_ids s.frames) Fetch (pc_of s)) p ∙ ap (λ b. refuse_if b Rule.Reenter (pc_of s) m) no_frame)
+      (k.sound.in_text (pc_of s) here)
+
+  enter_some : (p : Place) (left : ℕ) → enter_at p (Some m) left s ≡ quiet s
+  enter_some (Entry id) left = refl
+  enter_some Open left = refl
+  enter_some (Text id) left = refl
+  enter_some (Data id) left = refl
+
+  pub enter_inside : (left : ℕ) → enter left s ≡ quiet s
+  unfolding enter
+  enter_inside left = ap (λ a. enter_at (place_of s.table (pc_of s)) a left s) active_is ∙ enter_some (place_of s.table (pc_of s)) left
+
+  begin_inside : (left : ℕ) → holds own.text (pc_of s) ≡ true → begin left s ≡ act s
+  unfolding begin
+  begin_inside left here =
+      ap (λ d. begin_unless d left s) (fetch_allowed here) ∙ ap (λ e. told e.events (act e.state)) (enter_inside left)
+
+  -- where nothing arrives
+  turn_to : (left : ℕ) (p : Phase) → due s ≡ None → s.phase ≡ p → turn left s ≡ turn_by None (Some m) p left s
+  unfolding turn
+  turn_to left p d e =
+      ap (λ v. turn_by v s.active s.phase left s) d ∙ ap (λ a. turn_by None a s.phase left s) active_is ∙ ap (λ q. turn_by None (Some m) q left s) e
+
+  here_lone : Lone
+  here_lone = lone_of (backup_of m s) (section own.ram s.memory)
+
+  waits_moves : (left r : ℕ) → due s ≡ None → rest_of s.phase ≡ suc r → Moves m own s (record (lone_of (backup_of m s) (section own.ram s.memory)) { rest = r }) (turn left s)
+  waits_moves left r d e =
+      let p = k.proper is_active in
+      record {
+        memory = s.memory;
+        is = turn_to left (Run (suc r)) d (p.0 ∙ ap Run e) ∙ ap (λ a. let u : Step = quiet (record s { phase = Run r; after = a }) in u) p.1;
+        bytes = refl;
+        rest = refl;
+        text = refl;
+      }
+
+  does_moves : (left : ℕ) (insn : Insn) → due s ≡ None → pc_of s % 2 ≡ 0 → rest_of s.phase ≡ 0 → holds own.text (pc_of s) ≡ true → next_insn (job_of key own text s.caller) (lone_of (backup_of m s) (section own.ram s.memory)) ≡ Some insn → Moves m own s (lone_does (job_of key own text s.caller) insn (lone_of (backup_of m s) (section own.ram s.memory))) (turn left s)
+  does_moves left insn d even e here next =
+      let p = k.proper is_active in
+      let to : turn left s ≡ act s = turn_to left (Run 0) d (p.0 ∙ ap Run e) ∙ begin_inside left here in
+      subst (Moves m own s (lone_does (job_of key own text s.caller) insn (lone_of (backup_of m s) (section own.ram s.memory)))) (sym to)
+      (act_moves (lone_of (backup_of m s) (section own.ram s.memory)) insn even here refl refl next)
+
+  abbrev IsGoing : Doing → Type 0
+  IsGoing (Waits r) = Unit {0}
+  IsGoing (Does i) = Unit {0}
+  IsGoing _ = ⊥
+
+  -- its turn is its own next step, and GIE stays
+  pub turn_moves : (left : ℕ) (x : Doing) → IsCore s.core → due s ≡ None → doing (job_of key own text s.caller) (lone_of (backup_of m s) (section own.ram s.memory)) ≡ x → IsGoing x →
+      Moves m own s (lone_step_by x (job_of key own text s.caller) (lone_of (backup_of m s) (section own.ram s.memory))) (turn left s) × (veil_core (lone_step_by x (job_of key own text s.caller) (lone_of (backup_of m s) (section own.ram s.memory))).core ≡ veil_core s.core)
+  unfolding doing
+  turn_moves left (Waits r) ok d e g = (waits_moves left r d (waits_rest (rest_of s.phase) (is_close s.after) (holds own.text (pc_of s)) _ r e), refl)
+  turn_moves left (Does i) ok d e g =
+      let w = does_now (rest_of s.phase) (is_close s.after) (holds own.text (pc_of s)) _ i e in
+      (does_moves left i d ok.even_pc w.0 w.1 w.2, does_gie (job_of key own text s.caller) (lone_of (backup_of m s) (section own.ram s.memory)) i w.2 ok.sixteen)
+  turn_moves left Closes ok d e g = absurd g
+  turn_moves left Leaves ok d e g = absurd g
+  turn_moves left Breaks ok d e g = absurd g
+
+arrived_none : (v id : ℕ) (s : State) → is_id id (arrive_inside v id s).state.active ≡ false
+unfolding arrive_inside
+arrived_none v id s = refl
+
+module _ (m : ℕ) (own : Module) (key text : List ℕ) (a b : State) (ready : Ready m own key text a b) (act_a : is_id m a.active ≡ true) (ok_a : IsCore a.core) (ok_b : IsCore b.core) where
+  act_b : is_id m b.active ≡ true
+  act_b = ap (is_id m) (sym (seen_active m own key text a b ready.twins.seen)) ∙ act_a
+
+  some_a : a.active ≡ Some m
+  some_a = active_some m a.active act_a
+
+  some_b : b.active ≡ Some m
+  some_b = active_some m b.active act_b
+
+  seen_in : hide_by true m own a ≡ hide_by true m own b
+  seen_in = seen_inside m own key text a b ready.twins.seen act_a
+
+  lone_a : Lone
+  lone_a = lone_of (backup_of m a) (section own.ram a.memory)
+
+  secret_now : Secret m own key text (Some (backup_of m a)) (Some (backup_of m b)) (section own.ram a.memory) (section own.ram b.memory)
+  secret_now =
+      let h = ready.twins.secret in
+      let h1 = subst (λ c. Secret m own key text (run_by c m a) (run_of m b) (section own.ram a.memory) (section own.ram b.memory)) act_a h in
+      subst (λ c. Secret m own key text (Some (backup_of m a)) (run_by c m b) (section own.ram a.memory) (section own.ram b.memory)) act_b h1
+
+  job_same : job_of key own text b.caller ≡ job_of key own text a.caller
+  job_same = ap (job_of key own text) (sym secret_now.0)
+
+  open_a : IsOpen (doing (job_of key own text a.caller) (lone_of (backup_of m a) (section own.ram a.memory)))
+  open_a = subst (λ c. IsOpenNow m own key text (run_by c m a) (section own.ram a.memory)) act_a ready.now_a
+
+  open_b : IsOpen (doing (job_of key own text b.caller) (lone_of (backup_of m b) (section own.ram b.memory)))
+  open_b = subst (λ c. IsOpenNow m own key text (run_by c m b) (section own.ram b.memory)) act_b ready.now_b
+
+  -- an arrival, which sees no secret
+  arrives : (v : ℕ) → Alike m own key text (arrive_inside v m a) (arrive_inside v m b)
+  arrives v =
+      outer_alike m own key text a b (arrive_inside v m a) (arrive_inside v m b) (arrive_inside v m (hide_by true m own a)) (arrive_inside v m (hide_by true m own b)) ready
+      (outer a ready.twins.keeps_a some_a) (outer b ready.twins.keeps_b some_b) (ap (arrive_inside v m) seen_in)
+    where
+      outer : (s : State) → Keeps m own key text s → s.active ≡ Some m → Outer m own key text s (arrive_inside v m s) (arrive_inside v m (hide_by true m own s))
+      outer s k e =
+          let id : (m == m) ≡ true = grind (arith, nat_tests) in
+          record {
+            same = arrive_hidden m own true s.table k.sound v m s id ∙ ap (λ c. let u : Step = record (arrive_inside v m s) { state = hide_by c m own (arrive_inside v m s).state } in u) (sym (arrived_none v m s));
+            stays = arrive_inside_stays m own key text true v m s k e id;
+          }
+
+  finish : (left : ℕ) (x y : Doing) → due a ≡ None → due b ≡ None →
+      doing (job_of key own text a.caller) (lone_of (backup_of m a) (section own.ram a.memory)) ≡ x →
+      doing (job_of key own text b.caller) (lone_of (backup_of m b) (section own.ram b.memory)) ≡ y →
+      IsGoing m own key text a ready.twins.keeps_a some_a x → IsGoing m own key text b ready.twins.keeps_b some_b y →
+      Evenly key own text (job_of key own text a.caller) (lone_step_by x (job_of key own text a.caller) (lone_of (backup_of m a) (section own.ram a.memory))) (lone_step_by y (job_of key own text b.caller) (lone_of (backup_of m b) (section own.ram b.memory))) → Alike m own key text (turn left a) (turn left b)
+  finish left x y da db ea eb ga gb ev =
+      let va = turn_moves m own key text a ready.twins.keeps_a some_a left x ok_a da ea ga in
+      let vb = turn_moves m own key text b ready.twins.keeps_b some_b left y ok_b db eb gb in
+      moves_alike m own key text a b (lone_step_by x (job_of key own text a.caller) (lone_of (backup_of m a) (section own.ram a.memory))) (lone_step_by y (job_of key own text b.caller) (lone_of (backup_of m b) (section own.ram b.memory))) (turn left a) (turn left b) ready.twins.keeps_a ready.twins.keeps_b act_a act_b seen_in va.0 vb.0 va.1 vb.1 ev
+
+  -- both go on
+  go : (left : ℕ) (x y : Doing) → due a ≡ None → due b ≡ None →
+      doing (job_of key own text a.caller) (lone_of (backup_of m a) (section own.ram a.memory)) ≡ x →
+      doing (job_of key own text b.caller) (lone_of (backup_of m b) (section own.ram b.memory)) ≡ y →
+      IsOpen x → IsOpen y →
+      Together key own text (job_of key own text a.caller) x y (lone_of (backup_of m a) (section own.ram a.memory)) (lone_of (backup_of m b) (section own.ram b.memory)) → Alike m own key text (turn left a) (turn left b)
+  go left (Waits r) (Waits r') da db ea eb oa ob t = finish left (Waits r) (Waits r') da db ea eb tt tt t
+  go left (Waits r) (Does i) da db ea eb oa ob t = finish left (Waits r) (Does i) da db ea eb tt tt (subst (λ j. Evenly key own text (job_of key own text a.caller) (record (lone_of (backup_of m a) (section own.ram a.memory)) { rest = r }) (lone_does j i (lone_of (backup_of m b) (section own.ram b.memory)))) (sym job_same) t)
+  go left (Does i) (Waits r) da db ea eb oa ob t = finish left (Does i) (Waits r) da db ea eb tt tt t
+  go left (Does i) (Does i') da db ea eb oa ob t = finish left (Does i) (Does i') da db ea eb tt tt (subst (λ j. Evenly key own text (job_of key own text a.caller) (lone_does (job_of key own text a.caller) i (lone_of (backup_of m a) (section own.ram a.memory))) (lone_does j i' (lone_of (backup_of m b) (section own.ram b.memory)))) (sym job_same) t)
+  go left Closes y da db ea eb oa ob t = absurd oa
+  go left Leaves y da db ea eb oa ob t = absurd oa
+  go left Breaks y da db ea eb oa ob t = absurd t
+  go left (Waits r) Closes da db ea eb oa ob t = absurd t
+  go left (Waits r) Leaves da db ea eb oa ob t = absurd t
+  go left (Waits r) Breaks da db ea eb oa ob t = absurd t
+  go left (Does i) Closes da db ea eb oa ob t = absurd t
+  go left (Does i) Leaves da db ea eb oa ob t = absurd t
+  go left (Does i) Breaks da db ea eb oa ob t = absurd t
+
+  due_same : due a ≡ due b
+  due_same = sym (due_hidden m own a) ∙ ap due ready.twins.seen ∙ due_hidden m own b
+
+  arrive_turn : (v left : ℕ) (s : State) → s.active ≡ Some m → s.phase ≡ Run (rest_of s.phase) → due s ≡ Some v → turn left s ≡ arrive_inside v m s
+  unfolding turn
+  arrive_turn v left s e p d =
+      ap (λ x. turn_by x s.active s.phase left s) d ∙ ap (λ x. turn_by (Some v) x s.phase left s) e ∙ ap (λ x. turn_by (Some v) (Some m) x left s) p
+
+  by_due : (left : ℕ) (d : Option ℕ) → due a ≡ d → due b ≡ d → Alike m own key text (turn left a) (turn left b)
+  by_due left None da db =
+      go left _ _ da db refl refl open_a open_b (subst (λ j. Together key own text (job_of key own text a.caller) (doing (job_of key own text a.caller) (lone_of (backup_of m a) (section own.ram a.memory))) (doing j (lone_of (backup_of m b) (section own.ram b.memory))) (lone_of (backup_of m a) (section own.ram a.memory)) (lone_of (backup_of m b) (section own.ram b.memory))) (sym job_same) (next_together key own text (job_of key own text a.caller) _ _ secret_now.1))
+  by_due left (Some v) da db =
+      let pa = ready.twins.keeps_a.proper act_a in
+      let pb = ready.twins.keeps_b.proper act_b in
+      subst (λ u. Alike m own key text u (turn left b)) (sym (arrive_turn v left a some_a pa.0 da))
+      (subst (λ u. Alike m own key text (arrive_inside v m a) u) (sym (arrive_turn v left b some_b pb.0 db)) (arrives v))
+
+  pub active_turn : (left : ℕ) → Alike m own key text (turn left a) (turn left b)
+  active_turn left = by_due left (due a) refl (sym due_same)

@@ -1,0 +1,149 @@
+-- The cycles of a call are its own and those between its hides and resumes.
+use Rattle.std.proofs.Common.{◌≡◌, ◌≢◌, ℕ, zero, suc, ◌+◌, ◌<◌, ◌≤◌, List, [], ◌∷◌, ◌++◌, refl, sym, ap, ◌∙◌, subst, arith, Bool, true, false, cond, ◌&&◌, ◌==◌, Option, Some, None, is_none}
+use Rattle.std.proofs.lemmas.Bool.Decides.{nat_tests}
+use Rattle.sm_words.specs.Words.{IsCore}
+use Rattle.mod_layout.specs.declared.Module.{Module}
+use Rattle.pc_access.specs.Rights.{is_id}
+use Rattle.pc_access.specs.declared.Stop.{Stop}
+use Rattle.cpu_step.specs.Lone.{Lone, Doing, Waits, Closes, Leaves, Breaks, Does, doing, lone_after, outcome, job_of}
+use Rattle.tracer.specs.declared.Event.{Event}
+use Rattle.written_machine.specs.Cycle.{Step, told, unsettled, due, ticked, settle, turn, arrive_inside, sent_event, counted_by, move, cycle_by, cycle, after_cycles}
+use Rattle.written_machine.specs.Peers.{section}
+use Rattle.written_machine.specs.State.{State}
+use Rattle.isolation.specs.Calls.{works, worked, NoEnd, NotBroken, Away, away_if, back_from, notes, away, backup_of, run_by, lone_of, find_held}
+use Rattle.isolation.proofs.Active.{active_some, turn_moves}
+use Rattle.isolation.proofs.Ending.{settled_as, settled_doing}
+use Rattle.isolation.proofs.Fine.{Fine, settled_fine}
+use Rattle.isolation.proofs.Follow.{job, Follows, Now, follow_stays, settle_follows, active_doing, arrives_at, ticked_same, counted_events}
+use Rattle.isolation.proofs.Relation.{IsOpen}
+use Rattle.isolation.proofs.Settled.{ticked_stays}
+use Rattle.isolation.proofs.Still.{still_notes, notes_more, sent_still, turn_still, Told, settle_told}
+use Rattle.isolation.proofs.Transparent.{follows_on, more_by, never_breaks}
+use Rattle.isolation.proofs.Turns.{held_idle}
+
+-- while it is active all the cycles so far are its own or between a hide and its resume; while it is held, those up to the hide
+abbrev pub Balance : Bool → ℕ → Away → ℕ → Type 0
+Balance true i w c = (w.since ≡ None) × (w.sum + c ≡ i)
+Balance false i w c = (h : ℕ) × (w.since ≡ Some h) × (h ≤ i) × (w.sum + c ≡ h)
+
+arrived : (v id : ℕ) (s : State) → ((arrive_inside v id s).events ≡ Event.Hide id v ∷ []) × ((arrive_inside v id s).state.active ≡ None)
+unfolding arrive_inside
+arrived v id s = (refl, refl)
+
+module _ (m : ℕ) (own : Module) (key text : List ℕ) (from : ℕ) where
+  quiet_by : (x : Doing) (s : State) → NoEnd m (settled_as m own key text x s).events → settled_as m own key text x s ≡ unsettled s
+  quiet_by Closes s n = absurd (n.0 refl)
+  quiet_by Leaves s n = absurd (n.0 refl)
+  quiet_by (Waits r) s n = refl
+  quiet_by (Does i) s n = refl
+  quiet_by Breaks s n = refl
+
+  settle_quiet : (s : State) (la : Lone) → Follows m own key text from s la → is_id m s.active ≡ true → NoEnd m (settle s).events → settle s ≡ unsettled s
+  settle_quiet s la f act n =
+      let d = settled_doing m own key text s f.keeps act in
+      d ∙ quiet_by (doing (job_of key own text s.caller) (lone_of (backup_of m s) (section own.ram s.memory))) s (subst (λ u. NoEnd m u.events) d n)
+
+  -- where nothing arrives, its turn tells nothing, and it stays active
+  plain_by : (left : ℕ) (x : Doing) (s : State) (la : Lone) → Now m own key text from s la → is_id m s.active ≡ true → IsCore s.core → due s ≡ None → doing (job m own key text from) la ≡ x → x ≢ Breaks → ((turn left s).events ≡ []) × ((turn left s).state.active ≡ s.active)
+  plain_by left (Waits r) s la f act ok d e nb =
+      let v = (turn_moves m own key text s f.follows.keeps (active_some m s.active act) left (Waits r) ok d (active_doing m own key text from s la f.follows act ∙ e) tt).0 in
+      (ap (λ u. u.events) v.is, ap (λ u. u.state.active) v.is)
+  plain_by left (Does i) s la f act ok d e nb =
+      let v = (turn_moves m own key text s f.follows.keeps (active_some m s.active act) left (Does i) ok d (active_doing m own key text from s la f.follows act ∙ e) tt).0 in
+      (ap (λ u. u.events) v.is, ap (λ u. u.state.active) v.is)
+  plain_by left Closes s la f act ok d e nb = absurd (subst IsOpen e f.now)
+  plain_by left Leaves s la f act ok d e nb = absurd (subst IsOpen e f.now)
+  plain_by left Breaks s la f act ok d e nb = absurd (nb refl)
+
+  active_turns : (left : ℕ) (d : Option ℕ) (s : State) (la : Lone) → Now m own key text from s la → is_id m s.active ≡ true → IsCore s.core → due s ≡ d → (is_none d ≡ true → doing (job m own key text from) la ≢ Breaks) → (i : ℕ) (w : Away) (c : ℕ) → Balance true i w c → Balance (is_id m (turn left s).state.active) (i + 1) (notes m i (turn left s).events w) (c + cond (is_none d) 1 0)
+  active_turns left None s la f act ok e nb i w c b =
+      let p = plain_by left (doing (job m own key text from) la) s la f act ok e refl (nb refl) in
+      let k : Balance true (i + 1) w (c + 1) = (b.0, let q = b.1 in omega arith) in
+      subst (λ x. Balance x (i + 1) (notes m i (turn left s).events w) (c + 1)) (sym (ap (is_id m) p.1 ∙ act)) (subst (λ es. Balance true (i + 1) (notes m i es w) (c + 1)) (sym p.0) k)
+  active_turns left (Some v) s la f act ok e nb i w c b =
+      let a = active_some m s.active act in
+      let same : (m == m) ≡ true = grind (arith, nat_tests) in
+      let t = arrives_at m own key text from v left s a (f.follows.keeps.proper act).0 e in
+      let q = arrived v m s in
+      let w' : Away = record { since = Some i; sum = w.sum } in
+      let k : Balance false (i + 1) w' (c + 0) = (i, refl, omega arith, let z = b.1 in omega arith) in
+      let k1 = subst (λ x. Balance false (i + 1) (away_if x w' w) (c + 0)) (sym same) k in
+      let k2 = subst (λ es. Balance false (i + 1) (notes m i es w) (c + 0)) (sym (ap (λ u. u.events) t ∙ q.0)) k1 in
+      subst (λ x. Balance x (i + 1) (notes m i (turn left s).events w) (c + 0)) (sym (ap (λ u. is_id m u.state.active) t ∙ ap (is_id m) q.1)) k2
+
+  held_turns : (left : ℕ) (s : State) (la : Lone) → Now m own key text from s la → is_id m s.active ≡ false → IsCore s.core → (i : ℕ) (w : Away) (c : ℕ) → Balance false i w c → Balance (is_id m (turn left s).state.active) (i + 1) (notes m i (turn left s).events w) (c + 0)
+  held_turns left s la f out ok i w c b =
+      let held : find_held m s.frames ≡ Some f.follows.backup = ap (λ x. run_by x m s) (sym out) ∙ f.follows.run in
+      let idle = held_idle m own key text s f.follows.keeps out ok f.follows.backup held left in
+      let k : Balance false (i + 1) w (c + 0) = (b.0, b.1, let z = b.2 in omega arith, let z = b.3 in omega arith) in
+      let k1 = subst (λ x. Balance false (i + 1) x (c + 0)) (sym (still_notes m i (turn left s).events w (turn_still m left s out))) k in
+      subst (λ x. Balance x (i + 1) (notes m i (turn left s).events w) (c + 0)) (sym idle) k1
+
+  turns : (left : ℕ) (x : Bool) (s : State) (la : Lone) → Now m own key text from s la → is_id m s.active ≡ x → IsCore s.core → ((x && is_none (due s)) ≡ true → doing (job m own key text from) la ≢ Breaks) → (i : ℕ) (w : Away) (c : ℕ) → Balance x i w c → Balance (is_id m (turn left s).state.active) (i + 1) (notes m i (turn left s).events w) (c + cond (x && is_none (due s)) 1 0)
+  turns left true s la f e ok nb i w c b = active_turns left (due s) s la f e ok refl nb i w c b
+  turns left false s la f e ok nb i w c b = held_turns left s la f e ok i w c b
+
+  -- ---- settling
+  told_balance : (x : Bool) (es : List Event) (i : ℕ) (w : Away) (c : ℕ) → Told m x es → Balance false i w c → Balance x i (notes m i es w) c
+  told_balance false es i w c t b = subst (λ y. Balance false i y c) (sym (still_notes m i es w t)) b
+  told_balance true es i w c t b =
+      let same : (m == m) ≡ true = grind (arith, nat_tests) in
+      let k : Balance true i (back_from (Some b.0) i w.sum) c = (refl, let z = b.3 in let y = b.2 in omega arith) in
+      let k1 = subst (λ o. Balance true i (back_from o i w.sum) c) (sym b.1) k in
+      let k2 = subst (λ y. Balance true i (away_if y (back_from w.since i w.sum) w) c) (sym same) k1 in
+      subst (λ l. Balance true i (notes m i l w) c) (sym t) k2
+
+  settles : (x : Bool) (s : State) (la : Lone) → Follows m own key text from s la → is_id m s.active ≡ x → NoEnd m (settle s).events → (i : ℕ) (w : Away) (c : ℕ) → Balance x i w c → Balance (is_id m (settle s).state.active) i (notes m i (settle s).events w) c
+  settles true s la f e n i w c b =
+      let q = settle_quiet s la f e n in
+      subst (λ u. Balance (is_id m u.state.active) i (notes m i u.events w) c) (sym q) (subst (λ y. Balance y i w c) (sym e) b)
+  settles false s la f e n i w c b = told_balance (is_id m (settle s).state.active) (settle s).events i w c (settle_told m s e) b
+
+  -- ---- a cycle
+  counted : (o : Option Stop) (es : List Event) (t : Step) (i : ℕ) (w : Away) (c : ℕ) → Balance (is_id m t.state.active) (i + 1) (notes m i t.events (notes m i es w)) c → Balance (is_id m (counted_by o (told es t)).state.active) (i + 1) (notes m i (counted_by o (told es t)).events w) c
+  counted (Some stop) es t i w c b = subst (λ y. Balance (is_id m t.state.active) (i + 1) y c) (sym (notes_more m i es t.events w)) b
+  counted None es t i w c b =
+      let s = sent_event t.state.devices.sent in
+      let e : notes m i (es ++ t.events ++ s) w ≡ notes m i t.events (notes m i es w) =
+      notes_more m i (es ++ t.events) s w ∙ still_notes m i s (notes m i (es ++ t.events) w) (sent_still m t.state.devices.sent) ∙ notes_more m i es t.events w in
+      subst (λ y. Balance (is_id m t.state.active) (i + 1) y c) (sym e) b
+
+  moves_balance : (s : State) (la : Lone) → Follows m own key text from s la → Fine s → NoEnd m (move s).events → (let u = settle (ticked s) in (is_id m u.state.active && is_none (due u.state)) ≡ true → doing (job m own key text from) la ≢ Breaks) → (i : ℕ) (w : Away) (c : ℕ) → Balance (is_id m s.active) i w c → Balance (is_id m (move s).state.active) (i + 1) (notes m i (move s).events w) (c + (let u = settle (ticked s) in cond (is_id m u.state.active && is_none (due u.state)) 1 0))
+  unfolding move
+  moves_balance s la f fine n nb i w c b =
+      let t = ticked s in
+      let u = settle t in
+      let v = turn u.left u.state in
+      let g = follow_stays m own key text from s t la f (ticked_stays m own key text s f.keeps) (λ h. f.opened (ap (is_id m) (sym (ticked_same m own key text from s)) ∙ h)) in
+      let ne = counted_events m own key text from v.state.stop u.events v n in
+      let now = settle_follows m own key text from (is_id m t.active) t la g refl ne in
+      let b1 = subst (λ a. Balance (is_id m a) i w c) (sym (ticked_same m own key text from s)) b in
+      let b2 = settles (is_id m t.active) t la g refl ne i w c b1 in
+      let b3 = turns u.left (is_id m u.state.active) u.state la now refl (settled_fine s fine).fine.core_ok nb i (notes m i u.events w) c b2 in
+      counted v.state.stop u.events v i w (c + cond (is_id m u.state.active && is_none (due u.state)) 1 0) b3
+
+  works_is : (s : State) → s.stop ≡ None → works m s ≡ (let u = settle (ticked s) in is_id m u.state.active && is_none (due u.state))
+  works_is s e = ap (λ x. is_none x && is_id m (settle (ticked s)).state.active && is_none (due (settle (ticked s)).state)) e
+
+  cycle_balance : (s : State) (la : Lone) → s.stop ≡ None → Follows m own key text from s la → Fine s → NoEnd m (cycle s).events → (works m s ≡ true → doing (job m own key text from) la ≢ Breaks) → (i : ℕ) (w : Away) (c : ℕ) → Balance (is_id m s.active) i w c → Balance (is_id m (cycle s).state.active) (i + 1) (notes m i (cycle s).events w) (c + cond (works m s) 1 0)
+  cycle_balance s la e f fine n nb i w c b =
+      let same : cycle s ≡ move s = ap (λ o. cycle_by o s) e in
+      let n' = subst (λ u. NoEnd m u.events) same n in
+      let r = moves_balance s la f fine n' (λ h. nb (works_is s e ∙ h)) i w c b in
+      let r1 = subst (λ x. Balance (is_id m (move s).state.active) (i + 1) (notes m i (move s).events w) (c + cond x 1 0)) (sym (works_is s e)) r in
+      subst (λ u. Balance (is_id m u.state.active) (i + 1) (notes m i u.events w) (c + cond (works m s) 1 0)) (sym same) r1
+
+  -- over n cycles from a state where the module has done one cycle of its own and is active
+  module _ (s : State) (l0 : Lone) (act : is_id m s.active ≡ true) (f0 : Follows m own key text from s (lone_after (job m own key text from) l0 1)) where
+    lower : (c : ℕ) (b : Bool) → NotBroken (outcome (job m own key text from) (1 + (c + cond b 1 0)) l0) → NotBroken (outcome (job m own key text from) (1 + c) l0)
+    lower c b h = more_by m own key text from s l0 0 b (1 + c) l0 (subst (λ k. NotBroken (outcome (job m own key text from) k l0)) (let e : 1 + (c + cond b 1 0) ≡ 1 + c + cond b 1 0 = omega arith in e) h)
+
+    pub balance : (n : ℕ) → ((i : ℕ) → i < n → Fine (after_cycles s i)) → ((i : ℕ) → i < n → NoEnd m (cycle (after_cycles s i)).events) → ((i : ℕ) → i < n → (after_cycles s i).stop ≡ None) → NotBroken (outcome (job m own key text from) (1 + worked m s n) l0) → Balance (is_id m (after_cycles s n).active) n (away m s n) (worked m s n)
+    balance zero fine ends runs h = subst (λ x. Balance x 0 (away m s 0) 0) (sym act) (refl, refl)
+    balance (suc n) fine ends runs h =
+        let t = after_cycles s n in
+        let h' = lower (worked m s n) (works m t) h in
+        let g = follows_on m own key text from s l0 1 n f0 (λ i lt. fine i (omega arith)) (λ i lt. ends i (omega arith)) h' in
+        let b = balance n (λ i lt. fine i (omega arith)) (λ i lt. ends i (omega arith)) (λ i lt. runs i (omega arith)) h' in
+        let r = cycle_balance t (lone_after (job m own key text from) l0 (1 + worked m s n)) (runs n (omega arith)) g (fine n (omega arith)) (ends n (omega arith)) (λ e. never_breaks (job m own key text from) (1 + (worked m s n + cond (works m t) 1 0)) l0 (1 + worked m s n) (let one : 1 + worked m s n < 1 + (worked m s n + 1) = omega arith in subst (λ x. 1 + worked m s n < 1 + (worked m s n + cond x 1 0)) (sym e) one) h) n (away m s n) (worked m s n) b in
+        subst (λ k. Balance (is_id m (cycle t).state.active) k (notes m n (cycle t).events (away m s n)) (worked m s n + cond (works m t) 1 0)) (let e : n + 1 ≡ suc n = omega arith in e) r

@@ -1,0 +1,7 @@
+-- A fact of each element, by recursion.
+use Rattle.std.proofs.Common.{List, [], ◌∷◌}
+
+-- each element
+abbrev pub Each : {A : Type 0} → (A → Type 0) → List A → Type 0
+Each P [] = Unit {0}
+Each P (x ∷ xs) = P x × Each P xs

@@ -1,0 +1,83 @@
+-- Two calls that are even go on together.
+use Rattle.std.proofs.Common.{◌≡◌, ℕ, zero, suc, List, [], arith}
+use Rattle.mod_layout.specs.declared.Module.{Module}
+use Rattle.cpu_step.specs.Lone.{Job, Lone, Outcome, Exit, Closing, Broken, Running, later, Doing, Waits, Closes, Leaves, Breaks, Does, doing, lone_does, at_once, in_time, outcome, alike}
+use Rattle.isolation.proofs.Each.{Each}
+use Rattle.isolation.proofs.EvenBy.{Call_of, EvenBy, IsCall, AlwaysEvenBy}
+
+-- from here on the two calls, and all that come after, are even
+pub record Evenly (key : List ℕ) (own : Module) (text : List ℕ) (j : Job) (la lb : Lone) : Type 0 where
+  pub always : (n : ℕ) (es : List Call_of) → Each (IsCall own) es → alike (EvenBy key own text es) (outcome j n la) (outcome j n lb)
+
+-- what both do next
+abbrev pub Together : List ℕ → Module → List ℕ → Job → Doing → Doing → Lone → Lone → Type 0
+Together key own text j Closes Closes la lb = la.core ≡ lb.core
+Together key own text j Leaves Leaves la lb = (la.core ≡ lb.core) × AlwaysEvenBy key own text la.data_bytes lb.data_bytes
+Together key own text j (Waits r) (Waits r') la lb = Evenly key own text j (record la { rest = r }) (record lb { rest = r' })
+Together key own text j (Waits r) (Does i) la lb = Evenly key own text j (record la { rest = r }) (lone_does j i lb)
+Together key own text j (Does i) (Waits r) la lb = Evenly key own text j (lone_does j i la) (record lb { rest = r })
+Together key own text j (Does i) (Does i') la lb = Evenly key own text j (lone_does j i la) (lone_does j i' lb)
+Together key own text j _ _ la lb = ⊥
+
+later_alike : (P : List ℕ → List ℕ → Type 0) (o p : Outcome) → alike P (later o) (later p) → alike P o p
+later_alike P Running Running h = tt
+later_alike P (Closing c d k) (Closing c' d' k') h = (h.0, omega (arith, h.1))
+later_alike P (Exit c d k) (Exit c' d' k') h = (h.0, omega (arith, h.1), h.2)
+later_alike P (Broken d k) p h = h
+later_alike P Running (Exit c d k) h = h
+later_alike P Running (Closing c d k) h = h
+later_alike P Running (Broken d k) h = h
+later_alike P (Closing c d k) Running h = h
+later_alike P (Closing c d k) (Exit c' d' k') h = h
+later_alike P (Closing c d k) (Broken d' k') h = h
+later_alike P (Exit c d k) Running h = h
+later_alike P (Exit c d k) (Closing c' d' k') h = h
+later_alike P (Exit c d k) (Broken d' k') h = h
+
+module _ (key : List ℕ) (own : Module) (text : List ℕ) (j : Job) (la lb : Lone) where
+  abbrev Now : Doing → Doing → Type 0
+  Now x y = (es : List Call_of) → Each (IsCall own) es → alike (EvenBy key own text es) (at_once x la) (at_once y lb)
+
+  abbrev Soon : Doing → Doing → Type 0
+  Soon x y = (n : ℕ) (es : List Call_of) → Each (IsCall own) es → alike (EvenBy key own text es) (in_time x (outcome j n) j la) (in_time y (outcome j n) j lb)
+
+  go_on : (x y : Lone) → ((n : ℕ) (es : List Call_of) → Each (IsCall own) es → alike (EvenBy key own text es) (later (outcome j n x)) (later (outcome j n y))) → Evenly key own text j x y
+  go_on x y h = record { always = λ n es v. later_alike (EvenBy key own text es) (outcome j n x) (outcome j n y) (h n es v) }
+
+  together : (x y : Doing) → Now x y → Soon x y → Together key own text j x y la lb
+  together Closes Closes now soon = (now [] tt).0
+  together Leaves Leaves now soon = ((now [] tt).0, λ es h. (now es h).2)
+  together (Waits r) (Waits r') now soon = go_on (record la { rest = r }) (record lb { rest = r' }) soon
+  together (Waits r) (Does i) now soon = go_on (record la { rest = r }) (lone_does j i lb) soon
+  together (Does i) (Waits r) now soon = go_on (lone_does j i la) (record lb { rest = r }) soon
+  together (Does i) (Does i') now soon = go_on (lone_does j i la) (lone_does j i' lb) soon
+  together Closes Leaves now soon = now [] tt
+  together Closes (Waits r) now soon = now [] tt
+  together Closes Breaks now soon = now [] tt
+  together Closes (Does i) now soon = now [] tt
+  together Leaves Closes now soon = now [] tt
+  together Leaves (Waits r) now soon = now [] tt
+  together Leaves Breaks now soon = now [] tt
+  together Leaves (Does i) now soon = now [] tt
+  together (Waits r) Closes now soon = now [] tt
+  together (Waits r) Leaves now soon = now [] tt
+  together (Waits r) Breaks now soon = broken_right (outcome j 0 (record la { rest = r })) (soon 0 [] tt)
+    where
+      broken_right : (o : Outcome) → alike (EvenBy key own text []) (later o) (Broken lb.data_bytes 0) → ⊥
+      broken_right Running h = h
+      broken_right (Exit c d k) h = h
+      broken_right (Closing c d k) h = h
+      broken_right (Broken d k) h = h
+  together (Does i) Closes now soon = now [] tt
+  together (Does i) Leaves now soon = now [] tt
+  together (Does i) Breaks now soon = broken_right (outcome j 0 (lone_does j i la)) (soon 0 [] tt)
+    where
+      broken_right : (o : Outcome) → alike (EvenBy key own text []) (later o) (Broken lb.data_bytes 0) → ⊥
+      broken_right Running h = h
+      broken_right (Exit c d k) h = h
+      broken_right (Closing c d k) h = h
+      broken_right (Broken d k) h = h
+  together Breaks y now soon = soon 0 [] tt
+
+  pub next_together : Evenly key own text j la lb → Together key own text j (doing j la) (doing j lb) la lb
+  next_together e = together (doing j la) (doing j lb) (λ es h. e.always zero es h) (λ n es h. e.always (suc n) es h)

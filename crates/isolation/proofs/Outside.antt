@@ -1,0 +1,186 @@
+-- What the outside, handlers and other modules do keeps the relation.
+use Rattle.std.proofs.Common.{◌≡◌, ◌≢◌, ℕ, ◌%◌, List, [], ◌∷◌, refl, sym, ap, ◌∙◌, subst, arith, Bool, true, false, Option, Some, None}
+use Rattle.sm_words.specs.Sums.{one_if}
+use Rattle.sm_words.specs.Words.{reg, word_at}
+use Rattle.insn_decode.specs.Code.{insn_of, length_of}
+use Rattle.insn_decode.specs.declared.insn.Insn.{Insn}
+use Rattle.insn_decode.specs.declared.insn.Insn.TheVariants.{Two, One, Jump, Reti, Unit as UnitOp}
+use Rattle.mod_layout.specs.Table.{size_of, place_of}
+use Rattle.mod_layout.specs.declared.Module.{Module}
+use Rattle.mod_layout.specs.declared.Place.TheVariants.{Data}
+use Rattle.pc_access.specs.Rights.{is_id, first_denied}
+use Rattle.pc_access.specs.declared.Denied.{Denied}
+use Rattle.pc_access.specs.declared.Stop.{Stop}
+use Rattle.reg_backup.specs.Held.{held_ids}
+use Rattle.reg_backup.specs.declared.frames.Frame.{Frame}
+use Rattle.reg_backup.specs.declared.frames.Frame.TheVariants.{Plain, Module as Held}
+use Rattle.attest.specs.Accesses.{reads_of, writes_of}
+use Rattle.cpu_step.specs.Asked.{asks, effect}
+use Rattle.cpu_step.specs.Fetched.{insn_at}
+use Rattle.written_machine.specs.Cycle.{Step, pc_of, byte_of, is_home, push_both, pushes, plain_if, arrive_outside, port_of, who_of, perform, perform_unless, attempt, without_newest, returned_by, reti_by, reti_of, act_by, act_on, act_home, act_first, act}
+use Rattle.written_machine.specs.Peers.{section}
+use Rattle.written_machine.specs.Ports.{Port, take_reads}
+use Rattle.written_machine.specs.State.{State}
+use Rattle.isolation.proofs.Hide.{veil, veil_step, hide_by, arrive_outside_veiled, act_veiled}
+use Rattle.isolation.proofs.Ports.{put_writes_part, take_reads_memory}
+use Rattle.isolation.proofs.Relation.{find_held, times, run_by, Keeps, Stays, Outer}
+use Rattle.isolation.proofs.Rights.{Sound, writes_out, text_writes_out}
+use Rattle.isolation.proofs.Tables.{sound_after}
+
+found_plain : (m : ℕ) (fs : List Frame) → find_held m (plain_if fs) ≡ find_held m fs
+found_plain m [] = refl
+found_plain m (f ∷ fs) = refl
+
+times_plain : (m : ℕ) (fs : List Frame) → times m (plain_if fs) ≡ times m fs
+times_plain m [] = refl
+times_plain m (f ∷ fs) = refl
+
+module _ (m : ℕ) (own : Module) (key text : List ℕ) where
+  -- a step that leaves the module's data and text, and adds and takes off no frame of a module
+  pub stays_by : (s t : State) → Keeps m own key text s → is_id m s.active ≡ false → t.active ≡ s.active → section own.ram t.memory ≡ section own.ram s.memory → section own.text t.memory ≡ section own.text s.memory → find_held m t.frames ≡ find_held m s.frames → times m t.frames ≡ times m s.frames → t.key ≡ s.key → Sound m own t.table → Stays m own key text s t
+  stays_by s t k other same bytes texts found tm keys sound =
+      let o : is_id m t.active ≡ false = ap (is_id m) same ∙ other in
+      record {
+        bytes = bytes;
+        run = ap (λ c. run_by c m t) o ∙ found ∙ ap (λ c. run_by c m s) (sym other);
+        keeps = record {
+          sound = sound;
+          key_is = keys ∙ k.key_is;
+          text_is = texts ∙ k.text_is;
+          once = let e : one_if (is_id m t.active) ≡ one_if (is_id m s.active) = ap one_if (o ∙ sym other) in let e1 = k.once in omega arith;
+          proper = λ h. absurd (let x : true ≡ false = sym h ∙ o in cc);
+        };
+      }
+
+  module _ (s : State) (k : Keeps m own key text s) (other : is_id m s.active ≡ false) where
+    -- it changes none of memory, table, key, frames and active module
+    abbrev Light : State → Type 0
+    Light t = (t.active ≡ s.active) × (t.memory ≡ s.memory) × (t.frames ≡ s.frames) × (t.key ≡ s.key) × (t.table ≡ s.table)
+
+    pub light : (t : State) → Light t → Stays m own key text s t
+    light t l = stays_by s t k other l.0 (ap (section own.ram) l.1) (ap (section own.text) l.1) (ap (find_held m) l.2) (ap (times m) l.2) l.3 (subst (Sound m own) (sym l.4) k.sound)
+
+    -- what is not active is hidden by the data and the frames alone
+    pub outer_by : (t t' : Step) → t.state.active ≡ s.active → t' ≡ veil_step m own t → Stays m own key text s t.state → Outer m own key text s t t'
+    outer_by t t' same e st =
+        let o : is_id m t.state.active ≡ false = ap (is_id m) same ∙ other in
+        record { same = e ∙ ap (λ c. let u : Step = record t { state = hide_by c m own t.state } in u) (sym o); stays = st }
+
+    push_active : (d : Option Denied) (v : ℕ) → (push_both d v s).state.active ≡ s.active
+    push_active (Some d) v = refl
+    push_active None v = refl
+
+    push_stays : (d : Option Denied) (v : ℕ) → first_denied s.table None (held_ids s.frames) (pushes s) ≡ d → Stays m own key text s (push_both d v s).state
+    push_stays (Some d) v e = light (push_both (Some d) v s).state (refl, refl, refl, refl, refl)
+    push_stays None v e =
+        let p : Port = record { devices = s.devices; memory = s.memory } in
+        let vs = reg s.core 0 ∷ reg s.core 2 ∷ [] in
+        stays_by s (push_both None v s).state k other refl
+        (put_writes_part own.ram.start (size_of own.ram) (pushes s) p vs (writes_out m own s.table k.sound None (held_ids s.frames) refl (pushes s) e))
+        (put_writes_part own.text.start (size_of own.text) (pushes s) p vs (text_writes_out m own s.table k.sound None (held_ids s.frames) (pushes s) e))
+        (found_plain m s.frames) (times_plain m s.frames) refl k.sound
+
+    pub arrived_active : (v : ℕ) → (arrive_outside v s).state.active ≡ s.active
+    unfolding arrive_outside
+    arrived_active v = push_active (first_denied s.table None (held_ids s.frames) (pushes s)) v
+
+    arrived_stays : (v : ℕ) → Stays m own key text s (arrive_outside v s).state
+    unfolding arrive_outside
+    arrived_stays v = push_stays (first_denied s.table None (held_ids s.frames) (pushes s)) v refl
+
+    pub arrive_outside_outer : (v : ℕ) → Outer m own key text s (arrive_outside v s) (arrive_outside v (veil m own s))
+    arrive_outside_outer v =
+        outer_by (arrive_outside v s) (arrive_outside v (veil m own s)) (arrived_active v) (arrive_outside_veiled m own s.table k.sound v s refl) (arrived_stays v)
+
+    -- ---- instructions
+    -- a step that keeps the frames too
+    record Acts (u : Step) : Type 0 where
+      active : u.state.active ≡ s.active
+      frames : u.state.frames ≡ s.frames
+      bytes : section own.ram u.state.memory ≡ section own.ram s.memory
+      texts : section own.text u.state.memory ≡ section own.text s.memory
+      key_same : u.state.key ≡ s.key
+      sound : Sound m own u.state.table
+
+    perform_acts : (insn : Insn) → first_denied s.table s.active (held_ids s.frames) (asks (who_of s) insn s.core) ≡ None → Acts (perform insn s)
+    unfolding perform
+    perform_acts insn e =
+        let xs = asks (who_of s) insn s.core in
+        let g = take_reads (port_of s) (reads_of xs) in
+        let f = effect (who_of s) insn s.core g.values in
+        let same = take_reads_memory own.ram.start (size_of own.ram) (reads_of xs) (port_of s) in
+        record {
+          active = refl;
+          frames = refl;
+          key_same = refl;
+          bytes = put_writes_part own.ram.start (size_of own.ram) (writes_of xs) g.port f.stored (writes_out m own s.table k.sound s.active (held_ids s.frames) other xs e) ∙ ap (section own.ram) same;
+          texts = put_writes_part own.text.start (size_of own.text) (writes_of xs) g.port f.stored (text_writes_out m own s.table k.sound s.active (held_ids s.frames) xs e) ∙ ap (section own.text) same;
+          sound = sound_after m own s.table insn s.core k.sound;
+        }
+
+    by_check : (d : Option Denied) (insn : Insn) → first_denied s.table s.active (held_ids s.frames) (asks (who_of s) insn s.core) ≡ d → Acts (perform_unless d insn s)
+    by_check (Some d) insn e = record { active = refl; frames = refl; bytes = refl; texts = refl; key_same = refl; sound = k.sound }
+    by_check None insn e = perform_acts insn e
+
+    attempt_acts : (insn : Insn) → Acts (attempt insn s)
+    unfolding attempt
+    attempt_acts insn = by_check (first_denied s.table s.active (held_ids s.frames) (asks (who_of s) insn s.core)) insn refl
+
+    -- the same, where frames may go that are no module's
+    record ActsToo (u : Step) : Type 0 where
+      active : u.state.active ≡ s.active
+      stays : Stays m own key text s u.state
+
+    acts_too : (u : Step) → Acts u → ActsToo u
+    acts_too u a = record { active = a.active; stays = stays_by s u.state k other a.active a.bytes a.texts (ap (find_held m) a.frames) (ap (times m) a.frames) a.key_same a.sound }
+
+    returned_acts : (o : Option Stop) (u : Step) → find_held m (without_newest s.frames) ≡ find_held m s.frames → times m (without_newest s.frames) ≡ times m s.frames → Acts u → ActsToo (returned_by o u)
+    returned_acts (Some stop) u f t a = acts_too u a
+    returned_acts None u f t a =
+        record {
+          active = a.active;
+          stays = stays_by s (returned_by None u).state k other a.active a.bytes a.texts (ap (λ fs. find_held m (without_newest fs)) a.frames ∙ f) (ap (λ fs. times m (without_newest fs)) a.frames ∙ t) a.key_same a.sound;
+        }
+
+    light_acts : (u : Step) → Light u.state → ActsToo u
+    light_acts u l = record { active = l.0; stays = light u.state l }
+
+    reti_acts : (fs : List Frame) → s.frames ≡ fs → ActsToo (reti_by fs s)
+    reti_acts [] e = returned_acts (attempt Reti s).state.stop (attempt Reti s) (rw e refl) (rw e refl) (attempt_acts Reti)
+    reti_acts (Plain ∷ fs) e = returned_acts (attempt Reti s).state.stop (attempt Reti s) (rw e refl) (rw e refl) (attempt_acts Reti)
+    reti_acts (Held b ∷ fs) e = light_acts (reti_by (Held b ∷ fs) s) (refl, refl, refl, refl, refl)
+
+    reti_of_acts : (a : Option ℕ) → ActsToo (reti_of a s)
+    reti_of_acts (Some id) = light_acts (reti_of (Some id) s) (refl, refl, refl, refl, refl)
+    reti_of_acts None = reti_acts s.frames refl
+
+    act_by_acts : (insn : Insn) → ActsToo (act_by insn s)
+    act_by_acts Reti = reti_of_acts s.active
+    act_by_acts (Two op w a b) = acts_too (attempt (Two op w a b) s) (attempt_acts (Two op w a b))
+    act_by_acts (One op w a) = acts_too (attempt (One op w a) s) (attempt_acts (One op w a))
+    act_by_acts (Jump c o) = acts_too (attempt (Jump c o) s) (attempt_acts (Jump c o))
+    act_by_acts (UnitOp n) = acts_too (attempt (UnitOp n) s) (attempt_acts (UnitOp n))
+
+    act_on_acts : (o : Option Insn) → ActsToo (act_on o s)
+    act_on_acts None = light_acts (act_on None s) (refl, refl, refl, refl, refl)
+    act_on_acts (Some insn) = act_by_acts insn
+
+    act_home_acts : (b : Bool) (n : ℕ) → ActsToo (act_home b n s)
+    act_home_acts false n = light_acts (act_home false n s) (refl, refl, refl, refl, refl)
+    act_home_acts true n = act_on_acts (insn_at (byte_of s) (pc_of s) n)
+
+    act_first_acts : (o : Option Insn) → ActsToo (act_first o s)
+    act_first_acts None = light_acts (act_first None s) (refl, refl, refl, refl, refl)
+    act_first_acts (Some first) = act_home_acts (is_home s.table s.active (pc_of s) (length_of first)) (length_of first)
+
+    act_acts : ActsToo (act s)
+    unfolding act
+    act_acts = act_first_acts (insn_of (word_at (byte_of s) (pc_of s)) 0 0)
+
+    pub act_outer : pc_of s % 2 ≡ 0 → place_of s.table (pc_of s) ≢ Data m → Outer m own key text s (act s) (act (veil m own s))
+    act_outer even ne =
+        let a = act_acts in
+        outer_by (act s) (act (veil m own s)) a.active (act_veiled m own s.table k.sound s refl other even ne) a.stays
+
+    pub act_active : (act s).state.active ≡ s.active
+    act_active = act_acts.active

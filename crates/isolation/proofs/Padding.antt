@@ -1,0 +1,365 @@
+-- A handler begins 12 cycles after its hide.
+use Rattle.std.proofs.Common.{◌≡◌, ◌⊎◌, inl, inr, ⊎_elim, ℕ, zero, suc, ◌+◌, ◌-◌, List, [], ◌∷◌, ◌++◌, refl, sym, ap, ◌∙◌, subst, arith, Bool, true, false, Option, Some, None}
+use Rattle.schedule_file.specs.declared.Entry.{Entry as Scheduled}
+use Rattle.mod_layout.specs.declared.Module.{Module}
+use Rattle.pc_access.specs.declared.Stop.{Stop}
+use Rattle.image_text.specs.Image.{Image}
+use Rattle.reg_backup.specs.declared.backup.After.{After}
+use Rattle.reg_backup.specs.declared.backup.After.TheVariants.{Next, Handler, Resume, Close}
+use Rattle.reg_backup.specs.declared.backup.Phase.{Phase}
+use Rattle.reg_backup.specs.declared.backup.Phase.TheVariants.{Run, Pad}
+use Rattle.reg_backup.specs.declared.frames.Frame.{Frame}
+use Rattle.reg_backup.specs.declared.frames.Frame.TheVariants.{Plain, Module as Held}
+use Rattle.attest.specs.Done.{own_of}
+use Rattle.tracer.specs.declared.Event.{Event}
+use Rattle.written_machine.specs.Cycle.{Step, Settled, quiet, told, unsettled, pc_of, in_text, rest_of, resume_from, close_of, leave_if, settle_by, settle_in, settle, ticked, due, padded, turn_by, turn, sent_event, counted_by, move, cycle_by, cycle, after_cycles}
+use Rattle.written_machine.specs.State.{State}
+use Rattle.written_machine.specs.View.{at}
+use Rattle.isolation.specs.Calls.{Hides, Handles}
+use Rattle.isolation.proofs.Tame.{Calm, is_handler, closing_calm, turned, turn_late, sent_late, Late, bare_hides, late_handles, hides_more, hides_front, cycle_number}
+
+-- ---- settling where no handler is due
+record Settles (u : Settled) : Type 0 where
+  calm : Calm u.state
+  none : Handles u.events → ⊥
+
+unsettled_calm : (s : State) → Calm s → Settles (unsettled s)
+unsettled_calm s h = record { calm = h; none = λ x. x }
+
+resume_calm : (fs : List Frame) (s : State) → Calm s → Settles (resume_from fs s)
+resume_calm [] s h = unsettled_calm s h
+resume_calm (Plain ∷ fs) s h = unsettled_calm s h
+resume_calm (Held b ∷ fs) s h = record { calm = (refl, closing_calm b.closing); none = λ x. x }
+
+close_calm : (a : Option ℕ) (o : Option Module) (s : State) → Calm s → Settles (close_of a o s)
+close_calm None o s h = unsettled_calm s h
+close_calm (Some id) None s h = unsettled_calm s h
+close_calm (Some id) (Some x) s h = record { calm = (h.0, refl); none = λ x. x }
+
+leave_calm : (b : Bool) (a : Option ℕ) (s : State) → Calm s → Settles (leave_if b a s)
+leave_calm false (Some id) s h = record { calm = h; none = λ x. x }
+leave_calm false None s h = unsettled_calm s h
+leave_calm true a s h = unsettled_calm s h
+
+by_calm : (a : After) (s : State) → s.after ≡ a → Calm s → Settles (settle_by a s)
+by_calm Resume s e h = resume_calm s.frames s h
+by_calm Close s e h = close_calm s.active (own_of s.active s.table) s h
+by_calm Handler s e h = absurd (let c : true ≡ false = ap is_handler (sym e) ∙ h.1 in cc)
+by_calm Next s e h = leave_calm (in_text (own_of s.active s.table) (pc_of s)) s.active s h
+
+in_calm : (p : Phase) (s : State) → Calm s → Settles (settle_in p s)
+in_calm (Run zero) s h = by_calm s.after s refl h
+in_calm (Run (suc r)) s h = unsettled_calm s h
+in_calm (Pad n) s h = unsettled_calm s h
+
+settle_calm : (s : State) → Calm s → Settles (settle s)
+unfolding settle
+settle_calm s h = in_calm s.phase s h
+
+ticked_calm : (s : State) → Calm s → Calm (ticked s)
+unfolding ticked
+ticked_calm s h = h
+
+-- ---- padding
+settle_pad : (n : ℕ) (s : State) → s.phase ≡ Pad n → settle s ≡ unsettled s
+unfolding settle
+settle_pad n s e = ap (λ p. settle_in p s) e
+
+turn_pad : (n left : ℕ) (s : State) → s.phase ≡ Pad n → turn left s ≡ quiet (padded (n - 1) s)
+unfolding turn
+turn_pad n left s e = ap (λ p. turn_by (due s) s.active p left s) e
+
+ticked_phase : (s : State) → (ticked s).phase ≡ s.phase
+unfolding ticked
+ticked_phase s = refl
+
+ticked_after : (s : State) → (ticked s).after ≡ s.after
+unfolding ticked
+ticked_after s = refl
+
+ticked_stop : (s : State) → (ticked s).stop ≡ s.stop
+unfolding ticked
+ticked_stop s = refl
+
+counted_phase : (o : Option Stop) (t : Step) → (counted_by o t).state.phase ≡ t.state.phase
+counted_phase (Some stop) t = refl
+counted_phase None t = refl
+
+counted_after : (o : Option Stop) (t : Step) → (counted_by o t).state.after ≡ t.state.after
+counted_after (Some stop) t = refl
+counted_after None t = refl
+
+counted_stop : (o : Option Stop) (t : Step) → (counted_by o t).state.stop ≡ t.state.stop
+counted_stop (Some stop) t = refl
+counted_stop None t = refl
+
+padded_stop : (n : ℕ) (s : State) → (padded n s).stop ≡ s.stop
+padded_stop zero s = refl
+padded_stop (suc n) s = refl
+
+-- a cycle's end: phase, what is next, and stop
+abbrev Ended : State → State → Type 0
+Ended s t = (t.phase ≡ s.phase) × (t.after ≡ s.after) × (t.stop ≡ s.stop)
+
+move_pad : (n : ℕ) (s : State) → s.phase ≡ Pad n → Ended (padded (n - 1) (ticked s)) (move s).state
+unfolding move
+move_pad n s e =
+    let t = ticked s in
+    let su = settle_pad n t (ticked_phase s ∙ e) in
+    let tu = turn_pad n 0 t (ticked_phase s ∙ e) in
+    let q = quiet (padded (n - 1) t) in
+    let go : Settled → Step = λ u. let v = turn u.left u.state in counted_by v.state.stop (told u.events v) in
+    let e1 : go (settle t) ≡ counted_by q.state.stop (told [] q) = ap go su ∙ ap (λ v. counted_by v.state.stop (told [] v)) tu in
+    let o = q.state.stop in
+    (ap (λ u. u.state.phase) e1 ∙ counted_phase o (told [] q), ap (λ u. u.state.after) e1 ∙ counted_after o (told [] q), ap (λ u. u.state.stop) e1 ∙ counted_stop o (told [] q))
+
+-- ---- a handler begins
+handler_settles : (s : State) → s.phase ≡ Run 0 → s.after ≡ Handler → settle s ≡ record { state = record s { after = Next }; events = Event.Handler (pc_of s) ∷ []; left = 0 }
+unfolding settle
+handler_settles s p a = ap (λ x. settle_in x s) p ∙ ap (λ x. settle_by x s) a
+
+handles_front : (xs ys : List Event) (pc : ℕ) → xs ≡ Event.Handler pc ∷ [] → Handles (xs ++ ys)
+handles_front xs ys pc e = subst (λ l. Handles (l ++ ys)) (sym e) tt
+
+counted_handles : (o : Option Stop) (es : List Event) (t : Step) (pc : ℕ) → es ≡ Event.Handler pc ∷ [] → Handles (counted_by o (told es t)).events
+counted_handles (Some stop) es t pc e = handles_front es t.events pc e
+counted_handles None es t pc e = subst (λ l. Handles ((l ++ t.events) ++ sent_event t.state.devices.sent)) (sym e) tt
+
+move_handles : (s : State) → s.phase ≡ Run 0 → s.after ≡ Handler → Handles (move s).events
+unfolding move
+move_handles s p a =
+    let u = settle (ticked s) in
+    let t = turn u.left u.state in
+    counted_handles t.state.stop u.events t (pc_of (ticked s)) (ap (λ x. x.events) (handler_settles (ticked s) (ticked_phase s ∙ p) (ticked_after s ∙ a)))
+
+counted_none : (o : Option Stop) (es : List Event) (t : Step) → Late t.events → Handles (counted_by o (told es t)).events → Handles es
+counted_none (Some stop) es t l h = late_handles es t.events l h
+counted_none None es t l h = late_handles es t.events l (late_handles (es ++ t.events) (sent_event t.state.devices.sent) (sent_late t.state.devices.sent) h)
+
+move_none : (s : State) → Handles (move s).events → Handles (settle (ticked s)).events
+unfolding move
+move_none s h =
+    let u = settle (ticked s) in
+    let t = turn u.left u.state in
+    counted_none t.state.stop u.events t (turn_late u.left u.state) h
+
+counted_hides : (o : Option Stop) (es : List Event) (t : Step) → Hides t.events → Hides (counted_by o (told es t)).events
+counted_hides (Some stop) es t h = hides_more es t.events h
+counted_hides None es t h = hides_front (es ++ t.events) (sent_event t.state.devices.sent) (hides_more es t.events h)
+
+-- from a calm state, settled
+Next_is : State → Step → Type 0
+Next_is s t = Calm t.state ⊎ ((t.state.phase ≡ Pad 11) × (t.state.after ≡ Next) × Hides t.events)
+
+turn_next : (left : ℕ) (s : State) → Calm s → Next_is s (turn left s)
+unfolding Next_is
+turn_next left s h =
+    ⊎_elim (λ t. inl (t.calm h)) (λ x. ⊎_elim (λ b. inr (b.phase, b.after, b.hides)) (λ p. absurd (let e : Pad p.left ≡ Run (rest_of s.phase) = sym p.was ∙ h.0 in cc)) x) (turned left s)
+
+counted_calm : (o : Option Stop) (t : Step) → Calm t.state → Calm (counted_by o t).state
+counted_calm (Some stop) t h = h
+counted_calm None t h = h
+
+next_counted : (s : State) (es : List Event) (t : Step) → Next_is s t → Next_is s (counted_by t.state.stop (told es t))
+unfolding Next_is
+next_counted s es t h =
+    let o = t.state.stop in
+    ⊎_elim (λ c. inl (counted_calm o (told es t) c)) (λ b. inr (counted_phase o (told es t) ∙ b.0, counted_after o (told es t) ∙ b.1, counted_hides o es t b.2)) h
+
+next_same : (s s' : State) (t : Step) → Next_is s t → Next_is s' t
+unfolding Next_is
+next_same s s' t h = h
+
+move_next : (s : State) → Calm (settle (ticked s)).state → Next_is s (move s)
+unfolding move
+move_next s c =
+    let u = settle (ticked s) in
+    let t = turn u.left u.state in
+    next_same u.state s (counted_by t.state.stop (told u.events t)) (next_counted u.state u.events t (turn_next u.left u.state c))
+
+module _ (a : Image) (schedule : List Scheduled) where
+  record Padding (k : ℕ) : Type 0 where
+    left : ℕ
+    hid : ℕ
+    phase : (at a schedule k).phase ≡ Pad (suc left)
+    number : k + suc left ≡ hid + 12
+    hides : Hides (cycle (at a schedule hid)).events
+
+  record Handing (k : ℕ) : Type 0 where
+    hid : ℕ
+    phase : (at a schedule k).phase ≡ Run 0
+    after : (at a schedule k).after ≡ Handler
+    number : k ≡ hid + 12
+    hides : Hides (cycle (at a schedule hid)).events
+
+  abbrev History : ℕ → Type 0
+  History k = Calm (at a schedule k) ⊎ (Padding k ⊎ Handing k)
+
+  same_move : (k : ℕ) → (at a schedule k).stop ≡ None → cycle (at a schedule k) ≡ move (at a schedule k)
+  same_move k e = ap (λ o. cycle_by o (at a schedule k)) e
+
+  calm_history : (k : ℕ) → (at a schedule k).stop ≡ None → Calm (settle (ticked (at a schedule k))).state → History (suc k)
+  unfolding Next_is
+  calm_history k run c =
+      let s = at a schedule k in
+      let e = same_move k run in
+      let n = subst (λ t. Calm t.state ⊎ ((t.state.phase ≡ Pad 11) × (t.state.after ≡ Next) × Hides t.events)) (sym e) (move_next s c) in
+      ⊎_elim inl (λ b. inr (inl (record { left = 10; hid = k; phase = b.0; number = omega arith; hides = b.2 }))) n
+
+  pad_history : (k : ℕ) (left hid : ℕ) → (at a schedule k).stop ≡ None → (at a schedule k).phase ≡ Pad (suc left) → k + suc left ≡ hid + 12 → Hides (cycle (at a schedule hid)).events → History (suc k)
+  pad_history k zero hid run p num h =
+      let e = same_move k run in
+      let q = move_pad 1 (at a schedule k) p in
+      inr (inr (record { hid = hid; phase = ap (λ t. t.state.phase) e ∙ q.0; after = ap (λ t. t.state.after) e ∙ q.1; number = omega arith; hides = h }))
+  pad_history k (suc left) hid run p num h =
+      let e = same_move k run in
+      let q = move_pad (suc (suc left)) (at a schedule k) p in
+      let less : suc (suc left) - 1 ≡ suc left = omega arith in
+      inr (inl (record { left = left; hid = hid; phase = ap (λ t. t.state.phase) e ∙ q.0 ∙ ap (λ n. (padded n (ticked (at a schedule k))).phase) less; number = omega arith; hides = h }))
+
+  handler_next_calm : (s : State) → s.phase ≡ Run 0 → s.after ≡ Handler → Calm (settle (ticked s)).state
+  handler_next_calm s p f =
+      let e = handler_settles (ticked s) (ticked_phase s ∙ p) (ticked_after s ∙ f) in
+      let q : (ticked s).phase ≡ Run (rest_of (ticked s).phase) = ticked_phase s ∙ p ∙ sym (ap (λ x. Run (rest_of x)) (ticked_phase s ∙ p)) in
+      subst (λ u. Calm u.state) (sym e) (q, refl)
+
+  history : (k : ℕ) → (at a schedule k).stop ≡ None → History k
+  history zero run = inl (refl, refl)
+  history (suc k) run =
+      let s = at a schedule k in
+      let before = (cycle_number s.stop s refl run).0 in
+      ⊎_elim
+      (λ c. calm_history k before (settle_calm (ticked s) (ticked_calm s c)).calm)
+      (λ x. ⊎_elim (λ p. pad_history k p.left p.hid before p.phase p.number p.hides) (λ h. calm_history k before (handler_next_calm s h.phase h.after)) x)
+      (history k before)
+
+  runs_by : (o : Option Stop) (s : State) → s.stop ≡ o → Handles (cycle_by o s).events → s.stop ≡ None
+  runs_by (Some stop) s e h = absurd h
+  runs_by None s e h = e
+
+  pad_none : (k : ℕ) (left : ℕ) → (at a schedule k).phase ≡ Pad (suc left) → Handles (settle (ticked (at a schedule k))).events → ⊥
+  pad_none k left p h =
+      let s = at a schedule k in
+      subst (λ u. Handles u.events) (settle_pad (suc left) (ticked s) (ticked_phase s ∙ p)) h
+
+  -- where a handler begins, a module was hidden 12 cycles before
+  pub hidden_before : (k : ℕ) → Handles (cycle (at a schedule k)).events → (hid : ℕ) × (k ≡ hid + 12) × Hides (cycle (at a schedule hid)).events
+  hidden_before k h =
+      let s = at a schedule k in
+      let run = runs_by s.stop s refl h in
+      let told_by = move_none s (subst (λ t. Handles t.events) (same_move k run) h) in
+      ⊎_elim
+      (λ c. absurd ((settle_calm (ticked s) (ticked_calm s c)).none told_by))
+      (λ x. ⊎_elim (λ p. absurd (pad_none k p.left p.phase told_by)) (λ g. (g.hid, g.number, g.hides)) x)
+      (history k run)
+
+-- ---- and after a hide a handler begins
+hides_split : (xs ys : List Event) → Hides (xs ++ ys) → Hides xs ⊎ Hides ys
+hides_split [] ys h = inr h
+hides_split (Event.Hide id v ∷ xs) ys h = inl tt
+hides_split (Event.Close id ∷ xs) ys h = hides_split xs ys h
+hides_split (Event.Leave id pc ∷ xs) ys h = hides_split xs ys h
+hides_split (Event.Irq v ∷ xs) ys h = hides_split xs ys h
+hides_split (Event.Enter id x ∷ xs) ys h = hides_split xs ys h
+hides_split (Event.Reti ∷ xs) ys h = hides_split xs ys h
+hides_split (Event.Protect id ∷ xs) ys h = hides_split xs ys h
+hides_split (Event.Out b ∷ xs) ys h = hides_split xs ys h
+hides_split (Event.Stop x ∷ xs) ys h = hides_split xs ys h
+hides_split (Event.Handler pc ∷ xs) ys h = hides_split xs ys h
+hides_split (Event.Resume id ∷ xs) ys h = hides_split xs ys h
+
+-- settling tells of no hide, and stops nothing
+record Plainly (s : State) (u : Settled) : Type 0 where
+  none : Hides u.events → ⊥
+  stop : u.state.stop ≡ s.stop
+
+plainly : (s : State) → Plainly s (unsettled s)
+plainly s = record { none = λ x. x; stop = refl }
+
+resume_plainly : (fs : List Frame) (s : State) → Plainly s (resume_from fs s)
+resume_plainly [] s = plainly s
+resume_plainly (Plain ∷ fs) s = plainly s
+resume_plainly (Held b ∷ fs) s = record { none = λ x. x; stop = refl }
+
+close_plainly : (a : Option ℕ) (o : Option Module) (s : State) → Plainly s (close_of a o s)
+close_plainly None o s = plainly s
+close_plainly (Some id) None s = plainly s
+close_plainly (Some id) (Some x) s = record { none = λ x. x; stop = refl }
+
+leave_plainly : (b : Bool) (a : Option ℕ) (s : State) → Plainly s (leave_if b a s)
+leave_plainly false (Some id) s = record { none = λ x. x; stop = refl }
+leave_plainly false None s = plainly s
+leave_plainly true a s = plainly s
+
+by_plainly : (a : After) (s : State) → Plainly s (settle_by a s)
+by_plainly Resume s = resume_plainly s.frames s
+by_plainly Close s = close_plainly s.active (own_of s.active s.table) s
+by_plainly Handler s = record { none = λ x. x; stop = refl }
+by_plainly Next s = leave_plainly (in_text (own_of s.active s.table) (pc_of s)) s.active s
+
+in_plainly : (p : Phase) (s : State) → Plainly s (settle_in p s)
+in_plainly (Run zero) s = by_plainly s.after s
+in_plainly (Run (suc r)) s = plainly s
+in_plainly (Pad n) s = plainly s
+
+settle_plainly : (s : State) → Plainly s (settle s)
+unfolding settle
+settle_plainly s = in_plainly s.phase s
+
+-- where a module was hidden, it pads
+abbrev Padded : State → Type 0
+Padded t = (t.phase ≡ Pad 11) × (t.stop ≡ None)
+
+turn_hides : (left : ℕ) (s : State) → s.stop ≡ None → Hides (turn left s).events → Padded (turn left s).state
+turn_hides left s e h =
+    ⊎_elim (λ t. absurd (bare_hides (turn left s).events t.bare h)) (λ x. ⊎_elim (λ b. (b.phase, b.stop ∙ e)) (λ p. absurd (subst (λ u. Hides u.events) p.is h)) x) (turned left s)
+
+sent_hides : (o : Option ℕ) → Hides (sent_event o) → ⊥
+sent_hides None h = h
+sent_hides (Some b) h = h
+
+counted_hid : (o : Option Stop) (es : List Event) (t : Step) → (Hides es → ⊥) → Hides (counted_by o (told es t)).events → Hides t.events
+counted_hid (Some stop) es t n h = ⊎_elim (λ x. absurd (n x)) (λ x. x) (hides_split es t.events h)
+counted_hid None es t n h =
+    ⊎_elim (λ y. ⊎_elim (λ x. absurd (n x)) (λ x. x) (hides_split es t.events y)) (λ x. absurd (sent_hides t.state.devices.sent x))
+    (hides_split (es ++ t.events) (sent_event t.state.devices.sent) h)
+
+move_hides : (s : State) → s.stop ≡ None → Hides (move s).events → Padded (move s).state
+unfolding move
+move_hides s e h =
+    let q = settle_plainly (ticked s) in
+    let u = settle (ticked s) in
+    let t = turn u.left u.state in
+    let o = t.state.stop in
+    let p = turn_hides u.left u.state (q.stop ∙ ticked_stop s ∙ e) (counted_hid o u.events t q.none h) in
+    (counted_phase o (told u.events t) ∙ p.0, counted_stop o (told u.events t) ∙ p.1)
+
+cycle_hides : (o : Option Stop) (s : State) → s.stop ≡ o → Hides (cycle_by o s).events → Padded (cycle_by o s).state
+cycle_hides (Some stop) s e h = absurd h
+cycle_hides None s e h = move_hides s e h
+
+-- a cycle of padding
+pad_on : (n : ℕ) (s : State) → s.stop ≡ None → s.phase ≡ Pad n → Ended (padded (n - 1) (ticked s)) (cycle s).state
+pad_on n s e p = subst (λ t. Ended (padded (n - 1) (ticked s)) t.state) (sym (ap (λ o. cycle_by o s) e)) (move_pad n s p)
+
+pads_on : (i left : ℕ) (s : State) → s.stop ≡ None → s.phase ≡ Pad (i + suc left) → ((after_cycles s i).phase ≡ Pad (suc left)) × ((after_cycles s i).stop ≡ None)
+pads_on zero left s e p = (p ∙ ap Pad (let k : 0 + suc left ≡ suc left = omega arith in k), e)
+pads_on (suc i) left s e p =
+    let h = pads_on i (suc left) s e (p ∙ ap Pad (let k : suc i + suc left ≡ i + suc (suc left) = omega arith in k)) in
+    let t = after_cycles s i in
+    let q = pad_on (suc (suc left)) t h.1 h.0 in
+    let less : suc (suc left) - 1 ≡ suc left = omega arith in
+    (q.0 ∙ ap (λ n. (padded n (ticked t)).phase) less, q.2 ∙ padded_stop (suc (suc left) - 1) (ticked t) ∙ ticked_stop t ∙ h.1)
+
+handler_at_last : (s : State) → Padded s → Handles (cycle (after_cycles s 11)).events
+handler_at_last s d =
+    let h = pads_on 10 0 s d.1 d.0 in
+    let t = after_cycles s 10 in
+    let q = pad_on 1 t h.1 h.0 in
+    let w = (cycle t).state in
+    let e : w.stop ≡ None = q.2 ∙ padded_stop 0 (ticked t) ∙ ticked_stop t ∙ h.1 in
+    subst (λ u. Handles u.events) (sym (ap (λ o. cycle_by o w) e)) (move_handles w q.0 q.1)
+
+-- 12 cycles after a hide a handler begins
+pub handler_after : (a : Image) (schedule : List Scheduled) (k : ℕ) → Hides (cycle (at a schedule k)).events → Handles (cycle (after_cycles (at a schedule (suc k)) 11)).events
+handler_after a schedule k h = let s = at a schedule k in handler_at_last (cycle s).state (cycle_hides s.stop s refl h)

@@ -1,0 +1,183 @@
+-- What is allowed to others stays out of the module's data.
+use Rattle.std.proofs.Common.{◌≡◌, ◌≢◌, ◌⊎◌, ℕ, ◌+◌, ◌%◌, ◌<◌, ◌≤◌, List, [], ◌∷◌, refl, subst, arith, Bool, true, false, cond, not, ◌==◌, Option, Some, None, ⊎_elim}
+use Rattle.std.proofs.lemmas.Bool.{cases_lt}
+use Rattle.std.proofs.lemmas.Bool.Decides.{nat_tests}
+use Rattle.sm_words.specs.declared.width.Width.{Width}
+use Rattle.sm_words.specs.declared.width.Width.TheVariants.{Byte, Word}
+use Rattle.mod_layout.specs.Table.{Table, place_of, module_of, size_of, holds}
+use Rattle.mod_layout.specs.Tables.{Apart, IsTable}
+use Rattle.mod_layout.specs.declared.Module.{Module}
+use Rattle.mod_layout.specs.declared.Place.TheVariants.{Entry, Text, Data}
+use Rattle.mod_layout.specs.declared.Section.{Section}
+use Rattle.pc_access.specs.Rights.{right, right_at, refuse_if, aligned_first, misaligned, first_denied, or_else, is_id}
+use Rattle.pc_access.specs.declared.Access.{Access}
+use Rattle.pc_access.specs.declared.Denied.{Denied}
+use Rattle.pc_access.specs.declared.Kind.{Kind}
+use Rattle.pc_access.specs.declared.Kind.TheVariants.{Fetch, Read, Write}
+use Rattle.pc_access.specs.declared.Rule.TheVariants.{ReadData, WriteData}
+use Rattle.attest.specs.Accesses.{is_read, is_write, reads_of, writes_of}
+use Rattle.isolation.proofs.Bytes.{Out}
+use Rattle.isolation.proofs.Each.{Each}
+use Rattle.isolation.proofs.Ports.{OutBy, OutAccess}
+
+-- what the table says of one module
+pub record Sound (m : ℕ) (own : Module) (t : Table) : Type 0 where
+  pub is_table : IsTable t
+  pub found : module_of m t ≡ Some own
+  pub id_is : own.id ≡ m
+  pub in_data : (a : ℕ) → holds own.ram a ≡ true → place_of t a ≡ Data m
+  pub data_only : (a : ℕ) → place_of t a ≡ Data m → holds own.ram a ≡ true
+  pub in_text : (a : ℕ) → holds own.text a ≡ true → (place_of t a ≡ Text m) ⊎ (place_of t a ≡ Entry m)
+  pub text_only : (a : ℕ) → place_of t a ≡ Text m → holds own.text a ≡ true
+  pub entry_only : (a : ℕ) → place_of t a ≡ Entry m → a % 2 ≡ 0 → a ≡ own.text.start
+  pub ram_start : own.ram.start % 2 ≡ 0
+  pub ram_end : own.ram.end % 2 ≡ 0
+  pub text_start : own.text.start % 2 ≡ 0
+  pub text_end : own.text.end % 2 ≡ 0
+  pub ram_order : own.ram.start < own.ram.end
+  pub text_order : own.text.start < own.text.end
+  pub ram_low : 512 ≤ own.ram.start
+  pub text_low : 512 ≤ own.text.start
+  pub ram_high : own.ram.end ≤ 65504
+  pub text_high : own.text.end ≤ 65504
+  pub apart : (a : ℕ) → holds own.text a ≡ true → holds own.ram a ≡ false
+  pub disjoint : Apart own.ram own.text
+  pub was_given : m ≤ t.given
+  pub others : (id : ℕ) (x : Module) → module_of id t ≡ Some x → (id == m) ≡ false → Apart x.ram own.ram × Apart x.ram own.text
+
+aligned_none : (b : Bool) (a : ℕ) (r : Option Denied) → aligned_first b a r ≡ None → (b ≡ false) × (r ≡ None)
+aligned_none true a r e = absurd cc
+aligned_none false a r e = (refl, e)
+
+refused : (b : Bool) (r : _) (a id : ℕ) → refuse_if (not b) r a id ≡ None → b ≡ true
+refused true r a id e = refl
+refused false r a id e = cc
+
+held_true : (s : Section) (a : ℕ) → s.start ≤ a → a < s.end → holds s a ≡ true
+held_true s a low high = grind (arith, nat_tests)
+
+pub holds_true : (s : Section) (a : ℕ) → holds s a ≡ true → (s.start ≤ a) × (a < s.end)
+holds_true s a e = (grind (arith, nat_tests), grind (arith, nat_tests))
+
+pub holds_in : (s : Section) (a : ℕ) → s.start ≤ a → a < s.end → holds s a ≡ true
+holds_in s a low high = held_true s a low high
+
+even_of : (w : Width) (a : ℕ) → misaligned w a ≡ false → (w ≡ Word) → a % 2 ≡ 0
+even_of Byte a e f = cc
+even_of Word a e f = let k : a % 2 ≢ 1 = grind (arith, nat_tests) in omega arith
+
+module _ (m : ℕ) (own : Module) (t : Table) (sound : Sound m own t) where
+  -- an address that is not the module's data is out of them
+  out_of : (a : ℕ) → place_of t a ≢ Data m → Out own.ram.start (size_of own.ram) a
+  out_of a ne low =
+      let lt = sound.ram_order in
+      ⊎_elim (λ in_ram. absurd (ne (sound.in_data a (held_true own.ram a low in_ram)))) (λ past. omega arith) (cases_lt a own.ram.end)
+
+  -- the byte after an even address is out where that one is
+  out_next : (a : ℕ) → a % 2 ≡ 0 → Out own.ram.start (size_of own.ram) a → Out own.ram.start (size_of own.ram) (a + 1)
+  out_next a even out low =
+      let s0 = sound.ram_start in
+      let low' : own.ram.start ≤ a = omega arith in
+      let k : own.ram.start + size_of own.ram ≤ a = out low' in
+      omega arith
+
+  by_width : (w : Width) (a : ℕ) → misaligned w a ≡ false → Out own.ram.start (size_of own.ram) a → OutBy w own.ram.start (size_of own.ram) a
+  by_width Byte a e out = out
+  by_width Word a e out = (out, out_next a (even_of Word a e refl) out)
+
+  module _ (active : Option ℕ) (held : List ℕ) (other : is_id m active ≡ false) where
+    not_read : (a : ℕ) → right_at (place_of t a) active held Read a ≡ None → place_of t a ≢ Data m
+    not_read a e d =
+        let e' = subst (λ p. right_at p active held Read a ≡ None) d e in
+        let b = refused (is_id m active) ReadData a m e' in cc
+
+    not_written : (a : ℕ) → right_at (place_of t a) active held Write a ≡ None → place_of t a ≢ Data m
+    not_written a e d =
+        let e' = subst (λ p. right_at p active held Write a ≡ None) d e in
+        let b = refused (is_id m active) WriteData a m e' in cc
+
+    right_out : (k : Kind) (w : Width) (a : ℕ) → k ≢ Fetch → right t active held (record { kind = k; addr = a; width = w }) ≡ None → OutBy w own.ram.start (size_of own.ram) a
+    unfolding right
+    right_out Fetch w a ne e = absurd (ne refl)
+    right_out Read w a ne e =
+        let p = aligned_none (misaligned w a) a (right_at (place_of t a) active held Read a) e in
+        by_width w a p.0 (out_of a (not_read a p.1))
+    right_out Write w a ne e =
+        let p = aligned_none (misaligned w a) a (right_at (place_of t a) active held Write a) e in
+        by_width w a p.0 (out_of a (not_written a p.1))
+
+    or_none : (p q : Option Denied) → or_else p q ≡ None → (p ≡ None) × (q ≡ None)
+    or_none None q e = (refl, e)
+    or_none (Some d) q e = absurd cc
+
+    reads_by : (k : Kind) (a : ℕ) (w : Width) (ys : List Access) → right t active held (record { kind = k; addr = a; width = w }) ≡ None → Each (OutAccess own.ram.start (size_of own.ram)) ys → Each (OutAccess own.ram.start (size_of own.ram)) (cond (is_read k) (record { kind = k; addr = a; width = w } ∷ ys) ys)
+    reads_by Read a w ys e h = (right_out Read w a (λ f. cc) e, h)
+    reads_by Write a w ys e h = h
+    reads_by Fetch a w ys e h = h
+
+    writes_by : (k : Kind) (a : ℕ) (w : Width) (ys : List Access) → right t active held (record { kind = k; addr = a; width = w }) ≡ None → Each (OutAccess own.ram.start (size_of own.ram)) ys → Each (OutAccess own.ram.start (size_of own.ram)) (cond (is_write k) (record { kind = k; addr = a; width = w } ∷ ys) ys)
+    writes_by Write a w ys e h = (right_out Write w a (λ f. cc) e, h)
+    writes_by Read a w ys e h = h
+    writes_by Fetch a w ys e h = h
+
+    pub reads_out : (xs : List Access) → first_denied t active held xs ≡ None → Each (OutAccess own.ram.start (size_of own.ram)) (reads_of xs)
+    reads_out [] e = tt
+    reads_out (x ∷ xs) e =
+        let p = or_none (right t active held x) (first_denied t active held xs) e in
+        reads_by x.kind x.addr x.width (reads_of xs) p.0 (reads_out xs p.1)
+
+    pub writes_out : (xs : List Access) → first_denied t active held xs ≡ None → Each (OutAccess own.ram.start (size_of own.ram)) (writes_of xs)
+    writes_out [] e = tt
+    writes_out (x ∷ xs) e =
+        let p = or_none (right t active held x) (first_denied t active held xs) e in
+        writes_by x.kind x.addr x.width (writes_of xs) p.0 (writes_out xs p.1)
+
+module _ (m : ℕ) (own : Module) (t : Table) (sound : Sound m own t) where
+  pub out_place : (a : ℕ) → place_of t a ≢ Data m → Out own.ram.start (size_of own.ram) a
+  out_place a ne = out_of m own t sound a ne
+
+  pub out_place_next : (a : ℕ) → a % 2 ≡ 0 → place_of t a ≢ Data m → OutBy Word own.ram.start (size_of own.ram) a
+  out_place_next a even ne = (out_of m own t sound a ne, out_next m own t sound a even (out_of m own t sound a ne))
+
+-- what is allowed to be written, to anyone, stays out of the module's text
+module _ (m : ℕ) (own : Module) (t : Table) (sound : Sound m own t) (active : Option ℕ) (held : List ℕ) where
+  not_text : (a : ℕ) → right_at (place_of t a) active held Write a ≡ None → holds own.text a ≡ true → ⊥
+  not_text a e h =
+      ⊎_elim
+      (λ d. let e' = subst (λ p. right_at p active held Write a ≡ None) d e in cc)
+      (λ d. let e' = subst (λ p. right_at p active held Write a ≡ None) d e in cc)
+      (sound.in_text a h)
+
+  text_out_of : (a : ℕ) → right_at (place_of t a) active held Write a ≡ None → Out own.text.start (size_of own.text) a
+  text_out_of a e low =
+      let lt = sound.text_order in
+      ⊎_elim (λ in_it. absurd (not_text a e (holds_in own.text a low in_it))) (λ past. omega arith) (cases_lt a own.text.end)
+
+  text_next : (a : ℕ) → a % 2 ≡ 0 → Out own.text.start (size_of own.text) a → Out own.text.start (size_of own.text) (a + 1)
+  text_next a even out low =
+      let s0 = sound.text_start in
+      let low' : own.text.start ≤ a = omega arith in
+      let k : own.text.start + size_of own.text ≤ a = out low' in
+      omega arith
+
+  text_width : (w : Width) (a : ℕ) → misaligned w a ≡ false → Out own.text.start (size_of own.text) a → OutBy w own.text.start (size_of own.text) a
+  text_width Byte a e out = out
+  text_width Word a e out = (out, text_next a (even_of Word a e refl) out)
+
+  none_or : (p q : Option Denied) → or_else p q ≡ None → (p ≡ None) × (q ≡ None)
+  none_or None q e = (refl, e)
+  none_or (Some d) q e = absurd cc
+
+  text_by : (k : Kind) (a : ℕ) (w : Width) (ys : List Access) → right t active held (record { kind = k; addr = a; width = w }) ≡ None → Each (OutAccess own.text.start (size_of own.text)) ys → Each (OutAccess own.text.start (size_of own.text)) (cond (is_write k) (record { kind = k; addr = a; width = w } ∷ ys) ys)
+  unfolding right
+  text_by Write a w ys e h =
+      let p = aligned_none (misaligned w a) a (right_at (place_of t a) active held Write a) e in
+      (text_width w a p.0 (text_out_of a p.1), h)
+  text_by Read a w ys e h = h
+  text_by Fetch a w ys e h = h
+
+  pub text_writes_out : (xs : List Access) → first_denied t active held xs ≡ None → Each (OutAccess own.text.start (size_of own.text)) (writes_of xs)
+  text_writes_out [] e = tt
+  text_writes_out (x ∷ xs) e =
+      let p = none_or (right t active held x) (first_denied t active held xs) e in
+      text_by x.kind x.addr x.width (writes_of xs) p.0 (text_writes_out xs p.1)

@@ -1,0 +1,148 @@
+-- Settling, ticking and arriving, with one module hidden.
+use Rattle.std.proofs.Common.{◌≡◌, ℕ, zero, suc, ◌*◌, ◌/◌, ◌%◌, List, [], ◌∷◌, length, replicate, refl, sym, ap, ◌∙◌, arith, Bool, true, false, nat_lt, ◌&&◌, ◌==◌, Option, Some, None}
+use Rattle.sm_words.specs.Words.{reg, put}
+use Rattle.mod_layout.specs.Table.{Table, place_of, size_of, without}
+use Rattle.mod_layout.specs.declared.Module.{Module}
+use Rattle.mod_layout.specs.declared.Place.{Place}
+use Rattle.mod_layout.specs.declared.Place.TheVariants.{Open, Entry, Text, Data}
+use Rattle.pc_access.specs.Rights.{is_id}
+use Rattle.devices.specs.Devices.{accepted, line_of}
+use Rattle.reg_backup.specs.Saved.{closing_after, is_close}
+use Rattle.reg_backup.specs.declared.backup.After.{After}
+use Rattle.reg_backup.specs.declared.backup.After.TheVariants.{Next, Handler, Resume, Close}
+use Rattle.reg_backup.specs.declared.backup.Backup.{Backup}
+use Rattle.reg_backup.specs.declared.backup.Phase.{Phase}
+use Rattle.reg_backup.specs.declared.backup.Phase.TheVariants.{Run, Pad}
+use Rattle.reg_backup.specs.declared.frames.Frame.{Frame}
+use Rattle.reg_backup.specs.declared.frames.Frame.TheVariants.{Plain, Module as Held}
+use Rattle.attest.specs.Done.{own_of}
+use Rattle.tracer.specs.declared.Event.{Event}
+use Rattle.written_machine.specs.Cycle.{Step, Settled, unsettled, pc_of, gie, ticked, resume_from, close_of, in_text, leave_if, settle_by, settle_in, settle, vector_if, due, rest_of, vector_word, arrive_inside, enter_at, enter}
+use Rattle.written_machine.specs.State.{State}
+use Rattle.isolation.proofs.Bytes.{cleared_comm}
+use Rattle.isolation.proofs.Hide.{veil_core, veil_if, veil_frames, veil, veil_step, hide_by, hide, length_veiled, vector_veiled}
+use Rattle.isolation.proofs.Rights.{Sound}
+
+abbrev pub hide_settled : ℕ → Module → Settled → Settled
+hide_settled m own u = record u { state = hide m own u.state }
+
+module _ (m : ℕ) (own : Module) where
+  ticked_by : (b : Bool) (s : State) → ticked (hide_by b m own s) ≡ hide_by b m own (ticked s)
+  unfolding ticked
+  ticked_by true s = refl
+  ticked_by false s = refl
+
+  ticked_active : (s : State) → (ticked s).active ≡ s.active
+  unfolding ticked
+  ticked_active s = refl
+
+  pub ticked_hidden : (s : State) → ticked (hide m own s) ≡ hide m own (ticked s)
+  ticked_hidden s = ticked_by (is_id m s.active) s ∙ ap (λ a. hide_by (is_id m a) m own (ticked s)) (sym (ticked_active s))
+
+  gie_veiled : (core : List ℕ) → gie (veil_core core) ≡ gie core
+  gie_veiled core =
+      let e : (8 * ((reg core 2 / 8) % 2) / 8) % 2 ≡ (reg core 2 / 8) % 2 = omega arith in
+      ap (λ b. b == 1) e
+
+  due_by : (b : Bool) (s : State) → due (hide_by b m own s) ≡ due s
+  unfolding due
+  due_by false s = ap (λ n. vector_if (gie s.core && nat_lt n 8) (line_of s.devices)) (length_veiled m s.frames)
+  due_by true s =
+      ap (λ n. vector_if (gie (veil_core s.core) && nat_lt n 8) (line_of s.devices)) (length_veiled m s.frames)
+      ∙ ap (λ g. vector_if (g && nat_lt (length s.frames) 8) (line_of s.devices)) (gie_veiled s.core)
+
+  pub due_hidden : (s : State) → due (hide m own s) ≡ due s
+  due_hidden s = due_by (is_id m s.active) s
+
+  -- ---- an arrival inside a module
+  pub arrive_hidden : (c : Bool) (t : Table) → Sound m own t → (v id : ℕ) (s : State) → (id == m) ≡ c → arrive_inside v id (hide_by c m own s) ≡ veil_step m own (arrive_inside v id s)
+  unfolding arrive_inside
+  arrive_hidden true t sound v id s e =
+      let b : Backup = record { «module» = id; caller = s.caller; core = s.core; rest = rest_of s.phase; closing = is_close s.after } in
+      let build : ℕ → Bool → Step = λ w c. record {
+        state = record (veil m own s) { core = put (put (replicate 16 0) 0 w) 1 s.handler_sp; active = None; frames = Held (veil_if c b) ∷ veil_frames m s.frames; phase = Pad 11; after = Next; devices = accepted s.devices v };
+        events = Event.Hide id v ∷ [];
+      } in
+      ap (λ w. build w true) (vector_veiled m own t sound s v) ∙ ap (λ c. build (vector_word s v) c) (sym e)
+  arrive_hidden false t sound v id s e =
+      let b : Backup = record { «module» = id; caller = s.caller; core = s.core; rest = rest_of s.phase; closing = is_close s.after } in
+      let build : ℕ → Bool → Step = λ w c. record {
+        state = record (veil m own s) { core = put (put (replicate 16 0) 0 w) 1 s.handler_sp; active = None; frames = Held (veil_if c b) ∷ veil_frames m s.frames; phase = Pad 11; after = Next; devices = accepted s.devices v };
+        events = Event.Hide id v ∷ [];
+      } in
+      ap (λ w. build w false) (vector_veiled m own t sound s v) ∙ ap (λ c. build (vector_word s v) c) (sym e)
+
+  -- ---- settling while another or none is active
+  resume_by : (c : Bool) (b : Backup) (fs : List Frame) (s : State) →
+      (let x = veil_if c b in let u : State = record (veil m own s) { core = x.core; active = Some x.module; caller = x.caller; frames = veil_frames m fs; phase = Run x.rest; after = closing_after x.closing } in u)
+      ≡ hide_by c m own (record s { core = b.core; active = Some b.module; caller = b.caller; frames = fs; phase = Run b.rest; after = closing_after b.closing })
+  resume_by true b fs s = refl
+  resume_by false b fs s = refl
+
+  id_if : (c : Bool) (b : Backup) → (veil_if c b).module ≡ b.module
+  id_if true b = refl
+  id_if false b = refl
+
+  module _ (s : State) (other : is_id m s.active ≡ false) where
+    pub same_hidden : hide m own s ≡ veil m own s
+    same_hidden = ap (λ b. hide_by b m own s) other
+
+    unsettled_veiled : unsettled (veil m own s) ≡ hide_settled m own (unsettled s)
+    unsettled_veiled = ap unsettled (sym same_hidden)
+
+    resume_veiled : (fs : List Frame) → resume_from (veil_frames m fs) (veil m own s) ≡ hide_settled m own (resume_from fs s)
+    resume_veiled [] = unsettled_veiled
+    resume_veiled (Plain ∷ fs) = unsettled_veiled
+    resume_veiled (Held b ∷ fs) =
+        let build : State → ℕ → Settled = λ u id. record { state = u; events = Event.Resume id ∷ []; left = 0 } in
+        let x = veil_if (b.module == m) b in
+        let u : State = record (veil m own s) { core = x.core; active = Some x.module; caller = x.caller; frames = veil_frames m fs; phase = Run x.rest; after = closing_after x.closing } in
+        ap (λ i. build u i) (id_if (b.module == m) b) ∙ ap (λ v. build v b.module) (resume_by (b.module == m) b fs s)
+
+    close_veiled : (a : Option ℕ) (o : Option Module) → close_of a o (veil m own s) ≡ hide_settled m own (close_of a o s)
+    close_veiled None o = unsettled_veiled
+    close_veiled (Some id) None = unsettled_veiled
+    close_veiled (Some id) (Some x) =
+        let build : List ℕ → Settled = λ mem. record {
+          state = record (veil m own s) { memory = mem; table = without id s.table; active = None; after = Next };
+          events = Event.Close id ∷ [];
+          left = 0;
+        } in
+        ap build (cleared_comm x.ram.start (size_of x.ram) own.ram.start (size_of own.ram) s.memory)
+
+    leave_veiled : (b : Bool) (a : Option ℕ) → leave_if b a (veil m own s) ≡ hide_settled m own (leave_if b a s)
+    leave_veiled false (Some id) = refl
+    leave_veiled false None = unsettled_veiled
+    leave_veiled true a = unsettled_veiled
+
+    handler_veiled : settle_by Handler (veil m own s) ≡ hide_settled m own (settle_by Handler s)
+    handler_veiled =
+        let build : State → Settled = λ u. record { state = u; events = Event.Handler (pc_of s) ∷ []; left = 0 } in
+        ap (λ b. build (hide_by b m own (record s { after = Next }))) (sym other)
+
+    settle_by_veiled : (a : After) → settle_by a (veil m own s) ≡ hide_settled m own (settle_by a s)
+    settle_by_veiled Resume = resume_veiled s.frames
+    settle_by_veiled Close = close_veiled s.active (own_of s.active s.table)
+    settle_by_veiled Handler = handler_veiled
+    settle_by_veiled Next = leave_veiled (in_text (own_of s.active s.table) (pc_of s)) s.active
+
+    settle_in_veiled : (p : Phase) → settle_in p (veil m own s) ≡ hide_settled m own (settle_in p s)
+    settle_in_veiled (Run zero) = settle_by_veiled s.after
+    settle_in_veiled (Run (suc r)) = unsettled_veiled
+    settle_in_veiled (Pad n) = unsettled_veiled
+
+    pub settle_veiled : settle (veil m own s) ≡ hide_settled m own (settle s)
+    unfolding settle
+    settle_veiled = settle_in_veiled s.phase
+
+  -- ---- entering
+  enter_by : (p : Place) (a : Option ℕ) (left : ℕ) (s : State) → enter_at p a left (veil m own s) ≡ veil_step m own (enter_at p a left s)
+  enter_by (Entry id) None left s = refl
+  enter_by (Entry id) (Some x) left s = refl
+  enter_by Open a left s = refl
+  enter_by (Text id) a left s = refl
+  enter_by (Data id) a left s = refl
+
+  pub enter_veiled : (left : ℕ) (s : State) → enter left (veil m own s) ≡ veil_step m own (enter left s)
+  unfolding enter
+  enter_veiled left s = enter_by (place_of s.table (pc_of s)) s.active left s

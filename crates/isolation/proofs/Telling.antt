@@ -1,0 +1,212 @@
+-- What peers write is the same: their traces, and what a script shows.
+use Rattle.sm_words.specs.Words.{reg}
+use Rattle.schedule_file.specs.declared.Entry.{Entry as Scheduled}
+use Rattle.mod_layout.specs.Table.{place_of}
+use Rattle.mod_layout.specs.declared.Place.{Place}
+use Rattle.mod_layout.specs.declared.Place.TheVariants.{Open, Entry, Text, Data}
+use Rattle.pc_access.specs.Rights.{is_id}
+use Rattle.pc_access.specs.declared.Stop.{Stop}
+use Rattle.image_text.specs.Image.{Image}
+use Rattle.reg_backup.specs.declared.backup.Backup.{Backup}
+use Rattle.reg_backup.specs.declared.frames.Frame.{Frame}
+use Rattle.reg_backup.specs.declared.frames.Frame.TheVariants.{Plain, Module as Held}
+use Rattle.tracer.specs.Lines.{end_line_at}
+use Rattle.written_machine.specs.Cycle.{pc_of, cycle, after_cycles}
+use Rattle.written_machine.specs.Peers.{Peers}
+use Rattle.written_machine.specs.Script.{is_ready, is_resume, stands_at, Played, until, regs_text, mem_text, play_line, play}
+use Rattle.written_machine.specs.State.{State}
+use Rattle.written_machine.specs.Trace.{lines_of, standing, end_by, end_line_of, lines_after, trace}
+use Rattle.written_machine.specs.View.{boot, at, is_hidden_by, Seen, SeenPlain, SeenHidden, SeenWhole, seen_if, seen_frame, seen_byte, View, view_of}
+use Rattle.written_machine.specs.declared.Hidden.TheVariants.{All as AllHidden, Only}
+use Rattle.written_machine.specs.declared.ScriptLine.{ScriptLine}
+use Rattle.written_machine.specs.declared.ScriptLine.TheVariants.{Go, Until, Regs, Mem}
+use Rattle.std.proofs.Common.{◌≡◌, ℕ, zero, suc, ◌+◌, List, [], ◌∷◌, ◌++◌, map, refl, sym, ap, ◌∙◌, Bool, true, false, nat_lt, cond, not, ◌&&◌, ◌==◌, Option, Some, None, is_some, is_none}
+use mathlib.Core.Path.{fun_ext}
+use Rattle.isolation.proofs.Transparent.{after_more}
+use Rattle.isolation.proofs.Whole.{views_equal, events_equal, phases_equal}
+
+-- ---- a view that hides all modules, from one that hides one
+coarse_frame : Seen → Seen
+coarse_frame SeenPlain = SeenPlain
+coarse_frame (SeenHidden id) = SeenHidden id
+coarse_frame (SeenWhole b) = SeenHidden b.module
+
+coarse_byte : Place → Option ℕ → Option ℕ
+coarse_byte (Data id) b = None
+coarse_byte _ b = b
+
+coarse : View → View
+coarse v = record {
+  byte = λ a. cond (nat_lt a 512) None (coarse_byte (place_of v.table a) (v.byte a));
+  registers = cond (is_some v.active) None v.registers;
+  active = v.active;
+  frames = map coarse_frame v.frames;
+  cycle = v.cycle;
+  table = v.table;
+  devices = v.devices;
+  stop = v.stop;
+}
+
+module _ (m : ℕ) where
+  frame_by : (c : Bool) (b : Backup) → coarse_frame (seen_if c b) ≡ SeenHidden b.module
+  unfolding coarse_frame
+  frame_by true b = refl
+  frame_by false b = refl
+
+  frames_coarse : (fs : List Frame) → map coarse_frame (map (seen_frame (Only m)) fs) ≡ map (seen_frame AllHidden) fs
+  unfolding coarse_frame
+  frames_coarse [] = refl
+  frames_coarse (Plain ∷ fs) = ap (λ l. SeenPlain ∷ l) (frames_coarse fs)
+  frames_coarse (Held b ∷ fs) =
+      ap (λ x. x ∷ map coarse_frame (map (seen_frame (Only m)) fs)) (frame_by (b.module == m) b) ∙ ap (λ l. SeenHidden b.module ∷ l) (frames_coarse fs)
+
+  byte_coarse : (p : Place) (b : ℕ) → coarse_byte p (seen_byte (Only m) p b) ≡ seen_byte AllHidden p b
+  unfolding coarse_byte
+  byte_coarse Open b = refl
+  byte_coarse (Entry id) b = refl
+  byte_coarse (Text id) b = refl
+  byte_coarse (Data id) b = refl
+
+  low_coarse : (c : Bool) (p : Place) (b : ℕ) → cond c None (coarse_byte p (cond c None (seen_byte (Only m) p b))) ≡ cond c None (seen_byte AllHidden p b)
+  low_coarse true p b = refl
+  low_coarse false p b = byte_coarse p b
+
+  registers_coarse : (o : Option ℕ) (core : List ℕ) → cond (is_some o) None (cond (is_hidden_by (Only m) o) None (Some core)) ≡ cond (is_hidden_by AllHidden o) None (Some core)
+  registers_coarse None core = refl
+  registers_coarse (Some id) core = refl
+
+  all_hidden : (s : State) → coarse (view_of s (Only m)) ≡ view_of s AllHidden
+  unfolding coarse view_of
+  all_hidden s =
+      let build : (ℕ → Option ℕ) → Option (List ℕ) → List Seen → View = λ f r fs. record { byte = f; registers = r; active = s.active; frames = fs; cycle = s.cycle; table = s.table; devices = s.devices; stop = s.stop } in
+      let v = view_of s (Only m) in
+      ap (λ f. build f (coarse v).registers (coarse v).frames) (fun_ext (λ a. low_coarse (nat_lt a 512) (place_of s.table a) _))
+      ∙ ap (λ r. build (view_of s AllHidden).byte r (coarse v).frames) (registers_coarse s.active s.core)
+      ∙ ap (build (view_of s AllHidden).byte (view_of s AllHidden).registers) (frames_coarse s.frames)
+
+-- ---- what two states tell that are seen alike
+module _ (m : ℕ) (s t : State) (v : view_of s (Only m) ≡ view_of t (Only m)) where
+  seen_cycle : s.cycle ≡ t.cycle
+  unfolding view_of
+  seen_cycle = ap (λ x. x.cycle) v
+
+  seen_stop : s.stop ≡ t.stop
+  unfolding view_of
+  seen_stop = ap (λ x. x.stop) v
+
+  seen_active : s.active ≡ t.active
+  unfolding view_of
+  seen_active = ap (λ x. x.active) v
+
+  seen_registers : cond (is_hidden_by (Only m) s.active) None (Some s.core) ≡ cond (is_hidden_by (Only m) t.active) None (Some t.core)
+  unfolding view_of
+  seen_registers = ap (λ x. x.registers) v
+
+  seen_core : s.active ≡ None → s.core ≡ t.core
+  seen_core e =
+      let a : Some s.core ≡ Some t.core =
+      sym (ap (λ o. cond (is_hidden_by (Only m) o) None (Some s.core)) e) ∙ seen_registers ∙ ap (λ o. cond (is_hidden_by (Only m) o) None (Some t.core)) (sym seen_active ∙ e) in
+      cc
+
+  core_same : (o : Option ℕ) → s.active ≡ o → standing o s.core ≡ standing o t.core
+  core_same None e = ap (standing None) (seen_core e)
+  core_same (Some id) e = refl
+
+  end_same : (o : Option Stop) → end_by o s.active s.core ≡ end_by o s.active t.core
+  end_same (Some stop) = refl
+  end_same None = core_same s.active refl
+
+  end_lines : end_line_of s ≡ end_line_of t
+  end_lines =
+      ap (λ c. end_line_at c (end_by s.stop s.active s.core)) seen_cycle
+      ∙ ap (end_line_at t.cycle) (end_same s.stop ∙ ap (λ o. end_by o s.active t.core) seen_stop ∙ ap (λ a. end_by t.stop a t.core) seen_active)
+
+  all_seen : view_of s AllHidden ≡ view_of t AllHidden
+  all_seen = sym (all_hidden m s) ∙ ap coarse v ∙ all_hidden m t
+
+module _ (a b : Image) (m : ℕ) (schedule : List Scheduled) (peers : Peers a b m) where
+  views : (k : ℕ) → view_of (at a schedule k) (Only m) ≡ view_of (at b schedule k) (Only m)
+  views k = views_equal a b m schedule peers k
+
+  events : (k : ℕ) → (cycle (at a schedule k)).events ≡ (cycle (at b schedule k)).events
+  events k = events_equal a b m schedule peers k
+
+  lines_same : (k : ℕ) → lines_of (at a schedule k).cycle (cycle (at a schedule k)).events ≡ lines_of (at b schedule k).cycle (cycle (at b schedule k)).events
+  lines_same k =
+      ap (λ c. lines_of c (cycle (at a schedule k)).events) (seen_cycle m (at a schedule k) (at b schedule k) (views k)) ∙ ap (lines_of (at b schedule k).cycle) (events k)
+
+  lines_from : (k n : ℕ) → lines_after (at a schedule k) n ≡ lines_after (at b schedule k) n
+  lines_from k zero = refl
+  lines_from k (suc n) =
+      let line : State → List ℕ = λ t. lines_of t.cycle (cycle t).events in
+      ap (λ l. l ++ line (after_cycles (at a schedule k) n)) (lines_from k n)
+      ∙ ap (λ l. lines_after (at b schedule k) n ++ l) (ap line (after_more a schedule k n) ∙ lines_same (n + k) ∙ ap line (sym (after_more b schedule k n)))
+
+  ends_same : (k : ℕ) → end_line_of (at a schedule k) ≡ end_line_of (at b schedule k)
+  ends_same k = end_lines m (at a schedule k) (at b schedule k) (views k)
+
+  -- peers have one trace
+  pub traces_equal : (n : ℕ) → trace a schedule n ≡ trace b schedule n
+  traces_equal n = ap (λ l. l ++ end_line_of (at a schedule n)) (lines_from 0 n) ∙ ap (λ l. lines_after (boot b schedule) n ++ l) (ends_same n)
+
+  -- ---- a script
+  stands_by : (s t : State) (addr : ℕ) (o : Option ℕ) → s.active ≡ o → t.active ≡ o → (s.active ≡ None → (s.phase ≡ t.phase) × (s.after ≡ t.after)) → (s.active ≡ None → s.core ≡ t.core) → stands_at addr s ≡ stands_at addr t
+  unfolding stands_at
+  stands_by s t addr (Some id) es et p c =
+      ap (λ x. is_none x && is_ready s.phase && not (is_resume s.after) && (pc_of s == addr)) es ∙ sym (ap (λ x. is_none x && is_ready t.phase && not (is_resume t.after) && (pc_of t == addr)) et)
+  stands_by s t addr None es et p c =
+      let q = p es in
+      ap (λ x. is_none x && is_ready s.phase && not (is_resume s.after) && (pc_of s == addr)) (es ∙ sym et)
+      ∙ ap (λ x. is_none t.active && is_ready x && not (is_resume s.after) && (pc_of s == addr)) q.0
+      ∙ ap (λ x. is_none t.active && is_ready t.phase && not (is_resume x) && (pc_of s == addr)) q.1
+      ∙ ap (λ x. is_none t.active && is_ready t.phase && not (is_resume t.after) && (reg x 0 == addr)) (c es)
+
+  pub stands_same : (addr k : ℕ) → stands_at addr (at a schedule k) ≡ stands_at addr (at b schedule k)
+  stands_same addr k =
+      let s = at a schedule k in
+      let t = at b schedule k in
+      stands_by s t addr s.active refl (sym (seen_active m s t (views k))) (λ e. phases_equal a b m schedule peers k (ap (is_id m) e)) (seen_core m s t (views k))
+
+  -- both come to the same cycle with the same text
+  record Both (x y : Played) : Type 0 where
+    number : ℕ
+    first : x.state ≡ at a schedule number
+    second : y.state ≡ at b schedule number
+    text : x.text ≡ y.text
+
+  until_by : (k : ℕ) (c d : Bool) (x y : Played) → c ≡ d → Both x y →
+      Both (cond c (record { state = at a schedule k; text = [] }) (record { state = x.state; text = lines_of (at a schedule k).cycle (cycle (at a schedule k)).events ++ x.text }))
+      (cond d (record { state = at b schedule k; text = [] }) (record { state = y.state; text = lines_of (at b schedule k).cycle (cycle (at b schedule k)).events ++ y.text }))
+  until_by k true true x y e h = record { number = k; first = refl; second = refl; text = refl }
+  until_by k false false x y e h =
+      record {
+        number = h.number;
+        first = h.first;
+        second = h.second;
+        text = ap (λ l. l ++ x.text) (lines_same k) ∙ ap (λ l. lines_of (at b schedule k).cycle (cycle (at b schedule k)).events ++ l) h.text;
+      }
+  until_by k true false x y e h = absurd cc
+  until_by k false true x y e h = absurd cc
+
+  until_same : (addr k n : ℕ) → Both (until addr (at a schedule k) n) (until addr (at b schedule k) n)
+  until_same addr k zero = record { number = k; first = refl; second = refl; text = refl }
+  until_same addr k (suc n) =
+      until_by k (stands_at addr (at a schedule k)) (stands_at addr (at b schedule k)) (until addr (at a schedule (suc k)) n) (until addr (at b schedule (suc k)) n) (stands_same addr k) (until_same addr (suc k) n)
+
+  line_same : (l : ScriptLine) (k : ℕ) → Both (play_line (at a schedule k) l) (play_line (at b schedule k) l)
+  line_same (Go n) k = record { number = n + k; first = after_more a schedule k n; second = after_more b schedule k n; text = lines_from k n }
+  line_same (Until addr n) k = until_same addr k n
+  line_same Regs k = record { number = k; first = refl; second = refl; text = ap regs_text (all_seen m (at a schedule k) (at b schedule k) (views k)) }
+  line_same (Mem addr n) k = record { number = k; first = refl; second = refl; text = ap (λ v. mem_text v addr n) (all_seen m (at a schedule k) (at b schedule k) (views k)) }
+
+  pub plays_equal : (ls : List ScriptLine) (k : ℕ) → play (at a schedule k) ls ≡ play (at b schedule k) ls
+  plays_equal [] k = ends_same k
+  plays_equal (l ∷ ls) k =
+      let x = play_line (at a schedule k) l in
+      let y = play_line (at b schedule k) l in
+      let h = line_same l k in
+      ap (λ t. t ++ play x.state ls) h.text ∙ ap (λ r. y.text ++ r) (ap (λ s. play s ls) h.first ∙ plays_equal ls h.number ∙ sym (ap (λ s. play s ls) h.second))
+
+  -- what is seen where every module is hidden
+  pub outside_equal : (k : ℕ) → view_of (at a schedule k) AllHidden ≡ view_of (at b schedule k) AllHidden
+  outside_equal k = all_seen m (at a schedule k) (at b schedule k) (views k)

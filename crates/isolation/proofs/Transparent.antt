@@ -1,0 +1,245 @@
+-- Whatever interrupts it, an active or held module stands where it stands by itself.
+use Rattle.std.proofs.Common.{◌≡◌, ◌≢◌, ℕ, zero, suc, ◌+◌, ◌<◌, List, [], ◌∷◌, refl, sym, ap, ◌∙◌, subst, arith, Bool, true, false, cond, ◌==◌, Option, Some, None}
+use Rattle.sm_words.specs.Sums.{one_if}
+use Rattle.sm_words.specs.Words.{IsCore}
+use Rattle.insn_decode.specs.declared.insn.Insn.{Insn}
+use Rattle.schedule_file.specs.declared.Entry.{Entry as Scheduled}
+use Rattle.mod_layout.specs.Table.{place_of, module_of}
+use Rattle.mod_layout.specs.declared.Module.{Module}
+use Rattle.mod_layout.specs.declared.Place.TheVariants.{Entry}
+use Rattle.pc_access.specs.Rights.{is_id, is_held}
+use Rattle.pc_access.specs.declared.Stop.{Stop}
+use Rattle.image_text.specs.Image.{Image, IsImage}
+use Rattle.reg_backup.specs.Held.{held_ids}
+use Rattle.cpu_step.specs.Lone.{Job, Lone, Outcome, Exit, Closing, Broken, Running, later, Doing, Waits, Closes, Leaves, Breaks, Does, doing, lone_does, lone_step_by, lone_step, lone_after, in_time, at_once, outcome, does_or_breaks, next_insn, job_of}
+use Rattle.tracer.specs.declared.Event.{Event}
+use Rattle.written_machine.specs.Cycle.{Step, told, pc_of, settle, ticked, act, begin, turn, counted_by, move, cycle_by, cycle, after_cycles}
+use Rattle.written_machine.specs.Peers.{section}
+use Rattle.written_machine.specs.State.{State}
+use Rattle.written_machine.specs.View.{at}
+use Rattle.isolation.specs.Calls.{works, worked, NoEnd, Enters, NotBroken, Stands, backup_of, run_by}
+use Rattle.isolation.proofs.Fine.{Fine, settled_fine, fine_at}
+use Rattle.isolation.proofs.Follow.{job, Follows, stepped, cycle_follows, moved_follows, counted_follows}
+use Rattle.isolation.proofs.Kept.{Enters_now, cycle_entering}
+use Rattle.isolation.proofs.Relation.{Keeps, IsOpen}
+use Rattle.isolation.proofs.Tables.{sound_from}
+use Rattle.isolation.proofs.Tame.{settled_key, key_at}
+use Rattle.isolation.proofs.Turns.{times_none, begin_by, entry_free, at_entry, entered, entered_is, entered_keeps, entered_moves, start, start_doing}
+use Rattle.std.proofs.lemmas.Bool.Decides.{nat_tests}
+
+module _ (j : Job) where
+  pub step_first : (l : Lone) (i : ℕ) → lone_after j (lone_step j l) i ≡ lone_after j l (suc i)
+  step_first l zero = refl
+  step_first l (suc i) = ap (lone_step j) (step_first l i)
+
+  not_later : (o : Outcome) → NotBroken (later o) → NotBroken o
+  not_later Running h = tt
+  not_later (Exit c d k) h = tt
+  not_later (Closing c d k) h = tt
+  not_later (Broken d k) h = h
+
+  -- once it has ended it stays
+  stays_closed : (l : Lone) → doing j l ≡ Closes → (i : ℕ) → lone_after j l i ≡ l
+  stays_closed l e zero = refl
+  stays_closed l e (suc i) = ap (lone_step j) (stays_closed l e i) ∙ ap (λ d. lone_step_by d j l) e
+
+  stays_left : (l : Lone) → doing j l ≡ Leaves → (i : ℕ) → lone_after j l i ≡ l
+  stays_left l e zero = refl
+  stays_left l e (suc i) = ap (lone_step j) (stays_left l e i) ∙ ap (λ d. lone_step_by d j l) e
+
+  pub never_breaks : (c : ℕ) (l : Lone) (i : ℕ) → i < c → NotBroken (outcome j c l) → doing j (lone_after j l i) ≢ Breaks
+  never_breaks zero l i lt h = absurd (omega arith)
+  never_breaks (suc c) l i lt h = by (doing j l) refl (subst (λ d. NotBroken (in_time d (outcome j c) j l)) refl h) (λ l' k lt' h'. never_breaks c l' k lt' h')
+    where
+      go : (l' : Lone) → lone_step j l ≡ l' → NotBroken (later (outcome j c l')) → ((l' : Lone) (k : ℕ) → k < c → NotBroken (outcome j c l') → doing j (lone_after j l' k) ≢ Breaks) → (i : ℕ) → i < suc c → doing j l ≢ Breaks → doing j (lone_after j l i) ≢ Breaks
+      go l' e h r zero lt nb = nb
+      go l' e h r (suc k) lt nb =
+          let x = r l' k (omega arith) (not_later (outcome j c l') h) in
+          λ b. x (ap (λ u. doing j (lone_after j u k)) (sym e) ∙ ap (doing j) (step_first l k) ∙ b)
+
+      by : (d : Doing) → doing j l ≡ d → NotBroken (in_time d (outcome j c) j l) → ((l' : Lone) (k : ℕ) → k < c → NotBroken (outcome j c l') → doing j (lone_after j l' k) ≢ Breaks) → doing j (lone_after j l i) ≢ Breaks
+      by (Waits x) e h r = go (record l { rest = x }) (ap (λ d. lone_step_by d j l) e) h r i lt (λ b. let f : Waits x ≡ Breaks = sym e ∙ b in cc)
+      by (Does x) e h r = go (lone_does j x l) (ap (λ d. lone_step_by d j l) e) h r i lt (λ b. let f : Does x ≡ Breaks = sym e ∙ b in cc)
+      by Closes e h r = λ b. let f : Closes ≡ Breaks = sym e ∙ ap (doing j) (sym (stays_closed l e i)) ∙ b in cc
+      by Leaves e h r = λ b. let f : Leaves ≡ Breaks = sym e ∙ ap (doing j) (sym (stays_left l e i)) ∙ b in cc
+      by Breaks e h r = absurd h
+
+  -- an outcome that is not broken in time was not broken earlier
+  not_sooner : (c : ℕ) (l : Lone) → NotBroken (outcome j (suc c) l) → NotBroken (outcome j c l)
+  not_sooner zero l h = by (doing j l)
+    where
+      by : (d : Doing) → NotBroken (at_once d l)
+      by Closes = tt
+      by Leaves = tt
+      by (Waits x) = tt
+      by (Does x) = tt
+      by Breaks = tt
+  not_sooner (suc c) l h = by (doing j l) h (λ l' h'. not_sooner c l' h')
+    where
+      more : (o : Outcome) → NotBroken o → NotBroken (later o)
+      more Running h = tt
+      more (Exit c d k) h = tt
+      more (Closing c d k) h = tt
+      more (Broken d k) h = h
+
+      by : (d : Doing) → NotBroken (in_time d (outcome j (suc c)) j l) → ((l' : Lone) → NotBroken (outcome j (suc c) l') → NotBroken (outcome j c l')) → NotBroken (in_time d (outcome j c) j l)
+      by Closes h r = tt
+      by Leaves h r = tt
+      by (Waits x) h r = more (outcome j c (record l { rest = x })) (r (record l { rest = x }) (not_later (outcome j (suc c) (record l { rest = x })) h))
+      by (Does x) h r = more (outcome j c (lone_does j x l)) (r (lone_does j x l) (not_later (outcome j (suc c) (lone_does j x l)) h))
+      by Breaks h r = absurd h
+
+module _ (m : ℕ) (own : Module) (key text : List ℕ) (from : ℕ) (s : State) (l0 : Lone) (c0 : ℕ) where
+  -- c0 cycles were done before; n more cycles of the machine pass
+  pub more_by : (b : Bool) (c : ℕ) (l : Lone) → NotBroken (outcome (job m own key text from) (c + cond b 1 0) l) → NotBroken (outcome (job m own key text from) c l)
+  more_by false c l h = subst (λ k. NotBroken (outcome (job m own key text from) k l)) (let e : c + 0 ≡ c = omega arith in e) h
+  more_by true c l h = not_sooner (job m own key text from) c l (subst (λ k. NotBroken (outcome (job m own key text from) k l)) (let e : c + 1 ≡ suc c = omega arith in e) h)
+
+  step_by : (b : Bool) (c : ℕ) (t : State) → Follows m own key text from t (cond b (lone_step (job m own key text from) (lone_after (job m own key text from) l0 c)) (lone_after (job m own key text from) l0 c)) → Follows m own key text from t (lone_after (job m own key text from) l0 (c + cond b 1 0))
+  step_by false c t f = subst (λ k. Follows m own key text from t (lone_after (job m own key text from) l0 k)) (let e : c ≡ c + 0 = omega arith in e) f
+  step_by true c t f = subst (λ k. Follows m own key text from t (lone_after (job m own key text from) l0 k)) (let e : suc c ≡ c + 1 = omega arith in e) f
+
+  pub follows_on : (n : ℕ) → Follows m own key text from s (lone_after (job m own key text from) l0 c0) → ((i : ℕ) → i < n → Fine (after_cycles s i)) → ((i : ℕ) → i < n → NoEnd m (cycle (after_cycles s i)).events) → NotBroken (outcome (job m own key text from) (c0 + worked m s n) l0) →
+      Follows m own key text from (after_cycles s n) (lone_after (job m own key text from) l0 (c0 + worked m s n))
+  follows_on zero f fine ends h = subst (λ k. Follows m own key text from s (lone_after (job m own key text from) l0 k)) (let e : c0 ≡ c0 + 0 = omega arith in e) f
+  follows_on (suc n) f fine ends h =
+      let t = after_cycles s n in
+      let c = c0 + worked m s n in
+      let b = works m t in
+      let assoc : c0 + (worked m s n + cond b 1 0) ≡ c + cond b 1 0 = omega arith in
+      let h' = subst (λ k. NotBroken (outcome (job m own key text from) k l0)) assoc h in
+      let g = follows_on n f (λ i lt. fine i (omega arith)) (λ i lt. ends i (omega arith)) (more_by b c l0 h') in
+      let r = cycle_follows m own key text from t.stop t (lone_after (job m own key text from) l0 c) refl g (fine n (omega arith)) (ends n (omega arith)) (λ e. never_breaks (job m own key text from) (c + cond b 1 0) l0 c (let one : c < c + 1 = omega arith in subst (λ x. c < c + cond x 1 0) (sym e) one) h') in
+      subst (λ k. Follows m own key text from (after_cycles s (suc n)) (lone_after (job m own key text from) l0 k)) (sym assoc) (step_by b c (after_cycles s (suc n)) (stepped_is b (after_cycles s (suc n)) (lone_after (job m own key text from) l0 c) r))
+    where
+      stepped_is : (b : Bool) (u : State) (l : Lone) → Follows m own key text from u (stepped m own key text from b l) → Follows m own key text from u (cond b (lone_step (job m own key text from) l) l)
+      stepped_is true u l f = f
+      stepped_is false u l f = f
+
+module _ (m : ℕ) (own : Module) (key text : List ℕ) (from : ℕ) where
+  begun : State → Lone
+  begun s = record { core = s.core; data_bytes = section own.ram s.memory; rest = 0; closing = false }
+
+  begun_follows : (s : State) → Keeps m own key text s → is_held m (held_ids s.frames) ≡ false → Follows m own key text from (entered m own key text from s) (start m own key text from s)
+  unfolding entered start
+  begun_follows s k free =
+      let same : (m == m) ≡ true = grind (arith, nat_tests) in
+      let t = entered m own key text from s in
+      record {
+        keeps = entered_keeps m own key text from s k free;
+        backup = backup_of m t;
+        run = ap (λ c. run_by c m t) same;
+        lone = refl;
+        caller = refl;
+        opened = λ h. absurd (let c : true ≡ false = sym same ∙ h in cc);
+      }
+
+  is_entered : (s : State) → is_id m (entered m own key text from s).active ≡ true
+  unfolding entered
+  is_entered s = grind (arith, nat_tests)
+
+  -- the first instruction of a call
+  first_step : (next : Option Insn) (s : State) → Keeps m own key text s → IsCore s.core → place_of s.table (pc_of s) ≡ Entry m → is_held m (held_ids s.frames) ≡ false →
+      next_insn (job m own key text from) (start m own key text from s) ≡ next → doing (job m own key text from) (start m own key text from s) ≢ Breaks → Follows m own key text from (act (at_entry m own key text from s)).state (lone_step (job m own key text from) (start m own key text from s)) × (is_id m (act (at_entry m own key text from s)).state.active ≡ true)
+  first_step None s k ok here free e nb = absurd (nb (start_doing m own key text from s k ok here ∙ ap does_or_breaks e))
+  first_step (Some i) s k ok here free e nb =
+      let j = job m own key text from in
+      let l = start m own key text from s in
+      let d : doing j l ≡ Does i = start_doing m own key text from s k ok here ∙ ap does_or_breaks e in
+      let v = entered_moves m own key text from s i k ok here e in
+      let f = moved_follows m own key text from (entered m own key text from s) l (lone_does j i l) (act (at_entry m own key text from s)) (begun_follows s k free) (is_entered s) v in
+      (subst (λ x. Follows m own key text from (act (at_entry m own key text from s)).state (lone_step_by x j l)) (sym d) f, ap (λ x. is_id m x.state.active) v.is ∙ is_entered s)
+
+  enters_follows : (left : ℕ) (s : State) (u : Step) → Keeps m own key text s → IsCore s.core → Enters_now m from own key text left s u → doing (job m own key text from) (start m own key text from s) ≢ Breaks → Follows m own key text from u.state (lone_step (job m own key text from) (start m own key text from s)) × (is_id m u.state.active ≡ true)
+  enters_follows left s u k ok en nb =
+      let free = entry_free m own key text s en.free en.here in
+      let f = first_step (next_insn (job m own key text from) (start m own key text from s)) s k ok en.here free refl nb in
+      let b : u ≡ told (Event.Enter m from ∷ []) (act (at_entry m own key text from s)) =
+      en.is ∙ ap (λ l. begin l s) en.from_is ∙ begin_by m own key text from s None en.free ∙ ap (λ x. told x.events (act x.state)) (entered_is m own key text from s en.here en.none) in
+      (subst (λ x. Follows m own key text from x.state (lone_step (job m own key text from) (start m own key text from s))) (sym b) f.0, ap (λ x. is_id m x.state.active) b ∙ f.1)
+
+  counted_active : (o : Option Stop) (t : Step) → (counted_by o t).state.active ≡ t.state.active
+  counted_active (Some stop) t = refl
+  counted_active None t = refl
+
+  move_enters : (s : State) → Keeps m own key text (settle (ticked s)).state → Fine s → Enters_now m from own key text (settle (ticked s)).left (settle (ticked s)).state (turn (settle (ticked s)).left (settle (ticked s)).state) → doing (job m own key text from) (start m own key text from (settle (ticked s)).state) ≢ Breaks → Follows m own key text from (move s).state (lone_step (job m own key text from) (start m own key text from (settle (ticked s)).state)) × (is_id m (move s).state.active ≡ true)
+  unfolding move
+  move_enters s k fine en nb =
+      let u = settle (ticked s) in
+      let t = turn u.left u.state in
+      let e = enters_follows u.left u.state t k (settled_fine s fine).fine.core_ok en nb in
+      (counted_follows m own key text from t.state.stop (told u.events t) (lone_step (job m own key text from) (start m own key text from u.state)) e.0, ap (is_id m) (counted_active t.state.stop (told u.events t)) ∙ e.1)
+
+pub after_more : (a : Image) (schedule : List Scheduled) (k i : ℕ) → after_cycles (at a schedule k) i ≡ at a schedule (i + k)
+after_more a schedule k zero = ap (at a schedule) (let e : k ≡ 0 + k = omega arith in e)
+after_more a schedule k (suc i) = ap (λ s. (cycle s).state) (after_more a schedule k i) ∙ ap (at a schedule) (let e : suc (i + k) ≡ suc i + k = omega arith in e)
+
+open_next : (n : Option Insn) → IsOpen (does_or_breaks n)
+open_next None = tt
+open_next (Some i) = tt
+
+-- an entry, with the module as it is then, and where the module stands a cycle later
+module _ (a : Image) (m : ℕ) (own : Module) (schedule : List Scheduled) (k from : ℕ) (ok : IsImage a)
+    (enters : Enters m from (cycle (at a schedule k)).events) (own_is : module_of m (settle (ticked (at a schedule k))).state.table ≡ Some own) where
+  abbrev entry_state : State
+  entry_state = (settle (ticked (at a schedule k))).state
+
+  abbrev pub entry_text : List ℕ
+  entry_text = let u = (settle (ticked (at a schedule k))).state in section own.text u.memory
+
+  abbrev pub entry_job : Job
+  entry_job = let u = (settle (ticked (at a schedule k))).state in job_of a.node_key own (section own.text u.memory) from
+
+  abbrev pub entry_lone : Lone
+  entry_lone = let u = (settle (ticked (at a schedule k))).state in record { core = u.core; data_bytes = section own.ram u.memory; rest = 0; closing = false }
+
+  entering : ((at a schedule k).stop ≡ None) × (let u = settle (ticked (at a schedule k)) in Enters_now m from own a.node_key entry_text u.left u.state (turn u.left u.state))
+  entering = cycle_entering m from own a.node_key entry_text (at a schedule k) enters
+
+  pub entry_runs : (at a schedule k).stop ≡ None
+  entry_runs = entering.0
+
+  entry_fine : Fine entry_state
+  entry_fine = (settled_fine (at a schedule k) (fine_at a schedule k ok)).fine
+
+  entry_keeps : Keeps m own a.node_key entry_text entry_state
+  entry_keeps =
+      let u = entry_state in
+      let p = entering.1 in
+      let idle : is_id m u.active ≡ false = ap (is_id m) p.none in
+      let none = times_none m u.frames (entry_free m own a.node_key entry_text u p.free p.here) in
+      record {
+        sound = sound_from m own u.table entry_fine.table_ok own_is;
+        key_is = settled_key (at a schedule k) ∙ key_at a schedule k;
+        text_is = refl;
+        once = let e : one_if (is_id m u.active) ≡ 0 = ap one_if idle in omega arith;
+        proper = λ h. absurd (let c : true ≡ false = sym h ∙ idle in cc);
+      }
+
+  pub entry_open : IsOpen (doing entry_job entry_lone)
+  unfolding start
+  entry_open =
+      let u = entry_state in
+      subst IsOpen (sym (start_doing m own a.node_key entry_text from u entry_keeps entry_fine.core_ok entering.1.here)) (open_next (next_insn (job m own a.node_key entry_text from) (start m own a.node_key entry_text from u)))
+
+  pub entry_follows : doing entry_job entry_lone ≢ Breaks → Follows m own a.node_key entry_text from (at a schedule (suc k)) (lone_after entry_job entry_lone 1) × (is_id m (at a schedule (suc k)).active ≡ true)
+  unfolding start
+  entry_follows nb =
+      let s = at a schedule k in
+      let same : cycle s ≡ move s = ap (λ o. cycle_by o s) entry_runs in
+      let f = move_enters m own a.node_key entry_text from s entry_keeps (fine_at a schedule k ok) entering.1 nb in
+      (subst (λ x. Follows m own a.node_key entry_text from x.state (lone_step entry_job entry_lone)) (sym same) f.0, ap (λ x. is_id m x.state.active) same ∙ f.1)
+
+  pub fine_from : (i : ℕ) → Fine (after_cycles (at a schedule (suc k)) i)
+  fine_from i = subst Fine (sym (after_more a schedule (suc k) i)) (fine_at a schedule (i + suc k) ok)
+
+  -- the module stands in the machine where it stands by itself, whatever comes between
+  pub transparent : (n : ℕ) → ((i : ℕ) → i < n → NoEnd m (cycle (after_cycles (at a schedule (suc k)) i)).events) →
+      (let c = 1 + worked m (at a schedule (suc k)) n in
+      NotBroken (outcome entry_job c entry_lone) → Stands m own (after_cycles (at a schedule (suc k)) n) (lone_after entry_job entry_lone c))
+  transparent n ends h =
+      let c = 1 + worked m (at a schedule (suc k)) n in
+      let nb = never_breaks entry_job c entry_lone 0 (omega arith) h in
+      let f = entry_follows nb in
+      let r = follows_on m own a.node_key entry_text from (at a schedule (suc k)) entry_lone 1 n f.0 (λ i lt. fine_from i) ends h in
+      record { backup = r.backup; run = r.run; same = r.lone; once = r.keeps.once }

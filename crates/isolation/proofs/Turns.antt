@@ -1,0 +1,399 @@
+-- A turn in which the module is not active, also one that enters it.
+use Rattle.std.proofs.Common.{◌≡◌, ◌≢◌, ℕ, zero, suc, ◌+◌, ◌-◌, ◌%◌, ◌<◌, List, [], ◌∷◌, refl, sym, ap, ◌∙◌, subst, arith, Bool, true, false, ◌||◌, ◌==◌, Option, Some, None}
+use Rattle.std.proofs.lemmas.Bool.Decides.{nat_tests}
+use Rattle.sm_words.specs.Sums.{one_if}
+use Rattle.sm_words.specs.Words.{reg, IsCore}
+use Rattle.insn_decode.specs.declared.insn.Insn.{Insn}
+use Rattle.mod_layout.specs.Table.{place_of, holds}
+use Rattle.mod_layout.specs.declared.Module.{Module}
+use Rattle.mod_layout.specs.declared.Place.{Place}
+use Rattle.mod_layout.specs.declared.Place.TheVariants.{Open, Entry, Text, Data}
+use Rattle.pc_access.specs.Rights.{is_id, is_held, refuse_if, right, right_at}
+use Rattle.pc_access.specs.declared.Denied.{Denied}
+use Rattle.pc_access.specs.declared.Kind.TheVariants.{Fetch}
+use Rattle.pc_access.specs.declared.Rule.{Rule}
+use Rattle.reg_backup.specs.Held.{held_ids}
+use Rattle.reg_backup.specs.declared.backup.After.TheVariants.{Next}
+use Rattle.reg_backup.specs.declared.backup.Backup.{Backup}
+use Rattle.reg_backup.specs.declared.backup.Phase.{Phase}
+use Rattle.reg_backup.specs.declared.backup.Phase.TheVariants.{Run, Pad}
+use Rattle.reg_backup.specs.declared.frames.Frame.{Frame}
+use Rattle.reg_backup.specs.declared.frames.Frame.TheVariants.{Plain, Module as Held}
+use Rattle.cpu_step.specs.Lone.{Lone, doing, doing_by, does_or_breaks, next_insn, lone_does, job_of}
+use Rattle.tracer.specs.declared.Event.{Event}
+use Rattle.written_machine.specs.Cycle.{Step, quiet, told, denied, pc_of, due, arrive_inside, arrive_outside, asleep, padded, unless, turn_by, turn, begin_unless, begin, enter_at, enter, fetch, act}
+use Rattle.written_machine.specs.Peers.{section}
+use Rattle.written_machine.specs.State.{State}
+use Rattle.isolation.proofs.Active.{does_gie}
+use Rattle.isolation.proofs.EvenBy.{begins, AlwaysEvenBy}
+use Rattle.isolation.proofs.Evenly.{Evenly, Together, next_together}
+use Rattle.isolation.proofs.Hide.{veil, veil_core, hide_by, held_ids_veiled}
+use Rattle.isolation.proofs.Inside.{did_act}
+use Rattle.isolation.proofs.Lockstep.{Moves, moves_alike}
+use Rattle.isolation.proofs.Outside.{light, outer_by, arrived_active, arrive_outside_outer, act_outer, act_active}
+use Rattle.isolation.proofs.Relation.{find_held, found_if, times, run_by, run_of, Secret, Keeps, Ready, Stays, Alike, Outer, outer_alike, seen_veiled, seen_active}
+use Rattle.isolation.proofs.Rights.{Sound, holds_in}
+use Rattle.isolation.proofs.Settled.{arrive_inside_stays}
+use Rattle.isolation.proofs.Settling.{arrive_hidden, due_hidden, enter_veiled}
+
+-- ---- a fetch that is allowed
+fetch_data : (m : ℕ) (p : Place) (active : Option ℕ) (held : List ℕ) (a : ℕ) → right_at p active held Fetch a ≡ None → p ≢ Data m
+fetch_data m p active held a e d = let e' = subst (λ q. right_at q active held Fetch a ≡ None) d e in cc
+
+refused_false : (b : Bool) (r : Rule) (a id : ℕ) → refuse_if b r a id ≡ None → b ≡ false
+refused_false true r a id e = cc
+refused_false false r a id e = refl
+
+pub times_none : (m : ℕ) (fs : List Frame) → is_held m (held_ids fs) ≡ false → times m fs ≡ 0
+times_none m [] e = refl
+times_none m (Plain ∷ fs) e = times_none m fs e
+times_none m (Held b ∷ fs) e = by (b.module == m) (is_held m (held_ids fs)) (times m fs) e (λ h. times_none m fs h)
+  where
+    by : (c x : Bool) (n : ℕ) → (c || x) ≡ false → (x ≡ false → n ≡ 0) → one_if c + n ≡ 0
+    by true x n e h = cc
+    by false x n e h = let z = h e in omega arith
+
+pub found_none : (m : ℕ) (fs : List Frame) → is_held m (held_ids fs) ≡ false → find_held m fs ≡ None
+found_none m [] e = refl
+found_none m (Plain ∷ fs) e = found_none m fs e
+found_none m (Held b ∷ fs) e = by (b.module == m) (is_held m (held_ids fs)) (find_held m fs) e (λ h. found_none m fs h)
+  where
+    by : (c x : Bool) (o : Option Backup) → (c || x) ≡ false → (x ≡ false → o ≡ None) → found_if c b o ≡ None
+    by true x o e h = cc
+    by false x o e h = h e
+
+module _ (m : ℕ) (own : Module) (key text : List ℕ) where
+  -- ---- unary: what one run does
+  pub check : State → Option Denied
+  check s = right s.table s.active (held_ids s.frames) (fetch s)
+
+  check_veiled : (s : State) → check (veil m own s) ≡ check s
+  unfolding check
+  check_veiled s = ap (λ ids. right s.table s.active ids (fetch s)) (held_ids_veiled m s.frames)
+
+  check_place : (s : State) → check s ≡ None → right_at (place_of s.table (pc_of s)) s.active (held_ids s.frames) Fetch (pc_of s) ≡ None
+  unfolding check right
+  check_place s e = e
+
+  pub begin_by : (left : ℕ) (s : State) (d : Option Denied) → check s ≡ d → begin left s ≡ begin_unless d left s
+  unfolding check begin
+  begin_by left s d e = ap (λ x. begin_unless x left s) e
+
+  -- entering another, or going on
+  pub entered_active : (p : Place) (o : Option ℕ) (left : ℕ) (s : State) → s.active ≡ o → is_id m s.active ≡ false → is_id m (enter_at p o left s).state.active ≡ true → (p ≡ Entry m) × (o ≡ None)
+  entered_active (Entry id) None left s e n h = let same : id ≡ m = grind (arith, nat_tests) in (ap Entry same, refl)
+  entered_active (Entry id) (Some x) left s e n h = absurd (let c : true ≡ false = sym h ∙ n in cc)
+  entered_active Open o left s e n h = absurd (let c : true ≡ false = sym h ∙ n in cc)
+  entered_active (Text id) o left s e n h = absurd (let c : true ≡ false = sym h ∙ n in cc)
+  entered_active (Data id) o left s e n h = absurd (let c : true ≡ false = sym h ∙ n in cc)
+
+  entered_light : (p : Place) (o : Option ℕ) (left : ℕ) (s : State) → (let t = (enter_at p o left s).state in (t.memory ≡ s.memory) × (t.frames ≡ s.frames) × (t.key ≡ s.key) × (t.table ≡ s.table) × (t.core ≡ s.core))
+  entered_light (Entry id) None left s = (refl, refl, refl, refl, refl)
+  entered_light (Entry id) (Some x) left s = (refl, refl, refl, refl, refl)
+  entered_light Open o left s = (refl, refl, refl, refl, refl)
+  entered_light (Text id) o left s = (refl, refl, refl, refl, refl)
+  entered_light (Data id) o left s = (refl, refl, refl, refl, refl)
+
+  enter_light : (left : ℕ) (s : State) → (let t = (enter left s).state in (t.memory ≡ s.memory) × (t.frames ≡ s.frames) × (t.key ≡ s.key) × (t.table ≡ s.table) × (t.core ≡ s.core))
+  unfolding enter
+  enter_light left s = entered_light (place_of s.table (pc_of s)) s.active left s
+
+  pub enter_stays : (left : ℕ) (s : State) → Keeps m own key text s → is_id m s.active ≡ false → is_id m (enter left s).state.active ≡ false → Stays m own key text s (enter left s).state
+  enter_stays left s k n o =
+      let l = enter_light left s in
+      let t = (enter left s).state in
+      let e1 : one_if (is_id m t.active) ≡ 0 = ap one_if o in
+      let e2 : times m t.frames ≡ times m s.frames = ap (times m) l.1 in
+      let k1 = k.once in
+      record {
+        bytes = ap (section own.ram) l.0;
+        run = ap (λ c. run_by c m t) o ∙ ap (find_held m) l.1 ∙ ap (λ c. run_by c m s) (sym n);
+        keeps = record { sound = subst (Sound m own) (sym l.3) k.sound; key_is = l.2 ∙ k.key_is; text_is = ap (section own.text) l.0 ∙ k.text_is; once = omega arith; proper = λ h. absurd (let c : true ≡ false = sym h ∙ o in cc) };
+      }
+
+  stays_then : (s t u : State) → Stays m own key text s t → Stays m own key text t u → Stays m own key text s u
+  stays_then s t u x y = record { bytes = y.bytes ∙ x.bytes; run = y.run ∙ x.run; keeps = y.keeps }
+
+  act_entered : (left : ℕ) (s : State) → Keeps m own key text s → is_id m s.active ≡ false → is_id m (enter left s).state.active ≡ false → IsCore s.core → check s ≡ None → Outer m own key text (enter left s).state (act (enter left s).state) (act (veil m own (enter left s).state))
+  act_entered left s k n o ok e =
+      let l = enter_light left s in
+      let t = (enter left s).state in
+      let even : pc_of t % 2 ≡ 0 = ap (λ c. reg c 0 % 2) l.4 ∙ ok.even_pc in
+      let same : place_of t.table (pc_of t) ≡ place_of s.table (pc_of s) = ap (λ u. place_of u (pc_of t)) l.3 ∙ ap (λ c. place_of s.table (reg c 0)) l.4 in
+      let ne = fetch_data m (place_of s.table (pc_of s)) s.active (held_ids s.frames) (pc_of s) (check_place s e) in
+      act_outer m own key text t (enter_stays left s k n o).keeps o even (λ d. ne (sym same ∙ d))
+
+  -- a turn's instruction, where it enters no module or another
+  pub begin_outer : (left : ℕ) (s : State) → Keeps m own key text s → is_id m s.active ≡ false → is_id m (enter left s).state.active ≡ false → IsCore s.core → check s ≡ None → Outer m own key text s (begin left s) (begin left (veil m own s))
+  begin_outer left s k n o ok e =
+      let t = enter left s in
+      let x = act_entered left s k n o ok e in
+      let b : begin left s ≡ told t.events (act t.state) = begin_by left s None e in
+      let b' : begin left (veil m own s) ≡ told t.events (act (veil m own t.state)) =
+      begin_by left (veil m own s) None (check_veiled s ∙ e) ∙ ap (λ u. told u.events (act u.state)) (enter_veiled m own left s) in
+      subst (λ u. Outer m own key text s u (begin left (veil m own s))) (sym b)
+      (subst (λ u. Outer m own key text s (told t.events (act t.state)) u) (sym b')
+      (record { same = ap (λ u. told t.events u) x.same; stays = stays_then s t.state (act t.state).state (enter_stays left s k n o) x.stays }))
+
+  pub denied_outer : (d : Denied) (s : State) → Keeps m own key text s → is_id m s.active ≡ false → Outer m own key text s (denied d s) (denied d (veil m own s))
+  denied_outer d s k n = outer_by m own key text s k n (denied d s) (denied d (veil m own s)) refl refl (light m own key text s k n (denied d s).state (refl, refl, refl, refl, refl))
+
+  padded_veiled : (n : ℕ) (s : State) → padded n (veil m own s) ≡ veil m own (padded n s)
+  padded_veiled zero s = refl
+  padded_veiled (suc n) s = refl
+
+  padded_light : (n : ℕ) (s : State) → ((padded n s).active ≡ s.active) × ((padded n s).memory ≡ s.memory) × ((padded n s).frames ≡ s.frames) × ((padded n s).key ≡ s.key) × ((padded n s).table ≡ s.table)
+  padded_light zero s = (refl, refl, refl, refl, refl)
+  padded_light (suc n) s = (refl, refl, refl, refl, refl)
+
+  pub padded_outer : (n : ℕ) (s : State) → Keeps m own key text s → is_id m s.active ≡ false → Outer m own key text s (quiet (padded n s)) (quiet (padded n (veil m own s)))
+  padded_outer n s k o = outer_by m own key text s k o (quiet (padded n s)) (quiet (padded n (veil m own s))) (padded_light n s).0 (ap quiet (padded_veiled n s)) (light m own key text s k o (padded n s) (padded_light n s))
+
+  pub waits_outer : (p : Phase) (s : State) → Keeps m own key text s → is_id m s.active ≡ false → Outer m own key text s (quiet (record s { phase = p })) (quiet (record (veil m own s) { phase = p }))
+  waits_outer p s k o = outer_by m own key text s k o (quiet (record s { phase = p })) (quiet (record (veil m own s) { phase = p })) refl refl (light m own key text s k o (record s { phase = p }) (refl, refl, refl, refl, refl))
+
+  pub quiet_outer : (s : State) → Keeps m own key text s → is_id m s.active ≡ false → Outer m own key text s (quiet s) (quiet (veil m own s))
+  quiet_outer s k o = outer_by m own key text s k o (quiet s) (quiet (veil m own s)) refl refl (light m own key text s k o s (refl, refl, refl, refl, refl))
+
+  inside_none : (v id : ℕ) (s : State) → is_id m (arrive_inside v id s).state.active ≡ false
+  unfolding arrive_inside
+  inside_none v id s = refl
+
+  pub inside_outer : (v id : ℕ) (s : State) → Keeps m own key text s → s.active ≡ Some id → is_id m s.active ≡ false → Outer m own key text s (arrive_inside v id s) (arrive_inside v id (veil m own s))
+  inside_outer v id s k e o =
+      let ne : (id == m) ≡ false = ap (is_id m) (sym e) ∙ o in
+      record {
+        same = arrive_hidden m own false s.table k.sound v id s ne ∙ ap (λ c. let u : Step = record (arrive_inside v id s) { state = hide_by c m own (arrive_inside v id s).state } in u) (sym (inside_none v id s));
+        stays = arrive_inside_stays m own key text false v id s k e ne;
+      }
+
+  -- ---- entering the module
+  unfoldable pub entered : ℕ → State → State
+  entered left s = record s { active = Some m; caller = left; phase = Run 0; after = Next }
+
+  abbrev pub at_entry : ℕ → State → State
+  at_entry left s = record s { active = Some m; caller = left; after = Next }
+
+  unfoldable pub start : ℕ → State → Lone
+  start left s = record { core = s.core; data_bytes = section own.ram s.memory; rest = 0; closing = false }
+
+  pub entered_is : (left : ℕ) (s : State) → place_of s.table (pc_of s) ≡ Entry m → s.active ≡ None → enter left s ≡ record { state = record s { active = Some m; caller = left; after = Next }; events = Event.Enter m left ∷ [] }
+  unfolding enter
+  entered_is left s p o = ap (λ x. enter_at x s.active left s) p ∙ ap (λ x. enter_at (Entry m) x left s) o
+
+  pub entry_free : (s : State) → check s ≡ None → place_of s.table (pc_of s) ≡ Entry m → is_held m (held_ids s.frames) ≡ false
+  entry_free s e p =
+      let e' = subst (λ q. right_at q s.active (held_ids s.frames) Fetch (pc_of s) ≡ None) p (check_place s e) in
+      refused_false (is_held m (held_ids s.frames)) Rule.Reenter (pc_of s) m e'
+
+  pub entered_keeps : (left : ℕ) (s : State) → Keeps m own key text s → is_held m (held_ids s.frames) ≡ false → Keeps m own key text (entered left s)
+  unfolding entered
+  entered_keeps left s k free =
+      let same : (m == m) ≡ true = grind (arith, nat_tests) in
+      let e1 : one_if (m == m) ≡ 1 = ap one_if same in
+      let e2 = times_none m s.frames free in
+      record { sound = k.sound; key_is = k.key_is; text_is = k.text_is; once = omega arith; proper = λ h. (refl, refl) }
+
+  at_start : (s : State) → Keeps m own key text s → IsCore s.core → place_of s.table (pc_of s) ≡ Entry m → pc_of s ≡ own.text.start
+  at_start s k ok p = k.sound.entry_only (pc_of s) p ok.even_pc
+
+  in_its_text : (s : State) → Keeps m own key text s → IsCore s.core → place_of s.table (pc_of s) ≡ Entry m → holds own.text (pc_of s) ≡ true
+  in_its_text s k ok p =
+      let a = at_start s k ok p in
+      let o = k.sound.text_order in
+      holds_in own.text (pc_of s) (omega arith) (omega arith)
+
+  pub entered_moves : (left : ℕ) (s : State) (insn : Insn) → Keeps m own key text s → IsCore s.core → place_of s.table (pc_of s) ≡ Entry m → next_insn (job_of key own text left) (start left s) ≡ Some insn → Moves m own (entered left s) (lone_does (job_of key own text left) insn (start left s)) (act (record s { active = Some m; caller = left; after = Next }))
+  unfolding entered start
+  entered_moves left s insn k ok p e =
+      let t : State = record s { active = Some m; caller = left; after = Next } in
+      let d = did_act m own s.table k.sound (job_of key own text left) refl t refl refl k.text_is k.key_is refl ok.even_pc (in_its_text s k ok p) (start left s) refl refl insn e in
+      record { memory = d.memory; is = d.is; bytes = d.bytes; rest = d.rest; text = d.text }
+
+  pub start_doing : (left : ℕ) (s : State) → Keeps m own key text s → IsCore s.core → place_of s.table (pc_of s) ≡ Entry m → doing (job_of key own text left) (start left s) ≡ does_or_breaks (next_insn (job_of key own text left) (start left s))
+  unfolding start doing
+  start_doing left s k ok p = ap (λ h. doing_by 0 false h (next_insn (job_of key own text left) (start left s))) (in_its_text s k ok p)
+
+  module _ (a b : State) (ready : Ready m own key text a b) (out_a : is_id m a.active ≡ false) (ok_a : IsCore a.core) (ok_b : IsCore b.core) where
+    ka : Keeps m own key text a
+    ka = ready.twins.keeps_a
+
+    kb : Keeps m own key text b
+    kb = ready.twins.keeps_b
+
+    same_active : a.active ≡ b.active
+    same_active = seen_active m own key text a b ready.twins.seen
+
+    out_b : is_id m b.active ≡ false
+    out_b = ap (is_id m) (sym same_active) ∙ out_a
+
+    veiled : veil m own a ≡ veil m own b
+    veiled = seen_veiled m own key text a b ready.twins.seen out_a
+
+    join : (f : State → Step) → Outer m own key text a (f a) (f (veil m own a)) → Outer m own key text b (f b) (f (veil m own b)) → Alike m own key text (f a) (f b)
+    join f oa ob = outer_alike m own key text a b (f a) (f b) (f (veil m own a)) (f (veil m own b)) ready oa ob (ap f veiled)
+
+    check_same : check a ≡ check b
+    check_same = sym (check_veiled a) ∙ ap check veiled ∙ check_veiled b
+
+    -- both calls begin with the same core
+    evenly_start : (left : ℕ) → left < 65536 → place_of a.table (pc_of a) ≡ Entry m → find_held m a.frames ≡ None → find_held m b.frames ≡ None → Evenly key own text (job_of key own text left) (start left a) (start left b)
+    unfolding start
+    evenly_start left small p fa fb =
+        let ra : run_of m a ≡ None = ap (λ c. run_by c m a) out_a ∙ fa in
+        let rb : run_of m b ≡ None = ap (λ c. run_by c m b) out_b ∙ fb in
+        let s1 = subst (λ r. Secret m own key text r (run_of m b) (section own.ram a.memory) (section own.ram b.memory)) ra ready.twins.secret in
+        let s2 : AlwaysEvenBy key own text (section own.ram a.memory) (section own.ram b.memory) = subst (λ r. Secret m own key text None r (section own.ram a.memory) (section own.ram b.memory)) rb s1 in
+        let core : a.core ≡ b.core = ap (λ s. s.core) veiled in
+        let ev : Evenly key own text (job_of key own text left) (start left a) (begins (record { core = a.core; caller = left; within = 0 }) (section own.ram b.memory)) =
+        record { always = λ n es h. s2 (record { core = a.core; caller = left; within = n } ∷ es) (record { core_ok = ok_a; at_start = at_start a ka ok_a p; caller_ok = small }, h) } in
+        subst (λ c. Evenly key own text (job_of key own text left) (start left a) (record { core = c; data_bytes = section own.ram b.memory; rest = 0; closing = false })) core ev
+
+    first_together : (left : ℕ) (na nb : Option Insn) → next_insn (job_of key own text left) (start left a) ≡ na → next_insn (job_of key own text left) (start left b) ≡ nb → place_of a.table (pc_of a) ≡ Entry m → place_of b.table (pc_of b) ≡ Entry m → is_held m (held_ids a.frames) ≡ false → is_held m (held_ids b.frames) ≡ false → Together key own text (job_of key own text left) (does_or_breaks na) (does_or_breaks nb) (start left a) (start left b) → Alike m own key text (act (at_entry left a)) (act (at_entry left b))
+    unfolding entered start
+    first_together left (Some i) (Some i') ea eb pa pb fa fb t =
+        let id : (m == m) ≡ true = grind (arith, nat_tests) in
+        let seen : hide_by true m own (entered left a) ≡ hide_by true m own (entered left b) = ap (λ (v : State). let u : State = record v { core = veil_core v.core; active = Some m; caller = left; phase = Run 0; after = Next } in u) veiled in
+        moves_alike m own key text (entered left a) (entered left b) (lone_does (job_of key own text left) i (start left a)) (lone_does (job_of key own text left) i' (start left b)) (act (at_entry left a)) (act (at_entry left b))
+        (entered_keeps left a ka fa) (entered_keeps left b kb fb) id id seen (entered_moves left a i ka ok_a pa ea) (entered_moves left b i' kb ok_b pb eb)
+        (does_gie (job_of key own text left) (start left a) i ea ok_a.sixteen) (does_gie (job_of key own text left) (start left b) i' eb ok_b.sixteen) t
+    first_together left (Some i) None ea eb pa pb fa fb t = absurd t
+    first_together left None nb ea eb pa pb fa fb t = absurd t
+
+    enters : (left : ℕ) → left < 65536 → check a ≡ None → place_of a.table (pc_of a) ≡ Entry m → a.active ≡ None → Alike m own key text (begin left a) (begin left b)
+    enters left small e p o =
+        let eb : check b ≡ None = sym check_same ∙ e in
+        let pb : place_of b.table (pc_of b) ≡ Entry m = ap (λ (s : State). place_of s.table (reg s.core 0)) (sym veiled) ∙ p in
+        let ob : b.active ≡ None = sym same_active ∙ o in
+        let fa = entry_free a e p in
+        let fb = entry_free b eb pb in
+        let ev = evenly_start left small p (found_none m a.frames fa) (found_none m b.frames fb) in
+        let j = job_of key own text left in
+        let t0 = next_together key own text j (start left a) (start left b) ev in
+        let t1 = subst (λ d. Together key own text j d (doing j (start left b)) (start left a) (start left b)) (start_doing left a ka ok_a p) t0 in
+        let t2 = subst (λ d. Together key own text j (does_or_breaks (next_insn j (start left a))) d (start left a) (start left b)) (start_doing left b kb ok_b pb) t1 in
+        let r = first_together left (next_insn j (start left a)) (next_insn j (start left b)) refl refl p pb fa fb t2 in
+        let ba : begin left a ≡ told (Event.Enter m left ∷ []) (act (at_entry left a)) = begin_by left a None e ∙ ap (λ u. told u.events (act u.state)) (entered_is left a p o) in
+        let bb : begin left b ≡ told (Event.Enter m left ∷ []) (act (at_entry left b)) = begin_by left b None eb ∙ ap (λ u. told u.events (act u.state)) (entered_is left b pb ob) in
+        let x : Alike m own key text (told (Event.Enter m left ∷ []) (act (at_entry left a))) (told (Event.Enter m left ∷ []) (act (at_entry left b))) = record { events = ap (λ es. Event.Enter m left ∷ es) r.events; related = r.related } in
+        subst (λ u. Alike m own key text u (begin left b)) (sym ba) (subst (λ u. Alike m own key text (told (Event.Enter m left ∷ []) (act (at_entry left a))) u) (sym bb) x)
+
+    -- ---- an instruction begins
+    enter_same : (left : ℕ) → (enter left a).state.active ≡ (enter left b).state.active
+    enter_same left =
+        ap (λ u. u.state.active) (sym (enter_veiled m own left a)) ∙ ap (λ s. (enter left s).state.active) veiled ∙ ap (λ u. u.state.active) (enter_veiled m own left b)
+
+    enter_cases : (left : ℕ) → is_id m (enter left a).state.active ≡ true → (place_of a.table (pc_of a) ≡ Entry m) × (a.active ≡ None)
+    unfolding enter
+    enter_cases left h = entered_active (place_of a.table (pc_of a)) a.active left a refl out_a h
+
+    begin_free : (left : ℕ) (c : Bool) → left < 65536 → check a ≡ None → is_id m (enter left a).state.active ≡ c → Alike m own key text (begin left a) (begin left b)
+    begin_free left true small e h = let p = enter_cases left h in enters left small e p.0 p.1
+    begin_free left false small e h =
+        join (begin left) (begin_outer left a ka out_a h ok_a e) (begin_outer left b kb out_b (ap (is_id m) (sym (enter_same left)) ∙ h) ok_b (sym check_same ∙ e))
+
+    begin_checked : (left : ℕ) (d : Option Denied) → left < 65536 → check a ≡ d → Alike m own key text (begin left a) (begin left b)
+    begin_checked left None small e = begin_free left (is_id m (enter left a).state.active) small e refl
+    begin_checked left (Some d) small e =
+        let eb : check b ≡ Some d = sym check_same ∙ e in
+        let r = join (denied d) (denied_outer d a ka out_a) (denied_outer d b kb out_b) in
+        subst (λ u. Alike m own key text u (begin left b)) (sym (begin_by left a (Some d) e)) (subst (λ u. Alike m own key text (denied d a) u) (sym (begin_by left b (Some d) eb)) r)
+
+    begin_alike : (left : ℕ) → left < 65536 → Alike m own key text (begin left a) (begin left b)
+    begin_alike left small = begin_checked left (check a) small refl
+
+    unless_alike : (x : Bool) (left : ℕ) → left < 65536 → Alike m own key text (unless x left a) (unless x left b)
+    unless_alike true left small = join quiet (quiet_outer a ka out_a) (quiet_outer b kb out_b)
+    unless_alike false left small = begin_alike left small
+
+    -- ---- the cases of a turn
+    by_cases : (d o : Option ℕ) (p : Phase) (left : ℕ) → left < 65536 → a.active ≡ o → Alike m own key text (turn_by d o p left a) (turn_by d o p left b)
+    by_cases d o (Pad n) left small e = join (λ s. quiet (padded (n - 1) s)) (padded_outer (n - 1) a ka out_a) (padded_outer (n - 1) b kb out_b)
+    by_cases (Some v) (Some id) (Run r) left small e =
+        join (arrive_inside v id) (inside_outer v id a ka e out_a) (inside_outer v id b kb (sym same_active ∙ e) out_b)
+    by_cases (Some v) None (Run zero) left small e = join (arrive_outside v) (arrive_outside_outer m own key text a ka out_a v) (arrive_outside_outer m own key text b kb out_b v)
+    by_cases (Some v) None (Run (suc r)) left small e = join (λ s. quiet (record s { phase = Run r })) (waits_outer (Run r) a ka out_a) (waits_outer (Run r) b kb out_b)
+    by_cases None None (Run (suc r)) left small e = join (λ s. quiet (record s { phase = Run r })) (waits_outer (Run r) a ka out_a) (waits_outer (Run r) b kb out_b)
+    by_cases None (Some id) (Run (suc r)) left small e = join (λ s. quiet (record s { phase = Run r })) (waits_outer (Run r) a ka out_a) (waits_outer (Run r) b kb out_b)
+    by_cases None None (Run zero) left small e =
+        subst (λ x. Alike m own key text (unless (asleep a) left a) (unless x left b)) (ap asleep veiled) (unless_alike (asleep a) left small)
+    by_cases None (Some id) (Run zero) left small e = begin_alike left small
+
+    pub outside_turn : (left : ℕ) → left < 65536 → Alike m own key text (turn left a) (turn left b)
+    unfolding turn
+    outside_turn left small =
+        let d : due a ≡ due b = sym (due_hidden m own a) ∙ ap due ready.twins.seen ∙ due_hidden m own b in
+        let r = by_cases (due a) a.active a.phase left small refl in
+        let r1 = subst (λ x. Alike m own key text (turn_by (due a) a.active a.phase left a) (turn_by x a.active a.phase left b)) d r in
+        let r2 = subst (λ x. Alike m own key text (turn_by (due a) a.active a.phase left a) (turn_by (due b) x a.phase left b)) same_active r1 in
+        subst (λ x. Alike m own key text (turn_by (due a) a.active a.phase left a) (turn_by (due b) b.active x left b)) (ap (λ (s : State). s.phase) veiled) r2
+
+  -- ---- one run alone: while the module is held, no turn moves it
+  module _ (s : State) (k : Keeps m own key text s) (out : is_id m s.active ≡ false) (ok : IsCore s.core) (r : Backup) (held : find_held m s.frames ≡ Some r) where
+    enter_is : (left : ℕ) → is_id m (enter left s).state.active ≡ true → (place_of s.table (pc_of s) ≡ Entry m) × (s.active ≡ None)
+    unfolding enter
+    enter_is left h = entered_active (place_of s.table (pc_of s)) s.active left s refl out h
+
+    free_stays : (left : ℕ) (c : Bool) → check s ≡ None → is_id m (enter left s).state.active ≡ c → Stays m own key text s (begin left s).state
+    free_stays left true e h =
+        let p = enter_is left h in
+        absurd (let n = found_none m s.frames (entry_free s e p.0) in let f : None ≡ Some r = sym n ∙ held in cc)
+    free_stays left false e h = (begin_outer left s k out h ok e).stays
+
+    checked_stays : (left : ℕ) (d : Option Denied) → check s ≡ d → Stays m own key text s (begin left s).state
+    checked_stays left None e = free_stays left (is_id m (enter left s).state.active) e refl
+    checked_stays left (Some d) e = subst (λ u. Stays m own key text s u.state) (sym (begin_by left s (Some d) e)) (denied_outer d s k out).stays
+
+    asleep_stays : (x : Bool) (left : ℕ) → Stays m own key text s (unless x left s).state
+    asleep_stays true left = (quiet_outer s k out).stays
+    asleep_stays false left = checked_stays left (check s) refl
+
+    cases_stay : (d o : Option ℕ) (p : Phase) (left : ℕ) → s.active ≡ o → Stays m own key text s (turn_by d o p left s).state
+    cases_stay d o (Pad n) left e = (padded_outer (n - 1) s k out).stays
+    cases_stay (Some v) (Some id) (Run x) left e = (inside_outer v id s k e out).stays
+    cases_stay (Some v) None (Run zero) left e = (arrive_outside_outer m own key text s k out v).stays
+    cases_stay (Some v) None (Run (suc x)) left e = (waits_outer (Run x) s k out).stays
+    cases_stay None None (Run (suc x)) left e = (waits_outer (Run x) s k out).stays
+    cases_stay None (Some id) (Run (suc x)) left e = (waits_outer (Run x) s k out).stays
+    cases_stay None None (Run zero) left e = asleep_stays (asleep s) left
+    cases_stay None (Some id) (Run zero) left e = checked_stays left (check s) refl
+
+    pub held_turn : (left : ℕ) → Stays m own key text s (turn left s).state
+    unfolding turn
+    held_turn left = cases_stay (due s) s.active s.phase left refl
+
+    -- and none enters it
+    free_idle : (left : ℕ) (c : Bool) → check s ≡ None → is_id m (enter left s).state.active ≡ c → is_id m (begin left s).state.active ≡ false
+    free_idle left true e h =
+        let p = enter_is left h in
+        absurd (let n = found_none m s.frames (entry_free s e p.0) in let f : None ≡ Some r = sym n ∙ held in cc)
+    free_idle left false e h =
+        let t = enter left s in
+        let b : begin left s ≡ told t.events (act t.state) = begin_by left s None e in
+        let a = act_active m own key text t.state (enter_stays left s k out h).keeps h in
+        ap (λ u. is_id m u.state.active) b ∙ ap (is_id m) a ∙ h
+
+    checked_idle : (left : ℕ) (d : Option Denied) → check s ≡ d → is_id m (begin left s).state.active ≡ false
+    checked_idle left None e = free_idle left (is_id m (enter left s).state.active) e refl
+    checked_idle left (Some d) e = ap (λ u. is_id m u.state.active) (begin_by left s (Some d) e) ∙ out
+
+    asleep_idle : (x : Bool) (left : ℕ) → is_id m (unless x left s).state.active ≡ false
+    asleep_idle true left = out
+    asleep_idle false left = checked_idle left (check s) refl
+
+    arrived_idle : (v : ℕ) → is_id m (arrive_outside v s).state.active ≡ false
+    arrived_idle v = ap (is_id m) (arrived_active m own key text s k out v) ∙ out
+
+    cases_idle : (d o : Option ℕ) (p : Phase) (left : ℕ) → is_id m (turn_by d o p left s).state.active ≡ false
+    cases_idle d o (Pad n) left = ap (is_id m) (padded_light (n - 1) s).0 ∙ out
+    cases_idle (Some v) (Some id) (Run x) left = inside_none v id s
+    cases_idle (Some v) None (Run zero) left = arrived_idle v
+    cases_idle (Some v) None (Run (suc x)) left = out
+    cases_idle None None (Run (suc x)) left = out
+    cases_idle None (Some id) (Run (suc x)) left = out
+    cases_idle None None (Run zero) left = asleep_idle (asleep s) left
+    cases_idle None (Some id) (Run zero) left = checked_idle left (check s) refl
+
+    pub held_idle : (left : ℕ) → is_id m (turn left s).state.active ≡ false
+    unfolding turn
+    held_idle left = cases_idle (due s) s.active s.phase left

@@ -1,0 +1,308 @@
+-- A whole cycle, and a whole run.
+use Rattle.std.proofs.Common.{◌≡◌, ◌≢◌, inl, inr, ⊎_elim, ℕ, zero, suc, ◌+◌, ◌*◌, ◌<◌, ◌≤◌, List, [], ◌∷◌, ◌++◌, length, get_or, map, replicate, refl, sym, ap, ◌∙◌, subst, arith, Bool, true, false, nat_lt, cond, ◌==◌, Option, Some, None, ext_get_or, ◌/◌, ◌%◌}
+use Rattle.std.proofs.lemmas.Bool.Decides.{nat_tests}
+use mathlib.Core.Path.{fun_ext}
+use Rattle.sm_words.specs.Words.{put, word_at, IsCore, reg, bit}
+use Rattle.schedule_file.specs.declared.Entry.{Entry as Scheduled}
+use Rattle.mod_layout.specs.Table.{Table, size_of, module_of, holds, place_of}
+use Rattle.mod_layout.specs.declared.Module.{Module}
+use Rattle.mod_layout.specs.declared.Place.{Place}
+use Rattle.mod_layout.specs.declared.Place.TheVariants.{Open, Entry, Text, Data}
+use Rattle.mod_layout.specs.declared.Section.{Section}
+use Rattle.pc_access.specs.Rights.{is_id}
+use Rattle.pc_access.specs.declared.Stop.{Stop}
+use Rattle.devices.specs.Devices.{Devices}
+use Rattle.image_text.specs.Image.{Image, IsImage}
+use Rattle.reg_backup.specs.declared.backup.Backup.{Backup}
+use Rattle.reg_backup.specs.declared.frames.Frame.{Frame}
+use Rattle.reg_backup.specs.declared.frames.Frame.TheVariants.{Plain, Module as Held}
+use Rattle.tracer.specs.declared.Event.{Event}
+use Rattle.written_machine.specs.Cycle.{Step, Settled, told, cleared, settle, ticked, turn, sent_event, counted_by, move, cycle_by, cycle, gie}
+use Rattle.written_machine.specs.Peers.{section, Peers}
+use Rattle.written_machine.specs.State.{State}
+use Rattle.written_machine.specs.View.{boot, at, is_hidden_by, Seen, seen_if, seen_frame, seen_byte, View, view_of}
+use Rattle.written_machine.specs.declared.Hidden.TheVariants.{Only}
+use Rattle.isolation.proofs.Active.{active_turn}
+use Rattle.isolation.proofs.Bounds.{each_bound}
+use Rattle.isolation.proofs.Bytes.{Out, get_cleared, length_cleared, get_in_cleared, part_cleared}
+use Rattle.isolation.proofs.Ending.{Settles, outside_settles, inside_settles}
+use Rattle.isolation.proofs.Fine.{Fine, FineSettled, settled_fine, fine_at}
+use Rattle.isolation.proofs.Hide.{veil_if, veil_frames, veil_core, hide_by, hide}
+use Rattle.isolation.proofs.Relation.{run_by, Keeps, Twins, Ready, Stays, Related, Alike, twins_stay_before, seen_veiled}
+use Rattle.isolation.proofs.Rights.{Sound, out_place, holds_in, holds_true}
+use Rattle.isolation.proofs.Settled.{ticked_stays}
+use Rattle.isolation.proofs.Settling.{ticked_hidden}
+use Rattle.isolation.proofs.Tables.{sound_from}
+use Rattle.isolation.proofs.Turns.{outside_turn}
+use Rattle.std.proofs.lemmas.Bool.{cases_lt}
+
+module _ (m : ℕ) (own : Module) (key text : List ℕ) where
+  ticked_active : (s : State) → (ticked s).active ≡ s.active
+  unfolding ticked
+  ticked_active s = refl
+
+  ticked_twins : (a b : State) → Twins m own key text a b → Twins m own key text (ticked a) (ticked b)
+  ticked_twins a b t =
+      twins_stay_before m own key text a b (ticked a) (ticked b) t (ticked_stays m own key text a t.keeps_a) (ticked_stays m own key text b t.keeps_b)
+      (sym (ticked_hidden m own a) ∙ ap ticked t.seen ∙ ticked_hidden m own b) (ticked_active a) (ticked_active b)
+
+  settle_by_place : (c : Bool) (a b : State) → Twins m own key text a b → is_id m a.active ≡ c → Settles m own key text (settle a) (settle b)
+  settle_by_place true a b t e = inside_settles m own key text a b t e
+  settle_by_place false a b t e = outside_settles m own key text a b t e
+
+  turn_by_place : (c : Bool) (left : ℕ) (a b : State) → Ready m own key text a b → IsCore a.core → IsCore b.core → left < 65536 → is_id m a.active ≡ c → Alike m own key text (turn left a) (turn left b)
+  turn_by_place true left a b r oa ob small e = active_turn m own key text a b r e oa ob left
+  turn_by_place false left a b r oa ob small e = outside_turn m own key text a b r e oa ob left small
+
+  alike_same : (t u : Step) → t ≡ u → Alike m own key text t u
+  alike_same t u e = record { events = ap (λ s. s.events) e; related = inl (ap (λ s. s.state) e) }
+
+  turns : (ua ub : Settled) → Settles m own key text ua ub → FineSettled ua → FineSettled ub → Alike m own key text (turn ua.left ua.state) (turn ub.left ub.state)
+  turns ua ub s fa fb =
+      ⊎_elim
+      (λ e. alike_same (turn ua.left ua.state) (turn ub.left ub.state) (ap (λ l. turn l ua.state) s.left ∙ ap (turn ub.left) e))
+      (λ r. subst (λ l. Alike m own key text (turn ua.left ua.state) (turn l ub.state)) s.left (turn_by_place (is_id m ua.state.active) ua.left ua.state ub.state r fa.fine.core_ok fb.fine.core_ok fa.left_small refl))
+      s.states
+
+  -- ---- the cycle number
+  counts : State → State
+  counts s = record s { cycle = s.cycle + 1 }
+
+  counts_hidden : (c : Bool) (s : State) → hide_by c m own (counts s) ≡ counts (hide_by c m own s)
+  unfolding counts
+  counts_hidden true s = refl
+  counts_hidden false s = refl
+
+  counts_run : (c : Bool) (s : State) → run_by c m (counts s) ≡ run_by c m s
+  unfolding counts
+  counts_run true s = refl
+  counts_run false s = refl
+
+  counts_stays : (s : State) → Keeps m own key text s → Stays m own key text s (counts s)
+  unfolding counts
+  counts_stays s k = record { bytes = refl; run = counts_run (is_id m s.active) s; keeps = record { sound = k.sound; key_is = k.key_is; text_is = k.text_is; once = k.once; proper = k.proper } }
+
+  counts_twins : (a b : State) → Twins m own key text a b → Twins m own key text (counts a) (counts b)
+  unfolding counts
+  counts_twins a b t =
+      twins_stay_before m own key text a b (counts a) (counts b) t (counts_stays a t.keeps_a) (counts_stays b t.keeps_b)
+      (counts_hidden (is_id m a.active) a ∙ ap counts t.seen ∙ sym (counts_hidden (is_id m b.active) b)) refl refl
+
+  seen_part : (c : Bool) (s : State) → ((hide_by c m own s).stop ≡ s.stop) × ((hide_by c m own s).devices ≡ s.devices)
+  seen_part true s = (refl, refl)
+  seen_part false s = (refl, refl)
+
+  seen_stop : (a b : State) → hide m own a ≡ hide m own b → a.stop ≡ b.stop
+  seen_stop a b e = sym (seen_part (is_id m a.active) a).0 ∙ ap (λ s. s.stop) e ∙ (seen_part (is_id m b.active) b).0
+
+  seen_devices : (a b : State) → hide m own a ≡ hide m own b → a.devices ≡ b.devices
+  seen_devices a b e = sym (seen_part (is_id m a.active) a).1 ∙ ap (λ s. s.devices) e ∙ (seen_part (is_id m b.active) b).1
+
+  counted_alike_by : (o : Option Stop) (es : List Event) (ta tb : Step) → ta.events ≡ tb.events → Twins m own key text ta.state tb.state → Alike m own key text (counted_by o (told es ta)) (counted_by o (told es tb))
+  unfolding counts
+  counted_alike_by (Some stop) es ta tb e t = record { events = ap (λ x. es ++ x) e; related = inr t }
+  counted_alike_by None es ta tb e t =
+      record {
+        events = ap (λ x. es ++ x ++ sent_event ta.state.devices.sent) e ∙ ap (λ (d : Devices). es ++ tb.events ++ sent_event d.sent) (seen_devices ta.state tb.state t.seen);
+        related = inr (counts_twins ta.state tb.state t);
+      }
+
+  finish : List Event → Step → Step
+  finish es t = counted_by t.state.stop (told es t)
+
+  counted_alike : (ea eb : List Event) (ta tb : Step) → ea ≡ eb → Alike m own key text ta tb → Alike m own key text (finish ea ta) (finish eb tb)
+  unfolding finish
+  counted_alike ea eb ta tb e r =
+      subst (λ es. Alike m own key text (finish ea ta) (finish es tb)) e
+      (⊎_elim
+      (λ s. alike_same (finish ea ta) (finish ea tb) (ap (λ st. let t : Step = record { state = st; events = ta.events } in finish ea t) s ∙ ap (λ es. let t : Step = record { state = tb.state; events = es } in finish ea t) r.events))
+      (λ t. subst (λ o. Alike m own key text (finish ea ta) (counted_by o (told ea tb))) (seen_stop ta.state tb.state t.seen) (counted_alike_by ta.state.stop ea ta tb r.events t))
+      r.related)
+
+  move_alike : (a b : State) → Twins m own key text a b → Fine a → Fine b → Alike m own key text (move a) (move b)
+  unfolding move finish
+  move_alike a b t fa fb =
+      let ta = ticked a in
+      let tb = ticked b in
+      let s = settle_by_place (is_id m ta.active) ta tb (ticked_twins a b t) refl in
+      let u = turns (settle ta) (settle tb) s (settled_fine a fa) (settled_fine b fb) in
+      counted_alike (settle ta).events (settle tb).events (turn (settle ta).left (settle ta).state) (turn (settle tb).left (settle tb).state) s.events u
+
+  cycle_by_alike : (o : Option Stop) (a b : State) → Twins m own key text a b → Fine a → Fine b → Alike m own key text (cycle_by o a) (cycle_by o b)
+  cycle_by_alike (Some stop) a b t fa fb = record { events = refl; related = inr t }
+  cycle_by_alike None a b t fa fb = move_alike a b t fa fb
+
+  -- one cycle keeps the relation, and tells the same
+  pub cycle_alike : (a b : State) → Related m own key text a b → Fine a → Fine b → Alike m own key text (cycle a) (cycle b)
+  cycle_alike a b r fa fb =
+      ⊎_elim
+      (λ e. alike_same (cycle a) (cycle b) (ap cycle e))
+      (λ t. subst (λ o. Alike m own key text (cycle a) (cycle_by o b)) (seen_stop a b t.seen) (cycle_by_alike a.stop a b t fa fb))
+      r
+
+  runs_alike : (a b : Image) (schedule : List Scheduled) → Related m own key text (boot a schedule) (boot b schedule) → IsImage a → IsImage b → (k : ℕ) → Related m own key text (at a schedule k) (at b schedule k)
+  runs_alike a b schedule r ia ib zero = r
+  runs_alike a b schedule r ia ib (suc k) =
+      (cycle_alike (at a schedule k) (at b schedule k) (runs_alike a b schedule r ia ib k) (fine_at a schedule k ia) (fine_at b schedule k ib)).related
+
+  -- ---- the views
+  frame_seen : (c : Bool) (b : Backup) → (b.module == m) ≡ c → seen_frame (Only m) (Held (veil_if c b)) ≡ seen_frame (Only m) (Held b)
+  frame_seen true b e = ap (λ d. seen_if d (veil_if true b)) e ∙ sym (ap (λ d. seen_if d b) e)
+  frame_seen false b e = refl
+
+  seen_frames : (fs : List Frame) → map (seen_frame (Only m)) (veil_frames m fs) ≡ map (seen_frame (Only m)) fs
+  seen_frames [] = refl
+  seen_frames (Plain ∷ fs) = ap (λ l. Seen.SeenPlain ∷ l) (seen_frames fs)
+  seen_frames (Held b ∷ fs) = ap (λ x. x ∷ map (seen_frame (Only m)) (veil_frames m fs)) (frame_seen (b.module == m) b refl) ∙ ap (λ l. seen_frame (Only m) (Held b) ∷ l) (seen_frames fs)
+
+  data_by : (c : Bool) (x y : ℕ) → (c ≡ false → x ≡ y) → (let u : Option ℕ = cond c None (Some x) in u) ≡ cond c None (Some y)
+  data_by true x y h = refl
+  data_by false x y h = ap Some (h refl)
+
+  byte_seen : (p : Place) (x y : ℕ) → (p ≢ Data m → x ≡ y) → seen_byte (Only m) p x ≡ seen_byte (Only m) p y
+  byte_seen Open x y h = ap Some (h (λ e. cc))
+  byte_seen (Entry id) x y h = ap Some (h (λ e. cc))
+  byte_seen (Text id) x y h = ap Some (h (λ e. cc))
+  byte_seen (Data id) x y h = data_by (id == m) x y (λ c. h (λ e. let same : id ≡ m = cc in let t : (id == m) ≡ true = grind (arith, nat_tests) in let f : true ≡ false = sym t ∙ c in cc))
+
+  hid : (a : Option ℕ) → is_hidden_by (Only m) a ≡ is_id m a
+  hid None = refl
+  hid (Some id) = refl
+
+  -- the view is that of the state without the secrets
+  view_by : (c : Bool) (s : State) → Sound m own s.table → is_id m s.active ≡ c → view_of (hide_by c m own s) (Only m) ≡ view_of s (Only m)
+  unfolding view_of
+  view_by true s k e =
+      let build : (ℕ → Option ℕ) → Option (List ℕ) → List Seen → View = λ f r fs. record { byte = f; registers = r; active = s.active; frames = fs; cycle = s.cycle; table = s.table; devices = s.devices; stop = s.stop } in
+      let h : is_hidden_by (Only m) s.active ≡ true = hid s.active ∙ e in
+      ap (λ f. build f (cond (is_hidden_by (Only m) s.active) None (Some (veil_core s.core))) (map (seen_frame (Only m)) (veil_frames m s.frames))) (fun_ext (λ a. ap (λ o. cond (nat_lt a 512) None o) (byte_seen (place_of s.table a) (get_or (cleared own.ram.start (size_of own.ram) s.memory) a 0) (get_or s.memory a 0) (λ ne. get_cleared own.ram.start (size_of own.ram) s.memory a (out_place m own s.table k a ne)))))
+      ∙ ap (λ r. build (λ a. cond (nat_lt a 512) None (seen_byte (Only m) (place_of s.table a) (get_or s.memory a 0))) r (map (seen_frame (Only m)) (veil_frames m s.frames))) (ap (λ c. let u : Option (List ℕ) = cond c None (Some (veil_core s.core)) in u) h ∙ sym (ap (λ c. let u : Option (List ℕ) = cond c None (Some s.core) in u) h))
+      ∙ ap (build (λ a. cond (nat_lt a 512) None (seen_byte (Only m) (place_of s.table a) (get_or s.memory a 0))) (cond (is_hidden_by (Only m) s.active) None (Some s.core))) (seen_frames s.frames)
+  view_by false s k e =
+      let build : (ℕ → Option ℕ) → List Seen → View = λ f fs. record { byte = f; registers = cond (is_hidden_by (Only m) s.active) None (Some s.core); active = s.active; frames = fs; cycle = s.cycle; table = s.table; devices = s.devices; stop = s.stop } in
+      ap (λ f. build f (map (seen_frame (Only m)) (veil_frames m s.frames))) (fun_ext (λ a. ap (λ o. cond (nat_lt a 512) None o) (byte_seen (place_of s.table a) (get_or (cleared own.ram.start (size_of own.ram) s.memory) a 0) (get_or s.memory a 0) (λ ne. get_cleared own.ram.start (size_of own.ram) s.memory a (out_place m own s.table k a ne)))))
+      ∙ ap (build (λ a. cond (nat_lt a 512) None (seen_byte (Only m) (place_of s.table a) (get_or s.memory a 0)))) (seen_frames s.frames)
+
+  pub view_alike : (a b : State) → Related m own key text a b → view_of a (Only m) ≡ view_of b (Only m)
+  view_alike a b r =
+      ⊎_elim
+      (λ e. ap (λ s. view_of s (Only m)) e)
+      (λ t. sym (view_by (is_id m a.active) a t.keeps_a.sound refl) ∙ ap (λ s. view_of s (Only m)) t.seen ∙ view_by (is_id m b.active) b t.keeps_b.sound refl)
+      r
+
+-- ---- the beginning
+pub sound_image : (a : Image) (m : ℕ) (own : Module) → IsImage a → module_of m a.table ≡ Some own → Sound m own a.table
+sound_image a m own ok e = sound_from m own a.table ok.table_ok e
+
+out_holds : (r : Section) (x : ℕ) → r.end ≤ 65504 → 65504 ≤ x → holds r x ≡ false
+out_holds r x e h = grind (arith, nat_tests)
+
+not_in : (r : Section) (x : ℕ) → holds r x ≡ false → r.start < r.end → r.start ≤ x → r.start + size_of r ≤ x
+not_in r x e o low = ⊎_elim (λ lt. absurd (let t = holds_in r x low lt in let f : true ≡ false = sym t ∙ e in cc)) (λ ge. omega arith) (cases_lt x r.end)
+
+bit_of_bit : (v : ℕ) → bit 8 (8 * bit 8 v) ≡ bit 8 v
+bit_of_bit v = let q : ℕ = v / 8 in let e : (8 * (q % 2)) / 8 % 2 ≡ q % 2 = omega arith in e
+
+module _ (a b : Image) (m : ℕ) (schedule : List Scheduled) (peers : Peers a b m) where
+  abbrev own : Module
+  own = peers.owner
+
+  sound_a : Sound m own a.table
+  sound_a = sound_image a m own peers.image_a peers.owned
+
+  out_byte : (x : ℕ) → 65504 ≤ x → get_or a.memory x 0 ≡ get_or b.memory x 0
+  out_byte x h = peers.elsewhere x (out_holds own.ram x sound_a.ram_high h)
+
+  by_place : (i : ℕ) (c : Bool) → holds own.ram i ≡ c → get_or (cleared own.ram.start (size_of own.ram) a.memory) i 0 ≡ get_or (cleared own.ram.start (size_of own.ram) b.memory) i 0
+  by_place i true e =
+      let p = holds_true own.ram i e in
+      get_in_cleared own.ram.start (size_of own.ram) a.memory i p.0 (omega (arith, p.0, p.1)) ∙ sym (get_in_cleared own.ram.start (size_of own.ram) b.memory i p.0 (omega (arith, p.0, p.1)))
+  by_place i false e =
+      let out : Out own.ram.start (size_of own.ram) i = λ low. not_in own.ram i e sound_a.ram_order low in
+      get_cleared own.ram.start (size_of own.ram) a.memory i out ∙ peers.elsewhere i e ∙ sym (get_cleared own.ram.start (size_of own.ram) b.memory i out)
+
+  cleared_same : cleared own.ram.start (size_of own.ram) a.memory ≡ cleared own.ram.start (size_of own.ram) b.memory
+  cleared_same =
+      let lo = own.ram.start in
+      let n = size_of own.ram in
+      let len : length (cleared lo n a.memory) ≡ length (cleared lo n b.memory) = length_cleared lo n a.memory ∙ peers.image_a.full ∙ sym (length_cleared lo n b.memory ∙ peers.image_b.full) in
+      ext_get_or 0 (cleared lo n a.memory) (cleared lo n b.memory) len (λ i h. by_place i (holds own.ram i) refl)
+
+  text_same : section own.text b.memory ≡ section own.text a.memory
+  text_same =
+      let lo = own.text.start in
+      let n = size_of own.text in
+      sym (part_cleared lo n own.ram.start (size_of own.ram) b.memory sound_a.disjoint) ∙ ap (section own.text) (sym cleared_same) ∙ part_cleared lo n own.ram.start (size_of own.ram) a.memory sound_a.disjoint
+
+  boot_seen : hide m own (boot a schedule) ≡ hide m own (boot b schedule)
+  boot_seen =
+      let word : word_at (λ x. get_or a.memory x 0) 65534 ≡ word_at (λ x. get_or b.memory x 0) 65534 =
+      ap (λ v. v + 256 * get_or a.memory 65535 0) (out_byte 65534 (omega arith)) ∙ ap (λ v. get_or b.memory 65534 0 + 256 * v) (out_byte 65535 (omega arith)) in
+      let build : ℕ → List ℕ → Table → List ℕ → ℕ → State = λ w mem t k sp. record (boot a schedule) { core = put (replicate 16 0) 0 w; memory = mem; table = t; key = k; handler_sp = sp } in
+      ap (λ w. build w (cleared own.ram.start (size_of own.ram) a.memory) a.table a.node_key a.handler_sp) word
+      ∙ ap (λ mem. build (word_at (λ x. get_or b.memory x 0) 65534) mem a.table a.node_key a.handler_sp) cleared_same
+      ∙ ap (λ t. build (word_at (λ x. get_or b.memory x 0) 65534) (cleared own.ram.start (size_of own.ram) b.memory) t a.node_key a.handler_sp) peers.table
+      ∙ ap (λ k. build (word_at (λ x. get_or b.memory x 0) 65534) (cleared own.ram.start (size_of own.ram) b.memory) b.table k a.handler_sp) peers.node_key
+      ∙ ap (λ sp. build (word_at (λ x. get_or b.memory x 0) 65534) (cleared own.ram.start (size_of own.ram) b.memory) b.table b.node_key sp) peers.handler_sp
+
+  boot_twins : Twins m own a.node_key (section own.text a.memory) (boot a schedule) (boot b schedule)
+  boot_twins =
+      record {
+        seen = boot_seen;
+        secret = each_bound a.node_key own (section own.text a.memory) (section own.ram a.memory) (section own.ram b.memory) peers.even;
+        keeps_a = record { sound = sound_a; key_is = refl; text_is = refl; once = omega arith; proper = λ h. absurd cc };
+        keeps_b = record { sound = subst (Sound m own) peers.table sound_a; key_is = sym peers.node_key; text_is = text_same; once = omega arith; proper = λ h. absurd cc };
+        open_a = λ h. tt;
+        open_b = λ h. tt;
+      }
+
+  related_at : (k : ℕ) → Related m own a.node_key (section own.text a.memory) (at a schedule k) (at b schedule k)
+  related_at k = runs_alike m own a.node_key (section own.text a.memory) a b schedule (inr boot_twins) peers.image_a peers.image_b k
+
+  -- two runs of peers are seen alike, and tell the same
+  pub views_equal : (k : ℕ) → view_of (at a schedule k) (Only m) ≡ view_of (at b schedule k) (Only m)
+  views_equal k = view_alike m own a.node_key (section own.text a.memory) (at a schedule k) (at b schedule k) (related_at k)
+
+  pub events_equal : (k : ℕ) → (cycle (at a schedule k)).events ≡ (cycle (at b schedule k)).events
+  events_equal k = (cycle_alike m own a.node_key (section own.text a.memory) (at a schedule k) (at b schedule k) (related_at k) (fine_at a schedule k peers.image_a) (fine_at b schedule k peers.image_b)).events
+
+  outside_alike : (s t : State) → Related m own a.node_key (section own.text a.memory) s t → is_id m s.active ≡ false → (s.phase ≡ t.phase) × (s.after ≡ t.after)
+  outside_alike s t r e =
+      ⊎_elim
+      (λ p. (ap (λ u. u.phase) p, ap (λ u. u.after) p))
+      (λ x. let v = seen_veiled m own a.node_key (section own.text a.memory) s t x.seen e in (ap (λ u. u.phase) v, ap (λ u. u.after) v))
+      r
+
+  -- while the module is not active
+  pub phases_equal : (k : ℕ) → is_id m (at a schedule k).active ≡ false → ((at a schedule k).phase ≡ (at b schedule k).phase) × ((at a schedule k).after ≡ (at b schedule k).after)
+  phases_equal k e = outside_alike (at a schedule k) (at b schedule k) (related_at k) e
+
+  caller_hidden : (c : Bool) (s : State) → (hide_by c m own s).caller ≡ s.caller
+  caller_hidden true s = refl
+  caller_hidden false s = refl
+
+  gie_hidden : (c : Bool) (s : State) → gie (hide_by c m own s).core ≡ gie s.core
+  gie_hidden true s = ap (λ b. b == 1) (bit_of_bit (reg s.core 2))
+  gie_hidden false s = refl
+
+  callers_alike : (s t : State) → Related m own a.node_key (section own.text a.memory) s t → s.caller ≡ t.caller
+  callers_alike s t r =
+      ⊎_elim (λ p. ap (λ u. u.caller) p) (λ x. sym (caller_hidden (is_id m s.active) s) ∙ ap (λ u. u.caller) x.seen ∙ caller_hidden (is_id m t.active) t) r
+
+  pub callers_equal : (k : ℕ) → (at a schedule k).caller ≡ (at b schedule k).caller
+  callers_equal k = callers_alike (at a schedule k) (at b schedule k) (related_at k)
+
+  gie_alike : (s t : State) → Related m own a.node_key (section own.text a.memory) s t → gie s.core ≡ gie t.core
+  gie_alike s t r =
+      ⊎_elim (λ p. ap (λ u. gie u.core) p) (λ x. sym (gie_hidden (is_id m s.active) s) ∙ ap (λ u. gie u.core) x.seen ∙ gie_hidden (is_id m t.active) t) r
+
+  pub gie_equal : (k : ℕ) → gie (at a schedule k).core ≡ gie (at b schedule k).core
+  gie_equal k = gie_alike (at a schedule k) (at b schedule k) (related_at k)
+
+  gone_alike : (s t : State) → Related m own a.node_key (section own.text a.memory) s t → module_of m s.table ≡ None → s ≡ t
+  gone_alike s t r e =
+      ⊎_elim (λ p. p) (λ x. absurd (let f : Some own ≡ None = sym x.keeps_a.sound.found ∙ e in cc)) r
+
+  -- once the module has left the table
+  pub gone_equal : (k : ℕ) → module_of m (at a schedule k).table ≡ None → at a schedule k ≡ at b schedule k
+  gone_equal k e = gone_alike (at a schedule k) (at b schedule k) (related_at k) e

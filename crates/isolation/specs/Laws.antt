@@ -1,0 +1,168 @@
+-- The laws of the written machine. Each is what a function of this crate ensures.
+use Rattle.std.specs.Prelude.{◌≡◌, ℕ, suc, ◌+◌, ◌<◌, ◌≤◌, List, length, slice_index, true, false, is_some, Option, Some, None}
+use Rattle.sm_words.specs.Sums.{one_if}
+use Rattle.sm_words.specs.Words.{IsCore}
+use Rattle.schedule_file.specs.declared.Entry.{Entry}
+use Rattle.mod_layout.specs.Table.{Table, module_of, size_of, takes}
+use Rattle.mod_layout.specs.Tables.{IsTable}
+use Rattle.mod_layout.specs.declared.Module.{Module}
+use Rattle.mod_layout.specs.declared.Section.{Section}
+use Rattle.pc_access.specs.Rights.{first_denied, is_id}
+use Rattle.pc_access.specs.declared.Kind.TheVariants.{Write}
+use Rattle.image_text.specs.Image.{Image, IsImage}
+use Rattle.attest.specs.Units.{each_byte, text_reads}
+use Rattle.cpu_step.specs.Lone.{outcome, lone_after}
+use Rattle.written_machine.specs.Cycle.{cycle, after_cycles, gie}
+use Rattle.written_machine.specs.Peers.{Peers}
+use Rattle.written_machine.specs.Script.{play, stands_at}
+use Rattle.written_machine.specs.State.{State}
+use Rattle.written_machine.specs.Trace.{trace}
+use Rattle.written_machine.specs.View.{view_of, at, boot}
+use Rattle.written_machine.specs.declared.Hidden.TheVariants.{All as AllHidden, Only}
+use Rattle.written_machine.specs.declared.ScriptLine.{ScriptLine}
+use Rattle.isolation.specs.Calls.{Enters, Ends, Hides, Handles, stop_in, UnderWay, entry_state, entry_job, entry_lone, worked, NotBroken, Takes, Stands, times, away}
+
+-- ---- two runs of peers, on every schedule
+
+-- The views are equal in every cycle, where the one module alone is hidden.
+abbrev pub SameViews : Type 0
+SameViews = (a b : Image) (m : ℕ) (schedule : List Entry) (k : ℕ) → Peers a b m →
+    view_of (at a schedule k) (Only m) ≡ view_of (at b schedule k) (Only m)
+
+-- The events of every cycle are equal.
+abbrev pub SameEvents : Type 0
+SameEvents = (a b : Image) (m : ℕ) (schedule : List Entry) (k : ℕ) → Peers a b m →
+    (cycle (at a schedule k)).events ≡ (cycle (at b schedule k)).events
+
+-- While the module is not active, phase and what is settled next are equal.
+abbrev pub SamePhases : Type 0
+SamePhases = (a b : Image) (m : ℕ) (schedule : List Entry) (k : ℕ) → Peers a b m → is_id m (at a schedule k).active ≡ false →
+    ((at a schedule k).phase ≡ (at b schedule k).phase) × ((at a schedule k).after ≡ (at b schedule k).after)
+
+-- The caller is equal in every cycle, whichever module is active.
+abbrev pub SameCallers : Type 0
+SameCallers = (a b : Image) (m : ℕ) (schedule : List Entry) (k : ℕ) → Peers a b m →
+    (at a schedule k).caller ≡ (at b schedule k).caller
+
+-- Whether interrupts are enabled is equal in every cycle.
+abbrev pub SameGie : Type 0
+SameGie = (a b : Image) (m : ℕ) (schedule : List Entry) (k : ℕ) → Peers a b m →
+    gie (at a schedule k).core ≡ gie (at b schedule k).core
+
+-- Once the module has left the table, the machines are in one state.
+abbrev pub SameOnceGone : Type 0
+SameOnceGone = (a b : Image) (m : ℕ) (schedule : List Entry) (k : ℕ) → Peers a b m → module_of m (at a schedule k).table ≡ None →
+    at a schedule k ≡ at b schedule k
+
+-- ---- what peers write
+
+-- The outside trace is one text, whatever the schedule and the number of cycles.
+abbrev pub SameTraces : Type 0
+SameTraces = (a b : Image) (m : ℕ) (schedule : List Entry) (n : ℕ) → Peers a b m → trace a schedule n ≡ trace b schedule n
+
+-- The views are equal in every cycle, where every module is hidden: the registers outside, and every byte in no module's data.
+abbrev pub SameOutsideViews : Type 0
+SameOutsideViews = (a b : Image) (m : ℕ) (schedule : List Entry) (k : ℕ) → Peers a b m →
+    view_of (at a schedule k) AllHidden ≡ view_of (at b schedule k) AllHidden
+
+-- The outside is about to begin the instruction at an address in both, or in neither.
+abbrev pub SameStanding : Type 0
+SameStanding = (a b : Image) (m : ℕ) (schedule : List Entry) (k addr : ℕ) → Peers a b m →
+    stands_at addr (at a schedule k) ≡ stands_at addr (at b schedule k)
+
+-- A script shows one text.
+abbrev pub SamePlays : Type 0
+SamePlays = (a b : Image) (m : ℕ) (schedule : List Entry) (script : List ScriptLine) → Peers a b m →
+    play (boot a schedule) script ≡ play (boot b schedule) script
+
+-- ---- one run of one image
+
+-- A module that is entered is in the table.
+abbrev pub EnteredIsKnown : Type 0
+EnteredIsKnown = (a : Image) (m : ℕ) (schedule : List Entry) (k from : ℕ) → Enters m from (cycle (at a schedule k)).events →
+    is_some (module_of m (entry_state a schedule k).table) ≡ true
+
+-- Transparency. Let a module be entered in cycle k, and neither left nor closed in the n cycles after it; let c be the
+-- number of these cycles, the entry's own among them, that ended in a wait or an instruction of the module. Where the
+-- call by itself is not broken within c cycles, the module stands, active or in its one frame, where it stands by itself
+-- after c cycles: with these registers, this rest, this closing and these data. This holds whatever was interrupted,
+-- padded and resumed, at whatever depth, and whatever devices, handlers, other modules and unit instructions did.
+abbrev pub Transparency : Type 0
+Transparency = (a : Image) (schedule : List Entry) (m : ℕ) (owner : Module) (k from n : ℕ) → UnderWay a schedule m owner k from n →
+    (let c = 1 + worked m (at a schedule (suc k)) n in
+    let j = entry_job a schedule owner k from in
+    let l = entry_lone a schedule owner k from in
+    NotBroken (outcome j c l) → Stands m owner (after_cycles (at a schedule (suc k)) n) (lone_after j l c))
+
+-- Cost. If the module is then left or closed in the cycle after those, its call by itself takes c cycles, and the number of that
+-- cycle less the entry's is c, and for each hide between them the cycles from the hide to the module's next resume.
+abbrev pub Cost : Type 0
+Cost = (a : Image) (schedule : List Entry) (m : ℕ) (owner : Module) (k from n : ℕ) → UnderWay a schedule m owner k from n →
+    Ends m (cycle (after_cycles (at a schedule (suc k)) n)).events →
+    (let s = at a schedule (suc k) in
+    let c = 1 + worked m s n in
+    let j = entry_job a schedule owner k from in
+    let l = entry_lone a schedule owner k from in
+    NotBroken (outcome j c l) →
+    Takes c (outcome j c l) × ((away m s n).since ≡ None) × ((after_cycles s n).cycle ≡ (at a schedule k).cycle + (c + (away m s n).sum)))
+
+-- A handler begins 12 cycles after a hide,
+abbrev pub HandlerAfterHide : Type 0
+HandlerAfterHide = (a : Image) (schedule : List Entry) (k : ℕ) → Hides (cycle (at a schedule k)).events →
+    Handles (cycle (after_cycles (at a schedule (suc k)) 11)).events
+
+-- and at no other time.
+abbrev pub HideBeforeHandler : Type 0
+HideBeforeHandler = (a : Image) (schedule : List Entry) (k : ℕ) → Handles (cycle (at a schedule k)).events →
+    (hid : ℕ) × (k ≡ hid + 12) × Hides (cycle (at a schedule hid)).events
+
+-- ---- what every state of a run keeps
+
+-- A machine that has not stopped after k cycles has the number k.
+abbrev pub Numbered : Type 0
+Numbered = (a : Image) (schedule : List Entry) (k : ℕ) → (at a schedule k).stop ≡ None → (at a schedule k).cycle ≡ k
+
+-- The registers keep their rules.
+abbrev pub CoreKept : Type 0
+CoreKept = (a : Image) (schedule : List Entry) (k : ℕ) → IsImage a → IsCore (at a schedule k).core
+
+-- The memory has all its bytes.
+abbrev pub MemoryFull : Type 0
+MemoryFull = (a : Image) (schedule : List Entry) (k : ℕ) → IsImage a → length (at a schedule k).memory ≡ 65536
+
+-- Each of them is a byte.
+abbrev pub MemoryBytes : Type 0
+MemoryBytes = (a : Image) (schedule : List Entry) (k n : ℕ) → IsImage a → slice_index (at a schedule k).memory n < 256
+
+-- The table keeps its rules.
+abbrev pub TableKept : Type 0
+TableKept = (a : Image) (schedule : List Entry) (k : ℕ) → IsImage a → IsTable (at a schedule k).table
+
+-- A module is active or in one frame, and never both.
+abbrev pub ModuleOnce : Type 0
+ModuleOnce = (a : Image) (schedule : List Entry) (k m : ℕ) → one_if (is_id m (at a schedule k).active) + times m (at a schedule k).frames ≤ 1
+
+-- There are at most eight frames.
+abbrev pub FramesFew : Type 0
+FramesFew = (a : Image) (schedule : List Entry) (k : ℕ) → length (at a schedule k).frames ≤ 8
+
+-- ---- cycles and rights
+
+-- A cycle tells at most four events.
+abbrev pub EventsFew : Type 0
+EventsFew = (s : State) → length (cycle s).events ≤ 4
+
+-- A cycle of a machine that runs tells a stop exactly where the machine is stopped after it, and then that stop: the rule, the PC, the
+-- address and the module of the first check that was refused.
+abbrev pub StopTold : Type 0
+StopTold = (s : State) → s.stop ≡ None → stop_in (cycle s).events ≡ (cycle s).state.stop
+
+-- Reads of a module's text are refused to no one: so of a unit instruction's accesses only those are refused that its registers name.
+abbrev pub TextReadable : Type 0
+TextReadable = (t : Table) (m : ℕ) (owner : Module) (active : Option ℕ) (held : List ℕ) → IsTable t → module_of m t ≡ Some owner →
+    first_denied t active held (text_reads owner) ≡ None
+
+-- The zeros that a new module's data begin with are refused to no one, where the table takes the module.
+abbrev pub ZerosWritable : Type 0
+ZerosWritable = (t : Table) (text ram : Section) (active : Option ℕ) (held : List ℕ) → IsTable t → takes t text ram ≡ true →
+    first_denied t active held (each_byte Write ram.start (size_of ram)) ≡ None

@@ -1,0 +1,65 @@
+//! The laws of the written machine: what a module's call costs and leaves, whatever interrupts it, and that
+//! the outside can't tell two images apart that differ in one confined module's data alone.
+//!
+//! Each law is what a function here ensures; `specs/Laws.antt` states them in words.
+#![tactic(auto)]
+
+ghost use Rattle.isolation.specs.Laws.{SameViews, SameEvents, SamePhases, SameCallers, SameGie, SameOnceGone, SameTraces, SameOutsideViews, SameStanding, SamePlays, EnteredIsKnown, Transparency, Cost, HandlerAfterHide, HideBeforeHandler, Numbered, CoreKept, MemoryFull, MemoryBytes, TableKept, ModuleOnce, FramesFew, EventsFew, StopTold, TextReadable, ZerosWritable};
+
+/// Two runs of peers are seen alike by all but the one module, and tell the same, in every cycle of every schedule.
+pub fn two_runs()
+    ensures views { SameViews }
+    ensures events { SameEvents }
+    ensures phases { SamePhases }
+    ensures callers { SameCallers }
+    ensures interrupts { SameGie }
+    ensures gone { SameOnceGone }
+{}
+
+/// Peers have one trace, and show a script the same.
+pub fn texts()
+    ensures traces { SameTraces }
+    ensures outside { SameOutsideViews }
+    ensures stands { SameStanding }
+    ensures scripts { SamePlays }
+{}
+
+/// A module that is interrupted does what it does by itself.
+pub fn transparency()
+    ensures owner { EnteredIsKnown }
+    ensures stands { Transparency }
+{}
+
+/// A call takes its own cycles, and those between its hides and its resumes.
+pub fn cost()
+    ensures { Cost }
+{}
+
+/// A handler begins exactly 12 cycles after a module was hidden.
+pub fn handlers()
+    ensures after { HandlerAfterHide }
+    ensures before { HideBeforeHandler }
+{}
+
+/// What every state of a run keeps.
+pub fn states()
+    ensures number { Numbered }
+    ensures core { CoreKept }
+    ensures full { MemoryFull }
+    ensures bytes { MemoryBytes }
+    ensures table { TableKept }
+    ensures once { ModuleOnce }
+    ensures few { FramesFew }
+{}
+
+/// A cycle tells at most four events, and of a stop exactly where it stops.
+pub fn tells()
+    ensures few { EventsFew }
+    ensures stop { StopTold }
+{}
+
+/// What no one is refused.
+pub fn unrefused()
+    ensures texts { TextReadable }
+    ensures zeros { ZerosWritable }
+{}

@@ -1,0 +1,5 @@
+-- What a memory holds.
+use Rattle.std.specs.Prelude.{ℕ, List}
+
+pub record Contents : Type 0 where
+  pub bytes : List ℕ  -- of all addresses from 0 to 0xffff

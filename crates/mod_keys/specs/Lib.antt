@@ -1,0 +1,3 @@
+pub mod Mac
+pub mod Keys
+pub mod Fed

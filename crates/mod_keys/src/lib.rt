@@ -1,0 +1,10 @@
+//! The keys of vendors and modules, derived by HMAC-SHA-256.
+#![tactic(auto)]
+
+mod keys;
+mod mac;
+#[cfg(test)]
+mod tests;
+
+pub use keys::{identity_tail, module_key, module_key_from, provider_key};
+pub use mac::Hmac;

@@ -1,0 +1,36 @@
+-- Frames, as a list with the newest first.
+use Rattle.std.specs.Prelude.{◌≡◌, ◌≢◌, ℕ, List, [], ◌∷◌, map, reverse}
+use Rattle.reg_backup.specs.declared.frames.Frame.{Frame}
+use Rattle.reg_backup.specs.declared.frames.Frame.TheVariants.{Plain, Module}
+use Rattle.reg_backup.specs.declared.frames.FrameKind.{FrameKind}
+use Rattle.reg_backup.specs.declared.frames.FrameKind.TheVariants.{Plain as PlainKind, Module as ModuleKind}
+
+-- the ids of the modules in frames, the newest first
+abbrev pub held_ids : List Frame → List ℕ
+held_ids [] = []
+held_ids (Plain ∷ fs) = held_ids fs
+held_ids (Module b ∷ fs) = b.module ∷ held_ids fs
+
+-- what a frame is
+abbrev pub kind_of : Frame → FrameKind
+kind_of Plain = PlainKind
+kind_of (Module b) = ModuleKind b.module
+
+-- the frames' kinds, the oldest first
+abbrev pub kinds : List Frame → List FrameKind
+kinds fs = map kind_of (reverse fs)
+
+-- the number is none of these
+abbrev pub IsAbsent : ℕ → List ℕ → Type 0
+IsAbsent id [] = Unit {0}
+IsAbsent id (x ∷ xs) = (x ≢ id) × IsAbsent id xs
+
+-- no two of these are equal
+abbrev pub Differ : List ℕ → Type 0
+Differ [] = Unit {0}
+Differ (x ∷ xs) = IsAbsent x xs × Differ xs
+
+-- a frame's module is in none of these frames
+abbrev pub IsNew : Frame → List Frame → Type 0
+IsNew Plain fs = Unit {0}
+IsNew (Module b) fs = IsAbsent b.module (held_ids fs)

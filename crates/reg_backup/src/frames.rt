@@ -1,0 +1,120 @@
+//! The frames that stand while modules are interrupted.
+
+ghost use Rattle.std.specs.Prelude.{◌≡◌, ◌↔◌, ◌≤◌, ℕ, List, [], ◌∷◌, length, slice_get, reverse, OnOk, OnErr, IsErr, IsNone, IfSome, IfNone};
+ghost use Rattle.reg_backup.specs.Held.{held_ids, kinds, Differ, IsNew};
+
+use crate::backup::Backup;
+use arrayvec::ArrayVec;
+use std::marker::Model;
+
+/// The most frames that can stand.
+const MOST: usize = 8;
+
+/// One interruption.
+#[derive(Clone, Copy, Debug, Default, PartialEq, Eq)]
+pub enum Frame {
+    /// Code outside all modules was interrupted, while frames stood.
+    #[default]
+    Plain,
+    /// A module was interrupted.
+    Module(Backup),
+}
+
+impl Frame {
+    ghost use Rattle.reg_backup.specs.Held.{kind_of};
+
+    fn kind(&self) -> FrameKind
+        ensures { result ≡ kind_of self.now }
+    {
+        match self {
+            Frame::Plain => FrameKind::Plain,
+            Frame::Module(backup) => FrameKind::Module(backup.module),
+        }
+    }
+}
+
+/// Whose interruption a frame is.
+#[derive(Clone, Copy, Debug, PartialEq, Eq)]
+pub enum FrameKind {
+    /// That of code outside all modules.
+    Plain,
+    /// That of the module with this id.
+    Module(u16),
+}
+
+/// Eight frames stand already.
+#[derive(Clone, Copy, Debug, PartialEq, Eq)]
+pub struct FramesFull;
+
+/// At most eight frames. No module is in two of them.
+#[derive(Debug, Drop)]
+pub struct Frames {
+    list: ArrayVec<Frame, MOST>,
+}
+
+impl Model for Frames {
+    ghost use Rattle.std.specs.Prelude.{List, reverse};
+    ghost use Rattle.reg_backup.specs.declared.frames.Frame.{Frame};
+    ghost use Rattle.reg_backup.specs.Held.{held_ids, Differ};
+
+    // The frames, the newest first.
+    ghost Value = { List Frame };
+
+    ghost view = { λ f. reverse f.list.items };
+
+    ghost invariant = { λ f. Differ (held_ids (reverse f.list.items)) };
+}
+
+impl Frames {
+    /// No frame.
+    pub fn new() -> Frames
+        ensures { result ≡ [] }
+    {
+        Frames {
+            list: ArrayVec::new(),
+        }
+    }
+
+    /// Adds a frame as the newest. Refused exactly where eight stand.
+    pub fn push(&mut self, frame: Frame) -> Result<(), FramesFull>
+        requires { IsNew frame self.old }
+        ensures ok { OnOk result (self.new ≡ frame ∷ self.old) }
+        ensures full { IsErr result ↔ (length self.old ≡ 8) }
+        ensures err { OnErr result (self.new ≡ self.old) }
+    {
+        self.list.try_push(frame).map_err(|_| FramesFull)
+    }
+
+    /// Takes the newest frame off; none exactly where none stands.
+    pub fn pop(&mut self) -> Option<Frame>
+        ensures none { IsNone result ↔ (self.old ≡ []) }
+        ensures newest { IfSome result (λ frame. self.old ≡ frame ∷ self.new) }
+        ensures unchanged { IfNone result (self.new ≡ self.old) }
+    {
+        self.list.pop()
+    }
+
+    /// The kind of frame `n`, counted from the oldest at 0; none exactly where `n` is not below their
+    /// number.
+    pub fn kind(&self, n: u8) -> Option<FrameKind>
+        ensures kind { result ≡ slice_get (kinds self.now) n }
+        ensures none { IsNone result ↔ (length self.now ≤ n) }
+    {
+        Some(self.list.get(usize::from(n))?.kind())
+    }
+
+    /// The ids of the modules in frames, the oldest first.
+    pub fn ids(&self) -> ArrayVec<u16, 8>
+        ensures ids { result.items ≡ reverse (held_ids self.now) }
+        ensures differ { Differ (held_ids self.now) }
+        ensures room { length self.now ≤ 8 }
+    {
+        let mut ids = ArrayVec::new();
+        for frame in self.list.as_slice() {
+            if let Frame::Module(backup) = frame {
+                ids.push(backup.module);
+            }
+        }
+        ids
+    }
+}

@@ -1,0 +1,11 @@
+mod Images
+mod Instructions
+mod Effects
+mod Outside
+mod Calls
+mod Interrupts
+mod Nested
+mod Units
+mod Balanced
+mod Alone
+mod Scripts

@@ -1,0 +1,384 @@
+-- One cycle of the machine, by its steps.
+use Rattle.std.specs.Prelude.{ℕ, zero, suc, ◌+◌, ◌-◌, ◌*◌, List, [], ◌∷◌, ◌++◌, length, slice_index, ◌==◌, nat_lt, if◌then◌else◌, Bool, true, false, ◌&&◌, ◌||◌, not, Option, Some, None, replicate}
+use Rattle.sm_words.specs.Words.{reg, put, bit, add16, word_at}
+use Rattle.sm_words.specs.declared.width.Width.TheVariants.{Word}
+use Rattle.insn_decode.specs.Code.{insn_of, length_of}
+use Rattle.insn_decode.specs.declared.insn.Insn.{Insn}
+use Rattle.insn_decode.specs.declared.insn.Insn.TheVariants.{Reti}
+use Rattle.mod_layout.specs.Table.{Table, holds, size_of, place_of, without}
+use Rattle.mod_layout.specs.declared.Module.{Module}
+use Rattle.mod_layout.specs.declared.Place.{Place}
+use Rattle.mod_layout.specs.declared.Place.TheVariants.{Open, Entry, Text}
+use Rattle.pc_access.specs.Rights.{right, first_denied}
+use Rattle.pc_access.specs.declared.Access.{Access}
+use Rattle.pc_access.specs.declared.Denied.{Denied}
+use Rattle.pc_access.specs.declared.Kind.TheVariants.{Fetch, Write}
+use Rattle.pc_access.specs.declared.Rule.{Rule}
+use Rattle.pc_access.specs.declared.Rule.TheVariants.{RetiInside, Straddle, Illegal}
+use Rattle.pc_access.specs.declared.Stop.{Stop}
+use Rattle.devices.specs.Devices.{ticked_devices, line_of, accepted}
+use Rattle.reg_backup.specs.Held.{held_ids}
+use Rattle.reg_backup.specs.Saved.{closing_after, saved}
+use Rattle.reg_backup.specs.declared.backup.After.{After}
+use Rattle.reg_backup.specs.declared.backup.After.TheVariants.{Next, Handler, Resume, Close}
+use Rattle.reg_backup.specs.declared.backup.Phase.{Phase}
+use Rattle.reg_backup.specs.declared.backup.Phase.TheVariants.{Run, Pad}
+use Rattle.reg_backup.specs.declared.frames.Frame.{Frame}
+use Rattle.reg_backup.specs.declared.frames.Frame.TheVariants.{Plain, Module as Held}
+use Rattle.attest.specs.Accesses.{reads_of, writes_of}
+use Rattle.attest.specs.Done.{own_of}
+use Rattle.attest.specs.Units.{Doer, Effect}
+use Rattle.cpu_step.specs.Asked.{asks, effect, table_after}
+use Rattle.cpu_step.specs.Fetched.{insn_at}
+use Rattle.cpu_step.specs.Plan.{past}
+use Rattle.tracer.specs.declared.Event.{Event}
+use Rattle.tracer.specs.declared.Event.TheVariants.{Resume as Resumed, Close as Closed, Handler as Handling, Leave as Left, Hide as Hid, Irq, Enter as Entered, Reti as Returned, Protect as Protected, Out as Sent, Stop as Stopped}
+use Rattle.written_machine.specs.Ports.{Port, Gots, take_reads, put_writes}
+use Rattle.written_machine.specs.State.{State}
+
+-- a state with the events that led to it
+pub record Step : Type 0 where
+  pub state : State
+  pub events : List Event
+
+-- a state without events
+abbrev pub quiet : State → Step
+quiet s = record { state = s; events = [] }
+
+-- these events came before
+abbrev pub told : List Event → Step → Step
+told es t = record { state = t.state; events = es ++ t.events }
+
+-- PC
+abbrev pub pc_of : State → ℕ
+pc_of s = reg s.core 0
+
+-- whether interrupts are enabled: GIE, bit 3 of SR
+abbrev pub gie : List ℕ → Bool
+gie core = bit 8 (reg core 2) == 1
+
+-- the machine stops by a rule, with the PC as it stands
+abbrev pub stopped : Rule → ℕ → ℕ → State → Step
+stopped rule addr id s =
+    let stop : Stop = record { rule = rule; pc = pc_of s; addr = addr; «module» = id } in
+    record { state = record s { stop = Some stop }; events = Stopped stop ∷ [] }
+
+-- it stops by a refused access
+abbrev pub denied : Denied → State → Step
+denied d s = stopped d.rule d.addr d.module s
+
+-- ---- the devices
+
+-- the devices move: the schedule's entries of this cycle, then the timer
+unfoldable pub ticked : State → State
+ticked s = record s { devices = ticked_devices s.devices s.cycle }
+
+-- ---- what is settled when the rest is 0
+
+-- a settled state, with the module that was left, or 0
+pub record Settled : Type 0 where
+  pub state : State
+  pub events : List Event
+  pub left : ℕ
+
+-- nothing to settle
+abbrev pub unsettled : State → Settled
+unsettled s = record { state = s; events = []; left = 0 }
+
+-- past the first lo, the next n bytes are 0
+abbrev pub cleared : ℕ → ℕ → List ℕ → List ℕ
+cleared lo zero mem = mem
+cleared lo (suc n) [] = []
+cleared zero (suc n) (x ∷ xs) = 0 ∷ cleared zero n xs
+cleared (suc lo) (suc n) (x ∷ xs) = x ∷ cleared lo (suc n) xs
+
+-- Resume: the newest frame is taken off, and its module goes on with its rest
+abbrev pub resume_from : List Frame → State → Settled
+resume_from (Held b ∷ fs) s =
+    record {
+      state = record s { core = b.core; active = Some b.module; caller = b.caller; frames = fs; phase = Run b.rest; after = closing_after b.closing };
+      events = Resumed b.module ∷ [];
+      left = 0;
+    }
+resume_from _ s = unsettled s
+
+-- Close: the active module's data become 0, and it leaves the table
+abbrev pub close_of : Option ℕ → Option Module → State → Settled
+close_of (Some id) (Some m) s =
+    record {
+      state = record s { memory = cleared m.ram.start (size_of m.ram) s.memory; table = without id s.table; active = None; after = Next };
+      events = Closed id ∷ [];
+      left = 0;
+    }
+close_of _ _ s = unsettled s
+
+-- whether the module's text holds the address
+abbrev pub in_text : Option Module → ℕ → Bool
+in_text None a = false
+in_text (Some m) a = holds m.text a
+
+-- Next: an active module whose text does not hold PC is left
+abbrev pub leave_if : Bool → Option ℕ → State → Settled
+leave_if false (Some id) s = record { state = record s { active = None }; events = Left id (pc_of s) ∷ []; left = id }
+leave_if _ _ s = unsettled s
+
+-- by what is to be settled
+abbrev pub settle_by : After → State → Settled
+settle_by Resume s = resume_from s.frames s
+settle_by Close s = close_of s.active (own_of s.active s.table) s
+settle_by Handler s = record { state = record s { after = Next }; events = Handling (pc_of s) ∷ []; left = 0 }
+settle_by Next s = leave_if (in_text (own_of s.active s.table) (pc_of s)) s.active s
+
+-- only where no cycle is left
+abbrev pub settle_in : Phase → State → Settled
+settle_in (Run zero) s = settle_by s.after s
+settle_in _ s = unsettled s
+
+-- what is settled in this cycle
+unfoldable pub settle : State → Settled
+settle s = settle_in s.phase s
+
+-- ---- arrivals
+
+-- the vector that may arrive now
+abbrev pub vector_if : Bool → Option ℕ → Option ℕ
+vector_if true v = v
+vector_if false v = None
+
+-- the raised vector, where GIE is set and fewer than eight frames are held
+unfoldable pub due : State → Option ℕ
+due s = vector_if (gie s.core && nat_lt (length s.frames) 8) (line_of s.devices)
+
+-- the byte at an address
+abbrev pub byte_of : State → ℕ → ℕ
+byte_of s a = slice_index s.memory a
+
+-- the word of a vector, which is the address to go on at
+abbrev pub vector_in : List ℕ → ℕ → ℕ
+vector_in mem v = word_at (λ a. slice_index mem a) (65504 + 2 * v)
+
+-- a vector's word as memory stands
+abbrev pub vector_word : State → ℕ → ℕ
+vector_word s v = vector_in s.memory v
+
+-- the cycles that the instruction still needs
+abbrev pub rest_of : Phase → ℕ
+rest_of (Run rest) = rest
+rest_of (Pad left) = 0
+
+-- a module is interrupted: a frame takes it, the registers are 0 but for PC and SP, and the padding begins
+unfoldable pub arrive_inside : ℕ → ℕ → State → Step
+arrive_inside v id s =
+    let b = saved id s.caller s.core (rest_of s.phase) s.after in
+    let core = put (put (replicate 16 0) 0 (vector_word s v)) 1 s.handler_sp in
+    record {
+      state = record s { core = core; active = None; frames = Held b ∷ s.frames; phase = Pad 11; after = Next; devices = accepted s.devices v };
+      events = Hid id v ∷ [];
+    }
+
+-- the writes of PC and then SR below SP
+abbrev pub pushes : State → List Access
+pushes s =
+    record { kind = Write; addr = add16 (reg s.core 1) 65534; width = Word }
+    ∷ record { kind = Write; addr = add16 (reg s.core 1) 65532; width = Word }
+    ∷ []
+
+-- a Plain frame joins as the newest, where a frame is held
+abbrev pub plain_if : List Frame → List Frame
+plain_if [] = []
+plain_if (f ∷ fs) = Plain ∷ f ∷ fs
+
+-- both are pushed, then the vector's word is read, then the devices are told
+abbrev pub push_both : Option Denied → ℕ → State → Step
+push_both (Some d) v s = denied d s
+push_both None v s =
+    let p = put_writes (record { devices = s.devices; memory = s.memory }) (pushes s) (reg s.core 0 ∷ reg s.core 2 ∷ []) in
+    let core = put (put (put s.core 1 (add16 (reg s.core 1) 65532)) 2 (64 * bit 64 (reg s.core 2))) 0 (vector_in p.memory v) in
+    record {
+      state = record s { core = core; memory = p.memory; frames = plain_if s.frames; phase = Run 5; devices = accepted p.devices v };
+      events = Irq v ∷ [];
+    }
+
+-- the outside is interrupted, where both pushes are allowed
+unfoldable pub arrive_outside : ℕ → State → Step
+arrive_outside v s = push_both (first_denied s.table None (held_ids s.frames) (pushes s)) v s
+
+-- ---- an instruction begins
+
+-- a later word's place: outside all sections, or in the active module's text
+abbrev pub at_home : Option ℕ → Place → Bool
+at_home None Open = true
+at_home (Some id) (Text x) = x == id
+at_home (Some id) (Entry x) = x == id
+at_home _ _ = false
+
+-- the k-th of n words, if there is one, is below 0x10000 and where its instruction is
+abbrev pub home_word : Table → Option ℕ → ℕ → ℕ → ℕ → Bool
+home_word t active pc n k = not (nat_lt k n) || (nat_lt (pc + 2 * k) 65536 && at_home active (place_of t (pc + 2 * k)))
+
+-- so are all later words
+abbrev pub is_home : Table → Option ℕ → ℕ → ℕ → Bool
+is_home t active pc n = home_word t active pc n 1 && home_word t active pc n 2
+
+-- the one who does an instruction
+abbrev pub who_of : State → Doer
+who_of s = record { own = own_of s.active s.table; caller = s.caller; table = s.table; key = s.key }
+
+-- devices and memory
+abbrev pub port_of : State → Port
+port_of s = record { devices = s.devices; memory = s.memory }
+
+-- the module that an instruction made
+abbrev pub made_events : Table → Table → List Event
+made_events old new = if new.given == old.given then [] else Protected new.given ∷ []
+
+-- the writes, the table, the rest and what is settled after it
+abbrev pub done_by : State → Insn → Gots → Effect → Step
+done_by s insn g e =
+    let p = put_writes g.port (writes_of (asks (who_of s) insn s.core)) e.stored in
+    let table = table_after s.table insn s.core in
+    record {
+      state = record s { core = e.core; memory = p.memory; devices = p.devices; table = table; phase = Run (e.cycles - 1); after = closing_after e.closing };
+      events = made_events s.table table;
+    }
+
+-- the accesses and changes of an instruction, where nothing is refused
+unfoldable pub perform : Insn → State → Step
+perform insn s =
+    let g = take_reads (port_of s) (reads_of (asks (who_of s) insn s.core)) in
+    done_by s insn g (effect (who_of s) insn s.core g.values)
+
+-- a refused access stops the machine, and nothing is done
+abbrev pub perform_unless : Option Denied → Insn → State → Step
+perform_unless (Some d) insn s = denied d s
+perform_unless None insn s = perform insn s
+
+-- an instruction whose accesses are checked in their order before any is done
+unfoldable pub attempt : Insn → State → Step
+attempt insn s = perform_unless (first_denied s.table s.active (held_ids s.frames) (asks (who_of s) insn s.core)) insn s
+
+-- RETI with no frame, or with a Plain one newest, which is taken off where nothing is refused
+abbrev pub without_newest : List Frame → List Frame
+without_newest [] = []
+without_newest (f ∷ fs) = fs
+
+-- the newest frame goes, unless the machine stopped
+abbrev pub returned_by : Option Stop → Step → Step
+returned_by (Some stop) t = t
+returned_by None t = record { state = record t.state { frames = without_newest t.state.frames }; events = Returned ∷ t.events }
+
+-- RETI with a module in the newest frame pops nothing, takes 5 cycles and is settled by Resume
+abbrev pub reti_by : List Frame → State → Step
+reti_by (Held b ∷ fs) s = quiet (record s { core = past Reti s.core; phase = Run 4; after = Resume })
+reti_by _ s = let t = attempt Reti s in returned_by t.state.stop t
+
+-- inside a module RETI stops the machine
+abbrev pub reti_of : Option ℕ → State → Step
+reti_of (Some id) s = stopped RetiInside (pc_of s) 0 s
+reti_of None s = reti_by s.frames s
+
+-- by the instruction
+abbrev pub act_by : Insn → State → Step
+act_by Reti s = reti_of s.active s
+act_by insn s = attempt insn s
+
+-- where there is one
+abbrev pub act_on : Option Insn → State → Step
+act_on None s = stopped Illegal (pc_of s) 0 s
+act_on (Some insn) s = act_by insn s
+
+-- where all its words are at home
+abbrev pub act_home : Bool → ℕ → State → Step
+act_home false n s = stopped Straddle (pc_of s) 0 s
+act_home true n s = act_on (insn_at (byte_of s) (pc_of s) n) s
+
+-- the first word tells whether it is in the table, and the number of words
+abbrev pub act_first : Option Insn → State → Step
+act_first None s = stopped Illegal (pc_of s) 0 s
+act_first (Some first) s = act_home (is_home s.table s.active (pc_of s) (length_of first)) (length_of first) s
+
+-- the instruction at PC, once its fetch is allowed and a module that it enters is active
+unfoldable pub act : State → Step
+act s = act_first (insn_of (word_at (byte_of s) (pc_of s)) 0 0) s
+
+-- the module at whose entry PC is, where none is active, becomes active
+abbrev pub enter_at : Place → Option ℕ → ℕ → State → Step
+enter_at (Entry id) None left s = record { state = record s { active = Some id; caller = left; after = Next }; events = Entered id left ∷ [] }
+enter_at _ _ left s = quiet s
+
+-- the entry at PC, with the module left in this cycle as the caller
+unfoldable pub enter : ℕ → State → Step
+enter left s = enter_at (place_of s.table (pc_of s)) s.active left s
+
+-- the fetch at PC
+abbrev pub fetch : State → Access
+fetch s = record { kind = Fetch; addr = pc_of s; width = Word }
+
+-- a refused fetch stops the machine; else a module may be entered, and the instruction is done
+abbrev pub begin_unless : Option Denied → ℕ → State → Step
+begin_unless (Some d) left s = denied d s
+begin_unless None left s = let e = enter left s in told e.events (act e.state)
+
+-- an instruction begins
+unfoldable pub begin : ℕ → State → Step
+begin left s = begin_unless (right s.table s.active (held_ids s.frames) (fetch s)) left s
+
+-- ---- the cases of a cycle
+
+-- one cycle of padding less; after the last the handler is settled
+abbrev pub padded : ℕ → State → State
+padded zero s = record s { phase = Run 0; after = Handler }
+padded (suc n) s = record s { phase = Pad (suc n) }
+
+-- CPUOFF, bit 4 of SR
+abbrev pub asleep : State → Bool
+asleep s = bit 16 (reg s.core 2) == 1
+
+-- asleep nothing happens
+abbrev pub unless : Bool → ℕ → State → Step
+unless true left s = quiet s
+unless false left s = begin left s
+
+-- the first case that fits, by the due vector, the active module and the phase: Pad, Arrive inside, Arrive outside, Wait, Sleep, Begin
+abbrev pub turn_by : Option ℕ → Option ℕ → Phase → ℕ → State → Step
+turn_by due active (Pad n) left s = quiet (padded (n - 1) s)
+turn_by (Some v) (Some id) (Run rest) left s = arrive_inside v id s
+turn_by (Some v) None (Run zero) left s = arrive_outside v s
+turn_by due active (Run (suc r)) left s = quiet (record s { phase = Run r })
+turn_by None None (Run zero) left s = unless (asleep s) left s
+turn_by None (Some id) (Run zero) left s = begin left s
+
+-- the case that a settled cycle ends in, where left is the module left in it, or 0
+unfoldable pub turn : ℕ → State → Step
+turn left s = turn_by (due s) s.active s.phase left s
+
+-- the byte sent in this cycle, before a stop's line
+abbrev pub sent_event : Option ℕ → List Event
+sent_event None = []
+sent_event (Some b) = Sent b ∷ []
+
+-- the cycle number rises unless the machine stopped
+abbrev pub counted_by : Option Stop → Step → Step
+counted_by (Some stop) t = t
+counted_by None t = record { state = record t.state { cycle = t.state.cycle + 1 }; events = t.events ++ sent_event t.state.devices.sent }
+
+-- the steps of a cycle in their order
+unfoldable pub move : State → Step
+move s =
+    let u = settle (ticked s) in
+    let t = turn u.left u.state in
+    counted_by t.state.stop (told u.events t)
+
+-- a stopped machine has no steps
+abbrev pub cycle_by : Option Stop → State → Step
+cycle_by (Some stop) s = quiet s
+cycle_by None s = move s
+
+-- a stopped machine changes nothing
+abbrev pub cycle : State → Step
+cycle s = cycle_by s.stop s
+
+-- the state after n cycles
+abbrev pub after_cycles : State → ℕ → State
+after_cycles s zero = s
+after_cycles s (suc n) = (cycle (after_cycles s n)).state

@@ -1,0 +1,7 @@
+pub mod State
+pub mod Ports
+pub mod Cycle
+pub mod View
+pub mod Peers
+pub mod Trace
+pub mod Script

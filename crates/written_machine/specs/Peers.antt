@@ -1,0 +1,24 @@
+-- Images that differ in one module's data alone.
+use Rattle.std.specs.Prelude.{◌≡◌, ℕ, List, slice_index, take, drop, false, Some}
+use Rattle.mod_layout.specs.Table.{holds, size_of, module_of}
+use Rattle.mod_layout.specs.declared.Module.{Module}
+use Rattle.mod_layout.specs.declared.Section.{Section}
+use Rattle.image_text.specs.Image.{Image, IsImage}
+use Rattle.cpu_step.specs.Lone.{AlwaysEven}
+
+-- the bytes of a section
+abbrev pub section : Section → List ℕ → List ℕ
+section s mem = take (size_of s) (drop s.start mem)
+
+-- two images with one table, one key and one handler_sp, that differ in the data of one module alone; and no list of
+-- calls and no number of cycles tells its two data apart
+pub record Peers (a b : Image) (m : ℕ) : Type 0 where
+  pub image_a : IsImage a
+  pub image_b : IsImage b
+  pub table : a.table ≡ b.table
+  pub node_key : a.node_key ≡ b.node_key
+  pub handler_sp : a.handler_sp ≡ b.handler_sp
+  pub owner : Module
+  pub owned : module_of m a.table ≡ Some owner
+  pub elsewhere : (x : ℕ) → holds owner.ram x ≡ false → slice_index a.memory x ≡ slice_index b.memory x
+  pub even : AlwaysEven a.node_key owner (section owner.text a.memory) (section owner.ram a.memory) (section owner.ram b.memory)
