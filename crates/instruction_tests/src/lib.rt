@@ -1,0 +1,5 @@
+//! Tests of single instructions through a memory that records its calls.
+#![tactic(auto)]
+
+#[cfg(test)]
+mod tests;
