@@ -1,9 +1,0 @@
-pub mod HeldRights
-pub mod Kept
-pub mod Through
-pub mod Units
-pub mod Runs
-pub mod Cycles
-pub mod Parts
-pub mod Copies
-pub mod Aligned

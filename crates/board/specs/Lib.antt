@@ -1,4 +1,0 @@
-pub mod Standing
-pub mod Sound
-pub mod Ran
-pub mod Shown
