@@ -4,7 +4,7 @@ ghost use Rattle.std.specs.Prelude.{◌≡◌, ◌⊎◌, ℕ, ◌+◌, ◌-◌,
 ghost use Rattle.image_text.specs.ImageText.{first_line, key_line, handler_line, is_zero as is_zero_lem, image_text};
 ghost use Rattle.image_text.specs.Image.{IsImage};
 ghost use Rattle.image_text.specs.Refusal.{first_refusal, key_refusal, handler_refusal, count_refusal, modules_refusal, rows_refusal, is_row as is_row_lem, lines_from, one_less as one_less_lem, refusal_of};
-ghost use Rattle.image_text.specs.Reading.{on, Passed, PassedCount, PassedModules, AddsModule, NextRow, PassedMemory, due_next};
+ghost use Rattle.image_text.specs.Reading.{on, Passed, PassedCount, PassedModules, AddsModule, NextRow, PassedMemory, Reads, due_next};
 ghost use Rattle.mod_layout.specs.Table.{empty_table};
 ghost use Rattle.mod_layout.specs.Tables.{IsTable};
 
@@ -246,6 +246,9 @@ pub fn read(alloc: Global, bytes: &[u8]) -> Result<Image, ImageFault>
 
     // What is refused is refused by the first line that does not serve.
     ensures refused { IfErr result (λ fault. (fault ≡ ImageFault.NoMemory) ⊎ (refusal_of bytes.now ≡ Some fault)) }
+
+    // In one word, of which the laws speak.
+    ensures reads { Reads bytes.now result }
 {
     let mut lines = Lines::new(bytes);
     let room = match read_version(&mut lines) {

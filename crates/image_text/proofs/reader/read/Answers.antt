@@ -71,3 +71,24 @@ returns-clause-text c =
     first ∙ whole_text record { memory = c.in-Ok-read_memory.memory.items; table = c.in-Ok-read_modules.table; node_key = c.in-Ok-read_key.key; handler_sp = c.in-Ok-read_handler.sp } c.in-Ok.room c.in-Ok-read_count.due
     c.new-lines.result.rest c.read_version.new.lines.rest c.read_key.new.lines.rest c.read_handler.new.lines.rest c.read_count.new.lines.rest c.read_modules.new.lines.rest
     m.room_is n.kind m.count p.text k.text h.text n.text m.text w.text
+
+pub returns-in-Err-clause-reads : goal.returns-in-Err-clause-reads
+returns-in-Err-clause-reads c = returns-in-Err-clause-refused c
+
+pub returns-in-Err-read_key-clause-reads : goal.returns-in-Err-read_key-clause-reads
+returns-in-Err-read_key-clause-reads c = returns-in-Err-read_key-clause-refused c
+
+pub returns-in-Err-read_handler-clause-reads : goal.returns-in-Err-read_handler-clause-reads
+returns-in-Err-read_handler-clause-reads c = returns-in-Err-read_handler-clause-refused c
+
+pub returns-in-Err-read_count-clause-reads : goal.returns-in-Err-read_count-clause-reads
+returns-in-Err-read_count-clause-reads c = returns-in-Err-read_count-clause-refused c
+
+pub returns-in-Err-read_modules-clause-reads : goal.returns-in-Err-read_modules-clause-reads
+returns-in-Err-read_modules-clause-reads c = returns-in-Err-read_modules-clause-refused c
+
+pub returns-in-Err-read_memory-clause-reads : goal.returns-in-Err-read_memory-clause-reads
+returns-in-Err-read_memory-clause-reads c = returns-in-Err-read_memory-clause-refused c
+
+pub returns-clause-reads : goal.returns-clause-reads
+returns-clause-reads c = (returns-clause-image c, returns-clause-text c)
