@@ -6,6 +6,7 @@ ghost use Rattle.mod_layout.specs.Tables.{IsTable};
 
 use crate::{Module, Place, Section, TableFault};
 use arrayvec::ArrayVec;
+use std::alloc::AllocError;
 use std::marker::Model;
 
 /// The most modules that any table has room for.
@@ -28,6 +29,20 @@ impl Model for ModuleTable {
     ghost view = { λ t. record { modules = t.modules.items; given = t.given; room = t.room } };
 
     ghost invariant = { λ t. IsTable record { modules = t.modules.items; given = t.given; room = t.room } };
+}
+
+impl Clone for ModuleTable {
+    ghost is_clone = { λ table copy. copy ≡ table };
+
+    ghost is_infallible = { λ _. Unit {0} };
+
+    fn clone(&self) -> Result<Self, AllocError> {
+        Ok(Self {
+            modules: self.modules.clone()?,
+            given: self.given,
+            room: self.room,
+        })
+    }
 }
 
 impl ModuleTable {

@@ -1,5 +1,5 @@
 -- Frames, as a list with the newest first.
-use Rattle.std.specs.Prelude.{◌≡◌, ◌≢◌, ℕ, List, [], ◌∷◌, map, reverse}
+use Rattle.std.specs.Prelude.{◌≡◌, ◌≢◌, ℕ, List, [], ◌∷◌, map, reverse, Option, Some, None}
 use Rattle.reg_backup.specs.declared.frames.Frame.{Frame}
 use Rattle.reg_backup.specs.declared.frames.Frame.TheVariants.{Plain, Module}
 use Rattle.reg_backup.specs.declared.frames.FrameKind.{FrameKind}
@@ -19,6 +19,11 @@ kind_of (Module b) = ModuleKind b.module
 -- the frames' kinds, the oldest first
 abbrev pub kinds : List Frame → List FrameKind
 kinds fs = map kind_of (reverse fs)
+
+-- what the newest frame is, if one stands
+abbrev pub newest_kind : List Frame → Option FrameKind
+newest_kind [] = None
+newest_kind (f ∷ fs) = Some (kind_of f)
 
 -- the number is none of these
 abbrev pub IsAbsent : ℕ → List ℕ → Type 0

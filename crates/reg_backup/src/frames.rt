@@ -1,7 +1,7 @@
 //! The frames that stand while modules are interrupted.
 
 ghost use Rattle.std.specs.Prelude.{◌≡◌, ◌↔◌, ◌≤◌, ℕ, List, [], ◌∷◌, length, slice_get, reverse, OnOk, OnErr, IsErr, IsNone, IfSome, IfNone};
-ghost use Rattle.reg_backup.specs.Held.{held_ids, kinds, Differ, IsNew};
+ghost use Rattle.reg_backup.specs.Held.{held_ids, kinds, newest_kind, Differ, IsNew};
 
 use crate::backup::Backup;
 use arrayvec::ArrayVec;
@@ -92,6 +92,16 @@ impl Frames {
         ensures unchanged { IfNone result (self.new ≡ self.old) }
     {
         self.list.pop()
+    }
+
+    /// The kind of the newest frame; none exactly where none stands.
+    pub fn newest(&self) -> Option<FrameKind>
+        ensures newest { result ≡ newest_kind self.now }
+    {
+        match self.list.as_slice() {
+            [.., frame] => Some(frame.kind()),
+            [] => None,
+        }
     }
 
     /// The kind of frame `n`, counted from the oldest at 0; none exactly where `n` is not below their
