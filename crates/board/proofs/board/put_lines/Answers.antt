@@ -1,0 +1,22 @@
+use Rattle.std.proofs.Common.{ℕ, List, [], ◌++◌, get_or, refl, arith}
+use Rattle.sm_io.proofs.Putting.{appends_nothing, cut_within, took_then, at_piece, past_piece}
+use Rattle.tracer.specs.Lines.{event_line}
+use Rattle.tracer.specs.declared.Event.{Event}
+use Rattle.board.proofs.Runs.{lines_flat}
+use Rattle.board.proofs.board.put_lines.Goals as goal
+
+pub loop-event-init : goal.loop-event-init
+loop-event-init g c = ([], lines_flat c.args.cycle c.args.events.now, record { whole = appends_nothing _; quiet = refl; still_sure = omega arith })
+
+pub returns-in-Err : goal.returns-in-Err
+returns-in-Err g c =
+    let i = c.loop-event.invariant in
+    cut_within g.S.Sink.taken g.S.Sink.faults g.S.Sink.sure _ _ _ i.0 _ _ _ (at_piece (event_line c.args.cycle) c.args.events.now c.loop-event.event-index Event.Reti i.0 _ c.loop-event-test.true i.1) i.2 c.in-Err.ensures
+
+pub loop-event-preserved : goal.loop-event-preserved
+loop-event-preserved g c =
+    let i = c.loop-event.invariant in (
+      i.0 ++ event_line c.args.cycle (get_or c.args.events.now c.loop-event.event-index Event.Reti),
+      past_piece (event_line c.args.cycle) c.args.events.now c.loop-event.event-index Event.Reti i.0 _ c.loop-event-test.true i.1,
+      took_then g.S.Sink.taken g.S.Sink.faults g.S.Sink.sure _ _ _ i.0 _ i.2 c.in-Ok.ensures,
+    )

@@ -1,0 +1,4 @@
+pub mod Standing
+pub mod Sound
+pub mod Ran
+pub mod Shown

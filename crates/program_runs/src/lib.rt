@@ -1,0 +1,11 @@
+//! Worked runs of the program's one call: images, schedules and bounds, each with the text that is expected.
+#![tactic(auto)]
+
+#[cfg(test)]
+mod images;
+#[cfg(test)]
+mod interrupted;
+#[cfg(test)]
+mod outside;
+#[cfg(test)]
+mod tests;
