@@ -5,8 +5,8 @@ use crate::outside::Run;
 use sm_cli::Status;
 
 /// A call of four cycles, with a pulse of line 0 before it, within it, in its last cycle and after it.
-pub fn pulses() -> &'static [Run] {
-    &[
+pub fn pulses() -> [Run; 10] {
+    [
         Run {
             image: CALLED,
             schedule: "",
@@ -90,8 +90,8 @@ pub fn pulses() -> &'static [Run] {
 }
 
 /// What a handler may not do, and what it may.
-pub fn handlers() -> &'static [Run] {
-    &[
+pub fn handlers() -> [Run; 6] {
+    [
         // It goes to the entry of the module that it interrupted.
         Run {
             image: Picture {
@@ -170,8 +170,8 @@ pub fn handlers() -> &'static [Run] {
 }
 
 /// Handlers that set GIE, and are interrupted themselves.
-pub fn nested() -> &'static [Run] {
-    &[
+pub fn nested() -> [Run; 3] {
+    [
         Run {
             image: Picture {
                 handler: &[0xd232, 0x4303, 0x1300],

@@ -15,8 +15,8 @@ pub struct Run {
 }
 
 /// Code without modules.
-pub fn plain_runs() -> &'static [Run] {
-    &[
+pub fn plain_runs() -> [Run; 6] {
+    [
         Run {
             image: EMPTY,
             schedule: "",
@@ -76,8 +76,8 @@ pub fn plain_runs() -> &'static [Run] {
 }
 
 /// Calls of a module that goes straight back, and jumps past its entry.
-pub fn calls() -> &'static [Run] {
-    &[
+pub fn calls() -> [Run; 6] {
+    [
         Run {
             image: Picture {
                 data: 0x00ab,
@@ -148,8 +148,8 @@ pub fn calls() -> &'static [Run] {
 }
 
 /// Interrupts of the outside whose pushes meet a module's data, and handlers that are a module.
-pub fn outside_interrupts() -> &'static [Run] {
-    &[
+pub fn outside_interrupts() -> [Run; 3] {
+    [
         Run {
             image: Picture {
                 main: &[

@@ -8,6 +8,7 @@ use schedule_file::read_schedule;
 use sm_cli::{Status, serve};
 use sm_io::{MemFiles, MemSink};
 use std::alloc::Global;
+use std::process::Abort;
 use std::test::Fail;
 use written_machine::Hidden;
 
@@ -44,7 +45,11 @@ fn call(
     mut files: MemFiles,
     mut out: MemSink,
 ) -> Result<Given, Fail> {
-    let schedule = if asked.schedule.is_empty() { "-" } else { "s.txt" };
+    let schedule = if asked.schedule.is_empty() {
+        "-"
+    } else {
+        "s.txt"
+    };
     let cycles = asked.cycles;
     let line = format!(in alloc; "image a.img {schedule} {cycles}")?;
     let mut words = Vec::new(alloc);
@@ -56,8 +61,7 @@ fn call(
     Ok(Given { status, out, err })
 }
 
-fn assert_runs(rt: &HostRuntime, runs: &[Run]) -> Result<(), Fail> {
-    let alloc = rt.alloc();
+fn assert_runs(rt: &impl Abort, alloc: Global, runs: &[Run]) -> Result<(), Fail> {
     for run in runs {
         let image = run.image.text(alloc)?;
         let asked = Asked {
@@ -81,20 +85,20 @@ fn assert_runs(rt: &HostRuntime, runs: &[Run]) -> Result<(), Fail> {
 
 #[test]
 fn without_interrupts(rt: HostRuntime) -> Result<(), Fail> {
-    assert_runs(&rt, plain_runs())?;
-    assert_runs(&rt, calls())
+    assert_runs(&rt, rt.alloc(), &plain_runs())?;
+    assert_runs(&rt, rt.alloc(), &calls())
 }
 
 #[test]
 fn interrupts_outside(rt: HostRuntime) -> Result<(), Fail> {
-    assert_runs(&rt, outside_interrupts())
+    assert_runs(&rt, rt.alloc(), &outside_interrupts())
 }
 
 #[test]
 fn interrupts_inside(rt: HostRuntime) -> Result<(), Fail> {
-    assert_runs(&rt, pulses())?;
-    assert_runs(&rt, handlers())?;
-    assert_runs(&rt, nested())
+    assert_runs(&rt, rt.alloc(), &pulses())?;
+    assert_runs(&rt, rt.alloc(), &handlers())?;
+    assert_runs(&rt, rt.alloc(), &nested())
 }
 
 // Whatever the data are and whenever the pulse comes, the call takes its 18 cycles and the 17 of the interrupt.
@@ -108,7 +112,9 @@ fn no_pulse_tells_the_data(rt: HostRuntime) -> Result<(), Fail> {
             let handler = pulse + 12;
             let resume = pulse + 17;
             let schedule = format!(in alloc; "{pulse} line 0 up\n{down} line 0 down\n")?;
-            let text = format!(in alloc; "12 enter 1 from 0\n{pulse} hide 1 vector 1\n{handler} handler pc 0500\n{resume} resume 1\n47 leave 1 pc 0214\n{END_AT_60}")?;
+            let text = format!(in alloc;
+                "12 enter 1 from 0\n{pulse} hide 1 vector 1\n{handler} handler pc 0500\n{resume} resume 1\n47 leave 1 pc 0214\n{END_AT_60}"
+            )?;
             let asked = Asked {
                 image: image.as_str(),
                 schedule: schedule.as_str(),
@@ -214,11 +220,7 @@ fn files_that_do_not_serve(rt: HostRuntime) -> Result<(), Fail> {
         (cut, PULSE_AT_13, "a.img: Line 4"),
         (cut, "5 line 4 up\n", "a.img: Line 4"),
         ("", "", "a.img: Line 1"),
-        (
-            meeting.as_str(),
-            PULSE_AT_13,
-            "a.img: Table 2 Overlap 1",
-        ),
+        (meeting.as_str(), PULSE_AT_13, "a.img: Table 2 Overlap 1"),
     ] {
         let asked = Asked {
             image,
