@@ -8,6 +8,7 @@ ghost use Rattle.written_machine.specs.Cycle.{pc_of, gie as gie_of, asleep, stop
 ghost use Rattle.board.specs.Standing.{state_of, clock_of};
 ghost use Rattle.board.specs.Sound.{is_held_first, IsSound, Stands};
 
+use crate::port::Surroundings;
 use arrayvec::ArrayVec;
 use devices::Device;
 use mod_layout::{Module, ModuleTable};
@@ -15,8 +16,6 @@ use pc_access::{Denied, Rule, Stop};
 use reg_backup::{After, FrameKind, Frames, Phase};
 use sm_words::Core;
 use tracer::Event;
-
-use crate::port::Surroundings;
 
 /// The most frames that can stand.
 const MOST_FRAMES: u8 = 8;
