@@ -58,7 +58,7 @@ two_data : (op : OneOp) (w : Width) (o : Option ℕ) (sp : ℕ) → AllData (acc
 two_data op w o sp = data_append (access_if true Read w o) (one_writes op w o sp) (data_if true Read w o no_read) (data_writes op w o sp)
 
 popped_data : (a b : ℕ) → AllData (access_if true Read Word (Some a) ++ access_if true Read Word (Some b))
-popped_data a b = (no_read, no_read, tt)
+popped_data a b = (no_read, (no_read, tt))
 
 plan_data : (insn : Insn) (core : List ℕ) → AllData (plan insn core)
 unfolding plan

@@ -24,7 +24,7 @@ use Rattle.written_machine.specs.Cycle.{Step, denied, who_of, made_events, done_
 use Rattle.written_machine.specs.Ports.{Port, take_reads, put_writes}
 use Rattle.board.specs.declared.machine.Machine.{Machine}
 use Rattle.board.specs.declared.port.Surroundings.{Surroundings}
-use Rattle.board.specs.Standing.{port_of, with_port, answered, after_read, after_write, state_of}
+use Rattle.board.specs.Standing.{Clock, port_of, with_port, answered, after_read, after_write, state_of}
 
 pub taken_is : (p : Surroundings) (xs : List Access) →
     taken answered after_read p xs ≡ record { values = (take_reads (port_of p) xs).values; state = with_port p (take_reads (port_of p) xs).port }
@@ -52,6 +52,15 @@ through_is insn core inside p =
         (taken_is p (reads_of (plan insn core)))
     ∙ ap (λ (q : Surroundings). let t : AfterThrough Surroundings = record { core = d.core; state = q } in t)
         (stored_is (with_port p g.port) (writes_of (plan insn core)) d.stored)
+
+-- an instruction leaves the clock as it is
+pub clock_kept : (insn : Insn) (core : List ℕ) (inside : Bool) (p q : Surroundings) (cycle : ℕ) → q ≡ (through answered after_read after_write insn core inside p).state →
+    let before : Clock = record { ticks = p.bus.ticks; cycle = cycle } in
+    let after : Clock = record { ticks = q.bus.ticks; cycle = cycle } in
+    after ≡ before
+clock_kept insn core inside p q cycle e =
+    ap (λ (r : Surroundings). let t : Clock = record { ticks = r.bus.ticks; cycle = cycle } in t)
+        (e ∙ ap (λ (t : AfterThrough Surroundings). t.state) (through_is insn core inside p))
 
 same_id : (n : ℕ) → (n == n) ≡ true
 same_id n = grind (arith, nat_tests)
