@@ -1,11 +1,14 @@
 -- A unit instruction on core, memory and table is the one through the written machine's port: its accesses are
 -- bytes of the memory.
-use Rattle.std.proofs.Common.{◌≡◌, ℕ, zero, suc, ◌+◌, ◌-◌, ◌%◌, ◌<◌, ◌≤◌, List, [], ◌∷◌, map, refl, sym, ap, ◌∙◌, arith, add-one, Bool, true, false, nat_lt, ◌==◌, cond, Option, Some, None, slice_index, slice_set}
+use Rattle.std.proofs.Common.{◌≡◌, ℕ, zero, suc, ◌+◌, ◌-◌, ◌%◌, ◌<◌, ◌≤◌, List, [], ◌∷◌, map, refl, sym, ap, ◌∙◌, arith, add-one, Bool, true, false, not, nat_lt, ◌==◌, cond, Option, Some, None, slice_index, slice_set}
+use Rattle.std.specs.Bool.{then_some}
+use Rattle.std.specs.Option.{option_to_list}
 use Rattle.std.proofs.lemmas.Bool.Decides.{nat_tests}
 use Rattle.sm_words.specs.Words.{reg, put, add16}
 use Rattle.sm_words.specs.declared.width.Width.{Width}
 use Rattle.sm_words.specs.declared.width.Width.TheVariants.{Byte, Word}
 use Rattle.insn_decode.specs.declared.insn.Insn.TheVariants.{Unit as UnitOp}
+use Rattle.mem_map.specs.declared.Memory.{Memory}
 use Rattle.mod_layout.specs.declared.Module.{Module}
 use Rattle.mod_layout.specs.Table.{Table, takes, with_module}
 use Rattle.mod_layout.specs.Tables.{IsSection, IsTable}
@@ -14,6 +17,7 @@ use Rattle.pc_access.specs.declared.Access.{Access}
 use Rattle.pc_access.specs.declared.Denied.{Denied}
 use Rattle.reg_backup.specs.Held.{held_ids}
 use Rattle.reg_backup.specs.Saved.{closing_after}
+use Rattle.reg_backup.specs.declared.backup.After.{After}
 use Rattle.reg_backup.specs.declared.backup.Phase.TheVariants.{Run}
 use Rattle.attest.proofs.Addresses.{AreMemoryBytes, IsMemoryByte, plan_bytes}
 use Rattle.attest.proofs.Moved.{moves_on}
@@ -24,7 +28,7 @@ use Rattle.attest.specs.declared.UnitDone.{UnitDone}
 use Rattle.attest.specs.Units.{Attest, CallerId, Doer, IdOf, OwnId, Protect, Tag, UnitName, Unprotect, new_ram, new_text, table_by, unit_effect, unit_named, unit_plan}
 use Rattle.cpu_step.specs.Asked.{asks, effect, table_after}
 use Rattle.tracer.specs.declared.Event.{Event}
-use Rattle.written_machine.specs.Cycle.{Step, attempt, made_events, perform, perform_unless, who_of}
+use Rattle.written_machine.specs.Cycle.{Step, attempt, denied, made_events, perform, perform_unless, who_of}
 use Rattle.written_machine.specs.Ports.{Port, Got, Gots, read_in, read_width, take_reads, write_in, write_width, put_writes}
 use Rattle.written_machine.specs.State.{State}
 use Rattle.board.specs.declared.machine.Machine.{Machine}
@@ -154,3 +158,42 @@ pub unit_attempted : (op : ℕ) (m : Machine) (d : Option Denied) →
     attempt (UnitOp op) (state_of m) ≡ perform_unless d (UnitOp op) (state_of m)
 unfolding attempt asks
 unit_attempted op m d e = ap (λ (x : Option Denied). perform_unless x (UnitOp op) (state_of m)) e
+
+-- a state after an instruction, by the machine's own parts
+abbrev pub unit_stands : Machine → List ℕ → Memory → Table → ℕ → After → List Event → Step
+unit_stands m core memory table rest after events =
+    record { state = state_of (record m { core = core; port = record m.port { memory = memory }; table = table; phase = Run rest; after = after }); events = events }
+
+-- nothing is refused: the machine stands as the instruction left it
+pub unit_after : (op : ℕ) (m : Machine) (core' : List ℕ) (memory : Memory) (table' : Table) (done : UnitDone) (core2 : List ℕ) (rest : ℕ) (after : After) → IsTable m.table →
+    first_denied m.table m.active (held_ids m.frames) (unit_plan (doer m.table (record { active = m.active; caller = m.caller }) m.key) (unit_named op) m.core) ≡ None →
+    IsDone (doer m.table (record { active = m.active; caller = m.caller }) m.key) (unit_named op) m.core m.port.memory.bytes core' memory.bytes table' done →
+    core2 ≡ put core' 0 (add16 (reg m.core 0) 2) → rest ≡ done.cycles - 1 → after ≡ closing_after done.closing →
+    attempt (UnitOp op) (state_of m) ≡ unit_stands m core2 memory table' rest after (made_event done.made)
+unit_after op m core' memory table' done core2 rest after ok none d core_is rest_is after_is =
+    unit_attempted op m None none
+    ∙ unit_performed op m core' memory.bytes table' done ok d
+    ∙ ap (λ (c : List ℕ). unit_stands m c memory table' (done.cycles - 1) (closing_after done.closing) (made_event done.made)) (sym core_is)
+    ∙ ap (λ (n : ℕ). unit_stands m core2 memory table' n (closing_after done.closing) (made_event done.made)) (sym rest_is)
+    ∙ ap (λ (a : After). unit_stands m core2 memory table' rest a (made_event done.made)) (sym after_is)
+
+-- an access is refused: the machine stops, and nothing else is changed
+pub unit_refused : (op : ℕ) (m : Machine) (core : List ℕ) (memory : Memory) (table : Table) (d : Denied) →
+    first_denied m.table m.active (held_ids m.frames) (unit_plan (doer m.table (record { active = m.active; caller = m.caller }) m.key) (unit_named op) m.core) ≡ Some d →
+    core ≡ m.core → memory ≡ m.port.memory → table ≡ m.table →
+    attempt (UnitOp op) (state_of m) ≡ denied d (state_of (record m { core = core; port = record m.port { memory = memory }; table = table }))
+unit_refused op m core memory table d refused core_is memory_is table_is =
+    unit_attempted op m (Some d) refused
+    ∙ ap (λ (c : List ℕ). denied d (state_of (record m { core = c }))) (sym core_is)
+    ∙ ap (λ (x : Memory). denied d (state_of (record m { core = core; port = record m.port { memory = x } }))) (sym memory_is)
+    ∙ ap (λ (t : Table). denied d (state_of (record m { core = core; port = record m.port { memory = memory }; table = t }))) (sym table_is)
+
+not_zero : (n : ℕ) → (suc n == 0) ≡ false
+not_zero n = grind (arith, nat_tests)
+
+-- what is told of a module that was made, or of none
+pub told_made : (n : ℕ) (o : Option Event) → o ≡ then_some (not (n == 0)) (Event.Protect n) → option_to_list o ≡ made_event n
+told_made zero o e = ap (λ (x : Option Event). option_to_list x) e
+told_made (suc n) o e =
+    ap (λ (x : Option Event). option_to_list x) e
+    ∙ ap (λ (b : Bool). option_to_list (then_some (not b) (Event.Protect (suc n)))) (not_zero n)
