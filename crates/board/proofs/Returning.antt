@@ -1,5 +1,5 @@
 -- What is told of a RETI that pops PC and SR.
-use Rattle.std.proofs.Common.{◌≡◌, ℕ, List, [], ◌∷◌, refl, sym, ap, ◌∙◌, Bool, true, false, Option, Some, None, is_some}
+use Rattle.std.proofs.Common.{◌≡◌, ℕ, List, [], ◌∷◌, refl, sym, ap, ◌∙◌, false, Option, Some, None, is_some}
 use Rattle.insn_decode.specs.declared.insn.Insn.TheVariants.{Reti}
 use Rattle.pc_access.specs.Rights.{first_denied}
 use Rattle.pc_access.specs.declared.Denied.{Denied}

@@ -1,14 +1,14 @@
 //! An instruction begins: its fetch, the entry of a module, and all that it does.
 
-ghost use Rattle.std.specs.Prelude.{◌≡◌, ◌≤◌, ◌<◌, ◌+◌, ◌*◌, ◌%◌, ◌++◌, ◌∷◌, ℕ, true, false, length, option_to_list, IsTrue, IsFalse, Some, IfSome};
+ghost use Rattle.std.specs.Prelude.{◌≡◌, ◌≤◌, ◌<◌, ◌++◌, option_to_list, IsTrue, IsFalse, IfSome};
 ghost use Rattle.insn_decode.specs.Code.{IsDecoded, is_unit, HasForm};
-ghost use Rattle.insn_decode.specs.declared.insn.Insn.TheVariants.{Reti, Unit as UnitOp};
+ghost use Rattle.insn_decode.specs.declared.insn.Insn.TheVariants.{Unit as UnitOp};
 ghost use Rattle.mod_layout.specs.Tables.{IsTable};
 ghost use Rattle.cpu_step.specs.Fetched.{later_word, insn_at};
-ghost use Rattle.cpu_step.specs.Plan.{past};
-ghost use Rattle.written_machine.specs.Cycle.{pc_of, byte_of, at_home, home_word, is_home, perform_unless, attempt, reti_by, reti_of, act_by, act_on, act_home, act, enter, begin};
+ghost use Rattle.written_machine.specs.Cycle.{pc_of, byte_of, at_home, home_word, is_home, attempt, reti_of, act_by, act_home, act, enter, begin};
 ghost use Rattle.board.specs.Standing.{state_of, clock_of};
 
+use crate::machine::Machine;
 use attest::Who;
 use cpu_step::{execute, plan};
 use insn_decode::{Insn, decode};
@@ -17,8 +17,6 @@ use pc_access::{Access, Kind, Rule};
 use reg_backup::{After, Phase};
 use sm_words::Width;
 use tracer::Event;
-
-use crate::machine::Machine;
 
 /// What an instruction tells.
 #[derive(Drop)]
