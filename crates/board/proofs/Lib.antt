@@ -6,3 +6,4 @@ pub mod Runs
 pub mod Cycles
 pub mod Parts
 pub mod Aligned
+pub mod Returning

@@ -1,14 +1,14 @@
 //! An instruction begins: its fetch, the entry of a module, and all that it does.
 
-ghost use Rattle.std.specs.Prelude.{◌≡◌, ◌≤◌, ◌<◌, ◌+◌, ◌*◌, ◌%◌, ◌++◌, ◌∷◌, ℕ, true, false, length, option_to_list, IsTrue, IsFalse, Some, IfSome};
+ghost use Rattle.std.specs.Prelude.{◌≡◌, ◌≤◌, ◌<◌, ◌++◌, option_to_list, IsTrue, IsFalse, IfSome};
 ghost use Rattle.insn_decode.specs.Code.{IsDecoded, is_unit, HasForm};
-ghost use Rattle.insn_decode.specs.declared.insn.Insn.TheVariants.{Reti, Unit as UnitOp};
+ghost use Rattle.insn_decode.specs.declared.insn.Insn.TheVariants.{Unit as UnitOp};
 ghost use Rattle.mod_layout.specs.Tables.{IsTable};
 ghost use Rattle.cpu_step.specs.Fetched.{later_word, insn_at};
-ghost use Rattle.cpu_step.specs.Plan.{past};
-ghost use Rattle.written_machine.specs.Cycle.{pc_of, byte_of, at_home, home_word, is_home, perform_unless, attempt, reti_by, reti_of, act_by, act_on, act_home, act, enter, begin};
+ghost use Rattle.written_machine.specs.Cycle.{pc_of, byte_of, at_home, home_word, is_home, attempt, reti_of, act_by, act_home, act, enter, begin};
 ghost use Rattle.board.specs.Standing.{state_of, clock_of};
 
+use crate::machine::Machine;
 use attest::Who;
 use cpu_step::{execute, plan};
 use insn_decode::{Insn, decode};
@@ -17,8 +17,6 @@ use pc_access::{Access, Kind, Rule};
 use reg_backup::{After, Phase};
 use sm_words::Width;
 use tracer::Event;
-
-use crate::machine::Machine;
 
 /// What an instruction tells.
 #[derive(Drop)]
@@ -36,7 +34,6 @@ impl Machine {
     /// Begins the instruction at PC, where module `left` was left in this cycle.
     #[tactic(auto, unfolding(written_machine::specs::Cycle::begin))]
     pub fn begin(&mut self, left: u16) -> Told
-        requires few { length self.old.frames ≤ 8 }
         requires table { IsTable self.old.table }
         ensures state { state_of self.new ≡ (begin left (state_of self.old)).state }
         ensures events { option_to_list result.entered ++ option_to_list result.done ≡ (begin left (state_of self.old)).events }
@@ -84,7 +81,6 @@ impl Machine {
     /// The instruction at PC, once its fetch is allowed and a module that it enters is active.
     #[tactic(auto, unfolding(written_machine::specs::Cycle::act))]
     fn act(&mut self) -> Option<Event>
-        requires few { length self.old.frames ≤ 8 }
         requires table { IsTable self.old.table }
         ensures state { state_of self.new ≡ (act (state_of self.old)).state }
         ensures event { option_to_list result ≡ (act (state_of self.old)).events }
@@ -99,7 +95,6 @@ impl Machine {
 
     /// An instruction of so many words, where they are all at home.
     fn act_home(&mut self, words: u16) -> Option<Event>
-        requires few { length self.old.frames ≤ 8 }
         requires table { IsTable self.old.table }
         ensures state { let s = state_of self.old in state_of self.new ≡ (act_home (is_home s.table s.active (pc_of s) words) words s).state }
         ensures event { let s = state_of self.old in option_to_list result ≡ (act_home (is_home s.table s.active (pc_of s) words) words s).events }
@@ -176,7 +171,6 @@ impl Machine {
 
     /// Does an instruction.
     fn act_by(&mut self, insn: Insn) -> Option<Event>
-        requires few { length self.old.frames ≤ 8 }
         requires table { IsTable self.old.table }
         requires decoded { IsDecoded insn }
         requires form { HasForm insn }
@@ -194,7 +188,6 @@ impl Machine {
     /// RETI: refused inside; with a module's frame newest that module is to go on, and else PC and SR are
     /// popped.
     fn go_back(&mut self) -> Option<Event>
-        requires few { length self.old.frames ≤ 8 }
         requires decoded { IsDecoded Insn.Reti }
         ensures state { state_of self.new ≡ (reti_of self.old.active (state_of self.old)).state }
         ensures event { option_to_list result ≡ (reti_of self.old.active (state_of self.old)).events }
@@ -241,7 +234,6 @@ impl Machine {
     }
 
     /// A unit instruction: its accesses are checked, and then it is done.
-    #[tactic(auto, using(crate::proofs::Units::unit_attempted, crate::proofs::Units::unit_performed))]
     fn attempt_unit(&mut self, op: u8) -> Option<Event>
         requires op { op < 7 }
         requires table { IsTable self.old.table }
@@ -273,10 +265,7 @@ impl Machine {
                 } else {
                     After::Next
                 };
-                match done.made {
-                    0 => None,
-                    module => Some(Event::Protect { module }),
-                }
+                (done.made != 0).then_some(Event::Protect { module: done.made })
             }
         }
     }
