@@ -22,3 +22,9 @@ returns-then-is_stopped g c =
     let early = stopped_early c.loop-done._done c.args.cycles c.args.self.now c.loop-done.self (omega (arith, c.loop-done-test.true)) i.state stopped in
     let whole : RanWhole g.S.Sink.taken g.S.Sink.faults g.S.Sink.sure c.args.cycles c.args.self.now c.loop-done.self c.args.sink.now c.loop-done.sink = record { state = early.0; lines = took_same g.S.Sink.taken g.S.Sink.faults g.S.Sink.sure _ _ _ _ early.1 i.lines } in
     ended_runs g.S.Sink.taken g.S.Sink.faults g.S.Sink.sure c.args.cycles c.args.self.now c.loop-done.self c.args.sink.now c.loop-done.sink _ whole c.ended.ensures
+
+pub returns-in-Err : goal.returns-in-Err
+returns-in-Err g c = ?
+
+pub loop-done-preserved : goal.loop-done-preserved
+loop-done-preserved g c = ?
