@@ -10,6 +10,10 @@ ghost use Rattle.sm_io.specs.Sink.{Puts};
 ghost use Rattle.board.specs.Alike.{PeersTell, PeersShow};
 ghost use Rattle.board.specs.Ran.{Runs, ran_of};
 
+use crate::machine::Machine;
+use crate::port::Surroundings;
+use crate::view::View;
+use crate::{NoMemory, Ran};
 use arrayvec::{ArrayString, ArrayVec};
 use devices::Bus;
 use image_text::Image;
@@ -22,11 +26,6 @@ use std::alloc::Global;
 use std::marker::Model;
 use tracer::{EndState, Event};
 use written_machine::Hidden;
-
-use crate::machine::Machine;
-use crate::port::Surroundings;
-use crate::view::View;
-use crate::{NoMemory, Ran};
 
 /// A machine that runs.
 ///

@@ -14,7 +14,7 @@ returns-in-Err g c =
     let piece = event_line c.args.cycle (get_or c.args.events.now c.loop-event.event-index (Event.Resume 0)) in
     let line_is : c.as_bytes.result.now ≡ piece = c.as_bytes.ensures.value ∙ c.as_str.ensures.value ∙ c.line.ensures.text in
     cut_within g.S.Sink.taken g.S.Sink.faults g.S.Sink.sure _ _ _ i.0 piece _ _ (at_piece (event_line c.args.cycle) c.args.events.now c.loop-event.event-index (Event.Resume 0) i.0 _ c.loop-event-test.true i.1) i.2
-        (cut_same g.S.Sink.taken g.S.Sink.faults g.S.Sink.sure _ _ _ piece line_is c.in-Err.ensures)
+    (cut_same g.S.Sink.taken g.S.Sink.faults g.S.Sink.sure _ _ _ piece line_is c.in-Err.ensures)
 
 pub loop-event-preserved : goal.loop-event-preserved
 loop-event-preserved g c =

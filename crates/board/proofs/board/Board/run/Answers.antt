@@ -30,7 +30,7 @@ returns-in-Err g c =
     let s = c.args.self.now in
     let number = c.self.inside.machine.cycle in
     let lines_are_those : lines_of number c.as_slice.result.now ≡ cycle_lines (after_cycles s n) =
-        lines_are c.loop-done.self (after_cycles s n) number c.as_slice.result.now (ap (λ (b : State). b.cycle) c.self.view_is) (c.as_slice.ensures.value ∙ c.tick-events.ensures.events) i.state in
+    lines_are c.loop-done.self (after_cycles s n) number c.as_slice.result.now (ap (λ (b : State). b.cycle) c.self.view_is) (c.as_slice.ensures.value ∙ c.tick-events.ensures.events) i.state in
     let m = c.in-Err.ensures.front.0 in
     record {
       cycles = n;
@@ -52,7 +52,7 @@ loop-done-preserved g c =
     let s = c.args.self.now in
     let number = c.self.inside.machine.cycle in
     let lines_are_those : lines_of number c.as_slice.result.now ≡ cycle_lines (after_cycles s n) =
-        lines_are c.loop-done.self (after_cycles s n) number c.as_slice.result.now (ap (λ (b : State). b.cycle) c.self.view_is) (c.as_slice.ensures.value ∙ c.tick-events.ensures.events) i.state in
+    lines_are c.loop-done.self (after_cycles s n) number c.as_slice.result.now (ap (λ (b : State). b.cycle) c.self.view_is) (c.as_slice.ensures.value ∙ c.tick-events.ensures.events) i.state in
     record {
       state = c.tick-events.ensures.state ∙ ap (λ (b : State). (cycle b).state) i.state ∙ sym (state_more n s);
       lines = took_same g.S.Sink.taken g.S.Sink.faults g.S.Sink.sure _ _ (lines_after s n ++ lines_of number c.as_slice.result.now) (lines_after s (n + 1)) (lines_next n s _ lines_are_those)

@@ -8,7 +8,7 @@ use Rattle.board.proofs.board.Board.tick.Goals as goal
 pub returns-clause-stop : goal.returns-clause-stop
 returns-clause-stop c runs =
     stop_told c.tells.ensures.stop (state_of c.self.inside.machine) (state_of c.tick.new.self) c.tick.result.items c.tick.ensures.state c.tick.ensures.events
-        (ap (λ (s : State). s.stop) c.self.view_is ∙ runs)
+    (ap (λ (s : State). s.stop) c.self.view_is ∙ runs)
 
 pub returns-clause-peers : goal.returns-clause-peers
 returns-clause-peers c =
