@@ -2,3 +2,4 @@ pub mod Standing
 pub mod Sound
 pub mod Ran
 pub mod Shown
+pub mod Alike

@@ -1,13 +1,19 @@
 //! The board: a machine that a caller runs.
 
-ghost use Rattle.std.specs.Prelude.{◌≡◌, ◌+◌, ◌<◌, ◌≤◌, ◌^◌, [], IfOk, IsSome, is_some};
+ghost use Rattle.std.specs.Prelude.{◌≡◌, ◌+◌, ◌<◌, ◌≤◌, ◌^◌, [], IfOk, IsSome, is_some, None};
+ghost use Rattle.isolation.specs.Calls.{stop_in};
 ghost use Rattle.written_machine.specs.Cycle.{cycle};
 ghost use Rattle.written_machine.specs.Script.{stands_at};
 ghost use Rattle.written_machine.specs.Trace.{end_of, end_line_of, lines_of};
 ghost use Rattle.written_machine.specs.View.{boot};
 ghost use Rattle.sm_io.specs.Sink.{Puts};
+ghost use Rattle.board.specs.Alike.{PeersTell, PeersShow};
 ghost use Rattle.board.specs.Ran.{Runs, ran_of};
 
+use crate::machine::Machine;
+use crate::port::Surroundings;
+use crate::view::View;
+use crate::{NoMemory, Ran};
 use arrayvec::{ArrayString, ArrayVec};
 use devices::Bus;
 use image_text::Image;
@@ -20,11 +26,6 @@ use std::alloc::Global;
 use std::marker::Model;
 use tracer::{EndState, Event};
 use written_machine::Hidden;
-
-use crate::machine::Machine;
-use crate::port::Surroundings;
-use crate::view::View;
-use crate::{NoMemory, Ran};
 
 /// A machine that runs.
 ///
@@ -81,7 +82,15 @@ impl Board {
         ensures events { result.items ≡ (cycle self.old).events }
         ensures number { self.new.cycle ≤ self.old.cycle + 1 }
         ensures stopped { IsSome self.old.stop → (self.new ≡ self.old) × (result.items ≡ []) }
+
+        // A stop is told exactly where the machine stops, and it is that stop.
+        ensures stop { self.old.stop ≡ None → stop_in result.items ≡ self.new.stop }
+
+        // Images that differ in one confined module's data alone tell the same.
+        ensures peers { PeersTell self.old result.items }
     {
+        isolation::tells();
+        isolation::two_runs();
         self.machine.tick()
     }
 
@@ -144,8 +153,12 @@ impl Board {
 
     /// What is seen of it while these modules are hidden.
     pub fn view(&self, hidden: Hidden) -> View<'_>
-        ensures { result ≡ record { state = self.now; hidden = hidden } }
+        ensures shown { result ≡ record { state = self.now; hidden = hidden } }
+
+        // Images that differ in the data of the one hidden, confined module alone show the same.
+        ensures peers { PeersShow result }
     {
+        isolation::two_runs();
         View::new(&self.machine, hidden)
     }
 

@@ -74,20 +74,21 @@ fn board(alloc: Global, schedule: &str) -> Result<Board, Fail> {
 #[test]
 fn runs(rt: HostRuntime) -> Result<(), Fail> {
     let alloc = rt.alloc();
+    // The loop is one jump of 2 cycles, so after 40 cycles it begins again where it first began in an even cycle.
     let cases = [
-        ("", NO_PULSE),
-        ("13 line 0 up\n14 line 0 down\n", PULSE_AT_13),
-        ("15 line 0 up\n16 line 0 down\n", PULSE_AT_15),
-        ("16 line 0 up\n17 line 0 down\n", PULSE_AT_16),
-        ("12 line 0 up\n13 line 0 down\n", PULSE_AT_12),
+        ("", NO_PULSE, true),
+        ("13 line 0 up\n14 line 0 down\n", PULSE_AT_13, false),
+        ("15 line 0 up\n16 line 0 down\n", PULSE_AT_15, false),
+        ("16 line 0 up\n17 line 0 down\n", PULSE_AT_16, false),
+        ("12 line 0 up\n13 line 0 down\n", PULSE_AT_12, false),
     ];
-    for (schedule, text) in cases {
+    for (schedule, text, begins) in cases {
         let mut board = board(alloc, schedule)?;
         let mut sink = MemSink::new(alloc, 256)?;
         assert_eq!(rt; board.run(40, &mut sink), Ran::Done);
         assert_eq!(rt; board.finish(&mut sink), Ok(()));
         assert_eq!(rt; sink.taken(), text.as_bytes(), "{schedule}");
-        assert!(rt; board.stands_at(0x0214));
+        assert_eq!(rt; board.stands_at(0x0214), begins, "{schedule}");
         assert!(rt; !board.stands_at(0x0212));
     }
     Ok(())
