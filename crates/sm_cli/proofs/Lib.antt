@@ -1,4 +1,1 @@
-pub mod Loading
-pub mod Runs
-pub mod Serving
 pub mod Words
