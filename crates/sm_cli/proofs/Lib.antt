@@ -1,4 +1,3 @@
-pub mod Loading
-pub mod Runs
+pub mod Needed
 pub mod Serving
 pub mod Words

@@ -1,5 +1,5 @@
 -- What a call of `serve` gives.
-use Rattle.std.specs.Prelude.{◌≡◌, ℕ, ◌<◌, ◌≤◌, Bool, true, false, List, [], ◌∷◌, ◌++◌, length, Option, Some, None, IfSome, IsSomeAnd, IsSome, is_some, codes, map, ◌⊎◌, String}
+use Rattle.std.specs.Prelude.{◌≡◌, ℕ, ◌+◌, ◌<◌, ◌≤◌, Bool, true, false, List, [], ◌∷◌, ◌++◌, length, Option, Some, None, IfSome, IsSomeAnd, is_some, codes, map, ◌⊎◌, String, Result, Ok, Err}
 use Rattle.std.specs.String.{string_bytes}
 use Rattle.std.specs.declared.alloc.Global.{Global}
 use Rattle.sm_io.specs.Faults.{HasCause}
@@ -12,14 +12,20 @@ use Rattle.image_text.specs.declared.ImageFault.TheVariants as image_fault
 use Rattle.image_text.specs.Image.{Image, IsImage}
 use Rattle.image_text.specs.ImageText.{image_text}
 use Rattle.image_text.specs.Refusal.{refusal_of}
+use Rattle.schedule_file.specs.declared.Entry.{Entry}
+use Rattle.schedule_file.specs.declared.ScheduleFault.{ScheduleFault}
+use Rattle.schedule_file.specs.declared.ScheduleFault.TheVariants as schedule_fault
+use Rattle.schedule_file.specs.Reading.{schedule_of}
+use Rattle.written_machine.specs.Cycle.{after_cycles}
+use Rattle.written_machine.specs.State.{State}
+use Rattle.written_machine.specs.Trace.{trace, lines_after, end_line_of}
+use Rattle.written_machine.specs.View.{at}
 use Rattle.sm_cli.specs.declared.answers.Status.{Status}
 use Rattle.sm_cli.specs.declared.answers.Status.TheVariants as status
 use Rattle.sm_cli.specs.declared.answers.Refusal.{Refusal}
 use Rattle.sm_cli.specs.declared.answers.Refusal.TheVariants as refusal
 use Rattle.sm_cli.specs.declared.answers.FileFault.{FileFault}
 use Rattle.sm_cli.specs.declared.answers.FileFault.TheVariants as fault
-use Rattle.sm_cli.specs.Machine.{State, boot, state_after}
-use Rattle.sm_cli.specs.Trace.{trace, run_text}
 use Rattle.sm_cli.specs.Command.{Command, image, command_of}
 
 -- the bytes of the words
@@ -41,45 +47,63 @@ call_of words files before after = record { words = words; files = files; before
 -- what a command needs a file to be
 pub data Kind : Type 0 where
   image_file : Kind
+  schedule_file : Kind
 
 pub record Need : Type 0 where
   pub name : List ℕ
   pub kind : Kind
 
+abbrev pub need : List ℕ → Kind → Need
+need name kind = record { name = name; kind = kind }
+
+-- the file of a schedule, where there is one
+abbrev pub schedule_needs : Option (List ℕ) → List Need
+schedule_needs None = []
+schedule_needs (Some name) = need name schedule_file ∷ []
+
 -- the files that a command needs, in the order of its words
 abbrev pub needs_of : Command → List Need
-needs_of (image name cycles) = record { name = name; kind = image_file } ∷ []
+needs_of (image name schedule cycles) = need name image_file ∷ schedule_needs schedule
 
--- an image without modules, which is all that the machine knows yet
-abbrev pub IsBuilt : Image → Type 0
-IsBuilt value = value.table.modules ≡ []
+-- a file is the text of this image, and not too long
+pub record IsImageFile (file : Option (List ℕ)) (value : Image) : Type 0 where
+  pub image : IsImage value
+  pub text : file ≡ Some (image_text value)
+  pub short : length (image_text value) ≤ 1048576
+
+-- a file gives these entries as a schedule's text, and is not too long
+abbrev pub IsScheduleFile : Option (List ℕ) → List Entry → Type 0
+IsScheduleFile file entries = IsSomeAnd file (λ bytes. (length bytes ≤ 1048576) × (schedule_of bytes ≡ Ok entries))
 
 -- a file, or its absence, serves as this kind: it is there, it is not too long, and it is a text of that kind
 abbrev pub ServesAs : Kind → Option (List ℕ) → Type 0
-ServesAs image_file file = (value : Image) × IsImage value × (file ≡ Some (image_text value)) × (length (image_text value) ≤ 1048576) × IsBuilt value
+ServesAs image_file file = (value : Image) × IsImageFile file value
+ServesAs schedule_file file = (entries : List Entry) × IsScheduleFile file entries
 
 -- a file, or its absence, has this fault as this kind
 abbrev pub HasFault : Kind → Option (List ℕ) → FileFault → Type 0
 HasFault kind file fault.Absent = file ≡ None
 HasFault kind file fault.TooLong = IsSomeAnd file (λ bytes. 1048576 < length bytes)
 HasFault image_file file (fault.Image refusal) = IsSomeAnd file (λ bytes. (length bytes ≤ 1048576) × (refusal_of bytes ≡ Some refusal))
-HasFault image_file file fault.NotBuilt = (value : Image) × IsImage value × (file ≡ Some (image_text value)) × (length (image_text value) ≤ 1048576) × (IsBuilt value → ⊥)
+HasFault image_file file (fault.Schedule refusal) = ⊥
+HasFault schedule_file file (fault.Image refusal) = ⊥
+HasFault schedule_file file (fault.Schedule refusal) = IsSomeAnd file (λ bytes. (length bytes ≤ 1048576) × (schedule_of bytes ≡ Err refusal))
 
 -- the file that is needed serves, as far as files are told
 abbrev pub IsServed : Option FileMap → Need → Type 0
-IsServed files need = IfSome files (λ map. ServesAs need.kind (map need.name))
+IsServed files wanted = IfSome files (λ map. ServesAs wanted.kind (map wanted.name))
 
 -- the first file that does not serve has this name and this fault
 abbrev pub IsFirstFault : Option FileMap → List Need → List ℕ → FileFault → Type 0
 IsFirstFault files [] name fault = ⊥
-IsFirstFault files (need ∷ needs) name fault =
-    ((need.name ≡ name) × IfSome files (λ map. HasFault need.kind (map name) fault))
-    ⊎ (IsServed files need × IsFirstFault files needs name fault)
+IsFirstFault files (wanted ∷ needs) name fault =
+    ((wanted.name ≡ name) × IfSome files (λ map. HasFault wanted.kind (map name) fault))
+    ⊎ (IsServed files wanted × IsFirstFault files needs name fault)
 
 -- a file of this name is needed, and every file before it serves
 abbrev pub IsReached : Option FileMap → List Need → List ℕ → Type 0
 IsReached files [] name = ⊥
-IsReached files (need ∷ needs) name = (need.name ≡ name) ⊎ (IsServed files need × IsReached files needs name)
+IsReached files (wanted ∷ needs) name = (wanted.name ≡ name) ⊎ (IsServed files wanted × IsReached files needs name)
 
 -- Answers
 
@@ -93,28 +117,69 @@ abbrev pub run_status : Bool → Status
 run_status true = status.Stopped
 run_status false = status.Done
 
--- the outside trace of an image
-abbrev pub answer_of_image : Image → ℕ → Answer
-answer_of_image value cycles = record { text = trace value cycles; status = run_status (is_some (state_after cycles (boot value)).stop) }
+-- what a run of that many cycles from a state writes, and its status
+abbrev pub answer_from : State → ℕ → Answer
+answer_from s cycles = record { text = lines_after s cycles ++ end_line_of (after_cycles s cycles); status = run_status (is_some (after_cycles s cycles).stop) }
+
+-- the outside trace of an image on a schedule
+abbrev pub answer_of_image : Image → List Entry → ℕ → Answer
+answer_of_image value entries cycles = record { text = trace value entries cycles; status = run_status (is_some (at value entries cycles).stop) }
 
 -- the file of that name is these bytes, as far as files are told
 abbrev pub HasFile : Option FileMap → List ℕ → List ℕ → Type 0
 HasFile files name bytes = IfSome files (λ map. map name ≡ Some bytes)
 
+-- a file that is a schedule's text gives these entries; with no file there are none
+abbrev pub IsScheduleOf : Option FileMap → Option (List ℕ) → List Entry → Type 0
+IsScheduleOf files None entries = entries ≡ []
+IsScheduleOf files (Some name) entries = IfSome files (λ map. IsScheduleFile (map name) entries)
+
+-- the file of that name is the text of this image, and not too long
+pub record IsImageOf (files : Option FileMap) (name : List ℕ) (value : Image) : Type 0 where
+  pub image : IsImage value
+  pub file : HasFile files name (image_text value)
+  pub short : length (image_text value) ≤ 1048576
+
+-- the files are those of an image and a schedule, and this is their trace
+pub record IsImageAnswer (files : Option FileMap) (name : List ℕ) (schedule : Option (List ℕ)) (cycles : ℕ) (answer : Answer) : Type 0 where
+  pub value : Image
+  pub entries : List Entry
+  pub image : IsImageOf files name value
+  pub entries_are : IsScheduleOf files schedule entries
+  pub is : answer ≡ answer_of_image value entries cycles
+
 -- the files serve the command, and this is its answer
 abbrev pub IsAnswer : Option FileMap → Command → Answer → Type 0
-IsAnswer files (image name cycles) answer = (value : Image) × IsImage value × HasFile files name (image_text value) × (length (image_text value) ≤ 1048576) × IsBuilt value × (answer ≡ answer_of_image value cycles)
+IsAnswer files (image name schedule cycles) answer = IsImageAnswer files name schedule cycles answer
 
--- the words are a command that the files serve, no read failed, and its answer has this status and its text P
-abbrev pub Serves : Call → Status → (List ℕ → Type 0) → Type 0
-Serves call ended P = (command : Command) × (answer : Answer) × (command_of call.words ≡ Some command) × IsAnswer call.files command answer × HasCause call.before call.after false × (answer.status ≡ ended) × P answer.text
+-- the words are `image` with these files, and their bytes are this image's text and this schedule's
+pub record IsInput (words : List (List ℕ)) (files : Option FileMap) (value : Image) (entries : List Entry) (cycles : ℕ) : Type 0 where
+  pub map : FileMap
+  pub told : files ≡ Some map
+  pub name : List ℕ
+  pub schedule : Option (List ℕ)
+  pub command : command_of words ≡ Some (image name schedule cycles)
+  pub image : IsImage value
+  pub file : map name ≡ Some (image_text value)
+  pub short : length (image_text value) ≤ 1048576
+  pub entries_are : IsScheduleOf (Some map) schedule entries
 
--- a run of that many cycles from a state ends with this status, and its text was taken or cut off
-abbrev pub run_answer : Status → ℕ → State → (List ℕ → Type 0) → (List ℕ → Type 0) → Type 0
-run_answer status.Done cycles s took cut = took (run_text cycles s) × ((state_after cycles s).stop ≡ None)
-run_answer status.Stopped cycles s took cut = took (run_text cycles s) × IsSome (state_after cycles s).stop
-run_answer status.WriteFault cycles s took cut = cut (run_text cycles s)
-run_answer _ cycles s took cut = ⊥
+-- the words are a command that the files serve, no read failed, and its answer has this status and a text with P
+pub record Serves (call : Call) (ended : Status) (P : List ℕ → Type 0) : Type 0 where
+  pub command : Command
+  pub answer : Answer
+  pub asked : command_of call.words ≡ Some command
+  pub served : IsAnswer call.files command answer
+  pub quiet : HasCause call.before call.after false
+  pub status : answer.status ≡ ended
+  pub text : P answer.text
+
+-- an answer ended with this status: its text was taken, or cut off
+abbrev pub EndsAs : Status → Answer → (took cut : List ℕ → Type 0) → Type 0
+EndsAs status.Done answer took cut = took answer.text × (answer.status ≡ status.Done)
+EndsAs status.Stopped answer took cut = took answer.text × (answer.status ≡ status.Stopped)
+EndsAs status.WriteFault answer took cut = cut answer.text
+EndsAs _ answer took cut = ⊥
 
 -- Refusals
 
@@ -159,11 +224,17 @@ image_fault_text (image_fault.Table id refusal) = (codes "Table " ++ decimal id)
 image_fault_text (image_fault.Version n) = codes "Version " ++ decimal n
 image_fault_text image_fault.NoMemory = codes "NoMemory"
 
+abbrev pub schedule_fault_text : ScheduleFault → List ℕ
+schedule_fault_text (schedule_fault.Line n) = codes "Line " ++ decimal n
+schedule_fault_text (schedule_fault.NotRising n) = codes "NotRising " ++ decimal n
+schedule_fault_text schedule_fault.TooMany = codes "TooMany"
+schedule_fault_text schedule_fault.NoMemory = codes "NoMemory"
+
 abbrev pub fault_text : FileFault → List ℕ
 fault_text fault.Absent = codes "Absent"
 fault_text fault.TooLong = codes "TooLong"
 fault_text (fault.Image refusal) = image_fault_text refusal
-fault_text fault.NotBuilt = codes "NotBuilt"
+fault_text (fault.Schedule refusal) = schedule_fault_text refusal
 
 -- the line of a refusal, which may name a file
 unfoldable pub line_of : Refusal → List ℕ → List ℕ
@@ -173,8 +244,12 @@ line_of refusal.CannotRead name = codes "sancus: cannot read " ++ (name ++ codes
 line_of refusal.NoMemory name = codes "sancus: no memory\n"
 
 -- some refusal has its cause, and this status, and its line has P
-abbrev pub Refuses : Call → Status → (List ℕ → Type 0) → Type 0
-Refuses call ended P = (refused : Refusal) × (name : List ℕ) × (status_of refused ≡ ended) × IsCause call refused name × P (line_of refused name)
+pub record Refuses (call : Call) (ended : Status) (P : List ℕ → Type 0) : Type 0 where
+  pub refused : Refusal
+  pub name : List ℕ
+  pub status : status_of refused ≡ ended
+  pub cause : IsCause call refused name
+  pub line : P (line_of refused name)
 
 -- Completeness
 
@@ -206,22 +281,15 @@ IsRoomForLine call room = (refused : Refusal) (name : List ℕ) → is_read_faul
 
 -- Parts of a call
 
--- a file of this name does not serve as this kind, and this is the refusal
-abbrev pub IsFileCause : Kind → Option FileMap → ℕ → ℕ → Refusal → List ℕ → Type 0
-IsFileCause kind files before after refusal.Usage name = ⊥
-IsFileCause kind files before after (refusal.BadFile fault) name = IfSome files (λ map. HasFault kind (map name) fault) × HasCause before after false
-IsFileCause kind files before after refusal.CannotRead name = HasCause before after true
-IsFileCause kind files before after refusal.NoMemory name = HasCause before after false
+-- these files that are needed call for this refusal
+abbrev pub IsNeedCause : Option FileMap → ℕ → ℕ → List Need → Refusal → List ℕ → Type 0
+IsNeedCause files before after needs refusal.Usage name = ⊥
+IsNeedCause files before after needs (refusal.BadFile fault) name = IsFirstFault files needs name fault × HasCause before after false
+IsNeedCause files before after needs refusal.CannotRead name = IsReached files needs name × HasCause before after true
+IsNeedCause files before after needs refusal.NoMemory name = HasCause before after false
 
--- an image that a file has the text of
-pub record IsImageOf (files : Option FileMap) (name : List ℕ) (value : Image) : Type 0 where
-  pub image : IsImage value
-  pub file : HasFile files name (image_text value)
-  pub short : length (image_text value) ≤ 1048576
-  pub built : IsBuilt value
-
--- the file's image was run, and ended so
-pub record IsRun (files : Option FileMap) (name : List ℕ) (cycles : ℕ) (ended : Status) (took cut : List ℕ → Type 0) : Type 0 where
-  pub value : Image
-  pub image : IsImageOf files name value
-  pub answer : run_answer ended cycles (boot value) took cut
+-- the files serve the command, and its answer ended so
+pub record IsRun (files : Option FileMap) (command : Command) (ended : Status) (took cut : List ℕ → Type 0) : Type 0 where
+  pub answer : Answer
+  pub served : IsAnswer files command answer
+  pub ends : EndsAs ended answer took cut

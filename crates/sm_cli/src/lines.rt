@@ -1,128 +1,16 @@
 // Lines of text, put to a sink.
-ghost use Rattle.std.specs.Prelude.{◌≡◌, ◌++◌, ◌∷◌, [], ◌^◌, ◌<◌, ◌%◌, ◌+◌, List, ℕ, map, codes, length, All};
-ghost use Rattle.std.specs.List.{flat_map};
+ghost use Rattle.std.specs.Prelude.{◌≡◌, ◌++◌, codes};
 ghost use Rattle.std.specs.Fmt.{decimal};
 ghost use Rattle.sm_io.specs.Sink.{Puts};
-ghost use Rattle.sm_cli.specs.Text.{hex_digit, hex_word};
-ghost use Rattle.sm_cli.specs.Machine.{State};
-ghost use Rattle.sm_cli.specs.Trace.{event_line, rule_name, register_text};
-ghost use Rattle.sm_cli.specs.Serve.{line_of, fault_text, image_fault_text, table_fault_text};
+ghost use Rattle.sm_cli.specs.Serve.{line_of, fault_text, image_fault_text, schedule_fault_text, table_fault_text};
 
-use crate::{Event, FileFault, Refusal, Rule, Stop};
-use arrayvec::ArrayVec;
+use crate::answers::Refused;
+use crate::{FileFault, Refusal};
 use image_text::ImageFault;
+use itoa::Buffer;
 use mod_layout::TableFault;
+use schedule_file::ScheduleFault;
 use sm_io::{Failed, Sink, put_all};
-
-/// Puts pieces, one after another.
-pub fn put_pieces<S: Sink>(sink: &mut S, pieces: &[&[u8]]) -> Result<(), Failed>
-    ensures { Puts S.taken S.faults S.sure sink.old sink.new (flat_map (λ piece. piece.now) pieces.now) result }
-{
-    for piece in pieces {
-        match put_all(sink, *piece) {
-            Ok(()) => {}
-            Err(Failed) => return Err(Failed),
-        }
-    }
-    Ok(())
-}
-
-/// The decimal digits of a number.
-pub fn decimal_text(number: u64) -> ArrayVec<u8, 20>
-    ensures { result.items ≡ decimal number }
-{
-    let mut text = ArrayVec::<u8, 20>::new();
-    let mut rest = number;
-    for _turn in 0..19u8 {
-        if rest < 10 {
-            break;
-        }
-        text.insert(0, b'0' + (rest % 10) as u8);
-        rest /= 10;
-    }
-    text.insert(0, b'0' + (rest % 10) as u8);
-    text
-}
-
-fn digit(number: u8) -> u8
-    requires { number < 16 }
-    ensures { result ≡ hex_digit number }
-{
-    if number < 10 {
-        b'0' + number
-    } else {
-        b'a' - 10 + number
-    }
-}
-
-/// The four digits of a word.
-pub fn word_text(word: u16) -> [u8; 4]
-    ensures { result ≡ hex_word word }
-{
-    [
-        digit((word / 4096) as u8),
-        digit((word / 256 % 16) as u8),
-        digit((word / 16 % 16) as u8),
-        digit((word % 16) as u8),
-    ]
-}
-
-fn name_of(rule: Rule) -> &'static [u8]
-    ensures { result.now ≡ rule_name rule }
-{
-    match rule {
-        Rule::FetchDevice => b"FetchDevice",
-        Rule::Illegal => b"Illegal",
-        Rule::Straddle => b"Straddle",
-    }
-}
-
-/// Puts the line of an event.
-pub fn put_event<S: Sink>(sink: &mut S, cycle: u64, event: Event) -> Result<(), Failed>
-    ensures { Puts S.taken S.faults S.sure sink.old sink.new (event_line cycle event) result }
-{
-    match event {
-        Event::Stop(stop) => put_stop(sink, cycle, stop),
-    }
-}
-
-fn put_stop<S: Sink>(sink: &mut S, cycle: u64, stop: Stop) -> Result<(), Failed>
-    ensures { Puts S.taken S.faults S.sure sink.old sink.new (event_line cycle (Event.Stop stop)) result }
-{
-    let cycle = decimal_text(cycle);
-    let pc = word_text(stop.pc);
-    let addr = word_text(stop.addr);
-    let module = decimal_text(u64::from(stop.module));
-    put_pieces(
-        sink,
-        &[
-            cycle.as_slice(),
-            b" stop ",
-            name_of(stop.rule),
-            b" pc ",
-            &pc,
-            b" addr ",
-            &addr,
-            b" module ",
-            module.as_slice(),
-            b"\n",
-        ],
-    )
-}
-
-/// Puts registers, each after a space.
-pub fn put_registers<S: Sink>(sink: &mut S, registers: &[u16]) -> Result<(), Failed>
-    ensures { Puts S.taken S.faults S.sure sink.old sink.new (flat_map register_text registers.now) result }
-{
-    for register in registers {
-        let text = word_text(*register);
-        match put_pieces(sink, &[b" ", &text]) {
-            Ok(()) => {}
-            Err(Failed) => return Err(Failed),
-        }
-    }
-    Ok(())
-}
 
 // Puts a name and a number.
 fn put_field<S: Sink>(sink: &mut S, name: &[u8], number: u64) -> Result<(), Failed>
@@ -132,7 +20,8 @@ fn put_field<S: Sink>(sink: &mut S, name: &[u8], number: u64) -> Result<(), Fail
         Ok(()) => {}
         Err(Failed) => return Err(Failed),
     }
-    put_all(sink, decimal_text(number).as_slice())
+    let mut digits = Buffer::new();
+    put_all(sink, digits.format(number).as_bytes())
 }
 
 fn put_table_fault<S: Sink>(sink: &mut S, fault: TableFault) -> Result<(), Failed>
@@ -175,6 +64,17 @@ fn put_image_fault<S: Sink>(sink: &mut S, fault: ImageFault) -> Result<(), Faile
     }
 }
 
+fn put_schedule_fault<S: Sink>(sink: &mut S, fault: ScheduleFault) -> Result<(), Failed>
+    ensures { Puts S.taken S.faults S.sure sink.old sink.new (schedule_fault_text fault) result }
+{
+    match fault {
+        ScheduleFault::Line { n } => put_field(sink, b"Line ", n),
+        ScheduleFault::NotRising { n } => put_field(sink, b"NotRising ", n),
+        ScheduleFault::TooMany => put_all(sink, b"TooMany"),
+        ScheduleFault::NoMemory => put_all(sink, b"NoMemory"),
+    }
+}
+
 fn put_fault<S: Sink>(sink: &mut S, fault: FileFault) -> Result<(), Failed>
     ensures { Puts S.taken S.faults S.sure sink.old sink.new (fault_text fault) result }
 {
@@ -182,7 +82,7 @@ fn put_fault<S: Sink>(sink: &mut S, fault: FileFault) -> Result<(), Failed>
         FileFault::Absent => put_all(sink, b"Absent"),
         FileFault::TooLong => put_all(sink, b"TooLong"),
         FileFault::Image(fault) => put_image_fault(sink, fault),
-        FileFault::NotBuilt => put_all(sink, b"NotBuilt"),
+        FileFault::Schedule(fault) => put_schedule_fault(sink, fault),
     }
 }
 
@@ -215,11 +115,12 @@ fn put_bad_file<S: Sink>(sink: &mut S, name: &[u8], fault: FileFault) -> Result<
     put_all(sink, b"\n")
 }
 
-/// Puts the line of a refusal, which may name a file.
-pub fn put_refusal<S: Sink>(sink: &mut S, refusal: Refusal, name: &[u8]) -> Result<(), Failed>
-    ensures { Puts S.taken S.faults S.sure sink.old sink.new (line_of refusal name.now) result }
+/// Puts the line of a refusal.
+pub fn put_refusal<S: Sink>(sink: &mut S, refused: Refused<'_>) -> Result<(), Failed>
+    ensures { Puts S.taken S.faults S.sure sink.old sink.new (line_of refused.entry.refusal refused.entry.name.now) result }
 {
-    match refusal {
+    let name = refused.name.as_bytes();
+    match refused.refusal {
         Refusal::Usage => put_all(sink, b"sancus: usage\n"),
         Refusal::BadFile(fault) => put_bad_file(sink, name, fault),
         Refusal::CannotRead => put_named(sink, b"sancus: cannot read ", name, b"\n"),

@@ -8,6 +8,38 @@ const EMPTY: &str = "sancus-image 1\nkey 00000000000000000000000000000000\nhandl
 const FIRST: &str =
     "sancus-image 1\nkey 00000000000000000000000000000000\nhandler 0000\nat 0200 354034120343ff3f0000000000000000\nat fff0 00000000000000000000000000000002\nend\n";
 
+// Sets SP, enables line 0, sets R7 and GIE, and calls module 1; at 0x0214 it loops. The handler at 0x0500 is RETI.
+const CALLED: &str = "\
+sancus-image 1
+key 00000000000000000000000000000000
+handler 0600
+module 0007 0300 0306 0400 0402
+at 0200 31400006d24340003740140232d23040
+at 0210 00030343ff3f00000000000000000000
+at 0300 03430343004700000000000000000000
+at 0500 00130000000000000000000000000000
+at ffe0 00000005000000000000000000000000
+at fff0 00000000000000000000000000000002
+end
+";
+
+const NO_PULSE: &str = "\
+12 enter 1 from 0
+16 leave 1 pc 0214
+end 40 outside 0214 0600 0008 0000 0000 0000 0000 0214 0000 0000 0000 0000 0000 0000 0000 0000
+";
+
+const PULSE_AT_13: &str = "\
+12 enter 1 from 0
+13 hide 1 vector 1
+25 handler pc 0500
+30 resume 1
+33 leave 1 pc 0214
+end 40 outside 0214 0600 0008 0000 0000 0000 0000 0214 0000 0000 0000 0000 0000 0000 0000 0000
+";
+
+const PULSE: &str = "13 line 0 up\n14 line 0 down\n";
+
 const FIRST_END: &str =
     "end 4 outside 0206 0000 0000 0000 0000 1234 0000 0000 0000 0000 0000 0000 0000 0000 0000 0000\n";
 
@@ -98,6 +130,21 @@ fn worked_runs(rt: HostRuntime) -> Result<(), Fail> {
             "sancus: usage\n",
         ),
         (FIRST, "image a.img 4", Status::Usage, "", "sancus: usage\n"),
+        (CALLED, "image a.img - 40", Status::Done, NO_PULSE, ""),
+        (
+            CALLED,
+            "image a.img pulse.txt 40",
+            Status::Done,
+            PULSE_AT_13,
+            "",
+        ),
+        (
+            CALLED,
+            "image -- a.img pulse.txt 40",
+            Status::Done,
+            PULSE_AT_13,
+            "",
+        ),
         (
             FIRST,
             "images a.img - 4",
@@ -112,8 +159,24 @@ fn worked_runs(rt: HostRuntime) -> Result<(), Fail> {
             "",
             "sancus: bad file b.img: Absent\n",
         ),
+        (
+            FIRST,
+            "image a.img s.txt 4",
+            Status::BadFile,
+            "",
+            "sancus: bad file s.txt: Absent\n",
+        ),
+        (
+            FIRST,
+            "image pulse.txt a.img 4",
+            Status::BadFile,
+            "",
+            "sancus: bad file pulse.txt: Line 1\n",
+        ),
     ] {
-        let given = call(&rt, line, files_with(&rt, text.as_bytes())?, None, None)?;
+        let mut files = files_with(&rt, text.as_bytes())?;
+        files.put_file("pulse.txt", PULSE.as_bytes())?;
+        let given = call(&rt, line, files, None, None)?;
         assert_eq!(rt; given.status, status, "{line}");
         assert_eq!(rt; given.out.taken(), out.as_bytes(), "{line}");
         assert_eq!(rt; given.err.taken(), err.as_bytes(), "{line}");
@@ -172,10 +235,6 @@ fn bad_files(rt: HostRuntime) -> Result<(), Fail> {
             b"sancus-image 1\nkey 00000000000000000000000000000000\nhandler 0000\nmodule 0007 0300 0306 0400 0402\nmodule 0007 0304 0308 0500 0502\n".as_slice(),
             "Table 2 Overlap 1",
         ),
-        (
-            b"sancus-image 1\nkey 00000000000000000000000000000000\nhandler 0000\nmodule 0007 0300 0306 0400 0402\nend\n".as_slice(),
-            "NotBuilt",
-        ),
     ] {
         let given = call(&rt, "image a.img - 4", files_with(&rt, text)?, None, None)?;
         assert_eq!(rt; given.status, Status::BadFile, "{fault}");
@@ -187,34 +246,64 @@ fn bad_files(rt: HostRuntime) -> Result<(), Fail> {
 }
 
 #[test]
+fn bad_schedules(rt: HostRuntime) -> Result<(), Fail> {
+    let alloc = rt.alloc();
+    let long = vec![in alloc; b'0'; 1048577]?;
+    for (image, schedule, told) in [
+        (
+            CALLED,
+            b"5 line 0 up\n4 line 0 down\n".as_slice(),
+            "s.txt: NotRising 2",
+        ),
+        (CALLED, b"5 line 4 up\n".as_slice(), "s.txt: Line 1"),
+        (CALLED, long.as_slice(), "s.txt: TooLong"),
+        (
+            "sancus-image 3\n",
+            b"5 line 4 up\n".as_slice(),
+            "a.img: Version 3",
+        ),
+    ] {
+        let mut files = files_with(&rt, image.as_bytes())?;
+        files.put_file("s.txt", schedule)?;
+        let given = call(&rt, "image a.img s.txt 4", files, None, None)?;
+        assert_eq!(rt; given.status, Status::BadFile, "{told}");
+        assert_eq!(rt; given.out.taken(), b"".as_slice(), "{told}");
+        let line = format!(in alloc; "sancus: bad file {told}\n")?;
+        assert_eq!(rt; given.err.taken(), line.as_bytes(), "{told}");
+    }
+    Ok(())
+}
+
+// Each file is read in two calls, of which the second meets its end.
+#[test]
 fn each_read_fails(rt: HostRuntime) -> Result<(), Fail> {
-    for number in 0..2u64 {
-        let mut files = files_with(&rt, FIRST.as_bytes())?;
+    let alloc = rt.alloc();
+    for (number, name) in [
+        (0, "a.img"),
+        (1, "a.img"),
+        (2, "pulse.txt"),
+        (3, "pulse.txt"),
+    ] {
+        let mut files = files_with(&rt, CALLED.as_bytes())?;
+        files.put_file("pulse.txt", PULSE.as_bytes())?;
         files.fail_at(number)?;
-        let given = call(&rt, "image a.img - 4", files, None, None)?;
+        let given = call(&rt, "image a.img pulse.txt 40", files, None, None)?;
         assert_eq!(rt; given.status, Status::ReadFault, "of read {number}");
         assert_eq!(rt; given.out.taken(), b"".as_slice(), "of read {number}");
-        assert_eq!(rt;
-            given.err.taken(),
-            b"sancus: cannot read a.img\n".as_slice(),
-            "of read {number}"
-        );
+        let line = format!(in alloc; "sancus: cannot read {name}\n")?;
+        assert_eq!(rt; given.err.taken(), line.as_bytes(), "of read {number}");
     }
     Ok(())
 }
 
 #[test]
 fn each_write_fails(rt: HostRuntime) -> Result<(), Fail> {
-    let text = FIRST_END.as_bytes();
-    for number in 0..36u64 {
-        let given = call(
-            &rt,
-            "image a.img - 4",
-            files_with(&rt, FIRST.as_bytes())?,
-            Some(number),
-            None,
-        )?;
+    for number in 0..6u64 {
+        let mut files = files_with(&rt, CALLED.as_bytes())?;
+        files.put_file("pulse.txt", PULSE.as_bytes())?;
+        let given = call(&rt, "image a.img pulse.txt 40", files, Some(number), None)?;
         let taken = given.out.taken();
+        let text = PULSE_AT_13.as_bytes();
         assert_eq!(rt; given.status, Status::WriteFault, "of write {number}");
         assert!(rt;
             text.starts_with(taken) && taken.len() < text.len(),

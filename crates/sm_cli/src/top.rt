@@ -1,22 +1,27 @@
 // The program's whole call.
-ghost use Rattle.std.specs.Prelude.{◌≡◌, ◌≢◌, ◌⊎◌, ◌≤◌, ◌+◌, ℕ, List, Some, None, IsTrue, IfOk, IfErr, false, is_some, length};
+ghost use Rattle.std.specs.Prelude.{◌≡◌, ◌≢◌, ◌⊎◌, ◌≤◌, ◌+◌, ℕ, List, Some, None, IsTrue, IfOk, IfErr, false, is_some};
 ghost use Rattle.sm_io.specs.Faults.{HasCause, Rose};
 ghost use Rattle.sm_io.specs.Files.{FileMap};
 ghost use Rattle.sm_io.specs.Sink.{Took, CutOff};
-ghost use Rattle.image_text.specs.Image.{Image as ImageValue, IsImage};
-ghost use Rattle.image_text.specs.ImageText.{image_text as text_of_image};
-ghost use Rattle.sm_cli.specs.Machine.{boot, state_after};
-ghost use Rattle.sm_cli.specs.Trace.{trace};
+ghost use Rattle.schedule_file.specs.declared.Entry.{Entry as EntryValue};
+ghost use Rattle.image_text.specs.Image.{Image as ImageValue};
+ghost use Rattle.written_machine.specs.Peers.{Peers};
+ghost use Rattle.written_machine.specs.Trace.{trace};
+ghost use Rattle.written_machine.specs.View.{at, view_of};
+ghost use Rattle.written_machine.specs.declared.Hidden.TheVariants.{Only};
 ghost use Rattle.sm_cli.specs.declared.answers.Status.{Status as Statuses};
 ghost use Rattle.sm_cli.specs.declared.answers.FileFault.{FileFault as FileFaults};
-ghost use Rattle.sm_cli.specs.Command.{Command, image, command_of};
-ghost use Rattle.sm_cli.specs.Serve.{Answer, IsBuilt, texts, call_of, needs_of, image_file, IsFirstFault, Serves, Refuses, IsAnswer, IsFileCause, IsImageOf, IsRun, IsOrOutside, IsRoomForAnswer, IsRoomForLine, status_of, line_of, run_status, run_answer, Completes};
+ghost use Rattle.sm_cli.specs.Asked.{asked};
+ghost use Rattle.sm_cli.specs.Command.{Command, command_of};
+ghost use Rattle.sm_cli.specs.Serve.{Answer, texts, call_of, needs_of, IsInput, IsFirstFault, Serves, Refuses, IsAnswer, IsNeedCause, IsRun, EndsAs, IsOrOutside, IsRoomForAnswer, IsRoomForLine, status_of, line_of, run_status, answer_from, Completes};
 
-use crate::command::read_command;
+use crate::answers::Refused;
+use crate::command::{ImageCommand, read_command};
 use crate::lines::put_refusal;
-use crate::{Board, FileFault, Ran, Refusal, Status};
-use image_text::{Image, ImageFault};
-use sm_io::{Failed, Files, ReadFault, Sink, read_whole};
+use crate::loading::{load_image, load_schedule};
+use crate::{Refusal, Status};
+use board::{Board, Ran};
+use sm_io::{Failed, Files, Sink};
 use std::alloc::Global;
 
 /// Does all that the program does: the command that the words are, on files and two sinks.
@@ -27,14 +32,16 @@ pub fn serve<F: Files, O: Sink, E: Sink>(
     out: &mut O,
     err: &mut E,
 ) -> Status
-    // The headline: for every image without modules, `out` takes exactly its outside trace, and `err` nothing, but for
-    // faults outside and want of memory.
-    ensures headline { (map : FileMap) (name : List ℕ) (cycles : ℕ) (value : ImageValue) →
-        F.content files.old ≡ Some map → command_of (texts words.now) ≡ Some (image name cycles) →
-        IsImage value → map name ≡ Some (text_of_image value) → length (text_of_image value) ≤ 1048576 → IsBuilt value →
+    // The headline: whatever image, schedule and bound are given, `out` takes exactly the outside trace of the written
+    // machine, and `err` nothing, but for faults outside and want of memory; and for every image that differs in one
+    // confined module's data alone, whose calls give the same registers in the same cycles, it is the same trace, with
+    // equal views of all but that module at every cycle.
+    ensures headline { (value : ImageValue) (entries : List EntryValue) (cycles : ℕ) → IsInput (texts words.now) (F.content files.old) value entries cycles →
         ¬ (Rose (F.faults files.old) (F.faults files.new)) → ¬ (Rose (O.faults out.old) (O.faults out.new)) → ¬ (Rose (E.faults err.old) (E.faults err.new)) → result ≢ Status.NoMemory →
-        Took O.taken O.faults O.sure out.old out.new (trace value cycles) × (err.new ≡ err.old)
-        × (result ≡ run_status (is_some (state_after cycles (boot value)).stop)) }
+        (Took O.taken O.faults O.sure out.old out.new (trace value entries cycles) × (err.new ≡ err.old) × (result ≡ run_status (is_some (at value entries cycles).stop)))
+        × ((other : ImageValue) (m : ℕ) → Peers value other m →
+        Took O.taken O.faults O.sure out.old out.new (trace other entries cycles)
+        × ((k : ℕ) → k ≤ cycles → view_of (at value entries k) (Only m) ≡ view_of (at other entries k) (Only m))) }
 
     // An answer: the words are a command that its files serve; `out` took its output, and `err` nothing.
     ensures done { result ≡ Status.Done → Serves (call_of (texts words.now) (F.content files.old) (F.faults files.old) (F.faults files.new)) Status.Done
@@ -74,22 +81,30 @@ pub fn serve<F: Files, O: Sink, E: Sink>(
         → (result ≢ Status.WriteFault) × (O.faults out.new ≡ O.faults out.old) × (E.faults err.new ≡ E.faults err.old) }
     ensures same_files { F.content files.new ≡ F.content files.old }
 {
+    isolation::two_runs();
+    isolation::texts();
     match read_command(words) {
-        None => tell(err, Refusal::Usage, ""),
-        Some((name, cycles)) => match run_image(alloc, name, cycles, files, out) {
+        None => tell(err, NO_COMMAND),
+        Some(command) => match run_image(alloc, command, files, out) {
             Ok(status) => status,
-            Err(refusal) => tell(err, refusal, name),
+            Err(refused) => tell(err, refused),
         },
     }
 }
 
+// The refusal of words that are no command.
+const NO_COMMAND: Refused<'static> = Refused {
+    refusal: Refusal::Usage,
+    name: "",
+};
+
 // Puts the line of a refusal, and gives its status.
-fn tell<E: Sink>(err: &mut E, refusal: Refusal, name: &str) -> Status
-    ensures told { (result ≡ status_of refusal) × Took E.taken E.faults E.sure err.old err.new (line_of refusal name.now)
-        ⊎ ((result ≡ Status.WriteFault) × CutOff E.taken E.faults E.sure err.old err.new (line_of refusal name.now)) }
+fn tell<E: Sink>(err: &mut E, refused: Refused<'_>) -> Status
+    ensures told { (result ≡ status_of refused.entry.refusal) × Took E.taken E.faults E.sure err.old err.new (line_of refused.entry.refusal refused.entry.name.now)
+        ⊎ ((result ≡ Status.WriteFault) × CutOff E.taken E.faults E.sure err.old err.new (line_of refused.entry.refusal refused.entry.name.now)) }
 {
-    match put_refusal(err, refusal, name.as_bytes()) {
-        Ok(()) => status_for(refusal),
+    match put_refusal(err, refused) {
+        Ok(()) => status_for(refused.refusal),
         Err(Failed) => Status::WriteFault,
     }
 }
@@ -105,70 +120,46 @@ fn status_for(refusal: Refusal) -> Status
     }
 }
 
-// Reads the image, runs it and puts its trace. At a refusal nothing was put.
-#[tactic(auto, unfolding(crate::specs::Machine::boot))]
-fn run_image<F: Files, O: Sink>(
+// Reads the image and then the schedule, runs the machine and puts its trace. At a refusal nothing was put.
+fn run_image<'a, F: Files, O: Sink>(
     alloc: Global,
-    name: &str,
-    cycles: u64,
+    command: ImageCommand<'a>,
     files: &mut F,
     out: &mut O,
-) -> Result<Status, Refusal>
-    requires { cycles ≤ 1000000000 }
-    ensures ok { IfOk result (λ status. IsRun (F.content files.old) name.now cycles status (Took O.taken O.faults O.sure out.old out.new) (CutOff O.taken O.faults O.sure out.old out.new)) }
+) -> Result<Status, Refused<'a>>
+    requires { command.cycles ≤ 1000000000 }
+    ensures ok { IfOk result (λ status. IsRun (F.content files.old) (asked command.entry) status (Took O.taken O.faults O.sure out.old out.new) (CutOff O.taken O.faults O.sure out.old out.new)) }
     ensures quiet { IfOk result (λ _. HasCause (F.faults files.old) (F.faults files.new) false) }
-    ensures refused { IfErr result (λ refusal. IsFileCause image_file (F.content files.old) (F.faults files.old) (F.faults files.new) refusal name.now) }
+    ensures refused { IfErr result (λ refused. IsNeedCause (F.content files.old) (F.faults files.old) (F.faults files.new) (needs_of (asked command.entry)) refused.refusal refused.name.now) }
     ensures nothing { IfErr result (λ _. out.new ≡ out.old) }
     ensures sound { IsTrue (F.sound files.old) → F.faults files.new ≡ F.faults files.old }
-    ensures sound_read { IsTrue (F.sound files.old) → IfErr result (λ refusal. refusal ≢ Refusal.CannotRead) }
+    ensures sound_read { IsTrue (F.sound files.old) → IfErr result (λ refused. refused.refusal ≢ Refusal.CannotRead) }
     ensures same_files { F.content files.new ≡ F.content files.old }
 {
-    let image = match load(alloc, name, files) {
+    let image = match load_image(alloc, command.image, files) {
         Ok(image) => image,
-        Err(refusal) => return Err(refusal),
+        Err(refused) => return Err(refused),
     };
-    match Board::new(alloc, &image) {
-        Ok(board) => Ok(run_board(board, cycles, out)),
-        Err(_) => Err(Refusal::NoMemory),
+    let schedule = match load_schedule(alloc, command.schedule, files) {
+        Ok(schedule) => schedule,
+        Err(refused) => return Err(refused),
+    };
+    match Board::new(alloc, &image, &schedule) {
+        Ok(board) => Ok(run_board(board, command.cycles, out)),
+        Err(_) => Err(Refused {
+            refusal: Refusal::NoMemory,
+            name: command.image,
+        }),
     }
-}
-
-// The image of that file.
-fn load<F: Files>(alloc: Global, name: &str, files: &mut F) -> Result<Image, Refusal>
-    ensures image { IfOk result (λ image. IsImageOf (F.content files.old) name.now image) }
-    ensures quiet { IfOk result (λ _. HasCause (F.faults files.old) (F.faults files.new) false) }
-    ensures refused { IfErr result (λ refusal. IsFileCause image_file (F.content files.old) (F.faults files.old) (F.faults files.new) refusal name.now) }
-    ensures sound { IsTrue (F.sound files.old) → F.faults files.new ≡ F.faults files.old }
-    ensures sound_read { IsTrue (F.sound files.old) → IfErr result (λ refusal. refusal ≢ Refusal.CannotRead) }
-    ensures same_files { F.content files.new ≡ F.content files.old }
-{
-    let bytes = match read_whole(alloc, files, name) {
-        Ok(bytes) => bytes,
-        Err(ReadFault::Failed) => return Err(Refusal::CannotRead),
-        Err(ReadFault::Absent) => return Err(Refusal::BadFile(FileFault::Absent)),
-        Err(ReadFault::TooLong) => return Err(Refusal::BadFile(FileFault::TooLong)),
-        Err(ReadFault::NoMemory) => return Err(Refusal::NoMemory),
-    };
-    let image = match image_text::read(alloc, &bytes) {
-        Ok(image) => image,
-        Err(ImageFault::NoMemory) => return Err(Refusal::NoMemory),
-        Err(fault) => return Err(Refusal::BadFile(FileFault::Image(fault))),
-    };
-    // Ids are given from 1 on, so an image with modules has a module 1.
-    if image.table.get(1).is_some() {
-        return Err(Refusal::BadFile(FileFault::NotBuilt));
-    }
-    Ok(image)
 }
 
 // Runs the board and puts its trace.
 fn run_board<O: Sink>(board: Board, cycles: u64, out: &mut O) -> Status
     requires { board.cycle + cycles ≤ 4611686018427387904 }
-    ensures { run_answer result cycles board (Took O.taken O.faults O.sure out.old out.new) (CutOff O.taken O.faults O.sure out.old out.new) }
+    ensures { EndsAs result (answer_from board cycles) (Took O.taken O.faults O.sure out.old out.new) (CutOff O.taken O.faults O.sure out.old out.new) }
 {
     let mut board = board;
-    let ran = board.run(cycles, out);
-    let status = match ran {
+    let status = match board.run(cycles, out) {
         Ran::Done => Status::Done,
         Ran::Stopped(_) => Status::Stopped,
         Ran::SinkFailed => return Status::WriteFault,
