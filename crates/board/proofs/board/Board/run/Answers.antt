@@ -1,5 +1,4 @@
-use Rattle.std.proofs.Common.{◌≡◌, ℕ, ◌+◌, ◌-◌, ◌<◌, ◌≤◌, List, [], ◌++◌, take, true, is_some, sym, ◌∙◌, ap, subst, arith, rules}
-use Rattle.sm_io.specs.Sink.{Took}
+use Rattle.std.proofs.Common.{◌≡◌, ℕ, ◌+◌, ◌-◌, List, ◌++◌, take, true, is_some, sym, ◌∙◌, ap, subst, arith, rules}
 use Rattle.sm_io.proofs.Putting.{appends_then, appends_same, took_same, took_then, cut_within}
 use Rattle.written_machine.specs.Cycle.{cycle, after_cycles}
 use Rattle.written_machine.specs.State.{State}
