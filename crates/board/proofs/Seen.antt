@@ -1,6 +1,5 @@
 -- What a caller sees of a board follows from the laws of the written machine.
-use Rattle.std.proofs.Common.{◌≡◌, List, None, Option, refl, sym, ◌∙◌, ap}
-use Rattle.pc_access.specs.declared.Stop.{Stop}
+use Rattle.std.proofs.Common.{◌≡◌, List, None, sym, ◌∙◌, ap}
 use Rattle.tracer.specs.declared.Event.{Event}
 use Rattle.written_machine.specs.Cycle.{cycle}
 use Rattle.written_machine.specs.State.{State}

@@ -98,7 +98,8 @@ impl Board {
     /// the cycle whose lines were refused, and they are not put again.
     pub fn run<S: Sink>(&mut self, cycles: u64, sink: &mut S) -> Ran
         requires { self.old.cycle + cycles ≤ 2 ^ 62 }
-        ensures { Runs S.taken S.faults S.sure cycles self.old self.new sink.old sink.new result }
+        ensures ran { Runs S.taken S.faults S.sure cycles self.old self.new sink.old sink.new result }
+        ensures number { self.new.cycle ≤ self.old.cycle + cycles }
     {
         for _done in 0..cycles {
             if self.is_stopped() {

@@ -1,5 +1,7 @@
 //! A module that is called and interrupted, run by pulses of line 0, and what is seen meanwhile.
 
+ghost use Rattle.std.specs.Prelude.{◌≡◌, IfOk};
+
 use crate::{Board, Ran};
 use pc_access::{Rule, Stop};
 use reg_backup::FrameKind;
@@ -65,7 +67,9 @@ const PULSE_AT_12: &str = "\
 end 40 outside 0214 0600 0008 0000 0000 0000 0000 0214 0000 0000 0000 0000 0000 0000 0000 0000
 ";
 
-fn board(alloc: Global, schedule: &str) -> Result<Board, Fail> {
+fn board(alloc: Global, schedule: &str) -> Result<Board, Fail>
+    ensures { IfOk result (λ board. board.cycle ≡ 0) }
+{
     let image = image_text::read(alloc, IMAGE.as_bytes())?;
     let schedule = read_schedule(alloc, schedule.as_bytes())?;
     Ok(Board::new(alloc, &image, &schedule)?)

@@ -1,5 +1,4 @@
-use Rattle.std.proofs.Common.{◌≡◌, ℕ, ◌+◌, ◌-◌, ◌<◌, ◌≤◌, List, [], ◌++◌, take, true, is_some, sym, ◌∙◌, ap, subst, arith, rules}
-use Rattle.sm_io.specs.Sink.{Took}
+use Rattle.std.proofs.Common.{◌≡◌, ℕ, ◌+◌, ◌-◌, List, ◌++◌, take, true, is_some, sym, ◌∙◌, ap, subst, arith, rules}
 use Rattle.sm_io.proofs.Putting.{appends_then, appends_same, took_same, took_then, cut_within}
 use Rattle.written_machine.specs.Cycle.{cycle, after_cycles}
 use Rattle.written_machine.specs.State.{State}
@@ -8,23 +7,23 @@ use Rattle.board.specs.Ran.{RanWhole}
 use Rattle.board.proofs.Runs.{cycle_lines, ended_runs, stopped_early, state_more, lines_are, lines_next, lines_within}
 use Rattle.board.proofs.board.Board.run.Goals as goal
 
-pub returns : goal.returns
-returns g c =
+pub returns-clause-ran : goal.returns-clause-ran
+returns-clause-ran g c =
     let i = c.loop-done.invariant in
     let n_is : c.loop-done._done ≡ c.args.cycles = omega arith in
     let whole = subst (λ n. RanWhole g.S.Sink.taken g.S.Sink.faults g.S.Sink.sure n c.args.self.now c.loop-done.self c.args.sink.now c.loop-done.sink) n_is record { state = i.state; lines = i.lines } in
     ended_runs g.S.Sink.taken g.S.Sink.faults g.S.Sink.sure c.args.cycles c.args.self.now c.loop-done.self c.args.sink.now c.loop-done.sink _ whole c.ended-2.ensures
 
-pub returns-then-is_stopped : goal.returns-then-is_stopped
-returns-then-is_stopped g c =
+pub returns-then-is_stopped-clause-ran : goal.returns-then-is_stopped-clause-ran
+returns-then-is_stopped-clause-ran g c =
     let i = c.loop-done.invariant in
     let stopped : is_some c.loop-done.self.stop ≡ true = search rules in
     let early = stopped_early c.loop-done._done c.args.cycles c.args.self.now c.loop-done.self (omega (arith, c.loop-done-test.true)) i.state stopped in
     let whole : RanWhole g.S.Sink.taken g.S.Sink.faults g.S.Sink.sure c.args.cycles c.args.self.now c.loop-done.self c.args.sink.now c.loop-done.sink = record { state = early.0; lines = took_same g.S.Sink.taken g.S.Sink.faults g.S.Sink.sure _ _ _ _ early.1 i.lines } in
     ended_runs g.S.Sink.taken g.S.Sink.faults g.S.Sink.sure c.args.cycles c.args.self.now c.loop-done.self c.args.sink.now c.loop-done.sink _ whole c.ended.ensures
 
-pub returns-in-Err : goal.returns-in-Err
-returns-in-Err g c =
+pub returns-in-Err-clause-ran : goal.returns-in-Err-clause-ran
+returns-in-Err-clause-ran g c =
     let i = c.loop-done.invariant in
     let n = c.loop-done._done in
     let s = c.args.self.now in
