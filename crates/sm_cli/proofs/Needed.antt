@@ -1,6 +1,5 @@
 -- The files that a command needs: where they serve, there is one answer and no fault.
 use Rattle.std.proofs.Common.{◌≡◌, ℕ, List, Option, Some, None, sym, ◌∙◌, ap, subst, arith, inl, inr}
-use Rattle.sm_io.specs.Faults.{HasCause}
 use Rattle.sm_io.specs.Files.{FileMap}
 use Rattle.image_text.specs.Image.{Image}
 use Rattle.image_text.specs.ImageText.{image_text}

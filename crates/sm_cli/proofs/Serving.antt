@@ -1,5 +1,5 @@
 -- From the parts of a call of `serve` to what it gives.
-use Rattle.std.proofs.Common.{◌≡◌, ◌≢◌, ℕ, ◌≤◌, ◌<◌, Bool, true, false, List, length, Option, Some, None, is_some, refl, sym, ◌∙◌, ap, subst, arith, inl, inr, ◌⊎◌}
+use Rattle.std.proofs.Common.{◌≡◌, ◌≢◌, ℕ, ◌≤◌, false, List, length, Option, Some, refl, sym, ◌∙◌, subst, arith, inl, inr, ◌⊎◌}
 use Rattle.sm_io.specs.Faults.{HasCause, Rose}
 use Rattle.sm_io.specs.Files.{FileMap}
 use Rattle.sm_io.specs.Sink.{Took, CutOff}

@@ -1,5 +1,5 @@
 // Lines of text, put to a sink.
-ghost use Rattle.std.specs.Prelude.{◌≡◌, ◌++◌, codes};
+ghost use Rattle.std.specs.Prelude.{◌++◌, codes};
 ghost use Rattle.std.specs.Fmt.{decimal};
 ghost use Rattle.sm_io.specs.Sink.{Puts};
 ghost use Rattle.sm_cli.specs.Serve.{line_of, fault_text, image_fault_text, schedule_fault_text, table_fault_text};

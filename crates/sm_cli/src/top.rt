@@ -81,6 +81,7 @@ pub fn serve<F: Files, O: Sink, E: Sink>(
         → (result ≢ Status.WriteFault) × (O.faults out.new ≡ O.faults out.old) × (E.faults err.new ≡ E.faults err.old) }
     ensures same_files { F.content files.new ≡ F.content files.old }
 {
+    // These do nothing: their clauses are the laws of two runs, for the headline's second half.
     isolation::two_runs();
     isolation::texts();
     match read_command(words) {

@@ -1,4 +1,4 @@
-use Rattle.std.proofs.Common.{ap, ◌∙◌}
+use Rattle.std.proofs.Common.{◌∙◌}
 use Rattle.std.specs.Fmt.{decimal}
 use Rattle.sm_io.proofs.Putting.{cut_first, puts_last, puts_same}
 use Rattle.sm_cli.proofs.lines.put_field.Goals as goal

@@ -1,4 +1,3 @@
-use Rattle.std.proofs.Common.{ℕ, List, ◌++◌}
 use Rattle.sm_io.proofs.Putting.{cut_first, cut_later, puts_last}
 use Rattle.sm_cli.proofs.lines.put_named.Goals as goal
 

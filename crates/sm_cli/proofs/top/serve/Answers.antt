@@ -1,4 +1,4 @@
-use Rattle.std.proofs.Common.{◌≡◌, [], inl, inr, refl, sym, ◌∙◌, ap, subst, Some}
+use Rattle.std.proofs.Common.{[], inl, inr, refl, sym, ap, subst}
 use Rattle.sm_io.specs.Sink.{Took, CutOff}
 use Rattle.sm_cli.specs.Asked.{asked}
 use Rattle.sm_cli.specs.Command.{image}
