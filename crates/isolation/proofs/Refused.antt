@@ -1,6 +1,5 @@
 -- A cycle is stopped by the first of its checks that is refused, and by nothing else.
-use Rattle.std.proofs.Common.{◌≡◌, ℕ, zero, suc, List, [], ◌∷◌, ◌-◌, map, refl, sym, ap, ◌∙◌, subst, Bool, true, false, not, Option, Some, None, is_none}
-use Rattle.sm_words.specs.Words.{word_at}
+use Rattle.std.proofs.Common.{◌≡◌, ℕ, zero, suc, List, [], ◌∷◌, ◌-◌, map, refl, sym, ap, ◌∙◌, Bool, true, false, not, Option, Some, None, is_none}
 use Rattle.insn_decode.specs.Code.{insn_of, length_of, length_or_one, length_at}
 use Rattle.insn_decode.specs.declared.insn.Insn.{Insn}
 use Rattle.insn_decode.specs.declared.insn.Insn.TheVariants.{Two, One, Jump, Reti, Unit as UnitOp}
@@ -22,8 +21,8 @@ use Rattle.reg_backup.specs.declared.frames.Frame.TheVariants.{Plain, Module as 
 use Rattle.attest.specs.Units.{Doer, UnitName, Unprotect, Protect, Attest, Tag, IdOf, OwnId, CallerId, unit_named, unit_plan}
 use Rattle.cpu_step.specs.Asked.{asks}
 use Rattle.cpu_step.specs.Fetched.{insn_at, later_word}
-use Rattle.written_machine.specs.Checks.{active_at, entered, first_word, insn_in, asked_to_return, asked_by, returns_inside, check_of, checks_inside, insn_checks, checks_unless, checks_by, checks, first_refused, stop_at, stop_of, refused_in}
-use Rattle.written_machine.specs.Cycle.{Step, quiet, padded, told, pc_of, byte_of, settle, ticked, due, arrive_inside, arrive_outside, push_both, pushes, who_of, perform, perform_unless, attempt, returned_by, reti_by, reti_of, act_by, act_on, act_home, act_first, act, is_home, enter_at, enter, fetch, begin_unless, begin, unless, asleep, turn_by, turn, counted_by, move, cycle_by, cycle}
+use Rattle.written_machine.specs.Checks.{active_at, entered, first_word, insn_in, asked_to_return, asked_by, returns_inside, check_of, checks_inside, insn_checks, checks_unless, checks_by, first_refused, stop_at, stop_of, refused_in}
+use Rattle.written_machine.specs.Cycle.{Step, padded, told, pc_of, byte_of, settle, ticked, due, arrive_inside, arrive_outside, push_both, pushes, who_of, perform, perform_unless, attempt, returned_by, reti_by, reti_of, act_by, act_on, act_home, act_first, act, is_home, enter_at, enter, fetch, begin_unless, begin, unless, asleep, turn_by, turn, counted_by, move, cycle_by, cycle}
 use Rattle.written_machine.specs.State.{State}
 use Rattle.isolation.proofs.Stopping.{settle_settles, ticked_stop, enter_silent}
 

@@ -1,5 +1,5 @@
 -- The checks of a cycle in their order, and the stop by the first that is refused.
-use Rattle.std.specs.Prelude.{ℕ, zero, suc, List, [], ◌∷◌, map, Bool, true, false, not, Option, Some, None, is_none}
+use Rattle.std.specs.Prelude.{ℕ, zero, List, [], ◌∷◌, map, Bool, true, false, not, Option, Some, None, is_none}
 use Rattle.sm_words.specs.Words.{word_at}
 use Rattle.insn_decode.specs.Code.{insn_of, length_at}
 use Rattle.insn_decode.specs.declared.insn.Insn.{Insn}
