@@ -2,6 +2,7 @@
 
 ghost use Rattle.std.specs.Prelude.{◌≡◌, ◌+◌, ◌<◌, ◌≤◌, ◌^◌, [], IfOk, IsSome, is_some, None};
 ghost use Rattle.isolation.specs.Calls.{stop_in};
+ghost use Rattle.written_machine.specs.Checks.{refused_in};
 ghost use Rattle.written_machine.specs.Cycle.{cycle};
 ghost use Rattle.written_machine.specs.Script.{stands_at};
 ghost use Rattle.written_machine.specs.Trace.{end_of, end_line_of, lines_of};
@@ -85,6 +86,9 @@ impl Board {
 
         // A stop is told exactly where the machine stops, and it is that stop.
         ensures stop { self.old.stop ≡ None → stop_in result.items ≡ self.new.stop }
+
+        // A run stops exactly where a check of the cycle is refused, and by the first one refused.
+        ensures refused { self.old.stop ≡ None → self.new.stop ≡ refused_in self.old }
 
         // Images that differ in one confined module's data alone tell the same.
         ensures peers { PeersTell self.old result.items }

@@ -34,3 +34,4 @@ pub mod Few
 pub mod Framed
 pub mod Filled
 pub mod Stopping
+pub mod Refused

@@ -112,7 +112,7 @@ enter_at_silent Open a left s = (refl, refl)
 enter_at_silent (Text id) a left s = (refl, refl)
 enter_at_silent (Data id) a left s = (refl, refl)
 
-enter_silent : (left : ℕ) (s : State) → Silent (enter left s).events × ((enter left s).state.stop ≡ s.stop)
+pub enter_silent : (left : ℕ) (s : State) → Silent (enter left s).events × ((enter left s).state.stop ≡ s.stop)
 unfolding enter
 enter_silent left s = enter_at_silent (place_of s.table (pc_of s)) s.active left s
 
@@ -190,11 +190,11 @@ settle_in_settles (Run zero) s = settle_by_settles s.after s
 settle_in_settles (Run (suc r)) s = (refl, refl)
 settle_in_settles (Pad n) s = (refl, refl)
 
-settle_settles : (s : State) → Settles s (settle s)
+pub settle_settles : (s : State) → Settles s (settle s)
 unfolding settle
 settle_settles s = settle_in_settles s.phase s
 
-ticked_stop : (s : State) → (ticked s).stop ≡ s.stop
+pub ticked_stop : (s : State) → (ticked s).stop ≡ s.stop
 unfolding ticked
 ticked_stop s = refl
 

@@ -12,6 +12,7 @@ use Rattle.pc_access.specs.declared.Kind.TheVariants.{Write}
 use Rattle.image_text.specs.Image.{Image, IsImage}
 use Rattle.attest.specs.Units.{each_byte, text_reads}
 use Rattle.cpu_step.specs.Lone.{outcome, lone_after}
+use Rattle.written_machine.specs.Checks.{refused_in}
 use Rattle.written_machine.specs.Cycle.{cycle, after_cycles, gie}
 use Rattle.written_machine.specs.Peers.{Peers}
 use Rattle.written_machine.specs.Script.{play, stands_at}
@@ -156,6 +157,11 @@ EventsFew = (s : State) → length (cycle s).events ≤ 4
 -- address and the module of the first check that was refused.
 abbrev pub StopTold : Type 0
 StopTold = (s : State) → s.stop ≡ None → stop_in (cycle s).events ≡ (cycle s).state.stop
+
+-- A machine that runs is stopped after a cycle exactly where a check of that cycle is refused, by the first one refused, with the PC as
+-- the settled cycle finds it: nothing else stops a run.
+abbrev pub StopRefused : Type 0
+StopRefused = (s : State) → s.stop ≡ None → (cycle s).state.stop ≡ refused_in s
 
 -- Reads of a module's text are refused to no one: so of a unit instruction's accesses only those are refused that its registers name.
 abbrev pub TextReadable : Type 0

@@ -4,7 +4,7 @@
 //! Each law is what a function here ensures; `specs/Laws.antt` states them in words.
 #![tactic(auto)]
 
-ghost use Rattle.isolation.specs.Laws.{SameViews, SameEvents, SamePhases, SameCallers, SameGie, SameOnceGone, SameTraces, SameOutsideViews, SameStanding, SamePlays, EnteredIsKnown, Transparency, Cost, HandlerAfterHide, HideBeforeHandler, Numbered, CoreKept, MemoryFull, MemoryBytes, TableKept, ModuleOnce, FramesFew, EventsFew, StopTold, TextReadable, ZerosWritable};
+ghost use Rattle.isolation.specs.Laws.{SameViews, SameEvents, SamePhases, SameCallers, SameGie, SameOnceGone, SameTraces, SameOutsideViews, SameStanding, SamePlays, EnteredIsKnown, Transparency, Cost, HandlerAfterHide, HideBeforeHandler, Numbered, CoreKept, MemoryFull, MemoryBytes, TableKept, ModuleOnce, FramesFew, EventsFew, StopTold, StopRefused, TextReadable, ZerosWritable};
 
 /// Two runs of peers are seen alike by all but the one module, and tell the same, in every cycle of every schedule.
 pub fn two_runs()
@@ -52,10 +52,11 @@ pub fn states()
     ensures few { FramesFew }
 {}
 
-/// A cycle tells at most four events, and of a stop exactly where it stops.
+/// A cycle tells at most four events, and of a stop exactly where it stops, which is where a check is refused.
 pub fn tells()
     ensures few { EventsFew }
     ensures stop { StopTold }
+    ensures refused { StopRefused }
 {}
 
 /// What no one is refused.

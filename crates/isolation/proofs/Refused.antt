@@ -1,0 +1,258 @@
+-- A cycle is stopped by the first of its checks that is refused, and by nothing else.
+use Rattle.std.proofs.Common.{◌≡◌, ℕ, zero, suc, List, [], ◌∷◌, ◌-◌, map, refl, sym, ap, ◌∙◌, Bool, true, false, not, Option, Some, None, is_none}
+use Rattle.insn_decode.specs.Code.{insn_of, length_of, length_or_one, length_at}
+use Rattle.insn_decode.specs.declared.insn.Insn.{Insn}
+use Rattle.insn_decode.specs.declared.insn.Insn.TheVariants.{Two, One, Jump, Reti, Unit as UnitOp}
+use Rattle.insn_decode.proofs.Unread.{none_outside, outside_none}
+use Rattle.mod_layout.specs.Table.{Table, place_of}
+use Rattle.mod_layout.specs.declared.Place.{Place}
+use Rattle.mod_layout.specs.declared.Place.TheVariants.{Open, Entry, Text, Data}
+use Rattle.pc_access.specs.Rights.{first_denied, or_else, right, refuse_if}
+use Rattle.pc_access.specs.declared.Access.{Access}
+use Rattle.pc_access.specs.declared.Denied.{Denied}
+use Rattle.pc_access.specs.declared.Rule.TheVariants.{RetiInside, Straddle, Illegal}
+use Rattle.pc_access.specs.declared.Stop.{Stop}
+use Rattle.reg_backup.specs.Held.{held_ids}
+use Rattle.reg_backup.specs.declared.backup.After.{After}
+use Rattle.reg_backup.specs.declared.backup.Phase.{Phase}
+use Rattle.reg_backup.specs.declared.backup.Phase.TheVariants.{Run, Pad}
+use Rattle.reg_backup.specs.declared.frames.Frame.{Frame}
+use Rattle.reg_backup.specs.declared.frames.Frame.TheVariants.{Plain, Module as Held}
+use Rattle.attest.specs.Units.{Doer, UnitName, Unprotect, Protect, Attest, Tag, IdOf, OwnId, CallerId, unit_named, unit_plan}
+use Rattle.cpu_step.specs.Asked.{asks}
+use Rattle.cpu_step.specs.Fetched.{insn_at, later_word}
+use Rattle.written_machine.specs.Checks.{active_at, entered, first_word, insn_in, asked_to_return, asked_by, returns_inside, check_of, checks_inside, insn_checks, checks_unless, checks_by, first_refused, stop_at, stop_of, refused_in}
+use Rattle.written_machine.specs.Cycle.{Step, padded, told, pc_of, byte_of, settle, ticked, due, arrive_inside, arrive_outside, push_both, pushes, who_of, perform, perform_unless, attempt, returned_by, reti_by, reti_of, act_by, act_on, act_home, act_first, act, is_home, enter_at, enter, fetch, begin_unless, begin, unless, asleep, turn_by, turn, counted_by, move, cycle_by, cycle}
+use Rattle.written_machine.specs.State.{State}
+use Rattle.isolation.proofs.Stopping.{settle_settles, ticked_stop, enter_silent}
+
+-- the step leaves the machine stopped by this refusal in this state, and running where there is none
+abbrev Stops : Step → Option Denied → State → Type 0
+Stops t d s = t.state.stop ≡ stop_at d s
+
+-- the first refusal among accesses is the first of their checks
+first_of_map : (t : Table) (active : Option ℕ) (held : List ℕ) (xs : List Access) → first_refused (map (right t active held) xs) ≡ first_denied t active held xs
+first_of_map t active held [] = refl
+first_of_map t active held (x ∷ xs) = ap (or_else (right t active held x)) (first_of_map t active held xs)
+
+-- ---- an instruction
+
+-- the first refusal among accesses that a state's module asks for
+abbrev refusal : List Access → State → Option Denied
+refusal xs s = first_denied s.table s.active (held_ids s.frames) xs
+
+perform_stop : (insn : Insn) (s : State) → (perform insn s).state.stop ≡ s.stop
+unfolding perform
+perform_stop insn s = refl
+
+unless_stops : (d : Option Denied) (insn : Insn) (s : State) → s.stop ≡ None → Stops (perform_unless d insn s) d s
+unless_stops (Some d) insn s h = refl
+unless_stops None insn s h = perform_stop insn s ∙ h
+
+attempt_stops : (insn : Insn) (s : State) → s.stop ≡ None → Stops (attempt insn s) (refusal (asks (who_of s) insn s.core) s) s
+unfolding attempt
+attempt_stops insn s h = unless_stops (refusal (asks (who_of s) insn s.core) s) insn s h
+
+returned_stop : (o : Option Stop) (t : Step) → (returned_by o t).state.stop ≡ t.state.stop
+returned_stop (Some stop) t = refl
+returned_stop None t = refl
+
+reti_stops : (fs : List Frame) (s : State) → s.stop ≡ None → Stops (reti_by fs s) (refusal (asked_to_return fs s) s) s
+reti_stops [] s h = returned_stop (attempt Reti s).state.stop (attempt Reti s) ∙ attempt_stops Reti s h
+reti_stops (Plain ∷ fs) s h = returned_stop (attempt Reti s).state.stop (attempt Reti s) ∙ attempt_stops Reti s h
+reti_stops (Held b ∷ fs) s h = h
+
+-- the refusal of RETI inside a module, or else of an access
+abbrev late : Option Insn → Option ℕ → State → Option Denied
+late o active s = or_else (refuse_if (returns_inside o active) RetiInside (pc_of s) 0) (refusal (asked_by o s) s)
+
+reti_of_stops : (a : Option ℕ) (s : State) → s.stop ≡ None → Stops (reti_of a s) (late (Some Reti) a s) s
+reti_of_stops (Some id) s h = refl
+reti_of_stops None s h = reti_stops s.frames s h
+
+act_by_stops : (insn : Insn) (s : State) → s.stop ≡ None → Stops (act_by insn s) (late (Some insn) s.active s) s
+act_by_stops Reti s h = reti_of_stops s.active s h
+act_by_stops (Two op w a b) s h = attempt_stops (Two op w a b) s h
+act_by_stops (One op w a) s h = attempt_stops (One op w a) s h
+act_by_stops (Jump c o) s h = attempt_stops (Jump c o) s h
+act_by_stops (UnitOp n) s h = attempt_stops (UnitOp n) s h
+
+-- words whose first is in the code table mean an instruction, whatever the others are
+some_all : (w0 w1 w2 : ℕ) (first : Insn) → insn_of w0 0 0 ≡ Some first → insn_of w0 w1 w2 ≡ None → ⊥
+some_all w0 w1 w2 first e n = let z : insn_of w0 0 0 ≡ None = outside_none w0 0 0 (none_outside w0 w1 w2 n) in absurd cc
+
+act_on_stops : (o : Option Insn) (s : State) → s.stop ≡ None → (o ≡ None → ⊥) → Stops (act_on o s) (late o s.active s) s
+act_on_stops None s h no_none = absurd (no_none refl)
+act_on_stops (Some insn) s h no_none = act_by_stops insn s h
+
+-- the refusal of a place away from home, or else a later one
+abbrev middle : Bool → Option Insn → State → Option Denied
+middle home o s = or_else (refuse_if (not home) Straddle (pc_of s) 0) (late o s.active s)
+
+act_home_stops : (b : Bool) (n : ℕ) (s : State) → s.stop ≡ None → (insn_at (byte_of s) (pc_of s) n ≡ None → ⊥) → Stops (act_home b n s) (middle b (insn_at (byte_of s) (pc_of s) n) s) s
+act_home_stops false n s h some = refl
+act_home_stops true n s h some = act_on_stops (insn_at (byte_of s) (pc_of s) n) s h some
+
+-- by what the first word means
+abbrev inside_by : Option Insn → State → Option Denied
+inside_by o s =
+    let n = length_or_one o in
+    or_else (refuse_if (is_none o) Illegal (pc_of s) 0) (middle (is_home s.table s.active (pc_of s) n) (insn_at (byte_of s) (pc_of s) n) s)
+
+act_first_stops : (o : Option Insn) (s : State) → insn_of (first_word s) 0 0 ≡ o → s.stop ≡ None → Stops (act_first o s) (inside_by o s) s
+act_first_stops None s e h = refl
+act_first_stops (Some first) s e h =
+    let n = length_of first in
+    act_home_stops (is_home s.table s.active (pc_of s) n) n s h (some_all (first_word s) (later_word (byte_of s) (pc_of s) n 1) (later_word (byte_of s) (pc_of s) n 2) first e)
+
+-- the same checks as a list
+inside_is : (s : State) → first_refused (checks_inside s) ≡ inside_by (insn_of (first_word s) 0 0) s
+inside_is s =
+    let n = length_at (first_word s) in
+    let accesses = asked_by (insn_in s) s in
+    ap (λ d. or_else (refuse_if (is_none (insn_of (first_word s) 0 0)) Illegal (pc_of s) 0) (or_else (refuse_if (not (is_home s.table s.active (pc_of s) n)) Straddle (pc_of s) 0) (or_else (refuse_if (returns_inside (insn_in s) s.active) RetiInside (pc_of s) 0) d))) (first_of_map s.table s.active (held_ids s.frames) accesses)
+
+act_stops : (s : State) → s.stop ≡ None → Stops (act s) (first_refused (checks_inside s)) s
+unfolding act
+act_stops s h = act_first_stops (insn_of (first_word s) 0 0) s refl h ∙ ap (λ d. stop_at d s) (sym (inside_is s))
+
+-- ---- an entry
+
+-- no access of an instruction depends on the caller
+unit_caller : (u : UnitName) (who : Doer) (caller : ℕ) (core : List ℕ) → unit_plan (record who { caller = caller }) u core ≡ unit_plan who u core
+unfolding unit_plan
+unit_caller Unprotect who caller core = refl
+unit_caller Protect who caller core = refl
+unit_caller Attest who caller core = refl
+unit_caller Tag who caller core = refl
+unit_caller IdOf who caller core = refl
+unit_caller OwnId who caller core = refl
+unit_caller CallerId who caller core = refl
+
+asks_caller : (insn : Insn) (who : Doer) (caller : ℕ) (core : List ℕ) → asks (record who { caller = caller }) insn core ≡ asks who insn core
+unfolding asks
+asks_caller (UnitOp n) who caller core = unit_caller (unit_named n) who caller core
+asks_caller Reti who caller core = refl
+asks_caller (Two op w a b) who caller core = refl
+asks_caller (One op w a) who caller core = refl
+asks_caller (Jump c o) who caller core = refl
+
+-- a state with another caller, and with something else to settle
+abbrev called : ℕ → After → State → State
+called caller after s = record s { caller = caller; after = after }
+
+return_called : (fs : List Frame) (caller : ℕ) (after : After) (s : State) → asked_to_return fs (called caller after s) ≡ asked_to_return fs s
+return_called [] caller after s = asks_caller Reti (who_of s) caller s.core
+return_called (Plain ∷ fs) caller after s = asks_caller Reti (who_of s) caller s.core
+return_called (Held b ∷ fs) caller after s = refl
+
+asked_called : (o : Option Insn) (caller : ℕ) (after : After) (s : State) → asked_by o (called caller after s) ≡ asked_by o s
+asked_called None caller after s = refl
+asked_called (Some Reti) caller after s = return_called s.frames caller after s
+asked_called (Some (Two op w a b)) caller after s = asks_caller (Two op w a b) (who_of s) caller s.core
+asked_called (Some (One op w a)) caller after s = asks_caller (One op w a) (who_of s) caller s.core
+asked_called (Some (Jump c o)) caller after s = asks_caller (Jump c o) (who_of s) caller s.core
+asked_called (Some (UnitOp n)) caller after s = asks_caller (UnitOp n) (who_of s) caller s.core
+
+inside_called : (caller : ℕ) (after : After) (s : State) → checks_inside (called caller after s) ≡ checks_inside s
+inside_called caller after s =
+    let n = length_at (first_word s) in
+    ap (λ xs. refuse_if (is_none (insn_of (first_word s) 0 0)) Illegal (pc_of s) 0 ∷ refuse_if (not (is_home s.table s.active (pc_of s) n)) Straddle (pc_of s) 0 ∷ refuse_if (returns_inside (insn_in s) s.active) RetiInside (pc_of s) 0 ∷ map (check_of s.active s) xs) (asked_called (insn_in s) caller after s)
+
+-- the checks of a state once a module is entered
+abbrev once : Option ℕ → State → List (Option Denied)
+once active s = checks_inside (record s { active = active })
+
+enter_at_checks : (p : Place) (a : Option ℕ) (left : ℕ) (s : State) → s.active ≡ a → checks_inside (enter_at p a left s).state ≡ once (active_at a p) s
+enter_at_checks (Entry id) None left s e = inside_called left After.Next (record s { active = Some id })
+enter_at_checks Open None left s e = ap (λ a. once a s) e
+enter_at_checks (Text id) None left s e = ap (λ a. once a s) e
+enter_at_checks (Data id) None left s e = ap (λ a. once a s) e
+enter_at_checks Open (Some x) left s e = ap (λ a. once a s) e
+enter_at_checks (Entry id) (Some x) left s e = ap (λ a. once a s) e
+enter_at_checks (Text id) (Some x) left s e = ap (λ a. once a s) e
+enter_at_checks (Data id) (Some x) left s e = ap (λ a. once a s) e
+
+enter_at_core : (p : Place) (a : Option ℕ) (left : ℕ) (s : State) → (enter_at p a left s).state.core ≡ s.core
+enter_at_core (Entry id) None left s = refl
+enter_at_core (Entry id) (Some x) left s = refl
+enter_at_core Open a left s = refl
+enter_at_core (Text id) a left s = refl
+enter_at_core (Data id) a left s = refl
+
+-- what an entry leaves is checked as the state in which the module is active, at the same PC
+enter_checks : (left : ℕ) (s : State) → (checks_inside (enter left s).state ≡ checks_inside (entered s)) × ((enter left s).state.core ≡ s.core)
+unfolding enter
+enter_checks left s = (enter_at_checks (place_of s.table (pc_of s)) s.active left s refl, enter_at_core (place_of s.table (pc_of s)) s.active left s)
+
+-- a stop depends on no more than the registers
+stop_core : (d : Option Denied) (s t : State) → s.core ≡ t.core → stop_at d s ≡ stop_at d t
+stop_core None s t e = refl
+stop_core (Some d) s t e = ap (λ c. stop_at (Some d) (record s { core = c })) e
+
+-- ---- a turn
+begin_by_stops : (d : Option Denied) (left : ℕ) (s : State) → s.stop ≡ None → Stops (begin_unless d left s) (or_else d (first_refused (checks_inside (entered s)))) s
+begin_by_stops (Some d) left s h = refl
+begin_by_stops None left s h =
+    let e = (enter left s).state in
+    let x = enter_checks left s in
+    act_stops e ((enter_silent left s).1 ∙ h) ∙ stop_core (first_refused (checks_inside e)) e s x.1 ∙ ap (λ cs. stop_at (first_refused cs) s) x.0
+
+begin_stops : (left : ℕ) (s : State) → s.stop ≡ None → Stops (begin left s) (first_refused (insn_checks s)) s
+unfolding begin
+begin_stops left s h = begin_by_stops (right s.table s.active (held_ids s.frames) (fetch s)) left s h
+
+asleep_stops : (x : Bool) (left : ℕ) (s : State) → s.stop ≡ None → Stops (unless x left s) (first_refused (checks_unless x s)) s
+asleep_stops true left s h = h
+asleep_stops false left s h = begin_stops left s h
+
+push_stops : (d : Option Denied) (v : ℕ) (s : State) → s.stop ≡ None → Stops (push_both d v s) d s
+push_stops (Some d) v s h = refl
+push_stops None v s h = h
+
+outside_stops : (v : ℕ) (s : State) → s.stop ≡ None → Stops (arrive_outside v s) (first_refused (map (check_of None s) (pushes s))) s
+unfolding arrive_outside
+outside_stops v s h =
+    push_stops (first_denied s.table None (held_ids s.frames) (pushes s)) v s h ∙ ap (λ d. stop_at d s) (sym (first_of_map s.table None (held_ids s.frames) (pushes s)))
+
+inside_stops : (v id : ℕ) (s : State) → (arrive_inside v id s).state.stop ≡ s.stop
+unfolding arrive_inside
+inside_stops v id s = refl
+
+padded_stops : (n : ℕ) (s : State) → (padded n s).stop ≡ s.stop
+padded_stops zero s = refl
+padded_stops (suc n) s = refl
+
+by_stops : (d a : Option ℕ) (p : Phase) (left : ℕ) (s : State) → s.stop ≡ None → Stops (turn_by d a p left s) (first_refused (checks_by d a p s)) s
+by_stops None None (Pad n) left s h = padded_stops (n - 1) s ∙ h
+by_stops None (Some id) (Pad n) left s h = padded_stops (n - 1) s ∙ h
+by_stops (Some v) None (Pad n) left s h = padded_stops (n - 1) s ∙ h
+by_stops (Some v) (Some id) (Pad n) left s h = padded_stops (n - 1) s ∙ h
+by_stops (Some v) (Some id) (Run zero) left s h = inside_stops v id s ∙ h
+by_stops (Some v) (Some id) (Run (suc r)) left s h = inside_stops v id s ∙ h
+by_stops (Some v) None (Run zero) left s h = outside_stops v s h
+by_stops (Some v) None (Run (suc r)) left s h = h
+by_stops None None (Run (suc r)) left s h = h
+by_stops None (Some id) (Run (suc r)) left s h = h
+by_stops None None (Run zero) left s h = asleep_stops (asleep s) left s h
+by_stops None (Some id) (Run zero) left s h = begin_stops left s h
+
+turn_stops : (left : ℕ) (s : State) → s.stop ≡ None → (turn left s).state.stop ≡ stop_of s
+unfolding turn
+turn_stops left s h = by_stops (due s) s.active s.phase left s h
+
+-- ---- a cycle
+counted_stop : (o : Option Stop) (t : Step) → (counted_by o t).state.stop ≡ t.state.stop
+counted_stop (Some stop) t = refl
+counted_stop None t = refl
+
+move_stops : (s : State) → s.stop ≡ None → (move s).state.stop ≡ refused_in s
+unfolding move
+move_stops s h =
+    let u = settle (ticked s) in
+    let t = turn u.left u.state in
+    counted_stop t.state.stop (told u.events t) ∙ turn_stops u.left u.state ((settle_settles (ticked s)).1 ∙ ticked_stop s ∙ h)
+
+-- a machine that runs is stopped by the first check that is refused, and by nothing else
+pub refused_told : (s : State) → s.stop ≡ None → (cycle s).state.stop ≡ refused_in s
+refused_told s h = ap (λ o. (cycle_by o s).state.stop) h ∙ move_stops s h
