@@ -1,11 +1,11 @@
 -- Every access of a unit instruction is to a byte of the memory, past the devices.
-use Rattle.std.proofs.Common.{◌≡◌, ◌≢◌, ℕ, zero, suc, ◌+◌, ◌-◌, ◌<◌, ◌≤◌, List, [], ◌∷◌, ◌++◌, Bool, true, false, if◌then◌else◌, ◌&&◌, Option, Some, None, refl, sym, arith}
+use Rattle.std.proofs.Common.{◌≡◌, ◌≢◌, ℕ, zero, suc, ◌+◌, ◌-◌, ◌<◌, ◌≤◌, List, [], ◌∷◌, ◌++◌, Bool, true, false, if◌then◌else◌, ◌&&◌, Option, Some, None, refl, arith}
 use Rattle.sm_words.specs.Words.{reg}
 use Rattle.sm_words.specs.declared.width.Width.TheVariants.{Byte}
 use Rattle.mod_layout.specs.declared.Module.{Module}
 use Rattle.mod_layout.specs.declared.Place.{Place}
 use Rattle.mod_layout.specs.declared.Place.TheVariants.{Open, Entry, Text, Data}
-use Rattle.mod_layout.specs.Table.{Table, place_of, size_of, takes}
+use Rattle.mod_layout.specs.Table.{place_of, size_of, takes}
 use Rattle.mod_layout.specs.Tables.{IsSection, IsTable}
 use Rattle.mod_layout.proofs.TableLemmas.{taken}
 use Rattle.pc_access.specs.declared.Kind.{Kind}

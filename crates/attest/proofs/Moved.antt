@@ -1,9 +1,9 @@
 -- PC moved on after the call gives the core of the definition.
-use Rattle.std.proofs.Common.{◌≡◌, ℕ, ◌+◌, ◌*◌, List, [], ◌∷◌, Bool, true, false, if◌then◌else◌, Option, Some, None, refl}
+use Rattle.std.proofs.Common.{◌≡◌, ℕ, ◌+◌, List, [], ◌∷◌, Bool, true, false, if◌then◌else◌, Option, Some, None, refl}
 use Rattle.sm_words.specs.Words.{reg, put, add16}
 use Rattle.mod_layout.specs.declared.Module.{Module}
 use Rattle.mod_layout.specs.Table.{takes}
-use Rattle.attest.specs.Units.{UnitName, Unprotect, Protect, Attest, Tag, IdOf, OwnId, CallerId, Doer, Effect, answer, attest_answer, attested, new_ram, new_text, next, tag_answer, unit_effect, unprotected}
+use Rattle.attest.specs.Units.{UnitName, Unprotect, Protect, Attest, Tag, IdOf, OwnId, CallerId, Doer, Effect, attest_answer, attested, new_ram, new_text, next, tag_answer, unit_effect, unprotected}
 use Rattle.attest.specs.Done.{standing}
 
 module _ (core : List ℕ) where

@@ -1,5 +1,5 @@
 -- The definitions of one instruction, unfolded once, over the values that a step of the code has computed.
-use Rattle.std.proofs.Common.{◌≡◌, ℕ, ◌+◌, ◌*◌, List, ◌++◌, sym, ap, ◌∙◌, Bool, true, Option}
+use Rattle.std.proofs.Common.{◌≡◌, ℕ, ◌*◌, List, ◌++◌, sym, ap, ◌∙◌, Bool, true, Option}
 use Rattle.std.specs.Prelude.{ℤ}
 use Rattle.sm_words.specs.Words.{reg, bit, add16}
 use Rattle.sm_words.specs.declared.width.Width.{Width}

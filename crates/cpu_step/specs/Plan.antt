@@ -1,6 +1,6 @@
 -- Which accesses an instruction makes, from registers and extension words alone: the addressing
 -- modes of the MSP430x1xx Family User's Guide (SLAU049), section 3.3.
-use Rattle.std.specs.Prelude.{ℕ, ◌+◌, ◌*◌, List, [], ◌∷◌, ◌++◌, ◌==◌, if◌then◌else◌, Bool, true, false, Option, Some, None}
+use Rattle.std.specs.Prelude.{ℕ, ◌*◌, List, [], ◌∷◌, ◌++◌, ◌==◌, if◌then◌else◌, Bool, true, false, Option, Some, None}
 use Rattle.sm_words.specs.Words.{reg, put, add16}
 use Rattle.sm_words.specs.declared.width.Width.{Width}
 use Rattle.sm_words.specs.declared.width.Width.TheVariants.{Byte, Word}

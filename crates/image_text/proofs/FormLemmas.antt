@@ -1,5 +1,5 @@
 -- Forms, and the lines that have them.
-use Rattle.std.proofs.Common.{◌≡◌, ◌≢◌, ℕ, zero, suc, ◌+◌, ◌*◌, ◌-◌, ◌/◌, ◌%◌, ◌<◌, ◌≤◌, List, [], ◌∷◌, ◌++◌, length, take, drop, get_or, slice_range, codes, Bool, true, false, nat_lt, nat_le, cond, not, ◌&&◌, ◌||◌, ◌==◌, Option, Some, None, Ok, refl, sym, ap, ◌∙◌, subst, arith, one-add, add-one, drop-cons, length-drop, length-append}
+use Rattle.std.proofs.Common.{◌≡◌, ◌≢◌, ℕ, zero, suc, ◌+◌, ◌*◌, ◌-◌, ◌/◌, ◌%◌, ◌<◌, List, [], ◌∷◌, ◌++◌, length, take, drop, get_or, slice_range, Bool, true, false, nat_lt, cond, not, ◌&&◌, ◌==◌, Option, Some, None, refl, sym, ap, ◌∙◌, subst, arith, add-one, drop-cons, length-drop, length-append}
 use Rattle.std.specs.Result.{result_unwrap_or}
 use Rattle.std.proofs.lemmas.List.{take_at}
 use Rattle.std.proofs.lemmas.Bool.Decides.{nat_tests}
@@ -8,7 +8,7 @@ use Rattle.hex.proofs.HexLemmas.{length-encode_with, decode_of-encode_lower}
 use Rattle.image_text.specs.declared.ImageFault.{ImageFault}
 use Rattle.image_text.specs.declared.ImageFault.TheVariants.{Line, Digit}
 use Rattle.image_text.specs.ImageText.{hex_word}
-use Rattle.image_text.specs.Refusal.{Spot, fits, has_form, is_digit, is_bad, bad_digit, digit_or, formed, line_fault, bytes_at, word_of, word_at}
+use Rattle.image_text.specs.Refusal.{Spot, fits, has_form, is_digit, is_bad, bad_digit, formed, bytes_at, word_of, word_at}
 use Rattle.image_text.specs.Reading.{HasForm, CodedAt}
 
 and_left : (a b : Bool) → (a && b) ≡ true → a ≡ true

@@ -1,10 +1,9 @@
 -- A text, line by line.
-use Rattle.std.proofs.Common.{◌≡◌, ℕ, zero, suc, ◌+◌, ◌<◌, ◌≤◌, List, [], ◌∷◌, ◌++◌, length, take, drop, Bool, true, false, nat_lt, cond, not, ◌==◌, Option, Some, None, refl, sym, ap, ◌∙◌, subst, arith, one-add, add-one, append_assoc}
+use Rattle.std.proofs.Common.{◌≡◌, ℕ, suc, ◌+◌, ◌<◌, List, [], ◌∷◌, ◌++◌, length, take, drop, Bool, true, false, nat_lt, cond, not, ◌==◌, Some, None, refl, sym, ap, ◌∙◌, subst, arith, one-add, append_assoc}
 use Rattle.std.specs.List.{position_or_len, position}
 use Rattle.std.proofs.lemmas.List.{append-nil}
 use Rattle.std.proofs.lemmas.Bool.Decides.{nat_tests}
-use Rattle.image_text.specs.Refusal.{Spot, past, lines_from, tail_from}
-use Rattle.image_text.specs.Reading.{Unread, ReadLine}
+use Rattle.image_text.specs.Refusal.{lines_from, tail_from}
 
 abbrev pub is_lf : ℕ → Bool
 is_lf b = b == 10

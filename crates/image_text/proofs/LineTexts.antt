@@ -1,12 +1,11 @@
 -- Lines that have a form are the lines of their values.
-use Rattle.std.proofs.Common.{◌≡◌, ℕ, ◌+◌, ◌*◌, ◌<◌, List, [], ◌∷◌, ◌++◌, length, take, drop, codes, refl, sym, ap, ◌∙◌, arith}
+use Rattle.std.proofs.Common.{◌≡◌, ℕ, ◌<◌, List, [], ◌∷◌, ◌++◌, drop, codes, refl, sym, ap, ◌∙◌, arith}
 use Rattle.std.proofs.lemmas.List.{append-nil}
-use Rattle.hex.specs.Hex.{encode_with, encode_lower, IsBytes}
-use Rattle.mod_layout.specs.declared.Module.{Module}
-use Rattle.image_text.specs.ImageText.{hex_word, key_line, handler_line, module_line, section_words, row_line}
+use Rattle.hex.specs.Hex.{encode_with, encode_lower}
+use Rattle.image_text.specs.ImageText.{hex_word, key_line, handler_line, module_line, row_line}
 use Rattle.image_text.specs.Refusal.{key_form, handler_form, module_form, row_form, bytes_at, word_at, section_at}
 use Rattle.image_text.specs.Reading.{HasForm, CodedAt}
-use Rattle.image_text.proofs.FormLemmas.{AfterWord, after_word, AfterDigits, after_digits, AfterFour, after_four, word_here, coded_at, nothing_after, marks}
+use Rattle.image_text.proofs.FormLemmas.{after_word, after_digits, after_four, word_here, coded_at, nothing_after, marks}
 
 pub record IsKeyLine (line : List ℕ) : Type 0 where
   pub coded : CodedAt line 4 16

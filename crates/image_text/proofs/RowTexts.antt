@@ -1,9 +1,9 @@
 -- Texts of rows of memory.
-use Rattle.std.proofs.Common.{◌≡◌, ℕ, zero, suc, ◌+◌, ◌-◌, ◌*◌, ◌/◌, ◌%◌, ◌<◌, ◌≤◌, List, [], ◌∷◌, ◌++◌, length, take, drop, replicate, slice_index, Bool, true, false, cond, not, ◌&&◌, ◌==◌, ◌≢◌, nat_eq, nat_lt, Option, Some, refl, sym, ap, ◌∙◌, subst, arith, append_assoc, length-append, length-drop, length-take}
+use Rattle.std.proofs.Common.{◌≡◌, ℕ, zero, suc, ◌+◌, ◌-◌, ◌*◌, ◌/◌, ◌%◌, ◌<◌, ◌≤◌, List, [], ◌∷◌, ◌++◌, length, take, drop, replicate, slice_index, Bool, true, false, cond, not, ◌&&◌, ◌==◌, ◌≢◌, nat_eq, nat_lt, Option, Some, refl, sym, ap, ◌∙◌, subst, arith, append_assoc, length-append, length-drop}
 use Rattle.std.proofs.lemmas.Bool.Decides.{nat_tests}
-use Rattle.std.proofs.lemmas.List.{append-nil, take-append-le, drop-append-le, take_at, drop_at, replicate-append-replicate, get_or_append_left}
+use Rattle.std.proofs.lemmas.List.{append-nil, take-append-le, drop-append-le, take_at, replicate-append-replicate, get_or_append_left}
 use Rattle.hex.specs.Hex.{IsBytes}
-use Rattle.image_text.specs.ImageText.{ended, end_line, is_zero, row_line, row_text, rows_text, memory_text}
+use Rattle.image_text.specs.ImageText.{ended, end_line, is_zero, row_line, row_text, rows_text}
 use Rattle.std.specs.Cmp.Lexicographic.{pointwise}
 use Rattle.image_text.specs.declared.ImageFault.{ImageFault}
 use Rattle.image_text.specs.declared.ImageFault.TheVariants.{Line, Twice}

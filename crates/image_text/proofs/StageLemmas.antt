@@ -1,16 +1,16 @@
 -- One line, and what the rules say of the text from it on.
-use Rattle.std.proofs.Common.{◌≡◌, ℕ, zero, suc, ◌+◌, ◌-◌, ◌*◌, ◌<◌, ◌≤◌, List, [], ◌∷◌, ◌++◌, length, take, drop, Bool, true, false, cond, not, ◌==◌, Option, Some, None, refl, sym, ap, ◌∙◌, subst, arith, append_assoc, length-append}
+use Rattle.std.proofs.Common.{◌≡◌, ℕ, ◌+◌, ◌<◌, List, [], ◌∷◌, ◌++◌, length, Bool, true, false, cond, ◌==◌, Option, Some, None, refl, sym, ap, ◌∙◌, subst, arith, append_assoc, length-append}
 use Rattle.std.proofs.lemmas.List.{append-nil}
 use Rattle.std.proofs.lemmas.Bool.Decides.{nat_tests}
 use Rattle.mod_layout.specs.declared.Module.{Module}
 use Rattle.mod_layout.specs.declared.TableFault.{TableFault}
-use Rattle.mod_layout.specs.Table.{Table, fault_of, with_module, empty_table}
+use Rattle.mod_layout.specs.Table.{Table, fault_of, empty_table}
 use Rattle.mod_layout.specs.Tables.{IsTable}
 use Rattle.image_text.specs.declared.ImageFault.{ImageFault}
 use Rattle.image_text.specs.declared.ImageFault.TheVariants.{Line, Table as TableRefuses}
 use Rattle.image_text.specs.Image.{AreNumbered}
 use Rattle.image_text.specs.ImageText.{ended, modules_text, module_line}
-use Rattle.image_text.specs.Refusal.{Spot, past, line_fault, lines_from, tail_from, formed, has_form, module_form, modules_refusal, rows_refusal, end_refusal, section_at, word_at, added, taken, is_due, one_less}
+use Rattle.image_text.specs.Refusal.{Spot, past, lines_from, tail_from, formed, module_form, modules_refusal, rows_refusal, end_refusal, section_at, word_at, added, taken, one_less}
 use Rattle.image_text.specs.Reading.{Unread, on, ReadLine, HasForm, due_next, AddsModule, IsLeft, IsGiven, ModulesSoFar, PassedModules}
 use Rattle.image_text.proofs.FormLemmas.{formed_ok}
 use Rattle.image_text.proofs.LineTexts.{module_line_of}

@@ -1,9 +1,8 @@
 -- What was read, put together.
-use Rattle.std.proofs.Common.{◌≡◌, ◌⊎◌, ⊎_elim, ℕ, zero, suc, ◌+◌, ◌%◌, ◌<◌, ◌≤◌, List, [], ◌∷◌, length, get_or, slice_index, true, false, cond, ◌==◌, Option, Some, None, refl, sym, ap, ◌∙◌, arith}
+use Rattle.std.proofs.Common.{◌≡◌, ◌⊎◌, ⊎_elim, ℕ, ◌%◌, ◌<◌, ◌≤◌, List, length, slice_index, Option, Some, None, refl, sym, ap, ◌∙◌, arith}
 use Rattle.mod_layout.specs.Table.{Table}
-use Rattle.mod_layout.specs.Tables.{IsTable}
 use Rattle.image_text.specs.Image.{Image, IsImage}
-use Rattle.image_text.specs.ImageText.{ended, first_line, key_line, handler_line, count_line, count_text, modules_text, memory_text, image_text}
+use Rattle.image_text.specs.ImageText.{ended, first_line, key_line, handler_line, count_text, modules_text, memory_text, image_text}
 use Rattle.image_text.specs.Reading.{Unread, IsCountOf, IsGiven, count_part, PassedModules, PassedMemory}
 
 count_is : (room given : ℕ) (due : Option ℕ) (rest : List ℕ) → IsCountOf room due → IsGiven due given → count_part due rest ≡ count_text room given rest

@@ -1,5 +1,5 @@
 -- Which case a cycle ends in.
-use Rattle.std.specs.Prelude.{ℕ, zero, suc, Bool, true, false}
+use Rattle.std.specs.Prelude.{zero, suc, Bool, true, false}
 use Rattle.reg_backup.specs.declared.backup.Phase.{Phase}
 use Rattle.reg_backup.specs.declared.backup.Phase.TheVariants.{Run, Pad as Padding}
 use Rattle.irq_padding.specs.declared.turn.Turn.{Turn}

@@ -1,6 +1,5 @@
 -- The keys that are derived by HMAC, and tags under them.
 use Rattle.std.specs.Prelude.{ℕ, ◌/◌, ◌%◌, List, [], ◌∷◌, ◌++◌}
-use Rattle.mod_layout.specs.declared.Section.{Section}
 use Rattle.mod_layout.specs.declared.Module.{Module}
 use Rattle.mod_keys.specs.Mac.{short_hmac}
 

@@ -1,4 +1,4 @@
-use Rattle.std.proofs.Common.{◌≡◌, ◌+◌, drop, length}
+use Rattle.std.proofs.Common.{◌≡◌, ◌+◌, drop}
 use Rattle.image_text.specs.Refusal.{bad_digit as bad_digit_lem}
 use Rattle.image_text.proofs.forms.bad_digit.Given as goal
 

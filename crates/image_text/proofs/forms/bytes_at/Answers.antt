@@ -1,4 +1,4 @@
-use Rattle.std.proofs.Common.{◌≡◌, ◌*◌, ◌+◌, length, Ok, List, ℕ, sym, ◌∙◌, ap}
+use Rattle.std.proofs.Common.{◌*◌, ◌+◌, length, List, ℕ, sym, ◌∙◌, ap}
 use Rattle.hex.specs.Hex.{decode_sized}
 use Rattle.hex.proofs.HexLemmas.{decode_sized-encode_lower}
 use Rattle.image_text.specs.Refusal.{bytes_at}

@@ -1,4 +1,4 @@
-use Rattle.std.proofs.Common.{◌≡◌, true, not, sym, ◌∙◌}
+use Rattle.std.proofs.Common.{sym, ◌∙◌}
 use Rattle.image_text.proofs.FormLemmas.{form_length, has_form_of}
 use Rattle.image_text.proofs.forms.formed.Goals as goal
 

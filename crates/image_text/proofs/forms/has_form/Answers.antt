@@ -1,4 +1,4 @@
-use Rattle.std.proofs.Common.{◌≡◌, sym}
+use Rattle.std.proofs.Common.{sym}
 use Rattle.image_text.proofs.FormLemmas.{other_length}
 use Rattle.image_text.proofs.forms.has_form.Goals as goal
 

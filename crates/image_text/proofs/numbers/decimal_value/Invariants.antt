@@ -1,4 +1,4 @@
-use Rattle.std.proofs.Common.{◌≡◌, ◌<◌, ◌≤◌, ◌^◌, ℕ, length, take, true}
+use Rattle.std.proofs.Common.{◌≡◌, ◌<◌, ◌≤◌, ◌^◌, length, take, true}
 use Rattle.std.specs.List.{list_all}
 use Rattle.image_text.specs.Refusal.{decimal_value as decimal_value_lem, is_decimal as is_decimal_lem}
 use Rattle.image_text.proofs.numbers.decimal_value.Given as goal

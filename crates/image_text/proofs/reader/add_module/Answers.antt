@@ -1,10 +1,10 @@
-use Rattle.std.proofs.Common.{◌≡◌, ◌+◌, ℕ, Option, Some, refl, sym, ap, ◌∙◌}
+use Rattle.std.proofs.Common.{ℕ, Some, sym, ap, ◌∙◌}
 use Rattle.std.proofs.lemmas.Result.{err_from_is_err_and}
 use Rattle.mod_layout.specs.declared.Section.{Section}
 use Rattle.mod_layout.specs.Table.{fault_of}
 use Rattle.image_text.specs.declared.ImageFault.TheVariants.{Table as TableRefuses}
 use Rattle.image_text.specs.Refusal.{section_at}
-use Rattle.image_text.proofs.LineTexts.{IsModuleLine, module_line_of}
+use Rattle.image_text.proofs.LineTexts.{module_line_of}
 use Rattle.image_text.proofs.StageLemmas.{module_fails, module_refused}
 use Rattle.image_text.proofs.reader.add_module.Goals as goal
 

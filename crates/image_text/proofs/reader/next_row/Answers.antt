@@ -1,9 +1,9 @@
-use Rattle.std.proofs.Common.{◌≡◌, ◌≢◌, ℕ, ◌==◌, ◌-◌, ◌++◌, length, replicate, true, false, inr, nat_eq, Some, refl, sym, ap, ◌∙◌, List, arith}
+use Rattle.std.proofs.Common.{◌≡◌, ◌≢◌, ℕ, ◌==◌, ◌-◌, ◌++◌, length, replicate, true, false, inr, nat_eq, Some, sym, ap, ◌∙◌, List, arith}
 use Rattle.std.specs.Cmp.Lexicographic.{pointwise}
 use Rattle.std.proofs.lemmas.Bool.Decides.{nat_tests}
 use Rattle.image_text.specs.declared.ImageFault.TheVariants.{Line, Twice}
 use Rattle.image_text.specs.Refusal.{is_row, word_at, bytes_at}
-use Rattle.image_text.proofs.LineTexts.{IsRowLine, row_line_of}
+use Rattle.image_text.proofs.LineTexts.{row_line_of}
 use Rattle.image_text.proofs.RowTexts.{row_fails, row_misplaced, row_twice, adds_row}
 use Rattle.image_text.proofs.reader.next_row.Goals as goal
 

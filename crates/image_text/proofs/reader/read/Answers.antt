@@ -1,7 +1,5 @@
-use Rattle.std.proofs.Common.{◌≡◌, ◌⊎◌, ℕ, inl, inr, List, Option, Some, refl, sym, ap, ◌∙◌, ⊎_elim, arith}
-use Rattle.image_text.specs.declared.ImageFault.{ImageFault}
-use Rattle.image_text.specs.declared.ImageFault.TheVariants.{NoMemory}
-use Rattle.image_text.specs.Refusal.{Spot, first_refusal, refusal_of}
+use Rattle.std.proofs.Common.{◌≡◌, ℕ, inl, inr, List, sym, ap, ◌∙◌, ⊎_elim, arith}
+use Rattle.image_text.specs.Refusal.{first_refusal, refusal_of}
 use Rattle.image_text.specs.Reading.{Unread, on}
 use Rattle.image_text.proofs.WholeText.{whole_text, whole_image}
 use Rattle.image_text.proofs.reader.read.Goals as goal

@@ -1,11 +1,10 @@
-use Rattle.std.proofs.Common.{◌≡◌, ℕ, ◌%◌, ◌==◌, true, false, cond, refl, sym, ap, ◌∙◌, List, [], Option, Some, arith}
+use Rattle.std.proofs.Common.{◌≡◌, ℕ, ◌%◌, ◌==◌, true, false, cond, refl, sym, ap, ◌∙◌, List, [], Some, arith}
 use Rattle.std.proofs.lemmas.Bool.Decides.{nat_tests}
 use Rattle.std.proofs.lemmas.Result.{err_from_is_err_and}
 use Rattle.image_text.specs.declared.ImageFault.TheVariants.{Line}
 use Rattle.image_text.specs.ImageText.{ended, handler_line}
 use Rattle.image_text.specs.Refusal.{Spot, past, lines_from, tail_from, line_fault, handler_form, word_at, handler_refusal, count_refusal}
-use Rattle.image_text.specs.Reading.{on, Passed}
-use Rattle.image_text.proofs.LineTexts.{IsHandlerLine, handler_line_of}
+use Rattle.image_text.proofs.LineTexts.{handler_line_of}
 use Rattle.image_text.proofs.StageLemmas.{Stage, line_passes, line_fails, next_on}
 use Rattle.image_text.proofs.reader.read_handler.Goals as goal
 

@@ -1,9 +1,8 @@
-use Rattle.std.proofs.Common.{◌≡◌, ℕ, refl, sym, ap, ◌∙◌, List}
+use Rattle.std.proofs.Common.{ℕ, refl, sym, ap, ◌∙◌, List}
 use Rattle.std.proofs.lemmas.Result.{err_from_is_err_and}
 use Rattle.image_text.specs.ImageText.{ended, key_line}
-use Rattle.image_text.specs.Refusal.{Spot, past, key_form, key_refusal, handler_refusal}
-use Rattle.image_text.specs.Reading.{on, Passed}
-use Rattle.image_text.proofs.LineTexts.{IsKeyLine, key_line_of}
+use Rattle.image_text.specs.Refusal.{past, key_form, key_refusal, handler_refusal}
+use Rattle.image_text.proofs.LineTexts.{key_line_of}
 use Rattle.image_text.proofs.StageLemmas.{line_passes, line_fails, next_on}
 use Rattle.image_text.proofs.reader.read_key.Goals as goal
 

@@ -1,4 +1,4 @@
-use Rattle.std.proofs.Common.{◌≡◌, ℕ, ◌+◌, ◌-◌, ◌<◌, ◌++◌, List, length, replicate, refl, sym, ap, ◌∙◌, arith}
+use Rattle.std.proofs.Common.{ℕ, ◌-◌, ◌++◌, List, length, replicate, refl, ap, ◌∙◌, arith}
 use Rattle.image_text.specs.ImageText.{ended, end_line}
 use Rattle.image_text.proofs.RowTexts.{rows_more, rows_none, rows_done}
 use Rattle.image_text.proofs.reader.read_memory.Goals as goal

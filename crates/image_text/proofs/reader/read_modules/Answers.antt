@@ -1,5 +1,4 @@
-use Rattle.std.proofs.Common.{◌≡◌, ℕ, ◌+◌, ◌∷◌, length, length-append, sym, ◌∙◌, ap, subst, arith}
-use Rattle.std.proofs.lemmas.Result.{err_from_is_err_and}
+use Rattle.std.proofs.Common.{◌≡◌, ◌∷◌, length, length-append, sym, ◌∙◌, ap, subst, arith}
 use Rattle.mod_layout.specs.Table.{Table}
 use Rattle.image_text.specs.Reading.{ModulesSoFar}
 use Rattle.image_text.proofs.StageLemmas.{modules_more, modules_done, modules_none}

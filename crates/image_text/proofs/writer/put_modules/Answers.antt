@@ -1,4 +1,4 @@
-use Rattle.std.proofs.Common.{◌≡◌, ◌<◌, ◌++◌, List, length, sym, ap, ◌∙◌, arith}
+use Rattle.std.proofs.Common.{◌++◌, List, sym, ap, ◌∙◌, arith}
 use Rattle.mod_layout.specs.declared.Module.{Module}
 use Rattle.image_text.specs.ImageText.{modules_text}
 use Rattle.image_text.proofs.WriteLemmas.{module_written, found_number, missing_number, below_of}

@@ -1,4 +1,4 @@
-use Rattle.std.proofs.Common.{◌≡◌, ℕ, ◌+◌, ◌-◌, ◌*◌, ◌<◌, List, ◌++◌, drop, sym, ap, ◌∙◌, arith}
+use Rattle.std.proofs.Common.{◌≡◌, ℕ, ◌+◌, ◌-◌, ◌*◌, List, ◌++◌, drop, sym, ap, ◌∙◌, arith}
 use Rattle.image_text.specs.ImageText.{rows_text}
 use Rattle.image_text.proofs.WriteLemmas.{row_written, rows_over}
 use Rattle.image_text.proofs.writer.put_rows.Goals as goal

@@ -1,4 +1,4 @@
-use Rattle.std.proofs.Common.{◌≡◌, ◌-◌, ◌*◌, ◌≤◌, ◌++◌, ℕ, List, drop}
+use Rattle.std.proofs.Common.{◌≡◌, ◌-◌, ◌*◌, ◌++◌, ℕ, List, drop}
 use Rattle.image_text.specs.ImageText.{rows_text}
 use Rattle.image_text.proofs.writer.put_rows.Given as goal
 

@@ -1,4 +1,4 @@
-use Rattle.std.proofs.Common.{◌≡◌, ℕ, ◌++◌, [], List, length, drop, refl, sym, ap, ◌∙◌}
+use Rattle.std.proofs.Common.{ℕ, ◌++◌, [], List, length, drop, refl, ap, ◌∙◌}
 use Rattle.std.proofs.lemmas.Slice.{pushed}
 use Rattle.image_text.specs.Image.{Image}
 use Rattle.image_text.specs.ImageText.{ended, first_line, end_line, count_text, rows_text}

@@ -1,4 +1,4 @@
-use Rattle.std.proofs.Common.{◌≡◌, ◌<◌, length, false, arith}
+use Rattle.std.proofs.Common.{◌<◌, length, arith}
 use Rattle.image_text.proofs.StageLemmas.{not_ended_yet}
 use Rattle.image_text.proofs.lines.Lines.end.Goals as goal
 

@@ -1,8 +1,7 @@
-use Rattle.std.proofs.Common.{◌≡◌, ℕ, ◌+◌, ◌≤◌, length, take, drop, refl, sym, ap, ◌∙◌, arith, add-one, length-take}
+use Rattle.std.proofs.Common.{◌≡◌, ℕ, ◌+◌, ◌≤◌, length, take, sym, ap, ◌∙◌, arith, add-one, length-take}
 use Rattle.std.proofs.lemmas.Slice.{between_to_end}
-use Rattle.image_text.proofs.LineLemmas.{LineEnds, ends_at, no_line_left}
+use Rattle.image_text.proofs.LineLemmas.{ends_at, no_line_left}
 use Rattle.image_text.specs.Refusal.{Spot}
-use Rattle.image_text.specs.Reading.{ReadLine}
 use Rattle.image_text.proofs.lines.Lines.next.Goals as goal
 
 pub returns-in-None-clause-none : goal.returns-in-None-clause-none

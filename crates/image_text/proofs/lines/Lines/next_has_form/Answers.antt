@@ -1,4 +1,4 @@
-use Rattle.std.proofs.Common.{◌≡◌, refl, sym, ap, ◌∙◌}
+use Rattle.std.proofs.Common.{sym, ap, ◌∙◌}
 use Rattle.image_text.specs.Reading.{head_has_form}
 use Rattle.image_text.proofs.LineLemmas.{ends_at, no_line_left}
 use Rattle.image_text.proofs.lines.Lines.next_has_form.Goals as goal

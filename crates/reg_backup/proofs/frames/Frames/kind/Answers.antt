@@ -1,5 +1,5 @@
 -- The slice has the oldest frame first.
-use Rattle.std.proofs.Common.{◌<◌, length, ◌≡◌, get_or, arith}
+use Rattle.std.proofs.Common.{◌<◌, length, ◌≡◌, get_or}
 use Rattle.reg_backup.proofs.HeldLemmas.{slice_get-kinds}
 use Rattle.reg_backup.proofs.frames.Frames.kind.Goals as goal
 
