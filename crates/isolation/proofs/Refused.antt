@@ -21,7 +21,7 @@ use Rattle.reg_backup.specs.declared.frames.Frame.TheVariants.{Plain, Module as 
 use Rattle.attest.specs.Units.{Doer, UnitName, Unprotect, Protect, Attest, Tag, IdOf, OwnId, CallerId, unit_named, unit_plan}
 use Rattle.cpu_step.specs.Asked.{asks}
 use Rattle.cpu_step.specs.Fetched.{insn_at, later_word}
-use Rattle.written_machine.specs.Checks.{active_at, entered, first_word, insn_in, asked_to_return, asked_by, returns_inside, check_of, checks_inside, insn_checks, checks_unless, checks_by, first_refused, stop_at, stop_of, refused_in}
+use Rattle.written_machine.specs.Checks.{active_at, entered, first_word, insn_at_pc, asked_to_return, asked_by, returns_inside, check_of, later_checks, insn_checks, checks_unless, checks_by, first_refused, stop_at, stop_of, refused_in}
 use Rattle.written_machine.specs.Cycle.{Step, padded, told, pc_of, byte_of, settle, ticked, due, arrive_inside, arrive_outside, push_both, pushes, who_of, perform, perform_unless, attempt, returned_by, reti_by, reti_of, act_by, act_on, act_home, act_first, act, is_home, enter_at, enter, fetch, begin_unless, begin, unless, asleep, turn_by, turn, counted_by, move, cycle_by, cycle}
 use Rattle.written_machine.specs.State.{State}
 use Rattle.isolation.proofs.Stopping.{settle_settles, ticked_stop, enter_silent}
@@ -94,27 +94,27 @@ act_home_stops false n s h some = refl
 act_home_stops true n s h some = act_on_stops (insn_at (byte_of s) (pc_of s) n) s h some
 
 -- by what the first word means
-abbrev inside_by : Option Insn → State → Option Denied
-inside_by o s =
+abbrev later_by : Option Insn → State → Option Denied
+later_by o s =
     let n = length_or_one o in
     or_else (refuse_if (is_none o) Illegal (pc_of s) 0) (middle (is_home s.table s.active (pc_of s) n) (insn_at (byte_of s) (pc_of s) n) s)
 
-act_first_stops : (o : Option Insn) (s : State) → insn_of (first_word s) 0 0 ≡ o → s.stop ≡ None → Stops (act_first o s) (inside_by o s) s
+act_first_stops : (o : Option Insn) (s : State) → insn_of (first_word s) 0 0 ≡ o → s.stop ≡ None → Stops (act_first o s) (later_by o s) s
 act_first_stops None s e h = refl
 act_first_stops (Some first) s e h =
     let n = length_of first in
     act_home_stops (is_home s.table s.active (pc_of s) n) n s h (some_all (first_word s) (later_word (byte_of s) (pc_of s) n 1) (later_word (byte_of s) (pc_of s) n 2) first e)
 
 -- the same checks as a list
-inside_is : (s : State) → first_refused (checks_inside s) ≡ inside_by (insn_of (first_word s) 0 0) s
-inside_is s =
+later_is : (s : State) → first_refused (later_checks s) ≡ later_by (insn_of (first_word s) 0 0) s
+later_is s =
     let n = length_at (first_word s) in
-    let accesses = asked_by (insn_in s) s in
-    ap (λ d. or_else (refuse_if (is_none (insn_of (first_word s) 0 0)) Illegal (pc_of s) 0) (or_else (refuse_if (not (is_home s.table s.active (pc_of s) n)) Straddle (pc_of s) 0) (or_else (refuse_if (returns_inside (insn_in s) s.active) RetiInside (pc_of s) 0) d))) (first_of_map s.table s.active (held_ids s.frames) accesses)
+    let accesses = asked_by (insn_at_pc s) s in
+    ap (λ d. or_else (refuse_if (is_none (insn_of (first_word s) 0 0)) Illegal (pc_of s) 0) (or_else (refuse_if (not (is_home s.table s.active (pc_of s) n)) Straddle (pc_of s) 0) (or_else (refuse_if (returns_inside (insn_at_pc s) s.active) RetiInside (pc_of s) 0) d))) (first_of_map s.table s.active (held_ids s.frames) accesses)
 
-act_stops : (s : State) → s.stop ≡ None → Stops (act s) (first_refused (checks_inside s)) s
+act_stops : (s : State) → s.stop ≡ None → Stops (act s) (first_refused (later_checks s)) s
 unfolding act
-act_stops s h = act_first_stops (insn_of (first_word s) 0 0) s refl h ∙ ap (λ d. stop_at d s) (sym (inside_is s))
+act_stops s h = act_first_stops (insn_of (first_word s) 0 0) s refl h ∙ ap (λ d. stop_at d s) (sym (later_is s))
 
 -- ---- an entry
 
@@ -154,17 +154,17 @@ asked_called (Some (One op w a)) caller after s = asks_caller (One op w a) (who_
 asked_called (Some (Jump c o)) caller after s = asks_caller (Jump c o) (who_of s) caller s.core
 asked_called (Some (UnitOp n)) caller after s = asks_caller (UnitOp n) (who_of s) caller s.core
 
-inside_called : (caller : ℕ) (after : After) (s : State) → checks_inside (called caller after s) ≡ checks_inside s
-inside_called caller after s =
+later_called : (caller : ℕ) (after : After) (s : State) → later_checks (called caller after s) ≡ later_checks s
+later_called caller after s =
     let n = length_at (first_word s) in
-    ap (λ xs. refuse_if (is_none (insn_of (first_word s) 0 0)) Illegal (pc_of s) 0 ∷ refuse_if (not (is_home s.table s.active (pc_of s) n)) Straddle (pc_of s) 0 ∷ refuse_if (returns_inside (insn_in s) s.active) RetiInside (pc_of s) 0 ∷ map (check_of s.active s) xs) (asked_called (insn_in s) caller after s)
+    ap (λ xs. refuse_if (is_none (insn_of (first_word s) 0 0)) Illegal (pc_of s) 0 ∷ refuse_if (not (is_home s.table s.active (pc_of s) n)) Straddle (pc_of s) 0 ∷ refuse_if (returns_inside (insn_at_pc s) s.active) RetiInside (pc_of s) 0 ∷ map (check_of s.active s) xs) (asked_called (insn_at_pc s) caller after s)
 
 -- the checks of a state once a module is entered
 abbrev once : Option ℕ → State → List (Option Denied)
-once active s = checks_inside (record s { active = active })
+once active s = later_checks (record s { active = active })
 
-enter_at_checks : (p : Place) (a : Option ℕ) (left : ℕ) (s : State) → s.active ≡ a → checks_inside (enter_at p a left s).state ≡ once (active_at a p) s
-enter_at_checks (Entry id) None left s e = inside_called left After.Next (record s { active = Some id })
+enter_at_checks : (p : Place) (a : Option ℕ) (left : ℕ) (s : State) → s.active ≡ a → later_checks (enter_at p a left s).state ≡ once (active_at a p) s
+enter_at_checks (Entry id) None left s e = later_called left After.Next (record s { active = Some id })
 enter_at_checks Open None left s e = ap (λ a. once a s) e
 enter_at_checks (Text id) None left s e = ap (λ a. once a s) e
 enter_at_checks (Data id) None left s e = ap (λ a. once a s) e
@@ -181,7 +181,7 @@ enter_at_core (Text id) a left s = refl
 enter_at_core (Data id) a left s = refl
 
 -- what an entry leaves is checked as the state in which the module is active, at the same PC
-enter_checks : (left : ℕ) (s : State) → (checks_inside (enter left s).state ≡ checks_inside (entered s)) × ((enter left s).state.core ≡ s.core)
+enter_checks : (left : ℕ) (s : State) → (later_checks (enter left s).state ≡ later_checks (entered s)) × ((enter left s).state.core ≡ s.core)
 unfolding enter
 enter_checks left s = (enter_at_checks (place_of s.table (pc_of s)) s.active left s refl, enter_at_core (place_of s.table (pc_of s)) s.active left s)
 
@@ -191,12 +191,12 @@ stop_core None s t e = refl
 stop_core (Some d) s t e = ap (λ c. stop_at (Some d) (record s { core = c })) e
 
 -- ---- a turn
-begin_by_stops : (d : Option Denied) (left : ℕ) (s : State) → s.stop ≡ None → Stops (begin_unless d left s) (or_else d (first_refused (checks_inside (entered s)))) s
+begin_by_stops : (d : Option Denied) (left : ℕ) (s : State) → s.stop ≡ None → Stops (begin_unless d left s) (or_else d (first_refused (later_checks (entered s)))) s
 begin_by_stops (Some d) left s h = refl
 begin_by_stops None left s h =
     let e = (enter left s).state in
     let x = enter_checks left s in
-    act_stops e ((enter_silent left s).1 ∙ h) ∙ stop_core (first_refused (checks_inside e)) e s x.1 ∙ ap (λ cs. stop_at (first_refused cs) s) x.0
+    act_stops e ((enter_silent left s).1 ∙ h) ∙ stop_core (first_refused (later_checks e)) e s x.1 ∙ ap (λ cs. stop_at (first_refused cs) s) x.0
 
 begin_stops : (left : ℕ) (s : State) → s.stop ≡ None → Stops (begin left s) (first_refused (insn_checks s)) s
 unfolding begin
@@ -247,7 +247,7 @@ counted_stop (Some stop) t = refl
 counted_stop None t = refl
 
 move_stops : (s : State) → s.stop ≡ None → (move s).state.stop ≡ refused_in s
-unfolding move
+unfolding move refused_in
 move_stops s h =
     let u = settle (ticked s) in
     let t = turn u.left u.state in

@@ -241,6 +241,52 @@ fn files_that_do_not_serve(rt: HostRuntime) -> Result<(), Fail> {
     Ok(())
 }
 
+const ZEROS: &str =
+    "0000 0000 0000 0000 0000 0000 0000 0000 0000 0000 0000 0000 0000 0000 0000 0000\n";
+
+// The shortest texts, of each version and of none.
+#[test]
+fn texts_of_each_version(rt: HostRuntime) -> Result<(), Fail> {
+    let alloc = rt.alloc();
+    let key = "key 00000000000000000000000000000000\n";
+    for (first, rest, fault) in [
+        ("sancus-image 1\n", "handler 0000\nend\n", None),
+        ("sancus-image 2\n", "handler 0000\nmodules 0\nend\n", None),
+        ("sancus-image 2\n", "handler 0000\nend\n", Some("Line 4")),
+        ("sancus-image 3\n", "handler 0000\nend\n", Some("Version 3")),
+        ("sancus-image 1\n", "handler 00g0\nend\n", Some("Digit 62")),
+    ] {
+        let image = format!(in alloc; "{first}{key}{rest}")?;
+        let asked = Asked {
+            image: image.as_str(),
+            schedule: "",
+            cycles: 0,
+        };
+        let given = call(
+            alloc,
+            asked,
+            files_of(alloc, asked)?,
+            MemSink::new(alloc, 1000)?,
+        )?;
+        let (status, out, err) = match fault {
+            None => (
+                Status::Done,
+                format!(in alloc; "end 0 outside {ZEROS}")?,
+                String::new(alloc),
+            ),
+            Some(fault) => (
+                Status::BadFile,
+                String::new(alloc),
+                format!(in alloc; "sancus: bad file a.img: {fault}\n")?,
+            ),
+        };
+        assert_eq!(rt; given.status, status, "{first}{rest}");
+        assert_eq!(rt; given.out.taken(), out.as_bytes(), "{first}{rest}");
+        assert_eq!(rt; given.err.taken(), err.as_bytes(), "{first}{rest}");
+    }
+    Ok(())
+}
+
 // Once a module has given itself up, its data are 0 and anyone may look at them.
 #[test]
 fn closed_data_are_cleared(rt: HostRuntime) -> Result<(), Fail> {

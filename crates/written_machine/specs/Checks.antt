@@ -39,8 +39,8 @@ abbrev pub first_word : State → ℕ
 first_word s = word_at (byte_of s) (pc_of s)
 
 -- the instruction at PC
-abbrev pub insn_in : State → Option Insn
-insn_in s = insn_at (byte_of s) (pc_of s) (length_at (first_word s))
+abbrev pub insn_at_pc : State → Option Insn
+insn_at_pc s = insn_at (byte_of s) (pc_of s) (length_at (first_word s))
 
 -- RETI asks for no access where it resumes a module
 abbrev pub asked_to_return : List Frame → State → List Access
@@ -63,16 +63,16 @@ abbrev pub check_of : Option ℕ → State → Access → Option Denied
 check_of active s x = right s.table active (held_ids s.frames) x
 
 -- the first word is in the code table, the later words are where it is, and RETI is outside; then the accesses
-abbrev pub checks_inside : State → List (Option Denied)
-checks_inside s =
+abbrev pub later_checks : State → List (Option Denied)
+later_checks s =
     refuse_if (is_none (insn_of (first_word s) 0 0)) Illegal (pc_of s) 0
     ∷ refuse_if (not (is_home s.table s.active (pc_of s) (length_at (first_word s)))) Straddle (pc_of s) 0
-    ∷ refuse_if (returns_inside (insn_in s) s.active) RetiInside (pc_of s) 0
-    ∷ map (check_of s.active s) (asked_by (insn_in s) s)
+    ∷ refuse_if (returns_inside (insn_at_pc s) s.active) RetiInside (pc_of s) 0
+    ∷ map (check_of s.active s) (asked_by (insn_at_pc s) s)
 
 -- the fetch is checked before a module is entered, all else after it
 abbrev pub insn_checks : State → List (Option Denied)
-insn_checks s = check_of s.active s (fetch s) ∷ checks_inside (entered s)
+insn_checks s = check_of s.active s (fetch s) ∷ later_checks (entered s)
 
 -- asleep there is none
 abbrev pub checks_unless : Bool → State → List (Option Denied)
@@ -107,5 +107,5 @@ abbrev pub stop_of : State → Option Stop
 stop_of s = stop_at (first_refused (checks s)) s
 
 -- the stop of a cycle, if one of its checks is refused
-abbrev pub refused_in : State → Option Stop
+unfoldable pub refused_in : State → Option Stop
 refused_in s = stop_of (settle (ticked s)).state
