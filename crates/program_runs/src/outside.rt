@@ -147,6 +147,68 @@ pub fn calls() -> [Run; 6] {
     ]
 }
 
+/// Instructions of which a check is refused, each by another rule.
+pub fn refusals() -> [Run; 5] {
+    [
+        // A text is written to.
+        Run {
+            image: Picture {
+                main: &[0x40b2, 0x1234, 0x0300],
+                ..BACK
+            },
+            schedule: "",
+            cycles: 10,
+            status: Status::Stopped,
+            text: "0 stop WriteText pc 0200 addr 0300 module 1\nend 0 stopped\n",
+        },
+        // A module does RETI.
+        Run {
+            image: Picture {
+                first: &[0x1300],
+                ..BACK
+            },
+            schedule: "",
+            cycles: 10,
+            status: Status::Stopped,
+            text: "5 enter 1 from 0\n5 stop RetiInside pc 0300 addr 0300 module 0\nend 5 stopped\n",
+        },
+        // The second word of an instruction of the outside lies in a text.
+        Run {
+            image: Picture {
+                modules: &[[0x0204, 0x0208, 0x0400, 0x0402]],
+                main: &[0x4303, 0x4035, 0x1234],
+                ..BACK
+            },
+            schedule: "",
+            cycles: 10,
+            status: Status::Stopped,
+            text: "1 stop Straddle pc 0202 addr 0202 module 0\nend 1 stopped\n",
+        },
+        // A word is read at an odd address.
+        Run {
+            image: Picture {
+                main: &[0x4215, 0x0401],
+                ..BACK
+            },
+            schedule: "",
+            cycles: 10,
+            status: Status::Stopped,
+            text: "0 stop Misaligned pc 0200 addr 0401 module 0\nend 0 stopped\n",
+        },
+        // No instruction has this word.
+        Run {
+            image: Picture {
+                main: &[0x4303, 0x0000],
+                ..BACK
+            },
+            schedule: "",
+            cycles: 10,
+            status: Status::Stopped,
+            text: "1 stop Illegal pc 0202 addr 0202 module 0\nend 1 stopped\n",
+        },
+    ]
+}
+
 /// Interrupts of the outside whose pushes meet a module's data, and handlers that are a module.
 pub fn outside_interrupts() -> [Run; 3] {
     [

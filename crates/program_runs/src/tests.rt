@@ -2,7 +2,7 @@
 
 use crate::images::{BALANCED, CALLED, Picture};
 use crate::interrupted::{handlers, nested, pulses};
-use crate::outside::{Run, calls, outside_interrupts, plain_runs};
+use crate::outside::{Run, calls, outside_interrupts, plain_runs, refusals};
 use board::{Board, Ran};
 use schedule_file::read_schedule;
 use sm_cli::{Status, serve};
@@ -86,7 +86,8 @@ fn assert_runs(rt: &impl Abort, alloc: Global, runs: &[Run]) -> Result<(), Fail>
 #[test]
 fn without_interrupts(rt: HostRuntime) -> Result<(), Fail> {
     assert_runs(&rt, rt.alloc(), &plain_runs())?;
-    assert_runs(&rt, rt.alloc(), &calls())
+    assert_runs(&rt, rt.alloc(), &calls())?;
+    assert_runs(&rt, rt.alloc(), &refusals())
 }
 
 #[test]
