@@ -5,11 +5,20 @@ mod table;
 #[cfg(test)]
 mod tests;
 
-ghost use Rattle.std.specs.Prelude.{◌≡◌, ℕ, ◌+◌, ◌%◌, ◌==◌, ◌||◌};
-ghost use Rattle.mod_layout.specs.Table.{holds, shares, meets, is_empty, is_odd, is_reserved, Table, place_of};
+ghost use Rattle.std.specs.Prelude.{◌≡◌, ℕ, ◌+◌, ◌%◌, ◌≤◌, ◌==◌, ◌||◌};
+ghost use Rattle.mod_layout.specs.Table.{holds, size_of, shares, meets, is_empty, is_odd, is_reserved, Table, place_of};
 ghost use Rattle.mod_layout.specs.Tables.{IsTable};
 
 pub use table::ModuleTable;
+
+/// The first address that is not a device's.
+pub const DEVICES_END: u16 = 0x0200;
+
+/// The address of the first of the sixteen vectors, which no section reaches: the largest end of one.
+pub const FIRST_VECTOR: u16 = 0xffe0;
+
+/// The address of the last vector, where the machine starts.
+pub const RESET_VECTOR: u16 = 0xfffe;
 
 /// The addresses from `start` on, below `end`.
 #[derive(Clone, Copy, Debug, Default, PartialEq, Eq)]
@@ -19,7 +28,8 @@ pub struct Section {
 }
 
 impl Section {
-    fn holds(self, addr: u16) -> bool
+    /// Whether it has this address.
+    pub fn holds(self, addr: u16) -> bool
         ensures { result ≡ holds self addr }
     {
         self.start <= addr && addr < self.end
@@ -31,7 +41,16 @@ impl Section {
         self.start < other.end && other.start < self.end
     }
 
-    fn is_empty(self) -> bool
+    /// How many bytes it has.
+    pub fn len(self) -> u16
+        requires { self.start ≤ self.end }
+        ensures { result ≡ size_of self }
+    {
+        self.end - self.start
+    }
+
+    /// Whether its start is not below its end.
+    pub fn is_empty(self) -> bool
         ensures { result ≡ is_empty self }
     {
         self.start >= self.end
@@ -46,7 +65,7 @@ impl Section {
     fn is_reserved(self) -> bool
         ensures { result ≡ is_reserved self }
     {
-        self.start < 0x0200 || self.end > 0xFFE0
+        self.start < DEVICES_END || self.end > FIRST_VECTOR
     }
 }
 
@@ -104,7 +123,7 @@ pub enum TableFault {
     /// A section meets one of a held module, and `with` is the lowest such id. Where none is met and
     /// the two sections meet each other, `with` is 0.
     Overlap { with: u16 },
-    /// A start is below 0x0200, where the devices are, or an end above 0xFFE0, where the vectors are.
+    /// A start is below [`DEVICES_END`], or an end above [`FIRST_VECTOR`].
     Reserved,
     /// As many modules are held as there is room for.
     Full,
