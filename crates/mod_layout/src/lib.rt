@@ -30,7 +30,7 @@ pub struct Section {
 impl Section {
     /// Whether it has this address.
     pub fn holds(self, addr: u16) -> bool
-        ensures { result ≡ holds self addr }
+        ensures exact { result ≡ holds self addr }
     {
         self.start <= addr && addr < self.end
     }
@@ -43,15 +43,15 @@ impl Section {
 
     /// How many bytes it has.
     pub fn len(self) -> u16
-        requires { self.start ≤ self.end }
-        ensures { result ≡ size_of self }
+        requires order { self.start ≤ self.end }
+        ensures size { result ≡ size_of self }
     {
         self.end - self.start
     }
 
     /// Whether its start is not below its end.
     pub fn is_empty(self) -> bool
-        ensures { result ≡ is_empty self }
+        ensures exact { result ≡ is_empty self }
     {
         self.start >= self.end
     }
@@ -133,5 +133,5 @@ pub enum TableFault {
 
 /// Both bytes of a word at an even address are in the same place: sections have even ends.
 pub fn words_lie_in_one_place()
-    ensures { (t : Table) (a : ℕ) → IsTable t → a % 2 ≡ 0 → place_of t (a + 1) ≡ place_of t a }
+    ensures place { (t : Table) (a : ℕ) → IsTable t → a % 2 ≡ 0 → place_of t (a + 1) ≡ place_of t a }
 {}

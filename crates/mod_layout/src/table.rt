@@ -59,7 +59,7 @@ impl ModuleTable {
 
     /// A table with no module, and room for 8 or 32.
     pub fn with_room(room: u16) -> Self
-        requires { (room ≡ 8) ⊎ (room ≡ 32) }
+        requires rooms { (room ≡ 8) ⊎ (room ≡ 32) }
         ensures empty { result ≡ empty_table room }
         ensures table { IsTable result }
     {
@@ -88,7 +88,7 @@ impl ModuleTable {
 
     /// Whether no module is held.
     pub fn is_empty(&self) -> bool
-        ensures { IsTrue result ↔ (self.now.modules ≡ []) }
+        ensures empty { IsTrue result ↔ (self.now.modules ≡ []) }
     {
         self.modules.is_empty()
     }

@@ -51,7 +51,7 @@ fn flagged(value: u16, carry: bool, overflow: bool, width: Width) -> Sum
 /// The sum of two bytes or words and a carry. C is set where it reaches 256 or 65,536, V where the sum
 /// of the signed numbers is outside their range.
 pub fn add(a: u16, b: u16, c: bool, width: Width) -> Sum
-    ensures { result ≡ sum_of width a b (one_if c) }
+    ensures exact { result ≡ sum_of width a b (one_if c) }
 {
     let total = u32::from(width.low(a)) + u32::from(width.low(b)) + u32::from(c);
     let overflow = is_outside(signed_total(a, b, c, width), width);
@@ -77,7 +77,7 @@ fn carried(total: u32, overflow: bool, width: Width) -> Sum
 /// The decimal sum of two bytes or words and a carry, by digits of four bits. C is the carry of the
 /// highest digit; V is 0.
 pub fn dadd(a: u16, b: u16, c: bool, width: Width) -> Sum
-    ensures { result ≡ dadd_of width a b (one_if c) }
+    ensures exact { result ≡ dadd_of width a b (one_if c) }
 {
     let digits = match width {
         Width::Byte => 2,
@@ -105,7 +105,7 @@ fn decimal_sum(digits: u8, a: u16, b: u16, c: bool) -> u32
 /// A byte or a word rotated right by one through the carry: the old carry becomes the highest bit, the
 /// lowest bit the carry. V is 0.
 pub fn rrc(a: u16, c: bool, width: Width) -> Sum
-    ensures { result ≡ rrc_of width a (one_if c) }
+    ensures exact { result ≡ rrc_of width a (one_if c) }
 {
     let top = if c { width.limit() / 2 } else { 0 };
     let value = width.low(a) / 2 + top as u16;
@@ -114,14 +114,14 @@ pub fn rrc(a: u16, c: bool, width: Width) -> Sum
 
 /// A byte or a word shifted right by one with its sign kept; C is the bit shifted out, V is 0.
 pub fn rra(a: u16, width: Width) -> Sum
-    ensures { result ≡ rra_of width a }
+    ensures exact { result ≡ rra_of width a }
 {
     rrc(a, is_negative(a, width), width)
 }
 
 /// The low byte as a signed word. C is the opposite of Z, V is 0.
 pub fn sxt(a: u16) -> Sum
-    ensures { result ≡ sxt_of a }
+    ensures exact { result ≡ sxt_of a }
 {
     let byte = Width::Byte.low(a);
     let value = if byte >= 0x80 { byte + 0xff00 } else { byte };
@@ -130,14 +130,14 @@ pub fn sxt(a: u16) -> Sum
 
 /// The word with its two bytes changed about.
 pub fn swpb(a: u16) -> u16
-    ensures { result ≡ swpb_of a }
+    ensures exact { result ≡ swpb_of a }
 {
     a / 0x100 + 0x100 * (a % 0x100)
 }
 
 /// The bits that both bytes or words have. C is the opposite of Z, V is 0.
 pub fn and(a: u16, b: u16, width: Width) -> Sum
-    ensures { result ≡ and_of width a b }
+    ensures exact { result ≡ and_of width a b }
 {
     let value = width.low(a) & width.low(b);
     flagged(value, value != 0, false, width)
@@ -146,7 +146,7 @@ pub fn and(a: u16, b: u16, width: Width) -> Sum
 /// The bits that one of two bytes or words alone has. C is the opposite of Z, V is set where both are
 /// negative.
 pub fn xor(a: u16, b: u16, width: Width) -> Sum
-    ensures { result ≡ xor_of width a b }
+    ensures exact { result ≡ xor_of width a b }
 {
     let value = width.low(a) ^ width.low(b);
     let both = is_negative(a, width) && is_negative(b, width);

@@ -90,14 +90,14 @@ impl Core {
 
     /// Whether interrupts are enabled.
     pub fn is_gie(&self) -> bool
-        ensures { result ≡ is_gie self.now }
+        ensures bit { result ≡ is_gie self.now }
     {
         status::is_set(status::GIE, self.sr())
     }
 
     /// Whether the processor is off.
     pub fn is_cpu_off(&self) -> bool
-        ensures { result ≡ is_cpu_off self.now }
+        ensures bit { result ≡ is_cpu_off self.now }
     {
         status::is_set(status::CPU_OFF, self.sr())
     }

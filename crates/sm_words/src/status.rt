@@ -25,7 +25,7 @@ pub const LIMIT: u16 = 0x0200;
 
 /// Whether the bit with this worth is set.
 pub fn is_set(mask: u16, sr: u16) -> bool
-    requires { 0 < mask }
+    requires bit { 0 < mask }
     ensures set { result ≡ is_set mask sr }
     ensures worth { one_if result ≡ bit mask sr }
 {
@@ -41,7 +41,7 @@ fn controls(sr: u16) -> u16
 
 /// SR with C, Z, N and V of a result, and its other bits as they were.
 pub fn with_flags(sum: &Sum, sr: u16) -> u16
-    ensures { result ≡ with_flags sum.now sr }
+    ensures exact { result ≡ with_flags sum.now sr }
 {
     CARRY * u16::from(sum.c)
         + ZERO * u16::from(sum.z)
@@ -52,14 +52,14 @@ pub fn with_flags(sum: &Sum, sr: u16) -> u16
 
 /// SR after an instruction inside a module: C, Z, N and V are those of `new`, all other bits those of `old`.
 pub fn confined(old: u16, new: u16) -> u16
-    ensures { result ≡ confined_sr old new }
+    ensures exact { result ≡ confined_sr old new }
 {
     new % GIE + controls(old) + OVERFLOW * (new / OVERFLOW % 2)
 }
 
 /// SR once an interrupt was accepted: it keeps SCG0 alone.
 pub fn interrupted(sr: u16) -> u16
-    ensures { result ≡ interrupted_sr sr }
+    ensures exact { result ≡ interrupted_sr sr }
 {
     SCG0 * (sr / SCG0 % 2)
 }

@@ -14,7 +14,7 @@ pub enum Width {
 impl Width {
     /// The first number that a byte or a word is too small for.
     pub fn limit(self) -> u32
-        ensures { result ≡ limit self }
+        ensures exact { result ≡ limit self }
     {
         match self {
             Width::Byte => 0x100,
@@ -24,7 +24,7 @@ impl Width {
 
     /// The low byte, or the word.
     pub fn low(self, value: u16) -> u16
-        ensures { result ≡ low self value }
+        ensures exact { result ≡ low self value }
     {
         match self {
             Width::Byte => value % 0x100,
@@ -34,7 +34,7 @@ impl Width {
 
     /// Each bit of the low byte, or of the word, turned.
     pub fn complement(self, value: u16) -> u16
-        ensures { result ≡ complement self value }
+        ensures exact { result ≡ complement self value }
     {
         match self {
             Width::Byte => 0xff - value % 0x100,
