@@ -1,5 +1,5 @@
 -- Words, the memory's words and the sixteen registers (MSP430x1xx Family User's Guide SLAU049, section 3.2).
-use Rattle.std.specs.Prelude.{◌≡◌, ℕ, ◌+◌, ◌-◌, ◌*◌, ◌/◌, ◌%◌, ◌<◌, List, length, slice_index, slice_set, slice_index_or, ◌==◌, if◌then◌else◌, ◌||◌}
+use Rattle.std.specs.Prelude.{◌≡◌, ℕ, zero, suc, ◌+◌, ◌-◌, ◌*◌, ◌/◌, ◌%◌, ◌<◌, List, [], ◌∷◌, length, slice_index, slice_set, slice_index_or, ◌==◌, if◌then◌else◌, ◌||◌}
 use Rattle.sm_words.specs.declared.registers.TheConstants.{PC, SP, SR, CG}
 use Rattle.sm_words.specs.declared.status.TheConstants.{LIMIT}
 
@@ -21,6 +21,13 @@ high_byte w = w / 0x100 % 0x100
 -- the word at an address, low byte first
 abbrev pub word_at : (ℕ → ℕ) → ℕ → ℕ
 word_at byte a = word_of (byte a) (byte (a + 1))
+
+-- past the first lo, the next n bytes are 0
+abbrev pub cleared : ℕ → ℕ → List ℕ → List ℕ
+cleared lo zero bytes = bytes
+cleared lo (suc n) [] = []
+cleared zero (suc n) (b ∷ bs) = 0 ∷ cleared zero n bs
+cleared (suc lo) (suc n) (b ∷ bs) = b ∷ cleared lo (suc n) bs
 
 -- a core is a list of sixteen words; this is register n, and 0 past the sixteenth
 abbrev pub reg : List ℕ → ℕ → ℕ
