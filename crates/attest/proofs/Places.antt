@@ -4,11 +4,13 @@ use Rattle.std.proofs.lemmas.Bool.Decides.{nat_tests}
 use Rattle.sm_words.specs.declared.width.Width.TheVariants.{Byte}
 use Rattle.mod_layout.specs.declared.Section.{Section}
 use Rattle.mod_layout.specs.declared.Module.{Module}
+use Rattle.mod_layout.specs.declared.TheConstants.{DEVICES_END}
 use Rattle.mod_layout.specs.declared.Place.{Place}
 use Rattle.mod_layout.specs.declared.Place.TheVariants.{Open, Entry, Text, Data}
 use Rattle.mod_layout.specs.Table.{Table, holds, size_of, place_by, place_in, place_of, find_module, module_of, with_module}
 use Rattle.mod_layout.specs.Tables.{Apart, IsSection, IsModule, Separate, SeparateFrom, AreModules, IsTable}
-use Rattle.mod_layout.proofs.Found.{outside, within, elsewhere, none_found, found_first, separate_found, module_found}
+use Rattle.mod_layout.proofs.Found.{outside, within, elsewhere, none_found, found_first, separate_found}
+pub use Rattle.mod_layout.proofs.Found.{and_true, module_found}
 use Rattle.pc_access.specs.declared.Kind.{Kind}
 use Rattle.pc_access.specs.declared.Kind.TheVariants.{Read, Write}
 use Rattle.pc_access.specs.Rights.{right, right_at, or_else, first_denied, access_of}
@@ -136,13 +138,13 @@ other_text_allowed t active (Data id) held m ok e = absurd (none_found m e)
 -- ---- ranges
 
 pub record InRange (a b : ℕ) : Type 0 where
-  pub low : 512 ≤ a
+  pub low : DEVICES_END ≤ a
   pub high : b ≤ 65536
   pub order : a ≤ b
 
 pub range_of : (a b : ℕ) → in_range a b ≡ true → InRange a b
 range_of a b e =
-    let p = and_true (nat_le 512 a && nat_le b 65536) (nat_le a b) e in
-    let q = and_true (nat_le 512 a) (nat_le b 65536) p.0 in
+    let p = and_true (nat_le DEVICES_END a && nat_le b 0x10000) (nat_le a b) e in
+    let q = and_true (nat_le DEVICES_END a) (nat_le b 0x10000) p.0 in
     let q0 = q.0 in let q1 = q.1 in let p1 = p.1 in
     record { low = grind (arith, nat_tests); high = grind (arith, nat_tests); order = grind (arith, nat_tests) }

@@ -26,3 +26,16 @@ cleared_next lo at now before h e =
     let i : at ≡ lo + (at - lo) = omega arith in
     ap (λ (l : List ℕ). set l at 0) e ∙ ap (λ (j : ℕ). set (cleared lo (at - lo) before) j 0) i
     ∙ sym (cleared_more lo (at - lo) before) ∙ ap (λ (n : ℕ). cleared lo n before) k
+
+-- to clear a byte, and then those behind it
+pub cleared-set : (lo n : ℕ) (bytes : List ℕ) → cleared (lo + 1) n (set bytes lo 0) ≡ cleared lo (suc n) bytes
+cleared-set zero zero [] = refl
+cleared-set zero zero (x ∷ xs) = refl
+cleared-set zero (suc n) [] = refl
+cleared-set zero (suc n) (x ∷ xs) = refl
+cleared-set (suc lo) zero [] = refl
+cleared-set (suc lo) zero (x ∷ xs) = ap (λ (l : List ℕ). x ∷ l) (cleared-set lo zero xs)
+cleared-set (suc lo) (suc n) [] = refl
+cleared-set (suc lo) (suc n) (x ∷ xs) =
+    let e : suc lo + 1 ≡ suc (lo + 1) = omega arith in
+    ap (λ (i : ℕ). cleared i (suc n) (x ∷ set xs lo 0)) e ∙ ap (λ (l : List ℕ). x ∷ l) (cleared-set lo (suc n) xs)
