@@ -23,8 +23,8 @@ abbrev pub controls : ℕ → ℕ
 controls sr = GIE * ((sr / GIE) % (OVERFLOW / GIE))
 
 -- SR with the flags of a result
-abbrev pub with_flags : Sum → ℕ → ℕ
-with_flags s sr = CARRY * one_if s.c + ZERO * one_if s.z + NEGATIVE * one_if s.n + controls sr + OVERFLOW * one_if s.v
+abbrev pub sr_with_flags : Sum → ℕ → ℕ
+sr_with_flags s sr = CARRY * one_if s.c + ZERO * one_if s.z + NEGATIVE * one_if s.n + controls sr + OVERFLOW * one_if s.v
 
 -- inside a module SR keeps all bits but C, Z, N and V
 abbrev pub confined_sr : ℕ → ℕ → ℕ

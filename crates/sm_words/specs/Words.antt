@@ -39,7 +39,7 @@ kept_word n w = if (n == PC) || (n == SP) then w - w % 2 else (if n == SR then w
 
 -- what a register keeps of a number: of its word
 abbrev pub kept : ℕ → ℕ → ℕ
-kept n v = kept_word n (v % 65536)
+kept n v = kept_word n (v % 0x10000)
 
 -- the core once a number is written to register n
 abbrev pub put : List ℕ → ℕ → ℕ → List ℕ
@@ -52,7 +52,7 @@ core_of words = put (put (put (put words PC (reg words PC)) SP (reg words SP)) S
 -- the rules of a core
 pub record IsCore (core : List ℕ) : Type 0 where
   pub sixteen : length core ≡ 16
-  pub words : (n : ℕ) → reg core n < 65536
+  pub words : (n : ℕ) → reg core n < 0x10000
   pub even_pc : reg core PC % 2 ≡ 0
   pub even_sp : reg core SP % 2 ≡ 0
   pub nine_bits : reg core SR < LIMIT
@@ -64,4 +64,8 @@ bit n v = (v / n) % 2
 
 -- a sum of words or addresses
 abbrev pub add16 : ℕ → ℕ → ℕ
-add16 a b = (a + b) % 65536
+add16 a b = (a + b) % 0x10000
+
+-- a difference of words or addresses
+abbrev pub sub16 : ℕ → ℕ → ℕ
+sub16 a b = add16 a (0x10000 - b)

@@ -2,7 +2,7 @@
 ghost use Rattle.std.specs.Prelude.{◌≡◌, ◌<◌};
 ghost use Rattle.sm_words.specs.Words.{bit};
 ghost use Rattle.sm_words.specs.Sums.{one_if};
-ghost use Rattle.sm_words.specs.Status.{is_set, controls, with_flags, confined_sr, interrupted_sr};
+ghost use Rattle.sm_words.specs.Status.{is_set, controls, sr_with_flags, confined_sr, interrupted_sr};
 
 use crate::width::Sum;
 
@@ -41,7 +41,7 @@ fn controls(sr: u16) -> u16
 
 /// SR with C, Z, N and V of a result, and its other bits as they were.
 pub fn with_flags(sum: &Sum, sr: u16) -> u16
-    ensures exact { result ≡ with_flags sum.now sr }
+    ensures exact { result ≡ sr_with_flags sum.now sr }
 {
     CARRY * u16::from(sum.c)
         + ZERO * u16::from(sum.z)
@@ -51,14 +51,14 @@ pub fn with_flags(sum: &Sum, sr: u16) -> u16
 }
 
 /// SR after an instruction inside a module: C, Z, N and V are those of `new`, all other bits those of `old`.
-pub fn confined(old: u16, new: u16) -> u16
+pub fn confine(old: u16, new: u16) -> u16
     ensures exact { result ≡ confined_sr old new }
 {
     new % GIE + controls(old) + OVERFLOW * (new / OVERFLOW % 2)
 }
 
 /// SR once an interrupt was accepted: it keeps SCG0 alone.
-pub fn interrupted(sr: u16) -> u16
+pub fn interrupt(sr: u16) -> u16
     ensures exact { result ≡ interrupted_sr sr }
 {
     SCG0 * (sr / SCG0 % 2)

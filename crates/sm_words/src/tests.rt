@@ -94,9 +94,9 @@ fn status_bits(rt: HostRuntime) {
     // All flags but Z; GIE, CPUOFF, OSCOFF, SCG0 and SCG1 stay.
     let flags = sum(0, true, false, true, true);
     assert_eq!(rt; status::with_flags(&flags, 0x00fa), 0x01fd);
-    assert_eq!(rt; status::confined(0x00f8, 0x0107), 0x01ff);
-    assert_eq!(rt; status::confined(0x0107, 0x00f8), 0x0000);
-    assert_eq!(rt; status::interrupted(0x01ff), 0x0040);
+    assert_eq!(rt; status::confine(0x00f8, 0x0107), 0x01ff);
+    assert_eq!(rt; status::confine(0x0107, 0x00f8), 0x0000);
+    assert_eq!(rt; status::interrupt(0x01ff), 0x0040);
 }
 
 #[test]
