@@ -9,7 +9,7 @@ ghost use Rattle.written_machine.specs.Script.{stands_at};
 ghost use Rattle.written_machine.specs.Trace.{end_of, end_line_of, lines_of};
 ghost use Rattle.written_machine.specs.View.{boot};
 ghost use Rattle.sm_io.specs.Sink.{Puts};
-ghost use Rattle.board.specs.Alike.{PeersTell, PeersShow};
+ghost use Rattle.board.specs.Alike.{PeersTell, PeersShow, PeersRun, PeersEnd};
 ghost use Rattle.board.specs.Ran.{Runs, ran_of};
 
 use crate::machine::Machine;
@@ -105,7 +105,11 @@ impl Board {
         requires { self.old.cycle + cycles ≤ 2 ^ 62 }
         ensures ran { Runs S.taken S.faults S.sure cycles self.old self.new sink.old sink.new result }
         ensures number { self.new.cycle ≤ self.old.cycle + cycles }
+
+        // The lines are those of each image that differs in one confined module's data alone.
+        ensures peers { PeersRun S.taken S.faults S.sure cycles self.old sink.old sink.new result }
     {
+        isolation::texts();
         let mut left = cycles;
         while left > 0 {
             if self.is_stopped() {
@@ -152,8 +156,12 @@ impl Board {
 
     /// The end line.
     pub fn finish<S: Sink>(&self, sink: &mut S) -> Result<(), Failed>
-        ensures { Puts S.taken S.faults S.sure sink.old sink.new (end_line_of self.now) result }
+        ensures line { Puts S.taken S.faults S.sure sink.old sink.new (end_line_of self.now) result }
+
+        // It is that of each image that differs in one confined module's data alone.
+        ensures peers { PeersEnd S.taken S.faults S.sure self.now sink.old sink.new result }
     {
+        isolation::texts();
         let mut line = ArrayString::new();
         tracer::end_line(self.machine.cycle, &self.end_state(), &mut line);
         put_all(sink, line.as_str().as_bytes())
