@@ -20,10 +20,11 @@ use arrayvec::{ArrayString, ArrayVec};
 use devices::Bus;
 use image_text::Image;
 use mem_map::Memory;
+use mod_layout::RESET_VECTOR;
 use reg_backup::{After, Frames, Phase};
 use schedule_file::Schedule;
 use sm_io::{Failed, Sink, put_all};
-use sm_words::Core;
+use sm_words::{Core, PC};
 use std::alloc::Global;
 use std::marker::Model;
 use tracer::{EndState, Event};
@@ -58,7 +59,7 @@ impl Board {
         let memory = Memory::new(alloc, image.memory.as_slice())?;
         let bus = Bus::new(alloc, schedule)?;
         let mut core = Core::new([0; 16]);
-        core.put(0, memory.word(0xfffe));
+        core.put(PC, memory.word(RESET_VECTOR));
         Ok(Board {
             machine: Machine {
                 core,
@@ -199,7 +200,7 @@ impl Board {
         machine.active.is_none()
             && machine.phase == (Phase::Run { rest: 0 })
             && machine.after != After::Resume
-            && machine.core.get(0) == addr
+            && machine.core.pc() == addr
     }
 }
 
