@@ -11,17 +11,13 @@ use Rattle.written_machine.specs.Passing.{Leads}
 use Rattle.written_machine.specs.State.{State}
 use Rattle.written_machine.specs.Trace.{lines_of, lines_after}
 use Rattle.board.specs.declared.Ran.{Ran}
-use Rattle.board.specs.Ran.{RanWhole, Runs, ran_of}
-
--- the lines of the next cycle
-abbrev pub cycle_lines : State → List ℕ
-cycle_lines s = lines_of s.cycle (cycle s).events
+use Rattle.board.specs.Ran.{lines_now, RanWhole, Runs, ran_of}
 
 -- one cycle more, at the end
 pub state_more : (n : ℕ) (s : State) → after_cycles s (n + 1) ≡ (cycle (after_cycles s n)).state
 state_more n s = let e : n + 1 ≡ suc n = omega arith in ap (after_cycles s) e
 
-pub lines_more : (n : ℕ) (s : State) → lines_after s (n + 1) ≡ lines_after s n ++ cycle_lines (after_cycles s n)
+pub lines_more : (n : ℕ) (s : State) → lines_after s (n + 1) ≡ lines_after s n ++ lines_now (after_cycles s n)
 lines_more n s = let e : n + 1 ≡ suc n = omega arith in ap (lines_after s) e
 
 -- a run of n cycles and m more
@@ -33,29 +29,29 @@ pub lines_split : (n m : ℕ) (s : State) → lines_after s (n + m) ≡ lines_af
 lines_split n zero s = (let e : n + 0 ≡ n = omega arith in ap (lines_after s) e) ∙ sym (append-nil (lines_after s n))
 lines_split n (suc m) s =
     (let e : n + suc m ≡ suc (n + m) = omega arith in ap (lines_after s) e)
-    ∙ ap (λ (t : State). lines_after s (n + m) ++ cycle_lines t) (state_split n m s)
-    ∙ ap (λ (l : List ℕ). l ++ cycle_lines (after_cycles (after_cycles s n) m)) (lines_split n m s)
-    ∙ append_assoc (lines_after s n) (lines_after (after_cycles s n) m) (cycle_lines (after_cycles (after_cycles s n) m))
+    ∙ ap (λ (t : State). lines_after s (n + m) ++ lines_now t) (state_split n m s)
+    ∙ ap (λ (l : List ℕ). l ++ lines_now (after_cycles (after_cycles s n) m)) (lines_split n m s)
+    ∙ append_assoc (lines_after s n) (lines_after (after_cycles s n) m) (lines_now (after_cycles (after_cycles s n) m))
 
 -- the lines of a longer run begin with those of a shorter, and those of the next cycle
-pub lines_within : (n all : ℕ) (s : State) (lines : List ℕ) → n < all → lines ≡ cycle_lines (after_cycles s n) →
+pub lines_within : (n all : ℕ) (s : State) (lines : List ℕ) → n < all → lines ≡ lines_now (after_cycles s n) →
     lines_after s n ++ (lines ++ lines_after (after_cycles s (n + 1)) (all - (n + 1))) ≡ lines_after s all
 lines_within n all s lines h e =
     let rest = lines_after (after_cycles s (n + 1)) (all - (n + 1)) in
     let whole : (n + 1) + (all - (n + 1)) ≡ all = omega arith in
     ap (λ (l : List ℕ). lines_after s n ++ (l ++ rest)) e
-    ∙ sym (append_assoc (lines_after s n) (cycle_lines (after_cycles s n)) rest)
+    ∙ sym (append_assoc (lines_after s n) (lines_now (after_cycles s n)) rest)
     ∙ ap (λ (l : List ℕ). l ++ rest) (sym (lines_more n s))
     ∙ sym (lines_split (n + 1) (all - (n + 1)) s)
     ∙ ap (lines_after s) whole
 
 -- the lines so far after a cycle
-pub lines_next : (n : ℕ) (s : State) (lines : List ℕ) → lines ≡ cycle_lines (after_cycles s n) → lines_after s n ++ lines ≡ lines_after s (n + 1)
+pub lines_next : (n : ℕ) (s : State) (lines : List ℕ) → lines ≡ lines_now (after_cycles s n) → lines_after s n ++ lines ≡ lines_after s (n + 1)
 lines_next n s lines e = ap (λ (l : List ℕ). lines_after s n ++ l) e ∙ sym (lines_more n s)
 
 -- the lines of a cycle, by its number and its events
-pub lines_are : (s t : State) (number : ℕ) (events : List Event) → number ≡ s.cycle → events ≡ (cycle s).events → s ≡ t → lines_of number events ≡ cycle_lines t
-lines_are s t number events at are same = ap (λ (k : ℕ). lines_of k events) at ∙ ap (lines_of s.cycle) are ∙ ap cycle_lines same
+pub lines_are : (s t : State) (number : ℕ) (events : List Event) → number ≡ s.cycle → events ≡ (cycle s).events → s ≡ t → lines_of number events ≡ lines_now t
+lines_are s t number events at are same = ap (λ (k : ℕ). lines_of k events) at ∙ ap (lines_of s.cycle) are ∙ ap lines_now same
 
 -- a stopped machine stays as it is, without a line
 pub stays : (s : State) (stop : Stop) → s.stop ≡ Some stop → cycle s ≡ quiet s
@@ -68,7 +64,7 @@ stopped_state (suc m) s stop e = ap (λ (t : State). (cycle t).state) (stopped_s
 stopped_lines : (m : ℕ) (s : State) (stop : Stop) → s.stop ≡ Some stop → lines_after s m ≡ []
 stopped_lines zero s stop e = refl
 stopped_lines (suc m) s stop e =
-    ap (λ (t : State). lines_after s m ++ cycle_lines t) (stopped_state m s stop e)
+    ap (λ (t : State). lines_after s m ++ lines_now t) (stopped_state m s stop e)
     ∙ ap (λ (t : Step). lines_after s m ++ lines_of s.cycle t.events) (stays s stop e)
     ∙ append-nil (lines_after s m)
     ∙ stopped_lines m s stop e

@@ -9,7 +9,7 @@ ghost use Rattle.written_machine.specs.Script.{stands_at};
 ghost use Rattle.written_machine.specs.Trace.{end_of, end_line_of, lines_of};
 ghost use Rattle.written_machine.specs.View.{boot};
 ghost use Rattle.sm_io.specs.Sink.{Puts};
-ghost use Rattle.board.specs.Alike.{PeersTell, PeersShow};
+ghost use Rattle.board.specs.Alike.{PeersTell, PeersShow, PeersRun, PeersEnd};
 ghost use Rattle.board.specs.Ran.{Runs, ran_of};
 
 use crate::machine::Machine;
@@ -20,10 +20,11 @@ use arrayvec::{ArrayString, ArrayVec};
 use devices::Bus;
 use image_text::Image;
 use mem_map::Memory;
+use mod_layout::RESET_VECTOR;
 use reg_backup::{After, Frames, Phase};
 use schedule_file::Schedule;
 use sm_io::{Failed, Sink, put_all};
-use sm_words::Core;
+use sm_words::{Core, PC};
 use std::alloc::Global;
 use std::marker::Model;
 use tracer::{EndState, Event};
@@ -58,7 +59,7 @@ impl Board {
         let memory = Memory::new(alloc, image.memory.as_slice())?;
         let bus = Bus::new(alloc, schedule)?;
         let mut core = Core::new([0; 16]);
-        core.put(0, memory.word(0xfffe));
+        core.put(PC, memory.word(RESET_VECTOR));
         Ok(Board {
             machine: Machine {
                 core,
@@ -105,7 +106,11 @@ impl Board {
         requires { self.old.cycle + cycles ≤ 2 ^ 62 }
         ensures ran { Runs S.taken S.faults S.sure cycles self.old self.new sink.old sink.new result }
         ensures number { self.new.cycle ≤ self.old.cycle + cycles }
+
+        // The lines are those of each image that differs in one confined module's data alone.
+        ensures peers { PeersRun S.taken S.faults S.sure cycles self.old sink.old sink.new result }
     {
+        isolation::texts();
         let mut left = cycles;
         while left > 0 {
             if self.is_stopped() {
@@ -152,8 +157,12 @@ impl Board {
 
     /// The end line.
     pub fn finish<S: Sink>(&self, sink: &mut S) -> Result<(), Failed>
-        ensures { Puts S.taken S.faults S.sure sink.old sink.new (end_line_of self.now) result }
+        ensures line { Puts S.taken S.faults S.sure sink.old sink.new (end_line_of self.now) result }
+
+        // It is that of each image that differs in one confined module's data alone.
+        ensures peers { PeersEnd S.taken S.faults S.sure self.now sink.old sink.new result }
     {
+        isolation::texts();
         let mut line = ArrayString::new();
         tracer::end_line(self.machine.cycle, &self.end_state(), &mut line);
         put_all(sink, line.as_str().as_bytes())
@@ -191,7 +200,7 @@ impl Board {
         machine.active.is_none()
             && machine.phase == (Phase::Run { rest: 0 })
             && machine.after != After::Resume
-            && machine.core.get(0) == addr
+            && machine.core.pc() == addr
     }
 }
 

@@ -62,7 +62,7 @@ impl Machine {
         requires { self.now.port.bus.ticks ≡ self.now.cycle }
         ensures { Calm result (state_of self.now) }
     {
-        if !self.gie() || !self.has_room() {
+        if !self.core.is_gie() || !self.has_room() {
             return u64::MAX;
         }
         match self.port.bus.line() {

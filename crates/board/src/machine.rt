@@ -3,22 +3,18 @@
 ghost use Rattle.std.specs.Prelude.{◌≡◌, ◌+◌, ◌<◌, ◌≤◌, ◌^◌, ◌∷◌, ◌++◌, ◌&&◌, [], nat_lt, length, option_to_list, IfSome, None};
 ghost use Rattle.arrayvec.specs.ArrayVec.{array_vec_len};
 ghost use Rattle.sm_words.specs.Words.{word_at, IsCore};
-ghost use Rattle.attest.specs.Done.{own_of};
-ghost use Rattle.written_machine.specs.Cycle.{pc_of, gie as gie_of, asleep, stopped, denied, vector_in, raised, has_room};
+ghost use Rattle.written_machine.specs.Cycle.{pc_of, asleep, stopped, denied, vector_in, raised, has_room};
 ghost use Rattle.board.specs.Standing.{state_of, clock_of};
 ghost use Rattle.board.specs.Sound.{is_held_first, IsSound, Stands};
 
 use crate::port::Surroundings;
 use arrayvec::ArrayVec;
 use devices::Device;
-use mod_layout::{Module, ModuleTable};
+use mod_layout::{FIRST_VECTOR, ModuleTable};
 use pc_access::{Denied, Rule, Stop};
 use reg_backup::{After, FrameKind, Frames, Phase};
 use sm_words::Core;
 use tracer::Event;
-
-/// The most frames that can stand.
-const MOST_FRAMES: u8 = 8;
 
 /// All that a cycle reads or changes, and the image's key and `handler_sp`.
 #[derive(Drop)]
@@ -47,28 +43,14 @@ impl Machine {
         ensures pc { result ≡ pc_of (state_of self.now) }
         ensures core { IsCore self.now.core }
     {
-        self.core.get(0)
-    }
-
-    /// Whether interrupts may arrive.
-    pub fn gie(&self) -> bool
-        ensures { result ≡ gie_of self.now.core }
-    {
-        self.core.get(2) / 8 % 2 == 1
+        self.core.pc()
     }
 
     /// Whether the processor is off.
     pub fn is_asleep(&self) -> bool
         ensures { result ≡ asleep (state_of self.now) }
     {
-        self.core.get(2) / 16 % 2 == 1
-    }
-
-    /// The active module.
-    pub fn own(&self) -> Option<Module>
-        ensures { result ≡ own_of self.now.active self.now.table }
-    {
-        self.table.get(self.active?).copied()
+        self.core.is_cpu_off()
     }
 
     /// Where a vector goes on.
@@ -76,7 +58,7 @@ impl Machine {
         requires { vector ≤ 15 }
         ensures { result ≡ vector_in self.now.port.memory.bytes vector }
     {
-        self.port.memory.word(0xffe0 + 2 * u16::from(vector))
+        self.port.memory.word(FIRST_VECTOR + 2 * u16::from(vector))
     }
 
     /// The vector that is raised, where interrupts may arrive.
@@ -85,7 +67,7 @@ impl Machine {
         ensures vector { result ≡ raised (state_of self.now) }
         ensures low { IfSome result (λ v. v ≤ 15) }
     {
-        if self.gie() {
+        if self.core.is_gie() {
             self.port.bus.line()
         } else {
             None
@@ -96,7 +78,7 @@ impl Machine {
     pub fn has_room(&self) -> bool
         ensures { result ≡ has_room (state_of self.now) }
     {
-        self.frames.kind(MOST_FRAMES - 1).is_none()
+        !self.frames.is_full()
     }
 
     /// Whether the newest frame is a module's.

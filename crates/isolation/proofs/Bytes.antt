@@ -1,7 +1,7 @@
 -- A memory whose data section is cleared.
 use Rattle.std.proofs.Common.{◌≡◌, ◌⊎◌, inl, inr, ⊎_elim, ℕ, zero, suc, ◌+◌, ◌-◌, ◌<◌, ◌≤◌, List, [], ◌∷◌, length, get_or, take, drop, set, refl, sym, ap, ◌∙◌, arith, get_or-take, get_or-drop}
 use Rattle.std.proofs.lemmas.List.{drop-set-add, take-set-le}
-use Rattle.written_machine.specs.Cycle.{cleared}
+use Rattle.sm_words.specs.Words.{cleared}
 
 -- the address is outside the n bytes from lo on
 abbrev pub Out : ℕ → ℕ → ℕ → Type 0

@@ -7,8 +7,9 @@ use Rattle.reg_backup.specs.declared.backup.Phase.{Phase}
 use Rattle.reg_backup.specs.declared.backup.Phase.TheVariants.{Run, Pad}
 use Rattle.devices.specs.Devices.{line_of}
 use Rattle.written_machine.specs.Checks.{checks_by, checks}
-use Rattle.written_machine.specs.Cycle.{Step, asleep, due, gie, has_room, raised, turn_by, turn, vector_if}
+use Rattle.written_machine.specs.Cycle.{Step, asleep, due, has_room, raised, turn_by, turn, vector_if}
 use Rattle.written_machine.specs.State.{State}
+use Rattle.sm_words.specs.Status.{is_gie}
 
 -- a vector is due only where there is room
 abbrev pub case_at : Option ℕ → Option ℕ → Phase → Bool → Turn
@@ -62,8 +63,8 @@ checks_by_room false false v s = checks_full None s.active s.phase (asleep s) s
 
 pub turn_is : (left : ℕ) (s : State) → turn left s ≡ turn_at (due s) s.active s.phase left s
 unfolding turn raised due
-turn_is left s = turn_by_room (gie s.core) (has_room s) (line_of s.devices) left s
+turn_is left s = turn_by_room (is_gie s.core) (has_room s) (line_of s.devices) left s
 
 pub checks_are : (s : State) → checks s ≡ checks_at (due s) s.active s.phase s
 unfolding raised due
-checks_are s = checks_by_room (gie s.core) (has_room s) (line_of s.devices) s
+checks_are s = checks_by_room (is_gie s.core) (has_room s) (line_of s.devices) s

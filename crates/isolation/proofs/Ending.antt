@@ -1,7 +1,7 @@
 -- Settling in both runs, and a whole cycle.
 use Rattle.std.proofs.Common.{◌≡◌, ◌⊎◌, inl, inr, ℕ, zero, suc, ◌+◌, List, [], ◌∷◌, refl, sym, ap, ◌∙◌, subst, arith, Bool, true, false, ◌==◌, Option, Some, None}
 use Rattle.sm_words.specs.Sums.{one_if}
-use Rattle.sm_words.specs.Words.{reg}
+use Rattle.sm_words.specs.Words.{cleared, reg}
 use Rattle.insn_decode.specs.declared.insn.Insn.{Insn}
 use Rattle.mod_layout.specs.Table.{size_of, holds, without}
 use Rattle.mod_layout.specs.declared.Module.{Module}
@@ -17,7 +17,7 @@ use Rattle.reg_backup.specs.declared.frames.Frame.TheVariants.{Plain, Module as 
 use Rattle.attest.specs.Done.{own_of}
 use Rattle.cpu_step.specs.Lone.{Lone, Doing, Waits, Closes, Leaves, Breaks, Does, doing, doing_by, next_insn, job_of}
 use Rattle.tracer.specs.declared.Event.{Event}
-use Rattle.written_machine.specs.Cycle.{Settled, unsettled, pc_of, cleared, rest_of, in_text, leave_if, close_of, settle_by, settle_in, settle}
+use Rattle.written_machine.specs.Cycle.{Settled, unsettled, pc_of, rest_of, in_text, leave_if, close_of, settle_by, settle_in, settle}
 use Rattle.written_machine.specs.Peers.{section}
 use Rattle.written_machine.specs.State.{State}
 use Rattle.isolation.proofs.Active.{active_some}

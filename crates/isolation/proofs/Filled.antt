@@ -3,7 +3,7 @@ use Rattle.std.proofs.Common.{◌≡◌, ◌≢◌, ℕ, zero, suc, ◌+◌, ◌
 use Rattle.std.proofs.lemmas.List.{set_past}
 use Rattle.std.proofs.lemmas.Bool.{cases_lt}
 use Rattle.std.proofs.lemmas.Bool.Decides.{nat_tests}
-use Rattle.sm_words.specs.Words.{word_at, reg}
+use Rattle.sm_words.specs.Words.{cleared, word_at, reg}
 use Rattle.sm_words.specs.declared.width.Width.{Width}
 use Rattle.sm_words.specs.declared.width.Width.TheVariants.{Byte, Word}
 use Rattle.insn_decode.specs.Code.{insn_of, length_of}
@@ -30,7 +30,7 @@ use Rattle.attest.specs.Accesses.{reads_of, writes_of}
 use Rattle.attest.specs.Done.{own_of}
 use Rattle.cpu_step.specs.Asked.{asks, effect}
 use Rattle.cpu_step.specs.Fetched.{insn_at}
-use Rattle.written_machine.specs.Cycle.{Step, told, pc_of, byte_of, in_text, cleared, resume_from, close_of, leave_if, settle_by, settle_in, settle, ticked, due, arrive_inside, arrive_outside, push_both, pushes, port_of, who_of, perform, perform_unless, attempt, returned_by, reti_by, reti_of, act_by, act_on, act_home, act_first, act, is_home, enter_at, enter, fetch, begin_unless, begin, padded, asleep, turn, counted_by, move, cycle_by}
+use Rattle.written_machine.specs.Cycle.{Step, told, pc_of, byte_of, in_text, resume_from, close_of, leave_if, settle_by, settle_in, settle, ticked, due, arrive_inside, arrive_outside, push_both, pushes, port_of, who_of, perform, perform_unless, attempt, returned_by, reti_by, reti_of, act_by, act_on, act_home, act_first, act, is_home, enter_at, enter, fetch, begin_unless, begin, padded, asleep, turn, counted_by, move, cycle_by}
 use Rattle.written_machine.specs.Ports.{Port, write_in, write_byte, write_width, take_reads, put_writes}
 use Rattle.written_machine.specs.State.{State}
 use Rattle.written_machine.specs.View.{at}

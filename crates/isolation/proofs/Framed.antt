@@ -28,12 +28,13 @@ use Rattle.reg_backup.specs.declared.frames.Frame.TheVariants.{Plain, Module as 
 use Rattle.attest.specs.Done.{own_of}
 use Rattle.cpu_step.specs.Asked.{asks}
 use Rattle.cpu_step.specs.Fetched.{insn_at}
-use Rattle.written_machine.specs.Cycle.{Step, told, denied, pc_of, byte_of, in_text, gie, resume_from, close_of, leave_if, settle_by, settle_in, settle, ticked, due, vector_if, arrive_inside, plain_if, arrive_outside, push_both, pushes, who_of, perform, perform_unless, attempt, without_newest, returned_by, reti_by, reti_of, act_by, act_on, act_home, act_first, act, is_home, enter_at, enter, fetch, begin_unless, begin, padded, asleep, turn, counted_by, move, cycle_by}
+use Rattle.written_machine.specs.Cycle.{Step, told, denied, pc_of, byte_of, in_text, resume_from, close_of, leave_if, settle_by, settle_in, settle, ticked, due, vector_if, arrive_inside, plain_if, arrive_outside, push_both, pushes, who_of, perform, perform_unless, attempt, without_newest, returned_by, reti_by, reti_of, act_by, act_on, act_home, act_first, act, is_home, enter_at, enter, fetch, begin_unless, begin, padded, asleep, turn, counted_by, move, cycle_by}
 use Rattle.written_machine.specs.State.{State}
 use Rattle.written_machine.specs.View.{at}
 use Rattle.isolation.specs.Calls.{times}
 use Rattle.isolation.proofs.Turns.{times_none}
 use Rattle.isolation.proofs.Cases.{turn_at, turn_unless, turn_is}
+use Rattle.sm_words.specs.Status.{is_gie}
 
 abbrev pub is_resume : After → Bool
 is_resume Resume = true
@@ -185,8 +186,8 @@ both_true false b e = cc
 due_room : (v : ℕ) (s : State) → due s ≡ Some v → length s.frames < 8
 unfolding due
 due_room v s e =
-    let k = room_if (gie s.core && nat_lt (length s.frames) 8) _ v e in
-    let b = both_true (gie s.core) (nat_lt (length s.frames) 8) k in grind (arith, nat_tests)
+    let k = room_if (is_gie s.core && nat_lt (length s.frames) 8) _ v e in
+    let b = both_true (is_gie s.core) (nat_lt (length s.frames) 8) k in grind (arith, nat_tests)
 
 plain_times : (m : ℕ) (fs : List Frame) → times m (plain_if fs) ≡ times m fs
 plain_times m [] = refl

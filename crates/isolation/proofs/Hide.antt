@@ -1,6 +1,6 @@
 -- A state with one module's secrets taken out, and what the outside does to it.
 use Rattle.std.proofs.Common.{◌≡◌, ◌≢◌, ℕ, suc, ◌+◌, ◌-◌, ◌*◌, ◌%◌, ◌≤◌, List, [], ◌∷◌, length, get_or, refl, sym, ap, ◌∙◌, subst, arith, Bool, true, false, nat_lt, cond, not, ◌&&◌, ◌||◌, ◌==◌, Option, Some, None}
-use Rattle.sm_words.specs.Words.{reg, put, bit, add16, word_at}
+use Rattle.sm_words.specs.Words.{cleared, reg, put, bit, add16, word_at}
 use Rattle.sm_words.specs.declared.width.Width.TheVariants.{Word}
 use Rattle.insn_decode.specs.Code.{insn_of, length_of}
 use Rattle.insn_decode.specs.declared.insn.Insn.{Insn}
@@ -23,7 +23,7 @@ use Rattle.attest.specs.Accesses.{reads_of, writes_of}
 use Rattle.cpu_step.specs.Asked.{asks, effect, table_after}
 use Rattle.cpu_step.specs.Fetched.{later_word, insn_at}
 use Rattle.tracer.specs.declared.Event.{Event}
-use Rattle.written_machine.specs.Cycle.{Step, pc_of, cleared, byte_of, vector_in, vector_word, push_both, pushes, plain_if, arrive_outside, at_home, home_word, is_home, who_of, port_of, made_events, done_by, perform, perform_unless, attempt, without_newest, returned_by, reti_by, reti_of, act_by, act_on, act_home, act_first, act}
+use Rattle.written_machine.specs.Cycle.{Step, pc_of, byte_of, vector_in, vector_word, push_both, pushes, plain_if, arrive_outside, at_home, home_word, is_home, who_of, port_of, made_events, done_by, perform, perform_unless, attempt, without_newest, returned_by, reti_by, reti_of, act_by, act_on, act_home, act_first, act}
 use Rattle.written_machine.specs.Ports.{Port, take_reads, put_writes}
 use Rattle.written_machine.specs.State.{State}
 use Rattle.isolation.proofs.Bytes.{Out, get_cleared}

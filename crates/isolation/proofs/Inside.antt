@@ -2,7 +2,7 @@
 use Rattle.std.proofs.Common.{◌≡◌, ◌≢◌, ℕ, ◌+◌, ◌-◌, ◌*◌, ◌/◌, ◌%◌, List, [], ◌∷◌, get_or, set, map, refl, sym, ap, ◌∙◌, subst, arith, Bool, true, false, nat_lt, cond, not, ◌&&◌, ◌||◌, ◌==◌, Option, Some, None, ⊎_elim}
 use Rattle.std.proofs.lemmas.Bool.{cases_lt}
 use Rattle.std.proofs.lemmas.Bool.Decides.{nat_tests}
-use Rattle.sm_words.specs.Words.{reg, word_at}
+use Rattle.sm_words.specs.Words.{cleared, reg, word_at}
 use Rattle.sm_words.specs.declared.width.Width.{Width}
 use Rattle.sm_words.specs.declared.width.Width.TheVariants.{Byte, Word}
 use Rattle.insn_decode.specs.Code.{insn_of, length_of}
@@ -26,7 +26,7 @@ use Rattle.cpu_step.specs.Asked.{asks, effect, table_after}
 use Rattle.cpu_step.specs.Fetched.{later_word, insn_at}
 use Rattle.cpu_step.specs.Lone.{Job, Lone, lone_byte, lone_who, unit_alone, is_alone, is_inside, all_inside, text_word, lone_read, lone_write, lone_writes, may_do, if_home, next_first, next_insn, lone_does}
 use Rattle.tracer.specs.declared.Event.{Event}
-use Rattle.written_machine.specs.Cycle.{Step, pc_of, byte_of, cleared, at_home, home_word, is_home, who_of, port_of, made_events, perform, perform_unless, attempt, act_by, act_on, act_home, act_first, act}
+use Rattle.written_machine.specs.Cycle.{Step, pc_of, byte_of, at_home, home_word, is_home, who_of, port_of, made_events, perform, perform_unless, attempt, act_by, act_on, act_home, act_first, act}
 use Rattle.written_machine.specs.Peers.{section}
 use Rattle.written_machine.specs.Ports.{Port, Got, Gots, read_in, read_byte, read_width, write_in, write_byte, write_width, take_reads, put_writes}
 use Rattle.written_machine.specs.State.{State}

@@ -7,13 +7,14 @@ use Rattle.reg_backup.specs.Saved.{closing_after}
 use Rattle.reg_backup.specs.declared.backup.Backup.{Backup}
 use Rattle.reg_backup.specs.declared.backup.Phase.TheVariants.{Run}
 use Rattle.cpu_step.specs.Lone.{Lone, job_of}
-use Rattle.written_machine.specs.Cycle.{Step, cleared, act}
+use Rattle.written_machine.specs.Cycle.{Step, act}
 use Rattle.written_machine.specs.Peers.{section}
 use Rattle.written_machine.specs.State.{State}
 use Rattle.isolation.proofs.Evenly.{Evenly}
 use Rattle.isolation.proofs.Hide.{veil_core, hide_by, hide}
 use Rattle.isolation.proofs.Relation.{run_by, run_of, Secret, Keeps, Twins, Alike}
 use Rattle.isolation.proofs.Settled.{close_is}
+use Rattle.sm_words.specs.Words.{cleared}
 
 -- a step of the active module
 pub record Moves (m : ℕ) (own : Module) (s : State) (l' : Lone) (u : Step) : Type 0 where

@@ -17,11 +17,12 @@ use Rattle.reg_backup.specs.declared.frames.Frame.{Frame}
 use Rattle.reg_backup.specs.declared.frames.Frame.TheVariants.{Plain, Module as Held}
 use Rattle.attest.specs.Done.{own_of}
 use Rattle.tracer.specs.declared.Event.{Event}
-use Rattle.written_machine.specs.Cycle.{Step, Settled, unsettled, pc_of, gie, ticked, resume_from, close_of, in_text, leave_if, settle_by, settle_in, settle, vector_if, due, rest_of, vector_word, arrive_inside, enter_at, enter}
+use Rattle.written_machine.specs.Cycle.{Step, Settled, unsettled, pc_of, ticked, resume_from, close_of, in_text, leave_if, settle_by, settle_in, settle, vector_if, due, rest_of, vector_word, arrive_inside, enter_at, enter}
 use Rattle.written_machine.specs.State.{State}
 use Rattle.isolation.proofs.Bytes.{cleared_comm}
 use Rattle.isolation.proofs.Hide.{veil_core, veil_if, veil_frames, veil, veil_step, hide_by, hide, length_veiled, vector_veiled}
 use Rattle.isolation.proofs.Rights.{Sound}
+use Rattle.sm_words.specs.Status.{is_gie}
 
 abbrev pub hide_settled : ℕ → Module → Settled → Settled
 hide_settled m own u = record u { state = hide m own u.state }
@@ -39,16 +40,16 @@ module _ (m : ℕ) (own : Module) where
   pub ticked_hidden : (s : State) → ticked (hide m own s) ≡ hide m own (ticked s)
   ticked_hidden s = ticked_by (is_id m s.active) s ∙ ap (λ a. hide_by (is_id m a) m own (ticked s)) (sym (ticked_active s))
 
-  gie_veiled : (core : List ℕ) → gie (veil_core core) ≡ gie core
+  gie_veiled : (core : List ℕ) → is_gie (veil_core core) ≡ is_gie core
   gie_veiled core =
       let e : (8 * ((reg core 2 / 8) % 2) / 8) % 2 ≡ (reg core 2 / 8) % 2 = omega arith in
       ap (λ b. b == 1) e
 
   due_by : (b : Bool) (s : State) → due (hide_by b m own s) ≡ due s
   unfolding due
-  due_by false s = ap (λ n. vector_if (gie s.core && nat_lt n 8) (line_of s.devices)) (length_veiled m s.frames)
+  due_by false s = ap (λ n. vector_if (is_gie s.core && nat_lt n 8) (line_of s.devices)) (length_veiled m s.frames)
   due_by true s =
-      ap (λ n. vector_if (gie (veil_core s.core) && nat_lt n 8) (line_of s.devices)) (length_veiled m s.frames)
+      ap (λ n. vector_if (is_gie (veil_core s.core) && nat_lt n 8) (line_of s.devices)) (length_veiled m s.frames)
       ∙ ap (λ g. vector_if (g && nat_lt (length s.frames) 8) (line_of s.devices)) (gie_veiled s.core)
 
   pub due_hidden : (s : State) → due (hide m own s) ≡ due s

@@ -2,7 +2,7 @@
 use Rattle.std.proofs.Common.{◌≡◌, ◌≢◌, inl, inr, ⊎_elim, ℕ, zero, suc, ◌+◌, ◌*◌, ◌<◌, ◌≤◌, List, [], ◌∷◌, ◌++◌, length, get_or, map, replicate, refl, sym, ap, ◌∙◌, subst, arith, Bool, true, false, nat_lt, cond, ◌==◌, Option, Some, None, ext_get_or, ◌/◌, ◌%◌}
 use Rattle.std.proofs.lemmas.Bool.Decides.{nat_tests}
 use mathlib.Core.Path.{fun_ext}
-use Rattle.sm_words.specs.Words.{put, word_at, IsCore, reg, bit}
+use Rattle.sm_words.specs.Words.{cleared, put, word_at, IsCore, reg, bit}
 use Rattle.schedule_file.specs.declared.Entry.{Entry as Scheduled}
 use Rattle.mod_layout.specs.Table.{Table, size_of, module_of, holds, place_of}
 use Rattle.mod_layout.specs.declared.Module.{Module}
@@ -17,7 +17,7 @@ use Rattle.reg_backup.specs.declared.backup.Backup.{Backup}
 use Rattle.reg_backup.specs.declared.frames.Frame.{Frame}
 use Rattle.reg_backup.specs.declared.frames.Frame.TheVariants.{Plain, Module as Held}
 use Rattle.tracer.specs.declared.Event.{Event}
-use Rattle.written_machine.specs.Cycle.{Step, Settled, told, cleared, settle, ticked, turn, sent_event, counted_by, move, cycle_by, cycle, gie}
+use Rattle.written_machine.specs.Cycle.{Step, Settled, told, settle, ticked, turn, sent_event, counted_by, move, cycle_by, cycle}
 use Rattle.written_machine.specs.Peers.{section, Peers}
 use Rattle.written_machine.specs.State.{State}
 use Rattle.written_machine.specs.View.{boot, at, is_hidden_by, Seen, seen_if, seen_frame, seen_byte, View, view_of}
@@ -35,6 +35,7 @@ use Rattle.isolation.proofs.Settling.{ticked_hidden}
 use Rattle.isolation.proofs.Tables.{sound_from}
 use Rattle.isolation.proofs.Turns.{outside_turn}
 use Rattle.std.proofs.lemmas.Bool.{cases_lt}
+use Rattle.sm_words.specs.Status.{is_gie}
 
 module _ (m : ℕ) (own : Module) (key text : List ℕ) where
   ticked_active : (s : State) → (ticked s).active ≡ s.active
@@ -281,7 +282,7 @@ module _ (a b : Image) (m : ℕ) (schedule : List Scheduled) (peers : Peers a b 
   caller_hidden true s = refl
   caller_hidden false s = refl
 
-  gie_hidden : (c : Bool) (s : State) → gie (hide_by c m own s).core ≡ gie s.core
+  gie_hidden : (c : Bool) (s : State) → is_gie (hide_by c m own s).core ≡ is_gie s.core
   gie_hidden true s = ap (λ b. b == 1) (bit_of_bit (reg s.core 2))
   gie_hidden false s = refl
 
@@ -292,11 +293,11 @@ module _ (a b : Image) (m : ℕ) (schedule : List Scheduled) (peers : Peers a b 
   pub callers_equal : (k : ℕ) → (at a schedule k).caller ≡ (at b schedule k).caller
   callers_equal k = callers_alike (at a schedule k) (at b schedule k) (related_at k)
 
-  gie_alike : (s t : State) → Related m own a.node_key (section own.text a.memory) s t → gie s.core ≡ gie t.core
+  gie_alike : (s t : State) → Related m own a.node_key (section own.text a.memory) s t → is_gie s.core ≡ is_gie t.core
   gie_alike s t r =
-      ⊎_elim (λ p. ap (λ u. gie u.core) p) (λ x. sym (gie_hidden (is_id m s.active) s) ∙ ap (λ u. gie u.core) x.seen ∙ gie_hidden (is_id m t.active) t) r
+      ⊎_elim (λ p. ap (λ u. is_gie u.core) p) (λ x. sym (gie_hidden (is_id m s.active) s) ∙ ap (λ u. is_gie u.core) x.seen ∙ gie_hidden (is_id m t.active) t) r
 
-  pub gie_equal : (k : ℕ) → gie (at a schedule k).core ≡ gie (at b schedule k).core
+  pub gie_equal : (k : ℕ) → is_gie (at a schedule k).core ≡ is_gie (at b schedule k).core
   gie_equal k = gie_alike (at a schedule k) (at b schedule k) (related_at k)
 
   gone_alike : (s t : State) → Related m own a.node_key (section own.text a.memory) s t → module_of m s.table ≡ None → s ≡ t

@@ -13,7 +13,7 @@ use Rattle.image_text.specs.Image.{Image, IsImage}
 use Rattle.attest.specs.Units.{each_byte, text_reads}
 use Rattle.cpu_step.specs.Lone.{outcome, lone_after}
 use Rattle.written_machine.specs.Checks.{refused_in}
-use Rattle.written_machine.specs.Cycle.{cycle, after_cycles, gie}
+use Rattle.written_machine.specs.Cycle.{cycle, after_cycles}
 use Rattle.written_machine.specs.Passing.{OnlyPass, Leads, passed}
 use Rattle.written_machine.specs.Peers.{Peers}
 use Rattle.written_machine.specs.Script.{play, stands_at}
@@ -23,6 +23,7 @@ use Rattle.written_machine.specs.View.{view_of, at, boot}
 use Rattle.written_machine.specs.declared.Hidden.TheVariants.{All as AllHidden, Only}
 use Rattle.written_machine.specs.declared.ScriptLine.{ScriptLine}
 use Rattle.isolation.specs.Calls.{Enters, Ends, Hides, Handles, stop_in, UnderWay, entry_state, entry_job, entry_lone, worked, NotBroken, Takes, Stands, times, away}
+use Rattle.sm_words.specs.Status.{is_gie}
 
 -- ---- two runs of peers, on every schedule
 
@@ -49,7 +50,7 @@ SameCallers = (a b : Image) (m : ℕ) (schedule : List Entry) (k : ℕ) → Peer
 -- Whether interrupts are enabled is equal in every cycle.
 abbrev pub SameGie : Type 0
 SameGie = (a b : Image) (m : ℕ) (schedule : List Entry) (k : ℕ) → Peers a b m →
-    gie (at a schedule k).core ≡ gie (at b schedule k).core
+    is_gie (at a schedule k).core ≡ is_gie (at b schedule k).core
 
 -- Once the module has left the table, the machines are in one state.
 abbrev pub SameOnceGone : Type 0

@@ -56,7 +56,7 @@ pub taken_more : (done rest bytes next : List ℕ) (n : ℕ) → done ++ rest �
 taken_more done rest bytes next n whole is = append_assoc done (take n rest) next ∙ ap (λ (l : List ℕ). done ++ l) (ap (λ (l : List ℕ). take n rest ++ l) is ∙ take-append-drop n rest) ∙ whole
 
 -- what was taken of a text that is cut off
-pub front_of : (a b : Option (List ℕ)) (done rest bytes : List ℕ) → done ++ rest ≡ bytes → Appends a b done → AppendsFront a b bytes
+abbrev pub front_of : (a b : Option (List ℕ)) (done rest bytes : List ℕ) → done ++ rest ≡ bytes → Appends a b done → AppendsFront a b bytes
 front_of a b done rest bytes whole h = (length done, appends_same a b done (take (length done) bytes) (sym (ap (λ (l : List ℕ). take (length done) l) (sym whole) ∙ take_at done rest (length done) refl)) h)
 
 -- a sink that failed was sure of nothing
@@ -79,6 +79,7 @@ module _ {S : Type 0} (taken : S → Option (List ℕ)) (faults sure : S → ℕ
   pub cut_later : (a b c : S) (xs ys : List ℕ) → Took taken faults sure a b xs → CutOff taken faults sure b c ys → CutOff taken faults sure a c (xs ++ ys)
   cut_later a b c xs ys t u = record {
     front = (length xs + u.front.0, appends_same (taken a) (taken c) (xs ++ take u.front.0 ys) (take (length xs + u.front.0) (xs ++ ys)) (sym (take_past xs ys u.front.0)) (appends_then (taken a) (taken b) (taken c) xs (take u.front.0 ys) t.whole u.front.1));
+    shorter = omega (arith, u.shorter, length-append xs ys);
     rose = (omega (arith, t.quiet, u.rose.0), omega (arith, t.quiet, u.rose.1));
     not_sure = omega (arith, t.still_sure, u.not_sure, length-append xs ys);
   }
@@ -86,6 +87,7 @@ module _ {S : Type 0} (taken : S → Option (List ℕ)) (faults sure : S → ℕ
   pub cut_first : (a b : S) (xs ys : List ℕ) → CutOff taken faults sure a b xs → CutOff taken faults sure a b (xs ++ ys)
   cut_first a b xs ys t = record {
     front = (min t.front.0 (length xs), appends_same (taken a) (taken b) (take t.front.0 xs) (take (min t.front.0 (length xs)) (xs ++ ys)) (sym (take_front xs ys t.front.0)) t.front.1);
+    shorter = omega (arith, t.shorter, length-append xs ys);
     rose = t.rose;
     not_sure = omega (arith, t.not_sure, length-append xs ys);
   }

@@ -50,7 +50,7 @@ pub fn read_whole<F: Files>(alloc: Global, files: &mut F, name: &str) -> Result<
     Err(ReadFault::TooLong)
 }
 
-/// Puts all the bytes, and takes no memory. After `Failed` the sink has taken a front of them.
+/// Puts all the bytes, and takes no memory. After `Failed` the sink has taken a front of them that is shorter.
 pub fn put_all<S: Sink>(sink: &mut S, bytes: &[u8]) -> Result<(), Failed>
     ensures { Puts S.taken S.faults S.sure sink.old sink.new bytes.now result }
 {

@@ -1,14 +1,18 @@
 -- One cycle of the machine, by its steps.
 use Rattle.std.specs.Prelude.{ℕ, zero, suc, ◌+◌, ◌-◌, ◌*◌, List, [], ◌∷◌, ◌++◌, length, slice_index, ◌==◌, nat_lt, if◌then◌else◌, Bool, true, false, ◌&&◌, ◌||◌, not, Option, Some, None, is_some, unwrap_or, replicate}
-use Rattle.sm_words.specs.Words.{reg, put, bit, add16, word_at}
+use Rattle.sm_words.specs.Status.{interrupted_sr, is_cpu_off, is_gie}
+use Rattle.sm_words.specs.Words.{reg, put, sub16, word_at, cleared}
+use Rattle.sm_words.specs.declared.registers.TheConstants.{PC, SP, SR}
 use Rattle.sm_words.specs.declared.width.Width.TheVariants.{Word}
 use Rattle.insn_decode.specs.Code.{insn_of, length_of}
 use Rattle.insn_decode.specs.declared.insn.Insn.{Insn}
 use Rattle.insn_decode.specs.declared.insn.Insn.TheVariants.{Reti}
-use Rattle.mod_layout.specs.Table.{Table, holds, size_of, place_of, without}
+use Rattle.mod_layout.specs.Table.{Table, holds, own_of, size_of, place_of, without}
+use Rattle.mod_layout.specs.declared.TheConstants.{FIRST_VECTOR}
 use Rattle.mod_layout.specs.declared.Module.{Module}
 use Rattle.mod_layout.specs.declared.Place.{Place}
 use Rattle.mod_layout.specs.declared.Place.TheVariants.{Open, Entry, Text}
+use Rattle.pc_access.specs.Accesses.{reads_of, writes_of}
 use Rattle.pc_access.specs.Rights.{right, first_denied}
 use Rattle.pc_access.specs.declared.Access.{Access}
 use Rattle.pc_access.specs.declared.Denied.{Denied}
@@ -29,8 +33,6 @@ use Rattle.reg_backup.specs.declared.backup.Phase.{Phase}
 use Rattle.reg_backup.specs.declared.backup.Phase.TheVariants.{Run, Pad}
 use Rattle.reg_backup.specs.declared.frames.Frame.{Frame}
 use Rattle.reg_backup.specs.declared.frames.Frame.TheVariants.{Plain, Module as Held}
-use Rattle.attest.specs.Accesses.{reads_of, writes_of}
-use Rattle.attest.specs.Done.{own_of}
 use Rattle.attest.specs.Units.{Doer, Effect}
 use Rattle.cpu_step.specs.Asked.{asks, effect, table_after}
 use Rattle.cpu_step.specs.Fetched.{insn_at}
@@ -55,11 +57,7 @@ told es t = record { state = t.state; events = es ++ t.events }
 
 -- PC
 abbrev pub pc_of : State → ℕ
-pc_of s = reg s.core 0
-
--- whether interrupts are enabled: GIE, bit 3 of SR
-abbrev pub gie : List ℕ → Bool
-gie core = bit 8 (reg core 2) == 1
+pc_of s = reg s.core PC
 
 -- the machine stops by a rule, with the PC as it stands
 abbrev pub stopped : Rule → ℕ → ℕ → State → Step
@@ -88,13 +86,6 @@ pub record Settled : Type 0 where
 -- nothing to settle
 abbrev pub unsettled : State → Settled
 unsettled s = record { state = s; events = []; left = 0 }
-
--- past the first lo, the next n bytes are 0
-abbrev pub cleared : ℕ → ℕ → List ℕ → List ℕ
-cleared lo zero mem = mem
-cleared lo (suc n) [] = []
-cleared zero (suc n) (x ∷ xs) = 0 ∷ cleared zero n xs
-cleared (suc lo) (suc n) (x ∷ xs) = x ∷ cleared lo (suc n) xs
 
 -- Resume: the newest frame is taken off, and its module goes on with its rest
 abbrev pub resume_from : List Frame → State → Settled
@@ -151,7 +142,7 @@ vector_if false v = None
 
 -- the raised vector, where GIE is set
 unfoldable pub raised : State → Option ℕ
-raised s = vector_if (gie s.core) (line_of s.devices)
+raised s = vector_if (is_gie s.core) (line_of s.devices)
 
 -- whether fewer than eight frames are held
 abbrev pub has_room : State → Bool
@@ -159,7 +150,7 @@ has_room s = nat_lt (length s.frames) 8
 
 -- the vector that arrives where the phase lets it: the raised one, where there is room for its frame
 unfoldable pub due : State → Option ℕ
-due s = vector_if (gie s.core && has_room s) (line_of s.devices)
+due s = vector_if (is_gie s.core && has_room s) (line_of s.devices)
 
 -- the byte at an address
 abbrev pub byte_of : State → ℕ → ℕ
@@ -167,7 +158,7 @@ byte_of s a = slice_index s.memory a
 
 -- the word of a vector, which is the address to go on at
 abbrev pub vector_in : List ℕ → ℕ → ℕ
-vector_in mem v = word_at (λ a. slice_index mem a) (65504 + 2 * v)
+vector_in mem v = word_at (λ a. slice_index mem a) (FIRST_VECTOR + 2 * v)
 
 -- a vector's word as memory stands
 abbrev pub vector_word : State → ℕ → ℕ
@@ -182,7 +173,7 @@ rest_of (Pad left) = 0
 unfoldable pub arrive_inside : ℕ → ℕ → State → Step
 arrive_inside v id s =
     let b = saved id s.caller s.core (rest_of s.phase) s.after in
-    let core = put (put (replicate 16 0) 0 (vector_word s v)) 1 s.handler_sp in
+    let core = put (put (replicate 16 0) PC (vector_word s v)) SP s.handler_sp in
     record {
       state = record s { core = core; active = None; frames = Held b ∷ s.frames; phase = Pad 11; after = Next; devices = accepted s.devices v };
       events = Hid id v ∷ [];
@@ -191,8 +182,8 @@ arrive_inside v id s =
 -- the writes of PC and then SR below SP
 abbrev pub pushes : State → List Access
 pushes s =
-    record { kind = Write; addr = add16 (reg s.core 1) 65534; width = Word }
-    ∷ record { kind = Write; addr = add16 (reg s.core 1) 65532; width = Word }
+    record { kind = Write; addr = sub16 (reg s.core SP) 2; width = Word }
+    ∷ record { kind = Write; addr = sub16 (reg s.core SP) 4; width = Word }
     ∷ []
 
 -- a Plain frame joins as the newest, where a frame is held
@@ -204,8 +195,8 @@ plain_if (f ∷ fs) = Plain ∷ f ∷ fs
 abbrev pub push_both : Option Denied → ℕ → State → Step
 push_both (Some d) v s = denied d s
 push_both None v s =
-    let p = put_writes (record { devices = s.devices; memory = s.memory }) (pushes s) (reg s.core 0 ∷ reg s.core 2 ∷ []) in
-    let core = put (put (put s.core 1 (add16 (reg s.core 1) 65532)) 2 (64 * bit 64 (reg s.core 2))) 0 (vector_in p.memory v) in
+    let p = put_writes (record { devices = s.devices; memory = s.memory }) (pushes s) (reg s.core PC ∷ reg s.core SR ∷ []) in
+    let core = put (put (put s.core SP (sub16 (reg s.core SP) 4)) SR (interrupted_sr (reg s.core SR))) PC (vector_in p.memory v) in
     record {
       state = record s { core = core; memory = p.memory; frames = plain_if s.frames; phase = Run 5; devices = accepted p.devices v };
       events = Irq v ∷ [];
@@ -226,7 +217,7 @@ at_home _ _ = false
 
 -- the k-th of n words, if there is one, is below 0x10000 and where its instruction is
 abbrev pub home_word : Table → Option ℕ → ℕ → ℕ → ℕ → Bool
-home_word t active pc n k = not (nat_lt k n) || (nat_lt (pc + 2 * k) 65536 && at_home active (place_of t (pc + 2 * k)))
+home_word t active pc n k = not (nat_lt k n) || (nat_lt (pc + 2 * k) 0x10000 && at_home active (place_of t (pc + 2 * k)))
 
 -- so are all later words
 abbrev pub is_home : Table → Option ℕ → ℕ → ℕ → Bool
@@ -351,9 +342,9 @@ abbrev pub waited : Phase → Phase
 waited (Run (suc rest)) = Run rest
 waited phase = phase
 
--- CPUOFF, bit 4 of SR
+-- whether the processor is off
 abbrev pub asleep : State → Bool
-asleep s = bit 16 (reg s.core 2) == 1
+asleep s = is_cpu_off s.core
 
 -- the case that a settled cycle ends in
 abbrev pub case_of : State → Turn

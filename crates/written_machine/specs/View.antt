@@ -1,8 +1,10 @@
 -- What the outside sees of a state, and the runs from an image.
 use Rattle.std.specs.Prelude.{ℕ, List, [], map, slice_index, ◌==◌, nat_lt, if◌then◌else◌, Bool, true, false, Option, Some, None, replicate}
 use Rattle.sm_words.specs.Words.{put, word_at}
+use Rattle.sm_words.specs.declared.registers.TheConstants.{PC}
 use Rattle.schedule_file.specs.declared.Entry.{Entry}
 use Rattle.mod_layout.specs.Table.{Table, place_of}
+use Rattle.mod_layout.specs.declared.TheConstants.{DEVICES_END, RESET_VECTOR}
 use Rattle.mod_layout.specs.declared.Place.{Place}
 use Rattle.mod_layout.specs.declared.Place.TheVariants.{Data}
 use Rattle.pc_access.specs.declared.Stop.{Stop}
@@ -49,7 +51,7 @@ abbrev pub is_hidden_by : Hidden → Option ℕ → Bool
 is_hidden_by h None = false
 is_hidden_by h (Some id) = is_hidden h id
 
--- what is seen: bytes from 0x0200 up, registers where no hidden module is active, and the rest as it is; frames, the newest first
+-- what is seen: bytes past the devices, registers where no hidden module is active, and the rest as it is; frames, the newest first
 pub record View : Type 0 where
   pub byte : ℕ → Option ℕ
   pub registers : Option (List ℕ)
@@ -63,7 +65,7 @@ pub record View : Type 0 where
 -- the view of a state
 unfoldable pub view_of : State → Hidden → View
 view_of s h = record {
-  byte = λ a. if nat_lt a 512 then None else seen_byte h (place_of s.table a) (slice_index s.memory a);
+  byte = λ a. if nat_lt a DEVICES_END then None else seen_byte h (place_of s.table a) (slice_index s.memory a);
   registers = if is_hidden_by h s.active then None else Some s.core;
   active = s.active;
   frames = map (seen_frame h) s.frames;
@@ -76,7 +78,7 @@ view_of s h = record {
 -- the state of cycle 0: PC is the reset vector's word, all other registers and the devices are 0
 abbrev pub boot : Image → List Entry → State
 boot i schedule = record {
-  core = put (replicate 16 0) 0 (word_at (λ a. slice_index i.memory a) 65534);
+  core = put (replicate 16 0) PC (word_at (λ a. slice_index i.memory a) RESET_VECTOR);
   memory = i.memory;
   table = i.table;
   devices = silent schedule;
