@@ -8,8 +8,10 @@ ghost use Rattle.devices.specs.Time.{ticked_by, quiet_of};
 ghost use Rattle.devices.specs.Parts.{joined};
 ghost use Rattle.devices.specs.Bus.{acted_before, past_count};
 
+use crate::registers::{
+    LINES_ENABLE, LINES_LEVELS, SERIAL_CONTROL, SERIAL_DATA, TIMER_CONTROL, TIMER_LIMIT_HIGH,
+};
 use crate::{Device, Lines, NoMemory, Serial, Timer};
-use crate::registers::{LINES_ENABLE, LINES_LEVELS, SERIAL_CONTROL, SERIAL_DATA, TIMER_CONTROL, TIMER_LIMIT_HIGH};
 use schedule_file::{Entry, Schedule, What};
 use std::alloc::Global;
 use std::marker::Model;

@@ -5,8 +5,8 @@ ghost use Rattle.devices.specs.Devices.{silent, with_bit, line_raised};
 ghost use Rattle.devices.specs.Parts.{lines_alone};
 
 use crate::bits::{is_set, with_clear, with_set};
-use crate::{Device, MAX_TICKS};
 use crate::registers::{LINES_ENABLE, LINES_LEVELS, LINES_VECTOR};
+use crate::{Device, MAX_TICKS};
 use std::marker::Model;
 
 /// Which lines may interrupt and which are up, in a bit each.

@@ -5,8 +5,8 @@ ghost use Rattle.devices.specs.Devices.{silent};
 ghost use Rattle.devices.specs.Parts.{serial_alone};
 
 use crate::bits::{bit_if, is_set};
-use crate::{Device, MAX_TICKS};
 use crate::registers::{SERIAL_CONTROL, SERIAL_DATA, SERIAL_VECTOR};
+use crate::{Device, MAX_TICKS};
 use std::marker::Model;
 
 /// The serial device's registers, and the byte that was sent in this cycle.

@@ -5,8 +5,10 @@ ghost use Rattle.devices.specs.Devices.{silent};
 ghost use Rattle.devices.specs.Parts.{timer_alone};
 
 use crate::bits::{bit_if, is_set, with_high, with_low};
+use crate::registers::{
+    TIMER_CONTROL, TIMER_COUNT, TIMER_COUNT_HIGH, TIMER_LIMIT, TIMER_LIMIT_HIGH, TIMER_VECTOR,
+};
 use crate::{Device, MAX_TICKS};
-use crate::registers::{TIMER_CONTROL, TIMER_COUNT, TIMER_COUNT_HIGH, TIMER_LIMIT, TIMER_LIMIT_HIGH, TIMER_VECTOR};
 use std::marker::Model;
 
 /// The timer's registers.
@@ -117,7 +119,9 @@ impl Device for Timer {
 
     fn read(&mut self, addr: u16) -> u8 {
         match addr {
-            TIMER_CONTROL => bit_if(self.running, 1) + bit_if(self.enabled, 2) + bit_if(self.flag, 4),
+            TIMER_CONTROL => bit_if(self.running, 1)
+                + bit_if(self.enabled, 2)
+                + bit_if(self.flag, 4),
             TIMER_COUNT => (self.count % 256) as u8,
             TIMER_COUNT_HIGH => (self.count / 256) as u8,
             TIMER_LIMIT => (self.limit % 256) as u8,
