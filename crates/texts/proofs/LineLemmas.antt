@@ -86,3 +86,9 @@ no_line text e = by (nat_lt (position_or_len is_line_feed text) (length text)) r
     by : (c : Bool) → nat_lt (position_or_len is_line_feed text) (length text) ≡ c → cond c (Some (position_or_len is_line_feed text)) None ≡ None → HasNoLine text
     by true is some = absurd cc
     by false is none = no_feed text (let most = prefix_len-le-length (λ b. cond (is_line_feed b) false true) text in grind (arith, nat_tests))
+
+-- nothing has no line
+pub lines_of-empty : (text : List ℕ) → length text ≡ 0 → lines_of text ≡ []
+unfolding ended_lines unended
+lines_of-empty [] e = refl
+lines_of-empty (b ∷ text) e = absurd (omega arith)

@@ -27,6 +27,7 @@ fn line_end(text: &[u8]) -> Option<usize>
 pub fn next_line(text: &[u8]) -> Option<(&[u8], &[u8])>
     ensures lines { IfSome result (λ parts. lines_of text.now ≡ parts.0.now ∷ lines_of parts.1.now) }
     ensures shorter { IfSome result (λ parts. length parts.1.now < length text.now) }
+    ensures no_line { IfNone result (lines_of text.now ≡ []) }
     ensures end { IfNone result (text.now ≡ []) }
 {
     if text.is_empty() {
