@@ -8,7 +8,7 @@ use Rattle.std.specs.Option.{option_map}
 use Rattle.std.specs.Fmt.{decimal}
 use Rattle.std.proofs.lemmas.Fmt.{length-decimal-le}
 use Rattle.std.proofs.lemmas.Str.Parse.{digits_value_short}
-use Rattle.std.proofs.lemmas.List.Splits.{slice_split_at, slice_split_none}
+use Rattle.std.proofs.lemmas.List.Splits.{slice_split_none}
 use Rattle.std.proofs.lemmas.List.Elements.{All-head, All-tail}
 use Rattle.hex.specs.Hex.{IsBytes, encode_lower}
 use Rattle.texts.specs.Decimals.{is_decimal, number_in, read_decimal}
@@ -17,7 +17,7 @@ use Rattle.texts.specs.Lines.{is_line_feed, but_last, last_of, ended_lines, unen
 use Rattle.texts.specs.Laws.{DecimalsAreRead, DigitsAreCounted, BytesAreRead, WordsAreRead, KeysAreRead, TextsAreLines, LinesAreRead, HasNoFeed}
 use Rattle.texts.proofs.DecimalLemmas.{digits_model, decimal_parts, decimal_of_number, is_decimal-decimal, number_in-decimal, read_decimal-some, read_decimal-parts}
 use Rattle.texts.proofs.HexLemmas.{read_hex-encode, read_hex-parts}
-use Rattle.texts.proofs.LineLemmas.{SomeParts, some_parts, but_last-before, last_of-before}
+use Rattle.texts.proofs.LineLemmas.{SomeParts, some_parts, but_last-before, last_of-before, ended_lines-before, unended-before}
 
 -- ---- decimals
 
@@ -119,11 +119,10 @@ pub lines_are_read : LinesAreRead
 unfolding ended_lines unended
 lines_are_read [] behind all clean = let parts = slice_split_none is_line_feed behind clean in (ap but_last parts, ap last_of parts)
 lines_are_read (line ∷ lines) behind all clean =
-    let parts = slice_split_at is_line_feed line 10 (text_of lines behind) (All-head HasNoFeed line lines all) refl in
-    let some = some_parts (text_of lines behind) in
+    let first = All-head HasNoFeed line lines all in
     let more = lines_are_read lines behind (All-tail HasNoFeed line lines all) clean in (
-      ap but_last parts ∙ but_last-before line (slice_split is_line_feed (text_of lines behind)) some ∙ ap (λ ls. line ∷ ls) more.0,
-      ap last_of parts ∙ last_of-before line (slice_split is_line_feed (text_of lines behind)) some ∙ more.1,
+      ended_lines-before line (text_of lines behind) first ∙ ap (λ ls. line ∷ ls) more.0,
+      unended-before line (text_of lines behind) first ∙ more.1,
     )
 
 pub texts_are_lines : TextsAreLines

@@ -1,9 +1,9 @@
 -- Lemmas on the lines of a text.
 use Rattle.std.proofs.Common.{ℕ, suc, ◌≡◌, ◌+◌, ◌-◌, ◌<◌, ◌≤◌, Bool, true, false, cond, List, [], ◌∷◌, ◌++◌, length, take, drop, get_or, Option, Some, None, refl, sym, ap, ◌∙◌, arith, nat_lt, position, subst}
-use Rattle.std.specs.List.{slice_split, onto_first, position_or_len, before_first, after_first}
+use Rattle.std.specs.List.{All, slice_split, onto_first, position_or_len, before_first, after_first}
 use Rattle.std.proofs.lemmas.Bool.Decides.{nat_tests}
 use Rattle.std.proofs.lemmas.Slice.{between_to_end}
-use Rattle.std.proofs.lemmas.List.Splits.{slice_split_first, slice_split_none}
+use Rattle.std.proofs.lemmas.List.Splits.{slice_split_first, slice_split_none, slice_split_at}
 use Rattle.std.proofs.lemmas.List.Sums.{split_at_first, passes_at_first, fails_before_first, prefix_len-le-length}
 use Rattle.texts.specs.Lines.{is_line_feed, but_last, last_of, ended_lines, unended, last_line, lines_of}
 
@@ -92,3 +92,13 @@ pub lines_of-empty : (text : List ℕ) → length text ≡ 0 → lines_of text �
 unfolding ended_lines unended
 lines_of-empty [] e = refl
 lines_of-empty (b ∷ text) e = absurd (omega arith)
+
+-- a line that LF ends, before more text
+module _ (line rest : List ℕ) (clean : All (λ b. is_line_feed b ≡ false) line) where
+  pub ended_lines-before : ended_lines (line ++ 10 ∷ rest) ≡ line ∷ ended_lines rest
+  unfolding ended_lines
+  ended_lines-before = ap but_last (slice_split_at is_line_feed line 10 rest clean refl) ∙ but_last-before line (slice_split is_line_feed rest) (some_parts rest)
+
+  pub unended-before : unended (line ++ 10 ∷ rest) ≡ unended rest
+  unfolding unended
+  unended-before = ap last_of (slice_split_at is_line_feed line 10 rest clean refl) ∙ last_of-before line (slice_split is_line_feed rest) (some_parts rest)

@@ -1,5 +1,5 @@
 //! Decimals.
-ghost use Rattle.std.specs.Prelude.{◌≡◌, ◌<◌, ◌^◌, true};
+ghost use Rattle.std.specs.Prelude.{◌≡◌, ◌<◌, ◌≤◌, ◌^◌, true, IfSome};
 ghost use Rattle.std.specs.Option.{SomeIff};
 ghost use Rattle.std.specs.List.{list_all};
 ghost use Rattle.std.specs.Char.{is_ascii_digit};
@@ -24,7 +24,8 @@ pub fn decimal(number: u64) -> ArrayString<20>
 /// A decimal of at most n digits is one of at most 10^n - 1.
 #[tactic(auto, unfolding(crate::specs::Decimals::read_decimal), using(std::proofs::lemmas::Bool::Decides::nat_tests))]
 pub fn read_decimal(text: &[u8], most: u64) -> Option<u64>
-    ensures { result ≡ spec.read_decimal most text.now }
+    ensures number { result ≡ spec.read_decimal most text.now }
+    ensures low { IfSome result (λ number. number ≤ most) }
 {
     if !is_decimal(text) {
         return None;
