@@ -180,7 +180,7 @@ is_placed last a row e =
     record { even = grind (arith, nat_tests); filled = c; above = grind (arith, nat_tests) }
 
 module _ (last : ℕ) (old new : Unread) (line : List ℕ) (read : ReadLine old line new) (other : pointwise nat_eq line end_line ≡ false) where
-  row_on : on old (rows_refusal last) ≡ formed row_form old.spot line (placed last old.spot line (rows_refusal (word_at 3 line) (past line old.spot) (ended_lines new.rest) (unended new.rest)))
+  pub row_on : on old (rows_refusal last) ≡ formed row_form old.spot line (placed last old.spot line (rows_refusal (word_at 3 line) (past line old.spot) (ended_lines new.rest) (unended new.rest)))
   row_on =
       line_on (rows_refusal last) old new line read
       ∙ ap (λ b. cond b (end_refusal (past line old.spot) (ended_lines new.rest) (unended new.rest)) (formed row_form old.spot line (placed last old.spot line (rows_refusal (word_at 3 line) (past line old.spot) (ended_lines new.rest) (unended new.rest))))) other
@@ -191,13 +191,13 @@ module _ (last : ℕ) (old new : Unread) (line : List ℕ) (read : ReadLine old 
       row_on ∙ sym (ap (λ (s : Spot). formed row_form s line (placed last old.spot line (rows_refusal (word_at 3 line) (past line old.spot) (ended_lines new.rest) (unended new.rest)))) (same_spot old.spot n a e f)) ∙ err _
 
   module _ (form : HasForm row_form line) where
-    row_formed : on old (rows_refusal last) ≡ placed last old.spot line (rows_refusal (word_at 3 line) (past line old.spot) (ended_lines new.rest) (unended new.rest))
+    pub row_formed : on old (rows_refusal last) ≡ placed last old.spot line (rows_refusal (word_at 3 line) (past line old.spot) (ended_lines new.rest) (unended new.rest))
     row_formed = row_on ∙ formed_ok row_form old.spot line _ form
 
     pub row_misplaced : is_row last (word_at 3 line) (bytes_at 8 16 line) ≡ false → on old (rows_refusal last) ≡ Some (Line old.spot.number)
     row_misplaced e = row_formed ∙ ap (λ b. cond b (cond (word_at 3 line == last) (Some (Twice (word_at 3 line))) (rows_refusal (word_at 3 line) (past line old.spot) (ended_lines new.rest) (unended new.rest))) (Some (Line old.spot.number))) e
 
-    row_is : is_row last (word_at 3 line) (bytes_at 8 16 line) ≡ true → on old (rows_refusal last) ≡ cond (word_at 3 line == last) (Some (Twice (word_at 3 line))) (rows_refusal (word_at 3 line) (past line old.spot) (ended_lines new.rest) (unended new.rest))
+    pub row_is : is_row last (word_at 3 line) (bytes_at 8 16 line) ≡ true → on old (rows_refusal last) ≡ cond (word_at 3 line == last) (Some (Twice (word_at 3 line))) (rows_refusal (word_at 3 line) (past line old.spot) (ended_lines new.rest) (unended new.rest))
     row_is e = row_formed ∙ ap (λ b. cond b (cond (word_at 3 line == last) (Some (Twice (word_at 3 line))) (rows_refusal (word_at 3 line) (past line old.spot) (ended_lines new.rest) (unended new.rest))) (Some (Line old.spot.number))) e
 
     pub row_twice : is_row last (word_at 3 line) (bytes_at 8 16 line) ≡ true → (word_at 3 line == last) ≡ true → on old (rows_refusal last) ≡ Some (Twice (word_at 3 line))

@@ -109,7 +109,7 @@ not_ended_yet s (b ∷ bytes) l = not_ended s b bytes
 
 -- a module's line that has not the form, and one whose module the table refuses
 module _ (old new : Unread) (t : Table) (left : Option ℕ) (line : List ℕ) (read : ReadLine old line new) (due : due_next left (ended_lines old.rest) ≡ true) where
-  due_line : on old (modules_refusal t left) ≡ formed module_form old.spot line (taken (fault_of t (section_at 12 line) (section_at 22 line)) (t.given + 1) (modules_refusal (added t line) (one_less left) (past line old.spot) (ended_lines new.rest) (unended new.rest)))
+  pub due_line : on old (modules_refusal t left) ≡ formed module_form old.spot line (taken (fault_of t (section_at 12 line) (section_at 22 line)) (t.given + 1) (modules_refusal (added t line) (one_less left) (past line old.spot) (ended_lines new.rest) (unended new.rest)))
   due_line = line_on (modules_refusal t left) old new line read ∙ one_due t left old.spot line _ _ (ap (due_next left) (sym read.lines) ∙ due)
 
   pub module_fails : (n a : ℕ) (fault : ImageFault) → n ≡ old.spot.number → a ≡ old.spot.at
