@@ -245,6 +245,7 @@ pub record AfterFour (form line : List ℕ) : Type 0 where
 
 -- the four digits of a word
 pub after_four : (form line : List ℕ) → HasForm (35 ∷ 35 ∷ 35 ∷ 35 ∷ form) line → AfterFour form line
+unfolding encode_with
 after_four form line h =
     let d = after_digits 2 form line h in
     let t = two_bytes d.bytes d.count d.are in
@@ -256,6 +257,7 @@ coded_text line from n bytes c e = c.text ∙ ap encode_lower e
 
 -- a word at a place of a line
 pub word_here : (line rest : List ℕ) (from w : ℕ) → w < 65536 → drop from line ≡ hex_word w ++ rest → CodedAt line from 2 × (word_at from line ≡ w)
+unfolding encode_with
 word_here line rest from w l e =
     let c = coded_at line rest from 2 (w / 256 ∷ w % 256 ∷ []) (omega arith) (word_bytes w l) refl e in
     (c.0, ap (λ l. unwrap_or (read_hex_word l) 0) (coded_text line from 2 (w / 256 ∷ w % 256 ∷ []) c.0 c.1) ∙ ap (λ o. unwrap_or o 0) ((words_are_read (hex_word w) w).1 (l, refl)))

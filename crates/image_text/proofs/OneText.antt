@@ -132,6 +132,7 @@ lined_last : (n : ℕ) (bytes : List ℕ) → length bytes ≡ n → IsBytes byt
 lined_last n bytes e b = subst (λ (f : List ℕ). Lined f (encode_lower bytes)) (append-nil (marks n)) (subst (Lined (marks n ++ [])) (append-nil (encode_lower bytes)) (lined_bytes n bytes [] [] e b lined_nil))
 
 lined_four : (w : ℕ) (form line : List ℕ) → w < 65536 → Lined form line → Lined (35 ∷ 35 ∷ 35 ∷ 35 ∷ form) (hex_word w ++ line)
+unfolding encode_with
 lined_four w form line l h = lined_bytes 2 (w / 256 ∷ w % 256 ∷ []) form line refl (word_bytes w l) h
 
 -- ---- lines of values
@@ -151,6 +152,7 @@ record HandlerText (sp : ℕ) : Type 0 where
   pub sp_is : word_at 8 (handler_line sp) ≡ sp
 
 handler_text : (sp : ℕ) → sp < 65536 → HandlerText sp
+unfolding encode_with
 handler_text sp l = record {
   lined = lined_word (codes "handler ") (marks 2) (hex_word sp) refl (lined_last 2 (sp / 256 ∷ sp % 256 ∷ []) refl (word_bytes sp l));
   sp_is = (word_here (handler_line sp) [] 8 sp l (sym (append-nil (hex_word sp)))).1;

@@ -14,7 +14,7 @@ use Rattle.std.proofs.Math.ListN.{drop_of_length-le}
 use Rattle.std.proofs.lemmas.List.Sums.{split_at_first, passes_at_first, position_or_len_is}
 use Rattle.texts.specs.Decimals.{read_decimal}
 use Rattle.texts.specs.Hexadecimals.{hex_byte, read_hex_byte}
-use Rattle.texts.proofs.DecimalLemmas.{digits_model}
+use Rattle.texts.proofs.WordLemmas.{cut_off, decimal_has_no}
 use Rattle.texts.proofs.LawLemmas.{decimals_are_read, bytes_are_read}
 use Rattle.schedule_file.specs.declared.Entry.{Entry}
 use Rattle.schedule_file.specs.declared.TheConstants.{MAX_CYCLE}
@@ -94,31 +94,6 @@ what_to (Down line) h =
 
 -- ---- a line
 
--- a word and what stands behind its space
-record IsCut (text word rest : List ℕ) : Type 0 where
-  pub before : before_first is_space text ≡ word
-  pub after : after_first is_space text ≡ rest
-
-cut_at_space : (word rest : List ℕ) → position_or_len is_space (word ++ 32 ∷ rest) ≡ length word → IsCut (word ++ 32 ∷ rest) word rest
-cut_at_space word rest e =
-    let next : length word + 1 ≡ suc (length word) = omega arith in
-    record {
-      before = rw e (take-append_seam word (32 ∷ rest));
-      after = rw (e, next) (drop_seam word);
-    }
-  where
-    drop_seam : (xs : List ℕ) → drop (suc (length xs)) (xs ++ 32 ∷ rest) ≡ rest
-    drop_seam [] = refl
-    drop_seam (x ∷ xs) = drop_seam xs
-
-    take-append_seam : (xs ys : List ℕ) → take (length xs) (xs ++ ys) ≡ xs
-    take-append_seam [] ys = refl
-    take-append_seam (x ∷ xs) ys = ap (λ l. x ∷ l) (take-append_seam xs ys)
-
-first_space : (word rest : List ℕ) → ((k : ℕ) → k < length word → is_space (get_or word k 0) ≡ false) → position_or_len is_space (word ++ 32 ∷ rest) ≡ length word
-first_space [] rest clean = refl
-first_space (b ∷ word) rest clean = let here = clean 0 (omega arith) in let more = first_space word rest (λ k l. clean (suc k) (omega arith)) in rw here (omega (arith, more))
-
 at_cycle-parts : (o : Option ℕ) (p : Option What) (e : Entry) → at_cycle o p ≡ Some e → (o ≡ Some e.cycle) × (p ≡ Some e.what)
 at_cycle-parts (Some cycle) (Some what) e h = (cc, cc)
 at_cycle-parts (Some cycle) None e h = absurd cc
@@ -150,17 +125,13 @@ unfolding entry_of
 entry_to e h =
     let low = h.0 in
     let fits : e.cycle < 2 ^ 64 = omega arith in
-    let clean = λ (k : ℕ) (l : k < length (decimal e.cycle)). no_space (get_or (decimal e.cycle) k 0) (not_in_digits digits_model (decimal e.cycle) 32 (digits_decimal digits_model e.cycle fits) (λ r. absurd (omega (arith, r.0))) k l) in
-    let cut = cut_at_space (decimal e.cycle) (what_text e.what) (first_space (decimal e.cycle) (what_text e.what) clean) in
+    let cut = cut_off is_space 32 (what_text e.what) refl (decimal e.cycle) (decimal_has_no 32 e.cycle (omega arith) fits) in
     let read = (decimals_are_read MAX_CYCLE (lit< tt) (decimal e.cycle) e.cycle).1 (omega arith, refl) in
     ap entry_of (append_assoc (decimal e.cycle) (codes " ") (what_text e.what))
     ∙ ap (λ b. at_cycle (read_decimal MAX_CYCLE b) (what_of (after_first is_space (decimal e.cycle ++ 32 ∷ what_text e.what)))) cut.before
     ∙ ap (λ a. at_cycle (read_decimal MAX_CYCLE (decimal e.cycle)) (what_of a)) cut.after
     ∙ ap (λ o. at_cycle o (what_of (what_text e.what))) read
     ∙ ap (at_cycle (Some e.cycle)) (what_to e.what h.1)
-  where
-    no_space : (b : ℕ) → (b ≡ 32 → ⊥) → is_space b ≡ false
-    no_space b ne = grind (arith, nat_tests)
 
 pub entries_are_read : EntriesAreRead
 entries_are_read line e = (entry_from line e, λ h. ap entry_of h.1 ∙ entry_to e h.0)

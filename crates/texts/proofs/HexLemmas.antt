@@ -114,3 +114,13 @@ read_hex-parts count text bytes e = by (list_all is_hex_digit text) (decode_size
         record { is = pairs_text 0 text bytes p (sym (decode_of-even text parts.0) ∙ whole); long = omega (arith, long, parts.2); are = parts.3 }
     by true (Err fault) p q e = absurd cc
     by false r p q e = absurd cc
+
+-- ---- a byte and a word
+
+pub hex_byte-is : (byte : ℕ) → encode_lower (byte ∷ []) ≡ hex_byte byte
+unfolding encode_with
+hex_byte-is byte = refl
+
+pub hex_word-is : (word : ℕ) → encode_lower (word / 256 ∷ word % 256 ∷ []) ≡ hex_word word
+unfolding encode_with
+hex_word-is word = refl

@@ -16,7 +16,7 @@ use Rattle.texts.specs.Hexadecimals.{hex_byte, hex_word, hex_key, read_hex, read
 use Rattle.texts.specs.Lines.{is_line_feed, but_last, last_of, ended_lines, unended, text_of}
 use Rattle.texts.specs.Laws.{DecimalsAreRead, DigitsAreCounted, BytesAreRead, WordsAreRead, KeysAreRead, TextsAreLines, LinesAreRead, HasNoFeed}
 use Rattle.texts.proofs.DecimalLemmas.{digits_model, decimal_parts, decimal_of_number, is_decimal-decimal, number_in-decimal, read_decimal-some, read_decimal-parts}
-use Rattle.texts.proofs.HexLemmas.{read_hex-encode, read_hex-parts}
+use Rattle.texts.proofs.HexLemmas.{read_hex-encode, read_hex-parts, hex_byte-is, hex_word-is}
 use Rattle.texts.proofs.LineLemmas.{SomeParts, some_parts, but_last-before, last_of-before, ended_lines-before, unended-before}
 
 -- ---- decimals
@@ -70,10 +70,10 @@ bytes_are_read text byte = (λ e. from (read_hex 1 text) refl e, λ h. to h.0 h.
         let r = read_hex-parts 1 text bytes is in
         let same : slice_index bytes 0 ≡ byte = cc in
         let small : slice_index bytes 0 < 256 = r.are 0 in
-        (omega arith, r.is ∙ ap encode_lower (head_byte bytes byte r.long same))
+        (omega arith, r.is ∙ ap encode_lower (head_byte bytes byte r.long same) ∙ hex_byte-is byte)
 
     to : byte < 256 → text ≡ hex_byte byte → read_hex_byte text ≡ Some byte
-    to small e = ap read_hex_byte e ∙ ap (option_map (λ bytes. slice_index bytes 0)) (read_hex-encode 1 (byte ∷ []) refl (one_byte byte small))
+    to small e = ap read_hex_byte (e ∙ sym (hex_byte-is byte)) ∙ ap (option_map (λ bytes. slice_index bytes 0)) (read_hex-encode 1 (byte ∷ []) refl (one_byte byte small))
 
 two_bytes : (bytes : List ℕ) (word : ℕ) → length bytes ≡ 2 → IsBytes bytes → 256 * slice_index bytes 0 + slice_index bytes 1 ≡ word
     → (word < 65536) × (bytes ≡ word / 256 ∷ word % 256 ∷ [])
@@ -100,12 +100,12 @@ words_are_read text word = (λ e. from (read_hex 2 text) refl e, λ h. to h.0 h.
         let r = read_hex-parts 2 text bytes is in
         let same : 256 * slice_index bytes 0 + slice_index bytes 1 ≡ word = cc in
         let two = two_bytes bytes word r.long r.are same in
-        (two.0, r.is ∙ ap encode_lower two.1)
+        (two.0, r.is ∙ ap encode_lower two.1 ∙ hex_word-is word)
 
     to : word < 65536 → text ≡ hex_word word → read_hex_word text ≡ Some word
     to small e =
         let joined : 256 * (word / 256) + word % 256 ≡ word = omega arith in
-        ap read_hex_word e ∙ ap (option_map (λ bytes. 256 * slice_index bytes 0 + slice_index bytes 1)) (read_hex-encode 2 (word / 256 ∷ word % 256 ∷ []) refl (word_bytes word small)) ∙ ap Some joined
+        ap read_hex_word (e ∙ sym (hex_word-is word)) ∙ ap (option_map (λ bytes. 256 * slice_index bytes 0 + slice_index bytes 1)) (read_hex-encode 2 (word / 256 ∷ word % 256 ∷ []) refl (word_bytes word small)) ∙ ap Some joined
 
 pub keys_are_read : KeysAreRead
 keys_are_read text key = (

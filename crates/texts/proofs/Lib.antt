@@ -2,3 +2,4 @@ pub mod DecimalLemmas
 pub mod HexLemmas
 pub mod LineLemmas
 pub mod LawLemmas
+pub mod WordLemmas

@@ -1,18 +1,22 @@
 -- Hexadecimal digits of lower case, two a byte, the high four bits first.
-use Rattle.std.specs.Prelude.{ℕ, ◌+◌, ◌*◌, ◌/◌, ◌%◌, Bool, ◌&&◌, ◌||◌, nat_le, if◌then◌else◌, List, [], ◌∷◌, slice_index, Option, Some, None, option_map, Result, Ok, Err}
+use Rattle.std.specs.Prelude.{ℕ, ◌+◌, ◌*◌, ◌/◌, ◌%◌, Bool, ◌&&◌, ◌||◌, nat_le, if◌then◌else◌, List, [], ◌∷◌, ◌++◌, slice_index, Option, Some, None, option_map, Result, Ok, Err}
 use Rattle.std.specs.List.{list_all}
-use Rattle.hex.specs.Hex.{encode_lower, decode_sized}
+use Rattle.hex.specs.Hex.{lower_digits, encode_lower, decode_sized}
 use Rattle.hex.specs.declared.error.FromHexError.{FromHexError}
+
+-- the digit of a number below 16
+abbrev pub hex_digit : ℕ → ℕ
+hex_digit d = slice_index lower_digits d
 
 -- a byte as two digits
 abbrev pub hex_byte : ℕ → List ℕ
-hex_byte byte = encode_lower (byte ∷ [])
+hex_byte byte = hex_digit (byte / 16) ∷ hex_digit (byte % 16) ∷ []
 
 -- a word as four digits, those of its high byte first
 abbrev pub hex_word : ℕ → List ℕ
-hex_word word = encode_lower (word / 256 ∷ word % 256 ∷ [])
+hex_word word = hex_byte (word / 256) ++ hex_byte (word % 256)
 
--- a key of sixteen bytes as 32 digits
+-- a key of sixteen bytes as 32 digits, byte by byte
 abbrev pub hex_key : List ℕ → List ℕ
 hex_key key = encode_lower key
 

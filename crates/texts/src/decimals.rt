@@ -1,13 +1,14 @@
 //! Decimals.
-ghost use Rattle.std.specs.Prelude.{◌≡◌, ◌<◌, ◌≤◌, ◌^◌, true, IfSome};
+ghost use Rattle.std.specs.Prelude.{◌≡◌, ◌+◌, ◌++◌, ◌<◌, ◌≤◌, ◌^◌, true, IfSome};
 ghost use Rattle.std.specs.Option.{SomeIff};
 ghost use Rattle.std.specs.List.{list_all};
 ghost use Rattle.std.specs.Char.{is_ascii_digit};
 ghost use Rattle.std.specs.Fmt as fmt;
+ghost use Rattle.arrayvec.specs.ArrayString.{array_string_len};
 ghost use Rattle.texts.specs.Decimals as spec;
 
 use arrayvec::ArrayString;
-use itoa::Buffer;
+use itoa::{Buffer, Integer};
 
 /// A number in decimal.
 pub fn decimal(number: u64) -> ArrayString<20>
@@ -17,6 +18,16 @@ pub fn decimal(number: u64) -> ArrayString<20>
     let mut text = ArrayString::new();
     text.push_str(digits.format(number));
     text
+}
+
+/// Appends a number in decimal.
+pub fn push_decimal<I: Integer, const N: usize>(number: I, out: &mut ArrayString<N>)
+    requires room { array_string_len out.old + I.MAX_STR_LEN ≤ N }
+    ensures text { out.new.bytes ≡ out.old.bytes ++ I.text number }
+    ensures most { array_string_len out.new ≤ array_string_len out.old + I.MAX_STR_LEN }
+{
+    let mut digits = Buffer::new();
+    out.push_str(digits.format(number));
 }
 
 /// The number whose decimal the text is, where it is at most `most`.

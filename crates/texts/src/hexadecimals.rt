@@ -1,12 +1,14 @@
 //! Hexadecimal digits of lower case.
-ghost use Rattle.std.specs.Prelude.{◌≡◌, ◌*◌, length, Some, None, MatchBool, IsAscii};
+ghost use Rattle.std.specs.Prelude.{◌≡◌, ◌+◌, ◌*◌, ◌≤◌, ◌++◌, length, Some, None, MatchBool, IsAscii};
 ghost use Rattle.std.specs.List.{list_all};
 ghost use Rattle.hex.specs.Hex.{encode_lower};
+ghost use Rattle.arrayvec.specs.ArrayString.{array_string_len};
 ghost use Rattle.texts.specs.Hexadecimals as spec;
 
 use arrayvec::ArrayString;
 
 /// A byte as two digits.
+#[tactic(auto, unfolding(hex::specs::Hex::encode_with))]
 pub fn hex_byte(byte: u8) -> ArrayString<2>
     ensures { result.bytes ≡ spec.hex_byte byte }
 {
@@ -16,6 +18,7 @@ pub fn hex_byte(byte: u8) -> ArrayString<2>
 }
 
 /// A word as four digits.
+#[tactic(auto, unfolding(hex::specs::Hex::encode_with))]
 pub fn hex_word(word: u16) -> ArrayString<4>
     ensures { result.bytes ≡ spec.hex_word word }
 {
@@ -31,6 +34,24 @@ pub fn hex_key(key: &[u8; 16]) -> ArrayString<32>
     let mut digits = [0; 32];
     encode(key, &mut digits);
     as_text(&digits)
+}
+
+/// Appends a byte as two digits.
+pub fn push_hex_byte<const N: usize>(byte: u8, out: &mut ArrayString<N>)
+    requires room { array_string_len out.old + 2 ≤ N }
+    ensures text { out.new.bytes ≡ out.old.bytes ++ spec.hex_byte byte }
+    ensures length { array_string_len out.new ≡ array_string_len out.old + 2 }
+{
+    out.push_str(hex_byte(byte).as_str());
+}
+
+/// Appends a word as four digits.
+pub fn push_hex_word<const N: usize>(word: u16, out: &mut ArrayString<N>)
+    requires room { array_string_len out.old + 4 ≤ N }
+    ensures text { out.new.bytes ≡ out.old.bytes ++ spec.hex_word word }
+    ensures length { array_string_len out.new ≡ array_string_len out.old + 4 }
+{
+    out.push_str(hex_word(word).as_str());
 }
 
 /// The byte that two digits write.

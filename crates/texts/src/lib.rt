@@ -11,8 +11,9 @@ mod lines;
 #[cfg(test)]
 mod tests;
 
-pub use decimals::{decimal, read_decimal};
+pub use decimals::{decimal, push_decimal, read_decimal};
 pub use hexadecimals::{
-    hex_byte, hex_key, hex_word, is_hex_digit, read_hex_byte, read_hex_key, read_hex_word,
+    hex_byte, hex_key, hex_word, is_hex_digit, push_hex_byte, push_hex_word, read_hex_byte,
+    read_hex_key, read_hex_word,
 };
 pub use lines::{next_line, split_line};
