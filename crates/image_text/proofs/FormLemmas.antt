@@ -1,14 +1,16 @@
 -- Forms, and the lines that have them.
-use Rattle.std.proofs.Common.{◌≡◌, ◌≢◌, ℕ, zero, suc, ◌+◌, ◌*◌, ◌-◌, ◌/◌, ◌%◌, ◌<◌, List, [], ◌∷◌, ◌++◌, length, take, drop, get_or, slice_range, Bool, true, false, nat_lt, cond, not, ◌&&◌, ◌==◌, Option, Some, None, refl, sym, ap, ◌∙◌, subst, arith, add-one, drop-cons, length-drop, length-append}
-use Rattle.std.specs.Result.{result_unwrap_or}
+use Rattle.std.proofs.Common.{◌≡◌, ◌≢◌, ℕ, zero, suc, ◌+◌, ◌*◌, ◌-◌, ◌/◌, ◌%◌, ◌<◌, List, [], ◌∷◌, ◌++◌, length, take, drop, get_or, slice_range, Bool, true, false, nat_lt, cond, not, ◌&&◌, ◌==◌, Option, Some, None, unwrap_or, refl, sym, ap, ◌∙◌, subst, arith, add-one, drop-cons, length-drop, length-append}
 use Rattle.std.proofs.lemmas.List.{take_at}
 use Rattle.std.proofs.lemmas.Bool.Decides.{nat_tests}
-use Rattle.hex.specs.Hex.{IsBytes, lower_digits, encode_with, encode_lower, decode_of}
-use Rattle.hex.proofs.HexLemmas.{length-encode_with, decode_of-encode_lower}
+use Rattle.hex.specs.Hex.{IsBytes, lower_digits, encode_with, encode_lower}
+use Rattle.hex.proofs.HexLemmas.{length-encode_with}
+use Rattle.texts.specs.Hexadecimals.{is_hex_digit, read_hex, read_hex_word}
+use Rattle.texts.proofs.HexLemmas.{read_hex-encode}
+use Rattle.texts.proofs.LawLemmas.{words_are_read}
+use Rattle.texts.specs.Hexadecimals.{hex_word}
 use Rattle.image_text.specs.declared.ImageFault.{ImageFault}
 use Rattle.image_text.specs.declared.ImageFault.TheVariants.{Line, Digit}
-use Rattle.image_text.specs.ImageText.{hex_word}
-use Rattle.image_text.specs.Refusal.{Spot, fits, has_form, is_digit, is_bad, bad_digit, formed, bytes_at, word_of, word_at}
+use Rattle.image_text.specs.Refusal.{Spot, fits, has_form, is_bad, bad_digit, formed, bytes_at, word_at}
 use Rattle.image_text.specs.Reading.{HasForm, CodedAt}
 
 and_left : (a b : Bool) → (a && b) ≡ true → a ≡ true
@@ -139,14 +141,14 @@ digit_at (suc (suc (suc (suc (suc (suc (suc (suc (suc (suc (suc (suc (suc (suc (
 digit_at (suc (suc (suc (suc (suc (suc (suc (suc (suc (suc (suc (suc (suc (suc (suc (suc n)))))))))))))))) l = absurd (omega arith)
 
 -- a digit is the text of its value
-pub digit_is : (c : ℕ) → is_digit c ≡ true → (digit_value c < 16) × (get_or lower_digits (digit_value c) 0 ≡ c)
+pub digit_is : (c : ℕ) → is_hex_digit c ≡ true → (digit_value c < 16) × (get_or lower_digits (digit_value c) 0 ≡ c)
 digit_is c e =
     let small : digit_value c < 16 = grind (arith, nat_tests) in
     let same : cond (nat_lt (digit_value c) 10) (48 + digit_value c) (87 + digit_value c) ≡ c = grind (arith, nat_tests) in
     (small, digit_at (digit_value c) small ∙ same)
 
-good : (b : ℕ) → is_bad 35 b ≡ false → is_digit b ≡ true
-good b e = by (is_digit b) e
+good : (b : ℕ) → is_bad 35 b ≡ false → is_hex_digit b ≡ true
+good b e = by (is_hex_digit b) e
   where
     by : (c : Bool) → (true && not c) ≡ false → c ≡ true
     by true f = refl
@@ -154,12 +156,12 @@ good b e = by (is_digit b) e
 
 -- bytes that stand as digits at a place
 pub coded_at : (line rest : List ℕ) (from n : ℕ) (bytes : List ℕ) → 0 < n → IsBytes bytes → length bytes ≡ n → drop from line ≡ encode_lower bytes ++ rest
-    → CodedAt line from n × (bytes_at from (from + 2 * n) line ≡ bytes)
+    → CodedAt line from n × (bytes_at from n line ≡ bytes)
 coded_at line rest from n bytes some are len e =
     let twice : length (encode_lower bytes) ≡ 2 * n = omega (arith, length-encode_with lower_digits bytes, len) in
     let range : from + 2 * n - from ≡ 2 * n = omega arith in
     let part : slice_range line from (from + 2 * n) ≡ encode_lower bytes = rw range (ap (take (2 * n)) e ∙ take_at (encode_lower bytes) rest (2 * n) twice) in
-    let value : bytes_at from (from + 2 * n) line ≡ bytes = ap (λ (l : List ℕ). result_unwrap_or (decode_of l) []) part ∙ ap (λ r. result_unwrap_or r []) (decode_of-encode_lower bytes are) in (
+    let value : bytes_at from n line ≡ bytes = ap (λ (l : List ℕ). unwrap_or (read_hex n l) []) part ∙ ap (λ o. unwrap_or o []) (read_hex-encode n bytes len are) in (
       record {
         within = omega (arith, length-drop from line, ap length e, length-append (encode_lower bytes) rest, twice, some);
         are_bytes = subst IsBytes (sym value) are;
@@ -175,7 +177,7 @@ abbrev pub marks : ℕ → List ℕ
 marks zero = []
 marks (suc n) = 35 ∷ 35 ∷ marks n
 
-digit_head : (b : ℕ) (form line : List ℕ) → HasForm (35 ∷ form) (b ∷ line) → is_digit b ≡ true
+digit_head : (b : ℕ) (form line : List ℕ) → HasForm (35 ∷ form) (b ∷ line) → is_hex_digit b ≡ true
 digit_head b form line h = good b (tail_bad 35 b form line 0 (h.digits 0)).0
 
 pub bytes_cons : (b : ℕ) (bytes : List ℕ) → b < 256 → IsBytes bytes → IsBytes (b ∷ bytes)
@@ -243,23 +245,22 @@ pub record AfterFour (form line : List ℕ) : Type 0 where
 
 -- the four digits of a word
 pub after_four : (form line : List ℕ) → HasForm (35 ∷ 35 ∷ 35 ∷ 35 ∷ form) line → AfterFour form line
+unfolding encode_with
 after_four form line h =
     let d = after_digits 2 form line h in
     let t = two_bytes d.bytes d.count d.are in
     record { word = t.word; rest = d.rest; is = d.is ∙ ap (λ (l : List ℕ). encode_lower l ++ d.rest) (sym t.is); small = t.small; next = d.next }
 
+-- the digits that stand at a place
+coded_text : (line : List ℕ) (from n : ℕ) (bytes : List ℕ) → CodedAt line from n → bytes_at from n line ≡ bytes → slice_range line from (from + 2 * n) ≡ encode_lower bytes
+coded_text line from n bytes c e = c.text ∙ ap encode_lower e
+
 -- a word at a place of a line
 pub word_here : (line rest : List ℕ) (from w : ℕ) → w < 65536 → drop from line ≡ hex_word w ++ rest → CodedAt line from 2 × (word_at from line ≡ w)
+unfolding encode_with
 word_here line rest from w l e =
     let c = coded_at line rest from 2 (w / 256 ∷ w % 256 ∷ []) (omega arith) (word_bytes w l) refl e in
-    let joined : 256 * (w / 256) + w % 256 ≡ w = omega arith in
-    (c.0, ap word_of c.1 ∙ joined)
+    (c.0, ap (λ l. unwrap_or (read_hex_word l) 0) (coded_text line from 2 (w / 256 ∷ w % 256 ∷ []) c.0 c.1) ∙ ap (λ o. unwrap_or o 0) ((words_are_read (hex_word w) w).1 (l, refl)))
 
 pub nothing_after : (line : List ℕ) → HasForm [] line → line ≡ []
 nothing_after line h = nothing_left line h
-
--- a word of two bytes
-pub word_of_two : (bytes : List ℕ) → length bytes ≡ 2 → word_of bytes ≡ 256 * get_or bytes 0 0 + get_or bytes 1 0
-word_of_two [] e = absurd (omega arith)
-word_of_two (a ∷ []) e = absurd (omega arith)
-word_of_two (a ∷ b ∷ bytes) e = refl

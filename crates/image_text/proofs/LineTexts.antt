@@ -2,14 +2,15 @@
 use Rattle.std.proofs.Common.{◌≡◌, ℕ, ◌<◌, List, [], ◌∷◌, ◌++◌, drop, codes, refl, sym, ap, ◌∙◌, arith}
 use Rattle.std.proofs.lemmas.List.{append-nil}
 use Rattle.hex.specs.Hex.{encode_with, encode_lower}
-use Rattle.image_text.specs.ImageText.{hex_word, key_line, handler_line, module_line, row_line}
+use Rattle.texts.specs.Hexadecimals.{hex_word}
+use Rattle.image_text.specs.ImageText.{key_line, handler_line, module_line, row_line}
 use Rattle.image_text.specs.Refusal.{key_form, handler_form, module_form, row_form, bytes_at, word_at, section_at}
 use Rattle.image_text.specs.Reading.{HasForm, CodedAt}
 use Rattle.image_text.proofs.FormLemmas.{after_word, after_digits, after_four, word_here, coded_at, nothing_after, marks}
 
 pub record IsKeyLine (line : List ℕ) : Type 0 where
   pub coded : CodedAt line 4 16
-  pub text : line ≡ key_line (bytes_at 4 36 line)
+  pub text : line ≡ key_line (bytes_at 4 16 line)
 
 pub key_line_of : (line : List ℕ) → HasForm key_form line → IsKeyLine line
 key_line_of line h =
@@ -43,7 +44,7 @@ pub record IsRowLine (line : List ℕ) : Type 0 where
   pub at : CodedAt line 3 2
   pub row : CodedAt line 8 16
   pub small : word_at 3 line < 65536
-  pub text : line ≡ row_line (word_at 3 line) (bytes_at 8 40 line)
+  pub text : line ≡ row_line (word_at 3 line) (bytes_at 8 16 line)
 
 pub row_line_of : (line : List ℕ) → HasForm row_form line → IsRowLine line
 unfolding encode_with
@@ -62,7 +63,7 @@ row_line_of line h =
       row = r.0;
       small = let l = a.small in omega (arith, c.1);
       text = whole ∙ ap (λ (l : List ℕ). codes "at " ++ (hex_word a.word ++ (32 ∷ l))) (ap (λ (l : List ℕ). encode_lower d.bytes ++ l) none ∙ append-nil (encode_lower d.bytes) ∙ ap encode_lower (sym r.1))
-          ∙ ap (λ (n : ℕ). codes "at " ++ (hex_word n ++ (32 ∷ encode_lower (bytes_at 8 40 line)))) (sym c.1);
+          ∙ ap (λ (n : ℕ). codes "at " ++ (hex_word n ++ (32 ∷ encode_lower (bytes_at 8 16 line)))) (sym c.1);
     }
 
 -- a module's line, by its five words

@@ -1,5 +1,5 @@
 -- The text of an image is not refused, and no other image has it.
-use Rattle.std.proofs.Common.{◌≡◌, ◌⊎◌, inl, inr, ⊎_elim, ℕ, zero, suc, ◌+◌, ◌*◌, ◌/◌, ◌%◌, ◌<◌, ◌≤◌, List, [], ◌∷◌, ◌++◌, length, take, drop, get_or, slice_index, codes, Bool, true, false, nat_lt, cond, not, ◌&&◌, ◌||◌, ◌==◌, Option, Some, None, unwrap_or, refl, sym, ap, ◌∙◌, subst, arith, append_assoc, length-append, length-take, length-drop}
+use Rattle.std.proofs.Common.{◌≡◌, ◌⊎◌, inl, inr, ⊎_elim, ℕ, zero, suc, ◌+◌, ◌*◌, ◌/◌, ◌%◌, ◌<◌, ◌≤◌, List, [], ◌∷◌, ◌++◌, length, take, drop, get_or, slice_index, codes, Bool, true, false, nat_lt, cond, not, ◌&&◌, ◌||◌, ◌==◌, Option, Some, None, unwrap_or, refl, sym, ap, ◌∙◌, subst, arith, lit<, append_assoc, length-append, length-take, length-drop}
 use Rattle.std.proofs.lemmas.List.{append-nil, append_cancel_left, take-append-drop}
 use Rattle.std.proofs.lemmas.Bool.{and_parts, cases_lt, eqb-true}
 use Rattle.std.proofs.lemmas.Bool.Decides.{nat_tests}
@@ -10,11 +10,22 @@ use Rattle.mod_layout.specs.declared.TableFault.{TableFault}
 use Rattle.mod_layout.specs.declared.TableFault.TheVariants.{Empty, Odd, Reserved, Full, Spent}
 use Rattle.mod_layout.specs.Table.{Table, fault_of, with_module, empty_table, shares, lowest_met, met_if, fault_if, overlap_or, is_empty, is_odd, is_reserved}
 use Rattle.mod_layout.specs.Tables.{Apart, IsSection, IsModule, Separate, SeparateFrom, AreModules}
+use Rattle.texts.specs.Lines.{is_line_feed, ended_lines, unended}
+use Rattle.texts.proofs.LawLemmas.{decimals_are_read}
+use Rattle.image_text.specs.declared.numbers.TheConstants.{MAX_COUNT}
+use Rattle.std.specs.Fmt.{decimal}
+use Rattle.std.specs.Char.{is_ascii_digit}
+use Rattle.std.proofs.lemmas.Fmt.{digits_decimal}
+use Rattle.texts.proofs.DecimalLemmas.{digits_model}
+use Rattle.texts.proofs.LineLemmas.{ended_lines-before, unended-before}
+use Rattle.std.specs.List.{All, list_all}
+use Rattle.std.proofs.lemmas.List.Sums.{AllPass-from_list_all}
+use Rattle.texts.specs.Hexadecimals.{hex_word}
 use Rattle.image_text.specs.declared.ImageFault.{ImageFault}
 use Rattle.image_text.specs.declared.ImageFault.TheVariants.{Line, Twice}
 use Rattle.image_text.specs.Image.{Image, IsImage, AreNumbered}
-use Rattle.image_text.specs.ImageText.{ended, hex_word, first_line, key_line, handler_line, count_line, module_line, row_line, end_line, count_text, modules_text, is_zero, rows_text, memory_text, text_after_key, image_text}
-use Rattle.image_text.specs.Refusal.{Spot, past, lines_from, tail_from, key_form, handler_form, module_form, row_form, fits, has_form, is_bad, bytes_at, word_at, section_at, count_of, is_row, rows_refusal, taken, added, one_less, modules_refusal, counted, count_refusal, handler_refusal, key_refusal, first_refusal, refusal_of}
+use Rattle.image_text.specs.ImageText.{ended, first_line, key_line, handler_line, count_line, module_line, row_line, end_line, count_text, modules_text, is_zero, rows_text, memory_text, text_after_key, image_text}
+use Rattle.image_text.specs.Refusal.{Spot, past, key_form, handler_form, module_form, row_form, fits, has_form, is_bad, bytes_at, word_at, section_at, count_of, is_row, rows_refusal, end_refusal, taken, added, one_less, modules_refusal, counted, count_refusal, handler_refusal, key_refusal, first_refusal, refusal_of}
 use Rattle.image_text.specs.Reading.{HasForm, due_next}
 use Rattle.image_text.proofs.FormLemmas.{formed_ok, marks, bytes_cons, bytes_nil, word_bytes, word_here, coded_at}
 use Rattle.image_text.proofs.StageLemmas.{Stage, none_due, one_due}
@@ -22,38 +33,32 @@ use Rattle.image_text.proofs.StageLemmas.{Stage, none_due, one_due}
 -- ---- lines
 
 abbrev no_lf : List ℕ → Bool
-no_lf [] = true
-no_lf (b ∷ line) = not (b == 10) && no_lf line
+no_lf line = list_all (λ b. not (b == 10)) line
 
 not_so : (b : Bool) → not b ≡ true → b ≡ false
 not_so true e = cc
 not_so false e = refl
 
-lines_of : (line front rest : List ℕ) → no_lf line ≡ true → lines_from front (ended line rest) ≡ (front ++ line) ∷ lines_from [] rest
-lines_of [] front rest e = ap (λ (l : List ℕ). l ∷ lines_from [] rest) (sym (append-nil front))
-lines_of (b ∷ line) front rest e =
-    let p = and_parts (not (b == 10)) (no_lf line) e in
-    let n = not_so (b == 10) p.0 in
-    rw n (lines_of line (front ++ b ∷ []) rest p.1 ∙ ap (λ (l : List ℕ). l ∷ lines_from [] rest) (append_assoc front (b ∷ []) line))
+has_no_feed : (line : List ℕ) → no_lf line ≡ true → All (λ b. is_line_feed b ≡ false) line
+has_no_feed line e k d l = not_so (get_or line k d == 10) (AllPass-from_list_all (λ b. not (b == 10)) line e k d l)
 
-tail_of : (line front rest : List ℕ) → no_lf line ≡ true → tail_from front (ended line rest) ≡ tail_from [] rest
-tail_of [] front rest e = refl
-tail_of (b ∷ line) front rest e =
-    let p = and_parts (not (b == 10)) (no_lf line) e in
-    let n = not_so (b == 10) p.0 in
-    rw n (tail_of line (front ++ b ∷ []) rest p.1)
+lines_of : (line rest : List ℕ) → no_lf line ≡ true → ended_lines (ended line rest) ≡ line ∷ ended_lines rest
+lines_of line rest e = ended_lines-before line rest (has_no_feed line e)
+
+tail_of : (line rest : List ℕ) → no_lf line ≡ true → unended (ended line rest) ≡ unended rest
+tail_of line rest e = unended-before line rest (has_no_feed line e)
 
 -- what a rule says of a text
 abbrev says : Stage → Spot → List ℕ → Option ImageFault
-says R s text = R s (lines_from [] text) (tail_from [] text)
+says R s text = R s (ended_lines text) (unended text)
 
-at_line : (R : Stage) (s : Spot) (line rest : List ℕ) → no_lf line ≡ true → says R s (ended line rest) ≡ R s (line ∷ lines_from [] rest) (tail_from [] rest)
-at_line R s line rest e = ap (λ (l : List (List ℕ)). R s l (tail_from [] (ended line rest))) (lines_of line [] rest e) ∙ ap (λ (t : List ℕ). R s (line ∷ lines_from [] rest) t) (tail_of line [] rest e)
+at_line : (R : Stage) (s : Spot) (line rest : List ℕ) → no_lf line ≡ true → says R s (ended line rest) ≡ R s (line ∷ ended_lines rest) (unended rest)
+at_line R s line rest e = ap (λ (l : List (List ℕ)). R s l (unended (ended line rest))) (lines_of line rest e) ∙ ap (λ (t : List ℕ). R s (line ∷ ended_lines rest) t) (tail_of line rest e)
 
 -- equal texts begin with equal lines
 line_one : (k l r s : List ℕ) → no_lf k ≡ true → no_lf l ≡ true → ended k r ≡ ended l s → (k ≡ l) × (r ≡ s)
 line_one k l r s p q e =
-    let both : k ∷ lines_from [] r ≡ l ∷ lines_from [] s = sym (lines_of k [] r p) ∙ ap (lines_from []) e ∙ lines_of l [] s q in
+    let both : k ∷ ended_lines r ≡ l ∷ ended_lines s = sym (lines_of k r p) ∙ ap ended_lines e ∙ lines_of l s q in
     let same : k ≡ l = cc in
     let ends : 10 ∷ r ≡ 10 ∷ s = append_cancel_left l (10 ∷ r) (10 ∷ s) (sym (ap (λ (x : List ℕ). ended x r) same) ∙ e) in
     let rest : r ≡ s = cc in
@@ -127,13 +132,14 @@ lined_last : (n : ℕ) (bytes : List ℕ) → length bytes ≡ n → IsBytes byt
 lined_last n bytes e b = subst (λ (f : List ℕ). Lined f (encode_lower bytes)) (append-nil (marks n)) (subst (Lined (marks n ++ [])) (append-nil (encode_lower bytes)) (lined_bytes n bytes [] [] e b lined_nil))
 
 lined_four : (w : ℕ) (form line : List ℕ) → w < 65536 → Lined form line → Lined (35 ∷ 35 ∷ 35 ∷ 35 ∷ form) (hex_word w ++ line)
+unfolding encode_with
 lined_four w form line l h = lined_bytes 2 (w / 256 ∷ w % 256 ∷ []) form line refl (word_bytes w l) h
 
 -- ---- lines of values
 
 record KeyText (key : List ℕ) : Type 0 where
   pub lined : Lined key_form (key_line key)
-  pub key_is : bytes_at 4 36 (key_line key) ≡ key
+  pub key_is : bytes_at 4 16 (key_line key) ≡ key
 
 key_text : (key : List ℕ) → length key ≡ 16 → IsBytes key → KeyText key
 key_text key e b = record {
@@ -146,6 +152,7 @@ record HandlerText (sp : ℕ) : Type 0 where
   pub sp_is : word_at 8 (handler_line sp) ≡ sp
 
 handler_text : (sp : ℕ) → sp < 65536 → HandlerText sp
+unfolding encode_with
 handler_text sp l = record {
   lined = lined_word (codes "handler ") (marks 2) (hex_word sp) refl (lined_last 2 (sp / 256 ∷ sp % 256 ∷ []) refl (word_bytes sp l));
   sp_is = (word_here (handler_line sp) [] 8 sp l (sym (append-nil (hex_word sp)))).1;
@@ -154,7 +161,7 @@ handler_text sp l = record {
 record RowText (at : ℕ) (row : List ℕ) : Type 0 where
   pub lined : Lined row_form (row_line at row)
   pub at_is : word_at 3 (row_line at row) ≡ at
-  pub row_is : bytes_at 8 40 (row_line at row) ≡ row
+  pub row_is : bytes_at 8 16 (row_line at row) ≡ row
 
 text_of_row : (at : ℕ) (row : List ℕ) → at < 65536 → length row ≡ 16 → IsBytes row → RowText at row
 unfolding encode_with
@@ -211,22 +218,22 @@ text_of_module m k =
       ram_is = same_section _ _ m.ram (word_here (module_line m) (32 ∷ t4) 22 c k.ram_start refl).1 (word_here (module_line m) [] 27 d k.ram_end refl).1;
     }
 
-abbrev count_test : ℕ → Bool
-count_test n = no_lf (count_line n) && (unwrap_or (count_of (count_line n)) 99 == n)
-
 record CountText (n : ℕ) : Type 0 where
   pub plain : no_lf (count_line n) ≡ true
   pub count_is : count_of (count_line n) ≡ Some n
 
-some_of : (o : Option ℕ) (n : ℕ) → n < 99 → unwrap_or o 99 ≡ n → o ≡ Some n
-some_of (Some v) n l e = ap Some e
-some_of None n l e = absurd (omega arith)
+digits_plain : (text : List ℕ) → list_all is_ascii_digit text ≡ true → no_lf text ≡ true
+digits_plain [] e = refl
+digits_plain (b ∷ text) e =
+    let p = and_parts (is_ascii_digit b) (list_all is_ascii_digit text) e in
+    let here : (b == 10) ≡ false = let d = p.0 in grind (arith, nat_tests) in
+    rw here (digits_plain text p.1)
 
 text_of_count : (n : ℕ) → n ≤ 32 → CountText n
-text_of_count n l =
-    let t = below_at count_test 33 n refl (omega arith) in
-    let p = and_parts (no_lf (count_line n)) (unwrap_or (count_of (count_line n)) 99 == n) t in
-    record { plain = p.0; count_is = some_of (count_of (count_line n)) n (omega arith) (eqb-true (unwrap_or (count_of (count_line n)) 99) n p.1) }
+text_of_count n l = record {
+  plain = digits_plain (decimal n) (digits_decimal digits_model n (omega arith));
+  count_is = (decimals_are_read MAX_COUNT (lit< tt) (decimal n) n).1 (l, refl);
+}
 
 -- ---- modules of one text
 
@@ -310,7 +317,7 @@ row_one a b x y r s la lb lx ly p q e =
     let t = text_of_row a x la lx p in
     let u = text_of_row b y lb ly q in
     let k = line_one (row_line a x) (row_line b y) r s t.lined.plain u.lined.plain e in
-    (sym t.at_is ∙ ap (word_at 3) k.0 ∙ u.at_is, sym t.row_is ∙ ap (bytes_at 8 40) k.0 ∙ u.row_is, k.1)
+    (sym t.at_is ∙ ap (word_at 3) k.0 ∙ u.at_is, sym t.row_is ∙ ap (bytes_at 8 16) k.0 ∙ u.row_is, k.1)
 
 first_row : (n : ℕ) (memory : List ℕ) → length memory ≡ 16 * suc n → length (take 16 memory) ≡ 16
 first_row n memory l = omega (arith, length-take 16 memory)
@@ -422,7 +429,7 @@ images_of_one_text i j p q e =
     let ki = key_text i.node_key p.sixteen p.key_bytes in
     let kj = key_text j.node_key q.sixteen q.key_bytes in
     let b = line_one (key_line i.node_key) (key_line j.node_key) _ _ ki.lined.plain kj.lined.plain a.1 in
-    let key : i.node_key ≡ j.node_key = sym ki.key_is ∙ ap (bytes_at 4 36) b.0 ∙ kj.key_is in
+    let key : i.node_key ≡ j.node_key = sym ki.key_is ∙ ap (bytes_at 4 16) b.0 ∙ kj.key_is in
     let hi = handler_text i.handler_sp p.small_sp in
     let hj = handler_text j.handler_sp q.small_sp in
     let c = line_one (handler_line i.handler_sp) (handler_line j.handler_sp) _ _ hi.lined.plain hj.lined.plain b.1 in
@@ -463,15 +470,19 @@ row_ok at last row rest s even high small above len are filled =
     let next : Spot = past line s in
     at_line (rows_refusal last) s line rest t.lined.plain
     ∙ formed_ok row_form s (row_line at row) _ t.lined.has
-    ∙ ap (λ (a : ℕ). placed_by last s a (bytes_at 8 40 line) (says (rows_refusal a) next rest)) t.at_is
+    ∙ ap (λ (a : ℕ). placed_by last s a (bytes_at 8 16 line) (says (rows_refusal a) next rest)) t.at_is
     ∙ ap (λ (r : List ℕ). placed_by last s at r (says (rows_refusal at) next rest)) t.row_is
     ∙ ap (λ (b : Bool). cond b (cond (at == last) (Some (Twice at)) (says (rows_refusal at) next rest)) (Some (Line s.number))) k.0
     ∙ ap (λ (b : Bool). cond b (Some (Twice at)) (says (rows_refusal at) next rest)) k.1
 
+at_end : (s : Spot) → says end_refusal s [] ≡ None
+unfolding ended_lines unended
+at_end s = refl
+
 rows_ok : (n at last : ℕ) (memory : List ℕ) (s : Spot) → at % 16 ≡ 0 → 512 ≤ at → at + 16 * n ≤ 65536 → last < at → length memory ≡ 16 * n → IsBytes memory
     → says (rows_refusal last) s (rows_text n at memory (ended end_line [])) ≡ None
 unfolding rows_text
-rows_ok zero at last memory s even high room above len are = at_line (rows_refusal last) s end_line [] refl
+rows_ok zero at last memory s even high room above len are = at_line (rows_refusal last) s end_line [] refl ∙ at_end (past end_line s)
 rows_ok (suc n) at last memory s even high room above len are =
     by (is_zero (take 16 memory)) refl
     (λ l q below. rows_ok n (at + 16) l (drop 16 memory) q (omega arith) (omega arith) (omega arith) below (later_rows n memory len) (bytes_drop 16 memory are))
@@ -485,18 +496,18 @@ rows_ok (suc n) at last memory s even high room above len are =
         ∙ rest at (past (row_line at (take 16 memory)) s) (omega arith)
 
 -- no row's line is a module's
-rows_not_due : (n at : ℕ) (memory : List ℕ) → at + 16 * n ≤ 65536 → length memory ≡ 16 * n → IsBytes memory → due_next None (lines_from [] (rows_text n at memory (ended end_line []))) ≡ false
+rows_not_due : (n at : ℕ) (memory : List ℕ) → at + 16 * n ≤ 65536 → length memory ≡ 16 * n → IsBytes memory → due_next None (ended_lines (rows_text n at memory (ended end_line []))) ≡ false
 unfolding rows_text
-rows_not_due zero at memory room len are = ap (due_next None) (lines_of end_line [] [] refl)
+rows_not_due zero at memory room len are = ap (due_next None) (lines_of end_line [] refl)
 rows_not_due (suc n) at memory room len are =
     by (is_zero (take 16 memory)) (rows_not_due n (at + 16) (drop 16 memory) (omega arith) (later_rows n memory len) (bytes_drop 16 memory are))
   where
-    by : (c : Bool) → due_next None (lines_from [] (rows_text n (at + 16) (drop 16 memory) (ended end_line []))) ≡ false
-        → due_next None (lines_from [] (cond c (rows_text n (at + 16) (drop 16 memory) (ended end_line [])) (ended (row_line at (take 16 memory)) (rows_text n (at + 16) (drop 16 memory) (ended end_line []))))) ≡ false
+    by : (c : Bool) → due_next None (ended_lines (rows_text n (at + 16) (drop 16 memory) (ended end_line []))) ≡ false
+        → due_next None (ended_lines (cond c (rows_text n (at + 16) (drop 16 memory) (ended end_line [])) (ended (row_line at (take 16 memory)) (rows_text n (at + 16) (drop 16 memory) (ended end_line []))))) ≡ false
     by true rest = rest
     by false rest =
         let t = text_of_row at (take 16 memory) (omega arith) (first_row n memory len) (bytes_take 16 memory are) in
-        ap (due_next None) (lines_of (row_line at (take 16 memory)) [] (rows_text n (at + 16) (drop 16 memory) (ended end_line [])) t.lined.plain)
+        ap (due_next None) (lines_of (row_line at (take 16 memory)) (rows_text n (at + 16) (drop 16 memory) (ended end_line [])) t.lined.plain)
 
 -- ---- no refusal: the modules
 
@@ -595,21 +606,21 @@ due_over : (left : Option ℕ) (lines : List (List ℕ)) → AreDue left 0 → d
 due_over None lines d h = h
 due_over (Some k) lines d h = let z : (k == 0) ≡ true = grind (arith, nat_tests) in ap not z
 
-module_ok : (t u : Table) (left : Option ℕ) (s : Spot) (line rest : List ℕ) → no_lf line ≡ true → HasForm module_form line → due_next left (line ∷ lines_from [] rest) ≡ true
+module_ok : (t u : Table) (left : Option ℕ) (s : Spot) (line rest : List ℕ) → no_lf line ≡ true → HasForm module_form line → due_next left (line ∷ ended_lines rest) ≡ true
     → fault_of t (section_at 12 line) (section_at 22 line) ≡ None → added t line ≡ u
     → says (modules_refusal t left) s (ended line rest) ≡ says (modules_refusal u (one_less left)) (past line s) rest
 module_ok t u left s line rest plain has due none is =
     at_line (modules_refusal t left) s line rest plain
-    ∙ one_due t left s line (lines_from [] rest) (tail_from [] rest) due
+    ∙ one_due t left s line (ended_lines rest) (unended rest) due
     ∙ formed_ok module_form s line _ has
     ∙ ap (λ (o : Option TableFault). taken o (t.given + 1) (says (modules_refusal (added t line) (one_less left)) (past line s) rest)) none
     ∙ ap (λ (v : Table). says (modules_refusal v (one_less left)) (past line s) rest) is
 
 modules_ok : (ms xs : List Module) (g k room : ℕ) (left : Option ℕ) (s : Spot) (rest : List ℕ) → g ≡ length xs → length xs + length ms ≤ room → room ≤ 32 → AreNumbered (g + 1) ms → AreModules k ms → AllApart xs ms
-    → AreDue left (length ms) → due_next None (lines_from [] rest) ≡ false → ((q : Spot) → says (rows_refusal 496) q rest ≡ None)
+    → AreDue left (length ms) → due_next None (ended_lines rest) ≡ false → ((q : Spot) → says (rows_refusal 496) q rest ≡ None)
     → says (modules_refusal record { modules = xs; given = g; room = room } left) s (modules_text ms rest) ≡ None
 modules_ok [] xs g k room left s rest gl held small num mods apart due other after =
-    none_due record { modules = xs; given = g; room = room } left s (lines_from [] rest) (tail_from [] rest) (due_over left (lines_from [] rest) due other) ∙ after s
+    none_due record { modules = xs; given = g; room = room } left s (ended_lines rest) (unended rest) (due_over left (ended_lines rest) due other) ∙ after s
 modules_ok (m ∷ ms) xs g k room left s rest gl held small num mods apart due other after =
     let x = text_of_module m (small_module k m mods.0 num.1) in
     let line : List ℕ = module_line m in
@@ -621,7 +632,7 @@ modules_ok (m ∷ ms) xs g k room left s rest gl held small num mods apart due o
     ∙ ap (λ (a : Section). with_module t m.vendor a (section_at 22 line)) x.text_is ∙ ap (λ (b : Section). with_module t m.vendor m.text b) x.ram_is in
     let with_id = λ (i : ℕ). let n : Module = record { id = i; vendor = m.vendor; text = m.text; ram = m.ram } in let v : Table = record { modules = xs ++ n ∷ []; given = g + 1; room = room } in v in
     let is : added t line ≡ u = by_vendor ∙ ap with_id (sym num.0) in
-    module_ok t u left s line (modules_text ms rest) x.lined.plain x.lined.has (due_here left (length ms) line (lines_from [] (modules_text ms rest)) due (let f = x.lined.has in f.formed)) none is
+    module_ok t u left s line (modules_text ms rest) x.lined.plain x.lined.has (due_here left (length ms) line (ended_lines (modules_text ms rest)) due (let f = x.lined.has in f.formed)) none is
     ∙ modules_ok ms (xs ++ m ∷ []) (g + 1) k room (one_less left) (past line s) rest (omega (arith, gl, length-append xs (m ∷ []))) (omega (arith, held, length-append xs (m ∷ []))) small num.2 mods.2 (more_apart xs m ms apart mods.1) (due_less left (length ms) due) other after
 
 -- ---- no refusal: the first lines

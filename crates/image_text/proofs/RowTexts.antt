@@ -3,11 +3,12 @@ use Rattle.std.proofs.Common.{◌≡◌, ℕ, zero, suc, ◌+◌, ◌-◌, ◌*�
 use Rattle.std.proofs.lemmas.Bool.Decides.{nat_tests}
 use Rattle.std.proofs.lemmas.List.{append-nil, take-append-le, drop-append-le, take_at, replicate-append-replicate, get_or_append_left}
 use Rattle.hex.specs.Hex.{IsBytes}
+use Rattle.texts.specs.Lines.{ended_lines, unended}
 use Rattle.image_text.specs.ImageText.{ended, end_line, is_zero, row_line, row_text, rows_text}
 use Rattle.std.specs.Cmp.Lexicographic.{pointwise}
 use Rattle.image_text.specs.declared.ImageFault.{ImageFault}
 use Rattle.image_text.specs.declared.ImageFault.TheVariants.{Line, Twice}
-use Rattle.image_text.specs.Refusal.{Spot, past, lines_from, tail_from, formed, row_form, placed, is_row, word_at, bytes_at, rows_refusal, end_refusal}
+use Rattle.image_text.specs.Refusal.{Spot, past, formed, row_form, placed, is_row, word_at, bytes_at, rows_refusal, end_refusal}
 use Rattle.image_text.proofs.FormLemmas.{formed_ok}
 use Rattle.image_text.proofs.LineTexts.{row_line_of}
 use Rattle.image_text.proofs.StageLemmas.{line_on, next_on, same_spot}
@@ -179,50 +180,50 @@ is_placed last a row e =
     record { even = grind (arith, nat_tests); filled = c; above = grind (arith, nat_tests) }
 
 module _ (last : ℕ) (old new : Unread) (line : List ℕ) (read : ReadLine old line new) (other : pointwise nat_eq line end_line ≡ false) where
-  row_on : on old (rows_refusal last) ≡ formed row_form old.spot line (placed last old.spot line (rows_refusal (word_at 3 line) (past line old.spot) (lines_from [] new.rest) (tail_from [] new.rest)))
+  pub row_on : on old (rows_refusal last) ≡ formed row_form old.spot line (placed last old.spot line (rows_refusal (word_at 3 line) (past line old.spot) (ended_lines new.rest) (unended new.rest)))
   row_on =
       line_on (rows_refusal last) old new line read
-      ∙ ap (λ b. cond b (end_refusal (past line old.spot) (lines_from [] new.rest) (tail_from [] new.rest)) (formed row_form old.spot line (placed last old.spot line (rows_refusal (word_at 3 line) (past line old.spot) (lines_from [] new.rest) (tail_from [] new.rest))))) other
+      ∙ ap (λ b. cond b (end_refusal (past line old.spot) (ended_lines new.rest) (unended new.rest)) (formed row_form old.spot line (placed last old.spot line (rows_refusal (word_at 3 line) (past line old.spot) (ended_lines new.rest) (unended new.rest))))) other
 
   pub row_fails : (n a : ℕ) (fault : ImageFault) → n ≡ old.spot.number → a ≡ old.spot.at
       → ((rest : Option ImageFault) → formed row_form record { number = n; at = a } line rest ≡ Some fault) → on old (rows_refusal last) ≡ Some fault
   row_fails n a fault e f err =
-      row_on ∙ sym (ap (λ (s : Spot). formed row_form s line (placed last old.spot line (rows_refusal (word_at 3 line) (past line old.spot) (lines_from [] new.rest) (tail_from [] new.rest)))) (same_spot old.spot n a e f)) ∙ err _
+      row_on ∙ sym (ap (λ (s : Spot). formed row_form s line (placed last old.spot line (rows_refusal (word_at 3 line) (past line old.spot) (ended_lines new.rest) (unended new.rest)))) (same_spot old.spot n a e f)) ∙ err _
 
   module _ (form : HasForm row_form line) where
-    row_formed : on old (rows_refusal last) ≡ placed last old.spot line (rows_refusal (word_at 3 line) (past line old.spot) (lines_from [] new.rest) (tail_from [] new.rest))
+    pub row_formed : on old (rows_refusal last) ≡ placed last old.spot line (rows_refusal (word_at 3 line) (past line old.spot) (ended_lines new.rest) (unended new.rest))
     row_formed = row_on ∙ formed_ok row_form old.spot line _ form
 
-    pub row_misplaced : is_row last (word_at 3 line) (bytes_at 8 40 line) ≡ false → on old (rows_refusal last) ≡ Some (Line old.spot.number)
-    row_misplaced e = row_formed ∙ ap (λ b. cond b (cond (word_at 3 line == last) (Some (Twice (word_at 3 line))) (rows_refusal (word_at 3 line) (past line old.spot) (lines_from [] new.rest) (tail_from [] new.rest))) (Some (Line old.spot.number))) e
+    pub row_misplaced : is_row last (word_at 3 line) (bytes_at 8 16 line) ≡ false → on old (rows_refusal last) ≡ Some (Line old.spot.number)
+    row_misplaced e = row_formed ∙ ap (λ b. cond b (cond (word_at 3 line == last) (Some (Twice (word_at 3 line))) (rows_refusal (word_at 3 line) (past line old.spot) (ended_lines new.rest) (unended new.rest))) (Some (Line old.spot.number))) e
 
-    row_is : is_row last (word_at 3 line) (bytes_at 8 40 line) ≡ true → on old (rows_refusal last) ≡ cond (word_at 3 line == last) (Some (Twice (word_at 3 line))) (rows_refusal (word_at 3 line) (past line old.spot) (lines_from [] new.rest) (tail_from [] new.rest))
-    row_is e = row_formed ∙ ap (λ b. cond b (cond (word_at 3 line == last) (Some (Twice (word_at 3 line))) (rows_refusal (word_at 3 line) (past line old.spot) (lines_from [] new.rest) (tail_from [] new.rest))) (Some (Line old.spot.number))) e
+    pub row_is : is_row last (word_at 3 line) (bytes_at 8 16 line) ≡ true → on old (rows_refusal last) ≡ cond (word_at 3 line == last) (Some (Twice (word_at 3 line))) (rows_refusal (word_at 3 line) (past line old.spot) (ended_lines new.rest) (unended new.rest))
+    row_is e = row_formed ∙ ap (λ b. cond b (cond (word_at 3 line == last) (Some (Twice (word_at 3 line))) (rows_refusal (word_at 3 line) (past line old.spot) (ended_lines new.rest) (unended new.rest))) (Some (Line old.spot.number))) e
 
-    pub row_twice : is_row last (word_at 3 line) (bytes_at 8 40 line) ≡ true → (word_at 3 line == last) ≡ true → on old (rows_refusal last) ≡ Some (Twice (word_at 3 line))
-    row_twice e f = row_is e ∙ ap (λ b. cond b (Some (Twice (word_at 3 line))) (rows_refusal (word_at 3 line) (past line old.spot) (lines_from [] new.rest) (tail_from [] new.rest))) f
+    pub row_twice : is_row last (word_at 3 line) (bytes_at 8 16 line) ≡ true → (word_at 3 line == last) ≡ true → on old (rows_refusal last) ≡ Some (Twice (word_at 3 line))
+    row_twice e f = row_is e ∙ ap (λ b. cond b (Some (Twice (word_at 3 line))) (rows_refusal (word_at 3 line) (past line old.spot) (ended_lines new.rest) (unended new.rest))) f
 
-    pub row_placed : is_row last (word_at 3 line) (bytes_at 8 40 line) ≡ true → (word_at 3 line == last) ≡ false → on old (rows_refusal last) ≡ on new (rows_refusal (word_at 3 line))
-    row_placed e f = row_is e ∙ ap (λ b. cond b (Some (Twice (word_at 3 line))) (rows_refusal (word_at 3 line) (past line old.spot) (lines_from [] new.rest) (tail_from [] new.rest))) f ∙ next_on (rows_refusal (word_at 3 line)) old new line read
+    pub row_placed : is_row last (word_at 3 line) (bytes_at 8 16 line) ≡ true → (word_at 3 line == last) ≡ false → on old (rows_refusal last) ≡ on new (rows_refusal (word_at 3 line))
+    row_placed e f = row_is e ∙ ap (λ b. cond b (Some (Twice (word_at 3 line))) (rows_refusal (word_at 3 line) (past line old.spot) (ended_lines new.rest) (unended new.rest))) f ∙ next_on (rows_refusal (word_at 3 line)) old new line read
 
     -- the row is added
-    pub adds_row : (at : ℕ) (memory grown : List ℕ) → at ≡ word_at 3 line → is_row last (word_at 3 line) (bytes_at 8 40 line) ≡ true → (word_at 3 line == last) ≡ false
-        → grown ≡ (memory ++ replicate (at - length memory) 0) ++ bytes_at 8 40 line → AddsRow last at old new memory grown
+    pub adds_row : (at : ℕ) (memory grown : List ℕ) → at ≡ word_at 3 line → is_row last (word_at 3 line) (bytes_at 8 16 line) ≡ true → (word_at 3 line == last) ≡ false
+        → grown ≡ (memory ++ replicate (at - length memory) 0) ++ bytes_at 8 16 line → AddsRow last at old new memory grown
     adds_row at memory grown is e f m =
         let k = row_line_of line form in
         let r = k.row in
-        let p = is_placed last (word_at 3 line) (bytes_at 8 40 line) e in
+        let p = is_placed last (word_at 3 line) (bytes_at 8 16 line) e in
         let above = p.above in
         let other_than : word_at 3 line ≢ last = grind (arith, nat_tests) in
         record {
-          row = bytes_at 8 40 line;
+          row = bytes_at 8 16 line;
           sixteen = r.count;
           are_bytes = r.are_bytes;
           small = let l = k.small in omega (arith, is);
           filled = p.filled;
           even = ap (λ (n : ℕ). n % 16) is ∙ p.even;
           above = omega arith;
-          text = let t = read in t.text ∙ ap (λ (l : List ℕ). ended l new.rest) (k.text ∙ ap (λ (n : ℕ). row_line n (bytes_at 8 40 line)) (sym is));
+          text = let t = read in t.text ∙ ap (λ (l : List ℕ). ended l new.rest) (k.text ∙ ap (λ (n : ℕ). row_line n (bytes_at 8 16 line)) (sym is));
           refusal = row_placed e f ∙ ap (λ (n : ℕ). on new (rows_refusal n)) (sym is);
           memory_is = m;
         }

@@ -6,11 +6,13 @@ use Rattle.mod_layout.specs.declared.Module.{Module}
 use Rattle.mod_layout.specs.declared.TableFault.{TableFault}
 use Rattle.mod_layout.specs.Table.{Table, fault_of, empty_table}
 use Rattle.mod_layout.specs.Tables.{IsTable}
+use Rattle.texts.specs.Lines.{ended_lines, unended, text_of}
+use Rattle.texts.proofs.LawLemmas.{texts_are_lines}
 use Rattle.image_text.specs.declared.ImageFault.{ImageFault}
 use Rattle.image_text.specs.declared.ImageFault.TheVariants.{Line, Table as TableRefuses}
 use Rattle.image_text.specs.Image.{AreNumbered}
 use Rattle.image_text.specs.ImageText.{ended, modules_text, module_line}
-use Rattle.image_text.specs.Refusal.{Spot, past, lines_from, tail_from, formed, module_form, modules_refusal, rows_refusal, end_refusal, section_at, word_at, added, taken, one_less}
+use Rattle.image_text.specs.Refusal.{Spot, past, formed, module_form, modules_refusal, rows_refusal, end_refusal, section_at, word_at, added, taken, one_less}
 use Rattle.image_text.specs.Reading.{Unread, on, ReadLine, HasForm, due_next, AddsModule, IsLeft, IsGiven, ModulesSoFar, PassedModules}
 use Rattle.image_text.proofs.FormLemmas.{formed_ok}
 use Rattle.image_text.proofs.LineTexts.{module_line_of}
@@ -25,22 +27,22 @@ same_spot s n a e f =
     ap by_number e ∙ ap by_at f
 
 -- what a stage says where one line was read
-pub line_on : (R : Stage) (old new : Unread) (line : List ℕ) → ReadLine old line new → on old R ≡ R old.spot (line ∷ lines_from [] new.rest) (tail_from [] new.rest)
-line_on R old new line h = ap (λ (l : List (List ℕ)). R old.spot l (tail_from [] old.rest)) h.lines ∙ ap (λ (t : List ℕ). R old.spot (line ∷ lines_from [] new.rest) t) h.tail
+pub line_on : (R : Stage) (old new : Unread) (line : List ℕ) → ReadLine old line new → on old R ≡ R old.spot (line ∷ ended_lines new.rest) (unended new.rest)
+line_on R old new line h = ap (λ (l : List (List ℕ)). R old.spot l (unended old.rest)) h.lines ∙ ap (λ (t : List ℕ). R old.spot (line ∷ ended_lines new.rest) t) h.tail
 
 -- and from the next line on
-pub next_on : (R : Stage) (old new : Unread) (line : List ℕ) → ReadLine old line new → R (past line old.spot) (lines_from [] new.rest) (tail_from [] new.rest) ≡ on new R
-next_on R old new line h = ap (λ (s : Spot). R s (lines_from [] new.rest) (tail_from [] new.rest)) (sym h.spot)
+pub next_on : (R : Stage) (old new : Unread) (line : List ℕ) → ReadLine old line new → R (past line old.spot) (ended_lines new.rest) (unended new.rest) ≡ on new R
+next_on R old new line h = ap (λ (s : Spot). R s (ended_lines new.rest) (unended new.rest)) (sym h.spot)
 
 module _ (form : List ℕ) (R : Stage) (K : Spot → List ℕ → Stage) (step : (s : Spot) (line : List ℕ) (more : List (List ℕ)) (tail : List ℕ) → R s (line ∷ more) tail ≡ formed form s line (K s line s more tail)) (old new : Unread) (line : List ℕ) (read : ReadLine old line new) where
-  pub line_passes : HasForm form line → on old R ≡ K old.spot line old.spot (lines_from [] new.rest) (tail_from [] new.rest)
+  pub line_passes : HasForm form line → on old R ≡ K old.spot line old.spot (ended_lines new.rest) (unended new.rest)
   line_passes h = line_on R old new line read ∙ step old.spot line _ _ ∙ formed_ok form old.spot line _ h
 
   pub line_fails : (n a : ℕ) (fault : ImageFault) → n ≡ old.spot.number → a ≡ old.spot.at
       → ((rest : Option ImageFault) → formed form record { number = n; at = a } line rest ≡ Some fault) → on old R ≡ Some fault
   line_fails n a fault e f err =
       line_on R old new line read ∙ step old.spot line _ _
-      ∙ sym (ap (λ (s : Spot). formed form s line (K old.spot line old.spot (lines_from [] new.rest) (tail_from [] new.rest))) (same_spot old.spot n a e f)) ∙ err _
+      ∙ sym (ap (λ (s : Spot). formed form s line (K old.spot line old.spot (ended_lines new.rest) (unended new.rest))) (same_spot old.spot n a e f)) ∙ err _
 
 -- ---- modules
 
@@ -81,57 +83,49 @@ first_left None = tt
 first_left (Some n) = omega arith
 
 -- the whole refusal of the modules, past one of them
-pub past_module : (old new : Unread) (t u : Table) (left : Option ℕ) → AddsModule old new t u → due_next left (lines_from [] old.rest) ≡ true → on old (modules_refusal t left) ≡ on new (modules_refusal u (one_less left))
+pub past_module : (old new : Unread) (t u : Table) (left : Option ℕ) → AddsModule old new t u → due_next left (ended_lines old.rest) ≡ true → on old (modules_refusal t left) ≡ on new (modules_refusal u (one_less left))
 past_module old new t u left a e =
     let r = a.read in
     line_on (modules_refusal t left) old new a.line r
     ∙ one_due t left old.spot a.line _ _ (ap (due_next left) (sym r.lines) ∙ e)
     ∙ formed_ok module_form old.spot a.line _ a.form
-    ∙ ap (λ (o : Option _). taken o (t.given + 1) (modules_refusal (added t a.line) (one_less left) (past a.line old.spot) (lines_from [] new.rest) (tail_from [] new.rest))) a.taken
-    ∙ ap (λ (v : Table). modules_refusal v (one_less left) (past a.line old.spot) (lines_from [] new.rest) (tail_from [] new.rest)) (sym a.table)
+    ∙ ap (λ (o : Option _). taken o (t.given + 1) (modules_refusal (added t a.line) (one_less left) (past a.line old.spot) (ended_lines new.rest) (unended new.rest))) a.taken
+    ∙ ap (λ (v : Table). modules_refusal v (one_less left) (past a.line old.spot) (ended_lines new.rest) (unended new.rest)) (sym a.table)
     ∙ next_on (modules_refusal u (one_less left)) old new a.line r
 
 -- ---- the end
 
-tail_without : (front bytes : List ℕ) → lines_from front bytes ≡ [] → tail_from front bytes ≡ front ++ bytes
-tail_without front [] e = sym (append-nil front)
-tail_without front (b ∷ bytes) e = by (b == 10) e (λ f. tail_without (front ++ b ∷ []) bytes f ∙ append_assoc front (b ∷ []) bytes)
-  where
-    by : (c : Bool) → cond c (front ∷ lines_from [] bytes) (lines_from (front ++ b ∷ []) bytes) ≡ [] → (lines_from (front ++ b ∷ []) bytes ≡ [] → tail_from (front ++ b ∷ []) bytes ≡ front ++ b ∷ bytes) → cond c (tail_from [] bytes) (tail_from (front ++ b ∷ []) bytes) ≡ front ++ b ∷ bytes
-    by true f r = absurd cc
-    by false f r = r f
-
 -- where bytes are left, no end
-pub not_ended : (s : Spot) (b : ℕ) (bytes : List ℕ) → end_refusal s (lines_from [] (b ∷ bytes)) (tail_from [] (b ∷ bytes)) ≡ Some (Line s.number)
-not_ended s b bytes = by (lines_from [] (b ∷ bytes)) refl
+pub not_ended : (s : Spot) (b : ℕ) (bytes : List ℕ) → end_refusal s (ended_lines (b ∷ bytes)) (unended (b ∷ bytes)) ≡ Some (Line s.number)
+not_ended s b bytes = by (ended_lines (b ∷ bytes)) refl
   where
-    by : (l : List (List ℕ)) → lines_from [] (b ∷ bytes) ≡ l → end_refusal s l (tail_from [] (b ∷ bytes)) ≡ Some (Line s.number)
-    by [] e = ap (λ (t : List ℕ). end_refusal s [] t) (tail_without [] (b ∷ bytes) e)
+    by : (l : List (List ℕ)) → ended_lines (b ∷ bytes) ≡ l → end_refusal s l (unended (b ∷ bytes)) ≡ Some (Line s.number)
+    by [] e = ap (λ (t : List ℕ). end_refusal s [] t) (sym (texts_are_lines (b ∷ bytes) ∙ ap (λ (l : List (List ℕ)). text_of l (unended (b ∷ bytes))) e))
     by (x ∷ l) e = refl
 
-pub not_ended_yet : (s : Spot) (bytes : List ℕ) → 0 < length bytes → end_refusal s (lines_from [] bytes) (tail_from [] bytes) ≡ Some (Line s.number)
+pub not_ended_yet : (s : Spot) (bytes : List ℕ) → 0 < length bytes → end_refusal s (ended_lines bytes) (unended bytes) ≡ Some (Line s.number)
 not_ended_yet s [] l = absurd (omega arith)
 not_ended_yet s (b ∷ bytes) l = not_ended s b bytes
 
 -- a module's line that has not the form, and one whose module the table refuses
-module _ (old new : Unread) (t : Table) (left : Option ℕ) (line : List ℕ) (read : ReadLine old line new) (due : due_next left (lines_from [] old.rest) ≡ true) where
-  due_line : on old (modules_refusal t left) ≡ formed module_form old.spot line (taken (fault_of t (section_at 12 line) (section_at 22 line)) (t.given + 1) (modules_refusal (added t line) (one_less left) (past line old.spot) (lines_from [] new.rest) (tail_from [] new.rest)))
+module _ (old new : Unread) (t : Table) (left : Option ℕ) (line : List ℕ) (read : ReadLine old line new) (due : due_next left (ended_lines old.rest) ≡ true) where
+  pub due_line : on old (modules_refusal t left) ≡ formed module_form old.spot line (taken (fault_of t (section_at 12 line) (section_at 22 line)) (t.given + 1) (modules_refusal (added t line) (one_less left) (past line old.spot) (ended_lines new.rest) (unended new.rest)))
   due_line = line_on (modules_refusal t left) old new line read ∙ one_due t left old.spot line _ _ (ap (due_next left) (sym read.lines) ∙ due)
 
   pub module_fails : (n a : ℕ) (fault : ImageFault) → n ≡ old.spot.number → a ≡ old.spot.at
       → ((rest : Option ImageFault) → formed module_form record { number = n; at = a } line rest ≡ Some fault) → on old (modules_refusal t left) ≡ Some fault
   module_fails n a fault e f err =
       due_line
-      ∙ sym (ap (λ (s : Spot). formed module_form s line (taken (fault_of t (section_at 12 line) (section_at 22 line)) (t.given + 1) (modules_refusal (added t line) (one_less left) (past line old.spot) (lines_from [] new.rest) (tail_from [] new.rest)))) (same_spot old.spot n a e f)) ∙ err _
+      ∙ sym (ap (λ (s : Spot). formed module_form s line (taken (fault_of t (section_at 12 line) (section_at 22 line)) (t.given + 1) (modules_refusal (added t line) (one_less left) (past line old.spot) (ended_lines new.rest) (unended new.rest)))) (same_spot old.spot n a e f)) ∙ err _
 
   pub module_refused : (fault : TableFault) → HasForm module_form line → fault_of t (section_at 12 line) (section_at 22 line) ≡ Some fault → on old (modules_refusal t left) ≡ Some (TableRefuses (t.given + 1) fault)
   module_refused fault h e =
       due_line ∙ formed_ok module_form old.spot line _ h
-      ∙ ap (λ (o : Option TableFault). taken o (t.given + 1) (modules_refusal (added t line) (one_less left) (past line old.spot) (lines_from [] new.rest) (tail_from [] new.rest))) e
+      ∙ ap (λ (o : Option TableFault). taken o (t.given + 1) (modules_refusal (added t line) (one_less left) (past line old.spot) (ended_lines new.rest) (unended new.rest))) e
 
 -- one module more
 pub modules_more : (room : ℕ) (due : Option ℕ) (start : Unread) (t u : Table) (now next : Unread) (left : Option ℕ)
-    → ModulesSoFar room due start t now left → AddsModule now next t u → IsTable u → due_next left (lines_from [] now.rest) ≡ true → ModulesSoFar room due start u next (one_less left)
+    → ModulesSoFar room due start t now left → AddsModule now next t u → IsTable u → due_next left (ended_lines now.rest) ≡ true → ModulesSoFar room due start u next (one_less left)
 modules_more room due start t u now next left h a ok e =
     let line = a.line in
     let m : Module = record { id = t.given + 1; vendor = word_at 7 line; text = section_at 12 line; ram = section_at 22 line } in
@@ -145,21 +139,21 @@ modules_more room due start t u now next left h a ok e =
       numbered = numbered_more 1 t.modules m h.numbered (omega (arith, held)) k.small;
       text = h.text ∙ ap (λ (l : List ℕ). modules_text t.modules l) (r.text ∙ ap (λ (l : List ℕ). ended l next.rest) (k.text (t.given + 1))) ∙ sym (modules_text_more t.modules m next.rest);
       refusal = h.refusal ∙ past_module now next t u left a e ∙ ap (λ (v : Table). on next (modules_refusal v (one_less left))) a.table;
-      count = left_less due left t.given (lines_from [] now.rest) h.count e;
+      count = left_less due left t.given (ended_lines now.rest) h.count e;
     } in
     subst (λ (v : Table). ModulesSoFar room due start v next (one_less left)) (sym a.table) grown
 
 -- no module more
 pub modules_done : (room : ℕ) (due : Option ℕ) (start : Unread) (t : Table) (now : Unread) (left : Option ℕ)
-    → ModulesSoFar room due start t now left → due_next left (lines_from [] now.rest) ≡ false → PassedModules room due t start now
+    → ModulesSoFar room due start t now left → due_next left (ended_lines now.rest) ≡ false → PassedModules room due t start now
 modules_done room due start t now left h e = record {
   text = h.text;
-  refusal = h.refusal ∙ none_due t left now.spot (lines_from [] now.rest) (tail_from [] now.rest) e;
+  refusal = h.refusal ∙ none_due t left now.spot (ended_lines now.rest) (unended now.rest) e;
   table_ok = h.table_ok;
   room_is = h.room_is;
   numbered = h.numbered;
   all_held = h.all_held;
-  count = all_given due left t.given (lines_from [] now.rest) h.count e;
+  count = all_given due left t.given (ended_lines now.rest) h.count e;
 }
 
 -- no module yet

@@ -1,10 +1,11 @@
 -- What is written, and what is left to write.
-use Rattle.std.proofs.Common.{◌≡◌, ℕ, zero, suc, ◌+◌, ◌-◌, ◌*◌, ◌<◌, ◌≤◌, List, [], ◌∷◌, ◌++◌, length, take, drop, Bool, true, false, cond, ◌==◌, nat_lt, Option, Some, None, is_some, refl, sym, ap, ◌∙◌, arith, append_assoc, length-drop}
+use Rattle.std.proofs.Common.{◌≡◌, ℕ, zero, suc, ◌+◌, ◌-◌, ◌*◌, ◌<◌, ◌≤◌, List, [], ◌∷◌, ◌++◌, length, take, drop, Bool, true, false, cond, ◌==◌, nat_lt, Option, Some, None, is_some, refl, sym, ap, ◌∙◌, arith, append_assoc, length-drop, codes}
 use Rattle.std.proofs.lemmas.Bool.Decides.{nat_tests}
+use Rattle.texts.specs.Hexadecimals.{hex_word}
 use Rattle.mod_layout.specs.declared.Module.{Module}
 use Rattle.mod_layout.specs.Table.{find_module}
 use Rattle.image_text.specs.Image.{Image, AreNumbered}
-use Rattle.image_text.specs.ImageText.{ended, is_zero, row_line, row_text, rows_text, module_line, modules_text, count_text, count_line, first_line, key_line, handler_line, end_line, memory_text, image_text}
+use Rattle.image_text.specs.ImageText.{ended, is_zero, row_line, row_text, rows_text, section_words, module_line, modules_text, count_text, count_line, first_line, key_line, handler_line, end_line, memory_text, image_text}
 
 place : (k i : ℕ) → suc i + k ≡ i + (k + 1)
 place k i = omega arith
@@ -141,3 +142,18 @@ all_written image t1 t2 t3 t4 t5 t6 t7 held e1 e2 e3 e4 e5 e6 e7 =
     let f3 : t7 ≡ t2 ++ handled = f4 ∙ ap (λ (l : List ℕ). l ++ counted) e3 ∙ append_assoc t2 (ended (handler_line image.handler_sp) []) counted ∙ ap (λ (l : List ℕ). t2 ++ l) (ended_then (handler_line image.handler_sp) counted) in
     let f2 : t7 ≡ t1 ++ ended (key_line image.node_key) handled = f3 ∙ ap (λ (l : List ℕ). l ++ handled) e2 ∙ append_assoc t1 (ended (key_line image.node_key) []) handled ∙ ap (λ (l : List ℕ). t1 ++ l) (ended_then (key_line image.node_key) handled) in
     f2 ∙ ap (λ (l : List ℕ). l ++ ended (key_line image.node_key) handled) e1 ∙ ended_then (first_line image.table.room) (ended (key_line image.node_key) handled)
+
+-- ---- a module's line, part by part
+
+joined : (t a b c d e f g : List ℕ) → ((((((t ++ a) ++ b) ++ c) ++ d) ++ e) ++ f) ++ g ≡ t ++ ((a ++ (b ++ (c ++ (d ++ (e ++ f))))) ++ g)
+joined t a b c d e f g = simp append_assoc
+
+pub module_put : (m : Module) (t0 t1 t2 t3 t4 t5 t6 t7 : List ℕ) → t1 ≡ t0 ++ codes "module " → t2 ≡ t1 ++ hex_word m.vendor → t3 ≡ t2 ++ codes " "
+    → t4 ≡ t3 ++ section_words m.text → t5 ≡ t4 ++ codes " " → t6 ≡ t5 ++ section_words m.ram → t7 ≡ t6 ++ codes "\n" → t7 ≡ t0 ++ ended (module_line m) []
+module_put m t0 t1 t2 t3 t4 t5 t6 t7 e1 e2 e3 e4 e5 e6 e7 =
+    let s2 = e2 ∙ ap (λ (t : List ℕ). t ++ hex_word m.vendor) e1 in
+    let s3 = e3 ∙ ap (λ (t : List ℕ). t ++ codes " ") s2 in
+    let s4 = e4 ∙ ap (λ (t : List ℕ). t ++ section_words m.text) s3 in
+    let s5 = e5 ∙ ap (λ (t : List ℕ). t ++ codes " ") s4 in
+    let s6 = e6 ∙ ap (λ (t : List ℕ). t ++ section_words m.ram) s5 in
+    e7 ∙ ap (λ (t : List ℕ). t ++ codes "\n") s6 ∙ joined t0 (codes "module ") (hex_word m.vendor) (codes " ") (section_words m.text) (codes " ") (section_words m.ram) (codes "\n")

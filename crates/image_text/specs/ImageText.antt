@@ -1,7 +1,8 @@
 -- The one text of an image: lines that end with LF (10).
 use Rattle.std.specs.Prelude.{ℕ, zero, suc, ◌+◌, ◌/◌, ◌%◌, ◌==◌, nat_lt, if◌then◌else◌, Bool, List, [], ◌∷◌, ◌++◌, take, drop, codes}
 use Rattle.std.specs.List.{list_all}
-use Rattle.hex.specs.Hex.{encode_lower}
+use Rattle.std.specs.Fmt.{decimal}
+use Rattle.texts.specs.Hexadecimals.{hex_word, hex_key}
 use Rattle.mod_layout.specs.declared.Section.{Section}
 use Rattle.mod_layout.specs.declared.Module.{Module}
 use Rattle.image_text.specs.Image.{Image}
@@ -10,14 +11,6 @@ use Rattle.image_text.specs.Image.{Image}
 abbrev pub ended : List ℕ → List ℕ → List ℕ
 ended line rest = line ++ (10 ∷ rest)
 
--- a word as four digits
-abbrev pub hex_word : ℕ → List ℕ
-hex_word w = encode_lower (w / 256 ∷ w % 256 ∷ [])
-
--- a number below 100 without leading zero
-abbrev pub decimal : ℕ → List ℕ
-decimal n = if nat_lt n 10 then (48 + n) ∷ [] else (48 + n / 10) ∷ (48 + n % 10) ∷ []
-
 -- ---- the lines
 
 -- version 1 has room for 8 modules, version 2 for 32
@@ -25,7 +18,7 @@ abbrev pub first_line : ℕ → List ℕ
 first_line room = if room == 8 then codes "sancus-image 1" else codes "sancus-image 2"
 
 abbrev pub key_line : List ℕ → List ℕ
-key_line key = codes "key " ++ encode_lower key
+key_line key = codes "key " ++ hex_key key
 
 abbrev pub handler_line : ℕ → List ℕ
 handler_line sp = codes "handler " ++ hex_word sp
@@ -41,7 +34,7 @@ abbrev pub module_line : Module → List ℕ
 module_line m = codes "module " ++ (hex_word m.vendor ++ (32 ∷ (section_words m.text ++ (32 ∷ section_words m.ram))))
 
 abbrev pub row_line : ℕ → List ℕ → List ℕ
-row_line at row = codes "at " ++ (hex_word at ++ (32 ∷ encode_lower row))
+row_line at row = codes "at " ++ (hex_word at ++ (32 ∷ hex_key row))
 
 abbrev pub end_line : List ℕ
 end_line = codes "end"

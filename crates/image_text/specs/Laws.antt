@@ -1,5 +1,5 @@
 -- The laws of an image's text. Each is what a function of this crate ensures.
-use Rattle.std.specs.Prelude.{◌≡◌, ◌⊎◌, Result, Ok, Err, None}
+use Rattle.std.specs.Prelude.{◌≡◌, ◌⊎◌, ℕ, List, Result, Ok, Err, None}
 use Rattle.image_text.specs.declared.ImageFault.{ImageFault}
 use Rattle.image_text.specs.declared.ImageFault.TheVariants.{NoMemory}
 use Rattle.image_text.specs.Image.{Image, IsImage}
@@ -18,3 +18,7 @@ Alone = (i j : Image) → IsImage i → IsImage j → image_text i ≡ image_tex
 -- What is written is read back: of an image's text reading gives that image, or want of memory.
 abbrev pub ReadsBack : Type 0
 ReadsBack = (i : Image) (result : Result Image ImageFault) → IsImage i → Reads (image_text i) result → (result ≡ Ok i) ⊎ (result ≡ Err NoMemory)
+
+-- Bytes of which no refusal holds are some image's text.
+abbrev pub Complete : Type 0
+Complete = (bytes : List ℕ) → refusal_of bytes ≡ None → (i : Image) × IsImage i × (bytes ≡ image_text i)

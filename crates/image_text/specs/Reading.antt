@@ -1,10 +1,11 @@
 -- What reading and writing promise of the text.
 use Rattle.std.specs.Prelude.{◌≡◌, ◌⊎◌, ℕ, ◌+◌, ◌*◌, ◌≤◌, ◌<◌, ◌-◌, ◌%◌, ◌==◌, false, Bool, not, length, drop, replicate, slice_index, slice_range, List, [], ◌∷◌, ◌++◌, true, Option, Some, None, Result, Ok, Err}
+use Rattle.texts.specs.Lines.{ended_lines, unended}
 use Rattle.image_text.specs.declared.ImageFault.{ImageFault}
 use Rattle.image_text.specs.declared.ImageFault.TheVariants.{NoMemory}
 use Rattle.image_text.specs.Image.{Image, IsImage, AreNumbered}
 use Rattle.image_text.specs.ImageText.{image_text, ended, count_line, modules_text, memory_text, row_line, end_line, is_zero, rows_text}
-use Rattle.image_text.specs.Refusal.{Spot, past, refusal_of, lines_from, tail_from, has_form, bad_digit, bytes_at, count_refusal, modules_refusal, rows_refusal, end_refusal, module_form, section_at, added}
+use Rattle.image_text.specs.Refusal.{Spot, past, refusal_of, has_form, bad_digit, bytes_at, count_refusal, modules_refusal, rows_refusal, end_refusal, module_form, section_at, added}
 use Rattle.mod_layout.specs.Table.{Table, empty_table, fault_of}
 use Rattle.mod_layout.specs.Tables.{IsTable}
 use Rattle.hex.specs.Hex.{IsBytes, encode_lower}
@@ -21,13 +22,13 @@ pub record Unread : Type 0 where
 
 -- what a rule on the lines to come says of an unread text
 abbrev pub on : Unread → (Spot → List (List ℕ) → List ℕ → Option ImageFault) → Option ImageFault
-on u refusal = refusal u.spot (lines_from [] u.rest) (tail_from [] u.rest)
+on u refusal = refusal u.spot (ended_lines u.rest) (unended u.rest)
 
 -- one line was read
 pub record ReadLine (old : Unread) (line : List ℕ) (new : Unread) : Type 0 where
   pub text : old.rest ≡ line ++ (10 ∷ new.rest)
-  pub lines : lines_from [] old.rest ≡ line ∷ lines_from [] new.rest
-  pub tail : tail_from [] old.rest ≡ tail_from [] new.rest
+  pub lines : ended_lines old.rest ≡ line ∷ ended_lines new.rest
+  pub tail : unended old.rest ≡ unended new.rest
   pub spot : new.spot ≡ past line old.spot
 
 -- a line has this form, and its digits are digits
@@ -38,9 +39,9 @@ pub record HasForm (form line : List ℕ) : Type 0 where
 -- at this place of a line so many bytes stand as digits
 pub record CodedAt (line : List ℕ) (from n : ℕ) : Type 0 where
   pub within : from + 2 * n ≤ length line
-  pub are_bytes : IsBytes (bytes_at from (from + 2 * n) line)
-  pub count : length (bytes_at from (from + 2 * n) line) ≡ n
-  pub text : slice_range line from (from + 2 * n) ≡ encode_lower (bytes_at from (from + 2 * n) line)
+  pub are_bytes : IsBytes (bytes_at from n line)
+  pub count : length (bytes_at from n line) ≡ n
+  pub text : slice_range line from (from + 2 * n) ≡ encode_lower (bytes_at from n line)
 
 -- a line was read: what the rules say of the text from it on is what they say from the next line on
 pub record Passed (line : List ℕ) (before after : Spot → List (List ℕ) → List ℕ → Option ImageFault) (old new : Unread) : Type 0 where

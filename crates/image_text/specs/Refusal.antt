@@ -1,27 +1,19 @@
 -- Why bytes are no image's text: the first line that does not serve.
-use Rattle.std.specs.Prelude.{ℕ, ◌+◌, ◌-◌, ◌*◌, ◌%◌, ◌==◌, nat_lt, nat_le, if◌then◌else◌, Bool, true, false, not, ◌&&◌, ◌||◌, List, [], ◌∷◌, ◌++◌, length, drop, fold, nat_eq, slice_range, codes, Option, Some, None}
+use Rattle.std.specs.Prelude.{ℕ, ◌+◌, ◌-◌, ◌*◌, ◌%◌, ◌==◌, nat_lt, nat_le, if◌then◌else◌, Bool, true, false, not, ◌&&◌, ◌||◌, List, [], ◌∷◌, ◌++◌, length, drop, fold, nat_eq, slice_range, codes, unwrap_or, Option, Some, None}
 use Rattle.std.specs.List.{list_all, starts_with}
 use Rattle.std.specs.Cmp.Lexicographic.{pointwise}
-use Rattle.std.specs.Result.{result_unwrap_or}
-use Rattle.hex.specs.Hex.{decode_of}
+use Rattle.texts.specs.Decimals.{read_decimal}
+use Rattle.texts.specs.Hexadecimals.{is_hex_digit, read_hex, read_hex_word}
 use Rattle.mod_layout.specs.declared.Section.{Section}
 use Rattle.mod_layout.specs.declared.TableFault.{TableFault}
 use Rattle.mod_layout.specs.Table.{Table, fault_of, with_module, empty_table}
+use Rattle.texts.specs.Lines.{ended_lines, unended}
+use Rattle.image_text.specs.declared.numbers.TheConstants.{MAX_COUNT, MAX_VERSION}
 use Rattle.image_text.specs.declared.ImageFault.{ImageFault}
 use Rattle.image_text.specs.declared.ImageFault.TheVariants.{Line, Digit, Twice, Table as TableRefuses, Version}
 use Rattle.image_text.specs.ImageText.{end_line, is_zero}
 
 -- ---- lines
-
--- the lines of a text, each without its LF, where `front` was read of the first; bytes behind the last LF are no line
-abbrev pub lines_from : List ℕ → List ℕ → List (List ℕ)
-lines_from front [] = []
-lines_from front (b ∷ bytes) = if b == 10 then front ∷ lines_from [] bytes else lines_from (front ++ b ∷ []) bytes
-
--- the bytes behind the last LF
-abbrev pub tail_from : List ℕ → List ℕ → List ℕ
-tail_from front [] = front
-tail_from front (b ∷ bytes) = if b == 10 then tail_from [] bytes else tail_from (front ++ b ∷ []) bytes
 
 -- where a line stands: its number, counted from 1, and its offset in the file
 pub record Spot : Type 0 where
@@ -60,13 +52,9 @@ has_form [] (b ∷ line) = false
 has_form (mark ∷ form) [] = false
 has_form (mark ∷ form) (b ∷ line) = fits mark b && has_form form line
 
--- `0` to `9` and `a` to `f`
-abbrev pub is_digit : ℕ → Bool
-is_digit b = (nat_le 48 b && nat_le b 57) || (nat_le 97 b && nat_le b 102)
-
 -- a digit's place that has no digit
 abbrev pub is_bad : ℕ → ℕ → Bool
-is_bad mark b = (mark == 35) && not (is_digit b)
+is_bad mark b = (mark == 35) && not (is_hex_digit b)
 
 -- the offset of the first byte that should be a digit and is none, of a line that begins at this offset
 abbrev pub bad_digit : List ℕ → List ℕ → ℕ → Option ℕ
@@ -84,47 +72,20 @@ formed form s line rest = if has_form form line then digit_or (bad_digit form li
 
 -- ---- values
 
--- the bytes that digits stand for, from one place of a line up to another
+-- the bytes that so many pairs of digits write from a place of a line on
 abbrev pub bytes_at : ℕ → ℕ → List ℕ → List ℕ
-bytes_at from to line = result_unwrap_or (decode_of (slice_range line from to)) []
-
-abbrev pub word_of : List ℕ → ℕ
-word_of [] = 0
-word_of (high ∷ []) = high
-word_of (high ∷ low ∷ rest) = 256 * high + low
+bytes_at from count line = unwrap_or (read_hex count (slice_range line from (from + 2 * count))) []
 
 -- the word of the four digits at a place of a line
 abbrev pub word_at : ℕ → List ℕ → ℕ
-word_at from line = word_of (bytes_at from (from + 4) line)
+word_at from line = unwrap_or (read_hex_word (slice_range line from (from + 4))) 0
 
 abbrev pub section_at : ℕ → List ℕ → Section
 section_at from line = record { start = word_at from line; end = word_at (from + 5) line }
 
--- a decimal of 1 to 9 digits without leading zero
-abbrev pub is_decimal : ℕ → Bool
-is_decimal b = nat_le 48 b && nat_le b 57
-
-abbrev pub is_plain : List ℕ → Bool
-is_plain [] = false
-is_plain (b ∷ []) = is_decimal b
-is_plain (b ∷ c ∷ rest) = not (b == 48) && list_all is_decimal (b ∷ c ∷ rest) && nat_le (length rest) 7
-
-abbrev pub decimal_value : List ℕ → ℕ
-decimal_value digits = fold (λ n b. 10 * n + (b - 48)) 0 digits
-
--- how many modules a line announces: a decimal of one or two digits without leading zero, of at most 32
-abbrev pub small_of : List ℕ → Option ℕ
-small_of [] = None
-small_of (b ∷ []) = if is_decimal b then Some (b - 48) else None
-small_of (b ∷ c ∷ []) = if is_decimal b && is_decimal c && not (b == 48) then Some (10 * (b - 48) + (c - 48)) else None
-small_of (b ∷ c ∷ d ∷ rest) = None
-
-abbrev pub at_most : ℕ → Option ℕ → Option ℕ
-at_most most None = None
-at_most most (Some n) = if nat_le n most then Some n else None
-
+-- how many modules a line announces
 abbrev pub count_of : List ℕ → Option ℕ
-count_of line = if starts_with nat_eq line (codes "modules ") then at_most 32 (small_of (drop 8 line)) else None
+count_of line = if starts_with nat_eq line (codes "modules ") then read_decimal MAX_COUNT (drop 8 line) else None
 
 -- ---- the refusals, from the last line back to the first
 
@@ -140,7 +101,7 @@ is_row last a row = (a % 16 == 0) && not (nat_lt a 512) && not (is_zero row) && 
 
 abbrev pub placed : ℕ → Spot → List ℕ → Option ImageFault → Option ImageFault
 placed last s line rest =
-    if is_row last (word_at 3 line) (bytes_at 8 40 line)
+    if is_row last (word_at 3 line) (bytes_at 8 16 line)
     then (if word_at 3 line == last then Some (Twice (word_at 3 line)) else rest)
     else line_fault s
 
@@ -199,11 +160,15 @@ abbrev pub key_refusal : ℕ → Spot → List (List ℕ) → List ℕ → Optio
 key_refusal room s [] tail = line_fault s
 key_refusal room s (line ∷ more) tail = formed key_form s line (handler_refusal room (past line s) more tail)
 
+abbrev pub version_or_line : Option ℕ → Spot → Option ImageFault
+version_or_line (Some n) s = Some (Version n)
+version_or_line None s = line_fault s
+
 -- a first line that is none of versions 1 and 2: Version where it is one of another version
 abbrev pub version_refusal : Spot → List ℕ → Option ImageFault
 version_refusal s line =
-    if starts_with nat_eq line (codes "sancus-image ") && is_plain (drop 13 line)
-    then Some (Version (decimal_value (drop 13 line)))
+    if starts_with nat_eq line (codes "sancus-image ")
+    then version_or_line (read_decimal MAX_VERSION (drop 13 line)) s
     else line_fault s
 
 abbrev pub first_refusal : Spot → List (List ℕ) → List ℕ → Option ImageFault
@@ -215,4 +180,4 @@ first_refusal s (line ∷ more) tail =
 
 -- the refusal of a text, or none
 unfoldable pub refusal_of : List ℕ → Option ImageFault
-refusal_of bytes = first_refusal record { number = 1; at = 0 } (lines_from [] bytes) (tail_from [] bytes)
+refusal_of bytes = first_refusal record { number = 1; at = 0 } (ended_lines bytes) (unended bytes)

@@ -1,12 +1,13 @@
 //! The forms of lines, in which `#` stands for a hexadecimal digit.
 
 ghost use Rattle.std.specs.Prelude.{◌≡◌, ◌+◌, ◌*◌, ◌<◌, ◌^◌, ◌≤◌, length, Option, Some, OnOk, IfErr};
-ghost use Rattle.image_text.specs.Refusal.{has_form as has_form_lem, fits as fits_lem, is_digit as is_digit_lem, is_bad as is_bad_lem, bad_digit as bad_digit_lem, bytes_at as bytes_at_lem, word_at as word_at_lem, section_at as section_at_lem, Spot, formed as formed_lem};
+ghost use Rattle.image_text.specs.Refusal.{has_form as has_form_lem, fits as fits_lem, is_bad as is_bad_lem, bad_digit as bad_digit_lem, bytes_at as bytes_at_lem, word_at as word_at_lem, section_at as section_at_lem, Spot, formed as formed_lem};
 ghost use Rattle.image_text.specs.Reading.{HasForm, CodedAt};
 
 use crate::ImageFault;
 use crate::lines::Line;
 use mod_layout::Section;
+use texts::{is_hex_digit, read_hex_key, read_hex_word};
 
 pub(crate) const KEY: &[u8; 36] = b"key ################################";
 
@@ -60,13 +61,7 @@ fn fits(mark: u8, byte: u8) -> bool
 fn is_bad(mark: u8, byte: u8) -> bool
     ensures { result ≡ is_bad_lem mark byte }
 {
-    mark == b'#' && !is_digit(byte)
-}
-
-fn is_digit(byte: u8) -> bool
-    ensures { result ≡ is_digit_lem byte }
-{
-    matches!(byte, b'0'..=b'9' | b'a'..=b'f')
+    mark == b'#' && !is_hex_digit(byte)
 }
 
 /// Line where a line has not this form, and Digit where a digit is none.
@@ -84,15 +79,14 @@ pub(crate) fn formed(line: Line<'_>, form: &[u8]) -> Result<(), ImageFault>
     }
 }
 
-/// The bytes that stand as digits from a place of a line on.
-pub(crate) fn bytes_at(line: &[u8], from: usize, out: &mut [u8])
-    requires { CodedAt line.now from (length out.old) }
-    ensures { out.new ≡ bytes_at_lem from (from + 2 * length out.old) line.now }
+/// The sixteen bytes that stand as digits at a place of a line.
+pub(crate) fn sixteen_at(line: &[u8], from: usize) -> [u8; 16]
+    requires { CodedAt line.now from 16 }
+    ensures { result ≡ bytes_at_lem from 16 line.now }
 {
-    let digits = &line[from..from + 2 * out.len()];
-    match hex::decode_to_slice(digits, out) {
-        Ok(()) => {}
-        Err(_) => unreachable!(),
+    match read_hex_key(&line[from..from + 32]) {
+        Some(bytes) => bytes,
+        None => unreachable!(),
     }
 }
 
@@ -101,9 +95,10 @@ pub(crate) fn word_at(line: &[u8], from: usize) -> u16
     requires { CodedAt line.now from 2 }
     ensures { result ≡ word_at_lem from line.now }
 {
-    let mut bytes = [0u8; 2];
-    bytes_at(line, from, &mut bytes);
-    256 * u16::from(bytes[0]) + u16::from(bytes[1])
+    match read_hex_word(&line[from..from + 4]) {
+        Some(word) => word,
+        None => unreachable!(),
+    }
 }
 
 /// The section whose ends stand at a place of a line.

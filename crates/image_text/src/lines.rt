@@ -1,12 +1,14 @@
 //! The lines of a text, one after another.
 
 ghost use Rattle.std.specs.Prelude.{◌≡◌, ◌+◌, ◌<◌, ◌^◌, ◌==◌, [], length, position, IfOk, IfErr, OnOk, OnErr, Some};
-ghost use Rattle.image_text.specs.Refusal.{lines_from, end_refusal};
+ghost use Rattle.texts.specs.Lines.{ended_lines};
+ghost use Rattle.image_text.specs.Refusal.{end_refusal};
 ghost use Rattle.image_text.specs.Reading.{ReadLine, head_has_form, on};
 
 use crate::ImageFault;
 use crate::forms::has_form;
 use std::marker::Model;
+use texts::split_line;
 
 /// What is unread of a text, where each line ends with LF.
 #[derive(Drop)]
@@ -53,23 +55,19 @@ impl<'a> Lines<'a> {
         ensures spot { IfOk result (λ line. (line.number ≡ self.old.spot.number) × (line.at ≡ self.old.spot.at)) }
         ensures bounded { IfOk result (λ line. line.at + length line.text.now < 2 ^ 63) }
         ensures missing { IfErr result (λ fault. fault ≡ ImageFault.Line self.old.spot.number) }
-        ensures none { OnErr result (lines_from [] self.old.rest ≡ []) }
+        ensures none { OnErr result (ended_lines self.old.rest ≡ []) }
         ensures same { OnErr result (self.new ≡ self.old) }
     {
         let rest = self.rest;
         let number = self.number;
         let at = self.at;
-        match line_end(rest) {
+        match split_line(rest) {
             None => Err(ImageFault::Line { n: number }),
-            Some(end) => {
-                self.rest = &rest[end + 1..];
+            Some((text, behind)) => {
+                self.rest = behind;
                 self.number = number + 1;
-                self.at = at + end as u64 + 1;
-                Ok(Line {
-                    text: &rest[..end],
-                    number,
-                    at,
-                })
+                self.at = at + text.len() as u64 + 1;
+                Ok(Line { text, number, at })
             }
         }
     }
@@ -78,12 +76,12 @@ impl<'a> Lines<'a> {
 impl Lines<'_> {
     /// Whether there is a next line, and has this form.
     pub(crate) fn next_has_form(&self, form: &[u8]) -> bool
-        ensures { result ≡ head_has_form form.now (lines_from [] self.now.rest) }
+        ensures { result ≡ head_has_form form.now (ended_lines self.now.rest) }
     {
         let rest = self.rest;
-        match line_end(rest) {
+        match split_line(rest) {
             None => false,
-            Some(end) => has_form(form, &rest[..end]),
+            Some((line, _)) => has_form(form, line),
         }
     }
 
@@ -97,11 +95,4 @@ impl Lines<'_> {
         }
         Err(ImageFault::Line { n: self.number })
     }
-}
-
-// The place of the first LF.
-fn line_end(text: &[u8]) -> Option<usize>
-    ensures { result ≡ position (λ b. b == 10) text.now }
-{
-    text.iter().position(|b| *b == b'\n')
 }

@@ -1,14 +1,15 @@
 //! Reading an image's text, line by line.
 
 ghost use Rattle.std.specs.Prelude.{◌≡◌, ◌⊎◌, ℕ, ◌+◌, ◌-◌, ◌%◌, ◌<◌, ◌≤◌, ◌++◌, length, slice_index, replicate, [], Option, Some, true, IfOk, IfErr, OnOk};
+ghost use Rattle.texts.specs.Lines.{ended_lines};
 ghost use Rattle.image_text.specs.ImageText.{first_line, key_line, handler_line, is_zero as is_zero_lem, image_text};
 ghost use Rattle.image_text.specs.Image.{IsImage};
-ghost use Rattle.image_text.specs.Refusal.{first_refusal, key_refusal, handler_refusal, count_refusal, modules_refusal, rows_refusal, is_row as is_row_lem, lines_from, one_less as one_less_lem, refusal_of};
+ghost use Rattle.image_text.specs.Refusal.{first_refusal, key_refusal, handler_refusal, count_refusal, modules_refusal, rows_refusal, is_row as is_row_lem, one_less as one_less_lem, refusal_of};
 ghost use Rattle.image_text.specs.Reading.{on, Passed, PassedCount, PassedModules, AddsModule, NextRow, PassedMemory, Reads, due_next};
 ghost use Rattle.mod_layout.specs.Table.{empty_table};
 ghost use Rattle.mod_layout.specs.Tables.{IsTable};
 
-use crate::forms::{HANDLER, KEY, MODULE, ROW, bytes_at, formed, section_at, word_at};
+use crate::forms::{HANDLER, KEY, MODULE, ROW, formed, section_at, sixteen_at, word_at};
 use crate::lines::Lines;
 use crate::numbers::{count_of, other_version};
 use crate::{Image, ImageFault};
@@ -39,9 +40,7 @@ pub(crate) fn read_key(lines: &mut Lines<'_>) -> Result<[u8; 16], ImageFault>
 {
     let line = lines.next()?;
     formed(line, KEY)?;
-    let mut key = [0u8; 16];
-    bytes_at(line.text, 4, &mut key);
-    Ok(key)
+    Ok(sixteen_at(line.text, 4))
 }
 
 pub(crate) fn read_handler(lines: &mut Lines<'_>) -> Result<u16, ImageFault>
@@ -59,7 +58,7 @@ pub(crate) fn read_handler(lines: &mut Lines<'_>) -> Result<u16, ImageFault>
 }
 
 // How many modules follow, where the version says so.
-pub(crate) fn read_count(lines: &mut Lines<'_>, room: u16) -> Result<Option<u16>, ImageFault>
+pub(crate) fn read_count(lines: &mut Lines<'_>, room: u16) -> Result<Option<u64>, ImageFault>
     requires { (room ≡ 8) ⊎ (room ≡ 32) }
     ensures passed { IfOk result (λ due. PassedCount room due lines.old lines.new) }
     ensures refused { IfErr result (λ fault. on lines.old (count_refusal room) ≡ Some fault) }
@@ -75,8 +74,8 @@ pub(crate) fn read_count(lines: &mut Lines<'_>, room: u16) -> Result<Option<u16>
 }
 
 // Whether the next line should be a module's: in version 2 so many are due, in version 1 its form tells.
-fn is_due(lines: &Lines<'_>, left: Option<u16>) -> bool
-    ensures { result ≡ due_next left (lines_from [] lines.now.rest) }
+fn is_due(lines: &Lines<'_>, left: Option<u64>) -> bool
+    ensures { result ≡ due_next left (ended_lines lines.now.rest) }
 {
     match left {
         None => lines.next_has_form(MODULE),
@@ -84,7 +83,7 @@ fn is_due(lines: &Lines<'_>, left: Option<u16>) -> bool
     }
 }
 
-fn one_less(left: Option<u16>) -> Option<u16>
+fn one_less(left: Option<u64>) -> Option<u64>
     ensures { result ≡ one_less_lem left }
 {
     match left {
@@ -97,7 +96,7 @@ fn one_less(left: Option<u16>) -> Option<u16>
 fn add_module(lines: &mut Lines<'_>, table: &mut ModuleTable, module: u64) -> Result<(), ImageFault>
     requires { «module» ≡ table.old.given + 1 }
     ensures added { OnOk result (AddsModule lines.old lines.new table.old table.new) }
-    ensures refused { IfErr result (λ fault. (left : Option ℕ) → due_next left (lines_from [] lines.old.rest) ≡ true → on lines.old (modules_refusal table.old left) ≡ Some fault) }
+    ensures refused { IfErr result (λ fault. (left : Option ℕ) → due_next left (ended_lines lines.old.rest) ≡ true → on lines.old (modules_refusal table.old left) ≡ Some fault) }
     ensures table { OnOk result (IsTable table.new) }
 {
     let line = lines.next()?;
@@ -114,7 +113,7 @@ fn add_module(lines: &mut Lines<'_>, table: &mut ModuleTable, module: u64) -> Re
 pub(crate) fn read_modules(
     lines: &mut Lines<'_>,
     room: u16,
-    due: Option<u16>,
+    due: Option<u64>,
 ) -> Result<ModuleTable, ImageFault>
     requires { (room ≡ 8) ⊎ (room ≡ 32) }
     ensures passed { IfOk result (λ table. PassedModules room due table lines.old lines.new) }
@@ -197,8 +196,7 @@ fn next_row(
         Err(fault) => return Err(fault),
     }
     let at = word_at(line.text, 3);
-    let mut row = [0u8; 16];
-    bytes_at(line.text, 8, &mut row);
+    let row = sixteen_at(line.text, 8);
     if !is_row(last, at, &row) {
         return Err(ImageFault::Line { n: line.number });
     }

@@ -1,15 +1,16 @@
 //! Writing an image's text.
 
 ghost use Rattle.std.specs.Prelude.{◌≡◌, ℕ, ◌+◌, ◌*◌, ◌<◌, ◌≤◌, ◌++◌, ◌∷◌, [], List, length, drop, is_some, IfOk, OnOk};
-ghost use Rattle.hex.specs.Hex.{encode_lower};
 ghost use Rattle.mod_layout.specs.Table.{module_of};
+ghost use Rattle.texts.specs.Hexadecimals.{hex_word};
 ghost use Rattle.image_text.specs.Image.{AreNumbered};
-ghost use Rattle.image_text.specs.ImageText.{ended, hex_word, decimal, first_line, key_line, handler_line, count_line, section_words, module_line, row_line, row_text, rows_text, count_text, modules_text, image_text};
+ghost use Rattle.image_text.specs.ImageText.{ended, first_line, key_line, handler_line, count_line, section_words, module_line, row_line, row_text, rows_text, count_text, modules_text, image_text};
 
 use crate::Image;
 use crate::reader::is_zero;
 use mod_layout::{Module, ModuleTable, Section};
 use std::alloc::{AllocError, Global};
+use texts::{decimal, hex_key};
 
 /// The text of an image.
 pub fn write(alloc: Global, image: &Image) -> Result<Vec<u8>, AllocError>
@@ -38,12 +39,11 @@ fn put_first(text: &mut Vec<u8>, room: u16) -> Result<(), AllocError>
     Ok(())
 }
 
-fn put_key(text: &mut Vec<u8>, key: &[u8]) -> Result<(), AllocError>
-    requires { length key.now ≡ 16 }
+fn put_key(text: &mut Vec<u8>, key: &[u8; 16]) -> Result<(), AllocError>
     ensures { OnOk result (text.new.items ≡ text.old.items ++ ended (key_line key.now) []) }
 {
     text.extend_from_slice(b"key ")?;
-    put_sixteen(text, key)?;
+    text.extend_from_slice(hex_key(key).as_str().as_bytes())?;
     text.extend_from_slice(b"\n")?;
     Ok(())
 }
@@ -65,7 +65,7 @@ fn put_count(text: &mut Vec<u8>, room: u16, table: &ModuleTable) -> Result<(), A
 {
     if room != 8 {
         text.extend_from_slice(b"modules ")?;
-        put_decimal(text, count(table))?;
+        text.extend_from_slice(decimal(u64::from(count(table))).as_str().as_bytes())?;
         text.extend_from_slice(b"\n")?;
     }
     Ok(())
@@ -88,17 +88,6 @@ fn is_held(table: &ModuleTable, id: u16) -> bool
     ensures { result ≡ is_some (module_of id table.now) }
 {
     table.get(id).is_some()
-}
-
-fn put_decimal(text: &mut Vec<u8>, number: u16) -> Result<(), AllocError>
-    requires { number < 100 }
-    ensures { OnOk result (text.new.items ≡ text.old.items ++ decimal number) }
-{
-    if number >= 10 {
-        text.push(b'0' + (number / 10) as u8)?;
-    }
-    text.push(b'0' + (number % 10) as u8)?;
-    Ok(())
 }
 
 // A line for each module, in the order of their ids.
@@ -158,36 +147,25 @@ fn put_row(text: &mut Vec<u8>, at: u16, row: &[u8]) -> Result<(), AllocError>
     text.extend_from_slice(b"at ")?;
     put_word(text, at)?;
     text.extend_from_slice(b" ")?;
-    put_sixteen(text, row)?;
+    text.extend_from_slice(hex_key(sixteen(row)).as_str().as_bytes())?;
     text.extend_from_slice(b"\n")?;
     Ok(())
+}
+
+// A row as an array.
+fn sixteen(row: &[u8]) -> &[u8; 16]
+    requires { length row.now ≡ 16 }
+    ensures { result.now ≡ row.now }
+{
+    match row.try_into() {
+        Ok(row) => row,
+        Err(_) => unreachable!(),
+    }
 }
 
 // A word as four digits.
 fn put_word(text: &mut Vec<u8>, word: u16) -> Result<(), AllocError>
     ensures { OnOk result (text.new.items ≡ text.old.items ++ hex_word word) }
 {
-    let bytes = [(word / 256) as u8, (word % 256) as u8];
-    put_digits(text, &bytes, &mut [0u8; 4])
-}
-
-// Sixteen bytes as 32 digits.
-fn put_sixteen(text: &mut Vec<u8>, bytes: &[u8]) -> Result<(), AllocError>
-    requires { length bytes.now ≡ 16 }
-    ensures { OnOk result (text.new.items ≡ text.old.items ++ encode_lower bytes.now) }
-{
-    put_digits(text, bytes, &mut [0u8; 32])
-}
-
-// Bytes by two digits each, for which there is room.
-fn put_digits(text: &mut Vec<u8>, bytes: &[u8], digits: &mut [u8]) -> Result<(), AllocError>
-    requires { length digits.old ≡ 2 * length bytes.now }
-    ensures { OnOk result (text.new.items ≡ text.old.items ++ encode_lower bytes.now) }
-{
-    match hex::encode_to_slice(bytes, digits) {
-        Ok(()) => {}
-        Err(_) => unreachable!(),
-    }
-    text.extend_from_slice(digits)?;
-    Ok(())
+    text.extend_from_slice(texts::hex_word(word).as_str().as_bytes())
 }

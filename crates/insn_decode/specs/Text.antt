@@ -1,5 +1,7 @@
 -- The text of an instruction.
-use Rattle.std.specs.Prelude.{ℕ, ◌+◌, ◌*◌, ◌/◌, ◌%◌, List, [], ◌∷◌, ◌++◌, ◌==◌, nat_lt, if◌then◌else◌, codes}
+use Rattle.std.specs.Prelude.{ℕ, ◌+◌, ◌*◌, List, [], ◌∷◌, ◌++◌, ◌==◌, if◌then◌else◌, codes}
+use Rattle.std.specs.Fmt.{decimal}
+use Rattle.texts.specs.Hexadecimals.{hex_word}
 use Rattle.sm_words.specs.Words.{nth, add16}
 use Rattle.sm_words.specs.declared.width.Width.{Width}
 use Rattle.sm_words.specs.declared.width.Width.TheVariants.{Byte, Word}
@@ -43,32 +45,24 @@ abbrev pub suffix_of : Width → List ℕ
 suffix_of Byte = codes ".b"
 suffix_of Word = []
 
--- a hexadecimal digit, of lower case
-abbrev pub hex_digit : ℕ → ℕ
-hex_digit d = if nat_lt d 10 then 48 + d else 87 + d
-
 -- a word by its four hexadecimal digits
 abbrev pub hex_text : ℕ → List ℕ
-hex_text v = codes "0x" ++ hex_digit (v / 4096) ∷ hex_digit ((v / 256) % 16) ∷ hex_digit ((v / 16) % 16) ∷ hex_digit (v % 16) ∷ []
-
--- a number below 100 by its decimal digits
-abbrev pub number_text : ℕ → List ℕ
-number_text n = if nat_lt n 10 then (48 + n) ∷ [] else (48 + n / 10) ∷ (48 + n % 10) ∷ []
+hex_text v = codes "0x" ++ hex_word v
 
 -- a constant; 65,535 is shown as -1
 abbrev pub constant_text : ℕ → List ℕ
-constant_text c = if c == 65535 then codes "#-1" else codes "#" ++ number_text c
+constant_text c = if c == 65535 then codes "#-1" else codes "#" ++ decimal c
 
 -- an operand; at is the address of its extension word
 abbrev pub operand_text : Operand → ℕ → List ℕ
-operand_text (Reg r) at = codes "r" ++ number_text r
+operand_text (Reg r) at = codes "r" ++ decimal r
 operand_text (Const c) at = constant_text c
 operand_text (Imm x) at = codes "#" ++ hex_text x
-operand_text (Indexed r x) at = hex_text x ++ codes "(r" ++ number_text r ++ codes ")"
+operand_text (Indexed r x) at = hex_text x ++ codes "(r" ++ decimal r ++ codes ")"
 operand_text (Symbolic x) at = hex_text (add16 at x)
 operand_text (Absolute x) at = codes "&" ++ hex_text x
-operand_text (Indirect r) at = codes "@r" ++ number_text r
-operand_text (Increment r) at = codes "@r" ++ number_text r ++ codes "+"
+operand_text (Indirect r) at = codes "@r" ++ decimal r
+operand_text (Increment r) at = codes "@r" ++ decimal r ++ codes "+"
 
 -- an instruction at an address
 abbrev pub text_of : Insn → ℕ → List ℕ
@@ -76,4 +70,4 @@ text_of (Two op w s d) at = two_name op ++ suffix_of w ++ codes " " ++ operand_t
 text_of (One op w a) at = one_name op ++ suffix_of w ++ codes " " ++ operand_text a (add16 at 2)
 text_of (Jump cond offset) at = jump_name cond ++ codes " " ++ hex_text (add16 (add16 at 2) (distance offset))
 text_of Reti at = codes "reti"
-text_of (UnitOp n) at = codes "unit " ++ number_text n
+text_of (UnitOp n) at = codes "unit " ++ decimal n

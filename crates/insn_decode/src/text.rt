@@ -1,13 +1,15 @@
 //! The text of an instruction.
-ghost use Rattle.std.specs.Prelude.{◌≡◌, ◌+◌, ◌*◌, ◌≤◌, ◌<◌, ◌++◌, ◌∷◌, [], length, IsTrue};
+ghost use Rattle.std.specs.Prelude.{◌≡◌, ◌+◌, ◌*◌, ◌≤◌, ◌<◌, ◌++◌, ◌∷◌, [], length};
+ghost use Rattle.std.specs.Fmt.{decimal};
 ghost use Rattle.arrayvec.specs.ArrayString.{array_string_len};
 ghost use Rattle.sm_words.specs.Words.{add16};
-ghost use Rattle.insn_decode.specs.Code.{IsDecoded, HasForm, HasParts, is_constant, distance};
-ghost use Rattle.insn_decode.specs.Text.{two_name, one_name, jump_name, suffix_of, hex_digit, hex_text, number_text, constant_text, operand_text, text_of};
+ghost use Rattle.insn_decode.specs.Code.{IsDecoded, HasForm, HasParts, distance};
+ghost use Rattle.insn_decode.specs.Text.{two_name, one_name, jump_name, suffix_of, hex_text, constant_text, operand_text, text_of};
 
 use crate::insn::{Insn, OneOp, Operand, TwoOp};
 use arrayvec::ArrayString;
 use sm_words::Width;
+use texts::{push_decimal, push_hex_word};
 
 /// Sets `out` to the text of an instruction that stands at the address `at`. A jump shows its target, a
 /// symbolic operand the address that it means.
@@ -46,7 +48,7 @@ fn push_insn(insn: &Insn, at: u16, out: &mut ArrayString<48>)
         Insn::Reti => out.push_str("reti"),
         Insn::Unit(n) => {
             out.push_str("unit ");
-            push_number(u16::from(n), out);
+            push_decimal(n, out);
         }
     }
 }
@@ -179,27 +181,25 @@ fn push_register(before: &str, reg: u8, after: &str, out: &mut ArrayString<48>)
     requires before { length before.now ≤ 2 }
     requires after { length after.now ≤ 1 }
     requires room { array_string_len out.old ≤ 42 }
-    ensures text { out.new.bytes ≡ out.old.bytes ++ before.now ++ number_text reg ++ after.now }
-    ensures most { array_string_len out.new ≤ array_string_len out.old + 5 }
+    ensures text { out.new.bytes ≡ out.old.bytes ++ before.now ++ decimal reg ++ after.now }
+    ensures most { array_string_len out.new ≤ array_string_len out.old + 6 }
 {
     out.push_str(before);
-    push_number(u16::from(reg), out);
+    push_decimal(reg, out);
     out.push_str(after);
 }
 
 /// Appends a constant; 65,535 is shown as -1.
-#[tactic(auto, using(std::proofs::lemmas::Bool::Decides::nat_tests))]
 fn push_constant(number: u16, out: &mut ArrayString<48>)
-    requires constant { IsTrue (is_constant number) }
-    requires room { array_string_len out.old ≤ 44 }
+    requires { array_string_len out.old ≤ 42 }
     ensures text { out.new.bytes ≡ out.old.bytes ++ constant_text number }
-    ensures most { array_string_len out.new ≤ array_string_len out.old + 3 }
+    ensures most { array_string_len out.new ≤ array_string_len out.old + 6 }
 {
     if number == 0xffff {
         out.push_str("#-1");
     } else {
         out.push_str("#");
-        push_number(number, out);
+        push_decimal(number, out);
     }
 }
 
@@ -210,35 +210,5 @@ fn push_word(word: u16, out: &mut ArrayString<48>)
     ensures most { array_string_len out.new ≡ array_string_len out.old + 6 }
 {
     out.push_str("0x");
-    push_digit(word / 4096, out);
-    push_digit((word / 256) % 16, out);
-    push_digit((word / 16) % 16, out);
-    push_digit(word % 16, out);
-}
-
-/// Appends a hexadecimal digit.
-fn push_digit(digit: u16, out: &mut ArrayString<48>)
-    requires digit { digit < 16 }
-    requires room { array_string_len out.old < 48 }
-    ensures text { out.new.bytes ≡ out.old.bytes ++ hex_digit digit ∷ [] }
-{
-    let code = if digit < 10 {
-        b'0' + digit as u8
-    } else {
-        b'a' - 10 + digit as u8
-    };
-    out.push(char::from(code));
-}
-
-/// Appends a number below 100 by its decimal digits.
-fn push_number(number: u16, out: &mut ArrayString<48>)
-    requires digits { number < 100 }
-    requires room { array_string_len out.old ≤ 46 }
-    ensures text { out.new.bytes ≡ out.old.bytes ++ number_text number }
-    ensures most { array_string_len out.new ≤ array_string_len out.old + 2 }
-{
-    if number >= 10 {
-        push_digit(number / 10, out);
-    }
-    push_digit(number % 10, out);
+    push_hex_word(word, out);
 }

@@ -1,3 +1,3 @@
-mod LineLemmas
 mod ReadingLemmas
 mod Loop
+mod EntryLemmas

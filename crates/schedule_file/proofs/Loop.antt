@@ -7,7 +7,8 @@ use Rattle.schedule_file.specs.declared.Entry.{Entry}
 use Rattle.schedule_file.specs.declared.ScheduleFault.TheVariants.{TooMany}
 use Rattle.schedule_file.specs.Entries.{CyclesNeverFall, HasLine}
 use Rattle.schedule_file.specs.Line.{entry_of}
-use Rattle.schedule_file.specs.Reading.{lines_of, after_entries, entries_from, schedule_of}
+use Rattle.texts.specs.Lines.{lines_of}
+use Rattle.schedule_file.specs.Reading.{after_entries, entries_from, schedule_of}
 use Rattle.schedule_file.proofs.ReadingLemmas.{schedule_of-start, entries_from-entry, entries_from-too_many}
 
 pub record IsRead (text : List ℕ) (entries : List Entry) (rest : List ℕ) (n low : ℕ) : Type 0 where

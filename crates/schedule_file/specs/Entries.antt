@@ -1,5 +1,5 @@
 -- The entries of a schedule.
-use Rattle.std.specs.Prelude.{ℕ, ◌<◌, List}
+use Rattle.std.specs.Prelude.{ℕ, ◌<◌, ◌^◌, List}
 use Rattle.std.specs.List.Sorted.{IsNonDecreasingBy}
 use Rattle.schedule_file.specs.declared.Entry.{Entry}
 use Rattle.schedule_file.specs.declared.What.{What}
@@ -18,3 +18,12 @@ HasLine e = line_number e.what < 4
 -- no cycle is below the one before
 abbrev pub CyclesNeverFall : List Entry → Type 0
 CyclesNeverFall es = IsNonDecreasingBy (λ e. e.cycle) es
+
+-- an entry that a text can write: a cycle of at most eighteen digits, one of the lines 0 to 3, or a byte
+abbrev pub IsWhat : What → Type 0
+IsWhat (Serial byte) = byte < 256
+IsWhat (Up line) = line < 4
+IsWhat (Down line) = line < 4
+
+abbrev pub IsEntry : Entry → Type 0
+IsEntry e = (e.cycle < 10 ^ 18) × IsWhat e.what

@@ -1,40 +1,17 @@
 -- The lines of a schedule: `CYCLE serial HH`, `CYCLE line N up` and `CYCLE line N down`.
-use Rattle.std.specs.Prelude.{ℕ, ◌+◌, ◌-◌, ◌*◌, Bool, true, false, ◌==◌, nat_le, not, ◌&&◌, if◌then◌else◌, List, [], ◌∷◌, length, drop, fold, Option, Some, None, codes, option_map, option_and_then}
-use Rattle.std.specs.List.{list_all, starts_with, before_first, after_first}
+use Rattle.std.specs.Prelude.{ℕ, ◌+◌, ◌-◌, Bool, ◌==◌, nat_le, not, ◌&&◌, if◌then◌else◌, List, [], ◌∷◌, ◌++◌, drop, Option, Some, None, codes, option_map}
+use Rattle.std.specs.Fmt.{decimal}
+use Rattle.std.specs.List.{starts_with, before_first, after_first}
 use Rattle.std.specs.Str.{bytes_eq}
-use Rattle.std.specs.Char.{is_ascii_digit}
+use Rattle.texts.specs.Decimals.{read_decimal}
+use Rattle.texts.specs.Hexadecimals.{hex_byte, read_hex_byte}
 use Rattle.schedule_file.specs.declared.Entry.{Entry}
+use Rattle.schedule_file.specs.declared.TheConstants.{MAX_CYCLE}
 use Rattle.schedule_file.specs.declared.What.{What}
 use Rattle.schedule_file.specs.declared.What.TheVariants.{Serial, Up, Down}
 
 abbrev pub is_space : ℕ → Bool
 is_space b = b == 32
-
--- some digits, the first of more than one not 0
-abbrev pub has_no_leading_zero : List ℕ → Bool
-has_no_leading_zero [] = false
-has_no_leading_zero (b ∷ []) = true
-has_no_leading_zero (b ∷ c ∷ more) = not (b == 48)
-
--- one to eighteen decimal digits without a leading zero
-abbrev pub is_decimal : List ℕ → Bool
-is_decimal word = list_all is_ascii_digit word && has_no_leading_zero word && nat_le (length word) 18
-
--- the number that decimal digits write
-abbrev pub decimal_value : List ℕ → ℕ
-decimal_value word = fold (λ value b. 10 * value + (b - 48)) 0 word
-
-abbrev pub decimal_of : List ℕ → Option ℕ
-decimal_of word = if is_decimal word then Some (decimal_value word) else None
-
--- a lower-case hexadecimal digit
-abbrev pub hex_digit_of : ℕ → Option ℕ
-hex_digit_of b = if nat_le 48 b && nat_le b 57 then Some (b - 48) else (if nat_le 97 b && nat_le b 102 then Some (b - 97 + 10) else None)
-
--- the byte of two lower-case digits
-abbrev pub byte_of : List ℕ → Option ℕ
-byte_of (high ∷ low ∷ []) = option_and_then (λ h. option_map (λ l. 16 * h + l) (hex_digit_of low)) (hex_digit_of high)
-byte_of _ = None
 
 -- a line's number with `up` or `down` after a space
 abbrev pub move_of : List ℕ → Option What
@@ -47,7 +24,7 @@ move_of [] = None
 -- what happens, from what stands after the cycle and its space
 abbrev pub what_of : List ℕ → Option What
 what_of text =
-    if starts_with (λ a b. a == b) text (codes "serial ") then option_map Serial (byte_of (drop 7 text))
+    if starts_with (λ a b. a == b) text (codes "serial ") then option_map Serial (read_hex_byte (drop 7 text))
     else (if starts_with (λ a b. a == b) text (codes "line ") then move_of (drop 5 text) else None)
 
 -- an entry of this cycle
@@ -57,4 +34,14 @@ at_cycle _ _ = None
 
 -- the entry that a line writes, where it is of one of the three forms
 unfoldable pub entry_of : List ℕ → Option Entry
-entry_of line = at_cycle (decimal_of (before_first is_space line)) (what_of (after_first is_space line))
+entry_of line = at_cycle (read_decimal MAX_CYCLE (before_first is_space line)) (what_of (after_first is_space line))
+
+-- ---- the text of an entry
+
+abbrev pub what_text : What → List ℕ
+what_text (Serial byte) = codes "serial " ++ hex_byte byte
+what_text (Up line) = codes "line " ++ decimal line ++ codes " up"
+what_text (Down line) = codes "line " ++ decimal line ++ codes " down"
+
+abbrev pub entry_text : Entry → List ℕ
+entry_text entry = decimal entry.cycle ++ codes " " ++ what_text entry.what

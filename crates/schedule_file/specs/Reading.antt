@@ -3,17 +3,8 @@ use Rattle.std.specs.Prelude.{ℕ, ◌+◌, ◌==◌, nat_lt, if◌then◌else�
 use Rattle.schedule_file.specs.declared.Entry.{Entry}
 use Rattle.schedule_file.specs.declared.ScheduleFault.{ScheduleFault}
 use Rattle.schedule_file.specs.declared.ScheduleFault.TheVariants.{Line, NotRising, TooMany}
+use Rattle.texts.specs.Lines.{lines_of}
 use Rattle.schedule_file.specs.Line.{entry_of}
-
--- a byte before the first of these lines
-abbrev pub with_byte : ℕ → List (List ℕ) → List (List ℕ)
-with_byte b [] = (b ∷ []) ∷ []
-with_byte b (line ∷ lines) = (b ∷ line) ∷ lines
-
--- the lines of a text: LF ends each, and may lack after the last
-abbrev pub lines_of : List ℕ → List (List ℕ)
-lines_of [] = []
-lines_of (b ∷ text) = if b == 10 then [] ∷ lines_of text else with_byte b (lines_of text)
 
 -- these entries before those that were read
 abbrev pub after_entries : List Entry → Result (List Entry) ScheduleFault → Result (List Entry) ScheduleFault

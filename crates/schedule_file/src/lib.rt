@@ -8,12 +8,16 @@
 ghost use Rattle.std.specs.Prelude.{All};
 ghost use Rattle.schedule_file.specs.Entries.{HasLine, CyclesNeverFall};
 
+pub mod laws;
 mod line;
 mod reading;
 #[cfg(test)]
 mod tests;
 
 pub use reading::read_schedule;
+
+/// The last cycle of at most eighteen decimal digits.
+pub const MAX_CYCLE: u64 = 999_999_999_999_999_999;
 
 /// What happens outside the machine.
 #[derive(Clone, Copy, Debug, PartialEq, Eq)]

@@ -1,11 +1,12 @@
 //! The text of a schedule, line by line.
 
-ghost use Rattle.std.specs.Prelude.{◌≡◌, ◌≢◌, ◌<◌, ◌∷◌, length, Ok, Err, IfOk, IfErr};
-ghost use Rattle.schedule_file.specs.Reading.{schedule_of, lines_of};
+ghost use Rattle.std.specs.Prelude.{◌≡◌, ◌≢◌, Ok, Err, IfOk, IfErr};
+ghost use Rattle.schedule_file.specs.Reading.{schedule_of};
 
-use crate::line::{entry_of, first_index};
+use crate::line::entry_of;
 use crate::{Schedule, ScheduleFault};
 use std::alloc::Global;
+use texts::next_line;
 
 /// A text has at most so many lines.
 const MAX_LINES: u64 = 65_536;
@@ -22,8 +23,7 @@ pub fn read_schedule(alloc: Global, bytes: &[u8]) -> Result<Schedule, ScheduleFa
     let mut rest = bytes;
     let mut n = 1;
     let mut low = 0;
-    while !rest.is_empty() {
-        let (line, after) = split_line(rest);
+    while let Some((line, after)) = next_line(rest) {
         if n > MAX_LINES {
             return Err(ScheduleFault::TooMany);
         }
@@ -41,16 +41,4 @@ pub fn read_schedule(alloc: Global, bytes: &[u8]) -> Result<Schedule, ScheduleFa
         n += 1;
     }
     Ok(Schedule { entries })
-}
-
-// The first line without its LF, and what stands after it.
-fn split_line(text: &[u8]) -> (&[u8], &[u8])
-    requires { 0 < length text.now }
-    ensures lines { lines_of text.now ≡ result.0.now ∷ lines_of result.1.now }
-    ensures shorter { length result.1.now < length text.now }
-{
-    match first_index(text, b'\n') {
-        Some(end) => (&text[..end], &text[end + 1..]),
-        None => (text, &[]),
-    }
 }

@@ -1,6 +1,7 @@
 -- The lines of the outside trace, as bytes.
-use Rattle.std.specs.Prelude.{ℕ, zero, suc, ◌+◌, ◌/◌, ◌%◌, List, [], ◌∷◌, ◌++◌, nat_lt, if◌then◌else◌, codes}
+use Rattle.std.specs.Prelude.{ℕ, zero, suc, ◌+◌, List, [], ◌++◌, codes}
 use Rattle.std.specs.Fmt.{decimal}
+use Rattle.texts.specs.Hexadecimals.{hex_byte, hex_word}
 use Rattle.sm_words.specs.Words.{reg}
 use Rattle.pc_access.specs.declared.Rule.{Rule}
 use Rattle.pc_access.specs.declared.Rule.TheVariants.{FetchNotEntry, FetchData, ReadData, WriteData, WriteText, Reenter, RetiInside, Straddle, Misaligned, Illegal, FetchDevice}
@@ -8,18 +9,6 @@ use Rattle.tracer.specs.declared.EndState.{EndState}
 use Rattle.tracer.specs.declared.EndState.TheVariants.{Stopped, Inside, Outside}
 use Rattle.tracer.specs.declared.Event.{Event}
 use Rattle.tracer.specs.declared.Event.TheVariants.{Resume, Close, Handler, Leave, Hide, Irq, Enter, Reti, Protect, Out, Stop}
-
--- a hexadecimal digit in lower case
-abbrev pub hex1 : ℕ → ℕ
-hex1 d = if nat_lt d 10 then 48 + d else 87 + d
-
--- a byte as two digits
-abbrev pub hex2 : ℕ → List ℕ
-hex2 b = hex1 (b / 16 % 16) ∷ hex1 (b % 16) ∷ []
-
--- a word as four digits
-abbrev pub hex4 : ℕ → List ℕ
-hex4 w = hex2 (w / 256) ++ hex2 (w % 256)
 
 -- the name of a rule
 abbrev pub rule_name : Rule → List ℕ
@@ -39,15 +28,15 @@ rule_name FetchDevice = codes "FetchDevice"
 abbrev pub event_text : Event → List ℕ
 event_text (Resume id) = codes "resume " ++ decimal id
 event_text (Close id) = codes "close " ++ decimal id
-event_text (Handler pc) = codes "handler pc " ++ hex4 pc
-event_text (Leave id pc) = codes "leave " ++ decimal id ++ codes " pc " ++ hex4 pc
+event_text (Handler pc) = codes "handler pc " ++ hex_word pc
+event_text (Leave id pc) = codes "leave " ++ decimal id ++ codes " pc " ++ hex_word pc
 event_text (Hide id vector) = codes "hide " ++ decimal id ++ codes " vector " ++ decimal vector
 event_text (Irq vector) = codes "irq " ++ decimal vector
 event_text (Enter id from) = codes "enter " ++ decimal id ++ codes " from " ++ decimal from
 event_text Reti = codes "reti"
 event_text (Protect id) = codes "protect " ++ decimal id
-event_text (Out byte) = codes "out " ++ hex2 byte
-event_text (Stop stop) = codes "stop " ++ rule_name stop.rule ++ codes " pc " ++ hex4 stop.pc ++ codes " addr " ++ hex4 stop.addr ++ codes " module " ++ decimal stop.module
+event_text (Out byte) = codes "out " ++ hex_byte byte
+event_text (Stop stop) = codes "stop " ++ rule_name stop.rule ++ codes " pc " ++ hex_word stop.pc ++ codes " addr " ++ hex_word stop.addr ++ codes " module " ++ decimal stop.module
 
 -- the line of one event of cycle c
 unfoldable pub event_line : ℕ → Event → List ℕ
@@ -56,7 +45,7 @@ event_line c event = decimal c ++ codes " " ++ event_text event ++ codes "\n"
 -- the next n registers from number k on
 abbrev pub registers_from : List ℕ → ℕ → ℕ → List ℕ
 registers_from core k zero = []
-registers_from core k (suc n) = codes " " ++ hex4 (reg core k) ++ registers_from core (k + 1) n
+registers_from core k (suc n) = codes " " ++ hex_word (reg core k) ++ registers_from core (k + 1) n
 
 -- what the end line says: the registers are told outside alone
 abbrev pub end_text : EndState → List ℕ

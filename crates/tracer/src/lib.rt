@@ -1,6 +1,7 @@
 //! The events of a cycle and their lines in the outside trace.
 #![tactic(auto)]
 
+pub mod laws;
 #[cfg(test)]
 mod tests;
 mod text;

@@ -1,13 +1,14 @@
 //! The lines as text.
 ghost use Rattle.std.specs.Prelude.{◌≡◌, ◌+◌, ◌≤◌, ◌<◌, ◌++◌, ◌∷◌, [], length};
 ghost use Rattle.arrayvec.specs.ArrayString.{array_string_len};
-ghost use Rattle.tracer.specs.Lines.{hex1, hex2, hex4, rule_name, registers_from, event_text, event_line, end_text, end_line_at};
+ghost use Rattle.tracer.specs.Lines.{rule_name, registers_from, event_text, event_line, end_text, end_line_at};
 
 use crate::{EndState, Event};
 use arrayvec::ArrayString;
-use itoa::{Buffer, Integer};
+use itoa::Integer;
 use pc_access::{Rule, Stop};
 use sm_words::Core;
+use texts::{push_decimal, push_hex_byte, push_hex_word};
 
 /// Sets `out` to the line of an event of this cycle, with its LF.
 ///
@@ -19,7 +20,7 @@ pub fn line(cycle: u64, event: &Event, out: &mut ArrayString<80>)
     ensures fits { array_string_len out.new ≤ 71 }
 {
     out.clear();
-    push_number(cycle, out);
+    push_decimal(cycle, out);
     out.push_str(" ");
     push_event(event, out);
     out.push_str("\n");
@@ -51,12 +52,12 @@ fn push_event(event: &Event, out: &mut ArrayString<80>)
         Event::Close { module } => push_labelled("close ", module, out),
         Event::Handler { pc } => {
             out.push_str("handler pc ");
-            push_word(pc, out);
+            push_hex_word(pc, out);
         }
         Event::Leave { module, pc } => {
             push_labelled("leave ", module, out);
             out.push_str(" pc ");
-            push_word(pc, out);
+            push_hex_word(pc, out);
         }
         Event::Hide { module, vector } => {
             push_labelled("hide ", module, out);
@@ -71,7 +72,7 @@ fn push_event(event: &Event, out: &mut ArrayString<80>)
         Event::Protect { module } => push_labelled("protect ", module, out),
         Event::Out { byte } => {
             out.push_str("out ");
-            push_byte(byte, out);
+            push_hex_byte(byte, out);
         }
         Event::Stop(stop) => push_stop(stop, out),
     }
@@ -86,9 +87,9 @@ fn push_stop(stop: Stop, out: &mut ArrayString<80>)
     out.push_str("stop ");
     out.push_str(rule_name(stop.rule));
     out.push_str(" pc ");
-    push_word(stop.pc, out);
+    push_hex_word(stop.pc, out);
     out.push_str(" addr ");
-    push_word(stop.addr, out);
+    push_hex_word(stop.addr, out);
     push_labelled(" module ", stop.module, out);
 }
 
@@ -135,7 +136,7 @@ fn push_registers(core: &Core, out: &mut ArrayString<160>)
 {
     for n in 0..16u8 {
         out.push_str(" ");
-        push_word(core.get(n), out);
+        push_hex_word(core.get(n), out);
     }
 }
 
@@ -146,50 +147,5 @@ fn push_labelled<I: Integer, const N: usize>(label: &str, number: I, out: &mut A
     ensures most { array_string_len out.new ≤ array_string_len out.old + length label.now + I.MAX_STR_LEN }
 {
     out.push_str(label);
-    push_number(number, out);
-}
-
-/// Appends a number in decimal.
-fn push_number<I: Integer, const N: usize>(number: I, out: &mut ArrayString<N>)
-    requires room { array_string_len out.old + I.MAX_STR_LEN ≤ N }
-    ensures text { out.new.bytes ≡ out.old.bytes ++ I.text number }
-    ensures most { array_string_len out.new ≤ array_string_len out.old + I.MAX_STR_LEN }
-{
-    let mut digits = Buffer::new();
-    out.push_str(digits.format(number));
-}
-
-/// Appends a word as four hexadecimal digits.
-fn push_word<const N: usize>(word: u16, out: &mut ArrayString<N>)
-    requires room { array_string_len out.old + 4 ≤ N }
-    ensures text { out.new.bytes ≡ out.old.bytes ++ hex4 word }
-    ensures most { array_string_len out.new ≡ array_string_len out.old + 4 }
-{
-    let [high, low] = word.to_be_bytes();
-    push_byte(high, out);
-    push_byte(low, out);
-}
-
-/// Appends a byte as two hexadecimal digits.
-fn push_byte<const N: usize>(byte: u8, out: &mut ArrayString<N>)
-    requires room { array_string_len out.old + 2 ≤ N }
-    ensures text { out.new.bytes ≡ out.old.bytes ++ hex2 byte }
-    ensures most { array_string_len out.new ≡ array_string_len out.old + 2 }
-{
-    push_digit(byte / 16, out);
-    push_digit(byte % 16, out);
-}
-
-/// Appends a hexadecimal digit, in lower case.
-fn push_digit<const N: usize>(digit: u8, out: &mut ArrayString<N>)
-    requires digit { digit < 16 }
-    requires room { array_string_len out.old < N }
-    ensures text { out.new.bytes ≡ out.old.bytes ++ hex1 digit ∷ [] }
-{
-    let code = if digit < 10 {
-        b'0' + digit
-    } else {
-        b'a' - 10 + digit
-    };
-    out.push(char::from(code));
+    push_decimal(number, out);
 }

@@ -8,7 +8,8 @@ use Rattle.reg_backup.specs.declared.backup.After.{After}
 use Rattle.reg_backup.specs.declared.backup.After.TheVariants.{Resume}
 use Rattle.reg_backup.specs.declared.backup.Phase.{Phase}
 use Rattle.reg_backup.specs.declared.backup.Phase.TheVariants.{Run}
-use Rattle.tracer.specs.Lines.{hex2, hex4, registers_from}
+use Rattle.texts.specs.Hexadecimals.{hex_byte, hex_word}
+use Rattle.tracer.specs.Lines.{registers_from}
 use Rattle.written_machine.specs.Cycle.{pc_of, cycle, after_cycles}
 use Rattle.written_machine.specs.State.{State}
 use Rattle.written_machine.specs.Trace.{lines_of, lines_after, end_line_of}
@@ -56,7 +57,7 @@ registers_text None active = codes "inside " ++ id_text active
 -- two hexadecimal digits
 abbrev pub byte_text : Option ℕ → List ℕ
 byte_text None = []
-byte_text (Some b) = hex2 b
+byte_text (Some b) = hex_byte b
 
 -- the next n bytes from an address
 abbrev pub bytes_text : View → ℕ → ℕ → List ℕ
@@ -65,7 +66,7 @@ bytes_text v a (suc n) = byte_text (v.byte a) ++ bytes_text v (a + 1) n
 
 -- what a read of these bytes shows, by the first that lies in a module's data
 abbrev pub refused_by : Place → ℕ → List ℕ → List ℕ
-refused_by (Data id) a rest = codes "refused ReadData addr " ++ hex4 a ++ codes " module " ++ decimal id
+refused_by (Data id) a rest = codes "refused ReadData addr " ++ hex_word a ++ codes " module " ++ decimal id
 refused_by _ a rest = rest
 
 -- the first of the next n bytes that lies in data, or else the rest
@@ -79,7 +80,7 @@ regs_text v = codes "regs " ++ decimal v.cycle ++ codes " " ++ registers_text v.
 
 -- the line of mem
 unfoldable pub mem_text : View → ℕ → ℕ → List ℕ
-mem_text v a n = refused_or v.table a n (hex4 a ++ codes ": " ++ bytes_text v a n) ++ codes "\n"
+mem_text v a n = refused_or v.table a n (hex_word a ++ codes ": " ++ bytes_text v a n) ++ codes "\n"
 
 -- one line, on what is seen of the machine where all modules are hidden
 abbrev pub play_line : State → ScriptLine → Played

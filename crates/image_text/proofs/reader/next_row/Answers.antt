@@ -15,25 +15,25 @@ returns-in-Err-formed-clause-refused c =
 pub word_at-at-requires : goal.word_at-at-requires
 word_at-at-requires c = let k = row_line_of c.in-Ok.line.text.now c.in-Ok-formed.ensures.ok in k.at
 
-pub bytes_at-requires : goal.bytes_at-requires
-bytes_at-requires c = let k = row_line_of c.in-Ok.line.text.now c.in-Ok-formed.ensures.ok in k.row
+pub sixteen_at-row-requires : goal.sixteen_at-row-requires
+sixteen_at-row-requires c = let k = row_line_of c.in-Ok.line.text.now c.in-Ok-formed.ensures.ok in k.row
 
 pub returns-then-not-is_row-clause-refused : goal.returns-then-not-is_row-clause-refused
 returns-then-not-is_row-clause-refused c =
-    let e = ap (λ (n : ℕ). is_row c.args.last n (bytes_at 8 40 c.in-Ok.line.text.now)) (sym c.word_at-at.ensures) ∙ ap (λ (r : List ℕ). is_row c.args.last c.word_at-at.result r) (sym c.bytes_at.ensures) ∙ sym c.is_row.ensures ∙ c.if-not-is_row.true in
+    let e = ap (λ (n : ℕ). is_row c.args.last n (bytes_at 8 16 c.in-Ok.line.text.now)) (sym c.word_at-at.ensures) ∙ ap (λ (r : List ℕ). is_row c.args.last c.word_at-at.result r) (sym c.sixteen_at-row.ensures) ∙ sym c.is_row.ensures ∙ c.if-not-is_row.true in
     inr (row_misplaced c.args.last c.args.lines.now c.next.new.self c.in-Ok.line.text.now c.in-Ok.ensures.line (ap (λ (l : List ℕ). pointwise nat_eq c.in-Ok.line.text.now l) (sym c.as_slice.ensures) ∙ sym c.eq.ensures ∙ c.if-eq.false) c.in-Ok-formed.ensures.ok e ∙ ap (λ (n : ℕ). Some (Line n)) (sym c.in-Ok.ensures.spot.0))
 
 pub returns-then-at-last-clause-refused : goal.returns-then-at-last-clause-refused
 returns-then-at-last-clause-refused c =
-    let e = ap (λ (n : ℕ). is_row c.args.last n (bytes_at 8 40 c.in-Ok.line.text.now)) (sym c.word_at-at.ensures) ∙ ap (λ (r : List ℕ). is_row c.args.last c.word_at-at.result r) (sym c.bytes_at.ensures) ∙ sym c.is_row.ensures ∙ c.if-not-is_row.false in
+    let e = ap (λ (n : ℕ). is_row c.args.last n (bytes_at 8 16 c.in-Ok.line.text.now)) (sym c.word_at-at.ensures) ∙ ap (λ (r : List ℕ). is_row c.args.last c.word_at-at.result r) (sym c.sixteen_at-row.ensures) ∙ sym c.is_row.ensures ∙ c.if-not-is_row.false in
     let same : word_at 3 c.in-Ok.line.text.now ≡ c.args.last = sym c.word_at-at.ensures ∙ c.if-at-last.true in
     let f : (word_at 3 c.in-Ok.line.text.now == c.args.last) ≡ true = grind (arith, nat_tests) in
     inr (row_twice c.args.last c.args.lines.now c.next.new.self c.in-Ok.line.text.now c.in-Ok.ensures.line (ap (λ (l : List ℕ). pointwise nat_eq c.in-Ok.line.text.now l) (sym c.as_slice.ensures) ∙ sym c.eq.ensures ∙ c.if-eq.false) c.in-Ok-formed.ensures.ok e f ∙ ap (λ (n : ℕ). Some (Twice n)) (sym c.word_at-at.ensures))
 
 pub returns-in-Ok-grow-clause-row : goal.returns-in-Ok-grow-clause-row
 returns-in-Ok-grow-clause-row c =
-    let e = ap (λ (n : ℕ). is_row c.args.last n (bytes_at 8 40 c.in-Ok.line.text.now)) (sym c.word_at-at.ensures) ∙ ap (λ (r : List ℕ). is_row c.args.last c.word_at-at.result r) (sym c.bytes_at.ensures) ∙ sym c.is_row.ensures ∙ c.if-not-is_row.false in
+    let e = ap (λ (n : ℕ). is_row c.args.last n (bytes_at 8 16 c.in-Ok.line.text.now)) (sym c.word_at-at.ensures) ∙ ap (λ (r : List ℕ). is_row c.args.last c.word_at-at.result r) (sym c.sixteen_at-row.ensures) ∙ sym c.is_row.ensures ∙ c.if-not-is_row.false in
     let differ : word_at 3 c.in-Ok.line.text.now ≢ c.args.last = λ x. c.if-at-last.false (c.word_at-at.ensures ∙ x) in
     let f : (word_at 3 c.in-Ok.line.text.now == c.args.last) ≡ false = grind (arith, nat_tests) in
     adds_row c.args.last c.args.lines.now c.next.new.self c.in-Ok.line.text.now c.in-Ok.ensures.line (ap (λ (l : List ℕ). pointwise nat_eq c.in-Ok.line.text.now l) (sym c.as_slice.ensures) ∙ sym c.eq.ensures ∙ c.if-eq.false) c.in-Ok-formed.ensures.ok c.word_at-at.result c.args.memory.now.items c.grow.new.memory.items c.word_at-at.ensures e f
-    (c.in-Ok-grow.ensures ∙ ap (λ (r : List ℕ). (c.args.memory.now.items ++ replicate (c.word_at-at.result - length c.args.memory.now.items) 0) ++ r) c.bytes_at.ensures)
+    (c.in-Ok-grow.ensures ∙ ap (λ (r : List ℕ). (c.args.memory.now.items ++ replicate (c.word_at-at.result - length c.args.memory.now.items) 0) ++ r) c.sixteen_at-row.ensures)

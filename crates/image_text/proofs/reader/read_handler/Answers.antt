@@ -1,9 +1,10 @@
 use Rattle.std.proofs.Common.{◌≡◌, ℕ, ◌%◌, ◌==◌, true, false, cond, refl, sym, ap, ◌∙◌, List, [], Some, arith}
 use Rattle.std.proofs.lemmas.Bool.Decides.{nat_tests}
 use Rattle.std.proofs.lemmas.Result.{err_from_is_err_and}
+use Rattle.texts.specs.Lines.{ended_lines, unended}
 use Rattle.image_text.specs.declared.ImageFault.TheVariants.{Line}
 use Rattle.image_text.specs.ImageText.{ended, handler_line}
-use Rattle.image_text.specs.Refusal.{Spot, past, lines_from, tail_from, line_fault, handler_form, word_at, handler_refusal, count_refusal}
+use Rattle.image_text.specs.Refusal.{Spot, past, line_fault, handler_form, word_at, handler_refusal, count_refusal}
 use Rattle.image_text.proofs.LineTexts.{handler_line_of}
 use Rattle.image_text.proofs.StageLemmas.{Stage, line_passes, line_fails, next_on}
 use Rattle.image_text.proofs.reader.read_handler.Goals as goal
@@ -25,7 +26,7 @@ returns-then-handler_sp-ne0-clause-refused c = λ room.
     let odd = c.if-handler_sp-ne0.true in
     let e : (word_at 8 c.in_ok-line.line.text.now % 2 == 0) ≡ false = rw (← is) (grind (arith, nat_tests)) in
     line_passes handler_form (handler_refusal room) (after room) (λ s line more tail. refl) c.args.lines.now c.next.new.self c.in_ok-line.line.text.now c.in_ok-line.ensures.line c.in_ok-formed.ensures.ok
-    ∙ ap (λ b. cond b (count_refusal room (past c.in_ok-line.line.text.now c.args.lines.now.spot) (lines_from [] c.next.new.self.rest) (tail_from [] c.next.new.self.rest)) (line_fault c.args.lines.now.spot)) e
+    ∙ ap (λ b. cond b (count_refusal room (past c.in_ok-line.line.text.now c.args.lines.now.spot) (ended_lines c.next.new.self.rest) (unended c.next.new.self.rest)) (line_fault c.args.lines.now.spot)) e
     ∙ ap (λ (n : ℕ). Some (Line n)) (sym c.in_ok-line.ensures.spot.0)
 
 pub returns-clause-passed : goal.returns-clause-passed
@@ -38,6 +39,6 @@ returns-clause-passed c = λ room.
     record {
       text = r.text ∙ ap (λ (l : List ℕ). ended l c.next.new.self.rest) (k.text ∙ ap handler_line (sym is));
       refusal = line_passes handler_form (handler_refusal room) (after room) (λ s line more tail. refl) c.args.lines.now c.next.new.self c.in_ok-line.line.text.now r c.in_ok-formed.ensures.ok
-          ∙ ap (λ b. cond b (count_refusal room (past c.in_ok-line.line.text.now c.args.lines.now.spot) (lines_from [] c.next.new.self.rest) (tail_from [] c.next.new.self.rest)) (line_fault c.args.lines.now.spot)) e
+          ∙ ap (λ b. cond b (count_refusal room (past c.in_ok-line.line.text.now c.args.lines.now.spot) (ended_lines c.next.new.self.rest) (unended c.next.new.self.rest)) (line_fault c.args.lines.now.spot)) e
           ∙ next_on (count_refusal room) c.args.lines.now c.next.new.self c.in_ok-line.line.text.now r;
     }

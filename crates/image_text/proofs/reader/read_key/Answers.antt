@@ -11,15 +11,15 @@ returns-in_err-formed-clause-refused c = let p = err_from_is_err_and c.from_resi
     line_fails key_form (key_refusal room) (λ s line t more tail. handler_refusal room (past line s) more tail) (λ s line more tail. refl) c.args.lines.now c.next.new.self c.in_ok-line.line.text.now c.in_ok-line.ensures.line
     c.in_ok-line.line.number c.in_ok-line.line.at c.in_err-formed.field-0.0 c.in_ok-line.ensures.spot.0 c.in_ok-line.ensures.spot.1 c.in_err-formed.ensures.err)
 
-pub bytes_at-requires : goal.bytes_at-requires
-bytes_at-requires c = let k = key_line_of c.in_ok-line.line.text.now c.in_ok-formed.ensures.ok in k.coded
+pub sixteen_at-requires : goal.sixteen_at-requires
+sixteen_at-requires c = let k = key_line_of c.in_ok-line.line.text.now c.in_ok-formed.ensures.ok in k.coded
 
 pub returns-clause-passed : goal.returns-clause-passed
 returns-clause-passed c = λ room.
     let k = key_line_of c.in_ok-line.line.text.now c.in_ok-formed.ensures.ok in
     let r = c.in_ok-line.ensures.line in
     record {
-      text = r.text ∙ ap (λ (l : List ℕ). ended l c.next.new.self.rest) (k.text ∙ ap key_line (sym c.bytes_at.ensures));
+      text = r.text ∙ ap (λ (l : List ℕ). ended l c.next.new.self.rest) (k.text ∙ ap key_line (sym c.sixteen_at.ensures));
       refusal = line_passes key_form (key_refusal room) (λ s line t more tail. handler_refusal room (past line s) more tail) (λ s line more tail. refl) c.args.lines.now c.next.new.self c.in_ok-line.line.text.now r c.in_ok-formed.ensures.ok
           ∙ next_on (handler_refusal room) c.args.lines.now c.next.new.self c.in_ok-line.line.text.now r;
     }
@@ -28,10 +28,10 @@ pub returns-clause-bytes : goal.returns-clause-bytes
 returns-clause-bytes c =
     let k = key_line_of c.in_ok-line.line.text.now c.in_ok-formed.ensures.ok in
     let r = k.coded in
-    rw c.bytes_at.ensures r.are_bytes
+    rw c.sixteen_at.ensures r.are_bytes
 
 pub returns-clause-sixteen : goal.returns-clause-sixteen
 returns-clause-sixteen c =
     let k = key_line_of c.in_ok-line.line.text.now c.in_ok-formed.ensures.ok in
     let r = k.coded in
-    rw c.bytes_at.ensures r.count
+    rw c.sixteen_at.ensures r.count

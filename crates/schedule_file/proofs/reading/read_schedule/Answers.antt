@@ -3,16 +3,16 @@ use Rattle.std.proofs.Common.{not, true, sym, ◌≡◌, ◌∙◌, ap}
 use Rattle.schedule_file.proofs.Loop.{IsRead-start, IsRead-push, IsRead-too_many}
 use Rattle.schedule_file.proofs.reading.read_schedule.Goals as goal
 
-pub loop-rest-init : goal.loop-rest-init
-loop-rest-init c = rw c.new-entries.ensures.items (IsRead-start c.args.bytes.now)
+pub loop-line-init : goal.loop-line-init
+loop-line-init c = rw c.new-entries.ensures.items (IsRead-start c.args.bytes.now)
 
 pub returns-then-n-gt-MAX_LINES-clause-refused : goal.returns-then-n-gt-MAX_LINES-clause-refused
 returns-then-n-gt-MAX_LINES-clause-refused c other =
-    IsRead-too_many c.args.bytes.now _ _ _ _ _ _ c.loop-rest.invariant c.split_line.ensures.lines c.if-n-gt-MAX_LINES.true
+    IsRead-too_many c.args.bytes.now _ _ _ _ _ _ c.loop-line.invariant c.in-Some.ensures.lines c.if-n-gt-MAX_LINES.true
 
-pub loop-rest-preserved : goal.loop-rest-preserved
-loop-rest-preserved c =
+pub loop-line-preserved : goal.loop-line-preserved
+loop-line-preserved c =
     let pushed : is_ok c.push.result ≡ true = c.is_err.ensures.negation ∙ ap not c.if-is_err.false in
     rw (c.push.ensures.items, pushed)
-    (IsRead-push _ _ _ _ _ _ _ _ c.loop-rest.invariant c.split_line.ensures.lines c.if-n-gt-MAX_LINES.false
-    (sym c.entry_of.ensures.entry ∙ c.in-Some.is) c.if-entry-low.false c.in-Some.ensures.line)
+    (IsRead-push _ _ _ _ _ _ _ _ c.loop-line.invariant c.in-Some.ensures.lines c.if-n-gt-MAX_LINES.false
+    (sym c.entry_of.ensures.entry ∙ c.in-Some-entry_of.is) c.if-entry-low.false c.in-Some-entry_of.ensures.line)

@@ -4,6 +4,6 @@ use Rattle.tracer.proofs.text.push_registers.Goals as goal
 
 pub loop-n-preserved : goal.loop-n-preserved
 loop-n-preserved c = record {
-  text = one_more _ _ _ _ _ _ _ c.loop-n.invariant.text c.push_str.ensures.bytes c.get.ensures.word c.push_word.ensures.text;
+  text = one_more _ _ _ _ _ _ _ c.loop-n.invariant.text c.push_str.ensures.bytes c.get.ensures.word c.push_hex_word.ensures.text;
   length_so_far = omega arith;
 }

@@ -1,0 +1,5 @@
+pub mod DecimalLemmas
+pub mod HexLemmas
+pub mod LineLemmas
+pub mod LawLemmas
+pub mod WordLemmas
