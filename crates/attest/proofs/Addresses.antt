@@ -3,6 +3,7 @@ use Rattle.std.proofs.Common.{◌≡◌, ◌≢◌, ℕ, zero, suc, ◌+◌, ◌
 use Rattle.sm_words.specs.Words.{reg}
 use Rattle.sm_words.specs.declared.width.Width.TheVariants.{Byte}
 use Rattle.mod_layout.specs.declared.Module.{Module}
+use Rattle.mod_layout.specs.declared.TheConstants.{DEVICES_END}
 use Rattle.mod_layout.specs.declared.Place.{Place}
 use Rattle.mod_layout.specs.declared.Place.TheVariants.{Open, Entry, Text, Data}
 use Rattle.mod_layout.specs.Table.{place_of, size_of, takes}
@@ -17,7 +18,7 @@ use Rattle.attest.proofs.Places.{and_true, module_found, range_of}
 pub record IsMemoryByte (x : Access) : Type 0 where
   pub plain : x.kind ≢ Fetch
   pub byte : x.width ≡ Byte
-  pub low : 512 ≤ x.addr
+  pub low : DEVICES_END ≤ x.addr
   pub high : x.addr < 65536
 
 abbrev pub AreMemoryBytes : List Access → Type 0
@@ -28,7 +29,7 @@ both : (xs ys : List Access) → AreMemoryBytes xs → AreMemoryBytes ys → Are
 both [] ys h k = k
 both (x ∷ xs) ys h k = (h.0, both xs ys h.1 k)
 
-in_row : (kind : Kind) (a n : ℕ) → kind ≢ Fetch → 512 ≤ a → a + n ≤ 65536 → AreMemoryBytes (each_byte kind a n)
+in_row : (kind : Kind) (a n : ℕ) → kind ≢ Fetch → DEVICES_END ≤ a → a + n ≤ 65536 → AreMemoryBytes (each_byte kind a n)
 in_row kind a zero plain low high = tt
 in_row kind a (suc n) plain low high =
     (record { plain = plain; byte = refl; low = low; high = omega arith }, in_row kind (a + 1) n plain (omega arith) (omega arith))

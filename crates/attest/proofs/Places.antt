@@ -4,10 +4,13 @@ use Rattle.std.proofs.lemmas.Bool.Decides.{nat_tests}
 use Rattle.sm_words.specs.declared.width.Width.TheVariants.{Byte}
 use Rattle.mod_layout.specs.declared.Section.{Section}
 use Rattle.mod_layout.specs.declared.Module.{Module}
+use Rattle.mod_layout.specs.declared.TheConstants.{DEVICES_END}
 use Rattle.mod_layout.specs.declared.Place.{Place}
 use Rattle.mod_layout.specs.declared.Place.TheVariants.{Open, Entry, Text, Data}
 use Rattle.mod_layout.specs.Table.{Table, holds, size_of, place_by, place_in, place_of, find_module, module_of, with_module}
 use Rattle.mod_layout.specs.Tables.{Apart, IsSection, IsModule, Separate, SeparateFrom, AreModules, IsTable}
+use Rattle.mod_layout.proofs.Found.{outside, within, elsewhere, none_found, found_first, separate_found}
+pub use Rattle.mod_layout.proofs.Found.{and_true, module_found}
 use Rattle.pc_access.specs.declared.Kind.{Kind}
 use Rattle.pc_access.specs.declared.Kind.TheVariants.{Read, Write}
 use Rattle.pc_access.specs.Rights.{right, right_at, or_else, first_denied, access_of}
@@ -23,31 +26,6 @@ all_allowed t active held kind a (suc n) free =
     let rest : first_denied t active held (each_byte kind (a + 1) n) ≡ None =
     all_allowed t active held kind (a + 1) n (λ k low high. free k (omega arith) (omega arith)) in
     ap (λ d. or_else d (first_denied t active held (each_byte kind (a + 1) n))) (free a (omega arith) here) ∙ rest
-
--- ---- sections
-
-and_false : (b : Bool) → (b && false) ≡ false
-and_false true = refl
-and_false false = refl
-
-pub and_true : (b c : Bool) → (b && c) ≡ true → (b ≡ true) × (c ≡ true)
-and_true true c e = (refl, e)
-and_true false c e = absurd (let h : false ≡ true = e in (cc))
-
--- an address outside a section
-outside : (s : Section) (a : ℕ) → (a < s.start) ⊎ (s.end ≤ a) → holds s a ≡ false
-outside s a (inl h) = ap (λ (b : Bool). b && nat_lt a s.end) (let e : nat_le s.start a ≡ false = grind (arith, nat_tests) in e)
-outside s a (inr h) = ap (λ (b : Bool). nat_le s.start a && b) (let e : nat_lt a s.end ≡ false = grind (arith, nat_tests) in e) ∙ and_false (nat_le s.start a)
-
-within : (s : Section) (a : ℕ) → s.start ≤ a → a < s.end → holds s a ≡ true
-within s a low high =
-    ap (λ (b : Bool). b && nat_lt a s.end) (let e : nat_le s.start a ≡ true = grind (arith, nat_tests) in e)
-    ∙ (let e : nat_lt a s.end ≡ true = grind (arith, nat_tests) in e)
-
--- an address of one section is outside one apart from it
-elsewhere : (s r : Section) (a : ℕ) → r.start ≤ a → a < r.end → s.start < s.end → Apart s r → (a < s.start) ⊎ (s.end ≤ a)
-elsewhere s r a low high order (inl h) = inr (omega arith)
-elsewhere s r a low high order (inr h) = inl (omega arith)
 
 -- ---- reads of a text
 
@@ -72,24 +50,6 @@ read_freely Open active held a h = refl
 read_freely (Entry id) active held a h = refl
 read_freely (Text id) active held a h = refl
 read_freely (Data id) active held a h = absurd h
-
-found_first : (y m : Module) (rest : Option Module) (b : Bool) → cond b (Some y) rest ≡ Some m → (y ≡ m) ⊎ (rest ≡ Some m)
-found_first y m rest true e = inl (let k : y ≡ m = (cc) in k)
-found_first y m rest false e = inr e
-
-none_found : (m : Module) → None ≡ Some m → ⊥
-none_found m e = cc
-
--- a module that was found is one of those that the first is separate from
-separate_found : (x m : Module) (id : ℕ) (ms : List Module) → SeparateFrom x ms → find_module id ms ≡ Some m → Separate x m
-separate_found x m id [] s e = absurd (none_found m e)
-separate_found x m id (y ∷ ms) s e =
-    ⊎_elim (λ k. subst (Separate x) k s.0) (λ k. separate_found x m id ms s.1 k) (found_first y m (find_module id ms) (y.id == id) e)
-
-pub module_found : (given id : ℕ) (m : Module) (ms : List Module) → AreModules given ms → find_module id ms ≡ Some m → IsModule given m
-module_found given id m [] are e = absurd (none_found m e)
-module_found given id m (y ∷ ms) are e =
-    ⊎_elim (λ k. subst (IsModule given) k are.0) (λ k. module_found given id m ms are.2 k) (found_first y m (find_module id ms) (y.id == id) e)
 
 text_is_no_data : (given id a : ℕ) (m : Module) (ms : List Module) → AreModules given ms → find_module id ms ≡ Some m →
     m.text.start ≤ a → a < m.text.end → NoData (place_in ms a)
@@ -161,10 +121,6 @@ ram_allowed t active held vendor text ram ok =
     all_allowed t active held Write ram.start (size_of ram)
     (λ k low high. ap (λ p. right_at p active held Write k) (open_ram (t.given + 1) k new t.modules ok.modules low (omega arith)))
 
-pub found_kept : (t : Table) (id : ℕ) (r : Option Module) → r ≡ module_of id t → IsTable t → IfSome r (IsModule t.given)
-found_kept t id None e ok = tt
-found_kept t id (Some m) e ok = module_found t.given id m t.modules ok.modules (sym e)
-
 -- ---- the running module, and the one that attest is asked about
 
 pub own_text_allowed : (t : Table) (active active' : Option ℕ) (held : List ℕ) (m : Module) → IsTable t → own_of active' t ≡ Some m →
@@ -182,13 +138,13 @@ other_text_allowed t active (Data id) held m ok e = absurd (none_found m e)
 -- ---- ranges
 
 pub record InRange (a b : ℕ) : Type 0 where
-  pub low : 512 ≤ a
+  pub low : DEVICES_END ≤ a
   pub high : b ≤ 65536
   pub order : a ≤ b
 
 pub range_of : (a b : ℕ) → in_range a b ≡ true → InRange a b
 range_of a b e =
-    let p = and_true (nat_le 512 a && nat_le b 65536) (nat_le a b) e in
-    let q = and_true (nat_le 512 a) (nat_le b 65536) p.0 in
+    let p = and_true (nat_le DEVICES_END a && nat_le b 0x10000) (nat_le a b) e in
+    let q = and_true (nat_le DEVICES_END a) (nat_le b 0x10000) p.0 in
     let q0 = q.0 in let q1 = q.1 in let p1 = p.1 in
     record { low = grind (arith, nat_tests); high = grind (arith, nat_tests); order = grind (arith, nat_tests) }

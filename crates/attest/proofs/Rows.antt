@@ -1,9 +1,11 @@
 -- On bytes in a row.
-use Rattle.std.proofs.Common.{◌≡◌, ◌≢◌, ℕ, zero, suc, ◌+◌, ◌-◌, ◌<◌, ◌≤◌, List, [], ◌∷◌, ◌++◌, length, take, drop, Bool, true, false, ◌&&◌, ◌==◌, refl, sym, ◌∙◌, ap, arith, slice_index, slice_range, slice_set}
+use Rattle.std.proofs.Common.{◌≡◌, ◌≢◌, ℕ, zero, suc, ◌+◌, ◌-◌, ◌<◌, ◌≤◌, List, [], ◌∷◌, ◌++◌, length, take, drop, Bool, true, false, ◌&&◌, ◌==◌, refl, sym, ◌∙◌, ap, arith, replicate, slice_index, slice_range, slice_set}
 use Rattle.std.proofs.lemmas.Bool.Decides.{nat_tests}
 use Rattle.pc_access.specs.declared.Access.{Access}
 use Rattle.pc_access.specs.Rights.{access_of}
+use Rattle.sm_words.specs.Words.{cleared}
 use Rattle.sm_words.specs.declared.width.Width.TheVariants.{Byte}
+use Rattle.mem_map.proofs.Clearing.{cleared-set}
 use Rattle.pc_access.specs.declared.Kind.TheVariants.{Read, Write}
 use Rattle.mod_layout.specs.declared.Module.{Module}
 use Rattle.mod_layout.specs.Table.{size_of}
@@ -24,6 +26,11 @@ stored_in-next mem a n m v vs ws e f =
 pub stored_in-none : (mem : List ℕ) (xs : List Access) → stored_in mem xs [] ≡ mem
 stored_in-none mem [] = refl
 stored_in-none mem (x ∷ xs) = refl
+
+-- zeros stored in a row clear it
+pub stored_in-zeros : (a n : ℕ) (mem : List ℕ) → stored_in mem (each_byte Write a n) (replicate n 0) ≡ cleared a n mem
+stored_in-zeros a zero mem = refl
+stored_in-zeros a (suc n) mem = stored_in-zeros (a + 1) n (slice_set mem a 0) ∙ cleared-set a n mem
 
 -- ---- bytes compared
 

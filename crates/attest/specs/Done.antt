@@ -1,17 +1,13 @@
 -- What a unit instruction does to core, memory and table.
-use Rattle.std.specs.Prelude.{◌≡◌, ◌<◌, ℕ, ◌+◌, List, if◌then◌else◌, Option, Some, None, slice_index, slice_set}
+use Rattle.std.specs.Prelude.{◌≡◌, ◌<◌, ℕ, ◌+◌, List, if◌then◌else◌, slice_index, slice_set}
 use Rattle.sm_words.specs.Words.{reg}
-use Rattle.mod_layout.specs.declared.Module.{Module}
-use Rattle.mod_layout.specs.Table.{Table, module_of, takes}
+use Rattle.sm_words.specs.declared.registers.TheConstants.{PC}
+use Rattle.mod_layout.specs.Table.{Table, takes}
+pub use Rattle.mod_layout.specs.Table.{own_of}
 use Rattle.attest.specs.declared.Who.{Who}
 use Rattle.attest.specs.declared.UnitDone.{UnitDone}
 use Rattle.attest.specs.Units.{UnitName, Protect, Doer, Effect, new_text, new_ram, table_by, unit_effect, unit_plan}
 use Rattle.attest.specs.Accesses.{stored_in, values_in, writes_of}
-
--- the active module of a table
-abbrev pub own_of : Option ℕ → Table → Option Module
-own_of None t = None
-own_of (Some id) t = module_of id t
 
 abbrev pub doer : Table → Who → List ℕ → Doer
 doer t who key = record { own = own_of who.active t; caller = who.caller; table = t; key = key }
@@ -27,7 +23,7 @@ made_by _ t core = 0
 
 -- a core with PC as it was
 abbrev pub standing : List ℕ → List ℕ → List ℕ
-standing old core = slice_set core 0 (reg old 0)
+standing old core = slice_set core PC (reg old PC)
 
 -- it was done: core, memory and table are those of its effect, but that PC stays
 pub record IsDone (who : Doer) (x : UnitName) (core mem core' mem' : List ℕ) (table' : Table) (done : UnitDone) : Type 0 where

@@ -1,7 +1,9 @@
 -- The unit instructions: protect and unprotect modules, tags and attestation, ids.
 use Rattle.std.specs.Prelude.{ℕ, zero, suc, ◌+◌, ◌-◌, ◌*◌, ◌/◌, List, [], ◌∷◌, ◌++◌, ◌==◌, nat_le, if◌then◌else◌, Bool, true, false, ◌&&◌, Option, Some, None, take, drop, replicate}
 use Rattle.sm_words.specs.Words.{reg, put, nth, add16}
+use Rattle.sm_words.specs.declared.registers.TheConstants.{PC}
 use Rattle.sm_words.specs.declared.width.Width.TheVariants.{Byte}
+use Rattle.mod_layout.specs.declared.TheConstants.{DEVICES_END}
 use Rattle.mod_layout.specs.declared.Section.{Section}
 use Rattle.mod_layout.specs.declared.Module.{Module}
 use Rattle.mod_layout.specs.declared.Place.{Place}
@@ -41,7 +43,7 @@ each_byte kind a (suc n) = record { kind = kind; addr = a; width = Byte } ∷ ea
 
 -- whether the range from a, below b, can be accessed: neither a device's nor past the last address
 abbrev pub in_range : ℕ → ℕ → Bool
-in_range a b = nat_le 512 a && nat_le b 65536 && nat_le a b
+in_range a b = nat_le DEVICES_END a && nat_le b 0x10000 && nat_le a b
 
 -- the sections that protect is given: R12 and R13, R14 and R15
 abbrev pub new_text : List ℕ → Section
@@ -99,7 +101,7 @@ blocks n = 3 + (n + 72) / 64
 
 -- PC moves past the one word of the instruction
 abbrev pub next : List ℕ → List ℕ
-next core = put core 0 (add16 (reg core 0) 2)
+next core = put core PC (add16 (reg core PC) 2)
 
 -- R15 takes the answer
 abbrev pub answer : List ℕ → ℕ → ℕ → Effect

@@ -1,6 +1,6 @@
 //! Hashes of what stands in memory, page by page.
 
-ghost use Rattle.std.specs.Prelude.{◌≡◌, ◌<◌, ◌≤◌, ◌++◌, ℕ, List, length, take, slice_index, slice_range};
+ghost use Rattle.std.specs.Prelude.{◌≡◌, ◌<◌, ◌≤◌, ◌++◌, ℕ, List, length, slice_index, slice_range};
 ghost use Rattle.mod_layout.specs.Tables.{IsSection};
 ghost use Rattle.mod_keys.specs.Fed.{IsFed};
 ghost use Rattle.mod_keys.specs.Keys.{identity, module_key, tag_of};
@@ -47,7 +47,7 @@ pub fn key_of(memory: &Memory, node_key: &[u8; 16], module: &Module) -> [u8; 16]
 {
     let mut hmac = Hmac::new(&provider_key(node_key, module.vendor));
     feed_identity(&mut hmac, memory, module);
-    front(hmac.finish())
+    hmac.tag()
 }
 
 /// The tag of the identity of `other` under the key of `own`.
@@ -59,7 +59,7 @@ pub fn identity_tag(memory: &Memory, node_key: &[u8; 16], own: &Module, other: &
 {
     let mut hmac = Hmac::new(&key_of(memory, node_key, own));
     feed_identity(&mut hmac, memory, other);
-    front(hmac.finish())
+    hmac.tag()
 }
 
 /// The tag of the bytes from `start`, below `end`, under the key of `own`.
@@ -79,14 +79,5 @@ pub fn message_tag(
 {
     let mut hmac = Hmac::new(&key_of(memory, node_key, own));
     feed(&mut hmac, memory, start, end);
-    front(hmac.finish())
-}
-
-/// The first 16 bytes of a HMAC.
-pub fn front(hmac: [u8; 32]) -> [u8; 16]
-    ensures { result ≡ take 16 hmac }
-{
-    let mut tag = [0; 16];
-    tag.copy_from_slice(&hmac[..16]);
-    tag
+    hmac.tag()
 }

@@ -1,15 +1,15 @@
 //! One unit instruction.
 
-ghost use Rattle.std.specs.Prelude.{◌≡◌, ◌+◌, ◌<◌, ◌^◌, ◌&&◌, ℕ, List, Some, None, false, if◌then◌else◌, IfOk, IfErr, OnErr, OnOk, OnSome, IfSome};
+ghost use Rattle.std.specs.Prelude.{◌≡◌, ◌+◌, ◌<◌, ◌^◌, ◌&&◌, ℕ, List, Some, None, false, if◌then◌else◌, IfOk, IfErr, OnErr, OnOk, IfSome};
 ghost use Rattle.sm_words.specs.Words.{put};
 ghost use Rattle.mod_layout.specs.Table.{place_of};
 ghost use Rattle.mod_layout.specs.Tables.{IsModule, IsTable};
 ghost use Rattle.pc_access.specs.Rights.{first_denied};
 ghost use Rattle.attest.specs.Units.{Attest, CallerId, IdOf, OwnId, Protect, Tag, Unprotect, blocks, caller_or_zero, id_or_zero, in_range, new_ram, new_text, place_id, text_at, unit_named, unit_plan};
-ghost use Rattle.attest.specs.Done.{IsDone, doer, own_of};
+ghost use Rattle.attest.specs.Done.{IsDone, doer};
 
 use crate::hash::{identity_tag, message_tag};
-use crate::memory::{clear, stands_at, store};
+use crate::memory::{stands_at, store};
 use crate::rights::{check, in_range};
 use crate::{UnitDone, Who};
 use mem_map::Memory;
@@ -63,10 +63,10 @@ pub fn unit(
 fn unprotect(core: &mut Core, table: &ModuleTable, who: Who) -> UnitDone
     ensures { (key mem : List ℕ) → IsDone (doer table.now who key) Unprotect core.old mem core.new mem table.now result }
 {
-    match own_module(table, who) {
+    match table.own(who.active) {
         None => answer(core, 0, SHORT),
         Some(own) => UnitDone {
-            cycles: SHORT + u32::from(own.ram.end - own.ram.start) / 2,
+            cycles: SHORT + u32::from(own.ram.len()) / 2,
             closing: true,
             made: 0,
         },
@@ -87,8 +87,8 @@ fn protect(core: &mut Core, memory: &mut Memory, table: &mut ModuleTable, who: W
     match table.add(core.get(11), text, ram) {
         Err(_) => answer(core, 0, SHORT),
         Ok(id) => {
-            clear(memory, ram);
-            let length = u32::from(text.end - text.start);
+            memory.clear(ram);
+            let length = u32::from(text.len());
             let done = answer(
                 core,
                 id,
@@ -137,7 +137,7 @@ fn attest(
     ensures core_kept { OnErr result (core.new ≡ core.old) }
 {
     let expected = core.get(13);
-    let Some(own) = own_module(table, who) else {
+    let Some(own) = table.own(who.active) else {
         return Ok(answer(core, 0, SHORT));
     };
     let Some(other) = text_module(table, core.get(12)) else {
@@ -151,7 +151,7 @@ fn attest(
     }
     let tag = identity_tag(memory, node_key, &own, &other);
     let id = id_if(stands_at(memory, expected, &tag), other.id);
-    let length = u32::from(other.text.end - other.text.start);
+    let length = u32::from(other.text.len());
     Ok(answer(core, id, SHORT + 64 * hmac_blocks(length + 8)))
 }
 
@@ -175,7 +175,7 @@ fn tag(
     let start = core.get(12);
     let end = core.get(13);
     let output = core.get(14);
-    let Some(own) = own_module(table, who) else {
+    let Some(own) = table.own(who.active) else {
         return Ok(answer(core, 0, SHORT));
     };
     if !has_ranges(start, end, output) {
@@ -212,7 +212,7 @@ fn id_of(core: &mut Core, table: &ModuleTable, who: Who) -> UnitDone
 fn own_id(core: &mut Core, table: &ModuleTable, who: Who) -> UnitDone
     ensures { (key mem : List ℕ) → IsDone (doer table.now who key) OwnId core.old mem core.new mem table.now result }
 {
-    let own = own_module(table, who);
+    let own = table.own(who.active);
     answer(core, id_or_zero(own), SHORT)
 }
 
@@ -220,7 +220,7 @@ fn own_id(core: &mut Core, table: &ModuleTable, who: Who) -> UnitDone
 fn caller_id(core: &mut Core, table: &ModuleTable, who: Who) -> UnitDone
     ensures { (key mem : List ℕ) → IsDone (doer table.now who key) CallerId core.old mem core.new mem table.now result }
 {
-    let own = own_module(table, who);
+    let own = table.own(who.active);
     answer(core, caller_or_zero(own, who.caller), SHORT)
 }
 
@@ -268,15 +268,6 @@ fn answer(core: &mut Core, value: u16, cycles: u32) -> UnitDone
         closing: false,
         made: 0,
     }
-}
-
-/// The active module.
-fn own_module(table: &ModuleTable, who: Who) -> Option<Module>
-    ensures own { result ≡ own_of who.active table.now }
-    ensures kept { IfSome result (IsModule table.now.given) }
-    ensures table { OnSome result (IsTable table.now) }
-{
-    table.get(who.active?).copied()
 }
 
 /// The module whose text holds an address.

@@ -1,13 +1,11 @@
 //! Bytes of the memory in a row.
 
-ghost use Rattle.std.specs.Prelude.{◌≡◌, ◌+◌, ◌≤◌, length, replicate, slice_range};
-ghost use Rattle.mod_layout.specs.Table.{size_of};
+ghost use Rattle.std.specs.Prelude.{◌≡◌, ◌+◌, ◌≤◌, length, slice_range};
 ghost use Rattle.pc_access.specs.declared.Kind.TheVariants.{Write};
 ghost use Rattle.attest.specs.Units.{each_byte, same_bytes};
 ghost use Rattle.attest.specs.Accesses.{stored_in};
 
 use mem_map::Memory;
-use mod_layout::Section;
 
 /// Whether these 16 bytes stand from `addr` on.
 pub fn stands_at(memory: &Memory, addr: u16, tag: &[u8; 16]) -> bool
@@ -30,16 +28,5 @@ pub fn store(memory: &mut Memory, addr: u16, tag: &[u8; 16])
 {
     for i in 0..16 {
         memory.set_byte(addr + i, tag[usize::from(i)]);
-    }
-}
-
-/// Sets a section's bytes to 0.
-pub fn clear(memory: &mut Memory, section: Section)
-    requires { section.start ≤ section.end }
-    ensures { memory.new.bytes ≡ stored_in memory.old.bytes (each_byte Write section.start (size_of section))
-        (replicate (size_of section) 0) }
-{
-    for addr in section.start..section.end {
-        memory.set_byte(addr, 0);
     }
 }

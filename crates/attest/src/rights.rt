@@ -4,7 +4,7 @@ ghost use Rattle.std.specs.Prelude.{◌≡◌, ◌≢◌, ◌+◌, ◌≤◌, �
 ghost use Rattle.pc_access.specs.Rights.{first_denied, right};
 ghost use Rattle.attest.specs.Units.{each_byte, in_range};
 
-use mod_layout::ModuleTable;
+use mod_layout::{DEVICES_END, ModuleTable};
 use pc_access::{Denied, Kind, allowed};
 use sm_words::Width;
 
@@ -13,7 +13,7 @@ use sm_words::Width;
 pub fn in_range(start: u32, end: u32) -> bool
     ensures { result ≡ in_range start end }
 {
-    0x0200 <= start && end <= 0x10000 && start <= end
+    u32::from(DEVICES_END) <= start && end <= 0x10000 && start <= end
 }
 
 /// Whether so many bytes from `start` on may be read or written; the first refusal where not.

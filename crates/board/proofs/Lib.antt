@@ -3,6 +3,7 @@ pub mod Kept
 pub mod Through
 pub mod Units
 pub mod Runs
+pub mod Idle
 pub mod Seen
 pub mod Cycles
 pub mod Parts

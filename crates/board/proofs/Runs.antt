@@ -7,6 +7,7 @@ use Rattle.pc_access.specs.declared.Stop.{Stop}
 use Rattle.tracer.specs.Lines.{event_line}
 use Rattle.tracer.specs.declared.Event.{Event}
 use Rattle.written_machine.specs.Cycle.{Step, quiet, cycle, cycle_by, after_cycles}
+use Rattle.written_machine.specs.Passing.{Leads}
 use Rattle.written_machine.specs.State.{State}
 use Rattle.written_machine.specs.Trace.{lines_of, lines_after}
 use Rattle.board.specs.declared.Ran.{Ran}
@@ -98,3 +99,18 @@ ended_runs taken faults sure n old new before after r whole e = subst (λ x. Run
 pub lines_flat : (c : ℕ) (es : List Event) → flat_map (event_line c) es ≡ lines_of c es
 lines_flat c [] = refl
 lines_flat c (e ∷ es) = ap (λ (l : List ℕ). event_line c e ++ l) (lines_flat c es)
+
+-- cycles without events after a run
+pub state_led : (n k : ℕ) (s t u : State) → t ≡ after_cycles s n → Leads k t u → u ≡ after_cycles s (n + k)
+state_led n k s t u at led = led.state ∙ ap (λ (x : State). after_cycles x k) at ∙ sym (state_split n k s)
+
+-- they have no lines
+pub silent_lines : (n : ℕ) (s : State) → ((m : ℕ) → m < n → (cycle (after_cycles s m)).events ≡ []) → lines_after s n ≡ []
+silent_lines zero s silent = refl
+silent_lines (suc n) s silent =
+    ap (λ (es : List Event). lines_after s n ++ lines_of (after_cycles s n).cycle es) (silent n (omega arith))
+    ∙ ap (λ (l : List ℕ). l ++ []) (silent_lines n s (λ m h. silent m (omega (arith, h))))
+
+pub lines_led : (n k : ℕ) (s t u : State) → t ≡ after_cycles s n → Leads k t u → lines_after s n ≡ lines_after s (n + k)
+lines_led n k s t u at led =
+    sym (lines_split n k s ∙ ap (λ (x : State). lines_after s n ++ lines_after x k) (sym at) ∙ ap (λ (l : List ℕ). lines_after s n ++ l) (silent_lines k t led.events) ∙ append-nil (lines_after s n))

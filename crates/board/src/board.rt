@@ -4,6 +4,7 @@ ghost use Rattle.std.specs.Prelude.{◌≡◌, ◌+◌, ◌<◌, ◌≤◌, ◌^
 ghost use Rattle.isolation.specs.Calls.{stop_in};
 ghost use Rattle.written_machine.specs.Checks.{refused_in};
 ghost use Rattle.written_machine.specs.Cycle.{cycle};
+ghost use Rattle.written_machine.specs.Passing.{Leads};
 ghost use Rattle.written_machine.specs.Script.{stands_at};
 ghost use Rattle.written_machine.specs.Trace.{end_of, end_line_of, lines_of};
 ghost use Rattle.written_machine.specs.View.{boot};
@@ -105,7 +106,8 @@ impl Board {
         ensures ran { Runs S.taken S.faults S.sure cycles self.old self.new sink.old sink.new result }
         ensures number { self.new.cycle ≤ self.old.cycle + cycles }
     {
-        for _done in 0..cycles {
+        let mut left = cycles;
+        while left > 0 {
             if self.is_stopped() {
                 return self.ended();
             }
@@ -115,8 +117,20 @@ impl Board {
                 Ok(()) => {}
                 Err(Failed) => return Ran::SinkFailed,
             }
+            left -= 1;
+            left -= self.pass_idle(left);
         }
         self.ended()
+    }
+
+    // Lets at most so many cycles pass in which nothing begins and nothing arrives, and gives how many passed.
+    fn pass_idle(&mut self, most: u64) -> u64
+        requires { self.old.cycle + most ≤ 2 ^ 62 }
+        ensures most { result ≤ most }
+        ensures leads { Leads result self.old self.new }
+        ensures number { self.new.cycle ≤ self.old.cycle + result }
+    {
+        self.machine.pass_idle(most)
     }
 
     // Whether it is stopped.

@@ -1,10 +1,10 @@
 //! The machine's parts, and one cycle of them.
 
-ghost use Rattle.std.specs.Prelude.{◌≡◌, ◌+◌, ◌<◌, ◌≤◌, ◌^◌, ◌∷◌, ◌++◌, [], length, option_to_list, IfSome, None};
+ghost use Rattle.std.specs.Prelude.{◌≡◌, ◌+◌, ◌<◌, ◌≤◌, ◌^◌, ◌∷◌, ◌++◌, ◌&&◌, [], nat_lt, length, option_to_list, IfSome, None};
 ghost use Rattle.arrayvec.specs.ArrayVec.{array_vec_len};
 ghost use Rattle.sm_words.specs.Words.{word_at, IsCore};
 ghost use Rattle.attest.specs.Done.{own_of};
-ghost use Rattle.written_machine.specs.Cycle.{pc_of, gie as gie_of, asleep, stopped, denied, vector_in, ticked, due, counted_by, told, move, cycle, quiet};
+ghost use Rattle.written_machine.specs.Cycle.{pc_of, gie as gie_of, asleep, stopped, denied, vector_in, raised, has_room};
 ghost use Rattle.board.specs.Standing.{state_of, clock_of};
 ghost use Rattle.board.specs.Sound.{is_held_first, IsSound, Stands};
 
@@ -51,7 +51,7 @@ impl Machine {
     }
 
     /// Whether interrupts may arrive.
-    fn gie(&self) -> bool
+    pub fn gie(&self) -> bool
         ensures { result ≡ gie_of self.now.core }
     {
         self.core.get(2) / 8 % 2 == 1
@@ -79,18 +79,24 @@ impl Machine {
         self.port.memory.word(0xffe0 + 2 * u16::from(vector))
     }
 
-    /// The vector that arrives, if there is one.
-    #[tactic(auto, using(crate::proofs::Parts::line_low), unfolding(written_machine::specs::Cycle::due))]
-    pub fn due(&self) -> Option<u8>
-        ensures vector { result ≡ due (state_of self.now) }
+    /// The vector that is raised, where interrupts may arrive.
+    #[tactic(auto, using(crate::proofs::Parts::line_low), unfolding(written_machine::specs::Cycle::raised))]
+    pub fn raised(&self) -> Option<u8>
+        ensures vector { result ≡ raised (state_of self.now) }
         ensures low { IfSome result (λ v. v ≤ 15) }
-        ensures room { IfSome result (λ v. length self.now.frames < 8) }
     {
-        if self.gie() && self.frames.kind(MOST_FRAMES - 1).is_none() {
+        if self.gie() {
             self.port.bus.line()
         } else {
             None
         }
+    }
+
+    /// Whether there is room for a frame.
+    pub fn has_room(&self) -> bool
+        ensures { result ≡ has_room (state_of self.now) }
+    {
+        self.frames.kind(MOST_FRAMES - 1).is_none()
     }
 
     /// Whether the newest frame is a module's.

@@ -1,9 +1,14 @@
 -- What an instruction does once its reads gave their values: the instruction set of the
 -- MSP430x1xx Family User's Guide (SLAU049), section 3.4.
-use Rattle.std.specs.Prelude.{ℕ, ◌+◌, ◌-◌, ◌*◌, ◌/◌, ◌%◌, List, [], ◌∷◌, drop, ◌==◌, if◌then◌else◌, Bool, true, false, not, ℤ, pos, negsuc, bit_and, bit_or}
+use Rattle.std.specs.Prelude.{ℕ, List, [], ◌∷◌, drop, ◌==◌, Bool, true, false, not, if◌then◌else◌, ℤ, bit_and, bit_or}
 use Rattle.sm_words.specs.Sums.{low, one_if, complement, sum_of, dadd_of, and_of, xor_of, rrc_of, rra_of, sxt_of, swpb_of}
 use Rattle.sm_words.specs.Words.{nth, reg, put, bit, add16}
+use Rattle.sm_words.specs.Status.{sr_with_flags}
+pub use Rattle.sm_words.specs.Status.{confined_sr}
+use Rattle.sm_words.specs.declared.registers.TheConstants.{PC, SP, SR}
+use Rattle.sm_words.specs.declared.status.TheConstants.{CARRY, ZERO, NEGATIVE, OVERFLOW}
 use Rattle.sm_words.specs.declared.width.Width.{Width}
+use Rattle.insn_decode.specs.Code.{distance}
 use Rattle.insn_decode.specs.declared.insn.Insn.{Insn}
 use Rattle.insn_decode.specs.declared.insn.Insn.TheVariants.{Two, One, Jump, Reti, Unit as UnitOp}
 use Rattle.insn_decode.specs.declared.insn.OneOp.{OneOp}
@@ -54,21 +59,22 @@ pub record Done : Type 0 where
   pub core : List ℕ
   pub stored : List ℕ
 
--- SR with a result's flags: bits 0 C, 1 Z, 2 N and 8 V
+-- SR with a result's flags
 abbrev pub with_flags : Computed → ℕ → ℕ
 with_flags (Plain v) sr = sr
-with_flags (Flagged s) sr = one_if s.c + 2 * one_if s.z + 4 * one_if s.n + 8 * ((sr / 8) % 32) + 256 * one_if s.v
+with_flags (Flagged s) sr = sr_with_flags s sr
 
 -- the core with a result's flags
 abbrev pub set_flags : Computed → List ℕ → List ℕ
-set_flags r core = put core 2 (with_flags r (reg core 2))
+set_flags r core = put core SR (with_flags r (reg core SR))
 
--- the value that an operand gives: of a register, of the instruction, or the first value read
+-- the value that an operand gives: of a register, of the instruction, or the low byte or the
+-- word of the first value read
 abbrev pub given : Operand → Width → List ℕ → List ℕ → ℕ
 given (Reg r) w core values = low w (reg core r)
 given (Const c) w core values = low w c
 given (Imm x) w core values = low w x
-given _ w core values = nth 0 values 0
+given _ w core values = low w (nth 0 values 0)
 
 -- whether an operand stands in memory
 abbrev pub in_memory : Operand → Bool
@@ -83,34 +89,29 @@ after_given o values = if in_memory o then drop 1 values else values
 
 -- a result put into a register: SR keeps what is written there, without flags
 abbrev pub into_register : Bool → ℕ → Computed → List ℕ → List ℕ
-into_register true r res core = put core 2 (value_of res)
+into_register true r res core = put core SR (value_of res)
 into_register false r res core = put (set_flags res core) r (value_of res)
 
 -- a result written into its operand, or its flags alone
 abbrev pub written : Bool → Operand → Computed → List ℕ → Done
-written true (Reg r) res core = record { core = into_register (r == 2) r res core; stored = [] }
+written true (Reg r) res core = record { core = into_register (r == SR) r res core; stored = [] }
 written true _ res core = record { core = set_flags res core; stored = value_of res ∷ [] }
 written false _ res core = record { core = set_flags res core; stored = [] }
 
 -- whether a jump is taken: JNE, JEQ, JNC, JC, JN, JGE, JL, JMP
 abbrev pub jumps : ℕ → ℕ → Bool
 jumps cond sr =
-    let c = bit 1 sr in let z = bit 2 sr in let n = bit 4 sr in let v = bit 256 sr in
+    let c = bit CARRY sr in let z = bit ZERO sr in let n = bit NEGATIVE sr in let v = bit OVERFLOW sr in
     nth cond ((z == 0) ∷ (z == 1) ∷ (c == 0) ∷ (c == 1) ∷ (n == 1) ∷ (n == v) ∷ not (n == v) ∷ true ∷ []) false
-
--- a signed number of words as a distance modulo 65,536
-abbrev pub distance : ℤ → ℕ
-distance (pos n) = (2 * n) % 65536
-distance (negsuc n) = 65536 - (2 * (n + 1)) % 65536
 
 -- the core past a jump that is taken, or not
 abbrev pub jumped : Bool → ℤ → List ℕ → List ℕ
-jumped true offset core = put core 0 (add16 (reg core 0) (distance offset))
+jumped true offset core = put core PC (add16 (reg core PC) (distance offset))
 jumped false offset core = core
 
 -- the core that RETI leaves: SR and PC are what it read, and SP rises by 4
 abbrev pub returned : ℕ → ℕ → List ℕ → List ℕ
-returned sr pc core = put (put (put core 2 sr) 0 pc) 1 (add16 (reg core 1) 4)
+returned sr pc core = put (put (put core SR sr) PC pc) SP (add16 (reg core SP) 4)
 
 -- the old value of a destination that is read, and else 0
 abbrev pub old_value : Bool → ℕ → ℕ
@@ -120,7 +121,7 @@ old_value false v = 0
 -- format II, where the operand is read and its increment is done: PUSH and CALL store at the lowered SP
 abbrev pub one_done : OneOp → Width → Operand → ℕ → ℕ → List ℕ → Done
 one_done Push w arg a c core = record { core = lowered core; stored = a ∷ [] }
-one_done Call w arg a c core = record { core = put (lowered core) 0 a; stored = reg core 0 ∷ [] }
+one_done Call w arg a c core = record { core = put (lowered core) PC a; stored = reg core PC ∷ [] }
 one_done op w arg a c core = written true arg (one_result op w a c) core
 
 -- an instruction with no regard to who runs it
@@ -130,22 +131,18 @@ does_freely (Two op w s d) core values =
     let core2 = stepped w s core1 in
     let a = given s w core1 values in
     let b = given d w core2 (after_given s values) in
-    written (writes_dst op) d (two_result op w a (old_value (reads_dst op) b) (bit 1 (reg core 2))) core2
+    written (writes_dst op) d (two_result op w a (old_value (reads_dst op) b) (bit CARRY (reg core SR))) core2
 does_freely (One op w arg) core values =
     let core1 = past (One op w arg) core in
-    one_done op w arg (given arg w core1 values) (bit 1 (reg core 2)) (stepped w arg core1)
+    one_done op w arg (given arg w core1 values) (bit CARRY (reg core SR)) (stepped w arg core1)
 does_freely (Jump cond off) core values =
-    record { core = jumped (jumps cond (reg core 2)) off (past (Jump cond off) core); stored = [] }
+    record { core = jumped (jumps cond (reg core SR)) off (past (Jump cond off) core); stored = [] }
 does_freely Reti core values = record { core = returned (nth 0 values 0) (nth 1 values 0) core; stored = [] }
 does_freely (UnitOp n) core values = record { core = past (UnitOp n) core; stored = [] }
 
--- inside a module SR keeps all bits but C, Z, N and V
-abbrev pub confined_sr : ℕ → ℕ → ℕ
-confined_sr old new = new % 8 + 8 * ((old / 8) % 32) + 256 * ((new / 256) % 2)
-
--- the new core, where a module runs
+-- the new core, where a module runs: SR keeps all bits but C, Z, N and V
 unfoldable pub confined : Bool → List ℕ → List ℕ → List ℕ
-confined true old new = put new 2 (confined_sr (reg old 2) (reg new 2))
+confined true old new = put new SR (confined_sr (reg old SR) (reg new SR))
 confined false old new = new
 
 -- an instruction, inside a module or outside

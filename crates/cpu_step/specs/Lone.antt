@@ -1,6 +1,7 @@
 -- A module by itself: what it does from an entry, and what it leaves.
 use Rattle.std.specs.Prelude.{◌≡◌, ℕ, zero, suc, ◌+◌, ◌-◌, ◌*◌, ◌/◌, ◌%◌, ◌<◌, List, [], ◌∷◌, map, slice_index, slice_set, if◌then◌else◌, Bool, true, false, ◌&&◌, ◌||◌, not, nat_lt, Option, Some, None, All}
-use Rattle.sm_words.specs.Words.{IsCore, reg, word_at}
+use Rattle.sm_words.specs.Words.{IsCore, reg, word_at, low_byte, high_byte}
+use Rattle.sm_words.specs.declared.registers.TheConstants.{PC}
 use Rattle.sm_words.specs.declared.width.Width.{Width}
 use Rattle.sm_words.specs.declared.width.Width.TheVariants.{Byte, Word}
 use Rattle.insn_decode.specs.Code.{insn_of, length_of}
@@ -12,7 +13,7 @@ use Rattle.pc_access.specs.Rights.{misaligned}
 use Rattle.pc_access.specs.declared.Access.{Access}
 use Rattle.pc_access.specs.declared.Kind.{Kind}
 use Rattle.pc_access.specs.declared.Kind.TheVariants.{Fetch, Read, Write}
-use Rattle.attest.specs.Accesses.{reads_of, writes_of}
+use Rattle.pc_access.specs.Accesses.{reads_of, writes_of, after_writes}
 use Rattle.attest.specs.Units.{Doer, UnitName, Protect, Attest, IdOf, unit_named}
 use Rattle.cpu_step.specs.Asked.{asks, effect}
 use Rattle.cpu_step.specs.Fetched.{insn_at}
@@ -98,14 +99,14 @@ if_home false next = None
 abbrev pub next_first : Option Insn → Job → Lone → Option Insn
 next_first None j l = None
 next_first (Some first) j l =
-    let pc = reg l.core 0 in
+    let pc = reg l.core PC in
     let n = length_of first in
     if_home (text_word j pc n 1 && text_word j pc n 2) (may_do j l (insn_at (lone_byte j l.data_bytes) pc n))
 
 -- the next instruction, or none where the module is broken: the machine would stop, a byte outside the
 -- two sections is accessed, or it is protect, attest or id of address
 unfoldable pub next_insn : Job → Lone → Option Insn
-next_insn j l = next_first (insn_of (word_at (lone_byte j l.data_bytes) (reg l.core 0)) 0 0) j l
+next_insn j l = next_first (insn_of (word_at (lone_byte j l.data_bytes) (reg l.core PC)) 0 0) j l
 
 -- what a read of this width gives
 abbrev pub value_at : Width → (ℕ → ℕ) → ℕ → ℕ
@@ -118,14 +119,12 @@ lone_read j d x = value_at x.width (lone_byte j d) x.addr
 
 -- the data after a write of this width
 abbrev pub lone_write : Module → Width → List ℕ → ℕ → ℕ → List ℕ
-lone_write m Byte d a v = slice_set d (a - m.ram.start) (v % 256)
-lone_write m Word d a v = slice_set (slice_set d (a - m.ram.start) (v % 256)) (a + 1 - m.ram.start) (v / 256 % 256)
+lone_write m Byte d a v = slice_set d (a - m.ram.start) (low_byte v)
+lone_write m Word d a v = slice_set (slice_set d (a - m.ram.start) (low_byte v)) (a + 1 - m.ram.start) (high_byte v)
 
 -- the data after these writes, each with its value
 abbrev pub lone_writes : Module → List ℕ → List Access → List ℕ → List ℕ
-lone_writes m d [] values = d
-lone_writes m d (x ∷ xs) [] = d
-lone_writes m d (x ∷ xs) (v ∷ values) = lone_writes m (lone_write m x.width d x.addr v) xs values
+lone_writes m d xs values = after_writes (λ bytes x v. lone_write m x.width bytes x.addr v) d xs values
 
 -- an instruction done in its first cycle; the rest is its cycles less 1
 unfoldable pub lone_does : Job → Insn → Lone → Lone
@@ -170,7 +169,7 @@ doing_by zero false true next = does_or_breaks next
 
 -- what the module does next
 unfoldable pub doing : Job → Lone → Doing
-doing j l = doing_by l.rest l.closing (holds j.owner.text (reg l.core 0)) (next_insn j l)
+doing j l = doing_by l.rest l.closing (holds j.owner.text (reg l.core PC)) (next_insn j l)
 
 -- an end stays as it is
 abbrev pub lone_step_by : Doing → Job → Lone → Lone
@@ -227,8 +226,8 @@ Even key m text n (e ∷ es) d1 d2 =
 -- an entry of the module: a core whose PC is the text's start, and a caller id
 pub record IsEntry (m : Module) (e : Entry_of) : Type 0 where
   pub core_ok : IsCore e.core
-  pub at_start : reg e.core 0 ≡ m.text.start
-  pub caller_ok : e.caller < 65536
+  pub at_start : reg e.core PC ≡ m.text.start
+  pub caller_ok : e.caller < 0x10000
 
 -- two data that no list of calls and no number of cycles tells apart
 abbrev pub AlwaysEven : List ℕ → Module → List ℕ → List ℕ → List ℕ → Type 0

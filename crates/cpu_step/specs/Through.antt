@@ -4,7 +4,7 @@ use Rattle.sm_words.specs.declared.width.Width.{Width}
 use Rattle.insn_decode.specs.declared.insn.Insn.{Insn}
 use Rattle.pc_access.specs.Rights.{misaligned}
 use Rattle.pc_access.specs.declared.Access.{Access}
-use Rattle.attest.specs.Accesses.{reads_of, writes_of}
+use Rattle.pc_access.specs.Accesses.{reads_of, writes_of, after_writes}
 use Rattle.cpu_step.specs.Effect.{does}
 use Rattle.cpu_step.specs.Plan.{plan}
 
@@ -26,9 +26,7 @@ taken answer after_read s (x ∷ xs) =
 
 -- the state after these writes, one after another, each with its value
 abbrev pub stored_in : {S : Type 0} → (S → Width → ℕ → ℕ → S) → S → List Access → List ℕ → S
-stored_in after_write s [] values = s
-stored_in after_write s (x ∷ xs) [] = s
-stored_in after_write s (x ∷ xs) (v ∷ values) = stored_in after_write (after_write s x.width x.addr v) xs values
+stored_in after_write s xs values = after_writes (λ t x v. after_write t x.width x.addr v) s xs values
 
 -- the core and the port's state after an instruction
 pub record After (S : Type 0) : Type 0 where

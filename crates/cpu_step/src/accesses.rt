@@ -10,22 +10,22 @@ use crate::operand::{increment, place};
 use arrayvec::ArrayVec;
 use insn_decode::{Insn, OneOp, Operand, TwoOp};
 use pc_access::{Access, Kind};
-use sm_words::{Core, Width};
+use sm_words::{Core, PC, SP, Width};
 
 /// Moves PC past the instruction.
 pub fn step_past(insn: &Insn, core: &mut Core)
     ensures { core.new ≡ past insn.now core.old }
 {
-    let next = core.get(0).wrapping_add(2 * insn.length());
-    core.put(0, next);
+    let next = core.pc().wrapping_add(2 * insn.length());
+    core.put(PC, next);
 }
 
 /// Lowers SP by 2.
 pub fn lower(core: &mut Core)
     ensures { core.new ≡ lowered core.old }
 {
-    let lowered = core.get(1).wrapping_sub(2);
-    core.put(1, lowered);
+    let lowered = core.sp().wrapping_sub(2);
+    core.put(SP, lowered);
 }
 
 /// MOV does not read its destination.
@@ -44,9 +44,9 @@ pub fn writes_destination(op: TwoOp) -> bool
 
 /// Where the first extension word stands.
 fn extension(core: &Core) -> u16
-    ensures { result ≡ add16 (reg core.now 0) 2 }
+    ensures { result ≡ add16 (reg core.now PC) 2 }
 {
-    core.get(0).wrapping_add(2)
+    core.pc().wrapping_add(2)
 }
 
 /// Where the destination's extension word stands, behind the source's.
@@ -146,7 +146,7 @@ fn plan_one(insn: &Insn, op: OneOp, width: Width, arg: Operand, core: &Core) -> 
     lower(&mut after);
     let mut accesses = ArrayVec::new();
     add_access(&mut accesses, true, Kind::Read, width, operand);
-    add_write(&mut accesses, op, width, operand, after.get(1));
+    add_write(&mut accesses, op, width, operand, after.sp());
     accesses
 }
 
@@ -155,7 +155,7 @@ fn plan_one(insn: &Insn, op: OneOp, width: Width, arg: Operand, core: &Core) -> 
 fn plan_reti(core: &Core) -> ArrayVec<Access, 3>
     ensures { result.items ≡ plan Insn.Reti core.now }
 {
-    let sp = core.get(1);
+    let sp = core.sp();
     let mut accesses = ArrayVec::new();
     add_access(&mut accesses, true, Kind::Read, Width::Word, Some(sp));
     add_access(

@@ -3,15 +3,17 @@
 ghost use Rattle.std.specs.Prelude.{◌≡◌, ◌==◌, [], ◌∷◌, true};
 ghost use Rattle.sm_words.specs.Sums.{one_if};
 ghost use Rattle.sm_words.specs.Words.{add16, bit, nth, reg};
+ghost use Rattle.sm_words.specs.declared.status.TheConstants.{CARRY};
+ghost use Rattle.insn_decode.specs.Code.{distance};
 ghost use Rattle.cpu_step.specs.Plan.{reads_dst, writes_dst};
-ghost use Rattle.cpu_step.specs.Effect.{given, set_flags, into_register, written, jumps, distance, jumped, old_value, one_done, does_freely, confined, does};
+ghost use Rattle.cpu_step.specs.Effect.{given, set_flags, into_register, written, jumps, jumped, old_value, one_done, does_freely, confined, does};
 
 use crate::accesses::{lower, reads_destination, step_past, writes_destination};
 use crate::operand::{after_given, given, increment};
 use crate::result::{Computed, one_result, two_result};
 use arrayvec::ArrayVec;
 use insn_decode::{Insn, OneOp, Operand, TwoOp};
-use sm_words::{Core, Width};
+use sm_words::{Core, PC, SP, SR, Width, status};
 
 /// The value that an instruction stores, if it stores one.
 pub type Stored = ArrayVec<u16, 1>;
@@ -29,15 +31,15 @@ fn one(value: u16) -> Stored
 fn set_flags(computed: &Computed, core: &mut Core)
     ensures { core.new ≡ set_flags computed.now core.old }
 {
-    let sr = computed.with_flags(core.get(2));
-    core.put(2, sr);
+    let sr = computed.with_flags(core.sr());
+    core.put(SR, sr);
 }
 
 /// Puts a result into a register: SR keeps what is written there, without flags.
 fn put_result(reg: u8, computed: &Computed, core: &mut Core)
-    ensures { core.new ≡ into_register (reg == 2) reg computed.now core.old }
+    ensures { core.new ≡ into_register (reg == SR) reg computed.now core.old }
 {
-    if reg != 2 {
+    if reg != SR {
         set_flags(computed, core);
     }
     core.put(reg, computed.value());
@@ -59,9 +61,9 @@ fn write_result(operand: Operand, computed: &Computed, core: &mut Core) -> Store
 
 /// The carry flag.
 fn carry(core: &Core) -> bool
-    ensures { one_if result ≡ bit 1 (reg core.now 2) }
+    ensures { one_if result ≡ bit CARRY (reg core.now SR) }
 {
-    core.get(2) % 2 == 1
+    status::is_set(status::CARRY, core.sr())
 }
 
 /// The old value of the destination, where it is read, and else 0.
@@ -129,9 +131,9 @@ fn finish_one(
             one(operand)
         }
         OneOp::Call => {
-            let next = core.get(0);
+            let next = core.pc();
             lower(core);
-            core.put(0, operand);
+            core.put(PC, operand);
             one(next)
         }
         OneOp::Rrc | OneOp::Swpb | OneOp::Rra | OneOp::Sxt => {
@@ -164,16 +166,16 @@ fn do_one(
 fn jumps(cond: u8, sr: u16) -> bool
     ensures { result ≡ jumps cond sr }
 {
-    let c = sr % 2;
-    let z = sr / 2 % 2;
-    let n = sr / 4 % 2;
-    let v = sr / 256 % 2;
+    let c = status::is_set(status::CARRY, sr);
+    let z = status::is_set(status::ZERO, sr);
+    let n = status::is_set(status::NEGATIVE, sr);
+    let v = status::is_set(status::OVERFLOW, sr);
     match cond {
-        0 => z == 0,
-        1 => z == 1,
-        2 => c == 0,
-        3 => c == 1,
-        4 => n == 1,
+        0 => !z,
+        1 => z,
+        2 => !c,
+        3 => c,
+        4 => n,
         5 => n == v,
         6 => n != v,
         7 => true,
@@ -193,8 +195,8 @@ fn jump(taken: bool, offset: i16, core: &mut Core)
     ensures { core.new ≡ jumped taken offset core.old }
 {
     if taken {
-        let target = target(core.get(0), offset);
-        core.put(0, target);
+        let target = target(core.pc(), offset);
+        core.put(PC, target);
     }
 }
 
@@ -204,7 +206,7 @@ fn do_jump(insn: &Insn, cond: u8, offset: i16, core: &mut Core, values: &[u16])
     ensures { core.new ≡ (does_freely insn.now core.old values.now).core }
 {
     let _ = values;
-    let taken = jumps(cond, core.get(2));
+    let taken = jumps(cond, core.sr());
     step_past(insn, core);
     jump(taken, offset, core);
 }
@@ -221,10 +223,10 @@ fn value_at(values: &[u16], n: usize) -> u16
 fn do_reti(core: &mut Core, values: &[u16])
     ensures { core.new ≡ (does_freely Insn.Reti core.old values.now).core }
 {
-    let sp = core.get(1).wrapping_add(4);
-    core.put(2, value_at(values, 0));
-    core.put(0, value_at(values, 1));
-    core.put(1, sp);
+    let sp = core.sp().wrapping_add(4);
+    core.put(SR, value_at(values, 0));
+    core.put(PC, value_at(values, 1));
+    core.put(SP, sp);
 }
 
 /// An instruction with no regard to who runs it.
@@ -262,9 +264,9 @@ fn confine(inside: bool, before: &Core, core: &mut Core)
     ensures { core.new ≡ confined inside before.now core.old }
 {
     if inside {
-        let old = before.get(2);
-        let new = core.get(2);
-        core.put(2, new % 8 + 8 * (old / 8 % 32) + 256 * (new / 256 % 2));
+        let old = before.sr();
+        let new = core.sr();
+        core.put(SR, status::confine(old, new));
     }
 }
 

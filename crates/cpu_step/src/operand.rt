@@ -1,22 +1,11 @@
 //! Operands: where they stand, and what they give.
 
 ghost use Rattle.std.specs.Prelude.{◌≡◌};
-ghost use Rattle.sm_words.specs.Sums.{low};
 ghost use Rattle.cpu_step.specs.Plan.{place, step_of, stepped};
 ghost use Rattle.cpu_step.specs.Effect.{given, in_memory, after_given};
 
 use insn_decode::Operand;
-use sm_words::{Core, Width};
-
-/// The low byte, or the word.
-fn low(width: Width, value: u16) -> u16
-    ensures { result ≡ low width value }
-{
-    match width {
-        Width::Byte => value % 256,
-        Width::Word => value,
-    }
-}
+use sm_words::{Core, SP, Width};
 
 /// The operand's address in memory, where it has one; its extension word stands at `ext`.
 pub fn place(operand: Operand, core: &Core, ext: u16) -> Option<u16>
@@ -36,7 +25,7 @@ fn step(width: Width, reg: u8) -> u16
     ensures { result ≡ step_of width reg }
 {
     match width {
-        Width::Byte if reg != 1 => 1,
+        Width::Byte if reg != SP => 1,
         Width::Byte | Width::Word => 2,
     }
 }
@@ -61,14 +50,15 @@ fn is_in_memory(operand: Operand) -> bool
     )
 }
 
-/// The value that the operand gives: of a register, of the instruction, or the first value read.
+/// The value that the operand gives: of a register, of the instruction, or the low byte or
+/// the word of the first value read.
 pub fn given(operand: Operand, width: Width, core: &Core, values: &[u16]) -> u16
     ensures { result ≡ given operand width core.now values.now }
 {
     match operand {
-        Operand::Reg(reg) => low(width, core.get(reg)),
-        Operand::Const(value) | Operand::Imm(value) => low(width, value),
-        _ => values.first().copied().unwrap_or(0),
+        Operand::Reg(reg) => width.low(core.get(reg)),
+        Operand::Const(value) | Operand::Imm(value) => width.low(value),
+        _ => width.low(values.first().copied().unwrap_or(0)),
     }
 }
 

@@ -1,11 +1,11 @@
 //! What the operations give.
 
 ghost use Rattle.std.specs.Prelude.{◌≡◌};
-ghost use Rattle.sm_words.specs.Sums.{one_if, complement};
+ghost use Rattle.sm_words.specs.Sums.{one_if};
 ghost use Rattle.cpu_step.specs.Effect.{value_of, two_result, one_result, with_flags};
 
 use insn_decode::{OneOp, TwoOp};
-use sm_words::{Sum, Width};
+use sm_words::{Sum, Width, status};
 
 /// What an operation gives.
 #[derive(Clone, Copy, Debug, PartialEq, Eq)]
@@ -27,30 +27,14 @@ impl Computed {
         }
     }
 
-    /// SR with the flags: bits 0 C, 1 Z, 2 N and 8 V.
+    /// SR with the flags.
     pub fn with_flags(&self, sr: u16) -> u16
         ensures { result ≡ with_flags self.now sr }
     {
         match self {
             Computed::Plain(_) => sr,
-            Computed::Flagged(sum) => {
-                u16::from(sum.c)
-                    + 2 * u16::from(sum.z)
-                    + 4 * u16::from(sum.n)
-                    + 8 * (sr / 8 % 32)
-                    + 256 * u16::from(sum.v)
-            }
+            Computed::Flagged(sum) => status::with_flags(sum, sr),
         }
-    }
-}
-
-/// Each bit of a byte or a word turned.
-fn complement(width: Width, value: u16) -> u16
-    ensures { result ≡ complement width value }
-{
-    match width {
-        Width::Byte => 255 - value % 256,
-        Width::Word => 65535 - value,
     }
 }
 
@@ -58,7 +42,7 @@ fn complement(width: Width, value: u16) -> u16
 pub fn two_result(op: TwoOp, width: Width, source: u16, destination: u16, carry: bool) -> Computed
     ensures { result ≡ two_result op width source destination (one_if carry) }
 {
-    let turned = complement(width, source);
+    let turned = width.complement(source);
     match op {
         TwoOp::Mov => Computed::Plain(source),
         TwoOp::Add => Computed::Flagged(sm_words::add(destination, source, false, width)),

@@ -6,7 +6,7 @@ ghost use Rattle.pc_access.specs.Rights.{misaligned};
 ghost use Rattle.pc_access.specs.declared.Access.{Access};
 ghost use Rattle.insn_decode.specs.Code.{IsDecoded, is_unit};
 ghost use Rattle.cycle_table.specs.Cycles.{cycles_of};
-ghost use Rattle.attest.specs.Accesses.{reads_of, writes_of};
+ghost use Rattle.pc_access.specs.Accesses.{reads_of, writes_of};
 ghost use Rattle.cpu_step.specs.Plan.{plan};
 ghost use Rattle.cpu_step.specs.Through.{AreAligned, taken, stored_in, through};
 

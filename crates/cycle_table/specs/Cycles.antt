@@ -1,6 +1,7 @@
 -- The two tables of cycles (made after the MSP430x1xx Family User's Guide SLAU049, section 3.4.4).
 use Rattle.std.specs.Prelude.{ℕ, List, [], ◌∷◌, ◌==◌, if◌then◌else◌}
 use Rattle.sm_words.specs.Words.{nth}
+use Rattle.sm_words.specs.declared.registers.TheConstants.{PC}
 use Rattle.insn_decode.specs.declared.insn.OneOp.{OneOp}
 use Rattle.insn_decode.specs.declared.insn.OneOp.TheVariants.{Push, Call}
 use Rattle.insn_decode.specs.declared.insn.Operand.{Operand}
@@ -21,7 +22,7 @@ two_row (Absolute x) = 3 ∷ 3 ∷ 6 ∷ []
 
 -- the column of a destination: a register, PC, memory
 abbrev pub two_column : Operand → ℕ
-two_column (Reg r) = if r == 0 then 1 else 0
+two_column (Reg r) = if r == PC then 1 else 0
 two_column _ = 2
 
 -- format II: an operand's row, of RRC, RRA, SWPB and SXT, of PUSH and of CALL; 0 where there is none

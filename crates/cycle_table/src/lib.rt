@@ -6,6 +6,7 @@ ghost use Rattle.insn_decode.specs.Code.{IsDecoded, is_unit};
 ghost use Rattle.cycle_table.specs.Cycles.{cycles_of, two_row, two_column, one_row, one_column};
 
 use insn_decode::{Insn, OneOp, Operand};
+use sm_words::PC;
 
 /// The clock cycles of an instruction, 1 to 6. Those of a unit instruction depend on what it works on, so
 /// it is none.
@@ -44,7 +45,7 @@ fn two_column(dst: Operand) -> usize
     ensures within { result < 3 }
 {
     match dst {
-        Operand::Reg(0) => 1,
+        Operand::Reg(PC) => 1,
         Operand::Reg(_) => 0,
         _ => 2,
     }

@@ -1,7 +1,7 @@
 //! The padding of an interrupted module, and the case that a cycle ends in.
 #![tactic(auto)]
 
-ghost use Rattle.std.specs.Prelude.{◌≡◌, ◌-◌, ◌<◌, ◌≤◌};
+ghost use Rattle.std.specs.Prelude.{◌≡◌, ◌-◌, ◌<◌};
 ghost use Rattle.irq_padding.specs.Padding.{padding, stepped};
 
 use reg_backup::{After, Phase};
@@ -25,7 +25,6 @@ pub fn arrive() -> Phase
 /// The phase, and what is settled after it, once one of the `left` cycles of padding has passed. With
 /// none left the handler starts.
 pub fn pad_step(left: u8) -> (Phase, After)
-    requires { 0 < left }
     ensures { result ≡ padding (left - 1) }
 {
     pad_by(left, 1)
@@ -33,8 +32,7 @@ pub fn pad_step(left: u8) -> (Phase, After)
 
 /// The same once `n` of the `left` cycles of padding have passed.
 pub fn pad_by(left: u8, n: u8) -> (Phase, After)
-    requires some { 0 < n }
-    requires enough { n ≤ left }
+    requires { 0 < n }
     ensures stepped { result ≡ stepped n (Phase.Pad left, After.Next) }
     ensures padding { result ≡ padding (left - n) }
 {

@@ -22,7 +22,7 @@ use Rattle.attest.specs.Accesses.{reads_of}
 use Rattle.cpu_step.specs.Asked.{asks}
 use Rattle.cpu_step.specs.Fetched.{insn_at}
 use Rattle.cpu_step.specs.Lone.{Job, Lone, Doing, Waits, Closes, Leaves, Breaks, Does, doing, doing_by, next_insn, next_first, if_home, may_do, text_word, lone_does, lone_step_by, lone_read, lone_who, lone_byte, is_alone, all_inside, job_of}
-use Rattle.written_machine.specs.Cycle.{Step, quiet, told, pc_of, rest_of, due, arrive_inside, turn_by, turn, begin_unless, begin, enter_at, enter, fetch, act}
+use Rattle.written_machine.specs.Cycle.{Step, quiet, told, pc_of, rest_of, due, arrive_inside, turn, begin_unless, begin, enter_at, enter, fetch, act}
 use Rattle.written_machine.specs.Peers.{section}
 use Rattle.written_machine.specs.State.{State}
 use Rattle.isolation.proofs.Evenly.{Evenly, Together, next_together}
@@ -33,6 +33,7 @@ use Rattle.isolation.proofs.Lockstep.{Moves, moves_alike}
 use Rattle.isolation.proofs.Relation.{times, backup_of, run_by, run_of, lone_of, IsOpen, Secret, Open as IsOpenNow, Keeps, Ready, Alike, Outer, outer_alike, seen_inside, seen_active}
 use Rattle.isolation.proofs.Settled.{arrive_inside_stays}
 use Rattle.isolation.proofs.Settling.{arrive_hidden, due_hidden}
+use Rattle.isolation.proofs.Cases.{turn_at, turn_is}
 
 pub active_some : (m : ℕ) (a : Option ℕ) → is_id m a ≡ true → a ≡ Some m
 active_some m None e = cc
@@ -139,10 +140,9 @@ module _ (m : ℕ) (own : Module) (key text : List ℕ) (s : State) (k : Keeps m
       ap (λ d. begin_unless d left s) (fetch_allowed here) ∙ ap (λ e. told e.events (act e.state)) (enter_inside left)
 
   -- where nothing arrives
-  turn_to : (left : ℕ) (p : Phase) → due s ≡ None → s.phase ≡ p → turn left s ≡ turn_by None (Some m) p left s
-  unfolding turn
+  turn_to : (left : ℕ) (p : Phase) → due s ≡ None → s.phase ≡ p → turn left s ≡ turn_at None (Some m) p left s
   turn_to left p d e =
-      ap (λ v. turn_by v s.active s.phase left s) d ∙ ap (λ a. turn_by None a s.phase left s) active_is ∙ ap (λ q. turn_by None (Some m) q left s) e
+      turn_is left s ∙ ap (λ v. turn_at v s.active s.phase left s) d ∙ ap (λ a. turn_at None a s.phase left s) active_is ∙ ap (λ q. turn_at None (Some m) q left s) e
 
   here_lone : Lone
   here_lone = lone_of (backup_of m s) (section own.ram s.memory)
@@ -265,9 +265,8 @@ module _ (m : ℕ) (own : Module) (key text : List ℕ) (a b : State) (ready : R
   due_same = sym (due_hidden m own a) ∙ ap due ready.twins.seen ∙ due_hidden m own b
 
   arrive_turn : (v left : ℕ) (s : State) → s.active ≡ Some m → s.phase ≡ Run (rest_of s.phase) → due s ≡ Some v → turn left s ≡ arrive_inside v m s
-  unfolding turn
   arrive_turn v left s e p d =
-      ap (λ x. turn_by x s.active s.phase left s) d ∙ ap (λ x. turn_by (Some v) x s.phase left s) e ∙ ap (λ x. turn_by (Some v) (Some m) x left s) p
+      turn_is left s ∙ ap (λ x. turn_at x s.active s.phase left s) d ∙ ap (λ x. turn_at (Some v) x s.phase left s) e ∙ ap (λ x. turn_at (Some v) (Some m) x left s) p
 
   by_due : (left : ℕ) (d : Option ℕ) → due a ≡ d → due b ≡ d → Alike m own key text (turn left a) (turn left b)
   by_due left None da db =

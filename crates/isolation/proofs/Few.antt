@@ -23,8 +23,9 @@ use Rattle.attest.specs.Done.{own_of}
 use Rattle.cpu_step.specs.Asked.{asks, table_after}
 use Rattle.cpu_step.specs.Fetched.{insn_at}
 use Rattle.tracer.specs.declared.Event.{Event}
-use Rattle.written_machine.specs.Cycle.{Step, told, pc_of, byte_of, in_text, resume_from, close_of, leave_if, settle_by, settle_in, settle, ticked, due, arrive_inside, arrive_outside, push_both, pushes, who_of, perform, perform_unless, attempt, returned_by, reti_by, reti_of, act_by, act_on, act_home, act_first, act, is_home, enter_at, enter, fetch, begin_unless, begin, unless, asleep, turn_by, turn, sent_event, counted_by, move, cycle_by, cycle}
+use Rattle.written_machine.specs.Cycle.{Step, told, pc_of, byte_of, in_text, resume_from, close_of, leave_if, settle_by, settle_in, settle, ticked, due, arrive_inside, arrive_outside, push_both, pushes, who_of, perform, perform_unless, attempt, returned_by, reti_by, reti_of, act_by, act_on, act_home, act_first, act, is_home, enter_at, enter, fetch, begin_unless, begin, asleep, turn, sent_event, counted_by, move, cycle_by, cycle}
 use Rattle.written_machine.specs.State.{State}
+use Rattle.isolation.proofs.Cases.{turn_at, turn_unless, turn_is}
 
 abbrev AtMost : ℕ → List Event → Type 0
 AtMost n es = length es ≤ n
@@ -123,7 +124,7 @@ begin_few : (left : ℕ) (s : State) → AtMost 2 (begin left s).events
 unfolding begin
 begin_few left s = begin_by_few (right s.table s.active (held_ids s.frames) (fetch s)) left s
 
-asleep_few : (x : Bool) (left : ℕ) (s : State) → AtMost 2 (unless x left s).events
+asleep_few : (x : Bool) (left : ℕ) (s : State) → AtMost 2 (turn_unless x left s).events
 asleep_few true left s = omega arith
 asleep_few false left s = begin_few left s
 
@@ -139,7 +140,7 @@ inside_few : (v id : ℕ) (s : State) → AtMost 2 (arrive_inside v id s).events
 unfolding arrive_inside
 inside_few v id s = omega arith
 
-by_few : (d o : Option ℕ) (p : Phase) (left : ℕ) (s : State) → AtMost 2 (turn_by d o p left s).events
+by_few : (d o : Option ℕ) (p : Phase) (left : ℕ) (s : State) → AtMost 2 (turn_at d o p left s).events
 by_few d o (Pad n) left s = omega arith
 by_few (Some v) (Some id) (Run r) left s = inside_few v id s
 by_few (Some v) None (Run zero) left s = outside_few v s
@@ -150,8 +151,7 @@ by_few None None (Run zero) left s = asleep_few (asleep s) left s
 by_few None (Some id) (Run zero) left s = begin_few left s
 
 turn_few : (left : ℕ) (s : State) → AtMost 2 (turn left s).events
-unfolding turn
-turn_few left s = by_few (due s) s.active s.phase left s
+turn_few left s = subst (λ t. AtMost 2 t.events) (sym (turn_is left s)) (by_few (due s) s.active s.phase left s)
 
 -- ---- settling tells at most one
 resume_few : (fs : List Frame) (s : State) → AtMost 1 (resume_from fs s).events

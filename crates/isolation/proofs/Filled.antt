@@ -30,12 +30,13 @@ use Rattle.attest.specs.Accesses.{reads_of, writes_of}
 use Rattle.attest.specs.Done.{own_of}
 use Rattle.cpu_step.specs.Asked.{asks, effect}
 use Rattle.cpu_step.specs.Fetched.{insn_at}
-use Rattle.written_machine.specs.Cycle.{Step, told, pc_of, byte_of, in_text, cleared, resume_from, close_of, leave_if, settle_by, settle_in, settle, ticked, due, arrive_inside, arrive_outside, push_both, pushes, port_of, who_of, perform, perform_unless, attempt, returned_by, reti_by, reti_of, act_by, act_on, act_home, act_first, act, is_home, enter_at, enter, fetch, begin_unless, begin, padded, unless, asleep, turn_by, turn, counted_by, move, cycle_by}
+use Rattle.written_machine.specs.Cycle.{Step, told, pc_of, byte_of, in_text, cleared, resume_from, close_of, leave_if, settle_by, settle_in, settle, ticked, due, arrive_inside, arrive_outside, push_both, pushes, port_of, who_of, perform, perform_unless, attempt, returned_by, reti_by, reti_of, act_by, act_on, act_home, act_first, act, is_home, enter_at, enter, fetch, begin_unless, begin, padded, asleep, turn, counted_by, move, cycle_by}
 use Rattle.written_machine.specs.Ports.{Port, write_in, write_byte, write_width, take_reads, put_writes}
 use Rattle.written_machine.specs.State.{State}
 use Rattle.written_machine.specs.View.{at}
 use Rattle.isolation.proofs.Bytes.{length_cleared}
 use Rattle.isolation.proofs.Ports.{take_reads_memory}
+use Rattle.isolation.proofs.Cases.{turn_at, turn_unless, turn_is}
 
 pub record Filled (mem : List ℕ) : Type 0 where
   pub full : length mem ≡ 65536
@@ -154,7 +155,7 @@ begin_filled : (left : ℕ) (s : State) → Kept s (begin left s).state
 unfolding begin
 begin_filled left s h = begin_by_filled (right s.table s.active (held_ids s.frames) (fetch s)) left s h
 
-asleep_filled : (x : Bool) (left : ℕ) (s : State) → Kept s (unless x left s).state
+asleep_filled : (x : Bool) (left : ℕ) (s : State) → Kept s (turn_unless x left s).state
 asleep_filled true left s h = h
 asleep_filled false left s h = begin_filled left s h
 
@@ -174,7 +175,7 @@ padded_filled : (n : ℕ) (s : State) → Kept s (padded n s)
 padded_filled zero s h = h
 padded_filled (suc n) s h = h
 
-by_filled : (d o : Option ℕ) (p : Phase) (left : ℕ) (s : State) → Kept s (turn_by d o p left s).state
+by_filled : (d o : Option ℕ) (p : Phase) (left : ℕ) (s : State) → Kept s (turn_at d o p left s).state
 by_filled d o (Pad n) left s h = padded_filled (n - 1) s h
 by_filled (Some v) (Some id) (Run r) left s h = inside_filled v id s h
 by_filled (Some v) None (Run zero) left s h = outside_filled v s h
@@ -185,8 +186,7 @@ by_filled None None (Run zero) left s h = asleep_filled (asleep s) left s h
 by_filled None (Some id) (Run zero) left s h = begin_filled left s h
 
 turn_filled : (left : ℕ) (s : State) → Kept s (turn left s).state
-unfolding turn
-turn_filled left s h = by_filled (due s) s.active s.phase left s h
+turn_filled left s = subst (λ t. Kept s t.state) (sym (turn_is left s)) (by_filled (due s) s.active s.phase left s)
 
 -- ---- settling
 resume_filled : (fs : List Frame) (s : State) → Kept s (resume_from fs s).state

@@ -29,12 +29,13 @@ use Rattle.attest.specs.Done.{own_of}
 use Rattle.attest.specs.Units.{UnitName, Unprotect, Protect, Attest, Tag, IdOf, OwnId, CallerId, unit_named, new_text, new_ram, table_by}
 use Rattle.cpu_step.specs.Asked.{table_after, asks}
 use Rattle.cpu_step.specs.Fetched.{insn_at}
-use Rattle.written_machine.specs.Cycle.{Step, Settled, told, denied, unsettled, pc_of, byte_of, in_text, leave_if, close_of, resume_from, settle_by, settle_in, settle, ticked, due, arrive_inside, push_both, pushes, plain_if, arrive_outside, who_of, perform, perform_unless, attempt, without_newest, returned_by, reti_by, reti_of, act_by, act_on, act_home, act_first, act, is_home, enter_at, enter, fetch, begin_unless, begin, padded, unless, asleep, turn_by, turn, counted_by, move, cycle_by}
+use Rattle.written_machine.specs.Cycle.{Step, Settled, told, denied, unsettled, pc_of, byte_of, in_text, leave_if, close_of, resume_from, settle_by, settle_in, settle, ticked, due, arrive_inside, push_both, pushes, plain_if, arrive_outside, who_of, perform, perform_unless, attempt, without_newest, returned_by, reti_by, reti_of, act_by, act_on, act_home, act_first, act, is_home, enter_at, enter, fetch, begin_unless, begin, padded, asleep, turn, counted_by, move, cycle_by}
 use Rattle.written_machine.specs.State.{State}
 use Rattle.written_machine.specs.View.{at}
 use Rattle.isolation.proofs.Each.{Each}
 use Rattle.isolation.proofs.Gie.{effect_keeps, past_keeps}
 use Rattle.isolation.proofs.Tables.{taken, table_more, table_dropped}
+use Rattle.isolation.proofs.Cases.{turn_at, turn_unless, turn_is}
 
 -- ---- a write of a register keeps a core
 put_at : (core : List ℕ) (n v k : ℕ) → (reg (put core n v) k ≡ reg core k) ⊎ ((k ≡ n) × (reg (put core n v) k ≡ kept n v))
@@ -293,11 +294,11 @@ padded_fine : (n : ℕ) (s : State) → Fine s → Fine (padded n s)
 padded_fine zero s f = with_core s (padded zero s) f f.core_ok refl refl refl
 padded_fine (suc n) s f = with_core s (padded (suc n) s) f f.core_ok refl refl refl
 
-asleep_fine : (b : Bool) (left : ℕ) (s : State) → Fine s → Fine (unless b left s).state
+asleep_fine : (b : Bool) (left : ℕ) (s : State) → Fine s → Fine (turn_unless b left s).state
 asleep_fine true left s f = f
 asleep_fine false left s f = begin_fine left s f
 
-turn_by_fine : (d o : Option ℕ) (p : Phase) (left : ℕ) (s : State) → Fine s → s.active ≡ o → Fine (turn_by d o p left s).state
+turn_by_fine : (d o : Option ℕ) (p : Phase) (left : ℕ) (s : State) → Fine s → s.active ≡ o → Fine (turn_at d o p left s).state
 turn_by_fine d o (Pad n) left s f e = padded_fine (n - 1) s f
 turn_by_fine (Some v) (Some id) (Run r) left s f e = inside_fine v id s f e
 turn_by_fine (Some v) None (Run zero) left s f e = outside_fine v s f
@@ -308,8 +309,7 @@ turn_by_fine None None (Run zero) left s f e = asleep_fine (asleep s) left s f
 turn_by_fine None (Some id) (Run zero) left s f e = begin_fine left s f
 
 turn_fine : (left : ℕ) (s : State) → Fine s → Fine (turn left s).state
-unfolding turn
-turn_fine left s f = turn_by_fine (due s) s.active s.phase left s f refl
+turn_fine left s f = subst (λ t. Fine t.state) (sym (turn_is left s)) (turn_by_fine (due s) s.active s.phase left s f refl)
 
 counted_fine : (o : Option Stop) (t : Step) → Fine t.state → Fine (counted_by o t).state
 counted_fine (Some stop) t f = f

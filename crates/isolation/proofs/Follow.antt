@@ -10,7 +10,7 @@ use Rattle.reg_backup.specs.declared.backup.Backup.{Backup}
 use Rattle.reg_backup.specs.declared.backup.Phase.TheVariants.{Run}
 use Rattle.cpu_step.specs.Lone.{Job, Lone, Doing, Waits, Closes, Leaves, Breaks, Does, doing, lone_step_by, lone_step, job_of}
 use Rattle.tracer.specs.declared.Event.{Event}
-use Rattle.written_machine.specs.Cycle.{Step, told, rest_of, due, ticked, settle, turn_by, turn, arrive_inside, sent_event, counted_by, move, cycle_by}
+use Rattle.written_machine.specs.Cycle.{Step, told, rest_of, due, ticked, settle, turn, arrive_inside, sent_event, counted_by, move, cycle_by}
 use Rattle.written_machine.specs.Peers.{section}
 use Rattle.written_machine.specs.State.{State}
 use Rattle.isolation.specs.Calls.{works, NoEnd}
@@ -21,6 +21,7 @@ use Rattle.isolation.proofs.Lockstep.{Moves}
 use Rattle.isolation.proofs.Relation.{find_held, backup_of, run_by, run_of, lone_of, IsOpen, Keeps, Stays}
 use Rattle.isolation.proofs.Settled.{close_is, settle_stays, ticked_stays, arrive_inside_stays}
 use Rattle.isolation.proofs.Turns.{held_turn}
+use Rattle.isolation.proofs.Cases.{turn_at, turn_is}
 
 module _ (m : ℕ) (own : Module) (key text : List ℕ) (from : ℕ) where
   abbrev pub job : Job
@@ -111,9 +112,8 @@ module _ (m : ℕ) (own : Module) (key text : List ℕ) (from : ℕ) where
   goes left Breaks s la f act ok d e nb = absurd (nb refl)
 
   pub arrives_at : (v left : ℕ) (s : State) → s.active ≡ Some m → s.phase ≡ Run (rest_of s.phase) → due s ≡ Some v → turn left s ≡ arrive_inside v m s
-  unfolding turn
   arrives_at v left s e p d =
-      ap (λ x. turn_by x s.active s.phase left s) d ∙ ap (λ x. turn_by (Some v) x s.phase left s) e ∙ ap (λ x. turn_by (Some v) (Some m) x left s) p
+      turn_is left s ∙ ap (λ x. turn_at x s.active s.phase left s) d ∙ ap (λ x. turn_at (Some v) x s.phase left s) e ∙ ap (λ x. turn_at (Some v) (Some m) x left s) p
 
   turn_active : (left : ℕ) (d : Option ℕ) (s : State) (la : Lone) → Now s la → is_id m s.active ≡ true → IsCore s.core → due s ≡ d → (is_none d ≡ true → doing job la ≢ Breaks) → Follows (turn left s).state (stepped (is_none d) la)
   turn_active left None s la f act ok e nb = goes left (doing job la) s la f act ok e refl (nb refl)

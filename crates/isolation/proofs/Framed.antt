@@ -28,11 +28,12 @@ use Rattle.reg_backup.specs.declared.frames.Frame.TheVariants.{Plain, Module as 
 use Rattle.attest.specs.Done.{own_of}
 use Rattle.cpu_step.specs.Asked.{asks}
 use Rattle.cpu_step.specs.Fetched.{insn_at}
-use Rattle.written_machine.specs.Cycle.{Step, told, denied, pc_of, byte_of, in_text, gie, resume_from, close_of, leave_if, settle_by, settle_in, settle, ticked, due, vector_if, arrive_inside, plain_if, arrive_outside, push_both, pushes, who_of, perform, perform_unless, attempt, without_newest, returned_by, reti_by, reti_of, act_by, act_on, act_home, act_first, act, is_home, enter_at, enter, fetch, begin_unless, begin, padded, unless, asleep, turn_by, turn, counted_by, move, cycle_by}
+use Rattle.written_machine.specs.Cycle.{Step, told, denied, pc_of, byte_of, in_text, gie, resume_from, close_of, leave_if, settle_by, settle_in, settle, ticked, due, vector_if, arrive_inside, plain_if, arrive_outside, push_both, pushes, who_of, perform, perform_unless, attempt, without_newest, returned_by, reti_by, reti_of, act_by, act_on, act_home, act_first, act, is_home, enter_at, enter, fetch, begin_unless, begin, padded, asleep, turn, counted_by, move, cycle_by}
 use Rattle.written_machine.specs.State.{State}
 use Rattle.written_machine.specs.View.{at}
 use Rattle.isolation.specs.Calls.{times}
 use Rattle.isolation.proofs.Turns.{times_none}
+use Rattle.isolation.proofs.Cases.{turn_at, turn_unless, turn_is}
 
 abbrev pub is_resume : After → Bool
 is_resume Resume = true
@@ -168,7 +169,7 @@ begin_framed : (left : ℕ) (s : State) → Kept s (begin left s).state
 unfolding begin
 begin_framed left s h = begin_by_framed (right s.table s.active (held_ids s.frames) (fetch s)) left s refl h
 
-asleep_framed : (x : Bool) (left : ℕ) (s : State) → Kept s (unless x left s).state
+asleep_framed : (x : Bool) (left : ℕ) (s : State) → Kept s (turn_unless x left s).state
 asleep_framed true left s h = h
 asleep_framed false left s h = begin_framed left s h
 
@@ -217,12 +218,12 @@ inside_framed v id s a r h = record {
 
 padded_framed : (n : ℕ) (s : State) → Kept s (padded n s)
 padded_framed zero s h = record { once = h.once; few = h.few; idle = λ x. absurd (let c : true ≡ false = sym x in cc) }
-padded_framed (suc n) s h = record { once = h.once; few = h.few; idle = h.idle }
+padded_framed (suc n) s h = record { once = h.once; few = h.few; idle = λ x. absurd (let c : true ≡ false = sym x in cc) }
 
 wait_framed : (r : ℕ) (s : State) → Kept s (record s { phase = Run r })
 wait_framed r s h = record { once = h.once; few = h.few; idle = h.idle }
 
-by_framed : (d o : Option ℕ) (p : Phase) (left : ℕ) (s : State) → due s ≡ d → s.active ≡ o → Kept s (turn_by d o p left s).state
+by_framed : (d o : Option ℕ) (p : Phase) (left : ℕ) (s : State) → due s ≡ d → s.active ≡ o → Kept s (turn_at d o p left s).state
 by_framed d o (Pad n) left s e a h = padded_framed (n - 1) s h
 by_framed (Some v) (Some id) (Run r) left s e a h = inside_framed v id s a (due_room v s e) h
 by_framed (Some v) None (Run zero) left s e a h = outside_framed v s (due_room v s e) h
@@ -233,8 +234,7 @@ by_framed None None (Run zero) left s e a h = asleep_framed (asleep s) left s h
 by_framed None (Some id) (Run zero) left s e a h = begin_framed left s h
 
 turn_framed : (left : ℕ) (s : State) → Kept s (turn left s).state
-unfolding turn
-turn_framed left s h = by_framed (due s) s.active s.phase left s refl refl h
+turn_framed left s = subst (λ t. Kept s t.state) (sym (turn_is left s)) (by_framed (due s) s.active s.phase left s refl refl)
 
 -- ---- settling
 resume_framed : (fs : List Frame) (s : State) → s.frames ≡ fs → s.active ≡ None → Kept s (resume_from fs s).state

@@ -1,5 +1,5 @@
 -- What one run keeps of a module until it is closed, and where it is entered.
-use Rattle.std.proofs.Common.{◌≡◌, ◌⊎◌, inl, inr, ⊎_elim, ℕ, zero, suc, List, [], ◌∷◌, ◌++◌, refl, ap, subst, Bool, true, false, cond, Option, Some, None}
+use Rattle.std.proofs.Common.{◌≡◌, ◌⊎◌, inl, inr, ⊎_elim, ℕ, zero, suc, List, [], ◌∷◌, ◌++◌, refl, sym, ap, subst, Bool, true, false, cond, Option, Some, None}
 use Rattle.sm_words.specs.Words.{word_at}
 use Rattle.insn_decode.specs.Code.{insn_of, length_of}
 use Rattle.insn_decode.specs.declared.insn.Insn.{Insn}
@@ -23,10 +23,11 @@ use Rattle.cpu_step.specs.Asked.{asks, table_after}
 use Rattle.cpu_step.specs.Fetched.{insn_at}
 use Rattle.tracer.specs.declared.Event.{Event}
 use Rattle.tracer.specs.declared.Event.TheVariants.{Enter as Entered}
-use Rattle.written_machine.specs.Cycle.{Step, told, denied, pc_of, byte_of, in_text, resume_from, close_of, leave_if, settle_by, settle_in, settle, ticked, due, arrive_inside, arrive_outside, push_both, pushes, who_of, perform, perform_unless, attempt, returned_by, reti_by, reti_of, act_by, act_on, act_home, act_first, act, is_home, enter_at, enter, begin_unless, begin, unless, asleep, turn_by, turn, sent_event, counted_by, move, cycle_by, cycle}
+use Rattle.written_machine.specs.Cycle.{Step, told, denied, pc_of, byte_of, in_text, resume_from, close_of, leave_if, settle_by, settle_in, settle, ticked, due, arrive_inside, arrive_outside, push_both, pushes, who_of, perform, perform_unless, attempt, returned_by, reti_by, reti_of, act_by, act_on, act_home, act_first, act, is_home, enter_at, enter, begin_unless, begin, asleep, turn, sent_event, counted_by, move, cycle_by, cycle}
 use Rattle.written_machine.specs.State.{State}
 use Rattle.isolation.specs.Calls.{Enters}
 use Rattle.isolation.proofs.Turns.{check, begin_by}
+use Rattle.isolation.proofs.Cases.{turn_at, turn_unless, turn_is}
 
 -- ---- no event of these enters a module
 module _ (m from : ℕ) where
@@ -186,11 +187,11 @@ module _ (m from : ℕ) where
         let p = begin_entering_by own key text left s (check m own key text s) refl h' in
         record { is = refl; free = p.0; here = p.1; none = p.2; from_is = p.3 }
 
-    unless_entering : (x : Bool) (left : ℕ) (s : State) → Enters m from (unless x left s).events → Enters_now own key text left s (unless x left s)
+    unless_entering : (x : Bool) (left : ℕ) (s : State) → Enters m from (turn_unless x left s).events → Enters_now own key text left s (turn_unless x left s)
     unless_entering true left s h = absurd h
     unless_entering false left s h = begin_entering left s h
 
-    turn_entering_by : (d a : Option ℕ) (p : Phase) (left : ℕ) (s : State) → Enters m from (turn_by d a p left s).events → Enters_now own key text left s (turn_by d a p left s)
+    turn_entering_by : (d a : Option ℕ) (p : Phase) (left : ℕ) (s : State) → Enters m from (turn_at d a p left s).events → Enters_now own key text left s (turn_at d a p left s)
     turn_entering_by d a (Pad n) left s h = absurd h
     turn_entering_by (Some v) (Some id) (Run r) left s h = absurd (inside_quiet v id s h)
     turn_entering_by (Some v) None (Run zero) left s h = absurd (outside_quiet v s h)
@@ -201,8 +202,8 @@ module _ (m from : ℕ) where
     turn_entering_by None (Some id) (Run zero) left s h = begin_entering left s h
 
     turn_entering : (left : ℕ) (s : State) → Enters m from (turn left s).events → Enters_now own key text left s (turn left s)
-    unfolding turn
-    turn_entering left s h = turn_entering_by (due s) s.active s.phase left s h
+    turn_entering left s =
+        subst (λ t. Enters m from t.events → Enters_now own key text left s t) (sym (turn_is left s)) (turn_entering_by (due s) s.active s.phase left s)
 
     sent_quiet : (o : Option ℕ) → Quiet (sent_event o)
     sent_quiet None = λ h. h

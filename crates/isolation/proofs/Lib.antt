@@ -1,3 +1,4 @@
+pub mod Cases
 pub mod Each
 pub mod Bytes
 pub mod Ports
@@ -35,3 +36,4 @@ pub mod Framed
 pub mod Filled
 pub mod Stopping
 pub mod Refused
+pub mod Passes

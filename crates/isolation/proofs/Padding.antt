@@ -12,11 +12,12 @@ use Rattle.reg_backup.specs.declared.frames.Frame.{Frame}
 use Rattle.reg_backup.specs.declared.frames.Frame.TheVariants.{Plain, Module as Held}
 use Rattle.attest.specs.Done.{own_of}
 use Rattle.tracer.specs.declared.Event.{Event}
-use Rattle.written_machine.specs.Cycle.{Step, Settled, quiet, told, unsettled, pc_of, in_text, rest_of, resume_from, close_of, leave_if, settle_by, settle_in, settle, ticked, due, padded, turn_by, turn, sent_event, counted_by, move, cycle_by, cycle, after_cycles}
+use Rattle.written_machine.specs.Cycle.{Step, Settled, quiet, told, unsettled, pc_of, in_text, rest_of, resume_from, close_of, leave_if, settle_by, settle_in, settle, ticked, due, padded, turn, sent_event, counted_by, move, cycle_by, cycle, after_cycles}
 use Rattle.written_machine.specs.State.{State}
 use Rattle.written_machine.specs.View.{at}
 use Rattle.isolation.specs.Calls.{Hides, Handles}
 use Rattle.isolation.proofs.Tame.{Calm, is_handler, closing_calm, turned, turn_late, sent_late, Late, bare_hides, late_handles, hides_more, hides_front, cycle_number}
+use Rattle.isolation.proofs.Cases.{turn_at, turn_is}
 
 -- ---- settling where no handler is due
 record Settles (u : Settled) : Type 0 where
@@ -66,8 +67,7 @@ unfolding settle
 settle_pad n s e = ap (λ p. settle_in p s) e
 
 turn_pad : (n left : ℕ) (s : State) → s.phase ≡ Pad n → turn left s ≡ quiet (padded (n - 1) s)
-unfolding turn
-turn_pad n left s e = ap (λ p. turn_by (due s) s.active p left s) e
+turn_pad n left s e = turn_is left s ∙ ap (λ p. turn_at (due s) s.active p left s) e
 
 ticked_phase : (s : State) → (ticked s).phase ≡ s.phase
 unfolding ticked

@@ -21,10 +21,11 @@ use Rattle.reg_backup.specs.declared.frames.Frame.TheVariants.{Plain, Module as 
 use Rattle.attest.specs.Units.{Doer, UnitName, Unprotect, Protect, Attest, Tag, IdOf, OwnId, CallerId, unit_named, unit_plan}
 use Rattle.cpu_step.specs.Asked.{asks}
 use Rattle.cpu_step.specs.Fetched.{insn_at, later_word}
-use Rattle.written_machine.specs.Checks.{active_at, entered, first_word, insn_at_pc, asked_to_return, asked_by, returns_inside, check_of, later_checks, insn_checks, checks_unless, checks_by, first_refused, stop_at, stop_of, refused_in}
-use Rattle.written_machine.specs.Cycle.{Step, padded, told, pc_of, byte_of, settle, ticked, due, arrive_inside, arrive_outside, push_both, pushes, who_of, perform, perform_unless, attempt, returned_by, reti_by, reti_of, act_by, act_on, act_home, act_first, act, is_home, enter_at, enter, fetch, begin_unless, begin, unless, asleep, turn_by, turn, counted_by, move, cycle_by, cycle}
+use Rattle.written_machine.specs.Checks.{active_at, entered, first_word, insn_at_pc, asked_to_return, asked_by, returns_inside, check_of, later_checks, insn_checks, first_refused, stop_at, stop_of, refused_in}
+use Rattle.written_machine.specs.Cycle.{Step, padded, told, pc_of, byte_of, settle, ticked, due, arrive_inside, arrive_outside, push_both, pushes, who_of, perform, perform_unless, attempt, returned_by, reti_by, reti_of, act_by, act_on, act_home, act_first, act, is_home, enter_at, enter, fetch, begin_unless, begin, asleep, turn, counted_by, move, cycle_by, cycle}
 use Rattle.written_machine.specs.State.{State}
 use Rattle.isolation.proofs.Stopping.{settle_settles, ticked_stop, enter_silent}
+use Rattle.isolation.proofs.Cases.{turn_at, turn_unless, turn_is, checks_at, checks_unless, checks_are}
 
 -- the step leaves the machine stopped by this refusal in this state, and running where there is none
 abbrev Stops : Step → Option Denied → State → Type 0
@@ -202,7 +203,7 @@ begin_stops : (left : ℕ) (s : State) → s.stop ≡ None → Stops (begin left
 unfolding begin
 begin_stops left s h = begin_by_stops (right s.table s.active (held_ids s.frames) (fetch s)) left s h
 
-asleep_stops : (x : Bool) (left : ℕ) (s : State) → s.stop ≡ None → Stops (unless x left s) (first_refused (checks_unless x s)) s
+asleep_stops : (x : Bool) (left : ℕ) (s : State) → s.stop ≡ None → Stops (turn_unless x left s) (first_refused (checks_unless x s)) s
 asleep_stops true left s h = h
 asleep_stops false left s h = begin_stops left s h
 
@@ -223,13 +224,9 @@ padded_stops : (n : ℕ) (s : State) → (padded n s).stop ≡ s.stop
 padded_stops zero s = refl
 padded_stops (suc n) s = refl
 
-by_stops : (d a : Option ℕ) (p : Phase) (left : ℕ) (s : State) → s.stop ≡ None → Stops (turn_by d a p left s) (first_refused (checks_by d a p s)) s
-by_stops None None (Pad n) left s h = padded_stops (n - 1) s ∙ h
-by_stops None (Some id) (Pad n) left s h = padded_stops (n - 1) s ∙ h
-by_stops (Some v) None (Pad n) left s h = padded_stops (n - 1) s ∙ h
-by_stops (Some v) (Some id) (Pad n) left s h = padded_stops (n - 1) s ∙ h
-by_stops (Some v) (Some id) (Run zero) left s h = inside_stops v id s ∙ h
-by_stops (Some v) (Some id) (Run (suc r)) left s h = inside_stops v id s ∙ h
+by_stops : (d a : Option ℕ) (p : Phase) (left : ℕ) (s : State) → s.stop ≡ None → Stops (turn_at d a p left s) (first_refused (checks_at d a p s)) s
+by_stops d a (Pad n) left s h = padded_stops (n - 1) s ∙ h
+by_stops (Some v) (Some id) (Run r) left s h = inside_stops v id s ∙ h
 by_stops (Some v) None (Run zero) left s h = outside_stops v s h
 by_stops (Some v) None (Run (suc r)) left s h = h
 by_stops None None (Run (suc r)) left s h = h
@@ -238,8 +235,8 @@ by_stops None None (Run zero) left s h = asleep_stops (asleep s) left s h
 by_stops None (Some id) (Run zero) left s h = begin_stops left s h
 
 turn_stops : (left : ℕ) (s : State) → s.stop ≡ None → (turn left s).state.stop ≡ stop_of s
-unfolding turn
-turn_stops left s h = by_stops (due s) s.active s.phase left s h
+turn_stops left s h =
+    ap (λ t. t.state.stop) (turn_is left s) ∙ by_stops (due s) s.active s.phase left s h ∙ ap (λ cs. stop_at (first_refused cs) s) (sym (checks_are s))
 
 -- ---- a cycle
 counted_stop : (o : Option Stop) (t : Step) → (counted_by o t).state.stop ≡ t.state.stop

@@ -23,9 +23,10 @@ use Rattle.attest.specs.Done.{own_of}
 use Rattle.cpu_step.specs.Asked.{asks, table_after}
 use Rattle.cpu_step.specs.Fetched.{insn_at}
 use Rattle.tracer.specs.declared.Event.{Event}
-use Rattle.written_machine.specs.Cycle.{Step, pc_of, byte_of, in_text, resume_from, close_of, leave_if, settle_by, settle_in, settle, due, arrive_inside, arrive_outside, push_both, pushes, who_of, perform, perform_unless, attempt, returned_by, reti_by, reti_of, act_by, act_on, act_home, act_first, act, is_home, enter_at, enter, fetch, begin_unless, begin, unless, asleep, turn_by, turn, sent_event}
+use Rattle.written_machine.specs.Cycle.{Step, pc_of, byte_of, in_text, resume_from, close_of, leave_if, settle_by, settle_in, settle, due, arrive_inside, arrive_outside, push_both, pushes, who_of, perform, perform_unless, attempt, returned_by, reti_by, reti_of, act_by, act_on, act_home, act_first, act, is_home, enter_at, enter, fetch, begin_unless, begin, asleep, turn, sent_event}
 use Rattle.written_machine.specs.State.{State}
 use Rattle.isolation.specs.Calls.{Away, away_if, back_from, note, notes}
+use Rattle.isolation.proofs.Cases.{turn_at, turn_unless, turn_is}
 
 module _ (m : ℕ) where
   abbrev pub Still : List Event → Type 0
@@ -153,11 +154,11 @@ module _ (m : ℕ) where
   unfolding begin
   begin_still left s = begin_by_still (right s.table s.active (held_ids s.frames) (fetch s)) left s
 
-  asleep_still : (x : Bool) (left : ℕ) (s : State) → Still (unless x left s).events
+  asleep_still : (x : Bool) (left : ℕ) (s : State) → Still (turn_unless x left s).events
   asleep_still true left s = tt
   asleep_still false left s = begin_still left s
 
-  by_still : (d o : Option ℕ) (p : Phase) (left : ℕ) (s : State) → is_id m o ≡ false → Still (turn_by d o p left s).events
+  by_still : (d o : Option ℕ) (p : Phase) (left : ℕ) (s : State) → is_id m o ≡ false → Still (turn_at d o p left s).events
   by_still d o (Pad n) left s e = tt
   by_still (Some v) (Some id) (Run r) left s e = other_still v id s e
   by_still (Some v) None (Run zero) left s e = outside_still v s
@@ -169,8 +170,7 @@ module _ (m : ℕ) where
 
   -- a turn of another
   pub turn_still : (left : ℕ) (s : State) → is_id m s.active ≡ false → Still (turn left s).events
-  unfolding turn
-  turn_still left s e = by_still (due s) s.active s.phase left s e
+  turn_still left s e = subst (λ t. Still t.events) (sym (turn_is left s)) (by_still (due s) s.active s.phase left s e)
 
   -- ---- settling while the module is not active: it is resumed, or nothing is told of it
   abbrev pub Told : Bool → List Event → Type 0

@@ -22,9 +22,10 @@ use Rattle.attest.specs.Done.{own_of}
 use Rattle.cpu_step.specs.Asked.{asks, table_after}
 use Rattle.cpu_step.specs.Fetched.{insn_at}
 use Rattle.tracer.specs.declared.Event.{Event}
-use Rattle.written_machine.specs.Cycle.{Step, Settled, quiet, padded, cycle, told, pc_of, byte_of, in_text, resume_from, close_of, leave_if, settle_by, settle_in, settle, ticked, due, arrive_inside, arrive_outside, push_both, pushes, who_of, perform, perform_unless, attempt, returned_by, reti_by, reti_of, act_by, act_on, act_home, act_first, act, is_home, enter_at, enter, fetch, begin_unless, begin, unless, asleep, turn_by, turn, sent_event, counted_by, move, cycle_by, cycle}
+use Rattle.written_machine.specs.Cycle.{Step, Settled, quiet, padded, cycle, told, pc_of, byte_of, in_text, resume_from, close_of, leave_if, settle_by, settle_in, settle, ticked, due, arrive_inside, arrive_outside, push_both, pushes, who_of, perform, perform_unless, attempt, returned_by, reti_by, reti_of, act_by, act_on, act_home, act_first, act, is_home, enter_at, enter, fetch, begin_unless, begin, asleep, turn, sent_event, counted_by, move, cycle_by, cycle}
 use Rattle.written_machine.specs.State.{State}
 use Rattle.isolation.specs.Calls.{stop_in}
+use Rattle.isolation.proofs.Cases.{turn_at, turn_unless, turn_is}
 
 -- what is told of a stop is where the machine stands
 abbrev Tells : Step → Type 0
@@ -126,7 +127,7 @@ begin_tells : (left : ℕ) (s : State) → s.stop ≡ None → Tells (begin left
 unfolding begin
 begin_tells left s h = begin_by_tells (right s.table s.active (held_ids s.frames) (fetch s)) left s h
 
-asleep_tells : (x : Bool) (left : ℕ) (s : State) → s.stop ≡ None → Tells (unless x left s)
+asleep_tells : (x : Bool) (left : ℕ) (s : State) → s.stop ≡ None → Tells (turn_unless x left s)
 asleep_tells true left s h = sym h
 asleep_tells false left s h = begin_tells left s h
 
@@ -146,7 +147,7 @@ padded_tells : (n : ℕ) (s : State) → s.stop ≡ None → Tells (quiet (padde
 padded_tells zero s h = sym h
 padded_tells (suc n) s h = sym h
 
-by_tells : (d o : Option ℕ) (p : Phase) (left : ℕ) (s : State) → s.stop ≡ None → Tells (turn_by d o p left s)
+by_tells : (d o : Option ℕ) (p : Phase) (left : ℕ) (s : State) → s.stop ≡ None → Tells (turn_at d o p left s)
 by_tells d o (Pad n) left s h = padded_tells (n - 1) s h
 by_tells (Some v) (Some id) (Run r) left s h = inside_tells v id s h
 by_tells (Some v) None (Run zero) left s h = outside_tells v s h
@@ -157,8 +158,7 @@ by_tells None None (Run zero) left s h = asleep_tells (asleep s) left s h
 by_tells None (Some id) (Run zero) left s h = begin_tells left s h
 
 turn_tells : (left : ℕ) (s : State) → s.stop ≡ None → Tells (turn left s)
-unfolding turn
-turn_tells left s h = by_tells (due s) s.active s.phase left s h
+turn_tells left s h = subst Tells (sym (turn_is left s)) (by_tells (due s) s.active s.phase left s h)
 
 -- ---- settling
 abbrev Settles : State → Settled → Type 0

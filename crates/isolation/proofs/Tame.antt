@@ -26,10 +26,11 @@ use Rattle.attest.specs.Done.{own_of}
 use Rattle.cpu_step.specs.Asked.{asks, table_after}
 use Rattle.cpu_step.specs.Fetched.{insn_at}
 use Rattle.tracer.specs.declared.Event.{Event}
-use Rattle.written_machine.specs.Cycle.{Step, quiet, told, denied, pc_of, byte_of, in_text, rest_of, resume_from, close_of, leave_if, settle_by, settle_in, settle, ticked, due, arrive_inside, arrive_outside, push_both, pushes, who_of, perform, perform_unless, attempt, returned_by, reti_by, reti_of, act_by, act_on, act_home, act_first, act, is_home, enter_at, enter, fetch, begin_unless, begin, padded, unless, asleep, turn_by, turn, sent_event, counted_by, move, cycle_by, after_cycles}
+use Rattle.written_machine.specs.Cycle.{Step, quiet, told, denied, pc_of, byte_of, in_text, rest_of, resume_from, close_of, leave_if, settle_by, settle_in, settle, ticked, due, arrive_inside, arrive_outside, push_both, pushes, who_of, perform, perform_unless, attempt, returned_by, reti_by, reti_of, act_by, act_on, act_home, act_first, act, is_home, enter_at, enter, fetch, begin_unless, begin, padded, asleep, turn, sent_event, counted_by, move, cycle_by, after_cycles}
 use Rattle.written_machine.specs.State.{State}
 use Rattle.written_machine.specs.View.{at, boot}
 use Rattle.isolation.specs.Calls.{Ends, Hides, Handles}
+use Rattle.isolation.proofs.Cases.{turn_at, turn_unless, turn_is}
 
 abbrev pub is_handler : After → Bool
 is_handler Handler = true
@@ -267,7 +268,7 @@ begin_tame : (left : ℕ) (s : State) → Tame s (begin left s)
 unfolding begin
 begin_tame left s = begin_by_tame (right s.table s.active (held_ids s.frames) (fetch s)) left s
 
-asleep_tame : (x : Bool) (left : ℕ) (s : State) → Tame s (unless x left s)
+asleep_tame : (x : Bool) (left : ℕ) (s : State) → Tame s (turn_unless x left s)
 asleep_tame true left s = record { same = refl; key = refl; bare = tt; calm = λ h. h }
 asleep_tame false left s = begin_tame left s
 
@@ -305,7 +306,7 @@ inside_begins v id s = record { same = refl; key = refl; late = tt; hides = tt; 
 wait_tame : (r : ℕ) (s : State) → Tame s (quiet (record s { phase = Run r }))
 wait_tame r s = record { same = refl; key = refl; bare = tt; calm = λ h. (refl, h.1) }
 
-by_turned : (d o : Option ℕ) (p : Phase) (left : ℕ) (s : State) → s.phase ≡ p → Turned s (turn_by d o p left s)
+by_turned : (d o : Option ℕ) (p : Phase) (left : ℕ) (s : State) → s.phase ≡ p → Turned s (turn_at d o p left s)
 by_turned d o (Pad n) left s e = inr (inr (record { left = n; was = e; is = refl }))
 by_turned (Some v) (Some id) (Run r) left s e = inr (inl (inside_begins v id s))
 by_turned (Some v) None (Run zero) left s e = inl (outside_tame v s)
@@ -316,8 +317,7 @@ by_turned None None (Run zero) left s e = inl (asleep_tame (asleep s) left s)
 by_turned None (Some id) (Run zero) left s e = inl (begin_tame left s)
 
 pub turned : (left : ℕ) (s : State) → Turned s (turn left s)
-unfolding turn
-turned left s = by_turned (due s) s.active s.phase left s refl
+turned left s = subst (Turned s) (sym (turn_is left s)) (by_turned (due s) s.active s.phase left s refl)
 
 padded_same : (n : ℕ) (s : State) → (padded n s).cycle ≡ s.cycle
 padded_same zero s = refl

@@ -135,14 +135,14 @@ module _ (a b : Image) (m : ℕ) (schedule : List Scheduled) (peers : Peers a b 
   lines_same k =
       ap (λ c. lines_of c (cycle (at a schedule k)).events) (seen_cycle m (at a schedule k) (at b schedule k) (views k)) ∙ ap (lines_of (at b schedule k).cycle) (events k)
 
-  lines_from : (k n : ℕ) → lines_after (at a schedule k) n ≡ lines_after (at b schedule k) n
+  pub lines_from : (k n : ℕ) → lines_after (at a schedule k) n ≡ lines_after (at b schedule k) n
   lines_from k zero = refl
   lines_from k (suc n) =
       let line : State → List ℕ = λ t. lines_of t.cycle (cycle t).events in
       ap (λ l. l ++ line (after_cycles (at a schedule k) n)) (lines_from k n)
       ∙ ap (λ l. lines_after (at b schedule k) n ++ l) (ap line (after_more a schedule k n) ∙ lines_same (n + k) ∙ ap line (sym (after_more b schedule k n)))
 
-  ends_same : (k : ℕ) → end_line_of (at a schedule k) ≡ end_line_of (at b schedule k)
+  pub ends_same : (k : ℕ) → end_line_of (at a schedule k) ≡ end_line_of (at b schedule k)
   ends_same k = end_lines m (at a schedule k) (at b schedule k) (views k)
 
   -- peers have one trace

@@ -21,7 +21,7 @@ use Rattle.reg_backup.specs.declared.frames.Frame.{Frame}
 use Rattle.reg_backup.specs.declared.frames.Frame.TheVariants.{Plain, Module as Held}
 use Rattle.cpu_step.specs.Lone.{Lone, doing, doing_by, does_or_breaks, next_insn, lone_does, job_of}
 use Rattle.tracer.specs.declared.Event.{Event}
-use Rattle.written_machine.specs.Cycle.{Step, quiet, told, denied, pc_of, due, arrive_inside, arrive_outside, asleep, padded, unless, turn_by, turn, begin_unless, begin, enter_at, enter, fetch, act}
+use Rattle.written_machine.specs.Cycle.{Step, quiet, told, denied, pc_of, due, arrive_inside, arrive_outside, asleep, padded, turn, begin_unless, begin, enter_at, enter, fetch, act}
 use Rattle.written_machine.specs.Peers.{section}
 use Rattle.written_machine.specs.State.{State}
 use Rattle.isolation.proofs.Active.{does_gie}
@@ -35,6 +35,7 @@ use Rattle.isolation.proofs.Relation.{find_held, found_if, times, run_by, run_of
 use Rattle.isolation.proofs.Rights.{Sound, holds_in}
 use Rattle.isolation.proofs.Settled.{arrive_inside_stays}
 use Rattle.isolation.proofs.Settling.{arrive_hidden, due_hidden, enter_veiled}
+use Rattle.isolation.proofs.Cases.{turn_at, turn_unless, turn_is}
 
 -- ---- a fetch that is allowed
 fetch_data : (m : ℕ) (p : Place) (active : Option ℕ) (held : List ℕ) (a : ℕ) → right_at p active held Fetch a ≡ None → p ≢ Data m
@@ -302,12 +303,12 @@ module _ (m : ℕ) (own : Module) (key text : List ℕ) where
     begin_alike : (left : ℕ) → left < 65536 → Alike m own key text (begin left a) (begin left b)
     begin_alike left small = begin_checked left (check a) small refl
 
-    unless_alike : (x : Bool) (left : ℕ) → left < 65536 → Alike m own key text (unless x left a) (unless x left b)
+    unless_alike : (x : Bool) (left : ℕ) → left < 65536 → Alike m own key text (turn_unless x left a) (turn_unless x left b)
     unless_alike true left small = join quiet (quiet_outer a ka out_a) (quiet_outer b kb out_b)
     unless_alike false left small = begin_alike left small
 
     -- ---- the cases of a turn
-    by_cases : (d o : Option ℕ) (p : Phase) (left : ℕ) → left < 65536 → a.active ≡ o → Alike m own key text (turn_by d o p left a) (turn_by d o p left b)
+    by_cases : (d o : Option ℕ) (p : Phase) (left : ℕ) → left < 65536 → a.active ≡ o → Alike m own key text (turn_at d o p left a) (turn_at d o p left b)
     by_cases d o (Pad n) left small e = join (λ s. quiet (padded (n - 1) s)) (padded_outer (n - 1) a ka out_a) (padded_outer (n - 1) b kb out_b)
     by_cases (Some v) (Some id) (Run r) left small e =
         join (arrive_inside v id) (inside_outer v id a ka e out_a) (inside_outer v id b kb (sym same_active ∙ e) out_b)
@@ -316,17 +317,17 @@ module _ (m : ℕ) (own : Module) (key text : List ℕ) where
     by_cases None None (Run (suc r)) left small e = join (λ s. quiet (record s { phase = Run r })) (waits_outer (Run r) a ka out_a) (waits_outer (Run r) b kb out_b)
     by_cases None (Some id) (Run (suc r)) left small e = join (λ s. quiet (record s { phase = Run r })) (waits_outer (Run r) a ka out_a) (waits_outer (Run r) b kb out_b)
     by_cases None None (Run zero) left small e =
-        subst (λ x. Alike m own key text (unless (asleep a) left a) (unless x left b)) (ap asleep veiled) (unless_alike (asleep a) left small)
+        subst (λ x. Alike m own key text (turn_unless (asleep a) left a) (turn_unless x left b)) (ap asleep veiled) (unless_alike (asleep a) left small)
     by_cases None (Some id) (Run zero) left small e = begin_alike left small
 
     pub outside_turn : (left : ℕ) → left < 65536 → Alike m own key text (turn left a) (turn left b)
-    unfolding turn
     outside_turn left small =
         let d : due a ≡ due b = sym (due_hidden m own a) ∙ ap due ready.twins.seen ∙ due_hidden m own b in
         let r = by_cases (due a) a.active a.phase left small refl in
-        let r1 = subst (λ x. Alike m own key text (turn_by (due a) a.active a.phase left a) (turn_by x a.active a.phase left b)) d r in
-        let r2 = subst (λ x. Alike m own key text (turn_by (due a) a.active a.phase left a) (turn_by (due b) x a.phase left b)) same_active r1 in
-        subst (λ x. Alike m own key text (turn_by (due a) a.active a.phase left a) (turn_by (due b) b.active x left b)) (ap (λ (s : State). s.phase) veiled) r2
+        let r1 = subst (λ x. Alike m own key text (turn_at (due a) a.active a.phase left a) (turn_at x a.active a.phase left b)) d r in
+        let r2 = subst (λ x. Alike m own key text (turn_at (due a) a.active a.phase left a) (turn_at (due b) x a.phase left b)) same_active r1 in
+        let r3 = subst (λ x. Alike m own key text (turn_at (due a) a.active a.phase left a) (turn_at (due b) b.active x left b)) (ap (λ (s : State). s.phase) veiled) r2 in
+        subst (λ t. Alike m own key text t (turn left b)) (sym (turn_is left a)) (subst (λ t. Alike m own key text (turn_at (due a) a.active a.phase left a) t) (sym (turn_is left b)) r3)
 
   -- ---- one run alone: while the module is held, no turn moves it
   module _ (s : State) (k : Keeps m own key text s) (out : is_id m s.active ≡ false) (ok : IsCore s.core) (r : Backup) (held : find_held m s.frames ≡ Some r) where
@@ -344,11 +345,11 @@ module _ (m : ℕ) (own : Module) (key text : List ℕ) where
     checked_stays left None e = free_stays left (is_id m (enter left s).state.active) e refl
     checked_stays left (Some d) e = subst (λ u. Stays m own key text s u.state) (sym (begin_by left s (Some d) e)) (denied_outer d s k out).stays
 
-    asleep_stays : (x : Bool) (left : ℕ) → Stays m own key text s (unless x left s).state
+    asleep_stays : (x : Bool) (left : ℕ) → Stays m own key text s (turn_unless x left s).state
     asleep_stays true left = (quiet_outer s k out).stays
     asleep_stays false left = checked_stays left (check s) refl
 
-    cases_stay : (d o : Option ℕ) (p : Phase) (left : ℕ) → s.active ≡ o → Stays m own key text s (turn_by d o p left s).state
+    cases_stay : (d o : Option ℕ) (p : Phase) (left : ℕ) → s.active ≡ o → Stays m own key text s (turn_at d o p left s).state
     cases_stay d o (Pad n) left e = (padded_outer (n - 1) s k out).stays
     cases_stay (Some v) (Some id) (Run x) left e = (inside_outer v id s k e out).stays
     cases_stay (Some v) None (Run zero) left e = (arrive_outside_outer m own key text s k out v).stays
@@ -359,8 +360,7 @@ module _ (m : ℕ) (own : Module) (key text : List ℕ) where
     cases_stay None (Some id) (Run zero) left e = checked_stays left (check s) refl
 
     pub held_turn : (left : ℕ) → Stays m own key text s (turn left s).state
-    unfolding turn
-    held_turn left = cases_stay (due s) s.active s.phase left refl
+    held_turn left = subst (λ t. Stays m own key text s t.state) (sym (turn_is left s)) (cases_stay (due s) s.active s.phase left refl)
 
     -- and none enters it
     free_idle : (left : ℕ) (c : Bool) → check s ≡ None → is_id m (enter left s).state.active ≡ c → is_id m (begin left s).state.active ≡ false
@@ -377,14 +377,14 @@ module _ (m : ℕ) (own : Module) (key text : List ℕ) where
     checked_idle left None e = free_idle left (is_id m (enter left s).state.active) e refl
     checked_idle left (Some d) e = ap (λ u. is_id m u.state.active) (begin_by left s (Some d) e) ∙ out
 
-    asleep_idle : (x : Bool) (left : ℕ) → is_id m (unless x left s).state.active ≡ false
+    asleep_idle : (x : Bool) (left : ℕ) → is_id m (turn_unless x left s).state.active ≡ false
     asleep_idle true left = out
     asleep_idle false left = checked_idle left (check s) refl
 
     arrived_idle : (v : ℕ) → is_id m (arrive_outside v s).state.active ≡ false
     arrived_idle v = ap (is_id m) (arrived_active m own key text s k out v) ∙ out
 
-    cases_idle : (d o : Option ℕ) (p : Phase) (left : ℕ) → is_id m (turn_by d o p left s).state.active ≡ false
+    cases_idle : (d o : Option ℕ) (p : Phase) (left : ℕ) → is_id m (turn_at d o p left s).state.active ≡ false
     cases_idle d o (Pad n) left = ap (is_id m) (padded_light (n - 1) s).0 ∙ out
     cases_idle (Some v) (Some id) (Run x) left = inside_none v id s
     cases_idle (Some v) None (Run zero) left = arrived_idle v
@@ -395,5 +395,4 @@ module _ (m : ℕ) (own : Module) (key text : List ℕ) where
     cases_idle None (Some id) (Run zero) left = checked_idle left (check s) refl
 
     pub held_idle : (left : ℕ) → is_id m (turn left s).state.active ≡ false
-    unfolding turn
-    held_idle left = cases_idle (due s) s.active s.phase left
+    held_idle left = ap (λ t. is_id m t.state.active) (turn_is left s) ∙ cases_idle (due s) s.active s.phase left

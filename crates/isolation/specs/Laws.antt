@@ -14,10 +14,11 @@ use Rattle.attest.specs.Units.{each_byte, text_reads}
 use Rattle.cpu_step.specs.Lone.{outcome, lone_after}
 use Rattle.written_machine.specs.Checks.{refused_in}
 use Rattle.written_machine.specs.Cycle.{cycle, after_cycles, gie}
+use Rattle.written_machine.specs.Passing.{OnlyPass, Leads, passed}
 use Rattle.written_machine.specs.Peers.{Peers}
 use Rattle.written_machine.specs.Script.{play, stands_at}
 use Rattle.written_machine.specs.State.{State}
-use Rattle.written_machine.specs.Trace.{trace}
+use Rattle.written_machine.specs.Trace.{end_line_of, lines_after, trace}
 use Rattle.written_machine.specs.View.{view_of, at, boot}
 use Rattle.written_machine.specs.declared.Hidden.TheVariants.{All as AllHidden, Only}
 use Rattle.written_machine.specs.declared.ScriptLine.{ScriptLine}
@@ -70,6 +71,16 @@ SameOutsideViews = (a b : Image) (m : ℕ) (schedule : List Entry) (k : ℕ) →
 abbrev pub SameStanding : Type 0
 SameStanding = (a b : Image) (m : ℕ) (schedule : List Entry) (k addr : ℕ) → Peers a b m →
     stands_at addr (at a schedule k) ≡ stands_at addr (at b schedule k)
+
+-- The lines of the next n cycles are one text, after any number of cycles.
+abbrev pub SameLines : Type 0
+SameLines = (a b : Image) (m : ℕ) (schedule : List Entry) (k n : ℕ) → Peers a b m →
+    lines_after (at a schedule k) n ≡ lines_after (at b schedule k) n
+
+-- So is the end line.
+abbrev pub SameEnds : Type 0
+SameEnds = (a b : Image) (m : ℕ) (schedule : List Entry) (k : ℕ) → Peers a b m →
+    end_line_of (at a schedule k) ≡ end_line_of (at b schedule k)
 
 -- A script shows one text.
 abbrev pub SamePlays : Type 0
@@ -148,6 +159,10 @@ abbrev pub FramesFew : Type 0
 FramesFew = (a : Image) (schedule : List Entry) (k : ℕ) → length (at a schedule k).frames ≤ 8
 
 -- ---- cycles and rights
+
+-- Cycles that only pass, and the first m of them, lead to the state with devices, padding and rest moved on, and tell nothing.
+abbrev pub Passing : Type 0
+Passing = (s : State) (n m : ℕ) → s.stop ≡ None → OnlyPass n s → 0 < m → m ≤ n → Leads m s (passed m s)
 
 -- A cycle tells at most four events.
 abbrev pub EventsFew : Type 0

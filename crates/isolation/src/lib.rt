@@ -4,7 +4,7 @@
 //! Each law is what a function here ensures; `specs/Laws.antt` states them in words.
 #![tactic(auto)]
 
-ghost use Rattle.isolation.specs.Laws.{SameViews, SameEvents, SamePhases, SameCallers, SameGie, SameOnceGone, SameTraces, SameOutsideViews, SameStanding, SamePlays, EnteredIsKnown, Transparency, Cost, HandlerAfterHide, HideBeforeHandler, Numbered, CoreKept, MemoryFull, MemoryBytes, TableKept, ModuleOnce, FramesFew, EventsFew, StopTold, StopRefused, TextReadable, ZerosWritable};
+ghost use Rattle.isolation.specs.Laws.{SameViews, SameEvents, SamePhases, SameCallers, SameGie, SameOnceGone, SameTraces, SameLines, SameEnds, SameOutsideViews, SameStanding, SamePlays, EnteredIsKnown, Transparency, Cost, HandlerAfterHide, HideBeforeHandler, Numbered, CoreKept, MemoryFull, MemoryBytes, TableKept, ModuleOnce, FramesFew, Passing, EventsFew, StopTold, StopRefused, TextReadable, ZerosWritable};
 
 /// Two runs of peers are seen alike by all but the one module, and tell the same, in every cycle of every schedule.
 pub fn two_runs()
@@ -16,9 +16,11 @@ pub fn two_runs()
     ensures gone { SameOnceGone }
 {}
 
-/// Peers have one trace, and show a script the same.
+/// Peers have one trace, whole and from any cycle on, and show a script the same.
 pub fn texts()
     ensures traces { SameTraces }
+    ensures lines { SameLines }
+    ensures ends { SameEnds }
     ensures outside { SameOutsideViews }
     ensures stands { SameStanding }
     ensures scripts { SamePlays }
@@ -50,6 +52,11 @@ pub fn states()
     ensures table { TableKept }
     ensures once { ModuleOnce }
     ensures few { FramesFew }
+{}
+
+/// Cycles of padding, of the rest of an instruction and of sleep may pass at once.
+pub fn passing()
+    ensures { Passing }
 {}
 
 /// A cycle tells at most four events, and of a stop exactly where it stops, which is where a check is refused.

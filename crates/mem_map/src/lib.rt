@@ -2,8 +2,10 @@
 #![tactic(auto)]
 
 ghost use Rattle.std.specs.Prelude.{◌≡◌, ◌+◌, ◌*◌, ◌%◌, IfOk, length, slice_index, slice_range, slice_set};
-ghost use Rattle.sm_words.specs.Words.{word_at};
+ghost use Rattle.sm_words.specs.Words.{cleared, word_at};
+ghost use Rattle.mod_layout.specs.Table.{size_of};
 
+use mod_layout::Section;
 use std::alloc::{AllocError, Global};
 use std::marker::Model;
 
@@ -36,8 +38,8 @@ impl Model for Memory {
 impl Memory {
     /// The memory with these bytes, one for each of the 65,536 addresses.
     pub fn new(alloc: Global, bytes: &[u8]) -> Result<Memory, NoMemory>
-        requires { length bytes.now ≡ 65536 }
-        ensures { IfOk result (λ memory. memory.bytes ≡ bytes.now) }
+        requires size { length bytes.now ≡ 65536 }
+        ensures bytes { IfOk result (λ memory. memory.bytes ≡ bytes.now) }
     {
         Ok(Memory {
             bytes: Vec::from_slice(alloc, bytes)?,
@@ -54,15 +56,25 @@ impl Memory {
 
     /// Changes the byte at an address, and no other.
     pub fn set_byte(&mut self, addr: u16, byte: u8)
-        ensures { self.new ≡ record { bytes = slice_set self.old.bytes addr byte } }
+        ensures written { self.new ≡ record { bytes = slice_set self.old.bytes addr byte } }
     {
         self.bytes[usize::from(addr)] = byte;
     }
 
+    /// Sets a section's bytes to 0, and changes no other.
+    #[tactic(auto, using(crate::proofs::Clearing::cleared_next))]
+    pub fn clear(&mut self, section: Section)
+        ensures cleared { self.new.bytes ≡ cleared section.start (size_of section) self.old.bytes }
+    {
+        for addr in section.start..section.end {
+            self.set_byte(addr, 0);
+        }
+    }
+
     /// The word at an even address, the low byte first.
     pub fn word(&self, addr: u16) -> u16
-        requires { addr % 2 ≡ 0 }
-        ensures { result ≡ word_at (slice_index self.now.bytes) addr }
+        requires even { addr % 2 ≡ 0 }
+        ensures exact { result ≡ word_at (slice_index self.now.bytes) addr }
     {
         u16::from_le_bytes([self.byte(addr), self.byte(addr + 1)])
     }

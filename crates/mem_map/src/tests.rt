@@ -1,6 +1,7 @@
 //! Each call once.
 
 use crate::Memory;
+use mod_layout::Section;
 use std::test::Fail;
 
 #[test]
@@ -20,5 +21,10 @@ fn bytes_words_and_pages(rt: HostRuntime) -> Result<(), Fail> {
     let page = memory.page(4);
     assert_eq!(rt; page.first().copied(), Some(0x34));
     assert_eq!(rt; memory.page(255).last().copied(), Some(0x56));
+    memory.clear(Section {
+        start: 0x0401,
+        end: 0xffff,
+    });
+    assert_eq!(rt; (memory.word(0x0400), memory.byte(0xffff)), (0x0034, 0x56));
     Ok(())
 }

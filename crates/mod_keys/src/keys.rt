@@ -1,36 +1,27 @@
 //! The keys that are derived by HMAC.
 
-ghost use Rattle.std.specs.Prelude.{◌≡◌, take, length};
+ghost use Rattle.std.specs.Prelude.{◌≡◌, length};
 ghost use Rattle.mod_layout.specs.Table.{size_of};
 ghost use Rattle.mod_keys.specs.Keys.{identity_tail, module_key, module_key_from, provider_key};
 
 use crate::mac::Hmac;
 use mod_layout::Module;
 
-/// The first 16 bytes of a HMAC.
-fn front(hmac: [u8; 32]) -> [u8; 16]
-    ensures { result ≡ take 16 hmac }
-{
-    let mut key = [0; 16];
-    key.copy_from_slice(&hmac[..16]);
-    key
-}
-
 /// The key of a vendor's modules on a node: the first 16 bytes of the HMAC under the node's key of the
 /// vendor's number in two bytes, the low byte first.
 #[tactic(auto, unfolding(crate::specs::Keys::provider_key))]
 pub fn provider_key(node_key: &[u8; 16], vendor: u16) -> [u8; 16]
-    ensures { result ≡ provider_key node_key.now vendor }
+    ensures key { result ≡ provider_key node_key.now vendor }
 {
     let mut hmac = Hmac::new(node_key);
     hmac.update(&vendor.to_le_bytes());
-    front(hmac.finish())
+    hmac.tag()
 }
 
 /// The eight bytes of a module's identity past its text: text start, text end, data start and data end,
 /// each as two bytes, the low byte first.
 pub fn identity_tail(module: &Module) -> [u8; 8]
-    ensures { result ≡ identity_tail «module».now }
+    ensures bytes { result ≡ identity_tail «module».now }
 {
     let [text_start_low, text_start_high] = module.text.start.to_le_bytes();
     let [text_end_low, text_end_high] = module.text.end.to_le_bytes();
@@ -51,8 +42,8 @@ pub fn identity_tail(module: &Module) -> [u8; 8]
 /// The key of a module whose text this is, on a node: that under the key of its vendor.
 #[tactic(auto, unfolding(crate::specs::Keys::module_key))]
 pub fn module_key(node_key: &[u8; 16], module: &Module, text: &[u8]) -> [u8; 16]
-    requires { length text.now ≡ size_of «module».now.text }
-    ensures { result ≡ module_key node_key.now «module».now text.now }
+    requires size { length text.now ≡ size_of «module».now.text }
+    ensures key { result ≡ module_key node_key.now «module».now text.now }
 {
     module_key_from(&provider_key(node_key, module.vendor), module, text)
 }
@@ -60,11 +51,11 @@ pub fn module_key(node_key: &[u8; 16], module: &Module, text: &[u8]) -> [u8; 16]
 /// The key of a module whose text this is, under the key of its vendor: the first 16 bytes of the HMAC
 /// of its identity, which is the text and then [`identity_tail`].
 pub fn module_key_from(provider: &[u8; 16], module: &Module, text: &[u8]) -> [u8; 16]
-    requires { length text.now ≡ size_of «module».now.text }
-    ensures { result ≡ module_key_from provider.now «module».now text.now }
+    requires size { length text.now ≡ size_of «module».now.text }
+    ensures key { result ≡ module_key_from provider.now «module».now text.now }
 {
     let mut hmac = Hmac::new(provider);
     hmac.update(text);
     hmac.update(&identity_tail(module));
-    front(hmac.finish())
+    hmac.tag()
 }

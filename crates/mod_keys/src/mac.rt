@@ -1,7 +1,7 @@
 //! HMAC-SHA-256 (FIPS 198-1 over FIPS 180-4), fed piece by piece.
 
 ghost use Rattle.std.specs.Prelude.{◌≡◌, ◌≤◌, ◌-◌, ℕ, List, [], ◌++◌, map, bit_xor, length, replicate};
-ghost use Rattle.mod_keys.specs.Mac.{block_key, hmac};
+ghost use Rattle.mod_keys.specs.Mac.{block_key, hmac, short_hmac};
 
 use sha2::{Digest, Sha256};
 
@@ -20,7 +20,7 @@ impl Hmac {
 
     /// The HMAC under `key`, with nothing fed yet. A key longer than 64 bytes is hashed first.
     pub fn new(key: &[u8]) -> Hmac
-        ensures { IsFed result key.now [] }
+        ensures empty { IsFed result key.now [] }
     {
         let block = key_block(key);
         Hmac {
@@ -31,7 +31,7 @@ impl Hmac {
 
     /// Joins `piece` to what was fed before.
     pub fn update(&mut self, piece: &[u8])
-        ensures { (key message : List ℕ) → IsFed self.old key message
+        ensures joined { (key message : List ℕ) → IsFed self.old key message
             → IsFed self.new key (message ++ piece.now) }
     {
         self.inner.update(piece);
@@ -39,11 +39,20 @@ impl Hmac {
 
     /// The 32 bytes of the HMAC of all that was fed, however it was cut into pieces.
     pub fn finish(mut self) -> [u8; 32]
-        ensures { (key message : List ℕ) → IsFed self key message → result ≡ hmac key message }
+        ensures hmac { (key message : List ℕ) → IsFed self key message → result ≡ hmac key message }
     {
         let digest = self.inner.finalize();
         self.outer.update(digest);
         self.outer.finalize()
+    }
+
+    /// The first 16 bytes of the HMAC of all that was fed: a tag or a key.
+    pub fn tag(self) -> [u8; 16]
+        ensures tag { (key message : List ℕ) → IsFed self key message → result ≡ short_hmac key message }
+    {
+        let mut tag = [0; 16];
+        tag.copy_from_slice(&self.finish()[..16]);
+        tag
     }
 }
 

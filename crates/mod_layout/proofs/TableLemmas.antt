@@ -2,6 +2,7 @@
 use Rattle.std.proofs.Common.{◌≡◌, inl, inr, ⊎_elim, ℕ, ◌+◌, ◌%◌, ◌<◌, ◌≤◌, List, [], ◌∷◌, ◌++◌, length, length-append, Bool, true, false, nat_lt, nat_le, cond, not, ◌&&◌, ◌||◌, ◌==◌, Option, Some, None, IsSome, is_none, refl, sym, ap, ◌∙◌, subst, arith, one-add}
 use Rattle.std.specs.List.{find, remove, position_or_len, position}
 use Rattle.std.proofs.lemmas.Bool.Decides.{nat_tests}
+use Rattle.mod_layout.specs.declared.TheConstants.{DEVICES_END, FIRST_VECTOR}
 use Rattle.mod_layout.specs.declared.Section.{Section}
 use Rattle.mod_layout.specs.declared.Module.{Module}
 use Rattle.mod_layout.specs.declared.TableFault.{TableFault}
@@ -73,7 +74,7 @@ module _ (id : ℕ) where
 
 -- ---- a module goes
 
-separate_dropped : (x : Module) (id : ℕ) (ms : List Module) → SeparateFrom x ms → SeparateFrom x (drop_module id ms)
+pub separate_dropped : (x : Module) (id : ℕ) (ms : List Module) → SeparateFrom x ms → SeparateFrom x (drop_module id ms)
 separate_dropped x id [] s = tt
 separate_dropped x id (y ∷ ms) s = by (y.id == id) (separate_dropped x id ms s.1)
   where
@@ -89,7 +90,7 @@ are_dropped given id (y ∷ ms) h = by (y.id == id) (are_dropped given id ms h.2
     by true r = h.2
     by false r = (h.0, separate_dropped y id ms h.1, r)
 
-dropped_fits : (id : ℕ) (ms : List Module) → length (drop_module id ms) ≤ length ms
+pub dropped_fits : (id : ℕ) (ms : List Module) → length (drop_module id ms) ≤ length ms
 dropped_fits id [] = omega arith
 dropped_fits id (y ∷ ms) = by (y.id == id) (dropped_fits id ms)
   where
@@ -103,31 +104,31 @@ table_dropped t id ok =
 
 -- ---- a module comes
 
-and_left : (a b : Bool) → (a && b) ≡ true → a ≡ true
+pub and_left : (a b : Bool) → (a && b) ≡ true → a ≡ true
 and_left true b e = refl
 and_left false b e = e
 
-and_right : (a b : Bool) → (a && b) ≡ true → b ≡ true
+pub and_right : (a b : Bool) → (a && b) ≡ true → b ≡ true
 and_right true b e = e
 and_right false b e = cc
 
-not_true : (b : Bool) → not b ≡ true → b ≡ false
+pub not_true : (b : Bool) → not b ≡ true → b ≡ false
 not_true true e = cc
 not_true false e = refl
 
-or_left : (a b : Bool) → (a || b) ≡ false → a ≡ false
+pub or_left : (a b : Bool) → (a || b) ≡ false → a ≡ false
 or_left true b e = e
 or_left false b e = refl
 
-or_right : (a b : Bool) → (a || b) ≡ false → b ≡ false
+pub or_right : (a b : Bool) → (a || b) ≡ false → b ≡ false
 or_right true b e = cc
 or_right false b e = e
 
-apart_sym : (s r : Section) → Apart s r → Apart r s
+pub apart_sym : (s r : Section) → Apart s r → Apart r s
 apart_sym s r h = ⊎_elim inr inl h
 
 -- sections that share nothing are apart
-apart_of : (a b : Section) → a.start < a.end → b.start < b.end → shares a b ≡ false → Apart a b
+pub apart_of : (a b : Section) → a.start < a.end → b.start < b.end → shares a b ≡ false → Apart a b
 apart_of a b ao bo h = by (nat_lt a.start b.end) (nat_lt b.start a.end) refl refl h
   where
     by : (c d : Bool) → nat_lt a.start b.end ≡ c → nat_lt b.start a.end ≡ d → (c && d) ≡ false → Apart a b
@@ -140,7 +141,7 @@ abbrev pub meets_any : Section → Section → List Module → Bool
 meets_any text ram [] = false
 meets_any text ram (m ∷ ms) = meets text ram m || meets_any text ram ms
 
-none_met : (text ram : Section) (ms : List Module) → lowest_met text ram ms ≡ None → meets_any text ram ms ≡ false
+pub none_met : (text ram : Section) (ms : List Module) → lowest_met text ram ms ≡ None → meets_any text ram ms ≡ false
 none_met text ram [] e = refl
 none_met text ram (x ∷ ms) e = by (meets text ram x) e (λ f. none_met text ram ms f)
   where
@@ -161,18 +162,18 @@ none_of : (o : Option TableFault) → is_none o ≡ true → o ≡ None
 none_of None e = refl
 none_of (Some f) e = absurd cc
 
-false_of : (b : Bool) → not b ≡ false → b ≡ true
+pub false_of : (b : Bool) → not b ≡ false → b ≡ true
 false_of true e = refl
 false_of false e = cc
 
-section_ok : (s : Section) → is_empty s ≡ false → is_odd s ≡ false → is_reserved s ≡ false → IsSection s
+pub section_ok : (s : Section) → is_empty s ≡ false → is_odd s ≡ false → is_reserved s ≡ false → IsSection s
 section_ok s a b c =
     let o = false_of (nat_lt s.start s.end) a in
     let p = false_of ((s.start % 2 == 0) && (s.end % 2 == 0)) b in
     let p1 = and_left (s.start % 2 == 0) (s.end % 2 == 0) p in
     let p2 = and_right (s.start % 2 == 0) (s.end % 2 == 0) p in
-    let l = or_left (nat_lt s.start 512) (nat_lt 65504 s.end) c in
-    let h = or_right (nat_lt s.start 512) (nat_lt 65504 s.end) c in
+    let l = or_left (nat_lt s.start DEVICES_END) (nat_lt FIRST_VECTOR s.end) c in
+    let h = or_right (nat_lt s.start DEVICES_END) (nat_lt FIRST_VECTOR s.end) c in
     record { order = grind (arith, nat_tests); even_start = grind (arith, nat_tests); even_end = grind (arith, nat_tests); low = grind (arith, nat_tests); high = grind (arith, nat_tests) }
 
 pub record Taken (t : Table) (text ram : Section) : Type 0 where

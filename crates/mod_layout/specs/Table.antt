@@ -1,5 +1,6 @@
 -- Modules, their places in the address space, and the table that holds them.
 use Rattle.std.specs.Prelude.{ℕ, ◌+◌, ◌-◌, ◌%◌, List, [], ◌∷◌, ◌++◌, ◌==◌, nat_lt, nat_le, if◌then◌else◌, Bool, true, false, ◌&&◌, ◌||◌, not, Option, Some, None, is_none, length}
+use Rattle.mod_layout.specs.declared.TheConstants.{DEVICES_END, FIRST_VECTOR}
 use Rattle.mod_layout.specs.declared.Section.{Section}
 use Rattle.mod_layout.specs.declared.Module.{Module}
 use Rattle.mod_layout.specs.declared.Place.{Place}
@@ -50,6 +51,11 @@ find_module id (m ∷ ms) = if m.id == id then Some m else find_module id ms
 abbrev pub module_of : ℕ → Table → Option Module
 module_of id t = find_module id t.modules
 
+-- the active module of a table
+abbrev pub own_of : Option ℕ → Table → Option Module
+own_of None t = None
+own_of (Some id) t = module_of id t
+
 -- ---- a new module
 
 -- whether two sections have a byte in common
@@ -68,9 +74,9 @@ is_empty s = not (nat_lt s.start s.end)
 abbrev pub is_odd : Section → Bool
 is_odd s = not ((s.start % 2 == 0) && (s.end % 2 == 0))
 
--- whether a section reaches below 0x0200, to the devices, or above 0xFFE0, to the vectors
+-- whether a section reaches the devices below, or the vectors above
 abbrev pub is_reserved : Section → Bool
-is_reserved s = nat_lt s.start 512 || nat_lt 65504 s.end
+is_reserved s = nat_lt s.start DEVICES_END || nat_lt FIRST_VECTOR s.end
 
 -- the lower of two ids, where the second may be none
 abbrev pub least : ℕ → Option ℕ → ℕ
@@ -105,7 +111,7 @@ fault_of t text ram =
     (overlap_or (lowest_met text ram t.modules) (shares text ram)
     (fault_if (is_reserved text || is_reserved ram) Reserved
     (fault_if (not (nat_lt (length t.modules) t.room)) Full
-    (fault_if (not (nat_lt t.given 65535)) Spent None)))))
+    (fault_if (not (nat_lt t.given 0xFFFF)) Spent None)))))
 
 -- whether a table takes a module with these sections
 abbrev pub takes : Table → Section → Section → Bool

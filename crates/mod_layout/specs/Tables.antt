@@ -1,5 +1,6 @@
 -- What a module table keeps.
 use Rattle.std.specs.Prelude.{◌≡◌, ◌≢◌, ◌⊎◌, ℕ, ◌+◌, ◌%◌, ◌<◌, ◌≤◌, List, [], ◌∷◌, length}
+use Rattle.mod_layout.specs.declared.TheConstants.{DEVICES_END, FIRST_VECTOR}
 use Rattle.mod_layout.specs.declared.Section.{Section}
 use Rattle.mod_layout.specs.declared.Module.{Module}
 use Rattle.mod_layout.specs.Table.{Table, size_of}
@@ -8,13 +9,13 @@ use Rattle.mod_layout.specs.Table.{Table, size_of}
 abbrev pub Apart : Section → Section → Type 0
 Apart a b = (a.start + size_of a ≤ b.start) ⊎ (b.start + size_of b ≤ a.start)
 
--- a section is not empty, has even ends, and lies from 0x0200 up and below 0xFFE0
+-- a section is not empty, has even ends, and lies above the devices and below the vectors
 pub record IsSection (s : Section) : Type 0 where
   pub order : s.start < s.end
   pub even_start : s.start % 2 ≡ 0
   pub even_end : s.end % 2 ≡ 0
-  pub low : 512 ≤ s.start
-  pub high : s.end ≤ 65504
+  pub low : DEVICES_END ≤ s.start
+  pub high : s.end ≤ FIRST_VECTOR
 
 -- a module's sections share no byte, and its id is one of those given so far
 pub record IsModule (given : ℕ) (x : Module) : Type 0 where

@@ -5,11 +5,20 @@ mod table;
 #[cfg(test)]
 mod tests;
 
-ghost use Rattle.std.specs.Prelude.{◌≡◌, ℕ, ◌+◌, ◌%◌, ◌==◌, ◌||◌};
-ghost use Rattle.mod_layout.specs.Table.{holds, shares, meets, is_empty, is_odd, is_reserved, Table, place_of};
+ghost use Rattle.std.specs.Prelude.{◌≡◌, ℕ, ◌+◌, ◌%◌, ◌≤◌, ◌==◌, ◌||◌};
+ghost use Rattle.mod_layout.specs.Table.{holds, size_of, shares, meets, is_empty, is_odd, is_reserved, Table, place_of};
 ghost use Rattle.mod_layout.specs.Tables.{IsTable};
 
 pub use table::ModuleTable;
+
+/// The first address that is not a device's.
+pub const DEVICES_END: u16 = 0x0200;
+
+/// The address of the first of the sixteen vectors, which no section reaches: the largest end of one.
+pub const FIRST_VECTOR: u16 = 0xffe0;
+
+/// The address of the last vector, where the machine starts.
+pub const RESET_VECTOR: u16 = 0xfffe;
 
 /// The addresses from `start` on, below `end`.
 #[derive(Clone, Copy, Debug, Default, PartialEq, Eq)]
@@ -19,8 +28,9 @@ pub struct Section {
 }
 
 impl Section {
-    fn holds(self, addr: u16) -> bool
-        ensures { result ≡ holds self addr }
+    /// Whether it has this address.
+    pub fn holds(self, addr: u16) -> bool
+        ensures exact { result ≡ holds self addr }
     {
         self.start <= addr && addr < self.end
     }
@@ -31,8 +41,17 @@ impl Section {
         self.start < other.end && other.start < self.end
     }
 
-    fn is_empty(self) -> bool
-        ensures { result ≡ is_empty self }
+    /// How many bytes it has.
+    pub fn len(self) -> u16
+        requires order { self.start ≤ self.end }
+        ensures size { result ≡ size_of self }
+    {
+        self.end - self.start
+    }
+
+    /// Whether its start is not below its end.
+    pub fn is_empty(self) -> bool
+        ensures exact { result ≡ is_empty self }
     {
         self.start >= self.end
     }
@@ -46,7 +65,7 @@ impl Section {
     fn is_reserved(self) -> bool
         ensures { result ≡ is_reserved self }
     {
-        self.start < 0x0200 || self.end > 0xFFE0
+        self.start < DEVICES_END || self.end > FIRST_VECTOR
     }
 }
 
@@ -104,7 +123,7 @@ pub enum TableFault {
     /// A section meets one of a held module, and `with` is the lowest such id. Where none is met and
     /// the two sections meet each other, `with` is 0.
     Overlap { with: u16 },
-    /// A start is below 0x0200, where the devices are, or an end above 0xFFE0, where the vectors are.
+    /// A start is below [`DEVICES_END`], or an end above [`FIRST_VECTOR`].
     Reserved,
     /// As many modules are held as there is room for.
     Full,
@@ -114,5 +133,5 @@ pub enum TableFault {
 
 /// Both bytes of a word at an even address are in the same place: sections have even ends.
 pub fn words_lie_in_one_place()
-    ensures { (t : Table) (a : ℕ) → IsTable t → a % 2 ≡ 0 → place_of t (a + 1) ≡ place_of t a }
+    ensures place { (t : Table) (a : ℕ) → IsTable t → a % 2 ≡ 0 → place_of t (a + 1) ≡ place_of t a }
 {}

@@ -1,13 +1,16 @@
 //! The table of modules.
 
-ghost use Rattle.std.specs.Prelude.{◌≡◌, ◌+◌, ◌↔◌, ◌⊎◌, OnOk, OnErr, IfOk, IfErr, IsOk, IsTrue, IsSome, option_copied, position, find, ◌==◌};
-ghost use Rattle.mod_layout.specs.Table.{place_of, place_in, module_of, fault_of, lowest_met as lowest_met_in, with_module, without, empty_table};
-ghost use Rattle.mod_layout.specs.Tables.{IsTable};
+ghost use Rattle.std.specs.Prelude.{◌≡◌, ◌+◌, ◌↔◌, ◌⊎◌, ◌≤◌, [], length, OnOk, OnErr, IfOk, IfErr, IfSome, OnSome, IsOk, IsTrue, IsSome, option_copied, position, find, ◌==◌};
+ghost use Rattle.std.specs.Slice.Iter.{iter_rest};
+ghost use Rattle.std.specs.Iterator.Adapters.{IterYieldsInOrder};
+ghost use Rattle.mod_layout.specs.Table.{place_of, place_in, module_of, own_of, fault_of, lowest_met as lowest_met_in, with_module, without, empty_table};
+ghost use Rattle.mod_layout.specs.Tables.{IsModule, IsTable};
 
 use crate::{Module, Place, Section, TableFault};
 use arrayvec::ArrayVec;
 use std::alloc::AllocError;
 use std::marker::Model;
+use std::slice;
 
 /// The most modules that any table has room for.
 const MOST: usize = 32;
@@ -56,7 +59,7 @@ impl ModuleTable {
 
     /// A table with no module, and room for 8 or 32.
     pub fn with_room(room: u16) -> Self
-        requires { (room ≡ 8) ⊎ (room ≡ 32) }
+        requires rooms { (room ≡ 8) ⊎ (room ≡ 32) }
         ensures empty { result ≡ empty_table room }
         ensures table { IsTable result }
     {
@@ -73,6 +76,30 @@ impl ModuleTable {
         ensures table { IsTable self.now }
     {
         self.room
+    }
+
+    /// How many modules are held.
+    pub fn len(&self) -> usize
+        ensures len { result ≡ length self.now.modules }
+        ensures room { result ≤ self.now.room }
+    {
+        self.modules.len()
+    }
+
+    /// Whether no module is held.
+    pub fn is_empty(&self) -> bool
+        ensures empty { IsTrue result ↔ (self.now.modules ≡ []) }
+    {
+        self.modules.is_empty()
+    }
+
+    /// The modules held, in the order in which they came.
+    pub fn iter(&self) -> slice::Iter<'_, Module>
+        ensures modules { iter_rest result ≡ self.now.modules }
+        ensures runs { IterYieldsInOrder Module }
+        ensures table { IsTable self.now }
+    {
+        self.modules.iter()
     }
 
     /// Takes a module in, and gives its id: the number of ids given before, plus 1.
@@ -131,6 +158,15 @@ impl ModuleTable {
         ensures table { IsTable self.now }
     {
         module_with(self.modules.as_slice(), id)
+    }
+
+    /// The active module, where the table holds it.
+    pub fn own(&self, active: Option<u16>) -> Option<Module>
+        ensures own { result ≡ own_of active self.now }
+        ensures kept { IfSome result (IsModule self.now.given) }
+        ensures table { OnSome result (IsTable self.now) }
+    {
+        self.get(active?).copied()
     }
 
     // The first refusal that applies to a module with these sections.

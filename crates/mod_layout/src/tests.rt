@@ -136,6 +136,13 @@ fn places(rt: HostRuntime) -> Result<(), Fail> {
     };
     assert_eq!(rt; table.get(1).copied(), Some(module));
     assert_eq!(rt; table.get(2).copied(), None);
+    assert_eq!(rt; (table.own(Some(1)), table.own(None)), (Some(module), None));
+    assert_eq!(rt; (table.len(), table.is_empty()), (1, false));
+    assert_eq!(rt; table.iter().next().copied(), Some(module));
+    assert_eq!(rt;
+        (text.len(), text.is_empty(), text.holds(0x0305)),
+        (6, false, true)
+    );
     assert!(rt; table.remove(1));
     assert_eq!(rt; table.get(1).copied(), None);
     assert_eq!(rt; table.at(0x0300), Place::Open);

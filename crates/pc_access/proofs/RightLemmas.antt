@@ -4,11 +4,12 @@ use Rattle.std.specs.List.{list_all}
 use Rattle.std.proofs.lemmas.Bool.Decides.{nat_tests}
 use Rattle.sm_words.specs.declared.width.Width.{Width}
 use Rattle.sm_words.specs.declared.width.Width.TheVariants.{Byte, Word}
+use Rattle.mod_layout.specs.declared.TheConstants.{DEVICES_END}
 use Rattle.mod_layout.specs.declared.Place.{Place}
 use Rattle.mod_layout.specs.declared.Place.TheVariants.{Open, Entry, Text, Data}
 use Rattle.mod_layout.specs.Table.{Table, place_of}
 use Rattle.mod_layout.specs.Tables.{IsTable}
-use Rattle.mod_layout.proofs.TableLemmas.{one_place}
+use Rattle.mod_layout.proofs.TableLemmas.{false_of, one_place}
 use Rattle.pc_access.specs.declared.Kind.{Kind}
 use Rattle.pc_access.specs.declared.Kind.TheVariants.{Fetch, Read, Write}
 use Rattle.pc_access.specs.declared.Rule.{Rule}
@@ -30,10 +31,6 @@ refused_not false r a id e = refl
 allowed_by : (b : Bool) (r : Rule) (a id : ℕ) → b ≡ false → refuse_if b r a id ≡ None
 allowed_by b r a id e = rw e refl
 
-own_of : (b : Bool) → not b ≡ false → b ≡ true
-own_of true e = refl
-own_of false e = cc
-
 -- what no rule refuses at a place is granted there, and is not barred
 record IsFree (active : Option ℕ) (held : List ℕ) (p : Place) (k : Kind) (a : ℕ) : Type 0 where
   granted : grants (is_own active p) p k ≡ true
@@ -47,18 +44,18 @@ not_own : (b : Bool) → b ≡ true → not b ≡ false
 not_own b e = rw e refl
 
 free_at : (active : Option ℕ) (held : List ℕ) (p : Place) (k : Kind) (a : ℕ) → right_at p active held k a ≡ None → IsFree active held p k a
-free_at active held Open Fetch a e = record { granted = refl; free = refused_not (nat_lt a 512) _ a 0 e }
+free_at active held Open Fetch a e = record { granted = refl; free = refused_not (nat_lt a DEVICES_END) _ a 0 e }
 free_at active held Open Read a e = record { granted = refl; free = refl }
 free_at active held Open Write a e = record { granted = refl; free = refl }
 free_at active held (Entry id) Fetch a e = record { granted = refl; free = refused_not (is_held id held) _ a id e }
 free_at active held (Entry id) Read a e = record { granted = refl; free = refl }
 free_at active held (Entry id) Write a e = absurd cc
-free_at active held (Text id) Fetch a e = record { granted = (granted_data (is_id id active) id (own_of (is_id id active) (refused_not (not (is_id id active)) _ a id e))).2; free = refl }
+free_at active held (Text id) Fetch a e = record { granted = (granted_data (is_id id active) id (false_of (is_id id active) (refused_not (not (is_id id active)) _ a id e))).2; free = refl }
 free_at active held (Text id) Read a e = record { granted = refl; free = refl }
 free_at active held (Text id) Write a e = absurd cc
 free_at active held (Data id) Fetch a e = absurd cc
-free_at active held (Data id) Read a e = record { granted = (granted_data (is_id id active) id (own_of (is_id id active) (refused_not (not (is_id id active)) _ a id e))).0; free = refl }
-free_at active held (Data id) Write a e = record { granted = (granted_data (is_id id active) id (own_of (is_id id active) (refused_not (not (is_id id active)) _ a id e))).1; free = refl }
+free_at active held (Data id) Read a e = record { granted = (granted_data (is_id id active) id (false_of (is_id id active) (refused_not (not (is_id id active)) _ a id e))).0; free = refl }
+free_at active held (Data id) Write a e = record { granted = (granted_data (is_id id active) id (false_of (is_id id active) (refused_not (not (is_id id active)) _ a id e))).1; free = refl }
 
 -- of the own module's data and text a grant says that it is the own
 data_own : (b : Bool) (id : ℕ) (k : Kind) → grants b (Data id) k ≡ true → b ≡ true
@@ -74,7 +71,7 @@ text_own true id e = refl
 text_own false id e = absurd cc
 
 at_free : (active : Option ℕ) (held : List ℕ) (p : Place) (k : Kind) (a : ℕ) → grants (is_own active p) p k ≡ true → is_barred_at p held k a ≡ false → right_at p active held k a ≡ None
-at_free active held Open Fetch a g f = allowed_by (nat_lt a 512) _ a 0 f
+at_free active held Open Fetch a g f = allowed_by (nat_lt a DEVICES_END) _ a 0 f
 at_free active held Open Read a g f = refl
 at_free active held Open Write a g f = refl
 at_free active held (Entry id) Fetch a g f = allowed_by (is_held id held) _ a id f

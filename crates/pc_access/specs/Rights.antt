@@ -3,6 +3,7 @@ use Rattle.std.specs.Prelude.{◌≡◌, ℕ, ◌+◌, ◌%◌, List, [], ◌∷
 use Rattle.std.specs.List.{list_all}
 use Rattle.sm_words.specs.declared.width.Width.{Width}
 use Rattle.sm_words.specs.declared.width.Width.TheVariants.{Byte, Word}
+use Rattle.mod_layout.specs.declared.TheConstants.{DEVICES_END}
 use Rattle.mod_layout.specs.declared.Place.{Place}
 use Rattle.mod_layout.specs.declared.Place.TheVariants.{Open, Entry, Text, Data}
 use Rattle.mod_layout.specs.Table.{Table, place_of}
@@ -77,7 +78,7 @@ abbrev pub right_at : Place → Option ℕ → List ℕ → Kind → ℕ → Opt
 right_at (Entry id) active held Fetch a = refuse_if (is_held id held) Reenter a id
 right_at (Text id) active held Fetch a = refuse_if (not (is_id id active)) FetchNotEntry a id
 right_at (Data id) active held Fetch a = refuse_if true FetchData a id
-right_at Open active held Fetch a = refuse_if (nat_lt a 512) FetchDevice a 0
+right_at Open active held Fetch a = refuse_if (nat_lt a DEVICES_END) FetchDevice a 0
 right_at (Data id) active held Read a = refuse_if (not (is_id id active)) ReadData a id
 right_at _ active held Read a = None
 right_at Open active held Write a = None
@@ -118,7 +119,7 @@ touched x =
 -- whether an instruction starts at the entry of a held module, or among the devices
 abbrev pub is_barred_at : Place → List ℕ → Kind → ℕ → Bool
 is_barred_at (Entry id) held Fetch a = is_held id held
-is_barred_at Open held Fetch a = nat_lt a 512
+is_barred_at Open held Fetch a = nat_lt a DEVICES_END
 is_barred_at place held kind a = false
 
 -- an access is aligned, the table of rights grants each byte that it touches, and no instruction starts where it is barred

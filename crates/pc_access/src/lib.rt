@@ -8,7 +8,7 @@ ghost use Rattle.std.specs.Prelude.{◌≡◌, OnOk, IfErr, IsOk, ◌↔◌, Som
 ghost use Rattle.mod_layout.specs.Table.{place_of};
 ghost use Rattle.pc_access.specs.Rights.{right, right_at, access_of, IsRightful, is_misaligned as is_misaligned_lem, refuse_if as refuse_if_lem};
 
-use mod_layout::{ModuleTable, Place};
+use mod_layout::{DEVICES_END, ModuleTable, Place};
 use sm_words::Width;
 
 /// What an access does.
@@ -52,7 +52,7 @@ pub enum Rule {
     Misaligned,
     /// The first word is no instruction.
     Illegal,
-    /// An instruction starts below 0x0200.
+    /// An instruction starts among the devices.
     FetchDevice,
 }
 
@@ -123,7 +123,7 @@ fn refusal(place: Place, active: Option<u16>, kind: Kind, addr: u16, held: &[u16
 {
     match kind {
         Kind::Fetch => match place {
-            Place::Open => refuse_if(addr < 0x0200, Rule::FetchDevice, addr, 0),
+            Place::Open => refuse_if(addr < DEVICES_END, Rule::FetchDevice, addr, 0),
             Place::Entry(id) => refuse_if(held.contains(&id), Rule::Reenter, addr, id),
             Place::Text(id) => refuse_if(active != Some(id), Rule::FetchNotEntry, addr, id),
             Place::Data(id) => refuse_if(true, Rule::FetchData, addr, id),

@@ -1,6 +1,6 @@
 //! The frames that stand while modules are interrupted.
 
-ghost use Rattle.std.specs.Prelude.{◌≡◌, ◌↔◌, ◌≤◌, ℕ, List, [], ◌∷◌, length, slice_get, reverse, OnOk, OnErr, IsErr, IsNone, IfSome, IfNone};
+ghost use Rattle.std.specs.Prelude.{◌≡◌, ◌↔◌, ◌≤◌, ℕ, List, [], ◌∷◌, length, slice_get, reverse, OnOk, OnErr, IsErr, IsTrue, IsNone, IfSome, IfNone};
 ghost use Rattle.reg_backup.specs.Held.{held_ids, kinds, newest_kind, Differ, IsNew};
 
 use crate::backup::Backup;
@@ -8,7 +8,7 @@ use arrayvec::ArrayVec;
 use std::marker::Model;
 
 /// The most frames that can stand.
-const MOST: usize = 8;
+pub const MOST_FRAMES: usize = 8;
 
 /// One interruption.
 #[derive(Clone, Copy, Debug, Default, PartialEq, Eq)]
@@ -49,7 +49,7 @@ pub struct FramesFull;
 /// At most eight frames. No module is in two of them.
 #[derive(Debug, Drop)]
 pub struct Frames {
-    list: ArrayVec<Frame, MOST>,
+    list: ArrayVec<Frame, MOST_FRAMES>,
 }
 
 impl Model for Frames {
@@ -68,18 +68,33 @@ impl Model for Frames {
 impl Frames {
     /// No frame.
     pub fn new() -> Frames
-        ensures { result ≡ [] }
+        ensures empty { result ≡ [] }
     {
         Frames {
             list: ArrayVec::new(),
         }
     }
 
+    /// Whether no frame stands.
+    pub fn is_empty(&self) -> bool
+        ensures empty { IsTrue result ↔ (self.now ≡ []) }
+    {
+        self.list.is_empty()
+    }
+
+    /// Whether no further frame can stand.
+    pub fn is_full(&self) -> bool
+        ensures full { IsTrue result ↔ (length self.now ≡ MOST_FRAMES) }
+        ensures most { length self.now ≤ MOST_FRAMES }
+    {
+        self.list.is_full()
+    }
+
     /// Adds a frame as the newest. Refused exactly where eight stand.
     pub fn push(&mut self, frame: Frame) -> Result<(), FramesFull>
-        requires { IsNew frame self.old }
+        requires new { IsNew frame self.old }
         ensures ok { OnOk result (self.new ≡ frame ∷ self.old) }
-        ensures full { IsErr result ↔ (length self.old ≡ 8) }
+        ensures full { IsErr result ↔ (length self.old ≡ MOST_FRAMES) }
         ensures err { OnErr result (self.new ≡ self.old) }
     {
         self.list.try_push(frame).map_err(|_| FramesFull)
@@ -114,10 +129,10 @@ impl Frames {
     }
 
     /// The ids of the modules in frames, the oldest first.
-    pub fn ids(&self) -> ArrayVec<u16, 8>
+    pub fn ids(&self) -> ArrayVec<u16, MOST_FRAMES>
         ensures ids { result.items ≡ reverse (held_ids self.now) }
         ensures differ { Differ (held_ids self.now) }
-        ensures room { length self.now ≤ 8 }
+        ensures room { length self.now ≤ MOST_FRAMES }
     {
         let mut ids = ArrayVec::new();
         for frame in self.list.as_slice() {

@@ -7,4 +7,4 @@ mod frames;
 mod tests;
 
 pub use backup::{After, Backup, Phase, resume, save};
-pub use frames::{Frame, FrameKind, Frames, FramesFull};
+pub use frames::{Frame, FrameKind, Frames, FramesFull, MOST_FRAMES};

@@ -32,6 +32,7 @@ fn eight_frames(rt: HostRuntime) -> Result<(), Fail> {
     for _ in 0..5 {
         frames.push(Frame::Plain)?;
     }
+    assert!(rt; frames.is_full() && !frames.is_empty());
     assert_eq!(rt; frames.push(Frame::Plain), Err(FramesFull));
     assert_eq!(rt; frames.ids().as_slice(), [5, 2].as_slice());
     let kinds = [

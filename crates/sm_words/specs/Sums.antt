@@ -1,14 +1,15 @@
 -- The operations on bytes and words as sums, quotients and remainders of whole numbers
 -- (MSP430x1xx Family User's Guide SLAU049, section 3.4).
 use Rattle.std.specs.Prelude.{ℕ, zero, suc, ◌+◌, ◌-◌, ◌*◌, ◌/◌, ◌%◌, ◌==◌, nat_lt, nat_le, if◌then◌else◌, Bool, true, false, ◌&&◌, ◌||◌, not, ℤ, pos, ◌-ℤ◌, ◌+ℤ◌, int_lt, bit_and, bit_xor}
+use Rattle.sm_words.specs.Words.{word_of}
 use Rattle.sm_words.specs.declared.width.Width.{Width}
 use Rattle.sm_words.specs.declared.width.Width.TheVariants.{Byte, Word}
 use Rattle.sm_words.specs.declared.width.Sum.{Sum}
 
 -- the first number that a byte or a word is too small for
 abbrev pub limit : Width → ℕ
-limit Byte = 256
-limit Word = 65536
+limit Byte = 0x100
+limit Word = 0x10000
 
 -- the low byte, or the word
 abbrev pub low : Width → ℕ → ℕ
@@ -88,8 +89,8 @@ rra_of w a = shifted w a (one_if (is_negative w a))
 
 -- the low byte as a signed word; V is 0
 abbrev pub sxt_of : ℕ → Sum
-sxt_of a = logic_of Word (a % 256 + 65280 * one_if (nat_le 128 (a % 256))) false
+sxt_of a = logic_of Word (a % 0x100 + 0xFF00 * one_if (nat_le 0x80 (a % 0x100))) false
 
 -- the two bytes of a word changed about
 abbrev pub swpb_of : ℕ → ℕ
-swpb_of a = a / 256 + 256 * (a % 256)
+swpb_of a = word_of (a / 0x100) (a % 0x100)

@@ -9,7 +9,7 @@ use crate::width::Width;
 
 /// The sign bit says that the signed number is below 0.
 pub fn sign(a: u16, width: Width)
-    ensures { IsTrue (is_negative width a) ↔ (signed width a <ℤ pos 0) }
+    ensures below_zero { IsTrue (is_negative width a) ↔ (signed width a <ℤ pos 0) }
 {}
 
 /// A sum is its value and its carry, and the signed sum where there is no overflow.
@@ -69,7 +69,7 @@ pub fn halving(a: u16, width: Width)
 
 /// The sign extension is the signed number of the low byte.
 pub fn sign_extension(a: u16)
-    ensures { signed Word (sxt_of a).value ≡ signed Byte a }
+    ensures signed { signed Word (sxt_of a).value ≡ signed Byte a }
 {}
 
 /// Swapping exchanges the two bytes, so twice it changes nothing.
@@ -81,17 +81,17 @@ pub fn swapping(a: u16)
 
 /// Each bit of AND is the product of the two bits.
 pub fn conjunction(a: u16, b: u16, width: Width)
-    ensures { (k : ℕ) → bit (2 ^ k) (and_of width a b).value
+    ensures bits { (k : ℕ) → bit (2 ^ k) (and_of width a b).value
         ≡ bit (2 ^ k) (low width a) * bit (2 ^ k) (low width b) }
 {}
 
 /// Each bit of XOR is the sum of the two bits, modulo 2.
 pub fn difference(a: u16, b: u16, width: Width)
-    ensures { (k : ℕ) → bit (2 ^ k) (xor_of width a b).value
+    ensures bits { (k : ℕ) → bit (2 ^ k) (xor_of width a b).value
         ≡ (bit (2 ^ k) (low width a) + bit (2 ^ k) (low width b)) % 2 }
 {}
 
 /// A core's own words are all kept.
 pub fn unchanged()
-    ensures { (core : List ℕ) → IsCore core → core_of core ≡ core }
+    ensures kept { (core : List ℕ) → IsCore core → core_of core ≡ core }
 {}

@@ -6,10 +6,11 @@
 pub mod laws;
 mod operations;
 mod registers;
+pub mod status;
 mod width;
 
 pub use operations::{add, and, dadd, rra, rrc, swpb, sxt, xor};
-pub use registers::Core;
+pub use registers::{CG, Core, PC, SP, SR};
 pub use width::{Sum, Width};
 
 #[cfg(test)]

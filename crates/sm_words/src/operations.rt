@@ -4,31 +4,11 @@ ghost use Rattle.sm_words.specs.Sums.{limit, low, is_negative, signed, one_if, f
 
 use crate::width::{Sum, Width};
 
-/// The first number that a byte or a word is too small for.
-fn limit(width: Width) -> u32
-    ensures { result ≡ limit width }
-{
-    match width {
-        Width::Byte => 256,
-        Width::Word => 65536,
-    }
-}
-
-/// The low byte, or the word.
-fn low(value: u16, width: Width) -> u16
-    ensures { result ≡ low width value }
-{
-    match width {
-        Width::Byte => value % 256,
-        Width::Word => value,
-    }
-}
-
 /// Whether the sign bit is set.
 fn is_negative(value: u16, width: Width) -> bool
     ensures { result ≡ is_negative width value }
 {
-    u32::from(low(value, width)) >= limit(width) / 2
+    u32::from(width.low(value)) >= width.limit() / 2
 }
 
 /// The signed number that a byte or a word stands for, in two's complement.
@@ -37,9 +17,9 @@ fn signed(value: u16, width: Width) -> i32
     ensures least { (pos 0 -ℤ pos 32768) ≤ℤ result }
     ensures most { result ≤ℤ pos 32767 }
 {
-    let number = i32::from(low(value, width));
+    let number = i32::from(width.low(value));
     if is_negative(value, width) {
-        number - limit(width) as i32
+        number - width.limit() as i32
     } else {
         number
     }
@@ -71,9 +51,9 @@ fn flagged(value: u16, carry: bool, overflow: bool, width: Width) -> Sum
 /// The sum of two bytes or words and a carry. C is set where it reaches 256 or 65,536, V where the sum
 /// of the signed numbers is outside their range.
 pub fn add(a: u16, b: u16, c: bool, width: Width) -> Sum
-    ensures { result ≡ sum_of width a b (one_if c) }
+    ensures exact { result ≡ sum_of width a b (one_if c) }
 {
-    let total = u32::from(low(a, width)) + u32::from(low(b, width)) + u32::from(c);
+    let total = u32::from(width.low(a)) + u32::from(width.low(b)) + u32::from(c);
     let overflow = is_outside(signed_total(a, b, c, width), width);
     carried(total, overflow, width)
 }
@@ -90,20 +70,20 @@ fn signed_total(a: u16, b: u16, c: bool, width: Width) -> i32
 fn carried(total: u32, overflow: bool, width: Width) -> Sum
     ensures { result ≡ flagged width (low width total) (nat_le (limit width) total) overflow }
 {
-    let bound = limit(width);
+    let bound = width.limit();
     flagged((total % bound) as u16, total >= bound, overflow, width)
 }
 
 /// The decimal sum of two bytes or words and a carry, by digits of four bits. C is the carry of the
 /// highest digit; V is 0.
 pub fn dadd(a: u16, b: u16, c: bool, width: Width) -> Sum
-    ensures { result ≡ dadd_of width a b (one_if c) }
+    ensures exact { result ≡ dadd_of width a b (one_if c) }
 {
     let digits = match width {
         Width::Byte => 2,
         Width::Word => 4,
     };
-    let total = decimal_sum(digits, low(a, width), low(b, width), c);
+    let total = decimal_sum(digits, width.low(a), width.low(b), c);
     carried(total, false, width)
 }
 
@@ -125,50 +105,50 @@ fn decimal_sum(digits: u8, a: u16, b: u16, c: bool) -> u32
 /// A byte or a word rotated right by one through the carry: the old carry becomes the highest bit, the
 /// lowest bit the carry. V is 0.
 pub fn rrc(a: u16, c: bool, width: Width) -> Sum
-    ensures { result ≡ rrc_of width a (one_if c) }
+    ensures exact { result ≡ rrc_of width a (one_if c) }
 {
-    let top = if c { limit(width) / 2 } else { 0 };
-    let value = low(a, width) / 2 + top as u16;
+    let top = if c { width.limit() / 2 } else { 0 };
+    let value = width.low(a) / 2 + top as u16;
     flagged(value, a % 2 == 1, false, width)
 }
 
 /// A byte or a word shifted right by one with its sign kept; C is the bit shifted out, V is 0.
 pub fn rra(a: u16, width: Width) -> Sum
-    ensures { result ≡ rra_of width a }
+    ensures exact { result ≡ rra_of width a }
 {
     rrc(a, is_negative(a, width), width)
 }
 
 /// The low byte as a signed word. C is the opposite of Z, V is 0.
 pub fn sxt(a: u16) -> Sum
-    ensures { result ≡ sxt_of a }
+    ensures exact { result ≡ sxt_of a }
 {
-    let byte = a % 256;
-    let value = if byte >= 128 { byte + 65280 } else { byte };
+    let byte = Width::Byte.low(a);
+    let value = if byte >= 0x80 { byte + 0xff00 } else { byte };
     flagged(value, value != 0, false, Width::Word)
 }
 
 /// The word with its two bytes changed about.
 pub fn swpb(a: u16) -> u16
-    ensures { result ≡ swpb_of a }
+    ensures exact { result ≡ swpb_of a }
 {
-    a / 256 + 256 * (a % 256)
+    a / 0x100 + 0x100 * (a % 0x100)
 }
 
 /// The bits that both bytes or words have. C is the opposite of Z, V is 0.
 pub fn and(a: u16, b: u16, width: Width) -> Sum
-    ensures { result ≡ and_of width a b }
+    ensures exact { result ≡ and_of width a b }
 {
-    let value = low(a, width) & low(b, width);
+    let value = width.low(a) & width.low(b);
     flagged(value, value != 0, false, width)
 }
 
 /// The bits that one of two bytes or words alone has. C is the opposite of Z, V is set where both are
 /// negative.
 pub fn xor(a: u16, b: u16, width: Width) -> Sum
-    ensures { result ≡ xor_of width a b }
+    ensures exact { result ≡ xor_of width a b }
 {
-    let value = low(a, width) ^ low(b, width);
+    let value = width.low(a) ^ width.low(b);
     let both = is_negative(a, width) && is_negative(b, width);
     flagged(value, value != 0, both, width)
 }

@@ -1,12 +1,23 @@
 //! The sixteen registers.
 ghost use Rattle.std.specs.Prelude.{◌≡◌, length, slice_index};
 ghost use Rattle.sm_words.specs.Words.{reg, kept, put, core_of, IsCore};
+ghost use Rattle.sm_words.specs.Status.{is_gie, is_cpu_off};
 
+use crate::status;
 use std::marker::Model;
 
-/// The sixteen registers of the processor: R0 is PC, R1 is SP, R2 is SR, R3 is the constant generator.
+/// The register that is the program counter.
+pub const PC: u8 = 0;
+/// The register that is the stack pointer.
+pub const SP: u8 = 1;
+/// The register that is the status register; its bits are named in [`status`].
+pub const SR: u8 = 2;
+/// The register that is the constant generator.
+pub const CG: u8 = 3;
+
+/// The sixteen registers of the processor.
 ///
-/// PC and SP are even, SR is below 512 and R3 is 0, always. A contract sees a core as the list of its
+/// PC and SP are even, SR has nine bits and R3 is 0, always. A contract sees a core as the list of its
 /// sixteen words.
 #[derive(Clone, Copy, PartialEq, Eq, Debug)]
 pub struct Core {
@@ -35,10 +46,10 @@ impl Core {
         ensures core { IsCore result }
     {
         let mut words = r;
-        words[0] -= words[0] % 2;
-        words[1] -= words[1] % 2;
-        words[2] %= 512;
-        words[3] = 0;
+        words[usize::from(PC)] -= words[usize::from(PC)] % 2;
+        words[usize::from(SP)] -= words[usize::from(SP)] % 2;
+        words[usize::from(SR)] %= status::LIMIT;
+        words[usize::from(CG)] = 0;
         Core { r: words }
     }
 
@@ -51,6 +62,44 @@ impl Core {
             Some(word) => *word,
             None => 0,
         }
+    }
+
+    /// The program counter.
+    pub fn pc(&self) -> u16
+        ensures pc { result ≡ reg self.now PC }
+        ensures core { IsCore self.now }
+    {
+        self.get(PC)
+    }
+
+    /// The stack pointer.
+    pub fn sp(&self) -> u16
+        ensures sp { result ≡ reg self.now SP }
+        ensures core { IsCore self.now }
+    {
+        self.get(SP)
+    }
+
+    /// The status register.
+    pub fn sr(&self) -> u16
+        ensures sr { result ≡ reg self.now SR }
+        ensures core { IsCore self.now }
+    {
+        self.get(SR)
+    }
+
+    /// Whether interrupts are enabled.
+    pub fn is_gie(&self) -> bool
+        ensures bit { result ≡ is_gie self.now }
+    {
+        status::is_set(status::GIE, self.sr())
+    }
+
+    /// Whether the processor is off.
+    pub fn is_cpu_off(&self) -> bool
+        ensures bit { result ≡ is_cpu_off self.now }
+    {
+        status::is_set(status::CPU_OFF, self.sr())
     }
 
     /// Writes a word to register `n`, which keeps of it what it can hold; nothing changes where there is
@@ -73,9 +122,9 @@ fn kept(n: u8, word: u16) -> u16
     ensures { result ≡ kept n word }
 {
     match n {
-        0 | 1 => word - word % 2,
-        2 => word % 512,
-        3 => 0,
+        PC | SP => word - word % 2,
+        SR => word % status::LIMIT,
+        CG => 0,
         _ => word,
     }
 }

@@ -1,5 +1,5 @@
 //! Worked sums, and each call once.
-use crate::{Core, Sum, Width, add, and, dadd, rra, rrc, swpb, sxt, xor};
+use crate::{CG, Core, PC, SP, SR, Sum, Width, add, and, dadd, rra, rrc, status, swpb, sxt, xor};
 
 fn sum(value: u16, n: bool, z: bool, c: bool, v: bool) -> Sum {
     Sum { value, n, z, c, v }
@@ -59,11 +59,61 @@ fn whole_words(rt: HostRuntime) {
 #[test]
 fn registers(rt: HostRuntime) {
     let mut core = Core::new([0xffff; 16]);
-    for (n, word) in [(0, 0xfffe), (1, 0xfffe), (2, 0x01ff), (3, 0), (4, 0xffff)] {
+    for (n, word) in [
+        (PC, 0xfffe),
+        (SP, 0xfffe),
+        (SR, 0x01ff),
+        (CG, 0),
+        (4, 0xffff),
+    ] {
         assert_eq!(rt; core.get(n), word, "in R{n}");
     }
-    for (n, word) in [(0, 0x1234), (1, 0x1234), (2, 0x0035), (3, 0), (15, 0x1235)] {
+    for (n, word) in [
+        (PC, 0x1234),
+        (SP, 0x1234),
+        (SR, 0x0035),
+        (CG, 0),
+        (15, 0x1235),
+    ] {
         core.put(n, 0x1235);
         assert_eq!(rt; core.get(n), word, "in R{n}");
     }
+}
+
+#[test]
+fn named_registers(rt: HostRuntime) {
+    let mut core = Core::new([0x0300; 16]);
+    core.put(SR, status::GIE);
+    assert_eq!(rt; (core.pc(), core.sp(), core.sr()), (0x0300, 0x0300, 0x0008));
+    assert!(rt; core.is_gie() && !core.is_cpu_off());
+}
+
+#[test]
+fn status_bits(rt: HostRuntime) {
+    assert!(rt; status::is_set(status::OVERFLOW, 0x0100));
+    // All flags but Z; GIE, CPUOFF, OSCOFF, SCG0 and SCG1 stay.
+    let flags = sum(0, true, false, true, true);
+    assert_eq!(rt; status::with_flags(&flags, 0x00fa), 0x01fd);
+    assert_eq!(rt; status::confine(0x00f8, 0x0107), 0x01ff);
+    assert_eq!(rt; status::confine(0x0107, 0x00f8), 0x0000);
+    assert_eq!(rt; status::interrupt(0x01ff), 0x0040);
+}
+
+#[test]
+fn widths(rt: HostRuntime) {
+    assert_eq!(rt;
+        (Width::Byte.limit(), Width::Word.limit()),
+        (0x100, 0x10000)
+    );
+    assert_eq!(rt;
+        (Width::Byte.low(0x1234), Width::Word.low(0x1234)),
+        (0x34, 0x1234)
+    );
+    assert_eq!(rt;
+        (
+            Width::Byte.complement(0x1234),
+            Width::Word.complement(0x1234)
+        ),
+        (0xcb, 0xedcb)
+    );
 }

@@ -1,3 +1,6 @@
+ghost use Rattle.std.specs.Prelude.{◌≡◌};
+ghost use Rattle.sm_words.specs.Sums.{limit, low, complement};
+
 /// How much of a register or of the memory an instruction works on.
 #[derive(Clone, Copy, PartialEq, Eq, Debug, Default)]
 pub enum Width {
@@ -6,6 +9,38 @@ pub enum Width {
     /// All sixteen bits of a register, or two bytes of memory at an even address.
     #[default]
     Word,
+}
+
+impl Width {
+    /// The first number that a byte or a word is too small for.
+    pub fn limit(self) -> u32
+        ensures exact { result ≡ limit self }
+    {
+        match self {
+            Width::Byte => 0x100,
+            Width::Word => 0x10000,
+        }
+    }
+
+    /// The low byte, or the word.
+    pub fn low(self, value: u16) -> u16
+        ensures exact { result ≡ low self value }
+    {
+        match self {
+            Width::Byte => value % 0x100,
+            Width::Word => value,
+        }
+    }
+
+    /// Each bit of the low byte, or of the word, turned.
+    pub fn complement(self, value: u16) -> u16
+        ensures exact { result ≡ complement self value }
+    {
+        match self {
+            Width::Byte => 0xff - value % 0x100,
+            Width::Word => 0xffff - value,
+        }
+    }
 }
 
 /// What an operation gives: a value with the four flags.

@@ -12,7 +12,7 @@ use Rattle.cpu_step.specs.Asked.{asks, effect, table_after}
 use Rattle.cpu_step.specs.Effect.{does_freely, confined, does}
 use Rattle.cpu_step.specs.Plan.{plan}
 use Rattle.tracer.specs.Lines.{event_line, end_line_at}
-use Rattle.written_machine.specs.Cycle.{ticked, settle, due, arrive_inside, arrive_outside, perform, attempt, act, enter, begin, turn, move}
+use Rattle.written_machine.specs.Cycle.{ticked, settle, raised, arrive_inside, arrive_outside, perform, attempt, act, enter, begin, turn, move}
 use Rattle.written_machine.specs.Script.{stands_at, regs_text, mem_text, play}
 use Rattle.written_machine.specs.View.{boot, view_of}
 use Rattle.written_machine.specs.declared.ScriptLine.TheVariants.{Go, Until, Regs, Mem}
@@ -20,10 +20,10 @@ use Rattle.worked_rows.proofs.Images.{caller}
 
 -- what a script sees of a module that is active
 looks : play (boot (caller 0x0300 0xab00 (0x4700 ∷ []) 0x0302) []) (Go 6 ∷ Regs ∷ Mem 0x0400 2 ∷ Mem 0x0402 1 ∷ []) ≡ codes "5 enter 1 from 0\nregs 6 inside 1\nrefused ReadData addr 0400 module 1\n0402: 00\nend 6 inside 1\n"
-unfolding insn_of cycles_of plan does_freely confined does place_of right ticked_devices line_of accepted read_of after_read write_of unit_plan unit_effect asks effect table_after ticked settle due arrive_inside arrive_outside perform attempt act enter begin turn move digits event_line end_line_at view_of stands_at regs_text mem_text
+unfolding insn_of cycles_of plan does_freely confined does place_of right ticked_devices line_of accepted read_of after_read write_of unit_plan unit_effect asks effect table_after ticked settle raised arrive_inside arrive_outside perform attempt act enter begin turn move digits event_line end_line_at view_of stands_at regs_text mem_text
 looks = refl
 
 -- until the outside stands at 0x0208 again
 goes_until : play (boot (caller 0x0300 0xab00 (0x4700 ∷ []) 0x0302) []) (Until 0x0208 100 ∷ Regs ∷ []) ≡ codes "5 enter 1 from 0\n7 leave 1 pc 0208\nregs 9 outside 0208 0000 0000 0000 0000 0000 0000 0208 0000 0000 0000 0000 0000 0000 0000 0000\nend 9 outside 0208 0000 0000 0000 0000 0000 0000 0208 0000 0000 0000 0000 0000 0000 0000 0000\n"
-unfolding insn_of cycles_of plan does_freely confined does place_of right ticked_devices line_of accepted read_of after_read write_of unit_plan unit_effect asks effect table_after ticked settle due arrive_inside arrive_outside perform attempt act enter begin turn move digits event_line end_line_at view_of stands_at regs_text mem_text
+unfolding insn_of cycles_of plan does_freely confined does place_of right ticked_devices line_of accepted read_of after_read write_of unit_plan unit_effect asks effect table_after ticked settle raised arrive_inside arrive_outside perform attempt act enter begin turn move digits event_line end_line_at view_of stands_at regs_text mem_text
 goes_until = refl

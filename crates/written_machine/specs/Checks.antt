@@ -1,5 +1,5 @@
 -- The checks of a cycle in their order, and the stop by the first that is refused.
-use Rattle.std.specs.Prelude.{ℕ, zero, List, [], ◌∷◌, map, Bool, true, false, not, Option, Some, None, is_none}
+use Rattle.std.specs.Prelude.{ℕ, List, [], ◌∷◌, map, Bool, true, false, not, Option, Some, None, is_none}
 use Rattle.sm_words.specs.Words.{word_at}
 use Rattle.insn_decode.specs.Code.{insn_of, length_at}
 use Rattle.insn_decode.specs.declared.insn.Insn.{Insn}
@@ -12,14 +12,14 @@ use Rattle.pc_access.specs.declared.Access.{Access}
 use Rattle.pc_access.specs.declared.Denied.{Denied}
 use Rattle.pc_access.specs.declared.Rule.TheVariants.{RetiInside, Straddle, Illegal}
 use Rattle.pc_access.specs.declared.Stop.{Stop}
+use Rattle.irq_padding.specs.declared.turn.Turn.{Turn}
+use Rattle.irq_padding.specs.declared.turn.Turn.TheVariants.{Outside, Begin}
 use Rattle.reg_backup.specs.Held.{held_ids}
-use Rattle.reg_backup.specs.declared.backup.Phase.{Phase}
-use Rattle.reg_backup.specs.declared.backup.Phase.TheVariants.{Run}
 use Rattle.reg_backup.specs.declared.frames.Frame.{Frame}
 use Rattle.reg_backup.specs.declared.frames.Frame.TheVariants.{Module as Held}
 use Rattle.cpu_step.specs.Asked.{asks}
 use Rattle.cpu_step.specs.Fetched.{insn_at}
-use Rattle.written_machine.specs.Cycle.{pc_of, byte_of, ticked, settle, due, asleep, pushes, is_home, who_of, fetch}
+use Rattle.written_machine.specs.Cycle.{pc_of, byte_of, ticked, settle, case_of, pushes, is_home, who_of, fetch}
 use Rattle.written_machine.specs.State.{State}
 
 -- ---- an instruction
@@ -74,23 +74,17 @@ later_checks s =
 abbrev pub insn_checks : State → List (Option Denied)
 insn_checks s = check_of s.active s (fetch s) ∷ later_checks (entered s)
 
--- asleep there is none
-abbrev pub checks_unless : Bool → State → List (Option Denied)
-checks_unless true s = []
-checks_unless false s = insn_checks s
-
 -- ---- a cycle
 
--- by the due vector, the active module and the phase: the pushes of an interrupt of the outside, or an instruction that begins
-abbrev pub checks_by : Option ℕ → Option ℕ → Phase → State → List (Option Denied)
-checks_by (Some v) None (Run zero) s = map (check_of None s) (pushes s)
-checks_by None None (Run zero) s = checks_unless (asleep s) s
-checks_by None (Some id) (Run zero) s = insn_checks s
-checks_by _ _ _ s = []
+-- by its case: the pushes of an interrupt of the outside, or an instruction that begins
+abbrev pub checks_by : Turn → State → List (Option Denied)
+checks_by Outside s = map (check_of None s) (pushes s)
+checks_by Begin s = insn_checks s
+checks_by _ s = []
 
 -- the checks of a settled cycle
 abbrev pub checks : State → List (Option Denied)
-checks s = checks_by (due s) s.active s.phase s
+checks s = checks_by (case_of s) s
 
 -- the first that is refused
 abbrev pub first_refused : List (Option Denied) → Option Denied

@@ -1,5 +1,5 @@
 -- One cycle of the machine, by its steps.
-use Rattle.std.specs.Prelude.{ℕ, zero, suc, ◌+◌, ◌-◌, ◌*◌, List, [], ◌∷◌, ◌++◌, length, slice_index, ◌==◌, nat_lt, if◌then◌else◌, Bool, true, false, ◌&&◌, ◌||◌, not, Option, Some, None, replicate}
+use Rattle.std.specs.Prelude.{ℕ, zero, suc, ◌+◌, ◌-◌, ◌*◌, List, [], ◌∷◌, ◌++◌, length, slice_index, ◌==◌, nat_lt, if◌then◌else◌, Bool, true, false, ◌&&◌, ◌||◌, not, Option, Some, None, is_some, unwrap_or, replicate}
 use Rattle.sm_words.specs.Words.{reg, put, bit, add16, word_at}
 use Rattle.sm_words.specs.declared.width.Width.TheVariants.{Word}
 use Rattle.insn_decode.specs.Code.{insn_of, length_of}
@@ -17,6 +17,10 @@ use Rattle.pc_access.specs.declared.Rule.{Rule}
 use Rattle.pc_access.specs.declared.Rule.TheVariants.{RetiInside, Straddle, Illegal}
 use Rattle.pc_access.specs.declared.Stop.{Stop}
 use Rattle.devices.specs.Devices.{ticked_devices, line_of, accepted}
+use Rattle.irq_padding.specs.Padding.{padding}
+use Rattle.irq_padding.specs.Turns.{turn_of}
+use Rattle.irq_padding.specs.declared.turn.Turn.{Turn}
+use Rattle.irq_padding.specs.declared.turn.Turn.TheVariants.{Pad as PadTurn, Inside, Outside, Wait, Sleep, Begin}
 use Rattle.reg_backup.specs.Held.{held_ids}
 use Rattle.reg_backup.specs.Saved.{closing_after, saved}
 use Rattle.reg_backup.specs.declared.backup.After.{After}
@@ -145,9 +149,17 @@ abbrev pub vector_if : Bool → Option ℕ → Option ℕ
 vector_if true v = v
 vector_if false v = None
 
--- the raised vector, where GIE is set and fewer than eight frames are held
+-- the raised vector, where GIE is set
+unfoldable pub raised : State → Option ℕ
+raised s = vector_if (gie s.core) (line_of s.devices)
+
+-- whether fewer than eight frames are held
+abbrev pub has_room : State → Bool
+has_room s = nat_lt (length s.frames) 8
+
+-- the vector that arrives where the phase lets it: the raised one, where there is room for its frame
 unfoldable pub due : State → Option ℕ
-due s = vector_if (gie s.core && nat_lt (length s.frames) 8) (line_of s.devices)
+due s = vector_if (gie s.core && has_room s) (line_of s.devices)
 
 -- the byte at an address
 abbrev pub byte_of : State → ℕ → ℕ
@@ -325,32 +337,40 @@ begin left s = begin_unless (right s.table s.active (held_ids s.frames) (fetch s
 
 -- ---- the cases of a cycle
 
--- one cycle of padding less; after the last the handler is settled
+-- with so many cycles of padding left; with none the handler is settled
 abbrev pub padded : ℕ → State → State
-padded zero s = record s { phase = Run 0; after = Handler }
-padded (suc n) s = record s { phase = Pad (suc n) }
+padded left s = let p = padding left in record s { phase = p.0; after = p.1 }
+
+-- the cycles of padding that are left
+abbrev pub padding_left : Phase → ℕ
+padding_left (Pad left) = left
+padding_left (Run rest) = 0
+
+-- one cycle of the instruction less
+abbrev pub waited : Phase → Phase
+waited (Run (suc rest)) = Run rest
+waited phase = phase
 
 -- CPUOFF, bit 4 of SR
 abbrev pub asleep : State → Bool
 asleep s = bit 16 (reg s.core 2) == 1
 
--- asleep nothing happens
-abbrev pub unless : Bool → ℕ → State → Step
-unless true left s = quiet s
-unless false left s = begin left s
+-- the case that a settled cycle ends in
+abbrev pub case_of : State → Turn
+case_of s = turn_of s.phase (is_some (raised s)) (has_room s) (is_some s.active) (asleep s)
 
--- the first case that fits, by the due vector, the active module and the phase: Pad, Arrive inside, Arrive outside, Wait, Sleep, Begin
-abbrev pub turn_by : Option ℕ → Option ℕ → Phase → ℕ → State → Step
-turn_by due active (Pad n) left s = quiet (padded (n - 1) s)
-turn_by (Some v) (Some id) (Run rest) left s = arrive_inside v id s
-turn_by (Some v) None (Run zero) left s = arrive_outside v s
-turn_by due active (Run (suc r)) left s = quiet (record s { phase = Run r })
-turn_by None None (Run zero) left s = unless (asleep s) left s
-turn_by None (Some id) (Run zero) left s = begin left s
+-- what each case does, by the raised vector, the active module and the phase, where left is the module left in this cycle, or 0
+abbrev pub turn_by : Turn → Option ℕ → Option ℕ → Phase → ℕ → State → Step
+turn_by PadTurn vector active phase left s = quiet (padded (padding_left phase - 1) s)
+turn_by Inside vector active phase left s = arrive_inside (unwrap_or vector 0) (unwrap_or active 0) s
+turn_by Outside vector active phase left s = arrive_outside (unwrap_or vector 0) s
+turn_by Wait vector active phase left s = quiet (record s { phase = waited phase })
+turn_by Sleep vector active phase left s = quiet s
+turn_by Begin vector active phase left s = begin left s
 
--- the case that a settled cycle ends in, where left is the module left in it, or 0
+-- what a settled cycle ends in
 unfoldable pub turn : ℕ → State → Step
-turn left s = turn_by (due s) s.active s.phase left s
+turn left s = turn_by (case_of s) (raised s) s.active s.phase left s
 
 -- the byte sent in this cycle, before a stop's line
 abbrev pub sent_event : Option ℕ → List Event

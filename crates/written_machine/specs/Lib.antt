@@ -1,6 +1,7 @@
 pub mod State
 pub mod Ports
 pub mod Cycle
+pub mod Passing
 pub mod Checks
 pub mod View
 pub mod Peers

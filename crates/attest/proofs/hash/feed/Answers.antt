@@ -27,7 +27,7 @@ loop-at-preserved c =
           append_assoc message (slice_range bytes c.args.start at) (slice_range c.page.result.now low high)
           ∙ ap (λ xs. message ++ (slice_range bytes c.args.start at ++ xs)) piece
           ∙ ap (λ xs. message ++ xs) (slice_range-join bytes c.args.start at (at + (high - low)) from up) in
-          subst (IsFed c.update.new.self key) whole (c.update.ensures key (message ++ slice_range bytes c.args.start at) (c.loop-at.invariant.fed key message was));
+          subst (IsFed c.update.new.self key) whole (c.update.ensures.joined key (message ++ slice_range bytes c.args.start at) (c.loop-at.invariant.fed key message was));
       low = omega arith;
       high = omega arith;
       size = λ _. c.page.ensures.size;

@@ -14,23 +14,23 @@ use Rattle.attest.proofs.instruction.attest.Goals as goal
 
 pub returns-in_default-clause-allowed : goal.returns-in_default-clause-allowed
 returns-in_default-clause-allowed c = λ held.
-    ap (first_denied c.args.table.now c.args.who.active held) (plan_outside (doer c.args.table.now c.args.who c.args.node_key.now) c.args.core.now (sym c.own_module.ensures.own ∙ c.in_default.is))
+    ap (first_denied c.args.table.now c.args.who.active held) (plan_outside (doer c.args.table.now c.args.who c.args.node_key.now) c.args.core.now (sym c.own.ensures.own ∙ c.in_default.is))
 
 pub returns-in_default-clause-done : goal.returns-in_default-clause-done
 returns-in_default-clause-done c =
-    answered _ _ _ _ 0 6 _ _ _ (effect_outside (doer c.args.table.now c.args.who c.args.node_key.now) c.args.core.now _ (sym c.own_module.ensures.own ∙ c.in_default.is)) c.answer.ensures.core c.answer.ensures.done refl refl
+    answered _ _ _ _ 0 6 _ _ _ (effect_outside (doer c.args.table.now c.args.who c.args.node_key.now) c.args.core.now _ (sym c.own.ensures.own ∙ c.in_default.is)) c.answer.ensures.core c.answer.ensures.done refl refl
 
 pub returns-in_default-text_module-clause-allowed : goal.returns-in_default-text_module-clause-allowed
 returns-in_default-text_module-clause-allowed c = λ held.
     let who = doer c.args.table.now c.args.who c.args.node_key.now in
-    let own_is : who.own ≡ Some c.in-Some.own = sym c.own_module.ensures.own ∙ c.in-Some.is in
+    let own_is : who.own ≡ Some c.in-Some.own = sym c.own.ensures.own ∙ c.in-Some.is in
     let nothing : attested who c.args.core.now ≡ None = ap (λ a. text_at c.args.table.now (place_of c.args.table.now a)) (sym c.get.ensures.word) ∙ sym c.text_module.ensures.text ∙ c.in_default-text_module.is in
     ap (first_denied c.args.table.now c.args.who.active held) (plan_nothing who c.args.core.now c.in-Some.own own_is nothing)
 
 pub returns-in_default-text_module-clause-done : goal.returns-in_default-text_module-clause-done
 returns-in_default-text_module-clause-done c =
     let who = doer c.args.table.now c.args.who c.args.node_key.now in
-    let own_is : who.own ≡ Some c.in-Some.own = sym c.own_module.ensures.own ∙ c.in-Some.is in
+    let own_is : who.own ≡ Some c.in-Some.own = sym c.own.ensures.own ∙ c.in-Some.is in
     let nothing : attested who c.args.core.now ≡ None = ap (λ a. text_at c.args.table.now (place_of c.args.table.now a)) (sym c.get.ensures.word) ∙ sym c.text_module.ensures.text ∙ c.in_default-text_module.is in
     answered _ _ _ _ 0 6 _ _ _ (effect_nothing who c.args.core.now c.in-Some.own own_is _ nothing) c.answer-in_default-text_module.ensures.core c.answer-in_default-text_module.ensures.done refl refl
 
@@ -45,7 +45,7 @@ returns-then-not-in_range-clause-allowed c = λ held.
     let who = doer t c.args.who c.args.node_key.now in
     let own = c.in-Some.own in
     let other = c.in-Some-text_module.other in
-    let own_is : who.own ≡ Some own = sym c.own_module.ensures.own ∙ c.in-Some.is in
+    let own_is : who.own ≡ Some own = sym c.own.ensures.own ∙ c.in-Some.is in
     let other_is : attested who core ≡ Some other =
     ap (λ a. text_at t (place_of t a)) (sym c.get.ensures.word) ∙ sym c.text_module.ensures.text ∙ c.in-Some-text_module.is in
     let range : in_range (reg core 13) (reg core 13 + 16) ≡ false =
@@ -59,7 +59,7 @@ returns-then-not-in_range-clause-done c =
     let who = doer t c.args.who c.args.node_key.now in
     let own = c.in-Some.own in
     let other = c.in-Some-text_module.other in
-    let own_is : who.own ≡ Some own = sym c.own_module.ensures.own ∙ c.in-Some.is in
+    let own_is : who.own ≡ Some own = sym c.own.ensures.own ∙ c.in-Some.is in
     let other_is : attested who core ≡ Some other =
     ap (λ a. text_at t (place_of t a)) (sym c.get.ensures.word) ∙ sym c.text_module.ensures.text ∙ c.in-Some-text_module.is in
     let range : in_range (reg core 13) (reg core 13 + 16) ≡ false =
@@ -73,7 +73,7 @@ returns-in-Err-clause-denied c = λ held.
     let who = doer t c.args.who c.args.node_key.now in
     let own = c.in-Some.own in
     let other = c.in-Some-text_module.other in
-    let own_is : who.own ≡ Some own = sym c.own_module.ensures.own ∙ c.in-Some.is in
+    let own_is : who.own ≡ Some own = sym c.own.ensures.own ∙ c.in-Some.is in
     let other_is : attested who core ≡ Some other =
     ap (λ a. text_at t (place_of t a)) (sym c.get.ensures.word) ∙ sym c.text_module.ensures.text ∙ c.in-Some-text_module.is in
     let range : in_range (reg core 13) (reg core 13 + 16) ≡ true =
@@ -88,7 +88,7 @@ returns-clause-allowed c = λ held.
     let who = doer t c.args.who c.args.node_key.now in
     let own = c.in-Some.own in
     let other = c.in-Some-text_module.other in
-    let own_is : who.own ≡ Some own = sym c.own_module.ensures.own ∙ c.in-Some.is in
+    let own_is : who.own ≡ Some own = sym c.own.ensures.own ∙ c.in-Some.is in
     let other_is : attested who core ≡ Some other =
     ap (λ a. text_at t (place_of t a)) (sym c.get.ensures.word) ∙ sym c.text_module.ensures.text ∙ c.in-Some-text_module.is in
     let range : in_range (reg core 13) (reg core 13 + 16) ≡ true =
@@ -103,7 +103,7 @@ returns-clause-done c =
     let who = doer t c.args.who c.args.node_key.now in
     let own = c.in-Some.own in
     let other = c.in-Some-text_module.other in
-    let own_is : who.own ≡ Some own = sym c.own_module.ensures.own ∙ c.in-Some.is in
+    let own_is : who.own ≡ Some own = sym c.own.ensures.own ∙ c.in-Some.is in
     let other_is : attested who core ≡ Some other =
     ap (λ a. text_at t (place_of t a)) (sym c.get.ensures.word) ∙ sym c.text_module.ensures.text ∙ c.in-Some-text_module.is in
     let range : in_range (reg core 13) (reg core 13 + 16) ≡ true =
@@ -117,7 +117,7 @@ returns-clause-done c =
     ∙ ap (λ a. same_bytes (slice_range mem a (a + 16)) c.identity_tag-tag.result) c.get-expected.ensures.word
     ∙ ap (same_bytes (slice_range mem at (at + 16))) c.identity_tag-tag.ensures) in
     let cycles : 6 + 64 * c.hmac_blocks.result ≡ 6 + 64 * blocks (size_of other.text + 8) =
-    ap (λ n. 6 + 64 * n) (c.hmac_blocks.ensures ∙ ap (λ n. blocks (n + 8)) c.from-length.ensures) in
+    ap (λ n. 6 + 64 * n) (c.hmac_blocks.ensures ∙ ap (λ n. blocks (n + 8)) (c.from-length.ensures ∙ c.len.ensures.size)) in
     answered _ _ _ _ c.id_if-id.result (6 + 64 * c.hmac_blocks.result) _ _ _
     (effect_whole who core own own_is other other_is mem c.stands_at.ensures.size c.in-Some.ensures.kept.text_ok c.in-Some-text_module.ensures.kept.text_ok range fits c.id_if-id.result id_is
     ∙ ap (answer core c.id_if-id.result) (sym cycles))

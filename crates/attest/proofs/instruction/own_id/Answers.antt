@@ -6,5 +6,5 @@ use Rattle.attest.proofs.instruction.own_id.Goals as goal
 pub returns : goal.returns
 unfolding unit_effect
 returns c = λ key mem.
-    let id = c.id_or_zero.ensures ∙ ap id_or_zero c.own_module-own.ensures.own in
+    let id = c.id_or_zero.ensures ∙ ap id_or_zero c.own-own.ensures.own in
     answered _ _ _ _ _ _ _ _ _ (ap (λ v. answer c.args.core.now v 6) (sym id)) c.answer.ensures.core c.answer.ensures.done refl refl

@@ -1,6 +1,6 @@
 use Rattle.std.proofs.Common.{◌≡◌, ◌∙◌, ◌+◌, ◌*◌, Bool, true, false, ℕ, ap, sym, refl, subst, replicate}
 use Rattle.std.specs.Option.{is_none}
-use Rattle.sm_words.specs.Words.{put, reg}
+use Rattle.sm_words.specs.Words.{cleared, put, reg}
 use Rattle.mod_layout.specs.declared.Section.{Section}
 use Rattle.mod_layout.specs.Table.{size_of, takes, with_module}
 use Rattle.mod_layout.specs.Tables.{IsTable}
@@ -12,6 +12,7 @@ use Rattle.attest.specs.Done.{doer}
 use Rattle.attest.specs.Accesses.{stored_in}
 use Rattle.attest.proofs.Protecting.{plan_by, effect_by, table_is_by, made_is_by, allowed_by, protected}
 use Rattle.attest.proofs.Finished.{answered}
+use Rattle.attest.proofs.Rows.{stored_in-zeros}
 use Rattle.attest.proofs.instruction.protect.Goals as goal
 
 abbrev finished : ℕ → Bool → ℕ → UnitDone
@@ -54,12 +55,13 @@ returns-in-Ok-clause-done c = λ key.
     ∙ ap (λ v. with_module t v c.new_text-text.result c.new_ram-ram.result) c.get.ensures.word
     ∙ ap (λ x. with_module t (reg core 11) x c.new_ram-ram.result) c.new_text-text.ensures
     ∙ ap (with_module t (reg core 11) (new_text core)) c.new_ram-ram.ensures in
-    let clearing : c.clear.new.memory.bytes ≡ stored_in c.args.memory.now.bytes (each_byte Write (reg core 14) (size_of (new_ram core))) (replicate (size_of (new_ram core)) 0) =
-    c.clear.ensures ∙ ap (λ (r : Section). stored_in c.args.memory.now.bytes (each_byte Write r.start (size_of r)) (replicate (size_of r) 0)) c.new_ram-ram.ensures in
+    let clearing : c.clear.new.self.bytes ≡ stored_in c.args.memory.now.bytes (each_byte Write (reg core 14) (size_of (new_ram core))) (replicate (size_of (new_ram core)) 0) =
+    c.clear.ensures.cleared ∙ ap (λ (r : Section). cleared r.start (size_of r) c.args.memory.now.bytes) c.new_ram-ram.ensures
+    ∙ sym (stored_in-zeros (reg core 14) (size_of (new_ram core)) c.args.memory.now.bytes) in
     protected (doer t c.args.who key) core _ _ _ _ _ taken
     (c.answer-done.ensures.core ∙ ap (put core 15) c.in-Ok.ensures.id) clearing after
     (ap (λ (d : UnitDone). finished d.cycles d.closing c.in-Ok.id) c.answer-done.ensures.done
     ∙ ap (λ n. finished (6 + 64 * (n + c.hmac_blocks-in-Ok.result)) false c.in-Ok.id) c.hmac_blocks.ensures
     ∙ ap (λ n. finished (6 + 64 * (blocks 2 + n)) false c.in-Ok.id)
-    (c.hmac_blocks-in-Ok.ensures ∙ ap (λ n. blocks (n + 8)) (c.from-length.ensures ∙ ap size_of c.new_text-text.ensures))
+    (c.hmac_blocks-in-Ok.ensures ∙ ap (λ n. blocks (n + 8)) (c.from-length.ensures ∙ c.len.ensures.size ∙ ap size_of c.new_text-text.ensures))
     ∙ ap (finished (6 + 64 * (blocks 2 + blocks (size_of (new_text core) + 8))) false) c.in-Ok.ensures.id)

@@ -20,11 +20,11 @@ ranges_are a b o x y z r s e f g h k =
 
 pub returns-in_default-clause-allowed : goal.returns-in_default-clause-allowed
 returns-in_default-clause-allowed c = λ held.
-    ap (first_denied c.args.table.now c.args.who.active held) (plan_outside (doer c.args.table.now c.args.who c.args.node_key.now) c.args.core.now (sym c.own_module.ensures.own ∙ c.in_default.is))
+    ap (first_denied c.args.table.now c.args.who.active held) (plan_outside (doer c.args.table.now c.args.who c.args.node_key.now) c.args.core.now (sym c.own.ensures.own ∙ c.in_default.is))
 
 pub returns-in_default-clause-done : goal.returns-in_default-clause-done
 returns-in_default-clause-done c =
-    answered _ _ _ _ 0 6 _ _ _ (effect_outside (doer c.args.table.now c.args.who c.args.node_key.now) c.args.core.now _ (sym c.own_module.ensures.own ∙ c.in_default.is)) c.answer.ensures.core c.answer.ensures.done refl refl
+    answered _ _ _ _ 0 6 _ _ _ (effect_outside (doer c.args.table.now c.args.who c.args.node_key.now) c.args.core.now _ (sym c.own.ensures.own ∙ c.in_default.is)) c.answer.ensures.core c.answer.ensures.done refl refl
 
 pub returns-then-not-has_ranges-clause-allowed : goal.returns-then-not-has_ranges-clause-allowed
 returns-then-not-has_ranges-clause-allowed c = λ held.
@@ -32,7 +32,7 @@ returns-then-not-has_ranges-clause-allowed c = λ held.
     let core = c.args.core.now in
     let who = doer t c.args.who c.args.node_key.now in
     let own = c.in-Some.own in
-    let own_is : who.own ≡ Some own = sym c.own_module.ensures.own ∙ c.in-Some.is in
+    let own_is : who.own ≡ Some own = sym c.own.ensures.own ∙ c.in-Some.is in
     let ranges : (in_range (reg core 12) (reg core 13) && in_range (reg core 14) (reg core 14 + 16)) ≡ false =
     ranges_are (reg core 12) (reg core 13) (reg core 14) c.get-start.result c.get-end.result c.get-output.result c.has_ranges.result false c.has_ranges.ensures
     c.get-start.ensures.word c.get-end.ensures.word c.get-output.ensures.word c.if-not-has_ranges.true in
@@ -44,7 +44,7 @@ returns-then-not-has_ranges-clause-done c =
     let core = c.args.core.now in
     let who = doer t c.args.who c.args.node_key.now in
     let own = c.in-Some.own in
-    let own_is : who.own ≡ Some own = sym c.own_module.ensures.own ∙ c.in-Some.is in
+    let own_is : who.own ≡ Some own = sym c.own.ensures.own ∙ c.in-Some.is in
     let ranges : (in_range (reg core 12) (reg core 13) && in_range (reg core 14) (reg core 14 + 16)) ≡ false =
     ranges_are (reg core 12) (reg core 13) (reg core 14) c.get-start.result c.get-end.result c.get-output.result c.has_ranges.result false c.has_ranges.ensures
     c.get-start.ensures.word c.get-end.ensures.word c.get-output.ensures.word c.if-not-has_ranges.true in
@@ -56,7 +56,7 @@ returns-in-Err-clause-denied c = λ held.
     let core = c.args.core.now in
     let who = doer t c.args.who c.args.node_key.now in
     let own = c.in-Some.own in
-    let own_is : who.own ≡ Some own = sym c.own_module.ensures.own ∙ c.in-Some.is in
+    let own_is : who.own ≡ Some own = sym c.own.ensures.own ∙ c.in-Some.is in
     let ranges : (in_range (reg core 12) (reg core 13) && in_range (reg core 14) (reg core 14 + 16)) ≡ true =
     ranges_are (reg core 12) (reg core 13) (reg core 14) c.get-start.result c.get-end.result c.get-output.result c.has_ranges.result true c.has_ranges.ensures
     c.get-start.ensures.word c.get-end.ensures.word c.get-output.ensures.word c.if-not-has_ranges.false in
@@ -73,7 +73,7 @@ returns-in-Err-check-clause-denied c = λ held.
     let core = c.args.core.now in
     let who = doer t c.args.who c.args.node_key.now in
     let own = c.in-Some.own in
-    let own_is : who.own ≡ Some own = sym c.own_module.ensures.own ∙ c.in-Some.is in
+    let own_is : who.own ≡ Some own = sym c.own.ensures.own ∙ c.in-Some.is in
     let ranges : (in_range (reg core 12) (reg core 13) && in_range (reg core 14) (reg core 14 + 16)) ≡ true =
     ranges_are (reg core 12) (reg core 13) (reg core 14) c.get-start.result c.get-end.result c.get-output.result c.has_ranges.result true c.has_ranges.ensures
     c.get-start.ensures.word c.get-end.ensures.word c.get-output.ensures.word c.if-not-has_ranges.false in
@@ -92,7 +92,7 @@ returns-clause-allowed c = λ held.
     let core = c.args.core.now in
     let who = doer t c.args.who c.args.node_key.now in
     let own = c.in-Some.own in
-    let own_is : who.own ≡ Some own = sym c.own_module.ensures.own ∙ c.in-Some.is in
+    let own_is : who.own ≡ Some own = sym c.own.ensures.own ∙ c.in-Some.is in
     let ranges : (in_range (reg core 12) (reg core 13) && in_range (reg core 14) (reg core 14 + 16)) ≡ true =
     ranges_are (reg core 12) (reg core 13) (reg core 14) c.get-start.result c.get-end.result c.get-output.result c.has_ranges.result true c.has_ranges.ensures
     c.get-start.ensures.word c.get-end.ensures.word c.get-output.ensures.word c.if-not-has_ranges.false in
@@ -111,7 +111,7 @@ returns-clause-done c =
     let core = c.args.core.now in
     let who = doer t c.args.who c.args.node_key.now in
     let own = c.in-Some.own in
-    let own_is : who.own ≡ Some own = sym c.own_module.ensures.own ∙ c.in-Some.is in
+    let own_is : who.own ≡ Some own = sym c.own.ensures.own ∙ c.in-Some.is in
     let ranges : (in_range (reg core 12) (reg core 13) && in_range (reg core 14) (reg core 14 + 16)) ≡ true =
     ranges_are (reg core 12) (reg core 13) (reg core 14) c.get-start.result c.get-end.result c.get-output.result c.has_ranges.result true c.has_ranges.ensures
     c.get-start.ensures.word c.get-end.ensures.word c.get-output.ensures.word c.if-not-has_ranges.false in

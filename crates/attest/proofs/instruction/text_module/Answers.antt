@@ -1,5 +1,5 @@
 use Rattle.std.proofs.Common.{◌∙◌}
-use Rattle.attest.proofs.Places.{found_kept}
+use Rattle.mod_layout.proofs.Found.{found_kept}
 use Rattle.attest.proofs.instruction.text_module.Goals as goal
 
 pub returns-in-Entry-clause-kept : goal.returns-in-Entry-clause-kept

@@ -15,7 +15,7 @@ loop-i-preserved c =
     let next : at + 1 ≡ c.args.addr + (i + 1) = omega arith in
     let later : suc i ≡ i + 1 = omega arith in
     let fewer : 16 - i ≡ suc (16 - (i + 1)) = omega arith in
-    let stored : slice_set mem at (slice_index tag i) ≡ c.set_byte.new.self.bytes = ap (λ n. slice_set mem at (slice_index tag n)) (sym c.from.ensures) ∙ sym (ap (λ m. m.bytes) c.set_byte.ensures) in
+    let stored : slice_set mem at (slice_index tag i) ≡ c.set_byte.new.self.bytes = ap (λ n. slice_set mem at (slice_index tag n)) (sym c.from.ensures) ∙ sym (ap (λ m. m.bytes) c.set_byte.ensures.written) in
     c.loop-i.invariant
     ∙ stored_in-next mem at (16 - i) (16 - (i + 1)) (slice_index tag i) (drop i tag) (drop (suc i) tag) fewer (drop-cons tag i 0 inside)
     ∙ ap (λ bytes. stored_in bytes (each_byte Write (at + 1) (16 - (i + 1))) (drop (suc i) tag)) stored

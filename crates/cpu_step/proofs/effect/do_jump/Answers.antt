@@ -6,7 +6,7 @@ use Rattle.cpu_step.proofs.effect.do_jump.Goals as goal
 
 pub returns : goal.returns
 returns c =
-    let taken = c.jumps-taken.ensures ∙ ap (jumps c.args.cond) c.get.ensures.word in
+    let taken = c.jumps-taken.ensures ∙ ap (jumps c.args.cond) c.sr.ensures.sr in
     c.jump.ensures
     ∙ ap (λ z. jumped c.jumps-taken.result z c.step_past.new.core) (to_z-of_z w16 c.args.offset c.ranges.offset)
     ∙ jump_form c.args.insn.now c.args.core.now c.args.values.now c.args.cond c.args.offset _ _ c.requires c.step_past.ensures taken

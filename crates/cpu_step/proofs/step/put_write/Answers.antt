@@ -1,7 +1,7 @@
 use Rattle.std.proofs.Common.{◌≡◌, ℕ, List, [], ◌∷◌, length, refl, sym, ◌∙◌}
 use Rattle.sm_words.specs.declared.width.Width.{Width}
 use Rattle.pc_access.specs.declared.Access.{Access}
-use Rattle.attest.specs.Accesses.{writes_of}
+use Rattle.pc_access.specs.Accesses.{writes_of}
 use Rattle.cpu_step.specs.Through.{stored_in}
 use Rattle.cpu_step.proofs.step.put_write.Goals as goal
 

@@ -1,5 +1,5 @@
 use Rattle.std.proofs.Common.{◌≡◌, drop}
-use Rattle.attest.specs.Accesses.{writes_of}
+use Rattle.pc_access.specs.Accesses.{writes_of}
 use Rattle.cpu_step.specs.Through.{stored_in}
 use Rattle.cpu_step.proofs.step.put_writes.Given as goal
 

@@ -1,5 +1,5 @@
 use Rattle.std.proofs.Common.{◌≡◌, ◌≤◌, ◌++◌, length, drop}
-use Rattle.attest.specs.Accesses.{reads_of}
+use Rattle.pc_access.specs.Accesses.{reads_of}
 use Rattle.cpu_step.specs.Through.{taken}
 use Rattle.cpu_step.proofs.step.take_reads.Given as goal
 

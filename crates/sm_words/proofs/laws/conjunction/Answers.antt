@@ -2,4 +2,4 @@ use Rattle.sm_words.proofs.Bits.{bit-and}
 use Rattle.sm_words.proofs.laws.conjunction.Goals as goal
 
 pub returns : goal.returns
-returns c = bit-and _ _
+returns c = record { bits = bit-and _ _ }

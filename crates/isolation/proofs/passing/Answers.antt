@@ -1,0 +1,5 @@
+use Rattle.isolation.proofs.Passes.{passes}
+use Rattle.isolation.proofs.passing.Goals as goal
+
+pub returns : goal.returns
+returns c = passes

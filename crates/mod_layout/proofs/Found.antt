@@ -1,0 +1,57 @@
+-- The module with an id, and addresses inside and outside of sections.
+use Rattle.std.proofs.Common.{◌≡◌, ◌⊎◌, inl, inr, ⊎_elim, ℕ, ◌<◌, ◌≤◌, List, [], ◌∷◌, Bool, true, false, cond, nat_lt, nat_le, ◌&&◌, ◌==◌, Option, Some, None, IfSome, refl, sym, ◌∙◌, ap, subst, arith}
+use Rattle.std.proofs.lemmas.Bool.Decides.{nat_tests}
+use Rattle.mod_layout.specs.declared.Section.{Section}
+use Rattle.mod_layout.specs.declared.Module.{Module}
+use Rattle.mod_layout.specs.Table.{Table, holds, find_module, module_of}
+use Rattle.mod_layout.specs.Tables.{Apart, IsModule, Separate, SeparateFrom, AreModules, IsTable}
+
+-- ---- addresses
+
+and_false : (b : Bool) → (b && false) ≡ false
+and_false true = refl
+and_false false = refl
+
+pub and_true : (b c : Bool) → (b && c) ≡ true → (b ≡ true) × (c ≡ true)
+and_true true c e = (refl, e)
+and_true false c e = absurd (let h : false ≡ true = e in (cc))
+
+-- an address outside a section
+pub outside : (s : Section) (a : ℕ) → (a < s.start) ⊎ (s.end ≤ a) → holds s a ≡ false
+outside s a (inl h) = ap (λ (b : Bool). b && nat_lt a s.end) (let e : nat_le s.start a ≡ false = grind (arith, nat_tests) in e)
+outside s a (inr h) = ap (λ (b : Bool). nat_le s.start a && b) (let e : nat_lt a s.end ≡ false = grind (arith, nat_tests) in e) ∙ and_false (nat_le s.start a)
+
+pub within : (s : Section) (a : ℕ) → s.start ≤ a → a < s.end → holds s a ≡ true
+within s a low high =
+    ap (λ (b : Bool). b && nat_lt a s.end) (let e : nat_le s.start a ≡ true = grind (arith, nat_tests) in e)
+    ∙ (let e : nat_lt a s.end ≡ true = grind (arith, nat_tests) in e)
+
+-- an address of one section is outside one apart from it
+pub elsewhere : (s r : Section) (a : ℕ) → r.start ≤ a → a < r.end → s.start < s.end → Apart s r → (a < s.start) ⊎ (s.end ≤ a)
+elsewhere s r a low high order (inl h) = inr (omega arith)
+elsewhere s r a low high order (inr h) = inl (omega arith)
+
+-- ---- look-ups
+
+pub found_first : (y m : Module) (rest : Option Module) (b : Bool) → cond b (Some y) rest ≡ Some m → (y ≡ m) ⊎ (rest ≡ Some m)
+found_first y m rest true e = inl (let k : y ≡ m = (cc) in k)
+found_first y m rest false e = inr e
+
+pub none_found : (m : Module) → None ≡ Some m → ⊥
+none_found m e = cc
+
+-- a module that was found is one of those that the first is separate from
+pub separate_found : (x m : Module) (id : ℕ) (ms : List Module) → SeparateFrom x ms → find_module id ms ≡ Some m → Separate x m
+separate_found x m id [] s e = absurd (none_found m e)
+separate_found x m id (y ∷ ms) s e =
+    ⊎_elim (λ k. subst (Separate x) k s.0) (λ k. separate_found x m id ms s.1 k) (found_first y m (find_module id ms) (y.id == id) e)
+
+pub module_found : (given id : ℕ) (m : Module) (ms : List Module) → AreModules given ms → find_module id ms ≡ Some m → IsModule given m
+module_found given id m [] are e = absurd (none_found m e)
+module_found given id m (y ∷ ms) are e =
+    ⊎_elim (λ k. subst (IsModule given) k are.0) (λ k. module_found given id m ms are.2 k) (found_first y m (find_module id ms) (y.id == id) e)
+
+-- what is found by an id is a module of the table
+pub found_kept : (t : Table) (id : ℕ) (r : Option Module) → r ≡ module_of id t → IsTable t → IfSome r (IsModule t.given)
+found_kept t id None e ok = tt
+found_kept t id (Some m) e ok = module_found t.given id m t.modules ok.modules (sym e)

@@ -1,0 +1,65 @@
+//! The bits of the status register, R2.
+ghost use Rattle.std.specs.Prelude.{◌≡◌, ◌<◌};
+ghost use Rattle.sm_words.specs.Words.{bit};
+ghost use Rattle.sm_words.specs.Sums.{one_if};
+ghost use Rattle.sm_words.specs.Status.{is_set, controls, sr_with_flags, confined_sr, interrupted_sr};
+
+use crate::width::Sum;
+
+/// C, the carry.
+pub const CARRY: u16 = 0x0001;
+/// Z, whether the result was 0.
+pub const ZERO: u16 = 0x0002;
+/// N, the result's sign bit.
+pub const NEGATIVE: u16 = 0x0004;
+/// GIE, whether interrupts may arrive; the lowest bit that is no flag.
+pub const GIE: u16 = 0x0008;
+/// CPUOFF, whether the processor is off.
+pub const CPU_OFF: u16 = 0x0010;
+/// SCG0, the one bit that an interrupt keeps.
+pub const SCG0: u16 = 0x0040;
+/// V, the overflow, which is the highest bit.
+pub const OVERFLOW: u16 = 0x0100;
+/// The first number that the register is too small for.
+pub const LIMIT: u16 = 0x0200;
+
+/// Whether the bit with this worth is set.
+pub fn is_set(mask: u16, sr: u16) -> bool
+    requires bit { 0 < mask }
+    ensures set { result ≡ is_set mask sr }
+    ensures worth { one_if result ≡ bit mask sr }
+{
+    sr / mask % 2 == 1
+}
+
+/// The bits that are no flags: those from GIE on, below V.
+fn controls(sr: u16) -> u16
+    ensures { result ≡ controls sr }
+{
+    GIE * (sr / GIE % (OVERFLOW / GIE))
+}
+
+/// SR with C, Z, N and V of a result, and its other bits as they were.
+pub fn with_flags(sum: &Sum, sr: u16) -> u16
+    ensures exact { result ≡ sr_with_flags sum.now sr }
+{
+    CARRY * u16::from(sum.c)
+        + ZERO * u16::from(sum.z)
+        + NEGATIVE * u16::from(sum.n)
+        + controls(sr)
+        + OVERFLOW * u16::from(sum.v)
+}
+
+/// SR after an instruction inside a module: C, Z, N and V are those of `new`, all other bits those of `old`.
+pub fn confine(old: u16, new: u16) -> u16
+    ensures exact { result ≡ confined_sr old new }
+{
+    new % GIE + controls(old) + OVERFLOW * (new / OVERFLOW % 2)
+}
+
+/// SR once an interrupt was accepted: it keeps SCG0 alone.
+pub fn interrupt(sr: u16) -> u16
+    ensures exact { result ≡ interrupted_sr sr }
+{
+    SCG0 * (sr / SCG0 % 2)
+}
