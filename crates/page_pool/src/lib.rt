@@ -3,5 +3,7 @@
 
 mod pool;
 mod store;
+#[cfg(test)]
+mod tests;
 
 pub use pool::{Full, NoMemory, Pool};

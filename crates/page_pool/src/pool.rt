@@ -15,7 +15,7 @@ pub type NoMemory = AllocError;
 pub struct Full;
 
 /// Up to 17 tables of 65,536 bytes each, of which those that are live have bytes.
-#[derive(Drop)]
+#[derive(Debug, Drop)]
 pub struct Pool {
     store: Store,
 }

@@ -11,14 +11,14 @@ const PAGE_BYTES: usize = 256;
 const TABLE_PLACES: usize = 256;
 
 /// The pages that a table's places name, in order.
-#[derive(Clone, Copy, Drop)]
+#[derive(Clone, Copy, Debug, Drop)]
 pub struct Table {
     pub is_live: bool,
     pub places: [u16; TABLE_PLACES],
 }
 
 /// One region of pages, and the tables whose places name them.
-#[derive(Drop)]
+#[derive(Debug, Drop)]
 pub struct Store {
     pub pages: Vec<[u8; PAGE_BYTES]>,
     /// How many places of live tables name each page.
