@@ -7,5 +7,7 @@ use Rattle.mem_map.proofs.Memory.clear.Given as goal
 abbrev pub invariant-loop-addr : goal.invariant-loop-addr
 invariant-loop-addr l = record {
   bytes : l.self.bytes ≡ cleared l.fn.section.start (l.addr - l.fn.section.start) l.initial.self.bytes;
+  marked : l.self.marked ≡ l.initial.self.marked;
+  room : l.self.room ≡ l.initial.self.room;
   most : l.addr ≤ l.fn.section.start + size_of l.fn.section;
 }

@@ -1,0 +1,17 @@
+-- How a memory keeps its bytes and those of its marks: one table of a pool each.
+use Rattle.std.specs.Prelude.{◌≡◌, ◌≢◌, ℕ, ◌+◌, ◌<◌, ◌≤◌, List, Option, All, length, get_or, map, count_by, is_some}
+use Rattle.page_pool.specs.Tables.{bytes_of, IsLive}
+use Rattle.mem_map.specs.Contents.{Contents}
+
+abbrev pub contents_of : List (Option (List ℕ)) → ℕ → List ℕ → ℕ → Contents
+contents_of tables present marks room = record { bytes = bytes_of tables present; marked = map (bytes_of tables) marks; room = room }
+
+-- the present table and those of the marks differ, and they alone are live
+pub record IsMarked (tables : List (Option (List ℕ))) (present : ℕ) (marks : List ℕ) (room : ℕ) : Type 0 where
+  pub tables_length : length tables ≡ room + 1
+  pub most : room ≤ 16
+  pub live : IsLive tables present
+  pub all_live : All (λ mark. IsLive tables mark) marks
+  pub apart : All (λ mark. mark ≢ present) marks
+  pub once : (i j : ℕ) → i < j → j < length marks → get_or marks i 0 ≢ get_or marks j 0
+  pub alone : count_by (λ table. is_some table) tables ≡ length marks + 1

@@ -1,0 +1,100 @@
+-- What a table shows, page by page, and which tables are live.
+use Rattle.std.proofs.Common.{◌≡◌, ℕ, ◌+◌, ◌-◌, ◌*◌, ◌<◌, true, false, Bool, cond, List, [], ◌∷◌, ◌++◌, Some, None, Option, IsSome, unwrap_or, length, get_or, take, drop, All, slice_range, refl, subst, ap, ◌∙◌, arith, suc, zero, ⊎_elim}
+use Rattle.std.proofs.lemmas.Bool.{cases_lt, false≢true}
+use Rattle.std.proofs.lemmas.List.{length-append, length-map, get_or-map, get_or_past}
+use Rattle.std.proofs.Math.Seq.{take-append_seam, drop-append-add}
+use Rattle.std.proofs.lemmas.List.Elements.{All-head, All-tail, All-get_or, All-map, All-weaker}
+use Rattle.page_pool.specs.declared.store.Table.{Table}
+use Rattle.page_pool.specs.Tables.{bytes_of, IsLive, IsUnused}
+use Rattle.page_pool.specs.Naming.{bytes_at, table_at, tables_at, IsCounted, no_table, place_of, IsLiveIn, IsUnusedIn}
+use Rattle.page_pool.proofs.StoreLemmas.{places_long, live_table}
+
+-- ---- pages
+
+pub bytes_long : (pages : List (List ℕ)) (places : List ℕ) → All (λ place. place < length pages) places → All (λ page. length page ≡ 256) pages
+    → length (bytes_at pages places) ≡ 256 * length places
+bytes_long pages [] inside whole = refl
+bytes_long pages (p ∷ ps) inside whole =
+    let fits = All-head (λ place. place < length pages) p ps inside in
+    let here : length (get_or pages p []) ≡ 256 = All-get_or (λ page. length page ≡ 256) pages p [] fits whole in
+    let rest = bytes_long pages ps (All-tail (λ place. place < length pages) p ps inside) whole in
+    rw (length-append (get_or pages p []) (bytes_at pages ps), here, rest) (omega arith)
+
+pub page_range : (pages : List (List ℕ)) (places : List ℕ) (n : ℕ) → n < length places → All (λ place. place < length pages) places → All (λ page. length page ≡ 256) pages
+    → take 256 (drop (256 * n) (bytes_at pages places)) ≡ get_or pages (get_or places n 0) []
+page_range pages [] n h inside whole = absurd (omega arith)
+page_range pages (p ∷ ps) zero h inside whole =
+    let fits = All-head (λ place. place < length pages) p ps inside in
+    let here : length (get_or pages p []) ≡ 256 = All-get_or (λ page. length page ≡ 256) pages p [] fits whole in
+    subst (λ (k : ℕ). take k (get_or pages p [] ++ bytes_at pages ps) ≡ get_or pages p []) here (take-append_seam (get_or pages p []) (bytes_at pages ps))
+page_range pages (p ∷ ps) (suc n) h inside whole =
+    let fits = All-head (λ place. place < length pages) p ps inside in
+    let here : length (get_or pages p []) ≡ 256 = All-get_or (λ page. length page ≡ 256) pages p [] fits whole in
+    let rest = page_range pages ps n (omega arith) (All-tail (λ place. place < length pages) p ps inside) whole in
+    let e : 256 * suc n ≡ length (get_or pages p []) + 256 * n = omega arith in
+    ap (λ (k : ℕ). take 256 (drop k (get_or pages p [] ++ bytes_at pages ps))) e ∙ ap (take 256) (drop-append-add (get_or pages p []) (bytes_at pages ps) (256 * n)) ∙ rest
+
+-- ---- tables
+
+table_shown : (pages : List (List ℕ)) (live : Bool) (places : List ℕ) → IsSome (cond live (Some (bytes_at pages places)) None) → live ≡ true
+table_shown pages true places h = refl
+table_shown pages false places h = h
+
+none_is_some : {o : Option (List ℕ)} → o ≡ None → IsSome o → ⊥
+none_is_some {o} e h = false≢true (subst (λ (x : Option (List ℕ)). IsSome x) e h)
+
+pub live_in : (pages : List (List ℕ)) (tables : List Table) (t : ℕ) → IsLive (tables_at pages tables) t → IsLiveIn tables t
+live_in pages tables t h = ⊎_elim
+    (λ l. record {
+      there = l;
+      live = table_shown pages (get_or tables t no_table).is_live (get_or tables t no_table).places
+          (subst (λ (o : Option (List ℕ)). IsSome o) (get_or-map (table_at pages) tables t no_table None l) h);
+    })
+    (λ l. absurd (let e : get_or (tables_at pages tables) t None ≡ None = get_or_past (tables_at pages tables) t None (rw (length-map tables (table_at pages)) l) in
+    none_is_some e h))
+    (cases_lt t (length tables))
+
+pub page_shown : (pages : List (List ℕ)) (counts : List ℕ) (tables : List Table) (free : List ℕ) (spare t n : ℕ) (before : List (Option (List ℕ)))
+    → IsCounted pages counts tables free spare → tables_at pages tables ≡ before → IsLive before t → n < 256
+    → slice_range (bytes_of before t) (256 * n) (256 * n + 256) ≡ get_or pages (place_of tables t n) []
+page_shown pages counts tables free spare t n before k same l small =
+    let live : IsLiveIn tables t = live_in pages tables t (rw same l) in
+    let places = places_long pages counts tables free spare t k live in
+    let there : bytes_of before t ≡ bytes_at pages (get_or tables t no_table).places = rw (← same) (ap (λ (o : Option (List ℕ)). unwrap_or o []) (live_table pages tables t live)) in
+    let inside : All (λ place. place < length pages) (get_or tables t no_table).places = All-get_or (λ w. All (λ place. place < length pages) w.places) tables t no_table live.there k.named in
+    let width : 256 * n + 256 - 256 * n ≡ 256 = omega arith in
+    rw (there, width) (page_range pages (get_or tables t no_table).places n (omega arith) inside k.whole_pages)
+
+pub size_shown : (pages : List (List ℕ)) (counts : List ℕ) (tables : List Table) (free : List ℕ) (spare t : ℕ) (before : List (Option (List ℕ)))
+    → IsCounted pages counts tables free spare → tables_at pages tables ≡ before → IsLive before t
+    → length (bytes_of before t) ≡ 65536
+size_shown pages counts tables free spare t before k same l =
+    let live : IsLiveIn tables t = live_in pages tables t (rw same l) in
+    let places = places_long pages counts tables free spare t k live in
+    let there : bytes_of before t ≡ bytes_at pages (get_or tables t no_table).places = rw (← same) (ap (λ (o : Option (List ℕ)). unwrap_or o []) (live_table pages tables t live)) in
+    let inside : All (λ place. place < length pages) (get_or tables t no_table).places = All-get_or (λ w. All (λ place. place < length pages) w.places) tables t no_table live.there k.named in
+    let long = bytes_long pages (get_or tables t no_table).places inside k.whole_pages in
+    rw there (omega arith)
+
+-- ---- live and not live
+
+dead_table : (pages : List (List ℕ)) (live : Bool) (places : List ℕ) → live ≡ false → cond live (Some (bytes_at pages places)) None ≡ None
+dead_table pages live places h = rw h refl
+
+pub unused_shown : (pages : List (List ℕ)) (tables : List Table) (t : ℕ) → IsUnusedIn tables t → IsUnused (tables_at pages tables) t
+unused_shown pages tables t u = record {
+  there = rw (length-map tables (table_at pages)) u.there;
+  unused = get_or-map (table_at pages) tables t no_table None u.there ∙ dead_table pages (get_or tables t no_table).is_live (get_or tables t no_table).places u.unused;
+}
+
+some_of : (pages : List (List ℕ)) (live : Bool) (places : List ℕ) → live ≡ true → IsSome (cond live (Some (bytes_at pages places)) None)
+some_of pages live places h = rw h refl
+
+pub all_shown : (pages : List (List ℕ)) (tables : List Table) → All (λ t. t.is_live ≡ true) tables → All (λ o. IsSome o) (tables_at pages tables)
+all_shown pages tables h = All-map (λ o. IsSome o) (table_at pages) tables
+    (All-weaker (λ (t : Table). t.is_live ≡ true) (λ t. IsSome (table_at pages t)) (λ t l. some_of pages t.is_live t.places l) tables h)
+
+pub not_all_shown : (tables : List (Option (List ℕ))) (t : ℕ) → IsUnused tables t → All (λ o. IsSome o) tables → ⊥
+not_all_shown tables t u h =
+    let s : IsSome (get_or tables t None) = All-get_or (λ o. IsSome o) tables t None u.there h in
+    none_is_some u.unused s

@@ -1,0 +1,10 @@
+use Rattle.page_pool.specs.Naming.{tables_of}
+use Rattle.page_pool.proofs.StoreLemmas.{page_written}
+use Rattle.page_pool.proofs.store.Store.write.Goals as goal
+
+pub returns-clause-written : goal.returns-clause-written
+returns-clause-written c =
+    let s = c.own_page-own.new.self in
+    let own = c.own_page-own.ensures in
+    page_written s.pages.items s.counts.items s.tables.items s.free.items s.spare c.args.t c.args.n c.own_page-own.result c.args.at c.args.byte c.index_mut.result.now (tables_of c.args.self.now)
+    own.store own.live c.requires.place c.requires.at own.place own.own c.index_mut.ensures.value own.same

@@ -1,0 +1,9 @@
+//! Tables of pages of 256 bytes. Tables share a page until one of them is written.
+#![tactic(auto)]
+
+mod pool;
+mod store;
+#[cfg(test)]
+mod tests;
+
+pub use pool::{Full, NoMemory, Pool};

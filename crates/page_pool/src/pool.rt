@@ -1,0 +1,93 @@
+//! The pool as its callers see it: tables of bytes.
+
+ghost use Rattle.std.specs.Prelude.{◌≡◌, ◌+◌, ◌*◌, ◌≤◌, ◌↔◌, All, IsErr, IsSome, IfOk, OnErr, Some, None, length, replicate, slice_range, slice_set};
+ghost use Rattle.page_pool.specs.Tables.{bytes_of, table_of, zeros, IsLive, IsUnused};
+
+use crate::store::Store;
+use std::alloc::{AllocError, Global};
+use std::marker::Model;
+
+/// Memory was refused.
+pub type NoMemory = AllocError;
+
+/// All tables are live.
+#[derive(Clone, Copy, Debug, PartialEq, Eq)]
+pub struct Full;
+
+/// Up to 17 tables of 65,536 bytes each, of which those that are live have bytes.
+#[derive(Debug, Drop)]
+pub struct Pool {
+    store: Store,
+}
+
+impl Model for Pool {
+    ghost use Rattle.std.specs.Prelude.{ℕ, List, Option};
+    ghost use Rattle.page_pool.specs.Naming.{tables_of, IsStore};
+
+    // The bytes of each table by its number; none where it is not live.
+    ghost Value = { List (Option (List ℕ)) };
+
+    ghost view = { λ p. tables_of p.store };
+
+    ghost invariant = { λ p. IsStore p.store };
+}
+
+impl Pool {
+    /// So many tables, 1 to 17. Table 0 is live and full of zeros. Takes all memory that the pool ever needs.
+    pub fn new(alloc: Global, tables: u16) -> Result<Pool, NoMemory>
+        requires least { 1 ≤ tables }
+        requires most { tables ≤ 17 }
+        ensures { IfOk result (λ pool. pool ≡ slice_set (replicate tables None) 0 (Some (zeros 65536))) }
+    {
+        Ok(Pool {
+            store: Store::new(alloc, usize::from(tables))?,
+        })
+    }
+
+    /// The 256 bytes from address 256 times `n` on, of a live table.
+    #[tactic(auto, using(crate::proofs::ViewLemmas::page_shown, crate::proofs::ViewLemmas::size_shown))]
+    pub fn page(&self, t: u16, n: u8) -> &[u8]
+        requires { IsLive self.now t }
+        ensures page { result.now ≡ slice_range (bytes_of self.now t) (256 * n) (256 * n + 256) }
+        ensures length { length result.now ≡ 256 }
+        ensures size { length (bytes_of self.now t) ≡ 65536 }
+    {
+        self.store.page(usize::from(t), usize::from(n))
+    }
+
+    /// Changes one byte of a live table, and no byte of another.
+    pub fn write(&mut self, t: u16, addr: u16, byte: u8)
+        requires { IsLive self.old t }
+        ensures { self.new ≡ slice_set self.old t (Some (slice_set (bytes_of self.old t) addr byte)) }
+    {
+        let page = usize::from(addr / 256);
+        let at = usize::from(addr % 256);
+        self.store.write(usize::from(t), page, at, byte);
+    }
+
+    /// Makes a table live that was not, with the bytes of table `t`, and gives its number. No byte is copied.
+    #[tactic(auto, using(crate::proofs::ViewLemmas::unused_shown, crate::proofs::ViewLemmas::all_shown, crate::proofs::ViewLemmas::not_all_shown))]
+    pub fn copy_table(&mut self, t: u16) -> Result<u16, Full>
+        requires { IsLive self.old t }
+        ensures full { IsErr result ↔ All (λ table. IsSome table) self.old }
+        ensures unused { IfOk result (λ copy. IsUnused self.old copy) }
+        ensures copied { IfOk result (λ copy. self.new ≡ slice_set self.old copy (table_of self.old t)) }
+        ensures unchanged { OnErr result (self.new ≡ self.old) }
+    {
+        match self.store.unused() {
+            None => Err(Full),
+            Some(copy) => {
+                self.store.share(usize::from(t), copy);
+                Ok(copy as u16)
+            }
+        }
+    }
+
+    /// Ends a live table.
+    pub fn drop_table(&mut self, t: u16)
+        requires { IsLive self.old t }
+        ensures { self.new ≡ slice_set self.old t None }
+    {
+        self.store.end(usize::from(t));
+    }
+}
