@@ -7,6 +7,7 @@ ghost use Rattle.mod_layout.specs.Tables.{IsModule, IsTable};
 ghost use Rattle.pc_access.specs.Rights.{first_denied};
 ghost use Rattle.attest.specs.Units.{Attest, CallerId, IdOf, OwnId, Protect, Tag, Unprotect, blocks, caller_or_zero, id_or_zero, in_range, new_ram, new_text, place_id, text_at, unit_named, unit_plan};
 ghost use Rattle.attest.specs.Done.{IsDone, doer};
+ghost use Rattle.mem_map.specs.Contents.{SameMarks};
 
 use crate::hash::{identity_tag, message_tag};
 use crate::memory::{stands_at, store};
@@ -53,6 +54,7 @@ pub fn unit(
         core.old memory.old.bytes core.new memory.new.bytes table.new done) }
     ensures core_kept { OnErr result (core.new ≡ core.old) }
     ensures memory_kept { OnErr result (memory.new ≡ memory.old) }
+    ensures marks_kept { SameMarks memory.old memory.new }
     ensures table_kept { OnErr result (table.new ≡ table.old) }
 {
     match op {
@@ -88,6 +90,7 @@ fn protect(core: &mut Core, memory: &mut Memory, table: &mut ModuleTable, who: W
         (unit_plan (doer table.old who key) Protect core.old) ≡ None }
     ensures done { (key : List ℕ) → IsDone (doer table.old who key) Protect
         core.old memory.old.bytes core.new memory.new.bytes table.new result }
+    ensures marks { SameMarks memory.old memory.new }
 {
     let text = new_text(core);
     let ram = new_ram(core);
@@ -182,6 +185,7 @@ fn tag(
         core.old memory.old.bytes core.new memory.new.bytes table.now done) }
     ensures core_kept { OnErr result (core.new ≡ core.old) }
     ensures memory_kept { OnErr result (memory.new ≡ memory.old) }
+    ensures marks { SameMarks memory.old memory.new }
 {
     let start = core.get(12);
     let end = core.get(13);

@@ -1,3 +1,4 @@
+use Rattle.mem_map.specs.Contents.{Contents}
 use Rattle.std.proofs.Common.{◌≡◌, ◌∙◌, ◌+◌, ◌*◌, Bool, true, false, ℕ, ap, sym, refl, subst, replicate}
 use Rattle.std.specs.Option.{is_none}
 use Rattle.sm_words.specs.Words.{cleared, put, reg}
@@ -56,7 +57,7 @@ returns-in-Ok-clause-done c = λ key.
     ∙ ap (λ x. with_module t (reg core 11) x c.new_ram-ram.result) c.new_text-text.ensures
     ∙ ap (with_module t (reg core 11) (new_text core)) c.new_ram-ram.ensures in
     let clearing : c.clear.new.self.bytes ≡ stored_in c.args.memory.now.bytes (each_byte Write (reg core 14) (size_of (new_ram core))) (replicate (size_of (new_ram core)) 0) =
-    c.clear.ensures.cleared ∙ ap (λ (r : Section). cleared r.start (size_of r) c.args.memory.now.bytes) c.new_ram-ram.ensures
+    ap (λ (m : Contents). m.bytes) c.clear.ensures.cleared ∙ ap (λ (r : Section). cleared r.start (size_of r) c.args.memory.now.bytes) c.new_ram-ram.ensures
     ∙ sym (stored_in-zeros (reg core 14) (size_of (new_ram core)) c.args.memory.now.bytes) in
     protected (doer t c.args.who key) core _ _ _ _ _ taken
     (c.answer-done.ensures.core ∙ ap (put core 15) c.in-Ok.ensures.id) clearing after

@@ -123,7 +123,7 @@ returns-clause-done c =
     ∙ ap (λ a. tag_of who.key own (text_in mem own) (slice_range mem a c.get-end.result)) c.get-start.ensures.word
     ∙ ap (λ b. tag_of who.key own (text_in mem own) (slice_range mem (reg core 12) b)) c.get-end.ensures.word in
     let stored : c.store.new.memory.bytes ≡ stored_in mem (each_byte Write (reg core 14) 16) (tag_of who.key own (text_in mem own) (slice_range mem (reg core 12) (reg core 13))) =
-    c.store.ensures
+    c.store.ensures.stored
     ∙ ap (λ a. stored_in mem (each_byte Write a 16) c.message_tag-tag.result) c.get-output.ensures.word
     ∙ ap (stored_in mem (each_byte Write (reg core 14) 16)) tag_is in
     let cycles : 6 + 64 * c.hmac_blocks.result ≡ 6 + 64 * blocks (reg core 13 - reg core 12) =
