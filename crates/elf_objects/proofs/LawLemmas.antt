@@ -1,20 +1,25 @@
 -- What holds of the sections, symbols and relocations of an object.
-use Rattle.std.proofs.Common.{◌≡◌, ℕ, zero, suc, ◌+◌, ◌-◌, ◌/◌, ◌<◌, ◌≤◌, List, [], ◌∷◌, length, drop, Option, Some, None, Bool, true, false, not, ◌&&◌, ◌||◌, is_none, refl, ap, sym, ◌∙◌, ◌⊎◌, inl, inr, arith, subst, eqb, ltb, cond, unwrap_or, length-take, length-drop, length-append}
+use Rattle.std.proofs.Common.{◌≡◌, ℕ, zero, suc, ◌+◌, ◌*◌, ◌-◌, ◌/◌, ◌<◌, ◌≤◌, List, [], ◌∷◌, length, drop, Option, Some, None, Bool, true, false, not, ◌&&◌, ◌||◌, is_none, refl, ap, sym, ◌∙◌, ◌⊎◌, inl, inr, arith, subst, eqb, ltb, cond, get_or, ◌++◌, unwrap_or, length-take, length-drop, length-append}
 use Rattle.std.proofs.lemmas.Bool.{cases_lt, ltb-true}
 use Rattle.std.proofs.lemmas.Bool.Decides.{nat_tests}
 use Rattle.std.proofs.lemmas.List.Elements.{All-append, All-push, All-nil, All-same}
+use Rattle.std.proofs.Math.ListN.{get_or-append}
+use Rattle.std.proofs.Math.Seq.{get_or-append_seam}
 use Rattle.std.specs.List.{All, position_from}
 use Rattle.elf_objects.specs.declared.fault.ElfFault.{ElfFault}
 use Rattle.elf_objects.specs.declared.section.Header.{Header}
+use Rattle.elf_objects.specs.declared.object.Span.{Span}
 use Rattle.elf_objects.specs.declared.object.Symbol.{Symbol}
 use Rattle.elf_objects.specs.declared.object.Home.TheVariants as home
+use Rattle.elf_objects.specs.declared.object.SectionHead.{SectionHead}
+use Rattle.elf_objects.specs.declared.object.Relocation.{Relocation}
 use Rattle.elf_objects.specs.Passes.{or_else, refuse_if, first_below, each_below, all_below}
 use Rattle.elf_objects.specs.Header.{section_count, name_table, table_fault}
-use Rattle.elf_objects.specs.Section.{header_of, is_absent, section_fault, link_fault, name_table_fault, content, section_faults, link_faults, symbol_table, index_if, is_kept_table, is_kind}
+use Rattle.elf_objects.specs.Section.{header_of, is_absent, section_fault, link_fault, name_table_fault, content, section_faults, link_faults, symbol_table, index_if, is_kept_table, is_kind, is_loaded, is_loaded_header}
 use Rattle.elf_objects.specs.Names.{name_end, name_span, section_names, name_fault, name_faults, section_of, sections_of}
 use Rattle.elf_objects.specs.Symbol.{entry_of, count_in, strings_of, symbol_fault, symbol_of, home_of, symbols_header, header_at, count_of, faults_in, symbol_faults, symbols_in, symbols_of}
 use Rattle.elf_objects.specs.Relocation.{relocation_of, entry_fault, relocation_fault, relocation_faults, relocations_at, relocations_of}
-use Rattle.elf_objects.specs.Object.{elf_fault_of, contents_fault, ObjectValue, IsObject, IsWithin, IsSection, IsHome, IsSymbol, IsRelocation}
+use Rattle.elf_objects.specs.Object.{elf_fault_of, contents_fault, ObjectValue, IsObject, IsWithin, IsSection, IsHome, IsSymbol, IsRelocation, IsOfLoaded}
 use Rattle.elf_objects.proofs.ObjectLemmas.{no_sections_lists}
 
 -- ---- passes
@@ -110,6 +115,15 @@ bytes_within : (file : List ℕ) (i : ℕ) → IsSound file → i < section_coun
 unfolding section_of
 bytes_within file i sound lt = bytes_within_by file (header_of file i) (is_absent (header_of file i)) (section_ends file i (below_none _ _ i sound.sections lt))
 
+bytes_sized_by : (h : Header) (b : Bool) (s : Span) → cond b (record { start = 0; end = 0 }) (record { start = h.offset; end = h.offset + h.size }) ≡ s → s.end ≤ s.start + h.size
+bytes_sized_by h true s e = let f : 0 ≡ s.start = ap (λ (x : Span). x.start) e in let g : 0 ≡ s.end = ap (λ (x : Span). x.end) e in omega (arith, f, g)
+bytes_sized_by h false s e = let f : h.offset ≡ s.start = ap (λ (x : Span). x.start) e in let g : h.offset + h.size ≡ s.end = ap (λ (x : Span). x.end) e in omega (arith, f, g)
+
+-- a section has no more bytes than its size
+bytes_sized : (file : List ℕ) (i : ℕ) → (section_of file i).bytes.end ≤ (section_of file i).bytes.start + (section_of file i).size
+unfolding section_of
+bytes_sized file i = bytes_sized_by (header_of file i) (is_absent (header_of file i)) (section_of file i).bytes refl
+
 position_by : (b : Bool) (at n size : ℕ) (rest : Option ℕ) → cond b (Some at) rest ≡ Some n → (rest ≡ Some n → (at + 1 ≤ n) × (n < at + 1 + size)) → (at ≤ n) × (n < at + suc size)
 position_by true at n size rest e later = let same : at ≡ n = cc in (omega arith, omega arith)
 position_by false at n size rest e later = let k = later e in (omega (arith, k.0), omega (arith, k.1))
@@ -159,7 +173,7 @@ section_name_within file i sound lt =
 
 -- ---- sections
 
-length_sections : (file : List ℕ) → length (sections_of file) ≡ section_count file
+pub length_sections : (file : List ℕ) → length (sections_of file) ≡ section_count file
 unfolding sections_of
 length_sections file = length_each_below (section_of file) (section_count file)
 
@@ -167,7 +181,7 @@ all_sections_of : (file : List ℕ) → elf_fault_of file ≡ None → All (IsSe
 unfolding sections_of
 all_sections_of file e =
     all_each_below (IsSection (length file)) (section_of file) (section_count file)
-    (λ i lt. let sound = sound_of file e (omega arith) in record { name = section_name_within file i sound lt; bytes = bytes_within file i sound lt })
+    (λ i lt. let sound = sound_of file e (omega arith) in record { name = section_name_within file i sound lt; bytes = bytes_within file i sound lt; sized = bytes_sized file i })
 
 -- the spans of sections are of the file
 pub all_sections : (object : ObjectValue) → IsObject object → All (IsSection (length object.file)) object.sections
@@ -280,6 +294,36 @@ length_symbols : (file : List ℕ) → length (symbols_of file) ≡ count_of (sy
 unfolding symbols_of
 length_symbols file = length_symbols_by file (symbols_header file)
 
+count_few : (file : List ℕ) (s : ℕ) → IsSound file → symbol_table file ≡ Some s → 16 * count_in (header_of file s) ≤ length file
+count_few file s sound found =
+    let at = symbol_table_found file s found in
+    let ends = section_ends file s (below_none _ _ s sound.sections at.0) (grind (arith, nat_tests)) in
+    omega (arith, ends)
+
+symbols_few_by : (file : List ℕ) (o : Option ℕ) → IsSound file → symbol_table file ≡ o → 16 * length (symbols_in file (header_at file o)) ≤ length file
+symbols_few_by file None sound found = omega arith
+symbols_few_by file (Some s) sound found =
+    let e = length_each_below (symbol_of file (header_of file s)) (count_in (header_of file s)) in
+    let f = count_few file s sound found in
+    omega (arith, e, f)
+
+symbols_few_sound : (file : List ℕ) → IsSound file → 16 * length (symbols_of file) ≤ length file
+unfolding symbols_of symbols_header
+symbols_few_sound file sound = symbols_few_by file (symbol_table file) sound refl
+
+symbols_few_of : (file : List ℕ) → elf_fault_of file ≡ None → (section_count file ≡ 0) ⊎ (0 < section_count file) → 16 * length (symbols_of file) ≤ length file
+symbols_few_of file e (inl none) =
+    let f : length (symbols_of file) ≡ 0 = ap length (no_sections_lists file none).1 in
+    omega (arith, f)
+symbols_few_of file e (inr some) = symbols_few_sound file (sound_of file e some)
+
+-- each symbol takes 16 bytes of the file
+pub symbols_few : (object : ObjectValue) → IsObject object → 16 * length object.symbols ≤ length object.file
+symbols_few object is =
+    let e : length object.symbols ≡ length (symbols_of object.file) = ap length is.symbols in
+    let f = symbols_few_of object.file is.sound (none_or_some (section_count object.file)) in
+    omega (arith, e, f)
+
 target_linked : (file : List ℕ) (i : ℕ) → link_fault file i ≡ None → is_kept_table file (header_of file i) ≡ true → (header_of file i).info < section_count file
 unfolding link_fault
 target_linked file i e kept = let no = not_refused _ _ e in grind (arith, nat_tests)
@@ -315,3 +359,61 @@ all_relocations object is =
     rw (count_sections object is, ap length is.symbols ∙ length_symbols object.file)
     (All-same (IsRelocation (section_count object.file) (count_of (symbols_header object.file))) object.relocations (relocations_of object.file) is.relocations
     (all_relocations_of object.file is.sound))
+
+at_each_by : {A : Type 0} (f : ℕ → A) (n i : ℕ) (d : A) → (i < n) ⊎ (n ≤ i) → i < suc n → (i < n → get_or (each_below f n) i d ≡ f i) → get_or (each_below f n ++ f n ∷ []) i d ≡ f i
+at_each_by f n i d (inl lt) within rest = get_or-append (each_below f n) (f n ∷ []) d i (let e = length_each_below f n in omega (arith, e)) ∙ rest lt
+at_each_by f n i d (inr le) within rest =
+    let e = length_each_below f n in
+    let same : i ≡ length (each_below f n) = omega (arith, e) in
+    let k : n ≡ i = omega arith in
+    ap (λ (j : ℕ). get_or (each_below f n ++ f n ∷ []) j d) same ∙ (get_or-append_seam (each_below f n) (f n) [] d ∙ ap f k)
+
+at_each : {A : Type 0} (f : ℕ → A) (n i : ℕ) (d : A) → i < n → get_or (each_below f n) i d ≡ f i
+unfolding each_below
+at_each f zero i d lt = absurd (omega arith)
+at_each f (suc n) i d lt = at_each_by f n i d (cases_lt i n) lt (at_each f n i d)
+
+abbrev HasLoaded : List ℕ → Relocation → Type 0
+HasLoaded file r = is_loaded_header (header_of file r.target) ≡ true
+
+loaded_entry : (file : List ℕ) (i : ℕ) (h : Header) (k : ℕ) → is_loaded_header (header_of file h.info) ≡ true → HasLoaded file (relocation_of file i h k)
+unfolding relocation_of
+loaded_entry file i h k e = e
+
+loaded_by : (file : List ℕ) (i : ℕ) (b : Bool) → is_kept_table file (header_of file i) ≡ b → All (HasLoaded file) (cond b (each_below (relocation_of file i (header_of file i)) ((header_of file i).size / 12)) [])
+loaded_by file i false kept = All-nil _
+loaded_by file i true kept =
+    all_each_below (HasLoaded file) (relocation_of file i (header_of file i)) ((header_of file i).size / 12)
+    (λ k below. loaded_entry file i (header_of file i) k (both_true _ _ kept).1)
+
+loaded_at : (file : List ℕ) (i : ℕ) → All (HasLoaded file) (relocations_at file i)
+unfolding relocations_at
+loaded_at file i = loaded_by file i (is_kept_table file (header_of file i)) refl
+
+all_loaded_of : (file : List ℕ) → All (HasLoaded file) (relocations_of file)
+unfolding relocations_of
+all_loaded_of file = all_all_below (HasLoaded file) (relocations_at file) (section_count file) (λ i lt. loaded_at file i)
+
+section_loaded : (file : List ℕ) (i : ℕ) → is_loaded (section_of file i).kind (section_of file i).flags ≡ is_loaded_header (header_of file i)
+unfolding section_of
+section_loaded file i = refl
+
+target_at : (file : List ℕ) (i : ℕ) (d : SectionHead) → i < section_count file → get_or (sections_of file) i d ≡ section_of file i
+unfolding sections_of
+target_at file i d lt = at_each (section_of file) (section_count file) i d lt
+
+loaded_target : (object : ObjectValue) → IsObject object → (r : Relocation) → HasLoaded object.file r → IsOfLoaded object.sections r
+loaded_target object is r e = λ d lt.
+    let n = count_sections object is in
+    let same : get_or object.sections r.target d ≡ section_of object.file r.target = ap (λ (l : List SectionHead). get_or l r.target d) is.sections ∙ target_at object.file r.target d (omega (arith, n)) in
+    ap (λ (s : SectionHead). is_loaded s.kind s.flags) same ∙ (section_loaded object.file r.target ∙ e)
+
+-- the targets of relocations are loaded
+pub all_loaded : (object : ObjectValue) → IsObject object → All (IsOfLoaded object.sections) object.relocations
+all_loaded object is =
+    let all = All-same (HasLoaded object.file) object.relocations (relocations_of object.file) is.relocations (all_loaded_of object.file) in
+    λ k d lt. loaded_target object is (get_or object.relocations k d) (all k d lt)
+
+-- an object's sections are few
+pub few_sections : (object : ObjectValue) → IsObject object → length object.sections ≡ section_count object.file
+few_sections object is = count_sections object is

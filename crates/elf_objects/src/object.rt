@@ -1,6 +1,6 @@
 //! Objects: their sections, symbols and relocations.
 
-ghost use Rattle.std.specs.Prelude.{◌≡◌, ◌≤◌, ◌<◌, length, IfOk, IfErr, OnOk, None, slice_range, slice_get, List, All};
+ghost use Rattle.std.specs.Prelude.{◌≡◌, ◌≤◌, ◌<◌, ◌*◌, length, IfOk, IfErr, OnOk, None, slice_range, slice_get, List, All};
 ghost use Rattle.elf_objects.specs.Passes.{IsFaultOf};
 ghost use Rattle.elf_objects.specs.Section.{is_loaded};
 ghost use Rattle.elf_objects.specs.Names.{sections_of};
@@ -124,11 +124,21 @@ impl Model for Object {
 }
 
 impl Object {
+    /// It does nothing. It tells a proof the laws of an object.
+    pub fn laws(&self)
+        ensures { IsObject self.now }
+    {
+        let _file = self.file.as_slice();
+    }
+
     /// The sections, by their index.
     pub fn sections(&self) -> &[SectionHead]
         ensures value { result.now ≡ self.now.sections }
         ensures within { All (IsSection (length self.now.file)) result.now }
+        ensures few { length result.now < 65536 }
     {
+        let file = self.file.as_slice();
+        let _count = section_count(file);
         &self.sections
     }
 
@@ -136,6 +146,7 @@ impl Object {
     pub fn symbols(&self) -> &[Symbol]
         ensures value { result.now ≡ self.now.symbols }
         ensures within { All (IsSymbol (length self.now.file) (length self.now.sections)) result.now }
+        ensures few { 16 * length result.now ≤ length self.now.file }
     {
         &self.symbols
     }
