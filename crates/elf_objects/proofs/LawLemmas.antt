@@ -3,8 +3,8 @@ use Rattle.std.proofs.Common.{◌≡◌, ℕ, zero, suc, ◌+◌, ◌*◌, ◌-�
 use Rattle.std.proofs.lemmas.Bool.{cases_lt, ltb-true}
 use Rattle.std.proofs.lemmas.Bool.Decides.{nat_tests}
 use Rattle.std.proofs.lemmas.List.Elements.{All-append, All-push, All-nil, All-same}
-use Rattle.std.proofs.Math.ListN.{get_or-append}
-use Rattle.std.proofs.Math.Seq.{get_or-append_seam}
+use Rattle.std.proofs.lemmas.Option.{slice_get_within, get_or_from_slice_get, slice_get-get_or}
+use Rattle.std.specs.Prelude.{slice_get, IfSome}
 use Rattle.std.specs.List.{All, position_from}
 use Rattle.elf_objects.specs.declared.fault.ElfFault.{ElfFault}
 use Rattle.elf_objects.specs.declared.section.Header.{Header}
@@ -19,7 +19,8 @@ use Rattle.elf_objects.specs.Section.{header_of, is_absent, section_fault, link_
 use Rattle.elf_objects.specs.Names.{name_end, name_span, section_names, name_fault, name_faults, section_of, sections_of}
 use Rattle.elf_objects.specs.Symbol.{entry_of, count_in, strings_of, symbol_fault, symbol_of, home_of, symbols_header, header_at, count_of, faults_in, symbol_faults, symbols_in, symbols_of}
 use Rattle.elf_objects.specs.Relocation.{relocation_of, entry_fault, relocation_fault, relocation_faults, relocations_at, relocations_of}
-use Rattle.elf_objects.specs.Object.{elf_fault_of, contents_fault, ObjectValue, IsObject, IsWithin, IsSection, IsHome, IsSymbol, IsRelocation, IsOfLoaded}
+use Rattle.elf_objects.specs.Object.{elf_fault_of, contents_fault, ObjectValue, IsObject, IsWithin, IsSection, IsHome, IsSymbol, IsRelocation}
+use Rattle.elf_objects.proofs.PassLemmas.{length_each_below, at_each}
 use Rattle.elf_objects.proofs.ObjectLemmas.{no_sections_lists}
 
 -- ---- passes
@@ -62,11 +63,6 @@ all_all_below : {A : Type 0} (P : A → Type 0) (f : ℕ → List A) (n : ℕ) �
 unfolding all_below
 all_all_below P f zero each = All-nil P
 all_all_below P f (suc n) each = All-append P (all_below f n) (f n) (all_all_below P f n (λ i lt. each i (omega arith))) (each n (omega arith))
-
-length_each_below : {A : Type 0} (f : ℕ → A) (n : ℕ) → length (each_below f n) ≡ n
-unfolding each_below
-length_each_below f zero = refl
-length_each_below f (suc n) = simp (length-append, length_each_below f n) (omega arith)
 
 -- ---- an object's file
 
@@ -328,50 +324,36 @@ target_linked : (file : List ℕ) (i : ℕ) → link_fault file i ≡ None → i
 unfolding link_fault
 target_linked file i e kept = let no = not_refused _ _ e in grind (arith, nat_tests)
 
+-- a relocation's table, target and symbol are among so many
+record IsNumbered (sections symbols : ℕ) (r : Relocation) : Type 0 where
+  table : r.table < sections
+  target : r.target < sections
+  symbol : r.symbol < symbols
+
 symbol_there : (file : List ℕ) (symbols i : ℕ) (h : Header) (k : ℕ) → entry_fault file symbols i h k ≡ None → (relocation_of file i h k).symbol < symbols
 unfolding entry_fault
 symbol_there file symbols i h k e = let no = not_refused _ _ e in grind (arith, nat_tests)
 
-relocation_law : (file : List ℕ) (symbols i : ℕ) (h : Header) (k : ℕ) → i < section_count file → h.info < section_count file → entry_fault file symbols i h k ≡ None → IsRelocation (section_count file) symbols (relocation_of file i h k)
+relocation_law : (file : List ℕ) (symbols i : ℕ) (h : Header) (k : ℕ) → i < section_count file → h.info < section_count file → entry_fault file symbols i h k ≡ None → IsNumbered (section_count file) symbols (relocation_of file i h k)
 unfolding relocation_of
 relocation_law file symbols i h k lt target e = record { table = lt; target = target; symbol = symbol_there file symbols i h k e }
 
-relocations_by : (file : List ℕ) (symbols i : ℕ) (b : Bool) → is_kept_table file (header_of file i) ≡ b → i < section_count file → link_fault file i ≡ None → cond b (first_below (entry_fault file symbols i (header_of file i)) ((header_of file i).size / 12)) None ≡ None → All (IsRelocation (section_count file) symbols) (cond b (each_below (relocation_of file i (header_of file i)) ((header_of file i).size / 12)) [])
+relocations_by : (file : List ℕ) (symbols i : ℕ) (b : Bool) → is_kept_table file (header_of file i) ≡ b → i < section_count file → link_fault file i ≡ None → cond b (first_below (entry_fault file symbols i (header_of file i)) ((header_of file i).size / 12)) None ≡ None → All (IsNumbered (section_count file) symbols) (cond b (each_below (relocation_of file i (header_of file i)) ((header_of file i).size / 12)) [])
 relocations_by file symbols i false kept lt link e = All-nil _
 relocations_by file symbols i true kept lt link e =
-    all_each_below (IsRelocation (section_count file) symbols) (relocation_of file i (header_of file i)) ((header_of file i).size / 12)
+    all_each_below (IsNumbered (section_count file) symbols) (relocation_of file i (header_of file i)) ((header_of file i).size / 12)
     (λ k below. relocation_law file symbols i (header_of file i) k lt (target_linked file i link kept) (below_none _ _ k e below))
 
-relocations_law : (file : List ℕ) (symbols i : ℕ) → i < section_count file → link_fault file i ≡ None → relocation_fault file symbols i ≡ None → All (IsRelocation (section_count file) symbols) (relocations_at file i)
+relocations_law : (file : List ℕ) (symbols i : ℕ) → i < section_count file → link_fault file i ≡ None → relocation_fault file symbols i ≡ None → All (IsNumbered (section_count file) symbols) (relocations_at file i)
 unfolding relocation_fault relocations_at
 relocations_law file symbols i lt link e = relocations_by file symbols i (is_kept_table file (header_of file i)) refl lt link e
 
-all_relocations_of : (file : List ℕ) → elf_fault_of file ≡ None → All (IsRelocation (section_count file) (count_of (symbols_header file))) (relocations_of file)
+all_relocations_of : (file : List ℕ) → elf_fault_of file ≡ None → All (IsNumbered (section_count file) (count_of (symbols_header file))) (relocations_of file)
 unfolding relocations_of
 all_relocations_of file e =
-    all_all_below (IsRelocation (section_count file) (count_of (symbols_header file))) (relocations_at file) (section_count file)
+    all_all_below (IsNumbered (section_count file) (count_of (symbols_header file))) (relocations_at file) (section_count file)
     (λ i lt. let sound = sound_of file e (omega arith) in
     relocations_law file (count_of (symbols_header file)) i lt (below_none _ _ i sound.links lt) (below_none _ _ i sound.relocations lt))
-
--- the tables, targets and symbols of relocations are of the object
-pub all_relocations : (object : ObjectValue) → IsObject object → All (IsRelocation (length object.sections) (length object.symbols)) object.relocations
-all_relocations object is =
-    rw (count_sections object is, ap length is.symbols ∙ length_symbols object.file)
-    (All-same (IsRelocation (section_count object.file) (count_of (symbols_header object.file))) object.relocations (relocations_of object.file) is.relocations
-    (all_relocations_of object.file is.sound))
-
-at_each_by : {A : Type 0} (f : ℕ → A) (n i : ℕ) (d : A) → (i < n) ⊎ (n ≤ i) → i < suc n → (i < n → get_or (each_below f n) i d ≡ f i) → get_or (each_below f n ++ f n ∷ []) i d ≡ f i
-at_each_by f n i d (inl lt) within rest = get_or-append (each_below f n) (f n ∷ []) d i (let e = length_each_below f n in omega (arith, e)) ∙ rest lt
-at_each_by f n i d (inr le) within rest =
-    let e = length_each_below f n in
-    let same : i ≡ length (each_below f n) = omega (arith, e) in
-    let k : n ≡ i = omega arith in
-    ap (λ (j : ℕ). get_or (each_below f n ++ f n ∷ []) j d) same ∙ (get_or-append_seam (each_below f n) (f n) [] d ∙ ap f k)
-
-at_each : {A : Type 0} (f : ℕ → A) (n i : ℕ) (d : A) → i < n → get_or (each_below f n) i d ≡ f i
-unfolding each_below
-at_each f zero i d lt = absurd (omega arith)
-at_each f (suc n) i d lt = at_each_by f n i d (cases_lt i n) lt (at_each f n i d)
 
 abbrev HasLoaded : List ℕ → Relocation → Type 0
 HasLoaded file r = is_loaded_header (header_of file r.target) ≡ true
@@ -402,17 +384,49 @@ target_at : (file : List ℕ) (i : ℕ) (d : SectionHead) → i < section_count 
 unfolding sections_of
 target_at file i d lt = at_each (section_of file) (section_count file) i d lt
 
-loaded_target : (object : ObjectValue) → IsObject object → (r : Relocation) → HasLoaded object.file r → IsOfLoaded object.sections r
-loaded_target object is r e = λ d lt.
+numbered_in : (object : ObjectValue) → IsObject object → All (IsNumbered (length object.sections) (length object.symbols)) object.relocations
+numbered_in object is =
+    rw (count_sections object is, ap length is.symbols ∙ length_symbols object.file)
+    (All-same (IsNumbered (section_count object.file) (count_of (symbols_header object.file))) object.relocations (relocations_of object.file) is.relocations
+    (all_relocations_of object.file is.sound))
+
+target_same : (object : ObjectValue) → IsObject object → (i : ℕ) (head : SectionHead) → slice_get object.sections i ≡ Some head → head ≡ section_of object.file i
+target_same object is i head found =
     let n = count_sections object is in
-    let same : get_or object.sections r.target d ≡ section_of object.file r.target = ap (λ (l : List SectionHead). get_or l r.target d) is.sections ∙ target_at object.file r.target d (omega (arith, n)) in
-    ap (λ (s : SectionHead). is_loaded s.kind s.flags) same ∙ (section_loaded object.file r.target ∙ e)
+    let within = slice_get_within object.sections i head found in
+    sym (get_or_from_slice_get object.sections i head head found)
+    ∙ (ap (λ (l : List SectionHead). get_or l i head) is.sections ∙ target_at object.file i head (omega (arith, n, within)))
+
+loaded_by_head : (object : ObjectValue) → IsObject object → (r : Relocation) → HasLoaded object.file r → (o : Option SectionHead) → slice_get object.sections r.target ≡ o → IfSome o (λ s. is_loaded s.kind s.flags ≡ true)
+loaded_by_head object is r e None found = tt
+loaded_by_head object is r e (Some head) found =
+    ap (λ (s : SectionHead). is_loaded s.kind s.flags) (target_same object is r.target head found) ∙ (section_loaded object.file r.target ∙ e)
+
+-- the relocations of an object are of its sections and symbols
+pub all_relocations : (object : ObjectValue) → IsObject object → All (IsRelocation object.sections (length object.symbols)) object.relocations
+all_relocations object is =
+    let loaded = All-same (HasLoaded object.file) object.relocations (relocations_of object.file) is.relocations (all_loaded_of object.file) in
+    λ k d lt. let r = get_or object.relocations k d in let n = numbered_in object is k d lt in
+    record { table = n.table; target = n.target; loaded = loaded_by_head object is r (loaded k d lt) (slice_get object.sections r.target) refl; symbol = n.symbol }
+
+-- and so is one of them
+pub relocation_in : (object : ObjectValue) → IsObject object → (place : ℕ) (r : Relocation) → slice_get object.relocations place ≡ Some r → IsRelocation object.sections (length object.symbols) r
+relocation_in object is place r found =
+    subst (IsRelocation object.sections (length object.symbols)) (get_or_from_slice_get object.relocations place r r found)
+    (all_relocations object is place r (slice_get_within object.relocations place r found))
+
+abbrev pub IsOfLoaded : List SectionHead → Relocation → Type 0
+IsOfLoaded sections r = (d : SectionHead) → r.target < length sections → is_loaded (get_or sections r.target d).kind (get_or sections r.target d).flags ≡ true
+
+loaded_there : (sections : List SectionHead) (i : ℕ) (d : SectionHead) (o : Option SectionHead) → slice_get sections i ≡ o → i < length sections → IfSome o (λ s. is_loaded s.kind s.flags ≡ true) → is_loaded (get_or sections i d).kind (get_or sections i d).flags ≡ true
+loaded_there sections i d None found lt e = let some = slice_get-get_or sections i d lt in cc
+loaded_there sections i d (Some head) found lt e = ap (λ (s : SectionHead). is_loaded s.kind s.flags) (get_or_from_slice_get sections i head d found) ∙ e
 
 -- the targets of relocations are loaded
 pub all_loaded : (object : ObjectValue) → IsObject object → All (IsOfLoaded object.sections) object.relocations
-all_loaded object is =
-    let all = All-same (HasLoaded object.file) object.relocations (relocations_of object.file) is.relocations (all_loaded_of object.file) in
-    λ k d lt. loaded_target object is (get_or object.relocations k d) (all k d lt)
+all_loaded object is = λ k d lt. λ head within.
+    let r = get_or object.relocations k d in
+    loaded_there object.sections r.target head (slice_get object.sections r.target) refl within (all_relocations object is k d lt).loaded
 
 -- an object's sections are few
 pub few_sections : (object : ObjectValue) → IsObject object → length object.sections ≡ section_count object.file

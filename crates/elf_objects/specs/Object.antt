@@ -1,5 +1,5 @@
 -- What a file is as an object, and why it is none.
-use Rattle.std.specs.Prelude.{◌≡◌, ◌≤◌, ◌<◌, ◌+◌, ℕ, List, [], ◌∷◌, length, slice_index_or, true, ◌==◌, if◌then◌else◌, Option, None}
+use Rattle.std.specs.Prelude.{◌≡◌, ◌≤◌, ◌<◌, ◌+◌, ℕ, List, [], ◌∷◌, length, slice_get, IfSome, true, ◌==◌, if◌then◌else◌, Option, None}
 use Rattle.elf_objects.specs.declared.fault.ElfFault.{ElfFault}
 use Rattle.elf_objects.specs.declared.object.Span.{Span}
 use Rattle.elf_objects.specs.declared.object.SectionHead.{SectionHead}
@@ -68,12 +68,9 @@ pub record IsSymbol (size sections : ℕ) (symbol : Symbol) : Type 0 where
   pub name : IsWithin size symbol.name
   pub home : IsHome sections symbol.home
 
--- a relocation's table and target are among these sections, and its symbol is among these symbols
-pub record IsRelocation (sections symbols : ℕ) (relocation : Relocation) : Type 0 where
-  pub table : relocation.table < sections
-  pub target : relocation.target < sections
+-- a relocation's table and target are among these sections, the target is loaded, and its symbol is among so many symbols
+pub record IsRelocation (sections : List SectionHead) (symbols : ℕ) (relocation : Relocation) : Type 0 where
+  pub table : relocation.table < length sections
+  pub target : relocation.target < length sections
+  pub loaded : IfSome (slice_get sections relocation.target) (λ s. is_loaded s.kind s.flags ≡ true)
   pub symbol : relocation.symbol < symbols
-
--- a relocation's target is a loaded section
-abbrev pub IsOfLoaded : List SectionHead → Relocation → Type 0
-IsOfLoaded sections r = (d : SectionHead) → r.target < length sections → is_loaded (slice_index_or sections r.target d).kind (slice_index_or sections r.target d).flags ≡ true
