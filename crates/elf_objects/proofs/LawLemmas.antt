@@ -1,5 +1,5 @@
 -- What holds of the sections, symbols and relocations of an object.
-use Rattle.std.proofs.Common.{◌≡◌, ℕ, zero, suc, ◌+◌, ◌*◌, ◌-◌, ◌/◌, ◌<◌, ◌≤◌, List, [], ◌∷◌, length, drop, Option, Some, None, Bool, true, false, not, ◌&&◌, ◌||◌, is_none, refl, ap, sym, ◌∙◌, ◌⊎◌, inl, inr, arith, subst, eqb, ltb, cond, get_or, ◌++◌, unwrap_or, length-take, length-drop, length-append}
+use Rattle.std.proofs.Common.{◌≡◌, ℕ, zero, suc, ◌+◌, ◌*◌, ◌-◌, ◌/◌, ◌<◌, ◌≤◌, List, [], ◌∷◌, length, drop, Option, Some, None, Bool, true, false, not, ◌&&◌, ◌||◌, is_none, refl, ap, sym, ◌∙◌, ◌⊎◌, inl, inr, arith, subst, eqb, ltb, cond, get_or, unwrap_or, length-take, length-drop}
 use Rattle.std.proofs.lemmas.Bool.{cases_lt, ltb-true}
 use Rattle.std.proofs.lemmas.Bool.Decides.{nat_tests}
 use Rattle.std.proofs.lemmas.List.Elements.{All-append, All-push, All-nil, All-same}

@@ -1,6 +1,6 @@
-use Rattle.std.proofs.Common.{◌≡◌, arith, ap, sym, ◌∙◌}
+use Rattle.std.proofs.Common.{arith, ap, sym, ◌∙◌}
 use Rattle.elf_objects.specs.Relocation.{count_below}
-use Rattle.elf_objects.proofs.PlaceLemmas.{count_zero, end_before, within_ends}
+use Rattle.elf_objects.proofs.PlaceLemmas.{count_zero, within_ends}
 use Rattle.elf_objects.proofs.relocation.count_before.Goals as goal
 
 pub returns-then-section-eq0 : goal.returns-then-section-eq0

@@ -1,5 +1,4 @@
-use Rattle.std.proofs.Common.{◌≡◌, arith, ap, sym, ◌∙◌}
-use Rattle.elf_objects.specs.Header.{section_count}
+use Rattle.std.proofs.Common.{arith}
 use Rattle.elf_objects.specs.Relocation.{IsIn}
 use Rattle.elf_objects.proofs.PlaceLemmas.{is_in_found, these_rise}
 use Rattle.elf_objects.proofs.relocation.table_with.Goals as goal

@@ -1,4 +1,4 @@
-use Rattle.std.proofs.Common.{◌≡◌, subst, ap, sym, ◌∙◌, List, ℕ, Some}
+use Rattle.std.proofs.Common.{◌≡◌, subst, ap, sym, ◌∙◌}
 use Rattle.std.specs.Prelude.{slice_get}
 use Rattle.elf_objects.specs.Relocation.{relocations_of}
 use Rattle.elf_objects.specs.Object.{ObjectValue, IsObject}

@@ -1,5 +1,4 @@
-use Rattle.std.proofs.Common.{◌≡◌, ap, sym, ◌∙◌, List, ℕ, length, unwrap_or}
-use Rattle.std.specs.Option.{option_copied}
+use Rattle.std.proofs.Common.{◌≡◌, ap, ◌∙◌, length, unwrap_or}
 use Rattle.elf_objects.specs.Relocation.{relocations_of, ends_of}
 use Rattle.elf_objects.specs.Object.{ObjectValue}
 use Rattle.elf_objects.proofs.PlaceLemmas.{last_of}

@@ -1,4 +1,4 @@
-use Rattle.std.proofs.Common.{◌≡◌, ◌<◌, length, ap, subst, ◌∙◌, sym, arith}
+use Rattle.std.proofs.Common.{◌≡◌, length, ap, subst, ◌∙◌, arith}
 use Rattle.elf_objects.specs.Header.{section_count}
 use Rattle.elf_objects.proofs.LawLemmas.{length_sections}
 use Rattle.std.proofs.lemmas.List.Elements.{All-same}
