@@ -40,7 +40,7 @@ impl SectionHead {
     /// Whether the section is in the memory of the program: it has the alloc flag, and is none of
     /// the tables of symbols, names and relocations.
     pub fn is_loaded(&self) -> bool
-        ensures { result ≡ is_loaded self.now.kind self.now.flags }
+        ensures loaded { result ≡ is_loaded self.now.kind self.now.flags }
     {
         is_loaded(self.kind, self.flags)
     }
@@ -129,7 +129,7 @@ impl Model for Object {
 impl Object {
     /// It does nothing. It tells a proof the laws of an object.
     pub fn laws(&self)
-        ensures { IsObject self.now }
+        ensures lawful { IsObject self.now }
     {
         let _file = self.file.as_slice();
     }
@@ -156,14 +156,14 @@ impl Object {
 
     /// How many relocations of loaded sections there are.
     pub fn relocation_count(&self) -> usize
-        ensures { result ≡ length self.now.relocations }
+        ensures count { result ≡ length self.now.relocations }
     {
         self.ends.last().copied().unwrap_or(0)
     }
 
     /// The section of this index.
     pub fn section(&self, index: u32) -> SectionHead
-        requires { index < length self.now.sections }
+        requires there { index < length self.now.sections }
         ensures value { slice_get self.now.sections index ≡ Some result }
         ensures within { IsSection (length self.now.file) result }
     {
@@ -172,7 +172,7 @@ impl Object {
 
     /// The symbol of this index.
     pub fn symbol(&self, index: u32) -> Symbol
-        requires { index < length self.now.symbols }
+        requires there { index < length self.now.symbols }
         ensures value { slice_get self.now.symbols index ≡ Some result }
         ensures within { IsSymbol (length self.now.file) (length self.now.sections) result }
     {
@@ -181,7 +181,7 @@ impl Object {
 
     /// The relocation at this place of the list, which is in order of table and entry.
     pub fn relocation(&self, place: usize) -> Relocation
-        requires { place < length self.now.relocations }
+        requires there { place < length self.now.relocations }
         ensures value { slice_get self.now.relocations place ≡ Some result }
         ensures within { IsRelocation self.now.sections (length self.now.symbols) result }
     {
@@ -192,7 +192,7 @@ impl Object {
     pub fn part(&self, span: Span) -> &[u8]
         requires ordered { span.start ≤ span.end }
         requires within { span.end ≤ length self.now.file }
-        ensures { result.now ≡ slice_range self.now.file span.start span.end }
+        ensures bytes { result.now ≡ slice_range self.now.file span.start span.end }
     {
         &self.file[span.start..span.end]
     }
