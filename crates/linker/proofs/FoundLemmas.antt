@@ -1,7 +1,6 @@
 -- Passes over a list whose elements are found by their places.
-use Rattle.std.proofs.Common.{◌≡◌, ℕ, zero, suc, ◌+◌, ◌<◌, ◌≤◌, List, [], ◌∷◌, drop, length, get_or, Option, Some, None, Bool, true, false, ◌||◌, eqb, ◌≢◌, set, length-set, refl, ap, sym, subst, ◌∙◌, add-one, arith, fold, ◌⊎◌, inl, inr}
+use Rattle.std.proofs.Common.{◌≡◌, ℕ, suc, ◌+◌, ◌<◌, ◌≤◌, List, ◌∷◌, drop, length, get_or, Option, Some, None, Bool, true, false, ◌||◌, eqb, ◌≢◌, set, length-set, refl, ap, sym, subst, ◌∙◌, arith, fold}
 use Rattle.std.specs.Prelude.{slice_get, All}
-use Rattle.std.specs.List.{list_any}
 use Rattle.std.proofs.Math.Seq.{drop-cons}
 use Rattle.std.proofs.Math.ListN.{drop_of_length-le}
 use Rattle.std.proofs.lemmas.Grind.{get_or-set_at}

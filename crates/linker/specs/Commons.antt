@@ -3,7 +3,7 @@ use Rattle.std.specs.Prelude.{ℕ, List, [], ◌∷◌, Option, Some, None, if�
 use Rattle.linker.specs.declared.item.Item.{Item}
 use Rattle.linker.specs.declared.names.Definition.{Definition}
 use Rattle.linker.specs.declared.symbol.What.{What}
-use Rattle.linker.specs.Passes.{some_if, first_at, part}
+use Rattle.linker.specs.Passes.{some_if, first_at}
 use Rattle.linker.specs.Parts.{part_at}
 use Rattle.linker.specs.Symbols.{NamedValue}
 use Rattle.linker.specs.Definitions.{strong_of}

@@ -1,5 +1,5 @@
 -- The code's maps of names, and what they hold.
-use Rattle.std.specs.Prelude.{ℕ, ◌≡◌, List, length, Option, Some, ◌++◌, map, if◌then◌else◌, bytes_eq}
+use Rattle.std.specs.Prelude.{ℕ, ◌≡◌, List, length, Option, Some, ◌++◌, map, bytes_eq}
 use Rattle.std.specs.Borrow.{Bor}
 use Rattle.std.specs.BTreeMap.{BTreeMap, get_by}
 use Rattle.std.specs.Cmp.Lexicographic.{slice_cmp}

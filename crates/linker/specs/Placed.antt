@@ -2,7 +2,6 @@
 use Rattle.std.specs.Prelude.{ℕ, ◌≡◌, List, length, Option, Some, None, All, ◌<◌, slice_index}
 use Rattle.linker.specs.declared.item.Part.{Part}
 use Rattle.linker.specs.declared.item.Item.{Item}
-use Rattle.linker.specs.Passes.{part}
 use Rattle.linker.specs.Placement.{start_of, item_at, address_at}
 
 abbrev pub BelowBy : ℕ → Option Part → Type 0

@@ -6,7 +6,7 @@ use Rattle.layout_file.specs.Values.{ModuleValue}
 use Rattle.elf_objects.specs.declared.object.Relocation.{Relocation}
 use Rattle.linker.specs.declared.item.Part.{Part}
 use Rattle.linker.specs.declared.item.Item.{Item}
-use Rattle.linker.specs.Passes.{NumberedObject, part}
+use Rattle.linker.specs.Passes.{NumberedObject}
 use Rattle.linker.specs.Parts.{is_loaded_head}
 use Rattle.linker.specs.Placement.{stub_size, item_at}
 use Rattle.linker.specs.Fields.{target_size, target_address}

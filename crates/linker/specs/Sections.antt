@@ -1,5 +1,5 @@
 -- Loaded sections in a memory.
-use Rattle.std.specs.Prelude.{ℕ, ◌+◌, List, Bool, true, false, if◌then◌else◌}
+use Rattle.std.specs.Prelude.{ℕ, ◌+◌, List, Bool, true, false}
 use Rattle.elf_objects.specs.declared.object.SectionHead.{SectionHead}
 use Rattle.linker.specs.Passes.{fold_at, NumberedObject, part}
 use Rattle.linker.specs.Parts.{is_loaded_head}

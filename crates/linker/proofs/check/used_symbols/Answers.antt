@@ -1,4 +1,4 @@
-use Rattle.std.proofs.Common.{◌≡◌, arith, length, length-set, ◌∙◌}
+use Rattle.std.proofs.Common.{arith, length-set, ◌∙◌}
 use Rattle.linker.proofs.FoundLemmas.{used_more}
 use Rattle.linker.proofs.check.used_symbols.Goals as goal
 
