@@ -6,9 +6,10 @@ use Rattle.elf_objects.proofs.relocation.section_with.Goals as goal
 
 -- a test by `≤`
 by_test : (ends : List ℕ) (place i : ℕ) → IsPartitionPoint (λ (e : ℕ). leb e place ≡ true) (λ (e : ℕ). leb e place ≡ false) ends i → IsPartitionPoint (λ e. e ≤ place) (λ e. place < e) ends i
-by_test ends place i point =
-    ((λ k d low lt. let t = point.0 k d low lt in grind (arith, nat_tests)),
-    (λ k d low lt. let t = point.1 k d low lt in grind (arith, nat_tests)))
+by_test ends place i point = (
+  (λ k d low lt. let t = point.0 k d low lt in grind (arith, nat_tests)),
+  (λ k d low lt. let t = point.1 k d low lt in grind (arith, nat_tests)),
+)
 
 pub returns : goal.returns
 returns c =
