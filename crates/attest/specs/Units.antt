@@ -10,6 +10,9 @@ use Rattle.mod_layout.specs.declared.Place.{Place}
 use Rattle.mod_layout.specs.declared.Place.TheVariants.{Open, Entry, Text, Data}
 use Rattle.mod_layout.specs.Table.{Table, place_of, module_of, size_of, takes, with_module}
 use Rattle.mod_keys.specs.Keys.{identity, tag_of}
+use Rattle.mod_keys.specs.declared.keys.TheConstants.{IDENTITY_TAIL}
+use Rattle.mod_keys.specs.declared.mac.TheConstants.{TAG_LENGTH}
+use Rattle.attest.specs.declared.instruction.TheConstants.{SHORT_CYCLES, BLOCK_CYCLES}
 use Rattle.pc_access.specs.declared.Kind.{Kind}
 use Rattle.pc_access.specs.declared.Kind.TheVariants.{Read, Write}
 use Rattle.pc_access.specs.declared.Access.{Access}
@@ -67,16 +70,16 @@ attested who core = text_at who.table (place_of who.table (reg core 12))
 abbrev pub text_reads : Module → List Access
 text_reads m = each_byte Read m.text.start (size_of m.text)
 
--- the 16 bytes of the expected tag
+-- the bytes of the expected tag
 abbrev pub attest_plan : Option Module → Option Module → ℕ → List Access
 attest_plan (Some own) (Some other) a =
-    if in_range a (a + 16) then each_byte Read a 16 ++ text_reads other ++ text_reads own else []
+    if in_range a (a + TAG_LENGTH) then each_byte Read a TAG_LENGTH ++ text_reads other ++ text_reads own else []
 attest_plan _ _ a = []
 
 -- the message from a, below b, and then the place of its tag
 abbrev pub tag_plan : Option Module → ℕ → ℕ → ℕ → List Access
 tag_plan (Some own) a b out =
-    if in_range a b && in_range out (out + 16) then each_byte Read a (b - a) ++ each_byte Write out 16 ++ text_reads own else []
+    if in_range a b && in_range out (out + TAG_LENGTH) then each_byte Read a (b - a) ++ each_byte Write out TAG_LENGTH ++ text_reads own else []
 tag_plan None a b out = []
 
 -- the accesses of a unit instruction, in order
@@ -99,6 +102,10 @@ pub record Effect : Type 0 where
 abbrev pub blocks : ℕ → ℕ
 blocks n = 3 + (n + 72) / 64
 
+-- the cycles of an instruction that hashes so many blocks
+abbrev pub hash_cycles : ℕ → ℕ
+hash_cycles n = SHORT_CYCLES + BLOCK_CYCLES * n
+
 -- PC moves past the one word of the instruction
 abbrev pub next : List ℕ → List ℕ
 next core = put core PC (add16 (reg core PC) 2)
@@ -108,8 +115,8 @@ abbrev pub answer : List ℕ → ℕ → ℕ → Effect
 answer core v cycles = record { core = put (next core) 15 v; stored = []; cycles = cycles; closing = false }
 
 abbrev pub unprotected : Option Module → List ℕ → Effect
-unprotected None core = answer core 0 6
-unprotected (Some own) core = record { core = next core; stored = []; cycles = 6 + size_of own.ram / 2; closing = true }
+unprotected None core = answer core 0 SHORT_CYCLES
+unprotected (Some own) core = record { core = next core; stored = []; cycles = SHORT_CYCLES + size_of own.ram / 2; closing = true }
 
 abbrev pub id_or_zero : Option Module → ℕ
 id_or_zero None = 0
@@ -130,28 +137,28 @@ same_bytes [] [] = true
 same_bytes (x ∷ xs) (y ∷ ys) = (x == y) && same_bytes xs ys
 same_bytes _ _ = false
 
--- whether the first 16 values are the tag of the other's identity; its text and the own text follow
+-- whether the first values are the tag of the other's identity; its text and the own text follow
 abbrev pub genuine : List ℕ → Module → Module → List ℕ → Bool
 genuine key own other values =
     let n = size_of other.text in
-    same_bytes (take 16 values) (tag_of key own (drop (16 + n) values) (identity other (take n (drop 16 values))))
+    same_bytes (take TAG_LENGTH values) (tag_of key own (drop (TAG_LENGTH + n) values) (identity other (take n (drop TAG_LENGTH values))))
 
 -- the id of the other where its tag is genuine
 abbrev pub attest_answer : List ℕ → Option Module → Option Module → List ℕ → List ℕ → Effect
 attest_answer key (Some own) (Some other) core values =
-    if in_range (reg core 13) (reg core 13 + 16)
-    then answer core (if genuine key own other values then other.id else 0) (6 + 64 * blocks (size_of other.text + 8))
-    else answer core 0 6
-attest_answer key _ _ core values = answer core 0 6
+    if in_range (reg core 13) (reg core 13 + TAG_LENGTH)
+    then answer core (if genuine key own other values then other.id else 0) (hash_cycles (blocks (size_of other.text + IDENTITY_TAIL)))
+    else answer core 0 SHORT_CYCLES
+attest_answer key _ _ core values = answer core 0 SHORT_CYCLES
 
 -- the tag of the message; the values are the message and the own text
 abbrev pub tag_answer : List ℕ → Option Module → List ℕ → List ℕ → Effect
 tag_answer key (Some own) core values =
     let n = reg core 13 - reg core 12 in
-    if in_range (reg core 12) (reg core 13) && in_range (reg core 14) (reg core 14 + 16)
-    then record (answer core 1 (6 + 64 * blocks n)) { stored = tag_of key own (drop n values) (take n values) }
-    else answer core 0 6
-tag_answer key None core values = answer core 0 6
+    if in_range (reg core 12) (reg core 13) && in_range (reg core 14) (reg core 14 + TAG_LENGTH)
+    then record (answer core 1 (hash_cycles (blocks n))) { stored = tag_of key own (drop n values) (take n values) }
+    else answer core 0 SHORT_CYCLES
+tag_answer key None core values = answer core 0 SHORT_CYCLES
 
 -- what a unit instruction leaves, once its reads gave these values
 unfoldable pub unit_effect : Doer → UnitName → List ℕ → List ℕ → Effect
@@ -159,13 +166,13 @@ unit_effect who Unprotect core values = unprotected who.own core
 unit_effect who Protect core values =
     let text = new_text core in let ram = new_ram core in
     if takes who.table text ram
-    then record (answer core (who.table.given + 1) (6 + 64 * (blocks 2 + blocks (size_of text + 8)))) { stored = replicate (size_of ram) 0 }
-    else answer core 0 6
+    then record (answer core (who.table.given + 1) (hash_cycles (blocks 2 + blocks (size_of text + IDENTITY_TAIL)))) { stored = replicate (size_of ram) 0 }
+    else answer core 0 SHORT_CYCLES
 unit_effect who Attest core values = attest_answer who.key who.own (attested who core) core values
 unit_effect who Tag core values = tag_answer who.key who.own core values
-unit_effect who IdOf core values = answer core (place_id (place_of who.table (reg core 12))) 6
-unit_effect who OwnId core values = answer core (id_or_zero who.own) 6
-unit_effect who CallerId core values = answer core (caller_or_zero who.own who.caller) 6
+unit_effect who IdOf core values = answer core (place_id (place_of who.table (reg core 12))) SHORT_CYCLES
+unit_effect who OwnId core values = answer core (id_or_zero who.own) SHORT_CYCLES
+unit_effect who CallerId core values = answer core (caller_or_zero who.own who.caller) SHORT_CYCLES
 
 -- the table after a unit instruction: only protect changes it
 abbrev pub table_by : UnitName → Table → List ℕ → Table

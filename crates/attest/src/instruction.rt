@@ -13,12 +13,19 @@ use crate::memory::{stands_at, store};
 use crate::rights::{check, in_range};
 use crate::{UnitDone, Who};
 use mem_map::Memory;
+use mod_keys::IDENTITY_TAIL;
 use mod_layout::{Module, ModuleTable, Place, Section};
 use pc_access::{Denied, Kind};
 use sm_words::Core;
 
 /// The cycles of a unit instruction that hashes nothing.
-const SHORT: u32 = 6;
+pub const SHORT_CYCLES: u32 = 6;
+
+/// The cycles that each block hashed adds.
+pub const BLOCK_CYCLES: u32 = 64;
+
+/// The bytes of a module's identity past its text.
+const TAIL: u32 = IDENTITY_TAIL as u32;
 
 /// Does the unit instruction of the word 0x1380 plus `op`, but that PC stays and that closing is left to
 /// the caller.
@@ -64,9 +71,9 @@ fn unprotect(core: &mut Core, table: &ModuleTable, who: Who) -> UnitDone
     ensures { (key mem : List ℕ) → IsDone (doer table.now who key) Unprotect core.old mem core.new mem table.now result }
 {
     match table.own(who.active) {
-        None => answer(core, 0, SHORT),
+        None => answer(core, 0, SHORT_CYCLES),
         Some(own) => UnitDone {
-            cycles: SHORT + u32::from(own.ram.len()) / 2,
+            cycles: SHORT_CYCLES + u32::from(own.ram.len()) / 2,
             closing: true,
             made: 0,
         },
@@ -85,14 +92,14 @@ fn protect(core: &mut Core, memory: &mut Memory, table: &mut ModuleTable, who: W
     let text = new_text(core);
     let ram = new_ram(core);
     match table.add(core.get(11), text, ram) {
-        Err(_) => answer(core, 0, SHORT),
+        Err(_) => answer(core, 0, SHORT_CYCLES),
         Ok(id) => {
             memory.clear(ram);
             let length = u32::from(text.len());
             let done = answer(
                 core,
                 id,
-                SHORT + 64 * (hmac_blocks(2) + hmac_blocks(length + 8)),
+                SHORT_CYCLES + BLOCK_CYCLES * (hmac_blocks(2) + hmac_blocks(length + TAIL)),
             );
             UnitDone { made: id, ..done }
         }
@@ -138,13 +145,13 @@ fn attest(
 {
     let expected = core.get(13);
     let Some(own) = table.own(who.active) else {
-        return Ok(answer(core, 0, SHORT));
+        return Ok(answer(core, 0, SHORT_CYCLES));
     };
     let Some(other) = text_module(table, core.get(12)) else {
-        return Ok(answer(core, 0, SHORT));
+        return Ok(answer(core, 0, SHORT_CYCLES));
     };
     if !in_range(u32::from(expected), u32::from(expected) + 16) {
-        return Ok(answer(core, 0, SHORT));
+        return Ok(answer(core, 0, SHORT_CYCLES));
     }
     if let Err(denied) = check(table, who.active, Kind::Read, expected, 16) {
         return Err(denied);
@@ -152,7 +159,11 @@ fn attest(
     let tag = identity_tag(memory, node_key, &own, &other);
     let id = id_if(stands_at(memory, expected, &tag), other.id);
     let length = u32::from(other.text.len());
-    Ok(answer(core, id, SHORT + 64 * hmac_blocks(length + 8)))
+    Ok(answer(
+        core,
+        id,
+        SHORT_CYCLES + BLOCK_CYCLES * hmac_blocks(length + TAIL),
+    ))
 }
 
 /// The tag of the bytes from R12 to R13 under the running module's key is written at R14, and R15 is 1.
@@ -176,10 +187,10 @@ fn tag(
     let end = core.get(13);
     let output = core.get(14);
     let Some(own) = table.own(who.active) else {
-        return Ok(answer(core, 0, SHORT));
+        return Ok(answer(core, 0, SHORT_CYCLES));
     };
     if !has_ranges(start, end, output) {
-        return Ok(answer(core, 0, SHORT));
+        return Ok(answer(core, 0, SHORT_CYCLES));
     }
     if let Err(denied) = check(table, who.active, Kind::Read, start, end - start) {
         return Err(denied);
@@ -189,7 +200,11 @@ fn tag(
     }
     let tag = message_tag(memory, node_key, &own, start, end);
     store(memory, output, &tag);
-    Ok(answer(core, 1, SHORT + 64 * hmac_blocks(u32::from(end - start))))
+    Ok(answer(
+        core,
+        1,
+        SHORT_CYCLES + BLOCK_CYCLES * hmac_blocks(u32::from(end - start)),
+    ))
 }
 
 /// Whether the message and the 16 bytes of output can be accessed.
@@ -205,7 +220,7 @@ fn id_of(core: &mut Core, table: &ModuleTable, who: Who) -> UnitDone
     ensures { (key mem : List ℕ) → IsDone (doer table.now who key) IdOf core.old mem core.new mem table.now result }
 {
     let place = table.at(core.get(12));
-    answer(core, place_id(place), SHORT)
+    answer(core, place_id(place), SHORT_CYCLES)
 }
 
 /// R15 is the active module's id, else 0.
@@ -213,7 +228,7 @@ fn own_id(core: &mut Core, table: &ModuleTable, who: Who) -> UnitDone
     ensures { (key mem : List ℕ) → IsDone (doer table.now who key) OwnId core.old mem core.new mem table.now result }
 {
     let own = table.own(who.active);
-    answer(core, id_or_zero(own), SHORT)
+    answer(core, id_or_zero(own), SHORT_CYCLES)
 }
 
 /// R15 is the id of the active module's caller; outside 0.
@@ -221,7 +236,7 @@ fn caller_id(core: &mut Core, table: &ModuleTable, who: Who) -> UnitDone
     ensures { (key mem : List ℕ) → IsDone (doer table.now who key) CallerId core.old mem core.new mem table.now result }
 {
     let own = table.own(who.active);
-    answer(core, caller_or_zero(own, who.caller), SHORT)
+    answer(core, caller_or_zero(own, who.caller), SHORT_CYCLES)
 }
 
 fn place_id(place: Place) -> u16

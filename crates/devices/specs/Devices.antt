@@ -5,6 +5,7 @@ use Rattle.std.specs.Option.{option_or}
 use Rattle.schedule_file.specs.declared.Entry.{Entry}
 use Rattle.schedule_file.specs.declared.What.{What}
 use Rattle.schedule_file.specs.declared.What.TheVariants.{Serial, Up, Down}
+use Rattle.devices.specs.declared.registers.TheConstants.{LINES_ENABLE, LINES_LEVELS, SERIAL_CONTROL, SERIAL_DATA, TIMER_CONTROL, TIMER_COUNT, TIMER_COUNT_HIGH, TIMER_LIMIT, TIMER_LIMIT_HIGH, LINES_VECTOR, SERIAL_VECTOR, TIMER_VECTOR}
 
 pub record Devices : Type 0 where
   pub enabled : ℕ  -- the lines that may interrupt, a bit each
@@ -63,46 +64,46 @@ line_raised d n = (bit_at d.enabled n == 1) && (bit_at d.levels n == 1)
 
 -- the highest raised vector: the timer's, then the serial device's, then those of the lines from the last down
 abbrev pub timer_line : Devices → Option ℕ
-timer_line d = if d.alarm && d.flag then Some 8 else None
+timer_line d = if d.alarm && d.flag then Some TIMER_VECTOR else None
 
 abbrev pub serial_line : Devices → Option ℕ
-serial_line d = if d.listening && d.got then Some 6 else None
+serial_line d = if d.listening && d.got then Some SERIAL_VECTOR else None
 
 abbrev pub highest_line : Devices → Option ℕ
 highest_line d =
-    if line_raised d 3 then Some 4
-    else (if line_raised d 2 then Some 3
-    else (if line_raised d 1 then Some 2
-    else (if line_raised d 0 then Some 1 else None)))
+    if line_raised d 3 then Some (LINES_VECTOR + 3)
+    else (if line_raised d 2 then Some (LINES_VECTOR + 2)
+    else (if line_raised d 1 then Some (LINES_VECTOR + 1)
+    else (if line_raised d 0 then Some (LINES_VECTOR + 0) else None)))
 
 unfoldable pub line_of : Devices → Option ℕ
 line_of d = option_or (timer_line d) (option_or (serial_line d) (highest_line d))
 
 -- acceptance of the timer's vector clears its flag
 unfoldable pub accepted : Devices → ℕ → Devices
-accepted d v = if v == 8 then record d { flag = false } else d
+accepted d v = if v == TIMER_VECTOR then record d { flag = false } else d
 
 -- a bit of a control register
 abbrev pub bit_if : Bool → ℕ → ℕ
 bit_if true weight = weight
 bit_if false weight = 0
 
--- the byte at an address: lines 0x0040 and 0x0041, serial 0x0070 and 0x0071, timer 0x0160 to 0x0165
+-- the byte at an address: of the lines, the serial device or the timer
 unfoldable pub read_of : Devices → ℕ → ℕ
 read_of d a =
-    if a == 0x0040 then d.enabled
-    else (if a == 0x0041 then d.levels
-    else (if a == 0x0070 then bit_if d.listening 1 + bit_if d.got 2 + bit_if d.lost 4
-    else (if a == 0x0071 then d.byte
-    else (if a == 0x0160 then bit_if d.running 1 + bit_if d.alarm 2 + bit_if d.flag 4
-    else (if a == 0x0162 then d.count % 256
-    else (if a == 0x0163 then d.count / 256
-    else (if a == 0x0164 then d.limit % 256
-    else (if a == 0x0165 then d.limit / 256 else 0))))))))
+    if a == LINES_ENABLE then d.enabled
+    else (if a == LINES_LEVELS then d.levels
+    else (if a == SERIAL_CONTROL then bit_if d.listening 1 + bit_if d.got 2 + bit_if d.lost 4
+    else (if a == SERIAL_DATA then d.byte
+    else (if a == TIMER_CONTROL then bit_if d.running 1 + bit_if d.alarm 2 + bit_if d.flag 4
+    else (if a == TIMER_COUNT then d.count % 256
+    else (if a == TIMER_COUNT_HIGH then d.count / 256
+    else (if a == TIMER_LIMIT then d.limit % 256
+    else (if a == TIMER_LIMIT_HIGH then d.limit / 256 else 0))))))))
 
 -- reading the received byte clears that it is there and that one was lost
 unfoldable pub after_read : Devices → ℕ → Devices
-after_read d a = if a == 0x0071 then record d { got = false; lost = false } else d
+after_read d a = if a == SERIAL_DATA then record d { got = false; lost = false } else d
 
 -- a word with its low byte, or its high byte, replaced
 abbrev pub with_low : ℕ → ℕ → ℕ
@@ -114,21 +115,21 @@ with_high w b = w % 256 + 256 * b
 -- a byte written at an address
 unfoldable pub write_of : Devices → ℕ → ℕ → Devices
 write_of d a b =
-    if a == 0x0040 then record d { enabled = b % 16 }
-    else (if a == 0x0070 then record d { listening = bit_at b 0 == 1 }
-    else (if a == 0x0071 then record d { sent = Some b }
-    else (if a == 0x0160 then record d { running = bit_at b 0 == 1; alarm = bit_at b 1 == 1; flag = bit_at b 2 == 1 }
-    else (if a == 0x0162 then record d { count = with_low d.count b }
-    else (if a == 0x0163 then record d { count = with_high d.count b }
-    else (if a == 0x0164 then record d { limit = with_low d.limit b }
-    else (if a == 0x0165 then record d { limit = with_high d.limit b } else d)))))))
+    if a == LINES_ENABLE then record d { enabled = b % 16 }
+    else (if a == SERIAL_CONTROL then record d { listening = bit_at b 0 == 1 }
+    else (if a == SERIAL_DATA then record d { sent = Some b }
+    else (if a == TIMER_CONTROL then record d { running = bit_at b 0 == 1; alarm = bit_at b 1 == 1; flag = bit_at b 2 == 1 }
+    else (if a == TIMER_COUNT then record d { count = with_low d.count b }
+    else (if a == TIMER_COUNT_HIGH then record d { count = with_high d.count b }
+    else (if a == TIMER_LIMIT then record d { limit = with_low d.limit b }
+    else (if a == TIMER_LIMIT_HIGH then record d { limit = with_high d.limit b } else d)))))))
 
 -- the addresses of each device
 abbrev pub is_lines : ℕ → Bool
-is_lines a = nat_le 0x0040 a && nat_le a 0x0041
+is_lines a = nat_le LINES_ENABLE a && nat_le a LINES_LEVELS
 
 abbrev pub is_serial : ℕ → Bool
-is_serial a = nat_le 0x0070 a && nat_le a 0x0071
+is_serial a = nat_le SERIAL_CONTROL a && nat_le a SERIAL_DATA
 
 abbrev pub is_timer : ℕ → Bool
-is_timer a = nat_le 0x0160 a && nat_le a 0x0165
+is_timer a = nat_le TIMER_CONTROL a && nat_le a TIMER_LIMIT_HIGH

@@ -6,15 +6,15 @@ ghost use Rattle.devices.specs.Devices as spec;
 
 // Whether bit `n` is set.
 pub fn is_set(byte: u8, n: u8) -> bool
-    requires { n < 8 }
-    ensures { result ≡ (bit_at byte n == 1) }
+    requires bit { n < 8 }
+    ensures exact { result ≡ (bit_at byte n == 1) }
 {
     (byte >> n) & 1 == 1
 }
 
 // A bit's weight where it is set.
 pub fn bit_if(set: bool, weight: u8) -> u8
-    ensures { result ≡ spec.bit_if set weight }
+    ensures exact { result ≡ spec.bit_if set weight }
 {
     if set { weight } else { 0 }
 }
@@ -41,14 +41,14 @@ pub fn with_clear(bits: u8, n: u8) -> u8
 
 // A word with its low byte replaced.
 pub fn with_low(word: u16, byte: u8) -> u16
-    ensures { result ≡ spec.with_low word byte }
+    ensures exact { result ≡ spec.with_low word byte }
 {
     word / 256 * 256 + u16::from(byte)
 }
 
 // A word with its high byte replaced.
 pub fn with_high(word: u16, byte: u8) -> u16
-    ensures { result ≡ spec.with_high word byte }
+    ensures exact { result ≡ spec.with_high word byte }
 {
     word % 256 + 256 * u16::from(byte)
 }

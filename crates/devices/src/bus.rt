@@ -8,6 +8,9 @@ ghost use Rattle.devices.specs.Time.{ticked_by, quiet_of};
 ghost use Rattle.devices.specs.Parts.{joined};
 ghost use Rattle.devices.specs.Bus.{acted_before, past_count};
 
+use crate::registers::{
+    LINES_ENABLE, LINES_LEVELS, SERIAL_CONTROL, SERIAL_DATA, TIMER_CONTROL, TIMER_LIMIT_HIGH,
+};
 use crate::{Device, Lines, NoMemory, Serial, Timer};
 use schedule_file::{Entry, Schedule, What};
 use std::alloc::Global;
@@ -95,7 +98,7 @@ impl Model for Bus {
 impl Bus {
     /// The devices of cycle 0, with this schedule.
     pub fn new(alloc: Global, schedule: &Schedule) -> Result<Bus, NoMemory>
-        ensures { IfOk result (λ bus. bus ≡ record { devices = silent schedule.now.entries.items; ticks = 0; moves = 0 }) }
+        ensures silent { IfOk result (λ bus. bus ≡ record { devices = silent schedule.now.entries.items; ticks = 0; moves = 0 }) }
     {
         let entries = Vec::from_slice(alloc, schedule.entries.as_slice())?;
         Ok(Bus {
@@ -112,14 +115,14 @@ impl Bus {
 
     /// The last byte that was sent since the last tick.
     pub fn sent(&self) -> Option<u8>
-        ensures { result ≡ self.now.devices.sent }
+        ensures sent { result ≡ self.now.devices.sent }
     {
         self.present.serial.sent()
     }
 
     /// How many calls of `tick` and `skip` there were, up to the greatest number of 64 bits.
     pub fn moves(&self) -> u64
-        ensures { result ≡ self.now.moves }
+        ensures moves { result ≡ self.now.moves }
     {
         self.moves
     }
@@ -197,9 +200,9 @@ impl Device for Bus {
         ensures bus { self.new ≡ record self.old { devices = after_read self.old.devices addr } }
     {
         match addr {
-            0x0040 | 0x0041 => self.present.lines.read(addr),
-            0x0070 | 0x0071 => self.present.serial.read(addr),
-            0x0160..=0x0165 => self.present.timer.read(addr),
+            LINES_ENABLE | LINES_LEVELS => self.present.lines.read(addr),
+            SERIAL_CONTROL | SERIAL_DATA => self.present.serial.read(addr),
+            TIMER_CONTROL..=TIMER_LIMIT_HIGH => self.present.timer.read(addr),
             _ => 0,
         }
     }
@@ -208,9 +211,9 @@ impl Device for Bus {
         ensures { self.new ≡ record self.old { devices = write_of self.old.devices addr byte } }
     {
         match addr {
-            0x0040 | 0x0041 => self.present.lines.write(addr, byte),
-            0x0070 | 0x0071 => self.present.serial.write(addr, byte),
-            0x0160..=0x0165 => self.present.timer.write(addr, byte),
+            LINES_ENABLE | LINES_LEVELS => self.present.lines.write(addr, byte),
+            SERIAL_CONTROL | SERIAL_DATA => self.present.serial.write(addr, byte),
+            TIMER_CONTROL..=TIMER_LIMIT_HIGH => self.present.timer.write(addr, byte),
             _ => {}
         }
     }

@@ -24,6 +24,7 @@ mod bus;
 mod lines;
 #[cfg(test)]
 mod plain;
+pub mod registers;
 mod serial;
 #[cfg(test)]
 mod tests;

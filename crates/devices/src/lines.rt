@@ -5,6 +5,7 @@ ghost use Rattle.devices.specs.Devices.{silent, with_bit, line_raised};
 ghost use Rattle.devices.specs.Parts.{lines_alone};
 
 use crate::bits::{is_set, with_clear, with_set};
+use crate::registers::{LINES_ENABLE, LINES_LEVELS, LINES_VECTOR};
 use crate::{Device, MAX_TICKS};
 use std::marker::Model;
 
@@ -31,7 +32,7 @@ impl Model for Lines {
 impl Lines {
     /// No line is up, and none may interrupt.
     pub fn new() -> Lines
-        ensures { lines_alone result ≡ silent [] }
+        ensures silent { lines_alone result ≡ silent [] }
     {
         Lines {
             enabled: 0,
@@ -82,13 +83,13 @@ impl Device for Lines {
 
     fn line(&self) -> Option<u8> {
         if self.is_raised(3) {
-            Some(4)
+            Some(LINES_VECTOR + 3)
         } else if self.is_raised(2) {
-            Some(3)
+            Some(LINES_VECTOR + 2)
         } else if self.is_raised(1) {
-            Some(2)
+            Some(LINES_VECTOR + 1)
         } else if self.is_raised(0) {
-            Some(1)
+            Some(LINES_VECTOR)
         } else {
             None
         }
@@ -108,14 +109,14 @@ impl Device for Lines {
 
     fn read(&mut self, addr: u16) -> u8 {
         match addr {
-            0x0040 => self.enabled,
-            0x0041 => self.levels,
+            LINES_ENABLE => self.enabled,
+            LINES_LEVELS => self.levels,
             _ => 0,
         }
     }
 
     fn write(&mut self, addr: u16, byte: u8) {
-        if addr == 0x0040 {
+        if addr == LINES_ENABLE {
             self.enabled = byte % 16;
         }
     }

@@ -5,6 +5,7 @@ ghost use Rattle.devices.specs.Devices.{silent};
 ghost use Rattle.devices.specs.Parts.{serial_alone};
 
 use crate::bits::{bit_if, is_set};
+use crate::registers::{SERIAL_CONTROL, SERIAL_DATA, SERIAL_VECTOR};
 use crate::{Device, MAX_TICKS};
 use std::marker::Model;
 
@@ -31,7 +32,7 @@ impl Model for Serial {
 impl Serial {
     /// Nothing came, nothing was sent, and it may not interrupt.
     pub fn new() -> Serial
-        ensures { serial_alone result ≡ silent [] }
+        ensures silent { serial_alone result ≡ silent [] }
     {
         Serial {
             listening: false,
@@ -79,7 +80,7 @@ impl Device for Serial {
 
     fn line(&self) -> Option<u8> {
         if self.listening && self.received {
-            Some(6)
+            Some(SERIAL_VECTOR)
         } else {
             None
         }
@@ -101,10 +102,10 @@ impl Device for Serial {
 
     fn read(&mut self, addr: u16) -> u8 {
         match addr {
-            0x0070 => bit_if(self.listening, 1)
+            SERIAL_CONTROL => bit_if(self.listening, 1)
                 + bit_if(self.received, 2)
                 + bit_if(self.overrun, 4),
-            0x0071 => {
+            SERIAL_DATA => {
                 self.received = false;
                 self.overrun = false;
                 self.byte
@@ -115,8 +116,8 @@ impl Device for Serial {
 
     fn write(&mut self, addr: u16, byte: u8) {
         match addr {
-            0x0070 => self.listening = is_set(byte, 0),
-            0x0071 => self.sent = Some(byte),
+            SERIAL_CONTROL => self.listening = is_set(byte, 0),
+            SERIAL_DATA => self.sent = Some(byte),
             _ => {}
         }
     }

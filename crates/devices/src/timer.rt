@@ -5,6 +5,9 @@ ghost use Rattle.devices.specs.Devices.{silent};
 ghost use Rattle.devices.specs.Parts.{timer_alone};
 
 use crate::bits::{bit_if, is_set, with_high, with_low};
+use crate::registers::{
+    TIMER_CONTROL, TIMER_COUNT, TIMER_COUNT_HIGH, TIMER_LIMIT, TIMER_LIMIT_HIGH, TIMER_VECTOR,
+};
 use crate::{Device, MAX_TICKS};
 use std::marker::Model;
 
@@ -34,7 +37,7 @@ impl Model for Timer {
 impl Timer {
     /// It stands still at 0, and may not interrupt.
     pub fn new() -> Timer
-        ensures { timer_alone result ≡ silent [] }
+        ensures silent { timer_alone result ≡ silent [] }
     {
         Timer {
             running: false,
@@ -81,7 +84,7 @@ impl Device for Timer {
 
     fn line(&self) -> Option<u8> {
         if self.enabled && self.flag {
-            Some(8)
+            Some(TIMER_VECTOR)
         } else {
             None
         }
@@ -109,33 +112,35 @@ impl Device for Timer {
     }
 
     fn accept(&mut self, vector: u8) {
-        if vector == 8 {
+        if vector == TIMER_VECTOR {
             self.flag = false;
         }
     }
 
     fn read(&mut self, addr: u16) -> u8 {
         match addr {
-            0x0160 => bit_if(self.running, 1) + bit_if(self.enabled, 2) + bit_if(self.flag, 4),
-            0x0162 => (self.count % 256) as u8,
-            0x0163 => (self.count / 256) as u8,
-            0x0164 => (self.limit % 256) as u8,
-            0x0165 => (self.limit / 256) as u8,
+            TIMER_CONTROL => bit_if(self.running, 1)
+                + bit_if(self.enabled, 2)
+                + bit_if(self.flag, 4),
+            TIMER_COUNT => (self.count % 256) as u8,
+            TIMER_COUNT_HIGH => (self.count / 256) as u8,
+            TIMER_LIMIT => (self.limit % 256) as u8,
+            TIMER_LIMIT_HIGH => (self.limit / 256) as u8,
             _ => 0,
         }
     }
 
     fn write(&mut self, addr: u16, byte: u8) {
         match addr {
-            0x0160 => {
+            TIMER_CONTROL => {
                 self.running = is_set(byte, 0);
                 self.enabled = is_set(byte, 1);
                 self.flag = is_set(byte, 2);
             }
-            0x0162 => self.count = with_low(self.count, byte),
-            0x0163 => self.count = with_high(self.count, byte),
-            0x0164 => self.limit = with_low(self.limit, byte),
-            0x0165 => self.limit = with_high(self.limit, byte),
+            TIMER_COUNT => self.count = with_low(self.count, byte),
+            TIMER_COUNT_HIGH => self.count = with_high(self.count, byte),
+            TIMER_LIMIT => self.limit = with_low(self.limit, byte),
+            TIMER_LIMIT_HIGH => self.limit = with_high(self.limit, byte),
             _ => {}
         }
     }

@@ -1,11 +1,12 @@
 -- The keys that are derived by HMAC, and tags under them.
-use Rattle.std.specs.Prelude.{ℕ, ◌/◌, ◌%◌, List, [], ◌∷◌, ◌++◌}
+use Rattle.std.specs.Prelude.{ℕ, List, [], ◌∷◌, ◌++◌}
+use Rattle.sm_words.specs.Words.{low_byte, high_byte}
 use Rattle.mod_layout.specs.declared.Module.{Module}
 use Rattle.mod_keys.specs.Mac.{short_hmac}
 
 -- a word as two bytes, the low byte first
 abbrev pub two_bytes : ℕ → List ℕ
-two_bytes w = w % 256 ∷ w / 256 % 256 ∷ []
+two_bytes w = low_byte w ∷ high_byte w ∷ []
 
 -- the key of a vendor's modules on a node
 unfoldable pub provider_key : List ℕ → ℕ → List ℕ
@@ -27,6 +28,6 @@ module_key_from provider m text = short_hmac provider (identity m text)
 unfoldable pub module_key : List ℕ → Module → List ℕ → List ℕ
 module_key node_key m text = module_key_from (provider_key node_key m.vendor) m text
 
--- a module's tag of a message: the first 16 bytes of its HMAC under the module's key
+-- a module's tag of a message: the first bytes of its HMAC under the module's key
 unfoldable pub tag_of : List ℕ → Module → List ℕ → List ℕ → List ℕ
 tag_of node_key m text message = short_hmac (module_key node_key m text) message

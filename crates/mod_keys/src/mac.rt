@@ -6,7 +6,16 @@ ghost use Rattle.mod_keys.specs.Mac.{block_key, hmac, short_hmac};
 use sha2::{Digest, Sha256};
 
 /// The size of a block of SHA-256 in bytes.
-const BLOCK: usize = 64;
+pub const BLOCK: usize = 64;
+
+/// What each byte of the inner hash's block is exclusive-or.
+pub const INNER_PAD: u8 = 0x36;
+
+/// What each byte of the outer hash's block is exclusive-or.
+pub const OUTER_PAD: u8 = 0x5c;
+
+/// The number of bytes of a tag and of a key: the first of a HMAC.
+pub const TAG_LENGTH: usize = 16;
 
 /// A HMAC-SHA-256 that is fed piece by piece.
 #[derive(Drop)]
@@ -24,8 +33,8 @@ impl Hmac {
     {
         let block = key_block(key);
         Hmac {
-            inner: Sha256::new_with_prefix(masked(block, 0x36)),
-            outer: Sha256::new_with_prefix(masked(block, 0x5c)),
+            inner: Sha256::new_with_prefix(masked(block, INNER_PAD)),
+            outer: Sha256::new_with_prefix(masked(block, OUTER_PAD)),
         }
     }
 
@@ -46,18 +55,18 @@ impl Hmac {
         self.outer.finalize()
     }
 
-    /// The first 16 bytes of the HMAC of all that was fed: a tag or a key.
-    pub fn tag(self) -> [u8; 16]
+    /// The first bytes of the HMAC of all that was fed: a tag or a key.
+    pub fn tag(self) -> [u8; TAG_LENGTH]
         ensures tag { (key message : List ℕ) → IsFed self key message → result ≡ short_hmac key message }
     {
-        let mut tag = [0; 16];
-        tag.copy_from_slice(&self.finish()[..16]);
+        let mut tag = [0; TAG_LENGTH];
+        tag.copy_from_slice(&self.finish()[..TAG_LENGTH]);
         tag
     }
 }
 
 // The key as one block: hashed where it is longer, with zeros behind it where it is shorter.
-fn key_block(key: &[u8]) -> [u8; 64]
+fn key_block(key: &[u8]) -> [u8; BLOCK]
     ensures { result ≡ block_key key.now }
 {
     if key.len() > BLOCK {
@@ -68,9 +77,9 @@ fn key_block(key: &[u8]) -> [u8; 64]
 }
 
 // The bytes with zeros behind them, up to a block.
-fn filled(front: &[u8]) -> [u8; 64]
-    requires { length front.now ≤ 64 }
-    ensures { result ≡ front.now ++ replicate (64 - length front.now) 0 }
+fn filled(front: &[u8]) -> [u8; BLOCK]
+    requires { length front.now ≤ BLOCK }
+    ensures { result ≡ front.now ++ replicate (BLOCK - length front.now) 0 }
 {
     let mut block = [0; BLOCK];
     block[..front.len()].copy_from_slice(front);
@@ -78,7 +87,7 @@ fn filled(front: &[u8]) -> [u8; 64]
 }
 
 // Each byte of the block exclusive-or `mask`.
-fn masked(mut block: [u8; 64], mask: u8) -> [u8; 64]
+fn masked(mut block: [u8; BLOCK], mask: u8) -> [u8; BLOCK]
     ensures { result ≡ map (λ b. bit_xor b mask) block }
 {
     for byte in &mut block {

@@ -20,6 +20,10 @@ pub record Table : Type 0 where
 abbrev pub holds : Section → ℕ → Bool
 holds s a = nat_le s.start a && nat_lt a s.end
 
+-- whether an address is in the first word of a text, its entry
+abbrev pub is_entry : Section → ℕ → Bool
+is_entry text a = (a == text.start) || (a == text.start + 1)
+
 -- how many bytes a section has
 abbrev pub size_of : Section → ℕ
 size_of s = s.end - s.start
@@ -31,10 +35,10 @@ place_by false true ram id rest = Text id
 place_by false false true id rest = Data id
 place_by false false false id rest = rest
 
--- what an address is to these modules; the entry word is the first word of the text
+-- what an address is to these modules
 abbrev pub place_in : List Module → ℕ → Place
 place_in [] a = Open
-place_in (m ∷ ms) a = place_by ((a == m.text.start) || (a == m.text.start + 1)) (holds m.text a) (holds m.ram a) m.id (place_in ms a)
+place_in (m ∷ ms) a = place_by (is_entry m.text a) (holds m.text a) (holds m.ram a) m.id (place_in ms a)
 
 -- what an address is to a table
 unfoldable pub place_of : Table → ℕ → Place

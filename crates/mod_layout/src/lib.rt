@@ -5,8 +5,8 @@ mod table;
 #[cfg(test)]
 mod tests;
 
-ghost use Rattle.std.specs.Prelude.{◌≡◌, ℕ, ◌+◌, ◌%◌, ◌≤◌, ◌==◌, ◌||◌};
-ghost use Rattle.mod_layout.specs.Table.{holds, size_of, shares, meets, is_empty, is_odd, is_reserved, Table, place_of};
+ghost use Rattle.std.specs.Prelude.{◌≡◌, ℕ, ◌+◌, ◌%◌, ◌≤◌};
+ghost use Rattle.mod_layout.specs.Table.{holds, is_entry, size_of, shares, meets, is_empty, is_odd, is_reserved, Table, place_of};
 ghost use Rattle.mod_layout.specs.Tables.{IsTable};
 
 pub use table::ModuleTable;
@@ -85,7 +85,7 @@ pub struct Module {
 impl Module {
     // Whether the address is in the first word of the text.
     fn has_entry(&self, addr: u16) -> bool
-        ensures { result ≡ (addr == self.now.text.start) || (addr == self.now.text.start + 1) }
+        ensures { result ≡ is_entry self.now.text addr }
     {
         addr >= self.text.start && addr - self.text.start < 2
     }

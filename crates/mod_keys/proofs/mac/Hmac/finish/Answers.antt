@@ -6,6 +6,8 @@ use Rattle.mod_keys.proofs.mac.Hmac.finish.Goals as goal
 
 pub returns : goal.returns
 unfolding hmac
-returns c = record { hmac = λ key message fed.
-    c.finalize.ensures _ (c.update.ensures _ fed.outer)
-    ∙ ap (λ digest. sha256 (outer_block key ++ digest)) (c.finalize-digest.ensures (inner_block key ++ message) fed.inner) }
+returns c = record {
+  hmac = λ key message fed.
+      c.finalize.ensures _ (c.update.ensures _ fed.outer)
+      ∙ ap (λ digest. sha256 (outer_block key ++ digest)) (c.finalize-digest.ensures (inner_block key ++ message) fed.inner);
+}

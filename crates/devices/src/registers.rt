@@ -1,0 +1,27 @@
+//! The addresses of the devices' registers, the weights of their control bits, and their vectors.
+
+/// Bits 0 to 3 enable lines 0 to 3.
+pub const LINES_ENABLE: u16 = 0x0040;
+/// Bits 0 to 3 are the lines' levels.
+pub const LINES_LEVELS: u16 = 0x0041;
+/// Enable, received and overrun.
+pub const SERIAL_CONTROL: u16 = 0x0070;
+/// The last byte that was received; the byte to send.
+pub const SERIAL_DATA: u16 = 0x0071;
+/// Run, enable and flag.
+pub const TIMER_CONTROL: u16 = 0x0160;
+/// The low byte of the count.
+pub const TIMER_COUNT: u16 = 0x0162;
+/// The high byte of the count.
+pub const TIMER_COUNT_HIGH: u16 = 0x0163;
+/// The low byte of the limit.
+pub const TIMER_LIMIT: u16 = 0x0164;
+/// The high byte of the limit.
+pub const TIMER_LIMIT_HIGH: u16 = 0x0165;
+
+/// The vector of line 0; line N has the N-th after it.
+pub const LINES_VECTOR: u8 = 1;
+/// The serial device's vector.
+pub const SERIAL_VECTOR: u8 = 6;
+/// The timer's vector.
+pub const TIMER_VECTOR: u8 = 8;
