@@ -6,7 +6,7 @@ mod text;
 mod time;
 
 pub use text::{byte, holds, met, word};
-pub use time::{arm_next, arm_time};
+pub use time::{arm_next, arm_time, target};
 
 /// A certificate of a balanced branch: where both arms meet, and the cycles that each takes.
 #[derive(Clone, Copy, Debug, PartialEq, Eq)]

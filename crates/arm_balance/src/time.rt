@@ -21,6 +21,13 @@ fn past(next: u16, offset: i16) -> u16
     next.wrapping_add(offset.cast_unsigned().wrapping_mul(2))
 }
 
+/// Where a jump at `pc` goes.
+pub fn target(pc: u16, offset: i16) -> u16
+    ensures { result ≡ add16 (add16 pc 2) (distance offset) }
+{
+    past(pc.wrapping_add(2), offset)
+}
+
 /// Whether an operand is PC itself.
 fn is_pc(operand: Operand) -> bool
     ensures { result ≡ not (not_pc operand) }
@@ -65,7 +72,7 @@ pub fn arm_next(insn: &Insn, pc: u16, join: u16) -> Option<u16>
             }
         }
         Insn::Jump { cond, offset } => {
-            let to = past(pc.wrapping_add(2), offset);
+            let to = target(pc, offset);
             (cond == ALWAYS && pc < to && to <= join).then_some(to)
         }
         Insn::Reti | Insn::Unit(_) => None,

@@ -15,4 +15,5 @@ mod tests;
 pub use accesses::plan;
 pub use pc_access::{Access, Kind};
 pub use port::Port;
+pub use result::{Computed, one_result, two_result};
 pub use step::execute;

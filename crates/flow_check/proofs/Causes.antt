@@ -15,7 +15,8 @@ use Rattle.flow_rule.specs.declared.Val.TheVariants.{Public}
 use Rattle.flow_rule.specs.declared.Reason.TheVariants.{Illegal, UnknownTarget, SecretBranch, Unit as UnitWord}
 use Rattle.flow_rule.specs.Rounds.{Found, Step, Point}
 use Rattle.flow_rule.specs.Values.{is_secret, val, put_val}
-use Rattle.flow_rule.specs.Does.{text_byte, past_val, plan_val, does_val, read_val, read_reaches, write_reaches, writes_val}
+use Rattle.arm_balance.specs.Met.{text_byte}
+use Rattle.flow_rule.specs.Does.{past_val, plan_val, does_val, read_val, read_reaches, write_reaches, writes_val}
 use Rattle.flow_rule.specs.Flow.{exit_reasons, reach_reasons, reach_reasons_by, turn_of, goes, goes_unless, also, both, because_if, fails, step_plain, step_jump, step_unit, step_insn, shut_reasons, shut_if, is_shut, is_open, word_number, step_of, step_stub, step_entries, to_entries, word_of}
 use Rattle.flow_check.specs.declared.step.Cause.{Cause}
 use Rattle.flow_check.specs.declared.returns.Returns.{Returns}

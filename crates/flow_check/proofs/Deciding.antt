@@ -23,7 +23,8 @@ use Rattle.flow_rule.specs.declared.Verdict.TheVariants.{No}
 use Rattle.flow_rule.specs.Values.{is_secret, val, put_val}
 use Rattle.flow_rule.specs.Does.{lowered_val, plan_val, does_val, past_val, read_val, writes_val, read_reaches, write_reaches}
 use Rattle.flow_rule.specs.Rounds.{Found, Point, Step, join_all, given, round, rounds, IsLabelling, all_reasons}
-use Rattle.flow_rule.specs.Flow.{call_entry, because_if, reach_reasons_by, reach_reasons, exit_reasons, goes_in, goes_by, goes, goes_unless, both, also, Turn, turn_of, last_is, but_last, step_plain, step_jump, step_unit, step_insn, step_of, met, shut_reasons, shut_if, is_shut, is_open, word_number, step_entries, step_stub, has_stub, flow_step, number_of, NotAfter, BeforeAll, AmongThem, Decided}
+use Rattle.arm_balance.specs.Met.{met}
+use Rattle.flow_rule.specs.Flow.{call_entry, because_if, reach_reasons_by, reach_reasons, exit_reasons, goes_in, goes_by, goes, goes_unless, both, also, Turn, turn_of, last_is, but_last, step_plain, step_jump, step_unit, step_insn, step_of, shut_reasons, shut_if, is_shut, is_open, word_number, step_entries, step_stub, has_stub, flow_step, number_of, NotAfter, BeforeAll, AmongThem, Decided}
 use Rattle.flow_check.specs.declared.step.Cause.{Cause}
 use Rattle.flow_check.specs.declared.rounds.Spot.{Spot}
 use Rattle.flow_check.specs.declared.rounds.Pair.{Pair as CodePair}
