@@ -1,0 +1,42 @@
+-- Hexadecimal digits of lower case, two a byte, the high four bits first.
+use Rattle.std.specs.Prelude.{ℕ, ◌+◌, ◌*◌, ◌/◌, ◌%◌, Bool, ◌&&◌, ◌||◌, nat_le, if◌then◌else◌, List, [], ◌∷◌, slice_index, Option, Some, None, option_map, Result, Ok, Err}
+use Rattle.std.specs.List.{list_all}
+use Rattle.hex.specs.Hex.{encode_lower, decode_sized}
+use Rattle.hex.specs.declared.error.FromHexError.{FromHexError}
+
+-- a byte as two digits
+abbrev pub hex_byte : ℕ → List ℕ
+hex_byte byte = encode_lower (byte ∷ [])
+
+-- a word as four digits, those of its high byte first
+abbrev pub hex_word : ℕ → List ℕ
+hex_word word = encode_lower (word / 256 ∷ word % 256 ∷ [])
+
+-- a key of sixteen bytes as 32 digits
+abbrev pub hex_key : List ℕ → List ℕ
+hex_key key = encode_lower key
+
+-- `0` to `9` and `a` to `f`
+abbrev pub is_hex_digit : ℕ → Bool
+is_hex_digit b = (nat_le 48 b && nat_le b 57) || (nat_le 97 b && nat_le b 102)
+
+-- what was decoded, if it was
+abbrev pub decoded : Result (List ℕ) FromHexError → Option (List ℕ)
+decoded (Ok bytes) = Some bytes
+decoded (Err fault) = None
+
+-- the bytes of a text that is this many pairs of digits
+unfoldable pub read_hex : ℕ → List ℕ → Option (List ℕ)
+read_hex count text = if list_all is_hex_digit text then decoded (decode_sized text count) else None
+
+-- the byte of two digits
+abbrev pub read_hex_byte : List ℕ → Option ℕ
+read_hex_byte text = option_map (λ bytes. slice_index bytes 0) (read_hex 1 text)
+
+-- the word of four digits
+abbrev pub read_hex_word : List ℕ → Option ℕ
+read_hex_word text = option_map (λ bytes. 256 * slice_index bytes 0 + slice_index bytes 1) (read_hex 2 text)
+
+-- the key of 32 digits
+abbrev pub read_hex_key : List ℕ → Option (List ℕ)
+read_hex_key text = read_hex 16 text

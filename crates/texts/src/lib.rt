@@ -1,0 +1,18 @@
+//! Numbers as texts, and the lines of a text.
+//!
+//! A decimal has no sign and no leading zero; hexadecimal digits are of lower case, two a byte, and the high ones come
+//! first; LF ends a line. Each number has one text, and what is written is read back: `laws` says so.
+#![tactic(auto)]
+
+mod decimals;
+mod hexadecimals;
+pub mod laws;
+mod lines;
+#[cfg(test)]
+mod tests;
+
+pub use decimals::{decimal, read_decimal};
+pub use hexadecimals::{
+    hex_byte, hex_key, hex_word, is_hex_digit, read_hex_byte, read_hex_key, read_hex_word,
+};
+pub use lines::{next_line, split_line};
