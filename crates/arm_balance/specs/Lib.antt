@@ -1,2 +1,3 @@
 pub mod Met
 pub mod Balance
+pub mod Certificates
