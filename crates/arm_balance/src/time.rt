@@ -81,7 +81,7 @@ pub fn arm_next(insn: &Insn, pc: u16, join: u16) -> Option<u16>
 
 /// The instruction of an arm at `pc`, and where it goes on.
 #[tactic(auto, using(crate::proofs::Times::on_at, crate::proofs::Times::on_far, crate::proofs::Times::on_stop, crate::proofs::Times::on_unmet))]
-fn met_arm(section: Section, text: &[u8], pc: u16, join: u16) -> Option<(Insn, u16)>
+pub fn met_arm(section: Section, text: &[u8], pc: u16, join: u16) -> Option<(Insn, u16)>
     ensures met { IfSome result (λ r. met section text.now pc ≡ Some r.0) }
     ensures goes_on { IfSome result (λ r. arm_on section text.now join pc ≡ Some r.1) }
     ensures stops { result ≡ None → arm_on section text.now join pc ≡ None }

@@ -14,3 +14,4 @@ pub mod Begin
 pub mod Rows
 pub mod Arms
 pub mod WithArms
+pub mod Bare

@@ -46,8 +46,8 @@ calls_with key m text arms shape free v steps R more e ok da db pa pb =
     let step = step_arms (step_of m text) arms m text in
     let start = begins t (no_secret t) in
     let l : IsLabelling step start v.0 =
-    subst (λ b. IsLabelling (cond b (step_arms (step_stub m text) arms m text) step) (cond b (begins (t + 20) (set (no_secret (t + 20)) 7 Away)) start) v.0) free v.1 in
-    let none : all_reasons step v.0 ≡ [] = subst (λ b. all_reasons (cond b (step_arms (step_stub m text) arms m text) step) v.0 ≡ []) free v.3 in
+    subst (λ b. IsLabelling (step_arms (cond b (step_stub m text) (step_of m text)) arms m text) (cond b (begins (t + 20) (set (no_secret (t + 20)) 7 Away)) start) v.0) free v.1 in
+    let none : all_reasons step v.0 ≡ [] = subst (λ b. all_reasons (step_arms (cond b (step_stub m text) (step_of m text)) arms m text) v.0 ≡ []) free v.3 in
     let sound : Sound m j (AgreeAt m) step =
     record {
       weaken = weaken_at m;
@@ -147,8 +147,8 @@ stub_with key m text arms shape stub v steps R more e ok da db pa pb =
     let facts = stub_facts m text stub in
     let step = step_arms (step_stub m text) arms m text in
     let start = begins (t + 20) (set (no_secret (t + 20)) 7 Away) in
-    let l : IsLabelling step start v.0 = subst (λ b. IsLabelling (cond b step (step_arms (step_of m text) arms m text)) (cond b start (begins t (no_secret t))) v.0) stub v.1 in
-    let none : all_reasons step v.0 ≡ [] = subst (λ b. all_reasons (cond b step (step_arms (step_of m text) arms m text)) v.0 ≡ []) stub v.3 in
+    let l : IsLabelling step start v.0 = subst (λ b. IsLabelling (step_arms (cond b (step_stub m text) (step_of m text)) arms m text) (cond b start (begins t (no_secret t))) v.0) stub v.1 in
+    let none : all_reasons step v.0 ≡ [] = subst (λ b. all_reasons (step_arms (cond b (step_stub m text) (step_of m text)) arms m text) v.0 ≡ []) stub v.3 in
     let sound : Sound m j (AtStub m n) step =
     record {
       weaken = weaken_stub m n;

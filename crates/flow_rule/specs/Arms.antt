@@ -25,7 +25,7 @@ use Rattle.flow_rule.specs.Rounds.{Pair, Point, Found, Step, IsLabelling}
 use Rattle.flow_rule.specs.declared.Reach.{Reach}
 use Rattle.flow_rule.specs.Does.{plan_val, write_reaches, word_no, does_val, past_val}
 use Rattle.flow_rule.specs.declared.Verdict.{Verdict}
-use Rattle.flow_rule.specs.Flow.{because, because_if, step_of, step_stub, has_stub, shut_if, is_open, word_number, start_of, step_entries, Decided}
+use Rattle.flow_rule.specs.Flow.{because, because_if, start_of, flow_step, Decided}
 
 -- what an instruction writes
 abbrev pub stepped_regs : Operand → List ℕ
@@ -135,7 +135,7 @@ unfoldable pub step_arms : (Point → Step) → List Arm → Module → List ℕ
 step_arms step arms m text x = step_arms_by (met m.text text x.pair.addr) step arms m text x
 
 abbrev pub flow_with : Module → List ℕ → List Arm → Point → Step
-flow_with m text arms = if has_stub m text then step_arms (step_stub m text) arms m text else step_arms (step_of m text) arms m text
+flow_with m text arms = step_arms (flow_step m text) arms m text
 
 abbrev pub VerdictWith : Module → List ℕ → List Arm → Verdict → Type 0
 VerdictWith m text arms a = Decided (flow_with m text arms) (start_of m text) m.text.start a

@@ -1,9 +1,10 @@
 -- The laws of the rule.
-use Rattle.std.specs.Prelude.{◌≡◌, ◌<◌, ℕ, List, length, slice_index}
+use Rattle.std.specs.Prelude.{◌≡◌, ◌<◌, ◌↔◌, ℕ, List, [], length, slice_index}
 use Rattle.mod_layout.specs.declared.Module.{Module}
 use Rattle.mod_layout.specs.Table.{size_of}
 use Rattle.mod_layout.specs.Tables.{IsModule}
 use Rattle.cpu_step.specs.Lone.{AlwaysEven}
+use Rattle.flow_rule.specs.declared.Verdict.{Verdict}
 use Rattle.flow_rule.specs.declared.Verdict.TheVariants.{Yes}
 use Rattle.flow_rule.specs.Flow.{VerdictOf}
 use Rattle.arm_balance.specs.declared.Arm.{Arm}
@@ -25,3 +26,7 @@ Evenness = (given : ℕ) (m : Module) (text : List ℕ) → IsModule given m →
 -- the same with certificates of balanced branches
 abbrev pub EvennessWithArms : Type 0
 EvennessWithArms = (given : ℕ) (m : Module) (text : List ℕ) (arms : List Arm) → IsModule given m → VerdictWith m text arms Yes → EvenForAll m text
+
+-- without certificates the verdict is that of the rule without them
+abbrev pub WithoutArms : Type 0
+WithoutArms = (m : Module) (text : List ℕ) (v : Verdict) → VerdictWith m text [] v ↔ VerdictOf m text v

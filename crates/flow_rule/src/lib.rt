@@ -1,7 +1,7 @@
 //! The rule of flow over a module's text, and its laws: a text that the rule accepts is even for every two data.
 #![tactic(auto)]
 
-ghost use Rattle.flow_rule.specs.Laws.{Evenness, EvennessWithArms};
+ghost use Rattle.flow_rule.specs.Laws.{Evenness, EvennessWithArms, WithoutArms};
 
 use pc_access::Kind;
 use sm_words::Width;
@@ -77,4 +77,9 @@ pub fn evenness()
 /// The same with certificates of balanced branches.
 pub fn evenness_with_arms()
     ensures { EvennessWithArms }
+{}
+
+/// No certificates change nothing.
+pub fn without_arms()
+    ensures { WithoutArms }
 {}
