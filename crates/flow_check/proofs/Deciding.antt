@@ -1,6 +1,6 @@
 -- The least reason, and the verdict.
 use Rattle.std.proofs.Common.{◌≡◌, ◌⊎◌, inl, inr, ℕ, zero, suc, ◌+◌, ◌<◌, ◌≤◌, List, [], ◌∷◌, ◌++◌, length, drop, get_or, refl, sym, ap, ◌∙◌, subst, arith, Bool, true, false, cond, nat_lt, ◌==◌, ◌&&◌, ◌||◌, Option, Some, None, append_assoc, not, map}
-use Rattle.sm_words.specs.Words.{nth}
+use Rattle.sm_words.specs.Words.{nth, add16}
 use Rattle.std.proofs.lemmas.Bool.Decides.{nat_tests}
 use Rattle.sm_words.specs.declared.width.Width.TheVariants.{Byte, Word}
 use Rattle.insn_decode.specs.declared.insn.TwoOp.TheVariants.{Mov, Add, Addc, Subc, Sub, Cmp, Dadd, Bit, Bic, Bis, Xor, And}
@@ -15,7 +15,7 @@ use Rattle.attest.specs.Units.{UnitName, Unprotect, Protect, Attest, Tag, IdOf, 
 use Rattle.flow_rule.specs.declared.Val.{Val}
 use Rattle.flow_rule.specs.declared.Val.TheVariants.{Known, Away, Public, Secret}
 use Rattle.flow_rule.specs.declared.Reason.{Reason}
-use Rattle.flow_rule.specs.declared.Reason.TheVariants.{SecretBranch, SecretAtExit, OutsideAccess, UnknownTarget, TooMany}
+use Rattle.flow_rule.specs.declared.Reason.TheVariants.{SecretBranch, SecretAtExit, OutsideAccess, UnknownTarget, TooMany, Arm as ArmInsn, ArmTime}
 use Rattle.flow_rule.specs.declared.Label.{Label}
 use Rattle.flow_rule.specs.declared.Reach.{Reach}
 use Rattle.flow_rule.specs.declared.Verdict.{Verdict}
@@ -24,6 +24,12 @@ use Rattle.flow_rule.specs.Values.{is_secret, val, put_val}
 use Rattle.flow_rule.specs.Does.{lowered_val, plan_val, does_val, past_val, read_val, writes_val, read_reaches, write_reaches}
 use Rattle.flow_rule.specs.Rounds.{Found, Point, Step, join_all, given, round, rounds, IsLabelling, all_reasons}
 use Rattle.arm_balance.specs.Met.{met}
+use Rattle.arm_balance.specs.Balance.{arm_on}
+use Rattle.arm_balance.specs.declared.Arm.{Arm}
+use Rattle.flow_rule.specs.Arms.{Walk, ended, walk_past, walk_on, walk, arm_start, step_arm, flow_with}
+use Rattle.flow_check.specs.declared.arms.Crossing.{Crossing}
+use Rattle.flow_check.specs.Walks.{crossing_by, crossed}
+use Rattle.flow_check.proofs.Walking.{crossed_is}
 use Rattle.flow_rule.specs.Flow.{call_entry, because_if, reach_reasons_by, reach_reasons, exit_reasons, goes_in, goes_by, goes, goes_unless, both, also, Turn, turn_of, last_is, but_last, step_plain, step_jump, step_unit, step_insn, step_of, shut_reasons, shut_if, is_shut, is_open, word_number, step_entries, step_stub, has_stub, flow_step, number_of, NotAfter, BeforeAll, AmongThem, Decided}
 use Rattle.flow_check.specs.declared.step.Cause.{Cause}
 use Rattle.flow_check.specs.declared.rounds.Spot.{Spot}
@@ -345,12 +351,52 @@ at_stub m text x = by (word_number m x.pair.addr == 17) (is_open (word_number m 
     by true b = at_entries m text x
     by false b = at_shut_if b m x.pair.addr (step_of m text x) (at_step m text x)
 
-pub at_flow : (m : Module) (text : List ℕ) (x : Point) → AllAt x.pair.addr (flow_step m text x).reasons
+at_flow : (m : Module) (text : List ℕ) (x : Point) → AllAt x.pair.addr (flow_step m text x).reasons
 at_flow m text x = by (has_stub m text)
   where
     by : (b : Bool) → AllAt x.pair.addr (cond {A = Point → Step} b (step_stub m text) (step_of m text) x).reasons
     by true = at_stub m text x
     by false = at_step m text x
+
+at_past : (branch : ℕ) (rs : List Found) (gs : List Point) (lost : Bool) (next : ℕ) (m : Module) (text : List ℕ) (x : Point) (rest : Point → Walk) → ((y : Point) → AllAt branch (rest y).reasons) →
+    AllAt branch (walk_past rs gs branch lost next m text x rest).reasons
+at_past branch [] [] lost next m text x rest h = at_if lost branch ArmInsn next
+at_past branch [] (y ∷ ys) lost next m text x rest h = h y
+at_past branch (r ∷ rs) gs lost next m text x rest h = (refl, tt)
+
+at_on : (branch : ℕ) (o : Option ℕ) (s : Step) (b : Bool) (join : ℕ) (m : Module) (text : List ℕ) (x : Point) (rest : Point → Walk) → ((y : Point) → AllAt branch (rest y).reasons) →
+    AllAt branch (walk_on o s branch b join m text x rest).reasons
+at_on branch None s b join m text x rest h = (refl, tt)
+at_on branch (Some next) s b join m text x rest h = at_past branch s.reasons s.gives (b || not (next == join)) next m text x rest h
+
+at_walk : (S : Point → Step) (m : Module) (text : List ℕ) (branch join steps : ℕ) (x : Point) → AllAt branch (walk S m text branch join steps x).reasons
+at_walk S m text branch join zero x = (refl, tt)
+at_walk S m text branch join (suc steps) x = by (x.pair.addr == join) (λ y. at_walk S m text branch join steps y)
+  where
+    by : (b : Bool) → ((y : Point) → AllAt branch (walk S m text branch join steps y).reasons) →
+        AllAt branch (cond b ended (walk_on (arm_on m.text text join x.pair.addr) (S x) branch (holds m.text join) join m text x (walk S m text branch join steps))).reasons
+    by true h = tt
+    by false h = at_on branch (arm_on m.text text join x.pair.addr) (S x) (holds m.text join) join m text x (walk S m text branch join steps) h
+
+at_arm : (S : Point → Step) (m : Module) (text : List ℕ) (insn : Insn) (target : ℕ) (arm : Arm) (x : Point) → AllAt x.pair.addr (step_arm S m text insn target arm x).reasons
+at_arm S m text insn target arm x =
+    let pc : ℕ = x.pair.addr in
+    let w0 : Walk = walk S m text pc arm.join (suc arm.join) (arm_start insn (add16 pc 2) x (past_val insn pc x.label.core)) in
+    let w1 : Walk = walk S m text pc arm.join (suc arm.join) (arm_start insn target x (does_val insn pc x.label.core []).core) in
+    let a : List Found = because_if (not (holds m.text arm.join)) pc ArmInsn arm.join in
+    let t0 : List Found = because_if (not (w0.cycles == arm.cycles)) pc ArmTime 0 in
+    let t1 : List Found = because_if (not (w1.cycles == arm.cycles)) pc ArmTime 1 in
+    at_append pc (a ++ w0.reasons ++ w1.reasons ++ t0) t1
+    (at_append pc (a ++ w0.reasons ++ w1.reasons) t0 (at_append pc (a ++ w0.reasons) w1.reasons (at_append pc a w0.reasons (at_if (not (holds m.text arm.join)) pc ArmInsn arm.join) (at_walk S m text pc arm.join (suc arm.join) (arm_start insn (add16 pc 2) x (past_val insn pc x.label.core))))
+    (at_walk S m text pc arm.join (suc arm.join) (arm_start insn target x (does_val insn pc x.label.core []).core))) (at_if (not (w0.cycles == arm.cycles)) pc ArmTime 0))
+    (at_if (not (w1.cycles == arm.cycles)) pc ArmTime 1)
+
+pub at_with : (m : Module) (text : List ℕ) (arms : List Arm) (x : Point) → AllAt x.pair.addr (flow_with m text arms x).reasons
+at_with m text arms x = subst (λ s. AllAt x.pair.addr s.reasons) (sym (crossed_is (flow_step m text) arms m text x)) (by (crossing_by (met m.text text x.pair.addr) arms x.pair.addr (val x.label.core 2)))
+  where
+    by : (o : Option Crossing) → AllAt x.pair.addr (crossed o (flow_step m text) m text x).reasons
+    by None = at_flow m text x
+    by (Some c) = at_arm (flow_step m text) m text c.insn c.target c.arm x
 
 -- ---- the code's loop
 points_drop : (i : ℕ) (ps : List CodePair) (ls : List Label) (d : CodePair) (e : Label) → i < length ps → length ps ≡ length ls →
@@ -379,9 +425,9 @@ least_end step n ps ls o h = ap (λ p. least_from step (points_of p (drop n ls))
     ended (suc n) (b ∷ bs) h = ended n bs (omega (arith, h))
 
 -- ---- the verdict
-pub decided_rest : (m : Module) (text : List ℕ) (start : Point) (begin : ℕ) (ps : List CodePair) (ls : List Label) (o : Option Found) (v : Verdict) → length ps ≡ length ls → length ps ≤ 16384 → v ≡ verdict_of o → o ≡ least_from (flow_step m text) (points_of ps ls) None →
-    IsLabelling (flow_step m text) start (points_of ps ls) → Decided (flow_step m text) start begin v
-decided_rest m text start begin ps ls o v e few ev eo is = subst (λ v. Decided (flow_step m text) start begin v) (sym ev) (by o (subst (λ o. Least o (all_reasons (flow_step m text) xs)) (sym eo) (least_all (flow_step m text) xs None [] (at_flow m text) refl)))
+pub decided_rest : (m : Module) (text : List ℕ) (arms : List Arm) (start : Point) (begin : ℕ) (ps : List CodePair) (ls : List Label) (o : Option Found) (v : Verdict) → length ps ≡ length ls → length ps ≤ 16384 → v ≡ verdict_of o → o ≡ least_from (flow_with m text arms) (points_of ps ls) None →
+    IsLabelling (flow_with m text arms) start (points_of ps ls) → Decided (flow_with m text arms) start begin v
+decided_rest m text arms start begin ps ls o v e few ev eo is = subst (λ v. Decided (flow_with m text arms) start begin v) (sym ev) (by o (subst (λ o. Least o (all_reasons (flow_with m text arms) xs)) (sym eo) (least_all (flow_with m text arms) xs None [] (at_with m text arms) refl)))
   where
     xs : List Point
     xs = points_of ps ls
@@ -389,7 +435,7 @@ decided_rest m text start begin ps ls o v e few ev eo is = subst (λ v. Decided 
     long : length xs ≤ 16384
     long = let h = points_length ps ls e in omega (arith, h, few)
 
-    by : (o : Option Found) → Least o (all_reasons (flow_step m text) xs) → Decided (flow_step m text) start begin (verdict_of o)
+    by : (o : Option Found) → Least o (all_reasons (flow_with m text arms) xs) → Decided (flow_with m text arms) start begin (verdict_of o)
     by None h = (xs, is, long, h)
     by (Some r) h = inl (xs, is, long, h.0, h.1)
 

@@ -1,6 +1,7 @@
 //! An arm of a secret branch, walked from its start to the join.
 
-ghost use Rattle.std.specs.Prelude.{◌≡◌, ◌≢◌, ◌≤◌, ◌<◌, ◌+◌, ◌*◌, suc, true, false, ℕ, Some, None, IfSome};
+ghost use Rattle.std.specs.Prelude.{◌≡◌, ◌≢◌, ◌≤◌, ◌<◌, ◌+◌, ◌*◌, suc, true, false, ℕ, Some, None, IfSome, slice_get, ◌||◌, ◌==◌, not};
+ghost use Rattle.mod_layout.specs.Table.{holds};
 ghost use Rattle.arm_balance.specs.Balance.{arm_on};
 ghost use Rattle.flow_rule.specs.Flow.{flow_step};
 ghost use Rattle.flow_rule.specs.Does.{write_reaches};
@@ -11,7 +12,7 @@ ghost use Rattle.flow_check.specs.Walks.{told, point_at};
 use crate::blot::{blot_registers, blot_words};
 use crate::reach::reaches;
 use crate::returns::Returns;
-use crate::step::{Cause, Stepped, note, note_if};
+use crate::step::{Cause, Stepped, Targets, note, note_if};
 use crate::stub::step_base;
 use arm_balance::{holds, met_arm};
 use cycle_table::cycles;
@@ -45,6 +46,20 @@ fn tell(module: &Module, insn: &Insn, reaches: &[Reach], time: u8, tally: &mut T
     blot_words(module, reaches, &mut tally.label.words);
 }
 
+/// The first address.
+fn first_of(targets: &Targets) -> Option<u16>
+    ensures { result ≡ slice_get targets.now.items 0 }
+{
+    targets.first().copied()
+}
+
+/// Whether an arm that left the text can't go on: there is no arm's instruction, and no join either.
+fn is_lost(module: &Module, join: u16, next: u16) -> bool
+    ensures { result ≡ (holds module.now.text join || not (next == join)) }
+{
+    holds(module.text, usize::from(join)) || next != join
+}
+
 /// Does the arm's instruction at this place, and tells whether the arm goes on.
 fn walk_on(
     module: &Module,
@@ -72,16 +87,20 @@ fn walk_on(
         note(&mut tally.least, Reason::Arm, place.pc);
         return false;
     }
-    let Some(to) = stepped.targets.first().copied() else {
-        let lost = holds(module.text, usize::from(join)) || next != join;
-        note_if(lost, &mut tally.least, Reason::Arm, next);
-        return false;
-    };
-    tell(module, &insn, reaches.as_slice(), cycles(&insn), tally);
-    place.pc = to;
-    place.label.core[0] = Val::Known(to);
-    place.returns = stepped.returns;
-    true
+    match first_of(&stepped.targets) {
+        Some(to) => {
+            tell(module, &insn, reaches.as_slice(), cycles(&insn), tally);
+            place.pc = to;
+            place.label.core[0] = Val::Known(to);
+            place.returns = stepped.returns;
+            true
+        }
+        None => {
+            let lost = is_lost(module, join, next);
+            note_if(lost, &mut tally.least, Reason::Arm, next);
+            false
+        }
+    }
 }
 
 /// Walks from a place to the join. Each instruction of an arm goes up, so there are no more than addresses up to the
