@@ -152,6 +152,57 @@ crossed_is S arms m text x = by (met m.text text x.pair.addr)
     by (Some (UnitOp n)) = refl
     by None = refl
 
+module _ (S : Point → Step) (m : Module) (text : List ℕ) (insn : Insn) (target : ℕ) (arm : Arm) (x : Point) (t0 t1 t2 : Tally)
+    (label : t0.label ≡ x.label) (still : t0.cycles ≡ 0)
+    (first : (branch : ℕ) → t1 ≡ told (walk S m text branch arm.join (suc arm.join) (arm_start insn (add16 x.pair.addr 2) x (past_val insn x.pair.addr x.label.core))) t0)
+    (second : (branch : ℕ) → t2 ≡ told (walk S m text branch arm.join (suc arm.join) (arm_start insn target x (does_val insn x.pair.addr x.label.core []).core)) (record t1 { cycles = 0 }))
+  where
+  abbrev w0 : Walk
+  w0 = walk S m text x.pair.addr arm.join (suc arm.join) (arm_start insn (add16 x.pair.addr 2) x (past_val insn x.pair.addr x.label.core))
+  abbrev w1 : Walk
+  w1 = walk S m text x.pair.addr arm.join (suc arm.join) (arm_start insn target x (does_val insn x.pair.addr x.label.core []).core)
+
+  first_time : t1.cycles ≡ w0.cycles
+  first_time = ap (λ t. t.cycles) (first x.pair.addr) ∙ ap (λ n. n + w0.cycles) still ∙ (let e : 0 + w0.cycles ≡ w0.cycles = omega arith in e)
+  second_time : t2.cycles ≡ w1.cycles
+  second_time = ap (λ t. t.cycles) (second x.pair.addr) ∙ (let e : 0 + w1.cycles ≡ w1.cycles = omega arith in e)
+
+  -- the least of the reasons at a branch with a certificate
+  pub crossing_least : (o l1 l2 : Option Cause) → ((pc : ℕ) → t0.least ≡ noted (because_if (not (holds m.text arm.join)) pc ArmInsn arm.join) o) →
+      ((pc : ℕ) → l1 ≡ noted (because_if (not (t1.cycles == arm.cycles)) pc ArmTime 0) t2.least) →
+      ((pc : ℕ) → l2 ≡ noted (because_if (not (t2.cycles == arm.cycles)) pc ArmTime 1) l1) → l2 ≡ noted (step_arm S m text insn target arm x).reasons o
+  crossing_least o l1 l2 e0 e1 e2 =
+      let pc : ℕ = x.pair.addr in
+      let a : List Found = because_if (not (holds m.text arm.join)) pc ArmInsn arm.join in
+      let b : List Found = because_if (not (w0.cycles == arm.cycles)) pc ArmTime 0 in
+      let c : List Found = because_if (not (w1.cycles == arm.cycles)) pc ArmTime 1 in
+      let walked : t2.least ≡ noted w1.reasons (noted w0.reasons (noted a o)) =
+      ap (λ t. t.least) (second pc) ∙ ap (noted w1.reasons) (ap (λ t. t.least) (first pc) ∙ ap (noted w0.reasons) (e0 pc)) in
+      e2 pc ∙ ap (λ n. noted (because_if (not (n == arm.cycles)) pc ArmTime 1) l1) second_time
+      ∙ ap (noted c) (e1 pc ∙ ap (λ n. noted (because_if (not (n == arm.cycles)) pc ArmTime 0) t2.least) first_time ∙ ap (noted b) walked)
+      ∙ sym (noted_append (a ++ w0.reasons ++ w1.reasons ++ b) c o ∙ ap (noted c) (noted_append (a ++ w0.reasons ++ w1.reasons) b o
+      ∙ ap (noted b) (noted_append (a ++ w0.reasons) w1.reasons o ∙ ap (noted w1.reasons) (noted_append a w0.reasons o))))
+
+  -- where it goes on, with Secret where an arm wrote
+  pub crossing_gives : (step_arm S m text insn target arm x).gives ≡ points_at (arm.join ∷ []) x.pair.returns t2.label
+  crossing_gives =
+      ap (λ l. record { pair = record { addr = arm.join; returns = x.pair.returns }; label = label_at arm.join l } ∷ []) (sym joined)
+    where
+      joined : t2.label ≡ record { core = blot_core (w0.regs ++ w1.regs) x.label.core; words = blot (w0.words ++ w1.words) x.label.words }
+      joined =
+          ap (λ t. t.label) (second x.pair.addr)
+          ∙ ap (λ l. record { core = blot_core w1.regs l.core; words = blot w1.words l.words }) (ap (λ t. t.label) (first x.pair.addr) ∙ ap (λ l. record { core = blot_core w0.regs l.core; words = blot w0.words l.words }) label)
+          ∙ ap (λ c. record { core = c; words = blot w1.words (blot w0.words x.label.words) }) (sym (core_append w0.regs w1.regs x.label.core))
+          ∙ ap (λ w. record { core = blot_core (w0.regs ++ w1.regs) x.label.core; words = w }) (sym (words_append w0.words w1.words x.label.words))
+
+-- a step by what stands at the branch
+pub by_crossing : (S : Point → Step) (arms : List Arm) (m : Module) (text : List ℕ) (x : Point) (c : Crossing) → crossing_by (met m.text text x.pair.addr) arms x.pair.addr (val x.label.core 2) ≡ Some c →
+    step_arms S arms m text x ≡ step_arm S m text c.insn c.target c.arm x
+by_crossing S arms m text x c e = crossed_is S arms m text x ∙ ap (λ o. crossed o S m text x) e
+
+pub by_none : (S : Point → Step) (arms : List Arm) (m : Module) (text : List ℕ) (x : Point) → crossing_by (met m.text text x.pair.addr) arms x.pair.addr (val x.label.core 2) ≡ None → step_arms S arms m text x ≡ S x
+by_none S arms m text x e = crossed_is S arms m text x ∙ ap (λ o. crossed o S m text x) e
+
 -- ---- what the code's step tells
 
 pub calm_step : (S : Point → Step) (pc : ℕ) (r0 r : Returns) (l : Label) (o0 o : Option Cause) → r0 ≡ r → o0 ≡ None → o ≡ noted (S (point_of pc r0 l)).reasons o0 → is_some o ≡ false → (S (point_of pc r l)).reasons ≡ []
