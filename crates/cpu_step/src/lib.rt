@@ -5,6 +5,7 @@
 
 mod accesses;
 mod effect;
+pub mod laws;
 mod operand;
 mod port;
 mod result;
