@@ -20,6 +20,13 @@ pub struct Job<'a> {
     pub caller: u16,
 }
 
+/// What an instruction takes: its cycles, and whether the module closes when they have passed.
+#[derive(Clone, Copy)]
+pub struct Lasts {
+    pub cycles: u32,
+    pub closing: bool,
+}
+
 /// Whether a section has this address.
 pub fn holds(section: Section, addr: usize) -> bool
     ensures { result ≡ holds section addr }
