@@ -2,16 +2,18 @@
 #![tactic(auto)]
 
 mod acting;
+mod calling;
 mod job;
 mod next;
 mod tagging;
 mod units;
 
+pub use calling::call;
 use sm_words::Core;
 
-/// A call of a module: the registers at its entry, and the caller's id.
+/// An entry of a module: the registers, with PC at the start of its text, and the caller's id.
 #[derive(Clone, Copy)]
-pub struct Call {
+pub struct Entry {
     pub core: Core,
     pub caller: u16,
 }
