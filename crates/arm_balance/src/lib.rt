@@ -8,6 +8,8 @@
 ghost use Rattle.arm_balance.specs.Certificates.{BranchesRise};
 
 mod certificates;
+#[cfg(test)]
+mod tests;
 mod text;
 mod time;
 

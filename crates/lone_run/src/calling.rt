@@ -66,8 +66,9 @@ fn run(job: &Job<'_>, ram: &mut [u8], entry: Core, limit: u64) -> Outcome
         if cycles == limit {
             return Outcome::Running;
         }
-        let Some(insn) = next_insn(job, ram, &core) else {
-            return Outcome::Broken { cycles };
+        let insn = match next_insn(job, ram, &core) {
+            Some(insn) => insn,
+            None => return Outcome::Broken { cycles },
         };
         let lasts = do_insn(job, ram, &mut core, &insn);
         if u64::from(lasts.cycles) > limit - cycles {

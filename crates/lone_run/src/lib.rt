@@ -6,6 +6,8 @@ mod calling;
 mod job;
 mod next;
 mod tagging;
+#[cfg(test)]
+mod tests;
 mod units;
 
 pub use calling::call;
