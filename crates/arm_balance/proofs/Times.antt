@@ -64,6 +64,7 @@ insn_up (Jump c off) join pc next e = next_up ((c == 7) && nat_lt pc to && nat_l
   where
     to : ℕ
     to = add16 (add16 pc 2) (distance off)
+
     by : (b t : Bool) → nat_lt pc to ≡ t → (b && t && nat_le to join) ≡ true → (pc < to) × (to ≤ join)
     by true true lt f = ((let g : pc < to = grind (arith, nat_tests) in g), (let g : to ≤ join = grind (arith, nat_tests) in g))
     by true false lt f = absurd (let g : ⊥ = cc in g)
@@ -91,6 +92,7 @@ enough s text join (suc f) (suc g) pc a b c d =
   where
     Same : Type 0
     Same = (next : ℕ) → join < f + next → join < g + next → 0 < f → 0 < g → time_from s text join f next ≡ time_from s text join g next
+
     by_next : Same → (o : Option ℕ) → arm_on s text join pc ≡ o → time_on o (met_cycles (met s text pc)) (time_from s text join f) pc ≡ time_on o (met_cycles (met s text pc)) (time_from s text join g) pc
     by_next same None e = refl
     by_next same (Some next) e =
@@ -98,6 +100,7 @@ enough s text join (suc f) (suc g) pc a b c d =
         let v : pc < next = u.0 in
         let w : next ≤ join = u.1 in
         ap (with_rest (met_cycles (met s text pc))) (same next (omega arith) (omega arith) (omega arith) (omega arith))
+
     by_here : (t : Bool) → Same →
         cond t (Ok 0) (time_on (arm_on s text join pc) (met_cycles (met s text pc)) (time_from s text join f) pc)
         ≡ cond t (Ok 0) (time_on (arm_on s text join pc) (met_cycles (met s text pc)) (time_from s text join g) pc)

@@ -33,7 +33,11 @@ fn times(rt: HostRuntime) {
         (0x0320, 0x0318, Err(0x0320)),
     ];
     for (start, join, time) in rows {
-        assert_eq!(rt; arm_time(&TEXT, balanced(), start, join), time, "{start:04x} {join:04x}");
+        assert_eq!(rt;
+            arm_time(&TEXT, balanced(), start, join),
+            time,
+            "{start:04x} {join:04x}"
+        );
     }
 }
 

@@ -105,6 +105,7 @@ module _ (S : Point → Step) (m : Module) (text : List ℕ) (branch join : ℕ)
     where
       rest : Walk
       rest = walk S m text branch join steps y
+
       ws : List ℕ
       ws = written_words m (write_reaches (plan_val insn x.pair.addr x.label.core))
 
@@ -142,6 +143,7 @@ crossed_is S arms m text x = by (met m.text text x.pair.addr)
       where
         target : ℕ
         target = add16 (add16 x.pair.addr 2) (distance off)
+
         jump : (b : Bool) (a : Option Arm) → cond b (step_branch a S m text (Jump c off) x target) (S x) ≡ crossed (cond b (branch_of a (Jump c off) target) None) S m text x
         jump true None = refl
         jump true (Some a) = refl
@@ -157,43 +159,45 @@ module _ (S : Point → Step) (m : Module) (text : List ℕ) (insn : Insn) (targ
     (first : (branch : ℕ) → t1 ≡ told (walk S m text branch arm.join (suc arm.join) (arm_start insn (add16 x.pair.addr 2) x (past_val insn x.pair.addr x.label.core))) t0)
     (second : (branch : ℕ) → t2 ≡ told (walk S m text branch arm.join (suc arm.join) (arm_start insn target x (does_val insn x.pair.addr x.label.core []).core)) (record t1 { cycles = 0 }))
   where
-  abbrev w0 : Walk
-  w0 = walk S m text x.pair.addr arm.join (suc arm.join) (arm_start insn (add16 x.pair.addr 2) x (past_val insn x.pair.addr x.label.core))
-  abbrev w1 : Walk
-  w1 = walk S m text x.pair.addr arm.join (suc arm.join) (arm_start insn target x (does_val insn x.pair.addr x.label.core []).core)
+    abbrev w0 : Walk
+    w0 = walk S m text x.pair.addr arm.join (suc arm.join) (arm_start insn (add16 x.pair.addr 2) x (past_val insn x.pair.addr x.label.core))
 
-  first_time : t1.cycles ≡ w0.cycles
-  first_time = ap (λ t. t.cycles) (first x.pair.addr) ∙ ap (λ n. n + w0.cycles) still ∙ (let e : 0 + w0.cycles ≡ w0.cycles = omega arith in e)
-  second_time : t2.cycles ≡ w1.cycles
-  second_time = ap (λ t. t.cycles) (second x.pair.addr) ∙ (let e : 0 + w1.cycles ≡ w1.cycles = omega arith in e)
+    abbrev w1 : Walk
+    w1 = walk S m text x.pair.addr arm.join (suc arm.join) (arm_start insn target x (does_val insn x.pair.addr x.label.core []).core)
 
-  -- the least of the reasons at a branch with a certificate
-  pub crossing_least : (o l1 l2 : Option Cause) → ((pc : ℕ) → t0.least ≡ noted (because_if (not (holds m.text arm.join)) pc ArmInsn arm.join) o) →
-      ((pc : ℕ) → l1 ≡ noted (because_if (not (t1.cycles == arm.cycles)) pc ArmTime 0) t2.least) →
-      ((pc : ℕ) → l2 ≡ noted (because_if (not (t2.cycles == arm.cycles)) pc ArmTime 1) l1) → l2 ≡ noted (step_arm S m text insn target arm x).reasons o
-  crossing_least o l1 l2 e0 e1 e2 =
-      let pc : ℕ = x.pair.addr in
-      let a : List Found = because_if (not (holds m.text arm.join)) pc ArmInsn arm.join in
-      let b : List Found = because_if (not (w0.cycles == arm.cycles)) pc ArmTime 0 in
-      let c : List Found = because_if (not (w1.cycles == arm.cycles)) pc ArmTime 1 in
-      let walked : t2.least ≡ noted w1.reasons (noted w0.reasons (noted a o)) =
-      ap (λ t. t.least) (second pc) ∙ ap (noted w1.reasons) (ap (λ t. t.least) (first pc) ∙ ap (noted w0.reasons) (e0 pc)) in
-      e2 pc ∙ ap (λ n. noted (because_if (not (n == arm.cycles)) pc ArmTime 1) l1) second_time
-      ∙ ap (noted c) (e1 pc ∙ ap (λ n. noted (because_if (not (n == arm.cycles)) pc ArmTime 0) t2.least) first_time ∙ ap (noted b) walked)
-      ∙ sym (noted_append (a ++ w0.reasons ++ w1.reasons ++ b) c o ∙ ap (noted c) (noted_append (a ++ w0.reasons ++ w1.reasons) b o
-      ∙ ap (noted b) (noted_append (a ++ w0.reasons) w1.reasons o ∙ ap (noted w1.reasons) (noted_append a w0.reasons o))))
+    first_time : t1.cycles ≡ w0.cycles
+    first_time = ap (λ t. t.cycles) (first x.pair.addr) ∙ ap (λ n. n + w0.cycles) still ∙ (let e : 0 + w0.cycles ≡ w0.cycles = omega arith in e)
 
-  -- where it goes on, with Secret where an arm wrote
-  pub crossing_gives : (step_arm S m text insn target arm x).gives ≡ points_at (arm.join ∷ []) x.pair.returns t2.label
-  crossing_gives =
-      ap (λ l. record { pair = record { addr = arm.join; returns = x.pair.returns }; label = label_at arm.join l } ∷ []) (sym joined)
-    where
-      joined : t2.label ≡ record { core = blot_core (w0.regs ++ w1.regs) x.label.core; words = blot (w0.words ++ w1.words) x.label.words }
-      joined =
-          ap (λ t. t.label) (second x.pair.addr)
-          ∙ ap (λ l. record { core = blot_core w1.regs l.core; words = blot w1.words l.words }) (ap (λ t. t.label) (first x.pair.addr) ∙ ap (λ l. record { core = blot_core w0.regs l.core; words = blot w0.words l.words }) label)
-          ∙ ap (λ c. record { core = c; words = blot w1.words (blot w0.words x.label.words) }) (sym (core_append w0.regs w1.regs x.label.core))
-          ∙ ap (λ w. record { core = blot_core (w0.regs ++ w1.regs) x.label.core; words = w }) (sym (words_append w0.words w1.words x.label.words))
+    second_time : t2.cycles ≡ w1.cycles
+    second_time = ap (λ t. t.cycles) (second x.pair.addr) ∙ (let e : 0 + w1.cycles ≡ w1.cycles = omega arith in e)
+
+    -- the least of the reasons at a branch with a certificate
+    pub crossing_least : (o l1 l2 : Option Cause) → ((pc : ℕ) → t0.least ≡ noted (because_if (not (holds m.text arm.join)) pc ArmInsn arm.join) o) →
+        ((pc : ℕ) → l1 ≡ noted (because_if (not (t1.cycles == arm.cycles)) pc ArmTime 0) t2.least) →
+        ((pc : ℕ) → l2 ≡ noted (because_if (not (t2.cycles == arm.cycles)) pc ArmTime 1) l1) → l2 ≡ noted (step_arm S m text insn target arm x).reasons o
+    crossing_least o l1 l2 e0 e1 e2 =
+        let pc : ℕ = x.pair.addr in
+        let a : List Found = because_if (not (holds m.text arm.join)) pc ArmInsn arm.join in
+        let b : List Found = because_if (not (w0.cycles == arm.cycles)) pc ArmTime 0 in
+        let c : List Found = because_if (not (w1.cycles == arm.cycles)) pc ArmTime 1 in
+        let walked : t2.least ≡ noted w1.reasons (noted w0.reasons (noted a o)) =
+        ap (λ t. t.least) (second pc) ∙ ap (noted w1.reasons) (ap (λ t. t.least) (first pc) ∙ ap (noted w0.reasons) (e0 pc)) in
+        e2 pc ∙ ap (λ n. noted (because_if (not (n == arm.cycles)) pc ArmTime 1) l1) second_time
+        ∙ ap (noted c) (e1 pc ∙ ap (λ n. noted (because_if (not (n == arm.cycles)) pc ArmTime 0) t2.least) first_time ∙ ap (noted b) walked)
+        ∙ sym (noted_append (a ++ w0.reasons ++ w1.reasons ++ b) c o ∙ ap (noted c) (noted_append (a ++ w0.reasons ++ w1.reasons) b o
+        ∙ ap (noted b) (noted_append (a ++ w0.reasons) w1.reasons o ∙ ap (noted w1.reasons) (noted_append a w0.reasons o))))
+
+    -- where it goes on, with Secret where an arm wrote
+    pub crossing_gives : (step_arm S m text insn target arm x).gives ≡ points_at (arm.join ∷ []) x.pair.returns t2.label
+    crossing_gives =
+        ap (λ l. record { pair = record { addr = arm.join; returns = x.pair.returns }; label = label_at arm.join l } ∷ []) (sym joined)
+      where
+        joined : t2.label ≡ record { core = blot_core (w0.regs ++ w1.regs) x.label.core; words = blot (w0.words ++ w1.words) x.label.words }
+        joined =
+            ap (λ t. t.label) (second x.pair.addr)
+            ∙ ap (λ l. record { core = blot_core w1.regs l.core; words = blot w1.words l.words }) (ap (λ t. t.label) (first x.pair.addr) ∙ ap (λ l. record { core = blot_core w0.regs l.core; words = blot w0.words l.words }) label)
+            ∙ ap (λ c. record { core = c; words = blot w1.words (blot w0.words x.label.words) }) (sym (core_append w0.regs w1.regs x.label.core))
+            ∙ ap (λ w. record { core = blot_core (w0.regs ++ w1.regs) x.label.core; words = w }) (sym (words_append w0.words w1.words x.label.words))
 
 -- a step by what stands at the branch
 pub by_crossing : (S : Point → Step) (arms : List Arm) (m : Module) (text : List ℕ) (x : Point) (c : Crossing) → crossing_by (met m.text text x.pair.addr) arms x.pair.addr (val x.label.core 2) ≡ Some c →

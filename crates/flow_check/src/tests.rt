@@ -3,8 +3,6 @@
 use crate::{Reason, Verdict, check, check_with};
 use arm_balance::read_arms;
 use mod_layout::{Module, Section};
-use std::alloc::Global;
-use std::process::Abort;
 use std::test::Fail;
 
 /// The most bytes of a text in these tests.
@@ -30,33 +28,42 @@ fn bytes_of(words: &[u16]) -> [u8; MOST] {
     bytes
 }
 
-fn section(start: u16, end: u16) -> Section {
-    Section { start, end }
-}
-
-// A module with this text and so many bytes of data.
-fn module(start: u16, words: &[u16], ram: Section) -> Module {
-    let size = (words.len() % 128) as u16 * 2;
-    Module {
+// The verdict of a text of these words from `start` on, with so many bytes of data from `ram` on.
+fn verdict_at(
+    rt: &HostRuntime,
+    (start, ram, size): (u16, u16, u16),
+    words: &[u16],
+    arms: &[u8],
+) -> Result<Verdict, Fail> {
+    assert!(rt; !words.is_empty() && words.len() < MOST / 2);
+    assert!(rt; 0x0200 <= start && start < 0x8000 && start % 2 == 0);
+    assert!(rt; 0x0200 <= ram && ram < 0x8000 && ram % 2 == 0);
+    assert!(rt; 0 < size && size < 0x1000 && size % 2 == 0);
+    let owner = Module {
         id: 1,
         vendor: 7,
-        text: section(start, start.saturating_add(size)),
-        ram,
+        text: Section {
+            start,
+            end: start + 2 * words.len() as u16,
+        },
+        ram: Section {
+            start: ram,
+            end: ram + size,
+        },
+    };
+    let bytes = bytes_of(words);
+    let text = &bytes[..2 * words.len()];
+    let arms = read_arms(rt.alloc(), arms)?;
+    if arms.list.is_empty() {
+        Ok(check(rt.alloc(), &owner, text)?)
+    } else {
+        Ok(check_with(rt.alloc(), &owner, text, &arms)?)
     }
 }
 
-// The verdict of a text of these words from 0x0300 on, with the data from 0x0400, below 0x0402.
-fn verdict(alloc: Global, words: &[u16], arms: &[u8], rt: &impl Abort) -> Result<Verdict, Fail> {
-    let owner = module(0x0300, words, section(0x0400, 0x0402));
-    assert!(rt; owner.text.start < owner.text.end && owner.text.end < 0x0400);
-    let bytes = bytes_of(words);
-    let arms = read_arms(alloc, arms)?;
-    let found = if arms.list.is_empty() {
-        check(alloc, &owner, &bytes[..2 * (words.len() % 128)])?
-    } else {
-        check_with(alloc, &owner, &bytes[..2 * (words.len() % 128)], &arms)?
-    };
-    Ok(found)
+// The same with the text from 0x0300 and two bytes of data from 0x0400 on.
+fn verdict(rt: &HostRuntime, words: &[u16], arms: &[u8]) -> Result<Verdict, Fail> {
+    verdict_at(rt, (0x0300, 0x0400, 2), words, arms)
 }
 
 // A branch on the data's word at 0x0304, whose arms meet at 0x0318.
@@ -76,32 +83,102 @@ fn plain_rows() -> &'static [(&'static [u16], Verdict)] {
     &[
         (&[0x4305, 0x4030, 0x0214], Verdict::Yes),
         // A secret branch.
-        (&BALANCED, Verdict::No { addr: 0x0304, reason: Reason::SecretBranch, value: 0 }),
+        (
+            &BALANCED,
+            Verdict::No {
+                addr: 0x0304,
+                reason: Reason::SecretBranch,
+                value: 0,
+            },
+        ),
         // The data's word as an address.
-        (&[0x4215, 0x0400, 0x4526], Verdict::No { addr: 0x0304, reason: Reason::SecretAddress, value: 0 }),
+        (
+            &[0x4215, 0x0400, 0x4526],
+            Verdict::No {
+                addr: 0x0304,
+                reason: Reason::SecretAddress,
+                value: 0,
+            },
+        ),
         // A read past the data.
-        (&[0x4215, 0x0402], Verdict::No { addr: 0x0300, reason: Reason::OutsideAccess, value: 0x0402 }),
+        (
+            &[0x4215, 0x0402],
+            Verdict::No {
+                addr: 0x0300,
+                reason: Reason::OutsideAccess,
+                value: 0x0402,
+            },
+        ),
         // The data's word in R5, and R6, where the text is left.
-        (&[0x4215, 0x0400, 0x4506, 0x4030, 0x0214], Verdict::No { addr: 0x0306, reason: Reason::SecretAtExit, value: 5 }),
+        (
+            &[0x4215, 0x0400, 0x4506, 0x4030, 0x0214],
+            Verdict::No {
+                addr: 0x0306,
+                reason: Reason::SecretAtExit,
+                value: 5,
+            },
+        ),
         // A place that is not known.
-        (&[0x4700], Verdict::No { addr: 0x0300, reason: Reason::UnknownTarget, value: 0 }),
+        (
+            &[0x4700],
+            Verdict::No {
+                addr: 0x0300,
+                reason: Reason::UnknownTarget,
+                value: 0,
+            },
+        ),
         // RETI, and an instruction that ends past the text.
-        (&[0x1300], Verdict::No { addr: 0x0300, reason: Reason::Illegal, value: 0x1300 }),
-        (&[0x4030], Verdict::No { addr: 0x0300, reason: Reason::Illegal, value: 0x4030 }),
+        (
+            &[0x1300],
+            Verdict::No {
+                addr: 0x0300,
+                reason: Reason::Illegal,
+                value: 0x1300,
+            },
+        ),
+        (
+            &[0x4030],
+            Verdict::No {
+                addr: 0x0300,
+                reason: Reason::Illegal,
+                value: 0x4030,
+            },
+        ),
         // Protect.
-        (&[0x1381], Verdict::No { addr: 0x0300, reason: Reason::Unit, value: 1 }),
+        (
+            &[0x1381],
+            Verdict::No {
+                addr: 0x0300,
+                reason: Reason::Unit,
+                value: 1,
+            },
+        ),
         // The module's id is public; it leaves by the word that gives it up.
         (&[0x1385, 0x1380], Verdict::Yes),
         // Of two addresses the lower, of two reasons the lesser.
-        (&[0x2401, 0x1300, 0x1381], Verdict::No { addr: 0x0302, reason: Reason::Illegal, value: 0x1300 }),
-        (&[0x4215, 0x0400, 0x4595, 0x0000, 0x0600], Verdict::No { addr: 0x0304, reason: Reason::SecretAddress, value: 0 }),
+        (
+            &[0x2401, 0x1300, 0x1381],
+            Verdict::No {
+                addr: 0x0302,
+                reason: Reason::Illegal,
+                value: 0x1300,
+            },
+        ),
+        (
+            &[0x4215, 0x0400, 0x4595, 0x0000, 0x0600],
+            Verdict::No {
+                addr: 0x0304,
+                reason: Reason::SecretAddress,
+                value: 0,
+            },
+        ),
     ]
 }
 
 #[test]
 fn plain_texts(rt: HostRuntime) -> Result<(), Fail> {
     for (words, expected) in plain_rows() {
-        assert_eq!(rt; verdict(rt.alloc(), words, b"", &rt)?, *expected);
+        assert_eq!(rt; verdict(&rt, words, b"")?, *expected);
     }
     Ok(())
 }
@@ -110,20 +187,60 @@ fn plain_texts(rt: HostRuntime) -> Result<(), Fail> {
 fn balanced_rows() -> &'static [(&'static [u16], &'static [u8], Verdict)] {
     &[
         (&BALANCED, b"0304 0318 6", Verdict::Yes),
-        (&BALANCED, b"0304 0318 7", Verdict::No { addr: 0x0304, reason: Reason::ArmTime, value: 0 }),
-        (&BALANCED, b"0304 031a 7", Verdict::No { addr: 0x031e, reason: Reason::SecretAtExit, value: 5 }),
-        (&UNEVEN, b"0304 0318 6", Verdict::No { addr: 0x0304, reason: Reason::ArmTime, value: 0 }),
+        (
+            &BALANCED,
+            b"0304 0318 7",
+            Verdict::No {
+                addr: 0x0304,
+                reason: Reason::ArmTime,
+                value: 0,
+            },
+        ),
+        (
+            &BALANCED,
+            b"0304 031a 7",
+            Verdict::No {
+                addr: 0x031e,
+                reason: Reason::SecretAtExit,
+                value: 5,
+            },
+        ),
+        (
+            &UNEVEN,
+            b"0304 0318 6",
+            Verdict::No {
+                addr: 0x0304,
+                reason: Reason::ArmTime,
+                value: 0,
+            },
+        ),
         // The arms go on to a write of PC.
-        (&BALANCED, b"0304 0400 6", Verdict::No { addr: 0x0304, reason: Reason::Arm, value: 0x031e }),
+        (
+            &BALANCED,
+            b"0304 0400 6",
+            Verdict::No {
+                addr: 0x0304,
+                reason: Reason::Arm,
+                value: 0x031e,
+            },
+        ),
         // A certificate for another branch.
-        (&BALANCED, b"0306 0318 6", Verdict::No { addr: 0x0304, reason: Reason::SecretBranch, value: 0 }),
+        (
+            &BALANCED,
+            b"0306 0318 6",
+            Verdict::No {
+                addr: 0x0304,
+                reason: Reason::SecretBranch,
+                value: 0,
+            },
+        ),
     ]
 }
 
 #[test]
 fn balanced_texts(rt: HostRuntime) -> Result<(), Fail> {
     for (words, arms, expected) in balanced_rows() {
-        assert_eq!(rt; verdict(rt.alloc(), words, arms, &rt)?, *expected);
+        assert_eq!(rt; verdict(&rt, words, arms)?, *expected);
     }
     Ok(())
 }
@@ -141,7 +258,15 @@ fn stub_rows() -> &'static [(u16, u16, Verdict)] {
     &[
         (0x431c, 0x4130, Verdict::Yes),
         // It goes back into the stub.
-        (0x4030, 0x0820, Verdict::No { addr: 0x084e, reason: Reason::UnknownTarget, value: 0 }),
+        (
+            0x4030,
+            0x0820,
+            Verdict::No {
+                addr: 0x084e,
+                reason: Reason::UnknownTarget,
+                value: 0,
+            },
+        ),
     ]
 }
 
@@ -151,10 +276,8 @@ fn stubs(rt: HostRuntime) -> Result<(), Fail> {
         let mut words = STUB;
         words[39] = *first;
         words[40] = *second;
-        let owner = module(0x0800, &words, section(0x0a00, 0x0a24));
-        assert!(rt; owner.text.start < owner.text.end && owner.text.end < 0x0a00);
-        let bytes = bytes_of(&words);
-        assert_eq!(rt; check(rt.alloc(), &owner, &bytes[..82])?, *expected);
+        let found = verdict_at(&rt, (0x0800, 0x0a00, 0x24), &words, b"")?;
+        assert_eq!(rt; found, *expected);
     }
     Ok(())
 }
@@ -170,8 +293,14 @@ fn too_many(rt: HostRuntime) -> Result<(), Fail> {
     let owner = Module {
         id: 1,
         vendor: 7,
-        text: section(0x0300, 0x9f40),
-        ram: section(0xa000, 0xa002),
+        text: Section {
+            start: 0x0300,
+            end: 0x9f40,
+        },
+        ram: Section {
+            start: 0xa000,
+            end: 0xa002,
+        },
     };
     let expected = no(0x0300, Reason::TooMany, 0);
     assert_eq!(rt; check(rt.alloc(), &owner, text.as_slice())?, expected);

@@ -82,7 +82,14 @@ fn walk_on(
     };
     let reaches = reaches(&insn, place.pc, &place.label.core);
     let mut stepped = Stepped::new(&place.returns);
-    step_base(module, text, entries, place.pc, &mut place.label, &mut stepped);
+    step_base(
+        module,
+        text,
+        entries,
+        place.pc,
+        &mut place.label,
+        &mut stepped,
+    );
     if stepped.least.is_some() {
         note(&mut tally.least, Reason::Arm, place.pc);
         return false;

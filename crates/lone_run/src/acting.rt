@@ -43,12 +43,7 @@ fn take_reads(job: &Job<'_>, ram: &[u8], accesses: &[Access]) -> ArrayVec<u16, 3
 }
 
 /// Does an access, if it is a write and a value is left, and gives the values that are left then.
-fn put_write<'a>(
-    owner: &Module,
-    ram: &mut [u8],
-    access: Access,
-    values: &'a [u16],
-) -> &'a [u16]
+fn put_write<'a>(owner: &Module, ram: &mut [u8], access: Access, values: &'a [u16]) -> &'a [u16]
     ensures { (rest : List Access) → lone_writes owner.now ram.old (writes_of (access ∷ rest)) values.now ≡ lone_writes owner.now ram.new (writes_of rest) result.now }
 {
     if access.kind != Kind::Write {

@@ -60,7 +60,10 @@ pub fn byte(job: &Job<'_>, ram: &[u8], addr: usize) -> u16
     ensures small { result < 256 }
 {
     if holds(job.owner.text, addr) {
-        at(job.text, addr.saturating_sub(usize::from(job.owner.text.start)))
+        at(
+            job.text,
+            addr.saturating_sub(usize::from(job.owner.text.start)),
+        )
     } else {
         at(ram, addr.saturating_sub(usize::from(job.owner.ram.start)))
     }

@@ -33,25 +33,26 @@ fn end_of(outcome: Outcome) -> End {
     }
 }
 
-fn module(text_end: u16, ram_end: u16) -> Module {
-    Module {
+// The end of a call, by a core of zeros, of a module with this text from 0x0300 and these data from 0x0400 on.
+fn end_by(rt: &impl Abort, text: &[u8], ram: &mut [u8], limit: u64) -> End {
+    assert!(rt; text.len() <= 0x100 && ram.len() <= 0x100 && limit <= 1000);
+    assert!(rt; !ram.is_empty() && ram.len() % 2 == 0);
+    let owner = Module {
         id: 1,
         vendor: 7,
         text: Section {
             start: 0x0300,
-            end: text_end,
+            end: 0x0300 + text.len() as u16,
         },
         ram: Section {
             start: 0x0400,
-            end: ram_end,
+            end: 0x0400 + ram.len() as u16,
         },
-    }
-}
-
-fn entry() -> Entry {
+    };
     let mut core = Core::new([0; 16]);
     core.put(0, 0x0300);
-    Entry { core, caller: 0 }
+    let entry = Entry { core, caller: 0 };
+    end_of(call(&NODE_KEY, &owner, text, ram, &entry, limit))
 }
 
 // Its arms take equal cycles: a word of the data decides.
@@ -63,20 +64,18 @@ fn balanced() -> &'static [u8; 34] {
     ]
 }
 
-fn ends(rt: &impl Abort, data: u8, limit: u64, expected: End) {
-    let mut ram = [data, 0];
-    let owner = module(0x0322, 0x0402);
-    let outcome = call(&NODE_KEY, &owner, balanced(), &mut ram, &entry(), limit);
-    assert_eq!(rt; end_of(outcome), expected);
-    assert_eq!(rt; ram[0], data);
-}
-
 #[test]
 fn a_balanced_call(rt: HostRuntime) {
     for data in [0, 1] {
-        ends(&rt, data, 100, End::Exit(0x0214, 0, 18));
-        ends(&rt, data, 18, End::Exit(0x0214, 0, 18));
-        ends(&rt, data, 17, End::Running);
+        for (limit, expected) in [
+            (100, End::Exit(0x0214, 0, 18)),
+            (18, End::Exit(0x0214, 0, 18)),
+            (17, End::Running),
+        ] {
+            let mut ram = [data, 0];
+            assert_eq!(rt; end_by(&rt, balanced(), &mut ram, limit), expected);
+            assert_eq!(rt; ram, [data, 0]);
+        }
     }
 }
 
@@ -89,10 +88,10 @@ fn a_call_that_closes(rt: HostRuntime) {
     ];
     for (limit, expected, data) in rows {
         let mut ram = [5; 64];
-        let owner = module(0x0304, 0x0440);
-        let text = [0x80, 0x13, 0x00, 0x47];
-        let outcome = call(&NODE_KEY, &owner, &text, &mut ram, &entry(), limit);
-        assert_eq!(rt; end_of(outcome), expected);
+        assert_eq!(rt;
+            end_by(&rt, &[0x80, 0x13, 0x00, 0x47], &mut ram, limit),
+            expected
+        );
         assert_eq!(rt; (ram[0], ram[63]), (data, data));
     }
 }
@@ -102,10 +101,8 @@ fn a_call_that_closes(rt: HostRuntime) {
 fn a_broken_call(rt: HostRuntime) {
     for (limit, expected) in [(2, End::Broken(1)), (1, End::Running), (0, End::Running)] {
         let mut ram = [7, 7];
-        let owner = module(0x0306, 0x0402);
         let text = [0x03, 0x43, 0x84, 0x13, 0x00, 0x47];
-        let outcome = call(&NODE_KEY, &owner, &text, &mut ram, &entry(), limit);
-        assert_eq!(rt; end_of(outcome), expected);
+        assert_eq!(rt; end_by(&rt, &text, &mut ram, limit), expected);
         assert_eq!(rt; ram, [7, 7]);
     }
 }
@@ -114,9 +111,7 @@ fn a_broken_call(rt: HostRuntime) {
 #[test]
 fn data_before_the_instruction(rt: HostRuntime) {
     let mut ram = [7, 7];
-    let owner = module(0x0308, 0x0402);
     let text = [0x82, 0x43, 0x00, 0x04, 0x82, 0x43, 0x02, 0x04];
-    let outcome = call(&NODE_KEY, &owner, &text, &mut ram, &entry(), 100);
-    assert_eq!(rt; end_of(outcome), End::Broken(4));
+    assert_eq!(rt; end_by(&rt, &text, &mut ram, 100), End::Broken(4));
     assert_eq!(rt; ram, [0, 0]);
 }
