@@ -3,6 +3,8 @@
 use crate::{Reason, Verdict, check, check_with};
 use arm_balance::read_arms;
 use mod_layout::{Module, Section};
+use std::alloc::Global;
+use std::process::Abort;
 use std::test::Fail;
 
 /// The most bytes of a text in these tests.
@@ -30,8 +32,11 @@ fn bytes_of(words: &[u16]) -> [u8; MOST] {
 
 // The verdict of a text of these words from `start` on, with so many bytes of data from `ram` on.
 fn verdict_at(
-    rt: &HostRuntime,
-    (start, ram, size): (u16, u16, u16),
+    alloc: Global,
+    rt: &impl Abort,
+    start: u16,
+    ram: u16,
+    size: u16,
     words: &[u16],
     arms: &[u8],
 ) -> Result<Verdict, Fail> {
@@ -53,17 +58,17 @@ fn verdict_at(
     };
     let bytes = bytes_of(words);
     let text = &bytes[..2 * words.len()];
-    let arms = read_arms(rt.alloc(), arms)?;
+    let arms = read_arms(alloc, arms)?;
     if arms.list.is_empty() {
-        Ok(check(rt.alloc(), &owner, text)?)
+        Ok(check(alloc, &owner, text)?)
     } else {
-        Ok(check_with(rt.alloc(), &owner, text, &arms)?)
+        Ok(check_with(alloc, &owner, text, &arms)?)
     }
 }
 
 // The same with the text from 0x0300 and two bytes of data from 0x0400 on.
-fn verdict(rt: &HostRuntime, words: &[u16], arms: &[u8]) -> Result<Verdict, Fail> {
-    verdict_at(rt, (0x0300, 0x0400, 2), words, arms)
+fn verdict(alloc: Global, rt: &impl Abort, words: &[u16], arms: &[u8]) -> Result<Verdict, Fail> {
+    verdict_at(alloc, rt, 0x0300, 0x0400, 2, words, arms)
 }
 
 // A branch on the data's word at 0x0304, whose arms meet at 0x0318.
@@ -178,7 +183,7 @@ fn plain_rows() -> &'static [(&'static [u16], Verdict)] {
 #[test]
 fn plain_texts(rt: HostRuntime) -> Result<(), Fail> {
     for (words, expected) in plain_rows() {
-        assert_eq!(rt; verdict(&rt, words, b"")?, *expected);
+        assert_eq!(rt; verdict(rt.alloc(), &rt, words, b"")?, *expected);
     }
     Ok(())
 }
@@ -240,7 +245,7 @@ fn balanced_rows() -> &'static [(&'static [u16], &'static [u8], Verdict)] {
 #[test]
 fn balanced_texts(rt: HostRuntime) -> Result<(), Fail> {
     for (words, arms, expected) in balanced_rows() {
-        assert_eq!(rt; verdict(&rt, words, arms)?, *expected);
+        assert_eq!(rt; verdict(rt.alloc(), &rt, words, arms)?, *expected);
     }
     Ok(())
 }
@@ -276,7 +281,7 @@ fn stubs(rt: HostRuntime) -> Result<(), Fail> {
         let mut words = STUB;
         words[39] = *first;
         words[40] = *second;
-        let found = verdict_at(&rt, (0x0800, 0x0a00, 0x24), &words, b"")?;
+        let found = verdict_at(rt.alloc(), &rt, 0x0800, 0x0a00, 0x24, &words, b"")?;
         assert_eq!(rt; found, *expected);
     }
     Ok(())
