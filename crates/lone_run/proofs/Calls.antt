@@ -1,9 +1,9 @@
 -- A call, instruction by instruction.
-use Rattle.std.proofs.Common.{◌≡◌, ◌≢◌, ◌<◌, ◌≤◌, ◌⊎◌, inl, inr, ℕ, zero, suc, ◌+◌, ◌-◌, List, length, refl, sym, ap, ◌∙◌, subst, arith, Bool, true, false, Option, Some, None}
+use Rattle.std.proofs.Common.{◌≡◌, ◌≢◌, ◌<◌, ◌≤◌, ℕ, zero, suc, ◌+◌, ◌-◌, List, refl, sym, ap, ◌∙◌, arith, Bool, true, false, Option, Some, None}
 use Rattle.sm_words.specs.Words.{reg}
 use Rattle.insn_decode.specs.declared.insn.Insn.{Insn}
 use Rattle.mod_layout.specs.Table.{holds}
-use Rattle.cpu_step.specs.Lone.{Job, Lone, Outcome, Exit, Closing, Broken, Running, Doing, Waits, Closes, Leaves, Breaks, Does, does_or_breaks, doing_by, doing, next_insn, later, at_once, in_time, outcome, lone_does, lone_step_by, lone_step, lone_after}
+use Rattle.cpu_step.specs.Lone.{Job, Lone, Outcome, Exit, Closing, Broken, Running, Waits, Closes, Leaves, does_or_breaks, doing_by, doing, next_insn, later, at_once, in_time, outcome, lone_does, lone_step_by, lone_step, lone_after}
 use Rattle.cpu_step.proofs.LoneLemmas.{after_step, after_more}
 use Rattle.lone_run.specs.Jobs.{between}
 

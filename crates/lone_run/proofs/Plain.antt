@@ -10,7 +10,7 @@ use Rattle.attest.specs.Accesses.{reads_of, writes_of}
 use Rattle.cpu_step.specs.Plan.{plan}
 use Rattle.cpu_step.specs.Effect.{does}
 use Rattle.cpu_step.specs.Asked.{asks, effect}
-use Rattle.cpu_step.specs.Lone.{Job, Lone, lone_read, lone_writes, lone_does}
+use Rattle.cpu_step.specs.Lone.{Job, lone_read, lone_writes, lone_does}
 use Rattle.lone_run.specs.Jobs.{between}
 
 shape : (j : Job) (core ram : List ℕ) (insn : Insn) → IsFalse (is_unit insn) →

@@ -1,5 +1,5 @@
 -- Tags, and the unit instructions of a module by itself.
-use Rattle.std.proofs.Common.{◌≡◌, ◌≢◌, ◌<◌, ◌≤◌, ℕ, zero, suc, ◌+◌, ◌-◌, ◌*◌, ◌==◌, nat_le, nat_lt, List, [], ◌∷◌, ◌++◌, map, length, take, drop, get_or, slice_index, append_assoc, append-nil, refl, sym, ap, ◌∙◌, subst, arith, Bool, true, false, cond, ◌&&◌, ◌||◌, not, Option, Some, None}
+use Rattle.std.proofs.Common.{◌≡◌, ◌≢◌, ◌<◌, ◌≤◌, ℕ, zero, suc, ◌+◌, ◌-◌, ◌*◌, List, [], ◌∷◌, ◌++◌, map, length, take, drop, get_or, slice_index, append_assoc, append-nil, refl, sym, ap, ◌∙◌, arith, true, false, cond, ◌&&◌}
 use Rattle.std.proofs.lemmas.Bool.Decides.{nat_tests}
 use Rattle.std.proofs.Math.Seq.{drop-cons}
 use Rattle.sm_words.specs.Words.{reg, put}
@@ -12,7 +12,7 @@ use Rattle.pc_access.specs.declared.Kind.{Kind}
 use Rattle.pc_access.specs.declared.Kind.TheVariants.{Read, Write}
 use Rattle.pc_access.specs.declared.Access.{Access}
 use Rattle.attest.specs.Accesses.{reads_of, writes_of}
-use Rattle.attest.specs.Units.{Effect, Unprotect, Protect, Attest, Tag, IdOf, OwnId, CallerId, each_byte, in_range, text_reads, unit_plan, unit_effect, unit_named, blocks, next, answer}
+use Rattle.attest.specs.Units.{Effect, Tag, each_byte, in_range, text_reads, unit_plan, unit_effect, unit_named, blocks, next}
 use Rattle.attest.proofs.Tagging.{plan_by, effect_by}
 use Rattle.attest.proofs.Rows.{writes_of-reads, writes_of-writes}
 use Rattle.attest.proofs.Slices.{take_front, drop_front}

@@ -1,6 +1,5 @@
 -- Whose call it is, as the code holds it.
 use Rattle.std.specs.Prelude.{ℕ, ◌-◌, List, false}
-use Rattle.mod_layout.specs.declared.Module.{Module}
 use Rattle.cpu_step.specs.Lone as lone
 use Rattle.lone_run.specs.declared.job.Job.{Job}
 use Rattle.lone_run.specs.declared.job.Lasts.{Lasts}

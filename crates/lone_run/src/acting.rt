@@ -22,7 +22,9 @@ use sm_words::Core;
 /// Does an access, if it is a read, and adds its value.
 fn take_read(job: &Job<'_>, ram: &[u8], access: Access, values: &mut ArrayVec<u16, 3>)
     requires room { array_vec_len values.old < 3 }
-    ensures values { (rest : List Access) → values.old.items ++ map (lone_read (call_of job.now) ram.now) (reads_of (access ∷ rest)) ≡ values.new.items ++ map (lone_read (call_of job.now) ram.now) (reads_of rest) }
+    ensures values { (rest : List Access) → values.old.items
+        ++ map (lone_read (call_of job.now) ram.now) (reads_of (access ∷ rest))
+        ≡ values.new.items ++ map (lone_read (call_of job.now) ram.now) (reads_of rest) }
     ensures length { array_vec_len values.new ≤ array_vec_len values.old + 1 }
 {
     if access.kind == Kind::Read {
@@ -44,7 +46,8 @@ fn take_reads(job: &Job<'_>, ram: &[u8], accesses: &[Access]) -> ArrayVec<u16, 3
 
 /// Does an access, if it is a write and a value is left, and gives the values that are left then.
 fn put_write<'a>(owner: &Module, ram: &mut [u8], access: Access, values: &'a [u16]) -> &'a [u16]
-    ensures { (rest : List Access) → lone_writes owner.now ram.old (writes_of (access ∷ rest)) values.now ≡ lone_writes owner.now ram.new (writes_of rest) result.now }
+    ensures { (rest : List Access) → lone_writes owner.now ram.old (writes_of (access ∷ rest)) values.now
+        ≡ lone_writes owner.now ram.new (writes_of rest) result.now }
 {
     if access.kind != Kind::Write {
         return values;

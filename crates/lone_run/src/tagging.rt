@@ -19,7 +19,8 @@ use sm_words::Width;
 #[tactic(auto, using(crate::proofs::Tags::fed_more, crate::proofs::Tags::fed_none))]
 fn feed(hmac: &mut Hmac, job: &Job<'_>, ram: &[u8], start: u16, count: u16)
     requires { start + count ≤ 65536 }
-    ensures { (key message : List ℕ) → IsFed hmac.old key message → IsFed hmac.new key (message ++ map (lone_read (call_of job.now) ram.now) (each_byte Read start count)) }
+    ensures { (key message : List ℕ) → IsFed hmac.old key message
+        → IsFed hmac.new key (message ++ map (lone_read (call_of job.now) ram.now) (each_byte Read start count)) }
 {
     for k in 0..count {
         let value = byte(job, ram, usize::from(start + k)) as u8;

@@ -97,7 +97,8 @@ fn caller_id(job: &Job<'_>, ram: &[u8], core: &mut Core) -> Lasts
 fn own_id(job: &Job<'_>, ram: &[u8], core: &mut Core, op: u8) -> Lasts
     requires alone { unit_alone (unit_named op) ≡ true }
     requires other { (op ≢ 0) × (op ≢ 3) × (op ≢ 6) }
-    ensures done { lone_does (call_of job.now) (UnitOp op) (between core.old ram.now) ≡ lasting core.new ram.now result }
+    ensures done { lone_does (call_of job.now) (UnitOp op) (between core.old ram.now)
+        ≡ lasting core.new ram.now result }
     ensures some { 1 ≤ result.cycles }
 {
     answer(core, job.owner.id, SHORT)
@@ -108,7 +109,8 @@ pub fn do_unit(job: &Job<'_>, ram: &mut [u8], core: &mut Core, op: u8) -> Lasts
     requires alone { unit_alone (unit_named op) ≡ true }
     requires text { length job.now.text.now ≡ size_of job.now.owner.now.text }
     requires ram { IsSection job.now.owner.now.ram }
-    ensures done { lone_does (call_of job.now) (UnitOp op) (between core.old ram.old) ≡ lasting core.new ram.new result }
+    ensures done { lone_does (call_of job.now) (UnitOp op) (between core.old ram.old)
+        ≡ lasting core.new ram.new result }
     ensures some { 1 ≤ result.cycles }
 {
     match op {

@@ -1,4 +1,4 @@
-use Rattle.std.proofs.Common.{◌≡◌, ◌++◌, length, replicate, drop}
+use Rattle.std.proofs.Common.{◌≡◌, ◌++◌, replicate, drop}
 use Rattle.lone_run.proofs.calling.clear.Given as goal
 
 abbrev pub invariant-loop-byte : goal.invariant-loop-byte

@@ -1,6 +1,5 @@
-use Rattle.std.proofs.Common.{◌≡◌, ◌∙◌, ◌<◌, ◌≤◌, ◌+◌, ◌-◌, ap, sym, subst, arith, true, false, length, replicate, List, ℕ}
+use Rattle.std.proofs.Common.{◌≡◌, ◌∙◌, ◌<◌, ◌≤◌, ◌+◌, ◌-◌, ap, sym, subst, arith, false, List, ℕ}
 use Rattle.mod_layout.specs.Table.{holds}
-use Rattle.sm_words.specs.Words.{reg}
 use Rattle.cpu_step.specs.Lone as lone
 use Rattle.lone_run.specs.Ends.{answer_of, data_left}
 use Rattle.lone_run.specs.Jobs.{call_of, between}

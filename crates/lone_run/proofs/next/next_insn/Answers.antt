@@ -1,6 +1,5 @@
-use Rattle.std.proofs.Common.{◌≡◌, ◌∙◌, ◌&&◌, ap, sym, arith, Some, Option}
+use Rattle.std.proofs.Common.{◌≡◌, ◌∙◌, ◌&&◌, ap, sym, arith, Some}
 use Rattle.insn_decode.specs.Code.{insn_of}
-use Rattle.insn_decode.specs.declared.insn.Insn.{Insn}
 use Rattle.sm_words.specs.Words.{reg, word_at}
 use Rattle.cpu_step.specs.Fetched.{insn_at}
 use Rattle.cpu_step.specs.Lone.{Lone, lone_byte, text_word, may_do, if_home, next_first, next_insn}
