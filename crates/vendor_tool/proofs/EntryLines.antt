@@ -1,11 +1,11 @@
 -- The text of a serial schedule is read as its entries.
-use Rattle.std.proofs.Common.{ℕ, zero, suc, ◌≡◌, ◌+◌, ◌*◌, ◌/◌, ◌%◌, ◌^◌, ◌<◌, ◌≤◌, false, ◌==◌, List, [], ◌∷◌, ◌++◌, length, get_or, map, nat_eq, nat_lt, Some, Ok, codes, refl, ap, ◌∙◌, append_assoc, length-append, arith}
+use Rattle.std.proofs.Common.{ℕ, suc, ◌≡◌, ◌+◌, ◌*◌, ◌^◌, ◌<◌, ◌≤◌, false, List, [], ◌∷◌, ◌++◌, length, get_or, map, nat_eq, nat_lt, Some, Ok, codes, refl, ap, ◌∙◌, append_assoc, length-append, arith}
 use Rattle.std.specs.List.{All}
 use Rattle.std.specs.Fmt.{decimal}
 use Rattle.std.proofs.lemmas.Bool.Decides.{nat_tests}
-use Rattle.std.proofs.lemmas.List.Elements.{All-from_recursion, All-append, All-cons, All-nil, All-tail}
-use Rattle.hex.specs.Hex.{lower_digits, IsBytes}
-use Rattle.texts.specs.Hexadecimals.{hex_digit, hex_byte}
+use Rattle.std.proofs.lemmas.List.Elements.{All-from_recursion, All-append, All-tail}
+use Rattle.hex.specs.Hex.{IsBytes}
+use Rattle.texts.specs.Hexadecimals.{hex_byte}
 use Rattle.texts.specs.Laws.{HasNoFeed}
 use Rattle.texts.specs.Lines.{is_line_feed, ended_lines, unended, last_line, lines_of}
 use Rattle.texts.proofs.LineLemmas.{ended_lines-before, unended-before}
@@ -19,36 +19,16 @@ use Rattle.schedule_file.specs.Reading.{after_entries, entries_from, schedule_of
 use Rattle.vendor_tool.specs.declared.Challenge.{Challenge}
 use Rattle.vendor_tool.specs.declared.TheConstants.{MAX_CYCLE, NONCE_CYCLES, BYTE_STEP}
 use Rattle.vendor_tool.specs.Challenges.{IsChallenge, AreChallenges, AreApart}
+use Rattle.vendor_tool.proofs.Plain.{byte_plain, each, no_feed}
 use Rattle.vendor_tool.specs.NonceSchedule.{bytes_from, nonce_entries, entries_of, entries_text}
 
 -- ---- no LF in a line
-
-digit_clean : (d : ℕ) → d < 16 → (get_or lower_digits d 0 == 10) ≡ false
-digit_clean zero l = refl
-digit_clean (suc zero) l = refl
-digit_clean (suc (suc zero)) l = refl
-digit_clean (suc (suc (suc zero))) l = refl
-digit_clean (suc (suc (suc (suc zero)))) l = refl
-digit_clean (suc (suc (suc (suc (suc zero))))) l = refl
-digit_clean (suc (suc (suc (suc (suc (suc zero)))))) l = refl
-digit_clean (suc (suc (suc (suc (suc (suc (suc zero))))))) l = refl
-digit_clean (suc (suc (suc (suc (suc (suc (suc (suc zero)))))))) l = refl
-digit_clean (suc (suc (suc (suc (suc (suc (suc (suc (suc zero))))))))) l = refl
-digit_clean (suc (suc (suc (suc (suc (suc (suc (suc (suc (suc zero)))))))))) l = refl
-digit_clean (suc (suc (suc (suc (suc (suc (suc (suc (suc (suc (suc zero))))))))))) l = refl
-digit_clean (suc (suc (suc (suc (suc (suc (suc (suc (suc (suc (suc (suc zero)))))))))))) l = refl
-digit_clean (suc (suc (suc (suc (suc (suc (suc (suc (suc (suc (suc (suc (suc zero))))))))))))) l = refl
-digit_clean (suc (suc (suc (suc (suc (suc (suc (suc (suc (suc (suc (suc (suc (suc zero)))))))))))))) l = refl
-digit_clean (suc (suc (suc (suc (suc (suc (suc (suc (suc (suc (suc (suc (suc (suc (suc zero))))))))))))))) l = refl
-digit_clean (suc (suc (suc (suc (suc (suc (suc (suc (suc (suc (suc (suc (suc (suc (suc (suc n)))))))))))))))) l = absurd (omega arith)
 
 abbrev IsClean : ℕ → Type 0
 IsClean b = is_line_feed b ≡ false
 
 byte_clean : (byte : ℕ) → byte < 256 → All IsClean (hex_byte byte)
-byte_clean byte small =
-    All-cons IsClean (hex_digit (byte / 16)) (hex_digit (byte % 16) ∷ []) (digit_clean (byte / 16) (omega arith))
-    (All-cons IsClean (hex_digit (byte % 16)) [] (digit_clean (byte % 16) (omega arith)) (All-nil IsClean))
+byte_clean byte small = each is_line_feed (hex_byte byte) no_feed (byte_plain byte small)
 
 serial_clean : (cycle byte : ℕ) → cycle < 10 ^ 18 → byte < 256 → HasNoFeed (entry_text (record { cycle = cycle; what = Serial byte }))
 serial_clean cycle byte low small =

@@ -1,3 +1,4 @@
+pub mod Plain
 pub mod LineLemmas
 pub mod Loop
 pub mod EntryLines
@@ -5,3 +6,4 @@ pub mod Sending
 pub mod Forms
 pub mod Replying
 pub mod Judging
+pub mod OwnLines

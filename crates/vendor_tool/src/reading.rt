@@ -15,7 +15,8 @@ use texts::{next_line, read_decimal, read_hex_key};
 /// `NotRising`. The first of these is answered, unless memory runs out before.
 pub fn read_challenges(alloc: Global, bytes: &[u8]) -> Result<Challenges, ChallengeFault>
     ensures read { IfOk result (λ challenges. spec.challenges_of bytes.now ≡ Ok challenges.list.items) }
-    ensures refused { IfErr result (λ fault. fault ≢ ChallengeFault.NoMemory → spec.challenges_of bytes.now ≡ Err fault) }
+    ensures refused { IfErr result (λ fault. fault ≢ ChallengeFault.NoMemory
+        → spec.challenges_of bytes.now ≡ Err fault) }
 {
     let mut list = Vec::new(alloc);
     let mut rest = bytes;

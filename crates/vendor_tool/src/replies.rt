@@ -15,7 +15,8 @@ use texts::{read_hex_byte, split_line};
 /// trace have no leading zeros, and may be of any size.
 pub fn read_replies(alloc: Global, trace: &[u8]) -> Result<Vec<u8>, TraceFault>
     ensures read { IfOk result (λ replies. spec.replies_of trace.now ≡ Ok replies.items) }
-    ensures refused { IfErr result (λ fault. fault ≢ TraceFault.NoMemory → spec.replies_of trace.now ≡ Err fault) }
+    ensures refused { IfErr result (λ fault. fault ≢ TraceFault.NoMemory
+        → spec.replies_of trace.now ≡ Err fault) }
 {
     let mut replies = Vec::new(alloc);
     let mut rest = trace;

@@ -21,8 +21,10 @@ pub fn report<S: Sink>(
 ) -> Result<bool, Failed>
     ensures genuine { IfOk result (λ all. all ≡ spec.all_genuine key.now challenges.now.list.items replies.now) }
     ensures lines { MatchResult result
-        (λ _. Took S.taken S.faults S.sure sink.old sink.new (spec.report_text key.now challenges.now.list.items replies.now))
-        (λ _. CutOff S.taken S.faults S.sure sink.old sink.new (spec.report_text key.now challenges.now.list.items replies.now)) }
+        (λ _. Took S.taken S.faults S.sure sink.old sink.new
+            (spec.report_text key.now challenges.now.list.items replies.now))
+        (λ _. CutOff S.taken S.faults S.sure sink.old sink.new
+            (spec.report_text key.now challenges.now.list.items replies.now)) }
 {
     let mut all_genuine = true;
     let mut place = 0;
@@ -92,7 +94,8 @@ fn put_judgement<S: Sink>(sink: &mut S, place: usize, judgement: Judgement) -> R
 
 // Puts a line of two words.
 fn put_line<S: Sink>(sink: &mut S, number: &[u8], name: &[u8]) -> Result<(), Failed>
-    ensures { Puts S.taken S.faults S.sure sink.old sink.new (number.now ++ (codes " " ++ (name.now ++ codes "\n"))) result }
+    ensures { Puts S.taken S.faults S.sure sink.old sink.new
+        (number.now ++ (codes " " ++ (name.now ++ codes "\n"))) result }
 {
     match put_all(sink, number) {
         Ok(()) => {}

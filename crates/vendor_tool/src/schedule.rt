@@ -41,7 +41,8 @@ fn push_nonce(challenge: &Challenge, text: &mut Vec<u8>) -> Result<(), AllocErro
 
 // Appends the line of one byte.
 fn push_entry(cycle: u64, byte: u8, text: &mut Vec<u8>) -> Result<(), AllocError>
-    ensures { OnOk result (text.new.items ≡ text.old.items ++ entry_line (record { cycle = cycle; what = Serial byte })) }
+    ensures { OnOk result (text.new.items ≡ text.old.items
+        ++ entry_line (record { cycle = cycle; what = Serial byte })) }
 {
     let mut line = ArrayString::<32>::new();
     push_decimal(cycle, &mut line);

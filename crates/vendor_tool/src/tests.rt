@@ -142,11 +142,13 @@ fn replies_are_read(rt: HostRuntime) -> Result<(), Fail> {
         (b"end 0 stopped\n", &[]),
         (b"0 out 4a\n7 irq 6\n7 out 00\nend 8 inside 1\n", &[0x4a, 0]),
         (
-            b"30 resume 1\n67 close 1\n25 handler pc 0500\n7 leave 1 pc 0208\n13 hide 1 vector 1\n5 enter 1 from 0\n22 reti\n9 protect 12\n10 out ff\n5 stop FetchDevice pc 0302 addr 0302 module 1\nend 5 stopped\n",
+            b"30 resume 1\n67 close 1\n25 handler pc 0500\n7 leave 1 pc 0208\n13 hide 1 vector 1\n5 enter 1 from 0\n\
+              22 reti\n9 protect 12\n10 out ff\n5 stop FetchDevice pc 0302 addr 0302 module 1\nend 5 stopped\n",
             &[0xff],
         ),
         (
-            b"99999999999999999999999 enter 99999999999999999999999 from 0\nend 10 outside 0208 0000 0000 0000 0000 0000 0000 0208 0000 0000 0000 0000 0000 0000 0000 fedc\n",
+            b"99999999999999999999999 enter 99999999999999999999999 from 0\nend 10 outside 0208 0000 0000 0000 0000 \
+              0000 0000 0208 0000 0000 0000 0000 0000 0000 0000 fedc\n",
             &[],
         ),
     ];
