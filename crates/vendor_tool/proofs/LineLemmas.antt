@@ -8,7 +8,8 @@ use Rattle.texts.specs.Hexadecimals.{read_hex, read_hex_key}
 use Rattle.vendor_tool.specs.declared.TheConstants.{MAX_CYCLE}
 use Rattle.vendor_tool.specs.ChallengeText.{is_space, at_cycle, challenge_of}
 
-nothing_is_no_key : read_hex_key [] ≡ None
+-- nothing is no nonce's text
+pub nothing_is_no_key : read_hex_key [] ≡ None
 unfolding read_hex
 nothing_is_no_key = refl
 

@@ -65,7 +65,7 @@ no_feed-joined : (word : List ℕ) (more : List (List ℕ)) → IsPlain word →
 no_feed-joined word [] plain are = each is_line_feed word no_feed plain
 no_feed-joined word (next ∷ more) plain are =
     All-append (λ b. is_line_feed b ≡ false) word (32 ∷ joined next more) (each is_line_feed word no_feed plain)
-        (All-cons (λ b. is_line_feed b ≡ false) 32 (joined next more) refl (no_feed-joined next more are.0 are.1))
+    (All-cons (λ b. is_line_feed b ≡ false) 32 (joined next more) refl (no_feed-joined next more are.0 are.1))
 
 -- ---- kinds
 
@@ -178,9 +178,9 @@ drop_front xs ys two =
 out_byte : (c byte : ℕ) → byte < 256 → sent_by Out (event_words c (EOut byte)) ≡ byte ∷ []
 out_byte c byte small =
     ap (λ o. option_to_list o)
-        (ap last_byte (sym (append_assoc (decimal c ++ codes " ") (codes "out ") (hex_byte byte)))
-        ∙ ap read_hex_byte (drop_front ((decimal c ++ codes " ") ++ codes "out ") (hex_byte byte) refl)
-        ∙ (bytes_are_read (hex_byte byte) byte).1 (small, refl))
+    (ap last_byte (sym (append_assoc (decimal c ++ codes " ") (codes "out ") (hex_byte byte)))
+    ∙ ap read_hex_byte (drop_front ((decimal c ++ codes " ") ++ codes "out ") (hex_byte byte) refl)
+    ∙ (bytes_are_read (hex_byte byte) byte).1 (small, refl))
 
 stop_joined : (c r p a m : List ℕ) → c ++ codes " " ++ (codes "stop " ++ r ++ codes " pc " ++ p ++ codes " addr " ++ a ++ codes " module " ++ m)
     ≡ joined c (codes "stop" ∷ r ∷ codes "pc" ∷ p ∷ codes "addr" ∷ a ∷ codes "module" ∷ m ∷ [])
@@ -188,51 +188,112 @@ stop_joined c r p a m = simp append_assoc
 
 event_reads : (c : ℕ) (e : Event) → c < 2 ^ 64 → IsEvent e → Reads (event_words c e) false (sent_in e)
 event_reads c (EResume id) low h =
-    reads _ Resume false [] (record { first = decimal c; more = codes "resume" ∷ decimal id ∷ []; joins = simp append_assoc;
-        first_plain = decimal_plain c low; more_plain = (refl, (decimal_plain id (omega arith), tt)); is = (one_number (decimal c) (number c low) (decimal id) (number id (omega arith))).0 }) refl refl
+    reads _ Resume false [] (record {
+      first = decimal c;
+      more = codes "resume" ∷ decimal id ∷ [];
+      joins = simp append_assoc;
+      first_plain = decimal_plain c low;
+      more_plain = (refl, (decimal_plain id (omega arith), tt));
+      is = (one_number (decimal c) (number c low) (decimal id) (number id (omega arith))).0;
+    }) refl refl
 event_reads c (EClose id) low h =
-    reads _ Close false [] (record { first = decimal c; more = codes "close" ∷ decimal id ∷ []; joins = simp append_assoc;
-        first_plain = decimal_plain c low; more_plain = (refl, (decimal_plain id (omega arith), tt)); is = (one_number (decimal c) (number c low) (decimal id) (number id (omega arith))).1 }) refl refl
+    reads _ Close false [] (record {
+      first = decimal c;
+      more = codes "close" ∷ decimal id ∷ [];
+      joins = simp append_assoc;
+      first_plain = decimal_plain c low;
+      more_plain = (refl, (decimal_plain id (omega arith), tt));
+      is = (one_number (decimal c) (number c low) (decimal id) (number id (omega arith))).1;
+    }) refl refl
 event_reads c (EHandler pc) low h =
-    reads _ Handler false [] (record { first = decimal c; more = codes "handler" ∷ codes "pc" ∷ hex_word pc ∷ []; joins = simp append_assoc;
-        first_plain = decimal_plain c low; more_plain = (refl, (refl, (word_plain pc h, tt))); is = handler (decimal c) (number c low) (hex_word pc) (address pc h) }) refl refl
+    reads _ Handler false [] (record {
+      first = decimal c;
+      more = codes "handler" ∷ codes "pc" ∷ hex_word pc ∷ [];
+      joins = simp append_assoc;
+      first_plain = decimal_plain c low;
+      more_plain = (refl, (refl, (word_plain pc h, tt)));
+      is = handler (decimal c) (number c low) (hex_word pc) (address pc h);
+    }) refl refl
 event_reads c (ELeave id pc) low h =
     let small = h.0 in
-    reads _ Leave false [] (record { first = decimal c; more = codes "leave" ∷ decimal id ∷ codes "pc" ∷ hex_word pc ∷ []; joins = simp append_assoc;
-        first_plain = decimal_plain c low; more_plain = (refl, (decimal_plain id (omega arith), (refl, (word_plain pc h.1, tt))));
-        is = leave (decimal c) (number c low) (decimal id) (hex_word pc) (number id (omega arith)) (address pc h.1) }) refl refl
+    reads _ Leave false [] (record {
+      first = decimal c;
+      more = codes "leave" ∷ decimal id ∷ codes "pc" ∷ hex_word pc ∷ [];
+      joins = simp append_assoc;
+      first_plain = decimal_plain c low;
+      more_plain = (refl, (decimal_plain id (omega arith), (refl, (word_plain pc h.1, tt))));
+      is = leave (decimal c) (number c low) (decimal id) (hex_word pc) (number id (omega arith)) (address pc h.1);
+    }) refl refl
 event_reads c (EHide id vector) low h =
     let small = h.0 in
     let few = h.1 in
-    reads _ Hide false [] (record { first = decimal c; more = codes "hide" ∷ decimal id ∷ codes "vector" ∷ decimal vector ∷ []; joins = simp append_assoc;
-        first_plain = decimal_plain c low; more_plain = (refl, (decimal_plain id (omega arith), (refl, (decimal_plain vector (omega arith), tt))));
-        is = hide (decimal c) (number c low) (decimal id) (decimal vector) (number id (omega arith)) (number vector (omega arith)) }) refl refl
+    reads _ Hide false [] (record {
+      first = decimal c;
+      more = codes "hide" ∷ decimal id ∷ codes "vector" ∷ decimal vector ∷ [];
+      joins = simp append_assoc;
+      first_plain = decimal_plain c low;
+      more_plain = (refl, (decimal_plain id (omega arith), (refl, (decimal_plain vector (omega arith), tt))));
+      is = hide (decimal c) (number c low) (decimal id) (decimal vector) (number id (omega arith)) (number vector (omega arith));
+    }) refl refl
 event_reads c (EIrq vector) low h =
-    reads _ Irq false [] (record { first = decimal c; more = codes "irq" ∷ decimal vector ∷ []; joins = simp append_assoc;
-        first_plain = decimal_plain c low; more_plain = (refl, (decimal_plain vector (omega arith), tt)); is = (one_number (decimal c) (number c low) (decimal vector) (number vector (omega arith))).2 }) refl refl
+    reads _ Irq false [] (record {
+      first = decimal c;
+      more = codes "irq" ∷ decimal vector ∷ [];
+      joins = simp append_assoc;
+      first_plain = decimal_plain c low;
+      more_plain = (refl, (decimal_plain vector (omega arith), tt));
+      is = (one_number (decimal c) (number c low) (decimal vector) (number vector (omega arith))).2;
+    }) refl refl
 event_reads c (EEnter id from) low h =
     let small = h.0 in
     let few = h.1 in
-    reads _ Enter false [] (record { first = decimal c; more = codes "enter" ∷ decimal id ∷ codes "from" ∷ decimal from ∷ []; joins = simp append_assoc;
-        first_plain = decimal_plain c low; more_plain = (refl, (decimal_plain id (omega arith), (refl, (decimal_plain from (omega arith), tt))));
-        is = enter (decimal c) (number c low) (decimal id) (decimal from) (number id (omega arith)) (number from (omega arith)) }) refl refl
+    reads _ Enter false [] (record {
+      first = decimal c;
+      more = codes "enter" ∷ decimal id ∷ codes "from" ∷ decimal from ∷ [];
+      joins = simp append_assoc;
+      first_plain = decimal_plain c low;
+      more_plain = (refl, (decimal_plain id (omega arith), (refl, (decimal_plain from (omega arith), tt))));
+      is = enter (decimal c) (number c low) (decimal id) (decimal from) (number id (omega arith)) (number from (omega arith));
+    }) refl refl
 event_reads c EReti low h =
-    reads _ Reti false [] (record { first = decimal c; more = codes "reti" ∷ []; joins = simp append_assoc;
-        first_plain = decimal_plain c low; more_plain = (refl, tt); is = reti (decimal c) (number c low) }) refl refl
+    reads _ Reti false [] (record {
+      first = decimal c;
+      more = codes "reti" ∷ [];
+      joins = simp append_assoc;
+      first_plain = decimal_plain c low;
+      more_plain = (refl, tt);
+      is = reti (decimal c) (number c low);
+    }) refl refl
 event_reads c (EProtect id) low h =
-    reads _ Protect false [] (record { first = decimal c; more = codes "protect" ∷ decimal id ∷ []; joins = simp append_assoc;
-        first_plain = decimal_plain c low; more_plain = (refl, (decimal_plain id (omega arith), tt)); is = (one_number (decimal c) (number c low) (decimal id) (number id (omega arith))).3 }) refl refl
+    reads _ Protect false [] (record {
+      first = decimal c;
+      more = codes "protect" ∷ decimal id ∷ [];
+      joins = simp append_assoc;
+      first_plain = decimal_plain c low;
+      more_plain = (refl, (decimal_plain id (omega arith), tt));
+      is = (one_number (decimal c) (number c low) (decimal id) (number id (omega arith))).3;
+    }) refl refl
 event_reads c (EOut byte) low h =
-    reads _ Out false (byte ∷ []) (record { first = decimal c; more = codes "out" ∷ hex_byte byte ∷ []; joins = simp append_assoc;
-        first_plain = decimal_plain c low; more_plain = (refl, (byte_plain byte h, tt)); is = out (decimal c) (number c low) (hex_byte byte) (byte_word byte h) }) refl (out_byte c byte h)
+    reads _ Out false (byte ∷ []) (record {
+      first = decimal c;
+      more = codes "out" ∷ hex_byte byte ∷ [];
+      joins = simp append_assoc;
+      first_plain = decimal_plain c low;
+      more_plain = (refl, (byte_plain byte h, tt));
+      is = out (decimal c) (number c low) (hex_byte byte) (byte_word byte h);
+    }) refl (out_byte c byte h)
 event_reads c (EStop s) low h =
     let pc = h.pc in
     let addr = h.addr in
     let id = h.«module» in
-    reads _ Stop false [] (record { first = decimal c; more = codes "stop" ∷ rule_name s.rule ∷ codes "pc" ∷ hex_word s.pc ∷ codes "addr" ∷ hex_word s.addr ∷ codes "module" ∷ decimal s.«module» ∷ [];
-        joins = stop_joined (decimal c) (rule_name s.rule) (hex_word s.pc) (hex_word s.addr) (decimal s.«module»);
-        first_plain = decimal_plain c low; more_plain = (refl, (rule_plain s.rule, (refl, (word_plain s.pc pc, (refl, (word_plain s.addr addr, (refl, (decimal_plain s.«module» (omega arith), tt))))))));
-        is = stop (decimal c) (number c low) (rule_name s.rule) (hex_word s.pc) (hex_word s.addr) (decimal s.«module») (a_rule s.rule) (address s.pc pc) (address s.addr addr) (number s.«module» (omega arith)) }) refl refl
+    reads _ Stop false [] (record {
+      first = decimal c;
+      more = codes "stop" ∷ rule_name s.rule ∷ codes "pc" ∷ hex_word s.pc ∷ codes "addr" ∷ hex_word s.addr ∷ codes "module" ∷ decimal s.«module» ∷ [];
+      joins = stop_joined (decimal c) (rule_name s.rule) (hex_word s.pc) (hex_word s.addr) (decimal s.«module»);
+      first_plain = decimal_plain c low;
+      more_plain = (refl, (rule_plain s.rule, (refl, (word_plain s.pc pc, (refl, (word_plain s.addr addr, (refl, (decimal_plain s.«module» (omega arith), tt))))))));
+      is = stop (decimal c) (number c low) (rule_name s.rule) (hex_word s.pc) (hex_word s.addr) (decimal s.«module») (a_rule s.rule) (address s.pc pc) (address s.addr addr) (number s.«module» (omega arith));
+    }) refl refl
 
 -- ---- the end line
 
@@ -259,15 +320,32 @@ end_words c e = codes "end " ++ decimal c ++ codes " " ++ end_text e
 
 end_reads : (c : ℕ) (e : EndState) → c < 2 ^ 64 → IsEndState e → Reads (end_words c e) true []
 end_reads c EndsStopped low h =
-    reads _ Stopped true [] (record { first = codes "end"; more = decimal c ∷ codes "stopped" ∷ []; joins = simp append_assoc;
-        first_plain = refl; more_plain = (decimal_plain c low, (refl, tt)); is = stopped (decimal c) (number c low) }) refl refl
+    reads _ Stopped true [] (record {
+      first = codes "end";
+      more = decimal c ∷ codes "stopped" ∷ [];
+      joins = simp append_assoc;
+      first_plain = refl;
+      more_plain = (decimal_plain c low, (refl, tt));
+      is = stopped (decimal c) (number c low);
+    }) refl refl
 end_reads c (EndsInside id) low h =
-    reads _ Inside true [] (record { first = codes "end"; more = decimal c ∷ codes "inside" ∷ decimal id ∷ []; joins = simp append_assoc;
-        first_plain = refl; more_plain = (decimal_plain c low, (refl, (decimal_plain id (omega arith), tt))); is = inside (decimal c) (number c low) (decimal id) (number id (omega arith)) }) refl refl
+    reads _ Inside true [] (record {
+      first = codes "end";
+      more = decimal c ∷ codes "inside" ∷ decimal id ∷ [];
+      joins = simp append_assoc;
+      first_plain = refl;
+      more_plain = (decimal_plain c low, (refl, (decimal_plain id (omega arith), tt)));
+      is = inside (decimal c) (number c low) (decimal id) (number id (omega arith));
+    }) refl refl
 end_reads c (EndsOutside core) low h =
-    reads _ Outside true [] (record { first = codes "end"; more = decimal c ∷ codes "outside" ∷ register_words core 0 16;
-        joins = outside_joined c (registers_from core 0 16) (register_words core 0 16) (registers_joined core 0 16 (codes "outside"));
-        first_plain = refl; more_plain = (decimal_plain c low, (refl, registers_plain core 0 16 h)); is = outside (decimal c) (number c low) (register_words core 0 16) (registers_fit core 0 16 h) }) refl refl
+    reads _ Outside true [] (record {
+      first = codes "end";
+      more = decimal c ∷ codes "outside" ∷ register_words core 0 16;
+      joins = outside_joined c (registers_from core 0 16) (register_words core 0 16) (registers_joined core 0 16 (codes "outside"));
+      first_plain = refl;
+      more_plain = (decimal_plain c low, (refl, registers_plain core 0 16 h));
+      is = outside (decimal c) (number c low) (register_words core 0 16) (registers_fit core 0 16 h);
+    }) refl refl
   where
     outside_joined : (c : ℕ) (rest : List ℕ) (rs : List (List ℕ)) → codes "outside" ++ rest ≡ joined (codes "outside") rs
         → codes "end " ++ decimal c ++ codes " " ++ (codes "outside" ++ rest) ≡ joined (codes "end") (decimal c ∷ codes "outside" ∷ rs)
@@ -314,7 +392,7 @@ events_read n (e ∷ es) c end told low h =
     let t : IsTold e = told 0 e (omega arith) in
     ap (λ t. replies_from n (ended_lines t) (unended t)) (append_assoc (event_line e.cycle e.event) (events_text es) (end_line_at c end) ∙ event_line_is e (events_text es ++ end_line_at c end))
     ∙ line_read n (event_words e.cycle e.event) (events_text es ++ end_line_at c end) (sent_in e.event) (sent es) (event_reads e.cycle e.event t.0 t.1)
-        (events_read (n + 1) es c end (All-tail IsTold e es told) low h)
+    (events_read (n + 1) es c end (All-tail IsTold e es told) low h)
 
 pub traces_are_read : TracesAreRead
 unfolding replies_of

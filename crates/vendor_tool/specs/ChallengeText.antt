@@ -1,8 +1,9 @@
 -- What the text of challenges gives, lines `CYCLE NONCE`: the challenges, or the first refusal.
-use Rattle.std.specs.Prelude.{ℕ, ◌+◌, ◌==◌, nat_lt, Bool, if◌then◌else◌, List, [], ◌∷◌, ◌++◌, Option, Some, None, Result, Ok, Err}
+use Rattle.std.specs.Prelude.{ℕ, ◌+◌, ◌==◌, nat_lt, Bool, if◌then◌else◌, List, [], ◌∷◌, ◌++◌, codes, Option, Some, None, Result, Ok, Err}
+use Rattle.std.specs.Fmt.{decimal}
 use Rattle.std.specs.List.{before_first, after_first}
 use Rattle.texts.specs.Decimals.{read_decimal}
-use Rattle.texts.specs.Hexadecimals.{read_hex_key}
+use Rattle.texts.specs.Hexadecimals.{hex_key, read_hex_key}
 use Rattle.texts.specs.Lines.{lines_of}
 use Rattle.vendor_tool.specs.declared.Challenge.{Challenge}
 use Rattle.vendor_tool.specs.declared.ChallengeFault.{ChallengeFault}
@@ -19,6 +20,10 @@ at_cycle _ _ = None
 -- the challenge that a line writes: a cycle, a space, and the 32 digits of a nonce
 unfoldable pub challenge_of : List ℕ → Option Challenge
 challenge_of line = at_cycle (read_decimal MAX_CYCLE (before_first is_space line)) (read_hex_key (after_first is_space line))
+
+-- the text of a challenge
+abbrev pub challenge_text : Challenge → List ℕ
+challenge_text c = decimal c.cycle ++ codes " " ++ hex_key c.nonce
 
 -- these challenges before those that were read
 abbrev pub after_challenges : List Challenge → Result (List Challenge) ChallengeFault → Result (List Challenge) ChallengeFault

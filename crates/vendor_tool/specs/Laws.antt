@@ -1,4 +1,4 @@
--- The laws of traces and judgements. Each is what a function of this crate ensures.
+-- The laws of challenges, traces and judgements. Each is what a function of this crate ensures.
 use Rattle.std.specs.Prelude.{◌≡◌, ◌↔◌, ℕ, ◌+◌, ◌*◌, ◌^◌, ◌<◌, ◌≤◌, List, [], ◌∷◌, ◌++◌, length, take, drop, Ok}
 use Rattle.std.specs.List.{All, flat_map}
 use Rattle.mod_layout.specs.declared.Module.{Module}
@@ -6,6 +6,7 @@ use Rattle.mod_keys.specs.Keys.{module_key, tag_of}
 use Rattle.mod_keys.specs.Mac.{short_hmac}
 use Rattle.mod_keys.specs.declared.mac.TheConstants.{TAG_LENGTH}
 use Rattle.sm_words.specs.Words.{reg}
+use Rattle.texts.specs.Laws.{IsReadExactly}
 use Rattle.tracer.specs.declared.EndState.{EndState}
 use Rattle.tracer.specs.declared.EndState.TheVariants.{Stopped, Inside, Outside}
 use Rattle.tracer.specs.declared.Event.{Event}
@@ -13,8 +14,14 @@ use Rattle.tracer.specs.declared.Event.TheVariants.{Out}
 use Rattle.tracer.specs.Laws.{IsWord, IsEvent}
 use Rattle.tracer.specs.Lines.{event_line, end_line_at}
 use Rattle.vendor_tool.specs.declared.Judgement.TheVariants.{Genuine}
+use Rattle.vendor_tool.specs.Challenges.{IsChallenge}
+use Rattle.vendor_tool.specs.ChallengeText.{challenge_of, challenge_text}
 use Rattle.vendor_tool.specs.Replies.{replies_of}
 use Rattle.vendor_tool.specs.Report.{judgement}
+
+-- A line is read as a challenge exactly where it is that challenge's text.
+abbrev pub ChallengesAreRead : Type 0
+ChallengesAreRead = IsReadExactly challenge_of challenge_text IsChallenge
 
 -- ---- traces
 

@@ -22,9 +22,9 @@ pub fn report<S: Sink>(
     ensures genuine { IfOk result (λ all. all ≡ spec.all_genuine key.now challenges.now.list.items replies.now) }
     ensures lines { MatchResult result
         (λ _. Took S.taken S.faults S.sure sink.old sink.new
-            (spec.report_text key.now challenges.now.list.items replies.now))
+        (spec.report_text key.now challenges.now.list.items replies.now))
         (λ _. CutOff S.taken S.faults S.sure sink.old sink.new
-            (spec.report_text key.now challenges.now.list.items replies.now)) }
+        (spec.report_text key.now challenges.now.list.items replies.now)) }
 {
     let mut all_genuine = true;
     let mut place = 0;

@@ -1,6 +1,6 @@
-use Rattle.std.proofs.Common.{◌≡◌, ◌&&◌, ◌++◌, ◌∙◌, arith}
+use Rattle.std.proofs.Common.{drop, ◌≡◌, ◌+◌, ◌&&◌, ◌++◌, ◌∙◌, arith}
 use Rattle.sm_io.proofs.Putting.{took_then, cut_within}
-use Rattle.vendor_tool.specs.Report.{judgement_line, is_genuine}
+use Rattle.vendor_tool.specs.Report.{report_text, report_from, judgement_line, is_genuine}
 use Rattle.vendor_tool.proofs.Judging.{IsJudged, judged_at, next_line, line_done, genuine_more, and_first, and_not}
 use Rattle.vendor_tool.proofs.reporting.report.Goals as goal
 use Rattle.vendor_tool.proofs.reporting.report.Goals.{then-all_genuine, else-all_genuine}
@@ -11,7 +11,8 @@ returns-in-Err-clause-lines g c =
     let cs = c.args.challenges.now.list.items in
     let judged : IsJudged c.args.key.now c.args.replies.now c.judge-judgement.result cs c.loop-challenge.place =
     judged_at c.args.key.now c.args.replies.now c.judge-judgement.result c.deref-challenge-items.result.now cs c.loop-challenge.place c.loop-challenge.challenge-index i.at c.deref-challenge-items.ensures.value c.loop-challenge-test.true c.judge-judgement.ensures in
-    cut_within g.S.Sink.taken g.S.Sink.faults g.S.Sink.sure _ _ _ i.done (judgement_line c.loop-challenge.place c.judge-judgement.result) _ _
+    cut_within g.S.Sink.taken g.S.Sink.faults g.S.Sink.sure _ _ _ i.done (judgement_line c.loop-challenge.place c.judge-judgement.result)
+    (report_from c.args.key.now c.args.replies.now (c.loop-challenge.place + 1) (drop (c.loop-challenge.place + 1) cs)) (report_text c.args.key.now cs c.args.replies.now)
     (next_line c.args.key.now c.args.replies.now i.done _ c.judge-judgement.result cs c.loop-challenge.place judged i.text) i.took c.in-Err.ensures
 
 pub loop-challenge-preserved : goal.loop-challenge-preserved
