@@ -1,5 +1,5 @@
 -- What reading keeps from line to line.
-use Rattle.std.proofs.Common.{ℕ, ◌≡◌, ◌+◌, ◌≤◌, ◌<◌, ◌∙◌, ap, List, [], ◌∷◌, ◌++◌, append-nil, length, get_or, arith, refl, Some, Ok, Err}
+use Rattle.std.proofs.Common.{ℕ, ◌≡◌, ◌+◌, ◌≤◌, ◌<◌, ◌∙◌, ap, List, [], ◌∷◌, ◌++◌, append-nil, get_or, arith, refl, Some, Ok, Err}
 use Rattle.std.specs.Prelude.{All}
 use Rattle.std.proofs.lemmas.List.Elements.{All-push}
 use Rattle.texts.specs.Lines.{ended_lines, unended, lines_of}

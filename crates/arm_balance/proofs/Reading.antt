@@ -1,5 +1,5 @@
 -- Lemmas on the text of certificates.
-use Rattle.std.proofs.Common.{ℕ, zero, suc, ◌≡◌, ◌+◌, ◌<◌, ◌≤◌, Bool, true, false, cond, ◌&&◌, nat_le, nat_lt, nat_eq, List, [], ◌∷◌, ◌++◌, length, map, get_or, add-one, refl, ap, sym, ◌∙◌, arith, append_assoc, Option, Some, None, Result, Ok, Err}
+use Rattle.std.proofs.Common.{ℕ, zero, suc, ◌≡◌, ◌+◌, ◌<◌, ◌≤◌, Bool, true, false, cond, ◌&&◌, nat_le, nat_lt, nat_eq, List, [], ◌∷◌, ◌++◌, length, map, get_or, add-one, refl, ap, sym, arith, append_assoc, Some, None, Result, Ok, Err}
 use Rattle.std.specs.Prelude.{All}
 use Rattle.std.proofs.lemmas.Bool.Decides.{nat_tests}
 use Rattle.texts.specs.Decimals.{is_decimal, number_in, read_decimal}
@@ -7,7 +7,7 @@ use Rattle.texts.specs.Lines.{lines_of}
 use Rattle.arm_balance.specs.declared.Arm.{Arm}
 use Rattle.arm_balance.specs.declared.ArmsFault.{ArmsFault}
 use Rattle.arm_balance.specs.declared.ArmsFault.TheVariants.{TooMany}
-use Rattle.arm_balance.specs.Certificates.{BranchesRise, arm_of, after_arms, from_line, arms_from, arms_of}
+use Rattle.arm_balance.specs.Certificates.{BranchesRise, arm_of, after_arms, arms_from, arms_of}
 
 -- a decimal that is read is at most the bound
 pub decimal_most : (most n : ℕ) (text : List ℕ) → Some n ≡ read_decimal most text → n ≤ most

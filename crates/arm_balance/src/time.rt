@@ -1,6 +1,7 @@
 //! An arm: the instructions that are met from its start, up to the join.
 
-ghost use Rattle.std.specs.Prelude.{◌≡◌, ◌<◌, ◌≤◌, ◌+◌, ◌*◌, ◌&&◌, nat_le, not, Some, None, IfSome, IfNone, IsFalse, MatchResult, Ok, Err};
+ghost use Rattle.std.specs.Prelude.{◌≡◌, ◌<◌, ◌≤◌, ◌+◌, ◌*◌, ◌&&◌, nat_le, not, Some, None, IfSome, IfNone, IsFalse};
+ghost use Rattle.std.specs.Prelude.{MatchResult, Ok, Err};
 ghost use Rattle.sm_words.specs.Words.{add16};
 ghost use Rattle.insn_decode.specs.Code.{IsDecoded, is_unit, distance};
 ghost use Rattle.arm_balance.specs.Met.{met};

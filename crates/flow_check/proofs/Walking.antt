@@ -1,9 +1,9 @@
 -- A walk along an arm, step by step, and the step of a branch with its certificate.
-use Rattle.std.proofs.Common.{◌≡◌, ◌≢◌, ℕ, zero, suc, ◌+◌, ◌<◌, ◌≤◌, ◌==◌, List, [], ◌∷◌, ◌++◌, set, refl, sym, ap, ◌∙◌, subst, arith, Bool, true, false, cond, ◌&&◌, ◌||◌, not, Option, Some, None, is_some}
+use Rattle.std.proofs.Common.{◌≡◌, ◌≢◌, ℕ, zero, suc, ◌+◌, ◌<◌, ◌≤◌, ◌==◌, List, [], ◌∷◌, ◌++◌, refl, sym, ap, ◌∙◌, subst, arith, Bool, true, false, cond, ◌&&◌, ◌||◌, not, Option, Some, None, is_some}
 use Rattle.flow_check.specs.declared.returns.Returns.{Returns}
 use Rattle.std.specs.List.{slice_get}
 use Rattle.std.proofs.lemmas.Bool.Decides.{nat_tests}
-use Rattle.sm_words.specs.Words.{kept, add16}
+use Rattle.sm_words.specs.Words.{add16}
 use Rattle.insn_decode.specs.Code.{distance}
 use Rattle.insn_decode.specs.declared.insn.Insn.{Insn}
 use Rattle.insn_decode.specs.declared.insn.Insn.TheVariants.{Two, One, Jump, Reti, Unit as UnitOp}
@@ -13,19 +13,17 @@ use Rattle.mod_layout.specs.Table.{holds}
 use Rattle.arm_balance.specs.Met.{met}
 use Rattle.arm_balance.specs.Balance.{arm_on, met_cycles}
 use Rattle.arm_balance.specs.declared.Arm.{Arm}
-use Rattle.flow_rule.specs.declared.Val.{Val}
-use Rattle.flow_rule.specs.declared.Val.TheVariants.{Known}
 use Rattle.flow_rule.specs.declared.Label.{Label}
 use Rattle.flow_rule.specs.declared.Reason.TheVariants.{Arm as ArmInsn, ArmTime}
 use Rattle.flow_rule.specs.Rounds.{Found, Point, Step}
 use Rattle.flow_rule.specs.Values.{is_secret, val}
 use Rattle.flow_rule.specs.Does.{plan_val, write_reaches, past_val, does_val}
 use Rattle.flow_rule.specs.Flow.{because_if}
-use Rattle.flow_rule.specs.Arms.{written_regs, written_words, met_regs, met_words, blot, blot_core, Walk, ended, walked, walk_past, walk_on, walk, arm_start, find_arm, step_arm, step_branch, step_arms_by, step_arms}
+use Rattle.flow_rule.specs.Arms.{written_regs, written_words, met_regs, met_words, blot, blot_core, Walk, ended, walk_past, walk_on, walk, arm_start, find_arm, step_arm, step_branch, step_arms_by, step_arms}
 use Rattle.flow_check.specs.declared.step.Cause.{Cause}
 use Rattle.flow_check.specs.declared.arms.Crossing.{Crossing}
 use Rattle.flow_check.specs.declared.walk.Tally.{Tally}
-use Rattle.flow_check.specs.Causes.{lesser, noted, cause_of}
+use Rattle.flow_check.specs.Causes.{lesser, noted}
 use Rattle.flow_check.specs.Pairs.{point_of, addrs_of, points_at, label_at}
 use Rattle.flow_check.specs.Walks.{told, refused_at, branch_of, crossing_by, crossed}
 use Rattle.flow_check.proofs.Blots.{core_append, words_append}

@@ -1,5 +1,5 @@
 -- What the arms of a secret branch tell, gathered along the way.
-use Rattle.std.specs.Prelude.{ℕ, ◌+◌, ◌==◌, ◌&&◌, not, Bool, true, false, if◌then◌else◌, List, [], ◌∷◌, Option, Some, None}
+use Rattle.std.specs.Prelude.{ℕ, ◌+◌, ◌==◌, ◌&&◌, not, true, if◌then◌else◌, List, [], ◌∷◌, Option, Some, None}
 use Rattle.insn_decode.specs.declared.insn.Insn.{Insn}
 use Rattle.insn_decode.specs.declared.insn.Insn.TheVariants.{Jump}
 use Rattle.insn_decode.specs.declared.insn.OneOp.{OneOp}

@@ -63,7 +63,8 @@ fn blot_operand(op: OneOp, arg: Operand, core: &mut Core)
 
 /// The word that an access writes, before others.
 fn blot_reach(module: &Module, reach: &Reach, words: &mut [Val; 256])
-    ensures { (rest : List Reach) → blot (written_words module.now (write_reaches (reach.now ∷ rest))) words.old ≡ blot (written_words module.now (write_reaches rest)) words.new }
+    ensures { (rest : List Reach) → blot (written_words module.now (write_reaches (reach.now ∷ rest))) words.old
+        ≡ blot (written_words module.now (write_reaches rest)) words.new }
 {
     if reach.kind == Kind::Write
         && let Val::Known(addr) = reach.addr

@@ -1,6 +1,7 @@
 //! An arm of a secret branch, walked from its start to the join.
 
-ghost use Rattle.std.specs.Prelude.{◌≡◌, ◌≢◌, ◌≤◌, ◌<◌, ◌+◌, ◌*◌, suc, true, false, ℕ, Some, None, IfSome, slice_get, ◌||◌, ◌==◌, not};
+ghost use Rattle.std.specs.Prelude.{◌≡◌, ◌≢◌, ◌≤◌, ◌<◌, ◌+◌, ◌*◌, suc, true, false, ℕ, Some, None, IfSome, slice_get};
+ghost use Rattle.std.specs.Prelude.{◌||◌, ◌==◌, not};
 ghost use Rattle.mod_layout.specs.Table.{holds};
 ghost use Rattle.arm_balance.specs.Balance.{arm_on};
 ghost use Rattle.flow_rule.specs.Flow.{flow_step};
@@ -39,7 +40,15 @@ pub struct Tally {
 /// Tells what an instruction takes and writes.
 fn tell(module: &Module, insn: &Insn, reaches: &[Reach], time: u8, tally: &mut Tally)
     requires { tally.old.cycles + time < 4294967296 }
-    ensures { tally.new ≡ record tally.old { cycles = tally.old.cycles + time; label = record { core = blot_core (written_regs insn.now) tally.old.label.core; words = blot (written_words module.now (write_reaches reaches.now)) tally.old.label.words } } }
+    ensures { tally.new ≡ record tally.old {
+      cycles = tally.old.cycles + time;
+      label = record {
+        core = blot_core
+            (written_regs insn.now) tally.old.label.core;
+        words = blot
+            (written_words module.now (write_reaches reaches.now)) tally.old.label.words;
+      };
+    } }
 {
     tally.cycles += u32::from(time);
     blot_registers(insn, &mut tally.label.core);
@@ -72,8 +81,14 @@ fn walk_on(
     requires few { IfSome entries (λ n. n ≤ 64) }
     requires before { place.old.pc ≢ join }
     requires short { tally.old.cycles < 4294967000 }
-    ensures on { result ≡ true → IsStub module.now text.now entries → (branch steps : ℕ) → told (walk (flow_step module.now text.now) module.now text.now branch join (suc steps) (point_at place.old)) tally.old ≡ told (walk (flow_step module.now text.now) module.now text.now branch join steps (point_at place.new)) tally.new }
-    ensures ends { result ≡ false → IsStub module.now text.now entries → (branch steps : ℕ) → told (walk (flow_step module.now text.now) module.now text.now branch join (suc steps) (point_at place.old)) tally.old ≡ tally.new }
+    ensures on { result ≡ true → IsStub module.now text.now entries → (branch steps : ℕ) →
+        told (walk (flow_step module.now text.now) module.now text.now branch join (suc steps)
+        (point_at place.old)) tally.old ≡ told
+        (walk (flow_step module.now text.now) module.now text.now branch join steps
+        (point_at place.new)) tally.new }
+    ensures ends { result ≡ false → IsStub module.now text.now entries → (branch steps : ℕ) →
+        told (walk (flow_step module.now text.now) module.now text.now branch join (suc steps)
+        (point_at place.old)) tally.old ≡ tally.new }
     ensures cycles { tally.new.cycles ≤ tally.old.cycles + 6 }
 {
     let Some((insn, next)) = met_arm(module.text, text, place.pc, join) else {
@@ -122,7 +137,9 @@ pub fn walk(
 )
     requires few { IfSome entries (λ n. n ≤ 64) }
     requires start { tally.old.cycles ≡ 0 }
-    ensures { IsStub module.now text.now entries → (branch : ℕ) → tally.new ≡ told (walk (flow_step module.now text.now) module.now text.now branch join (suc join) (point_at from.now)) tally.old }
+    ensures { IsStub module.now text.now entries → (branch : ℕ) →
+        tally.new ≡ told (walk (flow_step module.now text.now) module.now text.now branch join (suc join)
+        (point_at from.now)) tally.old }
 {
     let mut place = *from;
     let mut left = u32::from(join) + 1;

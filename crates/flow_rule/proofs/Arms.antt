@@ -1,55 +1,45 @@
 -- One run along one arm.
-use Rattle.std.proofs.Common.{◌≡◌, ◌≢◌, ◌⊎◌, inl, inr, ⊎_elim, ℕ, zero, suc, ◌+◌, ◌-◌, ◌*◌, ◌/◌, ◌%◌, ◌<◌, ◌≤◌, List, [], ◌∷◌, ◌++◌, length, get_or, set, drop, map, refl, sym, ap, ◌∙◌, subst, arith, Bool, true, false, cond, nat_lt, nat_le, ◌==◌, ◌&&◌, ◌||◌, not, Option, Some, None, get_or-set_same, get_or-set_other, length-set, ℤ}
+use Rattle.std.proofs.Common.{◌≡◌, ◌≢◌, ◌⊎◌, inl, inr, ℕ, zero, suc, ◌+◌, ◌*◌, ◌%◌, ◌<◌, ◌≤◌, List, [], ◌∷◌, ◌++◌, length, set, refl, sym, ap, ◌∙◌, subst, arith, Bool, true, false, cond, nat_lt, ◌==◌, ◌&&◌, ◌||◌, not, Option, Some, None, get_or-set_same, get_or-set_other, length-set, ℤ}
 use Rattle.std.proofs.lemmas.Bool.{cases_lt}
 use Rattle.std.proofs.lemmas.List.{set_past, get_or_past}
 use Rattle.std.proofs.lemmas.Bool.Decides.{nat_tests}
-use Rattle.std.proofs.lemmas.Grind.{same_number_lists}
-use Rattle.sm_words.specs.Words.{reg, put, kept, add16, nth, word_at, bit}
-use Rattle.insn_decode.specs.Code.{insn_of, length_of}
+use Rattle.sm_words.specs.Words.{reg, put, kept, add16, nth}
+use Rattle.insn_decode.specs.Code.{length_of}
 use Rattle.cycle_table.specs.Cycles.{cycles_of}
-use Rattle.cpu_step.specs.Effect.{value_of, into_register, set_flags, written, with_flags, confined_sr, does, does_freely, confined, Done, jumps}
+use Rattle.cpu_step.specs.Effect.{value_of, into_register, set_flags, written, with_flags, confined_sr, does_freely, confined, jumps}
 use Rattle.insn_decode.specs.Code.{distance}
 use Rattle.cpu_step.specs.Plan.{stepped, lowered, writes_dst, plan, past}
 use Rattle.cpu_step.specs.declared.result.Computed.{Computed}
 use Rattle.sm_words.specs.declared.width.Width.{Width}
-use Rattle.sm_words.specs.declared.width.Width.TheVariants.{Byte, Word}
 use Rattle.insn_decode.specs.declared.insn.TwoOp.{TwoOp}
 use Rattle.insn_decode.specs.declared.insn.OneOp.{OneOp}
 use Rattle.insn_decode.specs.declared.insn.OneOp.TheVariants.{Rrc, Swpb, Rra, Sxt, Push, Call}
 use Rattle.insn_decode.specs.declared.insn.Operand.{Operand}
-use Rattle.insn_decode.specs.declared.insn.Operand.TheVariants.{Reg, Const, Imm, Indexed, Symbolic, Absolute, Indirect, Increment}
+use Rattle.insn_decode.specs.declared.insn.Operand.TheVariants.{Reg, Increment}
 use Rattle.insn_decode.specs.declared.insn.Insn.{Insn}
 use Rattle.insn_decode.specs.declared.insn.Insn.TheVariants.{Two, One, Jump, Reti, Unit as UnitOp}
-use Rattle.pc_access.specs.declared.Access.{Access}
 use Rattle.mod_layout.specs.declared.Module.{Module}
 use Rattle.mod_layout.specs.declared.Section.{Section}
-use Rattle.mod_layout.specs.Table.{holds, size_of}
-use Rattle.cpu_step.specs.Fetched.{insn_at, later_word}
-use Rattle.attest.specs.Accesses.{reads_of, writes_of}
-use Rattle.attest.specs.Units.{Doer, UnitName, Unprotect, Protect, Attest, Tag, IdOf, OwnId, CallerId, unit_named, Effect, unit_plan, unit_effect, answer}
-use Rattle.cpu_step.specs.Asked.{asks, effect}
-use Rattle.cpu_step.specs.Lone.{Job, Lone, lone_byte, lone_who, is_alone, unit_alone, all_inside, may_do, if_home, next_first, next_insn, text_word, lone_read, lone_writes, lone_does, Doing, Waits, Closes, Leaves, Breaks, Does, doing, doing_by, does_or_breaks, lone_step, lone_step_by, job_of}
+use Rattle.mod_layout.specs.Table.{holds}
+use Rattle.cpu_step.specs.Asked.{asks}
+use Rattle.cpu_step.specs.Lone.{Job, Lone, lone_step, job_of}
 use Rattle.flow_rule.specs.declared.Val.{Val}
 use Rattle.flow_rule.specs.declared.Val.TheVariants.{Known, Away, Public, Secret}
 use Rattle.flow_rule.specs.Values.{is_secret, val, put_val, kept_val}
-use Rattle.flow_rule.specs.declared.Reason.TheVariants.{SecretAtExit, SecretBranch, Arm as ArmInsn, ArmTime}
-use Rattle.flow_rule.specs.declared.Label.{Label}
-use Rattle.flow_rule.specs.Rounds.{Pair, Point, Found, Step}
-use Rattle.flow_rule.specs.declared.Reach.{Reach}
-use Rattle.flow_rule.specs.Does.{plan_val, does_val, past_val, read_val, writes_val, read_reaches, write_reaches, Done_val}
-use Rattle.flow_rule.specs.Flow.{because, because_if, reach_reasons, exit_reasons, leaves, goes_in, goes_by, goes, both, also, Turn, turn_of, step_plain, step_jump, step_unit, step_insn, step_of}
-use Rattle.flow_rule.proofs.Meaning.{Agrees, same}
-use Rattle.flow_rule.proofs.Cores.{Even_section, AgreeCore, Ends, put_agrees, put_other_reg, mode, confined_small, confined_kept, confined_self, confined_agrees, ends_so}
-use Rattle.flow_rule.proofs.Effects.{Regular, AgreeList, DoneAgrees, one_does, two_does, past_agrees}
-use Rattle.flow_rule.proofs.Plans.{Reached, Fixed, fixed, inside, one_reached, two_reached, none_left, none_right, none_if}
+use Rattle.flow_rule.specs.declared.Reason.TheVariants.{SecretBranch, Arm as ArmInsn, ArmTime}
+use Rattle.flow_rule.specs.Rounds.{Point, Found, Step}
+use Rattle.flow_rule.specs.Does.{does_val, past_val}
+use Rattle.flow_rule.specs.Flow.{because_if, goes, both, also, step_plain, step_jump, step_insn, step_of}
+use Rattle.flow_rule.proofs.Meaning.{Agrees}
+use Rattle.flow_rule.proofs.Cores.{AgreeCore, put_other_reg, mode, confined_kept}
+use Rattle.flow_rule.proofs.Plans.{none_left, none_right, none_if}
 use Rattle.arm_balance.specs.declared.Arm.{Arm}
-use Rattle.flow_rule.specs.Arms.{stepped_regs, written_reg, written_regs, written_words, blot, blot_core, Walk, ended, refused, met_regs, met_words, walked, walk_past, walk_on, walk, arm_start, step_arm, find_arm, step_branch, step_arms_by, step_arms}
-use Rattle.arm_balance.specs.Met.{text_byte, word_in, whole, met_first, met}
-use Rattle.arm_balance.specs.Balance.{not_pc, next_if, arm_next, met_cycles}
-use Rattle.flow_rule.proofs.Words.{NotIn, word, writes_keep, Shape, IsData, AgreeData, reads_agree, writes_agree, word_text}
-use Rattle.flow_rule.proofs.Labelling.{Under, Among, among_left, among_right}
-use Rattle.flow_rule.proofs.Runs.{at_rest, Busy, Passes, Ending, Stays, Left, Shut, Crossing, Sound, Standing}
-use Rattle.flow_rule.proofs.Instruction.{AgreeAt, RegularInsn, Single, Here, Gone, after, does_it, jump_so, past_pc, even, Parts, plain_parts, plain_kept, two_alike, one_alike, way_agrees, way_single, way, way_val, fetched, step_crossing}
+use Rattle.flow_rule.specs.Arms.{stepped_regs, written_reg, written_regs, blot, blot_core, Walk, ended, met_regs, met_words, walked, walk_past, walk_on, walk, arm_start, step_arm, find_arm, step_branch, step_arms_by, step_arms}
+use Rattle.arm_balance.specs.Met.{met}
+use Rattle.arm_balance.specs.Balance.{next_if, arm_next, met_cycles}
+use Rattle.flow_rule.proofs.Words.{NotIn, word, Shape, IsData, AgreeData}
+use Rattle.flow_rule.proofs.Runs.{at_rest, Passes, Stays, Crossing, Standing}
+use Rattle.flow_rule.proofs.Instruction.{AgreeAt, Single, Here, Gone, after, does_it, jump_so, past_pc, Parts, plain_parts, plain_kept, two_alike, one_alike, way_agrees, way_single, way_val, fetched}
 use Rattle.flow_rule.proofs.Decoding.{met_regular, two_cycles_some}
 use Rattle.flow_rule.proofs.Open.{next_core, conf_reg}
 

@@ -1,5 +1,5 @@
 -- A text looked at without certificates.
-use Rattle.std.proofs.Common.{◌≡◌, ℕ, List, [], ◌∷◌, refl, sym, subst, Bool, true, false, ◌&&◌, not, ◌==◌, cond, Option, Some, None}
+use Rattle.std.proofs.Common.{◌≡◌, ℕ, List, [], refl, sym, subst, Bool, true, false, ◌&&◌, not, ◌==◌, cond, Option, Some, None}
 use Rattle.std.proofs.Math.Path.{fun_ext}
 use Rattle.insn_decode.specs.declared.insn.Insn.{Insn}
 use Rattle.insn_decode.specs.declared.insn.Insn.TheVariants.{Two, One, Jump, Reti, Unit as UnitOp}
@@ -7,7 +7,7 @@ use Rattle.mod_layout.specs.declared.Module.{Module}
 use Rattle.arm_balance.specs.Met.{met}
 use Rattle.flow_rule.specs.declared.Verdict.{Verdict}
 use Rattle.flow_rule.specs.Values.{is_secret, val}
-use Rattle.flow_rule.specs.Rounds.{Point, Step}
+use Rattle.flow_rule.specs.Rounds.{Point}
 use Rattle.flow_rule.specs.Flow.{flow_step, start_of, Decided, VerdictOf}
 use Rattle.flow_rule.specs.Arms.{step_arms_by, step_arms, flow_with, VerdictWith}
 

@@ -1,5 +1,5 @@
 -- From the start of a text with a stub to its word 10, or out again.
-use Rattle.std.proofs.Common.{◌≡◌, ◌≢◌, ◌⊎◌, inl, inr, ⊎_elim, ℕ, zero, suc, ◌+◌, ◌-◌, ◌*◌, ◌/◌, ◌%◌, ◌<◌, ◌≤◌, List, [], ◌∷◌, ◌++◌, length, get_or, set, map, refl, sym, ap, ◌∙◌, subst, arith, Bool, true, false, cond, nat_lt, nat_le, ◌==◌, ◌&&◌, ◌||◌, not, Option, Some, None, get_or-set_same, get_or-set_other, length-set, replicate, ℤ, pos, negsuc}
+use Rattle.std.proofs.Common.{◌≡◌, ◌⊎◌, inl, inr, ℕ, zero, suc, ◌+◌, ◌-◌, ◌*◌, ◌%◌, ◌<◌, ◌≤◌, List, [], length, refl, sym, ap, ◌∙◌, subst, arith, Bool, true, false, cond, nat_lt, nat_le, ◌==◌, ◌&&◌, Some, get_or-set_same, length-set, ℤ, pos, negsuc}
 use Rattle.std.proofs.lemmas.Bool.{cases_lt}
 use Rattle.std.proofs.lemmas.Bool.Decides.{nat_tests}
 use Rattle.sm_words.specs.Words.{reg, put, kept, add16, nth, word_at, bit}
@@ -8,46 +8,24 @@ use Rattle.sm_words.specs.Sums.{sum_of, low, complement, one_if}
 use Rattle.cycle_table.specs.Cycles.{cycles_of}
 use Rattle.cpu_step.specs.Effect.{does, does_freely, confined, confined_sr, jumps, two_result, with_flags}
 use Rattle.insn_decode.specs.Code.{distance}
-use Rattle.cpu_step.specs.Plan.{plan, past, lowered}
-use Rattle.sm_words.specs.declared.width.Width.TheVariants.{Byte, Word}
-use Rattle.insn_decode.specs.declared.insn.TwoOp.TheVariants.{Mov, Add, Cmp}
-use Rattle.insn_decode.specs.declared.insn.OneOp.TheVariants.{Call}
-use Rattle.insn_decode.specs.declared.insn.Operand.TheVariants.{Reg, Const, Imm, Indexed, Absolute}
+use Rattle.cpu_step.specs.Plan.{plan, past}
+use Rattle.sm_words.specs.declared.width.Width.TheVariants.{Word}
+use Rattle.insn_decode.specs.declared.insn.TwoOp.TheVariants.{Mov, Cmp}
+use Rattle.insn_decode.specs.declared.insn.Operand.TheVariants.{Reg, Const, Imm}
 use Rattle.insn_decode.specs.declared.insn.Insn.{Insn}
-use Rattle.insn_decode.specs.declared.insn.Insn.TheVariants.{Two, One, Jump, Reti, Unit as UnitOp}
-use Rattle.pc_access.specs.declared.Kind.TheVariants.{Fetch, Read, Write}
-use Rattle.pc_access.specs.declared.Access.{Access}
+use Rattle.insn_decode.specs.declared.insn.Insn.TheVariants.{Two, Jump}
 use Rattle.mod_layout.specs.declared.Module.{Module}
-use Rattle.mod_layout.specs.declared.Section.{Section}
-use Rattle.mod_layout.specs.Table.{holds, size_of}
-use Rattle.cpu_step.specs.Fetched.{insn_at, later_word}
+use Rattle.mod_layout.specs.Table.{holds}
 use Rattle.cpu_step.specs.Asked.{asks, effect}
-use Rattle.cpu_step.specs.Lone.{Job, Lone, lone_byte, lone_does, lone_writes, all_inside, lone_who, Does, doing, job_of, outcome, alike, starts, Entry_of, Running, later, is_alone}
-use Rattle.flow_rule.specs.declared.Val.{Val}
-use Rattle.flow_rule.specs.declared.Val.TheVariants.{Known, Away, Public, Secret}
-use Rattle.flow_rule.specs.Values.{val, put_val}
-use Rattle.flow_rule.specs.declared.Label.{Label}
-use Rattle.flow_rule.specs.Rounds.{Pair, Point, Found, Step}
-use Rattle.flow_rule.specs.declared.Reach.{Reach}
-use Rattle.flow_rule.specs.Does.{writes_val, past_val, lowered_val}
-use Rattle.flow_rule.specs.Flow.{no_secret, begins, start_of, flow_step, because_if, word_of, words_are, table_fine, entries_of, has_stub, word_number, is_shut, is_open, shut_reasons, shut_if, to_entries, step_entries, step_stub, step_of, step_insn, step_plain, call_entry, reach_reasons, calls, Turn}
-use Rattle.arm_balance.specs.Met.{text_byte, word_in, whole, met_first, met}
+use Rattle.cpu_step.specs.Lone.{Job, lone_does, all_inside, lone_who, Does, doing, job_of, outcome, alike, Running, later, is_alone}
+use Rattle.arm_balance.specs.Met.{text_byte, met}
 use Rattle.entry_stubs.specs.Stub.{stub_front}
-use Rattle.flow_rule.proofs.Meaning.{Agrees}
-use Rattle.flow_rule.proofs.Cores.{AgreeCore, put_agrees, put_other_reg, confined_agrees, ends_so, carry_bit, confined_small, confined_kept, away_even}
-use Rattle.flow_rule.proofs.Effects.{AgreeList, past_agrees, lowered_agrees}
-use Rattle.flow_rule.proofs.Plans.{Reached, AgreeAccess, Fixed, fixed, none_left, none_right, none_if}
-use Rattle.flow_rule.proofs.Words.{Shape, IsData, AgreeData, writes_agree, word_text}
-use Rattle.flow_rule.proofs.Labelling.{Under, Among}
-use Rattle.flow_rule.proofs.Runs.{passes_near, passes_far, crossing_alike, left_alike, always_alike, at_rest, Passes, Ending, Stays, Left, Shut, Crossing, Sound, Standing}
-use Rattle.flow_rule.proofs.Decoding.{met_regular}
-use Rattle.flow_rule.proofs.Instruction.{AgreeAt, weaken_at, RegularInsn, Landing, In, Out, after, does_it, fetched, does_so, Does_alike, Parts, plain_parts, two_alike, one_alike, jump_so, even, step_crossing}
+use Rattle.flow_rule.proofs.Cores.{put_other_reg, carry_bit, confined_small, confined_kept, away_even}
+use Rattle.flow_rule.proofs.Words.{Shape}
+use Rattle.flow_rule.proofs.Runs.{passes_near, passes_far, crossing_alike, left_alike, at_rest, Passes}
+use Rattle.flow_rule.proofs.Instruction.{after, does_it, fetched, jump_so, even}
 use Rattle.flow_rule.proofs.Stub.{StubFacts, met_one, met_two}
-use Rattle.std.proofs.lemmas.Nat.{and_mod}
-use Rattle.sm_words.specs.Words.{IsCore}
-use Rattle.cpu_step.specs.Lone.{IsEntry}
-use Rattle.flow_rule.proofs.Labelling.{Closed}
-use Rattle.flow_rule.proofs.Open.{next_core, conf_reg, past_pc_of, AtStub, weaken_stub, stub_crossing}
+use Rattle.flow_rule.proofs.Open.{next_core, conf_reg, past_pc_of}
 
 -- what the stub's first words keep
 pub record Calm (c : List ℕ) (pc six seven : ℕ) : Type 0 where

@@ -1,6 +1,6 @@
 use Rattle.arm_balance.specs.Met.{text_byte, word_in, whole, met_first, met}
 -- An increment that was decoded is none of SR.
-use Rattle.std.proofs.Common.{◌≡◌, ◌≢◌, ℕ, zero, suc, ◌+◌, ◌<◌, ◌-◌, ◌*◌, ◌/◌, ◌%◌, List, [], ◌∷◌, refl, sym, ap, ◌∙◌, subst, arith, Bool, true, false, cond, nat_lt, ◌==◌, ◌&&◌, Option, Some, None}
+use Rattle.std.proofs.Common.{◌≡◌, ◌≢◌, ℕ, zero, suc, ◌<◌, ◌-◌, ◌/◌, ◌%◌, List, [], ◌∷◌, refl, subst, arith, Bool, true, false, cond, nat_lt, ◌==◌, ◌&&◌, Option, Some, None}
 use Rattle.std.specs.Prelude.{slice_get}
 use Rattle.std.proofs.lemmas.Bool.Decides.{nat_tests}
 use Rattle.sm_words.specs.Words.{word_at, nth}
@@ -8,15 +8,15 @@ use Rattle.insn_decode.specs.Code.{source_row, source_of, dest_of, words_of, wid
 use Rattle.sm_words.specs.declared.width.Width.{Width}
 use Rattle.insn_decode.specs.declared.insn.TwoOp.{TwoOp}
 use Rattle.insn_decode.specs.declared.insn.OneOp.{OneOp}
-use Rattle.insn_decode.specs.declared.insn.OneOp.TheVariants.{Rrc, Swpb, Rra, Sxt, Push, Call}
+use Rattle.insn_decode.specs.declared.insn.OneOp.TheVariants.{Push, Call}
 use Rattle.sm_words.specs.declared.width.Width.TheVariants.{Byte, Word}
-use Rattle.cycle_table.specs.Cycles.{cycles_of, two_row, two_column, one_row, one_column}
+use Rattle.cycle_table.specs.Cycles.{cycles_of, two_row}
 use Rattle.insn_decode.specs.declared.insn.Operand.{Operand}
 use Rattle.insn_decode.specs.declared.insn.Operand.TheVariants.{Reg, Const, Imm, Indexed, Symbolic, Absolute, Indirect, Increment}
 use Rattle.insn_decode.specs.declared.insn.Insn.{Insn}
 use Rattle.insn_decode.specs.declared.insn.Insn.TheVariants.{Two, One, Jump, Reti, Unit as UnitOp}
 use Rattle.mod_layout.specs.declared.Module.{Module}
-use Rattle.cpu_step.specs.Fetched.{insn_at, later_word}
+use Rattle.cpu_step.specs.Fetched.{insn_at}
 use Rattle.flow_rule.proofs.Effects.{Regular}
 use Rattle.flow_rule.proofs.Instruction.{RegularInsn}
 

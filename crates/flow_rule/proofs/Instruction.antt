@@ -1,49 +1,44 @@
 -- One instruction of two runs that stand at one point.
-use Rattle.std.proofs.Common.{◌≡◌, ◌≢◌, ◌⊎◌, inl, inr, ⊎_elim, ℕ, zero, suc, ◌+◌, ◌-◌, ◌*◌, ◌/◌, ◌%◌, ◌<◌, ◌≤◌, List, [], ◌∷◌, ◌++◌, length, get_or, set, drop, map, refl, sym, ap, ◌∙◌, subst, arith, Bool, true, false, cond, nat_lt, nat_le, ◌==◌, ◌&&◌, ◌||◌, not, Option, Some, None, get_or-set_same, get_or-set_other, ℤ}
+use Rattle.std.proofs.Common.{◌≡◌, ◌⊎◌, inl, inr, ℕ, zero, suc, ◌+◌, ◌-◌, ◌*◌, ◌/◌, ◌%◌, ◌<◌, ◌≤◌, List, [], ◌∷◌, ◌++◌, length, map, refl, sym, ap, ◌∙◌, subst, arith, Bool, true, false, cond, nat_lt, ◌==◌, ◌&&◌, ◌||◌, not, Option, Some, None, get_or-set_same, ℤ}
 use Rattle.std.proofs.lemmas.Bool.{cases_lt}
 use Rattle.std.proofs.lemmas.Bool.Decides.{nat_tests}
 use Rattle.std.proofs.lemmas.Grind.{same_number_lists}
-use Rattle.sm_words.specs.Words.{reg, put, kept, add16, nth, word_at, bit}
+use Rattle.sm_words.specs.Words.{reg, put, kept, add16, word_at}
 use Rattle.insn_decode.specs.Code.{insn_of, length_of}
 use Rattle.cycle_table.specs.Cycles.{cycles_of}
-use Rattle.cpu_step.specs.Effect.{jumped, does, does_freely, confined, Done, jumps}
+use Rattle.cpu_step.specs.Effect.{jumped, does, does_freely, confined, jumps}
 use Rattle.insn_decode.specs.Code.{distance}
 use Rattle.cpu_step.specs.Plan.{plan, past}
 use Rattle.sm_words.specs.declared.width.Width.{Width}
-use Rattle.sm_words.specs.declared.width.Width.TheVariants.{Byte, Word}
 use Rattle.insn_decode.specs.declared.insn.TwoOp.{TwoOp}
 use Rattle.insn_decode.specs.declared.insn.OneOp.{OneOp}
 use Rattle.insn_decode.specs.declared.insn.Operand.{Operand}
-use Rattle.insn_decode.specs.declared.insn.Operand.TheVariants.{Reg, Const, Imm, Indexed, Symbolic, Absolute, Indirect, Increment}
 use Rattle.insn_decode.specs.declared.insn.Insn.{Insn}
 use Rattle.insn_decode.specs.declared.insn.Insn.TheVariants.{Two, One, Jump, Reti, Unit as UnitOp}
 use Rattle.pc_access.specs.declared.Access.{Access}
 use Rattle.mod_layout.specs.declared.Module.{Module}
-use Rattle.mod_layout.specs.declared.Section.{Section}
 use Rattle.mod_layout.specs.Table.{holds, size_of}
 use Rattle.cpu_step.specs.Fetched.{insn_at, later_word}
 use Rattle.attest.specs.Accesses.{reads_of, writes_of}
-use Rattle.attest.specs.Units.{Doer, UnitName, Unprotect, Protect, Attest, Tag, IdOf, OwnId, CallerId, unit_named, Effect, unit_plan, unit_effect, answer}
+use Rattle.attest.specs.Units.{UnitName, Unprotect, Protect, Attest, Tag, IdOf, OwnId, CallerId, unit_named, Effect, unit_plan, unit_effect}
 use Rattle.cpu_step.specs.Asked.{asks, effect}
-use Rattle.cpu_step.specs.Lone.{Job, Lone, lone_byte, lone_who, is_alone, unit_alone, all_inside, may_do, if_home, next_first, next_insn, text_word, lone_read, lone_writes, lone_does, Doing, Waits, Closes, Leaves, Breaks, Does, doing, doing_by, does_or_breaks, lone_step, lone_step_by, job_of}
+use Rattle.cpu_step.specs.Lone.{Job, Lone, lone_byte, lone_who, is_alone, unit_alone, all_inside, may_do, if_home, next_first, next_insn, lone_read, lone_writes, lone_does, Does, doing, doing_by, does_or_breaks, lone_step_by, job_of}
 use Rattle.flow_rule.specs.declared.Val.{Val}
 use Rattle.flow_rule.specs.declared.Val.TheVariants.{Known, Away, Public, Secret}
 use Rattle.flow_rule.specs.Values.{is_secret, val, put_val}
 use Rattle.flow_rule.specs.declared.Reason.TheVariants.{SecretAtExit, SecretBranch}
-use Rattle.flow_rule.specs.declared.Label.{Label}
-use Rattle.flow_rule.specs.Rounds.{Pair, Point, Found, Step}
-use Rattle.flow_rule.specs.declared.Reach.{Reach}
-use Rattle.flow_rule.specs.Does.{plan_val, does_val, past_val, read_val, writes_val, read_reaches, write_reaches, Done_val}
-use Rattle.flow_rule.specs.Flow.{because, because_if, reach_reasons, exit_reasons, leaves, goes_in, goes_by, goes, goes_unless, both, also, Turn, turn_of, step_plain, step_jump, step_unit, step_insn, step_of}
+use Rattle.flow_rule.specs.Rounds.{Point, Step}
+use Rattle.flow_rule.specs.Does.{plan_val, does_val, past_val, read_val, writes_val, read_reaches, write_reaches}
+use Rattle.flow_rule.specs.Flow.{because, because_if, reach_reasons, exit_reasons, goes_in, goes_by, goes, goes_unless, both, also, turn_of, step_plain, step_jump, step_unit, step_insn, step_of}
 use Rattle.flow_rule.proofs.Meaning.{Agrees, same}
-use Rattle.flow_rule.proofs.Cores.{Even_section, AgreeCore, Ends, put_agrees, put_other_reg, confined_agrees, ends_so}
+use Rattle.flow_rule.proofs.Cores.{Even_section, AgreeCore, put_agrees, put_other_reg, confined_agrees, ends_so}
 use Rattle.flow_rule.proofs.Effects.{Regular, AgreeList, DoneAgrees, one_does, two_does, past_agrees}
-use Rattle.flow_rule.proofs.Plans.{Reached, Fixed, fixed, inside, one_reached, two_reached, none_left, none_right, none_if}
+use Rattle.flow_rule.proofs.Plans.{Reached, fixed, inside, one_reached, two_reached, none_left, none_right, none_if}
 use Rattle.flow_rule.specs.Arms.{written_words}
 use Rattle.arm_balance.specs.Met.{text_byte, word_in, whole, met_first, met}
 use Rattle.flow_rule.proofs.Words.{NotIn, word, writes_keep, Shape, IsData, AgreeData, reads_agree, writes_agree, word_text}
 use Rattle.flow_rule.proofs.Labelling.{Under, Among, among_left, among_right}
-use Rattle.flow_rule.proofs.Runs.{at_rest, Busy, Passes, Ending, Stays, Left, Shut, Crossing, Sound, Standing}
+use Rattle.flow_rule.proofs.Runs.{at_rest, Busy, Passes, Ending, Stays, Left, Shut, Crossing}
 
 pub record AgreeAt (m : Module) (x : Point) (ca da cb db : List ℕ) : Type 0 where
   pub pc_a : reg ca 0 ≡ x.pair.addr

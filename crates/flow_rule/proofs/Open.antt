@@ -1,5 +1,5 @@
 -- The steps of a text with a stub.
-use Rattle.std.proofs.Common.{◌≡◌, ◌≢◌, ◌⊎◌, inl, inr, ⊎_elim, ℕ, zero, suc, ◌+◌, ◌-◌, ◌*◌, ◌/◌, ◌%◌, ◌<◌, ◌≤◌, List, [], ◌∷◌, ◌++◌, length, get_or, set, map, refl, sym, ap, ◌∙◌, subst, arith, Bool, true, false, cond, nat_lt, nat_le, ◌==◌, ◌&&◌, ◌||◌, not, Option, Some, None, get_or-set_same, get_or-set_other, length-set}
+use Rattle.std.proofs.Common.{◌≡◌, ◌≢◌, ◌⊎◌, inl, inr, ℕ, zero, suc, ◌+◌, ◌*◌, ◌%◌, ◌<◌, ◌≤◌, List, [], ◌∷◌, length, refl, sym, ap, ◌∙◌, subst, arith, Bool, true, false, cond, nat_le, ◌==◌, ◌&&◌, ◌||◌, not, Some, get_or-set_same, length-set}
 use Rattle.std.proofs.lemmas.Bool.{cases_lt}
 use Rattle.std.proofs.lemmas.Bool.Decides.{nat_tests}
 use Rattle.sm_words.specs.Words.{reg, put, kept, add16, nth, word_at, bit}
@@ -8,40 +8,36 @@ use Rattle.sm_words.specs.Sums.{low}
 use Rattle.cycle_table.specs.Cycles.{cycles_of}
 use Rattle.cpu_step.specs.Effect.{value_of, does, does_freely, confined, confined_sr, two_result, set_flags, with_flags}
 use Rattle.cpu_step.specs.Plan.{plan, past, lowered}
-use Rattle.sm_words.specs.declared.width.Width.TheVariants.{Byte, Word}
+use Rattle.sm_words.specs.declared.width.Width.TheVariants.{Word}
 use Rattle.insn_decode.specs.declared.insn.TwoOp.TheVariants.{Mov, Add}
 use Rattle.insn_decode.specs.declared.insn.OneOp.TheVariants.{Call}
-use Rattle.insn_decode.specs.declared.insn.Operand.TheVariants.{Reg, Const, Imm, Indexed, Absolute}
+use Rattle.insn_decode.specs.declared.insn.Operand.TheVariants.{Reg, Imm, Indexed, Absolute}
 use Rattle.insn_decode.specs.declared.insn.Insn.{Insn}
-use Rattle.insn_decode.specs.declared.insn.Insn.TheVariants.{Two, One, Jump, Reti, Unit as UnitOp}
-use Rattle.pc_access.specs.declared.Kind.TheVariants.{Fetch, Read, Write}
+use Rattle.insn_decode.specs.declared.insn.Insn.TheVariants.{Two, One}
+use Rattle.pc_access.specs.declared.Kind.TheVariants.{Write}
 use Rattle.pc_access.specs.declared.Access.{Access}
 use Rattle.mod_layout.specs.declared.Module.{Module}
-use Rattle.mod_layout.specs.declared.Section.{Section}
-use Rattle.mod_layout.specs.Table.{holds, size_of}
-use Rattle.cpu_step.specs.Fetched.{insn_at, later_word}
+use Rattle.mod_layout.specs.Table.{holds}
 use Rattle.cpu_step.specs.Asked.{asks, effect}
 use Rattle.cpu_step.specs.Lone.{Job, Lone, lone_byte, lone_does, lone_writes, all_inside, lone_who, Does, doing, job_of}
 use Rattle.flow_rule.specs.declared.Val.{Val}
-use Rattle.flow_rule.specs.declared.Val.TheVariants.{Known, Away, Public, Secret}
+use Rattle.flow_rule.specs.declared.Val.TheVariants.{Known}
 use Rattle.flow_rule.specs.Values.{val, put_val}
 use Rattle.flow_rule.specs.declared.Reason.TheVariants.{UnknownTarget}
-use Rattle.flow_rule.specs.declared.Label.{Label}
-use Rattle.flow_rule.specs.Rounds.{Pair, Point, Found, Step}
+use Rattle.flow_rule.specs.Rounds.{Point}
 use Rattle.flow_rule.specs.declared.Reach.{Reach}
 use Rattle.flow_rule.specs.Does.{writes_val, past_val, lowered_val}
-use Rattle.flow_rule.specs.Flow.{because_if, word_of, words_are, table_fine, entries_of, has_stub, word_number, is_shut, is_open, shut_reasons, shut_if, to_entries, step_entries, step_stub, step_of, step_insn, step_plain, call_entry, reach_reasons, calls, Turn}
-use Rattle.arm_balance.specs.Met.{text_byte, word_in, whole, met_first, met}
+use Rattle.flow_rule.specs.Flow.{because_if, word_of, entries_of, word_number, is_shut, is_open, shut_reasons, shut_if, to_entries, step_entries, step_stub, step_of, step_insn, step_plain, call_entry, reach_reasons, calls, Turn}
+use Rattle.arm_balance.specs.Met.{text_byte, met}
 use Rattle.entry_stubs.specs.Stub.{stub_front}
-use Rattle.flow_rule.proofs.Meaning.{Agrees}
 use Rattle.flow_rule.proofs.Cores.{AgreeCore, put_agrees, put_other_reg, confined_agrees, ends_so}
-use Rattle.flow_rule.proofs.Effects.{AgreeList, past_agrees, lowered_agrees}
-use Rattle.flow_rule.proofs.Plans.{Reached, AgreeAccess, Fixed, fixed, none_left, none_right, none_if}
-use Rattle.flow_rule.proofs.Words.{Shape, IsData, AgreeData, writes_agree, word_text}
+use Rattle.flow_rule.proofs.Effects.{past_agrees, lowered_agrees}
+use Rattle.flow_rule.proofs.Plans.{Fixed, fixed, none_left, none_right, none_if}
+use Rattle.flow_rule.proofs.Words.{Shape, AgreeData, writes_agree, word_text}
 use Rattle.flow_rule.proofs.Labelling.{Under, Among}
-use Rattle.flow_rule.proofs.Runs.{at_rest, Passes, Ending, Stays, Left, Shut, Crossing, Sound, Standing}
+use Rattle.flow_rule.proofs.Runs.{at_rest, Ending, Stays, Left, Shut, Crossing}
 use Rattle.flow_rule.proofs.Decoding.{met_regular}
-use Rattle.flow_rule.proofs.Instruction.{landing_of, AgreeAt, weaken_at, RegularInsn, Landing, In, Out, after, does_it, fetched, does_so, Does_alike, Parts, plain_parts, two_alike, one_alike, even, step_crossing}
+use Rattle.flow_rule.proofs.Instruction.{landing_of, AgreeAt, weaken_at, RegularInsn, Landing, In, Out, after, does_it, fetched, Does_alike, Parts, plain_parts, two_alike, even, step_crossing}
 use Rattle.flow_rule.proofs.Stub.{StubFacts, met_one, met_two}
 
 abbrev pub IsOpen : ℕ → Type 0
@@ -328,8 +324,12 @@ module _ (key : List ℕ) (m : Module) (text : List ℕ) (caller : ℕ) (shape :
   abbrev entered : List ℕ → ℕ → List ℕ
   entered c v = confined true c (put (lowered (past (call_entry m) c)) 0 v)
 
+  -- the address that the table has there
+  abbrev entry_word : List ℕ → List ℕ → ℕ
+  entry_word c d = low Word (word_at (lone_byte j d) (entry_place c))
+
   call_so : (c d : List ℕ) → lone_does j (call_entry m) (at_rest c d) ≡
-      after (entered c (word_at (lone_byte j d) (entry_place c))) (lone_writes m d (push_access (pushes_at c) ∷ []) (reg (past (call_entry m) c) 0 ∷ [])) 4 false
+      after (entered c (entry_word c d)) (lone_writes m d (push_access (pushes_at c) ∷ []) (reg (past (call_entry m) c) 0 ∷ [])) 4 false
   unfolding lone_does asks effect does does_freely plan cycles_of
   call_so c d = refl
 
@@ -427,8 +427,14 @@ module _ (key : List ℕ) (m : Module) (text : List ℕ) (caller : ℕ) (shape :
         inside : (a : ℕ) → t0 ≤ a → a < m.text.end → holds m.text a ≡ true
         inside a low high = grind (arith, nat_tests)
 
-    value_is : (c d : List ℕ) → reg c 6 ≡ 2 * i → word_at (lone_byte j d) (entry_place c) ≡ goal_of
-    value_is c d six = ap (λ a. word_at (lone_byte j d) a) (place_is c six) ∙ word_text key m text caller shape d (t0 + 2 * (38 + i)) (even_place (38 + i)) in_table
+    value_is : (c d : List ℕ) → reg c 6 ≡ 2 * i → entry_word c d ≡ goal_of
+    value_is c d six =
+        ap (λ a. low Word (word_at (lone_byte j d) a)) (place_is c six)
+        ∙ ap (low Word) (word_text key m text caller shape d (t0 + 2 * (38 + i)) (even_place (38 + i)) in_table)
+        ∙ whole goal_of (facts.table i lt).2
+      where
+        whole : (g : ℕ) → g < m.text.end → low Word g ≡ g
+        whole g l = let h = shape.text_high in omega arith
 
     goal_even : goal_of % 2 ≡ 0
     goal_even = (facts.table i lt).0
@@ -439,12 +445,12 @@ module _ (key : List ℕ) (m : Module) (text : List ℕ) (caller : ℕ) (shape :
         inside : (a : ℕ) → t0 ≤ a → a < m.text.end → holds m.text a ≡ true
         inside a low high = grind (arith, nat_tests)
 
-    core_both : AgreeCore m.text (put_val core_val 0 (Known goal_of)) (entered ca (word_at (lone_byte j da) (entry_place ca))) (entered cb (word_at (lone_byte j db) (entry_place cb)))
+    core_both : AgreeCore m.text (put_val core_val 0 (Known goal_of)) (entered ca (entry_word ca da)) (entered cb (entry_word cb db))
     core_both =
-        let h3 = put_agrees m.text (even key m text caller shape) core_val (lowered (past (call_entry m) ca)) (lowered (past (call_entry m) cb)) 0 (Known goal_of) (word_at (lone_byte j da) (entry_place ca)) (word_at (lone_byte j db) (entry_place cb))
+        let h3 = put_agrees m.text (even key m text caller shape) core_val (lowered (past (call_entry m) ca)) (lowered (past (call_entry m) cb)) 0 (Known goal_of) (entry_word ca da) (entry_word cb db)
         (λ e. absurd (omega arith)) lowered_both (value_is ca da six_a, value_is cb db six_b) in
         confined_agrees m.text (even key m text caller shape) (put_val core_val 0 (Known goal_of)) ca cb _ _ at.core.mode_same
-        (ends_so m.text (even key m text caller shape) _ _ _ _ _ h3 (sr_kept ca (word_at (lone_byte j da) (entry_place ca))) (sr_kept cb (word_at (lone_byte j db) (entry_place cb))))
+        (ends_so m.text (even key m text caller shape) _ _ _ _ _ h3 (sr_kept ca (entry_word ca da)) (sr_kept cb (entry_word cb db)))
       where
         sr_kept : (c : List ℕ) (v : ℕ) → reg (put (lowered (past (call_entry m) c)) 0 v) 2 ≡ reg c 2
         sr_kept c v =
@@ -478,8 +484,8 @@ module _ (key : List ℕ) (m : Module) (text : List ℕ) (caller : ℕ) (shape :
 
     entry_crossing : Crossing m j (AtStub m n) (step_entries m text x).gives (at_rest ca da) (at_rest cb db)
     entry_crossing =
-        let va = word_at (lone_byte j da) (entry_place ca) in
-        let vb = word_at (lone_byte j db) (entry_place cb) in
+        let va = entry_word ca da in
+        let vb = entry_word cb db in
         let da' = lone_writes m da (push_access (pushes_at ca) ∷ []) (reg (past (call_entry m) ca) 0 ∷ []) in
         let db' = lone_writes m db (push_access (pushes_at ca) ∷ []) (reg (past (call_entry m) cb) 0 ∷ []) in
         let words = writes_val m x.label.words (push ∷ []) (Known (x.pair.addr + 4) ∷ []) in

@@ -1,12 +1,9 @@
 -- Worked rows, by computation.
-use Rattle.std.proofs.Common.{◌≡◌, ℕ, zero, suc, ◌+◌, ◌%◌, ◌/◌, List, [], ◌∷◌, ◌++◌, Option, Some, None, refl, Bool, true, false, map, length}
+use Rattle.std.proofs.Common.{◌≡◌, ℕ, ◌%◌, ◌/◌, List, [], ◌∷◌, ◌++◌, refl, length}
 use Rattle.insn_decode.specs.Code.{insn_of}
 use Rattle.mod_layout.specs.declared.Module.{Module}
-use Rattle.mod_layout.specs.declared.Section.{Section}
-use Rattle.flow_rule.specs.declared.Reason.{Reason}
-use Rattle.flow_rule.specs.declared.Reason.TheVariants.{SecretBranch, SecretAddress, UnknownTarget, SecretAtExit, OutsideAccess, ArmTime}
-use Rattle.flow_rule.specs.declared.Label.{Label}
-use Rattle.flow_rule.specs.Rounds.{Point, Pair, Found, Step, round, rounds, all_reasons}
+use Rattle.flow_rule.specs.declared.Reason.TheVariants.{SecretBranch, UnknownTarget, SecretAtExit, ArmTime}
+use Rattle.flow_rule.specs.Rounds.{Point, Found, rounds, all_reasons}
 use Rattle.flow_rule.specs.Does.{plan_val, does_val}
 use Rattle.cycle_table.specs.Cycles.{cycles_of}
 use Rattle.arm_balance.specs.declared.Arm.{Arm}

@@ -1,45 +1,16 @@
 -- The words of a stub, and its steps.
-use Rattle.std.proofs.Common.{◌≡◌, ◌≢◌, ◌⊎◌, inl, inr, ⊎_elim, ℕ, zero, suc, ◌+◌, ◌-◌, ◌*◌, ◌/◌, ◌%◌, ◌<◌, ◌≤◌, List, [], ◌∷◌, ◌++◌, length, get_or, set, map, refl, sym, ap, ◌∙◌, subst, arith, Bool, true, false, cond, nat_lt, nat_le, ◌==◌, ◌&&◌, ◌||◌, not, Option, Some, None, get_or-set_same, get_or-set_other}
+use Rattle.std.proofs.Common.{◌≡◌, ◌⊎◌, inl, inr, ℕ, zero, suc, ◌+◌, ◌*◌, ◌%◌, ◌<◌, ◌≤◌, List, [], ◌∷◌, length, refl, ap, ◌∙◌, subst, arith, Bool, true, false, nat_lt, nat_le, ◌==◌, ◌&&◌, Some}
 use Rattle.std.proofs.lemmas.Bool.{cases_lt}
 use Rattle.std.proofs.lemmas.Bool.Decides.{nat_tests}
-use Rattle.sm_words.specs.Words.{reg, put, kept, add16, nth, word_at}
+use Rattle.sm_words.specs.Words.{nth, word_at}
 use Rattle.insn_decode.specs.Code.{insn_of, length_of}
-use Rattle.cycle_table.specs.Cycles.{cycles_of}
-use Rattle.cpu_step.specs.Effect.{does, does_freely, confined, confined_sr}
-use Rattle.cpu_step.specs.Plan.{plan, past, lowered}
-use Rattle.sm_words.specs.declared.width.Width.TheVariants.{Byte, Word}
-use Rattle.insn_decode.specs.declared.insn.TwoOp.TheVariants.{Mov, Add}
-use Rattle.insn_decode.specs.declared.insn.OneOp.TheVariants.{Call}
-use Rattle.insn_decode.specs.declared.insn.Operand.TheVariants.{Reg, Const, Imm, Indexed, Absolute}
 use Rattle.insn_decode.specs.declared.insn.Insn.{Insn}
-use Rattle.insn_decode.specs.declared.insn.Insn.TheVariants.{Two, One, Jump, Reti, Unit as UnitOp}
-use Rattle.pc_access.specs.declared.Kind.TheVariants.{Fetch, Read, Write}
-use Rattle.pc_access.specs.declared.Access.{Access}
 use Rattle.mod_layout.specs.declared.Module.{Module}
-use Rattle.mod_layout.specs.declared.Section.{Section}
 use Rattle.mod_layout.specs.Table.{holds, size_of}
-use Rattle.cpu_step.specs.Fetched.{insn_at, later_word}
-use Rattle.cpu_step.specs.Asked.{asks, effect}
-use Rattle.cpu_step.specs.Lone.{Job, Lone, lone_byte, lone_does, lone_writes, all_inside, lone_who, Does, doing, job_of}
-use Rattle.flow_rule.specs.declared.Val.{Val}
-use Rattle.flow_rule.specs.declared.Val.TheVariants.{Known, Away, Public, Secret}
-use Rattle.flow_rule.specs.Values.{val, put_val}
-use Rattle.flow_rule.specs.declared.Label.{Label}
-use Rattle.flow_rule.specs.Rounds.{Pair, Point, Found, Step}
-use Rattle.flow_rule.specs.declared.Reach.{Reach}
-use Rattle.flow_rule.specs.Does.{writes_val, past_val, lowered_val}
-use Rattle.flow_rule.specs.Flow.{because_if, word_of, words_are, table_fine, entries_of, has_stub, word_number, is_shut, is_open, shut_reasons, shut_if, to_entries, step_entries, step_stub, step_of, step_insn, step_plain, call_entry, reach_reasons, calls, Turn}
+use Rattle.cpu_step.specs.Fetched.{insn_at}
+use Rattle.flow_rule.specs.Flow.{word_of, words_are, table_fine, has_stub}
 use Rattle.arm_balance.specs.Met.{text_byte, word_in, whole, met_first, met}
 use Rattle.entry_stubs.specs.Stub.{stub_front}
-use Rattle.flow_rule.proofs.Meaning.{Agrees}
-use Rattle.flow_rule.proofs.Cores.{AgreeCore, put_agrees, put_other_reg, confined_agrees, ends_so}
-use Rattle.flow_rule.proofs.Effects.{AgreeList, past_agrees, lowered_agrees}
-use Rattle.flow_rule.proofs.Plans.{Reached, AgreeAccess, Fixed, fixed, none_left, none_right, none_if}
-use Rattle.flow_rule.proofs.Words.{Shape, IsData, AgreeData, writes_agree, word_text}
-use Rattle.flow_rule.proofs.Labelling.{Under, Among}
-use Rattle.flow_rule.proofs.Runs.{at_rest, Passes, Ending, Stays, Left, Shut, Crossing, Sound, Standing}
-use Rattle.flow_rule.proofs.Instruction.{RegularInsn}
-use Rattle.flow_rule.proofs.Decoding.{met_regular}
 
 pub record StubFacts (m : Module) (text : List ℕ) (n p : ℕ) : Type 0 where
   pub room : 76 + 2 * n ≤ size_of m.text

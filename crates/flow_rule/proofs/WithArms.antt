@@ -1,39 +1,30 @@
 -- A yes with certificates.
-use Rattle.std.proofs.Common.{◌≡◌, ◌≢◌, ◌⊎◌, inl, inr, ℕ, zero, suc, ◌+◌, ◌-◌, ◌*◌, ◌/◌, ◌%◌, ◌<◌, ◌≤◌, List, [], ◌∷◌, length, get_or, set, replicate, refl, sym, ap, ◌∙◌, subst, arith, Bool, true, false, cond, nat_lt, nat_le, ◌==◌, ◌&&◌, Option, Some, None, ℤ}
-use Rattle.std.proofs.lemmas.Bool.{cases_lt}
+use Rattle.std.proofs.Common.{◌≡◌, ◌⊎◌, inl, inr, ℕ, suc, ◌+◌, ◌*◌, ◌%◌, ◌<◌, ◌≤◌, List, [], ◌∷◌, set, refl, sym, ap, ◌∙◌, subst, arith, Bool, true, false, cond, nat_le, ◌==◌, ◌&&◌, Option, Some, ℤ}
 use Rattle.std.proofs.lemmas.Bool.Decides.{nat_tests}
-use Rattle.sm_words.specs.Words.{reg, nth, kept, add16}
+use Rattle.sm_words.specs.Words.{reg, kept, add16}
 use Rattle.insn_decode.specs.declared.insn.Insn.{Insn}
-use Rattle.insn_decode.specs.declared.insn.Insn.TheVariants.{Two, One, Jump, Reti, Unit as UnitOp}
-use Rattle.flow_rule.proofs.Plans.{none_left, none_right}
+use Rattle.insn_decode.specs.declared.insn.Insn.TheVariants.{Jump}
+use Rattle.flow_rule.proofs.Plans.{none_left}
 use Rattle.mod_layout.specs.declared.Module.{Module}
-use Rattle.mod_layout.specs.declared.Section.{Section}
-use Rattle.mod_layout.specs.Table.{holds, size_of}
-use Rattle.mod_layout.specs.Tables.{IsModule, IsSection}
-use Rattle.cpu_step.specs.Lone.{Job, Lone, Entry_of, starts, job_of, outcome, alike, Even}
+use Rattle.mod_layout.specs.Table.{holds}
+use Rattle.mod_layout.specs.Tables.{IsModule}
+use Rattle.cpu_step.specs.Lone.{Entry_of, job_of, Even}
 use Rattle.std.specs.Prelude.{All}
-use Rattle.sm_words.specs.Words.{IsCore}
 use Rattle.cpu_step.specs.Lone.{IsEntry}
-use Rattle.flow_rule.specs.declared.Val.{Val}
-use Rattle.flow_rule.specs.declared.Val.TheVariants.{Known, Away, Public, Secret}
-use Rattle.flow_rule.specs.Values.{val}
-use Rattle.flow_rule.specs.declared.Label.{Label}
-use Rattle.flow_rule.specs.Rounds.{Pair, Point, Step, IsLabelling, all_reasons}
-use Rattle.flow_rule.specs.declared.Verdict.{Verdict}
+use Rattle.flow_rule.specs.declared.Val.TheVariants.{Away}
+use Rattle.flow_rule.specs.Rounds.{Point, IsLabelling, all_reasons}
 use Rattle.flow_rule.specs.declared.Verdict.TheVariants.{Yes}
-use Rattle.flow_rule.specs.Flow.{is_open, shut_if, shut_reasons, step_entries, call_entry, word_of, word_number, no_secret, begins, start_of, flow_step, has_stub, step_of, step_stub, VerdictOf}
-use Rattle.flow_rule.proofs.Meaning.{Agrees}
-use Rattle.flow_rule.proofs.Cores.{AgreeCore}
-use Rattle.flow_rule.proofs.Words.{Shape, IsData, AgreeData}
-use Rattle.flow_rule.proofs.Labelling.{Closed, closed}
-use Rattle.flow_rule.proofs.Runs.{at_rest, Sound, always_alike}
+use Rattle.flow_rule.specs.Flow.{is_open, shut_if, shut_reasons, step_entries, call_entry, word_of, word_number, no_secret, begins, has_stub, step_of, step_stub}
+use Rattle.flow_rule.proofs.Words.{Shape, IsData}
+use Rattle.flow_rule.proofs.Labelling.{closed}
+use Rattle.flow_rule.proofs.Runs.{Sound, always_alike}
 use Rattle.flow_rule.proofs.Instruction.{AgreeAt, weaken_at, step_crossing}
 use Rattle.flow_rule.proofs.Decoding.{met_regular}
 use Rattle.flow_rule.proofs.Stub.{StubFacts, stub_facts}
 use Rattle.flow_rule.proofs.Open.{IsOpen, place_of_word, met_10, met_12, met_14, met_16, met_17, AtStub, weaken_stub, stub_crossing}
 use Rattle.flow_rule.proofs.Begin.{Calm, from_0}
 use Rattle.arm_balance.specs.declared.Arm.{Arm}
-use Rattle.flow_rule.specs.Arms.{step_arms, flow_with, VerdictWith}
+use Rattle.flow_rule.specs.Arms.{step_arms, VerdictWith}
 use Rattle.arm_balance.specs.Met.{met}
 use Rattle.arm_balance.specs.Balance.{arm_next}
 use Rattle.flow_rule.proofs.Arms.{arms_crossing}

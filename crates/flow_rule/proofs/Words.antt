@@ -1,5 +1,5 @@
 -- The data of two runs that agree under values of their words, and reads and writes.
-use Rattle.std.proofs.Common.{◌≡◌, ◌≢◌, ◌⊎◌, inl, inr, ⊎_elim, ℕ, zero, suc, ◌+◌, ◌-◌, ◌*◌, ◌/◌, ◌%◌, ◌<◌, ◌≤◌, List, [], ◌∷◌, ◌++◌, length, get_or, set, drop, map, refl, sym, ap, ◌∙◌, subst, arith, Bool, true, false, cond, nat_lt, nat_le, ◌==◌, ◌&&◌, ◌||◌, not, Option, Some, None, length-set, get_or-set_same, get_or-set_other}
+use Rattle.std.proofs.Common.{◌≡◌, ◌≢◌, ◌⊎◌, inl, inr, ℕ, ◌+◌, ◌-◌, ◌*◌, ◌/◌, ◌%◌, ◌<◌, ◌≤◌, List, [], ◌∷◌, length, get_or, set, map, refl, sym, ap, ◌∙◌, subst, arith, Bool, true, false, cond, ◌==◌, ◌&&◌, ◌||◌, not, length-set, get_or-set_same, get_or-set_other}
 use Rattle.std.proofs.lemmas.Bool.{cases_lt}
 use Rattle.std.proofs.lemmas.Bool.Decides.{nat_tests}
 use Rattle.std.proofs.lemmas.List.{set_past, get_or_past}
@@ -11,14 +11,13 @@ use Rattle.pc_access.specs.declared.Kind.{Kind}
 use Rattle.pc_access.specs.declared.Kind.TheVariants.{Fetch, Read, Write}
 use Rattle.pc_access.specs.declared.Access.{Access}
 use Rattle.mod_layout.specs.declared.Module.{Module}
-use Rattle.mod_layout.specs.declared.Section.{Section}
 use Rattle.mod_layout.specs.Table.{holds, size_of}
 use Rattle.pc_access.specs.Rights.{misaligned}
 use Rattle.attest.specs.Accesses.{is_read, is_write, reads_of, writes_of}
 use Rattle.cpu_step.specs.Lone.{value_at, Job, lone_byte, lone_read, lone_write, lone_writes, job_of}
 use Rattle.flow_rule.specs.declared.Val.{Val}
 use Rattle.flow_rule.specs.declared.Val.TheVariants.{Known, Away, Public, Secret}
-use Rattle.flow_rule.specs.Values.{over_one, blurred_all, narrow, val}
+use Rattle.flow_rule.specs.Values.{over_one, blurred_all, narrow}
 use Rattle.flow_rule.specs.declared.Reach.{Reach}
 use Rattle.flow_rule.specs.Does.{may_reach, word_no, half, read_at, read_val, write_at, write_val, writes_val, read_reaches, write_reaches}
 use Rattle.flow_rule.specs.Arms.{written_words}

@@ -1,27 +1,23 @@
 -- Secret branches whose arms meet again in equal times.
 use Rattle.arm_balance.specs.declared.Arm.{Arm}
 use Rattle.arm_balance.specs.Met.{met}
-use Rattle.arm_balance.specs.Balance.{arm_next, arm_on, met_cycles}
-use Rattle.std.specs.Prelude.{◌≡◌, ◌<◌, ◌≤◌, ◌⊎◌, ℕ, zero, suc, ◌+◌, ◌-◌, ◌*◌, ◌/◌, ◌%◌, List, [], ◌∷◌, ◌++◌, length, slice_set, ◌==◌, nat_lt, nat_le, if◌then◌else◌, Bool, true, false, ◌&&◌, ◌||◌, not, Option, Some, None}
+use Rattle.arm_balance.specs.Balance.{arm_on, met_cycles}
+use Rattle.std.specs.Prelude.{ℕ, zero, suc, ◌+◌, List, [], ◌∷◌, ◌++◌, slice_set, ◌==◌, if◌then◌else◌, Bool, true, ◌&&◌, ◌||◌, not, Option, Some, None}
 use Rattle.sm_words.specs.Words.{add16, kept}
 use Rattle.insn_decode.specs.Code.{distance}
 use Rattle.cpu_step.specs.Plan.{writes_dst}
-use Rattle.insn_decode.specs.declared.insn.TwoOp.{TwoOp}
-use Rattle.insn_decode.specs.declared.insn.OneOp.{OneOp}
-use Rattle.insn_decode.specs.declared.insn.OneOp.TheVariants.{Push, Call}
+use Rattle.insn_decode.specs.declared.insn.OneOp.TheVariants.{Push}
 use Rattle.insn_decode.specs.declared.insn.Operand.{Operand}
 use Rattle.insn_decode.specs.declared.insn.Operand.TheVariants.{Reg, Increment}
 use Rattle.insn_decode.specs.declared.insn.Insn.{Insn}
-use Rattle.insn_decode.specs.declared.insn.Insn.TheVariants.{Two, One, Jump, Reti, Unit as UnitOp}
+use Rattle.insn_decode.specs.declared.insn.Insn.TheVariants.{Two, One, Jump}
 use Rattle.mod_layout.specs.declared.Module.{Module}
 use Rattle.mod_layout.specs.Table.{holds}
 use Rattle.flow_rule.specs.declared.Val.{Val}
-use Rattle.flow_rule.specs.declared.Val.TheVariants.{Known, Away, Public, Secret}
+use Rattle.flow_rule.specs.declared.Val.TheVariants.{Known, Secret}
 use Rattle.flow_rule.specs.Values.{is_secret, val, put_val}
-use Rattle.flow_rule.specs.declared.Reason.{Reason}
 use Rattle.flow_rule.specs.declared.Reason.TheVariants.{Arm as ArmInsn, ArmTime}
-use Rattle.flow_rule.specs.declared.Label.{Label}
-use Rattle.flow_rule.specs.Rounds.{Pair, Point, Found, Step, IsLabelling}
+use Rattle.flow_rule.specs.Rounds.{Point, Found, Step}
 use Rattle.flow_rule.specs.declared.Reach.{Reach}
 use Rattle.flow_rule.specs.Does.{plan_val, write_reaches, word_no, does_val, past_val}
 use Rattle.flow_rule.specs.declared.Verdict.{Verdict}

@@ -1,23 +1,22 @@
 -- What an instruction reaches and does, over values.
 use Rattle.flow_rule.specs.declared.Reach.{Reach}
 use Rattle.flow_rule.specs.declared.Told.{Told}
-use Rattle.std.specs.Prelude.{ℕ, zero, suc, ◌+◌, ◌-◌, ◌*◌, ◌/◌, ◌%◌, List, [], ◌∷◌, ◌++◌, map, drop, slice_index, slice_set, ◌==◌, if◌then◌else◌, Bool, true, false, ◌&&◌, ◌||◌, not, Option, Some, None}
+use Rattle.std.specs.Prelude.{ℕ, ◌-◌, ◌*◌, ◌/◌, ◌%◌, List, [], ◌∷◌, ◌++◌, drop, slice_set, ◌==◌, if◌then◌else◌, Bool, true, false, ◌&&◌, ◌||◌, not, Option, Some, None}
 use Rattle.sm_words.specs.Words.{nth, add16, bit, word_at}
 use Rattle.insn_decode.specs.Code.{words_of, length_of, distance}
 use Rattle.sm_words.specs.Sums.{low}
 use Rattle.cpu_step.specs.Effect.{value_of, two_result, one_result, in_memory}
 use Rattle.cpu_step.specs.Plan.{step_of, reads_dst, writes_dst}
-use Rattle.cpu_step.specs.declared.result.Computed.{Computed}
 use Rattle.sm_words.specs.declared.width.Width.{Width}
 use Rattle.sm_words.specs.declared.width.Width.TheVariants.{Byte, Word}
 use Rattle.insn_decode.specs.declared.insn.TwoOp.{TwoOp}
-use Rattle.insn_decode.specs.declared.insn.TwoOp.TheVariants.{Mov, Add, Addc, Subc, Sub, Cmp, Dadd, Bit, Bic, Bis, Xor, And}
+use Rattle.insn_decode.specs.declared.insn.TwoOp.TheVariants.{Mov, Addc, Subc, Dadd, Bic, Bis}
 use Rattle.insn_decode.specs.declared.insn.OneOp.{OneOp}
-use Rattle.insn_decode.specs.declared.insn.OneOp.TheVariants.{Rrc, Swpb, Rra, Sxt, Push, Call}
+use Rattle.insn_decode.specs.declared.insn.OneOp.TheVariants.{Rrc, Rra, Sxt, Push, Call}
 use Rattle.insn_decode.specs.declared.insn.Operand.{Operand}
 use Rattle.insn_decode.specs.declared.insn.Operand.TheVariants.{Reg, Const, Imm, Indexed, Symbolic, Absolute, Indirect, Increment}
 use Rattle.insn_decode.specs.declared.insn.Insn.{Insn}
-use Rattle.insn_decode.specs.declared.insn.Insn.TheVariants.{Two, One, Jump, Reti, Unit as UnitOp}
+use Rattle.insn_decode.specs.declared.insn.Insn.TheVariants.{Two, One, Jump}
 use Rattle.pc_access.specs.declared.Kind.{Kind}
 use Rattle.pc_access.specs.declared.Kind.TheVariants.{Fetch, Read, Write}
 use Rattle.mod_layout.specs.declared.Module.{Module}
@@ -25,8 +24,8 @@ use Rattle.mod_layout.specs.Table.{holds}
 use Rattle.arm_balance.specs.Met.{text_byte}
 use Rattle.pc_access.specs.Rights.{misaligned}
 use Rattle.flow_rule.specs.declared.Val.{Val}
-use Rattle.flow_rule.specs.declared.Val.TheVariants.{Known, Away, Public, Secret}
-use Rattle.flow_rule.specs.Values.{is_secret, over, over_one, over_two, blurred, blurred_all, narrow, val, put_val}
+use Rattle.flow_rule.specs.declared.Val.TheVariants.{Known, Public, Secret}
+use Rattle.flow_rule.specs.Values.{over, over_one, over_two, blurred_all, narrow, val, put_val}
 
 -- ---- accesses
 
@@ -172,7 +171,7 @@ abbrev pub given_val : Operand → Width → List Val → List Val → Val
 given_val (Reg r) w core values = narrow w (val core r)
 given_val (Const c) w core values = Known (low w c)
 given_val (Imm x) w core values = Known (low w x)
-given_val _ w core values = nth 0 values Secret
+given_val _ w core values = narrow w (nth 0 values Secret)
 
 abbrev pub after_val : Operand → List Val → List Val
 after_val o values = if in_memory o then drop 1 values else values

@@ -1,11 +1,10 @@
 -- What a pair's instruction gives, and the verdict.
 use Rattle.flow_rule.specs.declared.Verdict.{Verdict}
 use Rattle.flow_rule.specs.declared.Verdict.TheVariants.{Yes, No}
-use Rattle.std.specs.Prelude.{◌≡◌, ◌<◌, ◌≤◌, ◌⊎◌, ℕ, zero, suc, ◌+◌, ◌-◌, ◌*◌, ◌/◌, ◌%◌, List, [], ◌∷◌, ◌++◌, map, take, length, replicate, slice_index, slice_set, ◌==◌, nat_lt, nat_le, if◌then◌else◌, Bool, true, false, ◌&&◌, ◌||◌, not, Option, Some, None}
+use Rattle.std.specs.Prelude.{◌≡◌, ◌<◌, ◌≤◌, ◌⊎◌, ℕ, zero, suc, ◌+◌, ◌-◌, ◌*◌, ◌/◌, ◌%◌, List, [], ◌∷◌, ◌++◌, map, length, replicate, slice_set, ◌==◌, nat_lt, nat_le, if◌then◌else◌, Bool, true, false, ◌&&◌, ◌||◌, not, Option, Some, None}
 use Rattle.sm_words.specs.Words.{nth, add16, word_at}
 use Rattle.insn_decode.specs.Code.{length_of}
-use Rattle.sm_words.specs.declared.width.Width.{Width}
-use Rattle.sm_words.specs.declared.width.Width.TheVariants.{Byte, Word}
+use Rattle.sm_words.specs.declared.width.Width.TheVariants.{Word}
 use Rattle.insn_decode.specs.declared.insn.TwoOp.TheVariants.{Mov}
 use Rattle.insn_decode.specs.declared.insn.OneOp.TheVariants.{Call}
 use Rattle.insn_decode.specs.declared.insn.Operand.TheVariants.{Reg, Indexed, Increment}
@@ -13,20 +12,18 @@ use Rattle.insn_decode.specs.declared.insn.Insn.{Insn}
 use Rattle.insn_decode.specs.declared.insn.Insn.TheVariants.{Two, One, Jump, Reti, Unit as UnitOp}
 use Rattle.pc_access.specs.declared.Kind.TheVariants.{Write}
 use Rattle.mod_layout.specs.declared.Module.{Module}
-use Rattle.mod_layout.specs.declared.Section.{Section}
 use Rattle.mod_layout.specs.Table.{holds, size_of}
 use Rattle.entry_stubs.specs.Stub.{stub_front}
 use Rattle.arm_balance.specs.Met.{text_byte, met}
-use Rattle.attest.specs.Units.{UnitName, Unprotect, Protect, Attest, Tag, IdOf, OwnId, CallerId, unit_named}
+use Rattle.attest.specs.Units.{UnitName, Unprotect, OwnId, CallerId, unit_named}
 use Rattle.flow_rule.specs.declared.Val.{Val}
 use Rattle.flow_rule.specs.declared.Val.TheVariants.{Known, Away, Public, Secret}
 use Rattle.flow_rule.specs.Values.{is_secret, val, put_val}
 use Rattle.flow_rule.specs.declared.Reason.{Reason}
 use Rattle.flow_rule.specs.declared.Reason.TheVariants.{SecretBranch, SecretAddress, OutsideAccess, SecretAtExit, UnknownTarget, Illegal, Unit as UnitWord, TooMany, Arm as ArmInsn, ArmTime}
-use Rattle.flow_rule.specs.declared.Label.{Label}
-use Rattle.flow_rule.specs.Rounds.{Pair, Point, Found, Step, IsLabelling, rounds, all_reasons}
+use Rattle.flow_rule.specs.Rounds.{Point, Found, Step, IsLabelling, rounds, all_reasons}
 use Rattle.flow_rule.specs.declared.Reach.{Reach}
-use Rattle.flow_rule.specs.Does.{plan_val, may_reach, read_val, writes_val, read_reaches, write_reaches, Done_val, does_val, past_val, lowered_val}
+use Rattle.flow_rule.specs.Does.{plan_val, may_reach, read_val, writes_val, read_reaches, write_reaches, does_val, past_val, lowered_val}
 
 abbrev pub because : ℕ → Reason → ℕ → List Found
 because a why v = record { addr = a; why = why; value = v } ∷ []

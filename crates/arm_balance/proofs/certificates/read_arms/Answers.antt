@@ -1,6 +1,6 @@
 use Rattle.std.specs.Result.{is_ok}
 use Rattle.std.proofs.Common.{not, true, sym, ◌≡◌, ◌∙◌, ap, ◌≤◌, arith, rules}
-use Rattle.arm_balance.proofs.Loop.{IsRead-start, IsRead-push, IsRead-too_many, IsRead-end}
+use Rattle.arm_balance.proofs.Loop.{IsRead-start, IsRead-push, IsRead-end}
 use Rattle.arm_balance.proofs.certificates.read_arms.Goals as goal
 
 pub loop-line-init : goal.loop-line-init

@@ -1,5 +1,4 @@
-use Rattle.std.proofs.Common.{◌≡◌, ◌∙◌, ◌==◌, ap, sym, refl, subst, ℕ, suc, List, not, arith}
-use Rattle.sm_words.specs.Words.{add16}
+use Rattle.std.proofs.Common.{◌≡◌, ◌∙◌, ◌==◌, ap, refl, ℕ, suc, List, not, arith}
 use Rattle.mod_layout.specs.Table.{holds}
 use Rattle.flow_rule.specs.Flow.{flow_step, because_if}
 use Rattle.flow_rule.specs.declared.Reason.TheVariants.{Arm as ArmInsn, ArmTime}
@@ -7,8 +6,8 @@ use Rattle.flow_rule.specs.Rounds.{Point, Step}
 use Rattle.flow_rule.specs.Arms.{walk}
 use Rattle.flow_check.specs.declared.walk.Tally.{Tally}
 use Rattle.flow_check.specs.Causes.{noted}
-use Rattle.flow_check.specs.Pairs.{list_of, point_of, addrs_of, points_at}
-use Rattle.flow_check.specs.Walks.{told, point_at}
+use Rattle.flow_check.specs.Pairs.{point_of}
+use Rattle.flow_check.specs.Walks.{told}
 use Rattle.flow_check.proofs.Walking.{crossing_least, crossing_gives}
 use Rattle.flow_check.proofs.arms.step_arm.Goals as goal
 

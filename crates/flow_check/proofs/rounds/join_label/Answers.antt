@@ -1,4 +1,4 @@
-use Rattle.std.proofs.Common.{arith, inl, inr, length, ◌≤◌}
+use Rattle.std.proofs.Common.{arith, inl, inr}
 use Rattle.flow_check.proofs.Weights.{joined_rises}
 use Rattle.flow_check.proofs.rounds.join_label.Goals as goal
 

@@ -1,16 +1,10 @@
-use Rattle.std.proofs.Common.{rules, ◌≡◌, ◌∙◌, ◌+◌, ap, sym, [], ◌∷◌, ℕ, List, Some, slice_set}
+use Rattle.std.proofs.Common.{◌≡◌, ◌∙◌, ◌+◌, ap, sym, ℕ, List, slice_set}
 use Rattle.flow_rule.specs.declared.Val.TheVariants.{Known}
-use Rattle.std.specs.List.{slice_get}
-use Rattle.insn_decode.specs.declared.insn.Insn.{Insn}
-use Rattle.cycle_table.specs.Cycles.{cycles_of}
-use Rattle.flow_rule.specs.declared.Label.{Label}
-use Rattle.flow_rule.specs.declared.Reach.{Reach}
 use Rattle.flow_rule.specs.Does.{plan_val, write_reaches}
 use Rattle.flow_rule.specs.Flow.{flow_step}
 use Rattle.flow_rule.specs.Arms.{walk, written_regs, written_words, blot, blot_core}
 use Rattle.flow_rule.specs.Rounds.{Point, Step}
-use Rattle.flow_check.specs.declared.walk.Tally.{Tally}
-use Rattle.flow_check.specs.Pairs.{point_of, addrs_of, list_of, points_at}
+use Rattle.flow_check.specs.Pairs.{point_of, addrs_of, list_of}
 use Rattle.flow_check.specs.Walks.{told, point_at}
 use Rattle.flow_check.proofs.Walking.{calm_step, same_gives, same_points, gives_first, gives_none, walk_leaves, walk_goes}
 use Rattle.flow_check.proofs.walk.walk_on.Goals as goal
