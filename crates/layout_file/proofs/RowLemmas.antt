@@ -139,7 +139,3 @@ clash_after-map f c earlier (x ∷ xs) =
 pub first_clash-map : {A B : Type 0} (f : A → B) (c : B → B → Bool) (xs : List A)
     → first_clash (λ a b. c (f a) (f b)) xs ≡ first_clash c (map f xs)
 first_clash-map f c xs = clash_after-map f c [] xs
-
-pub regions-length : (ms : List ModuleSpec) → length (flat_map regions_of (map module_of ms)) ≡ 2 * length ms
-regions-length [] = refl
-regions-length (m ∷ ms) = let e = regions-length ms in omega arith

@@ -68,13 +68,13 @@ pub enum LayoutFault {
     /// There are more modules or more entries than may be.
     TooMany { spot: Spot },
     /// Two regions share a byte. They are numbered from 0: text, data, module 0's text, module 0's data, and so on.
-    Overlap { first: u32, second: u32 },
+    Overlap { first: u64, second: u64 },
     /// Two modules have one name.
-    SameName { first: u32, second: u32 },
+    SameName { first: u64, second: u64 },
     /// There was no memory.
     NoMemory,
     /// Two modules have one boot.
-    SameBoot { first: u32, second: u32 },
+    SameBoot { first: u64, second: u64 },
 }
 
 impl From<AllocError> for LayoutFault {

@@ -1,5 +1,5 @@
 //! Reads a layout table by table.
-ghost use Rattle.std.specs.Prelude.{◌≡◌, ◌<◌, ◌≤◌, ◌^◌, ◌==◌, ◌⊎◌, MatchResult, Err, IfOk, length, map};
+ghost use Rattle.std.specs.Prelude.{◌≡◌, ◌≢◌, ◌<◌, ◌≤◌, ◌==◌, ◌⊎◌, MatchResult, Ok, Err, IfOk, IfErr, length, map};
 ghost use Rattle.toml.specs.View.{table_view};
 ghost use Rattle.layout_file.specs.Checked.{Reads};
 ghost use Rattle.layout_file.specs.Views.{tables_of, module_of, modules_of};
@@ -160,13 +160,12 @@ fn modules(alloc: Global, tables: &[&Table], version: u16) -> Result<Vec<ModuleS
 
 /// Refuses two regions that share a byte.
 fn apart(regions: &[Section]) -> Result<(), LayoutFault>
-    requires { length regions.now < 2 ^ 32 }
     ensures { result ≡ layout.no_pair LayoutFault.Overlap (first_clash_of share_byte regions.now) }
 {
     match first_clash(regions) {
         Some((first, second)) => Err(LayoutFault::Overlap {
-            first: first as u32,
-            second: second as u32,
+            first: first as u64,
+            second: second as u64,
         }),
         None => Ok(()),
     }
@@ -174,13 +173,12 @@ fn apart(regions: &[Section]) -> Result<(), LayoutFault>
 
 /// Refuses two names that are the same.
 fn named_apart(names: &[&str]) -> Result<(), LayoutFault>
-    requires { length names.now < 2 ^ 32 }
     ensures { result ≡ layout.no_pair LayoutFault.SameName (first_clash_of bytes_eq (map (λ n. n.now) names.now)) }
 {
     match first_clash(names) {
         Some((first, second)) => Err(LayoutFault::SameName {
-            first: first as u32,
-            second: second as u32,
+            first: first as u64,
+            second: second as u64,
         }),
         None => Ok(()),
     }
@@ -188,13 +186,12 @@ fn named_apart(names: &[&str]) -> Result<(), LayoutFault>
 
 /// Refuses two boots that are the same.
 fn booted_apart(boots: &[u16]) -> Result<(), LayoutFault>
-    requires { length boots.now < 2 ^ 32 }
     ensures { result ≡ layout.no_pair LayoutFault.SameBoot (first_clash_of (λ a b. a == b) boots.now) }
 {
     match first_clash(boots) {
         Some((first, second)) => Err(LayoutFault::SameBoot {
-            first: first as u32,
-            second: second as u32,
+            first: first as u64,
+            second: second as u64,
         }),
         None => Ok(()),
     }
@@ -248,7 +245,6 @@ fn clear(
     ram: Section,
     modules: &[ModuleSpec],
 ) -> Result<(), LayoutFault>
-    requires { length modules.now ≤ 32 }
     ensures { (result ≡ layout.clear text ram (map module_of modules.now)) ⊎ (result ≡ Err LayoutFault.NoMemory) }
 {
     let regions = regions(alloc, text, ram, modules)?;
@@ -294,7 +290,8 @@ fn layout(alloc: Global, table: &Table) -> Result<Layout, LayoutFault>
 
 /// Reads a layout: the layout of the text, or its first refusal, or there was no memory.
 pub fn read_layout(alloc: Global, bytes: &[u8]) -> Result<Layout, LayoutFault>
-    ensures { Reads layout_of result (LayoutOf bytes.now) }
+    ensures layout { IfOk result (λ layout. LayoutOf bytes.now ≡ Ok (layout_of layout)) }
+    ensures refused { IfErr result (λ fault. fault ≢ LayoutFault.NoMemory → LayoutOf bytes.now ≡ Err fault) }
 {
     match toml::table_from_slice(alloc, bytes) {
         Ok(table) => layout(alloc, &table),

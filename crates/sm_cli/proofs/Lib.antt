@@ -1,3 +1,4 @@
 pub mod Needed
 pub mod Serving
 pub mod Words
+mod Decided

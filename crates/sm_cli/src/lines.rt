@@ -7,7 +7,6 @@ ghost use Rattle.sm_cli.specs.Serve.{line_of, fault_text, image_fault_text, sche
 use crate::answers::Refused;
 use crate::{FileFault, Refusal};
 use image_text::ImageFault;
-use itoa::Buffer;
 use mod_layout::TableFault;
 use schedule_file::ScheduleFault;
 use sm_io::{Failed, Sink, put_all};
@@ -20,8 +19,7 @@ fn put_field<S: Sink>(sink: &mut S, name: &[u8], number: u64) -> Result<(), Fail
         Ok(()) => {}
         Err(Failed) => return Err(Failed),
     }
-    let mut digits = Buffer::new();
-    put_all(sink, digits.format(number).as_bytes())
+    put_all(sink, texts::decimal(number).as_str().as_bytes())
 }
 
 fn put_table_fault<S: Sink>(sink: &mut S, fault: TableFault) -> Result<(), Failed>

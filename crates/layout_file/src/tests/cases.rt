@@ -10,9 +10,9 @@ pub enum Wanted {
     Outside(Option<u32>, Key, i64),
     Unknown(Option<u32>),
     Many(Option<u32>, Key),
-    Shared(u32, u32),
-    Named(u32, u32),
-    Booted(u32, u32),
+    Shared(u64, u64),
+    Named(u64, u64),
+    Booted(u64, u64),
 }
 
 impl Wanted {
