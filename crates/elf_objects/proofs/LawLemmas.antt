@@ -1,20 +1,26 @@
 -- What holds of the sections, symbols and relocations of an object.
-use Rattle.std.proofs.Common.{◌≡◌, ℕ, zero, suc, ◌+◌, ◌-◌, ◌/◌, ◌<◌, ◌≤◌, List, [], ◌∷◌, length, drop, Option, Some, None, Bool, true, false, not, ◌&&◌, ◌||◌, is_none, refl, ap, sym, ◌∙◌, ◌⊎◌, inl, inr, arith, subst, eqb, ltb, cond, unwrap_or, length-take, length-drop, length-append}
+use Rattle.std.proofs.Common.{◌≡◌, ℕ, zero, suc, ◌+◌, ◌*◌, ◌-◌, ◌/◌, ◌<◌, ◌≤◌, List, [], ◌∷◌, length, drop, Option, Some, None, Bool, true, false, not, ◌&&◌, ◌||◌, is_none, refl, ap, sym, ◌∙◌, ◌⊎◌, inl, inr, arith, subst, eqb, ltb, cond, get_or, unwrap_or, length-take, length-drop}
 use Rattle.std.proofs.lemmas.Bool.{cases_lt, ltb-true}
 use Rattle.std.proofs.lemmas.Bool.Decides.{nat_tests}
 use Rattle.std.proofs.lemmas.List.Elements.{All-append, All-push, All-nil, All-same}
+use Rattle.std.proofs.lemmas.Option.{slice_get_within, get_or_from_slice_get, slice_get-get_or}
+use Rattle.std.specs.Prelude.{slice_get, IfSome}
 use Rattle.std.specs.List.{All, position_from}
 use Rattle.elf_objects.specs.declared.fault.ElfFault.{ElfFault}
 use Rattle.elf_objects.specs.declared.section.Header.{Header}
+use Rattle.elf_objects.specs.declared.object.Span.{Span}
 use Rattle.elf_objects.specs.declared.object.Symbol.{Symbol}
 use Rattle.elf_objects.specs.declared.object.Home.TheVariants as home
+use Rattle.elf_objects.specs.declared.object.SectionHead.{SectionHead}
+use Rattle.elf_objects.specs.declared.object.Relocation.{Relocation}
 use Rattle.elf_objects.specs.Passes.{or_else, refuse_if, first_below, each_below, all_below}
 use Rattle.elf_objects.specs.Header.{section_count, name_table, table_fault}
-use Rattle.elf_objects.specs.Section.{header_of, is_absent, section_fault, link_fault, name_table_fault, content, section_faults, link_faults, symbol_table, index_if, is_kept_table, is_kind}
+use Rattle.elf_objects.specs.Section.{header_of, is_absent, section_fault, link_fault, name_table_fault, content, section_faults, link_faults, symbol_table, index_if, is_kept_table, is_kind, is_loaded, is_loaded_header}
 use Rattle.elf_objects.specs.Names.{name_end, name_span, section_names, name_fault, name_faults, section_of, sections_of}
 use Rattle.elf_objects.specs.Symbol.{entry_of, count_in, strings_of, symbol_fault, symbol_of, home_of, symbols_header, header_at, count_of, faults_in, symbol_faults, symbols_in, symbols_of}
 use Rattle.elf_objects.specs.Relocation.{relocation_of, entry_fault, relocation_fault, relocation_faults, relocations_at, relocations_of}
 use Rattle.elf_objects.specs.Object.{elf_fault_of, contents_fault, ObjectValue, IsObject, IsWithin, IsSection, IsHome, IsSymbol, IsRelocation}
+use Rattle.elf_objects.proofs.PassLemmas.{length_each_below, at_each}
 use Rattle.elf_objects.proofs.ObjectLemmas.{no_sections_lists}
 
 -- ---- passes
@@ -57,11 +63,6 @@ all_all_below : {A : Type 0} (P : A → Type 0) (f : ℕ → List A) (n : ℕ) �
 unfolding all_below
 all_all_below P f zero each = All-nil P
 all_all_below P f (suc n) each = All-append P (all_below f n) (f n) (all_all_below P f n (λ i lt. each i (omega arith))) (each n (omega arith))
-
-length_each_below : {A : Type 0} (f : ℕ → A) (n : ℕ) → length (each_below f n) ≡ n
-unfolding each_below
-length_each_below f zero = refl
-length_each_below f (suc n) = simp (length-append, length_each_below f n) (omega arith)
 
 -- ---- an object's file
 
@@ -109,6 +110,15 @@ bytes_within_by file h false e = let k = e refl in record { ordered = omega arit
 bytes_within : (file : List ℕ) (i : ℕ) → IsSound file → i < section_count file → IsWithin (length file) ((section_of file i).bytes)
 unfolding section_of
 bytes_within file i sound lt = bytes_within_by file (header_of file i) (is_absent (header_of file i)) (section_ends file i (below_none _ _ i sound.sections lt))
+
+bytes_sized_by : (h : Header) (b : Bool) (s : Span) → cond b (record { start = 0; end = 0 }) (record { start = h.offset; end = h.offset + h.size }) ≡ s → s.end ≤ s.start + h.size
+bytes_sized_by h true s e = let f : 0 ≡ s.start = ap (λ (x : Span). x.start) e in let g : 0 ≡ s.end = ap (λ (x : Span). x.end) e in omega (arith, f, g)
+bytes_sized_by h false s e = let f : h.offset ≡ s.start = ap (λ (x : Span). x.start) e in let g : h.offset + h.size ≡ s.end = ap (λ (x : Span). x.end) e in omega (arith, f, g)
+
+-- a section has no more bytes than its size
+bytes_sized : (file : List ℕ) (i : ℕ) → (section_of file i).bytes.end ≤ (section_of file i).bytes.start + (section_of file i).size
+unfolding section_of
+bytes_sized file i = bytes_sized_by (header_of file i) (is_absent (header_of file i)) (section_of file i).bytes refl
 
 position_by : (b : Bool) (at n size : ℕ) (rest : Option ℕ) → cond b (Some at) rest ≡ Some n → (rest ≡ Some n → (at + 1 ≤ n) × (n < at + 1 + size)) → (at ≤ n) × (n < at + suc size)
 position_by true at n size rest e later = let same : at ≡ n = cc in (omega arith, omega arith)
@@ -159,7 +169,7 @@ section_name_within file i sound lt =
 
 -- ---- sections
 
-length_sections : (file : List ℕ) → length (sections_of file) ≡ section_count file
+pub length_sections : (file : List ℕ) → length (sections_of file) ≡ section_count file
 unfolding sections_of
 length_sections file = length_each_below (section_of file) (section_count file)
 
@@ -167,7 +177,7 @@ all_sections_of : (file : List ℕ) → elf_fault_of file ≡ None → All (IsSe
 unfolding sections_of
 all_sections_of file e =
     all_each_below (IsSection (length file)) (section_of file) (section_count file)
-    (λ i lt. let sound = sound_of file e (omega arith) in record { name = section_name_within file i sound lt; bytes = bytes_within file i sound lt })
+    (λ i lt. let sound = sound_of file e (omega arith) in record { name = section_name_within file i sound lt; bytes = bytes_within file i sound lt; sized = bytes_sized file i })
 
 -- the spans of sections are of the file
 pub all_sections : (object : ObjectValue) → IsObject object → All (IsSection (length object.file)) object.sections
@@ -280,38 +290,144 @@ length_symbols : (file : List ℕ) → length (symbols_of file) ≡ count_of (sy
 unfolding symbols_of
 length_symbols file = length_symbols_by file (symbols_header file)
 
+count_few : (file : List ℕ) (s : ℕ) → IsSound file → symbol_table file ≡ Some s → 16 * count_in (header_of file s) ≤ length file
+count_few file s sound found =
+    let at = symbol_table_found file s found in
+    let ends = section_ends file s (below_none _ _ s sound.sections at.0) (grind (arith, nat_tests)) in
+    omega (arith, ends)
+
+symbols_few_by : (file : List ℕ) (o : Option ℕ) → IsSound file → symbol_table file ≡ o → 16 * length (symbols_in file (header_at file o)) ≤ length file
+symbols_few_by file None sound found = omega arith
+symbols_few_by file (Some s) sound found =
+    let e = length_each_below (symbol_of file (header_of file s)) (count_in (header_of file s)) in
+    let f = count_few file s sound found in
+    omega (arith, e, f)
+
+symbols_few_sound : (file : List ℕ) → IsSound file → 16 * length (symbols_of file) ≤ length file
+unfolding symbols_of symbols_header
+symbols_few_sound file sound = symbols_few_by file (symbol_table file) sound refl
+
+symbols_few_of : (file : List ℕ) → elf_fault_of file ≡ None → (section_count file ≡ 0) ⊎ (0 < section_count file) → 16 * length (symbols_of file) ≤ length file
+symbols_few_of file e (inl none) =
+    let f : length (symbols_of file) ≡ 0 = ap length (no_sections_lists file none).1 in
+    omega (arith, f)
+symbols_few_of file e (inr some) = symbols_few_sound file (sound_of file e some)
+
+-- each symbol takes 16 bytes of the file
+pub symbols_few : (object : ObjectValue) → IsObject object → 16 * length object.symbols ≤ length object.file
+symbols_few object is =
+    let e : length object.symbols ≡ length (symbols_of object.file) = ap length is.symbols in
+    let f = symbols_few_of object.file is.sound (none_or_some (section_count object.file)) in
+    omega (arith, e, f)
+
 target_linked : (file : List ℕ) (i : ℕ) → link_fault file i ≡ None → is_kept_table file (header_of file i) ≡ true → (header_of file i).info < section_count file
 unfolding link_fault
 target_linked file i e kept = let no = not_refused _ _ e in grind (arith, nat_tests)
+
+-- a relocation's table, target and symbol are among so many
+record IsNumbered (sections symbols : ℕ) (r : Relocation) : Type 0 where
+  table : r.table < sections
+  target : r.target < sections
+  symbol : r.symbol < symbols
 
 symbol_there : (file : List ℕ) (symbols i : ℕ) (h : Header) (k : ℕ) → entry_fault file symbols i h k ≡ None → (relocation_of file i h k).symbol < symbols
 unfolding entry_fault
 symbol_there file symbols i h k e = let no = not_refused _ _ e in grind (arith, nat_tests)
 
-relocation_law : (file : List ℕ) (symbols i : ℕ) (h : Header) (k : ℕ) → i < section_count file → h.info < section_count file → entry_fault file symbols i h k ≡ None → IsRelocation (section_count file) symbols (relocation_of file i h k)
+relocation_law : (file : List ℕ) (symbols i : ℕ) (h : Header) (k : ℕ) → i < section_count file → h.info < section_count file → entry_fault file symbols i h k ≡ None → IsNumbered (section_count file) symbols (relocation_of file i h k)
 unfolding relocation_of
 relocation_law file symbols i h k lt target e = record { table = lt; target = target; symbol = symbol_there file symbols i h k e }
 
-relocations_by : (file : List ℕ) (symbols i : ℕ) (b : Bool) → is_kept_table file (header_of file i) ≡ b → i < section_count file → link_fault file i ≡ None → cond b (first_below (entry_fault file symbols i (header_of file i)) ((header_of file i).size / 12)) None ≡ None → All (IsRelocation (section_count file) symbols) (cond b (each_below (relocation_of file i (header_of file i)) ((header_of file i).size / 12)) [])
+relocations_by : (file : List ℕ) (symbols i : ℕ) (b : Bool) → is_kept_table file (header_of file i) ≡ b → i < section_count file → link_fault file i ≡ None → cond b (first_below (entry_fault file symbols i (header_of file i)) ((header_of file i).size / 12)) None ≡ None → All (IsNumbered (section_count file) symbols) (cond b (each_below (relocation_of file i (header_of file i)) ((header_of file i).size / 12)) [])
 relocations_by file symbols i false kept lt link e = All-nil _
 relocations_by file symbols i true kept lt link e =
-    all_each_below (IsRelocation (section_count file) symbols) (relocation_of file i (header_of file i)) ((header_of file i).size / 12)
+    all_each_below (IsNumbered (section_count file) symbols) (relocation_of file i (header_of file i)) ((header_of file i).size / 12)
     (λ k below. relocation_law file symbols i (header_of file i) k lt (target_linked file i link kept) (below_none _ _ k e below))
 
-relocations_law : (file : List ℕ) (symbols i : ℕ) → i < section_count file → link_fault file i ≡ None → relocation_fault file symbols i ≡ None → All (IsRelocation (section_count file) symbols) (relocations_at file i)
+relocations_law : (file : List ℕ) (symbols i : ℕ) → i < section_count file → link_fault file i ≡ None → relocation_fault file symbols i ≡ None → All (IsNumbered (section_count file) symbols) (relocations_at file i)
 unfolding relocation_fault relocations_at
 relocations_law file symbols i lt link e = relocations_by file symbols i (is_kept_table file (header_of file i)) refl lt link e
 
-all_relocations_of : (file : List ℕ) → elf_fault_of file ≡ None → All (IsRelocation (section_count file) (count_of (symbols_header file))) (relocations_of file)
+all_relocations_of : (file : List ℕ) → elf_fault_of file ≡ None → All (IsNumbered (section_count file) (count_of (symbols_header file))) (relocations_of file)
 unfolding relocations_of
 all_relocations_of file e =
-    all_all_below (IsRelocation (section_count file) (count_of (symbols_header file))) (relocations_at file) (section_count file)
+    all_all_below (IsNumbered (section_count file) (count_of (symbols_header file))) (relocations_at file) (section_count file)
     (λ i lt. let sound = sound_of file e (omega arith) in
     relocations_law file (count_of (symbols_header file)) i lt (below_none _ _ i sound.links lt) (below_none _ _ i sound.relocations lt))
 
--- the tables, targets and symbols of relocations are of the object
-pub all_relocations : (object : ObjectValue) → IsObject object → All (IsRelocation (length object.sections) (length object.symbols)) object.relocations
-all_relocations object is =
+abbrev HasLoaded : List ℕ → Relocation → Type 0
+HasLoaded file r = is_loaded_header (header_of file r.target) ≡ true
+
+loaded_entry : (file : List ℕ) (i : ℕ) (h : Header) (k : ℕ) → is_loaded_header (header_of file h.info) ≡ true → HasLoaded file (relocation_of file i h k)
+unfolding relocation_of
+loaded_entry file i h k e = e
+
+loaded_by : (file : List ℕ) (i : ℕ) (b : Bool) → is_kept_table file (header_of file i) ≡ b → All (HasLoaded file) (cond b (each_below (relocation_of file i (header_of file i)) ((header_of file i).size / 12)) [])
+loaded_by file i false kept = All-nil _
+loaded_by file i true kept =
+    all_each_below (HasLoaded file) (relocation_of file i (header_of file i)) ((header_of file i).size / 12)
+    (λ k below. loaded_entry file i (header_of file i) k (both_true _ _ kept).1)
+
+loaded_at : (file : List ℕ) (i : ℕ) → All (HasLoaded file) (relocations_at file i)
+unfolding relocations_at
+loaded_at file i = loaded_by file i (is_kept_table file (header_of file i)) refl
+
+all_loaded_of : (file : List ℕ) → All (HasLoaded file) (relocations_of file)
+unfolding relocations_of
+all_loaded_of file = all_all_below (HasLoaded file) (relocations_at file) (section_count file) (λ i lt. loaded_at file i)
+
+section_loaded : (file : List ℕ) (i : ℕ) → is_loaded (section_of file i).kind (section_of file i).flags ≡ is_loaded_header (header_of file i)
+unfolding section_of
+section_loaded file i = refl
+
+target_at : (file : List ℕ) (i : ℕ) (d : SectionHead) → i < section_count file → get_or (sections_of file) i d ≡ section_of file i
+unfolding sections_of
+target_at file i d lt = at_each (section_of file) (section_count file) i d lt
+
+numbered_in : (object : ObjectValue) → IsObject object → All (IsNumbered (length object.sections) (length object.symbols)) object.relocations
+numbered_in object is =
     rw (count_sections object is, ap length is.symbols ∙ length_symbols object.file)
-    (All-same (IsRelocation (section_count object.file) (count_of (symbols_header object.file))) object.relocations (relocations_of object.file) is.relocations
+    (All-same (IsNumbered (section_count object.file) (count_of (symbols_header object.file))) object.relocations (relocations_of object.file) is.relocations
     (all_relocations_of object.file is.sound))
+
+target_same : (object : ObjectValue) → IsObject object → (i : ℕ) (head : SectionHead) → slice_get object.sections i ≡ Some head → head ≡ section_of object.file i
+target_same object is i head found =
+    let n = count_sections object is in
+    let within = slice_get_within object.sections i head found in
+    sym (get_or_from_slice_get object.sections i head head found)
+    ∙ (ap (λ (l : List SectionHead). get_or l i head) is.sections ∙ target_at object.file i head (omega (arith, n, within)))
+
+loaded_by_head : (object : ObjectValue) → IsObject object → (r : Relocation) → HasLoaded object.file r → (o : Option SectionHead) → slice_get object.sections r.target ≡ o → IfSome o (λ s. is_loaded s.kind s.flags ≡ true)
+loaded_by_head object is r e None found = tt
+loaded_by_head object is r e (Some head) found =
+    ap (λ (s : SectionHead). is_loaded s.kind s.flags) (target_same object is r.target head found) ∙ (section_loaded object.file r.target ∙ e)
+
+-- the relocations of an object are of its sections and symbols
+pub all_relocations : (object : ObjectValue) → IsObject object → All (IsRelocation object.sections (length object.symbols)) object.relocations
+all_relocations object is =
+    let loaded = All-same (HasLoaded object.file) object.relocations (relocations_of object.file) is.relocations (all_loaded_of object.file) in
+    λ k d lt. let r = get_or object.relocations k d in let n = numbered_in object is k d lt in
+    record { table = n.table; target = n.target; loaded = loaded_by_head object is r (loaded k d lt) (slice_get object.sections r.target) refl; symbol = n.symbol }
+
+-- and so is one of them
+pub relocation_in : (object : ObjectValue) → IsObject object → (place : ℕ) (r : Relocation) → slice_get object.relocations place ≡ Some r → IsRelocation object.sections (length object.symbols) r
+relocation_in object is place r found =
+    subst (IsRelocation object.sections (length object.symbols)) (get_or_from_slice_get object.relocations place r r found)
+    (all_relocations object is place r (slice_get_within object.relocations place r found))
+
+abbrev pub IsOfLoaded : List SectionHead → Relocation → Type 0
+IsOfLoaded sections r = (d : SectionHead) → r.target < length sections → is_loaded (get_or sections r.target d).kind (get_or sections r.target d).flags ≡ true
+
+loaded_there : (sections : List SectionHead) (i : ℕ) (d : SectionHead) (o : Option SectionHead) → slice_get sections i ≡ o → i < length sections → IfSome o (λ s. is_loaded s.kind s.flags ≡ true) → is_loaded (get_or sections i d).kind (get_or sections i d).flags ≡ true
+loaded_there sections i d None found lt e = let some = slice_get-get_or sections i d lt in cc
+loaded_there sections i d (Some head) found lt e = ap (λ (s : SectionHead). is_loaded s.kind s.flags) (get_or_from_slice_get sections i head d found) ∙ e
+
+-- the targets of relocations are loaded
+pub all_loaded : (object : ObjectValue) → IsObject object → All (IsOfLoaded object.sections) object.relocations
+all_loaded object is = λ k d lt. λ head within.
+    let r = get_or object.relocations k d in
+    loaded_there object.sections r.target head (slice_get object.sections r.target) refl within (all_relocations object is k d lt).loaded
+
+-- an object's sections are few
+pub few_sections : (object : ObjectValue) → IsObject object → length object.sections ≡ section_count object.file
+few_sections object is = count_sections object is

@@ -1,3 +1,4 @@
 pub mod PassLemmas
+pub mod PlaceLemmas
 pub mod ObjectLemmas
 pub mod LawLemmas

@@ -1,5 +1,7 @@
 -- Passes over all indexes.
-use Rattle.std.proofs.Common.{◌≡◌, ℕ, zero, suc, ◌+◌, ◌<◌, ◌≤◌, List, [], ◌∷◌, ◌++◌, Option, Some, None, refl, ap, sym, ◌∙◌, ◌⊎◌, inl, inr, arith, add-one, append_assoc}
+use Rattle.std.proofs.Common.{◌≡◌, ℕ, zero, suc, ◌+◌, ◌<◌, ◌≤◌, List, [], ◌∷◌, ◌++◌, Option, Some, None, refl, ap, sym, ◌∙◌, ◌⊎◌, inl, inr, arith, add-one, append_assoc, length, length-append, get_or}
+use Rattle.std.proofs.Math.ListN.{get_or-append}
+use Rattle.std.proofs.Math.Seq.{get_or-append_seam}
 use Rattle.elf_objects.specs.Passes.{first_below, each_below, all_below}
 use Rattle.std.proofs.lemmas.Bool.{cases_lt}
 use Rattle.std.proofs.lemmas.List.{append-nil}
@@ -49,3 +51,22 @@ each_below_after xs f i = rw (each_below_more f i) (sym (append_assoc xs (each_b
 
 pub none_below_after : {A : Type 0} (xs : List A) (f : ℕ → A) → xs ++ each_below f 0 ≡ xs
 none_below_after xs f = rw (each_below_zero f) (append-nil xs)
+
+pub length_each_below : {A : Type 0} (f : ℕ → A) (n : ℕ) → length (each_below f n) ≡ n
+unfolding each_below
+length_each_below f zero = refl
+length_each_below f (suc n) = simp (length-append, length_each_below f n) (omega arith)
+
+at_each_by : {A : Type 0} (f : ℕ → A) (n i : ℕ) (d : A) → (i < n) ⊎ (n ≤ i) → i < suc n → (i < n → get_or (each_below f n) i d ≡ f i) → get_or (each_below f n ++ f n ∷ []) i d ≡ f i
+at_each_by f n i d (inl lt) within rest = get_or-append (each_below f n) (f n ∷ []) d i (let e = length_each_below f n in omega (arith, e)) ∙ rest lt
+at_each_by f n i d (inr le) within rest =
+    let e = length_each_below f n in
+    let same : i ≡ length (each_below f n) = omega (arith, e) in
+    let k : n ≡ i = omega arith in
+    ap (λ (j : ℕ). get_or (each_below f n ++ f n ∷ []) j d) same ∙ (get_or-append_seam (each_below f n) (f n) [] d ∙ ap f k)
+
+-- the value at an index
+pub at_each : {A : Type 0} (f : ℕ → A) (n i : ℕ) (d : A) → i < n → get_or (each_below f n) i d ≡ f i
+unfolding each_below
+at_each f zero i d lt = absurd (omega arith)
+at_each f (suc n) i d lt = at_each_by f n i d (cases_lt i n) lt (at_each f n i d)

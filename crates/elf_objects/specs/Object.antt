@@ -1,5 +1,5 @@
 -- What a file is as an object, and why it is none.
-use Rattle.std.specs.Prelude.{◌≡◌, ◌≤◌, ◌<◌, ℕ, List, [], ◌∷◌, ◌==◌, if◌then◌else◌, Option, None}
+use Rattle.std.specs.Prelude.{◌≡◌, ◌≤◌, ◌<◌, ◌+◌, ℕ, List, [], ◌∷◌, length, slice_get, IfSome, true, ◌==◌, if◌then◌else◌, Option, None}
 use Rattle.elf_objects.specs.declared.fault.ElfFault.{ElfFault}
 use Rattle.elf_objects.specs.declared.object.Span.{Span}
 use Rattle.elf_objects.specs.declared.object.SectionHead.{SectionHead}
@@ -9,7 +9,7 @@ use Rattle.elf_objects.specs.declared.object.Home.TheVariants as home
 use Rattle.elf_objects.specs.declared.object.Relocation.{Relocation}
 use Rattle.elf_objects.specs.Passes.{first_of, or_else}
 use Rattle.elf_objects.specs.Header.{section_count, header_fault, table_fault}
-use Rattle.elf_objects.specs.Section.{section_faults, link_faults, compressed_faults, rel_faults}
+use Rattle.elf_objects.specs.Section.{is_loaded, section_faults, link_faults, compressed_faults, rel_faults}
 use Rattle.elf_objects.specs.Names.{name_faults, sections_of}
 use Rattle.elf_objects.specs.Symbol.{symbol_faults, symbols_of}
 use Rattle.elf_objects.specs.Relocation.{relocation_faults, relocations_of}
@@ -50,10 +50,11 @@ pub record IsWithin (size : ℕ) (span : Span) : Type 0 where
   pub ordered : span.start ≤ span.end
   pub within : span.end ≤ size
 
--- a section's spans are of the file
+-- a section's spans are of the file, and it has no more bytes there than its size
 pub record IsSection (size : ℕ) (section : SectionHead) : Type 0 where
   pub name : IsWithin size section.name
   pub bytes : IsWithin size section.bytes
+  pub sized : section.bytes.end ≤ section.bytes.start + section.size
 
 -- a symbol that lies in a section lies in one of these
 abbrev pub IsHome : ℕ → Home → Type 0
@@ -67,8 +68,9 @@ pub record IsSymbol (size sections : ℕ) (symbol : Symbol) : Type 0 where
   pub name : IsWithin size symbol.name
   pub home : IsHome sections symbol.home
 
--- a relocation's table and target are among these sections, and its symbol is among these symbols
-pub record IsRelocation (sections symbols : ℕ) (relocation : Relocation) : Type 0 where
-  pub table : relocation.table < sections
-  pub target : relocation.target < sections
+-- a relocation's table and target are among these sections, the target is loaded, and its symbol is among so many symbols
+pub record IsRelocation (sections : List SectionHead) (symbols : ℕ) (relocation : Relocation) : Type 0 where
+  pub table : relocation.table < length sections
+  pub target : relocation.target < length sections
+  pub loaded : IfSome (slice_get sections relocation.target) (λ s. is_loaded s.kind s.flags ≡ true)
   pub symbol : relocation.symbol < symbols

@@ -1,17 +1,17 @@
 //! Objects: their sections, symbols and relocations.
 
-ghost use Rattle.std.specs.Prelude.{◌≡◌, ◌≤◌, ◌<◌, length, IfOk, IfErr, OnOk, None, slice_range, slice_get, List, All};
+ghost use Rattle.std.specs.Prelude.{◌≡◌, ◌≤◌, ◌<◌, ◌*◌, length, IfOk, IfErr, OnOk, None, slice_range, slice_get, List, All};
 ghost use Rattle.elf_objects.specs.Passes.{IsFaultOf};
 ghost use Rattle.elf_objects.specs.Section.{is_loaded};
 ghost use Rattle.elf_objects.specs.Names.{sections_of};
 ghost use Rattle.elf_objects.specs.Symbol.{symbols_of};
-ghost use Rattle.elf_objects.specs.Relocation.{relocations_of};
+ghost use Rattle.elf_objects.specs.Relocation.{ends_of};
 ghost use Rattle.elf_objects.specs.Object.{ObjectValue, IsObject, IsSection, IsSymbol, IsRelocation, elf_fault_of, contents_fault};
 
 use crate::fault::ElfFault;
 use crate::header::{check_header, check_table, section_count};
 use crate::names::read_sections;
-use crate::relocation::read_relocations;
+use crate::relocation::{read_ends, relocation_at};
 use crate::section::{check_compressed, check_links, check_rel, check_sections, is_loaded};
 use crate::symbol::read_symbols;
 use std::alloc::Global;
@@ -40,7 +40,7 @@ impl SectionHead {
     /// Whether the section is in the memory of the program: it has the alloc flag, and is none of
     /// the tables of symbols, names and relocations.
     pub fn is_loaded(&self) -> bool
-        ensures { result ≡ is_loaded self.now.kind self.now.flags }
+        ensures loaded { result ≡ is_loaded self.now.kind self.now.flags }
     {
         is_loaded(self.kind, self.flags)
     }
@@ -94,16 +94,19 @@ pub struct Relocation {
 }
 
 /// An object file, with its sections and symbols by their index, and the relocations of its loaded
-/// sections in order of table and entry.
+/// sections in order of table and entry. These stay in the file, and `ends` has how many there are up to the end of
+/// each section: so the memory that an object takes grows with its file alone.
 #[derive(Drop)]
 pub struct Object {
     file: Vec<u8>,
     sections: Vec<SectionHead>,
     symbols: Vec<Symbol>,
-    relocations: Vec<Relocation>,
+    ends: Vec<usize>,
 }
 
 impl Model for Object {
+    ghost use Rattle.std.specs.Prelude.{◌≡◌};
+    ghost use Rattle.elf_objects.specs.Relocation.{relocations_of, ends_of};
     ghost use Rattle.elf_objects.specs.Object.{ObjectValue, IsObject};
 
     ghost Value = { ObjectValue };
@@ -112,23 +115,33 @@ impl Model for Object {
       file = o.file.items;
       sections = o.sections.items;
       symbols = o.symbols.items;
-      relocations = o.relocations.items;
+      relocations = relocations_of o.file.items;
     } };
 
     ghost invariant = { λ o. IsObject record {
       file = o.file.items;
       sections = o.sections.items;
       symbols = o.symbols.items;
-      relocations = o.relocations.items;
-    } };
+      relocations = relocations_of o.file.items;
+    } × (o.ends.items ≡ ends_of o.file.items) };
 }
 
 impl Object {
+    /// It does nothing. It tells a proof the laws of an object.
+    pub fn laws(&self)
+        ensures lawful { IsObject self.now }
+    {
+        let _file = self.file.as_slice();
+    }
+
     /// The sections, by their index.
     pub fn sections(&self) -> &[SectionHead]
         ensures value { result.now ≡ self.now.sections }
         ensures within { All (IsSection (length self.now.file)) result.now }
+        ensures few { length result.now < 65536 }
     {
+        let file = self.file.as_slice();
+        let _count = section_count(file);
         &self.sections
     }
 
@@ -136,21 +149,21 @@ impl Object {
     pub fn symbols(&self) -> &[Symbol]
         ensures value { result.now ≡ self.now.symbols }
         ensures within { All (IsSymbol (length self.now.file) (length self.now.sections)) result.now }
+        ensures few { 16 * length result.now ≤ length self.now.file }
     {
         &self.symbols
     }
 
-    /// The relocations of the loaded sections, in order of table and entry.
-    pub fn relocations(&self) -> &[Relocation]
-        ensures value { result.now ≡ self.now.relocations }
-        ensures within { All (IsRelocation (length self.now.sections) (length self.now.symbols)) result.now }
+    /// How many relocations of loaded sections there are.
+    pub fn relocation_count(&self) -> usize
+        ensures count { result ≡ length self.now.relocations }
     {
-        &self.relocations
+        self.ends.last().copied().unwrap_or(0)
     }
 
     /// The section of this index.
     pub fn section(&self, index: u32) -> SectionHead
-        requires { index < length self.now.sections }
+        requires there { index < length self.now.sections }
         ensures value { slice_get self.now.sections index ≡ Some result }
         ensures within { IsSection (length self.now.file) result }
     {
@@ -159,38 +172,38 @@ impl Object {
 
     /// The symbol of this index.
     pub fn symbol(&self, index: u32) -> Symbol
-        requires { index < length self.now.symbols }
+        requires there { index < length self.now.symbols }
         ensures value { slice_get self.now.symbols index ≡ Some result }
         ensures within { IsSymbol (length self.now.file) (length self.now.sections) result }
     {
         self.symbols()[index as usize]
     }
 
-    /// The relocation at this place of the list.
+    /// The relocation at this place of the list, which is in order of table and entry.
     pub fn relocation(&self, place: usize) -> Relocation
-        requires { place < length self.now.relocations }
+        requires there { place < length self.now.relocations }
         ensures value { slice_get self.now.relocations place ≡ Some result }
-        ensures within { IsRelocation (length self.now.sections) (length self.now.symbols) result }
+        ensures within { IsRelocation self.now.sections (length self.now.symbols) result }
     {
-        self.relocations()[place]
+        relocation_at(self.file.as_slice(), self.ends.as_slice(), place)
     }
 
     /// These bytes of the file.
     pub fn part(&self, span: Span) -> &[u8]
         requires ordered { span.start ≤ span.end }
         requires within { span.end ≤ length self.now.file }
-        ensures { result.now ≡ slice_range self.now.file span.start span.end }
+        ensures bytes { result.now ≡ slice_range self.now.file span.start span.end }
     {
         &self.file[span.start..span.end]
     }
 }
 
-// The three lists of an object.
+// What an object keeps beside its file.
 #[derive(Drop)]
 struct Contents {
     sections: Vec<SectionHead>,
     symbols: Vec<Symbol>,
-    relocations: Vec<Relocation>,
+    ends: Vec<usize>,
 }
 
 #[tactic(auto, unfolding(crate::specs::Object::contents_fault))]
@@ -198,7 +211,7 @@ fn read_contents(alloc: Global, file: &[u8]) -> Result<Contents, ElfFault>
     ensures sound { OnOk result (contents_fault file.now ≡ None) }
     ensures sections { IfOk result (λ c. c.sections.items ≡ sections_of file.now) }
     ensures symbols { IfOk result (λ c. c.symbols.items ≡ symbols_of file.now) }
-    ensures relocations { IfOk result (λ c. c.relocations.items ≡ relocations_of file.now) }
+    ensures ends { IfOk result (λ c. c.ends.items ≡ ends_of file.now) }
     ensures refusal { IfErr result (IsFaultOf (contents_fault file.now)) }
 {
     check_sections(file)?;
@@ -207,11 +220,11 @@ fn read_contents(alloc: Global, file: &[u8]) -> Result<Contents, ElfFault>
     check_compressed(file)?;
     check_rel(file)?;
     let symbols = read_symbols(alloc, file)?;
-    let relocations = read_relocations(alloc, file)?;
+    let ends = read_ends(alloc, file)?;
     Ok(Contents {
         sections,
         symbols,
-        relocations,
+        ends,
     })
 }
 
@@ -229,7 +242,7 @@ pub fn parse(alloc: Global, bytes: Vec<u8>) -> Result<Object, ElfFault>
             file: bytes,
             sections: Vec::new(alloc),
             symbols: Vec::new(alloc),
-            relocations: Vec::new(alloc),
+            ends: Vec::new(alloc),
         });
     }
     check_table(file)?;
@@ -238,6 +251,6 @@ pub fn parse(alloc: Global, bytes: Vec<u8>) -> Result<Object, ElfFault>
         file: bytes,
         sections: contents.sections,
         symbols: contents.symbols,
-        relocations: contents.relocations,
+        ends: contents.ends,
     })
 }

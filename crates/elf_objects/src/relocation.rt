@@ -1,8 +1,10 @@
 //! Relocations of loaded sections, and which are refused.
 
-ghost use Rattle.std.specs.Prelude.{◌≡◌, ◌≤◌, IfOk, IfErr, OnOk, None, ◌++◌};
+ghost use Rattle.std.specs.Prelude.{◌≡◌, ◌≤◌, ◌<◌, IfOk, IfErr, OnOk, Some, None, length, slice_get};
+ghost use Rattle.std.specs.List.Sorted.{IsNonDecreasing, IsPartitionPoint};
 ghost use Rattle.elf_objects.specs.Passes.{IsFaultOf};
-ghost use Rattle.elf_objects.specs.Relocation.{relocation_of, entry_fault, relocation_fault, relocation_faults, relocations_at, relocations_of};
+ghost use Rattle.elf_objects.specs.Relocation.{relocation_of, entry_fault, relocation_fault, relocation_faults, relocations_at, relocations_of, count_below, ends_of, IsIn};
+ghost use Rattle.elf_objects.specs.Header.{section_count};
 
 use crate::bytes::word_at;
 use crate::fault::ElfFault;
@@ -74,36 +76,86 @@ fn relocation_faults(file: &[u8]) -> Option<ElfFault>
     )
 }
 
-#[tactic(auto, using(crate::proofs::PassLemmas::each_below_after, crate::proofs::PassLemmas::none_below_after), unfolding(crate::specs::Relocation::relocations_at))]
-fn push_relocations(kept: &mut Vec<Relocation>, file: &[u8], i: u32) -> Result<(), AllocError>
-    ensures { OnOk result (kept.new.items ≡ kept.old.items ++ relocations_at file.now i) }
+// How many relocations a section holds for a loaded one.
+#[tactic(auto, using(crate::proofs::PlaceLemmas::length_at))]
+fn count_at(file: &[u8], i: u32) -> u32
+    ensures { result ≡ length (relocations_at file.now i) }
 {
     let h = header_of(file, i);
     if is_kept_table(file, &h) {
-        for entry in 0..h.size / 12 {
-            kept.push(relocation_of(file, i, &h, entry))?;
-        }
+        h.size / 12
+    } else {
+        0
     }
-    Ok(())
 }
 
-#[tactic(auto, using(crate::proofs::PassLemmas::all_below_more, crate::proofs::PassLemmas::all_below_zero), unfolding(crate::specs::Relocation::relocations_of))]
-fn relocations_of(alloc: Global, file: &[u8]) -> Result<Vec<Relocation>, AllocError>
-    ensures { IfOk result (λ v. v.items ≡ relocations_of file.now) }
+// How many relocations there are up to the end of each section.
+#[tactic(auto, using(crate::proofs::PassLemmas::each_below_more, crate::proofs::PassLemmas::each_below_zero, crate::proofs::PlaceLemmas::count_more, crate::proofs::PlaceLemmas::count_zero), unfolding(crate::specs::Relocation::ends_of))]
+fn ends_of(alloc: Global, file: &[u8]) -> Result<Vec<usize>, AllocError>
+    ensures { IfOk result (λ v. v.items ≡ ends_of file.now) }
 {
-    let mut kept = Vec::new(alloc);
+    let mut ends = Vec::new(alloc);
+    let mut end = 0;
     for i in 0..u32::from(section_count(file)) {
-        push_relocations(&mut kept, file, i)?;
+        end += count_at(file, i) as usize;
+        ends.push(end)?;
     }
-    Ok(kept)
+    Ok(ends)
 }
 
-/// The relocations of the loaded sections.
-pub fn read_relocations(alloc: Global, file: &[u8]) -> Result<Vec<Relocation>, ElfFault>
+/// How many relocations of loaded sections there are up to the end of each section. The relocations themselves stay in
+/// the file: there can be very many more of them than the file has bytes.
+pub fn read_ends(alloc: Global, file: &[u8]) -> Result<Vec<usize>, ElfFault>
     ensures sound { OnOk result (relocation_faults file.now ≡ None) }
-    ensures list { IfOk result (λ v. v.items ≡ relocations_of file.now) }
+    ensures ends { IfOk result (λ v. v.items ≡ ends_of file.now) }
     ensures refusal { IfErr result (IsFaultOf (relocation_faults file.now)) }
 {
     refuse(relocation_faults(file))?;
-    Ok(relocations_of(alloc, file)?)
+    Ok(ends_of(alloc, file)?)
+}
+
+// The first section by whose end there are more relocations than this.
+fn section_with(ends: &[usize], place: usize) -> usize
+    requires { IsNonDecreasing ends.now }
+    ensures { IsPartitionPoint (λ end. end ≤ place) (λ end. place < end) ends.now result }
+{
+    ends.partition_point(|end| *end <= place)
+}
+
+// The section whose table has the relocation at this place.
+#[tactic(auto, using(crate::proofs::PlaceLemmas::is_in, crate::proofs::PlaceLemmas::ends_rise))]
+fn table_with(file: &[u8], ends: &[usize], place: usize) -> u32
+    requires ends { ends.now ≡ ends_of file.now }
+    requires place { place < length (relocations_of file.now) }
+    ensures { IsIn file.now result place }
+{
+    let section = section_with(ends, place);
+    let _fewer_than_65536 = section_count(file);
+    section as u32
+}
+
+// How many relocations there are before this section's.
+#[tactic(auto, using(crate::proofs::PlaceLemmas::count_zero, crate::proofs::PlaceLemmas::end_before))]
+fn count_before(ends: &[usize], section: u32, file: &[u8]) -> usize
+    requires ends { ends.now ≡ ends_of file.now }
+    requires section { section < section_count file.now }
+    ensures { result ≡ count_below file.now section }
+{
+    if section == 0 {
+        return 0;
+    }
+    ends[section as usize - 1]
+}
+
+/// The relocation at this place among those of all loaded sections.
+#[tactic(auto, using(crate::proofs::PlaceLemmas::found_at))]
+pub fn relocation_at(file: &[u8], ends: &[usize], place: usize) -> Relocation
+    requires ends { ends.now ≡ ends_of file.now }
+    requires place { place < length (relocations_of file.now) }
+    ensures { slice_get (relocations_of file.now) place ≡ Some result }
+{
+    let section = table_with(file, ends, place);
+    let table = header_of(file, section);
+    let entry = place - count_before(ends, section, file);
+    relocation_of(file, section, &table, entry as u32)
 }

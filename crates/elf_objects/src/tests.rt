@@ -754,7 +754,11 @@ fn symbols_of_an_object(rt: HostRuntime) -> Result<(), Fail> {
         assert_eq!(rt; symbol.binding, binding, "{name}");
         assert_eq!(rt; symbol.home, home, "{name}");
     }
-    assert_eq!(rt; object.relocations(), RELOCATIONS.as_slice());
+    assert_eq!(rt; object.relocation_count(), 13);
+    for (place, wanted) in RELOCATIONS.into_iter().enumerate() {
+        assert!(rt; place < object.relocation_count());
+        assert_eq!(rt; object.relocation(place), wanted);
+    }
     Ok(())
 }
 
@@ -764,7 +768,7 @@ fn signs_and_symbol_zero(rt: HostRuntime) -> Result<(), Fail> {
     let changes = [(TEXT_TABLE + 8, 0xffff_fffe), (SYMBOLS, 0xffff_ffff)];
     let file = changed(&rt, rt.alloc(), full(), changes)?;
     let object = object_of(rt.alloc(), &file)?;
-    assert!(rt; 0 < object.relocations().len() && 0 < object.symbols().len());
+    assert!(rt; 0 < object.relocation_count() && 0 < object.symbols().len());
     assert_eq!(rt; object.relocation(0).addend, -2);
     assert_eq!(rt; object.symbol(0).name, Span { start: 0, end: 0 });
     assert_eq!(rt; object.symbol(0).home, Home::Undefined);
@@ -778,7 +782,7 @@ fn object_with_debug_sections(rt: HostRuntime) -> Result<(), Fail> {
     let object = object_of(rt.alloc(), debug())?;
     assert_eq!(rt; object.sections().len(), 21);
     assert_eq!(rt; object.symbols().len(), 11);
-    let wanted = [Relocation {
+    let wanted = Relocation {
         table: 4,
         entry: 0,
         target: 3,
@@ -786,7 +790,8 @@ fn object_with_debug_sections(rt: HostRuntime) -> Result<(), Fail> {
         symbol: 10,
         kind: 5,
         addend: 0,
-    }];
-    assert_eq!(rt; object.relocations(), wanted.as_slice());
+    };
+    assert_eq!(rt; object.relocation_count(), 1);
+    assert_eq!(rt; object.relocation(0), wanted);
     Ok(())
 }

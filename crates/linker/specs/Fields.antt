@@ -1,0 +1,54 @@
+-- Relocated fields in a memory, and which are refused.
+use Rattle.std.specs.Prelude.{ℤ, ℕ, ◌+◌, List, Option, Some, None, Result, Ok, Err, ◌%◌, fold, slice_get, ◌-◌, slice_index, pos, ◌+ℤ◌, replicate}
+use Rattle.elf_objects.specs.declared.object.SectionHead.{SectionHead}
+use Rattle.elf_objects.specs.declared.object.Relocation.{Relocation}
+use Rattle.reloc_apply.specs.declared.RelocFault.{RelocFault}
+use Rattle.reloc_apply.specs.Fields.{relocated}
+use Rattle.linker.specs.declared.fault.LinkFault.{LinkFault}
+use Rattle.linker.specs.Passes.{first_in, NumberedObject}
+use Rattle.linker.specs.Numbers.{Linking, numbers_in}
+use Rattle.linker.specs.Bytes.{put, bytes_at}
+use Rattle.linker.specs.declared.fault.LinkFault.TheVariants as fault
+
+abbrev pub size_by : Option SectionHead → ℕ
+size_by None = 0
+size_by (Some head) = head.bytes.end - head.bytes.start
+
+-- how many bytes the target has in the file
+abbrev pub target_size : NumberedObject → Relocation → ℕ
+target_size x r = size_by (slice_get x.object.sections r.target)
+
+abbrev pub target_address : (ℕ → ℕ) → NumberedObject → Relocation → ℕ
+target_address address x r = address (x.first + r.target)
+
+-- symbol plus addend
+abbrev pub sum_of : List ℕ → Relocation → ℤ
+sum_of numbers r = pos (slice_index numbers r.symbol) +ℤ r.addend
+
+-- these bytes of a section with one field more, or why not
+abbrev pub with_field : (ℕ → ℕ) → List ℕ → NumberedObject → Relocation → List ℕ → Result (List ℕ) RelocFault
+with_field address numbers x r bytes = relocated r.kind ((target_address address x r + r.offset) % 65536) (sum_of numbers r) r.offset bytes
+
+abbrev pub or_same : List ℕ → Result (List ℕ) RelocFault → List ℕ
+or_same bytes (Ok new) = new
+or_same bytes (Err f) = bytes
+
+-- the memory with one field more
+unfoldable pub put_field : (ℕ → ℕ) → List ℕ → NumberedObject → List ℕ → Relocation → List ℕ
+put_field address numbers x memory r = let bytes = bytes_at memory (target_address address x r) (target_size x r) in
+    put memory (target_address address x r) (or_same bytes (with_field address numbers x r bytes))
+
+-- in the order of the object's list; where fields overlap, the later one counts
+abbrev pub put_fields : Linking → List ℕ → NumberedObject → List ℕ
+put_fields l memory x = fold (put_field l.address (numbers_in l x) x) memory x.object.relocations
+
+-- 8: whether a field is refused does not depend on the bytes
+abbrev pub reloc_fault_by : NumberedObject → Relocation → Result (List ℕ) RelocFault → Option LinkFault
+reloc_fault_by x r (Ok bytes) = None
+reloc_fault_by x r (Err f) = Some (fault.Reloc x.number r.table r.entry f)
+
+unfoldable pub reloc_fault : (ℕ → ℕ) → List ℕ → NumberedObject → Relocation → Option LinkFault
+reloc_fault address numbers x r = reloc_fault_by x r (with_field address numbers x r (replicate (target_size x r) 0))
+
+abbrev pub reloc_fault_in : Linking → NumberedObject → Option LinkFault
+reloc_fault_in l x = first_in (reloc_fault l.address (numbers_in l x) x) x.object.relocations

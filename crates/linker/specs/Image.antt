@@ -1,0 +1,53 @@
+-- The linked image: zeros, then the sections, the fields of their relocations in order, the stubs and the vectors.
+use Rattle.std.specs.Prelude.{ℕ, ◌≡◌, List, length, ◌==◌, if◌then◌else◌, fold, replicate}
+use Rattle.elf_objects.specs.Object.{ObjectValue}
+use Rattle.layout_file.specs.Values.{ModuleValue, LayoutValue}
+use Rattle.std.specs.List.{range_with_len}
+use Rattle.mod_layout.specs.Table.{Table, with_module, empty_table}
+use Rattle.image_text.specs.Image.{Image, AreNumbered}
+use Rattle.linker.specs.Passes.{fold_at, numbered_objects}
+use Rattle.linker.specs.Placement.{text_of, ram_of}
+use Rattle.linker.specs.Numbers.{Linking, linking_of, end_in}
+use Rattle.linker.specs.Sections.{put_sections}
+use Rattle.linker.specs.Fields.{put_fields}
+use Rattle.linker.specs.Stubs.{put_stub, put_vector}
+
+-- all bytes that nothing sets are 0
+abbrev pub memory_by : Linking → (ℕ → ℕ) → LayoutValue → List ObjectValue → List ℕ → List ℕ
+memory_by l end layout objects zeros =
+    let sections = fold (put_sections l.address) zeros (numbered_objects objects) in
+    let fields = fold (put_fields l) sections (numbered_objects objects) in
+    let stubs = fold_at (put_stub l end) fields 0 layout.modules in
+    fold (put_vector l) stubs layout.vectors
+
+unfoldable pub zeros : List ℕ
+zeros = replicate 65536 0
+
+unfoldable pub linked_memory : LayoutValue → List ObjectValue → List ℕ
+linked_memory layout objects = memory_by (linking_of layout objects) (end_in layout objects) layout objects zeros
+
+-- a module with this boot is protected
+abbrev pub with_boot : (ℕ → ℕ) → ℕ → Table → ℕ → ModuleValue → Table
+with_boot end boot t i m = if m.boot == boot then with_module t m.vendor (text_of end i m) (ram_of end i m) else t
+
+abbrev pub with_boots : (ℕ → ℕ) → List ModuleValue → Table → ℕ → Table
+with_boots end modules t boot = fold_at (with_boot end boot) t 0 modules
+
+abbrev pub table_by : (ℕ → ℕ) → LayoutValue → Table
+table_by end layout = fold (with_boots end layout.modules) (empty_table layout.room) (range_with_len 1 layout.room)
+
+-- modules get ids from 1 in rising boot, in a table of the layout's room
+unfoldable pub linked_table : LayoutValue → List ObjectValue → Table
+linked_table layout objects = table_by (end_in layout objects) layout
+
+-- the image is the linked one
+pub record Links (layout : LayoutValue) (objects : List ObjectValue) (image : Image) : Type 0 where
+  pub memory : image.memory ≡ linked_memory layout objects
+  pub table : image.table ≡ linked_table layout objects
+  pub key : image.node_key ≡ layout.key
+  pub handler : image.handler_sp ≡ layout.handler_sp
+
+-- the ids of a table are those from 1 on, all of them held
+pub record Held (t : Table) : Type 0 where
+  pub numbered_from_1 : AreNumbered 1 t.modules
+  pub all_held : length t.modules ≡ t.given

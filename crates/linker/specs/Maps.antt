@@ -1,0 +1,41 @@
+-- The code's maps of names, and what they hold.
+use Rattle.std.specs.Prelude.{ℕ, ◌≡◌, List, length, Option, Some, ◌++◌, map, bytes_eq}
+use Rattle.std.specs.Borrow.{Bor}
+use Rattle.std.specs.BTreeMap.{BTreeMap, get_by}
+use Rattle.std.specs.Cmp.Lexicographic.{slice_cmp}
+use Rattle.std.specs.Ordering.{nat_cmp, ordering_then}
+use Rattle.std.specs.declared.cmp.Ordering.{Ordering}
+use Rattle.linker.specs.declared.item.Item.{Item}
+use Rattle.linker.specs.declared.names.Names.{Names}
+use Rattle.linker.specs.declared.symbol.Meaning.{Meaning}
+use Rattle.linker.specs.Passes.{some_if, or_else}
+use Rattle.linker.specs.Symbols.{NamedValue}
+use Rattle.linker.specs.Definitions.{strong_of, weak_of}
+use Rattle.linker.specs.Commons.{Common, common_item, common_at}
+use Rattle.linker.specs.Names.{stands_by}
+
+-- how a name compares to a key, which is a length and a name
+abbrev pub name_cmp : List ℕ → ℕ × Bor (List ℕ) → Ordering
+name_cmp name k = ordering_then (nat_cmp (length name) k.0) (slice_cmp nat_cmp name k.1.now)
+
+-- what a map has at each name
+abbrev pub name_entry : {A : Type 0} → BTreeMap (ℕ × Bor (List ℕ)) A → List ℕ → Option A
+name_entry m name = get_by (name_cmp name) m
+
+-- what names stand for by the maps
+abbrev pub meaning_of_name : Names → List ℕ → Option Meaning
+meaning_of_name names name = stands_by (name_entry names.strong name) (name_entry names.commons name) (name_entry names.weak name)
+
+-- a map with one name more, where it was not there before
+abbrev pub Notes : {A : Type 0} → BTreeMap (ℕ × Bor (List ℕ)) A → BTreeMap (ℕ × Bor (List ℕ)) A → List ℕ → A → Type 0
+Notes old new name a = (q : List ℕ) → name_entry new q ≡ or_else (name_entry old q) (some_if (bytes_eq name q) (Some a))
+
+-- the definitions of these symbols are noted, and no common
+pub record Holds (names : Names) (symbols : List NamedValue) : Type 0 where
+  pub strong : (q : List ℕ) → name_entry names.strong q ≡ strong_of symbols q
+  pub weak : (q : List ℕ) → name_entry names.weak q ≡ weak_of symbols q
+
+-- these commons are noted, and are items after the sections
+pub record HoldsCommons (names : Names) (items sections : List Item) (cs : List Common) : Type 0 where
+  pub items_are : items ≡ sections ++ map common_item cs
+  pub numbers : (q : List ℕ) → name_entry names.commons q ≡ common_at (length sections) cs q

@@ -1,0 +1,45 @@
+-- The numbers of symbols, once everything has an address.
+use Rattle.std.specs.Prelude.{ℕ, ◌+◌, List, Option, Some, None, slice_index}
+use Rattle.elf_objects.specs.Object.{ObjectValue}
+use Rattle.elf_objects.specs.declared.object.Symbol.{Symbol}
+use Rattle.layout_file.specs.Values.{LayoutValue}
+use Rattle.linker.specs.declared.names.Names.{Names}
+use Rattle.linker.specs.declared.symbol.Meaning.{Meaning}
+use Rattle.linker.specs.Passes.{map_at, NumberedObject}
+use Rattle.linker.specs.Symbols.{symbol_of}
+use Rattle.linker.specs.Names.{stands_for, symbol_meaning}
+use Rattle.linker.specs.Maps.{meaning_of_name}
+use Rattle.linker.specs.Placement.{items_of, starts_of, filled_end, address_at}
+use Rattle.linker.specs.declared.symbol.Meaning.TheVariants as meaning
+
+-- a number, or an address and an offset
+abbrev pub number_of : (ℕ → ℕ) → Meaning → ℕ
+number_of address (meaning.Number n) = n
+number_of address (meaning.Place item offset) = address item + offset
+
+abbrev pub number_or_zero : (ℕ → ℕ) → Option Meaning → ℕ
+number_or_zero address None = 0
+number_or_zero address (Some m) = number_of address m
+
+-- what names stand for, and where items stand
+pub record Linking : Type 0 where
+  pub names : List ℕ → Option Meaning
+  pub address : ℕ → ℕ
+
+abbrev pub linking_of : LayoutValue → List ObjectValue → Linking
+linking_of layout objects = record { names = stands_for objects; address = address_at (starts_of layout) (items_of layout objects) }
+
+-- where the contents of each region end
+abbrev pub end_in : LayoutValue → List ObjectValue → ℕ → ℕ
+end_in layout objects = filled_end (starts_of layout) (items_of layout objects)
+
+-- the number of a symbol of an object
+abbrev pub symbol_number : Linking → NumberedObject → ℕ → Symbol → ℕ
+symbol_number l x k s = number_or_zero l.address (symbol_meaning l.names (symbol_of x k s))
+
+abbrev pub numbers_in : Linking → NumberedObject → List ℕ
+numbers_in l x = map_at (symbol_number l x) 0 x.object.symbols
+
+-- a linking by the code's maps and vectors
+abbrev pub linking_by : Names → List ℕ → Linking
+linking_by names addresses = record { names = meaning_of_name names; address = slice_index addresses }

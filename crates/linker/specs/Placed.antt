@@ -1,0 +1,29 @@
+-- What the code's lists of addresses and ends hold while it places the items.
+use Rattle.std.specs.Prelude.{ℕ, ◌≡◌, List, length, Option, Some, None, All, ◌<◌, slice_index}
+use Rattle.linker.specs.declared.item.Part.{Part}
+use Rattle.linker.specs.declared.item.Item.{Item}
+use Rattle.linker.specs.Placement.{start_of, item_at, address_at}
+
+abbrev pub BelowBy : ℕ → Option Part → Type 0
+BelowBy rank None = ⊥
+BelowBy rank (Some p) = p.rank < rank
+
+-- the k-th item is in a part of lower rank
+abbrev pub RankBelow : ℕ → List Item → ℕ → Type 0
+RankBelow rank items k = BelowBy rank (item_at items k).part
+
+-- the items of lower rank stand, and this is where those of this rank begin
+pub record Placed (starts : List ℕ) (items : List Item) (rank : ℕ) (addresses ends : List ℕ) : Type 0 where
+  pub count : length addresses ≡ length items
+  pub regions : length ends ≡ length starts
+  pub begun : (r : ℕ) → r < length ends → slice_index ends r ≡ start_of starts items r rank
+  pub stand : (k : ℕ) → RankBelow rank items k → slice_index addresses k ≡ address_at starts items k
+  pub nowhere : (k : ℕ) → (item_at items k).part ≡ None → slice_index addresses k ≡ 0
+
+-- each item's region is one of so many
+abbrev pub IsInBy : ℕ → Option Part → Type 0
+IsInBy regions None = Unit {0}
+IsInBy regions (Some p) = (p.region < regions) × (p.rank < 3)
+
+abbrev pub AreIn : ℕ → List Item → Type 0
+AreIn regions items = All (λ i. IsInBy regions i.part) items
