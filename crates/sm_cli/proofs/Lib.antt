@@ -1,4 +1,4 @@
+pub mod Clap
 pub mod Needed
+pub mod Running
 pub mod Serving
-pub mod Words
-mod Decided
