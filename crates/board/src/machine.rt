@@ -1,11 +1,10 @@
 //! The machine's parts, and one cycle of them.
 
-ghost use Rattle.std.specs.Prelude.{◌≡◌, ◌+◌, ◌<◌, ◌≤◌, ◌^◌, ◌∷◌, ◌++◌, ◌&&◌, [], nat_lt, length, option_to_list, IfSome, None};
-ghost use Rattle.arrayvec.specs.ArrayVec.{array_vec_len};
-ghost use Rattle.sm_words.specs.Words.{word_at, IsCore};
+ghost use Rattle.std.specs.Prelude.{◌≡◌, ◌+◌, ◌≤◌, ◌∷◌, [], IfSome, None};
+ghost use Rattle.sm_words.specs.Words.{IsCore};
 ghost use Rattle.written_machine.specs.Cycle.{pc_of, asleep, stopped, denied, vector_in, raised, has_room};
 ghost use Rattle.board.specs.Standing.{state_of, clock_of};
-ghost use Rattle.board.specs.Sound.{is_held_first, IsSound, Stands};
+ghost use Rattle.board.specs.Sound.{is_held_first};
 
 use crate::port::Surroundings;
 use arrayvec::ArrayVec;

@@ -11,5 +11,5 @@ pub fn one_text()
 
 /// Bytes are refused, or are some image's text.
 pub fn every_text()
-    ensures { Complete }
+    ensures complete { Complete }
 {}

@@ -14,7 +14,7 @@ use texts::{decimal, hex_key};
 
 /// The text of an image.
 pub fn write(alloc: Global, image: &Image) -> Result<Vec<u8>, AllocError>
-    ensures { IfOk result (λ text. text.items ≡ image_text image.now) }
+    ensures text { IfOk result (λ text. text.items ≡ image_text image.now) }
 {
     let mut text = Vec::new(alloc);
     let room = image.table.room();

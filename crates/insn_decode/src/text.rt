@@ -14,8 +14,8 @@ use texts::{push_decimal, push_hex_word};
 /// Sets `out` to the text of an instruction that stands at the address `at`. A jump shows its target, a
 /// symbolic operand the address that it means.
 pub fn show(insn: &Insn, at: u16, out: &mut ArrayString<48>)
-    requires { IsDecoded insn.now }
-    ensures { out.new.bytes ≡ text_of insn.now at }
+    requires decoded { IsDecoded insn.now }
+    ensures text { out.new.bytes ≡ text_of insn.now at }
 {
     out.clear();
     push_insn(insn, at, out);

@@ -144,9 +144,6 @@ module _ (m : ℕ) (own : Module) (key text : List ℕ) (s : State) (k : Keeps m
   turn_to left p d e =
       turn_is left s ∙ ap (λ v. turn_at v s.active s.phase left s) d ∙ ap (λ a. turn_at None a s.phase left s) active_is ∙ ap (λ q. turn_at None (Some m) q left s) e
 
-  here_lone : Lone
-  here_lone = lone_of (backup_of m s) (section own.ram s.memory)
-
   waits_moves : (left r : ℕ) → due s ≡ None → rest_of s.phase ≡ suc r → Moves m own s (record (lone_of (backup_of m s) (section own.ram s.memory)) { rest = r }) (turn left s)
   waits_moves left r d e =
       let p = k.proper is_active in
@@ -198,9 +195,6 @@ module _ (m : ℕ) (own : Module) (key text : List ℕ) (a b : State) (ready : R
 
   seen_in : hide_by true m own a ≡ hide_by true m own b
   seen_in = seen_inside m own key text a b ready.twins.seen act_a
-
-  lone_a : Lone
-  lone_a = lone_of (backup_of m a) (section own.ram a.memory)
 
   secret_now : Secret m own key text (Some (backup_of m a)) (Some (backup_of m b)) (section own.ram a.memory) (section own.ram b.memory)
   secret_now =

@@ -11,15 +11,8 @@ use Rattle.pc_access.specs.Rights.{right, right_at, first_denied, or_else}
 use Rattle.pc_access.specs.declared.Kind.TheVariants.{Read, Write}
 use Rattle.attest.specs.Units.{each_byte, text_reads}
 use Rattle.isolation.proofs.Rights.{Sound, holds_in, holds_true}
-use Rattle.isolation.proofs.Tables.{sound_from, no_entry, meets_any, taken}
-
-or_first : (a b : Bool) → (a || b) ≡ false → a ≡ false
-or_first true b e = e
-or_first false b e = refl
-
-or_second : (a b : Bool) → (a || b) ≡ false → b ≡ false
-or_second true b e = cc
-or_second false b e = e
+use Rattle.isolation.proofs.Tables.{sound_from, no_entry}
+use Rattle.mod_layout.proofs.TableLemmas.{or_left, or_right, meets_any, taken}
 
 module _ (m : ℕ) (own : Module) (t : Table) (sound : Sound m own t) (active : Option ℕ) (held : List ℕ) where
   read_allowed : (a : ℕ) → holds own.text a ≡ true → right t active held (record { kind = Read; addr = a; width = Byte }) ≡ None
@@ -56,10 +49,10 @@ module _ (text ram : Section) (given : ℕ) where
   open_here : (a : ℕ) → holds ram a ≡ true → (ms : List Module) → AreModules given ms → meets_any text ram ms ≡ false → place_in ms a ≡ Open
   open_here a h [] ok n = refl
   open_here a h (x ∷ ms) ok n =
-      let n1 = or_first (meets text ram x) (meets_any text ram ms) n in
-      let n2 = or_second (meets text ram x) (meets_any text ram ms) n in
-      let s4 = or_second (shares text x.text || shares text x.ram || shares ram x.text) (shares ram x.ram) n1 in
-      let s3 = or_second (shares text x.text || shares text x.ram) (shares ram x.text) (or_first (shares text x.text || shares text x.ram || shares ram x.text) (shares ram x.ram) n1) in
+      let n1 = or_left (meets text ram x) (meets_any text ram ms) n in
+      let n2 = or_right (meets text ram x) (meets_any text ram ms) n in
+      let s4 = or_right (shares text x.text || shares text x.ram || shares ram x.text) (shares ram x.ram) n1 in
+      let s3 = or_right (shares text x.text || shares text x.ram) (shares ram x.text) (or_left (shares text x.text || shares text x.ram || shares ram x.text) (shares ram x.ram) n1) in
       let et = apart_at ram x.text a s3 h in
       let er = apart_at ram x.ram a s4 h in
       let rest = place_in ms a in

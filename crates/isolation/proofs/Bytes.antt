@@ -31,12 +31,6 @@ cleared_set zero (suc n) (x ∷ xs) (suc a) v low high = ap (λ l. 0 ∷ l) (cle
 cleared_set (suc lo) (suc n) (x ∷ xs) zero v low high = absurd (omega arith)
 cleared_set (suc lo) (suc n) (x ∷ xs) (suc a) v low high = ap (λ l. x ∷ l) (cleared_set lo (suc n) xs a v (omega arith) (omega arith))
 
-pub cleared_cleared : (lo n : ℕ) (mem : List ℕ) → cleared lo n (cleared lo n mem) ≡ cleared lo n mem
-cleared_cleared lo zero mem = refl
-cleared_cleared lo (suc n) [] = refl
-cleared_cleared zero (suc n) (x ∷ xs) = ap (λ l. 0 ∷ l) (cleared_cleared zero n xs)
-cleared_cleared (suc lo) (suc n) (x ∷ xs) = ap (λ l. x ∷ l) (cleared_cleared lo (suc n) xs)
-
 pub length_cleared : (lo n : ℕ) (mem : List ℕ) → length (cleared lo n mem) ≡ length mem
 length_cleared lo zero mem = refl
 length_cleared lo (suc n) [] = refl

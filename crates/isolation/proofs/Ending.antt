@@ -15,7 +15,7 @@ use Rattle.reg_backup.specs.declared.backup.Phase.TheVariants.{Run}
 use Rattle.reg_backup.specs.declared.frames.Frame.{Frame}
 use Rattle.reg_backup.specs.declared.frames.Frame.TheVariants.{Plain, Module as Held}
 use Rattle.attest.specs.Done.{own_of}
-use Rattle.cpu_step.specs.Lone.{Lone, Doing, Waits, Closes, Leaves, Breaks, Does, doing, doing_by, next_insn, job_of}
+use Rattle.cpu_step.specs.Lone.{Doing, Waits, Closes, Leaves, Breaks, Does, doing, doing_by, next_insn, job_of}
 use Rattle.tracer.specs.declared.Event.{Event}
 use Rattle.written_machine.specs.Cycle.{Settled, unsettled, pc_of, rest_of, in_text, leave_if, close_of, settle_by, settle_in, settle}
 use Rattle.written_machine.specs.Peers.{section}
@@ -193,9 +193,6 @@ module _ (m : ℕ) (own : Module) (key text : List ℕ) where
 
       job_same : job_of key own text b.caller ≡ job_of key own text a.caller
       job_same = ap (job_of key own text) (sym secret_now.0)
-
-      abbrev lone_s : State → Lone
-      lone_s s = lone_of (backup_of m s) (section own.ram s.memory)
 
       still : (x y : Doing) → doing (job_of key own text a.caller) (lone_of (backup_of m a) (section own.ram a.memory)) ≡ x → doing (job_of key own text b.caller) (lone_of (backup_of m b) (section own.ram b.memory)) ≡ y → IsOpen x → IsOpen y → Settles (unsettled a) (unsettled b)
       still x y ea eb oa ob =

@@ -1,9 +1,6 @@
 -- What every state of a run keeps of its cores, its table and its ids.
-use Rattle.std.proofs.Common.{◌≡◌, ◌≢◌, ◌⊎◌, inl, inr, ⊎_elim, ℕ, zero, suc, ◌+◌, ◌-◌, ◌<◌, ◌≤◌, ◌%◌, List, [], ◌∷◌, length, get_or, replicate, refl, sym, ap, ◌∙◌, subst, arith, Bool, true, false, cond, nat_lt, ◌==◌, ◌&&◌, Option, Some, None, length-set, get_or-set_same, get_or-set_other}
-use Rattle.std.proofs.lemmas.Bool.{cases_lt}
-use Rattle.std.proofs.lemmas.Bool.Decides.{nat_tests}
-use Rattle.std.proofs.lemmas.List.{set_past}
-use Rattle.sm_words.specs.Words.{reg, put, kept, word_at, IsCore}
+use Rattle.std.proofs.Common.{◌≡◌, ℕ, zero, suc, ◌+◌, ◌-◌, ◌<◌, ◌≤◌, List, [], ◌∷◌, get_or, replicate, refl, sym, subst, arith, Bool, true, false, cond, Option, Some, None}
+use Rattle.sm_words.specs.Words.{reg, word_at, IsCore}
 use Rattle.insn_decode.specs.Code.{insn_of, length_of}
 use Rattle.insn_decode.specs.declared.insn.Insn.{Insn}
 use Rattle.insn_decode.specs.declared.insn.Insn.TheVariants.{Two, One, Jump, Reti, Unit as UnitOp}
@@ -34,50 +31,11 @@ use Rattle.written_machine.specs.State.{State}
 use Rattle.written_machine.specs.View.{at}
 use Rattle.isolation.proofs.Each.{Each}
 use Rattle.isolation.proofs.Gie.{effect_keeps, past_keeps}
-use Rattle.isolation.proofs.Tables.{taken, table_more, table_dropped}
+use Rattle.mod_layout.proofs.TableLemmas.{taken, table_more, table_dropped}
+use Rattle.sm_words.proofs.Cores.{put_core}
 use Rattle.isolation.proofs.Cases.{turn_at, turn_unless, turn_is}
 
 -- ---- a write of a register keeps a core
-put_at : (core : List ℕ) (n v k : ℕ) → (reg (put core n v) k ≡ reg core k) ⊎ ((k ≡ n) × (reg (put core n v) k ≡ kept n v))
-put_at core n v k = by (k == n) refl
-  where
-    by : (c : Bool) → (k == n) ≡ c → (reg (put core n v) k ≡ reg core k) ⊎ ((k ≡ n) × (reg (put core n v) k ≡ kept n v))
-    by false e = inl (let ne : k ≢ n = grind (arith, nat_tests) in get_or-set_other core n k (kept n v) 0 ne)
-    by true e =
-        let same : k ≡ n = grind (arith, nat_tests) in
-        ⊎_elim
-        (λ lt. inr (same, ap (λ i. reg (put core n v) i) same ∙ get_or-set_same core n (kept n v) 0 lt))
-        (λ ge. inl (ap (λ l. reg l k) (set_past core n (kept n v) ge)))
-        (cases_lt n (length core))
-
-cond_small : (c : Bool) (x y n : ℕ) → x < n → y < n → cond c x y < n
-cond_small true x y n p q = p
-cond_small false x y n p q = q
-
-kept_small : (n v : ℕ) → kept n v < 65536
-kept_small n v =
-    let w = v % 65536 in
-    let s : w < 65536 = omega arith in
-    cond_small _ (w - w % 2) (cond (n == 2) (w % 512) (cond (n == 3) 0 w)) 65536 (omega arith)
-    (cond_small (n == 2) (w % 512) (cond (n == 3) 0 w) 65536 (omega arith) (cond_small (n == 3) 0 w 65536 (omega arith) s))
-
-put_core : (core : List ℕ) (n v : ℕ) → IsCore core → IsCore (put core n v)
-put_core core n v c =
-    record {
-      sixteen = length-set core n (kept n v) ∙ c.sixteen;
-      words = λ k. ⊎_elim (λ e. subst (λ x. x < 65536) (sym e) (c.words k)) (λ e. subst (λ x. x < 65536) (sym e.1) (kept_small n v)) (put_at core n v k);
-      even_pc = ⊎_elim (λ e. ap (λ x. x % 2) e ∙ c.even_pc) (λ e. ap (λ x. x % 2) (e.1 ∙ ap (λ i. kept i v) (sym e.0)) ∙ even v) (put_at core n v 0);
-      even_sp = ⊎_elim (λ e. ap (λ x. x % 2) e ∙ c.even_sp) (λ e. ap (λ x. x % 2) (e.1 ∙ ap (λ i. kept i v) (sym e.0)) ∙ even v) (put_at core n v 1);
-      nine_bits = ⊎_elim (λ e. subst (λ x. x < 512) (sym e) c.nine_bits) (λ e. subst (λ x. x < 512) (sym (e.1 ∙ ap (λ i. kept i v) (sym e.0))) (bits v)) (put_at core n v 2);
-      zero_three = ⊎_elim (λ e. e ∙ c.zero_three) (λ e. e.1 ∙ ap (λ i. kept i v) (sym e.0)) (put_at core n v 3);
-    }
-  where
-    even : (v : ℕ) → (v % 65536 - v % 65536 % 2) % 2 ≡ 0
-    even v = omega arith
-
-    bits : (v : ℕ) → v % 65536 % 512 < 512
-    bits v = omega arith
-
 zeros_core : IsCore (replicate 16 0)
 zeros_core = record { sixteen = refl; words = λ k. small k; even_pc = refl; even_sp = refl; nine_bits = omega arith; zero_three = refl }
   where
@@ -174,13 +132,6 @@ unfolding arrive_outside
 outside_fine v s f = push_fine (first_denied s.table None (held_ids s.frames) (pushes s)) v s f
 
 -- ---- instructions
-less_of : (a b : ℕ) → nat_lt a b ≡ true → a < b
-less_of a b e = grind (arith, nat_tests)
-
-last_true : (a b : Bool) → (a && b) ≡ true → b ≡ true
-last_true true b e = e
-last_true false b e = cc
-
 abbrev TableFine : Table → Type 0
 TableFine t = IsTable t × (t.given < 65536)
 

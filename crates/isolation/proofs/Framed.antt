@@ -35,6 +35,7 @@ use Rattle.isolation.specs.Calls.{times}
 use Rattle.isolation.proofs.Turns.{times_none}
 use Rattle.isolation.proofs.Cases.{turn_at, turn_unless, turn_is}
 use Rattle.sm_words.specs.Status.{is_gie}
+use Rattle.mod_layout.proofs.TableLemmas.{and_right}
 
 abbrev pub is_resume : After → Bool
 is_resume Resume = true
@@ -84,7 +85,7 @@ fewer_times m [] = omega arith
 fewer_times m (Plain ∷ fs) = omega arith
 fewer_times m (Held b ∷ fs) = omega arith
 
-fewer_frames : (fs : List Frame) → length (without_newest fs) ≤ length fs
+pub fewer_frames : (fs : List Frame) → length (without_newest fs) ≤ length fs
 fewer_frames [] = omega arith
 fewer_frames (f ∷ fs) = omega arith
 
@@ -129,7 +130,7 @@ unfolding act
 act_framed s h = act_first_framed (insn_of (word_at (byte_of s) (pc_of s)) 0 0) s h
 
 -- ---- entering
-free_of : (id : ℕ) (held : List ℕ) (a : ℕ) (b : Bool) → is_held id held ≡ b → refuse_if b Rule.Reenter a id ≡ None → is_held id held ≡ false
+pub free_of : (id : ℕ) (held : List ℕ) (a : ℕ) (b : Bool) → is_held id held ≡ b → refuse_if b Rule.Reenter a id ≡ None → is_held id held ≡ false
 free_of id held a true e f = absurd cc
 free_of id held a false e f = e
 
@@ -154,7 +155,7 @@ enter_at_framed Open a left s e n h = h
 enter_at_framed (Text id) a left s e n h = h
 enter_at_framed (Data id) a left s e n h = h
 
-right_fetch : (s : State) → right s.table s.active (held_ids s.frames) (fetch s) ≡ None → right_at (place_of s.table (pc_of s)) s.active (held_ids s.frames) Fetch (pc_of s) ≡ None
+pub right_fetch : (s : State) → right s.table s.active (held_ids s.frames) (fetch s) ≡ None → right_at (place_of s.table (pc_of s)) s.active (held_ids s.frames) Fetch (pc_of s) ≡ None
 unfolding right
 right_fetch s e = e
 
@@ -179,21 +180,17 @@ room_if : (b : Bool) (l : Option ℕ) (v : ℕ) → vector_if b l ≡ Some v →
 room_if true l v e = refl
 room_if false l v e = absurd cc
 
-both_true : (a b : Bool) → (a && b) ≡ true → b ≡ true
-both_true true b e = e
-both_true false b e = cc
-
-due_room : (v : ℕ) (s : State) → due s ≡ Some v → length s.frames < 8
+pub due_room : (v : ℕ) (s : State) → due s ≡ Some v → length s.frames < 8
 unfolding due
 due_room v s e =
     let k = room_if (is_gie s.core && nat_lt (length s.frames) 8) _ v e in
-    let b = both_true (is_gie s.core) (nat_lt (length s.frames) 8) k in grind (arith, nat_tests)
+    let b = and_right (is_gie s.core) (nat_lt (length s.frames) 8) k in grind (arith, nat_tests)
 
 plain_times : (m : ℕ) (fs : List Frame) → times m (plain_if fs) ≡ times m fs
 plain_times m [] = refl
 plain_times m (f ∷ fs) = refl
 
-plain_few : (fs : List Frame) → length fs < 8 → length (plain_if fs) ≤ 8
+pub plain_few : (fs : List Frame) → length fs < 8 → length (plain_if fs) ≤ 8
 plain_few [] h = omega arith
 plain_few (f ∷ fs) h = omega arith
 

@@ -30,6 +30,7 @@ use Rattle.isolation.proofs.Bytes.{Out, get_cleared}
 use Rattle.isolation.proofs.Each.{Each}
 use Rattle.isolation.proofs.Ports.{OutBy, OutAccess, veil_port, take_reads_veiled, put_writes_veiled}
 use Rattle.isolation.proofs.Rights.{Sound, reads_out, writes_out, out_place_next}
+use Rattle.mod_layout.proofs.TableLemmas.{and_left, and_right}
 
 -- of a hidden core GIE alone is seen
 abbrev pub veil_core : List ℕ → List ℕ
@@ -81,14 +82,6 @@ length_veiled m (f ∷ fs) = ap suc (length_veiled m fs)
 plain_veiled : (m : ℕ) (fs : List Frame) → plain_if (veil_frames m fs) ≡ veil_frames m (plain_if fs)
 plain_veiled m [] = refl
 plain_veiled m (f ∷ fs) = refl
-
-and_left : (a b : Bool) → (a && b) ≡ true → a ≡ true
-and_left true b e = refl
-and_left false b e = e
-
-and_right : (a b : Bool) → (a && b) ≡ true → b ≡ true
-and_right true b e = e
-and_right false b e = cc
 
 module _ (m : ℕ) (own : Module) (t : Table) (sound : Sound m own t) where
   -- a byte that is not the module's is seen

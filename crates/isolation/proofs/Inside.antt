@@ -33,14 +33,7 @@ use Rattle.written_machine.specs.State.{State}
 use Rattle.isolation.proofs.Bytes.{Out, get_part, part_set_in, part_set_out, cleared_set}
 use Rattle.isolation.proofs.Each.{Each}
 use Rattle.isolation.proofs.Rights.{Sound, holds_true, holds_in}
-
-and_left : (a b : Bool) → (a && b) ≡ true → a ≡ true
-and_left true b e = refl
-and_left false b e = e
-
-and_right : (a b : Bool) → (a && b) ≡ true → b ≡ true
-and_right true b e = e
-and_right false b e = cc
+use Rattle.mod_layout.proofs.TableLemmas.{and_left, and_right, not_true}
 
 -- each byte of an access is there
 abbrev pub InBy : Width → (ℕ → Bool) → ℕ → Type 0
@@ -106,10 +99,6 @@ table_alone (Two op x a b) t core e = refl
 table_alone (One op x a) t core e = refl
 table_alone (Jump a f) t core e = refl
 table_alone Reti t core e = refl
-
-not_true : (b : Bool) → not b ≡ true → b ≡ false
-not_true true e = cc
-not_true false e = refl
 
 module _ (m : ℕ) (own : Module) (t : Table) (sound : Sound m own t) (j : Job) (owner : j.owner ≡ own) where
   abbrev pub in_sections : ℕ → Bool
@@ -324,9 +313,6 @@ module _ (m : ℕ) (own : Module) (t : Table) (sound : Sound m own t) (j : Job) 
 
   -- ---- the instruction
   module _ (s : State) (table_is : s.table ≡ t) (active_is : s.active ≡ Some m) (text_is : section own.text s.memory ≡ j.text) (key_is : s.key ≡ j.key) (caller_is : s.caller ≡ j.caller) where
-    d0 : List ℕ
-    d0 = section own.ram s.memory
-
     own_is : (who_of s).own ≡ (lone_who j).own
     own_is = ap (λ a. own_of a s.table) active_is ∙ ap (λ u. module_of m u) table_is ∙ sound.found ∙ ap Some (sym owner)
 

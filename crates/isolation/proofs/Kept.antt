@@ -156,14 +156,6 @@ module _ (m from : ℕ) where
   unfolding enter
   enters left s h = enters_at (place_of s.table (pc_of s)) s.active left s h
 
-  pub record Entering (left : ℕ) (s : State) (u : Step) : Type 0 where
-    pub is : u ≡ begin left s
-    pub free : (own : Module) (key text : List ℕ) → check m own key text s ≡ None
-    pub here : place_of s.table (pc_of s) ≡ Entry m
-    pub none : s.active ≡ None
-    pub from_is : left ≡ from
-    pub still : s.phase ≡ Run 0
-
   begin_entering_by : (own : Module) (key text : List ℕ) (left : ℕ) (s : State) (d : Option Denied) → check m own key text s ≡ d → Enters m from (begin_unless d left s).events → (d ≡ None) × (place_of s.table (pc_of s) ≡ Entry m) × (s.active ≡ None) × (left ≡ from)
   begin_entering_by own key text left s (Some d) e h = absurd (denied_quiet d s h)
   begin_entering_by own key text left s None e h =

@@ -53,14 +53,15 @@ refused : (b : Bool) (r : _) (a id : ℕ) → refuse_if (not b) r a id ≡ None 
 refused true r a id e = refl
 refused false r a id e = cc
 
-held_true : (s : Section) (a : ℕ) → s.start ≤ a → a < s.end → holds s a ≡ true
-held_true s a low high = grind (arith, nat_tests)
-
 pub holds_true : (s : Section) (a : ℕ) → holds s a ≡ true → (s.start ≤ a) × (a < s.end)
 holds_true s a e = (grind (arith, nat_tests), grind (arith, nat_tests))
 
 pub holds_in : (s : Section) (a : ℕ) → s.start ≤ a → a < s.end → holds s a ≡ true
-holds_in s a low high = held_true s a low high
+holds_in s a low high = grind (arith, nat_tests)
+
+none_or : (p q : Option Denied) → or_else p q ≡ None → (p ≡ None) × (q ≡ None)
+none_or None q e = (refl, e)
+none_or (Some d) q e = absurd cc
 
 even_of : (w : Width) (a : ℕ) → misaligned w a ≡ false → (w ≡ Word) → a % 2 ≡ 0
 even_of Byte a e f = cc
@@ -71,7 +72,7 @@ module _ (m : ℕ) (own : Module) (t : Table) (sound : Sound m own t) where
   out_of : (a : ℕ) → place_of t a ≢ Data m → Out own.ram.start (size_of own.ram) a
   out_of a ne low =
       let lt = sound.ram_order in
-      ⊎_elim (λ in_ram. absurd (ne (sound.in_data a (held_true own.ram a low in_ram)))) (λ past. omega arith) (cases_lt a own.ram.end)
+      ⊎_elim (λ in_ram. absurd (ne (sound.in_data a (holds_in own.ram a low in_ram)))) (λ past. omega arith) (cases_lt a own.ram.end)
 
   -- the byte after an even address is out where that one is
   out_next : (a : ℕ) → a % 2 ≡ 0 → Out own.ram.start (size_of own.ram) a → Out own.ram.start (size_of own.ram) (a + 1)
@@ -106,10 +107,6 @@ module _ (m : ℕ) (own : Module) (t : Table) (sound : Sound m own t) where
         let p = aligned_none (misaligned w a) a (right_at (place_of t a) active held Write a) e in
         by_width w a p.0 (out_of a (not_written a p.1))
 
-    or_none : (p q : Option Denied) → or_else p q ≡ None → (p ≡ None) × (q ≡ None)
-    or_none None q e = (refl, e)
-    or_none (Some d) q e = absurd cc
-
     reads_by : (k : Kind) (a : ℕ) (w : Width) (ys : List Access) → right t active held (record { kind = k; addr = a; width = w }) ≡ None → Each (OutAccess own.ram.start (size_of own.ram)) ys → Each (OutAccess own.ram.start (size_of own.ram)) (cond (is_read k) (record { kind = k; addr = a; width = w } ∷ ys) ys)
     reads_by Read a w ys e h = (right_out Read w a (λ f. cc) e, h)
     reads_by Write a w ys e h = h
@@ -123,13 +120,13 @@ module _ (m : ℕ) (own : Module) (t : Table) (sound : Sound m own t) where
     pub reads_out : (xs : List Access) → first_denied t active held xs ≡ None → Each (OutAccess own.ram.start (size_of own.ram)) (reads_of xs)
     reads_out [] e = tt
     reads_out (x ∷ xs) e =
-        let p = or_none (right t active held x) (first_denied t active held xs) e in
+        let p = none_or (right t active held x) (first_denied t active held xs) e in
         reads_by x.kind x.addr x.width (reads_of xs) p.0 (reads_out xs p.1)
 
     pub writes_out : (xs : List Access) → first_denied t active held xs ≡ None → Each (OutAccess own.ram.start (size_of own.ram)) (writes_of xs)
     writes_out [] e = tt
     writes_out (x ∷ xs) e =
-        let p = or_none (right t active held x) (first_denied t active held xs) e in
+        let p = none_or (right t active held x) (first_denied t active held xs) e in
         writes_by x.kind x.addr x.width (writes_of xs) p.0 (writes_out xs p.1)
 
 module _ (m : ℕ) (own : Module) (t : Table) (sound : Sound m own t) where
@@ -163,10 +160,6 @@ module _ (m : ℕ) (own : Module) (t : Table) (sound : Sound m own t) (active : 
   text_width : (w : Width) (a : ℕ) → misaligned w a ≡ false → Out own.text.start (size_of own.text) a → OutBy w own.text.start (size_of own.text) a
   text_width Byte a e out = out
   text_width Word a e out = (out, text_next a (even_of Word a e refl) out)
-
-  none_or : (p q : Option Denied) → or_else p q ≡ None → (p ≡ None) × (q ≡ None)
-  none_or None q e = (refl, e)
-  none_or (Some d) q e = absurd cc
 
   text_by : (k : Kind) (a : ℕ) (w : Width) (ys : List Access) → right t active held (record { kind = k; addr = a; width = w }) ≡ None → Each (OutAccess own.text.start (size_of own.text)) ys → Each (OutAccess own.text.start (size_of own.text)) (cond (is_write k) (record { kind = k; addr = a; width = w } ∷ ys) ys)
   unfolding right

@@ -119,9 +119,6 @@ module _ (m : ℕ) (own : Module) (key text : List ℕ) where
     settle_stays = settle_in_stays s.phase
 
   -- ---- an arrival inside a module, also this one
-  arrived_run : (c : Bool) (b : Backup) (s : State) → (b.module == m) ≡ c → found_if (b.module == m) b (find_held m s.frames) ≡ found_if c b (find_held m s.frames)
-  arrived_run c b s e = ap (λ x. found_if x b (find_held m s.frames)) e
-
   pub arrive_inside_stays : (c : Bool) (v id : ℕ) (s : State) → Keeps m own key text s → s.active ≡ Some id → (id == m) ≡ c → St s (arrive_inside v id s).state
   unfolding arrive_inside
   arrive_inside_stays true v id s k e f =

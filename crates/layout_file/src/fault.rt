@@ -24,7 +24,7 @@ impl Key {
 
     /// The key as it stands in the file.
     pub fn name(self) -> &'static str
-        ensures { result.now ≡ key_name self }
+        ensures name { result.now ≡ key_name self }
     {
         match self {
             Key::Version => "version",

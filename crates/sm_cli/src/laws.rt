@@ -3,5 +3,5 @@ ghost use Rattle.sm_cli.specs.Laws.{IsDecided};
 
 /// Whatever the files are that are told, a command is answered, or one of its files is refused.
 pub fn every_command()
-    ensures { IsDecided }
+    ensures decided { IsDecided }
 {}

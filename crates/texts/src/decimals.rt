@@ -12,7 +12,7 @@ use itoa::{Buffer, Integer};
 
 /// A number in decimal.
 pub fn decimal(number: u64) -> ArrayString<20>
-    ensures { result.bytes ≡ fmt.decimal number }
+    ensures text { result.bytes ≡ fmt.decimal number }
 {
     let mut digits = Buffer::new();
     let mut text = ArrayString::new();

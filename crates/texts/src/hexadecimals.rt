@@ -10,7 +10,7 @@ use arrayvec::ArrayString;
 /// A byte as two digits.
 #[tactic(auto, unfolding(hex::specs::Hex::encode_with))]
 pub fn hex_byte(byte: u8) -> ArrayString<2>
-    ensures { result.bytes ≡ spec.hex_byte byte }
+    ensures text { result.bytes ≡ spec.hex_byte byte }
 {
     let mut digits = [0; 2];
     encode(&[byte], &mut digits);
@@ -20,7 +20,7 @@ pub fn hex_byte(byte: u8) -> ArrayString<2>
 /// A word as four digits.
 #[tactic(auto, unfolding(hex::specs::Hex::encode_with))]
 pub fn hex_word(word: u16) -> ArrayString<4>
-    ensures { result.bytes ≡ spec.hex_word word }
+    ensures text { result.bytes ≡ spec.hex_word word }
 {
     let mut digits = [0; 4];
     encode(&word.to_be_bytes(), &mut digits);
@@ -29,7 +29,7 @@ pub fn hex_word(word: u16) -> ArrayString<4>
 
 /// A key as 32 digits.
 pub fn hex_key(key: &[u8; 16]) -> ArrayString<32>
-    ensures { result.bytes ≡ spec.hex_key key.now }
+    ensures text { result.bytes ≡ spec.hex_key key.now }
 {
     let mut digits = [0; 32];
     encode(key, &mut digits);
@@ -56,7 +56,7 @@ pub fn push_hex_word<const N: usize>(word: u16, out: &mut ArrayString<N>)
 
 /// The byte that two digits write.
 pub fn read_hex_byte(text: &[u8]) -> Option<u8>
-    ensures { result ≡ spec.read_hex_byte text.now }
+    ensures byte { result ≡ spec.read_hex_byte text.now }
 {
     let mut bytes = [0; 1];
     if decode(text, &mut bytes) {
@@ -68,7 +68,7 @@ pub fn read_hex_byte(text: &[u8]) -> Option<u8>
 
 /// The word that four digits write.
 pub fn read_hex_word(text: &[u8]) -> Option<u16>
-    ensures { result ≡ spec.read_hex_word text.now }
+    ensures word { result ≡ spec.read_hex_word text.now }
 {
     let mut bytes = [0; 2];
     if decode(text, &mut bytes) {
@@ -80,7 +80,7 @@ pub fn read_hex_word(text: &[u8]) -> Option<u16>
 
 /// The key that 32 digits write.
 pub fn read_hex_key(text: &[u8]) -> Option<[u8; 16]>
-    ensures { result ≡ spec.read_hex_key text.now }
+    ensures key { result ≡ spec.read_hex_key text.now }
 {
     let mut key = [0; 16];
     if decode(text, &mut key) {
@@ -92,7 +92,7 @@ pub fn read_hex_key(text: &[u8]) -> Option<[u8; 16]>
 
 /// Whether a byte is a digit: `0` to `9` or `a` to `f`.
 pub fn is_hex_digit(byte: u8) -> bool
-    ensures { result ≡ spec.is_hex_digit byte }
+    ensures digit { result ≡ spec.is_hex_digit byte }
 {
     matches!(byte, b'0'..=b'9' | b'a'..=b'f')
 }

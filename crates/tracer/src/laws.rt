@@ -3,5 +3,5 @@ ghost use Rattle.tracer.specs.Laws.{LinesAreTold};
 
 /// The line of an event is told from that of every other.
 pub fn lines_are_told()
-    ensures { LinesAreTold }
+    ensures told { LinesAreTold }
 {}

@@ -31,6 +31,7 @@ use Rattle.reg_backup.specs.declared.backup.After.{After}
 use Rattle.reg_backup.specs.declared.backup.After.TheVariants.{Next, Handler, Resume, Close}
 use Rattle.reg_backup.specs.declared.backup.Phase.{Phase}
 use Rattle.reg_backup.specs.declared.backup.Phase.TheVariants.{Run, Pad}
+use Rattle.reg_backup.specs.declared.frames.TheConstants.{MOST_FRAMES}
 use Rattle.reg_backup.specs.declared.frames.Frame.{Frame}
 use Rattle.reg_backup.specs.declared.frames.Frame.TheVariants.{Plain, Module as Held}
 use Rattle.attest.specs.Units.{Doer, Effect}
@@ -144,9 +145,9 @@ vector_if false v = None
 unfoldable pub raised : State → Option ℕ
 raised s = vector_if (is_gie s.core) (line_of s.devices)
 
--- whether fewer than eight frames are held
+-- whether there is room for a frame
 abbrev pub has_room : State → Bool
-has_room s = nat_lt (length s.frames) 8
+has_room s = nat_lt (length s.frames) MOST_FRAMES
 
 -- the vector that arrives where the phase lets it: the raised one, where there is room for its frame
 unfoldable pub due : State → Option ℕ

@@ -2,4 +2,4 @@ use Rattle.layout_file.proofs.SoundLemmas.{IsLayout-LayoutOf}
 use Rattle.layout_file.proofs.laws.layouts_are_sound.Goals as goal
 
 pub returns : goal.returns
-returns c = IsLayout-LayoutOf c.args.bytes.now
+returns c = record { sound = IsLayout-LayoutOf c.args.bytes.now }

@@ -2,4 +2,4 @@ use Rattle.layout_file.proofs.ClashLemmas.{overlaps-named}
 use Rattle.layout_file.proofs.laws.overlaps_are_first.Goals as goal
 
 pub returns : goal.returns
-returns c = overlaps-named c.args.regions.now
+returns c = record { lowest = overlaps-named c.args.regions.now }

@@ -2,4 +2,4 @@ use Rattle.sm_cli.proofs.Needed.{decided}
 use Rattle.sm_cli.proofs.laws.every_command.Goals as goal
 
 pub returns : goal.returns
-returns c = decided
+returns c = record { decided = decided }
