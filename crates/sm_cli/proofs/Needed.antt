@@ -1,6 +1,6 @@
 -- The files that a command needs: each holds one thing or has a fault, so that one thing comes of a command.
-use Rattle.std.proofs.Common.{◌≡◌, ℕ, ◌≤◌, ◌<◌, List, [], ◌∷◌, length, Option, Some, None, Result, Ok, Err, refl, sym, ◌∙◌, ap, ap₂, subst, arith, inl, inr, ◌⊎◌, ⊎_elim}
-use Rattle.std.specs.Prelude.{IsSome, IsSomeAnd}
+use Rattle.std.proofs.Common.{true, false, is_some, ◌≡◌, ℕ, ◌≤◌, ◌<◌, List, [], ◌∷◌, length, Option, Some, None, Result, Ok, Err, refl, sym, ◌∙◌, ap, ap₂, subst, arith, inl, inr, ◌⊎◌, ⊎_elim}
+use Rattle.std.specs.Prelude.{IsSomeAnd}
 use Rattle.std.proofs.lemmas.Bool.{cases_lt}
 use Rattle.sm_io.specs.Files.{FileMap}
 use Rattle.mod_layout.specs.declared.Module.{Module}
@@ -15,7 +15,7 @@ use Rattle.schedule_file.specs.declared.ScheduleFault.{ScheduleFault}
 use Rattle.schedule_file.specs.Reading.{schedule_of}
 use Rattle.sm_cli.specs.declared.answers.FileFault.{FileFault}
 use Rattle.sm_cli.specs.declared.answers.FileFault.TheVariants as fault
-use Rattle.sm_cli.specs.Files.{Kind, image_file, image_with, schedule_file, Held, an_image, a_schedule, IsTextOf, IsHeld, HasNoModule, IsRefused, most_bytes, HasFault, Need, need, Holds, HoldAll, IsFirstFault}
+use Rattle.sm_cli.specs.Files.{Kind, image_file, image_with, schedule_file, Held, an_image, a_schedule, IsTextOf, IsHeld, HasNoModule, IsRefused, most_bytes, HasFault, Need, Holds, HoldAll, IsFirstFault}
 use Rattle.sm_cli.specs.Command.{Command, Outcome, gives, Answer, Comes, IsAnswer}
 use Rattle.sm_cli.specs.Laws.{IsDecided}
 
@@ -38,11 +38,12 @@ one_held schedule_file bytes (an_image a) b r s = absurd r
 image_accepted : (bytes : List ℕ) (value : Image) (refusal : ImageFault) → IsTextOf bytes value → refusal_of bytes ≡ Some refusal → ⊥
 image_accepted bytes value refusal r h = let none = ap refusal_of r.text ∙ text_has_no_refusal value r.image in cc
 
-has_module : (bytes : List ℕ) (value : Image) (id : ℕ) → IsTextOf bytes value → IsSome (module_of id value.table) → HasNoModule bytes id → ⊥
+has_module : (bytes : List ℕ) (value : Image) (id : ℕ) → IsTextOf bytes value → is_some (module_of id value.table) ≡ true → HasNoModule bytes id → ⊥
 has_module bytes value id r some h =
     let same : value ≡ h.value = one_image bytes value h.value r h.is in
     let none : module_of id value.table ≡ None = ap (λ (i : Image). module_of id i.table) same ∙ h.none in
-    absurd (subst IsSome none some)
+    let bad : false ≡ true = sym (ap is_some none) ∙ some in
+    cc
 
 -- bytes that hold something are not refused
 accepted : (kind : Kind) (bytes : List ℕ) (held : Held) (f : FileFault) → IsHeld kind bytes held → IsRefused kind bytes f → ⊥
@@ -74,7 +75,7 @@ image_examined bytes None e = let t = every_text bytes e in inl (t.0, record { i
 image_examined bytes (Some refusal) e = inr (refusal, e)
 
 module_examined : (id : ℕ) (bytes : List ℕ) (value : Image) → IsTextOf bytes value → (o : Option Module) → module_of id value.table ≡ o → Examined (image_with id) bytes
-module_examined id bytes value r (Some m) e = inl (an_image value, (r, subst IsSome (sym e) tt))
+module_examined id bytes value r (Some m) e = inl (an_image value, (r, ap is_some e))
 module_examined id bytes value r None e = inr (fault.NoModule id, λ short. (short, (refl, record { value = value; is = r; none = e })))
 
 schedule_examined : (bytes : List ℕ) (r : Result (List Entry) ScheduleFault) → schedule_of bytes ≡ r → Examined schedule_file bytes
@@ -140,9 +141,9 @@ module _ (map : FileMap) where
       by (Some bytes) e =
           ⊎_elim (λ long. inr (fault.TooLong, subst (λ o. IsSomeAnd o (λ l. most_bytes < length l)) (sym e) long))
           (λ short.
-              ⊎_elim (λ h. inl (h.0, record { bytes = bytes; file = e; short = short; is = h.1 }))
-              (λ f. inr (f.0, subst (λ o. HasFault wanted.kind o f.0) (sym e) (f.1 short)))
-              (examined wanted.kind bytes))
+          ⊎_elim (λ h. inl (h.0, record { bytes = bytes; file = e; short = short; is = h.1 }))
+          (λ f. inr (f.0, subst (λ o. HasFault wanted.kind o f.0) (sym e) (f.1 short)))
+          (examined wanted.kind bytes))
           (cases_lt most_bytes (length bytes))
 
   abbrev AllFound : List Need → Type 0

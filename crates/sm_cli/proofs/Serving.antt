@@ -148,6 +148,12 @@ module _ (r : Refusal) (name : List ℕ) (ended : Status) (took cut : List ℕ �
       by refusal.CannotRead h e = no_read h.1.1
       by refusal.NoMemory h e = some e
 
+-- want of memory before any file was read
+pub no_memory_completes : (name : List ℕ) (ended : Status) (took cut : List ℕ → Type 0) (answer : Answer) (whole part : List ℕ → Type 0) (told : Type 0)
+    → Told refusal.NoMemory name ended took cut → (ended ≡ status.WriteFault → told) → Completes ended answer whole part told
+no_memory_completes name ended took cut answer whole part told (inl t) tell = subst (λ s. Completes s answer whole part told) (sym t.0) tt
+no_memory_completes name ended took cut answer whole part told (inr t) tell = subst (λ s. Completes s answer whole part told) (sym t.0) (inr (tell t.0))
+
 -- Sinks that are sure of enough, or whose count did not rise
 
 module _ {S : Type 0} (taken : S → Option (List ℕ)) (faults sure : S → ℕ) (old new : S) where

@@ -1,8 +1,7 @@
 -- Values of a command's words.
-use Rattle.std.specs.Prelude.{ℕ, List, [], ◌∷◌, Option, Some, None, codes, if◌then◌else◌, ◌==◌, ◌%◌, nat_le, ◌&&◌, option_and_then}
+use Rattle.std.specs.Prelude.{ℕ, Option, Some, None, codes, if◌then◌else◌, ◌==◌, option_and_then}
 use Rattle.std.specs.Str.{bytes_eq}
 use Rattle.texts.specs.Decimals.{read_decimal}
-use Rattle.texts.specs.Hexadecimals.{read_hex_word}
 use Rattle.sm_cli.specs.declared.arguments.TheConstants.{MAX_CYCLES, MAX_ID}
 use Rattle.sm_cli.specs.Words.{Text}
 

@@ -1,5 +1,5 @@
 -- The command of the words after the program's name.
-use Rattle.std.specs.Prelude.{◌≡◌, ℕ, ◌≤◌, ◌%◌, List, [], ◌∷◌, Option, Some, None, option_and_then, codes, if◌then◌else◌}
+use Rattle.std.specs.Prelude.{◌≡◌, ◌≤◌, ◌%◌, List, [], ◌∷◌, Option, None, option_and_then, codes, if◌then◌else◌}
 use Rattle.std.specs.Str.{bytes_eq}
 use Rattle.sm_cli.specs.declared.commands.CommandLine.{CommandLine}
 use Rattle.sm_cli.specs.declared.commands.CommandLine.TheVariants as line

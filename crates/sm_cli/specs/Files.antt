@@ -1,5 +1,5 @@
 -- The files that a command needs: what they hold, and why one does not serve.
-use Rattle.std.specs.Prelude.{◌≡◌, ℕ, ◌<◌, ◌≤◌, List, [], ◌∷◌, length, Option, Some, None, IfSome, IsSomeAnd, IsSome, ◌⊎◌, Ok, Err}
+use Rattle.std.specs.Prelude.{◌≡◌, ℕ, ◌<◌, ◌≤◌, List, [], ◌∷◌, length, Option, Some, None, IfSome, IsSomeAnd, is_some, true, ◌⊎◌, Ok, Err}
 use Rattle.sm_io.specs.Files.{FileMap}
 use Rattle.mod_layout.specs.Table.{module_of}
 use Rattle.image_text.specs.Image.{Image, IsImage}
@@ -30,7 +30,7 @@ pub record IsTextOf (bytes : List ℕ) (value : Image) : Type 0 where
 -- bytes of this kind hold this
 abbrev pub IsHeld : Kind → List ℕ → Held → Type 0
 IsHeld image_file bytes (an_image value) = IsTextOf bytes value
-IsHeld (image_with id) bytes (an_image value) = IsTextOf bytes value × IsSome (module_of id value.table)
+IsHeld (image_with id) bytes (an_image value) = IsTextOf bytes value × (is_some (module_of id value.table) ≡ true)
 IsHeld schedule_file bytes (a_schedule entries) = schedule_of bytes ≡ Ok entries
 IsHeld _ bytes _ = ⊥
 

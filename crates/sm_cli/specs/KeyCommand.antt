@@ -16,10 +16,15 @@ use Rattle.sm_cli.specs.Command.{Outcome, done, no_outcome, Command}
 abbrev pub module_text : Image → Module → List ℕ
 module_text value m = slice_range value.memory m.text.start m.text.end
 
+-- the line of a key
+abbrev pub key_line : List ℕ → List ℕ → List ℕ
+key_line name key = name ++ (hex_key key ++ codes "\n")
+
+abbrev pub two_lines : List ℕ → List ℕ → List ℕ
+two_lines provider key = key_line (codes "provider ") provider ++ key_line (codes "module ") key
+
 abbrev pub key_lines : Image → Module → List ℕ
-key_lines value m =
-    (codes "provider " ++ (hex_key (provider_key value.node_key m.vendor) ++ codes "\n"))
-    ++ (codes "module " ++ (hex_key (module_key value.node_key m (module_text value m)) ++ codes "\n"))
+key_lines value m = two_lines (provider_key value.node_key m.vendor) (module_key value.node_key m (module_text value m))
 
 abbrev pub keys_by : Image → Option Module → Outcome
 keys_by value (Some m) = done (key_lines value m)

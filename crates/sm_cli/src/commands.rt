@@ -2,6 +2,7 @@
 ghost use Rattle.std.specs.Prelude.{◌≡◌, ◌≢◌, IsTrue, IfOk, IfErr, IfSome, false, option_map};
 ghost use Rattle.sm_io.specs.Faults.{HasCause};
 ghost use Rattle.sm_io.specs.Sink.{Took, CutOff};
+ghost use Rattle.sm_cli.specs.declared.answers.Refusal.TheVariants.{CannotRead};
 ghost use Rattle.sm_cli.specs.Command.{Command};
 ghost use Rattle.sm_cli.specs.CommandLine.{asked, command_of, IsBounded};
 ghost use Rattle.sm_cli.specs.Serve.{IsNeedCause, IsRun, texts};
@@ -39,7 +40,7 @@ pub trait Answering {
         ensures refused { IfErr result (λ refused. IsNeedCause (F.content files.old) (F.faults files.old) (F.faults files.new) (asked self.now).needs refused.refusal refused.name.now) }
         ensures nothing { IfErr result (λ _. out.new ≡ out.old) }
         ensures sound { IsTrue (F.sound files.old) → F.faults files.new ≡ F.faults files.old }
-        ensures sound_read { IsTrue (F.sound files.old) → IfErr result (λ refused. refused.refusal ≢ Refusal.CannotRead) }
+        ensures sound_read { IsTrue (F.sound files.old) → IfErr result (λ refused. refused.refusal ≢ CannotRead) }
         ensures same_files { F.content files.new ≡ F.content files.old };
 }
 

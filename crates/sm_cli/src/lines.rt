@@ -87,7 +87,12 @@ fn put_fault<S: Sink>(sink: &mut S, fault: FileFault) -> Result<(), Failed>
 }
 
 /// Puts a text, a name and another text.
-pub fn put_named<S: Sink>(sink: &mut S, before: &[u8], name: &[u8], after: &[u8]) -> Result<(), Failed>
+pub fn put_named<S: Sink>(
+    sink: &mut S,
+    before: &[u8],
+    name: &[u8],
+    after: &[u8],
+) -> Result<(), Failed>
     ensures { Puts S.taken S.faults S.sure sink.old sink.new (before.now ++ (name.now ++ after.now)) result }
 {
     match put_all(sink, before) {

@@ -9,11 +9,7 @@ use clap::{Arg, ArgAction, Command};
 use std::alloc::{AllocError, Global};
 
 // A command of one argument, which takes from `least` to `most` words.
-fn simple_command<'a>(
-    alloc: Global,
-    least: usize,
-    most: usize,
-) -> Result<Command<'a>, AllocError>
+fn simple_command<'a>(alloc: Global, least: usize, most: usize) -> Result<Command<'a>, AllocError>
     requires { least ≤ most }
     ensures { IfOk result (λ c. app_of c ≡ app least most) }
 {

@@ -24,10 +24,7 @@ pub struct ImageCommand<'a> {
 }
 
 /// The arguments that the words after the first are.
-pub fn read<'a>(
-    alloc: Global,
-    words: &'a [String],
-) -> Result<Option<ImageCommand<'a>>, AllocError>
+pub fn read<'a>(alloc: Global, words: &'a [String]) -> Result<Option<ImageCommand<'a>>, AllocError>
     ensures command { IfOk result (λ o. option_map image_asked o ≡ option_and_then image_of (values_in 3 3 (drop 1 (texts words.entry.now)))) }
     ensures bounds { IfOk result (λ o. IfSome o (λ c. c.cycles ≤ 1000000000)) }
 {

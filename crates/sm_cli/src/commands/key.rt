@@ -1,10 +1,9 @@
 //! `key IMAGE ID`: the key of a module's vendor, and the module's.
-ghost use Rattle.std.specs.Prelude.{◌≡◌, ◌++◌, IfOk, map, drop, codes, option_map, option_and_then};
+ghost use Rattle.std.specs.Prelude.{◌≡◌, IfOk, map, drop, option_map, option_and_then};
 ghost use Rattle.image_text.specs.Image.{Image as ImageValue};
 ghost use Rattle.mod_layout.specs.Tables.{IsModule};
-ghost use Rattle.texts.specs.Hexadecimals.{hex_key};
 ghost use Rattle.sm_io.specs.Sink.{Puts};
-ghost use Rattle.sm_cli.specs.KeyCommand.{key_of, key_asked, key_lines};
+ghost use Rattle.sm_cli.specs.KeyCommand.{key_of, key_asked, key_lines, key_line, two_lines};
 ghost use Rattle.sm_cli.specs.Serve.{texts};
 ghost use Rattle.sm_cli.specs.Words.{values_in};
 
@@ -82,15 +81,26 @@ fn put_keys<O: Sink>(chosen: &Chosen, out: &mut O) -> Result<(), Failed>
     let provider = provider_key(&image.node_key, module.vendor);
     let text = &image.memory[usize::from(module.text.start)..usize::from(module.text.end)];
     let key = module_key(&image.node_key, module, text);
-    match put_key(out, b"provider ", &provider) {
-        Ok(()) => put_key(out, b"module ", &key),
+    put_both(out, &provider, &key)
+}
+
+// Puts a line for a vendor's key and one for a module's.
+fn put_both<O: Sink>(
+    out: &mut O,
+    provider: &[u8; TAG_LENGTH],
+    key: &[u8; TAG_LENGTH],
+) -> Result<(), Failed>
+    ensures { Puts O.taken O.faults O.sure out.old out.new (two_lines provider.now key.now) result }
+{
+    match put_key(out, b"provider ", provider) {
+        Ok(()) => put_key(out, b"module ", key),
         Err(Failed) => Err(Failed),
     }
 }
 
 // Puts a line of a name and a key.
 fn put_key<O: Sink>(out: &mut O, name: &[u8], key: &[u8; TAG_LENGTH]) -> Result<(), Failed>
-    ensures { Puts O.taken O.faults O.sure out.old out.new (name.now ++ (hex_key key.now ++ codes "\n")) result }
+    ensures { Puts O.taken O.faults O.sure out.old out.new (key_line name.now key.now) result }
 {
     put_named(out, name, texts::hex_key(key).as_str().as_bytes(), b"\n")
 }

@@ -15,7 +15,7 @@ returns-in-Some c =
     let least = c.args.least in
     let most = c.args.most in
     let wanted : Wanted least most = record { some = c.requires.some; several = c.requires.several; order = c.requires.order } in
-    let app_is : app_of c.in_ok-simple_command.command ≡ app least most = c.in_ok-simple_command.ensures in
+    let app_is : app_of c.in_ok-command.command ≡ app least most = c.in_ok-command.ensures in
     let words : List Text = map string_bytes c.args.words.now in
     let judged = decides-all least most wanted words (texts_of_strings c.args.words.now) in
     let kinds = c.in-Ok.ensures.kinds (ap is_simple_and_free app_is ∙ is_plain least most) in
@@ -33,7 +33,7 @@ returns-in-Ok c =
     let least = c.args.least in
     let most = c.args.most in
     let wanted : Wanted least most = record { some = c.requires.some; several = c.requires.several; order = c.requires.order } in
-    let app_is : app_of c.in_ok-simple_command.command ≡ app least most = c.in_ok-simple_command.ensures in
+    let app_is : app_of c.in_ok-command.command ≡ app least most = c.in_ok-command.ensures in
     let words : List Text = map string_bytes c.args.words.now in
     let judged = decides-all least most wanted words (texts_of_strings c.args.words.now) in
     let kinds = c.in-Ok.ensures.kinds (ap is_simple_and_free app_is ∙ is_plain least most) in
@@ -50,7 +50,7 @@ returns c =
     let least = c.args.least in
     let most = c.args.most in
     let wanted : Wanted least most = record { some = c.requires.some; several = c.requires.several; order = c.requires.order } in
-    let app_is : app_of c.in_ok-simple_command.command ≡ app least most = c.in_ok-simple_command.ensures in
+    let app_is : app_of c.in_ok-command.command ≡ app least most = c.in_ok-command.ensures in
     let words : List Text = map string_bytes c.args.words.now in
     let judged = decides-all least most wanted words (texts_of_strings c.args.words.now) in
     let kinds = c.in-Err.ensures.kinds (ap is_simple_and_free app_is ∙ is_plain least most) in
