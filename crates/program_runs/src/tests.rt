@@ -1,6 +1,7 @@
 //! Each run as one call of `serve`, over files and sinks in memory.
 
-use crate::images::{BALANCED, CALLED, Picture};
+use crate::commands::{Line, answers, no_commands};
+use crate::images::{BALANCED, CALLED, CONSTANT, Picture};
 use crate::interrupted::{handlers, nested, pulses};
 use crate::outside::{Run, calls, outside_interrupts, plain_runs, refusals};
 use board::{Board, Ran};
@@ -308,6 +309,62 @@ fn closed_data_are_cleared(rt: HostRuntime) -> Result<(), Fail> {
     assert_eq!(rt; board.run(1, &mut sink), Ran::Done);
     for addr in 0x0400..0x0440u16 {
         assert_eq!(rt; board.view(Hidden::All).byte(addr), Some(0), "at {addr}");
+    }
+    Ok(())
+}
+
+fn assert_lines(rt: &impl Abort, alloc: Global, lines: &[Line]) -> Result<(), Fail> {
+    let called = CALLED.text(alloc)?;
+    let constant = CONSTANT.text(alloc)?;
+    for line in lines {
+        let mut files = MemFiles::new(alloc);
+        files.put_file("called.img", called.as_bytes())?;
+        files.put_file("constant.img", constant.as_bytes())?;
+        let mut words = Vec::new(alloc);
+        for word in line.words.split(' ') {
+            words.push(String::from_str(alloc, word)?)?;
+        }
+        let mut out = MemSink::new(alloc, 1000)?;
+        let mut err = MemSink::new(alloc, 1000)?;
+        let status = serve(alloc, words.as_slice(), &mut files, &mut out, &mut err);
+        let shown = line.words;
+        assert_eq!(rt; status, line.status, "{shown}");
+        assert_eq!(rt; out.taken(), line.out.as_bytes(), "{shown}");
+        assert_eq!(rt; err.taken(), line.err.as_bytes(), "{shown}");
+    }
+    Ok(())
+}
+
+#[test]
+fn command_lines(rt: HostRuntime) -> Result<(), Fail> {
+    assert_lines(&rt, rt.alloc(), &answers())?;
+    assert_lines(&rt, rt.alloc(), &no_commands())
+}
+
+// A sink that fails after so many puts has the lines before the one that was refused.
+#[test]
+fn a_listing_is_cut_off(rt: HostRuntime) -> Result<(), Fail> {
+    let alloc = rt.alloc();
+    let constant = CONSTANT.text(alloc)?;
+    for puts in 0..3u64 {
+        let mut files = MemFiles::new(alloc);
+        files.put_file("constant.img", constant.as_bytes())?;
+        let mut words = Vec::new(alloc);
+        for word in "dis constant.img 0204 020a".split(' ') {
+            words.push(String::from_str(alloc, word)?)?;
+        }
+        let mut out = MemSink::new(alloc, 1000)?;
+        out.fail_at(puts)?;
+        let mut err = MemSink::new(alloc, 1000)?;
+        let status = serve(alloc, words.as_slice(), &mut files, &mut out, &mut err);
+        assert_eq!(rt; status, Status::WriteFault, "{puts}");
+        assert!(rt;
+            b"0204: 4303 mov #0, r3\n0206: 3fff jmp 0x0206\n0208: 0000 ?\n".starts_with(
+                out.taken()
+            ),
+            "{puts}"
+        );
+        assert_eq!(rt; err.taken(), b"".as_slice(), "{puts}");
     }
     Ok(())
 }

@@ -1,4 +1,5 @@
+pub mod Clap
+pub mod Listing
 pub mod Needed
+pub mod Running
 pub mod Serving
-pub mod Words
-mod Decided

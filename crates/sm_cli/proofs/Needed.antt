@@ -1,70 +1,162 @@
--- The files that a command needs: where they serve, there is one answer and no fault.
-use Rattle.std.proofs.Common.{◌≡◌, ℕ, List, Option, Some, None, sym, ◌∙◌, ap, subst, arith, inl, inr}
+-- The files that a command needs: each holds one thing or has a fault, so that one thing comes of a command.
+use Rattle.std.proofs.Common.{true, false, is_some, ◌≡◌, ℕ, ◌≤◌, ◌<◌, List, [], ◌∷◌, length, Option, Some, None, Result, Ok, Err, refl, sym, ◌∙◌, ap, ap₂, subst, arith, inl, inr, ◌⊎◌, ⊎_elim}
+use Rattle.std.specs.Prelude.{IsSomeAnd}
+use Rattle.std.proofs.lemmas.Bool.{cases_lt}
 use Rattle.sm_io.specs.Files.{FileMap}
+use Rattle.mod_layout.specs.declared.Module.{Module}
+use Rattle.mod_layout.specs.Table.{module_of}
+use Rattle.image_text.specs.declared.ImageFault.{ImageFault}
 use Rattle.image_text.specs.Image.{Image}
-use Rattle.image_text.specs.ImageText.{image_text}
 use Rattle.image_text.specs.Refusal.{refusal_of}
 use Rattle.image_text.proofs.OneText.{text_has_no_refusal, images_of_one_text}
+use Rattle.image_text.proofs.EveryText.{every_text}
 use Rattle.schedule_file.specs.declared.Entry.{Entry}
+use Rattle.schedule_file.specs.declared.ScheduleFault.{ScheduleFault}
+use Rattle.schedule_file.specs.Reading.{schedule_of}
 use Rattle.sm_cli.specs.declared.answers.FileFault.{FileFault}
 use Rattle.sm_cli.specs.declared.answers.FileFault.TheVariants as fault
-use Rattle.sm_cli.specs.Command.{Command, image}
-use Rattle.sm_cli.specs.Serve.{needs_of, schedule_needs, image_file, schedule_file, HasFault, IsFirstFault, IsImageFile, IsImageOf, IsScheduleFile, IsScheduleOf, Answer, IsAnswer, answer_of_image}
+use Rattle.sm_cli.specs.Files.{Kind, image_file, image_with, schedule_file, Held, an_image, a_schedule, IsTextOf, IsHeld, HasNoModule, IsRefused, most_bytes, HasFault, Need, Holds, HoldAll, IsFirstFault}
+use Rattle.sm_cli.specs.Command.{Command, Outcome, gives, Answer, Comes, IsAnswer}
+use Rattle.sm_cli.specs.Laws.{IsDecided}
 
--- an image's file has no fault
-no_image_fault : (f : FileFault) (file : Option (List ℕ)) (value : Image) → IsImageFile file value → HasFault image_file file f → ⊥
-no_image_fault fault.Absent file value r h = let is = r.text in cc
-no_image_fault fault.TooLong file value r h = let long = subst (λ o. HasFault image_file o fault.TooLong) r.text h in omega (arith, r.short, long)
-no_image_fault (fault.Image refusal) file value r h =
-    let refused = subst (λ o. HasFault image_file o (fault.Image refusal)) r.text h in
-    let none : refusal_of (image_text value) ≡ None = text_has_no_refusal value r.image in
-    let some : refusal_of (image_text value) ≡ Some refusal = refused.1 in
+-- Bytes
+
+one_image : (bytes : List ℕ) (a b : Image) → IsTextOf bytes a → IsTextOf bytes b → a ≡ b
+one_image bytes a b r s = images_of_one_text a b r.image s.image (sym r.text ∙ s.text)
+
+one_held : (kind : Kind) (bytes : List ℕ) (a b : Held) → IsHeld kind bytes a → IsHeld kind bytes b → a ≡ b
+one_held image_file bytes (an_image a) (an_image b) r s = ap an_image (one_image bytes a b r s)
+one_held image_file bytes (an_image a) (a_schedule b) r s = absurd s
+one_held image_file bytes (a_schedule a) b r s = absurd r
+one_held (image_with id) bytes (an_image a) (an_image b) r s = ap an_image (one_image bytes a b r.0 s.0)
+one_held (image_with id) bytes (an_image a) (a_schedule b) r s = absurd s
+one_held (image_with id) bytes (a_schedule a) b r s = absurd r
+one_held schedule_file bytes (a_schedule a) (a_schedule b) r s = let same = sym r ∙ s in cc
+one_held schedule_file bytes (a_schedule a) (an_image b) r s = absurd s
+one_held schedule_file bytes (an_image a) b r s = absurd r
+
+image_accepted : (bytes : List ℕ) (value : Image) (refusal : ImageFault) → IsTextOf bytes value → refusal_of bytes ≡ Some refusal → ⊥
+image_accepted bytes value refusal r h = let none = ap refusal_of r.text ∙ text_has_no_refusal value r.image in cc
+
+has_module : (bytes : List ℕ) (value : Image) (id : ℕ) → IsTextOf bytes value → is_some (module_of id value.table) ≡ true → HasNoModule bytes id → ⊥
+has_module bytes value id r some h =
+    let same : value ≡ h.value = one_image bytes value h.value r h.is in
+    let none : module_of id value.table ≡ None = ap (λ (i : Image). module_of id i.table) same ∙ h.none in
+    let bad : false ≡ true = sym (ap is_some none) ∙ some in
     cc
-no_image_fault (fault.Schedule refusal) file value r h = h
 
--- a file is the text of one image
-one_image : (file : Option (List ℕ)) (a b : Image) → IsImageFile file a → IsImageFile file b → a ≡ b
-one_image file a b r s =
-    let same : Some (image_text a) ≡ Some (image_text b) = sym r.text ∙ s.text in
-    let texts : image_text a ≡ image_text b = cc in
-    images_of_one_text a b r.image s.image texts
+-- bytes that hold something are not refused
+accepted : (kind : Kind) (bytes : List ℕ) (held : Held) (f : FileFault) → IsHeld kind bytes held → IsRefused kind bytes f → ⊥
+accepted image_file bytes (an_image value) (fault.Image refusal) r h = image_accepted bytes value refusal r h
+accepted image_file bytes (an_image value) fault.Absent r h = h
+accepted image_file bytes (an_image value) fault.TooLong r h = h
+accepted image_file bytes (an_image value) (fault.NoModule id) r h = h
+accepted image_file bytes (an_image value) (fault.Schedule refusal) r h = h
+accepted image_file bytes (a_schedule entries) f r h = r
+accepted (image_with id) bytes (an_image value) (fault.Image refusal) r h = image_accepted bytes value refusal r.0 h
+accepted (image_with id) bytes (an_image value) (fault.NoModule other) r h = has_module bytes value id r.0 r.1 h.1
+accepted (image_with id) bytes (an_image value) fault.Absent r h = h
+accepted (image_with id) bytes (an_image value) fault.TooLong r h = h
+accepted (image_with id) bytes (an_image value) (fault.Schedule refusal) r h = h
+accepted (image_with id) bytes (a_schedule entries) f r h = r
+accepted schedule_file bytes (a_schedule entries) (fault.Schedule refusal) r h = let clash = sym r ∙ h in cc
+accepted schedule_file bytes (a_schedule entries) fault.Absent r h = h
+accepted schedule_file bytes (a_schedule entries) fault.TooLong r h = h
+accepted schedule_file bytes (a_schedule entries) (fault.Image refusal) r h = h
+accepted schedule_file bytes (a_schedule entries) (fault.NoModule id) r h = h
+accepted schedule_file bytes (an_image value) f r h = r
 
--- a schedule's file has no fault
-no_schedule_fault : (file : Option (List ℕ)) (f : FileFault) (entries : List Entry) → IsScheduleFile file entries → HasFault schedule_file file f → ⊥
-no_schedule_fault None f entries r h = absurd r
-no_schedule_fault (Some bytes) fault.Absent entries r h = cc
-no_schedule_fault (Some bytes) fault.TooLong entries r h = omega (arith, r.0, h)
-no_schedule_fault (Some bytes) (fault.Image refusal) entries r h = h
-no_schedule_fault (Some bytes) (fault.Schedule refusal) entries r h = let clash = sym r.1 ∙ h.1 in cc
+-- bytes that are not too long hold something, or have a fault
+abbrev Examined : Kind → List ℕ → Type 0
+Examined kind bytes = ((held : Held) × IsHeld kind bytes held) ⊎ ((f : FileFault) × (length bytes ≤ most_bytes → HasFault kind (Some bytes) f))
 
--- a file gives one list of entries
-one_schedule : (file : Option (List ℕ)) (a b : List Entry) → IsScheduleFile file a → IsScheduleFile file b → a ≡ b
-one_schedule None a b r s = absurd r
-one_schedule (Some bytes) a b r s = let same = sym r.1 ∙ s.1 in cc
+image_examined : (bytes : List ℕ) (o : Option ImageFault) → refusal_of bytes ≡ o → ((value : Image) × IsTextOf bytes value) ⊎ ((refusal : ImageFault) × (refusal_of bytes ≡ Some refusal))
+image_examined bytes None e = let t = every_text bytes e in inl (t.0, record { image = t.1; text = t.2 })
+image_examined bytes (Some refusal) e = inr (refusal, e)
 
--- the files of a command
+module_examined : (id : ℕ) (bytes : List ℕ) (value : Image) → IsTextOf bytes value → (o : Option Module) → module_of id value.table ≡ o → Examined (image_with id) bytes
+module_examined id bytes value r (Some m) e = inl (an_image value, (r, ap is_some e))
+module_examined id bytes value r None e = inr (fault.NoModule id, λ short. (short, (refl, record { value = value; is = r; none = e })))
+
+schedule_examined : (bytes : List ℕ) (r : Result (List Entry) ScheduleFault) → schedule_of bytes ≡ r → Examined schedule_file bytes
+schedule_examined bytes (Ok entries) e = inl (a_schedule entries, e)
+schedule_examined bytes (Err refusal) e = inr (fault.Schedule refusal, λ short. (short, e))
+
+examined : (kind : Kind) (bytes : List ℕ) → Examined kind bytes
+examined image_file bytes = ⊎_elim (λ v. inl (an_image v.0, v.1)) (λ f. inr (fault.Image f.0, λ short. (short, f.1))) (image_examined bytes (refusal_of bytes) refl)
+examined (image_with id) bytes =
+    ⊎_elim (λ v. module_examined id bytes v.0 v.1 (module_of id v.0.table) refl) (λ f. inr (fault.Image f.0, λ short. (short, f.1))) (image_examined bytes (refusal_of bytes) refl)
+examined schedule_file bytes = schedule_examined bytes (schedule_of bytes) refl
+
+-- Files
 
 module _ (map : FileMap) where
-  file_of_image : (name : List ℕ) (value : Image) → IsImageOf (Some map) name value → IsImageFile (map name) value
-  file_of_image name value r = record { image = r.image; text = r.file; short = r.short }
+  -- a file that serves has no fault
+  serves : (wanted : Need) (held : Held) (f : FileFault) → Holds (Some map) wanted held → HasFault wanted.kind (map wanted.name) f → ⊥
+  serves wanted held fault.Absent r h = let is = r.file in cc
+  serves wanted held fault.TooLong r h =
+      let long = subst (λ o. IsSomeAnd o (λ bytes. most_bytes < length bytes)) r.file h in
+      omega (arith, r.short, long)
+  serves wanted held (fault.Image refusal) r h = accepted wanted.kind r.bytes held (fault.Image refusal) r.is (subst (λ o. HasFault wanted.kind o (fault.Image refusal)) r.file h).1
+  serves wanted held (fault.NoModule id) r h = accepted wanted.kind r.bytes held (fault.NoModule id) r.is (subst (λ o. HasFault wanted.kind o (fault.NoModule id)) r.file h).1
+  serves wanted held (fault.Schedule refusal) r h = accepted wanted.kind r.bytes held (fault.Schedule refusal) r.is (subst (λ o. HasFault wanted.kind o (fault.Schedule refusal)) r.file h).1
 
-  one_schedule_of : (schedule : Option (List ℕ)) (a b : List Entry) → IsScheduleOf (Some map) schedule a → IsScheduleOf (Some map) schedule b → a ≡ b
-  one_schedule_of None a b r s = r ∙ sym s
-  one_schedule_of (Some name) a b r s = one_schedule (map name) a b r s
+  one_thing : (wanted : Need) (a b : Held) → Holds (Some map) wanted a → Holds (Some map) wanted b → a ≡ b
+  one_thing wanted a b r s =
+      let same : Some s.bytes ≡ Some r.bytes = sym s.file ∙ r.file in
+      let bytes : s.bytes ≡ r.bytes = cc in
+      one_held wanted.kind r.bytes a b r.is (subst (λ l. IsHeld wanted.kind l b) bytes s.is)
 
-  -- a command has one answer
+  one_list : (needs : List Need) (xs ys : List Held) → HoldAll (Some map) needs xs → HoldAll (Some map) needs ys → xs ≡ ys
+  one_list [] [] [] r s = refl
+  one_list [] [] (y ∷ ys) r s = absurd s
+  one_list [] (x ∷ xs) ys r s = absurd r
+  one_list (wanted ∷ needs) [] ys r s = absurd r
+  one_list (wanted ∷ needs) (x ∷ xs) [] r s = absurd s
+  one_list (wanted ∷ needs) (x ∷ xs) (y ∷ ys) r s = ap₂ (λ (h : Held) (l : List Held). h ∷ l) (one_thing wanted x y r.0 s.0) (one_list needs xs ys r.1 s.1)
+
+  -- one thing comes of a command
+  pub one_outcome : (command : Command) (a b : Outcome) → Comes (Some map) command a → Comes (Some map) command b → a ≡ b
+  one_outcome command a b r s = sym r.is ∙ ap command.outcome (one_list command.needs r.helds s.helds r.hold s.hold) ∙ s.is
+
   pub one_answer : (command : Command) (a b : Answer) → IsAnswer (Some map) command a → IsAnswer (Some map) command b → a ≡ b
-  one_answer (image name schedule cycles) a b r s =
-      let values : r.value ≡ s.value = one_image (map name) r.value s.value (file_of_image name r.value r.image) (file_of_image name s.value s.image) in
-      let lists : r.entries ≡ s.entries = one_schedule_of schedule r.entries s.entries r.entries_are s.entries_are in
-      r.is ∙ ap (λ v. answer_of_image v r.entries cycles) values ∙ ap (λ es. answer_of_image s.value es cycles) lists ∙ sym s.is
+  one_answer command a b r s = let same : gives a ≡ gives b = one_outcome command (gives a) (gives b) r s in cc
 
-  no_schedule_first : (schedule : Option (List ℕ)) (entries : List Entry) (name : List ℕ) (f : FileFault) → IsScheduleOf (Some map) schedule entries → IsFirstFault (Some map) (schedule_needs schedule) name f → ⊥
-  no_schedule_first None entries name f r h = h
-  no_schedule_first (Some own) entries name f r (inl h) = no_schedule_fault (map name) f entries (subst (λ n. IsScheduleFile (map n) entries) h.0 r) h.1
-  no_schedule_first (Some own) entries name f r (inr h) = h.1
+  all_serve : (needs : List Need) (helds : List Held) → HoldAll (Some map) needs helds → (name : List ℕ) (f : FileFault) → IsFirstFault (Some map) needs name f → ⊥
+  all_serve [] helds r name f h = h
+  all_serve (wanted ∷ needs) [] r name f h = r
+  all_serve (wanted ∷ needs) (held ∷ helds) r name f (inl h) = serves wanted held f r.0 (subst (λ n. HasFault wanted.kind (map n) f) (sym h.0) h.1)
+  all_serve (wanted ∷ needs) (held ∷ helds) r name f (inr h) = all_serve needs helds r.1 name f h.1
 
-  -- where there is an answer, no file has a fault
-  pub no_first_fault : (command : Command) (answer : Answer) → IsAnswer (Some map) command answer → (name : List ℕ) (f : FileFault) → IsFirstFault (Some map) (needs_of command) name f → ⊥
-  no_first_fault (image own schedule cycles) answer r name f (inl h) = no_image_fault f (map name) r.value (subst (λ n. IsImageFile (map n) r.value) h.0 (file_of_image own r.value r.image)) h.1
-  no_first_fault (image own schedule cycles) answer r name f (inr h) = no_schedule_first schedule r.entries name f r.entries_are h.1
+  -- where something comes of a command, no file has a fault
+  pub no_first_fault : (command : Command) (outcome : Outcome) → Comes (Some map) command outcome → (name : List ℕ) (f : FileFault) → IsFirstFault (Some map) command.needs name f → ⊥
+  no_first_fault command outcome r name f h = all_serve command.needs r.helds r.hold name f h
+
+  -- a file serves, or has a fault
+  found : (wanted : Need) → ((held : Held) × Holds (Some map) wanted held) ⊎ ((f : FileFault) × HasFault wanted.kind (map wanted.name) f)
+  found wanted = by (map wanted.name) refl
+    where
+      by : (o : Option (List ℕ)) → map wanted.name ≡ o → ((held : Held) × Holds (Some map) wanted held) ⊎ ((f : FileFault) × HasFault wanted.kind (map wanted.name) f)
+      by None e = inr (fault.Absent, e)
+      by (Some bytes) e =
+          ⊎_elim (λ long. inr (fault.TooLong, subst (λ o. IsSomeAnd o (λ l. most_bytes < length l)) (sym e) long))
+          (λ short.
+          ⊎_elim (λ h. inl (h.0, record { bytes = bytes; file = e; short = short; is = h.1 }))
+          (λ f. inr (f.0, subst (λ o. HasFault wanted.kind o f.0) (sym e) (f.1 short)))
+          (examined wanted.kind bytes))
+          (cases_lt most_bytes (length bytes))
+
+  abbrev AllFound : List Need → Type 0
+  AllFound needs = ((helds : List Held) × HoldAll (Some map) needs helds) ⊎ ((name : List ℕ) × (f : FileFault) × IsFirstFault (Some map) needs name f)
+
+  all_found : (needs : List Need) → AllFound needs
+  all_found [] = inl ([], tt)
+  all_found (wanted ∷ needs) = by (found wanted) (all_found needs)
+    where
+      by : ((held : Held) × Holds (Some map) wanted held) ⊎ ((f : FileFault) × HasFault wanted.kind (map wanted.name) f) → AllFound needs → AllFound (wanted ∷ needs)
+      by (inr f) more = inr (wanted.name, f.0, inl (refl, f.1))
+      by (inl h) (inl more) = inl (h.0 ∷ more.0, (h.1, more.1))
+      by (inl h) (inr f) = inr (f.0, f.1, inr (h, f.2))
+
+pub decided : IsDecided
+decided map command = ⊎_elim (λ h. inl (command.outcome h.0, record { helds = h.0; hold = h.1; is = refl })) (λ f. inr f) (all_found map command.needs)

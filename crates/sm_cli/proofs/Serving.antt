@@ -4,15 +4,22 @@ use Rattle.sm_io.specs.Faults.{HasCause, Rose}
 use Rattle.sm_io.specs.Files.{FileMap}
 use Rattle.sm_io.specs.Sink.{Took, CutOff}
 use Rattle.image_text.specs.Image.{Image}
+use Rattle.image_text.specs.ImageText.{image_text}
 use Rattle.schedule_file.specs.declared.Entry.{Entry}
 use Rattle.sm_cli.specs.declared.answers.FileFault.{FileFault}
 use Rattle.sm_cli.specs.declared.answers.Refusal.{Refusal}
 use Rattle.sm_cli.specs.declared.answers.Refusal.TheVariants as refusal
 use Rattle.sm_cli.specs.declared.answers.Status.{Status}
 use Rattle.sm_cli.specs.declared.answers.Status.TheVariants as status
-use Rattle.sm_cli.specs.Command.{Command, image, command_of}
-use Rattle.sm_cli.specs.Serve.{Call, call_of, Need, needs_of, IsFirstFault, IsInput, Serves, Refuses, IsCause, IsNeedCause, IsRun, EndsAs, is_read_fault, status_of, line_of, Answer, IsAnswer, answer_of_image, Completes, IsOrOutside}
+use Rattle.sm_cli.specs.Files.{Need, IsFirstFault}
+use Rattle.sm_cli.specs.Command.{Command, Answer, gives, IsAnswer}
+use Rattle.sm_cli.specs.CommandLine.{command_of}
+use Rattle.sm_cli.specs.ImageCommand.{image_command, trace_answer}
+use Rattle.sm_cli.specs.Input.{IsInput}
+use Rattle.sm_cli.specs.Refusal.{is_read_fault, status_of, line_of}
+use Rattle.sm_cli.specs.Serve.{Call, call_of, Serves, Refuses, IsCause, IsNeedCause, IsRun, EndsAs, Completes, IsOrOutside}
 use Rattle.sm_cli.proofs.Needed.{one_answer, no_first_fault}
+use Rattle.sm_cli.proofs.Running.{image_answer}
 
 -- Commands and inputs
 
@@ -25,14 +32,8 @@ pub answer_here : (files : Option FileMap) (map : FileMap) (own other : Command)
 answer_here files map own other answer told same a = subst (λ c. IsAnswer (Some map) c answer) same (subst (λ o. IsAnswer o own answer) told a)
 
 -- the answer of an input
-pub input_answer : (words : List (List ℕ)) (files : Option FileMap) (value : Image) (entries : List Entry) (cycles : ℕ) (i : IsInput words files value entries cycles) → IsAnswer (Some i.map) (image i.name i.schedule cycles) (answer_of_image value entries cycles)
-input_answer words files value entries cycles i = record {
-  value = value;
-  entries = entries;
-  image = record { image = i.image; file = i.file; short = i.short };
-  entries_are = i.entries_are;
-  is = refl;
-}
+pub input_answer : (words : List (List ℕ)) (files : Option FileMap) (value : Image) (entries : List Entry) (cycles : ℕ) (i : IsInput words files value entries cycles) → IsAnswer (Some i.map) (image_command i.name i.schedule cycles) (trace_answer value entries cycles)
+input_answer words files value entries cycles i = image_answer (Some i.map) i.name i.schedule cycles value entries (record { bytes = image_text value; file = i.file; short = i.short; is = record { image = i.image; text = refl } }) i.entries_are
 
 -- A run that was put, whole or in part
 
@@ -47,14 +48,19 @@ module _ (words : List (List ℕ)) (files : Option FileMap) (before after : ℕ)
       let a = subst (λ t. EndsAs t r.answer took cut) e r.ends in
       record { command = own; answer = r.answer; asked = sym c; served = r.served; quiet = quiet; status = a.1; text = a.0 }
 
+  pub when_no : Some own ≡ command_of words → IsRun files own ended took cut → HasCause before after false → ended ≡ status.CheckNo → Serves (call_of words files before after) status.CheckNo took
+  when_no c r quiet e =
+      let a = subst (λ t. EndsAs t r.answer took cut) e r.ends in
+      record { command = own; answer = r.answer; asked = sym c; served = r.served; quiet = quiet; status = a.1; text = a.0 }
+
   pub when_cut : Some own ≡ command_of words → IsRun files own ended took cut → HasCause before after false → ended ≡ status.WriteFault → (s : Status) × Serves (call_of words files before after) s cut
   when_cut c r quiet e =
       let a = subst (λ t. EndsAs t r.answer took cut) e r.ends in
       (r.answer.status, record { command = own; answer = r.answer; asked = sym c; served = r.served; quiet = quiet; status = refl; text = a })
 
   -- no file that is needed has a fault
-  pub run_no_fault : (map : FileMap) (other : Command) (name : List ℕ) (fault : FileFault) → files ≡ Some map → Some own ≡ command_of words → command_of words ≡ Some other → IsRun files own ended took cut → IsFirstFault (Some map) (needs_of other) name fault → ⊥
-  run_no_fault map other name fault told c d r h = no_first_fault map other r.answer (answer_here files map own other r.answer told (one_command words own other c d) r.served) name fault h
+  pub run_no_fault : (map : FileMap) (other : Command) (name : List ℕ) (fault : FileFault) → files ≡ Some map → Some own ≡ command_of words → command_of words ≡ Some other → IsRun files own ended took cut → IsFirstFault (Some map) other.needs name fault → ⊥
+  run_no_fault map other name fault told c d r h = no_first_fault map other (gives r.answer) (answer_here files map own other r.answer told (one_command words own other c d) r.served) name fault h
 
   -- the answer of a run is the one that the command has
   pub run_ends : (map : FileMap) (other : Command) (answer : Answer) → files ≡ Some map → Some own ≡ command_of words → command_of words ≡ Some other → IsRun files own ended took cut → IsAnswer (Some map) other answer → EndsAs ended answer took cut
@@ -67,6 +73,7 @@ module _ (words : List (List ℕ)) (files : Option FileMap) (before after : ℕ)
       by : (s : Status) → EndsAs s answer took cut → Completes s answer took cut told
       by status.Done b = (b.1, b.0)
       by status.Stopped b = (b.1, b.0)
+      by status.CheckNo b = (b.1, b.0)
       by status.WriteFault b = inl b
       by status.Usage b = absurd b
       by status.BadFile b = absurd b
@@ -88,7 +95,7 @@ not_read_fault refusal.CannotRead h = absurd (h refl)
 not_read_fault refusal.NoMemory h = refl
 
 -- the cause of a refusal by the files that a command needs
-pub cause_of : (words : List (List ℕ)) (files : Option FileMap) (before after : ℕ) (own : Command) (r : Refusal) (name : List ℕ) → Some own ≡ command_of words → IsNeedCause files before after (needs_of own) r name → IsCause (call_of words files before after) r name
+pub cause_of : (words : List (List ℕ)) (files : Option FileMap) (before after : ℕ) (own : Command) (r : Refusal) (name : List ℕ) → Some own ≡ command_of words → IsNeedCause files before after own.needs r name → IsCause (call_of words files before after) r name
 cause_of words files before after own refusal.Usage name c f = absurd f
 cause_of words files before after own (refusal.BadFile fault) name c f = ((own, sym c, f.0), f.1)
 cause_of words files before after own refusal.CannotRead name c f = ((own, sym c, f.0), f.1)
@@ -115,31 +122,53 @@ module _ (r : Refusal) (name : List ℕ) (ended : Status) (took cut : List ℕ �
 
   -- what a refusal leaves for a command that its files serve
   pub refused_completes : (words : List (List ℕ)) (files : Option FileMap) (map : FileMap) (before after : ℕ) (own other : Command) (answer : Answer) (whole part : List ℕ → Type 0) (told : Type 0)
-      → files ≡ Some map → Some own ≡ command_of words → command_of words ≡ Some other → IsAnswer (Some map) other answer → IsNeedCause files before after (needs_of own) r name
+      → files ≡ Some map → Some own ≡ command_of words → command_of words ≡ Some other → IsAnswer (Some map) other answer → IsNeedCause files before after own.needs r name
       → Told → (ended ≡ status.WriteFault → told) → Completes ended answer whole part told
   refused_completes words files map before after own other answer whole part told is c d a f (inr t) tell = subst (λ s. Completes s answer whole part told) (sym t.0) (inr (tell t.0))
   refused_completes words files map before after own other answer whole part told is c d a f (inl t) tell = subst (λ s. Completes s answer whole part told) (sym t.0) (by r f)
     where
-      by : (q : Refusal) → IsNeedCause files before after (needs_of own) q name → Completes (status_of q) answer whole part told
+      by : (q : Refusal) → IsNeedCause files before after own.needs q name → Completes (status_of q) answer whole part told
       by refusal.Usage h = absurd h
       by (refusal.BadFile fault) h =
-          absurd (no_first_fault map own answer (subst (λ k. IsAnswer (Some map) k answer) (sym (one_command words own other c d)) a) name fault (subst (λ o. IsFirstFault o (needs_of own) name fault) is h.0))
+          absurd (no_first_fault map own (gives answer) (subst (λ k. IsAnswer (Some map) k answer) (sym (one_command words own other c d)) a) name fault (subst (λ o. IsFirstFault o own.needs name fault) is h.0))
       by refusal.CannotRead h = tt
       by refusal.NoMemory h = tt
 
   -- the outside failed, where the files serve and memory is there
   pub refused_outside : (words : List (List ℕ)) (files : Option FileMap) (map : FileMap) (before after : ℕ) (own other : Command) (answer : Answer)
-      → files ≡ Some map → Some own ≡ command_of words → command_of words ≡ Some other → IsAnswer (Some map) other answer → IsNeedCause files before after (needs_of own) r name
+      → files ≡ Some map → Some own ≡ command_of words → command_of words ≡ Some other → IsAnswer (Some map) other answer → IsNeedCause files before after own.needs r name
       → ended ≢ status.NoMemory → (Rose before after → ⊥) → (cut (line_of r name) → ⊥) → Told → ⊥
   refused_outside words files map before after own other answer is c d a f some no_read no_cut (inr t) = no_cut t.1
   refused_outside words files map before after own other answer is c d a f some no_read no_cut (inl t) = by r f t.0
     where
-      by : (q : Refusal) → IsNeedCause files before after (needs_of own) q name → ended ≡ status_of q → ⊥
+      by : (q : Refusal) → IsNeedCause files before after own.needs q name → ended ≡ status_of q → ⊥
       by refusal.Usage h e = h
       by (refusal.BadFile fault) h e =
-          no_first_fault map own answer (subst (λ k. IsAnswer (Some map) k answer) (sym (one_command words own other c d)) a) name fault (subst (λ o. IsFirstFault o (needs_of own) name fault) is h.0)
+          no_first_fault map own (gives answer) (subst (λ k. IsAnswer (Some map) k answer) (sym (one_command words own other c d)) a) name fault (subst (λ o. IsFirstFault o own.needs name fault) is h.0)
       by refusal.CannotRead h e = no_read h.1.1
       by refusal.NoMemory h e = some e
+
+-- a run does not end as words that are no command do
+pub run_not_usage : (files : Option FileMap) (own : Command) (ended : Status) (took cut : List ℕ → Type 0) → IsRun files own ended took cut → ended ≡ status.Usage → ⊥
+run_not_usage files own ended took cut r e = subst (λ t. EndsAs t r.answer took cut) e r.ends
+
+-- nor does a refusal by files
+pub refused_not_usage : (r : Refusal) (name : List ℕ) (ended : Status) (took cut : List ℕ → Type 0) (files : Option FileMap) (before after : ℕ) (needs : List Need)
+    → IsNeedCause files before after needs r name → Told r name ended took cut → ended ≡ status.Usage → ⊥
+refused_not_usage r name ended took cut files before after needs f (inr t) e = let clash = sym t.0 ∙ e in cc
+refused_not_usage r name ended took cut files before after needs f (inl t) e = by r f (sym t.0 ∙ e)
+  where
+    by : (q : Refusal) → IsNeedCause files before after needs q name → status_of q ≡ status.Usage → ⊥
+    by refusal.Usage h e = h
+    by (refusal.BadFile fault) h e = cc
+    by refusal.CannotRead h e = cc
+    by refusal.NoMemory h e = cc
+
+-- want of memory before any file was read
+pub no_memory_completes : (name : List ℕ) (ended : Status) (took cut : List ℕ → Type 0) (answer : Answer) (whole part : List ℕ → Type 0) (told : Type 0)
+    → Told refusal.NoMemory name ended took cut → (ended ≡ status.WriteFault → told) → Completes ended answer whole part told
+no_memory_completes name ended took cut answer whole part told (inl t) tell = subst (λ s. Completes s answer whole part told) (sym t.0) tt
+no_memory_completes name ended took cut answer whole part told (inr t) tell = subst (λ s. Completes s answer whole part told) (sym t.0) (inr (tell t.0))
 
 -- Sinks that are sure of enough, or whose count did not rise
 
@@ -154,6 +183,7 @@ module _ {S : Type 0} (taken : S → Option (List ℕ)) (faults sure : S → ℕ
   pub run_sure : (ended : Status) (answer : Answer) → EndsAs ended answer (Took taken faults sure old new) (CutOff taken faults sure old new) → length answer.text ≤ sure old → (ended ≢ status.WriteFault) × (faults new ≡ faults old)
   run_sure status.Done answer a room = (λ e. cc, a.0.quiet)
   run_sure status.Stopped answer a room = (λ e. cc, a.0.quiet)
+  run_sure status.CheckNo answer a room = (λ e. cc, a.0.quiet)
   run_sure status.WriteFault answer a room = absurd (cut_room answer.text a room)
   run_sure status.Usage answer a room = absurd a
   run_sure status.BadFile answer a room = absurd a
@@ -164,6 +194,7 @@ module _ {S : Type 0} (taken : S → Option (List ℕ)) (faults sure : S → ℕ
   pub run_whole : (ended : Status) (answer : Answer) → EndsAs ended answer (Took taken faults sure old new) (CutOff taken faults sure old new) → (Rose (faults old) (faults new) → ⊥) → Took taken faults sure old new answer.text × (ended ≡ answer.status)
   run_whole status.Done answer a quiet = (a.0, sym a.1)
   run_whole status.Stopped answer a quiet = (a.0, sym a.1)
+  run_whole status.CheckNo answer a quiet = (a.0, sym a.1)
   run_whole status.WriteFault answer a quiet = absurd (quiet (cut_rose answer.text a))
   run_whole status.Usage answer a quiet = absurd a
   run_whole status.BadFile answer a quiet = absurd a

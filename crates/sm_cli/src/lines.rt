@@ -2,7 +2,8 @@
 ghost use Rattle.std.specs.Prelude.{◌++◌, codes};
 ghost use Rattle.std.specs.Fmt.{decimal};
 ghost use Rattle.sm_io.specs.Sink.{Puts};
-ghost use Rattle.sm_cli.specs.Serve.{line_of, fault_text, image_fault_text, schedule_fault_text, table_fault_text};
+ghost use Rattle.sm_cli.specs.Faults.{fault_text, image_fault_text, schedule_fault_text, table_fault_text};
+ghost use Rattle.sm_cli.specs.Refusal.{line_of};
 
 use crate::answers::Refused;
 use crate::{FileFault, Refusal};
@@ -80,12 +81,18 @@ fn put_fault<S: Sink>(sink: &mut S, fault: FileFault) -> Result<(), Failed>
         FileFault::Absent => put_all(sink, b"Absent"),
         FileFault::TooLong => put_all(sink, b"TooLong"),
         FileFault::Image(fault) => put_image_fault(sink, fault),
+        FileFault::NoModule { id } => put_field(sink, b"NoModule ", u64::from(id)),
         FileFault::Schedule(fault) => put_schedule_fault(sink, fault),
     }
 }
 
-// Puts a text, a name and another text.
-fn put_named<S: Sink>(sink: &mut S, before: &[u8], name: &[u8], after: &[u8]) -> Result<(), Failed>
+/// Puts a text, a name and another text.
+pub fn put_named<S: Sink>(
+    sink: &mut S,
+    before: &[u8],
+    name: &[u8],
+    after: &[u8],
+) -> Result<(), Failed>
     ensures { Puts S.taken S.faults S.sure sink.old sink.new (before.now ++ (name.now ++ after.now)) result }
 {
     match put_all(sink, before) {

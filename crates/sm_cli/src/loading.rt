@@ -1,25 +1,72 @@
 // The files of a command, read whole and examined.
-ghost use Rattle.std.specs.Prelude.{◌≡◌, ◌≢◌, ◌≤◌, ◌∷◌, [], IsTrue, IfOk, IfErr, false, length};
+ghost use Rattle.std.specs.Prelude.{◌≡◌, ◌≢◌, ◌≤◌, ◌∷◌, [], IsTrue, IfOk, IfErr, Some, false, length};
 ghost use Rattle.std.specs.Option.{option_copied};
 ghost use Rattle.sm_io.specs.Faults.{HasCause};
-ghost use Rattle.sm_cli.specs.Serve.{Kind, image_file, need, schedule_needs, HasFile, IsImageOf, IsScheduleOf, IsNeedCause};
+ghost use Rattle.mod_layout.specs.Table.{module_of};
+ghost use Rattle.mod_layout.specs.Tables.{IsModule};
+ghost use Rattle.sm_cli.specs.Content.{IsContentRefusal};
+ghost use Rattle.sm_cli.specs.Files.{Kind, Held, an_image, a_schedule, image_file, image_with, schedule_file, need, schedule_needs, HasFile, IsHeld, Holds, IsScheduleOf, most_bytes};
+ghost use Rattle.sm_cli.specs.Serve.{IsNeedCause};
 
 use crate::answers::Refused;
 use crate::{FileFault, Refusal};
 use image_text::{Image, ImageFault};
+use mod_layout::Module;
 use schedule_file::{Schedule, ScheduleFault};
 use sm_io::{Files, ReadFault, read_whole};
 use std::alloc::Global;
 
-/// The image of that file.
-pub fn load_image<'a, F: Files>(
+/// What a file of one kind holds.
+pub trait Content: Drop {
+    /// The kind.
+    ghost kind: { Kind };
+
+    /// What contracts see of it.
+    ghost held: { Self → Held };
+
+    /// What these bytes hold.
+    fn examine(alloc: Global, bytes: Vec<u8>) -> Result<Self, Refusal>
+        ensures holds { IfOk result (λ value. IsHeld kind bytes.items (held value)) }
+        ensures refused { IfErr result (λ refusal. IsContentRefusal kind bytes.items refusal) };
+}
+
+impl Content for Image {
+    ghost kind = { image_file };
+
+    ghost held = { λ image. an_image image };
+
+    fn examine(alloc: Global, bytes: Vec<u8>) -> Result<Self, Refusal> {
+        match image_text::read(alloc, &bytes) {
+            Ok(image) => Ok(image),
+            Err(ImageFault::NoMemory) => Err(Refusal::NoMemory),
+            Err(fault) => Err(Refusal::BadFile(FileFault::Image(fault))),
+        }
+    }
+}
+
+impl Content for Schedule {
+    ghost kind = { schedule_file };
+
+    ghost held = { λ schedule. a_schedule schedule.entries.items };
+
+    fn examine(alloc: Global, bytes: Vec<u8>) -> Result<Self, Refusal> {
+        match schedule_file::read_schedule(alloc, &bytes) {
+            Ok(schedule) => Ok(schedule),
+            Err(ScheduleFault::NoMemory) => Err(Refusal::NoMemory),
+            Err(fault) => Err(Refusal::BadFile(FileFault::Schedule(fault))),
+        }
+    }
+}
+
+/// What the file of that name holds.
+pub fn load<'a, C: Content, F: Files>(
     alloc: Global,
     name: &'a str,
     files: &mut F,
-) -> Result<Image, Refused<'a>>
-    ensures image { IfOk result (λ image. IsImageOf (F.content files.old) name.now image) }
+) -> Result<C, Refused<'a>>
+    ensures holds { IfOk result (λ value. Holds (F.content files.old) (need name.now C.kind) (C.held value)) }
     ensures quiet { IfOk result (λ _. HasCause (F.faults files.old) (F.faults files.new) false) }
-    ensures refused { IfErr result (λ refused. IsNeedCause (F.content files.old) (F.faults files.old) (F.faults files.new) (need name.now image_file ∷ []) refused.refusal refused.name.now) }
+    ensures refused { IfErr result (λ refused. IsNeedCause (F.content files.old) (F.faults files.old) (F.faults files.new) (need name.now C.kind ∷ []) refused.refusal refused.name.now) }
     ensures sound { IsTrue (F.sound files.old) → F.faults files.new ≡ F.faults files.old }
     ensures sound_read { IsTrue (F.sound files.old) → IfErr result (λ refused. refused.refusal ≢ Refusal.CannotRead) }
     ensures same_sound { F.sound files.new ≡ F.sound files.old }
@@ -29,20 +76,50 @@ pub fn load_image<'a, F: Files>(
         Ok(bytes) => bytes,
         Err(refused) => return Err(refused),
     };
-    match image_text::read(alloc, &bytes) {
-        Ok(image) => Ok(image),
-        Err(ImageFault::NoMemory) => Err(Refused {
-            refusal: Refusal::NoMemory,
-            name,
-        }),
-        Err(fault) => Err(Refused {
-            refusal: Refusal::BadFile(FileFault::Image(fault)),
+    match C::examine(alloc, bytes) {
+        Ok(value) => Ok(value),
+        Err(refusal) => Err(Refused { refusal, name }),
+    }
+}
+
+/// An image, and one of its modules.
+#[derive(Drop)]
+pub struct Chosen {
+    pub image: Image,
+    pub module: Module,
+}
+
+/// The image of the file of that name, which holds a module with this id.
+pub fn load_with<'a, F: Files>(
+    alloc: Global,
+    name: &'a str,
+    id: u16,
+    files: &mut F,
+) -> Result<Chosen, Refused<'a>>
+    ensures holds { IfOk result (λ chosen. Holds (F.content files.old) (need name.now (image_with id)) (an_image chosen.image)) }
+    ensures chosen { IfOk result (λ chosen. module_of id chosen.image.table ≡ Some chosen.«module») }
+    ensures sections { IfOk result (λ chosen. IsModule chosen.image.table.given chosen.«module») }
+    ensures quiet { IfOk result (λ _. HasCause (F.faults files.old) (F.faults files.new) false) }
+    ensures refused { IfErr result (λ refused. IsNeedCause (F.content files.old) (F.faults files.old) (F.faults files.new) (need name.now (image_with id) ∷ []) refused.refusal refused.name.now) }
+    ensures sound { IsTrue (F.sound files.old) → F.faults files.new ≡ F.faults files.old }
+    ensures sound_read { IsTrue (F.sound files.old) → IfErr result (λ refused. refused.refusal ≢ Refusal.CannotRead) }
+    ensures same_sound { F.sound files.new ≡ F.sound files.old }
+    ensures same_files { F.content files.new ≡ F.content files.old }
+{
+    let image = match load::<Image, F>(alloc, name, files) {
+        Ok(image) => image,
+        Err(refused) => return Err(refused),
+    };
+    match image.table.own(Some(id)) {
+        Some(module) => Ok(Chosen { image, module }),
+        None => Err(Refused {
+            refusal: Refusal::BadFile(FileFault::NoModule { id }),
             name,
         }),
     }
 }
 
-/// The schedule of that file, or the empty one.
+/// The schedule of the file of that name, or the empty one.
 pub fn load_schedule<'a, F: Files>(
     alloc: Global,
     schedule: Option<&'a str>,
@@ -53,26 +130,13 @@ pub fn load_schedule<'a, F: Files>(
     ensures refused { IfErr result (λ refused. IsNeedCause (F.content files.old) (F.faults files.old) (F.faults files.new) (schedule_needs (option_copied schedule.entry)) refused.refusal refused.name.now) }
     ensures sound { IsTrue (F.sound files.old) → F.faults files.new ≡ F.faults files.old }
     ensures sound_read { IsTrue (F.sound files.old) → IfErr result (λ refused. refused.refusal ≢ Refusal.CannotRead) }
+    ensures same_sound { F.sound files.new ≡ F.sound files.old }
     ensures same_files { F.content files.new ≡ F.content files.old }
 {
-    let Some(name) = schedule else {
-        return Ok(Schedule {
+    match schedule {
+        Some(name) => load::<Schedule, F>(alloc, name, files),
+        None => Ok(Schedule {
             entries: Vec::new(alloc),
-        });
-    };
-    let bytes = match read_file(alloc, name, files) {
-        Ok(bytes) => bytes,
-        Err(refused) => return Err(refused),
-    };
-    match schedule_file::read_schedule(alloc, &bytes) {
-        Ok(read) => Ok(read),
-        Err(ScheduleFault::NoMemory) => Err(Refused {
-            refusal: Refusal::NoMemory,
-            name,
-        }),
-        Err(fault) => Err(Refused {
-            refusal: Refusal::BadFile(FileFault::Schedule(fault)),
-            name,
         }),
     }
 }
@@ -84,7 +148,7 @@ fn read_file<'a, F: Files>(
     files: &mut F,
 ) -> Result<Vec<u8>, Refused<'a>>
     ensures bytes { IfOk result (λ bytes. HasFile (F.content files.old) name.now bytes.items) }
-    ensures short { IfOk result (λ bytes. length bytes.items ≤ 1048576) }
+    ensures short { IfOk result (λ bytes. length bytes.items ≤ most_bytes) }
     ensures quiet { IfOk result (λ _. HasCause (F.faults files.old) (F.faults files.new) false) }
     ensures refused { IfErr result (λ refused. (kind : Kind) → IsNeedCause (F.content files.old) (F.faults files.old) (F.faults files.new) (need name.now kind ∷ []) refused.refusal refused.name.now) }
     ensures sound { IsTrue (F.sound files.old) → F.faults files.new ≡ F.faults files.old }

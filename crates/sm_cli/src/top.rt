@@ -11,16 +11,18 @@ ghost use Rattle.written_machine.specs.View.{at, view_of};
 ghost use Rattle.written_machine.specs.declared.Hidden.TheVariants.{Only};
 ghost use Rattle.sm_cli.specs.declared.answers.Status.{Status as Statuses};
 ghost use Rattle.sm_cli.specs.declared.answers.FileFault.{FileFault as FileFaults};
-ghost use Rattle.sm_cli.specs.Asked.{asked};
-ghost use Rattle.sm_cli.specs.Command.{Command, command_of};
-ghost use Rattle.sm_cli.specs.Serve.{Answer, texts, call_of, needs_of, IsInput, IsFirstFault, Serves, Refuses, IsAnswer, IsNeedCause, IsRun, EndsAs, IsOrOutside, IsRoomForAnswer, IsRoomForLine, status_of, line_of, run_status, answer_from, Completes};
+ghost use Rattle.sm_cli.specs.Command.{Command, Answer, IsAnswer};
+ghost use Rattle.sm_cli.specs.CommandLine.{command_of};
+ghost use Rattle.sm_cli.specs.Files.{IsFirstFault};
+ghost use Rattle.sm_cli.specs.ImageCommand.{run_status};
+ghost use Rattle.sm_cli.specs.Input.{IsInput};
+ghost use Rattle.sm_cli.specs.Refusal.{status_of, line_of};
+ghost use Rattle.sm_cli.specs.Serve.{texts, call_of, Serves, Refuses, IsOrOutside, IsRoomForAnswer, IsRoomForLine, Completes};
 
 use crate::answers::Refused;
-use crate::command::{ImageCommand, read_command};
+use crate::commands::{Answering, read_command};
 use crate::lines::put_refusal;
-use crate::loading::{load_image, load_schedule};
 use crate::{Refusal, Status};
-use board::{Board, Ran};
 use sm_io::{Failed, Files, Sink};
 use std::alloc::Global;
 
@@ -49,6 +51,9 @@ pub fn serve<F: Files, O: Sink, E: Sink>(
     ensures stopped { result ≡ Status.Stopped → Serves (call_of (texts words.now) (F.content files.old) (F.faults files.old) (F.faults files.new)) Status.Stopped
         (Took O.taken O.faults O.sure out.old out.new) × (err.new ≡ err.old) }
 
+    ensures check_no { result ≡ Status.CheckNo → Serves (call_of (texts words.now) (F.content files.old) (F.faults files.old) (F.faults files.new)) Status.CheckNo
+        (Took O.taken O.faults O.sure out.old out.new) × (err.new ≡ err.old) }
+
     // A refusal: it has its cause; `err` took its line, and `out` nothing.
     ensures usage { result ≡ Status.Usage → Refuses (call_of (texts words.now) (F.content files.old) (F.faults files.old) (F.faults files.new)) Status.Usage
         (Took E.taken E.faults E.sure err.old err.new) × (out.new ≡ out.old) }
@@ -67,7 +72,7 @@ pub fn serve<F: Files, O: Sink, E: Sink>(
     // Completeness: what the words and the files call for is answered, but for faults outside and want of memory.
     ensures complete_usage { command_of (texts words.now) ≡ None → IsOrOutside Status.Usage result }
     ensures complete_bad_file { (map : FileMap) (command : Command) (name : List ℕ) (fault : FileFaults) →
-        F.content files.old ≡ Some map → command_of (texts words.now) ≡ Some command → IsFirstFault (Some map) (needs_of command) name fault →
+        F.content files.old ≡ Some map → command_of (texts words.now) ≡ Some command → IsFirstFault (Some map) command.needs name fault →
         IsOrOutside Status.BadFile result }
     ensures complete { (map : FileMap) (command : Command) (answer : Answer) →
         F.content files.old ≡ Some map → command_of (texts words.now) ≡ Some command → IsAnswer (Some map) command answer →
@@ -79,23 +84,33 @@ pub fn serve<F: Files, O: Sink, E: Sink>(
     ensures sure { IsTrue (F.sound files.old) → IsRoomForAnswer (texts words.now) (F.content files.old) (O.sure out.old)
         → IsRoomForLine (call_of (texts words.now) (F.content files.old) (F.faults files.old) (F.faults files.new)) (E.sure err.old)
         → (result ≢ Status.WriteFault) × (O.faults out.new ≡ O.faults out.old) × (E.faults err.new ≡ E.faults err.old) }
+    ensures same_sound { F.sound files.new ≡ F.sound files.old }
     ensures same_files { F.content files.new ≡ F.content files.old }
+    ensures unread { result ≡ Status.Usage → files.new ≡ files.old }
 {
     // These do nothing: their clauses are the laws of two runs, for the headline's second half.
     isolation::two_runs();
     isolation::texts();
-    match read_command(words) {
-        None => tell(err, NO_COMMAND),
-        Some(command) => match run_image(alloc, command, files, out) {
-            Ok(status) => status,
-            Err(refused) => tell(err, refused),
-        },
+    let command = match read_command(alloc, words) {
+        Ok(Some(command)) => command,
+        Ok(None) => return tell(err, NO_COMMAND),
+        Err(_) => return tell(err, NO_ROOM),
+    };
+    match command.answer(alloc, files, out) {
+        Ok(status) => status,
+        Err(refused) => tell(err, refused),
     }
 }
 
 // The refusal of words that are no command.
 const NO_COMMAND: Refused<'static> = Refused {
     refusal: Refusal::Usage,
+    name: "",
+};
+
+// The refusal of words for which there was no memory.
+const NO_ROOM: Refused<'static> = Refused {
+    refusal: Refusal::NoMemory,
     name: "",
 };
 
@@ -118,55 +133,5 @@ fn status_for(refusal: Refusal) -> Status
         Refusal::BadFile(_) => Status::BadFile,
         Refusal::CannotRead => Status::ReadFault,
         Refusal::NoMemory => Status::NoMemory,
-    }
-}
-
-// Reads the image and then the schedule, runs the machine and puts its trace. At a refusal nothing was put.
-fn run_image<'a, F: Files, O: Sink>(
-    alloc: Global,
-    command: ImageCommand<'a>,
-    files: &mut F,
-    out: &mut O,
-) -> Result<Status, Refused<'a>>
-    requires { command.cycles ≤ 1000000000 }
-    ensures ok { IfOk result (λ status. IsRun (F.content files.old) (asked command.entry) status (Took O.taken O.faults O.sure out.old out.new) (CutOff O.taken O.faults O.sure out.old out.new)) }
-    ensures quiet { IfOk result (λ _. HasCause (F.faults files.old) (F.faults files.new) false) }
-    ensures refused { IfErr result (λ refused. IsNeedCause (F.content files.old) (F.faults files.old) (F.faults files.new) (needs_of (asked command.entry)) refused.refusal refused.name.now) }
-    ensures nothing { IfErr result (λ _. out.new ≡ out.old) }
-    ensures sound { IsTrue (F.sound files.old) → F.faults files.new ≡ F.faults files.old }
-    ensures sound_read { IsTrue (F.sound files.old) → IfErr result (λ refused. refused.refusal ≢ Refusal.CannotRead) }
-    ensures same_files { F.content files.new ≡ F.content files.old }
-{
-    let image = match load_image(alloc, command.image, files) {
-        Ok(image) => image,
-        Err(refused) => return Err(refused),
-    };
-    let schedule = match load_schedule(alloc, command.schedule, files) {
-        Ok(schedule) => schedule,
-        Err(refused) => return Err(refused),
-    };
-    match Board::new(alloc, &image, &schedule) {
-        Ok(board) => Ok(run_board(board, command.cycles, out)),
-        Err(_) => Err(Refused {
-            refusal: Refusal::NoMemory,
-            name: command.image,
-        }),
-    }
-}
-
-// Runs the board and puts its trace.
-fn run_board<O: Sink>(board: Board, cycles: u64, out: &mut O) -> Status
-    requires { board.cycle + cycles ≤ 4611686018427387904 }
-    ensures { EndsAs result (answer_from board cycles) (Took O.taken O.faults O.sure out.old out.new) (CutOff O.taken O.faults O.sure out.old out.new) }
-{
-    let mut board = board;
-    let status = match board.run(cycles, out) {
-        Ran::Done => Status::Done,
-        Ran::Stopped(_) => Status::Stopped,
-        Ran::SinkFailed => return Status::WriteFault,
-    };
-    match board.finish(out) {
-        Ok(()) => status,
-        Err(Failed) => Status::WriteFault,
     }
 }

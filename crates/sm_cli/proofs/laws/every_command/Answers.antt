@@ -1,4 +1,4 @@
-use Rattle.sm_cli.proofs.Decided.{decided}
+use Rattle.sm_cli.proofs.Needed.{decided}
 use Rattle.sm_cli.proofs.laws.every_command.Goals as goal
 
 pub returns : goal.returns

@@ -1,6 +1,6 @@
 use Rattle.std.proofs.Common.{◌++◌, codes}
 use Rattle.sm_io.proofs.Putting.{cut_first, cut_later, puts_last}
-use Rattle.sm_cli.specs.Serve.{fault_text}
+use Rattle.sm_cli.specs.Faults.{fault_text}
 use Rattle.sm_cli.proofs.lines.put_bad_file.Goals as goal
 
 pub returns-in-Err : goal.returns-in-Err

@@ -1,5 +1,5 @@
 use Rattle.std.proofs.Common.{sym}
-use Rattle.sm_cli.specs.Serve.{line_of}
+use Rattle.sm_cli.specs.Refusal.{line_of}
 use Rattle.sm_cli.proofs.lines.put_refusal.Goals as goal
 
 pub returns-in-Usage : goal.returns-in-Usage

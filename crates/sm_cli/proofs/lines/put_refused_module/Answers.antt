@@ -1,7 +1,7 @@
 use Rattle.std.proofs.Common.{◌++◌, codes}
 use Rattle.std.specs.Fmt.{decimal}
 use Rattle.sm_io.proofs.Putting.{cut_first, cut_later, puts_last}
-use Rattle.sm_cli.specs.Serve.{table_fault_text}
+use Rattle.sm_cli.specs.Faults.{table_fault_text}
 use Rattle.sm_cli.proofs.lines.put_refused_module.Goals as goal
 
 pub returns-in-Err : goal.returns-in-Err

@@ -1,0 +1,106 @@
+//! Command lines, each with what it gives.
+
+use sm_cli::Status;
+
+/// Words, by single spaces, and what the call gives.
+#[derive(Clone, Copy)]
+pub struct Line {
+    pub words: &'static str,
+    pub status: Status,
+    pub out: &'static str,
+    pub err: &'static str,
+}
+
+const fn answer(words: &'static str, out: &'static str) -> Line {
+    Line {
+        words,
+        status: Status::Done,
+        out,
+        err: "",
+    }
+}
+
+const fn fault(words: &'static str, err: &'static str) -> Line {
+    Line {
+        words,
+        status: Status::BadFile,
+        out: "",
+        err,
+    }
+}
+
+const fn usage(words: &'static str) -> Line {
+    Line {
+        words,
+        status: Status::Usage,
+        out: "",
+        err: "sancus: usage\n",
+    }
+}
+
+const KEYS: &str = "\
+provider 0fd02b088984c51cf3af483cdc7342e8
+module 83f82be27a06d8d232f15de8267c1ab8
+";
+
+const CONSTANT_LINES: &str = "\
+0200: 4035 1234 mov #0x1234, r5
+0204: 4303 mov #0, r3
+0206: 3fff jmp 0x0206
+";
+
+/// Keys of the module of `called.img`, and instructions of `constant.img`.
+pub fn answers() -> [Line; 14] {
+    [
+        answer("key called.img 1", KEYS),
+        answer("key -- called.img 1", KEYS),
+        answer("key called.img -- 1", KEYS),
+        answer("key called.img 1 --", KEYS),
+        fault(
+            "key called.img 2",
+            "sancus: bad file called.img: NoModule 2\n",
+        ),
+        fault(
+            "key called.img 65535",
+            "sancus: bad file called.img: NoModule 65535\n",
+        ),
+        fault("key - 1", "sancus: bad file -: Absent\n"),
+        fault("key  1", "sancus: bad file : Absent\n"),
+        fault("key -- -- 1", "sancus: bad file --: Absent\n"),
+        answer("dis constant.img 0200 0208", CONSTANT_LINES),
+        answer("dis constant.img 0204 0205", "0204: 4303 mov #0, r3\n"),
+        answer("dis constant.img 0202 0204", "0202: 1234 push @r4+\n"),
+        answer("dis constant.img 0000 0002", "0000: 0000 ?\n"),
+        answer("dis constant.img 0200 0200", ""),
+    ]
+}
+
+/// Words that are no command.
+pub fn no_commands() -> [Line; 24] {
+    [
+        usage(""),
+        usage("--"),
+        usage("-- key called.img 1"),
+        usage("keys called.img 1"),
+        usage("key"),
+        usage("key called.img"),
+        usage("key called.img 1 1"),
+        usage("key -x 1"),
+        usage("key --help"),
+        usage("key called.img -1"),
+        usage("key called.img -- 1 --"),
+        usage("key called.img 0"),
+        usage("key called.img 01"),
+        usage("key called.img +1"),
+        usage("key called.img 65536"),
+        usage("key called.img "),
+        usage("dis constant.img 0200"),
+        usage("dis constant.img 0200 0208 0"),
+        usage("dis constant.img 0201 0208"),
+        usage("dis constant.img 0208 0206"),
+        usage("dis constant.img 200 0208"),
+        usage("dis constant.img 0200 020A"),
+        usage("image called.img -"),
+        usage("image called.img - -- 1 1"),
+    ]
+}

@@ -1,0 +1,21 @@
+use Rattle.std.proofs.Common.{subst}
+use Rattle.std.specs.Option.{option_copied}
+use Rattle.written_machine.specs.State.{State}
+use Rattle.sm_io.specs.Sink.{Took, CutOff}
+use Rattle.sm_cli.specs.Files.{IsScheduleOf}
+use Rattle.sm_cli.specs.ImageCommand.{trace_answer, answer_from}
+use Rattle.sm_cli.specs.Serve.{EndsAs}
+use Rattle.sm_cli.proofs.Running.{image_answer}
+use Rattle.sm_cli.proofs.commands.image.ImageCommandAnswering.answer.Goals as goal
+
+pub returns-in-Ok-new-clause-ok : goal.returns-in-Ok-new-clause-ok
+returns-in-Ok-new-clause-ok g c =
+    let own = c.args.self.now in
+    let files = g.F.Files.content c.args.files.now in
+    let entries = c.in-Ok-load_schedule.schedule.entries.items in
+    let schedule = subst (λ o. IsScheduleOf o (option_copied own.schedule) entries) c.in-Ok.ensures.same_files c.in-Ok-load_schedule.ensures.entries in
+    record {
+      answer = trace_answer c.in-Ok.image entries own.cycles;
+      served = image_answer files own.image.now (option_copied own.schedule) own.cycles c.in-Ok.image entries c.in-Ok.ensures.holds schedule;
+      ends = subst (λ (s : State). EndsAs c.put_trace.result (answer_from s own.cycles) (Took g.O.Sink.taken g.O.Sink.faults g.O.Sink.sure c.args.out.now c.put_trace.new.out) (CutOff g.O.Sink.taken g.O.Sink.faults g.O.Sink.sure c.args.out.now c.put_trace.new.out)) c.in-Ok-new.ensures c.put_trace.ensures;
+    }

@@ -1,0 +1,72 @@
+-- `dis IMAGE START END`: the instructions of an image, one a line.
+use Rattle.std.specs.Prelude.{ℕ, zero, suc, ◌+◌, ◌-◌, ◌*◌, ◌%◌, ◌==◌, ◌&&◌, nat_lt, nat_le, List, [], ◌∷◌, ◌++◌, Option, Some, None, option_and_then, codes, slice_index, if◌then◌else◌}
+use Rattle.texts.specs.Hexadecimals.{hex_word, read_hex_word}
+use Rattle.sm_words.specs.Words.{word_of}
+use Rattle.insn_decode.specs.declared.insn.Insn.{Insn}
+use Rattle.insn_decode.specs.Code.{insn_of, length_at, length_or_one}
+use Rattle.insn_decode.specs.Text.{text_of}
+use Rattle.sm_cli.specs.declared.commands.dis.DisCommand.{DisCommand}
+use Rattle.sm_cli.specs.Words.{Text}
+use Rattle.sm_cli.specs.Files.{Held, an_image, image_file, need}
+use Rattle.sm_cli.specs.Command.{Outcome, done, no_outcome, Command}
+
+-- the word at an address
+abbrev pub word_in : List ℕ → ℕ → ℕ
+word_in memory at = word_of (slice_index memory at) (slice_index memory (at + 1))
+
+-- the instruction at an address, where its words do not go past the last address
+unfoldable pub insn_in : List ℕ → ℕ → Option Insn
+insn_in memory at =
+    if nat_le (at + 2 * length_at (word_in memory at)) 65536
+    then insn_of (word_in memory at) (word_in memory (at + 2)) (word_in memory (at + 4))
+    else None
+
+-- a word and a space
+abbrev pub word_text : List ℕ → ℕ → List ℕ
+word_text memory at = hex_word (word_in memory at) ++ codes " "
+
+-- one to three words
+abbrev pub words_text : List ℕ → ℕ → ℕ → List ℕ
+words_text memory at count =
+    word_text memory at
+    ++ (if nat_lt 1 count then word_text memory (at + 2) else [])
+    ++ (if nat_lt 2 count then word_text memory (at + 4) else [])
+
+-- an instruction's text, or that of a word that is none
+abbrev pub insn_text : Option Insn → ℕ → List ℕ
+insn_text (Some insn) at = text_of insn at
+insn_text None at = codes "?"
+
+-- the line of what stands at an address
+unfoldable pub line_at : List ℕ → ℕ → List ℕ
+line_at memory at =
+    let insn = insn_in memory at in
+    (((hex_word at ++ codes ": ") ++ words_text memory at (length_or_one insn)) ++ insn_text insn at) ++ codes "\n"
+
+-- the lines from an address on while it is below the end, no more than this many
+unfoldable pub lines_below : ℕ → List ℕ → ℕ → ℕ → List ℕ
+lines_below zero memory at end = []
+lines_below (suc more) memory at end =
+    if nat_lt at end then line_at memory at ++ lines_below more memory (at + 2 * length_or_one (insn_in memory at)) end else []
+
+abbrev pub listing : List ℕ → ℕ → ℕ → List ℕ
+listing memory start end = lines_below (end - start) memory start end
+
+abbrev pub dis_outcome : ℕ → ℕ → List Held → Outcome
+dis_outcome start end (an_image value ∷ []) = done (listing value.memory start end)
+dis_outcome start end _ = no_outcome
+
+abbrev pub dis_command : Text → ℕ → ℕ → Command
+dis_command name start end = record { needs = need name image_file ∷ []; outcome = dis_outcome start end }
+
+-- an even start that is not above the end
+abbrev pub range_command : Text → ℕ → ℕ → Option Command
+range_command name start end = if (start % 2 == 0) && nat_le start end then Some (dis_command name start end) else None
+
+abbrev pub dis_of : List Text → Option Command
+dis_of (name ∷ start ∷ end ∷ []) = option_and_then (λ s. option_and_then (λ e. range_command name s e) (read_hex_word end)) (read_hex_word start)
+dis_of _ = None
+
+-- what the program's value asks for
+abbrev pub dis_asked : DisCommand → Command
+dis_asked c = dis_command c.image.now c.start c.end

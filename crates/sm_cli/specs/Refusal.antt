@@ -1,0 +1,27 @@
+-- Refusals: their status, and their line.
+use Rattle.std.specs.Prelude.{Bool, true, false, List, ℕ, ◌++◌, codes}
+use Rattle.sm_cli.specs.declared.answers.Status.{Status}
+use Rattle.sm_cli.specs.declared.answers.Status.TheVariants as status
+use Rattle.sm_cli.specs.declared.answers.Refusal.{Refusal}
+use Rattle.sm_cli.specs.declared.answers.Refusal.TheVariants as refusal
+use Rattle.sm_cli.specs.Faults.{fault_text}
+
+-- only a file that cannot be read is a fault that was counted
+abbrev pub is_read_fault : Refusal → Bool
+is_read_fault refusal.Usage = false
+is_read_fault (refusal.BadFile fault) = false
+is_read_fault refusal.CannotRead = true
+is_read_fault refusal.NoMemory = false
+
+abbrev pub status_of : Refusal → Status
+status_of refusal.Usage = status.Usage
+status_of (refusal.BadFile fault) = status.BadFile
+status_of refusal.CannotRead = status.ReadFault
+status_of refusal.NoMemory = status.NoMemory
+
+-- the line of a refusal, which may name a file
+unfoldable pub line_of : Refusal → List ℕ → List ℕ
+line_of refusal.Usage name = codes "sancus: usage\n"
+line_of (refusal.BadFile fault) name = (codes "sancus: bad file " ++ (name ++ codes ": ")) ++ (fault_text fault ++ codes "\n")
+line_of refusal.CannotRead name = codes "sancus: cannot read " ++ (name ++ codes "\n")
+line_of refusal.NoMemory name = codes "sancus: no memory\n"

@@ -1,0 +1,38 @@
+// Values of a command's words.
+ghost use Rattle.std.specs.Prelude.{◌≡◌, ◌≤◌, IfSome};
+ghost use Rattle.std.specs.Option.{option_copied};
+ghost use Rattle.sm_cli.specs.Arguments.{file_named, cycles_of, id_of};
+
+use texts::read_decimal;
+
+/// A run is at most so long.
+const MAX_CYCLES: u64 = 1_000_000_000;
+
+/// The largest id of a module.
+const MAX_ID: u64 = 65_535;
+
+/// The name of a file, or nothing for `-`.
+pub fn file_named(word: &str) -> Option<&str>
+    ensures { option_copied result ≡ file_named word.now }
+{
+    if word == "-" { None } else { Some(word) }
+}
+
+/// A number of cycles.
+pub fn cycles_of(word: &str) -> Option<u64>
+    ensures exact { result ≡ cycles_of word.now }
+    ensures limit { IfSome result (λ cycles. cycles ≤ 1000000000) }
+{
+    read_decimal(word.as_bytes(), MAX_CYCLES)
+}
+
+/// A module's id.
+pub fn id_of(word: &str) -> Option<u16>
+    ensures { result ≡ id_of word.now }
+{
+    match read_decimal(word.as_bytes(), MAX_ID) {
+        Some(0) => None,
+        Some(id) => Some(id as u16),
+        None => None,
+    }
+}

@@ -1,0 +1,97 @@
+// The commands: which there are, and what they have in common.
+ghost use Rattle.std.specs.Prelude.{◌≡◌, ◌≢◌, IsTrue, IfOk, IfErr, IfSome, false, option_map};
+ghost use Rattle.sm_io.specs.Faults.{HasCause};
+ghost use Rattle.sm_io.specs.Sink.{Took, CutOff};
+ghost use Rattle.sm_cli.specs.declared.answers.Refusal.TheVariants.{CannotRead};
+ghost use Rattle.sm_cli.specs.Command.{Command};
+ghost use Rattle.sm_cli.specs.CommandLine.{asked, command_of, IsBounded};
+ghost use Rattle.sm_cli.specs.Serve.{IsNeedCause, IsRun, texts};
+
+use crate::answers::{Refused, Status};
+use sm_io::{Files, Sink};
+use std::alloc::{AllocError, Global};
+
+pub mod dis;
+pub mod image;
+pub mod key;
+
+use dis::DisCommand;
+use image::ImageCommand;
+use key::KeyCommand;
+
+/// A command that can be answered.
+pub trait Answering {
+    /// What it asks for.
+    ghost asked: { Self → Command };
+
+    /// Its numbers are within their bounds.
+    ghost bounds: { Self → Type 0 };
+
+    /// Reads the files that it needs, in their order, and puts what comes of them. At a refusal nothing was put.
+    fn answer<F: Files, O: Sink>(
+        &self,
+        alloc: Global,
+        files: &mut F,
+        out: &mut O,
+    ) -> Result<Status, Refused<'_>>
+        requires { bounds self.now }
+        ensures ok { IfOk result (λ status. IsRun (F.content files.old) (asked self.now) status (Took O.taken O.faults O.sure out.old out.new) (CutOff O.taken O.faults O.sure out.old out.new)) }
+        ensures quiet { IfOk result (λ _. HasCause (F.faults files.old) (F.faults files.new) false) }
+        ensures refused { IfErr result (λ refused. IsNeedCause (F.content files.old) (F.faults files.old) (F.faults files.new) (asked self.now).needs refused.refusal refused.name.now) }
+        ensures nothing { IfErr result (λ _. out.new ≡ out.old) }
+        ensures sound { IsTrue (F.sound files.old) → F.faults files.new ≡ F.faults files.old }
+        ensures sound_read { IsTrue (F.sound files.old) → IfErr result (λ refused. refused.refusal ≢ CannotRead) }
+        ensures same_sound { F.sound files.new ≡ F.sound files.old }
+        ensures same_files { F.content files.new ≡ F.content files.old };
+}
+
+/// A command with its arguments.
+#[derive(Clone, Copy)]
+pub enum CommandLine<'a> {
+    Image(ImageCommand<'a>),
+    Key(KeyCommand<'a>),
+    Dis(DisCommand<'a>),
+}
+
+/// The command that the words are.
+#[tactic(auto, unfolding(crate::specs::CommandLine::command_of))]
+pub fn read_command<'a>(
+    alloc: Global,
+    words: &'a [String],
+) -> Result<Option<CommandLine<'a>>, AllocError>
+    ensures command { IfOk result (λ o. option_map asked o ≡ command_of (texts words.entry.now)) }
+    ensures bounds { IfOk result (λ o. IfSome o IsBounded) }
+{
+    if words.is_empty() {
+        return Ok(None);
+    }
+    let name = words[0].as_str();
+    if name == "image" {
+        Ok(image::read(alloc, words)?.map(CommandLine::Image))
+    } else if name == "key" {
+        Ok(key::read(alloc, words)?.map(CommandLine::Key))
+    } else if name == "dis" {
+        Ok(dis::read(alloc, words)?.map(CommandLine::Dis))
+    } else {
+        Ok(None)
+    }
+}
+
+impl Answering for CommandLine<'_> {
+    ghost asked = { λ line. asked line };
+
+    ghost bounds = { λ line. IsBounded line };
+
+    fn answer<F: Files, O: Sink>(
+        &self,
+        alloc: Global,
+        files: &mut F,
+        out: &mut O,
+    ) -> Result<Status, Refused<'_>> {
+        match self {
+            CommandLine::Image(command) => command.answer(alloc, files, out),
+            CommandLine::Key(command) => command.answer(alloc, files, out),
+            CommandLine::Dis(command) => command.answer(alloc, files, out),
+        }
+    }
+}

@@ -1,0 +1,106 @@
+//! `key IMAGE ID`: the key of a module's vendor, and the module's.
+ghost use Rattle.std.specs.Prelude.{◌≡◌, IfOk, map, drop, option_map, option_and_then};
+ghost use Rattle.image_text.specs.Image.{Image as ImageValue};
+ghost use Rattle.mod_layout.specs.Tables.{IsModule};
+ghost use Rattle.sm_io.specs.Sink.{Puts};
+ghost use Rattle.sm_cli.specs.KeyCommand.{key_of, key_asked, key_lines, key_line, two_lines};
+ghost use Rattle.sm_cli.specs.Serve.{texts};
+ghost use Rattle.sm_cli.specs.Words.{values_in};
+
+use crate::answers::{Refused, Status};
+use crate::arguments::id_of;
+use crate::commands::Answering;
+use crate::lines::put_named;
+use crate::loading::{Chosen, load_with};
+use crate::words::values_of;
+use mod_keys::{TAG_LENGTH, module_key, provider_key};
+use sm_io::{Failed, Files, Sink};
+use std::alloc::{AllocError, Global};
+
+/// The arguments.
+#[derive(Clone, Copy)]
+pub struct KeyCommand<'a> {
+    pub image: &'a str,
+    pub id: u16,
+}
+
+/// The arguments that the words after the first are.
+pub fn read<'a>(alloc: Global, words: &'a [String]) -> Result<Option<KeyCommand<'a>>, AllocError>
+    ensures { IfOk result (λ o. option_map key_asked o ≡ option_and_then key_of (values_in 2 2 (drop 1 (texts words.entry.now)))) }
+{
+    match values_of(alloc, words, 2, 2)? {
+        Some(values) => Ok(command_in(values.as_slice())),
+        None => Ok(None),
+    }
+}
+
+fn command_in<'a>(values: &[&'a str]) -> Option<KeyCommand<'a>>
+    ensures { option_map key_asked result ≡ key_of (map (λ w. w.now) values.now) }
+{
+    if values.len() != 2 {
+        return None;
+    }
+    match id_of(values[1]) {
+        Some(id) => Some(KeyCommand {
+            image: values[0],
+            id,
+        }),
+        None => None,
+    }
+}
+
+impl Answering for KeyCommand<'_> {
+    ghost asked = { λ c. key_asked c };
+
+    ghost bounds = { λ _. Unit {0} };
+
+    fn answer<F: Files, O: Sink>(
+        &self,
+        alloc: Global,
+        files: &mut F,
+        out: &mut O,
+    ) -> Result<Status, Refused<'_>> {
+        let chosen = match load_with(alloc, self.image, self.id, files) {
+            Ok(chosen) => chosen,
+            Err(refused) => return Err(refused),
+        };
+        match put_keys(&chosen, out) {
+            Ok(()) => Ok(Status::Done),
+            Err(Failed) => Ok(Status::WriteFault),
+        }
+    }
+}
+
+// Puts the two lines.
+fn put_keys<O: Sink>(chosen: &Chosen, out: &mut O) -> Result<(), Failed>
+    requires { IsModule chosen.now.image.table.given chosen.now.«module» }
+    ensures { Puts O.taken O.faults O.sure out.old out.new (key_lines chosen.now.image chosen.now.«module») result }
+{
+    let image = &chosen.image;
+    let module = &chosen.module;
+    let provider = provider_key(&image.node_key, module.vendor);
+    let text = &image.memory[usize::from(module.text.start)..usize::from(module.text.end)];
+    let key = module_key(&image.node_key, module, text);
+    put_both(out, &provider, &key)
+}
+
+// Puts a line for a vendor's key and one for a module's.
+fn put_both<O: Sink>(
+    out: &mut O,
+    provider: &[u8; TAG_LENGTH],
+    key: &[u8; TAG_LENGTH],
+) -> Result<(), Failed>
+    ensures { Puts O.taken O.faults O.sure out.old out.new (two_lines provider.now key.now) result }
+{
+    match put_key(out, b"provider ", provider) {
+        Ok(()) => put_key(out, b"module ", key),
+        Err(Failed) => Err(Failed),
+    }
+}
+
+// Puts a line of a name and a key.
+fn put_key<O: Sink>(out: &mut O, name: &[u8], key: &[u8; TAG_LENGTH]) -> Result<(), Failed>
+    ensures { Puts O.taken O.faults O.sure out.old out.new (key_line name.now key.now) result }
+{
+    put_named(out, name, texts::hex_key(key).as_str().as_bytes(), b"\n")
+}
