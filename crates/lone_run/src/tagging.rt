@@ -33,7 +33,7 @@ pub fn tag_of(job: &Job<'_>, ram: &[u8], start: u16, count: u16) -> [u8; 16]
     requires text { length job.now.text.now ≡ size_of job.now.owner.now.text }
     requires fits { start + count ≤ 65536 }
     ensures { result ≡ tag_of job.now.node_key.now job.now.owner.now job.now.text.now
-            (map (lone_read (call_of job.now) ram.now) (each_byte Read start count)) }
+        (map (lone_read (call_of job.now) ram.now) (each_byte Read start count)) }
 {
     let key = module_key(job.node_key, job.owner, job.text);
     let mut hmac = Hmac::new(&key);

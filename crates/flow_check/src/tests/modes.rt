@@ -8,8 +8,8 @@ use std::alloc::Global;
 use std::process::Abort;
 use std::test::Fail;
 
-// Words that put a value into R5 at the entry of a stub, and what is known of it. There R7 is Away, R9 is Public, and so
-// are the words at 0x0a02 and at 0x0a00; the word at 0x0a04 is Secret.
+// Words that put a value into R5 at the entry of a stub, and what is known of it. There R7 and the word at 0x0a02 are
+// Away, R9 and the word at 0x0a00 are Public, and the word at 0x0a04 is Secret.
 fn rows() -> &'static [(&'static [u16], Val)] {
     &[
         // A register.
