@@ -16,7 +16,10 @@ use Rattle.schedule_file.specs.Reading.{schedule_of}
 use Rattle.sm_cli.specs.declared.answers.FileFault.{FileFault}
 use Rattle.sm_cli.specs.declared.answers.FileFault.TheVariants as fault
 use Rattle.sm_cli.specs.Files.{Kind, image_file, image_with, schedule_file, Held, an_image, a_schedule, IsTextOf, IsHeld, HasNoModule, IsRefused, most_bytes, HasFault, Need, Holds, HoldAll, IsFirstFault}
-use Rattle.sm_cli.specs.Command.{Command, Outcome, gives, Answer, Comes, IsAnswer}
+use Rattle.flow_rule.specs.Flow.{start_of}
+use Rattle.flow_rule.specs.Arms.{flow_with}
+use Rattle.sm_cli.specs.Command.{Command, Outcome, gives, judges, Answer, verdict_answer, Comes, Answers, IsAnswer}
+use Rattle.sm_cli.proofs.OneVerdict.{one_verdict}
 use Rattle.sm_cli.specs.Laws.{IsDecided}
 
 -- Bytes
@@ -88,6 +91,13 @@ examined (image_with id) bytes =
     ⊎_elim (λ v. module_examined id bytes v.0 v.1 (module_of id v.0.table) refl) (λ f. inr (fault.Image f.0, λ short. (short, f.1))) (image_examined bytes (refusal_of bytes) refl)
 examined schedule_file bytes = schedule_examined bytes (schedule_of bytes) refl
 
+-- Outcomes
+
+one_told : (outcome : Outcome) (a b : Answer) → Answers outcome a → Answers outcome b → a ≡ b
+one_told (gives own) a b r s = sym r ∙ s
+one_told (judges owner text arms) a b r s =
+    r.tells ∙ ap verdict_answer (one_verdict (flow_with owner text arms) (start_of owner text) owner.text.start r.verdict s.verdict r.is s.is) ∙ sym s.tells
+
 -- Files
 
 module _ (map : FileMap) where
@@ -120,7 +130,7 @@ module _ (map : FileMap) where
   one_outcome command a b r s = sym r.is ∙ ap command.outcome (one_list command.needs r.helds s.helds r.hold s.hold) ∙ s.is
 
   pub one_answer : (command : Command) (a b : Answer) → IsAnswer (Some map) command a → IsAnswer (Some map) command b → a ≡ b
-  one_answer command a b r s = let same : gives a ≡ gives b = one_outcome command (gives a) (gives b) r s in cc
+  one_answer command a b r s = one_told r.outcome a b r.is (subst (λ o. Answers o b) (one_outcome command s.outcome r.outcome s.comes r.comes) s.is)
 
   all_serve : (needs : List Need) (helds : List Held) → HoldAll (Some map) needs helds → (name : List ℕ) (f : FileFault) → IsFirstFault (Some map) needs name f → ⊥
   all_serve [] helds r name f h = h
@@ -131,6 +141,9 @@ module _ (map : FileMap) where
   -- where something comes of a command, no file has a fault
   pub no_first_fault : (command : Command) (outcome : Outcome) → Comes (Some map) command outcome → (name : List ℕ) (f : FileFault) → IsFirstFault (Some map) command.needs name f → ⊥
   no_first_fault command outcome r name f h = all_serve command.needs r.helds r.hold name f h
+
+  pub no_fault_of_answer : (command : Command) (answer : Answer) → IsAnswer (Some map) command answer → (name : List ℕ) (f : FileFault) → IsFirstFault (Some map) command.needs name f → ⊥
+  no_fault_of_answer command answer a name f h = no_first_fault command a.outcome a.comes name f h
 
   -- a file serves, or has a fault
   found : (wanted : Need) → ((held : Held) × Holds (Some map) wanted held) ⊎ ((f : FileFault) × HasFault wanted.kind (map wanted.name) f)

@@ -11,10 +11,12 @@ use crate::answers::{Refused, Status};
 use sm_io::{Files, Sink};
 use std::alloc::{AllocError, Global};
 
+pub mod check;
 pub mod dis;
 pub mod image;
 pub mod key;
 
+use check::CheckCommand;
 use dis::DisCommand;
 use image::ImageCommand;
 use key::KeyCommand;
@@ -50,6 +52,7 @@ pub enum CommandLine<'a> {
     Image(ImageCommand<'a>),
     Key(KeyCommand<'a>),
     Dis(DisCommand<'a>),
+    Check(CheckCommand<'a>),
 }
 
 /// The command that the words are.
@@ -71,6 +74,8 @@ pub fn read_command<'a>(
         Ok(key::read(alloc, words)?.map(CommandLine::Key))
     } else if name == "dis" {
         Ok(dis::read(alloc, words)?.map(CommandLine::Dis))
+    } else if name == "check" {
+        Ok(check::read(alloc, words)?.map(CommandLine::Check))
     } else {
         Ok(None)
     }
@@ -91,6 +96,7 @@ impl Answering for CommandLine<'_> {
             CommandLine::Image(command) => command.answer(alloc, files, out),
             CommandLine::Key(command) => command.answer(alloc, files, out),
             CommandLine::Dis(command) => command.answer(alloc, files, out),
+            CommandLine::Check(command) => command.answer(alloc, files, out),
         }
     }
 }
