@@ -11,11 +11,13 @@ use crate::answers::{Refused, Status};
 use sm_io::{Files, Sink};
 use std::alloc::{AllocError, Global};
 
+pub mod balance;
 pub mod check;
 pub mod dis;
 pub mod image;
 pub mod key;
 
+use balance::BalanceCommand;
 use check::CheckCommand;
 use dis::DisCommand;
 use image::ImageCommand;
@@ -53,6 +55,7 @@ pub enum CommandLine<'a> {
     Key(KeyCommand<'a>),
     Dis(DisCommand<'a>),
     Check(CheckCommand<'a>),
+    Balance(BalanceCommand<'a>),
 }
 
 /// The command that the words are.
@@ -76,6 +79,8 @@ pub fn read_command<'a>(
         Ok(dis::read(alloc, words)?.map(CommandLine::Dis))
     } else if name == "check" {
         Ok(check::read(alloc, words)?.map(CommandLine::Check))
+    } else if name == "balance" {
+        Ok(balance::read(alloc, words)?.map(CommandLine::Balance))
     } else {
         Ok(None)
     }
@@ -97,6 +102,7 @@ impl Answering for CommandLine<'_> {
             CommandLine::Key(command) => command.answer(alloc, files, out),
             CommandLine::Dis(command) => command.answer(alloc, files, out),
             CommandLine::Check(command) => command.answer(alloc, files, out),
+            CommandLine::Balance(command) => command.answer(alloc, files, out),
         }
     }
 }

@@ -13,7 +13,7 @@ ghost use Rattle.written_machine.specs.View.{at, view_of};
 ghost use Rattle.written_machine.specs.declared.Hidden.TheVariants.{Only};
 ghost use Rattle.sm_cli.specs.declared.answers.Status.{Status as Statuses};
 ghost use Rattle.sm_cli.specs.declared.answers.FileFault.{FileFault as FileFaults};
-ghost use Rattle.sm_cli.specs.Checked.{IsCheck};
+ghost use Rattle.sm_cli.specs.Checked.{IsCheck, IsBalance};
 ghost use Rattle.sm_cli.specs.Command.{Command, Answer, IsAnswer};
 ghost use Rattle.sm_cli.specs.CommandLine.{command_of};
 ghost use Rattle.sm_cli.specs.Files.{IsFirstFault};
@@ -51,6 +51,8 @@ pub fn serve<F: Files, O: Sink, E: Sink>(
     // A module by itself: where its check is answered yes, every image that differs in that module's data alone is a peer.
     ensures checked { result ≡ Status.Done → (value other : ImageValue) (id : ℕ) (owner : ModuleValue) →
         IsCheck (texts words.now) (F.content files.old) value id → DifferInData value other id owner → Peers value other id }
+    ensures balanced { result ≡ Status.Done → (value other : ImageValue) (id : ℕ) (owner : ModuleValue) →
+        IsBalance (texts words.now) (F.content files.old) value id → DifferInData value other id owner → Peers value other id }
 
     // An answer: the words are a command that its files serve; `out` took its output, and `err` nothing.
     ensures done { result ≡ Status.Done → Serves (call_of (texts words.now) (F.content files.old) (F.faults files.old) (F.faults files.new)) Status.Done
