@@ -13,10 +13,16 @@ use Rattle.image_text.proofs.EveryText.{every_text}
 use Rattle.schedule_file.specs.declared.Entry.{Entry}
 use Rattle.schedule_file.specs.declared.ScheduleFault.{ScheduleFault}
 use Rattle.schedule_file.specs.Reading.{schedule_of}
+use Rattle.arm_balance.specs.declared.Arm.{Arm}
+use Rattle.arm_balance.specs.declared.ArmsFault.{ArmsFault}
+use Rattle.arm_balance.specs.Certificates.{arms_of}
 use Rattle.sm_cli.specs.declared.answers.FileFault.{FileFault}
 use Rattle.sm_cli.specs.declared.answers.FileFault.TheVariants as fault
-use Rattle.sm_cli.specs.Files.{Kind, image_file, image_with, schedule_file, Held, an_image, a_schedule, IsTextOf, IsHeld, HasNoModule, IsRefused, most_bytes, HasFault, Need, Holds, HoldAll, IsFirstFault}
-use Rattle.sm_cli.specs.Command.{Command, Outcome, gives, Answer, Comes, IsAnswer}
+use Rattle.sm_cli.specs.Files.{Kind, image_file, image_with, schedule_file, arms_file, Held, an_image, a_schedule, certificates, IsTextOf, IsHeld, HasNoModule, IsRefused, most_bytes, HasFault, Need, Holds, HoldAll, IsFirstFault}
+use Rattle.flow_rule.specs.Flow.{start_of}
+use Rattle.flow_rule.specs.Arms.{flow_with}
+use Rattle.sm_cli.specs.Command.{Command, Outcome, gives, judges, Answer, verdict_answer, Comes, Answers, IsAnswer}
+use Rattle.sm_cli.proofs.OneVerdict.{one_verdict}
 use Rattle.sm_cli.specs.Laws.{IsDecided}
 
 -- Bytes
@@ -27,13 +33,24 @@ one_image bytes a b r s = images_of_one_text a b r.image s.image (sym r.text ∙
 one_held : (kind : Kind) (bytes : List ℕ) (a b : Held) → IsHeld kind bytes a → IsHeld kind bytes b → a ≡ b
 one_held image_file bytes (an_image a) (an_image b) r s = ap an_image (one_image bytes a b r s)
 one_held image_file bytes (an_image a) (a_schedule b) r s = absurd s
+one_held image_file bytes (an_image a) (certificates b) r s = absurd s
 one_held image_file bytes (a_schedule a) b r s = absurd r
+one_held image_file bytes (certificates a) b r s = absurd r
 one_held (image_with id) bytes (an_image a) (an_image b) r s = ap an_image (one_image bytes a b r.0 s.0)
 one_held (image_with id) bytes (an_image a) (a_schedule b) r s = absurd s
+one_held (image_with id) bytes (an_image a) (certificates b) r s = absurd s
 one_held (image_with id) bytes (a_schedule a) b r s = absurd r
+one_held (image_with id) bytes (certificates a) b r s = absurd r
 one_held schedule_file bytes (a_schedule a) (a_schedule b) r s = let same = sym r ∙ s in cc
 one_held schedule_file bytes (a_schedule a) (an_image b) r s = absurd s
+one_held schedule_file bytes (a_schedule a) (certificates b) r s = absurd s
 one_held schedule_file bytes (an_image a) b r s = absurd r
+one_held schedule_file bytes (certificates a) b r s = absurd r
+one_held arms_file bytes (certificates a) (certificates b) r s = let same = sym r ∙ s in cc
+one_held arms_file bytes (certificates a) (an_image b) r s = absurd s
+one_held arms_file bytes (certificates a) (a_schedule b) r s = absurd s
+one_held arms_file bytes (an_image a) b r s = absurd r
+one_held arms_file bytes (a_schedule a) b r s = absurd r
 
 image_accepted : (bytes : List ℕ) (value : Image) (refusal : ImageFault) → IsTextOf bytes value → refusal_of bytes ≡ Some refusal → ⊥
 image_accepted bytes value refusal r h = let none = ap refusal_of r.text ∙ text_has_no_refusal value r.image in cc
@@ -52,19 +69,33 @@ accepted image_file bytes (an_image value) fault.Absent r h = h
 accepted image_file bytes (an_image value) fault.TooLong r h = h
 accepted image_file bytes (an_image value) (fault.NoModule id) r h = h
 accepted image_file bytes (an_image value) (fault.Schedule refusal) r h = h
+accepted image_file bytes (an_image value) (fault.Arms refusal) r h = h
 accepted image_file bytes (a_schedule entries) f r h = r
+accepted image_file bytes (certificates arms) f r h = r
 accepted (image_with id) bytes (an_image value) (fault.Image refusal) r h = image_accepted bytes value refusal r.0 h
 accepted (image_with id) bytes (an_image value) (fault.NoModule other) r h = has_module bytes value id r.0 r.1 h.1
 accepted (image_with id) bytes (an_image value) fault.Absent r h = h
 accepted (image_with id) bytes (an_image value) fault.TooLong r h = h
 accepted (image_with id) bytes (an_image value) (fault.Schedule refusal) r h = h
+accepted (image_with id) bytes (an_image value) (fault.Arms refusal) r h = h
 accepted (image_with id) bytes (a_schedule entries) f r h = r
+accepted (image_with id) bytes (certificates arms) f r h = r
 accepted schedule_file bytes (a_schedule entries) (fault.Schedule refusal) r h = let clash = sym r ∙ h in cc
 accepted schedule_file bytes (a_schedule entries) fault.Absent r h = h
 accepted schedule_file bytes (a_schedule entries) fault.TooLong r h = h
 accepted schedule_file bytes (a_schedule entries) (fault.Image refusal) r h = h
 accepted schedule_file bytes (a_schedule entries) (fault.NoModule id) r h = h
+accepted schedule_file bytes (a_schedule entries) (fault.Arms refusal) r h = h
 accepted schedule_file bytes (an_image value) f r h = r
+accepted schedule_file bytes (certificates arms) f r h = r
+accepted arms_file bytes (certificates arms) (fault.Arms refusal) r h = let clash = sym r ∙ h in cc
+accepted arms_file bytes (certificates arms) fault.Absent r h = h
+accepted arms_file bytes (certificates arms) fault.TooLong r h = h
+accepted arms_file bytes (certificates arms) (fault.Image refusal) r h = h
+accepted arms_file bytes (certificates arms) (fault.NoModule id) r h = h
+accepted arms_file bytes (certificates arms) (fault.Schedule refusal) r h = h
+accepted arms_file bytes (an_image value) f r h = r
+accepted arms_file bytes (a_schedule entries) f r h = r
 
 -- bytes that are not too long hold something, or have a fault
 abbrev Examined : Kind → List ℕ → Type 0
@@ -82,11 +113,23 @@ schedule_examined : (bytes : List ℕ) (r : Result (List Entry) ScheduleFault) �
 schedule_examined bytes (Ok entries) e = inl (a_schedule entries, e)
 schedule_examined bytes (Err refusal) e = inr (fault.Schedule refusal, λ short. (short, e))
 
+arms_examined : (bytes : List ℕ) (r : Result (List Arm) ArmsFault) → arms_of bytes ≡ r → Examined arms_file bytes
+arms_examined bytes (Ok arms) e = inl (certificates arms, e)
+arms_examined bytes (Err refusal) e = inr (fault.Arms refusal, λ short. (short, e))
+
 examined : (kind : Kind) (bytes : List ℕ) → Examined kind bytes
 examined image_file bytes = ⊎_elim (λ v. inl (an_image v.0, v.1)) (λ f. inr (fault.Image f.0, λ short. (short, f.1))) (image_examined bytes (refusal_of bytes) refl)
 examined (image_with id) bytes =
     ⊎_elim (λ v. module_examined id bytes v.0 v.1 (module_of id v.0.table) refl) (λ f. inr (fault.Image f.0, λ short. (short, f.1))) (image_examined bytes (refusal_of bytes) refl)
 examined schedule_file bytes = schedule_examined bytes (schedule_of bytes) refl
+examined arms_file bytes = arms_examined bytes (arms_of bytes) refl
+
+-- Outcomes
+
+one_told : (outcome : Outcome) (a b : Answer) → Answers outcome a → Answers outcome b → a ≡ b
+one_told (gives own) a b r s = sym r ∙ s
+one_told (judges owner text arms) a b r s =
+    r.tells ∙ ap verdict_answer (one_verdict (flow_with owner text arms) (start_of owner text) owner.text.start r.verdict s.verdict r.is s.is) ∙ sym s.tells
 
 -- Files
 
@@ -100,6 +143,7 @@ module _ (map : FileMap) where
   serves wanted held (fault.Image refusal) r h = accepted wanted.kind r.bytes held (fault.Image refusal) r.is (subst (λ o. HasFault wanted.kind o (fault.Image refusal)) r.file h).1
   serves wanted held (fault.NoModule id) r h = accepted wanted.kind r.bytes held (fault.NoModule id) r.is (subst (λ o. HasFault wanted.kind o (fault.NoModule id)) r.file h).1
   serves wanted held (fault.Schedule refusal) r h = accepted wanted.kind r.bytes held (fault.Schedule refusal) r.is (subst (λ o. HasFault wanted.kind o (fault.Schedule refusal)) r.file h).1
+  serves wanted held (fault.Arms refusal) r h = accepted wanted.kind r.bytes held (fault.Arms refusal) r.is (subst (λ o. HasFault wanted.kind o (fault.Arms refusal)) r.file h).1
 
   one_thing : (wanted : Need) (a b : Held) → Holds (Some map) wanted a → Holds (Some map) wanted b → a ≡ b
   one_thing wanted a b r s =
@@ -120,7 +164,7 @@ module _ (map : FileMap) where
   one_outcome command a b r s = sym r.is ∙ ap command.outcome (one_list command.needs r.helds s.helds r.hold s.hold) ∙ s.is
 
   pub one_answer : (command : Command) (a b : Answer) → IsAnswer (Some map) command a → IsAnswer (Some map) command b → a ≡ b
-  one_answer command a b r s = let same : gives a ≡ gives b = one_outcome command (gives a) (gives b) r s in cc
+  one_answer command a b r s = one_told r.outcome a b r.is (subst (λ o. Answers o b) (one_outcome command s.outcome r.outcome s.comes r.comes) s.is)
 
   all_serve : (needs : List Need) (helds : List Held) → HoldAll (Some map) needs helds → (name : List ℕ) (f : FileFault) → IsFirstFault (Some map) needs name f → ⊥
   all_serve [] helds r name f h = h
@@ -131,6 +175,9 @@ module _ (map : FileMap) where
   -- where something comes of a command, no file has a fault
   pub no_first_fault : (command : Command) (outcome : Outcome) → Comes (Some map) command outcome → (name : List ℕ) (f : FileFault) → IsFirstFault (Some map) command.needs name f → ⊥
   no_first_fault command outcome r name f h = all_serve command.needs r.helds r.hold name f h
+
+  pub no_fault_of_answer : (command : Command) (answer : Answer) → IsAnswer (Some map) command answer → (name : List ℕ) (f : FileFault) → IsFirstFault (Some map) command.needs name f → ⊥
+  no_fault_of_answer command answer a name f h = no_first_fault command a.outcome a.comes name f h
 
   -- a file serves, or has a fault
   found : (wanted : Need) → ((held : Held) × Holds (Some map) wanted held) ⊎ ((f : FileFault) × HasFault wanted.kind (map wanted.name) f)

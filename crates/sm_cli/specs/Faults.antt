@@ -7,6 +7,8 @@ use Rattle.image_text.specs.declared.ImageFault.{ImageFault}
 use Rattle.image_text.specs.declared.ImageFault.TheVariants as image_fault
 use Rattle.schedule_file.specs.declared.ScheduleFault.{ScheduleFault}
 use Rattle.schedule_file.specs.declared.ScheduleFault.TheVariants as schedule_fault
+use Rattle.arm_balance.specs.declared.ArmsFault.{ArmsFault}
+use Rattle.arm_balance.specs.declared.ArmsFault.TheVariants as arms_fault
 use Rattle.sm_cli.specs.declared.answers.FileFault.{FileFault}
 use Rattle.sm_cli.specs.declared.answers.FileFault.TheVariants as fault
 
@@ -32,9 +34,16 @@ schedule_fault_text (schedule_fault.NotRising n) = codes "NotRising " ++ decimal
 schedule_fault_text schedule_fault.TooMany = codes "TooMany"
 schedule_fault_text schedule_fault.NoMemory = codes "NoMemory"
 
+abbrev pub arms_fault_text : ArmsFault → List ℕ
+arms_fault_text arms_fault.TooMany = codes "TooMany"
+arms_fault_text (arms_fault.Line n) = codes "Line " ++ decimal n
+arms_fault_text (arms_fault.NotRising n) = codes "NotRising " ++ decimal n
+arms_fault_text arms_fault.NoMemory = codes "NoMemory"
+
 abbrev pub fault_text : FileFault → List ℕ
 fault_text fault.Absent = codes "Absent"
 fault_text fault.TooLong = codes "TooLong"
 fault_text (fault.Image refusal) = image_fault_text refusal
 fault_text (fault.NoModule id) = codes "NoModule " ++ decimal id
 fault_text (fault.Schedule refusal) = schedule_fault_text refusal
+fault_text (fault.Arms refusal) = arms_fault_text refusal

@@ -11,10 +11,14 @@ use crate::answers::{Refused, Status};
 use sm_io::{Files, Sink};
 use std::alloc::{AllocError, Global};
 
+pub mod balance;
+pub mod check;
 pub mod dis;
 pub mod image;
 pub mod key;
 
+use balance::BalanceCommand;
+use check::CheckCommand;
 use dis::DisCommand;
 use image::ImageCommand;
 use key::KeyCommand;
@@ -51,6 +55,8 @@ pub enum CommandLine<'a> {
     Image(ImageCommand<'a>),
     Key(KeyCommand<'a>),
     Dis(DisCommand<'a>),
+    Check(CheckCommand<'a>),
+    Balance(BalanceCommand<'a>),
 }
 
 /// The command that the words are.
@@ -72,6 +78,10 @@ pub fn read_command<'a>(
         Ok(key::read(alloc, words)?.map(CommandLine::Key))
     } else if name == "dis" {
         Ok(dis::read(alloc, words)?.map(CommandLine::Dis))
+    } else if name == "check" {
+        Ok(check::read(alloc, words)?.map(CommandLine::Check))
+    } else if name == "balance" {
+        Ok(balance::read(alloc, words)?.map(CommandLine::Balance))
     } else {
         Ok(None)
     }
@@ -92,6 +102,8 @@ impl Answering for CommandLine<'_> {
             CommandLine::Image(command) => command.answer(alloc, files, out),
             CommandLine::Key(command) => command.answer(alloc, files, out),
             CommandLine::Dis(command) => command.answer(alloc, files, out),
+            CommandLine::Check(command) => command.answer(alloc, files, out),
+            CommandLine::Balance(command) => command.answer(alloc, files, out),
         }
     }
 }

@@ -2,11 +2,12 @@
 ghost use Rattle.std.specs.Prelude.{◌++◌, codes};
 ghost use Rattle.std.specs.Fmt.{decimal};
 ghost use Rattle.sm_io.specs.Sink.{Puts};
-ghost use Rattle.sm_cli.specs.Faults.{fault_text, image_fault_text, schedule_fault_text, table_fault_text};
+ghost use Rattle.sm_cli.specs.Faults.{arms_fault_text, fault_text, image_fault_text, schedule_fault_text, table_fault_text};
 ghost use Rattle.sm_cli.specs.Refusal.{line_of};
 
 use crate::answers::Refused;
 use crate::{FileFault, Refusal};
+use arm_balance::ArmsFault;
 use image_text::ImageFault;
 use mod_layout::TableFault;
 use schedule_file::ScheduleFault;
@@ -74,6 +75,17 @@ fn put_schedule_fault<S: Sink>(sink: &mut S, fault: ScheduleFault) -> Result<(),
     }
 }
 
+fn put_arms_fault<S: Sink>(sink: &mut S, fault: ArmsFault) -> Result<(), Failed>
+    ensures { Puts S.taken S.faults S.sure sink.old sink.new (arms_fault_text fault) result }
+{
+    match fault {
+        ArmsFault::TooMany => put_all(sink, b"TooMany"),
+        ArmsFault::Line { n } => put_field(sink, b"Line ", n),
+        ArmsFault::NotRising { n } => put_field(sink, b"NotRising ", n),
+        ArmsFault::NoMemory => put_all(sink, b"NoMemory"),
+    }
+}
+
 fn put_fault<S: Sink>(sink: &mut S, fault: FileFault) -> Result<(), Failed>
     ensures { Puts S.taken S.faults S.sure sink.old sink.new (fault_text fault) result }
 {
@@ -83,6 +95,7 @@ fn put_fault<S: Sink>(sink: &mut S, fault: FileFault) -> Result<(), Failed>
         FileFault::Image(fault) => put_image_fault(sink, fault),
         FileFault::NoModule { id } => put_field(sink, b"NoModule ", u64::from(id)),
         FileFault::Schedule(fault) => put_schedule_fault(sink, fault),
+        FileFault::Arms(fault) => put_arms_fault(sink, fault),
     }
 }
 
