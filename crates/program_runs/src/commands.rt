@@ -85,7 +85,7 @@ pub fn answers() -> [Line; 14] {
 }
 
 /// Verdicts of the modules of images.
-pub fn verdicts() -> [Line; 5] {
+pub fn verdicts() -> [Line; 11] {
     [
         no("check back.img 1", "no 0300 UnknownTarget 0000\n"),
         no("check balanced.img 1", "no 0304 SecretBranch 0000\n"),
@@ -95,6 +95,27 @@ pub fn verdicts() -> [Line; 5] {
             "sancus: bad file blind.img: NoModule 2\n",
         ),
         usage("check blind.img"),
+        answer("balance balanced.img 1 at_6.txt", "yes\n"),
+        no(
+            "balance balanced.img 1 at_7.txt",
+            "no 0304 ArmTime 0000\n",
+        ),
+        no(
+            "balance unbalanced.img 1 at_6.txt",
+            "no 0304 ArmTime 0000\n",
+        ),
+        no(
+            "balance balanced.img 1 none.txt",
+            "no 0304 SecretBranch 0000\n",
+        ),
+        fault(
+            "balance balanced.img 1 short.txt",
+            "sancus: bad file short.txt: Line 1\n",
+        ),
+        no(
+            "balance balanced.img 1 later.txt",
+            "no 031e SecretAtExit 0005\n",
+        ),
     ]
 }
 

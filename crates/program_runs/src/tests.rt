@@ -1,7 +1,7 @@
 //! Each run as one call of `serve`, over files and sinks in memory.
 
 use crate::commands::{Line, answers, no_commands, verdicts};
-use crate::images::{BACK, BALANCED, BLIND, CALLED, CONSTANT, Picture};
+use crate::images::{BACK, BALANCED, BLIND, CALLED, CONSTANT, Picture, UNBALANCED};
 use crate::interrupted::{handlers, nested, pulses};
 use crate::outside::{Run, calls, outside_interrupts, plain_runs, refusals};
 use board::{Board, Ran};
@@ -318,6 +318,7 @@ fn assert_lines(rt: &impl Abort, alloc: Global, lines: &[Line]) -> Result<(), Fa
     let constant = CONSTANT.text(alloc)?;
     let back = BACK.text(alloc)?;
     let balanced = BALANCED.text(alloc)?;
+    let unbalanced = UNBALANCED.text(alloc)?;
     let blind = BLIND.text(alloc)?;
     for line in lines {
         let mut files = MemFiles::new(alloc);
@@ -325,7 +326,13 @@ fn assert_lines(rt: &impl Abort, alloc: Global, lines: &[Line]) -> Result<(), Fa
         files.put_file("constant.img", constant.as_bytes())?;
         files.put_file("back.img", back.as_bytes())?;
         files.put_file("balanced.img", balanced.as_bytes())?;
+        files.put_file("unbalanced.img", unbalanced.as_bytes())?;
         files.put_file("blind.img", blind.as_bytes())?;
+        files.put_file("at_6.txt", b"0304 0318 6\n")?;
+        files.put_file("at_7.txt", b"0304 0318 7\n")?;
+        files.put_file("later.txt", b"0304 031a 7\n")?;
+        files.put_file("none.txt", b"")?;
+        files.put_file("short.txt", b"304 0318 6\n")?;
         let mut words = Vec::new(alloc);
         for word in line.words.split(' ') {
             words.push(String::from_str(alloc, word)?)?;

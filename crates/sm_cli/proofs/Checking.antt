@@ -14,7 +14,6 @@ use Rattle.peer_rows.specs.Laws.{DifferInData, AcceptedArePeers}
 use Rattle.sm_cli.specs.declared.answers.Status.TheVariants.{Done}
 use Rattle.sm_cli.specs.Files.{Held, an_image, a_schedule, certificates, image_with, arms_file, need, Holds, HoldAll, most_bytes}
 use Rattle.sm_cli.specs.Command.{Command, Answer, judges, Comes, Answers, IsJudged, IsAnswer}
-use Rattle.sm_cli.specs.CommandLine.{command_of}
 use Rattle.sm_cli.specs.Verdicts.{verdict_status}
 use Rattle.sm_cli.specs.CheckCommand.{checked_by, check_command}
 use Rattle.sm_cli.specs.BalanceCommand.{balanced_by, balance_command}

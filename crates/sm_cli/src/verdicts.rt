@@ -25,7 +25,9 @@ pub fn text_of(chosen: &Chosen) -> &[u8]
 
 /// Puts a verdict.
 pub fn put_verdict<O: Sink>(out: &mut O, verdict: Verdict) -> Status
-    ensures { EndsAs result (verdict_answer verdict) (Took O.taken O.faults O.sure out.old out.new) (CutOff O.taken O.faults O.sure out.old out.new) }
+    ensures { EndsAs result (verdict_answer verdict)
+        (Took O.taken O.faults O.sure out.old out.new)
+        (CutOff O.taken O.faults O.sure out.old out.new) }
 {
     match put_verdict_line(out, verdict) {
         Ok(()) => status_of(verdict),
@@ -73,7 +75,12 @@ fn put_no<O: Sink>(out: &mut O, addr: u16, reason: Reason, value: u16) -> Result
 fn put_word<O: Sink>(out: &mut O, before: &[u8], word: u16, after: &[u8]) -> Result<(), Failed>
     ensures { Puts O.taken O.faults O.sure out.old out.new (before.now ++ (hex_word word ++ after.now)) result }
 {
-    put_named(out, before, texts::hex_word(word).as_str().as_bytes(), after)
+    put_named(
+        out,
+        before,
+        texts::hex_word(word).as_str().as_bytes(),
+        after,
+    )
 }
 
 fn put_reason<O: Sink>(out: &mut O, reason: Reason) -> Result<(), Failed>

@@ -31,7 +31,8 @@ pub fn read<'a>(
     alloc: Global,
     words: &'a [String],
 ) -> Result<Option<BalanceCommand<'a>>, AllocError>
-    ensures { IfOk result (λ o. option_map balance_asked o ≡ option_and_then balance_of (values_in 3 3 (drop 1 (texts words.entry.now)))) }
+    ensures { IfOk result (λ o. option_map balance_asked o ≡
+        option_and_then balance_of (values_in 3 3 (drop 1 (texts words.entry.now)))) }
 {
     match values_of(alloc, words, 3, 3)? {
         Some(values) => Ok(command_in(values.as_slice())),
@@ -87,7 +88,8 @@ impl Answering for BalanceCommand<'_> {
 // The verdict of a module's text, with these certificates.
 fn verdict_with(alloc: Global, chosen: &Chosen, arms: &Arms) -> Result<Verdict, AllocError>
     requires { IsModule chosen.now.image.table.given chosen.now.«module» }
-    ensures { IfOk result (λ v. VerdictWith chosen.now.«module» (section chosen.now.«module».text chosen.now.image.memory) arms.now.list.items v) }
+    ensures { IfOk result (λ v. VerdictWith chosen.now.«module»
+        (section chosen.now.«module».text chosen.now.image.memory) arms.now.list.items v) }
 {
     flow_check::check_with(alloc, &chosen.module, text_of(chosen), arms)
 }

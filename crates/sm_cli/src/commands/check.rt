@@ -27,7 +27,8 @@ pub struct CheckCommand<'a> {
 
 /// The arguments that the words after the first are.
 pub fn read<'a>(alloc: Global, words: &'a [String]) -> Result<Option<CheckCommand<'a>>, AllocError>
-    ensures { IfOk result (λ o. option_map check_asked o ≡ option_and_then check_of (values_in 2 2 (drop 1 (texts words.entry.now)))) }
+    ensures { IfOk result (λ o. option_map check_asked o ≡
+        option_and_then check_of (values_in 2 2 (drop 1 (texts words.entry.now)))) }
 {
     match values_of(alloc, words, 2, 2)? {
         Some(values) => Ok(command_in(values.as_slice())),
@@ -78,7 +79,8 @@ impl Answering for CheckCommand<'_> {
 // The verdict of a module's text.
 fn verdict_of(alloc: Global, chosen: &Chosen) -> Result<Verdict, AllocError>
     requires { IsModule chosen.now.image.table.given chosen.now.«module» }
-    ensures { IfOk result (λ v. VerdictWith chosen.now.«module» (section chosen.now.«module».text chosen.now.image.memory) [] v) }
+    ensures { IfOk result (λ v. VerdictWith chosen.now.«module»
+        (section chosen.now.«module».text chosen.now.image.memory) [] v) }
 {
     // It does nothing: by its clause no certificates change nothing.
     flow_rule::without_arms();
