@@ -4,8 +4,12 @@ use Rattle.sm_io.specs.Files.{FileMap}
 use Rattle.image_text.specs.Image.{Image}
 use Rattle.schedule_file.specs.declared.Entry.{Entry}
 use Rattle.sm_cli.specs.Files.{image_file, need, an_image, a_schedule, Holds, IsScheduleOf}
-use Rattle.sm_cli.specs.Command.{gives, IsAnswer}
+use Rattle.sm_cli.specs.Command.{Command, Answer, gives, Comes, IsAnswer}
 use Rattle.sm_cli.specs.ImageCommand.{image_command, trace_answer}
+
+-- what a command gives is its answer
+pub gives_answer : (files : Option FileMap) (command : Command) (answer : Answer) → Comes files command (gives answer) → IsAnswer files command answer
+gives_answer files command answer comes = comes
 
 -- the trace of an image on a schedule
 pub image_answer : (files : Option FileMap) (name : List ℕ) (schedule : Option (List ℕ)) (cycles : ℕ) (value : Image) (entries : List Entry)

@@ -9,6 +9,8 @@ use Rattle.sm_cli.specs.Command.{Command}
 use Rattle.sm_cli.specs.ImageCommand.{image_of, image_asked}
 use Rattle.sm_cli.specs.KeyCommand.{key_of, key_asked}
 use Rattle.sm_cli.specs.DisCommand.{dis_of, dis_asked}
+use Rattle.sm_cli.specs.ChallengeCommand.{challenge_of, challenge_asked}
+use Rattle.sm_cli.specs.VendorCommand.{vendor_of, vendor_asked}
 
 -- by the first word, with the fewest and the most values that may follow
 abbrev pub command_by : Text → List Text → Option Command
@@ -16,6 +18,8 @@ command_by name words =
     if bytes_eq name (codes "image") then option_and_then image_of (values_in 3 3 words)
     else if bytes_eq name (codes "key") then option_and_then key_of (values_in 2 2 words)
     else if bytes_eq name (codes "dis") then option_and_then dis_of (values_in 3 3 words)
+    else if bytes_eq name (codes "challenge") then option_and_then challenge_of (values_in 1 1 words)
+    else if bytes_eq name (codes "vendor") then option_and_then vendor_of (values_in 5 5 words)
     else None
 
 -- what the words ask for, or none
@@ -28,9 +32,13 @@ abbrev pub asked : CommandLine → Command
 asked (line.Image c) = image_asked c
 asked (line.Key c) = key_asked c
 asked (line.Dis c) = dis_asked c
+asked (line.Challenge c) = challenge_asked c
+asked (line.Vendor c) = vendor_asked c
 
 -- its numbers are within their bounds
 abbrev pub IsBounded : CommandLine → Type 0
 IsBounded (line.Image c) = c.cycles ≤ MAX_CYCLES
 IsBounded (line.Key c) = Unit {0}
 IsBounded (line.Dis c) = c.start % 2 ≡ 0
+IsBounded (line.Challenge c) = Unit {0}
+IsBounded (line.Vendor c) = Unit {0}

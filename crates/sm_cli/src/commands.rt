@@ -11,13 +11,17 @@ use crate::answers::{Refused, Status};
 use sm_io::{Files, Sink};
 use std::alloc::{AllocError, Global};
 
+pub mod challenge;
 pub mod dis;
 pub mod image;
 pub mod key;
+pub mod vendor;
 
+use challenge::ChallengeCommand;
 use dis::DisCommand;
 use image::ImageCommand;
 use key::KeyCommand;
+use vendor::VendorCommand;
 
 /// A command that can be answered.
 pub trait Answering {
@@ -51,6 +55,8 @@ pub enum CommandLine<'a> {
     Image(ImageCommand<'a>),
     Key(KeyCommand<'a>),
     Dis(DisCommand<'a>),
+    Challenge(ChallengeCommand<'a>),
+    Vendor(VendorCommand<'a>),
 }
 
 /// The command that the words are.
@@ -72,6 +78,10 @@ pub fn read_command<'a>(
         Ok(key::read(alloc, words)?.map(CommandLine::Key))
     } else if name == "dis" {
         Ok(dis::read(alloc, words)?.map(CommandLine::Dis))
+    } else if name == "challenge" {
+        Ok(challenge::read(alloc, words)?.map(CommandLine::Challenge))
+    } else if name == "vendor" {
+        Ok(vendor::read(alloc, words)?.map(CommandLine::Vendor))
     } else {
         Ok(None)
     }
@@ -92,6 +102,8 @@ impl Answering for CommandLine<'_> {
             CommandLine::Image(command) => command.answer(alloc, files, out),
             CommandLine::Key(command) => command.answer(alloc, files, out),
             CommandLine::Dis(command) => command.answer(alloc, files, out),
+            CommandLine::Challenge(command) => command.answer(alloc, files, out),
+            CommandLine::Vendor(command) => command.answer(alloc, files, out),
         }
     }
 }
