@@ -70,7 +70,7 @@ fn insn_there(section: Section, text: &[u8], pc: u16, n: u16) -> Option<Insn>
 /// The instruction of `n` words at an address, where it lies wholly in the text.
 fn whole(section: Section, text: &[u8], pc: u16, n: u16) -> Option<Insn>
     ensures exact { result ≡ whole (word_in section pc n 1 && word_in section pc n 2)
-            (insn_at (text_byte section text.now) pc n) }
+        (insn_at (text_byte section text.now) pc n) }
     ensures decoded { IfSome result (λ insn. IsDecoded insn) }
 {
     if has_word(section, pc, n, 1) && has_word(section, pc, n, 2) {

@@ -7,6 +7,10 @@ use std::alloc::Global;
 use std::process::Abort;
 use std::test::Fail;
 
+mod modes;
+mod reasons;
+mod stubs;
+
 /// The most bytes of a text in these tests.
 const MOST: usize = 256;
 
@@ -160,23 +164,6 @@ fn plain_rows() -> &'static [(&'static [u16], Verdict)] {
         ),
         // The module's id is public; it leaves by the word that gives it up.
         (&[0x1385, 0x1380], Verdict::Yes),
-        // Of two addresses the lower, of two reasons the lesser.
-        (
-            &[0x2401, 0x1300, 0x1381],
-            Verdict::No {
-                addr: 0x0302,
-                reason: Reason::Illegal,
-                value: 0x1300,
-            },
-        ),
-        (
-            &[0x4215, 0x0400, 0x4595, 0x0000, 0x0600],
-            Verdict::No {
-                addr: 0x0304,
-                reason: Reason::SecretAddress,
-                value: 0,
-            },
-        ),
     ]
 }
 
@@ -246,43 +233,6 @@ fn balanced_rows() -> &'static [(&'static [u16], &'static [u8], Verdict)] {
 fn balanced_texts(rt: HostRuntime) -> Result<(), Fail> {
     for (words, arms, expected) in balanced_rows() {
         assert_eq!(rt; verdict(rt.alloc(), &rt, words, arms)?, *expected);
-    }
-    Ok(())
-}
-
-// A stub of one entry, whose private stack ends at 0x0a24, and the entry: `mov` to R12 and a return.
-const STUB: [u16; 41] = [
-    0x9037, 0x0800, 0x2804, 0x9037, 0x0852, 0x2c01, 0x3fff, 0x9036, 0x0001, 0x2c1a, 0x4182, 0x0a00,
-    0x4782, 0x0a02, 0x4031, 0x0a24, 0x5606, 0x1296, 0x084c, 0x4211, 0x0a00, 0x4304, 0x4305, 0x4306,
-    0x4307, 0x4308, 0x4309, 0x430a, 0x430b, 0x430d, 0x430e, 0x430f, 0xc032, 0x0107, 0x4210, 0x0a02,
-    0x430c, 0x4700, 0x084e, 0x431c, 0x4130,
-];
-
-// The words of the entry, and the verdict.
-fn stub_rows() -> &'static [(u16, u16, Verdict)] {
-    &[
-        (0x431c, 0x4130, Verdict::Yes),
-        // It goes back into the stub.
-        (
-            0x4030,
-            0x0820,
-            Verdict::No {
-                addr: 0x084e,
-                reason: Reason::UnknownTarget,
-                value: 0,
-            },
-        ),
-    ]
-}
-
-#[test]
-fn stubs(rt: HostRuntime) -> Result<(), Fail> {
-    for (first, second, expected) in stub_rows() {
-        let mut words = STUB;
-        words[39] = *first;
-        words[40] = *second;
-        let found = verdict_at(rt.alloc(), &rt, 0x0800, 0x0a00, 0x24, &words, b"")?;
-        assert_eq!(rt; found, *expected);
     }
     Ok(())
 }

@@ -37,8 +37,12 @@ pub fn call(
     requires ram { IsSection «module».now.ram }
     requires text_size { length text.now ≡ size_of «module».now.text }
     requires limit { limit ≤ 2 ^ 62 }
-    ensures outcome { result ≡ answer_of (outcome (job_of node_key.now «module».now text.now entry.now.caller) limit (between entry.now.core ram.old)) }
-    ensures ram { ram.new ≡ data_left (outcome (job_of node_key.now «module».now text.now entry.now.caller) limit (between entry.now.core ram.old)) (lone_after (job_of node_key.now «module».now text.now entry.now.caller) (between entry.now.core ram.old) limit).data_bytes }
+    ensures outcome { result ≡ answer_of (outcome (job_of node_key.now «module».now text.now entry.now.caller) limit
+        (between entry.now.core ram.old)) }
+    ensures ram { ram.new ≡ data_left (outcome (job_of node_key.now «module».now text.now entry.now.caller) limit
+        (between entry.now.core ram.old)) (lone_after
+        (job_of node_key.now «module».now text.now entry.now.caller)
+        (between entry.now.core ram.old) limit).data_bytes }
 {
     let job = Job {
         node_key,
@@ -55,7 +59,8 @@ fn run(job: &Job<'_>, ram: &mut [u8], entry: Core, limit: u64) -> Outcome
     requires text { length job.now.text.now ≡ size_of job.now.owner.now.text }
     requires limit { limit ≤ 2 ^ 62 }
     ensures outcome { result ≡ answer_of (outcome (call_of job.now) limit (between entry ram.old)) }
-    ensures ram { ram.new ≡ data_left (outcome (call_of job.now) limit (between entry ram.old)) (lone_after (call_of job.now) (between entry ram.old) limit).data_bytes }
+    ensures ram { ram.new ≡ data_left (outcome (call_of job.now) limit (between entry ram.old))
+        (lone_after (call_of job.now) (between entry ram.old) limit).data_bytes }
 {
     let mut core = entry;
     let mut cycles: u64 = 0;

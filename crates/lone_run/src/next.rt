@@ -7,7 +7,8 @@ ghost use Rattle.pc_access.specs.declared.Kind.TheVariants.{Read, Write};
 ghost use Rattle.attest.specs.Units.{each_byte, in_range, unit_named, unit_plan, UnitName, Tag};
 ghost use Rattle.cpu_step.specs.Fetched.{later_word, insn_at};
 ghost use Rattle.cpu_step.specs.Asked.{asks};
-ghost use Rattle.cpu_step.specs.Lone.{lone_byte, lone_who, unit_alone, is_alone, all_inside, text_word, may_do, if_home, next_first, next_insn, Lone};
+ghost use Rattle.cpu_step.specs.Lone.{lone_byte, lone_who, unit_alone, is_alone, all_inside, text_word, may_do};
+ghost use Rattle.cpu_step.specs.Lone.{if_home, next_first, next_insn, Lone};
 ghost use Rattle.lone_run.specs.Jobs.{call_of};
 
 use crate::job::{Job, holds, is_inside, word};
@@ -106,7 +107,8 @@ fn in_range(start: u32, end: u32) -> bool
 
 /// Whether a tag is made: of the message from R12, below R13, for the 16 bytes from R14 on.
 pub fn has_ranges(core: &Core) -> bool
-    ensures value { result ≡ (in_range (reg core.now 12) (reg core.now 13) && in_range (reg core.now 14) (reg core.now 14 + 16)) }
+    ensures value { result ≡ (in_range (reg core.now 12) (reg core.now 13) && in_range (reg core.now 14)
+        (reg core.now 14 + 16)) }
     ensures order { result ≡ true → (reg core.now 12 ≤ reg core.now 13) × (reg core.now 14 + 16 ≤ 65536) }
 {
     in_range(u32::from(core.get(12)), u32::from(core.get(13)))
@@ -151,10 +153,13 @@ fn stays(job: &Job<'_>, insn: &Insn, core: &Core) -> bool
 /// An instruction that the module may do, and else none.
 fn may_do(job: &Job<'_>, core: &Core, insn: Option<Insn>) -> Option<Insn>
     requires { IfSome insn (λ insn. IsDecoded insn) }
-    ensures exact { (ram : List ℕ) (rest : ℕ) (closing : Bool) → result ≡ may_do (call_of job.now) (record { core = core.now; data_bytes = ram; rest = rest; closing = closing }) insn }
+    ensures exact { (ram : List ℕ) (rest : ℕ) (closing : Bool) →
+        result ≡ may_do (call_of job.now)
+        (record { core = core.now; data_bytes = ram; rest = rest; closing = closing }) insn }
     ensures decoded { IfSome result (λ insn. IsDecoded insn) }
     ensures alone { IfSome result (λ insn. is_alone insn ≡ true) }
-    ensures inside { IfSome result (λ insn. all_inside (call_of job.now) (asks (lone_who (call_of job.now)) insn core.now) ≡ true) }
+    ensures inside { IfSome result (λ insn. all_inside (call_of job.now)
+        (asks (lone_who (call_of job.now)) insn core.now) ≡ true) }
 {
     match insn {
         Some(insn) => {
@@ -170,10 +175,15 @@ fn may_do(job: &Job<'_>, core: &Core, insn: Option<Insn>) -> Option<Insn>
 
 /// The instruction of `n` words in PC's place, where all of it is in the text and the module may do it.
 fn home_insn(job: &Job<'_>, ram: &[u8], core: &Core, n: u16) -> Option<Insn>
-    ensures exact { (rest : ℕ) (closing : Bool) → result ≡ if_home (text_word (call_of job.now) (reg core.now 0) n 1 && text_word (call_of job.now) (reg core.now 0) n 2) (may_do (call_of job.now) (record { core = core.now; data_bytes = ram.now; rest = rest; closing = closing }) (insn_at (lone_byte (call_of job.now) ram.now) (reg core.now 0) n)) }
+    ensures exact { (rest : ℕ) (closing : Bool) → result
+        ≡ if_home (text_word (call_of job.now) (reg core.now 0) n 1 && text_word (call_of job.now)
+        (reg core.now 0) n 2) (may_do (call_of job.now)
+        (record { core = core.now; data_bytes = ram.now; rest = rest; closing = closing })
+        (insn_at (lone_byte (call_of job.now) ram.now) (reg core.now 0) n)) }
     ensures decoded { IfSome result (λ insn. IsDecoded insn) }
     ensures alone { IfSome result (λ insn. is_alone insn ≡ true) }
-    ensures inside { IfSome result (λ insn. all_inside (call_of job.now) (asks (lone_who (call_of job.now)) insn core.now) ≡ true) }
+    ensures inside { IfSome result (λ insn. all_inside (call_of job.now)
+        (asks (lone_who (call_of job.now)) insn core.now) ≡ true) }
 {
     let pc = core.get(0);
     let home = both(has_word(job, pc, n, 1), has_word(job, pc, n, 2));
@@ -187,10 +197,12 @@ fn home_insn(job: &Job<'_>, ram: &[u8], core: &Core, n: u16) -> Option<Insn>
 /// The instruction that the module does next, where all of it is in the text and it may do it.
 #[tactic(auto, unfolding(cpu_step::specs::Lone::next_insn))]
 pub fn next_insn(job: &Job<'_>, ram: &[u8], core: &Core) -> Option<Insn>
-    ensures exact { (rest : ℕ) (closing : Bool) → result ≡ next_insn (call_of job.now) (record { core = core.now; data_bytes = ram.now; rest = rest; closing = closing }) }
+    ensures exact { (rest : ℕ) (closing : Bool) → result ≡ next_insn (call_of job.now)
+        (record { core = core.now; data_bytes = ram.now; rest = rest; closing = closing }) }
     ensures decoded { IfSome result (λ insn. IsDecoded insn) }
     ensures alone { IfSome result (λ insn. is_alone insn ≡ true) }
-    ensures inside { IfSome result (λ insn. all_inside (call_of job.now) (asks (lone_who (call_of job.now)) insn core.now) ≡ true) }
+    ensures inside { IfSome result (λ insn. all_inside (call_of job.now)
+        (asks (lone_who (call_of job.now)) insn core.now) ≡ true) }
 {
     let first = decode(word(job, ram, usize::from(core.get(0))), 0, 0);
     match first {

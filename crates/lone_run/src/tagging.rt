@@ -1,6 +1,6 @@
 //! The tag that a module makes of a message.
 
-ghost use Rattle.std.specs.Prelude.{◌≡◌, ◌≤◌, ◌+◌, ◌++◌, ℕ, List, length, map, take};
+ghost use Rattle.std.specs.Prelude.{◌≡◌, ◌≤◌, ◌+◌, ◌++◌, ℕ, List, length, map};
 ghost use Rattle.mod_layout.specs.Table.{size_of};
 ghost use Rattle.mod_keys.specs.Fed.{IsFed};
 ghost use Rattle.mod_keys.specs.Keys.{tag_of};
@@ -28,25 +28,17 @@ fn feed(hmac: &mut Hmac, job: &Job<'_>, ram: &[u8], start: u16, count: u16)
     }
 }
 
-/// The first 16 bytes of a HMAC.
-fn front(hmac: [u8; 32]) -> [u8; 16]
-    ensures { result ≡ take 16 hmac }
-{
-    let mut tag = [0; 16];
-    tag.copy_from_slice(&hmac[..16]);
-    tag
-}
-
 /// The tag of so many bytes from `start` on, under the module's key.
 pub fn tag_of(job: &Job<'_>, ram: &[u8], start: u16, count: u16) -> [u8; 16]
     requires text { length job.now.text.now ≡ size_of job.now.owner.now.text }
     requires fits { start + count ≤ 65536 }
-    ensures { result ≡ tag_of job.now.node_key.now job.now.owner.now job.now.text.now (map (lone_read (call_of job.now) ram.now) (each_byte Read start count)) }
+    ensures { result ≡ tag_of job.now.node_key.now job.now.owner.now job.now.text.now
+        (map (lone_read (call_of job.now) ram.now) (each_byte Read start count)) }
 {
     let key = module_key(job.node_key, job.owner, job.text);
     let mut hmac = Hmac::new(&key);
     feed(&mut hmac, job, ram, start, count);
-    front(hmac.finish())
+    hmac.tag()
 }
 
 /// Writes 16 bytes from `start` on.
