@@ -20,6 +20,15 @@ const fn answer(words: &'static str, out: &'static str) -> Line {
     }
 }
 
+const fn no(words: &'static str, out: &'static str) -> Line {
+    Line {
+        words,
+        status: Status::CheckNo,
+        out,
+        err: "",
+    }
+}
+
 const fn fault(words: &'static str, err: &'static str) -> Line {
     Line {
         words,
@@ -72,6 +81,20 @@ pub fn answers() -> [Line; 14] {
         answer("dis constant.img 0202 0204", "0202: 1234 push @r4+\n"),
         answer("dis constant.img 0000 0002", "0000: 0000 ?\n"),
         answer("dis constant.img 0200 0200", ""),
+    ]
+}
+
+/// Verdicts of the modules of images.
+pub fn verdicts() -> [Line; 5] {
+    [
+        no("check back.img 1", "no 0300 UnknownTarget 0000\n"),
+        no("check balanced.img 1", "no 0304 SecretBranch 0000\n"),
+        answer("check blind.img 1", "yes\n"),
+        fault(
+            "check blind.img 2",
+            "sancus: bad file blind.img: NoModule 2\n",
+        ),
+        usage("check blind.img"),
     ]
 }
 

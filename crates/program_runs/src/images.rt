@@ -88,6 +88,12 @@ pub const UNBALANCED: Picture = Picture {
     ..BALANCED
 };
 
+/// The same with a module that clears R5 and goes back, and never looks at its data.
+pub const BLIND: Picture = Picture {
+    first: &[0x4305, 0x4030, 0x0214],
+    ..CALLED
+};
+
 impl Picture {
     /// The image's text.
     pub fn text(&self, alloc: Global) -> Result<String, Fail> {

@@ -1,7 +1,7 @@
 //! Each run as one call of `serve`, over files and sinks in memory.
 
-use crate::commands::{Line, answers, no_commands};
-use crate::images::{BALANCED, CALLED, CONSTANT, Picture};
+use crate::commands::{Line, answers, no_commands, verdicts};
+use crate::images::{BACK, BALANCED, BLIND, CALLED, CONSTANT, Picture};
 use crate::interrupted::{handlers, nested, pulses};
 use crate::outside::{Run, calls, outside_interrupts, plain_runs, refusals};
 use board::{Board, Ran};
@@ -316,10 +316,16 @@ fn closed_data_are_cleared(rt: HostRuntime) -> Result<(), Fail> {
 fn assert_lines(rt: &impl Abort, alloc: Global, lines: &[Line]) -> Result<(), Fail> {
     let called = CALLED.text(alloc)?;
     let constant = CONSTANT.text(alloc)?;
+    let back = BACK.text(alloc)?;
+    let balanced = BALANCED.text(alloc)?;
+    let blind = BLIND.text(alloc)?;
     for line in lines {
         let mut files = MemFiles::new(alloc);
         files.put_file("called.img", called.as_bytes())?;
         files.put_file("constant.img", constant.as_bytes())?;
+        files.put_file("back.img", back.as_bytes())?;
+        files.put_file("balanced.img", balanced.as_bytes())?;
+        files.put_file("blind.img", blind.as_bytes())?;
         let mut words = Vec::new(alloc);
         for word in line.words.split(' ') {
             words.push(String::from_str(alloc, word)?)?;
@@ -338,6 +344,7 @@ fn assert_lines(rt: &impl Abort, alloc: Global, lines: &[Line]) -> Result<(), Fa
 #[test]
 fn command_lines(rt: HostRuntime) -> Result<(), Fail> {
     assert_lines(&rt, rt.alloc(), &answers())?;
+    assert_lines(&rt, rt.alloc(), &verdicts())?;
     assert_lines(&rt, rt.alloc(), &no_commands())
 }
 

@@ -20,8 +20,14 @@ use Rattle.vendor_tool.specs.ChallengeText.{challenges_of}
 use Rattle.vendor_tool.specs.Replies.{replies_of}
 use Rattle.sm_cli.specs.declared.answers.FileFault.{FileFault}
 use Rattle.sm_cli.specs.declared.answers.FileFault.TheVariants as fault
-use Rattle.sm_cli.specs.Files.{Kind, image_file, image_with, schedule_file, challenges_file, trace_file, Held, an_image, a_schedule, the_challenges, the_replies, IsTextOf, IsHeld, HasNoModule, IsRefused, most_bytes, HasFault, Need, Holds, HoldAll, IsFirstFault}
-use Rattle.sm_cli.specs.Command.{Command, Outcome, gives, Answer, Comes, IsAnswer}
+use Rattle.sm_cli.specs.Files.{Kind, image_file, image_with, schedule_file, challenges_file, trace_file, Held, an_image, a_schedule, the_challenges, the_replies, IsTextOf, IsHeld, HasNoModule, IsRefused, most_bytes, HasFault, Need, Holds, HoldAll, IsFirstFault, arms_file, certificates}
+use Rattle.sm_cli.specs.Command.{Command, Outcome, gives, Answer, Comes, IsAnswer, judges, verdict_answer, Answers}
+use Rattle.arm_balance.specs.declared.Arm.{Arm}
+use Rattle.arm_balance.specs.declared.ArmsFault.{ArmsFault}
+use Rattle.arm_balance.specs.Certificates.{arms_of}
+use Rattle.flow_rule.specs.Flow.{start_of}
+use Rattle.flow_rule.specs.Arms.{flow_with}
+use Rattle.sm_cli.proofs.OneVerdict.{one_verdict}
 use Rattle.sm_cli.specs.Laws.{IsDecided}
 
 -- Bytes
@@ -32,37 +38,56 @@ one_image bytes a b r s = images_of_one_text a b r.image s.image (sym r.text ∙
 one_held : (kind : Kind) (bytes : List ℕ) (a b : Held) → IsHeld kind bytes a → IsHeld kind bytes b → a ≡ b
 one_held image_file bytes (an_image a) (an_image b) r s = ap an_image (one_image bytes a b r s)
 one_held image_file bytes (an_image a) (a_schedule b) r s = absurd s
+one_held image_file bytes (an_image a) (certificates b) r s = absurd s
 one_held image_file bytes (an_image a) (the_challenges b) r s = absurd s
 one_held image_file bytes (an_image a) (the_replies b) r s = absurd s
 one_held image_file bytes (a_schedule a) b r s = absurd r
+one_held image_file bytes (certificates a) b r s = absurd r
 one_held image_file bytes (the_challenges a) b r s = absurd r
 one_held image_file bytes (the_replies a) b r s = absurd r
 one_held (image_with id) bytes (an_image a) (an_image b) r s = ap an_image (one_image bytes a b r.0 s.0)
 one_held (image_with id) bytes (an_image a) (a_schedule b) r s = absurd s
+one_held (image_with id) bytes (an_image a) (certificates b) r s = absurd s
 one_held (image_with id) bytes (an_image a) (the_challenges b) r s = absurd s
 one_held (image_with id) bytes (an_image a) (the_replies b) r s = absurd s
 one_held (image_with id) bytes (a_schedule a) b r s = absurd r
+one_held (image_with id) bytes (certificates a) b r s = absurd r
 one_held (image_with id) bytes (the_challenges a) b r s = absurd r
 one_held (image_with id) bytes (the_replies a) b r s = absurd r
 one_held schedule_file bytes (an_image a) b r s = absurd r
 one_held schedule_file bytes (a_schedule a) (an_image b) r s = absurd s
 one_held schedule_file bytes (a_schedule a) (a_schedule b) r s = let same = sym r ∙ s in cc
+one_held schedule_file bytes (a_schedule a) (certificates b) r s = absurd s
 one_held schedule_file bytes (a_schedule a) (the_challenges b) r s = absurd s
 one_held schedule_file bytes (a_schedule a) (the_replies b) r s = absurd s
+one_held schedule_file bytes (certificates a) b r s = absurd r
 one_held schedule_file bytes (the_challenges a) b r s = absurd r
 one_held schedule_file bytes (the_replies a) b r s = absurd r
+one_held arms_file bytes (an_image a) b r s = absurd r
+one_held arms_file bytes (a_schedule a) b r s = absurd r
+one_held arms_file bytes (certificates a) (an_image b) r s = absurd s
+one_held arms_file bytes (certificates a) (a_schedule b) r s = absurd s
+one_held arms_file bytes (certificates a) (certificates b) r s = let same = sym r ∙ s in cc
+one_held arms_file bytes (certificates a) (the_challenges b) r s = absurd s
+one_held arms_file bytes (certificates a) (the_replies b) r s = absurd s
+one_held arms_file bytes (the_challenges a) b r s = absurd r
+one_held arms_file bytes (the_replies a) b r s = absurd r
 one_held challenges_file bytes (an_image a) b r s = absurd r
 one_held challenges_file bytes (a_schedule a) b r s = absurd r
+one_held challenges_file bytes (certificates a) b r s = absurd r
 one_held challenges_file bytes (the_challenges a) (an_image b) r s = absurd s
 one_held challenges_file bytes (the_challenges a) (a_schedule b) r s = absurd s
+one_held challenges_file bytes (the_challenges a) (certificates b) r s = absurd s
 one_held challenges_file bytes (the_challenges a) (the_challenges b) r s = let same = sym r ∙ s in cc
 one_held challenges_file bytes (the_challenges a) (the_replies b) r s = absurd s
 one_held challenges_file bytes (the_replies a) b r s = absurd r
 one_held trace_file bytes (an_image a) b r s = absurd r
 one_held trace_file bytes (a_schedule a) b r s = absurd r
+one_held trace_file bytes (certificates a) b r s = absurd r
 one_held trace_file bytes (the_challenges a) b r s = absurd r
 one_held trace_file bytes (the_replies a) (an_image b) r s = absurd s
 one_held trace_file bytes (the_replies a) (a_schedule b) r s = absurd s
+one_held trace_file bytes (the_replies a) (certificates b) r s = absurd s
 one_held trace_file bytes (the_replies a) (the_challenges b) r s = absurd s
 one_held trace_file bytes (the_replies a) (the_replies b) r s = let same = sym r ∙ s in cc
 
@@ -83,9 +108,11 @@ accepted image_file bytes (an_image value) fault.TooLong r h = h
 accepted image_file bytes (an_image value) (fault.Image refusal) r h = image_accepted bytes value refusal r h
 accepted image_file bytes (an_image value) (fault.NoModule id) r h = h
 accepted image_file bytes (an_image value) (fault.Schedule refusal) r h = h
+accepted image_file bytes (an_image value) (fault.Arms refusal) r h = h
 accepted image_file bytes (an_image value) (fault.Challenges refusal) r h = h
 accepted image_file bytes (an_image value) (fault.Trace refusal) r h = h
 accepted image_file bytes (a_schedule entries) f r h = r
+accepted image_file bytes (certificates arms) f r h = r
 accepted image_file bytes (the_challenges list) f r h = r
 accepted image_file bytes (the_replies sent) f r h = r
 accepted (image_with id) bytes (an_image value) fault.Absent r h = h
@@ -93,9 +120,11 @@ accepted (image_with id) bytes (an_image value) fault.TooLong r h = h
 accepted (image_with id) bytes (an_image value) (fault.Image refusal) r h = image_accepted bytes value refusal r.0 h
 accepted (image_with id) bytes (an_image value) (fault.NoModule other) r h = has_module bytes value id r.0 r.1 h.1
 accepted (image_with id) bytes (an_image value) (fault.Schedule refusal) r h = h
+accepted (image_with id) bytes (an_image value) (fault.Arms refusal) r h = h
 accepted (image_with id) bytes (an_image value) (fault.Challenges refusal) r h = h
 accepted (image_with id) bytes (an_image value) (fault.Trace refusal) r h = h
 accepted (image_with id) bytes (a_schedule entries) f r h = r
+accepted (image_with id) bytes (certificates arms) f r h = r
 accepted (image_with id) bytes (the_challenges list) f r h = r
 accepted (image_with id) bytes (the_replies sent) f r h = r
 accepted schedule_file bytes (an_image value) f r h = r
@@ -104,28 +133,46 @@ accepted schedule_file bytes (a_schedule entries) fault.TooLong r h = h
 accepted schedule_file bytes (a_schedule entries) (fault.Image refusal) r h = h
 accepted schedule_file bytes (a_schedule entries) (fault.NoModule id) r h = h
 accepted schedule_file bytes (a_schedule entries) (fault.Schedule refusal) r h = let clash = sym r ∙ h in cc
+accepted schedule_file bytes (a_schedule entries) (fault.Arms refusal) r h = h
 accepted schedule_file bytes (a_schedule entries) (fault.Challenges refusal) r h = h
 accepted schedule_file bytes (a_schedule entries) (fault.Trace refusal) r h = h
+accepted schedule_file bytes (certificates arms) f r h = r
 accepted schedule_file bytes (the_challenges list) f r h = r
 accepted schedule_file bytes (the_replies sent) f r h = r
+accepted arms_file bytes (an_image value) f r h = r
+accepted arms_file bytes (a_schedule entries) f r h = r
+accepted arms_file bytes (certificates arms) fault.Absent r h = h
+accepted arms_file bytes (certificates arms) fault.TooLong r h = h
+accepted arms_file bytes (certificates arms) (fault.Image refusal) r h = h
+accepted arms_file bytes (certificates arms) (fault.NoModule id) r h = h
+accepted arms_file bytes (certificates arms) (fault.Schedule refusal) r h = h
+accepted arms_file bytes (certificates arms) (fault.Arms refusal) r h = let clash = sym r ∙ h in cc
+accepted arms_file bytes (certificates arms) (fault.Challenges refusal) r h = h
+accepted arms_file bytes (certificates arms) (fault.Trace refusal) r h = h
+accepted arms_file bytes (the_challenges list) f r h = r
+accepted arms_file bytes (the_replies sent) f r h = r
 accepted challenges_file bytes (an_image value) f r h = r
 accepted challenges_file bytes (a_schedule entries) f r h = r
+accepted challenges_file bytes (certificates arms) f r h = r
 accepted challenges_file bytes (the_challenges list) fault.Absent r h = h
 accepted challenges_file bytes (the_challenges list) fault.TooLong r h = h
 accepted challenges_file bytes (the_challenges list) (fault.Image refusal) r h = h
 accepted challenges_file bytes (the_challenges list) (fault.NoModule id) r h = h
 accepted challenges_file bytes (the_challenges list) (fault.Schedule refusal) r h = h
+accepted challenges_file bytes (the_challenges list) (fault.Arms refusal) r h = h
 accepted challenges_file bytes (the_challenges list) (fault.Challenges refusal) r h = let clash = sym r ∙ h in cc
 accepted challenges_file bytes (the_challenges list) (fault.Trace refusal) r h = h
 accepted challenges_file bytes (the_replies sent) f r h = r
 accepted trace_file bytes (an_image value) f r h = r
 accepted trace_file bytes (a_schedule entries) f r h = r
+accepted trace_file bytes (certificates arms) f r h = r
 accepted trace_file bytes (the_challenges list) f r h = r
 accepted trace_file bytes (the_replies sent) fault.Absent r h = h
 accepted trace_file bytes (the_replies sent) fault.TooLong r h = h
 accepted trace_file bytes (the_replies sent) (fault.Image refusal) r h = h
 accepted trace_file bytes (the_replies sent) (fault.NoModule id) r h = h
 accepted trace_file bytes (the_replies sent) (fault.Schedule refusal) r h = h
+accepted trace_file bytes (the_replies sent) (fault.Arms refusal) r h = h
 accepted trace_file bytes (the_replies sent) (fault.Challenges refusal) r h = h
 accepted trace_file bytes (the_replies sent) (fault.Trace refusal) r h = let clash = sym r ∙ h in cc
 
@@ -153,6 +200,10 @@ trace_examined : (bytes : List ℕ) (r : Result (List ℕ) TraceFault) → repli
 trace_examined bytes (Ok sent) e = inl (the_replies sent, e)
 trace_examined bytes (Err refusal) e = inr (fault.Trace refusal, λ short. (short, e))
 
+arms_examined : (bytes : List ℕ) (r : Result (List Arm) ArmsFault) → arms_of bytes ≡ r → Examined arms_file bytes
+arms_examined bytes (Ok arms) e = inl (certificates arms, e)
+arms_examined bytes (Err refusal) e = inr (fault.Arms refusal, λ short. (short, e))
+
 examined : (kind : Kind) (bytes : List ℕ) → Examined kind bytes
 examined image_file bytes = ⊎_elim (λ v. inl (an_image v.0, v.1)) (λ f. inr (fault.Image f.0, λ short. (short, f.1))) (image_examined bytes (refusal_of bytes) refl)
 examined (image_with id) bytes =
@@ -160,6 +211,14 @@ examined (image_with id) bytes =
 examined schedule_file bytes = schedule_examined bytes (schedule_of bytes) refl
 examined challenges_file bytes = challenges_examined bytes (challenges_of bytes) refl
 examined trace_file bytes = trace_examined bytes (replies_of bytes) refl
+examined arms_file bytes = arms_examined bytes (arms_of bytes) refl
+
+-- Outcomes
+
+one_told : (outcome : Outcome) (a b : Answer) → Answers outcome a → Answers outcome b → a ≡ b
+one_told (gives own) a b r s = sym r ∙ s
+one_told (judges owner text arms) a b r s =
+    r.tells ∙ ap verdict_answer (one_verdict (flow_with owner text arms) (start_of owner text) owner.text.start r.verdict s.verdict r.is s.is) ∙ sym s.tells
 
 -- Files
 
@@ -175,6 +234,7 @@ module _ (map : FileMap) where
   serves wanted held (fault.Schedule refusal) r h = accepted wanted.kind r.bytes held (fault.Schedule refusal) r.is (subst (λ o. HasFault wanted.kind o (fault.Schedule refusal)) r.file h).1
   serves wanted held (fault.Challenges refusal) r h = accepted wanted.kind r.bytes held (fault.Challenges refusal) r.is (subst (λ o. HasFault wanted.kind o (fault.Challenges refusal)) r.file h).1
   serves wanted held (fault.Trace refusal) r h = accepted wanted.kind r.bytes held (fault.Trace refusal) r.is (subst (λ o. HasFault wanted.kind o (fault.Trace refusal)) r.file h).1
+  serves wanted held (fault.Arms refusal) r h = accepted wanted.kind r.bytes held (fault.Arms refusal) r.is (subst (λ o. HasFault wanted.kind o (fault.Arms refusal)) r.file h).1
 
   one_thing : (wanted : Need) (a b : Held) → Holds (Some map) wanted a → Holds (Some map) wanted b → a ≡ b
   one_thing wanted a b r s =
@@ -195,7 +255,7 @@ module _ (map : FileMap) where
   one_outcome command a b r s = sym r.is ∙ ap command.outcome (one_list command.needs r.helds s.helds r.hold s.hold) ∙ s.is
 
   pub one_answer : (command : Command) (a b : Answer) → IsAnswer (Some map) command a → IsAnswer (Some map) command b → a ≡ b
-  one_answer command a b r s = let same : gives a ≡ gives b = one_outcome command (gives a) (gives b) r s in cc
+  one_answer command a b r s = one_told r.outcome a b r.is (subst (λ o. Answers o b) (one_outcome command s.outcome r.outcome s.comes r.comes) s.is)
 
   all_serve : (needs : List Need) (helds : List Held) → HoldAll (Some map) needs helds → (name : List ℕ) (f : FileFault) → IsFirstFault (Some map) needs name f → ⊥
   all_serve [] helds r name f h = h
@@ -206,6 +266,9 @@ module _ (map : FileMap) where
   -- where something comes of a command, no file has a fault
   pub no_first_fault : (command : Command) (outcome : Outcome) → Comes (Some map) command outcome → (name : List ℕ) (f : FileFault) → IsFirstFault (Some map) command.needs name f → ⊥
   no_first_fault command outcome r name f h = all_serve command.needs r.helds r.hold name f h
+
+  pub no_fault_of_answer : (command : Command) (answer : Answer) → IsAnswer (Some map) command answer → (name : List ℕ) (f : FileFault) → IsFirstFault (Some map) command.needs name f → ⊥
+  no_fault_of_answer command answer a name f h = no_first_fault command a.outcome a.comes name f h
 
   -- a file serves, or has a fault
   found : (wanted : Need) → ((held : Held) × Holds (Some map) wanted held) ⊎ ((f : FileFault) × HasFault wanted.kind (map wanted.name) f)

@@ -9,10 +9,12 @@ use Rattle.sm_cli.specs.ImageCommand.{image_command, trace_answer}
 
 -- what a command gives is its answer
 pub gives_answer : (files : Option FileMap) (command : Command) (answer : Answer) → Comes files command (gives answer) → IsAnswer files command answer
-gives_answer files command answer comes = comes
+gives_answer files command answer comes = record { outcome = gives answer; comes = comes; is = refl }
 
 -- the trace of an image on a schedule
 pub image_answer : (files : Option FileMap) (name : List ℕ) (schedule : Option (List ℕ)) (cycles : ℕ) (value : Image) (entries : List Entry)
     → Holds files (need name image_file) (an_image value) → IsScheduleOf files schedule entries → IsAnswer files (image_command name schedule cycles) (trace_answer value entries cycles)
-image_answer files name None cycles value entries h s = record { helds = an_image value ∷ []; hold = (h, tt); is = ap (λ es. gives (trace_answer value es cycles)) (sym s) }
-image_answer files name (Some own) cycles value entries h s = record { helds = an_image value ∷ a_schedule entries ∷ []; hold = (h, (s, tt)); is = refl }
+image_answer files name None cycles value entries h s =
+    gives_answer files (image_command name None cycles) (trace_answer value entries cycles) (record { helds = an_image value ∷ []; hold = (h, tt); is = ap (λ es. gives (trace_answer value es cycles)) (sym s) })
+image_answer files name (Some own) cycles value entries h s =
+    gives_answer files (image_command name (Some own) cycles) (trace_answer value entries cycles) (record { helds = an_image value ∷ a_schedule entries ∷ []; hold = (h, (s, tt)); is = refl })

@@ -12,13 +12,13 @@ use Rattle.sm_cli.specs.declared.answers.Refusal.TheVariants as refusal
 use Rattle.sm_cli.specs.declared.answers.Status.{Status}
 use Rattle.sm_cli.specs.declared.answers.Status.TheVariants as status
 use Rattle.sm_cli.specs.Files.{Need, IsFirstFault}
-use Rattle.sm_cli.specs.Command.{Command, Answer, gives, IsAnswer}
+use Rattle.sm_cli.specs.Command.{Command, Answer, IsAnswer}
 use Rattle.sm_cli.specs.CommandLine.{command_of}
 use Rattle.sm_cli.specs.ImageCommand.{image_command, trace_answer}
 use Rattle.sm_cli.specs.Input.{IsInput}
 use Rattle.sm_cli.specs.Refusal.{is_read_fault, status_of, line_of}
 use Rattle.sm_cli.specs.Serve.{Call, call_of, Serves, Refuses, IsCause, IsNeedCause, IsRun, EndsAs, Completes, IsOrOutside}
-use Rattle.sm_cli.proofs.Needed.{one_answer, no_first_fault}
+use Rattle.sm_cli.proofs.Needed.{one_answer, no_fault_of_answer}
 use Rattle.sm_cli.proofs.Running.{image_answer}
 
 -- Commands and inputs
@@ -60,7 +60,7 @@ module _ (words : List (List ℕ)) (files : Option FileMap) (before after : ℕ)
 
   -- no file that is needed has a fault
   pub run_no_fault : (map : FileMap) (other : Command) (name : List ℕ) (fault : FileFault) → files ≡ Some map → Some own ≡ command_of words → command_of words ≡ Some other → IsRun files own ended took cut → IsFirstFault (Some map) other.needs name fault → ⊥
-  run_no_fault map other name fault told c d r h = no_first_fault map other (gives r.answer) (answer_here files map own other r.answer told (one_command words own other c d) r.served) name fault h
+  run_no_fault map other name fault told c d r h = no_fault_of_answer map other r.answer (answer_here files map own other r.answer told (one_command words own other c d) r.served) name fault h
 
   -- the answer of a run is the one that the command has
   pub run_ends : (map : FileMap) (other : Command) (answer : Answer) → files ≡ Some map → Some own ≡ command_of words → command_of words ≡ Some other → IsRun files own ended took cut → IsAnswer (Some map) other answer → EndsAs ended answer took cut
@@ -130,7 +130,7 @@ module _ (r : Refusal) (name : List ℕ) (ended : Status) (took cut : List ℕ �
       by : (q : Refusal) → IsNeedCause files before after own.needs q name → Completes (status_of q) answer whole part told
       by refusal.Usage h = absurd h
       by (refusal.BadFile fault) h =
-          absurd (no_first_fault map own (gives answer) (subst (λ k. IsAnswer (Some map) k answer) (sym (one_command words own other c d)) a) name fault (subst (λ o. IsFirstFault o own.needs name fault) is h.0))
+          absurd (no_fault_of_answer map own answer (subst (λ k. IsAnswer (Some map) k answer) (sym (one_command words own other c d)) a) name fault (subst (λ o. IsFirstFault o own.needs name fault) is h.0))
       by refusal.CannotRead h = tt
       by refusal.NoMemory h = tt
 
@@ -144,7 +144,7 @@ module _ (r : Refusal) (name : List ℕ) (ended : Status) (took cut : List ℕ �
       by : (q : Refusal) → IsNeedCause files before after own.needs q name → ended ≡ status_of q → ⊥
       by refusal.Usage h e = h
       by (refusal.BadFile fault) h e =
-          no_first_fault map own (gives answer) (subst (λ k. IsAnswer (Some map) k answer) (sym (one_command words own other c d)) a) name fault (subst (λ o. IsFirstFault o own.needs name fault) is h.0)
+          no_fault_of_answer map own answer (subst (λ k. IsAnswer (Some map) k answer) (sym (one_command words own other c d)) a) name fault (subst (λ o. IsFirstFault o own.needs name fault) is h.0)
       by refusal.CannotRead h e = no_read h.1.1
       by refusal.NoMemory h e = some e
 

@@ -11,6 +11,8 @@ use Rattle.sm_cli.specs.KeyCommand.{key_of, key_asked}
 use Rattle.sm_cli.specs.DisCommand.{dis_of, dis_asked}
 use Rattle.sm_cli.specs.ChallengeCommand.{challenge_of, challenge_asked}
 use Rattle.sm_cli.specs.VendorCommand.{vendor_of, vendor_asked}
+use Rattle.sm_cli.specs.CheckCommand.{check_of, check_asked}
+use Rattle.sm_cli.specs.BalanceCommand.{balance_of, balance_asked}
 
 -- by the first word, with the fewest and the most values that may follow
 abbrev pub command_by : Text → List Text → Option Command
@@ -20,6 +22,8 @@ command_by name words =
     else if bytes_eq name (codes "dis") then option_and_then dis_of (values_in 3 3 words)
     else if bytes_eq name (codes "challenge") then option_and_then challenge_of (values_in 1 1 words)
     else if bytes_eq name (codes "vendor") then option_and_then vendor_of (values_in 5 5 words)
+    else if bytes_eq name (codes "check") then option_and_then check_of (values_in 2 2 words)
+    else if bytes_eq name (codes "balance") then option_and_then balance_of (values_in 3 3 words)
     else None
 
 -- what the words ask for, or none
@@ -34,6 +38,8 @@ asked (line.Key c) = key_asked c
 asked (line.Dis c) = dis_asked c
 asked (line.Challenge c) = challenge_asked c
 asked (line.Vendor c) = vendor_asked c
+asked (line.Check c) = check_asked c
+asked (line.Balance c) = balance_asked c
 
 -- its numbers are within their bounds
 abbrev pub IsBounded : CommandLine → Type 0
@@ -42,3 +48,5 @@ IsBounded (line.Key c) = Unit {0}
 IsBounded (line.Dis c) = c.start % 2 ≡ 0
 IsBounded (line.Challenge c) = Unit {0}
 IsBounded (line.Vendor c) = Unit {0}
+IsBounded (line.Check c) = Unit {0}
+IsBounded (line.Balance c) = Unit {0}

@@ -11,6 +11,8 @@ use Rattle.vendor_tool.specs.declared.ChallengeFault.{ChallengeFault}
 use Rattle.vendor_tool.specs.declared.ChallengeFault.TheVariants as challenge_fault
 use Rattle.vendor_tool.specs.declared.TraceFault.{TraceFault}
 use Rattle.vendor_tool.specs.declared.TraceFault.TheVariants as trace_fault
+use Rattle.arm_balance.specs.declared.ArmsFault.{ArmsFault}
+use Rattle.arm_balance.specs.declared.ArmsFault.TheVariants as arms_fault
 use Rattle.sm_cli.specs.declared.answers.FileFault.{FileFault}
 use Rattle.sm_cli.specs.declared.answers.FileFault.TheVariants as fault
 
@@ -47,6 +49,12 @@ trace_fault_text (trace_fault.Line n) = codes "Line " ++ decimal n
 trace_fault_text trace_fault.NoEnd = codes "NoEnd"
 trace_fault_text trace_fault.NoMemory = codes "NoMemory"
 
+abbrev pub arms_fault_text : ArmsFault → List ℕ
+arms_fault_text arms_fault.TooMany = codes "TooMany"
+arms_fault_text (arms_fault.Line n) = codes "Line " ++ decimal n
+arms_fault_text (arms_fault.NotRising n) = codes "NotRising " ++ decimal n
+arms_fault_text arms_fault.NoMemory = codes "NoMemory"
+
 abbrev pub fault_text : FileFault → List ℕ
 fault_text fault.Absent = codes "Absent"
 fault_text fault.TooLong = codes "TooLong"
@@ -55,3 +63,4 @@ fault_text (fault.NoModule id) = codes "NoModule " ++ decimal id
 fault_text (fault.Schedule refusal) = schedule_fault_text refusal
 fault_text (fault.Challenges refusal) = challenge_fault_text refusal
 fault_text (fault.Trace refusal) = trace_fault_text refusal
+fault_text (fault.Arms refusal) = arms_fault_text refusal

@@ -10,6 +10,8 @@ use Rattle.schedule_file.specs.Reading.{schedule_of}
 use Rattle.vendor_tool.specs.declared.Challenge.{Challenge}
 use Rattle.vendor_tool.specs.ChallengeText.{challenges_of}
 use Rattle.vendor_tool.specs.Replies.{replies_of}
+use Rattle.arm_balance.specs.declared.Arm.{Arm}
+use Rattle.arm_balance.specs.Certificates.{arms_of}
 use Rattle.sm_cli.specs.declared.answers.FileFault.{FileFault}
 use Rattle.sm_cli.specs.declared.answers.FileFault.TheVariants as fault
 
@@ -21,6 +23,8 @@ pub data Kind : Type 0 where
   schedule_file : Kind
   challenges_file : Kind
   trace_file : Kind
+  -- certificates of balanced branches
+  arms_file : Kind
 
 -- what a file that serves holds
 pub data Held : Type 0 where
@@ -29,6 +33,7 @@ pub data Held : Type 0 where
   the_challenges : (list : List Challenge) → Held
   -- the bytes that a trace says were sent
   the_replies : (sent : List ℕ) → Held
+  certificates : (arms : List Arm) → Held
 
 -- the bytes are the text of this image
 pub record IsTextOf (bytes : List ℕ) (value : Image) : Type 0 where
@@ -42,6 +47,7 @@ IsHeld (image_with id) bytes (an_image value) = IsTextOf bytes value × (is_some
 IsHeld schedule_file bytes (a_schedule entries) = schedule_of bytes ≡ Ok entries
 IsHeld challenges_file bytes (the_challenges list) = challenges_of bytes ≡ Ok list
 IsHeld trace_file bytes (the_replies sent) = replies_of bytes ≡ Ok sent
+IsHeld arms_file bytes (certificates arms) = arms_of bytes ≡ Ok arms
 IsHeld _ bytes _ = ⊥
 
 -- an image's bytes hold no module with this id
@@ -58,6 +64,7 @@ IsRefused (image_with id) bytes (fault.NoModule other) = (other ≡ id) × HasNo
 IsRefused schedule_file bytes (fault.Schedule refusal) = schedule_of bytes ≡ Err refusal
 IsRefused challenges_file bytes (fault.Challenges refusal) = challenges_of bytes ≡ Err refusal
 IsRefused trace_file bytes (fault.Trace refusal) = replies_of bytes ≡ Err refusal
+IsRefused arms_file bytes (fault.Arms refusal) = arms_of bytes ≡ Err refusal
 IsRefused _ bytes _ = ⊥
 
 -- a file has at most so many bytes

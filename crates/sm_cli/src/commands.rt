@@ -11,13 +11,17 @@ use crate::answers::{Refused, Status};
 use sm_io::{Files, Sink};
 use std::alloc::{AllocError, Global};
 
+pub mod balance;
 pub mod challenge;
+pub mod check;
 pub mod dis;
 pub mod image;
 pub mod key;
 pub mod vendor;
 
+use balance::BalanceCommand;
 use challenge::ChallengeCommand;
+use check::CheckCommand;
 use dis::DisCommand;
 use image::ImageCommand;
 use key::KeyCommand;
@@ -57,6 +61,8 @@ pub enum CommandLine<'a> {
     Dis(DisCommand<'a>),
     Challenge(ChallengeCommand<'a>),
     Vendor(VendorCommand<'a>),
+    Check(CheckCommand<'a>),
+    Balance(BalanceCommand<'a>),
 }
 
 /// The command that the words are.
@@ -82,6 +88,10 @@ pub fn read_command<'a>(
         Ok(challenge::read(alloc, words)?.map(CommandLine::Challenge))
     } else if name == "vendor" {
         Ok(vendor::read(alloc, words)?.map(CommandLine::Vendor))
+    } else if name == "check" {
+        Ok(check::read(alloc, words)?.map(CommandLine::Check))
+    } else if name == "balance" {
+        Ok(balance::read(alloc, words)?.map(CommandLine::Balance))
     } else {
         Ok(None)
     }
@@ -104,6 +114,8 @@ impl Answering for CommandLine<'_> {
             CommandLine::Dis(command) => command.answer(alloc, files, out),
             CommandLine::Challenge(command) => command.answer(alloc, files, out),
             CommandLine::Vendor(command) => command.answer(alloc, files, out),
+            CommandLine::Check(command) => command.answer(alloc, files, out),
+            CommandLine::Balance(command) => command.answer(alloc, files, out),
         }
     }
 }

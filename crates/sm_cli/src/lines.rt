@@ -2,11 +2,12 @@
 ghost use Rattle.std.specs.Prelude.{◌++◌, codes};
 ghost use Rattle.std.specs.Fmt.{decimal};
 ghost use Rattle.sm_io.specs.Sink.{Puts};
-ghost use Rattle.sm_cli.specs.Faults.{challenge_fault_text, fault_text, image_fault_text, schedule_fault_text, table_fault_text, trace_fault_text};
+ghost use Rattle.sm_cli.specs.Faults.{challenge_fault_text, fault_text, image_fault_text, schedule_fault_text, table_fault_text, trace_fault_text, arms_fault_text};
 ghost use Rattle.sm_cli.specs.Refusal.{line_of};
 
 use crate::answers::Refused;
 use crate::{FileFault, Refusal};
+use arm_balance::ArmsFault;
 use image_text::ImageFault;
 use mod_layout::TableFault;
 use schedule_file::ScheduleFault;
@@ -96,6 +97,17 @@ fn put_trace_fault<S: Sink>(sink: &mut S, fault: TraceFault) -> Result<(), Faile
     }
 }
 
+fn put_arms_fault<S: Sink>(sink: &mut S, fault: ArmsFault) -> Result<(), Failed>
+    ensures { Puts S.taken S.faults S.sure sink.old sink.new (arms_fault_text fault) result }
+{
+    match fault {
+        ArmsFault::TooMany => put_all(sink, b"TooMany"),
+        ArmsFault::Line { n } => put_field(sink, b"Line ", n),
+        ArmsFault::NotRising { n } => put_field(sink, b"NotRising ", n),
+        ArmsFault::NoMemory => put_all(sink, b"NoMemory"),
+    }
+}
+
 fn put_fault<S: Sink>(sink: &mut S, fault: FileFault) -> Result<(), Failed>
     ensures { Puts S.taken S.faults S.sure sink.old sink.new (fault_text fault) result }
 {
@@ -107,6 +119,7 @@ fn put_fault<S: Sink>(sink: &mut S, fault: FileFault) -> Result<(), Failed>
         FileFault::Schedule(fault) => put_schedule_fault(sink, fault),
         FileFault::Challenges(fault) => put_challenge_fault(sink, fault),
         FileFault::Trace(fault) => put_trace_fault(sink, fault),
+        FileFault::Arms(fault) => put_arms_fault(sink, fault),
     }
 }
 

@@ -5,11 +5,12 @@ ghost use Rattle.sm_io.specs.Faults.{HasCause};
 ghost use Rattle.mod_layout.specs.Table.{module_of};
 ghost use Rattle.mod_layout.specs.Tables.{IsModule};
 ghost use Rattle.sm_cli.specs.Content.{IsContentRefusal};
-ghost use Rattle.sm_cli.specs.Files.{Kind, Held, an_image, a_schedule, the_challenges, the_replies, image_file, image_with, schedule_file, challenges_file, trace_file, need, schedule_needs, HasFile, IsHeld, Holds, IsScheduleOf, most_bytes};
+ghost use Rattle.sm_cli.specs.Files.{Kind, Held, an_image, a_schedule, the_challenges, the_replies, image_file, image_with, schedule_file, challenges_file, trace_file, need, schedule_needs, HasFile, IsHeld, Holds, IsScheduleOf, most_bytes, certificates, arms_file};
 ghost use Rattle.sm_cli.specs.Serve.{IsNeedCause};
 
 use crate::answers::Refused;
 use crate::{FileFault, Refusal};
+use arm_balance::{Arms, ArmsFault, read_arms};
 use image_text::{Image, ImageFault};
 use mod_layout::Module;
 use schedule_file::{Schedule, ScheduleFault};
@@ -89,6 +90,20 @@ impl Content for Replies {
             Ok(sent) => Ok(Replies { sent }),
             Err(TraceFault::NoMemory) => Err(Refusal::NoMemory),
             Err(fault) => Err(Refusal::BadFile(FileFault::Trace(fault))),
+        }
+    }
+}
+
+impl Content for Arms {
+    ghost kind = { arms_file };
+
+    ghost held = { λ arms. certificates arms.list.items };
+
+    fn examine(alloc: Global, bytes: Vec<u8>) -> Result<Self, Refusal> {
+        match read_arms(alloc, &bytes) {
+            Ok(arms) => Ok(arms),
+            Err(ArmsFault::NoMemory) => Err(Refusal::NoMemory),
+            Err(fault) => Err(Refusal::BadFile(FileFault::Arms(fault))),
         }
     }
 }

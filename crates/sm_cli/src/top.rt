@@ -5,12 +5,15 @@ ghost use Rattle.sm_io.specs.Files.{FileMap};
 ghost use Rattle.sm_io.specs.Sink.{Took, CutOff};
 ghost use Rattle.schedule_file.specs.declared.Entry.{Entry as EntryValue};
 ghost use Rattle.image_text.specs.Image.{Image as ImageValue};
+ghost use Rattle.mod_layout.specs.declared.Module.{Module as ModuleValue};
+ghost use Rattle.peer_rows.specs.Laws.{DifferInData};
 ghost use Rattle.written_machine.specs.Peers.{Peers};
 ghost use Rattle.written_machine.specs.Trace.{trace};
 ghost use Rattle.written_machine.specs.View.{at, view_of};
 ghost use Rattle.written_machine.specs.declared.Hidden.TheVariants.{Only};
 ghost use Rattle.sm_cli.specs.declared.answers.Status.{Status as Statuses};
 ghost use Rattle.sm_cli.specs.declared.answers.FileFault.{FileFault as FileFaults};
+ghost use Rattle.sm_cli.specs.Checked.{IsCheck, IsBalance};
 ghost use Rattle.sm_cli.specs.Command.{Command, Answer, IsAnswer};
 ghost use Rattle.sm_cli.specs.CommandLine.{command_of};
 ghost use Rattle.sm_cli.specs.Files.{IsFirstFault};
@@ -44,6 +47,12 @@ pub fn serve<F: Files, O: Sink, E: Sink>(
         × ((other : ImageValue) (m : ℕ) → Peers value other m →
         Took O.taken O.faults O.sure out.old out.new (trace other entries cycles)
         × ((k : ℕ) → k ≤ cycles → view_of (at value entries k) (Only m) ≡ view_of (at other entries k) (Only m))) }
+
+    // A module by itself: where its check is answered yes, every image that differs in that module's data alone is a peer.
+    ensures checked { result ≡ Status.Done → (value other : ImageValue) (id : ℕ) (owner : ModuleValue) →
+        IsCheck (texts words.now) (F.content files.old) value id → DifferInData value other id owner → Peers value other id }
+    ensures balanced { result ≡ Status.Done → (value other : ImageValue) (id : ℕ) (owner : ModuleValue) →
+        IsBalance (texts words.now) (F.content files.old) value id → DifferInData value other id owner → Peers value other id }
 
     // An answer: the words are a command that its files serve; `out` took its output, and `err` nothing.
     ensures done { result ≡ Status.Done → Serves (call_of (texts words.now) (F.content files.old) (F.faults files.old) (F.faults files.new)) Status.Done
@@ -88,9 +97,10 @@ pub fn serve<F: Files, O: Sink, E: Sink>(
     ensures same_files { F.content files.new ≡ F.content files.old }
     ensures unread { result ≡ Status.Usage → files.new ≡ files.old }
 {
-    // These do nothing: their clauses are the laws of two runs, for the headline's second half.
+    // These do nothing: their clauses are the laws of two runs and of peers, for the headline and for checks.
     isolation::two_runs();
     isolation::texts();
+    peer_rows::accepted_are_peers();
     let command = match read_command(alloc, words) {
         Ok(Some(command)) => command,
         Ok(None) => return tell(err, NO_COMMAND),

@@ -31,10 +31,7 @@ pub struct VendorCommand<'a> {
 }
 
 /// The arguments that the words after the first are.
-pub fn read<'a>(
-    alloc: Global,
-    words: &'a [String],
-) -> Result<Option<VendorCommand<'a>>, AllocError>
+pub fn read<'a>(alloc: Global, words: &'a [String]) -> Result<Option<VendorCommand<'a>>, AllocError>
     ensures { IfOk result (λ o. option_map vendor_asked o ≡ option_and_then vendor_of (values_in 5 5 (drop 1 (texts words.entry.now)))) }
 {
     match values_of(alloc, words, 5, 5)? {

@@ -5,7 +5,8 @@ use Rattle.sm_cli.specs.CommandLine.{asked, command_of}
 use Rattle.sm_cli.specs.ImageCommand.{image_command, trace_answer}
 use Rattle.sm_cli.specs.Serve.{texts, call_of}
 use Rattle.sm_cli.specs.declared.answers.Refusal.TheVariants as refusal
-use Rattle.sm_cli.proofs.Serving.{run_not_usage, refused_not_usage, input_answer, when_cut, run_ends, run_no_fault, ends_complete, told_in_part, cause_of, refused_completes, refused_outside, no_memory_completes, cut_rose, run_sure, run_whole}
+use Rattle.sm_cli.proofs.Serving.{run_not_usage, refused_not_usage, input_answer, when_cut, run_ends, run_no_fault, ends_complete, told_in_part, cause_of, refused_completes, refused_outside, no_memory_completes, cut_rose, run_sure, run_whole, when_done}
+use Rattle.sm_cli.proofs.Checking.{checked_peers, balanced_peers}
 use Rattle.sm_cli.proofs.top.serve.Goals as goal
 
 -- a run
@@ -45,6 +46,26 @@ returns-in-Ok-clause-headline g c = λ value entries cycles i no_read no_out no_
         λ k within. c.two_runs.ensures.views value other m entries k peers,
       ),
     )
+
+pub returns-in-Ok-clause-checked : goal.returns-in-Ok-clause-checked
+returns-in-Ok-clause-checked g c = λ e value other id owner i d.
+    let some : Some (asked c.in-Ok-Some.command) ≡ command_of (texts c.args.words.now) = sym (ap (option_map asked) c.in-Ok-Some.field-0-is) ∙ c.in-Ok-Some.ensures.command in
+    let words = texts c.args.words.now in
+    let files = g.F.Files.content c.args.files.now in
+    let before = g.F.Files.faults c.args.files.now in
+    let after = g.F.Files.faults c.answer.new.files in
+    let done = when_done words files before after (asked c.in-Ok-Some.command) c.in-Ok.status _ _ some c.in-Ok.ensures.ok c.in-Ok.ensures.quiet e in
+    checked_peers words files before after _ value other id owner i d done c.accepted_are_peers.ensures
+
+pub returns-in-Ok-clause-balanced : goal.returns-in-Ok-clause-balanced
+returns-in-Ok-clause-balanced g c = λ e value other id owner i d.
+    let some : Some (asked c.in-Ok-Some.command) ≡ command_of (texts c.args.words.now) = sym (ap (option_map asked) c.in-Ok-Some.field-0-is) ∙ c.in-Ok-Some.ensures.command in
+    let words = texts c.args.words.now in
+    let files = g.F.Files.content c.args.files.now in
+    let before = g.F.Files.faults c.args.files.now in
+    let after = g.F.Files.faults c.answer.new.files in
+    let done = when_done words files before after (asked c.in-Ok-Some.command) c.in-Ok.status _ _ some c.in-Ok.ensures.ok c.in-Ok.ensures.quiet e in
+    balanced_peers words files before after _ value other id owner i d done c.accepted_are_peers.ensures
 
 pub returns-in-Ok-clause-sure : goal.returns-in-Ok-clause-sure
 returns-in-Ok-clause-sure g c = λ sound room line.

@@ -1,0 +1,104 @@
+-- Where the check of a module is answered yes, the rule of flow accepts its text.
+use Rattle.std.proofs.Common.{◌≡◌, ℕ, ◌≤◌, List, [], ◌∷◌, length, is_some, Some, Option, refl, sym, ◌∙◌, ap, subst}
+use Rattle.sm_io.specs.Files.{FileMap}
+use Rattle.mod_layout.specs.declared.Module.{Module}
+use Rattle.mod_layout.specs.Table.{module_of}
+use Rattle.image_text.specs.Image.{Image, IsImage}
+use Rattle.image_text.specs.ImageText.{image_text}
+use Rattle.arm_balance.specs.declared.Arm.{Arm}
+use Rattle.flow_rule.specs.declared.Verdict.{Verdict}
+use Rattle.flow_rule.specs.declared.Verdict.TheVariants.{Yes, No}
+use Rattle.flow_rule.specs.Arms.{VerdictWith}
+use Rattle.written_machine.specs.Peers.{section, Peers}
+use Rattle.peer_rows.specs.Laws.{DifferInData, AcceptedArePeers}
+use Rattle.sm_cli.specs.declared.answers.Status.TheVariants.{Done}
+use Rattle.sm_cli.specs.Files.{Held, an_image, a_schedule, certificates, the_challenges, the_replies, image_with, arms_file, need, Holds, HoldAll, most_bytes}
+use Rattle.sm_cli.specs.Command.{Command, Answer, judges, Comes, Answers, IsJudged, IsAnswer}
+use Rattle.sm_cli.specs.CommandLine.{command_of}
+use Rattle.sm_cli.specs.Verdicts.{verdict_status}
+use Rattle.sm_cli.specs.CheckCommand.{checked_by, check_command}
+use Rattle.sm_cli.specs.BalanceCommand.{balanced_by, balance_command}
+use Rattle.sm_cli.specs.Checked.{IsCheck, IsBalance}
+use Rattle.sm_cli.specs.Serve.{call_of, Serves}
+use Rattle.sm_cli.proofs.Needed.{one_outcome}
+
+only_yes : (v : Verdict) → verdict_status v ≡ Done → v ≡ Yes
+only_yes Yes e = refl
+only_yes (No addr why value) e = cc
+
+module _ (map : FileMap) (name : List ℕ) (value : Image) (id : ℕ) (owner : Module) (image : IsImage value) (file : map name ≡ Some (image_text value)) (owned : module_of id value.table ≡ Some owner) where
+  short_text : (helds : List Held) → HoldAll (Some map) (need name (image_with id) ∷ []) helds → length (image_text value) ≤ most_bytes
+  short_text [] h = absurd h
+  short_text (held ∷ helds) h =
+      let same : Some h.0.bytes ≡ Some (image_text value) = sym h.0.file ∙ file in
+      let bytes : h.0.bytes ≡ image_text value = cc in
+      subst (λ l. length l ≤ most_bytes) bytes h.0.short
+
+  check_comes : length (image_text value) ≤ most_bytes → Comes (Some map) (check_command name id) (judges owner (section owner.text value.memory) [])
+  check_comes short = record {
+    helds = an_image value ∷ [];
+    hold = (record { bytes = image_text value; file = file; short = short; is = (record { image = image; text = refl }, ap is_some owned) }, tt);
+    is = ap (checked_by value) owned;
+  }
+
+  accepted_by : (command : Command) (arms : List Arm) (answer : Answer) → Comes (Some map) command (judges owner (section owner.text value.memory) arms) → answer.status ≡ Done → IsAnswer (Some map) command answer → VerdictWith owner (section owner.text value.memory) arms Yes
+  accepted_by command arms answer comes status a =
+      let text = section owner.text value.memory in
+      let j : IsJudged owner text arms answer = subst (λ o. Answers o answer) (one_outcome map command a.outcome (judges owner text arms) a.comes comes) a.is in
+      let yes : j.verdict ≡ Yes = only_yes j.verdict (ap (λ (b : Answer). b.status) (sym j.tells) ∙ status) in
+      subst (λ v. VerdictWith owner text arms v) yes j.is
+
+  accepted : (answer : Answer) → answer.status ≡ Done → IsAnswer (Some map) (check_command name id) answer → VerdictWith owner (section owner.text value.memory) [] Yes
+  accepted answer status a = accepted_by (check_command name id) [] answer (check_comes (short_text a.comes.helds a.comes.hold)) status a
+
+  module _ (arms_name : List ℕ) where
+    abbrev BalanceComes : Type 0
+    BalanceComes = (arms : List Arm) × Comes (Some map) (balance_command name id arms_name) (judges owner (section owner.text value.memory) arms)
+
+    balance_with : (held : Held) → Holds (Some map) (need arms_name arms_file) held → length (image_text value) ≤ most_bytes → BalanceComes
+    balance_with (an_image other) h short = absurd h.is
+    balance_with (a_schedule entries) h short = absurd h.is
+    balance_with (the_challenges list) h short = absurd h.is
+    balance_with (the_replies sent) h short = absurd h.is
+    balance_with (certificates arms) h short = (
+      arms,
+      record {
+        helds = an_image value ∷ certificates arms ∷ [];
+        hold = (record { bytes = image_text value; file = file; short = short; is = (record { image = image; text = refl }, ap is_some owned) }, (h, tt));
+        is = ap (balanced_by value arms) owned;
+      },
+    )
+
+    balance_comes : (helds : List Held) → HoldAll (Some map) (need name (image_with id) ∷ need arms_name arms_file ∷ []) helds → BalanceComes
+    balance_comes [] h = absurd h
+    balance_comes (held ∷ []) h = absurd h.1
+    balance_comes (held ∷ more ∷ helds) h =
+        let same : Some h.0.bytes ≡ Some (image_text value) = sym h.0.file ∙ file in
+        let bytes : h.0.bytes ≡ image_text value = cc in
+        balance_with more h.1.0 (subst (λ l. length l ≤ most_bytes) bytes h.0.short)
+
+    balance_accepted : (answer : Answer) → answer.status ≡ Done → IsAnswer (Some map) (balance_command name id arms_name) answer → (arms : List Arm) × VerdictWith owner (section owner.text value.memory) arms Yes
+    balance_accepted answer status a =
+        let found = balance_comes a.comes.helds a.comes.hold in
+        (found.0, accepted_by (balance_command name id arms_name) found.0 answer found.1 status a)
+
+-- where the check is answered yes, an image that differs in the module's data alone is a peer
+pub checked_peers : (words : List (List ℕ)) (files : Option FileMap) (before after : ℕ) (took : List ℕ → Type 0) (value other : Image) (id : ℕ) (owner : Module)
+    → IsCheck words files value id → DifferInData value other id owner → Serves (call_of words files before after) Done took → AcceptedArePeers → Peers value other id
+checked_peers words files before after took value other id owner i d s law =
+    let both : Some s.command ≡ Some (check_command i.name id) = sym s.asked ∙ i.command in
+    let same : s.command ≡ check_command i.name id = cc in
+    let answered : IsAnswer (Some i.map) (check_command i.name id) s.answer =
+    subst (λ k. IsAnswer (Some i.map) k s.answer) same (subst (λ o. IsAnswer o s.command s.answer) i.told s.served) in
+    law value other id owner [] d (accepted i.map i.name value id owner i.image i.file d.owned s.answer s.status answered)
+
+-- the same with certificates
+pub balanced_peers : (words : List (List ℕ)) (files : Option FileMap) (before after : ℕ) (took : List ℕ → Type 0) (value other : Image) (id : ℕ) (owner : Module)
+    → IsBalance words files value id → DifferInData value other id owner → Serves (call_of words files before after) Done took → AcceptedArePeers → Peers value other id
+balanced_peers words files before after took value other id owner i d s law =
+    let both : Some s.command ≡ Some (balance_command i.name id i.arms) = sym s.asked ∙ i.command in
+    let same : s.command ≡ balance_command i.name id i.arms = cc in
+    let answered : IsAnswer (Some i.map) (balance_command i.name id i.arms) s.answer =
+    subst (λ k. IsAnswer (Some i.map) k s.answer) same (subst (λ o. IsAnswer o s.command s.answer) i.told s.served) in
+    let yes = balance_accepted i.map i.name value id owner i.image i.file d.owned i.arms s.answer s.status answered in
+    law value other id owner yes.0 d yes.1

@@ -1,0 +1,22 @@
+use Rattle.std.proofs.Common.{[], ◌∷◌, refl, ap, subst}
+use Rattle.written_machine.specs.Peers.{section}
+use Rattle.sm_cli.specs.BalanceCommand.{balanced_by}
+use Rattle.sm_cli.specs.Command.{judges, verdict_answer}
+use Rattle.sm_cli.specs.Files.{an_image, certificates, arms_file, need, Holds}
+use Rattle.sm_cli.proofs.commands.balance.BalanceCommandAnswering.answer.Goals as goal
+
+pub returns-in-Ok-verdict_with-clause-ok : goal.returns-in-Ok-verdict_with-clause-ok
+returns-in-Ok-verdict_with-clause-ok g c =
+    let chosen = c.in-Ok.chosen in
+    let arms = c.in-Ok-load.arms.list.items in
+    let verdict = c.in-Ok-verdict_with.verdict in
+    let held = subst (λ o. Holds o (need c.args.self.now.arms.now arms_file) (certificates arms)) c.in-Ok.ensures.same_files c.in-Ok-load.ensures.holds in
+    record {
+      answer = verdict_answer verdict;
+      served = record {
+        outcome = judges chosen.«module» (section chosen.«module».text chosen.image.memory) arms;
+        comes = record { helds = an_image chosen.image ∷ certificates arms ∷ []; hold = (c.in-Ok.ensures.holds, (held, tt)); is = ap (balanced_by chosen.image arms) c.in-Ok.ensures.chosen };
+        is = record { verdict = verdict; is = c.in-Ok-verdict_with.ensures; tells = refl };
+      };
+      ends = c.put_verdict.ensures;
+    }

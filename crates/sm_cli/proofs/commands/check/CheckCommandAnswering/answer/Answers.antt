@@ -1,0 +1,20 @@
+use Rattle.std.proofs.Common.{[], ◌∷◌, refl, ap}
+use Rattle.written_machine.specs.Peers.{section}
+use Rattle.sm_cli.specs.CheckCommand.{checked_by}
+use Rattle.sm_cli.specs.Command.{judges, verdict_answer}
+use Rattle.sm_cli.specs.Files.{an_image}
+use Rattle.sm_cli.proofs.commands.check.CheckCommandAnswering.answer.Goals as goal
+
+pub returns-in-Ok-verdict_of-clause-ok : goal.returns-in-Ok-verdict_of-clause-ok
+returns-in-Ok-verdict_of-clause-ok g c =
+    let chosen = c.in-Ok.chosen in
+    let verdict = c.in-Ok-verdict_of.verdict in
+    record {
+      answer = verdict_answer verdict;
+      served = record {
+        outcome = judges chosen.«module» (section chosen.«module».text chosen.image.memory) [];
+        comes = record { helds = an_image chosen.image ∷ []; hold = (c.in-Ok.ensures.holds, tt); is = ap (checked_by chosen.image) c.in-Ok.ensures.chosen };
+        is = record { verdict = verdict; is = c.in-Ok-verdict_of.ensures; tells = refl };
+      };
+      ends = c.put_verdict.ensures;
+    }

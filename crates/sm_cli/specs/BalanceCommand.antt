@@ -1,0 +1,36 @@
+-- `balance IMAGE ID ARMS`: the verdict of a module's text, with certificates of balanced branches.
+use Rattle.std.specs.Prelude.{ℕ, List, [], ◌∷◌, Option, Some, None}
+use Rattle.std.specs.Option.{option_map}
+use Rattle.arm_balance.specs.declared.Arm.{Arm}
+use Rattle.mod_layout.specs.declared.Module.{Module}
+use Rattle.mod_layout.specs.Table.{module_of}
+use Rattle.image_text.specs.Image.{Image}
+use Rattle.written_machine.specs.Peers.{section}
+use Rattle.sm_cli.specs.declared.commands.balance.BalanceCommand.{BalanceCommand}
+use Rattle.sm_cli.specs.Words.{Text}
+use Rattle.sm_cli.specs.Arguments.{id_of}
+use Rattle.sm_cli.specs.Files.{Held, an_image, certificates, arms_file, image_with, need}
+use Rattle.sm_cli.specs.Command.{Outcome, judges, no_outcome, Command}
+
+abbrev pub balanced_by : Image → List Arm → Option Module → Outcome
+balanced_by value arms (Some owner) = judges owner (section owner.text value.memory) arms
+balanced_by value arms None = no_outcome
+
+abbrev pub balance_outcome : ℕ → List Held → Outcome
+balance_outcome id (an_image value ∷ certificates arms ∷ []) = balanced_by value arms (module_of id value.table)
+balance_outcome id _ = no_outcome
+
+abbrev pub balance_command : Text → ℕ → Text → Command
+balance_command name id arms = record { needs = need name (image_with id) ∷ need arms arms_file ∷ []; outcome = balance_outcome id }
+
+-- the order of the words: the image, the id, the certificates
+abbrev pub balance_in : Text → Text → ℕ → Command
+balance_in name arms id = balance_command name id arms
+
+abbrev pub balance_of : List Text → Option Command
+balance_of (name ∷ id ∷ arms ∷ []) = option_map (balance_in name arms) (id_of id)
+balance_of _ = None
+
+-- what the program's value asks for
+abbrev pub balance_asked : BalanceCommand → Command
+balance_asked c = balance_command c.image.now c.id c.arms.now

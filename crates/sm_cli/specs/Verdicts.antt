@@ -1,0 +1,33 @@
+-- How a verdict is told.
+use Rattle.std.specs.Prelude.{ℕ, List, ◌++◌, codes}
+use Rattle.texts.specs.Hexadecimals.{hex_word}
+use Rattle.flow_rule.specs.declared.Reason.{Reason}
+use Rattle.flow_rule.specs.declared.Reason.TheVariants as reason
+use Rattle.flow_rule.specs.declared.Verdict.{Verdict}
+use Rattle.flow_rule.specs.declared.Verdict.TheVariants.{Yes, No}
+use Rattle.sm_cli.specs.declared.answers.Status.{Status}
+use Rattle.sm_cli.specs.declared.answers.Status.TheVariants.{Done, CheckNo}
+
+abbrev pub reason_name : Reason → List ℕ
+reason_name reason.SecretBranch = codes "SecretBranch"
+reason_name reason.SecretAddress = codes "SecretAddress"
+reason_name reason.OutsideAccess = codes "OutsideAccess"
+reason_name reason.SecretAtExit = codes "SecretAtExit"
+reason_name reason.UnknownTarget = codes "UnknownTarget"
+reason_name reason.Illegal = codes "Illegal"
+reason_name reason.Unit = codes "Unit"
+reason_name reason.TooMany = codes "TooMany"
+reason_name reason.Arm = codes "Arm"
+reason_name reason.ArmTime = codes "ArmTime"
+
+-- `no`, the address, the reason and its value
+abbrev pub no_line : ℕ → Reason → ℕ → List ℕ
+no_line addr why value = (codes "no " ++ (hex_word addr ++ codes " ")) ++ (reason_name why ++ (codes " " ++ (hex_word value ++ codes "\n")))
+
+abbrev pub verdict_line : Verdict → List ℕ
+verdict_line Yes = codes "yes\n"
+verdict_line (No addr why value) = no_line addr why value
+
+abbrev pub verdict_status : Verdict → Status
+verdict_status Yes = Done
+verdict_status (No addr why value) = CheckNo
