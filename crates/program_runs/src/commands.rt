@@ -96,10 +96,7 @@ pub fn verdicts() -> [Line; 11] {
         ),
         usage("check blind.img"),
         answer("balance balanced.img 1 at_6.txt", "yes\n"),
-        no(
-            "balance balanced.img 1 at_7.txt",
-            "no 0304 ArmTime 0000\n",
-        ),
+        no("balance balanced.img 1 at_7.txt", "no 0304 ArmTime 0000\n"),
         no(
             "balance unbalanced.img 1 at_6.txt",
             "no 0304 ArmTime 0000\n",

@@ -4,6 +4,8 @@
 #[cfg(test)]
 mod commands;
 #[cfg(test)]
+mod exchanges;
+#[cfg(test)]
 mod images;
 #[cfg(test)]
 mod interrupted;

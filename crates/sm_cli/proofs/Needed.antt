@@ -13,15 +13,20 @@ use Rattle.image_text.proofs.EveryText.{every_text}
 use Rattle.schedule_file.specs.declared.Entry.{Entry}
 use Rattle.schedule_file.specs.declared.ScheduleFault.{ScheduleFault}
 use Rattle.schedule_file.specs.Reading.{schedule_of}
+use Rattle.vendor_tool.specs.declared.Challenge.{Challenge}
+use Rattle.vendor_tool.specs.declared.ChallengeFault.{ChallengeFault}
+use Rattle.vendor_tool.specs.declared.TraceFault.{TraceFault}
+use Rattle.vendor_tool.specs.ChallengeText.{challenges_of}
+use Rattle.vendor_tool.specs.Replies.{replies_of}
+use Rattle.sm_cli.specs.declared.answers.FileFault.{FileFault}
+use Rattle.sm_cli.specs.declared.answers.FileFault.TheVariants as fault
+use Rattle.sm_cli.specs.Files.{Kind, image_file, image_with, schedule_file, challenges_file, trace_file, Held, an_image, a_schedule, the_challenges, the_replies, IsTextOf, IsHeld, HasNoModule, IsRefused, most_bytes, HasFault, Need, Holds, HoldAll, IsFirstFault, arms_file, certificates}
+use Rattle.sm_cli.specs.Command.{Command, Outcome, gives, Answer, Comes, IsAnswer, judges, verdict_answer, Answers}
 use Rattle.arm_balance.specs.declared.Arm.{Arm}
 use Rattle.arm_balance.specs.declared.ArmsFault.{ArmsFault}
 use Rattle.arm_balance.specs.Certificates.{arms_of}
-use Rattle.sm_cli.specs.declared.answers.FileFault.{FileFault}
-use Rattle.sm_cli.specs.declared.answers.FileFault.TheVariants as fault
-use Rattle.sm_cli.specs.Files.{Kind, image_file, image_with, schedule_file, arms_file, Held, an_image, a_schedule, certificates, IsTextOf, IsHeld, HasNoModule, IsRefused, most_bytes, HasFault, Need, Holds, HoldAll, IsFirstFault}
 use Rattle.flow_rule.specs.Flow.{start_of}
 use Rattle.flow_rule.specs.Arms.{flow_with}
-use Rattle.sm_cli.specs.Command.{Command, Outcome, gives, judges, Answer, verdict_answer, Comes, Answers, IsAnswer}
 use Rattle.sm_cli.proofs.OneVerdict.{one_verdict}
 use Rattle.sm_cli.specs.Laws.{IsDecided}
 
@@ -34,23 +39,57 @@ one_held : (kind : Kind) (bytes : List ℕ) (a b : Held) → IsHeld kind bytes a
 one_held image_file bytes (an_image a) (an_image b) r s = ap an_image (one_image bytes a b r s)
 one_held image_file bytes (an_image a) (a_schedule b) r s = absurd s
 one_held image_file bytes (an_image a) (certificates b) r s = absurd s
+one_held image_file bytes (an_image a) (the_challenges b) r s = absurd s
+one_held image_file bytes (an_image a) (the_replies b) r s = absurd s
 one_held image_file bytes (a_schedule a) b r s = absurd r
 one_held image_file bytes (certificates a) b r s = absurd r
+one_held image_file bytes (the_challenges a) b r s = absurd r
+one_held image_file bytes (the_replies a) b r s = absurd r
 one_held (image_with id) bytes (an_image a) (an_image b) r s = ap an_image (one_image bytes a b r.0 s.0)
 one_held (image_with id) bytes (an_image a) (a_schedule b) r s = absurd s
 one_held (image_with id) bytes (an_image a) (certificates b) r s = absurd s
+one_held (image_with id) bytes (an_image a) (the_challenges b) r s = absurd s
+one_held (image_with id) bytes (an_image a) (the_replies b) r s = absurd s
 one_held (image_with id) bytes (a_schedule a) b r s = absurd r
 one_held (image_with id) bytes (certificates a) b r s = absurd r
-one_held schedule_file bytes (a_schedule a) (a_schedule b) r s = let same = sym r ∙ s in cc
-one_held schedule_file bytes (a_schedule a) (an_image b) r s = absurd s
-one_held schedule_file bytes (a_schedule a) (certificates b) r s = absurd s
+one_held (image_with id) bytes (the_challenges a) b r s = absurd r
+one_held (image_with id) bytes (the_replies a) b r s = absurd r
 one_held schedule_file bytes (an_image a) b r s = absurd r
+one_held schedule_file bytes (a_schedule a) (an_image b) r s = absurd s
+one_held schedule_file bytes (a_schedule a) (a_schedule b) r s = let same = sym r ∙ s in cc
+one_held schedule_file bytes (a_schedule a) (certificates b) r s = absurd s
+one_held schedule_file bytes (a_schedule a) (the_challenges b) r s = absurd s
+one_held schedule_file bytes (a_schedule a) (the_replies b) r s = absurd s
 one_held schedule_file bytes (certificates a) b r s = absurd r
-one_held arms_file bytes (certificates a) (certificates b) r s = let same = sym r ∙ s in cc
-one_held arms_file bytes (certificates a) (an_image b) r s = absurd s
-one_held arms_file bytes (certificates a) (a_schedule b) r s = absurd s
+one_held schedule_file bytes (the_challenges a) b r s = absurd r
+one_held schedule_file bytes (the_replies a) b r s = absurd r
 one_held arms_file bytes (an_image a) b r s = absurd r
 one_held arms_file bytes (a_schedule a) b r s = absurd r
+one_held arms_file bytes (certificates a) (an_image b) r s = absurd s
+one_held arms_file bytes (certificates a) (a_schedule b) r s = absurd s
+one_held arms_file bytes (certificates a) (certificates b) r s = let same = sym r ∙ s in cc
+one_held arms_file bytes (certificates a) (the_challenges b) r s = absurd s
+one_held arms_file bytes (certificates a) (the_replies b) r s = absurd s
+one_held arms_file bytes (the_challenges a) b r s = absurd r
+one_held arms_file bytes (the_replies a) b r s = absurd r
+one_held challenges_file bytes (an_image a) b r s = absurd r
+one_held challenges_file bytes (a_schedule a) b r s = absurd r
+one_held challenges_file bytes (certificates a) b r s = absurd r
+one_held challenges_file bytes (the_challenges a) (an_image b) r s = absurd s
+one_held challenges_file bytes (the_challenges a) (a_schedule b) r s = absurd s
+one_held challenges_file bytes (the_challenges a) (certificates b) r s = absurd s
+one_held challenges_file bytes (the_challenges a) (the_challenges b) r s = let same = sym r ∙ s in cc
+one_held challenges_file bytes (the_challenges a) (the_replies b) r s = absurd s
+one_held challenges_file bytes (the_replies a) b r s = absurd r
+one_held trace_file bytes (an_image a) b r s = absurd r
+one_held trace_file bytes (a_schedule a) b r s = absurd r
+one_held trace_file bytes (certificates a) b r s = absurd r
+one_held trace_file bytes (the_challenges a) b r s = absurd r
+one_held trace_file bytes (the_replies a) (an_image b) r s = absurd s
+one_held trace_file bytes (the_replies a) (a_schedule b) r s = absurd s
+one_held trace_file bytes (the_replies a) (certificates b) r s = absurd s
+one_held trace_file bytes (the_replies a) (the_challenges b) r s = absurd s
+one_held trace_file bytes (the_replies a) (the_replies b) r s = let same = sym r ∙ s in cc
 
 image_accepted : (bytes : List ℕ) (value : Image) (refusal : ImageFault) → IsTextOf bytes value → refusal_of bytes ≡ Some refusal → ⊥
 image_accepted bytes value refusal r h = let none = ap refusal_of r.text ∙ text_has_no_refusal value r.image in cc
@@ -64,38 +103,78 @@ has_module bytes value id r some h =
 
 -- bytes that hold something are not refused
 accepted : (kind : Kind) (bytes : List ℕ) (held : Held) (f : FileFault) → IsHeld kind bytes held → IsRefused kind bytes f → ⊥
-accepted image_file bytes (an_image value) (fault.Image refusal) r h = image_accepted bytes value refusal r h
 accepted image_file bytes (an_image value) fault.Absent r h = h
 accepted image_file bytes (an_image value) fault.TooLong r h = h
+accepted image_file bytes (an_image value) (fault.Image refusal) r h = image_accepted bytes value refusal r h
 accepted image_file bytes (an_image value) (fault.NoModule id) r h = h
 accepted image_file bytes (an_image value) (fault.Schedule refusal) r h = h
 accepted image_file bytes (an_image value) (fault.Arms refusal) r h = h
+accepted image_file bytes (an_image value) (fault.Challenges refusal) r h = h
+accepted image_file bytes (an_image value) (fault.Trace refusal) r h = h
 accepted image_file bytes (a_schedule entries) f r h = r
 accepted image_file bytes (certificates arms) f r h = r
-accepted (image_with id) bytes (an_image value) (fault.Image refusal) r h = image_accepted bytes value refusal r.0 h
-accepted (image_with id) bytes (an_image value) (fault.NoModule other) r h = has_module bytes value id r.0 r.1 h.1
+accepted image_file bytes (the_challenges list) f r h = r
+accepted image_file bytes (the_replies sent) f r h = r
 accepted (image_with id) bytes (an_image value) fault.Absent r h = h
 accepted (image_with id) bytes (an_image value) fault.TooLong r h = h
+accepted (image_with id) bytes (an_image value) (fault.Image refusal) r h = image_accepted bytes value refusal r.0 h
+accepted (image_with id) bytes (an_image value) (fault.NoModule other) r h = has_module bytes value id r.0 r.1 h.1
 accepted (image_with id) bytes (an_image value) (fault.Schedule refusal) r h = h
 accepted (image_with id) bytes (an_image value) (fault.Arms refusal) r h = h
+accepted (image_with id) bytes (an_image value) (fault.Challenges refusal) r h = h
+accepted (image_with id) bytes (an_image value) (fault.Trace refusal) r h = h
 accepted (image_with id) bytes (a_schedule entries) f r h = r
 accepted (image_with id) bytes (certificates arms) f r h = r
-accepted schedule_file bytes (a_schedule entries) (fault.Schedule refusal) r h = let clash = sym r ∙ h in cc
+accepted (image_with id) bytes (the_challenges list) f r h = r
+accepted (image_with id) bytes (the_replies sent) f r h = r
+accepted schedule_file bytes (an_image value) f r h = r
 accepted schedule_file bytes (a_schedule entries) fault.Absent r h = h
 accepted schedule_file bytes (a_schedule entries) fault.TooLong r h = h
 accepted schedule_file bytes (a_schedule entries) (fault.Image refusal) r h = h
 accepted schedule_file bytes (a_schedule entries) (fault.NoModule id) r h = h
+accepted schedule_file bytes (a_schedule entries) (fault.Schedule refusal) r h = let clash = sym r ∙ h in cc
 accepted schedule_file bytes (a_schedule entries) (fault.Arms refusal) r h = h
-accepted schedule_file bytes (an_image value) f r h = r
+accepted schedule_file bytes (a_schedule entries) (fault.Challenges refusal) r h = h
+accepted schedule_file bytes (a_schedule entries) (fault.Trace refusal) r h = h
 accepted schedule_file bytes (certificates arms) f r h = r
-accepted arms_file bytes (certificates arms) (fault.Arms refusal) r h = let clash = sym r ∙ h in cc
+accepted schedule_file bytes (the_challenges list) f r h = r
+accepted schedule_file bytes (the_replies sent) f r h = r
+accepted arms_file bytes (an_image value) f r h = r
+accepted arms_file bytes (a_schedule entries) f r h = r
 accepted arms_file bytes (certificates arms) fault.Absent r h = h
 accepted arms_file bytes (certificates arms) fault.TooLong r h = h
 accepted arms_file bytes (certificates arms) (fault.Image refusal) r h = h
 accepted arms_file bytes (certificates arms) (fault.NoModule id) r h = h
 accepted arms_file bytes (certificates arms) (fault.Schedule refusal) r h = h
-accepted arms_file bytes (an_image value) f r h = r
-accepted arms_file bytes (a_schedule entries) f r h = r
+accepted arms_file bytes (certificates arms) (fault.Arms refusal) r h = let clash = sym r ∙ h in cc
+accepted arms_file bytes (certificates arms) (fault.Challenges refusal) r h = h
+accepted arms_file bytes (certificates arms) (fault.Trace refusal) r h = h
+accepted arms_file bytes (the_challenges list) f r h = r
+accepted arms_file bytes (the_replies sent) f r h = r
+accepted challenges_file bytes (an_image value) f r h = r
+accepted challenges_file bytes (a_schedule entries) f r h = r
+accepted challenges_file bytes (certificates arms) f r h = r
+accepted challenges_file bytes (the_challenges list) fault.Absent r h = h
+accepted challenges_file bytes (the_challenges list) fault.TooLong r h = h
+accepted challenges_file bytes (the_challenges list) (fault.Image refusal) r h = h
+accepted challenges_file bytes (the_challenges list) (fault.NoModule id) r h = h
+accepted challenges_file bytes (the_challenges list) (fault.Schedule refusal) r h = h
+accepted challenges_file bytes (the_challenges list) (fault.Arms refusal) r h = h
+accepted challenges_file bytes (the_challenges list) (fault.Challenges refusal) r h = let clash = sym r ∙ h in cc
+accepted challenges_file bytes (the_challenges list) (fault.Trace refusal) r h = h
+accepted challenges_file bytes (the_replies sent) f r h = r
+accepted trace_file bytes (an_image value) f r h = r
+accepted trace_file bytes (a_schedule entries) f r h = r
+accepted trace_file bytes (certificates arms) f r h = r
+accepted trace_file bytes (the_challenges list) f r h = r
+accepted trace_file bytes (the_replies sent) fault.Absent r h = h
+accepted trace_file bytes (the_replies sent) fault.TooLong r h = h
+accepted trace_file bytes (the_replies sent) (fault.Image refusal) r h = h
+accepted trace_file bytes (the_replies sent) (fault.NoModule id) r h = h
+accepted trace_file bytes (the_replies sent) (fault.Schedule refusal) r h = h
+accepted trace_file bytes (the_replies sent) (fault.Arms refusal) r h = h
+accepted trace_file bytes (the_replies sent) (fault.Challenges refusal) r h = h
+accepted trace_file bytes (the_replies sent) (fault.Trace refusal) r h = let clash = sym r ∙ h in cc
 
 -- bytes that are not too long hold something, or have a fault
 abbrev Examined : Kind → List ℕ → Type 0
@@ -113,6 +192,14 @@ schedule_examined : (bytes : List ℕ) (r : Result (List Entry) ScheduleFault) �
 schedule_examined bytes (Ok entries) e = inl (a_schedule entries, e)
 schedule_examined bytes (Err refusal) e = inr (fault.Schedule refusal, λ short. (short, e))
 
+challenges_examined : (bytes : List ℕ) (r : Result (List Challenge) ChallengeFault) → challenges_of bytes ≡ r → Examined challenges_file bytes
+challenges_examined bytes (Ok list) e = inl (the_challenges list, e)
+challenges_examined bytes (Err refusal) e = inr (fault.Challenges refusal, λ short. (short, e))
+
+trace_examined : (bytes : List ℕ) (r : Result (List ℕ) TraceFault) → replies_of bytes ≡ r → Examined trace_file bytes
+trace_examined bytes (Ok sent) e = inl (the_replies sent, e)
+trace_examined bytes (Err refusal) e = inr (fault.Trace refusal, λ short. (short, e))
+
 arms_examined : (bytes : List ℕ) (r : Result (List Arm) ArmsFault) → arms_of bytes ≡ r → Examined arms_file bytes
 arms_examined bytes (Ok arms) e = inl (certificates arms, e)
 arms_examined bytes (Err refusal) e = inr (fault.Arms refusal, λ short. (short, e))
@@ -122,6 +209,8 @@ examined image_file bytes = ⊎_elim (λ v. inl (an_image v.0, v.1)) (λ f. inr 
 examined (image_with id) bytes =
     ⊎_elim (λ v. module_examined id bytes v.0 v.1 (module_of id v.0.table) refl) (λ f. inr (fault.Image f.0, λ short. (short, f.1))) (image_examined bytes (refusal_of bytes) refl)
 examined schedule_file bytes = schedule_examined bytes (schedule_of bytes) refl
+examined challenges_file bytes = challenges_examined bytes (challenges_of bytes) refl
+examined trace_file bytes = trace_examined bytes (replies_of bytes) refl
 examined arms_file bytes = arms_examined bytes (arms_of bytes) refl
 
 -- Outcomes
@@ -143,6 +232,8 @@ module _ (map : FileMap) where
   serves wanted held (fault.Image refusal) r h = accepted wanted.kind r.bytes held (fault.Image refusal) r.is (subst (λ o. HasFault wanted.kind o (fault.Image refusal)) r.file h).1
   serves wanted held (fault.NoModule id) r h = accepted wanted.kind r.bytes held (fault.NoModule id) r.is (subst (λ o. HasFault wanted.kind o (fault.NoModule id)) r.file h).1
   serves wanted held (fault.Schedule refusal) r h = accepted wanted.kind r.bytes held (fault.Schedule refusal) r.is (subst (λ o. HasFault wanted.kind o (fault.Schedule refusal)) r.file h).1
+  serves wanted held (fault.Challenges refusal) r h = accepted wanted.kind r.bytes held (fault.Challenges refusal) r.is (subst (λ o. HasFault wanted.kind o (fault.Challenges refusal)) r.file h).1
+  serves wanted held (fault.Trace refusal) r h = accepted wanted.kind r.bytes held (fault.Trace refusal) r.is (subst (λ o. HasFault wanted.kind o (fault.Trace refusal)) r.file h).1
   serves wanted held (fault.Arms refusal) r h = accepted wanted.kind r.bytes held (fault.Arms refusal) r.is (subst (λ o. HasFault wanted.kind o (fault.Arms refusal)) r.file h).1
 
   one_thing : (wanted : Need) (a b : Held) → Holds (Some map) wanted a → Holds (Some map) wanted b → a ≡ b

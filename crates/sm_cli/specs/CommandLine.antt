@@ -9,6 +9,8 @@ use Rattle.sm_cli.specs.Command.{Command}
 use Rattle.sm_cli.specs.ImageCommand.{image_of, image_asked}
 use Rattle.sm_cli.specs.KeyCommand.{key_of, key_asked}
 use Rattle.sm_cli.specs.DisCommand.{dis_of, dis_asked}
+use Rattle.sm_cli.specs.ChallengeCommand.{challenge_of, challenge_asked}
+use Rattle.sm_cli.specs.VendorCommand.{vendor_of, vendor_asked}
 use Rattle.sm_cli.specs.CheckCommand.{check_of, check_asked}
 use Rattle.sm_cli.specs.BalanceCommand.{balance_of, balance_asked}
 
@@ -18,6 +20,8 @@ command_by name words =
     if bytes_eq name (codes "image") then option_and_then image_of (values_in 3 3 words)
     else if bytes_eq name (codes "key") then option_and_then key_of (values_in 2 2 words)
     else if bytes_eq name (codes "dis") then option_and_then dis_of (values_in 3 3 words)
+    else if bytes_eq name (codes "challenge") then option_and_then challenge_of (values_in 1 1 words)
+    else if bytes_eq name (codes "vendor") then option_and_then vendor_of (values_in 5 5 words)
     else if bytes_eq name (codes "check") then option_and_then check_of (values_in 2 2 words)
     else if bytes_eq name (codes "balance") then option_and_then balance_of (values_in 3 3 words)
     else None
@@ -32,6 +36,8 @@ abbrev pub asked : CommandLine → Command
 asked (line.Image c) = image_asked c
 asked (line.Key c) = key_asked c
 asked (line.Dis c) = dis_asked c
+asked (line.Challenge c) = challenge_asked c
+asked (line.Vendor c) = vendor_asked c
 asked (line.Check c) = check_asked c
 asked (line.Balance c) = balance_asked c
 
@@ -40,5 +46,7 @@ abbrev pub IsBounded : CommandLine → Type 0
 IsBounded (line.Image c) = c.cycles ≤ MAX_CYCLES
 IsBounded (line.Key c) = Unit {0}
 IsBounded (line.Dis c) = c.start % 2 ≡ 0
+IsBounded (line.Challenge c) = Unit {0}
+IsBounded (line.Vendor c) = Unit {0}
 IsBounded (line.Check c) = Unit {0}
 IsBounded (line.Balance c) = Unit {0}

@@ -7,6 +7,10 @@ use Rattle.image_text.specs.declared.ImageFault.{ImageFault}
 use Rattle.image_text.specs.declared.ImageFault.TheVariants as image_fault
 use Rattle.schedule_file.specs.declared.ScheduleFault.{ScheduleFault}
 use Rattle.schedule_file.specs.declared.ScheduleFault.TheVariants as schedule_fault
+use Rattle.vendor_tool.specs.declared.ChallengeFault.{ChallengeFault}
+use Rattle.vendor_tool.specs.declared.ChallengeFault.TheVariants as challenge_fault
+use Rattle.vendor_tool.specs.declared.TraceFault.{TraceFault}
+use Rattle.vendor_tool.specs.declared.TraceFault.TheVariants as trace_fault
 use Rattle.arm_balance.specs.declared.ArmsFault.{ArmsFault}
 use Rattle.arm_balance.specs.declared.ArmsFault.TheVariants as arms_fault
 use Rattle.sm_cli.specs.declared.answers.FileFault.{FileFault}
@@ -34,6 +38,17 @@ schedule_fault_text (schedule_fault.NotRising n) = codes "NotRising " ++ decimal
 schedule_fault_text schedule_fault.TooMany = codes "TooMany"
 schedule_fault_text schedule_fault.NoMemory = codes "NoMemory"
 
+abbrev pub challenge_fault_text : ChallengeFault → List ℕ
+challenge_fault_text challenge_fault.TooMany = codes "TooMany"
+challenge_fault_text (challenge_fault.Line n) = codes "Line " ++ decimal n
+challenge_fault_text (challenge_fault.NotRising n) = codes "NotRising " ++ decimal n
+challenge_fault_text challenge_fault.NoMemory = codes "NoMemory"
+
+abbrev pub trace_fault_text : TraceFault → List ℕ
+trace_fault_text (trace_fault.Line n) = codes "Line " ++ decimal n
+trace_fault_text trace_fault.NoEnd = codes "NoEnd"
+trace_fault_text trace_fault.NoMemory = codes "NoMemory"
+
 abbrev pub arms_fault_text : ArmsFault → List ℕ
 arms_fault_text arms_fault.TooMany = codes "TooMany"
 arms_fault_text (arms_fault.Line n) = codes "Line " ++ decimal n
@@ -46,4 +61,6 @@ fault_text fault.TooLong = codes "TooLong"
 fault_text (fault.Image refusal) = image_fault_text refusal
 fault_text (fault.NoModule id) = codes "NoModule " ++ decimal id
 fault_text (fault.Schedule refusal) = schedule_fault_text refusal
+fault_text (fault.Challenges refusal) = challenge_fault_text refusal
+fault_text (fault.Trace refusal) = trace_fault_text refusal
 fault_text (fault.Arms refusal) = arms_fault_text refusal

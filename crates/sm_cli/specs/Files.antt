@@ -7,6 +7,9 @@ use Rattle.image_text.specs.ImageText.{image_text}
 use Rattle.image_text.specs.Refusal.{refusal_of}
 use Rattle.schedule_file.specs.declared.Entry.{Entry}
 use Rattle.schedule_file.specs.Reading.{schedule_of}
+use Rattle.vendor_tool.specs.declared.Challenge.{Challenge}
+use Rattle.vendor_tool.specs.ChallengeText.{challenges_of}
+use Rattle.vendor_tool.specs.Replies.{replies_of}
 use Rattle.arm_balance.specs.declared.Arm.{Arm}
 use Rattle.arm_balance.specs.Certificates.{arms_of}
 use Rattle.sm_cli.specs.declared.answers.FileFault.{FileFault}
@@ -18,6 +21,8 @@ pub data Kind : Type 0 where
   -- an image that holds a module with this id
   image_with : (id : ℕ) → Kind
   schedule_file : Kind
+  challenges_file : Kind
+  trace_file : Kind
   -- certificates of balanced branches
   arms_file : Kind
 
@@ -25,6 +30,9 @@ pub data Kind : Type 0 where
 pub data Held : Type 0 where
   an_image : (value : Image) → Held
   a_schedule : (entries : List Entry) → Held
+  the_challenges : (list : List Challenge) → Held
+  -- the bytes that a trace says were sent
+  the_replies : (sent : List ℕ) → Held
   certificates : (arms : List Arm) → Held
 
 -- the bytes are the text of this image
@@ -37,6 +45,8 @@ abbrev pub IsHeld : Kind → List ℕ → Held → Type 0
 IsHeld image_file bytes (an_image value) = IsTextOf bytes value
 IsHeld (image_with id) bytes (an_image value) = IsTextOf bytes value × (is_some (module_of id value.table) ≡ true)
 IsHeld schedule_file bytes (a_schedule entries) = schedule_of bytes ≡ Ok entries
+IsHeld challenges_file bytes (the_challenges list) = challenges_of bytes ≡ Ok list
+IsHeld trace_file bytes (the_replies sent) = replies_of bytes ≡ Ok sent
 IsHeld arms_file bytes (certificates arms) = arms_of bytes ≡ Ok arms
 IsHeld _ bytes _ = ⊥
 
@@ -52,6 +62,8 @@ IsRefused image_file bytes (fault.Image refusal) = refusal_of bytes ≡ Some ref
 IsRefused (image_with id) bytes (fault.Image refusal) = refusal_of bytes ≡ Some refusal
 IsRefused (image_with id) bytes (fault.NoModule other) = (other ≡ id) × HasNoModule bytes id
 IsRefused schedule_file bytes (fault.Schedule refusal) = schedule_of bytes ≡ Err refusal
+IsRefused challenges_file bytes (fault.Challenges refusal) = challenges_of bytes ≡ Err refusal
+IsRefused trace_file bytes (fault.Trace refusal) = replies_of bytes ≡ Err refusal
 IsRefused arms_file bytes (fault.Arms refusal) = arms_of bytes ≡ Err refusal
 IsRefused _ bytes _ = ⊥
 

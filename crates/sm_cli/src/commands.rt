@@ -12,16 +12,20 @@ use sm_io::{Files, Sink};
 use std::alloc::{AllocError, Global};
 
 pub mod balance;
+pub mod challenge;
 pub mod check;
 pub mod dis;
 pub mod image;
 pub mod key;
+pub mod vendor;
 
 use balance::BalanceCommand;
+use challenge::ChallengeCommand;
 use check::CheckCommand;
 use dis::DisCommand;
 use image::ImageCommand;
 use key::KeyCommand;
+use vendor::VendorCommand;
 
 /// A command that can be answered.
 pub trait Answering {
@@ -55,6 +59,8 @@ pub enum CommandLine<'a> {
     Image(ImageCommand<'a>),
     Key(KeyCommand<'a>),
     Dis(DisCommand<'a>),
+    Challenge(ChallengeCommand<'a>),
+    Vendor(VendorCommand<'a>),
     Check(CheckCommand<'a>),
     Balance(BalanceCommand<'a>),
 }
@@ -78,6 +84,10 @@ pub fn read_command<'a>(
         Ok(key::read(alloc, words)?.map(CommandLine::Key))
     } else if name == "dis" {
         Ok(dis::read(alloc, words)?.map(CommandLine::Dis))
+    } else if name == "challenge" {
+        Ok(challenge::read(alloc, words)?.map(CommandLine::Challenge))
+    } else if name == "vendor" {
+        Ok(vendor::read(alloc, words)?.map(CommandLine::Vendor))
     } else if name == "check" {
         Ok(check::read(alloc, words)?.map(CommandLine::Check))
     } else if name == "balance" {
@@ -102,6 +112,8 @@ impl Answering for CommandLine<'_> {
             CommandLine::Image(command) => command.answer(alloc, files, out),
             CommandLine::Key(command) => command.answer(alloc, files, out),
             CommandLine::Dis(command) => command.answer(alloc, files, out),
+            CommandLine::Challenge(command) => command.answer(alloc, files, out),
+            CommandLine::Vendor(command) => command.answer(alloc, files, out),
             CommandLine::Check(command) => command.answer(alloc, files, out),
             CommandLine::Balance(command) => command.answer(alloc, files, out),
         }

@@ -2,7 +2,7 @@
 ghost use Rattle.std.specs.Prelude.{◌++◌, codes};
 ghost use Rattle.std.specs.Fmt.{decimal};
 ghost use Rattle.sm_io.specs.Sink.{Puts};
-ghost use Rattle.sm_cli.specs.Faults.{arms_fault_text, fault_text, image_fault_text, schedule_fault_text, table_fault_text};
+ghost use Rattle.sm_cli.specs.Faults.{challenge_fault_text, fault_text, image_fault_text, schedule_fault_text, table_fault_text, trace_fault_text, arms_fault_text};
 ghost use Rattle.sm_cli.specs.Refusal.{line_of};
 
 use crate::answers::Refused;
@@ -12,6 +12,7 @@ use image_text::ImageFault;
 use mod_layout::TableFault;
 use schedule_file::ScheduleFault;
 use sm_io::{Failed, Sink, put_all};
+use vendor_tool::{ChallengeFault, TraceFault};
 
 // Puts a name and a number.
 fn put_field<S: Sink>(sink: &mut S, name: &[u8], number: u64) -> Result<(), Failed>
@@ -75,6 +76,27 @@ fn put_schedule_fault<S: Sink>(sink: &mut S, fault: ScheduleFault) -> Result<(),
     }
 }
 
+fn put_challenge_fault<S: Sink>(sink: &mut S, fault: ChallengeFault) -> Result<(), Failed>
+    ensures { Puts S.taken S.faults S.sure sink.old sink.new (challenge_fault_text fault) result }
+{
+    match fault {
+        ChallengeFault::TooMany => put_all(sink, b"TooMany"),
+        ChallengeFault::Line { n } => put_field(sink, b"Line ", n),
+        ChallengeFault::NotRising { n } => put_field(sink, b"NotRising ", n),
+        ChallengeFault::NoMemory => put_all(sink, b"NoMemory"),
+    }
+}
+
+fn put_trace_fault<S: Sink>(sink: &mut S, fault: TraceFault) -> Result<(), Failed>
+    ensures { Puts S.taken S.faults S.sure sink.old sink.new (trace_fault_text fault) result }
+{
+    match fault {
+        TraceFault::Line { n } => put_field(sink, b"Line ", n),
+        TraceFault::NoEnd => put_all(sink, b"NoEnd"),
+        TraceFault::NoMemory => put_all(sink, b"NoMemory"),
+    }
+}
+
 fn put_arms_fault<S: Sink>(sink: &mut S, fault: ArmsFault) -> Result<(), Failed>
     ensures { Puts S.taken S.faults S.sure sink.old sink.new (arms_fault_text fault) result }
 {
@@ -95,6 +117,8 @@ fn put_fault<S: Sink>(sink: &mut S, fault: FileFault) -> Result<(), Failed>
         FileFault::Image(fault) => put_image_fault(sink, fault),
         FileFault::NoModule { id } => put_field(sink, b"NoModule ", u64::from(id)),
         FileFault::Schedule(fault) => put_schedule_fault(sink, fault),
+        FileFault::Challenges(fault) => put_challenge_fault(sink, fault),
+        FileFault::Trace(fault) => put_trace_fault(sink, fault),
         FileFault::Arms(fault) => put_arms_fault(sink, fault),
     }
 }

@@ -5,7 +5,7 @@ ghost use Rattle.sm_io.specs.Faults.{HasCause};
 ghost use Rattle.mod_layout.specs.Table.{module_of};
 ghost use Rattle.mod_layout.specs.Tables.{IsModule};
 ghost use Rattle.sm_cli.specs.Content.{IsContentRefusal};
-ghost use Rattle.sm_cli.specs.Files.{Kind, Held, an_image, a_schedule, certificates, arms_file, image_file, image_with, schedule_file, need, schedule_needs, HasFile, IsHeld, Holds, IsScheduleOf, most_bytes};
+ghost use Rattle.sm_cli.specs.Files.{Kind, Held, an_image, a_schedule, the_challenges, the_replies, image_file, image_with, schedule_file, challenges_file, trace_file, need, schedule_needs, HasFile, IsHeld, Holds, IsScheduleOf, most_bytes, certificates, arms_file};
 ghost use Rattle.sm_cli.specs.Serve.{IsNeedCause};
 
 use crate::answers::Refused;
@@ -16,6 +16,7 @@ use mod_layout::Module;
 use schedule_file::{Schedule, ScheduleFault};
 use sm_io::{Files, ReadFault, read_whole};
 use std::alloc::Global;
+use vendor_tool::{ChallengeFault, Challenges, TraceFault, read_challenges, read_replies};
 
 /// What a file of one kind holds.
 pub trait Content: Drop {
@@ -55,6 +56,40 @@ impl Content for Schedule {
             Ok(schedule) => Ok(schedule),
             Err(ScheduleFault::NoMemory) => Err(Refusal::NoMemory),
             Err(fault) => Err(Refusal::BadFile(FileFault::Schedule(fault))),
+        }
+    }
+}
+
+impl Content for Challenges {
+    ghost kind = { challenges_file };
+
+    ghost held = { λ challenges. the_challenges challenges.list.items };
+
+    fn examine(alloc: Global, bytes: Vec<u8>) -> Result<Self, Refusal> {
+        match read_challenges(alloc, &bytes) {
+            Ok(challenges) => Ok(challenges),
+            Err(ChallengeFault::NoMemory) => Err(Refusal::NoMemory),
+            Err(fault) => Err(Refusal::BadFile(FileFault::Challenges(fault))),
+        }
+    }
+}
+
+/// The bytes that a trace says were sent.
+#[derive(Drop)]
+pub struct Replies {
+    pub sent: Vec<u8>,
+}
+
+impl Content for Replies {
+    ghost kind = { trace_file };
+
+    ghost held = { λ replies. the_replies replies.sent.items };
+
+    fn examine(alloc: Global, bytes: Vec<u8>) -> Result<Self, Refusal> {
+        match read_replies(alloc, &bytes) {
+            Ok(sent) => Ok(Replies { sent }),
+            Err(TraceFault::NoMemory) => Err(Refusal::NoMemory),
+            Err(fault) => Err(Refusal::BadFile(FileFault::Trace(fault))),
         }
     }
 }

@@ -1,0 +1,55 @@
+-- `vendor IMAGE ID PROVIDER CHALLENGES TRACE`: a vendor's report on the replies to its challenges.
+use Rattle.std.specs.Prelude.{ℕ, Bool, true, false, List, [], ◌∷◌, Option, Some, None, option_and_then}
+use Rattle.std.specs.Option.{option_map}
+use Rattle.texts.specs.Hexadecimals.{read_hex_key}
+use Rattle.mod_layout.specs.declared.Module.{Module}
+use Rattle.mod_layout.specs.Table.{module_of}
+use Rattle.mod_keys.specs.Keys.{module_key_from}
+use Rattle.image_text.specs.Image.{Image}
+use Rattle.vendor_tool.specs.declared.Challenge.{Challenge}
+use Rattle.vendor_tool.specs.Report.{report_text, all_genuine}
+use Rattle.sm_cli.specs.declared.answers.Status.{Status}
+use Rattle.sm_cli.specs.declared.answers.Status.TheVariants as status
+use Rattle.sm_cli.specs.declared.commands.vendor.VendorCommand.{VendorCommand}
+use Rattle.sm_cli.specs.Words.{Text}
+use Rattle.sm_cli.specs.Arguments.{id_of}
+use Rattle.sm_cli.specs.Files.{Held, an_image, the_challenges, the_replies, image_with, challenges_file, trace_file, Need, need}
+use Rattle.sm_cli.specs.Command.{Answer, Outcome, gives, no_outcome, Command}
+use Rattle.sm_cli.specs.KeyCommand.{module_text}
+
+-- the status of a report where all are genuine, or not
+abbrev pub report_status : Bool → Status
+report_status true = status.Done
+report_status false = status.CheckNo
+
+-- the report under a key
+abbrev pub report_answer : List ℕ → List Challenge → List ℕ → Answer
+report_answer key challenges sent = record { text = report_text key challenges sent; status = report_status (all_genuine key challenges sent) }
+
+-- the key of a module in an image, under the key of its vendor
+abbrev pub key_under : List ℕ → Image → Module → List ℕ
+key_under provider value m = module_key_from provider m (module_text value m)
+
+abbrev pub report_by : List ℕ → Image → List Challenge → List ℕ → Option Module → Outcome
+report_by provider value challenges sent (Some m) = gives (report_answer (key_under provider value m) challenges sent)
+report_by provider value challenges sent None = no_outcome
+
+abbrev pub vendor_outcome : ℕ → List ℕ → List Held → Outcome
+vendor_outcome id provider (an_image value ∷ the_challenges list ∷ the_replies sent ∷ []) = report_by provider value list sent (module_of id value.table)
+vendor_outcome id provider _ = no_outcome
+
+-- the files of challenges and of a trace
+abbrev pub exchange_needs : Text → Text → List Need
+exchange_needs challenges trace = need challenges challenges_file ∷ need trace trace_file ∷ []
+
+abbrev pub vendor_command : Text → Text → Text → ℕ → List ℕ → Command
+vendor_command image challenges trace id provider = record { needs = need image (image_with id) ∷ exchange_needs challenges trace; outcome = vendor_outcome id provider }
+
+abbrev pub vendor_of : List Text → Option Command
+vendor_of (image ∷ id ∷ provider ∷ challenges ∷ trace ∷ []) =
+    option_and_then (λ n. option_map (λ key. vendor_command image challenges trace n key) (read_hex_key provider)) (id_of id)
+vendor_of _ = None
+
+-- what the program's value asks for
+abbrev pub vendor_asked : VendorCommand → Command
+vendor_asked c = vendor_command c.image.now c.challenges.now c.trace.now c.id c.provider
