@@ -1,5 +1,5 @@
 -- The command of the words after the program's name.
-use Rattle.std.specs.Prelude.{◌≡◌, ◌≤◌, ◌%◌, List, [], ◌∷◌, Option, None, option_and_then, codes, if◌then◌else◌}
+use Rattle.std.specs.Prelude.{◌≡◌, ◌≤◌, ◌%◌, List, [], ◌∷◌, Option, None, option_and_then, codes, if◌then◌else◌, length}
 use Rattle.std.specs.Str.{bytes_eq}
 use Rattle.sm_cli.specs.declared.commands.CommandLine.{CommandLine}
 use Rattle.sm_cli.specs.declared.commands.CommandLine.TheVariants as line
@@ -9,6 +9,8 @@ use Rattle.sm_cli.specs.Command.{Command}
 use Rattle.sm_cli.specs.ImageCommand.{image_of, image_asked}
 use Rattle.sm_cli.specs.KeyCommand.{key_of, key_asked}
 use Rattle.sm_cli.specs.DisCommand.{dis_of, dis_asked}
+use Rattle.sm_cli.specs.LinkCommand.{link_of, link_asked}
+use Rattle.sm_cli.specs.RunCommand.{run_of, run_asked}
 
 -- by the first word, with the fewest and the most values that may follow
 abbrev pub command_by : Text → List Text → Option Command
@@ -16,6 +18,8 @@ command_by name words =
     if bytes_eq name (codes "image") then option_and_then image_of (values_in 3 3 words)
     else if bytes_eq name (codes "key") then option_and_then key_of (values_in 2 2 words)
     else if bytes_eq name (codes "dis") then option_and_then dis_of (values_in 3 3 words)
+    else if bytes_eq name (codes "link") then option_and_then link_of (values_in 2 65 words)
+    else if bytes_eq name (codes "run") then option_and_then run_of (values_in 4 67 words)
     else None
 
 -- what the words ask for, or none
@@ -28,9 +32,13 @@ abbrev pub asked : CommandLine → Command
 asked (line.Image c) = image_asked c
 asked (line.Key c) = key_asked c
 asked (line.Dis c) = dis_asked c
+asked (line.Link c) = link_asked c
+asked (line.Run c) = run_asked c
 
 -- its numbers are within their bounds
 abbrev pub IsBounded : CommandLine → Type 0
 IsBounded (line.Image c) = c.cycles ≤ MAX_CYCLES
 IsBounded (line.Key c) = Unit {0}
 IsBounded (line.Dis c) = c.start % 2 ≡ 0
+IsBounded (line.Link c) = length c.objects.items ≤ 64
+IsBounded (line.Run c) = (length c.objects.items ≤ 64) × (c.cycles ≤ MAX_CYCLES)

@@ -7,6 +7,9 @@ use Rattle.image_text.specs.ImageText.{image_text}
 use Rattle.image_text.specs.Refusal.{refusal_of}
 use Rattle.schedule_file.specs.declared.Entry.{Entry}
 use Rattle.schedule_file.specs.Reading.{schedule_of}
+use Rattle.layout_file.specs.Layout.{LayoutOf}
+use Rattle.layout_file.specs.Values.{LayoutValue}
+use Rattle.elf_objects.specs.Object.{ObjectValue, IsObject, elf_fault_of}
 use Rattle.sm_cli.specs.declared.answers.FileFault.{FileFault}
 use Rattle.sm_cli.specs.declared.answers.FileFault.TheVariants as fault
 
@@ -16,11 +19,15 @@ pub data Kind : Type 0 where
   -- an image that holds a module with this id
   image_with : (id : ℕ) → Kind
   schedule_file : Kind
+  layout_file : Kind
+  object_file : Kind
 
 -- what a file that serves holds
 pub data Held : Type 0 where
   an_image : (value : Image) → Held
   a_schedule : (entries : List Entry) → Held
+  a_layout : (layout : LayoutValue) → Held
+  an_object : (object : ObjectValue) → Held
 
 -- the bytes are the text of this image
 pub record IsTextOf (bytes : List ℕ) (value : Image) : Type 0 where
@@ -32,6 +39,8 @@ abbrev pub IsHeld : Kind → List ℕ → Held → Type 0
 IsHeld image_file bytes (an_image value) = IsTextOf bytes value
 IsHeld (image_with id) bytes (an_image value) = IsTextOf bytes value × (is_some (module_of id value.table) ≡ true)
 IsHeld schedule_file bytes (a_schedule entries) = schedule_of bytes ≡ Ok entries
+IsHeld layout_file bytes (a_layout layout) = LayoutOf bytes ≡ Ok layout
+IsHeld object_file bytes (an_object object) = IsObject object × (object.file ≡ bytes)
 IsHeld _ bytes _ = ⊥
 
 -- an image's bytes hold no module with this id
@@ -46,6 +55,8 @@ IsRefused image_file bytes (fault.Image refusal) = refusal_of bytes ≡ Some ref
 IsRefused (image_with id) bytes (fault.Image refusal) = refusal_of bytes ≡ Some refusal
 IsRefused (image_with id) bytes (fault.NoModule other) = (other ≡ id) × HasNoModule bytes id
 IsRefused schedule_file bytes (fault.Schedule refusal) = schedule_of bytes ≡ Err refusal
+IsRefused layout_file bytes (fault.Layout refusal) = LayoutOf bytes ≡ Err refusal
+IsRefused object_file bytes (fault.Object refusal) = elf_fault_of bytes ≡ Some refusal
 IsRefused _ bytes _ = ⊥
 
 -- a file has at most so many bytes
@@ -106,3 +117,8 @@ schedule_needs (Some name) = need name schedule_file ∷ []
 abbrev pub IsScheduleOf : Option FileMap → Option (List ℕ) → List Entry → Type 0
 IsScheduleOf files None entries = entries ≡ []
 IsScheduleOf files (Some name) entries = Holds files (need name schedule_file) (a_schedule entries)
+
+-- the files of objects
+abbrev pub object_needs : List (List ℕ) → List Need
+object_needs [] = []
+object_needs (name ∷ names) = need name object_file ∷ object_needs names

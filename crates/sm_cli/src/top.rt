@@ -16,10 +16,11 @@ ghost use Rattle.sm_cli.specs.CommandLine.{command_of};
 ghost use Rattle.sm_cli.specs.Files.{IsFirstFault};
 ghost use Rattle.sm_cli.specs.ImageCommand.{run_status};
 ghost use Rattle.sm_cli.specs.Input.{IsInput};
+ghost use Rattle.sm_cli.specs.NameText.{name_text};
 ghost use Rattle.sm_cli.specs.Refusal.{status_of, line_of};
 ghost use Rattle.sm_cli.specs.Serve.{texts, call_of, Serves, Refuses, IsOrOutside, IsRoomForAnswer, IsRoomForLine, Completes};
 
-use crate::answers::Refused;
+use crate::answers::{Name, Refused};
 use crate::commands::{Answering, read_command};
 use crate::lines::put_refusal;
 use crate::{Refusal, Status};
@@ -91,8 +92,8 @@ pub fn serve<F: Files, O: Sink, E: Sink>(
     isolation::texts();
     let command = match read_command(alloc, words) {
         Ok(Some(command)) => command,
-        Ok(None) => return tell(err, NO_COMMAND),
-        Err(_) => return tell(err, NO_ROOM),
+        Ok(None) => return tell(err, Refused { refusal: Refusal::Usage, name: Name::Word("") }),
+        Err(_) => return tell(err, Refused { refusal: Refusal::NoMemory, name: Name::Word("") }),
     };
     match command.answer(alloc, files, out) {
         Ok(status) => status,
@@ -100,24 +101,12 @@ pub fn serve<F: Files, O: Sink, E: Sink>(
     }
 }
 
-// The refusal of words that are no command.
-const NO_COMMAND: Refused<'static> = Refused {
-    refusal: Refusal::Usage,
-    name: "",
-};
-
-// The refusal of words for which there was no memory.
-const NO_ROOM: Refused<'static> = Refused {
-    refusal: Refusal::NoMemory,
-    name: "",
-};
-
 // Puts the line of a refusal, and gives its status.
 fn tell<E: Sink>(err: &mut E, refused: Refused<'_>) -> Status
-    ensures told { (result ≡ status_of refused.entry.refusal) × Took E.taken E.faults E.sure err.old err.new (line_of refused.entry.refusal refused.entry.name.now)
-        ⊎ ((result ≡ Status.WriteFault) × CutOff E.taken E.faults E.sure err.old err.new (line_of refused.entry.refusal refused.entry.name.now)) }
+    ensures told { (result ≡ status_of refused.entry.refusal) × Took E.taken E.faults E.sure err.old err.new (line_of refused.entry.refusal (name_text refused.entry.name))
+        ⊎ ((result ≡ Status.WriteFault) × CutOff E.taken E.faults E.sure err.old err.new (line_of refused.entry.refusal (name_text refused.entry.name))) }
 {
-    match put_refusal(err, refused) {
+    match put_refusal(err, &refused) {
         Ok(()) => status_for(refused.refusal),
         Err(Failed) => Status::WriteFault,
     }
@@ -130,6 +119,7 @@ fn status_for(refusal: Refusal) -> Status
         Refusal::Usage => Status::Usage,
         Refusal::BadFile(_) => Status::BadFile,
         Refusal::CannotRead => Status::ReadFault,
+        Refusal::Link(_) => Status::LinkRefused,
         Refusal::NoMemory => Status::NoMemory,
     }
 }
