@@ -5,3 +5,4 @@ pub mod Asked
 pub mod Through
 pub mod Lone
 pub mod Bench
+pub mod LoneLaws

@@ -5,6 +5,7 @@
 
 mod accesses;
 mod effect;
+pub mod laws;
 mod operand;
 mod port;
 mod result;
@@ -13,6 +14,8 @@ mod step;
 mod tests;
 
 pub use accesses::plan;
+pub use effect::{Stored, does};
 pub use pc_access::{Access, Kind};
 pub use port::Port;
+pub use result::{Computed, one_result, two_result};
 pub use step::execute;

@@ -14,8 +14,8 @@ mod tests;
 /// The most words that a stub has: 38 and a table of 64 entries.
 const MOST_WORDS: usize = 102;
 
-// The words before the table.
-fn front(text: Section, data_start: u16, count: u16, stack_end: u16) -> [u16; 38]
+/// The words before the table, of a stub with so many entries whose private stack ends there.
+pub fn front(text: Section, data_start: u16, count: u16, stack_end: u16) -> [u16; 38]
     requires data { data_start + 2 ≤ 65535 }
     requires text { text.start + 76 ≤ 65535 }
     ensures { result ≡ stub_front text.start text.end data_start count stack_end }

@@ -1,5 +1,5 @@
 -- The line that says how many modules follow.
-use Rattle.std.proofs.Common.{◌≡◌, ℕ, ◌++◌, List, ◌∷◌, length, take, drop, nat_eq, Bool, true, false, cond, Option, Some, None, codes, refl, sym, ap, subst, ◌∙◌, lit<}
+use Rattle.std.proofs.Common.{◌≡◌, ℕ, ◌++◌, List, length, take, drop, nat_eq, Bool, true, false, cond, Option, Some, None, codes, refl, sym, ap, subst, ◌∙◌, lit<}
 use Rattle.std.specs.List.{starts_with}
 use Rattle.std.proofs.lemmas.List.{take-append-drop}
 use Rattle.std.proofs.lemmas.Slice.Eq.{bytes_eq-Decides}
@@ -10,7 +10,7 @@ use Rattle.mod_layout.specs.Table.{empty_table}
 use Rattle.image_text.specs.declared.numbers.TheConstants.{MAX_COUNT}
 use Rattle.image_text.specs.ImageText.{ended, count_line}
 use Rattle.image_text.specs.Refusal.{past, count_of, counted, count_refusal, modules_refusal}
-use Rattle.image_text.specs.Reading.{Unread, on, ReadLine, PassedCount}
+use Rattle.image_text.specs.Reading.{Unread, ReadLine, PassedCount}
 use Rattle.image_text.proofs.StageLemmas.{line_on, next_on}
 
 -- a text that begins so

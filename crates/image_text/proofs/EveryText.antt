@@ -1,5 +1,5 @@
 -- Bytes of which no refusal holds are some image's text: the image is gathered line by line.
-use Rattle.std.proofs.Common.{◌≡◌, ◌⊎◌, inl, inr, ⊎_elim, ℕ, zero, suc, ◌+◌, ◌-◌, ◌*◌, ◌%◌, ◌<◌, ◌≤◌, List, [], ◌∷◌, ◌++◌, length, take, drop, replicate, slice_index, Bool, true, false, cond, ◌==◌, nat_eq, is_none, codes, Option, Some, None, position, refl, sym, ap, ◌∙◌, subst, arith, length-append}
+use Rattle.std.proofs.Common.{◌≡◌, ◌⊎◌, inl, inr, ⊎_elim, ℕ, zero, suc, ◌+◌, ◌-◌, ◌%◌, ◌<◌, List, [], ◌∷◌, ◌++◌, length, take, drop, replicate, slice_index, Bool, true, false, cond, ◌==◌, nat_eq, is_none, codes, Option, Some, None, position, refl, sym, ap, ◌∙◌, subst, arith, length-append}
 use Rattle.std.specs.Cmp.Lexicographic.{pointwise}
 use Rattle.std.specs.List.{starts_with}
 use Rattle.std.proofs.lemmas.Bool.Decides.{nat_tests}
@@ -14,16 +14,16 @@ use Rattle.mod_layout.proofs.TableLemmas.{table_more}
 use Rattle.image_text.specs.declared.numbers.TheConstants.{MAX_VERSION}
 use Rattle.image_text.specs.declared.ImageFault.{ImageFault}
 use Rattle.image_text.specs.declared.ImageFault.TheVariants.{Line, Twice}
-use Rattle.image_text.specs.Image.{Image, IsImage}
-use Rattle.image_text.specs.ImageText.{ended, first_line, key_line, handler_line, end_line, image_text}
+use Rattle.image_text.specs.Image.{Image}
+use Rattle.image_text.specs.ImageText.{ended, first_line, key_line, handler_line, end_line}
 use Rattle.image_text.specs.Refusal.{Spot, past, line_fault, has_form, bad_digit, digit_or, formed, key_form, handler_form, module_form, row_form, bytes_at, word_at, section_at, count_of, counted, count_refusal, modules_refusal, handler_refusal, key_refusal, version_or_line, version_refusal, first_refusal, end_refusal, is_row, placed, rows_refusal, taken, added, one_less, refusal_of}
-use Rattle.image_text.specs.Reading.{Unread, on, ReadLine, HasForm, IsCountOf, count_part, PassedCount, due_next, AddsModule, ModulesSoFar, PassedModules, AddsRow, RowsSoFar, PassedMemory}
+use Rattle.image_text.specs.Reading.{Unread, on, ReadLine, HasForm, PassedCount, due_next, AddsModule, ModulesSoFar, PassedModules, RowsSoFar, PassedMemory}
 use Rattle.image_text.specs.Laws.{Complete}
 use Rattle.image_text.proofs.FormLemmas.{has_form_of}
 use Rattle.image_text.proofs.LineTexts.{key_line_of, handler_line_of}
 use Rattle.image_text.proofs.CountLines.{passed_count}
-use Rattle.image_text.proofs.StageLemmas.{Stage, line_on, next_on, none_due, due_line, past_module, modules_more, modules_done, modules_none, not_ended_yet}
-use Rattle.image_text.proofs.RowTexts.{row_on, row_placed, adds_row, rows_more, rows_none, rows_done}
+use Rattle.image_text.proofs.StageLemmas.{Stage, line_on, next_on, due_line, past_module, modules_more, modules_done, modules_none, not_ended_yet}
+use Rattle.image_text.proofs.RowTexts.{row_on, adds_row, rows_more, rows_none, rows_done}
 use Rattle.image_text.proofs.WholeText.{whole_text, whole_image}
 
 -- ---- a line

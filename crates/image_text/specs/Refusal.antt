@@ -1,6 +1,6 @@
 -- Why bytes are no image's text: the first line that does not serve.
-use Rattle.std.specs.Prelude.{ℕ, ◌+◌, ◌-◌, ◌*◌, ◌%◌, ◌==◌, nat_lt, nat_le, if◌then◌else◌, Bool, true, false, not, ◌&&◌, ◌||◌, List, [], ◌∷◌, ◌++◌, length, drop, fold, nat_eq, slice_range, codes, unwrap_or, Option, Some, None}
-use Rattle.std.specs.List.{list_all, starts_with}
+use Rattle.std.specs.Prelude.{ℕ, ◌+◌, ◌-◌, ◌*◌, ◌%◌, ◌==◌, nat_lt, if◌then◌else◌, Bool, true, false, not, ◌&&◌, List, [], ◌∷◌, length, drop, nat_eq, slice_range, codes, unwrap_or, Option, Some, None}
+use Rattle.std.specs.List.{starts_with}
 use Rattle.std.specs.Cmp.Lexicographic.{pointwise}
 use Rattle.texts.specs.Decimals.{read_decimal}
 use Rattle.texts.specs.Hexadecimals.{is_hex_digit, read_hex, read_hex_word}

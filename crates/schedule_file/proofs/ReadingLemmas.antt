@@ -1,9 +1,6 @@
 -- Lemmas on the lines of a text, and on what they give.
-use Rattle.std.proofs.Common.{ℕ, suc, ◌≡◌, ◌+◌, ◌-◌, ◌<◌, ◌≤◌, Bool, true, false, not, cond, List, [], ◌∷◌, ◌++◌, length, take, drop, refl, ap, sym, arith, nat_eq, nat_lt, append_assoc, Option, Some, None, Result, Ok, Err, position}
-use Rattle.std.specs.List.{position_or_len}
+use Rattle.std.proofs.Common.{ℕ, ◌≡◌, ◌+◌, ◌≤◌, false, List, [], ◌∷◌, ◌++◌, refl, ap, sym, arith, nat_eq, nat_lt, append_assoc, Some, Result, Ok, Err}
 use Rattle.std.proofs.lemmas.Bool.Decides.{nat_tests}
-use Rattle.std.proofs.lemmas.List.{take_all, length-drop}
-use Rattle.std.proofs.lemmas.List.Sums.{prefix_len-le-length}
 use Rattle.schedule_file.specs.declared.Entry.{Entry}
 use Rattle.schedule_file.specs.declared.ScheduleFault.{ScheduleFault}
 use Rattle.schedule_file.specs.declared.ScheduleFault.TheVariants.{TooMany}

@@ -148,6 +148,22 @@ module _ (r : Refusal) (name : List ℕ) (ended : Status) (took cut : List ℕ �
       by refusal.CannotRead h e = no_read h.1.1
       by refusal.NoMemory h e = some e
 
+-- a run does not end as words that are no command do
+pub run_not_usage : (files : Option FileMap) (own : Command) (ended : Status) (took cut : List ℕ → Type 0) → IsRun files own ended took cut → ended ≡ status.Usage → ⊥
+run_not_usage files own ended took cut r e = subst (λ t. EndsAs t r.answer took cut) e r.ends
+
+-- nor does a refusal by files
+pub refused_not_usage : (r : Refusal) (name : List ℕ) (ended : Status) (took cut : List ℕ → Type 0) (files : Option FileMap) (before after : ℕ) (needs : List Need)
+    → IsNeedCause files before after needs r name → Told r name ended took cut → ended ≡ status.Usage → ⊥
+refused_not_usage r name ended took cut files before after needs f (inr t) e = let clash = sym t.0 ∙ e in cc
+refused_not_usage r name ended took cut files before after needs f (inl t) e = by r f (sym t.0 ∙ e)
+  where
+    by : (q : Refusal) → IsNeedCause files before after needs q name → status_of q ≡ status.Usage → ⊥
+    by refusal.Usage h e = h
+    by (refusal.BadFile fault) h e = cc
+    by refusal.CannotRead h e = cc
+    by refusal.NoMemory h e = cc
+
 -- want of memory before any file was read
 pub no_memory_completes : (name : List ℕ) (ended : Status) (took cut : List ℕ → Type 0) (answer : Answer) (whole part : List ℕ → Type 0) (told : Type 0)
     → Told refusal.NoMemory name ended took cut → (ended ≡ status.WriteFault → told) → Completes ended answer whole part told

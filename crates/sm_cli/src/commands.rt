@@ -46,6 +46,7 @@ pub trait Answering {
         ensures nothing { IfErr result (λ _. out.new ≡ out.old) }
         ensures sound { IsTrue (F.sound files.old) → F.faults files.new ≡ F.faults files.old }
         ensures sound_read { IsTrue (F.sound files.old) → IfErr result (λ refused. refused.refusal ≢ CannotRead) }
+        ensures same_sound { F.sound files.new ≡ F.sound files.old }
         ensures same_files { F.content files.new ≡ F.content files.old };
 }
 

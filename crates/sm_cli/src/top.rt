@@ -85,7 +85,9 @@ pub fn serve<F: Files, O: Sink, E: Sink>(
     ensures sure { IsTrue (F.sound files.old) → IsRoomForAnswer (texts words.now) (F.content files.old) (O.sure out.old)
         → IsRoomForLine (call_of (texts words.now) (F.content files.old) (F.faults files.old) (F.faults files.new)) (E.sure err.old)
         → (result ≢ Status.WriteFault) × (O.faults out.new ≡ O.faults out.old) × (E.faults err.new ≡ E.faults err.old) }
+    ensures same_sound { F.sound files.new ≡ F.sound files.old }
     ensures same_files { F.content files.new ≡ F.content files.old }
+    ensures unread { result ≡ Status.Usage → files.new ≡ files.old }
 {
     // These do nothing: their clauses are the laws of two runs, for the headline's second half.
     isolation::two_runs();

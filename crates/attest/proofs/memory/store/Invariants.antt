@@ -9,6 +9,6 @@ use Rattle.attest.proofs.memory.store.Given as goal
 abbrev pub invariant-loop-i : goal.invariant-loop-i
 invariant-loop-i l = record {
   stored : stored_in l.fn.memory.bytes (each_byte Write l.addr 16) l.tag
-    ≡ stored_in l.memory.bytes (each_byte Write (l.addr + l.i) (16 - l.i)) (drop l.i l.tag);
+      ≡ stored_in l.memory.bytes (each_byte Write (l.addr + l.i) (16 - l.i)) (drop l.i l.tag);
   marks : SameMarks l.fn.memory l.memory;
 }

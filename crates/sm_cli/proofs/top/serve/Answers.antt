@@ -5,7 +5,7 @@ use Rattle.sm_cli.specs.CommandLine.{asked, command_of}
 use Rattle.sm_cli.specs.ImageCommand.{image_command, trace_answer}
 use Rattle.sm_cli.specs.Serve.{texts, call_of}
 use Rattle.sm_cli.specs.declared.answers.Refusal.TheVariants as refusal
-use Rattle.sm_cli.proofs.Serving.{input_answer, when_cut, run_ends, run_no_fault, ends_complete, told_in_part, cause_of, refused_completes, refused_outside, no_memory_completes, cut_rose, run_sure, run_whole}
+use Rattle.sm_cli.proofs.Serving.{run_not_usage, refused_not_usage, input_answer, when_cut, run_ends, run_no_fault, ends_complete, told_in_part, cause_of, refused_completes, refused_outside, no_memory_completes, cut_rose, run_sure, run_whole}
 use Rattle.sm_cli.proofs.top.serve.Goals as goal
 
 -- a run
@@ -112,3 +112,14 @@ returns-in-Err-answer-clause-headline g c = λ value entries cycles i no_read no
     words files i.map (g.F.Files.faults c.args.files.now) (g.F.Files.faults c.answer.new.files) (asked c.in-Ok-Some.command) (image_command i.name i.schedule cycles) (trace_answer value entries cycles)
     i.told some i.command (input_answer words files value entries cycles i) c.in-Err-answer.ensures.refused room no_read
     (λ cut. no_err (cut_rose g.E.Sink.taken g.E.Sink.faults g.E.Sink.sure c.args.err.now c.tell-in-Err-answer.new.err _ cut)) c.tell-in-Err-answer.ensures.told)
+
+-- with Usage no file was read
+
+pub returns-in-Ok-clause-unread : goal.returns-in-Ok-clause-unread
+returns-in-Ok-clause-unread g c = λ e. absurd (run_not_usage (g.F.Files.content c.args.files.now) (asked c.in-Ok-Some.command) c.in-Ok.status _ _ c.in-Ok.ensures.ok e)
+
+pub returns-in-Err-answer-clause-unread : goal.returns-in-Err-answer-clause-unread
+returns-in-Err-answer-clause-unread g c = λ e.
+    let r = c.in-Err-answer.refused in
+    absurd (refused_not_usage r.refusal r.name.now c.tell-in-Err-answer.result (Took g.E.Sink.taken g.E.Sink.faults g.E.Sink.sure c.args.err.now c.tell-in-Err-answer.new.err) (CutOff g.E.Sink.taken g.E.Sink.faults g.E.Sink.sure c.args.err.now c.tell-in-Err-answer.new.err)
+    (g.F.Files.content c.args.files.now) (g.F.Files.faults c.args.files.now) (g.F.Files.faults c.answer.new.files) (asked c.in-Ok-Some.command).needs c.in-Err-answer.ensures.refused c.tell-in-Err-answer.ensures.told e)

@@ -1,0 +1,145 @@
+-- How the time of an arm is told step by step.
+use Rattle.std.proofs.Common.{nat_le, subst, eq-eqb, ◌≡◌, ◌≢◌, ◌<◌, ◌≤◌, ℕ, zero, suc, ◌+◌, ◌*◌, ◌==◌, nat_lt, cond, Bool, true, false, ◌&&◌, List, Option, Some, None, Result, Ok, Err, refl, sym, ◌∙◌, ap, arith}
+use Rattle.std.proofs.lemmas.Bool.Decides.{nat_tests}
+use Rattle.sm_words.specs.Words.{add16}
+use Rattle.insn_decode.specs.Code.{length_of, distance}
+use Rattle.insn_decode.specs.declared.insn.Insn.{Insn}
+use Rattle.insn_decode.specs.declared.insn.Insn.TheVariants.{Two, One, Jump, Reti, Unit as UnitOp}
+use Rattle.insn_decode.specs.declared.insn.OneOp.TheVariants.{Rrc, Swpb, Rra, Sxt, Push, Call}
+use Rattle.insn_decode.specs.declared.insn.Operand.{Operand}
+use Rattle.cycle_table.specs.Cycles.{cycles_of}
+use Rattle.mod_layout.specs.declared.Section.{Section}
+use Rattle.mod_layout.specs.Table.{holds}
+use Rattle.arm_balance.specs.Met.{met}
+use Rattle.arm_balance.specs.Balance.{not_pc, next_if, ends_by, arm_next, arm_on, met_cycles, with_rest, time_on, time_from, time_of}
+
+-- ---- where an arm goes on
+
+pub on_at : (s : Section) (text : List ℕ) (pc join next : ℕ) (insn : Insn) → holds s pc ≡ true → pc < join → met s text pc ≡ Some insn → arm_next join pc (Some insn) ≡ Some next → arm_on s text join pc ≡ Some next
+on_at s text pc join next insn h l m n =
+    ap (λ b. cond (b && nat_lt pc join) (arm_next join pc (met s text pc)) None) h
+    ∙ ap (λ b. cond (true && b) (arm_next join pc (met s text pc)) None) (let t : nat_lt pc join ≡ true = grind (arith, nat_tests) in t)
+    ∙ ap (λ o. arm_next join pc o) m ∙ n
+
+pub on_far : (s : Section) (text : List ℕ) (pc join : ℕ) → (holds s pc && nat_lt pc join) ≡ false → arm_on s text join pc ≡ None
+on_far s text pc join e = ap (λ b. cond b (arm_next join pc (met s text pc)) None) e
+
+pub on_unmet : (s : Section) (text : List ℕ) (pc join : ℕ) → met s text pc ≡ None → arm_on s text join pc ≡ None
+on_unmet s text pc join m = by (holds s pc && nat_lt pc join)
+  where
+    by : (b : Bool) → cond b (arm_next join pc (met s text pc)) None ≡ None
+    by true = ap (λ o. arm_next join pc o) m
+    by false = refl
+
+pub on_stop : (s : Section) (text : List ℕ) (pc join : ℕ) (insn : Insn) → met s text pc ≡ Some insn → arm_next join pc (Some insn) ≡ None → arm_on s text join pc ≡ None
+on_stop s text pc join insn m n = by (holds s pc && nat_lt pc join)
+  where
+    by : (b : Bool) → cond b (arm_next join pc (met s text pc)) None ≡ None
+    by true = ap (λ o. arm_next join pc o) m ∙ n
+    by false = refl
+
+-- ---- it goes up
+
+next_up : (b : Bool) (pc a join next : ℕ) → (b ≡ true → (pc < a) × (a ≤ join)) → next_if b a ≡ Some next → (pc < next) × (next ≤ join)
+next_up true pc a join next f e = let g : a ≡ next = cc in let h = f refl in subst (λ n. (pc < n) × (n ≤ join)) g h
+next_up false pc a join next f e = absurd (let g : ⊥ = cc in g)
+
+ends_up : (o : Operand) (insn : Insn) (join pc next : ℕ) → 1 ≤ length_of insn → ends_by o insn join pc ≡ Some next → (pc < next) × (next ≤ join)
+ends_up o insn join pc next l e =
+    next_up (not_pc o && nat_le (pc + 2 * length_of insn) join) pc (pc + 2 * length_of insn) join next (by (not_pc o)) e
+  where
+    by : (b : Bool) → (b && nat_le (pc + 2 * length_of insn) join) ≡ true → (pc < pc + 2 * length_of insn) × (pc + 2 * length_of insn ≤ join)
+    by true f = (omega arith, let g : pc + 2 * length_of insn ≤ join = grind (arith, nat_tests) in g)
+    by false f = absurd (let g : ⊥ = cc in g)
+
+insn_up : (insn : Insn) (join pc next : ℕ) → arm_next join pc (Some insn) ≡ Some next → (pc < next) × (next ≤ join)
+insn_up (Two op w s d) join pc next e = ends_up d (Two op w s d) join pc next (omega arith) e
+insn_up (One Rrc w a) join pc next e = ends_up a (One Rrc w a) join pc next (omega arith) e
+insn_up (One Swpb w a) join pc next e = ends_up a (One Swpb w a) join pc next (omega arith) e
+insn_up (One Rra w a) join pc next e = ends_up a (One Rra w a) join pc next (omega arith) e
+insn_up (One Sxt w a) join pc next e = ends_up a (One Sxt w a) join pc next (omega arith) e
+insn_up (One Push w a) join pc next e = ends_up a (One Push w a) join pc next (omega arith) e
+insn_up (One Call w a) join pc next e = absurd (let g : ⊥ = cc in g)
+insn_up (Jump c off) join pc next e = next_up ((c == 7) && nat_lt pc to && nat_le to join) pc to join next (by (c == 7) (nat_lt pc to) refl) e
+  where
+    to : ℕ
+    to = add16 (add16 pc 2) (distance off)
+
+    by : (b t : Bool) → nat_lt pc to ≡ t → (b && t && nat_le to join) ≡ true → (pc < to) × (to ≤ join)
+    by true true lt f = ((let g : pc < to = grind (arith, nat_tests) in g), (let g : to ≤ join = grind (arith, nat_tests) in g))
+    by true false lt f = absurd (let g : ⊥ = cc in g)
+    by false t lt f = absurd (let g : ⊥ = cc in g)
+insn_up Reti join pc next e = absurd (let g : ⊥ = cc in g)
+insn_up (UnitOp n) join pc next e = absurd (let g : ⊥ = cc in g)
+
+-- where an arm goes on it goes up, at most to its join
+pub on_up : (s : Section) (text : List ℕ) (join pc next : ℕ) → arm_on s text join pc ≡ Some next → (pc < next) × (next ≤ join)
+on_up s text join pc next e = by (holds s pc && nat_lt pc join) (met s text pc) e
+  where
+    by : (b : Bool) (o : Option Insn) → cond b (arm_next join pc o) None ≡ Some next → (pc < next) × (next ≤ join)
+    by true (Some insn) e = insn_up insn join pc next e
+    by true None e = absurd (let g : ⊥ = cc in g)
+    by false o e = absurd (let g : ⊥ = cc in g)
+
+-- ---- steps enough
+
+-- any number of steps is enough that is more than the addresses between here and the join
+pub enough : (s : Section) (text : List ℕ) (join f g pc : ℕ) → join < f + pc → join < g + pc → 0 < f → 0 < g → time_from s text join f pc ≡ time_from s text join g pc
+enough s text join zero g pc a b c d = absurd (omega arith)
+enough s text join (suc f) zero pc a b c d = absurd (omega arith)
+enough s text join (suc f) (suc g) pc a b c d =
+    by_here (pc == join) (λ next a b c d. enough s text join f g next a b c d)
+  where
+    Same : Type 0
+    Same = (next : ℕ) → join < f + next → join < g + next → 0 < f → 0 < g → time_from s text join f next ≡ time_from s text join g next
+
+    by_next : Same → (o : Option ℕ) → arm_on s text join pc ≡ o → time_on o (met_cycles (met s text pc)) (time_from s text join f) pc ≡ time_on o (met_cycles (met s text pc)) (time_from s text join g) pc
+    by_next same None e = refl
+    by_next same (Some next) e =
+        let u = on_up s text join pc next e in
+        let v : pc < next = u.0 in
+        let w : next ≤ join = u.1 in
+        ap (with_rest (met_cycles (met s text pc))) (same next (omega arith) (omega arith) (omega arith) (omega arith))
+
+    by_here : (t : Bool) → Same →
+        cond t (Ok 0) (time_on (arm_on s text join pc) (met_cycles (met s text pc)) (time_from s text join f) pc)
+        ≡ cond t (Ok 0) (time_on (arm_on s text join pc) (met_cycles (met s text pc)) (time_from s text join g) pc)
+    by_here true same = refl
+    by_here false same = by_next same (arm_on s text join pc) refl
+
+-- ---- the time, step by step
+
+pub with_zero : (r : Result ℕ ℕ) → with_rest 0 r ≡ r
+with_zero (Ok t) = ap (λ n. Ok n) (let e : 0 + t ≡ t = omega arith in e)
+with_zero (Err a) = refl
+
+with_more : (n k : ℕ) (r : Result ℕ ℕ) → with_rest n (with_rest k r) ≡ with_rest (n + k) r
+with_more n k (Ok t) = ap (λ n. Ok n) (let e : n + (k + t) ≡ n + k + t = omega arith in e)
+with_more n k (Err a) = refl
+
+pub time_ends : (s : Section) (text : List ℕ) (join : ℕ) → time_of s text join join ≡ Ok 0
+unfolding time_of
+time_ends s text join = ap (λ b. cond b (Ok 0) (time_on (arm_on s text join join) (met_cycles (met s text join)) (time_from s text join join) join)) (eq-eqb join join refl)
+
+away : (s : Section) (text : List ℕ) (join pc : ℕ) (o : Option ℕ) → pc ≢ join → arm_on s text join pc ≡ o → time_of s text pc join ≡ time_on o (met_cycles (met s text pc)) (time_from s text join join) pc
+unfolding time_of
+away s text join pc o ne e =
+    ap (λ b. cond b (Ok 0) (time_on (arm_on s text join pc) (met_cycles (met s text pc)) (time_from s text join join) pc)) (let f : (pc == join) ≡ false = grind (arith, nat_tests) in f)
+    ∙ ap (λ o. time_on o (met_cycles (met s text pc)) (time_from s text join join) pc) e
+
+pub time_stops : (s : Section) (text : List ℕ) (join pc total : ℕ) (r : Result ℕ ℕ) → r ≡ with_rest total (time_of s text pc join) → pc ≢ join → arm_on s text join pc ≡ None → Err pc ≡ r
+time_stops s text join pc total r e ne on = sym (e ∙ ap (with_rest total) (away s text join pc None ne on))
+
+pub time_step : (s : Section) (text : List ℕ) (join pc next total : ℕ) (insn : Insn) (r : Result ℕ ℕ) →
+    r ≡ with_rest total (time_of s text pc join) → pc ≢ join → arm_on s text join pc ≡ Some next → met s text pc ≡ Some insn → r ≡ with_rest (total + cycles_of insn) (time_of s text next join)
+unfolding time_of
+time_step s text join pc next total insn r e ne on it =
+    let u = on_up s text join pc next on in
+    let v : pc < next = u.0 in
+    let w : next ≤ join = u.1 in
+    e ∙ ap (with_rest total) (away s text join pc (Some next) ne on ∙ ap (λ o. with_rest (met_cycles o) (time_from s text join join next)) it)
+    ∙ with_more total (cycles_of insn) (time_from s text join join next)
+    ∙ ap (with_rest (total + cycles_of insn)) (enough s text join join (suc join) next (omega arith) (omega arith) (omega arith) (omega arith))
+
+pub time_done : (s : Section) (text : List ℕ) (join total : ℕ) (r : Result ℕ ℕ) → r ≡ with_rest total (time_of s text join join) → Ok total ≡ r
+time_done s text join total r e = sym (e ∙ ap (with_rest total) (time_ends s text join) ∙ ap (λ n. Ok n) (let f : total + 0 ≡ total = omega arith in f))

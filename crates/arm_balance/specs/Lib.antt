@@ -1,0 +1,3 @@
+pub mod Met
+pub mod Balance
+pub mod Certificates

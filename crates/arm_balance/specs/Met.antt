@@ -1,0 +1,31 @@
+-- The instruction at an address of a text.
+use Rattle.std.specs.Prelude.{ℕ, ◌+◌, ◌-◌, ◌*◌, nat_lt, Bool, true, false, ◌&&◌, ◌||◌, not, List, slice_index, Option, Some, None}
+use Rattle.sm_words.specs.Words.{word_at}
+use Rattle.insn_decode.specs.Code.{insn_of, length_of}
+use Rattle.insn_decode.specs.declared.insn.Insn.{Insn}
+use Rattle.mod_layout.specs.declared.Section.{Section}
+use Rattle.mod_layout.specs.Table.{holds}
+use Rattle.cpu_step.specs.Fetched.{insn_at}
+
+-- the byte of the text at an address
+abbrev pub text_byte : Section → List ℕ → ℕ → ℕ
+text_byte s text a = slice_index text (a - s.start)
+
+-- whether word k of an instruction of n words at pc, if there is one, is in the text
+abbrev pub word_in : Section → ℕ → ℕ → ℕ → Bool
+word_in s pc n k = not (nat_lt k n) || holds s (pc + 2 * k)
+
+-- an instruction, where all its words are in the text
+abbrev pub whole : Bool → Option Insn → Option Insn
+whole true insn = insn
+whole false insn = None
+
+-- the first word tells whether it is an instruction, and the number of its words
+abbrev pub met_first : Option Insn → Section → List ℕ → ℕ → Option Insn
+met_first None s text pc = None
+met_first (Some first) s text pc =
+    let n = length_of first in whole (word_in s pc n 1 && word_in s pc n 2) (insn_at (text_byte s text) pc n)
+
+-- the instruction at an address of the text, where it lies wholly in it
+unfoldable pub met : Section → List ℕ → ℕ → Option Insn
+met s text pc = met_first (insn_of (word_at (text_byte s text) pc) 0 0) s text pc

@@ -1,0 +1,506 @@
+-- One instruction of two runs that stand at one point.
+use Rattle.std.proofs.Common.{◌≡◌, ◌⊎◌, inl, inr, ℕ, zero, suc, ◌+◌, ◌-◌, ◌*◌, ◌/◌, ◌%◌, ◌<◌, ◌≤◌, List, [], ◌∷◌, ◌++◌, length, map, refl, sym, ap, ◌∙◌, subst, arith, Bool, true, false, cond, nat_lt, ◌==◌, ◌&&◌, ◌||◌, not, Option, Some, None, get_or-set_same, ℤ}
+use Rattle.std.proofs.lemmas.Bool.{cases_lt}
+use Rattle.std.proofs.lemmas.Bool.Decides.{nat_tests}
+use Rattle.std.proofs.lemmas.Grind.{same_number_lists}
+use Rattle.sm_words.specs.Words.{reg, put, kept, add16, word_at}
+use Rattle.insn_decode.specs.Code.{insn_of, length_of}
+use Rattle.cycle_table.specs.Cycles.{cycles_of}
+use Rattle.cpu_step.specs.Effect.{jumped, does, does_freely, confined, jumps}
+use Rattle.insn_decode.specs.Code.{distance}
+use Rattle.cpu_step.specs.Plan.{plan, past}
+use Rattle.sm_words.specs.declared.width.Width.{Width}
+use Rattle.insn_decode.specs.declared.insn.TwoOp.{TwoOp}
+use Rattle.insn_decode.specs.declared.insn.OneOp.{OneOp}
+use Rattle.insn_decode.specs.declared.insn.Operand.{Operand}
+use Rattle.insn_decode.specs.declared.insn.Insn.{Insn}
+use Rattle.insn_decode.specs.declared.insn.Insn.TheVariants.{Two, One, Jump, Reti, Unit as UnitOp}
+use Rattle.pc_access.specs.declared.Access.{Access}
+use Rattle.mod_layout.specs.declared.Module.{Module}
+use Rattle.mod_layout.specs.Table.{holds, size_of}
+use Rattle.cpu_step.specs.Fetched.{insn_at, later_word}
+use Rattle.attest.specs.Accesses.{reads_of, writes_of}
+use Rattle.attest.specs.Units.{UnitName, Unprotect, Protect, Attest, Tag, IdOf, OwnId, CallerId, unit_named, Effect, unit_plan, unit_effect}
+use Rattle.cpu_step.specs.Asked.{asks, effect}
+use Rattle.cpu_step.specs.Lone.{Job, Lone, lone_byte, lone_who, is_alone, unit_alone, all_inside, may_do, if_home, next_first, next_insn, lone_read, lone_writes, lone_does, Does, doing, doing_by, does_or_breaks, lone_step_by, job_of}
+use Rattle.flow_rule.specs.declared.Val.{Val}
+use Rattle.flow_rule.specs.declared.Val.TheVariants.{Known, Away, Public, Secret}
+use Rattle.flow_rule.specs.Values.{is_secret, val, put_val}
+use Rattle.flow_rule.specs.declared.Reason.TheVariants.{SecretAtExit, SecretBranch}
+use Rattle.flow_rule.specs.Rounds.{Point, Step}
+use Rattle.flow_rule.specs.Does.{plan_val, does_val, past_val, read_val, writes_val, read_reaches, write_reaches}
+use Rattle.flow_rule.specs.Flow.{because, because_if, reach_reasons, exit_reasons, goes_in, goes_by, goes, goes_unless, both, also, turn_of, step_plain, step_jump, step_unit, step_insn, step_of}
+use Rattle.flow_rule.proofs.Meaning.{Agrees, same}
+use Rattle.flow_rule.proofs.Cores.{Even_section, AgreeCore, put_agrees, put_other_reg, confined_agrees, ends_so}
+use Rattle.flow_rule.proofs.Effects.{Regular, AgreeList, DoneAgrees, one_does, two_does, past_agrees}
+use Rattle.flow_rule.proofs.Plans.{Reached, fixed, inside, one_reached, two_reached, none_left, none_right, none_if}
+use Rattle.flow_rule.specs.Arms.{written_words}
+use Rattle.arm_balance.specs.Met.{text_byte, word_in, whole, met_first, met}
+use Rattle.flow_rule.proofs.Words.{NotIn, word, writes_keep, Shape, IsData, AgreeData, reads_agree, writes_agree, word_text}
+use Rattle.flow_rule.proofs.Labelling.{Under, Among, among_left, among_right}
+use Rattle.flow_rule.proofs.Runs.{at_rest, Busy, Passes, Ending, Stays, Left, Shut, Crossing}
+
+pub record AgreeAt (m : Module) (x : Point) (ca da cb db : List ℕ) : Type 0 where
+  pub pc_a : reg ca 0 ≡ x.pair.addr
+  pub pc_b : reg cb 0 ≡ x.pair.addr
+  pub core : AgreeCore m.text x.label.core ca cb
+  pub words : AgreeData m x.label.words da db
+  pub in_text : holds m.text x.pair.addr ≡ true
+
+pub weaken_at : (m : Module) (x y : Point) (ca da cb db : List ℕ) → Under x y → AgreeAt m x ca da cb db → AgreeAt m y ca da cb db
+weaken_at m x y ca da cb db u h =
+    record {
+      pc_a = h.pc_a ∙ sym u.addr;
+      pc_b = h.pc_b ∙ sym u.addr;
+      core = record {
+        short = let p = u.core.shorter in let q = h.core.short in omega arith;
+        long_a = h.core.long_a;
+        long_b = h.core.long_b;
+        at = λ n. u.core.weaker m.text n (reg ca n) (reg cb n) (h.core.at n);
+        mode_same = h.core.mode_same;
+        nine_a = h.core.nine_a;
+        nine_b = h.core.nine_b;
+        even_pc = h.core.even_pc;
+        zero_a = h.core.zero_a;
+        zero_b = h.core.zero_b;
+      };
+      words = record { is_a = h.words.is_a; is_b = h.words.is_b; at = λ i. u.words.weaker m.text i _ _ (h.words.at i) };
+      in_text = ap (λ a. holds m.text a) u.addr ∙ h.in_text;
+    }
+
+-- what decoding keeps
+abbrev pub RegularInsn : Insn → Type 0
+RegularInsn (Two op w s d) = Regular s
+RegularInsn (One op w a) = Regular a × (0 < cycles_of (One op w a))
+RegularInsn _ = Unit {0}
+
+-- where an instruction leads
+pub data Landing (m : Module) (gives : List Point) (ca da cb db : List ℕ) : Type 0 where
+  In : (y : Point) (among : Among y gives) (at : AgreeAt m y ca da cb db) → Landing m gives ca da cb db
+  Out : (equal : ca ≡ cb) (out : holds m.text (reg ca 0) ≡ false) (ok_a : IsData m da) (ok_b : IsData m db) → Landing m gives ca da cb db
+
+-- the one way of an instruction that is no branch
+pub data Single (m : Module) (gives : List Point) (ca da cb db : List ℕ) : Type 0 where
+  Here : (y : Point) (one : gives ≡ y ∷ []) (at : AgreeAt m y ca da cb db) → Single m gives ca da cb db
+  Gone : (nothing : gives ≡ []) (equal : ca ≡ cb) (out : holds m.text (reg ca 0) ≡ false) (ok_a : IsData m da) (ok_b : IsData m db) → Single m gives ca da cb db
+
+pub landing_of : (m : Module) (gives : List Point) (ca da cb db : List ℕ) → Single m gives ca da cb db → Landing m gives ca da cb db
+landing_of m gives ca da cb db (Here y one at) = In y (subst (λ g. Among y g) (sym one) (inl refl)) at
+landing_of m gives ca da cb db (Gone nothing e o p q) = Out e o p q
+
+module _ (m : Module) where
+  no_secret : (k n pc : ℕ) (v : List Val) → exit_reasons k n pc v ≡ [] → (i : ℕ) → n ≤ i → i < n + k → is_secret (val v i) ≡ false
+  no_secret zero n pc v e i low high = absurd (omega arith)
+  no_secret (suc k) n pc v e i low high = by (is_secret (val v n)) refl e (cases_lt n i) (λ e lt. no_secret k (n + 1) pc v e i (omega arith) (omega arith))
+    where
+      by : (c : Bool) → is_secret (val v n) ≡ c → cond c (because pc SecretAtExit n) (exit_reasons k (n + 1) pc v) ≡ [] → (n < i) ⊎ (i ≤ n) →
+          (exit_reasons k (n + 1) pc v ≡ [] → n < i → is_secret (val v i) ≡ false) → is_secret (val v i) ≡ false
+      by true f e h go = absurd cc
+      by false f e (inl lt) go = go e lt
+      by false f e (inr ge) go = let g : i ≡ n = omega arith in ap (λ x. is_secret (val v x)) g ∙ f
+
+  all_equal : (pc : ℕ) (v : List Val) (ca cb : List ℕ) → AgreeCore m.text v ca cb → exit_reasons 16 0 pc v ≡ [] → ca ≡ cb
+  all_equal pc v ca cb h e =
+      let la = h.long_a in
+      same_number_lists ca cb (h.long_a ∙ sym h.long_b)
+      (λ k lt. same m.text (val v k) (reg ca k) (reg cb k) (h.at k) (no_secret 16 0 pc v e k (omega arith) (omega arith)))
+
+  lands_in : (t : Bool) (to pc : ℕ) (returns : List ℕ) (v words : List Val) (ca da cb db : List ℕ) → AgreeCore m.text v ca cb → AgreeData m words da db → reg ca 0 ≡ to → reg cb 0 ≡ to → holds m.text to ≡ t →
+      (goes_in t to pc returns v words).reasons ≡ [] → Single m (goes_in t to pc returns v words).gives ca da cb db
+  lands_in true to pc returns v words ca da cb db h d ea eb t e =
+      Here (record { pair = record { addr = to; returns = returns }; label = record { core = v; words = words } }) refl
+      (record { pc_a = ea; pc_b = eb; core = h; words = d; in_text = t })
+  lands_in false to pc returns v words ca da cb db h d ea eb t e =
+      Gone refl (all_equal pc v ca cb h e) (ap (λ a. holds m.text a) ea ∙ t) d.is_a d.is_b
+
+  lands_by : (p : Val) (pc : ℕ) (returns : List ℕ) (v words : List Val) (ca da cb db : List ℕ) → AgreeCore m.text v ca cb → AgreeData m words da db → Agrees m.text p (reg ca 0) (reg cb 0) →
+      (goes_by p m pc returns v words).reasons ≡ [] → Single m (goes_by p m pc returns v words).gives ca da cb db
+  lands_by (Known to) pc returns v words ca da cb db h d g e = lands_in (holds m.text to) to pc returns v words ca da cb db h d g.0 g.1 refl e
+  lands_by Away pc returns v words ca da cb db h d g e = Gone refl (all_equal pc v ca cb h e) g.2 d.is_a d.is_b
+  lands_by Public pc returns v words ca da cb db h d g e = absurd cc
+  lands_by Secret pc returns v words ca da cb db h d g e = absurd cc
+
+  pub lands : (pc : ℕ) (returns : List ℕ) (v words : List Val) (ca da cb db : List ℕ) → AgreeCore m.text v ca cb → AgreeData m words da db →
+      (goes m pc returns v words).reasons ≡ [] → Single m (goes m pc returns v words).gives ca da cb db
+  lands pc returns v words ca da cb db h d e = lands_by (val v 0) pc returns v words ca da cb db h d (h.at 0) e
+
+  lands_unless : (b : Bool) (pc : ℕ) (returns : List ℕ) (v words : List Val) (ca da cb db : List ℕ) → AgreeCore m.text v ca cb → AgreeData m words da db →
+      (goes_unless b m pc returns v words).reasons ≡ [] → Single m (goes_unless b m pc returns v words).gives ca da cb db
+  lands_unless true pc returns v words ca da cb db h d e = absurd cc
+  lands_unless false pc returns v words ca da cb db h d e = lands pc returns v words ca da cb db h d e
+
+  land_left : (gs hs : List Point) (ca da cb db : List ℕ) → Landing m gs ca da cb db → Landing m (gs ++ hs) ca da cb db
+  land_left gs hs ca da cb db (In y among at) = In y (among_left y gs hs among) at
+  land_left gs hs ca da cb db (Out e o p q) = Out e o p q
+
+  land_right : (gs hs : List Point) (ca da cb db : List ℕ) → Landing m hs ca da cb db → Landing m (gs ++ hs) ca da cb db
+  land_right gs hs ca da cb db (In y among at) = In y (among_right y gs hs among) at
+  land_right gs hs ca da cb db (Out e o p q) = Out e o p q
+
+abbrev pub after : List ℕ → List ℕ → ℕ → Bool → Lone
+after c d rest closing = record { core = c; data_bytes = d; rest = rest; closing = closing }
+
+module _ (j : Job) where
+  waits : (c d : List ℕ) (closing : Bool) (r : ℕ) → Passes j r (after c d r closing) (after c d 0 closing)
+  unfolding doing
+  waits c d closing zero = refl
+  waits c d closing (suc r) = (tt, waits c d closing r)
+
+  pub does_it : (c d c' d' : List ℕ) (insn : Insn) (r : ℕ) (closing : Bool) → doing j (at_rest c d) ≡ Does insn → lone_does j insn (at_rest c d) ≡ after c' d' r closing → Passes j (suc r) (at_rest c d) (after c' d' 0 closing)
+  does_it c d c' d' insn r closing e f = (
+    subst Busy (sym e) tt,
+    subst (λ l. Passes j r l (after c' d' 0 closing)) (sym (ap (λ x. lone_step_by x j (at_rest c d)) e ∙ f)) (waits c' d' closing r),
+  )
+
+  doing_next : (c d : List ℕ) (insn : Insn) → holds j.owner.text (reg c 0) ≡ true → next_insn j (at_rest c d) ≡ Some insn → doing j (at_rest c d) ≡ Does insn
+  unfolding doing
+  doing_next c d insn e f = ap (λ t. doing_by 0 false t (next_insn j (at_rest c d))) e ∙ ap does_or_breaks f
+
+module _ (key : List ℕ) (m : Module) (text : List ℕ) (caller : ℕ) (shape : Shape m) where
+  abbrev pub j : Job
+  j = job_of key m text caller
+
+  pub even : Even_section m.text
+  even = record { even_start = shape.text_start; even_end = shape.text_end }
+
+  -- ---- the same instruction is met
+  and_split : (a b : Bool) → (a && b) ≡ true → (a ≡ true) × (b ≡ true)
+  and_split true true e = (refl, refl)
+  and_split true false e = absurd cc
+  and_split false b e = absurd cc
+
+  later_same : (d : List ℕ) (pc n k : ℕ) → pc % 2 ≡ 0 → word_in m.text pc n k ≡ true → later_word (lone_byte j d) pc n k ≡ later_word (text_byte m.text text) pc n k
+  later_same d pc n k ev e = by (nat_lt k n) e
+    where
+      by : (c : Bool) → (not c || holds m.text (pc + 2 * k)) ≡ true → cond c (word_at (lone_byte j d) (pc + 2 * k)) 0 ≡ cond c (word_at (text_byte m.text text) (pc + 2 * k)) 0
+      by true h = word_text key m text caller shape d (pc + 2 * k) (omega arith) h
+      by false h = refl
+
+  insn_same : (d : List ℕ) (pc n : ℕ) → pc % 2 ≡ 0 → holds m.text pc ≡ true → (word_in m.text pc n 1 && word_in m.text pc n 2) ≡ true → insn_at (lone_byte j d) pc n ≡ insn_at (text_byte m.text text) pc n
+  insn_same d pc n ev t f =
+      let h = and_split (word_in m.text pc n 1) (word_in m.text pc n 2) f in
+      let x = word_text key m text caller shape d pc ev t in
+      let y = later_same d pc n 1 ev h.0 in
+      let z = later_same d pc n 2 ev h.1 in
+      ap (λ w. insn_of w (later_word (lone_byte j d) pc n 1) (later_word (lone_byte j d) pc n 2)) x
+      ∙ ap (λ w. insn_of (word_at (text_byte m.text text) pc) w (later_word (lone_byte j d) pc n 2)) y
+      ∙ ap (λ w. insn_of (word_at (text_byte m.text text) pc) (later_word (text_byte m.text text) pc n 1) w) z
+
+  may_it : (c d : List ℕ) (insn : Insn) → is_alone insn ≡ true → all_inside j (asks (lone_who j) insn c) ≡ true → may_do j (at_rest c d) (Some insn) ≡ Some insn
+  may_it c d insn p q = ap (λ b. cond (b && all_inside j (asks (lone_who j) insn c)) (Some insn) None) p ∙ ap (λ b. cond b (Some insn) None) q
+
+  fetched_first : (f : Option Insn) (c d : List ℕ) (insn : Insn) → reg c 0 % 2 ≡ 0 → holds m.text (reg c 0) ≡ true → met_first f m.text text (reg c 0) ≡ Some insn →
+      is_alone insn ≡ true → all_inside j (asks (lone_who j) insn c) ≡ true → next_first f j (at_rest c d) ≡ Some insn
+  fetched_first None c d insn ev t e al ins = absurd cc
+  fetched_first (Some first) c d insn ev t e al ins = by (reg c 0) (length_of first) ev t (word_in m.text (reg c 0) (length_of first) 1 && word_in m.text (reg c 0) (length_of first) 2) refl e
+    where
+      by : (pc n : ℕ) → pc % 2 ≡ 0 → holds m.text pc ≡ true → (b : Bool) → (word_in m.text pc n 1 && word_in m.text pc n 2) ≡ b → whole b (insn_at (text_byte m.text text) pc n) ≡ Some insn → if_home b (may_do j (at_rest c d) (insn_at (lone_byte j d) pc n)) ≡ Some insn
+      by pc n ev t false f e = absurd cc
+      by pc n ev t true f e = ap (may_do j (at_rest c d)) (insn_same d pc n ev t f ∙ e) ∙ may_it c d insn al ins
+
+  pub fetched : (c d : List ℕ) (insn : Insn) → reg c 0 % 2 ≡ 0 → holds m.text (reg c 0) ≡ true → met m.text text (reg c 0) ≡ Some insn →
+      is_alone insn ≡ true → all_inside j (asks (lone_who j) insn c) ≡ true → doing j (at_rest c d) ≡ Does insn
+  unfolding met next_insn
+  fetched c d insn ev t e al ins =
+      doing_next j c d insn t
+      (fetched_first (insn_of (word_at (lone_byte j d) (reg c 0)) 0 0) c d insn ev t
+      (ap (λ w. met_first (insn_of w 0 0) m.text text (reg c 0)) (word_text key m text caller shape d (reg c 0) ev t) ∙ e) al ins)
+
+  -- ---- from an instruction to a crossing
+  crossing : (gives : List Point) (ca da cb db ca' da' cb' db' : List ℕ) (insn : Insn) (r : ℕ) → doing j (at_rest ca da) ≡ Does insn → doing j (at_rest cb db) ≡ Does insn →
+      lone_does j insn (at_rest ca da) ≡ after ca' da' r false → lone_does j insn (at_rest cb db) ≡ after cb' db' r false → Landing m gives ca' da' cb' db' → Crossing m j (AgreeAt m) gives (at_rest ca da) (at_rest cb db)
+  crossing gives ca da cb db ca' da' cb' db' insn r ea eb fa fb l =
+      record {
+        cycles = suc r;
+        some = omega arith;
+        to_a = at_rest ca' da';
+        to_b = at_rest cb' db';
+        pass_a = does_it j ca da ca' da' insn r false ea fa;
+        pass_b = does_it j cb db cb' db' insn r false eb fb;
+        ending = by l;
+      }
+    where
+      by : Landing m gives ca' da' cb' db' → Ending m j (AgreeAt m) gives (at_rest ca' da') (at_rest cb' db')
+      by (In y among at) = Stays y among ca' da' cb' db' at refl refl
+      by (Out e o p q) = Left ca' da' db' o p q refl (ap (λ c. at_rest c db') (sym e))
+
+  -- an instruction that reads and writes, by what is shown of its plan and its effect
+  pub record Does_alike (insn : Insn) : Type 0 where
+    pub alone : is_alone insn ≡ true
+    pub asks_is : (c : List ℕ) → asks (lone_who j) insn c ≡ plan insn c
+    pub effect_is : (c xs : List ℕ) → effect (lone_who j) insn c xs ≡ record { core = confined true c (does_freely insn c xs).core; stored = (does_freely insn c xs).stored; cycles = cycles_of insn; closing = false }
+    pub reached : (pc : ℕ) (v : List Val) (a b : List ℕ) → reg a 0 ≡ pc → reg b 0 ≡ pc → AgreeCore m.text v a b → Reached m.text (plan_val insn pc v) (plan insn a) (plan insn b)
+    pub done : (pc : ℕ) (v : List Val) (a b : List ℕ) (vs : List Val) (xs ys : List ℕ) → reg a 0 ≡ pc → reg b 0 ≡ pc → AgreeCore m.text v a b → AgreeList m.text vs xs ys →
+        DoneAgrees m.text (does_val insn pc v vs) (reg a 2) (reg b 2) (does_freely insn a xs) (does_freely insn b ys)
+
+  pub does_so : (insn : Insn) (h : Does_alike insn) (c d : List ℕ) (xs : List Access) → plan insn c ≡ xs →
+      lone_does j insn (at_rest c d) ≡ after (confined true c (does_freely insn c (map (lone_read j d) (reads_of xs))).core) (lone_writes m d (writes_of xs) (does_freely insn c (map (lone_read j d) (reads_of xs))).stored) (cycles_of insn - 1) false
+  unfolding lone_does
+  does_so insn h c d xs e =
+      ap (λ ys. of ys (effect (lone_who j) insn c (map (lone_read j d) (reads_of ys)))) (h.asks_is c ∙ e) ∙ ap (λ e. of xs e) (h.effect_is c (map (lone_read j d) (reads_of xs)))
+    where
+      of : List Access → Effect → Lone
+      of ys e = record { core = e.core; data_bytes = lone_writes m d (writes_of ys) e.stored; rest = e.cycles - 1; closing = e.closing }
+
+  -- one instruction of both, in parts
+  pub record Parts (insn : Insn) (gives : List Point) (ca da cb db : List ℕ) : Type 0 where
+    pub values_a : List ℕ
+    pub values_b : List ℕ
+    pub left_a : List ℕ
+    pub left_b : List ℕ
+    pub rest : ℕ
+    pub rest_is : rest ≡ cycles_of insn - 1
+    pub doing_a : doing j (at_rest ca da) ≡ Does insn
+    pub doing_b : doing j (at_rest cb db) ≡ Does insn
+    pub so_a : lone_does j insn (at_rest ca da) ≡ after (confined true ca (does_freely insn ca values_a).core) left_a rest false
+    pub so_b : lone_does j insn (at_rest cb db) ≡ after (confined true cb (does_freely insn cb values_b).core) left_b rest false
+    pub landing : Single m gives (confined true ca (does_freely insn ca values_a).core) left_a (confined true cb (does_freely insn cb values_b).core) left_b
+
+  pub plain_parts : (insn : Insn) → Does_alike insn → (x : Point) (ca da cb db : List ℕ) → AgreeAt m x ca da cb db → met m.text text x.pair.addr ≡ Some insn → (step_plain m text insn x).reasons ≡ [] →
+      Parts insn (step_plain m text insn x).gives ca da cb db
+  plain_parts insn h x ca da cb db at e none =
+      let pc = x.pair.addr in
+      let v = x.label.core in
+      let rs = plan_val insn pc v in
+      let vs = map (read_val m text x.label.words) (read_reaches rs) in
+      let dv = does_val insn pc v vs in
+      let t = turn_of insn pc x.pair.returns vs in
+      let g = goes_unless t.stops m pc t.returns dv.core (writes_val m x.label.words (write_reaches rs) dv.stored) in
+      let n1 = none_left (reach_reasons m pc rs ++ t.reasons) g.reasons none in
+      let n2 = none_right (reach_reasons m pc rs ++ t.reasons) g.reasons none in
+      let n3 = none_left (reach_reasons m pc rs) t.reasons n1 in
+      let f = fixed m pc rs (plan insn ca) (plan insn cb) (h.reached pc v ca cb at.pc_a at.pc_b at.core) n3 in
+      let xs = plan insn ca in
+      let ins = inside m pc j refl rs xs f.0 in
+      let reads = reads_agree key m text caller shape x.label.words da db rs xs at.words f.0 in
+      let va = map (lone_read j da) (reads_of xs) in
+      let vb = map (lone_read j db) (reads_of xs) in
+      let d = h.done pc v ca cb vs va vb at.pc_a at.pc_b at.core reads in
+      let core = confined_agrees m.text even dv.core ca cb (does_freely insn ca va).core (does_freely insn cb vb).core at.core.mode_same d.ends in
+      let words = writes_agree m shape x.label.words da db rs xs dv.stored (does_freely insn ca va).stored (does_freely insn cb vb).stored at.words f.0 d.stored in
+      let ev_a = at.core.even_pc in
+      let ev_b : reg cb 0 % 2 ≡ 0 = ap (λ i. i % 2) (at.pc_b ∙ sym at.pc_a) ∙ ev_a in
+      record {
+        values_a = va;
+        values_b = vb;
+        left_a = lone_writes m da (writes_of xs) (does_freely insn ca va).stored;
+        left_b = lone_writes m db (writes_of xs) (does_freely insn cb vb).stored;
+        rest = cycles_of insn - 1;
+        rest_is = refl;
+        doing_a = fetched ca da insn ev_a (ap (λ a. holds m.text a) at.pc_a ∙ at.in_text) (ap (λ a. met m.text text a) at.pc_a ∙ e) h.alone (ap (all_inside j) (h.asks_is ca) ∙ ins);
+        doing_b = fetched cb db insn ev_b (ap (λ a. holds m.text a) at.pc_b ∙ at.in_text) (ap (λ a. met m.text text a) at.pc_b ∙ e) h.alone (ap (all_inside j) (h.asks_is cb ∙ f.1) ∙ ins);
+        so_a = does_so insn h ca da xs refl;
+        so_b = does_so insn h cb db xs f.1;
+        landing = lands_unless m t.stops pc t.returns dv.core (writes_val m x.label.words (write_reaches rs) dv.stored) _ _ _ _ core words n2;
+      }
+
+  -- the words of the data that it does not write
+  pub plain_kept : (insn : Insn) (h : Does_alike insn) (x : Point) (ca da cb db : List ℕ) (at : AgreeAt m x ca da cb db) (e : met m.text text x.pair.addr ≡ Some insn) (none : (step_plain m text insn x).reasons ≡ []) →
+      (i : ℕ) → NotIn i (written_words m (write_reaches (plan_val insn x.pair.addr x.label.core))) → word (plain_parts insn h x ca da cb db at e none).left_a i ≡ word da i
+  unfolding plain_parts
+  plain_kept insn h x ca da cb db at e none i k =
+      let pc = x.pair.addr in
+      let v = x.label.core in
+      let rs = plan_val insn pc v in
+      let vs = map (read_val m text x.label.words) (read_reaches rs) in
+      let dv = does_val insn pc v vs in
+      let t = turn_of insn pc x.pair.returns vs in
+      let g = goes_unless t.stops m pc t.returns dv.core (writes_val m x.label.words (write_reaches rs) dv.stored) in
+      let n3 = none_left (reach_reasons m pc rs) t.reasons (none_left (reach_reasons m pc rs ++ t.reasons) g.reasons none) in
+      let f = fixed m pc rs (plan insn ca) (plan insn cb) (h.reached pc v ca cb at.pc_a at.pc_b at.core) n3 in
+      writes_keep m shape da rs (plan insn ca) (does_freely insn ca (map (lone_read j da) (reads_of (plan insn ca)))).stored i f.0 k
+
+  plain_crossing : (insn : Insn) → Does_alike insn → (x : Point) (ca da cb db : List ℕ) → AgreeAt m x ca da cb db → met m.text text x.pair.addr ≡ Some insn → (step_plain m text insn x).reasons ≡ [] →
+      Crossing m j (AgreeAt m) (step_plain m text insn x).gives (at_rest ca da) (at_rest cb db)
+  plain_crossing insn h x ca da cb db at e none =
+      let p = plain_parts insn h x ca da cb db at e none in
+      crossing (step_plain m text insn x).gives ca da cb db _ _ _ _ insn p.rest p.doing_a p.doing_b p.so_a p.so_b (landing_of m _ _ _ _ _ p.landing)
+
+  pub two_alike : (op : TwoOp) (w : Width) (s d : Operand) → Regular s → Does_alike (Two op w s d)
+  unfolding asks effect does
+  two_alike op w s d ok =
+      record {
+        alone = refl;
+        asks_is = λ c. refl;
+        effect_is = λ c xs. refl;
+        reached = λ pc v a b ea eb h. two_reached m.text even op w s d pc v a b ok ea eb h;
+        done = λ pc v a b vs xs ys ea eb h l. two_does m.text even op w s d pc v a b vs xs ys ok ea eb h l;
+      }
+
+  pub one_alike : (op : OneOp) (w : Width) (a : Operand) → Regular a → Does_alike (One op w a)
+  unfolding asks effect does
+  one_alike op w arg ok =
+      record {
+        alone = refl;
+        asks_is = λ c. refl;
+        effect_is = λ c xs. refl;
+        reached = λ pc v a b ea eb h. one_reached m.text even op w arg pc v a b ok ea eb h;
+        done = λ pc v a b vs xs ys ea eb h l. one_does m.text even op w arg pc v a b vs xs ys ok ea eb h l;
+      }
+
+  -- ---- jumps
+  jumped_is : (t : Bool) (off : ℤ) (c : List ℕ) → jumped t off c ≡ cond t (put c 0 (add16 (reg c 0) (distance off))) c
+  jumped_is true off c = refl
+  jumped_is false off c = refl
+
+  pub jump_so : (cond_no : ℕ) (off : ℤ) (c d : List ℕ) →
+      lone_does j (Jump cond_no off) (at_rest c d) ≡ after (confined true c (cond (jumps cond_no (reg c 2)) (put (past (Jump cond_no off) c) 0 (add16 (reg (past (Jump cond_no off) c) 0) (distance off))) (past (Jump cond_no off) c))) d 1 false
+  unfolding lone_does asks effect does does_freely plan cycles_of
+  jump_so cond_no off c d = ap (λ x. after (confined true c x) d 1 false) (jumped_is (jumps cond_no (reg c 2)) off (past (Jump cond_no off) c))
+
+  pub past_pc : (insn : Insn) (pc : ℕ) (c : List ℕ) → length_of insn ≡ 1 → reg c 0 ≡ pc → pc % 2 ≡ 0 → length c ≡ 16 → reg (past insn c) 0 ≡ add16 pc 2
+  past_pc insn pc c one e ev len =
+      get_or-set_same c 0 (kept 0 (add16 (reg c 0) (2 * length_of insn))) 0 (subst (λ i. 0 < i) (sym len) (omega arith))
+      ∙ ap (λ i. kept 0 (add16 i (2 * length_of insn))) e ∙ ap (λ i. kept 0 (add16 pc (2 * i))) one ∙ even_kept
+    where
+      even_kept : kept 0 (add16 pc (2 * 1)) ≡ add16 pc 2
+      even_kept = omega arith
+
+  module _ (cond_no : ℕ) (off : ℤ) (x : Point) (ca da cb db : List ℕ) (at : AgreeAt m x ca da cb db) (met_it : met m.text text x.pair.addr ≡ Some (Jump cond_no off)) where
+    abbrev pub insn : Insn
+    insn = Jump cond_no off
+
+    abbrev pub pc : ℕ
+    pc = x.pair.addr
+
+    abbrev pub taken_of : List ℕ → List ℕ
+    taken_of c = put (past insn c) 0 (add16 (reg (past insn c) 0) (distance off))
+
+    abbrev pub way : Bool → List ℕ → List ℕ
+    way t c = confined true c (cond t (taken_of c) (past insn c))
+
+    abbrev pub way_val : Bool → List Val
+    way_val t = cond t (put_val (past_val insn pc x.label.core) 0 (Known (add16 (add16 pc 2) (distance off)))) (past_val insn pc x.label.core)
+
+    even_here : pc % 2 ≡ 0
+    even_here = ap (λ i. i % 2) (sym at.pc_a) ∙ at.core.even_pc
+
+    pub way_agrees : (t : Bool) → AgreeCore m.text (way_val t) (way t ca) (way t cb)
+    way_agrees true =
+        let h1 = past_agrees m.text even insn pc x.label.core ca cb at.pc_a at.pc_b at.core in
+        let ea = past_pc insn pc ca refl at.pc_a even_here at.core.long_a in
+        let eb = past_pc insn pc cb refl at.pc_b even_here at.core.long_b in
+        let h2 = put_agrees m.text even (past_val insn pc x.label.core) (past insn ca) (past insn cb) 0 (Known (add16 (add16 pc 2) (distance off))) _ _ (λ e. absurd (omega arith)) h1
+        (ap (λ i. add16 i (distance off)) ea, ap (λ i. add16 i (distance off)) eb) in
+        confined_agrees m.text even _ ca cb (taken_of ca) (taken_of cb) at.core.mode_same
+        (ends_so m.text even _ _ _ _ _ h2 (put_other_reg (past insn ca) 0 _ 2 (λ e. absurd (omega arith)) ∙ put_other_reg ca 0 _ 2 (λ e. absurd (omega arith)))
+        (put_other_reg (past insn cb) 0 _ 2 (λ e. absurd (omega arith)) ∙ put_other_reg cb 0 _ 2 (λ e. absurd (omega arith))))
+    way_agrees false =
+        let h1 = past_agrees m.text even insn pc x.label.core ca cb at.pc_a at.pc_b at.core in
+        confined_agrees m.text even _ ca cb (past insn ca) (past insn cb) at.core.mode_same
+        (ends_so m.text even _ _ _ _ _ h1 (put_other_reg ca 0 _ 2 (λ e. absurd (omega arith))) (put_other_reg cb 0 _ 2 (λ e. absurd (omega arith))))
+
+    pub way_crossing : (t : Bool) (gives : List Point) → jumps cond_no (reg ca 2) ≡ t → jumps cond_no (reg cb 2) ≡ t → Landing m gives (way t ca) da (way t cb) db → Crossing m j (AgreeAt m) gives (at_rest ca da) (at_rest cb db)
+    unfolding asks plan
+    way_crossing t gives ea eb l =
+        let ev_b : reg cb 0 % 2 ≡ 0 = ap (λ i. i % 2) (at.pc_b ∙ sym at.pc_a) ∙ at.core.even_pc in
+        crossing gives ca da cb db (way t ca) da (way t cb) db insn 1
+        (fetched ca da insn at.core.even_pc (ap (λ a. holds m.text a) at.pc_a ∙ at.in_text) (ap (λ a. met m.text text a) at.pc_a ∙ met_it) refl refl)
+        (fetched cb db insn ev_b (ap (λ a. holds m.text a) at.pc_b ∙ at.in_text) (ap (λ a. met m.text text a) at.pc_b ∙ met_it) refl refl)
+        (jump_so cond_no off ca da ∙ ap (λ t. after (way t ca) da 1 false) ea) (jump_so cond_no off cb db ∙ ap (λ t. after (way t cb) db 1 false) eb) l
+
+    abbrev pub way_goes : Bool → Step
+    way_goes t = goes m pc x.pair.returns (way_val t) x.label.words
+
+    pub way_single : (t : Bool) → (way_goes t).reasons ≡ [] → Single m (way_goes t).gives (way t ca) da (way t cb) db
+    way_single t e = lands m pc x.pair.returns (way_val t) x.label.words (way t ca) da (way t cb) db (way_agrees t) at.words e
+
+    way_lands : (t : Bool) → (way_goes t).reasons ≡ [] → Landing m (way_goes t).gives (way t ca) da (way t cb) db
+    way_lands t e = landing_of m _ _ _ _ _ (way_single t e)
+
+    jump_crossing : (step_jump m text insn cond_no x).reasons ≡ [] → Crossing m j (AgreeAt m) (step_jump m text insn cond_no x).gives (at_rest ca da) (at_rest cb db)
+    unfolding does_val
+    jump_crossing none = by (cond_no == 7) refl none
+      where
+        abbrev_either : Step
+        abbrev_either = also (because_if (is_secret (val x.label.core 2)) pc SecretBranch 0) (both (way_goes true) (way_goes false))
+
+        by : (c : Bool) → (cond_no == 7) ≡ c → (cond c (way_goes true) (also (because_if (is_secret (val x.label.core 2)) pc SecretBranch 0) (both (way_goes true) (way_goes false)))).reasons ≡ [] →
+            Crossing m j (AgreeAt m) (cond c (way_goes true) (also (because_if (is_secret (val x.label.core 2)) pc SecretBranch 0) (both (way_goes true) (way_goes false)))).gives (at_rest ca da) (at_rest cb db)
+        by true e none =
+            let k : cond_no ≡ 7 = grind (arith, nat_tests) in
+            way_crossing true (way_goes true).gives (ap (λ i. jumps i (reg ca 2)) k) (ap (λ i. jumps i (reg cb 2)) k) (way_lands true none)
+        by false e none =
+            let n1 = none_left (because_if (is_secret (val x.label.core 2)) pc SecretBranch 0) ((way_goes true).reasons ++ (way_goes false).reasons) none in
+            let n2 = none_right (because_if (is_secret (val x.label.core 2)) pc SecretBranch 0) ((way_goes true).reasons ++ (way_goes false).reasons) none in
+            let sr : reg ca 2 ≡ reg cb 2 = same m.text (val x.label.core 2) (reg ca 2) (reg cb 2) (at.core.at 2) (none_if (is_secret (val x.label.core 2)) pc SecretBranch 0 n1) in
+            turn (jumps cond_no (reg ca 2)) refl (ap (λ i. jumps cond_no i) (sym sr)) (none_left (way_goes true).reasons (way_goes false).reasons n2) (none_right (way_goes true).reasons (way_goes false).reasons n2)
+          where
+            turn : (t : Bool) → jumps cond_no (reg ca 2) ≡ t → jumps cond_no (reg cb 2) ≡ jumps cond_no (reg ca 2) → (way_goes true).reasons ≡ [] → (way_goes false).reasons ≡ [] →
+                Crossing m j (AgreeAt m) ((way_goes true).gives ++ (way_goes false).gives) (at_rest ca da) (at_rest cb db)
+            turn true ea eb p q = way_crossing true _ ea (eb ∙ ea) (land_left m (way_goes true).gives (way_goes false).gives _ _ _ _ (way_lands true p))
+            turn false ea eb p q = way_crossing false _ ea (eb ∙ ea) (land_right m (way_goes true).gives (way_goes false).gives _ _ _ _ (way_lands false q))
+
+  -- ---- unit instructions
+  unit_does : UnitName → List ℕ → List ℕ → Lone
+  unit_does u c d =
+      let xs = unit_plan (lone_who j) u c in
+      let e = unit_effect (lone_who j) u c (map (lone_read j d) (reads_of xs)) in
+      record { core = e.core; data_bytes = lone_writes m d (writes_of xs) e.stored; rest = e.cycles - 1; closing = e.closing }
+
+  unit_so : (n : ℕ) (u : UnitName) (c d : List ℕ) → unit_named n ≡ u → lone_does j (UnitOp n) (at_rest c d) ≡ unit_does u c d
+  unfolding lone_does asks effect unit_does
+  unit_so n u c d e = ap (λ u. unit_does u c d) e
+
+  module _ (n : ℕ) (u : UnitName) (named : unit_named n ≡ u) (x : Point) (ca da cb db : List ℕ) (at : AgreeAt m x ca da cb db) (met_it : met m.text text x.pair.addr ≡ Some (UnitOp n)) (alone : is_alone (UnitOp n) ≡ true) where
+    even_b : reg cb 0 % 2 ≡ 0
+    even_b = ap (λ i. i % 2) (at.pc_b ∙ sym at.pc_a) ∙ at.core.even_pc
+
+    unit_fetched_a : all_inside j (unit_plan (lone_who j) u ca) ≡ true → doing j (at_rest ca da) ≡ Does (UnitOp n)
+    unfolding asks
+    unit_fetched_a ins = fetched ca da (UnitOp n) at.core.even_pc (ap (λ a. holds m.text a) at.pc_a ∙ at.in_text) (ap (λ a. met m.text text a) at.pc_a ∙ met_it) alone (ap (λ u. all_inside j (unit_plan (lone_who j) u ca)) named ∙ ins)
+
+    unit_fetched_b : all_inside j (unit_plan (lone_who j) u cb) ≡ true → doing j (at_rest cb db) ≡ Does (UnitOp n)
+    unfolding asks
+    unit_fetched_b ins = fetched cb db (UnitOp n) even_b (ap (λ a. holds m.text a) at.pc_b ∙ at.in_text) (ap (λ a. met m.text text a) at.pc_b ∙ met_it) alone (ap (λ u. all_inside j (unit_plan (lone_who j) u cb)) named ∙ ins)
+
+    tell_crossing : (value : ℕ) → unit_plan (lone_who j) u ca ≡ [] → unit_plan (lone_who j) u cb ≡ [] →
+        unit_does u ca da ≡ after (put (past (UnitOp 0) ca) 15 value) da 5 false → unit_does u cb db ≡ after (put (past (UnitOp 0) cb) 15 value) db 5 false →
+        (goes m x.pair.addr x.pair.returns (put_val (past_val (UnitOp n) x.pair.addr x.label.core) 15 Public) x.label.words).reasons ≡ [] →
+        Crossing m j (AgreeAt m) (goes m x.pair.addr x.pair.returns (put_val (past_val (UnitOp n) x.pair.addr x.label.core) 15 Public) x.label.words).gives (at_rest ca da) (at_rest cb db)
+    tell_crossing value pa pb ea eb none =
+        let h1 = past_agrees m.text even (UnitOp n) x.pair.addr x.label.core ca cb at.pc_a at.pc_b at.core in
+        let h2 = put_agrees m.text even (past_val (UnitOp n) x.pair.addr x.label.core) (past (UnitOp n) ca) (past (UnitOp n) cb) 15 Public value value (λ e. absurd (omega arith)) h1 refl in
+        crossing _ ca da cb db (put (past (UnitOp 0) ca) 15 value) da (put (past (UnitOp 0) cb) 15 value) db (UnitOp n) 5
+        (unit_fetched_a (ap (all_inside j) pa)) (unit_fetched_b (ap (all_inside j) pb)) (unit_so n u ca da named ∙ ea) (unit_so n u cb db named ∙ eb)
+        (landing_of m _ _ _ _ _ (lands m x.pair.addr x.pair.returns _ x.label.words _ da _ db h2 at.words none))
+
+    shut_crossing : (r : ℕ) → unit_plan (lone_who j) u ca ≡ [] → unit_plan (lone_who j) u cb ≡ [] →
+        unit_does u ca da ≡ after (past (UnitOp 0) ca) da r true → unit_does u cb db ≡ after (past (UnitOp 0) cb) db r true →
+        exit_reasons 16 0 x.pair.addr x.label.core ≡ [] → Crossing m j (AgreeAt m) [] (at_rest ca da) (at_rest cb db)
+    unfolding doing
+    shut_crossing r pa pb ea eb none =
+        let e = all_equal m x.pair.addr x.label.core ca cb at.core none in
+        record {
+          cycles = suc r;
+          some = omega arith;
+          to_a = after (past (UnitOp 0) ca) da 0 true;
+          to_b = after (past (UnitOp 0) cb) db 0 true;
+          pass_a = does_it j ca da _ _ (UnitOp n) r true (unit_fetched_a (ap (all_inside j) pa)) (unit_so n u ca da named ∙ ea);
+          pass_b = does_it j cb db _ _ (UnitOp n) r true (unit_fetched_b (ap (all_inside j) pb)) (unit_so n u cb db named ∙ eb);
+          ending = Shut (ap (λ c. past (UnitOp 0) c) e) refl refl;
+        }
+
+  unit_crossing : (n : ℕ) (u : UnitName) → unit_named n ≡ u → (x : Point) (ca da cb db : List ℕ) → AgreeAt m x ca da cb db → met m.text text x.pair.addr ≡ Some (UnitOp n) → (step_unit m (UnitOp n) u n x).reasons ≡ [] →
+      Crossing m j (AgreeAt m) (step_unit m (UnitOp n) u n x).gives (at_rest ca da) (at_rest cb db)
+  unfolding unit_does unit_plan unit_effect
+  unit_crossing n Unprotect e x ca da cb db at met_it none = shut_crossing n Unprotect e x ca da cb db at met_it (ap unit_alone e) (6 + size_of m.ram / 2 - 1) refl refl refl refl none
+  unit_crossing n OwnId e x ca da cb db at met_it none = tell_crossing n OwnId e x ca da cb db at met_it (ap unit_alone e) m.id refl refl refl refl none
+  unit_crossing n CallerId e x ca da cb db at met_it none = tell_crossing n CallerId e x ca da cb db at met_it (ap unit_alone e) caller refl refl refl refl none
+  unit_crossing n Protect e x ca da cb db at met_it none = absurd cc
+  unit_crossing n Attest e x ca da cb db at met_it none = absurd cc
+  unit_crossing n Tag e x ca da cb db at met_it none = absurd cc
+  unit_crossing n IdOf e x ca da cb db at met_it none = absurd cc
+
+  -- ---- any instruction
+  pub step_crossing : ((pc : ℕ) (insn : Insn) → met m.text text pc ≡ Some insn → RegularInsn insn) → (x : Point) (ca da cb db : List ℕ) → AgreeAt m x ca da cb db → (step_of m text x).reasons ≡ [] → Crossing m j (AgreeAt m) (step_of m text x).gives (at_rest ca da) (at_rest cb db)
+  unfolding step_of
+  step_crossing regular x ca da cb db at none = by (met m.text text x.pair.addr) refl none
+    where
+      by : (o : Option Insn) → met m.text text x.pair.addr ≡ o → (step_insn m text o x).reasons ≡ [] → Crossing m j (AgreeAt m) (step_insn m text o x).gives (at_rest ca da) (at_rest cb db)
+      by None e none = absurd cc
+      by (Some (Two op w s d)) e none = plain_crossing (Two op w s d) (two_alike op w s d (regular x.pair.addr (Two op w s d) e)) x ca da cb db at e none
+      by (Some (One op w a)) e none = plain_crossing (One op w a) (one_alike op w a (regular x.pair.addr (One op w a) e).0) x ca da cb db at e none
+      by (Some (Jump c off)) e none = jump_crossing c off x ca da cb db at e none
+      by (Some Reti) e none = absurd cc
+      by (Some (UnitOp n)) e none = unit_crossing n (unit_named n) refl x ca da cb db at e none

@@ -1,0 +1,17 @@
+pub mod Meaning
+pub mod Cores
+pub mod Effects
+pub mod Plans
+pub mod Words
+pub mod Labelling
+pub mod Runs
+pub mod Instruction
+pub mod Decoding
+pub mod Calls
+pub mod Stub
+pub mod Open
+pub mod Begin
+pub mod Rows
+pub mod Arms
+pub mod WithArms
+pub mod Bare

@@ -1,0 +1,137 @@
+-- Secret branches whose arms meet again in equal times.
+use Rattle.arm_balance.specs.declared.Arm.{Arm}
+use Rattle.arm_balance.specs.Met.{met}
+use Rattle.arm_balance.specs.Balance.{arm_on, met_cycles}
+use Rattle.std.specs.Prelude.{ℕ, zero, suc, ◌+◌, List, [], ◌∷◌, ◌++◌, slice_set, ◌==◌, if◌then◌else◌, Bool, true, ◌&&◌, ◌||◌, not, Option, Some, None}
+use Rattle.sm_words.specs.Words.{add16, kept}
+use Rattle.insn_decode.specs.Code.{distance}
+use Rattle.cpu_step.specs.Plan.{writes_dst}
+use Rattle.insn_decode.specs.declared.insn.OneOp.TheVariants.{Push}
+use Rattle.insn_decode.specs.declared.insn.Operand.{Operand}
+use Rattle.insn_decode.specs.declared.insn.Operand.TheVariants.{Reg, Increment}
+use Rattle.insn_decode.specs.declared.insn.Insn.{Insn}
+use Rattle.insn_decode.specs.declared.insn.Insn.TheVariants.{Two, One, Jump}
+use Rattle.mod_layout.specs.declared.Module.{Module}
+use Rattle.mod_layout.specs.Table.{holds}
+use Rattle.flow_rule.specs.declared.Val.{Val}
+use Rattle.flow_rule.specs.declared.Val.TheVariants.{Known, Secret}
+use Rattle.flow_rule.specs.Values.{is_secret, val, put_val}
+use Rattle.flow_rule.specs.declared.Reason.TheVariants.{Arm as ArmInsn, ArmTime}
+use Rattle.flow_rule.specs.Rounds.{Point, Found, Step}
+use Rattle.flow_rule.specs.declared.Reach.{Reach}
+use Rattle.flow_rule.specs.Does.{plan_val, write_reaches, word_no, does_val, past_val}
+use Rattle.flow_rule.specs.declared.Verdict.{Verdict}
+use Rattle.flow_rule.specs.Flow.{because, because_if, start_of, flow_step, Decided}
+
+-- what an instruction writes
+abbrev pub stepped_regs : Operand → List ℕ
+stepped_regs (Increment r) = r ∷ []
+stepped_regs _ = []
+
+abbrev pub written_reg : Bool → Operand → List ℕ
+written_reg true (Reg r) = r ∷ []
+written_reg _ o = []
+
+abbrev pub written_regs : Insn → List ℕ
+written_regs (Two op w s d) = stepped_regs s ++ written_reg (writes_dst op) d
+written_regs (One Push w a) = stepped_regs a ++ 1 ∷ []
+written_regs (One op w a) = stepped_regs a ++ written_reg true a
+written_regs _ = []
+
+abbrev pub written_words : Module → List Reach → List ℕ
+written_words m [] = []
+written_words m (x ∷ xs) = elim x.addr [ Known a ↦ word_no m a ∷ written_words m xs | _ ↦ written_words m xs ]
+
+abbrev pub blot : List ℕ → List Val → List Val
+blot [] vs = vs
+blot (n ∷ ns) vs = blot ns (slice_set vs n Secret)
+
+-- registers keep their rules: R3 stays Known 0
+abbrev pub blot_core : List ℕ → List Val → List Val
+blot_core [] vs = vs
+blot_core (n ∷ ns) vs = blot_core ns (put_val vs n Secret)
+
+pub record Walk : Type 0 where
+  pub reasons : List Found
+  pub cycles : ℕ
+  pub regs : List ℕ
+  pub words : List ℕ
+
+abbrev pub ended : Walk
+ended = record { reasons = []; cycles = 0; regs = []; words = [] }
+
+abbrev pub refused : ℕ → ℕ → Walk
+refused branch pc = record { reasons = because branch ArmInsn pc; cycles = 0; regs = []; words = [] }
+
+abbrev pub met_regs : Option Insn → List ℕ
+met_regs None = []
+met_regs (Some insn) = written_regs insn
+
+abbrev pub met_words : Option Insn → Module → Point → List ℕ
+met_words None m x = []
+met_words (Some insn) m x = written_words m (write_reaches (plan_val insn x.pair.addr x.label.core))
+
+-- an instruction of an arm, and the rest of it
+abbrev pub walked : Module → List ℕ → Point → Walk → Walk
+walked m text x rest =
+    let o = met m.text text x.pair.addr in
+    record { reasons = rest.reasons; cycles = met_cycles o + rest.cycles; regs = met_regs o ++ rest.regs; words = met_words o m x ++ rest.words }
+
+-- after a step with these reasons and gives; where it leaves the text, the address where it goes on is no arm instruction's
+abbrev pub walk_past : List Found → List Point → ℕ → Bool → ℕ → Module → List ℕ → Point → (Point → Walk) → Walk
+walk_past [] [] branch lost next m text x rest = record ended { reasons = because_if lost branch ArmInsn next }
+walk_past [] (y ∷ ys) branch lost next m text x rest = walked m text x (rest y)
+walk_past (r ∷ rs) gs branch lost next m text x rest = refused branch x.pair.addr
+
+abbrev pub walk_on : Option ℕ → Step → ℕ → Bool → ℕ → Module → List ℕ → Point → (Point → Walk) → Walk
+walk_on None s branch join_in join m text x rest = refused branch x.pair.addr
+walk_on (Some next) s branch join_in join m text x rest = walk_past s.reasons s.gives branch (join_in || not (next == join)) next m text x rest
+
+-- from a point to the join, by these steps
+abbrev pub walk : (Point → Step) → Module → List ℕ → ℕ → ℕ → ℕ → Point → Walk
+walk step m text branch join zero x = refused branch x.pair.addr
+walk step m text branch join (suc fuel) x =
+    if x.pair.addr == join then ended
+    else walk_on (arm_on m.text text join x.pair.addr) (step x) branch (holds m.text join) join m text x (walk step m text branch join fuel)
+
+-- where an arm begins: past the jump, or at its target
+abbrev pub arm_start : Insn → ℕ → Point → List Val → Point
+arm_start insn a x core = record { pair = record { addr = kept 0 a; returns = x.pair.returns }; label = record { core = core; words = x.label.words } }
+
+-- the rule of a branch with a certificate
+abbrev pub step_arm : (Point → Step) → Module → List ℕ → Insn → ℕ → Arm → Point → Step
+step_arm step m text insn target arm x =
+    let pc = x.pair.addr in
+    let w0 = walk step m text pc arm.join (suc arm.join) (arm_start insn (add16 pc 2) x (past_val insn pc x.label.core)) in
+    let w1 = walk step m text pc arm.join (suc arm.join) (arm_start insn target x (does_val insn pc x.label.core []).core) in
+    record {
+      reasons = because_if (not (holds m.text arm.join)) pc ArmInsn arm.join ++ w0.reasons ++ w1.reasons
+          ++ because_if (not (w0.cycles == arm.cycles)) pc ArmTime 0 ++ because_if (not (w1.cycles == arm.cycles)) pc ArmTime 1;
+      gives = record {
+        pair = record { addr = arm.join; returns = x.pair.returns };
+        label = record { core = slice_set (blot_core (w0.regs ++ w1.regs) x.label.core) 0 (Known arm.join); words = blot (w0.words ++ w1.words) x.label.words };
+      } ∷ [];
+    }
+
+abbrev pub find_arm : List Arm → ℕ → Option Arm
+find_arm [] a = None
+find_arm (x ∷ xs) a = if x.branch == a then Some x else find_arm xs a
+
+abbrev pub step_branch : Option Arm → (Point → Step) → Module → List ℕ → Insn → Point → ℕ → Step
+step_branch None step m text insn x target = step x
+step_branch (Some arm) step m text insn x target = step_arm step m text insn target arm x
+
+-- only a conditional jump with Secret flags whose address is a branch of the list is taken otherwise
+abbrev pub step_arms_by : Option Insn → (Point → Step) → List Arm → Module → List ℕ → Point → Step
+step_arms_by (Some (Jump cond_no off)) step arms m text x =
+    if not (cond_no == 7) && is_secret (val x.label.core 2) then step_branch (find_arm arms x.pair.addr) step m text (Jump cond_no off) x (add16 (add16 x.pair.addr 2) (distance off)) else step x
+step_arms_by o step arms m text x = step x
+
+unfoldable pub step_arms : (Point → Step) → List Arm → Module → List ℕ → Point → Step
+step_arms step arms m text x = step_arms_by (met m.text text x.pair.addr) step arms m text x
+
+abbrev pub flow_with : Module → List ℕ → List Arm → Point → Step
+flow_with m text arms = step_arms (flow_step m text) arms m text
+
+abbrev pub VerdictWith : Module → List ℕ → List Arm → Verdict → Type 0
+VerdictWith m text arms a = Decided (flow_with m text arms) (start_of m text) m.text.start a

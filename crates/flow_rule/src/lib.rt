@@ -1,0 +1,85 @@
+//! The rule of flow over a module's text, and its laws: a text that the rule accepts is even for every two data.
+#![tactic(auto)]
+
+ghost use Rattle.flow_rule.specs.Laws.{Evenness, EvennessWithArms, WithoutArms};
+
+use pc_access::Kind;
+use sm_words::Width;
+
+/// What is known of a word in both runs.
+#[derive(Clone, Copy, Debug, Default, PartialEq, Eq)]
+pub enum Val {
+    /// This number.
+    Known(u16),
+    /// A value equal in both, a place outside the text.
+    Away,
+    /// A value equal in both.
+    Public,
+    /// Anything.
+    #[default]
+    Secret,
+}
+
+/// An access, and what is known of its address.
+#[derive(Clone, Copy, Debug, Default, PartialEq, Eq)]
+pub struct Reach {
+    pub kind: Kind,
+    pub addr: Val,
+    pub width: Width,
+}
+
+/// What is known of what an operation gives: its value, and the flags, where it sets them.
+#[derive(Clone, Copy, Debug, PartialEq, Eq)]
+pub struct Told {
+    pub value: Val,
+    pub flags: Option<Val>,
+}
+
+/// What is known at a pair: of each register by its number (PC's value is the pair's address, SR's is the
+/// flags'), and of the first 256 words of the data. Of other data nothing is known.
+#[derive(Clone, Copy, Debug, PartialEq, Eq)]
+pub struct Label {
+    pub core: [Val; 16],
+    pub words: [Val; 256],
+}
+
+/// Why a text is refused, by its number from 1.
+#[derive(Clone, Copy, Debug, PartialEq, Eq)]
+pub enum Reason {
+    SecretBranch,
+    SecretAddress,
+    OutsideAccess,
+    SecretAtExit,
+    UnknownTarget,
+    Illegal,
+    Unit,
+    TooMany,
+    Arm,
+    ArmTime,
+}
+
+/// Whether a text is even for every two data.
+#[derive(Clone, Copy, Debug, PartialEq, Eq)]
+pub enum Verdict {
+    Yes,
+    No {
+        addr: u16,
+        reason: Reason,
+        value: u16,
+    },
+}
+
+/// Where the verdict is yes, no list of calls tells two data apart, under any key.
+pub fn evenness()
+    ensures { Evenness }
+{}
+
+/// The same with certificates of balanced branches.
+pub fn evenness_with_arms()
+    ensures { EvennessWithArms }
+{}
+
+/// No certificates change nothing.
+pub fn without_arms()
+    ensures { WithoutArms }
+{}

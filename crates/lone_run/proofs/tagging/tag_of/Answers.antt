@@ -1,0 +1,15 @@
+use Rattle.std.proofs.Common.{◌∙◌, ap, take, map}
+use Rattle.mod_keys.specs.Keys.{tag_of}
+use Rattle.mod_keys.specs.Mac.{hmac}
+use Rattle.pc_access.specs.declared.Kind.TheVariants.{Read}
+use Rattle.attest.specs.Units.{each_byte}
+use Rattle.cpu_step.specs.Lone.{lone_read}
+use Rattle.lone_run.specs.Jobs.{call_of}
+use Rattle.lone_run.proofs.tagging.tag_of.Goals as goal
+
+pub returns : goal.returns
+unfolding tag_of
+returns c =
+    c.front.ensures
+    ∙ ap (take 16) (c.finish.ensures _ _ (c.feed.ensures _ _ c.new-hmac.ensures)
+    ∙ ap (λ key. hmac key (map (lone_read (call_of c.args.job.now) c.args.ram.now) (each_byte Read c.args.start c.args.count))) c.module_key-key.ensures)

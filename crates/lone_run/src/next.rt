@@ -1,0 +1,200 @@
+//! The next instruction of a module by itself, where it may do it.
+
+ghost use Rattle.std.specs.Prelude.{◌≡◌, ◌≤◌, ◌<◌, ◌+◌, ◌*◌, ◌&&◌, ℕ, List, Bool, true, IfSome, Some};
+ghost use Rattle.sm_words.specs.Words.{reg, word_at};
+ghost use Rattle.insn_decode.specs.Code.{IsDecoded, insn_of};
+ghost use Rattle.pc_access.specs.declared.Kind.TheVariants.{Read, Write};
+ghost use Rattle.attest.specs.Units.{each_byte, in_range, unit_named, unit_plan, UnitName, Tag};
+ghost use Rattle.cpu_step.specs.Fetched.{later_word, insn_at};
+ghost use Rattle.cpu_step.specs.Asked.{asks};
+ghost use Rattle.cpu_step.specs.Lone.{lone_byte, lone_who, unit_alone, is_alone, all_inside, text_word, may_do, if_home, next_first, next_insn, Lone};
+ghost use Rattle.lone_run.specs.Jobs.{call_of};
+
+use crate::job::{Job, holds, is_inside, word};
+use cpu_step::{Access, Kind, plan};
+use insn_decode::{Insn, decode};
+use sm_words::{Core, Width};
+
+/// The unit instruction that makes a tag.
+pub const TAG: u8 = 3;
+
+/// Whether word `k` of an instruction of `n` words at `pc`, if there is one, is in the text.
+fn has_word(job: &Job<'_>, pc: u16, n: u16, k: u16) -> bool
+    ensures { result ≡ text_word (call_of job.now) pc n k }
+{
+    k >= n || holds(job.owner.text, usize::from(pc) + 2 * usize::from(k))
+}
+
+/// Word `k` of an instruction of `n` words at `pc`, and 0 past its last.
+fn later(job: &Job<'_>, ram: &[u8], pc: u16, n: u16, k: u16) -> u16
+    ensures { result ≡ later_word (lone_byte (call_of job.now) ram.now) pc n k }
+{
+    if k < n {
+        word(job, ram, usize::from(pc) + 2 * usize::from(k))
+    } else {
+        0
+    }
+}
+
+/// The instruction of `n` words at `pc`.
+fn insn_at(job: &Job<'_>, ram: &[u8], pc: u16, n: u16) -> Option<Insn>
+    ensures exact { result ≡ insn_at (lone_byte (call_of job.now) ram.now) pc n }
+    ensures decoded { IfSome result (λ insn. IsDecoded insn) }
+{
+    decode(
+        word(job, ram, usize::from(pc)),
+        later(job, ram, pc, n, 1),
+        later(job, ram, pc, n, 2),
+    )
+}
+
+/// Whether the module may do this instruction by itself.
+fn is_alone(insn: &Insn) -> bool
+    ensures { result ≡ is_alone insn.now }
+{
+    match *insn {
+        Insn::Reti => false,
+        Insn::Unit(op) => is_unit_alone(op),
+        Insn::Two { .. } | Insn::One { .. } | Insn::Jump { .. } => true,
+    }
+}
+
+/// Whether it may do this unit instruction: all but protect, attest and id of address.
+fn is_unit_alone(op: u8) -> bool
+    ensures { result ≡ unit_alone (unit_named op) }
+{
+    op != 1 && op != 2 && op != 4
+}
+
+/// Whether each of these accesses is aligned and stays in the two sections.
+fn all_inside(job: &Job<'_>, accesses: &[Access]) -> bool
+    ensures { result ≡ all_inside (call_of job.now) accesses.now }
+{
+    for access in accesses {
+        if !is_inside(job, *access) {
+            return false;
+        }
+    }
+    true
+}
+
+/// Whether so many bytes from `start` on can be accessed.
+#[tactic(auto, using(crate::proofs::Ranges::bytes_next, crate::proofs::Ranges::bytes_other, crate::proofs::Ranges::bytes_end))]
+fn has_bytes(job: &Job<'_>, kind: Kind, start: u16, count: u16) -> bool
+    requires { start + count ≤ 65536 }
+    ensures { result ≡ all_inside (call_of job.now) (each_byte kind start count) }
+{
+    for k in 0..count {
+        let access = Access {
+            kind,
+            addr: start + k,
+            width: Width::Byte,
+        };
+        if !is_inside(job, access) {
+            return false;
+        }
+    }
+    true
+}
+
+/// Whether the range from `start`, below `end`, is neither a device's nor past the last address.
+fn in_range(start: u32, end: u32) -> bool
+    ensures { result ≡ in_range start end }
+{
+    0x0200 <= start && end <= 0x10000 && start <= end
+}
+
+/// Whether a tag is made: of the message from R12, below R13, for the 16 bytes from R14 on.
+pub fn has_ranges(core: &Core) -> bool
+    ensures value { result ≡ (in_range (reg core.now 12) (reg core.now 13) && in_range (reg core.now 14) (reg core.now 14 + 16)) }
+    ensures order { result ≡ true → (reg core.now 12 ≤ reg core.now 13) × (reg core.now 14 + 16 ≤ 65536) }
+{
+    in_range(u32::from(core.get(12)), u32::from(core.get(13)))
+        && in_range(u32::from(core.get(14)), u32::from(core.get(14)) + 16)
+}
+
+fn both(first: bool, second: bool) -> bool
+    ensures { result ≡ (first && second) }
+{
+    first && second
+}
+
+/// Whether the accesses of a tag stay in the two sections.
+#[tactic(auto, using(crate::proofs::Ranges::tag_ranges, crate::proofs::Ranges::tag_none), unfolding(attest::specs::Units::unit_plan))]
+fn has_tag(job: &Job<'_>, core: &Core) -> bool
+    ensures { result ≡ all_inside (call_of job.now) (unit_plan (lone_who (call_of job.now)) Tag core.now) }
+{
+    if !has_ranges(core) {
+        return true;
+    }
+    let start = core.get(12);
+    let reads = has_bytes(job, Kind::Read, start, core.get(13) - start);
+    let writes = has_bytes(job, Kind::Write, core.get(14), 16);
+    both(reads, writes)
+}
+
+/// Whether the accesses of an instruction that the module may do stay in the two sections.
+#[tactic(auto, using(crate::proofs::Ranges::no_tag), unfolding(cpu_step::specs::Asked::asks, attest::specs::Units::unit_plan))]
+fn stays(job: &Job<'_>, insn: &Insn, core: &Core) -> bool
+    requires { is_alone insn.now ≡ true }
+    ensures { result ≡ all_inside (call_of job.now) (asks (lone_who (call_of job.now)) insn.now core.now) }
+{
+    match *insn {
+        Insn::Unit(TAG) => has_tag(job, core),
+        Insn::Unit(_) => true,
+        Insn::Two { .. } | Insn::One { .. } | Insn::Jump { .. } | Insn::Reti => {
+            all_inside(job, plan(insn, core).as_slice())
+        }
+    }
+}
+
+/// An instruction that the module may do, and else none.
+fn may_do(job: &Job<'_>, core: &Core, insn: Option<Insn>) -> Option<Insn>
+    requires { IfSome insn (λ insn. IsDecoded insn) }
+    ensures exact { (ram : List ℕ) (rest : ℕ) (closing : Bool) → result ≡ may_do (call_of job.now) (record { core = core.now; data_bytes = ram; rest = rest; closing = closing }) insn }
+    ensures decoded { IfSome result (λ insn. IsDecoded insn) }
+    ensures alone { IfSome result (λ insn. is_alone insn ≡ true) }
+    ensures inside { IfSome result (λ insn. all_inside (call_of job.now) (asks (lone_who (call_of job.now)) insn core.now) ≡ true) }
+{
+    match insn {
+        Some(insn) => {
+            if is_alone(&insn) && stays(job, &insn, core) {
+                Some(insn)
+            } else {
+                None
+            }
+        }
+        None => None,
+    }
+}
+
+/// The instruction of `n` words in PC's place, where all of it is in the text and the module may do it.
+fn home_insn(job: &Job<'_>, ram: &[u8], core: &Core, n: u16) -> Option<Insn>
+    ensures exact { (rest : ℕ) (closing : Bool) → result ≡ if_home (text_word (call_of job.now) (reg core.now 0) n 1 && text_word (call_of job.now) (reg core.now 0) n 2) (may_do (call_of job.now) (record { core = core.now; data_bytes = ram.now; rest = rest; closing = closing }) (insn_at (lone_byte (call_of job.now) ram.now) (reg core.now 0) n)) }
+    ensures decoded { IfSome result (λ insn. IsDecoded insn) }
+    ensures alone { IfSome result (λ insn. is_alone insn ≡ true) }
+    ensures inside { IfSome result (λ insn. all_inside (call_of job.now) (asks (lone_who (call_of job.now)) insn core.now) ≡ true) }
+{
+    let pc = core.get(0);
+    let home = both(has_word(job, pc, n, 1), has_word(job, pc, n, 2));
+    if home {
+        may_do(job, core, insn_at(job, ram, pc, n))
+    } else {
+        None
+    }
+}
+
+/// The instruction that the module does next, where all of it is in the text and it may do it.
+#[tactic(auto, unfolding(cpu_step::specs::Lone::next_insn))]
+pub fn next_insn(job: &Job<'_>, ram: &[u8], core: &Core) -> Option<Insn>
+    ensures exact { (rest : ℕ) (closing : Bool) → result ≡ next_insn (call_of job.now) (record { core = core.now; data_bytes = ram.now; rest = rest; closing = closing }) }
+    ensures decoded { IfSome result (λ insn. IsDecoded insn) }
+    ensures alone { IfSome result (λ insn. is_alone insn ≡ true) }
+    ensures inside { IfSome result (λ insn. all_inside (call_of job.now) (asks (lone_who (call_of job.now)) insn core.now) ≡ true) }
+{
+    let first = decode(word(job, ram, usize::from(core.get(0))), 0, 0);
+    match first {
+        Some(first) => home_insn(job, ram, core, first.length()),
+        None => None,
+    }
+}

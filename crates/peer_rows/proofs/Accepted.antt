@@ -1,0 +1,59 @@
+-- An accepted text makes peers.
+use Rattle.std.proofs.Common.{◌≡◌, ◌<◌, ◌≤◌, ◌⊎◌, inl, inr, ℕ, zero, suc, ◌+◌, ◌-◌, ◌==◌, List, [], ◌∷◌, length, take, drop, slice_index, slice_index_or, get_or, refl, sym, ap, ◌∙◌, subst, arith, Bool, true, false, cond, Option, Some, None}
+use Rattle.std.proofs.lemmas.List.{length-drop, length-take}
+use Rattle.mod_layout.specs.declared.Module.{Module}
+use Rattle.mod_layout.specs.declared.Section.{Section}
+use Rattle.mod_layout.specs.Table.{find_module, module_of, size_of}
+use Rattle.mod_layout.specs.Tables.{IsSection, IsModule, AreModules}
+use Rattle.image_text.specs.Image.{Image, IsImage}
+use Rattle.arm_balance.specs.declared.Arm.{Arm}
+use Rattle.flow_rule.specs.declared.Verdict.TheVariants.{Yes}
+use Rattle.flow_rule.specs.Arms.{VerdictWith}
+use Rattle.flow_rule.specs.Laws.{IsData}
+use Rattle.flow_rule.proofs.WithArms.{even_with}
+use Rattle.written_machine.specs.Peers.{section, Peers}
+use Rattle.peer_rows.specs.Laws.{DifferInData}
+
+found_module : (given m : ℕ) (ms : List Module) (owner : Module) → AreModules given ms → find_module m ms ≡ Some owner → IsModule given owner
+found_module given m [] owner h e = absurd cc
+found_module given m (x ∷ xs) owner h e = by (x.id == m) e (λ f. found_module given m xs owner h.2 f)
+  where
+    by : (b : Bool) → cond b (Some x) (find_module m xs) ≡ Some owner → (find_module m xs ≡ Some owner → IsModule given owner) → IsModule given owner
+    by true f go = let g : x ≡ owner = cc in subst (IsModule given) g h.0
+    by false f go = go f
+
+taken : (n : ℕ) (xs : List ℕ) → ((i : ℕ) → slice_index xs i < 256) → (i : ℕ) → slice_index (take n xs) i < 256
+taken zero xs h i = omega arith
+taken (suc n) [] h i = omega arith
+taken (suc n) (x ∷ xs) h zero = h 0
+taken (suc n) (x ∷ xs) h (suc i) = taken n xs (λ i. h (suc i)) i
+
+dropped : (n : ℕ) (xs : List ℕ) → ((i : ℕ) → slice_index xs i < 256) → (i : ℕ) → slice_index (drop n xs) i < 256
+dropped zero xs h i = h i
+dropped (suc n) [] h i = omega arith
+dropped (suc n) (x ∷ xs) h i = dropped n xs (λ i. h (suc i)) i
+
+is_data : (i : Image) (owner : Module) → IsImage i → IsSection owner.ram → IsData owner (section owner.ram i.memory)
+is_data i owner image ram = record {
+  long = let order = ram.order in let high = ram.high in let full = image.full in
+      let e = length-drop owner.ram.start i.memory in let f = length-take (size_of owner.ram) (drop owner.ram.start i.memory) in omega (arith, e, f, order, high, full);
+  bytes = taken (size_of owner.ram) (drop owner.ram.start i.memory) (dropped owner.ram.start i.memory image.bytes);
+}
+
+pub accepted : (a b : Image) (m : ℕ) (owner : Module) (arms : List Arm) → DifferInData a b m owner → VerdictWith owner (section owner.text a.memory) arms Yes → Peers a b m
+accepted a b m owner arms d v =
+    let is = found_module a.table.given m a.table.modules owner d.image_a.table_ok.modules d.owned in
+    let da = is_data a owner d.image_a is.ram_ok in
+    let db = is_data b owner d.image_b is.ram_ok in
+    record {
+      image_a = d.image_a;
+      image_b = d.image_b;
+      table = d.table;
+      node_key = d.node_key;
+      handler_sp = d.handler_sp;
+      owner = owner;
+      owned = d.owned;
+      elsewhere = d.elsewhere;
+      even = λ es n h. even_with a.node_key a.table.given owner (section owner.text a.memory) arms n es (section owner.ram a.memory) (section owner.ram b.memory) is v
+          (record { long = da.long; bytes = da.bytes }) (record { long = db.long; bytes = db.bytes }) h;
+    }

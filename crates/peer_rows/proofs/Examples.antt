@@ -1,0 +1,150 @@
+-- Two pairs of peers.
+use Rattle.std.proofs.Common.{◌≡◌, ◌≢◌, ◌<◌, ◌≤◌, ◌⊎◌, inl, inr, ℕ, zero, suc, ◌+◌, ◌-◌, ◌%◌, ◌/◌, ◌==◌, ◌&&◌, nat_lt, nat_le, List, [], ◌∷◌, length, set, replicate, slice_index, refl, sym, ap, ◌∙◌, subst, arith, Bool, true, false, lit≤, Some}
+use Rattle.std.proofs.lemmas.Bool.Decides.{nat_tests}
+use Rattle.insn_decode.specs.Code.{insn_of}
+use Rattle.cycle_table.specs.Cycles.{cycles_of}
+use Rattle.mod_layout.specs.declared.Module.{Module}
+use Rattle.mod_layout.specs.Table.{holds, size_of}
+use Rattle.mod_layout.specs.Tables.{IsSection, IsModule, IsTable}
+use Rattle.image_text.specs.Image.{Image, IsImage}
+use Rattle.arm_balance.specs.declared.Arm.{Arm}
+use Rattle.arm_balance.specs.Met.{met}
+use Rattle.flow_rule.specs.declared.Verdict.TheVariants.{Yes}
+use Rattle.flow_rule.specs.Does.{plan_val, does_val}
+use Rattle.flow_rule.specs.Rounds.{Point, Step, rounds, all_reasons}
+use Rattle.flow_rule.specs.Flow.{step_of, step_stub, has_stub, start_of}
+use Rattle.flow_rule.specs.Arms.{step_arms, flow_with, VerdictWith}
+use Rattle.written_machine.specs.Peers.{section, Peers}
+use Rattle.peer_rows.specs.Laws.{DifferInData}
+use Rattle.peer_rows.specs.Rows.{with_words, called, caller, memory_of, image_of, blind, balanced, BlindPeers, BalancedPeers}
+use Rattle.peer_rows.proofs.Accepted.{accepted}
+use Rattle.peer_rows.proofs.Sound.{Sound, Words, sound_words, sound_zeros, set_else}
+
+-- ---- images
+
+all_words : List ℕ → Bool
+all_words [] = true
+all_words (w ∷ ws) = nat_lt w 65536 && all_words ws
+
+words_fit : (ws : List ℕ) → all_words ws ≡ true → Words ws
+unfolding all_words
+words_fit [] e = tt
+words_fit (w ∷ ws) e = by (nat_lt w 65536) refl e (λ f. words_fit ws f)
+  where
+    by : (b : Bool) → nat_lt w 65536 ≡ b → (b && all_words ws) ≡ true → (all_words ws ≡ true → Words ws) → (w < 65536) × Words ws
+    by true f e go = ((let h : w < 65536 = grind (arith, nat_tests) in h), go e)
+    by false f e go = absurd cc
+
+sound_memory : (text : List ℕ) → all_words text ≡ true → Sound (memory_of text)
+unfolding memory_of all_words
+sound_memory text e =
+    sound_words 0xfffe (0x0200 ∷ []) (with_words 0x0300 text (with_words 0x0200 caller (replicate 65536 0))) (lit≤ tt) (words_fit (0x0200 ∷ []) refl)
+    (sound_words 0x0300 text (with_words 0x0200 caller (replicate 65536 0)) (lit≤ tt) (words_fit text e)
+    (sound_words 0x0200 caller (replicate 65536 0) (lit≤ tt) (words_fit caller refl) (sound_zeros 65536 refl)))
+
+zero_key : (n a : ℕ) → slice_index (replicate n 0) a ≡ 0
+zero_key zero a = refl
+zero_key (suc n) zero = refl
+zero_key (suc n) (suc a) = zero_key n a
+
+is_called : (text_end : ℕ) → 0x0300 < text_end → text_end % 2 ≡ 0 → text_end ≤ 0x0400 → IsModule 1 (called text_end)
+is_called e low even high = record {
+  text_ok = record { order = low; even_start = refl; even_end = even; low = omega arith; high = omega arith };
+  ram_ok = record { order = omega arith; even_start = refl; even_end = refl; low = omega arith; high = omega arith };
+  apart = inr (omega arith);
+  numbered = omega arith;
+  known = omega arith;
+}
+
+is_image : (text : List ℕ) (text_end word : ℕ) → all_words text ≡ true → 0x0300 < text_end → text_end % 2 ≡ 0 → text_end ≤ 0x0400 → word < 65536 → IsImage (image_of text text_end word)
+is_image text e word fit low even high small =
+    let s : Sound (with_words 0x0400 (word ∷ []) (memory_of text)) = sound_words 0x0400 (word ∷ []) (memory_of text) (omega arith) (small, tt) (sound_memory text fit) in
+    record {
+      full = s.full;
+      bytes = s.bytes;
+      low = s.low;
+      sixteen = refl;
+      key_bytes = λ n. subst (λ v. v < 256) (sym (zero_key 16 n)) (omega arith);
+      table_ok = record { modules = (is_called e low even high, tt, tt); fits = omega arith; room_ok = inl refl };
+      numbered = (refl, omega arith, tt);
+      all_held = refl;
+      given_small = omega arith;
+      even_sp = refl;
+      small_sp = omega arith;
+    }
+
+same_else : (memory : List ℕ) (v w x : ℕ) → holds (called 0).ram x ≡ false → slice_index (with_words 0x0400 (v ∷ []) memory) x ≡ slice_index (with_words 0x0400 (w ∷ []) memory) x
+same_else memory v w x e =
+    let a : x ≢ 0x0400 = λ f. absurd (clash (sym (ap (holds (called 0).ram) f) ∙ e)) in
+    let b : x ≢ 0x0401 = λ f. absurd (clash (sym (ap (holds (called 0).ram) f) ∙ e)) in
+    set_else (set memory 0x0400 (v % 256)) 0x0401 (v / 256) x b ∙ set_else memory 0x0400 (v % 256) x a
+    ∙ sym (set_else (set memory 0x0400 (w % 256)) 0x0401 (w / 256) x b ∙ set_else memory 0x0400 (w % 256) x a)
+  where
+    clash : true ≡ false → ⊥
+    clash e = cc
+
+differ : (text : List ℕ) (text_end v w : ℕ) → all_words text ≡ true → 0x0300 < text_end → text_end % 2 ≡ 0 → text_end ≤ 0x0400 → v < 65536 → w < 65536 → DifferInData (image_of text text_end v) (image_of text text_end w) 1 (called text_end)
+differ text e v w fit low even high a b = record {
+  image_a = is_image text e v fit low even high a;
+  image_b = is_image text e w fit low even high b;
+  table = refl;
+  node_key = refl;
+  handler_sp = refl;
+  owned = refl;
+  elsewhere = λ x h. same_else (memory_of text) v w x h;
+}
+
+-- ---- texts
+
+bytes_of : List ℕ → List ℕ
+bytes_of [] = []
+bytes_of (w ∷ ws) = w % 256 ∷ w / 256 ∷ bytes_of ws
+
+blind_text : section (called 0x0306).text (image_of blind 0x0306 0).memory ≡ bytes_of blind
+unfolding memory_of bytes_of
+blind_text = refl
+
+balanced_text : section (called 0x0322).text (image_of balanced 0x0322 0).memory ≡ bytes_of balanced
+unfolding memory_of bytes_of
+balanced_text = refl
+
+blind_accepted : VerdictWith (called 0x0306) (bytes_of blind) [] Yes
+unfolding bytes_of step_arms met step_of step_stub has_stub plan_val does_val insn_of
+blind_accepted =
+    let step : Point → Step = flow_with (called 0x0306) (bytes_of blind) [] in
+    let start : Point = start_of (called 0x0306) (bytes_of blind) in
+    (rounds step start 3, record { rounds_to = 3; is = refl; stays = refl }, lit≤ tt, refl)
+
+meet : List Arm
+meet = record { branch = 0x0304; join = 0x0318; cycles = 6 } ∷ []
+
+abbrev balanced_points : ℕ → List Point
+balanced_points n = rounds (flow_with (called 0x0322) (bytes_of balanced) meet) (start_of (called 0x0322) (bytes_of balanced)) n
+
+balanced_stays : balanced_points 6 ≡ balanced_points 5
+unfolding bytes_of meet step_arms met step_of step_stub has_stub plan_val does_val insn_of cycles_of
+balanced_stays = refl
+
+balanced_reasons : all_reasons (flow_with (called 0x0322) (bytes_of balanced) meet) (balanced_points 5) ≡ []
+unfolding bytes_of meet step_arms met step_of step_stub has_stub plan_val does_val insn_of cycles_of
+balanced_reasons = refl
+
+balanced_few : length (balanced_points 5) ≡ 5
+unfolding bytes_of meet step_arms met step_of step_stub has_stub plan_val does_val insn_of cycles_of
+balanced_few = refl
+
+balanced_accepted : VerdictWith (called 0x0322) (bytes_of balanced) meet Yes
+balanced_accepted =
+    (balanced_points 5, record { rounds_to = 5; is = refl; stays = balanced_stays }, subst (λ n. n ≤ 16384) (sym balanced_few) (omega arith), balanced_reasons)
+
+pub blind_peers : BlindPeers
+unfolding all_words
+blind_peers =
+    accepted (image_of blind 0x0306 0) (image_of blind 0x0306 1) 1 (called 0x0306) [] (differ blind 0x0306 0 1 refl (omega arith) refl (omega arith) (omega arith) (omega arith))
+    (subst (λ t. VerdictWith (called 0x0306) t [] Yes) (sym blind_text) blind_accepted)
+
+pub balanced_peers : BalancedPeers
+unfolding all_words
+balanced_peers =
+    accepted (image_of balanced 0x0322 0) (image_of balanced 0x0322 1) 1 (called 0x0322) meet (differ balanced 0x0322 0 1 refl (omega arith) refl (omega arith) (omega arith) (omega arith))
+    (subst (λ t. VerdictWith (called 0x0322) t meet Yes) (sym balanced_text) balanced_accepted)

@@ -1,0 +1,5 @@
+use Rattle.peer_rows.proofs.Accepted.{accepted}
+use Rattle.peer_rows.proofs.accepted_are_peers.Goals as goal
+
+pub returns : goal.returns
+returns c = accepted

@@ -1,0 +1,10 @@
+pub mod Plain
+pub mod LineLemmas
+pub mod ChallengeLines
+pub mod Loop
+pub mod EntryLines
+pub mod Sending
+pub mod Forms
+pub mod Replying
+pub mod Judging
+pub mod OwnLines

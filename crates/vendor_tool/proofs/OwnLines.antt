@@ -1,0 +1,399 @@
+-- The lines of a trace are read as what they tell.
+use Rattle.std.proofs.Common.{ℕ, zero, suc, ◌≡◌, ◌+◌, ◌-◌, ◌^◌, ◌<◌, Bool, true, false, ◌&&◌, List, [], ◌∷◌, ◌++◌, length, drop, replicate, Option, Some, Ok, codes, refl, ap, sym, subst, ◌∙◌, append_assoc, length-append, arith}
+use Rattle.std.specs.Prelude.{find, is_some}
+use Rattle.std.specs.List.{All}
+use Rattle.std.specs.Option.{option_to_list}
+use Rattle.std.specs.Fmt.{decimal}
+use Rattle.std.proofs.lemmas.List.{append-nil}
+use Rattle.std.proofs.lemmas.List.Elements.{All-append, All-cons, All-tail}
+use Rattle.std.proofs.lemmas.List.Splits.{slice_split_none, slice_split_at}
+use Rattle.texts.specs.Decimals.{is_decimal}
+use Rattle.texts.specs.Hexadecimals.{hex_byte, hex_word, read_hex_byte, read_hex_word}
+use Rattle.texts.specs.Laws.{HasNoFeed}
+use Rattle.texts.specs.Lines.{is_line_feed, ended_lines, unended}
+use Rattle.texts.proofs.DecimalLemmas.{is_decimal-decimal}
+use Rattle.texts.proofs.LawLemmas.{bytes_are_read, words_are_read}
+use Rattle.texts.proofs.LineLemmas.{ended_lines-before, unended-before}
+use Rattle.pc_access.specs.declared.Rule.{Rule}
+use Rattle.pc_access.specs.declared.Rule.TheVariants.{FetchNotEntry, FetchData, ReadData, WriteData, WriteText, Reenter, RetiInside, Straddle, Misaligned, Illegal, FetchDevice}
+use Rattle.sm_words.specs.Words.{reg}
+use Rattle.tracer.specs.declared.EndState.{EndState}
+use Rattle.tracer.specs.declared.EndState.TheVariants.{Stopped as EndsStopped, Inside as EndsInside, Outside as EndsOutside}
+use Rattle.tracer.specs.declared.Event.{Event}
+use Rattle.tracer.specs.declared.Event.TheVariants.{Resume as EResume, Close as EClose, Handler as EHandler, Leave as ELeave, Hide as EHide, Irq as EIrq, Enter as EEnter, Reti as EReti, Protect as EProtect, Out as EOut, Stop as EStop}
+use Rattle.tracer.specs.Laws.{IsEvent}
+use Rattle.tracer.specs.Lines.{rule_name, event_text, event_line, registers_from, end_text, end_line_at}
+use Rattle.vendor_tool.specs.declared.trace_line.Kind.{Kind}
+use Rattle.vendor_tool.specs.declared.trace_line.Kind.TheVariants.{Resume, Close, Handler, Leave, Hide, Irq, Enter, Reti, Protect, Out, Stop, Stopped, Inside, Outside}
+use Rattle.vendor_tool.specs.declared.trace_line.Word.TheVariants.{Address, RuleName}
+use Rattle.vendor_tool.specs.ChallengeText.{is_space}
+use Rattle.vendor_tool.specs.Laws.{TimedEvent, IsTold, IsEndState, events_text, sent_in, sent, TracesAreRead}
+use Rattle.vendor_tool.specs.Replies.{last_byte, sent_by, ends, at_end, after_bytes, by_end, from_kind, replies_from, replies_of}
+use Rattle.vendor_tool.proofs.Plain.{IsPlain, decimal_plain, byte_plain, word_plain, each, no_space, no_feed}
+use Rattle.vendor_tool.specs.TraceLines.{words, fits, all_fit, form_of, kinds, kind_of}
+
+-- ---- words that single spaces part
+
+rule_plain : (rule : Rule) → IsPlain (rule_name rule)
+rule_plain FetchNotEntry = refl
+rule_plain FetchData = refl
+rule_plain ReadData = refl
+rule_plain WriteData = refl
+rule_plain WriteText = refl
+rule_plain Reenter = refl
+rule_plain RetiInside = refl
+rule_plain Straddle = refl
+rule_plain Misaligned = refl
+rule_plain Illegal = refl
+rule_plain FetchDevice = refl
+
+abbrev joined : List ℕ → List (List ℕ) → List ℕ
+joined word [] = word
+joined word (next ∷ more) = word ++ 32 ∷ joined next more
+
+abbrev ArePlain : List (List ℕ) → Type 0
+ArePlain [] = Unit {0}
+ArePlain (w ∷ ws) = IsPlain w × ArePlain ws
+
+words-joined : (word : List ℕ) (more : List (List ℕ)) → IsPlain word → ArePlain more → words (joined word more) ≡ word ∷ more
+unfolding words
+words-joined word [] plain are = slice_split_none is_space word (each is_space word no_space plain)
+words-joined word (next ∷ more) plain are =
+    slice_split_at is_space word 32 (joined next more) (each is_space word no_space plain) refl ∙ ap (λ ws. word ∷ ws) (words-joined next more are.0 are.1)
+
+no_feed-joined : (word : List ℕ) (more : List (List ℕ)) → IsPlain word → ArePlain more → HasNoFeed (joined word more)
+no_feed-joined word [] plain are = each is_line_feed word no_feed plain
+no_feed-joined word (next ∷ more) plain are =
+    All-append (λ b. is_line_feed b ≡ false) word (32 ∷ joined next more) (each is_line_feed word no_feed plain)
+    (All-cons (λ b. is_line_feed b ≡ false) 32 (joined next more) refl (no_feed-joined next more are.0 are.1))
+
+-- ---- kinds
+
+abbrev kind_by : List (List ℕ) → Option Kind
+kind_by ws = find (λ kind. all_fit (form_of kind) ws) kinds
+
+kind_is : (line : List ℕ) (ws : List (List ℕ)) (kind : Kind) → words line ≡ ws → kind_by ws ≡ Some kind → kind_of line ≡ Some kind
+unfolding kind_of
+kind_is line ws kind are is = ap kind_by are ∙ is
+
+number : (n : ℕ) → n < 2 ^ 64 → is_decimal (decimal n) ≡ true
+number n small = is_decimal-decimal n small
+
+address : (word : ℕ) → word < 65536 → is_some (read_hex_word (hex_word word)) ≡ true
+address word small = ap is_some ((words_are_read (hex_word word) word).1 (small, refl))
+
+byte_word : (byte : ℕ) → byte < 256 → is_some (read_hex_byte (hex_byte byte)) ≡ true
+byte_word byte small = ap is_some ((bytes_are_read (hex_byte byte) byte).1 (small, refl))
+
+a_rule : (rule : Rule) → fits RuleName (rule_name rule) ≡ true
+a_rule FetchNotEntry = refl
+a_rule FetchData = refl
+a_rule ReadData = refl
+a_rule WriteData = refl
+a_rule WriteText = refl
+a_rule Reenter = refl
+a_rule RetiInside = refl
+a_rule Straddle = refl
+a_rule Misaligned = refl
+a_rule Illegal = refl
+a_rule FetchDevice = refl
+
+module _ (c : List ℕ) (cycle : is_decimal c ≡ true) where
+  one_number : (m : List ℕ) → is_decimal m ≡ true → (kind_by (c ∷ codes "resume" ∷ m ∷ []) ≡ Some Resume) × (kind_by (c ∷ codes "close" ∷ m ∷ []) ≡ Some Close)
+      × (kind_by (c ∷ codes "irq" ∷ m ∷ []) ≡ Some Irq) × (kind_by (c ∷ codes "protect" ∷ m ∷ []) ≡ Some Protect)
+  one_number m id = (rw (cycle, id) refl, rw (cycle, id) refl, rw (cycle, id) refl, rw (cycle, id) refl)
+
+  handler : (h : List ℕ) → is_some (read_hex_word h) ≡ true → kind_by (c ∷ codes "handler" ∷ codes "pc" ∷ h ∷ []) ≡ Some Handler
+  handler h word = rw (cycle, word) refl
+
+  leave : (m h : List ℕ) → is_decimal m ≡ true → is_some (read_hex_word h) ≡ true → kind_by (c ∷ codes "leave" ∷ m ∷ codes "pc" ∷ h ∷ []) ≡ Some Leave
+  leave m h id word = rw (cycle, id, word) refl
+
+  hide : (m v : List ℕ) → is_decimal m ≡ true → is_decimal v ≡ true → kind_by (c ∷ codes "hide" ∷ m ∷ codes "vector" ∷ v ∷ []) ≡ Some Hide
+  hide m v id vector = rw (cycle, id, vector) refl
+
+  enter : (m v : List ℕ) → is_decimal m ≡ true → is_decimal v ≡ true → kind_by (c ∷ codes "enter" ∷ m ∷ codes "from" ∷ v ∷ []) ≡ Some Enter
+  enter m v id from = rw (cycle, id, from) refl
+
+  reti : kind_by (c ∷ codes "reti" ∷ []) ≡ Some Reti
+  reti = rw cycle refl
+
+  out : (b : List ℕ) → is_some (read_hex_byte b) ≡ true → kind_by (c ∷ codes "out" ∷ b ∷ []) ≡ Some Out
+  out b byte = rw (cycle, byte) refl
+
+  stop : (r p a m : List ℕ) → fits RuleName r ≡ true → is_some (read_hex_word p) ≡ true → is_some (read_hex_word a) ≡ true → is_decimal m ≡ true
+      → kind_by (c ∷ codes "stop" ∷ r ∷ codes "pc" ∷ p ∷ codes "addr" ∷ a ∷ codes "module" ∷ m ∷ []) ≡ Some Stop
+  stop r p a m rule pc addr id = rw (cycle, rule, pc, addr, id) refl
+
+  stopped : kind_by (codes "end" ∷ c ∷ codes "stopped" ∷ []) ≡ Some Stopped
+  stopped = rw cycle refl
+
+  inside : (m : List ℕ) → is_decimal m ≡ true → kind_by (codes "end" ∷ c ∷ codes "inside" ∷ m ∷ []) ≡ Some Inside
+  inside m id = rw (cycle, id) refl
+
+  outside : (rs : List (List ℕ)) → all_fit (replicate 16 Address) rs ≡ true → kind_by (codes "end" ∷ c ∷ codes "outside" ∷ rs) ≡ Some Outside
+  outside rs are = rw (cycle, are) refl
+
+-- ---- lines
+
+-- what a line is read as
+record Reads (line : List ℕ) (end : Bool) (bytes : List ℕ) : Type 0 where
+  kind : Kind
+  is : kind_of line ≡ Some kind
+  ends_so : ends kind ≡ end
+  sent_so : sent_by kind line ≡ bytes
+  clean : HasNoFeed line
+
+-- a line of these words
+record IsJoined (line : List ℕ) (kind : Kind) : Type 0 where
+  first : List ℕ
+  more : List (List ℕ)
+  joins : line ≡ joined first more
+  first_plain : IsPlain first
+  more_plain : ArePlain more
+  is : kind_by (first ∷ more) ≡ Some kind
+
+reads : (line : List ℕ) (kind : Kind) (end : Bool) (bytes : List ℕ) → IsJoined line kind → ends kind ≡ end → sent_by kind line ≡ bytes → Reads line end bytes
+reads line kind end bytes j e s = record {
+  kind = kind;
+  is = kind_is line (j.first ∷ j.more) kind (ap words j.joins ∙ words-joined j.first j.more j.first_plain j.more_plain) j.is;
+  ends_so = e;
+  sent_so = s;
+  clean = subst HasNoFeed (sym j.joins) (no_feed-joined j.first j.more j.first_plain j.more_plain);
+}
+
+-- the line of an event, without its LF
+abbrev event_words : ℕ → Event → List ℕ
+event_words c e = decimal c ++ codes " " ++ event_text e
+
+drop_front : (xs ys : List ℕ) → length ys ≡ 2 → drop (length (xs ++ ys) - 2) (xs ++ ys) ≡ ys
+drop_front xs ys two =
+    let count : length (xs ++ ys) - 2 ≡ length xs = omega (arith, length-append xs ys) in
+    ap (λ n. drop n (xs ++ ys)) count ∙ by xs
+  where
+    by : (xs : List ℕ) → drop (length xs) (xs ++ ys) ≡ ys
+    by [] = refl
+    by (x ∷ xs) = by xs
+
+out_byte : (c byte : ℕ) → byte < 256 → sent_by Out (event_words c (EOut byte)) ≡ byte ∷ []
+out_byte c byte small =
+    ap (λ o. option_to_list o)
+    (ap last_byte (sym (append_assoc (decimal c ++ codes " ") (codes "out ") (hex_byte byte)))
+    ∙ ap read_hex_byte (drop_front ((decimal c ++ codes " ") ++ codes "out ") (hex_byte byte) refl)
+    ∙ (bytes_are_read (hex_byte byte) byte).1 (small, refl))
+
+stop_joined : (c r p a m : List ℕ) → c ++ codes " " ++ (codes "stop " ++ r ++ codes " pc " ++ p ++ codes " addr " ++ a ++ codes " module " ++ m)
+    ≡ joined c (codes "stop" ∷ r ∷ codes "pc" ∷ p ∷ codes "addr" ∷ a ∷ codes "module" ∷ m ∷ [])
+stop_joined c r p a m = simp append_assoc
+
+event_reads : (c : ℕ) (e : Event) → c < 2 ^ 64 → IsEvent e → Reads (event_words c e) false (sent_in e)
+event_reads c (EResume id) low h =
+    reads _ Resume false [] (record {
+      first = decimal c;
+      more = codes "resume" ∷ decimal id ∷ [];
+      joins = simp append_assoc;
+      first_plain = decimal_plain c low;
+      more_plain = (refl, (decimal_plain id (omega arith), tt));
+      is = (one_number (decimal c) (number c low) (decimal id) (number id (omega arith))).0;
+    }) refl refl
+event_reads c (EClose id) low h =
+    reads _ Close false [] (record {
+      first = decimal c;
+      more = codes "close" ∷ decimal id ∷ [];
+      joins = simp append_assoc;
+      first_plain = decimal_plain c low;
+      more_plain = (refl, (decimal_plain id (omega arith), tt));
+      is = (one_number (decimal c) (number c low) (decimal id) (number id (omega arith))).1;
+    }) refl refl
+event_reads c (EHandler pc) low h =
+    reads _ Handler false [] (record {
+      first = decimal c;
+      more = codes "handler" ∷ codes "pc" ∷ hex_word pc ∷ [];
+      joins = simp append_assoc;
+      first_plain = decimal_plain c low;
+      more_plain = (refl, (refl, (word_plain pc h, tt)));
+      is = handler (decimal c) (number c low) (hex_word pc) (address pc h);
+    }) refl refl
+event_reads c (ELeave id pc) low h =
+    let small = h.0 in
+    reads _ Leave false [] (record {
+      first = decimal c;
+      more = codes "leave" ∷ decimal id ∷ codes "pc" ∷ hex_word pc ∷ [];
+      joins = simp append_assoc;
+      first_plain = decimal_plain c low;
+      more_plain = (refl, (decimal_plain id (omega arith), (refl, (word_plain pc h.1, tt))));
+      is = leave (decimal c) (number c low) (decimal id) (hex_word pc) (number id (omega arith)) (address pc h.1);
+    }) refl refl
+event_reads c (EHide id vector) low h =
+    let small = h.0 in
+    let few = h.1 in
+    reads _ Hide false [] (record {
+      first = decimal c;
+      more = codes "hide" ∷ decimal id ∷ codes "vector" ∷ decimal vector ∷ [];
+      joins = simp append_assoc;
+      first_plain = decimal_plain c low;
+      more_plain = (refl, (decimal_plain id (omega arith), (refl, (decimal_plain vector (omega arith), tt))));
+      is = hide (decimal c) (number c low) (decimal id) (decimal vector) (number id (omega arith)) (number vector (omega arith));
+    }) refl refl
+event_reads c (EIrq vector) low h =
+    reads _ Irq false [] (record {
+      first = decimal c;
+      more = codes "irq" ∷ decimal vector ∷ [];
+      joins = simp append_assoc;
+      first_plain = decimal_plain c low;
+      more_plain = (refl, (decimal_plain vector (omega arith), tt));
+      is = (one_number (decimal c) (number c low) (decimal vector) (number vector (omega arith))).2;
+    }) refl refl
+event_reads c (EEnter id from) low h =
+    let small = h.0 in
+    let few = h.1 in
+    reads _ Enter false [] (record {
+      first = decimal c;
+      more = codes "enter" ∷ decimal id ∷ codes "from" ∷ decimal from ∷ [];
+      joins = simp append_assoc;
+      first_plain = decimal_plain c low;
+      more_plain = (refl, (decimal_plain id (omega arith), (refl, (decimal_plain from (omega arith), tt))));
+      is = enter (decimal c) (number c low) (decimal id) (decimal from) (number id (omega arith)) (number from (omega arith));
+    }) refl refl
+event_reads c EReti low h =
+    reads _ Reti false [] (record {
+      first = decimal c;
+      more = codes "reti" ∷ [];
+      joins = simp append_assoc;
+      first_plain = decimal_plain c low;
+      more_plain = (refl, tt);
+      is = reti (decimal c) (number c low);
+    }) refl refl
+event_reads c (EProtect id) low h =
+    reads _ Protect false [] (record {
+      first = decimal c;
+      more = codes "protect" ∷ decimal id ∷ [];
+      joins = simp append_assoc;
+      first_plain = decimal_plain c low;
+      more_plain = (refl, (decimal_plain id (omega arith), tt));
+      is = (one_number (decimal c) (number c low) (decimal id) (number id (omega arith))).3;
+    }) refl refl
+event_reads c (EOut byte) low h =
+    reads _ Out false (byte ∷ []) (record {
+      first = decimal c;
+      more = codes "out" ∷ hex_byte byte ∷ [];
+      joins = simp append_assoc;
+      first_plain = decimal_plain c low;
+      more_plain = (refl, (byte_plain byte h, tt));
+      is = out (decimal c) (number c low) (hex_byte byte) (byte_word byte h);
+    }) refl (out_byte c byte h)
+event_reads c (EStop s) low h =
+    let pc = h.pc in
+    let addr = h.addr in
+    let id = h.«module» in
+    reads _ Stop false [] (record {
+      first = decimal c;
+      more = codes "stop" ∷ rule_name s.rule ∷ codes "pc" ∷ hex_word s.pc ∷ codes "addr" ∷ hex_word s.addr ∷ codes "module" ∷ decimal s.«module» ∷ [];
+      joins = stop_joined (decimal c) (rule_name s.rule) (hex_word s.pc) (hex_word s.addr) (decimal s.«module»);
+      first_plain = decimal_plain c low;
+      more_plain = (refl, (rule_plain s.rule, (refl, (word_plain s.pc pc, (refl, (word_plain s.addr addr, (refl, (decimal_plain s.«module» (omega arith), tt))))))));
+      is = stop (decimal c) (number c low) (rule_name s.rule) (hex_word s.pc) (hex_word s.addr) (decimal s.«module») (a_rule s.rule) (address s.pc pc) (address s.addr addr) (number s.«module» (omega arith));
+    }) refl refl
+
+-- ---- the end line
+
+abbrev register_words : List ℕ → ℕ → ℕ → List (List ℕ)
+register_words core k zero = []
+register_words core k (suc n) = hex_word (reg core k) ∷ register_words core (k + 1) n
+
+registers_joined : (core : List ℕ) (k n : ℕ) (word : List ℕ) → word ++ registers_from core k n ≡ joined word (register_words core k n)
+registers_joined core k zero word = append-nil word
+registers_joined core k (suc n) word =
+    ap (λ t. word ++ t) (append_assoc (codes " ") (hex_word (reg core k)) (registers_from core (k + 1) n)) ∙ ap (λ t. word ++ 32 ∷ t) (registers_joined core (k + 1) n (hex_word (reg core k)))
+
+registers_plain : (core : List ℕ) (k n : ℕ) → ((k : ℕ) → reg core k < 65536) → ArePlain (register_words core k n)
+registers_plain core k zero h = tt
+registers_plain core k (suc n) h = (word_plain (reg core k) (h k), registers_plain core (k + 1) n h)
+
+registers_fit : (core : List ℕ) (k n : ℕ) → ((k : ℕ) → reg core k < 65536) → all_fit (replicate n Address) (register_words core k n) ≡ true
+registers_fit core k zero h = refl
+registers_fit core k (suc n) h = ap (λ b. b && all_fit (replicate n Address) (register_words core (k + 1) n)) (address (reg core k) (h k)) ∙ registers_fit core (k + 1) n h
+
+-- the end line, without its LF
+abbrev end_words : ℕ → EndState → List ℕ
+end_words c e = codes "end " ++ decimal c ++ codes " " ++ end_text e
+
+end_reads : (c : ℕ) (e : EndState) → c < 2 ^ 64 → IsEndState e → Reads (end_words c e) true []
+end_reads c EndsStopped low h =
+    reads _ Stopped true [] (record {
+      first = codes "end";
+      more = decimal c ∷ codes "stopped" ∷ [];
+      joins = simp append_assoc;
+      first_plain = refl;
+      more_plain = (decimal_plain c low, (refl, tt));
+      is = stopped (decimal c) (number c low);
+    }) refl refl
+end_reads c (EndsInside id) low h =
+    reads _ Inside true [] (record {
+      first = codes "end";
+      more = decimal c ∷ codes "inside" ∷ decimal id ∷ [];
+      joins = simp append_assoc;
+      first_plain = refl;
+      more_plain = (decimal_plain c low, (refl, (decimal_plain id (omega arith), tt)));
+      is = inside (decimal c) (number c low) (decimal id) (number id (omega arith));
+    }) refl refl
+end_reads c (EndsOutside core) low h =
+    reads _ Outside true [] (record {
+      first = codes "end";
+      more = decimal c ∷ codes "outside" ∷ register_words core 0 16;
+      joins = outside_joined c (registers_from core 0 16) (register_words core 0 16) (registers_joined core 0 16 (codes "outside"));
+      first_plain = refl;
+      more_plain = (decimal_plain c low, (refl, registers_plain core 0 16 h));
+      is = outside (decimal c) (number c low) (register_words core 0 16) (registers_fit core 0 16 h);
+    }) refl refl
+  where
+    outside_joined : (c : ℕ) (rest : List ℕ) (rs : List (List ℕ)) → codes "outside" ++ rest ≡ joined (codes "outside") rs
+        → codes "end " ++ decimal c ++ codes " " ++ (codes "outside" ++ rest) ≡ joined (codes "end") (decimal c ∷ codes "outside" ∷ rs)
+    outside_joined c rest rs e = ap (λ t. codes "end " ++ t) (append_assoc (decimal c) (codes " ") (codes "outside" ++ rest)) ∙ ap (λ t. codes "end " ++ (decimal c ++ 32 ∷ t)) e
+
+-- ---- a trace
+
+-- a line before more text
+line_read : (n : ℕ) (line rest bytes more : List ℕ) → Reads line false bytes → replies_from (n + 1) (ended_lines rest) (unended rest) ≡ Ok more
+    → replies_from n (ended_lines (line ++ 10 ∷ rest)) (unended (line ++ 10 ∷ rest)) ≡ Ok (bytes ++ more)
+line_read n line rest bytes more r next =
+    ap (λ ls. replies_from n ls (unended (line ++ 10 ∷ rest))) (ended_lines-before line rest r.clean)
+    ∙ ap (λ t. replies_from n (line ∷ ended_lines rest) t) (unended-before line rest r.clean)
+    ∙ ap (λ k. from_kind n k line (at_end (n + 1) (ended_lines rest) (unended rest)) (replies_from (n + 1) (ended_lines rest) (unended rest))) r.is
+    ∙ ap (λ e. by_end e (sent_by r.kind line) (at_end (n + 1) (ended_lines rest) (unended rest)) (replies_from (n + 1) (ended_lines rest) (unended rest))) r.ends_so
+    ∙ ap (λ bs. after_bytes bs (replies_from (n + 1) (ended_lines rest) (unended rest))) r.sent_so
+    ∙ ap (after_bytes bytes) next
+
+nothing_after : (n : ℕ) → at_end n (ended_lines []) (unended []) ≡ Ok []
+unfolding ended_lines unended
+nothing_after n = refl
+
+last_read : (n : ℕ) (line : List ℕ) → Reads line true [] → replies_from n (ended_lines (line ++ 10 ∷ [])) (unended (line ++ 10 ∷ [])) ≡ Ok []
+last_read n line r =
+    ap (λ ls. replies_from n ls (unended (line ++ 10 ∷ []))) (ended_lines-before line [] r.clean)
+    ∙ ap (λ t. replies_from n (line ∷ ended_lines []) t) (unended-before line [] r.clean)
+    ∙ ap (λ k. from_kind n k line (at_end (n + 1) (ended_lines []) (unended [])) (replies_from (n + 1) (ended_lines []) (unended []))) r.is
+    ∙ ap (λ e. by_end e (sent_by r.kind line) (at_end (n + 1) (ended_lines []) (unended [])) (replies_from (n + 1) (ended_lines []) (unended []))) r.ends_so
+    ∙ nothing_after (n + 1)
+
+event_line_is : (e : TimedEvent) (rest : List ℕ) → event_line e.cycle e.event ++ rest ≡ event_words e.cycle e.event ++ 10 ∷ rest
+unfolding event_line
+event_line_is e rest = append_assoc (event_words e.cycle e.event) (codes "\n") rest
+
+end_line_is : (c : ℕ) (e : EndState) → end_line_at c e ≡ end_words c e ++ 10 ∷ []
+unfolding end_line_at
+end_line_is c e = refl
+
+events_read : (n : ℕ) (es : List TimedEvent) (c : ℕ) (end : EndState) → All IsTold es → c < 2 ^ 64 → IsEndState end
+    → replies_from n (ended_lines (events_text es ++ end_line_at c end)) (unended (events_text es ++ end_line_at c end)) ≡ Ok (sent es)
+events_read n [] c end told low h =
+    ap (λ t. replies_from n (ended_lines t) (unended t)) (end_line_is c end) ∙ last_read n (end_words c end) (end_reads c end low h)
+events_read n (e ∷ es) c end told low h =
+    let t : IsTold e = told 0 e (omega arith) in
+    ap (λ t. replies_from n (ended_lines t) (unended t)) (append_assoc (event_line e.cycle e.event) (events_text es) (end_line_at c end) ∙ event_line_is e (events_text es ++ end_line_at c end))
+    ∙ line_read n (event_words e.cycle e.event) (events_text es ++ end_line_at c end) (sent_in e.event) (sent es) (event_reads e.cycle e.event t.0 t.1)
+    (events_read (n + 1) es c end (All-tail IsTold e es told) low h)
+
+pub traces_are_read : TracesAreRead
+unfolding replies_of
+traces_are_read es c end told low h = events_read 1 es c end told low h

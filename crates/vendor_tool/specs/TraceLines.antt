@@ -1,0 +1,91 @@
+-- The forms of a trace's lines, word by word, and the kind of a line.
+use Rattle.std.specs.Prelude.{ℕ, Bool, true, false, ◌&&◌, List, [], ◌∷◌, codes, replicate, Option, is_some, find}
+use Rattle.std.specs.List.{slice_split, list_any}
+use Rattle.std.specs.Str.{bytes_eq}
+use Rattle.pc_access.specs.declared.Rule.{Rule}
+use Rattle.pc_access.specs.declared.Rule.TheVariants.{FetchNotEntry, FetchData, ReadData, WriteData, WriteText, Reenter, RetiInside, Straddle, Misaligned, Illegal, FetchDevice}
+use Rattle.texts.specs.Decimals.{is_decimal}
+use Rattle.texts.specs.Hexadecimals.{read_hex_byte, read_hex_word}
+use Rattle.tracer.specs.Lines.{rule_name}
+use Rattle.vendor_tool.specs.ChallengeText.{is_space}
+use Rattle.vendor_tool.specs.declared.trace_line.Kind.{Kind}
+use Rattle.vendor_tool.specs.declared.trace_line.Kind.TheVariants.{Resume, Close, Handler, Leave, Hide, Irq, Enter, Reti, Protect, Out, Stop, Stopped, Inside, Outside}
+use Rattle.vendor_tool.specs.declared.trace_line.Label.{Label}
+use Rattle.vendor_tool.specs.declared.trace_line.Label.TheVariants.{End, Pc, Vector, From, Addr, Module}
+use Rattle.vendor_tool.specs.declared.trace_line.Word.{Word}
+use Rattle.vendor_tool.specs.declared.trace_line.Word.TheVariants.{Number, Byte, Address, RuleName, Keyword, Mark}
+
+-- the word that names a kind of line
+abbrev pub keyword : Kind → List ℕ
+keyword Resume = codes "resume"
+keyword Close = codes "close"
+keyword Handler = codes "handler"
+keyword Leave = codes "leave"
+keyword Hide = codes "hide"
+keyword Irq = codes "irq"
+keyword Enter = codes "enter"
+keyword Reti = codes "reti"
+keyword Protect = codes "protect"
+keyword Out = codes "out"
+keyword Stop = codes "stop"
+keyword Stopped = codes "stopped"
+keyword Inside = codes "inside"
+keyword Outside = codes "outside"
+
+-- the word before a field, and before an end line's cycle
+abbrev pub label_text : Label → List ℕ
+label_text End = codes "end"
+label_text Pc = codes "pc"
+label_text Vector = codes "vector"
+label_text From = codes "from"
+label_text Addr = codes "addr"
+label_text Module = codes "module"
+
+-- the words of each kind of line: an event's cycle comes first, and an end line begins with `end`
+abbrev pub form_of : Kind → List Word
+form_of Resume = Number ∷ Keyword Resume ∷ Number ∷ []
+form_of Close = Number ∷ Keyword Close ∷ Number ∷ []
+form_of Handler = Number ∷ Keyword Handler ∷ Mark Pc ∷ Address ∷ []
+form_of Leave = Number ∷ Keyword Leave ∷ Number ∷ Mark Pc ∷ Address ∷ []
+form_of Hide = Number ∷ Keyword Hide ∷ Number ∷ Mark Vector ∷ Number ∷ []
+form_of Irq = Number ∷ Keyword Irq ∷ Number ∷ []
+form_of Enter = Number ∷ Keyword Enter ∷ Number ∷ Mark From ∷ Number ∷ []
+form_of Reti = Number ∷ Keyword Reti ∷ []
+form_of Protect = Number ∷ Keyword Protect ∷ Number ∷ []
+form_of Out = Number ∷ Keyword Out ∷ Byte ∷ []
+form_of Stop = Number ∷ Keyword Stop ∷ RuleName ∷ Mark Pc ∷ Address ∷ Mark Addr ∷ Address ∷ Mark Module ∷ Number ∷ []
+form_of Stopped = Mark End ∷ Number ∷ Keyword Stopped ∷ []
+form_of Inside = Mark End ∷ Number ∷ Keyword Inside ∷ Number ∷ []
+form_of Outside = Mark End ∷ Number ∷ Keyword Outside ∷ replicate 16 Address
+
+abbrev pub kinds : List Kind
+kinds = Resume ∷ Close ∷ Handler ∷ Leave ∷ Hide ∷ Irq ∷ Enter ∷ Reti ∷ Protect ∷ Out ∷ Stop ∷ Stopped ∷ Inside ∷ Outside ∷ []
+
+abbrev pub rules : List Rule
+rules = FetchNotEntry ∷ FetchData ∷ ReadData ∷ WriteData ∷ WriteText ∷ Reenter ∷ RetiInside ∷ Straddle ∷ Misaligned ∷ Illegal ∷ FetchDevice ∷ []
+
+-- whether a text is such a word; a number may be of any size
+abbrev pub fits : Word → List ℕ → Bool
+fits Number text = is_decimal text
+fits Byte text = is_some (read_hex_byte text)
+fits Address text = is_some (read_hex_word text)
+fits RuleName text = list_any (λ rule. bytes_eq text (rule_name rule)) rules
+fits (Keyword kind) text = bytes_eq text (keyword kind)
+fits (Mark label) text = bytes_eq text (label_text label)
+
+-- the words of a line, which single spaces part
+unfoldable pub words : List ℕ → List (List ℕ)
+words line = slice_split is_space line
+
+-- whether these are all the words of a form
+abbrev pub all_fit : List Word → List (List ℕ) → Bool
+all_fit [] [] = true
+all_fit (word ∷ form) (text ∷ texts) = fits word text && all_fit form texts
+all_fit _ _ = false
+
+abbrev pub has_form : List ℕ → Kind → Bool
+has_form line kind = all_fit (form_of kind) (words line)
+
+-- the kind of a line, where it has one of the forms
+unfoldable pub kind_of : List ℕ → Option Kind
+kind_of line = find (has_form line) kinds

@@ -1,0 +1,307 @@
+//! The lines of a trace, told by their words.
+
+ghost use Rattle.std.specs.Prelude.{◌≡◌, ◌∷◌, [], ◌<◌, length, IfSome, IfNone};
+ghost use Rattle.std.specs.List.{list_all};
+ghost use Rattle.std.specs.Char.{is_ascii_digit};
+ghost use Rattle.texts.specs.Decimals as decimals;
+ghost use Rattle.vendor_tool.specs.TraceLines as spec;
+ghost use Rattle.vendor_tool.specs.Replies as replies;
+
+use crate::reading::first_space;
+use texts::{read_hex_byte, read_hex_word};
+
+/// The kind of a line: that of its event, or of the end that it tells.
+#[derive(Clone, Copy, Debug, PartialEq, Eq)]
+pub enum Kind {
+    Resume,
+    Close,
+    Handler,
+    Leave,
+    Hide,
+    Irq,
+    Enter,
+    Reti,
+    Protect,
+    Out,
+    Stop,
+    Stopped,
+    Inside,
+    Outside,
+}
+
+/// A word that labels what follows it.
+#[derive(Clone, Copy, Debug, PartialEq, Eq)]
+pub enum Label {
+    End,
+    Pc,
+    Vector,
+    From,
+    Addr,
+    Module,
+}
+
+/// What a word of a line is.
+#[derive(Clone, Copy, Debug, PartialEq, Eq)]
+pub enum Word {
+    /// A decimal of any size.
+    Number,
+    /// Two hexadecimal digits.
+    Byte,
+    /// Four hexadecimal digits.
+    Address,
+    /// The name of a rule of access.
+    RuleName,
+    /// The word that names this kind of line.
+    Keyword(Kind),
+    /// This label.
+    Mark(Label),
+}
+
+/// The kind of a line without its LF, where it has one of the forms of a trace's lines.
+#[tactic(auto, unfolding(crate::specs::TraceLines::kind_of))]
+pub fn kind_of(line: &[u8]) -> Option<Kind>
+    ensures kind { result ≡ spec.kind_of line.now }
+{
+    for kind in kinds() {
+        if has_form(line, form_of(*kind)) {
+            return Some(*kind);
+        }
+    }
+    None
+}
+
+/// Whether this is an end line.
+pub fn ends(kind: Kind) -> bool
+    ensures { result ≡ replies.ends kind }
+{
+    matches!(kind, Kind::Stopped | Kind::Inside | Kind::Outside)
+}
+
+/// Whether a line of this kind tells of a byte that was sent.
+pub fn tells_byte(kind: Kind) -> bool
+    ensures { result ≡ replies.tells_byte kind }
+{
+    matches!(kind, Kind::Out)
+}
+
+fn kinds() -> &'static [Kind]
+    ensures { result.now ≡ spec.kinds }
+{
+    &[
+        Kind::Resume,
+        Kind::Close,
+        Kind::Handler,
+        Kind::Leave,
+        Kind::Hide,
+        Kind::Irq,
+        Kind::Enter,
+        Kind::Reti,
+        Kind::Protect,
+        Kind::Out,
+        Kind::Stop,
+        Kind::Stopped,
+        Kind::Inside,
+        Kind::Outside,
+    ]
+}
+
+// The words of a line of this kind.
+fn form_of(kind: Kind) -> &'static [Word]
+    ensures { result.now ≡ spec.form_of kind }
+{
+    match kind {
+        Kind::Resume => &[Word::Number, Word::Keyword(Kind::Resume), Word::Number],
+        Kind::Close => &[Word::Number, Word::Keyword(Kind::Close), Word::Number],
+        Kind::Handler => &[
+            Word::Number,
+            Word::Keyword(Kind::Handler),
+            Word::Mark(Label::Pc),
+            Word::Address,
+        ],
+        Kind::Leave => &[
+            Word::Number,
+            Word::Keyword(Kind::Leave),
+            Word::Number,
+            Word::Mark(Label::Pc),
+            Word::Address,
+        ],
+        Kind::Hide => &[
+            Word::Number,
+            Word::Keyword(Kind::Hide),
+            Word::Number,
+            Word::Mark(Label::Vector),
+            Word::Number,
+        ],
+        Kind::Irq => &[Word::Number, Word::Keyword(Kind::Irq), Word::Number],
+        Kind::Enter => &[
+            Word::Number,
+            Word::Keyword(Kind::Enter),
+            Word::Number,
+            Word::Mark(Label::From),
+            Word::Number,
+        ],
+        Kind::Reti => &[Word::Number, Word::Keyword(Kind::Reti)],
+        Kind::Protect => &[Word::Number, Word::Keyword(Kind::Protect), Word::Number],
+        Kind::Out => &[Word::Number, Word::Keyword(Kind::Out), Word::Byte],
+        Kind::Stop => stop_form(),
+        Kind::Stopped => &[
+            Word::Mark(Label::End),
+            Word::Number,
+            Word::Keyword(Kind::Stopped),
+        ],
+        Kind::Inside => &[
+            Word::Mark(Label::End),
+            Word::Number,
+            Word::Keyword(Kind::Inside),
+            Word::Number,
+        ],
+        Kind::Outside => outside_form(),
+    }
+}
+
+fn stop_form() -> &'static [Word]
+    ensures { result.now ≡ spec.form_of (Kind.Stop) }
+{
+    &[
+        Word::Number,
+        Word::Keyword(Kind::Stop),
+        Word::RuleName,
+        Word::Mark(Label::Pc),
+        Word::Address,
+        Word::Mark(Label::Addr),
+        Word::Address,
+        Word::Mark(Label::Module),
+        Word::Number,
+    ]
+}
+
+// The end line's words where no module is active, with the sixteen registers.
+fn outside_form() -> &'static [Word]
+    ensures { result.now ≡ spec.form_of (Kind.Outside) }
+{
+    &[
+        Word::Mark(Label::End),
+        Word::Number,
+        Word::Keyword(Kind::Outside),
+        Word::Address,
+        Word::Address,
+        Word::Address,
+        Word::Address,
+        Word::Address,
+        Word::Address,
+        Word::Address,
+        Word::Address,
+        Word::Address,
+        Word::Address,
+        Word::Address,
+        Word::Address,
+        Word::Address,
+        Word::Address,
+        Word::Address,
+        Word::Address,
+    ]
+}
+
+// Whether these are all the words of the line.
+fn has_form(line: &[u8], form: &[Word]) -> bool
+    ensures { result ≡ spec.all_fit form.now (spec.words line.now) }
+{
+    let [word, more @ ..] = form else {
+        return false;
+    };
+    match split_word(line) {
+        None => fits(*word, line) && more.is_empty(),
+        Some((first, rest)) => fits(*word, first) && has_form(rest, more),
+    }
+}
+
+// The first word of a line, and what stands behind its space; `None` where there is no space.
+fn split_word(line: &[u8]) -> Option<(&[u8], &[u8])>
+    ensures words { IfSome result (λ parts. spec.words line.now ≡ parts.0.now ∷ spec.words parts.1.now) }
+    ensures whole { IfNone result (spec.words line.now ≡ line.now ∷ []) }
+{
+    match first_space(line) {
+        None => None,
+        Some(end) => Some((&line[..end], &line[end + 1..])),
+    }
+}
+
+fn fits(word: Word, text: &[u8]) -> bool
+    ensures { result ≡ spec.fits word text.now }
+{
+    match word {
+        Word::Number => is_decimal(text),
+        Word::Byte => read_hex_byte(text).is_some(),
+        Word::Address => read_hex_word(text).is_some(),
+        Word::RuleName => is_rule_name(text),
+        Word::Keyword(kind) => text == keyword(kind).as_bytes(),
+        Word::Mark(label) => text == label_text(label).as_bytes(),
+    }
+}
+
+// Whether these are decimal digits, at least one, without a leading zero.
+fn is_decimal(text: &[u8]) -> bool
+    ensures { result ≡ decimals.is_decimal text.now }
+{
+    match text {
+        [] => false,
+        [first, more @ ..] => has_digits(text) && (*first != b'0' || more.is_empty()),
+    }
+}
+
+// Whether all of these are decimal digits.
+fn has_digits(text: &[u8]) -> bool
+    ensures { result ≡ list_all is_ascii_digit text.now }
+{
+    text.iter().all(|byte| byte.is_ascii_digit())
+}
+
+fn is_rule_name(text: &[u8]) -> bool
+    ensures { result ≡ spec.fits (Word.RuleName) text.now }
+{
+    text == b"FetchNotEntry".as_slice()
+        || text == b"FetchData".as_slice()
+        || text == b"ReadData".as_slice()
+        || text == b"WriteData".as_slice()
+        || text == b"WriteText".as_slice()
+        || text == b"Reenter".as_slice()
+        || text == b"RetiInside".as_slice()
+        || text == b"Straddle".as_slice()
+        || text == b"Misaligned".as_slice()
+        || text == b"Illegal".as_slice()
+        || text == b"FetchDevice".as_slice()
+}
+
+fn keyword(kind: Kind) -> &'static str
+    ensures { result.now ≡ spec.keyword kind }
+{
+    match kind {
+        Kind::Resume => "resume",
+        Kind::Close => "close",
+        Kind::Handler => "handler",
+        Kind::Leave => "leave",
+        Kind::Hide => "hide",
+        Kind::Irq => "irq",
+        Kind::Enter => "enter",
+        Kind::Reti => "reti",
+        Kind::Protect => "protect",
+        Kind::Out => "out",
+        Kind::Stop => "stop",
+        Kind::Stopped => "stopped",
+        Kind::Inside => "inside",
+        Kind::Outside => "outside",
+    }
+}
+
+fn label_text(label: Label) -> &'static str
+    ensures { result.now ≡ spec.label_text label }
+{
+    match label {
+        Label::End => "end",
+        Label::Pc => "pc",
+        Label::Vector => "vector",
+        Label::From => "from",
+        Label::Addr => "addr",
+        Label::Module => "module",
+    }
+}
