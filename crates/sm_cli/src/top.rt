@@ -11,7 +11,8 @@ ghost use Rattle.written_machine.specs.View.{at, view_of};
 ghost use Rattle.written_machine.specs.declared.Hidden.TheVariants.{Only};
 ghost use Rattle.sm_cli.specs.declared.answers.Status.{Status as Statuses};
 ghost use Rattle.sm_cli.specs.declared.answers.FileFault.{FileFault as FileFaults};
-ghost use Rattle.sm_cli.specs.Command.{Command, Answer, IsAnswer};
+ghost use Rattle.linker.specs.declared.fault.LinkFault.{LinkFault as LinkFaults};
+ghost use Rattle.sm_cli.specs.Command.{Command, Answer, Comes, refuses, IsAnswer};
 ghost use Rattle.sm_cli.specs.CommandLine.{command_of};
 ghost use Rattle.sm_cli.specs.Files.{IsFirstFault};
 ghost use Rattle.sm_cli.specs.ImageCommand.{run_status};
@@ -60,6 +61,8 @@ pub fn serve<F: Files, O: Sink, E: Sink>(
         (Took E.taken E.faults E.sure err.old err.new) × (out.new ≡ out.old) }
     ensures bad_file { result ≡ Status.BadFile → Refuses (call_of (texts words.now) (F.content files.old) (F.faults files.old) (F.faults files.new)) Status.BadFile
         (Took E.taken E.faults E.sure err.old err.new) × (out.new ≡ out.old) }
+    ensures link_refused { result ≡ Status.LinkRefused → Refuses (call_of (texts words.now) (F.content files.old) (F.faults files.old) (F.faults files.new)) Status.LinkRefused
+        (Took E.taken E.faults E.sure err.old err.new) × (out.new ≡ out.old) }
     ensures read_fault { result ≡ Status.ReadFault → Refuses (call_of (texts words.now) (F.content files.old) (F.faults files.old) (F.faults files.new)) Status.ReadFault
         (Took E.taken E.faults E.sure err.old err.new) × (out.new ≡ out.old) }
     ensures no_memory { result ≡ Status.NoMemory → Refuses (call_of (texts words.now) (F.content files.old) (F.faults files.old) (F.faults files.new)) Status.NoMemory
@@ -75,6 +78,9 @@ pub fn serve<F: Files, O: Sink, E: Sink>(
     ensures complete_bad_file { (map : FileMap) (command : Command) (name : List ℕ) (fault : FileFaults) →
         F.content files.old ≡ Some map → command_of (texts words.now) ≡ Some command → IsFirstFault (Some map) command.needs name fault →
         IsOrOutside Status.BadFile result }
+    ensures complete_link_refused { (map : FileMap) (command : Command) (fault : LinkFaults) (name : List ℕ) →
+        F.content files.old ≡ Some map → command_of (texts words.now) ≡ Some command → Comes (Some map) command (refuses fault name) →
+        IsOrOutside Status.LinkRefused result }
     ensures complete { (map : FileMap) (command : Command) (answer : Answer) →
         F.content files.old ≡ Some map → command_of (texts words.now) ≡ Some command → IsAnswer (Some map) command answer →
         Completes result answer (Took O.taken O.faults O.sure out.old out.new) (CutOff O.taken O.faults O.sure out.old out.new)
