@@ -38,9 +38,17 @@ schedule_fault_text (schedule_fault.NotRising n) = codes "NotRising " ++ decimal
 schedule_fault_text schedule_fault.TooMany = codes "TooMany"
 schedule_fault_text schedule_fault.NoMemory = codes "NoMemory"
 
+-- a number after a space
+abbrev pub number_text : ℕ → List ℕ
+number_text n = codes " " ++ decimal n
+
+-- numbers, each after a space
+abbrev pub number_list : List ℕ → List ℕ
+number_list numbers = flat_map number_text numbers
+
 -- a name, and numbers after it
 abbrev pub with_numbers : List ℕ → List ℕ → List ℕ
-with_numbers name numbers = name ++ flat_map (λ n. codes " " ++ decimal n) numbers
+with_numbers name numbers = name ++ number_list numbers
 
 abbrev pub object_fault_text : ElfFault → List ℕ
 object_fault_text (elf_fault.Short at) = codes "Short " ++ decimal at

@@ -1,28 +1,22 @@
 // Faults of layouts, objects and linking, put to a sink.
-ghost use Rattle.std.specs.Prelude.{◌++◌, ◌∷◌, [], codes};
-ghost use Rattle.std.specs.Fmt.{decimal, signed_decimal};
+ghost use Rattle.std.specs.Prelude.{◌++◌, codes};
+ghost use Rattle.std.specs.Fmt.{signed_decimal};
 ghost use Rattle.sm_io.specs.Sink.{Puts};
-ghost use Rattle.sm_cli.specs.Faults.{with_numbers, with_spot, module_text, layout_fault_text, object_fault_text};
+ghost use Rattle.sm_cli.specs.Faults.{number_list, with_numbers, with_spot, module_text, layout_fault_text, object_fault_text};
 ghost use Rattle.sm_cli.specs.LinkFaults.{link_fault_text, region_text, reloc_fault_text};
 
 use crate::lines::put_field;
-use arrayvec::ArrayString;
 use elf_objects::ElfFault;
 use itoa::Buffer;
 use layout_file::{LayoutFault, Spot};
 use linker::{LinkFault, Region};
 use reloc_apply::RelocFault;
 use sm_io::{Failed, Sink, put_all};
-use texts::push_decimal;
 
-// Puts a name, and numbers after it.
-fn put_numbers<S: Sink>(sink: &mut S, name: &[u8], numbers: &[u64]) -> Result<(), Failed>
-    ensures { Puts S.taken S.faults S.sure sink.old sink.new (with_numbers name.now numbers.now) result }
+// Puts numbers, each after a space.
+fn put_list<S: Sink>(sink: &mut S, numbers: &[u64]) -> Result<(), Failed>
+    ensures { Puts S.taken S.faults S.sure sink.old sink.new (number_list numbers.now) result }
 {
-    match put_all(sink, name) {
-        Ok(()) => {}
-        Err(Failed) => return Err(Failed),
-    }
     for number in numbers {
         match put_field(sink, b" ", *number) {
             Ok(()) => {}
@@ -30,6 +24,16 @@ fn put_numbers<S: Sink>(sink: &mut S, name: &[u8], numbers: &[u64]) -> Result<()
         }
     }
     Ok(())
+}
+
+// Puts a name, and numbers after it.
+fn put_numbers<S: Sink>(sink: &mut S, name: &[u8], numbers: &[u64]) -> Result<(), Failed>
+    ensures { Puts S.taken S.faults S.sure sink.old sink.new (with_numbers name.now numbers.now) result }
+{
+    match put_all(sink, name) {
+        Ok(()) => put_list(sink, numbers),
+        Err(Failed) => Err(Failed),
+    }
 }
 
 // Puts a name and a number with its sign.
@@ -41,7 +45,8 @@ fn put_signed<S: Sink>(sink: &mut S, name: &[u8], number: i64) -> Result<(), Fai
         Err(Failed) => return Err(Failed),
     }
     let mut digits = Buffer::new();
-    put_all(sink, digits.format(number).as_bytes())
+    let text = digits.format(number);
+    put_all(sink, text.as_bytes())
 }
 
 /// Puts the fault of an object.
@@ -143,24 +148,15 @@ fn put_reloc_fault<S: Sink>(sink: &mut S, fault: RelocFault) -> Result<(), Faile
     }
 }
 
-// Puts a region and two numbers.
-fn put_region<S: Sink>(sink: &mut S, region: Region, numbers: &[u64]) -> Result<(), Failed>
-    ensures { Puts S.taken S.faults S.sure sink.old sink.new (with_numbers (region_text region) numbers.now) result }
+fn put_region<S: Sink>(sink: &mut S, region: Region) -> Result<(), Failed>
+    ensures { Puts S.taken S.faults S.sure sink.old sink.new (region_text region) result }
 {
-    let mut name = ArrayString::<24>::new();
     match region {
-        Region::Text => name.push_str("Text"),
-        Region::Data => name.push_str("Data"),
-        Region::ModuleText(number) => {
-            name.push_str("ModuleText ");
-            push_decimal(number, &mut name);
-        }
-        Region::ModuleData(number) => {
-            name.push_str("ModuleData ");
-            push_decimal(number, &mut name);
-        }
+        Region::Text => put_all(sink, b"Text"),
+        Region::Data => put_all(sink, b"Data"),
+        Region::ModuleText(number) => put_field(sink, b"ModuleText ", u64::from(number)),
+        Region::ModuleData(number) => put_field(sink, b"ModuleData ", u64::from(number)),
     }
-    put_numbers(sink, name.as_str().as_bytes(), numbers)
 }
 
 // Puts a relocation that is refused.
@@ -186,7 +182,11 @@ fn put_full_region<S: Sink>(sink: &mut S, region: Region, numbers: &[u64]) -> Re
     ensures { Puts S.taken S.faults S.sure sink.old sink.new (codes "Region " ++ with_numbers (region_text region) numbers.now) result }
 {
     match put_all(sink, b"Region ") {
-        Ok(()) => put_region(sink, region, numbers),
+        Ok(()) => {}
+        Err(Failed) => return Err(Failed),
+    }
+    match put_region(sink, region) {
+        Ok(()) => put_list(sink, numbers),
         Err(Failed) => Err(Failed),
     }
 }
