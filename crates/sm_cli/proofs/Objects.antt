@@ -1,11 +1,13 @@
 -- The files of objects, read one after another.
-use Rattle.std.proofs.Common.{◌≡◌, ℕ, ◌+◌, ◌<◌, ◌≤◌, List, [], ◌∷◌, ◌++◌, get_or, map, length, drop, Option, refl, sym, ◌∙◌, ap, inl, inr}
+use Rattle.std.proofs.Common.{◌≡◌, ℕ, ◌+◌, ◌<◌, ◌≤◌, List, [], ◌∷◌, ◌++◌, get_or, map, length, drop, Option, sym, ◌∙◌, ap, subst, arith, inl, inr}
 use Rattle.std.proofs.lemmas.List.{append_assoc, append-nil, at_drop_more, at_drop_all}
+use Rattle.elf_objects.specs.Object.{ObjectValue}
+use Rattle.linker.specs.Room.{IsSmall}
 use Rattle.sm_io.specs.Files.{FileMap}
 use Rattle.sm_cli.specs.declared.answers.FileFault.{FileFault}
 use Rattle.sm_cli.specs.declared.answers.Refusal.{Refusal}
 use Rattle.sm_cli.specs.declared.answers.Refusal.TheVariants as refusal
-use Rattle.sm_cli.specs.Files.{Held, object_file, need, object_needs, Holds, HoldAll, IsFirstFault, IsReached}
+use Rattle.sm_cli.specs.Files.{Held, an_object, object_file, Need, need, object_needs, Holds, HoldAll, IsFirstFault, IsReached}
 use Rattle.sm_cli.specs.Serve.{IsNeedCause}
 
 -- the next name of a list, and what stands behind it
@@ -21,7 +23,17 @@ past_name f items i d done text h e = append_assoc done (f (get_or items i d) �
 pub all_names : {X : Type 0} (f : X → List ℕ) (items : List X) (i : ℕ) (done text : List (List ℕ)) → length items ≤ i → done ++ map f (drop i items) ≡ text → done ≡ text
 all_names f items i done text h e = sym (append-nil done) ∙ sym (at_drop_all (λ xs. done ++ map f xs) items i h) ∙ e
 
+-- what refuses at files and a count refuses at their equals
+pub cause_moved : (a b : Option FileMap) (m n after : ℕ) (needs : List Need) (refused : Refusal) (told : List ℕ) → a ≡ b → m ≡ n → IsNeedCause a m after needs refused told
+    → IsNeedCause b n after needs refused told
+cause_moved a b m n after needs refused told same count h =
+    subst (λ files. IsNeedCause files n after needs refused told) same (subst (λ before. IsNeedCause a before after needs refused told) count h)
+
 module _ (files : Option FileMap) where
+  -- an object's file is no larger than a file may be
+  pub small_object : (name : List ℕ) (object : ObjectValue) → Holds files (need name object_file) (an_object object) → IsSmall object
+  small_object name object h = omega (arith, h.short, ap length h.is.1)
+
   -- one file more that holds something
   pub hold_past : (names : List (List ℕ)) (helds : List Held) (name : List ℕ) (held : Held) → HoldAll files (object_needs names) helds → Holds files (need name object_file) held
       → HoldAll files (object_needs (names ++ name ∷ [])) (helds ++ held ∷ [])
