@@ -4,3 +4,4 @@ pub mod Needed
 pub mod Objects
 pub mod Running
 pub mod Serving
+pub mod Symbols

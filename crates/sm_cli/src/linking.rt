@@ -1,5 +1,6 @@
 // Linking, and the symbol that a fault names.
 ghost use Rattle.std.specs.Prelude.{◌≡◌, ◌≤◌, ◌==◌, All, length, map, IfOk, IfErr, OnOk, Some, None, slice_get, find, string_bytes};
+ghost use Rattle.std.specs.Option.{option_copied};
 ghost use Rattle.layout_file.specs.Layout.{layout_of};
 ghost use Rattle.linker.specs.Refusals.{link_fault_of};
 ghost use Rattle.linker.specs.Room.{IsSmall};
@@ -11,7 +12,7 @@ ghost use Rattle.sm_cli.specs.Unlinked.{IsUnlinked};
 use crate::answers::{Name, Refusal, Refused};
 use elf_objects::Object;
 use image_text::Image;
-use layout_file::Layout;
+use layout_file::{Layout, VectorName};
 use linker::{LinkFault, link};
 use std::alloc::{AllocError, Global};
 
@@ -90,14 +91,19 @@ fn symbol_of(objects: &[Object], object: u64, symbol: u64) -> &[u8]
 fn vector_name(layout: &Layout, number: u64) -> &[u8]
     ensures { result.now ≡ spec.vector_name (find (λ v. v.vector == number) (layout_of layout.entry.now).vectors) }
 {
-    match layout
-        .vectors
-        .iter()
-        .find(|vector| u64::from(vector.vector) == number)
-    {
+    match vector_with(layout.vectors.as_slice(), number) {
         Some(vector) => vector.name.as_str().as_bytes(),
         None => b"",
     }
+}
+
+// The name of this vector.
+fn vector_with(vectors: &[VectorName], number: u64) -> Option<&VectorName>
+    ensures { option_copied result ≡ find (λ v. v.vector == number) vectors.now }
+{
+    vectors
+        .iter()
+        .find(|vector| u64::from(vector.vector) == number)
 }
 
 fn entry_of(layout: &Layout, module: u64, entry: u64) -> &[u8]

@@ -80,8 +80,8 @@ returns-in-Err-clause-complete g c = λ map command answer told cmd is.
 
 -- a refusal by the files that the command needs
 
-pub returns-in-Err-answer-clause-write_fault : goal.returns-in-Err-answer-clause-write_fault
-returns-in-Err-answer-clause-write_fault g c = λ e.
+pub returns-clause-write_fault : goal.returns-clause-write_fault
+returns-clause-write_fault g c = λ e.
     let some : Some (asked c.in-Ok-Some.command) ≡ command_of (texts c.args.words.now) = sym (ap (option_map asked) c.in-Ok-Some.field-0-is) ∙ c.in-Ok-Some.ensures.command in
     let r = c.in-Err-answer.refused in
     let files = g.F.Files.content c.args.files.now in
@@ -91,8 +91,8 @@ returns-in-Err-answer-clause-write_fault g c = λ e.
     let w = told_in_part r.refusal (name_text r.name) c.tell-in-Err-answer.result (Took g.E.Sink.taken g.E.Sink.faults g.E.Sink.sure c.args.err.now c.tell-in-Err-answer.new.err) (CutOff g.E.Sink.taken g.E.Sink.faults g.E.Sink.sure c.args.err.now c.tell-in-Err-answer.new.err) (call_of (texts c.args.words.now) files before after) cause e c.tell-in-Err-answer.ensures.told in
     inr (w.0, w.1, c.in-Err-answer.ensures.nothing)
 
-pub returns-in-Err-answer-clause-complete : goal.returns-in-Err-answer-clause-complete
-returns-in-Err-answer-clause-complete g c = λ map command answer told cmd is.
+pub returns-clause-complete : goal.returns-clause-complete
+returns-clause-complete g c = λ map command answer told cmd is.
     let some : Some (asked c.in-Ok-Some.command) ≡ command_of (texts c.args.words.now) = sym (ap (option_map asked) c.in-Ok-Some.field-0-is) ∙ c.in-Ok-Some.ensures.command in
     let r = c.in-Err-answer.refused in
     let own = asked c.in-Ok-Some.command in
@@ -104,8 +104,8 @@ returns-in-Err-answer-clause-complete g c = λ map command answer told cmd is.
     (texts c.args.words.now) files map before after own command told some cmd c.in-Err-answer.ensures.refused answer _ _ _ is c.tell-in-Err-answer.ensures.told
     (λ e. told_in_part r.refusal (name_text r.name) c.tell-in-Err-answer.result (Took g.E.Sink.taken g.E.Sink.faults g.E.Sink.sure c.args.err.now c.tell-in-Err-answer.new.err) (CutOff g.E.Sink.taken g.E.Sink.faults g.E.Sink.sure c.args.err.now c.tell-in-Err-answer.new.err) (call_of (texts c.args.words.now) files before after) cause e c.tell-in-Err-answer.ensures.told)
 
-pub returns-in-Err-answer-clause-headline : goal.returns-in-Err-answer-clause-headline
-returns-in-Err-answer-clause-headline g c = λ value entries cycles i no_read no_out no_err room.
+pub returns-clause-headline : goal.returns-clause-headline
+returns-clause-headline g c = λ value entries cycles i no_read no_out no_err room.
     let some : Some (asked c.in-Ok-Some.command) ≡ command_of (texts c.args.words.now) = sym (ap (option_map asked) c.in-Ok-Some.field-0-is) ∙ c.in-Ok-Some.ensures.command in
     let r = c.in-Err-answer.refused in
     let words = texts c.args.words.now in
@@ -121,8 +121,8 @@ returns-in-Err-answer-clause-headline g c = λ value entries cycles i no_read no
 pub returns-in-Ok-clause-unread : goal.returns-in-Ok-clause-unread
 returns-in-Ok-clause-unread g c = λ e. absurd (run_not_usage (g.F.Files.content c.args.files.now) (asked c.in-Ok-Some.command) c.in-Ok.status _ _ c.in-Ok.ensures.ok e)
 
-pub returns-in-Err-answer-clause-unread : goal.returns-in-Err-answer-clause-unread
-returns-in-Err-answer-clause-unread g c = λ e.
+pub returns-clause-unread : goal.returns-clause-unread
+returns-clause-unread g c = λ e.
     let r = c.in-Err-answer.refused in
     absurd (refused_not_usage r.refusal (name_text r.name) c.tell-in-Err-answer.result (Took g.E.Sink.taken g.E.Sink.faults g.E.Sink.sure c.args.err.now c.tell-in-Err-answer.new.err) (CutOff g.E.Sink.taken g.E.Sink.faults g.E.Sink.sure c.args.err.now c.tell-in-Err-answer.new.err)
     (g.F.Files.content c.args.files.now) (g.F.Files.faults c.args.files.now) (g.F.Files.faults c.answer.new.files) (asked c.in-Ok-Some.command) c.in-Err-answer.ensures.refused c.tell-in-Err-answer.ensures.told e)
@@ -135,16 +135,16 @@ returns-in-Ok-clause-complete_link_refused g c = λ map command fault name told 
     let before = g.F.Files.faults c.args.files.now in
     absurd (run_no_link (texts c.args.words.now) (g.F.Files.content c.args.files.now) before before (asked c.in-Ok-Some.command) c.in-Ok.status _ _ map command name fault told some cmd c.in-Ok.ensures.ok comes)
 
-pub returns-in-Err-answer-clause-complete_bad_file : goal.returns-in-Err-answer-clause-complete_bad_file
-returns-in-Err-answer-clause-complete_bad_file g c = λ map command name fault told cmd first.
+pub returns-clause-complete_bad_file : goal.returns-clause-complete_bad_file
+returns-clause-complete_bad_file g c = λ map command name fault told cmd first.
     let some : Some (asked c.in-Ok-Some.command) ≡ command_of (texts c.args.words.now) = sym (ap (option_map asked) c.in-Ok-Some.field-0-is) ∙ c.in-Ok-Some.ensures.command in
     let r = c.in-Err-answer.refused in
     told_bad_file r.refusal (name_text r.name) c.tell-in-Err-answer.result (Took g.E.Sink.taken g.E.Sink.faults g.E.Sink.sure c.args.err.now c.tell-in-Err-answer.new.err) (CutOff g.E.Sink.taken g.E.Sink.faults g.E.Sink.sure c.args.err.now c.tell-in-Err-answer.new.err)
     (texts c.args.words.now) (g.F.Files.content c.args.files.now) map (g.F.Files.faults c.args.files.now) (g.F.Files.faults c.answer.new.files) (asked c.in-Ok-Some.command) command
     told some cmd c.in-Err-answer.ensures.refused name fault first c.tell-in-Err-answer.ensures.told
 
-pub returns-in-Err-answer-clause-complete_link_refused : goal.returns-in-Err-answer-clause-complete_link_refused
-returns-in-Err-answer-clause-complete_link_refused g c = λ map command fault name told cmd comes.
+pub returns-clause-complete_link_refused : goal.returns-clause-complete_link_refused
+returns-clause-complete_link_refused g c = λ map command fault name told cmd comes.
     let some : Some (asked c.in-Ok-Some.command) ≡ command_of (texts c.args.words.now) = sym (ap (option_map asked) c.in-Ok-Some.field-0-is) ∙ c.in-Ok-Some.ensures.command in
     let r = c.in-Err-answer.refused in
     told_link r.refusal (name_text r.name) c.tell-in-Err-answer.result (Took g.E.Sink.taken g.E.Sink.faults g.E.Sink.sure c.args.err.now c.tell-in-Err-answer.new.err) (CutOff g.E.Sink.taken g.E.Sink.faults g.E.Sink.sure c.args.err.now c.tell-in-Err-answer.new.err)
