@@ -1,5 +1,5 @@
 // Linking, and the symbol that a fault names.
-ghost use Rattle.std.specs.Prelude.{◌≡◌, ◌≤◌, ◌==◌, All, length, map, IfOk, IfErr, OnOk, Some, None, slice_get, find, string_bytes};
+ghost use Rattle.std.specs.Prelude.{◌≡◌, ◌<◌, ◌≤◌, ◌==◌, All, length, map, IfOk, IfErr, OnOk, Some, None, slice_get, find, string_bytes};
 ghost use Rattle.layout_file.specs.Layout.{layout_of};
 ghost use Rattle.linker.specs.Refusals.{link_fault_of};
 ghost use Rattle.linker.specs.Room.{IsSmall};
@@ -90,14 +90,12 @@ fn symbol_of(objects: &[Object], object: u64, symbol: u64) -> &[u8]
 fn vector_name(layout: &Layout, number: u64) -> &[u8]
     ensures { result.now ≡ spec.vector_name (find (λ v. v.vector == number) (layout_of layout.entry.now).vectors) }
 {
-    match layout
-        .vectors
-        .iter()
-        .find(|vector| u64::from(vector.vector) == number)
-    {
-        Some(vector) => vector.name.as_str().as_bytes(),
-        None => b"",
+    for vector in &layout.vectors {
+        if u64::from(vector.vector) == number {
+            return vector.name.as_str().as_bytes();
+        }
     }
+    b""
 }
 
 fn entry_of(layout: &Layout, module: u64, entry: u64) -> &[u8]
@@ -124,7 +122,8 @@ fn shown(alloc: Global, name: &[u8]) -> Result<String, AllocError>
 }
 
 fn shown_byte(byte: u8) -> char
-    ensures { result ≡ spec.shown_byte byte }
+    ensures value { result ≡ spec.shown_byte byte }
+    ensures ascii { result < 128 }
 {
     if byte.is_ascii_graphic() { byte as char } else { '?' }
 }
