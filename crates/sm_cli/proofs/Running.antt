@@ -49,6 +49,11 @@ module _ (files : Option FileMap) (name : List ℕ) (names : List (List ℕ)) (l
       → linked layout (objects_in (map an_object objects)) text_answer ≡ outcome → Comes files (link_command name names) outcome
   link_comes outcome h hs e = record { helds = a_layout layout ∷ map an_object objects; hold = (h, hs); is = e }
 
+  -- the text of the image that objects link to
+  pub link_answer : Holds files (need name layout_file) (a_layout layout) → HoldAll files (object_needs names) (map an_object objects) → link_fault_of layout objects ≡ None
+      → IsAnswer files (link_command name names) (text_answer (linked_image layout objects))
+  link_answer h hs e = link_comes (gives (text_answer (linked_image layout objects))) h hs (linked_gives layout objects text_answer e)
+
   -- what comes of a layout, a schedule and objects
   pub run_comes : (schedule : Option (List ℕ)) (cycles : ℕ) (entries : List Entry) (outcome : Outcome) → Holds files (need name layout_file) (a_layout layout) → IsScheduleOf files schedule entries
       → HoldAll files (object_needs names) (map an_object objects) → linked layout (objects_in (map an_object objects)) (λ image. trace_answer image entries cycles) ≡ outcome
