@@ -8,6 +8,10 @@ mod images;
 #[cfg(test)]
 mod interrupted;
 #[cfg(test)]
+mod linked;
+#[cfg(test)]
+mod objects;
+#[cfg(test)]
 mod outside;
 #[cfg(test)]
 mod tests;

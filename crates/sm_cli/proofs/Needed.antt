@@ -23,7 +23,7 @@ use Rattle.elf_objects.specs.declared.object.SectionHead.{SectionHead}
 use Rattle.elf_objects.specs.declared.object.Symbol.{Symbol}
 use Rattle.elf_objects.specs.declared.object.Relocation.{Relocation}
 use Rattle.elf_objects.specs.Names.{sections_of}
-use Rattle.elf_objects.specs.Object.{ObjectValue, IsObject, elf_fault_of}
+use Rattle.elf_objects.specs.Object.{ObjectValue, elf_fault_of}
 use Rattle.elf_objects.specs.Relocation.{relocations_of}
 use Rattle.elf_objects.specs.Symbol.{symbols_of}
 use Rattle.sm_cli.specs.Files.{Kind, image_file, image_with, schedule_file, layout_file, object_file, Held, an_image, a_schedule, a_layout, an_object, IsTextOf, IsHeld, HasNoModule, IsRefused, most_bytes, HasFault, Need, Holds, HoldAll, IsFirstFault}

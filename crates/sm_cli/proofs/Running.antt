@@ -10,7 +10,6 @@ use Rattle.linker.specs.declared.fault.LinkFault.{LinkFault}
 use Rattle.mod_layout.specs.Table.{Table}
 use Rattle.linker.specs.Image.{linked_memory, linked_table, Links}
 use Rattle.linker.specs.Refusals.{link_fault_of}
-use Rattle.sm_cli.specs.declared.answers.FileFault.{FileFault}
 use Rattle.sm_cli.specs.declared.answers.Refusal.{Refusal}
 use Rattle.sm_cli.specs.declared.answers.Refusal.TheVariants as refusal
 use Rattle.sm_cli.specs.Files.{image_file, schedule_file, layout_file, Need, need, schedule_needs, object_needs, Held, an_image, a_schedule, a_layout, an_object, Holds, HoldAll, IsScheduleOf}

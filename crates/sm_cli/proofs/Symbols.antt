@@ -1,5 +1,5 @@
 -- The symbols that faults of linking name.
-use Rattle.std.proofs.Common.{◌≡◌, ◌==◌, ℕ, ◌<◌, ◌≤◌, List, [], ◌∷◌, Option, Some, None, Bool, true, false, cond, map, find, refl, sym, ◌∙◌, ap, subst, string_bytes, arith, nat_le, ◌&&◌}
+use Rattle.std.proofs.Common.{◌≡◌, ◌==◌, ℕ, ◌<◌, List, [], ◌∷◌, Option, Some, None, Bool, true, false, cond, map, find, refl, sym, ◌∙◌, ap, string_bytes, arith, nat_le, ◌&&◌}
 use Rattle.std.specs.Option.{option_map}
 use Rattle.layout_file.specs.declared.parts.VectorName.{VectorName}
 use Rattle.layout_file.specs.Values.{VectorValue}

@@ -1,5 +1,5 @@
 -- `link LAYOUT OBJ..`: the text of the image that objects link to.
-use Rattle.std.specs.Prelude.{ℕ, List, [], ◌∷◌, Option, Some, None}
+use Rattle.std.specs.Prelude.{List, [], ◌∷◌, Option, Some, None}
 use Rattle.image_text.specs.Image.{Image}
 use Rattle.image_text.specs.ImageText.{image_text}
 use Rattle.layout_file.specs.Values.{LayoutValue}

@@ -1,7 +1,6 @@
 -- `run LAYOUT SCHEDULE CYCLES OBJ..`: the outside trace of the image that objects link to.
 use Rattle.std.specs.Prelude.{ℕ, List, [], ◌∷◌, ◌++◌, Option, Some, None, map}
 use Rattle.std.specs.Option.{option_map, option_copied}
-use Rattle.image_text.specs.Image.{Image}
 use Rattle.sm_cli.specs.declared.commands.run.RunCommand.{RunCommand}
 use Rattle.sm_cli.specs.Words.{Text}
 use Rattle.sm_cli.specs.Arguments.{file_named, cycles_of}

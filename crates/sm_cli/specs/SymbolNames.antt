@@ -1,6 +1,5 @@
 -- The symbol that a fault of linking names.
 use Rattle.std.specs.Prelude.{ℕ, List, [], Option, Some, None, ◌==◌, ◌&&◌, nat_le, if◌then◌else◌, slice_get, slice_range, map, find}
-use Rattle.std.specs.Option.{option_map_or}
 use Rattle.layout_file.specs.Values.{LayoutValue, ModuleValue, VectorValue}
 use Rattle.elf_objects.specs.Object.{ObjectValue}
 use Rattle.elf_objects.specs.declared.object.Symbol.{Symbol}

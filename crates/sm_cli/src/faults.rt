@@ -202,7 +202,11 @@ pub fn put_link_fault<S: Sink>(sink: &mut S, fault: LinkFault) -> Result<(), Fai
             first_symbol,
             object,
             symbol,
-        } => put_numbers(sink, b"Duplicate", &[first_object, first_symbol, object, symbol]),
+        } => put_numbers(
+            sink,
+            b"Duplicate",
+            &[first_object, first_symbol, object, symbol],
+        ),
         LinkFault::Undefined { object, symbol } => {
             put_numbers(sink, b"Undefined", &[object, symbol])
         }

@@ -132,5 +132,9 @@ fn shown(alloc: Global, name: &[u8]) -> Result<String, AllocError>
 fn shown_byte(byte: u8) -> char
     ensures { result ≡ spec.shown_byte byte }
 {
-    if byte.is_ascii_graphic() { byte as char } else { '?' }
+    if byte.is_ascii_graphic() {
+        byte as char
+    } else {
+        '?'
+    }
 }

@@ -5,8 +5,6 @@ ghost use Rattle.sm_io.specs.Faults.{HasCause};
 ghost use Rattle.layout_file.specs.Layout.{layout_of};
 ghost use Rattle.linker.specs.Room.{IsSmall};
 ghost use Rattle.mod_layout.specs.Table.{module_of};
-ghost use Rattle.layout_file.specs.Layout.{layout_of};
-ghost use Rattle.linker.specs.Room.{IsSmall};
 ghost use Rattle.mod_layout.specs.Tables.{IsModule};
 ghost use Rattle.sm_cli.specs.Content.{IsContentRefusal};
 ghost use Rattle.sm_cli.specs.Files.{Kind, Held, an_image, a_schedule, a_layout, an_object, image_file, image_with, schedule_file, layout_file, object_file, object_needs, HoldAll, need, schedule_needs, HasFile, IsHeld, Holds, IsScheduleOf, most_bytes};
@@ -113,7 +111,10 @@ pub fn load<'a, C: Content, F: Files>(
     };
     match C::examine(alloc, bytes) {
         Ok(value) => Ok(value),
-        Err(refusal) => Err(Refused { refusal, name: Name::Word(name) }),
+        Err(refusal) => Err(Refused {
+            refusal,
+            name: Name::Word(name),
+        }),
     }
 }
 
@@ -230,5 +231,8 @@ fn read_file<'a, F: Files>(
         Err(ReadFault::TooLong) => Refusal::BadFile(FileFault::TooLong),
         Err(ReadFault::NoMemory) => Refusal::NoMemory,
     };
-    Err(Refused { refusal, name: Name::Word(name) })
+    Err(Refused {
+        refusal,
+        name: Name::Word(name),
+    })
 }

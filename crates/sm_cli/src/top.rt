@@ -100,8 +100,20 @@ pub fn serve<F: Files, O: Sink, E: Sink>(
     isolation::texts();
     let command = match read_command(alloc, words) {
         Ok(Some(command)) => command,
-        Ok(None) => return tell(err, Refused { refusal: Refusal::Usage, name: Name::Word("") }),
-        Err(_) => return tell(err, Refused { refusal: Refusal::NoMemory, name: Name::Word("") }),
+        Ok(None) => return tell(
+            err,
+            Refused {
+                refusal: Refusal::Usage,
+                name: Name::Word(""),
+            },
+        ),
+        Err(_) => return tell(
+            err,
+            Refused {
+                refusal: Refusal::NoMemory,
+                name: Name::Word(""),
+            },
+        ),
     };
     match command.answer(alloc, files, out) {
         Ok(status) => status,

@@ -1,4 +1,4 @@
-use Rattle.std.proofs.Common.{◌++◌, codes}
+use Rattle.std.proofs.Common.{codes}
 use Rattle.sm_io.proofs.Putting.{cut_first, cut_later, puts_last}
 use Rattle.sm_cli.specs.Faults.{number_list}
 use Rattle.sm_cli.specs.LinkFaults.{region_text}

@@ -1,4 +1,4 @@
-use Rattle.std.proofs.Common.{◌≡◌, [], ◌++◌, get_or, refl}
+use Rattle.std.proofs.Common.{[], ◌++◌, get_or, refl}
 use Rattle.sm_io.proofs.Putting.{took_nothing, cut_within, took_then, at_piece, past_piece}
 use Rattle.sm_cli.specs.Faults.{number_text}
 use Rattle.sm_cli.proofs.faults.put_list.Goals as goal

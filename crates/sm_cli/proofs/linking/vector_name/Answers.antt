@@ -1,4 +1,4 @@
-use Rattle.std.proofs.Common.{Some, None, ◌∙◌, rules}
+use Rattle.std.proofs.Common.{Some, None, ◌∙◌}
 use Rattle.sm_cli.proofs.Symbols.{found_vector}
 use Rattle.sm_cli.proofs.linking.vector_name.Goals as goal
 

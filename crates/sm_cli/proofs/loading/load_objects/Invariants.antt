@@ -1,6 +1,5 @@
 use Rattle.std.proofs.Common.{◌≡◌, List, ℕ, ◌++◌, map, drop, length, Bor, All}
 use Rattle.linker.specs.Room.{IsSmall}
-use Rattle.elf_objects.specs.Object.{ObjectValue}
 use Rattle.sm_cli.specs.Files.{an_object, object_needs, HoldAll}
 use Rattle.sm_cli.proofs.loading.load_objects.Given as goal
 

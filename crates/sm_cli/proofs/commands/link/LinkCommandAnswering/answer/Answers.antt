@@ -1,4 +1,4 @@
-use Rattle.std.proofs.Common.{◌≡◌, None, List, ℕ, [], ◌∷◌, map, Bor, refl, sym, ◌∙◌, ap, subst, rules}
+use Rattle.std.proofs.Common.{◌≡◌, None, List, ℕ, map, Bor, refl, ◌∙◌, ap, subst}
 use Rattle.layout_file.specs.Layout.{layout_of}
 use Rattle.sm_io.proofs.Putting.{took_same, cut_same}
 use Rattle.elf_objects.specs.Object.{ObjectValue}

@@ -1,4 +1,4 @@
-use Rattle.std.proofs.Common.{◌≡◌, None, List, ℕ, [], ◌∷◌, ◌++◌, map, Bor, refl, sym, ◌∙◌, ap, subst, rules}
+use Rattle.std.proofs.Common.{◌≡◌, None, List, ℕ, ◌++◌, map, Bor, ◌∙◌, ap, subst}
 use Rattle.std.specs.Option.{option_copied}
 use Rattle.layout_file.specs.Layout.{layout_of}
 use Rattle.elf_objects.specs.Object.{ObjectValue}

@@ -1,0 +1,178 @@
+//! Objects that are linked, and run, by one call of `serve`.
+
+use crate::objects::{
+    CALL, CALL_LAYOUT, CALL_TEXT, EMPTY, EMPTY_LAYOUT, EMPTY_TEXT, PAIR, PAIR_HEAD, PAIR_LAYOUT,
+    ROOM, ROOM_SIZE, SMALL_LAYOUT,
+};
+use sm_cli::{Status, serve};
+use sm_io::{MemFiles, MemSink};
+use std::alloc::Global;
+use std::process::Abort;
+use std::test::Fail;
+
+const CALL_TRACE: &str = "\
+5 enter 1 from 0
+51 leave 1 pc 0208
+end 60 outside 0208 0000 0000 0000 0000 0000 0000 0000 0000 0000 0000 0000 0000 0000 0000 0000
+";
+
+/// What a call gave.
+#[derive(Drop)]
+struct Given {
+    status: Status,
+    out: MemSink,
+    err: MemSink,
+}
+
+/// Layouts and objects, with the object of no sections cut to so many bytes, and zeros of 33 bytes.
+fn files_of(alloc: Global, size: usize) -> Result<MemFiles, Fail> {
+    let mut files = MemFiles::new(alloc);
+    files.put_file("empty.toml", EMPTY_LAYOUT.as_bytes())?;
+    files.put_file("small.toml", SMALL_LAYOUT.as_bytes())?;
+    files.put_file("call.toml", CALL_LAYOUT.as_bytes())?;
+    files.put_file("pair.toml", PAIR_LAYOUT.as_bytes())?;
+    files.put_file("empty.o", &EMPTY)?;
+    files.put_file("call.o", &CALL)?;
+    files.put_file("pair.o", &PAIR)?;
+    files.put_file("room.o", &ROOM)?;
+    let mut full = ROOM;
+    full[ROOM_SIZE] = 33;
+    files.put_file("full.o", &full)?;
+    files.put_file("cut.o", EMPTY.get(..size).unwrap_or(b""))?;
+    Ok(files)
+}
+
+fn call(alloc: Global, line: &str, mut files: MemFiles) -> Result<Given, Fail> {
+    let mut words = Vec::new(alloc);
+    for word in line.split(' ') {
+        words.push(String::from_str(alloc, word)?)?;
+    }
+    let mut out = MemSink::new(alloc, 1000)?;
+    let mut err = MemSink::new(alloc, 1000)?;
+    let status = serve(alloc, words.as_slice(), &mut files, &mut out, &mut err);
+    Ok(Given { status, out, err })
+}
+
+/// What a line gives: its status, and what `out` and `err` take.
+#[derive(Clone, Copy)]
+struct Wanted {
+    line: &'static str,
+    status: Status,
+    out: &'static str,
+    err: &'static str,
+}
+
+const fn answer(line: &'static str, out: &'static str) -> Wanted {
+    Wanted {
+        line,
+        status: Status::Done,
+        out,
+        err: "",
+    }
+}
+
+const fn refusal(line: &'static str, status: Status, err: &'static str) -> Wanted {
+    Wanted {
+        line,
+        status,
+        out: "",
+        err,
+    }
+}
+
+fn assert_given(rt: &impl Abort, alloc: Global, wanted: Wanted) -> Result<(), Fail> {
+    let Wanted {
+        line,
+        status,
+        out,
+        err,
+    } = wanted;
+    let given = call(alloc, line, files_of(alloc, 0)?)?;
+    assert_eq!(rt; given.out.taken(), out.as_bytes(), "{line}");
+    assert_eq!(rt; given.err.taken(), err.as_bytes(), "{line}");
+    assert_eq!(rt; given.status, status, "{line}");
+    Ok(())
+}
+
+#[test]
+fn links(rt: HostRuntime) -> Result<(), Fail> {
+    let alloc = rt.alloc();
+    assert_given(&rt, alloc, answer("link empty.toml empty.o", EMPTY_TEXT))?;
+    assert_given(&rt, alloc, answer("link call.toml call.o", CALL_TEXT))?;
+    let given = call(alloc, "link pair.toml pair.o", files_of(alloc, 0)?)?;
+    assert!(rt; given.out.taken().starts_with(PAIR_HEAD.as_bytes()));
+    Ok(())
+}
+
+#[test]
+fn runs(rt: HostRuntime) -> Result<(), Fail> {
+    assert_given(
+        &rt,
+        rt.alloc(),
+        answer("run call.toml - 60 call.o", CALL_TRACE),
+    )
+}
+
+#[test]
+fn refusals_to_link(rt: HostRuntime) -> Result<(), Fail> {
+    let cases = [
+        ("link small.toml full.o", "sancus: link Region Text 33 32\n"),
+        (
+            "link call.toml call.o call.o",
+            "sancus: link Duplicate 0 1 1 1 name main\n",
+        ),
+        (
+            "run call.toml - 60 empty.o",
+            "sancus: link NoVector 15 name main\n",
+        ),
+    ];
+    for (line, err) in cases {
+        assert_given(&rt, rt.alloc(), refusal(line, Status::LinkRefused, err))?;
+    }
+    Ok(())
+}
+
+#[test]
+fn files_that_do_not_serve(rt: HostRuntime) -> Result<(), Fail> {
+    let alloc = rt.alloc();
+    for size in 0..52usize {
+        let line = format!(in alloc; "sancus: bad file cut.o: Short {size}\n")?;
+        let given = call(
+            alloc,
+            "link empty.toml empty.o cut.o",
+            files_of(alloc, size)?,
+        )?;
+        assert_eq!(rt; given.err.taken(), line.as_bytes(), "{size}");
+        assert_eq!(rt; given.status, Status::BadFile, "{size}");
+    }
+    assert_given(
+        &rt,
+        alloc,
+        refusal(
+            "link call.o call.o",
+            Status::BadFile,
+            "sancus: bad file call.o: Utf8OrToml\n",
+        ),
+    )
+}
+
+// Each read in turn fails, and the file of that read is told.
+#[test]
+fn each_read_fails(rt: HostRuntime) -> Result<(), Fail> {
+    let alloc = rt.alloc();
+    let mut failed = 0u64;
+    for at in 0..20u64 {
+        let mut files = files_of(alloc, 0)?;
+        files.fail_at(at)?;
+        let given = call(alloc, "run call.toml - 60 call.o", files)?;
+        if given.status == Status::Done {
+            assert_eq!(rt; given.out.taken(), CALL_TRACE.as_bytes(), "{at}");
+        } else {
+            failed = at;
+            assert_eq!(rt; given.status, Status::ReadFault, "{at}");
+            assert_eq!(rt; given.out.taken(), b"".as_slice(), "{at}");
+        }
+    }
+    assert!(rt; failed > 0);
+    Ok(())
+}
