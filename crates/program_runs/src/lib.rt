@@ -14,4 +14,6 @@ mod objects;
 #[cfg(test)]
 mod outside;
 #[cfg(test)]
+mod stock;
+#[cfg(test)]
 mod tests;

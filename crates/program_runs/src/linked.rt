@@ -4,6 +4,7 @@ use crate::objects::{
     CALL, CALL_LAYOUT, CALL_TEXT, EMPTY, EMPTY_LAYOUT, EMPTY_TEXT, PAIR, PAIR_HEAD, PAIR_LAYOUT,
     ROOM, ROOM_SIZE, SMALL_LAYOUT,
 };
+use crate::stock::{PROGRAM, PROGRAM_LAYOUT};
 use sm_cli::{Status, serve};
 use sm_io::{MemFiles, MemSink};
 use std::alloc::Global;
@@ -42,12 +43,19 @@ fn files_of(alloc: Global, size: usize) -> Result<MemFiles, Fail> {
     Ok(files)
 }
 
+fn stock_files(alloc: Global) -> Result<MemFiles, Fail> {
+    let mut files = MemFiles::new(alloc);
+    files.put_file("stock.toml", PROGRAM_LAYOUT.as_bytes())?;
+    files.put_file("stock.o", &PROGRAM)?;
+    Ok(files)
+}
+
 fn call(alloc: Global, line: &str, mut files: MemFiles) -> Result<Given, Fail> {
     let mut words = Vec::new(alloc);
     for word in line.split(' ') {
         words.push(String::from_str(alloc, word)?)?;
     }
-    let mut out = MemSink::new(alloc, 1000)?;
+    let mut out = MemSink::new(alloc, 1000000)?;
     let mut err = MemSink::new(alloc, 1000)?;
     let status = serve(alloc, words.as_slice(), &mut files, &mut out, &mut err);
     Ok(Given { status, out, err })
@@ -174,5 +182,20 @@ fn each_read_fails(rt: HostRuntime) -> Result<(), Fail> {
         }
     }
     assert!(rt; failed > 0);
+    Ok(())
+}
+
+// A program of a stock compiler runs to its bound, and its trace is that of the image that it links to.
+#[test]
+fn a_program_of_a_stock_compiler(rt: HostRuntime) -> Result<(), Fail> {
+    let alloc = rt.alloc();
+    let linked = call(alloc, "link stock.toml stock.o", stock_files(alloc)?)?;
+    assert_eq!(rt; linked.status, Status::Done);
+    let run = call(alloc, "run stock.toml - 200000 stock.o", stock_files(alloc)?)?;
+    let mut files = MemFiles::new(alloc);
+    files.put_file("stock.img", linked.out.taken())?;
+    let image = call(alloc, "image stock.img - 200000", files)?;
+    assert_eq!(rt; run.status, Status::Done);
+    assert_eq!(rt; run.out.taken(), image.out.taken());
     Ok(())
 }
