@@ -6,6 +6,7 @@ use Rattle.texts.specs.Hexadecimals.{hex_word, hex_key}
 use Rattle.mod_layout.specs.declared.Section.{Section}
 use Rattle.mod_layout.specs.declared.Module.{Module}
 use Rattle.image_text.specs.Image.{Image}
+use Rattle.image_text.specs.declared.numbers.TheConstants.{FIRST_ROW, ROW_COUNT}
 
 -- a line, and the text behind it
 abbrev pub ended : List ℕ → List ℕ → List ℕ
@@ -62,9 +63,9 @@ unfoldable pub rows_text : ℕ → ℕ → List ℕ → List ℕ → List ℕ
 rows_text zero at memory rest = rest
 rows_text (suc n) at memory rest = row_text at (take 16 memory) (rows_text n (at + 16) (drop 16 memory) rest)
 
--- the rows from 0x0200 on, and the end
+-- the rows from the first on, and the end
 abbrev pub memory_text : List ℕ → List ℕ
-memory_text memory = rows_text 4064 512 (drop 512 memory) (ended end_line [])
+memory_text memory = rows_text ROW_COUNT FIRST_ROW (drop FIRST_ROW memory) (ended end_line [])
 
 -- what stands behind the key
 abbrev pub text_after_key : Image → List ℕ

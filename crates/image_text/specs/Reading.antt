@@ -1,6 +1,7 @@
 -- What reading and writing promise of the text.
 use Rattle.std.specs.Prelude.{◌≡◌, ◌⊎◌, ℕ, ◌+◌, ◌*◌, ◌≤◌, ◌<◌, ◌-◌, ◌%◌, ◌==◌, false, Bool, not, length, drop, replicate, slice_index, slice_range, List, [], ◌∷◌, ◌++◌, true, Option, Some, None, Result, Ok, Err}
 use Rattle.texts.specs.Lines.{ended_lines, unended}
+use Rattle.image_text.specs.declared.numbers.TheConstants.{BEFORE_ROWS, FIRST_ROW}
 use Rattle.image_text.specs.declared.ImageFault.{ImageFault}
 use Rattle.image_text.specs.declared.ImageFault.TheVariants.{NoMemory}
 use Rattle.image_text.specs.Image.{Image, IsImage, AreNumbered}
@@ -70,7 +71,7 @@ IsGiven (Some n) given = given ≡ n
 
 pub record PassedModules (room : ℕ) (due : Option ℕ) (table : Table) (old new : Unread) : Type 0 where
   pub text : old.rest ≡ modules_text table.modules new.rest
-  pub refusal : on old (modules_refusal (empty_table room) due) ≡ on new (rows_refusal 496)
+  pub refusal : on old (modules_refusal (empty_table room) due) ≡ on new (rows_refusal BEFORE_ROWS)
   pub table_ok : IsTable table
   pub room_is : table.room ≡ room
   pub numbered : AreNumbered 1 table.modules
@@ -82,7 +83,7 @@ pub record PassedMemory (memory : List ℕ) (old : Unread) : Type 0 where
   pub text : old.rest ≡ memory_text memory
   pub full : length memory ≡ 65536
   pub are_bytes : IsBytes memory
-  pub low : (a : ℕ) → a < 512 → slice_index memory a ≡ 0
+  pub low : (a : ℕ) → a < FIRST_ROW → slice_index memory a ≡ 0
 
 -- ---- modules
 
@@ -148,9 +149,9 @@ NextRow last (Some at) old new memory grown = AddsRow last at old new memory gro
 -- the rows so far
 pub record RowsSoFar (rest : List ℕ) (last : ℕ) (memory left : List ℕ) : Type 0 where
   pub rows : ℕ
-  pub size : length memory ≡ 512 + 16 * rows
-  pub last_is : last + 16 ≡ 512 + 16 * rows
-  pub low : (a : ℕ) → a < 512 → slice_index memory a ≡ 0
+  pub size : length memory ≡ FIRST_ROW + 16 * rows
+  pub last_is : last + 16 ≡ FIRST_ROW + 16 * rows
+  pub low : (a : ℕ) → a < FIRST_ROW → slice_index memory a ≡ 0
   pub are_bytes : IsBytes memory
   pub small : last < 65536
-  pub text : rest ≡ rows_text rows 512 (drop 512 memory) left
+  pub text : rest ≡ rows_text rows FIRST_ROW (drop FIRST_ROW memory) left

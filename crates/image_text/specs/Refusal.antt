@@ -8,7 +8,7 @@ use Rattle.mod_layout.specs.declared.Section.{Section}
 use Rattle.mod_layout.specs.declared.TableFault.{TableFault}
 use Rattle.mod_layout.specs.Table.{Table, fault_of, with_module, empty_table}
 use Rattle.texts.specs.Lines.{ended_lines, unended}
-use Rattle.image_text.specs.declared.numbers.TheConstants.{MAX_COUNT, MAX_VERSION}
+use Rattle.image_text.specs.declared.numbers.TheConstants.{BEFORE_ROWS, FIRST_ROW, MAX_COUNT, MAX_VERSION}
 use Rattle.image_text.specs.declared.ImageFault.{ImageFault}
 use Rattle.image_text.specs.declared.ImageFault.TheVariants.{Line, Digit, Twice, Table as TableRefuses, Version}
 use Rattle.image_text.specs.ImageText.{end_line, is_zero}
@@ -95,9 +95,9 @@ end_refusal s [] [] = None
 end_refusal s [] (b ∷ tail) = line_fault s
 end_refusal s (line ∷ more) tail = line_fault s
 
--- a row: its address is a multiple of 16 from 0x0200 up, it is not all zeros, and it stands above the row before it
+-- a row: its address is a multiple of 16, from the first row's up, it is not all zeros, and it stands above the row before it
 abbrev pub is_row : ℕ → ℕ → List ℕ → Bool
-is_row last a row = (a % 16 == 0) && not (nat_lt a 512) && not (is_zero row) && not (nat_lt a last)
+is_row last a row = (a % 16 == 0) && not (nat_lt a FIRST_ROW) && not (is_zero row) && not (nat_lt a last)
 
 abbrev pub placed : ℕ → Spot → List ℕ → Option ImageFault → Option ImageFault
 placed last s line rest =
@@ -105,7 +105,7 @@ placed last s line rest =
     then (if word_at 3 line == last then Some (Twice (word_at 3 line)) else rest)
     else line_fault s
 
--- the rows and the end; `last` is the address of the row before, at first 0x01F0
+-- the rows and the end; `last` is the address of the row before, at first that of the row below all
 abbrev pub rows_refusal : ℕ → Spot → List (List ℕ) → List ℕ → Option ImageFault
 rows_refusal last s [] tail = line_fault s
 rows_refusal last s (line ∷ more) tail =
@@ -136,7 +136,7 @@ modules_refusal t due s [] tail = line_fault s
 modules_refusal t due s (line ∷ more) tail =
     if is_due due line
     then formed module_form s line (taken (fault_of t (section_at 12 line) (section_at 22 line)) (t.given + 1) (modules_refusal (added t line) (one_less due) (past line s) more tail))
-    else rows_refusal 496 s (line ∷ more) tail
+    else rows_refusal BEFORE_ROWS s (line ∷ more) tail
 
 abbrev pub counted : Option ℕ → Spot → Option ImageFault → Option ImageFault
 counted None s rest = line_fault s

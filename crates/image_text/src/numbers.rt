@@ -5,10 +5,20 @@ ghost use Rattle.image_text.specs.Refusal.{count_of as count_of_lem, version_ref
 
 use crate::ImageFault;
 use crate::lines::Line;
+use mod_layout::DEVICES_END;
 use texts::read_decimal;
 
 /// The last version of at most nine decimal digits.
 const MAX_VERSION: u64 = 999_999_999;
+
+/// The address of the first row: what lies below belongs to the devices.
+pub(crate) const FIRST_ROW: u16 = DEVICES_END;
+
+/// Where a row before the first would lie.
+pub(crate) const BEFORE_ROWS: u16 = FIRST_ROW - 16;
+
+/// How many rows of 16 bytes there are from the first up to the end of memory.
+pub(crate) const ROW_COUNT: usize = (65_536 - FIRST_ROW as usize) / 16;
 
 /// How many modules a line of version 2 announces at most.
 const MAX_COUNT: u64 = 32;

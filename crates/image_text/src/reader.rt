@@ -6,12 +6,13 @@ ghost use Rattle.image_text.specs.ImageText.{first_line, key_line, handler_line,
 ghost use Rattle.image_text.specs.Image.{IsImage};
 ghost use Rattle.image_text.specs.Refusal.{first_refusal, key_refusal, handler_refusal, count_refusal, modules_refusal, rows_refusal, is_row as is_row_lem, one_less as one_less_lem, refusal_of};
 ghost use Rattle.image_text.specs.Reading.{on, Passed, PassedCount, PassedModules, AddsModule, NextRow, PassedMemory, Reads, due_next};
+ghost use Rattle.image_text.specs.declared.numbers.TheConstants.{BEFORE_ROWS, FIRST_ROW};
 ghost use Rattle.mod_layout.specs.Table.{empty_table};
 ghost use Rattle.mod_layout.specs.Tables.{IsTable};
 
 use crate::forms::{HANDLER, KEY, MODULE, ROW, formed, section_at, sixteen_at, word_at};
 use crate::lines::Lines;
-use crate::numbers::{count_of, other_version};
+use crate::numbers::{BEFORE_ROWS, FIRST_ROW, count_of, other_version};
 use crate::{Image, ImageFault};
 use mod_layout::ModuleTable;
 use std::alloc::{AllocError, Global};
@@ -132,10 +133,10 @@ pub(crate) fn read_modules(
 
 // The zeros below the first row.
 fn low_memory(alloc: Global) -> Result<Vec<u8>, ImageFault>
-    ensures zeros { IfOk result (λ memory. memory.items ≡ replicate 512 0) }
+    ensures zeros { IfOk result (λ memory. memory.items ≡ replicate FIRST_ROW 0) }
     ensures refused { IfErr result (λ fault. fault ≡ ImageFault.NoMemory) }
 {
-    match vec![in alloc; 0; 512] {
+    match vec![in alloc; 0; FIRST_ROW as usize] {
         Ok(memory) => Ok(memory),
         Err(AllocError) => Err(ImageFault::NoMemory),
     }
@@ -166,11 +167,11 @@ pub(crate) fn is_zero(row: &[u8]) -> bool
     row.iter().all(|b| *b == 0)
 }
 
-// A row's address is a multiple of 16 from 0x0200 up and no lower than the last, and the row is not all zeros.
+// A row's address is a multiple of 16, no lower than the first row's and no lower than the last, and the row is not all zeros.
 fn is_row(last: u16, at: u16, row: &[u8]) -> bool
     ensures { result ≡ is_row_lem last at row.now }
 {
-    at % 16 == 0 && at >= 0x0200 && !is_zero(row) && at >= last
+    at % 16 == 0 && at >= FIRST_ROW && !is_zero(row) && at >= last
 }
 
 // Reads the next row into the memory, and gives its address; `None` at the line `end`.
@@ -212,13 +213,13 @@ fn next_row(
 // The rows and the end.
 pub(crate) fn read_memory(alloc: Global, lines: &mut Lines<'_>) -> Result<Vec<u8>, ImageFault>
     ensures passed { IfOk result (λ memory. PassedMemory memory.items lines.old) }
-    ensures refused { IfErr result (λ fault. (fault ≡ ImageFault.NoMemory) ⊎ (on lines.old (rows_refusal 496) ≡ Some fault)) }
+    ensures refused { IfErr result (λ fault. (fault ≡ ImageFault.NoMemory) ⊎ (on lines.old (rows_refusal BEFORE_ROWS) ≡ Some fault)) }
 {
     let mut memory = match low_memory(alloc) {
         Ok(memory) => memory,
         Err(fault) => return Err(fault),
     };
-    let mut last = 0x01F0;
+    let mut last = BEFORE_ROWS;
     'rows: loop {
         match next_row(lines, last, &mut memory) {
             Ok(Some(at)) => last = at,

@@ -1,12 +1,14 @@
 //! Writing an image's text.
 
 ghost use Rattle.std.specs.Prelude.{◌≡◌, ℕ, ◌+◌, ◌*◌, ◌<◌, ◌≤◌, ◌++◌, ◌∷◌, [], List, length, drop, is_some, IfOk, OnOk};
+ghost use Rattle.image_text.specs.declared.numbers.TheConstants.{FIRST_ROW, ROW_COUNT};
 ghost use Rattle.mod_layout.specs.Table.{module_of};
 ghost use Rattle.texts.specs.Hexadecimals.{hex_word};
 ghost use Rattle.image_text.specs.Image.{AreNumbered};
 ghost use Rattle.image_text.specs.ImageText.{ended, first_line, key_line, handler_line, count_line, section_words, module_line, row_line, row_text, rows_text, count_text, modules_text, image_text};
 
 use crate::Image;
+use crate::numbers::FIRST_ROW;
 use crate::reader::is_zero;
 use mod_layout::{Module, ModuleTable, Section};
 use std::alloc::{AllocError, Global};
@@ -126,12 +128,12 @@ fn put_section(text: &mut Vec<u8>, section: Section) -> Result<(), AllocError>
     Ok(())
 }
 
-// A line for each row from 0x0200 on that is not all zeros.
+// A line for each row from the first on that is not all zeros.
 fn put_rows(text: &mut Vec<u8>, memory: &[u8]) -> Result<(), AllocError>
     requires { length memory.now ≡ 65536 }
-    ensures { OnOk result ((rest : List ℕ) → text.new.items ++ rest ≡ text.old.items ++ rows_text 4064 512 (drop 512 memory.now) rest) }
+    ensures { OnOk result ((rest : List ℕ) → text.new.items ++ rest ≡ text.old.items ++ rows_text ROW_COUNT FIRST_ROW (drop FIRST_ROW memory.now) rest) }
 {
-    for row in 32..4096usize {
+    for row in usize::from(FIRST_ROW) / 16..4096 {
         put_row(text, (16 * row) as u16, &memory[16 * row..16 * row + 16])?;
     }
     Ok(())

@@ -47,9 +47,9 @@ pub fn read_decimal(text: &[u8], most: u64) -> Option<u64>
     }
 }
 
-// Whether these are decimal digits, at least one, without a leading zero.
-fn is_decimal(text: &[u8]) -> bool
-    ensures { result ≡ spec.is_decimal text.now }
+/// Whether these are decimal digits, at least one, without a leading zero: the decimal of some number.
+pub fn is_decimal(text: &[u8]) -> bool
+    ensures decimal { result ≡ spec.is_decimal text.now }
 {
     match text {
         [] => false,

@@ -11,7 +11,7 @@ mod lines;
 #[cfg(test)]
 mod tests;
 
-pub use decimals::{decimal, push_decimal, read_decimal};
+pub use decimals::{decimal, is_decimal, push_decimal, read_decimal};
 pub use hexadecimals::{
     hex_byte, hex_key, hex_word, is_hex_digit, push_hex_byte, push_hex_word, read_hex_byte,
     read_hex_key, read_hex_word,

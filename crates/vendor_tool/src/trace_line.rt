@@ -1,14 +1,11 @@
 //! The lines of a trace, told by their words.
 
 ghost use Rattle.std.specs.Prelude.{◌≡◌, ◌∷◌, [], ◌<◌, length, IfSome, IfNone};
-ghost use Rattle.std.specs.List.{list_all};
-ghost use Rattle.std.specs.Char.{is_ascii_digit};
-ghost use Rattle.texts.specs.Decimals as decimals;
 ghost use Rattle.vendor_tool.specs.TraceLines as spec;
 ghost use Rattle.vendor_tool.specs.Replies as replies;
 
 use crate::reading::first_space;
-use texts::{read_hex_byte, read_hex_word};
+use texts::{is_decimal, read_hex_byte, read_hex_word};
 
 /// The kind of a line: that of its event, or of the end that it tells.
 #[derive(Clone, Copy, Debug, PartialEq, Eq)]
@@ -237,23 +234,6 @@ fn fits(word: Word, text: &[u8]) -> bool
         Word::Keyword(kind) => text == keyword(kind).as_bytes(),
         Word::Mark(label) => text == label_text(label).as_bytes(),
     }
-}
-
-// Whether these are decimal digits, at least one, without a leading zero.
-fn is_decimal(text: &[u8]) -> bool
-    ensures { result ≡ decimals.is_decimal text.now }
-{
-    match text {
-        [] => false,
-        [first, more @ ..] => has_digits(text) && (*first != b'0' || more.is_empty()),
-    }
-}
-
-// Whether all of these are decimal digits.
-fn has_digits(text: &[u8]) -> bool
-    ensures { result ≡ list_all is_ascii_digit text.now }
-{
-    text.iter().all(|byte| byte.is_ascii_digit())
 }
 
 fn is_rule_name(text: &[u8]) -> bool
