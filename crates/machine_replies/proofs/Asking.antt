@@ -1,11 +1,10 @@
 -- The addresses that an instruction asks for are words, and so is what a refusal tells.
-use Rattle.std.proofs.Common.{◌≡◌, ℕ, zero, suc, ◌+◌, ◌-◌, ◌%◌, ◌<◌, ◌≤◌, List, [], ◌∷◌, ◌++◌, get_or, nth, refl, sym, subst, arith, Bool, true, false, cond, nat_le, ◌&&◌, Option, Some, None}
+use Rattle.std.proofs.Common.{◌≡◌, ℕ, zero, suc, ◌+◌, ◌*◌, ◌-◌, ◌≤◌, List, [], ◌∷◌, ◌++◌, refl, arith, Bool, true, false, cond, nat_le, ◌&&◌, Option, Some, None}
 use Rattle.std.proofs.lemmas.Bool.Decides.{nat_tests}
-use Rattle.sm_words.specs.Words.{reg, add16, sub16, word_at, IsCore}
+use Rattle.sm_words.specs.Words.{reg, add16, IsCore}
 use Rattle.sm_words.specs.declared.width.Width.{Width}
 use Rattle.insn_decode.specs.Code.{insn_of, words_of}
 use Rattle.insn_decode.specs.Means.{Means, Source, Destination}
-use Rattle.insn_decode.specs.Means.Means.{format_one, format_two}
 use Rattle.insn_decode.specs.declared.insn.Insn.{Insn}
 use Rattle.insn_decode.specs.declared.insn.Insn.TheVariants.{Two, One, Jump, Reti, Unit as UnitOp}
 use Rattle.insn_decode.specs.declared.insn.OneOp.{OneOp}
@@ -14,14 +13,14 @@ use Rattle.insn_decode.specs.declared.insn.Operand.{Operand}
 use Rattle.insn_decode.specs.declared.insn.Operand.TheVariants.{Reg, Const, Imm, Indexed, Symbolic, Absolute, Indirect, Increment}
 use Rattle.insn_decode.proofs.Table.{insn_means}
 use Rattle.sm_words.proofs.Cores.{put_core}
-use Rattle.mod_layout.specs.Table.{Table, own_of, place_by, place_in, place_of, module_of, find_module, is_entry, holds, size_of, takes}
+use Rattle.mod_layout.specs.Table.{Table, own_of, place_by, place_in, place_of, module_of, is_entry, holds, size_of, takes}
 use Rattle.mod_layout.specs.Tables.{AreModules, IsModule, IsTable}
 use Rattle.mod_layout.specs.declared.Module.{Module}
 use Rattle.mod_layout.specs.declared.Place.{Place}
 use Rattle.mod_layout.specs.declared.Place.TheVariants.{Open, Entry, Text, Data}
 use Rattle.mod_layout.proofs.Found.{module_found, and_true}
 use Rattle.mod_layout.proofs.TableLemmas.{taken}
-use Rattle.pc_access.specs.Rights.{right, right_at, refuse_if, aligned_first, misaligned, or_else, first_denied, is_id, is_held}
+use Rattle.pc_access.specs.Rights.{right, right_at, refuse_if, aligned_first, misaligned, or_else, first_denied}
 use Rattle.pc_access.specs.declared.Access.{Access}
 use Rattle.pc_access.specs.declared.Denied.{Denied}
 use Rattle.pc_access.specs.declared.Kind.{Kind}
@@ -207,8 +206,10 @@ plan_word (Two op w s d) core c h =
     let ext = add16 (reg core 0) 2 in
     let a = place_of_word s core1 ext (past_core (Two op w s d) core c) h.0 in
     let b = place_of_word d (stepped w s core1) (add16 ext (2 * words_of s)) (stepped_core w s core1 (past_core (Two op w s d) core c)) h.1 in
-    both_words (access_if true Read w (place s core1 ext)) _ (access_word true Read w _ a)
-    (both_words (access_if (reads_dst op) Read w (place d (stepped w s core1) (add16 ext (2 * words_of s)))) _ (access_word (reads_dst op) Read w _ b) (access_word (writes_dst op) Write w _ b))
+    let second = place d (stepped w s core1) (add16 ext (2 * words_of s)) in
+    both_words (access_if true Read w (place s core1 ext) ++ access_if (reads_dst op) Read w second) (access_if (writes_dst op) Write w second)
+    (both_words (access_if true Read w (place s core1 ext)) (access_if (reads_dst op) Read w second) (access_word true Read w _ a) (access_word (reads_dst op) Read w second b))
+    (access_word (writes_dst op) Write w second b)
 plan_word (One op w arg) core c h =
     let core1 = past (One op w arg) core in
     let ext = add16 (reg core 0) 2 in
@@ -249,9 +250,9 @@ text_at_module t (Data id) ok = tt
 
 range_end : (a b : ℕ) → in_range a b ≡ true → (a ≤ b) × (b ≤ 65536)
 range_end a b e =
-    let p = and_true (nat_le 512 a) (nat_le b 65536 && nat_le a b) e in
-    let q = and_true (nat_le b 65536) (nat_le a b) p.1 in
-    let r = q.0 in let s = q.1 in
+    let p = and_true (nat_le 512 a && nat_le b 65536) (nat_le a b) e in
+    let q = and_true (nat_le 512 a) (nat_le b 65536) p.0 in
+    let r = q.1 in let s = p.1 in
     (grind (arith, nat_tests), grind (arith, nat_tests))
 
 attest_by : (b : Bool) (given : ℕ) (own other : Module) (a : ℕ) → in_range a (a + 16) ≡ b → IsModule given own → IsModule given other
@@ -271,8 +272,9 @@ tag_by true given own a b out e h =
     let p = and_true (in_range a b) (in_range out (out + 16)) e in
     let r = range_end a b p.0 in
     let le = r.0 in let high = r.1 in
-    both_words (each_byte Read a (b - a)) _ (each_word Read a (b - a) (omega arith))
-    (both_words (each_byte Write out 16) _ (each_word Write out 16 (range_end out (out + 16) p.1).1) (text_word given own h))
+    both_words (each_byte Read a (b - a) ++ each_byte Write out 16) (text_reads own)
+    (both_words (each_byte Read a (b - a)) (each_byte Write out 16) (each_word Read a (b - a) (omega arith)) (each_word Write out 16 (range_end out (out + 16) p.1).1))
+    (text_word given own h)
 tag_by false given own a b out e h = tt
 
 tag_word : (given : ℕ) (own : Option Module) (a b out : ℕ) → IsMaybeModule given own → Each AtWord (tag_plan own a b out)

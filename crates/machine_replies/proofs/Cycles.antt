@@ -1,14 +1,14 @@
 -- What a cycle of a run tells has words and bytes where the trace's lines have them.
-use Rattle.std.proofs.Common.{◌≡◌, ℕ, zero, suc, ◌+◌, ◌*◌, ◌-◌, ◌%◌, ◌/◌, ◌<◌, List, [], ◌∷◌, ◌++◌, get_or, refl, sym, ap, subst, arith, Bool, true, false, cond, ◌==◌, ◌&&◌, nat_lt, Option, Some, None, is_some}
+use Rattle.std.proofs.Common.{◌≡◌, ℕ, zero, suc, ◌+◌, ◌%◌, ◌/◌, ◌<◌, List, [], ◌∷◌, ◌++◌, refl, sym, subst, arith, Bool, true, false, cond, ◌==◌, ◌&&◌, nat_lt, Option, Some, None}
 use Rattle.std.specs.Option.{option_or}
-use Rattle.sm_words.specs.Words.{reg, word_at, word_of, IsCore}
+use Rattle.sm_words.specs.Words.{reg, word_at, IsCore}
 use Rattle.sm_words.specs.declared.width.Width.{Width}
 use Rattle.sm_words.specs.declared.width.Width.TheVariants.{Byte, Word}
 use Rattle.insn_decode.specs.Code.{insn_of, length_of}
 use Rattle.insn_decode.specs.declared.insn.Insn.{Insn}
 use Rattle.insn_decode.specs.declared.insn.Insn.TheVariants.{Two, One, Jump, Reti, Unit as UnitOp}
 use Rattle.schedule_file.specs.declared.Entry.{Entry as Scheduled}
-use Rattle.mod_layout.specs.Table.{Table, place_of, own_of}
+use Rattle.mod_layout.specs.Table.{place_of, own_of}
 use Rattle.mod_layout.specs.declared.Module.{Module}
 use Rattle.mod_layout.specs.declared.Place.{Place}
 use Rattle.mod_layout.specs.declared.Place.TheVariants.{Open, Entry, Text, Data}
@@ -18,7 +18,9 @@ use Rattle.pc_access.specs.declared.Access.{Access}
 use Rattle.pc_access.specs.declared.Denied.{Denied}
 use Rattle.pc_access.specs.declared.Rule.{Rule}
 use Rattle.pc_access.specs.declared.Stop.{Stop}
-use Rattle.devices.specs.Devices.{Devices, write_of, after_read, accepted, line_of, timer_line, serial_line, highest_line, line_raised}
+use Rattle.std.specs.Int.{bit_at}
+use Rattle.devices.specs.declared.registers.TheConstants.{LINES_ENABLE, SERIAL_CONTROL, SERIAL_DATA, TIMER_CONTROL, TIMER_COUNT, TIMER_COUNT_HIGH, TIMER_LIMIT, TIMER_LIMIT_HIGH, TIMER_VECTOR}
+use Rattle.devices.specs.Devices.{with_low, with_high, Devices, write_of, after_read, accepted, line_of, timer_line, serial_line, line_raised}
 use Rattle.image_text.specs.Image.{Image, IsImage}
 use Rattle.reg_backup.specs.Held.{held_ids}
 use Rattle.reg_backup.specs.declared.backup.After.{After}
@@ -31,16 +33,16 @@ use Rattle.cpu_step.specs.Asked.{asks, effect, table_after}
 use Rattle.cpu_step.specs.Fetched.{insn_at, later_word}
 use Rattle.tracer.specs.Laws.{IsWord, IsEvent}
 use Rattle.tracer.specs.declared.Event.{Event}
-use Rattle.written_machine.specs.Cycle.{Step, Settled, quiet, told, stopped, denied, pc_of, byte_of, in_text, resume_from, close_of, leave_if, settle_by, settle_in, settle, ticked, vector_if, due, arrive_inside, arrive_outside, push_both, pushes, port_of, who_of, made_events, perform, perform_unless, attempt, returned_by, reti_by, reti_of, act_by, act_on, act_home, act_first, act, is_home, enter_at, enter, fetch, begin_unless, begin, padded, asleep, turn, sent_event, counted_by, move, cycle_by, cycle}
+use Rattle.written_machine.specs.Cycle.{Step, told, stopped, pc_of, byte_of, in_text, resume_from, close_of, leave_if, settle_by, settle_in, settle, ticked, vector_if, due, arrive_inside, arrive_outside, push_both, pushes, port_of, who_of, perform, perform_unless, attempt, returned_by, reti_by, reti_of, act_by, act_on, act_home, act_first, act, is_home, enter_at, enter, fetch, begin_unless, begin, asleep, turn, sent_event, counted_by, move, cycle_by, cycle}
 use Rattle.written_machine.specs.Ports.{Port, read_in, read_byte, read_width, write_in, write_byte, write_width, take_reads, put_writes}
 use Rattle.written_machine.specs.State.{State}
 use Rattle.written_machine.specs.View.{at}
 use Rattle.isolation.proofs.Cases.{turn_at, turn_unless, turn_is}
 use Rattle.isolation.proofs.Each.{Each}
 use Rattle.isolation.proofs.Filled.{Filled, settle_filled, ticked_filled, enter_filled, filled_at}
-use Rattle.isolation.proofs.Fine.{Fine, FineFrame, FineSettled, Small, settled_fine, ticked_fine, enter_fine, table_fine, fine_at}
+use Rattle.isolation.proofs.Fine.{Fine, FineFrame, Small, settled_fine, ticked_fine, enter_fine, table_fine, fine_at}
 use Rattle.isolation.proofs.Passes.{ticked_sent}
-use Rattle.machine_replies.proofs.Asking.{IsWordPlace, place_word, IsWordDenied, AtWord, denied_word, right_word, IsWordInsn, insn_word, asks_word, own_module}
+use Rattle.machine_replies.proofs.Asking.{IsWordPlace, place_word, IsWordDenied, denied_word, right_word, IsWordInsn, insn_word, asks_word, own_module}
 
 abbrev AreEvents : List Event → Type 0
 AreEvents es = Each IsEvent es
@@ -115,7 +117,7 @@ act_home_event false n s f m = stopped_event _ (pc_of s) 0 s f.core_ok (pc_word 
 act_home_event true n s f m =
     act_on_event (insn_at (byte_of s) (pc_of s) n) s f
     (λ insn e. insn_word _ (later_word (byte_of s) (pc_of s) n 1) (later_word (byte_of s) (pc_of s) n 2) insn e
-      (later_is_word (nat_lt 1 n) _ (memory_word s _ m)) (later_is_word (nat_lt 2 n) _ (memory_word s _ m)))
+    (later_is_word (nat_lt 1 n) _ (memory_word s _ m)) (later_is_word (nat_lt 2 n) _ (memory_word s _ m)))
 
 act_first_event : (o : Option Insn) (s : State) → Fine s → Filled s.memory → AreEvents (act_first o s).events
 act_first_event None s f m = stopped_event _ (pc_of s) 0 s f.core_ok (pc_word s f.core_ok) (omega arith)
@@ -249,22 +251,32 @@ settle_event s f = settle_in_event s.phase s f
 abbrev Sends : Devices → Devices → Type 0
 Sends d e = IsMaybeByte d.sent → IsMaybeByte e.sent
 
-sends_if : (b : Bool) (d e x : Devices) → Sends d e → Sends d x → Sends d (cond b e x)
-sends_if true d e x h g = h
-sends_if false d e x h g = g
+cond_sent : (b : Bool) (e x : Devices) → IsMaybeByte e.sent → IsMaybeByte x.sent → IsMaybeByte (cond b e x).sent
+cond_sent true e x h g = h
+cond_sent false e x h g = g
 
 write_sends : (d : Devices) (a b : ℕ) → b < 256 → Sends d (write_of d a b)
 unfolding write_of
-write_sends d a b h =
-    sends_if _ d _ _ same (sends_if _ d _ _ same (sends_if _ d _ _ (λ k. h) (sends_if _ d _ _ same (sends_if _ d _ _ same
-    (sends_if _ d _ _ same (sends_if _ d _ _ same (sends_if _ d _ d same same)))))))
-  where
-    same : IsMaybeByte d.sent → IsMaybeByte d.sent
-    same k = k
+write_sends d a b h k =
+    let x0 : Devices = cond (a == TIMER_LIMIT_HIGH) (record d { limit = with_high d.limit b }) d in
+    let h0 : IsMaybeByte x0.sent = cond_sent (a == TIMER_LIMIT_HIGH) (record d { limit = with_high d.limit b }) d k k in
+    let x1 : Devices = cond (a == TIMER_LIMIT) (record d { limit = with_low d.limit b }) x0 in
+    let h1 : IsMaybeByte x1.sent = cond_sent (a == TIMER_LIMIT) (record d { limit = with_low d.limit b }) x0 k h0 in
+    let x2 : Devices = cond (a == TIMER_COUNT_HIGH) (record d { count = with_high d.count b }) x1 in
+    let h2 : IsMaybeByte x2.sent = cond_sent (a == TIMER_COUNT_HIGH) (record d { count = with_high d.count b }) x1 k h1 in
+    let x3 : Devices = cond (a == TIMER_COUNT) (record d { count = with_low d.count b }) x2 in
+    let h3 : IsMaybeByte x3.sent = cond_sent (a == TIMER_COUNT) (record d { count = with_low d.count b }) x2 k h2 in
+    let x4 : Devices = cond (a == TIMER_CONTROL) (record d { running = bit_at b 0 == 1; alarm = bit_at b 1 == 1; flag = bit_at b 2 == 1 }) x3 in
+    let h4 : IsMaybeByte x4.sent = cond_sent (a == TIMER_CONTROL) (record d { running = bit_at b 0 == 1; alarm = bit_at b 1 == 1; flag = bit_at b 2 == 1 }) x3 k h3 in
+    let x5 : Devices = cond (a == SERIAL_DATA) (record d { sent = Some b }) x4 in
+    let h5 : IsMaybeByte x5.sent = cond_sent (a == SERIAL_DATA) (record d { sent = Some b }) x4 h h4 in
+    let x6 : Devices = cond (a == SERIAL_CONTROL) (record d { listening = bit_at b 0 == 1 }) x5 in
+    let h6 : IsMaybeByte x6.sent = cond_sent (a == SERIAL_CONTROL) (record d { listening = bit_at b 0 == 1 }) x5 k h5 in
+    cond_sent (a == LINES_ENABLE) (record d { enabled = b % 16 }) x6 k h6
 
 read_sends : (d : Devices) (a : ℕ) → Sends d (after_read d a)
 unfolding after_read
-read_sends d a = sends_if _ d (record d { got = false; lost = false }) d (λ k. k) (λ k. k)
+read_sends d a k = cond_sent (a == SERIAL_DATA) (record d { got = false; lost = false }) d k k
 
 read_in_sends : (b : Bool) (p : Port) (a : ℕ) → Sends p.devices (read_in b p a).port.devices
 read_in_sends true p a = read_sends p.devices a
@@ -294,7 +306,7 @@ puts_send (x ∷ xs) p (v ∷ vs) = λ k. puts_send xs (write_width x.width p x.
 
 accepted_sends : (d : Devices) (v : ℕ) → Sends d (accepted d v)
 unfolding accepted
-accepted_sends d v = sends_if _ d (record d { flag = false }) d (λ k. k) (λ k. k)
+accepted_sends d v k = cond_sent (v == TIMER_VECTOR) (record d { flag = false }) d k k
 
 -- the same between states
 abbrev Goes : State → State → Type 0

@@ -1,20 +1,18 @@
 -- A machine's trace is made of lines that the tool reads.
-use Rattle.std.proofs.Common.{◌≡◌, ◌↔◌, ℕ, zero, suc, ◌+◌, ◌^◌, ◌<◌, ◌≤◌, List, [], ◌∷◌, ◌++◌, length, map, refl, sym, ap, ◌∙◌, subst, arith, Option, Some, None, Result, Ok}
+use Rattle.std.proofs.Common.{◌≡◌, ◌↔◌, ℕ, zero, suc, ◌+◌, ◌^◌, ◌<◌, ◌≤◌, List, [], ◌∷◌, ◌++◌, refl, sym, ap, ◌∙◌, subst, arith, Option, Some, None, Result, Ok}
 use Rattle.std.specs.List.{All, flat_map}
 use Rattle.std.proofs.lemmas.Grind.{flat_map-append}
 use Rattle.sm_words.specs.Words.{IsCore}
 use Rattle.schedule_file.specs.declared.Entry.{Entry as Scheduled}
-use Rattle.mod_layout.specs.declared.Module.{Module}
 use Rattle.mod_keys.specs.Keys.{module_key, tag_of}
 use Rattle.pc_access.specs.declared.Stop.{Stop}
 use Rattle.image_text.specs.Image.{Image, IsImage}
 use Rattle.tracer.specs.Laws.{IsEvent}
-use Rattle.tracer.specs.Lines.{event_line, end_line_at}
-use Rattle.tracer.specs.declared.EndState.{EndState}
+use Rattle.tracer.specs.Lines.{event_line}
 use Rattle.tracer.specs.declared.Event.{Event}
 use Rattle.written_machine.specs.Cycle.{Step, settle, ticked, told, turn, counted_by, move, cycle_by, cycle, after_cycles}
 use Rattle.written_machine.specs.State.{State}
-use Rattle.written_machine.specs.Trace.{lines_of, lines_after, standing, end_by, end_of, end_line_of, trace}
+use Rattle.written_machine.specs.Trace.{lines_of, lines_after, standing, end_by, end_of, end_line_of}
 use Rattle.written_machine.specs.View.{at, boot}
 use Rattle.vendor_tool.specs.Laws.{TimedEvent, IsTold, IsEndState, StandsInPlace, events_text, sent_in, sent}
 use Rattle.vendor_tool.specs.declared.Judgement.TheVariants.{Genuine}
@@ -62,7 +60,7 @@ number_most a schedule (suc n) =
 
 -- ---- a run's events
 
-timed : ℕ → List Event → List TimedEvent
+abbrev timed : ℕ → List Event → List TimedEvent
 timed c [] = []
 timed c (e ∷ es) = record { cycle = c; event = e } ∷ timed c es
 
@@ -78,7 +76,7 @@ timed_told : (c : ℕ) (es : List Event) → c < 2 ^ 64 → Each IsEvent es → 
 timed_told c [] low h = tt
 timed_told c (e ∷ es) low h = ((low, h.0), timed_told c es low h.1)
 
-run_events : State → ℕ → List TimedEvent
+abbrev run_events : State → ℕ → List TimedEvent
 run_events s zero = []
 run_events s (suc n) = let t = after_cycles s n in run_events s n ++ timed t.cycle (cycle t).events
 
@@ -131,7 +129,7 @@ machine_traces_are_read a schedule n ok low =
     let number = number_most a schedule n in
     ap (λ t. replies_of (t ++ end_line_of last)) (sym (run_text s n))
     ∙ traces_are_read (run_events s n) last.cycle (end_of last) (all_of IsTold (run_events s n) (run_told a schedule n ok low)) (omega arith)
-      (end_fits last.stop last.active last.core fine.active_small fine.core_ok)
+    (end_fits last.stop last.active last.core fine.active_small fine.core_ok)
     ∙ ap (λ (bytes : List ℕ). Ok bytes) (run_sent s n)
 
 ok_is : {E : Type 0} (xs ys : List ℕ) → (let r : Result (List ℕ) E = Ok xs in r) ≡ Ok ys → xs ≡ ys
