@@ -9,7 +9,7 @@ use Rattle.std.specs.Option.{option_and_then}
 use Rattle.written_machine.specs.Cycle.{cycle, after_cycles}
 use Rattle.written_machine.specs.Marks.{Marked, unmarked, at_state, marked, cut_at, back_to, last_from, last_at}
 use Rattle.written_machine.specs.Peers.{Peers}
-use Rattle.written_machine.specs.Script.{Move, regs_text, mem_text, mark_text, full_text, back_text, no_mark_text, last_text, not_there_text, shown, cycle_moves, mark_move, back_move, last_move, line_moves, led, moves, text_of, play}
+use Rattle.written_machine.specs.Script.{Move, regs_text, mem_text, mark_text, full_text, back_text, no_mark_text, last_text, not_there_text, at_cycle, shown, cycle_moves, mark_move, back_move, last_move, line_moves, led, moves, text_of, play}
 use Rattle.written_machine.specs.Standing.{stands_at, one_more_unless, cycles_until, this_or, last_standing}
 use Rattle.written_machine.specs.State.{State}
 use Rattle.written_machine.specs.Trace.{end_line_of, lines_after}
@@ -29,17 +29,20 @@ abbrev moment : Image → List Scheduled → ℕ → ℕ → List ℕ → Marked
 moment i schedule most k ks = record { present = at i schedule k; most = most; marks = map (at i schedule) ks }
 
 -- a text with a cycle number, by the number
+at_cycle_same : (x y : Marked) → x.present.cycle ≡ y.present.cycle → at_cycle x ≡ at_cycle y
+at_cycle_same x y c = ap (λ n. codes " at " ++ (decimal n ++ codes "\n")) c
+
 mark_text_same : (j k : ℕ) (x y : Marked) → j ≡ k → x.present.cycle ≡ y.present.cycle → mark_text j x ≡ mark_text k y
 unfolding mark_text
-mark_text_same j k x y e c = ap (λ n. codes "mark " ++ decimal n ++ codes " at " ++ decimal x.present.cycle ++ codes "\n") e ∙ ap (λ n. codes "mark " ++ decimal k ++ codes " at " ++ decimal n ++ codes "\n") c
+mark_text_same j k x y e c = ap (λ n. codes "mark " ++ (decimal n ++ at_cycle x)) e ∙ ap (λ l. codes "mark " ++ (decimal k ++ l)) (at_cycle_same x y c)
 
 back_text_same : (k : ℕ) (x y : Marked) → x.present.cycle ≡ y.present.cycle → back_text k x ≡ back_text k y
 unfolding back_text
-back_text_same k x y c = ap (λ n. codes "back " ++ decimal k ++ codes " at " ++ decimal n ++ codes "\n") c
+back_text_same k x y c = ap (λ l. codes "back " ++ (decimal k ++ l)) (at_cycle_same x y c)
 
 last_text_same : (addr : ℕ) (x y : Marked) → x.present.cycle ≡ y.present.cycle → last_text addr x ≡ last_text addr y
 unfolding last_text
-last_text_same addr x y c = ap (λ n. codes "last " ++ hex_word addr ++ codes " at " ++ decimal n ++ codes "\n") c
+last_text_same addr x y c = ap (λ l. codes "last " ++ (hex_word addr ++ l)) (at_cycle_same x y c)
 
 module _ (a b : Image) (m : ℕ) (schedule : List Scheduled) (peers : Peers a b m) (most : ℕ) where
   -- both machines stand after the same cycles, with marks after the same
@@ -133,26 +136,19 @@ module _ (a b : Image) (m : ℕ) (schedule : List Scheduled) (peers : Peers a b 
     one : last_standing addr (at a schedule i) n ≡ option_map (at a schedule) found
     other : last_standing addr (at b schedule i) n ≡ option_map (at b schedule) found
 
-  last_both : (addr i n : ℕ) → BothLast addr i n
-  last_both addr i zero = record { found = None; one = refl; other = refl }
-  last_both addr i (suc n) = by (stands_at addr (at a schedule (n + i))) refl
+  last_next : (addr i n : ℕ) (c : Bool) → stands_at addr (at a schedule (n + i)) ≡ c → BothLast addr i n → BothLast addr i (suc n)
+  last_next addr i n c e before = by c (here a ∙ e) (here b ∙ sym (stands_same a b m schedule peers addr (n + i)) ∙ e)
     where
       here : (x : Image) → stands_at addr (after_cycles (at x schedule i) n) ≡ stands_at addr (at x schedule (n + i))
       here x = ap (stands_at addr) (after_more x schedule i n)
 
-      by : (c : Bool) → stands_at addr (at a schedule (n + i)) ≡ c → BothLast addr i (suc n)
-      by true e = record {
-        found = Some (n + i);
-        one = ap (λ c. this_or c (after_cycles (at a schedule i) n) (last_standing addr (at a schedule i) n)) (here a ∙ e) ∙ ap Some (after_more a schedule i n);
-        other = ap (λ c. this_or c (after_cycles (at b schedule i) n) (last_standing addr (at b schedule i) n)) (here b ∙ sym (stands_same a b m schedule peers addr (n + i)) ∙ e) ∙ ap Some (after_more b schedule i n);
-      }
-      by false e =
-          let before = last_both addr i n in
-          record {
-            found = before.found;
-            one = ap (λ c. this_or c (after_cycles (at a schedule i) n) (last_standing addr (at a schedule i) n)) (here a ∙ e) ∙ before.one;
-            other = ap (λ c. this_or c (after_cycles (at b schedule i) n) (last_standing addr (at b schedule i) n)) (here b ∙ sym (stands_same a b m schedule peers addr (n + i)) ∙ e) ∙ before.other;
-          }
+      by : (c : Bool) → stands_at addr (after_cycles (at a schedule i) n) ≡ c → stands_at addr (after_cycles (at b schedule i) n) ≡ c → BothLast addr i (suc n)
+      by true e f = record { found = Some (n + i); one = ap (λ d. this_or d (after_cycles (at a schedule i) n) (last_standing addr (at a schedule i) n)) e ∙ ap Some (after_more a schedule i n); other = ap (λ d. this_or d (after_cycles (at b schedule i) n) (last_standing addr (at b schedule i) n)) f ∙ ap Some (after_more b schedule i n) }
+      by false e f = record { found = before.found; one = ap (λ d. this_or d (after_cycles (at a schedule i) n) (last_standing addr (at a schedule i) n)) e ∙ before.one; other = ap (λ d. this_or d (after_cycles (at b schedule i) n) (last_standing addr (at b schedule i) n)) f ∙ before.other }
+
+  last_both : (addr i n : ℕ) → BothLast addr i n
+  last_both addr i zero = record { found = None; one = refl; other = refl }
+  last_both addr i (suc n) = last_next addr i n (stands_at addr (at a schedule (n + i))) refl (last_both addr i n)
 
   last_found : (addr j k : ℕ) (ks : List ℕ) (o : Option ℕ) (p q : Option State) → p ≡ option_map (at a schedule) o → q ≡ option_map (at b schedule) o
       → (let x = moment a schedule most k ks in let y = moment b schedule most k ks in
