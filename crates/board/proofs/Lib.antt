@@ -13,3 +13,4 @@ pub mod Leading
 pub mod MarkedStates
 pub mod Keeping
 pub mod Lasting
+pub mod Going
