@@ -117,7 +117,7 @@ pub fn verdicts() -> [Line; 11] {
 }
 
 /// Words that are no command.
-pub fn no_commands() -> [Line; 24] {
+pub fn no_commands() -> [Line; 32] {
     [
         usage(""),
         usage("--"),
@@ -141,6 +141,14 @@ pub fn no_commands() -> [Line; 24] {
         usage("dis constant.img 0208 0206"),
         usage("dis constant.img 200 0208"),
         usage("dis constant.img 0200 020A"),
+        usage("link"),
+        usage("link a.toml"),
+        usage("link -x a.o"),
+        usage("run a.toml - 60"),
+        usage("run a.toml - 060 a.o"),
+        usage("run a.toml - 1000000001 a.o"),
+        usage("run a.toml - - a.o"),
+        usage("runs a.toml - 60 a.o"),
         usage("image called.img -"),
         usage("image called.img - -- 1 1"),
     ]
