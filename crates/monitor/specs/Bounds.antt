@@ -1,5 +1,5 @@
 -- The bounds of the numbers of a script's lines.
-use Rattle.std.specs.Prelude.{◌≡◌, ℕ, ◌+◌, Bool, true, ◌&&◌, nat_le}
+use Rattle.std.specs.Prelude.{◌≡◌, ℕ, ◌+◌, ◌<◌, Bool, true, ◌&&◌, nat_le}
 use Rattle.mod_layout.specs.declared.TheConstants.{DEVICES_END}
 use Rattle.written_machine.specs.declared.ScriptLine.{ScriptLine}
 use Rattle.written_machine.specs.declared.ScriptLine.TheVariants.{Go, Until, Regs, Mem, Mark, Back, Last}
@@ -18,9 +18,14 @@ is_bounded (Last addr k) = nat_le k MAX_MARK
 abbrev pub IsBounded : ScriptLine → Type 0
 IsBounded l = is_bounded l ≡ true
 
--- an address is a word, whatever the other number
+-- an address is a word
 abbrev pub IsAddressed : ScriptLine → Type 0
-IsAddressed (Until addr n) = nat_le addr 65535 ≡ true
-IsAddressed (Mem addr n) = nat_le addr 65535 ≡ true
-IsAddressed (Last addr k) = nat_le addr 65535 ≡ true
+IsAddressed (Until addr n) = addr < MEMORY_END
+IsAddressed (Mem addr n) = addr < MEMORY_END
+IsAddressed (Last addr k) = addr < MEMORY_END
 IsAddressed _ = Unit {0}
+
+-- a line that a script may have
+pub record IsLine (l : ScriptLine) : Type 0 where
+  pub addressed : IsAddressed l
+  pub bounded : IsBounded l
