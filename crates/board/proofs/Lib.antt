@@ -12,3 +12,4 @@ pub mod Returning
 pub mod Leading
 pub mod MarkedStates
 pub mod Keeping
+pub mod Reaching
