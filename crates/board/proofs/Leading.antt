@@ -1,5 +1,5 @@
 -- How runs lead from one state to another.
-use Rattle.std.proofs.Common.{◌≡◌, ℕ, zero, suc, ◌+◌, ◌-◌, ◌<◌, ◌≤◌, Bool, true, false, Option, Some, None, is_some, refl, sym, ◌∙◌, ap, subst, arith}
+use Rattle.std.proofs.Common.{◌≡◌, ℕ, zero, suc, ◌+◌, ◌-◌, ◌<◌, ◌≤◌, Bool, true, false, ◌&&◌, Option, Some, None, is_some, refl, sym, ◌∙◌, ap, subst, arith}
 use Rattle.sm_words.specs.Sums.{one_if}
 use Rattle.pc_access.specs.declared.Stop.{Stop}
 use Rattle.written_machine.specs.Cycle.{Step, told, ticked, settle, turn, counted_by, move, cycle, cycle_by, after_cycles}
@@ -125,23 +125,21 @@ runs_less number n s r from to = record { rises = from; runs = λ h. by (n - s.c
 -- ---- the last one that stands somewhere
 
 -- it is one of these states
+found_by : (b : Bool) (n : ℕ) (s t : State) (before : Option State) → (before ≡ Some t → (i : ℕ) × (i < n) × (t ≡ after_cycles s i)) → this_or b (after_cycles s n) before ≡ Some t →
+    (i : ℕ) × (i < suc n) × (t ≡ after_cycles s i)
+found_by true n s t before found e = let is : after_cycles s n ≡ t = cc in (n, omega arith, sym is)
+found_by false n s t before found e = let f = found e in (f.0, omega (arith, f.1), f.2)
+
 pub standing_found : (addr n : ℕ) (s t : State) → last_standing addr s n ≡ Some t → (i : ℕ) × (i < n) × (t ≡ after_cycles s i)
 standing_found addr zero s t e = absurd (cc)
-standing_found addr (suc n) s t e = by (stands_at addr (after_cycles s n)) e
-  where
-    by : (b : Bool) → this_or b (after_cycles s n) (last_standing addr s n) ≡ Some t → (i : ℕ) × (i < suc n) × (t ≡ after_cycles s i)
-    by true f = (n, omega arith, sym (some_same (after_cycles s n) t f))
-      where
-        some_same : (x y : State) → Some x ≡ Some y → x ≡ y
-        some_same x y g = cc
-    by false f = let found = standing_found addr n s t f in (found.0, omega (arith, found.1.0), found.1.1)
+standing_found addr (suc n) s t e = found_by (stands_at addr (after_cycles s n)) n s t (last_standing addr s n) (standing_found addr n s t) e
 
 -- by its number
 pub found_by_number : (addr number : ℕ) (s t : State) → RunsTo number s → last_standing addr s (number - s.cycle) ≡ Some t →
     (t ≡ after_cycles s (t.cycle - s.cycle)) × (RunsTo t.cycle s) × (t.cycle < number)
 found_by_number addr number s t r e =
     let found = standing_found addr (number - s.cycle) s t e in
-    by found.0 found.1.0 found.1.1
+    by found.0 found.1 found.2
   where
     by : (i : ℕ) → i < number - s.cycle → t ≡ after_cycles s i → (t ≡ after_cycles s (t.cycle - s.cycle)) × (RunsTo t.cycle s) × (t.cycle < number)
     by zero within is =
@@ -171,17 +169,28 @@ walk_next number i s t u r is within next =
     let at : u ≡ after_cycles s (suc i) = next ∙ ap (λ (x : State). (cycle x).state) is in
     (at, ap (λ (x : State). x.cycle) at ∙ (runs_within number i s r (omega (arith, within))).1)
 
--- the numbers of the last that stands, one cycle later
-pub last_next : (addr i n : ℕ) (s t : State) (last next : Option ℕ) → t ≡ after_cycles s i → n ≡ t.cycle →
-    (stands_at addr t ≡ false → last ≡ number_of (last_standing addr s i)) →
-    (stands_at addr t ≡ true → next ≡ Some n) → (stands_at addr t ≡ false → next ≡ last) → next ≡ number_of (last_standing addr s (suc i))
-last_next addr i n s t last next is number apart yes no = by (stands_at addr t) refl
+-- the number of the last that stands, one cycle later: this one
+pub last_here : (addr i n : ℕ) (s t : State) (next : Option ℕ) → t ≡ after_cycles s i → n ≡ t.cycle → stands_at addr t ≡ true → next ≡ Some n → next ≡ number_of (last_standing addr s (suc i))
+last_here addr i n s t next is number here e =
+    e ∙ ap Some (number ∙ ap (λ (x : State). x.cycle) is)
+    ∙ sym (ap (λ b. number_of (this_or b (after_cycles s i) (last_standing addr s i))) (ap (stands_at addr) (sym is) ∙ here))
+
+-- or the one before
+pub last_there : (addr i : ℕ) (s t : State) (last next : Option ℕ) → t ≡ after_cycles s i → stands_at addr t ≡ false → last ≡ number_of (last_standing addr s i) → next ≡ last → next ≡ number_of (last_standing addr s (suc i))
+last_there addr i s t last next is off was e =
+    e ∙ was ∙ sym (ap (λ b. number_of (this_or b (after_cycles s i) (last_standing addr s i))) (ap (stands_at addr) (sym is) ∙ off))
+
+pub both_false : (b c : Bool) → c ≡ false → (b && c) ≡ false
+both_false true c e = e
+both_false false c e = refl
+
+-- where a walk arrives
+pub arrived : (number : ℕ) (s : State) → RunsTo number s → (after_cycles s (number - s.cycle)).cycle ≡ number
+arrived number s r = by (number - s.cycle) refl
   where
-    here : (b : Bool) → stands_at addr t ≡ b → number_of (last_standing addr s (suc i)) ≡ number_of (this_or b t (last_standing addr s i))
-    here b e = ap (λ (x : State). number_of (this_or (stands_at addr x) x (last_standing addr s i))) (sym is) ∙ ap (λ c. number_of (this_or c t (last_standing addr s i))) e
-    by : (b : Bool) → stands_at addr t ≡ b → next ≡ number_of (last_standing addr s (suc i))
-    by true e = yes e ∙ ap Some number ∙ sym (here true e)
-    by false e = no e ∙ apart e ∙ sym (here false e)
+    by : (d : ℕ) → number - s.cycle ≡ d → (after_cycles s (number - s.cycle)).cycle ≡ number
+    by zero z = ap (λ k. (after_cycles s k).cycle) z ∙ (omega (arith, z, r.rises))
+    by (suc d) z = ap (λ k. (after_cycles s k).cycle) z ∙ (runs_within number d s r (omega (arith, z))).1 ∙ (omega (arith, z, r.rises))
 
 -- cycles in which it stands nowhere near change nothing of it
 pub last_apart : (addr i n : ℕ) (s t : State) → t ≡ after_cycles s i → ((m : ℕ) → m < n → stands_at addr (after_cycles t m) ≡ false) → last_standing addr s (i + n) ≡ last_standing addr s i

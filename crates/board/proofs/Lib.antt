@@ -13,3 +13,5 @@ pub mod Leading
 pub mod MarkedStates
 pub mod Keeping
 pub mod Reaching
+pub mod Lasting
+pub mod Going

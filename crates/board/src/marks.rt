@@ -84,8 +84,7 @@ impl Board {
         match self.machine.last_since(addr, k, moment) {
             None => Err(LastFault::NotThere { addr }),
             Some(cycle) => {
-                self.machine.back(k, moment);
-                self.machine.pass_to(cycle);
+                self.machine.return_to(cycle, k, moment);
                 self.moments.truncate(usize::from(k) + 1);
                 Ok(cycle)
             }

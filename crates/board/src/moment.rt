@@ -164,4 +164,19 @@ impl Machine {
         }
         last
     }
+
+    /// Goes to cycle `end` from a moment on, whose bytes are mark `k` of memory, and drops the marks above it.
+    pub fn return_to(&mut self, end: u64, k: u16, moment: &Moment)
+        requires mark { k < length (lasting_of self.old).marked }
+        requires number { end ≤ 2 ^ 62 }
+        requires sound { let l = lasting_of self.old in IsSound (moment_state l.fixed moment.now (get_or l.marked k [])) }
+        requires in_step { IsInStep moment.now }
+        requires runs { let l = lasting_of self.old in RunsTo end (moment_state l.fixed moment.now (get_or l.marked k [])) }
+        ensures state { let l = lasting_of self.old in state_of self.new ≡ after_cycles (moment_state l.fixed moment.now (get_or l.marked k [])) (end - moment.now.cycle) }
+        ensures stands { Stands self.new }
+        ensures lasting { let l = lasting_of self.old in lasting_of self.new ≡ record l { marked = take (k + 1) l.marked } }
+    {
+        self.back(k, moment);
+        self.pass_to(end);
+    }
 }
