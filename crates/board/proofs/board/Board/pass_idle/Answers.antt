@@ -1,4 +1,4 @@
-use Rattle.std.proofs.Common.{◌≤◌, ◌+◌, ◌^◌, ◌∙◌, sym, ap, subst}
+use Rattle.std.proofs.Common.{◌≤◌, ◌+◌, ◌^◌, sym, subst}
 use Rattle.std.specs.Vec.{vec_capacity}
 use Rattle.written_machine.specs.Marks.{Marked}
 use Rattle.board.specs.Standing.{Lasting, state_of}
