@@ -7,12 +7,16 @@
 ghost use Rattle.std.specs.Prelude.{All};
 ghost use Rattle.monitor.specs.Bounds.{IsBounded};
 
+mod commands;
 pub mod laws;
 mod line;
+mod playing;
 mod reading;
+mod showing;
 #[cfg(test)]
 mod tests;
 
+pub use playing::play;
 pub use reading::read_script;
 pub use written_machine::ScriptLine;
 
