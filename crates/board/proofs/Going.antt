@@ -1,22 +1,21 @@
 -- One more mark, and the ways back to one.
-use Rattle.std.proofs.Common.{◌≡◌, ℕ, zero, suc, ◌+◌, ◌-◌, ◌<◌, ◌≤◌, ◌^◌, List, [], ◌∷◌, ◌++◌, length, take, get_or, Bool, true, false, cond, nat_lt, Option, Some, None, is_some, refl, sym, ◌∙◌, ap, subst, arith}
+use Rattle.std.proofs.Common.{◌≡◌, ℕ, zero, suc, ◌+◌, ◌-◌, ◌<◌, ◌≤◌, ◌^◌, List, [], ◌∷◌, ◌++◌, length, take, get_or, Bool, true, false, cond, nat_lt, Option, Some, None, is_some, sym, ◌∙◌, ap, subst, arith}
 use Rattle.std.specs.List.{All, slice_get}
 use Rattle.std.specs.Option.{option_map, option_and_then}
 use Rattle.std.proofs.lemmas.Bool.Decides.{nat_tests}
 use Rattle.std.proofs.lemmas.List.{length-append, length-take-le}
-use Rattle.std.proofs.lemmas.List.Elements.{All-append, All-take, All-cons}
+use Rattle.std.proofs.lemmas.List.Elements.{All-append, All-take}
 use Rattle.std.proofs.lemmas.Option.{slice_get-get_or, slice_get_past}
 use Rattle.sm_words.specs.Sums.{one_if}
-use Rattle.pc_access.specs.declared.Stop.{Stop}
 use Rattle.mem_map.specs.Contents.{Contents}
 use Rattle.written_machine.specs.Cycle.{after_cycles}
-use Rattle.written_machine.specs.Marks.{Marked, at_state, marked, cut_at, back_to, last_from, last_at}
+use Rattle.written_machine.specs.Marks.{Marked, marked, cut_at, back_to, last_from, last_at}
 use Rattle.written_machine.specs.Standing.{last_standing}
 use Rattle.written_machine.specs.State.{State}
 use Rattle.board.specs.declared.machine.Machine.{Machine}
 use Rattle.board.specs.declared.moment.Moment.{Moment}
 use Rattle.board.specs.Sound.{Chained, IsInStep, IsSound, Keeps, LeadsTo, RunsTo, Stands, number_of}
-use Rattle.board.specs.Standing.{Fixed, Lasting, clock_of, lasting_of, marked_of, marks_of, moment_state, state_of, states_at}
+use Rattle.board.specs.Standing.{Lasting, lasting_of, marked_of, marks_of, moment_state, state_of, states_at}
 use Rattle.board.proofs.Leading.{found_by_number, leads_number, none_numbered, some_numbered}
 use Rattle.board.proofs.MarkedStates.{chained_cut, chained_more, states_get, states_length, states_more, states_take}
 
