@@ -1,0 +1,4 @@
+pub mod Bounds
+pub mod Line
+pub mod Laws
+pub mod Reading
