@@ -15,9 +15,10 @@ use Rattle.lone_run.specs.declared.Outcome.TheVariants.{Exit, Closed, Broken, Ru
 use Rattle.sm_cli.specs.declared.answers.Status.TheVariants as status
 use Rattle.sm_cli.specs.declared.commands.lone.LoneCommand.{LoneCommand}
 use Rattle.sm_cli.specs.declared.commands.lone.TheConstants.{NO_CALLER}
+use Rattle.sm_cli.specs.declared.pairs.Pair.{Pair}
 use Rattle.sm_cli.specs.Words.{Text}
 use Rattle.sm_cli.specs.Arguments.{id_of, cycles_of}
-use Rattle.sm_cli.specs.Pairs.{registers_of}
+use Rattle.sm_cli.specs.Pairs.{pairs_in, core_with}
 use Rattle.sm_cli.specs.Files.{Held, an_image, image_with, need}
 use Rattle.sm_cli.specs.Command.{Answer, Outcome, gives, no_outcome, Command}
 
@@ -58,14 +59,14 @@ lone_outcome id limit registers _ = no_outcome
 abbrev pub lone_command : Text → ℕ → ℕ → List ℕ → Command
 lone_command name id limit registers = record { needs = need name (image_with id) ∷ []; outcome = lone_outcome id limit registers }
 
-abbrev pub lone_with : Text → Option ℕ → Option ℕ → Option (List ℕ) → Option Command
-lone_with name (Some id) (Some limit) (Some registers) = Some (lone_command name id limit registers)
+abbrev pub lone_with : Text → Option ℕ → Option ℕ → Option (List Pair) → Option Command
+lone_with name (Some id) (Some limit) (Some pairs) = Some (lone_command name id limit (core_with pairs))
 lone_with name _ _ _ = None
 
 abbrev pub lone_of : List Text → Option Command
-lone_of (name ∷ id ∷ limit ∷ pairs) = lone_with name (id_of id) (cycles_of limit) (registers_of pairs)
+lone_of (name ∷ id ∷ limit ∷ pairs) = lone_with name (id_of id) (cycles_of limit) (pairs_in pairs)
 lone_of _ = None
 
 -- what the program's value asks for
 abbrev pub lone_asked : LoneCommand → Command
-lone_asked c = lone_command c.image.now c.id c.limit c.registers
+lone_asked c = lone_command c.image.now c.id c.limit (core_with c.pairs.items)

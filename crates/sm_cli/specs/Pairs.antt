@@ -47,6 +47,13 @@ abbrev pub are_different : List Pair → Bool
 are_different [] = true
 are_different (pair ∷ pairs) = not (is_named pair.number pairs) && are_different pairs
 
+abbrev pub if_different : List Pair → Option (List Pair)
+if_different pairs = if are_different pairs then Some pairs else None
+
+-- each word is a pair, and no register is named twice
+abbrev pub pairs_in : List Text → Option (List Pair)
+pairs_in words = option_and_then if_different (pairs_of words)
+
 -- a register keeps of a pair's value what it can hold
 abbrev pub set : List ℕ → Pair → List ℕ
 set core pair = put core pair.number pair.value
@@ -54,10 +61,3 @@ set core pair = put core pair.number pair.value
 -- the registers with these values; all others are 0
 abbrev pub core_with : List Pair → List ℕ
 core_with pairs = fold set (replicate 16 0) pairs
-
-abbrev pub if_different : List Pair → Option (List ℕ)
-if_different pairs = if are_different pairs then Some (core_with pairs) else None
-
--- the registers that a call begins with
-abbrev pub registers_of : List Text → Option (List ℕ)
-registers_of words = option_and_then if_different (pairs_of words)

@@ -19,29 +19,27 @@ const EQUALS: u8 = b'=';
 const VALUE_LENGTH: usize = 5;
 
 /// A register by its number, which is neither PC's nor the constant generator's, and a value.
-#[derive(Clone, Copy, Drop)]
+#[derive(Clone, Copy)]
 pub struct Pair {
     pub number: u8,
     pub value: u16,
 }
 
-/// The registers that a call begins with, where each word is a pair and no register is named twice.
-///
-/// A register keeps of its value what it can hold; registers that are not named are 0.
-pub fn registers_of(alloc: Global, words: &[&str]) -> Result<Option<Core>, AllocError>
-    ensures { IfOk result (λ o. o ≡ spec.registers_of (map (λ w. w.now) words.now)) }
+/// The pairs, where each word is one and no register is named twice.
+pub fn pairs_in(alloc: Global, words: &[&str]) -> Result<Option<Vec<Pair>>, AllocError>
+    ensures { IfOk result (λ o. option_map (λ pairs. pairs.items) o ≡ spec.pairs_in (map (λ w. w.now) words.now)) }
 {
     match pairs_of(alloc, words)? {
-        Some(pairs) => Ok(if_different(pairs.as_slice())),
+        Some(pairs) => Ok(if_different(pairs)),
         None => Ok(None),
     }
 }
 
-fn if_different(pairs: &[Pair]) -> Option<Core>
-    ensures { result ≡ spec.if_different pairs.now }
+fn if_different(pairs: Vec<Pair>) -> Option<Vec<Pair>>
+    ensures { option_map (λ pairs. pairs.items) result ≡ spec.if_different pairs.items }
 {
-    if are_different(pairs) {
-        Some(core_with(pairs))
+    if are_different(pairs.as_slice()) {
+        Some(pairs)
     } else {
         None
     }
@@ -125,8 +123,10 @@ fn are_different(pairs: &[Pair]) -> bool
     true
 }
 
-// Registers with these values.
-fn core_with(pairs: &[Pair]) -> Core
+/// The registers with these values; all others are 0.
+///
+/// A register keeps of its value what it can hold.
+pub fn core_with(pairs: &[Pair]) -> Core
     ensures { result ≡ spec.core_with pairs.now }
 {
     let mut core = Core::new([0; 16]);

@@ -16,7 +16,7 @@ use crate::answers::{Name, Refusal, Refused, Status};
 use crate::arguments::{cycles_of, id_of};
 use crate::commands::Answering;
 use crate::loading::{Chosen, load_with};
-use crate::pairs::registers_of;
+use crate::pairs::{Pair, core_with, pairs_in};
 use crate::verdicts::text_of;
 use crate::words::values_of;
 use arrayvec::ArrayString;
@@ -29,13 +29,13 @@ use texts::{push_decimal, push_hex_word};
 /// The caller's id where no module calls.
 const NO_CALLER: u16 = 0;
 
-/// The arguments: the registers but PC, and a number of cycles.
-#[derive(Clone, Copy)]
+/// The arguments: the registers that are not 0 at the entry, and the most cycles.
+#[derive(Drop)]
 pub struct LoneCommand<'a> {
     pub image: &'a str,
     pub id: u16,
     pub limit: u64,
-    pub registers: Core,
+    pub pairs: Vec<Pair>,
 }
 
 /// The arguments that the words after the first are. More than fourteen pairs name some register twice.
@@ -55,8 +55,8 @@ fn command_in<'a>(alloc: Global, values: &[&'a str]) -> Result<Option<LoneComman
 {
     match values {
         [image, id, limit, pairs @ ..] => {
-            let registers = registers_of(alloc, pairs)?;
-            Ok(command_with(image, id_of(id), cycles_of(limit), registers))
+            let pairs = pairs_in(alloc, pairs)?;
+            Ok(command_with(image, id_of(id), cycles_of(limit), pairs))
         }
         _ => Ok(None),
     }
@@ -66,17 +66,17 @@ fn command_with<'a>(
     image: &'a str,
     id: Option<u16>,
     limit: Option<u64>,
-    registers: Option<Core>,
+    pairs: Option<Vec<Pair>>,
 ) -> Option<LoneCommand<'a>>
     requires { IfSome limit (λ l. l ≤ MAX_CYCLES) }
-    ensures command { option_map lone_asked result ≡ lone_with image.entry.now id limit registers }
+    ensures command { option_map lone_asked result ≡ lone_with image.entry.now id limit (option_map (λ pairs. pairs.items) pairs) }
     ensures bounds { IfSome result (λ c. c.limit ≤ MAX_CYCLES) }
 {
     Some(LoneCommand {
         image,
         id: id?,
         limit: limit?,
-        registers: registers?,
+        pairs: pairs?,
     })
 }
 
@@ -95,7 +95,7 @@ impl Answering for LoneCommand<'_> {
             Ok(chosen) => chosen,
             Err(refused) => return Err(refused),
         };
-        match end_of(alloc, &chosen, self.registers, self.limit) {
+        match end_of(alloc, &chosen, core_with(self.pairs.as_slice()), self.limit) {
             Ok(end) => Ok(put_end(self.limit, &end, out)),
             Err(AllocError) => Err(Refused {
                 refusal: Refusal::NoMemory,
