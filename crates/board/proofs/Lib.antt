@@ -9,3 +9,8 @@ pub mod Cycles
 pub mod Parts
 pub mod Aligned
 pub mod Returning
+pub mod Leading
+pub mod MarkedStates
+pub mod Keeping
+pub mod Lasting
+pub mod Going

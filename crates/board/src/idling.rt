@@ -1,11 +1,13 @@
 //! Cycles in which nothing begins and nothing arrives pass in one step.
 
-ghost use Rattle.std.specs.Prelude.{◌≡◌, ◌≤◌, ◌<◌, ◌+◌, ◌^◌, ℕ, true, None};
+ghost use Rattle.std.specs.Prelude.{◌≡◌, ◌≤◌, ◌<◌, ◌+◌, ◌^◌, ◌&&◌, ℕ, true, false, None};
 ghost use Rattle.reg_backup.specs.declared.backup.After.TheVariants.{Next};
 ghost use Rattle.reg_backup.specs.declared.backup.Phase.TheVariants.{Pad};
 ghost use Rattle.written_machine.specs.Cycle.{asleep};
 ghost use Rattle.written_machine.specs.Passing.{Calm, Leads, OnlyPass, passed};
-ghost use Rattle.board.specs.Standing.{state_of};
+ghost use Rattle.written_machine.specs.Standing.{stands_at};
+ghost use Rattle.board.specs.Ran.{Apart};
+ghost use Rattle.board.specs.Standing.{state_of, lasting_of};
 ghost use Rattle.board.specs.Sound.{Stands};
 
 use crate::machine::Machine;
@@ -22,6 +24,11 @@ impl Machine {
         ensures leads { Leads result (state_of self.old) (state_of self.new) }
         ensures stands { Stands self.new }
         ensures number { self.new.cycle ≡ self.old.cycle + result }
+        ensures stop { self.new.stop ≡ self.old.stop }
+
+        // Where it stands at an address neither before these cycles nor after them, it stood there before none of them.
+        ensures missed { (addr : ℕ) → (stands_at addr (state_of self.old) && stands_at addr (state_of self.new)) ≡ false → Apart addr result (state_of self.old) }
+        ensures lasting { lasting_of self.new ≡ lasting_of self.old }
     {
         isolation::passing();
         let cycles = self.idle_cycles().min(most);
@@ -79,6 +86,7 @@ impl Machine {
         requires padding { (left : ℕ) → self.old.phase ≡ Phase.Pad left → cycles ≤ left }
         ensures state { state_of self.new ≡ passed cycles (state_of self.old) }
         ensures ticks { self.new.port.bus.ticks ≡ self.new.cycle }
+        ensures lasting { lasting_of self.new ≡ lasting_of self.old }
     {
         self.port.bus.skip(cycles);
         self.cycle += cycles;

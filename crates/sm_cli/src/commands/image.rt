@@ -82,8 +82,8 @@ impl Answering for ImageCommand<'_> {
 
 /// Runs the board and puts its trace.
 pub fn put_trace<O: Sink>(board: Board, cycles: u64, out: &mut O) -> Status
-    requires { board.cycle + cycles ≤ 4611686018427387904 }
-    ensures { EndsAs result (answer_from board cycles) (Took O.taken O.faults O.sure out.old out.new) (CutOff O.taken O.faults O.sure out.old out.new) }
+    requires { board.present.cycle + cycles ≤ 4611686018427387904 }
+    ensures { EndsAs result (answer_from board.present cycles) (Took O.taken O.faults O.sure out.old out.new) (CutOff O.taken O.faults O.sure out.old out.new) }
 {
     let mut board = board;
     let status = match board.run(cycles, out) {
