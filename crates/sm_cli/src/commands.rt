@@ -19,6 +19,7 @@ pub mod dis;
 pub mod image;
 pub mod key;
 pub mod link;
+pub mod lone;
 pub mod run;
 pub mod vendor;
 
@@ -29,6 +30,7 @@ use dis::DisCommand;
 use image::ImageCommand;
 use key::KeyCommand;
 use link::LinkCommand;
+use lone::LoneCommand;
 use run::RunCommand;
 use vendor::VendorCommand;
 
@@ -70,6 +72,7 @@ pub enum CommandLine<'a> {
     Balance(BalanceCommand<'a>),
     Link(LinkCommand<'a>),
     Run(RunCommand<'a>),
+    Lone(LoneCommand<'a>),
 }
 
 /// The command that the words are.
@@ -103,6 +106,8 @@ pub fn read_command<'a>(
         Ok(link::read(alloc, words)?.map(CommandLine::Link))
     } else if name == "run" {
         Ok(run::read(alloc, words)?.map(CommandLine::Run))
+    } else if name == "lone" {
+        Ok(lone::read(alloc, words)?.map(CommandLine::Lone))
     } else {
         Ok(None)
     }
@@ -129,6 +134,7 @@ impl Answering for CommandLine<'_> {
             CommandLine::Balance(command) => command.answer(alloc, files, out),
             CommandLine::Link(command) => command.answer(alloc, files, out),
             CommandLine::Run(command) => command.answer(alloc, files, out),
+            CommandLine::Lone(command) => command.answer(alloc, files, out),
         }
     }
 }
