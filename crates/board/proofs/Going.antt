@@ -1,22 +1,21 @@
 -- One more mark, and the ways back to one.
-use Rattle.std.proofs.Common.{◌≡◌, ℕ, zero, suc, ◌+◌, ◌-◌, ◌<◌, ◌≤◌, ◌^◌, List, [], ◌∷◌, ◌++◌, length, take, get_or, Bool, true, false, cond, nat_lt, Option, Some, None, is_some, refl, sym, ◌∙◌, ap, subst, arith}
+use Rattle.std.proofs.Common.{◌≡◌, ℕ, zero, suc, ◌+◌, ◌-◌, ◌<◌, ◌≤◌, ◌^◌, List, [], ◌∷◌, ◌++◌, length, take, get_or, Bool, true, false, cond, nat_lt, Option, Some, None, is_some, sym, ◌∙◌, ap, subst, arith}
 use Rattle.std.specs.List.{All, slice_get}
 use Rattle.std.specs.Option.{option_map, option_and_then}
 use Rattle.std.proofs.lemmas.Bool.Decides.{nat_tests}
 use Rattle.std.proofs.lemmas.List.{length-append, length-take-le}
-use Rattle.std.proofs.lemmas.List.Elements.{All-append, All-take, All-cons}
+use Rattle.std.proofs.lemmas.List.Elements.{All-append, All-take}
 use Rattle.std.proofs.lemmas.Option.{slice_get-get_or, slice_get_past}
 use Rattle.sm_words.specs.Sums.{one_if}
-use Rattle.pc_access.specs.declared.Stop.{Stop}
 use Rattle.mem_map.specs.Contents.{Contents}
 use Rattle.written_machine.specs.Cycle.{after_cycles}
-use Rattle.written_machine.specs.Marks.{Marked, at_state, marked, cut_at, back_to, last_from, last_at}
+use Rattle.written_machine.specs.Marks.{Marked, marked, cut_at, back_to, last_from, last_at}
 use Rattle.written_machine.specs.Standing.{last_standing}
 use Rattle.written_machine.specs.State.{State}
 use Rattle.board.specs.declared.machine.Machine.{Machine}
 use Rattle.board.specs.declared.moment.Moment.{Moment}
-use Rattle.board.specs.Sound.{Chained, IsInStep, IsSound, Keeps, LeadsTo, RunsTo, Stands, number_of}
-use Rattle.board.specs.Standing.{Fixed, Lasting, clock_of, lasting_of, marked_of, marks_of, moment_state, state_of, states_at}
+use Rattle.board.specs.Sound.{Chained, IsInStep, IsSound, Keeps, LeadsTo, RunsTo, Stands, last_number, number_of}
+use Rattle.board.specs.Standing.{Lasting, cut, mark_state, lasting_of, marked_of, marks_of, moment_state, state_of, states_at}
 use Rattle.board.proofs.Leading.{found_by_number, leads_number, none_numbered, some_numbered}
 use Rattle.board.proofs.MarkedStates.{chained_cut, chained_more, states_get, states_length, states_more, states_take}
 
@@ -96,19 +95,19 @@ mark_full m ts g seen h full =
 
 -- it is that of its moment
 pub mark_is : (m : Machine) (ts : List Moment) (k : ℕ) (t : Moment) → Keeps m ts → k < length ts → t ≡ get_or ts k t →
-    moment_state (lasting_of m).fixed t (get_or (lasting_of m).marked k []) ≡ get_or (marks_of m ts) k (state_of m)
+    mark_state (lasting_of m) k t ≡ get_or (marks_of m ts) k (state_of m)
 mark_is m ts k t h live e =
     let l = lasting_of m in
-    ap (λ (x : Moment). moment_state l.fixed x (get_or l.marked k [])) e
+    ap (λ (x : Moment). mark_state l k x) e
     ∙ sym (states_get l.fixed ts l.marked k (state_of m) t h.level live)
 
-pub mark_sound : (m : Machine) (ts : List Moment) (k : ℕ) (t : Moment) → Keeps m ts → k < length ts → t ≡ get_or ts k t → IsSound (moment_state (lasting_of m).fixed t (get_or (lasting_of m).marked k []))
+pub mark_sound : (m : Machine) (ts : List Moment) (k : ℕ) (t : Moment) → Keeps m ts → k < length ts → t ≡ get_or ts k t → IsSound (mark_state (lasting_of m) k t)
 mark_sound m ts k t h live e =
     let n = marks_length m ts h in
     subst IsSound (sym (mark_is m ts k t h live e)) (h.sound k (state_of m) (omega (arith, n, live)))
 
 pub mark_leads : (m : Machine) (ts : List Moment) (k : ℕ) (t : Moment) → Keeps m ts → k < length ts → t ≡ get_or ts k t →
-    LeadsTo (moment_state (lasting_of m).fixed t (get_or (lasting_of m).marked k [])) (state_of m)
+    LeadsTo (mark_state (lasting_of m) k t) (state_of m)
 mark_leads m ts k t h live e =
     let n = marks_length m ts h in
     subst (λ s. LeadsTo s (state_of m)) (sym (mark_is m ts k t h live e)) (h.chain.onward k (state_of m) (omega (arith, n, live)))
@@ -118,17 +117,13 @@ mark_in_step m ts k t h live e = subst IsInStep (sym e) (h.steady k t live)
 
 -- a machine that stands at a mark
 pub stands_back : (m n : Machine) (ts : List Moment) (k : ℕ) (t : Moment) → Keeps m ts → k < length ts → t ≡ get_or ts k t →
-    state_of n ≡ moment_state (lasting_of m).fixed t (get_or (lasting_of m).marked k []) → n.port.bus.ticks ≡ t.bus.ticks → Stands n
+    state_of n ≡ mark_state (lasting_of m) k t → n.port.bus.ticks ≡ t.bus.ticks → Stands n
 stands_back m n ts k t h live e is ticks = record {
   sound = subst IsSound (sym is) (mark_sound m ts k t h live e);
   in_step = λ runs. ticks ∙ mark_in_step m ts k t h live e (ap (λ (s : State). s.stop) (sym is) ∙ runs) ∙ ap (λ (s : State). s.cycle) (sym is);
 }
 
 -- ---- going there
-
--- the marks up to k alone
-abbrev cut : ℕ → Lasting → Lasting
-cut k l = record l { marked = take (k + 1) l.marked }
 
 cut_marks : (m n : Machine) (ts : List Moment) (k : ℕ) → lasting_of n ≡ cut k (lasting_of m) → marks_of n (take (k + 1) ts) ≡ take (k + 1) (marks_of m ts)
 cut_marks m n ts k e =
@@ -171,7 +166,7 @@ mark_there m ts k h live = let n = marks_length m ts h in slice_get-get_or (mark
 
 -- back to mark k
 pub gone_back : (m n : Machine) (ts us : List Moment) (k : ℕ) (t : Moment) (g : Marked) → marked_of m ts ≡ g → Keeps m ts → k < length ts → t ≡ get_or ts k t → lasting_of n ≡ cut k (lasting_of m) → us ≡ take (k + 1) ts →
-    state_of n ≡ moment_state (lasting_of m).fixed t (get_or (lasting_of m).marked k []) → back_to k g ≡ Some (marked_of n us)
+    state_of n ≡ mark_state (lasting_of m) k t → back_to k g ≡ Some (marked_of n us)
 gone_back m n ts us k t g seen h live at e items is =
     ap (back_to k) (sym seen)
     ∙ ap (option_map (cut_at k (marked_of m ts))) (mark_there m ts k h live)
@@ -179,7 +174,7 @@ gone_back m n ts us k t g seen h live at e items is =
     ∙ ap Some (sym (cut_marked m n ts us k e items))
 
 -- its number, and that it may be counted on
-pub back_number : (m n : Machine) (ts : List Moment) (k : ℕ) (t : Moment) → Keeps m ts → k < length ts → t ≡ get_or ts k t → state_of n ≡ moment_state (lasting_of m).fixed t (get_or (lasting_of m).marked k []) →
+pub back_number : (m n : Machine) (ts : List Moment) (k : ℕ) (t : Moment) → Keeps m ts → k < length ts → t ≡ get_or ts k t → state_of n ≡ mark_state (lasting_of m) k t →
     (n.cycle ≤ m.cycle) × (n.cycle + one_if (is_some n.stop) ≤ 2 ^ 62)
 back_number m n ts k t h live e is =
     let leads = subst (λ s. LeadsTo s (state_of m)) (sym is) (mark_leads m ts k t h live e) in
@@ -206,11 +201,11 @@ last_is addr k m ts g seen h live =
 
 -- by the number that was found, from the moment's state
 last_found : (addr k : ℕ) (m : Machine) (ts : List Moment) (t : Moment) (o : Option ℕ) → Keeps m ts → k < length ts → t ≡ get_or ts k t →
-    o ≡ number_of (last_standing addr (moment_state (lasting_of m).fixed t (get_or (lasting_of m).marked k [])) (m.cycle - t.cycle)) → o ≡ number_of (last_of addr k m ts)
+    o ≡ last_number addr (mark_state (lasting_of m) k t) m.cycle → o ≡ number_of (last_of addr k m ts)
 last_found addr k m ts t o h live at e = e ∙ ap (λ (s : State). number_of (last_standing addr s (m.cycle - s.cycle))) (mark_is m ts k t h live at)
 
 pub last_none : (addr k : ℕ) (m : Machine) (ts : List Moment) (t : Moment) (g : Marked) → marked_of m ts ≡ g → Keeps m ts → k < length ts → t ≡ get_or ts k t →
-    None ≡ number_of (last_standing addr (moment_state (lasting_of m).fixed t (get_or (lasting_of m).marked k [])) (m.cycle - t.cycle)) → last_at addr k g ≡ None
+    None ≡ last_number addr (mark_state (lasting_of m) k t) m.cycle → last_at addr k g ≡ None
 last_none addr k m ts t g seen h live at e =
     last_is addr k m ts g seen h live
     ∙ ap (option_map (cut_at k (marked_of m ts))) (none_numbered (last_of addr k m ts) (last_found addr k m ts t None h live at e))
@@ -225,7 +220,7 @@ pub record Found (addr k number : ℕ) (m : Machine) (ts : List Moment) : Type 0
   pub before : number < m.cycle
 
 pub last_some : (addr k number : ℕ) (m : Machine) (ts : List Moment) (t : Moment) → Keeps m ts → k < length ts → t ≡ get_or ts k t →
-    Some number ≡ number_of (last_standing addr (moment_state (lasting_of m).fixed t (get_or (lasting_of m).marked k [])) (m.cycle - t.cycle)) → Found addr k number m ts
+    Some number ≡ last_number addr (mark_state (lasting_of m) k t) m.cycle → Found addr k number m ts
 last_some addr k number m ts t h live at e =
     let s = get_or (marks_of m ts) k (state_of m) in
     let count = marks_length m ts h in
@@ -249,9 +244,9 @@ last_gone addr k number m n ts us g seen h live found e items is =
     ∙ ap (λ (s : State). Some (cut_at k (marked_of m ts) s)) (sym (is ∙ sym found.after))
     ∙ ap Some (sym (cut_marked m n ts us k e items))
 
-pub last_number : (addr k number : ℕ) (m n : Machine) (ts : List Moment) → Keeps m ts → (found : Found addr k number m ts) →
+pub gone_number : (addr k number : ℕ) (m n : Machine) (ts : List Moment) → Keeps m ts → (found : Found addr k number m ts) →
     state_of n ≡ after_cycles (get_or (marks_of m ts) k (state_of m)) (number - (get_or (marks_of m ts) k (state_of m)).cycle) → (number ≡ n.cycle) × (n.cycle ≤ m.cycle) × (n.cycle + one_if (is_some n.stop) ≤ 2 ^ 62)
-last_number addr k number m n ts h found is =
+gone_number addr k number m n ts h found is =
     let same : number ≡ n.cycle = found.numbered ∙ ap (λ (s : State). s.cycle) (sym (is ∙ sym found.after)) in
     let before = found.before in
     let most = h.number in
@@ -264,9 +259,9 @@ last_number addr k number m n ts h found is =
 
 -- the way from the mark, whose marks of memory stand as they did
 pub went : (k number : ℕ) (m n : Machine) (ts : List Moment) (t : Moment) (l : Lasting) → Keeps m ts → k < length ts → t ≡ get_or ts k t → l ≡ lasting_of m →
-    state_of n ≡ after_cycles (moment_state l.fixed t (get_or l.marked k [])) (number - t.cycle) →
+    state_of n ≡ after_cycles (mark_state l k t) (number - t.cycle) →
     state_of n ≡ after_cycles (get_or (marks_of m ts) k (state_of m)) (number - (get_or (marks_of m ts) k (state_of m)).cycle)
 went k number m n ts t l h live at e is =
     is
-    ∙ ap (λ (x : Lasting). after_cycles (moment_state x.fixed t (get_or x.marked k [])) (number - t.cycle)) e
+    ∙ ap (λ (x : Lasting). after_cycles (mark_state x k t) (number - t.cycle)) e
     ∙ ap (λ (s : State). after_cycles s (number - s.cycle)) (mark_is m ts k t h live at)

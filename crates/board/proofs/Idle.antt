@@ -73,8 +73,8 @@ module _ (law : (s : State) (n m : ℕ) → s.stop ≡ None → OnlyPass n s →
       let none : 0 - suc k ≡ 0 = omega arith in
       ap (stands_at addr) (moved (suc k) (omega arith) few)
       ∙ alike_apart addr (passed (suc k) s) s refl
-          (ap (λ (p : Phase). (later (suc k) p s.after).0) e ∙ ap Run none ∙ sym e)
-          (ap (λ (p : Phase). (later (suc k) p s.after).1) e) refl
+      (ap (λ (p : Phase). (later (suc k) p s.after).0) e ∙ ap Run none ∙ sym e)
+      (ap (λ (p : Phase). (later (suc k) p s.after).1) e) refl
 
   by_case : OnlyPass all s → (stands_at addr s && stands_at addr (after_cycles s n)) ≡ false → (m : ℕ) → m < n → stands_at addr (after_cycles s m) ≡ false
   by_case (Pads left e within) ends m few =

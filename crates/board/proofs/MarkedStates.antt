@@ -1,5 +1,5 @@
 -- The states of the marks of a board.
-use Rattle.std.proofs.Common.{◌≡◌, ℕ, zero, suc, ◌+◌, ◌-◌, ◌<◌, ◌≤◌, List, [], ◌∷◌, ◌++◌, length, take, get_or, refl, sym, ◌∙◌, ap, subst, arith, Bool, true, false, ◌==◌}
+use Rattle.std.proofs.Common.{◌≡◌, ℕ, zero, suc, ◌+◌, ◌-◌, ◌<◌, List, [], ◌∷◌, ◌++◌, length, take, get_or, refl, sym, ◌∙◌, ap, subst, arith, Bool, true, false, ◌==◌}
 use Rattle.std.proofs.lemmas.Bool.Decides.{nat_tests}
 use Rattle.std.proofs.lemmas.List.{get_or_append_left, get_or-append_right, get_or-take, get_or_default, length-append, length-take-le}
 use Rattle.written_machine.specs.Cycle.{cycle, after_cycles}
@@ -53,19 +53,24 @@ chained_more ms s c = record { between = between; onward = onward }
   where
     old : (i : ℕ) (d : State) → i < length ms → get_or (ms ++ s ∷ []) i d ≡ get_or ms i d
     old i d h = get_or_append_left ms (s ∷ []) d i h
+
     new : (i : ℕ) (d : State) → i ≡ length ms → get_or (ms ++ s ∷ []) i d ≡ s
     new i d e =
         get_or-append_right ms (s ∷ []) (length ms) i d refl (omega (arith, e))
         ∙ (let z : i - length ms ≡ 0 = omega (arith, e) in ap (λ k. get_or (s ∷ []) k d) z)
+
     onward_by : (i : ℕ) (d : State) (b : Bool) → (i == length ms) ≡ b → i < length ms + 1 → LeadsTo (get_or (ms ++ s ∷ []) i d) s
     onward_by i d true e h = let at : i ≡ length ms = grind (arith, nat_tests) in subst (λ x. LeadsTo x s) (sym (new i d at)) (leads_self s)
     onward_by i d false e h =
         let before : i < length ms = grind (arith, nat_tests) in
         subst (λ x. LeadsTo x s) (sym (old i d before)) (c.onward i d before)
+
     size : length (ms ++ s ∷ []) ≡ length ms + 1
     size = length-append ms (s ∷ [])
+
     onward : (i : ℕ) (d : State) → i < length (ms ++ s ∷ []) → LeadsTo (get_or (ms ++ s ∷ []) i d) s
     onward i d h = onward_by i d (i == length ms) refl (omega (arith, h, size))
+
     between_by : (i j : ℕ) (d : State) (b : Bool) → (j == length ms) ≡ b → i < j → j < length ms + 1 → LeadsTo (get_or (ms ++ s ∷ []) i d) (get_or (ms ++ s ∷ []) j d)
     between_by i j d true e before h =
         let at : j ≡ length ms = grind (arith, nat_tests) in
@@ -73,6 +78,7 @@ chained_more ms s c = record { between = between; onward = onward }
     between_by i j d false e before h =
         let within : j < length ms = grind (arith, nat_tests) in
         subst (LeadsTo (get_or (ms ++ s ∷ []) i d)) (sym (old j d within)) (subst (λ x. LeadsTo x (get_or ms j d)) (sym (old i d (omega (arith, before, within)))) (c.between i j d before within))
+
     between : (i j : ℕ) (d : State) → i < j → j < length (ms ++ s ∷ []) → LeadsTo (get_or (ms ++ s ∷ []) i d) (get_or (ms ++ s ∷ []) j d)
     between i j d before h = between_by i j d (j == length ms) refl before (omega (arith, h, size))
 
@@ -82,17 +88,22 @@ chained_cut n k ms s d c live = record { between = between; onward = onward }
   where
     size : length (take (k + 1) ms) ≡ k + 1
     size = length-take-le (k + 1) ms (omega (arith, live))
+
     same : (i : ℕ) (e : State) → i < k + 1 → get_or (take (k + 1) ms) i e ≡ get_or ms i e
     same i e h = get_or-take (k + 1) ms i e h
+
     default : (i : ℕ) (e : State) → i < length ms → get_or ms i e ≡ get_or ms i d
     default i e h = get_or_default ms i e d h
+
     between : (i j : ℕ) (e : State) → i < j → j < length (take (k + 1) ms) → LeadsTo (get_or (take (k + 1) ms) i e) (get_or (take (k + 1) ms) j e)
     between i j e before h =
         let within : j < k + 1 = omega (arith, h, size) in
         subst (LeadsTo (get_or (take (k + 1) ms) i e)) (sym (same j e within)) (subst (λ x. LeadsTo x (get_or ms j e)) (sym (same i e (omega (arith, before, within)))) (c.between i j e before (omega (arith, within, live))))
+
     to : (i : ℕ) (b : Bool) → (i == k) ≡ b → i < k + 1 → LeadsTo (get_or ms i d) (get_or ms k d)
     to i true e h = let at : i ≡ k = grind (arith, nat_tests) in subst (λ j. LeadsTo (get_or ms j d) (get_or ms k d)) (sym at) (leads_self (get_or ms k d))
     to i false e h = let before : i < k = grind (arith, nat_tests) in c.between i k d before live
+
     onward : (i : ℕ) (e : State) → i < length (take (k + 1) ms) → LeadsTo (get_or (take (k + 1) ms) i e) (after_cycles (get_or ms k d) n)
     onward i e h =
         let within : i < k + 1 = omega (arith, h, size) in

@@ -1,6 +1,6 @@
 //! The board: a machine that a caller runs.
 
-ghost use Rattle.std.specs.Prelude.{◌≡◌, ◌+◌, ◌<◌, ◌≤◌, ◌^◌, ◌&&◌, ℕ, [], IfOk, IsSome, is_some, None, false};
+ghost use Rattle.std.specs.Prelude.{◌≡◌, ◌+◌, ◌<◌, ◌≤◌, ◌^◌, [], IfOk, IsSome, is_some, None};
 ghost use Rattle.isolation.specs.Calls.{stop_in};
 ghost use Rattle.written_machine.specs.Checks.{refused_in};
 ghost use Rattle.written_machine.specs.Cycle.{cycle};
@@ -11,7 +11,7 @@ ghost use Rattle.written_machine.specs.Trace.{end_of, end_line_of, lines_of};
 ghost use Rattle.written_machine.specs.View.{boot};
 ghost use Rattle.sm_io.specs.Sink.{Puts};
 ghost use Rattle.board.specs.Alike.{PeersTell, PeersShow, PeersRun, PeersEnd};
-ghost use Rattle.board.specs.Ran.{Apart, Runs, ran_of};
+ghost use Rattle.board.specs.Ran.{NoneMissed, Runs, ran_of};
 
 use crate::machine::Machine;
 use crate::moment::Moment;
@@ -151,11 +151,11 @@ impl Board {
     }
 
     // Lets at most so many cycles pass in which nothing begins and nothing arrives, and gives how many passed.
-    fn pass_idle(&mut self, most: u64) -> u64
+    pub(crate) fn pass_idle(&mut self, most: u64) -> u64
         requires { self.old.present.cycle + most ≤ 2 ^ 62 }
         ensures most { result ≤ most }
         ensures leads { Leads result self.old.present self.new.present }
-        ensures missed { (addr : ℕ) → (stands_at addr self.old.present && stands_at addr self.new.present) ≡ false → Apart addr result self.old.present }
+        ensures missed { NoneMissed result self.old.present self.new.present }
         ensures number { self.new.present.cycle ≤ self.old.present.cycle + result }
         ensures marks { self.new ≡ at_state self.old self.new.present }
     {
@@ -163,14 +163,14 @@ impl Board {
     }
 
     // Whether it is stopped.
-    fn is_stopped(&self) -> bool
+    pub(crate) fn is_stopped(&self) -> bool
         ensures { result ≡ is_some self.now.present.stop }
     {
         self.machine.stop.is_some()
     }
 
     // How a run ends that leaves this state.
-    fn ended(&self) -> Ran
+    pub(crate) fn ended(&self) -> Ran
         ensures { result ≡ ran_of self.now.present.stop }
     {
         match self.machine.stop {
@@ -224,7 +224,7 @@ impl Board {
 }
 
 /// Puts the lines of a cycle's events.
-fn put_lines<S: Sink>(sink: &mut S, cycle: u64, events: &[Event]) -> Result<(), Failed>
+pub(crate) fn put_lines<S: Sink>(sink: &mut S, cycle: u64, events: &[Event]) -> Result<(), Failed>
     ensures { Puts S.taken S.faults S.sure sink.old sink.new (lines_of cycle events.now) result }
 {
     let mut line = ArrayString::new();

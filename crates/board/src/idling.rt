@@ -1,12 +1,11 @@
 //! Cycles in which nothing begins and nothing arrives pass in one step.
 
-ghost use Rattle.std.specs.Prelude.{◌≡◌, ◌≤◌, ◌<◌, ◌+◌, ◌^◌, ◌&&◌, ℕ, true, false, None};
+ghost use Rattle.std.specs.Prelude.{◌≡◌, ◌≤◌, ◌<◌, ◌+◌, ◌^◌, ℕ, true, None};
 ghost use Rattle.reg_backup.specs.declared.backup.After.TheVariants.{Next};
 ghost use Rattle.reg_backup.specs.declared.backup.Phase.TheVariants.{Pad};
 ghost use Rattle.written_machine.specs.Cycle.{asleep};
 ghost use Rattle.written_machine.specs.Passing.{Calm, Leads, OnlyPass, passed};
-ghost use Rattle.written_machine.specs.Standing.{stands_at};
-ghost use Rattle.board.specs.Ran.{Apart};
+ghost use Rattle.board.specs.Ran.{NoneMissed};
 ghost use Rattle.board.specs.Standing.{state_of, lasting_of};
 ghost use Rattle.board.specs.Sound.{Stands};
 
@@ -25,9 +24,7 @@ impl Machine {
         ensures stands { Stands self.new }
         ensures number { self.new.cycle ≡ self.old.cycle + result }
         ensures stop { self.new.stop ≡ self.old.stop }
-
-        // Where it stands at an address neither before these cycles nor after them, it stood there before none of them.
-        ensures missed { (addr : ℕ) → (stands_at addr (state_of self.old) && stands_at addr (state_of self.new)) ≡ false → Apart addr result (state_of self.old) }
+        ensures missed { NoneMissed result (state_of self.old) (state_of self.new) }
         ensures lasting { lasting_of self.new ≡ lasting_of self.old }
     {
         isolation::passing();

@@ -31,8 +31,8 @@ pub enum LastFault {
 impl Board {
     ghost use Rattle.board.specs.Faults.{IsLastFault};
 
-    /// Marks the present state, and gives the number of marks before. Refused exactly where all marks that the board was
-    /// made with are live.
+    /// Marks the present state, and gives the number of marks before. Refused exactly where all marks that the board
+    /// was made with are live.
     pub fn mark(&mut self) -> Result<u16, MarksFull>
         ensures marked { OnOk result (marked self.old ≡ Some self.new) }
         ensures number { IfOk result (λ k. k ≡ length self.old.marks) }
@@ -51,8 +51,8 @@ impl Board {
         }
     }
 
-    /// Goes back to mark `k`, and drops the marks above it. The board is then what it was at that mark, and so is all that
-    /// it does from there on.
+    /// Goes back to mark `k`, and drops the marks above it. The board is then what it was at that mark, and so is all
+    /// that it does from there on.
     pub fn back(&mut self, k: u16) -> Result<(), NoMark>
         ensures back { OnOk result (back_to k self.old ≡ Some self.new) }
         ensures none { IfErr result (λ none. (back_to k self.old ≡ None) × (none.k ≡ k)) }
@@ -68,8 +68,9 @@ impl Board {
         Ok(())
     }
 
-    /// Goes back to the last cycle from mark `k`'s on, and before the present one, at which the outside stood at `addr`,
-    /// drops the marks above `k`, and gives that cycle. The cycles from the mark on are done again, and tell nothing.
+    /// Goes back to the last cycle from mark `k`'s on, and before the present one, at which the outside stood at
+    /// `addr`, drops the marks above `k`, and gives that cycle. The cycles from the mark on are done again, and tell
+    /// nothing.
     pub fn last(&mut self, addr: u16, k: u16) -> Result<u64, LastFault>
         ensures last { OnOk result (last_at addr k self.old ≡ Some self.new) }
         ensures cycle { IfOk result (λ cycle. cycle ≡ self.new.present.cycle) }

@@ -1,9 +1,9 @@
 //! Moments of a machine, and the ways to them.
 
-ghost use Rattle.std.specs.Prelude.{◌≡◌, ◌≤◌, ◌<◌, ◌+◌, ◌-◌, ◌^◌, length, get_or, take, [], is_some};
+ghost use Rattle.std.specs.Prelude.{◌≡◌, ◌≤◌, ◌<◌, ◌+◌, ◌-◌, ◌^◌, length, is_some};
 ghost use Rattle.sm_words.specs.Sums.{one_if};
 ghost use Rattle.written_machine.specs.Cycle.{after_cycles};
-ghost use Rattle.written_machine.specs.Standing.{last_standing, stands_at};
+ghost use Rattle.written_machine.specs.Standing.{stands_at};
 
 use crate::machine::Machine;
 use devices::BusMark;
@@ -28,8 +28,8 @@ pub struct Moment {
 }
 
 impl Machine {
-    ghost use Rattle.board.specs.Sound.{number_of, IsInStep, IsSound, LeadsTo, RunsTo, Stands};
-    ghost use Rattle.board.specs.Standing.{state_of, lasting_of, moment_state};
+    ghost use Rattle.board.specs.Sound.{last_number, IsInStep, IsSound, LeadsTo, RunsTo, Stands};
+    ghost use Rattle.board.specs.Standing.{cut, lasting_of, mark_state, moment_state, state_of};
 
     /// This moment.
     pub fn moment(&self) -> Moment
@@ -71,7 +71,7 @@ impl Machine {
     /// Goes to a moment, whose bytes are mark `k` of memory, and keeps every mark.
     pub fn load(&mut self, k: u16, moment: &Moment)
         requires { k < length (lasting_of self.old).marked }
-        ensures state { let l = lasting_of self.old in state_of self.new ≡ moment_state l.fixed moment.now (get_or l.marked k []) }
+        ensures state { state_of self.new ≡ mark_state (lasting_of self.old) k moment.now }
         ensures ticks { self.new.port.bus.ticks ≡ moment.now.bus.ticks }
         ensures lasting { lasting_of self.new ≡ lasting_of self.old }
     {
@@ -82,9 +82,9 @@ impl Machine {
     /// Goes to a moment, whose bytes are mark `k` of memory, and drops the marks above it.
     pub fn back(&mut self, k: u16, moment: &Moment)
         requires { k < length (lasting_of self.old).marked }
-        ensures state { let l = lasting_of self.old in state_of self.new ≡ moment_state l.fixed moment.now (get_or l.marked k []) }
+        ensures state { state_of self.new ≡ mark_state (lasting_of self.old) k moment.now }
         ensures ticks { self.new.port.bus.ticks ≡ moment.now.bus.ticks }
-        ensures lasting { let l = lasting_of self.old in lasting_of self.new ≡ record l { marked = take (k + 1) l.marked } }
+        ensures lasting { lasting_of self.new ≡ cut k (lasting_of self.old) }
     {
         self.port.memory.back(k);
         self.go_to(moment);
@@ -125,7 +125,7 @@ impl Machine {
         requires number { end ≤ 2 ^ 62 }
         requires stands { Stands self.old }
         requires runs { RunsTo end (state_of self.old) }
-        ensures last { let s = state_of self.old in result ≡ number_of (last_standing addr s (end - self.old.cycle)) }
+        ensures last { result ≡ last_number addr (state_of self.old) end }
         ensures state { state_of self.new ≡ after_cycles (state_of self.old) (end - self.old.cycle) }
         ensures stands { Stands self.new }
         ensures lasting { lasting_of self.new ≡ lasting_of self.old }
@@ -147,10 +147,10 @@ impl Machine {
     pub fn last_since(&mut self, addr: u16, k: u16, moment: &Moment) -> Option<u64>
         requires mark { k < length (lasting_of self.old).marked }
         requires number { self.old.cycle + one_if (is_some self.old.stop) ≤ 2 ^ 62 }
-        requires sound { let l = lasting_of self.old in IsSound (moment_state l.fixed moment.now (get_or l.marked k [])) }
+        requires sound { IsSound (mark_state (lasting_of self.old) k moment.now) }
         requires in_step { IsInStep moment.now }
-        requires leads { let l = lasting_of self.old in LeadsTo (moment_state l.fixed moment.now (get_or l.marked k [])) (state_of self.old) }
-        ensures last { let l = lasting_of self.old in result ≡ number_of (last_standing addr (moment_state l.fixed moment.now (get_or l.marked k [])) (self.old.cycle - moment.now.cycle)) }
+        requires leads { LeadsTo (mark_state (lasting_of self.old) k moment.now) (state_of self.old) }
+        ensures last { result ≡ last_number addr (mark_state (lasting_of self.old) k moment.now) self.old.cycle }
         ensures state { state_of self.new ≡ state_of self.old }
         ensures stands { Stands self.new }
         ensures lasting { lasting_of self.new ≡ lasting_of self.old }
@@ -169,12 +169,12 @@ impl Machine {
     pub fn return_to(&mut self, end: u64, k: u16, moment: &Moment)
         requires mark { k < length (lasting_of self.old).marked }
         requires number { end ≤ 2 ^ 62 }
-        requires sound { let l = lasting_of self.old in IsSound (moment_state l.fixed moment.now (get_or l.marked k [])) }
+        requires sound { IsSound (mark_state (lasting_of self.old) k moment.now) }
         requires in_step { IsInStep moment.now }
-        requires runs { let l = lasting_of self.old in RunsTo end (moment_state l.fixed moment.now (get_or l.marked k [])) }
-        ensures state { let l = lasting_of self.old in state_of self.new ≡ after_cycles (moment_state l.fixed moment.now (get_or l.marked k [])) (end - moment.now.cycle) }
+        requires runs { RunsTo end (mark_state (lasting_of self.old) k moment.now) }
+        ensures state { let s = mark_state (lasting_of self.old) k moment.now in state_of self.new ≡ after_cycles s (end - s.cycle) }
         ensures stands { Stands self.new }
-        ensures lasting { let l = lasting_of self.old in lasting_of self.new ≡ record l { marked = take (k + 1) l.marked } }
+        ensures lasting { lasting_of self.new ≡ cut k (lasting_of self.old) }
     {
         self.back(k, moment);
         self.pass_to(end);

@@ -1,5 +1,4 @@
-use Rattle.std.proofs.Common.{◌≡◌, ◌+◌, ◌<◌, ◌≤◌, length, take, rules, refl, sym, ◌∙◌, ap, subst, arith}
-use Rattle.std.specs.Vec.{vec_capacity}
+use Rattle.std.proofs.Common.{◌≡◌, ◌+◌, ◌<◌, ◌≤◌, length, take, rules, refl, ◌∙◌, ap, arith}
 use Rattle.written_machine.specs.Marks.{Marked}
 use Rattle.board.specs.Standing.{Lasting, lasting_of}
 use Rattle.board.proofs.Going.{back_none, back_number, gone_back, keeps_cut, mark_is, stands_back}
@@ -23,10 +22,11 @@ invariant_of-self c =
     let ts = c.self.inside.moments.items in
     let k = c.args.k in
     let h = c.self.invariant.0 in
-    let t = c.index.result.now in
-    (keeps_cut 0 k m n ts c.truncate.new.self.items h (live c) c.back.ensures.lasting (items c) (c.back.ensures.state ∙ mark_is m ts k t h (live c) (search rules))
-        (stands_back m n ts k t h (live c) (search rules) c.back.ensures.state c.back.ensures.ticks) (back_number m n ts k t h (live c) (search rules) c.back.ensures.state).1,
-     let room : (lasting_of n).room ≡ (lasting_of m).room = ap (λ (l : Lasting). l.room) c.back.ensures.lasting in omega (arith, room, c.self.invariant.1, c.truncate.ensures.capacity))
+    let t = c.index.result.now in (
+      keeps_cut 0 k m n ts c.truncate.new.self.items h (live c) c.back.ensures.lasting (items c) (c.back.ensures.state ∙ mark_is m ts k t h (live c) (search rules))
+          (stands_back m n ts k t h (live c) (search rules) c.back.ensures.state c.back.ensures.ticks) (back_number m n ts k t h (live c) (search rules) c.back.ensures.state).1,
+      let room : (lasting_of n).room ≡ (lasting_of m).room = ap (λ (l : Lasting). l.room) c.back.ensures.lasting in omega (arith, room, c.self.invariant.1, c.truncate.ensures.capacity),
+    )
 
 pub returns-clause-back : goal.returns-clause-back
 returns-clause-back c =

@@ -1,11 +1,10 @@
-use Rattle.std.proofs.Common.{◌≡◌, ℕ, List, ◌+◌, ◌-◌, ◌<◌, ◌≤◌, ◌^◌, [], get_or, length, take, rules, refl, sym, ◌∙◌, ap, subst, arith}
+use Rattle.std.proofs.Common.{◌≡◌, ℕ, List, ◌+◌, ◌-◌, ◌<◌, [], get_or, length, take, rules, refl, sym, ◌∙◌, ap, subst, arith}
 use Rattle.written_machine.specs.Cycle.{after_cycles}
 use Rattle.written_machine.specs.Marks.{Marked}
-use Rattle.written_machine.specs.State.{State}
 use Rattle.board.specs.declared.moment.Moment.{Moment}
 use Rattle.board.specs.Sound.{IsSound, RunsTo}
 use Rattle.board.specs.Standing.{Lasting, lasting_of, marks_of, moment_state, state_of}
-use Rattle.board.proofs.Going.{Found, keeps_cut, last_gone, last_none, last_number, last_some, mark_is, mark_leads, mark_sound, marks_length, went}
+use Rattle.board.proofs.Going.{Found, keeps_cut, last_gone, last_none, gone_number, last_some, mark_is, mark_leads, mark_sound, marks_length, went}
 use Rattle.board.proofs.board.Board.last.Goals as goal
 
 pub returns-then-k-marks-clause-fault : goal.returns-then-k-marks-clause-fault
@@ -95,10 +94,11 @@ invariant_of-self-in-Some c =
     let m = c.self.inside.machine in
     let n = c.return_to.new.self in
     let ts = c.self.inside.moments.items in
-    let s = get_or (marks_of m ts) c.args.k (state_of m) in
-    (keeps_cut (c.in-Some.cycle - s.cycle) c.args.k m n ts c.truncate.new.self.items c.self.invariant.0 (live c) (lasting c) (items c) (there c) c.return_to.ensures.stands
-        (last_number c.args.addr c.args.k c.in-Some.cycle m n ts c.self.invariant.0 (found c) (there c)).2,
-     let room : (lasting_of n).room ≡ (lasting_of m).room = ap (λ (l : Lasting). l.room) (lasting c) in omega (arith, room, c.self.invariant.1, c.truncate.ensures.capacity))
+    let s = get_or (marks_of m ts) c.args.k (state_of m) in (
+      keeps_cut (c.in-Some.cycle - s.cycle) c.args.k m n ts c.truncate.new.self.items c.self.invariant.0 (live c) (lasting c) (items c) (there c) c.return_to.ensures.stands
+          (gone_number c.args.addr c.args.k c.in-Some.cycle m n ts c.self.invariant.0 (found c) (there c)).2,
+      let room : (lasting_of n).room ≡ (lasting_of m).room = ap (λ (l : Lasting). l.room) (lasting c) in omega (arith, room, c.self.invariant.1, c.truncate.ensures.capacity),
+    )
 
 pub returns-in-Some-clause-last : goal.returns-in-Some-clause-last
 returns-in-Some-clause-last c =
@@ -106,11 +106,11 @@ returns-in-Some-clause-last c =
 
 pub returns-in-Some-clause-cycle : goal.returns-in-Some-clause-cycle
 returns-in-Some-clause-cycle c =
-    (last_number c.args.addr c.args.k c.in-Some.cycle c.self.inside.machine c.return_to.new.self c.self.inside.moments.items c.self.invariant.0 (found c) (there c)).0
+    (gone_number c.args.addr c.args.k c.in-Some.cycle c.self.inside.machine c.return_to.new.self c.self.inside.moments.items c.self.invariant.0 (found c) (there c)).0
 
 pub returns-in-Some-clause-clock : goal.returns-in-Some-clause-clock
 returns-in-Some-clause-clock c =
     let m = c.self.inside.machine in
-    let number = (last_number c.args.addr c.args.k c.in-Some.cycle m c.return_to.new.self c.self.inside.moments.items c.self.invariant.0 (found c) (there c)).1 in
+    let number = (gone_number c.args.addr c.args.k c.in-Some.cycle m c.return_to.new.self c.self.inside.moments.items c.self.invariant.0 (found c) (there c)).1 in
     let now : m.cycle ≡ c.args.self.now.present.cycle = ap (λ (g : Marked). g.present.cycle) c.self.view_is in
     omega (arith, number, now)

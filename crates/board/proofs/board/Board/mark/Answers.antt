@@ -1,4 +1,4 @@
-use Rattle.std.proofs.Common.{◌≡◌, ◌<◌, ◌≤◌, ◌+◌, length, rules, sym, ◌∙◌, ap, subst, arith}
+use Rattle.std.proofs.Common.{◌≡◌, ◌<◌, length, rules, sym, ◌∙◌, ap}
 use Rattle.board.specs.Standing.{lasting_of}
 use Rattle.written_machine.specs.Marks.{Marked}
 use Rattle.board.proofs.Going.{keeps_mark, mark_full, mark_made, marks_length}
@@ -9,9 +9,10 @@ less : (c : goal.After-unwrap) → length c.self.inside.moments.items < (lasting
 less c = let k = c.self.invariant.0 in let level = k.level in let few = k.few in search rules
 
 pub invariant_of-self-in-Ok : goal.invariant_of-self-in-Ok
-invariant_of-self-in-Ok c =
-    (keeps_mark c.self.inside.machine c.mark.new.self c.self.inside.moments.items c.push.new.self.items c.moment.result c.self.invariant.0 c.in-Ok.ensures.marked c.moment.ensures.state c.moment.ensures.ticks (less c) (search rules),
-     search rules)
+invariant_of-self-in-Ok c = (
+  keeps_mark c.self.inside.machine c.mark.new.self c.self.inside.moments.items c.push.new.self.items c.moment.result c.self.invariant.0 c.in-Ok.ensures.marked c.moment.ensures.state c.moment.ensures.ticks (less c) (search rules),
+  search rules,
+)
 
 pub returns-in-Ok-clause-marked : goal.returns-in-Ok-clause-marked
 returns-in-Ok-clause-marked c =

@@ -1,4 +1,4 @@
-use Rattle.std.proofs.Common.{◌≡◌, ℕ, suc, ◌+◌, ◌-◌, ◌<◌, ◌≤◌, Some, sym, ◌∙◌, ap, arith, refl, rules}
+use Rattle.std.proofs.Common.{◌≡◌, suc, ◌+◌, ◌-◌, ◌<◌, sym, ◌∙◌, ap, arith, refl}
 use Rattle.written_machine.specs.Cycle.{after_cycles}
 use Rattle.written_machine.specs.Standing.{stands_at, last_standing}
 use Rattle.written_machine.specs.State.{State}
@@ -32,10 +32,10 @@ loop-self-preserved c =
     let total : suc n + k ≡ c.pass_idle.new.self.cycle - c.args.self.now.cycle = omega (arith, i.from, walk.1, c.pass_idle.ensures.number) in
     let exact : c.if-stands_at.last ≡ number_of (last_standing addr s (suc n)) =
     elim c.if-stands_at.branch [
-      then-stands_at w ↦ last_here addr n c.loop-self.self.cycle s t c.if-stands_at.last i.state refl (sym c.stands_at.ensures ∙ w.if-stands_at.true) w.last-is
+      | then-stands_at w ↦ last_here addr n c.loop-self.self.cycle s t c.if-stands_at.last i.state refl (sym c.stands_at.ensures ∙ w.if-stands_at.true) w.last-is
       | else-stands_at w ↦
-        let off = sym c.stands_at.ensures ∙ w.if-stands_at.false in
-        last_there addr n s t c.loop-self.last c.if-stands_at.last i.state off (i.apart off) w.last-is
+          let off = sym c.stands_at.ensures ∙ w.if-stands_at.false in
+          last_there addr n s t c.loop-self.last c.if-stands_at.last i.state off (i.apart off) w.last-is
     ] in
     record {
       from = omega (arith, i.from, walk.1, c.pass_idle.ensures.number);

@@ -1,4 +1,4 @@
-use Rattle.std.proofs.Common.{◌≡◌, ◌+◌, ◌-◌, ◌<◌, ◌≤◌, ◌^◌, is_some, true, sym, ◌∙◌, ap, subst, arith, refl, rules}
+use Rattle.std.proofs.Common.{◌≡◌, ◌+◌, ◌≤◌, ◌^◌, is_some, true, sym, ◌∙◌, ap, subst, arith, rules}
 use Rattle.sm_words.specs.Sums.{one_if}
 use Rattle.written_machine.specs.State.{State}
 use Rattle.board.specs.Sound.{RunsTo}

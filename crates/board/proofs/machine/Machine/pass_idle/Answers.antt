@@ -1,4 +1,4 @@
-use Rattle.std.proofs.Common.{◌≡◌, ◌<◌, ◌≤◌, ◌&&◌, false, sym, ◌∙◌, ap, subst, arith}
+use Rattle.std.proofs.Common.{◌<◌, ◌≤◌, ◌&&◌, sym, ◌∙◌, ap, subst, arith}
 use Rattle.written_machine.specs.Passing.{Leads}
 use Rattle.written_machine.specs.Standing.{stands_at}
 use Rattle.written_machine.specs.State.{State}
