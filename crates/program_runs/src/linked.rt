@@ -251,7 +251,7 @@ fn each_read_fails(rt: HostRuntime) -> Result<(), Fail> {
             let err = if at < LAYOUT_READS {
                 "sancus: cannot read call.toml\n"
             } else {
-                told += 1;
+                told = at;
                 "sancus: cannot read call.o\n"
             };
             assert_eq!(rt; given.status, Status::ReadFault, "{at}");
