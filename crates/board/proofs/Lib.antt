@@ -12,5 +12,6 @@ pub mod Returning
 pub mod Leading
 pub mod MarkedStates
 pub mod Keeping
+pub mod Reaching
 pub mod Lasting
 pub mod Going

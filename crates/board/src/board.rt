@@ -151,7 +151,7 @@ impl Board {
     }
 
     // Lets at most so many cycles pass in which nothing begins and nothing arrives, and gives how many passed.
-    fn pass_idle(&mut self, most: u64) -> u64
+    pub(crate) fn pass_idle(&mut self, most: u64) -> u64
         requires { self.old.present.cycle + most ≤ 2 ^ 62 }
         ensures most { result ≤ most }
         ensures leads { Leads result self.old.present self.new.present }
@@ -163,14 +163,14 @@ impl Board {
     }
 
     // Whether it is stopped.
-    fn is_stopped(&self) -> bool
+    pub(crate) fn is_stopped(&self) -> bool
         ensures { result ≡ is_some self.now.present.stop }
     {
         self.machine.stop.is_some()
     }
 
     // How a run ends that leaves this state.
-    fn ended(&self) -> Ran
+    pub(crate) fn ended(&self) -> Ran
         ensures { result ≡ ran_of self.now.present.stop }
     {
         match self.machine.stop {
@@ -224,7 +224,7 @@ impl Board {
 }
 
 /// Puts the lines of a cycle's events.
-fn put_lines<S: Sink>(sink: &mut S, cycle: u64, events: &[Event]) -> Result<(), Failed>
+pub(crate) fn put_lines<S: Sink>(sink: &mut S, cycle: u64, events: &[Event]) -> Result<(), Failed>
     ensures { Puts S.taken S.faults S.sure sink.old sink.new (lines_of cycle events.now) result }
 {
     let mut line = ArrayString::new();
