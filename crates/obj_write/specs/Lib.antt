@@ -1,0 +1,6 @@
+pub mod Bytes
+pub mod Strings
+pub mod Sections
+pub mod Symbols
+pub mod Relocations
+pub mod Object

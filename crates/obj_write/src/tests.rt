@@ -1,0 +1,1 @@
+//! A written object, byte by byte.
