@@ -1,2 +1,4 @@
-pub mod Passes
-pub mod Tables
+pub mod PassLemmas
+pub mod TableLemmas
+pub mod SymbolLemmas
+pub mod RelocationLemmas

@@ -1,7 +1,8 @@
 //! The tables of relocations.
 
-ghost use Rattle.std.specs.Prelude.{◌≡◌, ◌<◌, ◌++◌, List, map, length, All, IfOk, OnOk};
+ghost use Rattle.std.specs.Prelude.{◌≡◌, ◌<◌, ◌++◌, List, [], map, length, All, IfOk, OnOk};
 ghost use Rattle.elf_objects.specs.Passes.{each_below};
+ghost use Rattle.asm_text.specs.declared.unit.AsmRelocation.{AsmRelocation};
 ghost use Rattle.obj_write.specs.Relocations.{relocation_entry, relocation_table, relocated};
 
 use crate::bytes::put_words;
@@ -35,10 +36,12 @@ pub fn tables_of(
     Ok(tables)
 }
 
+// No relocations of any of so many sections.
 fn empty_tables(alloc: Global, count: usize) -> Result<Vec<Vec<u8>>, AllocError>
+    ensures { IfOk result (λ v. map (λ t. t.items) v.items ≡ each_below (relocation_table []) count) }
 {
     let mut tables = Vec::new(alloc);
-    for _ in 0..count {
+    for _section in 0..count {
         tables.push(Vec::new(alloc))?;
     }
     Ok(tables)

@@ -68,7 +68,7 @@ pub fn put_heads(out: &mut Vec<u8>, heads: &[Head]) -> Result<(), AllocError>
 
 impl Sections {
     /// No sections.
-    #[tactic(auto, using(crate::proofs::Tables::no_sections))]
+    #[tactic(auto, using(crate::proofs::TableLemmas::no_sections))]
     pub fn new(alloc: Global) -> Sections
         ensures { AreSections [] result }
     {
@@ -94,6 +94,7 @@ impl Sections {
     {
         out.extend_from_slice(&self.contents)?;
         out.extend_from_slice(&[0; SECTION_HEADER_SIZE])?;
-        put_heads(out, &self.heads)
+        put_heads(out, &self.heads)?;
+        Ok(())
     }
 }

@@ -14,7 +14,7 @@ pub struct Strings {
 
 impl Strings {
     /// The table of no names.
-    #[tactic(auto, using(crate::proofs::Tables::no_names))]
+    #[tactic(auto, using(crate::proofs::TableLemmas::no_names))]
     pub fn new(alloc: Global) -> Result<Strings, AllocError>
         ensures { IfOk result (IsTableOf []) }
     {
@@ -38,7 +38,7 @@ impl Strings {
     }
 
     /// Where the name of this index starts.
-    #[tactic(auto, using(crate::proofs::Tables::place_is))]
+    #[tactic(auto, using(crate::proofs::TableLemmas::place_is))]
     pub fn place(&self, index: usize) -> usize
         ensures { (names : List (List ℕ)) → IsTableOf names self.now → index < length names → result ≡ name_at names index }
     {

@@ -1,6 +1,6 @@
 //! The table of symbols and that of their names.
 
-ghost use Rattle.std.specs.Prelude.{◌≡◌, ◌++◌, IfOk, OnOk, map};
+ghost use Rattle.std.specs.Prelude.{◌≡◌, ◌++◌, IfOk, OnOk, map, position};
 ghost use Rattle.asm_text.specs.Views.{symbol_of};
 ghost use Rattle.obj_write.specs.Strings.{IsTableOf};
 ghost use Rattle.obj_write.specs.Symbols.{info_of, home_index, symbol_entry, symbol_names, symbol_table, first_global};
@@ -74,13 +74,16 @@ pub fn symbol_table(
     Ok(table)
 }
 
+fn position_of_global(symbols: &[AsmSymbol]) -> Option<usize>
+    ensures { result ≡ position (λ s. s.global) symbols.now }
+{
+    symbols.iter().position(|symbol| symbol.global)
+}
+
 /// The index of the first global entry, or the number of entries where none is global.
-#[tactic(auto, unfolding(crate::specs::Symbols::first_global))]
+#[tactic(auto, using(crate::proofs::SymbolLemmas::first_global_is))]
 pub fn first_global(symbols: &[AsmSymbol]) -> usize
     ensures { result ≡ first_global (map symbol_of symbols.now) }
 {
-    1 + symbols
-        .iter()
-        .position(|symbol| symbol.global)
-        .unwrap_or(symbols.len())
+    1 + position_of_global(symbols).unwrap_or(symbols.len())
 }

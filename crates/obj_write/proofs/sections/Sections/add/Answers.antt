@@ -1,6 +1,6 @@
 use Rattle.std.proofs.Common.{arith}
 use Rattle.std.proofs.lemmas.Grind.{common_steps}
-use Rattle.obj_write.proofs.Tables.{sections_more}
+use Rattle.obj_write.proofs.TableLemmas.{sections_more}
 use Rattle.obj_write.proofs.sections.Sections.add.Goals as goal
 
 pub returns : goal.returns

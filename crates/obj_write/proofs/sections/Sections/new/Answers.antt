@@ -1,4 +1,4 @@
-use Rattle.obj_write.proofs.Tables.{no_sections}
+use Rattle.obj_write.proofs.TableLemmas.{no_sections}
 use Rattle.obj_write.proofs.sections.Sections.new.Goals as goal
 
 pub returns : goal.returns

@@ -1,6 +1,6 @@
 use Rattle.std.proofs.Common.{arith}
 use Rattle.std.proofs.lemmas.Grind.{common_steps}
-use Rattle.obj_write.proofs.Tables.{names_more}
+use Rattle.obj_write.proofs.TableLemmas.{names_more}
 use Rattle.obj_write.proofs.strings.Strings.add.Goals as goal
 
 pub returns : goal.returns

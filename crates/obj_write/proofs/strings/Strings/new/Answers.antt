@@ -1,5 +1,5 @@
 use Rattle.std.proofs.Common.{◌≡◌, List, ℕ, [], ◌∷◌, ◌++◌, ap, ◌∙◌}
-use Rattle.obj_write.proofs.Tables.{no_names}
+use Rattle.obj_write.proofs.TableLemmas.{no_names}
 use Rattle.obj_write.proofs.strings.Strings.new.Goals as goal
 
 pub returns : goal.returns

@@ -7,11 +7,11 @@ use Rattle.elf_objects.proofs.PassLemmas.{each_below_more, each_below_zero, leng
 use Rattle.obj_write.specs.declared.strings.Strings.{Strings}
 use Rattle.obj_write.specs.declared.sections.Head.{Head}
 use Rattle.obj_write.specs.declared.sections.Sections.{Sections}
-use Rattle.obj_write.specs.declared.sections.TheConstants.{FILE_HEADER_SIZE}
-use Rattle.obj_write.specs.Bytes.{padded}
+use Rattle.obj_write.specs.declared.sections.TheConstants.{FILE_HEADER_SIZE, SECTION_HEADER_SIZE}
+use Rattle.obj_write.specs.Bytes.{zeros, padded}
 use Rattle.obj_write.specs.Strings.{terminated, string_table, name_at, IsTableOf}
-use Rattle.obj_write.specs.Sections.{FileSection, no_section, contents_of, content_at, head_of, AreSections}
-use Rattle.obj_write.proofs.Passes.{each_below_same}
+use Rattle.obj_write.specs.Sections.{FileSection, no_section, contents_of, content_at, head_of, head_bytes, header_table, AreSections}
+use Rattle.obj_write.proofs.PassLemmas.{each_below_same, flat_map_each}
 
 -- ---- string tables
 
@@ -111,3 +111,16 @@ sections_more sections head content old new contents heads are =
           ∙ (ap (λ (l : List ℕ). each_below (head_of sections) (length sections) ++ record head { offset = FILE_HEADER_SIZE + length l } ∷ []) are.contents
           ∙ sym (heads_more sections s)));
     }
+
+-- contents and then headers
+pub put_is : (s : Sections) (o r₁ r₂ r₃ : List ℕ)
+    → r₁ ≡ o ++ s.contents.items → r₂ ≡ r₁ ++ zeros SECTION_HEADER_SIZE → r₃ ≡ r₂ ++ flat_map head_bytes s.heads.items
+    → (sections : List FileSection) → AreSections sections s → r₃ ≡ o ++ (contents_of sections ++ header_table sections)
+unfolding header_table
+put_is s o r₁ r₂ r₃ e₁ e₂ e₃ sections are =
+    let heads : flat_map head_bytes s.heads.items ≡ all_below (λ k. head_bytes (head_of sections k)) (length sections)
+    = ap (flat_map head_bytes) are.heads ∙ flat_map_each head_bytes (head_of sections) (length sections) in
+    let z : List ℕ = zeros SECTION_HEADER_SIZE in
+    let h : List ℕ = all_below (λ k. head_bytes (head_of sections k)) (length sections) in
+    e₃ ∙ (ap (λ l. r₂ ++ l) heads ∙ (ap (λ l. l ++ h) (e₂ ∙ ap (λ l. l ++ z) (e₁ ∙ ap (λ l. o ++ l) are.contents))
+    ∙ (append_assoc (o ++ contents_of sections) z h ∙ append_assoc o (contents_of sections) (z ++ h))))
