@@ -2,3 +2,4 @@ pub mod PassLemmas
 pub mod TableLemmas
 pub mod SymbolLemmas
 pub mod RelocationLemmas
+pub mod ObjectLemmas

@@ -48,22 +48,14 @@ flags_of Code = ALLOC_EXECUTE
 flags_of Data = WRITE_ALLOC
 flags_of Bss = WRITE_ALLOC
 
+-- the header of a section of the unit
+abbrev pub part_head : SectionValue → ℕ → Head
+part_head s name = record { name = name; kind = kind_of s.kind; flags = flags_of s.kind; offset = 0; size = s.size; link = 0; info = 0; align = SECTION_ALIGN; entry_size = 0 }
+
 -- the unit's section of this index
 unfoldable pub part_section : UnitValue → ℕ → FileSection
-part_section unit i = let s = slice_index_or unit.sections i no_part in record {
-  head = record {
-    name = name_at (section_names unit) i;
-    kind = kind_of s.kind;
-    flags = flags_of s.kind;
-    offset = 0;
-    size = s.size;
-    link = 0;
-    info = 0;
-    align = SECTION_ALIGN;
-    entry_size = 0;
-  };
-  content = s.bytes;
-}
+part_section unit i = let s = slice_index_or unit.sections i no_part in
+    record { head = part_head s (name_at (section_names unit) i); content = s.bytes }
 
 -- the indexes of the tables, counted from section 0
 abbrev pub symtab_index : UnitValue → ℕ
@@ -75,54 +67,37 @@ strtab_index unit = length unit.sections + 2
 abbrev pub shstrtab_index : UnitValue → ℕ
 shstrtab_index unit = length unit.sections + 3
 
--- a table with no fields but these
-abbrev pub plain_table : ℕ → ℕ → List ℕ → FileSection
-plain_table name kind content = record {
-  head = record { name = name; kind = kind; flags = 0; offset = 0; size = length content; link = 0; info = 0; align = TABLE_ALIGN; entry_size = 0 };
-  content = content;
-}
+-- the header of the table of symbols
+abbrev pub symbols_head : ℕ → ℕ → UnitValue → Head
+symbols_head name size unit = record { name = name; kind = SYMTAB; flags = 0; offset = 0; size = size; link = strtab_index unit; info = first_global unit.symbols; align = TABLE_ALIGN; entry_size = SYMBOL_SIZE }
+
+-- the header of a string table
+abbrev pub strings_head : ℕ → ℕ → Head
+strings_head name size = record { name = name; kind = STRTAB; flags = 0; offset = 0; size = size; link = 0; info = 0; align = TABLE_ALIGN; entry_size = 0 }
+
+-- the header of the relocations of a section, where the table of symbols has this index
+abbrev pub relocations_head : ℕ → ℕ → ℕ → ℕ → Head
+relocations_head name size symbols section = record { name = name; kind = RELA; flags = 0; offset = 0; size = size; link = symbols; info = section + 1; align = TABLE_ALIGN; entry_size = RELOCATION_SIZE }
 
 -- `.symtab`
 unfoldable pub symtab_section : UnitValue → FileSection
-symtab_section unit = let content = symbol_table unit.symbols in record {
-  head = record {
-    name = name_at (section_names unit) (length unit.sections);
-    kind = SYMTAB;
-    flags = 0;
-    offset = 0;
-    size = length content;
-    link = strtab_index unit;
-    info = first_global unit.symbols;
-    align = TABLE_ALIGN;
-    entry_size = SYMBOL_SIZE;
-  };
-  content = content;
-}
+symtab_section unit = let content = symbol_table unit.symbols in
+    record { head = symbols_head (name_at (section_names unit) (length unit.sections)) (length content) unit; content = content }
 
 -- `.strtab`: the names of the symbols
 unfoldable pub strtab_section : UnitValue → FileSection
-strtab_section unit = plain_table (name_at (section_names unit) (length unit.sections + 1)) STRTAB (string_table (symbol_names unit.symbols))
+strtab_section unit = let content = string_table (symbol_names unit.symbols) in
+    record { head = strings_head (name_at (section_names unit) (length unit.sections + 1)) (length content); content = content }
 
 -- `.shstrtab`: the names of the sections
 unfoldable pub shstrtab_section : UnitValue → FileSection
-shstrtab_section unit = plain_table (name_at (section_names unit) (length unit.sections + 2)) STRTAB (string_table (section_names unit))
+shstrtab_section unit = let content = string_table (section_names unit) in
+    record { head = strings_head (name_at (section_names unit) (length unit.sections + 2)) (length content); content = content }
 
 -- the relocations of this index among the sections that have some
 unfoldable pub relocation_section : UnitValue → ℕ → FileSection
-relocation_section unit j = let section = slice_index_or (relocated_in unit) j 0 in let content = relocation_table unit.relocations section in record {
-  head = record {
-    name = name_at (section_names unit) (length unit.sections + 3 + j);
-    kind = RELA;
-    flags = 0;
-    offset = 0;
-    size = length content;
-    link = symtab_index unit;
-    info = section + 1;
-    align = TABLE_ALIGN;
-    entry_size = RELOCATION_SIZE;
-  };
-  content = content;
-}
+relocation_section unit j = let section = slice_index_or (relocated_in unit) j 0 in let content = relocation_table unit.relocations section in
+    record { head = relocations_head (name_at (section_names unit) (length unit.sections + 3 + j)) (length content) (symtab_index unit) section; content = content }
 
 abbrev pub table_sections : UnitValue → List FileSection
 table_sections unit = symtab_section unit ∷ strtab_section unit ∷ shstrtab_section unit ∷ []
