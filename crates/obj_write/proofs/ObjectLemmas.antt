@@ -226,3 +226,14 @@ section_small unit list j is lt =
     let m = length-map unit.sections.items section_of in
     let w = All-get_or (λ i. i < length unit.sections.items) list j 0 lt (these_within unit list is) in
     omega (arith, few, m, w)
+
+-- the sections that were found to have relocations
+pub relocated_found : {T : Type 0} (items : T → List ℕ) (unit : AsmUnit) (ts these : List T) (rs : List AsmRelocation) (count : ℕ) (list : List ℕ)
+    → rs ≡ unit.relocations.items → count ≡ unit.sections.len → map items ts ≡ each_below (relocation_table rs) count → these ≡ ts
+    → ((r : List AsmRelocation) → map items these ≡ each_below (relocation_table r) (length these) → list ≡ relocated r (length these))
+    → list ≡ relocated_in (unit_of unit)
+relocated_found items unit ts these rs count list all counted_as tables same found =
+    let n : length these ≡ count = ap length same ∙ counted items ts (relocation_table rs) count tables in
+    let m : length these ≡ length (map section_of unit.sections.items) = n ∙ (counted_as ∙ part_count unit) in
+    found unit.relocations.items (ap (map items) same ∙ (tables ∙ (ap (λ r. each_below (relocation_table r) count) all ∙ ap (each_below (relocation_table unit.relocations.items)) (sym n))))
+    ∙ ap (relocated unit.relocations.items) m
