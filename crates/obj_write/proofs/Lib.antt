@@ -3,3 +3,4 @@ pub mod TableLemmas
 pub mod SymbolLemmas
 pub mod RelocationLemmas
 pub mod ObjectLemmas
+pub mod ReadLemmas

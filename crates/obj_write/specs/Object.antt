@@ -7,7 +7,7 @@ use Rattle.asm_text.specs.Parts.{SectionValue, UnitValue}
 use Rattle.obj_write.specs.declared.sections.Head.{Head}
 use Rattle.obj_write.specs.declared.sections.TheConstants.{FILE_HEADER_SIZE, SECTION_HEADER_SIZE}
 use Rattle.obj_write.specs.declared.symbols.TheConstants.{SYMBOL_SIZE}
-use Rattle.obj_write.specs.declared.object.TheConstants.{NULL, PROGBITS, SYMTAB, STRTAB, RELA, NOBITS, WRITE_ALLOC, ALLOC_EXECUTE, SECTION_ALIGN, TABLE_ALIGN, RELOCATION_SIZE, RELOCATABLE, MSP430}
+use Rattle.obj_write.specs.declared.object.TheConstants.{PROGBITS, SYMTAB, STRTAB, RELA, NOBITS, WRITE_ALLOC, ALLOC_EXECUTE, SECTION_ALIGN, TABLE_ALIGN, RELOCATION_SIZE, RELOCATABLE, MSP430}
 use Rattle.obj_write.specs.Bytes.{half_bytes, word_bytes, zeros}
 use Rattle.obj_write.specs.Strings.{string_table, name_at}
 use Rattle.obj_write.specs.Sections.{FileSection, contents_of, header_table}

@@ -2,6 +2,7 @@
 #![tactic(auto)]
 
 mod bytes;
+mod laws;
 mod object;
 mod relocations;
 mod sections;
@@ -10,5 +11,3 @@ mod symbols;
 
 pub use object::write_object;
 
-#[cfg(test)]
-mod tests;

@@ -18,8 +18,6 @@ use crate::symbols::{SYMBOL_SIZE, first_global, name_table, symbol_table};
 use asm_text::{AsmSection, AsmUnit, SectionKind};
 use std::alloc::{AllocError, Global};
 
-/// SHT_NULL.
-pub const NULL: usize = 0;
 /// SHT_PROGBITS.
 pub const PROGBITS: usize = 1;
 /// SHT_SYMTAB.

@@ -1,0 +1,15 @@
+//! What the object reader makes of a written object.
+
+ghost use Rattle.std.specs.Prelude.{◌≡◌, None};
+ghost use Rattle.elf_objects.specs.Object.{elf_fault_of};
+ghost use Rattle.asm_text.specs.Unit.{unit_of};
+ghost use Rattle.obj_write.specs.Object.{object_of};
+
+use asm_text::AsmUnit;
+
+/// It does nothing. It tells a proof that the object reader refuses no written object.
+pub fn is_sound(unit: &AsmUnit)
+    ensures sound { elf_fault_of (object_of (unit_of unit.now)) ≡ None }
+{
+    let _sections = unit.sections.as_slice();
+}

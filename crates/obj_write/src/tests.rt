@@ -1,1 +1,0 @@
-//! A written object, byte by byte.
