@@ -4,3 +4,8 @@ pub mod SymbolLemmas
 pub mod RelocationLemmas
 pub mod ObjectLemmas
 pub mod ReadLemmas
+pub mod FileLemmas
+pub mod SizeLemmas
+pub mod NameLemmas
+pub mod UnitLemmas
+pub mod HeaderLemmas

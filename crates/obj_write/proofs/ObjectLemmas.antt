@@ -61,7 +61,7 @@ relocated_few rs (suc n) =
 
 -- ---- how many names
 
-length_names : (unit : UnitValue) → length (section_names unit) ≡ length unit.sections + (3 + length (relocated_in unit))
+pub length_names : (unit : UnitValue) → length (section_names unit) ≡ length unit.sections + (3 + length (relocated_in unit))
 unfolding section_names
 length_names unit =
     let a = length-append (part_names unit.sections) (table_names ++ map (relocation_name unit.sections) (relocated_in unit)) in

@@ -90,7 +90,7 @@ tables_stored items rs i count d r old was table lt is within so_far there grown
 
 -- ---- the sections that have some
 
-length_entry : (r : AsmRelocation) → length (relocation_entry r) ≡ 12
+pub length_entry : (r : AsmRelocation) → length (relocation_entry r) ≡ 12
 unfolding relocation_entry
 length_entry r = refl
 
