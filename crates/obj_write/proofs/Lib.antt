@@ -9,3 +9,4 @@ pub mod SizeLemmas
 pub mod NameLemmas
 pub mod UnitLemmas
 pub mod HeaderLemmas
+pub mod FaultLemmas

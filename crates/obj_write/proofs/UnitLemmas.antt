@@ -115,7 +115,7 @@ name_few unit is k =
     let c = length-take k (section_names unit) in
     omega (arith, a, b, c)
 
-few_tables : (unit : UnitValue) → IsUnit unit → length (flat_map (λ (s : FileSection). padded s.content) (table_sections unit)) ≤ 84970732
+few_tables : (unit : UnitValue) → IsUnit unit → length (flat_map (λ (s : FileSection). padded s.content) (table_sections unit)) ≤ 84970733
 few_tables unit is =
     let a : List ℕ = padded (symtab_section unit).content in
     let b : List ℕ = padded (strtab_section unit).content in
