@@ -19,7 +19,7 @@ use Rattle.obj_write.specs.Strings.{string_table, name_at}
 use Rattle.obj_write.specs.Sections.{FileSection, no_section, content_at, head_of}
 use Rattle.obj_write.specs.Symbols.{symbol_names, symbol_table, first_global}
 use Rattle.obj_write.specs.Relocations.{relocation_table, relocations_in}
-use Rattle.obj_write.specs.Object.{no_part, kind_of, flags_of, part_head, symtab_index, strtab_index, relocated_in, section_names, part_section, symtab_section, strtab_section, shstrtab_section, relocation_section, file_sections, shstrtab_index, object_of}
+use Rattle.obj_write.specs.Object.{no_part, kind_of, flags_of, part_head, strings_head, symtab_index, strtab_index, relocated_in, section_names, part_section, symtab_section, strtab_section, shstrtab_section, relocation_section, file_sections, shstrtab_index, object_of}
 use Rattle.obj_write.proofs.ReadLemmas.{Stands, header}
 use Rattle.obj_write.proofs.FileLemmas.{IsLaid, nothing_below, no_head}
 use Rattle.obj_write.proofs.ObjectLemmas.{length_names}
@@ -156,12 +156,13 @@ names_content : (unit : UnitValue) → IsUnit unit → content (object_of unit) 
 names_content unit is =
     let file : List ℕ = object_of unit in
     let k : ℕ = length unit.sections + 2 in
+    let h : Header = header (record (strings_head (name_at (section_names unit) (length unit.sections + 2)) (length (string_table (section_names unit)))) { offset = content_at (file_sections unit) k }) in
     let n = length_sections unit in
     let stands = content_stands (file_sections unit) (shstrtab_index unit) file k (unit_laid unit is) (omega (arith, n)) in
     let same : (get_or (file_sections unit) k no_section).content ≡ string_table (section_names unit) = ap (λ (t : FileSection). t.content) (shstrtab_at unit) ∙ (shstrtab_parts unit).1 in
     ap (λ i. content file (header_of file i)) (names_at unit is)
     ∙ (ap (content file) (shstrtab_read unit is)
-    ∙ content_read file _ (string_table (section_names unit)) refl (subst (λ (l : List ℕ). Stands file (content_at (file_sections unit) k) l) same stands))
+    ∙ content_read file h (string_table (section_names unit)) refl (subst (λ (l : List ℕ). Stands file (content_at (file_sections unit) k) l) same stands))
 
 name_by : (unit : UnitValue) → IsUnit unit → (i at end : ℕ) → (header_of (object_of unit) i).name ≡ at → end_in (string_table (section_names unit)) at ≡ Some end → name_fault (object_of unit) i ≡ None
 unfolding name_fault name_end

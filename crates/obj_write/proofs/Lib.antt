@@ -10,3 +10,4 @@ pub mod NameLemmas
 pub mod UnitLemmas
 pub mod HeaderLemmas
 pub mod FaultLemmas
+pub mod LinkLemmas
