@@ -11,3 +11,4 @@ pub mod UnitLemmas
 pub mod HeaderLemmas
 pub mod FaultLemmas
 pub mod LinkLemmas
+pub mod EntryLemmas

@@ -119,7 +119,7 @@ filter_few p (r ∷ rs) = by (p r) (filter_few p rs) where
   by true le = omega arith
   by false le = omega arith
 
-entries_length : (rs : List AsmRelocation) → length (flat_map relocation_entry rs) ≡ 12 * length rs
+pub entries_length : (rs : List AsmRelocation) → length (flat_map relocation_entry rs) ≡ 12 * length rs
 entries_length [] = refl
 entries_length (r ∷ rs) =
     let a = length-append (relocation_entry r) (flat_map relocation_entry rs) in

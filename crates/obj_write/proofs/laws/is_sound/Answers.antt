@@ -1,6 +1,6 @@
-use Rattle.obj_write.proofs.FaultLemmas.{no_section_faults}
-use Rattle.obj_write.proofs.LinkLemmas.{no_link_faults}
+use Rattle.asm_text.specs.Unit.{unit_of}
+use Rattle.obj_write.proofs.EntryLemmas.{no_fault}
 use Rattle.obj_write.proofs.laws.is_sound.Goals as goal
 
 pub returns : goal.returns
-returns c = ?
+returns c = record { sound = no_fault (unit_of c.args.unit.now) c.args.unit.now.sound }
