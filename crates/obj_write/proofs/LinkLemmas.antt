@@ -26,23 +26,23 @@ use Rattle.obj_write.proofs.FaultLemmas.{every_index, names_at}
 
 -- ---- tests
 
-same_index : (a b : ℕ) → a ≡ b → eqb a b ≡ true
+pub same_index : (a b : ℕ) → a ≡ b → eqb a b ≡ true
 same_index a b e = grind (arith, nat_tests)
 
-other_index : (a b : ℕ) → a < b → eqb a b ≡ false
+pub other_index : (a b : ℕ) → a < b → eqb a b ≡ false
 other_index a b lt = grind (arith, nat_tests)
 
 above : (a b : ℕ) → b < a → eqb a b ≡ false
 above a b lt = grind (arith, nat_tests)
 
-below : (a b : ℕ) → a < b → ltb a b ≡ true
+pub below : (a b : ℕ) → a < b → ltb a b ≡ true
 below a b lt = grind (arith, nat_tests)
 
-and_false : (x b : Bool) → b ≡ false → (x && b) ≡ false
+pub and_false : (x b : Bool) → b ≡ false → (x && b) ≡ false
 and_false true b e = e
 and_false false b e = refl
 
-false_and : (b x : Bool) → b ≡ false → (b && x) ≡ false
+pub false_and : (b x : Bool) → b ≡ false → (b && x) ≡ false
 false_and b x e = rw e refl
 
 four_false : (a b c d : Bool) (f : ElfFault) → a ≡ false → b ≡ false → c ≡ false → d ≡ false → refuse_if (a || b || c || d) f ≡ None
@@ -170,7 +170,7 @@ names_link unit is =
     let within = below (name_table file) (section_count file) (omega (arith, n, e)) in
     ap (λ b. refuse_if (not b) (fault.Link (name_table file))) within
 
-both_none : {A : Type 0} (a b : Option A) → a ≡ None → b ≡ None → or_else a b ≡ None
+pub both_none : {A : Type 0} (a b : Option A) → a ≡ None → b ≡ None → or_else a b ≡ None
 both_none a b p q = rw p q
 
 pub no_link_faults : (unit : UnitValue) → IsUnit unit → link_faults (object_of unit) ≡ None
