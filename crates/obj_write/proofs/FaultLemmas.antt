@@ -152,7 +152,7 @@ no_rel_faults unit is =
 pub names_at : (unit : UnitValue) → IsUnit unit → name_table (object_of unit) ≡ suc (length unit.sections + 2)
 names_at unit is = let l = unit_laid unit is in let e = l.strings in omega (arith, e)
 
-names_content : (unit : UnitValue) → IsUnit unit → content (object_of unit) (header_of (object_of unit) (name_table (object_of unit))) ≡ string_table (section_names unit)
+pub names_content : (unit : UnitValue) → IsUnit unit → content (object_of unit) (header_of (object_of unit) (name_table (object_of unit))) ≡ string_table (section_names unit)
 names_content unit is =
     let file : List ℕ = object_of unit in
     let k : ℕ = length unit.sections + 2 in

@@ -12,3 +12,4 @@ pub mod HeaderLemmas
 pub mod FaultLemmas
 pub mod LinkLemmas
 pub mod EntryLemmas
+pub mod ReaderLemmas

@@ -4,3 +4,4 @@ pub mod Sections
 pub mod Symbols
 pub mod Relocations
 pub mod Object
+pub mod Reader
