@@ -29,7 +29,8 @@ use Rattle.obj_write.specs.Symbols.{no_symbol, info_of, home_index, symbol_entry
 use Rattle.obj_write.specs.Symbols as own
 use Rattle.obj_write.specs.Relocations.{relocation_entry, relocation_table, relocations_in}
 use Rattle.obj_write.specs.Object.{no_part, kind_of, symbols_head, strings_head, relocations_head, symtab_index, strtab_index, shstrtab_index, relocated_in, section_names, file_sections, object_of}
-use Rattle.obj_write.proofs.ReadLemmas.{Stands, stands_left, stands_right, stands_below, stands_each, length_below, word_read, half_read, byte_read, header}
+use Rattle.obj_write.specs.Reader.{no_relocation}
+use Rattle.obj_write.proofs.ReadLemmas.{Stands, stands_left, stands_right, stands_below, stands_each, length_below, word_read, word_low, half_read, byte_read, header}
 use Rattle.obj_write.proofs.FileLemmas.{IsLaid, nothing_below, no_head}
 use Rattle.obj_write.proofs.SizeLemmas.{length_sections, symtab_at, strtab_at, relocations_at, length_relocations, length_symbols, length_symbol_at, entries_length}
 use Rattle.obj_write.proofs.NameLemmas.{name_ends, content_read, symbol_strings}
@@ -61,7 +62,7 @@ symbols_stand unit is =
     subst (λ (l : List ℕ). Stands (object_of unit) (content_at (file_sections unit) k) l) same
     (content_stands (file_sections unit) (shstrtab_index unit) (object_of unit) k (unit_laid unit is) (omega (arith, n)))
 
-strings_stand : (unit : UnitValue) → IsUnit unit → Stands (object_of unit) (strings_read unit).offset (string_table (symbol_names unit.symbols))
+pub strings_stand : (unit : UnitValue) → IsUnit unit → Stands (object_of unit) (strings_read unit).offset (string_table (symbol_names unit.symbols))
 strings_stand unit is =
     let k : ℕ = length unit.sections + 1 in
     let n = length_sections unit in
@@ -74,7 +75,7 @@ strings_header unit is =
     let there : length unit.sections + 2 ≡ suc (length unit.sections + 1) = omega arith in
     ap (header_of (object_of unit)) there ∙ strtab_read unit is
 
-strings_content : (unit : UnitValue) → IsUnit unit → content (object_of unit) (strings_of (object_of unit) (symbols_read unit)) ≡ string_table (symbol_names unit.symbols)
+pub strings_content : (unit : UnitValue) → IsUnit unit → content (object_of unit) (strings_of (object_of unit) (symbols_read unit)) ≡ string_table (symbol_names unit.symbols)
 strings_content unit is =
     ap (content (object_of unit)) (strings_header unit is) ∙ content_read (object_of unit) (strings_read unit) (string_table (symbol_names unit.symbols)) refl (strings_stand unit is)
 
@@ -89,16 +90,18 @@ entry_stands_by file at symbols k lt s =
     let e : at + 16 + length (all_below f k) ≡ at + 16 * suc k = omega (arith, n) in
     subst (λ (m : ℕ). Stands file m (symbol_entry_at symbols k)) e (stands_below file (at + 16) f (length symbols) k lt r)
 
-entry_stands : (unit : UnitValue) → IsUnit unit → (k : ℕ) → k < length unit.symbols → Stands (object_of unit) ((symbols_read unit).offset + 16 * suc k) (symbol_entry_at unit.symbols k)
+pub entry_stands : (unit : UnitValue) → IsUnit unit → (k : ℕ) → k < length unit.symbols → Stands (object_of unit) ((symbols_read unit).offset + 16 * suc k) (symbol_entry_at unit.symbols k)
 entry_stands unit is k lt = entry_stands_by (object_of unit) (symbols_read unit).offset unit.symbols k lt (symbols_stand unit is)
 
--- the fields of an entry that are looked at, but for the value
+-- the fields of an entry that are looked at
 pub record IsEntry (name : ℕ) (s : SymbolValue) (e : Entry) : Type 0 where
   pub name_is : e.name ≡ name
+  pub value : e.value ≡ s.value % 2 ^ 32
+  pub size : e.size ≡ 0
   pub binding : e.binding ≡ info_of s.global / 16
   pub section : e.section ≡ home_index s.home
 
-entry_read : (file : List ℕ) (table : Header) (index name : ℕ) (s : SymbolValue) → name < 2 ^ 32 → home_index s.home < 2 ^ 16 → Stands file (table.offset + 16 * index) (symbol_entry name s) → IsEntry name s (entry_of file table index)
+pub entry_read : (file : List ℕ) (table : Header) (index name : ℕ) (s : SymbolValue) → name < 2 ^ 32 → home_index s.home < 2 ^ 16 → Stands file (table.offset + 16 * index) (symbol_entry name s) → IsEntry name s (entry_of file table index)
 unfolding entry_of symbol_entry
 entry_read file table index name s small home stands =
     let at : ℕ = table.offset + 16 * index in
@@ -111,11 +114,13 @@ entry_read file table index name s small home stands =
     let s₄ = stands_right file (at + 12) (at + 14) (info_of s.global ∷ (0 ∷ [])) (half_bytes (home_index s.home)) (omega arith) s₃ in
     record {
       name_is = word_read file at name small (stands_left file at (word_bytes name) t₁ stands);
+      value = word_low file (at + 4) s.value (stands_left file (at + 4) (word_bytes s.value) t₂ s₁);
+      size = word_read file (at + 8) 0 (omega arith) (stands_left file (at + 8) (word_bytes 0) t₃ s₂);
       binding = ap (λ n. n / 16) (byte_read file (at + 12) (info_of s.global) (0 ∷ half_bytes (home_index s.home)) s₃);
       section = half_read file (at + 14) (home_index s.home) home s₄;
     }
 
-home_few : (sections : ℕ) (o : Option ℕ) → sections ≤ 256 → ((k : ℕ) → o ≡ Some k → k < sections) → home_index o ≤ sections
+pub home_few : (sections : ℕ) (o : Option ℕ) → sections ≤ 256 → ((k : ℕ) → o ≡ Some k → k < sections) → home_index o ≤ sections
 home_few sections None few within = omega arith
 home_few sections (Some k) few within = let lt = within k refl in omega (arith, lt)
 
@@ -126,7 +131,7 @@ bindings false = refl
 four_false : (a b c d : Bool) → a ≡ false → b ≡ false → c ≡ false → d ≡ false → (a || b || c || d) ≡ false
 four_false a b c d p q r s = rw (p, q, r, s) refl
 
-symbol_name_few : (unit : UnitValue) (k : ℕ) → name_at (symbol_names unit.symbols) k ≤ length (string_table (symbol_names unit.symbols))
+pub symbol_name_few : (unit : UnitValue) (k : ℕ) → name_at (symbol_names unit.symbols) k ≤ length (string_table (symbol_names unit.symbols))
 unfolding name_at string_table
 symbol_name_few unit k =
     let names : List (List ℕ) = symbol_names unit.symbols in
@@ -135,8 +140,21 @@ symbol_name_few unit k =
     let b = length-append (flat_map terminated (take k names)) (flat_map terminated (drop k names)) in
     omega (arith, e, a, b)
 
+-- the entry of a symbol of the unit
+pub entry_given : (unit : UnitValue) → IsUnit unit → (k : ℕ) → k < length unit.symbols
+    → IsEntry (name_at (symbol_names unit.symbols) k) (get_or unit.symbols k no_symbol) (entry_of (object_of unit) (symbols_read unit) (suc k))
+unfolding symbol_entry_at
+entry_given unit is k lt =
+    let s : SymbolValue = get_or unit.symbols k no_symbol in
+    let h = All-get_or (IsSymbol (length unit.sections)) unit.symbols k no_symbol lt is.symbols_kept in
+    let home = home_few (length unit.sections) s.home is.few_sections h.home in
+    let few = is.few_sections in
+    let name = symbol_name_few unit k in
+    let strings = symbol_names_few unit is in
+    entry_read (object_of unit) (symbols_read unit) (suc k) (name_at (symbol_names unit.symbols) k) s (omega (arith, name, strings)) (omega (arith, home, few)) (entry_stands unit is k lt)
+
 symbol_by : (unit : UnitValue) → IsUnit unit → (k : ℕ) → k < length unit.symbols → symbol_fault (object_of unit) (symbols_read unit) (suc k) ≡ None
-unfolding symbol_fault symbol_entry_at name_end
+unfolding symbol_fault name_end
 symbol_by unit is k lt =
     let file : List ℕ = object_of unit in
     let table : Header = symbols_read unit in
@@ -145,9 +163,7 @@ symbol_by unit is k lt =
     let h = All-get_or (IsSymbol (length unit.sections)) unit.symbols k no_symbol lt is.symbols_kept in
     let home = home_few (length unit.sections) s.home is.few_sections h.home in
     let few = is.few_sections in
-    let name = symbol_name_few unit k in
-    let strings = symbol_names_few unit is in
-    let e = entry_read file table (suc k) (name_at names k) s (omega (arith, name, strings)) (omega (arith, home, few)) (entry_stands unit is k lt) in
+    let e = entry_given unit is k lt in
     let counted : length names ≡ length unit.symbols = length-map unit.symbols (λ (t : SymbolValue). t.name) in
     let entry : Entry = entry_of file table (suc k) in
     let ends : is_none (end_in (content file (strings_of file table)) entry.name) ≡ false
@@ -178,7 +194,7 @@ no_symbol_faults unit is =
 abbrev pub relocations_head_read : UnitValue → ℕ → Header
 relocations_head_read unit j = header (record (relocations_head (name_at (section_names unit) (length unit.sections + 3 + j)) (length (relocation_table unit.relocations (target_of unit j))) (symtab_index unit) (target_of unit j)) { offset = content_at (file_sections unit) (length unit.sections + (3 + j)) })
 
-relocations_stand : (unit : UnitValue) → IsUnit unit → (j : ℕ) → j < length (relocated_in unit) → Stands (object_of unit) (relocations_head_read unit j).offset (relocation_table unit.relocations (target_of unit j))
+pub relocations_stand : (unit : UnitValue) → IsUnit unit → (j : ℕ) → j < length (relocated_in unit) → Stands (object_of unit) (relocations_head_read unit j).offset (relocation_table unit.relocations (target_of unit j))
 relocations_stand unit is j lt =
     let k : ℕ = length unit.sections + (3 + j) in
     let n = length_sections unit in
@@ -186,10 +202,8 @@ relocations_stand unit is j lt =
     subst (λ (l : List ℕ). Stands (object_of unit) (content_at (file_sections unit) k) l) same
     (content_stands (file_sections unit) (shstrtab_index unit) (object_of unit) k (unit_laid unit is) (omega (arith, n)))
 
-abbrev no_relocation : AsmRelocation
-no_relocation = record { section = 0; offset = 0; symbol = 0 }
 
-relocation_stands : (file : List ℕ) (at : ℕ) (rs : List AsmRelocation) (section e : ℕ) → e < length (relocations_in rs section) → Stands file at (relocation_table rs section)
+pub relocation_stands : (file : List ℕ) (at : ℕ) (rs : List AsmRelocation) (section e : ℕ) → e < length (relocations_in rs section) → Stands file at (relocation_table rs section)
     → Stands file (at + 12 * e) (relocation_entry (get_or (relocations_in rs section) e no_relocation))
 unfolding relocation_table
 relocation_stands file at rs section e lt s =
@@ -199,7 +213,7 @@ relocation_stands file at rs section e lt s =
     let at_entry : at + length (flat_map relocation_entry (take e list)) ≡ at + 12 * e = omega (arith, n, m) in
     subst (λ (k : ℕ). Stands file k (relocation_entry (get_or list e no_relocation))) at_entry (stands_each file at relocation_entry list e no_relocation lt s)
 
-info_read : (file : List ℕ) (at : ℕ) (r : AsmRelocation) → r.symbol < 1048576 → Stands file at (relocation_entry r) → word_at file (at + 4) ≡ (r.symbol + 1) * 256 + 5
+pub info_read : (file : List ℕ) (at : ℕ) (r : AsmRelocation) → r.symbol < 1048576 → Stands file at (relocation_entry r) → word_at file (at + 4) ≡ (r.symbol + 1) * 256 + 5
 unfolding relocation_entry
 info_read file at r few s =
     let info : ℕ = (r.symbol + 1) * 256 + 5 in

@@ -13,3 +13,4 @@ pub mod FaultLemmas
 pub mod LinkLemmas
 pub mod EntryLemmas
 pub mod ReaderLemmas
+pub mod GivenLemmas

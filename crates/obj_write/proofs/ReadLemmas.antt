@@ -1,5 +1,5 @@
 -- Bytes that stand at a place of a file, and what is read there.
-use Rattle.std.proofs.Common.{◌≡◌, ℕ, zero, suc, ◌+◌, ◌*◌, ◌<◌, ◌≤◌, ◌^◌, List, [], ◌∷◌, ◌++◌, refl, ap, sym, subst, ◌∙◌, arith, append_assoc, length, take, drop, get_or, length-append, Bool, true, false, cond, ltb, slice_index, ◌⊎◌, inl, inr}
+use Rattle.std.proofs.Common.{◌≡◌, ℕ, zero, suc, ◌+◌, ◌*◌, ◌/◌, ◌%◌, ◌<◌, ◌≤◌, ◌^◌, List, [], ◌∷◌, ◌++◌, refl, ap, sym, subst, ◌∙◌, arith, append_assoc, length, take, drop, get_or, length-append, Bool, true, false, cond, ltb, slice_index, ◌⊎◌, inl, inr}
 use Rattle.std.specs.List.{flat_map}
 use Rattle.std.proofs.lemmas.Bool.{cases_lt}
 use Rattle.std.proofs.lemmas.Bool.Decides.{nat_tests}
@@ -55,6 +55,19 @@ word_read file at n small s =
     let w : at + 4 ≤ length file = stands_within file at (word_bytes n) s in
     unless (ltb (length file) (at + 4)) (little_number 4 (drop at file)) (grind (arith, nat_tests))
     ∙ (ap (little_number 4) (stands_drop file at (word_bytes n) s) ∙ little_number-reads_back 4 n s.rest small)
+
+four_bytes : (a b c d a' b' c' d' : ℕ) → a ≡ a' → b ≡ b' → c ≡ c' → d ≡ d' → let x : List ℕ = a ∷ (b ∷ (c ∷ (d ∷ []))) in let y : List ℕ = a' ∷ (b' ∷ (c' ∷ (d' ∷ []))) in x ≡ y
+four_bytes a b c d a' b' c' d' p q r s = rw (p, q, r, s) refl
+
+-- only the low 32 bits are written
+word_bytes_low : (n : ℕ) → word_bytes n ≡ word_bytes (n % 4294967296)
+word_bytes_low n =
+    let m : ℕ = n % 4294967296 in
+    four_bytes (n % 256) (n / 256 % 256) (n / 65536 % 256) (n / 16777216 % 256) (m % 256) (m / 256 % 256) (m / 65536 % 256) (m / 16777216 % 256)
+    (omega arith) (omega arith) (omega arith) (omega arith)
+
+pub word_low : (file : List ℕ) (at n : ℕ) → Stands file at (word_bytes n) → word_at file at ≡ n % 2 ^ 32
+word_low file at n s = word_read file at (n % 4294967296) (omega arith) (subst (Stands file at) (word_bytes_low n) s)
 
 pub half_read : (file : List ℕ) (at n : ℕ) → n < 2 ^ 16 → Stands file at (half_bytes n) → half_at file at ≡ n
 unfolding half_at
