@@ -1,20 +1,18 @@
 -- The entries of the tables of symbols and relocations of a unit's file, as they are read.
-use Rattle.std.proofs.Common.{◌≡◌, ℕ, zero, suc, ◌+◌, ◌*◌, ◌/◌, ◌%◌, ◌<◌, ◌≤◌, ◌^◌, List, [], ◌∷◌, ◌++◌, map, refl, ap, sym, subst, ◌∙◌, arith, length, take, drop, get_or, length-append, Bool, true, false, not, cond, ltb, eqb, slice_index, ◌&&◌, ◌||◌, Option, Some, None, is_none}
-use Rattle.std.specs.List.{flat_map, filter, All}
-use Rattle.std.proofs.lemmas.Bool.Decides.{nat_tests}
-use Rattle.std.proofs.lemmas.List.{length-map, length-take, get_or-map, take-append-drop}
+use Rattle.std.proofs.Common.{◌≡◌, ℕ, zero, suc, ◌+◌, ◌*◌, ◌/◌, ◌%◌, ◌<◌, ◌≤◌, ◌^◌, List, [], ◌∷◌, ◌++◌, refl, ap, subst, ◌∙◌, arith, length, take, drop, get_or, length-append, Bool, true, false, not, cond, ltb, eqb, ◌&&◌, ◌||◌, Option, Some, None, is_none}
+use Rattle.std.specs.List.{flat_map}
+use Rattle.std.proofs.lemmas.List.{length-map, length-take, take-append-drop}
 use Rattle.std.proofs.lemmas.List.Concat.{flat_map-append}
 use Rattle.std.proofs.lemmas.List.Elements.{All-get_or, All-filter}
-use Rattle.elf_objects.specs.declared.fault.ElfFault.{ElfFault}
 use Rattle.elf_objects.specs.declared.fault.ElfFault.TheVariants as fault
-use Rattle.elf_objects.specs.Bytes.{half_at, word_at}
-use Rattle.elf_objects.specs.Passes.{all_below, refuse_if, first_below, first_of, or_else}
+use Rattle.elf_objects.specs.Bytes.{word_at}
+use Rattle.elf_objects.specs.Passes.{all_below, refuse_if, first_below, or_else}
 use Rattle.elf_objects.specs.declared.section.Header.{Header}
 use Rattle.elf_objects.specs.declared.symbol.Entry.{Entry}
 use Rattle.elf_objects.specs.Header.{section_count, header_fault, table_fault}
-use Rattle.elf_objects.specs.Section.{header_of, content, is_alignment, is_loaded_header, symbol_table, is_kept_table}
+use Rattle.elf_objects.specs.Section.{header_of, content, is_alignment, is_loaded_header, is_kept_table}
 use Rattle.elf_objects.specs.Names.{end_in, name_end}
-use Rattle.elf_objects.specs.Symbol.{entry_of, count_in, strings_of, is_bad_common, is_bad_home, is_bad_symbol, symbol_fault, header_at, symbols_header, count_of, faults_in, symbol_faults}
+use Rattle.elf_objects.specs.Symbol.{entry_of, count_in, strings_of, is_bad_common, is_bad_home, symbol_fault, header_at, symbols_header, count_of, faults_in, symbol_faults}
 use Rattle.elf_objects.specs.Relocation.{relocation_of, entry_fault, relocation_fault, relocation_faults}
 use Rattle.elf_objects.specs.Object.{contents_fault, elf_fault_of}
 use Rattle.asm_text.specs.declared.unit.SectionKind.{SectionKind}
@@ -22,22 +20,22 @@ use Rattle.asm_text.specs.declared.unit.SectionKind.TheVariants.{Code, Data, Bss
 use Rattle.asm_text.specs.declared.unit.AsmRelocation.{AsmRelocation}
 use Rattle.asm_text.specs.Parts.{SymbolValue, UnitValue, IsUnit, IsSymbol, IsRelocation}
 use Rattle.obj_write.specs.declared.symbols.TheConstants.{SYMBOL_SIZE}
-use Rattle.obj_write.specs.Bytes.{half_bytes, word_bytes, words_bytes, zeros}
+use Rattle.obj_write.specs.Bytes.{half_bytes, word_bytes, zeros}
 use Rattle.obj_write.specs.Strings.{terminated, string_table, name_at}
 use Rattle.obj_write.specs.Sections.{FileSection, no_section, content_at}
 use Rattle.obj_write.specs.Symbols.{no_symbol, info_of, home_index, symbol_entry, symbol_entry_at, symbol_names}
 use Rattle.obj_write.specs.Symbols as own
 use Rattle.obj_write.specs.Relocations.{relocation_entry, relocation_table, relocations_in}
-use Rattle.obj_write.specs.Object.{no_part, kind_of, symbols_head, strings_head, relocations_head, symtab_index, strtab_index, shstrtab_index, relocated_in, section_names, file_sections, object_of}
+use Rattle.obj_write.specs.Object.{no_part, kind_of, symbols_head, strings_head, relocations_head, symtab_index, shstrtab_index, relocated_in, section_names, file_sections, object_of}
 use Rattle.obj_write.specs.Reader.{no_relocation}
 use Rattle.obj_write.proofs.ReadLemmas.{Stands, stands_left, stands_right, stands_below, stands_each, length_below, word_read, word_low, half_read, byte_read, header}
-use Rattle.obj_write.proofs.FileLemmas.{IsLaid, nothing_below, no_head}
+use Rattle.obj_write.proofs.FileLemmas.{nothing_below, no_head}
 use Rattle.obj_write.proofs.SizeLemmas.{length_sections, symtab_at, strtab_at, relocations_at, length_relocations, length_symbols, length_symbol_at, entries_length}
 use Rattle.obj_write.proofs.NameLemmas.{name_ends, content_read, symbol_strings}
 use Rattle.obj_write.proofs.UnitLemmas.{symtab_parts, strtab_parts, target_of, relocation_parts, symbol_names_few}
-use Rattle.obj_write.proofs.HeaderLemmas.{content_stands, unit_laid, counted_sections, zero_header, part_read, symtab_read, strtab_read, shstrtab_read, relocations_read, target_within}
+use Rattle.obj_write.proofs.HeaderLemmas.{content_stands, unit_laid, counted_sections, zero_header, part_read, symtab_read, strtab_read, shstrtab_read, relocations_read}
 use Rattle.obj_write.proofs.FaultLemmas.{every_index, no_section_faults, no_compressed_faults, no_rel_faults, no_name_faults}
-use Rattle.obj_write.proofs.LinkLemmas.{first_table, no_link_faults, both_none, same_index, other_index, below, false_and}
+use Rattle.obj_write.proofs.LinkLemmas.{first_table, no_link_faults, both_none, other_index, below, false_and}
 
 -- ---- the table of symbols
 
@@ -202,7 +200,6 @@ relocations_stand unit is j lt =
     subst (λ (l : List ℕ). Stands (object_of unit) (content_at (file_sections unit) k) l) same
     (content_stands (file_sections unit) (shstrtab_index unit) (object_of unit) k (unit_laid unit is) (omega (arith, n)))
 
-
 pub relocation_stands : (file : List ℕ) (at : ℕ) (rs : List AsmRelocation) (section e : ℕ) → e < length (relocations_in rs section) → Stands file at (relocation_table rs section)
     → Stands file (at + 12 * e) (relocation_entry (get_or (relocations_in rs section) e no_relocation))
 unfolding relocation_table
@@ -233,7 +230,7 @@ relocation_entry_by unit is j i symbols lt count e within =
     let inside : e < length list = omega (arith, n) in
     let r : AsmRelocation = get_or list e no_relocation in
     let kept = All-get_or (IsRelocation (length unit.sections) (length unit.symbols)) list e no_relocation inside
-        (All-filter (λ (q : AsmRelocation). eqb q.section target) (IsRelocation (length unit.sections) (length unit.symbols)) unit.relocations is.relocations_kept) in
+    (All-filter (λ (q : AsmRelocation). eqb q.section target) (IsRelocation (length unit.sections) (length unit.symbols)) unit.relocations is.relocations_kept) in
     let symbol = kept.symbol in
     let few = is.few_symbols in
     let info = info_read file at r (omega (arith, symbol, few)) (relocation_stands file (relocations_head_read unit j).offset unit.relocations target e inside (relocations_stand unit is j lt)) in
@@ -251,9 +248,9 @@ unfolding relocation_fault
 kept_by file symbols i h e each =
     ap (λ (x : Header). cond (is_kept_table file x) (first_below (entry_fault file symbols i x) (x.size / 12)) None) e
     ∙ by (is_kept_table file h) (nothing_below (entry_fault file symbols i h) (h.size / 12) each) where
-  by : (b : Bool) → first_below (entry_fault file symbols i h) (h.size / 12) ≡ None → cond b (first_below (entry_fault file symbols i h) (h.size / 12)) None ≡ None
-  by true none = none
-  by false none = refl
+      by : (b : Bool) → first_below (entry_fault file symbols i h) (h.size / 12) ≡ None → cond b (first_below (entry_fault file symbols i h) (h.size / 12)) None ≡ None
+      by true none = none
+      by false none = refl
 
 part_kind : (K : SectionKind) → eqb (kind_of K) 4 ≡ false
 part_kind Code = refl
@@ -292,6 +289,6 @@ no_fault unit is =
     let l = unit_laid unit is in
     both_none (header_fault (object_of unit)) (cond (eqb (section_count (object_of unit)) 0) None (or_else (table_fault (object_of unit)) (contents_fault (object_of unit)))) l.header_none
     (by (eqb (section_count (object_of unit)) 0) (both_none (table_fault (object_of unit)) (contents_fault (object_of unit)) l.table_none (no_contents_fault unit is))) where
-  by : (b : Bool) → or_else (table_fault (object_of unit)) (contents_fault (object_of unit)) ≡ None → cond b None (or_else (table_fault (object_of unit)) (contents_fault (object_of unit))) ≡ None
-  by true e = refl
-  by false e = e
+      by : (b : Bool) → or_else (table_fault (object_of unit)) (contents_fault (object_of unit)) ≡ None → cond b None (or_else (table_fault (object_of unit)) (contents_fault (object_of unit))) ≡ None
+      by true e = refl
+      by false e = e

@@ -1,32 +1,29 @@
 -- The faults that the sections of a unit's file do not have: those of sections, links, names and flags.
-use Rattle.std.proofs.Common.{◌≡◌, ℕ, zero, suc, ◌+◌, ◌*◌, ◌/◌, ◌%◌, ◌<◌, ◌≤◌, ◌^◌, List, [], ◌∷◌, ◌++◌, refl, ap, sym, subst, ◌∙◌, arith, length, take, drop, get_or, length-append, Bool, true, false, not, cond, ltb, eqb, ◌&&◌, ◌||◌, Option, Some, None, is_none}
-use Rattle.std.specs.List.{All}
+use Rattle.std.proofs.Common.{◌≡◌, ℕ, zero, suc, ◌+◌, ◌/◌, ◌%◌, ◌<◌, ◌≤◌, List, [], refl, ap, subst, ◌∙◌, arith, length, get_or, Bool, true, false, not, ltb, eqb, ◌&&◌, ◌||◌, Option, Some, None, is_none}
 use Rattle.std.proofs.lemmas.Bool.Decides.{nat_tests}
 use Rattle.std.proofs.lemmas.List.Elements.{All-get_or}
 use Rattle.elf_objects.specs.declared.fault.ElfFault.{ElfFault}
 use Rattle.elf_objects.specs.declared.fault.ElfFault.TheVariants as fault
-use Rattle.elf_objects.specs.Passes.{refuse_if, first_below, or_else}
-use Rattle.elf_objects.proofs.PassLemmas.{first_below_found}
+use Rattle.elf_objects.specs.Passes.{refuse_if}
 use Rattle.elf_objects.specs.declared.section.Header.{Header}
 use Rattle.elf_objects.specs.Header.{section_count, name_table}
-use Rattle.elf_objects.specs.Section.{header_of, content, ends_past, is_absent, is_loaded, is_loaded_header, is_alignment, section_fault, section_faults, is_kind, index_if, is_this, symbol_table as first_symbol_table, is_bad_symbol_table, is_kept_table, is_bad_kept_table, is_bad_link, link_fault, link_faults, name_table_fault, compressed_fault, compressed_faults, rel_fault, rel_faults}
+use Rattle.elf_objects.specs.Section.{header_of, content, ends_past, is_absent, is_loaded, is_loaded_header, is_alignment, section_fault, section_faults, compressed_fault, compressed_faults, rel_fault, rel_faults}
 use Rattle.elf_objects.specs.Names.{end_in, name_end, name_fault, name_faults}
 use Rattle.asm_text.specs.declared.unit.SectionKind.{SectionKind}
 use Rattle.asm_text.specs.declared.unit.SectionKind.TheVariants.{Code, Data, Bss}
-use Rattle.asm_text.specs.Parts.{SectionValue, SymbolValue, UnitValue, IsUnit, IsSection, kept_size}
-use Rattle.obj_write.specs.declared.sections.Head.{Head}
+use Rattle.asm_text.specs.Parts.{SectionValue, UnitValue, IsUnit, IsSection, kept_size}
 use Rattle.obj_write.specs.Strings.{string_table, name_at}
-use Rattle.obj_write.specs.Sections.{FileSection, no_section, content_at, head_of}
-use Rattle.obj_write.specs.Symbols.{symbol_names, symbol_table, first_global}
-use Rattle.obj_write.specs.Relocations.{relocation_table, relocations_in}
-use Rattle.obj_write.specs.Object.{no_part, kind_of, flags_of, part_head, strings_head, symtab_index, strtab_index, relocated_in, section_names, part_section, symtab_section, strtab_section, shstrtab_section, relocation_section, file_sections, shstrtab_index, object_of}
+use Rattle.obj_write.specs.Sections.{FileSection, no_section, content_at}
+use Rattle.obj_write.specs.Symbols.{symbol_names, symbol_table}
+use Rattle.obj_write.specs.Relocations.{relocation_table}
+use Rattle.obj_write.specs.Object.{no_part, kind_of, flags_of, strings_head, relocated_in, section_names, file_sections, shstrtab_index, object_of}
 use Rattle.obj_write.proofs.ReadLemmas.{Stands, header}
-use Rattle.obj_write.proofs.FileLemmas.{IsLaid, nothing_below, no_head}
+use Rattle.obj_write.proofs.FileLemmas.{nothing_below, no_head}
 use Rattle.obj_write.proofs.ObjectLemmas.{length_names}
-use Rattle.obj_write.proofs.SizeLemmas.{length_sections, part_at, symtab_at, strtab_at, shstrtab_at, relocations_at, at_all, length_relocations, length_symbols}
+use Rattle.obj_write.proofs.SizeLemmas.{length_sections, part_at, symtab_at, strtab_at, shstrtab_at, relocations_at, at_all}
 use Rattle.obj_write.proofs.NameLemmas.{name_ends, no_name_ends, content_read, section_strings}
 use Rattle.obj_write.proofs.UnitLemmas.{part_content, symtab_parts, strtab_parts, shstrtab_parts, target_of, relocation_parts}
-use Rattle.obj_write.proofs.HeaderLemmas.{content_stands, unit_laid, counted_sections, zero_header, part_read, symtab_read, strtab_read, shstrtab_read, relocations_read, ends_within, target_within}
+use Rattle.obj_write.proofs.HeaderLemmas.{content_stands, unit_laid, counted_sections, zero_header, part_read, symtab_read, strtab_read, shstrtab_read, relocations_read, ends_within}
 
 -- what holds of section 0 and of each kind of section holds at each index
 pub every_index : (P : ℕ → Type 0) (unit : UnitValue) → IsUnit unit → P 0 → ((k : ℕ) → k < length unit.sections → P (suc k)) → P (suc (length unit.sections + 0)) → P (suc (length unit.sections + 1)) → P (suc (length unit.sections + 2))
@@ -63,9 +60,9 @@ unfolding section_fault
 table_fault_by file i h e past flat =
     ap (λ (x : Header). refuse_if ((not (is_absent x) && ends_past file x) || (is_loaded_header x && not (is_alignment x.align))) (fault.Section i)) e
     ∙ by (not (is_absent h)) (ltb (length file) (h.offset + h.size)) (is_loaded_header h) past flat where
-  by : (a b c : Bool) → b ≡ false → c ≡ false → refuse_if ((a && b) || (c && not (is_alignment h.align))) (fault.Section i) ≡ None
-  by true b c p q = rw (p, q) refl
-  by false b c p q = rw q refl
+      by : (a b c : Bool) → b ≡ false → c ≡ false → refuse_if ((a && b) || (c && not (is_alignment h.align))) (fault.Section i) ≡ None
+      by true b c p q = rw (p, q) refl
+      by false b c p q = rw q refl
 
 symtab_fault : (unit : UnitValue) → IsUnit unit → section_fault (object_of unit) (suc (length unit.sections + 0)) ≡ None
 symtab_fault unit is =

@@ -1,19 +1,17 @@
 -- What the object reader reads of a file of sections: its header and the headers of its sections.
-use Rattle.std.proofs.Common.{◌≡◌, ℕ, zero, suc, ◌+◌, ◌*◌, ◌<◌, ◌≤◌, ◌^◌, List, [], ◌∷◌, ◌++◌, refl, ap, sym, subst, ◌∙◌, arith, append_assoc, length, take, drop, get_or, length-append, Bool, true, false, not, cond, ltb, eqb, slice_index, ◌⊎◌, inl, inr, Option, None, Some, ◌&&◌, ◌||◌}
-use Rattle.std.specs.List.{flat_map}
+use Rattle.std.proofs.Common.{◌≡◌, ℕ, zero, suc, ◌+◌, ◌*◌, ◌<◌, ◌≤◌, ◌^◌, List, [], ◌∷◌, ◌++◌, refl, ap, sym, subst, ◌∙◌, arith, length, length-append, Bool, true, false, not, ltb, slice_index, Option, None}
 use Rattle.std.proofs.lemmas.Bool.Decides.{nat_tests}
-use Rattle.std.proofs.lemmas.List.{append-nil, length-replicate}
+use Rattle.std.proofs.lemmas.List.{append-nil}
 use Rattle.elf_objects.specs.Bytes.{half_at, word_at}
-use Rattle.elf_objects.specs.Passes.{all_below, refuse_if, first_below}
-use Rattle.elf_objects.specs.declared.section.Header.{Header}
+use Rattle.elf_objects.specs.Passes.{all_below, first_below}
 use Rattle.elf_objects.specs.Header.{table_offset, section_count, name_table, header_fault, table_fault}
-use Rattle.elf_objects.specs.Section.{header_of, is_absent, is_loaded_header, is_alignment, section_fault, content}
+use Rattle.elf_objects.specs.Section.{header_of}
 use Rattle.obj_write.specs.declared.sections.Head.{Head}
 use Rattle.obj_write.specs.declared.sections.TheConstants.{FILE_HEADER_SIZE, SECTION_HEADER_SIZE}
-use Rattle.obj_write.specs.Bytes.{half_bytes, word_bytes, words_bytes, zeros, padded}
-use Rattle.obj_write.specs.Sections.{FileSection, no_section, contents_of, content_at, head_of, head_bytes, header_table}
+use Rattle.obj_write.specs.Bytes.{half_bytes, word_bytes, zeros}
+use Rattle.obj_write.specs.Sections.{FileSection, contents_of, head_of, head_bytes, header_table}
 use Rattle.obj_write.specs.Object.{identification, file_header, file_of}
-use Rattle.obj_write.proofs.ReadLemmas.{Stands, stands_left, stands_right, stands_drop, stands_within, word_read, half_read, byte_read, IsSmall, header, header_read, stands_below, length_below, stands_each}
+use Rattle.obj_write.proofs.ReadLemmas.{Stands, stands_left, stands_right, stands_within, word_read, half_read, byte_read, IsSmall, header, header_read, stands_below, length_below}
 
 -- ---- tests
 

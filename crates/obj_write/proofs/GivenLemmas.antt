@@ -1,24 +1,21 @@
 -- The symbols and relocations that are read of a unit's file are the unit's.
-use Rattle.std.proofs.Common.{◌≡◌, ℕ, zero, suc, ◌+◌, ◌*◌, ◌-◌, ◌/◌, ◌%◌, ◌<◌, ◌≤◌, ◌^◌, List, [], ◌∷◌, ◌++◌, map, refl, ap, sym, subst, ◌∙◌, arith, add-one, length, take, get_or, length-append, Bool, true, false, not, cond, ltb, eqb, ◌&&◌, Option, Some, None}
-use Rattle.std.specs.Prelude.{slice_get, slice_range, pos, ℤ}
-use Rattle.std.specs.List.{All}
+use Rattle.std.proofs.Common.{◌≡◌, ℕ, zero, suc, ◌+◌, ◌*◌, ◌-◌, ◌/◌, ◌%◌, ◌<◌, ◌≤◌, ◌^◌, List, [], ◌++◌, refl, ap, sym, subst, ◌∙◌, arith, add-one, length, get_or, Bool, true, false, cond, eqb, ◌&&◌, Option, Some, None}
+use Rattle.std.specs.Prelude.{slice_get, pos, ℤ}
 use Rattle.std.specs.Int.{cast_signed, w32}
 use Rattle.std.proofs.lemmas.Bool.Decides.{nat_tests}
-use Rattle.std.proofs.lemmas.List.{length-map, get_or-map, append-nil}
+use Rattle.std.proofs.lemmas.List.{length-map, get_or-map}
 use Rattle.std.proofs.lemmas.List.Elements.{All-get_or, All-filter}
 use Rattle.std.proofs.lemmas.Option.{slice_get_within, get_or_from_slice_get}
 use Rattle.elf_objects.specs.Bytes.{word_at}
 use Rattle.elf_objects.specs.Passes.{each_below, all_below}
 use Rattle.elf_objects.proofs.PassLemmas.{length_each_below, at_each}
 use Rattle.elf_objects.specs.declared.section.Header.{Header}
-use Rattle.elf_objects.specs.declared.symbol.Entry.{Entry}
 use Rattle.elf_objects.specs.declared.object.SectionHead.{SectionHead}
-use Rattle.elf_objects.specs.declared.object.Symbol.{Symbol}
 use Rattle.elf_objects.specs.declared.object.Relocation.{Relocation}
 use Rattle.elf_objects.specs.Header.{section_count}
 use Rattle.elf_objects.specs.Section.{header_of, is_loaded, is_loaded_header, is_kept_table}
 use Rattle.elf_objects.specs.Names.{section_of, sections_of}
-use Rattle.elf_objects.specs.Symbol.{entry_of, count_in, strings_of, binding_of, home_of, symbol_of, symbols_header, symbols_in, symbols_of}
+use Rattle.elf_objects.specs.Symbol.{entry_of, strings_of, binding_of, home_of, symbol_of, symbols_in, symbols_of}
 use Rattle.elf_objects.specs.Relocation.{relocation_of, relocations_at, relocations_of}
 use Rattle.elf_objects.specs.Object.{ObjectValue, IsObject}
 use Rattle.asm_text.specs.declared.unit.SectionKind.{SectionKind}
@@ -26,9 +23,9 @@ use Rattle.asm_text.specs.declared.unit.SectionKind.TheVariants.{Code, Data, Bss
 use Rattle.asm_text.specs.declared.unit.AsmRelocation.{AsmRelocation}
 use Rattle.asm_text.specs.Parts.{SectionValue, SymbolValue, UnitValue, IsUnit, IsSymbol, IsRelocation}
 use Rattle.obj_write.specs.Bytes.{word_bytes}
-use Rattle.obj_write.specs.Strings.{string_table, name_at}
+use Rattle.obj_write.specs.Strings.{string_table}
 use Rattle.obj_write.specs.Symbols.{no_symbol, info_of, home_index, symbol_names}
-use Rattle.obj_write.specs.Relocations.{relocation_entry, relocation_table, relocations_in}
+use Rattle.obj_write.specs.Relocations.{relocation_entry, relocations_in}
 use Rattle.obj_write.specs.Object.{no_part, kind_of, flags_of, relocated_in, object_of}
 use Rattle.obj_write.specs.Reader.{IsPart, IsSymbolOf, binding_read, home_read, no_relocation, relocation_read, table_read, IsObjectOf}
 use Rattle.obj_write.proofs.PassLemmas.{each_below_same}
@@ -38,7 +35,7 @@ use Rattle.obj_write.proofs.SizeLemmas.{length_relocations, at_all}
 use Rattle.obj_write.proofs.NameLemmas.{symbol_strings}
 use Rattle.obj_write.proofs.UnitLemmas.{target_of}
 use Rattle.obj_write.proofs.HeaderLemmas.{counted_sections, zero_header, part_read, symtab_read, strtab_read, shstrtab_read, relocations_read, target_within}
-use Rattle.obj_write.proofs.EntryLemmas.{symbols_read, strings_read, symbols_header_is, symbol_count, strings_header, strings_content, strings_stand, IsEntry, entry_given, home_few, relocations_head_read, relocations_stand, relocation_stands, info_read}
+use Rattle.obj_write.proofs.EntryLemmas.{symbols_read, symbols_header_is, symbol_count, strings_header, strings_content, strings_stand, entry_given, home_few, relocations_head_read, relocations_stand, relocation_stands, info_read}
 use Rattle.obj_write.proofs.ReaderLemmas.{name_range, part_given}
 
 -- ---- symbols
@@ -116,7 +113,7 @@ relocation_given unit is j lt e inside =
     let at : ℕ = (relocations_head_read unit j).offset + 12 * e in
     let r : AsmRelocation = get_or list e no_relocation in
     let kept = All-get_or (IsRelocation (length unit.sections) (length unit.symbols)) list e no_relocation inside
-        (All-filter (λ (q : AsmRelocation). eqb q.section target) (IsRelocation (length unit.sections) (length unit.symbols)) unit.relocations is.relocations_kept) in
+    (All-filter (λ (q : AsmRelocation). eqb q.section target) (IsRelocation (length unit.sections) (length unit.symbols)) unit.relocations is.relocations_kept) in
     let symbol = kept.symbol in
     let few = is.few_symbols in
     let stands = relocation_stands file (relocations_head_read unit j).offset unit.relocations target e inside (relocations_stand unit is j lt) in

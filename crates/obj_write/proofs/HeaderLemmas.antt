@@ -1,30 +1,25 @@
 -- The headers of a unit's file, as they are read, and the faults that they do not have.
-use Rattle.std.proofs.Common.{◌≡◌, ℕ, zero, suc, ◌+◌, ◌*◌, ◌<◌, ◌≤◌, ◌^◌, List, [], ◌∷◌, ◌++◌, map, refl, ap, sym, subst, ◌∙◌, arith, length, take, drop, get_or, length-append, Bool, true, false, not, cond, ltb, eqb, ◌&&◌, ◌||◌, Option, Some, None, is_none}
-use Rattle.std.specs.List.{flat_map, All, position_or_len}
-use Rattle.std.proofs.lemmas.Bool.Decides.{nat_tests}
+use Rattle.std.proofs.Common.{◌≡◌, ℕ, suc, ◌+◌, ◌<◌, ◌≤◌, ◌^◌, List, refl, ap, sym, subst, ◌∙◌, arith, length, take, get_or, length-append, not}
+use Rattle.std.specs.List.{flat_map}
 use Rattle.std.proofs.lemmas.List.Elements.{All-get_or}
 use Rattle.std.proofs.lemmas.List.Sums.{prefix_len-le-length}
-use Rattle.elf_objects.specs.declared.fault.ElfFault.{ElfFault}
-use Rattle.elf_objects.specs.declared.fault.ElfFault.TheVariants as fault
-use Rattle.elf_objects.specs.Passes.{each_below, all_below, refuse_if, first_below}
-use Rattle.elf_objects.specs.declared.section.Header.{Header}
-use Rattle.elf_objects.specs.Header.{section_count, name_table}
-use Rattle.elf_objects.specs.Section.{header_of, is_absent, is_loaded, is_loaded_header, is_alignment, section_fault, section_faults, compressed_fault, compressed_faults, rel_fault, rel_faults}
+use Rattle.elf_objects.specs.Header.{section_count}
+use Rattle.elf_objects.specs.Section.{header_of}
 use Rattle.asm_text.specs.declared.unit.SectionKind.{SectionKind}
 use Rattle.asm_text.specs.declared.unit.SectionKind.TheVariants.{Code, Data, Bss}
-use Rattle.asm_text.specs.Parts.{SectionValue, SymbolValue, UnitValue, IsUnit, IsSection, kept_size}
+use Rattle.asm_text.specs.Parts.{SymbolValue, UnitValue, IsUnit, IsSection}
 use Rattle.obj_write.specs.declared.sections.Head.{Head}
 use Rattle.obj_write.specs.Bytes.{zeros, gap, padded}
 use Rattle.obj_write.specs.Strings.{string_table, name_at}
 use Rattle.obj_write.specs.Sections.{FileSection, no_section, contents_of, content_at, head_of}
 use Rattle.obj_write.specs.Symbols.{symbol_names, symbol_table, first_global}
 use Rattle.obj_write.specs.Relocations.{relocation_table}
-use Rattle.obj_write.specs.Object.{no_part, kind_of, flags_of, part_head, symbols_head, strings_head, relocations_head, symtab_index, strtab_index, relocated_in, section_names, part_section, symtab_section, strtab_section, shstrtab_section, relocation_section, file_sections, shstrtab_index, object_of}
+use Rattle.obj_write.specs.Object.{no_part, kind_of, flags_of, part_head, symbols_head, strings_head, relocations_head, symtab_index, relocated_in, section_names, part_section, symtab_section, strtab_section, shstrtab_section, relocation_section, file_sections, shstrtab_index, object_of}
 use Rattle.obj_write.proofs.ReadLemmas.{Stands, stands_left, stands_within, stands_each, IsSmall, header}
-use Rattle.obj_write.proofs.FileLemmas.{table_place, stands_whole, IsLaid, laid, no_head, first_header, next_header, nothing_below}
-use Rattle.obj_write.proofs.ObjectLemmas.{length_names, relocated_few, relocated_within}
+use Rattle.obj_write.proofs.FileLemmas.{table_place, stands_whole, IsLaid, laid, no_head, first_header, next_header}
+use Rattle.obj_write.proofs.ObjectLemmas.{relocated_few, relocated_within}
 use Rattle.obj_write.proofs.SizeLemmas.{length_sections, part_at, symtab_at, strtab_at, shstrtab_at, relocations_at, at_all, relocations_few, length_symbols}
-use Rattle.obj_write.proofs.UnitLemmas.{part_content, part_header, symtab_parts, strtab_parts, shstrtab_parts, target_of, relocation_parts, symbol_names_few, section_names_few, name_few, few_contents}
+use Rattle.obj_write.proofs.UnitLemmas.{part_header, symtab_parts, strtab_parts, shstrtab_parts, target_of, relocation_parts, symbol_names_few, section_names_few, name_few, few_contents}
 
 -- ---- where contents stand
 
@@ -101,8 +96,15 @@ small_part unit is k lt =
     let h = All-get_or IsSection unit.sections k no_part lt is.sections_kept in
     let size = h.small in
     subst IsSmall (sym (part_of_file unit k lt)) record {
-      name = omega (arith, name); kind = omega (arith, kind); flags = omega (arith, flags); offset = at; size = omega (arith, size);
-      link = omega arith; info = omega arith; align = omega arith; entry_size = omega arith;
+      name = omega (arith, name);
+      kind = omega (arith, kind);
+      flags = omega (arith, flags);
+      offset = at;
+      size = omega (arith, size);
+      link = omega arith;
+      info = omega arith;
+      align = omega arith;
+      entry_size = omega arith;
     }
 
 small_symtab : (unit : UnitValue) → IsUnit unit → IsSmall (head_of (file_sections unit) (length unit.sections + 0))
@@ -115,8 +117,15 @@ small_symtab unit is =
     let sections = is.few_sections in
     let global = global_few unit.symbols in
     subst IsSmall (sym (symtab_of_file unit)) record {
-      name = omega (arith, name); kind = omega arith; flags = omega arith; offset = at; size = omega (arith, size, few);
-      link = omega (arith, sections); info = omega (arith, global, few); align = omega arith; entry_size = omega arith;
+      name = omega (arith, name);
+      kind = omega arith;
+      flags = omega arith;
+      offset = at;
+      size = omega (arith, size, few);
+      link = omega (arith, sections);
+      info = omega (arith, global, few);
+      align = omega arith;
+      entry_size = omega arith;
     }
 
 small_strtab : (unit : UnitValue) → IsUnit unit → IsSmall (head_of (file_sections unit) (length unit.sections + 1))
@@ -126,8 +135,15 @@ small_strtab unit is =
     let at = offset_few unit is (length unit.sections + 1) (omega (arith, n)) in
     let size = symbol_names_few unit is in
     subst IsSmall (sym (strtab_of_file unit)) record {
-      name = omega (arith, name); kind = omega arith; flags = omega arith; offset = at; size = omega (arith, size);
-      link = omega arith; info = omega arith; align = omega arith; entry_size = omega arith;
+      name = omega (arith, name);
+      kind = omega arith;
+      flags = omega arith;
+      offset = at;
+      size = omega (arith, size);
+      link = omega arith;
+      info = omega arith;
+      align = omega arith;
+      entry_size = omega arith;
     }
 
 small_shstrtab : (unit : UnitValue) → IsUnit unit → IsSmall (head_of (file_sections unit) (length unit.sections + 2))
@@ -137,8 +153,15 @@ small_shstrtab unit is =
     let at = offset_few unit is (length unit.sections + 2) (omega (arith, n)) in
     let size = section_names_few unit is in
     subst IsSmall (sym (shstrtab_of_file unit)) record {
-      name = omega (arith, name); kind = omega arith; flags = omega arith; offset = at; size = omega (arith, size);
-      link = omega arith; info = omega arith; align = omega arith; entry_size = omega arith;
+      name = omega (arith, name);
+      kind = omega arith;
+      flags = omega arith;
+      offset = at;
+      size = omega (arith, size);
+      link = omega arith;
+      info = omega arith;
+      align = omega arith;
+      entry_size = omega arith;
     }
 
 -- a table of relocations is of a section of the unit
@@ -155,8 +178,15 @@ small_relocations unit is j lt =
     let sections = is.few_sections in
     let target = target_within unit j lt in
     subst IsSmall (sym (relocations_of_file unit j lt)) record {
-      name = omega (arith, name); kind = omega arith; flags = omega arith; offset = at; size = omega (arith, size, few);
-      link = omega (arith, sections); info = omega (arith, target, sections); align = omega arith; entry_size = omega arith;
+      name = omega (arith, name);
+      kind = omega arith;
+      flags = omega arith;
+      offset = at;
+      size = omega (arith, size, few);
+      link = omega (arith, sections);
+      info = omega (arith, target, sections);
+      align = omega arith;
+      entry_size = omega arith;
     }
 
 pub small_heads : (unit : UnitValue) → IsUnit unit → (k : ℕ) → k < length unit.sections + (3 + length (relocated_in unit)) → IsSmall (head_of (file_sections unit) k)

@@ -1,5 +1,5 @@
 -- The links between the sections of a unit's file.
-use Rattle.std.proofs.Common.{◌≡◌, ℕ, zero, suc, ◌+◌, ◌*◌, ◌/◌, ◌%◌, ◌<◌, ◌≤◌, List, [], ◌∷◌, refl, ap, sym, ◌∙◌, arith, length, get_or, Bool, true, false, not, cond, ltb, eqb, ◌&&◌, ◌||◌, Option, Some, None}
+use Rattle.std.proofs.Common.{◌≡◌, ℕ, zero, suc, ◌+◌, ◌%◌, ◌<◌, List, refl, ap, ◌∙◌, arith, length, get_or, Bool, true, false, not, ltb, eqb, ◌&&◌, ◌||◌, Option, Some, None}
 use Rattle.std.proofs.lemmas.Bool.Decides.{nat_tests}
 use Rattle.elf_objects.specs.declared.fault.ElfFault.{ElfFault}
 use Rattle.elf_objects.specs.declared.fault.ElfFault.TheVariants as fault
@@ -11,12 +11,10 @@ use Rattle.elf_objects.specs.Section.{header_of, is_loaded_header, is_kind, inde
 use Rattle.asm_text.specs.declared.unit.SectionKind.{SectionKind}
 use Rattle.asm_text.specs.declared.unit.SectionKind.TheVariants.{Code, Data, Bss}
 use Rattle.asm_text.specs.Parts.{UnitValue, IsUnit}
-use Rattle.obj_write.specs.Strings.{string_table, name_at}
-use Rattle.obj_write.specs.Sections.{content_at}
 use Rattle.obj_write.specs.Symbols.{symbol_names}
 use Rattle.obj_write.specs.Symbols as own
-use Rattle.obj_write.specs.Relocations.{relocation_table, relocations_in}
-use Rattle.obj_write.specs.Object.{no_part, kind_of, symbols_head, symtab_index, strtab_index, relocated_in, section_names, file_sections, object_of}
+use Rattle.obj_write.specs.Relocations.{relocation_table}
+use Rattle.obj_write.specs.Object.{no_part, kind_of, symtab_index, strtab_index, relocated_in, object_of}
 use Rattle.obj_write.proofs.ReadLemmas.{header}
 use Rattle.obj_write.proofs.FileLemmas.{nothing_below, no_head}
 use Rattle.obj_write.proofs.SizeLemmas.{length_relocations, length_symbols}

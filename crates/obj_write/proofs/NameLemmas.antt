@@ -1,21 +1,20 @@
 -- Names in string tables, as the object reader finds their ends.
-use Rattle.std.proofs.Common.{◌≡◌, ℕ, zero, suc, ◌+◌, ◌*◌, ◌<◌, ◌≤◌, ◌^◌, List, [], ◌∷◌, ◌++◌, map, refl, ap, sym, subst, ◌∙◌, arith, append_assoc, length, take, drop, get_or, length-append, Bool, true, false, not, cond, eqb, nat_le, ◌&&◌, ◌||◌, Option, Some, None}
+use Rattle.std.proofs.Common.{◌≡◌, ℕ, zero, suc, ◌+◌, ◌<◌, ◌≤◌, List, [], ◌∷◌, ◌++◌, map, refl, ap, sym, ◌∙◌, arith, append_assoc, length, take, drop, get_or, Bool, true, false, not, cond, eqb, nat_le, ◌&&◌, Some}
 use Rattle.std.specs.Prelude.{codes}
 use Rattle.std.specs.List.{flat_map, All, list_all, position_from}
 use Rattle.std.proofs.lemmas.Bool.Decides.{nat_tests}
-use Rattle.std.proofs.lemmas.List.{append-nil, length-map, take_at, take-append-drop, drop_at, drop_more, length-take, get_or-map}
+use Rattle.std.proofs.lemmas.List.{take_at, take-append-drop, drop_at, drop_more}
 use Rattle.std.proofs.lemmas.List.Concat.{flat_map-append}
-use Rattle.std.proofs.lemmas.List.Elements.{All-nil, All-cons, All-head, All-tail, All-get_or, All-append, All-map, All-weaker, All-from_get_or}
+use Rattle.std.proofs.lemmas.List.Elements.{All-nil, All-cons, All-get_or, All-append, All-map, All-weaker}
 use Rattle.elf_objects.specs.declared.section.Header.{Header}
 use Rattle.elf_objects.specs.Section.{content}
-use Rattle.elf_objects.specs.Names.{end_in, name_end}
+use Rattle.elf_objects.specs.Names.{end_in}
 use Rattle.asm_text.specs.Parts.{SectionValue, SymbolValue, UnitValue, IsUnit, IsSection, IsSymbol, is_name, is_name_byte, is_digit}
 use Rattle.obj_write.specs.Strings.{terminated, string_table, name_at}
 use Rattle.obj_write.specs.Symbols.{symbol_names}
 use Rattle.obj_write.specs.Object.{no_part, table_names, part_names, relocation_name, relocated_in, section_names}
 use Rattle.obj_write.proofs.ReadLemmas.{Stands, stands_drop}
 use Rattle.obj_write.proofs.ObjectLemmas.{relocated_within}
-use Rattle.obj_write.proofs.SizeLemmas.{table_few}
 
 -- no byte of it ends a string
 pub record IsString (most : ℕ) (name : List ℕ) : Type 0 where

@@ -3,8 +3,7 @@ use Rattle.std.proofs.Common.{◌≡◌, ℕ, zero, suc, ◌+◌, ◌*◌, ◌/�
 use Rattle.std.specs.List.{flat_map}
 use Rattle.std.proofs.lemmas.Bool.{cases_lt}
 use Rattle.std.proofs.lemmas.Bool.Decides.{nat_tests}
-use Rattle.std.proofs.lemmas.List.{drop_at, get_or_at, append-nil}
-use Rattle.std.proofs.Math.Nat.{pow-suc}
+use Rattle.std.proofs.lemmas.List.{drop_at, get_or_at}
 use Rattle.byteorder.specs.Endian.{little_number}
 use Rattle.byteorder.specs.Numbers.{little_number-reads_back}
 use Rattle.elf_objects.specs.Bytes.{half_at, word_at}
@@ -13,7 +12,7 @@ use Rattle.elf_objects.specs.declared.section.Header.{Header}
 use Rattle.elf_objects.specs.Header.{table_offset}
 use Rattle.elf_objects.specs.Section.{header_of}
 use Rattle.obj_write.specs.declared.sections.Head.{Head}
-use Rattle.obj_write.specs.Bytes.{half_bytes, word_bytes, words_bytes}
+use Rattle.obj_write.specs.Bytes.{half_bytes, word_bytes}
 use Rattle.obj_write.specs.Sections.{head_bytes}
 
 -- these bytes stand at this place of the file

@@ -1,39 +1,27 @@
 -- The object that is read of a unit's file is the unit's.
-use Rattle.std.proofs.Common.{◌≡◌, ℕ, zero, suc, ◌+◌, ◌*◌, ◌-◌, ◌/◌, ◌%◌, ◌<◌, ◌≤◌, ◌^◌, List, [], ◌∷◌, ◌++◌, map, refl, ap, sym, subst, ◌∙◌, arith, length, take, drop, get_or, length-append, Bool, true, false, not, cond, ltb, eqb, ◌||◌, Option, Some, None, unwrap_or}
-use Rattle.std.specs.Prelude.{slice_get, slice_range, pos}
+use Rattle.std.proofs.Common.{◌≡◌, ℕ, suc, ◌+◌, ◌-◌, ◌<◌, List, [], ◌∷◌, ◌++◌, map, refl, ap, sym, subst, ◌∙◌, arith, length, take, drop, get_or, cond, eqb, ◌||◌, Option, Some, unwrap_or}
+use Rattle.std.specs.Prelude.{slice_range}
 use Rattle.std.specs.List.{flat_map, All}
-use Rattle.std.specs.Int.{byte_at, cast_signed, w32}
-use Rattle.std.proofs.lemmas.Bool.Decides.{nat_tests}
-use Rattle.std.proofs.lemmas.List.{take_at, length-map, nil_from_length, get_or-map, get_or_append_left, append-nil}
+use Rattle.std.proofs.lemmas.List.{take_at, length-map, nil_from_length, get_or-map, get_or_append_left}
 use Rattle.std.proofs.lemmas.List.Elements.{All-get_or}
-use Rattle.std.proofs.lemmas.Option.{slice_get_within, get_or_from_slice_get}
-use Rattle.elf_objects.specs.Bytes.{word_at}
-use Rattle.elf_objects.specs.Passes.{each_below, all_below}
-use Rattle.elf_objects.proofs.PassLemmas.{length_each_below, at_each}
 use Rattle.elf_objects.specs.declared.section.Header.{Header}
 use Rattle.elf_objects.specs.declared.object.Span.{Span}
-use Rattle.elf_objects.specs.declared.object.SectionHead.{SectionHead}
-use Rattle.elf_objects.specs.declared.object.Symbol.{Symbol}
-use Rattle.elf_objects.specs.Header.{section_count, name_table}
-use Rattle.elf_objects.specs.Section.{header_of, content, content_span, is_absent, is_loaded}
-use Rattle.elf_objects.specs.Names.{end_in, name_end, name_span, section_of, sections_of}
-use Rattle.elf_objects.specs.Object.{ObjectValue, IsObject}
+use Rattle.elf_objects.specs.Header.{name_table}
+use Rattle.elf_objects.specs.Section.{header_of, content, content_span}
+use Rattle.elf_objects.specs.Names.{end_in, name_end, name_span, section_of}
 use Rattle.asm_text.specs.declared.unit.SectionKind.{SectionKind}
 use Rattle.asm_text.specs.declared.unit.SectionKind.TheVariants.{Code, Data, Bss}
-use Rattle.asm_text.specs.Parts.{SectionValue, SymbolValue, UnitValue, IsUnit, IsSection, kept_size}
-use Rattle.obj_write.specs.Bytes.{word_bytes}
+use Rattle.asm_text.specs.Parts.{SectionValue, UnitValue, IsUnit, IsSection, kept_size}
 use Rattle.obj_write.specs.Strings.{terminated, string_table, name_at}
 use Rattle.obj_write.specs.Sections.{FileSection, no_section, content_at}
-use Rattle.obj_write.specs.Symbols.{symbol_names}
-use Rattle.obj_write.specs.Object.{no_part, kind_of, flags_of, part_head, strings_head, part_names, table_names, relocation_name, relocated_in, section_names, file_sections, shstrtab_index, object_of}
+use Rattle.obj_write.specs.Object.{no_part, kind_of, strings_head, part_names, table_names, relocation_name, relocated_in, section_names, file_sections, shstrtab_index, object_of}
 use Rattle.obj_write.specs.Reader.{IsPart}
 use Rattle.obj_write.proofs.ReadLemmas.{Stands, stands_left, stands_right, stands_drop, stands_each, header}
-use Rattle.obj_write.proofs.FileLemmas.{no_head}
 use Rattle.obj_write.proofs.ObjectLemmas.{length_names}
 use Rattle.obj_write.proofs.SizeLemmas.{length_sections, part_at, shstrtab_at}
 use Rattle.obj_write.proofs.NameLemmas.{IsString, name_ends, section_strings}
 use Rattle.obj_write.proofs.UnitLemmas.{part_content, shstrtab_parts}
-use Rattle.obj_write.proofs.HeaderLemmas.{content_stands, unit_laid, counted_sections, part_read, shstrtab_read}
+use Rattle.obj_write.proofs.HeaderLemmas.{content_stands, unit_laid, part_read, shstrtab_read}
 use Rattle.obj_write.proofs.FaultLemmas.{names_at, names_content}
 
 -- ---- bytes by their place

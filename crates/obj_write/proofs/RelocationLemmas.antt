@@ -1,16 +1,15 @@
 -- Relocations, put to the sections that they are of.
-use Rattle.std.proofs.Common.{◌≡◌, ◌≢◌, ℕ, zero, suc, ◌+◌, ◌*◌, ◌<◌, ◌≤◌, List, [], ◌∷◌, ◌++◌, map, refl, ap, sym, ◌∙◌, ◌⊎◌, inl, inr, arith, add-one, length, take, get_or, set, Bool, true, false, not, cond, eqb, length-append}
+use Rattle.std.proofs.Common.{◌≡◌, ◌≢◌, ℕ, ◌+◌, ◌<◌, List, [], ◌∷◌, ◌++◌, map, refl, ap, sym, ◌∙◌, ◌⊎◌, inl, inr, arith, length, take, get_or, set, Bool, true, false, cond, eqb, length-append}
 use Rattle.std.specs.List.{filter, flat_map}
 use Rattle.std.proofs.lemmas.Bool.{cases_eq}
 use Rattle.std.proofs.lemmas.Bool.Decides.{nat_tests}
 use Rattle.std.proofs.lemmas.List.{append-nil, length-set, get_or-set_same, get_or-set_other, ext_get_or, map-set, get_or-map, get_or_default, nil_from_length, length-map, map_push}
 use Rattle.std.proofs.lemmas.List.Elements.{filter_more}
 use Rattle.std.proofs.lemmas.List.Concat.{flat_map-append}
-use Rattle.elf_objects.specs.Passes.{each_below, all_below}
+use Rattle.elf_objects.specs.Passes.{each_below}
 use Rattle.elf_objects.proofs.PassLemmas.{each_below_more, each_below_zero, length_each_below, at_each, all_below_more, all_below_zero}
 use Rattle.asm_text.specs.declared.unit.AsmRelocation.{AsmRelocation}
 use Rattle.obj_write.specs.Relocations.{relocation_entry, relocations_in, relocation_table, index_where_some, relocated}
-use Rattle.obj_write.proofs.PassLemmas.{each_below_same}
 
 -- ---- one more
 

@@ -1,27 +1,22 @@
 -- How many bytes the parts of a unit's file have.
-use Rattle.std.proofs.Common.{◌≡◌, ℕ, zero, suc, ◌+◌, ◌*◌, ◌-◌, ◌%◌, ◌<◌, ◌≤◌, ◌^◌, List, [], ◌∷◌, ◌++◌, map, refl, ap, sym, subst, ◌∙◌, arith, append_assoc, length, take, drop, get_or, length-append, Bool, true, false, cond, eqb, ◌⊎◌, inl, inr}
+use Rattle.std.proofs.Common.{◌≡◌, ℕ, zero, suc, ◌+◌, ◌*◌, ◌-◌, ◌<◌, ◌≤◌, List, [], ◌∷◌, ◌++◌, refl, ap, sym, subst, ◌∙◌, arith, length, get_or, length-append, Bool, true, false, cond, eqb, inl, inr}
 use Rattle.std.specs.List.{flat_map, filter, All}
 use Rattle.std.proofs.lemmas.Bool.{cases_lt}
-use Rattle.std.proofs.lemmas.List.{append-nil, length-map, length-replicate, length-take, get_or_append_left, get_or-append-add, take-append-le}
-use Rattle.std.proofs.lemmas.List.Concat.{flat_map-append}
-use Rattle.std.proofs.lemmas.List.Elements.{All-head, All-tail, All-get_or, All-append, All-map, All-weaker}
+use Rattle.std.proofs.lemmas.List.{length-replicate, get_or_append_left, get_or-append-add}
+use Rattle.std.proofs.lemmas.List.Elements.{All-head, All-tail}
 use Rattle.elf_objects.specs.Passes.{each_below, all_below}
 use Rattle.elf_objects.proofs.PassLemmas.{length_each_below, at_each}
 use Rattle.asm_text.specs.declared.unit.AsmRelocation.{AsmRelocation}
-use Rattle.asm_text.specs.declared.unit.SectionKind.TheVariants.{Code, Data, Bss}
-use Rattle.asm_text.specs.Parts.{SectionValue, SymbolValue, UnitValue, IsUnit, IsSection, is_name, kept_size}
-use Rattle.obj_write.specs.declared.sections.Head.{Head}
+use Rattle.asm_text.specs.Parts.{SymbolValue, UnitValue}
 use Rattle.obj_write.specs.declared.symbols.TheConstants.{SYMBOL_SIZE}
 use Rattle.obj_write.specs.Bytes.{zeros, gap, padded}
 use Rattle.obj_write.specs.Strings.{terminated, string_table, name_at}
-use Rattle.obj_write.specs.Sections.{FileSection, no_section, contents_of, content_at, head_of}
+use Rattle.obj_write.specs.Sections.{FileSection, no_section}
 use Rattle.obj_write.specs.Symbols.{symbol_entry, symbol_entry_at, symbol_names, symbol_table}
 use Rattle.obj_write.specs.Relocations.{relocation_entry, relocations_in, relocation_table}
-use Rattle.obj_write.specs.Object.{no_part, relocated_in, part_section, symtab_section, strtab_section, shstrtab_section, table_sections, relocation_section, file_sections, section_names}
-use Rattle.obj_write.proofs.PassLemmas.{flat_map_each}
+use Rattle.obj_write.specs.Object.{relocated_in, part_section, symtab_section, strtab_section, shstrtab_section, table_sections, relocation_section, file_sections}
 use Rattle.obj_write.proofs.ReadLemmas.{length_below}
 use Rattle.obj_write.proofs.RelocationLemmas.{length_entry}
-use Rattle.obj_write.proofs.ObjectLemmas.{relocated_few}
 
 -- ---- where each section is in the list
 

@@ -1,9 +1,9 @@
 -- String tables and the list of sections as they grow.
-use Rattle.std.proofs.Common.{◌≡◌, ℕ, zero, suc, ◌+◌, ◌<◌, ◌≤◌, List, [], ◌∷◌, ◌++◌, refl, ap, sym, ◌∙◌, arith, add-one, append_assoc, length, take, get_or, length-append}
+use Rattle.std.proofs.Common.{◌≡◌, ℕ, ◌+◌, ◌<◌, ◌≤◌, List, [], ◌∷◌, ◌++◌, refl, ap, sym, ◌∙◌, arith, append_assoc, length, get_or}
 use Rattle.std.specs.List.{flat_map}
-use Rattle.std.proofs.lemmas.List.{flat_map_more, append-nil, take-append-le, take_all, length_push, get_or_at, get_or_append_left}
+use Rattle.std.proofs.lemmas.List.{flat_map_more, take-append-le, take_all, length_push, get_or_at, get_or_append_left}
 use Rattle.elf_objects.specs.Passes.{each_below, all_below}
-use Rattle.elf_objects.proofs.PassLemmas.{each_below_more, each_below_zero, length_each_below, at_each}
+use Rattle.elf_objects.proofs.PassLemmas.{each_below_more, each_below_zero, at_each}
 use Rattle.obj_write.specs.declared.strings.Strings.{Strings}
 use Rattle.obj_write.specs.declared.sections.Head.{Head}
 use Rattle.obj_write.specs.declared.sections.Sections.{Sections}

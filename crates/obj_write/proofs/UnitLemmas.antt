@@ -1,29 +1,23 @@
 -- The headers of a unit's file.
-use Rattle.std.proofs.Common.{◌≡◌, ℕ, zero, suc, ◌+◌, ◌*◌, ◌<◌, ◌≤◌, ◌^◌, List, [], ◌∷◌, ◌++◌, map, refl, ap, sym, subst, ◌∙◌, arith, length, take, drop, get_or, length-append, Bool, true, false, not, cond, Option, Some, None}
-use Rattle.std.specs.List.{flat_map, All, position_or_len}
-use Rattle.std.proofs.lemmas.List.{append-nil, length-map, length-take}
+use Rattle.std.proofs.Common.{◌≡◌, ℕ, ◌+◌, ◌<◌, ◌≤◌, ◌^◌, List, [], ◌++◌, refl, ap, arith, length, take, get_or, length-append}
+use Rattle.std.specs.List.{flat_map, All}
+use Rattle.std.proofs.lemmas.List.{length-map, length-take}
 use Rattle.std.proofs.lemmas.List.Concat.{flat_map-append}
 use Rattle.std.proofs.lemmas.List.Elements.{All-get_or, All-take, All-weaker}
-use Rattle.std.proofs.lemmas.List.Sums.{prefix_len-le-length}
-use Rattle.elf_objects.specs.Passes.{each_below, all_below}
-use Rattle.elf_objects.specs.declared.section.Header.{Header}
-use Rattle.elf_objects.specs.Header.{section_count}
-use Rattle.elf_objects.specs.Section.{header_of}
+use Rattle.elf_objects.specs.Passes.{each_below}
 use Rattle.asm_text.specs.declared.unit.SectionKind.{SectionKind}
 use Rattle.asm_text.specs.declared.unit.SectionKind.TheVariants.{Code, Data, Bss}
-use Rattle.asm_text.specs.Parts.{SectionValue, SymbolValue, UnitValue, IsUnit, IsSection, kept_size}
-use Rattle.obj_write.specs.declared.sections.Head.{Head}
+use Rattle.asm_text.specs.Parts.{SymbolValue, UnitValue, IsUnit, IsSection, kept_size}
 use Rattle.obj_write.specs.Bytes.{padded}
 use Rattle.obj_write.specs.Strings.{string_table, name_at}
-use Rattle.obj_write.specs.Sections.{FileSection, no_section, contents_of, content_at, head_of}
-use Rattle.obj_write.specs.Symbols.{symbol_names, symbol_table, first_global}
+use Rattle.obj_write.specs.Sections.{FileSection, contents_of}
+use Rattle.obj_write.specs.Symbols.{symbol_names, symbol_table}
 use Rattle.obj_write.specs.Relocations.{relocation_table}
-use Rattle.obj_write.specs.Object.{no_part, kind_of, flags_of, part_head, symbols_head, strings_head, relocations_head, symtab_index, relocated_in, section_names, part_section, symtab_section, strtab_section, shstrtab_section, table_sections, relocation_section, file_sections, shstrtab_index, object_of}
+use Rattle.obj_write.specs.Object.{no_part, part_head, symbols_head, strings_head, relocations_head, symtab_index, relocated_in, section_names, part_section, symtab_section, strtab_section, shstrtab_section, table_sections, relocation_section, file_sections}
 use Rattle.obj_write.proofs.PassLemmas.{flat_map_each}
-use Rattle.obj_write.proofs.ReadLemmas.{Stands, stands_left, stands_within, stands_each, IsSmall, header}
-use Rattle.obj_write.proofs.FileLemmas.{table_place, stands_whole, IsLaid, laid, next_header}
-use Rattle.obj_write.proofs.ObjectLemmas.{length_names, relocated_few, relocated_within}
-use Rattle.obj_write.proofs.SizeLemmas.{length_sections, part_at, symtab_at, strtab_at, shstrtab_at, relocations_at, at_all, padded_few, below_few, table_few, relocations_few, length_symbols}
+use Rattle.obj_write.proofs.FileLemmas.{table_place}
+use Rattle.obj_write.proofs.ObjectLemmas.{length_names, relocated_few}
+use Rattle.obj_write.proofs.SizeLemmas.{padded_few, below_few, table_few, relocations_few, length_symbols}
 use Rattle.obj_write.proofs.NameLemmas.{IsString, symbol_strings, section_strings}
 
 -- ---- what each section is

@@ -1,5 +1,5 @@
 -- What the object reader gives of a unit's file.
-use Rattle.std.specs.Prelude.{◌≡◌, ℕ, ◌+◌, ◌%◌, ◌^◌, ◌<◌, ◌≤◌, Bool, true, false, List, length, Option, Some, None, slice_get, slice_index_or, slice_range, pos}
+use Rattle.std.specs.Prelude.{◌≡◌, ℕ, ◌+◌, ◌%◌, ◌^◌, ◌<◌, Bool, true, false, List, length, Option, Some, None, slice_get, slice_index_or, slice_range, pos}
 use Rattle.elf_objects.specs.declared.object.SectionHead.{SectionHead}
 use Rattle.elf_objects.specs.declared.object.Symbol.{Symbol}
 use Rattle.elf_objects.specs.declared.object.Relocation.{Relocation}

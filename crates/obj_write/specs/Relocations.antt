@@ -1,5 +1,5 @@
 -- The tables of relocations with addends (TIS ELF 1.2, "Relocation").
-use Rattle.std.specs.Prelude.{◌≡◌, ℕ, ◌+◌, ◌*◌, ◌==◌, List, [], ◌∷◌, ◌++◌, length, map, All}
+use Rattle.std.specs.Prelude.{ℕ, ◌+◌, ◌*◌, ◌==◌, List, [], ◌∷◌}
 use Rattle.std.specs.List.{filter, flat_map}
 use Rattle.elf_objects.specs.Passes.{all_below}
 use Rattle.asm_text.specs.declared.unit.AsmRelocation.{AsmRelocation}

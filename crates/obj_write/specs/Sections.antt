@@ -1,5 +1,5 @@
 -- The sections of a file after section 0: their headers and where their contents stand (TIS ELF 1.2, "Sections").
-use Rattle.std.specs.Prelude.{◌≡◌, ℕ, ◌+◌, ◌*◌, List, [], ◌∷◌, ◌++◌, length, take, slice_index_or}
+use Rattle.std.specs.Prelude.{◌≡◌, ℕ, ◌+◌, List, [], ◌∷◌, ◌++◌, length, take, slice_index_or}
 use Rattle.std.specs.List.{flat_map}
 use Rattle.elf_objects.specs.Passes.{each_below, all_below}
 use Rattle.obj_write.specs.declared.sections.Head.{Head}

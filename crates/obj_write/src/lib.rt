@@ -2,7 +2,6 @@
 #![tactic(auto)]
 
 mod bytes;
-mod laws;
 mod object;
 mod relocations;
 mod sections;
@@ -10,4 +9,3 @@ mod strings;
 mod symbols;
 
 pub use object::write_object;
-

@@ -1,7 +1,8 @@
 //! The file of an object's parts.
 
-ghost use Rattle.std.specs.Prelude.{◌≡◌, ◌+◌, ◌<◌, ◌^◌, ◌++◌, ℕ, List, map, length, All, IfOk, OnOk};
+ghost use Rattle.std.specs.Prelude.{◌≡◌, ◌+◌, ◌<◌, ◌^◌, ◌++◌, ℕ, List, map, length, All, IfOk, OnOk, None};
 ghost use Rattle.elf_objects.specs.Passes.{each_below};
+ghost use Rattle.elf_objects.specs.Object.{elf_fault_of, ObjectValue, IsObject};
 ghost use Rattle.asm_text.specs.Unit.{unit_of};
 ghost use Rattle.asm_text.specs.Views.{section_of};
 ghost use Rattle.obj_write.specs.Strings.{IsTableOf};
@@ -9,6 +10,7 @@ ghost use Rattle.obj_write.specs.Sections.{FileSection, AreSections};
 ghost use Rattle.obj_write.specs.Symbols.{symbol_names, symbol_table};
 ghost use Rattle.obj_write.specs.Relocations.{relocation_table};
 ghost use Rattle.obj_write.specs.Object.{kind_of, flags_of, part_names, table_names, part_head, symbols_head, strings_head, relocations_head, relocation_name, relocated_in, section_names, part_section, table_sections, relocation_section, file_sections, file_header, file_of, object_of};
+ghost use Rattle.obj_write.specs.Reader.{IsObjectOf};
 
 use crate::bytes::{put_half, put_word};
 use crate::relocations::{relocated, tables_of};
@@ -102,11 +104,7 @@ fn name_relocations(
 
 // The names of all sections after section 0.
 #[tactic(auto, unfolding(crate::specs::Object::section_names))]
-fn name_sections(
-    alloc: Global,
-    unit: &AsmUnit,
-    relocated: &[usize],
-) -> Result<Strings, AllocError>
+fn name_sections(alloc: Global, unit: &AsmUnit, relocated: &[usize]) -> Result<Strings, AllocError>
     requires { relocated.now ≡ relocated_in (unit_of unit.now) }
     ensures { IfOk result (IsTableOf (section_names (unit_of unit.now))) }
 {
@@ -245,12 +243,7 @@ fn add_relocations(
 
 // The file's header.
 #[tactic(auto, unfolding(crate::specs::Object::file_header))]
-fn put_header(
-    out: &mut Vec<u8>,
-    table: usize,
-    count: usize,
-    names: usize,
-) -> Result<(), AllocError>
+fn put_header(out: &mut Vec<u8>, table: usize, count: usize, names: usize) -> Result<(), AllocError>
     ensures { OnOk result (out.new.items ≡ out.old.items ++ file_header table count names) }
 {
     out.extend_from_slice(&[0x7f, 0x45, 0x4c, 0x46, 1, 1, 1, 0, 0, 0, 0, 0, 0, 0, 0, 0])?;
@@ -301,11 +294,14 @@ fn file_of(alloc: Global, sections: &Sections, names: usize) -> Result<Vec<u8>, 
 /// The bytes of the unit's object file.
 ///
 /// It has section 0, the unit's sections, the tables of symbols, of their names and of the sections' names, and then the
-/// relocations of each section that has some (TIS ELF 1.2). Fails only where memory runs out.
-#[tactic(auto, unfolding(crate::specs::Object::object_of))]
+/// relocations of each section that has some (TIS ELF 1.2). `elf_objects::parse` refuses it for want of memory alone,
+/// and gives the unit's sections, symbols and relocations. Fails only where memory runs out.
 pub fn write_object(alloc: Global, unit: &AsmUnit) -> Result<Vec<u8>, AllocError>
     ensures bytes { IfOk result (λ v. v.items ≡ object_of (unit_of unit.now)) }
+    ensures sound { IfOk result (λ v. elf_fault_of v.items ≡ None) }
+    ensures object { IfOk result (λ v. (object : ObjectValue) → object.file ≡ v.items → IsObject object → IsObjectOf (unit_of unit.now) object) }
 {
     let sections = file_sections(alloc, unit)?;
-    file_of(alloc, &sections, unit.sections.len() + 3)
+    let bytes = file_of(alloc, &sections, unit.sections.len() + 3)?;
+    Ok(bytes)
 }

@@ -1,4 +1,4 @@
-use Rattle.std.proofs.Common.{◌≡◌, ◌<◌, ◌+◌, ◌∙◌, ap, sym, get_or, length, map, refl, arith}
+use Rattle.std.proofs.Common.{◌≡◌, ◌+◌, ◌∙◌, ap, sym, get_or, length, map, arith}
 use Rattle.asm_text.specs.Unit.{unit_of}
 use Rattle.asm_text.specs.Views.{section_of}
 use Rattle.obj_write.specs.Relocations.{relocation_table}

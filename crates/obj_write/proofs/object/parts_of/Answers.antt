@@ -1,6 +1,6 @@
 use Rattle.std.proofs.Common.{arith}
 use Rattle.asm_text.specs.Unit.{unit_of}
-use Rattle.obj_write.proofs.ObjectLemmas.{no_parts, part_added, part_count}
+use Rattle.obj_write.proofs.ObjectLemmas.{no_parts, part_added}
 use Rattle.obj_write.proofs.object.parts_of.Goals as goal
 
 pub loop-i-init : goal.loop-i-init

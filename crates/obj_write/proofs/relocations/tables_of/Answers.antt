@@ -1,6 +1,5 @@
-use Rattle.std.proofs.Common.{◌<◌, ◌≡◌, length, get_or, take, arith, refl}
+use Rattle.std.proofs.Common.{◌<◌, take, arith, refl}
 use Rattle.std.proofs.lemmas.List.Elements.{All-get_or}
-use Rattle.elf_objects.proofs.PassLemmas.{length_each_below}
 use Rattle.obj_write.specs.Relocations.{relocation_table}
 use Rattle.obj_write.proofs.RelocationLemmas.{counted, tables_stored}
 use Rattle.obj_write.proofs.relocations.tables_of.Goals as goal

@@ -1,4 +1,4 @@
-use Rattle.std.proofs.Common.{◌≡◌, List, ℕ, ◌++◌, ap, ◌∙◌, arith}
+use Rattle.std.proofs.Common.{List, ℕ, ◌++◌, ap, ◌∙◌, arith}
 use Rattle.obj_write.specs.declared.symbols.TheConstants.{SYMBOL_SIZE}
 use Rattle.obj_write.specs.Bytes.{zeros}
 use Rattle.obj_write.proofs.SymbolLemmas.{table_begun, entry_added, table_whole}
