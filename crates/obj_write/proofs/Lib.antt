@@ -14,3 +14,4 @@ pub mod LinkLemmas
 pub mod EntryLemmas
 pub mod ReaderLemmas
 pub mod GivenLemmas
+pub mod RowLemmas

@@ -9,3 +9,6 @@ mod strings;
 mod symbols;
 
 pub use object::write_object;
+
+#[cfg(test)]
+mod tests;
