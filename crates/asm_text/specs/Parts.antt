@@ -1,0 +1,71 @@
+-- The parts of an object as values, and what they keep.
+use Rattle.std.specs.Prelude.{◌≡◌, ◌≢◌, ℕ, ◌+◌, ◌≤◌, ◌<◌, ◌==◌, nat_le, Bool, true, false, not, ◌&&◌, ◌||◌, if◌then◌else◌, List, [], ◌∷◌, length, Option, Some, None, IsTrue, All, AllPairs}
+use Rattle.std.specs.List.{list_all}
+use Rattle.asm_text.specs.declared.unit.SectionKind.{SectionKind}
+use Rattle.asm_text.specs.declared.unit.SectionKind.TheVariants.{Code, Data, Bss}
+use Rattle.asm_text.specs.declared.unit.AsmRelocation.{AsmRelocation}
+use Rattle.asm_text.specs.declared.TheConstants.{MAX_NAME, MAX_SECTIONS, MAX_SIZE, MAX_ENTRIES}
+
+pub record SectionValue : Type 0 where
+  pub name : List ℕ
+  pub kind : SectionKind
+  pub size : ℕ
+  pub bytes : List ℕ
+
+pub record SymbolValue : Type 0 where
+  pub name : List ℕ
+  pub global : Bool
+  pub home : Option ℕ
+  pub value : ℕ
+
+pub record UnitValue : Type 0 where
+  pub sections : List SectionValue
+  pub symbols : List SymbolValue
+  pub relocations : List AsmRelocation
+
+-- ---- names
+
+abbrev pub is_digit : ℕ → Bool
+is_digit b = nat_le 48 b && nat_le b 57
+
+-- a letter, a digit, `_` or `.`
+abbrev pub is_name_byte : ℕ → Bool
+is_name_byte b = (nat_le 97 b && nat_le b 122) || (nat_le 65 b && nat_le b 90) || is_digit b || (b == 95) || (b == 46)
+
+-- 1 to 64 letters, digits, `_` or `.`, no digit first
+abbrev pub is_name : List ℕ → Bool
+is_name [] = false
+is_name (b ∷ bs) = not (is_digit b) && nat_le (length (b ∷ bs)) MAX_NAME && list_all is_name_byte (b ∷ bs)
+
+-- ---- what is kept
+
+-- how many of a section's bytes stand in the file
+abbrev pub kept_size : SectionKind → ℕ → ℕ
+kept_size Code size = size
+kept_size Data size = size
+kept_size Bss size = 0
+
+pub record IsSection (s : SectionValue) : Type 0 where
+  pub named : IsTrue (is_name s.name)
+  pub small : s.size ≤ MAX_SIZE
+  pub filled : length s.bytes ≡ kept_size s.kind s.size
+
+-- a local symbol has a home, and a home is a section
+pub record IsSymbol (sections : ℕ) (s : SymbolValue) : Type 0 where
+  pub named : IsTrue (is_name s.name)
+  pub local : s.global ≡ false → s.home ≢ None
+  pub home : (k : ℕ) → s.home ≡ Some k → k < sections
+
+pub record IsRelocation (sections symbols : ℕ) (r : AsmRelocation) : Type 0 where
+  pub section : r.section < sections
+  pub symbol : r.symbol < symbols
+
+pub record IsUnit (u : UnitValue) : Type 0 where
+  pub few_sections : length u.sections ≤ MAX_SECTIONS
+  pub few_symbols : length u.symbols ≤ MAX_ENTRIES
+  pub few_relocations : length u.relocations ≤ MAX_ENTRIES
+  pub sections_kept : All IsSection u.sections
+  pub symbols_kept : All (IsSymbol (length u.sections)) u.symbols
+  pub relocations_kept : All (IsRelocation (length u.sections) (length u.symbols)) u.relocations
+  pub sections_differ : AllPairs (λ a b. a.name ≢ b.name) u.sections
+  pub symbols_differ : AllPairs (λ a b. a.name ≢ b.name) u.symbols

@@ -1,0 +1,18 @@
+-- The values that the code's types stand for.
+use Rattle.std.specs.Prelude.{List, map, string_bytes, Vec}
+use Rattle.std.specs.declared.alloc.Global.{Global}
+use Rattle.asm_text.specs.declared.unit.AsmSection.{AsmSection}
+use Rattle.asm_text.specs.declared.unit.AsmSymbol.{AsmSymbol}
+use Rattle.asm_text.specs.Parts.{SectionValue, SymbolValue}
+
+abbrev pub section_of : AsmSection → SectionValue
+section_of s = record { name = string_bytes s.name; kind = s.kind; size = s.size; bytes = s.bytes.items }
+
+abbrev pub sections_of : Vec AsmSection Global → List SectionValue
+sections_of v = map section_of v.items
+
+abbrev pub symbol_of : AsmSymbol → SymbolValue
+symbol_of s = record { name = string_bytes s.name; global = s.global; home = s.home; value = s.value }
+
+abbrev pub symbols_of : Vec AsmSymbol Global → List SymbolValue
+symbols_of v = map symbol_of v.items

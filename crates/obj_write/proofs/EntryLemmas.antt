@@ -1,0 +1,294 @@
+-- The entries of the tables of symbols and relocations of a unit's file, as they are read.
+use Rattle.std.proofs.Common.{◌≡◌, ℕ, zero, suc, ◌+◌, ◌*◌, ◌/◌, ◌%◌, ◌<◌, ◌≤◌, ◌^◌, List, [], ◌∷◌, ◌++◌, refl, ap, subst, ◌∙◌, arith, length, take, drop, get_or, length-append, Bool, true, false, not, cond, ltb, eqb, ◌&&◌, ◌||◌, Option, Some, None, is_none}
+use Rattle.std.specs.List.{flat_map}
+use Rattle.std.proofs.lemmas.List.{length-map, length-take, take-append-drop}
+use Rattle.std.proofs.lemmas.List.Concat.{flat_map-append}
+use Rattle.std.proofs.lemmas.List.Elements.{All-get_or, All-filter}
+use Rattle.elf_objects.specs.declared.fault.ElfFault.TheVariants as fault
+use Rattle.elf_objects.specs.Bytes.{word_at}
+use Rattle.elf_objects.specs.Passes.{all_below, refuse_if, first_below, or_else}
+use Rattle.elf_objects.specs.declared.section.Header.{Header}
+use Rattle.elf_objects.specs.declared.symbol.Entry.{Entry}
+use Rattle.elf_objects.specs.Header.{section_count, header_fault, table_fault}
+use Rattle.elf_objects.specs.Section.{header_of, content, is_alignment, is_loaded_header, is_kept_table}
+use Rattle.elf_objects.specs.Names.{end_in, name_end}
+use Rattle.elf_objects.specs.Symbol.{entry_of, count_in, strings_of, is_bad_common, is_bad_home, symbol_fault, header_at, symbols_header, count_of, faults_in, symbol_faults}
+use Rattle.elf_objects.specs.Relocation.{relocation_of, entry_fault, relocation_fault, relocation_faults}
+use Rattle.elf_objects.specs.Object.{contents_fault, elf_fault_of}
+use Rattle.asm_text.specs.declared.unit.SectionKind.{SectionKind}
+use Rattle.asm_text.specs.declared.unit.SectionKind.TheVariants.{Code, Data, Bss}
+use Rattle.asm_text.specs.declared.unit.AsmRelocation.{AsmRelocation}
+use Rattle.asm_text.specs.Parts.{SymbolValue, UnitValue, IsUnit, IsSymbol, IsRelocation}
+use Rattle.obj_write.specs.declared.symbols.TheConstants.{SYMBOL_SIZE}
+use Rattle.obj_write.specs.Bytes.{half_bytes, word_bytes, zeros}
+use Rattle.obj_write.specs.Strings.{terminated, string_table, name_at}
+use Rattle.obj_write.specs.Sections.{FileSection, no_section, content_at}
+use Rattle.obj_write.specs.Symbols.{no_symbol, info_of, home_index, symbol_entry, symbol_entry_at, symbol_names}
+use Rattle.obj_write.specs.Symbols as own
+use Rattle.obj_write.specs.Relocations.{relocation_entry, relocation_table, relocations_in}
+use Rattle.obj_write.specs.Object.{no_part, kind_of, symbols_head, strings_head, relocations_head, symtab_index, shstrtab_index, relocated_in, section_names, file_sections, object_of}
+use Rattle.obj_write.specs.Reader.{no_relocation}
+use Rattle.obj_write.proofs.ReadLemmas.{Stands, stands_left, stands_right, stands_below, stands_each, length_below, word_read, word_low, half_read, byte_read, header}
+use Rattle.obj_write.proofs.FileLemmas.{nothing_below, no_head}
+use Rattle.obj_write.proofs.SizeLemmas.{length_sections, symtab_at, strtab_at, relocations_at, length_relocations, length_symbols, length_symbol_at, entries_length}
+use Rattle.obj_write.proofs.NameLemmas.{name_ends, content_read, symbol_strings}
+use Rattle.obj_write.proofs.UnitLemmas.{symtab_parts, strtab_parts, target_of, relocation_parts, symbol_names_few}
+use Rattle.obj_write.proofs.HeaderLemmas.{content_stands, unit_laid, counted_sections, zero_header, part_read, symtab_read, strtab_read, shstrtab_read, relocations_read}
+use Rattle.obj_write.proofs.FaultLemmas.{every_index, no_section_faults, no_compressed_faults, no_rel_faults, no_name_faults}
+use Rattle.obj_write.proofs.LinkLemmas.{first_table, no_link_faults, both_none, other_index, below, false_and}
+
+-- ---- the table of symbols
+
+abbrev pub symbols_read : UnitValue → Header
+symbols_read unit = header (record (symbols_head (name_at (section_names unit) (length unit.sections)) (length (own.symbol_table unit.symbols)) unit) { offset = content_at (file_sections unit) (length unit.sections + 0) })
+
+abbrev pub strings_read : UnitValue → Header
+strings_read unit = header (record (strings_head (name_at (section_names unit) (length unit.sections + 1)) (length (string_table (symbol_names unit.symbols)))) { offset = content_at (file_sections unit) (length unit.sections + 1) })
+
+pub symbols_header_is : (unit : UnitValue) → IsUnit unit → symbols_header (object_of unit) ≡ Some (symbols_read unit)
+unfolding symbols_header
+symbols_header_is unit is = ap (header_at (object_of unit)) (first_table unit is) ∙ ap Some (symtab_read unit is)
+
+pub symbol_count : (unit : UnitValue) → count_in (symbols_read unit) ≡ suc (length unit.symbols)
+symbol_count unit = let n = length_symbols unit.symbols in omega (arith, n)
+
+symbols_stand : (unit : UnitValue) → IsUnit unit → Stands (object_of unit) (symbols_read unit).offset (own.symbol_table unit.symbols)
+symbols_stand unit is =
+    let k : ℕ = length unit.sections + 0 in
+    let n = length_sections unit in
+    let same : (get_or (file_sections unit) k no_section).content ≡ own.symbol_table unit.symbols = ap (λ (t : FileSection). t.content) (symtab_at unit) ∙ (symtab_parts unit).1 in
+    subst (λ (l : List ℕ). Stands (object_of unit) (content_at (file_sections unit) k) l) same
+    (content_stands (file_sections unit) (shstrtab_index unit) (object_of unit) k (unit_laid unit is) (omega (arith, n)))
+
+pub strings_stand : (unit : UnitValue) → IsUnit unit → Stands (object_of unit) (strings_read unit).offset (string_table (symbol_names unit.symbols))
+strings_stand unit is =
+    let k : ℕ = length unit.sections + 1 in
+    let n = length_sections unit in
+    let same : (get_or (file_sections unit) k no_section).content ≡ string_table (symbol_names unit.symbols) = ap (λ (t : FileSection). t.content) (strtab_at unit) ∙ (strtab_parts unit).1 in
+    subst (λ (l : List ℕ). Stands (object_of unit) (content_at (file_sections unit) k) l) same
+    (content_stands (file_sections unit) (shstrtab_index unit) (object_of unit) k (unit_laid unit is) (omega (arith, n)))
+
+pub strings_header : (unit : UnitValue) → IsUnit unit → strings_of (object_of unit) (symbols_read unit) ≡ strings_read unit
+strings_header unit is =
+    let there : length unit.sections + 2 ≡ suc (length unit.sections + 1) = omega arith in
+    ap (header_of (object_of unit)) there ∙ strtab_read unit is
+
+pub strings_content : (unit : UnitValue) → IsUnit unit → content (object_of unit) (strings_of (object_of unit) (symbols_read unit)) ≡ string_table (symbol_names unit.symbols)
+strings_content unit is =
+    ap (content (object_of unit)) (strings_header unit is) ∙ content_read (object_of unit) (strings_read unit) (string_table (symbol_names unit.symbols)) refl (strings_stand unit is)
+
+-- ---- an entry of it
+
+entry_stands_by : (file : List ℕ) (at : ℕ) (symbols : List SymbolValue) (k : ℕ) → k < length symbols → Stands file at (own.symbol_table symbols) → Stands file (at + 16 * suc k) (symbol_entry_at symbols k)
+unfolding own.symbol_table
+entry_stands_by file at symbols k lt s =
+    let f : ℕ → List ℕ = symbol_entry_at symbols in
+    let r = stands_right file at (at + 16) (zeros SYMBOL_SIZE) (all_below f (length symbols)) refl s in
+    let n = length_below f 16 k (λ j _. length_symbol_at symbols j) in
+    let e : at + 16 + length (all_below f k) ≡ at + 16 * suc k = omega (arith, n) in
+    subst (λ (m : ℕ). Stands file m (symbol_entry_at symbols k)) e (stands_below file (at + 16) f (length symbols) k lt r)
+
+pub entry_stands : (unit : UnitValue) → IsUnit unit → (k : ℕ) → k < length unit.symbols → Stands (object_of unit) ((symbols_read unit).offset + 16 * suc k) (symbol_entry_at unit.symbols k)
+entry_stands unit is k lt = entry_stands_by (object_of unit) (symbols_read unit).offset unit.symbols k lt (symbols_stand unit is)
+
+-- the fields of an entry that are looked at
+pub record IsEntry (name : ℕ) (s : SymbolValue) (e : Entry) : Type 0 where
+  pub name_is : e.name ≡ name
+  pub value : e.value ≡ s.value % 2 ^ 32
+  pub size : e.size ≡ 0
+  pub binding : e.binding ≡ info_of s.global / 16
+  pub section : e.section ≡ home_index s.home
+
+pub entry_read : (file : List ℕ) (table : Header) (index name : ℕ) (s : SymbolValue) → name < 2 ^ 32 → home_index s.home < 2 ^ 16 → Stands file (table.offset + 16 * index) (symbol_entry name s) → IsEntry name s (entry_of file table index)
+unfolding entry_of symbol_entry
+entry_read file table index name s small home stands =
+    let at : ℕ = table.offset + 16 * index in
+    let t₃ : List ℕ = info_of s.global ∷ (0 ∷ half_bytes (home_index s.home)) in
+    let t₂ : List ℕ = word_bytes 0 ++ t₃ in
+    let t₁ : List ℕ = word_bytes s.value ++ t₂ in
+    let s₁ = stands_right file at (at + 4) (word_bytes name) t₁ refl stands in
+    let s₂ = stands_right file (at + 4) (at + 8) (word_bytes s.value) t₂ (omega arith) s₁ in
+    let s₃ = stands_right file (at + 8) (at + 12) (word_bytes 0) t₃ (omega arith) s₂ in
+    let s₄ = stands_right file (at + 12) (at + 14) (info_of s.global ∷ (0 ∷ [])) (half_bytes (home_index s.home)) (omega arith) s₃ in
+    record {
+      name_is = word_read file at name small (stands_left file at (word_bytes name) t₁ stands);
+      value = word_low file (at + 4) s.value (stands_left file (at + 4) (word_bytes s.value) t₂ s₁);
+      size = word_read file (at + 8) 0 (omega arith) (stands_left file (at + 8) (word_bytes 0) t₃ s₂);
+      binding = ap (λ n. n / 16) (byte_read file (at + 12) (info_of s.global) (0 ∷ half_bytes (home_index s.home)) s₃);
+      section = half_read file (at + 14) (home_index s.home) home s₄;
+    }
+
+pub home_few : (sections : ℕ) (o : Option ℕ) → sections ≤ 256 → ((k : ℕ) → o ≡ Some k → k < sections) → home_index o ≤ sections
+home_few sections None few within = omega arith
+home_few sections (Some k) few within = let lt = within k refl in omega (arith, lt)
+
+bindings : (g : Bool) → ltb 2 (info_of g / 16) ≡ false
+bindings true = refl
+bindings false = refl
+
+four_false : (a b c d : Bool) → a ≡ false → b ≡ false → c ≡ false → d ≡ false → (a || b || c || d) ≡ false
+four_false a b c d p q r s = rw (p, q, r, s) refl
+
+pub symbol_name_few : (unit : UnitValue) (k : ℕ) → name_at (symbol_names unit.symbols) k ≤ length (string_table (symbol_names unit.symbols))
+unfolding name_at string_table
+symbol_name_few unit k =
+    let names : List (List ℕ) = symbol_names unit.symbols in
+    let e = ap (λ l. length (flat_map terminated l)) (take-append-drop k names) in
+    let a = ap length (flat_map-append terminated (take k names) (drop k names)) in
+    let b = length-append (flat_map terminated (take k names)) (flat_map terminated (drop k names)) in
+    omega (arith, e, a, b)
+
+-- the entry of a symbol of the unit
+pub entry_given : (unit : UnitValue) → IsUnit unit → (k : ℕ) → k < length unit.symbols
+    → IsEntry (name_at (symbol_names unit.symbols) k) (get_or unit.symbols k no_symbol) (entry_of (object_of unit) (symbols_read unit) (suc k))
+unfolding symbol_entry_at
+entry_given unit is k lt =
+    let s : SymbolValue = get_or unit.symbols k no_symbol in
+    let h = All-get_or (IsSymbol (length unit.sections)) unit.symbols k no_symbol lt is.symbols_kept in
+    let home = home_few (length unit.sections) s.home is.few_sections h.home in
+    let few = is.few_sections in
+    let name = symbol_name_few unit k in
+    let strings = symbol_names_few unit is in
+    entry_read (object_of unit) (symbols_read unit) (suc k) (name_at (symbol_names unit.symbols) k) s (omega (arith, name, strings)) (omega (arith, home, few)) (entry_stands unit is k lt)
+
+symbol_by : (unit : UnitValue) → IsUnit unit → (k : ℕ) → k < length unit.symbols → symbol_fault (object_of unit) (symbols_read unit) (suc k) ≡ None
+unfolding symbol_fault name_end
+symbol_by unit is k lt =
+    let file : List ℕ = object_of unit in
+    let table : Header = symbols_read unit in
+    let names : List (List ℕ) = symbol_names unit.symbols in
+    let s : SymbolValue = get_or unit.symbols k no_symbol in
+    let h = All-get_or (IsSymbol (length unit.sections)) unit.symbols k no_symbol lt is.symbols_kept in
+    let home = home_few (length unit.sections) s.home is.few_sections h.home in
+    let few = is.few_sections in
+    let e = entry_given unit is k lt in
+    let counted : length names ≡ length unit.symbols = length-map unit.symbols (λ (t : SymbolValue). t.name) in
+    let entry : Entry = entry_of file table (suc k) in
+    let ends : is_none (end_in (content file (strings_of file table)) entry.name) ≡ false
+    = ap (λ l. is_none (end_in l entry.name)) (strings_content unit is) ∙ (ap (λ n. is_none (end_in (string_table names) n)) e.name_is
+    ∙ ap (λ (o : Option ℕ). is_none o) (name_ends names 64 k (omega (arith, counted)) (symbol_strings unit is))) in
+    let binding : ltb 2 entry.binding ≡ false = ap (ltb 2) e.binding ∙ bindings s.global in
+    let count = counted_sections unit is in
+    let section = e.section in
+    let within : ltb entry.section (section_count file) ≡ true = below entry.section (section_count file) (omega (arith, count, home, section)) in
+    let homed : is_bad_home file entry ≡ false = ap (λ b. not b && not (eqb entry.section 0xFFF1) && not (eqb entry.section 0xFFF2)) within in
+    let common : is_bad_common entry ≡ false = false_and (eqb entry.section 0xFFF2) (eqb entry.binding 0 || not (is_alignment entry.value)) (other_index entry.section 0xFFF2 (omega (arith, home, section, few))) in
+    ap (λ b. refuse_if b (fault.Symbol (suc k)))
+    (four_false (is_none (end_in (content file (strings_of file table)) entry.name)) (ltb 2 entry.binding) (is_bad_home file entry) (is_bad_common entry) ends binding homed common)
+
+symbol_each : (unit : UnitValue) → IsUnit unit → (i : ℕ) → i < count_in (symbols_read unit) → symbol_fault (object_of unit) (symbols_read unit) i ≡ None
+unfolding symbol_fault
+symbol_each unit is zero lt = refl
+symbol_each unit is (suc k) lt = let n = symbol_count unit in symbol_by unit is k (omega (arith, n))
+
+pub no_symbol_faults : (unit : UnitValue) → IsUnit unit → symbol_faults (object_of unit) ≡ None
+unfolding symbol_faults
+no_symbol_faults unit is =
+    ap (faults_in (object_of unit)) (symbols_header_is unit is)
+    ∙ nothing_below (symbol_fault (object_of unit) (symbols_read unit)) (count_in (symbols_read unit)) (symbol_each unit is)
+
+-- ---- relocations
+
+abbrev pub relocations_head_read : UnitValue → ℕ → Header
+relocations_head_read unit j = header (record (relocations_head (name_at (section_names unit) (length unit.sections + 3 + j)) (length (relocation_table unit.relocations (target_of unit j))) (symtab_index unit) (target_of unit j)) { offset = content_at (file_sections unit) (length unit.sections + (3 + j)) })
+
+pub relocations_stand : (unit : UnitValue) → IsUnit unit → (j : ℕ) → j < length (relocated_in unit) → Stands (object_of unit) (relocations_head_read unit j).offset (relocation_table unit.relocations (target_of unit j))
+relocations_stand unit is j lt =
+    let k : ℕ = length unit.sections + (3 + j) in
+    let n = length_sections unit in
+    let same : (get_or (file_sections unit) k no_section).content ≡ relocation_table unit.relocations (target_of unit j) = ap (λ (t : FileSection). t.content) (relocations_at unit j lt) ∙ (relocation_parts unit j).1 in
+    subst (λ (l : List ℕ). Stands (object_of unit) (content_at (file_sections unit) k) l) same
+    (content_stands (file_sections unit) (shstrtab_index unit) (object_of unit) k (unit_laid unit is) (omega (arith, n)))
+
+pub relocation_stands : (file : List ℕ) (at : ℕ) (rs : List AsmRelocation) (section e : ℕ) → e < length (relocations_in rs section) → Stands file at (relocation_table rs section)
+    → Stands file (at + 12 * e) (relocation_entry (get_or (relocations_in rs section) e no_relocation))
+unfolding relocation_table
+relocation_stands file at rs section e lt s =
+    let list : List AsmRelocation = relocations_in rs section in
+    let n = entries_length (take e list) in
+    let m = length-take e list in
+    let at_entry : at + length (flat_map relocation_entry (take e list)) ≡ at + 12 * e = omega (arith, n, m) in
+    subst (λ (k : ℕ). Stands file k (relocation_entry (get_or list e no_relocation))) at_entry (stands_each file at relocation_entry list e no_relocation lt s)
+
+pub info_read : (file : List ℕ) (at : ℕ) (r : AsmRelocation) → r.symbol < 1048576 → Stands file at (relocation_entry r) → word_at file (at + 4) ≡ (r.symbol + 1) * 256 + 5
+unfolding relocation_entry
+info_read file at r few s =
+    let info : ℕ = (r.symbol + 1) * 256 + 5 in
+    let t₂ : List ℕ = word_bytes 0 ++ [] in
+    let t₁ : List ℕ = word_bytes info ++ t₂ in
+    word_read file (at + 4) info (omega arith) (stands_left file (at + 4) (word_bytes info) t₂ (stands_right file at (at + 4) (word_bytes r.offset) t₁ refl s))
+
+relocation_entry_by : (unit : UnitValue) → IsUnit unit → (j i symbols : ℕ) → j < length (relocated_in unit) → symbols ≡ suc (length unit.symbols)
+    → (e : ℕ) → e < (relocations_head_read unit j).size / 12 → entry_fault (object_of unit) symbols i (relocations_head_read unit j) e ≡ None
+unfolding entry_fault relocation_of
+relocation_entry_by unit is j i symbols lt count e within =
+    let file : List ℕ = object_of unit in
+    let target : ℕ = target_of unit j in
+    let list : List AsmRelocation = relocations_in unit.relocations target in
+    let at : ℕ = (relocations_head_read unit j).offset + 12 * e in
+    let n = length_relocations unit.relocations target in
+    let inside : e < length list = omega (arith, n) in
+    let r : AsmRelocation = get_or list e no_relocation in
+    let kept = All-get_or (IsRelocation (length unit.sections) (length unit.symbols)) list e no_relocation inside
+    (All-filter (λ (q : AsmRelocation). eqb q.section target) (IsRelocation (length unit.sections) (length unit.symbols)) unit.relocations is.relocations_kept) in
+    let symbol = kept.symbol in
+    let few = is.few_symbols in
+    let info = info_read file at r (omega (arith, symbol, few)) (relocation_stands file (relocations_head_read unit j).offset unit.relocations target e inside (relocations_stand unit is j lt)) in
+    let there : word_at file (at + 4) / 256 < symbols = omega (arith, info, symbol, count) in
+    ap (λ b. refuse_if (not b) (fault.Relocation i e)) (below (word_at file (at + 4) / 256) symbols there)
+
+not_kept_by : (file : List ℕ) (symbols i : ℕ) (h : Header) → header_of file i ≡ h → eqb h.kind 4 ≡ false → relocation_fault file symbols i ≡ None
+unfolding relocation_fault
+not_kept_by file symbols i h e other =
+    ap (λ (x : Header). cond (is_kept_table file x) (first_below (entry_fault file symbols i x) (x.size / 12)) None) e
+    ∙ ap (λ b. cond b (first_below (entry_fault file symbols i h) (h.size / 12)) None) (false_and (eqb h.kind 4) (is_loaded_header (header_of file h.info)) other)
+
+kept_by : (file : List ℕ) (symbols i : ℕ) (h : Header) → header_of file i ≡ h → ((e : ℕ) → e < h.size / 12 → entry_fault file symbols i h e ≡ None) → relocation_fault file symbols i ≡ None
+unfolding relocation_fault
+kept_by file symbols i h e each =
+    ap (λ (x : Header). cond (is_kept_table file x) (first_below (entry_fault file symbols i x) (x.size / 12)) None) e
+    ∙ by (is_kept_table file h) (nothing_below (entry_fault file symbols i h) (h.size / 12) each) where
+      by : (b : Bool) → first_below (entry_fault file symbols i h) (h.size / 12) ≡ None → cond b (first_below (entry_fault file symbols i h) (h.size / 12)) None ≡ None
+      by true none = none
+      by false none = refl
+
+part_kind : (K : SectionKind) → eqb (kind_of K) 4 ≡ false
+part_kind Code = refl
+part_kind Data = refl
+part_kind Bss = refl
+
+pub count_is : (unit : UnitValue) → IsUnit unit → count_of (symbols_header (object_of unit)) ≡ suc (length unit.symbols)
+count_is unit is = ap count_of (symbols_header_is unit is) ∙ symbol_count unit
+
+pub no_relocation_faults : (unit : UnitValue) → IsUnit unit → relocation_faults (object_of unit) ≡ None
+unfolding relocation_faults
+no_relocation_faults unit is =
+    let file : List ℕ = object_of unit in
+    let n : ℕ = length unit.sections in
+    let symbols : ℕ = count_of (symbols_header file) in
+    nothing_below (relocation_fault file symbols) (section_count file)
+    (every_index (λ i. relocation_fault file symbols i ≡ None) unit is
+    (not_kept_by file symbols 0 (header no_head) (zero_header unit is) refl)
+    (λ k lt. not_kept_by file symbols (suc k) _ (part_read unit is k lt) (part_kind (get_or unit.sections k no_part).kind))
+    (not_kept_by file symbols (suc (n + 0)) _ (symtab_read unit is) refl)
+    (not_kept_by file symbols (suc (n + 1)) _ (strtab_read unit is) refl)
+    (not_kept_by file symbols (suc (n + 2)) _ (shstrtab_read unit is) refl)
+    (λ j lt. kept_by file symbols (suc (n + (3 + j))) (relocations_head_read unit j) (relocations_read unit is j lt) (relocation_entry_by unit is j (suc (n + (3 + j))) symbols lt (count_is unit is))))
+
+-- ---- none at all
+
+no_contents_fault : (unit : UnitValue) → IsUnit unit → contents_fault (object_of unit) ≡ None
+unfolding contents_fault
+no_contents_fault unit is =
+    rw (no_section_faults unit is, no_link_faults unit is, no_name_faults unit is, no_compressed_faults unit is, no_rel_faults unit is, no_symbol_faults unit is, no_relocation_faults unit is) refl
+
+-- the object reader refuses no object that is written
+pub no_fault : (unit : UnitValue) → IsUnit unit → elf_fault_of (object_of unit) ≡ None
+unfolding elf_fault_of
+no_fault unit is =
+    let l = unit_laid unit is in
+    both_none (header_fault (object_of unit)) (cond (eqb (section_count (object_of unit)) 0) None (or_else (table_fault (object_of unit)) (contents_fault (object_of unit)))) l.header_none
+    (by (eqb (section_count (object_of unit)) 0) (both_none (table_fault (object_of unit)) (contents_fault (object_of unit)) l.table_none (no_contents_fault unit is))) where
+      by : (b : Bool) → or_else (table_fault (object_of unit)) (contents_fault (object_of unit)) ≡ None → cond b None (or_else (table_fault (object_of unit)) (contents_fault (object_of unit))) ≡ None
+      by true e = refl
+      by false e = e

@@ -1,0 +1,187 @@
+-- The faults that the sections of a unit's file do not have: those of sections, links, names and flags.
+use Rattle.std.proofs.Common.{◌≡◌, ℕ, zero, suc, ◌+◌, ◌/◌, ◌%◌, ◌<◌, ◌≤◌, List, [], refl, ap, subst, ◌∙◌, arith, length, get_or, Bool, true, false, not, ltb, eqb, ◌&&◌, ◌||◌, Option, Some, None, is_none}
+use Rattle.std.proofs.lemmas.Bool.Decides.{nat_tests}
+use Rattle.std.proofs.lemmas.List.Elements.{All-get_or}
+use Rattle.elf_objects.specs.declared.fault.ElfFault.{ElfFault}
+use Rattle.elf_objects.specs.declared.fault.ElfFault.TheVariants as fault
+use Rattle.elf_objects.specs.Passes.{refuse_if}
+use Rattle.elf_objects.specs.declared.section.Header.{Header}
+use Rattle.elf_objects.specs.Header.{section_count, name_table}
+use Rattle.elf_objects.specs.Section.{header_of, content, ends_past, is_absent, is_loaded, is_loaded_header, is_alignment, section_fault, section_faults, compressed_fault, compressed_faults, rel_fault, rel_faults}
+use Rattle.elf_objects.specs.Names.{end_in, name_end, name_fault, name_faults}
+use Rattle.asm_text.specs.declared.unit.SectionKind.{SectionKind}
+use Rattle.asm_text.specs.declared.unit.SectionKind.TheVariants.{Code, Data, Bss}
+use Rattle.asm_text.specs.Parts.{SectionValue, UnitValue, IsUnit, IsSection, kept_size}
+use Rattle.obj_write.specs.Strings.{string_table, name_at}
+use Rattle.obj_write.specs.Sections.{FileSection, no_section, content_at}
+use Rattle.obj_write.specs.Symbols.{symbol_names, symbol_table}
+use Rattle.obj_write.specs.Relocations.{relocation_table}
+use Rattle.obj_write.specs.Object.{no_part, kind_of, flags_of, strings_head, relocated_in, section_names, file_sections, shstrtab_index, object_of}
+use Rattle.obj_write.proofs.ReadLemmas.{Stands, header}
+use Rattle.obj_write.proofs.FileLemmas.{nothing_below, no_head}
+use Rattle.obj_write.proofs.ObjectLemmas.{length_names}
+use Rattle.obj_write.proofs.SizeLemmas.{length_sections, part_at, symtab_at, strtab_at, shstrtab_at, relocations_at, at_all}
+use Rattle.obj_write.proofs.NameLemmas.{name_ends, no_name_ends, content_read, section_strings}
+use Rattle.obj_write.proofs.UnitLemmas.{part_content, symtab_parts, strtab_parts, shstrtab_parts, target_of, relocation_parts}
+use Rattle.obj_write.proofs.HeaderLemmas.{content_stands, unit_laid, counted_sections, zero_header, part_read, symtab_read, strtab_read, shstrtab_read, relocations_read, ends_within}
+
+-- what holds of section 0 and of each kind of section holds at each index
+pub every_index : (P : ℕ → Type 0) (unit : UnitValue) → IsUnit unit → P 0 → ((k : ℕ) → k < length unit.sections → P (suc k)) → P (suc (length unit.sections + 0)) → P (suc (length unit.sections + 1)) → P (suc (length unit.sections + 2))
+    → ((j : ℕ) → j < length (relocated_in unit) → P (suc (length unit.sections + (3 + j)))) → (i : ℕ) → i < section_count (object_of unit) → P i
+every_index P unit is first parts a b c others zero lt = first
+every_index P unit is first parts a b c others (suc k) lt = let n = counted_sections unit is in at_all (λ i. P (suc i)) unit parts a b c others k (omega (arith, n))
+
+not_below : (a b : ℕ) → b ≤ a → ltb a b ≡ false
+not_below a b le = grind (arith, nat_tests)
+
+-- ---- sections
+
+zero_section : (unit : UnitValue) → IsUnit unit → section_fault (object_of unit) 0 ≡ None
+unfolding section_fault
+zero_section unit is = rw (zero_header unit is) refl
+
+part_sound : (K : SectionKind) (len at size bytes : ℕ) (f : ElfFault) → bytes ≡ kept_size K size → at + bytes ≤ len
+    → refuse_if ((not (eqb (kind_of K) 0 || eqb (kind_of K) 8) && ltb len (at + size)) || (is_loaded (kind_of K) (flags_of K) && not (is_alignment 2))) f ≡ None
+part_sound Code len at size bytes f e le = let p : ltb len (at + size) ≡ false = not_below len (at + size) (omega arith) in rw p refl
+part_sound Data len at size bytes f e le = let p : ltb len (at + size) ≡ false = not_below len (at + size) (omega arith) in rw p refl
+part_sound Bss len at size bytes f e le = refl
+
+part_fault : (unit : UnitValue) → IsUnit unit → (k : ℕ) → k < length unit.sections → section_fault (object_of unit) (suc k) ≡ None
+unfolding section_fault
+part_fault unit is k lt =
+    let s : SectionValue = get_or unit.sections k no_part in
+    let within = ends_within unit is k (omega arith) in
+    let sized : length ((get_or (file_sections unit) k no_section).content) ≡ length s.bytes = ap (λ (t : FileSection). length t.content) (part_at unit k lt) ∙ ap length (part_content unit k) in
+    let h = All-get_or IsSection unit.sections k no_part lt is.sections_kept in
+    rw (part_read unit is k lt) (part_sound s.kind (length (object_of unit)) (content_at (file_sections unit) k) s.size (length s.bytes) (fault.Section (suc k)) h.filled (omega (arith, within, sized)))
+
+table_fault_by : (file : List ℕ) (i : ℕ) (h : Header) → header_of file i ≡ h → ltb (length file) (h.offset + h.size) ≡ false → is_loaded_header h ≡ false → section_fault file i ≡ None
+unfolding section_fault
+table_fault_by file i h e past flat =
+    ap (λ (x : Header). refuse_if ((not (is_absent x) && ends_past file x) || (is_loaded_header x && not (is_alignment x.align))) (fault.Section i)) e
+    ∙ by (not (is_absent h)) (ltb (length file) (h.offset + h.size)) (is_loaded_header h) past flat where
+      by : (a b c : Bool) → b ≡ false → c ≡ false → refuse_if ((a && b) || (c && not (is_alignment h.align))) (fault.Section i) ≡ None
+      by true b c p q = rw (p, q) refl
+      by false b c p q = rw q refl
+
+symtab_fault : (unit : UnitValue) → IsUnit unit → section_fault (object_of unit) (suc (length unit.sections + 0)) ≡ None
+symtab_fault unit is =
+    let within = ends_within unit is (length unit.sections + 0) (omega arith) in
+    let sized : length ((get_or (file_sections unit) (length unit.sections + 0) no_section).content) ≡ length (symbol_table unit.symbols) = ap (λ (t : FileSection). length t.content) (symtab_at unit) ∙ ap length (symtab_parts unit).1 in
+    table_fault_by (object_of unit) (suc (length unit.sections + 0)) _ (symtab_read unit is) (not_below (length (object_of unit)) (content_at (file_sections unit) (length unit.sections + 0) + length (symbol_table unit.symbols)) (omega (arith, within, sized))) refl
+
+strtab_fault : (unit : UnitValue) → IsUnit unit → section_fault (object_of unit) (suc (length unit.sections + 1)) ≡ None
+strtab_fault unit is =
+    let within = ends_within unit is (length unit.sections + 1) (omega arith) in
+    let sized : length ((get_or (file_sections unit) (length unit.sections + 1) no_section).content) ≡ length (string_table (symbol_names unit.symbols)) = ap (λ (t : FileSection). length t.content) (strtab_at unit) ∙ ap length (strtab_parts unit).1 in
+    table_fault_by (object_of unit) (suc (length unit.sections + 1)) _ (strtab_read unit is) (not_below (length (object_of unit)) (content_at (file_sections unit) (length unit.sections + 1) + length (string_table (symbol_names unit.symbols))) (omega (arith, within, sized))) refl
+
+shstrtab_fault : (unit : UnitValue) → IsUnit unit → section_fault (object_of unit) (suc (length unit.sections + 2)) ≡ None
+shstrtab_fault unit is =
+    let within = ends_within unit is (length unit.sections + 2) (omega arith) in
+    let sized : length ((get_or (file_sections unit) (length unit.sections + 2) no_section).content) ≡ length (string_table (section_names unit)) = ap (λ (t : FileSection). length t.content) (shstrtab_at unit) ∙ ap length (shstrtab_parts unit).1 in
+    table_fault_by (object_of unit) (suc (length unit.sections + 2)) _ (shstrtab_read unit is) (not_below (length (object_of unit)) (content_at (file_sections unit) (length unit.sections + 2) + length (string_table (section_names unit))) (omega (arith, within, sized))) refl
+
+relocations_fault : (unit : UnitValue) → IsUnit unit → (j : ℕ) → j < length (relocated_in unit) → section_fault (object_of unit) (suc (length unit.sections + (3 + j))) ≡ None
+relocations_fault unit is j lt =
+    let within = ends_within unit is (length unit.sections + (3 + j)) (omega arith) in
+    let table : List ℕ = relocation_table unit.relocations (target_of unit j) in
+    let sized : length ((get_or (file_sections unit) (length unit.sections + (3 + j)) no_section).content) ≡ length table = ap (λ (t : FileSection). length t.content) (relocations_at unit j lt) ∙ ap length (relocation_parts unit j).1 in
+    table_fault_by (object_of unit) (suc (length unit.sections + (3 + j))) _ (relocations_read unit is j lt) (not_below (length (object_of unit)) (content_at (file_sections unit) (length unit.sections + (3 + j)) + length table) (omega (arith, within, sized))) refl
+
+pub no_section_faults : (unit : UnitValue) → IsUnit unit → section_faults (object_of unit) ≡ None
+unfolding section_faults
+no_section_faults unit is =
+    nothing_below (section_fault (object_of unit)) (section_count (object_of unit))
+    (every_index (λ i. section_fault (object_of unit) i ≡ None) unit is (zero_section unit is) (part_fault unit is) (symtab_fault unit is) (strtab_fault unit is) (shstrtab_fault unit is) (relocations_fault unit is))
+
+-- ---- flags
+
+compressed_by : (file : List ℕ) (i : ℕ) (h : Header) → header_of file i ≡ h → (is_loaded_header h && eqb (h.flags / 2048 % 2) 1) ≡ false → compressed_fault file i ≡ None
+unfolding compressed_fault
+compressed_by file i h e flat =
+    ap (λ (x : Header). refuse_if (is_loaded_header x && eqb (x.flags / 2048 % 2) 1) (fault.Compressed i)) e ∙ ap (λ b. refuse_if b (fault.Compressed i)) flat
+
+part_flags : (K : SectionKind) → (is_loaded (kind_of K) (flags_of K) && eqb (flags_of K / 2048 % 2) 1) ≡ false
+part_flags Code = refl
+part_flags Data = refl
+part_flags Bss = refl
+
+pub no_compressed_faults : (unit : UnitValue) → IsUnit unit → compressed_faults (object_of unit) ≡ None
+unfolding compressed_faults
+no_compressed_faults unit is =
+    let file : List ℕ = object_of unit in
+    nothing_below (compressed_fault file) (section_count file)
+    (every_index (λ i. compressed_fault file i ≡ None) unit is
+    (compressed_by file 0 (header no_head) (zero_header unit is) refl)
+    (λ k lt. compressed_by file (suc k) _ (part_read unit is k lt) (part_flags (get_or unit.sections k no_part).kind))
+    (compressed_by file (suc (length unit.sections + 0)) _ (symtab_read unit is) refl)
+    (compressed_by file (suc (length unit.sections + 1)) _ (strtab_read unit is) refl)
+    (compressed_by file (suc (length unit.sections + 2)) _ (shstrtab_read unit is) refl)
+    (λ j lt. compressed_by file (suc (length unit.sections + (3 + j))) _ (relocations_read unit is j lt) refl))
+
+rel_by : (file : List ℕ) (i : ℕ) (h : Header) → header_of file i ≡ h → eqb h.kind 9 ≡ false → rel_fault file i ≡ None
+unfolding rel_fault
+rel_by file i h e other =
+    ap (λ (x : Header). refuse_if (eqb x.kind 9 && is_loaded_header (header_of file x.info)) (fault.RelSection i)) e
+    ∙ ap (λ b. refuse_if (b && is_loaded_header (header_of file h.info)) (fault.RelSection i)) other
+
+part_kind : (K : SectionKind) → eqb (kind_of K) 9 ≡ false
+part_kind Code = refl
+part_kind Data = refl
+part_kind Bss = refl
+
+pub no_rel_faults : (unit : UnitValue) → IsUnit unit → rel_faults (object_of unit) ≡ None
+unfolding rel_faults
+no_rel_faults unit is =
+    let file : List ℕ = object_of unit in
+    nothing_below (rel_fault file) (section_count file)
+    (every_index (λ i. rel_fault file i ≡ None) unit is
+    (rel_by file 0 (header no_head) (zero_header unit is) refl)
+    (λ k lt. rel_by file (suc k) _ (part_read unit is k lt) (part_kind (get_or unit.sections k no_part).kind))
+    (rel_by file (suc (length unit.sections + 0)) _ (symtab_read unit is) refl)
+    (rel_by file (suc (length unit.sections + 1)) _ (strtab_read unit is) refl)
+    (rel_by file (suc (length unit.sections + 2)) _ (shstrtab_read unit is) refl)
+    (λ j lt. rel_by file (suc (length unit.sections + (3 + j))) _ (relocations_read unit is j lt) refl))
+
+-- ---- names
+
+pub names_at : (unit : UnitValue) → IsUnit unit → name_table (object_of unit) ≡ suc (length unit.sections + 2)
+names_at unit is = let l = unit_laid unit is in let e = l.strings in omega (arith, e)
+
+pub names_content : (unit : UnitValue) → IsUnit unit → content (object_of unit) (header_of (object_of unit) (name_table (object_of unit))) ≡ string_table (section_names unit)
+names_content unit is =
+    let file : List ℕ = object_of unit in
+    let k : ℕ = length unit.sections + 2 in
+    let h : Header = header (record (strings_head (name_at (section_names unit) (length unit.sections + 2)) (length (string_table (section_names unit)))) { offset = content_at (file_sections unit) k }) in
+    let n = length_sections unit in
+    let stands = content_stands (file_sections unit) (shstrtab_index unit) file k (unit_laid unit is) (omega (arith, n)) in
+    let same : (get_or (file_sections unit) k no_section).content ≡ string_table (section_names unit) = ap (λ (t : FileSection). t.content) (shstrtab_at unit) ∙ (shstrtab_parts unit).1 in
+    ap (λ i. content file (header_of file i)) (names_at unit is)
+    ∙ (ap (content file) (shstrtab_read unit is)
+    ∙ content_read file h (string_table (section_names unit)) refl (subst (λ (l : List ℕ). Stands file (content_at (file_sections unit) k) l) same stands))
+
+name_by : (unit : UnitValue) → IsUnit unit → (i at end : ℕ) → (header_of (object_of unit) i).name ≡ at → end_in (string_table (section_names unit)) at ≡ Some end → name_fault (object_of unit) i ≡ None
+unfolding name_fault name_end
+name_by unit is i at end e ends =
+    ap (λ l. refuse_if (is_none (end_in l ((header_of (object_of unit) i).name))) (fault.Name i)) (names_content unit is)
+    ∙ (ap (λ n. refuse_if (is_none (end_in (string_table (section_names unit)) n)) (fault.Name i)) e
+    ∙ ap (λ (o : Option ℕ). refuse_if (is_none o) (fault.Name i)) ends)
+
+section_name_ends : (unit : UnitValue) → IsUnit unit → (k : ℕ) → k < length unit.sections + (3 + length (relocated_in unit))
+    → end_in (string_table (section_names unit)) (name_at (section_names unit) k) ≡ Some (name_at (section_names unit) k + length (get_or (section_names unit) k []))
+section_name_ends unit is k lt = let n = length_names unit in name_ends (section_names unit) 69 k (omega (arith, n)) (section_strings unit is)
+
+pub no_name_faults : (unit : UnitValue) → IsUnit unit → name_faults (object_of unit) ≡ None
+unfolding name_faults
+no_name_faults unit is =
+    let file : List ℕ = object_of unit in
+    let n : ℕ = length unit.sections in
+    nothing_below (name_fault file) (section_count file)
+    (every_index (λ i. name_fault file i ≡ None) unit is
+    (name_by unit is 0 0 0 (ap (λ (h : Header). h.name) (zero_header unit is)) (no_name_ends (section_names unit)))
+    (λ k lt. name_by unit is (suc k) _ _ (ap (λ (h : Header). h.name) (part_read unit is k lt)) (section_name_ends unit is k (omega arith)))
+    (name_by unit is (suc (n + 0)) _ _ (ap (λ (h : Header). h.name) (symtab_read unit is)) (section_name_ends unit is n (omega arith)))
+    (name_by unit is (suc (n + 1)) _ _ (ap (λ (h : Header). h.name) (strtab_read unit is)) (section_name_ends unit is (n + 1) (omega arith)))
+    (name_by unit is (suc (n + 2)) _ _ (ap (λ (h : Header). h.name) (shstrtab_read unit is)) (section_name_ends unit is (n + 2) (omega arith)))
+    (λ j lt. name_by unit is (suc (n + (3 + j))) _ _ (ap (λ (h : Header). h.name) (relocations_read unit is j lt)) (section_name_ends unit is (n + 3 + j) (omega arith))))

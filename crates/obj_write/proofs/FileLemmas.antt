@@ -1,0 +1,182 @@
+-- What the object reader reads of a file of sections: its header and the headers of its sections.
+use Rattle.std.proofs.Common.{◌≡◌, ℕ, zero, suc, ◌+◌, ◌*◌, ◌<◌, ◌≤◌, ◌^◌, List, [], ◌∷◌, ◌++◌, refl, ap, sym, subst, ◌∙◌, arith, length, length-append, Bool, true, false, not, ltb, slice_index, Option, None}
+use Rattle.std.proofs.lemmas.Bool.Decides.{nat_tests}
+use Rattle.std.proofs.lemmas.List.{append-nil}
+use Rattle.elf_objects.specs.Bytes.{half_at, word_at}
+use Rattle.elf_objects.specs.Passes.{all_below, first_below}
+use Rattle.elf_objects.specs.Header.{table_offset, section_count, name_table, header_fault, table_fault}
+use Rattle.elf_objects.specs.Section.{header_of}
+use Rattle.obj_write.specs.declared.sections.Head.{Head}
+use Rattle.obj_write.specs.declared.sections.TheConstants.{FILE_HEADER_SIZE, SECTION_HEADER_SIZE}
+use Rattle.obj_write.specs.Bytes.{half_bytes, word_bytes, zeros}
+use Rattle.obj_write.specs.Sections.{FileSection, contents_of, head_of, head_bytes, header_table}
+use Rattle.obj_write.specs.Object.{identification, file_header, file_of}
+use Rattle.obj_write.proofs.ReadLemmas.{Stands, stands_left, stands_right, stands_within, word_read, half_read, byte_read, IsSmall, header, header_read, stands_below, length_below}
+
+-- ---- tests
+
+passed : (b : Bool) → b ≡ true → not b ≡ false
+passed true e = refl
+passed false e = cc
+
+-- nothing is found below a count
+pub nothing_below : {A : Type 0} (f : ℕ → Option A) (n : ℕ) → ((k : ℕ) → k < n → f k ≡ None) → first_below f n ≡ None
+unfolding first_below
+nothing_below f zero each = refl
+nothing_below f (suc n) each = rw (nothing_below f n (λ k lt. each k (omega arith))) (each n (omega arith))
+
+header_fault_none : (file : List ℕ) → ltb (length file) 52 ≡ false → word_at file 0 ≡ 0x464c457f → slice_index file 4 ≡ 1 → slice_index file 5 ≡ 1 → slice_index file 6 ≡ 1
+    → word_at file 20 ≡ 1 → half_at file 18 ≡ 105 → half_at file 16 ≡ 1 → header_fault file ≡ None
+unfolding header_fault
+header_fault_none file short magic class order version version_too machine kind = rw (short, magic, class, order, version, version_too, machine, kind) refl
+
+table_fault_none : (file : List ℕ) → half_at file 46 ≡ 40 → ltb (length file) (table_offset file + 40 * section_count file) ≡ false → table_fault file ≡ None
+unfolding table_fault
+table_fault_none file size short = rw (size, short) refl
+
+-- ---- the file
+
+-- where the table of headers stands
+abbrev pub table_place : List FileSection → ℕ
+table_place sections = FILE_HEADER_SIZE + length (contents_of sections)
+
+-- what is read of a file of sections
+pub record IsLaid (sections : List FileSection) (names : ℕ) (file : List ℕ) : Type 0 where
+  pub contents : Stands file FILE_HEADER_SIZE (contents_of sections)
+  pub headers : Stands file (table_place sections) (header_table sections)
+  pub table : table_offset file ≡ table_place sections
+  pub count : section_count file ≡ length sections + 1
+  pub strings : name_table file ≡ names
+  pub header_none : header_fault file ≡ None
+  pub table_none : table_fault file ≡ None
+
+pub stands_whole : (file bytes : List ℕ) → file ≡ bytes → Stands file 0 bytes
+stands_whole file bytes e = record { front = []; rest = []; whole = e ∙ sym (append-nil bytes); begun = refl }
+
+length_head_bytes : (h : Head) → length (head_bytes h) ≡ 40
+unfolding head_bytes
+length_head_bytes h = refl
+
+pub length_headers : (sections : List FileSection) → length (header_table sections) ≡ 40 + 40 * length sections
+unfolding header_table
+length_headers sections =
+    let f : ℕ → List ℕ = λ k. head_bytes (head_of sections k) in
+    let a = length-append (zeros SECTION_HEADER_SIZE) (all_below f (length sections)) in
+    let b = length_below f 40 (length sections) (λ k lt. length_head_bytes (head_of sections k)) in
+    omega (arith, a, b)
+
+-- the fields of the header that are read
+record IsHeaded (file : List ℕ) (table count names : ℕ) : Type 0 where
+  magic : word_at file 0 ≡ 0x464c457f
+  class : slice_index file 4 ≡ 1
+  order : slice_index file 5 ≡ 1
+  version : slice_index file 6 ≡ 1
+  kind : half_at file 16 ≡ 1
+  machine : half_at file 18 ≡ 105
+  version_too : word_at file 20 ≡ 1
+  table_at : word_at file 32 ≡ table
+  entry : half_at file 46 ≡ 40
+  counted : half_at file 48 ≡ count
+  strings_at : half_at file 50 ≡ names
+
+headed : (file : List ℕ) (table count names : ℕ) → table < 2 ^ 32 → count < 2 ^ 16 → names < 2 ^ 16 → Stands file 0 (file_header table count names) → IsHeaded file table count names
+unfolding file_header
+headed file table count names small few low s =
+    let t₁₃ : List ℕ = half_bytes names in
+    let t₁₂ : List ℕ = half_bytes count ++ t₁₃ in
+    let t₁₁ : List ℕ = half_bytes 40 ++ t₁₂ in
+    let t₁₀ : List ℕ = half_bytes 0 ++ t₁₁ in
+    let t₉ : List ℕ = half_bytes 0 ++ t₁₀ in
+    let t₈ : List ℕ = half_bytes 52 ++ t₉ in
+    let t₇ : List ℕ = word_bytes 0 ++ t₈ in
+    let t₆ : List ℕ = word_bytes table ++ t₇ in
+    let t₅ : List ℕ = word_bytes 0 ++ t₆ in
+    let t₄ : List ℕ = word_bytes 0 ++ t₅ in
+    let t₃ : List ℕ = word_bytes 1 ++ t₄ in
+    let t₂ : List ℕ = half_bytes 105 ++ t₃ in
+    let t₁ : List ℕ = half_bytes 1 ++ t₂ in
+    let i₁ : List ℕ = 1 ∷ (1 ∷ (1 ∷ (zeros 9 ++ t₁))) in
+    let s₁ = stands_right file 0 16 identification t₁ refl s in
+    let s₂ = stands_right file 16 18 (half_bytes 1) t₂ refl s₁ in
+    let s₃ = stands_right file 18 20 (half_bytes 105) t₃ refl s₂ in
+    let s₄ = stands_right file 20 24 (word_bytes 1) t₄ refl s₃ in
+    let s₅ = stands_right file 24 28 (word_bytes 0) t₅ refl s₄ in
+    let s₆ = stands_right file 28 32 (word_bytes 0) t₆ refl s₅ in
+    let s₇ = stands_right file 32 36 (word_bytes table) t₇ refl s₆ in
+    let s₈ = stands_right file 36 40 (word_bytes 0) t₈ refl s₇ in
+    let s₉ = stands_right file 40 42 (half_bytes 52) t₉ refl s₈ in
+    let s₁₀ = stands_right file 42 44 (half_bytes 0) t₁₀ refl s₉ in
+    let s₁₁ = stands_right file 44 46 (half_bytes 0) t₁₁ refl s₁₀ in
+    let s₁₂ = stands_right file 46 48 (half_bytes 40) t₁₂ refl s₁₁ in
+    let s₁₃ = stands_right file 48 50 (half_bytes count) t₁₃ refl s₁₂ in
+    let b₄ = stands_right file 0 4 (word_bytes 0x464c457f) i₁ refl s in
+    let b₅ = stands_right file 4 5 (1 ∷ []) (1 ∷ (1 ∷ (zeros 9 ++ t₁))) refl b₄ in
+    let b₆ = stands_right file 5 6 (1 ∷ []) (1 ∷ (zeros 9 ++ t₁)) refl b₅ in
+    record {
+      magic = word_read file 0 0x464c457f (omega arith) (stands_left file 0 (word_bytes 0x464c457f) i₁ s);
+      class = byte_read file 4 1 (1 ∷ (1 ∷ (zeros 9 ++ t₁))) b₄;
+      order = byte_read file 5 1 (1 ∷ (zeros 9 ++ t₁)) b₅;
+      version = byte_read file 6 1 (zeros 9 ++ t₁) b₆;
+      kind = half_read file 16 1 (omega arith) (stands_left file 16 (half_bytes 1) t₂ s₁);
+      machine = half_read file 18 105 (omega arith) (stands_left file 18 (half_bytes 105) t₃ s₂);
+      version_too = word_read file 20 1 (omega arith) (stands_left file 20 (word_bytes 1) t₄ s₃);
+      table_at = word_read file 32 table small (stands_left file 32 (word_bytes table) t₇ s₆);
+      entry = half_read file 46 40 (omega arith) (stands_left file 46 (half_bytes 40) t₁₂ s₁₁);
+      counted = half_read file 48 count few (stands_left file 48 (half_bytes count) t₁₃ s₁₂);
+      strings_at = half_read file 50 names low s₁₃;
+    }
+
+length_first : (table count names : ℕ) → length (file_header table count names) ≡ 52
+unfolding file_header
+length_first table count names = refl
+
+pub laid : (sections : List FileSection) (names : ℕ) → table_place sections < 2 ^ 32 → length sections + 1 < 2 ^ 16 → names < 2 ^ 16 → IsLaid sections names (file_of sections names)
+unfolding file_of
+laid sections names small few low =
+    let file : List ℕ = file_of sections names in
+    let first : List ℕ = file_header (table_place sections) (length sections + 1) names in
+    let s = stands_whole file (first ++ (contents_of sections ++ header_table sections)) refl in
+    let h = headed file (table_place sections) (length sections + 1) names small few low (stands_left file 0 first (contents_of sections ++ header_table sections) s) in
+    let fifty_two : length first ≡ 52 = length_first (table_place sections) (length sections + 1) names in
+    let r = stands_right file 0 52 first (contents_of sections ++ header_table sections) (omega (arith, fifty_two)) s in
+    let t = stands_right file 52 (table_place sections) (contents_of sections) (header_table sections) refl r in
+    let within = stands_within file (table_place sections) (header_table sections) t in
+    let n = length_headers sections in
+    let ends : table_offset file + 40 * section_count file ≤ length file = let a = h.table_at in let b = ap (λ k. 40 * k) h.counted in omega (arith, within, n, a, b) in
+    record {
+      contents = stands_left file 52 (contents_of sections) (header_table sections) r;
+      headers = t;
+      table = h.table_at;
+      count = h.counted;
+      strings = h.strings_at;
+      header_none = header_fault_none file (let l = within in grind (arith, nat_tests)) h.magic h.class h.order h.version h.version_too h.machine h.kind;
+      table_none = table_fault_none file h.entry (grind (arith, nat_tests));
+    }
+
+-- ---- headers
+
+abbrev pub no_head : Head
+no_head = record { name = 0; kind = 0; flags = 0; offset = 0; size = 0; link = 0; info = 0; align = 0; entry_size = 0 }
+
+-- section 0
+pub first_header : (sections : List FileSection) (names : ℕ) (file : List ℕ) → IsLaid sections names file → header_of file 0 ≡ header no_head
+unfolding header_table head_bytes
+first_header sections names file laid =
+    let at : table_place sections ≡ table_offset file + 40 * 0 = let e = laid.table in omega (arith, e) in
+    let f : ℕ → List ℕ = λ k. head_bytes (head_of sections k) in
+    let small : IsSmall no_head = record { name = omega arith; kind = omega arith; flags = omega arith; offset = omega arith; size = omega arith; link = omega arith; info = omega arith; align = omega arith; entry_size = omega arith } in
+    header_read file 0 no_head small
+    (subst (λ (n : ℕ). Stands file n (head_bytes no_head)) at (stands_left file (table_place sections) (head_bytes no_head) (all_below f (length sections)) laid.headers))
+
+-- the sections after it
+pub next_header : (sections : List FileSection) (names : ℕ) (file : List ℕ) (k : ℕ) → IsLaid sections names file → k < length sections → IsSmall (head_of sections k)
+    → header_of file (suc k) ≡ header (head_of sections k)
+unfolding header_table
+next_header sections names file k laid lt small =
+    let f : ℕ → List ℕ = λ j. head_bytes (head_of sections j) in
+    let r = stands_right file (table_place sections) (table_place sections + 40) (zeros SECTION_HEADER_SIZE) (all_below f (length sections)) refl laid.headers in
+    let n = length_below f 40 k (λ j l. length_head_bytes (head_of sections j)) in
+    let e = laid.table in
+    let at : table_place sections + 40 + length (all_below f k) ≡ table_offset file + 40 * suc k = omega (arith, n, e) in
+    header_read file (suc k) (head_of sections k) small
+    (subst (λ (m : ℕ). Stands file m (head_bytes (head_of sections k))) at (stands_below file (table_place sections + 40) f (length sections) k lt r))

@@ -1,0 +1,243 @@
+-- The headers of a unit's file, as they are read, and the faults that they do not have.
+use Rattle.std.proofs.Common.{◌≡◌, ℕ, suc, ◌+◌, ◌<◌, ◌≤◌, ◌^◌, List, refl, ap, sym, subst, ◌∙◌, arith, length, take, get_or, length-append, not}
+use Rattle.std.specs.List.{flat_map}
+use Rattle.std.proofs.lemmas.List.Elements.{All-get_or}
+use Rattle.std.proofs.lemmas.List.Sums.{prefix_len-le-length}
+use Rattle.elf_objects.specs.Header.{section_count}
+use Rattle.elf_objects.specs.Section.{header_of}
+use Rattle.asm_text.specs.declared.unit.SectionKind.{SectionKind}
+use Rattle.asm_text.specs.declared.unit.SectionKind.TheVariants.{Code, Data, Bss}
+use Rattle.asm_text.specs.Parts.{SymbolValue, UnitValue, IsUnit, IsSection}
+use Rattle.obj_write.specs.declared.sections.Head.{Head}
+use Rattle.obj_write.specs.Bytes.{zeros, gap, padded}
+use Rattle.obj_write.specs.Strings.{string_table, name_at}
+use Rattle.obj_write.specs.Sections.{FileSection, no_section, contents_of, content_at, head_of}
+use Rattle.obj_write.specs.Symbols.{symbol_names, symbol_table, first_global}
+use Rattle.obj_write.specs.Relocations.{relocation_table}
+use Rattle.obj_write.specs.Object.{no_part, kind_of, flags_of, part_head, symbols_head, strings_head, relocations_head, symtab_index, relocated_in, section_names, part_section, symtab_section, strtab_section, shstrtab_section, relocation_section, file_sections, shstrtab_index, object_of}
+use Rattle.obj_write.proofs.ReadLemmas.{Stands, stands_left, stands_within, stands_each, IsSmall, header}
+use Rattle.obj_write.proofs.FileLemmas.{table_place, stands_whole, IsLaid, laid, no_head, first_header, next_header}
+use Rattle.obj_write.proofs.ObjectLemmas.{relocated_few, relocated_within}
+use Rattle.obj_write.proofs.SizeLemmas.{length_sections, part_at, symtab_at, strtab_at, shstrtab_at, relocations_at, at_all, relocations_few, length_symbols}
+use Rattle.obj_write.proofs.UnitLemmas.{part_header, symtab_parts, strtab_parts, shstrtab_parts, target_of, relocation_parts, symbol_names_few, section_names_few, name_few, few_contents}
+
+-- ---- where contents stand
+
+head_is : (sections : List FileSection) (k : ℕ) (s : FileSection) → get_or sections k no_section ≡ s → head_of sections k ≡ record s.head { offset = content_at sections k }
+unfolding head_of
+head_is sections k s e = ap (λ (t : FileSection). record t.head { offset = content_at sections k }) e
+
+pub content_stands : (sections : List FileSection) (names : ℕ) (file : List ℕ) (k : ℕ) → IsLaid sections names file → k < length sections
+    → Stands file (content_at sections k) (get_or sections k no_section).content
+unfolding contents_of content_at padded
+content_stands sections names file k laid lt =
+    let bytes : List ℕ = (get_or sections k no_section).content in
+    stands_left file (content_at sections k) bytes (zeros (gap (length bytes))) (stands_each file 52 (λ (s : FileSection). padded s.content) sections k no_section lt laid.contents)
+
+content_below : (sections : List FileSection) (k : ℕ) → k < length sections → content_at sections k + length ((get_or sections k no_section).content) ≤ table_place sections
+unfolding contents_of content_at padded
+content_below sections k lt =
+    let bytes : List ℕ = (get_or sections k no_section).content in
+    let s = stands_each (contents_of sections) 0 (λ (t : FileSection). padded t.content) sections k no_section lt (stands_whole (contents_of sections) (contents_of sections) refl) in
+    let within = stands_within (contents_of sections) (0 + length (flat_map (λ (t : FileSection). padded t.content) (take k sections))) (padded bytes) s in
+    let n = length-append bytes (zeros (gap (length bytes))) in
+    omega (arith, within, n)
+
+-- ---- fields
+
+kind_small : (k : SectionKind) → kind_of k < 9
+kind_small Code = omega arith
+kind_small Data = omega arith
+kind_small Bss = omega arith
+
+flags_small : (k : SectionKind) → flags_of k < 7
+flags_small Code = omega arith
+flags_small Data = omega arith
+flags_small Bss = omega arith
+
+global_few : (symbols : List SymbolValue) → first_global symbols ≤ 1 + length symbols
+unfolding first_global
+global_few symbols = let a = prefix_len-le-length (λ (s : SymbolValue). not s.global) symbols in omega (arith, a)
+
+offset_few : (unit : UnitValue) → IsUnit unit → (k : ℕ) → k < length (file_sections unit) → content_at (file_sections unit) k < 2 ^ 32
+offset_few unit is k lt = let a = content_below (file_sections unit) k lt in let b = few_contents unit is in omega (arith, a, b)
+
+-- ---- the header of each kind of section, with its place
+
+part_of_file : (unit : UnitValue) (k : ℕ) → k < length unit.sections
+    → head_of (file_sections unit) k ≡ record (part_head (get_or unit.sections k no_part) (name_at (section_names unit) k)) { offset = content_at (file_sections unit) k }
+part_of_file unit k lt = head_is (file_sections unit) k (part_section unit k) (part_at unit k lt) ∙ ap (λ (h : Head). record h { offset = content_at (file_sections unit) k }) (part_header unit k)
+
+symtab_of_file : (unit : UnitValue) → head_of (file_sections unit) (length unit.sections + 0)
+    ≡ record (symbols_head (name_at (section_names unit) (length unit.sections)) (length (symbol_table unit.symbols)) unit) { offset = content_at (file_sections unit) (length unit.sections + 0) }
+symtab_of_file unit = head_is (file_sections unit) (length unit.sections + 0) (symtab_section unit) (symtab_at unit) ∙ ap (λ (h : Head). record h { offset = content_at (file_sections unit) (length unit.sections + 0) }) (symtab_parts unit).0
+
+strtab_of_file : (unit : UnitValue) → head_of (file_sections unit) (length unit.sections + 1)
+    ≡ record (strings_head (name_at (section_names unit) (length unit.sections + 1)) (length (string_table (symbol_names unit.symbols)))) { offset = content_at (file_sections unit) (length unit.sections + 1) }
+strtab_of_file unit = head_is (file_sections unit) (length unit.sections + 1) (strtab_section unit) (strtab_at unit) ∙ ap (λ (h : Head). record h { offset = content_at (file_sections unit) (length unit.sections + 1) }) (strtab_parts unit).0
+
+shstrtab_of_file : (unit : UnitValue) → head_of (file_sections unit) (length unit.sections + 2)
+    ≡ record (strings_head (name_at (section_names unit) (length unit.sections + 2)) (length (string_table (section_names unit)))) { offset = content_at (file_sections unit) (length unit.sections + 2) }
+shstrtab_of_file unit = head_is (file_sections unit) (length unit.sections + 2) (shstrtab_section unit) (shstrtab_at unit) ∙ ap (λ (h : Head). record h { offset = content_at (file_sections unit) (length unit.sections + 2) }) (shstrtab_parts unit).0
+
+relocations_of_file : (unit : UnitValue) (j : ℕ) → j < length (relocated_in unit) → head_of (file_sections unit) (length unit.sections + (3 + j))
+    ≡ record (relocations_head (name_at (section_names unit) (length unit.sections + 3 + j)) (length (relocation_table unit.relocations (target_of unit j))) (symtab_index unit) (target_of unit j)) { offset = content_at (file_sections unit) (length unit.sections + (3 + j)) }
+relocations_of_file unit j lt = head_is (file_sections unit) (length unit.sections + (3 + j)) (relocation_section unit j) (relocations_at unit j lt) ∙ ap (λ (h : Head). record h { offset = content_at (file_sections unit) (length unit.sections + (3 + j)) }) (relocation_parts unit j).0
+
+-- ---- each field fits a word
+
+small_part : (unit : UnitValue) → IsUnit unit → (k : ℕ) → k < length unit.sections → IsSmall (head_of (file_sections unit) k)
+small_part unit is k lt =
+    let n = length_sections unit in
+    let name = name_few unit is k in
+    let kind = kind_small (get_or unit.sections k no_part).kind in
+    let flags = flags_small (get_or unit.sections k no_part).kind in
+    let at = offset_few unit is k (omega (arith, n)) in
+    let h = All-get_or IsSection unit.sections k no_part lt is.sections_kept in
+    let size = h.small in
+    subst IsSmall (sym (part_of_file unit k lt)) record {
+      name = omega (arith, name);
+      kind = omega (arith, kind);
+      flags = omega (arith, flags);
+      offset = at;
+      size = omega (arith, size);
+      link = omega arith;
+      info = omega arith;
+      align = omega arith;
+      entry_size = omega arith;
+    }
+
+small_symtab : (unit : UnitValue) → IsUnit unit → IsSmall (head_of (file_sections unit) (length unit.sections + 0))
+small_symtab unit is =
+    let n = length_sections unit in
+    let name = name_few unit is (length unit.sections) in
+    let at = offset_few unit is (length unit.sections + 0) (omega (arith, n)) in
+    let size = length_symbols unit.symbols in
+    let few = is.few_symbols in
+    let sections = is.few_sections in
+    let global = global_few unit.symbols in
+    subst IsSmall (sym (symtab_of_file unit)) record {
+      name = omega (arith, name);
+      kind = omega arith;
+      flags = omega arith;
+      offset = at;
+      size = omega (arith, size, few);
+      link = omega (arith, sections);
+      info = omega (arith, global, few);
+      align = omega arith;
+      entry_size = omega arith;
+    }
+
+small_strtab : (unit : UnitValue) → IsUnit unit → IsSmall (head_of (file_sections unit) (length unit.sections + 1))
+small_strtab unit is =
+    let n = length_sections unit in
+    let name = name_few unit is (length unit.sections + 1) in
+    let at = offset_few unit is (length unit.sections + 1) (omega (arith, n)) in
+    let size = symbol_names_few unit is in
+    subst IsSmall (sym (strtab_of_file unit)) record {
+      name = omega (arith, name);
+      kind = omega arith;
+      flags = omega arith;
+      offset = at;
+      size = omega (arith, size);
+      link = omega arith;
+      info = omega arith;
+      align = omega arith;
+      entry_size = omega arith;
+    }
+
+small_shstrtab : (unit : UnitValue) → IsUnit unit → IsSmall (head_of (file_sections unit) (length unit.sections + 2))
+small_shstrtab unit is =
+    let n = length_sections unit in
+    let name = name_few unit is (length unit.sections + 2) in
+    let at = offset_few unit is (length unit.sections + 2) (omega (arith, n)) in
+    let size = section_names_few unit is in
+    subst IsSmall (sym (shstrtab_of_file unit)) record {
+      name = omega (arith, name);
+      kind = omega arith;
+      flags = omega arith;
+      offset = at;
+      size = omega (arith, size);
+      link = omega arith;
+      info = omega arith;
+      align = omega arith;
+      entry_size = omega arith;
+    }
+
+-- a table of relocations is of a section of the unit
+pub target_within : (unit : UnitValue) (j : ℕ) → j < length (relocated_in unit) → target_of unit j < length unit.sections
+target_within unit j lt = All-get_or (λ i. i < length unit.sections) (relocated_in unit) j 0 lt (relocated_within unit.relocations (length unit.sections))
+
+small_relocations : (unit : UnitValue) → IsUnit unit → (j : ℕ) → j < length (relocated_in unit) → IsSmall (head_of (file_sections unit) (length unit.sections + (3 + j)))
+small_relocations unit is j lt =
+    let n = length_sections unit in
+    let name = name_few unit is (length unit.sections + 3 + j) in
+    let at = offset_few unit is (length unit.sections + (3 + j)) (omega (arith, n)) in
+    let size = relocations_few unit.relocations (target_of unit j) in
+    let few = is.few_relocations in
+    let sections = is.few_sections in
+    let target = target_within unit j lt in
+    subst IsSmall (sym (relocations_of_file unit j lt)) record {
+      name = omega (arith, name);
+      kind = omega arith;
+      flags = omega arith;
+      offset = at;
+      size = omega (arith, size, few);
+      link = omega (arith, sections);
+      info = omega (arith, target, sections);
+      align = omega arith;
+      entry_size = omega arith;
+    }
+
+pub small_heads : (unit : UnitValue) → IsUnit unit → (k : ℕ) → k < length unit.sections + (3 + length (relocated_in unit)) → IsSmall (head_of (file_sections unit) k)
+small_heads unit is =
+    at_all (λ k. IsSmall (head_of (file_sections unit) k)) unit (small_part unit is) (small_symtab unit is) (small_strtab unit is) (small_shstrtab unit is) (small_relocations unit is)
+
+-- ---- the file
+
+pub unit_laid : (unit : UnitValue) → IsUnit unit → IsLaid (file_sections unit) (shstrtab_index unit) (object_of unit)
+unfolding object_of
+unit_laid unit is =
+    let n = length_sections unit in
+    let m = relocated_few unit.relocations (length unit.sections) in
+    let few = is.few_sections in
+    laid (file_sections unit) (shstrtab_index unit) (few_contents unit is) (omega (arith, n, m, few)) (omega (arith, few))
+
+pub counted_sections : (unit : UnitValue) → IsUnit unit → section_count (object_of unit) ≡ suc (length unit.sections + (3 + length (relocated_in unit)))
+counted_sections unit is = let l = unit_laid unit is in let a = l.count in let n = length_sections unit in omega (arith, a, n)
+
+pub zero_header : (unit : UnitValue) → IsUnit unit → header_of (object_of unit) 0 ≡ header no_head
+zero_header unit is = first_header (file_sections unit) (shstrtab_index unit) (object_of unit) (unit_laid unit is)
+
+any_header : (unit : UnitValue) → IsUnit unit → (k : ℕ) → k < length unit.sections + (3 + length (relocated_in unit)) → header_of (object_of unit) (suc k) ≡ header (head_of (file_sections unit) k)
+any_header unit is k lt =
+    let n = length_sections unit in
+    next_header (file_sections unit) (shstrtab_index unit) (object_of unit) k (unit_laid unit is) (omega (arith, n)) (small_heads unit is k lt)
+
+pub part_read : (unit : UnitValue) → IsUnit unit → (k : ℕ) → k < length unit.sections
+    → header_of (object_of unit) (suc k) ≡ header (record (part_head (get_or unit.sections k no_part) (name_at (section_names unit) k)) { offset = content_at (file_sections unit) k })
+part_read unit is k lt = any_header unit is k (omega arith) ∙ ap header (part_of_file unit k lt)
+
+pub symtab_read : (unit : UnitValue) → IsUnit unit → header_of (object_of unit) (suc (length unit.sections + 0))
+    ≡ header (record (symbols_head (name_at (section_names unit) (length unit.sections)) (length (symbol_table unit.symbols)) unit) { offset = content_at (file_sections unit) (length unit.sections + 0) })
+symtab_read unit is = any_header unit is (length unit.sections + 0) (omega arith) ∙ ap header (symtab_of_file unit)
+
+pub strtab_read : (unit : UnitValue) → IsUnit unit → header_of (object_of unit) (suc (length unit.sections + 1))
+    ≡ header (record (strings_head (name_at (section_names unit) (length unit.sections + 1)) (length (string_table (symbol_names unit.symbols)))) { offset = content_at (file_sections unit) (length unit.sections + 1) })
+strtab_read unit is = any_header unit is (length unit.sections + 1) (omega arith) ∙ ap header (strtab_of_file unit)
+
+pub shstrtab_read : (unit : UnitValue) → IsUnit unit → header_of (object_of unit) (suc (length unit.sections + 2))
+    ≡ header (record (strings_head (name_at (section_names unit) (length unit.sections + 2)) (length (string_table (section_names unit)))) { offset = content_at (file_sections unit) (length unit.sections + 2) })
+shstrtab_read unit is = any_header unit is (length unit.sections + 2) (omega arith) ∙ ap header (shstrtab_of_file unit)
+
+pub relocations_read : (unit : UnitValue) → IsUnit unit → (j : ℕ) → j < length (relocated_in unit) → header_of (object_of unit) (suc (length unit.sections + (3 + j)))
+    ≡ header (record (relocations_head (name_at (section_names unit) (length unit.sections + 3 + j)) (length (relocation_table unit.relocations (target_of unit j))) (symtab_index unit) (target_of unit j)) { offset = content_at (file_sections unit) (length unit.sections + (3 + j)) })
+relocations_read unit is j lt = any_header unit is (length unit.sections + (3 + j)) (omega arith) ∙ ap header (relocations_of_file unit j lt)
+
+-- the bytes of a section end in the file
+pub ends_within : (unit : UnitValue) → IsUnit unit → (k : ℕ) → k < length unit.sections + (3 + length (relocated_in unit))
+    → content_at (file_sections unit) k + length ((get_or (file_sections unit) k no_section).content) ≤ length (object_of unit)
+ends_within unit is k lt =
+    let n = length_sections unit in
+    stands_within (object_of unit) (content_at (file_sections unit) k) ((get_or (file_sections unit) k no_section).content)
+    (content_stands (file_sections unit) (shstrtab_index unit) (object_of unit) k (unit_laid unit is) (omega (arith, n)))

@@ -1,0 +1,17 @@
+pub mod PassLemmas
+pub mod TableLemmas
+pub mod SymbolLemmas
+pub mod RelocationLemmas
+pub mod ObjectLemmas
+pub mod ReadLemmas
+pub mod FileLemmas
+pub mod SizeLemmas
+pub mod NameLemmas
+pub mod UnitLemmas
+pub mod HeaderLemmas
+pub mod FaultLemmas
+pub mod LinkLemmas
+pub mod EntryLemmas
+pub mod ReaderLemmas
+pub mod GivenLemmas
+pub mod RowLemmas

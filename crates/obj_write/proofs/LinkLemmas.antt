@@ -1,0 +1,180 @@
+-- The links between the sections of a unit's file.
+use Rattle.std.proofs.Common.{◌≡◌, ℕ, zero, suc, ◌+◌, ◌%◌, ◌<◌, List, refl, ap, ◌∙◌, arith, length, get_or, Bool, true, false, not, ltb, eqb, ◌&&◌, ◌||◌, Option, Some, None}
+use Rattle.std.proofs.lemmas.Bool.Decides.{nat_tests}
+use Rattle.elf_objects.specs.declared.fault.ElfFault.{ElfFault}
+use Rattle.elf_objects.specs.declared.fault.ElfFault.TheVariants as fault
+use Rattle.elf_objects.specs.Passes.{refuse_if, first_below, or_else}
+use Rattle.elf_objects.proofs.PassLemmas.{first_below_found}
+use Rattle.elf_objects.specs.declared.section.Header.{Header}
+use Rattle.elf_objects.specs.Header.{section_count, name_table}
+use Rattle.elf_objects.specs.Section.{header_of, is_loaded_header, is_kind, index_if, is_this, symbol_table, is_bad_symbol_table, is_kept_table, is_bad_kept_table, is_bad_link, link_fault, link_faults, name_table_fault}
+use Rattle.asm_text.specs.declared.unit.SectionKind.{SectionKind}
+use Rattle.asm_text.specs.declared.unit.SectionKind.TheVariants.{Code, Data, Bss}
+use Rattle.asm_text.specs.Parts.{UnitValue, IsUnit}
+use Rattle.obj_write.specs.Symbols.{symbol_names}
+use Rattle.obj_write.specs.Symbols as own
+use Rattle.obj_write.specs.Relocations.{relocation_table}
+use Rattle.obj_write.specs.Object.{no_part, kind_of, symtab_index, strtab_index, relocated_in, object_of}
+use Rattle.obj_write.proofs.ReadLemmas.{header}
+use Rattle.obj_write.proofs.FileLemmas.{nothing_below, no_head}
+use Rattle.obj_write.proofs.SizeLemmas.{length_relocations, length_symbols}
+use Rattle.obj_write.proofs.UnitLemmas.{target_of}
+use Rattle.obj_write.proofs.HeaderLemmas.{counted_sections, zero_header, part_read, symtab_read, strtab_read, shstrtab_read, relocations_read, target_within}
+use Rattle.obj_write.proofs.FaultLemmas.{every_index, names_at}
+
+-- ---- tests
+
+pub same_index : (a b : ℕ) → a ≡ b → eqb a b ≡ true
+same_index a b e = grind (arith, nat_tests)
+
+pub other_index : (a b : ℕ) → a < b → eqb a b ≡ false
+other_index a b lt = grind (arith, nat_tests)
+
+above : (a b : ℕ) → b < a → eqb a b ≡ false
+above a b lt = grind (arith, nat_tests)
+
+pub below : (a b : ℕ) → a < b → ltb a b ≡ true
+below a b lt = grind (arith, nat_tests)
+
+pub and_false : (x b : Bool) → b ≡ false → (x && b) ≡ false
+and_false true b e = e
+and_false false b e = refl
+
+pub false_and : (b x : Bool) → b ≡ false → (b && x) ≡ false
+false_and b x e = rw e refl
+
+four_false : (a b c d : Bool) (f : ElfFault) → a ≡ false → b ≡ false → c ≡ false → d ≡ false → refuse_if (a || b || c || d) f ≡ None
+four_false a b c d f p q r s = rw (p, q, r, s) refl
+
+four_nots : (a b c d : Bool) → a ≡ true → b ≡ true → c ≡ true → d ≡ true → (not a || not b || not c || not d) ≡ false
+four_nots a b c d p q r s = rw (p, q, r, s) refl
+
+three_nots : (a b c : Bool) → a ≡ true → b ≡ true → c ≡ true → (not a || not b || not c) ≡ false
+three_nots a b c p q r = rw (p, q, r) refl
+
+-- ---- the table of symbols
+
+no_table : (file : List ℕ) (i : ℕ) (h : Header) → header_of file i ≡ h → eqb h.kind 2 ≡ false → index_if (eqb ((header_of file i).kind) 2) i ≡ None
+no_table file i h e other = ap (λ (x : Header). index_if (eqb x.kind 2) i) e ∙ ap (λ b. index_if b i) other
+
+part_no_table : (K : SectionKind) → eqb (kind_of K) 2 ≡ false
+part_no_table Code = refl
+part_no_table Data = refl
+part_no_table Bss = refl
+
+tables_before : (unit : UnitValue) → IsUnit unit → (i : ℕ) → i < suc (length unit.sections + 0) → index_if (eqb ((header_of (object_of unit) i).kind) 2) i ≡ None
+tables_before unit is zero lt = no_table (object_of unit) 0 (header no_head) (zero_header unit is) refl
+tables_before unit is (suc k) lt = no_table (object_of unit) (suc k) _ (part_read unit is k (omega arith)) (part_no_table (get_or unit.sections k no_part).kind)
+
+-- it is the first one
+pub first_table : (unit : UnitValue) → IsUnit unit → symbol_table (object_of unit) ≡ Some (suc (length unit.sections + 0))
+unfolding symbol_table
+first_table unit is =
+    let file : List ℕ = object_of unit in
+    let i : ℕ = suc (length unit.sections + 0) in
+    let n = counted_sections unit is in
+    first_below_found (λ k. index_if (eqb ((header_of file k).kind) 2) k) (section_count file) i i (omega (arith, n))
+    (nothing_below (λ k. index_if (eqb ((header_of file k).kind) 2) k) i (tables_before unit is))
+    (ap (λ (h : Header). index_if (eqb h.kind 2) i) (symtab_read unit is))
+
+-- ---- links
+
+link_by : (file : List ℕ) (i : ℕ) (h : Header) → header_of file i ≡ h → (eqb i (name_table file) && not (eqb h.kind 3)) ≡ false → (eqb h.kind 2 && is_bad_symbol_table file i h) ≡ false
+    → ((eqb h.kind 4 || eqb h.kind 9) && not (ltb h.info (section_count file))) ≡ false → (is_kept_table file h && is_bad_kept_table file h) ≡ false → link_fault file i ≡ None
+unfolding link_fault
+link_by file i h e a b c d =
+    ap (λ (x : Header). refuse_if (is_bad_link file i x) (fault.Link i)) e
+    ∙ four_false (eqb i (name_table file) && not (eqb h.kind 3)) (eqb h.kind 2 && is_bad_symbol_table file i h) ((eqb h.kind 4 || eqb h.kind 9) && not (ltb h.info (section_count file))) (is_kept_table file h && is_bad_kept_table file h) (fault.Link i) a b c d
+
+other_than_names : (unit : UnitValue) → IsUnit unit → (i : ℕ) (x : Bool) → eqb i (suc (length unit.sections + 2)) ≡ false → (eqb i (name_table (object_of unit)) && x) ≡ false
+other_than_names unit is i x other = false_and (eqb i (name_table (object_of unit))) x (ap (eqb i) (names_at unit is) ∙ other)
+
+part_no_relocations : (K : SectionKind) (y : Bool) → ((eqb (kind_of K) 4 || eqb (kind_of K) 9) && y) ≡ false
+part_no_relocations Code y = refl
+part_no_relocations Data y = refl
+part_no_relocations Bss y = refl
+
+part_not_kept : (K : SectionKind) (x y : Bool) → (eqb (kind_of K) 4 && x && y) ≡ false
+part_not_kept Code x y = refl
+part_not_kept Data x y = refl
+part_not_kept Bss x y = refl
+
+part_link : (unit : UnitValue) → IsUnit unit → (k : ℕ) → k < length unit.sections → link_fault (object_of unit) (suc k) ≡ None
+part_link unit is k lt =
+    let K : SectionKind = (get_or unit.sections k no_part).kind in
+    link_by (object_of unit) (suc k) _ (part_read unit is k lt)
+    (other_than_names unit is (suc k) (not (eqb (kind_of K) 3)) (other_index (suc k) (suc (length unit.sections + 2)) (omega arith)))
+    (false_and (eqb (kind_of K) 2) _ (part_no_table K)) (part_no_relocations K _) (part_not_kept K _ _)
+
+strings_kind : (unit : UnitValue) → IsUnit unit → is_kind (object_of unit) 3 (strtab_index unit) ≡ true
+strings_kind unit is =
+    let file : List ℕ = object_of unit in
+    let n = counted_sections unit is in
+    let there : strtab_index unit ≡ suc (length unit.sections + 1) = omega arith in
+    let kind : (header_of file (strtab_index unit)).kind ≡ 3 = ap (λ i. (header_of file i).kind) there ∙ ap (λ (h : Header). h.kind) (strtab_read unit is) in
+    let within = below (strtab_index unit) (section_count file) (omega (arith, n)) in
+    rw (within, kind) refl
+
+is_first : (unit : UnitValue) → IsUnit unit → (i : ℕ) → i ≡ suc (length unit.sections + 0) → is_this (symbol_table (object_of unit)) i ≡ true
+is_first unit is i e = ap (λ o. is_this o i) (first_table unit is) ∙ same_index i (suc (length unit.sections + 0)) e
+
+symtab_link : (unit : UnitValue) → IsUnit unit → link_fault (object_of unit) (suc (length unit.sections + 0)) ≡ None
+symtab_link unit is =
+    let i : ℕ = suc (length unit.sections + 0) in
+    let size : ℕ = length (own.symbol_table unit.symbols) in
+    let n = length_symbols unit.symbols in
+    let whole : eqb (size % 16) 0 ≡ true = same_index (size % 16) 0 (omega (arith, n)) in
+    link_by (object_of unit) i _ (symtab_read unit is)
+    (other_than_names unit is i true (other_index i (suc (length unit.sections + 2)) (omega arith)))
+    (four_nots (is_this (symbol_table (object_of unit)) i) (is_kind (object_of unit) 3 (strtab_index unit)) true (eqb (size % 16) 0) (is_first unit is i refl) (strings_kind unit is) refl whole)
+    refl refl
+
+strtab_link : (unit : UnitValue) → IsUnit unit → link_fault (object_of unit) (suc (length unit.sections + 1)) ≡ None
+strtab_link unit is =
+    let i : ℕ = suc (length unit.sections + 1) in
+    link_by (object_of unit) i _ (strtab_read unit is) (other_than_names unit is i false (other_index i (suc (length unit.sections + 2)) (omega arith))) refl refl refl
+
+shstrtab_link : (unit : UnitValue) → IsUnit unit → link_fault (object_of unit) (suc (length unit.sections + 2)) ≡ None
+shstrtab_link unit is =
+    let i : ℕ = suc (length unit.sections + 2) in
+    link_by (object_of unit) i _ (shstrtab_read unit is) (and_false (eqb i (name_table (object_of unit))) false refl) refl refl refl
+
+relocations_link : (unit : UnitValue) → IsUnit unit → (j : ℕ) → j < length (relocated_in unit) → link_fault (object_of unit) (suc (length unit.sections + (3 + j))) ≡ None
+relocations_link unit is j lt =
+    let i : ℕ = suc (length unit.sections + (3 + j)) in
+    let file : List ℕ = object_of unit in
+    let size : ℕ = length (relocation_table unit.relocations (target_of unit j)) in
+    let target = target_within unit j lt in
+    let n = counted_sections unit is in
+    let m = length_relocations unit.relocations (target_of unit j) in
+    let within : ltb (target_of unit j + 1) (section_count file) ≡ true = below (target_of unit j + 1) (section_count file) (omega (arith, target, n)) in
+    let whole : eqb (size % 12) 0 ≡ true = same_index (size % 12) 0 (omega (arith, m)) in
+    link_by file i _ (relocations_read unit is j lt)
+    (other_than_names unit is i true (above i (suc (length unit.sections + 2)) (omega arith)))
+    refl (ap not within)
+    (and_false (is_loaded_header (header_of file (target_of unit j + 1))) _
+    (three_nots (is_this (symbol_table file) (symtab_index unit)) true (eqb (size % 12) 0) (is_first unit is (symtab_index unit) (omega arith)) refl whole))
+
+zero_link : (unit : UnitValue) → IsUnit unit → link_fault (object_of unit) 0 ≡ None
+zero_link unit is =
+    link_by (object_of unit) 0 (header no_head) (zero_header unit is) (other_than_names unit is 0 true (other_index 0 (suc (length unit.sections + 2)) (omega arith))) refl refl refl
+
+names_link : (unit : UnitValue) → IsUnit unit → name_table_fault (object_of unit) ≡ None
+unfolding name_table_fault
+names_link unit is =
+    let file : List ℕ = object_of unit in
+    let n = counted_sections unit is in
+    let e = names_at unit is in
+    let within = below (name_table file) (section_count file) (omega (arith, n, e)) in
+    ap (λ b. refuse_if (not b) (fault.Link (name_table file))) within
+
+pub both_none : {A : Type 0} (a b : Option A) → a ≡ None → b ≡ None → or_else a b ≡ None
+both_none a b p q = rw p q
+
+pub no_link_faults : (unit : UnitValue) → IsUnit unit → link_faults (object_of unit) ≡ None
+unfolding link_faults
+no_link_faults unit is =
+    both_none (first_below (link_fault (object_of unit)) (section_count (object_of unit))) (name_table_fault (object_of unit))
+    (nothing_below (link_fault (object_of unit)) (section_count (object_of unit))
+    (every_index (λ i. link_fault (object_of unit) i ≡ None) unit is (zero_link unit is) (part_link unit is) (symtab_link unit is) (strtab_link unit is) (shstrtab_link unit is) (relocations_link unit is)))
+    (names_link unit is)

@@ -1,0 +1,239 @@
+-- The sections of a unit's file, one after the other.
+use Rattle.std.proofs.Common.{◌≡◌, ℕ, zero, suc, ◌+◌, ◌<◌, ◌≤◌, List, [], ◌∷◌, ◌++◌, map, refl, ap, sym, subst, ◌∙◌, arith, append_assoc, length, get_or, length-append}
+use Rattle.std.specs.List.{All}
+use Rattle.std.proofs.lemmas.List.{get_or-map, append-nil, length-map}
+use Rattle.std.proofs.lemmas.List.Elements.{All-nil, All-append, All-cons, All-weaker, All-same, All-get_or}
+use Rattle.elf_objects.specs.Passes.{each_below, all_below}
+use Rattle.elf_objects.proofs.PassLemmas.{each_below_more, each_below_zero, length_each_below, at_each}
+use Rattle.asm_text.specs.declared.unit.AsmSection.{AsmSection}
+use Rattle.asm_text.specs.declared.unit.AsmRelocation.{AsmRelocation}
+use Rattle.asm_text.specs.declared.unit.AsmUnit.{AsmUnit}
+use Rattle.asm_text.specs.Parts.{SectionValue, UnitValue}
+use Rattle.asm_text.specs.Views.{section_of}
+use Rattle.asm_text.specs.Unit.{unit_of}
+use Rattle.obj_write.specs.declared.sections.Head.{Head}
+use Rattle.obj_write.specs.declared.sections.Sections.{Sections}
+use Rattle.obj_write.specs.declared.strings.Strings.{Strings}
+use Rattle.obj_write.specs.declared.sections.TheConstants.{FILE_HEADER_SIZE}
+use Rattle.obj_write.specs.Strings.{string_table, name_at, IsTableOf}
+use Rattle.obj_write.specs.Sections.{FileSection, contents_of, head_of, header_table, AreSections}
+use Rattle.obj_write.specs.Symbols.{symbol_names, symbol_table}
+use Rattle.obj_write.specs.Relocations.{relocations_in, relocation_table, index_where_some, relocated}
+use Rattle.obj_write.specs.Object.{no_part, table_names, part_names, relocation_name, relocated_in, section_names, part_head, part_section, relocations_head, symtab_index, relocation_section, symbols_head, strings_head, symtab_section, strtab_section, shstrtab_section, file_header, file_of}
+use Rattle.obj_write.proofs.RelocationLemmas.{counted}
+
+-- ---- the sections with relocations
+
+index_within : (rs : List AsmRelocation) (i n : ℕ) → i < n → All (λ k. k < n) (index_where_some rs i)
+index_within [] i n lt = All-nil (λ k. k < n)
+index_within (r ∷ rs) i n lt = All-cons (λ k. k < n) i [] lt (All-nil (λ k. k < n))
+
+relocated_below : (rs : List AsmRelocation) (n m : ℕ) → n ≤ m → All (λ k. k < m) (relocated rs n)
+unfolding relocated all_below
+relocated_below rs zero m le = All-nil (λ k. k < m)
+relocated_below rs (suc n) m le = All-append (λ k. k < m) (relocated rs n) (index_where_some (relocations_in rs n) n) (relocated_below rs n m (omega arith)) (index_within (relocations_in rs n) n m (omega arith))
+
+-- they are sections of the unit
+pub relocated_within : (rs : List AsmRelocation) (n : ℕ) → All (λ k. k < n) (relocated rs n)
+relocated_within rs n = relocated_below rs n n (omega arith)
+
+-- so are these
+pub these_within : (unit : AsmUnit) (list : List ℕ) → list ≡ relocated_in (unit_of unit) → All (λ i. i < length unit.sections.items) list
+these_within unit list is =
+    let n = length-map unit.sections.items section_of in
+    All-weaker (λ i. i < length (map section_of unit.sections.items)) (λ i. i < length unit.sections.items) (λ i lt. omega (arith, n)) list
+    (All-same (λ i. i < length (map section_of unit.sections.items)) list (relocated_in (unit_of unit)) is
+    (relocated_within unit.relocations.items (length (map section_of unit.sections.items))))
+
+length_index : (rs : List AsmRelocation) (i : ℕ) → length (index_where_some rs i) ≤ 1
+length_index [] i = omega arith
+length_index (r ∷ rs) i = omega arith
+
+-- there are no more of them than sections
+pub relocated_few : (rs : List AsmRelocation) (n : ℕ) → length (relocated rs n) ≤ n
+unfolding relocated all_below
+relocated_few rs zero = omega arith
+relocated_few rs (suc n) =
+    let a = length-append (relocated rs n) (index_where_some (relocations_in rs n) n) in
+    let b = relocated_few rs n in
+    let c = length_index (relocations_in rs n) n in
+    omega (arith, a, b, c)
+
+-- ---- how many names
+
+pub length_names : (unit : UnitValue) → length (section_names unit) ≡ length unit.sections + (3 + length (relocated_in unit))
+unfolding section_names
+length_names unit =
+    let a = length-append (part_names unit.sections) (table_names ++ map (relocation_name unit.sections) (relocated_in unit)) in
+    let b = length-append table_names (map (relocation_name unit.sections) (relocated_in unit)) in
+    let c = length-map unit.sections (λ (s : SectionValue). s.name) in
+    let d = length-map (relocated_in unit) (relocation_name unit.sections) in
+    omega (arith, a, b, c, d)
+
+-- the place of a name of a section
+pub section_name_at : (unit : UnitValue) (names : Strings) (k index at : ℕ) → IsTableOf (section_names unit) names
+    → ((list : List (List ℕ)) → IsTableOf list names → index < length list → at ≡ name_at list index)
+    → index ≡ k → k < length unit.sections + (3 + length (relocated_in unit)) → at ≡ name_at (section_names unit) k
+section_name_at unit names k index at table place same within =
+    let n = length_names unit in place (section_names unit) table (omega (arith, n)) ∙ ap (name_at (section_names unit)) same
+
+-- how many sections the unit has
+pub part_count : (unit : AsmUnit) → unit.sections.len ≡ length (map section_of unit.sections.items)
+part_count unit = unit.sections.ok.0 ∙ sym (length-map unit.sections.items section_of)
+
+-- ---- sections of the unit
+
+pub no_parts : (unit : UnitValue) (s : Sections) → AreSections [] s → AreSections (each_below (part_section unit) 0) s
+no_parts unit s is = subst (λ (l : List FileSection). AreSections l s) (sym (each_below_zero (part_section unit))) is
+
+part_is : (unit : AsmUnit) (i name : ℕ) (x : AsmSection) → i < length unit.sections.items → x ≡ get_or unit.sections.items i x
+    → name ≡ name_at (section_names (unit_of unit)) i
+    → let value : FileSection = record { head = part_head (section_of x) name; content = x.bytes.items } in value ≡ part_section (unit_of unit) i
+unfolding part_section
+part_is unit i name x lt is at =
+    let v : ℕ → SectionValue → FileSection = λ n s. record { head = part_head s n; content = s.bytes } in
+    ap (λ n. v n (section_of x)) at
+    ∙ ap (v (name_at (section_names (unit_of unit)) i)) (ap section_of is ∙ sym (get_or-map section_of unit.sections.items i x no_part lt))
+
+-- one section more
+pub part_added : (unit : AsmUnit) (names : Strings) (i name : ℕ) (head : Head) (x : AsmSection) (items : List AsmSection) (content : List ℕ) (old new : Sections) → i < length items → x ≡ get_or items i x
+    → items ≡ unit.sections.items → content ≡ x.bytes.items
+    → IsTableOf (section_names (unit_of unit)) names
+    → ((list : List (List ℕ)) → IsTableOf list names → i < length list → name ≡ name_at list i)
+    → head ≡ part_head (section_of x) name
+    → ((sections : List FileSection) → AreSections sections old → AreSections (sections ++ record { head = head; content = content } ∷ []) new)
+    → AreSections (each_below (part_section (unit_of unit)) i) old → AreSections (each_below (part_section (unit_of unit)) (i + 1)) new
+part_added unit names i name head x items content old new lt is all held table place made added so_far =
+    let n = length-map unit.sections.items section_of in
+    let m : length items ≡ length unit.sections.items = ap length all in
+    let at : name ≡ name_at (section_names (unit_of unit)) i = section_name_at (unit_of unit) names i i name table place refl (omega (arith, n, m)) in
+    let there : x ≡ get_or unit.sections.items i x = is ∙ ap (λ (l : List AsmSection). get_or l i x) all in
+    let done : List FileSection = each_below (part_section (unit_of unit)) i in
+    subst (λ (l : List FileSection). AreSections l new)
+    (ap (λ (h : Head). done ++ record { head = h; content = content } ∷ []) made
+    ∙ (ap (λ (c : List ℕ). done ++ record { head = part_head (section_of x) name; content = c } ∷ []) held
+    ∙ (ap (λ (s : FileSection). done ++ s ∷ []) (part_is unit i name x (omega (arith, m)) there at) ∙ sym (each_below_more (part_section (unit_of unit)) i))))
+    (added done so_far)
+
+-- ---- relocations
+
+pub no_relocations : (unit : UnitValue) (s : Sections) (done : List FileSection) → AreSections done s → AreSections (done ++ each_below (relocation_section unit) 0) s
+no_relocations unit s done is =
+    subst (λ (l : List FileSection). AreSections l s) (sym (ap (λ l. done ++ l) (each_below_zero (relocation_section unit)) ∙ append-nil done)) is
+
+pub relocations_within : {T : Type 0} (items : T → List ℕ) (unit : AsmUnit) (ts : List T) (list : List ℕ) (j d : ℕ)
+    → list ≡ relocated_in (unit_of unit)
+    → map items ts ≡ each_below (relocation_table unit.relocations.items) (length (map section_of unit.sections.items))
+    → j < length list → get_or list j d < length ts
+relocations_within items unit ts list j d is tables lt =
+    let n = counted items ts (relocation_table unit.relocations.items) (length (map section_of unit.sections.items)) tables in
+    let m = length-map unit.sections.items section_of in
+    let w = All-get_or (λ i. i < length unit.sections.items) list j d lt (these_within unit list is) in
+    omega (arith, n, m, w)
+
+relocation_is : (unit : UnitValue) (j name section : ℕ) (content : List ℕ)
+    → name ≡ name_at (section_names unit) (length unit.sections + 3 + j)
+    → section ≡ get_or (relocated_in unit) j 0 → content ≡ relocation_table unit.relocations section
+    → let value : FileSection = record { head = relocations_head name (length content) (symtab_index unit) section; content = content } in value ≡ relocation_section unit j
+unfolding relocation_section
+relocation_is unit j name section content at is held =
+    let v : ℕ → List ℕ → ℕ → FileSection = λ n c s. record { head = relocations_head n (length c) (symtab_index unit) s; content = c } in
+    ap (λ n. v n content section) at
+    ∙ (ap (λ c. v (name_at (section_names unit) (length unit.sections + 3 + j)) c section) held
+    ∙ ap (λ s. v (name_at (section_names unit) (length unit.sections + 3 + j)) (relocation_table unit.relocations s) s) is)
+
+-- the table of a section
+pub table_at : {T : Type 0} (items : T → List ℕ) (ts : List T) (t : T) (f : ℕ → List ℕ) (n i : ℕ) → i < length ts → t ≡ get_or ts i t → map items ts ≡ each_below f n → items t ≡ f i
+table_at items ts t f n i lt is tables =
+    let m = counted items ts f n tables in
+    ap items is ∙ (sym (get_or-map items ts i t [] lt) ∙ (ap (λ (l : List (List ℕ)). get_or l i []) tables ∙ at_each f n i [] (omega (arith, m))))
+
+-- one table more
+pub relocation_added : (unit : UnitValue) (names : Strings) (j index name section size symbols : ℕ) (content : List ℕ) (head : Head) (old new : Sections) (done : List FileSection)
+    → j < length (relocated_in unit)
+    → IsTableOf (section_names unit) names
+    → ((list : List (List ℕ)) → IsTableOf list names → index < length list → name ≡ name_at list index)
+    → index ≡ length unit.sections + 3 + j
+    → section ≡ get_or (relocated_in unit) j 0 → content ≡ relocation_table unit.relocations section
+    → size ≡ length content → symbols ≡ symtab_index unit
+    → head ≡ relocations_head name size symbols section
+    → ((sections : List FileSection) → AreSections sections old → AreSections (sections ++ record { head = head; content = content } ∷ []) new)
+    → AreSections (done ++ each_below (relocation_section unit) j) old → AreSections (done ++ each_below (relocation_section unit) (j + 1)) new
+relocation_added unit names j index name section size symbols content head old new done lt table place same is held sized of made added so_far =
+    let at : name ≡ name_at (section_names unit) (length unit.sections + 3 + j) = section_name_at unit names (length unit.sections + 3 + j) index name table place same (omega arith) in
+    let before : List FileSection = each_below (relocation_section unit) j in
+    let whole : head ≡ relocations_head name (length content) (symtab_index unit) section
+    = made ∙ (ap (λ n. relocations_head name n symbols section) sized ∙ ap (λ n. relocations_head name (length content) n section) of) in
+    subst (λ (l : List FileSection). AreSections l new)
+    (ap (λ (h : Head). (done ++ before) ++ record { head = h; content = content } ∷ []) whole
+    ∙ (ap (λ (s : FileSection). (done ++ before) ++ s ∷ []) (relocation_is unit j name section content at is held)
+    ∙ (append_assoc done before (relocation_section unit j ∷ []) ∙ ap (λ l. done ++ l) (sym (each_below_more (relocation_section unit) j)))))
+    (added (done ++ before) so_far)
+
+-- ---- the three tables
+
+-- a table more, of the same header and content
+pub table_added : (old new : Sections) (done : List FileSection) (head : Head) (content : List ℕ) (s : FileSection) → head ≡ s.head → content ≡ s.content
+    → ((sections : List FileSection) → AreSections sections old → AreSections (sections ++ record { head = head; content = content } ∷ []) new)
+    → AreSections done old → AreSections (done ++ s ∷ []) new
+table_added old new done head content s made held added is =
+    subst (λ (l : List FileSection). AreSections l new)
+    (ap (λ (h : Head). done ++ record { head = h; content = content } ∷ []) made ∙ ap (λ (c : List ℕ). done ++ record { head = s.head; content = c } ∷ []) held)
+    (added done is)
+
+pub three_added : (done : List FileSection) (a b c : FileSection) (s : Sections) → AreSections (((done ++ a ∷ []) ++ b ∷ []) ++ c ∷ []) s → AreSections (done ++ (a ∷ b ∷ c ∷ [])) s
+three_added done a b c s is =
+    subst (λ (l : List FileSection). AreSections l s) (ap (λ l. l ++ c ∷ []) (append_assoc done (a ∷ []) (b ∷ [])) ∙ append_assoc done (a ∷ b ∷ []) (c ∷ [])) is
+
+pub symtab_is : (unit : UnitValue) (name size : ℕ) (content : List ℕ) (head : Head) → name ≡ name_at (section_names unit) (length unit.sections)
+    → content ≡ symbol_table unit.symbols → size ≡ length content → head ≡ symbols_head name size unit → head ≡ (symtab_section unit).head
+unfolding symtab_section
+symtab_is unit name size content head at held sized made =
+    made ∙ (ap (λ n. symbols_head n size unit) at ∙ ap (λ n. symbols_head (name_at (section_names unit) (length unit.sections)) n unit) (sized ∙ ap length held))
+
+pub strings_is : (name at size : ℕ) (content table : List ℕ) (head : Head) → name ≡ at → content ≡ table → size ≡ length content → head ≡ strings_head name size → head ≡ strings_head at (length table)
+strings_is name at size content table head named held sized made =
+    made ∙ (ap (λ n. strings_head n size) named ∙ ap (strings_head at) (sized ∙ ap length held))
+
+pub symtab_content : (unit : UnitValue) → (symtab_section unit).content ≡ symbol_table unit.symbols
+unfolding symtab_section
+symtab_content unit = refl
+
+pub strtab_parts : (unit : UnitValue) → ((strtab_section unit).head ≡ strings_head (name_at (section_names unit) (length unit.sections + 1)) (length (string_table (symbol_names unit.symbols)))) × ((strtab_section unit).content ≡ string_table (symbol_names unit.symbols))
+unfolding strtab_section
+strtab_parts unit = (refl, refl)
+
+pub shstrtab_parts : (unit : UnitValue) → ((shstrtab_section unit).head ≡ strings_head (name_at (section_names unit) (length unit.sections + 2)) (length (string_table (section_names unit)))) × ((shstrtab_section unit).content ≡ string_table (section_names unit))
+unfolding shstrtab_section
+shstrtab_parts unit = (refl, refl)
+
+-- ---- the file
+
+pub whole_file : (s : Sections) (names table count : ℕ) (begun out : List ℕ) → table ≡ FILE_HEADER_SIZE + s.contents.len → count ≡ s.heads.len + 1
+    → begun ≡ file_header table count names
+    → ((sections : List FileSection) → AreSections sections s → out ≡ begun ++ (contents_of sections ++ header_table sections))
+    → (list : List FileSection) → AreSections list s → out ≡ file_of list names
+unfolding file_of
+whole_file s names table count begun out at counted_as first rest list are =
+    let a : table ≡ FILE_HEADER_SIZE + length (contents_of list) = at ∙ ap (λ n. FILE_HEADER_SIZE + n) (s.contents.ok.0 ∙ ap length are.contents) in
+    let b : count ≡ length list + 1 = counted_as ∙ ap (λ n. n + 1) (s.heads.ok.0 ∙ (ap length are.heads ∙ length_each_below (head_of list) (length list))) in
+    rest list are ∙ ap (λ l. l ++ (contents_of list ++ header_table list)) (first ∙ (ap (λ n. file_header n count names) a ∙ ap (λ n. file_header (FILE_HEADER_SIZE + length (contents_of list)) n names) b))
+
+-- a unit has few sections
+pub section_small : (unit : AsmUnit) (list : List ℕ) (j : ℕ) → list ≡ relocated_in (unit_of unit) → j < length list → get_or list j 0 < 256
+section_small unit list j is lt =
+    let few = unit.sound.few_sections in
+    let m = length-map unit.sections.items section_of in
+    let w = All-get_or (λ i. i < length unit.sections.items) list j 0 lt (these_within unit list is) in
+    omega (arith, few, m, w)
+
+-- the sections that were found to have relocations
+pub relocated_found : {T : Type 0} (items : T → List ℕ) (unit : AsmUnit) (ts these : List T) (rs : List AsmRelocation) (count : ℕ) (list : List ℕ)
+    → rs ≡ unit.relocations.items → count ≡ unit.sections.len → map items ts ≡ each_below (relocation_table rs) count → these ≡ ts
+    → ((r : List AsmRelocation) → map items these ≡ each_below (relocation_table r) (length these) → list ≡ relocated r (length these))
+    → list ≡ relocated_in (unit_of unit)
+relocated_found items unit ts these rs count list all counted_as tables same found =
+    let n : length these ≡ count = ap length same ∙ counted items ts (relocation_table rs) count tables in
+    let m : length these ≡ length (map section_of unit.sections.items) = n ∙ (counted_as ∙ part_count unit) in
+    found unit.relocations.items (ap (map items) same ∙ (tables ∙ (ap (λ r. each_below (relocation_table r) count) all ∙ ap (each_below (relocation_table unit.relocations.items)) (sym n))))
+    ∙ ap (relocated unit.relocations.items) m

@@ -1,0 +1,170 @@
+-- Bytes that stand at a place of a file, and what is read there.
+use Rattle.std.proofs.Common.{◌≡◌, ℕ, zero, suc, ◌+◌, ◌*◌, ◌/◌, ◌%◌, ◌<◌, ◌≤◌, ◌^◌, List, [], ◌∷◌, ◌++◌, refl, ap, sym, subst, ◌∙◌, arith, append_assoc, length, take, drop, get_or, length-append, Bool, true, false, cond, ltb, slice_index, ◌⊎◌, inl, inr}
+use Rattle.std.specs.List.{flat_map}
+use Rattle.std.proofs.lemmas.Bool.{cases_lt}
+use Rattle.std.proofs.lemmas.Bool.Decides.{nat_tests}
+use Rattle.std.proofs.lemmas.List.{drop_at, get_or_at}
+use Rattle.byteorder.specs.Endian.{little_number}
+use Rattle.byteorder.specs.Numbers.{little_number-reads_back}
+use Rattle.elf_objects.specs.Bytes.{half_at, word_at}
+use Rattle.elf_objects.specs.Passes.{all_below}
+use Rattle.elf_objects.specs.declared.section.Header.{Header}
+use Rattle.elf_objects.specs.Header.{table_offset}
+use Rattle.elf_objects.specs.Section.{header_of}
+use Rattle.obj_write.specs.declared.sections.Head.{Head}
+use Rattle.obj_write.specs.Bytes.{half_bytes, word_bytes}
+use Rattle.obj_write.specs.Sections.{head_bytes}
+
+-- these bytes stand at this place of the file
+pub record Stands (file : List ℕ) (at : ℕ) (bytes : List ℕ) : Type 0 where
+  pub front : List ℕ
+  pub rest : List ℕ
+  pub whole : file ≡ front ++ (bytes ++ rest)
+  pub begun : length front ≡ at
+
+pub stands_left : (file : List ℕ) (at : ℕ) (a b : List ℕ) → Stands file at (a ++ b) → Stands file at a
+stands_left file at a b s = record { front = s.front; rest = b ++ s.rest; whole = s.whole ∙ ap (λ l. s.front ++ l) (append_assoc a b s.rest); begun = s.begun }
+
+pub stands_right : (file : List ℕ) (at after : ℕ) (a b : List ℕ) → after ≡ at + length a → Stands file at (a ++ b) → Stands file after b
+stands_right file at after a b e s = let n = length-append s.front a in let m = s.begun in record {
+  front = s.front ++ a;
+  rest = s.rest;
+  whole = s.whole ∙ (ap (λ l. s.front ++ l) (append_assoc a b s.rest) ∙ sym (append_assoc s.front a (b ++ s.rest)));
+  begun = omega (arith, n, m);
+}
+
+pub stands_drop : (file : List ℕ) (at : ℕ) (bytes : List ℕ) (s : Stands file at bytes) → drop at file ≡ bytes ++ s.rest
+stands_drop file at bytes s = ap (drop at) s.whole ∙ drop_at s.front (bytes ++ s.rest) at s.begun
+
+pub stands_within : (file : List ℕ) (at : ℕ) (bytes : List ℕ) → Stands file at bytes → at + length bytes ≤ length file
+stands_within file at bytes s =
+    let a = length-append s.front (bytes ++ s.rest) in
+    let b = length-append bytes s.rest in
+    let c : length file ≡ length (s.front ++ (bytes ++ s.rest)) = ap length s.whole in
+    let d = s.begun in
+    omega (arith, a, b, c, d)
+
+unless : (b : Bool) (n : ℕ) → b ≡ false → cond b 0 n ≡ n
+unless false n e = refl
+unless true n e = cc
+
+pub word_read : (file : List ℕ) (at n : ℕ) → n < 2 ^ 32 → Stands file at (word_bytes n) → word_at file at ≡ n
+unfolding word_at
+word_read file at n small s =
+    let w : at + 4 ≤ length file = stands_within file at (word_bytes n) s in
+    unless (ltb (length file) (at + 4)) (little_number 4 (drop at file)) (grind (arith, nat_tests))
+    ∙ (ap (little_number 4) (stands_drop file at (word_bytes n) s) ∙ little_number-reads_back 4 n s.rest small)
+
+four_bytes : (a b c d a' b' c' d' : ℕ) → a ≡ a' → b ≡ b' → c ≡ c' → d ≡ d' → let x : List ℕ = a ∷ (b ∷ (c ∷ (d ∷ []))) in let y : List ℕ = a' ∷ (b' ∷ (c' ∷ (d' ∷ []))) in x ≡ y
+four_bytes a b c d a' b' c' d' p q r s = rw (p, q, r, s) refl
+
+-- only the low 32 bits are written
+word_bytes_low : (n : ℕ) → word_bytes n ≡ word_bytes (n % 4294967296)
+word_bytes_low n =
+    let m : ℕ = n % 4294967296 in
+    four_bytes (n % 256) (n / 256 % 256) (n / 65536 % 256) (n / 16777216 % 256) (m % 256) (m / 256 % 256) (m / 65536 % 256) (m / 16777216 % 256)
+    (omega arith) (omega arith) (omega arith) (omega arith)
+
+pub word_low : (file : List ℕ) (at n : ℕ) → Stands file at (word_bytes n) → word_at file at ≡ n % 2 ^ 32
+word_low file at n s = word_read file at (n % 4294967296) (omega arith) (subst (Stands file at) (word_bytes_low n) s)
+
+pub half_read : (file : List ℕ) (at n : ℕ) → n < 2 ^ 16 → Stands file at (half_bytes n) → half_at file at ≡ n
+unfolding half_at
+half_read file at n small s =
+    let w : at + 2 ≤ length file = stands_within file at (half_bytes n) s in
+    unless (ltb (length file) (at + 2)) (little_number 2 (drop at file)) (grind (arith, nat_tests))
+    ∙ (ap (little_number 2) (stands_drop file at (half_bytes n) s) ∙ little_number-reads_back 2 n s.rest small)
+
+pub byte_read : (file : List ℕ) (at b : ℕ) (bs : List ℕ) → Stands file at (b ∷ bs) → slice_index file at ≡ b
+byte_read file at b bs s = ap (λ l. get_or l at 0) s.whole ∙ get_or_at s.front b (bs ++ s.rest) 0 at s.begun
+
+-- ---- headers
+
+-- each field fits a word
+pub record IsSmall (h : Head) : Type 0 where
+  pub name : h.name < 2 ^ 32
+  pub kind : h.kind < 2 ^ 32
+  pub flags : h.flags < 2 ^ 32
+  pub offset : h.offset < 2 ^ 32
+  pub size : h.size < 2 ^ 32
+  pub link : h.link < 2 ^ 32
+  pub info : h.info < 2 ^ 32
+  pub align : h.align < 2 ^ 32
+  pub entry_size : h.entry_size < 2 ^ 32
+
+abbrev pub header : Head → Header
+header h = record { name = h.name; kind = h.kind; flags = h.flags; offset = h.offset; size = h.size; link = h.link; info = h.info; align = h.align; entry_size = h.entry_size }
+
+header_same : (a b c d e f g h i a' b' c' d' e' f' g' h' i' : ℕ) → a ≡ a' → b ≡ b' → c ≡ c' → d ≡ d' → e ≡ e' → f ≡ f' → g ≡ g' → h ≡ h' → i ≡ i'
+    → let x : Header = record { name = a; kind = b; flags = c; offset = d; size = e; link = f; info = g; align = h; entry_size = i } in
+    let y : Header = record { name = a'; kind = b'; flags = c'; offset = d'; size = e'; link = f'; info = g'; align = h'; entry_size = i' } in x ≡ y
+header_same a b c d e f g h i a' b' c' d' e' f' g' h' i' p₁ p₂ p₃ p₄ p₅ p₆ p₇ p₈ p₉ = rw (p₁, p₂, p₃, p₄, p₅, p₆, p₇, p₈, p₉) refl
+
+pub header_read : (file : List ℕ) (index : ℕ) (h : Head) → IsSmall h → Stands file (table_offset file + 40 * index) (head_bytes h) → header_of file index ≡ header h
+unfolding header_of head_bytes
+header_read file index h small s =
+    let at : ℕ = table_offset file + 40 * index in
+    let t₉ : List ℕ = word_bytes h.entry_size ++ [] in
+    let t₈ : List ℕ = word_bytes h.align ++ t₉ in
+    let t₇ : List ℕ = word_bytes h.info ++ t₈ in
+    let t₆ : List ℕ = word_bytes h.link ++ t₇ in
+    let t₅ : List ℕ = word_bytes h.size ++ t₆ in
+    let t₄ : List ℕ = word_bytes h.offset ++ t₅ in
+    let t₃ : List ℕ = word_bytes 0 ++ t₄ in
+    let t₂ : List ℕ = word_bytes h.flags ++ t₃ in
+    let t₁ : List ℕ = word_bytes h.kind ++ t₂ in
+    let s₁ = stands_right file at (at + 4) (word_bytes h.name) t₁ refl s in
+    let s₂ = stands_right file (at + 4) (at + 8) (word_bytes h.kind) t₂ (omega arith) s₁ in
+    let s₃ = stands_right file (at + 8) (at + 12) (word_bytes h.flags) t₃ (omega arith) s₂ in
+    let s₄ = stands_right file (at + 12) (at + 16) (word_bytes 0) t₄ (omega arith) s₃ in
+    let s₅ = stands_right file (at + 16) (at + 20) (word_bytes h.offset) t₅ (omega arith) s₄ in
+    let s₆ = stands_right file (at + 20) (at + 24) (word_bytes h.size) t₆ (omega arith) s₅ in
+    let s₇ = stands_right file (at + 24) (at + 28) (word_bytes h.link) t₇ (omega arith) s₆ in
+    let s₈ = stands_right file (at + 28) (at + 32) (word_bytes h.info) t₈ (omega arith) s₇ in
+    let s₉ = stands_right file (at + 32) (at + 36) (word_bytes h.align) t₉ (omega arith) s₈ in
+    header_same _ _ _ _ _ _ _ _ _ h.name h.kind h.flags h.offset h.size h.link h.info h.align h.entry_size
+    (word_read file at h.name small.name (stands_left file at (word_bytes h.name) t₁ s))
+    (word_read file (at + 4) h.kind small.kind (stands_left file (at + 4) (word_bytes h.kind) t₂ s₁))
+    (word_read file (at + 8) h.flags small.flags (stands_left file (at + 8) (word_bytes h.flags) t₃ s₂))
+    (word_read file (at + 16) h.offset small.offset (stands_left file (at + 16) (word_bytes h.offset) t₅ s₄))
+    (word_read file (at + 20) h.size small.size (stands_left file (at + 20) (word_bytes h.size) t₆ s₅))
+    (word_read file (at + 24) h.link small.link (stands_left file (at + 24) (word_bytes h.link) t₇ s₆))
+    (word_read file (at + 28) h.info small.info (stands_left file (at + 28) (word_bytes h.info) t₈ s₇))
+    (word_read file (at + 32) h.align small.align (stands_left file (at + 32) (word_bytes h.align) t₉ s₈))
+    (word_read file (at + 36) h.entry_size small.entry_size (stands_left file (at + 36) (word_bytes h.entry_size) [] s₉))
+
+-- ---- parts of what is joined
+
+stands_below_by : (file : List ℕ) (at : ℕ) (f : ℕ → List ℕ) (n k : ℕ) → (k < n) ⊎ (n ≤ k) → k < suc n → Stands file at (all_below f n ++ f n)
+    → (k < n → Stands file at (all_below f n) → Stands file (at + length (all_below f k)) (f k)) → Stands file (at + length (all_below f k)) (f k)
+stands_below_by file at f n k (inl lt) within s rest = rest lt (stands_left file at (all_below f n) (f n) s)
+stands_below_by file at f n k (inr le) within s rest =
+    let same : n ≡ k = omega arith in
+    subst (λ (j : ℕ). Stands file (at + length (all_below f j)) (f j)) same (stands_right file at (at + length (all_below f n)) (all_below f n) (f n) refl s)
+
+-- of what a function gives at each index
+pub stands_below : (file : List ℕ) (at : ℕ) (f : ℕ → List ℕ) (n k : ℕ) → k < n → Stands file at (all_below f n) → Stands file (at + length (all_below f k)) (f k)
+unfolding all_below
+stands_below file at f zero k lt s = absurd (omega arith)
+stands_below file at f (suc n) k lt s = stands_below_by file at f n k (cases_lt k n) lt s (stands_below file at f n k)
+
+-- where each part has as many bytes
+pub length_below : (f : ℕ → List ℕ) (size n : ℕ) → ((k : ℕ) → k < n → length (f k) ≡ size) → length (all_below f n) ≡ size * n
+unfolding all_below
+length_below f size zero each = omega arith
+length_below f size (suc n) each =
+    let a = length-append (all_below f n) (f n) in
+    let b = length_below f size n (λ k lt. each k (omega arith)) in
+    let c = each n (omega arith) in
+    omega (arith, a, b, c)
+
+-- of what a function gives of each value
+pub stands_each : {A : Type 0} (file : List ℕ) (at : ℕ) (f : A → List ℕ) (xs : List A) (k : ℕ) (d : A) → k < length xs → Stands file at (flat_map f xs)
+    → Stands file (at + length (flat_map f (take k xs))) (f (get_or xs k d))
+stands_each file at f [] k d lt s = absurd (omega arith)
+stands_each file at f (x ∷ xs) zero d lt s =
+    subst (λ (n : ℕ). Stands file n (f x)) (omega arith) (stands_left file at (f x) (flat_map f xs) s)
+stands_each file at f (x ∷ xs) (suc k) d lt s =
+    let n = length-append (f x) (flat_map f (take k xs)) in
+    subst (λ (m : ℕ). Stands file m (f (get_or xs k d))) (omega (arith, n))
+    (stands_each file (at + length (f x)) f xs k d (omega arith) (stands_right file at (at + length (f x)) (f x) (flat_map f xs) refl s))

@@ -1,0 +1,109 @@
+-- The object that is read of a unit's file is the unit's.
+use Rattle.std.proofs.Common.{◌≡◌, ℕ, suc, ◌+◌, ◌-◌, ◌<◌, List, [], ◌∷◌, ◌++◌, map, refl, ap, sym, subst, ◌∙◌, arith, length, take, drop, get_or, cond, eqb, ◌||◌, Option, Some, unwrap_or}
+use Rattle.std.specs.Prelude.{slice_range}
+use Rattle.std.specs.List.{flat_map, All}
+use Rattle.std.proofs.lemmas.List.{take_at, length-map, nil_from_length, get_or-map, get_or_append_left}
+use Rattle.std.proofs.lemmas.List.Elements.{All-get_or}
+use Rattle.elf_objects.specs.declared.section.Header.{Header}
+use Rattle.elf_objects.specs.declared.object.Span.{Span}
+use Rattle.elf_objects.specs.Header.{name_table}
+use Rattle.elf_objects.specs.Section.{header_of, content, content_span}
+use Rattle.elf_objects.specs.Names.{end_in, name_end, name_span, section_of}
+use Rattle.asm_text.specs.declared.unit.SectionKind.{SectionKind}
+use Rattle.asm_text.specs.declared.unit.SectionKind.TheVariants.{Code, Data, Bss}
+use Rattle.asm_text.specs.Parts.{SectionValue, UnitValue, IsUnit, IsSection, kept_size}
+use Rattle.obj_write.specs.Strings.{terminated, string_table, name_at}
+use Rattle.obj_write.specs.Sections.{FileSection, no_section, content_at}
+use Rattle.obj_write.specs.Object.{no_part, kind_of, strings_head, part_names, table_names, relocation_name, relocated_in, section_names, file_sections, shstrtab_index, object_of}
+use Rattle.obj_write.specs.Reader.{IsPart}
+use Rattle.obj_write.proofs.ReadLemmas.{Stands, stands_left, stands_right, stands_drop, stands_each, header}
+use Rattle.obj_write.proofs.ObjectLemmas.{length_names}
+use Rattle.obj_write.proofs.SizeLemmas.{length_sections, part_at, shstrtab_at}
+use Rattle.obj_write.proofs.NameLemmas.{IsString, name_ends, section_strings}
+use Rattle.obj_write.proofs.UnitLemmas.{part_content, shstrtab_parts}
+use Rattle.obj_write.proofs.HeaderLemmas.{content_stands, unit_laid, part_read, shstrtab_read}
+use Rattle.obj_write.proofs.FaultLemmas.{names_at, names_content}
+
+-- ---- bytes by their place
+
+range_by : (file : List ℕ) (at end : ℕ) (bytes : List ℕ) → end ≡ at + length bytes → Stands file at bytes → slice_range file at end ≡ bytes
+range_by file at end bytes e s =
+    let n : end - at ≡ length bytes = omega arith in
+    ap (λ k. take k (drop at file)) n ∙ (ap (take (length bytes)) (stands_drop file at bytes s) ∙ take_at bytes s.rest (length bytes) refl)
+
+name_stands : (file : List ℕ) (at : ℕ) (names : List (List ℕ)) (k : ℕ) → k < length names → Stands file at (string_table names) → Stands file (at + name_at names k) (get_or names k [])
+unfolding string_table name_at
+name_stands file at names k lt s =
+    let list : List ℕ = flat_map terminated names in
+    let r = stands_right file at (at + 1) (0 ∷ []) list refl s in
+    let t = stands_each file (at + 1) terminated names k [] lt r in
+    let e : at + 1 + length (flat_map terminated (take k names)) ≡ at + suc (length (flat_map terminated (take k names))) = omega arith in
+    subst (λ (m : ℕ). Stands file m (get_or names k [])) e (stands_left file (at + 1 + length (flat_map terminated (take k names))) (get_or names k []) (0 ∷ []) t)
+
+-- a name, by the span that the reader gives
+pub name_range : (file : List ℕ) (strings : Header) (names : List (List ℕ)) (most k at : ℕ) → content file strings ≡ string_table names → Stands file strings.offset (string_table names)
+    → at ≡ name_at names k → k < length names → All (IsString most) names
+    → slice_range file ((name_span file strings at).start) ((name_span file strings at).end) ≡ get_or names k []
+unfolding name_end
+name_range file strings names most k at held s is lt all =
+    let off : ℕ = strings.offset in
+    let name : List ℕ = get_or names k [] in
+    let ends : name_end file strings at ≡ Some (name_at names k + length name) = ap (λ l. end_in l at) held ∙ (ap (end_in (string_table names)) is ∙ name_ends names most k lt all) in
+    ap (λ (o : Option ℕ). slice_range file (off + at) (off + unwrap_or o at)) ends
+    ∙ (ap (λ n. slice_range file (off + n) (off + (name_at names k + length name))) is
+    ∙ range_by file (off + name_at names k) (off + (name_at names k + length name)) name (omega arith) (name_stands file off names k lt s))
+
+-- ---- sections
+
+abbrev pub names_read : UnitValue → Header
+names_read unit = header (record (strings_head (name_at (section_names unit) (length unit.sections + 2)) (length (string_table (section_names unit)))) { offset = content_at (file_sections unit) (length unit.sections + 2) })
+
+names_header : (unit : UnitValue) → IsUnit unit → header_of (object_of unit) (name_table (object_of unit)) ≡ names_read unit
+names_header unit is = ap (header_of (object_of unit)) (names_at unit is) ∙ shstrtab_read unit is
+
+names_stand : (unit : UnitValue) → IsUnit unit → Stands (object_of unit) (names_read unit).offset (string_table (section_names unit))
+names_stand unit is =
+    let k : ℕ = length unit.sections + 2 in
+    let n = length_sections unit in
+    let same : (get_or (file_sections unit) k no_section).content ≡ string_table (section_names unit) = ap (λ (t : FileSection). t.content) (shstrtab_at unit) ∙ (shstrtab_parts unit).1 in
+    subst (λ (l : List ℕ). Stands (object_of unit) (content_at (file_sections unit) k) l) same
+    (content_stands (file_sections unit) (shstrtab_index unit) (object_of unit) k (unit_laid unit is) (omega (arith, n)))
+
+part_name : (unit : UnitValue) (k : ℕ) → k < length unit.sections → get_or (section_names unit) k [] ≡ (get_or unit.sections k no_part).name
+unfolding section_names
+part_name unit k lt =
+    let n = length-map unit.sections (λ (s : SectionValue). s.name) in
+    get_or_append_left (part_names unit.sections) (table_names ++ map (relocation_name unit.sections) (relocated_in unit)) [] k (omega (arith, n))
+    ∙ get_or-map (λ (s : SectionValue). s.name) unit.sections k no_part [] lt
+
+part_stands : (unit : UnitValue) → IsUnit unit → (k : ℕ) → k < length unit.sections → Stands (object_of unit) (content_at (file_sections unit) k) ((get_or unit.sections k no_part).bytes)
+part_stands unit is k lt =
+    let n = length_sections unit in
+    let same : (get_or (file_sections unit) k no_section).content ≡ (get_or unit.sections k no_part).bytes = ap (λ (t : FileSection). t.content) (part_at unit k lt) ∙ part_content unit k in
+    subst (λ (l : List ℕ). Stands (object_of unit) (content_at (file_sections unit) k) l) same
+    (content_stands (file_sections unit) (shstrtab_index unit) (object_of unit) k (unit_laid unit is) (omega (arith, n)))
+
+bytes_by : (file : List ℕ) (K : SectionKind) (at size : ℕ) (bytes : List ℕ) → length bytes ≡ kept_size K size → Stands file at bytes
+    → let span : Span = cond (eqb (kind_of K) 0 || eqb (kind_of K) 8) (record { start = 0; end = 0 }) (record { start = at; end = at + size }) in slice_range file span.start span.end ≡ bytes
+bytes_by file Code at size bytes e s = range_by file at (at + size) bytes (omega (arith, e)) s
+bytes_by file Data at size bytes e s = range_by file at (at + size) bytes (omega (arith, e)) s
+bytes_by file Bss at size bytes e s = sym (nil_from_length bytes e)
+
+pub part_given : (unit : UnitValue) → IsUnit unit → (k : ℕ) → k < length unit.sections → IsPart (object_of unit) (get_or unit.sections k no_part) (section_of (object_of unit) (suc k))
+unfolding section_of
+part_given unit is k lt =
+    let file : List ℕ = object_of unit in
+    let s : SectionValue = get_or unit.sections k no_part in
+    let read = part_read unit is k lt in
+    let h = All-get_or IsSection unit.sections k no_part lt is.sections_kept in
+    let n = length_names unit in
+    let strings : Header = header_of file (name_table file) in
+    let stands : Stands file strings.offset (string_table (section_names unit)) = subst (λ (x : Header). Stands file x.offset (string_table (section_names unit))) (sym (names_header unit is)) (names_stand unit is) in
+    record {
+      name = name_range file strings (section_names unit) 69 k ((header_of file (suc k)).name) (names_content unit is) stands (ap (λ (x : Header). x.name) read) (omega (arith, n)) (section_strings unit is) ∙ part_name unit k lt;
+      kind = ap (λ (x : Header). x.kind) read;
+      flags = ap (λ (x : Header). x.flags) read;
+      size = ap (λ (x : Header). x.size) read;
+      align = ap (λ (x : Header). x.align) read;
+      bytes = ap (λ (x : Header). slice_range file ((content_span x).start) ((content_span x).end)) read ∙ bytes_by file s.kind (content_at (file_sections unit) k) s.size s.bytes h.filled (part_stands unit is k lt);
+    }

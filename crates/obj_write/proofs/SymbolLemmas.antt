@@ -1,0 +1,83 @@
+-- Symbols, one after the other.
+use Rattle.std.proofs.Common.{◌≡◌, ℕ, ◌+◌, ◌<◌, ◌≤◌, List, [], ◌∷◌, ◌++◌, map, refl, ap, sym, subst, ◌∙◌, arith, append_assoc, length, take, get_or, Bool, true, false, not, cond, unwrap_or, Some, None, string_bytes, ltb}
+use Rattle.std.specs.Prelude.{position}
+use Rattle.std.specs.List.{position_or_len}
+use Rattle.std.proofs.lemmas.List.{map_more, map_push, get_or-map, append-nil, length-map}
+use Rattle.std.proofs.lemmas.Bool.Decides.{nat_tests}
+use Rattle.std.proofs.lemmas.List.Sums.{prefix_len-le-length}
+use Rattle.elf_objects.specs.Passes.{all_below}
+use Rattle.elf_objects.proofs.PassLemmas.{all_below_more, all_below_zero}
+use Rattle.asm_text.specs.declared.unit.AsmSymbol.{AsmSymbol}
+use Rattle.asm_text.specs.Parts.{SymbolValue}
+use Rattle.asm_text.specs.Views.{symbol_of}
+use Rattle.obj_write.specs.declared.strings.Strings.{Strings}
+use Rattle.obj_write.specs.declared.symbols.TheConstants.{SYMBOL_SIZE}
+use Rattle.obj_write.specs.Bytes.{zeros}
+use Rattle.obj_write.specs.Strings.{name_at, IsTableOf}
+use Rattle.obj_write.specs.Symbols.{no_symbol, symbol_entry, symbol_entry_at, symbol_names, symbol_table, first_global}
+
+-- one name more
+pub symbol_names_more : (xs : List AsmSymbol) (i : ℕ) (x : AsmSymbol) → i < length xs → x ≡ get_or xs i x
+    → symbol_names (map symbol_of (take (i + 1) xs)) ≡ symbol_names (map symbol_of (take i xs)) ++ string_bytes x.name ∷ []
+symbol_names_more xs i x lt is =
+    ap symbol_names (map_more symbol_of xs i x lt)
+    ∙ (map_push (λ (s : SymbolValue). s.name) (map symbol_of (take i xs)) (symbol_of (get_or xs i x))
+    ∙ ap (λ (y : AsmSymbol). symbol_names (map symbol_of (take i xs)) ++ string_bytes y.name ∷ []) (sym is))
+
+-- the table with one name more
+pub symbol_name_added : (xs : List AsmSymbol) (i : ℕ) (x : AsmSymbol) (new : Strings) → i < length xs → x ≡ get_or xs i x
+    → IsTableOf (symbol_names (map symbol_of (take i xs)) ++ (string_bytes x.name ++ []) ∷ []) new
+    → IsTableOf (symbol_names (map symbol_of (take (i + 1) xs))) new
+symbol_name_added xs i x new lt is table =
+    subst (λ (names : List (List ℕ)). IsTableOf names new)
+    (ap (λ (n : List ℕ). symbol_names (map symbol_of (take i xs)) ++ n ∷ []) (append-nil (string_bytes x.name)) ∙ sym (symbol_names_more xs i x lt is)) table
+
+entry_at_is : (xs : List AsmSymbol) (i name : ℕ) (x : AsmSymbol) → i < length xs → x ≡ get_or xs i x → name ≡ name_at (symbol_names (map symbol_of xs)) i
+    → symbol_entry name (symbol_of x) ≡ symbol_entry_at (map symbol_of xs) i
+unfolding symbol_entry_at
+entry_at_is xs i name x lt is at =
+    ap (λ (n : ℕ). symbol_entry n (symbol_of x)) at
+    ∙ ap (symbol_entry (name_at (symbol_names (map symbol_of xs)) i)) (ap symbol_of is ∙ sym (get_or-map symbol_of xs i x no_symbol lt))
+
+-- one entry more
+pub entry_added : (xs : List AsmSymbol) (i name : ℕ) (x : AsmSymbol) (strings : Strings) (old new : List ℕ) → i < length xs → x ≡ get_or xs i x
+    → IsTableOf (symbol_names (map symbol_of xs)) strings
+    → ((names : List (List ℕ)) → IsTableOf names strings → i < length names → name ≡ name_at names i)
+    → new ≡ old ++ symbol_entry name (symbol_of x)
+    → old ≡ zeros SYMBOL_SIZE ++ all_below (symbol_entry_at (map symbol_of xs)) i
+    → new ≡ zeros SYMBOL_SIZE ++ all_below (symbol_entry_at (map symbol_of xs)) (i + 1)
+entry_added xs i name x strings old new lt is table place more so_far =
+    let z : List ℕ = zeros SYMBOL_SIZE in
+    let f : ℕ → List ℕ = symbol_entry_at (map symbol_of xs) in
+    let counted : length (symbol_names (map symbol_of xs)) ≡ length xs = length-map (map symbol_of xs) (λ (s : SymbolValue). s.name) ∙ length-map xs symbol_of in
+    let at : name ≡ name_at (symbol_names (map symbol_of xs)) i = place (symbol_names (map symbol_of xs)) table (omega (arith, counted)) in
+    more ∙ (ap (λ l. l ++ symbol_entry name (symbol_of x)) so_far
+    ∙ (append_assoc z (all_below f i) (symbol_entry name (symbol_of x))
+    ∙ ap (λ l. z ++ l) (ap (λ l. all_below f i ++ l) (entry_at_is xs i name x lt is at) ∙ sym (all_below_more f i))))
+
+no_entries : (xs : List AsmSymbol) → zeros SYMBOL_SIZE ≡ zeros SYMBOL_SIZE ++ all_below (symbol_entry_at (map symbol_of xs)) 0
+no_entries xs = sym (ap (λ l. zeros SYMBOL_SIZE ++ l) (all_below_zero (symbol_entry_at (map symbol_of xs))) ∙ append-nil (zeros SYMBOL_SIZE))
+
+pub table_begun : (xs : List AsmSymbol) (table : List ℕ) → table ≡ zeros SYMBOL_SIZE → table ≡ zeros SYMBOL_SIZE ++ all_below (symbol_entry_at (map symbol_of xs)) 0
+table_begun xs table is = is ∙ no_entries xs
+
+pub table_whole : (xs : List AsmSymbol) (table : List ℕ) (n : ℕ) → n ≡ length xs
+    → table ≡ zeros SYMBOL_SIZE ++ all_below (symbol_entry_at (map symbol_of xs)) n → table ≡ symbol_table (map symbol_of xs)
+unfolding symbol_table
+table_whole xs table n all is = is ∙ ap (λ k. zeros SYMBOL_SIZE ++ all_below (symbol_entry_at (map symbol_of xs)) k) (all ∙ sym (length-map xs symbol_of))
+
+-- ---- the first global one
+
+position_value : (xs : List AsmSymbol) → position_or_len (λ (s : SymbolValue). s.global) (map symbol_of xs) ≡ position_or_len (λ (s : AsmSymbol). s.global) xs
+position_value [] = refl
+position_value (x ∷ xs) = ap (λ n. cond (not x.global) (1 + n) 0) (position_value xs)
+
+found_by : (k n : ℕ) (b : Bool) → ltb k n ≡ b → k ≤ n → unwrap_or (cond b (Some k) None) n ≡ k
+found_by k n true is le = refl
+found_by k n false is le = let ge : n ≤ k = grind (arith, nat_tests) in omega arith
+
+pub first_global_is : (xs : List AsmSymbol) → 1 + unwrap_or (position (λ (s : AsmSymbol). s.global) xs) (length xs) ≡ first_global (map symbol_of xs)
+unfolding first_global
+first_global_is xs =
+    let k : ℕ = position_or_len (λ (s : AsmSymbol). s.global) xs in
+    ap (λ n. 1 + n) (found_by k (length xs) (ltb k (length xs)) refl (prefix_len-le-length (λ (s : AsmSymbol). not s.global) xs) ∙ sym (position_value xs))

@@ -1,0 +1,126 @@
+-- String tables and the list of sections as they grow.
+use Rattle.std.proofs.Common.{◌≡◌, ℕ, ◌+◌, ◌<◌, ◌≤◌, List, [], ◌∷◌, ◌++◌, refl, ap, sym, ◌∙◌, arith, append_assoc, length, get_or}
+use Rattle.std.specs.List.{flat_map}
+use Rattle.std.proofs.lemmas.List.{flat_map_more, take-append-le, take_all, length_push, get_or_at, get_or_append_left}
+use Rattle.elf_objects.specs.Passes.{each_below, all_below}
+use Rattle.elf_objects.proofs.PassLemmas.{each_below_more, each_below_zero, at_each}
+use Rattle.obj_write.specs.declared.strings.Strings.{Strings}
+use Rattle.obj_write.specs.declared.sections.Head.{Head}
+use Rattle.obj_write.specs.declared.sections.Sections.{Sections}
+use Rattle.obj_write.specs.declared.sections.TheConstants.{FILE_HEADER_SIZE, SECTION_HEADER_SIZE}
+use Rattle.obj_write.specs.Bytes.{zeros, padded}
+use Rattle.obj_write.specs.Strings.{terminated, string_table, name_at, IsTableOf}
+use Rattle.obj_write.specs.Sections.{FileSection, no_section, contents_of, content_at, head_of, head_bytes, header_table, AreSections}
+use Rattle.obj_write.proofs.PassLemmas.{each_below_same, flat_map_each}
+
+-- ---- string tables
+
+-- the names after it do not move a name
+pub name_at-append : (names more : List (List ℕ)) (k : ℕ) → k ≤ length names → name_at (names ++ more) k ≡ name_at names k
+unfolding name_at
+name_at-append names more k le = ap (λ l. length (string_table l)) (take-append-le k names more le)
+
+name_at_end : (names more : List (List ℕ)) → name_at (names ++ more) (length names) ≡ length (string_table names)
+unfolding name_at
+name_at_end names more = ap (λ l. length (string_table l)) (take-append-le (length names) names more (omega arith) ∙ take_all (length names) names (omega arith))
+
+string_table_more : (names : List (List ℕ)) (name : List ℕ) → string_table (names ++ name ∷ []) ≡ string_table names ++ terminated name
+unfolding string_table
+string_table_more names name = sym (flat_map_more terminated (0 ∷ []) names name)
+
+places_more : (names : List (List ℕ)) (name : List ℕ)
+    → each_below (name_at (names ++ name ∷ [])) (length (names ++ name ∷ [])) ≡ each_below (name_at names) (length names) ++ length (string_table names) ∷ []
+places_more names name =
+    ap (each_below (name_at (names ++ name ∷ []))) (length_push names name)
+    ∙ (each_below_more (name_at (names ++ name ∷ [])) (length names)
+    ∙ (ap (λ l. l ++ name_at (names ++ name ∷ []) (length names) ∷ []) (each_below_same (name_at (names ++ name ∷ [])) (name_at names) (length names) (λ k lt. name_at-append names (name ∷ []) k (omega arith)))
+    ∙ ap (λ (n : ℕ). each_below (name_at names) (length names) ++ n ∷ []) (name_at_end names (name ∷ []))))
+
+pub no_names : (s : Strings) → s.bytes.items ≡ 0 ∷ [] → s.places.items ≡ [] → IsTableOf [] s
+unfolding string_table
+no_names s bytes places = record { bytes = bytes; places = places ∙ sym (each_below_zero (name_at [])) }
+
+-- a name more
+pub names_more : (names : List (List ℕ)) (first rest : List ℕ) (old new : Strings)
+    → new.places.items ≡ old.places.items ++ length old.bytes.items ∷ []
+    → new.bytes.items ≡ ((old.bytes.items ++ first) ++ rest) ++ 0 ∷ []
+    → IsTableOf names old → IsTableOf (names ++ (first ++ rest) ∷ []) new
+names_more names first rest old new places bytes is = record {
+  bytes =
+      bytes ∙ (ap (λ l. l ++ 0 ∷ []) (append_assoc old.bytes.items first rest)
+      ∙ (append_assoc old.bytes.items (first ++ rest) (0 ∷ [])
+      ∙ (ap (λ l. l ++ terminated (first ++ rest)) is.bytes ∙ sym (string_table_more names (first ++ rest)))));
+  places =
+      places ∙ (ap (λ l. l ++ length old.bytes.items ∷ []) is.places
+      ∙ (ap (λ l. each_below (name_at names) (length names) ++ length l ∷ []) is.bytes ∙ sym (places_more names (first ++ rest))));
+}
+
+-- a name's place
+pub place_is : (names : List (List ℕ)) (s : Strings) (k : ℕ) → IsTableOf names s → k < length names → get_or s.places.items k 0 ≡ name_at names k
+place_is names s k is lt = ap (λ l. get_or l k 0) is.places ∙ at_each (name_at names) (length names) k 0 lt
+
+-- ---- sections
+
+contents_more : (sections : List FileSection) (s : FileSection) → contents_of (sections ++ s ∷ []) ≡ contents_of sections ++ padded s.content
+unfolding contents_of
+contents_more sections s = sym (flat_map_more (λ (t : FileSection). padded t.content) [] sections s)
+
+pub content_at-append : (sections more : List FileSection) (k : ℕ) → k ≤ length sections → content_at (sections ++ more) k ≡ content_at sections k
+unfolding content_at
+content_at-append sections more k le = ap (λ l. FILE_HEADER_SIZE + length (contents_of l)) (take-append-le k sections more le)
+
+content_at_end : (sections more : List FileSection) → content_at (sections ++ more) (length sections) ≡ FILE_HEADER_SIZE + length (contents_of sections)
+unfolding content_at
+content_at_end sections more =
+    ap (λ l. FILE_HEADER_SIZE + length (contents_of l)) (take-append-le (length sections) sections more (omega arith) ∙ take_all (length sections) sections (omega arith))
+
+head_of-append : (sections more : List FileSection) (k : ℕ) → k < length sections → head_of (sections ++ more) k ≡ head_of sections k
+unfolding head_of
+head_of-append sections more k lt =
+    ap (λ (s : FileSection). record s.head { offset = content_at (sections ++ more) k }) (get_or_append_left sections more no_section k lt)
+    ∙ ap (λ (at : ℕ). record ((get_or sections k no_section).head) { offset = at }) (content_at-append sections more k (omega arith))
+
+head_of_end : (sections : List FileSection) (s : FileSection) → head_of (sections ++ s ∷ []) (length sections) ≡ record s.head { offset = FILE_HEADER_SIZE + length (contents_of sections) }
+unfolding head_of
+head_of_end sections s =
+    ap (λ (t : FileSection). record t.head { offset = content_at (sections ++ s ∷ []) (length sections) }) (get_or_at sections s [] no_section (length sections) refl)
+    ∙ ap (λ (at : ℕ). record s.head { offset = at }) (content_at_end sections (s ∷ []))
+
+heads_more : (sections : List FileSection) (s : FileSection)
+    → each_below (head_of (sections ++ s ∷ [])) (length (sections ++ s ∷ [])) ≡ each_below (head_of sections) (length sections) ++ record s.head { offset = FILE_HEADER_SIZE + length (contents_of sections) } ∷ []
+heads_more sections s =
+    ap (each_below (head_of (sections ++ s ∷ []))) (length_push sections s)
+    ∙ (each_below_more (head_of (sections ++ s ∷ [])) (length sections)
+    ∙ (ap (λ l. l ++ head_of (sections ++ s ∷ []) (length sections) ∷ []) (each_below_same (head_of (sections ++ s ∷ [])) (head_of sections) (length sections) (λ k lt. head_of-append sections (s ∷ []) k lt))
+    ∙ ap (λ (h : Head). each_below (head_of sections) (length sections) ++ h ∷ []) (head_of_end sections s)))
+
+pub no_sections : (s : Sections) → s.contents.items ≡ [] → s.heads.items ≡ [] → AreSections [] s
+unfolding contents_of
+no_sections s contents heads = record { contents = contents; heads = heads ∙ sym (each_below_zero (head_of [])) }
+
+-- a section more
+pub sections_more : (sections : List FileSection) (head : Head) (content : List ℕ) (old new : Sections)
+    → new.contents.items ≡ old.contents.items ++ padded content
+    → new.heads.items ≡ old.heads.items ++ record head { offset = FILE_HEADER_SIZE + length old.contents.items } ∷ []
+    → AreSections sections old → AreSections (sections ++ record { head = head; content = content } ∷ []) new
+sections_more sections head content old new contents heads are =
+    let s : FileSection = record { head = head; content = content } in record {
+      contents = contents ∙ (ap (λ l. l ++ padded content) are.contents ∙ sym (contents_more sections s));
+      heads =
+          heads ∙ (ap (λ l. l ++ record head { offset = FILE_HEADER_SIZE + length old.contents.items } ∷ []) are.heads
+          ∙ (ap (λ (l : List ℕ). each_below (head_of sections) (length sections) ++ record head { offset = FILE_HEADER_SIZE + length l } ∷ []) are.contents
+          ∙ sym (heads_more sections s)));
+    }
+
+-- contents and then headers
+pub put_is : (s : Sections) (o r₁ r₂ r₃ : List ℕ)
+    → r₁ ≡ o ++ s.contents.items → r₂ ≡ r₁ ++ zeros SECTION_HEADER_SIZE → r₃ ≡ r₂ ++ flat_map head_bytes s.heads.items
+    → (sections : List FileSection) → AreSections sections s → r₃ ≡ o ++ (contents_of sections ++ header_table sections)
+unfolding header_table
+put_is s o r₁ r₂ r₃ e₁ e₂ e₃ sections are =
+    let heads : flat_map head_bytes s.heads.items ≡ all_below (λ k. head_bytes (head_of sections k)) (length sections)
+    = ap (flat_map head_bytes) are.heads ∙ flat_map_each head_bytes (head_of sections) (length sections) in
+    let z : List ℕ = zeros SECTION_HEADER_SIZE in
+    let h : List ℕ = all_below (λ k. head_bytes (head_of sections k)) (length sections) in
+    e₃ ∙ (ap (λ l. r₂ ++ l) heads ∙ (ap (λ l. l ++ h) (e₂ ∙ ap (λ l. l ++ z) (e₁ ∙ ap (λ l. o ++ l) are.contents))
+    ∙ (append_assoc (o ++ contents_of sections) z h ∙ append_assoc o (contents_of sections) (z ++ h))))

@@ -1,0 +1,150 @@
+-- The headers of a unit's file.
+use Rattle.std.proofs.Common.{◌≡◌, ℕ, ◌+◌, ◌<◌, ◌≤◌, ◌^◌, List, [], ◌++◌, refl, ap, arith, length, take, get_or, length-append}
+use Rattle.std.specs.List.{flat_map, All}
+use Rattle.std.proofs.lemmas.List.{length-map, length-take}
+use Rattle.std.proofs.lemmas.List.Concat.{flat_map-append}
+use Rattle.std.proofs.lemmas.List.Elements.{All-get_or, All-take, All-weaker}
+use Rattle.elf_objects.specs.Passes.{each_below}
+use Rattle.asm_text.specs.declared.unit.SectionKind.{SectionKind}
+use Rattle.asm_text.specs.declared.unit.SectionKind.TheVariants.{Code, Data, Bss}
+use Rattle.asm_text.specs.Parts.{SymbolValue, UnitValue, IsUnit, IsSection, kept_size}
+use Rattle.obj_write.specs.Bytes.{padded}
+use Rattle.obj_write.specs.Strings.{string_table, name_at}
+use Rattle.obj_write.specs.Sections.{FileSection, contents_of}
+use Rattle.obj_write.specs.Symbols.{symbol_names, symbol_table}
+use Rattle.obj_write.specs.Relocations.{relocation_table}
+use Rattle.obj_write.specs.Object.{no_part, part_head, symbols_head, strings_head, relocations_head, symtab_index, relocated_in, section_names, part_section, symtab_section, strtab_section, shstrtab_section, table_sections, relocation_section, file_sections}
+use Rattle.obj_write.proofs.PassLemmas.{flat_map_each}
+use Rattle.obj_write.proofs.FileLemmas.{table_place}
+use Rattle.obj_write.proofs.ObjectLemmas.{length_names, relocated_few}
+use Rattle.obj_write.proofs.SizeLemmas.{padded_few, below_few, table_few, relocations_few, length_symbols}
+use Rattle.obj_write.proofs.NameLemmas.{IsString, symbol_strings, section_strings}
+
+-- ---- what each section is
+
+pub part_content : (unit : UnitValue) (k : ℕ) → (part_section unit k).content ≡ (get_or unit.sections k no_part).bytes
+unfolding part_section
+part_content unit k = refl
+
+pub part_header : (unit : UnitValue) (k : ℕ) → (part_section unit k).head ≡ part_head (get_or unit.sections k no_part) (name_at (section_names unit) k)
+unfolding part_section
+part_header unit k = refl
+
+pub symtab_parts : (unit : UnitValue) → ((symtab_section unit).head ≡ symbols_head (name_at (section_names unit) (length unit.sections)) (length (symbol_table unit.symbols)) unit) × ((symtab_section unit).content ≡ symbol_table unit.symbols)
+unfolding symtab_section
+symtab_parts unit = (refl, refl)
+
+pub strtab_parts : (unit : UnitValue) → ((strtab_section unit).head ≡ strings_head (name_at (section_names unit) (length unit.sections + 1)) (length (string_table (symbol_names unit.symbols)))) × ((strtab_section unit).content ≡ string_table (symbol_names unit.symbols))
+unfolding strtab_section
+strtab_parts unit = (refl, refl)
+
+pub shstrtab_parts : (unit : UnitValue) → ((shstrtab_section unit).head ≡ strings_head (name_at (section_names unit) (length unit.sections + 2)) (length (string_table (section_names unit)))) × ((shstrtab_section unit).content ≡ string_table (section_names unit))
+unfolding shstrtab_section
+shstrtab_parts unit = (refl, refl)
+
+-- the section of a table of relocations
+abbrev pub target_of : UnitValue → ℕ → ℕ
+target_of unit j = get_or (relocated_in unit) j 0
+
+pub relocation_parts : (unit : UnitValue) (j : ℕ)
+    → ((relocation_section unit j).head ≡ relocations_head (name_at (section_names unit) (length unit.sections + 3 + j)) (length (relocation_table unit.relocations (target_of unit j))) (symtab_index unit) (target_of unit j))
+    × ((relocation_section unit j).content ≡ relocation_table unit.relocations (target_of unit j))
+unfolding relocation_section
+relocation_parts unit j = (refl, refl)
+
+-- ---- sizes
+
+kept_few : (k : SectionKind) (size : ℕ) → kept_size k size ≤ size
+kept_few Code size = omega arith
+kept_few Data size = omega arith
+kept_few Bss size = omega arith
+
+part_few : (unit : UnitValue) → IsUnit unit → (k : ℕ) → k < length unit.sections → length (padded (part_section unit k).content) ≤ 65537
+part_few unit is k lt =
+    let h = All-get_or IsSection unit.sections k no_part lt is.sections_kept in
+    let a = h.small in
+    let b = h.filled in
+    let c = kept_few (get_or unit.sections k no_part).kind (get_or unit.sections k no_part).size in
+    let d = padded_few (part_section unit k).content in
+    let e = ap length (part_content unit k) in
+    omega (arith, a, b, c, d, e)
+
+relocation_few : (unit : UnitValue) → IsUnit unit → (j : ℕ) → length (padded (relocation_section unit j).content) ≤ 12582915
+relocation_few unit is j =
+    let a = relocations_few unit.relocations (target_of unit j) in
+    let b = is.few_relocations in
+    let c = padded_few (relocation_section unit j).content in
+    let d = ap length (relocation_parts unit j).1 in
+    omega (arith, a, b, c, d)
+
+pub symbol_names_few : (unit : UnitValue) → IsUnit unit → length (string_table (symbol_names unit.symbols)) ≤ 68157441
+symbol_names_few unit is =
+    let short = All-weaker (IsString 64) (λ (n : List ℕ). length n ≤ 64) (λ n h. h.short) (symbol_names unit.symbols) (symbol_strings unit is) in
+    let a = table_few (symbol_names unit.symbols) 64 short in
+    let b = length-map unit.symbols (λ (s : SymbolValue). s.name) in
+    let c = is.few_symbols in
+    omega (arith, a, b, c)
+
+names_short : (unit : UnitValue) → IsUnit unit → All (λ (n : List ℕ). length n ≤ 69) (section_names unit)
+names_short unit is = All-weaker (IsString 69) (λ (n : List ℕ). length n ≤ 69) (λ n h. h.short) (section_names unit) (section_strings unit is)
+
+names_counted : (unit : UnitValue) → IsUnit unit → length (section_names unit) ≤ 515
+names_counted unit is =
+    let a = length_names unit in
+    let b = relocated_few unit.relocations (length unit.sections) in
+    let c = is.few_sections in
+    omega (arith, a, b, c)
+
+pub section_names_few : (unit : UnitValue) → IsUnit unit → length (string_table (section_names unit)) ≤ 36051
+section_names_few unit is =
+    let a = table_few (section_names unit) 69 (names_short unit is) in
+    let b = names_counted unit is in
+    omega (arith, a, b)
+
+pub name_few : (unit : UnitValue) → IsUnit unit → (k : ℕ) → name_at (section_names unit) k ≤ 36051
+unfolding name_at
+name_few unit is k =
+    let a = table_few (take k (section_names unit)) 69 (All-take (λ (n : List ℕ). length n ≤ 69) k (section_names unit) (names_short unit is)) in
+    let b = names_counted unit is in
+    let c = length-take k (section_names unit) in
+    omega (arith, a, b, c)
+
+few_tables : (unit : UnitValue) → IsUnit unit → length (flat_map (λ (s : FileSection). padded s.content) (table_sections unit)) ≤ 84970733
+few_tables unit is =
+    let a : List ℕ = padded (symtab_section unit).content in
+    let b : List ℕ = padded (strtab_section unit).content in
+    let c : List ℕ = padded (shstrtab_section unit).content in
+    let e₁ = length-append a (b ++ (c ++ [])) in
+    let e₂ = length-append b (c ++ []) in
+    let e₃ = length-append c [] in
+    let a' = padded_few (symtab_section unit).content in
+    let b' = padded_few (strtab_section unit).content in
+    let c' = padded_few (shstrtab_section unit).content in
+    let a″ = ap length (symtab_parts unit).1 in
+    let b″ = ap length (strtab_parts unit).1 in
+    let c″ = ap length (shstrtab_parts unit).1 in
+    let x = length_symbols unit.symbols in
+    let y = symbol_names_few unit is in
+    let z = section_names_few unit is in
+    let m = is.few_symbols in
+    omega (arith, e₁, e₂, e₃, a', b', c', a″, b″, c″, x, y, z, m)
+
+-- the file has fewer than 2 ^ 32 bytes before its headers
+pub few_contents : (unit : UnitValue) → IsUnit unit → table_place (file_sections unit) < 2 ^ 32
+unfolding contents_of file_sections
+few_contents unit is =
+    let f : FileSection → List ℕ = λ s. padded s.content in
+    let parts : List FileSection = each_below (part_section unit) (length unit.sections) in
+    let others : List FileSection = each_below (relocation_section unit) (length (relocated_in unit)) in
+    let e₁ = ap length (flat_map-append f parts (table_sections unit ++ others)) in
+    let e₂ = length-append (flat_map f parts) (flat_map f (table_sections unit ++ others)) in
+    let e₃ = ap length (flat_map-append f (table_sections unit) others) in
+    let e₄ = length-append (flat_map f (table_sections unit)) (flat_map f others) in
+    let p = ap length (flat_map_each f (part_section unit) (length unit.sections)) in
+    let p' = below_few (λ k. f (part_section unit k)) 65537 (length unit.sections) (λ k lt. part_few unit is k lt) in
+    let r = ap length (flat_map_each f (relocation_section unit) (length (relocated_in unit))) in
+    let r' = below_few (λ j. f (relocation_section unit j)) 12582915 (length (relocated_in unit)) (λ j lt. relocation_few unit is j) in
+    let n = is.few_sections in
+    let m = relocated_few unit.relocations (length unit.sections) in
+    let t = few_tables unit is in
+    omega (arith, e₁, e₂, e₃, e₄, p, p', r, r', n, m, t)

@@ -1,0 +1,8 @@
+use Rattle.std.proofs.Common.{map, take}
+use Rattle.asm_text.specs.Views.{symbol_of}
+use Rattle.obj_write.specs.Strings.{IsTableOf}
+use Rattle.obj_write.specs.Symbols.{symbol_names}
+use Rattle.obj_write.proofs.symbols.name_table.Given as goal
+
+abbrev pub invariant-loop-symbol : goal.invariant-loop-symbol
+invariant-loop-symbol l = IsTableOf (symbol_names (map symbol_of (take l.symbol-index l.symbols))) l.strings

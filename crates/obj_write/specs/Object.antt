@@ -1,0 +1,132 @@
+-- The file of a unit (TIS ELF 1.2).
+use Rattle.std.specs.Prelude.{ℕ, ◌+◌, List, [], ◌∷◌, ◌++◌, length, map, slice_index_or, codes}
+use Rattle.elf_objects.specs.Passes.{each_below}
+use Rattle.asm_text.specs.declared.unit.SectionKind.{SectionKind}
+use Rattle.asm_text.specs.declared.unit.SectionKind.TheVariants.{Code, Data, Bss}
+use Rattle.asm_text.specs.Parts.{SectionValue, UnitValue}
+use Rattle.obj_write.specs.declared.sections.Head.{Head}
+use Rattle.obj_write.specs.declared.sections.TheConstants.{FILE_HEADER_SIZE, SECTION_HEADER_SIZE}
+use Rattle.obj_write.specs.declared.symbols.TheConstants.{SYMBOL_SIZE}
+use Rattle.obj_write.specs.declared.object.TheConstants.{PROGBITS, SYMTAB, STRTAB, RELA, NOBITS, WRITE_ALLOC, ALLOC_EXECUTE, SECTION_ALIGN, TABLE_ALIGN, RELOCATION_SIZE, RELOCATABLE, MSP430}
+use Rattle.obj_write.specs.Bytes.{half_bytes, word_bytes, zeros}
+use Rattle.obj_write.specs.Strings.{string_table, name_at}
+use Rattle.obj_write.specs.Sections.{FileSection, contents_of, header_table}
+use Rattle.obj_write.specs.Symbols.{symbol_names, symbol_table, first_global}
+use Rattle.obj_write.specs.Relocations.{relocated, relocation_table}
+
+abbrev pub no_part : SectionValue
+no_part = record { name = []; kind = Bss; size = 0; bytes = [] }
+
+-- ---- names of sections
+
+abbrev pub part_names : List SectionValue → List (List ℕ)
+part_names sections = map (λ s. s.name) sections
+
+abbrev pub table_names : List (List ℕ)
+table_names = codes ".symtab" ∷ codes ".strtab" ∷ codes ".shstrtab" ∷ []
+
+-- `.rela` followed by the name of the section
+abbrev pub relocation_name : List SectionValue → ℕ → List ℕ
+relocation_name sections i = codes ".rela" ++ (slice_index_or sections i no_part).name
+
+abbrev pub relocated_in : UnitValue → List ℕ
+relocated_in unit = relocated unit.relocations (length unit.sections)
+
+-- by index from 1 on
+unfoldable pub section_names : UnitValue → List (List ℕ)
+section_names unit = part_names unit.sections ++ (table_names ++ map (relocation_name unit.sections) (relocated_in unit))
+
+-- ---- sections
+
+abbrev pub kind_of : SectionKind → ℕ
+kind_of Code = PROGBITS
+kind_of Data = PROGBITS
+kind_of Bss = NOBITS
+
+abbrev pub flags_of : SectionKind → ℕ
+flags_of Code = ALLOC_EXECUTE
+flags_of Data = WRITE_ALLOC
+flags_of Bss = WRITE_ALLOC
+
+-- the header of a section of the unit
+abbrev pub part_head : SectionValue → ℕ → Head
+part_head s name = record { name = name; kind = kind_of s.kind; flags = flags_of s.kind; offset = 0; size = s.size; link = 0; info = 0; align = SECTION_ALIGN; entry_size = 0 }
+
+-- the unit's section of this index
+unfoldable pub part_section : UnitValue → ℕ → FileSection
+part_section unit i = let s = slice_index_or unit.sections i no_part in
+    record { head = part_head s (name_at (section_names unit) i); content = s.bytes }
+
+-- the indexes of the tables, counted from section 0
+abbrev pub symtab_index : UnitValue → ℕ
+symtab_index unit = length unit.sections + 1
+
+abbrev pub strtab_index : UnitValue → ℕ
+strtab_index unit = length unit.sections + 2
+
+abbrev pub shstrtab_index : UnitValue → ℕ
+shstrtab_index unit = length unit.sections + 3
+
+-- the header of the table of symbols
+abbrev pub symbols_head : ℕ → ℕ → UnitValue → Head
+symbols_head name size unit = record { name = name; kind = SYMTAB; flags = 0; offset = 0; size = size; link = strtab_index unit; info = first_global unit.symbols; align = TABLE_ALIGN; entry_size = SYMBOL_SIZE }
+
+-- the header of a string table
+abbrev pub strings_head : ℕ → ℕ → Head
+strings_head name size = record { name = name; kind = STRTAB; flags = 0; offset = 0; size = size; link = 0; info = 0; align = TABLE_ALIGN; entry_size = 0 }
+
+-- the header of the relocations of a section, where the table of symbols has this index
+abbrev pub relocations_head : ℕ → ℕ → ℕ → ℕ → Head
+relocations_head name size symbols section = record { name = name; kind = RELA; flags = 0; offset = 0; size = size; link = symbols; info = section + 1; align = TABLE_ALIGN; entry_size = RELOCATION_SIZE }
+
+-- `.symtab`
+unfoldable pub symtab_section : UnitValue → FileSection
+symtab_section unit = let content = symbol_table unit.symbols in
+    record { head = symbols_head (name_at (section_names unit) (length unit.sections)) (length content) unit; content = content }
+
+-- `.strtab`: the names of the symbols
+unfoldable pub strtab_section : UnitValue → FileSection
+strtab_section unit = let content = string_table (symbol_names unit.symbols) in
+    record { head = strings_head (name_at (section_names unit) (length unit.sections + 1)) (length content); content = content }
+
+-- `.shstrtab`: the names of the sections
+unfoldable pub shstrtab_section : UnitValue → FileSection
+shstrtab_section unit = let content = string_table (section_names unit) in
+    record { head = strings_head (name_at (section_names unit) (length unit.sections + 2)) (length content); content = content }
+
+-- the relocations of this index among the sections that have some
+unfoldable pub relocation_section : UnitValue → ℕ → FileSection
+relocation_section unit j = let section = slice_index_or (relocated_in unit) j 0 in let content = relocation_table unit.relocations section in
+    record { head = relocations_head (name_at (section_names unit) (length unit.sections + 3 + j)) (length content) (symtab_index unit) section; content = content }
+
+abbrev pub table_sections : UnitValue → List FileSection
+table_sections unit = symtab_section unit ∷ strtab_section unit ∷ shstrtab_section unit ∷ []
+
+-- all sections after section 0, in their order
+unfoldable pub file_sections : UnitValue → List FileSection
+file_sections unit =
+    each_below (part_section unit) (length unit.sections)
+    ++ (table_sections unit ++ each_below (relocation_section unit) (length (relocated_in unit)))
+
+-- ---- the file
+
+-- 7f, `ELF`, 32 bits, the low byte first, version 1
+abbrev pub identification : List ℕ
+identification = 0x7f ∷ 0x45 ∷ 0x4c ∷ 0x46 ∷ 1 ∷ 1 ∷ 1 ∷ zeros 9
+
+-- the file's header, with the place of the header table, the number of sections and the index of the name table
+unfoldable pub file_header : ℕ → ℕ → ℕ → List ℕ
+file_header table count names =
+    identification ++ (half_bytes RELOCATABLE ++ (half_bytes MSP430 ++ (word_bytes 1 ++ (word_bytes 0 ++ (word_bytes 0 ++ (word_bytes table
+    ++ (word_bytes 0 ++ (half_bytes FILE_HEADER_SIZE ++ (half_bytes 0 ++ (half_bytes 0 ++ (half_bytes SECTION_HEADER_SIZE
+    ++ (half_bytes count ++ half_bytes names))))))))))))
+
+-- a header, the contents and the header table, where the name table has this index
+unfoldable pub file_of : List FileSection → ℕ → List ℕ
+file_of sections names =
+    file_header (FILE_HEADER_SIZE + length (contents_of sections)) (length sections + 1) names
+    ++ (contents_of sections ++ header_table sections)
+
+-- the object's bytes
+unfoldable pub object_of : UnitValue → List ℕ
+object_of unit = file_of (file_sections unit) (shstrtab_index unit)

@@ -1,0 +1,74 @@
+-- What the object reader gives of a unit's file.
+use Rattle.std.specs.Prelude.{◌≡◌, ℕ, ◌+◌, ◌%◌, ◌^◌, ◌<◌, Bool, true, false, List, length, Option, Some, None, slice_get, slice_index_or, slice_range, pos}
+use Rattle.elf_objects.specs.declared.object.SectionHead.{SectionHead}
+use Rattle.elf_objects.specs.declared.object.Symbol.{Symbol}
+use Rattle.elf_objects.specs.declared.object.Relocation.{Relocation}
+use Rattle.elf_objects.specs.declared.object.Binding.{Binding}
+use Rattle.elf_objects.specs.declared.object.Binding.TheVariants as binding
+use Rattle.elf_objects.specs.declared.object.Home.{Home}
+use Rattle.elf_objects.specs.declared.object.Home.TheVariants as home
+use Rattle.elf_objects.specs.Passes.{each_below, all_below}
+use Rattle.elf_objects.specs.Section.{is_loaded}
+use Rattle.elf_objects.specs.Object.{ObjectValue}
+use Rattle.asm_text.specs.declared.unit.AsmRelocation.{AsmRelocation}
+use Rattle.asm_text.specs.Parts.{SectionValue, SymbolValue, UnitValue}
+use Rattle.obj_write.specs.declared.object.TheConstants.{SECTION_ALIGN}
+use Rattle.obj_write.specs.declared.relocations.TheConstants.{WORD_FIELD}
+use Rattle.obj_write.specs.Relocations.{relocations_in}
+use Rattle.obj_write.specs.Object.{kind_of, flags_of, relocated_in}
+
+-- the section is the unit's, with its name and its bytes
+pub record IsPart (file : List ℕ) (s : SectionValue) (head : SectionHead) : Type 0 where
+  pub name : slice_range file head.name.start head.name.end ≡ s.name
+  pub kind : head.kind ≡ kind_of s.kind
+  pub flags : head.flags ≡ flags_of s.kind
+  pub size : head.size ≡ s.size
+  pub align : head.align ≡ SECTION_ALIGN
+  pub bytes : slice_range file head.bytes.start head.bytes.end ≡ s.bytes
+
+abbrev pub binding_read : Bool → Binding
+binding_read true = binding.Global
+binding_read false = binding.Local
+
+-- the unit's section of this index has the next index in the file
+abbrev pub home_read : Option ℕ → Home
+home_read None = home.Undefined
+home_read (Some section) = home.In (section + 1)
+
+-- the symbol is the unit's; its value is a number of 32 bits
+pub record IsSymbolOf (file : List ℕ) (s : SymbolValue) (symbol : Symbol) : Type 0 where
+  pub name : slice_range file symbol.name.start symbol.name.end ≡ s.name
+  pub value : symbol.value ≡ s.value % 2 ^ 32
+  pub size : symbol.size ≡ 0
+  pub binding : symbol.binding ≡ binding_read s.global
+  pub home : symbol.home ≡ home_read s.home
+
+abbrev pub no_relocation : AsmRelocation
+no_relocation = record { section = 0; offset = 0; symbol = 0 }
+
+-- the relocation of this place among those of a section, which stand in the table of this index; its offset is a number of 32 bits
+abbrev pub relocation_read : List AsmRelocation → ℕ → ℕ → ℕ → Relocation
+relocation_read list table section entry = let r = slice_index_or list entry no_relocation in record {
+  table = table;
+  entry = entry;
+  target = section + 1;
+  offset = r.offset % 2 ^ 32;
+  symbol = r.symbol + 1;
+  kind = WORD_FIELD;
+  addend = pos 0;
+}
+
+-- those of one table; the tables follow section 0, the unit's sections and three more
+abbrev pub table_read : UnitValue → ℕ → List Relocation
+table_read unit j = let section = slice_index_or (relocated_in unit) j 0 in let list = relocations_in unit.relocations section in
+    each_below (relocation_read list (length unit.sections + 4 + j) section) (length list)
+
+-- the object has the unit's sections, symbols and relocations, and beside them only section 0, symbol 0 and tables
+pub record IsObjectOf (unit : UnitValue) (object : ObjectValue) : Type 0 where
+  pub section_count : length object.sections ≡ length unit.sections + 4 + length (relocated_in unit)
+  pub sections : (k : ℕ) (s : SectionValue) (head : SectionHead) → slice_get unit.sections k ≡ Some s → slice_get object.sections (k + 1) ≡ Some head → IsPart object.file s head
+  pub null : (head : SectionHead) → slice_get object.sections 0 ≡ Some head → is_loaded head.kind head.flags ≡ false
+  pub tables : (k : ℕ) (head : SectionHead) → length unit.sections < k → slice_get object.sections k ≡ Some head → is_loaded head.kind head.flags ≡ false
+  pub symbol_count : length object.symbols ≡ length unit.symbols + 1
+  pub symbols : (k : ℕ) (s : SymbolValue) (symbol : Symbol) → slice_get unit.symbols k ≡ Some s → slice_get object.symbols (k + 1) ≡ Some symbol → IsSymbolOf object.file s symbol
+  pub relocations : object.relocations ≡ all_below (table_read unit) (length (relocated_in unit))

@@ -1,0 +1,27 @@
+-- The tables of relocations with addends (TIS ELF 1.2, "Relocation").
+use Rattle.std.specs.Prelude.{ℕ, ◌+◌, ◌*◌, ◌==◌, List, [], ◌∷◌}
+use Rattle.std.specs.List.{filter, flat_map}
+use Rattle.elf_objects.specs.Passes.{all_below}
+use Rattle.asm_text.specs.declared.unit.AsmRelocation.{AsmRelocation}
+use Rattle.obj_write.specs.declared.relocations.TheConstants.{WORD_FIELD}
+use Rattle.obj_write.specs.Bytes.{words_bytes}
+
+-- an entry: the symbol has the next index in the file, the kind is that of a word, and the addend is 0
+unfoldable pub relocation_entry : AsmRelocation → List ℕ
+relocation_entry r = words_bytes (r.offset ∷ ((r.symbol + 1) * 256 + WORD_FIELD) ∷ 0 ∷ [])
+
+-- those of one section, in order
+abbrev pub relocations_in : List AsmRelocation → ℕ → List AsmRelocation
+relocations_in relocations section = filter (λ r. r.section == section) relocations
+
+unfoldable pub relocation_table : List AsmRelocation → ℕ → List ℕ
+relocation_table relocations section = flat_map relocation_entry (relocations_in relocations section)
+
+-- a section's index, where it has relocations
+abbrev pub index_where_some : List AsmRelocation → ℕ → List ℕ
+index_where_some [] section = []
+index_where_some (r ∷ rs) section = section ∷ []
+
+-- the sections with relocations, of so many
+unfoldable pub relocated : List AsmRelocation → ℕ → List ℕ
+relocated relocations count = all_below (λ i. index_where_some (relocations_in relocations i) i) count

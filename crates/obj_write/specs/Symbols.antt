@@ -1,0 +1,41 @@
+-- The table of symbols (TIS ELF 1.2, "Symbol Table").
+use Rattle.std.specs.Prelude.{ℕ, ◌+◌, Bool, true, false, List, [], ◌∷◌, ◌++◌, length, map, slice_index_or, Option, Some, None}
+use Rattle.std.specs.List.{position_or_len}
+use Rattle.elf_objects.specs.Passes.{all_below}
+use Rattle.asm_text.specs.Parts.{SymbolValue}
+use Rattle.obj_write.specs.declared.symbols.TheConstants.{SYMBOL_SIZE, LOCAL_INFO, GLOBAL_INFO}
+use Rattle.obj_write.specs.Bytes.{half_bytes, word_bytes, zeros}
+use Rattle.obj_write.specs.Strings.{name_at}
+
+abbrev pub no_symbol : SymbolValue
+no_symbol = record { name = []; global = false; home = None; value = 0 }
+
+-- binding times 16; the type is 0
+abbrev pub info_of : Bool → ℕ
+info_of true = GLOBAL_INFO
+info_of false = LOCAL_INFO
+
+-- the unit's section of this index has the next index in the file; 0 is undefined
+abbrev pub home_index : Option ℕ → ℕ
+home_index None = 0
+home_index (Some section) = section + 1
+
+-- an entry; size, type and visibility are 0
+unfoldable pub symbol_entry : ℕ → SymbolValue → List ℕ
+symbol_entry name symbol =
+    word_bytes name ++ (word_bytes symbol.value ++ (word_bytes 0 ++ (info_of symbol.global ∷ 0 ∷ half_bytes (home_index symbol.home))))
+
+abbrev pub symbol_names : List SymbolValue → List (List ℕ)
+symbol_names symbols = map (λ s. s.name) symbols
+
+-- the entry of the symbol of this index
+unfoldable pub symbol_entry_at : List SymbolValue → ℕ → List ℕ
+symbol_entry_at symbols k = symbol_entry (name_at (symbol_names symbols) k) (slice_index_or symbols k no_symbol)
+
+-- entry 0 is zeros, and each symbol has the next index
+unfoldable pub symbol_table : List SymbolValue → List ℕ
+symbol_table symbols = zeros SYMBOL_SIZE ++ all_below (symbol_entry_at symbols) (length symbols)
+
+-- the index of the first global entry, or the number of entries where none is global
+unfoldable pub first_global : List SymbolValue → ℕ
+first_global symbols = 1 + position_or_len (λ s. s.global) symbols
