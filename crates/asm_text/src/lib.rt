@@ -3,6 +3,10 @@
 //! A source is lines ended by LF, each a section, a label, a global name, a word, zeros, or an instruction.
 #![tactic(auto)]
 
+mod encoding;
+mod line;
+mod operand;
+mod statement;
 mod unit;
 
 pub use unit::{AsmFault, AsmRelocation, AsmSection, AsmSymbol, AsmUnit, SectionKind};
