@@ -5,3 +5,12 @@ pub mod Statements
 pub mod Encoding
 pub mod Operands
 pub mod Lines
+pub mod Names
+pub mod Source
+pub mod Placing
+pub mod Maps
+pub mod Placed
+pub mod Read
+pub mod Symbols
+pub mod Emission
+pub mod Known

@@ -1,0 +1,54 @@
+-- The symbols of a source: local labels in their order, then the other names by first appearance.
+use Rattle.std.specs.Prelude.{ℕ, zero, suc, ◌+◌, ◌==◌, Bool, true, false, not, ◌&&◌, ◌||◌, if◌then◌else◌, List, [], ◌∷◌, ◌++◌, length, map, filter, fold, slice_index_or, Option, Some, None, is_none, option_map, unwrap_or}
+use Rattle.std.specs.List.{list_any, position_or_len}
+use Rattle.asm_text.specs.declared.placing.Spot.{Spot}
+use Rattle.asm_text.specs.declared.statement.Statement.{Statement}
+use Rattle.asm_text.specs.declared.statement.Statement.TheVariants.{Section, Label, Global, Word, Space, Jump, Code}
+use Rattle.asm_text.specs.Parts.{SymbolValue}
+use Rattle.asm_text.specs.Placing.{Placed, spot_of}
+
+abbrev pub says_global : ℕ → Statement ℕ → Bool
+says_global name (Global other) = other == name
+says_global name _ = false
+
+-- whether some line calls the name global
+abbrev pub is_global : List (Statement ℕ) → ℕ → Bool
+is_global statements name = list_any (says_global name) statements
+
+-- each number once, where it comes first
+abbrev pub has : List ℕ → ℕ → Bool
+has numbers k = list_any (λ j. j == k) numbers
+
+abbrev pub once : List ℕ → ℕ → List ℕ
+once numbers k = if has numbers k then numbers else numbers ++ k ∷ []
+
+-- the numbers below n
+abbrev pub below : ℕ → List ℕ
+below zero = []
+below (suc n) = below n ++ n ∷ []
+
+abbrev pub local_labels : List (Statement ℕ) → Placed → List ℕ
+local_labels statements p = filter (λ k. not (is_global statements k)) p.labels
+
+-- the names of the symbols, by their numbers, of a source of so many names
+unfoldable pub order_of : List (Statement ℕ) → Placed → ℕ → List ℕ
+order_of statements p names = fold once (fold once [] (local_labels statements p)) (below names)
+
+-- the symbol of a name
+abbrev pub symbol_by : Bool → List ℕ → Option Spot → SymbolValue
+symbol_by global name None = record { name = name; global = true; home = None; value = 0 }
+symbol_by global name (Some spot) = record { name = name; global = global; home = Some spot.section; value = spot.offset }
+
+abbrev pub symbol_for : List (Statement ℕ) → Placed → List (List ℕ) → ℕ → SymbolValue
+symbol_for statements p names k = symbol_by (is_global statements k) (slice_index_or names k []) (spot_of p.spots k)
+
+abbrev pub symbols_for : List (Statement ℕ) → Placed → List (List ℕ) → List ℕ → List SymbolValue
+symbols_for statements p names order = map (symbol_for statements p names) order
+
+-- the place of a name's symbol
+abbrev pub symbol_number : List ℕ → ℕ → ℕ
+symbol_number order k = position_or_len (λ j. j == k) order
+
+-- the places of the symbols of the first so many names
+abbrev pub symbol_numbers : List ℕ → ℕ → List ℕ
+symbol_numbers order names = map (symbol_number order) (below names)
