@@ -21,7 +21,7 @@ use Rattle.asm_text.specs.Statements.{size_of}
 pub record Meanings : Type 0 where
   pub sections : List (List ℕ)
   pub spots : List (Option Spot)
-  pub symbols : List ℕ
+  pub symbols : List (Option ℕ)
 
 -- the sections and the relocations so far
 pub record Emitted : Type 0 where
@@ -72,9 +72,13 @@ bytes_of m n section here _ = Ok []
 
 -- ---- its relocations
 
+abbrev pub relocation_at : ℕ → ℕ → Option ℕ → List AsmRelocation
+relocation_at section offset None = []
+relocation_at section offset (Some symbol) = (record { section = section; offset = offset; symbol = symbol }) ∷ []
+
 abbrev pub relocation_if : Meanings → ℕ → ℕ → Option ℕ → List AsmRelocation
 relocation_if m section offset None = []
-relocation_if m section offset (Some name) = (record { section = section; offset = offset; symbol = slice_index_or m.symbols name 0 }) ∷ []
+relocation_if m section offset (Some name) = relocation_at section offset (slice_index_or m.symbols name None)
 
 -- the offset of the word of the second operand, from the start of the instruction
 abbrev pub second_word : Insn → ℕ

@@ -10,15 +10,24 @@ abbrev pub IsBelow : ℕ → Option ℕ → Type 0
 IsBelow n None = Unit {0}
 IsBelow n (Some k) = k < n
 
-abbrev pub IsKnown : ℕ → ℕ → Statement ℕ → Type 0
-IsKnown sections names (Section name kind) = name < sections
-IsKnown sections names (Label name) = name < names
-IsKnown sections names (Global name) = name < names
-IsKnown sections names (Word (Name name)) = name < names
-IsKnown sections names (Word (Number n)) = Unit {0}
-IsKnown sections names (Space size) = size ≤ MAX_SIZE
-IsKnown sections names (Jump cond target) = (cond < 8) × (target < names)
-IsKnown sections names (Code insn first second) = IsBelow names first × IsBelow names second
+-- names have numbers below this, and what else a statement keeps
+abbrev pub IsKnown : ℕ → Statement ℕ → Type 0
+IsKnown names (Section name kind) = Unit {0}
+IsKnown names (Label name) = name < names
+IsKnown names (Global name) = name < names
+IsKnown names (Word (Name name)) = name < names
+IsKnown names (Word (Number n)) = Unit {0}
+IsKnown names (Space size) = size ≤ MAX_SIZE
+IsKnown names (Jump cond target) = (cond < 8) × (target < names)
+IsKnown names (Code insn first second) = IsBelow names first × IsBelow names second
 
-abbrev pub AreKnown : ℕ → ℕ → List (Statement ℕ) → Type 0
-AreKnown sections names statements = All (IsKnown sections names) statements
+abbrev pub AreKnown : ℕ → List (Statement ℕ) → Type 0
+AreKnown names statements = All (IsKnown names) statements
+
+-- the names of sections have numbers below this
+abbrev pub IsNamed : ℕ → Statement ℕ → Type 0
+IsNamed sections (Section name kind) = name < sections
+IsNamed sections _ = Unit {0}
+
+abbrev pub AreNamed : ℕ → List (Statement ℕ) → Type 0
+AreNamed sections statements = All (IsNamed sections) statements

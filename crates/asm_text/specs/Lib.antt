@@ -14,3 +14,4 @@ pub mod Read
 pub mod Symbols
 pub mod Emission
 pub mod Known
+pub mod Emitted

@@ -1,7 +1,24 @@
 -- What the code's layout stands for, and what it keeps.
-use Rattle.std.specs.Prelude.{ℕ, ◌≡◌, ◌<◌, ◌≤◌, length, All, Vec}
+use Rattle.std.specs.Prelude.{ℕ, ◌≡◌, ◌≢◌, ◌<◌, ◌≤◌, length, List, map, All, AllPairs, Some}
+use Rattle.asm_text.specs.declared.TheConstants.{MAX_SECTIONS, MAX_SIZE}
+use Rattle.asm_text.specs.declared.placing.Head.{Head}
+use Rattle.asm_text.specs.declared.placing.Spot.{Spot}
 use Rattle.asm_text.specs.declared.placing.Layout.{Layout}
-use Rattle.asm_text.specs.Placing.{Placed}
+use Rattle.asm_text.specs.Placing.{Placed, spot_of}
 
 abbrev pub placed_of : Layout → Placed
 placed_of l = record { heads = l.heads.items; labels = l.labels.items; spots = l.spots.items }
+
+abbrev pub AreSmall : List Head → Type 0
+AreSmall heads = All (λ h. h.size ≤ MAX_SIZE) heads
+
+abbrev pub names_in : List Head → List ℕ
+names_in heads = map (λ h. h.name) heads
+
+-- what is kept from line to line, in a source of so many names
+pub record IsPlaced (names : ℕ) (p : Placed) : Type 0 where
+  pub few : length p.heads ≤ MAX_SECTIONS
+  pub small : AreSmall p.heads
+  pub differ : AllPairs (λ a b. a ≢ b) (names_in p.heads)
+  pub spots : length p.spots ≡ names
+  pub within : (k : ℕ) (spot : Spot) → spot_of p.spots k ≡ Some spot → spot.section < length p.heads

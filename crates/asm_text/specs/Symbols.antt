@@ -1,6 +1,6 @@
 -- The symbols of a source: local labels in their order, then the other names by first appearance.
-use Rattle.std.specs.Prelude.{ℕ, zero, suc, ◌+◌, ◌==◌, Bool, true, false, not, ◌&&◌, ◌||◌, if◌then◌else◌, List, [], ◌∷◌, ◌++◌, length, map, filter, fold, slice_index_or, Option, Some, None, is_none, option_map, unwrap_or}
-use Rattle.std.specs.List.{list_any, position_or_len}
+use Rattle.std.specs.Prelude.{ℕ, zero, suc, ◌+◌, ◌==◌, Bool, true, false, not, ◌&&◌, ◌||◌, if◌then◌else◌, List, [], ◌∷◌, ◌++◌, length, map, filter, fold, position, slice_index_or, Option, Some, None, is_none, option_map, unwrap_or}
+use Rattle.std.specs.List.{list_any}
 use Rattle.asm_text.specs.declared.placing.Spot.{Spot}
 use Rattle.asm_text.specs.declared.statement.Statement.{Statement}
 use Rattle.asm_text.specs.declared.statement.Statement.TheVariants.{Section, Label, Global, Word, Space, Jump, Code}
@@ -46,9 +46,9 @@ abbrev pub symbols_for : List (Statement ℕ) → Placed → List (List ℕ) →
 symbols_for statements p names order = map (symbol_for statements p names) order
 
 -- the place of a name's symbol
-abbrev pub symbol_number : List ℕ → ℕ → ℕ
-symbol_number order k = position_or_len (λ j. j == k) order
+abbrev pub symbol_number : List ℕ → ℕ → Option ℕ
+symbol_number order k = position (λ j. j == k) order
 
 -- the places of the symbols of the first so many names
-abbrev pub symbol_numbers : List ℕ → ℕ → List ℕ
+abbrev pub symbol_numbers : List ℕ → ℕ → List (Option ℕ)
 symbol_numbers order names = map (symbol_number order) (below names)

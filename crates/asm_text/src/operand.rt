@@ -1,6 +1,6 @@
 //! The text of an operand, read.
 
-ghost use Rattle.std.specs.Prelude.{◌≡◌, ◌==◌, option_map, position};
+ghost use Rattle.std.specs.Prelude.{◌≡◌, ◌==◌, option_map, true, IfOk, string_bytes};
 ghost use Rattle.asm_text.specs.Parts as parts;
 ghost use Rattle.asm_text.specs.Operands as spec;
 ghost use Rattle.asm_text.specs.Statements.{field_with_text, value_of};
@@ -10,6 +10,7 @@ ghost use Rattle.std.specs.List.{list_all};
 use crate::MAX_NAME;
 use crate::statement::{Field, Value};
 use insn_decode::Operand;
+use std::alloc::{AllocError, Global};
 use texts::{read_decimal, read_hex_word};
 
 #[tactic(auto, unfolding(crate::specs::Parts::is_name_byte))]
@@ -48,6 +49,17 @@ pub fn name_of(text: &[u8]) -> Option<&[u8]>
     ensures { option_copied result ≡ spec.name_of text.now }
 {
     if is_name(text) { Some(text) } else { None }
+}
+
+/// A name as a string.
+pub fn string_of(alloc: Global, name: &[u8]) -> Result<String, AllocError>
+    requires { parts.is_name name.now ≡ true }
+    ensures { IfOk result (λ text. string_bytes text ≡ name.now) }
+{
+    match str::from_utf8(name) {
+        Ok(text) => String::from_str(alloc, text),
+        Err(_) => unreachable!(),
+    }
 }
 
 /// A number by `0x` and four digits, or a name.

@@ -2,7 +2,7 @@
 
 ghost use Rattle.std.specs.Prelude.{◌≡◌, ◌≢◌, ◌<◌, ◌≤◌, ◌+◌, ℕ, length, Ok, Err, Some, OnOk, IfOk, IfErr, All};
 ghost use Rattle.asm_text.specs.Placing as spec;
-ghost use Rattle.asm_text.specs.Placed.{placed_of};
+ghost use Rattle.asm_text.specs.Placed.{placed_of, AreSmall, IsPlaced};
 ghost use Rattle.asm_text.specs.Known.{IsKnown, AreKnown};
 ghost use Rattle.asm_text.specs.Statements as statements;
 
@@ -141,8 +141,7 @@ impl Layout {
 
     // A statement in this section, the last.
     fn add_within(&mut self, n: u64, head: Head, statement: Statement<usize>) -> Result<(), AsmFault>
-        ghost sections: { ℕ }
-        requires known { IsKnown sections (length self.old.spots.items) statement }
+        requires known { IsKnown (length self.old.spots.items) statement }
         requires last { spec.last_head self.old.heads.items ≡ Some head }
         requires head { head.size ≤ MAX_SIZE }
         ensures placed { OnOk result (spec.within n (placed_of self.old) head statement ≡ Ok (placed_of self.new)) }
@@ -154,4 +153,61 @@ impl Layout {
         }
         self.grow(n, head, size_of(statement))
     }
+
+    // A statement that is in some section.
+    fn add_in_section(&mut self, n: u64, statement: Statement<usize>) -> Result<(), AsmFault>
+        requires known { IsKnown (length self.old.spots.items) statement }
+        requires small { AreSmall self.old.heads.items }
+        ensures placed { OnOk result (spec.in_section n (placed_of self.old) (spec.last_head self.old.heads.items) statement ≡ Ok (placed_of self.new)) }
+        ensures refused { IfErr result (λ fault. fault ≢ AsmFault.NoMemory
+            → spec.in_section n (placed_of self.old) (spec.last_head self.old.heads.items) statement ≡ Err fault) }
+    {
+        let Some(head) = self.last() else {
+            return Err(AsmFault::Place { n });
+        };
+        if !takes(head.kind, statement) {
+            return Err(AsmFault::Place { n });
+        }
+        self.add_within(n, head, statement)
+    }
+
+    // The statement of line n.
+    fn add(&mut self, n: u64, statement: Statement<usize>) -> Result<(), AsmFault>
+        requires known { IsKnown (length self.old.spots.items) statement }
+        requires small { AreSmall self.old.heads.items }
+        ensures placed { OnOk result (spec.placed n (placed_of self.old) statement ≡ Ok (placed_of self.new)) }
+        ensures refused { IfErr result (λ fault. fault ≢ AsmFault.NoMemory
+            → spec.placed n (placed_of self.old) statement ≡ Err fault) }
+    {
+        match statement {
+            Statement::Section { name, kind } => self.add_section(n, name, kind),
+            Statement::Global(_) => Ok(()),
+            Statement::Label(_)
+            | Statement::Word(_)
+            | Statement::Space(_)
+            | Statement::Jump { .. }
+            | Statement::Code { .. } => self.add_in_section(n, statement),
+        }
+    }
+}
+
+/// Where the sections and labels of these statements stand, or the first refusal line by line.
+pub fn place_all(
+    alloc: Global,
+    names: usize,
+    statements: &[Statement<usize>],
+) -> Result<Layout, AsmFault>
+    requires known { AreKnown names statements.now }
+    ensures placed { IfOk result (λ layout. spec.placed_from 1 (spec.nowhere names) statements.now ≡ Ok (placed_of layout)) }
+    ensures kept { IfOk result (λ layout. IsPlaced names (placed_of layout)) }
+    ensures refused { IfErr result (λ fault. fault ≢ AsmFault.NoMemory
+        → spec.placed_from 1 (spec.nowhere names) statements.now ≡ Err fault) }
+{
+    let mut layout = Layout::new(alloc, names)?;
+    for (index, statement) in statements.iter().enumerate() {
+        if let Err(fault) = layout.add(index as u64 + 1, *statement) {
+            return Err(fault);
+        }
+    }
+    Ok(layout)
 }
