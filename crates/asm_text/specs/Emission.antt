@@ -115,6 +115,8 @@ opened m name kind = record { name = slice_index_or m.sections name []; kind = k
 -- line n
 abbrev pub emitted : Meanings → ℕ → Emitted → Statement ℕ → Result Emitted AsmFault
 emitted m n e (Section name kind) = Ok (record { sections = e.sections ++ opened m name kind ∷ []; relocations = e.relocations })
+emitted m n e (Label name) = Ok e
+emitted m n e (Global name) = Ok e
 emitted m n e s = in_last m n e (slice_get e.sections (length e.sections - 1)) s
 
 abbrev pub emitted_next : Result Emitted AsmFault → (Emitted → Result Emitted AsmFault) → Result Emitted AsmFault

@@ -15,3 +15,4 @@ pub mod Symbols
 pub mod Emission
 pub mod Known
 pub mod Emitted
+pub mod Numbering

@@ -1,10 +1,11 @@
 -- What the code's layout stands for, and what it keeps.
-use Rattle.std.specs.Prelude.{ℕ, ◌≡◌, ◌≢◌, ◌<◌, ◌≤◌, length, List, map, All, AllPairs, Some}
+use Rattle.std.specs.Prelude.{ℕ, ◌≡◌, ◌≢◌, ◌<◌, ◌≤◌, length, List, map, All, AllPairs, Some, Ok}
+use Rattle.asm_text.specs.declared.statement.Statement.{Statement}
 use Rattle.asm_text.specs.declared.TheConstants.{MAX_SECTIONS, MAX_SIZE}
 use Rattle.asm_text.specs.declared.placing.Head.{Head}
 use Rattle.asm_text.specs.declared.placing.Spot.{Spot}
 use Rattle.asm_text.specs.declared.placing.Layout.{Layout}
-use Rattle.asm_text.specs.Placing.{Placed, spot_of}
+use Rattle.asm_text.specs.Placing.{Placed, spot_of, nowhere, placed_from}
 
 abbrev pub placed_of : Layout → Placed
 placed_of l = record { heads = l.heads.items; labels = l.labels.items; spots = l.spots.items }
@@ -22,3 +23,8 @@ pub record IsPlaced (names : ℕ) (p : Placed) : Type 0 where
   pub differ : AllPairs (λ a b. a ≢ b) (names_in p.heads)
   pub spots : length p.spots ≡ names
   pub within : (k : ℕ) (spot : Spot) → spot_of p.spots k ≡ Some spot → spot.section < length p.heads
+
+-- the statements of a source of so many names have no refusal
+pub record ArePlaced (names : ℕ) (statements : List (Statement ℕ)) : Type 0 where
+  pub end : Placed
+  pub goes : placed_from 1 (nowhere names) statements ≡ Ok end

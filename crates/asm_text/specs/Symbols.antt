@@ -27,12 +27,17 @@ abbrev pub below : ℕ → List ℕ
 below zero = []
 below (suc n) = below n ++ n ∷ []
 
-abbrev pub local_labels : List (Statement ℕ) → Placed → List ℕ
-local_labels statements p = filter (λ k. not (is_global statements k)) p.labels
+-- whether these say of a name that it is not global
+abbrev pub is_local : List Bool → ℕ → Bool
+is_local globals k = not (slice_index_or globals k false)
+
+-- the labels that no line calls global
+abbrev pub local_labels : List (Statement ℕ) → List ℕ → List ℕ
+local_labels statements labels = filter (λ k. not (is_global statements k)) labels
 
 -- the names of the symbols, by their numbers, of a source of so many names
 unfoldable pub order_of : List (Statement ℕ) → Placed → ℕ → List ℕ
-order_of statements p names = fold once (fold once [] (local_labels statements p)) (below names)
+order_of statements p names = fold once (fold once [] (local_labels statements p.labels)) (below names)
 
 -- the symbol of a name
 abbrev pub symbol_by : Bool → List ℕ → Option Spot → SymbolValue

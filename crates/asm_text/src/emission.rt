@@ -5,7 +5,8 @@ ghost use Rattle.std.specs.Option.{option_to_list};
 ghost use Rattle.arrayvec.specs.ArrayVec.{array_vec_len};
 ghost use Rattle.asm_text.specs.Emission as spec;
 ghost use Rattle.asm_text.specs.Emitted.{meanings_of, emitted_of, last_of, HasRoom, AreNames};
-ghost use Rattle.asm_text.specs.Known.{IsBelow, IsKnown, IsNamed};
+ghost use Rattle.asm_text.specs.Known.{IsBelow, IsKnown, IsNamed, AreKnown, AreNamed};
+ghost use Rattle.asm_text.specs.Placed.{ArePlaced};
 ghost use Rattle.asm_text.specs.Maps.{texts_in};
 ghost use Rattle.asm_text.specs.Statements.{size_of};
 ghost use Rattle.asm_text.specs.Views.{section_of};
@@ -345,12 +346,35 @@ impl Emission {
                 self.open(alloc, meanings, name, kind)?;
                 Ok(())
             }
-            Statement::Label(_)
-            | Statement::Global(_)
-            | Statement::Word(_)
+            Statement::Label(_) | Statement::Global(_) => Ok(()),
+            Statement::Word(_)
             | Statement::Space(_)
             | Statement::Jump { .. }
             | Statement::Code { .. } => self.add_in_last(meanings, n, statement),
         }
     }
+}
+
+/// The bytes and relocations of these statements, or the first jump that is refused.
+pub fn emit_all(
+    alloc: Global,
+    meanings: &Meanings<'_>,
+    statements: &[Statement<usize>],
+) -> Result<Emission, AsmFault>
+    requires spots { AreKnown (length meanings.now.spots.now) statements.now }
+    requires symbols { AreKnown (length meanings.now.symbols.now) statements.now }
+    requires named { AreNamed (length meanings.now.sections.now) statements.now }
+    requires names { AreNames (texts_in meanings.now.sections.now) }
+    requires placed { ArePlaced (length meanings.now.spots.now) statements.now }
+    ensures emitted { IfOk result (λ e. spec.emitted_from (meanings_of meanings.now) 1 spec.nothing statements.now ≡ Ok (emitted_of e)) }
+    ensures refused { IfErr result (λ fault. fault ≢ AsmFault.NoMemory
+        → spec.emitted_from (meanings_of meanings.now) 1 spec.nothing statements.now ≡ Err fault) }
+{
+    let mut emission = Emission::new(alloc);
+    for (index, statement) in statements.iter().enumerate() {
+        if let Err(fault) = emission.add(alloc, meanings, index as u64 + 1, *statement) {
+            return Err(fault);
+        }
+    }
+    Ok(emission)
 }

@@ -11,6 +11,7 @@ mod operand;
 mod placing;
 mod reading;
 mod statement;
+mod symbols;
 mod unit;
 
 pub use unit::{AsmFault, AsmRelocation, AsmSection, AsmSymbol, AsmUnit, SectionKind};

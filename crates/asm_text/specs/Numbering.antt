@@ -1,0 +1,10 @@
+-- The places of symbols by the numbers of their names.
+use Rattle.std.specs.Prelude.{ℕ, ◌≡◌, ◌<◌, ◌==◌, List, length, Option, position, slice_index_or, All}
+use Rattle.asm_text.specs.Symbols.{symbol_number}
+
+-- of each name the place of its symbol
+abbrev pub IsNumbering : List (Option ℕ) → List ℕ → Type 0
+IsNumbering numbers order = (k : ℕ) (d : Option ℕ) → k < length numbers → slice_index_or numbers k d ≡ symbol_number order k
+
+abbrev pub AreBelow : ℕ → List ℕ → Type 0
+AreBelow n ks = All (λ k. k < n) ks
