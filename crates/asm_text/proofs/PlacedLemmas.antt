@@ -87,7 +87,7 @@ spot_here p h = record { section = length p.heads - 1; offset = h.size }
 abbrev more_labels : Placed → Head → ℕ → Placed
 more_labels p h name = record { heads = p.heads; labels = p.labels ++ name ∷ []; spots = set p.spots name (Some (spot_here p h)) }
 
-or_not : (a b : ℕ) → (a ≡ b) ⊎ (a ≢ b)
+pub or_not : (a b : ℕ) → (a ≡ b) ⊎ (a ≢ b)
 or_not a b = by_eq (nat_eq a b) refl
   where
     by_eq : (c : Bool) → nat_eq a b ≡ c → (a ≡ b) ⊎ (a ≢ b)

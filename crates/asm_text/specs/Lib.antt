@@ -16,3 +16,4 @@ pub mod Emission
 pub mod Known
 pub mod Emitted
 pub mod Numbering
+pub mod Assembly

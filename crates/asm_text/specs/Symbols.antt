@@ -1,5 +1,5 @@
 -- The symbols of a source: local labels in their order, then the other names by first appearance.
-use Rattle.std.specs.Prelude.{ℕ, zero, suc, ◌+◌, ◌==◌, Bool, true, false, not, ◌&&◌, ◌||◌, if◌then◌else◌, List, [], ◌∷◌, ◌++◌, length, map, filter, fold, position, slice_index_or, Option, Some, None, is_none, option_map, unwrap_or}
+use Rattle.std.specs.Prelude.{ℕ, zero, suc, ◌+◌, ◌==◌, Bool, true, false, not, ◌&&◌, ◌||◌, if◌then◌else◌, List, [], ◌∷◌, ◌++◌, length, map, filter, fold, position, slice_index_or, Option, Some, None, is_some}
 use Rattle.std.specs.List.{list_any}
 use Rattle.asm_text.specs.declared.placing.Spot.{Spot}
 use Rattle.asm_text.specs.declared.statement.Statement.{Statement}
@@ -15,12 +15,17 @@ says_global name _ = false
 abbrev pub is_global : List (Statement ℕ) → ℕ → Bool
 is_global statements name = list_any (says_global name) statements
 
+-- the place of a number in a list
+abbrev pub symbol_number : List ℕ → ℕ → Option ℕ
+symbol_number order k = position (λ j. j == k) order
+
 -- each number once, where it comes first
-abbrev pub has : List ℕ → ℕ → Bool
-has numbers k = list_any (λ j. j == k) numbers
+abbrev pub once_by : Bool → List ℕ → ℕ → List ℕ
+once_by true order k = order
+once_by false order k = order ++ k ∷ []
 
 abbrev pub once : List ℕ → ℕ → List ℕ
-once numbers k = if has numbers k then numbers else numbers ++ k ∷ []
+once order k = once_by (is_some (symbol_number order k)) order k
 
 -- the numbers below n
 abbrev pub below : ℕ → List ℕ
@@ -49,10 +54,6 @@ symbol_for statements p names k = symbol_by (is_global statements k) (slice_inde
 
 abbrev pub symbols_for : List (Statement ℕ) → Placed → List (List ℕ) → List ℕ → List SymbolValue
 symbols_for statements p names order = map (symbol_for statements p names) order
-
--- the place of a name's symbol
-abbrev pub symbol_number : List ℕ → ℕ → Option ℕ
-symbol_number order k = position (λ j. j == k) order
 
 -- the places of the symbols of the first so many names
 abbrev pub symbol_numbers : List ℕ → ℕ → List (Option ℕ)

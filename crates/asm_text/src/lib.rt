@@ -3,6 +3,7 @@
 //! A source is lines ended by LF, each a section, a label, a global name, a word, zeros, or an instruction.
 #![tactic(auto)]
 
+mod assembly;
 mod emission;
 mod encoding;
 mod line;
@@ -14,6 +15,7 @@ mod statement;
 mod symbols;
 mod unit;
 
+pub use assembly::assemble;
 pub use unit::{AsmFault, AsmRelocation, AsmSection, AsmSymbol, AsmUnit, SectionKind};
 
 /// A source has at most so many bytes.

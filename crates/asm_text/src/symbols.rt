@@ -1,14 +1,18 @@
 //! The symbols of a source.
 
-ghost use Rattle.std.specs.Prelude.{◌≡◌, ◌<◌, ◌+◌, ◌^◌, [], ℕ, length, filter, fold, slice_index_or, true, false, OnOk, IfOk, IfSome};
+ghost use Rattle.std.specs.Prelude.{◌≡◌, ◌<◌, ◌+◌, ◌^◌, [], ◌≤◌, List, ℕ, Some, map, length, filter, fold, slice_index_or, true, false, OnOk, IfOk, IfSome};
 ghost use Rattle.asm_text.specs.Parts.{is_name};
 ghost use Rattle.asm_text.specs.Known.{AreKnown};
+ghost use Rattle.asm_text.specs.Emitted.{AreNames};
+ghost use Rattle.asm_text.specs.Maps.{texts_in};
+ghost use Rattle.asm_text.specs.Placing.{spot_of};
+ghost use Rattle.asm_text.specs.declared.placing.Spot.{Spot};
 ghost use Rattle.asm_text.specs.Numbering.{IsNumbering, AreBelow};
 ghost use Rattle.asm_text.specs.Symbols as spec;
 ghost use Rattle.asm_text.specs.Views.{symbol_of, symbols_of};
 
 use crate::operand::string_of;
-use crate::placing::{Layout, Spot};
+use crate::placing::Spot;
 use crate::statement::Statement;
 use crate::unit::AsmSymbol;
 use std::alloc::{AllocError, Global};
@@ -20,8 +24,8 @@ pub struct Order {
     pub numbers: Vec<Option<u32>>,
 }
 
-// Of each name, whether some line calls it global.
-fn globals_of(
+/// Of each name, whether some line calls it global.
+pub fn globals_of(
     alloc: Global,
     names: usize,
     statements: &[Statement<usize>],
@@ -102,8 +106,34 @@ impl Order {
     }
 }
 
+/// The symbols' names in their order: local labels, then the other names.
+pub fn order_of(
+    alloc: Global,
+    globals: &[bool],
+    labels: &[usize],
+    names: usize,
+) -> Result<Order, AllocError>
+    requires known { AreBelow names labels.now }
+    requires length { length globals.now ≡ names }
+    requires few_names { names ≤ 1048576 }
+    requires few_labels { length labels.now ≤ 4096 }
+    ensures order { IfOk result (λ order. order.names.items ≡ fold spec.once (fold spec.once [] (filter (spec.is_local globals.now) labels.now)) (spec.below names)) }
+    ensures length { IfOk result (λ order. length order.numbers.items ≡ names) }
+    ensures numbering { IfOk result (λ order. IsNumbering order.numbers.items order.names.items) }
+{
+    let mut order = Order::new(alloc, names)?;
+    order.note_local(globals, labels)?;
+    order.note_all()?;
+    Ok(order)
+}
+
 // The symbol of a name.
-fn symbol_for(alloc: Global, name: &[u8], global: bool, spot: Option<Spot>) -> Result<AsmSymbol, AllocError>
+fn symbol_for(
+    alloc: Global,
+    name: &[u8],
+    global: bool,
+    spot: Option<Spot>,
+) -> Result<AsmSymbol, AllocError>
     requires name { is_name name.now ≡ true }
     requires spot { IfSome spot (λ s. s.section < 2 ^ 32) }
     ensures { IfOk result (λ symbol. symbol_of symbol ≡ spec.symbol_by global name.now spot) }
@@ -123,4 +153,27 @@ fn symbol_for(alloc: Global, name: &[u8], global: bool, spot: Option<Spot>) -> R
             value: spot.offset,
         }),
     }
+}
+
+/// The symbols in this order.
+pub fn symbols_in(
+    alloc: Global,
+    order: &[usize],
+    names: &[&[u8]],
+    globals: &[bool],
+    spots: &[Option<Spot>],
+) -> Result<Vec<AsmSymbol>, AllocError>
+    requires known { AreBelow (length names.now) order.now }
+    requires names { AreNames (texts_in names.now) }
+    requires globals { length globals.now ≡ length names.now }
+    requires spots { length spots.now ≡ length names.now }
+    requires sections { (k : ℕ) (spot : Spot) → spot_of spots.now k ≡ Some spot → spot.section < 2 ^ 32 }
+    ensures { IfOk result (λ symbols. symbols_of symbols ≡ map (λ k. spec.symbol_by (slice_index_or globals.now k false) (slice_index_or (texts_in names.now) k []) (spot_of spots.now k)) order.now) }
+{
+    let mut symbols = Vec::new(alloc);
+    for name in order {
+        let symbol = symbol_for(alloc, names[*name], globals[*name], spots[*name])?;
+        symbols.push(symbol)?;
+    }
+    Ok(symbols)
 }
