@@ -70,6 +70,8 @@ with_section_kept names n p q name kind i e = by (has_section p.heads name) (nat
           few = grind (arith, nat_tests);
           small = All-push (λ (h : Head). h.size ≤ MAX_SIZE) p.heads head i.small (omega arith);
           differ = subst (λ (ns : List ℕ). AllPairs (λ a b. a ≢ b) ns) (sym (map-append (λ (h : Head). h.name) p.heads (head ∷ []))) (all_pairs_push (λ (a b : ℕ). a ≢ b) (names_in p.heads) name i.differ (not_any p.heads name none));
+          labels = i.labels;
+          known = i.known;
           spots = i.spots;
           within = λ k spot is. let old : spot.section < length p.heads = i.within k spot is in omega arith;
         }
@@ -95,7 +97,7 @@ or_not a b = by_eq (nat_eq a b) refl
     by_eq false y = inr (grind (arith, nat_tests))
 
 with_label_kept : (names n : ℕ) (p q : Placed) (h : Head) (name : ℕ) → IsPlaced names p → name < names → last_head p.heads ≡ Some h → with_label n p h name ≡ Ok q → IsPlaced names q
-with_label_kept names n p q h name i known last e = by (is_some (spot_of p.spots name)) (nat_eq (length p.labels) MAX_LABELS) e
+with_label_kept names n p q h name i known last e = by (is_some (spot_of p.spots name)) (nat_eq (length p.labels) MAX_LABELS) refl e
   where
     at : (k : ℕ) (spot : Spot) → (k ≡ name) ⊎ (k ≢ name) → spot_of (set p.spots name (Some (spot_here p h))) k ≡ Some spot → spot.section < length p.heads
     at k spot (inl same) is =
@@ -107,19 +109,21 @@ with_label_kept names n p q h name i known last e = by (is_some (spot_of p.spots
         subst (λ (s : Spot). s.section < length p.heads) two l.some
     at k spot (inr other) is = i.within k spot (sym (get_or-set_other p.spots name k (Some (spot_here p h)) None other) ∙ is)
 
-    kept : IsPlaced names (more_labels p h name)
-    kept = record {
+    kept : nat_eq (length p.labels) MAX_LABELS ≡ false → IsPlaced names (more_labels p h name)
+    kept full = record {
       few = i.few;
       small = i.small;
       differ = i.differ;
+      labels = let most = i.labels in let more = length-append p.labels (name ∷ []) in grind (arith, nat_tests);
+      known = All-push (λ k. k < names) p.labels name i.known known;
       spots = length-set p.spots name (Some (spot_here p h)) ∙ i.spots;
       within = λ k spot is. at k spot (or_not k name) is;
     }
 
-    by : (c d : Bool) → cond c (Err (Twice n)) (cond d (Err (TooMany n)) (Ok (more_labels p h name))) ≡ Ok q → IsPlaced names q
-    by true d e = absurd cc
-    by false true e = absurd cc
-    by false false e = let same : more_labels p h name ≡ q = cc in subst (IsPlaced names) same kept
+    by : (c d : Bool) → nat_eq (length p.labels) MAX_LABELS ≡ d → cond c (Err (Twice n)) (cond d (Err (TooMany n)) (Ok (more_labels p h name))) ≡ Ok q → IsPlaced names q
+    by true d full e = absurd cc
+    by false true full e = absurd cc
+    by false false full e = let same : more_labels p h name ≡ q = cc in subst (IsPlaced names) same (kept full)
 
 -- ---- bytes
 
@@ -142,6 +146,8 @@ with_bytes_kept names n p q h size i last e = by (nat_lt MAX_SIZE (h.size + size
           few = omega arith;
           small = All-set (λ (x : Head). x.size ≤ MAX_SIZE) p.heads (length p.heads - 1) head (grind (arith, nat_tests)) i.small;
           differ = subst (λ (ns : List ℕ). AllPairs (λ a b. a ≢ b) ns) (sym (map-set_same (λ (x : Head). x.name) p.heads (length p.heads - 1) head h (ap (λ (x : Head). x.name) (sym (l.is h))))) i.differ;
+          labels = i.labels;
+          known = i.known;
           spots = i.spots;
           within = λ k spot is. let old : spot.section < length p.heads = i.within k spot is in omega arith;
         }

@@ -29,6 +29,8 @@ nowhere_kept names = record {
   few = omega arith;
   small = λ k d h. absurd (omega (arith, h));
   differ = λ i j d h k. absurd (omega (arith, k));
+  labels = omega arith;
+  known = λ k d h. absurd (omega (arith, h));
   spots = length_replicate names None;
   within = λ k spot is. absurd (no_spot names k spot is);
 }

@@ -17,3 +17,4 @@ pub mod Known
 pub mod Emitted
 pub mod Numbering
 pub mod Assembly
+pub mod Kept

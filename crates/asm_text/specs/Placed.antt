@@ -1,7 +1,7 @@
 -- What the code's layout stands for, and what it keeps.
 use Rattle.std.specs.Prelude.{ℕ, ◌≡◌, ◌≢◌, ◌<◌, ◌≤◌, length, List, map, All, AllPairs, Some, Ok}
 use Rattle.asm_text.specs.declared.statement.Statement.{Statement}
-use Rattle.asm_text.specs.declared.TheConstants.{MAX_SECTIONS, MAX_SIZE}
+use Rattle.asm_text.specs.declared.TheConstants.{MAX_SECTIONS, MAX_LABELS, MAX_SIZE}
 use Rattle.asm_text.specs.declared.placing.Head.{Head}
 use Rattle.asm_text.specs.declared.placing.Spot.{Spot}
 use Rattle.asm_text.specs.declared.placing.Layout.{Layout}
@@ -21,6 +21,8 @@ pub record IsPlaced (names : ℕ) (p : Placed) : Type 0 where
   pub few : length p.heads ≤ MAX_SECTIONS
   pub small : AreSmall p.heads
   pub differ : AllPairs (λ a b. a ≢ b) (names_in p.heads)
+  pub labels : length p.labels ≤ MAX_LABELS
+  pub known : All (λ k. k < names) p.labels
   pub spots : length p.spots ≡ names
   pub within : (k : ℕ) (spot : Spot) → spot_of p.spots k ≡ Some spot → spot.section < length p.heads
 

@@ -13,6 +13,8 @@ mod placing;
 mod reading;
 mod statement;
 mod symbols;
+#[cfg(test)]
+mod tests;
 mod unit;
 
 pub use assembly::assemble;

@@ -79,6 +79,7 @@ impl Order {
         requires globals { length globals.now ≡ length self.old.numbers.items }
         requires few { length self.old.names.items + length labels.now < 2 ^ 32 }
         requires numbering { IsNumbering self.old.numbers.items self.old.names.items }
+        ensures few { OnOk result (length self.new.names.items ≤ length self.old.names.items + length labels.now) }
         ensures noted { OnOk result (self.new.names.items ≡ fold spec.once self.old.names.items (filter (spec.is_local globals.now) labels.now)) }
         ensures length { length self.new.numbers.items ≡ length self.old.numbers.items }
         ensures numbering { OnOk result (IsNumbering self.new.numbers.items self.new.names.items) }
