@@ -21,7 +21,7 @@ use Rattle.asm_text.proofs.LockLemmas.{Shape, shape_of, head_shape, Agree, same_
 use Rattle.asm_text.proofs.PlacedLemmas.{placed_kept}
 use Rattle.asm_text.proofs.PlacingLemmas.{nowhere_kept}
 
-some_head : Head
+abbrev pub some_head : Head
 some_head = record { name = 0; kind = CodeKind; size = 0 }
 
 -- sections that agree with small heads are small
@@ -72,7 +72,7 @@ pub record IsNextPlace (n : ℕ) (p : Placed) (s : Statement ℕ) (rest : List (
   pub is : placed n p s ≡ Ok after
   pub goes : placed_from (n + 1) after rest ≡ Ok end
 
-next_place : (n : ℕ) (p : Placed) (s : Statement ℕ) (rest : List (Statement ℕ)) (end : Placed) → placed_from n p (s ∷ rest) ≡ Ok end → IsNextPlace n p s rest end
+pub next_place : (n : ℕ) (p : Placed) (s : Statement ℕ) (rest : List (Statement ℕ)) (end : Placed) → placed_from n p (s ∷ rest) ≡ Ok end → IsNextPlace n p s rest end
 next_place n p s rest end e = by (placed n p s) refl e
   where
     by : (r : Result Placed AsmFault) → placed n p s ≡ r → placed_next r (λ q. placed_from (n + 1) q rest) ≡ Ok end → IsNextPlace n p s rest end

@@ -257,7 +257,7 @@ section_agree m n e f p q name kind a placed_ok emitted_ok = by (has_section p.h
         empty DataKind = refl
         empty BssKind = refl
 
-label_heads : (n : ℕ) (p q : Placed) (name : ℕ) → in_section n p (last_head p.heads) (Label name) ≡ Ok q → p.heads ≡ q.heads
+pub label_heads : (n : ℕ) (p q : Placed) (name : ℕ) → in_section n p (last_head p.heads) (Label name) ≡ Ok q → p.heads ≡ q.heads
 label_heads n p q name e = by (last_head p.heads) e
   where
     by_label : (h : Head) (c d : Bool) → cond c (Err (Twice n)) (cond d (Err (TooMany n)) (Ok (record { heads = p.heads; labels = p.labels ++ name ∷ []; spots = set p.spots name (Some (record { section = length p.heads - 1; offset = h.size })) }))) ≡ Ok q → p.heads ≡ q.heads

@@ -1,6 +1,7 @@
 -- The places of symbols by the numbers of their names.
-use Rattle.std.specs.Prelude.{ℕ, ◌≡◌, ◌<◌, ◌==◌, List, length, Option, position, slice_index_or, All}
-use Rattle.asm_text.specs.Symbols.{symbol_number}
+use Rattle.std.specs.Prelude.{ℕ, ◌≡◌, ◌<◌, ◌==◌, Bool, false, List, length, Option, position, slice_index_or, All}
+use Rattle.asm_text.specs.declared.statement.Statement.{Statement}
+use Rattle.asm_text.specs.Symbols.{symbol_number, is_global}
 
 -- of each name the place of its symbol
 abbrev pub IsNumbering : List (Option ℕ) → List ℕ → Type 0
@@ -8,3 +9,7 @@ IsNumbering numbers order = (k : ℕ) (d : Option ℕ) → k < length numbers �
 
 abbrev pub AreBelow : ℕ → List ℕ → Type 0
 AreBelow n ks = All (λ k. k < n) ks
+
+-- of each name whether some line calls it global
+abbrev pub AreGlobals : List Bool → List (Statement ℕ) → ℕ → Type 0
+AreGlobals globals statements names = (k : ℕ) → k < names → slice_index_or globals k false ≡ is_global statements k
