@@ -216,12 +216,12 @@ taken_agree m n e f p q s a t goes =
         let shape : shape_of (grown last (size_of s) bytes) ≡ head_shape m (record { name = t.head.name; kind = t.head.kind; size = t.head.size + size_of s }) = shape_more last names kinds sizes in
         record {
           shapes = ap (map shape_of) (sym sections)
-            ∙ (map-set shape_of e.sections (length e.sections - 1) (grown last (size_of s) bytes)
-            ∙ (ap (λ x. set (map shape_of e.sections) (length e.sections - 1) x) shape
-            ∙ (ap (λ xs. set xs (length e.sections - 1) (head_shape m (record { name = t.head.name; kind = t.head.kind; size = t.head.size + size_of s }))) a.shapes
-            ∙ (ap (λ i. set (map (head_shape m) p.heads) i (head_shape m (record { name = t.head.name; kind = t.head.kind; size = t.head.size + size_of s }))) at
-            ∙ (sym (map-set (head_shape m) p.heads (length p.heads - 1) (record { name = t.head.name; kind = t.head.kind; size = t.head.size + size_of s }))
-            ∙ ap (map (head_shape m)) (sym t.grown_by.heads))))));
+              ∙ (map-set shape_of e.sections (length e.sections - 1) (grown last (size_of s) bytes)
+              ∙ (ap (λ x. set (map shape_of e.sections) (length e.sections - 1) x) shape
+              ∙ (ap (λ xs. set xs (length e.sections - 1) (head_shape m (record { name = t.head.name; kind = t.head.kind; size = t.head.size + size_of s }))) a.shapes
+              ∙ (ap (λ i. set (map (head_shape m) p.heads) i (head_shape m (record { name = t.head.name; kind = t.head.kind; size = t.head.size + size_of s }))) at
+              ∙ (sym (map-set (head_shape m) p.heads (length p.heads - 1) (record { name = t.head.name; kind = t.head.kind; size = t.head.size + size_of s }))
+              ∙ ap (map (head_shape m)) (sym t.grown_by.heads))))));
           filled = subst (All IsFilled) sections (All-set IsFilled e.sections (length e.sections - 1) (grown last (size_of s) bytes) full a.filled);
         }
       where
@@ -245,10 +245,10 @@ section_agree m n e f p q name kind a placed_ok emitted_ok = by (has_section p.h
         let sections : e.sections ++ opened m name kind ∷ [] ≡ f.sections = ap (λ (r : Emitted). r.sections) (ok_is _ f emitted_ok) in
         record {
           shapes = ap (map shape_of) (sym sections)
-            ∙ (map-append shape_of e.sections (opened m name kind ∷ [])
-            ∙ (ap (λ xs. xs ++ head_shape m (record { name = name; kind = kind; size = 0 }) ∷ []) a.shapes
-            ∙ (sym (map-append (head_shape m) p.heads ((record { name = name; kind = kind; size = 0 }) ∷ []))
-            ∙ ap (map (head_shape m)) heads)));
+              ∙ (map-append shape_of e.sections (opened m name kind ∷ [])
+              ∙ (ap (λ xs. xs ++ head_shape m (record { name = name; kind = kind; size = 0 }) ∷ []) a.shapes
+              ∙ (sym (map-append (head_shape m) p.heads ((record { name = name; kind = kind; size = 0 }) ∷ []))
+              ∙ ap (map (head_shape m)) heads)));
           filled = subst (All IsFilled) sections (All-push IsFilled e.sections (opened m name kind) a.filled (empty kind));
         }
       where

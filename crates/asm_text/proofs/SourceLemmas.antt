@@ -39,8 +39,8 @@ pub IsRead-more : (text rest line after : List ℕ) (tables tables' : TablesKept
     → statement_of line ≡ Some s → tables_of tables' ≡ tables_after (tables_of tables) s → AreIndexed tables' → IsRead text tables' (more (tables_of tables) statements s) after (n + 1)
 IsRead-more text rest line after tables tables' statements n s r next is noted indexed = record {
   total = by_line text rest line after tables statements n r next
-    ∙ ap (λ o. source_by n (tables_of tables) statements o (λ t ss. source_from (n + 1) t ss (ended_lines after) (unended after))) is
-    ∙ ap (λ t. source_from (n + 1) t (more (tables_of tables) statements s) (ended_lines after) (unended after)) (sym noted);
+      ∙ ap (λ o. source_by n (tables_of tables) statements o (λ t ss. source_from (n + 1) t ss (ended_lines after) (unended after))) is
+      ∙ ap (λ t. source_from (n + 1) t (more (tables_of tables) statements s) (ended_lines after) (unended after)) (sym noted);
   counted = let old = r.counted in omega (arith, ap length next.cut, length-append line (10 ∷ after));
   indexed = indexed;
 }

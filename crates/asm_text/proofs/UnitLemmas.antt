@@ -151,7 +151,7 @@ symbols_apart statements p names order o differ i j d less low same =
     let low_i : i < length order = omega arith in
     let low_j : j < length order = omega arith in
     let text : (k : ℕ) → k < length order → (get_or (symbols_for statements p names order) k d).name ≡ slice_index_or names (get_or order k 0) [] = λ k h.
-      ap (λ (s : SymbolValue). s.name) (get_or-map (symbol_for statements p names) order k 0 d h) ∙ symbol_text (is_global statements (get_or order k 0)) (slice_index_or names (get_or order k 0) []) (spot_of p.spots (get_or order k 0)) in
+    ap (λ (s : SymbolValue). s.name) (get_or-map (symbol_for statements p names) order k 0 d h) ∙ symbol_text (is_global statements (get_or order k 0)) (slice_index_or names (get_or order k 0) []) (spot_of p.spots (get_or order k 0)) in
     let texts = sym (text i low_i) ∙ (same ∙ text j low_j) in
     let numbers : get_or order i 0 ≡ get_or order j 0 = distinct_place names (get_or order i 0) (get_or order j 0) [] differ (o.low i 0 low_i) (o.low j 0 low_j) texts in
     o.differ i j 0 less low_j numbers
@@ -252,7 +252,7 @@ tied_last m symbols lines n e f s has t goes = by (last_of e.sections) refl goes
         let two = count_of m (length e.sections - 1) last.size s in
         subst (IsTied symbols (lines + 1)) (ok_is _ f k) (record {
           tied = subst (λ n. All (IsRelocation n symbols) (e.relocations ++ relocations_of m (length e.sections - 1) last.size s)) (sym size)
-            (All-append (IsRelocation (length e.sections) symbols) e.relocations (relocations_of m (length e.sections - 1) last.size s) t.tied (tied_of m symbols (length e.sections) (length e.sections - 1) last.size s has low));
+              (All-append (IsRelocation (length e.sections) symbols) e.relocations (relocations_of m (length e.sections - 1) last.size s) t.tied (tied_of m symbols (length e.sections) (length e.sections - 1) last.size s has low));
           few = omega (arith, length-append e.relocations (relocations_of m (length e.sections - 1) last.size s));
         })
 

@@ -256,7 +256,12 @@ impl Emission {
         ensures sections { self.new.sections ≡ self.old.sections }
     {
         match statement {
-            Statement::Word(Field::Name(name)) => self.relocate(meanings, section, here, Some(name)),
+            Statement::Word(Field::Name(name)) => self.relocate(
+                meanings,
+                section,
+                here,
+                Some(name),
+            ),
             Statement::Code {
                 insn,
                 first,
@@ -298,7 +303,11 @@ impl Emission {
             Err(fault) => return Err(fault),
         };
         self.add_relocations(meanings, last, here, statement)?;
-        grow(&mut self.sections[last], size_of(statement), bytes.as_slice())?;
+        grow(
+            &mut self.sections[last],
+            size_of(statement),
+            bytes.as_slice(),
+        )?;
         Ok(())
     }
 

@@ -112,7 +112,12 @@ pub fn first_word(insn: Insn) -> u16
     ensures { result ≡ spec.first_word insn }
 {
     match insn {
-        Insn::Two { op, width, src, dst } => {
+        Insn::Two {
+            op,
+            width,
+            src,
+            dst,
+        } => {
             two_code(op) * 4096
                 + source_register(src) * 256
                 + dest_mode(dst) * 128
@@ -146,7 +151,9 @@ fn is_source(operand: Operand) -> bool
         Operand::Reg(reg) => reg < 16 && reg != 3,
         Operand::Const(number) => matches!(number, 0 | 1 | 2 | 4 | 8 | 0xffff),
         Operand::Imm(_) | Operand::Symbolic(_) | Operand::Absolute(_) => true,
-        Operand::Indexed { reg, .. } | Operand::Indirect(reg) | Operand::Increment(reg) => is_plain(reg),
+        Operand::Indexed { reg, .. } | Operand::Indirect(reg) | Operand::Increment(reg) => is_plain(
+            reg,
+        ),
     }
 }
 

@@ -114,11 +114,19 @@ fn unit_of<'a>(word: &[u8]) -> Option<Statement<&'a [u8]>>
 }
 
 // An instruction with names, where the code table has it.
-fn coded<'a>(insn: Insn, first: Option<&'a [u8]>, second: Option<&'a [u8]>) -> Option<Statement<&'a [u8]>>
+fn coded<'a>(
+    insn: Insn,
+    first: Option<&'a [u8]>,
+    second: Option<&'a [u8]>,
+) -> Option<Statement<&'a [u8]>>
     ensures { option_map with_texts result ≡ spec.coded insn (option_copied first.entry) (option_copied second.entry) }
 {
     if is_coded(insn) {
-        Some(Statement::Code { insn, first, second })
+        Some(Statement::Code {
+            insn,
+            first,
+            second,
+        })
     } else {
         None
     }

@@ -140,7 +140,12 @@ impl Layout {
     }
 
     // A statement in this section, the last.
-    fn add_within(&mut self, n: u64, head: Head, statement: Statement<usize>) -> Result<(), AsmFault>
+    fn add_within(
+        &mut self,
+        n: u64,
+        head: Head,
+        statement: Statement<usize>,
+    ) -> Result<(), AsmFault>
         requires known { IsKnown (length self.old.spots.items) statement }
         requires last { spec.last_head self.old.heads.items ≡ Some head }
         requires head { head.size ≤ MAX_SIZE }

@@ -1,7 +1,7 @@
 //! What a line says.
 
-use insn_decode::{Insn, Operand};
 use crate::unit::SectionKind;
+use insn_decode::{Insn, Operand};
 
 /// A number, or the name that stands for one.
 #[derive(Clone, Copy, Debug, PartialEq, Eq)]
@@ -13,15 +13,25 @@ pub enum Field<N> {
 /// A line's statement, whose names are texts, or the numbers that they have in a source.
 #[derive(Clone, Copy, Debug, PartialEq, Eq)]
 pub enum Statement<N> {
-    Section { name: N, kind: SectionKind },
+    Section {
+        name: N,
+        kind: SectionKind,
+    },
     Label(N),
     Global(N),
     Word(Field<N>),
     /// So many zeros.
     Space(u32),
-    Jump { cond: u8, target: N },
+    Jump {
+        cond: u8,
+        target: N,
+    },
     /// An instruction with 0 for names; `first` is the name in its first operand, `second` that in its second.
-    Code { insn: Insn, first: Option<N>, second: Option<N> },
+    Code {
+        insn: Insn,
+        first: Option<N>,
+        second: Option<N>,
+    },
 }
 
 /// An operand, with 0 for its number where it is a name.
