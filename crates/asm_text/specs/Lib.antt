@@ -18,3 +18,4 @@ pub mod Emitted
 pub mod Numbering
 pub mod Assembly
 pub mod Kept
+pub mod Laws

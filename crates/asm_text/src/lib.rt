@@ -6,6 +6,7 @@
 mod assembly;
 mod emission;
 mod encoding;
+pub mod laws;
 mod line;
 mod names;
 mod operand;
