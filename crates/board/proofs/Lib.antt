@@ -9,3 +9,9 @@ pub mod Cycles
 pub mod Parts
 pub mod Aligned
 pub mod Returning
+pub mod Leading
+pub mod MarkedStates
+pub mod Keeping
+pub mod Reaching
+pub mod Lasting
+pub mod Going

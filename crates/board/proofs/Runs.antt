@@ -57,7 +57,7 @@ lines_are s t number events at are same = ap (λ (k : ℕ). lines_of k events) a
 pub stays : (s : State) (stop : Stop) → s.stop ≡ Some stop → cycle s ≡ quiet s
 stays s stop e = ap (λ (o : Option Stop). cycle_by o s) e
 
-stopped_state : (m : ℕ) (s : State) (stop : Stop) → s.stop ≡ Some stop → after_cycles s m ≡ s
+pub stopped_state : (m : ℕ) (s : State) (stop : Stop) → s.stop ≡ Some stop → after_cycles s m ≡ s
 stopped_state zero s stop e = refl
 stopped_state (suc m) s stop e = ap (λ (t : State). (cycle t).state) (stopped_state m s stop e) ∙ ap (λ (t : Step). t.state) (stays s stop e)
 

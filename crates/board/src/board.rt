@@ -5,14 +5,16 @@ ghost use Rattle.isolation.specs.Calls.{stop_in};
 ghost use Rattle.written_machine.specs.Checks.{refused_in};
 ghost use Rattle.written_machine.specs.Cycle.{cycle};
 ghost use Rattle.written_machine.specs.Passing.{Leads};
-ghost use Rattle.written_machine.specs.Script.{stands_at};
+ghost use Rattle.written_machine.specs.Standing.{stands_at};
+ghost use Rattle.written_machine.specs.Marks.{at_state, unmarked};
 ghost use Rattle.written_machine.specs.Trace.{end_of, end_line_of, lines_of};
 ghost use Rattle.written_machine.specs.View.{boot};
 ghost use Rattle.sm_io.specs.Sink.{Puts};
 ghost use Rattle.board.specs.Alike.{PeersTell, PeersShow, PeersRun, PeersEnd};
-ghost use Rattle.board.specs.Ran.{Runs, ran_of};
+ghost use Rattle.board.specs.Ran.{NoneMissed, Runs, ran_of};
 
 use crate::machine::Machine;
+use crate::moment::Moment;
 use crate::port::Surroundings;
 use crate::view::View;
 use crate::{NoMemory, Ran};
@@ -32,31 +34,48 @@ use written_machine::Hidden;
 
 /// A machine that runs.
 ///
-/// A contract sees a board as the state of the written machine.
+/// A contract sees a board as the present state of the written machine, and its states at the marks.
 #[derive(Drop)]
 pub struct Board {
-    machine: Machine,
+    pub(crate) machine: Machine,
+    // All but the bytes of each mark, whose bytes are a mark of memory.
+    pub(crate) moments: Vec<Moment>,
 }
 
 impl Model for Board {
-    ghost use Rattle.written_machine.specs.State.{State};
+    ghost use Rattle.written_machine.specs.Marks.{Marked};
 
-    ghost Value = { State };
+    ghost Value = { Marked };
 
-    ghost use Rattle.board.specs.Standing.{state_of};
-    ghost use Rattle.board.specs.Sound.{Stands};
+    ghost use Rattle.std.specs.Prelude.{◌≤◌};
+    ghost use Rattle.std.specs.Vec.{vec_capacity};
+    ghost use Rattle.board.specs.Standing.{marked_of};
+    ghost use Rattle.board.specs.Sound.{Keeps};
 
-    ghost view = { λ b. state_of b.machine };
+    ghost view = { λ b. marked_of b.machine b.moments.items };
 
-    ghost invariant = { λ b. Stands b.machine };
+    ghost invariant = { λ b. Keeps b.machine b.moments.items × (b.machine.port.memory.room ≤ vec_capacity b.moments) };
 }
 
 impl Board {
-    /// The state of cycle 0. All memory that a board ever takes is taken here.
+    /// The state of cycle 0, with no room for marks. All memory that a board ever takes is taken here.
     pub fn new(alloc: Global, image: &Image, schedule: &Schedule) -> Result<Board, NoMemory>
-        ensures { IfOk result (λ board. board ≡ boot image.now schedule.now.entries.items) }
+        ensures { IfOk result (λ board. board ≡ unmarked 0 (boot image.now schedule.now.entries.items)) }
     {
-        let memory = Memory::new(alloc, image.memory.as_slice())?;
+        Board::with_marks(alloc, image, schedule, 0)
+    }
+
+    /// The state of cycle 0, with room for so many marks, whose memory is taken here too.
+    pub fn with_marks(
+        alloc: Global,
+        image: &Image,
+        schedule: &Schedule,
+        marks: u16,
+    ) -> Result<Board, NoMemory>
+        requires most { marks ≤ 16 }
+        ensures { IfOk result (λ board. board ≡ unmarked marks (boot image.now schedule.now.entries.items)) }
+    {
+        let memory = Memory::with_marks(alloc, image.memory.as_slice(), marks)?;
         let bus = Bus::new(alloc, schedule)?;
         let mut core = Core::new([0; 16]);
         core.put(PC, memory.word(RESET_VECTOR));
@@ -75,25 +94,27 @@ impl Board {
                 key: image.node_key,
                 handler_sp: image.handler_sp,
             },
+            moments: Vec::with_capacity(alloc, usize::from(marks))?,
         })
     }
 
     /// One cycle, with its events in the order of its steps. A stopped board stays as it is and tells none.
     pub fn tick(&mut self) -> ArrayVec<Event, 4>
-        requires { self.old.cycle < 2 ^ 62 }
-        ensures state { self.new ≡ (cycle self.old).state }
-        ensures events { result.items ≡ (cycle self.old).events }
-        ensures number { self.new.cycle ≤ self.old.cycle + 1 }
-        ensures stopped { IsSome self.old.stop → (self.new ≡ self.old) × (result.items ≡ []) }
+        requires { self.old.present.cycle < 2 ^ 62 }
+        ensures state { self.new.present ≡ (cycle self.old.present).state }
+        ensures events { result.items ≡ (cycle self.old.present).events }
+        ensures number { self.new.present.cycle ≤ self.old.present.cycle + 1 }
+        ensures marks { self.new ≡ at_state self.old self.new.present }
+        ensures stopped { IsSome self.old.present.stop → (self.new ≡ self.old) × (result.items ≡ []) }
 
         // A stop is told exactly where the machine stops, and it is that stop.
-        ensures stop { self.old.stop ≡ None → stop_in result.items ≡ self.new.stop }
+        ensures stop { self.old.present.stop ≡ None → stop_in result.items ≡ self.new.present.stop }
 
         // A run stops exactly where a check of the cycle is refused, and by the first one refused.
-        ensures refused { self.old.stop ≡ None → self.new.stop ≡ refused_in self.old }
+        ensures refused { self.old.present.stop ≡ None → self.new.present.stop ≡ refused_in self.old.present }
 
         // Images that differ in one confined module's data alone tell the same.
-        ensures peers { PeersTell self.old result.items }
+        ensures peers { PeersTell self.old.present result.items }
     {
         isolation::tells();
         isolation::two_runs();
@@ -103,12 +124,13 @@ impl Board {
     /// That many cycles, or fewer where it stops, with their lines. After `SinkFailed` the board stands after
     /// the cycle whose lines were refused, and they are not put again.
     pub fn run<S: Sink>(&mut self, cycles: u64, sink: &mut S) -> Ran
-        requires { self.old.cycle + cycles ≤ 2 ^ 62 }
-        ensures ran { Runs S.taken S.faults S.sure cycles self.old self.new sink.old sink.new result }
-        ensures number { self.new.cycle ≤ self.old.cycle + cycles }
+        requires { self.old.present.cycle + cycles ≤ 2 ^ 62 }
+        ensures ran { Runs S.taken S.faults S.sure cycles self.old.present self.new.present sink.old sink.new result }
+        ensures number { self.new.present.cycle ≤ self.old.present.cycle + cycles }
+        ensures marks { self.new ≡ at_state self.old self.new.present }
 
         // The lines are those of each image that differs in one confined module's data alone.
-        ensures peers { PeersRun S.taken S.faults S.sure cycles self.old sink.old sink.new result }
+        ensures peers { PeersRun S.taken S.faults S.sure cycles self.old.present sink.old sink.new result }
     {
         isolation::texts();
         let mut left = cycles;
@@ -129,25 +151,27 @@ impl Board {
     }
 
     // Lets at most so many cycles pass in which nothing begins and nothing arrives, and gives how many passed.
-    fn pass_idle(&mut self, most: u64) -> u64
-        requires { self.old.cycle + most ≤ 2 ^ 62 }
+    pub(crate) fn pass_idle(&mut self, most: u64) -> u64
+        requires { self.old.present.cycle + most ≤ 2 ^ 62 }
         ensures most { result ≤ most }
-        ensures leads { Leads result self.old self.new }
-        ensures number { self.new.cycle ≤ self.old.cycle + result }
+        ensures leads { Leads result self.old.present self.new.present }
+        ensures missed { NoneMissed result self.old.present self.new.present }
+        ensures number { self.new.present.cycle ≤ self.old.present.cycle + result }
+        ensures marks { self.new ≡ at_state self.old self.new.present }
     {
         self.machine.pass_idle(most)
     }
 
     // Whether it is stopped.
-    fn is_stopped(&self) -> bool
-        ensures { result ≡ is_some self.now.stop }
+    pub(crate) fn is_stopped(&self) -> bool
+        ensures { result ≡ is_some self.now.present.stop }
     {
         self.machine.stop.is_some()
     }
 
     // How a run ends that leaves this state.
-    fn ended(&self) -> Ran
-        ensures { result ≡ ran_of self.now.stop }
+    pub(crate) fn ended(&self) -> Ran
+        ensures { result ≡ ran_of self.now.present.stop }
     {
         match self.machine.stop {
             Some(stop) => Ran::Stopped(stop),
@@ -157,10 +181,10 @@ impl Board {
 
     /// The end line.
     pub fn finish<S: Sink>(&self, sink: &mut S) -> Result<(), Failed>
-        ensures line { Puts S.taken S.faults S.sure sink.old sink.new (end_line_of self.now) result }
+        ensures line { Puts S.taken S.faults S.sure sink.old sink.new (end_line_of self.now.present) result }
 
         // It is that of each image that differs in one confined module's data alone.
-        ensures peers { PeersEnd S.taken S.faults S.sure self.now sink.old sink.new result }
+        ensures peers { PeersEnd S.taken S.faults S.sure self.now.present sink.old sink.new result }
     {
         isolation::texts();
         let mut line = ArrayString::new();
@@ -170,7 +194,7 @@ impl Board {
 
     // How it stands at the end of a run.
     fn end_state(&self) -> EndState
-        ensures { result ≡ end_of self.now }
+        ensures { result ≡ end_of self.now.present }
     {
         match (self.machine.stop, self.machine.active) {
             (Some(_), _) => EndState::Stopped,
@@ -181,7 +205,7 @@ impl Board {
 
     /// What is seen of it while these modules are hidden.
     pub fn view(&self, hidden: Hidden) -> View<'_>
-        ensures shown { result ≡ record { state = self.now; hidden = hidden } }
+        ensures shown { result ≡ record { state = self.now.present; hidden = hidden } }
 
         // Images that differ in the data of the one hidden, confined module alone show the same.
         ensures peers { PeersShow result }
@@ -192,20 +216,15 @@ impl Board {
 
     /// Whether the outside is about to begin the instruction at `addr`: no module is active, no cycle of an
     /// instruction is left, no module is to go on, and PC is `addr`.
-    #[tactic(auto, unfolding(written_machine::specs::Script::stands_at))]
     pub fn stands_at(&self, addr: u16) -> bool
-        ensures { result ≡ stands_at addr self.now }
+        ensures { result ≡ stands_at addr self.now.present }
     {
-        let machine = &self.machine;
-        machine.active.is_none()
-            && machine.phase == (Phase::Run { rest: 0 })
-            && machine.after != After::Resume
-            && machine.core.pc() == addr
+        self.machine.stands_at(addr)
     }
 }
 
 /// Puts the lines of a cycle's events.
-fn put_lines<S: Sink>(sink: &mut S, cycle: u64, events: &[Event]) -> Result<(), Failed>
+pub(crate) fn put_lines<S: Sink>(sink: &mut S, cycle: u64, events: &[Event]) -> Result<(), Failed>
     ensures { Puts S.taken S.faults S.sure sink.old sink.new (lines_of cycle events.now) result }
 {
     let mut line = ArrayString::new();

@@ -5,7 +5,8 @@ ghost use Rattle.reg_backup.specs.declared.backup.After.TheVariants.{Next};
 ghost use Rattle.reg_backup.specs.declared.backup.Phase.TheVariants.{Pad};
 ghost use Rattle.written_machine.specs.Cycle.{asleep};
 ghost use Rattle.written_machine.specs.Passing.{Calm, Leads, OnlyPass, passed};
-ghost use Rattle.board.specs.Standing.{state_of};
+ghost use Rattle.board.specs.Ran.{NoneMissed};
+ghost use Rattle.board.specs.Standing.{state_of, lasting_of};
 ghost use Rattle.board.specs.Sound.{Stands};
 
 use crate::machine::Machine;
@@ -22,6 +23,9 @@ impl Machine {
         ensures leads { Leads result (state_of self.old) (state_of self.new) }
         ensures stands { Stands self.new }
         ensures number { self.new.cycle ≡ self.old.cycle + result }
+        ensures stop { self.new.stop ≡ self.old.stop }
+        ensures missed { NoneMissed result (state_of self.old) (state_of self.new) }
+        ensures lasting { lasting_of self.new ≡ lasting_of self.old }
     {
         isolation::passing();
         let cycles = self.idle_cycles().min(most);
@@ -79,6 +83,7 @@ impl Machine {
         requires padding { (left : ℕ) → self.old.phase ≡ Phase.Pad left → cycles ≤ left }
         ensures state { state_of self.new ≡ passed cycles (state_of self.old) }
         ensures ticks { self.new.port.bus.ticks ≡ self.new.cycle }
+        ensures lasting { lasting_of self.new ≡ lasting_of self.old }
     {
         self.port.bus.skip(cycles);
         self.cycle += cycles;

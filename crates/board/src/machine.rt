@@ -3,7 +3,7 @@
 ghost use Rattle.std.specs.Prelude.{◌≡◌, ◌+◌, ◌≤◌, ◌∷◌, [], IfSome, None};
 ghost use Rattle.sm_words.specs.Words.{IsCore};
 ghost use Rattle.written_machine.specs.Cycle.{pc_of, asleep, stopped, denied, vector_in, raised, has_room};
-ghost use Rattle.board.specs.Standing.{state_of, clock_of};
+ghost use Rattle.board.specs.Standing.{state_of, clock_of, lasting_of};
 ghost use Rattle.board.specs.Sound.{is_held_first};
 
 use crate::port::Surroundings;
@@ -92,6 +92,7 @@ impl Machine {
         ensures state { state_of self.new ≡ (stopped rule addr «module» (state_of self.old)).state }
         ensures event { result ∷ [] ≡ (stopped rule addr «module» (state_of self.old)).events }
         ensures clock { clock_of self.new ≡ clock_of self.old }
+        ensures lasting { lasting_of self.new ≡ lasting_of self.old }
     {
         let stop = Stop {
             rule,
@@ -108,6 +109,7 @@ impl Machine {
         ensures state { state_of self.new ≡ (denied refusal (state_of self.old)).state }
         ensures event { result ∷ [] ≡ (denied refusal (state_of self.old)).events }
         ensures clock { clock_of self.new ≡ clock_of self.old }
+        ensures lasting { lasting_of self.new ≡ lasting_of self.old }
     {
         self.stop_by(refusal.rule, refusal.addr, refusal.module)
     }

@@ -2,8 +2,9 @@
 use Rattle.std.proofs.Common.{ℕ, suc, ◌≡◌, ◌+◌, ◌≤◌, ◌<◌, List, [], ◌∷◌, length, drop, get_or, Bool, true, false, cond, refl, sym, ap, arith, nat_lt}
 use Rattle.std.specs.Prelude.{All}
 use Rattle.std.proofs.lemmas.Bool.Decides.{nat_tests}
-use Rattle.std.proofs.lemmas.List.Sums.{prefix_len-le-length}
+use Rattle.std.proofs.lemmas.List.Sums.{prefix_len-le-length, prefix_len_is}
 use Rattle.std.proofs.lemmas.List.Sorted.{IsNonDecreasingBy-drop}
+use Rattle.std.specs.List.Sorted.{IsPartitionedBy, IsPartitionPoint}
 use Rattle.schedule_file.specs.declared.Entry.{Entry}
 use Rattle.schedule_file.specs.Entries.{CyclesNeverFall}
 use Rattle.schedule_file.specs.Entries.{HasLine}
@@ -66,3 +67,13 @@ IsDue-later es acted more k h due later is = record {
 
 pub IsDue-within : (es : List Entry) (acted k : ℕ) → IsDue es acted k → acted ≤ length es
 IsDue-within es acted k due = omega (arith, due.place, past_count-le-length k es)
+
+-- the entries before a cycle come first
+pub before_first : (h : ℕ) (es : List Entry) → CyclesNeverFall es → IsPartitionedBy (λ e. nat_lt e.cycle h) es
+before_first h es falls i j d le within before = let up = falls i j d le within in grind (arith, nat_tests)
+
+-- where they end
+pub past_count-point : (h n : ℕ) (es : List Entry) (d : Entry) → n ≤ length es
+    → IsPartitionPoint (λ e. nat_lt e.cycle h ≡ true) (λ e. nat_lt e.cycle h ≡ false) es n → n ≡ past_count h es
+past_count-point h n es d within point =
+    sym (prefix_len_is (λ e. nat_lt e.cycle h) es n d within (λ k before. point.0 k d (omega arith) before) (λ some. point.1 n d (omega arith) some))

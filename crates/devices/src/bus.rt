@@ -2,11 +2,11 @@
 
 ghost use Rattle.std.specs.Prelude.{◌≡◌, ◌≤◌, ◌<◌, ◌+◌, ◌-◌, ◌^◌, ℕ, List, length, drop, min, All, IfOk};
 ghost use Rattle.schedule_file.specs.declared.Entry.{Entry};
-ghost use Rattle.schedule_file.specs.Entries.{HasLine, line_number};
+ghost use Rattle.schedule_file.specs.Entries.{CyclesNeverFall, HasLine, line_number};
 ghost use Rattle.devices.specs.Devices.{silent, happens, ticked_devices, line_of, accepted, read_of, after_read, write_of};
 ghost use Rattle.devices.specs.Time.{ticked_by, quiet_of};
 ghost use Rattle.devices.specs.Parts.{joined};
-ghost use Rattle.devices.specs.Bus.{acted_before, past_count};
+ghost use Rattle.devices.specs.Bus.{BusState, marked_bus, gone_back, acted_before, past_count};
 
 use crate::registers::{
     LINES_ENABLE, LINES_LEVELS, SERIAL_CONTROL, SERIAL_DATA, TIMER_CONTROL, TIMER_LIMIT_HIGH,
@@ -73,6 +73,34 @@ impl Agenda {
     {
         &self.entries[self.acted..]
     }
+
+    // How many entries are before cycle `ticks`.
+    fn past(&self, ticks: u64) -> usize
+        requires { CyclesNeverFall self.now.entries.items }
+        ensures { result ≡ past_count ticks self.now.entries.items }
+    {
+        self.entries.partition_point(|entry| entry.cycle < ticks)
+    }
+}
+
+/// A moment of a bus, to which a bus can go back.
+#[derive(Clone, Copy, Debug)]
+pub struct BusMark {
+    present: Present,
+}
+
+impl Model for BusMark {
+    ghost use Rattle.std.specs.Prelude.{◌≤◌, ◌^◌, []};
+    ghost use Rattle.devices.specs.Parts.{joined, lines_of, serial_of, timer_of};
+    ghost use Rattle.devices.specs.Bus.{MarkedBus};
+
+    ghost Value = { MarkedBus };
+
+    ghost view = { λ m. record { devices = joined m.present.lines m.present.serial m.present.timer []; ticks = m.present.ticks } };
+
+    ghost invariant = { λ m. m.present.ticks ≤ 2 ^ 62 };
+
+    ghost inverse = { λ m. record { present = record { lines = lines_of m.devices; serial = serial_of m.devices; timer = timer_of m.devices; ticks = m.ticks } } };
 }
 
 /// The three devices and the schedule that moves them, cycle by cycle from 0.
@@ -125,6 +153,26 @@ impl Bus {
         ensures moves { result ≡ self.now.moves }
     {
         self.moves
+    }
+
+    /// This moment: the devices, the sent byte and the ticks that were done.
+    pub fn mark(&self) -> BusMark
+        ensures mark { result ≡ marked_bus self.now }
+    {
+        BusMark {
+            present: self.present,
+        }
+    }
+
+    /// Goes back, or on, to a moment, and keeps the schedule: the entries from that moment's next cycle on are still to act.
+    pub fn back(&mut self, mark: &BusMark)
+        ensures bus { self.new ≡ gone_back mark.now self.old }
+
+        // A bus of the same schedule is at the moment itself, whatever was done since.
+        ensures moment { (then : BusState) → mark.now ≡ marked_bus then → self.old.devices.schedule ≡ then.devices.schedule → self.new ≡ record then { moves = self.old.moves } }
+    {
+        self.present = mark.present;
+        self.agenda.acted = self.agenda.past(self.present.ticks);
     }
 
     // Lets `n` cycles pass.

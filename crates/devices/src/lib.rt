@@ -30,7 +30,7 @@ mod serial;
 mod tests;
 mod timer;
 
-pub use bus::Bus;
+pub use bus::{Bus, BusMark};
 pub use lines::Lines;
 pub use serial::Serial;
 pub use timer::Timer;

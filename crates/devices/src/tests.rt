@@ -138,6 +138,37 @@ fn entries_of_one_cycle_act_in_order(rt: HostRuntime) -> Result<(), Fail> {
     Ok(())
 }
 
+// The line rises in cycle 6 and in cycle 10 once more, whatever was done in between.
+#[test]
+fn a_bus_goes_back_and_on(rt: HostRuntime) -> Result<(), Fail> {
+    let schedule = read_schedule(
+        rt.alloc(),
+        b"6 line 0 up\n8 line 0 down\n10 line 0 up\n12 serial 41\n",
+    )?;
+    let mut bus = Bus::new(rt.alloc(), &schedule)?;
+    bus.write(0x0040, 1);
+    bus.skip(5);
+    bus.write(0x0071, 9);
+    let early = bus.mark();
+    bus.skip(4);
+    let late = bus.mark();
+    for mark in [early, late, early] {
+        bus.skip(8);
+        assert_eq!(rt; (bus.read(0x0041), bus.read(0x0070)), (1, 2));
+        bus.back(&mark);
+        assert_eq!(rt;
+            (bus.read(0x0041), bus.read(0x0070), bus.line()),
+            (0, 0, None)
+        );
+    }
+    assert_eq!(rt; (bus.sent(), bus.quiet()), (Some(9), 1));
+    bus.skip(2);
+    assert_eq!(rt; (bus.sent(), bus.line(), bus.quiet()), (None, Some(1), 1));
+    bus.back(&late);
+    assert_eq!(rt; (bus.quiet(), bus.moves()), (1, 6));
+    Ok(())
+}
+
 // A row of numbers that looks like chance.
 #[derive(Drop)]
 struct Chance(u32);

@@ -29,6 +29,8 @@ pub mod Tame
 pub mod Costing
 pub mod Padding
 pub mod Telling
+pub mod Moves
+pub mod Playing
 pub mod Allowed
 pub mod Owner
 pub mod Few

@@ -1,4 +1,4 @@
--- What peers write is the same: their traces, and what a script shows.
+-- What peers write is the same: their traces, their end lines, what is seen of them, and where they stand.
 use Rattle.sm_words.specs.Words.{reg}
 use Rattle.schedule_file.specs.declared.Entry.{Entry as Scheduled}
 use Rattle.mod_layout.specs.Table.{place_of}
@@ -13,13 +13,11 @@ use Rattle.reg_backup.specs.declared.frames.Frame.TheVariants.{Plain, Module as 
 use Rattle.tracer.specs.Lines.{end_line_at}
 use Rattle.written_machine.specs.Cycle.{pc_of, cycle, after_cycles}
 use Rattle.written_machine.specs.Peers.{Peers}
-use Rattle.written_machine.specs.Script.{is_ready, is_resume, stands_at, Played, until, regs_text, mem_text, play_line, play}
+use Rattle.written_machine.specs.Standing.{is_ready, is_resume, stands_at}
 use Rattle.written_machine.specs.State.{State}
 use Rattle.written_machine.specs.Trace.{lines_of, standing, end_by, end_line_of, lines_after, trace}
 use Rattle.written_machine.specs.View.{boot, at, is_hidden_by, Seen, SeenPlain, SeenHidden, SeenWhole, seen_if, seen_frame, seen_byte, View, view_of}
 use Rattle.written_machine.specs.declared.Hidden.TheVariants.{All as AllHidden, Only}
-use Rattle.written_machine.specs.declared.ScriptLine.{ScriptLine}
-use Rattle.written_machine.specs.declared.ScriptLine.TheVariants.{Go, Until, Regs, Mem}
 use Rattle.std.proofs.Common.{◌≡◌, ℕ, zero, suc, ◌+◌, List, [], ◌∷◌, ◌++◌, map, refl, sym, ap, ◌∙◌, Bool, true, false, nat_lt, cond, not, ◌&&◌, ◌==◌, Option, Some, None, is_some, is_none}
 use mathlib.Core.Path.{fun_ext}
 use Rattle.isolation.proofs.Transparent.{after_more}
@@ -128,6 +126,9 @@ module _ (a b : Image) (m : ℕ) (schedule : List Scheduled) (peers : Peers a b 
   views : (k : ℕ) → view_of (at a schedule k) (Only m) ≡ view_of (at b schedule k) (Only m)
   views k = views_equal a b m schedule peers k
 
+  pub cycles_same : (k : ℕ) → (at a schedule k).cycle ≡ (at b schedule k).cycle
+  cycles_same k = seen_cycle m (at a schedule k) (at b schedule k) (views k)
+
   events : (k : ℕ) → (cycle (at a schedule k)).events ≡ (cycle (at b schedule k)).events
   events k = events_equal a b m schedule peers k
 
@@ -149,7 +150,7 @@ module _ (a b : Image) (m : ℕ) (schedule : List Scheduled) (peers : Peers a b 
   pub traces_equal : (n : ℕ) → trace a schedule n ≡ trace b schedule n
   traces_equal n = ap (λ l. l ++ end_line_of (at a schedule n)) (lines_from 0 n) ∙ ap (λ l. lines_after (boot b schedule) n ++ l) (ends_same n)
 
-  -- ---- a script
+  -- ---- where the outside stands
   stands_by : (s t : State) (addr : ℕ) (o : Option ℕ) → s.active ≡ o → t.active ≡ o → (s.active ≡ None → (s.phase ≡ t.phase) × (s.after ≡ t.after)) → (s.active ≡ None → s.core ≡ t.core) → stands_at addr s ≡ stands_at addr t
   unfolding stands_at
   stands_by s t addr (Some id) es et p c =
@@ -166,46 +167,6 @@ module _ (a b : Image) (m : ℕ) (schedule : List Scheduled) (peers : Peers a b 
       let s = at a schedule k in
       let t = at b schedule k in
       stands_by s t addr s.active refl (sym (seen_active m s t (views k))) (λ e. phases_equal a b m schedule peers k (ap (is_id m) e)) (seen_core m s t (views k))
-
-  -- both come to the same cycle with the same text
-  record Both (x y : Played) : Type 0 where
-    number : ℕ
-    first : x.state ≡ at a schedule number
-    second : y.state ≡ at b schedule number
-    text : x.text ≡ y.text
-
-  until_by : (k : ℕ) (c d : Bool) (x y : Played) → c ≡ d → Both x y →
-      Both (cond c (record { state = at a schedule k; text = [] }) (record { state = x.state; text = lines_of (at a schedule k).cycle (cycle (at a schedule k)).events ++ x.text }))
-      (cond d (record { state = at b schedule k; text = [] }) (record { state = y.state; text = lines_of (at b schedule k).cycle (cycle (at b schedule k)).events ++ y.text }))
-  until_by k true true x y e h = record { number = k; first = refl; second = refl; text = refl }
-  until_by k false false x y e h =
-      record {
-        number = h.number;
-        first = h.first;
-        second = h.second;
-        text = ap (λ l. l ++ x.text) (lines_same k) ∙ ap (λ l. lines_of (at b schedule k).cycle (cycle (at b schedule k)).events ++ l) h.text;
-      }
-  until_by k true false x y e h = absurd cc
-  until_by k false true x y e h = absurd cc
-
-  until_same : (addr k n : ℕ) → Both (until addr (at a schedule k) n) (until addr (at b schedule k) n)
-  until_same addr k zero = record { number = k; first = refl; second = refl; text = refl }
-  until_same addr k (suc n) =
-      until_by k (stands_at addr (at a schedule k)) (stands_at addr (at b schedule k)) (until addr (at a schedule (suc k)) n) (until addr (at b schedule (suc k)) n) (stands_same addr k) (until_same addr (suc k) n)
-
-  line_same : (l : ScriptLine) (k : ℕ) → Both (play_line (at a schedule k) l) (play_line (at b schedule k) l)
-  line_same (Go n) k = record { number = n + k; first = after_more a schedule k n; second = after_more b schedule k n; text = lines_from k n }
-  line_same (Until addr n) k = until_same addr k n
-  line_same Regs k = record { number = k; first = refl; second = refl; text = ap regs_text (all_seen m (at a schedule k) (at b schedule k) (views k)) }
-  line_same (Mem addr n) k = record { number = k; first = refl; second = refl; text = ap (λ v. mem_text v addr n) (all_seen m (at a schedule k) (at b schedule k) (views k)) }
-
-  pub plays_equal : (ls : List ScriptLine) (k : ℕ) → play (at a schedule k) ls ≡ play (at b schedule k) ls
-  plays_equal [] k = ends_same k
-  plays_equal (l ∷ ls) k =
-      let x = play_line (at a schedule k) l in
-      let y = play_line (at b schedule k) l in
-      let h = line_same l k in
-      ap (λ t. t ++ play x.state ls) h.text ∙ ap (λ r. y.text ++ r) (ap (λ s. play s ls) h.first ∙ plays_equal ls h.number ∙ sym (ap (λ s. play s ls) h.second))
 
   -- what is seen where every module is hidden
   pub outside_equal : (k : ℕ) → view_of (at a schedule k) AllHidden ≡ view_of (at b schedule k) AllHidden

@@ -16,7 +16,9 @@ use Rattle.written_machine.specs.Checks.{refused_in}
 use Rattle.written_machine.specs.Cycle.{cycle, after_cycles}
 use Rattle.written_machine.specs.Passing.{OnlyPass, Leads, passed}
 use Rattle.written_machine.specs.Peers.{Peers}
-use Rattle.written_machine.specs.Script.{play, stands_at}
+use Rattle.written_machine.specs.Marks.{unmarked}
+use Rattle.written_machine.specs.Script.{play}
+use Rattle.written_machine.specs.Standing.{stands_at}
 use Rattle.written_machine.specs.State.{State}
 use Rattle.written_machine.specs.Trace.{end_line_of, lines_after, trace}
 use Rattle.written_machine.specs.View.{view_of, at, boot}
@@ -83,10 +85,10 @@ abbrev pub SameEnds : Type 0
 SameEnds = (a b : Image) (m : ℕ) (schedule : List Entry) (k : ℕ) → Peers a b m →
     end_line_of (at a schedule k) ≡ end_line_of (at b schedule k)
 
--- A script shows one text.
+-- A script writes one text, however many marks it may use.
 abbrev pub SamePlays : Type 0
-SamePlays = (a b : Image) (m : ℕ) (schedule : List Entry) (script : List ScriptLine) → Peers a b m →
-    play (boot a schedule) script ≡ play (boot b schedule) script
+SamePlays = (a b : Image) (m : ℕ) (schedule : List Entry) (most : ℕ) (script : List ScriptLine) → Peers a b m →
+    play (unmarked most (boot a schedule)) script ≡ play (unmarked most (boot b schedule)) script
 
 -- ---- one run of one image
 

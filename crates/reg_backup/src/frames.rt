@@ -5,6 +5,7 @@ ghost use Rattle.reg_backup.specs.Held.{held_ids, kinds, newest_kind, Differ, Is
 
 use crate::backup::Backup;
 use arrayvec::ArrayVec;
+use std::alloc::AllocError;
 use std::marker::Model;
 
 /// The most frames that can stand.
@@ -63,6 +64,18 @@ impl Model for Frames {
     ghost view = { λ f. reverse f.list.items };
 
     ghost invariant = { λ f. Differ (held_ids (reverse f.list.items)) };
+}
+
+impl Clone for Frames {
+    ghost is_clone = { λ frames copy. copy ≡ frames };
+
+    ghost is_infallible = { λ _. Unit {0} };
+
+    fn clone(&self) -> Result<Self, AllocError> {
+        Ok(Self {
+            list: self.list.clone()?,
+        })
+    }
 }
 
 impl Frames {

@@ -13,7 +13,9 @@ use Rattle.cpu_step.specs.Effect.{does_freely, confined, does}
 use Rattle.cpu_step.specs.Plan.{plan}
 use Rattle.tracer.specs.Lines.{event_line, end_line_at}
 use Rattle.written_machine.specs.Cycle.{ticked, settle, raised, arrive_inside, arrive_outside, perform, attempt, act, enter, begin, turn, move}
-use Rattle.written_machine.specs.Script.{stands_at, regs_text, mem_text, play}
+use Rattle.written_machine.specs.Marks.{unmarked}
+use Rattle.written_machine.specs.Script.{regs_text, mem_text, mark_text, full_text, back_text, no_mark_text, last_text, not_there_text, play}
+use Rattle.written_machine.specs.Standing.{stands_at}
 use Rattle.written_machine.specs.View.{boot, view_of}
 use Rattle.written_machine.specs.declared.ScriptLine.TheVariants.{Go, Until, Regs, Mem}
 use Rattle.worked_rows.proofs.Images.{caller}

@@ -6,4 +6,6 @@ pub mod Checks
 pub mod View
 pub mod Peers
 pub mod Trace
+pub mod Standing
+pub mod Marks
 pub mod Script

@@ -22,4 +22,10 @@ pub enum ScriptLine {
     Regs,
     /// Shows `count` bytes from `addr`, where none of them is in a module's data.
     Mem { addr: u16, count: u16 },
+    /// Marks this moment, to go back to.
+    Mark,
+    /// Back to the mark of this number, which drops the marks after it.
+    Back(u16),
+    /// To the last moment, from mark `k` on, at which the outside was about to begin the instruction at `addr`.
+    Last { addr: u16, k: u16 },
 }

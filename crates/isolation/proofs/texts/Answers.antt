@@ -1,4 +1,5 @@
-use Rattle.isolation.proofs.Telling.{traces_equal, lines_from, ends_same, outside_equal, stands_same, plays_equal}
+use Rattle.isolation.proofs.Telling.{traces_equal, lines_from, ends_same, outside_equal, stands_same}
+use Rattle.isolation.proofs.Playing.{plays_equal}
 use Rattle.isolation.proofs.texts.Goals as goal
 
 pub returns-clause-traces : goal.returns-clause-traces
@@ -17,4 +18,4 @@ pub returns-clause-stands : goal.returns-clause-stands
 returns-clause-stands c = λ a b m schedule k addr p. stands_same a b m schedule p addr k
 
 pub returns-clause-scripts : goal.returns-clause-scripts
-returns-clause-scripts c = λ a b m schedule ls p. plays_equal a b m schedule p ls 0
+returns-clause-scripts c = λ a b m schedule most ls p. plays_equal a b m schedule p most ls

@@ -5,7 +5,7 @@ ghost use Rattle.sm_cli.specs.ImageCommand.{image_of, image_asked, answer_from};
 ghost use Rattle.sm_cli.specs.Serve.{EndsAs, texts};
 ghost use Rattle.sm_cli.specs.Words.{values_in};
 
-use crate::answers::{Refusal, Refused, Status};
+use crate::answers::{Name, Refusal, Refused, Status};
 use crate::arguments::{cycles_of, file_named};
 use crate::commands::Answering;
 use crate::loading::{load, load_schedule};
@@ -74,7 +74,7 @@ impl Answering for ImageCommand<'_> {
             Ok(board) => Ok(put_trace(board, self.cycles, out)),
             Err(_) => Err(Refused {
                 refusal: Refusal::NoMemory,
-                name: self.image,
+                name: Name::Word(self.image),
             }),
         }
     }
@@ -82,8 +82,8 @@ impl Answering for ImageCommand<'_> {
 
 /// Runs the board and puts its trace.
 pub fn put_trace<O: Sink>(board: Board, cycles: u64, out: &mut O) -> Status
-    requires { board.cycle + cycles ≤ 4611686018427387904 }
-    ensures { EndsAs result (answer_from board cycles) (Took O.taken O.faults O.sure out.old out.new) (CutOff O.taken O.faults O.sure out.old out.new) }
+    requires { board.present.cycle + cycles ≤ 4611686018427387904 }
+    ensures { EndsAs result (answer_from board.present cycles) (Took O.taken O.faults O.sure out.old out.new) (CutOff O.taken O.faults O.sure out.old out.new) }
 {
     let mut board = board;
     let status = match board.run(cycles, out) {

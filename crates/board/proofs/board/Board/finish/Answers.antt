@@ -6,4 +6,4 @@ pub returns-clause-line : goal.returns-clause-line
 returns-clause-line g c = search rules
 
 pub returns-clause-peers : goal.returns-clause-peers
-returns-clause-peers g c = peers_end g.S.Sink.taken g.S.Sink.faults g.S.Sink.sure c.texts.ensures.ends c.args.self.now c.args.sink.now c.put_all.new.sink c.put_all.result (returns-clause-line g c)
+returns-clause-peers g c = peers_end g.S.Sink.taken g.S.Sink.faults g.S.Sink.sure c.texts.ensures.ends c.args.self.now.present c.args.sink.now c.put_all.new.sink c.put_all.result (returns-clause-line g c)

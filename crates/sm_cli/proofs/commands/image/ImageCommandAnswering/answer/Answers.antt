@@ -1,6 +1,6 @@
 use Rattle.std.proofs.Common.{subst}
 use Rattle.std.specs.Option.{option_copied}
-use Rattle.written_machine.specs.State.{State}
+use Rattle.written_machine.specs.Marks.{Marked}
 use Rattle.sm_io.specs.Sink.{Took, CutOff}
 use Rattle.sm_cli.specs.Files.{IsScheduleOf}
 use Rattle.sm_cli.specs.ImageCommand.{trace_answer, answer_from}
@@ -17,5 +17,5 @@ returns-in-Ok-new-clause-ok g c =
     record {
       answer = trace_answer c.in-Ok.image entries own.cycles;
       served = image_answer files own.image.now (option_copied own.schedule) own.cycles c.in-Ok.image entries c.in-Ok.ensures.holds schedule;
-      ends = subst (λ (s : State). EndsAs c.put_trace.result (answer_from s own.cycles) (Took g.O.Sink.taken g.O.Sink.faults g.O.Sink.sure c.args.out.now c.put_trace.new.out) (CutOff g.O.Sink.taken g.O.Sink.faults g.O.Sink.sure c.args.out.now c.put_trace.new.out)) c.in-Ok-new.ensures c.put_trace.ensures;
+      ends = subst (λ (m : Marked). EndsAs c.put_trace.result (answer_from m.present own.cycles) (Took g.O.Sink.taken g.O.Sink.faults g.O.Sink.sure c.args.out.now c.put_trace.new.out) (CutOff g.O.Sink.taken g.O.Sink.faults g.O.Sink.sure c.args.out.now c.put_trace.new.out)) c.in-Ok-new.ensures c.put_trace.ensures;
     }

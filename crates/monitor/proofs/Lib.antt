@@ -1,0 +1,4 @@
+pub mod Loop
+pub mod LineLemmas
+pub mod Doing
+pub mod Pieces

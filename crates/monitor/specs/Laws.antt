@@ -1,0 +1,9 @@
+-- The law of lines. It is what a function of this crate ensures.
+use Rattle.std.specs.Result.{result_ok}
+use Rattle.texts.specs.Laws.{IsReadExactly}
+use Rattle.monitor.specs.Bounds.{IsLine}
+use Rattle.monitor.specs.Line.{form_of, line_text, checked}
+
+-- A text is taken as a line exactly where it is that line's text, with its numbers in their bounds.
+abbrev pub LinesAreRead : Type 0
+LinesAreRead = IsReadExactly (λ text. result_ok (checked (form_of text))) line_text IsLine

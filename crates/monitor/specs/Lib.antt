@@ -1,0 +1,6 @@
+pub mod Bounds
+pub mod Line
+pub mod Laws
+pub mod Reading
+pub mod Shown
+pub mod Played

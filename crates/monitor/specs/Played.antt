@@ -1,0 +1,62 @@
+-- What playing a script on a sink does.
+use Rattle.std.specs.Prelude.{◌≡◌, ℕ, ◌+◌, ◌<◌, List, [], ◌∷◌, ◌++◌, length, take, Option, Some, None, Result, Ok, Err}
+use Rattle.std.specs.Io.KnownBytes.{Appends}
+use Rattle.schedule_file.specs.declared.Entry.{Entry}
+use Rattle.image_text.specs.Image.{Image}
+use Rattle.sm_io.specs.Sink.{Took, CutOff}
+use Rattle.sm_io.specs.declared.sink.Failed.{Failed}
+use Rattle.written_machine.specs.Marks.{Marked, unmarked}
+use Rattle.written_machine.specs.Peers.{Peers}
+use Rattle.written_machine.specs.Script.{Move, led, moves, text_of, play}
+use Rattle.written_machine.specs.View.{boot}
+use Rattle.written_machine.specs.declared.ScriptLine.{ScriptLine}
+use Rattle.written_machine.specs.declared.ScriptLine.TheVariants.{Go, Until, Regs, Mem, Mark, Back, Last}
+use Rattle.board.specs.declared.Ran.{Ran}
+use Rattle.board.specs.declared.Ran.TheVariants as ran
+use Rattle.board.specs.Alike.{TookLines}
+
+-- the most cycles that a line can take
+abbrev pub most_cycles : ScriptLine → ℕ
+most_cycles (Go n) = n
+most_cycles (Until addr n) = n
+most_cycles _ = 0
+
+-- and all lines together
+abbrev pub all_cycles : List ScriptLine → ℕ
+all_cycles [] = 0
+all_cycles (l ∷ ls) = most_cycles l + all_cycles ls
+
+module _ {S : Type 0} (taken : S → Option (List ℕ)) (faults sure : S → ℕ) where
+  -- all these moves were done, and the sink took their text
+  pub record Whole (old new : Marked) (before after : S) (ms : List Move) : Type 0 where
+    pub state : new ≡ led old ms
+    pub text : Took taken faults sure before after (text_of ms)
+
+  -- the sink failed within the text of one of these moves: it took the text of those before it, and a front of its own that is
+  -- shorter; and the machine stands where that move leads
+  pub record CutShort (new : Marked) (before after : S) (ms : List Move) : Type 0 where
+    pub earlier : List Move
+    pub move : Move
+    pub later : List Move
+    pub parts : ms ≡ earlier ++ move ∷ later
+    pub state : new ≡ move.after
+    pub front : ℕ
+    pub shorter : front < length move.text
+    pub bytes : Appends (taken before) (taken after) (text_of earlier ++ take front move.text)
+    pub cut : CutOff taken faults sure before after (text_of ms)
+
+  -- moves that are put to a sink
+  abbrev pub Does : Marked → Marked → S → S → List Move → Result (Unit {0}) Failed → Type 0
+  Does old new before after ms (Ok done) = Whole old new before after ms
+  Does old new before after ms (Err failed) = CutShort new before after ms
+
+  -- a script that is played to its end, or cut short by the sink
+  abbrev pub Plays : List ScriptLine → Marked → Marked → S → S → Ran → Type 0
+  Plays script old new before after ran.Done = Whole old new before after (moves old script) × (new.present.stop ≡ None)
+  Plays script old new before after (ran.Stopped stop) = Whole old new before after (moves old script) × (new.present.stop ≡ Some stop)
+  Plays script old new before after ran.SinkFailed = CutShort new before after (moves old script)
+
+  -- where the board stands at the boot of an image, the sink took what the script writes for each peer, or failed within it
+  abbrev pub PeersPlay : List ScriptLine → Marked → S → S → Ran → Type 0
+  PeersPlay script old before after ended = (a b : Image) (m : ℕ) (schedule : List Entry) (most : ℕ) → Peers a b m → old ≡ unmarked most (boot a schedule)
+      → TookLines taken faults sure ended before after (play (unmarked most (boot b schedule)) script)
