@@ -1,7 +1,7 @@
 -- What every source keeps, from line to line.
-use Rattle.std.proofs.Common.{ℕ, zero, suc, ◌≡◌, ◌≢◌, ◌+◌, ◌-◌, ◌*◌, ◌<◌, ◌≤◌, Bool, true, false, cond, List, [], ◌∷◌, ◌++◌, length, get_or, Option, Some, None, is_some, position, nat_lt, refl, ap, sym, subst, ◌∙◌, length-append, arith}
+use Rattle.std.proofs.Common.{ℕ, ◌≡◌, ◌≢◌, ◌+◌, ◌*◌, ◌<◌, ◌≤◌, Bool, true, false, cond, List, [], ◌∷◌, length, get_or, Option, Some, None, is_some, position, nat_lt, refl, ap, sym, length-append, arith}
 use Rattle.std.specs.Prelude.{bytes_eq}
-use Rattle.std.specs.List.{All, AllPairs, position_or_len}
+use Rattle.std.specs.List.{AllPairs, position_or_len}
 use Rattle.std.proofs.lemmas.Bool.Decides.{nat_tests}
 use Rattle.std.proofs.lemmas.List.Elements.{All-push}
 use Rattle.std.proofs.lemmas.List.Quantifiers.{all_pairs_push}
@@ -9,8 +9,7 @@ use Rattle.std.proofs.lemmas.List.Sums.{fails_before_first}
 use Rattle.std.proofs.lemmas.Slice.Eq.{bytes_eq-Decides}
 use Rattle.texts.specs.Lines.{ended_lines, unended, text_of}
 use Rattle.texts.proofs.LawLemmas.{texts_are_lines}
-use Rattle.asm_text.specs.declared.TheConstants.{MAX_SIZE, MAX_SOURCE}
-use Rattle.asm_text.specs.declared.statement.Field.{Field}
+use Rattle.asm_text.specs.declared.TheConstants.{MAX_SOURCE}
 use Rattle.asm_text.specs.declared.statement.Field.TheVariants.{Number, Name}
 use Rattle.asm_text.specs.declared.statement.Statement.{Statement}
 use Rattle.asm_text.specs.declared.statement.Statement.TheVariants.{Section, Label, Global, Word, Space, Jump, Code}
@@ -22,7 +21,7 @@ use Rattle.asm_text.specs.Names.{place_of, noted_by, noted, Tables, no_tables, n
 use Rattle.asm_text.specs.Parts.{is_name}
 use Rattle.asm_text.specs.Source.{Source, more, source_by, source_from, source_of}
 use Rattle.asm_text.proofs.PlaceLemmas.{place_none}
-use Rattle.asm_text.proofs.WrittenLemmas.{NamedOption, NamedField, IsWritten, statement_some, two_bytes}
+use Rattle.asm_text.proofs.WrittenLemmas.{NamedOption, IsWritten, statement_some, two_bytes}
 
 -- ---- a list of names
 

@@ -1,12 +1,11 @@
 -- The sections that are written have the sizes of those that were placed.
-use Rattle.std.proofs.Common.{ℕ, ◌≡◌, ◌+◌, ◌-◌, ◌*◌, ◌<◌, ◌≤◌, Bool, true, false, cond, List, [], ◌∷◌, ◌++◌, length, map, get_or, set, drop, Option, Some, None, is_some, Result, Ok, Err, nat_lt, nat_eq, nat_le, refl, ap, sym, subst, ◌∙◌, length-append, arith}
-use Rattle.std.specs.Prelude.{slice_get, flat_map, ℤ}
+use Rattle.std.proofs.Common.{ℕ, ◌≡◌, ◌+◌, ◌-◌, ◌*◌, ◌<◌, ◌≤◌, Bool, true, false, cond, List, [], ◌∷◌, ◌++◌, length, map, get_or, set, Option, Some, None, is_some, Result, Ok, Err, nat_lt, nat_eq, refl, ap, sym, subst, ◌∙◌, length-append, arith}
+use Rattle.std.specs.Prelude.{flat_map, ℤ}
 use Rattle.std.specs.List.{All, slice_index_or}
 use Rattle.std.proofs.lemmas.Bool.Decides.{nat_tests}
-use Rattle.std.proofs.lemmas.List.{length-map, length-set, map-append, map-set, get_or-map, drop_more, append-nil}
+use Rattle.std.proofs.lemmas.List.{length-map, map-append, map-set, get_or-map}
 use Rattle.std.proofs.lemmas.List.Elements.{All-push, All-set}
 use Rattle.std.proofs.lemmas.Option.{slice_get_within, get_or_from_slice_get, slice_get-get_or}
-use Rattle.std.proofs.Math.ListN.{drop_of_length-le}
 use Rattle.insn_decode.specs.declared.insn.Insn.{Insn}
 use Rattle.insn_decode.specs.declared.insn.Insn.TheVariants.{Two, One, Jump as JumpInsn, Reti, Unit as UnitOp}
 use Rattle.insn_decode.specs.declared.insn.Operand.{Operand}
@@ -21,9 +20,9 @@ use Rattle.asm_text.specs.declared.unit.SectionKind.{SectionKind}
 use Rattle.asm_text.specs.declared.unit.SectionKind.TheVariants.{Code as CodeKind, Data as DataKind, Bss as BssKind}
 use Rattle.asm_text.specs.declared.statement.Statement.{Statement}
 use Rattle.asm_text.specs.declared.statement.Statement.TheVariants.{Section, Label, Global, Word, Space, Jump, Code}
-use Rattle.asm_text.specs.Emission.{Meanings, Emitted, nothing, bytes_of, relocations_of, grown, with_statement, in_last, opened, emitted, emitted_next, emitted_from, field_number, jump_bytes, jump_over, reach, is_near, jump_word}
-use Rattle.asm_text.specs.Emitted.{last_of, HasRoom}
-use Rattle.asm_text.specs.Encoding.{word_bytes, extension, extensions, code_bytes, first_word}
+use Rattle.asm_text.specs.Emission.{Meanings, Emitted, bytes_of, grown, with_statement, in_last, opened, emitted, field_number, jump_bytes, jump_over, reach, is_near, jump_word}
+use Rattle.asm_text.specs.Emitted.{last_of}
+use Rattle.asm_text.specs.Encoding.{word_bytes, extension, code_bytes, first_word}
 use Rattle.asm_text.specs.Parts.{SectionValue, kept_size}
 use Rattle.asm_text.specs.Placing.{Placed, with_section, with_bytes, with_label, within, in_section, last_head, placed, has_section, spot_of}
 use Rattle.asm_text.specs.Statements.{size_of, takes}

@@ -1,6 +1,5 @@
 -- The words of an instruction mean it.
-use Rattle.std.proofs.Common.{ℕ, ◌≡◌, ◌≢◌, ◌+◌, ◌-◌, ◌*◌, ◌/◌, ◌%◌, ◌<◌, ◌≤◌, Bool, true, false, not, cond, ◌&&◌, ◌||◌, ◌==◌, nat_lt, nat_eq, List, [], ◌∷◌, ◌++◌, Option, Some, None, refl, ap, sym, subst, ◌∙◌, arith, get_or}
-use Rattle.std.specs.List.{slice_index_or}
+use Rattle.std.proofs.Common.{ℕ, ◌≡◌, ◌+◌, ◌*◌, ◌/◌, ◌%◌, ◌<◌, Bool, true, false, not, cond, ◌&&◌, ◌||◌, nat_lt, nat_eq, [], ◌∷◌, ◌++◌, Some, refl, ap, sym, subst, ◌∙◌, arith, get_or}
 use Rattle.std.proofs.lemmas.Bool.Decides.{nat_tests}
 use Rattle.sm_words.specs.declared.width.Width.{Width}
 use Rattle.sm_words.specs.declared.width.Width.TheVariants.{Byte, Word as WordWidth}
@@ -12,10 +11,10 @@ use Rattle.insn_decode.specs.declared.insn.Operand.{Operand}
 use Rattle.insn_decode.specs.declared.insn.Operand.TheVariants.{Reg, Const, Imm, Indexed, Symbolic, Absolute, Indirect, Increment}
 use Rattle.insn_decode.specs.declared.insn.Insn.{Insn}
 use Rattle.insn_decode.specs.declared.insn.Insn.TheVariants.{Two, One, Jump, Reti, Unit as UnitOp}
-use Rattle.insn_decode.specs.Code.{words_of as words_in, width_of, insn_of, one_fits, is_constant, length_of}
-use Rattle.insn_decode.specs.Means.{two_code, one_code, IsPlain, Source, register, symbolic, absolute, indexed, indirect, increment, immediate, four, eight, nought, one, two, all_ones, Destination, to_register, to_symbolic, to_absolute, to_indexed, Means, format_one, format_two, jump, return, unit}
+use Rattle.insn_decode.specs.Code.{words_of as words_in, width_of, insn_of, one_fits, is_constant}
+use Rattle.insn_decode.specs.Means.{two_code, one_code, IsPlain, Source, register, symbolic, absolute, indexed, indirect, increment, immediate, four, eight, nought, one, two, all_ones, Destination, to_register, to_symbolic, to_absolute, to_indexed, format_one, format_two, return, unit}
 use Rattle.insn_decode.proofs.Table.{means_insn}
-use Rattle.asm_text.specs.Encoding.{source_mode, source_register, dest_mode, byte_flag, first_word, extension, extensions, meaning, is_plain, is_source, is_dest, is_coded}
+use Rattle.asm_text.specs.Encoding.{source_mode, source_register, dest_mode, byte_flag, first_word, extension, meaning, is_plain, is_source, is_dest, is_coded}
 
 -- ---- the fields of a first word
 

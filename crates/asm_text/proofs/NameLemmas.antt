@@ -1,7 +1,7 @@
 -- Names are ASCII.
-use Rattle.std.proofs.Common.{ℕ, ◌≡◌, ◌<◌, ◌≤◌, Bool, true, false, ◌&&◌, ◌||◌, ◌==◌, nat_le, List, [], ◌∷◌, length, get_or, refl, subst, arith, slice_index, map, sym, ◌∙◌, ap}
+use Rattle.std.proofs.Common.{ℕ, ◌≡◌, ◌<◌, Bool, true, false, ◌&&◌, ◌||◌, ◌==◌, nat_le, List, [], length, get_or, refl, subst, arith}
 use Rattle.std.specs.Str.{IsAscii}
-use Rattle.std.specs.List.{All, list_all, AllPass}
+use Rattle.std.specs.List.{AllPass}
 use Rattle.std.specs.Borrow.{Bor}
 use Rattle.std.proofs.lemmas.Bool.Decides.{nat_tests}
 use Rattle.std.proofs.lemmas.List.{get_or-map, length-map}
@@ -9,7 +9,7 @@ use Rattle.std.proofs.lemmas.List.Sums.{AllPass-from_list_all}
 use Rattle.std.proofs.lemmas.Str.Ascii.{IsAscii-from_all}
 use Rattle.asm_text.specs.Emitted.{AreNames}
 use Rattle.asm_text.specs.Maps.{texts_in}
-use Rattle.asm_text.specs.Parts.{is_digit, is_name_byte, starts_name, is_name}
+use Rattle.asm_text.specs.Parts.{is_name_byte, is_name}
 
 both_1 : (a b : Bool) → (a && b) ≡ true → b ≡ true
 both_1 true b e = e

@@ -1,14 +1,11 @@
 -- The order of the symbols, and their places by name.
-use Rattle.std.proofs.Common.{ℕ, zero, suc, ◌≡◌, ◌≢◌, ◌+◌, ◌<◌, ◌≤◌, Bool, true, false, List, [], ◌∷◌, ◌++◌, length, map, get_or, set, Option, Some, None, is_some, position, nat_eq, refl, ap, sym, subst, ◌∙◌, length-append, arith, ◌⊎◌, inl, inr}
-use Rattle.std.specs.Prelude.{fold, filter}
-use Rattle.std.specs.List.{All, AllPairs}
+use Rattle.std.proofs.Common.{ℕ, zero, suc, ◌≡◌, ◌≢◌, ◌<◌, Bool, true, false, List, [], ◌∷◌, ◌++◌, length, get_or, set, Option, Some, None, is_some, nat_eq, refl, ap, sym, ◌∙◌, length-append, arith, ◌⊎◌, inl, inr}
+use Rattle.std.specs.Prelude.{filter}
 use Rattle.std.proofs.lemmas.Bool.Decides.{nat_tests}
 use Rattle.std.proofs.lemmas.List.{length-set, length-map, get_or-set_other, get_or-set_same, get_or-map, same_lists, get_or_push}
 use Rattle.std.proofs.lemmas.Grind.{common_steps}
-use Rattle.std.proofs.lemmas.List.Elements.{All-push}
-use Rattle.std.proofs.lemmas.List.Quantifiers.{all_pairs_push, position-Some}
-use Rattle.asm_text.specs.Numbering.{IsNumbering, AreBelow}
-use Rattle.asm_text.specs.Symbols.{symbol_number, once_by, once, below, symbol_numbers, is_global, is_local}
+use Rattle.asm_text.specs.Numbering.{IsNumbering}
+use Rattle.asm_text.specs.Symbols.{symbol_number, once_by, once, below, symbol_numbers}
 use Rattle.asm_text.proofs.PlaceLemmas.{position_hit, position_miss}
 use Rattle.asm_text.proofs.PlacedLemmas.{or_not}
 

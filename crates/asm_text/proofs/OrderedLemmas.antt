@@ -1,7 +1,7 @@
 -- The order of the symbols has each name once.
-use Rattle.std.proofs.Common.{ℕ, zero, suc, ◌≡◌, ◌≢◌, ◌+◌, ◌<◌, ◌≤◌, Bool, true, false, cond, List, [], ◌∷◌, ◌++◌, length, get_or, Option, Some, None, is_some, position, nat_eq, refl, ap, sym, subst, ◌∙◌, length-append, arith, ◌⊎◌, inl, inr}
+use Rattle.std.proofs.Common.{ℕ, zero, suc, ◌≡◌, ◌≢◌, ◌<◌, Bool, true, false, cond, List, [], ◌∷◌, length, get_or, Option, Some, None, is_some, nat_eq, refl, arith}
 use Rattle.std.specs.Prelude.{fold, filter}
-use Rattle.std.specs.List.{All, AllPairs, position_or_len}
+use Rattle.std.specs.List.{AllPairs, position_or_len}
 use Rattle.std.proofs.lemmas.Bool.Decides.{nat_tests}
 use Rattle.std.proofs.lemmas.List.Elements.{All-push}
 use Rattle.std.proofs.lemmas.List.Quantifiers.{all_pairs_push}
@@ -9,7 +9,7 @@ use Rattle.std.proofs.lemmas.List.Sums.{fails_before_first}
 use Rattle.asm_text.specs.declared.statement.Statement.{Statement}
 use Rattle.asm_text.specs.Numbering.{AreBelow}
 use Rattle.asm_text.specs.Placing.{Placed}
-use Rattle.asm_text.specs.Symbols.{is_global, local_labels, symbol_number, once_by, once, below, order_of}
+use Rattle.asm_text.specs.Symbols.{local_labels, symbol_number, once_by, once, below, order_of}
 use Rattle.asm_text.proofs.OrderLemmas.{length_below, below_at}
 use Rattle.asm_text.proofs.PlaceLemmas.{place_none}
 

@@ -1,11 +1,11 @@
 -- Placing from line to line.
-use Rattle.std.proofs.Common.{ℕ, zero, suc, ◌≡◌, ◌≢◌, ◌+◌, ◌<◌, ◌≤◌, List, [], ◌∷◌, length, get_or, replicate, drop, Option, Some, None, Result, Ok, Err, refl, ap, sym, subst, ◌∙◌, arith}
+use Rattle.std.proofs.Common.{ℕ, zero, suc, ◌≡◌, ◌+◌, ◌<◌, ◌≤◌, List, length, get_or, replicate, drop, Some, None, Ok, Err, refl, ap, sym, subst, ◌∙◌, arith}
 use Rattle.std.proofs.lemmas.List.{drop_more}
 use Rattle.std.proofs.Math.ListN.{drop_of_length-le}
 use Rattle.asm_text.specs.declared.placing.Spot.{Spot}
 use Rattle.asm_text.specs.declared.unit.AsmFault.{AsmFault}
 use Rattle.asm_text.specs.declared.statement.Statement.{Statement}
-use Rattle.asm_text.specs.Known.{IsKnown, AreKnown}
+use Rattle.asm_text.specs.Known.{AreKnown}
 use Rattle.asm_text.specs.Placed.{IsPlaced}
 use Rattle.asm_text.specs.Placing.{Placed, nowhere, spot_of, placed, placed_next, placed_from}
 use Rattle.asm_text.proofs.PlacedLemmas.{placed_kept}

@@ -1,12 +1,12 @@
 -- What reading a source keeps from line to line.
-use Rattle.std.proofs.Common.{ℕ, ◌≡◌, ◌+◌, ◌<◌, ◌≤◌, List, [], ◌∷◌, ◌++◌, length, Option, Some, None, refl, ap, sym, ◌∙◌, length-append, arith}
+use Rattle.std.proofs.Common.{ℕ, ◌≡◌, ◌+◌, ◌≤◌, List, [], ◌∷◌, ◌++◌, length, Option, Some, None, refl, ap, sym, ◌∙◌, length-append, arith}
 use Rattle.texts.specs.Lines.{ended_lines, unended}
 use Rattle.asm_text.specs.declared.reading.Tables.{Tables as TablesKept}
 use Rattle.asm_text.specs.declared.statement.Statement.{Statement}
 use Rattle.asm_text.specs.Lines.{statement_of}
-use Rattle.asm_text.specs.Names.{Tables, no_tables, tables_after, numbered}
+use Rattle.asm_text.specs.Names.{no_tables, tables_after}
 use Rattle.asm_text.specs.Read.{tables_of, AreIndexed}
-use Rattle.asm_text.specs.Source.{Source, source_by, source_from, source_of, more}
+use Rattle.asm_text.specs.Source.{source_by, source_from, source_of, more}
 
 pub record IsRead (text : List ℕ) (tables : TablesKept) (statements : List (Statement ℕ)) (rest : List ℕ) (n : ℕ) : Type 0 where
   pub total : source_of text ≡ source_from n (tables_of tables) statements (ended_lines rest) (unended rest)

@@ -1,21 +1,19 @@
 -- What a source gives keeps what a unit keeps.
-use Rattle.std.proofs.Common.{ℕ, zero, suc, ◌≡◌, ◌≢◌, ◌+◌, ◌-◌, ◌*◌, ◌<◌, ◌≤◌, Bool, true, false, cond, not, is_some, List, [], ◌∷◌, ◌++◌, length, map, get_or, set, Option, Some, None, Result, Ok, Err, position, nat_eq, nat_lt, refl, ap, sym, subst, ◌∙◌, length-append, arith, ◌⊎◌, inl, inr}
+use Rattle.std.proofs.Common.{ℕ, suc, ◌≡◌, ◌≢◌, ◌+◌, ◌-◌, ◌*◌, ◌<◌, ◌≤◌, Bool, true, false, cond, not, is_some, List, [], ◌∷◌, ◌++◌, length, map, get_or, set, Option, Some, None, Result, Ok, Err, nat_eq, refl, ap, sym, subst, ◌∙◌, length-append, arith, ◌⊎◌, inl, inr}
 use Rattle.std.specs.Prelude.{fold, filter, IsTrue}
 use Rattle.std.specs.List.{All, AllPairs, slice_index_or}
-use Rattle.std.proofs.lemmas.Bool.Decides.{nat_tests}
 use Rattle.std.proofs.lemmas.Bool.{cases_lt}
-use Rattle.std.proofs.lemmas.List.{length-map, length-set, get_or-map, get_or_past, get_or_default}
+use Rattle.std.proofs.lemmas.List.{length-map, length-set, get_or-map, get_or_past}
 use Rattle.std.proofs.lemmas.List.Elements.{All-push, All-set, All-append, All-cons}
 use Rattle.std.proofs.lemmas.List.Quantifiers.{position-Some}
 use Rattle.std.proofs.lemmas.Option.{slice_get_within, get_or_from_slice_get}
-use Rattle.asm_text.specs.declared.TheConstants.{MAX_SECTIONS, MAX_LABELS, MAX_ENTRIES, MAX_SIZE}
+use Rattle.asm_text.specs.declared.TheConstants.{MAX_SECTIONS}
 use Rattle.asm_text.specs.declared.placing.Head.{Head}
 use Rattle.asm_text.specs.declared.placing.Spot.{Spot}
 use Rattle.asm_text.specs.declared.unit.AsmFault.{AsmFault}
-use Rattle.asm_text.specs.declared.unit.AsmFault.TheVariants.{Place, Twice, TooMany, Large}
+use Rattle.asm_text.specs.declared.unit.AsmFault.TheVariants.{Twice, TooMany}
 use Rattle.asm_text.specs.declared.unit.AsmRelocation.{AsmRelocation}
 use Rattle.asm_text.specs.declared.unit.SectionKind.{SectionKind}
-use Rattle.asm_text.specs.declared.statement.Field.{Field}
 use Rattle.asm_text.specs.declared.statement.Field.TheVariants.{Number, Name}
 use Rattle.asm_text.specs.declared.statement.Statement.{Statement}
 use Rattle.asm_text.specs.declared.statement.Statement.TheVariants.{Section, Label, Global, Word, Space, Jump, Code}
@@ -26,13 +24,13 @@ use Rattle.asm_text.specs.Kept.{IsSource}
 use Rattle.asm_text.specs.Known.{AreNamed, IsNamed}
 use Rattle.asm_text.specs.Parts.{SectionValue, SymbolValue, is_name, IsSection, IsSymbol, IsRelocation, IsUnit}
 use Rattle.asm_text.specs.Placed.{IsPlaced, names_in}
-use Rattle.asm_text.specs.Placing.{Placed, nowhere, spot_of, has_section, with_section, with_label, with_bytes, within, in_section, last_head, placed, placed_next, placed_from}
+use Rattle.asm_text.specs.Placing.{Placed, nowhere, spot_of, has_section, with_section, within, last_head, placed, placed_from}
 use Rattle.asm_text.specs.Source.{Source}
-use Rattle.asm_text.specs.Statements.{size_of, takes}
+use Rattle.asm_text.specs.Statements.{size_of}
 use Rattle.asm_text.specs.Symbols.{is_global, local_labels, once, once_by, below, order_of, symbol_by, symbol_for, symbols_for, symbol_number, symbol_numbers}
-use Rattle.asm_text.proofs.EmittingLemmas.{all_agree, small_sections, IsNextPlace, next_place, some_head}
-use Rattle.asm_text.proofs.LockLemmas.{Agree, Shape, shape_of, head_shape, same_number, ok_is, IsTaken, IsGrown, taken, label_heads}
-use Rattle.asm_text.proofs.OrderLemmas.{length_below, below_at}
+use Rattle.asm_text.proofs.EmittingLemmas.{all_agree, small_sections, next_place, some_head}
+use Rattle.asm_text.proofs.LockLemmas.{Agree, Shape, shape_of, head_shape, same_number, ok_is, IsTaken, taken, label_heads}
+use Rattle.asm_text.proofs.OrderLemmas.{length_below}
 use Rattle.asm_text.proofs.OrderedLemmas.{IsOrder, order_kept}
 
 -- ---- distinct things

@@ -1,9 +1,7 @@
 -- What a statement that a line writes keeps.
-use Rattle.std.proofs.Common.{ℕ, zero, suc, ◌≡◌, ◌+◌, ◌<◌, ◌≤◌, Bool, true, false, cond, ◌&&◌, List, [], ◌∷◌, length, take, drop, codes, ◌%◌, Option, Some, None, nat_eq, nat_le, refl, ap, sym, subst, ◌∙◌, arith, lit<, lit≤}
-use Rattle.std.specs.Prelude.{option_map, option_and_then, find}
+use Rattle.std.proofs.Common.{ℕ, ◌≡◌, ◌<◌, ◌≤◌, Bool, true, false, cond, ◌&&◌, List, [], ◌∷◌, length, take, drop, codes, ◌%◌, Option, Some, None, nat_eq, nat_le, refl, ap, sym, subst, ◌∙◌, arith, lit<}
+use Rattle.std.specs.Prelude.{option_map, option_and_then}
 use Rattle.std.specs.Str.{bytes_eq}
-use Rattle.std.specs.List.{slice_split, onto_first, starts_with, ends_with}
-use Rattle.std.proofs.lemmas.Bool.Decides.{nat_tests}
 use Rattle.texts.specs.Decimals.{read_decimal}
 use Rattle.texts.specs.Hexadecimals.{read_hex_word}
 use Rattle.texts.proofs.LawLemmas.{decimals_are_read}
@@ -22,8 +20,8 @@ use Rattle.asm_text.specs.declared.statement.Field.TheVariants.{Number, Name}
 use Rattle.asm_text.specs.declared.statement.Statement.{Statement}
 use Rattle.asm_text.specs.declared.statement.Statement.TheVariants.{Section, Label, Global, Word, Space, Jump, Code}
 use Rattle.asm_text.specs.Encoding.{is_coded}
-use Rattle.asm_text.specs.Lines.{is_space, words, coded, width_of, base_of, two_op_of, one_op_of, conds, cond_of, one_coded, two_coded, kind_of, section_of, even_size, space_of, unit_of, alone, one_operand, jump_or_one, with_one, two_operands, with_two, by_words, statement_of}
-use Rattle.asm_text.specs.Operands.{behind, before, name_of, field_by, field_of, register_of, of_field, plain, number_by, number_of, indirect_by, indirect_of, indexed_at, indexed_by, without_end, indexed_of, indirect_behind, indexed_behind, operand_by, operand_of}
+use Rattle.asm_text.specs.Lines.{is_space, words, coded, width_of, base_of, two_op_of, one_op_of, cond_of, one_coded, two_coded, kind_of, section_of, even_size, space_of, unit_of, alone, jump_or_one, with_one, two_operands, with_two, by_words, statement_of}
+use Rattle.asm_text.specs.Operands.{behind, before, name_of, field_by, field_of, register_of, of_field, plain, number_by, number_of, indirect_by, indirect_of, indexed_at, indexed_by, without_end, indexed_of, indirect_behind, indexed_behind, operand_of}
 use Rattle.asm_text.specs.Parts.{is_name}
 use Rattle.asm_text.specs.Statements.{OperandValue}
 

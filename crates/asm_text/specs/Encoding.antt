@@ -1,9 +1,7 @@
 -- The words of an instruction (MSP430x1xx Family User's Guide SLAU049, sections 3.3 and 3.4).
-use Rattle.std.specs.Prelude.{ℕ, ◌+◌, ◌*◌, ◌/◌, ◌%◌, ◌==◌, nat_lt, Bool, true, false, not, ◌&&◌, if◌then◌else◌, List, [], ◌∷◌, ◌++◌, slice_index_or, Option, Some, None, flat_map}
+use Rattle.std.specs.Prelude.{ℕ, ◌+◌, ◌*◌, ◌/◌, ◌%◌, ◌==◌, nat_lt, Bool, true, false, not, ◌&&◌, if◌then◌else◌, List, [], ◌∷◌, ◌++◌, slice_index_or, Option, flat_map}
 use Rattle.sm_words.specs.declared.width.Width.{Width}
 use Rattle.sm_words.specs.declared.width.Width.TheVariants.{Byte, Word}
-use Rattle.insn_decode.specs.declared.insn.TwoOp.{TwoOp}
-use Rattle.insn_decode.specs.declared.insn.OneOp.{OneOp}
 use Rattle.insn_decode.specs.declared.insn.Operand.{Operand}
 use Rattle.insn_decode.specs.declared.insn.Operand.TheVariants.{Reg, Const, Imm, Indexed, Symbolic, Absolute, Indirect, Increment}
 use Rattle.insn_decode.specs.declared.insn.Insn.{Insn}

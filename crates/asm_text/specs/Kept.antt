@@ -1,5 +1,5 @@
 -- What every source keeps.
-use Rattle.std.specs.Prelude.{ℕ, ◌≢◌, ◌+◌, ◌*◌, ◌≤◌, length, All, AllPairs}
+use Rattle.std.specs.Prelude.{◌≢◌, ◌+◌, ◌*◌, ◌≤◌, length, AllPairs}
 use Rattle.asm_text.specs.declared.TheConstants.{MAX_ENTRIES, MAX_LABELS}
 use Rattle.asm_text.specs.Emitted.{AreNames}
 use Rattle.asm_text.specs.Known.{AreKnown, AreNamed}

@@ -1,5 +1,5 @@
 -- The statement that a line writes: words parted by single spaces.
-use Rattle.std.specs.Prelude.{ℕ, ◌-◌, ◌%◌, ◌==◌, nat_le, Bool, true, false, ◌&&◌, if◌then◌else◌, List, [], ◌∷◌, ◌++◌, Option, Some, None, option_map, option_and_then, codes, find}
+use Rattle.std.specs.Prelude.{ℕ, ◌%◌, ◌==◌, nat_le, Bool, ◌&&◌, if◌then◌else◌, List, [], ◌∷◌, Option, Some, None, option_map, option_and_then, codes, find}
 use Rattle.std.specs.List.{slice_split}
 use Rattle.std.specs.Str.{bytes_eq}
 use Rattle.texts.specs.Decimals.{read_decimal}

@@ -5,7 +5,7 @@ use Rattle.std.specs.Borrow.{Bor}
 use Rattle.insn_decode.specs.Code.{length_of}
 use Rattle.insn_decode.specs.declared.insn.Operand.{Operand}
 use Rattle.asm_text.specs.declared.unit.SectionKind.{SectionKind}
-use Rattle.asm_text.specs.declared.unit.SectionKind.TheVariants.{Code as CodeKind, Data as DataKind, Bss as BssKind}
+use Rattle.asm_text.specs.declared.unit.SectionKind.TheVariants.{Code as CodeKind, Bss as BssKind}
 use Rattle.asm_text.specs.declared.statement.Field.{Field}
 use Rattle.asm_text.specs.declared.statement.Field.TheVariants.{Number, Name}
 use Rattle.asm_text.specs.declared.statement.Statement.{Statement}

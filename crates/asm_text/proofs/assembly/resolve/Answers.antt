@@ -1,5 +1,5 @@
-use Rattle.std.proofs.Common.{ℕ, ◌≡◌, length, sym, ap, ◌∙◌}
-use Rattle.asm_text.specs.Assembly.{names_of, symbol_order}
+use Rattle.std.proofs.Common.{◌≡◌, length, sym, ap, ◌∙◌}
+use Rattle.asm_text.specs.Assembly.{names_of}
 use Rattle.asm_text.specs.Placed.{placed_of}
 use Rattle.asm_text.specs.Read.{source_value}
 use Rattle.asm_text.specs.Symbols.{symbol_numbers}

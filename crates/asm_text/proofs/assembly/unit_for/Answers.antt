@@ -1,9 +1,6 @@
-use Rattle.std.proofs.Common.{ap, sym, ◌∙◌, subst, ◌≡◌}
-use Rattle.asm_text.specs.Assembly.{unit_for}
 use Rattle.asm_text.specs.Emitted.{emitted_of}
 use Rattle.asm_text.specs.Placed.{placed_of}
 use Rattle.asm_text.specs.Read.{source_value}
-use Rattle.asm_text.specs.Views.{symbols_of}
 use Rattle.asm_text.proofs.UnitLemmas.{unit_kept}
 use Rattle.asm_text.proofs.assembly.unit_for.Goals as goal
 

@@ -1,6 +1,5 @@
-use Rattle.std.proofs.Common.{List, ℕ, ◌≡◌, ◌∷◌, sym, ◌∙◌}
-use Rattle.asm_text.specs.Lines.{words}
-use Rattle.asm_text.proofs.WordLemmas.{too_many_words, SomeOf, some_of}
+use Rattle.std.proofs.Common.{sym, ◌∙◌}
+use Rattle.asm_text.proofs.WordLemmas.{too_many_words, some_of}
 use Rattle.asm_text.proofs.line.statement_of.Goals as goal
 
 pub returns-then-is_some : goal.returns-then-is_some

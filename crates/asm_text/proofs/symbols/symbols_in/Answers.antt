@@ -1,4 +1,4 @@
-use Rattle.std.proofs.Common.{ℕ, ◌<◌, length, get_or, arith}
+use Rattle.std.proofs.Common.{◌<◌, length, get_or, arith}
 use Rattle.asm_text.proofs.NameLemmas.{name_at}
 use Rattle.asm_text.proofs.symbols.symbols_in.Goals as goal
 

@@ -1,5 +1,4 @@
-use Rattle.std.proofs.Common.{◌≡◌, true, false, length, vec_len, is_some, ap, sym, ◌∙◌, arith}
-use Rattle.asm_text.specs.Symbols.{symbol_number}
+use Rattle.std.proofs.Common.{◌≡◌, length, is_some, ap, sym, ◌∙◌, arith}
 use Rattle.asm_text.proofs.OrderLemmas.{once_there, once_new, numbering_more}
 use Rattle.asm_text.proofs.symbols.Order.note.Goals as goal
 

@@ -1,4 +1,4 @@
-use Rattle.std.proofs.Common.{ℕ, ◌≡◌, ◌+◌, ◌≤◌, length}
+use Rattle.std.proofs.Common.{◌≡◌, ◌+◌, ◌≤◌, length}
 use Rattle.std.specs.Prelude.{fold}
 use Rattle.asm_text.specs.Numbering.{IsNumbering}
 use Rattle.asm_text.specs.Symbols.{once, below}

@@ -1,4 +1,4 @@
-use Rattle.std.proofs.Common.{ℕ, ◌≡◌, ◌+◌, ◌≤◌, length, drop}
+use Rattle.std.proofs.Common.{◌≡◌, ◌+◌, ◌≤◌, length, drop}
 use Rattle.std.specs.Prelude.{fold, filter}
 use Rattle.asm_text.specs.Numbering.{IsNumbering}
 use Rattle.asm_text.specs.Symbols.{once, is_local}
