@@ -3,9 +3,26 @@
 //! A source is lines ended by LF, each a section, a label, a global name, a word, zeros, or an instruction.
 #![tactic(auto)]
 
+mod assembly;
+mod emission;
+mod encoding;
+pub mod laws;
+mod line;
+mod names;
+mod operand;
+mod placing;
+mod reading;
+mod statement;
+mod symbols;
+#[cfg(test)]
+mod tests;
 mod unit;
 
+pub use assembly::assemble;
 pub use unit::{AsmFault, AsmRelocation, AsmSection, AsmSymbol, AsmUnit, SectionKind};
+
+/// A source has at most so many bytes.
+pub const MAX_SOURCE: usize = 1_048_576;
 
 /// A name has at most so many bytes.
 pub const MAX_NAME: usize = 64;

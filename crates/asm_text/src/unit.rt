@@ -1,6 +1,10 @@
 //! What a source gives.
+ghost use Rattle.std.specs.Prelude.{◌≡◌};
+ghost use Rattle.asm_text.specs.declared.unit.AsmFault.TheVariants.{NoMemory};
 ghost use Rattle.asm_text.specs.Parts.{IsUnit};
 ghost use Rattle.asm_text.specs.Views.{sections_of, symbols_of};
+
+use std::alloc::{AllocError, AllocFailed};
 
 /// What a section holds.
 #[derive(Clone, Copy, Debug, PartialEq, Eq)]
@@ -74,4 +78,20 @@ pub enum AsmFault {
     Far { n: u64, value: i64 },
     /// Memory ran out.
     NoMemory,
+}
+
+impl From<AllocError> for AsmFault {
+    ghost from_gives = { λ _ e. e ≡ NoMemory };
+
+    fn from(_: AllocError) -> Self {
+        AsmFault::NoMemory
+    }
+}
+
+impl<T: Drop> From<AllocFailed<T>> for AsmFault {
+    ghost from_gives = { λ _ e. e ≡ NoMemory };
+
+    fn from(_: AllocFailed<T>) -> Self {
+        AsmFault::NoMemory
+    }
 }

@@ -1,0 +1,55 @@
+-- The word of a jump means that jump, which leads to its label.
+use Rattle.std.proofs.Common.{ℕ, zero, suc, ◌≡◌, ◌+◌, ◌-◌, ◌*◌, ◌/◌, ◌%◌, ◌<◌, ◌≤◌, Bool, true, false, cond, nat_lt, nat_le, Some, refl, ap, ◌∙◌, arith}
+use Rattle.std.specs.Prelude.{ℤ, pos, negsuc, ◌-ℤ◌}
+use Rattle.std.proofs.lemmas.Bool.Decides.{nat_tests}
+use Rattle.std.proofs.lemmas.Int.{ints}
+use Rattle.insn_decode.specs.declared.insn.Insn.TheVariants.{Jump}
+use Rattle.insn_decode.specs.Code.{offset_of}
+use Rattle.insn_decode.specs.Means.{jump}
+use Rattle.insn_decode.proofs.Table.{means_insn}
+use Rattle.asm_text.specs.Emission.{is_near, offset_bits, jump_word}
+use Rattle.asm_text.specs.Laws.{JumpsAreMeant, JumpsLead, target_of}
+
+record HasBits (w c bits : ℕ) : Type 0 where
+  pub form : w / 8192 ≡ 1
+  pub cond_is : (w / 1024) % 8 ≡ c
+  pub bits_are : w % 1024 ≡ bits
+
+has_bits : (c bits : ℕ) → c < 8 → bits < 1024 → HasBits (8192 + c * 1024 + bits) c bits
+has_bits c bits hc hb = record { form = omega arith; cond_is = omega arith; bits_are = omega arith }
+
+bits_low : (offset : ℤ) → is_near offset ≡ true → offset_bits offset < 1024
+bits_low (pos n) near = grind (arith, nat_tests)
+bits_low (negsuc n) near = omega arith
+
+back : (n : ℕ) → n < 512 → (pos (1023 - n) -ℤ pos 1024) ≡ negsuc n
+back n low = omega (arith, ints)
+
+bits_mean : (offset : ℤ) → is_near offset ≡ true → offset_of (offset_bits offset) ≡ offset
+bits_mean (pos n) near = ap (λ b. cond b (pos n) (pos n -ℤ pos 1024)) near
+bits_mean (negsuc n) near =
+    let low : n < 512 = grind (arith, nat_tests) in
+    let high : nat_lt (1023 - n) 512 ≡ false = grind (arith, nat_tests) in
+    ap (λ b. cond b (pos (1023 - n)) (pos (1023 - n) -ℤ pos 1024)) high ∙ back n low
+
+pub jumps_are_meant : JumpsAreMeant
+jumps_are_meant c w1 w2 offset low near =
+    let b = has_bits c (offset_bits offset) low (bits_low offset near) in
+    (means_insn (jump b.form)).0
+    ∙ (ap (λ k. Some (Jump k (offset_of (jump_word c offset % 1024)))) b.cond_is
+    ∙ (ap (λ k. Some (Jump c (offset_of k))) b.bits_are
+    ∙ ap (λ o. Some (Jump c o)) (bits_mean offset near)))
+
+minus : (k : ℕ) → (pos 0 -ℤ pos (suc k)) ≡ negsuc k
+minus k = omega (arith, ints)
+
+leads_back : (here there k : ℕ) → here + 2 - there ≡ 2 * k → there < here + 2 → target_of here (pos 0 -ℤ pos k) ≡ there
+leads_back here there zero is less = absurd (omega arith)
+leads_back here there (suc k) is less = ap (target_of here) (minus k) ∙ (let there_is : here + 2 - 2 * (k + 1) ≡ there = omega arith in there_is)
+
+pub jumps_lead : JumpsLead
+jumps_lead here there even_here even_there = by (nat_le (here + 2) there) refl
+  where
+    by : (c : Bool) → nat_le (here + 2) there ≡ c → target_of here (cond c (pos ((there - (here + 2)) / 2)) (pos 0 -ℤ pos ((here + 2 - there) / 2))) ≡ there
+    by true is = let most : here + 2 ≤ there = grind (arith, nat_tests) in omega arith
+    by false is = let less : there < here + 2 = grind (arith, nat_tests) in leads_back here there ((here + 2 - there) / 2) (omega arith) less

@@ -1,0 +1,314 @@
+-- The words of an instruction mean it.
+use Rattle.std.proofs.Common.{ℕ, ◌≡◌, ◌+◌, ◌*◌, ◌/◌, ◌%◌, ◌<◌, Bool, true, false, not, cond, ◌&&◌, ◌||◌, nat_lt, nat_eq, [], ◌∷◌, ◌++◌, Some, refl, ap, sym, subst, ◌∙◌, arith, get_or}
+use Rattle.std.proofs.lemmas.Bool.Decides.{nat_tests}
+use Rattle.sm_words.specs.declared.width.Width.{Width}
+use Rattle.sm_words.specs.declared.width.Width.TheVariants.{Byte, Word as WordWidth}
+use Rattle.insn_decode.specs.declared.insn.TwoOp.{TwoOp}
+use Rattle.insn_decode.specs.declared.insn.TwoOp.TheVariants.{Mov, Add, Addc, Subc, Sub, Cmp, Dadd, Bit, Bic, Bis, Xor, And}
+use Rattle.insn_decode.specs.declared.insn.OneOp.{OneOp}
+use Rattle.insn_decode.specs.declared.insn.OneOp.TheVariants.{Rrc, Swpb, Rra, Sxt, Push, Call}
+use Rattle.insn_decode.specs.declared.insn.Operand.{Operand}
+use Rattle.insn_decode.specs.declared.insn.Operand.TheVariants.{Reg, Const, Imm, Indexed, Symbolic, Absolute, Indirect, Increment}
+use Rattle.insn_decode.specs.declared.insn.Insn.{Insn}
+use Rattle.insn_decode.specs.declared.insn.Insn.TheVariants.{Two, One, Jump, Reti, Unit as UnitOp}
+use Rattle.insn_decode.specs.Code.{words_of as words_in, width_of, insn_of, one_fits, is_constant}
+use Rattle.insn_decode.specs.Means.{two_code, one_code, IsPlain, Source, register, symbolic, absolute, indexed, indirect, increment, immediate, four, eight, nought, one, two, all_ones, Destination, to_register, to_symbolic, to_absolute, to_indexed, format_one, format_two, return, unit}
+use Rattle.insn_decode.proofs.Table.{means_insn}
+use Rattle.asm_text.specs.Encoding.{source_mode, source_register, dest_mode, byte_flag, first_word, extension, meaning, is_plain, is_source, is_dest, is_coded}
+
+-- ---- the fields of a first word
+
+pub record HasFields (w op s a b m d : ℕ) : Type 0 where
+  pub op_is : w / 4096 ≡ op
+  pub source : (w / 256) % 16 ≡ s
+  pub dest_mode_is : (w / 128) % 2 ≡ a
+  pub byte : (w / 64) % 2 ≡ b
+  pub mode : (w / 16) % 4 ≡ m
+  pub register_is : w % 16 ≡ d
+
+fields : (op s a b m d : ℕ) → s < 16 → a < 2 → b < 2 → m < 4 → d < 16 → HasFields (op * 4096 + s * 256 + a * 128 + b * 64 + m * 16 + d) op s a b m d
+fields op s a b m d hs ha hb hm hd = record {
+  op_is = omega arith;
+  source = omega arith;
+  dest_mode_is = omega arith;
+  byte = omega arith;
+  mode = omega arith;
+  register_is = omega arith;
+}
+
+pub record HasFewFields (w op b m d : ℕ) : Type 0 where
+  pub form : w / 1024 ≡ 4
+  pub op_is : (w / 128) % 8 ≡ op
+  pub byte : (w / 64) % 2 ≡ b
+  pub mode : (w / 16) % 4 ≡ m
+  pub register_is : w % 16 ≡ d
+
+few_fields : (op b m d : ℕ) → op < 8 → b < 2 → m < 4 → d < 16 → HasFewFields (4096 + op * 128 + b * 64 + m * 16 + d) op b m d
+few_fields op b m d ho hb hm hd = record {
+  form = omega arith;
+  op_is = omega arith;
+  byte = omega arith;
+  mode = omega arith;
+  register_is = omega arith;
+}
+
+-- ---- operands
+
+both : (a b : Bool) → (a && b) ≡ true → (a ≡ true) × (b ≡ true)
+both true true e = (refl, refl)
+both true false e = absurd cc
+both false b e = absurd cc
+
+pub record IsRegister (r : ℕ) : Type 0 where
+  pub low : r < 16
+  pub plain : IsPlain r
+
+register_plain : (r : ℕ) → is_plain r ≡ true → IsRegister r
+register_plain r e =
+    let three = both (nat_lt r 16 && not (nat_eq r 0) && not (nat_eq r 2)) (not (nat_eq r 3)) e in
+    let two' = both (nat_lt r 16 && not (nat_eq r 0)) (not (nat_eq r 2)) three.0 in
+    let one' = both (nat_lt r 16) (not (nat_eq r 0)) two'.0 in
+    let low = one'.0 in
+    let n0 = one'.1 in
+    let n2 = two'.1 in
+    let n3 = three.1 in
+    record { low = grind (arith, nat_tests); plain = record { not_pc = λ s. by r 0 s n0; not_sr = λ s. by r 2 s n2; not_constants = λ s. by r 3 s n3 } }
+  where
+    by : (r k : ℕ) → r ≡ k → not (nat_eq r k) ≡ true → ⊥
+    by r k s n = grind (arith, nat_tests)
+
+pub mode_low : (o : Operand) → source_mode o < 4
+mode_low (Reg r) = omega arith
+mode_low (Const c) = by (nat_eq c 0) (nat_eq c 1) (nat_eq c 2) (nat_eq c 4)
+  where
+    by : (p q r s : Bool) → cond p 0 (cond q 1 (cond r 2 (cond s 2 3))) < 4
+    by true q r s = omega arith
+    by false true r s = omega arith
+    by false false true s = omega arith
+    by false false false true = omega arith
+    by false false false false = omega arith
+mode_low (Imm x) = omega arith
+mode_low (Indexed r x) = omega arith
+mode_low (Symbolic x) = omega arith
+mode_low (Absolute x) = omega arith
+mode_low (Indirect r) = omega arith
+mode_low (Increment r) = omega arith
+
+pub register_low : (o : Operand) → source_register o < 16
+register_low (Reg r) = omega arith
+register_low (Const c) = by (nat_eq c 4) (nat_eq c 8)
+  where
+    by : (p q : Bool) → cond p 2 (cond q 2 3) < 16
+    by true q = omega arith
+    by false true = omega arith
+    by false false = omega arith
+register_low (Imm x) = omega arith
+register_low (Indexed r x) = omega arith
+register_low (Symbolic x) = omega arith
+register_low (Absolute x) = omega arith
+register_low (Indirect r) = omega arith
+register_low (Increment r) = omega arith
+
+dest_mode_low : (o : Operand) → dest_mode o < 2
+dest_mode_low (Reg r) = omega arith
+dest_mode_low (Const c) = omega arith
+dest_mode_low (Imm x) = omega arith
+dest_mode_low (Indexed r x) = omega arith
+dest_mode_low (Symbolic x) = omega arith
+dest_mode_low (Absolute x) = omega arith
+dest_mode_low (Indirect r) = omega arith
+dest_mode_low (Increment r) = omega arith
+
+flag_low : (w : Width) → byte_flag w < 2
+flag_low Byte = omega arith
+flag_low WordWidth = omega arith
+
+flag_width : (w : Width) → width_of (byte_flag w) ≡ w
+flag_width Byte = refl
+flag_width WordWidth = refl
+
+-- the word after the first, as an operand's
+abbrev ext_of : Operand → ℕ → ℕ
+ext_of o other = get_or (extension o ++ other ∷ []) 0 0
+
+constant_source : (c x : ℕ) → is_constant c ≡ true → Source (source_mode (Const c)) (source_register (Const c)) x (Const c)
+constant_source c x e = by (nat_eq c 0) (nat_eq c 1) (nat_eq c 2) (nat_eq c 4) (nat_eq c 8) (nat_eq c 65535) refl refl refl refl refl refl e
+  where
+    at : (k : ℕ) → nat_eq c k ≡ true → k ≡ c
+    at k is = grind (arith, nat_tests)
+
+    along : (k : ℕ) → nat_eq c k ≡ true → Source (source_mode (Const k)) (source_register (Const k)) x (Const k) → Source (source_mode (Const c)) (source_register (Const c)) x (Const c)
+    along k is s = subst (λ j. Source (source_mode (Const j)) (source_register (Const j)) x (Const j)) (at k is) s
+
+    by : (a b d f g h : Bool) → nat_eq c 0 ≡ a → nat_eq c 1 ≡ b → nat_eq c 2 ≡ d → nat_eq c 4 ≡ f → nat_eq c 8 ≡ g → nat_eq c 65535 ≡ h → (a || b || d || f || g || h) ≡ true
+        → Source (source_mode (Const c)) (source_register (Const c)) x (Const c)
+    by true b d f g h i0 i1 i2 i4 i8 i9 k = along 0 i0 (nought x)
+    by false true d f g h i0 i1 i2 i4 i8 i9 k = along 1 i1 (one x)
+    by false false true f g h i0 i1 i2 i4 i8 i9 k = along 2 i2 (two x)
+    by false false false true g h i0 i1 i2 i4 i8 i9 k = along 4 i4 (four x)
+    by false false false false true h i0 i1 i2 i4 i8 i9 k = along 8 i8 (eight x)
+    by false false false false false true i0 i1 i2 i4 i8 i9 k = along 65535 i9 (all_ones x)
+    by false false false false false false i0 i1 i2 i4 i8 i9 k = absurd cc
+
+pub source_is : (o : Operand) (other : ℕ) → is_source o ≡ true → Source (source_mode o) (source_register o) (ext_of o other) o
+source_is (Reg r) other e =
+    let two' = both (nat_lt r 16) (not (nat_eq r 3)) e in
+    let low = two'.0 in
+    let n3 = two'.1 in
+    let small : r % 16 ≡ r = let l : r < 16 = grind (arith, nat_tests) in omega arith in
+    subst (λ k. Source 0 k other (Reg r)) (sym small) (register r other (λ s. by r s n3))
+  where
+    by : (r : ℕ) → r ≡ 3 → not (nat_eq r 3) ≡ true → ⊥
+    by r s n = grind (arith, nat_tests)
+source_is (Const c) other e = constant_source c other e
+source_is (Imm x) other e = immediate x
+source_is (Indexed r x) other e = let p = register_plain r e in let l = p.low in let small : r % 16 ≡ r = omega arith in subst (λ k. Source 1 k x (Indexed r x)) (sym small) (indexed r x p.plain)
+source_is (Symbolic x) other e = symbolic x
+source_is (Absolute x) other e = absolute x
+source_is (Indirect r) other e = let p = register_plain r e in let l = p.low in let small : r % 16 ≡ r = omega arith in subst (λ k. Source 2 k other (Indirect r)) (sym small) (indirect r other p.plain)
+source_is (Increment r) other e = let p = register_plain r e in let l = p.low in let small : r % 16 ≡ r = omega arith in subst (λ k. Source 3 k other (Increment r)) (sym small) (increment r other p.plain)
+
+pub dest_is : (o : Operand) (other : ℕ) → is_dest o ≡ true → Destination (dest_mode o) (source_register o) (ext_of o other) o
+dest_is (Reg r) other e = let low = e in let small : r % 16 ≡ r = let l : r < 16 = grind (arith, nat_tests) in omega arith in subst (λ k. Destination 0 k other (Reg r)) (sym small) (to_register r other)
+dest_is (Const c) other e = absurd cc
+dest_is (Imm x) other e = absurd cc
+dest_is (Indexed r x) other e = let p = register_plain r e in let l = p.low in let small : r % 16 ≡ r = omega arith in subst (λ k. Destination 1 k x (Indexed r x)) (sym small) (to_indexed r x p.plain)
+dest_is (Symbolic x) other e = to_symbolic x
+dest_is (Absolute x) other e = to_absolute x
+dest_is (Indirect r) other e = absurd cc
+dest_is (Increment r) other e = absurd cc
+
+two_code_low : (op : TwoOp) → two_code op < 16
+two_code_low Mov = omega arith
+two_code_low Add = omega arith
+two_code_low Addc = omega arith
+two_code_low Subc = omega arith
+two_code_low Sub = omega arith
+two_code_low Cmp = omega arith
+two_code_low Dadd = omega arith
+two_code_low Bit = omega arith
+two_code_low Bic = omega arith
+two_code_low Bis = omega arith
+two_code_low Xor = omega arith
+two_code_low And = omega arith
+
+one_code_low : (op : OneOp) → one_code op < 8
+one_code_low Rrc = omega arith
+one_code_low Swpb = omega arith
+one_code_low Rra = omega arith
+one_code_low Sxt = omega arith
+one_code_low Push = omega arith
+one_code_low Call = omega arith
+
+-- ---- instructions
+
+-- the word of the second operand, after a first one
+second_at : (s d : Operand) → ext_of d (ext_of d 0) ≡ ext_of d 0
+second_at s (Reg r) = refl
+second_at s (Const c) = refl
+second_at s (Imm x) = refl
+second_at s (Indexed r x) = refl
+second_at s (Symbolic x) = refl
+second_at s (Absolute x) = refl
+second_at s (Indirect r) = refl
+second_at s (Increment r) = refl
+
+-- a source, and the words after the first
+pub record IsPair (s d : Operand) (w1 w2 : ℕ) : Type 0 where
+  pub other : ℕ
+  pub source : ext_of s other ≡ w1
+  pub more : ℕ
+  pub dest : ext_of d more ≡ (cond (nat_eq (words_in s) 1) w2 w1)
+
+no_source : (s d : Operand) → extension s ≡ [] → words_in s ≡ 0 → IsPair s d (get_or (extension s ++ extension d) 0 0) (get_or (extension s ++ extension d) 1 0)
+no_source s d none words = by d
+  where
+    w1 : Operand → ℕ
+    w1 d = get_or (extension s ++ extension d) 0 0
+
+    same : (d : Operand) → get_or (extension d) 0 0 ≡ get_or (extension s ++ extension d) 0 0
+    same d = ap (λ xs. get_or (xs ++ extension d) 0 0) (sym none)
+
+    front : (x : ℕ) → x ≡ ext_of s x
+    front x = ap (λ xs. get_or (xs ++ x ∷ []) 0 0) (sym none)
+
+    pick : (d : Operand) → get_or (extension s ++ extension d) 0 0 ≡ cond (nat_eq (words_in s) 1) (get_or (extension s ++ extension d) 1 0) (get_or (extension s ++ extension d) 0 0)
+    pick d = ap (λ n. cond (nat_eq n 1) (get_or (extension s ++ extension d) 1 0) (get_or (extension s ++ extension d) 0 0)) (sym words)
+
+    first : (d : Operand) → ext_of d 0 ≡ get_or (extension d) 0 0
+    first (Reg r) = refl
+    first (Const c) = refl
+    first (Imm x) = refl
+    first (Indexed r x) = refl
+    first (Symbolic x) = refl
+    first (Absolute x) = refl
+    first (Indirect r) = refl
+    first (Increment r) = refl
+
+    by : (d : Operand) → IsPair s d (get_or (extension s ++ extension d) 0 0) (get_or (extension s ++ extension d) 1 0)
+    by d = record { other = get_or (extension s ++ extension d) 0 0; source = sym (front (get_or (extension s ++ extension d) 0 0)); more = 0; dest = first d ∙ (same d ∙ pick d) }
+
+first_of : (d : Operand) → ext_of d 0 ≡ get_or (extension d) 0 0
+first_of (Reg r) = refl
+first_of (Const c) = refl
+first_of (Imm x) = refl
+first_of (Indexed r x) = refl
+first_of (Symbolic x) = refl
+first_of (Absolute x) = refl
+first_of (Indirect r) = refl
+first_of (Increment r) = refl
+
+pub pair : (s d : Operand) → IsPair s d (get_or (extension s ++ extension d) 0 0) (get_or (extension s ++ extension d) 1 0)
+pair (Reg r) d = no_source (Reg r) d refl refl
+pair (Const c) d = no_source (Const c) d refl refl
+pair (Imm x) d = record { other = 0; source = refl; more = 0; dest = first_of d }
+pair (Indexed r x) d = record { other = 0; source = refl; more = 0; dest = first_of d }
+pair (Symbolic x) d = record { other = 0; source = refl; more = 0; dest = first_of d }
+pair (Absolute x) d = record { other = 0; source = refl; more = 0; dest = first_of d }
+pair (Indirect r) d = no_source (Indirect r) d refl refl
+pair (Increment r) d = no_source (Increment r) d refl refl
+
+two_means : (op : TwoOp) (w : Width) (s d : Operand) → is_source s ≡ true → is_dest d ≡ true → meaning (Two op w s d) ≡ Some (Two op w s d)
+unfolding first_word
+two_means op w s d hs hd =
+    let w0 = two_code op * 4096 + source_register s * 256 + dest_mode d * 128 + byte_flag w * 64 + source_mode s * 16 + source_register d in
+    let w1 = get_or (extension s ++ extension d) 0 0 in
+    let w2 = get_or (extension s ++ extension d) 1 0 in
+    let f = fields (two_code op) (source_register s) (dest_mode d) (byte_flag w) (source_mode s) (source_register d) (register_low s) (dest_mode_low d) (flag_low w) (mode_low s) (register_low d) in
+    let p = pair s d in
+    let source : Source ((w0 / 16) % 4) ((w0 / 256) % 16) w1 s =
+    subst (λ m. Source m ((w0 / 256) % 16) w1 s) (sym f.mode) (subst (λ r. Source (source_mode s) r w1 s) (sym f.source) (subst (λ x. Source (source_mode s) (source_register s) x s) p.source (source_is s p.other hs))) in
+    let dest : Destination ((w0 / 128) % 2) (w0 % 16) (cond (nat_eq (words_in s) 1) w2 w1) d =
+    subst (λ m. Destination m (w0 % 16) (cond (nat_eq (words_in s) 1) w2 w1) d) (sym f.dest_mode_is) (subst (λ r. Destination (dest_mode d) r (cond (nat_eq (words_in s) 1) w2 w1) d) (sym f.register_is) (subst (λ x. Destination (dest_mode d) (source_register d) x d) p.dest (dest_is d p.more hd))) in
+    let width : width_of ((w0 / 64) % 2) ≡ w = ap width_of f.byte ∙ flag_width w in
+    subst (λ (v : Width). insn_of w0 w1 w2 ≡ Some (Two op v s d)) width (means_insn (format_one op s d f.op_is source dest)).0
+
+one_means : (op : OneOp) (w : Width) (a : Operand) → is_source a ≡ true → one_fits op w a ≡ true → meaning (One op w a) ≡ Some (One op w a)
+unfolding first_word
+one_means op w a ha fits =
+    let w0 = 4096 + one_code op * 128 + byte_flag w * 64 + source_mode a * 16 + source_register a in
+    let w1 = get_or (extension a) 0 0 in
+    let w2 = get_or (extension a) 1 0 in
+    let f = few_fields (one_code op) (byte_flag w) (source_mode a) (source_register a) (one_code_low op) (flag_low w) (mode_low a) (register_low a) in
+    let source : Source ((w0 / 16) % 4) (w0 % 16) w1 a =
+    subst (λ m. Source m (w0 % 16) w1 a) (sym f.mode) (subst (λ r. Source (source_mode a) r w1 a) (sym f.register_is) (subst (λ x. Source (source_mode a) (source_register a) x a) (first_of a) (source_is a 0 ha))) in
+    let width : width_of ((w0 / 64) % 2) ≡ w = ap width_of f.byte ∙ flag_width w in
+    subst (λ (v : Width). insn_of w0 w1 w2 ≡ Some (One op v a)) width
+    (means_insn (format_two op a f.form f.op_is source (subst (λ (v : Width). one_fits op v a ≡ true) (sym width) fits))).0
+
+unit_means : (n : ℕ) → n < 7 → meaning (UnitOp n) ≡ Some (UnitOp n)
+unfolding first_word
+unit_means n low =
+    let small : n % 8 ≡ n = omega arith in
+    subst (λ k. insn_of (4992 + k) 0 0 ≡ Some (UnitOp n)) (sym small) (means_insn (unit n low refl)).0
+
+pub coded_means : (insn : Insn) → is_coded insn ≡ true → meaning insn ≡ Some insn
+unfolding first_word
+coded_means (Two op w s d) e = let b = both (is_source s) (is_dest d) e in two_means op w s d b.0 b.1
+coded_means (One op w a) e = let b = both (is_source a) (one_fits op w a) e in one_means op w a b.0 b.1
+coded_means (Jump c o) e = absurd cc
+coded_means Reti e = (means_insn {w0 = 4864} {w1 = 0} {w2 = 0} (return refl)).0
+coded_means (UnitOp n) e = unit_means n (low n e)
+  where
+    low : (n : ℕ) → nat_lt n 7 ≡ true → n < 7
+    low n k = grind (arith, nat_tests)

@@ -1,0 +1,53 @@
+-- Names are ASCII.
+use Rattle.std.proofs.Common.{ℕ, ◌≡◌, ◌<◌, Bool, true, false, ◌&&◌, ◌||◌, ◌==◌, nat_le, List, [], length, get_or, refl, subst, arith}
+use Rattle.std.specs.Str.{IsAscii}
+use Rattle.std.specs.List.{AllPass}
+use Rattle.std.specs.Borrow.{Bor}
+use Rattle.std.proofs.lemmas.Bool.Decides.{nat_tests}
+use Rattle.std.proofs.lemmas.List.{get_or-map, length-map}
+use Rattle.std.proofs.lemmas.List.Sums.{AllPass-from_list_all}
+use Rattle.std.proofs.lemmas.Str.Ascii.{IsAscii-from_all}
+use Rattle.asm_text.specs.Emitted.{AreNames}
+use Rattle.asm_text.specs.Maps.{texts_in}
+use Rattle.asm_text.specs.Parts.{is_name_byte, is_name}
+
+both_1 : (a b : Bool) → (a && b) ≡ true → b ≡ true
+both_1 true b e = e
+both_1 false b e = absurd cc
+
+low_byte : (b : ℕ) → is_name_byte b ≡ true → b < 128
+unfolding is_name_byte
+low_byte b e = by (nat_le b 127) refl
+  where
+    by : (c : Bool) → nat_le b 127 ≡ c → b < 128
+    by true is = grind (arith, nat_tests)
+    by false is =
+        let a : nat_le b 122 ≡ false = grind (arith, nat_tests) in
+        let b1 : nat_le b 90 ≡ false = grind (arith, nat_tests) in
+        let c1 : nat_le b 57 ≡ false = grind (arith, nat_tests) in
+        let d1 : (b == 95) ≡ false = grind (arith, nat_tests) in
+        let e1 : (b == 46) ≡ false = grind (arith, nat_tests) in
+        let none : (((nat_le 97 b && false) || (nat_le 65 b && false)) || (nat_le 48 b && false) || false || false) ≡ true = rw (a, b1, c1, d1, e1) at e in
+        absurd (never (nat_le 97 b) (nat_le 65 b) (nat_le 48 b) none)
+      where
+        never : (x y z : Bool) → (((x && false) || (y && false)) || (z && false) || false || false) ≡ true → ⊥
+        never true true true n = cc
+        never true true false n = cc
+        never true false true n = cc
+        never true false false n = cc
+        never false true true n = cc
+        never false true false n = cc
+        never false false true n = cc
+        never false false false n = cc
+
+pub name_is_ascii : (name : List ℕ) → is_name name ≡ true → IsAscii name
+unfolding is_name
+name_is_ascii name e =
+    let all : AllPass is_name_byte name = AllPass-from_list_all is_name_byte name (both_1 _ _ e) in
+    IsAscii-from_all name (λ k d low. low_byte (get_or name k d) (all k d low))
+
+-- one of these names
+pub name_at : (names : List (Bor (List ℕ))) (k : ℕ) (d : Bor (List ℕ)) → AreNames (texts_in names) → k < length names → is_name (get_or names k d).now ≡ true
+name_at names k d are low =
+    let within : k < length (texts_in names) = omega (arith, length-map names (λ (n : Bor (List ℕ)). n.now)) in
+    subst (λ (t : List ℕ). is_name t ≡ true) (get_or-map (λ (n : Bor (List ℕ)). n.now) names k d [] low) (are k [] within)

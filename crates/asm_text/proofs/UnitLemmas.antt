@@ -1,0 +1,327 @@
+-- What a source gives keeps what a unit keeps.
+use Rattle.std.proofs.Common.{ℕ, suc, ◌≡◌, ◌≢◌, ◌+◌, ◌-◌, ◌*◌, ◌<◌, ◌≤◌, Bool, true, false, cond, not, is_some, List, [], ◌∷◌, ◌++◌, length, map, get_or, set, Option, Some, None, Result, Ok, Err, nat_eq, refl, ap, sym, subst, ◌∙◌, length-append, arith, ◌⊎◌, inl, inr}
+use Rattle.std.specs.Prelude.{fold, filter, IsTrue}
+use Rattle.std.specs.List.{All, AllPairs, slice_index_or}
+use Rattle.std.proofs.lemmas.Bool.{cases_lt}
+use Rattle.std.proofs.lemmas.List.{length-map, length-set, get_or-map, get_or_past}
+use Rattle.std.proofs.lemmas.List.Elements.{All-push, All-set, All-append, All-cons}
+use Rattle.std.proofs.lemmas.List.Quantifiers.{position-Some}
+use Rattle.std.proofs.lemmas.Option.{slice_get_within, get_or_from_slice_get}
+use Rattle.asm_text.specs.declared.TheConstants.{MAX_SECTIONS}
+use Rattle.asm_text.specs.declared.placing.Head.{Head}
+use Rattle.asm_text.specs.declared.placing.Spot.{Spot}
+use Rattle.asm_text.specs.declared.unit.AsmFault.{AsmFault}
+use Rattle.asm_text.specs.declared.unit.AsmFault.TheVariants.{Twice, TooMany}
+use Rattle.asm_text.specs.declared.unit.AsmRelocation.{AsmRelocation}
+use Rattle.asm_text.specs.declared.unit.SectionKind.{SectionKind}
+use Rattle.asm_text.specs.declared.statement.Field.TheVariants.{Number, Name}
+use Rattle.asm_text.specs.declared.statement.Statement.{Statement}
+use Rattle.asm_text.specs.declared.statement.Statement.TheVariants.{Section, Label, Global, Word, Space, Jump, Code}
+use Rattle.asm_text.specs.Assembly.{names_of, symbol_order, meanings, unit_for}
+use Rattle.asm_text.specs.Emission.{Meanings, Emitted, nothing, emitted, emitted_next, emitted_from, bytes_of, relocation_at, relocation_if, relocations_of, second_word, with_statement, in_last, grown, opened}
+use Rattle.asm_text.specs.Emitted.{last_of, AreNames}
+use Rattle.asm_text.specs.Kept.{IsSource}
+use Rattle.asm_text.specs.Known.{AreNamed, IsNamed}
+use Rattle.asm_text.specs.Parts.{SectionValue, SymbolValue, is_name, IsSection, IsSymbol, IsRelocation, IsUnit}
+use Rattle.asm_text.specs.Placed.{IsPlaced, names_in}
+use Rattle.asm_text.specs.Placing.{Placed, nowhere, spot_of, has_section, with_section, within, last_head, placed, placed_from}
+use Rattle.asm_text.specs.Source.{Source}
+use Rattle.asm_text.specs.Statements.{size_of}
+use Rattle.asm_text.specs.Symbols.{is_global, local_labels, once, once_by, below, order_of, symbol_by, symbol_for, symbols_for, symbol_number, symbol_numbers}
+use Rattle.asm_text.proofs.EmittingLemmas.{all_agree, small_sections, next_place, some_head}
+use Rattle.asm_text.proofs.LockLemmas.{Agree, Shape, shape_of, head_shape, same_number, ok_is, IsTaken, taken, label_heads}
+use Rattle.asm_text.proofs.OrderLemmas.{length_below}
+use Rattle.asm_text.proofs.OrderedLemmas.{IsOrder, order_kept}
+
+-- ---- distinct things
+
+-- equal elements of a list without equal ones stand at one place
+distinct_place : {X : Type 0} (xs : List X) (a b : ℕ) (d : X) → AllPairs (λ x y. x ≢ y) xs → a < length xs → b < length xs → get_or xs a d ≡ get_or xs b d → a ≡ b
+distinct_place xs a b d differ low_a low_b same = by (cases_lt a b)
+  where
+    by_more : (b < a) ⊎ (a ≤ b) → b ≤ a → a ≡ b
+    by_more (inl less) most = absurd (differ b a d less low_a (sym same))
+    by_more (inr least) most = omega arith
+
+    by : (a < b) ⊎ (b ≤ a) → a ≡ b
+    by (inl less) = absurd (differ a b d less low_b same)
+    by (inr most) = by_more (cases_lt b a) most
+
+-- ---- the names of sections
+
+named_section : (k n : ℕ) (p q : Placed) (name : ℕ) (kind : SectionKind) → All (λ (h : Head). h.name < k) p.heads → name < k → with_section n p name kind ≡ Ok q → All (λ (h : Head). h.name < k) q.heads
+named_section k n p q name kind are low e = by (has_section p.heads name) (nat_eq (length p.heads) MAX_SECTIONS) e
+  where
+    by : (c d : Bool) → cond c (Err (Twice n)) (cond d (Err (TooMany n)) (Ok (record { heads = p.heads ++ (record { name = name; kind = kind; size = 0 }) ∷ []; labels = p.labels; spots = p.spots }))) ≡ Ok q → All (λ (h : Head). h.name < k) q.heads
+    by true d j = absurd cc
+    by false true j = absurd cc
+    by false false j =
+        let heads : p.heads ++ (record { name = name; kind = kind; size = 0 }) ∷ [] ≡ q.heads = ap (λ (r : Placed). r.heads) (ok_is _ q j) in
+        subst (All (λ (h : Head). h.name < k)) heads (All-push (λ (h : Head). h.name < k) p.heads (record { name = name; kind = kind; size = 0 }) are low)
+
+named_taken : (k : ℕ) (p q : Placed) (s : Statement ℕ) → All (λ (h : Head). h.name < k) p.heads → IsTaken p q s → All (λ (h : Head). h.name < k) q.heads
+named_taken k p q s are t =
+    let within = slice_get_within p.heads (length p.heads - 1) t.head t.is in
+    let here : t.head.name < k = subst (λ (h : Head). h.name < k) (last_at t.head t.is) (are (length p.heads - 1) t.head within) in
+    subst (All (λ (h : Head). h.name < k)) (sym t.grown_by.heads) (All-set (λ (h : Head). h.name < k) p.heads (length p.heads - 1) (record { name = t.head.name; kind = t.head.kind; size = t.head.size + size_of s }) here are)
+  where
+    last_at : (h : Head) → last_head p.heads ≡ Some h → get_or p.heads (length p.heads - 1) h ≡ h
+    last_at h is = get_or_from_slice_get p.heads (length p.heads - 1) h h is
+
+named_more : (k n : ℕ) (p q : Placed) (s : Statement ℕ) → All (λ (h : Head). h.name < k) p.heads → IsNamed k s → placed n p s ≡ Ok q → All (λ (h : Head). h.name < k) q.heads
+named_more k n p q (Section name kind) are low e = named_section k n p q name kind are low e
+named_more k n p q (Global name) are low e = subst (All (λ (h : Head). h.name < k)) (ap (λ (r : Placed). r.heads) (ok_is p q e)) are
+named_more k n p q (Label name) are low e = subst (All (λ (h : Head). h.name < k)) (label_heads n p q name e) are
+named_more k n p q (Word field) are low e = named_taken k p q (Word field) are (taken n p q (Word field) (λ h. refl) e)
+named_more k n p q (Space size) are low e = named_taken k p q (Space size) are (taken n p q (Space size) (λ h. refl) e)
+named_more k n p q (Jump c t) are low e = named_taken k p q (Jump c t) are (taken n p q (Jump c t) (λ h. refl) e)
+named_more k n p q (Code insn x y) are low e = named_taken k p q (Code insn x y) are (taken n p q (Code insn x y) (λ h. refl) e)
+
+heads_named : (k n : ℕ) (p q : Placed) (statements : List (Statement ℕ)) → All (λ (h : Head). h.name < k) p.heads → AreNamed k statements → placed_from n p statements ≡ Ok q → All (λ (h : Head). h.name < k) q.heads
+heads_named k n p q [] are named e = subst (All (λ (h : Head). h.name < k)) (ap (λ (r : Placed). r.heads) (ok_is p q e)) are
+heads_named k n p q (s ∷ rest) are named e =
+    let x = next_place n p s rest q e in
+    heads_named k (n + 1) x.after q rest (named_more k n p x.after s are (named 0 s (omega arith)) x.is) (λ j d h. named (suc j) d (omega arith)) x.goes
+
+-- ---- sections
+
+-- what a section has of its head
+section_shape : (m : Meanings) (e : Emitted) (p : Placed) → Agree m e p → (k : ℕ) (d : SectionValue) → k < length e.sections → shape_of (get_or e.sections k d) ≡ head_shape m (get_or p.heads k some_head)
+section_shape m e p a k d low =
+    let n = same_number m e p a in
+    let within : k < length p.heads = omega arith in
+    let one : get_or (map shape_of e.sections) k (shape_of d) ≡ shape_of (get_or e.sections k d) = get_or-map shape_of e.sections k d (shape_of d) low in
+    let two : get_or (map (head_shape m) p.heads) k (shape_of d) ≡ head_shape m (get_or p.heads k some_head) = get_or-map (head_shape m) p.heads k some_head (shape_of d) within in
+    sym one ∙ (ap (λ ss. get_or ss k (shape_of d)) a.shapes ∙ two)
+
+section_name : (m : Meanings) (e : Emitted) (p : Placed) → Agree m e p → (k : ℕ) (d : SectionValue) → k < length e.sections → (get_or e.sections k d).name ≡ slice_index_or m.sections (get_or p.heads k some_head).name []
+section_name m e p a k d low = ap (λ (x : Shape). x.name) (section_shape m e p a k d low)
+
+sections_are : (m : Meanings) (e : Emitted) (p : Placed) (names : ℕ) → Agree m e p → IsPlaced names p → AreNames m.sections → All (λ (h : Head). h.name < length m.sections) p.heads → All IsSection e.sections
+sections_are m e p names a sound are heads k d low =
+    let n = same_number m e p a in
+    let within : k < length p.heads = omega arith in
+    let number : (get_or p.heads k some_head).name < length m.sections = heads k some_head within in
+    record {
+      named = subst (λ (t : List ℕ). IsTrue (is_name t)) (sym (section_name m e p a k d low)) (true_is _ (are (get_or p.heads k some_head).name [] number));
+      small = small_sections m e p a sound.small k d low;
+      filled = a.filled k d low;
+    }
+  where
+    true_is : (b : Bool) → b ≡ true → IsTrue b
+    true_is b e = e
+
+sections_apart : (m : Meanings) (e : Emitted) (p : Placed) (names : ℕ) → Agree m e p → IsPlaced names p → AllPairs (λ x y. x ≢ y) m.sections → All (λ (h : Head). h.name < length m.sections) p.heads
+    → AllPairs (λ (x y : SectionValue). x.name ≢ y.name) e.sections
+sections_apart m e p names a sound differ heads i j d less low same =
+    let n = same_number m e p a in
+    let low_i : i < length e.sections = omega arith in
+    let within_i : i < length p.heads = omega arith in
+    let within_j : j < length p.heads = omega arith in
+    let texts = sym (section_name m e p a i d low_i) ∙ (same ∙ section_name m e p a j d low) in
+    let numbers : (get_or p.heads i some_head).name ≡ (get_or p.heads j some_head).name = distinct_place m.sections (get_or p.heads i some_head).name (get_or p.heads j some_head).name [] differ (heads i some_head within_i) (heads j some_head within_j) texts in
+    let at_i : get_or (names_in p.heads) i 0 ≡ (get_or p.heads i some_head).name = get_or-map (λ (h : Head). h.name) p.heads i some_head 0 within_i in
+    let at_j : get_or (names_in p.heads) j 0 ≡ (get_or p.heads j some_head).name = get_or-map (λ (h : Head). h.name) p.heads j some_head 0 within_j in
+    sound.differ i j 0 less (omega (arith, length-map p.heads (λ (h : Head). h.name))) (at_i ∙ (numbers ∙ sym at_j))
+
+-- ---- symbols
+
+symbol_is : (sections : ℕ) (global : Bool) (name : List ℕ) (spot : Option Spot) → is_name name ≡ true → ((s : Spot) → spot ≡ Some s → s.section < sections) → IsSymbol sections (symbol_by global name spot)
+symbol_is sections global name None named low = record { named = named; local = λ e. absurd cc; home = λ k e. absurd cc }
+symbol_is sections global name (Some s) named low = record { named = named; local = λ e f. cc; home = λ k e. let same : s.section ≡ k = cc in let less = low s refl in omega arith }
+
+symbol_text : (global : Bool) (name : List ℕ) (spot : Option Spot) → (symbol_by global name spot).name ≡ name
+symbol_text global name None = refl
+symbol_text global name (Some s) = refl
+
+symbols_are : (sections : ℕ) (statements : List (Statement ℕ)) (p : Placed) (names : List (List ℕ)) (order : List ℕ) → IsOrder (length names) order → AreNames names
+    → ((k : ℕ) (s : Spot) → spot_of p.spots k ≡ Some s → s.section < sections) → All (IsSymbol sections) (symbols_for statements p names order)
+symbols_are sections statements p names order o are within k d low =
+    let here : k < length order = omega (arith, length-map order (symbol_for statements p names)) in
+    let number : get_or order k 0 < length names = o.low k 0 here in
+    subst (IsSymbol sections) (sym (get_or-map (symbol_for statements p names) order k 0 d here))
+    (symbol_is sections (is_global statements (get_or order k 0)) (slice_index_or names (get_or order k 0) []) (spot_of p.spots (get_or order k 0)) (are (get_or order k 0) [] number) (within (get_or order k 0)))
+
+symbols_apart : (statements : List (Statement ℕ)) (p : Placed) (names : List (List ℕ)) (order : List ℕ) → IsOrder (length names) order → AllPairs (λ x y. x ≢ y) names
+    → AllPairs (λ (x y : SymbolValue). x.name ≢ y.name) (symbols_for statements p names order)
+symbols_apart statements p names order o differ i j d less low same =
+    let size = length-map order (symbol_for statements p names) in
+    let low_i : i < length order = omega arith in
+    let low_j : j < length order = omega arith in
+    let text : (k : ℕ) → k < length order → (get_or (symbols_for statements p names order) k d).name ≡ slice_index_or names (get_or order k 0) [] = λ k h.
+    ap (λ (s : SymbolValue). s.name) (get_or-map (symbol_for statements p names) order k 0 d h) ∙ symbol_text (is_global statements (get_or order k 0)) (slice_index_or names (get_or order k 0) []) (spot_of p.spots (get_or order k 0)) in
+    let texts = sym (text i low_i) ∙ (same ∙ text j low_j) in
+    let numbers : get_or order i 0 ≡ get_or order j 0 = distinct_place names (get_or order i 0) (get_or order j 0) [] differ (o.low i 0 low_i) (o.low j 0 low_j) texts in
+    o.differ i j 0 less low_j numbers
+
+-- ---- how many symbols
+
+once_size : (order : List ℕ) (k : ℕ) → length (once order k) ≤ length order + 1
+once_size order k = by (symbol_number order k)
+  where
+    by : (o : Option ℕ) → length (once_by (is_some o) order k) ≤ length order + 1
+    by None = omega (arith, length-append order (k ∷ []))
+    by (Some i) = omega arith
+
+fold_size : (order ks : List ℕ) → length (fold once order ks) ≤ length order + length ks
+fold_size order [] = omega arith
+fold_size order (k ∷ ks) = let rest = fold_size (once order k) ks in let one = once_size order k in omega arith
+
+filter_size : (f : ℕ → Bool) (ks : List ℕ) → length (filter f ks) ≤ length ks
+filter_size f [] = omega arith
+filter_size f (k ∷ ks) = by (f k) (filter_size f ks)
+  where
+    by : (c : Bool) → length (filter f ks) ≤ length ks → length (cond c (k ∷ filter f ks) (filter f ks)) ≤ length (k ∷ ks)
+    by true h = omega arith
+    by false h = omega arith
+
+order_size : (statements : List (Statement ℕ)) (p : Placed) (names : ℕ) → length (order_of statements p names) ≤ length p.labels + names
+unfolding order_of
+order_size statements p names =
+    let one = fold_size (fold once [] (local_labels statements p.labels)) (below names) in
+    let two = fold_size [] (local_labels statements p.labels) in
+    let three = filter_size (λ k. not (is_global statements k)) p.labels in
+    let four = length_below names in
+    omega arith
+
+-- ---- relocations
+
+abbrev HasSymbols : Meanings → ℕ → Type 0
+HasSymbols m symbols = (k x : ℕ) → slice_index_or m.symbols k None ≡ Some x → x < symbols
+
+more_sections : (a b symbols : ℕ) (rs : List AsmRelocation) → a ≤ b → All (IsRelocation a symbols) rs → All (IsRelocation b symbols) rs
+more_sections a b symbols rs most are k d low = let r = are k d low in record { section = let s = r.section in omega arith; symbol = r.symbol }
+
+tied_if : (m : Meanings) (symbols sections section offset : ℕ) (name : Option ℕ) → HasSymbols m symbols → section < sections → All (IsRelocation sections symbols) (relocation_if m section offset name)
+tied_if m symbols sections section offset None has low = λ k d h. absurd (omega (arith, h))
+tied_if m symbols sections section offset (Some name) has low = by (slice_index_or m.symbols name None) refl
+  where
+    by : (o : Option ℕ) → slice_index_or m.symbols name None ≡ o → All (IsRelocation sections symbols) (relocation_at section offset o)
+    by None is = λ k d h. absurd (omega (arith, h))
+    by (Some x) is = All-cons (IsRelocation sections symbols) (record { section = section; offset = offset; symbol = x }) [] (record { section = low; symbol = has name x is }) (λ k d h. absurd (omega (arith, h)))
+
+tied_of : (m : Meanings) (symbols sections section here : ℕ) (s : Statement ℕ) → HasSymbols m symbols → section < sections → All (IsRelocation sections symbols) (relocations_of m section here s)
+tied_of m symbols sections section here (Word (Name name)) has low = tied_if m symbols sections section here (Some name) has low
+tied_of m symbols sections section here (Word (Number n)) has low = λ k d h. absurd (omega (arith, h))
+tied_of m symbols sections section here (Code insn x y) has low =
+    All-append (IsRelocation sections symbols) (relocation_if m section (here + 2) x) (relocation_if m section (here + second_word insn) y)
+    (tied_if m symbols sections section (here + 2) x has low) (tied_if m symbols sections section (here + second_word insn) y has low)
+tied_of m symbols sections section here (Section name kind) has low = λ k d h. absurd (omega (arith, h))
+tied_of m symbols sections section here (Label name) has low = λ k d h. absurd (omega (arith, h))
+tied_of m symbols sections section here (Global name) has low = λ k d h. absurd (omega (arith, h))
+tied_of m symbols sections section here (Space size) has low = λ k d h. absurd (omega (arith, h))
+tied_of m symbols sections section here (Jump c t) has low = λ k d h. absurd (omega (arith, h))
+
+count_if : (m : Meanings) (section offset : ℕ) (name : Option ℕ) → length (relocation_if m section offset name) ≤ 1
+count_if m section offset None = omega arith
+count_if m section offset (Some name) = by (slice_index_or m.symbols name None)
+  where
+    by : (o : Option ℕ) → length (relocation_at section offset o) ≤ 1
+    by None = omega arith
+    by (Some x) = omega arith
+
+count_of : (m : Meanings) (section here : ℕ) (s : Statement ℕ) → length (relocations_of m section here s) ≤ 2
+count_of m section here (Word (Name name)) = let one = count_if m section here (Some name) in omega arith
+count_of m section here (Word (Number n)) = omega arith
+count_of m section here (Code insn x y) =
+    let one = count_if m section (here + 2) x in
+    let two = count_if m section (here + second_word insn) y in
+    omega (arith, length-append (relocation_if m section (here + 2) x) (relocation_if m section (here + second_word insn) y))
+count_of m section here (Section name kind) = omega arith
+count_of m section here (Label name) = omega arith
+count_of m section here (Global name) = omega arith
+count_of m section here (Space size) = omega arith
+count_of m section here (Jump c t) = omega arith
+
+-- relocations from line to line
+pub record IsTied (symbols : ℕ) (lines : ℕ) (e : Emitted) : Type 0 where
+  pub tied : All (IsRelocation (length e.sections) symbols) e.relocations
+  pub few : length e.relocations ≤ 2 * lines
+
+tied_last : (m : Meanings) (symbols lines n : ℕ) (e f : Emitted) (s : Statement ℕ) → HasSymbols m symbols → IsTied symbols lines e → in_last m n e (last_of e.sections) s ≡ Ok f → IsTied symbols (lines + 1) f
+tied_last m symbols lines n e f s has t goes = by (last_of e.sections) refl goes
+  where
+    by_bytes : (last : SectionValue) (r : Result (List ℕ) AsmFault) → last_of e.sections ≡ Some last → with_statement m e last s r ≡ Ok f → IsTied symbols (lines + 1) f
+    by_bytes last (Err fault) is k = absurd cc
+    by_bytes last (Ok bytes) is k =
+        let low : length e.sections - 1 < length e.sections = slice_get_within e.sections (length e.sections - 1) last is in
+        let size : length (set e.sections (length e.sections - 1) (grown last (size_of s) bytes)) ≡ length e.sections = length-set e.sections (length e.sections - 1) (grown last (size_of s) bytes) in
+        let few = t.few in
+        let two = count_of m (length e.sections - 1) last.size s in
+        subst (IsTied symbols (lines + 1)) (ok_is _ f k) (record {
+          tied = subst (λ n. All (IsRelocation n symbols) (e.relocations ++ relocations_of m (length e.sections - 1) last.size s)) (sym size)
+              (All-append (IsRelocation (length e.sections) symbols) e.relocations (relocations_of m (length e.sections - 1) last.size s) t.tied (tied_of m symbols (length e.sections) (length e.sections - 1) last.size s has low));
+          few = omega (arith, length-append e.relocations (relocations_of m (length e.sections - 1) last.size s));
+        })
+
+    by : (o : Option SectionValue) → last_of e.sections ≡ o → in_last m n e o s ≡ Ok f → IsTied symbols (lines + 1) f
+    by None is k = subst (IsTied symbols (lines + 1)) (ok_is e f k) (record { tied = t.tied; few = let few = t.few in omega arith })
+    by (Some last) is k = by_bytes last (bytes_of m n (length e.sections - 1) last.size s) is k
+
+tied_more : (m : Meanings) (symbols lines n : ℕ) (e f : Emitted) (s : Statement ℕ) → HasSymbols m symbols → IsTied symbols lines e → emitted m n e s ≡ Ok f → IsTied symbols (lines + 1) f
+tied_more m symbols lines n e f (Section name kind) has t k =
+    let size = length-append e.sections (opened m name kind ∷ []) in
+    let few = t.few in
+    subst (IsTied symbols (lines + 1)) (ok_is _ f k) (record {
+      tied = more_sections (length e.sections) (length (e.sections ++ opened m name kind ∷ [])) symbols e.relocations (omega arith) t.tied;
+      few = omega arith;
+    })
+tied_more m symbols lines n e f (Label name) has t k = subst (IsTied symbols (lines + 1)) (ok_is e f k) (record { tied = t.tied; few = let few = t.few in omega arith })
+tied_more m symbols lines n e f (Global name) has t k = subst (IsTied symbols (lines + 1)) (ok_is e f k) (record { tied = t.tied; few = let few = t.few in omega arith })
+tied_more m symbols lines n e f (Word field) has t k = tied_last m symbols lines n e f (Word field) has t k
+tied_more m symbols lines n e f (Space size) has t k = tied_last m symbols lines n e f (Space size) has t k
+tied_more m symbols lines n e f (Jump c x) has t k = tied_last m symbols lines n e f (Jump c x) has t k
+tied_more m symbols lines n e f (Code insn x y) has t k = tied_last m symbols lines n e f (Code insn x y) has t k
+
+all_tied : (m : Meanings) (symbols lines n : ℕ) (e f : Emitted) (statements : List (Statement ℕ)) → HasSymbols m symbols → IsTied symbols lines e → emitted_from m n e statements ≡ Ok f → IsTied symbols (lines + length statements) f
+all_tied m symbols lines n e f [] has t k =
+    let same : lines ≡ lines + 0 = omega arith in
+    subst (λ l. IsTied symbols l f) same (subst (IsTied symbols lines) (ok_is e f k) t)
+all_tied m symbols lines n e f (s ∷ rest) has t k =
+    by (λ z t' k'. all_tied m symbols (lines + 1) (n + 1) z f rest has t' k') (emitted m n e s) refl k
+  where
+    by : ((z : Emitted) → IsTied symbols (lines + 1) z → emitted_from m (n + 1) z rest ≡ Ok f → IsTied symbols (lines + 1 + length rest) f)
+        → (r : Result Emitted AsmFault) → emitted m n e s ≡ r → emitted_next r (λ z. emitted_from m (n + 1) z rest) ≡ Ok f → IsTied symbols (lines + length (s ∷ rest)) f
+    by again (Ok z) was k' =
+        let same : lines + 1 + length rest ≡ lines + length (s ∷ rest) = omega arith in
+        subst (λ l. IsTied symbols l f) same (again z (tied_more m symbols lines n e z s has t was) k')
+    by again (Err fault) was k' = absurd cc
+
+has_symbols : (s : Source) (p : Placed) → HasSymbols (meanings s p) (length (symbol_order s p))
+has_symbols s p k x is = by (cases_lt k (names_of s))
+  where
+    by : (k < names_of s) ⊎ (names_of s ≤ k) → x < length (symbol_order s p)
+    by (inl low) =
+        let within : k < length (below (names_of s)) = let e = length_below (names_of s) in omega arith in
+        let at : slice_index_or (symbol_numbers (symbol_order s p) (names_of s)) k None ≡ symbol_number (symbol_order s p) (get_or (below (names_of s)) k 0) = get_or-map (symbol_number (symbol_order s p)) (below (names_of s)) k 0 None within in
+        (position-Some (λ j. nat_eq j (get_or (below (names_of s)) k 0)) (symbol_order s p) x 0 (sym at ∙ is)).0
+    by (inr past) =
+        let size : length (symbol_numbers (symbol_order s p) (names_of s)) ≤ k = let e = length_below (names_of s) in omega (arith, length-map (below (names_of s)) (symbol_number (symbol_order s p))) in
+        let none : slice_index_or (symbol_numbers (symbol_order s p) (names_of s)) k None ≡ None = get_or_past (symbol_numbers (symbol_order s p) (names_of s)) k None size in
+        absurd cc
+
+-- ---- the unit
+
+pub unit_kept : (s : Source) (p : Placed) (e : Emitted) → IsSource s → IsPlaced (names_of s) p → placed_from 1 (nowhere (names_of s)) s.statements ≡ Ok p → emitted_from (meanings s p) 1 nothing s.statements ≡ Ok e
+    → IsUnit (unit_for s p e)
+unit_kept s p e kept sound goes is =
+    let m = meanings s p in
+    let none : Agree (meanings s p) nothing (nowhere (names_of s)) = record { shapes = refl; filled = λ k d h. absurd (omega (arith, h)) } in
+    let agree : Agree (meanings s p) e p = all_agree m 1 nothing e (nowhere (names_of s)) p s.statements none goes is in
+    let heads = heads_named (length s.tables.sections) 1 (nowhere (names_of s)) p s.statements (λ k d h. absurd (omega (arith, h))) kept.named goes in
+    let order : IsOrder (names_of s) (symbol_order s p) = order_kept s.statements p (names_of s) sound.known in
+    let tied : IsTied (length (symbol_order s p)) (0 + length s.statements) e = all_tied m (length (symbol_order s p)) 0 1 nothing e s.statements (has_symbols s p) (record { tied = λ k d h. absurd (omega (arith, h)); few = omega arith }) is in
+    let number = same_number m e p agree in
+    let few = sound.few in
+    let symbols : length (symbols_for s.statements p s.tables.names (symbol_order s p)) ≡ length (symbol_order s p) = length-map (symbol_order s p) (symbol_for s.statements p s.tables.names) in
+    let size = order_size s.statements p (names_of s) in
+    record {
+      few_sections = omega arith;
+      few_symbols = let a = sound.labels in let b = kept.few_names in omega arith;
+      few_relocations = let a = tied.few in let b = kept.few_statements in omega arith;
+      sections_kept = sections_are m e p (names_of s) agree sound kept.sections heads;
+      symbols_kept = symbols_are (length e.sections) s.statements p s.tables.names (symbol_order s p) order kept.names (λ k spot at. let low : spot.section < length p.heads = sound.within k spot at in omega arith);
+      relocations_kept = subst (λ n. All (IsRelocation (length e.sections) n) e.relocations) (sym symbols) tied.tied;
+      sections_differ = sections_apart m e p (names_of s) agree sound kept.sections_differ heads;
+      symbols_differ = symbols_apart s.statements p s.tables.names (symbol_order s p) order kept.names_differ;
+    }

@@ -1,0 +1,57 @@
+-- The words of a line.
+use Rattle.std.proofs.Common.{ℕ, ◌≡◌, ◌+◌, ◌≤◌, Bool, true, false, cond, List, [], ◌∷◌, length, take, drop, nat_lt, Option, Some, None, is_some, position, refl, ap, subst, ◌∙◌, arith}
+use Rattle.std.specs.Prelude.{IfSome}
+use Rattle.std.specs.List.{slice_split, onto_first, position_or_len}
+use Rattle.std.proofs.lemmas.Bool.Decides.{nat_tests}
+use Rattle.std.proofs.lemmas.List.Splits.{slice_split_first, slice_split_none}
+use Rattle.std.proofs.lemmas.List.Sums.{fails_before_first}
+use Rattle.asm_text.specs.Lines.{is_space, words, by_words, statement_of}
+
+-- a line whose first space is at i
+pub words_at : (line : List ℕ) (i : ℕ) → position is_space line ≡ Some i → words line ≡ take i line ∷ words (drop (i + 1) line)
+unfolding words
+words_at line i e = by (nat_lt (position_or_len is_space line) (length line)) refl e
+  where
+    by : (found : Bool) → nat_lt (position_or_len is_space line) (length line) ≡ found → cond found (Some (position_or_len is_space line)) None ≡ Some i
+        → slice_split is_space line ≡ take i line ∷ slice_split is_space (drop (i + 1) line)
+    by true is some =
+        let same : position_or_len is_space line ≡ i = cc in
+        subst (λ k. slice_split is_space line ≡ take k line ∷ slice_split is_space (drop (k + 1) line)) same (slice_split_first is_space line 0 (grind (arith, nat_tests)))
+    by false is none = absurd cc
+
+-- a line without a space is one word
+pub words_whole : (line : List ℕ) → position is_space line ≡ None → words line ≡ line ∷ []
+unfolding words
+words_whole line e = by (nat_lt (position_or_len is_space line) (length line)) refl e
+  where
+    by : (found : Bool) → nat_lt (position_or_len is_space line) (length line) ≡ found → cond found (Some (position_or_len is_space line)) None ≡ None → slice_split is_space line ≡ line ∷ []
+    by true is some = absurd cc
+    by false is none =
+        let past : length line ≤ position_or_len is_space line = grind (arith, nat_tests) in
+        slice_split_none is_space line (λ k d l. fails_before_first is_space line k d (omega arith))
+
+-- a line of four words or more is no statement
+more_words : (word first second line : List ℕ) → by_words (word ∷ first ∷ second ∷ words line) ≡ None
+unfolding words
+more_words word first second [] = refl
+more_words word first second (b ∷ line) = by (is_space b) (slice_split is_space line)
+  where
+    by : (space : Bool) (parts : List (List ℕ)) → by_words (word ∷ first ∷ second ∷ cond space ([] ∷ parts) (onto_first b parts)) ≡ None
+    by true parts = refl
+    by false [] = refl
+    by false (part ∷ parts) = refl
+
+pub too_many_words : (line word rest first more second last : List ℕ) → words line ≡ word ∷ words rest → words rest ≡ first ∷ words more → words more ≡ second ∷ words last → statement_of line ≡ None
+unfolding statement_of
+too_many_words line word rest first more second last a b c =
+    ap by_words (a ∙ ap (λ ws. word ∷ ws) (b ∙ ap (λ ws. first ∷ ws) c)) ∙ more_words word first second last
+
+-- what is told of an option that is some
+pub record SomeOf {A : Type 0} (P : A → Type 0) (o : Option A) : Type 0 where
+  pub value : A
+  pub is : o ≡ Some value
+  pub holds : P value
+
+pub some_of : {A : Type 0} (P : A → Type 0) (o : Option A) → is_some o ≡ true → IfSome o P → SomeOf P o
+some_of P (Some a) e h = record { value = a; is = refl; holds = h }
+some_of P None e h = absurd cc

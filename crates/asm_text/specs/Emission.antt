@@ -1,0 +1,128 @@
+-- The bytes of the sections, line by line and without a gap, and the relocations; or the first jump that is refused.
+use Rattle.std.specs.Prelude.{ℕ, ◌+◌, ◌-◌, ◌*◌, ◌/◌, ◌==◌, nat_le, nat_lt, Bool, if◌then◌else◌, List, [], ◌∷◌, ◌++◌, length, slice_index_or, slice_get, slice_set, Option, Some, None, Result, Ok, Err, ℤ, pos, negsuc, ◌-ℤ◌}
+use Rattle.insn_decode.specs.declared.insn.Insn.{Insn}
+use Rattle.insn_decode.specs.declared.insn.Insn.TheVariants.{Two}
+use Rattle.insn_decode.specs.Code.{words_of as words_in}
+use Rattle.asm_text.specs.declared.placing.Spot.{Spot}
+use Rattle.asm_text.specs.declared.statement.Field.{Field}
+use Rattle.asm_text.specs.declared.statement.Field.TheVariants.{Number, Name}
+use Rattle.asm_text.specs.declared.statement.Statement.{Statement}
+use Rattle.asm_text.specs.declared.statement.Statement.TheVariants.{Section, Label, Global, Word, Jump, Code}
+use Rattle.asm_text.specs.declared.unit.AsmFault.{AsmFault}
+use Rattle.asm_text.specs.declared.unit.AsmFault.TheVariants.{NoLabel, Far}
+use Rattle.asm_text.specs.declared.unit.AsmRelocation.{AsmRelocation}
+use Rattle.asm_text.specs.declared.unit.SectionKind.{SectionKind}
+use Rattle.asm_text.specs.Encoding.{word_bytes, code_bytes}
+use Rattle.asm_text.specs.Parts.{SectionValue}
+use Rattle.asm_text.specs.Placing.{spot_of}
+use Rattle.asm_text.specs.Statements.{size_of}
+
+-- the names of the sections, and of each name where its label stands, and the place of its symbol
+pub record Meanings : Type 0 where
+  pub sections : List (List ℕ)
+  pub spots : List (Option Spot)
+  pub symbols : List (Option ℕ)
+
+-- the sections and the relocations so far
+pub record Emitted : Type 0 where
+  pub sections : List SectionValue
+  pub relocations : List AsmRelocation
+
+abbrev pub nothing : Emitted
+nothing = record { sections = []; relocations = [] }
+
+-- ---- jumps
+
+-- the offset in words of a jump at `here`, and so to `there`, counted from the next word
+abbrev pub reach : ℕ → ℕ → ℤ
+reach here there = if nat_le (here + 2) there then pos ((there - (here + 2)) / 2) else (pos 0 -ℤ pos ((here + 2 - there) / 2))
+
+-- whether ten bits, signed, have the offset
+abbrev pub is_near : ℤ → Bool
+is_near (pos n) = nat_lt n 512
+is_near (negsuc n) = nat_lt n 512
+
+abbrev pub offset_bits : ℤ → ℕ
+offset_bits (pos n) = n
+offset_bits (negsuc n) = 1023 - n
+
+abbrev pub jump_word : ℕ → ℤ → ℕ
+jump_word cond offset = 8192 + cond * 1024 + offset_bits offset
+
+abbrev pub jump_over : ℕ → ℕ → ℤ → Result (List ℕ) AsmFault
+jump_over n cond offset = if is_near offset then Ok (word_bytes (jump_word cond offset)) else Err (Far n offset)
+
+-- the jump of line n, at `here` in a section, to the spot of its name
+abbrev pub jump_bytes : ℕ → ℕ → ℕ → ℕ → Option Spot → Result (List ℕ) AsmFault
+jump_bytes n section here cond None = Err (NoLabel n)
+jump_bytes n section here cond (Some spot) =
+    if spot.section == section then jump_over n cond (reach here spot.offset) else Err (NoLabel n)
+
+-- ---- the bytes of a statement
+
+abbrev pub field_number : Field ℕ → ℕ
+field_number (Number n) = n
+field_number (Name name) = 0
+
+abbrev pub bytes_of : Meanings → ℕ → ℕ → ℕ → Statement ℕ → Result (List ℕ) AsmFault
+bytes_of m n section here (Word field) = Ok (word_bytes (field_number field))
+bytes_of m n section here (Jump cond target) = jump_bytes n section here cond (spot_of m.spots target)
+bytes_of m n section here (Code insn first second) = Ok (code_bytes insn)
+bytes_of m n section here _ = Ok []
+
+-- ---- its relocations
+
+abbrev pub relocation_at : ℕ → ℕ → Option ℕ → List AsmRelocation
+relocation_at section offset None = []
+relocation_at section offset (Some symbol) = (record { section = section; offset = offset; symbol = symbol }) ∷ []
+
+abbrev pub relocation_if : Meanings → ℕ → ℕ → Option ℕ → List AsmRelocation
+relocation_if m section offset None = []
+relocation_if m section offset (Some name) = relocation_at section offset (slice_index_or m.symbols name None)
+
+-- the offset of the word of the second operand, from the start of the instruction
+abbrev pub second_word : Insn → ℕ
+second_word (Two op w s d) = 2 + 2 * words_in s
+second_word _ = 2
+
+abbrev pub relocations_of : Meanings → ℕ → ℕ → Statement ℕ → List AsmRelocation
+relocations_of m section here (Word (Name name)) = relocation_if m section here (Some name)
+relocations_of m section here (Code insn first second) =
+    relocation_if m section (here + 2) first ++ relocation_if m section (here + second_word insn) second
+relocations_of m section here _ = []
+
+-- ---- line by line
+
+abbrev pub grown : SectionValue → ℕ → List ℕ → SectionValue
+grown s size bytes = record { name = s.name; kind = s.kind; size = s.size + size; bytes = s.bytes ++ bytes }
+
+-- a statement in the last section, which is this one
+abbrev pub with_statement : Meanings → Emitted → SectionValue → Statement ℕ → Result (List ℕ) AsmFault → Result Emitted AsmFault
+with_statement m e last s (Err fault) = Err fault
+with_statement m e last s (Ok bytes) = Ok (record {
+  sections = slice_set e.sections (length e.sections - 1) (grown last (size_of s) bytes);
+  relocations = e.relocations ++ relocations_of m (length e.sections - 1) last.size s;
+})
+
+abbrev pub in_last : Meanings → ℕ → Emitted → Option SectionValue → Statement ℕ → Result Emitted AsmFault
+in_last m n e None s = Ok e
+in_last m n e (Some last) s = with_statement m e last s (bytes_of m n (length e.sections - 1) last.size s)
+
+-- the first bytes of a section
+abbrev pub opened : Meanings → ℕ → SectionKind → SectionValue
+opened m name kind = record { name = slice_index_or m.sections name []; kind = kind; size = 0; bytes = [] }
+
+-- line n
+abbrev pub emitted : Meanings → ℕ → Emitted → Statement ℕ → Result Emitted AsmFault
+emitted m n e (Section name kind) = Ok (record { sections = e.sections ++ opened m name kind ∷ []; relocations = e.relocations })
+emitted m n e (Label name) = Ok e
+emitted m n e (Global name) = Ok e
+emitted m n e s = in_last m n e (slice_get e.sections (length e.sections - 1)) s
+
+abbrev pub emitted_next : Result Emitted AsmFault → (Emitted → Result Emitted AsmFault) → Result Emitted AsmFault
+emitted_next (Ok e) rest = rest e
+emitted_next (Err fault) rest = Err fault
+
+abbrev pub emitted_from : Meanings → ℕ → Emitted → List (Statement ℕ) → Result Emitted AsmFault
+emitted_from m n e [] = Ok e
+emitted_from m n e (s ∷ ss) = emitted_next (emitted m n e s) (λ f. emitted_from m (n + 1) f ss)

@@ -1,0 +1,25 @@
+-- What the code's emission stands for.
+use Rattle.std.specs.Prelude.{ℕ, ◌≡◌, ◌+◌, ◌-◌, ◌≤◌, List, length, slice_get, Option, Some, true, All}
+use Rattle.asm_text.specs.declared.TheConstants.{MAX_SIZE}
+use Rattle.asm_text.specs.declared.emission.Meanings.{Meanings as MeaningsKept}
+use Rattle.asm_text.specs.declared.emission.Emission.{Emission}
+use Rattle.asm_text.specs.Emission.{Meanings, Emitted}
+use Rattle.asm_text.specs.Maps.{texts_in}
+use Rattle.asm_text.specs.Parts.{SectionValue, is_name}
+use Rattle.asm_text.specs.Views.{sections_of}
+
+abbrev pub meanings_of : MeaningsKept → Meanings
+meanings_of m = record { sections = texts_in m.sections.now; spots = m.spots.now; symbols = m.symbols.now }
+
+abbrev pub emitted_of : Emission → Emitted
+emitted_of e = record { sections = sections_of e.sections; relocations = e.relocations.items }
+
+abbrev pub last_of : List SectionValue → Option SectionValue
+last_of sections = slice_get sections (length sections - 1)
+
+-- the last section has room for so many bytes
+abbrev pub HasRoom : List SectionValue → ℕ → Type 0
+HasRoom sections size = (last : SectionValue) → last_of sections ≡ Some last → last.size + size ≤ MAX_SIZE
+
+abbrev pub AreNames : List (List ℕ) → Type 0
+AreNames names = All (λ name. is_name name ≡ true) names

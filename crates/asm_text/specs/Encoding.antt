@@ -1,0 +1,112 @@
+-- The words of an instruction (MSP430x1xx Family User's Guide SLAU049, sections 3.3 and 3.4).
+use Rattle.std.specs.Prelude.{ℕ, ◌+◌, ◌*◌, ◌/◌, ◌%◌, ◌==◌, nat_lt, Bool, true, false, not, ◌&&◌, if◌then◌else◌, List, [], ◌∷◌, ◌++◌, slice_index_or, Option, flat_map}
+use Rattle.sm_words.specs.declared.width.Width.{Width}
+use Rattle.sm_words.specs.declared.width.Width.TheVariants.{Byte, Word}
+use Rattle.insn_decode.specs.declared.insn.Operand.{Operand}
+use Rattle.insn_decode.specs.declared.insn.Operand.TheVariants.{Reg, Const, Imm, Indexed, Symbolic, Absolute, Indirect, Increment}
+use Rattle.insn_decode.specs.declared.insn.Insn.{Insn}
+use Rattle.insn_decode.specs.declared.insn.Insn.TheVariants.{Two, One, Jump, Reti, Unit as UnitOp}
+use Rattle.insn_decode.specs.Code.{insn_of, one_fits, is_constant}
+use Rattle.insn_decode.specs.Means.{two_code, one_code}
+
+-- ---- fields of a first word
+
+-- the mode of a source
+abbrev pub source_mode : Operand → ℕ
+source_mode (Reg r) = 0
+source_mode (Const c) = if c == 0 then 0 else (if c == 1 then 1 else (if c == 2 then 2 else (if c == 4 then 2 else 3)))
+source_mode (Imm x) = 3
+source_mode (Indexed r x) = 1
+source_mode (Symbolic x) = 1
+source_mode (Absolute x) = 1
+source_mode (Indirect r) = 2
+source_mode (Increment r) = 3
+
+-- the register that a source's mode goes with: constants are modes of R2 and R3
+abbrev pub source_register : Operand → ℕ
+source_register (Reg r) = r % 16
+source_register (Const c) = if c == 4 then 2 else (if c == 8 then 2 else 3)
+source_register (Imm x) = 0
+source_register (Indexed r x) = r % 16
+source_register (Symbolic x) = 0
+source_register (Absolute x) = 2
+source_register (Indirect r) = r % 16
+source_register (Increment r) = r % 16
+
+-- the mode of a destination
+abbrev pub dest_mode : Operand → ℕ
+dest_mode (Reg r) = 0
+dest_mode _ = 1
+
+abbrev pub byte_flag : Width → ℕ
+byte_flag Byte = 1
+byte_flag Word = 0
+
+-- the first word; it means the instruction where any word does
+unfoldable pub first_word : Insn → ℕ
+first_word (Two op w s d) = two_code op * 4096 + source_register s * 256 + dest_mode d * 128 + byte_flag w * 64 + source_mode s * 16 + source_register d
+first_word (One op w a) = 4096 + one_code op * 128 + byte_flag w * 64 + source_mode a * 16 + source_register a
+first_word (Jump cond offset) = 0
+first_word Reti = 4864
+first_word (UnitOp n) = 4992 + n % 8
+
+-- ---- all words
+
+-- an operand's extension word, if it has one
+abbrev pub extension : Operand → List ℕ
+extension (Imm x) = x ∷ []
+extension (Indexed r x) = x ∷ []
+extension (Symbolic x) = x ∷ []
+extension (Absolute x) = x ∷ []
+extension _ = []
+
+abbrev pub extensions : Insn → List ℕ
+extensions (Two op w s d) = extension s ++ extension d
+extensions (One op w a) = extension a
+extensions _ = []
+
+abbrev pub words_of : Insn → List ℕ
+words_of insn = first_word insn ∷ extensions insn
+
+-- what the words of an instruction mean
+abbrev pub meaning : Insn → Option Insn
+meaning insn = insn_of (first_word insn) (slice_index_or (extensions insn) 0 0) (slice_index_or (extensions insn) 1 0)
+
+-- a word as two bytes, the low one first
+abbrev pub word_bytes : ℕ → List ℕ
+word_bytes w = w % 256 ∷ w / 256 ∷ []
+
+abbrev pub code_bytes : Insn → List ℕ
+code_bytes insn = flat_map word_bytes (words_of insn)
+
+-- ---- which instructions have words
+
+-- R1 and R4 to R15, which have no modes of their own
+abbrev pub is_plain : ℕ → Bool
+is_plain r = nat_lt r 16 && not (r == 0) && not (r == 2) && not (r == 3)
+
+-- R3 as a source is a constant
+abbrev pub is_source : Operand → Bool
+is_source (Reg r) = nat_lt r 16 && not (r == 3)
+is_source (Const c) = is_constant c
+is_source (Imm x) = true
+is_source (Indexed r x) = is_plain r
+is_source (Symbolic x) = true
+is_source (Absolute x) = true
+is_source (Indirect r) = is_plain r
+is_source (Increment r) = is_plain r
+
+abbrev pub is_dest : Operand → Bool
+is_dest (Reg r) = nat_lt r 16
+is_dest (Indexed r x) = is_plain r
+is_dest (Symbolic x) = true
+is_dest (Absolute x) = true
+is_dest _ = false
+
+-- whether the code table has the instruction, jumps aside
+abbrev pub is_coded : Insn → Bool
+is_coded (Two op w s d) = is_source s && is_dest d
+is_coded (One op w a) = is_source a && one_fits op w a
+is_coded (Jump cond offset) = false
+is_coded Reti = true
+is_coded (UnitOp n) = nat_lt n 7

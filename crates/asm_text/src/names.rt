@@ -1,0 +1,68 @@
+//! Names by number.
+
+ghost use Rattle.std.specs.Prelude.{◌≡◌, List, [], ℕ, Some, OnOk, IfOk, bytes_eq, if◌then◌else◌};
+ghost use Rattle.asm_text.specs.Names as spec;
+ghost use Rattle.asm_text.specs.Maps.{entry_of, IsIndexed, texts_of, texts_in};
+
+use std::alloc::{AllocError, Global};
+use std::collections::BTreeMap;
+
+/// Names in the order of their first appearance, which numbers them from 0.
+#[derive(Drop)]
+pub struct Names<'a> {
+    texts: Vec<&'a [u8]>,
+    numbers: BTreeMap<&'a [u8], usize>,
+}
+
+impl<'a> Names<'a> {
+    pub fn new(alloc: Global) -> Self
+        ensures none { texts_of result ≡ [] }
+        ensures indexed { IsIndexed result }
+    {
+        Names {
+            texts: Vec::new(alloc),
+            numbers: BTreeMap::new(alloc),
+        }
+    }
+
+    /// The names by their number.
+    pub fn texts(&self) -> &[&'a [u8]]
+        ensures texts { texts_in result.now ≡ texts_of self.now }
+    {
+        self.texts.as_slice()
+    }
+
+    /// The number of a name, which is noted where it was not there.
+    pub fn number(&mut self, name: &'a [u8]) -> Result<usize, AllocError>
+        requires indexed { IsIndexed self.old }
+        ensures number { IfOk result (λ number. number ≡ spec.place_of (texts_of self.old) name.entry.now) }
+        ensures noted { OnOk result (texts_of self.new ≡ spec.noted (texts_of self.old) name.entry.now) }
+        ensures indexed { OnOk result (IsIndexed self.new) }
+    {
+        if let Some(number) = find(&self.numbers, name) {
+            return Ok(number);
+        }
+        let number = self.texts.len();
+        self.texts.push(name)?;
+        insert(&mut self.numbers, name, number)?;
+        Ok(number)
+    }
+}
+
+fn find<'a>(numbers: &BTreeMap<&'a [u8], usize>, name: &'a [u8]) -> Option<usize>
+    ensures { result ≡ entry_of numbers.now name.now }
+{
+    numbers.get(&name).copied()
+}
+
+// Notes a name that was not there.
+fn insert<'a>(
+    numbers: &mut BTreeMap<&'a [u8], usize>,
+    name: &'a [u8],
+    number: usize,
+) -> Result<(), AllocError>
+    ensures { OnOk result ((q : List ℕ) → entry_of numbers.new q ≡ (if bytes_eq name.entry.now q then Some number else entry_of numbers.old q)) }
+{
+    numbers.insert(name, number)?;
+    Ok(())
+}
