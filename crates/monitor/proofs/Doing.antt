@@ -3,8 +3,9 @@ use Rattle.std.proofs.Common.{◌≡◌, ℕ, zero, suc, ◌+◌, ◌-◌, ◌<�
 use Rattle.std.specs.Io.KnownBytes.{Appends}
 use Rattle.std.specs.Option.{option_map, option_and_then}
 use Rattle.std.proofs.lemmas.Bool.Decides.{nat_tests}
-use Rattle.std.proofs.lemmas.List.{append_assoc, append-nil}
+use Rattle.std.proofs.lemmas.List.{append_assoc, append-nil, at_drop_more}
 use Rattle.std.proofs.lemmas.Option.{slice_get_past}
+use Rattle.std.proofs.Math.ListN.{drop_of_length-le}
 use Rattle.pc_access.specs.declared.Stop.{Stop}
 use Rattle.sm_io.specs.Sink.{Took, CutOff, Puts}
 use Rattle.sm_io.specs.declared.sink.Failed.{Failed}
@@ -44,6 +45,17 @@ last_refused_text addr k g fault text h is = is ∙ sym (ap (λ (m : Move). m.te
 
 pub last_refused_after : (addr k : ℕ) (g new : Marked) (fault : LastFault) → IsLastFault addr k g fault → new ≡ g → new ≡ (last_move addr k g (last_at addr k g)).after
 last_refused_after addr k g new fault h is = is ∙ sym (ap (λ (m : Move). m.after) (last_refused addr k g fault h))
+
+-- the i-th line, and what its cycles leave for the lines after it
+pub line_at : (script items : List ScriptLine) (i : ℕ) (d : ScriptLine) → items ≡ script → i < length items → drop i script ≡ get_or items i d ∷ drop (i + 1) script
+line_at script items i d is h = subst (λ ls. i < length ls → drop i script ≡ get_or ls i d ∷ drop (i + 1) script) (sym is) (λ low. at_drop_more (λ ls. ls) script i d low) h
+
+-- no line is left
+pub none_left : (script items : List ScriptLine) (i : ℕ) → items ≡ script → (i < length items → ⊥) → drop i script ≡ []
+none_left script items i is h = let past : length script ≤ i = omega (arith, ap length is, h) in drop_of_length-le script {i = i} past
+
+pub cycles_left : (script : List ScriptLine) (i : ℕ) (l : ScriptLine) (now most : ℕ) → drop i script ≡ l ∷ drop (i + 1) script → now + all_cycles (drop i script) ≤ most → now + (most_cycles l + all_cycles (drop (i + 1) script)) ≤ most
+cycles_left script i l now most at h = subst (λ ls. now + all_cycles ls ≤ most) at h
 
 module _ {S : Type 0} (taken : S → Option (List ℕ)) (faults sure : S → ℕ) where
   -- ---- moves one after another
@@ -103,6 +115,9 @@ module _ {S : Type 0} (taken : S → Option (List ℕ)) (faults sure : S → ℕ
         bytes = u.front.1;
         cut = cut_same taken faults sure before after m.text (m.text ++ []) (sym (append-nil m.text)) u;
       }
+
+  pub does_line : (line : ScriptLine) (old new : Marked) (before after : S) (m : Move) (text : List ℕ) (r : Result (Unit {0}) Failed) → line_moves old line ≡ m ∷ [] → text ≡ m.text → new ≡ m.after → Puts taken faults sure before after text r → Does taken faults sure old new before after (line_moves old line) r
+  does_line line old new before after m text r one e is t = subst (λ ms. Does taken faults sure old new before after ms r) (sym one) (does_one old new before after m text r e is t)
 
   -- ---- cycles
   pub cycles_done : (n : ℕ) (old new : Marked) (before after : S) → RanWhole taken faults sure n old.present new.present before after → new ≡ at_state old new.present → Whole taken faults sure old new before after (cycle_moves old n)
