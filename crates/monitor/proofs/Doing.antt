@@ -1,6 +1,5 @@
 -- What is done and put, one move after another.
-use Rattle.std.proofs.Common.{◌≡◌, ℕ, zero, suc, ◌+◌, ◌-◌, ◌<◌, ◌≤◌, Bool, true, false, cond, nat_lt, List, [], ◌∷◌, ◌++◌, length, take, drop, get_or, Option, Some, None, Result, Ok, Err, refl, sym, ◌∙◌, ap, subst, arith}
-use Rattle.std.specs.Io.KnownBytes.{Appends}
+use Rattle.std.proofs.Common.{◌≡◌, ℕ, suc, ◌+◌, ◌-◌, ◌<◌, ◌≤◌, true, false, cond, nat_lt, List, [], ◌∷◌, ◌++◌, length, take, drop, get_or, Option, Some, None, Result, Ok, Err, refl, sym, ◌∙◌, ap, subst, arith}
 use Rattle.std.specs.Option.{option_map, option_and_then}
 use Rattle.std.proofs.lemmas.Bool.Decides.{nat_tests}
 use Rattle.std.proofs.lemmas.List.{append_assoc, append-nil, at_drop_more}
@@ -9,26 +8,25 @@ use Rattle.std.proofs.Math.ListN.{drop_of_length-le}
 use Rattle.pc_access.specs.declared.Stop.{Stop}
 use Rattle.sm_io.specs.Sink.{Took, CutOff, Puts}
 use Rattle.sm_io.specs.declared.sink.Failed.{Failed}
-use Rattle.sm_io.proofs.Putting.{appends_nothing, appends_then, appends_same, took_nothing, took_then, took_same, cut_later, cut_first, cut_same}
+use Rattle.sm_io.proofs.Putting.{appends_then, appends_same, took_nothing, took_then, took_same, cut_later, cut_first, cut_same}
 use Rattle.isolation.proofs.Moves.{led_append, text_append, led_cycles, text_cycles, cycles_split}
 use Rattle.isolation.specs.Laws.{SamePlays}
-use Rattle.written_machine.specs.Cycle.{cycle, after_cycles}
-use Rattle.written_machine.specs.Marks.{Marked, unmarked, at_state, cut_at, last_from, last_at}
+use Rattle.written_machine.specs.Cycle.{after_cycles}
+use Rattle.written_machine.specs.Marks.{Marked, at_state, cut_at, last_from, last_at}
 use Rattle.written_machine.specs.Script.{Move, shown, cycle_move, cycle_moves, line_moves, last_move, not_there_text, no_mark_text, led, moves, text_of, play}
-use Rattle.written_machine.specs.State.{State}
 use Rattle.written_machine.specs.Trace.{end_line_of, lines_after}
-use Rattle.written_machine.specs.View.{boot}
 use Rattle.written_machine.specs.declared.ScriptLine.{ScriptLine}
 use Rattle.board.specs.Alike.{TookLines}
 use Rattle.board.specs.Faults.{IsLastFault}
 use Rattle.board.specs.declared.marks.LastFault.{LastFault}
 use Rattle.board.specs.declared.marks.LastFault.TheVariants as fault
 use Rattle.monitor.specs.Shown.{fault_text}
-use Rattle.board.specs.Ran.{lines_now, ran_of, RanWhole, RanCutOff}
+use Rattle.board.specs.Ran.{ran_of, RanWhole, RanCutOff}
 use Rattle.board.specs.declared.Ran.{Ran}
 use Rattle.board.specs.declared.Ran.TheVariants as ran
 use Rattle.board.proofs.Runs.{state_more}
-use Rattle.monitor.specs.Played.{most_cycles, all_cycles, Whole, CutShort, Does, Plays, PeersPlay}
+use Rattle.monitor.specs.Bounds.{most_cycles, all_cycles}
+use Rattle.monitor.specs.Played.{Whole, CutShort, Does, Plays, PeersPlay}
 
 -- what is told of a fault of `last`
 last_refused : (addr k : ℕ) (g : Marked) (fault : LastFault) → IsLastFault addr k g fault → last_move addr k g (last_at addr k g) ≡ shown (fault_text fault) g

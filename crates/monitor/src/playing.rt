@@ -5,8 +5,8 @@ ghost use Rattle.board.specs.Ran.{ran_of};
 ghost use Rattle.sm_io.specs.Sink.{Puts};
 ghost use Rattle.written_machine.specs.Script.{cycle_moves, line_moves};
 ghost use Rattle.written_machine.specs.Standing.{cycles_until};
-ghost use Rattle.monitor.specs.Bounds.{IsBounded};
-ghost use Rattle.monitor.specs.Played.{Does, Plays, PeersPlay, most_cycles, all_cycles};
+ghost use Rattle.monitor.specs.Bounds.{IsBounded, most_cycles, all_cycles};
+ghost use Rattle.monitor.specs.Played.{Does, Plays, PeersPlay};
 
 use crate::commands::{back, last, mark};
 use crate::showing::{Line, mem_line, regs_line};
@@ -83,12 +83,7 @@ fn go<S: Sink>(board: &mut Board, cycles: u64, sink: &mut S) -> Result<(), Faile
 }
 
 // Cycles until it stands at an address, at most so many.
-fn go_until<S: Sink>(
-    board: &mut Board,
-    addr: u16,
-    most: u64,
-    sink: &mut S,
-) -> Result<(), Failed>
+fn go_until<S: Sink>(board: &mut Board, addr: u16, most: u64, sink: &mut S) -> Result<(), Failed>
     requires { board.old.present.cycle + most ≤ 2 ^ 62 }
     ensures done { Does S.taken S.faults S.sure board.old board.new sink.old sink.new (cycle_moves board.old (cycles_until addr board.old.present most)) result }
     ensures number { board.new.present.cycle ≤ board.old.present.cycle + most }

@@ -1,4 +1,4 @@
-use Rattle.std.proofs.Common.{◌≡◌, ◌+◌, ◌<◌, ◌≤◌, ◌^◌, List, [], length, drop, get_or, sym, ◌∙◌, ap, subst, arith}
+use Rattle.std.proofs.Common.{◌≤◌, ◌^◌, length, get_or, ap, arith}
 use Rattle.std.proofs.Math.ListN.{drop_of_length-le}
 use Rattle.written_machine.specs.declared.ScriptLine.TheVariants.{Go}
 use Rattle.board.specs.declared.Ran.TheVariants.{SinkFailed}

@@ -1,4 +1,4 @@
-use Rattle.std.proofs.Common.{◌≡◌, ◌∙◌, ap, refl}
+use Rattle.std.proofs.Common.{◌∙◌, ap, refl}
 use Rattle.board.specs.Shown.{Shown}
 use Rattle.written_machine.specs.Marks.{marked, back_to, last_at}
 use Rattle.written_machine.specs.Script.{shown, regs_text, mem_text, mark_move, back_move, last_move, line_moves}
