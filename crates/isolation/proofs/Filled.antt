@@ -42,7 +42,7 @@ pub record Filled (mem : List ℕ) : Type 0 where
   pub full : length mem ≡ 65536
   pub bytes : (a : ℕ) → get_or mem a 0 < 256
 
-abbrev Kept : State → State → Type 0
+abbrev pub Kept : State → State → Type 0
 Kept s t = Filled s.memory → Filled t.memory
 
 set_byte : (mem : List ℕ) (a v x : ℕ) (c : Bool) → (x == a) ≡ c → v < 256 → get_or mem x 0 < 256 → get_or (set mem a v) x 0 < 256
@@ -143,7 +143,7 @@ enter_at_filled Open a left s h = h
 enter_at_filled (Text id) a left s h = h
 enter_at_filled (Data id) a left s h = h
 
-enter_filled : (left : ℕ) (s : State) → Kept s (enter left s).state
+pub enter_filled : (left : ℕ) (s : State) → Kept s (enter left s).state
 unfolding enter
 enter_filled left s h = enter_at_filled (place_of s.table (pc_of s)) s.active left s h
 
@@ -215,11 +215,11 @@ settle_in_filled (Run zero) s h = settle_by_filled s.after s h
 settle_in_filled (Run (suc r)) s h = h
 settle_in_filled (Pad n) s h = h
 
-settle_filled : (s : State) → Kept s (settle s).state
+pub settle_filled : (s : State) → Kept s (settle s).state
 unfolding settle
 settle_filled s h = settle_in_filled s.phase s h
 
-ticked_filled : (s : State) → Kept s (ticked s)
+pub ticked_filled : (s : State) → Kept s (ticked s)
 unfolding ticked
 ticked_filled s h = h
 

@@ -71,7 +71,7 @@ with_core : (s t : State) → Fine s → IsCore t.core → t.frames ≡ s.frames
 with_core s t f c e a b =
     record { core_ok = c; frames_ok = subst (Each FineFrame) (sym e) f.frames_ok; active_small = subst Small (sym a) f.active_small; table_ok = subst IsTable (sym b) f.table_ok; given_small = subst (λ (u : Table). u.given < 65536) (sym b) f.given_small }
 
-ticked_fine : (s : State) → Fine s → Fine (ticked s)
+pub ticked_fine : (s : State) → Fine s → Fine (ticked s)
 unfolding ticked
 ticked_fine s f = with_core s (ticked s) f f.core_ok refl refl refl
 
@@ -132,7 +132,7 @@ unfolding arrive_outside
 outside_fine v s f = push_fine (first_denied s.table None (held_ids s.frames) (pushes s)) v s f
 
 -- ---- instructions
-abbrev TableFine : Table → Type 0
+abbrev pub TableFine : Table → Type 0
 TableFine t = IsTable t × (t.given < 65536)
 
 protect_fine : (t : Table) (vendor : ℕ) (text ram : Section) (c : Bool) → takes t text ram ≡ c → TableFine t → TableFine (cond c (with_module t vendor text ram) t)
@@ -148,7 +148,7 @@ unit_table_fine IdOf t core h = h
 unit_table_fine OwnId t core h = h
 unit_table_fine CallerId t core h = h
 
-table_fine : (insn : Insn) (t : Table) (core : List ℕ) → TableFine t → TableFine (table_after t insn core)
+pub table_fine : (insn : Insn) (t : Table) (core : List ℕ) → TableFine t → TableFine (table_after t insn core)
 unfolding table_after
 table_fine (UnitOp n) t core h = unit_table_fine (unit_named n) t core h
 table_fine (Two op w a b) t core h = h
@@ -228,7 +228,7 @@ enter_by_fine Open o left s f g = f
 enter_by_fine (Text id) o left s f g = f
 enter_by_fine (Data id) o left s f g = f
 
-enter_fine : (left : ℕ) (s : State) → Fine s → Fine (enter left s).state
+pub enter_fine : (left : ℕ) (s : State) → Fine s → Fine (enter left s).state
 unfolding enter place_of
 enter_fine left s f = enter_by_fine (place_of s.table (pc_of s)) s.active left s f (λ id e. let k = entry_known s.table.given id s.table.modules (pc_of s) f.table_ok.modules e in let g = f.given_small in omega arith)
 

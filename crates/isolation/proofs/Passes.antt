@@ -33,7 +33,7 @@ counts_sent true true d = refl
 counts_sent true false d = refl
 counts_sent false q d = refl
 
-ticked_sent : (d : Devices) (k : ℕ) → (ticked_devices d k).sent ≡ None
+pub ticked_sent : (d : Devices) (k : ℕ) → (ticked_devices d k).sent ≡ None
 unfolding ticked_devices
 ticked_sent d k =
     let e = scheduled d.schedule k (record d { sent = None }) in

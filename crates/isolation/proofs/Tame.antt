@@ -401,7 +401,7 @@ pub key_at : (a : Image) (schedule : List Scheduled) (k : ℕ) → (at a schedul
 key_at a schedule zero = refl
 key_at a schedule (suc k) = cycle_key (at a schedule k).stop (at a schedule k) ∙ key_at a schedule k
 
-ticked_same : (s : State) → (ticked s).cycle ≡ s.cycle
+pub ticked_same : (s : State) → (ticked s).cycle ≡ s.cycle
 unfolding ticked
 ticked_same s = refl
 

@@ -116,8 +116,52 @@ pub fn verdicts() -> [Line; 11] {
     ]
 }
 
+/// Calls of modules by themselves.
+pub fn alone() -> [Line; 13] {
+    [
+        answer(
+            "lone balanced.img 1 100",
+            "exit 18 0214 0000 0000 0000 0000 0000 0000 0000 0000 0000 0000 0000 0000 0000 0000 0000\n",
+        ),
+        answer(
+            "lone balanced.img 1 18",
+            "exit 18 0214 0000 0000 0000 0000 0000 0000 0000 0000 0000 0000 0000 0000 0000 0000 0000\n",
+        ),
+        answer("lone balanced.img 1 17", "running 17\n"),
+        answer(
+            "lone closing.img 1 100",
+            "closed 38 0302 0000 0000 0000 0000 0000 0000 0000 0000 0000 0000 0000 0000 0000 0000 0000\n",
+        ),
+        answer(
+            "lone closing.img 1 38",
+            "closed 38 0302 0000 0000 0000 0000 0000 0000 0000 0000 0000 0000 0000 0000 0000 0000 0000\n",
+        ),
+        answer("lone closing.img 1 37", "running 37\n"),
+        answer("lone asking.img 1 2", "broken 1\n"),
+        answer("lone asking.img 1 1", "running 1\n"),
+        answer("lone back.img 1 0", "running 0\n"),
+        answer(
+            "lone back.img 1 10 r7=0208",
+            "exit 2 0208 0000 0000 0000 0000 0000 0000 0208 0000 0000 0000 0000 0000 0000 0000 0000\n",
+        ),
+        // A register keeps what it can hold.
+        answer(
+            "lone back.img 1 10 r7=0208 r15=ffff r1=0601 r2=fe00",
+            "exit 2 0208 0600 0000 0000 0000 0000 0000 0208 0000 0000 0000 0000 0000 0000 0000 ffff\n",
+        ),
+        fault(
+            "lone back.img 2 10",
+            "sancus: bad file back.img: NoModule 2\n",
+        ),
+        fault(
+            "lone a.img 1 10 r4=0000 r5=0000 r6=0000 r7=0000 r8=0000 r9=0000 r10=0000 r11=0000",
+            "sancus: bad file a.img: Absent\n",
+        ),
+    ]
+}
+
 /// Words that are no command.
-pub fn no_commands() -> [Line; 24] {
+pub fn no_commands() -> [Line; 45] {
     [
         usage(""),
         usage("--"),
@@ -141,6 +185,27 @@ pub fn no_commands() -> [Line; 24] {
         usage("dis constant.img 0208 0206"),
         usage("dis constant.img 200 0208"),
         usage("dis constant.img 0200 020A"),
+        usage("link"),
+        usage("link a.toml"),
+        usage("link -x a.o"),
+        usage("run a.toml - 60"),
+        usage("run a.toml - 060 a.o"),
+        usage("run a.toml - 1000000001 a.o"),
+        usage("run a.toml - - a.o"),
+        usage("runs a.toml - 60 a.o"),
+        usage("lone back.img 1"),
+        usage("lone back.img 0 10"),
+        usage("lone back.img 1 1000000001"),
+        usage("lone back.img 1 10 r0=0000"),
+        usage("lone back.img 1 10 r3=0000"),
+        usage("lone back.img 1 10 r16=0000"),
+        usage("lone back.img 1 10 r07=0208"),
+        usage("lone back.img 1 10 R7=0208"),
+        usage("lone back.img 1 10 r7=208"),
+        usage("lone back.img 1 10 r7=020A"),
+        usage("lone back.img 1 10 r7:0208"),
+        usage("lone back.img 1 10 r7=0208 r7=0208"),
+        usage("lone back.img 1 10 =0208"),
         usage("image called.img -"),
         usage("image called.img - -- 1 1"),
     ]

@@ -94,6 +94,19 @@ pub const BLIND: Picture = Picture {
     ..CALLED
 };
 
+/// The same with a module that asks for the id of an address.
+pub const ASKING: Picture = Picture {
+    first: &[0x4303, 0x1384, 0x4700],
+    ..CALLED
+};
+
+/// The same with a module that gives itself up.
+pub const CLOSING: Picture = Picture {
+    modules: &[[0x0300, 0x0304, 0x0400, 0x0440]],
+    first: &[0x1380, 0x4700],
+    ..CALLED
+};
+
 impl Picture {
     /// The image's text.
     pub fn text(&self, alloc: Global) -> Result<String, Fail> {

@@ -10,6 +10,12 @@ mod images;
 #[cfg(test)]
 mod interrupted;
 #[cfg(test)]
+mod linked;
+#[cfg(test)]
+mod objects;
+#[cfg(test)]
 mod outside;
+#[cfg(test)]
+mod stock;
 #[cfg(test)]
 mod tests;

@@ -1,7 +1,9 @@
 //! Each run as one call of `serve`, over files and sinks in memory.
 
-use crate::commands::{Line, answers, no_commands, verdicts};
-use crate::images::{BACK, BALANCED, BLIND, CALLED, CONSTANT, Picture, UNBALANCED};
+use crate::commands::{Line, alone, answers, no_commands, verdicts};
+use crate::images::{
+    ASKING, BACK, BALANCED, BLIND, CALLED, CLOSING, CONSTANT, Picture, UNBALANCED,
+};
 use crate::interrupted::{handlers, nested, pulses};
 use crate::outside::{Run, calls, outside_interrupts, plain_runs, refusals};
 use board::{Board, Ran};
@@ -320,6 +322,8 @@ fn assert_lines(rt: &impl Abort, alloc: Global, lines: &[Line]) -> Result<(), Fa
     let balanced = BALANCED.text(alloc)?;
     let unbalanced = UNBALANCED.text(alloc)?;
     let blind = BLIND.text(alloc)?;
+    let asking = ASKING.text(alloc)?;
+    let closing = CLOSING.text(alloc)?;
     for line in lines {
         let mut files = MemFiles::new(alloc);
         files.put_file("called.img", called.as_bytes())?;
@@ -328,6 +332,8 @@ fn assert_lines(rt: &impl Abort, alloc: Global, lines: &[Line]) -> Result<(), Fa
         files.put_file("balanced.img", balanced.as_bytes())?;
         files.put_file("unbalanced.img", unbalanced.as_bytes())?;
         files.put_file("blind.img", blind.as_bytes())?;
+        files.put_file("asking.img", asking.as_bytes())?;
+        files.put_file("closing.img", closing.as_bytes())?;
         files.put_file("at_6.txt", b"0304 0318 6\n")?;
         files.put_file("at_7.txt", b"0304 0318 7\n")?;
         files.put_file("later.txt", b"0304 031a 7\n")?;
@@ -352,6 +358,7 @@ fn assert_lines(rt: &impl Abort, alloc: Global, lines: &[Line]) -> Result<(), Fa
 fn command_lines(rt: HostRuntime) -> Result<(), Fail> {
     assert_lines(&rt, rt.alloc(), &answers())?;
     assert_lines(&rt, rt.alloc(), &verdicts())?;
+    assert_lines(&rt, rt.alloc(), &alone())?;
     assert_lines(&rt, rt.alloc(), &no_commands())
 }
 

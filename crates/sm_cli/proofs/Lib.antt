@@ -2,7 +2,10 @@ pub mod Checking
 pub mod Clap
 pub mod Listing
 pub mod Needed
+pub mod Objects
+pub mod OneContent
 pub mod OneValue
 pub mod OneVerdict
 pub mod Running
 pub mod Serving
+pub mod Symbols

@@ -1,11 +1,25 @@
 -- The answers of commands.
-use Rattle.std.proofs.Common.{ℕ, List, [], ◌∷◌, Option, Some, None, refl, sym, ap}
+use Rattle.std.proofs.Common.{◌≡◌, false, ℕ, List, [], ◌∷◌, ◌++◌, map, Option, Some, None, inl, inr, refl, sym, ◌∙◌, ap, ap₂, subst}
+use Rattle.sm_io.specs.Faults.{HasCause}
 use Rattle.sm_io.specs.Files.{FileMap}
 use Rattle.image_text.specs.Image.{Image}
 use Rattle.schedule_file.specs.declared.Entry.{Entry}
-use Rattle.sm_cli.specs.Files.{image_file, need, an_image, a_schedule, Holds, IsScheduleOf}
-use Rattle.sm_cli.specs.Command.{Command, Answer, gives, Comes, IsAnswer}
+use Rattle.sm_cli.specs.Files.{image_file, need, an_image, a_schedule, Holds, IsScheduleOf, schedule_file, layout_file, Need, schedule_needs, object_needs, Held, a_layout, an_object, HoldAll}
+use Rattle.sm_cli.specs.Command.{Command, Answer, gives, Comes, IsAnswer, Outcome, refuses}
+use Rattle.layout_file.specs.Values.{LayoutValue}
+use Rattle.elf_objects.specs.Object.{ObjectValue}
+use Rattle.linker.specs.declared.fault.LinkFault.{LinkFault}
+use Rattle.mod_layout.specs.Table.{Table}
+use Rattle.linker.specs.Image.{linked_memory, linked_table, Links}
+use Rattle.linker.specs.Refusals.{link_fault_of}
+use Rattle.sm_cli.specs.declared.answers.Refusal.{Refusal}
+use Rattle.sm_cli.specs.declared.answers.Refusal.TheVariants as refusal
 use Rattle.sm_cli.specs.ImageCommand.{image_command, trace_answer}
+use Rattle.sm_cli.specs.LinkCommand.{link_command, objects_in, linked, linked_by, linked_image, text_answer}
+use Rattle.sm_cli.specs.RunCommand.{run_command}
+use Rattle.sm_cli.specs.Serve.{IsNeedCause, IsCommandCause}
+use Rattle.sm_cli.specs.SymbolNames.{symbol_name}
+use Rattle.sm_cli.specs.Unlinked.{IsUnlinked}
 
 -- what a command gives is its answer
 pub gives_answer : (files : Option FileMap) (command : Command) (answer : Answer) → Comes files command (gives answer) → IsAnswer files command answer
@@ -18,3 +32,107 @@ image_answer files name None cycles value entries h s =
     gives_answer files (image_command name None cycles) (trace_answer value entries cycles) (record { helds = an_image value ∷ []; hold = (h, tt); is = ap (λ es. gives (trace_answer value es cycles)) (sym s) })
 image_answer files name (Some own) cycles value entries h s =
     gives_answer files (image_command name (Some own) cycles) (trace_answer value entries cycles) (record { helds = an_image value ∷ a_schedule entries ∷ []; hold = (h, (s, tt)); is = refl })
+
+-- Objects
+
+pub objects_of_helds : (objects : List ObjectValue) → objects_in (map an_object objects) ≡ objects
+objects_of_helds [] = refl
+objects_of_helds (object ∷ more) = ap (λ (l : List ObjectValue). object ∷ l) (objects_of_helds more)
+
+module _ (layout : LayoutValue) (objects : List ObjectValue) (answer : Image → Answer) where
+  -- objects that link give an answer by their image
+  pub linked_gives : link_fault_of layout objects ≡ None → linked layout (objects_in (map an_object objects)) answer ≡ gives (answer (linked_image layout objects))
+  linked_gives e = ap (λ (l : List ObjectValue). linked layout l answer) (objects_of_helds objects) ∙ ap (linked_by layout objects answer) e
+
+  -- and others a refusal
+  pub linked_refuses : (fault : LinkFault) → link_fault_of layout objects ≡ Some fault → linked layout (objects_in (map an_object objects)) answer ≡ refuses fault (symbol_name layout objects fault)
+  linked_refuses fault e = ap (λ (l : List ObjectValue). linked layout l answer) (objects_of_helds objects) ∙ ap (linked_by layout objects answer) e
+
+module _ (files : Option FileMap) (name : List ℕ) (names : List (List ℕ)) (layout : LayoutValue) (objects : List ObjectValue) where
+  -- what comes of a layout and objects
+  pub link_comes : (outcome : Outcome) → Holds files (need name layout_file) (a_layout layout) → HoldAll files (object_needs names) (map an_object objects)
+      → linked layout (objects_in (map an_object objects)) text_answer ≡ outcome → Comes files (link_command name names) outcome
+  link_comes outcome h hs e = record { helds = a_layout layout ∷ map an_object objects; hold = (h, hs); is = e }
+
+  -- the text of the image that objects link to
+  pub link_answer : Holds files (need name layout_file) (a_layout layout) → HoldAll files (object_needs names) (map an_object objects) → link_fault_of layout objects ≡ None
+      → IsAnswer files (link_command name names) (text_answer (linked_image layout objects))
+  link_answer h hs e = gives_answer files (link_command name names) (text_answer (linked_image layout objects)) (link_comes (gives (text_answer (linked_image layout objects))) h hs (linked_gives layout objects text_answer e))
+
+  -- what comes of a layout, a schedule and objects
+  pub run_comes : (schedule : Option (List ℕ)) (cycles : ℕ) (entries : List Entry) (outcome : Outcome) → Holds files (need name layout_file) (a_layout layout) → IsScheduleOf files schedule entries
+      → HoldAll files (object_needs names) (map an_object objects) → linked layout (objects_in (map an_object objects)) (λ image. trace_answer image entries cycles) ≡ outcome
+      → Comes files (run_command name schedule cycles names) outcome
+  run_comes None cycles entries outcome h s hs e =
+      record { helds = a_layout layout ∷ map an_object objects; hold = (h, hs); is = ap (λ (es : List Entry). linked layout (objects_in (map an_object objects)) (λ image. trace_answer image es cycles)) (sym s) ∙ e }
+  run_comes (Some own) cycles entries outcome h s hs e = record { helds = a_layout layout ∷ (a_schedule entries ∷ map an_object objects); hold = (h, (s, hs)); is = e }
+
+  -- the trace of the image that objects link to
+  pub run_answer : (schedule : Option (List ℕ)) (cycles : ℕ) (entries : List Entry) → Holds files (need name layout_file) (a_layout layout) → IsScheduleOf files schedule entries
+      → HoldAll files (object_needs names) (map an_object objects) → link_fault_of layout objects ≡ None
+      → IsAnswer files (run_command name schedule cycles names) (trace_answer (linked_image layout objects) entries cycles)
+  run_answer schedule cycles entries h s hs e =
+      let told = trace_answer (linked_image layout objects) entries cycles in
+      gives_answer files (run_command name schedule cycles names) told (run_comes schedule cycles entries (gives told) h s hs (linked_gives layout objects (λ image. trace_answer image entries cycles) e))
+
+-- an image that objects link to is theirs
+pub links_image : (layout : LayoutValue) (objects : List ObjectValue) (image : Image) → Links layout objects image → image ≡ linked_image layout objects
+unfolding linked_image
+links_image layout objects image h =
+    let made : List ℕ → Table → List ℕ → ℕ → Image = λ m t k s. record { memory = m; table = t; node_key = k; handler_sp = s } in
+    ap₂ (λ (m : List ℕ) (t : Table). made m t image.node_key image.handler_sp) h.memory h.table ∙ ap₂ (made (linked_memory layout objects) (linked_table layout objects)) h.key h.handler
+
+-- Refusals
+
+module _ (files : Option FileMap) (before after : ℕ) (refused : Refusal) (told : List ℕ) where
+  -- a refusal of the first file
+  pub cause_first : (wanted : Need) (more : List Need) → IsNeedCause files before after (wanted ∷ []) refused told → IsNeedCause files before after (wanted ∷ more) refused told
+  cause_first wanted more k = by refused k
+    where
+      by : (r : Refusal) → IsNeedCause files before after (wanted ∷ []) r told → IsNeedCause files before after (wanted ∷ more) r told
+      by refusal.Usage h = h
+      by (refusal.BadFile f) (inl h, quiet) = (inl h, quiet)
+      by (refusal.BadFile f) (inr h, quiet) = absurd h.1
+      by refusal.CannotRead (inl h, rose) = (inl h, rose)
+      by refusal.CannotRead (inr h, rose) = absurd h.1
+      by (refusal.Link f) h = h
+      by refusal.NoMemory h = h
+
+  -- a refusal behind a file that serves
+  pub cause_next : (wanted : Need) (held : Held) (more : List Need) → Holds files wanted held → IsNeedCause files before after more refused told → IsNeedCause files before after (wanted ∷ more) refused told
+  cause_next wanted held more h k = by refused k
+    where
+      by : (r : Refusal) → IsNeedCause files before after more r told → IsNeedCause files before after (wanted ∷ more) r told
+      by refusal.Usage x = x
+      by (refusal.BadFile f) x = (inr ((held, h), x.0), x.1)
+      by refusal.CannotRead x = (inr ((held, h), x.0), x.1)
+      by (refusal.Link f) x = x
+      by refusal.NoMemory x = x
+
+  -- a refusal of a schedule's file, and one behind it
+  pub cause_schedule : (schedule : Option (List ℕ)) (more : List Need) → IsNeedCause files before after (schedule_needs schedule) refused told → IsNeedCause files before after (schedule_needs schedule ++ more) refused told
+  cause_schedule None more k = by refused k
+    where
+      by : (r : Refusal) → IsNeedCause files before after [] r told → IsNeedCause files before after more r told
+      by refusal.Usage h = h
+      by (refusal.BadFile f) h = absurd h.0
+      by refusal.CannotRead h = absurd h.0
+      by (refusal.Link f) h = h
+      by refusal.NoMemory h = h
+  cause_schedule (Some name) more k = cause_first (need name schedule_file) more k
+
+  pub cause_scheduled : (schedule : Option (List ℕ)) (entries : List Entry) (more : List Need) → IsScheduleOf files schedule entries → IsNeedCause files before after more refused told → IsNeedCause files before after (schedule_needs schedule ++ more) refused told
+  cause_scheduled None entries more s k = k
+  cause_scheduled (Some name) entries more s k = cause_next (need name schedule_file) (a_schedule entries) more s k
+
+  -- a refusal to link
+  pub cause_unlinked : (command : Command) (layout : LayoutValue) (objects : List ObjectValue) → ((fault : LinkFault) → link_fault_of layout objects ≡ Some fault → Comes files command (refuses fault (symbol_name layout objects fault)))
+      → HasCause before after false → IsUnlinked layout objects refused told → IsCommandCause files before after command refused told
+  cause_unlinked command layout objects comes quiet u = by refused u
+    where
+      by : (r : Refusal) → IsUnlinked layout objects r told → IsCommandCause files before after command r told
+      by refusal.Usage h = absurd h
+      by (refusal.BadFile f) h = absurd h
+      by refusal.CannotRead h = absurd h
+      by (refusal.Link f) h = (subst (λ n. Comes files command (refuses f n)) (sym h.1) (comes f h.0), quiet)
+      by refusal.NoMemory h = quiet

@@ -6,20 +6,22 @@ use Rattle.sm_io.specs.Sink.{Took, CutOff}
 use Rattle.image_text.specs.Image.{Image}
 use Rattle.image_text.specs.ImageText.{image_text}
 use Rattle.schedule_file.specs.declared.Entry.{Entry}
+use Rattle.linker.specs.declared.fault.LinkFault.{LinkFault}
 use Rattle.sm_cli.specs.declared.answers.FileFault.{FileFault}
 use Rattle.sm_cli.specs.declared.answers.Refusal.{Refusal}
 use Rattle.sm_cli.specs.declared.answers.Refusal.TheVariants as refusal
 use Rattle.sm_cli.specs.declared.answers.Status.{Status}
 use Rattle.sm_cli.specs.declared.answers.Status.TheVariants as status
-use Rattle.sm_cli.specs.Files.{Need, IsFirstFault}
-use Rattle.sm_cli.specs.Command.{Command, Answer, IsAnswer}
+use Rattle.sm_cli.specs.Files.{IsFirstFault}
+use Rattle.sm_cli.specs.Command.{Command, Answer, Outcome, refuses, Comes, IsAnswer}
 use Rattle.sm_cli.specs.CommandLine.{command_of}
 use Rattle.sm_cli.specs.ImageCommand.{image_command, trace_answer}
 use Rattle.sm_cli.specs.Input.{IsInput}
+use Rattle.sm_cli.specs.RunCommand.{run_command}
 use Rattle.sm_cli.specs.Refusal.{is_read_fault, status_of, line_of}
-use Rattle.sm_cli.specs.Serve.{Call, call_of, Serves, Refuses, IsCause, IsNeedCause, IsRun, EndsAs, Completes, IsOrOutside}
-use Rattle.sm_cli.proofs.Needed.{one_answer, no_fault_of_answer}
-use Rattle.sm_cli.proofs.Running.{image_answer}
+use Rattle.sm_cli.specs.Serve.{Call, call_of, Serves, Refuses, IsCause, IsNeedCause, IsRun, EndsAs, Completes, IsOrOutside, IsCommandCause}
+use Rattle.sm_cli.proofs.Needed.{one_answer, no_first_fault, no_fault_of_answer, no_refusal_of_answer}
+use Rattle.sm_cli.proofs.Running.{image_answer, run_answer}
 
 -- Commands and inputs
 
@@ -31,9 +33,30 @@ one_command words own other c d = let same : Some own ≡ Some other = c ∙ d i
 pub answer_here : (files : Option FileMap) (map : FileMap) (own other : Command) (answer : Answer) → files ≡ Some map → own ≡ other → IsAnswer files own answer → IsAnswer (Some map) other answer
 answer_here files map own other answer told same a = subst (λ c. IsAnswer (Some map) c answer) same (subst (λ o. IsAnswer o own answer) told a)
 
--- the answer of an input
-pub input_answer : (words : List (List ℕ)) (files : Option FileMap) (value : Image) (entries : List Entry) (cycles : ℕ) (i : IsInput words files value entries cycles) → IsAnswer (Some i.map) (image_command i.name i.schedule cycles) (trace_answer value entries cycles)
-input_answer words files value entries cycles i = image_answer (Some i.map) i.name i.schedule cycles value entries (record { bytes = image_text value; file = i.file; short = i.short; is = record { image = i.image; text = refl } }) i.entries_are
+-- what an input is: files that are told, and a command of theirs with this answer
+pub record InputOf (words : List (List ℕ)) (files : Option FileMap) (answer : Answer) : Type 0 where
+  pub map : FileMap
+  pub command : Command
+  pub told : files ≡ Some map
+  pub asked : command_of words ≡ Some command
+  pub served : IsAnswer (Some map) command answer
+
+pub input_answer : (words : List (List ℕ)) (files : Option FileMap) (value : Image) (entries : List Entry) (cycles : ℕ) → IsInput words files value entries cycles → InputOf words files (trace_answer value entries cycles)
+input_answer words files value entries cycles (inl i) = record {
+  map = i.files_map;
+  command = image_command i.name i.schedule cycles;
+  told = i.told;
+  asked = i.command;
+  served = image_answer (Some i.files_map) i.name i.schedule cycles value entries (record { bytes = image_text value; file = i.file; short = i.short; is = record { image = i.image; text = refl } }) i.entries_are;
+}
+input_answer words files value entries cycles (inr i) = record {
+  map = i.files_map;
+  command = run_command i.layout_name i.schedule cycles i.object_names;
+  told = i.told;
+  asked = i.command;
+  served = subst (λ v. IsAnswer (Some i.files_map) (run_command i.layout_name i.schedule cycles i.object_names) (trace_answer v entries cycles)) (sym i.image)
+      (run_answer (Some i.files_map) i.layout_name i.object_names i.layout i.objects i.schedule cycles entries i.layout_is i.entries_are i.objects_are i.links);
+}
 
 -- A run that was put, whole or in part
 
@@ -62,6 +85,11 @@ module _ (words : List (List ℕ)) (files : Option FileMap) (before after : ℕ)
   pub run_no_fault : (map : FileMap) (other : Command) (name : List ℕ) (fault : FileFault) → files ≡ Some map → Some own ≡ command_of words → command_of words ≡ Some other → IsRun files own ended took cut → IsFirstFault (Some map) other.needs name fault → ⊥
   run_no_fault map other name fault told c d r h = no_fault_of_answer map other r.answer (answer_here files map own other r.answer told (one_command words own other c d) r.served) name fault h
 
+  -- nor do the files refuse to link
+  pub run_no_link : (map : FileMap) (other : Command) (name : List ℕ) (fault : LinkFault) → files ≡ Some map → Some own ≡ command_of words → command_of words ≡ Some other → IsRun files own ended took cut → Comes (Some map) other (refuses fault name) → ⊥
+  run_no_link map other name fault told c d r h =
+      no_refusal_of_answer map other r.answer (answer_here files map own other r.answer told (one_command words own other c d) r.served) fault name h
+
   -- the answer of a run is the one that the command has
   pub run_ends : (map : FileMap) (other : Command) (answer : Answer) → files ≡ Some map → Some own ≡ command_of words → command_of words ≡ Some other → IsRun files own ended took cut → IsAnswer (Some map) other answer → EndsAs ended answer took cut
   run_ends map other answer told c d r a =
@@ -77,6 +105,7 @@ module _ (words : List (List ℕ)) (files : Option FileMap) (before after : ℕ)
       by status.WriteFault b = inl b
       by status.Usage b = absurd b
       by status.BadFile b = absurd b
+      by status.LinkRefused b = absurd b
       by status.ReadFault b = absurd b
       by status.NoMemory b = absurd b
 
@@ -86,20 +115,43 @@ pub never_write_fault : (r : Refusal) → status_of r ≡ status.WriteFault → 
 never_write_fault refusal.Usage e = cc
 never_write_fault (refusal.BadFile f) e = cc
 never_write_fault refusal.CannotRead e = cc
+never_write_fault (refusal.Link f) e = cc
 never_write_fault refusal.NoMemory e = cc
 
 pub not_read_fault : (r : Refusal) → r ≢ refusal.CannotRead → is_read_fault r ≡ false
 not_read_fault refusal.Usage h = refl
 not_read_fault (refusal.BadFile f) h = refl
 not_read_fault refusal.CannotRead h = absurd (h refl)
+not_read_fault (refusal.Link f) h = refl
 not_read_fault refusal.NoMemory h = refl
 
--- the cause of a refusal by the files that a command needs
-pub cause_of : (words : List (List ℕ)) (files : Option FileMap) (before after : ℕ) (own : Command) (r : Refusal) (name : List ℕ) → Some own ≡ command_of words → IsNeedCause files before after own.needs r name → IsCause (call_of words files before after) r name
+-- what the files that a command needs call for, the command calls for
+pub by_needs : (files : Option FileMap) (before after : ℕ) (command : Command) (r : Refusal) (name : List ℕ) → IsNeedCause files before after command.needs r name → IsCommandCause files before after command r name
+by_needs files before after command refusal.Usage name f = f
+by_needs files before after command (refusal.BadFile fault) name f = f
+by_needs files before after command refusal.CannotRead name f = f
+by_needs files before after command (refusal.Link fault) name f = absurd f
+by_needs files before after command refusal.NoMemory name f = f
+
+-- the cause of a refusal by a command
+pub cause_of : (words : List (List ℕ)) (files : Option FileMap) (before after : ℕ) (own : Command) (r : Refusal) (name : List ℕ) → Some own ≡ command_of words → IsCommandCause files before after own r name → IsCause (call_of words files before after) r name
 cause_of words files before after own refusal.Usage name c f = absurd f
 cause_of words files before after own (refusal.BadFile fault) name c f = ((own, sym c, f.0), f.1)
 cause_of words files before after own refusal.CannotRead name c f = ((own, sym c, f.0), f.1)
+cause_of words files before after own (refusal.Link fault) name c f = ((own, sym c, f.0), f.1)
 cause_of words files before after own refusal.NoMemory name c f = (tt, f)
+
+-- files that are told, of the command that the words are
+module _ (words : List (List ℕ)) (files : Option FileMap) (map : FileMap) (own other : Command) (told : files ≡ Some map) (c : Some own ≡ command_of words) (d : command_of words ≡ Some other) where
+  pub comes_here : (outcome : Outcome) → Comes files own outcome → Comes (Some map) other outcome
+  comes_here outcome h = subst (λ k. Comes (Some map) k outcome) (one_command words own other c d) (subst (λ o. Comes o own outcome) told h)
+
+  first_here : (name : List ℕ) (fault : FileFault) → IsFirstFault files own.needs name fault → IsFirstFault (Some map) other.needs name fault
+  first_here name fault h = subst (λ (k : Command). IsFirstFault (Some map) k.needs name fault) (one_command words own other c d) (subst (λ o. IsFirstFault o own.needs name fault) told h)
+
+  -- where something comes of the command, no file has a fault
+  pub no_fault_here : (outcome : Outcome) → Comes (Some map) other outcome → (name : List ℕ) (fault : FileFault) → IsFirstFault files own.needs name fault → ⊥
+  no_fault_here outcome h name fault first = no_first_fault map other outcome h name fault (first_here name fault first)
 
 -- a refusal that was told, in whole or in part
 module _ (r : Refusal) (name : List ℕ) (ended : Status) (took cut : List ℕ → Type 0) where
@@ -110,58 +162,75 @@ module _ (r : Refusal) (name : List ℕ) (ended : Status) (took cut : List ℕ �
   told_in_part call cause e (inl t) = absurd (never_write_fault r (sym t.0 ∙ e))
   told_in_part call cause e (inr t) = (status_of r, record { refused = r; name = name; status = refl; cause = cause; line = t.1 })
 
-  pub told_bad_file : (files : Option FileMap) (before after : ℕ) (needs : List Need) → IsNeedCause files before after needs r name → Told → IsOrOutside status.BadFile ended
-  told_bad_file files before after needs f (inr t) = subst (λ s. IsOrOutside status.BadFile s) (sym t.0) tt
-  told_bad_file files before after needs f (inl t) = subst (λ s. IsOrOutside status.BadFile s) (sym t.0) (by r f)
-    where
-      by : (q : Refusal) → IsNeedCause files before after needs q name → IsOrOutside status.BadFile (status_of q)
-      by refusal.Usage h = absurd h
-      by (refusal.BadFile fault) h = refl
-      by refusal.CannotRead h = tt
-      by refusal.NoMemory h = tt
+  -- what a refusal leaves of the words, the files and the command
+  module _ (words : List (List ℕ)) (files : Option FileMap) (map : FileMap) (before after : ℕ) (own other : Command) (is : files ≡ Some map) (c : Some own ≡ command_of words) (d : command_of words ≡ Some other) (f : IsCommandCause files before after own r name) where
+    -- for a command with a file that does not serve
+    pub told_bad_file : (first : List ℕ) (fault : FileFault) → IsFirstFault (Some map) other.needs first fault → Told → IsOrOutside status.BadFile ended
+    told_bad_file first fault x (inr t) = subst (λ s. IsOrOutside status.BadFile s) (sym t.0) tt
+    told_bad_file first fault x (inl t) = subst (λ s. IsOrOutside status.BadFile s) (sym t.0) (by r f)
+      where
+        by : (q : Refusal) → IsCommandCause files before after own q name → IsOrOutside status.BadFile (status_of q)
+        by refusal.Usage h = absurd h
+        by (refusal.BadFile own_fault) h = refl
+        by refusal.CannotRead h = tt
+        by (refusal.Link link) h = absurd (no_first_fault map other (refuses link name) (comes_here words files map own other is c d (refuses link name) h.0) first fault x)
+        by refusal.NoMemory h = tt
 
-  -- what a refusal leaves for a command that its files serve
-  pub refused_completes : (words : List (List ℕ)) (files : Option FileMap) (map : FileMap) (before after : ℕ) (own other : Command) (answer : Answer) (whole part : List ℕ → Type 0) (told : Type 0)
-      → files ≡ Some map → Some own ≡ command_of words → command_of words ≡ Some other → IsAnswer (Some map) other answer → IsNeedCause files before after own.needs r name
-      → Told → (ended ≡ status.WriteFault → told) → Completes ended answer whole part told
-  refused_completes words files map before after own other answer whole part told is c d a f (inr t) tell = subst (λ s. Completes s answer whole part told) (sym t.0) (inr (tell t.0))
-  refused_completes words files map before after own other answer whole part told is c d a f (inl t) tell = subst (λ s. Completes s answer whole part told) (sym t.0) (by r f)
-    where
-      by : (q : Refusal) → IsNeedCause files before after own.needs q name → Completes (status_of q) answer whole part told
-      by refusal.Usage h = absurd h
-      by (refusal.BadFile fault) h =
-          absurd (no_fault_of_answer map own answer (subst (λ k. IsAnswer (Some map) k answer) (sym (one_command words own other c d)) a) name fault (subst (λ o. IsFirstFault o own.needs name fault) is h.0))
-      by refusal.CannotRead h = tt
-      by refusal.NoMemory h = tt
+    -- for a command whose files serve and do not link
+    pub told_link : (symbol : List ℕ) (fault : LinkFault) → Comes (Some map) other (refuses fault symbol) → Told → IsOrOutside status.LinkRefused ended
+    told_link symbol fault x (inr t) = subst (λ s. IsOrOutside status.LinkRefused s) (sym t.0) tt
+    told_link symbol fault x (inl t) = subst (λ s. IsOrOutside status.LinkRefused s) (sym t.0) (by r f)
+      where
+        by : (q : Refusal) → IsCommandCause files before after own q name → IsOrOutside status.LinkRefused (status_of q)
+        by refusal.Usage h = absurd h
+        by (refusal.BadFile own_fault) h = absurd (no_fault_here words files map own other is c d (refuses fault symbol) x name own_fault h.0)
+        by refusal.CannotRead h = tt
+        by (refusal.Link link) h = refl
+        by refusal.NoMemory h = tt
 
-  -- the outside failed, where the files serve and memory is there
-  pub refused_outside : (words : List (List ℕ)) (files : Option FileMap) (map : FileMap) (before after : ℕ) (own other : Command) (answer : Answer)
-      → files ≡ Some map → Some own ≡ command_of words → command_of words ≡ Some other → IsAnswer (Some map) other answer → IsNeedCause files before after own.needs r name
-      → ended ≢ status.NoMemory → (Rose before after → ⊥) → (cut (line_of r name) → ⊥) → Told → ⊥
-  refused_outside words files map before after own other answer is c d a f some no_read no_cut (inr t) = no_cut t.1
-  refused_outside words files map before after own other answer is c d a f some no_read no_cut (inl t) = by r f t.0
-    where
-      by : (q : Refusal) → IsNeedCause files before after own.needs q name → ended ≡ status_of q → ⊥
-      by refusal.Usage h e = h
-      by (refusal.BadFile fault) h e =
-          no_fault_of_answer map own answer (subst (λ k. IsAnswer (Some map) k answer) (sym (one_command words own other c d)) a) name fault (subst (λ o. IsFirstFault o own.needs name fault) is h.0)
-      by refusal.CannotRead h e = no_read h.1.1
-      by refusal.NoMemory h e = some e
+    -- for a command that its files serve
+    pub refused_completes : (answer : Answer) (whole part : List ℕ → Type 0) (told : Type 0) → IsAnswer (Some map) other answer → Told → (ended ≡ status.WriteFault → told) → Completes ended answer whole part told
+    refused_completes answer whole part told a (inr t) tell = subst (λ s. Completes s answer whole part told) (sym t.0) (inr (tell t.0))
+    refused_completes answer whole part told a (inl t) tell = subst (λ s. Completes s answer whole part told) (sym t.0) (by r f)
+      where
+        by : (q : Refusal) → IsCommandCause files before after own q name → Completes (status_of q) answer whole part told
+        by refusal.Usage h = absurd h
+        by (refusal.BadFile fault) h = absurd (no_fault_here words files map own other is c d a.outcome a.comes name fault h.0)
+        by refusal.CannotRead h = tt
+        by (refusal.Link link) h = absurd (no_refusal_of_answer map other answer a link name (comes_here words files map own other is c d (refuses link name) h.0))
+        by refusal.NoMemory h = tt
+
+    -- the outside failed, where the files serve and memory is there
+    pub refused_outside : (answer : Answer) → IsAnswer (Some map) other answer → ended ≢ status.NoMemory → (Rose before after → ⊥) → (cut (line_of r name) → ⊥) → Told → ⊥
+    refused_outside answer a some no_read no_cut (inr t) = no_cut t.1
+    refused_outside answer a some no_read no_cut (inl t) = by r f t.0
+      where
+        by : (q : Refusal) → IsCommandCause files before after own q name → ended ≡ status_of q → ⊥
+        by refusal.Usage h e = h
+        by (refusal.BadFile fault) h e = no_fault_here words files map own other is c d a.outcome a.comes name fault h.0
+        by refusal.CannotRead h e = no_read h.1.1
+        by (refusal.Link link) h e = no_refusal_of_answer map other answer a link name (comes_here words files map own other is c d (refuses link name) h.0)
+        by refusal.NoMemory h e = some e
 
 -- a run does not end as words that are no command do
 pub run_not_usage : (files : Option FileMap) (own : Command) (ended : Status) (took cut : List ℕ → Type 0) → IsRun files own ended took cut → ended ≡ status.Usage → ⊥
 run_not_usage files own ended took cut r e = subst (λ t. EndsAs t r.answer took cut) e r.ends
 
+-- nor as objects that do not link
+pub run_not_link : (files : Option FileMap) (own : Command) (ended : Status) (took cut : List ℕ → Type 0) → IsRun files own ended took cut → ended ≡ status.LinkRefused → ⊥
+run_not_link files own ended took cut r e = subst (λ t. EndsAs t r.answer took cut) e r.ends
+
 -- nor does a refusal by files
-pub refused_not_usage : (r : Refusal) (name : List ℕ) (ended : Status) (took cut : List ℕ → Type 0) (files : Option FileMap) (before after : ℕ) (needs : List Need)
-    → IsNeedCause files before after needs r name → Told r name ended took cut → ended ≡ status.Usage → ⊥
-refused_not_usage r name ended took cut files before after needs f (inr t) e = let clash = sym t.0 ∙ e in cc
-refused_not_usage r name ended took cut files before after needs f (inl t) e = by r f (sym t.0 ∙ e)
+pub refused_not_usage : (r : Refusal) (name : List ℕ) (ended : Status) (took cut : List ℕ → Type 0) (files : Option FileMap) (before after : ℕ) (own : Command)
+    → IsCommandCause files before after own r name → Told r name ended took cut → ended ≡ status.Usage → ⊥
+refused_not_usage r name ended took cut files before after own f (inr t) e = let clash = sym t.0 ∙ e in cc
+refused_not_usage r name ended took cut files before after own f (inl t) e = by r f (sym t.0 ∙ e)
   where
-    by : (q : Refusal) → IsNeedCause files before after needs q name → status_of q ≡ status.Usage → ⊥
+    by : (q : Refusal) → IsCommandCause files before after own q name → status_of q ≡ status.Usage → ⊥
     by refusal.Usage h e = h
     by (refusal.BadFile fault) h e = cc
     by refusal.CannotRead h e = cc
+    by (refusal.Link fault) h e = cc
     by refusal.NoMemory h e = cc
 
 -- want of memory before any file was read
@@ -187,6 +256,7 @@ module _ {S : Type 0} (taken : S → Option (List ℕ)) (faults sure : S → ℕ
   run_sure status.WriteFault answer a room = absurd (cut_room answer.text a room)
   run_sure status.Usage answer a room = absurd a
   run_sure status.BadFile answer a room = absurd a
+  run_sure status.LinkRefused answer a room = absurd a
   run_sure status.ReadFault answer a room = absurd a
   run_sure status.NoMemory answer a room = absurd a
 
@@ -198,6 +268,7 @@ module _ {S : Type 0} (taken : S → Option (List ℕ)) (faults sure : S → ℕ
   run_whole status.WriteFault answer a quiet = absurd (quiet (cut_rose answer.text a))
   run_whole status.Usage answer a quiet = absurd a
   run_whole status.BadFile answer a quiet = absurd a
+  run_whole status.LinkRefused answer a quiet = absurd a
   run_whole status.ReadFault answer a quiet = absurd a
   run_whole status.NoMemory answer a quiet = absurd a
 

@@ -1,5 +1,5 @@
 -- The command of the words after the program's name.
-use Rattle.std.specs.Prelude.{◌≡◌, ◌≤◌, ◌%◌, List, [], ◌∷◌, Option, None, option_and_then, codes, if◌then◌else◌}
+use Rattle.std.specs.Prelude.{◌≡◌, ◌≤◌, ◌%◌, List, [], ◌∷◌, Option, None, option_and_then, codes, if◌then◌else◌, length}
 use Rattle.std.specs.Str.{bytes_eq}
 use Rattle.sm_cli.specs.declared.commands.CommandLine.{CommandLine}
 use Rattle.sm_cli.specs.declared.commands.CommandLine.TheVariants as line
@@ -13,6 +13,9 @@ use Rattle.sm_cli.specs.ChallengeCommand.{challenge_of, challenge_asked}
 use Rattle.sm_cli.specs.VendorCommand.{vendor_of, vendor_asked}
 use Rattle.sm_cli.specs.CheckCommand.{check_of, check_asked}
 use Rattle.sm_cli.specs.BalanceCommand.{balance_of, balance_asked}
+use Rattle.sm_cli.specs.LinkCommand.{link_of, link_asked}
+use Rattle.sm_cli.specs.RunCommand.{run_of, run_asked}
+use Rattle.sm_cli.specs.LoneCommand.{lone_of, lone_asked}
 
 -- by the first word, with the fewest and the most values that may follow
 abbrev pub command_by : Text → List Text → Option Command
@@ -24,6 +27,10 @@ command_by name words =
     else if bytes_eq name (codes "vendor") then option_and_then vendor_of (values_in 5 5 words)
     else if bytes_eq name (codes "check") then option_and_then check_of (values_in 2 2 words)
     else if bytes_eq name (codes "balance") then option_and_then balance_of (values_in 3 3 words)
+    else if bytes_eq name (codes "link") then option_and_then link_of (values_in 2 65 words)
+    else if bytes_eq name (codes "run") then option_and_then run_of (values_in 4 67 words)
+    -- more than fourteen pairs name some register twice
+    else if bytes_eq name (codes "lone") then option_and_then lone_of (values_in 3 17 words)
     else None
 
 -- what the words ask for, or none
@@ -40,6 +47,9 @@ asked (line.Challenge c) = challenge_asked c
 asked (line.Vendor c) = vendor_asked c
 asked (line.Check c) = check_asked c
 asked (line.Balance c) = balance_asked c
+asked (line.Link c) = link_asked c
+asked (line.Run c) = run_asked c
+asked (line.Lone c) = lone_asked c
 
 -- its numbers are within their bounds
 abbrev pub IsBounded : CommandLine → Type 0
@@ -50,3 +60,6 @@ IsBounded (line.Challenge c) = Unit {0}
 IsBounded (line.Vendor c) = Unit {0}
 IsBounded (line.Check c) = Unit {0}
 IsBounded (line.Balance c) = Unit {0}
+IsBounded (line.Link c) = length c.objects.items ≤ 64
+IsBounded (line.Run c) = (length c.objects.items ≤ 64) × (c.cycles ≤ MAX_CYCLES)
+IsBounded (line.Lone c) = c.limit ≤ MAX_CYCLES

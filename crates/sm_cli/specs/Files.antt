@@ -12,6 +12,9 @@ use Rattle.vendor_tool.specs.ChallengeText.{challenges_of}
 use Rattle.vendor_tool.specs.Replies.{replies_of}
 use Rattle.arm_balance.specs.declared.Arm.{Arm}
 use Rattle.arm_balance.specs.Certificates.{arms_of}
+use Rattle.layout_file.specs.Layout.{LayoutOf}
+use Rattle.layout_file.specs.Values.{LayoutValue}
+use Rattle.elf_objects.specs.Object.{ObjectValue, IsObject, elf_fault_of}
 use Rattle.sm_cli.specs.declared.answers.FileFault.{FileFault}
 use Rattle.sm_cli.specs.declared.answers.FileFault.TheVariants as fault
 
@@ -25,6 +28,8 @@ pub data Kind : Type 0 where
   trace_file : Kind
   -- certificates of balanced branches
   arms_file : Kind
+  layout_file : Kind
+  object_file : Kind
 
 -- what a file that serves holds
 pub data Held : Type 0 where
@@ -34,6 +39,8 @@ pub data Held : Type 0 where
   -- the bytes that a trace says were sent
   the_replies : (sent : List ℕ) → Held
   certificates : (arms : List Arm) → Held
+  a_layout : (layout : LayoutValue) → Held
+  an_object : (object : ObjectValue) → Held
 
 -- the bytes are the text of this image
 pub record IsTextOf (bytes : List ℕ) (value : Image) : Type 0 where
@@ -48,6 +55,8 @@ IsHeld schedule_file bytes (a_schedule entries) = schedule_of bytes ≡ Ok entri
 IsHeld challenges_file bytes (the_challenges list) = challenges_of bytes ≡ Ok list
 IsHeld trace_file bytes (the_replies sent) = replies_of bytes ≡ Ok sent
 IsHeld arms_file bytes (certificates arms) = arms_of bytes ≡ Ok arms
+IsHeld layout_file bytes (a_layout layout) = LayoutOf bytes ≡ Ok layout
+IsHeld object_file bytes (an_object object) = IsObject object × (object.file ≡ bytes)
 IsHeld _ bytes _ = ⊥
 
 -- an image's bytes hold no module with this id
@@ -65,6 +74,8 @@ IsRefused schedule_file bytes (fault.Schedule refusal) = schedule_of bytes ≡ E
 IsRefused challenges_file bytes (fault.Challenges refusal) = challenges_of bytes ≡ Err refusal
 IsRefused trace_file bytes (fault.Trace refusal) = replies_of bytes ≡ Err refusal
 IsRefused arms_file bytes (fault.Arms refusal) = arms_of bytes ≡ Err refusal
+IsRefused layout_file bytes (fault.Layout refusal) = LayoutOf bytes ≡ Err refusal
+IsRefused object_file bytes (fault.Object refusal) = elf_fault_of bytes ≡ Some refusal
 IsRefused _ bytes _ = ⊥
 
 -- a file has at most so many bytes
@@ -125,3 +136,8 @@ schedule_needs (Some name) = need name schedule_file ∷ []
 abbrev pub IsScheduleOf : Option FileMap → Option (List ℕ) → List Entry → Type 0
 IsScheduleOf files None entries = entries ≡ []
 IsScheduleOf files (Some name) entries = Holds files (need name schedule_file) (a_schedule entries)
+
+-- the files of objects
+abbrev pub object_needs : List (List ℕ) → List Need
+object_needs [] = []
+object_needs (name ∷ names) = need name object_file ∷ object_needs names

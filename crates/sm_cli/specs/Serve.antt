@@ -9,7 +9,7 @@ use Rattle.sm_cli.specs.declared.answers.Status.TheVariants as status
 use Rattle.sm_cli.specs.declared.answers.Refusal.{Refusal}
 use Rattle.sm_cli.specs.declared.answers.Refusal.TheVariants as refusal
 use Rattle.sm_cli.specs.Files.{Need, IsFirstFault, IsReached}
-use Rattle.sm_cli.specs.Command.{Answer, Command, IsAnswer}
+use Rattle.sm_cli.specs.Command.{Answer, Command, Comes, refuses, IsAnswer}
 use Rattle.sm_cli.specs.CommandLine.{command_of}
 use Rattle.sm_cli.specs.Refusal.{is_read_fault, status_of, line_of}
 
@@ -54,6 +54,7 @@ abbrev pub IsCalledFor : Call → Refusal → List ℕ → Type 0
 IsCalledFor call refusal.Usage name = command_of call.words ≡ None
 IsCalledFor call (refusal.BadFile fault) name = (command : Command) × (command_of call.words ≡ Some command) × IsFirstFault call.files command.needs name fault
 IsCalledFor call refusal.CannotRead name = (command : Command) × (command_of call.words ≡ Some command) × IsReached call.files command.needs name
+IsCalledFor call (refusal.Link fault) name = (command : Command) × (command_of call.words ≡ Some command) × Comes call.files command (refuses fault name)
 IsCalledFor call refusal.NoMemory name = Unit {0}
 
 -- the refusal has its cause
@@ -103,7 +104,13 @@ abbrev pub IsNeedCause : Option FileMap → ℕ → ℕ → List Need → Refusa
 IsNeedCause files before after needs refusal.Usage name = ⊥
 IsNeedCause files before after needs (refusal.BadFile fault) name = IsFirstFault files needs name fault × HasCause before after false
 IsNeedCause files before after needs refusal.CannotRead name = IsReached files needs name × HasCause before after true
+IsNeedCause files before after needs (refusal.Link fault) name = ⊥
 IsNeedCause files before after needs refusal.NoMemory name = HasCause before after false
+
+-- a command whose files these are calls for this refusal
+abbrev pub IsCommandCause : Option FileMap → ℕ → ℕ → Command → Refusal → List ℕ → Type 0
+IsCommandCause files before after command (refusal.Link fault) name = Comes files command (refuses fault name) × HasCause before after false
+IsCommandCause files before after command refused name = IsNeedCause files before after command.needs refused name
 
 -- the files serve the command, and its answer ended so
 pub record IsRun (files : Option FileMap) (command : Command) (ended : Status) (took cut : List ℕ → Type 0) : Type 0 where

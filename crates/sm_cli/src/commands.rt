@@ -5,7 +5,8 @@ ghost use Rattle.sm_io.specs.Sink.{Took, CutOff};
 ghost use Rattle.sm_cli.specs.declared.answers.Refusal.TheVariants.{CannotRead};
 ghost use Rattle.sm_cli.specs.Command.{Command};
 ghost use Rattle.sm_cli.specs.CommandLine.{asked, command_of, IsBounded};
-ghost use Rattle.sm_cli.specs.Serve.{IsNeedCause, IsRun, texts};
+ghost use Rattle.sm_cli.specs.NameText.{name_text};
+ghost use Rattle.sm_cli.specs.Serve.{IsCommandCause, IsRun, texts};
 
 use crate::answers::{Refused, Status};
 use sm_io::{Files, Sink};
@@ -17,6 +18,9 @@ pub mod check;
 pub mod dis;
 pub mod image;
 pub mod key;
+pub mod link;
+pub mod lone;
+pub mod run;
 pub mod vendor;
 
 use balance::BalanceCommand;
@@ -25,6 +29,9 @@ use check::CheckCommand;
 use dis::DisCommand;
 use image::ImageCommand;
 use key::KeyCommand;
+use link::LinkCommand;
+use lone::LoneCommand;
+use run::RunCommand;
 use vendor::VendorCommand;
 
 /// A command that can be answered.
@@ -45,7 +52,7 @@ pub trait Answering {
         requires { bounds self.now }
         ensures ok { IfOk result (λ status. IsRun (F.content files.old) (asked self.now) status (Took O.taken O.faults O.sure out.old out.new) (CutOff O.taken O.faults O.sure out.old out.new)) }
         ensures quiet { IfOk result (λ _. HasCause (F.faults files.old) (F.faults files.new) false) }
-        ensures refused { IfErr result (λ refused. IsNeedCause (F.content files.old) (F.faults files.old) (F.faults files.new) (asked self.now).needs refused.refusal refused.name.now) }
+        ensures refused { IfErr result (λ refused. IsCommandCause (F.content files.old) (F.faults files.old) (F.faults files.new) (asked self.now) refused.refusal (name_text refused.name)) }
         ensures nothing { IfErr result (λ _. out.new ≡ out.old) }
         ensures sound { IsTrue (F.sound files.old) → F.faults files.new ≡ F.faults files.old }
         ensures sound_read { IsTrue (F.sound files.old) → IfErr result (λ refused. refused.refusal ≢ CannotRead) }
@@ -54,7 +61,7 @@ pub trait Answering {
 }
 
 /// A command with its arguments.
-#[derive(Clone, Copy)]
+#[derive(Drop)]
 pub enum CommandLine<'a> {
     Image(ImageCommand<'a>),
     Key(KeyCommand<'a>),
@@ -63,6 +70,9 @@ pub enum CommandLine<'a> {
     Vendor(VendorCommand<'a>),
     Check(CheckCommand<'a>),
     Balance(BalanceCommand<'a>),
+    Link(LinkCommand<'a>),
+    Run(RunCommand<'a>),
+    Lone(LoneCommand<'a>),
 }
 
 /// The command that the words are.
@@ -92,6 +102,12 @@ pub fn read_command<'a>(
         Ok(check::read(alloc, words)?.map(CommandLine::Check))
     } else if name == "balance" {
         Ok(balance::read(alloc, words)?.map(CommandLine::Balance))
+    } else if name == "link" {
+        Ok(link::read(alloc, words)?.map(CommandLine::Link))
+    } else if name == "run" {
+        Ok(run::read(alloc, words)?.map(CommandLine::Run))
+    } else if name == "lone" {
+        Ok(lone::read(alloc, words)?.map(CommandLine::Lone))
     } else {
         Ok(None)
     }
@@ -116,6 +132,9 @@ impl Answering for CommandLine<'_> {
             CommandLine::Vendor(command) => command.answer(alloc, files, out),
             CommandLine::Check(command) => command.answer(alloc, files, out),
             CommandLine::Balance(command) => command.answer(alloc, files, out),
+            CommandLine::Link(command) => command.answer(alloc, files, out),
+            CommandLine::Run(command) => command.answer(alloc, files, out),
+            CommandLine::Lone(command) => command.answer(alloc, files, out),
         }
     }
 }

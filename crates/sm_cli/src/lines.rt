@@ -3,19 +3,23 @@ ghost use Rattle.std.specs.Prelude.{◌++◌, codes};
 ghost use Rattle.std.specs.Fmt.{decimal};
 ghost use Rattle.sm_io.specs.Sink.{Puts};
 ghost use Rattle.sm_cli.specs.Faults.{challenge_fault_text, fault_text, image_fault_text, schedule_fault_text, table_fault_text, trace_fault_text, arms_fault_text};
-ghost use Rattle.sm_cli.specs.Refusal.{line_of};
+ghost use Rattle.sm_cli.specs.Refusal.{line_of, link_end};
+ghost use Rattle.sm_cli.specs.NameText.{name_text};
+ghost use Rattle.sm_cli.specs.LinkFaults.{link_fault_text};
 
 use crate::answers::Refused;
+use crate::faults::{put_layout_fault, put_link_fault, put_object_fault};
 use crate::{FileFault, Refusal};
 use arm_balance::ArmsFault;
 use image_text::ImageFault;
+use linker::LinkFault;
 use mod_layout::TableFault;
 use schedule_file::ScheduleFault;
 use sm_io::{Failed, Sink, put_all};
 use vendor_tool::{ChallengeFault, TraceFault};
 
-// Puts a name and a number.
-fn put_field<S: Sink>(sink: &mut S, name: &[u8], number: u64) -> Result<(), Failed>
+/// Puts a name and a number.
+pub fn put_field<S: Sink>(sink: &mut S, name: &[u8], number: u64) -> Result<(), Failed>
     ensures { Puts S.taken S.faults S.sure sink.old sink.new (name.now ++ decimal number) result }
 {
     match put_all(sink, name) {
@@ -120,6 +124,8 @@ fn put_fault<S: Sink>(sink: &mut S, fault: FileFault) -> Result<(), Failed>
         FileFault::Challenges(fault) => put_challenge_fault(sink, fault),
         FileFault::Trace(fault) => put_trace_fault(sink, fault),
         FileFault::Arms(fault) => put_arms_fault(sink, fault),
+        FileFault::Layout(fault) => put_layout_fault(sink, fault),
+        FileFault::Object(fault) => put_object_fault(sink, fault),
     }
 }
 
@@ -157,15 +163,43 @@ fn put_bad_file<S: Sink>(sink: &mut S, name: &[u8], fault: FileFault) -> Result<
     put_all(sink, b"\n")
 }
 
-/// Puts the line of a refusal.
-pub fn put_refusal<S: Sink>(sink: &mut S, refused: Refused<'_>) -> Result<(), Failed>
-    ensures { Puts S.taken S.faults S.sure sink.old sink.new (line_of refused.entry.refusal refused.entry.name.now) result }
+// Puts the name of a symbol where the fault has one, and the end of the line.
+fn put_symbol<S: Sink>(sink: &mut S, fault: LinkFault, name: &[u8]) -> Result<(), Failed>
+    ensures { Puts S.taken S.faults S.sure sink.old sink.new (link_end fault name.now) result }
 {
-    let name = refused.name.as_bytes();
+    match fault {
+        LinkFault::Duplicate { .. }
+        | LinkFault::Undefined { .. }
+        | LinkFault::NoVector { .. }
+        | LinkFault::NoEntry { .. }
+        | LinkFault::EntryElsewhere { .. } => put_named(sink, b" name ", name, b"\n"),
+        _ => put_all(sink, b"\n"),
+    }
+}
+
+fn put_link_refusal<S: Sink>(sink: &mut S, fault: LinkFault, name: &[u8]) -> Result<(), Failed>
+    ensures { Puts S.taken S.faults S.sure sink.old sink.new (codes "sancus: link " ++ (link_fault_text fault ++ link_end fault name.now)) result }
+{
+    match put_all(sink, b"sancus: link ") {
+        Ok(()) => {}
+        Err(Failed) => return Err(Failed),
+    }
+    match put_link_fault(sink, fault) {
+        Ok(()) => put_symbol(sink, fault, name),
+        Err(Failed) => Err(Failed),
+    }
+}
+
+/// Puts the line of a refusal.
+pub fn put_refusal<S: Sink>(sink: &mut S, refused: &Refused<'_>) -> Result<(), Failed>
+    ensures { Puts S.taken S.faults S.sure sink.old sink.new (line_of refused.now.refusal (name_text refused.now.name)) result }
+{
+    let name = refused.name.as_str().as_bytes();
     match refused.refusal {
         Refusal::Usage => put_all(sink, b"sancus: usage\n"),
         Refusal::BadFile(fault) => put_bad_file(sink, name, fault),
         Refusal::CannotRead => put_named(sink, b"sancus: cannot read ", name, b"\n"),
+        Refusal::Link(fault) => put_link_refusal(sink, fault, name),
         Refusal::NoMemory => put_all(sink, b"sancus: no memory\n"),
     }
 }

@@ -1,17 +1,22 @@
 // The files of a command, read whole and examined.
-ghost use Rattle.std.specs.Prelude.{◌≡◌, ◌≢◌, ◌≤◌, ◌∷◌, [], IsTrue, IfOk, IfErr, Some, false, length};
+ghost use Rattle.std.specs.Prelude.{◌≡◌, ◌≢◌, ◌≤◌, ◌∷◌, [], IsTrue, IfOk, IfErr, Some, All, false, length, map};
 ghost use Rattle.std.specs.Option.{option_copied};
 ghost use Rattle.sm_io.specs.Faults.{HasCause};
+ghost use Rattle.layout_file.specs.Layout.{layout_of};
+ghost use Rattle.linker.specs.Room.{IsSmall};
 ghost use Rattle.mod_layout.specs.Table.{module_of};
 ghost use Rattle.mod_layout.specs.Tables.{IsModule};
 ghost use Rattle.sm_cli.specs.Content.{IsContentRefusal};
-ghost use Rattle.sm_cli.specs.Files.{Kind, Held, an_image, a_schedule, the_challenges, the_replies, image_file, image_with, schedule_file, challenges_file, trace_file, need, schedule_needs, HasFile, IsHeld, Holds, IsScheduleOf, most_bytes, certificates, arms_file};
+ghost use Rattle.sm_cli.specs.Files.{Kind, Held, an_image, a_schedule, the_challenges, the_replies, image_file, image_with, schedule_file, challenges_file, trace_file, need, schedule_needs, HasFile, IsHeld, Holds, IsScheduleOf, most_bytes, certificates, arms_file, a_layout, an_object, layout_file, object_file, object_needs, HoldAll};
+ghost use Rattle.sm_cli.specs.NameText.{name_text};
 ghost use Rattle.sm_cli.specs.Serve.{IsNeedCause};
 
-use crate::answers::Refused;
+use crate::answers::{Name, Refused};
 use crate::{FileFault, Refusal};
 use arm_balance::{Arms, ArmsFault, read_arms};
+use elf_objects::{ElfFault, Object};
 use image_text::{Image, ImageFault};
+use layout_file::{Layout, LayoutFault};
 use mod_layout::Module;
 use schedule_file::{Schedule, ScheduleFault};
 use sm_io::{Files, ReadFault, read_whole};
@@ -56,6 +61,20 @@ impl Content for Schedule {
             Ok(schedule) => Ok(schedule),
             Err(ScheduleFault::NoMemory) => Err(Refusal::NoMemory),
             Err(fault) => Err(Refusal::BadFile(FileFault::Schedule(fault))),
+        }
+    }
+}
+
+impl Content for Layout {
+    ghost kind = { layout_file };
+
+    ghost held = { λ layout. a_layout (layout_of layout) };
+
+    fn examine(alloc: Global, bytes: Vec<u8>) -> Result<Self, Refusal> {
+        match layout_file::read_layout(alloc, &bytes) {
+            Ok(layout) => Ok(layout),
+            Err(LayoutFault::NoMemory) => Err(Refusal::NoMemory),
+            Err(fault) => Err(Refusal::BadFile(FileFault::Layout(fault))),
         }
     }
 }
@@ -108,6 +127,20 @@ impl Content for Arms {
     }
 }
 
+impl Content for Object {
+    ghost kind = { object_file };
+
+    ghost held = { λ object. an_object object };
+
+    fn examine(alloc: Global, bytes: Vec<u8>) -> Result<Self, Refusal> {
+        match elf_objects::parse(alloc, bytes) {
+            Ok(object) => Ok(object),
+            Err(ElfFault::NoMemory) => Err(Refusal::NoMemory),
+            Err(fault) => Err(Refusal::BadFile(FileFault::Object(fault))),
+        }
+    }
+}
+
 /// What the file of that name holds.
 pub fn load<'a, C: Content, F: Files>(
     alloc: Global,
@@ -116,7 +149,7 @@ pub fn load<'a, C: Content, F: Files>(
 ) -> Result<C, Refused<'a>>
     ensures holds { IfOk result (λ value. Holds (F.content files.old) (need name.now C.kind) (C.held value)) }
     ensures quiet { IfOk result (λ _. HasCause (F.faults files.old) (F.faults files.new) false) }
-    ensures refused { IfErr result (λ refused. IsNeedCause (F.content files.old) (F.faults files.old) (F.faults files.new) (need name.now C.kind ∷ []) refused.refusal refused.name.now) }
+    ensures refused { IfErr result (λ refused. IsNeedCause (F.content files.old) (F.faults files.old) (F.faults files.new) (need name.now C.kind ∷ []) refused.refusal (name_text refused.name)) }
     ensures sound { IsTrue (F.sound files.old) → F.faults files.new ≡ F.faults files.old }
     ensures sound_read { IsTrue (F.sound files.old) → IfErr result (λ refused. refused.refusal ≢ Refusal.CannotRead) }
     ensures same_sound { F.sound files.new ≡ F.sound files.old }
@@ -128,7 +161,10 @@ pub fn load<'a, C: Content, F: Files>(
     };
     match C::examine(alloc, bytes) {
         Ok(value) => Ok(value),
-        Err(refusal) => Err(Refused { refusal, name }),
+        Err(refusal) => Err(Refused {
+            refusal,
+            name: Name::Word(name),
+        }),
     }
 }
 
@@ -150,7 +186,7 @@ pub fn load_with<'a, F: Files>(
     ensures chosen { IfOk result (λ chosen. module_of id chosen.image.table ≡ Some chosen.«module») }
     ensures sections { IfOk result (λ chosen. IsModule chosen.image.table.given chosen.«module») }
     ensures quiet { IfOk result (λ _. HasCause (F.faults files.old) (F.faults files.new) false) }
-    ensures refused { IfErr result (λ refused. IsNeedCause (F.content files.old) (F.faults files.old) (F.faults files.new) (need name.now (image_with id) ∷ []) refused.refusal refused.name.now) }
+    ensures refused { IfErr result (λ refused. IsNeedCause (F.content files.old) (F.faults files.old) (F.faults files.new) (need name.now (image_with id) ∷ []) refused.refusal (name_text refused.name)) }
     ensures sound { IsTrue (F.sound files.old) → F.faults files.new ≡ F.faults files.old }
     ensures sound_read { IsTrue (F.sound files.old) → IfErr result (λ refused. refused.refusal ≢ Refusal.CannotRead) }
     ensures same_sound { F.sound files.new ≡ F.sound files.old }
@@ -164,7 +200,7 @@ pub fn load_with<'a, F: Files>(
         Some(module) => Ok(Chosen { image, module }),
         None => Err(Refused {
             refusal: Refusal::BadFile(FileFault::NoModule { id }),
-            name,
+            name: Name::Word(name),
         }),
     }
 }
@@ -177,7 +213,7 @@ pub fn load_schedule<'a, F: Files>(
 ) -> Result<Schedule, Refused<'a>>
     ensures entries { IfOk result (λ read. IsScheduleOf (F.content files.old) (option_copied schedule.entry) read.entries.items) }
     ensures quiet { IfOk result (λ _. HasCause (F.faults files.old) (F.faults files.new) false) }
-    ensures refused { IfErr result (λ refused. IsNeedCause (F.content files.old) (F.faults files.old) (F.faults files.new) (schedule_needs (option_copied schedule.entry)) refused.refusal refused.name.now) }
+    ensures refused { IfErr result (λ refused. IsNeedCause (F.content files.old) (F.faults files.old) (F.faults files.new) (schedule_needs (option_copied schedule.entry)) refused.refusal (name_text refused.name)) }
     ensures sound { IsTrue (F.sound files.old) → F.faults files.new ≡ F.faults files.old }
     ensures sound_read { IsTrue (F.sound files.old) → IfErr result (λ refused. refused.refusal ≢ Refusal.CannotRead) }
     ensures same_sound { F.sound files.new ≡ F.sound files.old }
@@ -191,6 +227,38 @@ pub fn load_schedule<'a, F: Files>(
     }
 }
 
+/// The objects of the files of those names, each read and examined before the next.
+pub fn load_objects<'a, F: Files>(
+    alloc: Global,
+    names: &[&'a str],
+    files: &mut F,
+) -> Result<Vec<Object>, Refused<'a>>
+    ensures hold { IfOk result (λ objects. HoldAll (F.content files.old) (object_needs (map (λ n. n.now) names.now)) (map an_object objects.items)) }
+    ensures small { IfOk result (λ objects. All IsSmall objects.items) }
+    ensures count { IfOk result (λ objects. length objects.items ≡ length names.now) }
+    ensures quiet { IfOk result (λ _. HasCause (F.faults files.old) (F.faults files.new) false) }
+    ensures refused { IfErr result (λ refused. IsNeedCause (F.content files.old) (F.faults files.old) (F.faults files.new) (object_needs (map (λ n. n.now) names.now)) refused.refusal (name_text refused.name)) }
+    ensures sound { IsTrue (F.sound files.old) → F.faults files.new ≡ F.faults files.old }
+    ensures sound_read { IsTrue (F.sound files.old) → IfErr result (λ refused. refused.refusal ≢ Refusal.CannotRead) }
+    ensures same_sound { F.sound files.new ≡ F.sound files.old }
+    ensures same_files { F.content files.new ≡ F.content files.old }
+{
+    let mut objects = Vec::new(alloc);
+    for name in names {
+        let object = match load::<Object, F>(alloc, name, files) {
+            Ok(object) => object,
+            Err(refused) => return Err(refused),
+        };
+        if objects.push(object).is_err() {
+            return Err(Refused {
+                refusal: Refusal::NoMemory,
+                name: Name::Word(name),
+            });
+        }
+    }
+    Ok(objects)
+}
+
 // The bytes of that file, whatever it is needed as.
 fn read_file<'a, F: Files>(
     alloc: Global,
@@ -200,7 +268,7 @@ fn read_file<'a, F: Files>(
     ensures bytes { IfOk result (λ bytes. HasFile (F.content files.old) name.now bytes.items) }
     ensures short { IfOk result (λ bytes. length bytes.items ≤ most_bytes) }
     ensures quiet { IfOk result (λ _. HasCause (F.faults files.old) (F.faults files.new) false) }
-    ensures refused { IfErr result (λ refused. (kind : Kind) → IsNeedCause (F.content files.old) (F.faults files.old) (F.faults files.new) (need name.now kind ∷ []) refused.refusal refused.name.now) }
+    ensures refused { IfErr result (λ refused. (kind : Kind) → IsNeedCause (F.content files.old) (F.faults files.old) (F.faults files.new) (need name.now kind ∷ []) refused.refusal (name_text refused.name)) }
     ensures sound { IsTrue (F.sound files.old) → F.faults files.new ≡ F.faults files.old }
     ensures sound_read { IsTrue (F.sound files.old) → IfErr result (λ refused. refused.refusal ≢ Refusal.CannotRead) }
     ensures same_sound { F.sound files.new ≡ F.sound files.old }
@@ -213,5 +281,8 @@ fn read_file<'a, F: Files>(
         Err(ReadFault::TooLong) => Refusal::BadFile(FileFault::TooLong),
         Err(ReadFault::NoMemory) => Refusal::NoMemory,
     };
-    Err(Refused { refusal, name })
+    Err(Refused {
+        refusal,
+        name: Name::Word(name),
+    })
 }

@@ -14,15 +14,17 @@ ghost use Rattle.written_machine.specs.declared.Hidden.TheVariants.{Only};
 ghost use Rattle.sm_cli.specs.declared.answers.Status.{Status as Statuses};
 ghost use Rattle.sm_cli.specs.declared.answers.FileFault.{FileFault as FileFaults};
 ghost use Rattle.sm_cli.specs.Checked.{IsCheck, IsBalance};
-ghost use Rattle.sm_cli.specs.Command.{Command, Answer, IsAnswer};
+ghost use Rattle.sm_cli.specs.Command.{Command, Answer, IsAnswer, Comes, refuses};
+ghost use Rattle.linker.specs.declared.fault.LinkFault.{LinkFault as LinkFaults};
 ghost use Rattle.sm_cli.specs.CommandLine.{command_of};
 ghost use Rattle.sm_cli.specs.Files.{IsFirstFault};
 ghost use Rattle.sm_cli.specs.ImageCommand.{run_status};
 ghost use Rattle.sm_cli.specs.Input.{IsInput};
+ghost use Rattle.sm_cli.specs.NameText.{name_text};
 ghost use Rattle.sm_cli.specs.Refusal.{status_of, line_of};
 ghost use Rattle.sm_cli.specs.Serve.{texts, call_of, Serves, Refuses, IsOrOutside, IsRoomForAnswer, IsRoomForLine, Completes};
 
-use crate::answers::Refused;
+use crate::answers::{Name, Refused};
 use crate::commands::{Answering, read_command};
 use crate::lines::put_refusal;
 use crate::{Refusal, Status};
@@ -68,6 +70,8 @@ pub fn serve<F: Files, O: Sink, E: Sink>(
         (Took E.taken E.faults E.sure err.old err.new) × (out.new ≡ out.old) }
     ensures bad_file { result ≡ Status.BadFile → Refuses (call_of (texts words.now) (F.content files.old) (F.faults files.old) (F.faults files.new)) Status.BadFile
         (Took E.taken E.faults E.sure err.old err.new) × (out.new ≡ out.old) }
+    ensures link_refused { result ≡ Status.LinkRefused → Refuses (call_of (texts words.now) (F.content files.old) (F.faults files.old) (F.faults files.new)) Status.LinkRefused
+        (Took E.taken E.faults E.sure err.old err.new) × (out.new ≡ out.old) }
     ensures read_fault { result ≡ Status.ReadFault → Refuses (call_of (texts words.now) (F.content files.old) (F.faults files.old) (F.faults files.new)) Status.ReadFault
         (Took E.taken E.faults E.sure err.old err.new) × (out.new ≡ out.old) }
     ensures no_memory { result ≡ Status.NoMemory → Refuses (call_of (texts words.now) (F.content files.old) (F.faults files.old) (F.faults files.new)) Status.NoMemory
@@ -83,6 +87,9 @@ pub fn serve<F: Files, O: Sink, E: Sink>(
     ensures complete_bad_file { (map : FileMap) (command : Command) (name : List ℕ) (fault : FileFaults) →
         F.content files.old ≡ Some map → command_of (texts words.now) ≡ Some command → IsFirstFault (Some map) command.needs name fault →
         IsOrOutside Status.BadFile result }
+    ensures complete_link_refused { (map : FileMap) (command : Command) (fault : LinkFaults) (name : List ℕ) →
+        F.content files.old ≡ Some map → command_of (texts words.now) ≡ Some command → Comes (Some map) command (refuses fault name) →
+        IsOrOutside Status.LinkRefused result }
     ensures complete { (map : FileMap) (command : Command) (answer : Answer) →
         F.content files.old ≡ Some map → command_of (texts words.now) ≡ Some command → IsAnswer (Some map) command answer →
         Completes result answer (Took O.taken O.faults O.sure out.old out.new) (CutOff O.taken O.faults O.sure out.old out.new)
@@ -103,8 +110,20 @@ pub fn serve<F: Files, O: Sink, E: Sink>(
     peer_rows::accepted_are_peers();
     let command = match read_command(alloc, words) {
         Ok(Some(command)) => command,
-        Ok(None) => return tell(err, NO_COMMAND),
-        Err(_) => return tell(err, NO_ROOM),
+        Ok(None) => return tell(
+            err,
+            Refused {
+                refusal: Refusal::Usage,
+                name: Name::Word(""),
+            },
+        ),
+        Err(_) => return tell(
+            err,
+            Refused {
+                refusal: Refusal::NoMemory,
+                name: Name::Word(""),
+            },
+        ),
     };
     match command.answer(alloc, files, out) {
         Ok(status) => status,
@@ -112,24 +131,12 @@ pub fn serve<F: Files, O: Sink, E: Sink>(
     }
 }
 
-// The refusal of words that are no command.
-const NO_COMMAND: Refused<'static> = Refused {
-    refusal: Refusal::Usage,
-    name: "",
-};
-
-// The refusal of words for which there was no memory.
-const NO_ROOM: Refused<'static> = Refused {
-    refusal: Refusal::NoMemory,
-    name: "",
-};
-
 // Puts the line of a refusal, and gives its status.
 fn tell<E: Sink>(err: &mut E, refused: Refused<'_>) -> Status
-    ensures told { (result ≡ status_of refused.entry.refusal) × Took E.taken E.faults E.sure err.old err.new (line_of refused.entry.refusal refused.entry.name.now)
-        ⊎ ((result ≡ Status.WriteFault) × CutOff E.taken E.faults E.sure err.old err.new (line_of refused.entry.refusal refused.entry.name.now)) }
+    ensures told { (result ≡ status_of refused.entry.refusal) × Took E.taken E.faults E.sure err.old err.new (line_of refused.entry.refusal (name_text refused.entry.name))
+        ⊎ ((result ≡ Status.WriteFault) × CutOff E.taken E.faults E.sure err.old err.new (line_of refused.entry.refusal (name_text refused.entry.name))) }
 {
-    match put_refusal(err, refused) {
+    match put_refusal(err, &refused) {
         Ok(()) => status_for(refused.refusal),
         Err(Failed) => Status::WriteFault,
     }
@@ -142,6 +149,7 @@ fn status_for(refusal: Refusal) -> Status
         Refusal::Usage => Status::Usage,
         Refusal::BadFile(_) => Status::BadFile,
         Refusal::CannotRead => Status::ReadFault,
+        Refusal::Link(_) => Status::LinkRefused,
         Refusal::NoMemory => Status::NoMemory,
     }
 }

@@ -21,6 +21,11 @@ const TAG: [u8; 16] = [
     0x8d, 0x8d, 0x1b, 0xb4, 0xaf, 0xeb, 0x9e, 0xb9, 0x80, 0xa6, 0xb0, 0xf5, 0x00, 0x9b, 0x0b, 0xca,
 ];
 
+// The same of 0f0e0d0c0b0a09080706050403020100.
+const OTHER_TAG: [u8; 16] = [
+    0xb9, 0xb7, 0xf0, 0x3f, 0x82, 0xbb, 0x1f, 0xd0, 0x23, 0x80, 0x5d, 0x22, 0x84, 0x25, 0xac, 0xb6,
+];
+
 const ONE: &[u8] = b"100 000102030405060708090a0b0c0d0e0f\n";
 
 #[test]
@@ -234,5 +239,47 @@ fn a_trace_is_judged(rt: HostRuntime) -> Result<(), Fail> {
         Ok(true)
     );
     assert_eq!(rt; sink.taken(), b"0 genuine\n".as_slice());
+    Ok(())
+}
+
+// Replies to two challenges: in order, in the other order, and with their bytes mixed.
+#[test]
+fn replies_of_two_are_told_apart(rt: HostRuntime) -> Result<(), Fail> {
+    let text = b"100 000102030405060708090a0b0c0d0e0f\n1700 0f0e0d0c0b0a09080706050403020100\n";
+    let challenges = read_challenges(rt.alloc(), text)?;
+    let rows: [([&[u8]; 4], &[u8], bool); 4] = [
+        (
+            [&TAG[..8], &TAG[8..], &OTHER_TAG[..8], &OTHER_TAG[8..]],
+            b"0 genuine\n1 genuine\n",
+            true,
+        ),
+        (
+            [&OTHER_TAG[..8], &OTHER_TAG[8..], &TAG[..8], &TAG[8..]],
+            b"0 wrong\n1 wrong\n",
+            false,
+        ),
+        (
+            [&TAG[..8], &OTHER_TAG[..8], &TAG[8..], &OTHER_TAG[8..]],
+            b"0 wrong\n1 wrong\n",
+            false,
+        ),
+        (
+            [&TAG[..8], &TAG[8..], &OTHER_TAG[..8], &[]],
+            b"0 genuine\n1 missing\n",
+            false,
+        ),
+    ];
+    for (parts, lines, genuine) in rows {
+        let mut replies = Vec::new(rt.alloc());
+        for part in parts {
+            replies.extend_from_slice(part)?;
+        }
+        let mut sink = MemSink::new(rt.alloc(), 64)?;
+        assert_eq!(rt;
+            report(&KEY, &challenges, replies.as_slice(), &mut sink),
+            Ok(genuine)
+        );
+        assert_eq!(rt; sink.taken(), lines);
+    }
     Ok(())
 }

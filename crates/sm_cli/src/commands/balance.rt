@@ -8,7 +8,7 @@ ghost use Rattle.sm_cli.specs.Serve.{texts};
 ghost use Rattle.sm_cli.specs.Words.{values_in};
 
 use crate::Refusal;
-use crate::answers::{Refused, Status};
+use crate::answers::{Name, Refused, Status};
 use crate::arguments::id_of;
 use crate::commands::Answering;
 use crate::loading::{Chosen, load, load_with};
@@ -79,7 +79,7 @@ impl Answering for BalanceCommand<'_> {
             Ok(verdict) => Ok(put_verdict(out, verdict)),
             Err(AllocError) => Err(Refused {
                 refusal: Refusal::NoMemory,
-                name: "",
+                name: Name::Word(""),
             }),
         }
     }

@@ -4,7 +4,7 @@ ghost use Rattle.sm_cli.specs.ChallengeCommand.{challenge_of, challenge_asked};
 ghost use Rattle.sm_cli.specs.Serve.{texts};
 ghost use Rattle.sm_cli.specs.Words.{values_in};
 
-use crate::answers::{Refusal, Refused, Status};
+use crate::answers::{Name, Refusal, Refused, Status};
 use crate::commands::Answering;
 use crate::loading::load;
 use crate::words::values_of;
@@ -64,7 +64,7 @@ impl Answering for ChallengeCommand<'_> {
             Err(_) => {
                 return Err(Refused {
                     refusal: Refusal::NoMemory,
-                    name: self.challenges,
+                    name: Name::Word(self.challenges),
                 });
             }
         };

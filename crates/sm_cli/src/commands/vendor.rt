@@ -4,6 +4,7 @@ ghost use Rattle.mod_layout.specs.Tables.{IsModule};
 ghost use Rattle.sm_io.specs.Faults.{HasCause};
 ghost use Rattle.sm_io.specs.Sink.{Took, CutOff};
 ghost use Rattle.sm_cli.specs.Files.{Holds, need, challenges_file, trace_file, the_challenges, the_replies};
+ghost use Rattle.sm_cli.specs.NameText.{name_text};
 ghost use Rattle.sm_cli.specs.Serve.{EndsAs, IsNeedCause, texts};
 ghost use Rattle.sm_cli.specs.VendorCommand.{vendor_of, vendor_asked, exchange_needs, key_under, report_answer};
 ghost use Rattle.sm_cli.specs.Words.{values_in};
@@ -98,7 +99,7 @@ fn load_exchange<'a, F: Files>(
     ensures challenges { IfOk result (λ exchange. Holds (F.content files.old) (need challenges.now challenges_file) (the_challenges exchange.challenges.list.items)) }
     ensures replies { IfOk result (λ exchange. Holds (F.content files.old) (need trace.now trace_file) (the_replies exchange.replies.sent.items)) }
     ensures quiet { IfOk result (λ _. HasCause (F.faults files.old) (F.faults files.new) false) }
-    ensures refused { IfErr result (λ refused. IsNeedCause (F.content files.old) (F.faults files.old) (F.faults files.new) (exchange_needs challenges.now trace.now) refused.refusal refused.name.now) }
+    ensures refused { IfErr result (λ refused. IsNeedCause (F.content files.old) (F.faults files.old) (F.faults files.new) (exchange_needs challenges.now trace.now) refused.refusal (name_text refused.name)) }
     ensures sound { IsTrue (F.sound files.old) → F.faults files.new ≡ F.faults files.old }
     ensures sound_read { IsTrue (F.sound files.old) → IfErr result (λ refused. refused.refusal ≢ Refusal.CannotRead) }
     ensures same_sound { F.sound files.new ≡ F.sound files.old }

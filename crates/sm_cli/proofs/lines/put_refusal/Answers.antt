@@ -1,4 +1,4 @@
-use Rattle.std.proofs.Common.{sym}
+use Rattle.std.proofs.Common.{sym, ◌∙◌}
 use Rattle.sm_cli.specs.Refusal.{line_of}
 use Rattle.sm_cli.proofs.lines.put_refusal.Goals as goal
 
@@ -12,8 +12,12 @@ returns-in-NoMemory g c = rw c.in-NoMemory.is c.put_all-in-NoMemory.ensures
 
 pub returns-in-CannotRead : goal.returns-in-CannotRead
 unfolding line_of
-returns-in-CannotRead g c = rw (c.in-CannotRead.is, sym c.as_bytes-name.ensures.value) c.put_named.ensures
+returns-in-CannotRead g c = rw (c.in-CannotRead.is, sym (c.as_bytes-name.ensures.value ∙ c.as_str.ensures)) c.put_named.ensures
 
 pub returns-in-BadFile : goal.returns-in-BadFile
 unfolding line_of
-returns-in-BadFile g c = rw (c.in-BadFile.is, sym c.as_bytes-name.ensures.value) c.put_bad_file.ensures
+returns-in-BadFile g c = rw (c.in-BadFile.is, sym (c.as_bytes-name.ensures.value ∙ c.as_str.ensures)) c.put_bad_file.ensures
+
+pub returns-in-Link : goal.returns-in-Link
+unfolding line_of
+returns-in-Link g c = rw (c.in-Link.is, sym (c.as_bytes-name.ensures.value ∙ c.as_str.ensures)) c.put_link_refusal.ensures

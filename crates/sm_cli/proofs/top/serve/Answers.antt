@@ -2,10 +2,11 @@ use Rattle.std.proofs.Common.{◌≡◌, [], Some, None, inl, inr, refl, sym, �
 use Rattle.std.specs.Option.{option_map}
 use Rattle.sm_io.specs.Sink.{Took, CutOff}
 use Rattle.sm_cli.specs.CommandLine.{asked, command_of}
-use Rattle.sm_cli.specs.ImageCommand.{image_command, trace_answer}
+use Rattle.sm_cli.specs.ImageCommand.{trace_answer}
+use Rattle.sm_cli.specs.NameText.{name_text}
 use Rattle.sm_cli.specs.Serve.{texts, call_of}
 use Rattle.sm_cli.specs.declared.answers.Refusal.TheVariants as refusal
-use Rattle.sm_cli.proofs.Serving.{run_not_usage, refused_not_usage, input_answer, when_done, when_cut, run_ends, run_no_fault, ends_complete, told_in_part, cause_of, refused_completes, refused_outside, no_memory_completes, cut_rose, run_sure, run_whole}
+use Rattle.sm_cli.proofs.Serving.{run_not_usage, refused_not_usage, input_answer, when_done, when_cut, run_ends, run_no_fault, ends_complete, told_in_part, cause_of, refused_completes, refused_outside, no_memory_completes, cut_rose, run_sure, run_whole, run_no_link, told_bad_file, told_link}
 use Rattle.sm_cli.proofs.Checking.{checked_peers, balanced_peers}
 use Rattle.sm_cli.proofs.top.serve.Goals as goal
 
@@ -38,7 +39,8 @@ returns-in-Ok-clause-headline g c = λ value entries cycles i no_read no_out no_
     let files = g.F.Files.content c.args.files.now in
     let before = g.F.Files.faults c.args.files.now in
     let answer = trace_answer value entries cycles in
-    let ends = run_ends words files before before (asked c.in-Ok-Some.command) c.in-Ok.status _ _ i.map (image_command i.name i.schedule cycles) answer i.told some i.command c.in-Ok.ensures.ok (input_answer words files value entries cycles i) in
+    let input = input_answer words files value entries cycles i in
+    let ends = run_ends words files before before (asked c.in-Ok-Some.command) c.in-Ok.status _ _ input.map input.command answer input.told some input.asked c.in-Ok.ensures.ok input.served in
     let whole = run_whole g.O.Sink.taken g.O.Sink.faults g.O.Sink.sure c.args.out.now c.answer.new.out c.in-Ok.status answer ends no_out in (
       (whole.0, refl, whole.1),
       λ other m peers. (
@@ -99,39 +101,40 @@ returns-in-Err-clause-complete g c = λ map command answer told cmd is.
 
 -- a refusal by the files that the command needs
 
-pub returns-in-Err-answer-clause-write_fault : goal.returns-in-Err-answer-clause-write_fault
-returns-in-Err-answer-clause-write_fault g c = λ e.
+pub returns-clause-write_fault : goal.returns-clause-write_fault
+returns-clause-write_fault g c = λ e.
     let some : Some (asked c.in-Ok-Some.command) ≡ command_of (texts c.args.words.now) = sym (ap (option_map asked) c.in-Ok-Some.field-0-is) ∙ c.in-Ok-Some.ensures.command in
     let r = c.in-Err-answer.refused in
     let files = g.F.Files.content c.args.files.now in
     let before = g.F.Files.faults c.args.files.now in
     let after = g.F.Files.faults c.answer.new.files in
-    let cause = cause_of (texts c.args.words.now) files before after (asked c.in-Ok-Some.command) r.refusal r.name.now some c.in-Err-answer.ensures.refused in
-    let w = told_in_part r.refusal r.name.now c.tell-in-Err-answer.result (Took g.E.Sink.taken g.E.Sink.faults g.E.Sink.sure c.args.err.now c.tell-in-Err-answer.new.err) (CutOff g.E.Sink.taken g.E.Sink.faults g.E.Sink.sure c.args.err.now c.tell-in-Err-answer.new.err) (call_of (texts c.args.words.now) files before after) cause e c.tell-in-Err-answer.ensures.told in
+    let cause = cause_of (texts c.args.words.now) files before after (asked c.in-Ok-Some.command) r.refusal (name_text r.name) some c.in-Err-answer.ensures.refused in
+    let w = told_in_part r.refusal (name_text r.name) c.tell-in-Err-answer.result (Took g.E.Sink.taken g.E.Sink.faults g.E.Sink.sure c.args.err.now c.tell-in-Err-answer.new.err) (CutOff g.E.Sink.taken g.E.Sink.faults g.E.Sink.sure c.args.err.now c.tell-in-Err-answer.new.err) (call_of (texts c.args.words.now) files before after) cause e c.tell-in-Err-answer.ensures.told in
     inr (w.0, w.1, c.in-Err-answer.ensures.nothing)
 
-pub returns-in-Err-answer-clause-complete : goal.returns-in-Err-answer-clause-complete
-returns-in-Err-answer-clause-complete g c = λ map command answer told cmd is.
+pub returns-clause-complete : goal.returns-clause-complete
+returns-clause-complete g c = λ map command answer told cmd is.
     let some : Some (asked c.in-Ok-Some.command) ≡ command_of (texts c.args.words.now) = sym (ap (option_map asked) c.in-Ok-Some.field-0-is) ∙ c.in-Ok-Some.ensures.command in
     let r = c.in-Err-answer.refused in
     let own = asked c.in-Ok-Some.command in
     let files = g.F.Files.content c.args.files.now in
     let before = g.F.Files.faults c.args.files.now in
     let after = g.F.Files.faults c.answer.new.files in
-    let cause = cause_of (texts c.args.words.now) files before after own r.refusal r.name.now some c.in-Err-answer.ensures.refused in
-    refused_completes r.refusal r.name.now c.tell-in-Err-answer.result (Took g.E.Sink.taken g.E.Sink.faults g.E.Sink.sure c.args.err.now c.tell-in-Err-answer.new.err) (CutOff g.E.Sink.taken g.E.Sink.faults g.E.Sink.sure c.args.err.now c.tell-in-Err-answer.new.err)
-    (texts c.args.words.now) files map before after own command answer _ _ _ told some cmd is c.in-Err-answer.ensures.refused c.tell-in-Err-answer.ensures.told
-    (λ e. told_in_part r.refusal r.name.now c.tell-in-Err-answer.result (Took g.E.Sink.taken g.E.Sink.faults g.E.Sink.sure c.args.err.now c.tell-in-Err-answer.new.err) (CutOff g.E.Sink.taken g.E.Sink.faults g.E.Sink.sure c.args.err.now c.tell-in-Err-answer.new.err) (call_of (texts c.args.words.now) files before after) cause e c.tell-in-Err-answer.ensures.told)
+    let cause = cause_of (texts c.args.words.now) files before after own r.refusal (name_text r.name) some c.in-Err-answer.ensures.refused in
+    refused_completes r.refusal (name_text r.name) c.tell-in-Err-answer.result (Took g.E.Sink.taken g.E.Sink.faults g.E.Sink.sure c.args.err.now c.tell-in-Err-answer.new.err) (CutOff g.E.Sink.taken g.E.Sink.faults g.E.Sink.sure c.args.err.now c.tell-in-Err-answer.new.err)
+    (texts c.args.words.now) files map before after own command told some cmd c.in-Err-answer.ensures.refused answer _ _ _ is c.tell-in-Err-answer.ensures.told
+    (λ e. told_in_part r.refusal (name_text r.name) c.tell-in-Err-answer.result (Took g.E.Sink.taken g.E.Sink.faults g.E.Sink.sure c.args.err.now c.tell-in-Err-answer.new.err) (CutOff g.E.Sink.taken g.E.Sink.faults g.E.Sink.sure c.args.err.now c.tell-in-Err-answer.new.err) (call_of (texts c.args.words.now) files before after) cause e c.tell-in-Err-answer.ensures.told)
 
-pub returns-in-Err-answer-clause-headline : goal.returns-in-Err-answer-clause-headline
-returns-in-Err-answer-clause-headline g c = λ value entries cycles i no_read no_out no_err room.
+pub returns-clause-headline : goal.returns-clause-headline
+returns-clause-headline g c = λ value entries cycles i no_read no_out no_err room.
     let some : Some (asked c.in-Ok-Some.command) ≡ command_of (texts c.args.words.now) = sym (ap (option_map asked) c.in-Ok-Some.field-0-is) ∙ c.in-Ok-Some.ensures.command in
     let r = c.in-Err-answer.refused in
     let words = texts c.args.words.now in
     let files = g.F.Files.content c.args.files.now in
-    absurd (refused_outside r.refusal r.name.now c.tell-in-Err-answer.result (Took g.E.Sink.taken g.E.Sink.faults g.E.Sink.sure c.args.err.now c.tell-in-Err-answer.new.err) (CutOff g.E.Sink.taken g.E.Sink.faults g.E.Sink.sure c.args.err.now c.tell-in-Err-answer.new.err)
-    words files i.map (g.F.Files.faults c.args.files.now) (g.F.Files.faults c.answer.new.files) (asked c.in-Ok-Some.command) (image_command i.name i.schedule cycles) (trace_answer value entries cycles)
-    i.told some i.command (input_answer words files value entries cycles i) c.in-Err-answer.ensures.refused room no_read
+    let input = input_answer words files value entries cycles i in
+    absurd (refused_outside r.refusal (name_text r.name) c.tell-in-Err-answer.result (Took g.E.Sink.taken g.E.Sink.faults g.E.Sink.sure c.args.err.now c.tell-in-Err-answer.new.err) (CutOff g.E.Sink.taken g.E.Sink.faults g.E.Sink.sure c.args.err.now c.tell-in-Err-answer.new.err)
+    words files input.map (g.F.Files.faults c.args.files.now) (g.F.Files.faults c.answer.new.files) (asked c.in-Ok-Some.command) input.command
+    input.told some input.asked c.in-Err-answer.ensures.refused (trace_answer value entries cycles) input.served room no_read
     (λ cut. no_err (cut_rose g.E.Sink.taken g.E.Sink.faults g.E.Sink.sure c.args.err.now c.tell-in-Err-answer.new.err _ cut)) c.tell-in-Err-answer.ensures.told)
 
 -- with Usage no file was read
@@ -139,8 +142,32 @@ returns-in-Err-answer-clause-headline g c = λ value entries cycles i no_read no
 pub returns-in-Ok-clause-unread : goal.returns-in-Ok-clause-unread
 returns-in-Ok-clause-unread g c = λ e. absurd (run_not_usage (g.F.Files.content c.args.files.now) (asked c.in-Ok-Some.command) c.in-Ok.status _ _ c.in-Ok.ensures.ok e)
 
-pub returns-in-Err-answer-clause-unread : goal.returns-in-Err-answer-clause-unread
-returns-in-Err-answer-clause-unread g c = λ e.
+pub returns-clause-unread : goal.returns-clause-unread
+returns-clause-unread g c = λ e.
     let r = c.in-Err-answer.refused in
-    absurd (refused_not_usage r.refusal r.name.now c.tell-in-Err-answer.result (Took g.E.Sink.taken g.E.Sink.faults g.E.Sink.sure c.args.err.now c.tell-in-Err-answer.new.err) (CutOff g.E.Sink.taken g.E.Sink.faults g.E.Sink.sure c.args.err.now c.tell-in-Err-answer.new.err)
-    (g.F.Files.content c.args.files.now) (g.F.Files.faults c.args.files.now) (g.F.Files.faults c.answer.new.files) (asked c.in-Ok-Some.command).needs c.in-Err-answer.ensures.refused c.tell-in-Err-answer.ensures.told e)
+    absurd (refused_not_usage r.refusal (name_text r.name) c.tell-in-Err-answer.result (Took g.E.Sink.taken g.E.Sink.faults g.E.Sink.sure c.args.err.now c.tell-in-Err-answer.new.err) (CutOff g.E.Sink.taken g.E.Sink.faults g.E.Sink.sure c.args.err.now c.tell-in-Err-answer.new.err)
+    (g.F.Files.content c.args.files.now) (g.F.Files.faults c.args.files.now) (g.F.Files.faults c.answer.new.files) (asked c.in-Ok-Some.command) c.in-Err-answer.ensures.refused c.tell-in-Err-answer.ensures.told e)
+
+-- a file that does not serve, and objects that do not link
+
+pub returns-in-Ok-clause-complete_link_refused : goal.returns-in-Ok-clause-complete_link_refused
+returns-in-Ok-clause-complete_link_refused g c = λ map command fault name told cmd comes.
+    let some : Some (asked c.in-Ok-Some.command) ≡ command_of (texts c.args.words.now) = sym (ap (option_map asked) c.in-Ok-Some.field-0-is) ∙ c.in-Ok-Some.ensures.command in
+    let before = g.F.Files.faults c.args.files.now in
+    absurd (run_no_link (texts c.args.words.now) (g.F.Files.content c.args.files.now) before before (asked c.in-Ok-Some.command) c.in-Ok.status _ _ map command name fault told some cmd c.in-Ok.ensures.ok comes)
+
+pub returns-clause-complete_bad_file : goal.returns-clause-complete_bad_file
+returns-clause-complete_bad_file g c = λ map command name fault told cmd first.
+    let some : Some (asked c.in-Ok-Some.command) ≡ command_of (texts c.args.words.now) = sym (ap (option_map asked) c.in-Ok-Some.field-0-is) ∙ c.in-Ok-Some.ensures.command in
+    let r = c.in-Err-answer.refused in
+    told_bad_file r.refusal (name_text r.name) c.tell-in-Err-answer.result (Took g.E.Sink.taken g.E.Sink.faults g.E.Sink.sure c.args.err.now c.tell-in-Err-answer.new.err) (CutOff g.E.Sink.taken g.E.Sink.faults g.E.Sink.sure c.args.err.now c.tell-in-Err-answer.new.err)
+    (texts c.args.words.now) (g.F.Files.content c.args.files.now) map (g.F.Files.faults c.args.files.now) (g.F.Files.faults c.answer.new.files) (asked c.in-Ok-Some.command) command
+    told some cmd c.in-Err-answer.ensures.refused name fault first c.tell-in-Err-answer.ensures.told
+
+pub returns-clause-complete_link_refused : goal.returns-clause-complete_link_refused
+returns-clause-complete_link_refused g c = λ map command fault name told cmd comes.
+    let some : Some (asked c.in-Ok-Some.command) ≡ command_of (texts c.args.words.now) = sym (ap (option_map asked) c.in-Ok-Some.field-0-is) ∙ c.in-Ok-Some.ensures.command in
+    let r = c.in-Err-answer.refused in
+    told_link r.refusal (name_text r.name) c.tell-in-Err-answer.result (Took g.E.Sink.taken g.E.Sink.faults g.E.Sink.sure c.args.err.now c.tell-in-Err-answer.new.err) (CutOff g.E.Sink.taken g.E.Sink.faults g.E.Sink.sure c.args.err.now c.tell-in-Err-answer.new.err)
+    (texts c.args.words.now) (g.F.Files.content c.args.files.now) map (g.F.Files.faults c.args.files.now) (g.F.Files.faults c.answer.new.files) (asked c.in-Ok-Some.command) command
+    told some cmd c.in-Err-answer.ensures.refused name fault comes c.tell-in-Err-answer.ensures.told

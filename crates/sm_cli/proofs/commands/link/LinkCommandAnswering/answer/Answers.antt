@@ -1,0 +1,91 @@
+use Rattle.std.proofs.Common.{◌≡◌, None, List, ℕ, map, Bor, refl, ◌∙◌, ap, subst}
+use Rattle.layout_file.specs.Layout.{layout_of}
+use Rattle.sm_io.proofs.Putting.{took_same, cut_same}
+use Rattle.elf_objects.specs.Object.{ObjectValue}
+use Rattle.image_text.specs.ImageText.{image_text}
+use Rattle.linker.specs.Refusals.{link_fault_of}
+use Rattle.sm_cli.specs.Command.{refuses}
+use Rattle.sm_cli.specs.Serve.{IsNeedCause}
+use Rattle.sm_cli.specs.SymbolNames.{symbol_name}
+use Rattle.sm_cli.specs.Unlinked.{IsUnlinked}
+use Rattle.sm_cli.specs.NameText.{name_text}
+use Rattle.sm_cli.specs.Files.{need, layout_file, a_layout, an_object, object_needs, HoldAll}
+use Rattle.sm_cli.specs.LinkCommand.{link_asked, linked_image, text_answer}
+use Rattle.sm_cli.proofs.Objects.{cause_moved}
+use Rattle.sm_cli.proofs.Running.{link_comes, link_answer, linked_refuses, cause_first, cause_next, cause_unlinked}
+use Rattle.sm_cli.proofs.Serving.{by_needs}
+use Rattle.sm_cli.proofs.commands.link.LinkCommandAnswering.answer.Goals as goal
+
+abbrev text_of : Bor (List ℕ) → List ℕ
+text_of name = name.now
+
+pub returns-in-Err-clause-refused : goal.returns-in-Err-clause-refused
+returns-in-Err-clause-refused g c =
+    let own = c.args.self.now in
+    let r = c.in-Err.refused in
+    by_needs _ _ _ (link_asked own) r.refusal (name_text r.name) (cause_first _ _ _ r.refusal (name_text r.name) (need own.layout.now layout_file) (object_needs (map (λ (o : Bor (List ℕ)). o.now) own.objects.items)) c.in-Err.ensures.refused)
+
+pub returns-in-Err-load_objects-clause-refused : goal.returns-in-Err-load_objects-clause-refused
+returns-in-Err-load_objects-clause-refused g c =
+    let own = c.args.self.now in
+    let r = c.in-Err-load_objects.refused in
+    let told = name_text r.name in
+    let files = g.F.Files.content c.args.files.now in
+    let before = g.F.Files.faults c.args.files.now in
+    let after = g.F.Files.faults c.load_objects.new.files in
+    let names = map text_of own.objects.items in
+    let cause = subst (λ (l : List (Bor (List ℕ))). IsNeedCause (g.F.Files.content c.load.new.files) (g.F.Files.faults c.load.new.files) after (object_needs (map text_of l)) r.refusal told) c.as_slice.ensures.value c.in-Err-load_objects.ensures.refused in
+    by_needs files before after (link_asked own) r.refusal told
+    (cause_next files before after r.refusal told (need own.layout.now layout_file) (a_layout (layout_of c.in-Ok.layout)) (object_needs names) c.in-Ok.ensures.holds
+    (cause_moved _ files _ before after (object_needs names) r.refusal told c.in-Ok.ensures.same_files c.in-Ok.ensures.quiet cause))
+
+pub returns-in-Err-linked_image-clause-refused : goal.returns-in-Err-linked_image-clause-refused
+returns-in-Err-linked_image-clause-refused g c =
+    let own = c.args.self.now in
+    let r = c.in-Err-linked_image.refused in
+    let files = g.F.Files.content c.args.files.now in
+    let layout = layout_of c.in-Ok.layout in
+    let objects = c.in-Ok-load_objects.objects.items in
+    let names = map text_of own.objects.items in
+    let read = subst (λ (l : List (Bor (List ℕ))). HoldAll (g.F.Files.content c.load.new.files) (object_needs (map text_of l)) (map an_object objects)) c.as_slice.ensures.value c.in-Ok-load_objects.ensures.hold in
+    let hold = subst (λ f. HoldAll f (object_needs names) (map an_object objects)) c.in-Ok.ensures.same_files read in
+    let unlinked = subst (λ (l : List ObjectValue). IsUnlinked layout l r.refusal (name_text r.name)) c.as_slice-2.ensures.value c.in-Err-linked_image.ensures.refused in
+    cause_unlinked files _ _ r.refusal (name_text r.name) (link_asked own) layout objects
+    (λ fault e. link_comes files own.layout.now names layout objects (refuses fault (symbol_name layout objects fault)) c.in-Ok.ensures.holds hold (linked_refuses layout objects text_answer fault e))
+    (c.in-Ok-load_objects.ensures.quiet ∙ c.in-Ok.ensures.quiet) unlinked
+
+pub returns-in-Ok-put_all-clause-ok : goal.returns-in-Ok-put_all-clause-ok
+returns-in-Ok-put_all-clause-ok g c =
+    let own = c.args.self.now in
+    let files = g.F.Files.content c.args.files.now in
+    let layout = layout_of c.in-Ok.layout in
+    let objects = c.in-Ok-load_objects.objects.items in
+    let names = map text_of own.objects.items in
+    let read = subst (λ (l : List (Bor (List ℕ))). HoldAll (g.F.Files.content c.load.new.files) (object_needs (map text_of l)) (map an_object objects)) c.as_slice.ensures.value c.in-Ok-load_objects.ensures.hold in
+    let hold = subst (λ f. HoldAll f (object_needs names) (map an_object objects)) c.in-Ok.ensures.same_files read in
+    let sound = subst (λ (l : List ObjectValue). link_fault_of layout l ≡ None) c.as_slice-2.ensures.value c.in-Ok-linked_image.ensures.sound in
+    let image = c.in-Ok-linked_image.ensures.image ∙ ap (linked_image layout) c.as_slice-2.ensures.value in
+    let text : c.as_slice-3.result.now ≡ image_text (linked_image layout objects) = c.as_slice-3.ensures.value ∙ c.in-Ok-write.ensures.text ∙ ap image_text image in
+    record {
+      answer = text_answer (linked_image layout objects);
+      served = link_answer files own.layout.now names layout objects c.in-Ok.ensures.holds hold sound;
+      ends = (took_same g.O.Sink.taken g.O.Sink.faults g.O.Sink.sure _ _ _ _ text c.in-Ok-put_all.ensures, refl);
+    }
+
+pub returns-clause-ok : goal.returns-clause-ok
+returns-clause-ok g c =
+    let own = c.args.self.now in
+    let files = g.F.Files.content c.args.files.now in
+    let layout = layout_of c.in-Ok.layout in
+    let objects = c.in-Ok-load_objects.objects.items in
+    let names = map text_of own.objects.items in
+    let read = subst (λ (l : List (Bor (List ℕ))). HoldAll (g.F.Files.content c.load.new.files) (object_needs (map text_of l)) (map an_object objects)) c.as_slice.ensures.value c.in-Ok-load_objects.ensures.hold in
+    let hold = subst (λ f. HoldAll f (object_needs names) (map an_object objects)) c.in-Ok.ensures.same_files read in
+    let sound = subst (λ (l : List ObjectValue). link_fault_of layout l ≡ None) c.as_slice-2.ensures.value c.in-Ok-linked_image.ensures.sound in
+    let image = c.in-Ok-linked_image.ensures.image ∙ ap (linked_image layout) c.as_slice-2.ensures.value in
+    let text : c.as_slice-3.result.now ≡ image_text (linked_image layout objects) = c.as_slice-3.ensures.value ∙ c.in-Ok-write.ensures.text ∙ ap image_text image in
+    record {
+      answer = text_answer (linked_image layout objects);
+      served = link_answer files own.layout.now names layout objects c.in-Ok.ensures.holds hold sound;
+      ends = cut_same g.O.Sink.taken g.O.Sink.faults g.O.Sink.sure _ _ _ _ text c.in-Err-put_all.ensures;
+    }

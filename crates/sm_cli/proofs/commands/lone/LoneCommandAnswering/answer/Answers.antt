@@ -1,0 +1,27 @@
+use Rattle.std.proofs.Common.{◌≡◌, ◌∙◌, ℕ, List, [], ◌∷◌, ap, subst}
+use Rattle.lone_run.specs.Ends.{answer_of}
+use Rattle.lone_run.specs.declared.Outcome.{Outcome as End}
+use Rattle.sm_io.specs.Sink.{Took, CutOff}
+use Rattle.sm_cli.specs.Files.{an_image}
+use Rattle.sm_cli.specs.LoneCommand.{end_of, end_answer, lone_by, lone_asked}
+use Rattle.sm_cli.specs.Pairs.{core_with}
+use Rattle.sm_cli.specs.Serve.{EndsAs}
+use Rattle.sm_cli.proofs.Running.{gives_answer}
+use Rattle.sm_cli.proofs.commands.lone.LoneCommandAnswering.answer.Goals as goal
+
+pub returns-in-Ok-end_of-clause-ok : goal.returns-in-Ok-end_of-clause-ok
+returns-in-Ok-end_of-clause-ok g c =
+    let own = c.args.self.now in
+    let registers = core_with own.pairs.items in
+    let chosen = c.in-Ok.chosen in
+    let same : c.core_with.result ≡ registers = c.core_with.ensures ∙ ap core_with c.as_slice.ensures.value in
+    let ended = c.in-Ok-end_of.ensures ∙ ap (λ (r : List ℕ). answer_of (end_of chosen.image chosen.«module» r own.limit)) same in
+    let told = end_answer own.limit (answer_of (end_of chosen.image chosen.«module» registers own.limit)) in
+    record {
+      answer = told;
+      served = gives_answer (g.F.Files.content c.args.files.now) (lone_asked own) told
+          (record { helds = an_image chosen.image ∷ []; hold = (c.in-Ok.ensures.holds, tt); is = ap (lone_by chosen.image registers own.limit) c.in-Ok.ensures.chosen });
+      ends = subst
+          (λ (end : End). EndsAs c.put_end.result (end_answer own.limit end) (Took g.O.Sink.taken g.O.Sink.faults g.O.Sink.sure c.args.out.now c.put_end.new.out) (CutOff g.O.Sink.taken g.O.Sink.faults g.O.Sink.sure c.args.out.now c.put_end.new.out))
+          ended c.put_end.ensures;
+    }

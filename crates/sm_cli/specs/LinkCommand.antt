@@ -1,0 +1,50 @@
+-- `link LAYOUT OBJ..`: the text of the image that objects link to.
+use Rattle.std.specs.Prelude.{List, [], ◌∷◌, Option, Some, None}
+use Rattle.image_text.specs.Image.{Image}
+use Rattle.image_text.specs.ImageText.{image_text}
+use Rattle.layout_file.specs.Values.{LayoutValue}
+use Rattle.elf_objects.specs.Object.{ObjectValue}
+use Rattle.linker.specs.declared.fault.LinkFault.{LinkFault}
+use Rattle.linker.specs.Image.{linked_memory, linked_table}
+use Rattle.linker.specs.Refusals.{link_fault_of}
+use Rattle.sm_cli.specs.declared.answers.Status.TheVariants as status
+use Rattle.sm_cli.specs.declared.commands.link.LinkCommand.{LinkCommand}
+use Rattle.sm_cli.specs.Words.{Text}
+use Rattle.sm_cli.specs.Files.{Held, an_object, a_layout, layout_file, need, object_needs}
+use Rattle.sm_cli.specs.Command.{Answer, Outcome, gives, refuses, no_outcome, Command}
+use Rattle.sm_cli.specs.SymbolNames.{symbol_name}
+use Rattle.std.specs.Prelude.{map}
+
+-- the objects among what files hold
+abbrev pub objects_in : List Held → List ObjectValue
+objects_in (an_object object ∷ more) = object ∷ objects_in more
+objects_in _ = []
+
+unfoldable pub linked_image : LayoutValue → List ObjectValue → Image
+linked_image layout objects = record { memory = linked_memory layout objects; table = linked_table layout objects; node_key = layout.key; handler_sp = layout.handler_sp }
+
+abbrev pub linked_by : LayoutValue → List ObjectValue → (Image → Answer) → Option LinkFault → Outcome
+linked_by layout objects answer None = gives (answer (linked_image layout objects))
+linked_by layout objects answer (Some fault) = refuses fault (symbol_name layout objects fault)
+
+-- what comes of linking: an answer by the image, or the first refusal
+abbrev pub linked : LayoutValue → List ObjectValue → (Image → Answer) → Outcome
+linked layout objects answer = linked_by layout objects answer (link_fault_of layout objects)
+
+abbrev pub text_answer : Image → Answer
+text_answer image = record { text = image_text image; status = status.Done }
+
+abbrev pub link_outcome : List Held → Outcome
+link_outcome (a_layout layout ∷ objects) = linked layout (objects_in objects) text_answer
+link_outcome _ = no_outcome
+
+abbrev pub link_command : Text → List Text → Command
+link_command layout objects = record { needs = need layout layout_file ∷ object_needs objects; outcome = link_outcome }
+
+abbrev pub link_of : List Text → Option Command
+link_of (layout ∷ objects) = Some (link_command layout objects)
+link_of _ = None
+
+-- what the program's value asks for
+abbrev pub link_asked : LinkCommand → Command
+link_asked c = link_command c.layout.now (map (λ o. o.now) c.objects.items)

@@ -1,0 +1,72 @@
+-- `lone IMAGE ID LIMIT PAIR..`: how a call of a module by itself ends.
+use Rattle.std.specs.Prelude.{ℕ, List, [], ◌∷◌, ◌++◌, Option, Some, None, codes}
+use Rattle.std.specs.Fmt.{decimal}
+use Rattle.sm_words.specs.Words.{put}
+use Rattle.sm_words.specs.declared.registers.TheConstants.{PC}
+use Rattle.mod_layout.specs.declared.Module.{Module}
+use Rattle.mod_layout.specs.Table.{module_of}
+use Rattle.image_text.specs.Image.{Image}
+use Rattle.tracer.specs.Lines.{registers_from}
+use Rattle.written_machine.specs.Peers.{section}
+use Rattle.cpu_step.specs.Lone as lone
+use Rattle.lone_run.specs.Ends.{answer_of}
+use Rattle.lone_run.specs.declared.Outcome.{Outcome as End}
+use Rattle.lone_run.specs.declared.Outcome.TheVariants.{Exit, Closed, Broken, Running}
+use Rattle.sm_cli.specs.declared.answers.Status.TheVariants as status
+use Rattle.sm_cli.specs.declared.commands.lone.LoneCommand.{LoneCommand}
+use Rattle.sm_cli.specs.declared.commands.lone.TheConstants.{NO_CALLER}
+use Rattle.sm_cli.specs.declared.pairs.Pair.{Pair}
+use Rattle.sm_cli.specs.Words.{Text}
+use Rattle.sm_cli.specs.Arguments.{id_of, cycles_of}
+use Rattle.sm_cli.specs.Pairs.{pairs_in, core_with}
+use Rattle.sm_cli.specs.Files.{Held, an_image, image_with, need}
+use Rattle.sm_cli.specs.Command.{Answer, Outcome, gives, no_outcome, Command}
+
+-- the module's entry: PC is where its text starts, the other registers are these, and no module calls
+abbrev pub entry_of : Module → List ℕ → lone.Entry_of
+entry_of owner registers = record { core = put registers PC owner.text.start; caller = NO_CALLER }
+
+-- how the call of an image's module ends within so many cycles
+abbrev pub end_of : Image → Module → List ℕ → ℕ → lone.Outcome
+end_of value owner registers limit =
+    lone.outcome (lone.job_of value.node_key owner (section owner.text value.memory) NO_CALLER) limit (lone.starts (entry_of owner registers) (section owner.ram value.memory))
+
+-- a word, a number of cycles and the sixteen registers
+abbrev pub core_line : List ℕ → ℕ → List ℕ → List ℕ
+core_line name cycles core = name ++ (decimal cycles ++ (registers_from core 0 16 ++ codes "\n"))
+
+abbrev pub number_line : List ℕ → ℕ → List ℕ
+number_line name cycles = name ++ (decimal cycles ++ codes "\n")
+
+-- the line of how a call ends
+abbrev pub end_line : ℕ → End → List ℕ
+end_line limit (Exit core cycles) = core_line (codes "exit ") cycles core
+end_line limit (Closed core cycles) = core_line (codes "closed ") cycles core
+end_line limit (Broken cycles) = number_line (codes "broken ") cycles
+end_line limit Running = number_line (codes "running ") limit
+
+abbrev pub end_answer : ℕ → End → Answer
+end_answer limit end = record { text = end_line limit end; status = status.Done }
+
+abbrev pub lone_by : Image → List ℕ → ℕ → Option Module → Outcome
+lone_by value registers limit (Some owner) = gives (end_answer limit (answer_of (end_of value owner registers limit)))
+lone_by value registers limit None = no_outcome
+
+abbrev pub lone_outcome : ℕ → ℕ → List ℕ → List Held → Outcome
+lone_outcome id limit registers (an_image value ∷ []) = lone_by value registers limit (module_of id value.table)
+lone_outcome id limit registers _ = no_outcome
+
+abbrev pub lone_command : Text → ℕ → ℕ → List ℕ → Command
+lone_command name id limit registers = record { needs = need name (image_with id) ∷ []; outcome = lone_outcome id limit registers }
+
+abbrev pub lone_with : Text → Option ℕ → Option ℕ → Option (List Pair) → Option Command
+lone_with name (Some id) (Some limit) (Some pairs) = Some (lone_command name id limit (core_with pairs))
+lone_with name _ _ _ = None
+
+abbrev pub lone_of : List Text → Option Command
+lone_of (name ∷ id ∷ limit ∷ pairs) = lone_with name (id_of id) (cycles_of limit) (pairs_in pairs)
+lone_of _ = None
+
+-- what the program's value asks for
+abbrev pub lone_asked : LoneCommand → Command
+lone_asked c = lone_command c.image.now c.id c.limit (core_with c.pairs.items)

@@ -1,0 +1,96 @@
+//! `run LAYOUT SCHEDULE CYCLES OBJ..`: the outside trace of the image that objects link to.
+ghost use Rattle.std.specs.Prelude.{◌≡◌, ◌≤◌, IfOk, IfSome, length, map, drop, option_map, option_and_then};
+ghost use Rattle.sm_cli.specs.declared.arguments.TheConstants.{MAX_CYCLES};
+ghost use Rattle.sm_cli.specs.RunCommand.{run_of, run_asked};
+ghost use Rattle.sm_cli.specs.Serve.{texts};
+ghost use Rattle.sm_cli.specs.Words.{values_in};
+
+use crate::answers::{Name, Refusal, Refused, Status};
+use crate::arguments::{cycles_of, file_named};
+use crate::commands::Answering;
+use crate::commands::image::put_trace;
+use crate::linking::linked_image;
+use crate::loading::{load, load_objects, load_schedule};
+use crate::words::values_of;
+use board::Board;
+use layout_file::Layout;
+use sm_io::{Files, Sink};
+use std::alloc::{AllocError, Global};
+
+/// The arguments, with no schedule where its word is `-`.
+#[derive(Drop)]
+pub struct RunCommand<'a> {
+    pub layout: &'a str,
+    pub schedule: Option<&'a str>,
+    pub cycles: u64,
+    pub objects: Vec<&'a str>,
+}
+
+/// The arguments that the words after the first are.
+pub fn read<'a>(alloc: Global, words: &'a [String]) -> Result<Option<RunCommand<'a>>, AllocError>
+    ensures command { IfOk result (λ o. option_map run_asked o ≡ option_and_then run_of (values_in 4 67 (drop 1 (texts words.entry.now)))) }
+    ensures objects { IfOk result (λ o. IfSome o (λ c. length c.objects.items ≤ 64)) }
+    ensures cycles { IfOk result (λ o. IfSome o (λ c. c.cycles ≤ MAX_CYCLES)) }
+{
+    match values_of(alloc, words, 4, 67)? {
+        Some(values) => command_in(alloc, values.as_slice()),
+        None => Ok(None),
+    }
+}
+
+fn command_in<'a>(alloc: Global, values: &[&'a str]) -> Result<Option<RunCommand<'a>>, AllocError>
+    requires { length values.now ≤ 67 }
+    ensures command { IfOk result (λ o. option_map run_asked o ≡ run_of (map (λ w. w.now) values.now)) }
+    ensures objects { IfOk result (λ o. IfSome o (λ c. length c.objects.items ≤ 64)) }
+    ensures cycles { IfOk result (λ o. IfSome o (λ c. c.cycles ≤ MAX_CYCLES)) }
+{
+    match values {
+        [layout, schedule, cycles, objects @ ..] => match cycles_of(cycles) {
+            Some(cycles) => Ok(Some(RunCommand {
+                layout,
+                schedule: file_named(schedule),
+                cycles,
+                objects: objects.to_vec(alloc)?,
+            })),
+            None => Ok(None),
+        },
+        _ => Ok(None),
+    }
+}
+
+impl Answering for RunCommand<'_> {
+    ghost asked = { λ c. run_asked c };
+
+    ghost bounds = { λ c. (length c.objects.items ≤ 64) × (c.cycles ≤ MAX_CYCLES) };
+
+    fn answer<F: Files, O: Sink>(
+        &self,
+        alloc: Global,
+        files: &mut F,
+        out: &mut O,
+    ) -> Result<Status, Refused<'_>> {
+        let layout = match load::<Layout, F>(alloc, self.layout, files) {
+            Ok(layout) => layout,
+            Err(refused) => return Err(refused),
+        };
+        let schedule = match load_schedule(alloc, self.schedule, files) {
+            Ok(schedule) => schedule,
+            Err(refused) => return Err(refused),
+        };
+        let objects = match load_objects(alloc, self.objects.as_slice(), files) {
+            Ok(objects) => objects,
+            Err(refused) => return Err(refused),
+        };
+        let image = match linked_image(alloc, &layout, objects.as_slice()) {
+            Ok(image) => image,
+            Err(refused) => return Err(refused),
+        };
+        match Board::new(alloc, &image, &schedule) {
+            Ok(board) => Ok(put_trace(board, self.cycles, out)),
+            Err(_) => Err(Refused {
+                refusal: Refusal::NoMemory,
+                name: Name::Word(self.layout),
+            }),
+        }
+    }
+}

@@ -1,0 +1,223 @@
+#!/usr/bin/env python3
+"""Random instructions by `sancus image`, against mspdebug's simulator: registers, memory, flags and cycles, an instruction at a time.
+
+    python3 validate/effects.py PROGRAM [CASES [SEED]]
+
+PROGRAM is the built `sancus` (crates/sm_main/out/sm_main). Needs Debian's mspdebug. A case is an instruction of the code table with
+random registers, flags and operands. An image leads to it by a prologue that sets the registers, and reads the memory that it may
+have changed by an epilogue where it left the program counter. What differs is counted under its cause.
+"""
+import collections
+import random
+import re
+import sys
+import tempfile
+
+import machine
+
+PROLOGUE, TEST, NOP, ILLEGAL = 0x0200, 0x8000, 0x4303, 0x0000
+RESERVED = [range(0x0000, 0x0280), range(TEST - 0x20, TEST + 0x40), range(0xFFC0, 0x10000)]
+TWO = "mov add addc subc sub cmp dadd bit bic bis xor and".split()
+ONE = ["rrc", "swpb", "rra", "sxt", "push", "call"]
+CPU_OFF = 0x10
+
+
+def is_free(addr):
+    return not any(addr in place or addr + 1 in place for place in RESERVED)
+
+
+class Case:
+    """An instruction with the state that it begins in."""
+
+    def __init__(self, rng):
+        self.regs = [0] * 16
+        for n in range(4, 16):
+            self.regs[n] = rng.choice([rng.randrange(65536), rng.randrange(0x0280, 0x7F00), rng.choice([0, 1, 0x7FFF, 0x8000, 0xFFFF, 0x80, 0x7F])])
+        self.regs[1] = rng.randrange(0x1000, 0x7000) & ~1
+        self.regs[2] = rng.randrange(512) & ~CPU_OFF
+        self.words = self.instruction(rng)
+        self.regs[0] = TEST
+        self.data = {}
+
+    def instruction(self, rng):
+        kind = rng.random()
+        extension = lambda: rng.choice([rng.randrange(65536), rng.randrange(0x0280, 0x7F00), rng.randrange(64)])
+        if kind < 0.1:
+            return [0x2000 | rng.randrange(0x2000)]
+        if kind < 0.3:
+            first = 0x1000 | rng.randrange(6) << 7 | rng.randrange(128)
+            return [first, extension(), extension()]
+        if kind < 0.32:
+            return [0x1300]
+        return [rng.randrange(4, 16) << 12 | rng.randrange(4096), extension(), extension()]
+
+
+def mode(register, how):
+    """The kind of an operand, and whether it has an extension word."""
+    if register == 3 or (register == 2 and how > 1):
+        return "constant"
+    return ["register", "indexed", "indirect", "increment"][how] if register or how < 2 else ["", "", "outside", "immediate"][how]
+
+
+def shape(case):
+    """Name, byte form, operands as (mode, register, extension word's place), and the number of words; None outside the table."""
+    first, byte = case.words[0], bool(case.words[0] & 0x40)
+    if first >= 0x4000:
+        source, target = mode(first >> 8 & 15, first >> 4 & 3), first >> 7 & 1
+        if source == "outside" or (target and first & 15 == 3):
+            return None
+        long = source in ("indexed", "immediate")
+        operands = [(source, first >> 8 & 15, 1), ("indexed" if target else "register", first & 15, 1 + long)]
+        return TWO[(first >> 12) - 4], byte, operands, 1 + long + target
+    if first < 0x1300:
+        name, source = ONE[first >> 7 & 7], mode(first & 15, first >> 4 & 3)
+        if source == "outside" or (byte and name in ("swpb", "sxt", "call")):
+            return None
+        if name not in ("push", "call") and source in ("constant", "immediate"):
+            return None
+        return name, byte, [(source, first & 15, 1)], 1 + (source in ("indexed", "immediate"))
+    return ("reti" if first == 0x1300 else "jump"), False, [], 1
+
+
+def places(case, name, byte, operands):
+    """The addresses that the instruction may touch; None where one is odd for a word, or not free."""
+    regs, found = list(case.regs), []
+    for how, register, at in operands:
+        if how == "indexed":
+            base = TEST + 2 * at if register == 0 else 0 if register == 2 else regs[register]
+            found.append((base + case.words[at]) & 0xFFFF)
+        elif how in ("indirect", "increment"):
+            found.append(regs[register])
+        if how == "increment" and register != 1:
+            regs[register] = regs[register] + (1 if byte else 2) & 0xFFFF
+        elif how == "increment":
+            regs[1] += 2
+    if name in ("push", "call"):
+        found.append(regs[1] - 2)
+    if name == "reti":
+        found += [regs[1], regs[1] + 2]
+    aligned = byte or not any(addr & 1 for addr in found)
+    return found if aligned and all(map(is_free, found)) else None
+
+
+def prologue(case):
+    code = []
+    for n in [1, *range(4, 16)]:
+        code += [0x4030 | n, case.regs[n]]
+    return [*code, 0x4032, case.regs[2], 0x4030, TEST]
+
+
+PROLOGUE_CYCLES = 13 * 2 + 2 + 3
+
+
+def memory_of(case):
+    memory = bytearray(machine.word_bytes(NOP) * (machine.MEMORY // 2))
+    put = lambda at, words: [memory.__setitem__(slice(at + 2 * k, at + 2 * k + 2), machine.word_bytes(word)) for k, word in enumerate(words)]
+    memory[:PROLOGUE] = bytes(PROLOGUE)
+    put(PROLOGUE, prologue(case))
+    put(TEST, case.words)
+    put(machine.RESET_VECTOR, [PROLOGUE])
+    for addr, value in case.data.items():
+        memory[addr] = value
+    return memory
+
+
+def outside(line):
+    """The registers of an end line."""
+    found = re.search(r"^end (\d+) outside((?: [0-9a-f]{4}){16})$", line, re.M)
+    return [int(it, 16) for it in found[2].split()] if found else None
+
+
+def ours(program, folder, case, watched):
+    """Registers after the instruction, the watched words, and its cycles."""
+    memory = memory_of(case)
+    run = lambda cycles: machine.sancus(program, folder, machine.image_text(memory), "image", "IMAGE", "-", str(cycles))[0]
+    first = run(PROLOGUE_CYCLES + 1)
+    regs = outside(first)
+    if regs is None:
+        return first, None, None
+    code = [word for k, addr in enumerate(watched) for word in (0x4210 | 4 + k, addr & ~1)] + [ILLEGAL]
+    for k, word in enumerate(code):
+        memory[regs[0] + 2 * k : regs[0] + 2 * k + 2] = machine.word_bytes(word)
+    if regs[2] & CPU_OFF:
+        return regs, None, None
+    stop = re.search(r"^(\d+) stop Illegal", run(200), re.M)
+    if not stop:
+        return regs, None, None
+    cycles = int(stop[1]) - PROLOGUE_CYCLES - 3 * len(watched)
+    return regs, outside(run(int(stop[1])))[4 : 4 + len(watched)], cycles
+
+
+def commands(case, watched):
+    """What mspdebug is asked."""
+    memory = memory_of(case)
+    rows = ["fill 0x200 0xfd80 0x03 0x43"]
+    rows += [f"mw {addr:#x} {value:#04x}" for addr, value in case.data.items()]
+    rows.append(f"mw {TEST:#x} " + " ".join(f"{byte:#04x}" for word in case.words for byte in machine.word_bytes(word)))
+    rows += [f"set {n} {value:#x}" for n, value in enumerate(case.regs) if n != 3]
+    rows += ["simio info t", "step", "simio info t", *(f"md {addr & ~1:#x} 2" for addr in watched)]
+    return rows
+
+
+def theirs(cases):
+    """The same of each case, by one run of the simulator."""
+    rows = ["simio add tracer t"]
+    for case, watched in cases:
+        rows += ["=0", *commands(case, watched)]
+    out, _, _ = machine.run(["mspdebug", "-q", "sim"], text="\n".join([*rows, ""]))
+    results = []
+    for part in out.split("(mspdebug) =0")[1:]:
+        blocks = part.split("(mspdebug) ")
+        after = next(it for it in blocks if it.startswith("step"))
+        regs = [int(it, 16) & 0xFFFF for it in re.findall(r"\(\s*(?:PC|SP|SR|R\d+): ([0-9a-f]+)\)", after)]
+        regs = [regs[4 * (n % 4) + n // 4] for n in range(16)]
+        clock = [int(it) for it in re.findall(r"MCLK:\s+(\d+)", part)]
+        words = [int(low, 16) | int(high, 16) << 8 for it in blocks if it.startswith("md") for low, high in re.findall(r"[0-9a-f]{5}: ([0-9a-f]{2}) ([0-9a-f]{2})", it)]
+        results.append((regs, words, clock[-1] - clock[0]))
+    return results
+
+
+def cause(case, name, byte, operands, what, mine, other):
+    """The known causes, each with the side that follows the standard."""
+    return None
+
+
+def main():
+    program = sys.argv[1]
+    count = int(sys.argv[2]) if len(sys.argv) > 2 else 2000
+    rng = random.Random(int(sys.argv[3]) if len(sys.argv) > 3 else 1)
+    cases = []
+    while len(cases) < count:
+        case = Case(rng)
+        form = shape(case)
+        found = form and places(case, *form[:3])
+        if found is None:
+            continue
+        case.words = case.words[: form[3]]
+        case.data = {addr + k & 0xFFFF: rng.randrange(256) for addr in found for k in (0, 1)}
+        cases.append((case, form, found[:4]))
+    differences, examples = collections.Counter(), {}
+    with tempfile.TemporaryDirectory() as folder:
+        expected = theirs([(case, watched) for case, _, watched in cases])
+        for (case, form, watched), (regs, words, cycles) in zip(cases, expected):
+            mine = ours(program, folder, case, watched)
+            for what, one, two in (("registers", mine[0], regs), ("memory", mine[1], words), ("cycles", mine[2], cycles)):
+                if one is None or one == two or (what == "registers" and one[:2] + one[4:] == two[:2] + two[4:] and one[2] == two[2] & 0x1FF):
+                    continue
+                why = cause(case, *form[:3], what, one, two) or "NOT EXPLAINED: " + what + " of " + form[0] + (".b " if byte_form(form) else " ") + " ".join(f"{it[0]}{it[1] if it[1] < 4 else ''}" for it in form[2])
+                differences[why] += 1
+                show = lambda it: [f"{x:04x}" for x in it] if isinstance(it, list) else it
+                examples.setdefault(why, f"{[f'{w:04x}' for w in case.words]} regs {show(case.regs)} at {show(watched)}: {show(one)}, mspdebug {show(two)}")
+    for why, number in differences.most_common():
+        print(f"{number:6} {why}\n       {examples[why]}")
+    unexplained = sum(number for why, number in differences.items() if why.startswith("NOT EXPLAINED"))
+    print(f"{len(cases)} cases, {sum(differences.values())} differences, {'each explained' if not unexplained else f'{unexplained} NOT EXPLAINED'}")
+    return 1 if unexplained else 0
+
+
+def byte_form(form):
+    return form[1]
+
+
+if __name__ == "__main__":
+    sys.exit(main())
