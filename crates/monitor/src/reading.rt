@@ -13,7 +13,8 @@ use texts::next_line;
 /// The script that a text writes.
 ///
 /// Line by line from 1, a line of no form is `Line`, and one with a number out of bounds is `Number`. The first of
-/// these is answered, unless memory runs out before. The lines ask for no more cycles than [`MAX_CYCLES`](crate::MAX_CYCLES) a byte.
+/// these is answered, unless memory runs out before.
+/// The lines ask for no more cycles than [`MAX_CYCLES`](crate::MAX_CYCLES) a byte of the text.
 pub fn read_script(alloc: Global, bytes: &[u8]) -> Result<Script, ScriptFault>
     ensures read { IfOk result (λ script. script_of bytes.now ≡ Ok script.lines.items) }
     ensures cycles { IfOk result (λ script. all_cycles script.lines.items ≤ MAX_CYCLES * length bytes.now) }

@@ -71,12 +71,16 @@ fn rows() -> &'static [(&'static str, &'static str, &'static str)] {
         (
             CALLER,
             "go 6\nregs\nmem 0400 2\nmem 0402 1",
-            "5 enter 1 from 0\nregs 6 inside 1\nrefused ReadData addr 0400 module 1\n0402: 00\nend 6 inside 1\n",
+            "\
+            5 enter 1 from 0\nregs 6 inside 1\nrefused ReadData addr 0400 module 1\n0402: 00\n\
+            end 6 inside 1\n",
         ),
         (
             CALLER,
             "mem 03fe 2\nmem 03fe 3\nmem 0401 1\nmem fffe 2\nmem 0200 10\ngo 6\n",
-            "03fe: 0000\nrefused ReadData addr 0400 module 1\nrefused ReadData addr 0401 module 1\nfffe: 0002\n0200: 3740080230400003ff3f\n5 enter 1 from 0\nend 6 inside 1\n",
+            "\
+            03fe: 0000\nrefused ReadData addr 0400 module 1\nrefused ReadData addr 0401 module 1\n\
+            fffe: 0002\n0200: 3740080230400003ff3f\n5 enter 1 from 0\nend 6 inside 1\n",
         ),
         (
             CALLER,
@@ -86,22 +90,30 @@ fn rows() -> &'static [(&'static str, &'static str, &'static str)] {
         (
             CALLER,
             "until 0208 100\nregs\n",
-            "5 enter 1 from 0\n7 leave 1 pc 0208\nregs 9 outside 0208 0000 0000 0000 0000 0000 0000 0208 0000 0000 0000 0000 0000 0000 0000 0000\nend 9 outside 0208 0000 0000 0000 0000 0000 0000 0208 0000 0000 0000 0000 0000 0000 0000 0000\n",
+            "\
+            5 enter 1 from 0\n7 leave 1 pc 0208\n\
+            regs 9 outside 0208 0000 0000 0000 0000 0000 0000 0208 0000 0000 0000 0000 0000 0000 0000 0000\n\
+            end 9 outside 0208 0000 0000 0000 0000 0000 0000 0208 0000 0000 0000 0000 0000 0000 0000 0000\n",
         ),
         (
             LONGER,
             "until 0302 40\n",
-            "12 enter 1 from 0\n16 leave 1 pc 0214\nend 40 outside 0214 0600 0008 0000 0000 0000 0000 0214 0000 0000 0000 0000 0000 0000 0000 0000\n",
+            "\
+            12 enter 1 from 0\n16 leave 1 pc 0214\n\
+            end 40 outside 0214 0600 0008 0000 0000 0000 0000 0214 0000 0000 0000 0000 0000 0000 0000 0000\n",
         ),
         (
             SLEEPER,
             "until 0000 1000000000\n",
-            "end 1000000000 outside 020c 0600 0018 0000 0000 0000 0000 0000 0000 0000 0000 0000 0000 0000 0000 0000\n",
+            "\
+            end 1000000000 outside 020c 0600 0018 0000 0000 0000 0000 0000 0000 0000 0000 0000 0000 0000 0000 0000\n",
         ),
         (
             STOPPER,
             "mark\ngo 3\nuntil 0002 5\nback 0\ngo 1\nlast 0000 0\n",
-            "mark 0 at 0\n0 stop FetchDevice pc 0000 addr 0000 module 0\nback 0 at 0\n0 stop FetchDevice pc 0000 addr 0000 module 0\nrefused NotThere 0000\nend 0 stopped\n",
+            "\
+            mark 0 at 0\n0 stop FetchDevice pc 0000 addr 0000 module 0\nback 0 at 0\n\
+            0 stop FetchDevice pc 0000 addr 0000 module 0\nrefused NotThere 0000\nend 0 stopped\n",
         ),
         (
             CALLER,
@@ -111,22 +123,34 @@ fn rows() -> &'static [(&'static str, &'static str, &'static str)] {
         (
             CALLER,
             "mark\ngo 12\nlast 0208 0\n",
-            "mark 0 at 0\n5 enter 1 from 0\n7 leave 1 pc 0208\nlast 0208 at 11\nend 11 outside 0208 0000 0000 0000 0000 0000 0000 0208 0000 0000 0000 0000 0000 0000 0000 0000\n",
+            "\
+            mark 0 at 0\n5 enter 1 from 0\n7 leave 1 pc 0208\nlast 0208 at 11\n\
+            end 11 outside 0208 0000 0000 0000 0000 0000 0000 0208 0000 0000 0000 0000 0000 0000 0000 0000\n",
         ),
         (
             CALLER,
             "back 3\n",
-            "refused NoMark 3\nend 0 outside 0200 0000 0000 0000 0000 0000 0000 0000 0000 0000 0000 0000 0000 0000 0000 0000\n",
+            "\
+            refused NoMark 3\n\
+            end 0 outside 0200 0000 0000 0000 0000 0000 0000 0000 0000 0000 0000 0000 0000 0000 0000 0000\n",
         ),
         (
             CALLER,
             "mark\ngo 6\nback 0\nlast 0200 0\nlast 0200 1\ngo 6\n",
-            "mark 0 at 0\n5 enter 1 from 0\nback 0 at 0\nrefused NotThere 0200\nrefused NoMark 1\n5 enter 1 from 0\nend 6 inside 1\n",
+            "\
+            mark 0 at 0\n5 enter 1 from 0\nback 0 at 0\nrefused NotThere 0200\nrefused NoMark 1\n\
+            5 enter 1 from 0\nend 6 inside 1\n",
         ),
         (
             CALLER,
-            "go 6\nmark\nmark\nmark\nmark\nmark\nmark\nmark\nmark\nmark\nmark\nmark\nmark\nmark\nmark\nmark\nmark\nmark\n",
-            "5 enter 1 from 0\nmark 0 at 6\nmark 1 at 6\nmark 2 at 6\nmark 3 at 6\nmark 4 at 6\nmark 5 at 6\nmark 6 at 6\nmark 7 at 6\nmark 8 at 6\nmark 9 at 6\nmark 10 at 6\nmark 11 at 6\nmark 12 at 6\nmark 13 at 6\nmark 14 at 6\nmark 15 at 6\nrefused MarksFull 16\nend 6 inside 1\n",
+            "\
+            go 6\nmark\nmark\nmark\nmark\nmark\nmark\nmark\nmark\nmark\nmark\nmark\nmark\nmark\nmark\n\
+            mark\nmark\nmark\n",
+            "\
+            5 enter 1 from 0\nmark 0 at 6\nmark 1 at 6\nmark 2 at 6\nmark 3 at 6\nmark 4 at 6\n\
+            mark 5 at 6\nmark 6 at 6\nmark 7 at 6\nmark 8 at 6\nmark 9 at 6\nmark 10 at 6\n\
+            mark 11 at 6\nmark 12 at 6\nmark 13 at 6\nmark 14 at 6\nmark 15 at 6\n\
+            refused MarksFull 16\nend 6 inside 1\n",
         ),
     ]
 }
