@@ -12,17 +12,19 @@ use crate::{Board, Ran};
 use sm_io::{Failed, Sink};
 
 impl Board {
-    /// Cycles until, before a cycle, the outside is about to begin the instruction at `addr`, at most so many, or fewer where it
-    /// stops; with their lines. After `SinkFailed` the board stands after the cycle whose lines were refused, and they are not
-    /// put again.
+    /// Cycles until, before a cycle, the outside is about to begin the instruction at `addr`, at most so many, or fewer
+    /// where it stops; with their lines. After `SinkFailed` the board stands after the cycle whose lines were refused,
+    /// and they are not put again.
     pub fn run_until<S: Sink>(&mut self, addr: u16, most: u64, sink: &mut S) -> Ran
         requires { self.old.present.cycle + most ≤ 2 ^ 62 }
-        ensures ran { Runs S.taken S.faults S.sure (cycles_until addr self.old.present most) self.old.present self.new.present sink.old sink.new result }
+        ensures ran { Runs S.taken S.faults S.sure (cycles_until addr self.old.present most)
+            self.old.present self.new.present sink.old sink.new result }
         ensures number { self.new.present.cycle ≤ self.old.present.cycle + most }
         ensures marks { self.new ≡ at_state self.old self.new.present }
 
         // The lines are those of each image that differs in one confined module's data alone.
-        ensures peers { PeersRun S.taken S.faults S.sure (cycles_until addr self.old.present most) self.old.present sink.old sink.new result }
+        ensures peers { PeersRun S.taken S.faults S.sure (cycles_until addr self.old.present most)
+            self.old.present sink.old sink.new result }
     {
         isolation::texts();
         let mut left = most;
@@ -45,8 +47,8 @@ impl Board {
         self.ended()
     }
 
-    // Lets at most so many cycles pass in which nothing begins and nothing arrives, and before none of which it stands at
-    // `addr`, and gives how many passed.
+    // Lets at most so many cycles pass in which nothing begins and nothing arrives, and before none of which it stands
+    // at `addr`, and gives how many passed.
     fn pass_apart(&mut self, addr: u16, most: u64) -> u64
         requires { self.old.present.cycle + most ≤ 2 ^ 62 }
         ensures most { result ≤ most }

@@ -1,33 +1,32 @@
 -- What is done and put, one move after another.
-use Rattle.std.proofs.Common.{◌≡◌, ℕ, zero, suc, ◌+◌, ◌-◌, ◌<◌, ◌≤◌, Bool, true, false, cond, nat_lt, List, [], ◌∷◌, ◌++◌, length, take, drop, get_or, Option, Some, None, Result, Ok, Err, refl, sym, ◌∙◌, ap, subst, arith}
-use Rattle.std.specs.Io.KnownBytes.{Appends}
+use Rattle.std.proofs.Common.{◌≡◌, ℕ, suc, ◌+◌, ◌-◌, ◌<◌, ◌≤◌, true, false, cond, nat_lt, List, [], ◌∷◌, ◌++◌, length, take, drop, get_or, Option, Some, None, Result, Ok, Err, refl, sym, ◌∙◌, ap, subst, arith}
 use Rattle.std.specs.Option.{option_map, option_and_then}
 use Rattle.std.proofs.lemmas.Bool.Decides.{nat_tests}
-use Rattle.std.proofs.lemmas.List.{append_assoc, append-nil}
+use Rattle.std.proofs.lemmas.List.{append_assoc, append-nil, at_drop_more}
 use Rattle.std.proofs.lemmas.Option.{slice_get_past}
+use Rattle.std.proofs.Math.ListN.{drop_of_length-le}
 use Rattle.pc_access.specs.declared.Stop.{Stop}
 use Rattle.sm_io.specs.Sink.{Took, CutOff, Puts}
 use Rattle.sm_io.specs.declared.sink.Failed.{Failed}
-use Rattle.sm_io.proofs.Putting.{appends_nothing, appends_then, appends_same, took_nothing, took_then, took_same, cut_later, cut_first, cut_same}
+use Rattle.sm_io.proofs.Putting.{appends_then, appends_same, took_nothing, took_then, took_same, cut_later, cut_first, cut_same}
 use Rattle.isolation.proofs.Moves.{led_append, text_append, led_cycles, text_cycles, cycles_split}
 use Rattle.isolation.specs.Laws.{SamePlays}
-use Rattle.written_machine.specs.Cycle.{cycle, after_cycles}
-use Rattle.written_machine.specs.Marks.{Marked, unmarked, at_state, cut_at, last_from, last_at}
+use Rattle.written_machine.specs.Cycle.{after_cycles}
+use Rattle.written_machine.specs.Marks.{Marked, at_state, cut_at, last_from, last_at}
 use Rattle.written_machine.specs.Script.{Move, shown, cycle_move, cycle_moves, line_moves, last_move, not_there_text, no_mark_text, led, moves, text_of, play}
-use Rattle.written_machine.specs.State.{State}
 use Rattle.written_machine.specs.Trace.{end_line_of, lines_after}
-use Rattle.written_machine.specs.View.{boot}
 use Rattle.written_machine.specs.declared.ScriptLine.{ScriptLine}
 use Rattle.board.specs.Alike.{TookLines}
 use Rattle.board.specs.Faults.{IsLastFault}
 use Rattle.board.specs.declared.marks.LastFault.{LastFault}
 use Rattle.board.specs.declared.marks.LastFault.TheVariants as fault
 use Rattle.monitor.specs.Shown.{fault_text}
-use Rattle.board.specs.Ran.{lines_now, ran_of, RanWhole, RanCutOff}
+use Rattle.board.specs.Ran.{ran_of, RanWhole, RanCutOff}
 use Rattle.board.specs.declared.Ran.{Ran}
 use Rattle.board.specs.declared.Ran.TheVariants as ran
 use Rattle.board.proofs.Runs.{state_more}
-use Rattle.monitor.specs.Played.{most_cycles, all_cycles, Whole, CutShort, Does, Plays, PeersPlay}
+use Rattle.monitor.specs.Bounds.{most_cycles, all_cycles}
+use Rattle.monitor.specs.Played.{Whole, CutShort, Does, Plays, PeersPlay}
 
 -- what is told of a fault of `last`
 last_refused : (addr k : ℕ) (g : Marked) (fault : LastFault) → IsLastFault addr k g fault → last_move addr k g (last_at addr k g) ≡ shown (fault_text fault) g
@@ -44,6 +43,17 @@ last_refused_text addr k g fault text h is = is ∙ sym (ap (λ (m : Move). m.te
 
 pub last_refused_after : (addr k : ℕ) (g new : Marked) (fault : LastFault) → IsLastFault addr k g fault → new ≡ g → new ≡ (last_move addr k g (last_at addr k g)).after
 last_refused_after addr k g new fault h is = is ∙ sym (ap (λ (m : Move). m.after) (last_refused addr k g fault h))
+
+-- the i-th line, and what its cycles leave for the lines after it
+pub line_at : (script items : List ScriptLine) (i : ℕ) (d : ScriptLine) → items ≡ script → i < length items → drop i script ≡ get_or items i d ∷ drop (i + 1) script
+line_at script items i d is h = subst (λ ls. i < length ls → drop i script ≡ get_or ls i d ∷ drop (i + 1) script) (sym is) (λ low. at_drop_more (λ ls. ls) script i d low) h
+
+-- no line is left
+pub none_left : (script items : List ScriptLine) (i : ℕ) → items ≡ script → (i < length items → ⊥) → drop i script ≡ []
+none_left script items i is h = let past : length script ≤ i = omega (arith, ap length is, h) in drop_of_length-le script {i = i} past
+
+pub cycles_left : (script : List ScriptLine) (i : ℕ) (l : ScriptLine) (now most : ℕ) → drop i script ≡ l ∷ drop (i + 1) script → now + all_cycles (drop i script) ≤ most → now + (most_cycles l + all_cycles (drop (i + 1) script)) ≤ most
+cycles_left script i l now most at h = subst (λ ls. now + all_cycles ls ≤ most) at h
 
 module _ {S : Type 0} (taken : S → Option (List ℕ)) (faults sure : S → ℕ) where
   -- ---- moves one after another
@@ -103,6 +113,9 @@ module _ {S : Type 0} (taken : S → Option (List ℕ)) (faults sure : S → ℕ
         bytes = u.front.1;
         cut = cut_same taken faults sure before after m.text (m.text ++ []) (sym (append-nil m.text)) u;
       }
+
+  pub does_line : (line : ScriptLine) (old new : Marked) (before after : S) (m : Move) (text : List ℕ) (r : Result (Unit {0}) Failed) → line_moves old line ≡ m ∷ [] → text ≡ m.text → new ≡ m.after → Puts taken faults sure before after text r → Does taken faults sure old new before after (line_moves old line) r
+  does_line line old new before after m text r one e is t = subst (λ ms. Does taken faults sure old new before after ms r) (sym one) (does_one old new before after m text r e is t)
 
   -- ---- cycles
   pub cycles_done : (n : ℕ) (old new : Marked) (before after : S) → RanWhole taken faults sure n old.present new.present before after → new ≡ at_state old new.present → Whole taken faults sure old new before after (cycle_moves old n)

@@ -1,5 +1,5 @@
 -- A line of a script and its text.
-use Rattle.std.proofs.Common.{ℕ, ◌≡◌, ◌+◌, ◌^◌, ◌<◌, ◌≤◌, Bool, true, false, ◌&&◌, ◌==◌, nat_le, cond, List, [], ◌∷◌, ◌++◌, length, take, drop, get_or, Option, Some, None, Result, Ok, Err, codes, append_assoc, refl, ap, sym, subst, ◌∙◌, arith}
+use Rattle.std.proofs.Common.{ℕ, ◌≡◌, ◌+◌, ◌^◌, ◌<◌, ◌≤◌, Bool, true, false, ◌&&◌, ◌==◌, nat_le, cond, List, ◌∷◌, ◌++◌, length, take, drop, get_or, Option, Some, None, Ok, Err, codes, refl, ap, sym, subst, ◌∙◌, arith}
 use Rattle.std.specs.Fmt.{decimal}
 use Rattle.std.specs.Option.{option_map}
 use Rattle.std.specs.Result.{result_ok}
@@ -14,7 +14,6 @@ use Rattle.texts.proofs.LawLemmas.{words_are_read}
 use Rattle.written_machine.specs.declared.ScriptLine.{ScriptLine}
 use Rattle.written_machine.specs.declared.ScriptLine.TheVariants.{Go, Until, Regs, Mem, Mark, Back, Last}
 use Rattle.monitor.specs.declared.line.Operands.{Operands}
-
 use Rattle.monitor.specs.declared.line.LineFault.TheVariants as fault
 use Rattle.monitor.specs.Bounds.{is_bounded, IsBounded, IsAddressed, IsLine}
 use Rattle.monitor.specs.Laws.{LinesAreRead}

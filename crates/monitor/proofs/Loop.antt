@@ -1,10 +1,13 @@
 -- What reading keeps from line to line.
-use Rattle.std.proofs.Common.{ℕ, ◌≡◌, ◌+◌, ◌<◌, ◌≤◌, ◌∙◌, ap, sym, refl, List, [], ◌∷◌, ◌++◌, length, append_assoc, arith, Result, Ok, Err}
+use Rattle.std.proofs.Common.{ℕ, ◌≡◌, ◌+◌, ◌*◌, ◌<◌, ◌≤◌, ◌∙◌, ap, sym, refl, List, [], ◌∷◌, ◌++◌, length, append_assoc, arith, Result, Ok, Err}
 use Rattle.std.specs.Prelude.{All}
 use Rattle.std.proofs.lemmas.List.Elements.{All-push, All-nil}
+use Rattle.std.proofs.lemmas.Bool.Decides.{nat_tests}
 use Rattle.texts.specs.Lines.{lines_of}
 use Rattle.written_machine.specs.declared.ScriptLine.{ScriptLine}
-use Rattle.monitor.specs.Bounds.{IsBounded}
+use Rattle.written_machine.specs.declared.ScriptLine.TheVariants.{Go, Until, Regs, Mem, Mark, Back, Last}
+use Rattle.monitor.specs.Bounds.{IsBounded, most_cycles, all_cycles}
+use Rattle.monitor.specs.declared.TheConstants.{MAX_CYCLES}
 use Rattle.monitor.specs.Line.{form_of, checked}
 use Rattle.monitor.specs.Reading.{after_lines, from_line, script_from, script_of}
 use Rattle.monitor.specs.declared.ScriptFault.{ScriptFault}
@@ -14,6 +17,21 @@ pub record IsRead (bytes : List ℕ) (lines : List ScriptLine) (rest : List ℕ)
   pub total : script_of bytes ≡ after_lines lines (script_from n (lines_of rest))
   pub bounds : All IsBounded lines
   pub room : n + length rest ≤ length bytes + 1
+  pub few : all_cycles lines + MAX_CYCLES * length rest ≤ MAX_CYCLES * length bytes
+
+-- the cycles of one line more
+all_more : (lines : List ScriptLine) (line : ScriptLine) → all_cycles (lines ++ line ∷ []) ≡ all_cycles lines + most_cycles line
+all_more [] line = omega arith
+all_more (l ∷ lines) line = omega (arith, all_more lines line)
+
+most_bounded : (line : ScriptLine) → IsBounded line → most_cycles line ≤ MAX_CYCLES
+most_bounded (Go n) b = grind (arith, nat_tests)
+most_bounded (Until addr n) b = grind (arith, nat_tests)
+most_bounded Regs b = omega arith
+most_bounded (Mem addr n) b = omega arith
+most_bounded Mark b = omega arith
+most_bounded (Back k) b = omega arith
+most_bounded (Last addr k) b = omega arith
 
 nothing_before : (r : Result (List ScriptLine) ScriptFault) → r ≡ after_lines [] r
 nothing_before (Ok lines) = refl
@@ -26,7 +44,7 @@ one_more lines line (Err fault) = refl
 -- before the first line
 pub IsRead-start : (bytes : List ℕ) → IsRead bytes [] bytes 1
 unfolding script_of
-IsRead-start bytes = record { total = nothing_before (script_from 1 (lines_of bytes)); bounds = All-nil IsBounded; room = omega arith }
+IsRead-start bytes = record { total = nothing_before (script_from 1 (lines_of bytes)); bounds = All-nil IsBounded; room = omega arith; few = omega arith }
 
 -- at one more line
 pub IsRead-line : (bytes : List ℕ) (lines : List ScriptLine) (rest text after : List ℕ) (n : ℕ) (r : Result ScriptLine LineFault) → IsRead bytes lines rest n
@@ -41,4 +59,5 @@ IsRead-push bytes lines rest text after n line read cut shorter is bounded = rec
   total = IsRead-line bytes lines rest text after n (Ok line) read cut is ∙ one_more lines line (script_from (n + 1) (lines_of after));
   bounds = All-push IsBounded lines line read.bounds bounded;
   room = omega (arith, read.room, shorter);
+  few = omega (arith, read.few, shorter, all_more lines line, most_bounded line bounded);
 }

@@ -1,5 +1,5 @@
 -- What is shown, one piece more at the end.
-use Rattle.std.proofs.Common.{◌≡◌, ℕ, zero, suc, ◌+◌, ◌-◌, ◌<◌, List, [], ◌∷◌, ◌++◌, cond, codes, Option, Some, None, refl, sym, ◌∙◌, ap, arith, add-zero, add-one}
+use Rattle.std.proofs.Common.{◌≡◌, ℕ, zero, suc, ◌+◌, ◌-◌, ◌<◌, List, ◌++◌, cond, codes, Some, None, refl, sym, ◌∙◌, ap, arith, add-zero, add-one}
 use Rattle.std.proofs.lemmas.List.{append_assoc, append-nil}
 use Rattle.mod_layout.specs.Table.{Table, place_of}
 use Rattle.mod_layout.specs.declared.Place.{Place}

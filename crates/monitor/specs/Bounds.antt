@@ -1,5 +1,5 @@
 -- The bounds of the numbers of a script's lines.
-use Rattle.std.specs.Prelude.{◌≡◌, ℕ, ◌+◌, ◌<◌, Bool, true, ◌&&◌, nat_le}
+use Rattle.std.specs.Prelude.{◌≡◌, ℕ, ◌+◌, ◌<◌, Bool, true, ◌&&◌, nat_le, List, [], ◌∷◌}
 use Rattle.mod_layout.specs.declared.TheConstants.{DEVICES_END}
 use Rattle.written_machine.specs.declared.ScriptLine.{ScriptLine}
 use Rattle.written_machine.specs.declared.ScriptLine.TheVariants.{Go, Until, Regs, Mem, Mark, Back, Last}
@@ -29,3 +29,14 @@ IsAddressed _ = Unit {0}
 pub record IsLine (l : ScriptLine) : Type 0 where
   pub addressed : IsAddressed l
   pub bounded : IsBounded l
+
+-- the most cycles that a line can take
+abbrev pub most_cycles : ScriptLine → ℕ
+most_cycles (Go n) = n
+most_cycles (Until addr n) = n
+most_cycles _ = 0
+
+-- and all lines together
+abbrev pub all_cycles : List ScriptLine → ℕ
+all_cycles [] = 0
+all_cycles (l ∷ ls) = most_cycles l + all_cycles ls

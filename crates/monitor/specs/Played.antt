@@ -1,5 +1,5 @@
 -- What playing a script on a sink does.
-use Rattle.std.specs.Prelude.{◌≡◌, ℕ, ◌+◌, ◌<◌, List, [], ◌∷◌, ◌++◌, length, take, Option, Some, None, Result, Ok, Err}
+use Rattle.std.specs.Prelude.{◌≡◌, ℕ, ◌<◌, List, ◌∷◌, ◌++◌, length, take, Option, Some, None, Result, Ok, Err}
 use Rattle.std.specs.Io.KnownBytes.{Appends}
 use Rattle.schedule_file.specs.declared.Entry.{Entry}
 use Rattle.image_text.specs.Image.{Image}
@@ -10,21 +10,9 @@ use Rattle.written_machine.specs.Peers.{Peers}
 use Rattle.written_machine.specs.Script.{Move, led, moves, text_of, play}
 use Rattle.written_machine.specs.View.{boot}
 use Rattle.written_machine.specs.declared.ScriptLine.{ScriptLine}
-use Rattle.written_machine.specs.declared.ScriptLine.TheVariants.{Go, Until, Regs, Mem, Mark, Back, Last}
 use Rattle.board.specs.declared.Ran.{Ran}
 use Rattle.board.specs.declared.Ran.TheVariants as ran
 use Rattle.board.specs.Alike.{TookLines}
-
--- the most cycles that a line can take
-abbrev pub most_cycles : ScriptLine → ℕ
-most_cycles (Go n) = n
-most_cycles (Until addr n) = n
-most_cycles _ = 0
-
--- and all lines together
-abbrev pub all_cycles : List ScriptLine → ℕ
-all_cycles [] = 0
-all_cycles (l ∷ ls) = most_cycles l + all_cycles ls
 
 module _ {S : Type 0} (taken : S → Option (List ℕ)) (faults sure : S → ℕ) where
   -- all these moves were done, and the sink took their text

@@ -1,7 +1,7 @@
 //! Scripts for a running machine: their text, and what they do to a board and write.
 //!
-//! A text has lines `go N`, `until AAAA N`, `regs`, `mem AAAA N`, `mark`, `back K` and `last AAAA K`. AAAA is four lower-case
-//! hexadecimal digits, N and K are decimals without leading zero. The last line may lack its LF.
+//! A text has lines `go N`, `until AAAA N`, `regs`, `mem AAAA N`, `mark`, `back K` and `last AAAA K`. AAAA is four
+//! lower-case hexadecimal digits, N and K are decimals without leading zero. The last line may lack its LF.
 #![tactic(auto)]
 
 ghost use Rattle.std.specs.Prelude.{All};

@@ -5,8 +5,8 @@ ghost use Rattle.board.specs.Ran.{ran_of};
 ghost use Rattle.sm_io.specs.Sink.{Puts};
 ghost use Rattle.written_machine.specs.Script.{cycle_moves, line_moves};
 ghost use Rattle.written_machine.specs.Standing.{cycles_until};
-ghost use Rattle.monitor.specs.Bounds.{IsBounded};
-ghost use Rattle.monitor.specs.Played.{Does, Plays, PeersPlay, most_cycles, all_cycles};
+ghost use Rattle.monitor.specs.Bounds.{IsBounded, most_cycles, all_cycles};
+ghost use Rattle.monitor.specs.Played.{Does, Plays, PeersPlay};
 
 use crate::commands::{back, last, mark};
 use crate::showing::{Line, mem_line, regs_line};
@@ -14,8 +14,8 @@ use crate::{Script, ScriptLine};
 use board::{Board, Hidden, Ran};
 use sm_io::{Failed, Sink, put_all};
 
-/// Does the lines of a script in their order, puts what they write, and then puts the end line. A stopped board does not end
-/// the script.
+/// Does the lines of a script in their order, puts what they write, and then puts the end line. A stopped board does
+/// not end the script.
 ///
 /// After `SinkFailed` the board stands after the cycle or the command whose text was refused.
 pub fn play<S: Sink>(board: &mut Board, script: &Script, sink: &mut S) -> Ran
@@ -53,7 +53,8 @@ fn ended(board: &Board) -> Ran
 fn play_line<S: Sink>(board: &mut Board, line: ScriptLine, sink: &mut S) -> Result<(), Failed>
     requires bounds { IsBounded line }
     requires cycles { board.old.present.cycle + most_cycles line ≤ 2 ^ 62 }
-    ensures done { Does S.taken S.faults S.sure board.old board.new sink.old sink.new (line_moves board.old line) result }
+    ensures done { Does S.taken S.faults S.sure board.old board.new sink.old sink.new
+        (line_moves board.old line) result }
     ensures number { board.new.present.cycle ≤ board.old.present.cycle + most_cycles line }
 {
     match line {
@@ -72,7 +73,8 @@ fn play_line<S: Sink>(board: &mut Board, line: ScriptLine, sink: &mut S) -> Resu
 // So many cycles.
 fn go<S: Sink>(board: &mut Board, cycles: u64, sink: &mut S) -> Result<(), Failed>
     requires { board.old.present.cycle + cycles ≤ 2 ^ 62 }
-    ensures done { Does S.taken S.faults S.sure board.old board.new sink.old sink.new (cycle_moves board.old cycles) result }
+    ensures done { Does S.taken S.faults S.sure board.old board.new sink.old sink.new
+        (cycle_moves board.old cycles) result }
     ensures number { board.new.present.cycle ≤ board.old.present.cycle + cycles }
 {
     match board.run(cycles, sink) {
@@ -83,14 +85,10 @@ fn go<S: Sink>(board: &mut Board, cycles: u64, sink: &mut S) -> Result<(), Faile
 }
 
 // Cycles until it stands at an address, at most so many.
-fn go_until<S: Sink>(
-    board: &mut Board,
-    addr: u16,
-    most: u64,
-    sink: &mut S,
-) -> Result<(), Failed>
+fn go_until<S: Sink>(board: &mut Board, addr: u16, most: u64, sink: &mut S) -> Result<(), Failed>
     requires { board.old.present.cycle + most ≤ 2 ^ 62 }
-    ensures done { Does S.taken S.faults S.sure board.old board.new sink.old sink.new (cycle_moves board.old (cycles_until addr board.old.present most)) result }
+    ensures done { Does S.taken S.faults S.sure board.old board.new sink.old sink.new
+        (cycle_moves board.old (cycles_until addr board.old.present most)) result }
     ensures number { board.new.present.cycle ≤ board.old.present.cycle + most }
 {
     match board.run_until(addr, most, sink) {

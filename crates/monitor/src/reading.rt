@@ -1,6 +1,8 @@
 //! The text of a script, line by line.
 
-ghost use Rattle.std.specs.Prelude.{◌≡◌, ◌≢◌, Ok, Err, IfOk, IfErr};
+ghost use Rattle.std.specs.Prelude.{◌≡◌, ◌≢◌, ◌*◌, ◌≤◌, Ok, Err, IfOk, IfErr, length};
+ghost use Rattle.monitor.specs.Bounds.{all_cycles};
+ghost use Rattle.monitor.specs.declared.TheConstants.{MAX_CYCLES};
 ghost use Rattle.monitor.specs.Reading.{script_of};
 
 use crate::line::{LineFault, line_of};
@@ -12,8 +14,10 @@ use texts::next_line;
 ///
 /// Line by line from 1, a line of no form is `Line`, and one with a number out of bounds is `Number`. The first of
 /// these is answered, unless memory runs out before.
+/// The lines ask for no more cycles than [`MAX_CYCLES`](crate::MAX_CYCLES) a byte of the text.
 pub fn read_script(alloc: Global, bytes: &[u8]) -> Result<Script, ScriptFault>
     ensures read { IfOk result (λ script. script_of bytes.now ≡ Ok script.lines.items) }
+    ensures cycles { IfOk result (λ script. all_cycles script.lines.items ≤ MAX_CYCLES * length bytes.now) }
     ensures refused { IfErr result (λ fault. fault ≢ ScriptFault.NoMemory → script_of bytes.now ≡ Err fault) }
 {
     let mut lines = Vec::new(alloc);

@@ -44,7 +44,8 @@ pub fn regs_line(view: &View<'_>) -> Line
 fn push_core(view: &View<'_>, out: &mut Line)
     requires hidden { view.now.hidden ≡ Hidden.All }
     requires room { array_string_len out.old ≤ 100 }
-    ensures text { let v = view_of view.now.state view.now.hidden in out.new.bytes ≡ out.old.bytes ++ registers_text v.registers v.active }
+    ensures text { let v = view_of view.now.state view.now.hidden in
+        out.new.bytes ≡ out.old.bytes ++ registers_text v.registers v.active }
     ensures most { array_string_len out.new ≤ array_string_len out.old + 87 }
 {
     match view.active() {
@@ -128,7 +129,8 @@ fn push_memory(view: &View<'_>, addr: u16, count: u16, out: &mut Line)
     requires few { count ≤ 256 }
     requires within { addr + count ≤ 65536 }
     requires room { array_string_len out.old ≤ 0 }
-    ensures text { out.new.bytes ≡ out.old.bytes ++ hex_word addr ++ codes ": " ++ bytes_text (view_of view.now.state view.now.hidden) addr count }
+    ensures text { let v = view_of view.now.state view.now.hidden in
+        out.new.bytes ≡ out.old.bytes ++ hex_word addr ++ codes ": " ++ bytes_text v addr count }
     ensures most { array_string_len out.new ≤ array_string_len out.old + 6 + 2 * count }
 {
     push_hex_word(addr, out);

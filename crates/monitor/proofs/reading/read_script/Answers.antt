@@ -1,5 +1,5 @@
 use Rattle.std.specs.Result.{is_ok}
-use Rattle.std.proofs.Common.{not, true, sym, ◌≡◌, ◌∙◌, ap, arith, rules}
+use Rattle.std.proofs.Common.{not, true, ◌≡◌, ◌∙◌, ap, arith}
 use Rattle.monitor.proofs.Loop.{IsRead-start, IsRead-push}
 use Rattle.monitor.proofs.reading.read_script.Goals as goal
 
