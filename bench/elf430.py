@@ -8,7 +8,7 @@ UNDEF, ABS, COMMON = 0, 0xFFF1, 0xFFF2
 
 
 class Object:
-    """Sections and symbols are numbered from 1. `marks` names offsets in the file."""
+    """Sections and symbols are numbered from 1, local symbols first. `marks` names offsets in the file."""
 
     def __init__(self):
         self.sections, self.symbols, self.relas, self.marks = [], [], {}, {}
@@ -55,7 +55,8 @@ class Object:
             data = b"".join(struct.pack("<IIi", o, s * 256 + k, a) for o, s, k, a in entries)
             table.append((".rela" + self.sections[target - 1][0], RELA, 0, 4, data, len(data), symtab, target, 12))
             table.extend([(*table[-1][:4], b"", len(data), symtab, target, 12)] * (tables - 1))
-        table.append((".symtab", SYMTAB, 0, 4, symbols, len(symbols), strtab, 1, 16))
+        first_global = 1 + sum(binding == LOCAL for *_, binding in self.symbols)
+        table.append((".symtab", SYMTAB, 0, 4, symbols, len(symbols), strtab, first_global, 16))
         table.append((".strtab", STRTAB, 0, 1, bytes(strings), len(strings), 0, 0, 0))
         seen_n = {"": 0}
         for row in table:
