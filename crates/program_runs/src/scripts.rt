@@ -63,14 +63,18 @@ fn plays() -> [Play; 8] {
             schedule: "",
             script: "mark\ngo 12\nlast 0208 0\n",
             status: Status::Done,
-            out: "mark 0 at 0\n5 enter 1 from 0\n7 leave 1 pc 0208\nlast 0208 at 11\nend 11 outside 0208 0000 0000 0000 0000 0000 0000 0208 0000 0000 0000 0000 0000 0000 0000 0000\n",
+            out: "\
+                mark 0 at 0\n5 enter 1 from 0\n7 leave 1 pc 0208\nlast 0208 at 11\n\
+                end 11 outside 0208 0000 0000 0000 0000 0000 0000 0208 0000 0000 0000 0000 0000 0000 0000 0000\n",
         },
         Play {
             image: BACK,
             schedule: "",
             script: "back 3\n",
             status: Status::Done,
-            out: "refused NoMark 3\nend 0 outside 0200 0000 0000 0000 0000 0000 0000 0000 0000 0000 0000 0000 0000 0000 0000 0000\n",
+            out: "\
+                refused NoMark 3\n\
+                end 0 outside 0200 0000 0000 0000 0000 0000 0000 0000 0000 0000 0000 0000 0000 0000 0000 0000\n",
         },
         Play {
             image: BACK,
@@ -85,7 +89,9 @@ fn plays() -> [Play; 8] {
             schedule: "13 line 0 up\n14 line 0 down\n",
             script: "go 40\n",
             status: Status::Done,
-            out: "12 enter 1 from 0\n13 hide 1 vector 1\n25 handler pc 0500\n30 resume 1\n33 leave 1 pc 0214\nend 40 outside 0214 0600 0008 0000 0000 0000 0000 0214 0000 0000 0000 0000 0000 0000 0000 0000\n",
+            out: "\
+                12 enter 1 from 0\n13 hide 1 vector 1\n25 handler pc 0500\n30 resume 1\n33 leave 1 pc 0214\n\
+                end 40 outside 0214 0600 0008 0000 0000 0000 0000 0214 0000 0000 0000 0000 0000 0000 0000 0000\n",
         },
         // A machine that is stopped at the end, and one that went back from its stop.
         Play {
@@ -100,7 +106,9 @@ fn plays() -> [Play; 8] {
             schedule: "",
             script: "mark\ngo 1\nback 0\n",
             status: Status::Done,
-            out: "mark 0 at 0\n0 stop FetchDevice pc 0000 addr 0000 module 0\nback 0 at 0\nend 0 outside 0000 0000 0000 0000 0000 0000 0000 0000 0000 0000 0000 0000 0000 0000 0000 0000\n",
+            out: "\
+                mark 0 at 0\n0 stop FetchDevice pc 0000 addr 0000 module 0\nback 0 at 0\n\
+                end 0 outside 0000 0000 0000 0000 0000 0000 0000 0000 0000 0000 0000 0000 0000 0000 0000 0000\n",
         },
     ]
 }

@@ -33,7 +33,8 @@ pub fn read<'a>(
     alloc: Global,
     words: &'a [String],
 ) -> Result<Option<MonitorCommand<'a>>, AllocError>
-    ensures { IfOk result (λ o. option_map monitor_asked o ≡ option_and_then monitor_of (values_in 3 3 (drop 1 (texts words.entry.now)))) }
+    ensures { IfOk result (λ o. option_map monitor_asked o
+        ≡ option_and_then monitor_of (values_in 3 3 (drop 1 (texts words.entry.now)))) }
 {
     match values_of(alloc, words, 3, 3)? {
         Some(values) => Ok(command_in(values.as_slice())),
@@ -90,7 +91,9 @@ impl Answering for MonitorCommand<'_> {
 // Plays a script on the board, and tells whether it is stopped then.
 fn put_play<O: Sink>(board: Board, script: &Script, out: &mut O) -> Status
     requires { board.present.cycle + all_cycles script.now.lines.items ≤ 2 ^ 62 }
-    ensures { EndsAs result (play_answer board script.now.lines.items) (Took O.taken O.faults O.sure out.old out.new) (CutOff O.taken O.faults O.sure out.old out.new) }
+    ensures { EndsAs result (play_answer board script.now.lines.items)
+        (Took O.taken O.faults O.sure out.old out.new)
+        (CutOff O.taken O.faults O.sure out.old out.new) }
 {
     let mut board = board;
     match play(&mut board, script, out) {
