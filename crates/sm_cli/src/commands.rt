@@ -21,6 +21,7 @@ pub mod key;
 pub mod link;
 pub mod lone;
 pub mod run;
+pub mod script;
 pub mod vendor;
 
 use balance::BalanceCommand;
@@ -32,6 +33,7 @@ use key::KeyCommand;
 use link::LinkCommand;
 use lone::LoneCommand;
 use run::RunCommand;
+use script::MonitorCommand;
 use vendor::VendorCommand;
 
 /// A command that can be answered.
@@ -73,6 +75,7 @@ pub enum CommandLine<'a> {
     Link(LinkCommand<'a>),
     Run(RunCommand<'a>),
     Lone(LoneCommand<'a>),
+    Monitor(MonitorCommand<'a>),
 }
 
 /// The command that the words are.
@@ -108,6 +111,8 @@ pub fn read_command<'a>(
         Ok(run::read(alloc, words)?.map(CommandLine::Run))
     } else if name == "lone" {
         Ok(lone::read(alloc, words)?.map(CommandLine::Lone))
+    } else if name == "monitor" {
+        Ok(script::read(alloc, words)?.map(CommandLine::Monitor))
     } else {
         Ok(None)
     }
@@ -135,6 +140,7 @@ impl Answering for CommandLine<'_> {
             CommandLine::Link(command) => command.answer(alloc, files, out),
             CommandLine::Run(command) => command.answer(alloc, files, out),
             CommandLine::Lone(command) => command.answer(alloc, files, out),
+            CommandLine::Monitor(command) => command.answer(alloc, files, out),
         }
     }
 }
