@@ -12,6 +12,7 @@ use crate::answers::{Refused, Status};
 use sm_io::{Files, Sink};
 use std::alloc::{AllocError, Global};
 
+pub mod asm;
 pub mod balance;
 pub mod challenge;
 pub mod check;
@@ -23,6 +24,7 @@ pub mod lone;
 pub mod run;
 pub mod vendor;
 
+use asm::AsmCommand;
 use balance::BalanceCommand;
 use challenge::ChallengeCommand;
 use check::CheckCommand;
@@ -73,6 +75,7 @@ pub enum CommandLine<'a> {
     Link(LinkCommand<'a>),
     Run(RunCommand<'a>),
     Lone(LoneCommand<'a>),
+    Asm(AsmCommand<'a>),
 }
 
 /// The command that the words are.
@@ -108,6 +111,8 @@ pub fn read_command<'a>(
         Ok(run::read(alloc, words)?.map(CommandLine::Run))
     } else if name == "lone" {
         Ok(lone::read(alloc, words)?.map(CommandLine::Lone))
+    } else if name == "asm" {
+        Ok(asm::read(alloc, words)?.map(CommandLine::Asm))
     } else {
         Ok(None)
     }
@@ -135,6 +140,7 @@ impl Answering for CommandLine<'_> {
             CommandLine::Link(command) => command.answer(alloc, files, out),
             CommandLine::Run(command) => command.answer(alloc, files, out),
             CommandLine::Lone(command) => command.answer(alloc, files, out),
+            CommandLine::Asm(command) => command.answer(alloc, files, out),
         }
     }
 }

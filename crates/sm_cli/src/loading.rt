@@ -2,18 +2,20 @@
 ghost use Rattle.std.specs.Prelude.{◌≡◌, ◌≢◌, ◌≤◌, ◌∷◌, [], IsTrue, IfOk, IfErr, Some, All, false, length, map};
 ghost use Rattle.std.specs.Option.{option_copied};
 ghost use Rattle.sm_io.specs.Faults.{HasCause};
+ghost use Rattle.asm_text.specs.Unit.{unit_of};
 ghost use Rattle.layout_file.specs.Layout.{layout_of};
 ghost use Rattle.linker.specs.Room.{IsSmall};
 ghost use Rattle.mod_layout.specs.Table.{module_of};
 ghost use Rattle.mod_layout.specs.Tables.{IsModule};
 ghost use Rattle.sm_cli.specs.Content.{IsContentRefusal};
-ghost use Rattle.sm_cli.specs.Files.{Kind, Held, an_image, a_schedule, the_challenges, the_replies, image_file, image_with, schedule_file, challenges_file, trace_file, need, schedule_needs, HasFile, IsHeld, Holds, IsScheduleOf, most_bytes, certificates, arms_file, a_layout, an_object, layout_file, object_file, object_needs, HoldAll};
+ghost use Rattle.sm_cli.specs.Files.{Kind, Held, an_image, a_schedule, the_challenges, the_replies, image_file, image_with, schedule_file, challenges_file, trace_file, need, schedule_needs, HasFile, IsHeld, Holds, IsScheduleOf, most_bytes, certificates, arms_file, a_layout, an_object, a_unit, layout_file, object_file, source_file, object_needs, HoldAll};
 ghost use Rattle.sm_cli.specs.NameText.{name_text};
 ghost use Rattle.sm_cli.specs.Serve.{IsNeedCause};
 
 use crate::answers::{Name, Refused};
 use crate::{FileFault, Refusal};
 use arm_balance::{Arms, ArmsFault, read_arms};
+use asm_text::{AsmFault, AsmUnit, assemble};
 use elf_objects::{ElfFault, Object};
 use image_text::{Image, ImageFault};
 use layout_file::{Layout, LayoutFault};
@@ -33,6 +35,7 @@ pub trait Content: Drop {
 
     /// What these bytes hold.
     fn examine(alloc: Global, bytes: Vec<u8>) -> Result<Self, Refusal>
+        requires short { length bytes.items ≤ most_bytes }
         ensures holds { IfOk result (λ value. IsHeld kind bytes.items (held value)) }
         ensures refused { IfErr result (λ refusal. IsContentRefusal kind bytes.items refusal) };
 }
@@ -137,6 +140,20 @@ impl Content for Object {
             Ok(object) => Ok(object),
             Err(ElfFault::NoMemory) => Err(Refusal::NoMemory),
             Err(fault) => Err(Refusal::BadFile(FileFault::Object(fault))),
+        }
+    }
+}
+
+impl Content for AsmUnit {
+    ghost kind = { source_file };
+
+    ghost held = { λ unit. a_unit (unit_of unit) };
+
+    fn examine(alloc: Global, bytes: Vec<u8>) -> Result<Self, Refusal> {
+        match assemble(alloc, &bytes) {
+            Ok(unit) => Ok(unit),
+            Err(AsmFault::NoMemory) => Err(Refusal::NoMemory),
+            Err(fault) => Err(Refusal::BadFile(FileFault::Source(fault))),
         }
     }
 }
