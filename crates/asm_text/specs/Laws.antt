@@ -1,5 +1,5 @@
 -- The laws of the assembler. They are what functions of this crate ensure.
-use Rattle.std.specs.Prelude.{ℕ, ◌≡◌, ◌+◌, ◌-◌, ◌*◌, ◌%◌, ◌<◌, Bool, true, false, ◌&&◌, List, Some, None, All, ℤ, pos, negsuc}
+use Rattle.std.specs.Prelude.{ℕ, ◌≡◌, ◌%◌, ◌<◌, Bool, true, false, ◌&&◌, List, Some, None, All, ℤ}
 use Rattle.insn_decode.specs.declared.insn.Operand.{Operand}
 use Rattle.insn_decode.specs.declared.insn.Operand.TheVariants.{Symbolic}
 use Rattle.insn_decode.specs.declared.insn.Insn.{Insn}
@@ -9,6 +9,7 @@ use Rattle.insn_decode.specs.Text.{text_of}
 use Rattle.asm_text.specs.declared.statement.Statement.TheVariants.{Code}
 use Rattle.asm_text.specs.Emission.{reach, is_near, jump_word}
 use Rattle.asm_text.specs.Encoding.{extensions, is_coded, meaning}
+use Rattle.asm_text.specs.Jumps.{target_of}
 use Rattle.asm_text.specs.Lines.{statement_of}
 
 -- The words of an instruction that a line may write mean it.
@@ -18,11 +19,6 @@ CodedIsMeant = (insn : Insn) → is_coded insn ≡ true → meaning insn ≡ Som
 -- The word of a jump means that jump.
 abbrev pub JumpsAreMeant : Type 0
 JumpsAreMeant = (cond w1 w2 : ℕ) (offset : ℤ) → cond < 8 → is_near offset ≡ true → insn_of (jump_word cond offset) w1 w2 ≡ Some (Jump cond offset)
-
--- where a jump at this place leads
-abbrev pub target_of : ℕ → ℤ → ℕ
-target_of here (pos n) = here + 2 + 2 * n
-target_of here (negsuc n) = here + 2 - 2 * (n + 1)
 
 -- A jump leads to its label.
 abbrev pub JumpsLead : Type 0

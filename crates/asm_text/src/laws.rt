@@ -1,4 +1,5 @@
 //! The laws of the assembler, each the contract of a function that does nothing.
+ghost use Rattle.asm_text.specs.Jumps.{JumpsReachLabels, LabelsAreEven};
 ghost use Rattle.asm_text.specs.Laws.{CodedIsMeant, JumpsAreMeant, JumpsLead, ShownIsRead};
 
 /// The words of each instruction that a line may write mean that instruction, with 0 for names; the word of a jump
@@ -13,4 +14,11 @@ pub fn words_are_meant()
 /// that instruction, which its words mean: such lines of the disassembler can be assembled again.
 pub fn shown_is_read()
     ensures { ShownIsRead }
+{}
+
+/// Each jump of a source that is accepted leads to its label: the word at its place means a jump of its condition, from
+/// there to the value of the symbol with that name, in the same section. Labels are even.
+pub fn jumps_reach_labels()
+    ensures jumps { JumpsReachLabels }
+    ensures even { LabelsAreEven }
 {}
