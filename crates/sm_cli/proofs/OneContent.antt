@@ -34,7 +34,10 @@ use Rattle.monitor.specs.declared.ScriptFault.{ScriptFault}
 use Rattle.monitor.specs.Reading.{script_of}
 use Rattle.sm_cli.specs.declared.answers.FileFault.{FileFault}
 use Rattle.sm_cli.specs.declared.answers.FileFault.TheVariants as fault
-use Rattle.sm_cli.specs.Files.{Kind, image_file, image_with, schedule_file, challenges_file, trace_file, arms_file, layout_file, object_file, script_file, Held, an_image, a_schedule, the_challenges, the_replies, certificates, a_layout, an_object, a_script, IsTextOf, IsHeld, HasNoModule, IsRefused, most_bytes, HasFault}
+use Rattle.sm_cli.specs.Files.{Kind, image_file, image_with, schedule_file, challenges_file, trace_file, arms_file, layout_file, object_file, script_file, Held, an_image, a_schedule, the_challenges, the_replies, certificates, a_layout, an_object, a_script, IsTextOf, IsHeld, HasNoModule, IsRefused, most_bytes, HasFault, source_file, a_unit}
+use Rattle.asm_text.specs.declared.unit.AsmFault.{AsmFault}
+use Rattle.asm_text.specs.Assembly.{assembled}
+use Rattle.asm_text.specs.Parts.{UnitValue}
 
 -- The content of a kind
 
@@ -48,6 +51,7 @@ Content arms_file = List Arm
 Content layout_file = LayoutValue
 Content object_file = ObjectValue
 Content script_file = List ScriptLine
+Content source_file = UnitValue
 
 abbrev as_held : (kind : Kind) → Content kind → Held
 as_held image_file value = an_image value
@@ -59,6 +63,7 @@ as_held arms_file arms = certificates arms
 as_held layout_file layout = a_layout layout
 as_held object_file object = an_object object
 as_held script_file script = a_script script
+as_held source_file unit = a_unit unit
 
 -- bytes of a kind hold nothing but its content
 own_content : (kind : Kind) (bytes : List ℕ) (held : Held) → IsHeld kind bytes held → (content : Content kind) × (held ≡ as_held kind content)
@@ -70,6 +75,7 @@ own_content image_file bytes (certificates arms) h = absurd h
 own_content image_file bytes (a_layout layout) h = absurd h
 own_content image_file bytes (an_object object) h = absurd h
 own_content image_file bytes (a_script script) h = absurd h
+own_content image_file bytes (a_unit unit) h = absurd h
 own_content (image_with id) bytes (an_image value) h = (value, refl)
 own_content (image_with id) bytes (a_schedule entries) h = absurd h
 own_content (image_with id) bytes (the_challenges list) h = absurd h
@@ -78,6 +84,7 @@ own_content (image_with id) bytes (certificates arms) h = absurd h
 own_content (image_with id) bytes (a_layout layout) h = absurd h
 own_content (image_with id) bytes (an_object object) h = absurd h
 own_content (image_with id) bytes (a_script script) h = absurd h
+own_content (image_with id) bytes (a_unit unit) h = absurd h
 own_content schedule_file bytes (an_image value) h = absurd h
 own_content schedule_file bytes (a_schedule entries) h = (entries, refl)
 own_content schedule_file bytes (the_challenges list) h = absurd h
@@ -86,6 +93,7 @@ own_content schedule_file bytes (certificates arms) h = absurd h
 own_content schedule_file bytes (a_layout layout) h = absurd h
 own_content schedule_file bytes (an_object object) h = absurd h
 own_content schedule_file bytes (a_script script) h = absurd h
+own_content schedule_file bytes (a_unit unit) h = absurd h
 own_content challenges_file bytes (an_image value) h = absurd h
 own_content challenges_file bytes (a_schedule entries) h = absurd h
 own_content challenges_file bytes (the_challenges list) h = (list, refl)
@@ -94,6 +102,7 @@ own_content challenges_file bytes (certificates arms) h = absurd h
 own_content challenges_file bytes (a_layout layout) h = absurd h
 own_content challenges_file bytes (an_object object) h = absurd h
 own_content challenges_file bytes (a_script script) h = absurd h
+own_content challenges_file bytes (a_unit unit) h = absurd h
 own_content trace_file bytes (an_image value) h = absurd h
 own_content trace_file bytes (a_schedule entries) h = absurd h
 own_content trace_file bytes (the_challenges list) h = absurd h
@@ -102,6 +111,7 @@ own_content trace_file bytes (certificates arms) h = absurd h
 own_content trace_file bytes (a_layout layout) h = absurd h
 own_content trace_file bytes (an_object object) h = absurd h
 own_content trace_file bytes (a_script script) h = absurd h
+own_content trace_file bytes (a_unit unit) h = absurd h
 own_content arms_file bytes (an_image value) h = absurd h
 own_content arms_file bytes (a_schedule entries) h = absurd h
 own_content arms_file bytes (the_challenges list) h = absurd h
@@ -110,6 +120,7 @@ own_content arms_file bytes (certificates arms) h = (arms, refl)
 own_content arms_file bytes (a_layout layout) h = absurd h
 own_content arms_file bytes (an_object object) h = absurd h
 own_content arms_file bytes (a_script script) h = absurd h
+own_content arms_file bytes (a_unit unit) h = absurd h
 own_content layout_file bytes (an_image value) h = absurd h
 own_content layout_file bytes (a_schedule entries) h = absurd h
 own_content layout_file bytes (the_challenges list) h = absurd h
@@ -118,6 +129,7 @@ own_content layout_file bytes (certificates arms) h = absurd h
 own_content layout_file bytes (a_layout layout) h = (layout, refl)
 own_content layout_file bytes (an_object object) h = absurd h
 own_content layout_file bytes (a_script script) h = absurd h
+own_content layout_file bytes (a_unit unit) h = absurd h
 own_content object_file bytes (an_image value) h = absurd h
 own_content object_file bytes (a_schedule entries) h = absurd h
 own_content object_file bytes (the_challenges list) h = absurd h
@@ -134,6 +146,17 @@ own_content script_file bytes (certificates arms) h = absurd h
 own_content script_file bytes (a_layout layout) h = absurd h
 own_content script_file bytes (an_object object) h = absurd h
 own_content script_file bytes (a_script script) h = (script, refl)
+own_content script_file bytes (a_unit unit) h = absurd h
+own_content object_file bytes (a_unit unit) h = absurd h
+own_content source_file bytes (an_image value) h = absurd h
+own_content source_file bytes (a_schedule entries) h = absurd h
+own_content source_file bytes (the_challenges list) h = absurd h
+own_content source_file bytes (the_replies sent) h = absurd h
+own_content source_file bytes (certificates arms) h = absurd h
+own_content source_file bytes (a_layout layout) h = absurd h
+own_content source_file bytes (an_object object) h = absurd h
+own_content source_file bytes (a_script script) h = absurd h
+own_content source_file bytes (a_unit unit) h = (unit, refl)
 
 -- One thing
 
@@ -159,6 +182,7 @@ one_content arms_file bytes a b r s = let same = sym r ∙ s in cc
 one_content layout_file bytes a b r s = let same = sym r ∙ s in cc
 one_content object_file bytes a b r s = ap an_object (one_object bytes a b r s)
 one_content script_file bytes a b r s = let same = sym r ∙ s in cc
+one_content source_file bytes a b r s = let same = sym r ∙ s in cc
 
 pub one_held : (kind : Kind) (bytes : List ℕ) (a b : Held) → IsHeld kind bytes a → IsHeld kind bytes b → a ≡ b
 one_held kind bytes a b r s =
@@ -190,6 +214,7 @@ not_refused image_file bytes value (fault.Arms refusal) r h = h
 not_refused image_file bytes value (fault.Layout refusal) r h = h
 not_refused image_file bytes value (fault.Object refusal) r h = h
 not_refused image_file bytes value (fault.Script refusal) r h = h
+not_refused image_file bytes value (fault.Source refusal) r h = h
 not_refused (image_with id) bytes value fault.Absent r h = h
 not_refused (image_with id) bytes value fault.TooLong r h = h
 not_refused (image_with id) bytes value (fault.Image refusal) r h = image_accepted bytes value refusal r.0 h
@@ -201,6 +226,7 @@ not_refused (image_with id) bytes value (fault.Arms refusal) r h = h
 not_refused (image_with id) bytes value (fault.Layout refusal) r h = h
 not_refused (image_with id) bytes value (fault.Object refusal) r h = h
 not_refused (image_with id) bytes value (fault.Script refusal) r h = h
+not_refused (image_with id) bytes value (fault.Source refusal) r h = h
 not_refused schedule_file bytes entries fault.Absent r h = h
 not_refused schedule_file bytes entries fault.TooLong r h = h
 not_refused schedule_file bytes entries (fault.Image refusal) r h = h
@@ -212,6 +238,7 @@ not_refused schedule_file bytes entries (fault.Arms refusal) r h = h
 not_refused schedule_file bytes entries (fault.Layout refusal) r h = h
 not_refused schedule_file bytes entries (fault.Object refusal) r h = h
 not_refused schedule_file bytes entries (fault.Script refusal) r h = h
+not_refused schedule_file bytes entries (fault.Source refusal) r h = h
 not_refused challenges_file bytes list fault.Absent r h = h
 not_refused challenges_file bytes list fault.TooLong r h = h
 not_refused challenges_file bytes list (fault.Image refusal) r h = h
@@ -223,6 +250,7 @@ not_refused challenges_file bytes list (fault.Arms refusal) r h = h
 not_refused challenges_file bytes list (fault.Layout refusal) r h = h
 not_refused challenges_file bytes list (fault.Object refusal) r h = h
 not_refused challenges_file bytes list (fault.Script refusal) r h = h
+not_refused challenges_file bytes list (fault.Source refusal) r h = h
 not_refused trace_file bytes sent fault.Absent r h = h
 not_refused trace_file bytes sent fault.TooLong r h = h
 not_refused trace_file bytes sent (fault.Image refusal) r h = h
@@ -234,6 +262,7 @@ not_refused trace_file bytes sent (fault.Arms refusal) r h = h
 not_refused trace_file bytes sent (fault.Layout refusal) r h = h
 not_refused trace_file bytes sent (fault.Object refusal) r h = h
 not_refused trace_file bytes sent (fault.Script refusal) r h = h
+not_refused trace_file bytes sent (fault.Source refusal) r h = h
 not_refused arms_file bytes arms fault.Absent r h = h
 not_refused arms_file bytes arms fault.TooLong r h = h
 not_refused arms_file bytes arms (fault.Image refusal) r h = h
@@ -245,6 +274,7 @@ not_refused arms_file bytes arms (fault.Arms refusal) r h = let clash = sym r �
 not_refused arms_file bytes arms (fault.Layout refusal) r h = h
 not_refused arms_file bytes arms (fault.Object refusal) r h = h
 not_refused arms_file bytes arms (fault.Script refusal) r h = h
+not_refused arms_file bytes arms (fault.Source refusal) r h = h
 not_refused layout_file bytes layout fault.Absent r h = h
 not_refused layout_file bytes layout fault.TooLong r h = h
 not_refused layout_file bytes layout (fault.Image refusal) r h = h
@@ -256,6 +286,7 @@ not_refused layout_file bytes layout (fault.Arms refusal) r h = h
 not_refused layout_file bytes layout (fault.Layout refusal) r h = let clash = sym r ∙ h in cc
 not_refused layout_file bytes layout (fault.Object refusal) r h = h
 not_refused layout_file bytes layout (fault.Script refusal) r h = h
+not_refused layout_file bytes layout (fault.Source refusal) r h = h
 not_refused object_file bytes object fault.Absent r h = h
 not_refused object_file bytes object fault.TooLong r h = h
 not_refused object_file bytes object (fault.Image refusal) r h = h
@@ -278,6 +309,20 @@ not_refused script_file bytes script (fault.Arms refusal) r h = h
 not_refused script_file bytes script (fault.Layout refusal) r h = h
 not_refused script_file bytes script (fault.Object refusal) r h = h
 not_refused script_file bytes script (fault.Script refusal) r h = let clash = sym r ∙ h in cc
+not_refused script_file bytes script (fault.Source refusal) r h = h
+not_refused object_file bytes object (fault.Source refusal) r h = h
+not_refused source_file bytes unit fault.Absent r h = h
+not_refused source_file bytes unit fault.TooLong r h = h
+not_refused source_file bytes unit (fault.Image refusal) r h = h
+not_refused source_file bytes unit (fault.NoModule other) r h = h
+not_refused source_file bytes unit (fault.Schedule refusal) r h = h
+not_refused source_file bytes unit (fault.Challenges refusal) r h = h
+not_refused source_file bytes unit (fault.Trace refusal) r h = h
+not_refused source_file bytes unit (fault.Arms refusal) r h = h
+not_refused source_file bytes unit (fault.Layout refusal) r h = h
+not_refused source_file bytes unit (fault.Object refusal) r h = h
+not_refused source_file bytes unit (fault.Script refusal) r h = h
+not_refused source_file bytes unit (fault.Source refusal) r h = let clash = sym r ∙ h in cc
 
 -- bytes that hold something are not refused
 pub accepted : (kind : Kind) (bytes : List ℕ) (held : Held) (f : FileFault) → IsHeld kind bytes held → IsRefused kind bytes f → ⊥
@@ -328,6 +373,9 @@ object_examined bytes (Some refusal) e = inr (fault.Object refusal, λ short. (s
 script_examined : (bytes : List ℕ) (r : Result (List ScriptLine) ScriptFault) → script_of bytes ≡ r → Examined script_file bytes
 script_examined bytes (Ok script) e = inl (a_script script, e)
 script_examined bytes (Err refusal) e = inr (fault.Script refusal, λ short. (short, e))
+source_examined : (bytes : List ℕ) (r : Result UnitValue AsmFault) → assembled bytes ≡ r → Examined source_file bytes
+source_examined bytes (Ok unit) e = inl (a_unit unit, e)
+source_examined bytes (Err refusal) e = inr (fault.Source refusal, λ short. (short, e))
 
 pub examined : (kind : Kind) (bytes : List ℕ) → Examined kind bytes
 examined image_file bytes = ⊎_elim (λ v. inl (an_image v.0, v.1)) (λ f. inr (fault.Image f.0, λ short. (short, f.1))) (image_examined bytes (refusal_of bytes) refl)
@@ -340,3 +388,4 @@ examined arms_file bytes = arms_examined bytes (arms_of bytes) refl
 examined layout_file bytes = layout_examined bytes (LayoutOf bytes) refl
 examined object_file bytes = object_examined bytes (elf_fault_of bytes) refl
 examined script_file bytes = script_examined bytes (script_of bytes) refl
+examined source_file bytes = source_examined bytes (assembled bytes) refl

@@ -17,6 +17,8 @@ use Rattle.monitor.specs.declared.ScriptFault.{ScriptFault}
 use Rattle.monitor.specs.declared.ScriptFault.TheVariants as script_fault
 use Rattle.elf_objects.specs.declared.fault.ElfFault.{ElfFault}
 use Rattle.elf_objects.specs.declared.fault.ElfFault.TheVariants as elf_fault
+use Rattle.asm_text.specs.declared.unit.AsmFault.{AsmFault}
+use Rattle.asm_text.specs.declared.unit.AsmFault.TheVariants as asm_fault
 use Rattle.layout_file.specs.declared.fault.Spot.{Spot}
 use Rattle.layout_file.specs.declared.fault.LayoutFault.{LayoutFault}
 use Rattle.layout_file.specs.declared.fault.LayoutFault.TheVariants as layout_fault
@@ -119,6 +121,16 @@ layout_fault_text (layout_fault.SameName first second) = with_numbers (codes "Sa
 layout_fault_text layout_fault.NoMemory = codes "NoMemory"
 layout_fault_text (layout_fault.SameBoot first second) = with_numbers (codes "SameBoot") (first ∷ second ∷ [])
 
+abbrev pub source_fault_text : AsmFault → List ℕ
+source_fault_text (asm_fault.Line n) = codes "Line " ++ decimal n
+source_fault_text (asm_fault.Place n) = codes "Place " ++ decimal n
+source_fault_text (asm_fault.Twice n) = codes "Twice " ++ decimal n
+source_fault_text (asm_fault.TooMany n) = codes "TooMany " ++ decimal n
+source_fault_text (asm_fault.Large n) = codes "Large " ++ decimal n
+source_fault_text (asm_fault.NoLabel n) = codes "NoLabel " ++ decimal n
+source_fault_text (asm_fault.Far n value) = (codes "Far " ++ decimal n) ++ (codes " " ++ signed_decimal value)
+source_fault_text asm_fault.NoMemory = codes "NoMemory"
+
 abbrev pub fault_text : FileFault → List ℕ
 fault_text fault.Absent = codes "Absent"
 fault_text fault.TooLong = codes "TooLong"
@@ -131,3 +143,4 @@ fault_text (fault.Arms refusal) = arms_fault_text refusal
 fault_text (fault.Layout refusal) = layout_fault_text refusal
 fault_text (fault.Object refusal) = object_fault_text refusal
 fault_text (fault.Script refusal) = script_fault_text refusal
+fault_text (fault.Source refusal) = source_fault_text refusal

@@ -12,6 +12,7 @@ use crate::answers::{Refused, Status};
 use sm_io::{Files, Sink};
 use std::alloc::{AllocError, Global};
 
+pub mod asm;
 pub mod balance;
 pub mod challenge;
 pub mod check;
@@ -24,6 +25,7 @@ pub mod run;
 pub mod script;
 pub mod vendor;
 
+use asm::AsmCommand;
 use balance::BalanceCommand;
 use challenge::ChallengeCommand;
 use check::CheckCommand;
@@ -76,6 +78,7 @@ pub enum CommandLine<'a> {
     Run(RunCommand<'a>),
     Lone(LoneCommand<'a>),
     Monitor(MonitorCommand<'a>),
+    Asm(AsmCommand<'a>),
 }
 
 /// The command that the words are.
@@ -113,6 +116,8 @@ pub fn read_command<'a>(
         Ok(lone::read(alloc, words)?.map(CommandLine::Lone))
     } else if name == "monitor" {
         Ok(script::read(alloc, words)?.map(CommandLine::Monitor))
+    } else if name == "asm" {
+        Ok(asm::read(alloc, words)?.map(CommandLine::Asm))
     } else {
         Ok(None)
     }
@@ -141,6 +146,7 @@ impl Answering for CommandLine<'_> {
             CommandLine::Run(command) => command.answer(alloc, files, out),
             CommandLine::Lone(command) => command.answer(alloc, files, out),
             CommandLine::Monitor(command) => command.answer(alloc, files, out),
+            CommandLine::Asm(command) => command.answer(alloc, files, out),
         }
     }
 }

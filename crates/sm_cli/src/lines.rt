@@ -8,7 +8,7 @@ ghost use Rattle.sm_cli.specs.NameText.{name_text};
 ghost use Rattle.sm_cli.specs.LinkFaults.{link_fault_text};
 
 use crate::answers::Refused;
-use crate::faults::{put_layout_fault, put_link_fault, put_object_fault};
+use crate::faults::{put_layout_fault, put_link_fault, put_object_fault, put_source_fault};
 use crate::{FileFault, Refusal};
 use arm_balance::ArmsFault;
 use image_text::ImageFault;
@@ -138,6 +138,7 @@ fn put_fault<S: Sink>(sink: &mut S, fault: FileFault) -> Result<(), Failed>
         FileFault::Layout(fault) => put_layout_fault(sink, fault),
         FileFault::Object(fault) => put_object_fault(sink, fault),
         FileFault::Script(fault) => put_script_fault(sink, fault),
+        FileFault::Source(fault) => put_source_fault(sink, fault),
     }
 }
 

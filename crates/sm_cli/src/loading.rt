@@ -2,19 +2,21 @@
 ghost use Rattle.std.specs.Prelude.{◌≡◌, ◌≢◌, ◌≤◌, ◌^◌, ◌∷◌, [], IsTrue, IfOk, IfErr, Some, All, false, length, map};
 ghost use Rattle.std.specs.Option.{option_copied};
 ghost use Rattle.sm_io.specs.Faults.{HasCause};
+ghost use Rattle.asm_text.specs.Unit.{unit_of};
 ghost use Rattle.layout_file.specs.Layout.{layout_of};
 ghost use Rattle.linker.specs.Room.{IsSmall};
 ghost use Rattle.mod_layout.specs.Table.{module_of};
 ghost use Rattle.mod_layout.specs.Tables.{IsModule};
 ghost use Rattle.monitor.specs.Bounds.{all_cycles};
 ghost use Rattle.sm_cli.specs.Content.{IsContentRefusal};
-ghost use Rattle.sm_cli.specs.Files.{Kind, Held, an_image, a_schedule, the_challenges, the_replies, image_file, image_with, schedule_file, challenges_file, trace_file, need, schedule_needs, HasFile, IsHeld, Holds, IsScheduleOf, most_bytes, certificates, arms_file, a_layout, an_object, layout_file, object_file, object_needs, HoldAll, a_script, script_file};
+ghost use Rattle.sm_cli.specs.Files.{Kind, Held, an_image, a_schedule, the_challenges, the_replies, image_file, image_with, schedule_file, challenges_file, trace_file, need, schedule_needs, HasFile, IsHeld, Holds, IsScheduleOf, most_bytes, certificates, arms_file, a_layout, an_object, layout_file, object_file, object_needs, HoldAll, a_script, script_file, a_unit, source_file};
 ghost use Rattle.sm_cli.specs.NameText.{name_text};
 ghost use Rattle.sm_cli.specs.Serve.{IsNeedCause};
 
 use crate::answers::{Name, Refused};
 use crate::{FileFault, Refusal};
 use arm_balance::{Arms, ArmsFault, read_arms};
+use asm_text::{AsmFault, AsmUnit, assemble};
 use elf_objects::{ElfFault, Object};
 use image_text::{Image, ImageFault};
 use layout_file::{Layout, LayoutFault};
@@ -161,6 +163,20 @@ impl Content for Playable {
             Ok(script) => Ok(Playable { script }),
             Err(ScriptFault::NoMemory) => Err(Refusal::NoMemory),
             Err(fault) => Err(Refusal::BadFile(FileFault::Script(fault))),
+        }
+    }
+}
+
+impl Content for AsmUnit {
+    ghost kind = { source_file };
+
+    ghost held = { λ unit. a_unit (unit_of unit) };
+
+    fn examine(alloc: Global, bytes: Vec<u8>) -> Result<Self, Refusal> {
+        match assemble(alloc, &bytes) {
+            Ok(unit) => Ok(unit),
+            Err(AsmFault::NoMemory) => Err(Refusal::NoMemory),
+            Err(fault) => Err(Refusal::BadFile(FileFault::Source(fault))),
         }
     }
 }
