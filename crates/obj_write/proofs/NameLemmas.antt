@@ -22,6 +22,7 @@ pub record IsString (most : ℕ) (name : List ℕ) : Type 0 where
   pub bytes : list_all (λ b. not (eqb b 0)) name ≡ true
 
 not_zero : (b : ℕ) → is_name_byte b ≡ true → not (eqb b 0) ≡ true
+unfolding is_name_byte
 not_zero zero e = cc
 not_zero (suc b) e = let f : eqb (suc b) 0 ≡ false = grind (arith, nat_tests) in ap not f
 
@@ -39,6 +40,7 @@ no_zeros (b ∷ bs) e =
     and_true (not (eqb b 0)) (list_all (λ c. not (eqb c 0)) bs) (not_zero b h.0) (no_zeros bs h.1)
 
 pub name_is : (name : List ℕ) → is_name name ≡ true → IsString 64 name
+unfolding is_name
 name_is [] e = cc
 name_is (b ∷ bs) e =
     let h = both_true (not (is_digit b) && nat_le (length (b ∷ bs)) 64) (list_all is_name_byte (b ∷ bs)) e in

@@ -4,7 +4,7 @@ use Rattle.std.specs.List.{AllPairs}
 use Rattle.std.proofs.lemmas.List.Elements.{All-nil, All-cons}
 use Rattle.std.proofs.lemmas.List.Kept.{AllPairs-cons}
 use Rattle.asm_text.specs.declared.unit.AsmRelocation.{AsmRelocation}
-use Rattle.asm_text.specs.Parts.{SectionValue, SymbolValue, IsUnit, IsSection, IsSymbol, IsRelocation}
+use Rattle.asm_text.specs.Parts.{SectionValue, SymbolValue, IsUnit, IsSection, IsSymbol, IsRelocation, is_name, is_name_byte}
 use Rattle.obj_write.specs.Rows.{text_value, here_value, main_value}
 
 no_pairs : {X : Type 0} (R : X → X → Type 0) → AllPairs R []
@@ -18,6 +18,7 @@ apart : here_value.name ≢ main_value.name
 apart e = let f : ◌≡◌ {A = ℕ} 104 109 = ap (λ (l : List ℕ). get_or l 0 0) e in absurd (omega arith)
 
 row_is : IsUnit (record { sections = text_value ∷ []; symbols = here_value ∷ (main_value ∷ []); relocations = [] })
+unfolding is_name is_name_byte
 row_is = record {
   few_sections = omega arith;
   few_symbols = omega arith;

@@ -2,6 +2,8 @@
 #![tactic(auto)]
 
 #[cfg(test)]
+mod assembled;
+#[cfg(test)]
 mod commands;
 #[cfg(test)]
 mod exchanges;
@@ -15,6 +17,8 @@ mod linked;
 mod objects;
 #[cfg(test)]
 mod outside;
+#[cfg(test)]
+mod scripts;
 #[cfg(test)]
 mod stock;
 #[cfg(test)]

@@ -22,10 +22,10 @@ const LAYOUT_READS: u64 = 2;
 
 /// What a call gave.
 #[derive(Drop)]
-struct Given {
-    status: Status,
-    out: MemSink,
-    err: MemSink,
+pub struct Given {
+    pub status: Status,
+    pub out: MemSink,
+    pub err: MemSink,
 }
 
 /// Layouts and objects, with the object of no sections cut to so many bytes, zeros of 33 bytes, and a weak name.
@@ -69,7 +69,8 @@ fn stock_files(alloc: Global) -> Result<MemFiles, Fail> {
     Ok(files)
 }
 
-fn call(alloc: Global, line: &str, mut files: MemFiles) -> Result<Given, Fail> {
+/// Calls with the words of a line, on these files.
+pub fn call(alloc: Global, line: &str, mut files: MemFiles) -> Result<Given, Fail> {
     let mut words = Vec::new(alloc);
     for word in line.split(' ') {
         words.push(String::from_str(alloc, word)?)?;

@@ -13,8 +13,12 @@ use Rattle.vendor_tool.specs.declared.TraceFault.{TraceFault}
 use Rattle.vendor_tool.specs.declared.TraceFault.TheVariants as trace_fault
 use Rattle.arm_balance.specs.declared.ArmsFault.{ArmsFault}
 use Rattle.arm_balance.specs.declared.ArmsFault.TheVariants as arms_fault
+use Rattle.monitor.specs.declared.ScriptFault.{ScriptFault}
+use Rattle.monitor.specs.declared.ScriptFault.TheVariants as script_fault
 use Rattle.elf_objects.specs.declared.fault.ElfFault.{ElfFault}
 use Rattle.elf_objects.specs.declared.fault.ElfFault.TheVariants as elf_fault
+use Rattle.asm_text.specs.declared.unit.AsmFault.{AsmFault}
+use Rattle.asm_text.specs.declared.unit.AsmFault.TheVariants as asm_fault
 use Rattle.layout_file.specs.declared.fault.Spot.{Spot}
 use Rattle.layout_file.specs.declared.fault.LayoutFault.{LayoutFault}
 use Rattle.layout_file.specs.declared.fault.LayoutFault.TheVariants as layout_fault
@@ -60,6 +64,11 @@ arms_fault_text arms_fault.TooMany = codes "TooMany"
 arms_fault_text (arms_fault.Line n) = codes "Line " ++ decimal n
 arms_fault_text (arms_fault.NotRising n) = codes "NotRising " ++ decimal n
 arms_fault_text arms_fault.NoMemory = codes "NoMemory"
+
+abbrev pub script_fault_text : ScriptFault → List ℕ
+script_fault_text (script_fault.Line n) = codes "Line " ++ decimal n
+script_fault_text (script_fault.Number n) = codes "Number " ++ decimal n
+script_fault_text script_fault.NoMemory = codes "NoMemory"
 
 -- a number after a space
 abbrev pub number_text : ℕ → List ℕ
@@ -112,6 +121,16 @@ layout_fault_text (layout_fault.SameName first second) = with_numbers (codes "Sa
 layout_fault_text layout_fault.NoMemory = codes "NoMemory"
 layout_fault_text (layout_fault.SameBoot first second) = with_numbers (codes "SameBoot") (first ∷ second ∷ [])
 
+abbrev pub source_fault_text : AsmFault → List ℕ
+source_fault_text (asm_fault.Line n) = codes "Line " ++ decimal n
+source_fault_text (asm_fault.Place n) = codes "Place " ++ decimal n
+source_fault_text (asm_fault.Twice n) = codes "Twice " ++ decimal n
+source_fault_text (asm_fault.TooMany n) = codes "TooMany " ++ decimal n
+source_fault_text (asm_fault.Large n) = codes "Large " ++ decimal n
+source_fault_text (asm_fault.NoLabel n) = codes "NoLabel " ++ decimal n
+source_fault_text (asm_fault.Far n value) = (codes "Far " ++ decimal n) ++ (codes " " ++ signed_decimal value)
+source_fault_text asm_fault.NoMemory = codes "NoMemory"
+
 abbrev pub fault_text : FileFault → List ℕ
 fault_text fault.Absent = codes "Absent"
 fault_text fault.TooLong = codes "TooLong"
@@ -123,3 +142,5 @@ fault_text (fault.Trace refusal) = trace_fault_text refusal
 fault_text (fault.Arms refusal) = arms_fault_text refusal
 fault_text (fault.Layout refusal) = layout_fault_text refusal
 fault_text (fault.Object refusal) = object_fault_text refusal
+fault_text (fault.Script refusal) = script_fault_text refusal
+fault_text (fault.Source refusal) = source_fault_text refusal

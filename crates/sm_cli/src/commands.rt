@@ -12,6 +12,7 @@ use crate::answers::{Refused, Status};
 use sm_io::{Files, Sink};
 use std::alloc::{AllocError, Global};
 
+pub mod asm;
 pub mod balance;
 pub mod challenge;
 pub mod check;
@@ -21,8 +22,10 @@ pub mod key;
 pub mod link;
 pub mod lone;
 pub mod run;
+pub mod script;
 pub mod vendor;
 
+use asm::AsmCommand;
 use balance::BalanceCommand;
 use challenge::ChallengeCommand;
 use check::CheckCommand;
@@ -32,6 +35,7 @@ use key::KeyCommand;
 use link::LinkCommand;
 use lone::LoneCommand;
 use run::RunCommand;
+use script::MonitorCommand;
 use vendor::VendorCommand;
 
 /// A command that can be answered.
@@ -73,6 +77,8 @@ pub enum CommandLine<'a> {
     Link(LinkCommand<'a>),
     Run(RunCommand<'a>),
     Lone(LoneCommand<'a>),
+    Monitor(MonitorCommand<'a>),
+    Asm(AsmCommand<'a>),
 }
 
 /// The command that the words are.
@@ -108,6 +114,10 @@ pub fn read_command<'a>(
         Ok(run::read(alloc, words)?.map(CommandLine::Run))
     } else if name == "lone" {
         Ok(lone::read(alloc, words)?.map(CommandLine::Lone))
+    } else if name == "monitor" {
+        Ok(script::read(alloc, words)?.map(CommandLine::Monitor))
+    } else if name == "asm" {
+        Ok(asm::read(alloc, words)?.map(CommandLine::Asm))
     } else {
         Ok(None)
     }
@@ -135,6 +145,8 @@ impl Answering for CommandLine<'_> {
             CommandLine::Link(command) => command.answer(alloc, files, out),
             CommandLine::Run(command) => command.answer(alloc, files, out),
             CommandLine::Lone(command) => command.answer(alloc, files, out),
+            CommandLine::Monitor(command) => command.answer(alloc, files, out),
+            CommandLine::Asm(command) => command.answer(alloc, files, out),
         }
     }
 }

@@ -1,11 +1,12 @@
-// Faults of layouts, objects and linking, put to a sink.
+// Faults of layouts, objects, programs and linking, put to a sink.
 ghost use Rattle.std.specs.Prelude.{◌++◌, codes};
-ghost use Rattle.std.specs.Fmt.{signed_decimal};
+ghost use Rattle.std.specs.Fmt.{decimal, signed_decimal};
 ghost use Rattle.sm_io.specs.Sink.{Puts};
-ghost use Rattle.sm_cli.specs.Faults.{number_list, with_numbers, with_spot, module_text, layout_fault_text, object_fault_text};
+ghost use Rattle.sm_cli.specs.Faults.{number_list, with_numbers, with_spot, module_text, layout_fault_text, object_fault_text, source_fault_text};
 ghost use Rattle.sm_cli.specs.LinkFaults.{link_fault_text, region_text, reloc_fault_text};
 
 use crate::lines::put_field;
+use asm_text::AsmFault;
 use elf_objects::ElfFault;
 use itoa::Buffer;
 use layout_file::{LayoutFault, Spot};
@@ -72,6 +73,32 @@ pub fn put_object_fault<S: Sink>(sink: &mut S, fault: ElfFault) -> Result<(), Fa
         ElfFault::RelSection { index } => put_field(sink, b"RelSection ", index),
         ElfFault::HeaderSize { n } => put_field(sink, b"HeaderSize ", n),
         ElfFault::NoMemory => put_all(sink, b"NoMemory"),
+    }
+}
+
+// Puts a jump that is too far.
+fn put_far<S: Sink>(sink: &mut S, line: u64, value: i64) -> Result<(), Failed>
+    ensures { Puts S.taken S.faults S.sure sink.old sink.new ((codes "Far " ++ decimal line) ++ (codes " " ++ signed_decimal value)) result }
+{
+    match put_field(sink, b"Far ", line) {
+        Ok(()) => put_signed(sink, b" ", value),
+        Err(Failed) => Err(Failed),
+    }
+}
+
+/// Puts the fault of a program.
+pub fn put_source_fault<S: Sink>(sink: &mut S, fault: AsmFault) -> Result<(), Failed>
+    ensures { Puts S.taken S.faults S.sure sink.old sink.new (source_fault_text fault) result }
+{
+    match fault {
+        AsmFault::Line { n } => put_field(sink, b"Line ", n),
+        AsmFault::Place { n } => put_field(sink, b"Place ", n),
+        AsmFault::Twice { n } => put_field(sink, b"Twice ", n),
+        AsmFault::TooMany { n } => put_field(sink, b"TooMany ", n),
+        AsmFault::Large { n } => put_field(sink, b"Large ", n),
+        AsmFault::NoLabel { n } => put_field(sink, b"NoLabel ", n),
+        AsmFault::Far { n, value } => put_far(sink, n, value),
+        AsmFault::NoMemory => put_all(sink, b"NoMemory"),
     }
 }
 

@@ -1,0 +1,72 @@
+//! `asm SOURCE`: the object of a program.
+ghost use Rattle.std.specs.Prelude.{◌≡◌, IfOk, map, drop, option_map, option_and_then};
+ghost use Rattle.sm_cli.specs.AsmCommand.{asm_of, asm_asked};
+ghost use Rattle.sm_cli.specs.Serve.{texts};
+ghost use Rattle.sm_cli.specs.Words.{values_in};
+
+use crate::answers::{Name, Refusal, Refused, Status};
+use crate::commands::Answering;
+use crate::loading::load;
+use crate::words::values_of;
+use asm_text::AsmUnit;
+use obj_write::write_object;
+use sm_io::{Failed, Files, Sink, put_all};
+use std::alloc::{AllocError, Global};
+
+/// The argument.
+#[derive(Clone, Copy)]
+pub struct AsmCommand<'a> {
+    pub source: &'a str,
+}
+
+/// The argument that the words after the first are.
+#[tactic(auto, using(crate::proofs::OneValue::one_source))]
+pub fn read<'a>(alloc: Global, words: &'a [String]) -> Result<Option<AsmCommand<'a>>, AllocError>
+    ensures { IfOk result (λ o. option_map asm_asked o ≡ option_and_then asm_of (values_in 1 1 (drop 1 (texts words.entry.now)))) }
+{
+    match values_of(alloc, words, 1, 2)? {
+        Some(values) => Ok(command_in(values.as_slice())),
+        None => Ok(None),
+    }
+}
+
+fn command_in<'a>(values: &[&'a str]) -> Option<AsmCommand<'a>>
+    ensures { option_map asm_asked result ≡ asm_of (map (λ w. w.now) values.now) }
+{
+    if values.len() == 1 {
+        Some(AsmCommand { source: values[0] })
+    } else {
+        None
+    }
+}
+
+impl Answering for AsmCommand<'_> {
+    ghost asked = { λ c. asm_asked c };
+
+    ghost bounds = { λ _. Unit {0} };
+
+    fn answer<F: Files, O: Sink>(
+        &self,
+        alloc: Global,
+        files: &mut F,
+        out: &mut O,
+    ) -> Result<Status, Refused<'_>> {
+        let unit = match load::<AsmUnit, F>(alloc, self.source, files) {
+            Ok(unit) => unit,
+            Err(refused) => return Err(refused),
+        };
+        let object = match write_object(alloc, &unit) {
+            Ok(object) => object,
+            Err(_) => {
+                return Err(Refused {
+                    refusal: Refusal::NoMemory,
+                    name: Name::Word(self.source),
+                });
+            }
+        };
+        match put_all(out, object.as_slice()) {
+            Ok(()) => Ok(Status::Done),
+            Err(Failed) => Ok(Status::WriteFault),
+        }
+    }
+}
