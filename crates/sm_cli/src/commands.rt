@@ -21,6 +21,7 @@ pub mod image;
 pub mod key;
 pub mod link;
 pub mod lone;
+pub mod make;
 pub mod run;
 pub mod vendor;
 
@@ -33,6 +34,7 @@ use image::ImageCommand;
 use key::KeyCommand;
 use link::LinkCommand;
 use lone::LoneCommand;
+use make::MakeCommand;
 use run::RunCommand;
 use vendor::VendorCommand;
 
@@ -76,6 +78,7 @@ pub enum CommandLine<'a> {
     Run(RunCommand<'a>),
     Lone(LoneCommand<'a>),
     Asm(AsmCommand<'a>),
+    Make(MakeCommand),
 }
 
 /// The command that the words are.
@@ -113,6 +116,8 @@ pub fn read_command<'a>(
         Ok(lone::read(alloc, words)?.map(CommandLine::Lone))
     } else if name == "asm" {
         Ok(asm::read(alloc, words)?.map(CommandLine::Asm))
+    } else if name == "make" {
+        Ok(make::read(alloc, words)?.map(CommandLine::Make))
     } else {
         Ok(None)
     }
@@ -141,6 +146,7 @@ impl Answering for CommandLine<'_> {
             CommandLine::Run(command) => command.answer(alloc, files, out),
             CommandLine::Lone(command) => command.answer(alloc, files, out),
             CommandLine::Asm(command) => command.answer(alloc, files, out),
+            CommandLine::Make(command) => command.answer(alloc, files, out),
         }
     }
 }
