@@ -16,7 +16,7 @@ import tempfile
 import machine
 
 PROLOGUE, TEST, NOP, ILLEGAL = 0x0200, 0x8000, 0x4303, 0x0000
-RESERVED = [range(0x0000, 0x0280), range(TEST - 0x20, TEST + 0x40), range(0xFFC0, 0x10000)]
+RESERVED = [range(0x0000, 0x0280), range(TEST - 0x20, TEST + 0x40), range(0xFF00, 0x10000)]
 TWO = "mov add addc subc sub cmp dadd bit bic bis xor and".split()
 ONE = ["rrc", "swpb", "rra", "sxt", "push", "call"]
 CPU_OFF = 0x10
@@ -139,7 +139,8 @@ def ours(program, folder, case, watched):
     code = [word for k, addr in enumerate(watched) for word in (0x4210 | 4 + k, addr & ~1)] + [ILLEGAL]
     for k, word in enumerate(code):
         memory[regs[0] + 2 * k : regs[0] + 2 * k + 2] = machine.word_bytes(word)
-    if regs[2] & CPU_OFF:
+    if regs[2] & CPU_OFF or TEST - 40 < regs[0] < TEST + 2 * len(case.words):
+        # asleep, or about to meet its own words
         return regs, None, None
     stop = re.search(r"^(\d+) stop Illegal", run(200), re.M)
     if not stop:
@@ -177,8 +178,34 @@ def theirs(cases):
     return results
 
 
+def is_decimal(number):
+    return all(number >> at & 15 < 10 for at in (0, 4, 8, 12))
+
+
+def steps_stack_by_byte(case, byte, operands):
+    """Whether a byte instruction steps SP past its operand."""
+    return byte and any(how == "increment" and register == 1 for how, register, _ in operands)
+
+
+def even_pointers(regs, step):
+    """Registers as they would be with PC and SP kept even, and SP stepped by this much more."""
+    return [regs[0] & ~1, regs[1] + step & 0xFFFE, regs[2] & 0x1FF, 0, *regs[4:]]
+
+
 def cause(case, name, byte, operands, what, mine, other):
     """The known causes, each with the side that follows the standard."""
+    if what == "cycles" and any(how == "constant" for how, *_ in operands):
+        return "cycles: mspdebug counts a constant of the generator as an immediate word; SLAU049, 3.2.4: it needs no fetch"
+    if what == "memory" and name == "push" and byte:
+        return "PUSH.B writes one byte here, a word with 0 above in mspdebug: a choice (docs/DECISIONS.md)"
+    if name == "dadd" and not all(is_decimal(it) for it in (case.regs[n] for n in range(4, 16))):
+        return "DADD of digits above 9: SLAU049, 3.4.4.15, leaves the result open; V, which it leaves open too, is 0 here"
+    if steps_stack_by_byte(case, byte, operands) and (operands[-1][1] == 1 or what == "registers" and mine == even_pointers(other, 1)):
+        return "@SP+ in a byte instruction: SP rises by 2 here, by 1 in mspdebug; SLAU049, 3.2.2: SP stays even"
+    if len(operands) == 2 and operands[0][:2] == ("register", 0) and operands[1][0] == "indexed":
+        return "PC as a source with a destination in memory is the address of the next instruction here: a choice (docs/DECISIONS.md)"
+    if what == "registers" and mine == even_pointers(other, 0):
+        return "PC and SP: bit 0 is always 0 (SLAU049, 3.2.1 and 3.2.2), and the bits of SR above 8 are not kept; mspdebug keeps them"
     return None
 
 

@@ -15,7 +15,7 @@ import linking
 import machine
 
 FOLDER = os.path.join(os.path.dirname(os.path.abspath(__file__)), "programs")
-LEVELS = ["-O0", "-O1", "-Os", "-O2"]
+LEVELS = ["-O0", "-O1", "-Os"]
 CYCLES = 20_000_000
 
 # CRC-16/CCITT and CRC-32 of "The quick brown fox jumps over the lazy dog" and "123456789"; FIPS 180-4's example

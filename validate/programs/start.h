@@ -20,3 +20,12 @@ __asm__(".refsym __crt0_movedata\n"
         ".globl done\n"
         "done:\n"
         "    jmp done\n");
+
+/* The compiler calls it for zeros. */
+__attribute__((optnone)) void *memset(void *to, int byte, unsigned count)
+{
+    char *at = to;
+    while (count--)
+        *at++ = (char)byte;
+    return to;
+}

@@ -8,7 +8,8 @@ use Rattle.insn_decode.specs.Code.{offset_of}
 use Rattle.insn_decode.specs.Means.{jump}
 use Rattle.insn_decode.proofs.Table.{means_insn}
 use Rattle.asm_text.specs.Emission.{is_near, offset_bits, jump_word}
-use Rattle.asm_text.specs.Laws.{JumpsAreMeant, JumpsLead, target_of}
+use Rattle.asm_text.specs.Jumps.{target_of}
+use Rattle.asm_text.specs.Laws.{JumpsAreMeant, JumpsLead}
 
 record HasBits (w c bits : ℕ) : Type 0 where
   pub form : w / 8192 ≡ 1

@@ -103,7 +103,7 @@ statement_more t (Word (Name name)) names sections h =
     let n = is_noted t.names name names h in
     record { names = n.table; sections = sections; least = n.least; least_sections = omega arith; most = let m = n.most in omega arith; known = n.low; named = tt }
 statement_more t (Word (Number x)) names sections h = record { names = names; sections = sections; least = omega arith; least_sections = omega arith; most = omega arith; known = tt; named = tt }
-statement_more t (Space size) names sections h = record { names = names; sections = sections; least = omega arith; least_sections = omega arith; most = omega arith; known = h; named = tt }
+statement_more t (Space size) names sections h = record { names = names; sections = sections; least = omega arith; least_sections = omega arith; most = omega arith; known = h.0; named = tt }
 statement_more t (Jump c target) names sections h =
     let n = is_noted t.names target names h.1 in
     record { names = n.table; sections = sections; least = n.least; least_sections = omega arith; most = let m = n.most in omega arith; known = (h.0, n.low); named = tt }

@@ -50,10 +50,10 @@ not_any heads name none k d low same =
     kind_there [] k low = absurd (omega arith)
     kind_there (h ∷ heads) k low = h.kind
 
-abbrev new_head : ℕ → SectionKind → Head
+abbrev pub new_head : ℕ → SectionKind → Head
 new_head name kind = record { name = name; kind = kind; size = 0 }
 
-abbrev more_heads : Placed → Head → Placed
+abbrev pub more_heads : Placed → Head → Placed
 more_heads p head = record { heads = p.heads ++ head ∷ []; labels = p.labels; spots = p.spots }
 
 with_section_kept : (names n : ℕ) (p q : Placed) (name : ℕ) (kind : SectionKind) → IsPlaced names p → with_section n p name kind ≡ Ok q → IsPlaced names q
@@ -81,10 +81,10 @@ with_section_kept names n p q name kind i e = by (has_section p.heads name) (nat
 
 -- ---- a label
 
-abbrev spot_here : Placed → Head → Spot
+abbrev pub spot_here : Placed → Head → Spot
 spot_here p h = record { section = length p.heads - 1; offset = h.size }
 
-abbrev more_labels : Placed → Head → ℕ → Placed
+abbrev pub more_labels : Placed → Head → ℕ → Placed
 more_labels p h name = record { heads = p.heads; labels = p.labels ++ name ∷ []; spots = set p.spots name (Some (spot_here p h)) }
 
 pub or_not : (a b : ℕ) → (a ≡ b) ⊎ (a ≢ b)
@@ -125,10 +125,10 @@ with_label_kept names n p q h name i known last e = by (is_some (spot_of p.spots
 
 -- ---- bytes
 
-abbrev grown_head : Head → ℕ → Head
+abbrev pub grown_head : Head → ℕ → Head
 grown_head h size = record { name = h.name; kind = h.kind; size = h.size + size }
 
-abbrev more_bytes : Placed → Head → ℕ → Placed
+abbrev pub more_bytes : Placed → Head → ℕ → Placed
 more_bytes p h size = record { heads = set p.heads (length p.heads - 1) (grown_head h size); labels = p.labels; spots = p.spots }
 
 with_bytes_kept : (names n : ℕ) (p q : Placed) (h : Head) (size : ℕ) → IsPlaced names p → last_head p.heads ≡ Some h → with_bytes n p h size ≡ Ok q → IsPlaced names q

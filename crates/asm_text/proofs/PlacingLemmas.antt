@@ -14,7 +14,7 @@ pub record IsPlacing (names : ℕ) (statements : List (Statement ℕ)) (i : ℕ)
   pub total : placed_from 1 (nowhere names) statements ≡ placed_from (i + 1) p (drop i statements)
   pub kept : IsPlaced names p
 
-no_spot : (names k : ℕ) (spot : Spot) → spot_of (replicate names None) k ≡ Some spot → ⊥
+pub no_spot : (names k : ℕ) (spot : Spot) → spot_of (replicate names None) k ≡ Some spot → ⊥
 no_spot zero zero spot e = cc
 no_spot zero (suc k) spot e = cc
 no_spot (suc names) zero spot e = cc

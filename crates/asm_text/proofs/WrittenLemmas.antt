@@ -1,5 +1,6 @@
 -- What a statement that a line writes keeps.
 use Rattle.std.proofs.Common.{ℕ, ◌≡◌, ◌<◌, ◌≤◌, Bool, true, false, cond, ◌&&◌, List, [], ◌∷◌, length, take, drop, codes, ◌%◌, Option, Some, None, nat_eq, nat_le, refl, ap, sym, subst, ◌∙◌, arith, lit<}
+use Rattle.std.proofs.lemmas.Bool.Decides.{nat_tests}
 use Rattle.std.specs.Prelude.{option_map, option_and_then}
 use Rattle.std.specs.Str.{bytes_eq}
 use Rattle.texts.specs.Decimals.{read_decimal}
@@ -38,7 +39,7 @@ IsWritten (Section name kind) = is_name name ≡ true
 IsWritten (Label name) = is_name name ≡ true
 IsWritten (Global name) = is_name name ≡ true
 IsWritten (Word field) = NamedField field
-IsWritten (Space size) = size ≤ MAX_SIZE
+IsWritten (Space size) = (size ≤ MAX_SIZE) × (size % 2 ≡ 0)
 IsWritten (Jump cond target) = (cond < 8) × (is_name target ≡ true)
 IsWritten (Code insn first second) = NamedOption first × NamedOption second
 
@@ -182,12 +183,15 @@ word_some text s e = by (field_of text) refl e
 space_some : (text : List ℕ) (s : Statement (List ℕ)) → space_of text ≡ Some s → IsWritten s
 space_some text s e = by (read_decimal MAX_SIZE text) refl e
   where
-    by_even : (n : ℕ) (c : Bool) → n ≤ MAX_SIZE → cond c (Some (Space n)) None ≡ Some s → IsWritten s
-    by_even n true low k = subst IsWritten (some_is (Space n) s k) low
-    by_even n false low k = absurd cc
+    is_even : (n : ℕ) → (nat_le 2 n && nat_eq (n % 2) 0) ≡ true → n % 2 ≡ 0
+    is_even n is = grind (arith, nat_tests)
+
+    by_even : (n : ℕ) (c : Bool) → (nat_le 2 n && nat_eq (n % 2) 0) ≡ c → n ≤ MAX_SIZE → cond c (Some (Space n)) None ≡ Some s → IsWritten s
+    by_even n true is low k = subst IsWritten (some_is (Space n) s k) (low, is_even n is)
+    by_even n false is low k = absurd cc
 
     by : (o : Option ℕ) → read_decimal MAX_SIZE text ≡ o → option_and_then even_size o ≡ Some s → IsWritten s
-    by (Some n) is k = by_even n (nat_le 2 n && nat_eq (n % 2) 0) ((decimals_are_read MAX_SIZE (lit< tt) text n).0 is).0 k
+    by (Some n) is k = by_even n (nat_le 2 n && nat_eq (n % 2) 0) refl ((decimals_are_read MAX_SIZE (lit< tt) text n).0 is).0 k
     by None is k = absurd cc
 
 unit_some : (text : List ℕ) (s : Statement (List ℕ)) → unit_of text ≡ Some s → IsWritten s

@@ -1,10 +1,16 @@
 -- The laws of the assembler. They are what functions of this crate ensure.
-use Rattle.std.specs.Prelude.{ℕ, ◌≡◌, ◌+◌, ◌-◌, ◌*◌, ◌%◌, ◌<◌, true, Some, ℤ, pos, negsuc}
+use Rattle.std.specs.Prelude.{ℕ, ◌≡◌, ◌%◌, ◌<◌, Bool, true, false, ◌&&◌, List, Some, None, All, ℤ}
+use Rattle.insn_decode.specs.declared.insn.Operand.{Operand}
+use Rattle.insn_decode.specs.declared.insn.Operand.TheVariants.{Symbolic}
 use Rattle.insn_decode.specs.declared.insn.Insn.{Insn}
-use Rattle.insn_decode.specs.declared.insn.Insn.TheVariants.{Jump}
-use Rattle.insn_decode.specs.Code.{insn_of}
+use Rattle.insn_decode.specs.declared.insn.Insn.TheVariants.{Two, One, Jump}
+use Rattle.insn_decode.specs.Code.{insn_of, IsDecoded}
+use Rattle.insn_decode.specs.Text.{text_of}
+use Rattle.asm_text.specs.declared.statement.Statement.TheVariants.{Code}
 use Rattle.asm_text.specs.Emission.{reach, is_near, jump_word}
-use Rattle.asm_text.specs.Encoding.{is_coded, meaning}
+use Rattle.asm_text.specs.Encoding.{extensions, is_coded, meaning}
+use Rattle.asm_text.specs.Jumps.{target_of}
+use Rattle.asm_text.specs.Lines.{statement_of}
 
 -- The words of an instruction that a line may write mean it.
 abbrev pub CodedIsMeant : Type 0
@@ -14,11 +20,28 @@ CodedIsMeant = (insn : Insn) → is_coded insn ≡ true → meaning insn ≡ Som
 abbrev pub JumpsAreMeant : Type 0
 JumpsAreMeant = (cond w1 w2 : ℕ) (offset : ℤ) → cond < 8 → is_near offset ≡ true → insn_of (jump_word cond offset) w1 w2 ≡ Some (Jump cond offset)
 
--- where a jump at this place leads
-abbrev pub target_of : ℕ → ℤ → ℕ
-target_of here (pos n) = here + 2 + 2 * n
-target_of here (negsuc n) = here + 2 - 2 * (n + 1)
-
 -- A jump leads to its label.
 abbrev pub JumpsLead : Type 0
 JumpsLead = (here there : ℕ) → here % 2 ≡ 0 → there % 2 ≡ 0 → target_of here (reach here there) ≡ there
+
+-- ---- what is shown is read
+
+-- an operand that no address changes
+abbrev pub is_placeless_operand : Operand → Bool
+is_placeless_operand (Symbolic x) = false
+is_placeless_operand _ = true
+
+-- an instruction whose text is the same at each address: no jump, and no operand is Symbolic
+abbrev pub is_placeless : Insn → Bool
+is_placeless (Two op w s d) = is_placeless_operand s && is_placeless_operand d
+is_placeless (One op w a) = is_placeless_operand a
+is_placeless (Jump cond offset) = false
+is_placeless _ = true
+
+abbrev pub AreWords : List ℕ → Type 0
+AreWords words = All (λ word. word < 65536) words
+
+-- The text that `show` writes of such an instruction, at any address, is read as that instruction, which its words mean.
+abbrev pub ShownIsRead : Type 0
+ShownIsRead = (insn : Insn) (at : ℕ) → IsDecoded insn → is_placeless insn ≡ true → AreWords (extensions insn) →
+    (statement_of (text_of insn at) ≡ Some (Code insn None None)) × (meaning insn ≡ Some insn)

@@ -18,4 +18,5 @@ pub mod Emitted
 pub mod Numbering
 pub mod Assembly
 pub mod Kept
+pub mod Jumps
 pub mod Laws

@@ -1,5 +1,6 @@
 //! The laws of the assembler, each the contract of a function that does nothing.
-ghost use Rattle.asm_text.specs.Laws.{CodedIsMeant, JumpsAreMeant, JumpsLead};
+ghost use Rattle.asm_text.specs.Jumps.{JumpsReachLabels, LabelsAreEven};
+ghost use Rattle.asm_text.specs.Laws.{CodedIsMeant, JumpsAreMeant, JumpsLead, ShownIsRead};
 
 /// The words of each instruction that a line may write mean that instruction, with 0 for names; the word of a jump
 /// means that jump, which leads from its place to that of its label.
@@ -7,4 +8,17 @@ pub fn words_are_meant()
     ensures coded { CodedIsMeant }
     ensures jumps { JumpsAreMeant }
     ensures labels { JumpsLead }
+{}
+
+/// What `show` writes of an instruction that has no operand relative to PC and is no jump, at any address, is read as
+/// that instruction, which its words mean: such lines of the disassembler can be assembled again.
+pub fn shown_is_read()
+    ensures { ShownIsRead }
+{}
+
+/// Each jump of a source that is accepted leads to its label: the word at its place means a jump of its condition, from
+/// there to the value of the symbol with that name, in the same section. Labels are even.
+pub fn jumps_reach_labels()
+    ensures jumps { JumpsReachLabels }
+    ensures even { LabelsAreEven }
 {}

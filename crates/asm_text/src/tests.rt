@@ -2,6 +2,9 @@
 use crate::{AsmFault, AsmRelocation, SectionKind, assemble};
 use std::test::Fail;
 
+mod forms;
+mod limits;
+
 #[test]
 fn a_program_is_assembled(rt: HostRuntime) -> Result<(), Fail> {
     let text =
@@ -29,58 +32,23 @@ fn a_program_is_assembled(rt: HostRuntime) -> Result<(), Fail> {
 }
 
 // A line of a section of code, and its words.
-fn instructions() -> &'static [(&'static [u8], &'static [u8])] {
+fn lines() -> &'static [(&'static [u8], &'static [u8])] {
     &[
-        (b"mov r0, r5", &[0x05, 0x40]),
-        (b"mov #0x1234, r5", &[0x35, 0x40, 0x34, 0x12]),
         (b"mov #0x0000, r5", &[0x35, 0x40, 0x00, 0x00]),
-        (b"mov 0x1234(r1), r5", &[0x15, 0x41, 0x34, 0x12]),
-        (b"mov @r1, r5", &[0x25, 0x41]),
-        (b"mov @r15+, r5", &[0x35, 0x4f]),
-        (b"mov &0x1234, r5", &[0x15, 0x42, 0x34, 0x12]),
-        (b"mov #4, r5", &[0x25, 0x42]),
-        (b"mov #8, r5", &[0x35, 0x42]),
-        (b"mov #0, r5", &[0x05, 0x43]),
-        (b"mov #1, r5", &[0x15, 0x43]),
-        (b"mov #2, r5", &[0x25, 0x43]),
-        (b"mov #-1, r5", &[0x35, 0x43]),
-        (b"mov r5, r3", &[0x03, 0x45]),
-        (b"mov r5, &0x1234", &[0x82, 0x45, 0x34, 0x12]),
-        (b"mov #1, 0x1234(r1)", &[0x91, 0x43, 0x34, 0x12]),
-        (
-            b"mov #0x1234, &0x5678",
-            &[0xb2, 0x40, 0x34, 0x12, 0x78, 0x56],
-        ),
         (b"mov #a, &b", &[0xb2, 0x40, 0, 0, 0, 0]),
-        (b"mov.b r4, r5", &[0x45, 0x44]),
-        (b"add r4, r5", &[0x05, 0x54]),
-        (b"addc r4, r5", &[0x05, 0x64]),
-        (b"subc r4, r5", &[0x05, 0x74]),
-        (b"sub r4, r5", &[0x05, 0x84]),
-        (b"cmp.b r4, r5", &[0x45, 0x94]),
-        (b"dadd r4, r5", &[0x05, 0xa4]),
-        (b"bit r4, r5", &[0x05, 0xb4]),
-        (b"bic r4, r5", &[0x05, 0xc4]),
-        (b"bis r4, r5", &[0x05, 0xd4]),
-        (b"xor r4, r5", &[0x05, 0xe4]),
-        (b"and r4, r5", &[0x05, 0xf4]),
-        (b"rrc.b r5", &[0x45, 0x10]),
-        (b"swpb r5", &[0x85, 0x10]),
-        (b"rra &0x1234", &[0x12, 0x11, 0x34, 0x12]),
-        (b"sxt @r5+", &[0xb5, 0x11]),
-        (b"push #2", &[0x23, 0x12]),
-        (b"push.b 0x1234(r4)", &[0x54, 0x12, 0x34, 0x12]),
-        (b"call #f", &[0xb0, 0x12, 0, 0]),
         (b"reti", &[0x00, 0x13]),
+        (b"unit 0", &[0x80, 0x13]),
         (b"unit 6", &[0x86, 0x13]),
         (b"word 0x1234", &[0x34, 0x12]),
         (b"word a", &[0, 0]),
+        (b"label a", &[]),
+        (b"global a", &[]),
     ]
 }
 
 #[test]
-fn instructions_have_their_words(rt: HostRuntime) -> Result<(), Fail> {
-    for (line, bytes) in instructions() {
+fn lines_have_their_words(rt: HostRuntime) -> Result<(), Fail> {
+    for (line, bytes) in lines() {
         let mut text = Vec::from_slice(rt.alloc(), b"section t code\n")?;
         text.extend_from_slice(line)?;
         text.push(b'\n')?;
@@ -175,6 +143,26 @@ fn refusals() -> &'static [(&'static [u8], AsmFault)] {
             AsmFault::NoLabel { n: 4 },
         ),
         (b"section a code\njmp b\nx\n", AsmFault::Line { n: 3 }),
+        (b"section a code\nreti\r\n", AsmFault::Line { n: 2 }),
+        (b"section a code\nmov\tr4, r5\n", AsmFault::Line { n: 2 }),
+        (b"section a code\nmov r4,\tr5\n", AsmFault::Line { n: 2 }),
+        (b"section a code\nMOV r4, r5\n", AsmFault::Line { n: 2 }),
+        (b"section a code\nmov R4, r5\n", AsmFault::Line { n: 2 }),
+        (b"section a code\nword 0X1234\n", AsmFault::Line { n: 2 }),
+        (b"section a code\nword 0x123F\n", AsmFault::Line { n: 2 }),
+        (b"section a code\nreti \n", AsmFault::Line { n: 2 }),
+        (b"section a code\n reti\n", AsmFault::Line { n: 2 }),
+        (b"section a code\nmov  r4, r5\n", AsmFault::Line { n: 2 }),
+        (b"section a code\npush #3\n", AsmFault::Line { n: 2 }),
+        (b"section a code\ncall.b r5\n", AsmFault::Line { n: 2 }),
+        (b"section a code\nsxt.b r5\n", AsmFault::Line { n: 2 }),
+        (b"section a code\nrra #there\n", AsmFault::Line { n: 2 }),
+        (b"section a code\nmov r4, @r5\n", AsmFault::Line { n: 2 }),
+        (b"section a code\nmov there, r5\n", AsmFault::Line { n: 2 }),
+        (
+            b"section nnnnnnnnnnnnnnnnnnnnnnnnnnnnnnnnnnnnnnnnnnnnnnnnnnnnnnnnnnnnnnnnn code\n",
+            AsmFault::Line { n: 1 },
+        ),
     ]
 }
 
@@ -186,6 +174,26 @@ fn other_texts_are_refused(rt: HostRuntime) {
             Ok(_) => panic!(rt; "no refusal"),
             Err(fault) => assert_eq!(rt; fault, *wanted),
         }
+    }
+}
+
+// A source without a refusal.
+fn accepted() -> &'static [&'static [u8]] {
+    &[
+        b"",
+        b"section nnnnnnnnnnnnnnnnnnnnnnnnnnnnnnnnnnnnnnnnnnnnnnnnnnnnnnnnnnnnnnnn code\nlabel nnnnnnnnnnnnnnnnnnnnnnnnnnnnnnnnnnnnnnnnnnnnnnnnnnnnnnnnnnnnnnnn\nword nnnnnnnnnnnnnnnnnnnnnnnnnnnnnnnnnnnnnnnnnnnnnnnnnnnnnnnnnnnnnnnn\n",
+        b"section a bss\nspace 2\nspace 65532\n",
+        b"section a bss\nspace 65534\n",
+        b"section a code\nlabel a\nsection b data\nlabel b\n",
+        b"global a\nglobal a\n",
+    ]
+}
+
+#[test]
+fn texts_are_accepted(rt: HostRuntime) {
+    for text in accepted() {
+        assert_eq!(rt; text.len() <= 1_048_576, true);
+        assert_eq!(rt; assemble(rt.alloc(), text).err(), None);
     }
 }
 

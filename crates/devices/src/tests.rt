@@ -1,7 +1,7 @@
 ghost use Rattle.std.specs.Prelude.{◌≡◌, ◌≤◌, ◌<◌, ◌+◌, ◌-◌, ◌^◌};
 
 use crate::plain::Plain;
-use crate::{Bus, Device, Lines, Serial, Timer};
+use crate::{Bus, BusMark, Device, Lines, Serial, Timer};
 use schedule_file::{Entry, read_schedule};
 use std::alloc::{AllocError, Global};
 use std::test::Fail;
@@ -138,6 +138,24 @@ fn entries_of_one_cycle_act_in_order(rt: HostRuntime) -> Result<(), Fail> {
     Ok(())
 }
 
+// What the lines and the serial device show.
+fn shown(bus: &mut Bus) -> (u8, u8, Option<u8>)
+    ensures ticks { bus.new.ticks ≡ bus.old.ticks }
+{
+    (bus.read(0x0041), bus.read(0x0070), bus.line())
+}
+
+// Eight cycles on, and back to a moment: what is shown at both.
+fn on_and_back(bus: &mut Bus, mark: &BusMark) -> [(u8, u8, Option<u8>); 2]
+    requires few { bus.old.ticks ≤ 100 }
+    ensures ticks { bus.new.ticks ≡ mark.now.ticks }
+{
+    bus.skip(8);
+    let on = shown(bus);
+    bus.back(mark);
+    [on, shown(bus)]
+}
+
 // The line rises in cycle 6 and in cycle 10 once more, whatever was done in between.
 #[test]
 fn a_bus_goes_back_and_on(rt: HostRuntime) -> Result<(), Fail> {
@@ -152,14 +170,12 @@ fn a_bus_goes_back_and_on(rt: HostRuntime) -> Result<(), Fail> {
     let early = bus.mark();
     bus.skip(4);
     let late = bus.mark();
-    for mark in [early, late, early] {
-        bus.skip(8);
-        assert_eq!(rt; (bus.read(0x0041), bus.read(0x0070)), (1, 2));
-        bus.back(&mark);
-        assert_eq!(rt;
-            (bus.read(0x0041), bus.read(0x0070), bus.line()),
-            (0, 0, None)
-        );
+    for seen in [
+        on_and_back(&mut bus, &early),
+        on_and_back(&mut bus, &late),
+        on_and_back(&mut bus, &early),
+    ] {
+        assert_eq!(rt; seen, [(1, 2, Some(1)), (0, 0, None)]);
     }
     assert_eq!(rt; (bus.sent(), bus.quiet()), (Some(9), 1));
     bus.skip(2);

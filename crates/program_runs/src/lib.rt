@@ -20,6 +20,8 @@ mod objects;
 #[cfg(test)]
 mod outside;
 #[cfg(test)]
+mod scripts;
+#[cfg(test)]
 mod stock;
 #[cfg(test)]
 mod tests;

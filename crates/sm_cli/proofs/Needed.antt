@@ -39,6 +39,7 @@ module _ (map : FileMap) where
   serves wanted held (fault.Arms refusal) r h = accepted wanted.kind r.bytes held (fault.Arms refusal) r.is (subst (λ o. HasFault wanted.kind o (fault.Arms refusal)) r.file h).1
   serves wanted held (fault.Layout refusal) r h = accepted wanted.kind r.bytes held (fault.Layout refusal) r.is (subst (λ o. HasFault wanted.kind o (fault.Layout refusal)) r.file h).1
   serves wanted held (fault.Object refusal) r h = accepted wanted.kind r.bytes held (fault.Object refusal) r.is (subst (λ o. HasFault wanted.kind o (fault.Object refusal)) r.file h).1
+  serves wanted held (fault.Script refusal) r h = accepted wanted.kind r.bytes held (fault.Script refusal) r.is (subst (λ o. HasFault wanted.kind o (fault.Script refusal)) r.file h).1
   serves wanted held (fault.Source refusal) r h = accepted wanted.kind r.bytes held (fault.Source refusal) r.is (subst (λ o. HasFault wanted.kind o (fault.Source refusal)) r.file h).1
 
   one_thing : (wanted : Need) (a b : Held) → Holds (Some map) wanted a → Holds (Some map) wanted b → a ≡ b

@@ -29,12 +29,15 @@ use Rattle.elf_objects.specs.Names.{sections_of}
 use Rattle.elf_objects.specs.Object.{ObjectValue, elf_fault_of}
 use Rattle.elf_objects.specs.Relocation.{relocations_of}
 use Rattle.elf_objects.specs.Symbol.{symbols_of}
+use Rattle.written_machine.specs.declared.ScriptLine.{ScriptLine}
+use Rattle.monitor.specs.declared.ScriptFault.{ScriptFault}
+use Rattle.monitor.specs.Reading.{script_of}
+use Rattle.sm_cli.specs.declared.answers.FileFault.{FileFault}
+use Rattle.sm_cli.specs.declared.answers.FileFault.TheVariants as fault
+use Rattle.sm_cli.specs.Files.{Kind, image_file, image_with, schedule_file, challenges_file, trace_file, arms_file, layout_file, object_file, script_file, Held, an_image, a_schedule, the_challenges, the_replies, certificates, a_layout, an_object, a_script, IsTextOf, IsHeld, HasNoModule, IsRefused, most_bytes, HasFault, source_file, a_unit}
 use Rattle.asm_text.specs.declared.unit.AsmFault.{AsmFault}
 use Rattle.asm_text.specs.Assembly.{assembled}
 use Rattle.asm_text.specs.Parts.{UnitValue}
-use Rattle.sm_cli.specs.declared.answers.FileFault.{FileFault}
-use Rattle.sm_cli.specs.declared.answers.FileFault.TheVariants as fault
-use Rattle.sm_cli.specs.Files.{Kind, image_file, image_with, schedule_file, challenges_file, trace_file, arms_file, layout_file, object_file, source_file, Held, an_image, a_schedule, the_challenges, the_replies, certificates, a_layout, an_object, a_unit, IsTextOf, IsHeld, HasNoModule, IsRefused, most_bytes, HasFault}
 
 -- The content of a kind
 
@@ -47,6 +50,7 @@ Content trace_file = List ℕ
 Content arms_file = List Arm
 Content layout_file = LayoutValue
 Content object_file = ObjectValue
+Content script_file = List ScriptLine
 Content source_file = UnitValue
 
 abbrev as_held : (kind : Kind) → Content kind → Held
@@ -58,6 +62,7 @@ as_held trace_file sent = the_replies sent
 as_held arms_file arms = certificates arms
 as_held layout_file layout = a_layout layout
 as_held object_file object = an_object object
+as_held script_file script = a_script script
 as_held source_file unit = a_unit unit
 
 -- bytes of a kind hold nothing but its content
@@ -69,6 +74,7 @@ own_content image_file bytes (the_replies sent) h = absurd h
 own_content image_file bytes (certificates arms) h = absurd h
 own_content image_file bytes (a_layout layout) h = absurd h
 own_content image_file bytes (an_object object) h = absurd h
+own_content image_file bytes (a_script script) h = absurd h
 own_content image_file bytes (a_unit unit) h = absurd h
 own_content (image_with id) bytes (an_image value) h = (value, refl)
 own_content (image_with id) bytes (a_schedule entries) h = absurd h
@@ -77,6 +83,7 @@ own_content (image_with id) bytes (the_replies sent) h = absurd h
 own_content (image_with id) bytes (certificates arms) h = absurd h
 own_content (image_with id) bytes (a_layout layout) h = absurd h
 own_content (image_with id) bytes (an_object object) h = absurd h
+own_content (image_with id) bytes (a_script script) h = absurd h
 own_content (image_with id) bytes (a_unit unit) h = absurd h
 own_content schedule_file bytes (an_image value) h = absurd h
 own_content schedule_file bytes (a_schedule entries) h = (entries, refl)
@@ -85,6 +92,7 @@ own_content schedule_file bytes (the_replies sent) h = absurd h
 own_content schedule_file bytes (certificates arms) h = absurd h
 own_content schedule_file bytes (a_layout layout) h = absurd h
 own_content schedule_file bytes (an_object object) h = absurd h
+own_content schedule_file bytes (a_script script) h = absurd h
 own_content schedule_file bytes (a_unit unit) h = absurd h
 own_content challenges_file bytes (an_image value) h = absurd h
 own_content challenges_file bytes (a_schedule entries) h = absurd h
@@ -93,6 +101,7 @@ own_content challenges_file bytes (the_replies sent) h = absurd h
 own_content challenges_file bytes (certificates arms) h = absurd h
 own_content challenges_file bytes (a_layout layout) h = absurd h
 own_content challenges_file bytes (an_object object) h = absurd h
+own_content challenges_file bytes (a_script script) h = absurd h
 own_content challenges_file bytes (a_unit unit) h = absurd h
 own_content trace_file bytes (an_image value) h = absurd h
 own_content trace_file bytes (a_schedule entries) h = absurd h
@@ -101,6 +110,7 @@ own_content trace_file bytes (the_replies sent) h = (sent, refl)
 own_content trace_file bytes (certificates arms) h = absurd h
 own_content trace_file bytes (a_layout layout) h = absurd h
 own_content trace_file bytes (an_object object) h = absurd h
+own_content trace_file bytes (a_script script) h = absurd h
 own_content trace_file bytes (a_unit unit) h = absurd h
 own_content arms_file bytes (an_image value) h = absurd h
 own_content arms_file bytes (a_schedule entries) h = absurd h
@@ -109,6 +119,7 @@ own_content arms_file bytes (the_replies sent) h = absurd h
 own_content arms_file bytes (certificates arms) h = (arms, refl)
 own_content arms_file bytes (a_layout layout) h = absurd h
 own_content arms_file bytes (an_object object) h = absurd h
+own_content arms_file bytes (a_script script) h = absurd h
 own_content arms_file bytes (a_unit unit) h = absurd h
 own_content layout_file bytes (an_image value) h = absurd h
 own_content layout_file bytes (a_schedule entries) h = absurd h
@@ -117,6 +128,7 @@ own_content layout_file bytes (the_replies sent) h = absurd h
 own_content layout_file bytes (certificates arms) h = absurd h
 own_content layout_file bytes (a_layout layout) h = (layout, refl)
 own_content layout_file bytes (an_object object) h = absurd h
+own_content layout_file bytes (a_script script) h = absurd h
 own_content layout_file bytes (a_unit unit) h = absurd h
 own_content object_file bytes (an_image value) h = absurd h
 own_content object_file bytes (a_schedule entries) h = absurd h
@@ -125,6 +137,16 @@ own_content object_file bytes (the_replies sent) h = absurd h
 own_content object_file bytes (certificates arms) h = absurd h
 own_content object_file bytes (a_layout layout) h = absurd h
 own_content object_file bytes (an_object object) h = (object, refl)
+own_content object_file bytes (a_script script) h = absurd h
+own_content script_file bytes (an_image value) h = absurd h
+own_content script_file bytes (a_schedule entries) h = absurd h
+own_content script_file bytes (the_challenges list) h = absurd h
+own_content script_file bytes (the_replies sent) h = absurd h
+own_content script_file bytes (certificates arms) h = absurd h
+own_content script_file bytes (a_layout layout) h = absurd h
+own_content script_file bytes (an_object object) h = absurd h
+own_content script_file bytes (a_script script) h = (script, refl)
+own_content script_file bytes (a_unit unit) h = absurd h
 own_content object_file bytes (a_unit unit) h = absurd h
 own_content source_file bytes (an_image value) h = absurd h
 own_content source_file bytes (a_schedule entries) h = absurd h
@@ -133,6 +155,7 @@ own_content source_file bytes (the_replies sent) h = absurd h
 own_content source_file bytes (certificates arms) h = absurd h
 own_content source_file bytes (a_layout layout) h = absurd h
 own_content source_file bytes (an_object object) h = absurd h
+own_content source_file bytes (a_script script) h = absurd h
 own_content source_file bytes (a_unit unit) h = (unit, refl)
 
 -- One thing
@@ -158,6 +181,7 @@ one_content trace_file bytes a b r s = let same = sym r ∙ s in cc
 one_content arms_file bytes a b r s = let same = sym r ∙ s in cc
 one_content layout_file bytes a b r s = let same = sym r ∙ s in cc
 one_content object_file bytes a b r s = ap an_object (one_object bytes a b r s)
+one_content script_file bytes a b r s = let same = sym r ∙ s in cc
 one_content source_file bytes a b r s = let same = sym r ∙ s in cc
 
 pub one_held : (kind : Kind) (bytes : List ℕ) (a b : Held) → IsHeld kind bytes a → IsHeld kind bytes b → a ≡ b
@@ -189,6 +213,7 @@ not_refused image_file bytes value (fault.Trace refusal) r h = h
 not_refused image_file bytes value (fault.Arms refusal) r h = h
 not_refused image_file bytes value (fault.Layout refusal) r h = h
 not_refused image_file bytes value (fault.Object refusal) r h = h
+not_refused image_file bytes value (fault.Script refusal) r h = h
 not_refused image_file bytes value (fault.Source refusal) r h = h
 not_refused (image_with id) bytes value fault.Absent r h = h
 not_refused (image_with id) bytes value fault.TooLong r h = h
@@ -200,6 +225,7 @@ not_refused (image_with id) bytes value (fault.Trace refusal) r h = h
 not_refused (image_with id) bytes value (fault.Arms refusal) r h = h
 not_refused (image_with id) bytes value (fault.Layout refusal) r h = h
 not_refused (image_with id) bytes value (fault.Object refusal) r h = h
+not_refused (image_with id) bytes value (fault.Script refusal) r h = h
 not_refused (image_with id) bytes value (fault.Source refusal) r h = h
 not_refused schedule_file bytes entries fault.Absent r h = h
 not_refused schedule_file bytes entries fault.TooLong r h = h
@@ -211,6 +237,7 @@ not_refused schedule_file bytes entries (fault.Trace refusal) r h = h
 not_refused schedule_file bytes entries (fault.Arms refusal) r h = h
 not_refused schedule_file bytes entries (fault.Layout refusal) r h = h
 not_refused schedule_file bytes entries (fault.Object refusal) r h = h
+not_refused schedule_file bytes entries (fault.Script refusal) r h = h
 not_refused schedule_file bytes entries (fault.Source refusal) r h = h
 not_refused challenges_file bytes list fault.Absent r h = h
 not_refused challenges_file bytes list fault.TooLong r h = h
@@ -222,6 +249,7 @@ not_refused challenges_file bytes list (fault.Trace refusal) r h = h
 not_refused challenges_file bytes list (fault.Arms refusal) r h = h
 not_refused challenges_file bytes list (fault.Layout refusal) r h = h
 not_refused challenges_file bytes list (fault.Object refusal) r h = h
+not_refused challenges_file bytes list (fault.Script refusal) r h = h
 not_refused challenges_file bytes list (fault.Source refusal) r h = h
 not_refused trace_file bytes sent fault.Absent r h = h
 not_refused trace_file bytes sent fault.TooLong r h = h
@@ -233,6 +261,7 @@ not_refused trace_file bytes sent (fault.Trace refusal) r h = let clash = sym r 
 not_refused trace_file bytes sent (fault.Arms refusal) r h = h
 not_refused trace_file bytes sent (fault.Layout refusal) r h = h
 not_refused trace_file bytes sent (fault.Object refusal) r h = h
+not_refused trace_file bytes sent (fault.Script refusal) r h = h
 not_refused trace_file bytes sent (fault.Source refusal) r h = h
 not_refused arms_file bytes arms fault.Absent r h = h
 not_refused arms_file bytes arms fault.TooLong r h = h
@@ -244,6 +273,7 @@ not_refused arms_file bytes arms (fault.Trace refusal) r h = h
 not_refused arms_file bytes arms (fault.Arms refusal) r h = let clash = sym r ∙ h in cc
 not_refused arms_file bytes arms (fault.Layout refusal) r h = h
 not_refused arms_file bytes arms (fault.Object refusal) r h = h
+not_refused arms_file bytes arms (fault.Script refusal) r h = h
 not_refused arms_file bytes arms (fault.Source refusal) r h = h
 not_refused layout_file bytes layout fault.Absent r h = h
 not_refused layout_file bytes layout fault.TooLong r h = h
@@ -255,6 +285,7 @@ not_refused layout_file bytes layout (fault.Trace refusal) r h = h
 not_refused layout_file bytes layout (fault.Arms refusal) r h = h
 not_refused layout_file bytes layout (fault.Layout refusal) r h = let clash = sym r ∙ h in cc
 not_refused layout_file bytes layout (fault.Object refusal) r h = h
+not_refused layout_file bytes layout (fault.Script refusal) r h = h
 not_refused layout_file bytes layout (fault.Source refusal) r h = h
 not_refused object_file bytes object fault.Absent r h = h
 not_refused object_file bytes object fault.TooLong r h = h
@@ -266,6 +297,19 @@ not_refused object_file bytes object (fault.Trace refusal) r h = h
 not_refused object_file bytes object (fault.Arms refusal) r h = h
 not_refused object_file bytes object (fault.Layout refusal) r h = h
 not_refused object_file bytes object (fault.Object refusal) r h = let clash = sym r.0.sound ∙ ap elf_fault_of r.1 ∙ h in cc
+not_refused object_file bytes object (fault.Script refusal) r h = h
+not_refused script_file bytes script fault.Absent r h = h
+not_refused script_file bytes script fault.TooLong r h = h
+not_refused script_file bytes script (fault.Image refusal) r h = h
+not_refused script_file bytes script (fault.NoModule other) r h = h
+not_refused script_file bytes script (fault.Schedule refusal) r h = h
+not_refused script_file bytes script (fault.Challenges refusal) r h = h
+not_refused script_file bytes script (fault.Trace refusal) r h = h
+not_refused script_file bytes script (fault.Arms refusal) r h = h
+not_refused script_file bytes script (fault.Layout refusal) r h = h
+not_refused script_file bytes script (fault.Object refusal) r h = h
+not_refused script_file bytes script (fault.Script refusal) r h = let clash = sym r ∙ h in cc
+not_refused script_file bytes script (fault.Source refusal) r h = h
 not_refused object_file bytes object (fault.Source refusal) r h = h
 not_refused source_file bytes unit fault.Absent r h = h
 not_refused source_file bytes unit fault.TooLong r h = h
@@ -277,6 +321,7 @@ not_refused source_file bytes unit (fault.Trace refusal) r h = h
 not_refused source_file bytes unit (fault.Arms refusal) r h = h
 not_refused source_file bytes unit (fault.Layout refusal) r h = h
 not_refused source_file bytes unit (fault.Object refusal) r h = h
+not_refused source_file bytes unit (fault.Script refusal) r h = h
 not_refused source_file bytes unit (fault.Source refusal) r h = let clash = sym r ∙ h in cc
 
 -- bytes that hold something are not refused
@@ -325,6 +370,9 @@ object_examined bytes None e =
     inl (an_object object, (record { sound = e; sections = refl; symbols = refl; relocations = refl }, refl))
 object_examined bytes (Some refusal) e = inr (fault.Object refusal, λ short. (short, e))
 
+script_examined : (bytes : List ℕ) (r : Result (List ScriptLine) ScriptFault) → script_of bytes ≡ r → Examined script_file bytes
+script_examined bytes (Ok script) e = inl (a_script script, e)
+script_examined bytes (Err refusal) e = inr (fault.Script refusal, λ short. (short, e))
 source_examined : (bytes : List ℕ) (r : Result UnitValue AsmFault) → assembled bytes ≡ r → Examined source_file bytes
 source_examined bytes (Ok unit) e = inl (a_unit unit, e)
 source_examined bytes (Err refusal) e = inr (fault.Source refusal, λ short. (short, e))
@@ -339,4 +387,5 @@ examined trace_file bytes = trace_examined bytes (replies_of bytes) refl
 examined arms_file bytes = arms_examined bytes (arms_of bytes) refl
 examined layout_file bytes = layout_examined bytes (LayoutOf bytes) refl
 examined object_file bytes = object_examined bytes (elf_fault_of bytes) refl
+examined script_file bytes = script_examined bytes (script_of bytes) refl
 examined source_file bytes = source_examined bytes (assembled bytes) refl

@@ -4,7 +4,7 @@ use Rattle.sm_io.specs.Faults.{HasCause}
 use Rattle.sm_io.specs.Files.{FileMap}
 use Rattle.image_text.specs.Image.{Image}
 use Rattle.schedule_file.specs.declared.Entry.{Entry}
-use Rattle.sm_cli.specs.Files.{image_file, need, an_image, a_schedule, Holds, IsScheduleOf, schedule_file, layout_file, Need, schedule_needs, object_needs, Held, a_layout, an_object, HoldAll}
+use Rattle.sm_cli.specs.Files.{image_file, need, an_image, a_schedule, a_script, Holds, IsScheduleOf, schedule_file, script_file, layout_file, Need, schedule_needs, object_needs, Held, a_layout, an_object, HoldAll}
 use Rattle.sm_cli.specs.Command.{Command, Answer, gives, Comes, IsAnswer, Outcome, refuses}
 use Rattle.layout_file.specs.Values.{LayoutValue}
 use Rattle.elf_objects.specs.Object.{ObjectValue}
@@ -16,6 +16,8 @@ use Rattle.sm_cli.specs.declared.answers.Refusal.{Refusal}
 use Rattle.sm_cli.specs.declared.answers.Refusal.TheVariants as refusal
 use Rattle.sm_cli.specs.ImageCommand.{image_command, trace_answer}
 use Rattle.sm_cli.specs.LinkCommand.{link_command, objects_in, linked, linked_by, linked_image, text_answer}
+use Rattle.written_machine.specs.declared.ScriptLine.{ScriptLine}
+use Rattle.sm_cli.specs.MonitorCommand.{monitor_command, script_answer}
 use Rattle.sm_cli.specs.RunCommand.{run_command}
 use Rattle.sm_cli.specs.Serve.{IsNeedCause, IsCommandCause}
 use Rattle.sm_cli.specs.SymbolNames.{symbol_name}
@@ -32,6 +34,17 @@ image_answer files name None cycles value entries h s =
     gives_answer files (image_command name None cycles) (trace_answer value entries cycles) (record { helds = an_image value ∷ []; hold = (h, tt); is = ap (λ es. gives (trace_answer value es cycles)) (sym s) })
 image_answer files name (Some own) cycles value entries h s =
     gives_answer files (image_command name (Some own) cycles) (trace_answer value entries cycles) (record { helds = an_image value ∷ a_schedule entries ∷ []; hold = (h, (s, tt)); is = refl })
+
+-- what a script writes on the machine of an image
+pub monitor_answer : (files : Option FileMap) (name : List ℕ) (schedule : Option (List ℕ)) (script_name : List ℕ) (value : Image) (entries : List Entry) (script : List ScriptLine)
+    → Holds files (need name image_file) (an_image value) → IsScheduleOf files schedule entries → Holds files (need script_name script_file) (a_script script)
+    → IsAnswer files (monitor_command name schedule script_name) (script_answer value entries script)
+monitor_answer files name None script_name value entries script h s k =
+    gives_answer files (monitor_command name None script_name) (script_answer value entries script)
+    (record { helds = an_image value ∷ a_script script ∷ []; hold = (h, (k, tt)); is = ap (λ es. gives (script_answer value es script)) (sym s) })
+monitor_answer files name (Some own) script_name value entries script h s k =
+    gives_answer files (monitor_command name (Some own) script_name) (script_answer value entries script)
+    (record { helds = an_image value ∷ a_schedule entries ∷ a_script script ∷ []; hold = (h, (s, (k, tt))); is = refl })
 
 -- Objects
 

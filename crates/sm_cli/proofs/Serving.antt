@@ -16,12 +16,14 @@ use Rattle.sm_cli.specs.Files.{IsFirstFault}
 use Rattle.sm_cli.specs.Command.{Command, Answer, Outcome, refuses, Comes, IsAnswer}
 use Rattle.sm_cli.specs.CommandLine.{command_of}
 use Rattle.sm_cli.specs.ImageCommand.{image_command, trace_answer}
-use Rattle.sm_cli.specs.Input.{IsInput}
+use Rattle.written_machine.specs.declared.ScriptLine.{ScriptLine}
+use Rattle.sm_cli.specs.Input.{IsInput, IsScriptInput}
+use Rattle.sm_cli.specs.MonitorCommand.{monitor_command, script_answer}
 use Rattle.sm_cli.specs.RunCommand.{run_command}
 use Rattle.sm_cli.specs.Refusal.{is_read_fault, status_of, line_of}
 use Rattle.sm_cli.specs.Serve.{Call, call_of, Serves, Refuses, IsCause, IsNeedCause, IsRun, EndsAs, Completes, IsOrOutside, IsCommandCause}
 use Rattle.sm_cli.proofs.Needed.{one_answer, no_first_fault, no_fault_of_answer, no_refusal_of_answer}
-use Rattle.sm_cli.proofs.Running.{image_answer, run_answer}
+use Rattle.sm_cli.proofs.Running.{image_answer, run_answer, monitor_answer}
 
 -- Commands and inputs
 
@@ -56,6 +58,17 @@ input_answer words files value entries cycles (inr i) = record {
   asked = i.command;
   served = subst (λ v. IsAnswer (Some i.files_map) (run_command i.layout_name i.schedule cycles i.object_names) (trace_answer v entries cycles)) (sym i.image)
       (run_answer (Some i.files_map) i.layout_name i.object_names i.layout i.objects i.schedule cycles entries i.layout_is i.entries_are i.objects_are i.links);
+}
+
+pub script_input : (words : List (List ℕ)) (files : Option FileMap) (value : Image) (entries : List Entry) (script : List ScriptLine) → IsScriptInput words files value entries script
+    → InputOf words files (script_answer value entries script)
+script_input words files value entries script i = record {
+  map = i.files_map;
+  command = monitor_command i.name i.schedule i.script_name;
+  told = i.told;
+  asked = i.command;
+  served = monitor_answer (Some i.files_map) i.name i.schedule i.script_name value entries script
+      (record { bytes = image_text value; file = i.file; short = i.short; is = record { image = i.image; text = refl } }) i.entries_are i.script_is;
 }
 
 -- A run that was put, whole or in part

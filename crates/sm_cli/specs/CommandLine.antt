@@ -16,6 +16,7 @@ use Rattle.sm_cli.specs.BalanceCommand.{balance_of, balance_asked}
 use Rattle.sm_cli.specs.LinkCommand.{link_of, link_asked}
 use Rattle.sm_cli.specs.RunCommand.{run_of, run_asked}
 use Rattle.sm_cli.specs.LoneCommand.{lone_of, lone_asked}
+use Rattle.sm_cli.specs.MonitorCommand.{monitor_of, monitor_asked}
 use Rattle.sm_cli.specs.AsmCommand.{asm_of, asm_asked}
 use Rattle.sm_cli.specs.MakeCommand.{make_of, make_asked}
 
@@ -33,6 +34,7 @@ command_by name words =
     else if bytes_eq name (codes "run") then option_and_then run_of (values_in 4 67 words)
     -- more than fourteen pairs name some register twice
     else if bytes_eq name (codes "lone") then option_and_then lone_of (values_in 3 17 words)
+    else if bytes_eq name (codes "monitor") then option_and_then monitor_of (values_in 3 3 words)
     else if bytes_eq name (codes "asm") then option_and_then asm_of (values_in 1 1 words)
     else if bytes_eq name (codes "make") then option_and_then make_of (values_in 1 1 words)
     else None
@@ -54,6 +56,7 @@ asked (line.Balance c) = balance_asked c
 asked (line.Link c) = link_asked c
 asked (line.Run c) = run_asked c
 asked (line.Lone c) = lone_asked c
+asked (line.Monitor c) = monitor_asked c
 asked (line.Asm c) = asm_asked c
 asked (line.Make c) = make_asked c
 
@@ -69,5 +72,6 @@ IsBounded (line.Balance c) = Unit {0}
 IsBounded (line.Link c) = length c.objects.items ≤ 64
 IsBounded (line.Run c) = (length c.objects.items ≤ 64) × (c.cycles ≤ MAX_CYCLES)
 IsBounded (line.Lone c) = c.limit ≤ MAX_CYCLES
+IsBounded (line.Monitor c) = Unit {0}
 IsBounded (line.Asm c) = Unit {0}
 IsBounded (line.Make c) = Unit {0}

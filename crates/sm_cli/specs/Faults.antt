@@ -13,6 +13,8 @@ use Rattle.vendor_tool.specs.declared.TraceFault.{TraceFault}
 use Rattle.vendor_tool.specs.declared.TraceFault.TheVariants as trace_fault
 use Rattle.arm_balance.specs.declared.ArmsFault.{ArmsFault}
 use Rattle.arm_balance.specs.declared.ArmsFault.TheVariants as arms_fault
+use Rattle.monitor.specs.declared.ScriptFault.{ScriptFault}
+use Rattle.monitor.specs.declared.ScriptFault.TheVariants as script_fault
 use Rattle.elf_objects.specs.declared.fault.ElfFault.{ElfFault}
 use Rattle.elf_objects.specs.declared.fault.ElfFault.TheVariants as elf_fault
 use Rattle.asm_text.specs.declared.unit.AsmFault.{AsmFault}
@@ -62,6 +64,11 @@ arms_fault_text arms_fault.TooMany = codes "TooMany"
 arms_fault_text (arms_fault.Line n) = codes "Line " ++ decimal n
 arms_fault_text (arms_fault.NotRising n) = codes "NotRising " ++ decimal n
 arms_fault_text arms_fault.NoMemory = codes "NoMemory"
+
+abbrev pub script_fault_text : ScriptFault → List ℕ
+script_fault_text (script_fault.Line n) = codes "Line " ++ decimal n
+script_fault_text (script_fault.Number n) = codes "Number " ++ decimal n
+script_fault_text script_fault.NoMemory = codes "NoMemory"
 
 -- a number after a space
 abbrev pub number_text : ℕ → List ℕ
@@ -135,4 +142,5 @@ fault_text (fault.Trace refusal) = trace_fault_text refusal
 fault_text (fault.Arms refusal) = arms_fault_text refusal
 fault_text (fault.Layout refusal) = layout_fault_text refusal
 fault_text (fault.Object refusal) = object_fault_text refusal
+fault_text (fault.Script refusal) = script_fault_text refusal
 fault_text (fault.Source refusal) = source_fault_text refusal

@@ -15,6 +15,8 @@ use Rattle.arm_balance.specs.Certificates.{arms_of}
 use Rattle.layout_file.specs.Layout.{LayoutOf}
 use Rattle.layout_file.specs.Values.{LayoutValue}
 use Rattle.elf_objects.specs.Object.{ObjectValue, IsObject, elf_fault_of}
+use Rattle.written_machine.specs.declared.ScriptLine.{ScriptLine}
+use Rattle.monitor.specs.Reading.{script_of}
 use Rattle.asm_text.specs.Assembly.{assembled}
 use Rattle.asm_text.specs.Parts.{UnitValue}
 use Rattle.sm_cli.specs.declared.answers.FileFault.{FileFault}
@@ -32,6 +34,7 @@ pub data Kind : Type 0 where
   arms_file : Kind
   layout_file : Kind
   object_file : Kind
+  script_file : Kind
   -- a program for the assembler
   source_file : Kind
 
@@ -45,6 +48,7 @@ pub data Held : Type 0 where
   certificates : (arms : List Arm) → Held
   a_layout : (layout : LayoutValue) → Held
   an_object : (object : ObjectValue) → Held
+  a_script : (script : List ScriptLine) → Held
   a_unit : (unit : UnitValue) → Held
 
 -- the bytes are the text of this image
@@ -62,6 +66,7 @@ IsHeld trace_file bytes (the_replies sent) = replies_of bytes ≡ Ok sent
 IsHeld arms_file bytes (certificates arms) = arms_of bytes ≡ Ok arms
 IsHeld layout_file bytes (a_layout layout) = LayoutOf bytes ≡ Ok layout
 IsHeld object_file bytes (an_object object) = IsObject object × (object.file ≡ bytes)
+IsHeld script_file bytes (a_script script) = script_of bytes ≡ Ok script
 IsHeld source_file bytes (a_unit unit) = assembled bytes ≡ Ok unit
 IsHeld _ bytes _ = ⊥
 
@@ -82,6 +87,7 @@ IsRefused trace_file bytes (fault.Trace refusal) = replies_of bytes ≡ Err refu
 IsRefused arms_file bytes (fault.Arms refusal) = arms_of bytes ≡ Err refusal
 IsRefused layout_file bytes (fault.Layout refusal) = LayoutOf bytes ≡ Err refusal
 IsRefused object_file bytes (fault.Object refusal) = elf_fault_of bytes ≡ Some refusal
+IsRefused script_file bytes (fault.Script refusal) = script_of bytes ≡ Err refusal
 IsRefused source_file bytes (fault.Source refusal) = assembled bytes ≡ Err refusal
 IsRefused _ bytes _ = ⊥
 

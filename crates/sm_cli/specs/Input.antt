@@ -8,10 +8,12 @@ use Rattle.elf_objects.specs.Object.{ObjectValue}
 use Rattle.linker.specs.Refusals.{link_fault_of}
 use Rattle.schedule_file.specs.declared.Entry.{Entry}
 use Rattle.sm_cli.specs.Words.{Text}
-use Rattle.sm_cli.specs.Files.{most_bytes, IsScheduleOf, need, layout_file, a_layout, object_needs, an_object, Holds, HoldAll}
+use Rattle.written_machine.specs.declared.ScriptLine.{ScriptLine}
+use Rattle.sm_cli.specs.Files.{most_bytes, IsScheduleOf, need, layout_file, a_layout, object_needs, an_object, script_file, a_script, Holds, HoldAll}
 use Rattle.sm_cli.specs.CommandLine.{command_of}
 use Rattle.sm_cli.specs.ImageCommand.{image_command}
 use Rattle.sm_cli.specs.LinkCommand.{linked_image}
+use Rattle.sm_cli.specs.MonitorCommand.{monitor_command}
 use Rattle.sm_cli.specs.RunCommand.{run_command}
 
 -- the words are `image` with these files, and their bytes are this image's text and this schedule's
@@ -45,3 +47,17 @@ pub record IsRunInput (words : List Text) (files : Option FileMap) (value : Imag
 -- the words are `image` or `run`, and their files give this image and this schedule
 abbrev pub IsInput : List Text → Option FileMap → Image → List Entry → ℕ → Type 0
 IsInput words files value entries cycles = IsImageInput words files value entries cycles ⊎ IsRunInput words files value entries cycles
+
+-- the words are `monitor` with these files, and their bytes are this image's text, this schedule's and this script's
+pub record IsScriptInput (words : List Text) (files : Option FileMap) (value : Image) (entries : List Entry) (script : List ScriptLine) : Type 0 where
+  pub files_map : FileMap
+  pub told : files ≡ Some files_map
+  pub name : Text
+  pub schedule : Option Text
+  pub script_name : Text
+  pub command : command_of words ≡ Some (monitor_command name schedule script_name)
+  pub image : IsImage value
+  pub file : files_map name ≡ Some (image_text value)
+  pub short : length (image_text value) ≤ most_bytes
+  pub entries_are : IsScheduleOf (Some files_map) schedule entries
+  pub script_is : Holds (Some files_map) (need script_name script_file) (a_script script)

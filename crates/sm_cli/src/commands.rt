@@ -23,6 +23,7 @@ pub mod link;
 pub mod lone;
 pub mod make;
 pub mod run;
+pub mod script;
 pub mod vendor;
 
 use asm::AsmCommand;
@@ -36,6 +37,7 @@ use link::LinkCommand;
 use lone::LoneCommand;
 use make::MakeCommand;
 use run::RunCommand;
+use script::MonitorCommand;
 use vendor::VendorCommand;
 
 /// A command that can be answered.
@@ -77,6 +79,7 @@ pub enum CommandLine<'a> {
     Link(LinkCommand<'a>),
     Run(RunCommand<'a>),
     Lone(LoneCommand<'a>),
+    Monitor(MonitorCommand<'a>),
     Asm(AsmCommand<'a>),
     Make(MakeCommand),
 }
@@ -114,6 +117,8 @@ pub fn read_command<'a>(
         Ok(run::read(alloc, words)?.map(CommandLine::Run))
     } else if name == "lone" {
         Ok(lone::read(alloc, words)?.map(CommandLine::Lone))
+    } else if name == "monitor" {
+        Ok(script::read(alloc, words)?.map(CommandLine::Monitor))
     } else if name == "asm" {
         Ok(asm::read(alloc, words)?.map(CommandLine::Asm))
     } else if name == "make" {
@@ -145,6 +150,7 @@ impl Answering for CommandLine<'_> {
             CommandLine::Link(command) => command.answer(alloc, files, out),
             CommandLine::Run(command) => command.answer(alloc, files, out),
             CommandLine::Lone(command) => command.answer(alloc, files, out),
+            CommandLine::Monitor(command) => command.answer(alloc, files, out),
             CommandLine::Asm(command) => command.answer(alloc, files, out),
             CommandLine::Make(command) => command.answer(alloc, files, out),
         }

@@ -2,7 +2,7 @@
 ghost use Rattle.std.specs.Prelude.{◌++◌, codes};
 ghost use Rattle.std.specs.Fmt.{decimal};
 ghost use Rattle.sm_io.specs.Sink.{Puts};
-ghost use Rattle.sm_cli.specs.Faults.{challenge_fault_text, fault_text, image_fault_text, schedule_fault_text, table_fault_text, trace_fault_text, arms_fault_text};
+ghost use Rattle.sm_cli.specs.Faults.{challenge_fault_text, fault_text, image_fault_text, schedule_fault_text, table_fault_text, trace_fault_text, arms_fault_text, script_fault_text};
 ghost use Rattle.sm_cli.specs.Refusal.{line_of, link_end};
 ghost use Rattle.sm_cli.specs.NameText.{name_text};
 ghost use Rattle.sm_cli.specs.LinkFaults.{link_fault_text};
@@ -14,6 +14,7 @@ use arm_balance::ArmsFault;
 use image_text::ImageFault;
 use linker::LinkFault;
 use mod_layout::TableFault;
+use monitor::ScriptFault;
 use schedule_file::ScheduleFault;
 use sm_io::{Failed, Sink, put_all};
 use vendor_tool::{ChallengeFault, TraceFault};
@@ -112,6 +113,16 @@ fn put_arms_fault<S: Sink>(sink: &mut S, fault: ArmsFault) -> Result<(), Failed>
     }
 }
 
+fn put_script_fault<S: Sink>(sink: &mut S, fault: ScriptFault) -> Result<(), Failed>
+    ensures { Puts S.taken S.faults S.sure sink.old sink.new (script_fault_text fault) result }
+{
+    match fault {
+        ScriptFault::Line { n } => put_field(sink, b"Line ", n),
+        ScriptFault::Number { n } => put_field(sink, b"Number ", n),
+        ScriptFault::NoMemory => put_all(sink, b"NoMemory"),
+    }
+}
+
 fn put_fault<S: Sink>(sink: &mut S, fault: FileFault) -> Result<(), Failed>
     ensures { Puts S.taken S.faults S.sure sink.old sink.new (fault_text fault) result }
 {
@@ -126,6 +137,7 @@ fn put_fault<S: Sink>(sink: &mut S, fault: FileFault) -> Result<(), Failed>
         FileFault::Arms(fault) => put_arms_fault(sink, fault),
         FileFault::Layout(fault) => put_layout_fault(sink, fault),
         FileFault::Object(fault) => put_object_fault(sink, fault),
+        FileFault::Script(fault) => put_script_fault(sink, fault),
         FileFault::Source(fault) => put_source_fault(sink, fault),
     }
 }

@@ -1,14 +1,15 @@
 // The files of a command, read whole and examined.
-ghost use Rattle.std.specs.Prelude.{◌≡◌, ◌≢◌, ◌≤◌, ◌∷◌, [], IsTrue, IfOk, IfErr, Some, All, false, length, map};
+ghost use Rattle.std.specs.Prelude.{◌≡◌, ◌≢◌, ◌≤◌, ◌^◌, ◌∷◌, [], IsTrue, IfOk, IfErr, Some, All, false, length, map};
 ghost use Rattle.std.specs.Option.{option_copied};
 ghost use Rattle.sm_io.specs.Faults.{HasCause};
 ghost use Rattle.asm_text.specs.Unit.{unit_of};
 ghost use Rattle.layout_file.specs.Layout.{layout_of};
 ghost use Rattle.linker.specs.Room.{IsSmall};
 ghost use Rattle.mod_layout.specs.Table.{module_of};
+ghost use Rattle.monitor.specs.Bounds.{all_cycles};
 ghost use Rattle.mod_layout.specs.Tables.{IsModule};
 ghost use Rattle.sm_cli.specs.Content.{IsContentRefusal};
-ghost use Rattle.sm_cli.specs.Files.{Kind, Held, an_image, a_schedule, the_challenges, the_replies, image_file, image_with, schedule_file, challenges_file, trace_file, need, schedule_needs, HasFile, IsHeld, Holds, IsScheduleOf, most_bytes, certificates, arms_file, a_layout, an_object, a_unit, layout_file, object_file, source_file, object_needs, HoldAll};
+ghost use Rattle.sm_cli.specs.Files.{Kind, Held, an_image, a_schedule, the_challenges, the_replies, image_file, image_with, schedule_file, challenges_file, trace_file, need, schedule_needs, HasFile, IsHeld, Holds, IsScheduleOf, most_bytes, certificates, arms_file, a_layout, an_object, layout_file, object_file, object_needs, HoldAll, a_script, script_file, a_unit, source_file};
 ghost use Rattle.sm_cli.specs.NameText.{name_text};
 ghost use Rattle.sm_cli.specs.Serve.{IsNeedCause};
 
@@ -20,6 +21,7 @@ use elf_objects::{ElfFault, Object};
 use image_text::{Image, ImageFault};
 use layout_file::{Layout, LayoutFault};
 use mod_layout::Module;
+use monitor::{Script, ScriptFault, read_script};
 use schedule_file::{Schedule, ScheduleFault};
 use sm_io::{Files, ReadFault, read_whole};
 use std::alloc::Global;
@@ -140,6 +142,27 @@ impl Content for Object {
             Ok(object) => Ok(object),
             Err(ElfFault::NoMemory) => Err(Refusal::NoMemory),
             Err(fault) => Err(Refusal::BadFile(FileFault::Object(fault))),
+        }
+    }
+}
+
+/// A script of a file, with no more cycles than a board can count.
+#[derive(Drop)]
+pub struct Playable {
+    pub script: Script,
+    ghost few: { all_cycles script.lines.items ≤ 2 ^ 62 },
+}
+
+impl Content for Playable {
+    ghost kind = { script_file };
+
+    ghost held = { λ playable. a_script playable.script.lines.items };
+
+    fn examine(alloc: Global, bytes: Vec<u8>) -> Result<Self, Refusal> {
+        match read_script(alloc, &bytes) {
+            Ok(script) => Ok(Playable { script }),
+            Err(ScriptFault::NoMemory) => Err(Refusal::NoMemory),
+            Err(fault) => Err(Refusal::BadFile(FileFault::Script(fault))),
         }
     }
 }

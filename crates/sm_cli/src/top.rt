@@ -8,9 +8,11 @@ ghost use Rattle.image_text.specs.Image.{Image as ImageValue};
 ghost use Rattle.mod_layout.specs.declared.Module.{Module as ModuleValue};
 ghost use Rattle.peer_rows.specs.Laws.{DifferInData};
 ghost use Rattle.written_machine.specs.Peers.{Peers};
+ghost use Rattle.written_machine.specs.Script.{play};
 ghost use Rattle.written_machine.specs.Trace.{trace};
 ghost use Rattle.written_machine.specs.View.{at, view_of};
 ghost use Rattle.written_machine.specs.declared.Hidden.TheVariants.{Only};
+ghost use Rattle.written_machine.specs.declared.ScriptLine.{ScriptLine as ScriptLineValue};
 ghost use Rattle.sm_cli.specs.declared.answers.Status.{Status as Statuses};
 ghost use Rattle.sm_cli.specs.declared.answers.FileFault.{FileFault as FileFaults};
 ghost use Rattle.sm_cli.specs.Checked.{IsCheck, IsBalance};
@@ -19,7 +21,8 @@ ghost use Rattle.linker.specs.declared.fault.LinkFault.{LinkFault as LinkFaults}
 ghost use Rattle.sm_cli.specs.CommandLine.{command_of};
 ghost use Rattle.sm_cli.specs.Files.{IsFirstFault};
 ghost use Rattle.sm_cli.specs.ImageCommand.{run_status};
-ghost use Rattle.sm_cli.specs.Input.{IsInput};
+ghost use Rattle.sm_cli.specs.Input.{IsInput, IsScriptInput};
+ghost use Rattle.sm_cli.specs.MonitorCommand.{start_of, script_answer};
 ghost use Rattle.sm_cli.specs.NameText.{name_text};
 ghost use Rattle.sm_cli.specs.Refusal.{status_of, line_of};
 ghost use Rattle.sm_cli.specs.Serve.{texts, call_of, Serves, Refuses, IsOrOutside, IsRoomForAnswer, IsRoomForLine, Completes};
@@ -49,6 +52,13 @@ pub fn serve<F: Files, O: Sink, E: Sink>(
         × ((other : ImageValue) (m : ℕ) → Peers value other m →
         Took O.taken O.faults O.sure out.old out.new (trace other entries cycles)
         × ((k : ℕ) → k ≤ cycles → view_of (at value entries k) (Only m) ≡ view_of (at other entries k) (Only m))) }
+
+    // The same of a script: `out` takes exactly what it writes on the written machine from the start of the image, with room for
+    // 16 marks, and the same from the start of every image that differs so.
+    ensures scripts { (value : ImageValue) (entries : List EntryValue) (script : List ScriptLineValue) → IsScriptInput (texts words.now) (F.content files.old) value entries script →
+        ¬ (Rose (F.faults files.old) (F.faults files.new)) → ¬ (Rose (O.faults out.old) (O.faults out.new)) → ¬ (Rose (E.faults err.old) (E.faults err.new)) → result ≢ Status.NoMemory →
+        (Took O.taken O.faults O.sure out.old out.new (play (start_of value entries) script) × (err.new ≡ err.old) × (result ≡ (script_answer value entries script).status))
+        × ((other : ImageValue) (m : ℕ) → Peers value other m → Took O.taken O.faults O.sure out.old out.new (play (start_of other entries) script)) }
 
     // A module by itself: where its check is answered yes, every image that differs in that module's data alone is a peer.
     ensures checked { result ≡ Status.Done → (value other : ImageValue) (id : ℕ) (owner : ModuleValue) →

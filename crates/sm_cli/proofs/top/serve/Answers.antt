@@ -3,10 +3,12 @@ use Rattle.std.specs.Option.{option_map}
 use Rattle.sm_io.specs.Sink.{Took, CutOff}
 use Rattle.sm_cli.specs.CommandLine.{asked, command_of}
 use Rattle.sm_cli.specs.ImageCommand.{trace_answer}
+use Rattle.sm_cli.specs.MonitorCommand.{script_answer}
+use Rattle.sm_cli.specs.declared.commands.script.TheConstants.{MOST_MARKS}
 use Rattle.sm_cli.specs.NameText.{name_text}
 use Rattle.sm_cli.specs.Serve.{texts, call_of}
 use Rattle.sm_cli.specs.declared.answers.Refusal.TheVariants as refusal
-use Rattle.sm_cli.proofs.Serving.{run_not_usage, refused_not_usage, input_answer, when_done, when_cut, run_ends, run_no_fault, ends_complete, told_in_part, cause_of, refused_completes, refused_outside, no_memory_completes, cut_rose, run_sure, run_whole, run_no_link, told_bad_file, told_link}
+use Rattle.sm_cli.proofs.Serving.{run_not_usage, refused_not_usage, input_answer, script_input, when_done, when_cut, run_ends, run_no_fault, ends_complete, told_in_part, cause_of, refused_completes, refused_outside, no_memory_completes, cut_rose, run_sure, run_whole, run_no_link, told_bad_file, told_link}
 use Rattle.sm_cli.proofs.Checking.{checked_peers, balanced_peers}
 use Rattle.sm_cli.proofs.top.serve.Goals as goal
 
@@ -47,6 +49,20 @@ returns-in-Ok-clause-headline g c = λ value entries cycles i no_read no_out no_
         subst (λ t. Took g.O.Sink.taken g.O.Sink.faults g.O.Sink.sure c.args.out.now c.answer.new.out t) (c.texts.ensures.traces value other m entries cycles peers) whole.0,
         λ k within. c.two_runs.ensures.views value other m entries k peers,
       ),
+    )
+
+pub returns-in-Ok-clause-scripts : goal.returns-in-Ok-clause-scripts
+returns-in-Ok-clause-scripts g c = λ value entries script i no_read no_out no_err room.
+    let some : Some (asked c.in-Ok-Some.command) ≡ command_of (texts c.args.words.now) = sym (ap (option_map asked) c.in-Ok-Some.field-0-is) ∙ c.in-Ok-Some.ensures.command in
+    let words = texts c.args.words.now in
+    let files = g.F.Files.content c.args.files.now in
+    let before = g.F.Files.faults c.args.files.now in
+    let answer = script_answer value entries script in
+    let input = script_input words files value entries script i in
+    let ends = run_ends words files before before (asked c.in-Ok-Some.command) c.in-Ok.status _ _ input.map input.command answer input.told some input.asked c.in-Ok.ensures.ok input.served in
+    let whole = run_whole g.O.Sink.taken g.O.Sink.faults g.O.Sink.sure c.args.out.now c.answer.new.out c.in-Ok.status answer ends no_out in (
+      (whole.0, refl, whole.1),
+      λ other m peers. subst (λ t. Took g.O.Sink.taken g.O.Sink.faults g.O.Sink.sure c.args.out.now c.answer.new.out t) (c.texts.ensures.scripts value other m entries MOST_MARKS script peers) whole.0,
     )
 
 pub returns-in-Ok-clause-checked : goal.returns-in-Ok-clause-checked
@@ -135,6 +151,18 @@ returns-clause-headline g c = λ value entries cycles i no_read no_out no_err ro
     absurd (refused_outside r.refusal (name_text r.name) c.tell-in-Err-answer.result (Took g.E.Sink.taken g.E.Sink.faults g.E.Sink.sure c.args.err.now c.tell-in-Err-answer.new.err) (CutOff g.E.Sink.taken g.E.Sink.faults g.E.Sink.sure c.args.err.now c.tell-in-Err-answer.new.err)
     words files input.map (g.F.Files.faults c.args.files.now) (g.F.Files.faults c.answer.new.files) (asked c.in-Ok-Some.command) input.command
     input.told some input.asked c.in-Err-answer.ensures.refused (trace_answer value entries cycles) input.served room no_read
+    (λ cut. no_err (cut_rose g.E.Sink.taken g.E.Sink.faults g.E.Sink.sure c.args.err.now c.tell-in-Err-answer.new.err _ cut)) c.tell-in-Err-answer.ensures.told)
+
+pub returns-clause-scripts : goal.returns-clause-scripts
+returns-clause-scripts g c = λ value entries script i no_read no_out no_err room.
+    let some : Some (asked c.in-Ok-Some.command) ≡ command_of (texts c.args.words.now) = sym (ap (option_map asked) c.in-Ok-Some.field-0-is) ∙ c.in-Ok-Some.ensures.command in
+    let r = c.in-Err-answer.refused in
+    let words = texts c.args.words.now in
+    let files = g.F.Files.content c.args.files.now in
+    let input = script_input words files value entries script i in
+    absurd (refused_outside r.refusal (name_text r.name) c.tell-in-Err-answer.result (Took g.E.Sink.taken g.E.Sink.faults g.E.Sink.sure c.args.err.now c.tell-in-Err-answer.new.err) (CutOff g.E.Sink.taken g.E.Sink.faults g.E.Sink.sure c.args.err.now c.tell-in-Err-answer.new.err)
+    words files input.map (g.F.Files.faults c.args.files.now) (g.F.Files.faults c.answer.new.files) (asked c.in-Ok-Some.command) input.command
+    input.told some input.asked c.in-Err-answer.ensures.refused (script_answer value entries script) input.served room no_read
     (λ cut. no_err (cut_rose g.E.Sink.taken g.E.Sink.faults g.E.Sink.sure c.args.err.now c.tell-in-Err-answer.new.err _ cut)) c.tell-in-Err-answer.ensures.told)
 
 -- with Usage no file was read

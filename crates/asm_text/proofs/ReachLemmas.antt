@@ -1,0 +1,394 @@
+-- Each jump of an accepted source leads to its label.
+use Rattle.std.proofs.Common.{ℕ, zero, suc, ◌≡◌, ◌≢◌, ◌+◌, ◌-◌, ◌%◌, ◌<◌, Bool, true, false, cond, is_some, List, [], ◌∷◌, ◌++◌, length, map, get_or, set, take, drop, Option, Some, None, Result, Ok, Err, nat_eq, refl, ap, sym, subst, ◌∙◌, append_assoc, arith, ◌⊎◌, inl, inr}
+use Rattle.std.specs.Prelude.{fold, option_map, slice_get, slice_index_or}
+use Rattle.std.specs.List.{All, Contains}
+use Rattle.std.proofs.lemmas.Bool.Decides.{nat_tests}
+use Rattle.std.proofs.lemmas.List.{append-nil, length-map, length-set, get_or-map, get_or-set_same, get_or-set_other, take_at, drop_at}
+use Rattle.std.proofs.lemmas.List.Elements.{Contains-append_left, Contains-push}
+use Rattle.std.proofs.lemmas.List.Quantifiers.{position-Some}
+use Rattle.std.proofs.lemmas.Option.{slice_get_within, get_or_from_slice_get, slice_get-get_or}
+use Rattle.asm_text.specs.declared.placing.Head.{Head}
+use Rattle.asm_text.specs.declared.placing.Spot.{Spot}
+use Rattle.asm_text.specs.declared.unit.AsmFault.{AsmFault}
+use Rattle.asm_text.specs.declared.unit.AsmFault.TheVariants.{NoLabel, Far}
+use Rattle.asm_text.specs.declared.unit.SectionKind.{SectionKind}
+use Rattle.asm_text.specs.declared.unit.SectionKind.TheVariants.{Code as CodeKind, Data as DataKind, Bss as BssKind}
+use Rattle.asm_text.specs.declared.statement.Statement.{Statement}
+use Rattle.asm_text.specs.declared.statement.Statement.TheVariants.{Section, Label, Global, Word, Space, Jump, Code}
+use Rattle.asm_text.specs.Assembly.{names_of, symbol_order, meanings, unit_for, with_emitted, with_stop, with_placed, assembled_source, assembled}
+use Rattle.asm_text.specs.Emission.{Meanings, Emitted, nothing, emitted, emitted_next, emitted_from, bytes_of, with_statement, in_last, grown, opened, reach, is_near, jump_word, jump_over, jump_bytes}
+use Rattle.asm_text.specs.Emitted.{last_of}
+use Rattle.asm_text.specs.Encoding.{word_bytes}
+use Rattle.asm_text.specs.Jumps.{LeadsToLabel, JumpsReachLabels, LabelsAreEven}
+use Rattle.asm_text.specs.Kept.{IsSource}
+use Rattle.asm_text.specs.Known.{IsKnown}
+use Rattle.asm_text.specs.Parts.{SectionValue, SymbolValue, UnitValue, kept_size}
+use Rattle.asm_text.specs.Placing.{Placed, nowhere, spot_of, last_head, placed, placed_next, placed_from}
+use Rattle.asm_text.specs.Source.{Source, source_of}
+use Rattle.asm_text.specs.Statements.{size_of, takes}
+use Rattle.asm_text.specs.Symbols.{is_global, local_labels, once, once_by, below, order_of, symbol_number, symbol_by, symbol_for, symbols_for}
+use Rattle.asm_text.proofs.EmittingLemmas.{next_place}
+use Rattle.asm_text.proofs.EvenLemmas.{AreEven, IsEvenPlaced, source_even, nowhere_even, even_head, placed_even, all_even}
+use Rattle.asm_text.proofs.JumpLemmas.{jumps_are_meant, jumps_lead}
+use Rattle.asm_text.proofs.KeptLemmas.{source_kept}
+use Rattle.asm_text.proofs.LockLemmas.{Agree, Shape, SomeLast, same_number, last_there, ok_is, IsTaken, taken, agree_more}
+use Rattle.asm_text.proofs.OrderLemmas.{length_below, below_at}
+use Rattle.asm_text.proofs.PlacedLemmas.{or_not}
+
+-- ---- bytes that were written stay
+
+-- a section that this one's bytes begin
+pub record IsMore (sections : List SectionValue) (k : ℕ) (s : SectionValue) : Type 0 where
+  pub found : SectionValue
+  pub more : List ℕ
+  pub at : slice_get sections k ≡ Some found
+  pub bytes : found.bytes ≡ s.bytes ++ more
+
+abbrev Keeps : List SectionValue → List SectionValue → Type 0
+Keeps xs ys = (k : ℕ) (s : SectionValue) → slice_get xs k ≡ Some s → IsMore ys k s
+
+keeps_same : (xs : List SectionValue) → Keeps xs xs
+keeps_same xs k s is = record { found = s; more = []; at = is; bytes = sym (append-nil s.bytes) }
+
+keeps_all : (xs ys zs : List SectionValue) → Keeps xs ys → Keeps ys zs → Keeps xs zs
+keeps_all xs ys zs f g k s is =
+    let one = f k s is in
+    let two = g k one.found one.at in
+    record { found = two.found; more = one.more ++ two.more; at = two.at; bytes = two.bytes ∙ (ap (λ bs. bs ++ two.more) one.bytes ∙ append_assoc s.bytes one.more two.more) }
+
+get_front : (xs : List SectionValue) (y s : SectionValue) (k : ℕ) → slice_get xs k ≡ Some s → slice_get (xs ++ y ∷ []) k ≡ Some s
+get_front [] y s k is = absurd cc
+get_front (x ∷ xs) y s zero is = is
+get_front (x ∷ xs) y s (suc k) is = get_front xs y s k is
+
+keeps_push : (xs : List SectionValue) (y : SectionValue) → Keeps xs (xs ++ y ∷ [])
+keeps_push xs y k s is = record { found = s; more = []; at = get_front xs y s k is; bytes = sym (append-nil s.bytes) }
+
+keeps_set : (xs : List SectionValue) (i size : ℕ) (last : SectionValue) (bytes : List ℕ) → slice_get xs i ≡ Some last → Keeps xs (set xs i (grown last size bytes))
+keeps_set xs i size last bytes there k s is = by (or_not k i) (subst (λ n. k < n) (sym length_is) low)
+  where
+    low : k < length xs
+    low = slice_get_within xs k s is
+
+    length_is : length (set xs i (grown last size bytes)) ≡ length xs
+    length_is = length-set xs i (grown last size bytes)
+
+    by : (k ≡ i) ⊎ (k ≢ i) → k < length (set xs i (grown last size bytes)) → IsMore (set xs i (grown last size bytes)) k s
+    by (inl same) low' =
+        let low_i : i < length xs = slice_get_within xs i last there in
+        let both : Some last ≡ Some s = sym there ∙ (ap (slice_get xs) (sym same) ∙ is) in
+        let one : last ≡ s = cc in
+        record {
+          found = grown last size bytes;
+          more = bytes;
+          at = slice_get-get_or (set xs i (grown last size bytes)) k last low' ∙ ap Some (ap (λ j. get_or (set xs i (grown last size bytes)) j last) same ∙ get_or-set_same xs i (grown last size bytes) last low_i);
+          bytes = ap (λ (x : SectionValue). x.bytes ++ bytes) one;
+        }
+    by (inr other) low' = record {
+      found = s;
+      more = [];
+      at = slice_get-get_or (set xs i (grown last size bytes)) k s low' ∙ ap Some (get_or-set_other xs i k (grown last size bytes) s other ∙ get_or_from_slice_get xs k s s is);
+      bytes = sym (append-nil s.bytes);
+    }
+
+last_keeps : (m : Meanings) (n : ℕ) (e f : Emitted) (s : Statement ℕ) → in_last m n e (last_of e.sections) s ≡ Ok f → Keeps e.sections f.sections
+last_keeps m n e f s k = by (last_of e.sections) refl k
+  where
+    by_bytes : (last : SectionValue) (r : Result (List ℕ) AsmFault) → last_of e.sections ≡ Some last → with_statement m e last s r ≡ Ok f → Keeps e.sections f.sections
+    by_bytes last (Err fault) is j = absurd cc
+    by_bytes last (Ok bytes) is j = subst (λ (x : Emitted). Keeps e.sections x.sections) (ok_is _ f j) (keeps_set e.sections (length e.sections - 1) (size_of s) last bytes is)
+
+    by : (o : Option SectionValue) → last_of e.sections ≡ o → in_last m n e o s ≡ Ok f → Keeps e.sections f.sections
+    by None is j = subst (λ (x : Emitted). Keeps e.sections x.sections) (ok_is e f j) (keeps_same e.sections)
+    by (Some last) is j = by_bytes last (bytes_of m n (length e.sections - 1) last.size s) is j
+
+line_keeps : (m : Meanings) (n : ℕ) (e f : Emitted) (s : Statement ℕ) → emitted m n e s ≡ Ok f → Keeps e.sections f.sections
+line_keeps m n e f (Section name kind) k = subst (λ (x : Emitted). Keeps e.sections x.sections) (ok_is _ f k) (keeps_push e.sections (opened m name kind))
+line_keeps m n e f (Label name) k = subst (λ (x : Emitted). Keeps e.sections x.sections) (ok_is e f k) (keeps_same e.sections)
+line_keeps m n e f (Global name) k = subst (λ (x : Emitted). Keeps e.sections x.sections) (ok_is e f k) (keeps_same e.sections)
+line_keeps m n e f (Word field) k = last_keeps m n e f (Word field) k
+line_keeps m n e f (Space size) k = last_keeps m n e f (Space size) k
+line_keeps m n e f (Jump c t) k = last_keeps m n e f (Jump c t) k
+line_keeps m n e f (Code insn x y) k = last_keeps m n e f (Code insn x y) k
+
+-- a line that is written, and the lines after it
+pub record IsNextLine (m : Meanings) (n : ℕ) (e : Emitted) (s : Statement ℕ) (rest : List (Statement ℕ)) (end : Emitted) : Type 0 where
+  pub after : Emitted
+  pub is : emitted m n e s ≡ Ok after
+  pub goes : emitted_from m (n + 1) after rest ≡ Ok end
+
+next_line : (m : Meanings) (n : ℕ) (e : Emitted) (s : Statement ℕ) (rest : List (Statement ℕ)) (end : Emitted) → emitted_from m n e (s ∷ rest) ≡ Ok end → IsNextLine m n e s rest end
+next_line m n e s rest end k = by (emitted m n e s) refl k
+  where
+    by : (r : Result Emitted AsmFault) → emitted m n e s ≡ r → emitted_next r (λ f. emitted_from m (n + 1) f rest) ≡ Ok end → IsNextLine m n e s rest end
+    by (Ok f) is j = record { after = f; is = is; goes = j }
+    by (Err fault) is j = absurd cc
+
+lines_keep : (m : Meanings) (n : ℕ) (e f : Emitted) (statements : List (Statement ℕ)) → emitted_from m n e statements ≡ Ok f → Keeps e.sections f.sections
+lines_keep m n e f [] k = subst (λ (x : Emitted). Keeps e.sections x.sections) (ok_is e f k) (keeps_same e.sections)
+lines_keep m n e f (s ∷ rest) k =
+    let x = next_line m n e s rest f k in
+    keeps_all e.sections x.after.sections f.sections (line_keeps m n e x.after s x.is) (lines_keep m (n + 1) x.after f rest x.goes)
+
+-- ---- a line in its source
+
+pub record IsLine (m : Meanings) (n number : ℕ) (p : Placed) (f : Emitted) (statements : List (Statement ℕ)) (s : Statement ℕ) : Type 0 where
+  pub line : ℕ
+  pub before : Placed
+  pub after : Placed
+  pub written : Emitted
+  pub next : Emitted
+  pub goes : placed_from n p (take number statements) ≡ Ok before
+  pub even : IsEvenPlaced before
+  pub places : placed line before s ≡ Ok after
+  pub agree : Agree m written before
+  pub emits : emitted m line written s ≡ Ok next
+  pub keeps : Keeps next.sections f.sections
+
+at_line : (m : Meanings) (n number : ℕ) (e f : Emitted) (p q : Placed) (statements : List (Statement ℕ)) (s : Statement ℕ) → Agree m e p → IsEvenPlaced p → AreEven statements
+    → placed_from n p statements ≡ Ok q → emitted_from m n e statements ≡ Ok f → slice_get statements number ≡ Some s → IsLine m n number p f statements s
+at_line m n number e f p q [] s a even are j k is = absurd cc
+at_line m n zero e f p q (x ∷ rest) s a even are j k is =
+    let same : x ≡ s = cc in
+    let place = next_place n p x rest q j in
+    let line = next_line m n e x rest f k in
+    subst (IsLine m n zero p f (x ∷ rest)) same (record {
+      line = n;
+      before = p;
+      after = place.after;
+      written = e;
+      next = line.after;
+      goes = refl;
+      even = even;
+      places = place.is;
+      agree = a;
+      emits = line.is;
+      keeps = lines_keep m (n + 1) line.after f rest line.goes;
+    })
+at_line m n (suc number) e f p q (x ∷ rest) s a even are j k is =
+    let place = next_place n p x rest q j in
+    let line = next_line m n e x rest f k in
+    let r = at_line m (n + 1) number line.after f place.after q rest s (agree_more m n e line.after p place.after x a place.is line.is) (placed_even n p place.after x even (are 0 x (omega arith)) place.is)
+    (λ i d h. are (suc i) d (omega arith)) place.goes line.goes is in
+    record {
+      line = r.line;
+      before = r.before;
+      after = r.after;
+      written = r.written;
+      next = r.next;
+      goes = ap (λ y. placed_next y (λ z. placed_from (n + 1) z (take number rest))) place.is ∙ r.goes;
+      even = r.even;
+      places = r.places;
+      agree = r.agree;
+      emits = r.emits;
+      keeps = r.keeps;
+    }
+
+-- ---- a jump
+
+-- a jump whose word is written
+pub record IsJump (m : Meanings) (section here cond' target : ℕ) (bytes : List ℕ) : Type 0 where
+  pub offset : ℕ
+  pub spot : spot_of m.spots target ≡ Some (record { section = section; offset = offset })
+  pub near : is_near (reach here offset) ≡ true
+  pub are : bytes ≡ word_bytes (jump_word cond' (reach here offset))
+
+is_jump : (m : Meanings) (n section here cond' target : ℕ) (bytes : List ℕ) → jump_bytes n section here cond' (spot_of m.spots target) ≡ Ok bytes → IsJump m section here cond' target bytes
+is_jump m n section here cond' target bytes k = by (spot_of m.spots target) refl k
+  where
+    by_near : (spot : Spot) (c : Bool) → spot_of m.spots target ≡ Some spot → spot.section ≡ section → is_near (reach here spot.offset) ≡ c
+        → cond c (Ok (word_bytes (jump_word cond' (reach here spot.offset)))) (Err (Far n (reach here spot.offset))) ≡ Ok bytes → IsJump m section here cond' target bytes
+    by_near spot true is same near j = record { offset = spot.offset; spot = is ∙ ap Some (λ i. record { section = same i; offset = spot.offset }); near = near; are = sym (ok_is _ bytes j) }
+    by_near spot false is same near j = absurd cc
+
+    by_section : (spot : Spot) (c : Bool) → spot_of m.spots target ≡ Some spot → nat_eq spot.section section ≡ c
+        → cond c (jump_over n cond' (reach here spot.offset)) (Err (NoLabel n)) ≡ Ok bytes → IsJump m section here cond' target bytes
+    by_section spot true is same j = by_near spot (is_near (reach here spot.offset)) is (grind (arith, nat_tests)) refl j
+    by_section spot false is same j = absurd cc
+
+    by : (o : Option Spot) → spot_of m.spots target ≡ o → jump_bytes n section here cond' o ≡ Ok bytes → IsJump m section here cond' target bytes
+    by None is j = absurd cc
+    by (Some spot) is j = by_section spot (nat_eq spot.section section) is refl j
+
+takes_code : (kind : SectionKind) (c target : ℕ) → takes kind (Jump c target) ≡ true → kind ≡ CodeKind
+takes_code CodeKind c target e = refl
+takes_code DataKind c target e = absurd cc
+takes_code BssKind c target e = absurd cc
+
+-- a section in which a jump was written
+pub record HasJump (m : Meanings) (p : Placed) (f : Emitted) (cond' target : ℕ) : Type 0 where
+  pub head : Head
+  pub last : last_head p.heads ≡ Some head
+  pub bytes : List ℕ
+  pub jump : IsJump m (length p.heads - 1) head.size cond' target bytes
+  pub home : SectionValue
+  pub front : List ℕ
+  pub back : List ℕ
+  pub given : slice_get f.sections (length p.heads - 1) ≡ Some home
+  pub whole : home.bytes ≡ (front ++ bytes) ++ back
+  pub size : length front ≡ head.size
+
+has_jump : (m : Meanings) (n : ℕ) (e next f : Emitted) (p q : Placed) (c target : ℕ) → Agree m e p → placed n p (Jump c target) ≡ Ok q → emitted m n e (Jump c target) ≡ Ok next
+    → Keeps next.sections f.sections → HasJump m p f c target
+has_jump m n e next f p q c target a places emits keeps =
+    let t = taken n p q (Jump c target) (λ h. refl) places in
+    let there = last_there m e p t.head a t.is in
+    by t there (jump_bytes n (length e.sections - 1) there.last.size c (spot_of m.spots target)) refl (ap (λ o. in_last m n e o (Jump c target)) (sym there.lasts.last_is) ∙ emits)
+  where
+    by : (t : IsTaken p q (Jump c target)) (there : SomeLast m e p t.head) (r : Result (List ℕ) AsmFault) → jump_bytes n (length e.sections - 1) there.last.size c (spot_of m.spots target) ≡ r
+        → with_statement m e there.last (Jump c target) r ≡ Ok next → HasJump m p f c target
+    by t there (Err fault) is k = absurd cc
+    by t there (Ok bytes) is k =
+        let number = same_number m e p a in
+        let at : length e.sections - 1 ≡ length p.heads - 1 = omega arith in
+        let sizes : there.last.size ≡ t.head.size = ap (λ (x : Shape). x.size) there.lasts.same in
+        let kinds : there.last.kind ≡ t.head.kind = ap (λ (x : Shape). x.kind) there.lasts.same in
+        let code : there.last.kind ≡ CodeKind = kinds ∙ takes_code t.head.kind c target t.takes_it in
+        let filled : length there.last.bytes ≡ there.last.size = there.lasts.filled ∙ ap (λ kind. kept_size kind there.last.size) code in
+        let sections : set e.sections (length e.sections - 1) (grown there.last 2 bytes) ≡ next.sections = ap (λ (x : Emitted). x.sections) (ok_is _ next k) in
+        let new : slice_get next.sections (length p.heads - 1) ≡ Some (grown there.last 2 bytes) =
+        ap (slice_get next.sections) (sym at) ∙ (ap (λ xs. slice_get xs (length e.sections - 1)) (sym sections) ∙ set_there e.sections (length e.sections - 1) (grown there.last 2 bytes) there.lasts.low) in
+        let kept = keeps (length p.heads - 1) (grown there.last 2 bytes) new in
+        record {
+          head = t.head;
+          last = t.is;
+          bytes = bytes;
+          jump = subst (λ k. IsJump m k t.head.size c target bytes) at (subst (λ k. IsJump m (length e.sections - 1) k c target bytes) sizes (is_jump m n (length e.sections - 1) there.last.size c target bytes is));
+          home = kept.found;
+          front = there.last.bytes;
+          back = kept.more;
+          given = kept.at;
+          whole = kept.bytes;
+          size = filled ∙ sizes;
+        }
+      where
+        set_there : (xs : List SectionValue) (i : ℕ) (y : SectionValue) → i < length xs → slice_get (set xs i y) i ≡ Some y
+        set_there xs i y low = slice_get-get_or (set xs i y) i y (let size : length (set xs i y) ≡ length xs = length-set xs i y in omega arith) ∙ ap Some (get_or-set_same xs i y y low)
+
+-- ---- symbols
+
+once_keeps : (order : List ℕ) (j k : ℕ) → Contains order j → Contains (once order k) j
+once_keeps order j k has = by (symbol_number order k)
+  where
+    by : (o : Option ℕ) → Contains (once_by (is_some o) order k) j
+    by None = Contains-append_left order (k ∷ []) j has
+    by (Some i) = has
+
+once_has : (order : List ℕ) (k : ℕ) → Contains (once order k) k
+once_has order k = by (symbol_number order k) refl
+  where
+    by : (o : Option ℕ) → symbol_number order k ≡ o → Contains (once_by (is_some o) order k) k
+    by None is = Contains-push order k
+    by (Some i) is = let p = position-Some (λ j. nat_eq j k) order i k is in let hit = p.1 in (i, p.0, grind (arith, nat_tests))
+
+fold_keeps : (order ks : List ℕ) (j : ℕ) → Contains order j → Contains (fold once order ks) j
+fold_keeps order [] j has = has
+fold_keeps order (k ∷ ks) j has = fold_keeps (once order k) ks j (once_keeps order j k has)
+
+fold_has : (order ks : List ℕ) (i k : ℕ) → i < length ks → get_or ks i k ≡ k → Contains (fold once order ks) k
+fold_has order [] i k low is = absurd (omega arith)
+fold_has order (x ∷ ks) zero k low is = fold_keeps (once order x) ks k (subst (λ y. Contains (once order y) k) (sym is) (once_has order k))
+fold_has order (x ∷ ks) (suc i) k low is = fold_has (once order x) ks i k (omega arith) is
+
+order_has : (statements : List (Statement ℕ)) (p : Placed) (names k : ℕ) → k < names → Contains (order_of statements p names) k
+unfolding order_of
+order_has statements p names k low =
+    fold_has (fold once [] (local_labels statements p.labels)) (below names) k k (let size = length_below names in omega arith) (below_at names k k low)
+
+map_has : (f : ℕ → SymbolValue) (ks : List ℕ) (k : ℕ) → Contains ks k → Contains (map f ks) (f k)
+map_has f ks k has = (has.0, (let size = length-map ks f in let low = has.1 in omega arith), get_or-map f ks has.0 k (f k) has.1 ∙ ap f has.2)
+
+-- ---- an accepted source
+
+pub record IsAccepted (s : Source) (u : UnitValue) : Type 0 where
+  pub places : Placed
+  pub goes : placed_from 1 (nowhere (names_of s)) s.statements ≡ Ok places
+  pub end : Emitted
+  pub is : emitted_from (meanings s places) 1 nothing s.statements ≡ Ok end
+  pub unit : unit_for s places end ≡ u
+
+accepted : (s : Source) (u : UnitValue) → assembled_source s ≡ Ok u → IsAccepted s u
+accepted s u k = by (placed_from 1 (nowhere (names_of s)) s.statements) refl k
+  where
+    by_end : (p : Placed) (r : Result Emitted AsmFault) → placed_from 1 (nowhere (names_of s)) s.statements ≡ Ok p → emitted_from (meanings s p) 1 nothing s.statements ≡ r → with_emitted s p r ≡ Ok u → IsAccepted s u
+    by_end p (Ok e) goes is j = record { places = p; goes = goes; end = e; is = is; unit = ok_is _ u j }
+    by_end p (Err fault) goes is j = absurd cc
+
+    by_stop : (p : Placed) (o : Option ℕ) → placed_from 1 (nowhere (names_of s)) s.statements ≡ Ok p → with_stop s p o ≡ Ok u → IsAccepted s u
+    by_stop p None goes j = by_end p (emitted_from (meanings s p) 1 nothing s.statements) goes refl j
+    by_stop p (Some n) goes j = absurd cc
+
+    by : (r : Result Placed AsmFault) → placed_from 1 (nowhere (names_of s)) s.statements ≡ r → with_placed s r ≡ Ok u → IsAccepted s u
+    by (Ok p) goes j = by_stop p s.stopped goes j
+    by (Err fault) goes j = absurd cc
+
+even_symbol : (global : Bool) (name : List ℕ) (spot : Option Spot) → ((s : Spot) → spot ≡ Some s → s.offset % 2 ≡ 0) → (symbol_by global name spot).value % 2 ≡ 0
+even_symbol global name None even = refl
+even_symbol global name (Some s) even = even s refl
+
+pub labels_are_even : LabelsAreEven
+unfolding assembled
+labels_are_even text u k =
+    let s : Source = source_of text in
+    let a = accepted s u k in
+    let even = all_even 1 (nowhere (names_of s)) a.places s.statements (nowhere_even (names_of s)) (source_even text) a.goes in
+    subst (λ (v : UnitValue). All (λ s. s.value % 2 ≡ 0) v.symbols) a.unit (λ i d h. by s a.places even i d h)
+  where
+    by : (s : Source) (p : Placed) → IsEvenPlaced p → (i : ℕ) (d : SymbolValue) → i < length (symbols_for s.statements p s.tables.names (symbol_order s p)) → (get_or (symbols_for s.statements p s.tables.names (symbol_order s p)) i d).value % 2 ≡ 0
+    by s p even i d h =
+        let make : ℕ → SymbolValue = symbol_for s.statements p s.tables.names in
+        let size = length-map (symbol_order s p) make in
+        let name : ℕ = get_or (symbol_order s p) i 0 in
+        subst (λ (x : SymbolValue). x.value % 2 ≡ 0) (sym (get_or-map make (symbol_order s p) i 0 d (omega arith)))
+        (even_symbol (is_global s.statements name) (slice_index_or s.tables.names name []) (spot_of p.spots name) (λ spot is. even.spots name spot is))
+
+-- a word in the midst of bytes
+word_there : (bytes front back : List ℕ) (here word : ℕ) → bytes ≡ (front ++ word_bytes word) ++ back → length front ≡ here → take 2 (drop here bytes) ≡ word_bytes word
+word_there bytes front back here word whole size =
+    ap (λ bs. take 2 (drop here bs)) (whole ∙ append_assoc front (word_bytes word) back)
+    ∙ (ap (take 2) (drop_at front (word_bytes word ++ back) here size) ∙ take_at (word_bytes word) back 2 refl)
+
+reached_by : (s : Source) (u : UnitValue) (number c name : ℕ) (a : IsAccepted s u) → c < 8 → name < names_of s → IsEvenPlaced a.places → (line : IsLine (meanings s a.places) 1 number (nowhere (names_of s)) a.end s.statements (Jump c name))
+    → HasJump (meanings s a.places) line.before a.end c name → LeadsToLabel s u number c name
+reached_by s u number c name a low known even line j =
+    let there : ℕ = j.jump.offset in
+    let here : ℕ = j.head.size in
+    let section : ℕ = length line.before.heads - 1 in
+    let within : section < length line.before.heads = slice_get_within line.before.heads section j.head j.last in
+    let spot : Spot = record { section = section; offset = there } in
+    let make : ℕ → SymbolValue = symbol_for s.statements a.places s.tables.names in
+    let label : SymbolValue = symbol_by (is_global s.statements name) (slice_index_or s.tables.names name []) (Some spot) in
+    let is : make name ≡ label = ap (symbol_by (is_global s.statements name) (slice_index_or s.tables.names name [])) j.jump.spot in
+    let has : Contains (symbols_for s.statements a.places s.tables.names (symbol_order s a.places)) (make name) = map_has make (symbol_order s a.places) name (order_has s.statements a.places (names_of s) name known) in
+    record {
+      section = section;
+      here = here;
+      word = jump_word c (reach here there);
+      offset = reach here there;
+      home = j.home;
+      label = label;
+      stands = record { before = line.before; placed = line.goes; last = omega arith; size = ap (option_map (λ (h : Head). h.size)) j.last };
+      given = ap (λ (v : UnitValue). slice_get v.sections section) (sym a.unit) ∙ j.given;
+      holds = word_there j.home.bytes j.front j.back here (jump_word c (reach here there)) (j.whole ∙ ap (λ bs. (j.front ++ bs) ++ j.back) j.jump.are) j.size;
+      means = λ w1 w2. jumps_are_meant c w1 w2 (reach here there) low j.jump.near;
+      symbol = subst (λ (v : UnitValue). Contains v.symbols label) a.unit (subst (Contains (symbols_for s.statements a.places s.tables.names (symbol_order s a.places))) is has);
+      named = refl;
+      beside = refl;
+      reached = sym (jumps_lead here there (even_head line.before j.head line.even j.last) (even.spots name spot j.jump.spot));
+    }
+
+leads : (s : Source) (u : UnitValue) (number c name : ℕ) → IsSource s → AreEven s.statements → IsAccepted s u → slice_get s.statements number ≡ Some (Jump c name) → LeadsToLabel s u number c name
+leads s u number c name kept are a is =
+    let m : Meanings = meanings s a.places in
+    let none : Agree m nothing (nowhere (names_of s)) = record { shapes = refl; filled = λ k d h. absurd (omega (arith, h)) } in
+    let line = at_line m 1 number nothing a.end (nowhere (names_of s)) a.places s.statements (Jump c name) none (nowhere_even (names_of s)) are a.goes a.is is in
+    let j = has_jump m line.line line.written line.next a.end line.before line.after c name line.agree line.places line.emits line.keeps in
+    let even = all_even 1 (nowhere (names_of s)) a.places s.statements (nowhere_even (names_of s)) are a.goes in
+    let low : number < length s.statements = slice_get_within s.statements number (Jump c name) is in
+    let same : get_or s.statements number (Jump c name) ≡ Jump c name = get_or_from_slice_get s.statements number (Jump c name) (Jump c name) is in
+    let known : IsKnown (names_of s) (Jump c name) = subst (IsKnown (names_of s)) same (kept.known number (Jump c name) low) in
+    reached_by s u number c name a known.0 known.1 even line j
+
+pub jumps_reach_labels : JumpsReachLabels
+unfolding assembled
+jumps_reach_labels text u most k number c name is = leads (source_of text) u number c name (source_kept text most) (source_even text) (accepted (source_of text) u k) is

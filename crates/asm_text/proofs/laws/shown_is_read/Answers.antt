@@ -1,0 +1,5 @@
+use Rattle.asm_text.proofs.ShownLemmas.{shown_is_read}
+use Rattle.asm_text.proofs.laws.shown_is_read.Goals as goal
+
+pub returns : goal.returns
+returns c = shown_is_read

@@ -1,0 +1,49 @@
+-- Where the jumps of an accepted source lead.
+use Rattle.std.specs.Prelude.{ℕ, ◌≡◌, ◌+◌, ◌-◌, ◌*◌, ◌%◌, ◌≤◌, List, [], length, take, drop, slice_get, slice_index_or, Some, Ok, option_map, All, Contains, ℤ, pos, negsuc}
+use Rattle.insn_decode.specs.declared.insn.Insn.TheVariants.{Jump as JumpInsn}
+use Rattle.insn_decode.specs.Code.{insn_of}
+use Rattle.asm_text.specs.declared.TheConstants.{MAX_SOURCE}
+use Rattle.asm_text.specs.declared.statement.Statement.TheVariants.{Jump}
+use Rattle.asm_text.specs.Assembly.{names_of, assembled}
+use Rattle.asm_text.specs.Encoding.{word_bytes}
+use Rattle.asm_text.specs.Parts.{SectionValue, SymbolValue, UnitValue}
+use Rattle.asm_text.specs.Placing.{Placed, nowhere, last_head, placed_from}
+use Rattle.asm_text.specs.Source.{Source, source_of}
+
+-- where a jump at this place leads
+abbrev pub target_of : ℕ → ℤ → ℕ
+target_of here (pos n) = here + 2 + 2 * n
+target_of here (negsuc n) = here + 2 - 2 * (n + 1)
+
+-- the statement of this number stands at the end of the last section of those before it
+pub record StandsAt (s : Source) (number section here : ℕ) : Type 0 where
+  pub before : Placed
+  pub placed : placed_from 1 (nowhere (names_of s)) (take number s.statements) ≡ Ok before
+  pub last : section + 1 ≡ length before.heads
+  pub size : option_map (λ h. h.size) (last_head before.heads) ≡ Some here
+
+-- The word at the statement's place in the unit means a jump, which leads to the symbol of this name in the same section.
+pub record LeadsToLabel (s : Source) (u : UnitValue) (number cond name : ℕ) : Type 0 where
+  pub section : ℕ
+  pub here : ℕ
+  pub word : ℕ
+  pub offset : ℤ
+  pub home : SectionValue
+  pub label : SymbolValue
+  pub stands : StandsAt s number section here
+  pub given : slice_get u.sections section ≡ Some home
+  pub holds : take 2 (drop here home.bytes) ≡ word_bytes word
+  pub means : (w1 w2 : ℕ) → insn_of word w1 w2 ≡ Some (JumpInsn cond offset)
+  pub symbol : Contains u.symbols label
+  pub named : label.name ≡ slice_index_or s.tables.names name []
+  pub beside : label.home ≡ Some section
+  pub reached : label.value ≡ target_of here offset
+
+-- Each jump of a source that is accepted leads to its label.
+abbrev pub JumpsReachLabels : Type 0
+JumpsReachLabels = (text : List ℕ) (u : UnitValue) → length text ≤ MAX_SOURCE → assembled text ≡ Ok u →
+    (number cond name : ℕ) → slice_get (source_of text).statements number ≡ Some (Jump cond name) → LeadsToLabel (source_of text) u number cond name
+
+-- The labels of a source that is accepted are even.
+abbrev pub LabelsAreEven : Type 0
+LabelsAreEven = (text : List ℕ) (u : UnitValue) → assembled text ≡ Ok u → All (λ s. s.value % 2 ≡ 0) u.symbols

@@ -1,0 +1,23 @@
+use Rattle.std.proofs.Common.{subst, ◌∙◌}
+use Rattle.std.specs.Option.{option_copied}
+use Rattle.written_machine.specs.Marks.{Marked}
+use Rattle.sm_io.specs.Sink.{Took, CutOff}
+use Rattle.sm_cli.specs.Files.{need, script_file, a_script, Holds, IsScheduleOf}
+use Rattle.sm_cli.specs.MonitorCommand.{play_answer, script_answer, start_of}
+use Rattle.sm_cli.specs.Serve.{EndsAs}
+use Rattle.sm_cli.proofs.Running.{monitor_answer}
+use Rattle.sm_cli.proofs.commands.script.MonitorCommandAnswering.answer.Goals as goal
+
+pub returns-in-Ok-with_marks-clause-ok : goal.returns-in-Ok-with_marks-clause-ok
+returns-in-Ok-with_marks-clause-ok g c =
+    let own = c.args.self.now in
+    let files = g.F.Files.content c.args.files.now in
+    let entries = c.in-Ok-load_schedule.schedule.entries.items in
+    let script = c.in-Ok-load.playable.script.lines.items in
+    let schedule = subst (λ o. IsScheduleOf o (option_copied own.schedule) entries) c.in-Ok.ensures.same_files c.in-Ok-load_schedule.ensures.entries in
+    let playable = subst (λ o. Holds o (need own.script.now script_file) (a_script script)) (c.in-Ok-load_schedule.ensures.same_files ∙ c.in-Ok.ensures.same_files) c.in-Ok-load.ensures.holds in
+    record {
+      answer = script_answer c.in-Ok.image entries script;
+      served = monitor_answer files own.image.now (option_copied own.schedule) own.script.now c.in-Ok.image entries script c.in-Ok.ensures.holds schedule playable;
+      ends = subst (λ (m : Marked). EndsAs c.put_play.result (play_answer m script) (Took g.O.Sink.taken g.O.Sink.faults g.O.Sink.sure c.args.out.now c.put_play.new.out) (CutOff g.O.Sink.taken g.O.Sink.faults g.O.Sink.sure c.args.out.now c.put_play.new.out)) {y = start_of c.in-Ok.image entries} c.in-Ok-with_marks.ensures c.put_play.ensures;
+    }

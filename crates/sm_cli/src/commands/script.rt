@@ -1,0 +1,104 @@
+//! `monitor IMAGE SCHEDULE SCRIPT`: what a script writes on the machine of an image.
+ghost use Rattle.std.specs.Prelude.{◌≡◌, ◌≤◌, ◌+◌, ◌^◌, IfOk, map, drop, option_map, option_and_then};
+ghost use Rattle.monitor.specs.Bounds.{all_cycles};
+ghost use Rattle.sm_io.specs.Sink.{Took, CutOff};
+ghost use Rattle.sm_cli.specs.MonitorCommand.{monitor_of, monitor_asked, play_answer};
+ghost use Rattle.sm_cli.specs.Serve.{EndsAs, texts};
+ghost use Rattle.sm_cli.specs.Words.{values_in};
+
+use crate::answers::{Name, Refusal, Refused, Status};
+use crate::arguments::file_named;
+use crate::commands::Answering;
+use crate::loading::{Playable, load, load_schedule};
+use crate::words::values_of;
+use board::{Board, Ran};
+use image_text::Image;
+use monitor::{Script, play};
+use sm_io::{Files, Sink};
+use std::alloc::{AllocError, Global};
+
+/// How many marks a script may use.
+const MOST_MARKS: u16 = 16;
+
+/// The arguments, with no schedule where its word is `-`.
+#[derive(Clone, Copy)]
+pub struct MonitorCommand<'a> {
+    pub image: &'a str,
+    pub schedule: Option<&'a str>,
+    pub script: &'a str,
+}
+
+/// The arguments that the words after the first are.
+pub fn read<'a>(
+    alloc: Global,
+    words: &'a [String],
+) -> Result<Option<MonitorCommand<'a>>, AllocError>
+    ensures { IfOk result (λ o. option_map monitor_asked o
+        ≡ option_and_then monitor_of (values_in 3 3 (drop 1 (texts words.entry.now)))) }
+{
+    match values_of(alloc, words, 3, 3)? {
+        Some(values) => Ok(command_in(values.as_slice())),
+        None => Ok(None),
+    }
+}
+
+fn command_in<'a>(values: &[&'a str]) -> Option<MonitorCommand<'a>>
+    ensures { option_map monitor_asked result ≡ monitor_of (map (λ w. w.now) values.now) }
+{
+    if values.len() != 3 {
+        return None;
+    }
+    Some(MonitorCommand {
+        image: values[0],
+        schedule: file_named(values[1]),
+        script: values[2],
+    })
+}
+
+impl Answering for MonitorCommand<'_> {
+    ghost asked = { λ c. monitor_asked c };
+
+    ghost bounds = { λ _. Unit {0} };
+
+    fn answer<F: Files, O: Sink>(
+        &self,
+        alloc: Global,
+        files: &mut F,
+        out: &mut O,
+    ) -> Result<Status, Refused<'_>> {
+        let image = match load::<Image, F>(alloc, self.image, files) {
+            Ok(image) => image,
+            Err(refused) => return Err(refused),
+        };
+        let schedule = match load_schedule(alloc, self.schedule, files) {
+            Ok(schedule) => schedule,
+            Err(refused) => return Err(refused),
+        };
+        let playable = match load::<Playable, F>(alloc, self.script, files) {
+            Ok(playable) => playable,
+            Err(refused) => return Err(refused),
+        };
+        match Board::with_marks(alloc, &image, &schedule, MOST_MARKS) {
+            Ok(board) => Ok(put_play(board, &playable.script, out)),
+            Err(_) => Err(Refused {
+                refusal: Refusal::NoMemory,
+                name: Name::Word(self.image),
+            }),
+        }
+    }
+}
+
+// Plays a script on the board, and tells whether it is stopped then.
+fn put_play<O: Sink>(board: Board, script: &Script, out: &mut O) -> Status
+    requires { board.present.cycle + all_cycles script.now.lines.items ≤ 2 ^ 62 }
+    ensures { EndsAs result (play_answer board script.now.lines.items)
+        (Took O.taken O.faults O.sure out.old out.new)
+        (CutOff O.taken O.faults O.sure out.old out.new) }
+{
+    let mut board = board;
+    match play(&mut board, script, out) {
+        Ran::Done => Status::Done,
+        Ran::Stopped(_) => Status::Stopped,
+        Ran::SinkFailed => Status::WriteFault,
+    }
+}
