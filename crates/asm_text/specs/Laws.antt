@@ -1,14 +1,14 @@
 -- The laws of the assembler. They are what functions of this crate ensure.
-use Rattle.std.specs.Prelude.{ℕ, ◌≡◌, ◌%◌, ◌<◌, Bool, true, false, ◌&&◌, List, Some, None, All, ℤ}
+use Rattle.std.specs.Prelude.{ℕ, ◌≡◌, ◌%◌, ◌<◌, Bool, true, false, ◌&&◌, List, [], ◌∷◌, take, Some, None, All, ℤ}
 use Rattle.insn_decode.specs.declared.insn.Operand.{Operand}
 use Rattle.insn_decode.specs.declared.insn.Operand.TheVariants.{Symbolic}
 use Rattle.insn_decode.specs.declared.insn.Insn.{Insn}
 use Rattle.insn_decode.specs.declared.insn.Insn.TheVariants.{Two, One, Jump}
-use Rattle.insn_decode.specs.Code.{insn_of, IsDecoded}
+use Rattle.insn_decode.specs.Code.{insn_of, length_of, IsDecoded}
 use Rattle.insn_decode.specs.Text.{text_of}
 use Rattle.asm_text.specs.declared.statement.Statement.TheVariants.{Code}
 use Rattle.asm_text.specs.Emission.{reach, is_near, jump_word}
-use Rattle.asm_text.specs.Encoding.{extensions, is_coded, meaning}
+use Rattle.asm_text.specs.Encoding.{extensions, words_of, is_coded, meaning}
 use Rattle.asm_text.specs.Jumps.{target_of}
 use Rattle.asm_text.specs.Lines.{statement_of}
 
@@ -45,3 +45,11 @@ AreWords words = All (λ word. word < 65536) words
 abbrev pub ShownIsRead : Type 0
 ShownIsRead = (insn : Insn) (at : ℕ) → IsDecoded insn → is_placeless insn ≡ true → AreWords (extensions insn) →
     (statement_of (text_of insn at) ≡ Some (Code insn None None)) × (meaning insn ≡ Some insn)
+
+abbrev pub is_jump : Insn → Bool
+is_jump (Jump cond offset) = true
+is_jump _ = false
+
+-- An instruction that was decoded, and is no jump, is written with the very words that it was decoded from.
+abbrev pub WordsComeBack : Type 0
+WordsComeBack = (w0 w1 w2 : ℕ) (insn : Insn) → insn_of w0 w1 w2 ≡ Some insn → is_jump insn ≡ false → words_of insn ≡ take (length_of insn) (w0 ∷ w1 ∷ w2 ∷ [])

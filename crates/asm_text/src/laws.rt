@@ -1,6 +1,6 @@
 //! The laws of the assembler, each the contract of a function that does nothing.
 ghost use Rattle.asm_text.specs.Jumps.{JumpsReachLabels, LabelsAreEven};
-ghost use Rattle.asm_text.specs.Laws.{CodedIsMeant, JumpsAreMeant, JumpsLead, ShownIsRead};
+ghost use Rattle.asm_text.specs.Laws.{CodedIsMeant, JumpsAreMeant, JumpsLead, ShownIsRead, WordsComeBack};
 
 /// The words of each instruction that a line may write mean that instruction, with 0 for names; the word of a jump
 /// means that jump, which leads from its place to that of its label.
@@ -11,9 +11,11 @@ pub fn words_are_meant()
 {}
 
 /// What `show` writes of an instruction that has no operand relative to PC and is no jump, at any address, is read as
-/// that instruction, which its words mean: such lines of the disassembler can be assembled again.
+/// that instruction, which its words mean. They are the words that it was decoded from: such lines of the disassembler
+/// are assembled to what was disassembled.
 pub fn shown_is_read()
-    ensures { ShownIsRead }
+    ensures read { ShownIsRead }
+    ensures words { WordsComeBack }
 {}
 
 /// Each jump of a source that is accepted leads to its label: the word at its place means a jump of its condition, from

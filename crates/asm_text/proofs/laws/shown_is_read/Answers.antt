@@ -1,5 +1,6 @@
+use Rattle.asm_text.proofs.DecodedLemmas.{words_come_back}
 use Rattle.asm_text.proofs.ShownLemmas.{shown_is_read}
 use Rattle.asm_text.proofs.laws.shown_is_read.Goals as goal
 
 pub returns : goal.returns
-returns c = shown_is_read
+returns c = record { read = shown_is_read; words = words_come_back }
