@@ -1,3 +1,4 @@
+pub mod Alike
 pub mod Checking
 pub mod Clap
 pub mod Counting

@@ -1,10 +1,15 @@
--- The law of a command's files. It is what a function of this crate ensures.
-use Rattle.std.specs.Prelude.{ℕ, List, Some, ◌⊎◌}
+-- The laws of a command's files and of workloads. Each is what a function of this crate ensures.
+use Rattle.std.specs.Prelude.{◌≡◌, ◌<◌, ℕ, List, Some, ◌⊎◌}
 use Rattle.sm_io.specs.Files.{FileMap}
 use Rattle.sm_cli.specs.declared.answers.FileFault.{FileFault}
 use Rattle.sm_cli.specs.Files.{IsFirstFault}
 use Rattle.sm_cli.specs.Command.{Command, Outcome, Comes}
+use Rattle.sm_cli.specs.MakeCommand.{run_text, start_of}
 
 -- Of every command, on files that are told, something comes, or there is a first file that does not serve.
 abbrev pub IsDecided : Type 0
 IsDecided = (map : FileMap) (command : Command) → ((outcome : Outcome) × Comes (Some map) command outcome) ⊎ ((name : List ℕ) × (fault : FileFault) × IsFirstFault (Some map) command.needs name fault)
+
+-- The runs of a seed are told alike, however long they are and whatever the words of their module's data.
+abbrev pub RunsAreAlike : Type 0
+RunsAreAlike = (seed cycles v w : ℕ) → v < 65536 → w < 65536 → run_text (start_of seed v) cycles ≡ run_text (start_of seed w) cycles

@@ -15,7 +15,7 @@ use Rattle.written_machine.specs.View.{boot}
 use Rattle.sm_cli.specs.declared.commands.make.MakeCommand.{MakeCommand}
 use Rattle.sm_cli.specs.declared.commands.make.TheConstants.{CYCLES, FIRST_DATA, MAX_SEED, WORDS}
 use Rattle.sm_cli.specs.Words.{Text}
-use Rattle.sm_cli.specs.Command.{Outcome, done, Command}
+use Rattle.sm_cli.specs.Command.{done, Command}
 
 abbrev pub seed_of : Text → Option ℕ
 seed_of word = read_decimal MAX_SEED word

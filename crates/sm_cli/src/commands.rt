@@ -122,7 +122,10 @@ pub fn read_command<'a>(
     } else if name == "asm" {
         Ok(asm::read(alloc, words)?.map(CommandLine::Asm))
     } else if name == "make" {
-        Ok(make::read(alloc, words)?.map(CommandLine::Make))
+        match make::read(alloc, words)? {
+            Some(command) => Ok(Some(CommandLine::Make(command))),
+            None => Ok(None),
+        }
     } else {
         Ok(None)
     }

@@ -1,7 +1,17 @@
-//! The law of a command's files, the contract of a function that does nothing.
-ghost use Rattle.sm_cli.specs.Laws.{IsDecided};
+//! The laws of a command's files and of workloads, the contracts of functions that do nothing.
+ghost use Rattle.sm_cli.specs.Laws.{IsDecided, RunsAreAlike};
 
 /// Whatever the files are that are told, a command is answered, or one of its files is refused.
 pub fn every_command()
     ensures decided { IsDecided }
 {}
+
+/// The runs of a seed are told alike, whatever their module's data, and so both runs of `make`.
+pub fn runs_are_alike()
+    ensures { RunsAreAlike }
+{
+    // These do nothing: their clauses are the laws of two runs, and that the runs' images are peers.
+    isolation::two_runs();
+    isolation::texts();
+    workload_peers::workloads_are_peers();
+}

@@ -1,4 +1,4 @@
-use Rattle.std.proofs.Common.{◌≡◌, ◌+◌, codes, ap}
+use Rattle.std.proofs.Common.{◌+◌, codes, ap}
 use Rattle.sm_io.proofs.Putting.{cut_first, puts_last, puts_same, took_same, cut_same}
 use Rattle.written_machine.specs.Cycle.{after_cycles}
 use Rattle.written_machine.specs.Trace.{end_line_of}

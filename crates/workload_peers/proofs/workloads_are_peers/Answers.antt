@@ -1,0 +1,8 @@
+use Rattle.workload.specs.Program.{image}
+use Rattle.peer_rows.specs.Rows.{called}
+use Rattle.workload_peers.proofs.Images.{differ}
+use Rattle.workload_peers.proofs.Verdict.{meet, accepted}
+use Rattle.workload_peers.proofs.workloads_are_peers.Goals as goal
+
+pub returns : goal.returns
+returns c = λ v w a b. c.accepted_are_peers.ensures (image v) (image w) 1 (called 0x0322) meet (differ v w a b) (accepted v)
