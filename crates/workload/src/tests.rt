@@ -4,13 +4,14 @@ use schedule_file::{Entry, What};
 use std::test::Fail;
 
 #[test]
-fn draws(rt: HostRuntime) -> Result<(), Fail> {
-    let mut number = 0;
-    for after in [12_345, 1_406_932_606, 654_583_775, 1_449_466_924] {
-        number = next(number);
-        assert_eq!(rt; number, after);
-    }
-    Ok(())
+fn draws(rt: HostRuntime) {
+    let first = next(0);
+    let second = next(first);
+    let third = next(second);
+    assert_eq!(rt;
+        [first, second, third, next(third)],
+        [12_345, 1_406_932_606, 654_583_775, 1_449_466_924]
+    );
 }
 
 #[test]
