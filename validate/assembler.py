@@ -3,7 +3,7 @@
 
     python3 validate/assembler.py PROGRAM [OBJECT..]
 
-PROGRAM is the built `sancus` (crates/sm_main/out/sm_main). Needs Debian's llvm (llvm-mc with its MSP430 target, llvm-objcopy). Random
+PROGRAM is the built `sancus` (crates/sm_main/out/sm_main). Needs Debian's llvm (llvm-mc with its MSP430 target, llvm-objcopy), lld and binutils. Random
 instructions without a jump are assembled by both. Then their code, and the section `.text` of each object, is listed, the listing is
 written as a source with labels for the jumps, and that is assembled: the bytes must be the same.
 """
@@ -17,6 +17,8 @@ import tempfile
 import machine
 
 COUNT, PART, START = 8000, 2000, 0x0200
+# Of each object that `asm` wrote, whether readelf reads it without a warning and ld.lld takes it.
+WRITTEN = []
 TWO = "mov add addc subc sub cmp dadd bit bic bis xor and".split()
 # One operand: whether there is a byte form, and whether it may be a number.
 ONE = {"rrc": (True, False), "swpb": (False, False), "rra": (True, False), "sxt": (False, False), "push": (True, True), "call": (False, True)}
@@ -91,6 +93,9 @@ def assembled(program, folder, lines):
         it.write("\n".join(["section .text code", *lines, ""]))
     with open(object_path, "wb") as it:
         subprocess.run([program, "asm", source_path], stdout=it, check=True)
+    read = subprocess.run(["readelf", "-a", object_path], capture_output=True, text=True)
+    taken = subprocess.run(["ld.lld", "-r", "-o", os.path.join(folder, "again.o"), object_path], capture_output=True, text=True)
+    WRITTEN.append(read.returncode == 0 and "arning" not in read.stdout + read.stderr and taken.returncode == 0 and not taken.stderr)
     return text_section(folder, object_path)
 
 
@@ -153,7 +158,9 @@ def main(program, objects):
         good = [not other]
         good += [round_trip(program, folder, f"part {k}", b"".join(code for _, code in part)) for k, part in enumerate(parts)]
         good += [round_trip(program, folder, path, text_section(folder, path)) for path in objects]
-    return 0 if all(good) else 1
+    wrong = len(other) + good.count(False) - (not good[0]) + WRITTEN.count(False)
+    print(f"{len(kept) + len(good) - 1 + len(WRITTEN)} cases, {wrong} differences{'' if wrong else ', each explained'}")
+    return 1 if wrong else 0
 
 
 if __name__ == "__main__":
