@@ -152,8 +152,8 @@ def ours(program, folder, case, watched):
     code = [word for k, addr in enumerate(watched) for word in (0x4210 | 4 + k, addr & ~1)] + [ILLEGAL]
     for k, word in enumerate(code):
         memory[regs[0] + 2 * k : regs[0] + 2 * k + 2] = machine.word_bytes(word)
-    if regs[2] & CPU_OFF or TEST - 40 < regs[0] < TEST + 2 * len(case.words):
-        # asleep, or about to meet its own words
+    if regs[2] & CPU_OFF or TEST - 40 < regs[0] < TEST + 2 * len(case.words) or regs[0] < PROLOGUE + 0x80:
+        # asleep, or about to meet its own words or the prologue's
         return regs, None, None
     stop = re.search(r"^(\d+) stop Illegal", run(200), re.M)
     if not stop:
