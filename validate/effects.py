@@ -20,6 +20,13 @@ RESERVED = [range(0x0000, 0x0280), range(TEST - 0x20, TEST + 0x40), range(0xFF00
 TWO = "mov add addc subc sub cmp dadd bit bic bis xor and".split()
 ONE = ["rrc", "swpb", "rra", "sxt", "push", "call"]
 CPU_OFF = 0x10
+DADD = 10
+V = 0x100
+
+
+def decimal(rng):
+    """A number of four decimal digits."""
+    return int(f"{rng.randrange(10000):04d}", 16)
 
 
 def is_free(addr):
@@ -36,6 +43,12 @@ class Case:
         self.regs[1] = rng.randrange(0x1000, 0x7000) & ~1
         self.regs[2] = rng.randrange(512) & ~CPU_OFF
         self.words = self.instruction(rng)
+        # half of the decimal additions are of decimal numbers
+        self.decimal = self.words[0] >> 12 == DADD and rng.random() < 0.5
+        if self.decimal:
+            self.regs[4:] = [decimal(rng) for _ in range(12)]
+            self.regs[1] = decimal(rng) & 0x7FFE
+            self.words[1:] = [decimal(rng) for _ in self.words[1:]]
         self.regs[0] = TEST
         self.data = {}
 
@@ -182,6 +195,11 @@ def is_decimal(number):
     return all(number >> at & 15 < 10 for at in (0, 4, 8, 12))
 
 
+def decimal_operands(case, operands):
+    """The numbers that stand in registers; those in memory are decimal where the case is."""
+    return [case.regs[register] for how, register, _ in operands if how == "register"] + [65535 for how, *_ in operands if how == "constant"]
+
+
 def steps_stack_by_byte(case, byte, operands):
     """Whether a byte instruction steps SP past its operand."""
     return byte and any(how == "increment" and register == 1 for how, register, _ in operands)
@@ -198,8 +216,10 @@ def cause(case, name, byte, operands, what, mine, other):
         return "cycles: mspdebug counts a constant of the generator as an immediate word; SLAU049, 3.2.4: it needs no fetch"
     if what == "memory" and name == "push" and byte:
         return "PUSH.B writes one byte here, a word with 0 above in mspdebug: a choice (docs/DECISIONS.md)"
-    if name == "dadd" and not all(is_decimal(it) for it in (case.regs[n] for n in range(4, 16))):
-        return "DADD of digits above 9: SLAU049, 3.4.4.15, leaves the result open; V, which it leaves open too, is 0 here"
+    if name == "dadd" and not (case.decimal and all(is_decimal(it) for it in decimal_operands(case, operands))):
+        return "DADD of digits above 9: the User's Guide defines the sum of decimal numbers alone"
+    if name == "dadd" and what == "registers" and [*mine[:2], mine[2] | V, *mine[3:]] == [*even_pointers(other, 0)[:2], other[2] & 0x1FF | V, *even_pointers(other, 0)[3:]]:
+        return "DADD: V is undefined by the User's Guide; 0 here, kept by mspdebug: a choice (docs/DECISIONS.md)"
     if steps_stack_by_byte(case, byte, operands) and (operands[-1][1] == 1 or what == "registers" and mine == even_pointers(other, 1)):
         return "@SP+ in a byte instruction: SP rises by 2 here, by 1 in mspdebug; SLAU049, 3.2.2: SP stays even"
     if len(operands) == 2 and operands[0][:2] == ("register", 0) and operands[1][0] == "indexed":
@@ -221,7 +241,8 @@ def main():
         if found is None:
             continue
         case.words = case.words[: form[3]]
-        case.data = {addr + k & 0xFFFF: rng.randrange(256) for addr in found for k in (0, 1)}
+        byte_of = (lambda: decimal(rng) & 0xFF) if case.decimal else (lambda: rng.randrange(256))
+        case.data = {addr + k & 0xFFFF: byte_of() for addr in found for k in (0, 1)}
         cases.append((case, form, found[:4]))
     differences, examples = collections.Counter(), {}
     with tempfile.TemporaryDirectory() as folder:

@@ -14,6 +14,8 @@ mod interrupted;
 #[cfg(test)]
 mod linked;
 #[cfg(test)]
+mod made;
+#[cfg(test)]
 mod objects;
 #[cfg(test)]
 mod outside;

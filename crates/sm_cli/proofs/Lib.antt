@@ -1,5 +1,6 @@
 pub mod Checking
 pub mod Clap
+pub mod Counting
 pub mod Listing
 pub mod Needed
 pub mod Objects

@@ -373,6 +373,7 @@ object_examined bytes (Some refusal) e = inr (fault.Object refusal, λ short. (s
 script_examined : (bytes : List ℕ) (r : Result (List ScriptLine) ScriptFault) → script_of bytes ≡ r → Examined script_file bytes
 script_examined bytes (Ok script) e = inl (a_script script, e)
 script_examined bytes (Err refusal) e = inr (fault.Script refusal, λ short. (short, e))
+
 source_examined : (bytes : List ℕ) (r : Result UnitValue AsmFault) → assembled bytes ≡ r → Examined source_file bytes
 source_examined bytes (Ok unit) e = inl (a_unit unit, e)
 source_examined bytes (Err refusal) e = inr (fault.Source refusal, λ short. (short, e))

@@ -5,6 +5,7 @@ use Rattle.std.proofs.lemmas.Bool.{lt-leb}
 use Rattle.sm_cli.specs.AsmCommand.{asm_of}
 use Rattle.sm_cli.specs.ChallengeCommand.{challenge_of}
 use Rattle.sm_cli.specs.Command.{Command}
+use Rattle.sm_cli.specs.MakeCommand.{make_of}
 use Rattle.sm_cli.specs.Words.{Text, in_number, values, values_in}
 
 both_false : (a : Bool) (vs : List Text) → (if a && false then Some vs else None) ≡ None
@@ -30,3 +31,6 @@ one_name words = one_of challenge_of (λ x y. refl) (values words)
 
 pub one_source : (words : List Text) → option_and_then asm_of (values_in 1 2 words) ≡ option_and_then asm_of (values_in 1 1 words)
 one_source words = one_of asm_of (λ x y. refl) (values words)
+
+pub one_seed : (words : List Text) → option_and_then make_of (values_in 1 2 words) ≡ option_and_then make_of (values_in 1 1 words)
+one_seed words = one_of make_of (λ x y. refl) (values words)

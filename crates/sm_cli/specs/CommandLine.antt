@@ -18,6 +18,7 @@ use Rattle.sm_cli.specs.RunCommand.{run_of, run_asked}
 use Rattle.sm_cli.specs.LoneCommand.{lone_of, lone_asked}
 use Rattle.sm_cli.specs.MonitorCommand.{monitor_of, monitor_asked}
 use Rattle.sm_cli.specs.AsmCommand.{asm_of, asm_asked}
+use Rattle.sm_cli.specs.MakeCommand.{make_of, make_asked}
 
 -- by the first word, with the fewest and the most values that may follow
 abbrev pub command_by : Text → List Text → Option Command
@@ -35,6 +36,7 @@ command_by name words =
     else if bytes_eq name (codes "lone") then option_and_then lone_of (values_in 3 17 words)
     else if bytes_eq name (codes "monitor") then option_and_then monitor_of (values_in 3 3 words)
     else if bytes_eq name (codes "asm") then option_and_then asm_of (values_in 1 1 words)
+    else if bytes_eq name (codes "make") then option_and_then make_of (values_in 1 1 words)
     else None
 
 -- what the words ask for, or none
@@ -56,6 +58,7 @@ asked (line.Run c) = run_asked c
 asked (line.Lone c) = lone_asked c
 asked (line.Monitor c) = monitor_asked c
 asked (line.Asm c) = asm_asked c
+asked (line.Make c) = make_asked c
 
 -- its numbers are within their bounds
 abbrev pub IsBounded : CommandLine → Type 0
@@ -71,3 +74,4 @@ IsBounded (line.Run c) = (length c.objects.items ≤ 64) × (c.cycles ≤ MAX_CY
 IsBounded (line.Lone c) = c.limit ≤ MAX_CYCLES
 IsBounded (line.Monitor c) = Unit {0}
 IsBounded (line.Asm c) = Unit {0}
+IsBounded (line.Make c) = Unit {0}

@@ -21,6 +21,7 @@ pub mod image;
 pub mod key;
 pub mod link;
 pub mod lone;
+pub mod make;
 pub mod run;
 pub mod script;
 pub mod vendor;
@@ -34,6 +35,7 @@ use image::ImageCommand;
 use key::KeyCommand;
 use link::LinkCommand;
 use lone::LoneCommand;
+use make::MakeCommand;
 use run::RunCommand;
 use script::MonitorCommand;
 use vendor::VendorCommand;
@@ -79,6 +81,7 @@ pub enum CommandLine<'a> {
     Lone(LoneCommand<'a>),
     Monitor(MonitorCommand<'a>),
     Asm(AsmCommand<'a>),
+    Make(MakeCommand),
 }
 
 /// The command that the words are.
@@ -118,6 +121,8 @@ pub fn read_command<'a>(
         Ok(script::read(alloc, words)?.map(CommandLine::Monitor))
     } else if name == "asm" {
         Ok(asm::read(alloc, words)?.map(CommandLine::Asm))
+    } else if name == "make" {
+        Ok(make::read(alloc, words)?.map(CommandLine::Make))
     } else {
         Ok(None)
     }
@@ -147,6 +152,7 @@ impl Answering for CommandLine<'_> {
             CommandLine::Lone(command) => command.answer(alloc, files, out),
             CommandLine::Monitor(command) => command.answer(alloc, files, out),
             CommandLine::Asm(command) => command.answer(alloc, files, out),
+            CommandLine::Make(command) => command.answer(alloc, files, out),
         }
     }
 }

@@ -1,0 +1,41 @@
+-- Cycles are run, and their events counted.
+use Rattle.std.proofs.Common.{◌≡◌, ℕ, zero, suc, ◌+◌, ◌*◌, ◌≤◌, List, length, refl, sym, ap, ap₂, ◌∙◌, subst, arith}
+use Rattle.tracer.specs.declared.Event.{Event}
+use Rattle.written_machine.specs.Cycle.{cycle, after_cycles}
+use Rattle.written_machine.specs.State.{State}
+use Rattle.written_machine.specs.Marks.{Marked, unmarked}
+use Rattle.sm_cli.specs.MakeCommand.{events_after, runs_text, start_of, second_data, make_text}
+
+-- so many cycles from one state lead to another, and tell so many events
+pub record IsCounted (from to : State) (count cycles : ℕ) : Type 0 where
+  pub leads : to ≡ after_cycles from cycles
+  pub counted : count ≡ events_after from cycles
+  pub few : count ≤ 4 * cycles
+  pub number : to.cycle ≤ from.cycle + cycles
+
+pub counted_none : (from : State) → IsCounted from from 0 0
+counted_none from = record { leads = refl; counted = refl; few = omega arith; number = omega arith }
+
+pub counted_more : (from to next : State) (count cycles : ℕ) (events : List Event) → IsCounted from to count cycles → events ≡ (cycle to).events → next ≡ (cycle to).state
+    → length events ≤ 4 → next.cycle ≤ to.cycle + 1 → IsCounted from next (count + length events) (cycles + 1)
+counted_more from to next count cycles events r told leads short one =
+    let more : suc cycles ≡ cycles + 1 = omega arith in
+    let few = r.few in
+    let number = r.number in
+    let all : events ≡ (cycle (after_cycles from cycles)).events = told ∙ ap (λ (s : State). (cycle s).events) r.leads in
+    record {
+      leads = leads ∙ (ap (λ (s : State). (cycle s).state) r.leads ∙ ap (λ n. after_cycles from n) more);
+      counted = ap₂ (λ n (es : List Event). n + length es) r.counted all ∙ ap (λ n. events_after from n) more;
+      few = omega arith;
+      number = omega arith;
+    }
+
+-- a run begins in cycle 0
+pub starts : (seed word : ℕ) (board : Marked) → board ≡ unmarked 0 (start_of seed word) → board.present.cycle ≤ 1000000000
+unfolding start_of
+starts seed word board e = let zero : board.present.cycle ≡ 0 = ap (λ (b : Marked). b.present.cycle) e in omega arith
+
+-- both runs of a seed
+pub told : (seed : ℕ) (first second : Marked) → first ≡ unmarked 0 (start_of seed 0) → second ≡ unmarked 0 (start_of seed (second_data seed)) → runs_text seed 200000 first.present second.present ≡ make_text seed
+unfolding make_text
+told seed first second e f = ap₂ (λ (a b : Marked). runs_text seed 200000 a.present b.present) e f

@@ -1,0 +1,60 @@
+-- `make SEED`: two runs of the workload of a seed, which differ in the module's data; of each the number of lines of its trace, and
+-- the end line.
+use Rattle.std.specs.Prelude.{ℕ, zero, suc, ◌+◌, ◌%◌, List, [], ◌∷◌, ◌++◌, length, Option, None, codes}
+use Rattle.std.specs.Fmt.{decimal}
+use Rattle.std.specs.Option.{option_map}
+use Rattle.texts.specs.Decimals.{read_decimal}
+use Rattle.workload.specs.declared.pulses.TheConstants.{COUNT}
+use Rattle.workload.specs.Draws.{next}
+use Rattle.workload.specs.Program.{image}
+use Rattle.workload.specs.Pulses.{pulses}
+use Rattle.written_machine.specs.Cycle.{cycle, after_cycles}
+use Rattle.written_machine.specs.State.{State}
+use Rattle.written_machine.specs.Trace.{end_line_of}
+use Rattle.written_machine.specs.View.{boot}
+use Rattle.sm_cli.specs.declared.commands.make.MakeCommand.{MakeCommand}
+use Rattle.sm_cli.specs.declared.commands.make.TheConstants.{CYCLES, FIRST_DATA, MAX_SEED, WORDS}
+use Rattle.sm_cli.specs.Words.{Text}
+use Rattle.sm_cli.specs.Command.{Outcome, done, Command}
+
+abbrev pub seed_of : Text → Option ℕ
+seed_of word = read_decimal MAX_SEED word
+
+-- how many events so many cycles tell
+abbrev pub events_after : State → ℕ → ℕ
+events_after s zero = 0
+events_after s (suc n) = events_after s n + length (cycle (after_cycles s n)).events
+
+-- a name, a number, and LF
+abbrev pub number_line : List ℕ → ℕ → List ℕ
+number_line name number = name ++ (decimal number ++ codes "\n")
+
+-- a trace has a line for each event, and the end line
+unfoldable pub run_text : State → ℕ → List ℕ
+run_text s cycles = number_line (codes "lines ") (events_after s cycles + 1) ++ end_line_of (after_cycles s cycles)
+
+-- what is told of two runs
+abbrev pub runs_text : ℕ → ℕ → State → State → List ℕ
+runs_text seed cycles first second = number_line (codes "seed ") seed ++ (run_text first cycles ++ run_text second cycles)
+
+-- where the run of a seed begins whose module has this word as its data
+unfoldable pub start_of : ℕ → ℕ → State
+start_of seed word = boot (image word) (pulses seed COUNT)
+
+-- the second run's data are the low word of the number after the seed
+abbrev pub second_data : ℕ → ℕ
+second_data seed = next seed % WORDS
+
+unfoldable pub make_text : ℕ → List ℕ
+make_text seed = runs_text seed CYCLES (start_of seed FIRST_DATA) (start_of seed (second_data seed))
+
+abbrev pub make_command : ℕ → Command
+make_command seed = record { needs = []; outcome = λ helds. done (make_text seed) }
+
+abbrev pub make_of : List Text → Option Command
+make_of (seed ∷ []) = option_map make_command (seed_of seed)
+make_of _ = None
+
+-- what the program's value asks for
+abbrev pub make_asked : MakeCommand → Command
+make_asked c = make_command c.seed
