@@ -30,7 +30,7 @@ fn schedule_text(alloc: Global, seed: u64) -> Result<String, Fail> {
     let mut text = String::new(alloc);
     let mut drawn = seed;
     for number in 0..1_001u64 {
-        drawn = (drawn * 1_103_515_245 + 12_345) % 2_147_483_648;
+        drawn = (drawn % 2_147_483_648 * 1_103_515_245 + 12_345) % 2_147_483_648;
         if number > 0 {
             let up = 20 + 190 * (number - 1) + drawn % 100;
             let down = up + 1;

@@ -315,30 +315,34 @@ fn closed_data_are_cleared(rt: HostRuntime) -> Result<(), Fail> {
     Ok(())
 }
 
+// The images that the command lines name.
+fn put_images(files: &mut MemFiles, alloc: Global) -> Result<(), Fail> {
+    files.put_file("called.img", CALLED.text(alloc)?.as_bytes())?;
+    files.put_file("constant.img", CONSTANT.text(alloc)?.as_bytes())?;
+    files.put_file("back.img", BACK.text(alloc)?.as_bytes())?;
+    files.put_file("balanced.img", BALANCED.text(alloc)?.as_bytes())?;
+    files.put_file("unbalanced.img", UNBALANCED.text(alloc)?.as_bytes())?;
+    files.put_file("blind.img", BLIND.text(alloc)?.as_bytes())?;
+    files.put_file("asking.img", ASKING.text(alloc)?.as_bytes())?;
+    files.put_file("closing.img", CLOSING.text(alloc)?.as_bytes())?;
+    Ok(())
+}
+
+// And the certificates.
+fn put_arms(files: &mut MemFiles) -> Result<(), Fail> {
+    files.put_file("at_6.txt", b"0304 0318 6\n")?;
+    files.put_file("at_7.txt", b"0304 0318 7\n")?;
+    files.put_file("later.txt", b"0304 031a 7\n")?;
+    files.put_file("none.txt", b"")?;
+    files.put_file("short.txt", b"304 0318 6\n")?;
+    Ok(())
+}
+
 fn assert_lines(rt: &impl Abort, alloc: Global, lines: &[Line]) -> Result<(), Fail> {
-    let called = CALLED.text(alloc)?;
-    let constant = CONSTANT.text(alloc)?;
-    let back = BACK.text(alloc)?;
-    let balanced = BALANCED.text(alloc)?;
-    let unbalanced = UNBALANCED.text(alloc)?;
-    let blind = BLIND.text(alloc)?;
-    let asking = ASKING.text(alloc)?;
-    let closing = CLOSING.text(alloc)?;
     for line in lines {
         let mut files = MemFiles::new(alloc);
-        files.put_file("called.img", called.as_bytes())?;
-        files.put_file("constant.img", constant.as_bytes())?;
-        files.put_file("back.img", back.as_bytes())?;
-        files.put_file("balanced.img", balanced.as_bytes())?;
-        files.put_file("unbalanced.img", unbalanced.as_bytes())?;
-        files.put_file("blind.img", blind.as_bytes())?;
-        files.put_file("asking.img", asking.as_bytes())?;
-        files.put_file("closing.img", closing.as_bytes())?;
-        files.put_file("at_6.txt", b"0304 0318 6\n")?;
-        files.put_file("at_7.txt", b"0304 0318 7\n")?;
-        files.put_file("later.txt", b"0304 031a 7\n")?;
-        files.put_file("none.txt", b"")?;
-        files.put_file("short.txt", b"304 0318 6\n")?;
+        put_images(&mut files, alloc)?;
+        put_arms(&mut files)?;
         let mut words = Vec::new(alloc);
         for word in line.words.split(' ') {
             words.push(String::from_str(alloc, word)?)?;
