@@ -1,4 +1,4 @@
--- The labels of a source stand at even offsets.
+-- What the statements of a source keep; its labels stand at even offsets.
 use Rattle.std.proofs.Common.{ℕ, suc, ◌≡◌, ◌≢◌, ◌+◌, ◌-◌, ◌%◌, ◌<◌, ◌≤◌, Bool, true, false, cond, List, [], ◌∷◌, length, set, Option, Some, None, is_some, Ok, Err, nat_lt, nat_eq, refl, ap, sym, subst, ◌∙◌, arith, ◌⊎◌, inl, inr}
 use Rattle.std.specs.List.{All}
 use Rattle.std.proofs.lemmas.Bool.{cases_lt}
@@ -12,6 +12,7 @@ use Rattle.asm_text.specs.declared.unit.SectionKind.{SectionKind}
 use Rattle.asm_text.specs.declared.statement.Field.TheVariants.{Number, Name}
 use Rattle.asm_text.specs.declared.statement.Statement.{Statement}
 use Rattle.asm_text.specs.declared.statement.Statement.TheVariants.{Section, Label, Global, Word, Space, Jump, Code}
+use Rattle.asm_text.specs.Encoding.{is_coded}
 use Rattle.asm_text.specs.Lines.{statement_of}
 use Rattle.asm_text.specs.Names.{Tables, no_tables, tables_after, numbered}
 use Rattle.asm_text.specs.Placing.{Placed, nowhere, has_section, with_section, spot_of, with_label, with_bytes, within, in_section, last_head, placed, placed_from}
@@ -42,19 +43,40 @@ even_statement t (Space size) h = h.1
 even_statement t (Jump c target) h = refl
 even_statement t (Code insn a b) h = omega arith
 
-even_from : (n : ℕ) (t : Tables) (statements : List (Statement ℕ)) (lines : List (List ℕ)) (tail : List ℕ) → AreEven statements → AreEven (source_from n t statements lines tail).statements
-even_from n t statements [] [] are = are
-even_from n t statements [] (b ∷ tail) are = are
-even_from n t statements (line ∷ lines) tail are = by (λ u ss are'. even_from (n + 1) u ss lines tail are') (statement_of line) refl
+-- an instruction is one that a line may write
+abbrev pub IsSound : Statement ℕ → Type 0
+IsSound (Code insn first second) = is_coded insn ≡ true
+IsSound _ = Unit {0}
+
+sound_statement : (t : Tables) (s : Statement (List ℕ)) → IsWritten s → IsSound (numbered t s)
+sound_statement t (Section name kind) h = tt
+sound_statement t (Label name) h = tt
+sound_statement t (Global name) h = tt
+sound_statement t (Word (Name name)) h = tt
+sound_statement t (Word (Number n)) h = tt
+sound_statement t (Space size) h = tt
+sound_statement t (Jump c target) h = tt
+sound_statement t (Code insn a b) h = h.2
+
+-- what each line's statement keeps, all statements of a source do
+all_from : (P : Statement ℕ → Type 0) → ((t : Tables) (s : Statement (List ℕ)) → IsWritten s → P (numbered t s)) → (n : ℕ) (t : Tables) (statements : List (Statement ℕ)) (lines : List (List ℕ)) (tail : List ℕ) → All P statements
+    → All P (source_from n t statements lines tail).statements
+all_from P each n t statements [] [] are = are
+all_from P each n t statements [] (b ∷ tail) are = are
+all_from P each n t statements (line ∷ lines) tail are = by (λ u ss are'. all_from P each (n + 1) u ss lines tail are') (statement_of line) refl
   where
-    by : ((u : Tables) (ss : List (Statement ℕ)) → AreEven ss → AreEven (source_from (n + 1) u ss lines tail).statements)
-        → (o : Option (Statement (List ℕ))) → statement_of line ≡ o → AreEven (source_by n t statements o (λ u ss. source_from (n + 1) u ss lines tail)).statements
+    by : ((u : Tables) (ss : List (Statement ℕ)) → All P ss → All P (source_from (n + 1) u ss lines tail).statements)
+        → (o : Option (Statement (List ℕ))) → statement_of line ≡ o → All P (source_by n t statements o (λ u ss. source_from (n + 1) u ss lines tail)).statements
     by again None is = are
-    by again (Some s) is = again (tables_after t s) (more t statements s) (All-push IsEven statements (numbered t s) are (even_statement t s (statement_some line s is)))
+    by again (Some s) is = again (tables_after t s) (more t statements s) (All-push P statements (numbered t s) are (each t s (statement_some line s is)))
 
 pub source_even : (text : List ℕ) → AreEven (source_of text).statements
 unfolding source_of
-source_even text = even_from 1 no_tables [] (ended_lines text) (unended text) (λ k d h. absurd (omega (arith, h)))
+source_even text = all_from IsEven even_statement 1 no_tables [] (ended_lines text) (unended text) (λ k d h. absurd (omega (arith, h)))
+
+pub source_sound : (text : List ℕ) → All IsSound (source_of text).statements
+unfolding source_of
+source_sound text = all_from IsSound sound_statement 1 no_tables [] (ended_lines text) (unended text) (λ k d h. absurd (omega (arith, h)))
 
 -- ---- places
 

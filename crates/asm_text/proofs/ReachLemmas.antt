@@ -1,37 +1,41 @@
--- Each jump of an accepted source leads to its label.
+-- What the lines of an accepted source write, and where its jumps lead.
 use Rattle.std.proofs.Common.{ℕ, zero, suc, ◌≡◌, ◌≢◌, ◌+◌, ◌-◌, ◌%◌, ◌<◌, Bool, true, false, cond, is_some, List, [], ◌∷◌, ◌++◌, length, map, get_or, set, take, drop, Option, Some, None, Result, Ok, Err, nat_eq, refl, ap, sym, subst, ◌∙◌, append_assoc, arith, ◌⊎◌, inl, inr}
-use Rattle.std.specs.Prelude.{fold, option_map, slice_get, slice_index_or}
 use Rattle.std.specs.List.{All, Contains}
+use Rattle.std.specs.Prelude.{fold, option_map, slice_get, slice_index_or}
 use Rattle.std.proofs.lemmas.Bool.Decides.{nat_tests}
-use Rattle.std.proofs.lemmas.List.{append-nil, length-map, length-set, get_or-map, get_or-set_same, get_or-set_other, take_at, drop_at}
 use Rattle.std.proofs.lemmas.List.Elements.{Contains-append_left, Contains-push}
 use Rattle.std.proofs.lemmas.List.Quantifiers.{position-Some}
+use Rattle.std.proofs.lemmas.List.{append-nil, length-map, length-set, get_or-map, get_or-set_same, get_or-set_other, take_at, drop_at}
 use Rattle.std.proofs.lemmas.Option.{slice_get_within, get_or_from_slice_get, slice_get-get_or}
+use Rattle.insn_decode.specs.declared.insn.Insn.{Insn}
 use Rattle.asm_text.specs.declared.placing.Head.{Head}
 use Rattle.asm_text.specs.declared.placing.Spot.{Spot}
-use Rattle.asm_text.specs.declared.unit.AsmFault.{AsmFault}
-use Rattle.asm_text.specs.declared.unit.AsmFault.TheVariants.{NoLabel, Far}
-use Rattle.asm_text.specs.declared.unit.SectionKind.{SectionKind}
-use Rattle.asm_text.specs.declared.unit.SectionKind.TheVariants.{Code as CodeKind, Data as DataKind, Bss as BssKind}
-use Rattle.asm_text.specs.declared.statement.Statement.{Statement}
+use Rattle.asm_text.specs.declared.statement.Field.{Field}
 use Rattle.asm_text.specs.declared.statement.Statement.TheVariants.{Section, Label, Global, Word, Space, Jump, Code}
+use Rattle.asm_text.specs.declared.statement.Statement.{Statement}
+use Rattle.asm_text.specs.declared.unit.AsmFault.TheVariants.{NoLabel, Far}
+use Rattle.asm_text.specs.declared.unit.AsmFault.{AsmFault}
+use Rattle.asm_text.specs.declared.unit.SectionKind.TheVariants.{Code as CodeKind, Data as DataKind, Bss as BssKind}
+use Rattle.asm_text.specs.declared.unit.SectionKind.{SectionKind}
 use Rattle.asm_text.specs.Assembly.{names_of, symbol_order, meanings, unit_for, with_emitted, with_stop, with_placed, assembled_source, assembled}
-use Rattle.asm_text.specs.Emission.{Meanings, Emitted, nothing, emitted, emitted_next, emitted_from, bytes_of, with_statement, in_last, grown, opened, reach, is_near, jump_word, jump_over, jump_bytes}
+use Rattle.asm_text.specs.Emission.{Meanings, Emitted, nothing, emitted, emitted_next, emitted_from, bytes_of, field_number, with_statement, in_last, grown, opened, reach, is_near, jump_word, jump_over, jump_bytes}
 use Rattle.asm_text.specs.Emitted.{last_of}
-use Rattle.asm_text.specs.Encoding.{word_bytes}
+use Rattle.asm_text.specs.Encoding.{word_bytes, code_bytes, is_coded}
 use Rattle.asm_text.specs.Jumps.{LeadsToLabel, JumpsReachLabels, LabelsAreEven}
 use Rattle.asm_text.specs.Kept.{IsSource}
 use Rattle.asm_text.specs.Known.{IsKnown}
 use Rattle.asm_text.specs.Parts.{SectionValue, SymbolValue, UnitValue, kept_size}
+use Rattle.asm_text.specs.Places.{StandsAt, Writes, CodeIsWritten, WordsAreWritten}
 use Rattle.asm_text.specs.Placing.{Placed, nowhere, spot_of, last_head, placed, placed_next, placed_from}
 use Rattle.asm_text.specs.Source.{Source, source_of}
 use Rattle.asm_text.specs.Statements.{size_of, takes}
 use Rattle.asm_text.specs.Symbols.{is_global, local_labels, once, once_by, below, order_of, symbol_number, symbol_by, symbol_for, symbols_for}
 use Rattle.asm_text.proofs.EmittingLemmas.{next_place}
-use Rattle.asm_text.proofs.EvenLemmas.{AreEven, IsEvenPlaced, source_even, nowhere_even, even_head, placed_even, all_even}
+use Rattle.asm_text.proofs.EvenLemmas.{AreEven, IsSound, source_sound, IsEvenPlaced, source_even, nowhere_even, even_head, placed_even, all_even}
 use Rattle.asm_text.proofs.JumpLemmas.{jumps_are_meant, jumps_lead}
 use Rattle.asm_text.proofs.KeptLemmas.{source_kept}
 use Rattle.asm_text.proofs.LockLemmas.{Agree, Shape, SomeLast, same_number, last_there, ok_is, IsTaken, taken, agree_more}
+use Rattle.asm_text.proofs.MeaningLemmas.{coded_means}
 use Rattle.asm_text.proofs.OrderLemmas.{length_below, below_at}
 use Rattle.asm_text.proofs.PlacedLemmas.{or_not}
 
@@ -210,17 +214,33 @@ is_jump m n section here cond' target bytes k = by (spot_of m.spots target) refl
     by None is j = absurd cc
     by (Some spot) is j = by_section spot (nat_eq spot.section section) is refl j
 
-takes_code : (kind : SectionKind) (c target : ℕ) → takes kind (Jump c target) ≡ true → kind ≡ CodeKind
-takes_code CodeKind c target e = refl
-takes_code DataKind c target e = absurd cc
-takes_code BssKind c target e = absurd cc
+-- ---- bytes that a line writes
 
--- a section in which a jump was written
-pub record HasJump (m : Meanings) (p : Placed) (f : Emitted) (cond' target : ℕ) : Type 0 where
+-- a statement that no section of zeros takes
+abbrev IsFull : Statement ℕ → Type 0
+IsFull s = (kind : SectionKind) → takes kind s ≡ true → (size : ℕ) → kept_size kind size ≡ size
+
+word_full : (field : Field ℕ) → IsFull (Word field)
+word_full field CodeKind e size = refl
+word_full field DataKind e size = refl
+word_full field BssKind e size = absurd cc
+
+jump_full : (c target : ℕ) → IsFull (Jump c target)
+jump_full c target CodeKind e size = refl
+jump_full c target DataKind e size = absurd cc
+jump_full c target BssKind e size = absurd cc
+
+code_full : (insn : Insn) (a b : Option ℕ) → IsFull (Code insn a b)
+code_full insn a b CodeKind e size = refl
+code_full insn a b DataKind e size = absurd cc
+code_full insn a b BssKind e size = absurd cc
+
+-- a section in which the bytes of a statement were written
+pub record HasBytes (m : Meanings) (n : ℕ) (p : Placed) (f : Emitted) (s : Statement ℕ) : Type 0 where
   pub head : Head
   pub last : last_head p.heads ≡ Some head
   pub bytes : List ℕ
-  pub jump : IsJump m (length p.heads - 1) head.size cond' target bytes
+  pub made : bytes_of m n (length p.heads - 1) head.size s ≡ Ok bytes
   pub home : SectionValue
   pub front : List ℕ
   pub back : List ℕ
@@ -228,32 +248,28 @@ pub record HasJump (m : Meanings) (p : Placed) (f : Emitted) (cond' target : ℕ
   pub whole : home.bytes ≡ (front ++ bytes) ++ back
   pub size : length front ≡ head.size
 
-has_jump : (m : Meanings) (n : ℕ) (e next f : Emitted) (p q : Placed) (c target : ℕ) → Agree m e p → placed n p (Jump c target) ≡ Ok q → emitted m n e (Jump c target) ≡ Ok next
-    → Keeps next.sections f.sections → HasJump m p f c target
-has_jump m n e next f p q c target a places emits keeps =
-    let t = taken n p q (Jump c target) (λ h. refl) places in
+has_bytes : (m : Meanings) (n : ℕ) (e next f : Emitted) (p q : Placed) (s : Statement ℕ) → IsFull s → Agree m e p → IsTaken p q s → in_last m n e (last_of e.sections) s ≡ Ok next → Keeps next.sections f.sections → HasBytes m n p f s
+has_bytes m n e next f p q s full a t emits keeps =
     let there = last_there m e p t.head a t.is in
-    by t there (jump_bytes n (length e.sections - 1) there.last.size c (spot_of m.spots target)) refl (ap (λ o. in_last m n e o (Jump c target)) (sym there.lasts.last_is) ∙ emits)
+    by there (bytes_of m n (length e.sections - 1) there.last.size s) refl (ap (λ o. in_last m n e o s) (sym there.lasts.last_is) ∙ emits)
   where
-    by : (t : IsTaken p q (Jump c target)) (there : SomeLast m e p t.head) (r : Result (List ℕ) AsmFault) → jump_bytes n (length e.sections - 1) there.last.size c (spot_of m.spots target) ≡ r
-        → with_statement m e there.last (Jump c target) r ≡ Ok next → HasJump m p f c target
-    by t there (Err fault) is k = absurd cc
-    by t there (Ok bytes) is k =
+    by : (there : SomeLast m e p t.head) (r : Result (List ℕ) AsmFault) → bytes_of m n (length e.sections - 1) there.last.size s ≡ r → with_statement m e there.last s r ≡ Ok next → HasBytes m n p f s
+    by there (Err fault) is k = absurd cc
+    by there (Ok bytes) is k =
         let number = same_number m e p a in
         let at : length e.sections - 1 ≡ length p.heads - 1 = omega arith in
         let sizes : there.last.size ≡ t.head.size = ap (λ (x : Shape). x.size) there.lasts.same in
         let kinds : there.last.kind ≡ t.head.kind = ap (λ (x : Shape). x.kind) there.lasts.same in
-        let code : there.last.kind ≡ CodeKind = kinds ∙ takes_code t.head.kind c target t.takes_it in
-        let filled : length there.last.bytes ≡ there.last.size = there.lasts.filled ∙ ap (λ kind. kept_size kind there.last.size) code in
-        let sections : set e.sections (length e.sections - 1) (grown there.last 2 bytes) ≡ next.sections = ap (λ (x : Emitted). x.sections) (ok_is _ next k) in
-        let new : slice_get next.sections (length p.heads - 1) ≡ Some (grown there.last 2 bytes) =
-        ap (slice_get next.sections) (sym at) ∙ (ap (λ xs. slice_get xs (length e.sections - 1)) (sym sections) ∙ set_there e.sections (length e.sections - 1) (grown there.last 2 bytes) there.lasts.low) in
-        let kept = keeps (length p.heads - 1) (grown there.last 2 bytes) new in
+        let filled : length there.last.bytes ≡ there.last.size = there.lasts.filled ∙ (ap (λ kind. kept_size kind there.last.size) kinds ∙ full t.head.kind t.takes_it there.last.size) in
+        let sections : set e.sections (length e.sections - 1) (grown there.last (size_of s) bytes) ≡ next.sections = ap (λ (x : Emitted). x.sections) (ok_is _ next k) in
+        let new : slice_get next.sections (length p.heads - 1) ≡ Some (grown there.last (size_of s) bytes) =
+        ap (slice_get next.sections) (sym at) ∙ (ap (λ xs. slice_get xs (length e.sections - 1)) (sym sections) ∙ set_there e.sections (length e.sections - 1) (grown there.last (size_of s) bytes) there.lasts.low) in
+        let kept = keeps (length p.heads - 1) (grown there.last (size_of s) bytes) new in
         record {
           head = t.head;
           last = t.is;
           bytes = bytes;
-          jump = subst (λ k. IsJump m k t.head.size c target bytes) at (subst (λ k. IsJump m (length e.sections - 1) k c target bytes) sizes (is_jump m n (length e.sections - 1) there.last.size c target bytes is));
+          made = ap (λ k. bytes_of m n k t.head.size s) (sym at) ∙ (ap (λ k. bytes_of m n (length e.sections - 1) k s) (sym sizes) ∙ is);
           home = kept.found;
           front = there.last.bytes;
           back = kept.more;
@@ -342,52 +358,99 @@ labels_are_even text u k =
         subst (λ (x : SymbolValue). x.value % 2 ≡ 0) (sym (get_or-map make (symbol_order s p) i 0 d (omega arith)))
         (even_symbol (is_global s.statements name) (slice_index_or s.tables.names name []) (spot_of p.spots name) (λ spot is. even.spots name spot is))
 
--- a word in the midst of bytes
-word_there : (bytes front back : List ℕ) (here word : ℕ) → bytes ≡ (front ++ word_bytes word) ++ back → length front ≡ here → take 2 (drop here bytes) ≡ word_bytes word
-word_there bytes front back here word whole size =
-    ap (λ bs. take 2 (drop here bs)) (whole ∙ append_assoc front (word_bytes word) back)
-    ∙ (ap (take 2) (drop_at front (word_bytes word ++ back) here size) ∙ take_at (word_bytes word) back 2 refl)
+-- bytes in the midst of others
+bytes_there : (all front bytes back : List ℕ) (here : ℕ) → all ≡ (front ++ bytes) ++ back → length front ≡ here → take (length bytes) (drop here all) ≡ bytes
+bytes_there all front bytes back here whole size =
+    ap (λ bs. take (length bytes) (drop here bs)) (whole ∙ append_assoc front bytes back)
+    ∙ (ap (take (length bytes)) (drop_at front (bytes ++ back) here size) ∙ take_at bytes back (length bytes) refl)
+
+-- the places of the statements of an accepted source
+line_of : (s : Source) (u : UnitValue) (a : IsAccepted s u) (number : ℕ) (x : Statement ℕ) → AreEven s.statements → slice_get s.statements number ≡ Some x → IsLine (meanings s a.places) 1 number (nowhere (names_of s)) a.end s.statements x
+line_of s u a number x are is =
+    let none : Agree (meanings s a.places) nothing (nowhere (names_of s)) = record { shapes = refl; filled = λ k d h. absurd (omega (arith, h)) } in
+    at_line (meanings s a.places) 1 number nothing a.end (nowhere (names_of s)) a.places s.statements x none (nowhere_even (names_of s)) are a.goes a.is is
+
+stands_at : (s : Source) (u : UnitValue) (a : IsAccepted s u) (number : ℕ) (x : Statement ℕ) (line : IsLine (meanings s a.places) 1 number (nowhere (names_of s)) a.end s.statements x)
+    (j : HasBytes (meanings s a.places) line.line line.before a.end x) → StandsAt s number (length line.before.heads - 1) j.head.size
+stands_at s u a number x line j =
+    let within : length line.before.heads - 1 < length line.before.heads = slice_get_within line.before.heads (length line.before.heads - 1) j.head j.last in
+    record { before = line.before; placed = line.goes; last = omega arith; size = ap (option_map (λ (h : Head). h.size)) j.last }
 
 reached_by : (s : Source) (u : UnitValue) (number c name : ℕ) (a : IsAccepted s u) → c < 8 → name < names_of s → IsEvenPlaced a.places → (line : IsLine (meanings s a.places) 1 number (nowhere (names_of s)) a.end s.statements (Jump c name))
-    → HasJump (meanings s a.places) line.before a.end c name → LeadsToLabel s u number c name
-reached_by s u number c name a low known even line j =
-    let there : ℕ = j.jump.offset in
-    let here : ℕ = j.head.size in
+    (b : HasBytes (meanings s a.places) line.line line.before a.end (Jump c name)) → IsJump (meanings s a.places) (length line.before.heads - 1) b.head.size c name b.bytes → LeadsToLabel s u number c name
+reached_by s u number c name a low known even line b j =
+    let there : ℕ = j.offset in
+    let here : ℕ = b.head.size in
     let section : ℕ = length line.before.heads - 1 in
-    let within : section < length line.before.heads = slice_get_within line.before.heads section j.head j.last in
     let spot : Spot = record { section = section; offset = there } in
     let make : ℕ → SymbolValue = symbol_for s.statements a.places s.tables.names in
     let label : SymbolValue = symbol_by (is_global s.statements name) (slice_index_or s.tables.names name []) (Some spot) in
-    let is : make name ≡ label = ap (symbol_by (is_global s.statements name) (slice_index_or s.tables.names name [])) j.jump.spot in
+    let is : make name ≡ label = ap (symbol_by (is_global s.statements name) (slice_index_or s.tables.names name [])) j.spot in
     let has : Contains (symbols_for s.statements a.places s.tables.names (symbol_order s a.places)) (make name) = map_has make (symbol_order s a.places) name (order_has s.statements a.places (names_of s) name known) in
     record {
       section = section;
       here = here;
       word = jump_word c (reach here there);
       offset = reach here there;
-      home = j.home;
+      home = b.home;
       label = label;
-      stands = record { before = line.before; placed = line.goes; last = omega arith; size = ap (option_map (λ (h : Head). h.size)) j.last };
-      given = ap (λ (v : UnitValue). slice_get v.sections section) (sym a.unit) ∙ j.given;
-      holds = word_there j.home.bytes j.front j.back here (jump_word c (reach here there)) (j.whole ∙ ap (λ bs. (j.front ++ bs) ++ j.back) j.jump.are) j.size;
-      means = λ w1 w2. jumps_are_meant c w1 w2 (reach here there) low j.jump.near;
+      stands = stands_at s u a number (Jump c name) line b;
+      given = ap (λ (v : UnitValue). slice_get v.sections section) (sym a.unit) ∙ b.given;
+      holds = bytes_there b.home.bytes b.front (word_bytes (jump_word c (reach here there))) b.back here (b.whole ∙ ap (λ bs. (b.front ++ bs) ++ b.back) j.are) b.size;
+      means = λ w1 w2. jumps_are_meant c w1 w2 (reach here there) low j.near;
       symbol = subst (λ (v : UnitValue). Contains v.symbols label) a.unit (subst (Contains (symbols_for s.statements a.places s.tables.names (symbol_order s a.places))) is has);
       named = refl;
       beside = refl;
-      reached = sym (jumps_lead here there (even_head line.before j.head line.even j.last) (even.spots name spot j.jump.spot));
+      reached = sym (jumps_lead here there (even_head line.before b.head line.even b.last) (even.spots name spot j.spot));
     }
 
 leads : (s : Source) (u : UnitValue) (number c name : ℕ) → IsSource s → AreEven s.statements → IsAccepted s u → slice_get s.statements number ≡ Some (Jump c name) → LeadsToLabel s u number c name
 leads s u number c name kept are a is =
     let m : Meanings = meanings s a.places in
-    let none : Agree m nothing (nowhere (names_of s)) = record { shapes = refl; filled = λ k d h. absurd (omega (arith, h)) } in
-    let line = at_line m 1 number nothing a.end (nowhere (names_of s)) a.places s.statements (Jump c name) none (nowhere_even (names_of s)) are a.goes a.is is in
-    let j = has_jump m line.line line.written line.next a.end line.before line.after c name line.agree line.places line.emits line.keeps in
+    let line = line_of s u a number (Jump c name) are is in
+    let b = has_bytes m line.line line.written line.next a.end line.before line.after (Jump c name) (jump_full c name) line.agree (taken line.line line.before line.after (Jump c name) (λ h. refl) line.places) line.emits line.keeps in
+    let j = is_jump m line.line (length line.before.heads - 1) b.head.size c name b.bytes b.made in
     let even = all_even 1 (nowhere (names_of s)) a.places s.statements (nowhere_even (names_of s)) are a.goes in
     let low : number < length s.statements = slice_get_within s.statements number (Jump c name) is in
     let same : get_or s.statements number (Jump c name) ≡ Jump c name = get_or_from_slice_get s.statements number (Jump c name) (Jump c name) is in
     let known : IsKnown (names_of s) (Jump c name) = subst (IsKnown (names_of s)) same (kept.known number (Jump c name) low) in
-    reached_by s u number c name a known.0 known.1 even line j
+    reached_by s u number c name a known.0 known.1 even line b j
+
+-- what is written of a statement whose bytes no meaning changes
+written : (s : Source) (u : UnitValue) (a : IsAccepted s u) (number : ℕ) (x : Statement ℕ) (wanted : List ℕ) (line : IsLine (meanings s a.places) 1 number (nowhere (names_of s)) a.end s.statements x)
+    (b : HasBytes (meanings s a.places) line.line line.before a.end x) → b.bytes ≡ wanted → Writes s u number wanted
+written s u a number x wanted line b same =
+    let section : ℕ = length line.before.heads - 1 in
+    record {
+      section = section;
+      here = b.head.size;
+      home = b.home;
+      stands = stands_at s u a number x line b;
+      given = ap (λ (v : UnitValue). slice_get v.sections section) (sym a.unit) ∙ b.given;
+      holds = bytes_there b.home.bytes b.front wanted b.back b.head.size (b.whole ∙ ap (λ bs. (b.front ++ bs) ++ b.back) same) b.size;
+    }
+
+pub code_is_written : CodeIsWritten
+unfolding assembled
+code_is_written text u k number insn first second is =
+    let s : Source = source_of text in
+    let x : Statement ℕ = Code insn first second in
+    let a = accepted s u k in
+    let line = line_of s u a number x (source_even text) is in
+    let b = has_bytes (meanings s a.places) line.line line.written line.next a.end line.before line.after x (code_full insn first second) line.agree (taken line.line line.before line.after x (λ h. refl) line.places) line.emits line.keeps in
+    let low : number < length s.statements = slice_get_within s.statements number x is in
+    let sound : is_coded insn ≡ true = subst IsSound (get_or_from_slice_get s.statements number x x is) (source_sound text number x low) in
+    (written s u a number x (code_bytes insn) line b (sym (ok_is _ b.bytes b.made)), coded_means insn sound)
+
+pub words_are_written : WordsAreWritten
+unfolding assembled
+words_are_written text u k number field is =
+    let s : Source = source_of text in
+    let x : Statement ℕ = Word field in
+    let a = accepted s u k in
+    let line = line_of s u a number x (source_even text) is in
+    let b = has_bytes (meanings s a.places) line.line line.written line.next a.end line.before line.after x (word_full field) line.agree (taken line.line line.before line.after x (λ h. refl) line.places) line.emits line.keeps in
+    written s u a number x (word_bytes (field_number field)) line b (sym (ok_is _ b.bytes b.made))
 
 pub jumps_reach_labels : JumpsReachLabels
 unfolding assembled

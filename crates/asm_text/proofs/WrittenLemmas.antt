@@ -41,7 +41,7 @@ IsWritten (Global name) = is_name name ≡ true
 IsWritten (Word field) = NamedField field
 IsWritten (Space size) = (size ≤ MAX_SIZE) × (size % 2 ≡ 0)
 IsWritten (Jump cond target) = (cond < 8) × (is_name target ≡ true)
-IsWritten (Code insn first second) = NamedOption first × NamedOption second
+IsWritten (Code insn first second) = NamedOption first × NamedOption second × (is_coded insn ≡ true)
 
 some_is : {A : Type 0} (a b : A) → Some a ≡ Some b → a ≡ b
 some_is a b e = cc
@@ -138,11 +138,11 @@ operand_some (b ∷ text) v e = by (nat_eq b 114) (nat_eq b 35) (nat_eq b 38) (n
 -- ---- statements
 
 coded_some : (insn : Insn) (a b : Option (List ℕ)) (s : Statement (List ℕ)) → NamedOption a → NamedOption b → coded insn a b ≡ Some s → IsWritten s
-coded_some insn a b s x y e = by (is_coded insn) e
+coded_some insn a b s x y e = by (is_coded insn) refl e
   where
-    by : (c : Bool) → cond c (Some (Code insn a b)) None ≡ Some s → IsWritten s
-    by true k = subst IsWritten (some_is (Code insn a b) s k) (x, y)
-    by false k = absurd cc
+    by : (c : Bool) → is_coded insn ≡ c → cond c (Some (Code insn a b)) None ≡ Some s → IsWritten s
+    by true is k = subst IsWritten (some_is (Code insn a b) s k) (x, y, is)
+    by false is k = absurd cc
 
 one_some : (w : Width) (op : Option OneOp) (text : List ℕ) (s : Statement (List ℕ)) → one_coded w op (operand_of text) ≡ Some s → IsWritten s
 one_some w op text s e = by op (operand_of text) refl e
@@ -195,11 +195,14 @@ space_some text s e = by (read_decimal MAX_SIZE text) refl e
     by None is k = absurd cc
 
 unit_some : (text : List ℕ) (s : Statement (List ℕ)) → unit_of text ≡ Some s → IsWritten s
-unit_some text s e = by (read_decimal 6 text) e
+unit_some text s e = by (read_decimal 6 text) refl e
   where
-    by : (o : Option ℕ) → option_map (λ n. Code (UnitOp n) None None) o ≡ Some s → IsWritten s
-    by (Some n) k = subst IsWritten (some_is (Code (UnitOp n) None None) s k) (tt, tt)
-    by None k = absurd cc
+    low : (n : ℕ) → n ≤ 6 → is_coded (UnitOp n) ≡ true
+    low n most = grind (arith, nat_tests)
+
+    by : (o : Option ℕ) → read_decimal 6 text ≡ o → option_map (λ n. Code (UnitOp n) None None) o ≡ Some s → IsWritten s
+    by (Some n) is k = subst IsWritten (some_is (Code (UnitOp n) None None) s k) (tt, tt, low n ((decimals_are_read 6 (lit< tt) text n).0 is).0)
+    by None is k = absurd cc
 
 cond_low : (word : List ℕ) (c : ℕ) → cond_of word ≡ Some c → c < 8
 cond_low word c e =
@@ -261,7 +264,7 @@ alone_some : (word : List ℕ) (s : Statement (List ℕ)) → alone word ≡ Som
 alone_some word s e = by (bytes_eq word (codes "reti")) e
   where
     by : (c : Bool) → cond c (Some (Code Reti None None)) None ≡ Some s → IsWritten s
-    by true k = subst IsWritten (some_is (Code Reti None None) s k) (tt, tt)
+    by true k = subst IsWritten (some_is (Code Reti None None) s k) (tt, tt, refl)
     by false k = absurd cc
 
 pub statement_some : (line : List ℕ) (s : Statement (List ℕ)) → statement_of line ≡ Some s → IsWritten s

@@ -1,26 +1,19 @@
 -- Where the jumps of an accepted source lead.
-use Rattle.std.specs.Prelude.{ℕ, ◌≡◌, ◌+◌, ◌-◌, ◌*◌, ◌%◌, ◌≤◌, List, [], length, take, drop, slice_get, slice_index_or, Some, Ok, option_map, All, Contains, ℤ, pos, negsuc}
+use Rattle.std.specs.Prelude.{ℕ, ◌≡◌, ◌+◌, ◌-◌, ◌*◌, ◌%◌, ◌≤◌, List, [], length, take, drop, slice_get, slice_index_or, Some, Ok, All, Contains, ℤ, pos, negsuc}
 use Rattle.insn_decode.specs.declared.insn.Insn.TheVariants.{Jump as JumpInsn}
 use Rattle.insn_decode.specs.Code.{insn_of}
 use Rattle.asm_text.specs.declared.TheConstants.{MAX_SOURCE}
 use Rattle.asm_text.specs.declared.statement.Statement.TheVariants.{Jump}
-use Rattle.asm_text.specs.Assembly.{names_of, assembled}
+use Rattle.asm_text.specs.Assembly.{assembled}
 use Rattle.asm_text.specs.Encoding.{word_bytes}
 use Rattle.asm_text.specs.Parts.{SectionValue, SymbolValue, UnitValue}
-use Rattle.asm_text.specs.Placing.{Placed, nowhere, last_head, placed_from}
+use Rattle.asm_text.specs.Places.{StandsAt}
 use Rattle.asm_text.specs.Source.{Source, source_of}
 
 -- where a jump at this place leads
 abbrev pub target_of : ℕ → ℤ → ℕ
 target_of here (pos n) = here + 2 + 2 * n
 target_of here (negsuc n) = here + 2 - 2 * (n + 1)
-
--- the statement of this number stands at the end of the last section of those before it
-pub record StandsAt (s : Source) (number section here : ℕ) : Type 0 where
-  pub before : Placed
-  pub placed : placed_from 1 (nowhere (names_of s)) (take number s.statements) ≡ Ok before
-  pub last : section + 1 ≡ length before.heads
-  pub size : option_map (λ h. h.size) (last_head before.heads) ≡ Some here
 
 -- The word at the statement's place in the unit means a jump, which leads to the symbol of this name in the same section.
 pub record LeadsToLabel (s : Source) (u : UnitValue) (number cond name : ℕ) : Type 0 where

@@ -18,5 +18,6 @@ pub mod Emitted
 pub mod Numbering
 pub mod Assembly
 pub mod Kept
+pub mod Places
 pub mod Jumps
 pub mod Laws

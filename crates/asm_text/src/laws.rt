@@ -1,6 +1,7 @@
 //! The laws of the assembler, each the contract of a function that does nothing.
 ghost use Rattle.asm_text.specs.Jumps.{JumpsReachLabels, LabelsAreEven};
 ghost use Rattle.asm_text.specs.Laws.{CodedIsMeant, JumpsAreMeant, JumpsLead, ShownIsRead, WordsComeBack};
+ghost use Rattle.asm_text.specs.Places.{CodeIsWritten, WordsAreWritten};
 
 /// The words of each instruction that a line may write mean that instruction, with 0 for names; the word of a jump
 /// means that jump, which leads from its place to that of its label.
@@ -23,4 +24,11 @@ pub fn shown_is_read()
 pub fn jumps_reach_labels()
     ensures jumps { JumpsReachLabels }
     ensures even { LabelsAreEven }
+{}
+
+/// Each instruction of a source that is accepted has its words at its place in the unit, which is the end of what was
+/// written before it in its section, with 0 for names, and they mean it; each `word` has its number there.
+pub fn lines_are_written()
+    ensures code { CodeIsWritten }
+    ensures words { WordsAreWritten }
 {}

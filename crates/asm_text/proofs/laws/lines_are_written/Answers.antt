@@ -1,0 +1,5 @@
+use Rattle.asm_text.proofs.ReachLemmas.{code_is_written, words_are_written}
+use Rattle.asm_text.proofs.laws.lines_are_written.Goals as goal
+
+pub returns : goal.returns
+returns c = record { code = code_is_written; words = words_are_written }
