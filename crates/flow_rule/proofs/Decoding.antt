@@ -26,10 +26,6 @@ Good o = (s : Operand) → o ≡ Some s → Regular s
 abbrev Fine : Option Insn → Type 0
 Fine o = (i : Insn) → o ≡ Some i → RegularInsn i
 
-good_if : (c : Bool) (a b : Option Operand) → Good a → (c ≡ false → Good b) → Good (cond c a b)
-good_if true a b h k = h
-good_if false a b h k = k refl
-
 good_none : Good None
 good_none s e = absurd cc
 

@@ -35,18 +35,6 @@ other_length form line ne = by (has_form form line) refl
     by true e = absurd (ne (form_length form line e))
     by false e = e
 
--- past a place whose digit is not bad
-pub bad_step : (form line : List ℕ) (i at : ℕ) → i < length form → i < length line → is_bad (get_or form i 0) (get_or line i 0) ≡ false
-    → bad_digit (drop i form) (drop i line) (at + i) ≡ bad_digit (drop (i + 1) form) (drop (i + 1) line) (at + (i + 1))
-bad_step form line i at f l e =
-    let next : at + i + 1 ≡ at + suc i = omega arith in
-    rw (add-one, drop-cons form i 0, drop-cons line i 0, e, next) refl
-
--- at a place whose digit is bad
-pub bad_here : (form line : List ℕ) (i at : ℕ) → i < length form → i < length line → is_bad (get_or form i 0) (get_or line i 0) ≡ true
-    → bad_digit (drop i form) (drop i line) (at + i) ≡ Some (at + i)
-bad_here form line i at f l e = rw (drop-cons form i 0, drop-cons line i 0, e) refl
-
 -- whether a digit is bad does not hang on where the line begins
 bad_none : (form line : List ℕ) (at from : ℕ) → bad_digit form line at ≡ None → bad_digit form line from ≡ None
 bad_none [] line at from e = refl
@@ -63,12 +51,6 @@ has_form_of form line at e f = record { formed = e; digits = λ from. bad_none f
 -- a line of the form leaves what comes after
 pub formed_ok : (form : List ℕ) (s : Spot) (line : List ℕ) (rest : Option ImageFault) → HasForm form line → formed form s line rest ≡ rest
 formed_ok form s line rest h = rw (h.formed, h.digits s.at) refl
-
-pub formed_not : (form : List ℕ) (s : Spot) (line : List ℕ) (rest : Option ImageFault) → has_form form line ≡ false → formed form s line rest ≡ Some (Line s.number)
-formed_not form s line rest e = rw e refl
-
-pub formed_bad : (form : List ℕ) (s : Spot) (line : List ℕ) (at : ℕ) (rest : Option ImageFault) → has_form form line ≡ true → bad_digit form line s.at ≡ Some at → formed form s line rest ≡ Some (Digit at)
-formed_bad form s line at rest e f = rw (e, f) refl
 
 -- ---- the parts of a line
 

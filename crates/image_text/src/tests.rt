@@ -56,6 +56,20 @@ fn refusal(alloc: Global, text: &[u8]) -> Option<ImageFault> {
     }
 }
 
+// The text with a piece replaced is refused, each by its fault.
+fn assert_refused(
+    rt: &impl Abort,
+    alloc: Global,
+    text: &[u8],
+    cases: &[(&str, &str, ImageFault)],
+) -> Result<(), Fail> {
+    for &(find, put, fault) in cases {
+        let edited = edited(alloc, text, find, put)?;
+        assert_eq!(rt; refusal(alloc, &edited), Some(fault), "at {put}");
+    }
+    Ok(())
+}
+
 fn line(n: u64) -> ImageFault {
     ImageFault::Line { n }
 }
@@ -157,11 +171,7 @@ fn first_lines_are_refused(rt: HostRuntime) -> Result<(), Fail> {
         ("handler 0600\n", "handler 0600\n\n", line(4)),
         ("handler 0600\n", "handler 0600\nmodules 2\n", line(4)),
     ];
-    for (find, put, fault) in cases {
-        let text = edited(rt.alloc(), MODULES_ONE, find, put)?;
-        assert_eq!(rt; refusal(rt.alloc(), &text), Some(fault), "at {put}");
-    }
-    Ok(())
+    assert_refused(&rt, rt.alloc(), MODULES_ONE, &cases)
 }
 
 #[test]
@@ -192,11 +202,7 @@ fn modules_are_refused(rt: HostRuntime) -> Result<(), Fail> {
             line(7),
         ),
     ];
-    for (find, put, fault) in cases {
-        let text = edited(rt.alloc(), MODULES_ONE, find, put)?;
-        assert_eq!(rt; refusal(rt.alloc(), &text), Some(fault), "at {put}");
-    }
-    Ok(())
+    assert_refused(&rt, rt.alloc(), MODULES_ONE, &cases)
 }
 
 #[test]
@@ -223,11 +229,7 @@ fn rows_are_refused(rt: HostRuntime) -> Result<(), Fail> {
         ("end\n", "end\n\n", line(10)),
         ("end\n", "end\nx", line(10)),
     ];
-    for (find, put, fault) in cases {
-        let text = edited(rt.alloc(), MODULES_ONE, find, put)?;
-        assert_eq!(rt; refusal(rt.alloc(), &text), Some(fault), "at {put}");
-    }
-    Ok(())
+    assert_refused(&rt, rt.alloc(), MODULES_ONE, &cases)
 }
 
 #[test]
@@ -243,10 +245,7 @@ fn counts_are_refused(rt: HostRuntime) -> Result<(), Fail> {
         ("modules 2", "modules 1", line(6)),
         ("module ffff", "module fffG", digit(117)),
     ];
-    for (find, put, fault) in cases {
-        let text = edited(rt.alloc(), MODULES_TWO, find, put)?;
-        assert_eq!(rt; refusal(rt.alloc(), &text), Some(fault), "at {put}");
-    }
+    assert_refused(&rt, rt.alloc(), MODULES_TWO, &cases)?;
     let text = edited(rt.alloc(), EMPTY_ONE, "image 1", "image 2")?;
     assert_eq!(rt; refusal(rt.alloc(), &text), Some(line(4)));
     let text = edited(rt.alloc(), EMPTY_ONE, "image 1\n", "image 3")?;

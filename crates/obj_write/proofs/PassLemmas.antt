@@ -10,11 +10,6 @@ unfolding each_below
 each_below_same f g zero same = refl
 each_below_same f g (suc n) same = rw (each_below_same f g n (λ k lt. same k (omega arith)), same n (omega arith)) refl
 
-pub all_below_same : {A : Type 0} (f g : ℕ → List A) (n : ℕ) → ((k : ℕ) → k < n → f k ≡ g k) → all_below f n ≡ all_below g n
-unfolding all_below
-all_below_same f g zero same = refl
-all_below_same f g (suc n) same = rw (all_below_same f g n (λ k lt. same k (omega arith)), same n (omega arith)) refl
-
 -- what a function gives of each value, joined
 pub flat_map_each : {A B : Type 0} (f : A → List B) (g : ℕ → A) (n : ℕ) → flat_map f (each_below g n) ≡ all_below (λ k. f (g k)) n
 unfolding each_below all_below

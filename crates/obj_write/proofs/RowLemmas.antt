@@ -34,10 +34,3 @@ row_is = record {
       (All-cons (λ b. here_value.name ≢ b.name) main_value [] apart (All-nil (λ b. here_value.name ≢ b.name)))
       (AllPairs-cons (λ (a b : SymbolValue). a.name ≢ b.name) main_value [] (All-nil (λ b. main_value.name ≢ b.name)) (no_pairs (λ a b. a.name ≢ b.name)));
 }
-
-pub row_unit : (sections : List SectionValue) (symbols : List SymbolValue) (relocations : List AsmRelocation) → sections ≡ text_value ∷ [] → symbols ≡ here_value ∷ (main_value ∷ []) → relocations ≡ []
-    → IsUnit (record { sections = sections; symbols = symbols; relocations = relocations })
-row_unit sections symbols relocations e f g =
-    subst (λ (l : List SectionValue). IsUnit (record { sections = l; symbols = symbols; relocations = relocations })) (sym e)
-    (subst (λ (l : List SymbolValue). IsUnit (record { sections = text_value ∷ []; symbols = l; relocations = relocations })) (sym f)
-    (subst (λ (l : List AsmRelocation). IsUnit (record { sections = text_value ∷ []; symbols = here_value ∷ (main_value ∷ []); relocations = l })) (sym g) row_is))

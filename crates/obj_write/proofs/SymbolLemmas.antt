@@ -16,22 +16,6 @@ use Rattle.obj_write.specs.Bytes.{zeros}
 use Rattle.obj_write.specs.Strings.{name_at, IsTableOf}
 use Rattle.obj_write.specs.Symbols.{no_symbol, symbol_entry, symbol_entry_at, symbol_names, symbol_table, first_global}
 
--- one name more
-pub symbol_names_more : (xs : List AsmSymbol) (i : ℕ) (x : AsmSymbol) → i < length xs → x ≡ get_or xs i x
-    → symbol_names (map symbol_of (take (i + 1) xs)) ≡ symbol_names (map symbol_of (take i xs)) ++ string_bytes x.name ∷ []
-symbol_names_more xs i x lt is =
-    ap symbol_names (map_more symbol_of xs i x lt)
-    ∙ (map_push (λ (s : SymbolValue). s.name) (map symbol_of (take i xs)) (symbol_of (get_or xs i x))
-    ∙ ap (λ (y : AsmSymbol). symbol_names (map symbol_of (take i xs)) ++ string_bytes y.name ∷ []) (sym is))
-
--- the table with one name more
-pub symbol_name_added : (xs : List AsmSymbol) (i : ℕ) (x : AsmSymbol) (new : Strings) → i < length xs → x ≡ get_or xs i x
-    → IsTableOf (symbol_names (map symbol_of (take i xs)) ++ (string_bytes x.name ++ []) ∷ []) new
-    → IsTableOf (symbol_names (map symbol_of (take (i + 1) xs))) new
-symbol_name_added xs i x new lt is table =
-    subst (λ (names : List (List ℕ)). IsTableOf names new)
-    (ap (λ (n : List ℕ). symbol_names (map symbol_of (take i xs)) ++ n ∷ []) (append-nil (string_bytes x.name)) ∙ sym (symbol_names_more xs i x lt is)) table
-
 entry_at_is : (xs : List AsmSymbol) (i name : ℕ) (x : AsmSymbol) → i < length xs → x ≡ get_or xs i x → name ≡ name_at (symbol_names (map symbol_of xs)) i
     → symbol_entry name (symbol_of x) ≡ symbol_entry_at (map symbol_of xs) i
 unfolding symbol_entry_at
