@@ -2,3 +2,4 @@ pub mod PassLemmas
 pub mod PlaceLemmas
 pub mod ObjectLemmas
 pub mod LawLemmas
+pub mod ZeroLemmas

@@ -1,6 +1,7 @@
 -- Names in a string table (TIS ELF 1.2, "String Table"), and the sections with theirs.
-use Rattle.std.specs.Prelude.{◌≡◌, ℕ, ◌+◌, List, drop, slice_index_or, ◌==◌, Option, None, is_none, unwrap_or}
+use Rattle.std.specs.Prelude.{◌≡◌, ℕ, ◌+◌, List, [], ◌∷◌, drop, ◌==◌, nat_lt, if◌then◌else◌, Option, Some, None, is_none, unwrap_or}
 use Rattle.std.specs.List.{position_from}
+use Rattle.std.specs.List.Sorted.{IsNonDecreasing}
 use Rattle.elf_objects.specs.declared.fault.ElfFault.{ElfFault}
 use Rattle.elf_objects.specs.declared.fault.ElfFault.TheVariants as fault
 use Rattle.elf_objects.specs.declared.section.Header.{Header}
@@ -49,11 +50,13 @@ section_of file i = let h = header_of file i in record {
 unfoldable pub sections_of : List ℕ → List SectionHead
 sections_of file = each_below (section_of file) (section_count file)
 
--- where the name at each offset ends
-abbrev pub AreEnds : List ℕ → List (Option ℕ) → Type 0
-AreEnds bytes ends = (k : ℕ) → slice_index_or ends k None ≡ end_in bytes k
+-- the first of these that is not below
+abbrev pub first_from : List ℕ → ℕ → Option ℕ
+first_from [] offset = None
+first_from (z ∷ zs) offset = if nat_lt z offset then first_from zs offset else Some z
 
--- the names of this string table
+-- the zeros of this string table
 pub record AreNames (file : List ℕ) (strings : Header) (names : Names) : Type 0 where
   pub start : names.start ≡ strings.offset
-  pub ends : (k : ℕ) → slice_index_or names.ends.items k None ≡ name_end file strings k
+  pub rises : IsNonDecreasing names.zeros.items
+  pub ends : (k : ℕ) → first_from names.zeros.items k ≡ name_end file strings k

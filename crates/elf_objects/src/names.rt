@@ -1,64 +1,78 @@
 //! Names in a string table, and the sections with theirs.
 
-ghost use Rattle.std.specs.Prelude.{◌≡◌, ◌<◌, ◌+◌, ◌^◌, length, IfOk, IfErr, OnOk, slice_index_or, None, unwrap_or};
+ghost use Rattle.std.specs.Prelude.{◌≡◌, ◌<◌, ◌≤◌, ◌+◌, ◌^◌, length, IfOk, IfErr, OnOk, None, unwrap_or};
+ghost use Rattle.std.specs.List.Sorted.{IsNonDecreasing, IsPartitionPoint};
+ghost use Rattle.memchr.specs.Find.{is_byte, places};
 ghost use Rattle.elf_objects.specs.Passes.{IsFaultOf};
-ghost use Rattle.elf_objects.specs.Names.{AreEnds, AreNames, section_names, name_fault, name_faults, section_of, sections_of};
+ghost use Rattle.elf_objects.specs.Names.{AreNames, first_from, section_names, name_fault, name_faults, section_of, sections_of};
 
 use crate::fault::ElfFault;
 use crate::header::{name_table, section_count};
 use crate::object::{SectionHead, Span};
 use crate::passes::{first_below, refuse, refuse_if};
 use crate::section::{Header, header_of};
+use memchr::memchr_iter;
 use std::alloc::{AllocError, Global};
 
-/// Where the name at each offset of a string table ends, if it does.
+/// Where the names of a string table end: the offsets of its zeros, in rising order.
 #[derive(Drop)]
 pub struct Names {
     start: u32,
-    ends: Vec<Option<u32>>,
+    zeros: Vec<u32>,
 }
 
-// Where the name at each offset ends, from the last offset on: at the first 0 from there.
-fn ends_in(alloc: Global, bytes: &[u8]) -> Result<Vec<Option<u32>>, AllocError>
+fn zeros_in(alloc: Global, bytes: &[u8]) -> Result<Vec<u32>, AllocError>
     requires { length bytes.now < 2 ^ 32 }
-    ensures { IfOk result (λ v. AreEnds bytes.now v.items) }
+    ensures { IfOk result (λ v. v.items ≡ places (is_byte 0) bytes.now) }
 {
-    let mut ends = vec![in alloc; None; bytes.len()]?;
-    let mut next = None;
-    for k in (0..bytes.len()).rev() {
-        if bytes[k] == 0 {
-            next = Some(k as u32);
-        }
-        ends[k] = next;
+    let mut zeros = Vec::new(alloc);
+    for place in memchr_iter(0, bytes) {
+        zeros.push(place as u32)?;
     }
-    Ok(ends)
+    Ok(zeros)
+}
+
+// How many of them are below an offset.
+fn count_below(zeros: &[u32], offset: u32) -> usize
+    requires { IsNonDecreasing zeros.now }
+    ensures { IsPartitionPoint (λ zero. zero < offset) (λ zero. offset ≤ zero) zeros.now result }
+{
+    zeros.partition_point(|zero| *zero < offset)
+}
+
+// The first one that is not below an offset.
+fn first_from(zeros: &[u32], offset: u32) -> Option<u32>
+    requires { IsNonDecreasing zeros.now }
+    ensures { result ≡ first_from zeros.now offset }
+{
+    zeros.get(count_below(zeros, offset)).copied()
 }
 
 impl Names {
-    #[tactic(auto, unfolding(crate::specs::Names::name_end))]
+    #[tactic(auto, using(crate::proofs::ZeroLemmas::rises, crate::proofs::ZeroLemmas::ends), unfolding(crate::specs::Names::name_end))]
     pub fn of(alloc: Global, file: &[u8], strings: &Header) -> Result<Names, AllocError>
         ensures { IfOk result (AreNames file.now strings.now) }
     {
-        let ends = ends_in(alloc, strings.content(file))?;
+        let zeros = zeros_in(alloc, strings.content(file))?;
         Ok(Names {
             start: strings.offset,
-            ends,
+            zeros,
         })
     }
 
+    /// Where the name at an offset ends, if it does: at the first 0 from there on.
     pub fn end(&self, offset: u32) -> Option<u32>
-        ensures { result ≡ slice_index_or self.now.ends.items offset None }
+        requires { IsNonDecreasing self.now.zeros.items }
+        ensures { result ≡ first_from self.now.zeros.items offset }
     {
-        match self.ends.get(offset as usize) {
-            Some(end) => *end,
-            None => None,
-        }
+        first_from(&self.zeros, offset)
     }
 
     /// The name's place in the file.
     pub fn span(&self, offset: u32) -> Span
+        requires { IsNonDecreasing self.now.zeros.items }
         ensures start { result.start ≡ self.now.start + offset }
-        ensures end { result.end ≡ self.now.start + unwrap_or (slice_index_or self.now.ends.items offset None) offset }
+        ensures end { result.end ≡ self.now.start + unwrap_or (first_from self.now.zeros.items offset) offset }
     {
         let start = self.start as usize;
         Span {

@@ -1,0 +1,98 @@
+-- The zeros of a string table, and the first one from an offset on.
+use Rattle.std.proofs.Common.{◌≡◌, ℕ, zero, suc, ◌+◌, ◌-◌, ◌<◌, ◌≤◌, List, [], ◌∷◌, drop, length, get_or, Option, Some, None, Bool, true, false, cond, refl, ap, sym, ◌∙◌, ◌⊎◌, inl, inr, arith, add-one, All}
+use Rattle.std.specs.Prelude.{slice_get, slice_index, nat_lt}
+use Rattle.std.specs.List.{position_from}
+use Rattle.std.specs.List.Sorted.{IsNonDecreasing, IsPartitionPoint}
+use Rattle.std.proofs.lemmas.Bool.{cases_lt}
+use Rattle.std.proofs.lemmas.Bool.Decides.{nat_tests}
+use Rattle.std.proofs.Math.Seq.{drop-cons}
+use Rattle.std.proofs.Math.ListN.{drop_of_length-le}
+use Rattle.memchr.specs.Find.{is_byte, places_from, places}
+use Rattle.elf_objects.specs.Names.{end_in, first_from}
+
+below_by : (z offset : ℕ) (b : Bool) → nat_lt z offset ≡ b → z < offset → b ≡ true
+below_by z offset true q h = refl
+below_by z offset false q h = grind (arith, nat_tests)
+
+below : (z offset : ℕ) → z < offset → nat_lt z offset ≡ true
+below z offset h = below_by z offset (nat_lt z offset) refl h
+
+not_below_by : (z offset : ℕ) (b : Bool) → nat_lt z offset ≡ b → offset ≤ z → b ≡ false
+not_below_by z offset true q h = grind (arith, nat_tests)
+not_below_by z offset false q h = refl
+
+not_below : (z offset : ℕ) → offset ≤ z → nat_lt z offset ≡ false
+not_below z offset h = not_below_by z offset (nat_lt z offset) refl h
+
+-- where a search ends stands the first that is not below
+pub found_by : (zs : List ℕ) (p offset : ℕ) → IsPartitionPoint (λ z. z < offset) (λ z. offset ≤ z) zs p → slice_get zs p ≡ first_from zs offset
+found_by [] p offset h = refl
+found_by (z ∷ zs) zero offset h = rw (not_below z offset (h.1 0 z (omega arith) (omega arith))) refl
+found_by (z ∷ zs) (suc p) offset h =
+    rw (below z offset (h.0 0 z (omega arith) (omega arith)))
+    (found_by zs p offset (λ k d l m. h.0 (suc k) d (omega arith) (omega arith), λ k d l m. h.1 (suc k) d (omega arith) (omega arith)))
+
+-- ---- the zeros of some bytes
+
+front_by : (i k : ℕ) (later : List ℕ) (rest : Option ℕ) (b : Bool) → k ≤ i → first_from later k ≡ rest → first_from (cond b (i ∷ later) later) k ≡ cond b (Some i) rest
+front_by i k later rest true h e = rw (not_below i k h) refl
+front_by i k later rest false h e = e
+
+from_here : (hay : List ℕ) (i n k : ℕ) → k ≤ i → i + n ≡ length hay → first_from (places_from (is_byte 0) hay i n) k ≡ position_from (is_byte 0) i (drop i hay)
+unfolding places_from
+from_here hay i zero k h e = sym (ap (position_from (is_byte 0) i) (drop_of_length-le hay (omega arith)))
+from_here hay i (suc n) k h e =
+    rw (drop-cons hay i 0 (omega arith), add-one i)
+    (front_by i k (places_from (is_byte 0) hay (suc i) n) (position_from (is_byte 0) (suc i) (drop (suc i) hay)) (is_byte 0 (slice_index hay i)) h
+      (from_here hay (suc i) n k (omega arith) (omega arith)))
+
+skip_by : (i k : ℕ) (later : List ℕ) (b : Bool) → i < k → first_from (cond b (i ∷ later) later) k ≡ first_from later k
+skip_by i k later true h = rw (below i k h) refl
+skip_by i k later false h = refl
+
+from_by : (hay : List ℕ) (i n k : ℕ) → (i < k) ⊎ (k ≤ i) → i ≤ k → i + suc n ≡ length hay →
+    (i + 1 ≤ k → first_from (places_from (is_byte 0) hay (i + 1) n) k ≡ position_from (is_byte 0) k (drop k hay)) →
+    first_from (places_from (is_byte 0) hay i (suc n)) k ≡ position_from (is_byte 0) k (drop k hay)
+unfolding places_from
+from_by hay i n k (inl lt) h e rest = skip_by i k (places_from (is_byte 0) hay (i + 1) n) (is_byte 0 (slice_index hay i)) lt ∙ rest (omega arith)
+from_by hay i n k (inr le) h e rest =
+    let same : i ≡ k = omega arith in
+    from_here hay i (suc n) k le e ∙ ap (λ (j : ℕ). position_from (is_byte 0) j (drop j hay)) same
+
+from : (hay : List ℕ) (i n k : ℕ) → i ≤ k → i + n ≡ length hay → first_from (places_from (is_byte 0) hay i n) k ≡ position_from (is_byte 0) k (drop k hay)
+unfolding places_from
+from hay i zero k h e = sym (ap (position_from (is_byte 0) k) (drop_of_length-le hay (omega arith)))
+from hay i (suc n) k h e = from_by hay i n k (cases_lt i k) h e (λ l. from hay (i + 1) n k l (omega arith))
+
+-- the first one from an offset on is where the name there ends
+pub ends : (bytes : List ℕ) (k : ℕ) → first_from (places (is_byte 0) bytes) k ≡ end_in bytes k
+ends bytes k = from bytes 0 (length bytes - 0) k (omega arith) (omega arith)
+
+-- ---- they rise
+
+low_cons : (x : ℕ) (xs : List ℕ) → All (λ y. x ≤ y) xs → All (λ y. x ≤ y) (x ∷ xs)
+low_cons x xs h zero d l = omega arith
+low_cons x xs h (suc k) d l = h k d (omega arith)
+
+rises_cons : (x : ℕ) (xs : List ℕ) → All (λ y. x ≤ y) xs → IsNonDecreasing xs → IsNonDecreasing (x ∷ xs)
+rises_cons x xs low h zero zero d le lt = omega arith
+rises_cons x xs low h zero (suc j) d le lt = low j d (omega arith)
+rises_cons x xs low h (suc i) zero d le lt = absurd (omega arith)
+rises_cons x xs low h (suc i) (suc j) d le lt = h i j d (omega arith) (omega arith)
+
+rises_by : (i : ℕ) (later : List ℕ) (b : Bool) → All (λ z. i + 1 ≤ z) later → IsNonDecreasing later →
+    All (λ z. i ≤ z) (cond b (i ∷ later) later) × IsNonDecreasing (cond b (i ∷ later) later)
+rises_by i later true low h =
+    let above : All (λ z. i ≤ z) later = λ k d l. let a = low k d l in omega (arith, a) in
+    (low_cons i later above, rises_cons i later above h)
+rises_by i later false low h = (λ k d l. let a = low k d l in omega (arith, a), h)
+
+rises_from : (hay : List ℕ) (i n : ℕ) → All (λ z. i ≤ z) (places_from (is_byte 0) hay i n) × IsNonDecreasing (places_from (is_byte 0) hay i n)
+unfolding places_from
+rises_from hay i zero = (λ k d l. absurd (omega arith), λ j k d le l. absurd (omega arith))
+rises_from hay i (suc n) =
+    let later = rises_from hay (i + 1) n in
+    rises_by i (places_from (is_byte 0) hay (i + 1) n) (is_byte 0 (slice_index hay i)) later.0 later.1
+
+pub rises : (bytes : List ℕ) → IsNonDecreasing (places (is_byte 0) bytes)
+rises bytes = (rises_from bytes 0 (length bytes - 0)).1
