@@ -1,10 +1,11 @@
 -- The code's maps of names, and what they hold.
-use Rattle.std.specs.Prelude.{ℕ, ◌≡◌, List, length, Option, Some, ◌++◌, map, bytes_eq}
+use Rattle.std.specs.Prelude.{ℕ, ◌≡◌, ◌-◌, List, length, drop, nat_lt, if◌then◌else◌, Option, Some, ◌++◌, map, bytes_eq}
 use Rattle.std.specs.Borrow.{Bor}
 use Rattle.std.specs.BTreeMap.{BTreeMap, get_by}
 use Rattle.std.specs.Cmp.Lexicographic.{slice_cmp}
 use Rattle.std.specs.Ordering.{nat_cmp, ordering_then}
 use Rattle.std.specs.declared.cmp.Ordering.{Ordering}
+use Rattle.byteorder.specs.Endian.{little_number}
 use Rattle.linker.specs.declared.item.Item.{Item}
 use Rattle.linker.specs.declared.names.Names.{Names}
 use Rattle.linker.specs.declared.symbol.Meaning.{Meaning}
@@ -14,12 +15,20 @@ use Rattle.linker.specs.Definitions.{strong_of, weak_of}
 use Rattle.linker.specs.Commons.{Common, common_item, common_at}
 use Rattle.linker.specs.Names.{stands_by}
 
--- how a name compares to a key, which is a length and a name
-abbrev pub name_cmp : List ℕ → ℕ × Bor (List ℕ) → Ordering
-name_cmp name k = ordering_then (nat_cmp (length name) k.0) (slice_cmp nat_cmp name k.1.now)
+-- the number of a name's last eight bytes, and 0 for a shorter name
+abbrev pub last_bytes : List ℕ → ℕ
+last_bytes name = if nat_lt (length name) 8 then 0 else little_number 8 (drop (length name - 8) name)
+
+-- a key: a name's length, the number of its last bytes, and the name
+abbrev pub Key : Type 0
+Key = ℕ × ℕ × Bor (List ℕ)
+
+-- how a name compares to a key
+abbrev pub name_cmp : List ℕ → Key → Ordering
+name_cmp name k = ordering_then (ordering_then (nat_cmp (length name) k.0) (nat_cmp (last_bytes name) k.1)) (slice_cmp nat_cmp name k.2.now)
 
 -- what a map has at each name
-abbrev pub name_entry : {A : Type 0} → BTreeMap (ℕ × Bor (List ℕ)) A → List ℕ → Option A
+abbrev pub name_entry : {A : Type 0} → BTreeMap Key A → List ℕ → Option A
 name_entry m name = get_by (name_cmp name) m
 
 -- what names stand for by the maps
@@ -27,7 +36,7 @@ abbrev pub meaning_of_name : Names → List ℕ → Option Meaning
 meaning_of_name names name = stands_by (name_entry names.strong name) (name_entry names.commons name) (name_entry names.weak name)
 
 -- a map with one name more, where it was not there before
-abbrev pub Notes : {A : Type 0} → BTreeMap (ℕ × Bor (List ℕ)) A → BTreeMap (ℕ × Bor (List ℕ)) A → List ℕ → A → Type 0
+abbrev pub Notes : {A : Type 0} → BTreeMap Key A → BTreeMap Key A → List ℕ → A → Type 0
 Notes old new name a = (q : List ℕ) → name_entry new q ≡ or_else (name_entry old q) (some_if (bytes_eq name q) (Some a))
 
 -- the definitions of these symbols are noted, and no common
