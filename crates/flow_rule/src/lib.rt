@@ -71,15 +71,15 @@ pub enum Verdict {
 
 /// Where the verdict is yes, no list of calls tells two data apart, under any key.
 pub fn evenness()
-    ensures { Evenness }
+    ensures even { Evenness }
 {}
 
 /// The same with certificates of balanced branches.
 pub fn evenness_with_arms()
-    ensures { EvennessWithArms }
+    ensures even { EvennessWithArms }
 {}
 
 /// No certificates change nothing.
 pub fn without_arms()
-    ensures { WithoutArms }
+    ensures same { WithoutArms }
 {}

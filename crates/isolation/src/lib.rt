@@ -34,7 +34,7 @@ pub fn transparency()
 
 /// A call takes its own cycles, and those between its hides and its resumes.
 pub fn cost()
-    ensures { Cost }
+    ensures cycles { Cost }
 {}
 
 /// A handler begins exactly 12 cycles after a module was hidden.
@@ -56,7 +56,7 @@ pub fn states()
 
 /// Cycles of padding, of the rest of an instruction and of sleep may pass at once.
 pub fn passing()
-    ensures { Passing }
+    ensures leads { Passing }
 {}
 
 /// A cycle tells at most four events, and of a stop exactly where it stops, which is where a check is refused.

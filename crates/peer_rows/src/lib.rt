@@ -7,7 +7,7 @@ ghost use Rattle.peer_rows.specs.Rows.{BlindPeers, BalancedPeers};
 
 /// Two images that differ in the data of a module alone are peers, where the rule of flow accepts the module's text.
 pub fn accepted_are_peers()
-    ensures { AcceptedArePeers }
+    ensures peers { AcceptedArePeers }
 {}
 
 /// There are peers: a called module that never looks at its data, and one whose data decide a branch with arms of equal

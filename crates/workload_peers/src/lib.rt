@@ -5,7 +5,7 @@ ghost use Rattle.workload_peers.specs.Laws.{WorkloadsArePeers};
 
 /// The images of two data are peers.
 pub fn workloads_are_peers()
-    ensures { WorkloadsArePeers }
+    ensures peers { WorkloadsArePeers }
 {
     // It does nothing: by its clause an accepted text makes peers.
     peer_rows::accepted_are_peers();

@@ -2,4 +2,4 @@ use Rattle.peer_rows.proofs.Accepted.{accepted}
 use Rattle.peer_rows.proofs.accepted_are_peers.Goals as goal
 
 pub returns : goal.returns
-returns c = accepted
+returns c = record { peers = accepted }

@@ -5,4 +5,4 @@ use Rattle.workload_peers.proofs.Verdict.{meet, accepted}
 use Rattle.workload_peers.proofs.workloads_are_peers.Goals as goal
 
 pub returns : goal.returns
-returns c = λ v w a b. c.accepted_are_peers.ensures (image v) (image w) 1 (called 0x0322) meet (differ v w a b) (accepted v)
+returns c = record { peers = λ v w a b. c.accepted_are_peers.ensures.peers (image v) (image w) 1 (called 0x0322) meet (differ v w a b) (accepted v) }

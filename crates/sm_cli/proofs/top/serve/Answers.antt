@@ -73,7 +73,7 @@ returns-in-Ok-clause-checked g c = λ e value other id owner i d.
     let before = g.F.Files.faults c.args.files.now in
     let after = g.F.Files.faults c.answer.new.files in
     let done = when_done words files before after (asked c.in-Ok-Some.command) c.in-Ok.status _ _ some c.in-Ok.ensures.ok c.in-Ok.ensures.quiet e in
-    checked_peers words files before after _ value other id owner i d done c.accepted_are_peers.ensures
+    checked_peers words files before after _ value other id owner i d done c.accepted_are_peers.ensures.peers
 
 pub returns-in-Ok-clause-balanced : goal.returns-in-Ok-clause-balanced
 returns-in-Ok-clause-balanced g c = λ e value other id owner i d.
@@ -83,7 +83,7 @@ returns-in-Ok-clause-balanced g c = λ e value other id owner i d.
     let before = g.F.Files.faults c.args.files.now in
     let after = g.F.Files.faults c.answer.new.files in
     let done = when_done words files before after (asked c.in-Ok-Some.command) c.in-Ok.status _ _ some c.in-Ok.ensures.ok c.in-Ok.ensures.quiet e in
-    balanced_peers words files before after _ value other id owner i d done c.accepted_are_peers.ensures
+    balanced_peers words files before after _ value other id owner i d done c.accepted_are_peers.ensures.peers
 
 pub returns-in-Ok-clause-sure : goal.returns-in-Ok-clause-sure
 returns-in-Ok-clause-sure g c = λ sound room line.

@@ -13,7 +13,7 @@ returns-then-cycles-gt0-clause-leads c =
     let some : 0 < n = omega (arith, c.if-cycles-gt0.true) in
     let few : n ≤ c.idle_cycles.result = omega (arith, c.min-cycles.ensures) in
     subst (Leads n s) (sym c.pass_by.ensures.state)
-    (c.passing.ensures s c.idle_cycles.result n (c.idle_cycles.ensures.runs (omega (arith, some, few))) c.idle_cycles.ensures.pass some few)
+    (c.passing.ensures.leads s c.idle_cycles.result n (c.idle_cycles.ensures.runs (omega (arith, some, few))) c.idle_cycles.ensures.pass some few)
 
 pub returns-then-cycles-gt0-clause-missed : goal.returns-then-cycles-gt0-clause-missed
 returns-then-cycles-gt0-clause-missed c addr ends =
@@ -21,5 +21,5 @@ returns-then-cycles-gt0-clause-missed c addr ends =
     let n = c.min-cycles.result in
     let some : 0 < n = omega (arith, c.if-cycles-gt0.true) in
     let few : n ≤ c.idle_cycles.result = omega (arith, c.min-cycles.ensures) in
-    missed_none c.passing.ensures addr c.idle_cycles.result n s (c.idle_cycles.ensures.runs (omega (arith, some, few))) c.idle_cycles.ensures.pass few
+    missed_none c.passing.ensures.leads addr c.idle_cycles.result n s (c.idle_cycles.ensures.runs (omega (arith, some, few))) c.idle_cycles.ensures.pass few
     (ap (λ (t : State). stands_at addr s && stands_at addr t) (sym (returns-then-cycles-gt0-clause-leads c).state) ∙ ends)
