@@ -38,8 +38,9 @@ pub fn draw_words(
     count: u16,
 ) -> Result<Vec<u16>, Fail> {
     let mut words = Vec::new(alloc);
+    let most = u16::try_from(pieces.len()).unwrap_or(u16::MAX);
     for _ in 0..count {
-        let number = draws.below(pieces.len() as u16);
+        let number = draws.below(most);
         match pieces.get(usize::from(number)) {
             Some([]) => words.push(draws.word())?,
             Some(piece) => words.extend_from_slice(piece)?,

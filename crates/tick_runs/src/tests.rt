@@ -1,5 +1,7 @@
 //! Runs as a whole and in two parts against runs by ticks.
 
+ghost use Rattle.std.specs.Prelude.{◌≡◌, ◌≤◌, ◌+◌, IfOk};
+
 use crate::draws::{Draws, draw_schedule};
 use crate::programs::draw_image;
 use arrayvec::ArrayString;
@@ -27,7 +29,9 @@ struct Case {
     schedule: String,
 }
 
-fn board_of(alloc: Global, case: &Case) -> Result<Board, Fail> {
+fn board_of(alloc: Global, case: &Case) -> Result<Board, Fail>
+    ensures { IfOk result (λ board. board.present.cycle ≡ 0) }
+{
     let image = image_text::read(alloc, case.image.as_bytes())?;
     let schedule = read_schedule(alloc, case.schedule.as_bytes())?;
     Ok(Board::new(alloc, &image, &schedule)?)
@@ -42,31 +46,41 @@ fn put_lines(cycle: u64, events: &[Event], sink: &mut MemSink) -> Result<(), Fai
     Ok(())
 }
 
+/// One cycle, with its lines.
+fn tick(board: &mut Board, sink: &mut MemSink) -> Result<(), Fail>
+    requires { board.old.present.cycle ≤ 65536 }
+    ensures { board.new.present.cycle ≤ board.old.present.cycle + 1 }
+{
+    let cycle = board.view(Hidden::All).cycle();
+    let events = board.tick();
+    put_lines(cycle, events.as_slice(), sink)
+}
+
 /// The text by ticks.
 fn ticked(alloc: Global, case: &Case) -> Result<MemSink, Fail> {
     let mut sink = MemSink::new(alloc, ROOM)?;
     let mut board = board_of(alloc, case)?;
-    for _ in 0..CYCLES {
-        let cycle = board.view(Hidden::All).cycle();
-        if cycle > u64::from(CYCLES) {
-            return Err(Fail::from("a tick is one cycle"));
-        }
-        let events = board.tick();
-        put_lines(cycle, events.as_slice(), &mut sink)?;
+    for number in 0..CYCLES {
+        tick(&mut board, &mut sink)?;
     }
     board.finish(&mut sink)?;
     Ok(sink)
+}
+
+/// So many cycles at once.
+fn run_on(board: &mut Board, cycles: u16, sink: &mut MemSink)
+    requires { board.old.present.cycle ≤ 65536 }
+    ensures { board.new.present.cycle ≤ board.old.present.cycle + cycles }
+{
+    board.run(u64::from(cycles), sink);
 }
 
 /// The text by two runs, the first of so many cycles.
 fn run(alloc: Global, case: &Case, first: u16) -> Result<MemSink, Fail> {
     let mut sink = MemSink::new(alloc, ROOM)?;
     let mut board = board_of(alloc, case)?;
-    board.run(u64::from(first), &mut sink);
-    if board.view(Hidden::All).cycle() > u64::from(CYCLES) {
-        return Err(Fail::from("a run has at most its cycles"));
-    }
-    board.run(u64::from(CYCLES.saturating_sub(first)), &mut sink);
+    run_on(&mut board, first, &mut sink);
+    run_on(&mut board, CYCLES.saturating_sub(first), &mut sink);
     board.finish(&mut sink)?;
     Ok(sink)
 }
