@@ -52,7 +52,8 @@ def build(folder, name, level):
 def link_theirs(folder, built):
     """The memory that ld.lld links, and the address at which the program ends."""
     path = lambda name: os.path.join(folder, name)
-    _, status, err = machine.run(["ld.lld", "-T", path("script.ld"), "-o", path("out"), "--no-check-sections", *built])
+    # without -O0 it merges strings that are equal, which `sancus link` does not
+    _, status, err = machine.run(["ld.lld", "-O0", "-T", path("script.ld"), "-o", path("out"), "--no-check-sections", *built])
     if status:
         sys.exit(err)
     with open(path("out"), "rb") as it:
@@ -108,7 +109,7 @@ def main():
     program, cases, wrong = sys.argv[1], 0, []
     with tempfile.TemporaryDirectory() as folder:
         write(folder, "layout.toml", linking.LAYOUT)
-        write(folder, "script.ld", linking.SCRIPT.replace("*(.text*)", "*(.text*) *(.rodata*)"))
+        write(folder, "script.ld", linking.SCRIPT.replace("*(.text*)", "*(.text* .rodata*)"))
         for name in PROGRAMS:
             for level in LEVELS:
                 cases += 1
