@@ -8,8 +8,9 @@ program=$(readlink -f -- "$1") || exit 1
 room=$(mktemp -d) || exit 1
 trap 'rm -rf "$room"' EXIT
 cc -shared -fPIC -O1 -o "$room/refuse.so" "$here/refuse.c" -ldl || exit 1
-cp "$here"/../examples/*.img "$here"/../examples/*.txt "$here"/../examples/c/layout.toml "$here"/../examples/c/meter.o "$room"
-cp "$here"/../examples/channel/module_0.img "$here"/../examples/channel/arms.txt "$room"
+cd "$here/../examples" || exit 1
+cp first.img interrupts/called.img interrupts/pulse_inside.txt attestation/tagger.img attestation/challenges.txt c/layout.toml c/meter.o \
+    channel/module_0.img channel/arms.txt "$room" || exit 1
 cd "$room" || exit 1
 printf 'mark\ngo 30\nregs\nmem 0400 2\nback 0\nuntil 0214 100\nlast 0200 0\n' >script.txt
 printf 'section .text code\nglobal main\nlabel main\nmov #0x1234, r5\nmov #other, &0x0300\nlabel here\njmp here\n' >source.txt

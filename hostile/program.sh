@@ -94,7 +94,7 @@ expect 2 'sancus: usage' long_word
 for limit in 4000 5000 6000 7000 8000 10000 20000; do
     little() {
         ulimit -v "$limit"
-        "$program" image "$examples/called.img" "$examples/pulse_inside.txt" 40
+        "$program" image "$examples/interrupts/called.img" "$examples/interrupts/pulse_inside.txt" 40
     }
     said=$( (little) 2>&1 >out)
     got=$?

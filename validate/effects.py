@@ -4,10 +4,11 @@
     python3 validate/effects.py PROGRAM [CASES [SEED]]
 
 PROGRAM is the built `sancus` (crates/sm_main/out/sm_main). Needs Debian's mspdebug. A case is an instruction of the code table with
-random registers, flags and operands. An image leads to it by a prologue that sets the registers, and reads the memory that it may
-have changed by an epilogue where it left the program counter. What differs is counted under its cause.
+random registers, flags and operands. An image leads to it by a prologue that sets the registers; all else is zeros, which are no
+instruction, so the machine stops where it ends. A script of the monitor shows registers and memory. What differs is counted under its cause.
 """
 import collections
+import os
 import random
 import re
 import sys
@@ -15,7 +16,7 @@ import tempfile
 
 import machine
 
-PROLOGUE, TEST, NOP, ILLEGAL = 0x0200, 0x8000, 0x4303, 0x0000
+PROLOGUE, TEST = 0x0200, 0x8000
 RESERVED = [range(0x0000, 0x0280), range(TEST - 0x20, TEST + 0x40), range(0xFF00, 0x10000)]
 TWO = "mov add addc subc sub cmp dadd bit bic bis xor and".split()
 ONE = ["rrc", "swpb", "rra", "sxt", "push", "call"]
@@ -124,9 +125,8 @@ PROLOGUE_CYCLES = 13 * 2 + 2 + 3
 
 
 def memory_of(case):
-    memory = bytearray(machine.word_bytes(NOP) * (machine.MEMORY // 2))
+    memory = bytearray(machine.MEMORY)
     put = lambda at, words: [memory.__setitem__(slice(at + 2 * k, at + 2 * k + 2), machine.word_bytes(word)) for k, word in enumerate(words)]
-    memory[:PROLOGUE] = bytes(PROLOGUE)
     put(PROLOGUE, prologue(case))
     put(TEST, case.words)
     put(machine.RESET_VECTOR, [PROLOGUE])
@@ -135,37 +135,25 @@ def memory_of(case):
     return memory
 
 
-def outside(line):
-    """The registers of an end line."""
-    found = re.search(r"^end (\d+) outside((?: [0-9a-f]{4}){16})$", line, re.M)
-    return [int(it, 16) for it in found[2].split()] if found else None
-
-
 def ours(program, folder, case, watched):
-    """Registers after the instruction, the watched words, and its cycles."""
-    memory = memory_of(case)
-    run = lambda cycles: machine.sancus(program, folder, machine.image_text(memory), "image", "IMAGE", "-", str(cycles))[0]
-    first = run(PROLOGUE_CYCLES + 1)
-    regs = outside(first)
-    if regs is None:
-        return first, None, None
-    code = [word for k, addr in enumerate(watched) for word in (0x4210 | 4 + k, addr & ~1)] + [ILLEGAL]
-    for k, word in enumerate(code):
-        memory[regs[0] + 2 * k : regs[0] + 2 * k + 2] = machine.word_bytes(word)
-    if regs[2] & CPU_OFF or TEST - 40 < regs[0] < TEST + 2 * len(case.words) or regs[0] < PROLOGUE + 0x80:
-        # asleep, or about to meet its own words or the prologue's
-        return regs, None, None
-    stop = re.search(r"^(\d+) stop Illegal", run(200), re.M)
-    if not stop:
-        return regs, None, None
-    cycles = int(stop[1]) - PROLOGUE_CYCLES - 3 * len(watched)
-    return regs, outside(run(int(stop[1])))[4 : 4 + len(watched)], cycles
+    """Registers after the instruction, the watched words, and its cycles: None where no stop tells its end."""
+    script = [f"go {PROLOGUE_CYCLES + 1}", "regs", *(f"mem {addr & ~1:04x} 2" for addr in watched), "go 200", ""]
+    with open(os.path.join(folder, "script.txt"), "w", encoding="ascii") as it:
+        it.write("\n".join(script))
+    out, _, err = machine.sancus(program, folder, machine.image_text(memory_of(case)), "monitor", "IMAGE", "-", it.name)
+    found = re.search(r"^regs \d+ outside((?: [0-9a-f]{4}){16})$", out, re.M)
+    if not found:
+        return err or out, None, None
+    regs = [int(it, 16) for it in found[1].split()]
+    words = [int(low, 16) | int(high, 16) << 8 for low, high in re.findall(r"^[0-9a-f]{4}: ([0-9a-f]{2})([0-9a-f]{2})$", out, re.M)]
+    stop = re.search(r"^(\d+) stop [A-Za-z]+ pc ([0-9a-f]{4})", out, re.M)
+    ends = stop and int(stop[2], 16) == regs[0]
+    return regs, words, int(stop[1]) - PROLOGUE_CYCLES if ends else None
 
 
 def commands(case, watched):
     """What mspdebug is asked."""
-    memory = memory_of(case)
-    rows = ["fill 0x200 0xfd80 0x03 0x43"]
+    rows = ["fill 0x200 0xfd80 0"]
     rows += [f"mw {addr:#x} {value:#04x}" for addr, value in case.data.items()]
     rows.append(f"mw {TEST:#x} " + " ".join(f"{byte:#04x}" for word in case.words for byte in machine.word_bytes(word)))
     rows += [f"set {n} {value:#x}" for n, value in enumerate(case.regs) if n != 3]

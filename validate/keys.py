@@ -56,7 +56,7 @@ def key_cases(program, folder, rng, count):
 
 def tag_cases(program, folder):
     """The tags that the example machine sends for its three challenges."""
-    example = lambda name: os.path.join(TOP, "examples", name)
+    example = lambda name: os.path.join(TOP, "examples", "attestation", name)
     schedule = os.path.join(folder, "schedule.txt")
     with open(schedule, "w", encoding="ascii") as it:
         it.write(machine.run([program, "challenge", example("challenges.txt")])[0])
