@@ -43,14 +43,14 @@ pub fn writes_destination(op: TwoOp) -> bool
 }
 
 /// Where the first extension word stands.
-fn extension(core: &Core) -> u16
+pub fn extension(core: &Core) -> u16
     ensures { result ≡ add16 (reg core.now PC) 2 }
 {
     core.pc().wrapping_add(2)
 }
 
 /// Where the destination's extension word stands, behind the source's.
-fn second_extension(extension: u16, src: Operand) -> u16
+pub fn second_extension(extension: u16, src: Operand) -> u16
     ensures { result ≡ add16 extension (2 * words_of src) }
 {
     extension.wrapping_add(2 * src.words())

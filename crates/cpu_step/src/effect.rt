@@ -1,6 +1,6 @@
 //! What an instruction does to the registers, once its reads gave their values.
 
-ghost use Rattle.std.specs.Prelude.{◌≡◌, ◌==◌, [], ◌∷◌, true};
+ghost use Rattle.std.specs.Prelude.{◌≡◌, ◌==◌, [], ◌∷◌, true, List, ℕ};
 ghost use Rattle.sm_words.specs.Sums.{one_if};
 ghost use Rattle.sm_words.specs.Words.{add16, bit, nth, reg};
 ghost use Rattle.sm_words.specs.declared.status.TheConstants.{CARRY};
@@ -28,7 +28,7 @@ fn one(value: u16) -> Stored
 }
 
 /// Sets the flags of a result.
-fn set_flags(computed: &Computed, core: &mut Core)
+pub fn set_flags(computed: &Computed, core: &mut Core)
     ensures { core.new ≡ set_flags computed.now core.old }
 {
     let sr = computed.with_flags(core.sr());
@@ -36,7 +36,7 @@ fn set_flags(computed: &Computed, core: &mut Core)
 }
 
 /// Puts a result into a register: SR keeps what is written there, without flags.
-fn put_result(reg: u8, computed: &Computed, core: &mut Core)
+pub fn put_result(reg: u8, computed: &Computed, core: &mut Core)
     ensures { core.new ≡ into_register (reg == SR) reg computed.now core.old }
 {
     if reg != SR {
@@ -60,7 +60,7 @@ fn write_result(operand: Operand, computed: &Computed, core: &mut Core) -> Store
 }
 
 /// The carry flag.
-fn carry(core: &Core) -> bool
+pub fn carry(core: &Core) -> bool
     ensures { one_if result ≡ bit CARRY (reg core.now SR) }
 {
     status::is_set(status::CARRY, core.sr())
@@ -201,11 +201,10 @@ fn jump(taken: bool, offset: i16, core: &mut Core)
 }
 
 /// A jump.
-fn do_jump(insn: &Insn, cond: u8, offset: i16, core: &mut Core, values: &[u16])
+pub fn do_jump(insn: &Insn, cond: u8, offset: i16, core: &mut Core)
     requires { insn.now ≡ Insn.Jump cond offset }
-    ensures { core.new ≡ (does_freely insn.now core.old values.now).core }
+    ensures { (values : List ℕ) → core.new ≡ (does_freely insn.now core.old values).core }
 {
-    let _ = values;
     let taken = jumps(cond, core.sr());
     step_past(insn, core);
     jump(taken, offset, core);
@@ -244,7 +243,7 @@ fn do_freely(insn: &Insn, core: &mut Core, values: &[u16]) -> Stored
         } => do_two(insn, op, width, src, dst, core, values),
         Insn::One { op, width, arg } => do_one(insn, op, width, arg, core, values),
         Insn::Jump { cond, offset } => {
-            do_jump(insn, cond, offset, core, values);
+            do_jump(insn, cond, offset, core);
             Stored::new()
         }
         Insn::Reti => {
@@ -260,13 +259,12 @@ fn do_freely(insn: &Insn, core: &mut Core, values: &[u16]) -> Stored
 
 /// Inside a module SR keeps all bits but C, Z, N and V.
 #[tactic(auto, unfolding(crate::specs::Effect::confined))]
-fn confine(inside: bool, before: &Core, core: &mut Core)
-    ensures { core.new ≡ confined inside before.now core.old }
+pub fn confine(inside: bool, before: u16, core: &mut Core)
+    ensures { (old : List ℕ) → reg old SR ≡ before → core.new ≡ confined inside old core.old }
 {
     if inside {
-        let old = before.sr();
-        let new = core.sr();
-        core.put(SR, status::confine(old, new));
+        let now = core.sr();
+        core.put(SR, status::confine(before, now));
     }
 }
 
@@ -276,8 +274,8 @@ pub fn does(insn: &Insn, core: &mut Core, values: &[u16], inside: bool) -> Store
     ensures core { core.new ≡ (does insn.now core.old values.now inside).core }
     ensures stored { result.items ≡ (does insn.now core.old values.now inside).stored }
 {
-    let before = *core;
+    let sr = core.sr();
     let stored = do_freely(insn, core, values);
-    confine(inside, &before, core);
+    confine(inside, sr, core);
     stored
 }

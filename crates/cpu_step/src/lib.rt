@@ -4,6 +4,7 @@
 #![tactic(auto)]
 
 mod accesses;
+mod doing;
 mod effect;
 pub mod laws;
 mod operand;

@@ -1,6 +1,6 @@
 //! Operands: where they stand, and what they give.
 
-ghost use Rattle.std.specs.Prelude.{◌≡◌};
+ghost use Rattle.std.specs.Prelude.{◌≡◌, List, ℕ, false};
 ghost use Rattle.cpu_step.specs.Plan.{place, step_of, stepped};
 ghost use Rattle.cpu_step.specs.Effect.{given, in_memory, after_given};
 
@@ -48,6 +48,18 @@ fn is_in_memory(operand: Operand) -> bool
         operand,
         Operand::Reg(_) | Operand::Const(_) | Operand::Imm(_)
     )
+}
+
+/// The value that an operand outside memory gives: of a register, or of the instruction.
+pub fn at_hand(operand: Operand, width: Width, core: &Core) -> u16
+    requires { in_memory operand ≡ false }
+    ensures { (values : List ℕ) → result ≡ given operand width core.now values }
+{
+    match operand {
+        Operand::Reg(reg) => width.low(core.get(reg)),
+        Operand::Const(value) | Operand::Imm(value) => width.low(value),
+        _ => 0,
+    }
 }
 
 /// The value that the operand gives: of a register, of the instruction, or the low byte or
