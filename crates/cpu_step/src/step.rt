@@ -1,6 +1,6 @@
 //! An instruction through a port.
 
-ghost use Rattle.std.specs.Prelude.{◌≡◌, IsFalse};
+ghost use Rattle.std.specs.Prelude.{◌≡◌, ◌≤◌, IsFalse};
 ghost use Rattle.insn_decode.specs.Code.{IsDecoded, is_unit};
 ghost use Rattle.cycle_table.specs.Cycles.{cycles_of};
 ghost use Rattle.cpu_step.specs.Plan.{plan};
@@ -24,6 +24,7 @@ pub fn execute<P: Port>(insn: &Insn, core: &mut Core, port: &mut P, inside: bool
     ensures core { core.new ≡ (through P.answer P.after_read P.after_write insn.now core.old inside (P.state port.old)).core }
     ensures port { P.state port.new ≡ (through P.answer P.after_read P.after_write insn.now core.old inside (P.state port.old)).state }
     ensures cycles { result ≡ cycles_of insn.now }
+    ensures least { 1 ≤ result }
 {
     let sr = core.sr();
     do_freely(insn, core, port);
