@@ -170,6 +170,8 @@ fn plan_reti(core: &Core) -> ArrayVec<Access, 3>
 
 /// The accesses of an instruction whose address is in PC, in their order. They follow from the registers
 /// and the extension words alone. A unit instruction's follow from more than that, and are not given here.
+// (inlined: the list is then made where it is looked at, and not copied)
+#[inline(always)]
 #[tactic(auto, unfolding(crate::specs::Plan::plan))]
 pub fn plan(insn: &Insn, core: &Core) -> ArrayVec<Access, 3>
     ensures exact { result.items ≡ plan insn.now core.now }

@@ -33,7 +33,8 @@ fn take<P: Port>(
     requires aligned { IfSome place (λ addr. IsFalse (misaligned width addr)) }
     ensures value { (rest : List ℕ) → result ≡ given operand width core.now
         ((taken P.answer P.after_read (P.state port.old) (access_if true Read width place)).values ++ rest) }
-    ensures state { P.state port.new ≡ (taken P.answer P.after_read (P.state port.old) (access_if true Read width place)).state }
+    ensures state { P.state port.new
+        ≡ (taken P.answer P.after_read (P.state port.old) (access_if true Read width place)).state }
 {
     match place {
         Some(addr) => width.low(port.read(addr, width)),
@@ -128,7 +129,8 @@ fn do_two<P: Port>(
 )
     requires form { insn.now ≡ Insn.Two op width src dst }
     requires aligned { AreAligned (plan insn.now core.old) }
-    ensures core { core.new ≡ (freely_through P.answer P.after_read P.after_write insn.now core.old (P.state port.old)).core }
+    ensures core { core.new
+        ≡ (freely_through P.answer P.after_read P.after_write insn.now core.old (P.state port.old)).core }
     ensures state { P.state port.new
         ≡ (freely_through P.answer P.after_read P.after_write insn.now core.old (P.state port.old)).state }
 {
@@ -192,7 +194,8 @@ fn do_one<P: Port>(
 )
     requires form { insn.now ≡ Insn.One op width arg }
     requires aligned { AreAligned (plan insn.now core.old) }
-    ensures core { core.new ≡ (freely_through P.answer P.after_read P.after_write insn.now core.old (P.state port.old)).core }
+    ensures core { core.new
+        ≡ (freely_through P.answer P.after_read P.after_write insn.now core.old (P.state port.old)).core }
     ensures state { P.state port.new
         ≡ (freely_through P.answer P.after_read P.after_write insn.now core.old (P.state port.old)).state }
 {
@@ -209,7 +212,8 @@ fn do_one<P: Port>(
 #[tactic(auto, unfolding(crate::specs::Plan::plan, crate::specs::Effect::does_freely))]
 fn do_reti<P: Port>(core: &mut Core, port: &mut P)
     requires aligned { AreAligned (plan Insn.Reti core.old) }
-    ensures core { core.new ≡ (freely_through P.answer P.after_read P.after_write Insn.Reti core.old (P.state port.old)).core }
+    ensures core { core.new
+        ≡ (freely_through P.answer P.after_read P.after_write Insn.Reti core.old (P.state port.old)).core }
     ensures state { P.state port.new
         ≡ (freely_through P.answer P.after_read P.after_write Insn.Reti core.old (P.state port.old)).state }
 {
@@ -225,7 +229,8 @@ fn do_reti<P: Port>(core: &mut Core, port: &mut P)
 #[tactic(auto, unfolding(crate::specs::Plan::plan, crate::specs::Effect::does_freely))]
 pub fn do_freely<P: Port>(insn: &Insn, core: &mut Core, port: &mut P)
     requires aligned { AreAligned (plan insn.now core.old) }
-    ensures core { core.new ≡ (freely_through P.answer P.after_read P.after_write insn.now core.old (P.state port.old)).core }
+    ensures core { core.new
+        ≡ (freely_through P.answer P.after_read P.after_write insn.now core.old (P.state port.old)).core }
     ensures state { P.state port.new
         ≡ (freely_through P.answer P.after_read P.after_write insn.now core.old (P.state port.old)).state }
 {

@@ -23,7 +23,8 @@ answered s w a = lone.value_at w (lone.lone_byte s.job s.ram) a
 
 -- the write is kept
 abbrev pub after_held : Held → Width → ℕ → ℕ → Held
-after_held s w a v = record s { put = Some (record { access = record { kind = Write; addr = a; width = w }; value = v }) }
+after_held s w a v =
+    record s { put = Some (record { access = record { kind = Write; addr = a; width = w }; value = v }) }
 
 -- the data after the write, if there is one
 abbrev pub after_put : Module → List ℕ → Option Put → List ℕ
