@@ -77,6 +77,7 @@ fn add_access(
 
 /// Adds the accesses of an instruction of format I to none: the source is read, the increment is done, the
 /// destination is read and written.
+#[inline(always)]
 fn plan_two(
     insn: &Insn,
     op: TwoOp,
@@ -135,6 +136,7 @@ fn add_write(
 
 /// Adds the accesses of an instruction of format II to none: the operand is read, its increment is done, and the
 /// result is written.
+#[inline(always)]
 fn plan_one(
     insn: &Insn,
     op: OneOp,
@@ -175,7 +177,7 @@ fn plan_reti(core: &Core, accesses: &mut ArrayVec<Access, 3>)
 
 /// The accesses of an instruction whose address is in PC, in their order. They follow from the registers
 /// and the extension words alone. A unit instruction's follow from more than that, and are not given here.
-// (inlined: the list is then made where it is looked at, and not copied)
+// (inlined, with its parts: the list is then made where it is looked at, and not copied)
 #[inline(always)]
 #[tactic(auto, unfolding(crate::specs::Plan::plan))]
 pub fn plan(insn: &Insn, core: &Core) -> ArrayVec<Access, 3>

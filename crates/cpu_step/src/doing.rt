@@ -66,6 +66,7 @@ fn take_old<P: Port>(
 }
 
 /// Writes a result into its operand, which stands in memory at `place`, if it has one.
+#[inline(always)]
 #[tactic(auto, using(crate::proofs::ThroughLemmas::written_there))]
 fn write_result<P: Port>(
     operand: Operand,
