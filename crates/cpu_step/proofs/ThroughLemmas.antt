@@ -10,7 +10,7 @@ use Rattle.sm_words.specs.declared.width.Width.{Width}
 use Rattle.sm_words.specs.declared.width.Width.TheVariants.{Word}
 use Rattle.insn_decode.specs.Code.{words_of}
 use Rattle.insn_decode.specs.declared.insn.Insn.{Insn}
-use Rattle.insn_decode.specs.declared.insn.Insn.TheVariants.{Two, One}
+use Rattle.insn_decode.specs.declared.insn.Insn.TheVariants.{Two, One, Jump, Reti, Unit as UnitOp}
 use Rattle.insn_decode.specs.declared.insn.OneOp.{OneOp}
 use Rattle.insn_decode.specs.declared.insn.OneOp.TheVariants.{Rrc, Swpb, Rra, Sxt, Push, Call}
 use Rattle.insn_decode.specs.declared.insn.Operand.{Operand}
@@ -168,6 +168,41 @@ one_writes_of (Some x) Rra w sp = refl
 one_writes_of (Some x) Sxt w sp = refl
 one_writes_of (Some x) Push w sp = refl
 one_writes_of (Some x) Call w sp = refl
+
+-- an instruction writes once at most
+abbrev pub AtMostOne : List Access → Type 0
+AtMostOne [] = Unit {0}
+AtMostOne (x ∷ xs) = xs ≡ []
+
+one_access : (t : Bool) (w : Width) (b : Option ℕ) → AtMostOne (access_if t Write w b)
+one_access true w (Some y) = refl
+one_access true w None = tt
+one_access false w (Some y) = tt
+one_access false w None = tt
+
+one_put : (op : OneOp) (w : Width) (a : Option ℕ) (sp : ℕ) → AtMostOne (one_writes op w a sp)
+one_put Rrc w a sp = one_access true w a
+one_put Swpb w a sp = one_access true w a
+one_put Rra w a sp = one_access true w a
+one_put Sxt w a sp = one_access true w a
+one_put Push w a sp = refl
+one_put Call w a sp = refl
+
+pub few_writes : (insn : Insn) (core : List ℕ) → AtMostOne (writes_of (plan insn core))
+unfolding plan
+few_writes (Two op w s d) core =
+    let ext : ℕ = add16 (reg core PC) 2 in
+    let core1 : List ℕ = past (Two op w s d) core in
+    let b : Option ℕ = place d (stepped w s core1) (add16 ext (2 * words_of s)) in
+    subst AtMostOne (sym (two_writes (place s core1 ext) b (reads_dst op) (writes_dst op) w)) (one_access (writes_dst op) w b)
+few_writes (One op w arg) core =
+    let core1 : List ℕ = past (One op w arg) core in
+    let a : Option ℕ = place arg core1 (add16 (reg core PC) 2) in
+    let sp : ℕ = reg (lowered (stepped w arg core1)) SP in
+    subst AtMostOne (sym (one_writes_of a op w sp)) (one_put op w a sp)
+few_writes (Jump c o) core = tt
+few_writes Reti core = tt
+few_writes (UnitOp n) core = tt
 
 -- ---- through the port
 

@@ -19,6 +19,7 @@ use Rattle.cpu_step.specs.Effect.{does}
 use Rattle.cpu_step.specs.Asked.{asks, effect}
 use Rattle.cpu_step.specs.Through.{AreAligned, Taken, After, taken, stored_in, through}
 use Rattle.cpu_step.specs.Lone.{Job, lone_read, lone_writes, lone_does, lone_who, all_inside, is_inside, inside_by}
+use Rattle.cpu_step.proofs.ThroughLemmas.{AtMostOne, few_writes}
 use Rattle.lone_run.specs.Jobs.{between}
 use Rattle.lone_run.specs.Sections.{Held, answered, after_held, after_put}
 
@@ -36,57 +37,6 @@ shape j core ram (One op w a) free = refl
 shape j core ram (Jump c off) free = refl
 shape j core ram Reti free = refl
 shape j core ram (UnitOp n) free = absurd (let h : ⊥ = cc in h)
-
--- ---- a plan writes once at most
-
-abbrev AtMostOne : List Access → Type 0
-AtMostOne [] = Unit {0}
-AtMostOne (x ∷ xs) = xs ≡ []
-
-two_few : (a b : Option ℕ) (r t : Bool) (w : Width) → AtMostOne (writes_of ((access_if true Read w a ++ access_if r Read w b) ++ access_if t Write w b))
-two_few None None true true w = tt
-two_few None None true false w = tt
-two_few None None false true w = tt
-two_few None None false false w = tt
-two_few None (Some y) true true w = refl
-two_few None (Some y) true false w = tt
-two_few None (Some y) false true w = refl
-two_few None (Some y) false false w = tt
-two_few (Some x) None true true w = tt
-two_few (Some x) None true false w = tt
-two_few (Some x) None false true w = tt
-two_few (Some x) None false false w = tt
-two_few (Some x) (Some y) true true w = refl
-two_few (Some x) (Some y) true false w = tt
-two_few (Some x) (Some y) false true w = refl
-two_few (Some x) (Some y) false false w = tt
-
-one_few : (a : Option ℕ) (op : OneOp) (w : Width) (sp : ℕ) → AtMostOne (writes_of (access_if true Read w a ++ one_writes op w a sp))
-one_few None Rrc w sp = tt
-one_few None Swpb w sp = tt
-one_few None Rra w sp = tt
-one_few None Sxt w sp = tt
-one_few None Push w sp = refl
-one_few None Call w sp = refl
-one_few (Some x) Rrc w sp = refl
-one_few (Some x) Swpb w sp = refl
-one_few (Some x) Rra w sp = refl
-one_few (Some x) Sxt w sp = refl
-one_few (Some x) Push w sp = refl
-one_few (Some x) Call w sp = refl
-
-few : (insn : Insn) (core : List ℕ) → AtMostOne (writes_of (plan insn core))
-unfolding plan
-few (Two op w s d) core =
-    let ext = add16 (reg core 0) 2 in
-    let core1 = past (Two op w s d) core in
-    two_few (place s core1 ext) (place d (stepped w s core1) (add16 ext (2 * words_of s))) (reads_dst op) (writes_dst op) w
-few (One op w arg) core =
-    let core1 = past (One op w arg) core in
-    one_few (place arg core1 (add16 (reg core 0) 2)) op w (reg (lowered (stepped w arg core1)) 1)
-few (Jump c o) core = tt
-few Reti core = tt
-few (UnitOp n) core = tt
 
 -- ---- through the sections
 
@@ -118,7 +68,7 @@ plain_done j core ram after left insn s k free ea es el ek =
     let state_is : s ≡ stored_in after_held (before j ram) (writes_of xs) (does insn core values true).stored =
     es ∙ ap (λ (r : Taken Held). stored_in after_held r.state (writes_of xs) (does insn core r.values true).stored) t in
     let left_is : left ≡ lone_writes j.owner ram (writes_of xs) (does insn core values true).stored =
-    el ∙ ap (λ (z : Held). after_put j.owner ram z.put) state_is ∙ stored_is j ram (writes_of xs) (does insn core values true).stored (few insn core) in
+    el ∙ ap (λ (z : Held). after_put j.owner ram z.put) state_is ∙ stored_is j ram (writes_of xs) (does insn core values true).stored (few_writes insn core) in
     shape j core ram insn free
     ∙ ap (λ c. record { core = c; data_bytes = lone_writes j.owner ram (writes_of xs) (does insn core values true).stored; rest = cycles_of insn - 1; closing = false }) (sym core_is)
     ∙ ap (λ d. record { core = after; data_bytes = d; rest = cycles_of insn - 1; closing = false }) (sym left_is)
