@@ -1,6 +1,6 @@
 //! Which accesses an instruction makes.
 
-ghost use Rattle.std.specs.Prelude.{◌≡◌, ◌+◌, ◌*◌, ◌<◌, ◌≤◌, ◌++◌};
+ghost use Rattle.std.specs.Prelude.{◌≡◌, ◌+◌, ◌*◌, ◌<◌, ◌≤◌, ◌++◌, []};
 ghost use Rattle.arrayvec.specs.ArrayVec.{array_vec_len};
 ghost use Rattle.sm_words.specs.Words.{add16, reg};
 ghost use Rattle.insn_decode.specs.Code.{words_of};
@@ -43,14 +43,14 @@ pub fn writes_destination(op: TwoOp) -> bool
 }
 
 /// Where the first extension word stands.
-fn extension(core: &Core) -> u16
+pub fn extension(core: &Core) -> u16
     ensures { result ≡ add16 (reg core.now PC) 2 }
 {
     core.pc().wrapping_add(2)
 }
 
 /// Where the destination's extension word stands, behind the source's.
-fn second_extension(extension: u16, src: Operand) -> u16
+pub fn second_extension(extension: u16, src: Operand) -> u16
     ensures { result ≡ add16 extension (2 * words_of src) }
 {
     extension.wrapping_add(2 * src.words())
@@ -75,8 +75,9 @@ fn add_access(
     }
 }
 
-/// The accesses of an instruction of format I: the source is read, the increment is done, the destination
-/// is read and written.
+/// Adds the accesses of an instruction of format I to none: the source is read, the increment is done, the
+/// destination is read and written.
+#[inline(always)]
 fn plan_two(
     insn: &Insn,
     op: TwoOp,
@@ -84,9 +85,11 @@ fn plan_two(
     src: Operand,
     dst: Operand,
     core: &Core,
-) -> ArrayVec<Access, 3>
-    requires { insn.now ≡ Insn.Two op width src dst }
-    ensures { result.items ≡ plan insn.now core.now }
+    accesses: &mut ArrayVec<Access, 3>,
+)
+    requires form { insn.now ≡ Insn.Two op width src dst }
+    requires none { accesses.old.items ≡ [] }
+    ensures { accesses.new.items ≡ plan insn.now core.now }
 {
     let mut after = *core;
     step_past(insn, &mut after);
@@ -94,23 +97,21 @@ fn plan_two(
     let source = place(src, &after, extension);
     increment(width, src, &mut after);
     let destination = place(dst, &after, second_extension(extension, src));
-    let mut accesses = ArrayVec::new();
-    add_access(&mut accesses, true, Kind::Read, width, source);
+    add_access(accesses, true, Kind::Read, width, source);
     add_access(
-        &mut accesses,
+        accesses,
         reads_destination(op),
         Kind::Read,
         width,
         destination,
     );
     add_access(
-        &mut accesses,
+        accesses,
         writes_destination(op),
         Kind::Write,
         width,
         destination,
     );
-    accesses
 }
 
 /// Adds what an instruction of format II writes: PUSH and CALL at the lowered SP, the others where they read.
@@ -133,56 +134,66 @@ fn add_write(
     }
 }
 
-/// The accesses of an instruction of format II: the operand is read, its increment is done, and the result
-/// is written.
-fn plan_one(insn: &Insn, op: OneOp, width: Width, arg: Operand, core: &Core) -> ArrayVec<Access, 3>
-    requires { insn.now ≡ Insn.One op width arg }
-    ensures { result.items ≡ plan insn.now core.now }
+/// Adds the accesses of an instruction of format II to none: the operand is read, its increment is done, and the
+/// result is written.
+#[inline(always)]
+fn plan_one(
+    insn: &Insn,
+    op: OneOp,
+    width: Width,
+    arg: Operand,
+    core: &Core,
+    accesses: &mut ArrayVec<Access, 3>,
+)
+    requires form { insn.now ≡ Insn.One op width arg }
+    requires none { accesses.old.items ≡ [] }
+    ensures { accesses.new.items ≡ plan insn.now core.now }
 {
     let mut after = *core;
     step_past(insn, &mut after);
     let operand = place(arg, &after, extension(core));
     increment(width, arg, &mut after);
     lower(&mut after);
-    let mut accesses = ArrayVec::new();
-    add_access(&mut accesses, true, Kind::Read, width, operand);
-    add_write(&mut accesses, op, width, operand, after.sp());
-    accesses
+    add_access(accesses, true, Kind::Read, width, operand);
+    add_write(accesses, op, width, operand, after.sp());
 }
 
-/// RETI reads SR at SP and PC behind it.
+/// Adds the accesses of RETI to none: it reads SR at SP and PC behind it.
 #[tactic(auto, unfolding(crate::specs::Plan::plan))]
-fn plan_reti(core: &Core) -> ArrayVec<Access, 3>
-    ensures { result.items ≡ plan Insn.Reti core.now }
+fn plan_reti(core: &Core, accesses: &mut ArrayVec<Access, 3>)
+    requires none { accesses.old.items ≡ [] }
+    ensures { accesses.new.items ≡ plan Insn.Reti core.now }
 {
     let sp = core.sp();
-    let mut accesses = ArrayVec::new();
-    add_access(&mut accesses, true, Kind::Read, Width::Word, Some(sp));
+    add_access(accesses, true, Kind::Read, Width::Word, Some(sp));
     add_access(
-        &mut accesses,
+        accesses,
         true,
         Kind::Read,
         Width::Word,
         Some(sp.wrapping_add(2)),
     );
-    accesses
 }
 
 /// The accesses of an instruction whose address is in PC, in their order. They follow from the registers
 /// and the extension words alone. A unit instruction's follow from more than that, and are not given here.
+// (inlined, with its parts: the list is then made where it is looked at, and not copied)
+#[inline(always)]
 #[tactic(auto, unfolding(crate::specs::Plan::plan))]
 pub fn plan(insn: &Insn, core: &Core) -> ArrayVec<Access, 3>
     ensures exact { result.items ≡ plan insn.now core.now }
 {
+    let mut accesses = ArrayVec::new();
     match *insn {
         Insn::Two {
             op,
             width,
             src,
             dst,
-        } => plan_two(insn, op, width, src, dst, core),
-        Insn::One { op, width, arg } => plan_one(insn, op, width, arg, core),
-        Insn::Reti => plan_reti(core),
-        Insn::Jump { .. } | Insn::Unit(_) => ArrayVec::new(),
+        } => plan_two(insn, op, width, src, dst, core, &mut accesses),
+        Insn::One { op, width, arg } => plan_one(insn, op, width, arg, core, &mut accesses),
+        Insn::Reti => plan_reti(core, &mut accesses),
+        Insn::Jump { .. } | Insn::Unit(_) => {}
     }
+    accesses
 }

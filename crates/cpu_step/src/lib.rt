@@ -4,6 +4,7 @@
 #![tactic(auto)]
 
 mod accesses;
+mod doing;
 mod effect;
 pub mod laws;
 mod operand;
@@ -14,7 +15,6 @@ mod step;
 mod tests;
 
 pub use accesses::plan;
-pub use effect::{Stored, does};
 pub use pc_access::{Access, Kind};
 pub use port::Port;
 pub use result::{Computed, one_result, two_result};

@@ -1,8 +1,8 @@
 //! Operands: where they stand, and what they give.
 
-ghost use Rattle.std.specs.Prelude.{◌≡◌};
+ghost use Rattle.std.specs.Prelude.{◌≡◌, List, ℕ, false};
 ghost use Rattle.cpu_step.specs.Plan.{place, step_of, stepped};
-ghost use Rattle.cpu_step.specs.Effect.{given, in_memory, after_given};
+ghost use Rattle.cpu_step.specs.Effect.{given, in_memory};
 
 use insn_decode::Operand;
 use sm_words::{Core, SP, Width};
@@ -40,35 +40,14 @@ pub fn increment(width: Width, operand: Operand, core: &mut Core)
     }
 }
 
-/// Whether the operand stands in memory.
-fn is_in_memory(operand: Operand) -> bool
-    ensures { result ≡ in_memory operand }
-{
-    !matches!(
-        operand,
-        Operand::Reg(_) | Operand::Const(_) | Operand::Imm(_)
-    )
-}
-
-/// The value that the operand gives: of a register, of the instruction, or the low byte or
-/// the word of the first value read.
-pub fn given(operand: Operand, width: Width, core: &Core, values: &[u16]) -> u16
-    ensures { result ≡ given operand width core.now values.now }
+/// The value that an operand outside memory gives: of a register, or of the instruction.
+pub fn at_hand(operand: Operand, width: Width, core: &Core) -> u16
+    requires { in_memory operand ≡ false }
+    ensures { (values : List ℕ) → result ≡ given operand width core.now values }
 {
     match operand {
         Operand::Reg(reg) => width.low(core.get(reg)),
         Operand::Const(value) | Operand::Imm(value) => width.low(value),
-        _ => width.low(values.first().copied().unwrap_or(0)),
-    }
-}
-
-/// The values that are left once the operand took its own.
-pub fn after_given(operand: Operand, values: &[u16]) -> &[u16]
-    ensures { result.now ≡ after_given operand values.now }
-{
-    if is_in_memory(operand) {
-        values.get(1..).unwrap_or(&[])
-    } else {
-        values
+        _ => 0,
     }
 }

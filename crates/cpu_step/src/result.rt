@@ -39,6 +39,8 @@ impl Computed {
 }
 
 /// Format I: of the source and the destination, bytes or words, and C.
+// (inlined, as where it is written: the result then stays in registers)
+#[inline(always)]
 pub fn two_result(op: TwoOp, width: Width, source: u16, destination: u16, carry: bool) -> Computed
     ensures { result ≡ two_result op width source destination (one_if carry) }
 {

@@ -1,17 +1,27 @@
 -- An instruction that is no unit instruction.
-use Rattle.std.proofs.Common.{◌≡◌, ℕ, ◌-◌, List, [], ◌∷◌, length, map, refl, sym, ap, ◌∙◌, true, false, IsFalse}
-use Rattle.insn_decode.specs.Code.{is_unit}
+use Rattle.std.proofs.Common.{◌≡◌, ℕ, ◌-◌, ◌*◌, List, [], ◌∷◌, ◌++◌, map, refl, sym, ap, ◌∙◌, subst, Bool, true, false, ◌&&◌, not, IsFalse, Option, Some, None, ◌⊎◌, inl, inr}
+use Rattle.std.proofs.lemmas.List.Elements.{All-cons, All-nil}
+use Rattle.sm_words.specs.Words.{reg, add16}
+use Rattle.sm_words.specs.declared.width.Width.{Width}
+use Rattle.sm_words.specs.declared.width.Width.TheVariants.{Word}
+use Rattle.insn_decode.specs.Code.{is_unit, words_of}
 use Rattle.insn_decode.specs.declared.insn.Insn.{Insn}
 use Rattle.insn_decode.specs.declared.insn.Insn.TheVariants.{Two, One, Jump, Reti, Unit as UnitOp}
-use Rattle.mod_layout.specs.declared.Module.{Module}
+use Rattle.insn_decode.specs.declared.insn.OneOp.{OneOp}
+use Rattle.insn_decode.specs.declared.insn.OneOp.TheVariants.{Rrc, Swpb, Rra, Sxt, Push, Call}
 use Rattle.cycle_table.specs.Cycles.{cycles_of}
+use Rattle.pc_access.specs.Rights.{misaligned}
 use Rattle.pc_access.specs.declared.Access.{Access}
+use Rattle.pc_access.specs.declared.Kind.TheVariants.{Read, Write}
 use Rattle.attest.specs.Accesses.{reads_of, writes_of}
-use Rattle.cpu_step.specs.Plan.{plan}
+use Rattle.cpu_step.specs.Plan.{access_if, lowered, one_writes, past, place, plan, reads_dst, stepped, writes_dst}
 use Rattle.cpu_step.specs.Effect.{does}
 use Rattle.cpu_step.specs.Asked.{asks, effect}
-use Rattle.cpu_step.specs.Lone.{Job, lone_read, lone_writes, lone_does}
+use Rattle.cpu_step.specs.Through.{AreAligned, Taken, After, taken, stored_in, through}
+use Rattle.cpu_step.specs.Lone.{Job, lone_read, lone_writes, lone_does, lone_who, all_inside, is_inside, inside_by}
+use Rattle.cpu_step.proofs.ThroughLemmas.{AtMostOne, few_writes}
 use Rattle.lone_run.specs.Jobs.{between}
+use Rattle.lone_run.specs.Sections.{Held, answered, after_held, after_put}
 
 shape : (j : Job) (core ram : List ℕ) (insn : Insn) → IsFalse (is_unit insn) →
     lone_does j insn (between core ram)
@@ -28,24 +38,67 @@ shape j core ram (Jump c off) free = refl
 shape j core ram Reti free = refl
 shape j core ram (UnitOp n) free = absurd (let h : ⊥ = cc in h)
 
-pub plain_done : (j : Job) (core ram after left values stored : List ℕ) (insn : Insn) (xs : List Access) (k : ℕ) → IsFalse (is_unit insn) → xs ≡ plan insn core → values ≡ map (lone_read j ram) (reads_of xs) →
-    after ≡ (does insn core values true).core → stored ≡ (does insn core values true).stored → left ≡ lone_writes j.owner ram (writes_of xs) stored → k ≡ cycles_of insn →
+-- ---- through the sections
+
+-- the sections before an instruction
+abbrev pub before : Job → List ℕ → Held
+before j ram = record { job = j; ram = ram; put = None }
+
+taken_is : (s : Held) (xs : List Access) → taken answered (λ t w a. t) s xs ≡ record { values = map (lone_read s.job s.ram) xs; state = s }
+taken_is s [] = refl
+taken_is s (x ∷ xs) = ap (λ (r : Taken Held). let t : Taken Held = record { values = lone_read s.job s.ram x ∷ r.values; state = r.state } in t) (taken_is s xs)
+
+stored_is : (j : Job) (ram : List ℕ) (xs : List Access) (values : List ℕ) → AtMostOne xs →
+    after_put j.owner ram (stored_in after_held (before j ram) xs values).put ≡ lone_writes j.owner ram xs values
+stored_is j ram [] values h = refl
+stored_is j ram (x ∷ xs) [] h = refl
+stored_is j ram (x ∷ []) (v ∷ values) h = refl
+stored_is j ram (x ∷ y ∷ xs) (v ∷ values) h = absurd cc
+
+pub plain_done : (j : Job) (core ram after left : List ℕ) (insn : Insn) (s : Held) (k : ℕ) → IsFalse (is_unit insn) →
+    after ≡ (through answered (λ t w a. t) after_held insn core true (before j ram)).core →
+    s ≡ (through answered (λ t w a. t) after_held insn core true (before j ram)).state →
+    left ≡ after_put j.owner ram s.put → k ≡ cycles_of insn →
     lone_does j insn (between core ram) ≡ record { core = after; data_bytes = left; rest = k - 1; closing = false }
-plain_done j core ram after left values stored insn xs k free ex ev ea es el ek =
-    let vals : List Access → List ℕ = λ xs. map (lone_read j ram) (reads_of xs) in
+plain_done j core ram after left insn s k free ea es el ek =
+    let xs : List Access = plan insn core in
+    let values : List ℕ = map (lone_read j ram) (reads_of xs) in
+    let t : taken answered (λ t w a. t) (before j ram) (reads_of xs) ≡ record { values = values; state = before j ram } = taken_is (before j ram) (reads_of xs) in
+    let core_is : after ≡ (does insn core values true).core = ea ∙ ap (λ (r : Taken Held). (does insn core r.values true).core) t in
+    let state_is : s ≡ stored_in after_held (before j ram) (writes_of xs) (does insn core values true).stored =
+    es ∙ ap (λ (r : Taken Held). stored_in after_held r.state (writes_of xs) (does insn core r.values true).stored) t in
+    let left_is : left ≡ lone_writes j.owner ram (writes_of xs) (does insn core values true).stored =
+    el ∙ ap (λ (z : Held). after_put j.owner ram z.put) state_is ∙ stored_is j ram (writes_of xs) (does insn core values true).stored (few_writes insn core) in
     shape j core ram insn free
-    ∙ ap (λ ys. record { core = (does insn core (vals ys) true).core; data_bytes = lone_writes j.owner ram (writes_of ys) (does insn core (vals ys) true).stored; rest = cycles_of insn - 1; closing = false }) (sym ex)
-    ∙ ap (λ vs. record { core = (does insn core vs true).core; data_bytes = lone_writes j.owner ram (writes_of xs) (does insn core vs true).stored; rest = cycles_of insn - 1; closing = false }) (sym ev)
-    ∙ ap (λ c. record { core = c; data_bytes = lone_writes j.owner ram (writes_of xs) (does insn core values true).stored; rest = cycles_of insn - 1; closing = false }) (sym ea)
-    ∙ ap (λ s. record { core = after; data_bytes = lone_writes j.owner ram (writes_of xs) s; rest = cycles_of insn - 1; closing = false }) (sym es)
-    ∙ ap (λ d. record { core = after; data_bytes = d; rest = cycles_of insn - 1; closing = false }) (sym el)
+    ∙ ap (λ c. record { core = c; data_bytes = lone_writes j.owner ram (writes_of xs) (does insn core values true).stored; rest = cycles_of insn - 1; closing = false }) (sym core_is)
+    ∙ ap (λ d. record { core = after; data_bytes = d; rest = cycles_of insn - 1; closing = false }) (sym left_is)
     ∙ ap (λ n. record { core = after; data_bytes = left; rest = n - 1; closing = false }) (sym ek)
 
-none_written : (m : Module) (ram : List ℕ) (xs : List Access) → lone_writes m ram xs [] ≡ ram
-none_written m ram [] = refl
-none_written m ram (x ∷ xs) = refl
+-- ---- what stays in the sections is aligned
 
--- without values nothing is written
-pub same_written : (m : Module) (ram : List ℕ) (xs ys : List Access) (values : List ℕ) → length values ≡ 0 → lone_writes m ram xs values ≡ lone_writes m ram ys values
-same_written m ram xs ys [] h = none_written m ram xs ∙ sym (none_written m ram ys)
-same_written m ram xs ys (v ∷ vs) h = absurd cc
+false_left : (a b : Bool) → (not a && b) ≡ true → a ≡ false
+false_left true b e = absurd cc
+false_left false b e = refl
+
+left_true : (a b : Bool) → (a && b) ≡ true → a ≡ true
+left_true true b e = refl
+left_true false b e = absurd cc
+
+right_true : (a b : Bool) → (a && b) ≡ true → b ≡ true
+right_true true b e = e
+right_true false b e = absurd cc
+
+all_aligned : (j : Job) (xs : List Access) → all_inside j xs ≡ true → AreAligned xs
+all_aligned j [] e = All-nil (λ (y : Access). IsFalse (misaligned y.width y.addr))
+all_aligned j (x ∷ xs) e =
+    All-cons (λ (y : Access). IsFalse (misaligned y.width y.addr)) x xs
+    (false_left (misaligned x.width x.addr) (inside_by x.kind j x.addr) (left_true (is_inside j x) (all_inside j xs) e))
+    (all_aligned j xs (right_true (is_inside j x) (all_inside j xs) e))
+
+pub plain_aligned : (j : Job) (insn : Insn) (core : List ℕ) → IsFalse (is_unit insn) → all_inside j (asks (lone_who j) insn core) ≡ true → AreAligned (plan insn core)
+unfolding asks
+plain_aligned j (Two op w s d) core free e = all_aligned j (plan (Two op w s d) core) e
+plain_aligned j (One op w a) core free e = all_aligned j (plan (One op w a) core) e
+plain_aligned j (Jump c off) core free e = all_aligned j (plan (Jump c off) core) e
+plain_aligned j Reti core free e = all_aligned j (plan Reti core) e
+plain_aligned j (UnitOp n) core free e = absurd (let h : ⊥ = cc in h)

@@ -5,6 +5,7 @@ mod acting;
 mod calling;
 mod job;
 mod next;
+mod sections;
 mod tagging;
 #[cfg(test)]
 mod tests;

@@ -6,7 +6,7 @@ use Rattle.cpu_step.proofs.accesses.plan_one.Goals as goal
 
 pub returns : goal.returns
 returns c =
-    let first = c.add_access.ensures.items ∙ ap (λ l. l ++ access_if true Read c.args.width c.place-operand.result) c.new-accesses.ensures in
+    let first = c.add_access.ensures.items ∙ ap (λ l. l ++ access_if true Read c.args.width c.place-operand.result) c.requires.none in
     c.add_write.ensures
     ∙ ap (λ l. l ++ one_writes c.args.op c.args.width c.place-operand.result c.sp.result) first
-    ∙ plan_one_form c.args.insn.now c.args.core.now c.args.op c.args.width c.args.arg _ _ _ _ _ _ c.requires c.step_past.ensures c.extension.ensures c.place-operand.ensures c.increment.ensures c.lower.ensures c.sp.ensures.sp
+    ∙ plan_one_form c.args.insn.now c.args.core.now c.args.op c.args.width c.args.arg _ _ _ _ _ _ c.requires.form c.step_past.ensures c.extension.ensures c.place-operand.ensures c.increment.ensures c.lower.ensures c.sp.ensures.sp
