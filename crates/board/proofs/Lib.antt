@@ -2,6 +2,7 @@ pub mod HeldRights
 pub mod Kept
 pub mod Through
 pub mod Units
+pub mod Whole
 pub mod Runs
 pub mod Idle
 pub mod Seen

@@ -227,8 +227,8 @@ impl Board {
 pub(crate) fn put_lines<S: Sink>(sink: &mut S, cycle: u64, events: &[Event]) -> Result<(), Failed>
     ensures { Puts S.taken S.faults S.sure sink.old sink.new (lines_of cycle events.now) result }
 {
-    let mut line = ArrayString::new();
     for event in events {
+        let mut line = ArrayString::new();
         tracer::line(cycle, event, &mut line);
         match put_all(sink, line.as_str().as_bytes()) {
             Ok(()) => {}
