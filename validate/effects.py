@@ -152,9 +152,8 @@ def ours(program, folder, case, watched):
 
 
 def commands(case, watched):
-    """What mspdebug is asked."""
-    rows = ["fill 0x200 0xfd80 0"]
-    rows += [f"mw {addr:#x} {value:#04x}" for addr, value in case.data.items()]
+    """What mspdebug is asked: it looks at no byte but those that are written first."""
+    rows = [f"mw {addr:#x} {value:#04x}" for addr, value in case.data.items()]
     rows.append(f"mw {TEST:#x} " + " ".join(f"{byte:#04x}" for word in case.words for byte in machine.word_bytes(word)))
     rows += [f"set {n} {value:#x}" for n, value in enumerate(case.regs) if n != 3]
     rows += ["simio info t", "step", "simio info t", *(f"md {addr & ~1:#x} 2" for addr in watched)]
@@ -230,7 +229,7 @@ def main():
             continue
         case.words = case.words[: form[3]]
         byte_of = (lambda: decimal(rng) & 0xFF) if case.decimal else (lambda: rng.randrange(256))
-        case.data = {addr + k & 0xFFFF: byte_of() for addr in found for k in (0, 1)}
+        case.data = {at: byte_of() for addr in found for at in (addr & ~1, addr | 1)}
         cases.append((case, form, found[:4]))
     differences, examples = collections.Counter(), {}
     with tempfile.TemporaryDirectory() as folder:

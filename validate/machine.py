@@ -1,5 +1,6 @@
 """Images for `sancus`, and runs of it and of the tools it is held against. Needs Python 3 alone."""
 import os
+import re
 import subprocess
 
 MEMORY = 65536
@@ -14,10 +15,8 @@ def image_text(memory, key=bytes(16), handler=0, modules=()):
     """The text of an image without modules, or with rows (vendor, text start and end, data start and end)."""
     lines = ["sancus-image 1", "key " + key.hex(), f"handler {handler:04x}"]
     lines += ["module " + " ".join(f"{field:04x}" for field in row) for row in modules]
-    for at in range(FIRST_ROW, MEMORY, 16):
-        row = bytes(memory[at : at + 16])
-        if any(row):
-            lines.append(f"at {at:04x} {row.hex()}")
+    rows = {found.start() & ~15 for found in re.finditer(rb"[^\0]", memory)}
+    lines += [f"at {at:04x} {bytes(memory[at : at + 16]).hex()}" for at in sorted(rows) if at >= FIRST_ROW]
     return "\n".join([*lines, "end", ""])
 
 
