@@ -44,7 +44,7 @@ from_here hay i zero k h e = sym (ap (position_from (is_byte 0) i) (drop_of_leng
 from_here hay i (suc n) k h e =
     rw (drop-cons hay i 0 (omega arith), add-one i)
     (front_by i k (places_from (is_byte 0) hay (suc i) n) (position_from (is_byte 0) (suc i) (drop (suc i) hay)) (is_byte 0 (slice_index hay i)) h
-      (from_here hay (suc i) n k (omega arith) (omega arith)))
+    (from_here hay (suc i) n k (omega arith) (omega arith)))
 
 skip_by : (i k : ℕ) (later : List ℕ) (b : Bool) → i < k → first_from (cond b (i ∷ later) later) k ≡ first_from later k
 skip_by i k later true h = rw (below i k h) refl

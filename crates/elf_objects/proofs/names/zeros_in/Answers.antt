@@ -22,6 +22,6 @@ loop-place-preserved c =
       tt,
       (λ k d l. all (suc k) d (omega arith)),
       ap (λ (zeros : List ℕ). zeros ++ c.next.new.self) c.in_ok-push.ensures.items
-      ∙ (append_assoc c.loop-place.zeros.items (c.in-Some.place ∷ []) c.next.new.self
-      ∙ (ap (λ (places : List ℕ). c.loop-place.zeros.items ++ places) (sym next) ∙ kept.3)),
+          ∙ (append_assoc c.loop-place.zeros.items (c.in-Some.place ∷ []) c.next.new.self
+          ∙ (ap (λ (places : List ℕ). c.loop-place.zeros.items ++ places) (sym next) ∙ kept.3)),
     )
