@@ -118,7 +118,20 @@ impl Board {
     {
         isolation::tells();
         isolation::two_runs();
-        self.machine.tick()
+        let mut events = ArrayVec::new();
+        self.step(&mut events);
+        events
+    }
+
+    // One cycle. Sets `events` to its events, in the order of its steps.
+    pub(crate) fn step(&mut self, events: &mut ArrayVec<Event, 4>)
+        requires { self.old.present.cycle < 2 ^ 62 }
+        ensures state { self.new.present ≡ (cycle self.old.present).state }
+        ensures events { events.new.items ≡ (cycle self.old.present).events }
+        ensures number { self.new.present.cycle ≤ self.old.present.cycle + 1 }
+        ensures marks { self.new ≡ at_state self.old self.new.present }
+    {
+        self.machine.tick(events);
     }
 
     /// That many cycles, or fewer where it stops, with their lines. After `SinkFailed` the board stands after
@@ -133,13 +146,14 @@ impl Board {
         ensures peers { PeersRun S.taken S.faults S.sure cycles self.old.present sink.old sink.new result }
     {
         isolation::texts();
+        let mut events = ArrayVec::new();
         let mut left = cycles;
         while left > 0 {
             if self.is_stopped() {
                 return self.ended();
             }
             let cycle = self.machine.cycle;
-            let events = self.tick();
+            self.step(&mut events);
             match put_lines(sink, cycle, events.as_slice()) {
                 Ok(()) => {}
                 Err(Failed) => return Ran::SinkFailed,

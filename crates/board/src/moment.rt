@@ -6,6 +6,7 @@ ghost use Rattle.written_machine.specs.Cycle.{after_cycles};
 ghost use Rattle.written_machine.specs.Standing.{stands_at};
 
 use crate::machine::Machine;
+use arrayvec::ArrayVec;
 use devices::BusMark;
 use mod_layout::ModuleTable;
 use pc_access::Stop;
@@ -111,7 +112,7 @@ impl Machine {
         ensures lasting { lasting_of self.new ≡ lasting_of self.old }
     {
         while self.cycle < end {
-            let _ = self.tick();
+            self.tick(&mut ArrayVec::new());
             let left = end - self.cycle;
             let _ = self.pass_idle(left);
         }
@@ -135,7 +136,7 @@ impl Machine {
             if self.stands_at(addr) {
                 last = Some(self.cycle);
             }
-            let _ = self.tick();
+            self.tick(&mut ArrayVec::new());
             let left = end - self.cycle;
             let _ = self.pass_idle(left.saturating_sub(1));
         }
@@ -160,7 +161,7 @@ impl Machine {
         self.load(k, moment);
         let last = self.last_before(addr, end);
         if is_stopped {
-            let _ = self.tick();
+            self.tick(&mut ArrayVec::new());
         }
         last
     }

@@ -9,6 +9,7 @@ ghost use Rattle.board.specs.Ran.{Apart, Runs};
 
 use crate::board::put_lines;
 use crate::{Board, Ran};
+use arrayvec::ArrayVec;
 use sm_io::{Failed, Sink};
 
 impl Board {
@@ -27,6 +28,7 @@ impl Board {
             self.old.present sink.old sink.new result }
     {
         isolation::texts();
+        let mut events = ArrayVec::new();
         let mut left = most;
         while left > 0 {
             if self.stands_at(addr) {
@@ -36,7 +38,7 @@ impl Board {
                 return self.ended();
             }
             let cycle = self.machine.cycle;
-            let events = self.tick();
+            self.step(&mut events);
             match put_lines(sink, cycle, events.as_slice()) {
                 Ok(()) => {}
                 Err(Failed) => return Ran::SinkFailed,

@@ -50,12 +50,12 @@ returns-in-Err-clause-ran g c =
     let within : n < u = omega (arith, next) in
     let number = c.self.inside.machine.cycle in
     let lines_are_those : lines_of number c.as_slice.result.now ≡ lines_now (after_cycles s n) =
-    lines_are c.loop-left.self.present (after_cycles s n) number c.as_slice.result.now (ap (λ (g : Marked). g.present.cycle) c.self.view_is) (c.as_slice.ensures.value ∙ c.tick-events.ensures.events) i.state in
+    lines_are c.loop-left.self.present (after_cycles s n) number c.as_slice.result.now (ap (λ (g : Marked). g.present.cycle) c.self.view_is) (c.as_slice.ensures.value ∙ c.step.ensures.events) i.state in
     let m = c.in-Err.ensures.front.0 in
     record {
       cycles = n;
       within = within;
-      state = c.tick-events.ensures.state ∙ ap (λ (b : State). (cycle b).state) i.state ∙ sym (state_more n s);
+      state = c.step.ensures.state ∙ ap (λ (b : State). (cycle b).state) i.state ∙ sym (state_more n s);
       front = m;
       shorter = subst (λ (l : List ℕ). m < length l) lines_are_those c.in-Err.ensures.shorter;
       bytes = appends_same (g.S.Sink.taken c.args.sink.now) (g.S.Sink.taken c.put_lines.new.sink) _ (lines_after s n ++ take m (lines_now (after_cycles s n))) (ap (λ (l : List ℕ). lines_after s n ++ take m l) lines_are_those)
@@ -89,7 +89,7 @@ returns-then-is_stopped-clause-peers g c =
 
 pub returns-in-Err-clause-peers : goal.returns-in-Err-clause-peers
 returns-in-Err-clause-peers g c =
-    peers_run g.S.Sink.taken g.S.Sink.faults g.S.Sink.sure c.texts.ensures.lines (cycles_until c.args.addr c.args.self.now.present c.args.most) c.args.self.now.present c.tick-events.new.self.present c.args.sink.now c.put_lines.new.sink SinkFailed (returns-in-Err-clause-ran g c)
+    peers_run g.S.Sink.taken g.S.Sink.faults g.S.Sink.sure c.texts.ensures.lines (cycles_until c.args.addr c.args.self.now.present c.args.most) c.args.self.now.present c.step.new.self.present c.args.sink.now c.put_lines.new.sink SinkFailed (returns-in-Err-clause-ran g c)
 
 -- a cycle passed, and others in which nothing begins
 pub loop-left-preserved : goal.loop-left-preserved
@@ -102,16 +102,16 @@ loop-left-preserved g c =
     let elsewhere : stands_at c.args.addr (after_cycles s n) ≡ false = sym (ap (stands_at c.args.addr) {y = after_cycles s n} i.state) ∙ sym c.stands_at.ensures ∙ c.if-stands_at.false in
     let number = c.self.inside.machine.cycle in
     let lines_are_those : lines_of number c.as_slice.result.now ≡ lines_now (after_cycles s n) =
-    lines_are c.loop-left.self.present (after_cycles s n) number c.as_slice.result.now (ap (λ (g : Marked). g.present.cycle) c.self.view_is) (c.as_slice.ensures.value ∙ c.tick-events.ensures.events) i.state in
-    let next : c.tick-events.new.self.present ≡ after_cycles s (n + 1) = c.tick-events.ensures.state ∙ ap (λ (b : State). (cycle b).state) i.state ∙ sym (state_more n s) in
+    lines_are c.loop-left.self.present (after_cycles s n) number c.as_slice.result.now (ap (λ (g : Marked). g.present.cycle) c.self.view_is) (c.as_slice.ensures.value ∙ c.step.ensures.events) i.state in
+    let next : c.step.new.self.present ≡ after_cycles s (n + 1) = c.step.ensures.state ∙ ap (λ (b : State). (cycle b).state) i.state ∙ sym (state_more n s) in
     let done : n + 1 + k ≡ c.args.most - (c.loop-left.left - 1 - k) = omega (arith, i.within, c.loop-left-test.true, c.pass_apart-left.ensures.most) in
     record {
       within = omega (arith, i.within);
-      state = state_led (n + 1) k s c.tick-events.new.self.present c.pass_apart-left.new.self.present next led ∙ ap (after_cycles s) done;
+      state = state_led (n + 1) k s c.step.new.self.present c.pass_apart-left.new.self.present next led ∙ ap (after_cycles s) done;
       lines = took_same g.S.Sink.taken g.S.Sink.faults g.S.Sink.sure _ _ (lines_after s n ++ lines_of number c.as_slice.result.now) (lines_after s (c.args.most - (c.loop-left.left - 1 - k)))
-          (lines_next n s _ lines_are_those ∙ lines_led (n + 1) k s c.tick-events.new.self.present c.pass_apart-left.new.self.present next led ∙ ap (lines_after s) done)
+          (lines_next n s _ lines_are_those ∙ lines_led (n + 1) k s c.step.new.self.present c.pass_apart-left.new.self.present next led ∙ ap (lines_after s) done)
           (took_then g.S.Sink.taken g.S.Sink.faults g.S.Sink.sure _ _ _ (lines_after s n) _ i.lines c.in-Ok.ensures);
-      apart = subst (λ n. Apart c.args.addr n s) done (apart_then c.args.addr n k s c.tick-events.new.self.present i.apart elsewhere next c.pass_apart-left.ensures.apart);
-      number = omega (arith, i.number, i.within, c.loop-left-test.true, c.tick-events.ensures.number, c.pass_apart-left.ensures.number, c.pass_apart-left.ensures.most);
-      marks = c.pass_apart-left.ensures.marks ∙ ap (λ (g : Marked). at_state g c.pass_apart-left.new.self.present) (c.tick-events.ensures.marks ∙ ap (λ (g : Marked). at_state g c.tick-events.new.self.present) i.marks);
+      apart = subst (λ n. Apart c.args.addr n s) done (apart_then c.args.addr n k s c.step.new.self.present i.apart elsewhere next c.pass_apart-left.ensures.apart);
+      number = omega (arith, i.number, i.within, c.loop-left-test.true, c.step.ensures.number, c.pass_apart-left.ensures.number, c.pass_apart-left.ensures.most);
+      marks = c.pass_apart-left.ensures.marks ∙ ap (λ (g : Marked). at_state g c.pass_apart-left.new.self.present) (c.step.ensures.marks ∙ ap (λ (g : Marked). at_state g c.step.new.self.present) i.marks);
     }
