@@ -1,11 +1,10 @@
 -- A module by itself, over many cycles.
-use Rattle.std.proofs.Common.{◌≡◌, ◌<◌, ◌≤◌, ◌⊎◌, inl, inr, ℕ, zero, suc, ◌+◌, ◌-◌, List, refl, sym, ap, ◌∙◌, subst, arith, Bool, true, false, Option, Some, None}
-use Rattle.std.proofs.lemmas.Bool.{cases_lt}
+use Rattle.std.proofs.Common.{◌≡◌, ℕ, zero, suc, ◌+◌, refl, sym, ap, ◌∙◌, subst, arith, Bool, true, false, Option, Some, None}
 use Rattle.sm_words.specs.Words.{reg}
 use Rattle.insn_decode.specs.declared.insn.Insn.{Insn}
 use Rattle.mod_layout.specs.Table.{holds}
-use Rattle.cpu_step.specs.Lone.{Job, Lone, Outcome, Exit, Closing, Broken, Running, Doing, Waits, Closes, Leaves, Breaks, Does, does_or_breaks, doing_by, doing, next_insn, later, at_once, in_time, outcome, lone_does, lone_step_by, lone_step, lone_after}
-use Rattle.cpu_step.specs.LoneLaws.{GoesOn, GoesOnBefore, ExitsAt, ClosesAt, BreaksAt, Stands}
+use Rattle.cpu_step.specs.Lone.{Job, Lone, Outcome, Exit, Closing, Broken, Running, Doing, Waits, Closes, Leaves, Breaks, Does, doing_by, doing, next_insn, later, at_once, in_time, outcome, lone_does, lone_step_by, lone_step, lone_after}
+use Rattle.cpu_step.specs.LoneLaws.{GoesOn, GoesOnBefore, Stands}
 
 -- the cycles of a step and those after it
 pub after_step : (j : Job) (l : Lone) (c : ℕ) → lone_after j (lone_step j l) c ≡ lone_after j l (suc c)

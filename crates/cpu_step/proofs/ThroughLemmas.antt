@@ -7,7 +7,6 @@ use Rattle.sm_words.specs.Words.{reg, bit, add16}
 use Rattle.sm_words.specs.declared.registers.TheConstants.{PC, SP, SR}
 use Rattle.sm_words.specs.declared.status.TheConstants.{CARRY}
 use Rattle.sm_words.specs.declared.width.Width.{Width}
-use Rattle.sm_words.specs.declared.width.Width.TheVariants.{Word}
 use Rattle.insn_decode.specs.Code.{words_of}
 use Rattle.insn_decode.specs.declared.insn.Insn.{Insn}
 use Rattle.insn_decode.specs.declared.insn.Insn.TheVariants.{Two, One, Jump, Reti, Unit as UnitOp}
@@ -20,12 +19,11 @@ use Rattle.insn_decode.specs.declared.insn.TwoOp.TheVariants.{Mov, Add, Addc, Su
 use Rattle.pc_access.specs.Accesses.{reads_of, writes_of}
 use Rattle.pc_access.specs.Rights.{misaligned}
 use Rattle.pc_access.specs.declared.Access.{Access}
-use Rattle.pc_access.specs.declared.Kind.{Kind}
 use Rattle.pc_access.specs.declared.Kind.TheVariants.{Read, Write}
 use Rattle.cpu_step.specs.Plan.{past, place, stepped, lowered, access_if, reads_dst, writes_dst, one_writes, plan}
 use Rattle.cpu_step.specs.Effect.{given, in_memory, after_given, old_value, two_result, written, one_done, set_flags, value_of, Done, does_freely}
 use Rattle.cpu_step.specs.declared.result.Computed.{Computed}
-use Rattle.cpu_step.specs.Through.{AreAligned, Taken, After, taken, stored_in, freely_through}
+use Rattle.cpu_step.specs.Through.{AreAligned, Taken, taken, stored_in, freely_through}
 use Rattle.cpu_step.proofs.Forms.{plan_two_form, plan_one_form, two_form, one_form}
 
 -- ---- operands

@@ -2,7 +2,7 @@
 use Rattle.std.specs.Prelude.{◌≡◌, ◌<◌, ◌≤◌, ℕ, List, true, false, None}
 use Rattle.sm_words.specs.Words.{reg}
 use Rattle.mod_layout.specs.Table.{holds}
-use Rattle.cpu_step.specs.Lone.{Job, Lone, Outcome, Exit, Closing, Broken, Running, Doing, Waits, Closes, Leaves, Breaks, Does, doing, next_insn, lone_after, outcome}
+use Rattle.cpu_step.specs.Lone.{Job, Lone, Outcome, Exit, Closing, Broken, Running, Doing, Waits, Does, doing, next_insn, lone_after, outcome}
 
 -- the module waits out an instruction or does one
 abbrev pub GoesOn : Doing → Type 0
