@@ -1,8 +1,9 @@
 //! A vendor's challenges, and its reports on the replies.
 
+use crate::calls::call;
 use crate::images::CALLED;
-use sm_cli::{Status, serve};
-use sm_io::{MemFiles, MemSink};
+use sm_cli::Status;
+use sm_io::MemFiles;
 use std::alloc::Global;
 use std::test::Fail;
 
@@ -75,25 +76,6 @@ const THREE: &[u8] = b"\
 4000 ffffffffffffffffffffffffffffffff
 7000 101112131415161718191a1b1c1d1e1f
 ";
-
-// What a call gave.
-#[derive(Drop)]
-struct Given {
-    status: Status,
-    out: MemSink,
-    err: MemSink,
-}
-
-fn call(alloc: Global, line: &str, files: &mut MemFiles) -> Result<Given, Fail> {
-    let mut words = Vec::new(alloc);
-    for word in line.split(' ') {
-        words.push(String::from_str(alloc, word)?)?;
-    }
-    let mut out = MemSink::new(alloc, 4000)?;
-    let mut err = MemSink::new(alloc, 1000)?;
-    let status = serve(alloc, words.as_slice(), files, &mut out, &mut err);
-    Ok(Given { status, out, err })
-}
 
 // A trace that sends these bytes.
 fn sent(alloc: Global, bytes: [u8; 16]) -> Result<String, Fail> {

@@ -2,7 +2,7 @@
 #![tactic(auto)]
 
 #[cfg(test)]
-mod assembled;
+mod calls;
 #[cfg(test)]
 mod commands;
 #[cfg(test)]
@@ -12,16 +12,10 @@ mod images;
 #[cfg(test)]
 mod interrupted;
 #[cfg(test)]
-mod linked;
-#[cfg(test)]
 mod made;
-#[cfg(test)]
-mod objects;
 #[cfg(test)]
 mod outside;
 #[cfg(test)]
 mod scripts;
-#[cfg(test)]
-mod stock;
 #[cfg(test)]
 mod tests;

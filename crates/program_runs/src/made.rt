@@ -1,6 +1,6 @@
 //! Workloads, by calls of `serve`.
 
-use crate::linked::call;
+use crate::calls::call;
 use sm_cli::Status;
 use sm_io::MemFiles;
 use std::alloc::Global;
@@ -53,8 +53,8 @@ fn lines_of(alloc: Global, text: &[u8]) -> Result<Vec<String>, Fail> {
 fn assert_alike(rt: &impl Abort, alloc: Global, seed: &str) -> Result<(), Fail> {
     let line = format!(in alloc; "make {seed}")?;
     let head = format!(in alloc; "seed {seed}\nlines ")?;
-    let given = call(alloc, line.as_str(), MemFiles::new(alloc))?;
-    let again = call(alloc, line.as_str(), MemFiles::new(alloc))?;
+    let given = call(alloc, line.as_str(), &mut MemFiles::new(alloc))?;
+    let again = call(alloc, line.as_str(), &mut MemFiles::new(alloc))?;
     let lines = lines_of(alloc, given.out.taken())?;
     assert_eq!(rt; given.status, Status::Done);
     assert_eq!(rt; given.out.taken(), again.out.taken());
@@ -87,12 +87,12 @@ fn tells_of_the_trace(rt: HostRuntime) -> Result<(), Fail> {
     let mut files = MemFiles::new(alloc);
     files.put_file("w.img", WORKLOAD.as_bytes())?;
     files.put_file("w.txt", schedule_text(alloc, 1)?.as_bytes())?;
-    let image = call(alloc, "image w.img w.txt 200000", files)?;
+    let image = call(alloc, "image w.img w.txt 200000", &mut files)?;
     let trace = lines_of(alloc, image.out.taken())?;
     let count = trace.len();
     let end = trace.last().map_or("", |line| line.as_str());
     let told = format!(in alloc; "seed 1\nlines {count}\n{end}\nlines {count}\n{end}\n")?;
-    let made = call(alloc, "make 1", MemFiles::new(alloc))?;
+    let made = call(alloc, "make 1", &mut MemFiles::new(alloc))?;
     assert_eq!(rt; image.status, Status::Done);
     assert_eq!(rt; made.out.taken(), told.as_bytes());
     Ok(())
@@ -109,7 +109,7 @@ fn takes_one_seed(rt: HostRuntime) -> Result<(), Fail> {
         "make 0 1",
         "make ",
     ] {
-        let given = call(rt.alloc(), line, MemFiles::new(rt.alloc()))?;
+        let given = call(rt.alloc(), line, &mut MemFiles::new(rt.alloc()))?;
         assert_eq!(rt; given.status, Status::Usage, "{line}");
         assert_eq!(rt; given.out.taken(), b"".as_slice(), "{line}");
         assert_eq!(rt; given.err.taken(), b"sancus: usage\n".as_slice(), "{line}");

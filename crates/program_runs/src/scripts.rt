@@ -1,8 +1,9 @@
 //! Scripts, each played by one call of `serve`.
 
+use crate::calls::call;
 use crate::images::{BACK, CALLED, EMPTY, Picture};
-use sm_cli::{Status, serve};
-use sm_io::{MemFiles, MemSink};
+use sm_cli::Status;
+use sm_io::MemFiles;
 use std::alloc::Global;
 use std::process::Abort;
 use std::test::Fail;
@@ -113,25 +114,6 @@ fn plays() -> [Play; 8] {
     ]
 }
 
-/// What a call gave.
-#[derive(Drop)]
-struct Given {
-    status: Status,
-    out: MemSink,
-    err: MemSink,
-}
-
-fn call(alloc: Global, line: &str, mut files: MemFiles) -> Result<Given, Fail> {
-    let mut words = Vec::new(alloc);
-    for word in line.split(' ') {
-        words.push(String::from_str(alloc, word)?)?;
-    }
-    let mut out = MemSink::new(alloc, 1000)?;
-    let mut err = MemSink::new(alloc, 1000)?;
-    let status = serve(alloc, words.as_slice(), &mut files, &mut out, &mut err);
-    Ok(Given { status, out, err })
-}
-
 fn files_of(alloc: Global, image: Picture, schedule: &str, script: &str) -> Result<MemFiles, Fail> {
     let text = image.text(alloc)?;
     let mut files = MemFiles::new(alloc);
@@ -150,8 +132,8 @@ fn scripts(rt: HostRuntime) -> Result<(), Fail> {
         } else {
             "monitor a.img times script"
         };
-        let files = files_of(alloc, play.image, play.schedule, play.script)?;
-        let given = call(alloc, line, files)?;
+        let mut files = files_of(alloc, play.image, play.schedule, play.script)?;
+        let given = call(alloc, line, &mut files)?;
         let script = play.script;
         assert_eq!(rt; given.out.taken(), play.out.as_bytes(), "{script}");
         assert_eq!(rt; given.status, play.status, "{script}");
@@ -167,7 +149,7 @@ fn assert_refused(
     script: &str,
     refusal: (Status, &str),
 ) -> Result<(), Fail> {
-    let given = call(alloc, line, files_of(alloc, BACK, "", script)?)?;
+    let given = call(alloc, line, &mut files_of(alloc, BACK, "", script)?)?;
     let (status, err) = refusal;
     assert_eq!(rt; given.err.taken(), err.as_bytes(), "{line} {script}");
     assert_eq!(rt; given.status, status, "{line} {script}");

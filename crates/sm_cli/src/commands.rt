@@ -1,12 +1,14 @@
 // The commands: which there are, and what they have in common.
-ghost use Rattle.std.specs.Prelude.{◌≡◌, ◌≢◌, IsTrue, IfOk, IfErr, IfSome, false, option_map};
+ghost use Rattle.std.specs.Prelude.{◌≡◌, ◌≢◌, IsTrue, IfOk, IfErr, IfSome, false, drop, option_and_then, option_map};
 ghost use Rattle.sm_io.specs.Faults.{HasCause};
 ghost use Rattle.sm_io.specs.Sink.{Took, CutOff};
 ghost use Rattle.sm_cli.specs.declared.answers.Refusal.TheVariants.{CannotRead};
 ghost use Rattle.sm_cli.specs.Command.{Command};
-ghost use Rattle.sm_cli.specs.CommandLine.{asked, command_of, IsBounded};
+ghost use Rattle.sm_cli.specs.CommandLine.{asked, command_by, command_of, IsBounded};
+ghost use Rattle.sm_cli.specs.MakeCommand.{make_of};
 ghost use Rattle.sm_cli.specs.NameText.{name_text};
 ghost use Rattle.sm_cli.specs.Serve.{IsCommandCause, IsRun, texts};
+ghost use Rattle.sm_cli.specs.Words.{values_in};
 
 use crate::answers::{Refused, Status};
 use sm_io::{Files, Sink};
@@ -96,7 +98,18 @@ pub fn read_command<'a>(
     if words.is_empty() {
         return Ok(None);
     }
-    let name = words[0].as_str();
+    command_by(alloc, words[0].as_str(), words)
+}
+
+// The command of a name, with the words after the first.
+fn command_by<'a>(
+    alloc: Global,
+    name: &str,
+    words: &'a [String],
+) -> Result<Option<CommandLine<'a>>, AllocError>
+    ensures command { IfOk result (λ o. option_map asked o ≡ command_by name.now (drop 1 (texts words.entry.now))) }
+    ensures bounds { IfOk result (λ o. IfSome o IsBounded) }
+{
     if name == "image" {
         Ok(image::read(alloc, words)?.map(CommandLine::Image))
     } else if name == "key" {
@@ -122,12 +135,20 @@ pub fn read_command<'a>(
     } else if name == "asm" {
         Ok(asm::read(alloc, words)?.map(CommandLine::Asm))
     } else if name == "make" {
-        match make::read(alloc, words)? {
-            Some(command) => Ok(Some(CommandLine::Make(command))),
-            None => Ok(None),
-        }
+        make_line(alloc, words)
     } else {
         Ok(None)
+    }
+}
+
+// The command `make`, which borrows none of its words.
+fn make_line<'a>(alloc: Global, words: &[String]) -> Result<Option<CommandLine<'a>>, AllocError>
+    ensures command { IfOk result (λ o. option_map asked o ≡ option_and_then make_of (values_in 1 1 (drop 1 (texts words.now)))) }
+    ensures bounds { IfOk result (λ o. IfSome o IsBounded) }
+{
+    match make::read(alloc, words)? {
+        Some(command) => Ok(Some(CommandLine::Make(command))),
+        None => Ok(None),
     }
 }
 

@@ -1,10 +1,11 @@
 //! Objects that are linked, and run, by one call of `serve`.
 
 use crate::objects::{
-    CALL, CALL_LAYOUT, CALL_TEXT, EMPTY, EMPTY_LAYOUT, EMPTY_TEXT, GONE, GONE_BINDING, PAIR,
-    PAIR_HEAD, PAIR_LAYOUT, ROOM, ROOM_SIZE, ROOM_TEXT, SMALL_LAYOUT, WEAK, WEAK_TEXT,
+    CALL_LAYOUT, CALL_TEXT, EMPTY_LAYOUT, EMPTY_TEXT, GONE_BINDING, PAIR_HEAD, PAIR_LAYOUT,
+    ROOM_SIZE, ROOM_TEXT, SMALL_LAYOUT, WEAK, WEAK_TEXT, call_object, empty_object, gone_object,
+    pair_object, patched, room_object,
 };
-use crate::stock::{PROGRAM, PROGRAM_LAYOUT};
+use crate::stock::{PROGRAM_LAYOUT, program_object};
 use sm_cli::{Status, serve};
 use sm_io::{MemFiles, MemSink};
 use std::alloc::Global;
@@ -17,9 +18,6 @@ const CALL_TRACE: &str = "\
 end 60 outside 0208 0000 0000 0000 0000 0000 0000 0000 0000 0000 0000 0000 0000 0000 0000 0000
 ";
 
-/// A short file is read by two calls: its bytes, and that there are no more.
-const LAYOUT_READS: u64 = 2;
-
 /// What a call gave.
 #[derive(Drop)]
 pub struct Given {
@@ -31,32 +29,30 @@ pub struct Given {
 /// Layouts and objects, with the object of no sections cut to so many bytes, zeros of 33 bytes, and a weak name.
 fn files_of(alloc: Global, size: usize) -> Result<MemFiles, Fail> {
     let mut files = layouts(alloc)?;
-    files.put_file("empty.o", &EMPTY)?;
-    files.put_file("call.o", &CALL)?;
-    files.put_file("pair.o", &PAIR)?;
-    files.put_file("room.o", &ROOM)?;
-    let mut full = ROOM;
-    full[ROOM_SIZE] = 33;
-    files.put_file("full.o", &full)?;
-    files.put_file("gone.o", &GONE)?;
-    let mut weak = GONE;
-    weak[GONE_BINDING] = WEAK;
-    files.put_file("weak.o", &weak)?;
-    files.put_file("cut.o", EMPTY.get(..size).unwrap_or(b""))?;
+    files.put_file("empty.o", empty_object())?;
+    files.put_file("call.o", call_object())?;
+    files.put_file("pair.o", pair_object())?;
+    files.put_file("room.o", room_object())?;
+    files.put_file(
+        "full.o",
+        &patched(alloc, room_object(), &[(ROOM_SIZE, 33)])?,
+    )?;
+    files.put_file("gone.o", gone_object())?;
+    files.put_file(
+        "weak.o",
+        &patched(alloc, gone_object(), &[(GONE_BINDING, WEAK)])?,
+    )?;
+    files.put_file("cut.o", empty_object().get(..size).unwrap_or(b""))?;
     Ok(files)
 }
 
-/// Layouts, and texts that are none: with two modules of one boot, of an unknown version, and of no keys.
+/// Layouts, and texts that are none: of an unknown version, and of no keys.
 fn layouts(alloc: Global) -> Result<MemFiles, Fail> {
     let mut files = MemFiles::new(alloc);
     files.put_file("empty.toml", EMPTY_LAYOUT.as_bytes())?;
     files.put_file("small.toml", SMALL_LAYOUT.as_bytes())?;
     files.put_file("call.toml", CALL_LAYOUT.as_bytes())?;
     files.put_file("pair.toml", PAIR_LAYOUT.as_bytes())?;
-    if let Some((head, tail)) = PAIR_LAYOUT.split_once("boot = 2") {
-        let same = format!(in alloc; "{head}boot = 1{tail}")?;
-        files.put_file("same.toml", same.as_bytes())?;
-    }
     files.put_file("three.toml", b"version = 3\n")?;
     files.put_file("none.toml", b"")?;
     Ok(files)
@@ -65,7 +61,7 @@ fn layouts(alloc: Global) -> Result<MemFiles, Fail> {
 fn stock_files(alloc: Global) -> Result<MemFiles, Fail> {
     let mut files = MemFiles::new(alloc);
     files.put_file("stock.toml", PROGRAM_LAYOUT.as_bytes())?;
-    files.put_file("stock.o", &PROGRAM)?;
+    files.put_file("stock.o", program_object())?;
     Ok(files)
 }
 
@@ -197,18 +193,6 @@ fn files_that_do_not_serve(rt: HostRuntime) -> Result<(), Fail> {
             "link three.toml none.o",
             "sancus: bad file three.toml: OutOfRange - version 3\n",
         ),
-        (
-            "link same.toml pair.o",
-            "sancus: bad file same.toml: SameBoot 0 1\n",
-        ),
-        (
-            "run call.toml none 60 none.o",
-            "sancus: bad file none: Absent\n",
-        ),
-        (
-            "run call.toml - 60 call.o none.o",
-            "sancus: bad file none.o: Absent\n",
-        ),
     ];
     for (line, err) in cases {
         assert_given(&rt, alloc, refusal(line, Status::BadFile, err))?;
@@ -234,33 +218,6 @@ fn as_many_objects(rt: HostRuntime) -> Result<(), Fail> {
         assert_eq!(rt; given.status, status, "{count}");
         assert_eq!(rt; given.out.taken(), out.as_bytes(), "{count}");
     }
-    Ok(())
-}
-
-// Each read in turn fails, and the file of that read is told.
-#[test]
-fn each_read_fails(rt: HostRuntime) -> Result<(), Fail> {
-    let alloc = rt.alloc();
-    let mut told = 0u64;
-    for at in 0..20u64 {
-        let mut files = files_of(alloc, 0)?;
-        files.fail_at(at)?;
-        let given = call(alloc, "run call.toml - 60 call.o", files)?;
-        if given.status == Status::Done {
-            assert_eq!(rt; given.out.taken(), CALL_TRACE.as_bytes(), "{at}");
-        } else {
-            let err = if at < LAYOUT_READS {
-                "sancus: cannot read call.toml\n"
-            } else {
-                told = at;
-                "sancus: cannot read call.o\n"
-            };
-            assert_eq!(rt; given.status, Status::ReadFault, "{at}");
-            assert_eq!(rt; given.out.taken(), b"".as_slice(), "{at}");
-            assert_eq!(rt; given.err.taken(), err.as_bytes(), "{at}");
-        }
-    }
-    assert!(rt; told > 0);
     Ok(())
 }
 
