@@ -6,7 +6,9 @@ use sm_cli::Status;
 pub type Line = (&'static str, Status, &'static str, &'static str);
 
 const DONE: Status = Status::Done;
+
 const NO: Status = Status::CheckNo;
+
 const BAD: Status = Status::BadFile;
 
 const KEYS: &str = "\
