@@ -1,23 +1,17 @@
 -- An instruction that is no unit instruction.
-use Rattle.std.proofs.Common.{◌≡◌, ℕ, ◌-◌, ◌*◌, List, [], ◌∷◌, ◌++◌, map, refl, sym, ap, ◌∙◌, subst, Bool, true, false, ◌&&◌, not, IsFalse, Option, Some, None, ◌⊎◌, inl, inr}
+use Rattle.std.proofs.Common.{◌≡◌, ℕ, ◌-◌, List, [], ◌∷◌, map, refl, sym, ap, ◌∙◌, Bool, true, false, ◌&&◌, not, IsFalse, None}
 use Rattle.std.proofs.lemmas.List.Elements.{All-cons, All-nil}
-use Rattle.sm_words.specs.Words.{reg, add16}
-use Rattle.sm_words.specs.declared.width.Width.{Width}
-use Rattle.sm_words.specs.declared.width.Width.TheVariants.{Word}
-use Rattle.insn_decode.specs.Code.{is_unit, words_of}
+use Rattle.insn_decode.specs.Code.{is_unit}
 use Rattle.insn_decode.specs.declared.insn.Insn.{Insn}
 use Rattle.insn_decode.specs.declared.insn.Insn.TheVariants.{Two, One, Jump, Reti, Unit as UnitOp}
-use Rattle.insn_decode.specs.declared.insn.OneOp.{OneOp}
-use Rattle.insn_decode.specs.declared.insn.OneOp.TheVariants.{Rrc, Swpb, Rra, Sxt, Push, Call}
 use Rattle.cycle_table.specs.Cycles.{cycles_of}
 use Rattle.pc_access.specs.Rights.{misaligned}
 use Rattle.pc_access.specs.declared.Access.{Access}
-use Rattle.pc_access.specs.declared.Kind.TheVariants.{Read, Write}
 use Rattle.attest.specs.Accesses.{reads_of, writes_of}
-use Rattle.cpu_step.specs.Plan.{access_if, lowered, one_writes, past, place, plan, reads_dst, stepped, writes_dst}
+use Rattle.cpu_step.specs.Plan.{plan}
 use Rattle.cpu_step.specs.Effect.{does}
 use Rattle.cpu_step.specs.Asked.{asks, effect}
-use Rattle.cpu_step.specs.Through.{AreAligned, Taken, After, taken, stored_in, through}
+use Rattle.cpu_step.specs.Through.{AreAligned, Taken, taken, stored_in, through}
 use Rattle.cpu_step.specs.Lone.{Job, lone_read, lone_writes, lone_does, lone_who, all_inside, is_inside, inside_by}
 use Rattle.cpu_step.proofs.ThroughLemmas.{AtMostOne, few_writes}
 use Rattle.lone_run.specs.Jobs.{between}
