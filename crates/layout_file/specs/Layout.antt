@@ -6,6 +6,7 @@ use Rattle.std.specs.Prelude.{ℕ, ◌+◌, ◌==◌, false, true, if◌then◌e
 use Rattle.std.specs.Str.{bytes_eq, is_utf8}
 use Rattle.toml.specs.Data.{Members}
 use Rattle.toml.specs.Parse.{parse_document}
+use Rattle.mod_layout.specs.declared.TheConstants.{DEVICES_END, FIRST_VECTOR}
 use Rattle.layout_file.specs.Checked.{Checked, ◌>>=◌, map_ok, gather, one}
 use Rattle.layout_file.specs.Rows as rows
 use Rattle.layout_file.specs.Rows.{listed, integer, section, hex_key, vectors, tables}
@@ -39,7 +40,7 @@ evens least most = record { least = least; most = most; even = true }
 
 -- a region lies above the devices and below the vectors
 abbrev pub region : Bounds
-region = evens 0x0200 0xFFE0
+region = evens DEVICES_END FIRST_VECTOR
 
 -- version 1 allows 8 modules, version 2 allows 32
 abbrev pub room_of : ℕ → ℕ

@@ -4,15 +4,16 @@ use Rattle.std.specs.List.{AllPass}
 use Rattle.layout_file.specs.Overlaps.{ShareNoByte}
 use Rattle.layout_file.specs.Rows.{is_name_byte}
 use Rattle.layout_file.specs.Values.{VectorValue, ModuleValue, LayoutValue, regions, names_of, boots_of}
+use Rattle.mod_layout.specs.declared.TheConstants.{DEVICES_END, FIRST_VECTOR}
 use Rattle.mod_layout.specs.declared.Section.{Section}
 
--- even ends from 0x0200 to 0xFFE0, the first not above the second
+-- even ends above the devices and below the vectors, the first not above the second
 pub record IsRegion (s : Section) : Type 0 where
   pub even_start : s.start % 2 ≡ 0
   pub even_end : s.end % 2 ≡ 0
-  pub above_devices : 0x0200 ≤ s.start
+  pub above_devices : DEVICES_END ≤ s.start
   pub in_order : s.start ≤ s.end
-  pub below_vectors : s.end ≤ 0xFFE0
+  pub below_vectors : s.end ≤ FIRST_VECTOR
 
 -- the vectors rise, and each is below 16
 pub record AreVectors (vectors : List VectorValue) : Type 0 where

@@ -14,7 +14,7 @@ use crate::fault::{Key, LayoutFault, Spot};
 use crate::layout::Layout;
 use crate::parts::ModuleSpec;
 use crate::rows::{Bounds, entries, hex_key, integer, listed, name, section, tables, vectors};
-use mod_layout::Section;
+use mod_layout::{DEVICES_END, FIRST_VECTOR, Section};
 use std::alloc::Global;
 use toml::Table;
 
@@ -42,8 +42,8 @@ const fn evens(least: u16, most: u16) -> Bounds
 
 /// Where a region starts and ends: above the devices and below the vectors.
 const REGION: Bounds = Bounds {
-    least: 0x0200,
-    most: 0xFFE0,
+    least: DEVICES_END,
+    most: FIRST_VECTOR,
     even: true,
 };
 

@@ -1,5 +1,6 @@
 -- Entry stubs and vectors in a memory.
 use Rattle.std.specs.Prelude.{ℕ, ◌+◌, List, ◌*◌, ◌%◌, map, flat_map}
+use Rattle.mod_layout.specs.declared.TheConstants.{FIRST_VECTOR}
 use Rattle.layout_file.specs.Values.{ModuleValue, VectorValue}
 use Rattle.entry_stubs.specs.Stub.{stub_words}
 use Rattle.linker.specs.Placement.{text_of}
@@ -18,4 +19,4 @@ put_stub l end memory i m = put memory m.text.start (flat_map word_bytes (stub_o
 
 -- a vector's word is the low 16 bits
 unfoldable pub put_vector : Linking → List ℕ → VectorValue → List ℕ
-put_vector l memory v = put memory (0xFFE0 + 2 * v.vector) (word_bytes (word_named l v.name))
+put_vector l memory v = put memory (FIRST_VECTOR + 2 * v.vector) (word_bytes (word_named l v.name))

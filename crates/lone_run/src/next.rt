@@ -14,6 +14,7 @@ ghost use Rattle.lone_run.specs.Jobs.{call_of};
 use crate::job::{Job, holds, is_inside, word};
 use cpu_step::{Access, Kind, plan};
 use insn_decode::{Insn, decode};
+use mod_layout::DEVICES_END;
 use sm_words::{Core, Width};
 
 /// The unit instruction that makes a tag.
@@ -102,7 +103,7 @@ fn has_bytes(job: &Job<'_>, kind: Kind, start: u16, count: u16) -> bool
 fn in_range(start: u32, end: u32) -> bool
     ensures { result ≡ in_range start end }
 {
-    0x0200 <= start && end <= 0x10000 && start <= end
+    u32::from(DEVICES_END) <= start && end <= 0x10000 && start <= end
 }
 
 /// Whether a tag is made: of the message from R12, below R13, for the 16 bytes from R14 on.

@@ -23,6 +23,9 @@ const CALLER_ID: u8 = 6;
 /// The cycles of a unit instruction that hashes nothing.
 const SHORT: u32 = 6;
 
+/// The cycles that each block hashed adds.
+const BLOCK: u32 = 64;
+
 /// Moves PC past the instruction.
 fn step_past(core: &mut Core)
     ensures { core.new ≡ next core.old }
@@ -80,7 +83,7 @@ fn tag(job: &Job<'_>, ram: &mut [u8], core: &mut Core) -> Lasts
     let count = core.get(13) - start;
     let tag = tag_of(job, ram, start, count);
     store(job.owner, ram, core.get(14), &tag);
-    answer(core, 1, SHORT + 64 * hmac_blocks(count))
+    answer(core, 1, SHORT + BLOCK * hmac_blocks(count))
 }
 
 /// R15 is the caller's id.
