@@ -4,7 +4,7 @@
     python3 validate/effects.py PROGRAM [CASES [SEED]]
 
 PROGRAM is the built `sancus` (crates/sm_main/out/sm_main). Needs Debian's mspdebug. A case is an instruction of the code table with
-random registers, flags and operands. An image leads to it by a prologue that sets the registers; all else is zeros, which are no
+random registers, flags and operands; half of the operands name a register from R0 to R3. An image leads to it by a prologue that sets the registers; all else is zeros, which are no
 instruction, so the machine stops where it ends. A script of the monitor shows registers and memory. What differs is counted under its cause.
 """
 import collections
@@ -30,6 +30,11 @@ V = 0x100
 def decimal(rng):
     """A number of four decimal digits."""
     return int(f"{rng.randrange(10000):04d}", 16)
+
+
+def register(rng):
+    """A register's number: in half of the cases one that is special."""
+    return rng.randrange(4) if rng.random() < 0.5 else rng.randrange(16)
 
 
 def is_free(addr):
@@ -61,11 +66,11 @@ class Case:
         if kind < 0.1:
             return [0x2000 | rng.randrange(0x2000)]
         if kind < 0.3:
-            first = 0x1000 | rng.randrange(6) << 7 | rng.randrange(128)
+            first = 0x1000 | rng.randrange(6) << 7 | rng.randrange(8) << 4 | register(rng)
             return [first, extension(), extension()]
         if kind < 0.32:
             return [0x1300]
-        return [rng.randrange(4, 16) << 12 | rng.randrange(4096), extension(), extension()]
+        return [rng.randrange(4, 16) << 12 | register(rng) << 8 | rng.randrange(16) << 4 | register(rng), extension(), extension()]
 
 
 def mode(register, how):
@@ -202,7 +207,7 @@ def even_pointers(regs, step):
 def cause(case, name, byte, operands, what, mine, other):
     """The known causes, each with the side that follows the standard."""
     if what == "cycles" and any(how == "constant" for how, *_ in operands):
-        return "cycles: mspdebug counts a constant of the generator as an immediate word; SLAU049, 3.2.4: it needs no fetch"
+        return "cycles: mspdebug counts a constant of the generator by its mode, as an access; SLAU049, 3.2.4: it needs none"
     if what == "memory" and name == "push" and byte:
         return "PUSH.B writes one byte here, a word with 0 above in mspdebug: a choice (docs/DECISIONS.md)"
     if name == "dadd" and not (case.decimal and all(is_decimal(it) for it in decimal_operands(case, operands))):
