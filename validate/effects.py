@@ -1,11 +1,12 @@
 #!/usr/bin/env python3
-"""Random instructions by `sancus image`, against mspdebug's simulator: registers, memory, flags and cycles, an instruction at a time.
+"""Random instructions by `sancus monitor`, against mspdebug's simulator: registers, memory, flags and cycles, an instruction at a time.
 
     python3 validate/effects.py PROGRAM [CASES [SEED]]
 
 PROGRAM is the built `sancus` (crates/sm_main/out/sm_main). Needs Debian's mspdebug. A case is an instruction of the code table with
-random registers, flags and operands; half of the operands name a register from R0 to R3. An image leads to it by a prologue that sets the registers; all else is zeros, which are no
-instruction, so the machine stops where it ends. A script of the monitor shows registers and memory. What differs is counted under its cause.
+random registers, flags and operands; half of the operands name a register from R0 to R3. An image leads to it by a prologue that sets
+the registers; all else is zeros, which are no instruction, so the machine stops where it ends. A script of the monitor shows registers
+and memory. What differs is counted under its cause.
 """
 import collections
 import os
