@@ -163,7 +163,7 @@ def commands(case, watched):
     """What mspdebug is asked: it looks at no byte but those that are written first."""
     rows = [f"mw {addr:#x} {value:#04x}" for addr, value in case.data.items()]
     rows.append(f"mw {TEST:#x} " + " ".join(f"{byte:#04x}" for word in case.words for byte in machine.word_bytes(word)))
-    rows += [f"set {n} {value:#x}" for n, value in enumerate(case.regs) if n != 3]
+    rows += [f"set {n} {value:#x}" for n, value in enumerate(case.regs)]
     rows += ["simio info t", "step", "simio info t", *(f"md {addr & ~1:#x} 2" for addr in watched)]
     return rows
 
@@ -219,9 +219,34 @@ def cause(case, name, byte, operands, what, mine, other):
         return "@SP+ in a byte instruction: SP rises by 2 here, by 1 in mspdebug; SLAU049, 3.2.2: SP stays even"
     if len(operands) == 2 and operands[0][:2] == ("register", 0) and operands[1][0] == "indexed":
         return "PC as a source with a destination in memory is the address of the next instruction here: a choice (docs/DECISIONS.md)"
-    if what == "registers" and mine == even_pointers(other, 0):
-        return "PC and SP: bit 0 is always 0 (SLAU049, 3.2.1 and 3.2.2), and the bits of SR above 8 are not kept; mspdebug keeps them"
     return None
+
+
+KEPT = [
+    (0, 0xFFFE, "PC: bit 0 is always 0 (SLAU049, 3.2.1); mspdebug keeps what was written"),
+    (1, 0xFFFE, "SP: bit 0 is always 0 (SLAU049, 3.2.2); mspdebug keeps what was written"),
+    (2, 0x01FF, "SR: the bits above 8 are reserved (SLAU049, 3.2.3), and not kept here; mspdebug keeps them"),
+    (3, 0x0000, "R3 is a constant generator (SLAU049, 3.2.4), and reads as 0 here; mspdebug keeps what was written"),
+]
+
+
+def kept_causes(mine, other):
+    """Where registers differ in bits alone that they do not have here, which ones."""
+    masked, found = list(other), []
+    for number, bits, why in KEPT:
+        if other[number] & ~bits:
+            found.append(why)
+            masked[number] &= bits
+    return found if masked == mine else []
+
+
+def causes(case, form, what, mine, other):
+    """All causes of a difference."""
+    name, byte, operands, _ = form
+    shown = " ".join(f"{how}{register if register < 4 else ''}" for how, register, _ in operands)
+    one = cause(case, name, byte, operands, what, mine, other)
+    kept = kept_causes(mine, other) if what == "registers" else []
+    return [one] if one else kept or [f"NOT EXPLAINED: {what} of {name}{'.b' if byte else ''} {shown}"]
 
 
 def main():
@@ -246,21 +271,17 @@ def main():
         for (case, form, watched), (regs, words, cycles) in zip(cases, expected):
             mine = ours(program, folder, case, watched)
             for what, one, two in (("registers", mine[0], regs), ("memory", mine[1], words), ("cycles", mine[2], cycles)):
-                if one is None or one == two or (what == "registers" and one[:2] + one[4:] == two[:2] + two[4:] and one[2] == two[2] & 0x1FF):
+                if one is None or one == two:
                     continue
-                why = cause(case, *form[:3], what, one, two) or "NOT EXPLAINED: " + what + " of " + form[0] + (".b " if byte_form(form) else " ") + " ".join(f"{it[0]}{it[1] if it[1] < 4 else ''}" for it in form[2])
-                differences[why] += 1
                 show = lambda it: [f"{x:04x}" for x in it] if isinstance(it, list) else it
-                examples.setdefault(why, f"{[f'{w:04x}' for w in case.words]} regs {show(case.regs)} at {show(watched)}: {show(one)}, mspdebug {show(two)}")
+                for why in causes(case, form, what, one, two):
+                    differences[why] += 1
+                    examples.setdefault(why, f"{show(case.words)} regs {show(case.regs)} at {show(watched)}: {show(one)}, mspdebug {show(two)}")
     for why, number in differences.most_common():
         print(f"{number:6} {why}\n       {examples[why]}")
     unexplained = sum(number for why, number in differences.items() if why.startswith("NOT EXPLAINED"))
     print(f"{len(cases)} cases, {sum(differences.values())} differences, {'each explained' if not unexplained else f'{unexplained} NOT EXPLAINED'}")
     return 1 if unexplained else 0
-
-
-def byte_form(form):
-    return form[1]
 
 
 if __name__ == "__main__":
