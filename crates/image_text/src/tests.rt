@@ -3,6 +3,7 @@
 use crate::{Image, ImageFault, read, write};
 use mod_layout::{Module, Section, TableFault};
 use std::alloc::Global;
+use std::process::Abort;
 use std::test::Fail;
 
 const EMPTY_ONE: &[u8; 69] =
