@@ -13,6 +13,13 @@ const MOST_CALLS: u64 = 100;
 /// A short file is read by two calls: its bytes, and that there are no more.
 const READS_OF_A_FILE: u64 = 2;
 
+/// `make` writes its first line in three pieces, and for each run a line in three pieces and a line in one.
+const FIRST_WRITES: u64 = 4;
+
+const LAST_OF_FIRST_RUN: u64 = 6;
+
+const LAST_OF_SECOND_RUN: u64 = 10;
+
 fn given(alloc: Global, line: &str, failing: Failing) -> Result<Given, Fail> {
     let words = words_of(alloc, line)?;
     call(alloc, words.as_slice(), files(alloc)?, failing)
@@ -44,27 +51,35 @@ fn assert_reads(rt: &impl Abort, alloc: Global, served: &Served) -> Result<(), F
     Ok(())
 }
 
+fn with_write_failing(alloc: Global, line: &str, number: u64) -> Result<Given, Fail> {
+    let failing = Failing {
+        out: Some(number),
+        ..SOUND
+    };
+    given(alloc, line, failing)
+}
+
+// The output is cut off before the end of this text.
+fn assert_cut(rt: &impl Abort, given: &Given, text: &[u8], told: &str) {
+    let taken = given.out.taken();
+    assert_eq!(rt; given.status, Status::WriteFault, "{told}");
+    assert!(rt; text.starts_with(taken), "{told}");
+    assert!(rt; taken.len() < text.len(), "{told}");
+    assert_eq!(rt; given.err.taken(), b"".as_slice(), "{told}");
+}
+
 // Where a write of the output fails, the output is cut off.
 fn assert_writes(rt: &impl Abort, alloc: Global, served: &Served) -> Result<(), Fail> {
     let line = served.words;
     let whole = given(alloc, line, SOUND)?;
-    let text = whole.out.taken();
     assert_eq!(rt; whole.status, served.status, "{line}");
     for number in 0..MOST_CALLS {
-        let failing = Failing {
-            out: Some(number),
-            ..SOUND
-        };
-        let given = given(alloc, line, failing)?;
-        let taken = given.out.taken();
+        let given = with_write_failing(alloc, line, number)?;
         if given.status == served.status {
             assert_same(rt, &given, &whole, line);
             return Ok(());
         }
-        assert_eq!(rt; given.status, Status::WriteFault, "{line}, write {number}");
-        assert!(rt; text.starts_with(taken), "{line}, write {number}");
-        assert!(rt; taken.len() < text.len(), "{line}, write {number}");
-        assert_eq!(rt; given.err.taken(), b"".as_slice(), "{line}, write {number}");
+        assert_cut(rt, &given, whole.out.taken(), line);
     }
     assert!(rt; false, "{line} makes more calls");
     Ok(())
@@ -110,9 +125,29 @@ fn each_write_fails(rt: HostRuntime) -> Result<(), Fail> {
     Ok(())
 }
 
+// The writes of the first line, and the first after it.
 #[test]
-fn each_write_of_make_fails(rt: HostRuntime) -> Result<(), Fail> {
-    assert_writes(&rt, rt.alloc(), &make())
+fn first_writes_of_make_fail(rt: HostRuntime) -> Result<(), Fail> {
+    let line = make().words;
+    for number in 0..FIRST_WRITES {
+        let given = with_write_failing(rt.alloc(), line, number)?;
+        assert_cut(&rt, &given, b"seed 1\nlines ", line);
+    }
+    Ok(())
+}
+
+// The last write of each of the two runs, which take long.
+#[test]
+fn last_writes_of_make_fail(rt: HostRuntime) -> Result<(), Fail> {
+    let line = make().words;
+    let first = with_write_failing(rt.alloc(), line, LAST_OF_FIRST_RUN)?;
+    let second = with_write_failing(rt.alloc(), line, LAST_OF_SECOND_RUN)?;
+    let text = second.out.taken();
+    assert_cut(&rt, &first, text, line);
+    assert_eq!(rt; second.status, Status::WriteFault);
+    assert!(rt; text.ends_with(b"\n"));
+    assert_eq!(rt; second.err.taken(), b"".as_slice());
+    Ok(())
 }
 
 #[test]
