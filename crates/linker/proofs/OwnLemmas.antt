@@ -9,7 +9,7 @@ use Rattle.linker.specs.declared.names.Names.{Names}
 use Rattle.linker.specs.declared.symbol.Meaning.{Meaning}
 use Rattle.linker.specs.Passes.{or_else, some_if, map_at, NumberedObject, numbered_objects, numbered_objects_from}
 use Rattle.linker.specs.Symbols.{NamedValue, symbol_of, symbols_in, symbols_of}
-use Rattle.linker.specs.Definitions.{is_global, definition, definition_of, strong_by, strong_of, weak_of, if_named}
+use Rattle.linker.specs.Definitions.{definition, strong_by, strong_of, weak_of, if_named}
 use Rattle.linker.specs.Commons.{commons_of, common_at}
 use Rattle.linker.specs.Refusals.{duplicate, duplicate_by, duplicate_of}
 use Rattle.linker.specs.Names.{stands_by, stands_for, count_sections, OwnMeaning, OwnMeanings, AllOwnMeanings}
@@ -56,7 +56,7 @@ unfolding stands_for
 own_here os before s after e none = λ m global defined.
     let d = definition s m in
     let h : strong_of (symbols_of os) s.name ≡ Some d = subst (λ (l : List NamedValue). strong_of l s.name ≡ Some d) (sym e)
-        (strong_here before s after d (subst (λ (l : List NamedValue). duplicate [] l ≡ None) e none) (strong_some s m defined global)) in
+    (strong_here before s after d (subst (λ (l : List NamedValue). duplicate [] l ≡ None) e none) (strong_some s m defined global)) in
     ap (λ o. stands_by o (common_at (count_sections os) (commons_of (symbols_of os)) s.name) (weak_of (symbols_of os) s.name)) h
 
 -- ---- the symbols of an object
