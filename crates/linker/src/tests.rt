@@ -6,16 +6,18 @@ mod objects;
 ghost use Rattle.std.specs.Prelude.{IfOk, ◌≤◌, length};
 ghost use Rattle.linker.specs.Room.{IsSmall};
 
-use self::layouts::{CALL_LAYOUT, LAYOUT, LONG_LAYOUT, PAIR_LAYOUT, SMALL_LAYOUT};
+use self::layouts::{LAYOUT, LONG_ENTRIES};
 use self::objects::{
-    CALL, CALL_TEXT, COMMONS, COMMONS_FIRST, EMPTY, EMPTY_TEXT, FAULTY, LONG_TEXT, NUMBERS,
-    NUMBERS_FIRST, PAIR, REPAIRS, ROOM, ROOM_SIZE,
+    CODE_SIZE, COMMONS, COMMONS_FIRST, FAULTY, LONG_TEXT, NUMBERS, NUMBERS_FIRST, REPAIRS,
 };
 use crate::{LinkFault, Region, link};
 use byteorder::{ByteOrder, LittleEndian};
 use elf_objects::{Object, parse};
 use image_text::Image;
 use layout_file::{Layout, read_layout};
+use link_examples::images::{CALL_TEXT, EMPTY_TEXT, PAIR_HEAD};
+use link_examples::layouts::{CALL_LAYOUT, EMPTY_LAYOUT, PAIR_LAYOUT, SMALL_LAYOUT};
+use link_examples::objects::{CALL, EMPTY, PAIR, ROOM, ROOM_SIZE};
 use reloc_apply::RelocFault;
 use std::alloc::Global;
 use std::process::Abort;
@@ -39,6 +41,14 @@ fn layout_of(alloc: Global, text: &str) -> Result<Layout, Fail> {
         Ok(layout) => Ok(layout),
         Err(_) => Err("no layout".into()),
     }
+}
+
+/// `CALL_LAYOUT` with a part of its text changed.
+fn call_layout(rt: &impl Abort, alloc: Global, old: &str, new: &str) -> Result<String, Fail> {
+    let Some((before, after)) = CALL_LAYOUT.split_once(old) else {
+        panic!(rt; "no {old}")
+    };
+    Ok(format!(in alloc; "{before}{new}{after}")?)
 }
 
 /// The text of a linked image, or the refusal.
@@ -149,7 +159,7 @@ fn faults() -> [LinkFault; 8] {
 
 #[test]
 fn an_empty_object(rt: HostRuntime) -> Result<(), Fail> {
-    let outcome = link_one(rt.alloc(), layouts::EMPTY_LAYOUT, &EMPTY)?;
+    let outcome = link_one(rt.alloc(), EMPTY_LAYOUT, &EMPTY)?;
     assert_text(&rt, outcome, EMPTY_TEXT);
     Ok(())
 }
@@ -163,7 +173,9 @@ fn the_call_of_a_module(rt: HostRuntime) -> Result<(), Fail> {
 
 #[test]
 fn a_module_of_64_entries(rt: HostRuntime) -> Result<(), Fail> {
-    let outcome = link_one(rt.alloc(), LONG_LAYOUT, &CALL)?;
+    let alloc = rt.alloc();
+    let layout = call_layout(&rt, alloc, "[\"f\"]", LONG_ENTRIES)?;
+    let outcome = link_one(alloc, &layout, &CALL)?;
     assert_text(&rt, outcome, LONG_TEXT);
     Ok(())
 }
@@ -248,25 +260,22 @@ fn regions_that_just_fit(rt: HostRuntime) -> Result<(), Fail> {
 #[test]
 fn a_module_that_just_fits(rt: HostRuntime) -> Result<(), Fail> {
     let alloc = rt.alloc();
-    assert!(rt; link_one(alloc, layouts::TIGHT_LAYOUT, &CALL)?.is_ok());
+    let layout = call_layout(&rt, alloc, "0x0900", "0x0850")?;
+    assert!(rt; link_one(alloc, &layout, &CALL)?.is_ok());
     let module = LinkFault::Region {
         region: Region::ModuleText(0),
         need: 82,
         room: 80,
     };
-    let longer = changed(&rt, alloc, &CALL, objects::CODE_SIZE, 3)?;
-    assert_fault(
-        &rt,
-        link_one(alloc, layouts::TIGHT_LAYOUT, &longer)?,
-        module,
-    );
+    let longer = changed(&rt, alloc, &CALL, CODE_SIZE, 3)?;
+    assert_fault(&rt, link_one(alloc, &layout, &longer)?, module);
     Ok(())
 }
 
 #[test]
 fn modules_in_rising_boot(rt: HostRuntime) -> Result<(), Fail> {
     match link_one(rt.alloc(), PAIR_LAYOUT, &PAIR)? {
-        Ok(text) => assert!(rt; text.as_slice().starts_with(layouts::PAIR_HEAD.as_bytes())),
+        Ok(text) => assert!(rt; text.as_slice().starts_with(PAIR_HEAD.as_bytes())),
         Err(fault) => panic!(rt; "{fault:?}"),
     }
     Ok(())
