@@ -18,7 +18,7 @@ returns-then-stands_at-clause-ran g c =
     let i = c.loop-left.invariant in
     let n = c.args.most - c.loop-left.left in
     let s = c.args.self.now.present in
-    let there : stands_at c.args.addr (after_cycles s n) ≡ true = sym (ap (stands_at c.args.addr) {y = after_cycles s n} i.state) ∙ sym c.stands_at.ensures ∙ c.if-stands_at.true in
+    let there : stands_at c.args.addr (after_cycles s n) ≡ true = sym (ap (stands_at c.args.addr) {y = after_cycles s n} i.state) ∙ sym c.stands_at.ensures.stands ∙ c.if-stands_at.true in
     let all = until_there c.args.addr n c.args.most s (omega arith) i.apart there in
     let whole = subst (λ k. RanWhole g.S.Sink.taken g.S.Sink.faults g.S.Sink.sure k s c.loop-left.self.present c.args.sink.now c.loop-left.sink) (sym all) record { state = i.state; lines = i.lines } in
     ended_runs g.S.Sink.taken g.S.Sink.faults g.S.Sink.sure (cycles_until c.args.addr s c.args.most) s c.loop-left.self.present c.args.sink.now c.loop-left.sink _ whole c.ended.ensures
@@ -30,7 +30,7 @@ returns-then-is_stopped-clause-ran g c =
     let n = c.args.most - c.loop-left.left in
     let s = c.args.self.now.present in
     let stopped : is_some c.loop-left.self.present.stop ≡ true = sym c.is_stopped.ensures ∙ c.if-is_stopped.true in
-    let elsewhere : stands_at c.args.addr c.loop-left.self.present ≡ false = sym c.stands_at.ensures ∙ c.if-stands_at.false in
+    let elsewhere : stands_at c.args.addr c.loop-left.self.present ≡ false = sym c.stands_at.ensures.stands ∙ c.if-stands_at.false in
     let all = until_never c.args.addr c.args.most s (apart_stopped c.args.addr n c.args.most s c.loop-left.self.present i.state stopped i.apart elsewhere) in
     let early = stopped_early n c.args.most s c.loop-left.self.present (omega arith) i.state stopped in
     let whole : RanWhole g.S.Sink.taken g.S.Sink.faults g.S.Sink.sure c.args.most s c.loop-left.self.present c.args.sink.now c.loop-left.sink = record { state = early.0; lines = took_same g.S.Sink.taken g.S.Sink.faults g.S.Sink.sure _ _ _ _ early.1 i.lines } in
@@ -44,7 +44,7 @@ returns-in-Err-clause-ran g c =
     let n = c.args.most - c.loop-left.left in
     let s = c.args.self.now.present in
     let u = cycles_until c.args.addr s c.args.most in
-    let elsewhere : stands_at c.args.addr (after_cycles s n) ≡ false = sym (ap (stands_at c.args.addr) {y = after_cycles s n} i.state) ∙ sym c.stands_at.ensures ∙ c.if-stands_at.false in
+    let elsewhere : stands_at c.args.addr (after_cycles s n) ≡ false = sym (ap (stands_at c.args.addr) {y = after_cycles s n} i.state) ∙ sym c.stands_at.ensures.stands ∙ c.if-stands_at.false in
     let before : Apart c.args.addr (n + 1 + 0) s = apart_then c.args.addr n 0 s (after_cycles s (n + 1)) i.apart elsewhere refl (λ m h. absurd (omega (arith, h))) in
     let next = apart_within c.args.addr (n + 1 + 0) c.args.most s (omega (arith, i.within, c.loop-left-test.true)) before in
     let within : n < u = omega (arith, next) in
@@ -99,7 +99,7 @@ loop-left-preserved g c =
     let k = c.pass_apart-left.result in
     let led = c.pass_apart-left.ensures.leads in
     let s = c.args.self.now.present in
-    let elsewhere : stands_at c.args.addr (after_cycles s n) ≡ false = sym (ap (stands_at c.args.addr) {y = after_cycles s n} i.state) ∙ sym c.stands_at.ensures ∙ c.if-stands_at.false in
+    let elsewhere : stands_at c.args.addr (after_cycles s n) ≡ false = sym (ap (stands_at c.args.addr) {y = after_cycles s n} i.state) ∙ sym c.stands_at.ensures.stands ∙ c.if-stands_at.false in
     let number = c.self.inside.machine.cycle in
     let lines_are_those : lines_of number c.as_slice.result.now ≡ lines_now (after_cycles s n) =
     lines_are c.loop-left.self.present (after_cycles s n) number c.as_slice.result.now (ap (λ (g : Marked). g.present.cycle) c.self.view_is) (c.as_slice.ensures.value ∙ c.step.ensures.events) i.state in
