@@ -238,6 +238,8 @@ impl Board {
 }
 
 /// Puts the lines of a cycle's events.
+// (inlined: most cycles have none)
+#[inline(always)]
 pub(crate) fn put_lines<S: Sink>(sink: &mut S, cycle: u64, events: &[Event]) -> Result<(), Failed>
     ensures { Puts S.taken S.faults S.sure sink.old sink.new (lines_of cycle events.now) result }
 {
