@@ -150,4 +150,5 @@ def main():
             measure(program, lld, folder, case, runs)
 
 
-main()
+if __name__ == "__main__":
+    main()

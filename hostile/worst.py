@@ -1,16 +1,19 @@
 #!/usr/bin/env python3
-"""The worst inputs of at most 1 MiB that were found for each reader: time and memory of the command that reads them.
+"""The worst inputs of at most 1 MiB a file that were found for each reader and each command: time and memory of the program.
 
     python3 hostile/worst.py PROGRAM [WORD]
 
-PROGRAM is the built `sancus` (crates/sm_main/out/sm_main). With WORD only the cases whose names have it. Cycles are not a matter of readers: a
-run of 10^9 cycles takes as long as it takes. Links have a benchmark of their own, bench/link.py.
+PROGRAM is the built `sancus` (crates/sm_main/out/sm_main). With WORD only the cases whose names have it. Needs Debian's `time`, whose child
+is measured: its memory is the program's alone. Cycles are not a matter of readers: a run of 10^9 cycles takes as long as it takes. Links of many
+objects have a benchmark of their own, bench/link.py.
 """
 import os
 import subprocess
 import sys
 import tempfile
-import time
+
+sys.path.insert(0, os.path.join(os.path.dirname(os.path.abspath(__file__)), "..", "bench"))
+import link  # noqa: E402
 
 MEBIBYTE = 1_048_576
 HEAD = "sancus-image 1\nkey " + "0" * 32 + "\nhandler 0000\n"
@@ -18,6 +21,28 @@ HEAD = "sancus-image 1\nkey " + "0" * 32 + "\nhandler 0000\n"
 
 def rows(fill):
     return "".join(f"at {at:04x} {fill * 32}\n" for at in range(0x200, 0x10000, 16))
+
+
+def words(*values):
+    return b"".join(value.to_bytes(2, "little") for value in values)
+
+
+def image_with(text, start, module):
+    """An image whose memory holds this text at a multiple of 16."""
+    padded = text + bytes(-len(text) % 16)
+    lines = [f"at {start + at:04x} {padded[at : at + 16].hex()}\n" for at in range(0, len(padded), 16) if any(padded[at : at + 16])]
+    return HEAD + module + "".join(lines) + "end\n"
+
+
+def slow_to_check():
+    """256 data words are set to 0, and then a loop moves each to the next, the last one first, behind 15,300 other
+    instructions: what the first word becomes in each turn goes one word further a turn."""
+    text, data = 0x0300, 0xF000
+    code = b"".join(words(0x4382, data + 2 * k) for k in range(256))
+    loop = text + len(code)
+    code += b"".join(words(0x4292, data + 2 * k, data + 2 * k + 2) for k in range(254, -1, -1))
+    code += words(0x5392, data) + words(0x4404) * 15_300 + words(0x4030, loop)
+    return image_with(code, text, f"module 0007 {text:04x} {text + len(code):04x} {data:04x} {data + 512:04x}\n")
 
 
 def cases(folder):
@@ -33,17 +58,22 @@ def cases(folder):
     yield "image, every row filled", ["image", image, "-", "0"]
     yield "image, 1 MiB in one line", ["image", file("line", "a" * MEBIBYTE), "-", "0"]
     yield "image, 1 MiB of line feeds", ["image", file("feeds", "\n" * MEBIBYTE), "-", "0"]
-    yield "schedule, 65,536 lines", ["image", small, file("schedule", "".join(f"{10**15 + k} serial 00\n" for k in range(40_000)) + "".join(f"{10**17} line 0 up\n" for _ in range(5_000))), "0"]
+    yield "schedule, 65,536 lines", ["image", small, file("schedule", "".join(f"{k} serial 00\n" for k in range(65_536))), "70000"]
     yield "schedule, 65,537 lines", ["image", small, file("lines", "0 serial 00\n" * 65_537), "0"]
     yield "dis, all of memory", ["dis", image, "0200", "fffe"]
     yield "check, a text of 63 KiB in a row", ["check", image, "1"]
+    yield "check, data words that rise one a turn", ["check", file("rising", slow_to_check()), "1"]
     yield "key, a text of 63 KiB", ["key", image, "1"]
+    yield "lone, a text of 63 KiB", ["lone", image, "1", "1000"]
+    yield "make", ["make", "4294967295"]
     arms = "".join(f"{at:04x} {at + 8:04x} 6\n" for at in range(0x300, 0x300 + 2 * 4096, 2))
     yield "arms, 4,096 lines", ["balance", image, "1", file("arms", arms)]
     yield "arms, 1 MiB", ["balance", image, "1", file("arms_long", (arms * 30)[:MEBIBYTE])]
     yield "challenges, 4,096", ["challenge", file("challenges", "".join(f"{1600 * k} {'0f' * 16}\n" for k in range(4096)))]
     trace = "0 out 4a\n" * 110_000 + "end 1 stopped\n"
     yield "trace, 1 MiB of out lines", ["vendor", image, "1", "0" * 32, file("challenges_few", "100 " + "0f" * 16 + "\n"), file("trace", trace)]
+    many = file("many", "".join(f"{1600 * k} {'0f' * 16}\n" for k in range(4096)))
+    yield "4,096 challenges, and a trace of 1 MiB", ["vendor", image, "1", "0" * 32, many, file("trace_long", trace)]
     yield "layout, 1 MiB of comments", ["link", file("comments", ("# " + "x" * 100 + "\n") * 10_000), small]
     yield "layout, nested arrays", ["link", file("nested", "a = " + "[" * 500_000 + "]" * 500_000), small]
     yield "layout, 100,000 keys", ["link", file("keys", "".join(f"k{k} = 1\n" for k in range(90_000))), small]
@@ -55,22 +85,36 @@ def cases(folder):
     yield "source, 1 MiB of instructions", ["asm", file("source", "section .text code\n" + "reti\n" * 32_767)]
     yield "source, 1 MiB of names", ["asm", file("names", "section .text code\n" + "".join(f"word name{k}\n" for k in range(32_767)))]
     yield "source, 1 MiB of global names", ["asm", file("globals", "".join(f"global name_number_{k:010d}\n" for k in range(33_000)))]
+    layout = file("layout", link.LAYOUT)
+    for case in ("sections", "suffixes_one", "names", "long_name", "tables"):
+        first = file(case, next(iter(link.CASES[case]())))
+        yield f"link, the first object of `{case}`", ["link", layout, first]
+    yield "run, the object of `suffixes_one`", ["run", layout, "-", "1000", os.path.join(folder, "suffixes_one")]
+
+
+def measured(folder, program, line):
+    """Seconds, MiB, status and the first line of standard error."""
+    told = os.path.join(folder, "told")
+    child = subprocess.run(
+        ["/usr/bin/time", "-f", "%e %M", "-o", told, program, *line], stdout=subprocess.DEVNULL, stderr=subprocess.PIPE, check=False
+    )
+    with open(told) as it:
+        seconds, kibibytes = it.read().split("\n")[-2].split()
+    return float(seconds), int(kibibytes) / 1024, child.returncode, child.stderr.decode(errors="replace").strip()
 
 
 def main():
     program, word = sys.argv[1], sys.argv[2] if len(sys.argv) > 2 else ""
     slowest = largest = 0
+    print("| Input | Status | Time | Memory |\n|---|---|---|---|")
     with tempfile.TemporaryDirectory() as folder:
-        for name, words in cases(folder):
+        for name, line in cases(folder):
             if word not in name:
                 continue
-            begun = time.monotonic()
-            child = subprocess.Popen([program, *words], stdout=subprocess.DEVNULL, stderr=subprocess.PIPE)
-            said = child.stderr.read(200).decode(errors="replace").strip()
-            _, status, usage = os.wait4(child.pid, 0)
-            taken, memory = time.monotonic() - begun, usage.ru_maxrss / 1024
-            slowest, largest = max(slowest, taken), max(largest, memory)
-            print(f"| {name} | {os.waitstatus_to_exitcode(status)} | {taken:.2f} s | {memory:.1f} MiB | {said[:60]} |")
+            seconds, memory, status, said = measured(folder, program, line)
+            slowest, largest = max(slowest, seconds), max(largest, memory)
+            print(f"| {name} | {status} | {seconds:.2f} s | {memory:.1f} MiB |", flush=True)
+            print(said[:80], file=sys.stderr)
     print(f"slowest {slowest:.2f} s, largest {largest:.1f} MiB")
 
 

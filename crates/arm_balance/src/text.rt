@@ -12,7 +12,7 @@ use mod_layout::Section;
 
 /// Whether a section has this address.
 pub fn holds(section: Section, addr: usize) -> bool
-    ensures { result ≡ holds section addr }
+    ensures exact { result ≡ holds section addr }
 {
     usize::from(section.start) <= addr && addr < usize::from(section.end)
 }
@@ -32,7 +32,7 @@ pub fn byte(section: Section, text: &[u8], addr: usize) -> u16
 /// The word of the text at an address, low byte first.
 pub fn word(section: Section, text: &[u8], addr: usize) -> u16
     requires { addr < 1000000 }
-    ensures { result ≡ word_at (text_byte section text.now) addr }
+    ensures exact { result ≡ word_at (text_byte section text.now) addr }
 {
     byte(section, text, addr) + 256 * byte(section, text, addr + 1)
 }

@@ -24,7 +24,7 @@ fn past(next: u16, offset: i16) -> u16
 
 /// Where a jump at `pc` goes.
 pub fn target(pc: u16, offset: i16) -> u16
-    ensures { result ≡ add16 (add16 pc 2) (distance offset) }
+    ensures exact { result ≡ add16 (add16 pc 2) (distance offset) }
 {
     past(pc.wrapping_add(2), offset)
 }
@@ -106,7 +106,7 @@ pub fn met_arm(section: Section, text: &[u8], pc: u16, join: u16) -> Option<(Ins
 /// an arm.
 #[tactic(auto, using(crate::proofs::Times::time_step, crate::proofs::Times::time_stops, crate::proofs::Times::time_done, crate::proofs::Times::with_zero))]
 pub fn arm_time(section: &Section, text: &[u8], start: u16, join: u16) -> Result<u32, u16>
-    ensures { result ≡ time_of section.now text.now start join }
+    ensures time { result ≡ time_of section.now text.now start join }
 {
     let mut pc = start;
     let mut total: u32 = 0;

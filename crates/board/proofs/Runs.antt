@@ -1,8 +1,10 @@
 -- Runs of the machine, cycle by cycle.
-use Rattle.std.proofs.Common.{◌≡◌, ℕ, zero, suc, ◌+◌, ◌-◌, ◌<◌, ◌≤◌, true, List, [], ◌∷◌, ◌++◌, Option, Some, None, is_some, refl, sym, ◌∙◌, ap, subst, arith}
+use Rattle.std.proofs.Common.{◌≡◌, ℕ, zero, suc, ◌+◌, ◌-◌, ◌<◌, ◌≤◌, true, List, [], ◌∷◌, ◌++◌, length, take, Option, Some, None, is_some, refl, sym, ◌∙◌, ap, subst, arith}
 use Rattle.std.proofs.lemmas.Bool.{false≢true}
 use Rattle.std.proofs.lemmas.List.{append_assoc, append-nil}
 use Rattle.std.specs.List.{flat_map}
+use Rattle.sm_io.specs.Sink.{Took, CutOff}
+use Rattle.sm_io.proofs.Putting.{appends_then, appends_same, took_same, took_then, cut_within}
 use Rattle.pc_access.specs.declared.Stop.{Stop}
 use Rattle.tracer.specs.Lines.{event_line}
 use Rattle.tracer.specs.declared.Event.{Event}
@@ -11,7 +13,7 @@ use Rattle.written_machine.specs.Passing.{Leads}
 use Rattle.written_machine.specs.State.{State}
 use Rattle.written_machine.specs.Trace.{lines_of, lines_after}
 use Rattle.board.specs.declared.Ran.{Ran}
-use Rattle.board.specs.Ran.{lines_now, RanWhole, Runs, ran_of}
+use Rattle.board.specs.Ran.{lines_now, RanWhole, RanCutOff, Runs, ran_of}
 
 -- one cycle more, at the end
 pub state_more : (n : ℕ) (s : State) → after_cycles s (n + 1) ≡ (cycle (after_cycles s n)).state
@@ -110,3 +112,40 @@ silent_lines (suc n) s silent =
 pub lines_led : (n k : ℕ) (s t u : State) → t ≡ after_cycles s n → Leads k t u → lines_after s n ≡ lines_after s (n + k)
 lines_led n k s t u at led =
     sym (lines_split n k s ∙ ap (λ (x : State). lines_after s n ++ lines_after x k) (sym at) ∙ ap (λ (l : List ℕ). lines_after s n ++ l) (silent_lines k t led.events) ∙ append-nil (lines_after s n))
+
+-- ---- the lines of the next cycle are put, after a run of n cycles that leads to t
+
+-- they were refused
+pub cut_after : {S : Type 0} (taken : S → Option (List ℕ)) (faults sure : S → ℕ) (n all : ℕ) (s t u : State) (number : ℕ) (events : List Event) (before mid after : S)
+    → n < all → t ≡ after_cycles s n → number ≡ t.cycle → events ≡ (cycle t).events → u ≡ (cycle t).state
+    → Took taken faults sure before mid (lines_after s n) → CutOff taken faults sure mid after (lines_of number events)
+    → RanCutOff taken faults sure all s u before after
+cut_after taken faults sure n all s t u number events before mid after within is at are next so_far cut =
+    let those = lines_are t (after_cycles s n) number events at are is in
+    let m = cut.front.0 in
+    record {
+      cycles = n;
+      within = within;
+      state = next ∙ ap (λ (b : State). (cycle b).state) is ∙ sym (state_more n s);
+      front = m;
+      shorter = subst (λ (l : List ℕ). m < length l) those cut.shorter;
+      bytes = appends_same (taken before) (taken after) _ (lines_after s n ++ take m (lines_now (after_cycles s n))) (ap (λ (l : List ℕ). lines_after s n ++ take m l) those)
+          (appends_then (taken before) (taken mid) (taken after) (lines_after s n) _ so_far.whole cut.front.1);
+      cut = cut_within taken faults sure _ _ _ (lines_after s n) (lines_of number events) (lines_after (after_cycles s (n + 1)) (all - (n + 1))) (lines_after s all)
+          (lines_within n all s _ within those) so_far cut;
+    }
+
+-- they were taken, and k cycles passed after it that have none
+pub ran_on : {S : Type 0} (taken : S → Option (List ℕ)) (faults sure : S → ℕ) (n k all : ℕ) (s t u v : State) (number : ℕ) (events : List Event) (before mid after : S)
+    → t ≡ after_cycles s n → number ≡ t.cycle → events ≡ (cycle t).events → u ≡ (cycle t).state → Leads k u v → n + 1 + k ≡ all
+    → Took taken faults sure before mid (lines_after s n) → Took taken faults sure mid after (lines_of number events)
+    → RanWhole taken faults sure all s v before after
+ran_on taken faults sure n k all s t u v number events before mid after is at are next led done so_far took =
+    let those = lines_are t (after_cycles s n) number events at are is in
+    let there : u ≡ after_cycles s (n + 1) = next ∙ ap (λ (b : State). (cycle b).state) is ∙ sym (state_more n s) in
+    record {
+      state = state_led (n + 1) k s u v there led ∙ ap (after_cycles s) done;
+      lines = took_same taken faults sure _ _ (lines_after s n ++ lines_of number events) (lines_after s all)
+          (lines_next n s _ those ∙ lines_led (n + 1) k s u v there led ∙ ap (lines_after s) done)
+          (took_then taken faults sure _ _ _ (lines_after s n) _ so_far took);
+    }

@@ -60,7 +60,7 @@ impl Model for Board {
 impl Board {
     /// The state of cycle 0, with no room for marks. All memory that a board ever takes is taken here.
     pub fn new(alloc: Global, image: &Image, schedule: &Schedule) -> Result<Board, NoMemory>
-        ensures { IfOk result (λ board. board ≡ unmarked 0 (boot image.now schedule.now.entries.items)) }
+        ensures booted { IfOk result (λ board. board ≡ unmarked 0 (boot image.now schedule.now.entries.items)) }
     {
         Board::with_marks(alloc, image, schedule, 0)
     }
@@ -73,7 +73,7 @@ impl Board {
         marks: u16,
     ) -> Result<Board, NoMemory>
         requires most { marks ≤ 16 }
-        ensures { IfOk result (λ board. board ≡ unmarked marks (boot image.now schedule.now.entries.items)) }
+        ensures booted { IfOk result (λ board. board ≡ unmarked marks (boot image.now schedule.now.entries.items)) }
     {
         let memory = Memory::with_marks(alloc, image.memory.as_slice(), marks)?;
         let bus = Bus::new(alloc, schedule)?;
@@ -231,13 +231,15 @@ impl Board {
     /// Whether the outside is about to begin the instruction at `addr`: no module is active, no cycle of an
     /// instruction is left, no module is to go on, and PC is `addr`.
     pub fn stands_at(&self, addr: u16) -> bool
-        ensures { result ≡ stands_at addr self.now.present }
+        ensures stands { result ≡ stands_at addr self.now.present }
     {
         self.machine.stands_at(addr)
     }
 }
 
 /// Puts the lines of a cycle's events.
+// (inlined: most cycles have none)
+#[inline(always)]
 pub(crate) fn put_lines<S: Sink>(sink: &mut S, cycle: u64, events: &[Event]) -> Result<(), Failed>
     ensures { Puts S.taken S.faults S.sure sink.old sink.new (lines_of cycle events.now) result }
 {

@@ -13,13 +13,6 @@ const MOST_CALLS: u64 = 100;
 /// A short file is read by two calls: its bytes, and that there are no more.
 const READS_OF_A_FILE: u64 = 2;
 
-/// `make` writes its first line in three pieces, and for each run a line in three pieces and a line in one.
-const FIRST_WRITES: u64 = 4;
-
-const LAST_OF_FIRST_RUN: u64 = 6;
-
-const LAST_OF_SECOND_RUN: u64 = 10;
-
 fn given(alloc: Global, line: &str, failing: Failing) -> Result<Given, Fail> {
     let words = words_of(alloc, line)?;
     call(alloc, words.as_slice(), files(alloc)?, failing)
@@ -125,29 +118,9 @@ fn each_write_fails(rt: HostRuntime) -> Result<(), Fail> {
     Ok(())
 }
 
-// The writes of the first line, and the first after it.
 #[test]
-fn first_writes_of_make_fail(rt: HostRuntime) -> Result<(), Fail> {
-    let line = make().words;
-    for number in 0..FIRST_WRITES {
-        let given = with_write_failing(rt.alloc(), line, number)?;
-        assert_cut(&rt, &given, b"seed 1\nlines ", line);
-    }
-    Ok(())
-}
-
-// The last write of each of the two runs, which take long.
-#[test]
-fn last_writes_of_make_fail(rt: HostRuntime) -> Result<(), Fail> {
-    let line = make().words;
-    let first = with_write_failing(rt.alloc(), line, LAST_OF_FIRST_RUN)?;
-    let second = with_write_failing(rt.alloc(), line, LAST_OF_SECOND_RUN)?;
-    let text = second.out.taken();
-    assert_cut(&rt, &first, text, line);
-    assert_eq!(rt; second.status, Status::WriteFault);
-    assert!(rt; text.ends_with(b"\n"));
-    assert_eq!(rt; second.err.taken(), b"".as_slice());
-    Ok(())
+fn each_write_of_make_fails(rt: HostRuntime) -> Result<(), Fail> {
+    assert_writes(&rt, rt.alloc(), &make())
 }
 
 #[test]

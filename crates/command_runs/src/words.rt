@@ -78,6 +78,7 @@ fn options(rt: HostRuntime) -> Result<(), Fail> {
 fn lines() -> &'static [(&'static str, Status, &'static str)] {
     const BAD: Status = Status::BadFile;
     const NONE: Status = Status::Usage;
+    const ABSENT: &str = "sancus: bad file none: Absent\n";
     &[
         // Other first words.
         ("", NONE, USAGE),
@@ -176,12 +177,16 @@ fn lines() -> &'static [(&'static str, Status, &'static str)] {
         ("image called.img - 1000000001", NONE, USAGE),
         ("image called.img - 0x4", NONE, USAGE),
         ("run call.toml - +4 calls.o", NONE, USAGE),
+        ("run call.toml - 04 calls.o", NONE, USAGE),
+        ("run call.toml - 1000000001 calls.o", NONE, USAGE),
         ("run call.toml - 18446744073709551616 calls.o", NONE, USAGE),
         ("lone called.img +1 4", NONE, USAGE),
         ("lone called.img 1 +4", NONE, USAGE),
         ("lone called.img 1 04", NONE, USAGE),
         ("lone called.img 0 4", NONE, USAGE),
         ("lone called.img 1 1000000001", NONE, USAGE),
+        ("lone called.img 01 4", NONE, USAGE),
+        ("lone called.img 65536 4", NONE, USAGE),
         ("key called.img 0", NONE, USAGE),
         ("key called.img -1", NONE, USAGE),
         ("key called.img +1", NONE, USAGE),
@@ -197,6 +202,7 @@ fn lines() -> &'static [(&'static str, Status, &'static str)] {
         ("check called.img 01", NONE, USAGE),
         ("check called.img 65536", NONE, USAGE),
         ("balance called.img 0 arms.txt", NONE, USAGE),
+        ("balance called.img +1 arms.txt", NONE, USAGE),
         ("balance called.img 01 arms.txt", NONE, USAGE),
         ("balance called.img 65536 arms.txt", NONE, USAGE),
         (
@@ -215,6 +221,16 @@ fn lines() -> &'static [(&'static str, Status, &'static str)] {
             USAGE,
         ),
         (
+            "vendor called.img +1 0fd02b088984c51cf3af483cdc7342e8 challenges.txt trace.txt",
+            NONE,
+            USAGE,
+        ),
+        (
+            "vendor called.img 01 0fd02b088984c51cf3af483cdc7342e8 challenges.txt trace.txt",
+            NONE,
+            USAGE,
+        ),
+        (
             "vendor called.img 1 0fd02b088984c51cf3af483cdc7342e challenges.txt trace.txt",
             NONE,
             USAGE,
@@ -228,6 +244,31 @@ fn lines() -> &'static [(&'static str, Status, &'static str)] {
             "vendor called.img 1 0fd02b088984c51cf3af483cdc7342eg challenges.txt trace.txt",
             NONE,
             USAGE,
+        ),
+        // Numbers at their bounds are numbers: the files are read next.
+        ("image none - 0", BAD, ABSENT),
+        ("image none - 1000000000", BAD, ABSENT),
+        ("run none - 0 calls.o", BAD, ABSENT),
+        ("run none - 1000000000 calls.o", BAD, ABSENT),
+        ("lone none 1 0", BAD, ABSENT),
+        ("lone none 65535 1000000000", BAD, ABSENT),
+        ("check none 1", BAD, ABSENT),
+        ("check none 65535", BAD, ABSENT),
+        ("balance none 1 arms.txt", BAD, ABSENT),
+        ("balance none 65535 arms.txt", BAD, ABSENT),
+        ("key none 1", BAD, ABSENT),
+        ("key none 65535", BAD, ABSENT),
+        ("dis none 0000 0000", BAD, ABSENT),
+        ("dis none fffe ffff", BAD, ABSENT),
+        (
+            "vendor none 1 0fd02b088984c51cf3af483cdc7342e8 challenges.txt trace.txt",
+            BAD,
+            ABSENT,
+        ),
+        (
+            "vendor none 65535 0fd02b088984c51cf3af483cdc7342e8 challenges.txt trace.txt",
+            BAD,
+            ABSENT,
         ),
         // Addresses, and pairs of a register and a word.
         ("dis called.img 0201 0202", NONE, USAGE),

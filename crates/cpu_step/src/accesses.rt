@@ -175,25 +175,33 @@ fn plan_reti(core: &Core, accesses: &mut ArrayVec<Access, 3>)
     );
 }
 
-/// The accesses of an instruction whose address is in PC, in their order. They follow from the registers
+/// Adds the accesses of an instruction whose address is in PC to none, in their order. They follow from the registers
 /// and the extension words alone. A unit instruction's follow from more than that, and are not given here.
 // (inlined, with its parts: the list is then made where it is looked at, and not copied)
 #[inline(always)]
 #[tactic(auto, unfolding(crate::specs::Plan::plan))]
-pub fn plan(insn: &Insn, core: &Core) -> ArrayVec<Access, 3>
-    ensures exact { result.items ≡ plan insn.now core.now }
+pub fn add_plan(insn: &Insn, core: &Core, accesses: &mut ArrayVec<Access, 3>)
+    requires none { accesses.old.items ≡ [] }
+    ensures exact { accesses.new.items ≡ plan insn.now core.now }
 {
-    let mut accesses = ArrayVec::new();
     match *insn {
         Insn::Two {
             op,
             width,
             src,
             dst,
-        } => plan_two(insn, op, width, src, dst, core, &mut accesses),
-        Insn::One { op, width, arg } => plan_one(insn, op, width, arg, core, &mut accesses),
-        Insn::Reti => plan_reti(core, &mut accesses),
+        } => plan_two(insn, op, width, src, dst, core, accesses),
+        Insn::One { op, width, arg } => plan_one(insn, op, width, arg, core, accesses),
+        Insn::Reti => plan_reti(core, accesses),
         Insn::Jump { .. } | Insn::Unit(_) => {}
     }
+}
+
+/// The list of these accesses.
+pub fn plan(insn: &Insn, core: &Core) -> ArrayVec<Access, 3>
+    ensures exact { result.items ≡ plan insn.now core.now }
+{
+    let mut accesses = ArrayVec::new();
+    add_plan(insn, core, &mut accesses);
     accesses
 }

@@ -4,5 +4,5 @@ ghost use Rattle.cpu_step.specs.LoneLaws.{OutcomesStand};
 
 /// How a call ends is how the module by itself stands after that many cycles, and it ended no earlier.
 pub fn outcomes()
-    ensures { OutcomesStand }
+    ensures stand { OutcomesStand }
 {}

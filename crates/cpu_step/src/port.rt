@@ -30,5 +30,5 @@ pub trait Port {
     /// Writes a byte, or a word at an even address.
     fn write(&mut self, addr: u16, width: Width, value: u16)
         requires { IsFalse (misaligned width addr) }
-        ensures { state self.new ≡ after_write (state self.old) width addr value };
+        ensures state { state self.new ≡ after_write (state self.old) width addr value };
 }

@@ -19,7 +19,7 @@ pub enum Computed {
 impl Computed {
     /// The value.
     pub fn value(&self) -> u16
-        ensures { result ≡ value_of self.now }
+        ensures value { result ≡ value_of self.now }
     {
         match self {
             Computed::Plain(value) => *value,
@@ -29,7 +29,7 @@ impl Computed {
 
     /// SR with the flags.
     pub fn with_flags(&self, sr: u16) -> u16
-        ensures { result ≡ with_flags self.now sr }
+        ensures flags { result ≡ with_flags self.now sr }
     {
         match self {
             Computed::Plain(_) => sr,
@@ -42,7 +42,7 @@ impl Computed {
 // (inlined, as where it is written: the result then stays in registers)
 #[inline(always)]
 pub fn two_result(op: TwoOp, width: Width, source: u16, destination: u16, carry: bool) -> Computed
-    ensures { result ≡ two_result op width source destination (one_if carry) }
+    ensures computed { result ≡ two_result op width source destination (one_if carry) }
 {
     let turned = width.complement(source);
     match op {
@@ -63,7 +63,7 @@ pub fn two_result(op: TwoOp, width: Width, source: u16, destination: u16, carry:
 
 /// Format II: of the operand, a byte or a word, and C.
 pub fn one_result(op: OneOp, width: Width, operand: u16, carry: bool) -> Computed
-    ensures { result ≡ one_result op width operand (one_if carry) }
+    ensures computed { result ≡ one_result op width operand (one_if carry) }
 {
     match op {
         OneOp::Rrc => Computed::Flagged(sm_words::rrc(operand, carry, width)),

@@ -3,7 +3,7 @@
 
 ghost use Rattle.std.specs.Prelude.{◌≡◌, ◌≤◌, ◌<◌, IsFalse};
 ghost use Rattle.insn_decode.specs.Code.{IsDecoded, is_unit};
-ghost use Rattle.cycle_table.specs.Cycles.{cycles_of, two_row, two_column, one_row, one_column};
+ghost use Rattle.cycle_table.specs.Cycles.{cycles_of, two_row, one_row, one_column};
 
 use insn_decode::{Insn, OneOp, Operand};
 use sm_words::PC;
@@ -19,7 +19,11 @@ pub fn cycles(insn: &Insn) -> u8
     ensures most { result ≤ 6 }
 {
     match *insn {
-        Insn::Two { src, dst, .. } => two_row(src)[two_column(dst)],
+        Insn::Two { src, dst, .. } => match dst {
+            Operand::Reg(PC) => two_row(src)[1],
+            Operand::Reg(_) => two_row(src)[0],
+            _ => two_row(src)[2],
+        },
         Insn::One { op, arg, .. } => one_row(arg)[one_column(op)],
         Insn::Jump { .. } => 2,
         Insn::Reti => 5,
@@ -36,18 +40,6 @@ fn two_row(src: Operand) -> [u8; 3]
         Operand::Indirect(_) => [2, 2, 5],
         Operand::Increment(_) | Operand::Imm(_) => [2, 3, 5],
         Operand::Indexed { .. } | Operand::Symbolic(_) | Operand::Absolute(_) => [3, 3, 6],
-    }
-}
-
-/// The column of a destination.
-fn two_column(dst: Operand) -> usize
-    ensures exact { result ≡ two_column dst }
-    ensures within { result < 3 }
-{
-    match dst {
-        Operand::Reg(PC) => 1,
-        Operand::Reg(_) => 0,
-        _ => 2,
     }
 }
 

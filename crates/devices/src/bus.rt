@@ -238,7 +238,7 @@ impl Device for Bus {
     }
 
     fn accept(&mut self, vector: u8)
-        ensures { self.new ≡ record self.old { devices = accepted self.old.devices vector } }
+        ensures bus { self.new ≡ record self.old { devices = accepted self.old.devices vector } }
     {
         self.present.timer.accept(vector);
     }
@@ -256,7 +256,7 @@ impl Device for Bus {
     }
 
     fn write(&mut self, addr: u16, byte: u8)
-        ensures { self.new ≡ record self.old { devices = write_of self.old.devices addr byte } }
+        ensures bus { self.new ≡ record self.old { devices = write_of self.old.devices addr byte } }
     {
         match addr {
             LINES_ENABLE | LINES_LEVELS => self.present.lines.write(addr, byte),

@@ -63,7 +63,7 @@ pub trait Device {
 
     /// The highest vector that it raises.
     fn line(&self) -> Option<u8>
-        ensures { result ≡ line_of (state self.now) };
+        ensures vector { result ≡ line_of (state self.now) };
 
     /// For how many ticks the raised vector surely stays as it is.
     fn quiet(&self) -> u64

@@ -18,7 +18,7 @@ const MOST_WORDS: usize = 102;
 pub fn front(text: Section, data_start: u16, count: u16, stack_end: u16) -> [u16; 38]
     requires data { data_start + 2 ≤ 65535 }
     requires text { text.start + 76 ≤ 65535 }
-    ensures { result ≡ stub_front text.start text.end data_start count stack_end }
+    ensures words { result ≡ stub_front text.start text.end data_start count stack_end }
 {
     [
         // A return address in the own text loops for ever.

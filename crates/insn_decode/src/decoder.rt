@@ -41,14 +41,14 @@ fn by_form(w0: u16, w1: u16, w2: u16) -> Option<Insn>
     ensures { result ≡ insn_of w0 w1 w2 }
 {
     match w0 {
-        0x1300 => Some(Insn::Reti),
-        0x1380..=0x1386 => Some(Insn::Unit((w0 - 0x1380) as u8)),
-        0x1000..=0x13ff => decode_one(w0, w1),
+        0x4000.. => decode_two(w0, w1, w2),
         0x2000..=0x3fff => Some(Insn::Jump {
             cond: ((w0 / 1024) % 8) as u8,
             offset: offset(w0 % 1024),
         }),
-        0x4000.. => decode_two(w0, w1, w2),
+        0x1300 => Some(Insn::Reti),
+        0x1380..=0x1386 => Some(Insn::Unit((w0 - 0x1380) as u8)),
+        0x1000..=0x13ff => decode_one(w0, w1),
         _ => None,
     }
 }

@@ -17,7 +17,7 @@ const PADDING: u8 = 11;
 
 /// The phase in which the machine is once an interrupt of a module was accepted.
 pub fn arrive() -> Phase
-    ensures { result ≡ Phase.Pad 11 }
+    ensures phase { result ≡ Phase.Pad 11 }
 {
     Phase::Pad { left: PADDING }
 }
@@ -25,7 +25,7 @@ pub fn arrive() -> Phase
 /// The phase, and what is settled after it, once one of the `left` cycles of padding has passed. With
 /// none left the handler starts.
 pub fn pad_step(left: u8) -> (Phase, After)
-    ensures { result ≡ padding (left - 1) }
+    ensures padding { result ≡ padding (left - 1) }
 {
     pad_by(left, 1)
 }

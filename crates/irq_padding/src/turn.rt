@@ -28,7 +28,7 @@ pub enum Turn {
 /// `inside` that a module is active, `asleep` that CPUOFF is set. An interrupt of a module arrives
 /// whatever its rest is; one of the outside waits for the end of the instruction.
 pub fn choose(phase: Phase, raised: bool, room: bool, inside: bool, asleep: bool) -> Turn
-    ensures { result ≡ turn_of phase raised room inside asleep }
+    ensures turn { result ≡ turn_of phase raised room inside asleep }
 {
     match phase {
         Phase::Pad { .. } => Turn::Pad,

@@ -5,7 +5,7 @@ use Rattle.std.specs.BTreeMap.{BTreeMap, get_by}
 use Rattle.std.specs.Cmp.Lexicographic.{slice_cmp}
 use Rattle.std.specs.Ordering.{nat_cmp, ordering_then}
 use Rattle.std.specs.declared.cmp.Ordering.{Ordering}
-use Rattle.byteorder.specs.Endian.{little_number}
+use Rattle.byteorder.specs.Endian.{big_number}
 use Rattle.linker.specs.declared.item.Item.{Item}
 use Rattle.linker.specs.declared.names.Names.{Names}
 use Rattle.linker.specs.declared.symbol.Meaning.{Meaning}
@@ -15,9 +15,9 @@ use Rattle.linker.specs.Definitions.{strong_of, weak_of}
 use Rattle.linker.specs.Commons.{Common, common_item, common_at}
 use Rattle.linker.specs.Names.{stands_by}
 
--- the number of a name's last eight bytes, and 0 for a shorter name
+-- the number of a name's last eight bytes, the last one lowest, and 0 for a shorter name
 abbrev pub last_bytes : List ℕ → ℕ
-last_bytes name = if nat_lt (length name) 8 then 0 else little_number 8 (drop (length name - 8) name)
+last_bytes name = if nat_lt (length name) 8 then 0 else big_number 8 (drop (length name - 8) name)
 
 -- a key: a name's length, the number of its last bytes, and the name
 abbrev pub Key : Type 0

@@ -143,7 +143,7 @@ impl Memory {
     #[tactic(auto, using(crate::proofs::MarkLemmas::not_full, crate::proofs::MarkLemmas::mark_live, crate::proofs::MarkLemmas::load_marked, crate::proofs::MarkLemmas::load_shown))]
     pub fn load(&mut self, k: u16)
         requires { k < length self.old.marked }
-        ensures { self.new ≡ record self.old { bytes = get_or self.old.marked k [] } }
+        ensures loaded { self.new ≡ record self.old { bytes = get_or self.old.marked k [] } }
     {
         let mark = self.marks[usize::from(k)];
         self.pool.drop_table(self.present);
@@ -156,7 +156,7 @@ impl Memory {
     /// Makes the bytes those of mark `k`, and drops the marks above it.
     pub fn back(&mut self, k: u16)
         requires { k < length self.old.marked }
-        ensures { self.new ≡ record self.old { bytes = get_or self.old.marked k []; marked = take (k + 1) self.old.marked } }
+        ensures back { self.new ≡ record self.old { bytes = get_or self.old.marked k []; marked = take (k + 1) self.old.marked } }
     {
         for _ in usize::from(k) + 1..self.marks.len() {
             self.drop_newest();

@@ -37,7 +37,7 @@ impl Pool {
     pub fn new(alloc: Global, tables: u16) -> Result<Pool, NoMemory>
         requires least { 1 ≤ tables }
         requires most { tables ≤ 17 }
-        ensures { IfOk result (λ pool. pool ≡ slice_set (replicate tables None) 0 (Some (zeros 65536))) }
+        ensures first { IfOk result (λ pool. pool ≡ slice_set (replicate tables None) 0 (Some (zeros 65536))) }
     {
         Ok(Pool {
             store: Store::new(alloc, usize::from(tables))?,
@@ -58,7 +58,7 @@ impl Pool {
     /// Changes one byte of a live table, and no byte of another.
     pub fn write(&mut self, t: u16, addr: u16, byte: u8)
         requires { IsLive self.old t }
-        ensures { self.new ≡ slice_set self.old t (Some (slice_set (bytes_of self.old t) addr byte)) }
+        ensures written { self.new ≡ slice_set self.old t (Some (slice_set (bytes_of self.old t) addr byte)) }
     {
         let page = usize::from(addr / 256);
         let at = usize::from(addr % 256);
@@ -86,7 +86,7 @@ impl Pool {
     /// Ends a live table.
     pub fn drop_table(&mut self, t: u16)
         requires { IsLive self.old t }
-        ensures { self.new ≡ slice_set self.old t None }
+        ensures ended { self.new ≡ slice_set self.old t None }
     {
         self.store.end(usize::from(t));
     }

@@ -8,7 +8,7 @@ pub fn every_command()
 
 /// The runs of a seed are told alike, whatever their module's data, and so both runs of `make`.
 pub fn runs_are_alike()
-    ensures { RunsAreAlike }
+    ensures alike { RunsAreAlike }
 {
     // These do nothing: their clauses are the laws of two runs, and that the runs' images are peers.
     isolation::two_runs();

@@ -27,7 +27,7 @@ impl<R: rt::Files<File = fs::File> + Drop> Model for DiskFiles<R> {
 impl<R: rt::Files<File = fs::File> + Drop> DiskFiles<R> {
     /// The files that the system shows, with no fault so far.
     pub fn new(runtime: R) -> Self
-        ensures { result ≡ 0 }
+        ensures faults { result ≡ 0 }
     {
         DiskFiles { runtime, faults: 0 }
     }
@@ -80,7 +80,7 @@ impl<W: Write + Drop> Model for StdSink<W> {
 impl<W: Write + Drop> StdSink<W> {
     /// A sink that writes there, with no fault so far.
     pub fn new(writer: W) -> Self
-        ensures { result ≡ 0 }
+        ensures faults { result ≡ 0 }
     {
         StdSink { writer, faults: 0 }
     }

@@ -44,7 +44,7 @@ impl Model for MemFiles {
 impl MemFiles {
     /// No files, and no call that is to fail.
     pub fn new(alloc: Global) -> Self
-        ensures { result ≡ record { files = []; failing = []; calls = 0; faults = 0 } }
+        ensures empty { result ≡ record { files = []; failing = []; calls = 0; faults = 0 } }
     {
         MemFiles {
             alloc,

@@ -41,7 +41,7 @@ impl Model for MemSink {
 impl MemSink {
     /// An empty sink with room for `room` bytes, and no call that is to fail.
     pub fn new(alloc: Global, room: usize) -> Result<MemSink, NoMemory>
-        ensures { IfOk result (λ sink. sink ≡ record { taken = []; room = room; failing = []; calls = 0; faults = 0 }) }
+        ensures empty { IfOk result (λ sink. sink ≡ record { taken = []; room = room; failing = []; calls = 0; faults = 0 }) }
     {
         Ok(MemSink {
             bytes: Vec::with_capacity(alloc, room)?,
@@ -63,7 +63,7 @@ impl MemSink {
 
     /// The bytes taken.
     pub fn taken(&self) -> &[u8]
-        ensures { result.now ≡ self.now.taken }
+        ensures bytes { result.now ≡ self.now.taken }
     {
         &self.bytes
     }

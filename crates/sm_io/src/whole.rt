@@ -52,7 +52,7 @@ pub fn read_whole<F: Files>(alloc: Global, files: &mut F, name: &str) -> Result<
 
 /// Puts all the bytes, and takes no memory. After `Failed` the sink has taken a front of them that is shorter.
 pub fn put_all<S: Sink>(sink: &mut S, bytes: &[u8]) -> Result<(), Failed>
-    ensures { Puts S.taken S.faults S.sure sink.old sink.new bytes.now result }
+    ensures put { Puts S.taken S.faults S.sure sink.old sink.new bytes.now result }
 {
     let mut rest = bytes;
     while !rest.is_empty() {

@@ -186,114 +186,55 @@ stop_joined : (c r p a m : List ℕ) → c ++ codes " " ++ (codes "stop " ++ r +
     ≡ joined c (codes "stop" ∷ r ∷ codes "pc" ∷ p ∷ codes "addr" ∷ a ∷ codes "module" ∷ m ∷ [])
 stop_joined c r p a m = simp append_assoc
 
+-- an event's line, by the words after its cycle
+told : (c : ℕ) (e : Event) (kind : Kind) (bytes : List ℕ) (more : List (List ℕ)) → c < 2 ^ 64
+    → event_words c e ≡ joined (decimal c) more → ArePlain more → kind_by (decimal c ∷ more) ≡ Some kind → ends kind ≡ false → sent_by kind (event_words c e) ≡ bytes
+    → Reads (event_words c e) false bytes
+told c e kind bytes more low joins plain is goes_on sent =
+    reads _ kind false bytes (record { first = decimal c; more = more; joins = joins; first_plain = decimal_plain c low; more_plain = plain; is = is }) goes_on sent
+
 event_reads : (c : ℕ) (e : Event) → c < 2 ^ 64 → IsEvent e → Reads (event_words c e) false (sent_in e)
 event_reads c (EResume id) low h =
-    reads _ Resume false [] (record {
-      first = decimal c;
-      more = codes "resume" ∷ decimal id ∷ [];
-      joins = simp append_assoc;
-      first_plain = decimal_plain c low;
-      more_plain = (refl, (decimal_plain id (omega arith), tt));
-      is = (one_number (decimal c) (number c low) (decimal id) (number id (omega arith))).0;
-    }) refl refl
+    told c (EResume id) Resume [] (codes "resume" ∷ decimal id ∷ []) low (simp append_assoc) (refl, (decimal_plain id (omega arith), tt))
+    (one_number (decimal c) (number c low) (decimal id) (number id (omega arith))).0 refl refl
 event_reads c (EClose id) low h =
-    reads _ Close false [] (record {
-      first = decimal c;
-      more = codes "close" ∷ decimal id ∷ [];
-      joins = simp append_assoc;
-      first_plain = decimal_plain c low;
-      more_plain = (refl, (decimal_plain id (omega arith), tt));
-      is = (one_number (decimal c) (number c low) (decimal id) (number id (omega arith))).1;
-    }) refl refl
+    told c (EClose id) Close [] (codes "close" ∷ decimal id ∷ []) low (simp append_assoc) (refl, (decimal_plain id (omega arith), tt))
+    (one_number (decimal c) (number c low) (decimal id) (number id (omega arith))).1 refl refl
 event_reads c (EHandler pc) low h =
-    reads _ Handler false [] (record {
-      first = decimal c;
-      more = codes "handler" ∷ codes "pc" ∷ hex_word pc ∷ [];
-      joins = simp append_assoc;
-      first_plain = decimal_plain c low;
-      more_plain = (refl, (refl, (word_plain pc h, tt)));
-      is = handler (decimal c) (number c low) (hex_word pc) (address pc h);
-    }) refl refl
+    told c (EHandler pc) Handler [] (codes "handler" ∷ codes "pc" ∷ hex_word pc ∷ []) low (simp append_assoc) (refl, (refl, (word_plain pc h, tt)))
+    (handler (decimal c) (number c low) (hex_word pc) (address pc h)) refl refl
 event_reads c (ELeave id pc) low h =
     let small = h.0 in
-    reads _ Leave false [] (record {
-      first = decimal c;
-      more = codes "leave" ∷ decimal id ∷ codes "pc" ∷ hex_word pc ∷ [];
-      joins = simp append_assoc;
-      first_plain = decimal_plain c low;
-      more_plain = (refl, (decimal_plain id (omega arith), (refl, (word_plain pc h.1, tt))));
-      is = leave (decimal c) (number c low) (decimal id) (hex_word pc) (number id (omega arith)) (address pc h.1);
-    }) refl refl
+    told c (ELeave id pc) Leave [] (codes "leave" ∷ decimal id ∷ codes "pc" ∷ hex_word pc ∷ []) low (simp append_assoc) (refl, (decimal_plain id (omega arith), (refl, (word_plain pc h.1, tt))))
+    (leave (decimal c) (number c low) (decimal id) (hex_word pc) (number id (omega arith)) (address pc h.1)) refl refl
 event_reads c (EHide id vector) low h =
     let small = h.0 in
     let few = h.1 in
-    reads _ Hide false [] (record {
-      first = decimal c;
-      more = codes "hide" ∷ decimal id ∷ codes "vector" ∷ decimal vector ∷ [];
-      joins = simp append_assoc;
-      first_plain = decimal_plain c low;
-      more_plain = (refl, (decimal_plain id (omega arith), (refl, (decimal_plain vector (omega arith), tt))));
-      is = hide (decimal c) (number c low) (decimal id) (decimal vector) (number id (omega arith)) (number vector (omega arith));
-    }) refl refl
+    told c (EHide id vector) Hide [] (codes "hide" ∷ decimal id ∷ codes "vector" ∷ decimal vector ∷ []) low (simp append_assoc) (refl, (decimal_plain id (omega arith), (refl, (decimal_plain vector (omega arith), tt))))
+    (hide (decimal c) (number c low) (decimal id) (decimal vector) (number id (omega arith)) (number vector (omega arith))) refl refl
 event_reads c (EIrq vector) low h =
-    reads _ Irq false [] (record {
-      first = decimal c;
-      more = codes "irq" ∷ decimal vector ∷ [];
-      joins = simp append_assoc;
-      first_plain = decimal_plain c low;
-      more_plain = (refl, (decimal_plain vector (omega arith), tt));
-      is = (one_number (decimal c) (number c low) (decimal vector) (number vector (omega arith))).2;
-    }) refl refl
+    told c (EIrq vector) Irq [] (codes "irq" ∷ decimal vector ∷ []) low (simp append_assoc) (refl, (decimal_plain vector (omega arith), tt))
+    (one_number (decimal c) (number c low) (decimal vector) (number vector (omega arith))).2 refl refl
 event_reads c (EEnter id from) low h =
     let small = h.0 in
     let few = h.1 in
-    reads _ Enter false [] (record {
-      first = decimal c;
-      more = codes "enter" ∷ decimal id ∷ codes "from" ∷ decimal from ∷ [];
-      joins = simp append_assoc;
-      first_plain = decimal_plain c low;
-      more_plain = (refl, (decimal_plain id (omega arith), (refl, (decimal_plain from (omega arith), tt))));
-      is = enter (decimal c) (number c low) (decimal id) (decimal from) (number id (omega arith)) (number from (omega arith));
-    }) refl refl
+    told c (EEnter id from) Enter [] (codes "enter" ∷ decimal id ∷ codes "from" ∷ decimal from ∷ []) low (simp append_assoc) (refl, (decimal_plain id (omega arith), (refl, (decimal_plain from (omega arith), tt))))
+    (enter (decimal c) (number c low) (decimal id) (decimal from) (number id (omega arith)) (number from (omega arith))) refl refl
 event_reads c EReti low h =
-    reads _ Reti false [] (record {
-      first = decimal c;
-      more = codes "reti" ∷ [];
-      joins = simp append_assoc;
-      first_plain = decimal_plain c low;
-      more_plain = (refl, tt);
-      is = reti (decimal c) (number c low);
-    }) refl refl
+    told c EReti Reti [] (codes "reti" ∷ []) low (simp append_assoc) (refl, tt)
+    (reti (decimal c) (number c low)) refl refl
 event_reads c (EProtect id) low h =
-    reads _ Protect false [] (record {
-      first = decimal c;
-      more = codes "protect" ∷ decimal id ∷ [];
-      joins = simp append_assoc;
-      first_plain = decimal_plain c low;
-      more_plain = (refl, (decimal_plain id (omega arith), tt));
-      is = (one_number (decimal c) (number c low) (decimal id) (number id (omega arith))).3;
-    }) refl refl
+    told c (EProtect id) Protect [] (codes "protect" ∷ decimal id ∷ []) low (simp append_assoc) (refl, (decimal_plain id (omega arith), tt))
+    (one_number (decimal c) (number c low) (decimal id) (number id (omega arith))).3 refl refl
 event_reads c (EOut byte) low h =
-    reads _ Out false (byte ∷ []) (record {
-      first = decimal c;
-      more = codes "out" ∷ hex_byte byte ∷ [];
-      joins = simp append_assoc;
-      first_plain = decimal_plain c low;
-      more_plain = (refl, (byte_plain byte h, tt));
-      is = out (decimal c) (number c low) (hex_byte byte) (byte_word byte h);
-    }) refl (out_byte c byte h)
+    told c (EOut byte) Out (byte ∷ []) (codes "out" ∷ hex_byte byte ∷ []) low (simp append_assoc) (refl, (byte_plain byte h, tt))
+    (out (decimal c) (number c low) (hex_byte byte) (byte_word byte h)) refl (out_byte c byte h)
 event_reads c (EStop s) low h =
     let pc = h.pc in
     let addr = h.addr in
     let id = h.«module» in
-    reads _ Stop false [] (record {
-      first = decimal c;
-      more = codes "stop" ∷ rule_name s.rule ∷ codes "pc" ∷ hex_word s.pc ∷ codes "addr" ∷ hex_word s.addr ∷ codes "module" ∷ decimal s.«module» ∷ [];
-      joins = stop_joined (decimal c) (rule_name s.rule) (hex_word s.pc) (hex_word s.addr) (decimal s.«module»);
-      first_plain = decimal_plain c low;
-      more_plain = (refl, (rule_plain s.rule, (refl, (word_plain s.pc pc, (refl, (word_plain s.addr addr, (refl, (decimal_plain s.«module» (omega arith), tt))))))));
-      is = stop (decimal c) (number c low) (rule_name s.rule) (hex_word s.pc) (hex_word s.addr) (decimal s.«module») (a_rule s.rule) (address s.pc pc) (address s.addr addr) (number s.«module» (omega arith));
-    }) refl refl
+    told c (EStop s) Stop [] (codes "stop" ∷ rule_name s.rule ∷ codes "pc" ∷ hex_word s.pc ∷ codes "addr" ∷ hex_word s.addr ∷ codes "module" ∷ decimal s.«module» ∷ []) low (stop_joined (decimal c) (rule_name s.rule) (hex_word s.pc) (hex_word s.addr) (decimal s.«module»)) (refl, (rule_plain s.rule, (refl, (word_plain s.pc pc, (refl, (word_plain s.addr addr, (refl, (decimal_plain s.«module» (omega arith), tt))))))))
+    (stop (decimal c) (number c low) (rule_name s.rule) (hex_word s.pc) (hex_word s.addr) (decimal s.«module») (a_rule s.rule) (address s.pc pc) (address s.addr addr) (number s.«module» (omega arith))) refl refl
 
 -- ---- the end line
 

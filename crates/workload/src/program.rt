@@ -65,7 +65,7 @@ pub const RETI: u16 = 0x1300;
 
 /// The image whose module has this word as its data.
 pub fn image(alloc: Global, word: u16) -> Result<Image, AllocError>
-    ensures { IfOk result (λ i. i ≡ spec.image word) }
+    ensures image { IfOk result (λ i. i ≡ spec.image word) }
 {
     let memory = memory(alloc, word)?;
     let node_key = [0; 16];

@@ -24,7 +24,7 @@ pub const LINE: u8 = 0;
 
 /// The pulses that a seed gives: each goes up at a time that is drawn, and down in the next cycle.
 pub fn schedule(alloc: Global, seed: u32) -> Result<Schedule, AllocError>
-    ensures { IfOk result (λ s. s.entries.items ≡ pulses seed COUNT) }
+    ensures pulses { IfOk result (λ s. s.entries.items ≡ pulses seed COUNT) }
 {
     let mut entries = Vec::new(alloc);
     let mut drawn = next(u64::from(seed));

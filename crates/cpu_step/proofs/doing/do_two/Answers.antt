@@ -6,7 +6,7 @@ returns-clause-core g c =
     (two_through g.P.Port.answer g.P.Port.after_read g.P.Port.after_write c.args.insn.now c.args.core.now (g.P.Port.state c.args.port.now) c.args.op c.args.width c.args.src c.args.dst
     _ _ _ _ _ _ _ _ _ _ _ _ _ _
     c.requires.form c.step_past.ensures c.extension-extension.ensures c.place-source_place.ensures c.increment.ensures c.second_extension.ensures c.place-old_place.ensures
-    c.take-source.ensures.value c.take-source.ensures.state c.take_old-old.ensures.value c.take_old-old.ensures.state c.carry-carry.ensures c.two_result-computed.ensures
+    c.take-source.ensures.value c.take-source.ensures.state c.take_old-old.ensures.value c.take_old-old.ensures.state c.carry-carry.ensures c.two_result-computed.ensures.computed
     c.finish_two.ensures.core c.finish_two.ensures.state).0
 
 pub returns-clause-state : goal.returns-clause-state
@@ -14,7 +14,7 @@ returns-clause-state g c =
     (two_through g.P.Port.answer g.P.Port.after_read g.P.Port.after_write c.args.insn.now c.args.core.now (g.P.Port.state c.args.port.now) c.args.op c.args.width c.args.src c.args.dst
     _ _ _ _ _ _ _ _ _ _ _ _ _ _
     c.requires.form c.step_past.ensures c.extension-extension.ensures c.place-source_place.ensures c.increment.ensures c.second_extension.ensures c.place-old_place.ensures
-    c.take-source.ensures.value c.take-source.ensures.state c.take_old-old.ensures.value c.take_old-old.ensures.state c.carry-carry.ensures c.two_result-computed.ensures
+    c.take-source.ensures.value c.take-source.ensures.state c.take_old-old.ensures.value c.take_old-old.ensures.state c.carry-carry.ensures c.two_result-computed.ensures.computed
     c.finish_two.ensures.core c.finish_two.ensures.state).1
 
 pub take-source-requires-clause-aligned : goal.take-source-requires-clause-aligned

@@ -25,7 +25,7 @@ returns-clause-least c = λ stub.
     (λ branch. c.walk.ensures stub branch ∙ ap (λ y. told (walk S m text branch b.arm.join (suc b.arm.join) y) t0) c.first_arm-first.ensures)
     (λ branch. c.walk-2.ensures stub branch ∙ ap (λ y. told (walk S m text branch b.arm.join (suc b.arm.join) y) (record c.walk.new.tally { cycles = 0 })) c.second_arm-second.ensures)
     c.args.stepped.now.least c.note_if-2.new.least c.note_if-3.new.least
-    (λ pc. c.note_if.ensures pc ∙ ap (λ b. noted (because_if (not b) pc ArmInsn c.args.crossing.now.arm.join) c.args.stepped.now.least) (c.holds-apart.ensures ∙ ap (holds m.text) wide))
+    (λ pc. c.note_if.ensures pc ∙ ap (λ b. noted (because_if (not b) pc ArmInsn c.args.crossing.now.arm.join) c.args.stepped.now.least) (c.holds-apart.ensures.exact ∙ ap (holds m.text) wide))
     (λ pc. c.note_if-2.ensures pc ∙ ap (λ n. noted (because_if (not (c.walk.new.tally.cycles == n)) pc ArmTime 0) c.walk-2.new.tally.least) wanted)
     (λ pc. c.note_if-3.ensures pc ∙ ap (λ n. noted (because_if (not (c.walk-2.new.tally.cycles == n)) pc ArmTime 1) c.note_if-2.new.least) wanted)
 

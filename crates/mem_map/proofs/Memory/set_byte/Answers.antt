@@ -12,7 +12,7 @@ returns c =
     let now = c.args.self.now in
     let bytes = set (bytes_of m.pool m.present) c.args.addr c.args.byte in
     record {
-      written = ap (λ (tables : Tables). contents_of tables m.present m.marks.items m.room) c.write.ensures
+      written = ap (λ (tables : Tables). contents_of tables m.present m.marks.items m.room) c.write.ensures.written
           ∙ written_shown m.pool m.present m.marks.items m.room bytes now c.self.invariant c.self.view_is
           ∙ ap (λ (a : Contents). record now { bytes = set a.bytes c.args.addr c.args.byte }) c.self.view_is;
     }

@@ -9,8 +9,8 @@ returns-in-Err g c = cut_first g.S.Sink.taken g.S.Sink.faults g.S.Sink.sure _ _ 
 
 pub returns-in-Err-put_all : goal.returns-in-Err-put_all
 returns-in-Err-put_all g c = cut_later g.S.Sink.taken g.S.Sink.faults g.S.Sink.sure _ _ _ (with_numbers (codes "Reloc") c.args.numbers.now) _ c.in-Ok.ensures
-    (cut_first g.S.Sink.taken g.S.Sink.faults g.S.Sink.sure _ _ (codes " ") (reloc_fault_text c.args.fault) c.in-Err-put_all.ensures)
+    (cut_first g.S.Sink.taken g.S.Sink.faults g.S.Sink.sure _ _ (codes " ") (reloc_fault_text c.args.fault) c.in-Err-put_all.ensures.put)
 
 pub returns-in-Ok-put_all : goal.returns-in-Ok-put_all
 returns-in-Ok-put_all g c = puts_last g.S.Sink.taken g.S.Sink.faults g.S.Sink.sure _ _ _ (with_numbers (codes "Reloc") c.args.numbers.now) _ _ c.in-Ok.ensures
-    (puts_last g.S.Sink.taken g.S.Sink.faults g.S.Sink.sure _ _ _ (codes " ") (reloc_fault_text c.args.fault) _ c.in-Ok-put_all.ensures c.put_reloc_fault.ensures)
+    (puts_last g.S.Sink.taken g.S.Sink.faults g.S.Sink.sure _ _ _ (codes " ") (reloc_fault_text c.args.fault) _ c.in-Ok-put_all.ensures.put c.put_reloc_fault.ensures)

@@ -4,11 +4,11 @@ use Rattle.sm_cli.proofs.lines.put_refusal.Goals as goal
 
 pub returns-in-Usage : goal.returns-in-Usage
 unfolding line_of
-returns-in-Usage g c = rw c.in-Usage.is c.put_all.ensures
+returns-in-Usage g c = rw c.in-Usage.is c.put_all.ensures.put
 
 pub returns-in-NoMemory : goal.returns-in-NoMemory
 unfolding line_of
-returns-in-NoMemory g c = rw c.in-NoMemory.is c.put_all-in-NoMemory.ensures
+returns-in-NoMemory g c = rw c.in-NoMemory.is c.put_all-in-NoMemory.ensures.put
 
 pub returns-in-CannotRead : goal.returns-in-CannotRead
 unfolding line_of

@@ -21,8 +21,10 @@ returns-in-Err g c =
     let some_left : 0 < length rest = search rules in
     let none_sure = not_sure _ c.in-Err.ensures.never_fails in
     record {
-      front = front_of _ _ i.0 rest c.args.bytes.now i.1 (appends_keeps _ _ _ i.0 i.2 c.in-Err.ensures.bytes);
-      shorter = omega (arith, simp length-append at (ap length i.1), some_left);
-      rose = (omega (arith, c.in-Err.ensures.cause.0, i.3), omega (arith, c.in-Err.ensures.cause.1, i.3));
-      not_sure = omega (arith, none_sure, i.4, simp length-append at (ap length i.1), some_left);
+      put = record {
+        front = front_of _ _ i.0 rest c.args.bytes.now i.1 (appends_keeps _ _ _ i.0 i.2 c.in-Err.ensures.bytes);
+        shorter = omega (arith, simp length-append at (ap length i.1), some_left);
+        rose = (omega (arith, c.in-Err.ensures.cause.0, i.3), omega (arith, c.in-Err.ensures.cause.1, i.3));
+        not_sure = omega (arith, none_sure, i.4, simp length-append at (ap length i.1), some_left);
+      };
     }

@@ -25,4 +25,4 @@ pub returns : goal.returns
 unfolding image
 returns c =
     let made : List ℕ → Table → Image = λ m t. record { memory = m; table = t; node_key = replicate 16 0; handler_sp = 1536 } in
-    ap₂ made c.in_ok-memory.ensures.memory c.table.ensures.module
+    record { image = ap₂ made c.in_ok-memory.ensures.memory c.table.ensures.module }

@@ -1,13 +1,12 @@
-use Rattle.std.proofs.Common.{◌≡◌, ℕ, ◌+◌, ◌-◌, ◌<◌, List, ◌++◌, length, take, true, false, is_some, refl, sym, ◌∙◌, ap, subst, arith}
-use Rattle.sm_io.proofs.Putting.{appends_then, appends_same, took_same, took_then, cut_within}
+use Rattle.std.proofs.Common.{◌≡◌, ◌+◌, ◌-◌, ◌<◌, true, false, is_some, refl, sym, ◌∙◌, ap, subst, arith}
+use Rattle.sm_io.proofs.Putting.{took_same}
 use Rattle.written_machine.specs.Cycle.{cycle, after_cycles}
 use Rattle.written_machine.specs.Marks.{Marked, at_state}
 use Rattle.written_machine.specs.Standing.{stands_at, cycles_until}
 use Rattle.written_machine.specs.State.{State}
-use Rattle.written_machine.specs.Trace.{lines_of, lines_after}
 use Rattle.board.specs.declared.Ran.TheVariants.{SinkFailed}
-use Rattle.board.specs.Ran.{Apart, lines_now, RanWhole}
-use Rattle.board.proofs.Runs.{ended_runs, stopped_early, state_more, state_led, lines_are, lines_led, lines_next, lines_within}
+use Rattle.board.specs.Ran.{Apart, RanWhole}
+use Rattle.board.proofs.Runs.{cut_after, ended_runs, ran_on, state_more, stopped_early}
 use Rattle.board.proofs.Reaching.{apart_then, apart_stopped, apart_within, until_there, until_never}
 use Rattle.board.proofs.Seen.{peers_run}
 use Rattle.board.proofs.board.Board.run_until.Goals as goal
@@ -18,7 +17,7 @@ returns-then-stands_at-clause-ran g c =
     let i = c.loop-left.invariant in
     let n = c.args.most - c.loop-left.left in
     let s = c.args.self.now.present in
-    let there : stands_at c.args.addr (after_cycles s n) ≡ true = sym (ap (stands_at c.args.addr) {y = after_cycles s n} i.state) ∙ sym c.stands_at.ensures ∙ c.if-stands_at.true in
+    let there : stands_at c.args.addr (after_cycles s n) ≡ true = sym (ap (stands_at c.args.addr) {y = after_cycles s n} i.state) ∙ sym c.stands_at.ensures.stands ∙ c.if-stands_at.true in
     let all = until_there c.args.addr n c.args.most s (omega arith) i.apart there in
     let whole = subst (λ k. RanWhole g.S.Sink.taken g.S.Sink.faults g.S.Sink.sure k s c.loop-left.self.present c.args.sink.now c.loop-left.sink) (sym all) record { state = i.state; lines = i.lines } in
     ended_runs g.S.Sink.taken g.S.Sink.faults g.S.Sink.sure (cycles_until c.args.addr s c.args.most) s c.loop-left.self.present c.args.sink.now c.loop-left.sink _ whole c.ended.ensures
@@ -30,7 +29,7 @@ returns-then-is_stopped-clause-ran g c =
     let n = c.args.most - c.loop-left.left in
     let s = c.args.self.now.present in
     let stopped : is_some c.loop-left.self.present.stop ≡ true = sym c.is_stopped.ensures ∙ c.if-is_stopped.true in
-    let elsewhere : stands_at c.args.addr c.loop-left.self.present ≡ false = sym c.stands_at.ensures ∙ c.if-stands_at.false in
+    let elsewhere : stands_at c.args.addr c.loop-left.self.present ≡ false = sym c.stands_at.ensures.stands ∙ c.if-stands_at.false in
     let all = until_never c.args.addr c.args.most s (apart_stopped c.args.addr n c.args.most s c.loop-left.self.present i.state stopped i.apart elsewhere) in
     let early = stopped_early n c.args.most s c.loop-left.self.present (omega arith) i.state stopped in
     let whole : RanWhole g.S.Sink.taken g.S.Sink.faults g.S.Sink.sure c.args.most s c.loop-left.self.present c.args.sink.now c.loop-left.sink = record { state = early.0; lines = took_same g.S.Sink.taken g.S.Sink.faults g.S.Sink.sure _ _ _ _ early.1 i.lines } in
@@ -44,25 +43,12 @@ returns-in-Err-clause-ran g c =
     let n = c.args.most - c.loop-left.left in
     let s = c.args.self.now.present in
     let u = cycles_until c.args.addr s c.args.most in
-    let elsewhere : stands_at c.args.addr (after_cycles s n) ≡ false = sym (ap (stands_at c.args.addr) {y = after_cycles s n} i.state) ∙ sym c.stands_at.ensures ∙ c.if-stands_at.false in
+    let elsewhere : stands_at c.args.addr (after_cycles s n) ≡ false = sym (ap (stands_at c.args.addr) {y = after_cycles s n} i.state) ∙ sym c.stands_at.ensures.stands ∙ c.if-stands_at.false in
     let before : Apart c.args.addr (n + 1 + 0) s = apart_then c.args.addr n 0 s (after_cycles s (n + 1)) i.apart elsewhere refl (λ m h. absurd (omega (arith, h))) in
     let next = apart_within c.args.addr (n + 1 + 0) c.args.most s (omega (arith, i.within, c.loop-left-test.true)) before in
     let within : n < u = omega (arith, next) in
-    let number = c.self.inside.machine.cycle in
-    let lines_are_those : lines_of number c.as_slice.result.now ≡ lines_now (after_cycles s n) =
-    lines_are c.loop-left.self.present (after_cycles s n) number c.as_slice.result.now (ap (λ (g : Marked). g.present.cycle) c.self.view_is) (c.as_slice.ensures.value ∙ c.step.ensures.events) i.state in
-    let m = c.in-Err.ensures.front.0 in
-    record {
-      cycles = n;
-      within = within;
-      state = c.step.ensures.state ∙ ap (λ (b : State). (cycle b).state) i.state ∙ sym (state_more n s);
-      front = m;
-      shorter = subst (λ (l : List ℕ). m < length l) lines_are_those c.in-Err.ensures.shorter;
-      bytes = appends_same (g.S.Sink.taken c.args.sink.now) (g.S.Sink.taken c.put_lines.new.sink) _ (lines_after s n ++ take m (lines_now (after_cycles s n))) (ap (λ (l : List ℕ). lines_after s n ++ take m l) lines_are_those)
-          (appends_then (g.S.Sink.taken c.args.sink.now) (g.S.Sink.taken c.loop-left.sink) (g.S.Sink.taken c.put_lines.new.sink) (lines_after s n) _ i.lines.whole c.in-Err.ensures.front.1);
-      cut = cut_within g.S.Sink.taken g.S.Sink.faults g.S.Sink.sure _ _ _ (lines_after s n) (lines_of number c.as_slice.result.now) (lines_after (after_cycles s (n + 1)) (u - (n + 1))) (lines_after s u)
-          (lines_within n u s _ within lines_are_those) i.lines c.in-Err.ensures;
-    }
+    cut_after g.S.Sink.taken g.S.Sink.faults g.S.Sink.sure n u s c.loop-left.self.present c.step.new.self.present c.self.inside.machine.cycle c.as_slice.result.now c.args.sink.now c.loop-left.sink c.put_lines.new.sink
+    within i.state (ap (λ (g : Marked). g.present.cycle) c.self.view_is) (c.as_slice.ensures.value ∙ c.step.ensures.events) c.step.ensures.state i.lines c.in-Err.ensures
 
 -- all cycles passed
 pub returns-clause-ran : goal.returns-clause-ran
@@ -99,18 +85,15 @@ loop-left-preserved g c =
     let k = c.pass_apart-left.result in
     let led = c.pass_apart-left.ensures.leads in
     let s = c.args.self.now.present in
-    let elsewhere : stands_at c.args.addr (after_cycles s n) ≡ false = sym (ap (stands_at c.args.addr) {y = after_cycles s n} i.state) ∙ sym c.stands_at.ensures ∙ c.if-stands_at.false in
-    let number = c.self.inside.machine.cycle in
-    let lines_are_those : lines_of number c.as_slice.result.now ≡ lines_now (after_cycles s n) =
-    lines_are c.loop-left.self.present (after_cycles s n) number c.as_slice.result.now (ap (λ (g : Marked). g.present.cycle) c.self.view_is) (c.as_slice.ensures.value ∙ c.step.ensures.events) i.state in
+    let elsewhere : stands_at c.args.addr (after_cycles s n) ≡ false = sym (ap (stands_at c.args.addr) {y = after_cycles s n} i.state) ∙ sym c.stands_at.ensures.stands ∙ c.if-stands_at.false in
     let next : c.step.new.self.present ≡ after_cycles s (n + 1) = c.step.ensures.state ∙ ap (λ (b : State). (cycle b).state) i.state ∙ sym (state_more n s) in
     let done : n + 1 + k ≡ c.args.most - (c.loop-left.left - 1 - k) = omega (arith, i.within, c.loop-left-test.true, c.pass_apart-left.ensures.most) in
+    let ran = ran_on g.S.Sink.taken g.S.Sink.faults g.S.Sink.sure n k (c.args.most - (c.loop-left.left - 1 - k)) s c.loop-left.self.present c.step.new.self.present c.pass_apart-left.new.self.present c.self.inside.machine.cycle c.as_slice.result.now c.args.sink.now c.loop-left.sink c.put_lines.new.sink
+    i.state (ap (λ (g : Marked). g.present.cycle) c.self.view_is) (c.as_slice.ensures.value ∙ c.step.ensures.events) c.step.ensures.state led done i.lines c.in-Ok.ensures in
     record {
       within = omega (arith, i.within);
-      state = state_led (n + 1) k s c.step.new.self.present c.pass_apart-left.new.self.present next led ∙ ap (after_cycles s) done;
-      lines = took_same g.S.Sink.taken g.S.Sink.faults g.S.Sink.sure _ _ (lines_after s n ++ lines_of number c.as_slice.result.now) (lines_after s (c.args.most - (c.loop-left.left - 1 - k)))
-          (lines_next n s _ lines_are_those ∙ lines_led (n + 1) k s c.step.new.self.present c.pass_apart-left.new.self.present next led ∙ ap (lines_after s) done)
-          (took_then g.S.Sink.taken g.S.Sink.faults g.S.Sink.sure _ _ _ (lines_after s n) _ i.lines c.in-Ok.ensures);
+      state = ran.state;
+      lines = ran.lines;
       apart = subst (λ n. Apart c.args.addr n s) done (apart_then c.args.addr n k s c.step.new.self.present i.apart elsewhere next c.pass_apart-left.ensures.apart);
       number = omega (arith, i.number, i.within, c.loop-left-test.true, c.step.ensures.number, c.pass_apart-left.ensures.number, c.pass_apart-left.ensures.most);
       marks = c.pass_apart-left.ensures.marks ∙ ap (λ (g : Marked). at_state g c.pass_apart-left.new.self.present) (c.step.ensures.marks ∙ ap (λ (g : Marked). at_state g c.step.new.self.present) i.marks);

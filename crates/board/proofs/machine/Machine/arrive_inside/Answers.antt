@@ -5,4 +5,4 @@ use Rattle.board.proofs.machine.Machine.arrive_inside.Goals as goal
 
 pub returns-clause-lasting : goal.returns-clause-lasting
 returns-clause-lasting c =
-    lasting_by c.args.self.now c.accept.new.self.devices (ap (λ (b : BusState). b.devices.schedule) c.accept.ensures ∙ accepted_schedule _ c.args.vector)
+    lasting_by c.args.self.now c.accept.new.self.devices (ap (λ (b : BusState). b.devices.schedule) c.accept.ensures.bus ∙ accepted_schedule _ c.args.vector)

@@ -26,7 +26,7 @@ returns-in-Err g c =
     let more = lines_more i.1 memory at end below i.2 in
     let bytes : c.as_bytes.result.now ≡ line_at memory at = c.as_bytes.ensures.value ∙ c.as_str.ensures.value ∙ c.line_at-line.ensures in
     cut_within g.O.Sink.taken g.O.Sink.faults g.O.Sink.sure _ _ _ i.0 (line_at memory at) (lines_below more.left_after memory (after memory at) end) (listing memory c.args.start end)
-    (next_lines i.0 i.1 memory at end _ more i.3) i.4 (cut_same g.O.Sink.taken g.O.Sink.faults g.O.Sink.sure _ _ _ _ bytes c.in-Err.ensures)
+    (next_lines i.0 i.1 memory at end _ more i.3) i.4 (cut_same g.O.Sink.taken g.O.Sink.faults g.O.Sink.sure _ _ _ _ bytes c.in-Err.ensures.put)
 
 pub loop-at-preserved : goal.loop-at-preserved
 loop-at-preserved g c =
@@ -46,7 +46,7 @@ loop-at-preserved g c =
       ap (λ a. (i.0 ++ line) ++ lines_below more.left_after memory a end) step
           ∙ append_assoc i.0 line (lines_below more.left_after memory (after memory at) end)
           ∙ next_lines i.0 i.1 memory at end _ more i.3,
-      took_then g.O.Sink.taken g.O.Sink.faults g.O.Sink.sure _ _ _ i.0 line i.4 (took_same g.O.Sink.taken g.O.Sink.faults g.O.Sink.sure _ _ _ _ bytes c.in-Ok.ensures),
+      took_then g.O.Sink.taken g.O.Sink.faults g.O.Sink.sure _ _ _ i.0 line i.4 (took_same g.O.Sink.taken g.O.Sink.faults g.O.Sink.sure _ _ _ _ bytes c.in-Ok.ensures.put),
     )
 
 pub returns : goal.returns

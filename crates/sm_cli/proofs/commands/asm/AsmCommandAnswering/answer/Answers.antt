@@ -17,7 +17,7 @@ returns-in-Ok-put_all-clause-ok g c =
     record {
       answer = told;
       served = gives_answer (g.F.Files.content c.args.files.now) (asm_command c.args.self.now.source.now) told (record { helds = a_unit unit ∷ []; hold = (c.in-Ok.ensures.holds, tt); is = refl });
-      ends = (took_same g.O.Sink.taken g.O.Sink.faults g.O.Sink.sure _ _ c.as_slice.result.now (object_of unit) bytes c.in-Ok-put_all.ensures, refl);
+      ends = (took_same g.O.Sink.taken g.O.Sink.faults g.O.Sink.sure _ _ c.as_slice.result.now (object_of unit) bytes c.in-Ok-put_all.ensures.put, refl);
     }
 
 pub returns-clause-ok : goal.returns-clause-ok
@@ -28,5 +28,5 @@ returns-clause-ok g c =
     record {
       answer = told;
       served = gives_answer (g.F.Files.content c.args.files.now) (asm_command c.args.self.now.source.now) told (record { helds = a_unit unit ∷ []; hold = (c.in-Ok.ensures.holds, tt); is = refl });
-      ends = cut_same g.O.Sink.taken g.O.Sink.faults g.O.Sink.sure _ _ c.as_slice.result.now (object_of unit) bytes c.in-Err-put_all.ensures;
+      ends = cut_same g.O.Sink.taken g.O.Sink.faults g.O.Sink.sure _ _ c.as_slice.result.now (object_of unit) bytes c.in-Err-put_all.ensures.put;
     }

@@ -16,7 +16,7 @@ returns-in-Ok-put_all-clause-ok g c =
     record {
       answer = told;
       served = gives_answer (g.F.Files.content c.args.files.now) (challenge_command c.args.self.now.challenges.now) told (record { helds = the_challenges list ∷ []; hold = (c.in-Ok.ensures.holds, tt); is = refl });
-      ends = (took_same g.O.Sink.taken g.O.Sink.faults g.O.Sink.sure _ _ c.as_slice.result.now (entries_text (entries_of list)) bytes c.in-Ok-put_all.ensures, refl);
+      ends = (took_same g.O.Sink.taken g.O.Sink.faults g.O.Sink.sure _ _ c.as_slice.result.now (entries_text (entries_of list)) bytes c.in-Ok-put_all.ensures.put, refl);
     }
 
 pub returns-clause-ok : goal.returns-clause-ok
@@ -27,5 +27,5 @@ returns-clause-ok g c =
     record {
       answer = told;
       served = gives_answer (g.F.Files.content c.args.files.now) (challenge_command c.args.self.now.challenges.now) told (record { helds = the_challenges list ∷ []; hold = (c.in-Ok.ensures.holds, tt); is = refl });
-      ends = cut_same g.O.Sink.taken g.O.Sink.faults g.O.Sink.sure _ _ c.as_slice.result.now (entries_text (entries_of list)) bytes c.in-Err-put_all.ensures;
+      ends = cut_same g.O.Sink.taken g.O.Sink.faults g.O.Sink.sure _ _ c.as_slice.result.now (entries_text (entries_of list)) bytes c.in-Err-put_all.ensures.put;
     }

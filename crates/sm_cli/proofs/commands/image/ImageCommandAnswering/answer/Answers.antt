@@ -17,5 +17,5 @@ returns-in-Ok-new-clause-ok g c =
     record {
       answer = trace_answer c.in-Ok.image entries own.cycles;
       served = image_answer files own.image.now (option_copied own.schedule) own.cycles c.in-Ok.image entries c.in-Ok.ensures.holds schedule;
-      ends = subst (λ (m : Marked). EndsAs c.put_trace.result (answer_from m.present own.cycles) (Took g.O.Sink.taken g.O.Sink.faults g.O.Sink.sure c.args.out.now c.put_trace.new.out) (CutOff g.O.Sink.taken g.O.Sink.faults g.O.Sink.sure c.args.out.now c.put_trace.new.out)) c.in-Ok-new.ensures c.put_trace.ensures;
+      ends = subst (λ (m : Marked). EndsAs c.put_trace.result (answer_from m.present own.cycles) (Took g.O.Sink.taken g.O.Sink.faults g.O.Sink.sure c.args.out.now c.put_trace.new.out) (CutOff g.O.Sink.taken g.O.Sink.faults g.O.Sink.sure c.args.out.now c.put_trace.new.out)) c.in-Ok-new.ensures.booted c.put_trace.ensures;
     }

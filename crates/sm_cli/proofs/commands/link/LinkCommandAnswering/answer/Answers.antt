@@ -69,7 +69,7 @@ returns-in-Ok-put_all-clause-ok g c =
     record {
       answer = text_answer (linked_image layout objects);
       served = link_answer files own.layout.now names layout objects c.in-Ok.ensures.holds hold sound;
-      ends = (took_same g.O.Sink.taken g.O.Sink.faults g.O.Sink.sure _ _ _ _ text c.in-Ok-put_all.ensures, refl);
+      ends = (took_same g.O.Sink.taken g.O.Sink.faults g.O.Sink.sure _ _ _ _ text c.in-Ok-put_all.ensures.put, refl);
     }
 
 pub returns-clause-ok : goal.returns-clause-ok
@@ -87,5 +87,5 @@ returns-clause-ok g c =
     record {
       answer = text_answer (linked_image layout objects);
       served = link_answer files own.layout.now names layout objects c.in-Ok.ensures.holds hold sound;
-      ends = cut_same g.O.Sink.taken g.O.Sink.faults g.O.Sink.sure _ _ _ _ text c.in-Err-put_all.ensures;
+      ends = cut_same g.O.Sink.taken g.O.Sink.faults g.O.Sink.sure _ _ _ _ text c.in-Err-put_all.ensures.put;
     }

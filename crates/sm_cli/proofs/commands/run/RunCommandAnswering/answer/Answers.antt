@@ -98,7 +98,7 @@ returns-in-Ok-new-clause-ok g c =
     let image = c.in-Ok-linked_image.ensures.image ∙ ap (linked_image layout) c.as_slice-2.ensures.value in
     let took = Took g.O.Sink.taken g.O.Sink.faults g.O.Sink.sure c.args.out.now c.put_trace.new.out in
     let cut = CutOff g.O.Sink.taken g.O.Sink.faults g.O.Sink.sure c.args.out.now c.put_trace.new.out in
-    let run = subst (λ (m : Marked). EndsAs c.put_trace.result (answer_from m.present own.cycles) took cut) c.in-Ok-new.ensures c.put_trace.ensures in
+    let run = subst (λ (m : Marked). EndsAs c.put_trace.result (answer_from m.present own.cycles) took cut) c.in-Ok-new.ensures.booted c.put_trace.ensures in
     record {
       answer = trace_answer (linked_image layout objects) entries own.cycles;
       served = run_answer files own.layout.now names layout objects schedule own.cycles entries c.in-Ok.ensures.holds scheduled hold sound;

@@ -19,5 +19,5 @@ returns-in-Ok-with_marks-clause-ok g c =
     record {
       answer = script_answer c.in-Ok.image entries script;
       served = monitor_answer files own.image.now (option_copied own.schedule) own.script.now c.in-Ok.image entries script c.in-Ok.ensures.holds schedule playable;
-      ends = subst (λ (m : Marked). EndsAs c.put_play.result (play_answer m script) (Took g.O.Sink.taken g.O.Sink.faults g.O.Sink.sure c.args.out.now c.put_play.new.out) (CutOff g.O.Sink.taken g.O.Sink.faults g.O.Sink.sure c.args.out.now c.put_play.new.out)) {y = start_of c.in-Ok.image entries} c.in-Ok-with_marks.ensures c.put_play.ensures;
+      ends = subst (λ (m : Marked). EndsAs c.put_play.result (play_answer m script) (Took g.O.Sink.taken g.O.Sink.faults g.O.Sink.sure c.args.out.now c.put_play.new.out) (CutOff g.O.Sink.taken g.O.Sink.faults g.O.Sink.sure c.args.out.now c.put_play.new.out)) {y = start_of c.in-Ok.image entries} c.in-Ok-with_marks.ensures.booted c.put_play.ensures;
     }

@@ -1,0 +1,48 @@
+-- What the symbols of objects stand for, found once for all steps.
+use Rattle.std.specs.Prelude.{ℕ, ◌≡◌, List, [], ◌∷◌, Vec, Bool, true, false, Option, Some, None, ◌&&◌, is_none, map}
+use Rattle.std.specs.declared.alloc.Global.{Global}
+use Rattle.elf_objects.specs.Object.{ObjectValue}
+use Rattle.elf_objects.specs.declared.object.Symbol.{Symbol}
+use Rattle.elf_objects.specs.declared.object.Relocation.{Relocation}
+use Rattle.linker.specs.declared.check.Resolved.{Resolved}
+use Rattle.linker.specs.declared.fault.LinkFault.{LinkFault}
+use Rattle.linker.specs.declared.symbol.Meaning.{Meaning}
+use Rattle.linker.specs.Passes.{refuse_if, first_at, map_at, NumberedObject, numbered_objects}
+use Rattle.linker.specs.Symbols.{symbol_of}
+use Rattle.linker.specs.Names.{symbol_meaning}
+use Rattle.linker.specs.Maps.{meaning_of_name}
+use Rattle.linker.specs.Refusals.{is_used}
+use Rattle.linker.specs.declared.fault.LinkFault.TheVariants as fault
+
+abbrev pub meaning_at : (List ℕ → Option Meaning) → NumberedObject → ℕ → Symbol → Option Meaning
+meaning_at names x k s = symbol_meaning names (symbol_of x k s)
+
+-- what each symbol of an object stands for
+abbrev pub meanings_in : (List ℕ → Option Meaning) → NumberedObject → List (Option Meaning)
+meanings_in names x = map_at (meaning_at names x) 0 x.object.symbols
+
+abbrev pub listed : Vec (Option Meaning) Global → List (Option Meaning)
+listed v = v.items
+
+-- these are the meanings of all objects' symbols
+abbrev pub AreMeanings : (List ℕ → Option Meaning) → List ObjectValue → List (Vec (Option Meaning) Global) → Type 0
+AreMeanings names objects meanings = map listed meanings ≡ map (meanings_in names) (numbered_objects objects)
+
+abbrev pub Resolves : Resolved → List ObjectValue → Type 0
+Resolves r objects = AreMeanings (meaning_of_name r.names) objects r.meanings.items
+
+abbrev pub all_stand : List (Option Meaning) → Bool
+all_stand [] = true
+all_stand (None ∷ ms) = false
+all_stand (Some m ∷ ms) = all_stand ms
+
+-- a symbol that is used and stands for nothing
+abbrev pub gap_if : Bool → ℕ → ℕ → Option Meaning → Option LinkFault
+gap_if used number k m = refuse_if (used && is_none m) (fault.Undefined number k)
+
+abbrev pub gap_at : ℕ → List Relocation → ℕ → Option Meaning → Option LinkFault
+gap_at number relocations k m = gap_if (is_used relocations k) number k m
+
+-- the first one of an object
+abbrev pub gaps : ℕ → List Relocation → List (Option Meaning) → Option LinkFault
+gaps number relocations meanings = first_at (gap_at number relocations) 0 meanings
