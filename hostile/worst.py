@@ -66,9 +66,9 @@ def cases(folder):
     yield "key, a text of 63 KiB", ["key", image, "1"]
     yield "lone, a text of 63 KiB", ["lone", image, "1", "1000"]
     yield "make", ["make", "4294967295"]
-    arms = "".join(f"{at:04x} {at + 8:04x} 6\n" for at in range(0x300, 0x300 + 2 * 4096, 2))
-    yield "arms, 4,096 lines", ["balance", image, "1", file("arms", arms)]
-    yield "arms, 1 MiB", ["balance", image, "1", file("arms_long", (arms * 30)[:MEBIBYTE])]
+    arms = "".join(f"{at:04x} {at + 8:04x} 6\n" for at in range(0x300, 0x300 + 2 * 256, 2))
+    yield "arms, 256 lines", ["balance", image, "1", file("arms", arms)]
+    yield "arms, 1 MiB", ["balance", image, "1", file("arms_long", (arms * 400)[:MEBIBYTE])]
     yield "challenges, 4,096", ["challenge", file("challenges", "".join(f"{1600 * k} {'0f' * 16}\n" for k in range(4096)))]
     trace = "0 out 4a\n" * 110_000 + "end 1 stopped\n"
     yield "trace, 1 MiB of out lines", ["vendor", image, "1", "0" * 32, file("challenges_few", "100 " + "0f" * 16 + "\n"), file("trace", trace)]
@@ -93,14 +93,14 @@ def cases(folder):
 
 
 def measured(folder, program, line):
-    """Seconds, MiB, status and the first line of standard error."""
+    """Seconds of the processor, MiB, status and standard error."""
     told = os.path.join(folder, "told")
     child = subprocess.run(
-        ["/usr/bin/time", "-f", "%e %M", "-o", told, program, *line], stdout=subprocess.DEVNULL, stderr=subprocess.PIPE, check=False
+        ["/usr/bin/time", "-f", "%U %S %M", "-o", told, program, *line], stdout=subprocess.DEVNULL, stderr=subprocess.PIPE, check=False
     )
     with open(told) as it:
-        seconds, kibibytes = it.read().split("\n")[-2].split()
-    return float(seconds), int(kibibytes) / 1024, child.returncode, child.stderr.decode(errors="replace").strip()
+        user, system, kibibytes = it.read().split("\n")[-2].split()
+    return float(user) + float(system), int(kibibytes) / 1024, child.returncode, child.stderr.decode(errors="replace").strip()
 
 
 def main():
