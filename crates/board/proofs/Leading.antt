@@ -83,17 +83,6 @@ pub leads_on : (n : ℕ) (s t : State) → LeadsTo s t → LeadsTo s (after_cycl
 leads_on zero s t l = l
 leads_on (suc n) s t l = leads_next s (after_cycles t n) (leads_on n s t l)
 
--- the number rises, and where it does not, a stop comes
-stopped_no : (s : State) (stop : Stop) (number : ℕ) → s.stop ≡ Some stop → RunsTo number s → number ≤ s.cycle
-stopped_no s stop number e r = by (number - s.cycle) refl
-  where
-    by : (d : ℕ) → number - s.cycle ≡ d → number ≤ s.cycle
-    by zero z = omega (arith, z)
-    by (suc d) z =
-        let on = r.runs (omega (arith, z)) in
-        let no : Some stop ≡ None = sym e ∙ ap (λ (u : State). u.stop) (sym (stopped_state (number - s.cycle) s stop e)) ∙ on in
-        absurd (cc)
-
 pub leads_number : (s t : State) → LeadsTo s t → s.cycle + one_if (is_some s.stop) ≤ t.cycle + one_if (is_some t.stop)
 leads_number s t l = by s.stop t.stop refl refl
   where

@@ -2,12 +2,12 @@
 use Rattle.std.proofs.Common.{◌≡◌, ℕ, zero, suc, ◌+◌, ◌-◌, ◌<◌, List, [], ◌∷◌, ◌++◌, length, take, get_or, refl, sym, ◌∙◌, ap, subst, arith, Bool, true, false, ◌==◌}
 use Rattle.std.proofs.lemmas.Bool.Decides.{nat_tests}
 use Rattle.std.proofs.lemmas.List.{get_or_append_left, get_or-append_right, get_or-take, get_or_default, length-append, length-take-le}
-use Rattle.written_machine.specs.Cycle.{cycle, after_cycles}
+use Rattle.written_machine.specs.Cycle.{after_cycles}
 use Rattle.written_machine.specs.State.{State}
 use Rattle.board.specs.declared.moment.Moment.{Moment}
 use Rattle.board.specs.Sound.{Chained, LeadsTo}
 use Rattle.board.specs.Standing.{Fixed, moment_state, states_at}
-use Rattle.board.proofs.Leading.{leads_self, leads_next, leads_on}
+use Rattle.board.proofs.Leading.{leads_self, leads_on}
 
 pub states_length : (f : Fixed) (ts : List Moment) (bs : List (List ℕ)) → length ts ≡ length bs → length (states_at f ts bs) ≡ length ts
 states_length f [] bs e = refl
@@ -35,13 +35,6 @@ states_take f (suc n) (t ∷ ts) [] = refl
 states_take f (suc n) (t ∷ ts) (b ∷ bs) = ap (λ (l : List State). moment_state f t b ∷ l) (states_take f n ts bs)
 
 -- ---- the marks lead to one another
-
-pub chained_none : (s : State) → Chained [] s
-chained_none s = record { between = λ i j d before within. absurd (omega (arith, within)); onward = λ i d within. absurd (omega (arith, within)) }
-
--- after a cycle
-pub chained_next : (ms : List State) (s : State) → Chained ms s → Chained ms (cycle s).state
-chained_next ms s c = record { between = c.between; onward = λ i d within. leads_next (get_or ms i d) s (c.onward i d within) }
 
 -- after some
 pub chained_on : (n : ℕ) (ms : List State) (s : State) → Chained ms s → Chained ms (after_cycles s n)

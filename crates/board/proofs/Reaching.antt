@@ -3,7 +3,6 @@ use Rattle.std.proofs.Common.{◌≡◌, ℕ, zero, suc, ◌+◌, ◌-◌, ◌<�
 use Rattle.std.proofs.lemmas.Bool.{false≢true, cases_lt}
 use Rattle.pc_access.specs.declared.Stop.{Stop}
 use Rattle.written_machine.specs.Cycle.{cycle, after_cycles}
-use Rattle.written_machine.specs.Passing.{Leads}
 use Rattle.written_machine.specs.Standing.{stands_at, one_more_unless, cycles_until}
 use Rattle.written_machine.specs.State.{State}
 use Rattle.board.specs.Ran.{Apart}
@@ -51,9 +50,6 @@ until_there addr (suc n) (suc most) s h apart there =
 pub until_never : (addr most : ℕ) (s : State) → Apart addr most s → cycles_until addr s most ≡ most
 until_never addr most s apart = omega (arith, until_most addr most s, apart_within addr most most s (omega arith) apart)
 
-pub apart_none : (addr : ℕ) (s : State) → Apart addr 0 s
-apart_none addr s m h = absurd (omega (arith, h))
-
 -- one cycle more, and more cycles after it
 pub apart_then : (addr n k : ℕ) (s t : State) → Apart addr n s → stands_at addr (after_cycles s n) ≡ false → t ≡ after_cycles s (n + 1) → Apart addr k t → Apart addr (n + 1 + k) s
 apart_then addr n k s t before now is more m h = by (cases_lt m n) (cases_lt n m)
@@ -80,7 +76,3 @@ apart_stopped addr n most s t is stopped before now m h = by t.stop refl stopped
         ap (λ k. stands_at addr (after_cycles s k)) e
         ∙ ap (stands_at addr) (state_split n (m - n) s ∙ ap (λ u. after_cycles u (m - n)) (sym is) ∙ stopped_state (m - n) t stop has)
         ∙ now
-
--- no cycle tells nothing
-pub leads_none : (s : State) → Leads 0 s s
-leads_none s = record { state = refl; events = λ m h. absurd (omega (arith, h)) }

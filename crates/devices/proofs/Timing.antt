@@ -2,6 +2,7 @@
 use Rattle.std.proofs.Common.{ℕ, zero, suc, ◌≡◌, ◌≢◌, ◌+◌, ◌-◌, ◌%◌, ◌≤◌, ◌<◌, ◌∙◌, Bool, true, false, not, ◌&&◌, refl, sym, ap, arith, nat_eq, nat_le, ◌⊎◌, inl, inr}
 use Rattle.std.proofs.Math.Nat.{mod-eq_of_lt, mod-eq-sub-mod}
 use Rattle.std.proofs.lemmas.Bool.Decides.{nat_tests}
+use Rattle.std.proofs.lemmas.Bool.{cases_Bool}
 use Rattle.devices.specs.Devices.{Devices, ticked_devices, counts_by, line_of}
 use Rattle.devices.specs.Parts.{TimerPart, timer_alone}
 use Rattle.devices.specs.Time.{ticked_by, counted_by}
@@ -57,10 +58,6 @@ round_more : (n l : ℕ) → l < n → (n - l - 1) % (l + 1) ≡ (suc n - 0 - 1)
 round_more n l h = let e : suc n - 0 - 1 ≡ n = omega arith in let d : n - l - 1 ≡ n - (l + 1) = omega arith in let long : l + 1 ≤ n = omega arith in
     ap (λ x. x % (l + 1)) d ∙ sym (ap (λ x. x % (l + 1)) e ∙ mod-eq-sub-mod long)
 
-true_or_false : (b : Bool) → (b ≡ true) ⊎ (b ≡ false)
-true_or_false true = inl refl
-true_or_false false = inr refl
-
 -- past it, the flag is set and the count goes round
 pub counted_by-past : (n : ℕ) (a f : Bool) (c l : ℕ) → c < 65536 → l < 65536 → to_limit c l < n → counted_by n (timer_of true a f c l) ≡ timer_of true a true ((n - to_limit c l - 1) % (l + 1)) l
 counted_by-past zero a f c l small limit past = absurd (omega (arith, past))
@@ -80,7 +77,7 @@ counted_by-past (suc n) a f c l small limit past = by (nat_eq c l) refl (λ g d 
         → counted_by n (counts_by true b (timer_of true a f c l)) ≡ timer_of true a true ((suc n - to_limit c l - 1) % (l + 1)) l
     by true is rest =
         let e : c ≡ l = grind (arith, nat_tests) in
-        wrapped n (omega (arith, limit)) (omega (arith, e, limit)) rest (true_or_false (nat_le n l))
+        wrapped n (omega (arith, limit)) (omega (arith, e, limit)) rest (cases_Bool (nat_le n l))
     by false is rest =
         let other : c ≢ l = grind (arith, nat_tests) in
         let step : to_limit ((c + 1) % 65536) l + 1 ≡ to_limit c l = limit_step c l small limit other in
@@ -109,7 +106,7 @@ line_of-counted : (n : ℕ) (r a f : Bool) (c l : ℕ) → c < 65536 → l < 655
     → line_of (counted_by n (timer_of r a f c l)) ≡ line_of (timer_of r a f c l)
 unfolding line_of
 line_of-counted n false a f c l small limit within = ap line_of (counted_by-stopped n a f c l)
-line_of-counted n true a f c l small limit within = by (true_or_false (nat_le n (to_limit c l)))
+line_of-counted n true a f c l small limit within = by (cases_Bool (nat_le n (to_limit c l)))
   where
     rung : (b g : Bool) → ((b && not g) ≡ true → n ≤ to_limit c l) → to_limit c l < n → (m d : ℕ) → line_of (timer_of true b true m l) ≡ line_of (timer_of true b g d l)
     rung true false w past m d = absurd (omega (arith, w refl, past))

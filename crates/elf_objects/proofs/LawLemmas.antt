@@ -1,6 +1,6 @@
 -- What holds of the sections, symbols and relocations of an object.
 use Rattle.std.proofs.Common.{◌≡◌, ℕ, zero, suc, ◌+◌, ◌*◌, ◌-◌, ◌/◌, ◌<◌, ◌≤◌, List, [], ◌∷◌, length, drop, Option, Some, None, Bool, true, false, not, ◌&&◌, ◌||◌, is_none, refl, ap, sym, ◌∙◌, ◌⊎◌, inl, inr, arith, subst, eqb, ltb, cond, get_or, unwrap_or, length-take, length-drop}
-use Rattle.std.proofs.lemmas.Bool.{cases_lt, ltb-true}
+use Rattle.std.proofs.lemmas.Bool.{cases_lt, ltb-true, and_parts}
 use Rattle.std.proofs.lemmas.Bool.Decides.{nat_tests}
 use Rattle.std.proofs.lemmas.List.Elements.{All-append, All-push, All-nil, All-same}
 use Rattle.std.proofs.lemmas.Option.{slice_get_within, get_or_from_slice_get, slice_get-get_or}
@@ -230,14 +230,10 @@ strings_linked : (file : List ℕ) (s : ℕ) → link_fault file s ≡ None → 
 unfolding link_fault
 strings_linked file s e kind = bad_table_parts _ _ _ _ (bad_link_parts _ _ _ _ _ (not_refused _ _ e) kind)
 
-both_true : (a b : Bool) → (a && b) ≡ true → (a ≡ true) × (b ≡ true)
-both_true true true e = (refl, refl)
-both_true _ _ e = cc
-
 symbols_law : (file : List ℕ) (s : ℕ) → IsSound file → symbol_table file ≡ Some s → first_below (symbol_fault file (header_of file s)) (count_in (header_of file s)) ≡ None → All (IsSymbol (length file) (section_count file)) (each_below (symbol_of file (header_of file s)) (count_in (header_of file s)))
 symbols_law file s sound found e =
     let at = symbol_table_found file s found in
-    let link : (ltb (header_of file s).link (section_count file) ≡ true) × (eqb (header_of file (header_of file s).link).kind 3 ≡ true) = both_true _ _ (strings_linked file s (below_none _ _ s sound.links at.0) at.1) in
+    let link : (ltb (header_of file s).link (section_count file) ≡ true) × (eqb (header_of file (header_of file s).link).kind 3 ≡ true) = and_parts _ _ (strings_linked file s (below_none _ _ s sound.links at.0) at.1) in
     let lt : (header_of file s).link < section_count file = ltb-true _ _ link.0 in
     let ends = strings_end file (header_of file s).link sound lt link.1 in
     all_each_below (IsSymbol (length file) (section_count file)) (symbol_of file (header_of file s)) (count_in (header_of file s))
@@ -357,7 +353,7 @@ loaded_by : (file : List ℕ) (i : ℕ) (b : Bool) → is_kept_table file (heade
 loaded_by file i false kept = All-nil _
 loaded_by file i true kept =
     all_each_below (HasLoaded file) (relocation_of file i (header_of file i)) ((header_of file i).size / 12)
-    (λ k below. loaded_entry file i (header_of file i) k (both_true _ _ kept).1)
+    (λ k below. loaded_entry file i (header_of file i) k (and_parts _ _ kept).1)
 
 loaded_at : (file : List ℕ) (i : ℕ) → All (HasLoaded file) (relocations_at file i)
 unfolding relocations_at

@@ -1,41 +1,26 @@
 -- The zeros of a string table, and the first one from an offset on.
 use Rattle.std.proofs.Common.{◌≡◌, ℕ, zero, suc, ◌+◌, ◌-◌, ◌<◌, ◌≤◌, List, [], ◌∷◌, drop, length, Option, Some, Bool, true, false, cond, refl, ap, sym, ◌∙◌, ◌⊎◌, inl, inr, arith, add-one, All}
-use Rattle.std.specs.Prelude.{slice_get, slice_index, nat_lt}
+use Rattle.std.specs.Prelude.{slice_get, slice_index}
 use Rattle.std.specs.List.{position_from}
 use Rattle.std.specs.List.Sorted.{IsNonDecreasing, IsPartitionPoint}
-use Rattle.std.proofs.lemmas.Bool.{cases_lt}
-use Rattle.std.proofs.lemmas.Bool.Decides.{nat_tests}
+use Rattle.std.proofs.lemmas.Bool.{cases_lt, lt-ltb, le-ltb}
 use Rattle.std.proofs.Math.Seq.{drop-cons}
 use Rattle.std.proofs.Math.ListN.{drop_of_length-le}
 use Rattle.memchr.specs.Find.{is_byte, places_from, places}
 use Rattle.elf_objects.specs.Names.{end_in, first_from}
 
-below_by : (z offset : ℕ) (b : Bool) → nat_lt z offset ≡ b → z < offset → b ≡ true
-below_by z offset true q h = refl
-below_by z offset false q h = grind (arith, nat_tests)
-
-below : (z offset : ℕ) → z < offset → nat_lt z offset ≡ true
-below z offset h = below_by z offset (nat_lt z offset) refl h
-
-not_below_by : (z offset : ℕ) (b : Bool) → nat_lt z offset ≡ b → offset ≤ z → b ≡ false
-not_below_by z offset true q h = grind (arith, nat_tests)
-not_below_by z offset false q h = refl
-
-not_below : (z offset : ℕ) → offset ≤ z → nat_lt z offset ≡ false
-not_below z offset h = not_below_by z offset (nat_lt z offset) refl h
-
 -- where a search ends stands the first that is not below
 pub found_by : (zs : List ℕ) (p offset : ℕ) → IsPartitionPoint (λ z. z < offset) (λ z. offset ≤ z) zs p → slice_get zs p ≡ first_from zs offset
 found_by [] p offset h = refl
-found_by (z ∷ zs) zero offset h = rw (not_below z offset (h.1 0 z (omega arith) (omega arith))) refl
+found_by (z ∷ zs) zero offset h = rw (le-ltb z offset (h.1 0 z (omega arith) (omega arith))) refl
 found_by (z ∷ zs) (suc p) offset h =
-    rw (below z offset (h.0 0 z (omega arith) (omega arith)))
+    rw (lt-ltb z offset (h.0 0 z (omega arith) (omega arith)))
     (found_by zs p offset (λ k d l m. h.0 (suc k) d (omega arith) (omega arith), λ k d l m. h.1 (suc k) d (omega arith) (omega arith)))
 
 -- ---- the zeros of some bytes
 
 front_by : (i k : ℕ) (later : List ℕ) (rest : Option ℕ) (b : Bool) → k ≤ i → first_from later k ≡ rest → first_from (cond b (i ∷ later) later) k ≡ cond b (Some i) rest
-front_by i k later rest true h e = rw (not_below i k h) refl
+front_by i k later rest true h e = rw (le-ltb i k h) refl
 front_by i k later rest false h e = e
 
 from_here : (hay : List ℕ) (i n k : ℕ) → k ≤ i → i + n ≡ length hay → first_from (places_from (is_byte 0) hay i n) k ≡ position_from (is_byte 0) i (drop i hay)
@@ -47,7 +32,7 @@ from_here hay i (suc n) k h e =
     (from_here hay (suc i) n k (omega arith) (omega arith)))
 
 skip_by : (i k : ℕ) (later : List ℕ) (b : Bool) → i < k → first_from (cond b (i ∷ later) later) k ≡ first_from later k
-skip_by i k later true h = rw (below i k h) refl
+skip_by i k later true h = rw (lt-ltb i k h) refl
 skip_by i k later false h = refl
 
 from_by : (hay : List ℕ) (i n k : ℕ) → (i < k) ⊎ (k ≤ i) → i ≤ k → i + suc n ≡ length hay →

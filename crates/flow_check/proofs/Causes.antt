@@ -134,21 +134,14 @@ jump_other m text insn cond_no x e = by (cond_no == 7) (let t : (cond_no == 7) �
 
 pub unit_fails : (m : Module) (insn : Insn) (n : ℕ) (x : Point) → 1 ≤ n → n ≤ 4 → step_unit m insn (unit_named n) n x ≡ fails x.pair.addr UnitWord n
 unit_fails m insn zero x a b = absurd (omega (arith, a))
-unit_fails m insn (suc zero) x a b = refl
-unit_fails m insn (suc (suc zero)) x a b = refl
-unit_fails m insn (suc (suc (suc zero))) x a b = refl
-unit_fails m insn (suc (suc (suc (suc zero)))) x a b = refl
 unit_fails m insn (suc (suc (suc (suc (suc n))))) x a b = absurd (omega (arith, b))
+unit_fails m insn (suc _) x a b = refl
 
 pub unit_goes : (m : Module) (insn : Insn) (n : ℕ) (x : Point) → 5 ≤ n → step_unit m insn (unit_named n) n x ≡ goes m x.pair.addr x.pair.returns (put_val (past_val insn x.pair.addr x.label.core) 15 Public) x.label.words
-unit_goes m insn zero x a = absurd (omega (arith, a))
-unit_goes m insn (suc zero) x a = absurd (omega (arith, a))
-unit_goes m insn (suc (suc zero)) x a = absurd (omega (arith, a))
-unit_goes m insn (suc (suc (suc zero))) x a = absurd (omega (arith, a))
-unit_goes m insn (suc (suc (suc (suc zero)))) x a = absurd (omega (arith, a))
 unit_goes m insn (suc (suc (suc (suc (suc zero))))) x a = refl
 unit_goes m insn (suc (suc (suc (suc (suc (suc zero)))))) x a = refl
 unit_goes m insn (suc (suc (suc (suc (suc (suc (suc n))))))) x a = refl
+unit_goes m insn _ x a = absurd (omega (arith, a))
 
 pub jump_same : (m : Module) (text : List ℕ) (insn : Insn) (cond_no : ℕ) (off : ℤ) (x : Point) → insn ≡ Jump cond_no off → step_jump m text insn cond_no x ≡ step_insn m text (Some insn) x
 jump_same m text insn cond_no off x e = ap (λ i. step_jump m text i cond_no x) e ∙ sym (ap (λ i. step_insn m text (Some i) x) e)
@@ -175,8 +168,7 @@ stub_open m text x e f = by (word_number m x.pair.addr == 17) (is_open (word_num
   where
     by : (a b : Bool) → a ≡ false → b ≡ true → step_of m text x ≡ cond a (step_entries m text x) (shut_if b m x.pair.addr (step_of m text x))
     by false true e f = refl
-    by true b e f = absurd cc
-    by false false e f = absurd cc
+    by _ _ e f = absurd cc
 
 pub stub_shut : (m : Module) (text : List ℕ) (x : Point) → (word_number m x.pair.addr == 17) ≡ false → is_open (word_number m x.pair.addr) ≡ false → shut_if false m x.pair.addr (step_of m text x) ≡ step_stub m text x
 unfolding step_stub
@@ -184,8 +176,7 @@ stub_shut m text x e f = by (word_number m x.pair.addr == 17) (is_open (word_num
   where
     by : (a b : Bool) → a ≡ false → b ≡ false → shut_if false m x.pair.addr (step_of m text x) ≡ cond a (step_entries m text x) (shut_if b m x.pair.addr (step_of m text x))
     by false false e f = refl
-    by true b e f = absurd cc
-    by false true e f = absurd cc
+    by _ _ e f = absurd cc
 
 pub entries_least : (m : Module) (pc : ℕ) (push : Reach) (ts : List Found) (o0 o1 o2 : Option Cause) → noted (reach_reasons m pc (push ∷ [])) o0 ≡ o1 → o2 ≡ noted ts o1 → o2 ≡ noted (reach_reasons m pc (push ∷ []) ++ ts) o0
 entries_least m pc push ts o0 o1 o2 e1 e2 = e2 ∙ ap (noted ts) (sym e1) ∙ sym (noted_append (reach_reasons m pc (push ∷ [])) ts o0)

@@ -2,16 +2,17 @@
 use Rattle.std.proofs.Common.{◌≡◌, ◌⊎◌, inl, inr, ℕ, zero, suc, ◌+◌, ◌<◌, ◌≤◌, List, [], ◌∷◌, ◌++◌, length, drop, get_or, refl, sym, ap, ◌∙◌, subst, arith, Bool, true, false, cond, nat_lt, ◌==◌, ◌&&◌, ◌||◌, Option, Some, None, append_assoc, not, map}
 use Rattle.sm_words.specs.Words.{nth, add16}
 use Rattle.std.proofs.lemmas.Bool.Decides.{nat_tests}
-use Rattle.sm_words.specs.declared.width.Width.TheVariants.{Byte, Word}
-use Rattle.insn_decode.specs.declared.insn.TwoOp.TheVariants.{Mov, Add, Addc, Subc, Sub, Cmp, Dadd, Bit, Bic, Bis, Xor, And}
-use Rattle.insn_decode.specs.declared.insn.OneOp.TheVariants.{Rrc, Swpb, Rra, Sxt, Push, Call}
-use Rattle.insn_decode.specs.declared.insn.Operand.TheVariants.{Reg, Const, Imm, Indexed, Symbolic, Absolute, Indirect, Increment}
+use Rattle.std.proofs.lemmas.Bool.{ltb-true, ltb-false, eqb-true}
+use Rattle.sm_words.specs.declared.width.Width.TheVariants.{Word}
+use Rattle.insn_decode.specs.declared.insn.TwoOp.TheVariants.{Mov}
+use Rattle.insn_decode.specs.declared.insn.OneOp.TheVariants.{Call}
+use Rattle.insn_decode.specs.declared.insn.Operand.TheVariants.{Reg, Increment}
 use Rattle.insn_decode.specs.declared.insn.Insn.{Insn}
-use Rattle.insn_decode.specs.declared.insn.Insn.TheVariants.{Two, One, Jump, Reti, Unit as UnitOp}
+use Rattle.insn_decode.specs.declared.insn.Insn.TheVariants.{Two, One, Jump, Unit as UnitOp}
 use Rattle.pc_access.specs.declared.Kind.TheVariants.{Write}
 use Rattle.mod_layout.specs.declared.Module.{Module}
 use Rattle.mod_layout.specs.Table.{holds}
-use Rattle.attest.specs.Units.{UnitName, Unprotect, Protect, Attest, Tag, IdOf, OwnId, CallerId, unit_named}
+use Rattle.attest.specs.Units.{UnitName, Unprotect, OwnId, CallerId, unit_named}
 use Rattle.flow_rule.specs.declared.Val.{Val}
 use Rattle.flow_rule.specs.declared.Val.TheVariants.{Known, Away, Public, Secret}
 use Rattle.flow_rule.specs.declared.Reason.{Reason}
@@ -47,15 +48,6 @@ use Rattle.flow_check.proofs.Taking.{points_length}
 abbrev Lex : ℕ → ℕ → ℕ → ℕ → Type 0
 Lex n v m w = (n < m) ⊎ ((n ≡ m) × (v ≤ w))
 
-lt_is : (a b : ℕ) → nat_lt a b ≡ true → a < b
-lt_is a b e = grind (arith, nat_tests)
-
-lt_not : (a b : ℕ) → nat_lt a b ≡ false → b ≤ a
-lt_not a b e = grind (arith, nat_tests)
-
-eq_is : (a b : ℕ) → (a == b) ≡ true → a ≡ b
-eq_is a b e = grind (arith, nat_tests)
-
 eq_not : (a b : ℕ) → (a == b) ≡ false → b ≤ a → b < a
 eq_not a b e h = grind (arith, nat_tests)
 
@@ -63,19 +55,17 @@ lex_true : (n m v w : ℕ) → (nat_lt n m || ((n == m) && nat_lt v w)) ≡ true
 lex_true n m v w e = by (nat_lt n m) (n == m) (nat_lt v w) refl refl refl e
   where
     by : (a b c : Bool) → nat_lt n m ≡ a → (n == m) ≡ b → nat_lt v w ≡ c → (a || (b && c)) ≡ true → Lex n v m w
-    by true b c p q r e = inl (lt_is n m p)
-    by false true true p q r e = let h = lt_is v w r in inr (eq_is n m q, omega (arith, h))
-    by false true false p q r e = absurd cc
-    by false false c p q r e = absurd cc
+    by true b c p q r e = inl (ltb-true n m p)
+    by false true true p q r e = let h = ltb-true v w r in inr (eqb-true n m q, omega (arith, h))
+    by false _ _ p q r e = absurd cc
 
 lex_false : (n m v w : ℕ) → (nat_lt n m || ((n == m) && nat_lt v w)) ≡ false → Lex m w n v
 lex_false n m v w e = by (nat_lt n m) (n == m) (nat_lt v w) refl refl refl e
   where
     by : (a b c : Bool) → nat_lt n m ≡ a → (n == m) ≡ b → nat_lt v w ≡ c → (a || (b && c)) ≡ false → Lex m w n v
-    by true b c p q r e = absurd cc
-    by false true true p q r e = absurd cc
-    by false true false p q r e = inr (sym (eq_is n m q), lt_not v w r)
-    by false false c p q r e = inl (eq_not n m q (lt_not n m p))
+    by false true false p q r e = inr (sym (eqb-true n m q), ltb-false v w r)
+    by false false c p q r e = inl (eq_not n m q (ltb-false n m p))
+    by _ _ _ p q r e = absurd cc
 
 lex_trans : (a b c d e f : ℕ) → Lex a b c d → Lex c d e f → Lex a b e f
 lex_trans a b c d e f (inl p) (inl q) = inl (omega (arith, p, q))
@@ -96,19 +86,17 @@ first_true : (r old : Found) → comes_first r old ≡ true → NotAfter r old
 first_true r old e = by (nat_lt r.addr old.addr) (r.addr == old.addr) (before (cause_of r) (cause_of old)) refl refl refl e
   where
     by : (a b c : Bool) → nat_lt r.addr old.addr ≡ a → (r.addr == old.addr) ≡ b → before (cause_of r) (cause_of old) ≡ c → (a || (b && c)) ≡ true → NotAfter r old
-    by true b c p q s e = inl (lt_is r.addr old.addr p)
-    by false true true p q s e = inr (eq_is r.addr old.addr q, lex_true (number_of r.why) (number_of old.why) r.value old.value s)
-    by false true false p q s e = absurd cc
-    by false false c p q s e = absurd cc
+    by true b c p q s e = inl (ltb-true r.addr old.addr p)
+    by false true true p q s e = inr (eqb-true r.addr old.addr q, lex_true (number_of r.why) (number_of old.why) r.value old.value s)
+    by false _ _ p q s e = absurd cc
 
 first_false : (r old : Found) → comes_first r old ≡ false → NotAfter old r
 first_false r old e = by (nat_lt r.addr old.addr) (r.addr == old.addr) (before (cause_of r) (cause_of old)) refl refl refl e
   where
     by : (a b c : Bool) → nat_lt r.addr old.addr ≡ a → (r.addr == old.addr) ≡ b → before (cause_of r) (cause_of old) ≡ c → (a || (b && c)) ≡ false → NotAfter old r
-    by true b c p q s e = absurd cc
-    by false true true p q s e = absurd cc
-    by false true false p q s e = inr (sym (eq_is r.addr old.addr q), lex_false (number_of r.why) (number_of old.why) r.value old.value s)
-    by false false c p q s e = inl (eq_not r.addr old.addr q (lt_not r.addr old.addr p))
+    by false true false p q s e = inr (sym (eqb-true r.addr old.addr q), lex_false (number_of r.why) (number_of old.why) r.value old.value s)
+    by false false c p q s e = inl (eq_not r.addr old.addr q (ltb-false r.addr old.addr p))
+    by _ _ _ p q s e = absurd cc
 
 -- ---- the least of a list
 abbrev Least : Option Found → List Found → Type 0
@@ -205,9 +193,7 @@ at_reach m pc (x ∷ xs) = at_append pc (reach_reasons_by x.addr m pc x) (reach_
   where
     by : (v : Val) → AllAt pc (reach_reasons_by v m pc x)
     by (Known a) = at_if _ pc OutsideAccess a
-    by Away = (refl, tt)
-    by Public = (refl, tt)
-    by Secret = (refl, tt)
+    by _ = (refl, tt)
 
 at_exit : (k n pc : ℕ) (core : List Val) → AllAt pc (exit_reasons k n pc core)
 at_exit zero n pc core = tt
@@ -227,8 +213,7 @@ at_goes m pc rs core words = by (val core 0)
     by : (v : Val) → AllAt pc (goes_by v m pc rs core words).reasons
     by (Known to) = into (holds m.text to) to
     by Away = at_exit 16 0 pc core
-    by Public = (refl, tt)
-    by Secret = (refl, tt)
+    by _ = (refl, tt)
 
 at_unless : (b : Bool) (m : Module) (pc : ℕ) (rs : List ℕ) (core words : List Val) → AllAt pc (goes_unless b m pc rs core words).reasons
 at_unless true m pc rs core words = (refl, tt)
@@ -236,45 +221,12 @@ at_unless false m pc rs core words = at_goes m pc rs core words
 
 at_turn : (insn : Insn) (pc : ℕ) (rs : List ℕ) (vs : List Val) → AllAt pc (turn_of insn pc rs vs).reasons
 at_turn (One Call w a) pc rs vs = at_if _ pc _ 0
-at_turn (One Rrc w a) pc rs vs = tt
-at_turn (One Swpb w a) pc rs vs = tt
-at_turn (One Rra w a) pc rs vs = tt
-at_turn (One Sxt w a) pc rs vs = tt
-at_turn (One Push w a) pc rs vs = tt
-at_turn (Two Add w a b) pc rs vs = tt
-at_turn (Two Addc w a b) pc rs vs = tt
-at_turn (Two Subc w a b) pc rs vs = tt
-at_turn (Two Sub w a b) pc rs vs = tt
-at_turn (Two Cmp w a b) pc rs vs = tt
-at_turn (Two Dadd w a b) pc rs vs = tt
-at_turn (Two Bit w a b) pc rs vs = tt
-at_turn (Two Bic w a b) pc rs vs = tt
-at_turn (Two Bis w a b) pc rs vs = tt
-at_turn (Two Xor w a b) pc rs vs = tt
-at_turn (Two And w a b) pc rs vs = tt
-at_turn (Two Mov Byte a b) pc rs vs = tt
-at_turn (Two Mov Word (Reg r) b) pc rs vs = tt
-at_turn (Two Mov Word (Const r) b) pc rs vs = tt
-at_turn (Two Mov Word (Imm r) b) pc rs vs = tt
-at_turn (Two Mov Word (Indexed r x) b) pc rs vs = tt
-at_turn (Two Mov Word (Symbolic r) b) pc rs vs = tt
-at_turn (Two Mov Word (Absolute r) b) pc rs vs = tt
-at_turn (Two Mov Word (Indirect r) b) pc rs vs = tt
 at_turn (Two Mov Word (Increment r) (Reg d)) pc rs vs = by ((r == 1) && (d == 0))
   where
     by : (c : Bool) → AllAt pc (cond {A = Turn} c record { reasons = []; returns = but_last rs; stops = not (last_is (nth 0 vs Secret) rs) } record { reasons = []; returns = rs; stops = false }).reasons
     by true = tt
     by false = tt
-at_turn (Two Mov Word (Increment r) (Const d)) pc rs vs = tt
-at_turn (Two Mov Word (Increment r) (Imm d)) pc rs vs = tt
-at_turn (Two Mov Word (Increment r) (Indexed d x)) pc rs vs = tt
-at_turn (Two Mov Word (Increment r) (Symbolic d)) pc rs vs = tt
-at_turn (Two Mov Word (Increment r) (Absolute d)) pc rs vs = tt
-at_turn (Two Mov Word (Increment r) (Indirect d)) pc rs vs = tt
-at_turn (Two Mov Word (Increment r) (Increment d)) pc rs vs = tt
-at_turn (Jump c off) pc rs vs = tt
-at_turn Reti pc rs vs = tt
-at_turn (UnitOp n) pc rs vs = tt
+at_turn _ pc rs vs = tt
 
 at_plain : (m : Module) (text : List ℕ) (insn : Insn) (x : Point) → AllAt x.pair.addr (step_plain m text insn x).reasons
 at_plain m text insn x =
@@ -310,20 +262,16 @@ at_jump m text insn c x = by (c == 7)
 
 at_unit : (m : Module) (insn : Insn) (u : UnitName) (n : ℕ) (x : Point) → AllAt x.pair.addr (step_unit m insn u n x).reasons
 at_unit m insn Unprotect n x = at_exit 16 0 x.pair.addr x.label.core
-at_unit m insn Protect n x = (refl, tt)
-at_unit m insn Attest n x = (refl, tt)
-at_unit m insn Tag n x = (refl, tt)
-at_unit m insn IdOf n x = (refl, tt)
 at_unit m insn OwnId n x = at_goes m x.pair.addr x.pair.returns (put_val (past_val insn x.pair.addr x.label.core) 15 Public) x.label.words
 at_unit m insn CallerId n x = at_goes m x.pair.addr x.pair.returns (put_val (past_val insn x.pair.addr x.label.core) 15 Public) x.label.words
+at_unit m insn _ n x = (refl, tt)
 
 at_insn : (m : Module) (text : List ℕ) (insn : Option Insn) (x : Point) → AllAt x.pair.addr (step_insn m text insn x).reasons
-at_insn m text None x = (refl, tt)
-at_insn m text (Some Reti) x = (refl, tt)
 at_insn m text (Some (Jump c off)) x = at_jump m text (Jump c off) c x
 at_insn m text (Some (UnitOp n)) x = at_unit m (UnitOp n) (unit_named n) n x
 at_insn m text (Some (Two op w a b)) x = at_plain m text (Two op w a b) x
 at_insn m text (Some (One op w a)) x = at_plain m text (One op w a) x
+at_insn m text _ x = (refl, tt)
 
 pub at_step : (m : Module) (text : List ℕ) (x : Point) → AllAt x.pair.addr (step_of m text x).reasons
 unfolding step_of

@@ -1,12 +1,12 @@
 -- A walk along an arm, step by step, and the step of a branch with its certificate.
-use Rattle.std.proofs.Common.{◌≡◌, ◌≢◌, ℕ, zero, suc, ◌+◌, ◌<◌, ◌≤◌, ◌==◌, List, [], ◌∷◌, ◌++◌, refl, sym, ap, ◌∙◌, subst, arith, Bool, true, false, cond, ◌&&◌, ◌||◌, not, Option, Some, None, is_some}
+use Rattle.std.proofs.Common.{◌≡◌, ◌≢◌, ℕ, zero, suc, ◌+◌, ◌<◌, ◌==◌, List, [], ◌∷◌, ◌++◌, refl, sym, ap, ◌∙◌, subst, arith, Bool, true, false, cond, ◌&&◌, ◌||◌, not, Option, Some, None, is_some}
 use Rattle.flow_check.specs.declared.returns.Returns.{Returns}
 use Rattle.std.specs.List.{slice_get}
 use Rattle.std.proofs.lemmas.Bool.Decides.{nat_tests}
 use Rattle.sm_words.specs.Words.{add16}
 use Rattle.insn_decode.specs.Code.{distance}
 use Rattle.insn_decode.specs.declared.insn.Insn.{Insn}
-use Rattle.insn_decode.specs.declared.insn.Insn.TheVariants.{Two, One, Jump, Reti, Unit as UnitOp}
+use Rattle.insn_decode.specs.declared.insn.Insn.TheVariants.{Jump}
 use Rattle.cycle_table.specs.Cycles.{cycles_of}
 use Rattle.mod_layout.specs.declared.Module.{Module}
 use Rattle.mod_layout.specs.Table.{holds}
@@ -23,9 +23,9 @@ use Rattle.flow_rule.specs.Arms.{written_regs, written_words, met_regs, met_word
 use Rattle.flow_check.specs.declared.step.Cause.{Cause}
 use Rattle.flow_check.specs.declared.arms.Crossing.{Crossing}
 use Rattle.flow_check.specs.declared.walk.Tally.{Tally}
-use Rattle.flow_check.specs.Causes.{lesser, noted}
+use Rattle.flow_check.specs.Causes.{noted}
 use Rattle.flow_check.specs.Pairs.{point_of, addrs_of, points_at, label_at}
-use Rattle.flow_check.specs.Walks.{told, refused_at, branch_of, crossing_by, crossed}
+use Rattle.flow_check.specs.Walks.{told, branch_of, crossing_by, crossed}
 use Rattle.flow_check.proofs.Blots.{core_append, words_append}
 use Rattle.flow_check.proofs.Causes.{noted_append}
 use Rattle.flow_check.proofs.Giving.{none_found}
@@ -35,10 +35,6 @@ use Rattle.flow_check.proofs.Giving.{none_found}
 -- nothing told
 pub told_none : (t : Tally) → told ended t ≡ t
 told_none t = ap (λ c. record t { cycles = c }) (let e : t.cycles + 0 ≡ t.cycles = omega arith in e)
-
--- a refusal told
-pub told_refused : (branch a : ℕ) (t : Tally) → told (record ended { reasons = record { addr = branch; why = ArmInsn; value = a } ∷ [] }) t ≡ refused_at a t
-told_refused branch a t = ap (λ c. record (refused_at a t) { cycles = c }) (let e : t.cycles + 0 ≡ t.cycles = omega arith in e)
 
 module _ (S : Point → Step) (m : Module) (text : List ℕ) (branch join : ℕ) where
   -- at the join
@@ -53,22 +49,6 @@ module _ (S : Point → Step) (m : Module) (text : List ℕ) (branch join : ℕ)
       ap (λ b. cond b ended (walk_on (arm_on m.text text join x.pair.addr) (S x) branch (holds m.text join) join m text x (walk S m text branch join steps)))
       (let f : (x.pair.addr == join) ≡ false = grind (arith, nat_tests) in f)
       ∙ ap (λ o. walk_on o (S x) branch (holds m.text join) join m text x (walk S m text branch join steps)) e
-
-  -- no instruction of an arm
-  pub walk_off : (steps : ℕ) (x : Point) (t : Tally) (l : Option Cause) → x.pair.addr ≢ join → arm_on m.text text join x.pair.addr ≡ None →
-      l ≡ lesser t.least record { reason = ArmInsn; value = x.pair.addr } → told (walk S m text branch join (suc steps) x) t ≡ record t { least = l }
-  walk_off steps x t l ne on e = ap (λ w. told w t) (walk_at steps x None ne on) ∙ told_refused branch x.pair.addr t ∙ ap (λ l. record t { least = l }) (sym e)
-
-  -- an instruction with a reason
-  pub walk_stops : (steps : ℕ) (x : Point) (t : Tally) (next : ℕ) (c : Cause) (l : Option Cause) → x.pair.addr ≢ join → arm_on m.text text join x.pair.addr ≡ Some next → noted (S x).reasons None ≡ Some c →
-      l ≡ lesser t.least record { reason = ArmInsn; value = x.pair.addr } → told (walk S m text branch join (suc steps) x) t ≡ record t { least = l }
-  walk_stops steps x t next c l ne on some e =
-      ap (λ w. told w t) (walk_at steps x (Some next) ne on ∙ by (S x).reasons some) ∙ told_refused branch x.pair.addr t ∙ ap (λ l. record t { least = l }) (sym e)
-    where
-      by : (rs : List Found) → noted rs None ≡ Some c →
-          walk_past rs (S x).gives branch (holds m.text join || not (next == join)) next m text x (walk S m text branch join steps) ≡ record ended { reasons = record { addr = branch; why = ArmInsn; value = x.pair.addr } ∷ [] }
-      by [] f = absurd cc
-      by (r ∷ rs) f = refl
 
   calm : (steps : ℕ) (x : Point) (next : ℕ) → x.pair.addr ≢ join → arm_on m.text text join x.pair.addr ≡ Some next → (S x).reasons ≡ [] →
       walk S m text branch join (suc steps) x ≡ walk_past [] (S x).gives branch (holds m.text join || not (next == join)) next m text x (walk S m text branch join steps)
@@ -112,11 +92,6 @@ module _ (S : Point → Step) (m : Module) (text : List ℕ) (branch join : ℕ)
   walk_there zero x t h e = absurd (omega arith)
   walk_there (suc steps) x t h e = ap (λ w. told w t) (walk_joins steps x e) ∙ told_none t
 
-  -- with no step left
-  pub walk_out : (left : ℕ) (x : Point) (t : Tally) (l : Option Cause) → left ≤ 0 → l ≡ lesser t.least record { reason = ArmInsn; value = x.pair.addr } → told (walk S m text branch join left x) t ≡ record t { least = l }
-  walk_out zero x t l h e = told_refused branch x.pair.addr t ∙ ap (λ l. record t { least = l }) (sym e)
-  walk_out (suc steps) x t l h e = absurd (omega arith)
-
 -- what is given, by the first address
 pub gives_first : (gs : List Point) (ts rs : List ℕ) (l : Label) (to : ℕ) → ts ≡ addrs_of gs → gs ≡ points_at (addrs_of gs) rs l → slice_get ts 0 ≡ Some to →
     (ys : List Point) × (gs ≡ record { pair = record { addr = to; returns = rs }; label = label_at to l } ∷ ys)
@@ -146,11 +121,7 @@ crossed_is S arms m text x = by (met m.text text x.pair.addr)
         jump true None = refl
         jump true (Some a) = refl
         jump false a = refl
-    by (Some (Two op w s d)) = refl
-    by (Some (One op w a)) = refl
-    by (Some Reti) = refl
-    by (Some (UnitOp n)) = refl
-    by None = refl
+    by _ = refl
 
 module _ (S : Point → Step) (m : Module) (text : List ℕ) (insn : Insn) (target : ℕ) (arm : Arm) (x : Point) (t0 t1 t2 : Tally)
     (label : t0.label ≡ x.label) (still : t0.cycles ≡ 0)

@@ -10,14 +10,13 @@ use Rattle.sm_words.specs.Words.{add16}
 use Rattle.mod_layout.specs.declared.Module.{Module}
 use Rattle.arm_balance.specs.declared.Arm.{Arm}
 use Rattle.flow_rule.specs.declared.Val.{Val}
-use Rattle.flow_rule.specs.declared.Reason.TheVariants.{Arm as ArmInsn}
 use Rattle.flow_rule.specs.Values.{is_secret}
 use Rattle.flow_rule.specs.Rounds.{Point, Step}
 use Rattle.flow_rule.specs.Arms.{Walk, written_reg, blot, blot_core, find_arm, step_arm}
 use Rattle.flow_check.specs.declared.walk.Tally.{Tally}
 use Rattle.flow_check.specs.declared.walk.Place.{Place}
 use Rattle.flow_check.specs.declared.arms.Crossing.{Crossing}
-use Rattle.flow_check.specs.Causes.{lesser, noted}
+use Rattle.flow_check.specs.Causes.{noted}
 use Rattle.flow_check.specs.Pairs.{point_of}
 
 -- what was told, and a walk's part: its reasons, its cycles, and Secret where it wrote
@@ -27,10 +26,6 @@ told w t = record {
   cycles = t.cycles + w.cycles;
   label = record { core = blot_core w.regs t.label.core; words = blot w.words t.label.words };
 }
-
--- the same with a refusal of an arm
-abbrev pub refused_at : ℕ → Tally → Tally
-refused_at a t = record t { least = lesser t.least record { reason = ArmInsn; value = a } }
 
 -- the point of a place
 abbrev pub point_at : Place → Point

@@ -2,6 +2,7 @@
 use Rattle.std.proofs.Common.{◌≡◌, ◌≢◌, ℕ, zero, suc, ◌+◌, ◌*◌, ◌-◌, ◌/◌, ◌%◌, ◌<◌, List, [], ◌∷◌, ◌++◌, length, take, drop, get_or, slice_range, Bool, true, false, nat_lt, cond, not, ◌&&◌, ◌==◌, Option, Some, None, unwrap_or, refl, sym, ap, ◌∙◌, subst, arith, length-drop, length-append}
 use Rattle.std.proofs.lemmas.List.{take_at}
 use Rattle.std.proofs.lemmas.Bool.Decides.{nat_tests}
+use Rattle.std.proofs.lemmas.Bool.{and_parts}
 use Rattle.hex.specs.Hex.{IsBytes, lower_digits, encode_with, encode_lower}
 use Rattle.hex.proofs.HexLemmas.{length-encode_with}
 use Rattle.texts.specs.Hexadecimals.{is_hex_digit, read_hex, read_hex_word}
@@ -12,17 +13,9 @@ use Rattle.image_text.specs.declared.ImageFault.{ImageFault}
 use Rattle.image_text.specs.Refusal.{Spot, fits, has_form, is_bad, bad_digit, formed, bytes_at, word_at}
 use Rattle.image_text.specs.Reading.{HasForm, CodedAt}
 
-and_left : (a b : Bool) → (a && b) ≡ true → a ≡ true
-and_left true b e = refl
-and_left false b e = e
-
-and_right : (a b : Bool) → (a && b) ≡ true → b ≡ true
-and_right true b e = e
-and_right false b e = cc
-
 pub form_length : (form line : List ℕ) → has_form form line ≡ true → length form ≡ length line
 form_length [] [] e = refl
-form_length (mark ∷ form) (b ∷ line) e = let k = form_length form line (and_right (fits mark b) (has_form form line) e) in omega (arith, k)
+form_length (mark ∷ form) (b ∷ line) e = let k = form_length form line (and_parts (fits mark b) (has_form form line) e).1 in omega (arith, k)
 form_length _ _ e = cc
 
 -- a line of another length has not the form
@@ -52,7 +45,7 @@ formed_ok form s line rest h = rw (h.formed, h.digits s.at) refl
 -- ---- the parts of a line
 
 head_fits : (mark b : ℕ) (form line : List ℕ) → HasForm (mark ∷ form) (b ∷ line) → fits mark b ≡ true
-head_fits mark b form line h = and_left (fits mark b) (has_form form line) h.formed
+head_fits mark b form line h = (and_parts (fits mark b) (has_form form line) h.formed).0
 
 tail_bad : (mark b : ℕ) (form line : List ℕ) (at : ℕ) → bad_digit (mark ∷ form) (b ∷ line) at ≡ None → (is_bad mark b ≡ false) × (bad_digit form line (at + 1) ≡ None)
 tail_bad mark b form line at e = by (is_bad mark b) refl e
@@ -63,7 +56,7 @@ tail_bad mark b form line at e = by (is_bad mark b) refl e
 
 tail_form : (mark b : ℕ) (form line : List ℕ) → HasForm (mark ∷ form) (b ∷ line) → HasForm form line
 tail_form mark b form line h = record {
-  formed = and_right (fits mark b) (has_form form line) h.formed;
+  formed = (and_parts (fits mark b) (has_form form line) h.formed).1;
   digits = λ at. bad_none form line 1 at (tail_bad mark b form line 0 (h.digits 0)).1;
 }
 
@@ -85,8 +78,8 @@ pub after_word : (text form line : List ℕ) → no_marks text ≡ true → HasF
 after_word [] form line n h = record { rest = line; is = refl; next = h }
 after_word (c ∷ text) form [] n h = let e = h.formed in absurd cc
 after_word (c ∷ text) form (b ∷ line) n h =
-    let unmarked = and_left (not (c == 35)) (no_marks text) n in
-    let w = after_word text form line (and_right (not (c == 35)) (no_marks text) n) (tail_form c b (text ++ form) line h) in
+    let unmarked = (and_parts (not (c == 35)) (no_marks text) n).0 in
+    let w = after_word text form line (and_parts (not (c == 35)) (no_marks text) n).1 (tail_form c b (text ++ form) line h) in
     let same = own (c == 35) refl unmarked (head_fits c b (text ++ form) line h) in
     record { rest = w.rest; is = let k = w.is in let m : b ∷ line ≡ c ∷ (text ++ w.rest) = cc in m; next = w.next }
   where

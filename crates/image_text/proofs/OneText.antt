@@ -1,7 +1,7 @@
 -- The text of an image is not refused, and no other image has it.
 use Rattle.std.proofs.Common.{◌≡◌, ◌⊎◌, inl, inr, ⊎_elim, ℕ, zero, suc, ◌+◌, ◌*◌, ◌/◌, ◌%◌, ◌<◌, ◌≤◌, List, [], ◌∷◌, ◌++◌, length, take, drop, get_or, slice_index, codes, Bool, true, false, nat_lt, cond, not, ◌&&◌, ◌||◌, ◌==◌, Option, Some, None, refl, sym, ap, ◌∙◌, subst, arith, lit<, length-append, length-take, length-drop}
 use Rattle.std.proofs.lemmas.List.{append-nil, append_cancel_left, take-append-drop}
-use Rattle.std.proofs.lemmas.Bool.{and_parts, cases_lt, eqb-true}
+use Rattle.std.proofs.lemmas.Bool.{and_parts, cases_lt, eqb-true, not-true, and_left, and_right, or_from}
 use Rattle.std.proofs.lemmas.Bool.Decides.{nat_tests}
 use Rattle.hex.specs.Hex.{IsBytes, lower_digits, encode_with, encode_lower}
 use Rattle.mod_layout.specs.declared.Section.{Section}
@@ -35,12 +35,8 @@ use Rattle.image_text.proofs.StageLemmas.{Stage, none_due, one_due}
 abbrev no_lf : List ℕ → Bool
 no_lf line = list_all (λ b. not (b == 10)) line
 
-not_so : (b : Bool) → not b ≡ true → b ≡ false
-not_so true e = cc
-not_so false e = refl
-
 has_no_feed : (line : List ℕ) → no_lf line ≡ true → All (λ b. is_line_feed b ≡ false) line
-has_no_feed line e k d l = not_so (get_or line k d == 10) (AllPass-from_list_all (λ b. not (b == 10)) line e k d l)
+has_no_feed line e k d l = not-true (get_or line k d == 10) (AllPass-from_list_all (λ b. not (b == 10)) line e k d l)
 
 lines_of : (line rest : List ℕ) → no_lf line ≡ true → ended_lines (ended line rest) ≡ line ∷ ended_lines rest
 lines_of line rest e = ended_lines-before line rest (has_no_feed line e)
@@ -103,9 +99,9 @@ lined_word [] form line w h = h
 lined_word (c ∷ text) form line w h =
     let p = and_parts (not (c == 35) && not (c == 10)) (is_word text) w in
     let q = and_parts (not (c == 35)) (not (c == 10)) p.0 in
-    let unmarked = not_so (c == 35) q.0 in
+    let unmarked = not-true (c == 35) q.0 in
     let own : (c == c) ≡ true = grind (arith, nat_tests) in
-    lined_cons c c (text ++ form) (text ++ line) (rw unmarked own) (rw unmarked refl) (not_so (c == 10) q.1) (lined_word text form line p.1 h)
+    lined_cons c c (text ++ form) (text ++ line) (rw unmarked own) (rw unmarked refl) (not-true (c == 10) q.1) (lined_word text form line p.1 h)
 
 abbrev digit_test : ℕ → Bool
 digit_test d = fits 35 (get_or lower_digits d 0) && (not (is_bad 35 (get_or lower_digits d 0)) && not (get_or lower_digits d 0 == 10))
@@ -115,7 +111,7 @@ lined_digit d form line l h =
     let t = below_at digit_test 16 d refl l in
     let p = and_parts (fits 35 (get_or lower_digits d 0)) (not (is_bad 35 (get_or lower_digits d 0)) && not (get_or lower_digits d 0 == 10)) t in
     let q = and_parts (not (is_bad 35 (get_or lower_digits d 0))) (not (get_or lower_digits d 0 == 10)) p.1 in
-    lined_cons 35 (get_or lower_digits d 0) form line p.0 (not_so (is_bad 35 (get_or lower_digits d 0)) q.0) (not_so (get_or lower_digits d 0 == 10) q.1) h
+    lined_cons 35 (get_or lower_digits d 0) form line p.0 (not-true (is_bad 35 (get_or lower_digits d 0)) q.0) (not-true (get_or lower_digits d 0 == 10) q.1) h
 
 lined_bytes : (n : ℕ) (bytes form line : List ℕ) → length bytes ≡ n → IsBytes bytes → Lined form line → Lined (marks n ++ form) (encode_lower bytes ++ line)
 unfolding encode_with
@@ -508,16 +504,8 @@ rows_not_due (suc n) at memory room len are =
 -- ---- no refusal: the modules
 
 shares_not : (a b : Section) → Apart a b → (shares a b ≡ false) × (shares b a ≡ false)
-shares_not a b h = ⊎_elim (λ l. (second (nat_lt a.start b.end) (nat_lt b.start a.end) (grind (arith, nat_tests)), first (nat_lt b.start a.end) (nat_lt a.start b.end) (grind (arith, nat_tests))))
-    (λ l. (first (nat_lt a.start b.end) (nat_lt b.start a.end) (grind (arith, nat_tests)), second (nat_lt b.start a.end) (nat_lt a.start b.end) (grind (arith, nat_tests)))) h
-  where
-    first : (x y : Bool) → x ≡ false → (x && y) ≡ false
-    first x y e = rw e refl
-
-    second : (x y : Bool) → y ≡ false → (x && y) ≡ false
-    second true y e = e
-    second false y e = refl
-
+shares_not a b h = ⊎_elim (λ l. (and_right (nat_lt a.start b.end) (nat_lt b.start a.end) (grind (arith, nat_tests)), and_left (nat_lt b.start a.end) (nat_lt a.start b.end) (grind (arith, nat_tests))))
+    (λ l. (and_left (nat_lt a.start b.end) (nat_lt b.start a.end) (grind (arith, nat_tests)), and_right (nat_lt b.start a.end) (nat_lt a.start b.end) (grind (arith, nat_tests)))) h
 abbrev ApartFrom : List Module → Module → Type 0
 ApartFrom [] m = Unit {0}
 ApartFrom (x ∷ xs) m = Separate x m × ApartFrom xs m
@@ -550,13 +538,10 @@ is_fine s h =
     let c : (s.end % 2 == 0) ≡ true = grind (arith, nat_tests) in
     let d : nat_lt s.start 512 ≡ false = grind (arith, nat_tests) in
     let e : nat_lt 65504 s.end ≡ false = grind (arith, nat_tests) in
-    record { filled = ap not a; even = evens (s.start % 2 == 0) (s.end % 2 == 0) b c; free = frees (nat_lt s.start 512) (nat_lt 65504 s.end) d e }
+    record { filled = ap not a; even = evens (s.start % 2 == 0) (s.end % 2 == 0) b c; free = or_from (nat_lt s.start 512) (nat_lt 65504 s.end) d e }
   where
     evens : (x y : Bool) → x ≡ true → y ≡ true → not (x && y) ≡ false
     evens x y p q = rw (p, q) refl
-
-    frees : (x y : Bool) → x ≡ false → y ≡ false → (x || y) ≡ false
-    frees x y p q = rw (p, q) refl
 
 no_fault : (t : Table) (g : ℕ) (m : Module) → IsModule g m → ApartFrom t.modules m → length t.modules < t.room → t.given < 65535 → fault_of t m.text m.ram ≡ None
 no_fault t g m h apart room few =

@@ -1,11 +1,12 @@
 -- Texts of rows of memory.
-use Rattle.std.proofs.Common.{◌≡◌, ℕ, zero, suc, ◌+◌, ◌-◌, ◌*◌, ◌/◌, ◌%◌, ◌<◌, ◌≤◌, List, [], ◌∷◌, ◌++◌, length, take, drop, replicate, slice_index, Bool, true, false, cond, not, ◌&&◌, ◌==◌, ◌≢◌, nat_eq, nat_lt, Option, Some, refl, sym, ap, ◌∙◌, subst, arith, append_assoc, length-append, length-drop}
+use Rattle.std.proofs.Common.{◌≡◌, ℕ, zero, suc, ◌+◌, ◌-◌, ◌*◌, ◌/◌, ◌%◌, ◌<◌, ◌≤◌, List, [], ◌∷◌, ◌++◌, length, take, drop, replicate, slice_index, true, false, cond, not, ◌&&◌, ◌==◌, ◌≢◌, nat_eq, nat_lt, Option, Some, refl, sym, ap, ◌∙◌, subst, arith, append_assoc, length-append, length-drop}
 use Rattle.std.proofs.lemmas.Bool.Decides.{nat_tests}
 use Rattle.std.proofs.lemmas.List.{append-nil, take-append-le, drop-append-le, take_at, replicate-append-replicate, get_or_append_left}
 use Rattle.hex.specs.Hex.{IsBytes}
 use Rattle.texts.specs.Lines.{ended_lines, unended}
 use Rattle.image_text.specs.ImageText.{ended, end_line, is_zero, row_line, row_text, rows_text}
 use Rattle.std.specs.Cmp.Lexicographic.{pointwise}
+use Rattle.std.proofs.lemmas.Bool.{not-true, and_parts}
 use Rattle.image_text.specs.declared.ImageFault.{ImageFault}
 use Rattle.image_text.specs.declared.ImageFault.TheVariants.{Line, Twice}
 use Rattle.image_text.specs.Refusal.{Spot, past, formed, row_form, placed, is_row, word_at, bytes_at, rows_refusal, end_refusal}
@@ -152,18 +153,6 @@ rows_done start last memory filled left even h is e =
 
 -- ---- a row's line
 
-and_left : (a b : Bool) → (a && b) ≡ true → a ≡ true
-and_left true b e = refl
-and_left false b e = e
-
-and_right : (a b : Bool) → (a && b) ≡ true → b ≡ true
-and_right true b e = e
-and_right false b e = cc
-
-not_so : (b : Bool) → not b ≡ true → b ≡ false
-not_so true e = cc
-not_so false e = refl
-
 pub record IsPlaced (last a : ℕ) (row : List ℕ) : Type 0 where
   pub even : a % 16 ≡ 0
   pub filled : is_zero row ≡ false
@@ -171,11 +160,11 @@ pub record IsPlaced (last a : ℕ) (row : List ℕ) : Type 0 where
 
 pub is_placed : (last a : ℕ) (row : List ℕ) → is_row last a row ≡ true → IsPlaced last a row
 is_placed last a row e =
-    let abc = and_left ((a % 16 == 0) && not (nat_lt a 512) && not (is_zero row)) (not (nat_lt a last)) e in
-    let d = not_so (nat_lt a last) (and_right ((a % 16 == 0) && not (nat_lt a 512) && not (is_zero row)) (not (nat_lt a last)) e) in
-    let ab = and_left ((a % 16 == 0) && not (nat_lt a 512)) (not (is_zero row)) abc in
-    let c = not_so (is_zero row) (and_right ((a % 16 == 0) && not (nat_lt a 512)) (not (is_zero row)) abc) in
-    let first = and_left (a % 16 == 0) (not (nat_lt a 512)) ab in
+    let abc = (and_parts ((a % 16 == 0) && not (nat_lt a 512) && not (is_zero row)) (not (nat_lt a last)) e).0 in
+    let d = not-true (nat_lt a last) (and_parts ((a % 16 == 0) && not (nat_lt a 512) && not (is_zero row)) (not (nat_lt a last)) e).1 in
+    let ab = (and_parts ((a % 16 == 0) && not (nat_lt a 512)) (not (is_zero row)) abc).0 in
+    let c = not-true (is_zero row) (and_parts ((a % 16 == 0) && not (nat_lt a 512)) (not (is_zero row)) abc).1 in
+    let first = (and_parts (a % 16 == 0) (not (nat_lt a 512)) ab).0 in
     record { even = grind (arith, nat_tests); filled = c; above = grind (arith, nat_tests) }
 
 module _ (last : ℕ) (old new : Unread) (line : List ℕ) (read : ReadLine old line new) (other : pointwise nat_eq line end_line ≡ false) where

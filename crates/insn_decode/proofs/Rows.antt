@@ -3,6 +3,7 @@ use Rattle.std.proofs.Common.{◌≡◌, ◌≢◌, ◌⊎◌, inl, inr, ⊎_eli
 use Rattle.std.proofs.lemmas.Bool.{cases_eq}
 use Rattle.std.proofs.lemmas.Bool.Decides.{nat_tests}
 use Rattle.std.specs.Prelude.{slice_get}
+use Rattle.std.proofs.lemmas.Option.{same_Some}
 use Rattle.sm_words.specs.Words.{nth}
 use Rattle.insn_decode.specs.declared.insn.TwoOp.{TwoOp}
 use Rattle.insn_decode.specs.declared.insn.TwoOp.TheVariants.{Mov, Add, Addc, Subc, Sub, Cmp, Dadd, Bit, Bic, Bis, Xor, And}
@@ -15,9 +16,6 @@ use Rattle.insn_decode.specs.Means.{two_code, one_code, IsPlain, Source, registe
 
 pub apart : {A : Type 0} {P : Type 0} (o : Option A) (x : A) → o ≡ None → o ≡ Some x → P
 apart o x e f = cc
-
-pub some_is : {A : Type 0} (x y : A) → Some x ≡ Some y → x ≡ y
-some_is x y e = cc
 
 -- ---- sources
 
@@ -58,30 +56,30 @@ source_found (two x) = refl
 source_found (all_ones x) = refl
 
 pc_read : (m x : ℕ) (o : Operand) → source_of m 0 x ≡ Some o → Source m 0 x o
-pc_read zero x o e = subst (λ (p : Operand). Source 0 0 x p) (some_is (Reg 0) o e) (register 0 x (omega arith))
-pc_read (suc zero) x o e = subst (λ (p : Operand). Source 1 0 x p) (some_is (Symbolic x) o e) (symbolic x)
-pc_read (suc (suc (suc zero))) x o e = subst (λ (p : Operand). Source 3 0 x p) (some_is (Imm x) o e) (immediate x)
+pc_read zero x o e = subst (λ (p : Operand). Source 0 0 x p) (same_Some (Reg 0) o e) (register 0 x (omega arith))
+pc_read (suc zero) x o e = subst (λ (p : Operand). Source 1 0 x p) (same_Some (Symbolic x) o e) (symbolic x)
+pc_read (suc (suc (suc zero))) x o e = subst (λ (p : Operand). Source 3 0 x p) (same_Some (Imm x) o e) (immediate x)
 pc_read (suc (suc _)) x o e = absurd cc
 
 sr_read : (m x : ℕ) (o : Operand) → source_of m 2 x ≡ Some o → Source m 2 x o
-sr_read zero x o e = subst (λ (p : Operand). Source 0 2 x p) (some_is (Reg 2) o e) (register 2 x (omega arith))
-sr_read (suc zero) x o e = subst (λ (p : Operand). Source 1 2 x p) (some_is (Absolute x) o e) (absolute x)
-sr_read (suc (suc zero)) x o e = subst (λ (p : Operand). Source 2 2 x p) (some_is (Const 4) o e) (four x)
-sr_read (suc (suc (suc zero))) x o e = subst (λ (p : Operand). Source 3 2 x p) (some_is (Const 8) o e) (eight x)
+sr_read zero x o e = subst (λ (p : Operand). Source 0 2 x p) (same_Some (Reg 2) o e) (register 2 x (omega arith))
+sr_read (suc zero) x o e = subst (λ (p : Operand). Source 1 2 x p) (same_Some (Absolute x) o e) (absolute x)
+sr_read (suc (suc zero)) x o e = subst (λ (p : Operand). Source 2 2 x p) (same_Some (Const 4) o e) (four x)
+sr_read (suc (suc (suc zero))) x o e = subst (λ (p : Operand). Source 3 2 x p) (same_Some (Const 8) o e) (eight x)
 sr_read (suc (suc (suc (suc m)))) x o e = absurd cc
 
 constant_read : (m x : ℕ) (o : Operand) → source_of m 3 x ≡ Some o → Source m 3 x o
-constant_read zero x o e = subst (λ (p : Operand). Source 0 3 x p) (some_is (Const 0) o e) (nought x)
-constant_read (suc zero) x o e = subst (λ (p : Operand). Source 1 3 x p) (some_is (Const 1) o e) (one x)
-constant_read (suc (suc zero)) x o e = subst (λ (p : Operand). Source 2 3 x p) (some_is (Const 2) o e) (two x)
-constant_read (suc (suc (suc zero))) x o e = subst (λ (p : Operand). Source 3 3 x p) (some_is (Const 65535) o e) (all_ones x)
+constant_read zero x o e = subst (λ (p : Operand). Source 0 3 x p) (same_Some (Const 0) o e) (nought x)
+constant_read (suc zero) x o e = subst (λ (p : Operand). Source 1 3 x p) (same_Some (Const 1) o e) (one x)
+constant_read (suc (suc zero)) x o e = subst (λ (p : Operand). Source 2 3 x p) (same_Some (Const 2) o e) (two x)
+constant_read (suc (suc (suc zero))) x o e = subst (λ (p : Operand). Source 3 3 x p) (same_Some (Const 65535) o e) (all_ones x)
 constant_read (suc (suc (suc (suc m)))) x o e = absurd cc
 
 plain_read : (m r x : ℕ) (o : Operand) → IsPlain r → nth m (Some (Reg r) ∷ Some (Indexed r x) ∷ Some (Indirect r) ∷ Some (Increment r) ∷ []) None ≡ Some o → Source m r x o
-plain_read zero r x o p e = subst (λ (q : Operand). Source 0 r x q) (some_is (Reg r) o e) (register r x p.not_constants)
-plain_read (suc zero) r x o p e = subst (λ (q : Operand). Source 1 r x q) (some_is (Indexed r x) o e) (indexed r x p)
-plain_read (suc (suc zero)) r x o p e = subst (λ (q : Operand). Source 2 r x q) (some_is (Indirect r) o e) (indirect r x p)
-plain_read (suc (suc (suc zero))) r x o p e = subst (λ (q : Operand). Source 3 r x q) (some_is (Increment r) o e) (increment r x p)
+plain_read zero r x o p e = subst (λ (q : Operand). Source 0 r x q) (same_Some (Reg r) o e) (register r x p.not_constants)
+plain_read (suc zero) r x o p e = subst (λ (q : Operand). Source 1 r x q) (same_Some (Indexed r x) o e) (indexed r x p)
+plain_read (suc (suc zero)) r x o p e = subst (λ (q : Operand). Source 2 r x q) (same_Some (Indirect r) o e) (indirect r x p)
+plain_read (suc (suc (suc zero))) r x o p e = subst (λ (q : Operand). Source 3 r x q) (same_Some (Increment r) o e) (increment r x p)
 plain_read (suc (suc (suc (suc m)))) r x o p e = absurd cc
 
 pub source_read : (m r x : ℕ) (o : Operand) → source_of m r x ≡ Some o → Source m r x o
@@ -105,19 +103,19 @@ destination_found (to_absolute x) = refl
 destination_found (to_indexed r x p) = plain_place r x p
 
 pub destination_read : (m r x : ℕ) (o : Operand) → m < 2 → dest_of m r x ≡ Some o → Destination m r x o
-destination_read zero r x o h e = subst (λ (p : Operand). Destination 0 r x p) (some_is (Reg r) o e) (to_register r x)
+destination_read zero r x o h e = subst (λ (p : Operand). Destination 0 r x p) (same_Some (Reg r) o e) (to_register r x)
 destination_read (suc zero) r x o h e = read (kind_of r)
   where
     read : (r ≡ 0) ⊎ ((r ≡ 2) ⊎ ((r ≡ 3) ⊎ IsPlain r)) → Destination 1 r x o
     read (inl k) =
         let f : dest_of 1 0 x ≡ Some o = subst (λ (n : ℕ). dest_of 1 n x ≡ Some o) k e in
-        subst (λ (n : ℕ). Destination 1 n x o) (sym k) (subst (λ (p : Operand). Destination 1 0 x p) (some_is (Symbolic x) o f) (to_symbolic x))
+        subst (λ (n : ℕ). Destination 1 n x o) (sym k) (subst (λ (p : Operand). Destination 1 0 x p) (same_Some (Symbolic x) o f) (to_symbolic x))
     read (inr (inl k)) =
         let f : dest_of 1 2 x ≡ Some o = subst (λ (n : ℕ). dest_of 1 n x ≡ Some o) k e in
-        subst (λ (n : ℕ). Destination 1 n x o) (sym k) (subst (λ (p : Operand). Destination 1 2 x p) (some_is (Absolute x) o f) (to_absolute x))
+        subst (λ (n : ℕ). Destination 1 n x o) (sym k) (subst (λ (p : Operand). Destination 1 2 x p) (same_Some (Absolute x) o f) (to_absolute x))
     read (inr (inr (inl k))) =
         apart (dest_of 1 3 x) o refl (subst (λ (n : ℕ). dest_of 1 n x ≡ Some o) k e)
-    read (inr (inr (inr p))) = subst (λ (q : Operand). Destination 1 r x q) (some_is (Indexed r x) o (sym (plain_place r x p) ∙ e)) (to_indexed r x p)
+    read (inr (inr (inr p))) = subst (λ (q : Operand). Destination 1 r x q) (same_Some (Indexed r x) o (sym (plain_place r x p) ∙ e)) (to_indexed r x p)
 destination_read (suc (suc m)) r x o h e = absurd (omega arith)
 
 -- ---- opcodes
@@ -127,18 +125,18 @@ two_found Mov = refl
 two_found _ = refl
 
 pub two_read : (k : ℕ) (op : TwoOp) → slice_get two_ops k ≡ Some op → k + 4 ≡ two_code op
-two_read zero op e = ap two_code (some_is Mov op e)
-two_read (suc zero) op e = ap two_code (some_is Add op e)
-two_read (suc (suc zero)) op e = ap two_code (some_is Addc op e)
-two_read (suc (suc (suc zero))) op e = ap two_code (some_is Subc op e)
-two_read (suc (suc (suc (suc zero)))) op e = ap two_code (some_is Sub op e)
-two_read (suc (suc (suc (suc (suc zero))))) op e = ap two_code (some_is Cmp op e)
-two_read (suc (suc (suc (suc (suc (suc zero)))))) op e = ap two_code (some_is Dadd op e)
-two_read (suc (suc (suc (suc (suc (suc (suc zero))))))) op e = ap two_code (some_is Bit op e)
-two_read (suc (suc (suc (suc (suc (suc (suc (suc zero)))))))) op e = ap two_code (some_is Bic op e)
-two_read (suc (suc (suc (suc (suc (suc (suc (suc (suc zero))))))))) op e = ap two_code (some_is Bis op e)
-two_read (suc (suc (suc (suc (suc (suc (suc (suc (suc (suc zero)))))))))) op e = ap two_code (some_is Xor op e)
-two_read (suc (suc (suc (suc (suc (suc (suc (suc (suc (suc (suc zero))))))))))) op e = ap two_code (some_is And op e)
+two_read zero op e = ap two_code (same_Some Mov op e)
+two_read (suc zero) op e = ap two_code (same_Some Add op e)
+two_read (suc (suc zero)) op e = ap two_code (same_Some Addc op e)
+two_read (suc (suc (suc zero))) op e = ap two_code (same_Some Subc op e)
+two_read (suc (suc (suc (suc zero)))) op e = ap two_code (same_Some Sub op e)
+two_read (suc (suc (suc (suc (suc zero))))) op e = ap two_code (same_Some Cmp op e)
+two_read (suc (suc (suc (suc (suc (suc zero)))))) op e = ap two_code (same_Some Dadd op e)
+two_read (suc (suc (suc (suc (suc (suc (suc zero))))))) op e = ap two_code (same_Some Bit op e)
+two_read (suc (suc (suc (suc (suc (suc (suc (suc zero)))))))) op e = ap two_code (same_Some Bic op e)
+two_read (suc (suc (suc (suc (suc (suc (suc (suc (suc zero))))))))) op e = ap two_code (same_Some Bis op e)
+two_read (suc (suc (suc (suc (suc (suc (suc (suc (suc (suc zero)))))))))) op e = ap two_code (same_Some Xor op e)
+two_read (suc (suc (suc (suc (suc (suc (suc (suc (suc (suc (suc zero))))))))))) op e = ap two_code (same_Some And op e)
 two_read (suc (suc (suc (suc (suc (suc (suc (suc (suc (suc (suc (suc k)))))))))))) op e = absurd cc
 
 pub one_found : (op : OneOp) → slice_get one_ops (one_code op) ≡ Some op
@@ -146,10 +144,10 @@ one_found Rrc = refl
 one_found _ = refl
 
 pub one_read : (k : ℕ) (op : OneOp) → slice_get one_ops k ≡ Some op → k ≡ one_code op
-one_read zero op e = ap one_code (some_is Rrc op e)
-one_read (suc zero) op e = ap one_code (some_is Swpb op e)
-one_read (suc (suc zero)) op e = ap one_code (some_is Rra op e)
-one_read (suc (suc (suc zero))) op e = ap one_code (some_is Sxt op e)
-one_read (suc (suc (suc (suc zero)))) op e = ap one_code (some_is Push op e)
-one_read (suc (suc (suc (suc (suc zero))))) op e = ap one_code (some_is Call op e)
+one_read zero op e = ap one_code (same_Some Rrc op e)
+one_read (suc zero) op e = ap one_code (same_Some Swpb op e)
+one_read (suc (suc zero)) op e = ap one_code (same_Some Rra op e)
+one_read (suc (suc (suc zero))) op e = ap one_code (same_Some Sxt op e)
+one_read (suc (suc (suc (suc zero)))) op e = ap one_code (same_Some Push op e)
+one_read (suc (suc (suc (suc (suc zero))))) op e = ap one_code (same_Some Call op e)
 one_read (suc (suc (suc (suc (suc (suc k)))))) op e = absurd cc

@@ -2,6 +2,7 @@
 use Rattle.std.proofs.Common.{◌≡◌, ◌≢◌, ⊎_elim, ℕ, ◌+◌, ◌-◌, ◌/◌, ◌<◌, ◌≤◌, ◌%◌, refl, sym, ap, ◌∙◌, subst, arith, Bool, true, false, cond, ◌==◌, Option, Some, None}
 use Rattle.std.proofs.lemmas.Bool.{cases_eq, cases_lt}
 use Rattle.std.specs.Prelude.{slice_get}
+use Rattle.std.proofs.lemmas.Option.{same_Some}
 use Rattle.insn_decode.specs.declared.insn.TwoOp.{TwoOp}
 use Rattle.insn_decode.specs.declared.insn.TwoOp.TheVariants.{Mov}
 use Rattle.insn_decode.specs.declared.insn.OneOp.{OneOp}
@@ -12,7 +13,7 @@ use Rattle.insn_decode.specs.declared.insn.Insn.TheVariants.{Two, One, Jump, Ret
 use Rattle.insn_decode.specs.Code.{insn_of, two_of, two_with, two_and, one_of, one_with, one_fits, two_ops, one_ops, offset_of, source_of, dest_of, width_of, words_of, length_of}
 use Rattle.insn_decode.specs.Means.{two_code, one_code, Source, Means, format_one, format_two, jump, return, unit}
 use Rattle.insn_decode.proofs.Forms.{form_two, form_jump, form_return, form_unit, form_one, form_below, form_between}
-use Rattle.insn_decode.proofs.Rows.{apart, some_is, source_found, source_read, destination_found, destination_read, two_found, two_read, one_found, one_read}
+use Rattle.insn_decode.proofs.Rows.{apart, source_found, source_read, destination_found, destination_read, two_found, two_read, one_found, one_read}
 
 -- ---- what the function gives stands in the relation
 
@@ -22,7 +23,7 @@ two_means w0 w1 w2 insn h = with_op (slice_get two_ops (w0 / 4096 - 4)) refl
     with_dest : (op : TwoOp) → w0 / 4096 ≡ two_code op → (s : Operand) → Source ((w0 / 16) % 4) ((w0 / 256) % 16) w1 s → (d : Option Operand) → dest_of ((w0 / 128) % 2) (w0 % 16) (cond (words_of s == 1) w2 w1) ≡ d → two_and op (width_of ((w0 / 64) % 2)) s d ≡ Some insn → Means w0 w1 w2 insn (length_of insn)
     with_dest op c s src None q e = absurd cc
     with_dest op c s src (Some d) q e =
-        subst (λ (i : Insn). Means w0 w1 w2 i (length_of i)) (some_is (Two op (width_of ((w0 / 64) % 2)) s d) insn e)
+        subst (λ (i : Insn). Means w0 w1 w2 i (length_of i)) (same_Some (Two op (width_of ((w0 / 64) % 2)) s d) insn e)
         (format_one op s d c src (destination_read ((w0 / 128) % 2) (w0 % 16) (cond (words_of s == 1) w2 w1) d (omega arith) q))
 
     with_source : (op : TwoOp) → w0 / 4096 ≡ two_code op → (s : Option Operand) → source_of ((w0 / 16) % 4) ((w0 / 256) % 16) w1 ≡ s → two_with op (width_of ((w0 / 64) % 2)) s (λ s. dest_of ((w0 / 128) % 2) (w0 % 16) (cond (words_of s == 1) w2 w1)) ≡ Some insn → Means w0 w1 w2 insn (length_of insn)
@@ -41,7 +42,7 @@ one_means w0 w1 w2 insn h = with_op (slice_get one_ops ((w0 / 128) % 8)) refl
     where_fits : (op : OneOp) → (w0 / 128) % 8 ≡ one_code op → (a : Operand) → Source ((w0 / 16) % 4) (w0 % 16) w1 a → (b : Bool) → one_fits op (width_of ((w0 / 64) % 2)) a ≡ b → cond b (Some (One op (width_of ((w0 / 64) % 2)) a)) None ≡ Some insn → Means w0 w1 w2 insn (length_of insn)
     where_fits op c a src false q e = absurd cc
     where_fits op c a src true q e =
-        subst (λ (i : Insn). Means w0 w1 w2 i (length_of i)) (some_is (One op (width_of ((w0 / 64) % 2)) a) insn e)
+        subst (λ (i : Insn). Means w0 w1 w2 i (length_of i)) (same_Some (One op (width_of ((w0 / 64) % 2)) a) insn e)
         (format_two op a h c src q)
 
     with_source : (op : OneOp) → (w0 / 128) % 8 ≡ one_code op → (s : Option Operand) → source_of ((w0 / 16) % 4) (w0 % 16) w1 ≡ s → one_with op (width_of ((w0 / 64) % 2)) s ≡ Some insn → Means w0 w1 w2 insn (length_of insn)
@@ -58,21 +59,21 @@ insn_means w0 w1 w2 insn e =
     (λ (a : 4096 ≤ w0). ⊎_elim (λ (h : w0 < 5120). low a h)
     (λ (b : 5120 ≤ w0). ⊎_elim (λ (h : w0 < 8192). apart (insn_of w0 w1 w2) insn (form_between w0 w1 w2 (omega arith) h) e)
     (λ (c : 8192 ≤ w0). ⊎_elim (λ (h : w0 < 16384).
-    subst (λ (i : Insn). Means w0 w1 w2 i (length_of i)) (some_is (Jump ((w0 / 1024) % 8) (offset_of (w0 % 1024))) insn (sym (form_jump w0 w1 w2 (omega arith) h) ∙ e)) (jump (omega arith)))
+    subst (λ (i : Insn). Means w0 w1 w2 i (length_of i)) (same_Some (Jump ((w0 / 1024) % 8) (offset_of (w0 % 1024))) insn (sym (form_jump w0 w1 w2 (omega arith) h) ∙ e)) (jump (omega arith)))
     (λ (h : 16384 ≤ w0). two_means w0 w1 w2 insn (omega arith) (sym (form_two w0 w1 w2 (omega arith)) ∙ e))
     (cases_lt w0 16384)) (cases_lt w0 8192)) (cases_lt w0 5120)) (cases_lt w0 4096)
   where
     above : 4096 ≤ w0 → w0 < 5120 → w0 ≢ 4864 → 4991 < w0 → Means w0 w1 w2 insn (length_of insn)
     above a h n u =
         ⊎_elim (λ (k : w0 < 4999).
-        subst (λ (i : Insn). Means w0 w1 w2 i (length_of i)) (some_is (UnitOp (w0 - 4992)) insn (sym (form_unit w0 w1 w2 u k) ∙ e)) (unit (w0 - 4992) (omega arith) (omega arith)))
+        subst (λ (i : Insn). Means w0 w1 w2 i (length_of i)) (same_Some (UnitOp (w0 - 4992)) insn (sym (form_unit w0 w1 w2 u k) ∙ e)) (unit (w0 - 4992) (omega arith) (omega arith)))
         (λ (k : 4999 ≤ w0). one_means w0 w1 w2 insn (omega arith) (sym (form_one w0 w1 w2 (omega arith) h n (λ _. omega arith)) ∙ e))
         (cases_lt w0 4999)
 
     low : 4096 ≤ w0 → w0 < 5120 → Means w0 w1 w2 insn (length_of insn)
     low a h =
         ⊎_elim (λ (k : w0 ≡ 4864).
-        subst (λ (i : Insn). Means w0 w1 w2 i (length_of i)) (some_is Reti insn (sym (form_return w1 w2) ∙ subst (λ (w : ℕ). insn_of w w1 w2 ≡ Some insn) k e)) (return k))
+        subst (λ (i : Insn). Means w0 w1 w2 i (length_of i)) (same_Some Reti insn (sym (form_return w1 w2) ∙ subst (λ (w : ℕ). insn_of w w1 w2 ≡ Some insn) k e)) (return k))
         (λ (n : w0 ≢ 4864).
         ⊎_elim (λ (u : w0 < 4992). one_means w0 w1 w2 insn (omega arith) (sym (form_one w0 w1 w2 (omega arith) h n (λ v. absurd (omega arith))) ∙ e))
         (λ (u : 4992 ≤ w0). above a h n (omega arith))

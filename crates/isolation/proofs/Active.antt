@@ -1,6 +1,7 @@
 -- A cycle in which the module is active in both runs.
 use Rattle.std.proofs.Common.{◌≡◌, ⊎_elim, ℕ, zero, suc, ◌+◌, ◌*◌, ◌%◌, List, [], ◌∷◌, length, map, refl, sym, ap, ◌∙◌, subst, arith, Bool, true, false, cond, not, ◌&&◌, ◌||◌, ◌==◌, Option, Some, None}
 use Rattle.std.proofs.lemmas.Bool.Decides.{nat_tests}
+use Rattle.std.proofs.lemmas.Bool.{and_parts}
 use Rattle.sm_words.specs.Sums.{one_if}
 use Rattle.sm_words.specs.Words.{reg, word_at, IsCore}
 use Rattle.insn_decode.specs.Code.{insn_of, length_of}
@@ -8,7 +9,7 @@ use Rattle.insn_decode.specs.declared.insn.Insn.{Insn}
 use Rattle.mod_layout.specs.Table.{place_of, holds}
 use Rattle.mod_layout.specs.declared.Module.{Module}
 use Rattle.mod_layout.specs.declared.Place.{Place}
-use Rattle.mod_layout.specs.declared.Place.TheVariants.{Open, Entry, Text, Data}
+use Rattle.mod_layout.specs.declared.Place.TheVariants.{Entry}
 use Rattle.pc_access.specs.Rights.{is_id, is_held, refuse_if, right, right_at}
 use Rattle.pc_access.specs.declared.Kind.TheVariants.{Fetch}
 use Rattle.pc_access.specs.declared.Rule.{Rule}
@@ -21,7 +22,7 @@ use Rattle.reg_backup.specs.declared.frames.Frame.TheVariants.{Plain, Module as 
 use Rattle.attest.specs.Accesses.{reads_of}
 use Rattle.cpu_step.specs.Asked.{asks}
 use Rattle.cpu_step.specs.Fetched.{insn_at}
-use Rattle.cpu_step.specs.Lone.{Job, Lone, Doing, Waits, Closes, Leaves, Breaks, Does, doing, doing_by, next_insn, next_first, if_home, may_do, text_word, lone_does, lone_step_by, lone_read, lone_who, lone_byte, is_alone, all_inside, job_of}
+use Rattle.cpu_step.specs.Lone.{Job, Lone, Doing, Waits, Closes, Leaves, Does, doing, doing_by, next_insn, next_first, if_home, may_do, text_word, lone_does, lone_step_by, lone_read, lone_who, lone_byte, is_alone, all_inside, job_of}
 use Rattle.written_machine.specs.Cycle.{Step, quiet, told, pc_of, rest_of, due, arrive_inside, turn, begin_unless, begin, enter_at, enter, fetch, act}
 use Rattle.written_machine.specs.Peers.{section}
 use Rattle.written_machine.specs.State.{State}
@@ -43,12 +44,8 @@ active_some m (Some x) e = let same : x ≡ m = grind (arith, nat_tests) in ap S
 if_alone : (b : Bool) (x insn : Insn) (c : Bool) → b ≡ (is_alone x && c) → cond b (Some x) None ≡ Some insn → is_alone insn ≡ true
 if_alone true x insn c e f =
     let same : x ≡ insn = cc in
-    let a : is_alone x ≡ true = left (is_alone x) c (sym e) in
+    let a : is_alone x ≡ true = (and_parts (is_alone x) c (sym e)).0 in
     subst (λ i. is_alone i ≡ true) same a
-  where
-    left : (p q : Bool) → (p && q) ≡ true → p ≡ true
-    left true q e = refl
-    left false q e = e
 if_alone false x insn c e f = cc
 
 may_alone : (j : Job) (l : Lone) (o : Option Insn) (insn : Insn) → may_do j l o ≡ Some insn → is_alone insn ≡ true
@@ -79,17 +76,13 @@ does_gie j l insn e len =
 -- ---- what the module is about to do
 waits_rest : (r : ℕ) (c t : Bool) (n : Option Insn) (r' : ℕ) → doing_by r c t n ≡ Waits r' → r ≡ suc r'
 waits_rest (suc r) c t n r' e = let k : r ≡ r' = cc in ap suc k
-waits_rest zero true t n r' e = cc
-waits_rest zero false false n r' e = cc
 waits_rest zero false true None r' e = cc
 waits_rest zero false true (Some i) r' e = cc
+waits_rest zero _ _ n r' e = cc
 
 does_now : (r : ℕ) (c t : Bool) (n : Option Insn) (i : Insn) → doing_by r c t n ≡ Does i → (r ≡ 0) × (t ≡ true) × (n ≡ Some i)
-does_now (suc r) c t n i e = absurd cc
-does_now zero true t n i e = absurd cc
-does_now zero false false n i e = absurd cc
-does_now zero false true None i e = absurd cc
 does_now zero false true (Some x) i e = let k : x ≡ i = cc in (refl, refl, ap Some k)
+does_now _ _ _ _ i e = absurd cc
 
 held_by : (c : Bool) (n : ℕ) (x : Bool) → one_if c + n ≡ 0 → (n ≡ 0 → x ≡ false) → (c || x) ≡ false
 held_by true n x e h = absurd (omega arith)
@@ -126,9 +119,7 @@ module _ (m : ℕ) (own : Module) (key text : List ℕ) (s : State) (k : Keeps m
 
   enter_some : (p : Place) (left : ℕ) → enter_at p (Some m) left s ≡ quiet s
   enter_some (Entry id) left = refl
-  enter_some Open left = refl
-  enter_some (Text id) left = refl
-  enter_some (Data id) left = refl
+  enter_some _ left = refl
 
   pub enter_inside : (left : ℕ) → enter left s ≡ quiet s
   unfolding enter
@@ -175,9 +166,11 @@ module _ (m : ℕ) (own : Module) (key text : List ℕ) (s : State) (k : Keeps m
   turn_moves left (Does i) ok d e g =
       let w = does_now (rest_of s.phase) (is_close s.after) (holds own.text (pc_of s)) _ i e in
       (does_moves left i d ok.even_pc w.0 w.1 w.2, does_gie (job_of key own text s.caller) (lone_of (backup_of m s) (section own.ram s.memory)) i w.2 ok.sixteen)
-  turn_moves left Closes ok d e g = absurd g
-  turn_moves left Leaves ok d e g = absurd g
-  turn_moves left Breaks ok d e g = absurd g
+  turn_moves left _ ok d e g = absurd g
+
+pub arrives_at : (m v left : ℕ) (s : State) → s.active ≡ Some m → s.phase ≡ Run (rest_of s.phase) → due s ≡ Some v → turn left s ≡ arrive_inside v m s
+arrives_at m v left s e p d =
+    turn_is left s ∙ ap (λ x. turn_at x s.active s.phase left s) d ∙ ap (λ x. turn_at (Some v) x s.phase left s) e ∙ ap (λ x. turn_at (Some v) (Some m) x left s) p
 
 arrived_none : (v id : ℕ) (s : State) → is_id id (arrive_inside v id s).state.active ≡ false
 unfolding arrive_inside
@@ -247,20 +240,10 @@ module _ (m : ℕ) (own : Module) (key text : List ℕ) (a b : State) (ready : R
   go left (Does i) (Does i') da db ea eb oa ob t = finish left (Does i) (Does i') da db ea eb tt tt (subst (λ j. Evenly key own text (job_of key own text a.caller) (lone_does (job_of key own text a.caller) i (lone_of (backup_of m a) (section own.ram a.memory))) (lone_does j i' (lone_of (backup_of m b) (section own.ram b.memory)))) (sym job_same) t)
   go left Closes y da db ea eb oa ob t = absurd oa
   go left Leaves y da db ea eb oa ob t = absurd oa
-  go left Breaks y da db ea eb oa ob t = absurd t
-  go left (Waits r) Closes da db ea eb oa ob t = absurd t
-  go left (Waits r) Leaves da db ea eb oa ob t = absurd t
-  go left (Waits r) Breaks da db ea eb oa ob t = absurd t
-  go left (Does i) Closes da db ea eb oa ob t = absurd t
-  go left (Does i) Leaves da db ea eb oa ob t = absurd t
-  go left (Does i) Breaks da db ea eb oa ob t = absurd t
+  go left _ _ da db ea eb oa ob t = absurd t
 
   due_same : due a ≡ due b
   due_same = sym (due_hidden m own a) ∙ ap due ready.twins.seen ∙ due_hidden m own b
-
-  arrive_turn : (v left : ℕ) (s : State) → s.active ≡ Some m → s.phase ≡ Run (rest_of s.phase) → due s ≡ Some v → turn left s ≡ arrive_inside v m s
-  arrive_turn v left s e p d =
-      turn_is left s ∙ ap (λ x. turn_at x s.active s.phase left s) d ∙ ap (λ x. turn_at (Some v) x s.phase left s) e ∙ ap (λ x. turn_at (Some v) (Some m) x left s) p
 
   by_due : (left : ℕ) (d : Option ℕ) → due a ≡ d → due b ≡ d → Alike m own key text (turn left a) (turn left b)
   by_due left None da db =
@@ -268,8 +251,8 @@ module _ (m : ℕ) (own : Module) (key text : List ℕ) (a b : State) (ready : R
   by_due left (Some v) da db =
       let pa = ready.twins.keeps_a.proper act_a in
       let pb = ready.twins.keeps_b.proper act_b in
-      subst (λ u. Alike m own key text u (turn left b)) (sym (arrive_turn v left a some_a pa.0 da))
-      (subst (λ u. Alike m own key text (arrive_inside v m a) u) (sym (arrive_turn v left b some_b pb.0 db)) (arrives v))
+      subst (λ u. Alike m own key text u (turn left b)) (sym (arrives_at m v left a some_a pa.0 da))
+      (subst (λ u. Alike m own key text (arrive_inside v m a) u) (sym (arrives_at m v left b some_b pb.0 db)) (arrives v))
 
   pub active_turn : (left : ℕ) → Alike m own key text (turn left a) (turn left b)
   active_turn left = by_due left (due a) refl (sym due_same)

@@ -1,6 +1,7 @@
 -- Accesses of the unit instructions that no one is refused: reads of a text, and the zeros of a new module's data.
 use Rattle.std.proofs.Common.{◌≡◌, ⊎_elim, ℕ, zero, suc, ◌+◌, ◌<◌, ◌≤◌, List, [], ◌∷◌, Bool, true, false, nat_lt, ◌&&◌, ◌||◌, Option, Some, None, refl, sym, ap, ◌∙◌, arith}
 use Rattle.std.proofs.lemmas.Bool.Decides.{nat_tests}
+use Rattle.std.proofs.lemmas.Bool.{or_parts}
 use Rattle.sm_words.specs.declared.width.Width.TheVariants.{Byte}
 use Rattle.mod_layout.specs.Table.{Table, place_by, place_in, place_of, holds, size_of, shares, meets, takes, module_of}
 use Rattle.mod_layout.specs.Tables.{AreModules, IsTable}
@@ -12,7 +13,7 @@ use Rattle.pc_access.specs.declared.Kind.TheVariants.{Read, Write}
 use Rattle.attest.specs.Units.{each_byte, text_reads}
 use Rattle.isolation.proofs.Rights.{Sound, holds_in, holds_true}
 use Rattle.isolation.proofs.Tables.{sound_from, no_entry}
-use Rattle.mod_layout.proofs.TableLemmas.{or_left, or_right, meets_any, taken}
+use Rattle.mod_layout.proofs.TableLemmas.{meets_any, taken}
 
 module _ (m : ℕ) (own : Module) (t : Table) (sound : Sound m own t) (active : Option ℕ) (held : List ℕ) where
   read_allowed : (a : ℕ) → holds own.text a ≡ true → right t active held (record { kind = Read; addr = a; width = Byte }) ≡ None
@@ -49,10 +50,10 @@ module _ (text ram : Section) (given : ℕ) where
   open_here : (a : ℕ) → holds ram a ≡ true → (ms : List Module) → AreModules given ms → meets_any text ram ms ≡ false → place_in ms a ≡ Open
   open_here a h [] ok n = refl
   open_here a h (x ∷ ms) ok n =
-      let n1 = or_left (meets text ram x) (meets_any text ram ms) n in
-      let n2 = or_right (meets text ram x) (meets_any text ram ms) n in
-      let s4 = or_right (shares text x.text || shares text x.ram || shares ram x.text) (shares ram x.ram) n1 in
-      let s3 = or_right (shares text x.text || shares text x.ram) (shares ram x.text) (or_left (shares text x.text || shares text x.ram || shares ram x.text) (shares ram x.ram) n1) in
+      let n1 = (or_parts (meets text ram x) (meets_any text ram ms) n).0 in
+      let n2 = (or_parts (meets text ram x) (meets_any text ram ms) n).1 in
+      let s4 = (or_parts (shares text x.text || shares text x.ram || shares ram x.text) (shares ram x.ram) n1).1 in
+      let s3 = (or_parts (shares text x.text || shares text x.ram) (shares ram x.text) (or_parts (shares text x.text || shares text x.ram || shares ram x.text) (shares ram x.ram) n1).0).1 in
       let et = apart_at ram x.text a s3 h in
       let er = apart_at ram x.ram a s4 h in
       let rest = place_in ms a in

@@ -52,17 +52,12 @@ cut_none Running = refl
 module _ (j : Job) where
   once_cut : (x : Doing) (l : Lone) → at_once x l ≡ cut 0 (at_once x l)
   once_cut Closes l = refl
-  once_cut Leaves l = refl
-  once_cut Breaks l = refl
-  once_cut (Waits r) l = refl
-  once_cut (Does i) l = refl
+  once_cut _ l = refl
 
   zero_cut : (x : Doing) (f : Lone → Outcome) (l : Lone) → at_once x l ≡ cut 0 (in_time x f j l)
-  zero_cut Closes f l = refl
-  zero_cut Leaves f l = refl
-  zero_cut Breaks f l = refl
   zero_cut (Waits r) f l = sym (cut_none (f (record l { rest = r })))
   zero_cut (Does i) f l = sym (cut_none (f (lone_does j i l)))
+  zero_cut _ f l = refl
 
   suc_cut : (x : Doing) (n : ℕ) (f g : Lone → Outcome) (l : Lone) → ((l' : Lone) → f l' ≡ cut n (g l')) → in_time x f j l ≡ cut (suc n) (in_time x g j l)
   suc_cut Closes n f g l h = sym (ap (λ b. cond b (Closing l.core l.data_bytes 0) Running) (zero_le_suc n))
@@ -85,16 +80,7 @@ module _ (j : Job) where
   alike_cut P Q n Running Running f h = tt
   alike_cut P Q n (Closing c d k) (Closing c' d' k') f h = subst (λ i. alike Q (cut n (Closing c d k)) (cond (nat_le i n) (Closing c' d' k') Running)) h.1 (alike_if Q (nat_le k n) (Closing c d k) (Closing c' d' k') h)
   alike_cut P Q n (Exit c d k) (Exit c' d' k') f h = subst (λ i. alike Q (cut n (Exit c d k)) (cond (nat_le i n) (Exit c' d' k') Running)) h.1 (alike_if Q (nat_le k n) (Exit c d k) (Exit c' d' k') (h.0, h.1, f d d' h.2))
-  alike_cut P Q n (Broken d k) p f h = absurd h
-  alike_cut P Q n Running (Exit c d k) f h = absurd h
-  alike_cut P Q n Running (Closing c d k) f h = absurd h
-  alike_cut P Q n Running (Broken d k) f h = absurd h
-  alike_cut P Q n (Closing c d k) Running f h = absurd h
-  alike_cut P Q n (Closing c d k) (Exit c' d' k') f h = absurd h
-  alike_cut P Q n (Closing c d k) (Broken d' k') f h = absurd h
-  alike_cut P Q n (Exit c d k) Running f h = absurd h
-  alike_cut P Q n (Exit c d k) (Closing c' d' k') f h = absurd h
-  alike_cut P Q n (Exit c d k) (Broken d' k') f h = absurd h
+  alike_cut P Q n _ _ f h = absurd h
 
 module _ (key : List ℕ) (own : Module) (text : List ℕ) where
   abbrev plain : List Call_of → List Entry_of

@@ -4,7 +4,7 @@ use Rattle.irq_padding.specs.Turns.{turn_of}
 use Rattle.irq_padding.specs.declared.turn.Turn.{Turn}
 use Rattle.pc_access.specs.declared.Denied.{Denied}
 use Rattle.reg_backup.specs.declared.backup.Phase.{Phase}
-use Rattle.reg_backup.specs.declared.backup.Phase.TheVariants.{Run, Pad}
+use Rattle.reg_backup.specs.declared.backup.Phase.TheVariants.{Run}
 use Rattle.devices.specs.Devices.{line_of}
 use Rattle.written_machine.specs.Checks.{checks_by, checks}
 use Rattle.written_machine.specs.Cycle.{Step, asleep, due, has_room, raised, turn_by, turn, vector_if}
@@ -30,22 +30,16 @@ checks_unless asleep s = checks_by (case_at None None (Run 0) asleep) s
 
 -- without room a raised vector changes nothing
 turn_full : (v o : Option ℕ) (p : Phase) (x : Bool) (left : ℕ) (s : State) → turn_by (turn_of p (is_some v) false (is_some o) x) v o p left s ≡ turn_by (case_at None o p x) None o p left s
-turn_full v o (Pad n) x left s = refl
 turn_full None o (Run zero) x left s = refl
-turn_full None o (Run (suc r)) x left s = refl
 turn_full (Some v) o (Run (suc r)) x left s = refl
 turn_full (Some v) None (Run zero) true left s = refl
-turn_full (Some v) None (Run zero) false left s = refl
-turn_full (Some v) (Some id) (Run zero) x left s = refl
+turn_full v o _ x left s = refl
 
 checks_full : (v o : Option ℕ) (p : Phase) (x : Bool) (s : State) → checks_by (turn_of p (is_some v) false (is_some o) x) s ≡ checks_by (case_at None o p x) s
-checks_full v o (Pad n) x s = refl
 checks_full None o (Run zero) x s = refl
-checks_full None o (Run (suc r)) x s = refl
 checks_full (Some v) o (Run (suc r)) x s = refl
 checks_full (Some v) None (Run zero) true s = refl
-checks_full (Some v) None (Run zero) false s = refl
-checks_full (Some v) (Some id) (Run zero) x s = refl
+checks_full v o _ x s = refl
 
 turn_by_room : (g room : Bool) (v : Option ℕ) (left : ℕ) (s : State) →
     turn_by (turn_of s.phase (is_some (vector_if g v)) room (is_some s.active) (asleep s)) (vector_if g v) s.active s.phase left s ≡ turn_at (vector_if (g && room) v) s.active s.phase left s

@@ -10,11 +10,11 @@ use Rattle.image_text.specs.Image.{Image, IsImage}
 use Rattle.reg_backup.specs.declared.backup.After.{After}
 use Rattle.reg_backup.specs.declared.backup.After.TheVariants.{Next, Handler, Resume, Close}
 use Rattle.reg_backup.specs.declared.backup.Phase.{Phase}
-use Rattle.reg_backup.specs.declared.backup.Phase.TheVariants.{Run, Pad}
+use Rattle.reg_backup.specs.declared.backup.Phase.TheVariants.{Run}
 use Rattle.reg_backup.specs.declared.frames.Frame.{Frame}
 use Rattle.reg_backup.specs.declared.frames.Frame.TheVariants.{Plain, Module as Held}
 use Rattle.attest.specs.Done.{own_of}
-use Rattle.cpu_step.specs.Lone.{Job, Lone, Outcome, Exit, Closing, Broken, Running, later, Doing, Waits, Closes, Leaves, Breaks, Does, doing, lone_does, lone_step, lone_step_by, lone_after, in_time, at_once, outcome, job_of}
+use Rattle.cpu_step.specs.Lone.{Job, Lone, Outcome, Broken, Running, later, Doing, Waits, Closes, Leaves, Breaks, Does, doing, lone_does, lone_step, lone_step_by, lone_after, in_time, at_once, outcome, job_of}
 use Rattle.written_machine.specs.Cycle.{pc_of, in_text, resume_from, close_of, leave_if, settle_by, settle_in, settle, ticked, due, turn, move, cycle_by, cycle, after_cycles}
 use Rattle.written_machine.specs.Peers.{section}
 use Rattle.written_machine.specs.State.{State}
@@ -23,10 +23,10 @@ use Rattle.isolation.specs.Calls.{works, worked, NoEnd, Enters, Ends, NotBroken,
 use Rattle.isolation.proofs.Costs.{Balance, balance}
 use Rattle.isolation.proofs.Ending.{settled_as, settled_doing}
 use Rattle.isolation.proofs.Fine.{Fine}
-use Rattle.isolation.proofs.Follow.{job, Follows, follow_stays, settle_follows, active_doing, ticked_same, counted_events}
+use Rattle.isolation.proofs.Follow.{job, Follows, follow_stays, settle_follows, active_doing, counted_events}
 use Rattle.isolation.proofs.Relation.{IsOpen, backup_of, lone_of}
 use Rattle.isolation.proofs.Settled.{ticked_stays}
-use Rattle.isolation.proofs.Tame.{cycle_number, runs_so_far, cycle_ends}
+use Rattle.isolation.proofs.Tame.{cycle_number, runs_so_far, cycle_ends, ticked_active}
 use Rattle.isolation.proofs.Transparent.{step_first, never_breaks, more_by, follows_on, entry_text, entry_job, entry_lone, entry_open, entry_follows, fine_from}
 
 abbrev pub IsEnd : Doing → Type 0
@@ -37,17 +37,14 @@ IsEnd _ = ⊥
 -- ---- a module by itself that is open for c cycles and then ends
 module _ (j : Job) where
   takes_later : (c : ℕ) (o : Outcome) → Takes c o → Takes (suc c) (later o)
-  takes_later c (Exit core d k) h = omega arith
-  takes_later c (Closing core d k) h = omega arith
   takes_later c (Broken d k) h = h
   takes_later c Running h = h
+  takes_later c _ h = omega arith
 
   at_end : (x : Doing) (l : Lone) → IsEnd x → Takes 0 (at_once x l)
   at_end Closes l h = refl
   at_end Leaves l h = refl
-  at_end (Waits r) l h = absurd h
-  at_end (Does i) l h = absurd h
-  at_end Breaks l h = absurd h
+  at_end _ l h = absurd h
 
   pub takes : (c : ℕ) (l : Lone) → ((i : ℕ) → i < c → IsOpen (doing j (lone_after j l i))) → ((i : ℕ) → i < c → doing j (lone_after j l i) ≢ Breaks) → IsEnd (doing j (lone_after j l c)) → Takes c (outcome j c l)
   takes zero l op nb e = at_end (doing j l) l e
@@ -58,9 +55,8 @@ module _ (j : Job) where
       by : (x : Doing) → doing j l ≡ x → IsOpen (doing j l) → doing j l ≢ Breaks → Takes c (outcome j c (lone_step j l)) → Takes (suc c) (in_time x (outcome j c) j l)
       by (Waits r) f o n h = takes_later c (outcome j c (record l { rest = r })) (subst (λ d. Takes c (outcome j c (lone_step_by d j l))) f h)
       by (Does i) f o n h = takes_later c (outcome j c (lone_does j i l)) (subst (λ d. Takes c (outcome j c (lone_step_by d j l))) f h)
-      by Closes f o n h = absurd (subst IsOpen f o)
-      by Leaves f o n h = absurd (subst IsOpen f o)
       by Breaks f o n h = absurd (n f)
+      by _ f o n h = absurd (subst IsOpen f o)
 
 -- ---- where it is told that the module ends
 module _ (m : ℕ) where
@@ -73,14 +69,12 @@ module _ (m : ℕ) where
   resume_ends (Held b ∷ fs) s h = h
 
   close_ends : (a : Option ℕ) (o : Option Module) (s : State) → is_id m a ≡ false → Ends m (close_of a o s).events → ⊥
-  close_ends None o s n h = h
-  close_ends (Some id) None s n h = h
   close_ends (Some id) (Some x) s n h = one_end id n h
+  close_ends _ _ s n h = h
 
   leave_ends : (b : Bool) (a : Option ℕ) (s : State) → is_id m a ≡ false → Ends m (leave_if b a s).events → ⊥
   leave_ends false (Some id) s n h = one_end id n h
-  leave_ends false None s n h = h
-  leave_ends true a s n h = h
+  leave_ends _ _ s n h = h
 
   by_ends : (a : After) (s : State) → is_id m s.active ≡ false → Ends m (settle_by a s).events → ⊥
   by_ends Resume s n h = resume_ends s.frames s h
@@ -90,8 +84,7 @@ module _ (m : ℕ) where
 
   in_ends : (p : Phase) (s : State) → is_id m s.active ≡ false → Ends m (settle_in p s).events → ⊥
   in_ends (Run zero) s n h = by_ends s.after s n h
-  in_ends (Run (suc r)) s n h = h
-  in_ends (Pad x) s n h = h
+  in_ends _ s n h = h
 
   idle_ends : (s : State) → is_id m s.active ≡ false → Ends m (settle s).events → ⊥
   unfolding settle
@@ -101,9 +94,7 @@ module _ (m : ℕ) (own : Module) (key text : List ℕ) (from : ℕ) where
   as_ends : (x : Doing) (s : State) → Ends m (settled_as m own key text x s).events → IsEnd x
   as_ends Closes s h = tt
   as_ends Leaves s h = tt
-  as_ends (Waits r) s h = h
-  as_ends (Does i) s h = h
-  as_ends Breaks s h = h
+  as_ends _ s h = h
 
   settle_ends : (c : Bool) (s : State) (la : Lone) → Follows m own key text from s la → is_id m s.active ≡ c → Ends m (settle s).events → (c ≡ true) × IsEnd (doing (job m own key text from) la)
   settle_ends false s la f e h = absurd (idle_ends m s e h)
@@ -116,7 +107,7 @@ module _ (m : ℕ) (own : Module) (key text : List ℕ) (from : ℕ) where
   pub ends_now : (s : State) (la : Lone) → Follows m own key text from s la → Ends m (settle (ticked s)).events → (is_id m s.active ≡ true) × IsEnd (doing (job m own key text from) la)
   ends_now s la f h =
       let t = ticked s in
-      let same = ticked_same m own key text from s in
+      let same = ticked_active s in
       let g = follow_stays m own key text from s t la f (ticked_stays m own key text s f.keeps) (λ h. f.opened (ap (is_id m) (sym same) ∙ h)) in
       let r = settle_ends (is_id m t.active) t la g refl h in
       (ap (is_id m) (sym same) ∙ r.0, r.1)
@@ -128,7 +119,7 @@ module _ (m : ℕ) (own : Module) (key text : List ℕ) (from : ℕ) where
       let t = ticked s in
       let u = settle t in
       let v = turn u.left u.state in
-      let g = follow_stays m own key text from s t la f (ticked_stays m own key text s f.keeps) (λ h. f.opened (ap (is_id m) (sym (ticked_same m own key text from s)) ∙ h)) in
+      let g = follow_stays m own key text from s t la f (ticked_stays m own key text s f.keeps) (λ h. f.opened (ap (is_id m) (sym (ticked_active s)) ∙ h)) in
       (settle_follows m own key text from (is_id m t.active) t la g refl (counted_events m own key text from v.state.stop u.events v n)).now
 
   cycle_open : (o : Option Stop) (s : State) (la : Lone) → s.stop ≡ o → Follows m own key text from s la → NoEnd m (cycle_by o s).events → works m s ≡ true → IsOpen (doing (job m own key text from) la)

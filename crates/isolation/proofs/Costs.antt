@@ -1,20 +1,21 @@
 -- The cycles of a call are its own and those between its hides and resumes.
 use Rattle.std.proofs.Common.{◌≡◌, ◌≢◌, ℕ, zero, suc, ◌+◌, ◌<◌, ◌≤◌, List, [], ◌∷◌, ◌++◌, refl, sym, ap, ◌∙◌, subst, arith, Bool, true, false, cond, ◌&&◌, ◌==◌, Option, Some, None, is_none}
 use Rattle.std.proofs.lemmas.Bool.Decides.{nat_tests}
+use Rattle.isolation.proofs.Tame.{ticked_active}
 use Rattle.sm_words.specs.Words.{IsCore}
 use Rattle.mod_layout.specs.declared.Module.{Module}
 use Rattle.pc_access.specs.Rights.{is_id}
 use Rattle.pc_access.specs.declared.Stop.{Stop}
-use Rattle.cpu_step.specs.Lone.{Lone, Doing, Waits, Closes, Leaves, Breaks, Does, doing, lone_after, outcome, job_of}
+use Rattle.cpu_step.specs.Lone.{Lone, Doing, Closes, Leaves, Breaks, doing, lone_after, outcome, job_of}
 use Rattle.tracer.specs.declared.Event.{Event}
 use Rattle.written_machine.specs.Cycle.{Step, told, unsettled, due, ticked, settle, turn, arrive_inside, sent_event, counted_by, move, cycle_by, cycle, after_cycles}
 use Rattle.written_machine.specs.Peers.{section}
 use Rattle.written_machine.specs.State.{State}
 use Rattle.isolation.specs.Calls.{works, worked, NoEnd, NotBroken, Away, away_if, back_from, notes, away, backup_of, run_by, lone_of, find_held}
-use Rattle.isolation.proofs.Active.{active_some, turn_moves}
+use Rattle.isolation.proofs.Active.{active_some, turn_moves, arrives_at}
 use Rattle.isolation.proofs.Ending.{settled_as, settled_doing}
 use Rattle.isolation.proofs.Fine.{Fine, settled_fine}
-use Rattle.isolation.proofs.Follow.{job, Follows, Now, follow_stays, settle_follows, active_doing, arrives_at, ticked_same, counted_events}
+use Rattle.isolation.proofs.Follow.{job, Follows, Now, follow_stays, settle_follows, active_doing, counted_events}
 use Rattle.isolation.proofs.Relation.{IsOpen}
 use Rattle.isolation.proofs.Settled.{ticked_stays}
 use Rattle.isolation.proofs.Still.{still_notes, notes_more, sent_still, turn_still, Told, settle_told}
@@ -34,9 +35,7 @@ module _ (m : ℕ) (own : Module) (key text : List ℕ) (from : ℕ) where
   quiet_by : (x : Doing) (s : State) → NoEnd m (settled_as m own key text x s).events → settled_as m own key text x s ≡ unsettled s
   quiet_by Closes s n = absurd (n.0 refl)
   quiet_by Leaves s n = absurd (n.0 refl)
-  quiet_by (Waits r) s n = refl
-  quiet_by (Does i) s n = refl
-  quiet_by Breaks s n = refl
+  quiet_by _ s n = refl
 
   settle_quiet : (s : State) (la : Lone) → Follows m own key text from s la → is_id m s.active ≡ true → NoEnd m (settle s).events → settle s ≡ unsettled s
   settle_quiet s la f act n =
@@ -45,15 +44,12 @@ module _ (m : ℕ) (own : Module) (key text : List ℕ) (from : ℕ) where
 
   -- where nothing arrives, its turn tells nothing, and it stays active
   plain_by : (left : ℕ) (x : Doing) (s : State) (la : Lone) → Now m own key text from s la → is_id m s.active ≡ true → IsCore s.core → due s ≡ None → doing (job m own key text from) la ≡ x → x ≢ Breaks → ((turn left s).events ≡ []) × ((turn left s).state.active ≡ s.active)
-  plain_by left (Waits r) s la f act ok d e nb =
-      let v = (turn_moves m own key text s f.follows.keeps (active_some m s.active act) left (Waits r) ok d (active_doing m own key text from s la f.follows act ∙ e) tt).0 in
-      (ap (λ u. u.events) v.is, ap (λ u. u.state.active) v.is)
-  plain_by left (Does i) s la f act ok d e nb =
-      let v = (turn_moves m own key text s f.follows.keeps (active_some m s.active act) left (Does i) ok d (active_doing m own key text from s la f.follows act ∙ e) tt).0 in
-      (ap (λ u. u.events) v.is, ap (λ u. u.state.active) v.is)
   plain_by left Closes s la f act ok d e nb = absurd (subst IsOpen e f.now)
   plain_by left Leaves s la f act ok d e nb = absurd (subst IsOpen e f.now)
   plain_by left Breaks s la f act ok d e nb = absurd (nb refl)
+  plain_by left x s la f act ok d e nb =
+      let v = (turn_moves m own key text s f.follows.keeps (active_some m s.active act) left x ok d (active_doing m own key text from s la f.follows act ∙ e) tt).0 in
+      (ap (λ u. u.events) v.is, ap (λ u. u.state.active) v.is)
 
   active_turns : (left : ℕ) (d : Option ℕ) (s : State) (la : Lone) → Now m own key text from s la → is_id m s.active ≡ true → IsCore s.core → due s ≡ d → (is_none d ≡ true → doing (job m own key text from) la ≢ Breaks) → (i : ℕ) (w : Away) (c : ℕ) → Balance true i w c → Balance (is_id m (turn left s).state.active) (i + 1) (notes m i (turn left s).events w) (c + cond (is_none d) 1 0)
   active_turns left None s la f act ok e nb i w c b =
@@ -63,7 +59,7 @@ module _ (m : ℕ) (own : Module) (key text : List ℕ) (from : ℕ) where
   active_turns left (Some v) s la f act ok e nb i w c b =
       let a = active_some m s.active act in
       let same : (m == m) ≡ true = grind (arith, nat_tests) in
-      let t = arrives_at m own key text from v left s a (f.follows.keeps.proper act).0 e in
+      let t = arrives_at m v left s a (f.follows.keeps.proper act).0 e in
       let q = arrived v m s in
       let w' : Away = record { since = Some i; sum = w.sum } in
       let k : Balance false (i + 1) w' (c + 0) = (i, refl, omega arith, let z = b.1 in omega arith) in
@@ -114,10 +110,10 @@ module _ (m : ℕ) (own : Module) (key text : List ℕ) (from : ℕ) where
       let t = ticked s in
       let u = settle t in
       let v = turn u.left u.state in
-      let g = follow_stays m own key text from s t la f (ticked_stays m own key text s f.keeps) (λ h. f.opened (ap (is_id m) (sym (ticked_same m own key text from s)) ∙ h)) in
+      let g = follow_stays m own key text from s t la f (ticked_stays m own key text s f.keeps) (λ h. f.opened (ap (is_id m) (sym (ticked_active s)) ∙ h)) in
       let ne = counted_events m own key text from v.state.stop u.events v n in
       let now = settle_follows m own key text from (is_id m t.active) t la g refl ne in
-      let b1 = subst (λ a. Balance (is_id m a) i w c) (sym (ticked_same m own key text from s)) b in
+      let b1 = subst (λ a. Balance (is_id m a) i w c) (sym (ticked_active s)) b in
       let b2 = settles (is_id m t.active) t la g refl ne i w c b1 in
       let b3 = turns u.left (is_id m u.state.active) u.state la now refl (settled_fine s fine).fine.core_ok nb i (notes m i u.events w) c b2 in
       counted v.state.stop u.events v i w (c + cond (is_id m u.state.active && is_none (due u.state)) 1 0) b3

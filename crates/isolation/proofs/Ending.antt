@@ -15,7 +15,7 @@ use Rattle.reg_backup.specs.declared.backup.Phase.TheVariants.{Run}
 use Rattle.reg_backup.specs.declared.frames.Frame.{Frame}
 use Rattle.reg_backup.specs.declared.frames.Frame.TheVariants.{Plain, Module as Held}
 use Rattle.attest.specs.Done.{own_of}
-use Rattle.cpu_step.specs.Lone.{Doing, Waits, Closes, Leaves, Breaks, Does, doing, doing_by, next_insn, job_of}
+use Rattle.cpu_step.specs.Lone.{Doing, Waits, Closes, Leaves, Does, doing, doing_by, next_insn, job_of}
 use Rattle.tracer.specs.declared.Event.{Event}
 use Rattle.written_machine.specs.Cycle.{Settled, unsettled, pc_of, rest_of, in_text, leave_if, close_of, settle_by, settle_in, settle}
 use Rattle.written_machine.specs.Peers.{section}
@@ -52,18 +52,14 @@ none_found m (Held b ∷ fs) e =
 
 -- what doing says of rest, closing and PC
 closes_now : (r : ℕ) (c t : Bool) (n : Option Insn) → doing_by r c t n ≡ Closes → (r ≡ 0) × (c ≡ true)
-closes_now (suc r) c t n e = absurd cc
 closes_now zero true t n e = (refl, refl)
-closes_now zero false false n e = absurd cc
 closes_now zero false true None e = absurd cc
-closes_now zero false true (Some i) e = absurd cc
+closes_now _ _ _ n e = absurd cc
 
 leaves_now : (r : ℕ) (c t : Bool) (n : Option Insn) → doing_by r c t n ≡ Leaves → (r ≡ 0) × (c ≡ false) × (t ≡ false)
-leaves_now (suc r) c t n e = absurd cc
-leaves_now zero true t n e = absurd cc
 leaves_now zero false false n e = (refl, refl, refl)
 leaves_now zero false true None e = absurd cc
-leaves_now zero false true (Some i) e = absurd cc
+leaves_now _ _ _ _ e = absurd cc
 
 module _ (m : ℕ) (own : Module) (key text : List ℕ) where
   abbrev pub closed_state : State → State
@@ -215,21 +211,7 @@ module _ (m : ℕ) (own : Module) (key text : List ℕ) where
       inside_by (Waits r) (Does i) ea eb t = still (Waits r) (Does i) ea eb tt tt
       inside_by (Does i) (Waits r) ea eb t = still (Does i) (Waits r) ea eb tt tt
       inside_by (Does i) (Does i') ea eb t = still (Does i) (Does i') ea eb tt tt
-      inside_by Closes Leaves ea eb t = absurd t
-      inside_by Closes (Waits r) ea eb t = absurd t
-      inside_by Closes Breaks ea eb t = absurd t
-      inside_by Closes (Does i) ea eb t = absurd t
-      inside_by Leaves Closes ea eb t = absurd t
-      inside_by Leaves (Waits r) ea eb t = absurd t
-      inside_by Leaves Breaks ea eb t = absurd t
-      inside_by Leaves (Does i) ea eb t = absurd t
-      inside_by Breaks y ea eb t = absurd t
-      inside_by (Waits r) Closes ea eb t = absurd t
-      inside_by (Waits r) Leaves ea eb t = absurd t
-      inside_by (Waits r) Breaks ea eb t = absurd t
-      inside_by (Does i) Closes ea eb t = absurd t
-      inside_by (Does i) Leaves ea eb t = absurd t
-      inside_by (Does i) Breaks ea eb t = absurd t
+      inside_by _ _ ea eb t = absurd t
 
       pub inside_settles : Settles (settle a) (settle b)
       inside_settles =

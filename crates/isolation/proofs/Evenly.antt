@@ -23,16 +23,7 @@ later_alike : (P : List ℕ → List ℕ → Type 0) (o p : Outcome) → alike P
 later_alike P Running Running h = tt
 later_alike P (Closing c d k) (Closing c' d' k') h = (h.0, omega (arith, h.1))
 later_alike P (Exit c d k) (Exit c' d' k') h = (h.0, omega (arith, h.1), h.2)
-later_alike P (Broken d k) p h = h
-later_alike P Running (Exit c d k) h = h
-later_alike P Running (Closing c d k) h = h
-later_alike P Running (Broken d k) h = h
-later_alike P (Closing c d k) Running h = h
-later_alike P (Closing c d k) (Exit c' d' k') h = h
-later_alike P (Closing c d k) (Broken d' k') h = h
-later_alike P (Exit c d k) Running h = h
-later_alike P (Exit c d k) (Closing c' d' k') h = h
-later_alike P (Exit c d k) (Broken d' k') h = h
+later_alike P _ _ h = h
 
 module _ (key : List ℕ) (own : Module) (text : List ℕ) (j : Job) (la lb : Lone) where
   abbrev Now : Doing → Doing → Type 0
@@ -51,16 +42,6 @@ module _ (key : List ℕ) (own : Module) (text : List ℕ) (j : Job) (la lb : Lo
   together (Waits r) (Does i) now soon = go_on (record la { rest = r }) (lone_does j i lb) soon
   together (Does i) (Waits r) now soon = go_on (lone_does j i la) (record lb { rest = r }) soon
   together (Does i) (Does i') now soon = go_on (lone_does j i la) (lone_does j i' lb) soon
-  together Closes Leaves now soon = now [] tt
-  together Closes (Waits r) now soon = now [] tt
-  together Closes Breaks now soon = now [] tt
-  together Closes (Does i) now soon = now [] tt
-  together Leaves Closes now soon = now [] tt
-  together Leaves (Waits r) now soon = now [] tt
-  together Leaves Breaks now soon = now [] tt
-  together Leaves (Does i) now soon = now [] tt
-  together (Waits r) Closes now soon = now [] tt
-  together (Waits r) Leaves now soon = now [] tt
   together (Waits r) Breaks now soon = broken_right (outcome j 0 (record la { rest = r })) (soon 0 [] tt)
     where
       broken_right : (o : Outcome) → alike (EvenBy key own text []) (later o) (Broken lb.data_bytes 0) → ⊥
@@ -68,8 +49,6 @@ module _ (key : List ℕ) (own : Module) (text : List ℕ) (j : Job) (la lb : Lo
       broken_right (Exit c d k) h = h
       broken_right (Closing c d k) h = h
       broken_right (Broken d k) h = h
-  together (Does i) Closes now soon = now [] tt
-  together (Does i) Leaves now soon = now [] tt
   together (Does i) Breaks now soon = broken_right (outcome j 0 (lone_does j i la)) (soon 0 [] tt)
     where
       broken_right : (o : Outcome) → alike (EvenBy key own text []) (later o) (Broken lb.data_bytes 0) → ⊥
@@ -78,6 +57,7 @@ module _ (key : List ℕ) (own : Module) (text : List ℕ) (j : Job) (la lb : Lo
       broken_right (Closing c d k) h = h
       broken_right (Broken d k) h = h
   together Breaks y now soon = soon 0 [] tt
+  together _ _ now soon = now [] tt
 
   pub next_together : Evenly key own text j la lb → Together key own text j (doing j la) (doing j lb) la lb
   next_together e = together (doing j la) (doing j lb) (λ es h. e.always zero es h) (λ n es h. e.always (suc n) es h)

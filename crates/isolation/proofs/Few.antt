@@ -1,14 +1,14 @@
 -- A cycle tells at most four events.
-use Rattle.std.proofs.Common.{◌≡◌, ℕ, zero, suc, ◌≤◌, List, [], ◌∷◌, ◌++◌, length, length-append, sym, ap, subst, arith, Bool, true, false, cond, ◌==◌, Option, Some, None}
+use Rattle.std.proofs.Common.{◌≡◌, ℕ, zero, ◌≤◌, List, [], ◌∷◌, ◌++◌, length, length-append, sym, ap, subst, arith, Bool, true, false, cond, ◌==◌, Option, Some, None}
 use Rattle.std.proofs.lemmas.Bool.Decides.{nat_tests}
 use Rattle.sm_words.specs.Words.{word_at}
 use Rattle.insn_decode.specs.Code.{insn_of, length_of}
 use Rattle.insn_decode.specs.declared.insn.Insn.{Insn}
-use Rattle.insn_decode.specs.declared.insn.Insn.TheVariants.{Two, One, Jump, Reti, Unit as UnitOp}
+use Rattle.insn_decode.specs.declared.insn.Insn.TheVariants.{Reti}
 use Rattle.mod_layout.specs.Table.{place_of}
 use Rattle.mod_layout.specs.declared.Module.{Module}
 use Rattle.mod_layout.specs.declared.Place.{Place}
-use Rattle.mod_layout.specs.declared.Place.TheVariants.{Open, Entry, Text, Data}
+use Rattle.mod_layout.specs.declared.Place.TheVariants.{Entry}
 use Rattle.pc_access.specs.Rights.{first_denied, right}
 use Rattle.pc_access.specs.declared.Denied.{Denied}
 use Rattle.pc_access.specs.declared.Stop.{Stop}
@@ -16,9 +16,9 @@ use Rattle.reg_backup.specs.Held.{held_ids}
 use Rattle.reg_backup.specs.declared.backup.After.{After}
 use Rattle.reg_backup.specs.declared.backup.After.TheVariants.{Next, Handler, Resume, Close}
 use Rattle.reg_backup.specs.declared.backup.Phase.{Phase}
-use Rattle.reg_backup.specs.declared.backup.Phase.TheVariants.{Run, Pad}
+use Rattle.reg_backup.specs.declared.backup.Phase.TheVariants.{Run}
 use Rattle.reg_backup.specs.declared.frames.Frame.{Frame}
-use Rattle.reg_backup.specs.declared.frames.Frame.TheVariants.{Plain, Module as Held}
+use Rattle.reg_backup.specs.declared.frames.Frame.TheVariants.{Module as Held}
 use Rattle.attest.specs.Done.{own_of}
 use Rattle.cpu_step.specs.Asked.{asks, table_after}
 use Rattle.cpu_step.specs.Fetched.{insn_at}
@@ -70,9 +70,8 @@ unfolding attempt
 returned_few s = returned_by_check (first_denied s.table s.active (held_ids s.frames) (asks (who_of s) Reti s.core)) s
 
 reti_few : (fs : List Frame) (s : State) → AtMost 1 (reti_by fs s).events
-reti_few [] s = returned_few s
-reti_few (Plain ∷ fs) s = returned_few s
 reti_few (Held b ∷ fs) s = none
+reti_few _ s = returned_few s
 
 reti_of_few : (a : Option ℕ) (s : State) → AtMost 1 (reti_of a s).events
 reti_of_few (Some id) s = omega arith
@@ -80,10 +79,7 @@ reti_of_few None s = reti_few s.frames s
 
 act_by_few : (insn : Insn) (s : State) → AtMost 1 (act_by insn s).events
 act_by_few Reti s = reti_of_few s.active s
-act_by_few (Two op w a b) s = attempt_few (Two op w a b) s
-act_by_few (One op w a) s = attempt_few (One op w a) s
-act_by_few (Jump c o) s = attempt_few (Jump c o) s
-act_by_few (UnitOp n) s = attempt_few (UnitOp n) s
+act_by_few insn s = attempt_few insn s
 
 act_on_few : (o : Option Insn) (s : State) → AtMost 1 (act_on o s).events
 act_on_few None s = omega arith
@@ -104,10 +100,7 @@ act_few s = act_first_few (insn_of (word_at (byte_of s) (pc_of s)) 0 0) s
 -- ---- a turn tells at most two
 enter_at_few : (p : Place) (a : Option ℕ) (left : ℕ) (s : State) → AtMost 1 (enter_at p a left s).events
 enter_at_few (Entry id) None left s = omega arith
-enter_at_few (Entry id) (Some x) left s = none
-enter_at_few Open a left s = none
-enter_at_few (Text id) a left s = none
-enter_at_few (Data id) a left s = none
+enter_at_few _ _ left s = none
 
 enter_few : (left : ℕ) (s : State) → AtMost 1 (enter left s).events
 unfolding enter
@@ -141,33 +134,27 @@ unfolding arrive_inside
 inside_few v id s = omega arith
 
 by_few : (d o : Option ℕ) (p : Phase) (left : ℕ) (s : State) → AtMost 2 (turn_at d o p left s).events
-by_few d o (Pad n) left s = omega arith
 by_few (Some v) (Some id) (Run r) left s = inside_few v id s
 by_few (Some v) None (Run zero) left s = outside_few v s
-by_few (Some v) None (Run (suc r)) left s = omega arith
-by_few None None (Run (suc r)) left s = omega arith
-by_few None (Some id) (Run (suc r)) left s = omega arith
 by_few None None (Run zero) left s = asleep_few (asleep s) left s
 by_few None (Some id) (Run zero) left s = begin_few left s
+by_few _ _ _ left s = omega arith
 
 turn_few : (left : ℕ) (s : State) → AtMost 2 (turn left s).events
 turn_few left s = subst (λ t. AtMost 2 t.events) (sym (turn_is left s)) (by_few (due s) s.active s.phase left s)
 
 -- ---- settling tells at most one
 resume_few : (fs : List Frame) (s : State) → AtMost 1 (resume_from fs s).events
-resume_few [] s = none
-resume_few (Plain ∷ fs) s = none
 resume_few (Held b ∷ fs) s = omega arith
+resume_few _ s = none
 
 close_few : (a : Option ℕ) (o : Option Module) (s : State) → AtMost 1 (close_of a o s).events
-close_few None o s = none
-close_few (Some id) None s = none
 close_few (Some id) (Some x) s = omega arith
+close_few _ _ s = none
 
 leave_few : (b : Bool) (a : Option ℕ) (s : State) → AtMost 1 (leave_if b a s).events
 leave_few false (Some id) s = omega arith
-leave_few false None s = none
-leave_few true a s = none
+leave_few _ _ s = none
 
 settle_by_few : (a : After) (s : State) → AtMost 1 (settle_by a s).events
 settle_by_few Resume s = resume_few s.frames s
@@ -177,8 +164,7 @@ settle_by_few Next s = leave_few (in_text (own_of s.active s.table) (pc_of s)) s
 
 settle_in_few : (p : Phase) (s : State) → AtMost 1 (settle_in p s).events
 settle_in_few (Run zero) s = settle_by_few s.after s
-settle_in_few (Run (suc r)) s = none
-settle_in_few (Pad n) s = none
+settle_in_few _ s = none
 
 settle_few : (s : State) → AtMost 1 (settle s).events
 unfolding settle

@@ -8,12 +8,12 @@ use Rattle.sm_words.specs.declared.width.Width.{Width}
 use Rattle.sm_words.specs.declared.width.Width.TheVariants.{Byte, Word}
 use Rattle.insn_decode.specs.Code.{insn_of, length_of}
 use Rattle.insn_decode.specs.declared.insn.Insn.{Insn}
-use Rattle.insn_decode.specs.declared.insn.Insn.TheVariants.{Two, One, Jump, Reti, Unit as UnitOp}
+use Rattle.insn_decode.specs.declared.insn.Insn.TheVariants.{Reti}
 use Rattle.schedule_file.specs.declared.Entry.{Entry as Scheduled}
 use Rattle.mod_layout.specs.Table.{size_of, place_of}
 use Rattle.mod_layout.specs.declared.Module.{Module}
 use Rattle.mod_layout.specs.declared.Place.{Place}
-use Rattle.mod_layout.specs.declared.Place.TheVariants.{Open, Entry, Text, Data}
+use Rattle.mod_layout.specs.declared.Place.TheVariants.{Entry}
 use Rattle.pc_access.specs.Rights.{first_denied, right}
 use Rattle.pc_access.specs.declared.Access.{Access}
 use Rattle.pc_access.specs.declared.Denied.{Denied}
@@ -59,12 +59,11 @@ written mem a v lt h = record { full = length-set mem a v ∙ h.full; bytes = λ
 
 -- ---- clearing and ports
 cleared_byte : (lo n : ℕ) (mem : List ℕ) → ((a : ℕ) → get_or mem a 0 < 256) → (a : ℕ) → get_or (cleared lo n mem) a 0 < 256
-cleared_byte lo zero mem h a = h a
-cleared_byte lo (suc n) [] h a = h a
 cleared_byte zero (suc n) (x ∷ xs) h zero = omega arith
 cleared_byte zero (suc n) (x ∷ xs) h (suc a) = cleared_byte zero n xs (λ b. h (suc b)) a
 cleared_byte (suc lo) (suc n) (x ∷ xs) h zero = h zero
 cleared_byte (suc lo) (suc n) (x ∷ xs) h (suc a) = cleared_byte lo (suc n) xs (λ b. h (suc b)) a
+cleared_byte lo _ _ h a = h a
 
 cleared_filled : (lo n : ℕ) (mem : List ℕ) → Filled mem → Filled (cleared lo n mem)
 cleared_filled lo n mem h = record { full = length_cleared lo n mem ∙ h.full; bytes = cleared_byte lo n mem h.bytes }
@@ -79,9 +78,8 @@ write_filled Word p a v h =
     write_in_filled (nat_lt (a + 1) 512) (write_byte p a (v % 256)) (a + 1) (v / 256 % 256) (omega arith) (write_in_filled (nat_lt a 512) p a (v % 256) (omega arith) h)
 
 puts_filled : (xs : List Access) (p : Port) (vs : List ℕ) → Filled p.memory → Filled (put_writes p xs vs).memory
-puts_filled [] p vs h = h
-puts_filled (x ∷ xs) p [] h = h
 puts_filled (x ∷ xs) p (v ∷ vs) h = puts_filled xs (write_width x.width p x.addr v) vs (write_filled x.width p x.addr v h)
+puts_filled _ p _ h = h
 
 -- ---- an instruction
 perform_filled : (insn : Insn) (s : State) → Kept s (perform insn s).state
@@ -105,9 +103,8 @@ returned_filled (Some stop) t h = h
 returned_filled None t h = h
 
 reti_filled : (fs : List Frame) (s : State) → Kept s (reti_by fs s).state
-reti_filled [] s h = returned_filled (attempt Reti s).state.stop (attempt Reti s) (attempt_filled Reti s h)
-reti_filled (Plain ∷ fs) s h = returned_filled (attempt Reti s).state.stop (attempt Reti s) (attempt_filled Reti s h)
 reti_filled (Held b ∷ fs) s h = h
+reti_filled _ s h = returned_filled (attempt Reti s).state.stop (attempt Reti s) (attempt_filled Reti s h)
 
 reti_of_filled : (a : Option ℕ) (s : State) → Kept s (reti_of a s).state
 reti_of_filled (Some id) s h = h
@@ -115,10 +112,7 @@ reti_of_filled None s h = reti_filled s.frames s h
 
 act_by_filled : (insn : Insn) (s : State) → Kept s (act_by insn s).state
 act_by_filled Reti s h = reti_of_filled s.active s h
-act_by_filled (Two op w a b) s h = attempt_filled (Two op w a b) s h
-act_by_filled (One op w a) s h = attempt_filled (One op w a) s h
-act_by_filled (Jump c o) s h = attempt_filled (Jump c o) s h
-act_by_filled (UnitOp n) s h = attempt_filled (UnitOp n) s h
+act_by_filled insn s h = attempt_filled insn s h
 
 act_on_filled : (o : Option Insn) (s : State) → Kept s (act_on o s).state
 act_on_filled None s h = h
@@ -138,10 +132,7 @@ act_filled s h = act_first_filled (insn_of (word_at (byte_of s) (pc_of s)) 0 0) 
 
 enter_at_filled : (p : Place) (a : Option ℕ) (left : ℕ) (s : State) → Kept s (enter_at p a left s).state
 enter_at_filled (Entry id) None left s h = h
-enter_at_filled (Entry id) (Some x) left s h = h
-enter_at_filled Open a left s h = h
-enter_at_filled (Text id) a left s h = h
-enter_at_filled (Data id) a left s h = h
+enter_at_filled _ _ left s h = h
 
 pub enter_filled : (left : ℕ) (s : State) → Kept s (enter left s).state
 unfolding enter
@@ -179,11 +170,10 @@ by_filled : (d o : Option ℕ) (p : Phase) (left : ℕ) (s : State) → Kept s (
 by_filled d o (Pad n) left s h = padded_filled (n - 1) s h
 by_filled (Some v) (Some id) (Run r) left s h = inside_filled v id s h
 by_filled (Some v) None (Run zero) left s h = outside_filled v s h
-by_filled (Some v) None (Run (suc r)) left s h = h
 by_filled None None (Run (suc r)) left s h = h
-by_filled None (Some id) (Run (suc r)) left s h = h
 by_filled None None (Run zero) left s h = asleep_filled (asleep s) left s h
 by_filled None (Some id) (Run zero) left s h = begin_filled left s h
+by_filled _ _ (Run (suc r)) left s h = h
 
 turn_filled : (left : ℕ) (s : State) → Kept s (turn left s).state
 turn_filled left s = subst (λ t. Kept s t.state) (sym (turn_is left s)) (by_filled (due s) s.active s.phase left s)
@@ -195,14 +185,12 @@ resume_filled (Plain ∷ fs) s h = h
 resume_filled (Held b ∷ fs) s h = h
 
 close_filled : (a : Option ℕ) (o : Option Module) (s : State) → Kept s (close_of a o s).state
-close_filled None o s h = h
-close_filled (Some id) None s h = h
 close_filled (Some id) (Some x) s h = cleared_filled x.ram.start (size_of x.ram) s.memory h
+close_filled _ _ s h = h
 
 leave_filled : (b : Bool) (a : Option ℕ) (s : State) → Kept s (leave_if b a s).state
 leave_filled false (Some id) s h = h
-leave_filled false None s h = h
-leave_filled true a s h = h
+leave_filled _ _ s h = h
 
 settle_by_filled : (a : After) (s : State) → Kept s (settle_by a s).state
 settle_by_filled Resume s h = resume_filled s.frames s h
@@ -212,8 +200,7 @@ settle_by_filled Next s h = leave_filled (in_text (own_of s.active s.table) (pc_
 
 settle_in_filled : (p : Phase) (s : State) → Kept s (settle_in p s).state
 settle_in_filled (Run zero) s h = settle_by_filled s.after s h
-settle_in_filled (Run (suc r)) s h = h
-settle_in_filled (Pad n) s h = h
+settle_in_filled _ s h = h
 
 pub settle_filled : (s : State) → Kept s (settle s).state
 unfolding settle

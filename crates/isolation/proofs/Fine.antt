@@ -3,13 +3,13 @@ use Rattle.std.proofs.Common.{◌≡◌, ℕ, zero, suc, ◌+◌, ◌-◌, ◌<�
 use Rattle.sm_words.specs.Words.{reg, word_at, IsCore}
 use Rattle.insn_decode.specs.Code.{insn_of, length_of}
 use Rattle.insn_decode.specs.declared.insn.Insn.{Insn}
-use Rattle.insn_decode.specs.declared.insn.Insn.TheVariants.{Two, One, Jump, Reti, Unit as UnitOp}
+use Rattle.insn_decode.specs.declared.insn.Insn.TheVariants.{Reti, Unit as UnitOp}
 use Rattle.schedule_file.specs.declared.Entry.{Entry as Scheduled}
 use Rattle.mod_layout.specs.Table.{Table, place_by, place_in, place_of, holds, takes, with_module}
 use Rattle.mod_layout.specs.Tables.{AreModules, IsTable}
 use Rattle.mod_layout.specs.declared.Module.{Module}
 use Rattle.mod_layout.specs.declared.Place.{Place}
-use Rattle.mod_layout.specs.declared.Place.TheVariants.{Open, Entry, Text, Data}
+use Rattle.mod_layout.specs.declared.Place.TheVariants.{Entry}
 use Rattle.mod_layout.specs.declared.Section.{Section}
 use Rattle.pc_access.specs.Rights.{first_denied, right}
 use Rattle.pc_access.specs.declared.Denied.{Denied}
@@ -23,7 +23,7 @@ use Rattle.reg_backup.specs.declared.backup.Phase.TheVariants.{Run, Pad}
 use Rattle.reg_backup.specs.declared.frames.Frame.{Frame}
 use Rattle.reg_backup.specs.declared.frames.Frame.TheVariants.{Plain, Module as Held}
 use Rattle.attest.specs.Done.{own_of}
-use Rattle.attest.specs.Units.{UnitName, Unprotect, Protect, Attest, Tag, IdOf, OwnId, CallerId, unit_named, new_text, new_ram, table_by}
+use Rattle.attest.specs.Units.{UnitName, Protect, unit_named, new_text, new_ram, table_by}
 use Rattle.cpu_step.specs.Asked.{table_after, asks}
 use Rattle.cpu_step.specs.Fetched.{insn_at}
 use Rattle.written_machine.specs.Cycle.{Step, Settled, told, denied, unsettled, pc_of, byte_of, in_text, leave_if, close_of, resume_from, settle_by, settle_in, settle, ticked, due, arrive_inside, push_both, pushes, plain_if, arrive_outside, who_of, perform, perform_unless, attempt, without_newest, returned_by, reti_by, reti_of, act_by, act_on, act_home, act_first, act, is_home, enter_at, enter, fetch, begin_unless, begin, padded, asleep, turn, counted_by, move, cycle_by}
@@ -40,9 +40,8 @@ zeros_core : IsCore (replicate 16 0)
 zeros_core = record { sixteen = refl; words = λ k. small k; even_pc = refl; even_sp = refl; nine_bits = omega arith; zero_three = refl }
   where
     zeros_at : (n k : ℕ) → get_or {A = ℕ} (replicate n 0) k 0 ≡ 0
-    zeros_at zero k = refl
-    zeros_at (suc n) zero = refl
     zeros_at (suc n) (suc k) = zeros_at n k
+    zeros_at _ _ = refl
 
     small : (k : ℕ) → get_or {A = ℕ} (replicate 16 0) k 0 < 65536
     small k = subst (λ x. x < 65536) (sym (zeros_at 16 k)) (omega arith)
@@ -79,20 +78,17 @@ self : (s : State) → Fine s → FineSettled (unsettled s)
 self s f = record { fine = f; left_small = omega arith }
 
 resume_fine : (fs : List Frame) (s : State) → Fine s → Each FineFrame fs → FineSettled (resume_from fs s)
-resume_fine [] s f h = self s f
-resume_fine (Plain ∷ fs) s f h = self s f
 resume_fine (Held b ∷ fs) s f h = record { fine = record { core_ok = h.0.0; frames_ok = h.1; active_small = h.0.1; table_ok = f.table_ok; given_small = f.given_small }; left_small = omega arith }
+resume_fine _ s f h = self s f
 
 close_fine : (a : Option ℕ) (o : Option Module) (s : State) → Fine s → FineSettled (close_of a o s)
-close_fine None o s f = self s f
-close_fine (Some id) None s f = self s f
 close_fine (Some id) (Some x) s f =
     record { fine = record { core_ok = f.core_ok; frames_ok = f.frames_ok; active_small = tt; table_ok = table_dropped s.table id f.table_ok; given_small = f.given_small }; left_small = omega arith }
+close_fine _ _ s f = self s f
 
 leave_fine : (b : Bool) (a : Option ℕ) (s : State) → Fine s → s.active ≡ a → FineSettled (leave_if b a s)
 leave_fine false (Some id) s f e = record { fine = record { core_ok = f.core_ok; frames_ok = f.frames_ok; active_small = tt; table_ok = f.table_ok; given_small = f.given_small }; left_small = subst Small e f.active_small }
-leave_fine false None s f e = self s f
-leave_fine true a s f e = self s f
+leave_fine _ _ s f e = self s f
 
 by_fine : (a : After) (s : State) → Fine s → FineSettled (settle_by a s)
 by_fine Resume s f = resume_fine s.frames s f f.frames_ok
@@ -102,8 +98,7 @@ by_fine Next s f = leave_fine (in_text (own_of s.active s.table) (pc_of s)) s.ac
 
 in_fine : (p : Phase) (s : State) → Fine s → FineSettled (settle_in p s)
 in_fine (Run zero) s f = by_fine s.after s f
-in_fine (Run (suc r)) s f = self s f
-in_fine (Pad n) s f = self s f
+in_fine _ s f = self s f
 
 settle_fine : (s : State) → Fine s → FineSettled (settle s)
 unfolding settle
@@ -141,20 +136,12 @@ protect_fine t vendor text ram true e h = (table_more t vendor text ram h.0 e, l
 
 unit_table_fine : (x : UnitName) (t : Table) (core : List ℕ) → TableFine t → TableFine (table_by x t core)
 unit_table_fine Protect t core h = protect_fine t (reg core 11) (new_text core) (new_ram core) (takes t (new_text core) (new_ram core)) refl h
-unit_table_fine Unprotect t core h = h
-unit_table_fine Attest t core h = h
-unit_table_fine Tag t core h = h
-unit_table_fine IdOf t core h = h
-unit_table_fine OwnId t core h = h
-unit_table_fine CallerId t core h = h
+unit_table_fine _ t core h = h
 
 pub table_fine : (insn : Insn) (t : Table) (core : List ℕ) → TableFine t → TableFine (table_after t insn core)
 unfolding table_after
 table_fine (UnitOp n) t core h = unit_table_fine (unit_named n) t core h
-table_fine (Two op w a b) t core h = h
-table_fine (One op w a) t core h = h
-table_fine (Jump c o) t core h = h
-table_fine Reti t core h = h
+table_fine _ t core h = h
 
 perform_fine : (insn : Insn) (s : State) → Fine s → Fine (perform insn s).state
 unfolding perform
@@ -179,9 +166,8 @@ returned_fine (Some stop) u f = f
 returned_fine None u f = record { core_ok = f.core_ok; frames_ok = newest_fine u.state.frames f.frames_ok; active_small = f.active_small; table_ok = f.table_ok; given_small = f.given_small }
 
 reti_fine : (fs : List Frame) (s : State) → Fine s → Fine (reti_by fs s).state
-reti_fine [] s f = returned_fine (attempt Reti s).state.stop (attempt Reti s) (attempt_fine Reti s f)
-reti_fine (Plain ∷ fs) s f = returned_fine (attempt Reti s).state.stop (attempt Reti s) (attempt_fine Reti s f)
 reti_fine (Held b ∷ fs) s f = with_core s (reti_by (Held b ∷ fs) s).state f (past_keeps IsCore put_core Reti s.core f.core_ok) refl refl refl
+reti_fine _ s f = returned_fine (attempt Reti s).state.stop (attempt Reti s) (attempt_fine Reti s f)
 
 reti_of_fine : (a : Option ℕ) (s : State) → Fine s → Fine (reti_of a s).state
 reti_of_fine (Some id) s f = with_core s (reti_of (Some id) s).state f f.core_ok refl refl refl
@@ -189,10 +175,7 @@ reti_of_fine None s f = reti_fine s.frames s f
 
 act_by_fine : (insn : Insn) (s : State) → Fine s → Fine (act_by insn s).state
 act_by_fine Reti s f = reti_of_fine s.active s f
-act_by_fine (Two op w a b) s f = attempt_fine (Two op w a b) s f
-act_by_fine (One op w a) s f = attempt_fine (One op w a) s f
-act_by_fine (Jump c o) s f = attempt_fine (Jump c o) s f
-act_by_fine (UnitOp n) s f = attempt_fine (UnitOp n) s f
+act_by_fine insn s f = attempt_fine insn s f
 
 act_on_fine : (o : Option Insn) (s : State) → Fine s → Fine (act_on o s).state
 act_on_fine None s f = with_core s (act_on None s).state f f.core_ok refl refl refl
@@ -213,9 +196,8 @@ act_fine s f = act_first_fine (insn_of (word_at (byte_of s) (pc_of s)) 0 0) s f
 -- a module of the table has a small number
 entry_by : (n id x : ℕ) (e t r : Bool) (rest : Place) → x ≤ n → place_by e t r x rest ≡ Entry id → (rest ≡ Entry id → id ≤ n) → id ≤ n
 entry_by n id x true t r rest k h g = let same : x ≡ id = cc in subst (λ i. i ≤ n) same k
-entry_by n id x false true r rest k h g = absurd cc
-entry_by n id x false false true rest k h g = absurd cc
 entry_by n id x false false false rest k h g = g h
+entry_by n id x false _ _ rest k h g = absurd cc
 
 entry_known : (n id : ℕ) (ms : List Module) (a : ℕ) → AreModules n ms → place_in ms a ≡ Entry id → id ≤ n
 entry_known n id [] a h e = absurd cc
@@ -223,10 +205,7 @@ entry_known n id (x ∷ ms) a h e = entry_by n id x.id _ (holds x.text a) (holds
 
 enter_by_fine : (p : Place) (o : Option ℕ) (left : ℕ) (s : State) → Fine s → ((id : ℕ) → p ≡ Entry id → id < 65536) → Fine (enter_at p o left s).state
 enter_by_fine (Entry id) None left s f g = record { core_ok = f.core_ok; frames_ok = f.frames_ok; active_small = g id refl; table_ok = f.table_ok; given_small = f.given_small }
-enter_by_fine (Entry id) (Some x) left s f g = f
-enter_by_fine Open o left s f g = f
-enter_by_fine (Text id) o left s f g = f
-enter_by_fine (Data id) o left s f g = f
+enter_by_fine _ _ left s f g = f
 
 pub enter_fine : (left : ℕ) (s : State) → Fine s → Fine (enter left s).state
 unfolding enter place_of
@@ -253,11 +232,10 @@ turn_by_fine : (d o : Option ℕ) (p : Phase) (left : ℕ) (s : State) → Fine 
 turn_by_fine d o (Pad n) left s f e = padded_fine (n - 1) s f
 turn_by_fine (Some v) (Some id) (Run r) left s f e = inside_fine v id s f e
 turn_by_fine (Some v) None (Run zero) left s f e = outside_fine v s f
-turn_by_fine (Some v) None (Run (suc r)) left s f e = with_core s (record s { phase = Run r }) f f.core_ok refl refl refl
 turn_by_fine None None (Run (suc r)) left s f e = with_core s (record s { phase = Run r }) f f.core_ok refl refl refl
-turn_by_fine None (Some id) (Run (suc r)) left s f e = with_core s (record s { phase = Run r }) f f.core_ok refl refl refl
 turn_by_fine None None (Run zero) left s f e = asleep_fine (asleep s) left s f
 turn_by_fine None (Some id) (Run zero) left s f e = begin_fine left s f
+turn_by_fine _ _ (Run (suc r)) left s f e = with_core s (record s { phase = Run r }) f f.core_ok refl refl refl
 
 turn_fine : (left : ℕ) (s : State) → Fine s → Fine (turn left s).state
 turn_fine left s f = subst (λ t. Fine t.state) (sym (turn_is left s)) (turn_by_fine (due s) s.active s.phase left s f refl)

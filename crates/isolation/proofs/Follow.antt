@@ -1,6 +1,7 @@
 -- One run alone: a module that is active or held stands where it stands by itself.
 use Rattle.std.proofs.Common.{◌≡◌, ◌≢◌, ℕ, ◌+◌, List, [], ◌∷◌, ◌++◌, refl, sym, ap, ◌∙◌, subst, arith, Bool, true, false, ◌&&◌, ◌==◌, Option, Some, None, is_none}
 use Rattle.std.proofs.lemmas.Bool.Decides.{nat_tests}
+use Rattle.isolation.proofs.Tame.{ticked_active}
 use Rattle.sm_words.specs.Words.{IsCore}
 use Rattle.mod_layout.specs.declared.Module.{Module}
 use Rattle.pc_access.specs.Rights.{is_id}
@@ -8,20 +9,19 @@ use Rattle.pc_access.specs.declared.Stop.{Stop}
 use Rattle.reg_backup.specs.Saved.{closing_after}
 use Rattle.reg_backup.specs.declared.backup.Backup.{Backup}
 use Rattle.reg_backup.specs.declared.backup.Phase.TheVariants.{Run}
-use Rattle.cpu_step.specs.Lone.{Job, Lone, Doing, Waits, Closes, Leaves, Breaks, Does, doing, lone_step_by, lone_step, job_of}
+use Rattle.cpu_step.specs.Lone.{Job, Lone, Doing, Closes, Leaves, Breaks, doing, lone_step_by, lone_step, job_of}
 use Rattle.tracer.specs.declared.Event.{Event}
-use Rattle.written_machine.specs.Cycle.{Step, told, rest_of, due, ticked, settle, turn, arrive_inside, sent_event, counted_by, move, cycle_by}
+use Rattle.written_machine.specs.Cycle.{Step, told, due, ticked, settle, turn, arrive_inside, sent_event, counted_by, move, cycle_by}
 use Rattle.written_machine.specs.Peers.{section}
 use Rattle.written_machine.specs.State.{State}
 use Rattle.isolation.specs.Calls.{works, NoEnd}
-use Rattle.isolation.proofs.Active.{active_some, turn_moves}
+use Rattle.isolation.proofs.Active.{active_some, turn_moves, arrives_at}
 use Rattle.isolation.proofs.Ending.{settled_as, settled_doing}
 use Rattle.isolation.proofs.Fine.{Fine, settled_fine}
 use Rattle.isolation.proofs.Lockstep.{Moves}
 use Rattle.isolation.proofs.Relation.{find_held, backup_of, run_by, run_of, lone_of, IsOpen, Keeps, Stays}
 use Rattle.isolation.proofs.Settled.{close_is, settle_stays, ticked_stays, arrive_inside_stays}
 use Rattle.isolation.proofs.Turns.{held_turn}
-use Rattle.isolation.proofs.Cases.{turn_at, turn_is}
 
 module _ (m : ℕ) (own : Module) (key text : List ℕ) (from : ℕ) where
   abbrev pub job : Job
@@ -62,9 +62,7 @@ module _ (m : ℕ) (own : Module) (key text : List ℕ) (from : ℕ) where
   settled_by : (x : Doing) (s : State) (la : Lone) → Follows s la → doing job la ≡ x → NoEnd m (settled_as m own key text x s).events → Now (settled_as m own key text x s).state la
   settled_by Closes s la f e n = absurd (n.0 refl)
   settled_by Leaves s la f e n = absurd (n.0 refl)
-  settled_by (Waits r) s la f e n = record { follows = f; now = subst IsOpen (sym e) tt }
-  settled_by (Does i) s la f e n = record { follows = f; now = subst IsOpen (sym e) tt }
-  settled_by Breaks s la f e n = record { follows = f; now = subst IsOpen (sym e) tt }
+  settled_by _ s la f e n = record { follows = f; now = subst IsOpen (sym e) tt }
 
   pub settle_follows : (c : Bool) (s : State) (la : Lone) → Follows s la → is_id m s.active ≡ c → NoEnd m (settle s).events → Now (settle s).state la
   settle_follows false s la f e n =
@@ -101,19 +99,12 @@ module _ (m : ℕ) (own : Module) (key text : List ℕ) (from : ℕ) where
       ap (λ j. lone_step_by x j (lone_of (backup_of m s) (section own.ram s.memory))) (active_job s la f act) ∙ ap (lone_step_by x job) (active_lone s la f act) ∙ ap (λ d. lone_step_by d job la) (sym e)
 
   goes : (left : ℕ) (x : Doing) (s : State) (la : Lone) → Now s la → is_id m s.active ≡ true → IsCore s.core → due s ≡ None → doing job la ≡ x → x ≢ Breaks → Follows (turn left s).state (lone_step job la)
-  goes left (Waits r) s la f act ok d e nb =
-      let v = turn_moves m own key text s f.follows.keeps (active_some m s.active act) left (Waits r) ok d (active_doing s la f.follows act ∙ e) tt in
-      moved_follows s la (lone_step job la) (turn left s) f.follows act (subst (λ l. Moves m own s l (turn left s)) (step_same (Waits r) s la f.follows act e) v.0)
-  goes left (Does i) s la f act ok d e nb =
-      let v = turn_moves m own key text s f.follows.keeps (active_some m s.active act) left (Does i) ok d (active_doing s la f.follows act ∙ e) tt in
-      moved_follows s la (lone_step job la) (turn left s) f.follows act (subst (λ l. Moves m own s l (turn left s)) (step_same (Does i) s la f.follows act e) v.0)
   goes left Closes s la f act ok d e nb = absurd (subst IsOpen e f.now)
   goes left Leaves s la f act ok d e nb = absurd (subst IsOpen e f.now)
   goes left Breaks s la f act ok d e nb = absurd (nb refl)
-
-  pub arrives_at : (v left : ℕ) (s : State) → s.active ≡ Some m → s.phase ≡ Run (rest_of s.phase) → due s ≡ Some v → turn left s ≡ arrive_inside v m s
-  arrives_at v left s e p d =
-      turn_is left s ∙ ap (λ x. turn_at x s.active s.phase left s) d ∙ ap (λ x. turn_at (Some v) x s.phase left s) e ∙ ap (λ x. turn_at (Some v) (Some m) x left s) p
+  goes left x s la f act ok d e nb =
+      let v = turn_moves m own key text s f.follows.keeps (active_some m s.active act) left x ok d (active_doing s la f.follows act ∙ e) tt in
+      moved_follows s la (lone_step job la) (turn left s) f.follows act (subst (λ l. Moves m own s l (turn left s)) (step_same x s la f.follows act e) v.0)
 
   turn_active : (left : ℕ) (d : Option ℕ) (s : State) (la : Lone) → Now s la → is_id m s.active ≡ true → IsCore s.core → due s ≡ d → (is_none d ≡ true → doing job la ≢ Breaks) → Follows (turn left s).state (stepped (is_none d) la)
   turn_active left None s la f act ok e nb = goes left (doing job la) s la f act ok e refl (nb refl)
@@ -122,7 +113,7 @@ module _ (m : ℕ) (own : Module) (key text : List ℕ) (from : ℕ) where
       let same : (m == m) ≡ true = grind (arith, nat_tests) in
       let st = arrive_inside_stays m own key text true v m s f.follows.keeps a same in
       let o = f.now in
-      subst (λ u. Follows u.state la) (sym (arrives_at v left s a (f.follows.keeps.proper act).0 e)) (follow_stays s (arrive_inside v m s).state la f.follows st (λ h. o))
+      subst (λ u. Follows u.state la) (sym (arrives_at m v left s a (f.follows.keeps.proper act).0 e)) (follow_stays s (arrive_inside v m s).state la f.follows st (λ h. o))
 
   turn_follows : (left : ℕ) (c : Bool) (s : State) (la : Lone) → Now s la → is_id m s.active ≡ c → IsCore s.core → ((c && is_none (due s)) ≡ true → doing job la ≢ Breaks) → Follows (turn left s).state (stepped (c && is_none (due s)) la)
   turn_follows left true s la f e ok nb = turn_active left (due s) s la f e ok refl nb
@@ -136,15 +127,7 @@ module _ (m : ℕ) (own : Module) (key text : List ℕ) (from : ℕ) where
   no_end_front [] fs n = tt
   no_end_front (Event.Leave id pc ∷ es) fs n = (n.0, no_end_front es fs n.1)
   no_end_front (Event.Close id ∷ es) fs n = (n.0, no_end_front es fs n.1)
-  no_end_front (Event.Resume id ∷ es) fs n = no_end_front es fs n
-  no_end_front (Event.Handler pc ∷ es) fs n = no_end_front es fs n
-  no_end_front (Event.Hide id v ∷ es) fs n = no_end_front es fs n
-  no_end_front (Event.Irq v ∷ es) fs n = no_end_front es fs n
-  no_end_front (Event.Enter id x ∷ es) fs n = no_end_front es fs n
-  no_end_front (Event.Reti ∷ es) fs n = no_end_front es fs n
-  no_end_front (Event.Protect id ∷ es) fs n = no_end_front es fs n
-  no_end_front (Event.Out b ∷ es) fs n = no_end_front es fs n
-  no_end_front (Event.Stop x ∷ es) fs n = no_end_front es fs n
+  no_end_front (_ ∷ es) fs n = no_end_front es fs n
 
   pub counted_follows : (o : Option Stop) (t : Step) (la : Lone) → Follows t.state la → Follows (counted_by o t).state la
   counted_follows (Some stop) t la f = f
@@ -166,17 +149,13 @@ module _ (m : ℕ) (own : Module) (key text : List ℕ) (from : ℕ) where
   counted_events (Some stop) es t n = no_end_front es t.events n
   counted_events None es t n = no_end_front es t.events (no_end_front (es ++ t.events) (sent_event t.state.devices.sent) n)
 
-  pub ticked_same : (s : State) → (ticked s).active ≡ s.active
-  unfolding ticked
-  ticked_same s = refl
-
   move_follows : (s : State) (la : Lone) → Follows s la → Fine s → NoEnd m (move s).events → ((is_id m (settle (ticked s)).state.active && is_none (due (settle (ticked s)).state)) ≡ true → doing job la ≢ Breaks) → Follows (move s).state (stepped (is_id m (settle (ticked s)).state.active && is_none (due (settle (ticked s)).state)) la)
   unfolding move
   move_follows s la f fine n nb =
       let t = ticked s in
       let u = settle t in
       let v = turn u.left u.state in
-      let g = follow_stays s t la f (ticked_stays m own key text s f.keeps) (λ h. f.opened (ap (is_id m) (sym (ticked_same s)) ∙ h)) in
+      let g = follow_stays s t la f (ticked_stays m own key text s f.keeps) (λ h. f.opened (ap (is_id m) (sym (ticked_active s)) ∙ h)) in
       let w = settle_follows (is_id m t.active) t la g refl (counted_events v.state.stop u.events v n) in
       counted_follows v.state.stop (told u.events v) (stepped (is_id m u.state.active && is_none (due u.state)) la)
       (turn_follows u.left (is_id m u.state.active) u.state la w refl (settled_fine s fine).fine.core_ok nb)

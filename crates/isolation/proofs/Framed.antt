@@ -1,16 +1,18 @@
 -- A module is active or in one frame at most, and there are at most eight frames.
 use Rattle.std.proofs.Common.{◌≡◌, ℕ, zero, suc, ◌+◌, ◌-◌, ◌<◌, ◌≤◌, List, [], ◌∷◌, length, refl, sym, ap, ◌∙◌, subst, arith, Bool, true, false, nat_lt, ◌&&◌, ◌==◌, Option, Some, None}
 use Rattle.std.proofs.lemmas.Bool.Decides.{nat_tests}
+use Rattle.std.proofs.lemmas.Bool.{and_parts}
+use Rattle.isolation.proofs.Outside.{times_plain}
 use Rattle.sm_words.specs.Sums.{one_if}
 use Rattle.sm_words.specs.Words.{word_at}
 use Rattle.insn_decode.specs.Code.{insn_of, length_of}
 use Rattle.insn_decode.specs.declared.insn.Insn.{Insn}
-use Rattle.insn_decode.specs.declared.insn.Insn.TheVariants.{Two, One, Jump, Reti, Unit as UnitOp}
+use Rattle.insn_decode.specs.declared.insn.Insn.TheVariants.{Reti}
 use Rattle.schedule_file.specs.declared.Entry.{Entry as Scheduled}
 use Rattle.mod_layout.specs.Table.{place_of}
 use Rattle.mod_layout.specs.declared.Module.{Module}
 use Rattle.mod_layout.specs.declared.Place.{Place}
-use Rattle.mod_layout.specs.declared.Place.TheVariants.{Open, Entry, Text, Data}
+use Rattle.mod_layout.specs.declared.Place.TheVariants.{Entry}
 use Rattle.pc_access.specs.Rights.{is_id, is_held, first_denied, right, right_at, refuse_if}
 use Rattle.pc_access.specs.declared.Denied.{Denied}
 use Rattle.pc_access.specs.declared.Kind.TheVariants.{Fetch}
@@ -35,7 +37,6 @@ use Rattle.isolation.specs.Calls.{times}
 use Rattle.isolation.proofs.Turns.{times_none}
 use Rattle.isolation.proofs.Cases.{turn_at, turn_unless, turn_is}
 use Rattle.sm_words.specs.Status.{is_gie}
-use Rattle.mod_layout.proofs.TableLemmas.{and_right}
 
 abbrev pub is_resume : After → Bool
 is_resume Resume = true
@@ -49,21 +50,9 @@ pub record Framed (s : State) : Type 0 where
 abbrev Kept : State → State → Type 0
 Kept s t = Framed s → Framed t
 
--- the same modules and frames, and what is next is no resumption
-same : (s t : State) → t.active ≡ s.active → t.frames ≡ s.frames → is_resume t.after ≡ false → Kept s t
-same s t a f n h = record {
-  once = λ m. subst (λ x. one_if (is_id m x) + times m t.frames ≤ 1) (sym a) (subst (λ x. one_if (is_id m s.active) + times m x ≤ 1) (sym f) (h.once m));
-  few = subst (λ x. length x ≤ 8) (sym f) h.few;
-  idle = λ e. absurd (let c : true ≡ false = sym e ∙ n in cc);
-}
-
 closing_next : (c : Bool) → is_resume (closing_after c) ≡ false
 closing_next true = refl
 closing_next false = refl
-
--- a stop, or what does not touch these
-stays : (s : State) (stop : Option Stop) → Kept s (record s { stop = stop })
-stays s stop h = record { once = h.once; few = h.few; idle = h.idle }
 
 denied_framed : (d : Denied) (s : State) → Kept s (denied d s).state
 denied_framed d s h = record { once = h.once; few = h.few; idle = h.idle }
@@ -98,9 +87,8 @@ returned_framed None t h = record {
 }
 
 reti_framed : (fs : List Frame) (s : State) → s.active ≡ None → Kept s (reti_by fs s).state
-reti_framed [] s e h = returned_framed (attempt Reti s).state.stop (attempt Reti s) (attempt_framed Reti s h)
-reti_framed (Plain ∷ fs) s e h = returned_framed (attempt Reti s).state.stop (attempt Reti s) (attempt_framed Reti s h)
 reti_framed (Held b ∷ fs) s e h = record { once = h.once; few = h.few; idle = λ x. e }
+reti_framed _ s e h = returned_framed (attempt Reti s).state.stop (attempt Reti s) (attempt_framed Reti s h)
 
 reti_of_framed : (a : Option ℕ) (s : State) → s.active ≡ a → Kept s (reti_of a s).state
 reti_of_framed (Some id) s e h = record { once = h.once; few = h.few; idle = h.idle }
@@ -108,10 +96,7 @@ reti_of_framed None s e h = reti_framed s.frames s e h
 
 act_by_framed : (insn : Insn) (s : State) → Kept s (act_by insn s).state
 act_by_framed Reti s h = reti_of_framed s.active s refl h
-act_by_framed (Two op w a b) s h = attempt_framed (Two op w a b) s h
-act_by_framed (One op w a) s h = attempt_framed (One op w a) s h
-act_by_framed (Jump c o) s h = attempt_framed (Jump c o) s h
-act_by_framed (UnitOp n) s h = attempt_framed (UnitOp n) s h
+act_by_framed insn s h = attempt_framed insn s h
 
 act_on_framed : (o : Option Insn) (s : State) → Kept s (act_on o s).state
 act_on_framed None s h = record { once = h.once; few = h.few; idle = h.idle }
@@ -150,10 +135,7 @@ enter_at_framed (Entry id) None left s e n h =
       few = h.few;
       idle = λ x. absurd (let c : true ≡ false = sym x in cc);
     }
-enter_at_framed (Entry id) (Some x) left s e n h = h
-enter_at_framed Open a left s e n h = h
-enter_at_framed (Text id) a left s e n h = h
-enter_at_framed (Data id) a left s e n h = h
+enter_at_framed _ _ left s e n h = h
 
 pub right_fetch : (s : State) → right s.table s.active (held_ids s.frames) (fetch s) ≡ None → right_at (place_of s.table (pc_of s)) s.active (held_ids s.frames) Fetch (pc_of s) ≡ None
 unfolding right
@@ -184,11 +166,7 @@ pub due_room : (v : ℕ) (s : State) → due s ≡ Some v → length s.frames < 
 unfolding due
 due_room v s e =
     let k = room_if (is_gie s.core && nat_lt (length s.frames) 8) _ v e in
-    let b = and_right (is_gie s.core) (nat_lt (length s.frames) 8) k in grind (arith, nat_tests)
-
-plain_times : (m : ℕ) (fs : List Frame) → times m (plain_if fs) ≡ times m fs
-plain_times m [] = refl
-plain_times m (f ∷ fs) = refl
+    let b = (and_parts (is_gie s.core) (nat_lt (length s.frames) 8) k).1 in grind (arith, nat_tests)
 
 pub plain_few : (fs : List Frame) → length fs < 8 → length (plain_if fs) ≤ 8
 plain_few [] h = omega arith
@@ -197,7 +175,7 @@ plain_few (f ∷ fs) h = omega arith
 push_framed : (d : Option Denied) (v : ℕ) (s : State) → length s.frames < 8 → Kept s (push_both d v s).state
 push_framed (Some d) v s r h = denied_framed d s h
 push_framed None v s r h = record {
-  once = λ m. let x = h.once m in let e = plain_times m s.frames in omega arith;
+  once = λ m. let x = h.once m in let e = times_plain m s.frames in omega arith;
   few = plain_few s.frames r;
   idle = h.idle;
 }
@@ -225,34 +203,30 @@ by_framed : (d o : Option ℕ) (p : Phase) (left : ℕ) (s : State) → due s �
 by_framed d o (Pad n) left s e a h = padded_framed (n - 1) s h
 by_framed (Some v) (Some id) (Run r) left s e a h = inside_framed v id s a (due_room v s e) h
 by_framed (Some v) None (Run zero) left s e a h = outside_framed v s (due_room v s e) h
-by_framed (Some v) None (Run (suc r)) left s e a h = wait_framed r s h
 by_framed None None (Run (suc r)) left s e a h = wait_framed r s h
-by_framed None (Some id) (Run (suc r)) left s e a h = wait_framed r s h
 by_framed None None (Run zero) left s e a h = asleep_framed (asleep s) left s h
 by_framed None (Some id) (Run zero) left s e a h = begin_framed left s h
+by_framed _ _ (Run (suc r)) left s e a h = wait_framed r s h
 
 turn_framed : (left : ℕ) (s : State) → Kept s (turn left s).state
 turn_framed left s = subst (λ t. Kept s t.state) (sym (turn_is left s)) (by_framed (due s) s.active s.phase left s refl refl)
 
 -- ---- settling
 resume_framed : (fs : List Frame) (s : State) → s.frames ≡ fs → s.active ≡ None → Kept s (resume_from fs s).state
-resume_framed [] s e a h = h
-resume_framed (Plain ∷ fs) s e a h = h
 resume_framed (Held b ∷ fs) s e a h = record {
   once = λ m. let x = subst (λ y. one_if (is_id m s.active) + times m y ≤ 1) e (h.once m) in omega arith;
   few = let x = subst (λ y. length y ≤ 8) e h.few in omega arith;
   idle = λ x. absurd (let c : true ≡ false = sym x ∙ closing_next b.closing in cc);
 }
+resume_framed _ s e a h = h
 
 close_framed : (a : Option ℕ) (o : Option Module) (s : State) → Kept s (close_of a o s).state
-close_framed None o s h = h
-close_framed (Some id) None s h = h
 close_framed (Some id) (Some x) s h = record { once = λ m. let y = h.once m in omega arith; few = h.few; idle = λ x. refl }
+close_framed _ _ s h = h
 
 leave_framed : (b : Bool) (a : Option ℕ) (s : State) → Kept s (leave_if b a s).state
 leave_framed false (Some id) s h = record { once = λ m. let y = h.once m in omega arith; few = h.few; idle = λ x. refl }
-leave_framed false None s h = h
-leave_framed true a s h = h
+leave_framed _ _ s h = h
 
 settle_by_framed : (a : After) (s : State) → s.after ≡ a → Kept s (settle_by a s).state
 settle_by_framed Resume s e h = resume_framed s.frames s refl (h.idle (ap is_resume e)) h
@@ -262,8 +236,7 @@ settle_by_framed Next s e h = leave_framed (in_text (own_of s.active s.table) (p
 
 settle_in_framed : (p : Phase) (s : State) → Kept s (settle_in p s).state
 settle_in_framed (Run zero) s h = settle_by_framed s.after s refl h
-settle_in_framed (Run (suc r)) s h = h
-settle_in_framed (Pad n) s h = h
+settle_in_framed _ s h = h
 
 settle_framed : (s : State) → Kept s (settle s).state
 unfolding settle

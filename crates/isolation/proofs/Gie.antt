@@ -5,11 +5,11 @@ use Rattle.sm_words.specs.Words.{reg, put, bit, kept}
 use Rattle.sm_words.specs.declared.width.Width.{Width}
 use Rattle.insn_decode.specs.declared.insn.Insn.{Insn}
 use Rattle.insn_decode.specs.declared.insn.Insn.TheVariants.{Two, One, Jump, Reti, Unit as UnitOp}
-use Rattle.insn_decode.specs.declared.insn.OneOp.TheVariants.{Rrc, Swpb, Rra, Sxt, Push, Call}
+use Rattle.insn_decode.specs.declared.insn.OneOp.TheVariants.{Push, Call}
 use Rattle.insn_decode.specs.declared.insn.Operand.{Operand}
-use Rattle.insn_decode.specs.declared.insn.Operand.TheVariants.{Reg, Const, Imm, Indexed, Symbolic, Absolute, Indirect, Increment}
+use Rattle.insn_decode.specs.declared.insn.Operand.TheVariants.{Reg, Increment}
 use Rattle.mod_layout.specs.declared.Module.{Module}
-use Rattle.attest.specs.Units.{Doer, UnitName, Unprotect, Protect, Attest, Tag, IdOf, OwnId, CallerId, unit_named, unit_effect, Effect, answer, attest_answer, tag_answer, attested, unprotected}
+use Rattle.attest.specs.Units.{Doer, UnitName, Unprotect, Protect, Attest, Tag, OwnId, CallerId, unit_named, unit_effect, Effect, answer, attest_answer, tag_answer, attested, unprotected}
 use Rattle.cpu_step.specs.Asked.{effect}
 use Rattle.cpu_step.specs.Effect.{into_register, written, does_freely, confined, confined_sr, does, set_flags, jumps, jumped}
 use Rattle.cpu_step.specs.Lone.{unit_alone, is_alone}
@@ -26,17 +26,7 @@ put_other core n v ne = get_or-set_other core n 2 (kept n v) 0 ne
 module _ (P : List ℕ → Type 0) (keeps : (core : List ℕ) (n v : ℕ) → P core → P (put core n v)) where
   stepped_keeps : (w : Width) (o : Operand) (core : List ℕ) → P core → P (stepped w o core)
   stepped_keeps w (Increment r) core h = keeps core r _ h
-  stepped_keeps w (Reg r) core h = h
-  stepped_keeps w (Const c) core h = h
-  stepped_keeps w (Imm x) core h = h
-  stepped_keeps w (Indexed r x) core h = h
-  stepped_keeps w (Symbolic x) core h = h
-  stepped_keeps w (Absolute x) core h = h
-  stepped_keeps w (Indirect r) core h = h
-
-  cond_keeps : (b : Bool) (x y : List ℕ) → P x → P y → P (cond b x y)
-  cond_keeps true x y p q = p
-  cond_keeps false x y p q = q
+  stepped_keeps w _ core h = h
 
   into_keeps : (b : Bool) (r : ℕ) (res : Computed) (core : List ℕ) → P core → P (into_register b r res core)
   into_keeps true r res core h = keeps core 2 _ h
@@ -45,14 +35,7 @@ module _ (P : List ℕ → Type 0) (keeps : (core : List ℕ) (n v : ℕ) → P 
   written_keeps : (b : Bool) (o : Operand) (res : Computed) (core : List ℕ) → P core → P (written b o res core).core
   written_keeps true (Reg r) res core h =
       into_keeps (r == 2) r res core h
-  written_keeps true (Const c) res core h = keeps core 2 _ h
-  written_keeps true (Imm x) res core h = keeps core 2 _ h
-  written_keeps true (Indexed r x) res core h = keeps core 2 _ h
-  written_keeps true (Symbolic x) res core h = keeps core 2 _ h
-  written_keeps true (Absolute x) res core h = keeps core 2 _ h
-  written_keeps true (Indirect r) res core h = keeps core 2 _ h
-  written_keeps true (Increment r) res core h = keeps core 2 _ h
-  written_keeps false o res core h = keeps core 2 _ h
+  written_keeps _ _ res core h = keeps core 2 _ h
 
   pub past_keeps : (insn : Insn) (core : List ℕ) → P core → P (past insn core)
   past_keeps insn core h = keeps core 0 _ h
@@ -65,15 +48,12 @@ module _ (P : List ℕ → Type 0) (keeps : (core : List ℕ) (n v : ℕ) → P 
   unfolding does_freely
   freely_keeps (Two op w s d) core values h =
       written_keeps (writes_dst op) d _ (stepped w s (past (Two op w s d) core)) (stepped_keeps w s (past (Two op w s d) core) (past_keeps (Two op w s d) core h))
-  freely_keeps (One Rrc w a) core values h = written_keeps true a _ (stepped w a (past (One Rrc w a) core)) (stepped_keeps w a (past (One Rrc w a) core) (past_keeps (One Rrc w a) core h))
-  freely_keeps (One Swpb w a) core values h = written_keeps true a _ (stepped w a (past (One Swpb w a) core)) (stepped_keeps w a (past (One Swpb w a) core) (past_keeps (One Swpb w a) core h))
-  freely_keeps (One Rra w a) core values h = written_keeps true a _ (stepped w a (past (One Rra w a) core)) (stepped_keeps w a (past (One Rra w a) core) (past_keeps (One Rra w a) core h))
-  freely_keeps (One Sxt w a) core values h = written_keeps true a _ (stepped w a (past (One Sxt w a) core)) (stepped_keeps w a (past (One Sxt w a) core) (past_keeps (One Sxt w a) core h))
   freely_keeps (One Push w a) core values h = keeps (stepped w a (past (One Push w a) core)) 1 _ (stepped_keeps w a (past (One Push w a) core) (past_keeps (One Push w a) core h))
   freely_keeps (One Call w a) core values h = keeps (lowered (stepped w a (past (One Call w a) core))) 0 _ (keeps (stepped w a (past (One Call w a) core)) 1 _ (stepped_keeps w a (past (One Call w a) core) (past_keeps (One Call w a) core h)))
   freely_keeps (Jump c o) core values h = jumped_keeps (jumps c (reg core 2)) o (past (Jump c o) core) (past_keeps (Jump c o) core h)
   freely_keeps Reti core values h = keeps _ 1 _ (keeps _ 0 _ (keeps core 2 _ h))
   freely_keeps (UnitOp n) core values h = past_keeps (UnitOp n) core h
+  freely_keeps (One op w a) core values h = written_keeps true a _ (stepped w a (past (One op w a) core)) (stepped_keeps w a (past (One op w a) core) (past_keeps (One op w a) core h))
 
   confined_keeps : (b : Bool) (old new : List ℕ) → P new → P (confined b old new)
   unfolding confined
@@ -100,9 +80,8 @@ module _ (P : List ℕ → Type 0) (keeps : (core : List ℕ) (n v : ℕ) → P 
   either_keeps false core v x y h = answer_keeps core 0 y h
 
   attest_keeps : (key : List ℕ) (own o : Option Module) (core values : List ℕ) → P core → P (attest_answer key own o core values).core
-  attest_keeps key None o core values h = answer_keeps core 0 6 h
-  attest_keeps key (Some own) None core values h = answer_keeps core 0 6 h
   attest_keeps key (Some own) (Some other) core values h = either_keeps _ core _ _ 6 h
+  attest_keeps key _ _ core values h = answer_keeps core 0 6 h
 
   tag_keeps : (key : List ℕ) (own : Option Module) (core values : List ℕ) → P core → P (tag_answer key own core values).core
   tag_keeps key None core values h = answer_keeps core 0 6 h
@@ -114,17 +93,12 @@ module _ (P : List ℕ → Type 0) (keeps : (core : List ℕ) (n v : ℕ) → P 
   unit_keeps Protect w core values h = stored_keeps _ core _ _ 6 _ h
   unit_keeps Attest w core values h = attest_keeps w.key w.own (attested w core) core values h
   unit_keeps Tag w core values h = tag_keeps w.key w.own core values h
-  unit_keeps IdOf w core values h = answer_keeps core _ 6 h
-  unit_keeps OwnId w core values h = answer_keeps core _ 6 h
-  unit_keeps CallerId w core values h = answer_keeps core _ 6 h
+  unit_keeps _ w core values h = answer_keeps core _ 6 h
 
   pub effect_keeps : (insn : Insn) (w : Doer) (core values : List ℕ) → P core → P (effect w insn core values).core
   unfolding effect
   effect_keeps (UnitOp n) w core values h = unit_keeps (unit_named n) w core values h
-  effect_keeps (Two op x a b) w core values h = does_keeps (Two op x a b) core values (is_some w.own) h
-  effect_keeps (One op x a) w core values h = does_keeps (One op x a) core values (is_some w.own) h
-  effect_keeps (Jump c o) w core values h = does_keeps (Jump c o) core values (is_some w.own) h
-  effect_keeps Reti w core values h = does_keeps Reti core values (is_some w.own) h
+  effect_keeps insn w core values h = does_keeps insn core values (is_some w.own) h
 
 core_length : (insn : Insn) (core values : List ℕ) (n : ℕ) → length core ≡ n → length (does_freely insn core values).core ≡ n
 core_length insn core values n e = freely_keeps (λ c. length c ≡ n) (λ c k v h. put_length c k v ∙ h) insn core values e
@@ -160,12 +134,10 @@ tag_by_gie key (Some own) core values = tag_gie _ core _ 6 _
 unit_gie : (x : UnitName) (w : Doer) (core values : List ℕ) → unit_alone x ≡ true → reg (unit_effect w x core values).core 2 ≡ reg core 2
 unfolding unit_effect
 unit_gie Unprotect w core values e = unprotected_gie w.own core
-unit_gie Protect w core values e = cc
-unit_gie Attest w core values e = cc
 unit_gie Tag w core values e = tag_by_gie w.key w.own core values
-unit_gie IdOf w core values e = cc
 unit_gie OwnId w core values e = answer_gie core _ 6
 unit_gie CallerId w core values e = answer_gie core _ 6
+unit_gie _ w core values e = cc
 
 inside_gie : (insn : Insn) (core values : List ℕ) (b : Bool) → b ≡ true → length core ≡ 16 → bit 8 (reg (does insn core values b).core 2) ≡ bit 8 (reg core 2)
 inside_gie insn core values b e len = ap (λ c. bit 8 (reg (does insn core values c).core 2)) e ∙ does_gie insn core values len
@@ -174,7 +146,5 @@ inside_gie insn core values b e len = ap (λ c. bit 8 (reg (does insn core value
 pub effect_gie : (insn : Insn) (w : Doer) (core values : List ℕ) → is_alone insn ≡ true → is_some w.own ≡ true → length core ≡ 16 → bit 8 (reg (effect w insn core values).core 2) ≡ bit 8 (reg core 2)
 unfolding effect
 effect_gie (UnitOp n) w core values e s len = ap (bit 8) (unit_gie (unit_named n) w core values e)
-effect_gie (Two op x a b) w core values e s len = inside_gie (Two op x a b) core values (is_some w.own) s len
-effect_gie (One op x a) w core values e s len = inside_gie (One op x a) core values (is_some w.own) s len
-effect_gie (Jump c o) w core values e s len = inside_gie (Jump c o) core values (is_some w.own) s len
 effect_gie Reti w core values e s len = cc
+effect_gie insn w core values e s len = inside_gie insn core values (is_some w.own) s len

@@ -1,10 +1,11 @@
 -- A state with one module's secrets taken out, and what the outside does to it.
 use Rattle.std.proofs.Common.{◌≡◌, ◌≢◌, ℕ, suc, ◌+◌, ◌-◌, ◌*◌, ◌%◌, ◌≤◌, List, [], ◌∷◌, length, get_or, refl, sym, ap, ◌∙◌, subst, arith, Bool, true, false, nat_lt, cond, not, ◌&&◌, ◌||◌, ◌==◌, Option, Some, None}
+use Rattle.std.proofs.lemmas.Bool.{and_parts}
 use Rattle.sm_words.specs.Words.{cleared, reg, put, bit, add16, word_at}
 use Rattle.sm_words.specs.declared.width.Width.TheVariants.{Word}
 use Rattle.insn_decode.specs.Code.{insn_of, length_of}
 use Rattle.insn_decode.specs.declared.insn.Insn.{Insn}
-use Rattle.insn_decode.specs.declared.insn.Insn.TheVariants.{Two, One, Jump, Reti, Unit as UnitOp}
+use Rattle.insn_decode.specs.declared.insn.Insn.TheVariants.{Reti}
 use Rattle.mod_layout.specs.Table.{Table, place_of, size_of}
 use Rattle.mod_layout.specs.declared.Module.{Module}
 use Rattle.mod_layout.specs.declared.Place.TheVariants.{Data}
@@ -30,7 +31,6 @@ use Rattle.isolation.proofs.Bytes.{Out, get_cleared}
 use Rattle.isolation.proofs.Each.{Each}
 use Rattle.isolation.proofs.Ports.{OutBy, OutAccess, veil_port, take_reads_veiled, put_writes_veiled}
 use Rattle.isolation.proofs.Rights.{Sound, reads_out, writes_out, out_place_next}
-use Rattle.mod_layout.proofs.TableLemmas.{and_left, and_right}
 
 -- of a hidden core GIE alone is seen
 abbrev pub veil_core : List ℕ → List ℕ
@@ -176,9 +176,8 @@ module _ (m : ℕ) (own : Module) (t : Table) (sound : Sound m own t) where
         ap (λ u. returned_by u.state.stop u) (attempt_veiled Reti) ∙ returned_veiled (attempt Reti s).state.stop (attempt Reti s)
 
     reti_veiled : (fs : List Frame) → reti_by (veil_frames m fs) (veil m own s) ≡ veil_step m own (reti_by fs s)
-    reti_veiled [] = attempt_reti
-    reti_veiled (Plain ∷ fs) = attempt_reti
     reti_veiled (Held b ∷ fs) = refl
+    reti_veiled _ = attempt_reti
 
     reti_of_veiled : (o : Option ℕ) → reti_of o (veil m own s) ≡ veil_step m own (reti_of o s)
     reti_of_veiled (Some id) = refl
@@ -186,10 +185,7 @@ module _ (m : ℕ) (own : Module) (t : Table) (sound : Sound m own t) where
 
     act_by_veiled : (insn : Insn) → act_by insn (veil m own s) ≡ veil_step m own (act_by insn s)
     act_by_veiled Reti = reti_of_veiled s.active
-    act_by_veiled (Two op w a b) = attempt_veiled (Two op w a b)
-    act_by_veiled (One op w a) = attempt_veiled (One op w a)
-    act_by_veiled (Jump c o) = attempt_veiled (Jump c o)
-    act_by_veiled (UnitOp n) = attempt_veiled (UnitOp n)
+    act_by_veiled insn = attempt_veiled insn
 
     act_on_veiled : (o : Option Insn) → act_on o (veil m own s) ≡ veil_step m own (act_on o s)
     act_on_veiled None = refl
@@ -211,8 +207,8 @@ module _ (m : ℕ) (own : Module) (t : Table) (sound : Sound m own t) where
 
     insn_veiled : (n : ℕ) → pc_of s % 2 ≡ 0 → OutBy Word own.ram.start (size_of own.ram) (pc_of s) → is_home s.table s.active (pc_of s) n ≡ true → insn_at (byte_of (veil m own s)) (pc_of s) n ≡ insn_at (byte_of s) (pc_of s) n
     insn_veiled n even out h =
-        let h1 : home_word s.table s.active (pc_of s) n 1 ≡ true = and_left _ (home_word s.table s.active (pc_of s) n 2) h in
-        let h2 : home_word s.table s.active (pc_of s) n 2 ≡ true = and_right (home_word s.table s.active (pc_of s) n 1) _ h in
+        let h1 : home_word s.table s.active (pc_of s) n 1 ≡ true = (and_parts _ (home_word s.table s.active (pc_of s) n 2) h).0 in
+        let h2 : home_word s.table s.active (pc_of s) n 2 ≡ true = (and_parts (home_word s.table s.active (pc_of s) n 1) _ h).1 in
         let b' = byte_of (veil m own s) in
         let b = byte_of s in
         let pc = pc_of s in

@@ -1,13 +1,13 @@
 -- What the module does while it is active is what it does by itself.
 use Rattle.std.proofs.Common.{◌≡◌, ◌≢◌, ℕ, ◌+◌, ◌-◌, ◌*◌, ◌/◌, ◌%◌, List, [], ◌∷◌, get_or, set, map, refl, sym, ap, ◌∙◌, subst, arith, Bool, true, false, nat_lt, cond, not, ◌&&◌, ◌||◌, ◌==◌, Option, Some, None, ⊎_elim}
-use Rattle.std.proofs.lemmas.Bool.{cases_lt}
+use Rattle.std.proofs.lemmas.Bool.{cases_lt, not-true, and_parts, or_right}
 use Rattle.std.proofs.lemmas.Bool.Decides.{nat_tests}
 use Rattle.sm_words.specs.Words.{cleared, reg, word_at}
 use Rattle.sm_words.specs.declared.width.Width.{Width}
 use Rattle.sm_words.specs.declared.width.Width.TheVariants.{Byte, Word}
 use Rattle.insn_decode.specs.Code.{insn_of, length_of}
 use Rattle.insn_decode.specs.declared.insn.Insn.{Insn}
-use Rattle.insn_decode.specs.declared.insn.Insn.TheVariants.{Two, One, Jump, Reti, Unit as UnitOp}
+use Rattle.insn_decode.specs.declared.insn.Insn.TheVariants.{Reti, Unit as UnitOp}
 use Rattle.mod_layout.specs.Table.{Table, place_of, module_of, size_of, holds}
 use Rattle.mod_layout.specs.declared.Module.{Module}
 use Rattle.mod_layout.specs.declared.Section.{Section}
@@ -33,7 +33,6 @@ use Rattle.written_machine.specs.State.{State}
 use Rattle.isolation.proofs.Bytes.{Out, get_part, part_set_in, part_set_out, cleared_set}
 use Rattle.isolation.proofs.Each.{Each}
 use Rattle.isolation.proofs.Rights.{Sound, holds_true, holds_in}
-use Rattle.mod_layout.proofs.TableLemmas.{and_left, and_right, not_true}
 
 -- each byte of an access is there
 abbrev pub InBy : Width → (ℕ → Bool) → ℕ → Type 0
@@ -49,56 +48,38 @@ aligned_even a e = let k : a % 2 ≢ 1 = grind (arith, nat_tests) in omega arith
 -- ---- instructions that a module may do by itself do not look at the table
 unit_plan_alone : (x : UnitName) (w w' : Doer) (core : List ℕ) → unit_alone x ≡ true → w.own ≡ w'.own → unit_plan w x core ≡ unit_plan w' x core
 unfolding unit_plan
-unit_plan_alone Unprotect w w' core e o = refl
 unit_plan_alone Protect w w' core e o = cc
 unit_plan_alone Attest w w' core e o = cc
 unit_plan_alone Tag w w' core e o = rw o refl
 unit_plan_alone IdOf w w' core e o = cc
-unit_plan_alone OwnId w w' core e o = refl
-unit_plan_alone CallerId w w' core e o = refl
+unit_plan_alone _ w w' core e o = refl
 
 asks_alone : (insn : Insn) (w w' : Doer) (core : List ℕ) → is_alone insn ≡ true → w.own ≡ w'.own → asks w insn core ≡ asks w' insn core
 unfolding asks
 asks_alone (UnitOp n) w w' core e o = unit_plan_alone (unit_named n) w w' core e o
-asks_alone (Two op x a b) w w' core e o = refl
-asks_alone (One op x a) w w' core e o = refl
-asks_alone (Jump c f) w w' core e o = refl
-asks_alone Reti w w' core e o = refl
+asks_alone _ w w' core e o = refl
 
 unit_effect_alone : (x : UnitName) (w w' : Doer) (core values : List ℕ) → unit_alone x ≡ true → w.own ≡ w'.own → w.caller ≡ w'.caller → w.key ≡ w'.key → unit_effect w x core values ≡ unit_effect w' x core values
 unfolding unit_effect
 unit_effect_alone Unprotect w w' core values e o c k = rw o refl
-unit_effect_alone Protect w w' core values e o c k = cc
-unit_effect_alone Attest w w' core values e o c k = cc
 unit_effect_alone Tag w w' core values e o c k = rw (o, k) refl
-unit_effect_alone IdOf w w' core values e o c k = cc
 unit_effect_alone OwnId w w' core values e o c k = rw o refl
 unit_effect_alone CallerId w w' core values e o c k = rw (o, c) refl
+unit_effect_alone _ w w' core values e o c k = cc
 
 effect_alone : (insn : Insn) (w w' : Doer) (core values : List ℕ) → is_alone insn ≡ true → w.own ≡ w'.own → w.caller ≡ w'.caller → w.key ≡ w'.key → effect w insn core values ≡ effect w' insn core values
 unfolding effect
 effect_alone (UnitOp n) w w' core values e o c k = unit_effect_alone (unit_named n) w w' core values e o c k
-effect_alone (Two op x a b) w w' core values e o c k = rw o refl
-effect_alone (One op x a) w w' core values e o c k = rw o refl
-effect_alone (Jump a f) w w' core values e o c k = rw o refl
-effect_alone Reti w w' core values e o c k = rw o refl
+effect_alone _ w w' core values e o c k = rw o refl
 
 table_by_alone : (x : UnitName) (t : Table) (core : List ℕ) → unit_alone x ≡ true → table_by x t core ≡ t
 table_by_alone Protect t core e = cc
-table_by_alone Unprotect t core e = refl
-table_by_alone Attest t core e = refl
-table_by_alone Tag t core e = refl
-table_by_alone IdOf t core e = refl
-table_by_alone OwnId t core e = refl
-table_by_alone CallerId t core e = refl
+table_by_alone _ t core e = refl
 
 pub table_alone : (insn : Insn) (t : Table) (core : List ℕ) → is_alone insn ≡ true → table_after t insn core ≡ t
 unfolding table_after
 table_alone (UnitOp n) t core e = table_by_alone (unit_named n) t core e
-table_alone (Two op x a b) t core e = refl
-table_alone (One op x a) t core e = refl
-table_alone (Jump a f) t core e = refl
-table_alone Reti t core e = refl
+table_alone _ t core e = refl
 
 module _ (m : ℕ) (own : Module) (t : Table) (sound : Sound m own t) (j : Job) (owner : j.owner ≡ own) where
   abbrev pub in_sections : ℕ → Bool
@@ -191,8 +172,6 @@ module _ (m : ℕ) (own : Module) (t : Table) (sound : Sound m own t) (j : Job) 
       }
 
   pub writes_same : (xs : List Access) (p : Port) (vs : List ℕ) → Each (λ x. InBy x.width (λ a. holds own.ram a) x.addr) xs → Writes p (put_writes p xs vs) (lone_writes own (section own.ram p.memory) xs vs)
-  writes_same [] p vs h = record { devices = refl; bytes = refl; rest = refl; text = refl }
-  writes_same (x ∷ xs) p [] h = record { devices = refl; bytes = refl; rest = refl; text = refl }
   writes_same (x ∷ xs) p (v ∷ vs) h =
       let w = write_same x.width p x.addr v h.0 in
       let p1 = write_width x.width p x.addr v in
@@ -203,6 +182,7 @@ module _ (m : ℕ) (own : Module) (t : Table) (sound : Sound m own t) (j : Job) 
         rest = r.rest ∙ w.rest;
         text = r.text ∙ w.text;
       }
+  writes_same _ p _ h = record { devices = refl; bytes = refl; rest = refl; text = refl }
 
   -- ---- accesses that stay inside are allowed
   sections_next : (a : ℕ) → a % 2 ≡ 0 → in_sections a ≡ true → in_sections (a + 1) ≡ true
@@ -216,10 +196,6 @@ module _ (m : ℕ) (own : Module) (t : Table) (sound : Sound m own t) (j : Job) 
       or_cases true b e f g = f refl
       or_cases false b e f g = g e
 
-      or_right : (a b : Bool) → b ≡ true → (a || b) ≡ true
-      or_right true b e = refl
-      or_right false b e = e
-
   in_width : (w : Width) (P : ℕ → Bool) (a : ℕ) → misaligned w a ≡ false → ((x : ℕ) → x % 2 ≡ 0 → P x ≡ true → P (x + 1) ≡ true) → P a ≡ true → InBy w P a
   in_width Byte P a e next h = h
   in_width Word P a e next h = (h, next a (aligned_even a e) h)
@@ -230,16 +206,14 @@ module _ (m : ℕ) (own : Module) (t : Table) (sound : Sound m own t) (j : Job) 
   inside_read : (k : Kind) (w : Width) (a : ℕ) → is_read k ≡ true → is_inside j (record { kind = k; addr = a; width = w }) ≡ true → InBy w in_sections a
   inside_read Read w a f h =
       let h' = subst (λ (o : Module). (not (misaligned w a) && (holds o.text a || holds o.ram a)) ≡ true) owner h in
-      in_width w in_sections a (not_true (misaligned w a) (and_left (not (misaligned w a)) (in_sections a) h')) sections_next (and_right (not (misaligned w a)) (in_sections a) h')
-  inside_read Write w a f h = cc
-  inside_read Fetch w a f h = cc
+      in_width w in_sections a (not-true (misaligned w a) (and_parts (not (misaligned w a)) (in_sections a) h').0) sections_next (and_parts (not (misaligned w a)) (in_sections a) h').1
+  inside_read _ w a f h = cc
 
   inside_write : (k : Kind) (w : Width) (a : ℕ) → is_write k ≡ true → is_inside j (record { kind = k; addr = a; width = w }) ≡ true → InBy w (λ x. holds own.ram x) a
   inside_write Write w a f h =
       let h' = subst (λ (o : Module). (not (misaligned w a) && holds o.ram a) ≡ true) owner h in
-      in_width w (λ x. holds own.ram x) a (not_true (misaligned w a) (and_left (not (misaligned w a)) (holds own.ram a) h')) (λ x even g. holds_next own.ram x sound.ram_end even g) (and_right (not (misaligned w a)) (holds own.ram a) h')
-  inside_write Read w a f h = cc
-  inside_write Fetch w a f h = cc
+      in_width w (λ x. holds own.ram x) a (not-true (misaligned w a) (and_parts (not (misaligned w a)) (holds own.ram a) h').0) (λ x even g. holds_next own.ram x sound.ram_end even g) (and_parts (not (misaligned w a)) (holds own.ram a) h').1
+  inside_write _ w a f h = cc
 
   if_reads : (b : Bool) (x : Access) (ys : List Access) → (b ≡ true → InBy x.width in_sections x.addr) → Each (λ x. InBy x.width in_sections x.addr) ys → Each (λ x. InBy x.width in_sections x.addr) (cond b (x ∷ ys) ys)
   if_reads true x ys f h = (f refl, h)
@@ -252,12 +226,12 @@ module _ (m : ℕ) (own : Module) (t : Table) (sound : Sound m own t) (j : Job) 
   all_reads : (xs : List Access) → all_inside j xs ≡ true → Each (λ x. InBy x.width in_sections x.addr) (reads_of xs)
   all_reads [] h = tt
   all_reads (x ∷ xs) h =
-      if_reads (is_read x.kind) x (reads_of xs) (λ f. inside_read x.kind x.width x.addr f (and_left (is_inside j x) (all_inside j xs) h)) (all_reads xs (and_right (is_inside j x) (all_inside j xs) h))
+      if_reads (is_read x.kind) x (reads_of xs) (λ f. inside_read x.kind x.width x.addr f (and_parts (is_inside j x) (all_inside j xs) h).0) (all_reads xs (and_parts (is_inside j x) (all_inside j xs) h).1)
 
   all_writes : (xs : List Access) → all_inside j xs ≡ true → Each (λ x. InBy x.width (λ a. holds own.ram a) x.addr) (writes_of xs)
   all_writes [] h = tt
   all_writes (x ∷ xs) h =
-      if_writes (is_write x.kind) x (writes_of xs) (λ f. inside_write x.kind x.width x.addr f (and_left (is_inside j x) (all_inside j xs) h)) (all_writes xs (and_right (is_inside j x) (all_inside j xs) h))
+      if_writes (is_write x.kind) x (writes_of xs) (λ f. inside_write x.kind x.width x.addr f (and_parts (is_inside j x) (all_inside j xs) h).0) (all_writes xs (and_parts (is_inside j x) (all_inside j xs) h).1)
 
   module _ (held : List ℕ) where
     -- the module may read its sections and write its data
@@ -278,18 +252,18 @@ module _ (m : ℕ) (own : Module) (t : Table) (sound : Sound m own t) (j : Job) 
     unfolding right
     allowed_by Read w a h =
         let h' = subst (λ (o : Module). (not (misaligned w a) && (holds o.text a || holds o.ram a)) ≡ true) owner h in
-        let e = not_true (misaligned w a) (and_left (not (misaligned w a)) (in_sections a) h') in
-        ap (λ b. aligned_first b a (right_at (place_of t a) (Some m) held Read a)) e ∙ may_read a (and_right (not (misaligned w a)) (in_sections a) h')
+        let e = not-true (misaligned w a) (and_parts (not (misaligned w a)) (in_sections a) h').0 in
+        ap (λ b. aligned_first b a (right_at (place_of t a) (Some m) held Read a)) e ∙ may_read a (and_parts (not (misaligned w a)) (in_sections a) h').1
     allowed_by Write w a h =
         let h' = subst (λ (o : Module). (not (misaligned w a) && holds o.ram a) ≡ true) owner h in
-        let e = not_true (misaligned w a) (and_left (not (misaligned w a)) (holds own.ram a) h') in
-        ap (λ b. aligned_first b a (right_at (place_of t a) (Some m) held Write a)) e ∙ may_write a (and_right (not (misaligned w a)) (holds own.ram a) h')
-    allowed_by Fetch w a h = absurd (let k = and_right (not (misaligned w a)) false h in cc)
+        let e = not-true (misaligned w a) (and_parts (not (misaligned w a)) (holds own.ram a) h').0 in
+        ap (λ b. aligned_first b a (right_at (place_of t a) (Some m) held Write a)) e ∙ may_write a (and_parts (not (misaligned w a)) (holds own.ram a) h').1
+    allowed_by Fetch w a h = absurd (let k = (and_parts (not (misaligned w a)) false h).1 in cc)
 
     all_allowed : (xs : List Access) → all_inside j xs ≡ true → first_denied t (Some m) held xs ≡ None
     all_allowed [] h = refl
     all_allowed (x ∷ xs) h =
-        ap (λ d. or_else d (first_denied t (Some m) held xs)) (allowed_by x.kind x.width x.addr (and_left (is_inside j x) (all_inside j xs) h)) ∙ all_allowed xs (and_right (is_inside j x) (all_inside j xs) h)
+        ap (λ d. or_else d (first_denied t (Some m) held xs)) (allowed_by x.kind x.width x.addr (and_parts (is_inside j x) (all_inside j xs) h).0) ∙ all_allowed xs (and_parts (is_inside j x) (all_inside j xs) h).1
 
   -- ---- words in the text
   text_even : (a : ℕ) → a % 2 ≡ 0 → holds own.text a ≡ true → InBy Word in_sections a
@@ -353,10 +327,7 @@ module _ (m : ℕ) (own : Module) (t : Table) (sound : Sound m own t) (j : Job) 
 
     act_by_alone : (insn : Insn) → is_alone insn ≡ true → act_by insn s ≡ attempt insn s
     act_by_alone Reti e = cc
-    act_by_alone (Two op w a b) e = refl
-    act_by_alone (One op w a) e = refl
-    act_by_alone (Jump c o) e = refl
-    act_by_alone (UnitOp n) e = refl
+    act_by_alone _ e = refl
 
     -- the module's own next instruction is the machine's
     module _ (even : pc_of s % 2 ≡ 0) (here : holds own.text (pc_of s) ≡ true) (l : Lone) (core_is : l.core ≡ s.core) (bytes_are : l.data_bytes ≡ section own.ram s.memory) where
@@ -389,7 +360,7 @@ module _ (m : ℕ) (own : Module) (t : Table) (sound : Sound m own t) (j : Job) 
           chosen : (b : Bool) → (is_alone x && all_inside j (asks (lone_who j) x l.core)) ≡ b → cond b (Some x) None ≡ Some insn → (Some x ≡ Some insn) × (is_alone insn ≡ true) × (all_inside j (asks (lone_who j) insn l.core) ≡ true)
           chosen true h f =
               let same : x ≡ insn = cc in
-              (f, subst (λ i. is_alone i ≡ true) same (and_left (is_alone x) (all_inside j (asks (lone_who j) x l.core)) h), subst (λ i. all_inside j (asks (lone_who j) i l.core) ≡ true) same (and_right (is_alone x) (all_inside j (asks (lone_who j) x l.core)) h))
+              (f, subst (λ i. is_alone i ≡ true) same (and_parts (is_alone x) (all_inside j (asks (lone_who j) x l.core)) h).0, subst (λ i. all_inside j (asks (lone_who j) i l.core) ≡ true) same (and_parts (is_alone x) (all_inside j (asks (lone_who j) x l.core)) h).1)
           chosen false h f = absurd cc
 
       home_some : (b : Bool) (o : Option Insn) (insn : Insn) → if_home b o ≡ Some insn → (b ≡ true) × (o ≡ Some insn)
@@ -431,8 +402,8 @@ module _ (m : ℕ) (own : Module) (t : Table) (sound : Sound m own t) (j : Job) 
           let e' = subst (λ c. if_home (text_word j (reg c 0) n 1 && text_word j (reg c 0) n 2) (may_do j l (insn_at (lone_byte j l.data_bytes) (reg c 0) n)) ≡ Some insn) core_is e in
           let e'' = subst (λ d. if_home (text_word j (pc_of s) n 1 && text_word j (pc_of s) n 2) (may_do j l (insn_at (lone_byte j d) (pc_of s) n)) ≡ Some insn) bytes_are e' in
           let p = home_some (text_word j (pc_of s) n 1 && text_word j (pc_of s) n 2) (may_do j l (insn_at (lone_byte j (section own.ram s.memory)) (pc_of s) n)) insn e'' in
-          let t1 = and_left (text_word j (pc_of s) n 1) (text_word j (pc_of s) n 2) p.0 in
-          let t2 = and_right (text_word j (pc_of s) n 1) (text_word j (pc_of s) n 2) p.0 in
+          let t1 = (and_parts (text_word j (pc_of s) n 1) (text_word j (pc_of s) n 2) p.0).0 in
+          let t2 = (and_parts (text_word j (pc_of s) n 1) (text_word j (pc_of s) n 2) p.0).1 in
           let q = may_some (insn_at (lone_byte j (section own.ram s.memory)) (pc_of s) n) insn p.1 in
           let inside' = subst (λ c. all_inside j (asks (lone_who j) insn c) ≡ true) core_is q.2 in
           let home : is_home s.table s.active (pc_of s) n ≡ true =

@@ -1,13 +1,13 @@
 -- What one run keeps of a module until it is closed, and where it is entered.
-use Rattle.std.proofs.Common.{◌≡◌, ◌⊎◌, inl, inr, ⊎_elim, ℕ, zero, suc, List, [], ◌∷◌, ◌++◌, refl, sym, ap, subst, Bool, true, false, cond, Option, Some, None}
+use Rattle.std.proofs.Common.{◌≡◌, ◌⊎◌, inl, inr, ⊎_elim, ℕ, zero, List, [], ◌∷◌, ◌++◌, refl, sym, ap, subst, Bool, true, false, cond, Option, Some, None}
 use Rattle.sm_words.specs.Words.{word_at}
 use Rattle.insn_decode.specs.Code.{insn_of, length_of}
 use Rattle.insn_decode.specs.declared.insn.Insn.{Insn}
-use Rattle.insn_decode.specs.declared.insn.Insn.TheVariants.{Two, One, Jump, Reti, Unit as UnitOp}
+use Rattle.insn_decode.specs.declared.insn.Insn.TheVariants.{Reti}
 use Rattle.mod_layout.specs.Table.{place_of}
 use Rattle.mod_layout.specs.declared.Module.{Module}
 use Rattle.mod_layout.specs.declared.Place.{Place}
-use Rattle.mod_layout.specs.declared.Place.TheVariants.{Open, Entry, Text, Data}
+use Rattle.mod_layout.specs.declared.Place.TheVariants.{Entry}
 use Rattle.pc_access.specs.Rights.{first_denied}
 use Rattle.pc_access.specs.declared.Denied.{Denied}
 use Rattle.pc_access.specs.declared.Stop.{Stop}
@@ -15,9 +15,9 @@ use Rattle.reg_backup.specs.Held.{held_ids}
 use Rattle.reg_backup.specs.declared.backup.After.{After}
 use Rattle.reg_backup.specs.declared.backup.After.TheVariants.{Next, Close}
 use Rattle.reg_backup.specs.declared.backup.Phase.{Phase}
-use Rattle.reg_backup.specs.declared.backup.Phase.TheVariants.{Run, Pad}
+use Rattle.reg_backup.specs.declared.backup.Phase.TheVariants.{Run}
 use Rattle.reg_backup.specs.declared.frames.Frame.{Frame}
-use Rattle.reg_backup.specs.declared.frames.Frame.TheVariants.{Plain, Module as Held}
+use Rattle.reg_backup.specs.declared.frames.Frame.TheVariants.{Module as Held}
 use Rattle.attest.specs.Done.{own_of}
 use Rattle.cpu_step.specs.Asked.{asks, table_after}
 use Rattle.cpu_step.specs.Fetched.{insn_at}
@@ -42,19 +42,16 @@ module _ (m from : ℕ) where
   one e n h = ⊎_elim n (λ x. x) h
 
   resume_quiet : (fs : List Frame) (s : State) → Quiet (resume_from fs s).events
-  resume_quiet [] s = λ h. h
-  resume_quiet (Plain ∷ fs) s = λ h. h
   resume_quiet (Held b ∷ fs) s = one (Event.Resume b.module) (λ e. cc)
+  resume_quiet _ s = λ h. h
 
   close_quiet : (a : Option ℕ) (o : Option Module) (s : State) → Quiet (close_of a o s).events
-  close_quiet None o s = λ h. h
-  close_quiet (Some id) None s = λ h. h
   close_quiet (Some id) (Some x) s = one (Event.Close id) (λ e. cc)
+  close_quiet _ _ s = λ h. h
 
   leave_quiet : (b : Bool) (a : Option ℕ) (s : State) → Quiet (leave_if b a s).events
   leave_quiet false (Some id) s = one (Event.Leave id (pc_of s)) (λ e. cc)
-  leave_quiet false None s = λ h. h
-  leave_quiet true a s = λ h. h
+  leave_quiet _ _ s = λ h. h
 
   by_quiet : (a : After) (s : State) → Quiet (settle_by a s).events
   by_quiet After.Resume s = resume_quiet s.frames s
@@ -64,8 +61,7 @@ module _ (m from : ℕ) where
 
   in_quiet : (p : Phase) (s : State) → Quiet (settle_in p s).events
   in_quiet (Run zero) s = by_quiet s.after s
-  in_quiet (Run (suc r)) s = λ h. h
-  in_quiet (Pad n) s = λ h. h
+  in_quiet _ s = λ h. h
 
   settle_quiet : (s : State) → Quiet (settle s).events
   unfolding settle
@@ -95,9 +91,8 @@ module _ (m from : ℕ) where
   returned_quiet None u q = λ h. ⊎_elim (λ (e : Event.Reti ≡ Entered m from). cc) q h
 
   reti_quiet : (fs : List Frame) (s : State) → Quiet (reti_by fs s).events
-  reti_quiet [] s = returned_quiet (attempt Reti s).state.stop (attempt Reti s) (attempt_quiet Reti s)
-  reti_quiet (Plain ∷ fs) s = returned_quiet (attempt Reti s).state.stop (attempt Reti s) (attempt_quiet Reti s)
   reti_quiet (Held b ∷ fs) s = λ h. h
+  reti_quiet _ s = returned_quiet (attempt Reti s).state.stop (attempt Reti s) (attempt_quiet Reti s)
 
   reti_of_quiet : (a : Option ℕ) (s : State) → Quiet (reti_of a s).events
   reti_of_quiet (Some id) s = one (Event.Stop _) (λ e. cc)
@@ -105,10 +100,7 @@ module _ (m from : ℕ) where
 
   act_by_quiet : (insn : Insn) (s : State) → Quiet (act_by insn s).events
   act_by_quiet Reti s = reti_of_quiet s.active s
-  act_by_quiet (Two op w a b) s = attempt_quiet (Two op w a b) s
-  act_by_quiet (One op w a) s = attempt_quiet (One op w a) s
-  act_by_quiet (Jump c o) s = attempt_quiet (Jump c o) s
-  act_by_quiet (UnitOp n) s = attempt_quiet (UnitOp n) s
+  act_by_quiet insn s = attempt_quiet insn s
 
   act_on_quiet : (o : Option Insn) (s : State) → Quiet (act_on o s).events
   act_on_quiet None s = one (Event.Stop _) (λ e. cc)
@@ -139,18 +131,10 @@ module _ (m from : ℕ) where
   inside_quiet v id s = one (Event.Hide id v) (λ e. cc)
 
   -- ---- so where the module is entered, its entry begins
-  record Begins (left : ℕ) (s : State) : Type 0 where
-    here : place_of s.table (pc_of s) ≡ Entry m
-    none : s.active ≡ None
-    from_is : left ≡ from
-
   enters_at : (p : Place) (a : Option ℕ) (left : ℕ) (s : State) → Enters m from (enter_at p a left s).events → (p ≡ Entry m) × (a ≡ None) × (left ≡ from)
   enters_at (Entry id) None left s h =
       ⊎_elim (λ (e : Entered id left ≡ Entered m from). let i : id ≡ m = cc in let l : left ≡ from = cc in (ap Entry i, refl, l)) (λ x. absurd x) h
-  enters_at (Entry id) (Some x) left s h = absurd h
-  enters_at Open a left s h = absurd h
-  enters_at (Text id) a left s h = absurd h
-  enters_at (Data id) a left s h = absurd h
+  enters_at _ _ left s h = absurd h
 
   enters : (left : ℕ) (s : State) → Enters m from (enter left s).events → (place_of s.table (pc_of s) ≡ Entry m) × (s.active ≡ None) × (left ≡ from)
   unfolding enter
@@ -184,14 +168,11 @@ module _ (m from : ℕ) where
     unless_entering false left s h = begin_entering left s h
 
     turn_entering_by : (d a : Option ℕ) (p : Phase) (left : ℕ) (s : State) → Enters m from (turn_at d a p left s).events → Enters_now own key text left s (turn_at d a p left s)
-    turn_entering_by d a (Pad n) left s h = absurd h
     turn_entering_by (Some v) (Some id) (Run r) left s h = absurd (inside_quiet v id s h)
     turn_entering_by (Some v) None (Run zero) left s h = absurd (outside_quiet v s h)
-    turn_entering_by (Some v) None (Run (suc r)) left s h = absurd h
-    turn_entering_by None None (Run (suc r)) left s h = absurd h
-    turn_entering_by None (Some id) (Run (suc r)) left s h = absurd h
     turn_entering_by None None (Run zero) left s h = unless_entering (asleep s) left s h
     turn_entering_by None (Some id) (Run zero) left s h = begin_entering left s h
+    turn_entering_by _ _ _ left s h = absurd h
 
     turn_entering : (left : ℕ) (s : State) → Enters m from (turn left s).events → Enters_now own key text left s (turn left s)
     turn_entering left s =

@@ -4,7 +4,7 @@ use Rattle.sm_words.specs.Sums.{one_if}
 use Rattle.sm_words.specs.Words.{reg, word_at}
 use Rattle.insn_decode.specs.Code.{insn_of, length_of}
 use Rattle.insn_decode.specs.declared.insn.Insn.{Insn}
-use Rattle.insn_decode.specs.declared.insn.Insn.TheVariants.{Two, One, Jump, Reti, Unit as UnitOp}
+use Rattle.insn_decode.specs.declared.insn.Insn.TheVariants.{Reti}
 use Rattle.mod_layout.specs.Table.{size_of, place_of}
 use Rattle.mod_layout.specs.declared.Module.{Module}
 use Rattle.mod_layout.specs.declared.Place.TheVariants.{Data}
@@ -13,7 +13,7 @@ use Rattle.pc_access.specs.declared.Denied.{Denied}
 use Rattle.pc_access.specs.declared.Stop.{Stop}
 use Rattle.reg_backup.specs.Held.{held_ids}
 use Rattle.reg_backup.specs.declared.frames.Frame.{Frame}
-use Rattle.reg_backup.specs.declared.frames.Frame.TheVariants.{Plain, Module as Held}
+use Rattle.reg_backup.specs.declared.frames.Frame.TheVariants.{Module as Held}
 use Rattle.attest.specs.Accesses.{reads_of, writes_of}
 use Rattle.cpu_step.specs.Asked.{asks, effect}
 use Rattle.cpu_step.specs.Fetched.{insn_at}
@@ -31,7 +31,7 @@ found_plain : (m : ℕ) (fs : List Frame) → find_held m (plain_if fs) ≡ find
 found_plain m [] = refl
 found_plain m (f ∷ fs) = refl
 
-times_plain : (m : ℕ) (fs : List Frame) → times m (plain_if fs) ≡ times m fs
+pub times_plain : (m : ℕ) (fs : List Frame) → times m (plain_if fs) ≡ times m fs
 times_plain m [] = refl
 times_plain m (f ∷ fs) = refl
 
@@ -146,9 +146,8 @@ module _ (m : ℕ) (own : Module) (key text : List ℕ) where
     light_acts u l = record { active = l.0; stays = light u.state l }
 
     reti_acts : (fs : List Frame) → s.frames ≡ fs → ActsToo (reti_by fs s)
-    reti_acts [] e = returned_acts (attempt Reti s).state.stop (attempt Reti s) (rw e refl) (rw e refl) (attempt_acts Reti)
-    reti_acts (Plain ∷ fs) e = returned_acts (attempt Reti s).state.stop (attempt Reti s) (rw e refl) (rw e refl) (attempt_acts Reti)
     reti_acts (Held b ∷ fs) e = light_acts (reti_by (Held b ∷ fs) s) (refl, refl, refl, refl, refl)
+    reti_acts _ e = returned_acts (attempt Reti s).state.stop (attempt Reti s) (rw e refl) (rw e refl) (attempt_acts Reti)
 
     reti_of_acts : (a : Option ℕ) → ActsToo (reti_of a s)
     reti_of_acts (Some id) = light_acts (reti_of (Some id) s) (refl, refl, refl, refl, refl)
@@ -156,10 +155,7 @@ module _ (m : ℕ) (own : Module) (key text : List ℕ) where
 
     act_by_acts : (insn : Insn) → ActsToo (act_by insn s)
     act_by_acts Reti = reti_of_acts s.active
-    act_by_acts (Two op w a b) = acts_too (attempt (Two op w a b) s) (attempt_acts (Two op w a b))
-    act_by_acts (One op w a) = acts_too (attempt (One op w a) s) (attempt_acts (One op w a))
-    act_by_acts (Jump c o) = acts_too (attempt (Jump c o) s) (attempt_acts (Jump c o))
-    act_by_acts (UnitOp n) = acts_too (attempt (UnitOp n) s) (attempt_acts (UnitOp n))
+    act_by_acts insn = acts_too (attempt insn s) (attempt_acts insn)
 
     act_on_acts : (o : Option Insn) → ActsToo (act_on o s)
     act_on_acts None = light_acts (act_on None s) (refl, refl, refl, refl, refl)

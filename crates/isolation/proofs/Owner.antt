@@ -22,9 +22,8 @@ found_in m a (x ∷ ms) e = by ((a == x.text.start) || (a == x.text.start + 1)) 
 
     by : (p q r : Bool) → place_by p q r x.id (place_in ms a) ≡ Entry m → (place_in ms a ≡ Entry m → is_some (find_module m ms) ≡ true) → is_some (cond (x.id == m) (Some x) (find_module m ms)) ≡ true
     by true q r f h = let i : x.id ≡ m = cc in let k : (x.id == m) ≡ true = grind (arith, nat_tests) in ap (λ c. is_some (cond c (Some x) (find_module m ms))) k
-    by false true r f h = cc
-    by false false true f h = cc
     by false false false f h = kept (x.id == m) (h f)
+    by false _ _ f h = cc
 
 found_at : (m a : ℕ) (t : Table) → place_of t a ≡ Entry m → is_some (module_of m t) ≡ true
 unfolding place_of

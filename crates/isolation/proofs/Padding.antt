@@ -9,14 +9,14 @@ use Rattle.reg_backup.specs.declared.backup.After.TheVariants.{Next, Handler, Re
 use Rattle.reg_backup.specs.declared.backup.Phase.{Phase}
 use Rattle.reg_backup.specs.declared.backup.Phase.TheVariants.{Run, Pad}
 use Rattle.reg_backup.specs.declared.frames.Frame.{Frame}
-use Rattle.reg_backup.specs.declared.frames.Frame.TheVariants.{Plain, Module as Held}
+use Rattle.reg_backup.specs.declared.frames.Frame.TheVariants.{Module as Held}
 use Rattle.attest.specs.Done.{own_of}
 use Rattle.tracer.specs.declared.Event.{Event}
 use Rattle.written_machine.specs.Cycle.{Step, Settled, quiet, told, unsettled, pc_of, in_text, rest_of, resume_from, close_of, leave_if, settle_by, settle_in, settle, ticked, due, padded, turn, sent_event, counted_by, move, cycle_by, cycle, after_cycles}
 use Rattle.written_machine.specs.State.{State}
 use Rattle.written_machine.specs.View.{at}
 use Rattle.isolation.specs.Calls.{Hides, Handles}
-use Rattle.isolation.proofs.Tame.{Calm, is_handler, closing_calm, turned, turn_late, sent_late, Late, bare_hides, late_handles, hides_more, hides_front, cycle_number}
+use Rattle.isolation.proofs.Tame.{Calm, is_handler, closing_calm, turned, turn_late, sent_late, Late, bare_hides, late_handles, hides_more, hides_front, cycle_number, ticked_stop, counted_stop, padded_stop}
 use Rattle.isolation.proofs.Cases.{turn_at, turn_is}
 
 -- ---- settling where no handler is due
@@ -28,19 +28,16 @@ unsettled_calm : (s : State) → Calm s → Settles (unsettled s)
 unsettled_calm s h = record { calm = h; none = λ x. x }
 
 resume_calm : (fs : List Frame) (s : State) → Calm s → Settles (resume_from fs s)
-resume_calm [] s h = unsettled_calm s h
-resume_calm (Plain ∷ fs) s h = unsettled_calm s h
 resume_calm (Held b ∷ fs) s h = record { calm = (refl, closing_calm b.closing); none = λ x. x }
+resume_calm _ s h = unsettled_calm s h
 
 close_calm : (a : Option ℕ) (o : Option Module) (s : State) → Calm s → Settles (close_of a o s)
-close_calm None o s h = unsettled_calm s h
-close_calm (Some id) None s h = unsettled_calm s h
 close_calm (Some id) (Some x) s h = record { calm = (h.0, refl); none = λ x. x }
+close_calm _ _ s h = unsettled_calm s h
 
 leave_calm : (b : Bool) (a : Option ℕ) (s : State) → Calm s → Settles (leave_if b a s)
 leave_calm false (Some id) s h = record { calm = h; none = λ x. x }
-leave_calm false None s h = unsettled_calm s h
-leave_calm true a s h = unsettled_calm s h
+leave_calm _ _ s h = unsettled_calm s h
 
 by_calm : (a : After) (s : State) → s.after ≡ a → Calm s → Settles (settle_by a s)
 by_calm Resume s e h = resume_calm s.frames s h
@@ -50,8 +47,7 @@ by_calm Next s e h = leave_calm (in_text (own_of s.active s.table) (pc_of s)) s.
 
 in_calm : (p : Phase) (s : State) → Calm s → Settles (settle_in p s)
 in_calm (Run zero) s h = by_calm s.after s refl h
-in_calm (Run (suc r)) s h = unsettled_calm s h
-in_calm (Pad n) s h = unsettled_calm s h
+in_calm _ s h = unsettled_calm s h
 
 settle_calm : (s : State) → Calm s → Settles (settle s)
 unfolding settle
@@ -77,10 +73,6 @@ ticked_after : (s : State) → (ticked s).after ≡ s.after
 unfolding ticked
 ticked_after s = refl
 
-ticked_stop : (s : State) → (ticked s).stop ≡ s.stop
-unfolding ticked
-ticked_stop s = refl
-
 counted_phase : (o : Option Stop) (t : Step) → (counted_by o t).state.phase ≡ t.state.phase
 counted_phase (Some stop) t = refl
 counted_phase None t = refl
@@ -88,14 +80,6 @@ counted_phase None t = refl
 counted_after : (o : Option Stop) (t : Step) → (counted_by o t).state.after ≡ t.state.after
 counted_after (Some stop) t = refl
 counted_after None t = refl
-
-counted_stop : (o : Option Stop) (t : Step) → (counted_by o t).state.stop ≡ t.state.stop
-counted_stop (Some stop) t = refl
-counted_stop None t = refl
-
-padded_stop : (n : ℕ) (s : State) → (padded n s).stop ≡ s.stop
-padded_stop zero s = refl
-padded_stop (suc n) s = refl
 
 -- a cycle's end: phase, what is next, and stop
 abbrev Ended : State → State → Type 0
@@ -257,16 +241,7 @@ module _ (a : Image) (schedule : List Scheduled) where
 hides_split : (xs ys : List Event) → Hides (xs ++ ys) → Hides xs ⊎ Hides ys
 hides_split [] ys h = inr h
 hides_split (Event.Hide id v ∷ xs) ys h = inl tt
-hides_split (Event.Close id ∷ xs) ys h = hides_split xs ys h
-hides_split (Event.Leave id pc ∷ xs) ys h = hides_split xs ys h
-hides_split (Event.Irq v ∷ xs) ys h = hides_split xs ys h
-hides_split (Event.Enter id x ∷ xs) ys h = hides_split xs ys h
-hides_split (Event.Reti ∷ xs) ys h = hides_split xs ys h
-hides_split (Event.Protect id ∷ xs) ys h = hides_split xs ys h
-hides_split (Event.Out b ∷ xs) ys h = hides_split xs ys h
-hides_split (Event.Stop x ∷ xs) ys h = hides_split xs ys h
-hides_split (Event.Handler pc ∷ xs) ys h = hides_split xs ys h
-hides_split (Event.Resume id ∷ xs) ys h = hides_split xs ys h
+hides_split (_ ∷ xs) ys h = hides_split xs ys h
 
 -- settling tells of no hide, and stops nothing
 record Plainly (s : State) (u : Settled) : Type 0 where
@@ -277,19 +252,16 @@ plainly : (s : State) → Plainly s (unsettled s)
 plainly s = record { none = λ x. x; stop = refl }
 
 resume_plainly : (fs : List Frame) (s : State) → Plainly s (resume_from fs s)
-resume_plainly [] s = plainly s
-resume_plainly (Plain ∷ fs) s = plainly s
 resume_plainly (Held b ∷ fs) s = record { none = λ x. x; stop = refl }
+resume_plainly _ s = plainly s
 
 close_plainly : (a : Option ℕ) (o : Option Module) (s : State) → Plainly s (close_of a o s)
-close_plainly None o s = plainly s
-close_plainly (Some id) None s = plainly s
 close_plainly (Some id) (Some x) s = record { none = λ x. x; stop = refl }
+close_plainly _ _ s = plainly s
 
 leave_plainly : (b : Bool) (a : Option ℕ) (s : State) → Plainly s (leave_if b a s)
 leave_plainly false (Some id) s = record { none = λ x. x; stop = refl }
-leave_plainly false None s = plainly s
-leave_plainly true a s = plainly s
+leave_plainly _ _ s = plainly s
 
 by_plainly : (a : After) (s : State) → Plainly s (settle_by a s)
 by_plainly Resume s = resume_plainly s.frames s
@@ -299,8 +271,7 @@ by_plainly Next s = leave_plainly (in_text (own_of s.active s.table) (pc_of s)) 
 
 in_plainly : (p : Phase) (s : State) → Plainly s (settle_in p s)
 in_plainly (Run zero) s = by_plainly s.after s
-in_plainly (Run (suc r)) s = plainly s
-in_plainly (Pad n) s = plainly s
+in_plainly _ s = plainly s
 
 settle_plainly : (s : State) → Plainly s (settle s)
 unfolding settle

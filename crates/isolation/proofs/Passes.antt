@@ -1,8 +1,8 @@
 -- Cycles of padding, of the rest of an instruction and of sleep only pass.
-use Rattle.std.proofs.Common.{◌≡◌, ℕ, zero, suc, ◌+◌, ◌-◌, ◌≤◌, ◌<◌, ◌==◌, List, [], ◌∷◌, refl, sym, ◌∙◌, ap, subst, arith, Bool, true, false, Option, Some, None}
+use Rattle.std.proofs.Common.{◌≡◌, ℕ, zero, suc, ◌+◌, ◌-◌, ◌≤◌, ◌<◌, ◌==◌, List, [], ◌∷◌, refl, sym, ◌∙◌, ap, subst, arith, Bool, true, Option, Some, None}
 use Rattle.schedule_file.specs.declared.Entry.{Entry}
 use Rattle.schedule_file.specs.declared.What.{What}
-use Rattle.schedule_file.specs.declared.What.TheVariants.{Serial, Up, Down}
+use Rattle.schedule_file.specs.declared.What.TheVariants.{Serial}
 use Rattle.devices.specs.Devices.{Devices, ticked_devices, happens_if, scheduled, counts_by}
 use Rattle.devices.specs.Time.{ticked_by}
 use Rattle.irq_padding.specs.Padding.{padding}
@@ -20,9 +20,7 @@ use Rattle.isolation.proofs.Cases.{turn_at, turn_unless, turn_is}
 
 happens_sent : (b : Bool) (w : What) (d : Devices) → (happens_if b w d).sent ≡ d.sent
 happens_sent true (Serial x) d = refl
-happens_sent true (Up x) d = refl
-happens_sent true (Down x) d = refl
-happens_sent false w d = refl
+happens_sent _ _ d = refl
 
 scheduled_sent : (es : List Entry) (k : ℕ) (d : Devices) → (scheduled es k d).sent ≡ d.sent
 scheduled_sent [] k d = refl
@@ -30,8 +28,7 @@ scheduled_sent (e ∷ es) k d = scheduled_sent es k (happens_if (e.cycle == k) e
 
 counts_sent : (r q : Bool) (d : Devices) → (counts_by r q d).sent ≡ d.sent
 counts_sent true true d = refl
-counts_sent true false d = refl
-counts_sent false q d = refl
+counts_sent _ _ d = refl
 
 pub ticked_sent : (d : Devices) (k : ℕ) → (ticked_devices d k).sent ≡ None
 unfolding ticked_devices
@@ -160,12 +157,10 @@ same_pad d c c' r r' s e f =
 
 -- at least one cycle of padding
 pads : (n left : ℕ) (s : State) → s.stop ≡ None → suc n ≤ left → let x : State = record s { phase = Pad left } in Leads (suc n) x (passed (suc n) x)
-pads n zero s runs h = absurd (omega (arith, h))
 pads zero (suc left) s runs h =
     let x : State = record s { phase = Pad (suc left) } in
     let y = padded_on (suc left - 1) s in
     lead_more 0 x y y (passed 1 x) (pad_one (suc left) s runs) (lead_none y y refl) refl
-pads (suc n) (suc zero) s runs h = absurd (omega (arith, h))
 pads (suc n) (suc (suc left)) s runs h =
     let x : State = record s { phase = Pad (suc (suc left)) } in
     let y = padded_on (suc left) s in
@@ -174,6 +169,7 @@ pads (suc n) (suc (suc left)) s runs h =
     (pad_one (suc (suc left)) s runs ∙ ap (λ (k : ℕ). quiet (padded_on k s)) less)
     (pads n (suc left) y runs (omega (arith, h)))
     (same_pad (ticked_by (suc n) y.cycle y.devices) (s.cycle + 1 + suc n) (s.cycle + suc (suc n)) (suc left - suc n) (suc (suc left) - suc (suc n)) s (omega arith) (omega arith))
+pads _ _ s runs h = absurd (omega (arith, h))
 
 waits : (n rest : ℕ) (s : State) → s.stop ≡ None → n ≤ rest → ((m : ℕ) → 0 < m → m ≤ n → Missed (due_after m s) s.active) → let x : State = record s { phase = Run rest } in Leads n x (passed n x)
 waits zero rest s runs h missed =
@@ -202,8 +198,7 @@ sleeps (suc n) s runs off calm =
 
 missed_outside : (due active : Option ℕ) → active ≡ None → Missed due active
 missed_outside (Some v) (Some id) e = absurd cc
-missed_outside (Some v) None e = tt
-missed_outside None active e = tt
+missed_outside _ _ e = tt
 
 missed_calm : (due active : Option ℕ) → due ≡ None → Missed due active
 missed_calm (Some v) active e = absurd cc

@@ -7,20 +7,18 @@ use Rattle.std.specs.Fmt.{decimal}
 use Rattle.std.specs.List.{slice_get}
 use Rattle.std.specs.Option.{option_and_then}
 use Rattle.written_machine.specs.Cycle.{cycle, after_cycles}
-use Rattle.written_machine.specs.Marks.{Marked, unmarked, at_state, marked, cut_at, back_to, last_from, last_at}
+use Rattle.written_machine.specs.Marks.{Marked, unmarked, at_state, cut_at, last_from}
 use Rattle.written_machine.specs.Peers.{Peers}
-use Rattle.written_machine.specs.Script.{Move, regs_text, mem_text, mark_text, full_text, back_text, no_mark_text, last_text, not_there_text, at_cycle, shown, cycle_moves, mark_move, back_move, last_move, line_moves, led, moves, text_of, play}
+use Rattle.written_machine.specs.Script.{Move, regs_text, mem_text, mark_text, back_text, no_mark_text, last_text, not_there_text, at_cycle, cycle_moves, mark_move, back_move, last_move, line_moves, led, moves, text_of, play}
 use Rattle.written_machine.specs.Standing.{stands_at, one_more_unless, cycles_until, this_or, last_standing}
 use Rattle.written_machine.specs.State.{State}
-use Rattle.written_machine.specs.Trace.{end_line_of, lines_after}
-use Rattle.written_machine.specs.View.{boot, at, view_of}
-use Rattle.written_machine.specs.declared.Hidden.TheVariants.{All as AllHidden}
+use Rattle.written_machine.specs.View.{boot, at}
 use Rattle.written_machine.specs.declared.ScriptLine.{ScriptLine}
 use Rattle.written_machine.specs.declared.ScriptLine.TheVariants.{Go, Until, Regs, Mem, Mark, Back, Last}
-use Rattle.std.proofs.Common.{◌≡◌, ℕ, zero, suc, ◌+◌, ◌-◌, List, [], ◌∷◌, ◌++◌, map, length, take, refl, sym, ap, ◌∙◌, Bool, true, false, nat_lt, cond, Option, Some, None, option_map}
+use Rattle.std.proofs.Common.{◌≡◌, ℕ, zero, suc, ◌+◌, ◌-◌, List, [], ◌∷◌, ◌++◌, map, take, refl, sym, ap, ◌∙◌, Bool, true, false, nat_lt, cond, Option, Some, None, option_map}
 use Rattle.std.proofs.lemmas.List.{map-append, length-map, take-map}
 use Rattle.std.proofs.lemmas.Option.{slice_get-map}
-use Rattle.isolation.proofs.Moves.{led_append, text_append, led_cycles, text_cycles}
+use Rattle.isolation.proofs.Moves.{text_append, led_cycles, text_cycles}
 use Rattle.isolation.proofs.Telling.{cycles_same, lines_from, ends_same, stands_same, outside_equal}
 use Rattle.isolation.proofs.Transparent.{after_more}
 
@@ -101,8 +99,7 @@ module _ (a b : Image) (m : ℕ) (schedule : List Scheduled) (peers : Peers a b 
         other = ap (λ l. let y = moment b schedule most k ks in record y { marks = l }) (sym (map-append (at b schedule) ks (k ∷ [])));
       })
   mark_by k ks false false e = one_move _ _ _ _ refl (still k ks)
-  mark_by k ks true false e = absurd cc
-  mark_by k ks false true e = absurd cc
+  mark_by k ks _ _ e = absurd cc
 
   mark_same : (k : ℕ) (ks : List ℕ) → Same (moment a schedule most k ks) (moment b schedule most k ks) (line_moves (moment a schedule most k ks) Mark) (line_moves (moment b schedule most k ks) Mark)
   mark_same k ks =

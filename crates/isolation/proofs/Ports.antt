@@ -59,10 +59,9 @@ module _ (lo n : ℕ) where
       ∙ write_in_veiled (nat_lt (a + 1) 512) (write_byte p a (v % 256)) (a + 1) (v / 256 % 256) out.1
 
   pub put_writes_veiled : (xs : List Access) (p : Port) (vs : List ℕ) → Each (OutAccess lo n) xs → put_writes (veil_port lo n p) xs vs ≡ veil_port lo n (put_writes p xs vs)
-  put_writes_veiled [] p vs out = refl
-  put_writes_veiled (x ∷ xs) p [] out = refl
   put_writes_veiled (x ∷ xs) p (v ∷ vs) out =
       ap (λ q. put_writes q xs vs) (write_width_veiled x.width p x.addr v out.0) ∙ put_writes_veiled xs (write_width x.width p x.addr v) vs out.1
+  put_writes_veiled _ p _ out = refl
 
   -- the section's own bytes stay
   write_in_part : (b : Bool) (p : Port) (a v : ℕ) → Out lo n a → take n (drop lo (write_in b p a v).memory) ≡ take n (drop lo p.memory)
@@ -75,10 +74,9 @@ module _ (lo n : ℕ) where
       write_in_part (nat_lt (a + 1) 512) (write_byte p a (v % 256)) (a + 1) (v / 256 % 256) out.1 ∙ write_in_part (nat_lt a 512) p a (v % 256) out.0
 
   pub put_writes_part : (xs : List Access) (p : Port) (vs : List ℕ) → Each (OutAccess lo n) xs → take n (drop lo (put_writes p xs vs).memory) ≡ take n (drop lo p.memory)
-  put_writes_part [] p vs out = refl
-  put_writes_part (x ∷ xs) p [] out = refl
   put_writes_part (x ∷ xs) p (v ∷ vs) out =
       put_writes_part xs (write_width x.width p x.addr v) vs out.1 ∙ write_width_part x.width p x.addr v out.0
+  put_writes_part _ p _ out = refl
 
   -- reads leave the memory as it is
   read_in_memory : (b : Bool) (p : Port) (a : ℕ) → (read_in b p a).port.memory ≡ p.memory

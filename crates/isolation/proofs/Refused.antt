@@ -1,12 +1,13 @@
 -- A cycle is stopped by the first of its checks that is refused, and by nothing else.
 use Rattle.std.proofs.Common.{◌≡◌, ℕ, zero, suc, List, [], ◌∷◌, ◌-◌, map, refl, sym, ap, ◌∙◌, Bool, true, false, not, Option, Some, None, is_none}
+use Rattle.isolation.proofs.Tame.{ticked_stop, counted_stop, padded_stop}
 use Rattle.insn_decode.specs.Code.{insn_of, length_of, length_or_one, length_at}
 use Rattle.insn_decode.specs.declared.insn.Insn.{Insn}
-use Rattle.insn_decode.specs.declared.insn.Insn.TheVariants.{Two, One, Jump, Reti, Unit as UnitOp}
+use Rattle.insn_decode.specs.declared.insn.Insn.TheVariants.{Reti, Unit as UnitOp}
 use Rattle.insn_decode.proofs.Unread.{none_outside, outside_none}
 use Rattle.mod_layout.specs.Table.{Table, place_of}
 use Rattle.mod_layout.specs.declared.Place.{Place}
-use Rattle.mod_layout.specs.declared.Place.TheVariants.{Open, Entry, Text, Data}
+use Rattle.mod_layout.specs.declared.Place.TheVariants.{Open, Entry}
 use Rattle.pc_access.specs.Rights.{first_denied, or_else, right, refuse_if}
 use Rattle.pc_access.specs.declared.Access.{Access}
 use Rattle.pc_access.specs.declared.Denied.{Denied}
@@ -17,14 +18,14 @@ use Rattle.reg_backup.specs.declared.backup.After.{After}
 use Rattle.reg_backup.specs.declared.backup.Phase.{Phase}
 use Rattle.reg_backup.specs.declared.backup.Phase.TheVariants.{Run, Pad}
 use Rattle.reg_backup.specs.declared.frames.Frame.{Frame}
-use Rattle.reg_backup.specs.declared.frames.Frame.TheVariants.{Plain, Module as Held}
-use Rattle.attest.specs.Units.{Doer, UnitName, Unprotect, Protect, Attest, Tag, IdOf, OwnId, CallerId, unit_named, unit_plan}
+use Rattle.reg_backup.specs.declared.frames.Frame.TheVariants.{Module as Held}
+use Rattle.attest.specs.Units.{Doer, UnitName, Unprotect, unit_named, unit_plan}
 use Rattle.cpu_step.specs.Asked.{asks}
 use Rattle.cpu_step.specs.Fetched.{insn_at, later_word}
 use Rattle.written_machine.specs.Checks.{active_at, entered, first_word, insn_at_pc, asked_to_return, asked_by, returns_inside, check_of, later_checks, insn_checks, first_refused, stop_at, stop_of, refused_in}
-use Rattle.written_machine.specs.Cycle.{Step, padded, told, pc_of, byte_of, settle, ticked, due, arrive_inside, arrive_outside, push_both, pushes, who_of, perform, perform_unless, attempt, returned_by, reti_by, reti_of, act_by, act_on, act_home, act_first, act, is_home, enter_at, enter, fetch, begin_unless, begin, asleep, turn, counted_by, move, cycle_by, cycle}
+use Rattle.written_machine.specs.Cycle.{Step, told, pc_of, byte_of, settle, ticked, due, arrive_inside, arrive_outside, push_both, pushes, who_of, perform, perform_unless, attempt, returned_by, reti_by, reti_of, act_by, act_on, act_home, act_first, act, is_home, enter_at, enter, fetch, begin_unless, begin, asleep, turn, move, cycle_by, cycle}
 use Rattle.written_machine.specs.State.{State}
-use Rattle.isolation.proofs.Stopping.{settle_settles, ticked_stop, enter_silent}
+use Rattle.isolation.proofs.Stopping.{settle_settles, enter_silent}
 use Rattle.isolation.proofs.Cases.{turn_at, turn_unless, turn_is, checks_at, checks_unless, checks_are}
 
 -- the step leaves the machine stopped by this refusal in this state, and running where there is none
@@ -59,9 +60,8 @@ returned_stop (Some stop) t = refl
 returned_stop None t = refl
 
 reti_stops : (fs : List Frame) (s : State) → s.stop ≡ None → Stops (reti_by fs s) (refusal (asked_to_return fs s) s) s
-reti_stops [] s h = returned_stop (attempt Reti s).state.stop (attempt Reti s) ∙ attempt_stops Reti s h
-reti_stops (Plain ∷ fs) s h = returned_stop (attempt Reti s).state.stop (attempt Reti s) ∙ attempt_stops Reti s h
 reti_stops (Held b ∷ fs) s h = h
+reti_stops _ s h = returned_stop (attempt Reti s).state.stop (attempt Reti s) ∙ attempt_stops Reti s h
 
 -- the refusal of RETI inside a module, or else of an access
 abbrev late : Option Insn → Option ℕ → State → Option Denied
@@ -73,10 +73,7 @@ reti_of_stops None s h = reti_stops s.frames s h
 
 act_by_stops : (insn : Insn) (s : State) → s.stop ≡ None → Stops (act_by insn s) (late (Some insn) s.active s) s
 act_by_stops Reti s h = reti_of_stops s.active s h
-act_by_stops (Two op w a b) s h = attempt_stops (Two op w a b) s h
-act_by_stops (One op w a) s h = attempt_stops (One op w a) s h
-act_by_stops (Jump c o) s h = attempt_stops (Jump c o) s h
-act_by_stops (UnitOp n) s h = attempt_stops (UnitOp n) s h
+act_by_stops insn s h = attempt_stops insn s h
 
 -- words whose first is in the code table mean an instruction, whatever the others are
 some_all : (w0 w1 w2 : ℕ) (first : Insn) → insn_of w0 0 0 ≡ Some first → insn_of w0 w1 w2 ≡ None → ⊥
@@ -123,37 +120,25 @@ act_stops s h = act_first_stops (insn_of (first_word s) 0 0) s refl h ∙ ap (λ
 unit_caller : (u : UnitName) (who : Doer) (caller : ℕ) (core : List ℕ) → unit_plan (record who { caller = caller }) u core ≡ unit_plan who u core
 unfolding unit_plan
 unit_caller Unprotect who caller core = refl
-unit_caller Protect who caller core = refl
-unit_caller Attest who caller core = refl
-unit_caller Tag who caller core = refl
-unit_caller IdOf who caller core = refl
-unit_caller OwnId who caller core = refl
-unit_caller CallerId who caller core = refl
+unit_caller _ who caller core = refl
 
 asks_caller : (insn : Insn) (who : Doer) (caller : ℕ) (core : List ℕ) → asks (record who { caller = caller }) insn core ≡ asks who insn core
 unfolding asks
 asks_caller (UnitOp n) who caller core = unit_caller (unit_named n) who caller core
-asks_caller Reti who caller core = refl
-asks_caller (Two op w a b) who caller core = refl
-asks_caller (One op w a) who caller core = refl
-asks_caller (Jump c o) who caller core = refl
+asks_caller _ who caller core = refl
 
 -- a state with another caller, and with something else to settle
 abbrev called : ℕ → After → State → State
 called caller after s = record s { caller = caller; after = after }
 
 return_called : (fs : List Frame) (caller : ℕ) (after : After) (s : State) → asked_to_return fs (called caller after s) ≡ asked_to_return fs s
-return_called [] caller after s = asks_caller Reti (who_of s) caller s.core
-return_called (Plain ∷ fs) caller after s = asks_caller Reti (who_of s) caller s.core
 return_called (Held b ∷ fs) caller after s = refl
+return_called _ caller after s = asks_caller Reti (who_of s) caller s.core
 
 asked_called : (o : Option Insn) (caller : ℕ) (after : After) (s : State) → asked_by o (called caller after s) ≡ asked_by o s
 asked_called None caller after s = refl
 asked_called (Some Reti) caller after s = return_called s.frames caller after s
-asked_called (Some (Two op w a b)) caller after s = asks_caller (Two op w a b) (who_of s) caller s.core
-asked_called (Some (One op w a)) caller after s = asks_caller (One op w a) (who_of s) caller s.core
-asked_called (Some (Jump c o)) caller after s = asks_caller (Jump c o) (who_of s) caller s.core
-asked_called (Some (UnitOp n)) caller after s = asks_caller (UnitOp n) (who_of s) caller s.core
+asked_called (Some insn) caller after s = asks_caller insn (who_of s) caller s.core
 
 later_called : (caller : ℕ) (after : After) (s : State) → later_checks (called caller after s) ≡ later_checks s
 later_called caller after s =
@@ -166,20 +151,13 @@ once active s = later_checks (record s { active = active })
 
 enter_at_checks : (p : Place) (a : Option ℕ) (left : ℕ) (s : State) → s.active ≡ a → later_checks (enter_at p a left s).state ≡ once (active_at a p) s
 enter_at_checks (Entry id) None left s e = later_called left After.Next (record s { active = Some id })
-enter_at_checks Open None left s e = ap (λ a. once a s) e
-enter_at_checks (Text id) None left s e = ap (λ a. once a s) e
-enter_at_checks (Data id) None left s e = ap (λ a. once a s) e
 enter_at_checks Open (Some x) left s e = ap (λ a. once a s) e
-enter_at_checks (Entry id) (Some x) left s e = ap (λ a. once a s) e
-enter_at_checks (Text id) (Some x) left s e = ap (λ a. once a s) e
-enter_at_checks (Data id) (Some x) left s e = ap (λ a. once a s) e
+enter_at_checks _ (Some x) left s e = ap (λ a. once a s) e
+enter_at_checks _ None left s e = ap (λ a. once a s) e
 
 enter_at_core : (p : Place) (a : Option ℕ) (left : ℕ) (s : State) → (enter_at p a left s).state.core ≡ s.core
 enter_at_core (Entry id) None left s = refl
-enter_at_core (Entry id) (Some x) left s = refl
-enter_at_core Open a left s = refl
-enter_at_core (Text id) a left s = refl
-enter_at_core (Data id) a left s = refl
+enter_at_core _ _ left s = refl
 
 -- what an entry leaves is checked as the state in which the module is active, at the same PC
 enter_checks : (left : ℕ) (s : State) → (later_checks (enter left s).state ≡ later_checks (entered s)) × ((enter left s).state.core ≡ s.core)
@@ -220,28 +198,20 @@ inside_stops : (v id : ℕ) (s : State) → (arrive_inside v id s).state.stop �
 unfolding arrive_inside
 inside_stops v id s = refl
 
-padded_stops : (n : ℕ) (s : State) → (padded n s).stop ≡ s.stop
-padded_stops zero s = refl
-padded_stops (suc n) s = refl
-
 by_stops : (d a : Option ℕ) (p : Phase) (left : ℕ) (s : State) → s.stop ≡ None → Stops (turn_at d a p left s) (first_refused (checks_at d a p s)) s
-by_stops d a (Pad n) left s h = padded_stops (n - 1) s ∙ h
+by_stops d a (Pad n) left s h = padded_stop (n - 1) s ∙ h
 by_stops (Some v) (Some id) (Run r) left s h = inside_stops v id s ∙ h
 by_stops (Some v) None (Run zero) left s h = outside_stops v s h
-by_stops (Some v) None (Run (suc r)) left s h = h
 by_stops None None (Run (suc r)) left s h = h
-by_stops None (Some id) (Run (suc r)) left s h = h
 by_stops None None (Run zero) left s h = asleep_stops (asleep s) left s h
 by_stops None (Some id) (Run zero) left s h = begin_stops left s h
+by_stops _ _ (Run (suc r)) left s h = h
 
 turn_stops : (left : ℕ) (s : State) → s.stop ≡ None → (turn left s).state.stop ≡ stop_of s
 turn_stops left s h =
     ap (λ t. t.state.stop) (turn_is left s) ∙ by_stops (due s) s.active s.phase left s h ∙ ap (λ cs. stop_at (first_refused cs) s) (sym (checks_are s))
 
 -- ---- a cycle
-counted_stop : (o : Option Stop) (t : Step) → (counted_by o t).state.stop ≡ t.state.stop
-counted_stop (Some stop) t = refl
-counted_stop None t = refl
 
 move_stops : (s : State) → s.stop ≡ None → (move s).state.stop ≡ refused_in s
 unfolding move refused_in

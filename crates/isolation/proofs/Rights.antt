@@ -109,13 +109,11 @@ module _ (m : ℕ) (own : Module) (t : Table) (sound : Sound m own t) where
 
     reads_by : (k : Kind) (a : ℕ) (w : Width) (ys : List Access) → right t active held (record { kind = k; addr = a; width = w }) ≡ None → Each (OutAccess own.ram.start (size_of own.ram)) ys → Each (OutAccess own.ram.start (size_of own.ram)) (cond (is_read k) (record { kind = k; addr = a; width = w } ∷ ys) ys)
     reads_by Read a w ys e h = (right_out Read w a (λ f. cc) e, h)
-    reads_by Write a w ys e h = h
-    reads_by Fetch a w ys e h = h
+    reads_by _ a w ys e h = h
 
     writes_by : (k : Kind) (a : ℕ) (w : Width) (ys : List Access) → right t active held (record { kind = k; addr = a; width = w }) ≡ None → Each (OutAccess own.ram.start (size_of own.ram)) ys → Each (OutAccess own.ram.start (size_of own.ram)) (cond (is_write k) (record { kind = k; addr = a; width = w } ∷ ys) ys)
     writes_by Write a w ys e h = (right_out Write w a (λ f. cc) e, h)
-    writes_by Read a w ys e h = h
-    writes_by Fetch a w ys e h = h
+    writes_by _ a w ys e h = h
 
     pub reads_out : (xs : List Access) → first_denied t active held xs ≡ None → Each (OutAccess own.ram.start (size_of own.ram)) (reads_of xs)
     reads_out [] e = tt
@@ -166,8 +164,7 @@ module _ (m : ℕ) (own : Module) (t : Table) (sound : Sound m own t) (active : 
   text_by Write a w ys e h =
       let p = aligned_none (misaligned w a) a (right_at (place_of t a) active held Write a) e in
       (text_width w a p.0 (text_out_of a p.1), h)
-  text_by Read a w ys e h = h
-  text_by Fetch a w ys e h = h
+  text_by _ a w ys e h = h
 
   pub text_writes_out : (xs : List Access) → first_denied t active held xs ≡ None → Each (OutAccess own.text.start (size_of own.text)) (writes_of xs)
   text_writes_out [] e = tt

@@ -1,5 +1,5 @@
 -- Ticking, settling, arriving and waiting keep the relation.
-use Rattle.std.proofs.Common.{◌≡◌, ℕ, zero, suc, ◌+◌, List, [], ◌∷◌, refl, sym, ap, ◌∙◌, arith, Bool, true, false, ◌==◌, Option, Some, None}
+use Rattle.std.proofs.Common.{◌≡◌, ℕ, zero, ◌+◌, List, ◌∷◌, refl, sym, ap, ◌∙◌, arith, Bool, true, false, ◌==◌, Option, Some, None}
 use Rattle.std.proofs.lemmas.Bool.Decides.{nat_tests}
 use Rattle.sm_words.specs.Sums.{one_if}
 use Rattle.mod_layout.specs.Table.{size_of}
@@ -10,9 +10,9 @@ use Rattle.reg_backup.specs.declared.backup.After.{After}
 use Rattle.reg_backup.specs.declared.backup.After.TheVariants.{Next, Handler, Resume, Close}
 use Rattle.reg_backup.specs.declared.backup.Backup.{Backup}
 use Rattle.reg_backup.specs.declared.backup.Phase.{Phase}
-use Rattle.reg_backup.specs.declared.backup.Phase.TheVariants.{Run, Pad}
+use Rattle.reg_backup.specs.declared.backup.Phase.TheVariants.{Run}
 use Rattle.reg_backup.specs.declared.frames.Frame.{Frame}
-use Rattle.reg_backup.specs.declared.frames.Frame.TheVariants.{Plain, Module as Held}
+use Rattle.reg_backup.specs.declared.frames.Frame.TheVariants.{Module as Held}
 use Rattle.attest.specs.Done.{own_of}
 use Rattle.written_machine.specs.Cycle.{pc_of, ticked, resume_from, close_of, in_text, leave_if, settle_by, settle_in, settle, arrive_inside}
 use Rattle.written_machine.specs.Peers.{section}
@@ -70,9 +70,8 @@ module _ (m : ℕ) (own : Module) (key text : List ℕ) where
 
     resume_stays : (fs : List Frame) → s.frames ≡ fs → St s (resume_from fs s).state
     unfolding resumed_state
-    resume_stays [] e = self
-    resume_stays (Plain ∷ fs) e = self
     resume_stays (Held b ∷ fs) e = resumed_stays b fs e
+    resume_stays _ e = self
 
     -- a state where none is active
     none_stays : (t : State) → t.active ≡ None → section own.ram t.memory ≡ section own.ram s.memory → section own.text t.memory ≡ section own.text s.memory → t.frames ≡ s.frames → t.key ≡ s.key → Sound m own t.table → St s t
@@ -88,8 +87,6 @@ module _ (m : ℕ) (own : Module) (key text : List ℕ) where
         }
 
     close_stays : (a : Option ℕ) (o : Option Module) → s.active ≡ a → own_of a s.table ≡ o → St s (close_of a o s).state
-    close_stays None o e f = self
-    close_stays (Some id) None e f = self
     close_stays (Some id) (Some x) e f =
         let ne : (id == m) ≡ false = ap (is_id m) (sym e) ∙ other in
         let p = k.sound.others id x f ne in
@@ -97,11 +94,11 @@ module _ (m : ℕ) (own : Module) (key text : List ℕ) where
         (part_cleared own.ram.start (size_of own.ram) x.ram.start (size_of x.ram) s.memory p.0)
         (part_cleared own.text.start (size_of own.text) x.ram.start (size_of x.ram) s.memory p.1)
         refl refl (sound_without m own s.table id ne k.sound)
+    close_stays _ _ e f = self
 
     leave_stays : (b : Bool) (a : Option ℕ) → St s (leave_if b a s).state
     leave_stays false (Some id) = none_stays (leave_if false (Some id) s).state refl refl refl refl refl k.sound
-    leave_stays false None = self
-    leave_stays true a = self
+    leave_stays _ _ = self
 
     settle_by_stays : (a : After) → St s (settle_by a s).state
     settle_by_stays Resume = resume_stays s.frames refl
@@ -111,8 +108,7 @@ module _ (m : ℕ) (own : Module) (key text : List ℕ) where
 
     settle_in_stays : (p : Phase) → St s (settle_in p s).state
     settle_in_stays (Run zero) = settle_by_stays s.after
-    settle_in_stays (Run (suc r)) = self
-    settle_in_stays (Pad n) = self
+    settle_in_stays _ = self
 
     pub settle_stays : St s (settle s).state
     unfolding settle

@@ -1,10 +1,11 @@
 -- Settling, ticking and arriving, with one module hidden.
-use Rattle.std.proofs.Common.{◌≡◌, ℕ, zero, suc, ◌*◌, ◌/◌, ◌%◌, List, [], ◌∷◌, length, replicate, refl, sym, ap, ◌∙◌, arith, Bool, true, false, nat_lt, ◌&&◌, ◌==◌, Option, Some, None}
+use Rattle.std.proofs.Common.{◌≡◌, ℕ, zero, ◌*◌, ◌/◌, ◌%◌, List, [], ◌∷◌, length, replicate, refl, sym, ap, ◌∙◌, arith, Bool, true, false, nat_lt, ◌&&◌, ◌==◌, Option, Some, None}
+use Rattle.isolation.proofs.Tame.{ticked_active}
 use Rattle.sm_words.specs.Words.{reg, put}
 use Rattle.mod_layout.specs.Table.{Table, place_of, size_of, without}
 use Rattle.mod_layout.specs.declared.Module.{Module}
 use Rattle.mod_layout.specs.declared.Place.{Place}
-use Rattle.mod_layout.specs.declared.Place.TheVariants.{Open, Entry, Text, Data}
+use Rattle.mod_layout.specs.declared.Place.TheVariants.{Entry}
 use Rattle.pc_access.specs.Rights.{is_id}
 use Rattle.devices.specs.Devices.{accepted, line_of}
 use Rattle.reg_backup.specs.Saved.{closing_after, is_close}
@@ -14,7 +15,7 @@ use Rattle.reg_backup.specs.declared.backup.Backup.{Backup}
 use Rattle.reg_backup.specs.declared.backup.Phase.{Phase}
 use Rattle.reg_backup.specs.declared.backup.Phase.TheVariants.{Run, Pad}
 use Rattle.reg_backup.specs.declared.frames.Frame.{Frame}
-use Rattle.reg_backup.specs.declared.frames.Frame.TheVariants.{Plain, Module as Held}
+use Rattle.reg_backup.specs.declared.frames.Frame.TheVariants.{Module as Held}
 use Rattle.attest.specs.Done.{own_of}
 use Rattle.tracer.specs.declared.Event.{Event}
 use Rattle.written_machine.specs.Cycle.{Step, Settled, unsettled, pc_of, ticked, resume_from, close_of, in_text, leave_if, settle_by, settle_in, settle, vector_if, due, rest_of, vector_word, arrive_inside, enter_at, enter}
@@ -32,10 +33,6 @@ module _ (m : ℕ) (own : Module) where
   unfolding ticked
   ticked_by true s = refl
   ticked_by false s = refl
-
-  ticked_active : (s : State) → (ticked s).active ≡ s.active
-  unfolding ticked
-  ticked_active s = refl
 
   pub ticked_hidden : (s : State) → ticked (hide m own s) ≡ hide m own (ticked s)
   ticked_hidden s = ticked_by (is_id m s.active) s ∙ ap (λ a. hide_by (is_id m a) m own (ticked s)) (sym (ticked_active s))
@@ -92,17 +89,14 @@ module _ (m : ℕ) (own : Module) where
     unsettled_veiled = ap unsettled (sym same_hidden)
 
     resume_veiled : (fs : List Frame) → resume_from (veil_frames m fs) (veil m own s) ≡ hide_settled m own (resume_from fs s)
-    resume_veiled [] = unsettled_veiled
-    resume_veiled (Plain ∷ fs) = unsettled_veiled
     resume_veiled (Held b ∷ fs) =
         let build : State → ℕ → Settled = λ u id. record { state = u; events = Event.Resume id ∷ []; left = 0 } in
         let x = veil_if (b.module == m) b in
         let u : State = record (veil m own s) { core = x.core; active = Some x.module; caller = x.caller; frames = veil_frames m fs; phase = Run x.rest; after = closing_after x.closing } in
         ap (λ i. build u i) (id_if (b.module == m) b) ∙ ap (λ v. build v b.module) (resume_by (b.module == m) b fs s)
+    resume_veiled _ = unsettled_veiled
 
     close_veiled : (a : Option ℕ) (o : Option Module) → close_of a o (veil m own s) ≡ hide_settled m own (close_of a o s)
-    close_veiled None o = unsettled_veiled
-    close_veiled (Some id) None = unsettled_veiled
     close_veiled (Some id) (Some x) =
         let build : List ℕ → Settled = λ mem. record {
           state = record (veil m own s) { memory = mem; table = without id s.table; active = None; after = Next };
@@ -110,11 +104,11 @@ module _ (m : ℕ) (own : Module) where
           left = 0;
         } in
         ap build (cleared_comm x.ram.start (size_of x.ram) own.ram.start (size_of own.ram) s.memory)
+    close_veiled _ _ = unsettled_veiled
 
     leave_veiled : (b : Bool) (a : Option ℕ) → leave_if b a (veil m own s) ≡ hide_settled m own (leave_if b a s)
     leave_veiled false (Some id) = refl
-    leave_veiled false None = unsettled_veiled
-    leave_veiled true a = unsettled_veiled
+    leave_veiled _ _ = unsettled_veiled
 
     handler_veiled : settle_by Handler (veil m own s) ≡ hide_settled m own (settle_by Handler s)
     handler_veiled =
@@ -129,8 +123,7 @@ module _ (m : ℕ) (own : Module) where
 
     settle_in_veiled : (p : Phase) → settle_in p (veil m own s) ≡ hide_settled m own (settle_in p s)
     settle_in_veiled (Run zero) = settle_by_veiled s.after
-    settle_in_veiled (Run (suc r)) = unsettled_veiled
-    settle_in_veiled (Pad n) = unsettled_veiled
+    settle_in_veiled _ = unsettled_veiled
 
     pub settle_veiled : settle (veil m own s) ≡ hide_settled m own (settle s)
     unfolding settle
@@ -139,10 +132,7 @@ module _ (m : ℕ) (own : Module) where
   -- ---- entering
   enter_by : (p : Place) (a : Option ℕ) (left : ℕ) (s : State) → enter_at p a left (veil m own s) ≡ veil_step m own (enter_at p a left s)
   enter_by (Entry id) None left s = refl
-  enter_by (Entry id) (Some x) left s = refl
-  enter_by Open a left s = refl
-  enter_by (Text id) a left s = refl
-  enter_by (Data id) a left s = refl
+  enter_by _ _ left s = refl
 
   pub enter_veiled : (left : ℕ) (s : State) → enter left (veil m own s) ≡ veil_step m own (enter left s)
   unfolding enter

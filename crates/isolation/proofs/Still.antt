@@ -1,14 +1,14 @@
 -- Where a module is held, others' turns tell nothing of its hides and resumes.
-use Rattle.std.proofs.Common.{◌≡◌, ℕ, zero, suc, List, [], ◌∷◌, ◌++◌, refl, sym, ap, ◌∙◌, subst, arith, Bool, true, false, cond, ◌==◌, Option, Some, None}
+use Rattle.std.proofs.Common.{◌≡◌, ℕ, zero, List, [], ◌∷◌, ◌++◌, refl, sym, ap, ◌∙◌, subst, arith, Bool, true, false, cond, ◌==◌, Option, Some, None}
 use Rattle.std.proofs.lemmas.Bool.Decides.{nat_tests}
 use Rattle.sm_words.specs.Words.{word_at}
 use Rattle.insn_decode.specs.Code.{insn_of, length_of}
 use Rattle.insn_decode.specs.declared.insn.Insn.{Insn}
-use Rattle.insn_decode.specs.declared.insn.Insn.TheVariants.{Two, One, Jump, Reti, Unit as UnitOp}
+use Rattle.insn_decode.specs.declared.insn.Insn.TheVariants.{Reti}
 use Rattle.mod_layout.specs.Table.{place_of}
 use Rattle.mod_layout.specs.declared.Module.{Module}
 use Rattle.mod_layout.specs.declared.Place.{Place}
-use Rattle.mod_layout.specs.declared.Place.TheVariants.{Open, Entry, Text, Data}
+use Rattle.mod_layout.specs.declared.Place.TheVariants.{Entry}
 use Rattle.pc_access.specs.Rights.{is_id, first_denied, right}
 use Rattle.pc_access.specs.declared.Denied.{Denied}
 use Rattle.pc_access.specs.declared.Stop.{Stop}
@@ -16,9 +16,9 @@ use Rattle.reg_backup.specs.Held.{held_ids}
 use Rattle.reg_backup.specs.declared.backup.After.{After}
 use Rattle.reg_backup.specs.declared.backup.After.TheVariants.{Next, Handler, Resume, Close}
 use Rattle.reg_backup.specs.declared.backup.Phase.{Phase}
-use Rattle.reg_backup.specs.declared.backup.Phase.TheVariants.{Run, Pad}
+use Rattle.reg_backup.specs.declared.backup.Phase.TheVariants.{Run}
 use Rattle.reg_backup.specs.declared.frames.Frame.{Frame}
-use Rattle.reg_backup.specs.declared.frames.Frame.TheVariants.{Plain, Module as Held}
+use Rattle.reg_backup.specs.declared.frames.Frame.TheVariants.{Module as Held}
 use Rattle.attest.specs.Done.{own_of}
 use Rattle.cpu_step.specs.Asked.{asks, table_after}
 use Rattle.cpu_step.specs.Fetched.{insn_at}
@@ -39,29 +39,13 @@ module _ (m : ℕ) where
   both [] ys h g = g
   both (Event.Hide id v ∷ xs) ys h g = (h.0, both xs ys h.1 g)
   both (Event.Resume id ∷ xs) ys h g = (h.0, both xs ys h.1 g)
-  both (Event.Close id ∷ xs) ys h g = both xs ys h g
-  both (Event.Leave id pc ∷ xs) ys h g = both xs ys h g
-  both (Event.Handler pc ∷ xs) ys h g = both xs ys h g
-  both (Event.Irq v ∷ xs) ys h g = both xs ys h g
-  both (Event.Enter id x ∷ xs) ys h g = both xs ys h g
-  both (Event.Reti ∷ xs) ys h g = both xs ys h g
-  both (Event.Protect id ∷ xs) ys h g = both xs ys h g
-  both (Event.Out b ∷ xs) ys h g = both xs ys h g
-  both (Event.Stop x ∷ xs) ys h g = both xs ys h g
+  both (_ ∷ xs) ys h g = both xs ys h g
 
   pub still_notes : (k : ℕ) (es : List Event) (w : Away) → Still es → notes m k es w ≡ w
   still_notes k [] w h = refl
   still_notes k (Event.Hide id v ∷ es) w h = ap (λ c. notes m k es (away_if c (record { since = Some k; sum = w.sum }) w)) h.0 ∙ still_notes k es w h.1
   still_notes k (Event.Resume id ∷ es) w h = ap (λ c. notes m k es (away_if c (back_from w.since k w.sum) w)) h.0 ∙ still_notes k es w h.1
-  still_notes k (Event.Close id ∷ es) w h = still_notes k es w h
-  still_notes k (Event.Leave id pc ∷ es) w h = still_notes k es w h
-  still_notes k (Event.Handler pc ∷ es) w h = still_notes k es w h
-  still_notes k (Event.Irq v ∷ es) w h = still_notes k es w h
-  still_notes k (Event.Enter id x ∷ es) w h = still_notes k es w h
-  still_notes k (Event.Reti ∷ es) w h = still_notes k es w h
-  still_notes k (Event.Protect id ∷ es) w h = still_notes k es w h
-  still_notes k (Event.Out b ∷ es) w h = still_notes k es w h
-  still_notes k (Event.Stop x ∷ es) w h = still_notes k es w h
+  still_notes k (_ ∷ es) w h = still_notes k es w h
 
   pub notes_more : (k : ℕ) (es fs : List Event) (w : Away) → notes m k (es ++ fs) w ≡ notes m k fs (notes m k es w)
   notes_more k [] fs w = refl
@@ -92,9 +76,8 @@ module _ (m : ℕ) where
   returned_still None u q = q
 
   reti_still : (fs : List Frame) (s : State) → Still (reti_by fs s).events
-  reti_still [] s = returned_still (attempt Reti s).state.stop (attempt Reti s) (attempt_still Reti s)
-  reti_still (Plain ∷ fs) s = returned_still (attempt Reti s).state.stop (attempt Reti s) (attempt_still Reti s)
   reti_still (Held b ∷ fs) s = tt
+  reti_still _ s = returned_still (attempt Reti s).state.stop (attempt Reti s) (attempt_still Reti s)
 
   reti_of_still : (a : Option ℕ) (s : State) → Still (reti_of a s).events
   reti_of_still (Some id) s = tt
@@ -102,10 +85,7 @@ module _ (m : ℕ) where
 
   act_by_still : (insn : Insn) (s : State) → Still (act_by insn s).events
   act_by_still Reti s = reti_of_still s.active s
-  act_by_still (Two op w a b) s = attempt_still (Two op w a b) s
-  act_by_still (One op w a) s = attempt_still (One op w a) s
-  act_by_still (Jump c o) s = attempt_still (Jump c o) s
-  act_by_still (UnitOp n) s = attempt_still (UnitOp n) s
+  act_by_still insn s = attempt_still insn s
 
   act_on_still : (o : Option Insn) (s : State) → Still (act_on o s).events
   act_on_still None s = tt
@@ -137,10 +117,7 @@ module _ (m : ℕ) where
 
   enter_at_still : (p : Place) (a : Option ℕ) (left : ℕ) (s : State) → Still (enter_at p a left s).events
   enter_at_still (Entry id) None left s = tt
-  enter_at_still (Entry id) (Some x) left s = tt
-  enter_at_still Open a left s = tt
-  enter_at_still (Text id) a left s = tt
-  enter_at_still (Data id) a left s = tt
+  enter_at_still _ _ left s = tt
 
   enter_still : (left : ℕ) (s : State) → Still (enter left s).events
   unfolding enter
@@ -159,14 +136,11 @@ module _ (m : ℕ) where
   asleep_still false left s = begin_still left s
 
   by_still : (d o : Option ℕ) (p : Phase) (left : ℕ) (s : State) → is_id m o ≡ false → Still (turn_at d o p left s).events
-  by_still d o (Pad n) left s e = tt
   by_still (Some v) (Some id) (Run r) left s e = other_still v id s e
   by_still (Some v) None (Run zero) left s e = outside_still v s
-  by_still (Some v) None (Run (suc r)) left s e = tt
-  by_still None None (Run (suc r)) left s e = tt
-  by_still None (Some id) (Run (suc r)) left s e = tt
   by_still None None (Run zero) left s e = asleep_still (asleep s) left s
   by_still None (Some id) (Run zero) left s e = begin_still left s
+  by_still _ _ _ left s e = tt
 
   -- a turn of another
   pub turn_still : (left : ℕ) (s : State) → is_id m s.active ≡ false → Still (turn left s).events
@@ -178,23 +152,20 @@ module _ (m : ℕ) where
   Told false es = Still es
 
   resume_told : (fs : List Frame) (s : State) → is_id m s.active ≡ false → Told (is_id m (resume_from fs s).state.active) (resume_from fs s).events
-  resume_told [] s o = subst (λ c. Told c []) (sym o) tt
-  resume_told (Plain ∷ fs) s o = subst (λ c. Told c []) (sym o) tt
   resume_told (Held b ∷ fs) s o = by (b.module == m) refl
     where
       by : (c : Bool) → (b.module == m) ≡ c → Told (b.module == m) (Event.Resume b.module ∷ [])
       by true e = subst (λ c. Told c (Event.Resume b.module ∷ [])) (sym e) (let same : b.module ≡ m = grind (arith, nat_tests) in ap (λ i. Event.Resume i ∷ []) same)
       by false e = subst (λ c. Told c (Event.Resume b.module ∷ [])) (sym e) (e, tt)
+  resume_told _ s o = subst (λ c. Told c []) (sym o) tt
 
   close_told : (a : Option ℕ) (o : Option Module) (s : State) → is_id m s.active ≡ false → Told (is_id m (close_of a o s).state.active) (close_of a o s).events
-  close_told None o s n = subst (λ c. Told c []) (sym n) tt
-  close_told (Some id) None s n = subst (λ c. Told c []) (sym n) tt
   close_told (Some id) (Some x) s n = tt
+  close_told _ _ s n = subst (λ c. Told c []) (sym n) tt
 
   leave_told : (b : Bool) (a : Option ℕ) (s : State) → is_id m s.active ≡ false → Told (is_id m (leave_if b a s).state.active) (leave_if b a s).events
   leave_told false (Some id) s n = tt
-  leave_told false None s n = subst (λ c. Told c []) (sym n) tt
-  leave_told true a s n = subst (λ c. Told c []) (sym n) tt
+  leave_told _ _ s n = subst (λ c. Told c []) (sym n) tt
 
   by_told : (a : After) (s : State) → is_id m s.active ≡ false → Told (is_id m (settle_by a s).state.active) (settle_by a s).events
   by_told Resume s n = resume_told s.frames s n
@@ -204,8 +175,7 @@ module _ (m : ℕ) where
 
   in_told : (p : Phase) (s : State) → is_id m s.active ≡ false → Told (is_id m (settle_in p s).state.active) (settle_in p s).events
   in_told (Run zero) s n = by_told s.after s n
-  in_told (Run (suc r)) s n = subst (λ c. Told c []) (sym n) tt
-  in_told (Pad x) s n = subst (λ c. Told c []) (sym n) tt
+  in_told _ s n = subst (λ c. Told c []) (sym n) tt
 
   pub settle_told : (s : State) → is_id m s.active ≡ false → Told (is_id m (settle s).state.active) (settle s).events
   unfolding settle

@@ -1,13 +1,14 @@
 -- What a cycle tells of a stop.
 use Rattle.std.proofs.Common.{◌≡◌, ℕ, zero, suc, List, [], ◌∷◌, ◌++◌, ◌-◌, refl, sym, ◌∙◌, subst, Bool, true, false, cond, Option, Some, None}
+use Rattle.isolation.proofs.Tame.{ticked_stop}
 use Rattle.sm_words.specs.Words.{word_at}
 use Rattle.insn_decode.specs.Code.{insn_of, length_of}
 use Rattle.insn_decode.specs.declared.insn.Insn.{Insn}
-use Rattle.insn_decode.specs.declared.insn.Insn.TheVariants.{Two, One, Jump, Reti, Unit as UnitOp}
+use Rattle.insn_decode.specs.declared.insn.Insn.TheVariants.{Reti}
 use Rattle.mod_layout.specs.Table.{place_of}
 use Rattle.mod_layout.specs.declared.Module.{Module}
 use Rattle.mod_layout.specs.declared.Place.{Place}
-use Rattle.mod_layout.specs.declared.Place.TheVariants.{Open, Entry, Text, Data}
+use Rattle.mod_layout.specs.declared.Place.TheVariants.{Entry}
 use Rattle.pc_access.specs.Rights.{first_denied, right}
 use Rattle.pc_access.specs.declared.Denied.{Denied}
 use Rattle.pc_access.specs.declared.Stop.{Stop}
@@ -38,16 +39,7 @@ Silent es = stop_in es ≡ None
 silent_first : (xs ys : List Event) → Silent xs → stop_in (xs ++ ys) ≡ stop_in ys
 silent_first [] ys h = refl
 silent_first (Event.Stop x ∷ xs) ys h = absurd cc
-silent_first (Event.Resume m ∷ xs) ys h = silent_first xs ys h
-silent_first (Event.Close m ∷ xs) ys h = silent_first xs ys h
-silent_first (Event.Handler pc ∷ xs) ys h = silent_first xs ys h
-silent_first (Event.Leave m pc ∷ xs) ys h = silent_first xs ys h
-silent_first (Event.Hide m v ∷ xs) ys h = silent_first xs ys h
-silent_first (Event.Irq v ∷ xs) ys h = silent_first xs ys h
-silent_first (Event.Enter m x ∷ xs) ys h = silent_first xs ys h
-silent_first (Event.Reti ∷ xs) ys h = silent_first xs ys h
-silent_first (Event.Protect m ∷ xs) ys h = silent_first xs ys h
-silent_first (Event.Out b ∷ xs) ys h = silent_first xs ys h
+silent_first (_ ∷ xs) ys h = silent_first xs ys h
 
 told_tells : (es : List Event) (t : Step) → Silent es → Tells t → Tells (told es t)
 told_tells es t h g = silent_first es t.events h ∙ g
@@ -74,9 +66,8 @@ returned_tells (Some stop) t h = h
 returned_tells None t h = h
 
 reti_tells : (fs : List Frame) (s : State) → s.stop ≡ None → Tells (reti_by fs s)
-reti_tells [] s h = returned_tells (attempt Reti s).state.stop (attempt Reti s) (attempt_tells Reti s h)
-reti_tells (Plain ∷ fs) s h = returned_tells (attempt Reti s).state.stop (attempt Reti s) (attempt_tells Reti s h)
 reti_tells (Held b ∷ fs) s h = sym h
+reti_tells _ s h = returned_tells (attempt Reti s).state.stop (attempt Reti s) (attempt_tells Reti s h)
 
 reti_of_tells : (a : Option ℕ) (s : State) → s.stop ≡ None → Tells (reti_of a s)
 reti_of_tells (Some id) s h = refl
@@ -84,10 +75,7 @@ reti_of_tells None s h = reti_tells s.frames s h
 
 act_by_tells : (insn : Insn) (s : State) → s.stop ≡ None → Tells (act_by insn s)
 act_by_tells Reti s h = reti_of_tells s.active s h
-act_by_tells (Two op w a b) s h = attempt_tells (Two op w a b) s h
-act_by_tells (One op w a) s h = attempt_tells (One op w a) s h
-act_by_tells (Jump c o) s h = attempt_tells (Jump c o) s h
-act_by_tells (UnitOp n) s h = attempt_tells (UnitOp n) s h
+act_by_tells insn s h = attempt_tells insn s h
 
 act_on_tells : (o : Option Insn) (s : State) → s.stop ≡ None → Tells (act_on o s)
 act_on_tells None s h = refl
@@ -108,10 +96,7 @@ act_tells s h = act_first_tells (insn_of (word_at (byte_of s) (pc_of s)) 0 0) s 
 -- ---- a turn
 enter_at_silent : (p : Place) (a : Option ℕ) (left : ℕ) (s : State) → Silent (enter_at p a left s).events × ((enter_at p a left s).state.stop ≡ s.stop)
 enter_at_silent (Entry id) None left s = (refl, refl)
-enter_at_silent (Entry id) (Some x) left s = (refl, refl)
-enter_at_silent Open a left s = (refl, refl)
-enter_at_silent (Text id) a left s = (refl, refl)
-enter_at_silent (Data id) a left s = (refl, refl)
+enter_at_silent _ _ left s = (refl, refl)
 
 pub enter_silent : (left : ℕ) (s : State) → Silent (enter left s).events × ((enter left s).state.stop ≡ s.stop)
 unfolding enter
@@ -151,11 +136,10 @@ by_tells : (d o : Option ℕ) (p : Phase) (left : ℕ) (s : State) → s.stop �
 by_tells d o (Pad n) left s h = padded_tells (n - 1) s h
 by_tells (Some v) (Some id) (Run r) left s h = inside_tells v id s h
 by_tells (Some v) None (Run zero) left s h = outside_tells v s h
-by_tells (Some v) None (Run (suc r)) left s h = sym h
 by_tells None None (Run (suc r)) left s h = sym h
-by_tells None (Some id) (Run (suc r)) left s h = sym h
 by_tells None None (Run zero) left s h = asleep_tells (asleep s) left s h
 by_tells None (Some id) (Run zero) left s h = begin_tells left s h
+by_tells _ _ (Run (suc r)) left s h = sym h
 
 turn_tells : (left : ℕ) (s : State) → s.stop ≡ None → Tells (turn left s)
 turn_tells left s h = subst Tells (sym (turn_is left s)) (by_tells (due s) s.active s.phase left s h)
@@ -176,8 +160,7 @@ close_settles (Some id) (Some x) s = (refl, refl)
 
 leave_settles : (b : Bool) (a : Option ℕ) (s : State) → Settles s (leave_if b a s)
 leave_settles false (Some id) s = (refl, refl)
-leave_settles false None s = (refl, refl)
-leave_settles true a s = (refl, refl)
+leave_settles _ _ s = (refl, refl)
 
 settle_by_settles : (a : After) (s : State) → Settles s (settle_by a s)
 settle_by_settles Resume s = resume_settles s.frames s
@@ -187,16 +170,11 @@ settle_by_settles Next s = leave_settles (in_text (own_of s.active s.table) (pc_
 
 settle_in_settles : (p : Phase) (s : State) → Settles s (settle_in p s)
 settle_in_settles (Run zero) s = settle_by_settles s.after s
-settle_in_settles (Run (suc r)) s = (refl, refl)
-settle_in_settles (Pad n) s = (refl, refl)
+settle_in_settles _ s = (refl, refl)
 
 pub settle_settles : (s : State) → Settles s (settle s)
 unfolding settle
 settle_settles s = settle_in_settles s.phase s
-
-pub ticked_stop : (s : State) → (ticked s).stop ≡ s.stop
-unfolding ticked
-ticked_stop s = refl
 
 -- ---- a cycle
 sent_silent : (o : Option ℕ) → Silent (sent_event o)

@@ -3,14 +3,14 @@ use Rattle.std.proofs.Common.{◌≡◌, ◌≢◌, ◌⊎◌, inl, inr, ⊎_eli
 use Rattle.std.proofs.lemmas.Bool.Decides.{nat_tests}
 use Rattle.sm_words.specs.Words.{reg}
 use Rattle.insn_decode.specs.declared.insn.Insn.{Insn}
-use Rattle.insn_decode.specs.declared.insn.Insn.TheVariants.{Two, One, Jump, Reti, Unit as UnitOp}
+use Rattle.insn_decode.specs.declared.insn.Insn.TheVariants.{Unit as UnitOp}
 use Rattle.mod_layout.specs.Table.{Table, place_by, place_in, place_of, find_module, module_of, holds, without, drop_module, takes, with_module}
 use Rattle.mod_layout.specs.Tables.{Apart, IsSection, IsModule, Separate, SeparateFrom, AreModules, IsTable}
 use Rattle.mod_layout.specs.declared.Module.{Module}
 use Rattle.mod_layout.specs.declared.Place.{Place}
 use Rattle.mod_layout.specs.declared.Place.TheVariants.{Open, Entry, Text, Data}
 use Rattle.mod_layout.specs.declared.Section.{Section}
-use Rattle.attest.specs.Units.{UnitName, Unprotect, Protect, Attest, Tag, IdOf, OwnId, CallerId, unit_named, new_text, new_ram, table_by}
+use Rattle.attest.specs.Units.{UnitName, Protect, unit_named, new_text, new_ram, table_by}
 use Rattle.cpu_step.specs.Asked.{table_after}
 use Rattle.isolation.proofs.Rights.{Sound, holds_true, holds_in}
 use Rattle.mod_layout.proofs.TableLemmas.{apart_sym, table_dropped, table_more}
@@ -44,9 +44,6 @@ no_entry s a ok e = by (is_entry s a) refl
         let t = holds_in s a low (omega arith) in absurd (let c : true ≡ false = sym t ∙ e in cc)
 
 module _ (given : ℕ) (x : Module) (ok : IsModule given x) (rest : Place) (a : ℕ) where
-  here : Place
-  here = place_by (is_entry x.text a) (holds x.text a) (holds x.ram a) x.id rest
-
   place_skip : holds x.text a ≡ false → holds x.ram a ≡ false → place_by (is_entry x.text a) (holds x.text a) (holds x.ram a) x.id rest ≡ rest
   place_skip t r = rw (no_entry x.text a ok.text_ok t, t, r) refl
 
@@ -78,15 +75,11 @@ IsNot m (Data id) = id ≢ m
 
 says_not : (m : ℕ) (own : Module) (p : Place) (a : ℕ) → IsNot m p → Says m own p a
 says_not m own Open a h = tt
-says_not m own (Entry id) a h = λ e. absurd (h e)
-says_not m own (Text id) a h = λ e. absurd (h e)
-says_not m own (Data id) a h = λ e. absurd (h e)
+says_not m own _ a h = λ e. absurd (h e)
 
 not_by : (m id : ℕ) (e t r : Bool) (rest : Place) → id ≢ m → IsNot m rest → IsNot m (place_by e t r id rest)
-not_by m id true t r rest ne h = ne
-not_by m id false true r rest ne h = ne
-not_by m id false false true rest ne h = ne
 not_by m id false false false rest ne h = h
+not_by m id _ _ _ rest ne h = ne
 
 says_by : (m : ℕ) (own : Module) (a id : ℕ) (e t r : Bool) (rest : Place) → is_entry own.text a ≡ e → holds own.text a ≡ t → holds own.ram a ≡ r → IsNot m rest → Says m own (place_by e t r id rest) a
 says_by m own a id true t r rest he ht hr h = λ q. he
@@ -95,10 +88,8 @@ says_by m own a id false false true rest he ht hr h = λ q. hr
 says_by m own a id false false false rest he ht hr h = says_not m own rest a h
 
 says_skip : (m : ℕ) (own : Module) (a id : ℕ) (e t r : Bool) (rest : Place) → id ≢ m → Says m own rest a → Says m own (place_by e t r id rest) a
-says_skip m own a id true t r rest ne h = λ q. absurd (ne q)
-says_skip m own a id false true r rest ne h = λ q. absurd (ne q)
-says_skip m own a id false false true rest ne h = λ q. absurd (ne q)
 says_skip m own a id false false false rest ne h = h
+says_skip m own a id _ _ _ rest ne h = λ q. absurd (ne q)
 
 module _ (given : ℕ) (m : ℕ) where
   others_not : (x : Module) (ms : List Module) (a : ℕ) → x.id ≡ m → SeparateFrom x ms → IsNot m (place_in ms a)
@@ -228,17 +219,9 @@ sound_by m own t vendor text ram false e s = s
 
 sound_unit : (m : ℕ) (own : Module) (t : Table) (x : UnitName) (core : List ℕ) → Sound m own t → Sound m own (table_by x t core)
 sound_unit m own t Protect core s = sound_by m own t (reg core 11) (new_text core) (new_ram core) (takes t (new_text core) (new_ram core)) refl s
-sound_unit m own t Unprotect core s = s
-sound_unit m own t Attest core s = s
-sound_unit m own t Tag core s = s
-sound_unit m own t IdOf core s = s
-sound_unit m own t OwnId core s = s
-sound_unit m own t CallerId core s = s
+sound_unit m own t _ core s = s
 
 pub sound_after : (m : ℕ) (own : Module) (t : Table) (insn : Insn) (core : List ℕ) → Sound m own t → Sound m own (table_after t insn core)
 unfolding table_after
 sound_after m own t (UnitOp n) core s = sound_unit m own t (unit_named n) core s
-sound_after m own t (Two op w a b) core s = s
-sound_after m own t (One op w a) core s = s
-sound_after m own t (Jump c o) core s = s
-sound_after m own t Reti core s = s
+sound_after m own t _ core s = s

@@ -4,12 +4,12 @@ use Rattle.std.proofs.lemmas.Bool.Decides.{nat_tests}
 use Rattle.sm_words.specs.Words.{word_at}
 use Rattle.insn_decode.specs.Code.{insn_of, length_of}
 use Rattle.insn_decode.specs.declared.insn.Insn.{Insn}
-use Rattle.insn_decode.specs.declared.insn.Insn.TheVariants.{Two, One, Jump, Reti, Unit as UnitOp}
+use Rattle.insn_decode.specs.declared.insn.Insn.TheVariants.{Reti}
 use Rattle.schedule_file.specs.declared.Entry.{Entry as Scheduled}
 use Rattle.mod_layout.specs.Table.{place_of}
 use Rattle.mod_layout.specs.declared.Module.{Module}
 use Rattle.mod_layout.specs.declared.Place.{Place}
-use Rattle.mod_layout.specs.declared.Place.TheVariants.{Open, Entry, Text, Data}
+use Rattle.mod_layout.specs.declared.Place.TheVariants.{Entry}
 use Rattle.pc_access.specs.Rights.{first_denied, right}
 use Rattle.pc_access.specs.declared.Denied.{Denied}
 use Rattle.pc_access.specs.declared.Stop.{Stop}
@@ -61,124 +61,62 @@ Late (_ ∷ es) = Late es
 
 bare_both : (xs ys : List Event) → Bare xs → Bare ys → Bare (xs ++ ys)
 bare_both [] ys h g = g
-bare_both (Event.Irq v ∷ xs) ys h g = bare_both xs ys h g
-bare_both (Event.Enter id x ∷ xs) ys h g = bare_both xs ys h g
-bare_both (Event.Reti ∷ xs) ys h g = bare_both xs ys h g
-bare_both (Event.Protect id ∷ xs) ys h g = bare_both xs ys h g
-bare_both (Event.Out b ∷ xs) ys h g = bare_both xs ys h g
-bare_both (Event.Stop x ∷ xs) ys h g = bare_both xs ys h g
 bare_both (Event.Close id ∷ xs) ys h g = absurd h
 bare_both (Event.Leave id pc ∷ xs) ys h g = absurd h
 bare_both (Event.Handler pc ∷ xs) ys h g = absurd h
 bare_both (Event.Resume id ∷ xs) ys h g = absurd h
 bare_both (Event.Hide id v ∷ xs) ys h g = absurd h
+bare_both (_ ∷ xs) ys h g = bare_both xs ys h g
 
 bare_late : (xs : List Event) → Bare xs → Late xs
 bare_late [] h = tt
-bare_late (Event.Irq v ∷ xs) h = bare_late xs h
-bare_late (Event.Enter id x ∷ xs) h = bare_late xs h
-bare_late (Event.Reti ∷ xs) h = bare_late xs h
-bare_late (Event.Protect id ∷ xs) h = bare_late xs h
-bare_late (Event.Out b ∷ xs) h = bare_late xs h
-bare_late (Event.Stop x ∷ xs) h = bare_late xs h
 bare_late (Event.Close id ∷ xs) h = absurd h
 bare_late (Event.Leave id pc ∷ xs) h = absurd h
 bare_late (Event.Handler pc ∷ xs) h = absurd h
 bare_late (Event.Resume id ∷ xs) h = absurd h
 bare_late (Event.Hide id v ∷ xs) h = absurd h
+bare_late (_ ∷ xs) h = bare_late xs h
 
 pub bare_hides : (xs : List Event) → Bare xs → Hides xs → ⊥
 bare_hides [] h g = g
-bare_hides (Event.Irq v ∷ xs) h g = bare_hides xs h g
-bare_hides (Event.Enter id x ∷ xs) h g = bare_hides xs h g
-bare_hides (Event.Reti ∷ xs) h g = bare_hides xs h g
-bare_hides (Event.Protect id ∷ xs) h g = bare_hides xs h g
-bare_hides (Event.Out b ∷ xs) h g = bare_hides xs h g
-bare_hides (Event.Stop x ∷ xs) h g = bare_hides xs h g
 bare_hides (Event.Close id ∷ xs) h g = absurd h
 bare_hides (Event.Leave id pc ∷ xs) h g = absurd h
 bare_hides (Event.Handler pc ∷ xs) h g = absurd h
 bare_hides (Event.Resume id ∷ xs) h g = absurd h
 bare_hides (Event.Hide id v ∷ xs) h g = absurd h
+bare_hides (_ ∷ xs) h g = bare_hides xs h g
 
 -- events that end in such
 late_ends : (m : ℕ) (xs ys : List Event) → Late ys → Ends m (xs ++ ys) → Ends m xs
 late_ends m [] [] h g = g
-late_ends m [] (Event.Irq v ∷ ys) h g = late_ends m [] ys h g
-late_ends m [] (Event.Enter id x ∷ ys) h g = late_ends m [] ys h g
-late_ends m [] (Event.Reti ∷ ys) h g = late_ends m [] ys h g
-late_ends m [] (Event.Protect id ∷ ys) h g = late_ends m [] ys h g
-late_ends m [] (Event.Out b ∷ ys) h g = late_ends m [] ys h g
-late_ends m [] (Event.Stop x ∷ ys) h g = late_ends m [] ys h g
-late_ends m [] (Event.Hide id v ∷ ys) h g = late_ends m [] ys h g
 late_ends m [] (Event.Close id ∷ ys) h g = absurd h
 late_ends m [] (Event.Leave id pc ∷ ys) h g = absurd h
 late_ends m [] (Event.Handler pc ∷ ys) h g = absurd h
 late_ends m [] (Event.Resume id ∷ ys) h g = absurd h
 late_ends m (Event.Close id ∷ xs) ys h g = ⊎_elim inl (λ r. inr (late_ends m xs ys h r)) g
 late_ends m (Event.Leave id pc ∷ xs) ys h g = ⊎_elim inl (λ r. inr (late_ends m xs ys h r)) g
-late_ends m (Event.Irq v ∷ xs) ys h g = late_ends m xs ys h g
-late_ends m (Event.Enter id x ∷ xs) ys h g = late_ends m xs ys h g
-late_ends m (Event.Reti ∷ xs) ys h g = late_ends m xs ys h g
-late_ends m (Event.Protect id ∷ xs) ys h g = late_ends m xs ys h g
-late_ends m (Event.Out b ∷ xs) ys h g = late_ends m xs ys h g
-late_ends m (Event.Stop x ∷ xs) ys h g = late_ends m xs ys h g
-late_ends m (Event.Hide id v ∷ xs) ys h g = late_ends m xs ys h g
-late_ends m (Event.Handler pc ∷ xs) ys h g = late_ends m xs ys h g
-late_ends m (Event.Resume id ∷ xs) ys h g = late_ends m xs ys h g
+late_ends m (_ ∷ xs) ys h g = late_ends m xs ys h g
+late_ends m [] (_ ∷ ys) h g = late_ends m [] ys h g
 
 pub late_handles : (xs ys : List Event) → Late ys → Handles (xs ++ ys) → Handles xs
 late_handles [] [] h g = g
-late_handles [] (Event.Irq v ∷ ys) h g = late_handles [] ys h g
-late_handles [] (Event.Enter id x ∷ ys) h g = late_handles [] ys h g
-late_handles [] (Event.Reti ∷ ys) h g = late_handles [] ys h g
-late_handles [] (Event.Protect id ∷ ys) h g = late_handles [] ys h g
-late_handles [] (Event.Out b ∷ ys) h g = late_handles [] ys h g
-late_handles [] (Event.Stop x ∷ ys) h g = late_handles [] ys h g
-late_handles [] (Event.Hide id v ∷ ys) h g = late_handles [] ys h g
 late_handles [] (Event.Close id ∷ ys) h g = absurd h
 late_handles [] (Event.Leave id pc ∷ ys) h g = absurd h
 late_handles [] (Event.Handler pc ∷ ys) h g = absurd h
 late_handles [] (Event.Resume id ∷ ys) h g = absurd h
 late_handles (Event.Handler pc ∷ xs) ys h g = tt
-late_handles (Event.Close id ∷ xs) ys h g = late_handles xs ys h g
-late_handles (Event.Leave id pc ∷ xs) ys h g = late_handles xs ys h g
-late_handles (Event.Irq v ∷ xs) ys h g = late_handles xs ys h g
-late_handles (Event.Enter id x ∷ xs) ys h g = late_handles xs ys h g
-late_handles (Event.Reti ∷ xs) ys h g = late_handles xs ys h g
-late_handles (Event.Protect id ∷ xs) ys h g = late_handles xs ys h g
-late_handles (Event.Out b ∷ xs) ys h g = late_handles xs ys h g
-late_handles (Event.Stop x ∷ xs) ys h g = late_handles xs ys h g
-late_handles (Event.Hide id v ∷ xs) ys h g = late_handles xs ys h g
-late_handles (Event.Resume id ∷ xs) ys h g = late_handles xs ys h g
+late_handles (_ ∷ xs) ys h g = late_handles xs ys h g
+late_handles [] (_ ∷ ys) h g = late_handles [] ys h g
 
 pub hides_more : (xs ys : List Event) → Hides ys → Hides (xs ++ ys)
 hides_more [] ys g = g
 hides_more (Event.Hide id v ∷ xs) ys g = tt
-hides_more (Event.Close id ∷ xs) ys g = hides_more xs ys g
-hides_more (Event.Leave id pc ∷ xs) ys g = hides_more xs ys g
-hides_more (Event.Irq v ∷ xs) ys g = hides_more xs ys g
-hides_more (Event.Enter id x ∷ xs) ys g = hides_more xs ys g
-hides_more (Event.Reti ∷ xs) ys g = hides_more xs ys g
-hides_more (Event.Protect id ∷ xs) ys g = hides_more xs ys g
-hides_more (Event.Out b ∷ xs) ys g = hides_more xs ys g
-hides_more (Event.Stop x ∷ xs) ys g = hides_more xs ys g
-hides_more (Event.Handler pc ∷ xs) ys g = hides_more xs ys g
-hides_more (Event.Resume id ∷ xs) ys g = hides_more xs ys g
+hides_more (_ ∷ xs) ys g = hides_more xs ys g
 
 pub hides_front : (xs ys : List Event) → Hides xs → Hides (xs ++ ys)
 hides_front [] ys g = absurd g
 hides_front (Event.Hide id v ∷ xs) ys g = tt
-hides_front (Event.Close id ∷ xs) ys g = hides_front xs ys g
-hides_front (Event.Leave id pc ∷ xs) ys g = hides_front xs ys g
-hides_front (Event.Irq v ∷ xs) ys g = hides_front xs ys g
-hides_front (Event.Enter id x ∷ xs) ys g = hides_front xs ys g
-hides_front (Event.Reti ∷ xs) ys g = hides_front xs ys g
-hides_front (Event.Protect id ∷ xs) ys g = hides_front xs ys g
-hides_front (Event.Out b ∷ xs) ys g = hides_front xs ys g
-hides_front (Event.Stop x ∷ xs) ys g = hides_front xs ys g
-hides_front (Event.Handler pc ∷ xs) ys g = hides_front xs ys g
-hides_front (Event.Resume id ∷ xs) ys g = hides_front xs ys g
+hides_front (_ ∷ xs) ys g = hides_front xs ys g
 
 -- ---- an instruction
 pub record Tame (s : State) (t : Step) : Type 0 where
@@ -215,9 +153,8 @@ returned_tame (Some stop) s u q = q
 returned_tame None s u q = record { same = q.same; key = q.key; bare = q.bare; calm = q.calm }
 
 reti_tame : (fs : List Frame) (s : State) → Tame s (reti_by fs s)
-reti_tame [] s = returned_tame (attempt Reti s).state.stop s (attempt Reti s) (attempt_tame Reti s)
-reti_tame (Plain ∷ fs) s = returned_tame (attempt Reti s).state.stop s (attempt Reti s) (attempt_tame Reti s)
 reti_tame (Held b ∷ fs) s = record { same = refl; key = refl; bare = tt; calm = λ h. (refl, refl) }
+reti_tame _ s = returned_tame (attempt Reti s).state.stop s (attempt Reti s) (attempt_tame Reti s)
 
 reti_of_tame : (a : Option ℕ) (s : State) → Tame s (reti_of a s)
 reti_of_tame (Some id) s = record { same = refl; key = refl; bare = tt; calm = λ h. h }
@@ -225,10 +162,7 @@ reti_of_tame None s = reti_tame s.frames s
 
 act_by_tame : (insn : Insn) (s : State) → Tame s (act_by insn s)
 act_by_tame Reti s = reti_of_tame s.active s
-act_by_tame (Two op w a b) s = attempt_tame (Two op w a b) s
-act_by_tame (One op w a) s = attempt_tame (One op w a) s
-act_by_tame (Jump c o) s = attempt_tame (Jump c o) s
-act_by_tame (UnitOp n) s = attempt_tame (UnitOp n) s
+act_by_tame insn s = attempt_tame insn s
 
 act_on_tame : (o : Option Insn) (s : State) → Tame s (act_on o s)
 act_on_tame None s = record { same = refl; key = refl; bare = tt; calm = λ h. h }
@@ -248,10 +182,7 @@ act_tame s = act_first_tame (insn_of (word_at (byte_of s) (pc_of s)) 0 0) s
 
 enter_at_tame : (p : Place) (a : Option ℕ) (left : ℕ) (s : State) → Tame s (enter_at p a left s)
 enter_at_tame (Entry id) None left s = record { same = refl; key = refl; bare = tt; calm = λ h. (h.0, refl) }
-enter_at_tame (Entry id) (Some x) left s = record { same = refl; key = refl; bare = tt; calm = λ h. h }
-enter_at_tame Open a left s = record { same = refl; key = refl; bare = tt; calm = λ h. h }
-enter_at_tame (Text id) a left s = record { same = refl; key = refl; bare = tt; calm = λ h. h }
-enter_at_tame (Data id) a left s = record { same = refl; key = refl; bare = tt; calm = λ h. h }
+enter_at_tame _ _ left s = record { same = refl; key = refl; bare = tt; calm = λ h. h }
 
 enter_tame : (left : ℕ) (s : State) → Tame s (enter left s)
 unfolding enter
@@ -310,11 +241,10 @@ by_turned : (d o : Option ℕ) (p : Phase) (left : ℕ) (s : State) → s.phase 
 by_turned d o (Pad n) left s e = inr (inr (record { left = n; was = e; is = refl }))
 by_turned (Some v) (Some id) (Run r) left s e = inr (inl (inside_begins v id s))
 by_turned (Some v) None (Run zero) left s e = inl (outside_tame v s)
-by_turned (Some v) None (Run (suc r)) left s e = inl (wait_tame r s)
 by_turned None None (Run (suc r)) left s e = inl (wait_tame r s)
-by_turned None (Some id) (Run (suc r)) left s e = inl (wait_tame r s)
 by_turned None None (Run zero) left s e = inl (asleep_tame (asleep s) left s)
 by_turned None (Some id) (Run zero) left s e = inl (begin_tame left s)
+by_turned _ _ (Run (suc r)) left s e = inl (wait_tame r s)
 
 pub turned : (left : ℕ) (s : State) → Turned s (turn left s)
 turned left s = subst (Turned s) (sym (turn_is left s)) (by_turned (due s) s.active s.phase left s refl)
@@ -362,13 +292,11 @@ settle_same_by Next s = leave (in_text (own_of s.active s.table) (pc_of s)) s.ac
   where
     leave : (b : Bool) (a : Option ℕ) → Keeping s (leave_if b a s).state
     leave false (Some id) = (refl, refl)
-    leave false None = (refl, refl)
-    leave true a = (refl, refl)
+    leave _ _ = (refl, refl)
 
 settle_same_in : (p : Phase) (s : State) → Keeping s (settle_in p s).state
 settle_same_in (Run zero) s = settle_same_by s.after s
-settle_same_in (Run (suc r)) s = (refl, refl)
-settle_same_in (Pad n) s = (refl, refl)
+settle_same_in _ s = (refl, refl)
 
 pub settle_same : (s : State) → Keeping s (settle s).state
 unfolding settle
@@ -378,8 +306,24 @@ ticked_key : (s : State) → (ticked s).key ≡ s.key
 unfolding ticked
 ticked_key s = refl
 
+pub ticked_stop : (s : State) → (ticked s).stop ≡ s.stop
+unfolding ticked
+ticked_stop s = refl
+
+pub ticked_active : (s : State) → (ticked s).active ≡ s.active
+unfolding ticked
+ticked_active s = refl
+
 pub settled_key : (s : State) → (settle (ticked s)).state.key ≡ s.key
 settled_key s = (settle_same (ticked s)).1 ∙ ticked_key s
+
+pub counted_stop : (o : Option Stop) (t : Step) → (counted_by o t).state.stop ≡ t.state.stop
+counted_stop (Some stop) t = refl
+counted_stop None t = refl
+
+pub padded_stop : (n : ℕ) (s : State) → (padded n s).stop ≡ s.stop
+padded_stop zero s = refl
+padded_stop (suc n) s = refl
 
 counted_key : (o : Option Stop) (t : Step) → (counted_by o t).state.key ≡ t.state.key
 counted_key (Some stop) t = refl

@@ -3,7 +3,7 @@ use Rattle.sm_words.specs.Words.{reg}
 use Rattle.schedule_file.specs.declared.Entry.{Entry as Scheduled}
 use Rattle.mod_layout.specs.Table.{place_of}
 use Rattle.mod_layout.specs.declared.Place.{Place}
-use Rattle.mod_layout.specs.declared.Place.TheVariants.{Open, Entry, Text, Data}
+use Rattle.mod_layout.specs.declared.Place.TheVariants.{Open, Data}
 use Rattle.pc_access.specs.Rights.{is_id}
 use Rattle.pc_access.specs.declared.Stop.{Stop}
 use Rattle.image_text.specs.Image.{Image}
@@ -61,9 +61,7 @@ module _ (m : ℕ) where
   byte_coarse : (p : Place) (b : ℕ) → coarse_byte p (seen_byte (Only m) p b) ≡ seen_byte AllHidden p b
   unfolding coarse_byte
   byte_coarse Open b = refl
-  byte_coarse (Entry id) b = refl
-  byte_coarse (Text id) b = refl
-  byte_coarse (Data id) b = refl
+  byte_coarse _ b = refl
 
   low_coarse : (c : Bool) (p : Place) (b : ℕ) → cond c None (coarse_byte p (cond c None (seen_byte (Only m) p b))) ≡ cond c None (seen_byte AllHidden p b)
   low_coarse true p b = refl

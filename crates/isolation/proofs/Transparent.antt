@@ -11,7 +11,7 @@ use Rattle.pc_access.specs.Rights.{is_id, is_held}
 use Rattle.pc_access.specs.declared.Stop.{Stop}
 use Rattle.image_text.specs.Image.{Image, IsImage}
 use Rattle.reg_backup.specs.Held.{held_ids}
-use Rattle.cpu_step.specs.Lone.{Job, Lone, Outcome, Exit, Closing, Broken, Running, later, Doing, Waits, Closes, Leaves, Breaks, Does, doing, lone_does, lone_step_by, lone_step, lone_after, in_time, at_once, outcome, does_or_breaks, next_insn, job_of}
+use Rattle.cpu_step.specs.Lone.{Job, Lone, Outcome, Broken, later, Doing, Waits, Closes, Leaves, Breaks, Does, doing, lone_does, lone_step_by, lone_step, lone_after, in_time, at_once, outcome, does_or_breaks, next_insn, job_of}
 use Rattle.tracer.specs.declared.Event.{Event}
 use Rattle.written_machine.specs.Cycle.{Step, told, pc_of, settle, ticked, act, begin, turn, counted_by, move, cycle_by, cycle, after_cycles}
 use Rattle.written_machine.specs.Peers.{section}
@@ -33,10 +33,8 @@ module _ (j : Job) where
   step_first l (suc i) = ap (lone_step j) (step_first l i)
 
   not_later : (o : Outcome) → NotBroken (later o) → NotBroken o
-  not_later Running h = tt
-  not_later (Exit c d k) h = tt
-  not_later (Closing c d k) h = tt
   not_later (Broken d k) h = h
+  not_later _ h = tt
 
   -- once it has ended it stays
   stays_closed : (l : Lone) → doing j l ≡ Closes → (i : ℕ) → lone_after j l i ≡ l
@@ -70,24 +68,18 @@ module _ (j : Job) where
     where
       by : (d : Doing) → NotBroken (at_once d l)
       by Closes = tt
-      by Leaves = tt
-      by (Waits x) = tt
-      by (Does x) = tt
-      by Breaks = tt
+      by _ = tt
   not_sooner (suc c) l h = by (doing j l) h (λ l' h'. not_sooner c l' h')
     where
       more : (o : Outcome) → NotBroken o → NotBroken (later o)
-      more Running h = tt
-      more (Exit c d k) h = tt
-      more (Closing c d k) h = tt
       more (Broken d k) h = h
+      more _ h = tt
 
       by : (d : Doing) → NotBroken (in_time d (outcome j (suc c)) j l) → ((l' : Lone) → NotBroken (outcome j (suc c) l') → NotBroken (outcome j c l')) → NotBroken (in_time d (outcome j c) j l)
-      by Closes h r = tt
-      by Leaves h r = tt
       by (Waits x) h r = more (outcome j c (record l { rest = x })) (r (record l { rest = x }) (not_later (outcome j (suc c) (record l { rest = x })) h))
       by (Does x) h r = more (outcome j c (lone_does j x l)) (r (lone_does j x l) (not_later (outcome j (suc c) (lone_does j x l)) h))
       by Breaks h r = absurd h
+      by _ h r = tt
 
 module _ (m : ℕ) (own : Module) (key text : List ℕ) (from : ℕ) (s : State) (l0 : Lone) (c0 : ℕ) where
   -- c0 cycles were done before; n more cycles of the machine pass
@@ -117,9 +109,6 @@ module _ (m : ℕ) (own : Module) (key text : List ℕ) (from : ℕ) (s : State)
       stepped_is false u l f = f
 
 module _ (m : ℕ) (own : Module) (key text : List ℕ) (from : ℕ) where
-  begun : State → Lone
-  begun s = record { core = s.core; data_bytes = section own.ram s.memory; rest = 0; closing = false }
-
   begun_follows : (s : State) → Keeps m own key text s → is_held m (held_ids s.frames) ≡ false → Follows m own key text from (entered m own key text from s) (start m own key text from s)
   unfolding entered start
   begun_follows s k free =

@@ -1,14 +1,15 @@
 -- A turn in which the module is not active, also one that enters it.
 use Rattle.std.proofs.Common.{◌≡◌, ◌≢◌, ℕ, zero, suc, ◌+◌, ◌-◌, ◌%◌, ◌<◌, List, [], ◌∷◌, refl, sym, ap, ◌∙◌, subst, arith, Bool, true, false, ◌||◌, ◌==◌, Option, Some, None}
 use Rattle.std.proofs.lemmas.Bool.Decides.{nat_tests}
+use Rattle.pc_access.proofs.RightLemmas.{refused_not}
 use Rattle.sm_words.specs.Sums.{one_if}
 use Rattle.sm_words.specs.Words.{reg, IsCore}
 use Rattle.insn_decode.specs.declared.insn.Insn.{Insn}
 use Rattle.mod_layout.specs.Table.{place_of, holds}
 use Rattle.mod_layout.specs.declared.Module.{Module}
 use Rattle.mod_layout.specs.declared.Place.{Place}
-use Rattle.mod_layout.specs.declared.Place.TheVariants.{Open, Entry, Text, Data}
-use Rattle.pc_access.specs.Rights.{is_id, is_held, refuse_if, right, right_at}
+use Rattle.mod_layout.specs.declared.Place.TheVariants.{Entry, Data}
+use Rattle.pc_access.specs.Rights.{is_id, is_held, right, right_at}
 use Rattle.pc_access.specs.declared.Denied.{Denied}
 use Rattle.pc_access.specs.declared.Kind.TheVariants.{Fetch}
 use Rattle.pc_access.specs.declared.Rule.{Rule}
@@ -40,10 +41,6 @@ use Rattle.isolation.proofs.Cases.{turn_at, turn_unless, turn_is}
 -- ---- a fetch that is allowed
 fetch_data : (m : ℕ) (p : Place) (active : Option ℕ) (held : List ℕ) (a : ℕ) → right_at p active held Fetch a ≡ None → p ≢ Data m
 fetch_data m p active held a e d = let e' = subst (λ q. right_at q active held Fetch a ≡ None) d e in cc
-
-refused_false : (b : Bool) (r : Rule) (a id : ℕ) → refuse_if b r a id ≡ None → b ≡ false
-refused_false true r a id e = cc
-refused_false false r a id e = refl
 
 pub times_none : (m : ℕ) (fs : List Frame) → is_held m (held_ids fs) ≡ false → times m fs ≡ 0
 times_none m [] e = refl
@@ -83,17 +80,11 @@ module _ (m : ℕ) (own : Module) (key text : List ℕ) where
   -- entering another, or going on
   pub entered_active : (p : Place) (o : Option ℕ) (left : ℕ) (s : State) → s.active ≡ o → is_id m s.active ≡ false → is_id m (enter_at p o left s).state.active ≡ true → (p ≡ Entry m) × (o ≡ None)
   entered_active (Entry id) None left s e n h = let same : id ≡ m = grind (arith, nat_tests) in (ap Entry same, refl)
-  entered_active (Entry id) (Some x) left s e n h = absurd (let c : true ≡ false = sym h ∙ n in cc)
-  entered_active Open o left s e n h = absurd (let c : true ≡ false = sym h ∙ n in cc)
-  entered_active (Text id) o left s e n h = absurd (let c : true ≡ false = sym h ∙ n in cc)
-  entered_active (Data id) o left s e n h = absurd (let c : true ≡ false = sym h ∙ n in cc)
+  entered_active _ _ left s e n h = absurd (let c : true ≡ false = sym h ∙ n in cc)
 
   entered_light : (p : Place) (o : Option ℕ) (left : ℕ) (s : State) → (let t = (enter_at p o left s).state in (t.memory ≡ s.memory) × (t.frames ≡ s.frames) × (t.key ≡ s.key) × (t.table ≡ s.table) × (t.core ≡ s.core))
   entered_light (Entry id) None left s = (refl, refl, refl, refl, refl)
-  entered_light (Entry id) (Some x) left s = (refl, refl, refl, refl, refl)
-  entered_light Open o left s = (refl, refl, refl, refl, refl)
-  entered_light (Text id) o left s = (refl, refl, refl, refl, refl)
-  entered_light (Data id) o left s = (refl, refl, refl, refl, refl)
+  entered_light _ _ left s = (refl, refl, refl, refl, refl)
 
   enter_light : (left : ℕ) (s : State) → (let t = (enter left s).state in (t.memory ≡ s.memory) × (t.frames ≡ s.frames) × (t.key ≡ s.key) × (t.table ≡ s.table) × (t.core ≡ s.core))
   unfolding enter
@@ -185,7 +176,7 @@ module _ (m : ℕ) (own : Module) (key text : List ℕ) where
   pub entry_free : (s : State) → check s ≡ None → place_of s.table (pc_of s) ≡ Entry m → is_held m (held_ids s.frames) ≡ false
   entry_free s e p =
       let e' = subst (λ q. right_at q s.active (held_ids s.frames) Fetch (pc_of s) ≡ None) p (check_place s e) in
-      refused_false (is_held m (held_ids s.frames)) Rule.Reenter (pc_of s) m e'
+      refused_not (is_held m (held_ids s.frames)) Rule.Reenter (pc_of s) m e'
 
   pub entered_keeps : (left : ℕ) (s : State) → Keeps m own key text s → is_held m (held_ids s.frames) ≡ false → Keeps m own key text (entered left s)
   unfolding entered
@@ -258,8 +249,7 @@ module _ (m : ℕ) (own : Module) (key text : List ℕ) where
         moves_alike m own key text (entered left a) (entered left b) (lone_does (job_of key own text left) i (start left a)) (lone_does (job_of key own text left) i' (start left b)) (act (at_entry left a)) (act (at_entry left b))
         (entered_keeps left a ka fa) (entered_keeps left b kb fb) id id seen (entered_moves left a i ka ok_a pa ea) (entered_moves left b i' kb ok_b pb eb)
         (does_gie (job_of key own text left) (start left a) i ea ok_a.sixteen) (does_gie (job_of key own text left) (start left b) i' eb ok_b.sixteen) t
-    first_together left (Some i) None ea eb pa pb fa fb t = absurd t
-    first_together left None nb ea eb pa pb fa fb t = absurd t
+    first_together left _ _ ea eb pa pb fa fb t = absurd t
 
     enters : (left : ℕ) → left < 65536 → check a ≡ None → place_of a.table (pc_of a) ≡ Entry m → a.active ≡ None → Alike m own key text (begin left a) (begin left b)
     enters left small e p o =
@@ -313,12 +303,11 @@ module _ (m : ℕ) (own : Module) (key text : List ℕ) where
     by_cases (Some v) (Some id) (Run r) left small e =
         join (arrive_inside v id) (inside_outer v id a ka e out_a) (inside_outer v id b kb (sym same_active ∙ e) out_b)
     by_cases (Some v) None (Run zero) left small e = join (arrive_outside v) (arrive_outside_outer m own key text a ka out_a v) (arrive_outside_outer m own key text b kb out_b v)
-    by_cases (Some v) None (Run (suc r)) left small e = join (λ s. quiet (record s { phase = Run r })) (waits_outer (Run r) a ka out_a) (waits_outer (Run r) b kb out_b)
     by_cases None None (Run (suc r)) left small e = join (λ s. quiet (record s { phase = Run r })) (waits_outer (Run r) a ka out_a) (waits_outer (Run r) b kb out_b)
-    by_cases None (Some id) (Run (suc r)) left small e = join (λ s. quiet (record s { phase = Run r })) (waits_outer (Run r) a ka out_a) (waits_outer (Run r) b kb out_b)
     by_cases None None (Run zero) left small e =
         subst (λ x. Alike m own key text (turn_unless (asleep a) left a) (turn_unless x left b)) (ap asleep veiled) (unless_alike (asleep a) left small)
     by_cases None (Some id) (Run zero) left small e = begin_alike left small
+    by_cases _ _ (Run (suc r)) left small e = join (λ s. quiet (record s { phase = Run r })) (waits_outer (Run r) a ka out_a) (waits_outer (Run r) b kb out_b)
 
     pub outside_turn : (left : ℕ) → left < 65536 → Alike m own key text (turn left a) (turn left b)
     outside_turn left small =
@@ -353,11 +342,10 @@ module _ (m : ℕ) (own : Module) (key text : List ℕ) where
     cases_stay d o (Pad n) left e = (padded_outer (n - 1) s k out).stays
     cases_stay (Some v) (Some id) (Run x) left e = (inside_outer v id s k e out).stays
     cases_stay (Some v) None (Run zero) left e = (arrive_outside_outer m own key text s k out v).stays
-    cases_stay (Some v) None (Run (suc x)) left e = (waits_outer (Run x) s k out).stays
     cases_stay None None (Run (suc x)) left e = (waits_outer (Run x) s k out).stays
-    cases_stay None (Some id) (Run (suc x)) left e = (waits_outer (Run x) s k out).stays
     cases_stay None None (Run zero) left e = asleep_stays (asleep s) left
     cases_stay None (Some id) (Run zero) left e = checked_stays left (check s) refl
+    cases_stay _ _ (Run (suc x)) left e = (waits_outer (Run x) s k out).stays
 
     pub held_turn : (left : ℕ) → Stays m own key text s (turn left s).state
     held_turn left = subst (λ t. Stays m own key text s t.state) (sym (turn_is left s)) (cases_stay (due s) s.active s.phase left refl)
@@ -388,11 +376,10 @@ module _ (m : ℕ) (own : Module) (key text : List ℕ) where
     cases_idle d o (Pad n) left = ap (is_id m) (padded_light (n - 1) s).0 ∙ out
     cases_idle (Some v) (Some id) (Run x) left = inside_none v id s
     cases_idle (Some v) None (Run zero) left = arrived_idle v
-    cases_idle (Some v) None (Run (suc x)) left = out
     cases_idle None None (Run (suc x)) left = out
-    cases_idle None (Some id) (Run (suc x)) left = out
     cases_idle None None (Run zero) left = asleep_idle (asleep s) left
     cases_idle None (Some id) (Run zero) left = checked_idle left (check s) refl
+    cases_idle _ _ (Run (suc x)) left = out
 
     pub held_idle : (left : ℕ) → is_id m (turn left s).state.active ≡ false
     held_idle left = ap (λ t. is_id m t.state.active) (turn_is left s) ∙ cases_idle (due s) s.active s.phase left

@@ -7,7 +7,7 @@ use Rattle.schedule_file.specs.declared.Entry.{Entry as Scheduled}
 use Rattle.mod_layout.specs.Table.{Table, size_of, module_of, holds, place_of}
 use Rattle.mod_layout.specs.declared.Module.{Module}
 use Rattle.mod_layout.specs.declared.Place.{Place}
-use Rattle.mod_layout.specs.declared.Place.TheVariants.{Open, Entry, Text, Data}
+use Rattle.mod_layout.specs.declared.Place.TheVariants.{Data}
 use Rattle.mod_layout.specs.declared.Section.{Section}
 use Rattle.pc_access.specs.Rights.{is_id}
 use Rattle.pc_access.specs.declared.Stop.{Stop}
@@ -35,13 +35,10 @@ use Rattle.isolation.proofs.Settling.{ticked_hidden}
 use Rattle.isolation.proofs.Tables.{sound_from}
 use Rattle.isolation.proofs.Turns.{outside_turn}
 use Rattle.std.proofs.lemmas.Bool.{cases_lt}
+use Rattle.isolation.proofs.Tame.{ticked_active}
 use Rattle.sm_words.specs.Status.{is_gie}
 
 module _ (m : ℕ) (own : Module) (key text : List ℕ) where
-  ticked_active : (s : State) → (ticked s).active ≡ s.active
-  unfolding ticked
-  ticked_active s = refl
-
   ticked_twins : (a b : State) → Twins m own key text a b → Twins m own key text (ticked a) (ticked b)
   ticked_twins a b t =
       twins_stay_before m own key text a b (ticked a) (ticked b) t (ticked_stays m own key text a t.keeps_a) (ticked_stays m own key text b t.keeps_b)
@@ -161,10 +158,8 @@ module _ (m : ℕ) (own : Module) (key text : List ℕ) where
   data_by false x y h = ap Some (h refl)
 
   byte_seen : (p : Place) (x y : ℕ) → (p ≢ Data m → x ≡ y) → seen_byte (Only m) p x ≡ seen_byte (Only m) p y
-  byte_seen Open x y h = ap Some (h (λ e. cc))
-  byte_seen (Entry id) x y h = ap Some (h (λ e. cc))
-  byte_seen (Text id) x y h = ap Some (h (λ e. cc))
   byte_seen (Data id) x y h = data_by (id == m) x y (λ c. h (λ e. let same : id ≡ m = cc in let t : (id == m) ≡ true = grind (arith, nat_tests) in let f : true ≡ false = sym t ∙ c in cc))
+  byte_seen _ x y h = ap Some (h (λ e. cc))
 
   hid : (a : Option ℕ) → is_hidden_by (Only m) a ≡ is_id m a
   hid None = refl

@@ -1,6 +1,7 @@
 -- An instruction that is no unit instruction.
-use Rattle.std.proofs.Common.{◌≡◌, ℕ, ◌-◌, List, [], ◌∷◌, map, refl, sym, ap, ◌∙◌, Bool, true, false, ◌&&◌, not, IsFalse, None}
+use Rattle.std.proofs.Common.{◌≡◌, ℕ, ◌-◌, List, [], ◌∷◌, map, refl, sym, ap, ◌∙◌, true, false, IsFalse, None}
 use Rattle.std.proofs.lemmas.List.Elements.{All-cons, All-nil}
+use Rattle.std.proofs.lemmas.Bool.{and_parts, not-true}
 use Rattle.insn_decode.specs.Code.{is_unit}
 use Rattle.insn_decode.specs.declared.insn.Insn.{Insn}
 use Rattle.insn_decode.specs.declared.insn.Insn.TheVariants.{Unit as UnitOp}
@@ -12,7 +13,7 @@ use Rattle.cpu_step.specs.Plan.{plan}
 use Rattle.cpu_step.specs.Effect.{does}
 use Rattle.cpu_step.specs.Asked.{asks, effect}
 use Rattle.cpu_step.specs.Through.{AreAligned, Taken, taken, stored_in, through}
-use Rattle.cpu_step.specs.Lone.{Job, lone_read, lone_writes, lone_does, lone_who, all_inside, is_inside, inside_by}
+use Rattle.cpu_step.specs.Lone.{Job, lone_read, lone_writes, lone_does, lone_who, all_inside, is_inside}
 use Rattle.cpu_step.proofs.ThroughLemmas.{AtMostOne, few_writes}
 use Rattle.lone_run.specs.Jobs.{between}
 use Rattle.lone_run.specs.Sections.{Held, answered, after_held, after_put}
@@ -66,24 +67,12 @@ plain_done j core ram after left insn s k free ea es el ek =
 
 -- ---- what stays in the sections is aligned
 
-false_left : (a b : Bool) → (not a && b) ≡ true → a ≡ false
-false_left true b e = absurd cc
-false_left false b e = refl
-
-left_true : (a b : Bool) → (a && b) ≡ true → a ≡ true
-left_true true b e = refl
-left_true false b e = absurd cc
-
-right_true : (a b : Bool) → (a && b) ≡ true → b ≡ true
-right_true true b e = e
-right_true false b e = absurd cc
-
 all_aligned : (j : Job) (xs : List Access) → all_inside j xs ≡ true → AreAligned xs
 all_aligned j [] e = All-nil (λ (y : Access). IsFalse (misaligned y.width y.addr))
 all_aligned j (x ∷ xs) e =
     All-cons (λ (y : Access). IsFalse (misaligned y.width y.addr)) x xs
-    (false_left (misaligned x.width x.addr) (inside_by x.kind j x.addr) (left_true (is_inside j x) (all_inside j xs) e))
-    (all_aligned j xs (right_true (is_inside j x) (all_inside j xs) e))
+    (not-true (misaligned x.width x.addr) (and_parts _ _ (and_parts (is_inside j x) (all_inside j xs) e).0).0)
+    (all_aligned j xs (and_parts (is_inside j x) (all_inside j xs) e).1)
 
 pub plain_aligned : (j : Job) (insn : Insn) (core : List ℕ) → IsFalse (is_unit insn) → all_inside j (asks (lone_who j) insn core) ≡ true → AreAligned (plan insn core)
 unfolding asks

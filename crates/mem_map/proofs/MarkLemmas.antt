@@ -1,7 +1,7 @@
 -- What the present bytes and those of the marks are after each change of the pool.
 use Rattle.std.proofs.Common.{◌≡◌, ◌≢◌, ℕ, ◌+◌, ◌-◌, ◌*◌, ◌<◌, ◌≤◌, true, false, Bool, cond, List, [], ◌∷◌, ◌++◌, Some, None, Option, IsSome, is_some, unwrap_or, length, get_or, take, drop, append_assoc, All, map, count_by, replicate, sym, refl, subst, ap, ◌∙◌, arith, suc, ⊎_elim}
 use Rattle.std.proofs.Math.ListN.{set}
-use Rattle.std.proofs.lemmas.Bool.{false≢true, cases_lt}
+use Rattle.std.proofs.lemmas.Bool.{false≢true, cases_lt, cond-true, cond-false}
 use Rattle.std.proofs.lemmas.List.{length-set, take_all, drop_all, append-nil, set-set, length-append, length-map, length-take-le, length-replicate, get_or-replicate, set_at, map-append, get_or_append_left, get_or_push, get_or-set_same, get_or-set_other, get_or-map, get_or_default, get_or_past}
 use Rattle.std.proofs.lemmas.List.Elements.{All-nil, All-head, All-tail, All-cons, All-get_or, All-from_get_or, All-push, All-weaker}
 use Rattle.std.proofs.Math.Seq.{take-append_seam, take-suc, drop-cons}
@@ -15,12 +15,6 @@ use Rattle.mem_map.specs.Marks.{contents_of, IsMarked}
 
 abbrev pub Tables : Type 0
 Tables = List (Option (List ℕ))
-
-is_one : (b : Bool) → b ≡ true → cond {A = ℕ} b 1 0 ≡ 1
-is_one b e = rw e refl
-
-is_none : (b : Bool) → b ≡ false → cond {A = ℕ} b 1 0 ≡ 0
-is_none b e = rw e refl
 
 live_there : (tables : Tables) (t : ℕ) → IsLive tables t → t < length tables
 live_there tables t l = ⊎_elim (λ h. h)
@@ -66,7 +60,7 @@ written_marked tables present marks room bytes k =
     let there = live_there tables present k.live in
     let long = length-set tables present (Some bytes) in
     let moved = live_set tables present (Some bytes) there in
-    let was = is_one (is_some (get_or tables present None)) k.live in
+    let was = cond-true {A = ℕ} (is_some (get_or tables present None)) 1 0 k.live in
     let alone = k.alone in
     record {
       tables_length = long ∙ k.tables_length;
@@ -91,7 +85,7 @@ all_counted : (tables : Tables) → All (λ o. IsSome o) tables → count_by (λ
 all_counted [] h = refl
 all_counted (o ∷ os) h =
     let e = sum_by-cons (λ (table : Option (List ℕ)). cond {A = ℕ} (is_some table) 1 0) o os in
-    let one = is_one (is_some o) (All-head (λ o. IsSome o) o os h) in
+    let one = cond-true {A = ℕ} (is_some o) 1 0 (All-head (λ o. IsSome o) o os h) in
     let rest = all_counted os (All-tail (λ o. IsSome o) o os h) in
     omega arith
 
@@ -100,11 +94,11 @@ head_live : (o : Option (List ℕ)) (os : Tables) (b : Bool) → is_some o ≡ b
     → (is_some o ≡ true) × (count_by (λ table. is_some table) os ≡ length os)
 head_live o os true f h =
     let e = sum_by-cons (λ (table : Option (List ℕ)). cond {A = ℕ} (is_some table) 1 0) o os in
-    let one = is_one (is_some o) f in
+    let one = cond-true {A = ℕ} (is_some o) 1 0 f in
     (f, omega arith)
 head_live o os false f h = absurd (
     let e = sum_by-cons (λ (table : Option (List ℕ)). cond {A = ℕ} (is_some table) 1 0) o os in
-    let none = is_none (is_some o) f in
+    let none = cond-false {A = ℕ} (is_some o) 1 0 f in
     let most = count_by-le-length (λ (table : Option (List ℕ)). is_some table) os in
     omega arith)
 
@@ -158,7 +152,7 @@ mark_marked tables present marks room u k n =
     let long = length-set tables u (table_of tables present) in
     let moved = live_set tables u (table_of tables present) n.there in
     let was = none_counts (get_or tables u None) n.unused in
-    let now = is_one (is_some (table_of tables present)) k.live in
+    let now = cond-true {A = ℕ} (is_some (table_of tables present)) 1 0 k.live in
     let longer = length-append marks (u ∷ []) in
     let alone = k.alone in
     record {
@@ -202,7 +196,7 @@ drop_marked tables present marks front room mark k e =
     let there = live_there tables mark live_mark in
     let long = length-set tables mark None in
     let moved : count_by (λ table. is_some table) (set tables mark None) + cond {A = ℕ} (is_some (get_or tables mark None)) 1 0 ≡ count_by (λ table. is_some table) tables + 0 = live_set tables mark None there in
-    let was = is_one (is_some (get_or tables mark None)) live_mark in
+    let was = cond-true {A = ℕ} (is_some (get_or tables mark None)) 1 0 live_mark in
     let alone = k.alone in
     record {
       tables_length = long ∙ k.tables_length;
@@ -255,11 +249,11 @@ load_marked tables present marks room k mark u m h e n =
     let long = length-set first u o in
     let there = live_there tables present m.live in
     let moved_first : count_by (λ table. is_some table) first + cond {A = ℕ} (is_some (get_or tables present None)) 1 0 ≡ count_by (λ table. is_some table) tables + 0 = live_set tables present None there in
-    let was_first = is_one (is_some (get_or tables present None)) m.live in
+    let was_first = cond-true {A = ℕ} (is_some (get_or tables present None)) 1 0 m.live in
     let moved = live_set first u o n.there in
     let was = none_counts (get_or first u None) n.unused in
     let live_mark = mark_live tables present marks room k mark m h e in
-    let now = is_one (is_some o) live_mark in
+    let now = cond-true {A = ℕ} (is_some o) 1 0 live_mark in
     let alone = m.alone in
     record {
       tables_length = long ∙ long_first ∙ m.tables_length;

@@ -1,5 +1,7 @@
 -- The module with an id, and addresses inside and outside of sections.
 use Rattle.std.proofs.Common.{◌≡◌, ◌⊎◌, inl, inr, ⊎_elim, ℕ, ◌<◌, ◌≤◌, List, [], ◌∷◌, Bool, true, false, cond, nat_lt, nat_le, ◌&&◌, ◌==◌, Option, Some, None, IfSome, refl, sym, ◌∙◌, ap, subst, arith}
+pub use Rattle.std.proofs.lemmas.Bool.{and_parts as and_true}
+use Rattle.std.proofs.lemmas.Bool.{and_right}
 use Rattle.std.proofs.lemmas.Bool.Decides.{nat_tests}
 use Rattle.mod_layout.specs.declared.Section.{Section}
 use Rattle.mod_layout.specs.declared.Module.{Module}
@@ -8,18 +10,10 @@ use Rattle.mod_layout.specs.Tables.{Apart, IsModule, Separate, SeparateFrom, Are
 
 -- ---- addresses
 
-and_false : (b : Bool) → (b && false) ≡ false
-and_false true = refl
-and_false false = refl
-
-pub and_true : (b c : Bool) → (b && c) ≡ true → (b ≡ true) × (c ≡ true)
-and_true true c e = (refl, e)
-and_true false c e = absurd (let h : false ≡ true = e in (cc))
-
 -- an address outside a section
 pub outside : (s : Section) (a : ℕ) → (a < s.start) ⊎ (s.end ≤ a) → holds s a ≡ false
 outside s a (inl h) = ap (λ (b : Bool). b && nat_lt a s.end) (let e : nat_le s.start a ≡ false = grind (arith, nat_tests) in e)
-outside s a (inr h) = ap (λ (b : Bool). nat_le s.start a && b) (let e : nat_lt a s.end ≡ false = grind (arith, nat_tests) in e) ∙ and_false (nat_le s.start a)
+outside s a (inr h) = ap (λ (b : Bool). nat_le s.start a && b) (let e : nat_lt a s.end ≡ false = grind (arith, nat_tests) in e) ∙ and_right (nat_le s.start a) false refl
 
 pub within : (s : Section) (a : ℕ) → s.start ≤ a → a < s.end → holds s a ≡ true
 within s a low high =

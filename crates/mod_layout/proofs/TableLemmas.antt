@@ -2,6 +2,7 @@
 use Rattle.std.proofs.Common.{◌≡◌, inl, inr, ⊎_elim, ℕ, ◌+◌, ◌%◌, ◌<◌, ◌≤◌, List, [], ◌∷◌, ◌++◌, length, length-append, Bool, true, false, nat_lt, nat_le, cond, not, ◌&&◌, ◌||◌, ◌==◌, Option, Some, None, IsSome, is_none, refl, sym, ap, ◌∙◌, subst, arith, one-add}
 use Rattle.std.specs.List.{find, remove, position_or_len, position}
 use Rattle.std.proofs.lemmas.Bool.Decides.{nat_tests}
+use Rattle.std.proofs.lemmas.Bool.{not-false, and_from, and_parts, or_parts}
 use Rattle.mod_layout.specs.declared.TheConstants.{DEVICES_END, FIRST_VECTOR}
 use Rattle.mod_layout.specs.declared.Section.{Section}
 use Rattle.mod_layout.specs.declared.Module.{Module}
@@ -104,26 +105,6 @@ table_dropped t id ok =
 
 -- ---- a module comes
 
-pub and_left : (a b : Bool) → (a && b) ≡ true → a ≡ true
-and_left true b e = refl
-and_left false b e = e
-
-pub and_right : (a b : Bool) → (a && b) ≡ true → b ≡ true
-and_right true b e = e
-and_right false b e = cc
-
-pub not_true : (b : Bool) → not b ≡ true → b ≡ false
-not_true true e = cc
-not_true false e = refl
-
-pub or_left : (a b : Bool) → (a || b) ≡ false → a ≡ false
-or_left true b e = e
-or_left false b e = refl
-
-pub or_right : (a b : Bool) → (a || b) ≡ false → b ≡ false
-or_right true b e = cc
-or_right false b e = e
-
 pub apart_sym : (s r : Section) → Apart s r → Apart r s
 apart_sym s r h = ⊎_elim inr inl h
 
@@ -161,18 +142,14 @@ none_of : (o : Option TableFault) → is_none o ≡ true → o ≡ None
 none_of None e = refl
 none_of (Some f) e = absurd cc
 
-pub false_of : (b : Bool) → not b ≡ false → b ≡ true
-false_of true e = refl
-false_of false e = cc
-
 pub section_ok : (s : Section) → is_empty s ≡ false → is_odd s ≡ false → is_reserved s ≡ false → IsSection s
 section_ok s a b c =
-    let o = false_of (nat_lt s.start s.end) a in
-    let p = false_of ((s.start % 2 == 0) && (s.end % 2 == 0)) b in
-    let p1 = and_left (s.start % 2 == 0) (s.end % 2 == 0) p in
-    let p2 = and_right (s.start % 2 == 0) (s.end % 2 == 0) p in
-    let l = or_left (nat_lt s.start DEVICES_END) (nat_lt FIRST_VECTOR s.end) c in
-    let h = or_right (nat_lt s.start DEVICES_END) (nat_lt FIRST_VECTOR s.end) c in
+    let o = not-false (nat_lt s.start s.end) a in
+    let p = not-false ((s.start % 2 == 0) && (s.end % 2 == 0)) b in
+    let p1 = (and_parts (s.start % 2 == 0) (s.end % 2 == 0) p).0 in
+    let p2 = (and_parts (s.start % 2 == 0) (s.end % 2 == 0) p).1 in
+    let l = (or_parts (nat_lt s.start DEVICES_END) (nat_lt FIRST_VECTOR s.end) c).0 in
+    let h = (or_parts (nat_lt s.start DEVICES_END) (nat_lt FIRST_VECTOR s.end) c).1 in
     record { order = grind (arith, nat_tests); even_start = grind (arith, nat_tests); even_end = grind (arith, nat_tests); low = grind (arith, nat_tests); high = grind (arith, nat_tests) }
 
 pub record Taken (t : Table) (text ram : Section) : Type 0 where
@@ -191,11 +168,11 @@ taken t text ram e =
     let e4 = no_fault (is_reserved text || is_reserved ram) Reserved _ e3.2 in
     let e5 = no_fault (not (nat_lt (length t.modules) t.room)) Full _ e4.1 in
     let e6 = no_fault (not (nat_lt t.given 65535)) Spent None e5.1 in
-    let r = false_of (nat_lt (length t.modules) t.room) e5.0 in
-    let g = false_of (nat_lt t.given 65535) e6.0 in
+    let r = not-false (nat_lt (length t.modules) t.room) e5.0 in
+    let g = not-false (nat_lt t.given 65535) e6.0 in
     record {
-      text_ok = section_ok text (or_left (is_empty text) (is_empty ram) e1.0) (or_left (is_odd text) (is_odd ram) e2.0) (or_left (is_reserved text) (is_reserved ram) e4.0);
-      ram_ok = section_ok ram (or_right (is_empty text) (is_empty ram) e1.0) (or_right (is_odd text) (is_odd ram) e2.0) (or_right (is_reserved text) (is_reserved ram) e4.0);
+      text_ok = section_ok text (or_parts (is_empty text) (is_empty ram) e1.0).0 (or_parts (is_odd text) (is_odd ram) e2.0).0 (or_parts (is_reserved text) (is_reserved ram) e4.0).0;
+      ram_ok = section_ok ram (or_parts (is_empty text) (is_empty ram) e1.0).1 (or_parts (is_odd text) (is_odd ram) e2.0).1 (or_parts (is_reserved text) (is_reserved ram) e4.0).1;
       none = none_met text ram t.modules e3.0;
       apart = e3.1;
       room = grind (arith, nat_tests);
@@ -206,12 +183,12 @@ module _ (given : ℕ) (new : Module) (new_ok : IsModule (given + 1) new) (id_is
   separate_new : (x : Module) → IsModule given x → meets new.text new.ram x ≡ false → Separate x new
   separate_new x ok h =
       let t = new.text in let r = new.ram in
-      let a4 = or_right (shares t x.text || shares t x.ram || shares r x.text) (shares r x.ram) h in
-      let h3 = or_left (shares t x.text || shares t x.ram || shares r x.text) (shares r x.ram) h in
-      let a3 = or_right (shares t x.text || shares t x.ram) (shares r x.text) h3 in
-      let h2 = or_left (shares t x.text || shares t x.ram) (shares r x.text) h3 in
-      let a2 = or_right (shares t x.text) (shares t x.ram) h2 in
-      let a1 = or_left (shares t x.text) (shares t x.ram) h2 in
+      let a4 = (or_parts (shares t x.text || shares t x.ram || shares r x.text) (shares r x.ram) h).1 in
+      let h3 = (or_parts (shares t x.text || shares t x.ram || shares r x.text) (shares r x.ram) h).0 in
+      let a3 = (or_parts (shares t x.text || shares t x.ram) (shares r x.text) h3).1 in
+      let h2 = (or_parts (shares t x.text || shares t x.ram) (shares r x.text) h3).0 in
+      let a2 = (or_parts (shares t x.text) (shares t x.ram) h2).1 in
+      let a1 = (or_parts (shares t x.text) (shares t x.ram) h2).0 in
       let to = new_ok.text_ok.order in let ro = new_ok.ram_ok.order in
       record {
         texts = apart_sym t x.text (apart_of t x.text to ok.text_ok.order a1);
@@ -231,7 +208,7 @@ module _ (given : ℕ) (new : Module) (new_ok : IsModule (given + 1) new) (id_is
   are_more : (ms : List Module) → AreModules given ms → meets_any new.text new.ram ms ≡ false → AreModules (given + 1) (ms ++ new ∷ [])
   are_more [] h e = (new_ok, tt, tt)
   are_more (x ∷ ms) h e =
-      (known_more x h.0, separate_more x ms h.1 (separate_new x h.0 (or_left (meets new.text new.ram x) (meets_any new.text new.ram ms) e)), are_more ms h.2 (or_right (meets new.text new.ram x) (meets_any new.text new.ram ms) e))
+      (known_more x h.0, separate_more x ms h.1 (separate_new x h.0 (or_parts (meets new.text new.ram x) (meets_any new.text new.ram ms) e).0), are_more ms h.2 (or_parts (meets new.text new.ram x) (meets_any new.text new.ram ms) e).1)
 
 pub table_more : (t : Table) (vendor : ℕ) (text ram : Section) → IsTable t → takes t text ram ≡ true → IsTable (with_module t vendor text ram)
 table_more t vendor text ram ok h =
@@ -248,10 +225,6 @@ same_test true c f g = sym (f refl)
 same_test false true f g = g refl
 same_test false false f g = refl
 
-and_both : (a b : Bool) → a ≡ true → b ≡ true → (a && b) ≡ true
-and_both true b e f = f
-and_both false b e f = e
-
 -- a section with even ends holds both bytes of a word or neither
 held_both : (s : Section) (a : ℕ) → IsSection s → a % 2 ≡ 0 → holds s (a + 1) ≡ holds s a
 held_both s a ok even = same_test (holds s (a + 1)) (holds s a) up down
@@ -264,23 +237,23 @@ held_both s a ok even = same_test (holds s (a + 1)) (holds s a) up down
 
     up : holds s (a + 1) ≡ true → holds s a ≡ true
     up h =
-        let p = and_left (nat_le s.start (a + 1)) (nat_lt (a + 1) s.end) h in
-        let q = and_right (nat_le s.start (a + 1)) (nat_lt (a + 1) s.end) h in
+        let p = (and_parts (nat_le s.start (a + 1)) (nat_lt (a + 1) s.end) h).0 in
+        let q = (and_parts (nat_le s.start (a + 1)) (nat_lt (a + 1) s.end) h).1 in
         let l : s.start ≤ a + 1 = grind (arith, nat_tests) in
         let r : a + 1 < s.end = grind (arith, nat_tests) in
         let l' : s.start ≤ a = omega arith in
         let r' : a < s.end = omega arith in
-        and_both (nat_le s.start a) (nat_lt a s.end) (grind (arith, nat_tests)) (grind (arith, nat_tests))
+        and_from (nat_le s.start a) (nat_lt a s.end) (grind (arith, nat_tests)) (grind (arith, nat_tests))
 
     down : holds s a ≡ true → holds s (a + 1) ≡ true
     down h =
-        let p = and_left (nat_le s.start a) (nat_lt a s.end) h in
-        let q = and_right (nat_le s.start a) (nat_lt a s.end) h in
+        let p = (and_parts (nat_le s.start a) (nat_lt a s.end) h).0 in
+        let q = (and_parts (nat_le s.start a) (nat_lt a s.end) h).1 in
         let l : s.start ≤ a = grind (arith, nat_tests) in
         let r : a < s.end = grind (arith, nat_tests) in
         let l' : s.start ≤ a + 1 = omega arith in
         let r' : a + 1 < s.end = omega arith in
-        and_both (nat_le s.start (a + 1)) (nat_lt (a + 1) s.end) (grind (arith, nat_tests)) (grind (arith, nat_tests))
+        and_from (nat_le s.start (a + 1)) (nat_lt (a + 1) s.end) (grind (arith, nat_tests)) (grind (arith, nat_tests))
 
 -- so has an entry word
 entered_both : (start a : ℕ) → start % 2 ≡ 0 → a % 2 ≡ 0 → ((a + 1 == start) || (a + 1 == start + 1)) ≡ ((a == start) || (a == start + 1))

@@ -8,9 +8,10 @@ use Rattle.std.proofs.lemmas.List.Elements.{All-get_or, All-set}
 use Rattle.page_pool.specs.declared.store.Table.{Table}
 use Rattle.page_pool.specs.Naming.{names_of, bytes_at, table_at, tables_at, IsCounted}
 use Rattle.page_pool.specs.Counts.{times_in, IsFree}
-use Rattle.page_pool.proofs.TableLemmas.{names_in, counts_one, counts_none, counts_cover_more, names_of-set_place, bytes_at-set_place, tables_at-set_unnamed, live_bytes, live_names}
+use Rattle.page_pool.proofs.TableLemmas.{names_in, counts_cover_more, names_of-set_place, bytes_at-set_place, tables_at-set_unnamed, live_bytes, live_names}
 use Rattle.page_pool.proofs.PageLemmas.{bytes_at-set_unnamed}
 use Rattle.std.proofs.Math.Seq.{map-set_same}
+use Rattle.std.proofs.lemmas.Bool.{cond-true, cond-false}
 
 -- ---- counts
 
@@ -20,16 +21,16 @@ pub zeros_set : (counts : List ℕ) (i c : ℕ) → i < length counts
 zeros_set counts i c h = sum_by-set (λ count. cond {A = ℕ} (eqb count 0) 1 0) counts i c 0 h
 
 pub not_zero : (c : ℕ) → 1 ≤ c → cond {A = ℕ} (eqb c 0) 1 0 ≡ 0
-not_zero c h = ⊎_elim (λ e. absurd (let z : c ≡ 0 = e.1 in omega arith)) (λ e. counts_none (eqb c 0) e.0) (eqb_tells c 0)
+not_zero c h = ⊎_elim (λ e. absurd (let z : c ≡ 0 = e.1 in omega arith)) (λ e. cond-false {A = ℕ} (eqb c 0) 1 0 e.0) (eqb_tells c 0)
 
 pub is_zero : (c : ℕ) → c ≡ 0 → cond {A = ℕ} (eqb c 0) 1 0 ≡ 1
-is_zero c h = ⊎_elim (λ e. counts_one (eqb c 0) e.0) (λ e. absurd (e.1 h)) (eqb_tells c 0)
+is_zero c h = ⊎_elim (λ e. cond-true {A = ℕ} (eqb c 0) 1 0 e.0) (λ e. absurd (e.1 h)) (eqb_tells c 0)
 
 pub same_page : (a b : ℕ) → a ≡ b → cond {A = ℕ} (eqb a b) 1 0 ≡ 1
-same_page a b h = ⊎_elim (λ e. counts_one (eqb a b) e.0) (λ e. absurd (e.1 h)) (eqb_tells a b)
+same_page a b h = ⊎_elim (λ e. cond-true {A = ℕ} (eqb a b) 1 0 e.0) (λ e. absurd (e.1 h)) (eqb_tells a b)
 
 pub other_page : (a b : ℕ) → a ≢ b → cond {A = ℕ} (eqb a b) 1 0 ≡ 0
-other_page a b h = ⊎_elim (λ e. absurd (h e.1)) (λ e. counts_none (eqb a b) e.0) (eqb_tells a b)
+other_page a b h = ⊎_elim (λ e. absurd (h e.1)) (λ e. cond-false {A = ℕ} (eqb a b) 1 0 e.0) (eqb_tells a b)
 
 -- the newest free page is taken, and the shared one is named once less
 abbrev pub counts_after : List ℕ → ℕ → ℕ → List ℕ

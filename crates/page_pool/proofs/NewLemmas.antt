@@ -6,11 +6,12 @@ use Rattle.std.proofs.lemmas.List.Elements.{All-replicate, All-set}
 use Rattle.std.proofs.lemmas.List.Sums.{sum_by-set}
 use Rattle.std.proofs.lemmas.List.Folds.{sum_by-replicate}
 use Rattle.std.proofs.lemmas.Bool.Decides.{eqb_tells}
+use Rattle.std.proofs.lemmas.Bool.{cond-true, cond-false}
 use Rattle.page_pool.specs.declared.store.Table.{Table}
 use Rattle.page_pool.specs.Counts.{times_in, IsFree}
 use Rattle.page_pool.specs.Tables.{zeros}
 use Rattle.page_pool.specs.Naming.{names_of, bytes_at, table_at, tables_at, IsCounted}
-use Rattle.page_pool.proofs.TableLemmas.{names_in, counts_one, counts_none}
+use Rattle.page_pool.proofs.TableLemmas.{names_in}
 
 page_zero : (page n : ℕ) → times_in page (replicate n 0) ≡ n * cond {A = ℕ} (eqb 0 page) 1 0
 page_zero page n = sum_by-replicate (λ q. cond {A = ℕ} (eqb q page) 1 0) n 0
@@ -95,11 +96,11 @@ new_counted pages counts tables free n table least most p c t e long falling =
           (rw t (All-replicate (λ w. All (λ place. place < length pages) w.places) n dead small));
       counted = λ page h. ⊎_elim
           (λ z. let g : 0 ≡ page = z.1 in
-          let one : cond {A = ℕ} (eqb 0 page) 1 0 ≡ 1 = counts_one (eqb 0 page) z.0 in
+          let one : cond {A = ℕ} (eqb 0 page) 1 0 ≡ 1 = cond-true {A = ℕ} (eqb 0 page) 1 0 z.0 in
           let names = named_first page in
           let here : get_or (set counts 0 256) page 0 ≡ 256 = subst (λ (x : ℕ). get_or (set counts 0 256) x 0 ≡ 256) g (get_or-set_same counts 0 256 0 (omega arith)) in
           omega arith)
-          (λ z. let none : cond {A = ℕ} (eqb 0 page) 1 0 ≡ 0 = counts_none (eqb 0 page) z.0 in
+          (λ z. let none : cond {A = ℕ} (eqb 0 page) 1 0 ≡ 0 = cond-false {A = ℕ} (eqb 0 page) 1 0 z.0 in
           let names = named_first page in
           let away : page ≢ 0 = λ q. z.1 (sym q) in
           let here : get_or (set counts 0 256) page 0 ≡ 0 = get_or-set_other counts 0 page 256 0 away ∙ ap (λ (cs : List ℕ). get_or cs page 0) c ∙ get_or-replicate (n * 256) page 0 0 (omega arith) in

@@ -4,6 +4,7 @@ use Rattle.std.proofs.Math.ListN.{set}
 use Rattle.std.proofs.lemmas.List.{length-set, map-set}
 use Rattle.std.proofs.lemmas.List.Elements.{All-get_or, All-set, All-from_get_or}
 use Rattle.std.proofs.lemmas.List.Sums.{sum_by-set, get_or-le-sum_by, count_by-le-length}
+use Rattle.std.proofs.lemmas.Bool.{cond-true, cond-false}
 use Rattle.page_pool.specs.declared.store.Table.{Table}
 use Rattle.page_pool.specs.Counts.{times_in, IsFree}
 use Rattle.page_pool.specs.Tables.{table_of}
@@ -13,12 +14,6 @@ use Rattle.page_pool.proofs.StoreLemmas.{places_long, place_inside, place_counte
 
 dead_names : (page : ℕ) (live : Bool) (places : List ℕ) → live ≡ false → cond live (times_in page places) 0 ≡ 0
 dead_names page live places h = rw h refl
-
-is_one : (b : Bool) → b ≡ true → cond {A = ℕ} b 1 0 ≡ 1
-is_one b e = rw e refl
-
-is_none : (b : Bool) → b ≡ false → cond {A = ℕ} b 1 0 ≡ 0
-is_none b e = rw e refl
 
 -- ---- a table joins
 
@@ -44,7 +39,7 @@ pub total_small : (pages : List (List ℕ)) (counts : List ℕ) (tables : List T
 total_small pages counts tables free spare to k u =
     let v : Table = record { is_live = true; places = [] } in
     let one = live_set tables to v u.there in
-    let none = is_none (get_or tables to no_table).is_live u.unused in
+    let none = cond-false {A = ℕ} (get_or tables to no_table).is_live 1 0 u.unused in
     let most = count_by-le-length (λ (w : Table). w.is_live) (set tables to v) in
     let long = length-set tables to v in
     let a = k.total in
@@ -70,8 +65,8 @@ share_counted pages counts tables free spare t to u after k l n e long counted t
     let fl = k.free_length in
     let most = k.most in
     let one = live_set tables to u there in
-    let none = is_none (get_or tables to no_table).is_live n.unused in
-    let some = is_one u.is_live live in
+    let none = cond-false {A = ℕ} (get_or tables to no_table).is_live 1 0 n.unused in
+    let some = cond-true {A = ℕ} u.is_live 1 0 live in
     let tot = k.total in
     let names : (page : ℕ) → names_of page (set tables to u) ≡ names_of page tables + times_in page u.places = λ page.
     let whole = sum_by-set (names_in page) tables to u no_table there in
@@ -153,7 +148,7 @@ end_counted pages counts tables free spare t u v after free_after spare_after k 
     let fl = k.free_length in
     let most = k.most in
     let one = live_set tables t w there in
-    let some = is_one (get_or tables t no_table).is_live l.live in
+    let some = cond-true {A = ℕ} (get_or tables t no_table).is_live 1 0 l.live in
     let tot = k.total in
     let names : (page : ℕ) → names_of page (set tables t w) + times_in page u.places ≡ names_of page tables = λ page.
     let whole = sum_by-set (names_in page) tables t w no_table there in

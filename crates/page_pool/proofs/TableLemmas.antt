@@ -5,6 +5,7 @@ use Rattle.std.proofs.lemmas.List.Sums.{sum_by-cons, sum_by-set, get_or-le-sum_b
 use Rattle.std.proofs.lemmas.List.{get_or-set_same, get_or-set_other}
 use Rattle.std.proofs.lemmas.Bool.Decides.{eqb_tells}
 use Rattle.std.proofs.lemmas.List.Elements.{All-head, All-tail}
+use Rattle.std.proofs.lemmas.Bool.{cond-true, cond-false}
 use Rattle.page_pool.specs.declared.store.Table.{Table}
 use Rattle.page_pool.specs.Naming.{names_of, bytes_at, tables_at}
 use Rattle.page_pool.specs.Counts.{times_in}
@@ -91,12 +92,6 @@ tables_at-set_named pages (u ∷ us) (suc t) n page at byte d one small inside w
 
 -- ---- a free page
 
-pub counts_one : (b : Bool) → b ≡ true → cond {A = ℕ} b 1 0 ≡ 1
-counts_one b e = rw e refl
-
-pub counts_none : (b : Bool) → b ≡ false → cond {A = ℕ} b 1 0 ≡ 0
-counts_none b e = rw e refl
-
 -- each count is 0, or 1 at least
 pub counts_cover : (counts : List ℕ) → length counts ≤ sum counts + count_by (λ count. eqb count 0) counts
 counts_cover [] = omega arith
@@ -105,8 +100,8 @@ counts_cover (c ∷ cs) =
     let z = sum_by-cons (λ (x : ℕ). cond (eqb x 0) 1 0) c cs in
     let again = counts_cover cs in
     ⊎_elim
-    (λ e. let f = counts_one (eqb c 0) e.0 in omega arith)
-    (λ e. let f = counts_none (eqb c 0) e.0 in let g : c ≢ 0 = e.1 in omega arith)
+    (λ e. let f = cond-true {A = ℕ} (eqb c 0) 1 0 e.0 in omega arith)
+    (λ e. let f = cond-false {A = ℕ} (eqb c 0) 1 0 e.0 in let g : c ≢ 0 = e.1 in omega arith)
     (eqb_tells c 0)
 
 pub counts_cover_more : (counts : List ℕ) (i : ℕ) → i < length counts → 2 ≤ get_or counts i 0
@@ -122,8 +117,8 @@ counts_cover_more (c ∷ cs) (suc i) h two =
     let z = sum_by-cons (λ (x : ℕ). cond (eqb x 0) 1 0) c cs in
     let again = counts_cover_more cs i (omega arith) two in
     ⊎_elim
-    (λ e. let f = counts_one (eqb c 0) e.0 in omega arith)
-    (λ e. let f = counts_none (eqb c 0) e.0 in let g : c ≢ 0 = e.1 in omega arith)
+    (λ e. let f = cond-true {A = ℕ} (eqb c 0) 1 0 e.0 in omega arith)
+    (λ e. let f = cond-false {A = ℕ} (eqb c 0) 1 0 e.0 in let g : c ≢ 0 = e.1 in omega arith)
     (eqb_tells c 0)
 
 -- ---- a place is written

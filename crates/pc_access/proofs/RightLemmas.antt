@@ -1,7 +1,8 @@
 -- The rules against the table of rights.
-use Rattle.std.proofs.Common.{◌≡◌, ℕ, ◌%◌, List, Bool, true, false, ◌&&◌, not, nat_lt, Option, None, refl, sym, ap, ◌∙◌, arith}
+use Rattle.std.proofs.Common.{◌≡◌, ℕ, ◌%◌, List, Bool, true, false, not, nat_lt, Option, None, refl, sym, ap, ◌∙◌, arith}
 use Rattle.std.specs.List.{list_all}
 use Rattle.std.proofs.lemmas.Bool.Decides.{nat_tests}
+use Rattle.std.proofs.lemmas.Bool.{not-false, not_from_true, and_parts}
 use Rattle.sm_words.specs.declared.width.Width.{Width}
 use Rattle.sm_words.specs.declared.width.Width.TheVariants.{Byte, Word}
 use Rattle.mod_layout.specs.declared.TheConstants.{DEVICES_END}
@@ -9,7 +10,7 @@ use Rattle.mod_layout.specs.declared.Place.{Place}
 use Rattle.mod_layout.specs.declared.Place.TheVariants.{Open, Entry, Text, Data}
 use Rattle.mod_layout.specs.Table.{Table, place_of}
 use Rattle.mod_layout.specs.Tables.{IsTable}
-use Rattle.mod_layout.proofs.TableLemmas.{false_of, one_place}
+use Rattle.mod_layout.proofs.TableLemmas.{one_place}
 use Rattle.pc_access.specs.declared.Kind.{Kind}
 use Rattle.pc_access.specs.declared.Kind.TheVariants.{Fetch, Read, Write}
 use Rattle.pc_access.specs.declared.Rule.{Rule}
@@ -23,7 +24,7 @@ unfolding right
 right_is t active held Fetch a w = refl
 right_is t active held _ a w = refl
 
-refused_not : (b : Bool) (r : Rule) (a id : ℕ) → refuse_if b r a id ≡ None → b ≡ false
+pub refused_not : (b : Bool) (r : Rule) (a id : ℕ) → refuse_if b r a id ≡ None → b ≡ false
 refused_not true r a id e = absurd cc
 refused_not false r a id e = refl
 
@@ -39,18 +40,15 @@ granted_data : (b : Bool) (id : ℕ) → b ≡ true → (grants b (Data id) Read
 granted_data true id e = (refl, refl, refl)
 granted_data false id e = absurd cc
 
-not_own : (b : Bool) → b ≡ true → not b ≡ false
-not_own b e = rw e refl
-
 free_at : (active : Option ℕ) (held : List ℕ) (p : Place) (k : Kind) (a : ℕ) → right_at p active held k a ≡ None → IsFree active held p k a
 free_at active held Open Fetch a e = record { granted = refl; free = refused_not (nat_lt a DEVICES_END) _ a 0 e }
 free_at active held (Entry id) Fetch a e = record { granted = refl; free = refused_not (is_held id held) _ a id e }
 free_at active held (Entry id) Write a e = absurd cc
-free_at active held (Text id) Fetch a e = record { granted = (granted_data (is_id id active) id (false_of (is_id id active) (refused_not (not (is_id id active)) _ a id e))).2; free = refl }
+free_at active held (Text id) Fetch a e = record { granted = (granted_data (is_id id active) id (not-false (is_id id active) (refused_not (not (is_id id active)) _ a id e))).2; free = refl }
 free_at active held (Text id) Write a e = absurd cc
 free_at active held (Data id) Fetch a e = absurd cc
-free_at active held (Data id) Read a e = record { granted = (granted_data (is_id id active) id (false_of (is_id id active) (refused_not (not (is_id id active)) _ a id e))).0; free = refl }
-free_at active held (Data id) Write a e = record { granted = (granted_data (is_id id active) id (false_of (is_id id active) (refused_not (not (is_id id active)) _ a id e))).1; free = refl }
+free_at active held (Data id) Read a e = record { granted = (granted_data (is_id id active) id (not-false (is_id id active) (refused_not (not (is_id id active)) _ a id e))).0; free = refl }
+free_at active held (Data id) Write a e = record { granted = (granted_data (is_id id active) id (not-false (is_id id active) (refused_not (not (is_id id active)) _ a id e))).1; free = refl }
 free_at active held _ _ a e = record { granted = refl; free = refl }
 
 -- of the own module's data and text a grant says that it is the own
@@ -70,10 +68,10 @@ at_free : (active : Option ℕ) (held : List ℕ) (p : Place) (k : Kind) (a : �
 at_free active held Open Fetch a g f = allowed_by (nat_lt a DEVICES_END) _ a 0 f
 at_free active held (Entry id) Fetch a g f = allowed_by (is_held id held) _ a id f
 at_free active held (Entry id) Write a g f = absurd cc
-at_free active held (Text id) Fetch a g f = allowed_by (not (is_id id active)) _ a id (not_own (is_id id active) (text_own (is_id id active) id g))
+at_free active held (Text id) Fetch a g f = allowed_by (not (is_id id active)) _ a id (not_from_true (is_id id active) (text_own (is_id id active) id g))
 at_free active held (Text id) Write a g f = absurd cc
 at_free active held (Data id) Fetch a g f = absurd (data_not_fetched (is_id id active) id g)
-at_free active held (Data id) k a g f = allowed_by (not (is_id id active)) _ a id (not_own (is_id id active) (data_own (is_id id active) id k g))
+at_free active held (Data id) k a g f = allowed_by (not (is_id id active)) _ a id (not_from_true (is_id id active) (data_own (is_id id active) id k g))
 at_free active held _ _ a g f = refl
 
 aligned_both : (b : Bool) (a : ℕ) (rest : Option Denied) → aligned_first b a rest ≡ None → (b ≡ false) × (rest ≡ None)
@@ -87,14 +85,10 @@ module _ (t : Table) (active : Option ℕ) (held : List ℕ) (ok : IsTable t) wh
   all_granted Write a Word m g = let even : a % 2 ≡ 0 = grind (arith, nat_tests) in rw (one_place t a ok even, g) refl
   all_granted _ a _ m g = rw g refl
 
-  first_of_two : (b c : Bool) → (b && c) ≡ true → b ≡ true
-  first_of_two true c e = refl
-  first_of_two false c e = e
-
   first_granted : (kind : Kind) (a : ℕ) (w : Width) → list_all (λ b. is_granted t active kind b) (touched (access_of kind a w)) ≡ true → is_granted t active kind a ≡ true
-  first_granted Fetch a w g = first_of_two _ _ g
-  first_granted _ a Word g = first_of_two _ _ g
-  first_granted _ a Byte g = first_of_two _ _ g
+  first_granted Fetch a w g = (and_parts _ _ g).0
+  first_granted _ a Word g = (and_parts _ _ g).0
+  first_granted _ a Byte g = (and_parts _ _ g).0
 
   -- what no rule refuses is rightful
   pub rightful : (kind : Kind) (a : ℕ) (w : Width) → right t active held (access_of kind a w) ≡ None → IsRightful t active held (access_of kind a w)

@@ -1,9 +1,8 @@
 -- An accepted text makes peers.
-use Rattle.std.proofs.Common.{◌≡◌, ◌<◌, ◌≤◌, ◌⊎◌, inl, inr, ℕ, zero, suc, ◌+◌, ◌-◌, ◌==◌, List, [], ◌∷◌, length, take, drop, slice_index, slice_index_or, get_or, refl, sym, ap, ◌∙◌, subst, arith, Bool, true, false, cond, Option, Some, None}
+use Rattle.std.proofs.Common.{◌≡◌, ◌<◌, ℕ, zero, suc, ◌-◌, ◌==◌, List, [], ◌∷◌, take, drop, slice_index, subst, arith, Bool, true, false, cond, Some}
 use Rattle.std.proofs.lemmas.List.{length-drop, length-take}
 use Rattle.mod_layout.specs.declared.Module.{Module}
-use Rattle.mod_layout.specs.declared.Section.{Section}
-use Rattle.mod_layout.specs.Table.{find_module, module_of, size_of}
+use Rattle.mod_layout.specs.Table.{find_module, size_of}
 use Rattle.mod_layout.specs.Tables.{IsSection, IsModule, AreModules}
 use Rattle.image_text.specs.Image.{Image, IsImage}
 use Rattle.arm_balance.specs.declared.Arm.{Arm}
@@ -23,10 +22,9 @@ found_module given m (x ∷ xs) owner h e = by (x.id == m) e (λ f. found_module
     by false f go = go f
 
 taken : (n : ℕ) (xs : List ℕ) → ((i : ℕ) → slice_index xs i < 256) → (i : ℕ) → slice_index (take n xs) i < 256
-taken zero xs h i = omega arith
-taken (suc n) [] h i = omega arith
 taken (suc n) (x ∷ xs) h zero = h 0
 taken (suc n) (x ∷ xs) h (suc i) = taken n xs (λ i. h (suc i)) i
+taken _ _ h i = omega arith
 
 dropped : (n : ℕ) (xs : List ℕ) → ((i : ℕ) → slice_index xs i < 256) → (i : ℕ) → slice_index (drop n xs) i < 256
 dropped zero xs h i = h i

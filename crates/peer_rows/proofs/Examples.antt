@@ -1,12 +1,11 @@
 -- Two pairs of peers.
-use Rattle.std.proofs.Common.{◌≡◌, ◌≢◌, ◌<◌, ◌≤◌, ◌⊎◌, inl, inr, ℕ, zero, suc, ◌+◌, ◌-◌, ◌%◌, ◌/◌, ◌==◌, ◌&&◌, nat_lt, nat_le, List, [], ◌∷◌, length, set, replicate, slice_index, refl, sym, ap, ◌∙◌, subst, arith, Bool, true, false, lit≤, Some}
+use Rattle.std.proofs.Common.{◌≡◌, ◌≢◌, ◌<◌, ◌≤◌, inl, inr, ℕ, suc, ◌%◌, ◌/◌, ◌&&◌, nat_lt, List, [], ◌∷◌, length, set, replicate, slice_index, refl, sym, ap, ◌∙◌, subst, arith, Bool, true, false, lit≤}
 use Rattle.std.proofs.lemmas.Bool.Decides.{nat_tests}
 use Rattle.insn_decode.specs.Code.{insn_of}
 use Rattle.cycle_table.specs.Cycles.{cycles_of}
-use Rattle.mod_layout.specs.declared.Module.{Module}
-use Rattle.mod_layout.specs.Table.{holds, size_of}
-use Rattle.mod_layout.specs.Tables.{IsSection, IsModule, IsTable}
-use Rattle.image_text.specs.Image.{Image, IsImage}
+use Rattle.mod_layout.specs.Table.{holds}
+use Rattle.mod_layout.specs.Tables.{IsModule}
+use Rattle.image_text.specs.Image.{IsImage}
 use Rattle.arm_balance.specs.declared.Arm.{Arm}
 use Rattle.arm_balance.specs.Met.{met}
 use Rattle.flow_rule.specs.declared.Verdict.TheVariants.{Yes}
@@ -14,7 +13,7 @@ use Rattle.flow_rule.specs.Does.{plan_val, does_val}
 use Rattle.flow_rule.specs.Rounds.{Point, Step, rounds, all_reasons}
 use Rattle.flow_rule.specs.Flow.{step_of, step_stub, has_stub, start_of}
 use Rattle.flow_rule.specs.Arms.{step_arms, flow_with, VerdictWith}
-use Rattle.written_machine.specs.Peers.{section, Peers}
+use Rattle.written_machine.specs.Peers.{section}
 use Rattle.peer_rows.specs.Laws.{DifferInData}
 use Rattle.peer_rows.specs.Rows.{with_words, called, caller, memory_of, image_of, blind, balanced, BlindPeers, BalancedPeers}
 use Rattle.peer_rows.proofs.Accepted.{accepted}
@@ -43,9 +42,8 @@ sound_memory text e =
     (sound_words 0x0200 caller (replicate 65536 0) (lit≤ tt) (words_fit caller refl) (sound_zeros 65536 refl)))
 
 zero_key : (n a : ℕ) → slice_index (replicate n 0) a ≡ 0
-zero_key zero a = refl
-zero_key (suc n) zero = refl
 zero_key (suc n) (suc a) = zero_key n a
+zero_key _ _ = refl
 
 is_called : (text_end : ℕ) → 0x0300 < text_end → text_end % 2 ≡ 0 → text_end ≤ 0x0400 → IsModule 1 (called text_end)
 is_called e low even high = record {

@@ -1,5 +1,5 @@
 -- Memories of words are sound.
-use Rattle.std.proofs.Common.{◌≡◌, ◌≢◌, ◌<◌, ◌≤◌, ℕ, zero, suc, ◌+◌, ◌-◌, ◌%◌, ◌/◌, List, [], ◌∷◌, length, set, replicate, slice_index, get_or, refl, sym, ap, ◌∙◌, subst, arith}
+use Rattle.std.proofs.Common.{◌≡◌, ◌≢◌, ◌<◌, ◌≤◌, ℕ, zero, suc, ◌+◌, ◌-◌, ◌%◌, ◌/◌, List, [], ◌∷◌, length, set, replicate, slice_index, refl, sym, ap, ◌∙◌, subst, arith}
 use Rattle.std.proofs.lemmas.List.{length-set, length-replicate}
 use Rattle.peer_rows.specs.Rows.{with_words}
 
@@ -17,11 +17,9 @@ set_bytes (x ∷ xs) (suc i) v h k zero = k 0
 set_bytes (x ∷ xs) (suc i) v h k (suc a) = set_bytes xs i v h (λ a. k (suc a)) a
 
 pub set_else : (xs : List ℕ) (i v a : ℕ) → a ≢ i → slice_index (set xs i v) a ≡ slice_index xs a
-set_else [] i v a ne = refl
 set_else (x ∷ xs) zero v zero ne = absurd (ne refl)
-set_else (x ∷ xs) zero v (suc a) ne = refl
-set_else (x ∷ xs) (suc i) v zero ne = refl
 set_else (x ∷ xs) (suc i) v (suc a) ne = set_else xs i v a (λ e. ne (ap suc e))
+set_else _ _ v _ ne = refl
 
 sound_set : (memory : List ℕ) (i v : ℕ) → Sound memory → 512 ≤ i → v < 256 → Sound (set memory i v)
 sound_set memory i v s h b = record {
@@ -42,9 +40,8 @@ sound_words a (x ∷ ws) memory h w s =
     (sound_set (set memory a (x % 256)) (a + 1) (x / 256) (sound_set memory a (x % 256) s h (omega arith)) (omega arith) (let b : x < 65536 = w.0 in omega arith))
 
 none_at : (n a : ℕ) → slice_index (replicate n 0) a ≡ 0
-none_at zero a = refl
-none_at (suc n) zero = refl
 none_at (suc n) (suc a) = none_at n a
+none_at _ _ = refl
 
 pub sound_zeros : (n : ℕ) → n ≡ 65536 → Sound (replicate n 0)
 sound_zeros n e = record {

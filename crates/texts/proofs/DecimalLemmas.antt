@@ -5,7 +5,7 @@ use Rattle.std.specs.Char.{is_ascii_digit}
 use Rattle.std.specs.Fmt.{decimal}
 use Rattle.std.specs.Option.{SomeIff}
 use Rattle.std.specs.Result.{OkIff, result_ok}
-use Rattle.std.proofs.lemmas.Bool.{cases_lt}
+use Rattle.std.proofs.lemmas.Bool.{cases_lt, and_parts}
 use Rattle.std.proofs.lemmas.Bool.Decides.{nat_tests}
 use Rattle.std.proofs.lemmas.Str.Parse.{IsDigitsTest, FoldsDigits, IsNumeralModel, numerals_by_fold}
 use Rattle.std.proofs.lemmas.Fmt.{digits_decimal, digits_value-decimal, decimal-digits_value, decimal_nonempty, first_decimal, decimal_digit}
@@ -33,14 +33,10 @@ pub record IsDecimal (text : List ℕ) : Type 0 where
   pub digits : AreDigits text
   pub lead : get_or text 0 0 ≡ 48 → length text ≡ 1
 
-and_both : (a b : Bool) → (a && b) ≡ true → (a ≡ true) × (b ≡ true)
-and_both true b e = (refl, e)
-and_both false b e = cc e
-
 pub decimal_parts : (text : List ℕ) → is_decimal text ≡ true → IsDecimal text
 decimal_parts [] e = absurd cc
 decimal_parts (b ∷ more) e =
-    let parts = and_both (list_all is_ascii_digit (b ∷ more)) (not (b == 48) || length more == 0) e in
+    let parts = and_parts (list_all is_ascii_digit (b ∷ more)) (not (b == 48) || length more == 0) e in
     let lead = parts.1 in
     record { some = omega arith; digits = parts.0; lead = λ zero. grind (arith, nat_tests) }
 

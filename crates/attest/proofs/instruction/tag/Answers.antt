@@ -1,7 +1,9 @@
-use Rattle.std.proofs.Common.{◌≡◌, ◌∙◌, ◌+◌, ◌-◌, ◌*◌, ◌&&◌, Bool, true, false, Some, None, ap, sym, refl, ℕ, slice_range, slice_index, subst, ◌<◌}
+use Rattle.std.proofs.Common.{◌≡◌, ◌∙◌, ◌+◌, ◌-◌, ◌*◌, ◌&&◌, Bool, true, false, Option, Some, None, List, ap, sym, refl, ℕ, slice_range, slice_index, subst, ◌<◌}
 use Rattle.sm_words.specs.Words.{reg}
+use Rattle.mod_layout.specs.Table.{Table}
 use Rattle.mod_keys.specs.Keys.{tag_of}
 use Rattle.pc_access.specs.Rights.{first_denied, or_else}
+use Rattle.pc_access.specs.declared.Denied.{Denied}
 use Rattle.pc_access.specs.declared.Kind.TheVariants.{Read, Write}
 use Rattle.attest.specs.declared.UnitDone.{UnitDone}
 use Rattle.attest.specs.Units.{blocks, each_byte, in_range}
@@ -18,53 +20,49 @@ ranges_are : (a b o x y z : ℕ) (r s : Bool) → r ≡ (in_range x y && in_rang
 ranges_are a b o x y z r s e f g h k =
     sym (e ∙ ap (λ n. in_range n y && in_range z (z + 16)) f ∙ ap (λ n. in_range a n && in_range z (z + 16)) g ∙ ap (λ n. in_range a b && in_range n (n + 16)) h) ∙ k
 
-pub returns-in_default-clause-allowed : goal.returns-in_default-clause-allowed
-returns-in_default-clause-allowed c = λ held.
-    ap (first_denied c.args.table.now c.args.who.active held) (plan_outside (doer c.args.table.now c.args.who c.args.node_key.now) c.args.core.now (sym c.own.ensures.own ∙ c.in_default.is))
+-- the reads of the message, by the code's numbers
+message_read : (t : Table) (active : Option ℕ) (held : List ℕ) (a b x y : ℕ) (d : Option Denied) → x ≡ a → y ≡ b → first_denied t active held (each_byte Read x (y - x)) ≡ d →
+    first_denied t active held (each_byte Read a (b - a)) ≡ d
+message_read t active held a b x y d f g e = ap (λ n. first_denied t active held (each_byte Read n (b - n))) (sym f) ∙ ap (λ n. first_denied t active held (each_byte Read x (n - x))) (sym g) ∙ e
 
-pub returns-in_default-clause-done : goal.returns-in_default-clause-done
-returns-in_default-clause-done c =
-    answered _ _ _ _ 0 6 _ _ _ (effect_outside (doer c.args.table.now c.args.who c.args.node_key.now) c.args.core.now _ (sym c.own.ensures.own ∙ c.in_default.is)) c.answer.ensures.core c.answer.ensures.done refl refl
+pub returns-in_default : goal.returns-in_default
+returns-in_default c =
+    let who = doer c.args.table.now c.args.who c.args.node_key.now in
+    let none = sym c.own.ensures.own ∙ c.in_default.is in
+    record {
+      denied = tt;
+      allowed = λ held. ap (first_denied c.args.table.now c.args.who.active held) (plan_outside who c.args.core.now none);
+      done = answered _ _ _ _ 0 6 _ _ _ (effect_outside who c.args.core.now _ none) c.answer.ensures.core c.answer.ensures.done refl refl;
+      core_kept = tt;
+      memory_kept = tt;
+      marks = record { marked = refl; room = refl };
+    }
 
-pub returns-then-not-has_ranges-clause-allowed : goal.returns-then-not-has_ranges-clause-allowed
-returns-then-not-has_ranges-clause-allowed c = λ held.
+pub returns-then-not-has_ranges : goal.returns-then-not-has_ranges
+returns-then-not-has_ranges c =
     let t = c.args.table.now in
     let core = c.args.core.now in
     let who = doer t c.args.who c.args.node_key.now in
-    let own = c.in-Some.own in
-    let own_is : who.own ≡ Some own = sym c.own.ensures.own ∙ c.in-Some.is in
-    let ranges : (in_range (reg core 12) (reg core 13) && in_range (reg core 14) (reg core 14 + 16)) ≡ false =
-    ranges_are (reg core 12) (reg core 13) (reg core 14) c.get-start.result c.get-end.result c.get-output.result c.has_ranges.result false c.has_ranges.ensures
-    c.get-start.ensures.word c.get-end.ensures.word c.get-output.ensures.word c.if-not-has_ranges.true in
-    ap (first_denied t c.args.who.active held) (plan_by who core own own_is false ranges)
-
-pub returns-then-not-has_ranges-clause-done : goal.returns-then-not-has_ranges-clause-done
-returns-then-not-has_ranges-clause-done c =
-    let t = c.args.table.now in
-    let core = c.args.core.now in
-    let who = doer t c.args.who c.args.node_key.now in
-    let own = c.in-Some.own in
-    let own_is : who.own ≡ Some own = sym c.own.ensures.own ∙ c.in-Some.is in
-    let ranges : (in_range (reg core 12) (reg core 13) && in_range (reg core 14) (reg core 14 + 16)) ≡ false =
-    ranges_are (reg core 12) (reg core 13) (reg core 14) c.get-start.result c.get-end.result c.get-output.result c.has_ranges.result false c.has_ranges.ensures
-    c.get-start.ensures.word c.get-end.ensures.word c.get-output.ensures.word c.if-not-has_ranges.true in
-    answered _ _ _ _ 0 6 _ _ _ (effect_by who core own own_is _ false ranges) c.answer-then-not-has_ranges.ensures.core c.answer-then-not-has_ranges.ensures.done refl refl
+    let own_is : who.own ≡ Some c.in-Some.own = sym c.own.ensures.own ∙ c.in-Some.is in
+    let ranges = ranges_are _ _ _ _ _ _ _ _ c.has_ranges.ensures c.get-start.ensures.word c.get-end.ensures.word c.get-output.ensures.word c.if-not-has_ranges.true in
+    record {
+      denied = tt;
+      allowed = λ held. ap (first_denied t c.args.who.active held) (plan_by who core c.in-Some.own own_is false ranges);
+      done = answered _ _ _ _ 0 6 _ _ _ (effect_by who core c.in-Some.own own_is _ false ranges) c.answer-then-not-has_ranges.ensures.core c.answer-then-not-has_ranges.ensures.done refl refl;
+      core_kept = tt;
+      memory_kept = tt;
+      marks = record { marked = refl; room = refl };
+    }
 
 pub returns-in-Err-clause-denied : goal.returns-in-Err-clause-denied
 returns-in-Err-clause-denied c = λ held.
     let t = c.args.table.now in
     let core = c.args.core.now in
     let who = doer t c.args.who c.args.node_key.now in
-    let own = c.in-Some.own in
-    let own_is : who.own ≡ Some own = sym c.own.ensures.own ∙ c.in-Some.is in
-    let ranges : (in_range (reg core 12) (reg core 13) && in_range (reg core 14) (reg core 14 + 16)) ≡ true =
-    ranges_are (reg core 12) (reg core 13) (reg core 14) c.get-start.result c.get-end.result c.get-output.result c.has_ranges.result true c.has_ranges.ensures
-    c.get-start.ensures.word c.get-end.ensures.word c.get-output.ensures.word c.if-not-has_ranges.false in
-    let bytes : first_denied t c.args.who.active held (each_byte Read (reg core 12) (reg core 13 - reg core 12)) ≡ Some c.in-Err.denied =
-    ap (λ a. first_denied t c.args.who.active held (each_byte Read a (reg core 13 - a))) (sym c.get-start.ensures.word)
-    ∙ ap (λ b. first_denied t c.args.who.active held (each_byte Read c.get-start.result (b - c.get-start.result))) (sym c.get-end.ensures.word)
-    ∙ c.in-Err.ensures.denied held in
-    denied_by who core own own_is c.args.who.active held c.in-Some.ensures.table own_is ranges
+    let own_is : who.own ≡ Some c.in-Some.own = sym c.own.ensures.own ∙ c.in-Some.is in
+    let ranges = ranges_are _ _ _ _ _ _ _ _ c.has_ranges.ensures c.get-start.ensures.word c.get-end.ensures.word c.get-output.ensures.word c.if-not-has_ranges.false in
+    let bytes = message_read t c.args.who.active held (reg core 12) (reg core 13) _ _ _ c.get-start.ensures.word c.get-end.ensures.word (c.in-Err.ensures.denied held) in
+    denied_by who core c.in-Some.own own_is c.args.who.active held c.in-Some.ensures.table own_is ranges
     ∙ ap (λ d. or_else d (first_denied t c.args.who.active held (each_byte Write (reg core 14) 16))) bytes
 
 pub returns-in-Err-check-clause-denied : goal.returns-in-Err-check-clause-denied
@@ -72,18 +70,12 @@ returns-in-Err-check-clause-denied c = λ held.
     let t = c.args.table.now in
     let core = c.args.core.now in
     let who = doer t c.args.who c.args.node_key.now in
-    let own = c.in-Some.own in
-    let own_is : who.own ≡ Some own = sym c.own.ensures.own ∙ c.in-Some.is in
-    let ranges : (in_range (reg core 12) (reg core 13) && in_range (reg core 14) (reg core 14 + 16)) ≡ true =
-    ranges_are (reg core 12) (reg core 13) (reg core 14) c.get-start.result c.get-end.result c.get-output.result c.has_ranges.result true c.has_ranges.ensures
-    c.get-start.ensures.word c.get-end.ensures.word c.get-output.ensures.word c.if-not-has_ranges.false in
-    let bytes : first_denied t c.args.who.active held (each_byte Read (reg core 12) (reg core 13 - reg core 12)) ≡ None =
-    ap (λ a. first_denied t c.args.who.active held (each_byte Read a (reg core 13 - a))) (sym c.get-start.ensures.word)
-    ∙ ap (λ b. first_denied t c.args.who.active held (each_byte Read c.get-start.result (b - c.get-start.result))) (sym c.get-end.ensures.word)
-    ∙ c.in_default-check.ensures.allowed held in
+    let own_is : who.own ≡ Some c.in-Some.own = sym c.own.ensures.own ∙ c.in-Some.is in
+    let ranges = ranges_are _ _ _ _ _ _ _ _ c.has_ranges.ensures c.get-start.ensures.word c.get-end.ensures.word c.get-output.ensures.word c.if-not-has_ranges.false in
+    let bytes = message_read t c.args.who.active held (reg core 12) (reg core 13) _ _ _ c.get-start.ensures.word c.get-end.ensures.word (c.in_default-check.ensures.allowed held) in
     let output : first_denied t c.args.who.active held (each_byte Write (reg core 14) 16) ≡ Some c.in-Err-check.denied =
     ap (λ a. first_denied t c.args.who.active held (each_byte Write a 16)) (sym c.get-output.ensures.word) ∙ c.in-Err-check.ensures.denied held in
-    denied_by who core own own_is c.args.who.active held c.in-Some.ensures.table own_is ranges
+    denied_by who core c.in-Some.own own_is c.args.who.active held c.in-Some.ensures.table own_is ranges
     ∙ ap (λ d. or_else d (first_denied t c.args.who.active held (each_byte Write (reg core 14) 16))) bytes ∙ output
 
 pub returns-clause-allowed : goal.returns-clause-allowed
@@ -91,18 +83,12 @@ returns-clause-allowed c = λ held.
     let t = c.args.table.now in
     let core = c.args.core.now in
     let who = doer t c.args.who c.args.node_key.now in
-    let own = c.in-Some.own in
-    let own_is : who.own ≡ Some own = sym c.own.ensures.own ∙ c.in-Some.is in
-    let ranges : (in_range (reg core 12) (reg core 13) && in_range (reg core 14) (reg core 14 + 16)) ≡ true =
-    ranges_are (reg core 12) (reg core 13) (reg core 14) c.get-start.result c.get-end.result c.get-output.result c.has_ranges.result true c.has_ranges.ensures
-    c.get-start.ensures.word c.get-end.ensures.word c.get-output.ensures.word c.if-not-has_ranges.false in
-    let bytes : first_denied t c.args.who.active held (each_byte Read (reg core 12) (reg core 13 - reg core 12)) ≡ None =
-    ap (λ a. first_denied t c.args.who.active held (each_byte Read a (reg core 13 - a))) (sym c.get-start.ensures.word)
-    ∙ ap (λ b. first_denied t c.args.who.active held (each_byte Read c.get-start.result (b - c.get-start.result))) (sym c.get-end.ensures.word)
-    ∙ c.in_default-check.ensures.allowed held in
+    let own_is : who.own ≡ Some c.in-Some.own = sym c.own.ensures.own ∙ c.in-Some.is in
+    let ranges = ranges_are _ _ _ _ _ _ _ _ c.has_ranges.ensures c.get-start.ensures.word c.get-end.ensures.word c.get-output.ensures.word c.if-not-has_ranges.false in
+    let bytes = message_read t c.args.who.active held (reg core 12) (reg core 13) _ _ _ c.get-start.ensures.word c.get-end.ensures.word (c.in_default-check.ensures.allowed held) in
     let output : first_denied t c.args.who.active held (each_byte Write (reg core 14) 16) ≡ None =
     ap (λ a. first_denied t c.args.who.active held (each_byte Write a 16)) (sym c.get-output.ensures.word) ∙ c.in_default-check-2.ensures.allowed held in
-    denied_by who core own own_is c.args.who.active held c.in-Some.ensures.table own_is ranges
+    denied_by who core c.in-Some.own own_is c.args.who.active held c.in-Some.ensures.table own_is ranges
     ∙ ap (λ d. or_else d (first_denied t c.args.who.active held (each_byte Write (reg core 14) 16))) bytes ∙ output
 
 pub returns-clause-done : goal.returns-clause-done
@@ -112,9 +98,7 @@ returns-clause-done c =
     let who = doer t c.args.who c.args.node_key.now in
     let own = c.in-Some.own in
     let own_is : who.own ≡ Some own = sym c.own.ensures.own ∙ c.in-Some.is in
-    let ranges : (in_range (reg core 12) (reg core 13) && in_range (reg core 14) (reg core 14 + 16)) ≡ true =
-    ranges_are (reg core 12) (reg core 13) (reg core 14) c.get-start.result c.get-end.result c.get-output.result c.has_ranges.result true c.has_ranges.ensures
-    c.get-start.ensures.word c.get-end.ensures.word c.get-output.ensures.word c.if-not-has_ranges.false in
+    let ranges = ranges_are _ _ _ _ _ _ _ _ c.has_ranges.ensures c.get-start.ensures.word c.get-end.ensures.word c.get-output.ensures.word c.if-not-has_ranges.false in
     let mem = c.args.memory.now.bytes in
     let first = (and_true (in_range (reg core 12) (reg core 13)) (in_range (reg core 14) (reg core 14 + 16)) ranges).0 in
     let range = range_of (reg core 12) (reg core 13) first in

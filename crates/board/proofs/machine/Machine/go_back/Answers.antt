@@ -1,4 +1,4 @@
-use Rattle.std.proofs.Common.{◌≡◌, ◌+◌, ◌≤◌, ◌<◌, arith, false, is_some}
+use Rattle.std.proofs.Common.{◌≡◌, arith, false, is_some}
 use Rattle.arrayvec.specs.ArrayVec.{array_vec_len}
 use Rattle.board.proofs.Returning.{reti_adds_none}
 use Rattle.board.proofs.machine.Machine.go_back.Goals as goal
