@@ -1,12 +1,11 @@
 -- What reading keeps from line to line.
-use Rattle.std.proofs.Common.{ℕ, ◌≡◌, ◌+◌, ◌≤◌, ◌<◌, ◌∙◌, ap, List, [], ◌∷◌, ◌++◌, append-nil, get_or, arith, refl, Some, Ok, Err}
+use Rattle.std.proofs.Common.{ℕ, ◌≡◌, ◌+◌, ◌≤◌, ◌<◌, ◌∙◌, ap, List, [], ◌∷◌, ◌++◌, append-nil, get_or, arith, refl, Some, Ok}
 use Rattle.std.specs.Prelude.{All}
 use Rattle.std.proofs.lemmas.List.Elements.{All-push}
 use Rattle.texts.specs.Lines.{ended_lines, unended, lines_of}
 use Rattle.arm_balance.specs.declared.Arm.{Arm}
-use Rattle.arm_balance.specs.declared.ArmsFault.TheVariants.{TooMany}
 use Rattle.arm_balance.specs.Certificates.{BranchesRise, arm_of, after_arms, arms_from, arms_of}
-use Rattle.arm_balance.proofs.Reading.{none_from, one_from, many_from, rise_push}
+use Rattle.arm_balance.proofs.Reading.{none_from, one_from, rise_push}
 
 pub record IsRead (text : List ℕ) (arms : List Arm) (rest : List ℕ) (n low : ℕ) : Type 0 where
   pub total : arms_of text ≡ after_arms arms (arms_from n low (lines_of rest))
@@ -33,12 +32,6 @@ IsRead-push text arms rest line after n low arm r cut few is rises = record {
   rise = rise_push arms arm low r.rise r.below rises;
   below = All-push (λ (a : Arm). a.branch < arm.branch + 1) arms arm (λ k d h. let b : (get_or arms k d).branch < low = r.below k d h in omega arith) (omega arith);
 }
-
--- where a line is there that may not be
-pub IsRead-too_many : (text : List ℕ) (arms : List Arm) (rest line : List ℕ) (lines : List (List ℕ)) (n low : ℕ) → IsRead text arms rest n low
-    → lines_of rest ≡ line ∷ lines → 256 < n → arms_of text ≡ Err TooMany
-IsRead-too_many text arms rest line lines n low r cut many =
-    r.total ∙ ap (λ ls. after_arms arms (arms_from n low ls)) cut ∙ ap (after_arms arms) (many_from n low line lines (omega (arith, r.counted, many)))
 
 lines_none : lines_of [] ≡ []
 unfolding ended_lines unended

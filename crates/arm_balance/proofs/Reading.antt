@@ -6,7 +6,6 @@ use Rattle.texts.specs.Decimals.{is_decimal, number_in, read_decimal}
 use Rattle.texts.specs.Lines.{lines_of}
 use Rattle.arm_balance.specs.declared.Arm.{Arm}
 use Rattle.arm_balance.specs.declared.ArmsFault.{ArmsFault}
-use Rattle.arm_balance.specs.declared.ArmsFault.TheVariants.{TooMany}
 use Rattle.arm_balance.specs.Certificates.{BranchesRise, arm_of, after_arms, arms_from, arms_of}
 
 -- a decimal that is read is at most the bound
@@ -16,12 +15,7 @@ decimal_most most n text e = by (is_decimal text) (nat_le (number_in text) most)
   where
     by : (a b : Bool) → nat_le (number_in text) most ≡ b → Some n ≡ cond (a && b) (Some (number_in text)) None → n ≤ most
     by true true f g = let h : n ≡ number_in text = cc in let k : number_in text ≤ most = grind (arith, nat_tests) in omega (arith, h, k)
-    by true false f g = absurd cc
-    by false b f g = absurd cc
-
--- a line past the last that may be there
-pub many_from : (n low : ℕ) (line : List ℕ) (lines : List (List ℕ)) → n ≡ 257 → arms_from n low (line ∷ lines) ≡ Err TooMany
-many_from n low line lines e = rw e refl
+    by _ _ f g = absurd cc
 
 -- one more certificate
 pub one_from : (arms : List Arm) (n low : ℕ) (line : List ℕ) (lines : List (List ℕ)) (arm : Arm) → n ≤ 256 → arm_of line ≡ Some arm → low ≤ arm.branch
@@ -53,12 +47,11 @@ abbrev Above : List ℕ → Type 0
 Above xs = (k : ℕ) → suc k < length xs → get_or xs k 0 < get_or xs (suc k) 0
 
 above_push : (arms : List Arm) (arm : Arm) (low : ℕ) → Above (branches arms) → All (λ a. a.branch < low) arms → low ≤ arm.branch → Above (branches (arms ++ arm ∷ []))
-above_push [] arm low rise below above k h = absurd (omega (arith, h))
 above_push (a ∷ []) arm low rise below above zero h = let b : a.branch < low = below 0 a (omega arith) in omega (arith, b, above)
-above_push (a ∷ []) arm low rise below above (suc k) h = absurd (omega (arith, h))
 above_push (a ∷ b ∷ arms) arm low rise below above zero h = rise 0 (omega arith)
 above_push (a ∷ b ∷ arms) arm low rise below above (suc k) h =
     above_push (b ∷ arms) arm low (λ i g. rise (suc i) (omega (arith, g))) (λ i d g. below (suc i) d (omega (arith, g))) above k (omega (arith, h))
+above_push _ arm low rise below above _ h = absurd (omega (arith, h))
 
 -- a branch above all others may come last
 pub rise_push : (arms : List Arm) (arm : Arm) (low : ℕ) → BranchesRise arms → All (λ a. a.branch < low) arms → low ≤ arm.branch → BranchesRise (arms ++ arm ∷ [])

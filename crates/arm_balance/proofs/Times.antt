@@ -1,11 +1,11 @@
 -- How the time of an arm is told step by step.
-use Rattle.std.proofs.Common.{nat_le, subst, eq-eqb, ◌≡◌, ◌≢◌, ◌<◌, ◌≤◌, ℕ, zero, suc, ◌+◌, ◌*◌, ◌==◌, nat_lt, cond, Bool, true, false, ◌&&◌, List, Option, Some, None, Result, Ok, Err, refl, sym, ◌∙◌, ap, arith}
+use Rattle.std.proofs.Common.{nat_le, subst, eq-eqb, ◌≡◌, ◌≢◌, ◌<◌, ◌≤◌, ℕ, suc, ◌+◌, ◌*◌, ◌==◌, nat_lt, cond, Bool, true, false, ◌&&◌, List, Option, Some, None, Result, Ok, Err, refl, sym, ◌∙◌, ap, arith}
 use Rattle.std.proofs.lemmas.Bool.Decides.{nat_tests}
 use Rattle.sm_words.specs.Words.{add16}
 use Rattle.insn_decode.specs.Code.{length_of, distance}
 use Rattle.insn_decode.specs.declared.insn.Insn.{Insn}
 use Rattle.insn_decode.specs.declared.insn.Insn.TheVariants.{Two, One, Jump, Reti, Unit as UnitOp}
-use Rattle.insn_decode.specs.declared.insn.OneOp.TheVariants.{Rrc, Swpb, Rra, Sxt, Push, Call}
+use Rattle.insn_decode.specs.declared.insn.OneOp.TheVariants.{Call}
 use Rattle.insn_decode.specs.declared.insn.Operand.{Operand}
 use Rattle.cycle_table.specs.Cycles.{cycles_of}
 use Rattle.mod_layout.specs.declared.Section.{Section}
@@ -54,11 +54,6 @@ ends_up o insn join pc next l e =
 
 insn_up : (insn : Insn) (join pc next : ℕ) → arm_next join pc (Some insn) ≡ Some next → (pc < next) × (next ≤ join)
 insn_up (Two op w s d) join pc next e = ends_up d (Two op w s d) join pc next (omega arith) e
-insn_up (One Rrc w a) join pc next e = ends_up a (One Rrc w a) join pc next (omega arith) e
-insn_up (One Swpb w a) join pc next e = ends_up a (One Swpb w a) join pc next (omega arith) e
-insn_up (One Rra w a) join pc next e = ends_up a (One Rra w a) join pc next (omega arith) e
-insn_up (One Sxt w a) join pc next e = ends_up a (One Sxt w a) join pc next (omega arith) e
-insn_up (One Push w a) join pc next e = ends_up a (One Push w a) join pc next (omega arith) e
 insn_up (One Call w a) join pc next e = absurd (let g : ⊥ = cc in g)
 insn_up (Jump c off) join pc next e = next_up ((c == 7) && nat_lt pc to && nat_le to join) pc to join next (by (c == 7) (nat_lt pc to) refl) e
   where
@@ -71,6 +66,7 @@ insn_up (Jump c off) join pc next e = next_up ((c == 7) && nat_lt pc to && nat_l
     by false t lt f = absurd (let g : ⊥ = cc in g)
 insn_up Reti join pc next e = absurd (let g : ⊥ = cc in g)
 insn_up (UnitOp n) join pc next e = absurd (let g : ⊥ = cc in g)
+insn_up (One op w a) join pc next e = ends_up a (One op w a) join pc next (omega arith) e
 
 -- where an arm goes on it goes up, at most to its join
 pub on_up : (s : Section) (text : List ℕ) (join pc next : ℕ) → arm_on s text join pc ≡ Some next → (pc < next) × (next ≤ join)
@@ -78,15 +74,12 @@ on_up s text join pc next e = by (holds s pc && nat_lt pc join) (met s text pc) 
   where
     by : (b : Bool) (o : Option Insn) → cond b (arm_next join pc o) None ≡ Some next → (pc < next) × (next ≤ join)
     by true (Some insn) e = insn_up insn join pc next e
-    by true None e = absurd (let g : ⊥ = cc in g)
-    by false o e = absurd (let g : ⊥ = cc in g)
+    by _ _ e = absurd (let g : ⊥ = cc in g)
 
 -- ---- steps enough
 
 -- any number of steps is enough that is more than the addresses between here and the join
 pub enough : (s : Section) (text : List ℕ) (join f g pc : ℕ) → join < f + pc → join < g + pc → 0 < f → 0 < g → time_from s text join f pc ≡ time_from s text join g pc
-enough s text join zero g pc a b c d = absurd (omega arith)
-enough s text join (suc f) zero pc a b c d = absurd (omega arith)
 enough s text join (suc f) (suc g) pc a b c d =
     by_here (pc == join) (λ next a b c d. enough s text join f g next a b c d)
   where
@@ -106,6 +99,7 @@ enough s text join (suc f) (suc g) pc a b c d =
         ≡ cond t (Ok 0) (time_on (arm_on s text join pc) (met_cycles (met s text pc)) (time_from s text join g) pc)
     by_here true same = refl
     by_here false same = by_next same (arm_on s text join pc) refl
+enough s text join _ _ pc a b c d = absurd (omega arith)
 
 -- ---- the time, step by step
 

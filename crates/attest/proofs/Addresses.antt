@@ -5,14 +5,14 @@ use Rattle.sm_words.specs.declared.width.Width.TheVariants.{Byte}
 use Rattle.mod_layout.specs.declared.Module.{Module}
 use Rattle.mod_layout.specs.declared.TheConstants.{DEVICES_END}
 use Rattle.mod_layout.specs.declared.Place.{Place}
-use Rattle.mod_layout.specs.declared.Place.TheVariants.{Open, Entry, Text, Data}
+use Rattle.mod_layout.specs.declared.Place.TheVariants.{Entry, Text}
 use Rattle.mod_layout.specs.Table.{place_of, size_of, takes}
 use Rattle.mod_layout.specs.Tables.{IsSection, IsTable}
 use Rattle.mod_layout.proofs.TableLemmas.{taken}
 use Rattle.pc_access.specs.declared.Kind.{Kind}
 use Rattle.pc_access.specs.declared.Kind.TheVariants.{Fetch, Read, Write}
 use Rattle.pc_access.specs.declared.Access.{Access}
-use Rattle.attest.specs.Units.{UnitName, Unprotect, Protect, Attest, Tag, IdOf, OwnId, CallerId, Doer, attest_plan, attested, each_byte, in_range, new_ram, new_text, tag_plan, text_at, text_reads, unit_plan}
+use Rattle.attest.specs.Units.{UnitName, Protect, Attest, Tag, Doer, attest_plan, attested, each_byte, in_range, new_ram, new_text, tag_plan, text_at, text_reads, unit_plan}
 use Rattle.attest.proofs.Places.{and_true, module_found, range_of}
 
 pub record IsMemoryByte (x : Access) : Type 0 where
@@ -49,10 +49,9 @@ if_so false c xs e h = tt
 
 module _ (who : Doer) (core : List ℕ) (ok : IsTable who.table) (own_ok : (m : Module) → who.own ≡ Some m → IsSection m.text) where
   other_ok : (p : Place) (m : Module) → text_at who.table p ≡ Some m → IsSection m.text
-  other_ok Open m e = absurd (cc)
-  other_ok (Data id) m e = absurd (cc)
   other_ok (Entry id) m e = (module_found who.table.given id m who.table.modules ok.modules e).text_ok
   other_ok (Text id) m e = (module_found who.table.given id m who.table.modules ok.modules e).text_ok
+  other_ok _ m e = absurd (cc)
 
   attest_bytes : (own other : Option Module) (a : ℕ) → who.own ≡ own → ((m : Module) → other ≡ Some m → IsSection m.text) → AreMemoryBytes (attest_plan own other a)
   attest_bytes (Some own) (Some other) a e f =
@@ -60,8 +59,7 @@ module _ (who : Doer) (core : List ℕ) (ok : IsTable who.table) (own_ok : (m : 
       both (each_byte Read a 16 ++ text_reads other) (text_reads own)
       (both (each_byte Read a 16) (text_reads other) (in_row Read a 16 no_read (range_of a (a + 16) h).low (range_of a (a + 16) h).high) (in_text other (f other refl)))
       (in_text own (own_ok own e)))
-  attest_bytes (Some own) None a e f = tt
-  attest_bytes None other a e f = tt
+  attest_bytes _ _ a e f = tt
 
   tag_bytes : (own : Option Module) (a b out : ℕ) → who.own ≡ own → AreMemoryBytes (tag_plan own a b out)
   tag_bytes (Some own) a b out e =
@@ -77,13 +75,10 @@ module _ (who : Doer) (core : List ℕ) (ok : IsTable who.table) (own_ok : (m : 
 
   pub plan_bytes : (x : UnitName) → AreMemoryBytes (unit_plan who x core)
   unfolding unit_plan
-  plan_bytes Unprotect = tt
   plan_bytes Protect = if_so (takes who.table (new_text core) (new_ram core)) (takes who.table (new_text core) (new_ram core)) _ refl (λ h.
       let ram = (taken who.table (new_text core) (new_ram core) h).ram_ok in
       let o = ram.order in let t = ram.high in
       in_row Write (reg core 14) (size_of (new_ram core)) no_write ram.low (omega arith))
   plan_bytes Attest = attest_bytes who.own (attested who core) (reg core 13) refl (λ m e. other_ok (place_of who.table (reg core 12)) m e)
   plan_bytes Tag = tag_bytes who.own (reg core 12) (reg core 13) (reg core 14) refl
-  plan_bytes IdOf = tt
-  plan_bytes OwnId = tt
-  plan_bytes CallerId = tt
+  plan_bytes _ = tt

@@ -2,7 +2,7 @@
 use Rattle.std.proofs.Common.{◌≡◌, ◌≢◌, ℕ, suc, ◌+◌, List, [], ◌∷◌, ◌++◌, Option, Some, None, refl, ◌∙◌, ap}
 use Rattle.sm_words.specs.declared.width.Width.TheVariants.{Byte}
 use Rattle.mod_layout.specs.declared.Place.{Place}
-use Rattle.mod_layout.specs.declared.Place.TheVariants.{Open, Entry, Text, Data}
+use Rattle.mod_layout.specs.declared.Place.TheVariants.{Open}
 use Rattle.mod_layout.specs.Table.{Table, place_of}
 use Rattle.pc_access.specs.declared.Kind.{Kind}
 use Rattle.pc_access.specs.declared.Kind.TheVariants.{Fetch, Read, Write}
@@ -13,15 +13,11 @@ use Rattle.attest.specs.Units.{each_byte}
 
 read_anyhow : (p : Place) (active : Option ℕ) (held held' : List ℕ) (a : ℕ) → right_at p active held Read a ≡ right_at p active held' Read a
 read_anyhow Open active held held' a = refl
-read_anyhow (Entry id) active held held' a = refl
-read_anyhow (Text id) active held held' a = refl
-read_anyhow (Data id) active held held' a = refl
+read_anyhow _ active held held' a = refl
 
 write_anyhow : (p : Place) (active : Option ℕ) (held held' : List ℕ) (a : ℕ) → right_at p active held Write a ≡ right_at p active held' Write a
 write_anyhow Open active held held' a = refl
-write_anyhow (Entry id) active held held' a = refl
-write_anyhow (Text id) active held held' a = refl
-write_anyhow (Data id) active held held' a = refl
+write_anyhow _ active held held' a = refl
 
 -- the modules held matter to fetches alone
 pub right-held : (t : Table) (active : Option ℕ) (held held' : List ℕ) (kind : Kind) (a : ℕ) → kind ≢ Fetch →

@@ -3,7 +3,7 @@ use Rattle.std.proofs.Common.{◌≡◌, ℕ, ◌+◌, List, [], ◌∷◌, Bool
 use Rattle.sm_words.specs.Words.{reg, put, add16}
 use Rattle.mod_layout.specs.declared.Module.{Module}
 use Rattle.mod_layout.specs.Table.{takes}
-use Rattle.attest.specs.Units.{UnitName, Unprotect, Protect, Attest, Tag, IdOf, OwnId, CallerId, Doer, Effect, attest_answer, attested, new_ram, new_text, next, tag_answer, unit_effect, unprotected}
+use Rattle.attest.specs.Units.{UnitName, Unprotect, Protect, Attest, Tag, Doer, Effect, attest_answer, attested, new_ram, new_text, next, tag_answer, unit_effect, unprotected}
 use Rattle.attest.specs.Done.{standing}
 
 module _ (core : List ℕ) where
@@ -35,8 +35,7 @@ module _ (core : List ℕ) where
 
   moves_attest : (key : List ℕ) (own other : Option Module) (values : List ℕ) → Moves (attest_answer key own other core values).core
   moves_attest key (Some own) (Some other) values = moves_if _ _ _ (moves_answer _) (moves_answer 0)
-  moves_attest key (Some own) None values = moves_answer 0
-  moves_attest key None other values = moves_answer 0
+  moves_attest key _ _ values = moves_answer 0
 
   moves_tag : (key : List ℕ) (own : Option Module) (values : List ℕ) → Moves (tag_answer key own core values).core
   moves_tag key (Some own) values = moves_if _ _ _ (moves_answer 1) (moves_answer 0)
@@ -48,6 +47,4 @@ module _ (core : List ℕ) where
   moves_on who Protect values = moves_if (takes who.table (new_text core) (new_ram core)) _ _ (moves_answer (who.table.given + 1)) (moves_answer 0)
   moves_on who Attest values = moves_attest who.key who.own (attested who core) values
   moves_on who Tag values = moves_tag who.key who.own values
-  moves_on who IdOf values = moves_answer _
-  moves_on who OwnId values = moves_answer _
-  moves_on who CallerId values = moves_answer _
+  moves_on who _ values = moves_answer _

@@ -41,15 +41,12 @@ in_text true r id rest = tt
 in_text false r id rest = tt
 
 past_ram : (e t : Bool) (id : ℕ) (rest : Place) → NoData rest → NoData (place_by e t false id rest)
-past_ram true t id rest h = tt
-past_ram false true id rest h = tt
 past_ram false false id rest h = h
+past_ram _ _ id rest h = tt
 
 read_freely : (p : Place) (active : Option ℕ) (held : List ℕ) (a : ℕ) → NoData p → right_at p active held Read a ≡ None
-read_freely Open active held a h = refl
-read_freely (Entry id) active held a h = refl
-read_freely (Text id) active held a h = refl
 read_freely (Data id) active held a h = absurd h
+read_freely _ active held a h = refl
 
 text_is_no_data : (given id a : ℕ) (m : Module) (ms : List Module) → AreModules given ms → find_module id ms ≡ Some m →
     m.text.start ≤ a → a < m.text.end → NoData (place_in ms a)
@@ -130,10 +127,9 @@ own_text_allowed t active (Some id) held m ok e = text_allowed t active held id 
 
 pub other_text_allowed : (t : Table) (active : Option ℕ) (place : Place) (held : List ℕ) (m : Module) → IsTable t → text_at t place ≡ Some m →
     first_denied t active held (text_reads m) ≡ None
-other_text_allowed t active Open held m ok e = absurd (none_found m e)
 other_text_allowed t active (Entry id) held m ok e = text_allowed t active held id m ok e
 other_text_allowed t active (Text id) held m ok e = text_allowed t active held id m ok e
-other_text_allowed t active (Data id) held m ok e = absurd (none_found m e)
+other_text_allowed t active _ held m ok e = absurd (none_found m e)
 
 -- ---- ranges
 

@@ -1,5 +1,5 @@
 -- The rows of protect.
-use Rattle.std.proofs.Common.{◌≡◌, ℕ, zero, suc, ◌+◌, ◌*◌, ◌<◌, List, [], Bool, true, false, if◌then◌else◌, Option, None, sym, ◌∙◌, ap, subst, arith, append-nil, replicate, slice_index}
+use Rattle.std.proofs.Common.{◌≡◌, ℕ, suc, ◌+◌, ◌*◌, ◌<◌, List, [], Bool, true, false, if◌then◌else◌, Option, None, sym, ◌∙◌, ap, subst, arith, append-nil, replicate, slice_index}
 use Rattle.sm_words.specs.Words.{put, reg}
 use Rattle.mod_layout.specs.Table.{Table, size_of, takes, with_module}
 use Rattle.mod_layout.specs.Tables.{IsTable}
@@ -15,9 +15,8 @@ use Rattle.attest.proofs.Places.{ram_allowed}
 use Rattle.attest.proofs.Rows.{writes_of-writes}
 
 zeros : (n k : ℕ) → slice_index (replicate n 0) k < 256
-zeros zero k = omega arith
-zeros (suc n) zero = omega arith
 zeros (suc n) (suc k) = zeros n k
+zeros _ _ = omega arith
 
 module _ (who : Doer) (core : List ℕ) where
   abbrev clearing : List Access

@@ -55,11 +55,9 @@ pub outcomes_stand : (j : Job) (l : Lone) (n : ℕ) → Stands j l n (outcome j 
 outcomes_stand j l zero = by (doing j l) (told j l)
   where
     by : (d : Doing) → Told j l d → Stands j l 0 (at_once d l)
-    by (Waits r) t = none_before j l
     by Closes t = (omega arith, record { before = none_before j l; there = t })
     by Leaves t = (omega arith, record { before = none_before j l; there = t.0; outside = t.1 })
-    by Breaks t = none_before j l
-    by (Does insn) t = none_before j l
+    by _ t = none_before j l
 outcomes_stand j l (suc n) = by (doing j l) refl (told j l) (outcomes_stand j (lone_step j l) n)
   where
     by : (d : Doing) → doing j l ≡ d → Told j l d → Stands j (lone_step j l) n (outcome j n (lone_step j l)) → Stands j l (suc n) (in_time d (outcome j n) j l)

@@ -9,13 +9,13 @@ use Rattle.sm_words.specs.declared.status.TheConstants.{CARRY}
 use Rattle.sm_words.specs.declared.width.Width.{Width}
 use Rattle.insn_decode.specs.Code.{words_of}
 use Rattle.insn_decode.specs.declared.insn.Insn.{Insn}
-use Rattle.insn_decode.specs.declared.insn.Insn.TheVariants.{Two, One, Jump, Reti, Unit as UnitOp}
+use Rattle.insn_decode.specs.declared.insn.Insn.TheVariants.{Two, One}
 use Rattle.insn_decode.specs.declared.insn.OneOp.{OneOp}
-use Rattle.insn_decode.specs.declared.insn.OneOp.TheVariants.{Rrc, Swpb, Rra, Sxt, Push, Call}
+use Rattle.insn_decode.specs.declared.insn.OneOp.TheVariants.{Rrc, Push, Call}
 use Rattle.insn_decode.specs.declared.insn.Operand.{Operand}
-use Rattle.insn_decode.specs.declared.insn.Operand.TheVariants.{Reg, Const, Imm, Indexed, Symbolic, Absolute, Indirect, Increment}
+use Rattle.insn_decode.specs.declared.insn.Operand.TheVariants.{Reg, Const, Imm}
 use Rattle.insn_decode.specs.declared.insn.TwoOp.{TwoOp}
-use Rattle.insn_decode.specs.declared.insn.TwoOp.TheVariants.{Mov, Add, Addc, Subc, Sub, Cmp, Dadd, Bit, Bic, Bis, Xor, And}
+use Rattle.insn_decode.specs.declared.insn.TwoOp.TheVariants.{Mov}
 use Rattle.pc_access.specs.Accesses.{reads_of, writes_of}
 use Rattle.pc_access.specs.Rights.{misaligned}
 use Rattle.pc_access.specs.declared.Access.{Access}
@@ -30,35 +30,19 @@ use Rattle.cpu_step.proofs.Forms.{plan_two_form, plan_one_form, two_form, one_fo
 
 pub in_place : (o : Operand) (core : List ℕ) (ext : ℕ) (a : Option ℕ) → a ≡ place o core ext → in_memory o ≡ is_some a
 in_place (Reg r) core ext a e = ap is_some (sym e)
-in_place (Const c) core ext a e = ap is_some (sym e)
-in_place (Imm x) core ext a e = ap is_some (sym e)
-in_place (Indexed r x) core ext a e = ap is_some (sym e)
-in_place (Symbolic x) core ext a e = ap is_some (sym e)
-in_place (Absolute x) core ext a e = ap is_some (sym e)
-in_place (Indirect r) core ext a e = ap is_some (sym e)
-in_place (Increment r) core ext a e = ap is_some (sym e)
+in_place _ core ext a e = ap is_some (sym e)
 
 -- an operand in memory gives the first value read
 pub given_read : (o : Operand) (w : Width) (core : List ℕ) (v : ℕ) (rest : List ℕ) → in_memory o ≡ true → given o w core (v ∷ rest) ≡ low w v
 given_read (Reg r) w core v rest e = absurd cc
 given_read (Const c) w core v rest e = absurd cc
 given_read (Imm x) w core v rest e = absurd cc
-given_read (Indexed r x) w core v rest e = refl
-given_read (Symbolic x) w core v rest e = refl
-given_read (Absolute x) w core v rest e = refl
-given_read (Indirect r) w core v rest e = refl
-given_read (Increment r) w core v rest e = refl
+given_read _ w core v rest e = refl
 
 -- a result in memory sets the flags and is stored
 pub written_there : (o : Operand) (res : Computed) (core : List ℕ) → in_memory o ≡ true → written true o res core ≡ record { core = set_flags res core; stored = value_of res ∷ [] }
 written_there (Reg r) res core e = absurd cc
-written_there (Const c) res core e = refl
-written_there (Imm x) res core e = refl
-written_there (Indexed r x) res core e = refl
-written_there (Symbolic x) res core e = refl
-written_there (Absolute x) res core e = refl
-written_there (Indirect r) res core e = refl
-written_there (Increment r) res core e = refl
+written_there _ res core e = refl
 
 -- ---- alignment
 
@@ -85,17 +69,7 @@ second_aligned (Some y) false false w e h = absurd cc
 -- a destination is read or written
 touches_dst : (op : TwoOp) → (reads_dst op || writes_dst op) ≡ true
 touches_dst Mov = refl
-touches_dst Add = refl
-touches_dst Addc = refl
-touches_dst Subc = refl
-touches_dst Sub = refl
-touches_dst Cmp = refl
-touches_dst Dadd = refl
-touches_dst Bit = refl
-touches_dst Bic = refl
-touches_dst Bis = refl
-touches_dst Xor = refl
-touches_dst And = refl
+touches_dst _ = refl
 
 regrouped : (a b : Option ℕ) (r t : Bool) (w : Width) → (access_if true Read w a ++ access_if r Read w b) ++ access_if t Write w b ≡ access_if true Read w a ++ (access_if r Read w b ++ access_if t Write w b)
 regrouped None b r t w = refl
@@ -141,31 +115,13 @@ two_writes (Some x) (Some y) false false w = refl
 
 one_reads : (a : Option ℕ) (op : OneOp) (w : Width) (sp : ℕ) → reads_of (access_if true Read w a ++ one_writes op w a sp) ≡ access_if true Read w a
 one_reads None Rrc w sp = refl
-one_reads None Swpb w sp = refl
-one_reads None Rra w sp = refl
-one_reads None Sxt w sp = refl
-one_reads None Push w sp = refl
-one_reads None Call w sp = refl
 one_reads (Some x) Rrc w sp = refl
-one_reads (Some x) Swpb w sp = refl
-one_reads (Some x) Rra w sp = refl
-one_reads (Some x) Sxt w sp = refl
-one_reads (Some x) Push w sp = refl
-one_reads (Some x) Call w sp = refl
+one_reads _ _ w sp = refl
 
 one_writes_of : (a : Option ℕ) (op : OneOp) (w : Width) (sp : ℕ) → writes_of (access_if true Read w a ++ one_writes op w a sp) ≡ one_writes op w a sp
 one_writes_of None Rrc w sp = refl
-one_writes_of None Swpb w sp = refl
-one_writes_of None Rra w sp = refl
-one_writes_of None Sxt w sp = refl
-one_writes_of None Push w sp = refl
-one_writes_of None Call w sp = refl
 one_writes_of (Some x) Rrc w sp = refl
-one_writes_of (Some x) Swpb w sp = refl
-one_writes_of (Some x) Rra w sp = refl
-one_writes_of (Some x) Sxt w sp = refl
-one_writes_of (Some x) Push w sp = refl
-one_writes_of (Some x) Call w sp = refl
+one_writes_of _ _ w sp = refl
 
 -- an instruction writes once at most
 abbrev pub AtMostOne : List Access → Type 0
@@ -179,12 +135,9 @@ one_access false w (Some y) = tt
 one_access false w None = tt
 
 one_put : (op : OneOp) (w : Width) (a : Option ℕ) (sp : ℕ) → AtMostOne (one_writes op w a sp)
-one_put Rrc w a sp = one_access true w a
-one_put Swpb w a sp = one_access true w a
-one_put Rra w a sp = one_access true w a
-one_put Sxt w a sp = one_access true w a
 one_put Push w a sp = refl
 one_put Call w a sp = refl
+one_put _ w a sp = one_access true w a
 
 pub few_writes : (insn : Insn) (core : List ℕ) → AtMostOne (writes_of (plan insn core))
 unfolding plan
@@ -198,9 +151,7 @@ few_writes (One op w arg) core =
     let a : Option ℕ = place arg core1 (add16 (reg core PC) 2) in
     let sp : ℕ = reg (lowered (stepped w arg core1)) SP in
     subst AtMostOne (sym (one_writes_of a op w sp)) (one_put op w a sp)
-few_writes (Jump c o) core = tt
-few_writes Reti core = tt
-few_writes (UnitOp n) core = tt
+few_writes _ core = tt
 
 -- ---- through the port
 

@@ -3,7 +3,7 @@ use Rattle.std.proofs.Common.{ℕ, zero, suc, ◌≡◌, ◌+◌, ◌≤◌, ◌
 use Rattle.std.proofs.lemmas.Bool.Decides.{nat_tests}
 use Rattle.schedule_file.specs.declared.Entry.{Entry}
 use Rattle.schedule_file.specs.declared.What.{What}
-use Rattle.schedule_file.specs.declared.What.TheVariants.{Serial, Up, Down}
+use Rattle.schedule_file.specs.declared.What.TheVariants.{Serial}
 use Rattle.devices.specs.Devices.{Devices, ticked_devices, counts, counts_by, scheduled, happens, happens_if}
 use Rattle.devices.specs.Time.{ticked_by, counted_by}
 use Rattle.devices.specs.Bus.{acted_before, past_count}
@@ -25,19 +25,12 @@ acted_within k h (e ∷ es) d = acted_within k h es (happens_if (nat_le k e.cycl
 -- the timer does not see what happens
 happens-counts_by : (w : What) (r q : Bool) (d : Devices) → counts_by r q (happens w d) ≡ happens w (counts_by r q d)
 happens-counts_by (Serial b) true true d = refl
-happens-counts_by (Serial b) true false d = refl
-happens-counts_by (Serial b) false q d = refl
-happens-counts_by (Up n) true true d = refl
-happens-counts_by (Up n) true false d = refl
-happens-counts_by (Up n) false q d = refl
-happens-counts_by (Down n) true true d = refl
-happens-counts_by (Down n) true false d = refl
-happens-counts_by (Down n) false q d = refl
+happens-counts_by _ true true d = refl
+happens-counts_by _ _ _ d = refl
 
 happens-counts : (w : What) (d : Devices) → counts (happens w d) ≡ happens w (counts d)
 happens-counts (Serial b) d = happens-counts_by (Serial b) d.running (nat_eq d.count d.limit) d
-happens-counts (Up n) d = happens-counts_by (Up n) d.running (nat_eq d.count d.limit) d
-happens-counts (Down n) d = happens-counts_by (Down n) d.running (nat_eq d.count d.limit) d
+happens-counts w d = happens-counts_by w d.running (nat_eq d.count d.limit) d
 
 happens_if-counts : (b : Bool) (w : What) (d : Devices) → counts (happens_if b w d) ≡ happens_if b w (counts d)
 happens_if-counts true w d = happens-counts w d
@@ -54,9 +47,7 @@ scheduled-counted_by (suc n) es k d = ap (counted_by n) (scheduled-counts es k d
 -- nothing that happens sends a byte
 happens_if-clear : (b : Bool) (w : What) (d : Devices) → clear (happens_if b w d) ≡ happens_if b w (clear d)
 happens_if-clear true (Serial b) d = refl
-happens_if-clear true (Up n) d = refl
-happens_if-clear true (Down n) d = refl
-happens_if-clear false w d = refl
+happens_if-clear _ _ d = refl
 
 scheduled-clear : (es : List Entry) (k : ℕ) (d : Devices) → clear (scheduled es k d) ≡ scheduled es k (clear d)
 scheduled-clear [] k d = refl
@@ -64,8 +55,7 @@ scheduled-clear (e ∷ es) k d = scheduled-clear es k (happens_if (nat_eq e.cycl
 
 counts_by-clear : (r q : Bool) (d : Devices) → clear (counts_by r q d) ≡ counts_by r q (clear d)
 counts_by-clear true true d = refl
-counts_by-clear true false d = refl
-counts_by-clear false q d = refl
+counts_by-clear _ _ d = refl
 
 cleared-counts : (n : ℕ) (es : List Entry) (k : ℕ) (d : Devices) → cleared n (counts (scheduled es k (clear d))) ≡ counts (scheduled es k (clear d))
 cleared-counts zero es k d = refl
@@ -76,9 +66,7 @@ cleared-counts (suc n) es k d =
 -- nothing changes the schedule
 happens_if-schedule : (b : Bool) (w : What) (d : Devices) → (happens_if b w d).schedule ≡ d.schedule
 happens_if-schedule true (Serial b) d = refl
-happens_if-schedule true (Up n) d = refl
-happens_if-schedule true (Down n) d = refl
-happens_if-schedule false w d = refl
+happens_if-schedule _ _ d = refl
 
 scheduled-schedule : (es : List Entry) (k : ℕ) (d : Devices) → (scheduled es k d).schedule ≡ d.schedule
 scheduled-schedule [] k d = refl
@@ -86,8 +74,7 @@ scheduled-schedule (e ∷ es) k d = scheduled-schedule es k (happens_if (nat_eq 
 
 counts_by-schedule : (r q : Bool) (d : Devices) → (counts_by r q d).schedule ≡ d.schedule
 counts_by-schedule true true d = refl
-counts_by-schedule true false d = refl
-counts_by-schedule false q d = refl
+counts_by-schedule _ _ d = refl
 
 -- before its first entry a schedule does nothing
 scheduled-later : (es : List Entry) (low k : ℕ) (d : Devices) → Rises low es → k < low → scheduled es k d ≡ d

@@ -42,8 +42,7 @@ timer_after (suc n) t = timer_after n (stepped_by t.running (nat_eq t.count t.li
 
 counts_by-joined : (r q : Bool) (l : LinesPart) (s : SerialPart) (t : TimerPart) (es : List Entry) → counts_by r q (joined l s t es) ≡ joined l s (stepped_by r q t) es
 counts_by-joined true true l s t es = refl
-counts_by-joined true false l s t es = refl
-counts_by-joined false q l s t es = refl
+counts_by-joined _ _ l s t es = refl
 
 counted_by-joined : (n : ℕ) (l : LinesPart) (s : SerialPart) (t : TimerPart) (es : List Entry) → counted_by n (joined l s t es) ≡ joined l s (timer_after n t) es
 counted_by-joined zero l s t es = refl
@@ -52,8 +51,7 @@ counted_by-joined (suc n) l s t es =
 
 counts_by-alone : (r q : Bool) (t : TimerPart) → counts_by r q (timer_alone t) ≡ timer_alone (stepped_by r q t)
 counts_by-alone true true t = refl
-counts_by-alone true false t = refl
-counts_by-alone false q t = refl
+counts_by-alone _ _ t = refl
 
 counted_by-alone : (n : ℕ) (t : TimerPart) → counted_by n (timer_alone t) ≡ timer_alone (timer_after n t)
 counted_by-alone zero t = refl
@@ -84,10 +82,9 @@ advanced n k acted l s s' t t' es due serial timer =
 
 -- the timer's part of the raised vector, from the timer alone
 rings : (b c : Bool) → option_or {T = ℕ} (cond b (Some 8) None) None ≡ option_or {T = ℕ} (cond c (Some 8) None) None → ◌≡◌ {A = Option ℕ} (cond b (Some 8) None) (cond c (Some 8) None)
-rings true true h = refl
 rings true false h = absurd (cc)
 rings false true h = absurd (cc)
-rings false false h = refl
+rings _ _ h = refl
 
 timer_line-alone : (t u : TimerPart) → line_of (timer_alone u) ≡ line_of (timer_alone t) → timer_line (timer_alone u) ≡ timer_line (timer_alone t)
 unfolding line_of

@@ -112,9 +112,8 @@ line_of-counted n false a f c l small limit within = ap line_of (counted_by-stop
 line_of-counted n true a f c l small limit within = by (true_or_false (nat_le n (to_limit c l)))
   where
     rung : (b g : Bool) → ((b && not g) ≡ true → n ≤ to_limit c l) → to_limit c l < n → (m d : ℕ) → line_of (timer_of true b true m l) ≡ line_of (timer_of true b g d l)
-    rung false g w past m d = refl
-    rung true true w past m d = refl
     rung true false w past m d = absurd (omega (arith, w refl, past))
+    rung _ _ w past m d = refl
 
     kept : (m d : ℕ) → line_of (timer_of true a f m l) ≡ line_of (timer_of true a f d l)
     kept m d = refl
@@ -132,7 +131,5 @@ line_of-timer n t small limit within =
 
 -- where the timer may raise its vector soon
 pub is_ringing : (r a f : Bool) → (r && a && not f) ≡ true → (r ≡ true) × (a ≡ true) × (f ≡ false)
-is_ringing false a f h = absurd (cc)
-is_ringing true false f h = absurd (cc)
-is_ringing true true true h = absurd (cc)
 is_ringing true true false h = (refl, refl, refl)
+is_ringing _ _ _ h = absurd (cc)

@@ -186,20 +186,15 @@ all_sections object is = All-same (IsSection (length object.file)) object.sectio
 -- ---- symbols
 
 home_by : (count n : ℕ) (a b c : Bool) → eqb n 0xFFF1 ≡ b → eqb n 0xFFF2 ≡ c → (not (ltb n count) && not (eqb n 0xFFF1) && not (eqb n 0xFFF2)) ≡ false → IsHome count (cond a home.Undefined (cond b home.Absolute (cond c home.Common (home.In n))))
-home_by count n true b c eb ec e = tt
-home_by count n false true c eb ec e = tt
-home_by count n false false true eb ec e = tt
 home_by count n false false false eb ec e = grind (arith, nat_tests)
+home_by count n _ _ _ eb ec e = tt
 
 home_in : (count n : ℕ) → (not (ltb n count) && not (eqb n 0xFFF1) && not (eqb n 0xFFF2)) ≡ false → IsHome count (home_of n)
 home_in count n e = home_by count n (eqb n 0) (eqb n 0xFFF1) (eqb n 0xFFF2) refl refl e
 
 bad_parts : (a b c d : Bool) → (a || b || c || d) ≡ false → (a ≡ false) × (c ≡ false)
 bad_parts false false false false e = (refl, refl)
-bad_parts false false false true e = cc
-bad_parts false false true d e = cc
-bad_parts false true c d e = cc
-bad_parts true b c d e = cc
+bad_parts _ _ _ _ e = cc
 
 symbol_law : (file : List ℕ) (table : Header) (k : ℕ) → (strings_of file table).offset + (strings_of file table).size ≤ length file → symbol_fault file table k ≡ None → IsSymbol (length file) (section_count file) (symbol_of file table k)
 unfolding symbol_fault symbol_of
@@ -225,14 +220,11 @@ symbol_table_found file s e =
 
 bad_link_parts : (p k x r s : Bool) → (p || (k && x) || r || s) ≡ false → k ≡ true → x ≡ false
 bad_link_parts false true false r s e is = refl
-bad_link_parts false true true r s e is = cc
-bad_link_parts false false x r s e is = cc
-bad_link_parts true k x r s e is = cc
+bad_link_parts _ _ _ r s e is = cc
 
 bad_table_parts : (a b c d : Bool) → (not a || not b || c || d) ≡ false → b ≡ true
 bad_table_parts true true c d e = refl
-bad_table_parts true false c d e = cc
-bad_table_parts false b c d e = cc
+bad_table_parts _ _ c d e = cc
 
 strings_linked : (file : List ℕ) (s : ℕ) → link_fault file s ≡ None → eqb (header_of file s).kind 2 ≡ true → is_kind file 3 (header_of file s).link ≡ true
 unfolding link_fault
@@ -240,8 +232,7 @@ strings_linked file s e kind = bad_table_parts _ _ _ _ (bad_link_parts _ _ _ _ _
 
 both_true : (a b : Bool) → (a && b) ≡ true → (a ≡ true) × (b ≡ true)
 both_true true true e = (refl, refl)
-both_true true false e = cc
-both_true false b e = cc
+both_true _ _ e = cc
 
 symbols_law : (file : List ℕ) (s : ℕ) → IsSound file → symbol_table file ≡ Some s → first_below (symbol_fault file (header_of file s)) (count_in (header_of file s)) ≡ None → All (IsSymbol (length file) (section_count file)) (each_below (symbol_of file (header_of file s)) (count_in (header_of file s)))
 symbols_law file s sound found e =
@@ -427,7 +418,3 @@ pub all_loaded : (object : ObjectValue) → IsObject object → All (IsOfLoaded 
 all_loaded object is = λ k d lt. λ head within.
     let r = get_or object.relocations k d in
     loaded_there object.sections r.target head (slice_get object.sections r.target) refl within (all_relocations object is k d lt).loaded
-
--- an object's sections are few
-pub few_sections : (object : ObjectValue) → IsObject object → length object.sections ≡ section_count object.file
-few_sections object is = count_sections object is

@@ -1,10 +1,9 @@
 -- Passes over all indexes.
-use Rattle.std.proofs.Common.{◌≡◌, ℕ, zero, suc, ◌+◌, ◌<◌, ◌≤◌, List, [], ◌∷◌, ◌++◌, Option, Some, None, refl, ap, sym, ◌∙◌, ◌⊎◌, inl, inr, arith, add-one, append_assoc, length, length-append, get_or}
+use Rattle.std.proofs.Common.{◌≡◌, ℕ, zero, suc, ◌+◌, ◌<◌, ◌≤◌, List, [], ◌∷◌, ◌++◌, Option, Some, None, refl, ap, sym, ◌∙◌, ◌⊎◌, inl, inr, arith, add-one, length, length-append, get_or}
 use Rattle.std.proofs.Math.ListN.{get_or-append}
 use Rattle.std.proofs.Math.Seq.{get_or-append_seam}
 use Rattle.elf_objects.specs.Passes.{first_below, each_below, all_below}
 use Rattle.std.proofs.lemmas.Bool.{cases_lt}
-use Rattle.std.proofs.lemmas.List.{append-nil}
 
 -- nothing is found below an index, nor at it
 pub first_below_more : {A : Type 0} (f : ℕ → Option A) (i : ℕ) → first_below f i ≡ None → f i ≡ None → first_below f (i + 1) ≡ None
@@ -44,13 +43,6 @@ all_below_more f i = rw add-one refl
 pub all_below_zero : {A : Type 0} (f : ℕ → List A) → all_below f 0 ≡ []
 unfolding all_below
 all_below_zero f = refl
-
--- the same behind other values
-pub each_below_after : {A : Type 0} (xs : List A) (f : ℕ → A) (i : ℕ) → xs ++ each_below f (i + 1) ≡ (xs ++ each_below f i) ++ f i ∷ []
-each_below_after xs f i = rw (each_below_more f i) (sym (append_assoc xs (each_below f i) (f i ∷ [])))
-
-pub none_below_after : {A : Type 0} (xs : List A) (f : ℕ → A) → xs ++ each_below f 0 ≡ xs
-none_below_after xs f = rw (each_below_zero f) (append-nil xs)
 
 pub length_each_below : {A : Type 0} (f : ℕ → A) (n : ℕ) → length (each_below f n) ≡ n
 unfolding each_below

@@ -65,8 +65,7 @@ formed_none form s line rest e = by (has_form form line) (bad_digit form line s.
   where
     by : (c : Bool) (o : Option ℕ) → has_form form line ≡ c → bad_digit form line s.at ≡ o → cond c (digit_or o rest) (line_fault s) ≡ None → IsFormed form line rest
     by true None f g e = record { has = has_form_of form line s.at f g; after = e }
-    by true (Some at) f g e = absurd cc
-    by false o f g e = absurd cc
+    by _ _ f g e = absurd cc
 
 -- a line of the text, and what the next rule says of the text behind it
 record Went (line : List ℕ) (R : Stage) (u : Unread) : Type 0 where
@@ -99,8 +98,7 @@ first_stage u e = by (pointwise nat_eq h.line (codes "sancus-image 1")) (pointwi
       where
         version : (c : Bool) (o : Option ℕ) → cond c (version_or_line o u.spot) (line_fault u.spot) ≡ None → ⊥
         version true None f = cc
-        version true (Some n) f = cc
-        version false o f = cc
+        version _ _ f = cc
 
     by : (a b : Bool) → pointwise nat_eq h.line (codes "sancus-image 1") ≡ a → pointwise nat_eq h.line (codes "sancus-image 2") ≡ b
         → cond a (key_refusal 8 (past h.line u.spot) (ended_lines h.next.rest) (unended h.next.rest)) (cond b (key_refusal 32 (past h.line u.spot) (ended_lines h.next.rest) (unended h.next.rest)) (version_refusal u.spot h.line)) ≡ None → FirstLine u
@@ -229,9 +227,8 @@ row_stage last u h other e =
 
     by : (a b : Bool) → is_row last (word_at 3 h.line) (bytes_at 8 16 h.line) ≡ a → (word_at 3 h.line == last) ≡ b
         → cond a (cond b (Some (Twice (word_at 3 h.line))) (rows_refusal (word_at 3 h.line) (past h.line u.spot) (ended_lines h.next.rest) (unended h.next.rest))) (line_fault u.spot) ≡ None → RowLine last u h
-    by true true p q e = absurd cc
     by true false p q e = record { has = f.has; row = p; above = q }
-    by false b p q e = absurd cc
+    by _ _ p q e = absurd cc
 
 rows_stage : (n : ℕ) (start : Unread) (last : ℕ) (memory : List ℕ) (u : Unread) → length u.rest < n → last % 16 ≡ 0
     → RowsSoFar start.rest last memory u.rest → on u (rows_refusal last) ≡ None → MemoryLines start

@@ -1,5 +1,5 @@
 -- Forms, and the lines that have them.
-use Rattle.std.proofs.Common.{◌≡◌, ◌≢◌, ℕ, zero, suc, ◌+◌, ◌*◌, ◌-◌, ◌/◌, ◌%◌, ◌<◌, List, [], ◌∷◌, ◌++◌, length, take, drop, get_or, slice_range, Bool, true, false, nat_lt, cond, not, ◌&&◌, ◌==◌, Option, Some, None, unwrap_or, refl, sym, ap, ◌∙◌, subst, arith, add-one, drop-cons, length-drop, length-append}
+use Rattle.std.proofs.Common.{◌≡◌, ◌≢◌, ℕ, zero, suc, ◌+◌, ◌*◌, ◌-◌, ◌/◌, ◌%◌, ◌<◌, List, [], ◌∷◌, ◌++◌, length, take, drop, get_or, slice_range, Bool, true, false, nat_lt, cond, not, ◌&&◌, ◌==◌, Option, Some, None, unwrap_or, refl, sym, ap, ◌∙◌, subst, arith, length-drop, length-append}
 use Rattle.std.proofs.lemmas.List.{take_at}
 use Rattle.std.proofs.lemmas.Bool.Decides.{nat_tests}
 use Rattle.hex.specs.Hex.{IsBytes, lower_digits, encode_with, encode_lower}
@@ -9,7 +9,6 @@ use Rattle.texts.proofs.HexLemmas.{read_hex-encode}
 use Rattle.texts.proofs.LawLemmas.{words_are_read}
 use Rattle.texts.specs.Hexadecimals.{hex_word}
 use Rattle.image_text.specs.declared.ImageFault.{ImageFault}
-use Rattle.image_text.specs.declared.ImageFault.TheVariants.{Line, Digit}
 use Rattle.image_text.specs.Refusal.{Spot, fits, has_form, is_bad, bad_digit, formed, bytes_at, word_at}
 use Rattle.image_text.specs.Reading.{HasForm, CodedAt}
 
@@ -23,9 +22,8 @@ and_right false b e = cc
 
 pub form_length : (form line : List ℕ) → has_form form line ≡ true → length form ≡ length line
 form_length [] [] e = refl
-form_length [] (b ∷ line) e = cc
-form_length (mark ∷ form) [] e = cc
 form_length (mark ∷ form) (b ∷ line) e = let k = form_length form line (and_right (fits mark b) (has_form form line) e) in omega (arith, k)
+form_length _ _ e = cc
 
 -- a line of another length has not the form
 pub other_length : (form line : List ℕ) → length form ≢ length line → has_form form line ≡ false
@@ -37,13 +35,12 @@ other_length form line ne = by (has_form form line) refl
 
 -- whether a digit is bad does not hang on where the line begins
 bad_none : (form line : List ℕ) (at from : ℕ) → bad_digit form line at ≡ None → bad_digit form line from ≡ None
-bad_none [] line at from e = refl
-bad_none (mark ∷ form) [] at from e = refl
 bad_none (mark ∷ form) (b ∷ line) at from e = by (is_bad mark b) e (λ f. bad_none form line (at + 1) (from + 1) f)
   where
     by : (c : Bool) → cond c (Some at) (bad_digit form line (at + 1)) ≡ None → (bad_digit form line (at + 1) ≡ None → bad_digit form line (from + 1) ≡ None) → cond c (Some from) (bad_digit form line (from + 1)) ≡ None
     by true f r = absurd cc
     by false f r = r f
+bad_none _ _ at from e = refl
 
 pub has_form_of : (form line : List ℕ) (at : ℕ) → has_form form line ≡ true → bad_digit form line at ≡ None → HasForm form line
 has_form_of form line at e f = record { formed = e; digits = λ from. bad_none form line at from f }
@@ -104,23 +101,8 @@ digit_value c = cond (nat_lt c 58) (c - 48) (c - 87)
 
 -- the sixteen digits
 pub digit_at : (n : ℕ) → n < 16 → get_or lower_digits n 0 ≡ cond (nat_lt n 10) (48 + n) (87 + n)
-digit_at zero l = refl
-digit_at (suc zero) l = refl
-digit_at (suc (suc zero)) l = refl
-digit_at (suc (suc (suc zero))) l = refl
-digit_at (suc (suc (suc (suc zero)))) l = refl
-digit_at (suc (suc (suc (suc (suc zero))))) l = refl
-digit_at (suc (suc (suc (suc (suc (suc zero)))))) l = refl
-digit_at (suc (suc (suc (suc (suc (suc (suc zero))))))) l = refl
-digit_at (suc (suc (suc (suc (suc (suc (suc (suc zero)))))))) l = refl
-digit_at (suc (suc (suc (suc (suc (suc (suc (suc (suc zero))))))))) l = refl
-digit_at (suc (suc (suc (suc (suc (suc (suc (suc (suc (suc zero)))))))))) l = refl
-digit_at (suc (suc (suc (suc (suc (suc (suc (suc (suc (suc (suc zero))))))))))) l = refl
-digit_at (suc (suc (suc (suc (suc (suc (suc (suc (suc (suc (suc (suc zero)))))))))))) l = refl
-digit_at (suc (suc (suc (suc (suc (suc (suc (suc (suc (suc (suc (suc (suc zero))))))))))))) l = refl
-digit_at (suc (suc (suc (suc (suc (suc (suc (suc (suc (suc (suc (suc (suc (suc zero)))))))))))))) l = refl
-digit_at (suc (suc (suc (suc (suc (suc (suc (suc (suc (suc (suc (suc (suc (suc (suc zero))))))))))))))) l = refl
 digit_at (suc (suc (suc (suc (suc (suc (suc (suc (suc (suc (suc (suc (suc (suc (suc (suc n)))))))))))))))) l = absurd (omega arith)
+digit_at _ l = refl
 
 -- a digit is the text of its value
 pub digit_is : (c : ℕ) → is_hex_digit c ≡ true → (digit_value c < 16) × (get_or lower_digits (digit_value c) 0 ≡ c)
@@ -207,8 +189,6 @@ record TwoBytes (bytes : List ℕ) : Type 0 where
   pub is : word / 256 ∷ word % 256 ∷ [] ≡ bytes
 
 two_bytes : (bytes : List ℕ) → length bytes ≡ 2 → IsBytes bytes → TwoBytes bytes
-two_bytes [] e h = absurd (omega arith)
-two_bytes (a ∷ []) e h = absurd (omega arith)
 two_bytes (a ∷ b ∷ []) e h =
     let la : a < 256 = h 0 in
     let lb : b < 256 = h 1 in
@@ -216,7 +196,7 @@ two_bytes (a ∷ b ∷ []) e h =
     let eb : (256 * a + b) % 256 ≡ b = omega arith in
     let all : (256 * a + b) / 256 ∷ (256 * a + b) % 256 ∷ [] ≡ a ∷ b ∷ [] = cc in
     record { word = 256 * a + b; small = omega arith; is = all }
-two_bytes (a ∷ b ∷ c ∷ bytes) e h = absurd (omega arith)
+two_bytes _ e h = absurd (omega arith)
 
 pub record AfterFour (form line : List ℕ) : Type 0 where
   pub word : ℕ

@@ -120,13 +120,12 @@ lined_digit d form line l h =
 lined_bytes : (n : ℕ) (bytes form line : List ℕ) → length bytes ≡ n → IsBytes bytes → Lined form line → Lined (marks n ++ form) (encode_lower bytes ++ line)
 unfolding encode_with
 lined_bytes zero [] form line e b h = h
-lined_bytes zero (x ∷ bytes) form line e b h = absurd (omega arith)
-lined_bytes (suc n) [] form line e b h = absurd (omega arith)
 lined_bytes (suc n) (x ∷ bytes) form line e b h =
     let small : x < 256 = b 0 in
     lined_digit (x / 16) (35 ∷ (marks n ++ form)) (get_or lower_digits (x % 16) 0 ∷ (encode_lower bytes ++ line)) (omega arith)
     (lined_digit (x % 16) (marks n ++ form) (encode_lower bytes ++ line) (omega arith)
     (lined_bytes n bytes form line (omega (arith, e)) (λ k. b (suc k)) h))
+lined_bytes _ _ form line e b h = absurd (omega arith)
 
 lined_last : (n : ℕ) (bytes : List ℕ) → length bytes ≡ n → IsBytes bytes → Lined (marks n) (encode_lower bytes)
 lined_last n bytes e b = subst (λ (f : List ℕ). Lined f (encode_lower bytes)) (append-nil (marks n)) (subst (Lined (marks n ++ [])) (append-nil (encode_lower bytes)) (lined_bytes n bytes [] [] e b lined_nil))
@@ -292,9 +291,8 @@ modules_one (m ∷ ms) (n ∷ ns) k g h r s a b c d p q e =
 -- ---- rows of one text
 
 bytes_drop : (n : ℕ) (xs : List ℕ) → IsBytes xs → IsBytes (drop n xs)
-bytes_drop zero xs h = h
-bytes_drop (suc n) [] h = h
 bytes_drop (suc n) (x ∷ xs) h = bytes_drop n xs (λ i. h (suc i))
+bytes_drop _ _ h = h
 
 bytes_take : (n : ℕ) (xs : List ℕ) → IsBytes xs → IsBytes (take n xs)
 bytes_take zero xs h = bytes_nil
@@ -303,14 +301,13 @@ bytes_take (suc n) (x ∷ xs) h = bytes_cons x (take n xs) (h 0) (bytes_take n x
 
 zeros_one : (xs ys : List ℕ) → length xs ≡ length ys → is_zero xs ≡ true → is_zero ys ≡ true → xs ≡ ys
 zeros_one [] [] l p q = refl
-zeros_one [] (y ∷ ys) l p q = absurd (omega arith)
-zeros_one (x ∷ xs) [] l p q = absurd (omega arith)
 zeros_one (x ∷ xs) (y ∷ ys) l p q =
     let a = and_parts (x == 0) (is_zero xs) p in
     let b = and_parts (y == 0) (is_zero ys) q in
     let first : x ≡ y = eqb-true x 0 a.0 ∙ sym (eqb-true y 0 b.0) in
     let rest = zeros_one xs ys (omega (arith, l)) a.1 b.1 in
     ap (λ (z : ℕ). z ∷ xs) first ∙ ap (λ (z : List ℕ). y ∷ z) rest
+zeros_one _ _ l p q = absurd (omega arith)
 
 row_one : (a b : ℕ) (x y r s : List ℕ) → a < 65536 → b < 65536 → length x ≡ 16 → length y ≡ 16 → IsBytes x → IsBytes y → ended (row_line a x) r ≡ ended (row_line b y) s → (a ≡ b) × (x ≡ y) × (r ≡ s)
 row_one a b x y r s la lb lx ly p q e =
@@ -365,12 +362,11 @@ rows_one (suc n) at m k room lm lk p q e =
 
 same_front : (n : ℕ) (m k : List ℕ) → n ≤ length m → n ≤ length k → ((a : ℕ) → a < n → slice_index m a ≡ 0) → ((a : ℕ) → a < n → slice_index k a ≡ 0) → take n m ≡ take n k
 same_front zero m k l r p q = refl
-same_front (suc n) [] k l r p q = absurd (omega arith)
-same_front (suc n) (x ∷ m) [] l r p q = absurd (omega arith)
 same_front (suc n) (x ∷ m) (y ∷ k) l r p q =
     let first : x ≡ y = p 0 (omega arith) ∙ sym (q 0 (omega arith)) in
     let rest = same_front n m k (omega (arith, l)) (omega (arith, r)) (λ a f. p (suc a) (omega arith)) (λ a f. q (suc a) (omega arith)) in
     ap (λ (z : ℕ). z ∷ take n m) first ∙ ap (λ (z : List ℕ). y ∷ z) rest
+same_front (suc n) _ _ l r p q = absurd (omega arith)
 
 -- ---- images of one text
 

@@ -65,9 +65,8 @@ bytes_append (x ∷ xs) ys p q zero = p 0
 bytes_append (x ∷ xs) ys p q (suc k) = bytes_append xs ys (λ i. p (suc i)) q k
 
 bytes_zeros : (n : ℕ) → IsBytes (replicate n 0)
-bytes_zeros zero k = omega arith
-bytes_zeros (suc n) zero = omega arith
 bytes_zeros (suc n) (suc k) = bytes_zeros n k
+bytes_zeros _ _ = omega arith
 
 pub rows_more : (rest : List ℕ) (last at : ℕ) (memory grown : List ℕ) (old new : Unread) → at % 16 ≡ 0 → RowsSoFar rest last memory old.rest → AddsRow last at old new memory grown → RowsSoFar rest at grown new.rest
 rows_more rest last at memory grown old new even h a =

@@ -68,9 +68,8 @@ modules_text_more (x ∷ ms) m rest = ap (λ (l : List ℕ). ended (module_line 
 
 pub left_less : (due left : Option ℕ) (given : ℕ) (lines : List (List ℕ)) → IsLeft due left given → due_next left lines ≡ true → IsLeft due (one_less left) (given + 1)
 left_less None None given lines h e = tt
-left_less None (Some k) given lines h e = absurd h
-left_less (Some n) None given lines h e = absurd h
 left_less (Some n) (Some k) given lines h e = let some : 0 < k = grind (arith, nat_tests) in omega (arith, h)
+left_less _ _ given lines h e = absurd h
 
 pub all_given : (due left : Option ℕ) (given : ℕ) (lines : List (List ℕ)) → IsLeft due left given → due_next left lines ≡ false → IsGiven due given
 all_given None left given lines h e = tt

@@ -60,9 +60,8 @@ source_found (all_ones x) = refl
 pc_read : (m x : ℕ) (o : Operand) → source_of m 0 x ≡ Some o → Source m 0 x o
 pc_read zero x o e = subst (λ (p : Operand). Source 0 0 x p) (some_is (Reg 0) o e) (register 0 x (omega arith))
 pc_read (suc zero) x o e = subst (λ (p : Operand). Source 1 0 x p) (some_is (Symbolic x) o e) (symbolic x)
-pc_read (suc (suc zero)) x o e = absurd cc
 pc_read (suc (suc (suc zero))) x o e = subst (λ (p : Operand). Source 3 0 x p) (some_is (Imm x) o e) (immediate x)
-pc_read (suc (suc (suc (suc m)))) x o e = absurd cc
+pc_read (suc (suc _)) x o e = absurd cc
 
 sr_read : (m x : ℕ) (o : Operand) → source_of m 2 x ≡ Some o → Source m 2 x o
 sr_read zero x o e = subst (λ (p : Operand). Source 0 2 x p) (some_is (Reg 2) o e) (register 2 x (omega arith))
@@ -125,17 +124,7 @@ destination_read (suc (suc m)) r x o h e = absurd (omega arith)
 
 pub two_found : (op : TwoOp) → slice_get two_ops (two_code op - 4) ≡ Some op
 two_found Mov = refl
-two_found Add = refl
-two_found Addc = refl
-two_found Subc = refl
-two_found Sub = refl
-two_found Cmp = refl
-two_found Dadd = refl
-two_found Bit = refl
-two_found Bic = refl
-two_found Bis = refl
-two_found Xor = refl
-two_found And = refl
+two_found _ = refl
 
 pub two_read : (k : ℕ) (op : TwoOp) → slice_get two_ops k ≡ Some op → k + 4 ≡ two_code op
 two_read zero op e = ap two_code (some_is Mov op e)
@@ -154,11 +143,7 @@ two_read (suc (suc (suc (suc (suc (suc (suc (suc (suc (suc (suc (suc k))))))))))
 
 pub one_found : (op : OneOp) → slice_get one_ops (one_code op) ≡ Some op
 one_found Rrc = refl
-one_found Swpb = refl
-one_found Rra = refl
-one_found Sxt = refl
-one_found Push = refl
-one_found Call = refl
+one_found _ = refl
 
 pub one_read : (k : ℕ) (op : OneOp) → slice_get one_ops k ≡ Some op → k ≡ one_code op
 one_read zero op e = ap one_code (some_is Rrc op e)

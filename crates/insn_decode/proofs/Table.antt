@@ -3,9 +3,9 @@ use Rattle.std.proofs.Common.{◌≡◌, ◌≢◌, ⊎_elim, ℕ, ◌+◌, ◌-
 use Rattle.std.proofs.lemmas.Bool.{cases_eq, cases_lt}
 use Rattle.std.specs.Prelude.{slice_get}
 use Rattle.insn_decode.specs.declared.insn.TwoOp.{TwoOp}
-use Rattle.insn_decode.specs.declared.insn.TwoOp.TheVariants.{Mov, Add, Addc, Subc, Sub, Cmp, Dadd, Bit, Bic, Bis, Xor, And}
+use Rattle.insn_decode.specs.declared.insn.TwoOp.TheVariants.{Mov}
 use Rattle.insn_decode.specs.declared.insn.OneOp.{OneOp}
-use Rattle.insn_decode.specs.declared.insn.OneOp.TheVariants.{Rrc, Swpb, Rra, Sxt, Push, Call}
+use Rattle.insn_decode.specs.declared.insn.OneOp.TheVariants.{Rrc}
 use Rattle.insn_decode.specs.declared.insn.Operand.{Operand}
 use Rattle.insn_decode.specs.declared.insn.Insn.{Insn}
 use Rattle.insn_decode.specs.declared.insn.Insn.TheVariants.{Two, One, Jump, Reti, Unit as UnitOp}
@@ -83,25 +83,11 @@ insn_means w0 w1 w2 insn e =
 
 two_code_least : (op : TwoOp) → 4 ≤ two_code op
 two_code_least Mov = omega arith
-two_code_least Add = omega arith
-two_code_least Addc = omega arith
-two_code_least Subc = omega arith
-two_code_least Sub = omega arith
-two_code_least Cmp = omega arith
-two_code_least Dadd = omega arith
-two_code_least Bit = omega arith
-two_code_least Bic = omega arith
-two_code_least Bis = omega arith
-two_code_least Xor = omega arith
-two_code_least And = omega arith
+two_code_least _ = omega arith
 
 one_code_most : (op : OneOp) → one_code op < 6
 one_code_most Rrc = omega arith
-one_code_most Swpb = omega arith
-one_code_most Rra = omega arith
-one_code_most Sxt = omega arith
-one_code_most Push = omega arith
-one_code_most Call = omega arith
+one_code_most _ = omega arith
 
 pub means_insn : {w0 w1 w2 : ℕ} {insn : Insn} {n : ℕ} → Means w0 w1 w2 insn n → (insn_of w0 w1 w2 ≡ Some insn) × (n ≡ length_of insn)
 means_insn {w0} {w1} {w2} (format_one op s d c src dst) =

@@ -8,7 +8,7 @@ use Rattle.insn_decode.specs.declared.insn.OneOp.TheVariants.{Rrc, Swpb, Rra, Sx
 use Rattle.insn_decode.specs.declared.insn.Operand.{Operand}
 use Rattle.insn_decode.specs.declared.insn.Operand.TheVariants.{Reg, Const, Imm, Indexed, Symbolic, Absolute, Indirect, Increment}
 use Rattle.insn_decode.specs.declared.insn.Insn.{Insn}
-use Rattle.insn_decode.specs.declared.insn.Insn.TheVariants.{Two, One, Jump, Reti, Unit as UnitOp}
+use Rattle.insn_decode.specs.declared.insn.Insn.TheVariants.{Two, One}
 use Rattle.insn_decode.specs.Code.{insn_of, one_fits, words_of, length_of, length_or_one, length_at, width_of}
 use Rattle.insn_decode.specs.Means.{Source, register, symbolic, absolute, indexed, indirect, increment, immediate, four, eight, nought, one, two, all_ones, Destination, to_register, to_symbolic, to_absolute, to_indexed, Means, format_one, format_two, jump, return, unit, IsOutside}
 use Rattle.insn_decode.proofs.Rows.{apart}
@@ -26,33 +26,18 @@ with_word o v = o
 
 words_same : (o : Operand) (v : ℕ) → words_of (with_word o v) ≡ words_of o
 words_same (Imm x) v = refl
-words_same (Indexed r x) v = refl
-words_same (Symbolic x) v = refl
-words_same (Absolute x) v = refl
-words_same (Reg r) v = refl
-words_same (Const c) v = refl
-words_same (Indirect r) v = refl
-words_same (Increment r) v = refl
+words_same _ v = refl
 
 no_word : (o : Operand) (v : ℕ) → words_of o ≡ 0 → with_word o v ≡ o
-no_word (Imm x) v h = absurd (omega arith)
-no_word (Indexed r x) v h = absurd (omega arith)
-no_word (Symbolic x) v h = absurd (omega arith)
-no_word (Absolute x) v h = absurd (omega arith)
 no_word (Reg r) v h = refl
 no_word (Const c) v h = refl
 no_word (Indirect r) v h = refl
 no_word (Increment r) v h = refl
+no_word _ v h = absurd (omega arith)
 
 words_most : (o : Operand) → words_of o ≤ 1
 words_most (Imm x) = omega arith
-words_most (Indexed r x) = omega arith
-words_most (Symbolic x) = omega arith
-words_most (Absolute x) = omega arith
-words_most (Reg r) = omega arith
-words_most (Const c) = omega arith
-words_most (Indirect r) = omega arith
-words_most (Increment r) = omega arith
+words_most _ = omega arith
 
 fits_same : (op : OneOp) (w : Width) (o : Operand) (v : ℕ) → one_fits op w (with_word o v) ≡ one_fits op w o
 fits_same op w (Reg r) v = refl
@@ -165,9 +150,7 @@ revised_short : (insn : Insn) (v1 v2 : ℕ) → length_of insn ≤ 1 → revised
 revised_short (Two op w s d) v1 v2 h =
     ap (λ (o : Operand). Two op w o (with_word d (second s v1 v2))) (no_word s v1 (omega arith)) ∙ ap (λ (o : Operand). Two op w s o) (no_word d (second s v1 v2) (omega arith))
 revised_short (One op w a) v1 v2 h = ap (λ (o : Operand). One op w o) (no_word a v1 (omega arith))
-revised_short (Jump cond off) v1 v2 h = refl
-revised_short Reti v1 v2 h = refl
-revised_short (UnitOp n) v1 v2 h = refl
+revised_short _ v1 v2 h = refl
 
 revised_long : {w0 w1 w2 : ℕ} {insn : Insn} {n : ℕ} (v2 : ℕ) → n ≤ 2 → Means w0 w1 w2 insn n → revised insn w1 v2 ≡ insn
 revised_long {w0} {w1} {w2} v2 h (format_one op s d c src dst) =
@@ -219,9 +202,7 @@ length_range w0 = by (insn_of w0 0 0) refl
     at_most : (insn : Insn) → (1 ≤ length_of insn) × (length_of insn ≤ 3)
     at_most (Two op w s d) = let a : words_of s ≤ 1 = words_most s in let b : words_of d ≤ 1 = words_most d in (omega arith, omega arith)
     at_most (One op w a) = let b : words_of a ≤ 1 = words_most a in (omega arith, omega arith)
-    at_most (Jump c o) = (omega arith, omega arith)
-    at_most Reti = (omega arith, omega arith)
-    at_most (UnitOp n) = (omega arith, omega arith)
+    at_most _ = (omega arith, omega arith)
 
     by : (o : Option Insn) → insn_of w0 0 0 ≡ o → (1 ≤ length_or_one o) × (length_or_one o ≤ 3)
     by None q = (omega arith, omega arith)

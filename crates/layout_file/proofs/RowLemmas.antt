@@ -1,26 +1,21 @@
 -- What the proofs of the rows share.
-use Rattle.std.proofs.Common.{◌≡◌, ◌≢◌, ℕ, zero, suc, ◌+◌, ◌<◌, Bool, ◌&&◌, List, [], ◌∷◌, ◌++◌, length, get_or, take, map, None, Ok, Err, String, Global, string_bytes, refl, ap, ◌∙◌, sym, arith, ◌*◌, drop, length-take-le, take-append-drop, add-zero, append_assoc}
+use Rattle.std.proofs.Common.{◌≡◌, ◌≢◌, ℕ, suc, ◌+◌, ◌<◌, Bool, ◌&&◌, List, [], ◌∷◌, ◌++◌, length, get_or, take, map, None, Ok, Err, String, Global, string_bytes, refl, ap, ◌∙◌, sym, arith, drop, length-take-le, take-append-drop, add-zero, append_assoc}
 use Rattle.std.proofs.lemmas.List.{append-nil, take_more, drop_more}
 use Rattle.layout_file.specs.declared.fault.LayoutFault.{LayoutFault}
 use Rattle.std.specs.List.{list_all, prefix_len}
-use Rattle.std.specs.Prelude.{flat_map, position, not, if◌then◌else◌}
+use Rattle.std.specs.Prelude.{position, not, if◌then◌else◌}
 use Rattle.std.proofs.lemmas.List.{length-map, map-append}
 use Rattle.layout_file.specs.Clashes.{clash_after, first_clash}
-use Rattle.layout_file.specs.Values.{regions_of}
-use Rattle.layout_file.specs.Views.{module_of}
 use Rattle.layout_file.specs.Checked.{Checked, map_ok, ◌>>=◌, gather}
 use Rattle.layout_file.specs.Rows.{two, all_keys, list_of}
-use Rattle.layout_file.specs.declared.parts.ModuleSpec.{ModuleSpec}
 use Rattle.std.specs.Map.{keys_of}
 use Rattle.toml.specs.Data.{Data}
 use Rattle.toml.specs.View.{view, items_view, members_view}
 use Rattle.toml.specs.declared.value.Value.{Value}
 
 pub two-other : (vs : List Value) → length vs ≢ 2 → two (items_view vs) ≡ None
-two-other [] ne = refl
-two-other (a ∷ []) ne = refl
 two-other (a ∷ b ∷ []) ne = absurd (ne refl)
-two-other (a ∷ b ∷ c ∷ vs) ne = refl
+two-other _ ne = refl
 
 pub all_keys-view : (p : List ℕ → Bool) (es : List (String Global × Value))
     → list_all (λ k. p (string_bytes k)) (keys_of es) ≡ all_keys p (members_view es)
@@ -42,9 +37,7 @@ module _ {A B : Type 0} (f : ℕ → A → Checked (List B)) where
       → (here >>= (λ h. map_ok (λ more. h ++ more) (front >>= (λ a. map_ok (λ b. a ++ b) rest))))
       ≡ ((here >>= (λ h. map_ok (λ more. h ++ more) front)) >>= (λ a. map_ok (λ b. a ++ b) rest))
   joined (Ok h) (Ok a) (Ok b) = rw append_assoc refl
-  joined (Ok h) (Ok a) (Err e) = refl
-  joined (Ok h) (Err e) rest = refl
-  joined (Err e) front rest = refl
+  joined _ _ _ = refl
 
   pub gather-append : (n : ℕ) (xs ys : List A) → gather f n (xs ++ ys) ≡ after (n + length xs) ys (gather f n xs)
   gather-append n [] ys = rw add-zero (nothing_before (gather f n ys))
@@ -113,9 +106,8 @@ module _ {B : Type 0} (f : ℕ → Data → Checked (List B)) where
       rw split (gather-stop f (data_of (take i vs)) (data_of (drop (i + 1) vs)) (view (get_or vs i d)) ys e front last)
 
 pub get_or-of_map : {A B : Type 0} (f : A → B) (xs : List A) (i : ℕ) (d : A) → get_or (map f xs) i (f d) ≡ f (get_or xs i d)
-get_or-of_map f [] i d = refl
-get_or-of_map f (x ∷ xs) zero d = refl
 get_or-of_map f (x ∷ xs) (suc i) d = get_or-of_map f xs i d
+get_or-of_map f _ _ d = refl
 
 -- ---- clashes
 

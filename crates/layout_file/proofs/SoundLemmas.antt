@@ -123,12 +123,11 @@ length-decode_sized s n bytes h = by (length s % 2 == 1) refl (length s / 2 == n
   where
     by : (odd : Bool) → (length s % 2 == 1) ≡ odd → (fit : Bool) → (length s / 2 == n) ≡ fit
         → (if odd then Err OddLength else if fit then decode_pairs 0 s else Err InvalidStringLength) ≡ Ok bytes → length bytes ≡ n
-    by true odd fit e h = absurd (cc)
     by false even true e h =
         let ok = decode_pairs-ok 0 s bytes h in
         let half = eqb-true _ _ e in
         omega (arith, ok.1)
-    by false even false e h = absurd (cc)
+    by _ odd _ e h = absurd (cc)
 
 pub length-hex_key : (spot : Spot) (table : Members) (key : List ℕ) → rows.hex_key spot table ≡ Ok key → length key ≡ 16
 length-hex_key spot table key h =
@@ -505,6 +504,5 @@ unfolding LayoutOf
 IsLayout-LayoutOf bytes = by (is_utf8 bytes) (parse_document bytes)
   where
     by : (text : Bool) (document : Option Members) → IfOk (if text then layout.of_document document else Err Utf8OrToml) IsLayout
-    by true None = tt
     by true (Some top) = IfOk-sound (layout.layout_in top) (IsLayout-layout_in top)
-    by false document = tt
+    by _ _ = tt

@@ -28,9 +28,7 @@ delayed_more a b Running = refl
 
 later_is : (o : Outcome) → later o ≡ delayed 1 o
 later_is (Exit core left c) = refl
-later_is (Closing core left c) = refl
-later_is (Broken left c) = refl
-later_is Running = refl
+later_is _ = refl
 
 -- within an instruction
 abbrev within : List ℕ → List ℕ → ℕ → Bool → Lone
@@ -135,14 +133,7 @@ pub record At (j : Job) (start : Lone) (limit : ℕ) (core ram : List ℕ) (c : 
   pub here : lone_after j start c ≡ between core ram
   pub few : c ≤ limit
 
-pub at_start : (j : Job) (limit : ℕ) (core ram : List ℕ) → At j (between core ram) limit core ram 0
-at_start j limit core ram = record {
-  run = ap (λ k. outcome j k (between core ram)) (let e : limit ≡ limit - 0 = omega arith in e) ∙ delayed_none (outcome j (limit - 0) (between core ram));
-  here = refl;
-  few = omega arith;
-}
-
-module _ (j : Job) (start : Lone) (limit : ℕ) (core ram : List ℕ) (c : ℕ) (at : At j start limit core ram c) where
+module _ {j : Job} {start : Lone} {limit : ℕ} {core ram : List ℕ} {c : ℕ} (at : At j start limit core ram c) where
   pub at_exit : holds j.owner.text (reg core 0) ≡ false → outcome j limit start ≡ Exit core ram c
   at_exit e = at.run ∙ ap (delayed c) (exits j (limit - c) core ram e) ∙ ap (Exit core ram) (let f : 0 + c ≡ c = omega arith in f)
 
@@ -155,7 +146,7 @@ module _ (j : Job) (start : Lone) (limit : ℕ) (core ram : List ℕ) (c : ℕ) 
   pub at_broken : holds j.owner.text (reg core 0) ≡ true → next_insn j (between core ram) ≡ None → c ≢ limit → outcome j limit start ≡ Broken ram c
   at_broken e f ne = let few = at.few in at.run ∙ ap (delayed c) (breaks j (limit - c) core ram (omega arith) e f) ∙ ap (Broken ram) (let g : 0 + c ≡ c = omega arith in g)
 
-  module _ (after left : List ℕ) (insn : Insn) (k : ℕ) (closing : Bool) (some : 1 ≤ k) (home : holds j.owner.text (reg core 0) ≡ true) (found : next_insn j (between core ram) ≡ Some insn)
+  module _ {after left : List ℕ} {insn : Insn} {k : ℕ} {closing : Bool} (some : 1 ≤ k) (home : holds j.owner.text (reg core 0) ≡ true) (found : next_insn j (between core ram) ≡ Some insn)
       (does_it : lone_does j insn (between core ram) ≡ within after left (k - 1) closing) where
     pub at_short : c ≢ limit → limit - c < k → outcome j limit start ≡ Running
     at_short ne h = let few = at.few in at.run ∙ ap (delayed c) (stays j core ram after left insn k closing some home found does_it (limit - c) (omega arith) h)

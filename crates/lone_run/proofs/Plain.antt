@@ -3,7 +3,7 @@ use Rattle.std.proofs.Common.{◌≡◌, ℕ, ◌-◌, List, [], ◌∷◌, map,
 use Rattle.std.proofs.lemmas.List.Elements.{All-cons, All-nil}
 use Rattle.insn_decode.specs.Code.{is_unit}
 use Rattle.insn_decode.specs.declared.insn.Insn.{Insn}
-use Rattle.insn_decode.specs.declared.insn.Insn.TheVariants.{Two, One, Jump, Reti, Unit as UnitOp}
+use Rattle.insn_decode.specs.declared.insn.Insn.TheVariants.{Unit as UnitOp}
 use Rattle.cycle_table.specs.Cycles.{cycles_of}
 use Rattle.pc_access.specs.Rights.{misaligned}
 use Rattle.pc_access.specs.declared.Access.{Access}
@@ -26,11 +26,8 @@ shape : (j : Job) (core ram : List ℕ) (insn : Insn) → IsFalse (is_unit insn)
       closing = false;
     }
 unfolding lone_does asks effect
-shape j core ram (Two op w s d) free = refl
-shape j core ram (One op w a) free = refl
-shape j core ram (Jump c off) free = refl
-shape j core ram Reti free = refl
 shape j core ram (UnitOp n) free = absurd (let h : ⊥ = cc in h)
+shape j core ram _ free = refl
 
 -- ---- through the sections
 
@@ -44,10 +41,9 @@ taken_is s (x ∷ xs) = ap (λ (r : Taken Held). let t : Taken Held = record { v
 
 stored_is : (j : Job) (ram : List ℕ) (xs : List Access) (values : List ℕ) → AtMostOne xs →
     after_put j.owner ram (stored_in after_held (before j ram) xs values).put ≡ lone_writes j.owner ram xs values
-stored_is j ram [] values h = refl
 stored_is j ram (x ∷ xs) [] h = refl
-stored_is j ram (x ∷ []) (v ∷ values) h = refl
 stored_is j ram (x ∷ y ∷ xs) (v ∷ values) h = absurd cc
+stored_is j ram _ _ h = refl
 
 pub plain_done : (j : Job) (core ram after left : List ℕ) (insn : Insn) (s : Held) (k : ℕ) → IsFalse (is_unit insn) →
     after ≡ (through answered (λ t w a. t) after_held insn core true (before j ram)).core →
@@ -91,8 +87,5 @@ all_aligned j (x ∷ xs) e =
 
 pub plain_aligned : (j : Job) (insn : Insn) (core : List ℕ) → IsFalse (is_unit insn) → all_inside j (asks (lone_who j) insn core) ≡ true → AreAligned (plan insn core)
 unfolding asks
-plain_aligned j (Two op w s d) core free e = all_aligned j (plan (Two op w s d) core) e
-plain_aligned j (One op w a) core free e = all_aligned j (plan (One op w a) core) e
-plain_aligned j (Jump c off) core free e = all_aligned j (plan (Jump c off) core) e
-plain_aligned j Reti core free e = all_aligned j (plan Reti core) e
 plain_aligned j (UnitOp n) core free e = absurd (let h : ⊥ = cc in h)
+plain_aligned j insn core free e = all_aligned j (plan insn core) e

@@ -10,9 +10,6 @@ use Rattle.pc_access.specs.declared.Access.{Access}
 use Rattle.attest.specs.Units.{Tag, each_byte, in_range, text_reads, unit_plan, unit_named}
 use Rattle.cpu_step.specs.Lone.{Job, lone_who, is_inside, all_inside, unit_alone}
 
-byte_at : Kind → ℕ → Access
-byte_at kind a = record { kind = kind; addr = a; width = Byte }
-
 pub bytes_next : (j : Job) (kind : Kind) (start k count : ℕ) → k < count → is_inside j record { kind = kind; addr = start + k; width = Byte } ≡ true →
     all_inside j (each_byte kind (start + k) (count - k)) ≡ all_inside j (each_byte kind (start + (k + 1)) (count - (k + 1)))
 bytes_next j kind start k count lt e =
@@ -67,8 +64,7 @@ tag_ranges j core a n out r w e ea en eo er ew =
   where
     last : (x y : Bool) → (x && y && true) ≡ (x && y)
     last true true = refl
-    last true false = refl
-    last false y = refl
+    last _ _ = refl
 
 -- no tag, no access
 pub tag_none : (j : Job) (core : List ℕ) → (in_range (reg core 12) (reg core 13) && in_range (reg core 14) (reg core 14 + 16)) ≡ false → all_inside j (unit_plan (lone_who j) Tag core) ≡ true
@@ -79,10 +75,8 @@ tag_none j core e = ap (λ b. all_inside j (cond b (each_byte Read (reg core 12)
 pub no_tag : (j : Job) (core : List ℕ) (op : ℕ) → unit_alone (unit_named op) ≡ true → op ≢ 3 → all_inside j (unit_plan (lone_who j) (unit_named op) core) ≡ true
 unfolding unit_plan
 no_tag j core zero a ne = refl
-no_tag j core (suc zero) a ne = absurd cc
-no_tag j core (suc (suc zero)) a ne = absurd cc
 no_tag j core (suc (suc (suc zero))) a ne = absurd (ne refl)
-no_tag j core (suc (suc (suc (suc zero)))) a ne = absurd cc
 no_tag j core (suc (suc (suc (suc (suc zero))))) a ne = refl
 no_tag j core (suc (suc (suc (suc (suc (suc zero)))))) a ne = refl
 no_tag j core (suc (suc (suc (suc (suc (suc (suc n))))))) a ne = refl
+no_tag j core (suc _) a ne = absurd cc

@@ -166,10 +166,7 @@ pub own_done : (j : Job) (core ram : List ℕ) (op : ℕ) → unit_alone (unit_n
     lone_does j (UnitOp op) (between core ram) ≡ record { core = put (next core) 15 j.owner.id; data_bytes = ram; rest = 6 - 1; closing = false }
 unfolding lone_does asks effect unit_plan unit_effect
 own_done j core ram zero a b c d = absurd (b refl)
-own_done j core ram (suc zero) a b c d = absurd cc
-own_done j core ram (suc (suc zero)) a b c d = absurd cc
 own_done j core ram (suc (suc (suc zero))) a b c d = absurd (c refl)
-own_done j core ram (suc (suc (suc (suc zero)))) a b c d = absurd cc
-own_done j core ram (suc (suc (suc (suc (suc zero))))) a b c d = refl
 own_done j core ram (suc (suc (suc (suc (suc (suc zero)))))) a b c d = absurd (d refl)
-own_done j core ram (suc (suc (suc (suc (suc (suc (suc n))))))) a b c d = refl
+own_done j core ram (suc (suc (suc (suc (suc _))))) a b c d = refl
+own_done j core ram (suc _) a b c d = absurd cc

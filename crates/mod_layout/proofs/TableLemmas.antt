@@ -154,9 +154,8 @@ no_fault true f rest e = absurd cc
 no_fault false f rest e = (refl, e)
 
 no_overlap : (o : Option ℕ) (own : Bool) (rest : Option TableFault) → overlap_or o own rest ≡ None → (o ≡ None) × (own ≡ false) × (rest ≡ None)
-no_overlap (Some id) own rest e = absurd cc
-no_overlap None true rest e = absurd cc
 no_overlap None false rest e = (refl, refl, e)
+no_overlap _ _ rest e = absurd cc
 
 none_of : (o : Option TableFault) → is_none o ≡ true → o ≡ None
 none_of None e = refl

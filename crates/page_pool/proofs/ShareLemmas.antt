@@ -20,9 +20,6 @@ is_one b e = rw e refl
 is_none : (b : Bool) → b ≡ false → cond {A = ℕ} b 1 0 ≡ 0
 is_none b e = rw e refl
 
-lives : Table → ℕ
-lives t = cond {A = ℕ} t.is_live 1 0
-
 -- ---- a table joins
 
 pub places_named : (pages : List (List ℕ)) (counts : List ℕ) (tables : List Table) (free : List ℕ) (spare t : ℕ) (u : Table)

@@ -21,8 +21,7 @@ pub right_is : (t : Table) (active : Option ℕ) (held : List ℕ) (kind : Kind)
     → right t active held (access_of kind a w) ≡ aligned_first (is_misaligned (access_of kind a w)) a (right_at (place_of t a) active held kind a)
 unfolding right
 right_is t active held Fetch a w = refl
-right_is t active held Read a w = refl
-right_is t active held Write a w = refl
+right_is t active held _ a w = refl
 
 refused_not : (b : Bool) (r : Rule) (a id : ℕ) → refuse_if b r a id ≡ None → b ≡ false
 refused_not true r a id e = absurd cc
@@ -45,17 +44,14 @@ not_own b e = rw e refl
 
 free_at : (active : Option ℕ) (held : List ℕ) (p : Place) (k : Kind) (a : ℕ) → right_at p active held k a ≡ None → IsFree active held p k a
 free_at active held Open Fetch a e = record { granted = refl; free = refused_not (nat_lt a DEVICES_END) _ a 0 e }
-free_at active held Open Read a e = record { granted = refl; free = refl }
-free_at active held Open Write a e = record { granted = refl; free = refl }
 free_at active held (Entry id) Fetch a e = record { granted = refl; free = refused_not (is_held id held) _ a id e }
-free_at active held (Entry id) Read a e = record { granted = refl; free = refl }
 free_at active held (Entry id) Write a e = absurd cc
 free_at active held (Text id) Fetch a e = record { granted = (granted_data (is_id id active) id (false_of (is_id id active) (refused_not (not (is_id id active)) _ a id e))).2; free = refl }
-free_at active held (Text id) Read a e = record { granted = refl; free = refl }
 free_at active held (Text id) Write a e = absurd cc
 free_at active held (Data id) Fetch a e = absurd cc
 free_at active held (Data id) Read a e = record { granted = (granted_data (is_id id active) id (false_of (is_id id active) (refused_not (not (is_id id active)) _ a id e))).0; free = refl }
 free_at active held (Data id) Write a e = record { granted = (granted_data (is_id id active) id (false_of (is_id id active) (refused_not (not (is_id id active)) _ a id e))).1; free = refl }
+free_at active held _ _ a e = record { granted = refl; free = refl }
 
 -- of the own module's data and text a grant says that it is the own
 data_own : (b : Bool) (id : ℕ) (k : Kind) → grants b (Data id) k ≡ true → b ≡ true
@@ -72,17 +68,13 @@ text_own false id e = absurd cc
 
 at_free : (active : Option ℕ) (held : List ℕ) (p : Place) (k : Kind) (a : ℕ) → grants (is_own active p) p k ≡ true → is_barred_at p held k a ≡ false → right_at p active held k a ≡ None
 at_free active held Open Fetch a g f = allowed_by (nat_lt a DEVICES_END) _ a 0 f
-at_free active held Open Read a g f = refl
-at_free active held Open Write a g f = refl
 at_free active held (Entry id) Fetch a g f = allowed_by (is_held id held) _ a id f
-at_free active held (Entry id) Read a g f = refl
 at_free active held (Entry id) Write a g f = absurd cc
 at_free active held (Text id) Fetch a g f = allowed_by (not (is_id id active)) _ a id (not_own (is_id id active) (text_own (is_id id active) id g))
-at_free active held (Text id) Read a g f = refl
 at_free active held (Text id) Write a g f = absurd cc
 at_free active held (Data id) Fetch a g f = absurd (data_not_fetched (is_id id active) id g)
-at_free active held (Data id) Read a g f = allowed_by (not (is_id id active)) _ a id (not_own (is_id id active) (data_own (is_id id active) id Read g))
-at_free active held (Data id) Write a g f = allowed_by (not (is_id id active)) _ a id (not_own (is_id id active) (data_own (is_id id active) id Write g))
+at_free active held (Data id) k a g f = allowed_by (not (is_id id active)) _ a id (not_own (is_id id active) (data_own (is_id id active) id k g))
+at_free active held _ _ a g f = refl
 
 aligned_both : (b : Bool) (a : ℕ) (rest : Option Denied) → aligned_first b a rest ≡ None → (b ≡ false) × (rest ≡ None)
 aligned_both true a rest e = absurd cc
@@ -91,11 +83,9 @@ aligned_both false a rest e = (refl, e)
 module _ (t : Table) (active : Option ℕ) (held : List ℕ) (ok : IsTable t) where
   -- each byte that an aligned access touches is granted where its first is
   all_granted : (kind : Kind) (a : ℕ) (w : Width) → is_misaligned (access_of kind a w) ≡ false → is_granted t active kind a ≡ true → list_all (λ b. is_granted t active kind b) (touched (access_of kind a w)) ≡ true
-  all_granted Fetch a w m g = rw g refl
-  all_granted Read a Byte m g = rw g refl
   all_granted Read a Word m g = let even : a % 2 ≡ 0 = grind (arith, nat_tests) in rw (one_place t a ok even, g) refl
-  all_granted Write a Byte m g = rw g refl
   all_granted Write a Word m g = let even : a % 2 ≡ 0 = grind (arith, nat_tests) in rw (one_place t a ok even, g) refl
+  all_granted _ a _ m g = rw g refl
 
   first_of_two : (b c : Bool) → (b && c) ≡ true → b ≡ true
   first_of_two true c e = refl
@@ -103,10 +93,8 @@ module _ (t : Table) (active : Option ℕ) (held : List ℕ) (ok : IsTable t) wh
 
   first_granted : (kind : Kind) (a : ℕ) (w : Width) → list_all (λ b. is_granted t active kind b) (touched (access_of kind a w)) ≡ true → is_granted t active kind a ≡ true
   first_granted Fetch a w g = first_of_two _ _ g
-  first_granted Read a Byte g = first_of_two _ _ g
-  first_granted Read a Word g = first_of_two _ _ g
-  first_granted Write a Byte g = first_of_two _ _ g
-  first_granted Write a Word g = first_of_two _ _ g
+  first_granted _ a Word g = first_of_two _ _ g
+  first_granted _ a Byte g = first_of_two _ _ g
 
   -- what no rule refuses is rightful
   pub rightful : (kind : Kind) (a : ℕ) (w : Width) → right t active held (access_of kind a w) ≡ None → IsRightful t active held (access_of kind a w)

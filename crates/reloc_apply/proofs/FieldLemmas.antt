@@ -10,9 +10,7 @@ use Rattle.reloc_apply.specs.Fields.{size_of, limit_of, is_jump, kept_of, with_n
 -- what a field keeps and takes is below 256 to the power of its size
 pub fits : (f : Field) (bytes : List ℕ) (offset number : ℕ) → kept_of (is_jump f) bytes offset ≤ 64512 → number < limit_of f → kept_of (is_jump f) bytes offset + number < 256 ^ size_of f
 fits field.Byte bytes offset number kept below = omega arith
-fits field.Half bytes offset number kept below = omega arith
-fits field.Word bytes offset number kept below = omega arith
-fits field.Jump bytes offset number kept below = omega arith
+fits _ bytes offset number kept below = omega arith
 
 before_number : (bytes : List ℕ) (offset size number k : ℕ) → offset + size ≤ length bytes → k < offset → get_or (with_number bytes offset size number) k 0 ≡ get_or bytes k 0
 before_number bytes offset size number k within lt =

@@ -46,7 +46,6 @@ move_from (number ∷ word) w e = by (nat_le 48 number && nat_le number 51) (byt
 
     by : (a b c : Bool) → (nat_le 48 number && nat_le number 51) ≡ a → bytes_eq word (codes " up") ≡ b → bytes_eq word (codes " down") ≡ c
         → cond (not a) None (cond b (Some (Up (number - 48))) (cond c (Some (Down (number - 48))) None)) ≡ Some w → IsWhat w × (codes "line " ++ number ∷ word ≡ what_text w)
-    by false b c p q r e = absurd cc
     by true true c p q r e =
         let is : Up (number - 48) ≡ w = cc in
         let range = between number p in
@@ -59,7 +58,7 @@ move_from (number ∷ word) w e = by (nat_le 48 number && nat_le number 51) (byt
         let low = range.0 in
         let high = range.1 in
         subst (λ w. IsWhat w × (codes "line " ++ number ∷ word ≡ what_text w)) is (omega arith, moved (codes " down") low high ((bytes_eq-Decides word (codes " down")).0 r))
-    by true false false p q r e = absurd cc
+    by _ _ _ p q r e = absurd cc
 
 what_from : (text : List ℕ) (w : What) → what_of text ≡ Some w → IsWhat w × (text ≡ what_text w)
 what_from text w e = by (starts_with (λ a b. a == b) text (codes "serial ")) (starts_with (λ a b. a == b) text (codes "line ")) refl refl e

@@ -9,6 +9,11 @@ use std::alloc::Global;
 
 const MAX_FILE: usize = 1048576;
 
+// Pieces of a file double up to the most, so that a small file takes little memory and a large one few calls.
+const LEAST_PIECE: usize = 4096;
+
+const MOST_PIECE: usize = 65536;
+
 /// Why a whole file was not read.
 #[derive(Clone, Copy, Debug, PartialEq, Eq)]
 pub enum ReadFault {
@@ -32,17 +37,19 @@ pub fn read_whole<F: Files>(alloc: Global, files: &mut F, name: &str) -> Result<
     ensures never_fails { IsTrue (F.sound files.old) → whole_failed result ≡ false }
 {
     let mut bytes = Vec::new(alloc);
-    let mut buf = [0u8; 4096];
     while bytes.len() <= MAX_FILE {
-        let count = match files.read_at(name, bytes.len() as u64, &mut buf) {
+        let at = bytes.len();
+        let piece = at.clamp(LEAST_PIECE, MOST_PIECE);
+        if bytes.resize(at + piece, 0).is_err() {
+            return Err(ReadFault::NoMemory);
+        }
+        let count = match files.read_at(name, at as u64, &mut bytes[at..]) {
             Ok(count) => count,
             Err(Unread::Absent) => return Err(ReadFault::Absent),
             Err(Unread::Failed) => return Err(ReadFault::Failed),
             Err(Unread::NoMemory) => return Err(ReadFault::NoMemory),
         };
-        if bytes.extend_from_slice(&buf[..count]).is_err() {
-            return Err(ReadFault::NoMemory);
-        }
+        bytes.truncate(at + count);
         if count == 0 {
             return Ok(bytes);
         }

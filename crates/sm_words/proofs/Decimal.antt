@@ -25,11 +25,8 @@ below_room (suc n) a b c h =
     omega arith
 
 room_small : (n : ℕ) → n < 4 → room n ≤ 4096
-room_small zero h = omega arith
-room_small (suc zero) h = omega arith
-room_small (suc (suc zero)) h = omega arith
-room_small (suc (suc (suc zero))) h = omega arith
 room_small (suc (suc (suc (suc n)))) h = absurd (omega arith)
+room_small _ h = omega arith
 
 carry_of : (c : Bool) → one_if c ≤ 1
 carry_of true = omega arith

@@ -88,8 +88,7 @@ read_decimal-parts most text n e = by (is_decimal text) (nat_le (number_in text)
   where
     by : (a b : Bool) → is_decimal text ≡ a → nat_le (number_in text) most ≡ b → cond (a && b) (Some (number_in text)) None ≡ Some n → IsRead most text n
     by true true p q e = let same : number_in text ≡ n = cc in record { decimal = p; number = same; low = grind (arith, nat_tests) }
-    by true false p q e = absurd cc
-    by false b p q e = absurd cc
+    by _ _ p q e = absurd cc
 
 -- an answer of std's reader, as an option
 pub some_if_parsed : {E : Type 0} (r : Result ℕ E) (o : Option ℕ) (v : ℕ) (P Q : Type 0) → P → OkIff r (P × Q) v → o ≡ result_ok r → SomeIff o Q v

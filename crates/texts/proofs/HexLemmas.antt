@@ -1,5 +1,5 @@
 -- Lemmas on hexadecimal digits.
-use Rattle.std.proofs.Common.{ℕ, suc, ◌≡◌, ◌+◌, ◌*◌, ◌/◌, ◌%◌, ◌<◌, Bool, true, false, ◌&&◌, nat_lt, List, [], ◌∷◌, length, get_or, slice_index, Option, Some, None, Result, Ok, Err, refl, sym, ap, subst, ◌∙◌, cond, arith}
+use Rattle.std.proofs.Common.{ℕ, suc, ◌≡◌, ◌+◌, ◌*◌, ◌/◌, ◌%◌, ◌<◌, Bool, true, ◌&&◌, nat_lt, List, [], ◌∷◌, length, get_or, slice_index, Option, Some, None, Result, Ok, Err, refl, sym, ap, subst, ◌∙◌, cond, arith}
 use Rattle.std.specs.List.{list_all}
 use Rattle.std.specs.Str.{IsAscii}
 use Rattle.std.proofs.lemmas.Bool.Decides.{nat_tests}
@@ -76,8 +76,7 @@ pairs_text i (a ∷ b ∷ rest) bytes e h =
   where
     three_parts : (p q r : Bool) → (p && (q && r)) ≡ true → (p ≡ true) × (q ≡ true) × (r ≡ true)
     three_parts true true r t = (refl, refl, t)
-    three_parts true false r t = absurd cc
-    three_parts false q r t = absurd cc
+    three_parts _ _ r t = absurd cc
 
     low_digit : (c v : ℕ) → hex_digit_value c ≡ Some v → v < 16
     low_digit c v t = grind (arith, nat_tests)
@@ -112,8 +111,7 @@ read_hex-parts count text bytes e = by (list_all is_hex_digit text) (decode_size
         let whole : decode_of text ≡ Ok bytes = sym (decode_sized-twice text count long) ∙ is in
         let parts = decode_of-ok text bytes whole in
         record { is = pairs_text 0 text bytes p (sym (decode_of-even text parts.0) ∙ whole); long = omega (arith, long, parts.2); are = parts.3 }
-    by true (Err fault) p q e = absurd cc
-    by false r p q e = absurd cc
+    by _ _ p q e = absurd cc
 
 -- ---- a byte and a word
 

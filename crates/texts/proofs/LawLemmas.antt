@@ -52,9 +52,8 @@ digits_are_counted text n e some few = (from, to)
 -- ---- hexadecimals
 
 head_byte : (bytes : List ℕ) (byte : ℕ) → length bytes ≡ 1 → slice_index bytes 0 ≡ byte → bytes ≡ byte ∷ []
-head_byte [] byte l e = absurd (omega arith)
 head_byte (b ∷ []) byte l e = ap (λ c. c ∷ []) e
-head_byte (b ∷ c ∷ bytes) byte l e = absurd (omega arith)
+head_byte _ byte l e = absurd (omega arith)
 
 one_byte : (byte : ℕ) → byte < 256 → IsBytes (byte ∷ [])
 one_byte byte l zero = l
@@ -76,15 +75,13 @@ bytes_are_read text byte = (λ e. from (read_hex 1 text) refl e, λ h. to h.0 h.
 
 two_bytes : (bytes : List ℕ) (word : ℕ) → length bytes ≡ 2 → IsBytes bytes → 256 * slice_index bytes 0 + slice_index bytes 1 ≡ word
     → (word < 65536) × (bytes ≡ word / 256 ∷ word % 256 ∷ [])
-two_bytes [] word l are e = absurd (omega arith)
-two_bytes (a ∷ []) word l are e = absurd (omega arith)
 two_bytes (a ∷ b ∷ []) word l are e =
     let la : a < 256 = are 0 in
     let lb : b < 256 = are 1 in
     let ea : a ≡ word / 256 = omega arith in
     let eb : b ≡ word % 256 = omega arith in
     (omega arith, cc)
-two_bytes (a ∷ b ∷ c ∷ bytes) word l are e = absurd (omega arith)
+two_bytes _ word l are e = absurd (omega arith)
 
 word_bytes : (word : ℕ) → word < 65536 → IsBytes (word / 256 ∷ word % 256 ∷ [])
 word_bytes word l zero = omega arith

@@ -96,16 +96,7 @@ record IsRuleText (rule : Rule) (rest : List ℕ) : Type 0 where
 
 rule_text : (rule : Rule) (rest : List ℕ) → IsRuleText rule rest
 rule_text FetchNotEntry rest = record { is = refl; after = refl }
-rule_text FetchData rest = record { is = refl; after = refl }
-rule_text ReadData rest = record { is = refl; after = refl }
-rule_text WriteData rest = record { is = refl; after = refl }
-rule_text WriteText rest = record { is = refl; after = refl }
-rule_text Reenter rest = record { is = refl; after = refl }
-rule_text RetiInside rest = record { is = refl; after = refl }
-rule_text Straddle rest = record { is = refl; after = refl }
-rule_text Misaligned rest = record { is = refl; after = refl }
-rule_text Illegal rest = record { is = refl; after = refl }
-rule_text FetchDevice rest = record { is = refl; after = refl }
+rule_text _ rest = record { is = refl; after = refl }
 
 regroup : (a b c d e f g : List ℕ) → (((((a ++ b) ++ c) ++ d) ++ e) ++ f) ++ g ≡ a ++ (b ++ (c ++ (d ++ (e ++ (f ++ g)))))
 regroup a b c d e f g = simp append_assoc

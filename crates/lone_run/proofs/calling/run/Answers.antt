@@ -1,174 +1,81 @@
-use Rattle.std.proofs.Common.{◌≡◌, ◌∙◌, ◌<◌, ◌≤◌, ◌+◌, ◌-◌, ap, sym, subst, arith, false, List, ℕ}
+use Rattle.std.proofs.Common.{◌≡◌, ◌∙◌, ◌<◌, ◌≤◌, ◌+◌, ◌-◌, ap, sym, subst, refl, arith, Bool, false, List, ℕ}
+use Rattle.sm_words.specs.Words.{reg}
 use Rattle.mod_layout.specs.Table.{holds}
+use Rattle.mod_layout.specs.declared.Section.{Section}
 use Rattle.cpu_step.specs.Lone as lone
 use Rattle.lone_run.specs.Ends.{answer_of, data_left}
 use Rattle.lone_run.specs.Jobs.{call_of, between}
 use Rattle.lone_run.proofs.Calls.{At, at_exit, at_limit, data_limit, at_broken, at_short, data_short, at_more, at_closed}
 use Rattle.lone_run.proofs.calling.run.Goals as goal
 
-pub returns-then-not-holds-clause-outcome : goal.returns-then-not-holds-clause-outcome
-returns-then-not-holds-clause-outcome c =
-    let j = call_of c.args.job.now in
-    let start = between c.args.entry c.args.ram.now in
-    let core : List ℕ = c.loop-core.core in
-    let ram : List ℕ = c.loop-core.ram in
-    let k : ℕ = c.loop-core.cycles in
-    let limit : ℕ = c.args.limit in
-    let wide : c.from.result ≡ c.get.result = omega arith in
-    let home = sym (c.holds.ensures ∙ ap (holds c.args.job.now.owner.now.text) (wide ∙ c.get.ensures.word)) ∙ c.if-not-holds.true in
-    sym (ap answer_of (at_exit j start limit core ram k c.loop-core.invariant home))
+-- whether PC is in the text, by the code's number
+is_home : (text : Section) (core : List ℕ) (wide word : ℕ) (b d : Bool) → b ≡ holds text wide → wide ≡ word → word ≡ reg core 0 → b ≡ d → holds text (reg core 0) ≡ d
+is_home text core wide word b d tested same read is = sym (tested ∙ ap (holds text) (same ∙ read)) ∙ is
 
-pub returns-then-not-holds-clause-ram : goal.returns-then-not-holds-clause-ram
-returns-then-not-holds-clause-ram c =
-    let j = call_of c.args.job.now in
-    let start = between c.args.entry c.args.ram.now in
-    let core : List ℕ = c.loop-core.core in
-    let ram : List ℕ = c.loop-core.ram in
-    let k : ℕ = c.loop-core.cycles in
-    let limit : ℕ = c.args.limit in
-    let wide : c.from.result ≡ c.get.result = omega arith in
-    let home = sym (c.holds.ensures ∙ ap (holds c.args.job.now.owner.now.text) (wide ∙ c.get.ensures.word)) ∙ c.if-not-holds.true in
-    sym (ap (λ o. data_left o (lone.lone_after j start limit).data_bytes) (at_exit j start limit core ram k c.loop-core.invariant home))
+-- the answer and the data of an outcome
+told : (j : lone.Job) (start : lone.Lone) (limit : ℕ) (o : lone.Outcome) (ram : List ℕ) → lone.outcome j limit start ≡ o → data_left o (lone.lone_after j start limit).data_bytes ≡ ram →
+    (answer_of o ≡ answer_of (lone.outcome j limit start)) × (ram ≡ data_left (lone.outcome j limit start) (lone.lone_after j start limit).data_bytes)
+told j start limit o ram e left = (sym (ap answer_of e), sym (ap (λ o. data_left o (lone.lone_after j start limit).data_bytes) e ∙ left))
 
-pub returns-then-cycles-limit-clause-outcome : goal.returns-then-cycles-limit-clause-outcome
-returns-then-cycles-limit-clause-outcome c =
-    let j = call_of c.args.job.now in
-    let start = between c.args.entry c.args.ram.now in
-    let core : List ℕ = c.loop-core.core in
-    let ram : List ℕ = c.loop-core.ram in
-    let k : ℕ = c.loop-core.cycles in
-    let limit : ℕ = c.args.limit in
+pub returns-then-not-holds : goal.returns-then-not-holds
+returns-then-not-holds c =
     let wide : c.from.result ≡ c.get.result = omega arith in
-    let home = sym (c.holds.ensures ∙ ap (holds c.args.job.now.owner.now.text) (wide ∙ c.get.ensures.word)) ∙ c.if-not-holds.false in
-    sym (ap answer_of (at_limit j start limit core ram k c.loop-core.invariant home c.if-cycles-limit.true))
+    let home = is_home _ c.loop-core.core _ _ _ _ c.holds.ensures wide c.get.ensures.word c.if-not-holds.true in
+    let ends = told (call_of c.args.job.now) (between c.args.entry c.args.ram.now) c.args.limit _ _ (at_exit c.loop-core.invariant home) refl in
+    record { outcome = ends.0; ram = ends.1 }
 
-pub returns-then-cycles-limit-clause-ram : goal.returns-then-cycles-limit-clause-ram
-returns-then-cycles-limit-clause-ram c =
-    let j = call_of c.args.job.now in
-    let start = between c.args.entry c.args.ram.now in
-    let core : List ℕ = c.loop-core.core in
-    let ram : List ℕ = c.loop-core.ram in
-    let k : ℕ = c.loop-core.cycles in
-    let limit : ℕ = c.args.limit in
+pub returns-then-cycles-limit : goal.returns-then-cycles-limit
+returns-then-cycles-limit c =
     let wide : c.from.result ≡ c.get.result = omega arith in
-    let home = sym (c.holds.ensures ∙ ap (holds c.args.job.now.owner.now.text) (wide ∙ c.get.ensures.word)) ∙ c.if-not-holds.false in
-    sym (ap (λ o. data_left o (lone.lone_after j start limit).data_bytes) (at_limit j start limit core ram k c.loop-core.invariant home c.if-cycles-limit.true) ∙ data_limit j start limit core ram k c.loop-core.invariant c.if-cycles-limit.true)
+    let home = is_home _ c.loop-core.core _ _ _ _ c.holds.ensures wide c.get.ensures.word c.if-not-holds.false in
+    let at = c.loop-core.invariant in
+    let last = c.if-cycles-limit.true in
+    let ends = told (call_of c.args.job.now) (between c.args.entry c.args.ram.now) c.args.limit _ _ (at_limit at home last) (data_limit at last) in
+    record { outcome = ends.0; ram = ends.1 }
 
-pub returns-in-None-clause-outcome : goal.returns-in-None-clause-outcome
-returns-in-None-clause-outcome c =
-    let j = call_of c.args.job.now in
-    let start = between c.args.entry c.args.ram.now in
-    let core : List ℕ = c.loop-core.core in
-    let ram : List ℕ = c.loop-core.ram in
-    let k : ℕ = c.loop-core.cycles in
-    let limit : ℕ = c.args.limit in
+pub returns-in-None : goal.returns-in-None
+returns-in-None c =
     let wide : c.from.result ≡ c.get.result = omega arith in
-    let home = sym (c.holds.ensures ∙ ap (holds c.args.job.now.owner.now.text) (wide ∙ c.get.ensures.word)) ∙ c.if-not-holds.false in
+    let home = is_home _ c.loop-core.core _ _ _ _ c.holds.ensures wide c.get.ensures.word c.if-not-holds.false in
     let none = sym (c.next_insn.ensures.exact 0 false) ∙ c.in-None.is in
-    sym (ap answer_of (at_broken j start limit core ram k c.loop-core.invariant home none c.if-cycles-limit.false))
+    let ends = told (call_of c.args.job.now) (between c.args.entry c.args.ram.now) c.args.limit _ _ (at_broken c.loop-core.invariant home none c.if-cycles-limit.false) refl in
+    record { outcome = ends.0; ram = ends.1 }
 
-pub returns-in-None-clause-ram : goal.returns-in-None-clause-ram
-returns-in-None-clause-ram c =
-    let j = call_of c.args.job.now in
-    let start = between c.args.entry c.args.ram.now in
-    let core : List ℕ = c.loop-core.core in
-    let ram : List ℕ = c.loop-core.ram in
-    let k : ℕ = c.loop-core.cycles in
-    let limit : ℕ = c.args.limit in
+pub returns-then-from-limit : goal.returns-then-from-limit
+returns-then-from-limit c =
     let wide : c.from.result ≡ c.get.result = omega arith in
-    let home = sym (c.holds.ensures ∙ ap (holds c.args.job.now.owner.now.text) (wide ∙ c.get.ensures.word)) ∙ c.if-not-holds.false in
-    let none = sym (c.next_insn.ensures.exact 0 false) ∙ c.in-None.is in
-    sym (ap (λ o. data_left o (lone.lone_after j start limit).data_bytes) (at_broken j start limit core ram k c.loop-core.invariant home none c.if-cycles-limit.false))
-
-pub returns-then-from-limit-clause-outcome : goal.returns-then-from-limit-clause-outcome
-returns-then-from-limit-clause-outcome c =
-    let j = call_of c.args.job.now in
-    let start = between c.args.entry c.args.ram.now in
-    let core : List ℕ = c.loop-core.core in
-    let ram : List ℕ = c.loop-core.ram in
-    let k : ℕ = c.loop-core.cycles in
-    let limit : ℕ = c.args.limit in
-    let wide : c.from.result ≡ c.get.result = omega arith in
-    let home = sym (c.holds.ensures ∙ ap (holds c.args.job.now.owner.now.text) (wide ∙ c.get.ensures.word)) ∙ c.if-not-holds.false in
-    let lasts = c.do_insn-lasts.result in
-    let after : List ℕ = c.do_insn-lasts.new.core in
-    let left : List ℕ = c.do_insn-lasts.new.ram in
+    let home = is_home _ c.loop-core.core _ _ _ _ c.holds.ensures wide c.get.ensures.word c.if-not-holds.false in
     let found = sym (c.next_insn.ensures.exact 0 false) ∙ c.in-Some.is in
-    let cycles : c.from-in-loop-core.result ≡ lasts.cycles = omega arith in
-    let short : limit - k < lasts.cycles = omega arith in
-    sym (ap answer_of (at_short j start limit core ram k c.loop-core.invariant after left c.in-Some.insn lasts.cycles lasts.closing c.do_insn-lasts.ensures.some home found c.do_insn-lasts.ensures.done c.if-cycles-limit.false short))
+    let done = c.do_insn-lasts.ensures in
+    let more = c.if-cycles-limit.false in
+    let cycles : c.from-in-loop-core.result ≡ c.do_insn-lasts.result.cycles = omega arith in
+    let short : c.args.limit - c.loop-core.cycles < c.do_insn-lasts.result.cycles = omega arith in
+    let ends = told (call_of c.args.job.now) (between c.args.entry c.args.ram.now) c.args.limit _ _
+        (at_short c.loop-core.invariant done.some home found done.done more short) (data_short c.loop-core.invariant done.some home found done.done more short) in
+    record { outcome = ends.0; ram = ends.1 }
 
-pub returns-then-from-limit-clause-ram : goal.returns-then-from-limit-clause-ram
-returns-then-from-limit-clause-ram c =
-    let j = call_of c.args.job.now in
-    let start = between c.args.entry c.args.ram.now in
-    let core : List ℕ = c.loop-core.core in
-    let ram : List ℕ = c.loop-core.ram in
-    let k : ℕ = c.loop-core.cycles in
-    let limit : ℕ = c.args.limit in
+pub returns-then-lasts : goal.returns-then-lasts
+returns-then-lasts c =
     let wide : c.from.result ≡ c.get.result = omega arith in
-    let home = sym (c.holds.ensures ∙ ap (holds c.args.job.now.owner.now.text) (wide ∙ c.get.ensures.word)) ∙ c.if-not-holds.false in
-    let lasts = c.do_insn-lasts.result in
-    let after : List ℕ = c.do_insn-lasts.new.core in
-    let left : List ℕ = c.do_insn-lasts.new.ram in
+    let home = is_home _ c.loop-core.core _ _ _ _ c.holds.ensures wide c.get.ensures.word c.if-not-holds.false in
     let found = sym (c.next_insn.ensures.exact 0 false) ∙ c.in-Some.is in
-    let cycles : c.from-in-loop-core.result ≡ lasts.cycles = omega arith in
-    let short : limit - k < lasts.cycles = omega arith in
-    sym (ap (λ o. data_left o (lone.lone_after j start limit).data_bytes) (at_short j start limit core ram k c.loop-core.invariant after left c.in-Some.insn lasts.cycles lasts.closing c.do_insn-lasts.ensures.some home found c.do_insn-lasts.ensures.done c.if-cycles-limit.false short) ∙ data_short j start limit core ram k c.loop-core.invariant after left c.in-Some.insn lasts.cycles lasts.closing c.do_insn-lasts.ensures.some home found c.do_insn-lasts.ensures.done c.if-cycles-limit.false short)
-
-pub returns-then-lasts-clause-outcome : goal.returns-then-lasts-clause-outcome
-returns-then-lasts-clause-outcome c =
-    let j = call_of c.args.job.now in
-    let start = between c.args.entry c.args.ram.now in
-    let core : List ℕ = c.loop-core.core in
-    let ram : List ℕ = c.loop-core.ram in
-    let k : ℕ = c.loop-core.cycles in
-    let limit : ℕ = c.args.limit in
-    let wide : c.from.result ≡ c.get.result = omega arith in
-    let home = sym (c.holds.ensures ∙ ap (holds c.args.job.now.owner.now.text) (wide ∙ c.get.ensures.word)) ∙ c.if-not-holds.false in
-    let lasts = c.do_insn-lasts.result in
-    let after : List ℕ = c.do_insn-lasts.new.core in
-    let left : List ℕ = c.do_insn-lasts.new.ram in
-    let found = sym (c.next_insn.ensures.exact 0 false) ∙ c.in-Some.is in
-    let cycles : c.from-cycles.result ≡ lasts.cycles = omega arith in
-    let same : c.from-in-loop-core.result ≡ lasts.cycles = omega arith in
-    let fits : lasts.cycles ≤ limit - k = omega arith in
-    sym (ap answer_of (at_closed j start limit core ram k c.loop-core.invariant after left c.in-Some.insn lasts.cycles lasts.closing c.do_insn-lasts.ensures.some home found c.do_insn-lasts.ensures.done fits c.if-lasts.true) ∙ ap (λ n. answer_of (lone.Closing after left (k + n))) (sym cycles))
-
-pub returns-then-lasts-clause-ram : goal.returns-then-lasts-clause-ram
-returns-then-lasts-clause-ram c =
-    let j = call_of c.args.job.now in
-    let start = between c.args.entry c.args.ram.now in
-    let core : List ℕ = c.loop-core.core in
-    let ram : List ℕ = c.loop-core.ram in
-    let k : ℕ = c.loop-core.cycles in
-    let limit : ℕ = c.args.limit in
-    let wide : c.from.result ≡ c.get.result = omega arith in
-    let home = sym (c.holds.ensures ∙ ap (holds c.args.job.now.owner.now.text) (wide ∙ c.get.ensures.word)) ∙ c.if-not-holds.false in
-    let lasts = c.do_insn-lasts.result in
-    let after : List ℕ = c.do_insn-lasts.new.core in
-    let left : List ℕ = c.do_insn-lasts.new.ram in
-    let found = sym (c.next_insn.ensures.exact 0 false) ∙ c.in-Some.is in
-    let cycles : c.from-cycles.result ≡ lasts.cycles = omega arith in
-    let same : c.from-in-loop-core.result ≡ lasts.cycles = omega arith in
-    let fits : lasts.cycles ≤ limit - k = omega arith in
-    c.clear.ensures ∙ sym (ap (λ o. data_left o (lone.lone_after j start limit).data_bytes) (at_closed j start limit core ram k c.loop-core.invariant after left c.in-Some.insn lasts.cycles lasts.closing c.do_insn-lasts.ensures.some home found c.do_insn-lasts.ensures.done fits c.if-lasts.true))
+    let done = c.do_insn-lasts.ensures in
+    let cycles : c.from-cycles.result ≡ c.do_insn-lasts.result.cycles = omega arith in
+    let same : c.from-in-loop-core.result ≡ c.do_insn-lasts.result.cycles = omega arith in
+    let fits : c.do_insn-lasts.result.cycles ≤ c.args.limit - c.loop-core.cycles = omega arith in
+    let ends = told (call_of c.args.job.now) (between c.args.entry c.args.ram.now) c.args.limit _ _
+        (at_closed c.loop-core.invariant done.some home found done.done fits c.if-lasts.true) refl in
+    record { outcome = ap (λ n. answer_of (lone.Closing c.do_insn-lasts.new.core c.do_insn-lasts.new.ram (c.loop-core.cycles + n))) cycles ∙ ends.0; ram = c.clear.ensures ∙ ends.1 }
 
 pub loop-core-preserved : goal.loop-core-preserved
 loop-core-preserved c =
-    let j = call_of c.args.job.now in
-    let start = between c.args.entry c.args.ram.now in
-    let core : List ℕ = c.loop-core.core in
-    let ram : List ℕ = c.loop-core.ram in
-    let k : ℕ = c.loop-core.cycles in
-    let limit : ℕ = c.args.limit in
     let wide : c.from.result ≡ c.get.result = omega arith in
-    let home = sym (c.holds.ensures ∙ ap (holds c.args.job.now.owner.now.text) (wide ∙ c.get.ensures.word)) ∙ c.if-not-holds.false in
-    let lasts = c.do_insn-lasts.result in
-    let after : List ℕ = c.do_insn-lasts.new.core in
-    let left : List ℕ = c.do_insn-lasts.new.ram in
+    let home = is_home _ c.loop-core.core _ _ _ _ c.holds.ensures wide c.get.ensures.word c.if-not-holds.false in
     let found = sym (c.next_insn.ensures.exact 0 false) ∙ c.in-Some.is in
-    let cycles : c.from-cycles.result ≡ lasts.cycles = omega arith in
-    let same : c.from-in-loop-core.result ≡ lasts.cycles = omega arith in
-    let fits : lasts.cycles ≤ limit - k = omega arith in
-    subst (At j start limit after left) (let e : k + lasts.cycles ≡ k + c.from-cycles.result = omega arith in e) (at_more j start limit core ram k c.loop-core.invariant after left c.in-Some.insn lasts.cycles lasts.closing c.do_insn-lasts.ensures.some home found c.do_insn-lasts.ensures.done fits c.if-lasts.false)
+    let done = c.do_insn-lasts.ensures in
+    let cycles : c.from-cycles.result ≡ c.do_insn-lasts.result.cycles = omega arith in
+    let same : c.from-in-loop-core.result ≡ c.do_insn-lasts.result.cycles = omega arith in
+    let fits : c.do_insn-lasts.result.cycles ≤ c.args.limit - c.loop-core.cycles = omega arith in
+    subst (At (call_of c.args.job.now) (between c.args.entry c.args.ram.now) c.args.limit c.do_insn-lasts.new.core c.do_insn-lasts.new.ram)
+    (let e : c.loop-core.cycles + c.do_insn-lasts.result.cycles ≡ c.loop-core.cycles + c.from-cycles.result = omega arith in e)
+    (at_more c.loop-core.invariant done.some home found done.done fits c.if-lasts.false)
