@@ -1,9 +1,41 @@
 -- The words of a module's entry stub: what stands before its table, and the table of its entries.
 -- R6 is the entry's number, R7 the return address, R12 the result.
-use Rattle.std.specs.Prelude.{ℕ, ◌+◌, List, [], ◌∷◌, ◌++◌, length}
+use Rattle.std.specs.Prelude.{ℕ, ◌+◌, ◌*◌, List, [], ◌∷◌, ◌++◌, length}
 use Rattle.mod_layout.specs.declared.Section.{Section}
 
--- the 38 words before the table, for a text from t to e, data from d on, n entries, and a private stack that ends at p
+-- words before the table
+abbrev pub front_words : ℕ
+front_words = 38
+
+-- the most entries of a module
+abbrev pub most_entries : ℕ
+most_entries = 64
+
+-- bytes of a stub with n entries
+abbrev pub stub_size : ℕ → ℕ
+stub_size n = 2 * front_words + 2 * n
+
+-- places of words: the number of entries; where the way of a known entry begins; the end of the private stack; the call and the
+-- table's address in it; the way of an unknown entry
+abbrev pub count_word : ℕ
+count_word = 8
+
+abbrev pub body_word : ℕ
+body_word = 10
+
+abbrev pub stack_word : ℕ
+stack_word = 15
+
+abbrev pub call_word : ℕ
+call_word = 17
+
+abbrev pub table_word : ℕ
+table_word = 18
+
+abbrev pub unknown_word : ℕ
+unknown_word = 36
+
+-- the words before the table, for a text from t to e, data from d on, n entries, and a private stack that ends at p
 abbrev pub stub_front : ℕ → ℕ → ℕ → ℕ → ℕ → List ℕ
 stub_front t e d n p =
     -- 0: a return address in the own text loops for ever at word 6

@@ -17,7 +17,11 @@ use Rattle.flow_rule.specs.Rounds.{Found, Step, Point}
 use Rattle.flow_rule.specs.Values.{is_secret, val, put_val}
 use Rattle.arm_balance.specs.Met.{text_byte}
 use Rattle.flow_rule.specs.Does.{past_val, plan_val, does_val, read_val, read_reaches, write_reaches, writes_val}
-use Rattle.flow_rule.specs.Flow.{exit_reasons, reach_reasons, reach_reasons_by, turn_of, goes, goes_unless, also, both, because_if, fails, step_plain, step_jump, step_unit, step_insn, shut_reasons, shut_if, is_shut, is_open, word_number, step_of, step_stub, step_entries, to_entries, word_of}
+use Rattle.flow_rule.specs.Reasons.{exit_reasons, reach_reasons, reach_reasons_by, because_if}
+use Rattle.flow_rule.specs.Going.{goes, also, both, fails}
+use Rattle.flow_rule.specs.Returns.{turn_of}
+use Rattle.flow_rule.specs.Steps.{goes_unless, step_plain, step_jump, step_unit, step_insn, step_of}
+use Rattle.flow_rule.specs.Stub.{shut_reasons, shut_if, is_shut, is_open, word_number, step_stub, step_entries, to_entries, word_of}
 use Rattle.flow_check.specs.declared.step.Cause.{Cause}
 use Rattle.flow_check.specs.declared.returns.Returns.{Returns}
 use Rattle.flow_check.specs.Causes.{lesser, noted, shut_at, entry_addrs}

@@ -31,7 +31,12 @@ use Rattle.flow_rule.specs.Arms.{Walk, ended, walk_past, walk_on, walk, arm_star
 use Rattle.flow_check.specs.declared.arms.Crossing.{Crossing}
 use Rattle.flow_check.specs.Walks.{crossing_by, crossed}
 use Rattle.flow_check.proofs.Walking.{crossed_is}
-use Rattle.flow_rule.specs.Flow.{call_entry, because_if, reach_reasons_by, reach_reasons, exit_reasons, goes_in, goes_by, goes, goes_unless, both, also, Turn, turn_of, last_is, but_last, step_plain, step_jump, step_unit, step_insn, step_of, shut_reasons, shut_if, is_shut, is_open, word_number, step_entries, step_stub, has_stub, flow_step, number_of, NotAfter, BeforeAll, AmongThem, Decided}
+use Rattle.flow_rule.specs.Reasons.{because_if, reach_reasons_by, reach_reasons, exit_reasons, number_of, NotAfter, BeforeAll, AmongThem}
+use Rattle.flow_rule.specs.Going.{goes_in, goes_by, goes, both, also}
+use Rattle.flow_rule.specs.Returns.{Turn, turn_of, last_is, but_last}
+use Rattle.flow_rule.specs.Steps.{goes_unless, step_plain, step_jump, step_unit, step_insn, step_of}
+use Rattle.flow_rule.specs.Stub.{call_entry, shut_reasons, shut_if, is_shut, is_open, word_number, step_entries, step_stub, has_stub}
+use Rattle.flow_rule.specs.Verdict.{flow_step, Decided}
 use Rattle.flow_check.specs.declared.step.Cause.{Cause}
 use Rattle.flow_check.specs.declared.rounds.Spot.{Spot}
 use Rattle.flow_check.specs.declared.rounds.Pair.{Pair as CodePair}

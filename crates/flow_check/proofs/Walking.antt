@@ -18,7 +18,7 @@ use Rattle.flow_rule.specs.declared.Reason.TheVariants.{Arm as ArmInsn, ArmTime}
 use Rattle.flow_rule.specs.Rounds.{Found, Point, Step}
 use Rattle.flow_rule.specs.Values.{is_secret, val}
 use Rattle.flow_rule.specs.Does.{plan_val, write_reaches, past_val, does_val}
-use Rattle.flow_rule.specs.Flow.{because_if}
+use Rattle.flow_rule.specs.Reasons.{because_if}
 use Rattle.flow_rule.specs.Arms.{written_regs, written_words, met_regs, met_words, blot, blot_core, Walk, ended, walk_past, walk_on, walk, arm_start, find_arm, step_arm, step_branch, step_arms_by, step_arms}
 use Rattle.flow_check.specs.declared.step.Cause.{Cause}
 use Rattle.flow_check.specs.declared.arms.Crossing.{Crossing}

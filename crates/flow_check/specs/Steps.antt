@@ -7,7 +7,7 @@ use Rattle.flow_rule.specs.declared.Val.TheVariants.{Public}
 use Rattle.flow_rule.specs.Rounds.{Step}
 use Rattle.flow_rule.specs.Values.{put_val}
 use Rattle.flow_rule.specs.Does.{does_val, past_val}
-use Rattle.flow_rule.specs.Flow.{goes}
+use Rattle.flow_rule.specs.Going.{goes}
 use Rattle.flow_check.specs.declared.returns.Returns.{Returns}
 use Rattle.flow_check.specs.Pairs.{list_of, addrs_of, points_at}
 

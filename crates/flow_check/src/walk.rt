@@ -4,7 +4,7 @@ ghost use Rattle.std.specs.Prelude.{◌≡◌, ◌≢◌, ◌≤◌, ◌<◌, �
 ghost use Rattle.std.specs.Prelude.{◌||◌, ◌==◌, not};
 ghost use Rattle.mod_layout.specs.Table.{holds};
 ghost use Rattle.arm_balance.specs.Balance.{arm_on};
-ghost use Rattle.flow_rule.specs.Flow.{flow_step};
+ghost use Rattle.flow_rule.specs.Verdict.{flow_step};
 ghost use Rattle.flow_rule.specs.Does.{write_reaches};
 ghost use Rattle.flow_rule.specs.Arms.{walk, written_regs, written_words, blot, blot_core};
 ghost use Rattle.flow_check.specs.Pairs.{IsStub};

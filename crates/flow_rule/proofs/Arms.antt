@@ -29,7 +29,9 @@ use Rattle.flow_rule.specs.Values.{is_secret, val, put_val, kept_val}
 use Rattle.flow_rule.specs.declared.Reason.TheVariants.{SecretBranch, Arm as ArmInsn, ArmTime}
 use Rattle.flow_rule.specs.Rounds.{Point, Found, Step}
 use Rattle.flow_rule.specs.Does.{does_val, past_val}
-use Rattle.flow_rule.specs.Flow.{because_if, goes, both, also, step_plain, step_jump, step_insn, step_of}
+use Rattle.flow_rule.specs.Reasons.{because_if}
+use Rattle.flow_rule.specs.Going.{goes, both, also}
+use Rattle.flow_rule.specs.Steps.{step_plain, step_jump, step_insn, step_of}
 use Rattle.flow_rule.proofs.Meaning.{Agrees}
 use Rattle.flow_rule.proofs.Cores.{AgreeCore, put_other_reg, mode, confined_kept}
 use Rattle.flow_rule.proofs.Plans.{none_left, none_right, none_if}

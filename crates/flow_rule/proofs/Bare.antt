@@ -8,7 +8,7 @@ use Rattle.arm_balance.specs.Met.{met}
 use Rattle.flow_rule.specs.declared.Verdict.{Verdict}
 use Rattle.flow_rule.specs.Values.{is_secret, val}
 use Rattle.flow_rule.specs.Rounds.{Point}
-use Rattle.flow_rule.specs.Flow.{flow_step, start_of, Decided, VerdictOf}
+use Rattle.flow_rule.specs.Verdict.{flow_step, start_of, Decided, VerdictOf}
 use Rattle.flow_rule.specs.Arms.{step_arms_by, step_arms, flow_with, VerdictWith}
 
 -- no address is a branch of no certificates

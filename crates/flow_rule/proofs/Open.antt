@@ -27,7 +27,10 @@ use Rattle.flow_rule.specs.declared.Reason.TheVariants.{UnknownTarget}
 use Rattle.flow_rule.specs.Rounds.{Point}
 use Rattle.flow_rule.specs.declared.Reach.{Reach}
 use Rattle.flow_rule.specs.Does.{writes_val, past_val, lowered_val}
-use Rattle.flow_rule.specs.Flow.{because_if, word_of, entries_of, word_number, is_shut, is_open, shut_reasons, shut_if, to_entries, step_entries, step_stub, step_of, step_insn, step_plain, call_entry, reach_reasons, calls, Turn}
+use Rattle.flow_rule.specs.Reasons.{because_if, reach_reasons}
+use Rattle.flow_rule.specs.Returns.{calls, Turn}
+use Rattle.flow_rule.specs.Steps.{step_of, step_insn, step_plain}
+use Rattle.flow_rule.specs.Stub.{word_of, entries_of, word_number, is_shut, is_open, shut_reasons, shut_if, to_entries, step_entries, step_stub, call_entry}
 use Rattle.arm_balance.specs.Met.{text_byte, met}
 use Rattle.entry_stubs.specs.Stub.{stub_front}
 use Rattle.flow_rule.proofs.Cores.{AgreeCore, put_agrees, put_other_reg, confined_agrees, ends_so}

@@ -8,7 +8,10 @@ use Rattle.flow_rule.specs.Does.{plan_val, does_val}
 use Rattle.cycle_table.specs.Cycles.{cycles_of}
 use Rattle.arm_balance.specs.declared.Arm.{Arm}
 use Rattle.flow_rule.specs.Arms.{flow_with, step_arms}
-use Rattle.flow_rule.specs.Flow.{step_of, step_stub, has_stub, flow_step, start_of, because}
+use Rattle.flow_rule.specs.Reasons.{because}
+use Rattle.flow_rule.specs.Steps.{step_of}
+use Rattle.flow_rule.specs.Stub.{step_stub, has_stub}
+use Rattle.flow_rule.specs.Verdict.{flow_step, start_of}
 use Rattle.arm_balance.specs.Met.{met}
 
 bytes_of : List ℕ → List ℕ

@@ -8,7 +8,7 @@ use Rattle.insn_decode.specs.declared.insn.Insn.{Insn}
 use Rattle.mod_layout.specs.declared.Module.{Module}
 use Rattle.mod_layout.specs.Table.{holds, size_of}
 use Rattle.cpu_step.specs.Fetched.{insn_at}
-use Rattle.flow_rule.specs.Flow.{word_of, words_are, table_fine, has_stub}
+use Rattle.flow_rule.specs.Stub.{word_of, words_are, table_fine, has_stub}
 use Rattle.arm_balance.specs.Met.{text_byte, word_in, whole, met_first, met}
 use Rattle.entry_stubs.specs.Stub.{stub_front}
 

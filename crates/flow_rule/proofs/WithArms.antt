@@ -14,7 +14,9 @@ use Rattle.cpu_step.specs.Lone.{IsEntry}
 use Rattle.flow_rule.specs.declared.Val.TheVariants.{Away}
 use Rattle.flow_rule.specs.Rounds.{Point, IsLabelling, all_reasons}
 use Rattle.flow_rule.specs.declared.Verdict.TheVariants.{Yes}
-use Rattle.flow_rule.specs.Flow.{is_open, shut_if, shut_reasons, step_entries, call_entry, word_of, word_number, no_secret, begins, has_stub, step_of, step_stub}
+use Rattle.flow_rule.specs.Steps.{step_of}
+use Rattle.flow_rule.specs.Stub.{is_open, shut_if, shut_reasons, step_entries, call_entry, word_of, word_number, has_stub, step_stub}
+use Rattle.flow_rule.specs.Verdict.{no_secret, begins}
 use Rattle.flow_rule.proofs.Words.{Shape, IsData}
 use Rattle.flow_rule.proofs.Labelling.{closed}
 use Rattle.flow_rule.proofs.Runs.{Sound, always_alike}

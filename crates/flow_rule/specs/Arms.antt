@@ -21,7 +21,8 @@ use Rattle.flow_rule.specs.Rounds.{Point, Found, Step}
 use Rattle.flow_rule.specs.declared.Reach.{Reach}
 use Rattle.flow_rule.specs.Does.{plan_val, write_reaches, word_no, does_val, past_val}
 use Rattle.flow_rule.specs.declared.Verdict.{Verdict}
-use Rattle.flow_rule.specs.Flow.{because, because_if, start_of, flow_step, Decided}
+use Rattle.flow_rule.specs.Reasons.{because, because_if}
+use Rattle.flow_rule.specs.Verdict.{start_of, flow_step, Decided}
 
 -- what an instruction writes
 abbrev pub stepped_regs : Operand → List ℕ

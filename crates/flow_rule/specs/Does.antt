@@ -51,13 +51,13 @@ abbrev pub reach_if : Bool → Kind → Width → Option Val → List Reach
 reach_if true kind w (Some a) = record { kind = kind; addr = a; width = w } ∷ []
 reach_if _ kind w _ = []
 
--- the accesses in their order, of an instruction at pc
 -- what an instruction of format II writes
 abbrev pub one_reach : OneOp → Width → Option Val → Val → List Reach
 one_reach Push w a sp = reach_if true Write w (Some sp)
 one_reach Call w a sp = reach_if true Write Word (Some sp)
 one_reach _ w a sp = reach_if true Write w a
 
+-- the accesses in their order, of an instruction at pc
 unfoldable pub plan_val : Insn → ℕ → List Val → List Reach
 plan_val (Two op w s d) pc core =
     let ext = add16 pc 2 in
@@ -73,10 +73,11 @@ plan_val (One op w arg) pc core =
     reach_if true Read w a ++ one_reach op w a sp
 plan_val _ pc core = []
 
+-- the module reads its two sections and writes its data
 abbrev pub may_reach : Module → Kind → Width → ℕ → Bool
 may_reach m Read w a = not (misaligned w a) && (holds m.text a || holds m.ram a)
 may_reach m Write w a = not (misaligned w a) && holds m.ram a
-may_reach m Fetch w a = not (misaligned w a) && false
+may_reach m Fetch w a = false
 
 -- ---- the two sections
 

@@ -6,7 +6,7 @@ use Rattle.mod_layout.specs.Tables.{IsModule}
 use Rattle.cpu_step.specs.Lone.{AlwaysEven}
 use Rattle.flow_rule.specs.declared.Verdict.{Verdict}
 use Rattle.flow_rule.specs.declared.Verdict.TheVariants.{Yes}
-use Rattle.flow_rule.specs.Flow.{VerdictOf}
+use Rattle.flow_rule.specs.Verdict.{VerdictOf}
 use Rattle.arm_balance.specs.declared.Arm.{Arm}
 use Rattle.flow_rule.specs.Arms.{VerdictWith}
 

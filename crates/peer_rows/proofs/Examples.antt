@@ -11,7 +11,9 @@ use Rattle.arm_balance.specs.Met.{met}
 use Rattle.flow_rule.specs.declared.Verdict.TheVariants.{Yes}
 use Rattle.flow_rule.specs.Does.{plan_val, does_val}
 use Rattle.flow_rule.specs.Rounds.{Point, Step, rounds, all_reasons}
-use Rattle.flow_rule.specs.Flow.{step_of, step_stub, has_stub, start_of}
+use Rattle.flow_rule.specs.Steps.{step_of}
+use Rattle.flow_rule.specs.Stub.{step_stub, has_stub}
+use Rattle.flow_rule.specs.Verdict.{start_of}
 use Rattle.flow_rule.specs.Arms.{step_arms, flow_with, VerdictWith}
 use Rattle.written_machine.specs.Peers.{section}
 use Rattle.peer_rows.specs.Laws.{DifferInData}

@@ -3,7 +3,7 @@ use Rattle.std.proofs.Common.{◌≡◌, ℕ, ◌<◌, List, [], ◌∷◌, leng
 use Rattle.std.specs.Prelude.{IsSomeAnd}
 use Rattle.std.proofs.lemmas.Bool.{cases_lt}
 use Rattle.sm_io.specs.Files.{FileMap}
-use Rattle.flow_rule.specs.Flow.{start_of}
+use Rattle.flow_rule.specs.Verdict.{start_of}
 use Rattle.flow_rule.specs.Arms.{flow_with}
 use Rattle.linker.specs.declared.fault.LinkFault.{LinkFault}
 use Rattle.sm_cli.specs.declared.answers.FileFault.{FileFault}

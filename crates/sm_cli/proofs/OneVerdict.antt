@@ -5,7 +5,8 @@ use Rattle.flow_rule.specs.declared.Reason.TheVariants as reason
 use Rattle.flow_rule.specs.declared.Verdict.{Verdict}
 use Rattle.flow_rule.specs.declared.Verdict.TheVariants.{Yes, No}
 use Rattle.flow_rule.specs.Rounds.{Point, Found, Step, same_pair, join_label, join_in, join_all, given, round, rounds, IsLabelling, all_reasons}
-use Rattle.flow_rule.specs.Flow.{number_of, NotAfter, BeforeAll, AmongThem, Decided}
+use Rattle.flow_rule.specs.Reasons.{number_of, NotAfter, BeforeAll, AmongThem}
+use Rattle.flow_rule.specs.Verdict.{Decided}
 
 -- Rounds never shorten
 

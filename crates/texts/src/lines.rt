@@ -1,5 +1,5 @@
 //! The lines of a text.
-ghost use Rattle.std.specs.Prelude.{◌≡◌, ◌<◌, ◌++◌, ◌∷◌, [], length, position, IfSome, IfNone};
+ghost use Rattle.std.specs.Prelude.{◌≡◌, ◌⊎◌, ◌<◌, ◌++◌, ◌∷◌, [], length, position, IfSome, IfNone};
 ghost use Rattle.texts.specs.Lines.{is_line_feed, ended_lines, unended, lines_of};
 
 /// The first line without its LF, and what stands behind it; `None` where there is no LF.
@@ -25,6 +25,8 @@ fn line_end(text: &[u8]) -> Option<usize>
 
 /// The first line, where the last may lack its LF, and what stands behind it; `None` at the end of the text.
 pub fn next_line(text: &[u8]) -> Option<(&[u8], &[u8])>
+    ensures cut { IfSome result (λ parts. (text.now ≡ parts.0.now ++ 10 ∷ parts.1.now)
+        ⊎ ((text.now ≡ parts.0.now) × (parts.1.now ≡ []))) }
     ensures lines { IfSome result (λ parts. lines_of text.now ≡ parts.0.now ∷ lines_of parts.1.now) }
     ensures shorter { IfSome result (λ parts. length parts.1.now < length text.now) }
     ensures no_line { IfNone result (lines_of text.now ≡ []) }

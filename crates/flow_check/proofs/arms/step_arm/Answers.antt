@@ -1,6 +1,7 @@
 use Rattle.std.proofs.Common.{◌≡◌, ◌∙◌, ◌==◌, ap, refl, ℕ, suc, List, not, arith}
 use Rattle.mod_layout.specs.Table.{holds}
-use Rattle.flow_rule.specs.Flow.{flow_step, because_if}
+use Rattle.flow_rule.specs.Reasons.{because_if}
+use Rattle.flow_rule.specs.Verdict.{flow_step}
 use Rattle.flow_rule.specs.declared.Reason.TheVariants.{Arm as ArmInsn, ArmTime}
 use Rattle.flow_rule.specs.Rounds.{Point, Step}
 use Rattle.flow_rule.specs.Arms.{walk}

@@ -1,6 +1,6 @@
 use Rattle.std.proofs.Common.{◌≡◌, ◌∙◌, ◌++◌, ap, sym, subst, ℕ, List, [], Some, None}
 use Rattle.arm_balance.specs.Met.{met}
-use Rattle.flow_rule.specs.Flow.{flow_step}
+use Rattle.flow_rule.specs.Verdict.{flow_step}
 use Rattle.flow_rule.specs.Values.{val}
 use Rattle.flow_rule.specs.Rounds.{Point, Step}
 use Rattle.flow_rule.specs.Arms.{step_arm, flow_with}

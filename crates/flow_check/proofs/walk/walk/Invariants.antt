@@ -1,5 +1,5 @@
 use Rattle.std.proofs.Common.{◌≡◌, ◌≤◌, ◌+◌, ◌*◌, ℕ, suc}
-use Rattle.flow_rule.specs.Flow.{flow_step}
+use Rattle.flow_rule.specs.Verdict.{flow_step}
 use Rattle.flow_rule.specs.Arms.{walk}
 use Rattle.flow_check.specs.Pairs.{IsStub}
 use Rattle.flow_check.specs.Walks.{told, point_at}

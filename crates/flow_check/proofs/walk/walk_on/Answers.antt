@@ -1,7 +1,7 @@
 use Rattle.std.proofs.Common.{◌≡◌, ◌∙◌, ◌+◌, ap, sym, ℕ, List, slice_set}
 use Rattle.flow_rule.specs.declared.Val.TheVariants.{Known}
 use Rattle.flow_rule.specs.Does.{plan_val, write_reaches}
-use Rattle.flow_rule.specs.Flow.{flow_step}
+use Rattle.flow_rule.specs.Verdict.{flow_step}
 use Rattle.flow_rule.specs.Arms.{walk, written_regs, written_words, blot, blot_core}
 use Rattle.flow_rule.specs.Rounds.{Point, Step}
 use Rattle.flow_check.specs.Pairs.{point_of, addrs_of, list_of}

@@ -1,6 +1,6 @@
 use Rattle.std.proofs.Common.{subst}
 use Rattle.std.proofs.lemmas.Result.{IfOk-weaker}
-use Rattle.flow_rule.specs.Flow.{VerdictOf}
+use Rattle.flow_rule.specs.Verdict.{VerdictOf}
 use Rattle.written_machine.specs.Peers.{section}
 use Rattle.sm_cli.proofs.commands.check.verdict_of.Goals as goal
 

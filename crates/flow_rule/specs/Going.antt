@@ -1,0 +1,41 @@
+-- Where an instruction goes on: to a place in the text with its label, or out of the text.
+use Rattle.std.specs.Prelude.{ℕ, List, [], ◌∷◌, ◌++◌, Bool, true, false}
+use Rattle.mod_layout.specs.declared.Module.{Module}
+use Rattle.mod_layout.specs.Table.{holds}
+use Rattle.flow_rule.specs.declared.Val.{Val}
+use Rattle.flow_rule.specs.declared.Val.TheVariants.{Known, Away}
+use Rattle.flow_rule.specs.Values.{val}
+use Rattle.flow_rule.specs.declared.Reason.{Reason}
+use Rattle.flow_rule.specs.declared.Reason.TheVariants.{UnknownTarget}
+use Rattle.flow_rule.specs.Rounds.{Found, Step}
+use Rattle.flow_rule.specs.Reasons.{because, exit_reasons}
+
+-- to leave, no register and no flag may be secret
+abbrev pub leaves : ℕ → List Val → Step
+leaves pc core = record { reasons = exit_reasons 16 0 pc core; gives = [] }
+
+-- inside the text the label is handed on
+abbrev pub goes_in : Bool → ℕ → ℕ → List ℕ → List Val → List Val → Step
+goes_in true to pc returns core words = record { reasons = []; gives = record { pair = record { addr = to; returns = returns }; label = record { core = core; words = words } } ∷ [] }
+goes_in false to pc returns core words = leaves pc core
+
+-- on from pc with this core: to a known place, or away
+abbrev pub goes_by : Val → Module → ℕ → List ℕ → List Val → List Val → Step
+goes_by (Known to) m pc returns core words = goes_in (holds m.text to) to pc returns core words
+goes_by Away m pc returns core words = leaves pc core
+goes_by _ m pc returns core words = record { reasons = because pc UnknownTarget 0; gives = [] }
+
+-- on from pc, to where PC then points
+abbrev pub goes : Module → ℕ → List ℕ → List Val → List Val → Step
+goes m pc returns core words = goes_by (val core 0) m pc returns core words
+
+-- a branch that goes both ways
+abbrev pub both : Step → Step → Step
+both a b = record { reasons = a.reasons ++ b.reasons; gives = a.gives ++ b.gives }
+
+abbrev pub also : List Found → Step → Step
+also rs s = record { reasons = rs ++ s.reasons; gives = s.gives }
+
+-- nothing is met behind this instruction
+abbrev pub fails : ℕ → Reason → ℕ → Step
+fails pc why v = record { reasons = because pc why v; gives = [] }

@@ -1,0 +1,50 @@
+-- The return addresses of a pair, the newest last.
+use Rattle.std.specs.Prelude.{ℕ, ◌*◌, List, [], ◌∷◌, ◌++◌, length, ◌==◌, nat_le, if◌then◌else◌, Bool, false, ◌&&◌, not}
+use Rattle.sm_words.specs.Words.{nth, add16}
+use Rattle.insn_decode.specs.Code.{length_of}
+use Rattle.sm_words.specs.declared.width.Width.TheVariants.{Word}
+use Rattle.insn_decode.specs.declared.insn.TwoOp.TheVariants.{Mov}
+use Rattle.insn_decode.specs.declared.insn.OneOp.TheVariants.{Call}
+use Rattle.insn_decode.specs.declared.insn.Operand.TheVariants.{Reg, Increment}
+use Rattle.insn_decode.specs.declared.insn.Insn.{Insn}
+use Rattle.insn_decode.specs.declared.insn.Insn.TheVariants.{Two, One}
+use Rattle.flow_rule.specs.declared.Val.{Val}
+use Rattle.flow_rule.specs.declared.Val.TheVariants.{Known, Secret}
+use Rattle.flow_rule.specs.declared.Reason.TheVariants.{UnknownTarget}
+use Rattle.flow_rule.specs.Rounds.{Found}
+use Rattle.flow_rule.specs.Reasons.{because_if}
+
+-- how many return addresses a pair may have
+abbrev pub most_returns : ℕ
+most_returns = 8
+
+-- this value is the newest return address
+abbrev pub last_is : Val → List ℕ → Bool
+last_is (Known v) [] = false
+last_is (Known v) (x ∷ []) = v == x
+last_is (Known v) (x ∷ y ∷ ys) = last_is (Known v) (y ∷ ys)
+last_is _ xs = false
+
+-- without the newest
+abbrev pub but_last : List ℕ → List ℕ
+but_last [] = []
+but_last (x ∷ []) = []
+but_last (x ∷ y ∷ ys) = x ∷ but_last (y ∷ ys)
+
+-- what an instruction makes of the list
+pub record Turn : Type 0 where
+  pub reasons : List Found
+  pub returns : List ℕ
+  pub stops : Bool  -- a return to another place than the last address
+
+-- a call to an address: its return address comes last
+abbrev pub calls : ℕ → List ℕ → ℕ → Turn
+calls pc returns from = record { reasons = because_if (nat_le most_returns (length returns)) pc UnknownTarget 0; returns = returns ++ from ∷ []; stops = false }
+
+-- the list after an instruction whose reads gave these values
+abbrev pub turn_of : Insn → ℕ → List ℕ → List Val → Turn
+turn_of (One Call w a) pc returns values = calls pc returns (add16 pc (2 * length_of (One Call w a)))
+turn_of (Two Mov Word (Increment r) (Reg d)) pc returns values =
+    if (r == 1) && (d == 0) then record { reasons = []; returns = but_last returns; stops = not (last_is (nth 0 values Secret) returns) }
+    else record { reasons = []; returns = returns; stops = false }
+turn_of insn pc returns values = record { reasons = []; returns = returns; stops = false }

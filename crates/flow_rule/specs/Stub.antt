@@ -1,0 +1,102 @@
+-- A text that begins with its entry stub, and the steps there.
+use Rattle.std.specs.Prelude.{ℕ, zero, suc, ◌+◌, ◌-◌, ◌*◌, ◌/◌, ◌%◌, List, [], ◌∷◌, ◌++◌, ◌==◌, nat_lt, nat_le, if◌then◌else◌, Bool, true, false, ◌&&◌, ◌||◌}
+use Rattle.sm_words.specs.Words.{word_at}
+use Rattle.sm_words.specs.declared.width.Width.TheVariants.{Word}
+use Rattle.insn_decode.specs.declared.insn.OneOp.TheVariants.{Call}
+use Rattle.insn_decode.specs.declared.insn.Operand.TheVariants.{Indexed}
+use Rattle.insn_decode.specs.declared.insn.Insn.{Insn}
+use Rattle.insn_decode.specs.declared.insn.Insn.TheVariants.{One}
+use Rattle.pc_access.specs.declared.Kind.TheVariants.{Write}
+use Rattle.mod_layout.specs.declared.Module.{Module}
+use Rattle.mod_layout.specs.Table.{size_of}
+use Rattle.entry_stubs.specs.Stub.{stub_front, front_words, most_entries, count_word, body_word, stack_word, call_word, table_word, unknown_word, stub_size}
+use Rattle.arm_balance.specs.Met.{text_byte}
+use Rattle.flow_rule.specs.declared.Val.{Val}
+use Rattle.flow_rule.specs.declared.Val.TheVariants.{Known}
+use Rattle.flow_rule.specs.Values.{val, put_val}
+use Rattle.flow_rule.specs.declared.Reason.TheVariants.{UnknownTarget}
+use Rattle.flow_rule.specs.Rounds.{Point, Found, Step}
+use Rattle.flow_rule.specs.declared.Reach.{Reach}
+use Rattle.flow_rule.specs.Does.{writes_val, past_val, lowered_val}
+use Rattle.flow_rule.specs.Reasons.{because_if, reach_reasons}
+use Rattle.flow_rule.specs.Returns.{calls}
+use Rattle.flow_rule.specs.Steps.{step_of}
+
+-- word k of the text
+abbrev pub word_of : Module → List ℕ → ℕ → ℕ
+word_of m text k = word_at (text_byte m.text text) (m.text.start + 2 * k)
+
+-- these words stand from word k on
+abbrev pub words_are : Module → List ℕ → ℕ → List ℕ → Bool
+words_are m text k [] = true
+words_are m text k (w ∷ ws) = (word_of m text k == w) && words_are m text (k + 1) ws
+
+-- the n addresses of the table are even and lie past it
+abbrev pub table_fine : Module → List ℕ → ℕ → ℕ → Bool
+table_fine m text entries zero = true
+table_fine m text entries (suc k) =
+    let a = word_of m text (front_words + k) in
+    (a % 2 == 0) && nat_le (m.text.start + 2 * front_words + 2 * entries) a && nat_lt a m.text.end && table_fine m text entries k
+
+-- how many entries the stub says that it has
+abbrev pub entries_of : Module → List ℕ → ℕ
+entries_of m text = word_of m text count_word
+
+-- the text begins with its own stub: 1 to 64 entries, an even private stack within the data, a sound table
+unfoldable pub has_stub : Module → List ℕ → Bool
+has_stub m text =
+    let n = word_of m text count_word in
+    let p = word_of m text stack_word in
+    nat_le (stub_size n) (size_of m.text) && words_are m text 0 (stub_front m.text.start m.text.end m.ram.start n p)
+    && nat_le 1 n && nat_le n most_entries && nat_le (m.ram.start + 4) p && (p % 2 == 0) && nat_le p m.ram.end
+    && table_fine m text n n
+
+-- the number of the word at this address
+abbrev pub word_number : Module → ℕ → ℕ
+word_number m a = (a - m.text.start) / 2
+
+-- words that are met by the stub's own way alone
+abbrev pub is_shut : ℕ → Bool
+is_shut k = nat_le k table_word || (k == unknown_word) || (k == unknown_word + 1)
+
+-- words that may go on to shut ones
+abbrev pub is_open : ℕ → Bool
+is_open k = nat_le body_word k && nat_le k (call_word - 1)
+
+-- a step from outside into the stub's closed words
+abbrev pub shut_reasons : Module → ℕ → List Point → List Found
+shut_reasons m pc [] = []
+shut_reasons m pc (x ∷ xs) = because_if (is_shut (word_number m x.pair.addr)) pc UnknownTarget 0 ++ shut_reasons m pc xs
+
+-- an instruction that is none of the open words may not go there
+abbrev pub shut_if : Bool → Module → ℕ → Step → Step
+shut_if true m pc s = s
+shut_if false m pc s = record { reasons = s.reasons ++ shut_reasons m pc s.gives; gives = s.gives }
+
+-- the first k entries of the table, each with this list and label
+abbrev pub to_entries : Module → List ℕ → ℕ → List ℕ → List Val → List Val → List Point
+to_entries m text zero returns core words = []
+to_entries m text (suc k) returns core words =
+    let a = word_of m text (front_words + k) in
+    record { pair = record { addr = a; returns = returns }; label = record { core = put_val core 0 (Known a); words = words } } ∷ to_entries m text k returns core words
+
+abbrev pub call_entry : Module → Insn
+call_entry m = One Call Word (Indexed 6 (m.text.start + 2 * front_words))
+
+-- word 17: each address of the table, with the address of word 19 pushed
+abbrev pub step_entries : Module → List ℕ → Point → Step
+step_entries m text x =
+    let pc = x.pair.addr in
+    let core = lowered_val (past_val (call_entry m) pc x.label.core) in
+    let push : Reach = record { kind = Write; addr = val core 1; width = Word } in
+    let t = calls pc x.pair.returns (pc + 4) in
+    record {
+      reasons = reach_reasons m pc (push ∷ []) ++ t.reasons;
+      gives = to_entries m text (entries_of m text) t.returns core (writes_val m x.label.words (push ∷ []) (Known (pc + 4) ∷ []));
+    }
+
+-- the call goes to each entry; every other word does its own step
+unfoldable pub step_stub : Module → List ℕ → Point → Step
+step_stub m text x =
+    let k = word_number m x.pair.addr in
+    if k == call_word then step_entries m text x else shut_if (is_open k) m x.pair.addr (step_of m text x)

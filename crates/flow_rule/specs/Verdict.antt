@@ -1,0 +1,51 @@
+-- The start of the labelling, and the verdict of a text.
+use Rattle.flow_rule.specs.declared.Verdict.{Verdict}
+use Rattle.flow_rule.specs.declared.Verdict.TheVariants.{Yes, No}
+use Rattle.std.specs.Prelude.{◌≡◌, ◌<◌, ◌≤◌, ◌⊎◌, ℕ, ◌+◌, ◌*◌, List, [], ◌∷◌, length, replicate, slice_set, if◌then◌else◌}
+use Rattle.mod_layout.specs.declared.Module.{Module}
+use Rattle.entry_stubs.specs.Stub.{body_word}
+use Rattle.flow_rule.specs.declared.Val.{Val}
+use Rattle.flow_rule.specs.declared.Val.TheVariants.{Known, Away, Public, Secret}
+use Rattle.flow_rule.specs.declared.Reason.TheVariants.{TooMany}
+use Rattle.flow_rule.specs.Rounds.{Point, Found, Step, IsLabelling, rounds, all_reasons}
+use Rattle.flow_rule.specs.Reasons.{BeforeAll, AmongThem}
+use Rattle.flow_rule.specs.Steps.{step_of}
+use Rattle.flow_rule.specs.Stub.{has_stub, step_stub}
+
+-- of how many data words, from the first on, a label knows something
+abbrev pub known_words : ℕ
+known_words = 256
+
+-- how many pairs a labelling may have
+abbrev pub most_pairs : ℕ
+most_pairs = 16384
+
+-- nothing secret in the registers and flags
+abbrev pub no_secret : ℕ → List Val
+no_secret pc = Known pc ∷ Public ∷ Public ∷ Known 0 ∷ replicate 12 Public
+
+-- a pair with nothing known of the data
+abbrev pub begins : ℕ → List Val → Point
+begins pc core = record { pair = record { addr = pc; returns = [] }; label = record { core = core; words = replicate known_words Secret } }
+
+-- the start: no return address, nothing secret in the registers and flags; behind a stub's first words R7 is Away
+abbrev pub start_of : Module → List ℕ → Point
+start_of m text =
+    let t = m.text.start in
+    let body = t + 2 * body_word in
+    if has_stub m text then begins body (slice_set (no_secret body) 7 Away) else begins t (no_secret t)
+
+-- the step of a text, with or without a stub
+abbrev pub flow_step : Module → List ℕ → Point → Step
+flow_step m text = if has_stub m text then step_stub m text else step_of m text
+
+-- Yes where no pair of the labelling has a reason; No with the least reason; TooMany as soon as a round has too many pairs
+abbrev pub Decided : (Point → Step) → Point → ℕ → Verdict → Type 0
+Decided step start begin Yes = (xs : List Point) × IsLabelling step start xs × (length xs ≤ most_pairs) × (all_reasons step xs ≡ [])
+Decided step start begin (No addr reason value) =
+    let r : Found = record { addr = addr; why = reason; value = value } in
+    ((xs : List Point) × IsLabelling step start xs × (length xs ≤ most_pairs) × AmongThem r (all_reasons step xs) × BeforeAll r (all_reasons step xs))
+    ⊎ ((n : ℕ) × (most_pairs < length (rounds step start n)) × (r ≡ record { addr = begin; why = TooMany; value = 0 }))
+
+abbrev pub VerdictOf : Module → List ℕ → Verdict → Type 0
+VerdictOf m text a = Decided (flow_step m text) (start_of m text) m.text.start a
