@@ -73,6 +73,16 @@ fn a_byte_overruns_another(rt: HostRuntime) {
     assert_eq!(rt; serial.sent(), None);
 }
 
+// A read of the data takes the byte and the overrun away where they may not interrupt, too.
+#[test]
+fn a_byte_is_read_without_an_interrupt(rt: HostRuntime) {
+    let mut serial = Serial::new();
+    serial.receive(0x41);
+    serial.receive(0x42);
+    assert_eq!(rt; (serial.read(0x0070), serial.read(0x0071)), (6, 0x42));
+    assert_eq!(rt; (serial.read(0x0070), serial.line()), (0, None));
+}
+
 #[test]
 fn the_highest_line_counts(rt: HostRuntime) {
     let mut lines = Lines::new();
