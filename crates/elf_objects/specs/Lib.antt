@@ -1,4 +1,5 @@
 pub mod Bytes
+pub mod Numbers
 pub mod Passes
 pub mod Header
 pub mod Section

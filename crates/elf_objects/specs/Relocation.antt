@@ -6,6 +6,7 @@ use Rattle.elf_objects.specs.declared.fault.ElfFault.TheVariants as fault
 use Rattle.elf_objects.specs.declared.section.Header.{Header}
 use Rattle.elf_objects.specs.declared.object.Relocation.{Relocation}
 use Rattle.elf_objects.specs.Bytes.{word_at}
+use Rattle.elf_objects.specs.Numbers.{relocation_size}
 use Rattle.elf_objects.specs.Passes.{refuse_if, first_below, each_below, all_below}
 use Rattle.elf_objects.specs.Header.{section_count}
 use Rattle.elf_objects.specs.Section.{header_of, is_kept_table}
@@ -13,7 +14,7 @@ use Rattle.elf_objects.specs.Symbol.{count_of, symbols_header}
 
 -- the relocation of this place of a table; the addend is signed
 unfoldable pub relocation_of : List ℕ → ℕ → Header → ℕ → Relocation
-relocation_of file index table entry = let at = table.offset + 12 * entry in record {
+relocation_of file index table entry = let at = table.offset + relocation_size * entry in record {
   table = index;
   entry = entry;
   target = table.info;
@@ -31,7 +32,7 @@ entry_fault file symbols index table entry =
 -- at one section
 unfoldable pub relocation_fault : List ℕ → ℕ → ℕ → Option ElfFault
 relocation_fault file symbols i = let h = header_of file i in
-    if is_kept_table file h then first_below (entry_fault file symbols i h) (h.size / 12) else None
+    if is_kept_table file h then first_below (entry_fault file symbols i h) (h.size / relocation_size) else None
 
 unfoldable pub relocation_faults : List ℕ → Option ElfFault
 relocation_faults file = first_below (relocation_fault file (count_of (symbols_header file))) (section_count file)
@@ -39,7 +40,7 @@ relocation_faults file = first_below (relocation_fault file (count_of (symbols_h
 -- the relocations of one section
 unfoldable pub relocations_at : List ℕ → ℕ → List Relocation
 relocations_at file i = let h = header_of file i in
-    if is_kept_table file h then each_below (relocation_of file i h) (h.size / 12) else []
+    if is_kept_table file h then each_below (relocation_of file i h) (h.size / relocation_size) else []
 
 -- those of all sections, in order of section and then entry
 unfoldable pub relocations_of : List ℕ → List Relocation

@@ -6,12 +6,13 @@ use Rattle.elf_objects.specs.declared.fault.ElfFault.TheVariants as fault
 use Rattle.elf_objects.specs.declared.section.Header.{Header}
 use Rattle.elf_objects.specs.declared.object.Span.{Span}
 use Rattle.elf_objects.specs.Bytes.{word_at}
+use Rattle.elf_objects.specs.Numbers.{section_header_size, null, symtab, strtab, rela, nobits, rel, alloc_flag, compressed_flag, has_flag, symbol_size, relocation_size}
 use Rattle.elf_objects.specs.Passes.{refuse_if, or_else, first_below}
 use Rattle.elf_objects.specs.Header.{table_offset, section_count, name_table}
 
 -- the header of this index, the fields that are looked at
 unfoldable pub header_of : List ℕ → ℕ → Header
-header_of file index = let at = table_offset file + 40 * index in record {
+header_of file index = let at = table_offset file + section_header_size * index in record {
   name = word_at file at;
   kind = word_at file (at + 4);
   flags = word_at file (at + 8);
@@ -25,11 +26,11 @@ header_of file index = let at = table_offset file + 40 * index in record {
 
 -- NULL and NOBITS have no bytes in the file
 abbrev pub is_absent : Header → Bool
-is_absent h = h.kind == 0 || h.kind == 8
+is_absent h = h.kind == null || h.kind == nobits
 
 -- a kind and flags are loaded: with the alloc flag, and none of NULL, SYMTAB, STRTAB, RELA and REL
 abbrev pub is_loaded : ℕ → ℕ → Bool
-is_loaded kind flags = (flags / 2 % 2 == 1) && not (kind == 0 || kind == 2 || kind == 3 || kind == 4 || kind == 9)
+is_loaded kind flags = has_flag flags alloc_flag && not (kind == null || kind == symtab || kind == strtab || kind == rela || kind == rel)
 
 abbrev pub is_loaded_header : Header → Bool
 is_loaded_header h = is_loaded h.kind h.flags
@@ -61,30 +62,30 @@ index_if false i = None
 
 -- the first SYMTAB
 unfoldable pub symbol_table : List ℕ → Option ℕ
-symbol_table file = first_below (λ i. index_if ((header_of file i).kind == 2) i) (section_count file)
+symbol_table file = first_below (λ i. index_if ((header_of file i).kind == symtab) i) (section_count file)
 
 abbrev pub is_this : Option ℕ → ℕ → Bool
 is_this None i = false
 is_this (Some s) i = i == s
 
--- a SYMTAB that is not the first one, or whose link is no STRTAB, or whose entries do not have 16 bytes
+-- a SYMTAB that is not the first one, or whose link is no STRTAB, or whose entries do not have their size
 abbrev pub is_bad_symbol_table : List ℕ → ℕ → Header → Bool
 is_bad_symbol_table file i h =
-    not (is_this (symbol_table file) i) || not (is_kind file 3 h.link) || not (h.entry_size == 16) || not (h.size % 16 == 0)
+    not (is_this (symbol_table file) i) || not (is_kind file strtab h.link) || not (h.entry_size == symbol_size) || not (h.size % symbol_size == 0)
 
 -- the RELA of a loaded section
 abbrev pub is_kept_table : List ℕ → Header → Bool
-is_kept_table file h = h.kind == 4 && is_loaded_header (header_of file h.info)
+is_kept_table file h = h.kind == rela && is_loaded_header (header_of file h.info)
 
--- the RELA's link is not the SYMTAB, or its entries do not have 12 bytes
+-- the RELA's link is not the SYMTAB, or its entries do not have their size
 abbrev pub is_bad_kept_table : List ℕ → Header → Bool
-is_bad_kept_table file h = not (is_this (symbol_table file) h.link) || not (h.entry_size == 12) || not (h.size % 12 == 0)
+is_bad_kept_table file h = not (is_this (symbol_table file) h.link) || not (h.entry_size == relocation_size) || not (h.size % relocation_size == 0)
 
 abbrev pub is_bad_link : List ℕ → ℕ → Header → Bool
 is_bad_link file i h =
-    (i == name_table file && not (h.kind == 3))
-    || (h.kind == 2 && is_bad_symbol_table file i h)
-    || ((h.kind == 4 || h.kind == 9) && not (nat_lt h.info (section_count file)))
+    (i == name_table file && not (h.kind == strtab))
+    || (h.kind == symtab && is_bad_symbol_table file i h)
+    || ((h.kind == rela || h.kind == rel) && not (nat_lt h.info (section_count file)))
     || (is_kept_table file h && is_bad_kept_table file h)
 
 -- at an index: what it points to is not what it must be
@@ -98,12 +99,12 @@ name_table_fault file = refuse_if (not (nat_lt (name_table file) (section_count 
 -- at an index: a loaded section with the flag compressed
 unfoldable pub compressed_fault : List ℕ → ℕ → Option ElfFault
 compressed_fault file i = let h = header_of file i in
-    refuse_if (is_loaded_header h && h.flags / 2048 % 2 == 1) (fault.Compressed i)
+    refuse_if (is_loaded_header h && has_flag h.flags compressed_flag) (fault.Compressed i)
 
 -- at an index: a REL of a loaded section
 unfoldable pub rel_fault : List ℕ → ℕ → Option ElfFault
 rel_fault file i = let h = header_of file i in
-    refuse_if (h.kind == 9 && is_loaded_header (header_of file h.info)) (fault.RelSection i)
+    refuse_if (h.kind == rel && is_loaded_header (header_of file h.info)) (fault.RelSection i)
 
 -- what is given of a section's bytes
 abbrev pub content_span : Header → Span

@@ -10,6 +10,7 @@ use Rattle.elf_objects.specs.declared.object.Binding.TheVariants as binding
 use Rattle.elf_objects.specs.declared.object.Home.{Home}
 use Rattle.elf_objects.specs.declared.object.Home.TheVariants as home
 use Rattle.elf_objects.specs.Bytes.{half_at, word_at}
+use Rattle.elf_objects.specs.Numbers.{undefined_index, absolute_index, common_index, symbol_size, local_binding, weak_binding}
 use Rattle.elf_objects.specs.Passes.{refuse_if, first_below, each_below}
 use Rattle.elf_objects.specs.Header.{section_count}
 use Rattle.elf_objects.specs.Section.{header_of, symbol_table, is_alignment}
@@ -17,7 +18,7 @@ use Rattle.elf_objects.specs.Names.{name_end, name_span}
 
 -- the entry of this index of a symbol table
 unfoldable pub entry_of : List ℕ → Header → ℕ → Entry
-entry_of file table index = let at = table.offset + 16 * index in record {
+entry_of file table index = let at = table.offset + symbol_size * index in record {
   name = word_at file at;
   value = word_at file (at + 4);
   size = word_at file (at + 8);
@@ -26,7 +27,7 @@ entry_of file table index = let at = table.offset + 16 * index in record {
 }
 
 abbrev pub count_in : Header → ℕ
-count_in table = table.size / 16
+count_in table = table.size / symbol_size
 
 -- the symbols' string table
 abbrev pub strings_of : List ℕ → Header → Header
@@ -34,15 +35,15 @@ strings_of file table = header_of file table.link
 
 -- a common that is local, or whose value is no alignment
 abbrev pub is_bad_common : Entry → Bool
-is_bad_common e = e.section == 0xFFF2 && (e.binding == 0 || not (is_alignment e.value))
+is_bad_common e = e.section == common_index && (e.binding == local_binding || not (is_alignment e.value))
 
 -- the section's index is none of a section, absolute and common
 abbrev pub is_bad_home : List ℕ → Entry → Bool
-is_bad_home file e = not (nat_lt e.section (section_count file)) && not (e.section == 0xFFF1) && not (e.section == 0xFFF2)
+is_bad_home file e = not (nat_lt e.section (section_count file)) && not (e.section == absolute_index) && not (e.section == common_index)
 
 abbrev pub is_bad_symbol : List ℕ → Header → Entry → Bool
 is_bad_symbol file table e =
-    is_none (name_end file (strings_of file table) e.name) || nat_lt 2 e.binding || is_bad_home file e || is_bad_common e
+    is_none (name_end file (strings_of file table) e.name) || nat_lt weak_binding e.binding || is_bad_home file e || is_bad_common e
 
 -- at an index, from 1 on
 unfoldable pub symbol_fault : List ℕ → Header → ℕ → Option ElfFault
@@ -55,7 +56,7 @@ binding_of (suc zero) = binding.Global
 binding_of (suc (suc n)) = binding.Weak
 
 abbrev pub home_of : ℕ → Home
-home_of n = if n == 0 then home.Undefined else if n == 0xFFF1 then home.Absolute else if n == 0xFFF2 then home.Common else home.In n
+home_of n = if n == undefined_index then home.Undefined else if n == absolute_index then home.Absolute else if n == common_index then home.Common else home.In n
 
 -- symbol 0 is given as nothing, whatever its bytes are
 unfoldable pub symbol_of : List ℕ → Header → ℕ → Symbol

@@ -19,7 +19,7 @@ use Rattle.asm_text.specs.declared.unit.SectionKind.{SectionKind}
 use Rattle.asm_text.specs.declared.unit.SectionKind.TheVariants.{Code, Data, Bss}
 use Rattle.asm_text.specs.declared.unit.AsmRelocation.{AsmRelocation}
 use Rattle.asm_text.specs.Parts.{SymbolValue, UnitValue, IsUnit, IsSymbol, IsRelocation}
-use Rattle.obj_write.specs.declared.symbols.TheConstants.{SYMBOL_SIZE}
+use Rattle.elf_objects.specs.Numbers.{symbol_size}
 use Rattle.obj_write.specs.Bytes.{half_bytes, word_bytes, zeros}
 use Rattle.obj_write.specs.Strings.{terminated, string_table, name_at}
 use Rattle.obj_write.specs.Sections.{FileSection, no_section, content_at}
@@ -83,7 +83,7 @@ entry_stands_by : (file : List ℕ) (at : ℕ) (symbols : List SymbolValue) (k :
 unfolding own.symbol_table
 entry_stands_by file at symbols k lt s =
     let f : ℕ → List ℕ = symbol_entry_at symbols in
-    let r = stands_right file at (at + 16) (zeros SYMBOL_SIZE) (all_below f (length symbols)) refl s in
+    let r = stands_right file at (at + 16) (zeros symbol_size) (all_below f (length symbols)) refl s in
     let n = length_below f 16 k (λ j _. length_symbol_at symbols j) in
     let e : at + 16 + length (all_below f k) ≡ at + 16 * suc k = omega (arith, n) in
     subst (λ (m : ℕ). Stands file m (symbol_entry_at symbols k)) e (stands_below file (at + 16) f (length symbols) k lt r)

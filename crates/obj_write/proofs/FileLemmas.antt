@@ -7,7 +7,7 @@ use Rattle.elf_objects.specs.Passes.{all_below, first_below}
 use Rattle.elf_objects.specs.Header.{table_offset, section_count, name_table, header_fault, table_fault}
 use Rattle.elf_objects.specs.Section.{header_of}
 use Rattle.obj_write.specs.declared.sections.Head.{Head}
-use Rattle.obj_write.specs.declared.sections.TheConstants.{FILE_HEADER_SIZE, SECTION_HEADER_SIZE}
+use Rattle.elf_objects.specs.Numbers.{file_header_size, section_header_size}
 use Rattle.obj_write.specs.Bytes.{half_bytes, word_bytes, zeros}
 use Rattle.obj_write.specs.Sections.{FileSection, contents_of, head_of, head_bytes, header_table}
 use Rattle.obj_write.specs.Object.{identification, file_header, file_of}
@@ -38,11 +38,11 @@ table_fault_none file size short = rw (size, short) refl
 
 -- where the table of headers stands
 abbrev pub table_place : List FileSection → ℕ
-table_place sections = FILE_HEADER_SIZE + length (contents_of sections)
+table_place sections = file_header_size + length (contents_of sections)
 
 -- what is read of a file of sections
 pub record IsLaid (sections : List FileSection) (names : ℕ) (file : List ℕ) : Type 0 where
-  pub contents : Stands file FILE_HEADER_SIZE (contents_of sections)
+  pub contents : Stands file file_header_size (contents_of sections)
   pub headers : Stands file (table_place sections) (header_table sections)
   pub table : table_offset file ≡ table_place sections
   pub count : section_count file ≡ length sections + 1
@@ -61,7 +61,7 @@ pub length_headers : (sections : List FileSection) → length (header_table sect
 unfolding header_table
 length_headers sections =
     let f : ℕ → List ℕ = λ k. head_bytes (head_of sections k) in
-    let a = length-append (zeros SECTION_HEADER_SIZE) (all_below f (length sections)) in
+    let a = length-append (zeros section_header_size) (all_below f (length sections)) in
     let b = length_below f 40 (length sections) (λ k lt. length_head_bytes (head_of sections k)) in
     omega (arith, a, b)
 
@@ -174,7 +174,7 @@ pub next_header : (sections : List FileSection) (names : ℕ) (file : List ℕ) 
 unfolding header_table
 next_header sections names file k laid lt small =
     let f : ℕ → List ℕ = λ j. head_bytes (head_of sections j) in
-    let r = stands_right file (table_place sections) (table_place sections + 40) (zeros SECTION_HEADER_SIZE) (all_below f (length sections)) refl laid.headers in
+    let r = stands_right file (table_place sections) (table_place sections + 40) (zeros section_header_size) (all_below f (length sections)) refl laid.headers in
     let n = length_below f 40 k (λ j l. length_head_bytes (head_of sections j)) in
     let e = laid.table in
     let at : table_place sections + 40 + length (all_below f k) ≡ table_offset file + 40 * suc k = omega (arith, n, e) in

@@ -14,7 +14,7 @@ use Rattle.asm_text.specs.Unit.{unit_of}
 use Rattle.obj_write.specs.declared.sections.Head.{Head}
 use Rattle.obj_write.specs.declared.sections.Sections.{Sections}
 use Rattle.obj_write.specs.declared.strings.Strings.{Strings}
-use Rattle.obj_write.specs.declared.sections.TheConstants.{FILE_HEADER_SIZE}
+use Rattle.elf_objects.specs.Numbers.{file_header_size}
 use Rattle.obj_write.specs.Strings.{string_table, name_at, IsTableOf}
 use Rattle.obj_write.specs.Sections.{FileSection, contents_of, head_of, header_table, AreSections}
 use Rattle.obj_write.specs.Symbols.{symbol_names, symbol_table}
@@ -209,15 +209,15 @@ shstrtab_parts unit = (refl, refl)
 
 -- ---- the file
 
-pub whole_file : (s : Sections) (names table count : ℕ) (begun out : List ℕ) → table ≡ FILE_HEADER_SIZE + s.contents.len → count ≡ s.heads.len + 1
+pub whole_file : (s : Sections) (names table count : ℕ) (begun out : List ℕ) → table ≡ file_header_size + s.contents.len → count ≡ s.heads.len + 1
     → begun ≡ file_header table count names
     → ((sections : List FileSection) → AreSections sections s → out ≡ begun ++ (contents_of sections ++ header_table sections))
     → (list : List FileSection) → AreSections list s → out ≡ file_of list names
 unfolding file_of
 whole_file s names table count begun out at counted_as first rest list are =
-    let a : table ≡ FILE_HEADER_SIZE + length (contents_of list) = at ∙ ap (λ n. FILE_HEADER_SIZE + n) (s.contents.ok.0 ∙ ap length are.contents) in
+    let a : table ≡ file_header_size + length (contents_of list) = at ∙ ap (λ n. file_header_size + n) (s.contents.ok.0 ∙ ap length are.contents) in
     let b : count ≡ length list + 1 = counted_as ∙ ap (λ n. n + 1) (s.heads.ok.0 ∙ (ap length are.heads ∙ length_each_below (head_of list) (length list))) in
-    rest list are ∙ ap (λ l. l ++ (contents_of list ++ header_table list)) (first ∙ (ap (λ n. file_header n count names) a ∙ ap (λ n. file_header (FILE_HEADER_SIZE + length (contents_of list)) n names) b))
+    rest list are ∙ ap (λ l. l ++ (contents_of list ++ header_table list)) (first ∙ (ap (λ n. file_header n count names) a ∙ ap (λ n. file_header (file_header_size + length (contents_of list)) n names) b))
 
 -- a unit has few sections
 pub section_small : (unit : AsmUnit) (list : List ℕ) (j : ℕ) → list ≡ relocated_in (unit_of unit) → j < length list → get_or list j 0 < 256

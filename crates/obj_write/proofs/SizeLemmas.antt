@@ -8,7 +8,7 @@ use Rattle.elf_objects.specs.Passes.{each_below, all_below}
 use Rattle.elf_objects.proofs.PassLemmas.{length_each_below, at_each}
 use Rattle.asm_text.specs.declared.unit.AsmRelocation.{AsmRelocation}
 use Rattle.asm_text.specs.Parts.{SymbolValue, UnitValue}
-use Rattle.obj_write.specs.declared.symbols.TheConstants.{SYMBOL_SIZE}
+use Rattle.elf_objects.specs.Numbers.{symbol_size}
 use Rattle.obj_write.specs.Bytes.{zeros, gap, padded}
 use Rattle.obj_write.specs.Strings.{terminated, string_table, name_at}
 use Rattle.obj_write.specs.Sections.{FileSection, no_section}
@@ -140,6 +140,6 @@ length_symbol_at symbols k = length_symbol_entry (name_at (symbol_names symbols)
 pub length_symbols : (symbols : List SymbolValue) → length (symbol_table symbols) ≡ 16 + 16 * length symbols
 unfolding symbol_table
 length_symbols symbols =
-    let a = length-append (zeros SYMBOL_SIZE) (all_below (symbol_entry_at symbols) (length symbols)) in
+    let a = length-append (zeros symbol_size) (all_below (symbol_entry_at symbols) (length symbols)) in
     let b = length_below (symbol_entry_at symbols) 16 (length symbols) (λ k lt. length_symbol_at symbols k) in
     omega (arith, a, b)

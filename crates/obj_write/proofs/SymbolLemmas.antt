@@ -11,7 +11,7 @@ use Rattle.asm_text.specs.declared.unit.AsmSymbol.{AsmSymbol}
 use Rattle.asm_text.specs.Parts.{SymbolValue}
 use Rattle.asm_text.specs.Views.{symbol_of}
 use Rattle.obj_write.specs.declared.strings.Strings.{Strings}
-use Rattle.obj_write.specs.declared.symbols.TheConstants.{SYMBOL_SIZE}
+use Rattle.elf_objects.specs.Numbers.{symbol_size}
 use Rattle.obj_write.specs.Bytes.{zeros}
 use Rattle.obj_write.specs.Strings.{name_at, IsTableOf}
 use Rattle.obj_write.specs.Symbols.{no_symbol, symbol_entry, symbol_entry_at, symbol_names, symbol_table, first_global}
@@ -28,10 +28,10 @@ pub entry_added : (xs : List AsmSymbol) (i name : ℕ) (x : AsmSymbol) (strings 
     → IsTableOf (symbol_names (map symbol_of xs)) strings
     → ((names : List (List ℕ)) → IsTableOf names strings → i < length names → name ≡ name_at names i)
     → new ≡ old ++ symbol_entry name (symbol_of x)
-    → old ≡ zeros SYMBOL_SIZE ++ all_below (symbol_entry_at (map symbol_of xs)) i
-    → new ≡ zeros SYMBOL_SIZE ++ all_below (symbol_entry_at (map symbol_of xs)) (i + 1)
+    → old ≡ zeros symbol_size ++ all_below (symbol_entry_at (map symbol_of xs)) i
+    → new ≡ zeros symbol_size ++ all_below (symbol_entry_at (map symbol_of xs)) (i + 1)
 entry_added xs i name x strings old new lt is table place more so_far =
-    let z : List ℕ = zeros SYMBOL_SIZE in
+    let z : List ℕ = zeros symbol_size in
     let f : ℕ → List ℕ = symbol_entry_at (map symbol_of xs) in
     let counted : length (symbol_names (map symbol_of xs)) ≡ length xs = length-map (map symbol_of xs) (λ (s : SymbolValue). s.name) ∙ length-map xs symbol_of in
     let at : name ≡ name_at (symbol_names (map symbol_of xs)) i = place (symbol_names (map symbol_of xs)) table (omega (arith, counted)) in
@@ -39,16 +39,16 @@ entry_added xs i name x strings old new lt is table place more so_far =
     ∙ (append_assoc z (all_below f i) (symbol_entry name (symbol_of x))
     ∙ ap (λ l. z ++ l) (ap (λ l. all_below f i ++ l) (entry_at_is xs i name x lt is at) ∙ sym (all_below_more f i))))
 
-no_entries : (xs : List AsmSymbol) → zeros SYMBOL_SIZE ≡ zeros SYMBOL_SIZE ++ all_below (symbol_entry_at (map symbol_of xs)) 0
-no_entries xs = sym (ap (λ l. zeros SYMBOL_SIZE ++ l) (all_below_zero (symbol_entry_at (map symbol_of xs))) ∙ append-nil (zeros SYMBOL_SIZE))
+no_entries : (xs : List AsmSymbol) → zeros symbol_size ≡ zeros symbol_size ++ all_below (symbol_entry_at (map symbol_of xs)) 0
+no_entries xs = sym (ap (λ l. zeros symbol_size ++ l) (all_below_zero (symbol_entry_at (map symbol_of xs))) ∙ append-nil (zeros symbol_size))
 
-pub table_begun : (xs : List AsmSymbol) (table : List ℕ) → table ≡ zeros SYMBOL_SIZE → table ≡ zeros SYMBOL_SIZE ++ all_below (symbol_entry_at (map symbol_of xs)) 0
+pub table_begun : (xs : List AsmSymbol) (table : List ℕ) → table ≡ zeros symbol_size → table ≡ zeros symbol_size ++ all_below (symbol_entry_at (map symbol_of xs)) 0
 table_begun xs table is = is ∙ no_entries xs
 
 pub table_whole : (xs : List AsmSymbol) (table : List ℕ) (n : ℕ) → n ≡ length xs
-    → table ≡ zeros SYMBOL_SIZE ++ all_below (symbol_entry_at (map symbol_of xs)) n → table ≡ symbol_table (map symbol_of xs)
+    → table ≡ zeros symbol_size ++ all_below (symbol_entry_at (map symbol_of xs)) n → table ≡ symbol_table (map symbol_of xs)
 unfolding symbol_table
-table_whole xs table n all is = is ∙ ap (λ k. zeros SYMBOL_SIZE ++ all_below (symbol_entry_at (map symbol_of xs)) k) (all ∙ sym (length-map xs symbol_of))
+table_whole xs table n all is = is ∙ ap (λ k. zeros symbol_size ++ all_below (symbol_entry_at (map symbol_of xs)) k) (all ∙ sym (length-map xs symbol_of))
 
 -- ---- the first global one
 

@@ -1,13 +1,11 @@
 -- The file of a unit (TIS ELF 1.2).
 use Rattle.std.specs.Prelude.{ℕ, ◌+◌, List, [], ◌∷◌, ◌++◌, length, map, slice_index_or, codes}
+use Rattle.elf_objects.specs.Numbers.{file_header_size, relocatable, msp430, current_version, class_32, low_byte_first, section_header_size, progbits, symtab, strtab, rela, nobits, write_flag, alloc_flag, execute_flag, symbol_size, relocation_size}
 use Rattle.elf_objects.specs.Passes.{each_below}
 use Rattle.asm_text.specs.declared.unit.SectionKind.{SectionKind}
 use Rattle.asm_text.specs.declared.unit.SectionKind.TheVariants.{Code, Data, Bss}
 use Rattle.asm_text.specs.Parts.{SectionValue, UnitValue}
 use Rattle.obj_write.specs.declared.sections.Head.{Head}
-use Rattle.obj_write.specs.declared.sections.TheConstants.{FILE_HEADER_SIZE, SECTION_HEADER_SIZE}
-use Rattle.obj_write.specs.declared.symbols.TheConstants.{SYMBOL_SIZE}
-use Rattle.obj_write.specs.declared.object.TheConstants.{PROGBITS, SYMTAB, STRTAB, RELA, NOBITS, WRITE_ALLOC, ALLOC_EXECUTE, SECTION_ALIGN, TABLE_ALIGN, RELOCATION_SIZE, RELOCATABLE, MSP430}
 use Rattle.obj_write.specs.Bytes.{half_bytes, word_bytes, zeros}
 use Rattle.obj_write.specs.Strings.{string_table, name_at}
 use Rattle.obj_write.specs.Sections.{FileSection, contents_of, header_table}
@@ -38,19 +36,27 @@ section_names unit = part_names unit.sections ++ (table_names ++ map (relocation
 
 -- ---- sections
 
+-- what the addresses of code and data are multiples of: a word
+abbrev pub section_align : ℕ
+section_align = 2
+
+-- what the places of tables are multiples of: a word of the file
+abbrev pub table_align : ℕ
+table_align = 4
+
 abbrev pub kind_of : SectionKind → ℕ
-kind_of Code = PROGBITS
-kind_of Data = PROGBITS
-kind_of Bss = NOBITS
+kind_of Code = progbits
+kind_of Data = progbits
+kind_of Bss = nobits
 
 abbrev pub flags_of : SectionKind → ℕ
-flags_of Code = ALLOC_EXECUTE
-flags_of Data = WRITE_ALLOC
-flags_of Bss = WRITE_ALLOC
+flags_of Code = alloc_flag + execute_flag
+flags_of Data = write_flag + alloc_flag
+flags_of Bss = write_flag + alloc_flag
 
 -- the header of a section of the unit
 abbrev pub part_head : SectionValue → ℕ → Head
-part_head s name = record { name = name; kind = kind_of s.kind; flags = flags_of s.kind; offset = 0; size = s.size; link = 0; info = 0; align = SECTION_ALIGN; entry_size = 0 }
+part_head s name = record { name = name; kind = kind_of s.kind; flags = flags_of s.kind; offset = 0; size = s.size; link = 0; info = 0; align = section_align; entry_size = 0 }
 
 -- the unit's section of this index
 unfoldable pub part_section : UnitValue → ℕ → FileSection
@@ -69,15 +75,15 @@ shstrtab_index unit = length unit.sections + 3
 
 -- the header of the table of symbols
 abbrev pub symbols_head : ℕ → ℕ → UnitValue → Head
-symbols_head name size unit = record { name = name; kind = SYMTAB; flags = 0; offset = 0; size = size; link = strtab_index unit; info = first_global unit.symbols; align = TABLE_ALIGN; entry_size = SYMBOL_SIZE }
+symbols_head name size unit = record { name = name; kind = symtab; flags = 0; offset = 0; size = size; link = strtab_index unit; info = first_global unit.symbols; align = table_align; entry_size = symbol_size }
 
 -- the header of a string table
 abbrev pub strings_head : ℕ → ℕ → Head
-strings_head name size = record { name = name; kind = STRTAB; flags = 0; offset = 0; size = size; link = 0; info = 0; align = TABLE_ALIGN; entry_size = 0 }
+strings_head name size = record { name = name; kind = strtab; flags = 0; offset = 0; size = size; link = 0; info = 0; align = table_align; entry_size = 0 }
 
 -- the header of the relocations of a section, where the table of symbols has this index
 abbrev pub relocations_head : ℕ → ℕ → ℕ → ℕ → Head
-relocations_head name size symbols section = record { name = name; kind = RELA; flags = 0; offset = 0; size = size; link = symbols; info = section + 1; align = TABLE_ALIGN; entry_size = RELOCATION_SIZE }
+relocations_head name size symbols section = record { name = name; kind = rela; flags = 0; offset = 0; size = size; link = symbols; info = section + 1; align = table_align; entry_size = relocation_size }
 
 -- `.symtab`
 unfoldable pub symtab_section : UnitValue → FileSection
@@ -110,21 +116,21 @@ file_sections unit =
 
 -- ---- the file
 
--- 7f, `ELF`, 32 bits, the low byte first, version 1
+-- 7f, `ELF`, 32 bits, the low byte first, the version, and nothing more ("ELF Identification")
 abbrev pub identification : List ℕ
-identification = 0x7f ∷ 0x45 ∷ 0x4c ∷ 0x46 ∷ 1 ∷ 1 ∷ 1 ∷ zeros 9
+identification = 0x7f ∷ 0x45 ∷ 0x4c ∷ 0x46 ∷ class_32 ∷ low_byte_first ∷ current_version ∷ zeros 9
 
 -- the file's header, with the place of the header table, the number of sections and the index of the name table
 unfoldable pub file_header : ℕ → ℕ → ℕ → List ℕ
 file_header table count names =
-    identification ++ (half_bytes RELOCATABLE ++ (half_bytes MSP430 ++ (word_bytes 1 ++ (word_bytes 0 ++ (word_bytes 0 ++ (word_bytes table
-    ++ (word_bytes 0 ++ (half_bytes FILE_HEADER_SIZE ++ (half_bytes 0 ++ (half_bytes 0 ++ (half_bytes SECTION_HEADER_SIZE
+    identification ++ (half_bytes relocatable ++ (half_bytes msp430 ++ (word_bytes current_version ++ (word_bytes 0 ++ (word_bytes 0 ++ (word_bytes table
+    ++ (word_bytes 0 ++ (half_bytes file_header_size ++ (half_bytes 0 ++ (half_bytes 0 ++ (half_bytes section_header_size
     ++ (half_bytes count ++ half_bytes names))))))))))))
 
 -- a header, the contents and the header table, where the name table has this index
 unfoldable pub file_of : List FileSection → ℕ → List ℕ
 file_of sections names =
-    file_header (FILE_HEADER_SIZE + length (contents_of sections)) (length sections + 1) names
+    file_header (file_header_size + length (contents_of sections)) (length sections + 1) names
     ++ (contents_of sections ++ header_table sections)
 
 -- the object's bytes

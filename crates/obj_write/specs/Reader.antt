@@ -12,10 +12,8 @@ use Rattle.elf_objects.specs.Section.{is_loaded}
 use Rattle.elf_objects.specs.Object.{ObjectValue}
 use Rattle.asm_text.specs.declared.unit.AsmRelocation.{AsmRelocation}
 use Rattle.asm_text.specs.Parts.{SectionValue, SymbolValue, UnitValue}
-use Rattle.obj_write.specs.declared.object.TheConstants.{SECTION_ALIGN}
-use Rattle.obj_write.specs.declared.relocations.TheConstants.{WORD_FIELD}
-use Rattle.obj_write.specs.Relocations.{relocations_in}
-use Rattle.obj_write.specs.Object.{kind_of, flags_of, relocated_in}
+use Rattle.obj_write.specs.Relocations.{word_field, relocations_in}
+use Rattle.obj_write.specs.Object.{section_align, kind_of, flags_of, relocated_in}
 
 -- the section is the unit's, with its name and its bytes
 pub record IsPart (file : List ℕ) (s : SectionValue) (head : SectionHead) : Type 0 where
@@ -23,7 +21,7 @@ pub record IsPart (file : List ℕ) (s : SectionValue) (head : SectionHead) : Ty
   pub kind : head.kind ≡ kind_of s.kind
   pub flags : head.flags ≡ flags_of s.kind
   pub size : head.size ≡ s.size
-  pub align : head.align ≡ SECTION_ALIGN
+  pub align : head.align ≡ section_align
   pub bytes : slice_range file head.bytes.start head.bytes.end ≡ s.bytes
 
 abbrev pub binding_read : Bool → Binding
@@ -54,7 +52,7 @@ relocation_read list table section entry = let r = slice_index_or list entry no_
   target = section + 1;
   offset = r.offset % 2 ^ 32;
   symbol = r.symbol + 1;
-  kind = WORD_FIELD;
+  kind = word_field;
   addend = pos 0;
 }
 

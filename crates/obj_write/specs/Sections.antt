@@ -1,10 +1,10 @@
 -- The sections of a file after section 0: their headers and where their contents stand (TIS ELF 1.2, "Sections").
 use Rattle.std.specs.Prelude.{◌≡◌, ℕ, ◌+◌, List, [], ◌∷◌, ◌++◌, length, take, slice_index_or}
 use Rattle.std.specs.List.{flat_map}
+use Rattle.elf_objects.specs.Numbers.{file_header_size, section_header_size}
 use Rattle.elf_objects.specs.Passes.{each_below, all_below}
 use Rattle.obj_write.specs.declared.sections.Head.{Head}
 use Rattle.obj_write.specs.declared.sections.Sections.{Sections}
-use Rattle.obj_write.specs.declared.sections.TheConstants.{FILE_HEADER_SIZE, SECTION_HEADER_SIZE}
 use Rattle.obj_write.specs.Bytes.{words_bytes, zeros, padded}
 
 -- a section: its header without a place, and its content
@@ -24,7 +24,7 @@ contents_of sections = flat_map (λ s. padded s.content) sections
 
 -- where the content of this index stands: after the file's header and the contents before it
 unfoldable pub content_at : List FileSection → ℕ → ℕ
-content_at sections index = FILE_HEADER_SIZE + length (contents_of (take index sections))
+content_at sections index = file_header_size + length (contents_of (take index sections))
 
 -- the header of this index, with its place
 unfoldable pub head_of : List FileSection → ℕ → Head
@@ -37,7 +37,7 @@ head_bytes h = words_bytes (h.name ∷ h.kind ∷ h.flags ∷ 0 ∷ h.offset ∷
 -- the table of headers; that of section 0 is zeros
 unfoldable pub header_table : List FileSection → List ℕ
 header_table sections =
-    zeros SECTION_HEADER_SIZE ++ all_below (λ k. head_bytes (head_of sections k)) (length sections)
+    zeros section_header_size ++ all_below (λ k. head_bytes (head_of sections k)) (length sections)
 
 -- the contents and the headers of these sections
 pub record AreSections (sections : List FileSection) (s : Sections) : Type 0 where

@@ -1,23 +1,23 @@
 -- The table of symbols (TIS ELF 1.2, "Symbol Table").
-use Rattle.std.specs.Prelude.{ℕ, ◌+◌, Bool, true, false, List, [], ◌∷◌, ◌++◌, length, map, slice_index_or, Option, Some, None}
+use Rattle.std.specs.Prelude.{ℕ, ◌+◌, ◌*◌, Bool, true, false, List, [], ◌∷◌, ◌++◌, length, map, slice_index_or, Option, Some, None}
 use Rattle.std.specs.List.{position_or_len}
+use Rattle.elf_objects.specs.Numbers.{symbol_size, local_binding, global_binding, undefined_index}
 use Rattle.elf_objects.specs.Passes.{all_below}
 use Rattle.asm_text.specs.Parts.{SymbolValue}
-use Rattle.obj_write.specs.declared.symbols.TheConstants.{SYMBOL_SIZE, LOCAL_INFO, GLOBAL_INFO}
 use Rattle.obj_write.specs.Bytes.{half_bytes, word_bytes, zeros}
 use Rattle.obj_write.specs.Strings.{name_at}
 
 abbrev pub no_symbol : SymbolValue
 no_symbol = record { name = []; global = false; home = None; value = 0 }
 
--- binding times 16; the type is 0
+-- the binding in the high four bits; the type, STT_NOTYPE, is 0
 abbrev pub info_of : Bool → ℕ
-info_of true = GLOBAL_INFO
-info_of false = LOCAL_INFO
+info_of true = global_binding * 16
+info_of false = local_binding * 16
 
--- the unit's section of this index has the next index in the file; 0 is undefined
+-- the unit's section of this index has the next index in the file
 abbrev pub home_index : Option ℕ → ℕ
-home_index None = 0
+home_index None = undefined_index
 home_index (Some section) = section + 1
 
 -- an entry; size, type and visibility are 0
@@ -34,7 +34,7 @@ symbol_entry_at symbols k = symbol_entry (name_at (symbol_names symbols) k) (sli
 
 -- entry 0 is zeros, and each symbol has the next index
 unfoldable pub symbol_table : List SymbolValue → List ℕ
-symbol_table symbols = zeros SYMBOL_SIZE ++ all_below (symbol_entry_at symbols) (length symbols)
+symbol_table symbols = zeros symbol_size ++ all_below (symbol_entry_at symbols) (length symbols)
 
 -- the index of the first global entry, or the number of entries where none is global
 unfoldable pub first_global : List SymbolValue → ℕ

@@ -10,6 +10,8 @@ use elf_objects::{Binding, Home, Object, parse};
 use std::alloc::{AllocError, Global};
 use std::test::Fail;
 
+mod whole_file;
+
 /// `mov #0x1234, r5`, `mov #0, r3` and `jmp here`, where `here` is the jump itself.
 const TEXT: [u8; 8] = [0x35, 0x40, 0x34, 0x12, 0x03, 0x43, 0xff, 0x3f];
 
