@@ -40,7 +40,8 @@ pub fn assemble(alloc: Global, bytes: &[u8]) -> Result<AsmUnit, AsmFault>
 fn assemble_source(alloc: Global, source: &Source<'_>) -> Result<AsmUnit, AsmFault>
     requires kept { IsSource (source_value source.now) }
     ensures assembled { IfOk result (λ unit. spec.assembled_source (source_value source.now) ≡ Ok (unit_of unit)) }
-    ensures refused { IfErr result (λ fault. fault ≢ AsmFault.NoMemory → spec.assembled_source (source_value source.now) ≡ Err fault) }
+    ensures refused { IfErr result (λ fault. fault ≢ AsmFault.NoMemory →
+        spec.assembled_source (source_value source.now) ≡ Err fault) }
 {
     let names = source.tables.names.texts().len();
     let layout = match place_all(alloc, names, &source.statements) {
@@ -64,10 +65,14 @@ fn resolve(alloc: Global, source: &Source<'_>, layout: &Layout) -> Result<Resolv
     requires kept { IsSource (source_value source.now) }
     requires sound { IsPlaced (spec.names_of (source_value source.now)) (placed_of layout.now) }
     ensures length { IfOk result (λ r. length r.globals.items ≡ spec.names_of (source_value source.now)) }
-    ensures globals { IfOk result (λ r. AreGlobals r.globals.items source.now.statements.items (spec.names_of (source_value source.now))) }
-    ensures order { IfOk result (λ r. r.order.names.items ≡ spec.symbol_order (source_value source.now) (placed_of layout.now)) }
+    ensures globals { IfOk result (λ r. AreGlobals r.globals.items source.now.statements.items
+        (spec.names_of (source_value source.now))) }
+    ensures order { IfOk result (λ r. r.order.names.items ≡ spec.symbol_order (source_value source.now)
+        (placed_of layout.now)) }
     ensures count { IfOk result (λ r. length r.order.numbers.items ≡ spec.names_of (source_value source.now)) }
-    ensures numbers { IfOk result (λ r. r.order.numbers.items ≡ symbol_numbers (spec.symbol_order (source_value source.now) (placed_of layout.now)) (spec.names_of (source_value source.now))) }
+    ensures numbers { IfOk result (λ r. r.order.numbers.items
+        ≡ symbol_numbers (spec.symbol_order (source_value source.now) (placed_of layout.now))
+        (spec.names_of (source_value source.now))) }
 {
     let count = source.tables.names.texts().len();
     let globals = globals_of(alloc, count, &source.statements)?;
@@ -84,9 +89,13 @@ fn symbols_of(
     requires kept { IsSource (source_value source.now) }
     requires sound { IsPlaced (spec.names_of (source_value source.now)) (placed_of layout.now) }
     requires length { length resolved.now.globals.items ≡ spec.names_of (source_value source.now) }
-    requires globals { AreGlobals resolved.now.globals.items source.now.statements.items (spec.names_of (source_value source.now)) }
-    requires order { resolved.now.order.names.items ≡ spec.symbol_order (source_value source.now) (placed_of layout.now) }
-    ensures { IfOk result (λ symbols. views.symbols_of symbols ≡ symbols_for source.now.statements.items (placed_of layout.now) (source_value source.now).tables.names (spec.symbol_order (source_value source.now) (placed_of layout.now))) }
+    requires globals { AreGlobals resolved.now.globals.items source.now.statements.items
+        (spec.names_of (source_value source.now)) }
+    requires order { resolved.now.order.names.items ≡ spec.symbol_order (source_value source.now)
+        (placed_of layout.now) }
+    ensures { IfOk result (λ symbols. views.symbols_of symbols
+        ≡ symbols_for source.now.statements.items (placed_of layout.now) (source_value source.now).tables.names
+        (spec.symbol_order (source_value source.now) (placed_of layout.now))) }
 {
     symbols_in(
         alloc,
@@ -105,13 +114,18 @@ fn emit(
     resolved: &Resolved,
 ) -> Result<Emission, AsmFault>
     requires kept { IsSource (source_value source.now) }
-    requires placed { placed_from 1 (nowhere (spec.names_of (source_value source.now))) source.now.statements.items ≡ Ok (placed_of layout.now) }
+    requires placed { placed_from 1 (nowhere (spec.names_of (source_value source.now))) source.now.statements.items
+        ≡ Ok (placed_of layout.now) }
     requires sound { IsPlaced (spec.names_of (source_value source.now)) (placed_of layout.now) }
     requires count { length resolved.now.order.numbers.items ≡ spec.names_of (source_value source.now) }
-    requires numbers { resolved.now.order.numbers.items ≡ symbol_numbers (spec.symbol_order (source_value source.now) (placed_of layout.now)) (spec.names_of (source_value source.now)) }
-    ensures emitted { IfOk result (λ e. emitted_from (spec.meanings (source_value source.now) (placed_of layout.now)) 1 nothing source.now.statements.items ≡ Ok (emitted_of e)) }
+    requires numbers { resolved.now.order.numbers.items ≡ symbol_numbers
+        (spec.symbol_order (source_value source.now) (placed_of layout.now)) (spec.names_of (source_value source.now)) }
+    ensures emitted { IfOk result
+        (λ e. emitted_from (spec.meanings (source_value source.now) (placed_of layout.now)) 1 nothing
+        source.now.statements.items ≡ Ok (emitted_of e)) }
     ensures refused { IfErr result (λ fault. fault ≢ AsmFault.NoMemory
-        → emitted_from (spec.meanings (source_value source.now) (placed_of layout.now)) 1 nothing source.now.statements.items ≡ Err fault) }
+        → emitted_from (spec.meanings (source_value source.now) (placed_of layout.now)) 1 nothing
+        source.now.statements.items ≡ Err fault) }
 {
     let meanings = Meanings {
         sections: source.tables.sections.texts(),
@@ -124,10 +138,13 @@ fn emit(
 // The unit of a source whose lines have these places.
 fn unit_for(alloc: Global, source: &Source<'_>, layout: &Layout) -> Result<AsmUnit, AsmFault>
     requires kept { IsSource (source_value source.now) }
-    requires placed { placed_from 1 (nowhere (spec.names_of (source_value source.now))) source.now.statements.items ≡ Ok (placed_of layout.now) }
+    requires placed { placed_from 1 (nowhere (spec.names_of (source_value source.now))) source.now.statements.items
+        ≡ Ok (placed_of layout.now) }
     requires sound { IsPlaced (spec.names_of (source_value source.now)) (placed_of layout.now) }
-    ensures assembled { IfOk result (λ unit. spec.with_stop (source_value source.now) (placed_of layout.now) None ≡ Ok (unit_of unit)) }
-    ensures refused { IfErr result (λ fault. fault ≢ AsmFault.NoMemory → spec.with_stop (source_value source.now) (placed_of layout.now) None ≡ Err fault) }
+    ensures assembled { IfOk result (λ unit. spec.with_stop (source_value source.now) (placed_of layout.now) None
+        ≡ Ok (unit_of unit)) }
+    ensures refused { IfErr result (λ fault. fault ≢ AsmFault.NoMemory →
+        spec.with_stop (source_value source.now) (placed_of layout.now) None ≡ Err fault) }
 {
     let resolved = resolve(alloc, source, layout)?;
     let emission = match emit(alloc, source, layout, &resolved) {

@@ -121,7 +121,8 @@ fn jump_bytes(
 ) -> Result<Bytes, AsmFault>
     requires here { here ≤ 65534 }
     requires cond { cond < 8 }
-    ensures { MatchResult result (λ bytes. spec.jump_bytes n section here cond spot ≡ Ok bytes.items) (λ fault. spec.jump_bytes n section here cond spot ≡ Err fault) }
+    ensures { MatchResult result (λ bytes. spec.jump_bytes n section here cond spot ≡ Ok bytes.items)
+        (λ fault. spec.jump_bytes n section here cond spot ≡ Err fault) }
 {
     let Some(spot) = spot else {
         return Err(AsmFault::NoLabel { n });
@@ -171,7 +172,9 @@ fn bytes_of(
 ) -> Result<Bytes, AsmFault>
     requires here { here ≤ 65534 }
     requires known { IsKnown (length meanings.now.spots.now) statement }
-    ensures { MatchResult result (λ bytes. spec.bytes_of (meanings_of meanings.now) n section here statement ≡ Ok bytes.items) (λ fault. spec.bytes_of (meanings_of meanings.now) n section here statement ≡ Err fault) }
+    ensures { MatchResult result (λ bytes. spec.bytes_of (meanings_of meanings.now) n section here statement
+        ≡ Ok bytes.items) (λ fault. spec.bytes_of (meanings_of meanings.now) n section here statement
+        ≡ Err fault) }
 {
     match statement {
         Statement::Word(field) => Ok(word_bytes(field_number(field))),
@@ -226,7 +229,8 @@ impl Emission {
     ) -> Result<(), AllocError>
         requires section { section < 2 ^ 32 }
         requires name { IsBelow (length meanings.now.symbols.now) name }
-        ensures relocations { OnOk result (self.new.relocations.items ≡ self.old.relocations.items ++ spec.relocation_if (meanings_of meanings.now) section offset name) }
+        ensures relocations { OnOk result (self.new.relocations.items ≡ self.old.relocations.items
+            ++ spec.relocation_if (meanings_of meanings.now) section offset name) }
         ensures sections { self.new.sections ≡ self.old.sections }
     {
         let Some(name) = name else {
@@ -252,7 +256,8 @@ impl Emission {
         requires section { section < 2 ^ 32 }
         requires here { here ≤ 65534 }
         requires known { IsKnown (length meanings.now.symbols.now) statement }
-        ensures relocations { OnOk result (self.new.relocations.items ≡ self.old.relocations.items ++ spec.relocations_of (meanings_of meanings.now) section here statement) }
+        ensures relocations { OnOk result (self.new.relocations.items ≡ self.old.relocations.items
+            ++ spec.relocations_of (meanings_of meanings.now) section here statement) }
         ensures sections { self.new.sections ≡ self.old.sections }
     {
         match statement {
@@ -290,9 +295,11 @@ impl Emission {
         requires room { HasRoom (emitted_of self.old).sections (size_of statement) }
         requires spots { IsKnown (length meanings.now.spots.now) statement }
         requires symbols { IsKnown (length meanings.now.symbols.now) statement }
-        ensures emitted { OnOk result (spec.in_last (meanings_of meanings.now) n (emitted_of self.old) (last_of (emitted_of self.old).sections) statement ≡ Ok (emitted_of self.new)) }
+        ensures emitted { OnOk result (spec.in_last (meanings_of meanings.now) n (emitted_of self.old)
+            (last_of (emitted_of self.old).sections) statement ≡ Ok (emitted_of self.new)) }
         ensures refused { IfErr result (λ fault. fault ≢ AsmFault.NoMemory
-            → spec.in_last (meanings_of meanings.now) n (emitted_of self.old) (last_of (emitted_of self.old).sections) statement ≡ Err fault) }
+            → spec.in_last (meanings_of meanings.now) n (emitted_of self.old)
+            (last_of (emitted_of self.old).sections) statement ≡ Err fault) }
     {
         let Some(last) = self.sections.len().checked_sub(1) else {
             return Ok(());
@@ -320,7 +327,8 @@ impl Emission {
     ) -> Result<(), AllocError>
         requires known { name < length meanings.now.sections.now }
         requires names { AreNames (texts_in meanings.now.sections.now) }
-        ensures { OnOk result (spec.emitted (meanings_of meanings.now) 0 (emitted_of self.old) (Statement.Section name kind) ≡ Ok (emitted_of self.new)) }
+        ensures { OnOk result (spec.emitted (meanings_of meanings.now) 0 (emitted_of self.old)
+            (Statement.Section name kind) ≡ Ok (emitted_of self.new)) }
     {
         let name = string_of(alloc, meanings.sections[name])?;
         self.sections.push(AsmSection {
@@ -346,7 +354,8 @@ impl Emission {
         requires symbols { IsKnown (length meanings.now.symbols.now) statement }
         requires named { IsNamed (length meanings.now.sections.now) statement }
         requires names { AreNames (texts_in meanings.now.sections.now) }
-        ensures emitted { OnOk result (spec.emitted (meanings_of meanings.now) n (emitted_of self.old) statement ≡ Ok (emitted_of self.new)) }
+        ensures emitted { OnOk result (spec.emitted (meanings_of meanings.now) n (emitted_of self.old) statement
+            ≡ Ok (emitted_of self.new)) }
         ensures refused { IfErr result (λ fault. fault ≢ AsmFault.NoMemory
             → spec.emitted (meanings_of meanings.now) n (emitted_of self.old) statement ≡ Err fault) }
     {
@@ -375,7 +384,8 @@ pub fn emit_all(
     requires named { AreNamed (length meanings.now.sections.now) statements.now }
     requires names { AreNames (texts_in meanings.now.sections.now) }
     requires placed { ArePlaced (length meanings.now.spots.now) statements.now }
-    ensures emitted { IfOk result (λ e. spec.emitted_from (meanings_of meanings.now) 1 spec.nothing statements.now ≡ Ok (emitted_of e)) }
+    ensures emitted { IfOk result (λ e. spec.emitted_from (meanings_of meanings.now) 1 spec.nothing statements.now
+        ≡ Ok (emitted_of e)) }
     ensures refused { IfErr result (λ fault. fault ≢ AsmFault.NoMemory
         → spec.emitted_from (meanings_of meanings.now) 1 spec.nothing statements.now ≡ Err fault) }
 {

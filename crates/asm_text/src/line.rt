@@ -119,7 +119,8 @@ fn coded<'a>(
     first: Option<&'a [u8]>,
     second: Option<&'a [u8]>,
 ) -> Option<Statement<&'a [u8]>>
-    ensures { option_map with_texts result ≡ spec.coded insn (option_copied first.entry) (option_copied second.entry) }
+    ensures { option_map with_texts result ≡ spec.coded insn (option_copied first.entry)
+        (option_copied second.entry) }
 {
     if is_coded(insn) {
         Some(Statement::Code {

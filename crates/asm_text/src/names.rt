@@ -61,7 +61,8 @@ fn insert<'a>(
     name: &'a [u8],
     number: usize,
 ) -> Result<(), AllocError>
-    ensures { OnOk result ((q : List ℕ) → entry_of numbers.new q ≡ (if bytes_eq name.entry.now q then Some number else entry_of numbers.old q)) }
+    ensures { OnOk result ((q : List ℕ) → entry_of numbers.new q
+        ≡ (if bytes_eq name.entry.now q then Some number else entry_of numbers.old q)) }
 {
     numbers.insert(name, number)?;
     Ok(())

@@ -163,7 +163,8 @@ impl Layout {
     fn add_in_section(&mut self, n: u64, statement: Statement<usize>) -> Result<(), AsmFault>
         requires known { IsKnown (length self.old.spots.items) statement }
         requires small { AreSmall self.old.heads.items }
-        ensures placed { OnOk result (spec.in_section n (placed_of self.old) (spec.last_head self.old.heads.items) statement ≡ Ok (placed_of self.new)) }
+        ensures placed { OnOk result (spec.in_section n (placed_of self.old)
+            (spec.last_head self.old.heads.items) statement ≡ Ok (placed_of self.new)) }
         ensures refused { IfErr result (λ fault. fault ≢ AsmFault.NoMemory
             → spec.in_section n (placed_of self.old) (spec.last_head self.old.heads.items) statement ≡ Err fault) }
     {
@@ -203,7 +204,8 @@ pub fn place_all(
     statements: &[Statement<usize>],
 ) -> Result<Layout, AsmFault>
     requires known { AreKnown names statements.now }
-    ensures placed { IfOk result (λ layout. spec.placed_from 1 (spec.nowhere names) statements.now ≡ Ok (placed_of layout)) }
+    ensures placed { IfOk result (λ layout. spec.placed_from 1 (spec.nowhere names) statements.now
+        ≡ Ok (placed_of layout)) }
     ensures kept { IfOk result (λ layout. IsPlaced names (placed_of layout)) }
     ensures refused { IfErr result (λ fault. fault ≢ AsmFault.NoMemory
         → spec.placed_from 1 (spec.nowhere names) statements.now ≡ Err fault) }

@@ -35,8 +35,10 @@ fn number_option<'a>(
     name: Option<&'a [u8]>,
 ) -> Result<Option<usize>, AllocError>
     requires indexed { IsIndexed names.old }
-    ensures number { IfOk result (λ number. number ≡ numbering.number_option (texts_of names.old) (option_copied name.entry)) }
-    ensures noted { OnOk result (texts_of names.new ≡ numbering.noted_option (texts_of names.old) (option_copied name.entry)) }
+    ensures number { IfOk result (λ number. number ≡ numbering.number_option (texts_of names.old)
+        (option_copied name.entry)) }
+    ensures noted { OnOk result (texts_of names.new ≡ numbering.noted_option (texts_of names.old)
+        (option_copied name.entry)) }
     ensures indexed { OnOk result (IsIndexed names.new) }
 {
     match name {
@@ -53,8 +55,12 @@ fn number_field<'a>(
     field: Field<&'a [u8]>,
 ) -> Result<Statement<usize>, AllocError>
     requires indexed { IsIndexed names.old }
-    ensures number { IfOk result (λ s. (t : List (List ℕ)) → s ≡ numbering.numbered (record { sections = t; names = texts_of names.old }) (Statement.Word (field_with_text field.entry))) }
-    ensures noted { OnOk result ((t : List (List ℕ)) → record { sections = t; names = texts_of names.new } ≡ numbering.tables_after (record { sections = t; names = texts_of names.old }) (Statement.Word (field_with_text field.entry))) }
+    ensures number { IfOk result (λ s. (t : List (List ℕ)) →
+        s ≡ numbering.numbered (record { sections = t; names = texts_of names.old })
+        (Statement.Word (field_with_text field.entry))) }
+    ensures noted { OnOk result ((t : List (List ℕ)) → record { sections = t; names = texts_of names.new }
+        ≡ numbering.tables_after (record { sections = t; names = texts_of names.old })
+        (Statement.Word (field_with_text field.entry))) }
     ensures indexed { OnOk result (IsIndexed names.new) }
 {
     match field {
@@ -80,8 +86,10 @@ impl<'a> Tables<'a> {
     // A statement with its names by their numbers.
     fn number(&mut self, statement: Statement<&'a [u8]>) -> Result<Statement<usize>, AllocError>
         requires indexed { AreIndexed self.old }
-        ensures numbered { IfOk result (λ s. s ≡ numbering.numbered (tables_of self.old) (with_texts statement.entry)) }
-        ensures noted { OnOk result (tables_of self.new ≡ numbering.tables_after (tables_of self.old) (with_texts statement.entry)) }
+        ensures numbered { IfOk result (λ s. s ≡ numbering.numbered (tables_of self.old)
+            (with_texts statement.entry)) }
+        ensures noted { OnOk result (tables_of self.new ≡ numbering.tables_after (tables_of self.old)
+            (with_texts statement.entry)) }
         ensures indexed { OnOk result (AreIndexed self.new) }
     {
         match statement {

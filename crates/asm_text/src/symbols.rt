@@ -32,7 +32,8 @@ pub fn globals_of(
 ) -> Result<Vec<bool>, AllocError>
     requires known { AreKnown names statements.now }
     ensures length { IfOk result (λ globals. length globals.items ≡ names) }
-    ensures globals { IfOk result (λ globals. (k : ℕ) → k < names → slice_index_or globals.items k false ≡ spec.is_global statements.now k) }
+    ensures globals { IfOk result (λ globals. (k : ℕ) → k < names →
+        slice_index_or globals.items k false ≡ spec.is_global statements.now k) }
 {
     let mut globals = vec![in alloc; false; names]?;
     for statement in statements {
@@ -80,7 +81,8 @@ impl Order {
         requires few { length self.old.names.items + length labels.now < 2 ^ 32 }
         requires numbering { IsNumbering self.old.numbers.items self.old.names.items }
         ensures few { OnOk result (length self.new.names.items ≤ length self.old.names.items + length labels.now) }
-        ensures noted { OnOk result (self.new.names.items ≡ fold spec.once self.old.names.items (filter (spec.is_local globals.now) labels.now)) }
+        ensures noted { OnOk result (self.new.names.items ≡ fold spec.once self.old.names.items
+            (filter (spec.is_local globals.now) labels.now)) }
         ensures length { length self.new.numbers.items ≡ length self.old.numbers.items }
         ensures numbering { OnOk result (IsNumbering self.new.numbers.items self.new.names.items) }
     {
@@ -96,7 +98,8 @@ impl Order {
     fn note_all(&mut self) -> Result<(), AllocError>
         requires few { length self.old.names.items + length self.old.numbers.items < 2 ^ 32 }
         requires numbering { IsNumbering self.old.numbers.items self.old.names.items }
-        ensures noted { OnOk result (self.new.names.items ≡ fold spec.once self.old.names.items (spec.below (length self.old.numbers.items))) }
+        ensures noted { OnOk result (self.new.names.items ≡ fold spec.once self.old.names.items
+            (spec.below (length self.old.numbers.items))) }
         ensures length { length self.new.numbers.items ≡ length self.old.numbers.items }
         ensures numbering { OnOk result (IsNumbering self.new.numbers.items self.new.names.items) }
     {
@@ -118,7 +121,8 @@ pub fn order_of(
     requires length { length globals.now ≡ names }
     requires few_names { names ≤ 1048576 }
     requires few_labels { length labels.now ≤ 4096 }
-    ensures order { IfOk result (λ order. order.names.items ≡ fold spec.once (fold spec.once [] (filter (spec.is_local globals.now) labels.now)) (spec.below names)) }
+    ensures order { IfOk result (λ order. order.names.items
+        ≡ fold spec.once (fold spec.once [] (filter (spec.is_local globals.now) labels.now)) (spec.below names)) }
     ensures length { IfOk result (λ order. length order.numbers.items ≡ names) }
     ensures numbering { IfOk result (λ order. IsNumbering order.numbers.items order.names.items) }
 {
@@ -169,7 +173,9 @@ pub fn symbols_in(
     requires globals { length globals.now ≡ length names.now }
     requires spots { length spots.now ≡ length names.now }
     requires sections { (k : ℕ) (spot : Spot) → spot_of spots.now k ≡ Some spot → spot.section < 2 ^ 32 }
-    ensures { IfOk result (λ symbols. symbols_of symbols ≡ map (λ k. spec.symbol_by (slice_index_or globals.now k false) (slice_index_or (texts_in names.now) k []) (spot_of spots.now k)) order.now) }
+    ensures { IfOk result (λ symbols. symbols_of symbols ≡ map
+        (λ k. spec.symbol_by (slice_index_or globals.now k false) (slice_index_or (texts_in names.now) k [])
+        (spot_of spots.now k)) order.now) }
 {
     let mut symbols = Vec::new(alloc);
     for name in order {

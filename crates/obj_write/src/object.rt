@@ -69,7 +69,8 @@ fn flags_of(kind: SectionKind) -> usize
 
 // The names of the unit's sections.
 fn name_parts(strings: &mut Strings, sections: &[AsmSection]) -> Result<(), AllocError>
-    ensures { OnOk result ((names : List (List ℕ)) → IsTableOf names strings.old → IsTableOf (names ++ part_names (map section_of sections.now)) strings.new) }
+    ensures { OnOk result ((names : List (List ℕ)) → IsTableOf names strings.old →
+        IsTableOf (names ++ part_names (map section_of sections.now)) strings.new) }
 {
     for section in sections {
         strings.add(section.name.as_bytes(), &[])?;
@@ -79,7 +80,8 @@ fn name_parts(strings: &mut Strings, sections: &[AsmSection]) -> Result<(), Allo
 
 // The names of the three tables that each file has.
 fn name_tables(strings: &mut Strings) -> Result<(), AllocError>
-    ensures { OnOk result ((names : List (List ℕ)) → IsTableOf names strings.old → IsTableOf (names ++ table_names) strings.new) }
+    ensures { OnOk result ((names : List (List ℕ)) → IsTableOf names strings.old →
+        IsTableOf (names ++ table_names) strings.new) }
 {
     strings.add(b".symtab", &[])?;
     strings.add(b".strtab", &[])?;
@@ -94,7 +96,8 @@ fn name_relocations(
     relocated: &[usize],
 ) -> Result<(), AllocError>
     requires { All (λ i. i < length sections.now) relocated.now }
-    ensures { OnOk result ((names : List (List ℕ)) → IsTableOf names strings.old → IsTableOf (names ++ map (relocation_name (map section_of sections.now)) relocated.now) strings.new) }
+    ensures { OnOk result ((names : List (List ℕ)) → IsTableOf names strings.old →
+        IsTableOf (names ++ map (relocation_name (map section_of sections.now)) relocated.now) strings.new) }
 {
     for i in relocated {
         strings.add(b".rela", sections[*i].name.as_bytes())?;
@@ -135,7 +138,8 @@ fn part_head(section: &AsmSection, name: usize) -> Head
 // The sections of the unit.
 fn parts_of(alloc: Global, unit: &AsmUnit, names: &Strings) -> Result<Sections, AllocError>
     requires { IsTableOf (section_names (unit_of unit.now)) names.now }
-    ensures { IfOk result (AreSections (each_below (part_section (unit_of unit.now)) (length (unit_of unit.now).sections))) }
+    ensures { IfOk result
+        (AreSections (each_below (part_section (unit_of unit.now)) (length (unit_of unit.now).sections))) }
 {
     let mut sections = Sections::new(alloc);
     for (i, section) in unit.sections.iter().enumerate() {
@@ -189,7 +193,8 @@ fn add_tables(
     requires names { IsTableOf (section_names (unit_of unit.now)) names.now }
     requires strings { IsTableOf (symbol_names (unit_of unit.now).symbols) strings.now }
     requires symbols { symbols.now ≡ symbol_table (unit_of unit.now).symbols }
-    ensures { OnOk result ((done : List FileSection) → AreSections done sections.old → AreSections (done ++ table_sections (unit_of unit.now)) sections.new) }
+    ensures { OnOk result ((done : List FileSection) → AreSections done sections.old →
+        AreSections (done ++ table_sections (unit_of unit.now)) sections.new) }
 {
     let count = unit.sections.len();
     let head = symbols_head(names.place(count), symbols.len(), unit);
@@ -229,8 +234,11 @@ fn add_relocations(
 ) -> Result<(), AllocError>
     requires names { IsTableOf (section_names (unit_of unit.now)) names.now }
     requires relocated { relocated.now ≡ relocated_in (unit_of unit.now) }
-    requires tables { map (λ t. t.items) tables.now ≡ each_below (relocation_table (unit_of unit.now).relocations) (length (unit_of unit.now).sections) }
-    ensures { OnOk result ((done : List FileSection) → AreSections done sections.old → AreSections (done ++ each_below (relocation_section (unit_of unit.now)) (length (relocated_in (unit_of unit.now)))) sections.new) }
+    requires tables { map (λ t. t.items) tables.now ≡ each_below (relocation_table (unit_of unit.now).relocations)
+        (length (unit_of unit.now).sections) }
+    ensures { OnOk result ((done : List FileSection) → AreSections done sections.old →
+        AreSections (done ++ each_below (relocation_section (unit_of unit.now))
+        (length (relocated_in (unit_of unit.now)))) sections.new) }
 {
     let count = unit.sections.len();
     for (j, i) in relocated.iter().enumerate() {
@@ -282,7 +290,8 @@ fn file_sections(alloc: Global, unit: &AsmUnit) -> Result<Sections, AllocError>
 // The file of these sections, where the name table has this index.
 #[tactic(auto, unfolding(crate::specs::Object::file_of))]
 fn file_of(alloc: Global, sections: &Sections, names: usize) -> Result<Vec<u8>, AllocError>
-    ensures { IfOk result (λ v. (list : List FileSection) → AreSections list sections.now → v.items ≡ file_of list names) }
+    ensures { IfOk result (λ v. (list : List FileSection) → AreSections list sections.now →
+        v.items ≡ file_of list names) }
 {
     let mut out = Vec::new(alloc);
     let table = FILE_HEADER_SIZE + sections.contents.len();
@@ -299,7 +308,8 @@ fn file_of(alloc: Global, sections: &Sections, names: usize) -> Result<Vec<u8>, 
 pub fn write_object(alloc: Global, unit: &AsmUnit) -> Result<Vec<u8>, AllocError>
     ensures bytes { IfOk result (λ v. v.items ≡ object_of (unit_of unit.now)) }
     ensures sound { IfOk result (λ v. elf_fault_of v.items ≡ None) }
-    ensures object { IfOk result (λ v. (object : ObjectValue) → object.file ≡ v.items → IsObject object → IsObjectOf (unit_of unit.now) object) }
+    ensures object { IfOk result (λ v. (object : ObjectValue) → object.file ≡ v.items → IsObject object →
+        IsObjectOf (unit_of unit.now) object) }
 {
     let sections = file_sections(alloc, unit)?;
     let bytes = file_of(alloc, &sections, unit.sections.len() + 3)?;

@@ -49,7 +49,9 @@ fn empty_tables(alloc: Global, count: usize) -> Result<Vec<Vec<u8>>, AllocError>
 
 /// The sections that have relocations.
 pub fn relocated(alloc: Global, tables: &[Vec<u8>]) -> Result<Vec<usize>, AllocError>
-    ensures { (relocations : List AsmRelocation) → map (λ t. t.items) tables.now ≡ each_below (relocation_table relocations) (length tables.now) → IfOk result (λ v. v.items ≡ relocated relocations (length tables.now)) }
+    ensures { (relocations : List AsmRelocation) → map (λ t. t.items) tables.now
+        ≡ each_below (relocation_table relocations) (length tables.now) →
+        IfOk result (λ v. v.items ≡ relocated relocations (length tables.now)) }
 {
     let mut sections = Vec::new(alloc);
     for (i, table) in tables.iter().enumerate() {

@@ -80,7 +80,8 @@ impl Sections {
 
     /// Adds a section with this content at the place that comes next.
     pub fn add(&mut self, head: Head, content: &[u8]) -> Result<(), AllocError>
-        ensures { OnOk result ((sections : List FileSection) → AreSections sections self.old → AreSections (sections ++ record { head = head; content = content.now } ∷ []) self.new) }
+        ensures { OnOk result ((sections : List FileSection) → AreSections sections self.old →
+            AreSections (sections ++ record { head = head; content = content.now } ∷ []) self.new) }
     {
         let offset = FILE_HEADER_SIZE + self.contents.len();
         put_padded(&mut self.contents, content)?;
@@ -90,7 +91,8 @@ impl Sections {
 
     /// Writes the contents and then the table of headers.
     pub fn put(&self, out: &mut Vec<u8>) -> Result<(), AllocError>
-        ensures { OnOk result ((sections : List FileSection) → AreSections sections self.now → out.new.items ≡ out.old.items ++ (contents_of sections ++ header_table sections)) }
+        ensures { OnOk result ((sections : List FileSection) → AreSections sections self.now →
+            out.new.items ≡ out.old.items ++ (contents_of sections ++ header_table sections)) }
     {
         out.extend_from_slice(&self.contents)?;
         out.extend_from_slice(&[0; SECTION_HEADER_SIZE])?;

@@ -28,7 +28,8 @@ impl Strings {
 
     /// Adds a name that is `first` and then `rest`.
     pub fn add(&mut self, first: &[u8], rest: &[u8]) -> Result<(), AllocError>
-        ensures { OnOk result ((names : List (List ℕ)) → IsTableOf names self.old → IsTableOf (names ++ (first.now ++ rest.now) ∷ []) self.new) }
+        ensures { OnOk result ((names : List (List ℕ)) → IsTableOf names self.old →
+            IsTableOf (names ++ (first.now ++ rest.now) ∷ []) self.new) }
     {
         self.places.push(self.bytes.len())?;
         self.bytes.extend_from_slice(first)?;
@@ -40,7 +41,8 @@ impl Strings {
     /// Where the name of this index starts.
     #[tactic(auto, using(crate::proofs::TableLemmas::place_is))]
     pub fn place(&self, index: usize) -> usize
-        ensures { (names : List (List ℕ)) → IsTableOf names self.now → index < length names → result ≡ name_at names index }
+        ensures { (names : List (List ℕ)) → IsTableOf names self.now → index < length names →
+            result ≡ name_at names index }
     {
         self.places.get(index).copied().unwrap_or(0)
     }

@@ -58,9 +58,11 @@ pub trait Answering {
         out: &mut O,
     ) -> Result<Status, Refused<'_>>
         requires { bounds self.now }
-        ensures ok { IfOk result (λ status. IsRun (F.content files.old) (asked self.now) status (Took O.taken O.faults O.sure out.old out.new) (CutOff O.taken O.faults O.sure out.old out.new)) }
+        ensures ok { IfOk result (λ status. IsRun (F.content files.old) (asked self.now) status
+            (Took O.taken O.faults O.sure out.old out.new) (CutOff O.taken O.faults O.sure out.old out.new)) }
         ensures quiet { IfOk result (λ _. HasCause (F.faults files.old) (F.faults files.new) false) }
-        ensures refused { IfErr result (λ refused. IsCommandCause (F.content files.old) (F.faults files.old) (F.faults files.new) (asked self.now) refused.refusal (name_text refused.name)) }
+        ensures refused { IfErr result (λ refused. IsCommandCause (F.content files.old) (F.faults files.old)
+            (F.faults files.new) (asked self.now) refused.refusal (name_text refused.name)) }
         ensures nothing { IfErr result (λ _. out.new ≡ out.old) }
         ensures sound { IsTrue (F.sound files.old) → F.faults files.new ≡ F.faults files.old }
         ensures sound_read { IsTrue (F.sound files.old) → IfErr result (λ refused. refused.refusal ≢ CannotRead) }
@@ -143,7 +145,8 @@ fn command_by<'a>(
 
 // The command `make`, which borrows none of its words.
 fn make_line<'a>(alloc: Global, words: &[String]) -> Result<Option<CommandLine<'a>>, AllocError>
-    ensures command { IfOk result (λ o. option_map asked o ≡ option_and_then make_of (values_in 1 1 (drop 1 (texts words.now)))) }
+    ensures command { IfOk result (λ o. option_map asked o ≡ option_and_then make_of
+        (values_in 1 1 (drop 1 (texts words.now)))) }
     ensures bounds { IfOk result (λ o. IfSome o IsBounded) }
 {
     match make::read(alloc, words)? {

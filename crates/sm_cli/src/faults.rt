@@ -78,7 +78,8 @@ pub fn put_object_fault<S: Sink>(sink: &mut S, fault: ElfFault) -> Result<(), Fa
 
 // Puts a jump that is too far.
 fn put_far<S: Sink>(sink: &mut S, line: u64, value: i64) -> Result<(), Failed>
-    ensures { Puts S.taken S.faults S.sure sink.old sink.new ((codes "Far " ++ decimal line) ++ (codes " " ++ signed_decimal value)) result }
+    ensures { Puts S.taken S.faults S.sure sink.old sink.new ((codes "Far " ++ decimal line)
+        ++ (codes " " ++ signed_decimal value)) result }
 {
     match put_field(sink, b"Far ", line) {
         Ok(()) => put_signed(sink, b" ", value),
@@ -138,7 +139,8 @@ fn put_spot<S: Sink>(sink: &mut S, name: &[u8], spot: Spot) -> Result<(), Failed
 
 // Puts a value that is out of its range.
 fn put_value<S: Sink>(sink: &mut S, spot: Spot, value: i64) -> Result<(), Failed>
-    ensures { Puts S.taken S.faults S.sure sink.old sink.new (with_spot (codes "OutOfRange") spot ++ (codes " " ++ signed_decimal value)) result }
+    ensures { Puts S.taken S.faults S.sure sink.old sink.new (with_spot (codes "OutOfRange") spot
+        ++ (codes " " ++ signed_decimal value)) result }
 {
     match put_spot(sink, b"OutOfRange", spot) {
         Ok(()) => put_signed(sink, b" ", value),
@@ -192,7 +194,8 @@ fn put_refused_field<S: Sink>(
     numbers: &[u64],
     fault: RelocFault,
 ) -> Result<(), Failed>
-    ensures { Puts S.taken S.faults S.sure sink.old sink.new (with_numbers (codes "Reloc") numbers.now ++ (codes " " ++ reloc_fault_text fault)) result }
+    ensures { Puts S.taken S.faults S.sure sink.old sink.new (with_numbers (codes "Reloc") numbers.now
+        ++ (codes " " ++ reloc_fault_text fault)) result }
 {
     match put_numbers(sink, b"Reloc", numbers) {
         Ok(()) => {}
@@ -206,7 +209,8 @@ fn put_refused_field<S: Sink>(
 
 // Puts a region that has too little room.
 fn put_full_region<S: Sink>(sink: &mut S, region: Region, numbers: &[u64]) -> Result<(), Failed>
-    ensures { Puts S.taken S.faults S.sure sink.old sink.new (codes "Region " ++ with_numbers (region_text region) numbers.now) result }
+    ensures { Puts S.taken S.faults S.sure sink.old sink.new (codes "Region "
+        ++ with_numbers (region_text region) numbers.now) result }
 {
     match put_all(sink, b"Region ") {
         Ok(()) => {}

@@ -44,7 +44,8 @@ fn put_table_fault<S: Sink>(sink: &mut S, fault: TableFault) -> Result<(), Faile
 }
 
 fn put_refused_module<S: Sink>(sink: &mut S, id: u64, fault: TableFault) -> Result<(), Failed>
-    ensures { Puts S.taken S.faults S.sure sink.old sink.new ((codes "Table " ++ decimal id) ++ (codes " " ++ table_fault_text fault)) result }
+    ensures { Puts S.taken S.faults S.sure sink.old sink.new ((codes "Table " ++ decimal id)
+        ++ (codes " " ++ table_fault_text fault)) result }
 {
     match put_field(sink, b"Table ", id) {
         Ok(()) => {}
@@ -163,7 +164,8 @@ pub fn put_named<S: Sink>(
 }
 
 fn put_bad_file<S: Sink>(sink: &mut S, name: &[u8], fault: FileFault) -> Result<(), Failed>
-    ensures { Puts S.taken S.faults S.sure sink.old sink.new ((codes "sancus: bad file " ++ (name.now ++ codes ": ")) ++ (fault_text fault ++ codes "\n")) result }
+    ensures { Puts S.taken S.faults S.sure sink.old sink.new ((codes "sancus: bad file " ++ (name.now ++ codes ": "))
+        ++ (fault_text fault ++ codes "\n")) result }
 {
     match put_named(sink, b"sancus: bad file ", name, b": ") {
         Ok(()) => {}
@@ -191,7 +193,8 @@ fn put_symbol<S: Sink>(sink: &mut S, fault: LinkFault, name: &[u8]) -> Result<()
 }
 
 fn put_link_refusal<S: Sink>(sink: &mut S, fault: LinkFault, name: &[u8]) -> Result<(), Failed>
-    ensures { Puts S.taken S.faults S.sure sink.old sink.new (codes "sancus: link " ++ (link_fault_text fault ++ link_end fault name.now)) result }
+    ensures { Puts S.taken S.faults S.sure sink.old sink.new (codes "sancus: link "
+        ++ (link_fault_text fault ++ link_end fault name.now)) result }
 {
     match put_all(sink, b"sancus: link ") {
         Ok(()) => {}
@@ -205,7 +208,8 @@ fn put_link_refusal<S: Sink>(sink: &mut S, fault: LinkFault, name: &[u8]) -> Res
 
 /// Puts the line of a refusal.
 pub fn put_refusal<S: Sink>(sink: &mut S, refused: &Refused<'_>) -> Result<(), Failed>
-    ensures { Puts S.taken S.faults S.sure sink.old sink.new (line_of refused.now.refusal (name_text refused.now.name)) result }
+    ensures { Puts S.taken S.faults S.sure sink.old sink.new
+        (line_of refused.now.refusal (name_text refused.now.name)) result }
 {
     let name = refused.name.as_str().as_bytes();
     match refused.refusal {

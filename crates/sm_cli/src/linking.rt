@@ -26,7 +26,8 @@ pub fn linked_image<'a>(
     requires small { All IsSmall objects.now }
     ensures sound { OnOk result (link_fault_of (layout_of layout.now) objects.now ≡ None) }
     ensures image { IfOk result (λ image. image ≡ linked_image (layout_of layout.now) objects.now) }
-    ensures refused { IfErr result (λ refused. IsUnlinked (layout_of layout.now) objects.now refused.refusal (name_text refused.name)) }
+    ensures refused { IfErr result (λ refused. IsUnlinked (layout_of layout.now) objects.now refused.refusal
+        (name_text refused.name)) }
 {
     match link(alloc, layout, objects) {
         Ok(image) => Ok(image),

@@ -189,9 +189,11 @@ pub fn load<'a, C: Content, F: Files>(
 ) -> Result<C, Refused<'a>>
     ensures holds { IfOk result (λ value. Holds (F.content files.old) (need name.now C.kind) (C.held value)) }
     ensures quiet { IfOk result (λ _. HasCause (F.faults files.old) (F.faults files.new) false) }
-    ensures refused { IfErr result (λ refused. IsNeedCause (F.content files.old) (F.faults files.old) (F.faults files.new) (need name.now C.kind ∷ []) refused.refusal (name_text refused.name)) }
+    ensures refused { IfErr result (λ refused. IsNeedCause (F.content files.old) (F.faults files.old)
+        (F.faults files.new) (need name.now C.kind ∷ []) refused.refusal (name_text refused.name)) }
     ensures sound { IsTrue (F.sound files.old) → F.faults files.new ≡ F.faults files.old }
-    ensures sound_read { IsTrue (F.sound files.old) → IfErr result (λ refused. refused.refusal ≢ Refusal.CannotRead) }
+    ensures sound_read { IsTrue (F.sound files.old) →
+        IfErr result (λ refused. refused.refusal ≢ Refusal.CannotRead) }
     ensures same_sound { F.sound files.new ≡ F.sound files.old }
     ensures same_files { F.content files.new ≡ F.content files.old }
 {
@@ -222,13 +224,16 @@ pub fn load_with<'a, F: Files>(
     id: u16,
     files: &mut F,
 ) -> Result<Chosen, Refused<'a>>
-    ensures holds { IfOk result (λ chosen. Holds (F.content files.old) (need name.now (image_with id)) (an_image chosen.image)) }
+    ensures holds { IfOk result (λ chosen. Holds (F.content files.old) (need name.now (image_with id))
+        (an_image chosen.image)) }
     ensures chosen { IfOk result (λ chosen. module_of id chosen.image.table ≡ Some chosen.«module») }
     ensures sections { IfOk result (λ chosen. IsModule chosen.image.table.given chosen.«module») }
     ensures quiet { IfOk result (λ _. HasCause (F.faults files.old) (F.faults files.new) false) }
-    ensures refused { IfErr result (λ refused. IsNeedCause (F.content files.old) (F.faults files.old) (F.faults files.new) (need name.now (image_with id) ∷ []) refused.refusal (name_text refused.name)) }
+    ensures refused { IfErr result (λ refused. IsNeedCause (F.content files.old) (F.faults files.old)
+        (F.faults files.new) (need name.now (image_with id) ∷ []) refused.refusal (name_text refused.name)) }
     ensures sound { IsTrue (F.sound files.old) → F.faults files.new ≡ F.faults files.old }
-    ensures sound_read { IsTrue (F.sound files.old) → IfErr result (λ refused. refused.refusal ≢ Refusal.CannotRead) }
+    ensures sound_read { IsTrue (F.sound files.old) →
+        IfErr result (λ refused. refused.refusal ≢ Refusal.CannotRead) }
     ensures same_sound { F.sound files.new ≡ F.sound files.old }
     ensures same_files { F.content files.new ≡ F.content files.old }
 {
@@ -251,11 +256,14 @@ pub fn load_schedule<'a, F: Files>(
     schedule: Option<&'a str>,
     files: &mut F,
 ) -> Result<Schedule, Refused<'a>>
-    ensures entries { IfOk result (λ read. IsScheduleOf (F.content files.old) (option_copied schedule.entry) read.entries.items) }
+    ensures entries { IfOk result (λ read. IsScheduleOf (F.content files.old)
+        (option_copied schedule.entry) read.entries.items) }
     ensures quiet { IfOk result (λ _. HasCause (F.faults files.old) (F.faults files.new) false) }
-    ensures refused { IfErr result (λ refused. IsNeedCause (F.content files.old) (F.faults files.old) (F.faults files.new) (schedule_needs (option_copied schedule.entry)) refused.refusal (name_text refused.name)) }
+    ensures refused { IfErr result (λ refused. IsNeedCause (F.content files.old) (F.faults files.old)
+        (F.faults files.new) (schedule_needs (option_copied schedule.entry)) refused.refusal (name_text refused.name)) }
     ensures sound { IsTrue (F.sound files.old) → F.faults files.new ≡ F.faults files.old }
-    ensures sound_read { IsTrue (F.sound files.old) → IfErr result (λ refused. refused.refusal ≢ Refusal.CannotRead) }
+    ensures sound_read { IsTrue (F.sound files.old) →
+        IfErr result (λ refused. refused.refusal ≢ Refusal.CannotRead) }
     ensures same_sound { F.sound files.new ≡ F.sound files.old }
     ensures same_files { F.content files.new ≡ F.content files.old }
 {
@@ -273,13 +281,16 @@ pub fn load_objects<'a, F: Files>(
     names: &[&'a str],
     files: &mut F,
 ) -> Result<Vec<Object>, Refused<'a>>
-    ensures hold { IfOk result (λ objects. HoldAll (F.content files.old) (object_needs (map (λ n. n.now) names.now)) (map an_object objects.items)) }
+    ensures hold { IfOk result (λ objects. HoldAll (F.content files.old) (object_needs (map (λ n. n.now) names.now))
+        (map an_object objects.items)) }
     ensures small { IfOk result (λ objects. All IsSmall objects.items) }
     ensures count { IfOk result (λ objects. length objects.items ≡ length names.now) }
     ensures quiet { IfOk result (λ _. HasCause (F.faults files.old) (F.faults files.new) false) }
-    ensures refused { IfErr result (λ refused. IsNeedCause (F.content files.old) (F.faults files.old) (F.faults files.new) (object_needs (map (λ n. n.now) names.now)) refused.refusal (name_text refused.name)) }
+    ensures refused { IfErr result (λ refused. IsNeedCause (F.content files.old) (F.faults files.old)
+        (F.faults files.new) (object_needs (map (λ n. n.now) names.now)) refused.refusal (name_text refused.name)) }
     ensures sound { IsTrue (F.sound files.old) → F.faults files.new ≡ F.faults files.old }
-    ensures sound_read { IsTrue (F.sound files.old) → IfErr result (λ refused. refused.refusal ≢ Refusal.CannotRead) }
+    ensures sound_read { IsTrue (F.sound files.old) →
+        IfErr result (λ refused. refused.refusal ≢ Refusal.CannotRead) }
     ensures same_sound { F.sound files.new ≡ F.sound files.old }
     ensures same_files { F.content files.new ≡ F.content files.old }
 {
@@ -308,9 +319,12 @@ fn read_file<'a, F: Files>(
     ensures bytes { IfOk result (λ bytes. HasFile (F.content files.old) name.now bytes.items) }
     ensures short { IfOk result (λ bytes. length bytes.items ≤ most_bytes) }
     ensures quiet { IfOk result (λ _. HasCause (F.faults files.old) (F.faults files.new) false) }
-    ensures refused { IfErr result (λ refused. (kind : Kind) → IsNeedCause (F.content files.old) (F.faults files.old) (F.faults files.new) (need name.now kind ∷ []) refused.refusal (name_text refused.name)) }
+    ensures refused { IfErr result (λ refused. (kind : Kind) →
+        IsNeedCause (F.content files.old) (F.faults files.old) (F.faults files.new)
+        (need name.now kind ∷ []) refused.refusal (name_text refused.name)) }
     ensures sound { IsTrue (F.sound files.old) → F.faults files.new ≡ F.faults files.old }
-    ensures sound_read { IsTrue (F.sound files.old) → IfErr result (λ refused. refused.refusal ≢ Refusal.CannotRead) }
+    ensures sound_read { IsTrue (F.sound files.old) →
+        IfErr result (λ refused. refused.refusal ≢ Refusal.CannotRead) }
     ensures same_sound { F.sound files.new ≡ F.sound files.old }
     ensures same_files { F.content files.new ≡ F.content files.old }
 {

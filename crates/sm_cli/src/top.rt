@@ -46,70 +46,96 @@ pub fn serve<F: Files, O: Sink, E: Sink>(
     // machine, and `err` nothing, but for faults outside and want of memory; and for every image that differs in one
     // confined module's data alone, whose calls give the same registers in the same cycles, it is the same trace, with
     // equal views of all but that module at every cycle.
-    ensures headline { (value : ImageValue) (entries : List EntryValue) (cycles : ℕ) → IsInput (texts words.now) (F.content files.old) value entries cycles →
-        ¬ (Rose (F.faults files.old) (F.faults files.new)) → ¬ (Rose (O.faults out.old) (O.faults out.new)) → ¬ (Rose (E.faults err.old) (E.faults err.new)) → result ≢ Status.NoMemory →
-        (Took O.taken O.faults O.sure out.old out.new (trace value entries cycles) × (err.new ≡ err.old) × (result ≡ run_status (is_some (at value entries cycles).stop)))
+    ensures headline { (value : ImageValue) (entries : List EntryValue) (cycles : ℕ) →
+        IsInput (texts words.now) (F.content files.old) value entries cycles →
+        ¬ (Rose (F.faults files.old) (F.faults files.new)) → ¬ (Rose (O.faults out.old) (O.faults out.new)) →
+        ¬ (Rose (E.faults err.old) (E.faults err.new)) → result ≢ Status.NoMemory →
+        (Took O.taken O.faults O.sure out.old out.new (trace value entries cycles) × (err.new ≡ err.old)
+        × (result ≡ run_status (is_some (at value entries cycles).stop)))
         × ((other : ImageValue) (m : ℕ) → Peers value other m →
         Took O.taken O.faults O.sure out.old out.new (trace other entries cycles)
-        × ((k : ℕ) → k ≤ cycles → view_of (at value entries k) (Only m) ≡ view_of (at other entries k) (Only m))) }
+        × ((k : ℕ) → k ≤ cycles →
+        view_of (at value entries k) (Only m) ≡ view_of (at other entries k) (Only m))) }
 
-    // The same of a script: `out` takes exactly what it writes on the written machine from the start of the image, with room for
-    // 16 marks, and the same from the start of every image that differs so.
-    ensures scripts { (value : ImageValue) (entries : List EntryValue) (script : List ScriptLineValue) → IsScriptInput (texts words.now) (F.content files.old) value entries script →
-        ¬ (Rose (F.faults files.old) (F.faults files.new)) → ¬ (Rose (O.faults out.old) (O.faults out.new)) → ¬ (Rose (E.faults err.old) (E.faults err.new)) → result ≢ Status.NoMemory →
-        (Took O.taken O.faults O.sure out.old out.new (play (start_of value entries) script) × (err.new ≡ err.old) × (result ≡ (script_answer value entries script).status))
-        × ((other : ImageValue) (m : ℕ) → Peers value other m → Took O.taken O.faults O.sure out.old out.new (play (start_of other entries) script)) }
+    // The same of a script: `out` takes exactly what it writes on the written machine from the start of the image, with
+    // room for 16 marks, and the same from the start of every image that differs so.
+    ensures scripts { (value : ImageValue) (entries : List EntryValue) (script : List ScriptLineValue) →
+        IsScriptInput (texts words.now) (F.content files.old) value entries script →
+        ¬ (Rose (F.faults files.old) (F.faults files.new)) → ¬ (Rose (O.faults out.old) (O.faults out.new)) →
+        ¬ (Rose (E.faults err.old) (E.faults err.new)) → result ≢ Status.NoMemory →
+        (Took O.taken O.faults O.sure out.old out.new (play (start_of value entries) script) × (err.new ≡ err.old)
+        × (result ≡ (script_answer value entries script).status))
+        × ((other : ImageValue) (m : ℕ) → Peers value other m →
+        Took O.taken O.faults O.sure out.old out.new (play (start_of other entries) script)) }
 
-    // A module by itself: where its check is answered yes, every image that differs in that module's data alone is a peer.
+    // A module by itself: where its check is answered yes, every image that differs in its data alone is a peer.
     ensures checked { result ≡ Status.Done → (value other : ImageValue) (id : ℕ) (owner : ModuleValue) →
-        IsCheck (texts words.now) (F.content files.old) value id → DifferInData value other id owner → Peers value other id }
+        IsCheck (texts words.now) (F.content files.old) value id →
+        DifferInData value other id owner → Peers value other id }
     ensures balanced { result ≡ Status.Done → (value other : ImageValue) (id : ℕ) (owner : ModuleValue) →
-        IsBalance (texts words.now) (F.content files.old) value id → DifferInData value other id owner → Peers value other id }
+        IsBalance (texts words.now) (F.content files.old) value id →
+        DifferInData value other id owner → Peers value other id }
 
     // An answer: the words are a command that its files serve; `out` took its output, and `err` nothing.
-    ensures done { result ≡ Status.Done → Serves (call_of (texts words.now) (F.content files.old) (F.faults files.old) (F.faults files.new)) Status.Done
-        (Took O.taken O.faults O.sure out.old out.new) × (err.new ≡ err.old) }
-    ensures stopped { result ≡ Status.Stopped → Serves (call_of (texts words.now) (F.content files.old) (F.faults files.old) (F.faults files.new)) Status.Stopped
-        (Took O.taken O.faults O.sure out.old out.new) × (err.new ≡ err.old) }
-
-    ensures check_no { result ≡ Status.CheckNo → Serves (call_of (texts words.now) (F.content files.old) (F.faults files.old) (F.faults files.new)) Status.CheckNo
-        (Took O.taken O.faults O.sure out.old out.new) × (err.new ≡ err.old) }
+    ensures done { result ≡ Status.Done →
+        let call = call_of (texts words.now) (F.content files.old) (F.faults files.old) (F.faults files.new) in
+        Serves call Status.Done (Took O.taken O.faults O.sure out.old out.new) × (err.new ≡ err.old) }
+    ensures stopped { result ≡ Status.Stopped →
+        let call = call_of (texts words.now) (F.content files.old) (F.faults files.old) (F.faults files.new) in
+        Serves call Status.Stopped (Took O.taken O.faults O.sure out.old out.new) × (err.new ≡ err.old) }
+    ensures check_no { result ≡ Status.CheckNo →
+        let call = call_of (texts words.now) (F.content files.old) (F.faults files.old) (F.faults files.new) in
+        Serves call Status.CheckNo (Took O.taken O.faults O.sure out.old out.new) × (err.new ≡ err.old) }
 
     // A refusal: it has its cause; `err` took its line, and `out` nothing.
-    ensures usage { result ≡ Status.Usage → Refuses (call_of (texts words.now) (F.content files.old) (F.faults files.old) (F.faults files.new)) Status.Usage
-        (Took E.taken E.faults E.sure err.old err.new) × (out.new ≡ out.old) }
-    ensures bad_file { result ≡ Status.BadFile → Refuses (call_of (texts words.now) (F.content files.old) (F.faults files.old) (F.faults files.new)) Status.BadFile
-        (Took E.taken E.faults E.sure err.old err.new) × (out.new ≡ out.old) }
-    ensures link_refused { result ≡ Status.LinkRefused → Refuses (call_of (texts words.now) (F.content files.old) (F.faults files.old) (F.faults files.new)) Status.LinkRefused
-        (Took E.taken E.faults E.sure err.old err.new) × (out.new ≡ out.old) }
-    ensures read_fault { result ≡ Status.ReadFault → Refuses (call_of (texts words.now) (F.content files.old) (F.faults files.old) (F.faults files.new)) Status.ReadFault
-        (Took E.taken E.faults E.sure err.old err.new) × (out.new ≡ out.old) }
-    ensures no_memory { result ≡ Status.NoMemory → Refuses (call_of (texts words.now) (F.content files.old) (F.faults files.old) (F.faults files.new)) Status.NoMemory
-        (Took E.taken E.faults E.sure err.old err.new) × (out.new ≡ out.old) }
+    ensures usage { result ≡ Status.Usage →
+        let call = call_of (texts words.now) (F.content files.old) (F.faults files.old) (F.faults files.new) in
+        Refuses call Status.Usage (Took E.taken E.faults E.sure err.old err.new) × (out.new ≡ out.old) }
+    ensures bad_file { result ≡ Status.BadFile →
+        let call = call_of (texts words.now) (F.content files.old) (F.faults files.old) (F.faults files.new) in
+        Refuses call Status.BadFile (Took E.taken E.faults E.sure err.old err.new) × (out.new ≡ out.old) }
+    ensures link_refused { result ≡ Status.LinkRefused →
+        let call = call_of (texts words.now) (F.content files.old) (F.faults files.old) (F.faults files.new) in
+        Refuses call Status.LinkRefused (Took E.taken E.faults E.sure err.old err.new) × (out.new ≡ out.old) }
+    ensures read_fault { result ≡ Status.ReadFault →
+        let call = call_of (texts words.now) (F.content files.old) (F.faults files.old) (F.faults files.new) in
+        Refuses call Status.ReadFault (Took E.taken E.faults E.sure err.old err.new) × (out.new ≡ out.old) }
+    ensures no_memory { result ≡ Status.NoMemory →
+        let call = call_of (texts words.now) (F.content files.old) (F.faults files.old) (F.faults files.new) in
+        Refuses call Status.NoMemory (Took E.taken E.faults E.sure err.old err.new) × (out.new ≡ out.old) }
 
     // A fault of a sink: `out` took a front of the output, or `err` one of the line of a refusal that has its cause.
     ensures write_fault { result ≡ Status.WriteFault →
-        ((ended : Statuses) × Serves (call_of (texts words.now) (F.content files.old) (F.faults files.old) (F.faults files.new)) ended (CutOff O.taken O.faults O.sure out.old out.new) × (err.new ≡ err.old))
-        ⊎ ((ended : Statuses) × Refuses (call_of (texts words.now) (F.content files.old) (F.faults files.old) (F.faults files.new)) ended (CutOff E.taken E.faults E.sure err.old err.new) × (out.new ≡ out.old)) }
+        let call = call_of (texts words.now) (F.content files.old) (F.faults files.old) (F.faults files.new) in
+        ((ended : Statuses) × Serves call ended (CutOff O.taken O.faults O.sure out.old out.new)
+        × (err.new ≡ err.old))
+        ⊎ ((ended : Statuses) × Refuses call ended (CutOff E.taken E.faults E.sure err.old err.new)
+        × (out.new ≡ out.old)) }
 
     // Completeness: what the words and the files call for is answered, but for faults outside and want of memory.
     ensures complete_usage { command_of (texts words.now) ≡ None → IsOrOutside Status.Usage result }
     ensures complete_bad_file { (map : FileMap) (command : Command) (name : List ℕ) (fault : FileFaults) →
-        F.content files.old ≡ Some map → command_of (texts words.now) ≡ Some command → IsFirstFault (Some map) command.needs name fault →
-        IsOrOutside Status.BadFile result }
+        F.content files.old ≡ Some map → command_of (texts words.now) ≡ Some command →
+        IsFirstFault (Some map) command.needs name fault → IsOrOutside Status.BadFile result }
     ensures complete_link_refused { (map : FileMap) (command : Command) (fault : LinkFaults) (name : List ℕ) →
-        F.content files.old ≡ Some map → command_of (texts words.now) ≡ Some command → Comes (Some map) command (refuses fault name) →
-        IsOrOutside Status.LinkRefused result }
+        F.content files.old ≡ Some map → command_of (texts words.now) ≡ Some command →
+        Comes (Some map) command (refuses fault name) → IsOrOutside Status.LinkRefused result }
     ensures complete { (map : FileMap) (command : Command) (answer : Answer) →
-        F.content files.old ≡ Some map → command_of (texts words.now) ≡ Some command → IsAnswer (Some map) command answer →
-        Completes result answer (Took O.taken O.faults O.sure out.old out.new) (CutOff O.taken O.faults O.sure out.old out.new)
-        ((ended : Statuses) × Refuses (call_of (texts words.now) (F.content files.old) (F.faults files.old) (F.faults files.new)) ended (CutOff E.taken E.faults E.sure err.old err.new)) }
+        F.content files.old ≡ Some map → command_of (texts words.now) ≡ Some command →
+        IsAnswer (Some map) command answer →
+        let call = call_of (texts words.now) (F.content files.old) (F.faults files.old) (F.faults files.new) in
+        Completes result answer
+        (Took O.taken O.faults O.sure out.old out.new) (CutOff O.taken O.faults O.sure out.old out.new)
+        ((ended : Statuses) × Refuses call ended (CutOff E.taken E.faults E.sure err.old err.new)) }
 
     // Files that are sound are read without a fault, and sinks that are sure of enough take all.
-    ensures sound { IsTrue (F.sound files.old) → (result ≢ Status.ReadFault) × (F.faults files.new ≡ F.faults files.old) }
-    ensures sure { IsTrue (F.sound files.old) → IsRoomForAnswer (texts words.now) (F.content files.old) (O.sure out.old)
-        → IsRoomForLine (call_of (texts words.now) (F.content files.old) (F.faults files.old) (F.faults files.new)) (E.sure err.old)
-        → (result ≢ Status.WriteFault) × (O.faults out.new ≡ O.faults out.old) × (E.faults err.new ≡ E.faults err.old) }
+    ensures sound { IsTrue (F.sound files.old) →
+        (result ≢ Status.ReadFault) × (F.faults files.new ≡ F.faults files.old) }
+    ensures sure { IsTrue (F.sound files.old) →
+        let call = call_of (texts words.now) (F.content files.old) (F.faults files.old) (F.faults files.new) in
+        IsRoomForAnswer (texts words.now) (F.content files.old) (O.sure out.old) →
+        IsRoomForLine call (E.sure err.old) →
+        (result ≢ Status.WriteFault) × (O.faults out.new ≡ O.faults out.old) × (E.faults err.new ≡ E.faults err.old) }
     ensures same_sound { F.sound files.new ≡ F.sound files.old }
     ensures same_files { F.content files.new ≡ F.content files.old }
     ensures unread { result ≡ Status.Usage → files.new ≡ files.old }
@@ -143,8 +169,11 @@ pub fn serve<F: Files, O: Sink, E: Sink>(
 
 // Puts the line of a refusal, and gives its status.
 fn tell<E: Sink>(err: &mut E, refused: Refused<'_>) -> Status
-    ensures told { (result ≡ status_of refused.entry.refusal) × Took E.taken E.faults E.sure err.old err.new (line_of refused.entry.refusal (name_text refused.entry.name))
-        ⊎ ((result ≡ Status.WriteFault) × CutOff E.taken E.faults E.sure err.old err.new (line_of refused.entry.refusal (name_text refused.entry.name))) }
+    ensures told { (result ≡ status_of refused.entry.refusal)
+        × Took E.taken E.faults E.sure err.old err.new (line_of refused.entry.refusal (name_text refused.entry.name))
+        ⊎ ((result ≡ Status.WriteFault)
+        × CutOff E.taken E.faults E.sure err.old err.new (line_of refused.entry.refusal
+        (name_text refused.entry.name))) }
 {
     match put_refusal(err, &refused) {
         Ok(()) => status_for(refused.refusal),

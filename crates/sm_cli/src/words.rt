@@ -33,7 +33,8 @@ pub fn values_of<'a>(
     requires several { 1 < most }
     requires some { 0 < least }
     requires order { least ≤ most }
-    ensures { IfOk result (λ o. option_map (λ v. map (λ w. w.now) v.items) o ≡ values_in least most (drop 1 (map string_bytes words.entry.now))) }
+    ensures { IfOk result (λ o. option_map (λ v. map (λ w. w.now) v.items) o
+        ≡ values_in least most (drop 1 (map string_bytes words.entry.now))) }
 {
     let command = simple_command(alloc, least, most)?;
     match command.try_get_matches_from(words) {

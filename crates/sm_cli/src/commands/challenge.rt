@@ -24,7 +24,8 @@ pub fn read<'a>(
     alloc: Global,
     words: &'a [String],
 ) -> Result<Option<ChallengeCommand<'a>>, AllocError>
-    ensures { IfOk result (λ o. option_map challenge_asked o ≡ option_and_then challenge_of (values_in 1 1 (drop 1 (texts words.entry.now)))) }
+    ensures { IfOk result (λ o. option_map challenge_asked o
+        ≡ option_and_then challenge_of (values_in 1 1 (drop 1 (texts words.entry.now)))) }
 {
     match values_of(alloc, words, 1, 2)? {
         Some(values) => Ok(command_in(values.as_slice())),

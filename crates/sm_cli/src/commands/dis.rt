@@ -30,7 +30,8 @@ pub struct DisCommand<'a> {
 
 /// The arguments that the words after the first are.
 pub fn read<'a>(alloc: Global, words: &'a [String]) -> Result<Option<DisCommand<'a>>, AllocError>
-    ensures command { IfOk result (λ o. option_map dis_asked o ≡ option_and_then dis_of (values_in 3 3 (drop 1 (texts words.entry.now)))) }
+    ensures command { IfOk result (λ o. option_map dis_asked o
+        ≡ option_and_then dis_of (values_in 3 3 (drop 1 (texts words.entry.now)))) }
     ensures bounds { IfOk result (λ o. IfSome o (λ c. c.start % 2 ≡ 0)) }
 {
     match values_of(alloc, words, 3, 3)? {

@@ -25,7 +25,8 @@ pub struct ImageCommand<'a> {
 
 /// The arguments that the words after the first are.
 pub fn read<'a>(alloc: Global, words: &'a [String]) -> Result<Option<ImageCommand<'a>>, AllocError>
-    ensures command { IfOk result (λ o. option_map image_asked o ≡ option_and_then image_of (values_in 3 3 (drop 1 (texts words.entry.now)))) }
+    ensures command { IfOk result (λ o. option_map image_asked o
+        ≡ option_and_then image_of (values_in 3 3 (drop 1 (texts words.entry.now)))) }
     ensures bounds { IfOk result (λ o. IfSome o (λ c. c.cycles ≤ 1000000000)) }
 {
     match values_of(alloc, words, 3, 3)? {
@@ -83,7 +84,8 @@ impl Answering for ImageCommand<'_> {
 /// Runs the board and puts its trace.
 pub fn put_trace<O: Sink>(board: Board, cycles: u64, out: &mut O) -> Status
     requires { board.present.cycle + cycles ≤ 4611686018427387904 }
-    ensures { EndsAs result (answer_from board.present cycles) (Took O.taken O.faults O.sure out.old out.new) (CutOff O.taken O.faults O.sure out.old out.new) }
+    ensures { EndsAs result (answer_from board.present cycles) (Took O.taken O.faults O.sure out.old out.new)
+        (CutOff O.taken O.faults O.sure out.old out.new) }
 {
     let mut board = board;
     let status = match board.run(cycles, out) {

@@ -26,7 +26,8 @@ pub struct KeyCommand<'a> {
 
 /// The arguments that the words after the first are.
 pub fn read<'a>(alloc: Global, words: &'a [String]) -> Result<Option<KeyCommand<'a>>, AllocError>
-    ensures { IfOk result (λ o. option_map key_asked o ≡ option_and_then key_of (values_in 2 2 (drop 1 (texts words.entry.now)))) }
+    ensures { IfOk result (λ o. option_map key_asked o ≡ option_and_then key_of
+        (values_in 2 2 (drop 1 (texts words.entry.now)))) }
 {
     match values_of(alloc, words, 2, 2)? {
         Some(values) => Ok(command_in(values.as_slice())),

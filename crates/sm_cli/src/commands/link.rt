@@ -22,7 +22,8 @@ pub struct LinkCommand<'a> {
 
 /// The arguments that the words after the first are.
 pub fn read<'a>(alloc: Global, words: &'a [String]) -> Result<Option<LinkCommand<'a>>, AllocError>
-    ensures command { IfOk result (λ o. option_map link_asked o ≡ option_and_then link_of (values_in 2 65 (drop 1 (texts words.entry.now)))) }
+    ensures command { IfOk result (λ o. option_map link_asked o
+        ≡ option_and_then link_of (values_in 2 65 (drop 1 (texts words.entry.now)))) }
     ensures bounds { IfOk result (λ o. IfSome o (λ c. length c.objects.items ≤ 64)) }
 {
     match values_of(alloc, words, 2, 65)? {

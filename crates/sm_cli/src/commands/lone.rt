@@ -40,7 +40,8 @@ pub struct LoneCommand<'a> {
 
 /// The arguments that the words after the first are. More than fourteen pairs name some register twice.
 pub fn read<'a>(alloc: Global, words: &'a [String]) -> Result<Option<LoneCommand<'a>>, AllocError>
-    ensures command { IfOk result (λ o. option_map lone_asked o ≡ option_and_then lone_of (values_in 3 17 (drop 1 (texts words.entry.now)))) }
+    ensures command { IfOk result (λ o. option_map lone_asked o
+        ≡ option_and_then lone_of (values_in 3 17 (drop 1 (texts words.entry.now)))) }
     ensures bounds { IfOk result (λ o. IfSome o (λ c. c.limit ≤ MAX_CYCLES)) }
 {
     match values_of(alloc, words, 3, 17)? {
@@ -69,7 +70,8 @@ fn command_with<'a>(
     pairs: Option<Vec<Pair>>,
 ) -> Option<LoneCommand<'a>>
     requires { IfSome limit (λ l. l ≤ MAX_CYCLES) }
-    ensures command { option_map lone_asked result ≡ lone_with image.entry.now id limit (option_map (λ pairs. pairs.items) pairs) }
+    ensures command { option_map lone_asked result ≡ lone_with image.entry.now id limit
+        (option_map (λ pairs. pairs.items) pairs) }
     ensures bounds { IfSome result (λ c. c.limit ≤ MAX_CYCLES) }
 {
     Some(LoneCommand {

@@ -40,7 +40,8 @@ pub struct MakeCommand {
 /// The argument that the words after the first are.
 #[tactic(auto, using(crate::proofs::OneValue::one_seed))]
 pub fn read(alloc: Global, words: &[String]) -> Result<Option<MakeCommand>, AllocError>
-    ensures { IfOk result (λ o. option_map make_asked o ≡ option_and_then make_of (values_in 1 1 (drop 1 (texts words.now)))) }
+    ensures { IfOk result (λ o. option_map make_asked o ≡ option_and_then make_of
+        (values_in 1 1 (drop 1 (texts words.now)))) }
 {
     match values_of(alloc, words, 1, 2)? {
         Some(values) => Ok(command_in(values.as_slice())),
@@ -126,7 +127,8 @@ fn put_runs<O: Sink>(seed: u32, boards: Boards, cycles: u64, out: &mut O) -> Res
     requires few { cycles ≤ 1000000000 }
     requires first { boards.first.present.cycle ≤ 1000000000 }
     requires second { boards.second.present.cycle ≤ 1000000000 }
-    ensures { Puts O.taken O.faults O.sure out.old out.new (runs_text seed cycles boards.first.present boards.second.present) result }
+    ensures { Puts O.taken O.faults O.sure out.old out.new
+        (runs_text seed cycles boards.first.present boards.second.present) result }
 {
     match put_number(out, b"seed ", u64::from(seed)) {
         Ok(()) => {}

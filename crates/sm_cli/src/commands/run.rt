@@ -28,7 +28,8 @@ pub struct RunCommand<'a> {
 
 /// The arguments that the words after the first are.
 pub fn read<'a>(alloc: Global, words: &'a [String]) -> Result<Option<RunCommand<'a>>, AllocError>
-    ensures command { IfOk result (λ o. option_map run_asked o ≡ option_and_then run_of (values_in 4 67 (drop 1 (texts words.entry.now)))) }
+    ensures command { IfOk result (λ o. option_map run_asked o
+        ≡ option_and_then run_of (values_in 4 67 (drop 1 (texts words.entry.now)))) }
     ensures objects { IfOk result (λ o. IfSome o (λ c. length c.objects.items ≤ 64)) }
     ensures cycles { IfOk result (λ o. IfSome o (λ c. c.cycles ≤ MAX_CYCLES)) }
 {

@@ -33,7 +33,8 @@ pub struct VendorCommand<'a> {
 
 /// The arguments that the words after the first are.
 pub fn read<'a>(alloc: Global, words: &'a [String]) -> Result<Option<VendorCommand<'a>>, AllocError>
-    ensures { IfOk result (λ o. option_map vendor_asked o ≡ option_and_then vendor_of (values_in 5 5 (drop 1 (texts words.entry.now)))) }
+    ensures { IfOk result (λ o. option_map vendor_asked o ≡ option_and_then vendor_of
+        (values_in 5 5 (drop 1 (texts words.entry.now)))) }
 {
     match values_of(alloc, words, 5, 5)? {
         Some(values) => Ok(command_in(values.as_slice())),
@@ -96,12 +97,16 @@ fn load_exchange<'a, F: Files>(
     trace: &'a str,
     files: &mut F,
 ) -> Result<Exchange, Refused<'a>>
-    ensures challenges { IfOk result (λ exchange. Holds (F.content files.old) (need challenges.now challenges_file) (the_challenges exchange.challenges.list.items)) }
-    ensures replies { IfOk result (λ exchange. Holds (F.content files.old) (need trace.now trace_file) (the_replies exchange.replies.sent.items)) }
+    ensures challenges { IfOk result (λ exchange. Holds (F.content files.old) (need challenges.now challenges_file)
+        (the_challenges exchange.challenges.list.items)) }
+    ensures replies { IfOk result (λ exchange. Holds (F.content files.old) (need trace.now trace_file)
+        (the_replies exchange.replies.sent.items)) }
     ensures quiet { IfOk result (λ _. HasCause (F.faults files.old) (F.faults files.new) false) }
-    ensures refused { IfErr result (λ refused. IsNeedCause (F.content files.old) (F.faults files.old) (F.faults files.new) (exchange_needs challenges.now trace.now) refused.refusal (name_text refused.name)) }
+    ensures refused { IfErr result (λ refused. IsNeedCause (F.content files.old) (F.faults files.old)
+        (F.faults files.new) (exchange_needs challenges.now trace.now) refused.refusal (name_text refused.name)) }
     ensures sound { IsTrue (F.sound files.old) → F.faults files.new ≡ F.faults files.old }
-    ensures sound_read { IsTrue (F.sound files.old) → IfErr result (λ refused. refused.refusal ≢ Refusal.CannotRead) }
+    ensures sound_read { IsTrue (F.sound files.old) →
+        IfErr result (λ refused. refused.refusal ≢ Refusal.CannotRead) }
     ensures same_sound { F.sound files.new ≡ F.sound files.old }
     ensures same_files { F.content files.new ≡ F.content files.old }
 {
@@ -130,7 +135,8 @@ fn key_of(provider: &[u8; TAG_LENGTH], chosen: &Chosen) -> [u8; TAG_LENGTH]
 
 // Puts the report.
 fn put_report<O: Sink>(key: &[u8; TAG_LENGTH], exchange: &Exchange, out: &mut O) -> Status
-    ensures { EndsAs result (report_answer key.now exchange.now.challenges.list.items exchange.now.replies.sent.items) (Took O.taken O.faults O.sure out.old out.new) (CutOff O.taken O.faults O.sure out.old out.new) }
+    ensures { EndsAs result (report_answer key.now exchange.now.challenges.list.items exchange.now.replies.sent.items)
+        (Took O.taken O.faults O.sure out.old out.new) (CutOff O.taken O.faults O.sure out.old out.new) }
 {
     match report(
         key,
