@@ -1,4 +1,5 @@
 pub mod Cases
+pub mod Ways
 pub mod Each
 pub mod Bytes
 pub mod Ports
