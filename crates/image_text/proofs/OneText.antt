@@ -506,6 +506,7 @@ rows_not_due (suc n) at memory room len are =
 shares_not : (a b : Section) → Apart a b → (shares a b ≡ false) × (shares b a ≡ false)
 shares_not a b h = ⊎_elim (λ l. (and_right (nat_lt a.start b.end) (nat_lt b.start a.end) (grind (arith, nat_tests)), and_left (nat_lt b.start a.end) (nat_lt a.start b.end) (grind (arith, nat_tests))))
     (λ l. (and_left (nat_lt a.start b.end) (nat_lt b.start a.end) (grind (arith, nat_tests)), and_right (nat_lt b.start a.end) (nat_lt a.start b.end) (grind (arith, nat_tests)))) h
+
 abbrev ApartFrom : List Module → Module → Type 0
 ApartFrom [] m = Unit {0}
 ApartFrom (x ∷ xs) m = Separate x m × ApartFrom xs m
