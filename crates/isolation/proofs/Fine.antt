@@ -73,7 +73,7 @@ settle_fine : (s : State) → Fine s → FineSettled (settle s)
 settle_fine s f =
     settle_ways s FineSettled (self s f)
     (λ b fs e. let h = subst (Each FineFrame) e f.frames_ok in
-      record { fine = record { core_ok = h.0.0; frames_ok = h.1; active_small = h.0.1; table_ok = f.table_ok; given_small = f.given_small }; left_small = omega arith })
+    record { fine = record { core_ok = h.0.0; frames_ok = h.1; active_small = h.0.1; table_ok = f.table_ok; given_small = f.given_small }; left_small = omega arith })
     (λ id x a o. record { fine = record { core_ok = f.core_ok; frames_ok = f.frames_ok; active_small = tt; table_ok = table_dropped s.table id f.table_ok; given_small = f.given_small }; left_small = omega arith })
     (λ e. record { fine = with_core s (record s { after = Next }) f f.core_ok refl refl refl; left_small = omega arith })
     (λ id a. record { fine = record { core_ok = f.core_ok; frames_ok = f.frames_ok; active_small = tt; table_ok = f.table_ok; given_small = f.given_small }; left_small = subst Small a f.active_small })

@@ -32,7 +32,6 @@ pub mod Padding
 pub mod Telling
 pub mod Moves
 pub mod Playing
-pub mod Allowed
 pub mod Owner
 pub mod Few
 pub mod Framed

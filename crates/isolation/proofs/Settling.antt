@@ -53,22 +53,18 @@ module _ (m : ℕ) (own : Module) where
   due_hidden s = due_by (is_id m s.active) s
 
   -- ---- an arrival inside a module
+  abbrev arrived : ℕ → ℕ → State → ℕ → Bool → Step
+  arrived v id s w c =
+      let b : Backup = record { «module» = id; caller = s.caller; core = s.core; rest = rest_of s.phase; closing = is_close s.after } in
+      record {
+        state = record (veil m own s) { core = put (put (replicate 16 0) 0 w) 1 s.handler_sp; active = None; frames = Held (veil_if c b) ∷ veil_frames m s.frames; phase = Pad 11; after = Next; devices = accepted s.devices v };
+        events = Event.Hide id v ∷ [];
+      }
+
   pub arrive_hidden : (c : Bool) (t : Table) → Sound m own t → (v id : ℕ) (s : State) → (id == m) ≡ c → arrive_inside v id (hide_by c m own s) ≡ veil_step m own (arrive_inside v id s)
   unfolding arrive_inside
-  arrive_hidden true t sound v id s e =
-      let b : Backup = record { «module» = id; caller = s.caller; core = s.core; rest = rest_of s.phase; closing = is_close s.after } in
-      let build : ℕ → Bool → Step = λ w c. record {
-        state = record (veil m own s) { core = put (put (replicate 16 0) 0 w) 1 s.handler_sp; active = None; frames = Held (veil_if c b) ∷ veil_frames m s.frames; phase = Pad 11; after = Next; devices = accepted s.devices v };
-        events = Event.Hide id v ∷ [];
-      } in
-      ap (λ w. build w true) (vector_veiled m own t sound s v) ∙ ap (λ c. build (vector_word s v) c) (sym e)
-  arrive_hidden false t sound v id s e =
-      let b : Backup = record { «module» = id; caller = s.caller; core = s.core; rest = rest_of s.phase; closing = is_close s.after } in
-      let build : ℕ → Bool → Step = λ w c. record {
-        state = record (veil m own s) { core = put (put (replicate 16 0) 0 w) 1 s.handler_sp; active = None; frames = Held (veil_if c b) ∷ veil_frames m s.frames; phase = Pad 11; after = Next; devices = accepted s.devices v };
-        events = Event.Hide id v ∷ [];
-      } in
-      ap (λ w. build w false) (vector_veiled m own t sound s v) ∙ ap (λ c. build (vector_word s v) c) (sym e)
+  arrive_hidden true t sound v id s e = ap (λ w. arrived v id s w true) (vector_veiled m own t sound s v) ∙ ap (arrived v id s (vector_word s v)) (sym e)
+  arrive_hidden false t sound v id s e = ap (λ w. arrived v id s w false) (vector_veiled m own t sound s v) ∙ ap (arrived v id s (vector_word s v)) (sym e)
 
   -- ---- settling while another or none is active
   resume_by : (c : Bool) (b : Backup) (fs : List Frame) (s : State) →
