@@ -2,6 +2,7 @@
 use Rattle.std.proofs.Common.{◌≡◌, ◌≢◌, ◌⊎◌, ℕ, ◌+◌, ◌%◌, ◌<◌, ◌≤◌, List, [], ◌∷◌, refl, subst, arith, Bool, true, false, cond, not, ◌==◌, Option, Some, None, ⊎_elim}
 use Rattle.std.proofs.lemmas.Bool.{cases_lt}
 use Rattle.std.proofs.lemmas.Bool.Decides.{nat_tests}
+use Rattle.pc_access.proofs.RightLemmas.{aligned_both}
 use Rattle.sm_words.specs.declared.width.Width.{Width}
 use Rattle.sm_words.specs.declared.width.Width.TheVariants.{Byte, Word}
 use Rattle.mod_layout.specs.Table.{Table, place_of, module_of, size_of, holds}
@@ -9,7 +10,7 @@ use Rattle.mod_layout.specs.Tables.{Apart, IsTable}
 use Rattle.mod_layout.specs.declared.Module.{Module}
 use Rattle.mod_layout.specs.declared.Place.TheVariants.{Entry, Text, Data}
 use Rattle.mod_layout.specs.declared.Section.{Section}
-use Rattle.pc_access.specs.Rights.{right, right_at, refuse_if, aligned_first, misaligned, first_denied, or_else, is_id}
+use Rattle.pc_access.specs.Rights.{right, right_at, refuse_if, misaligned, first_denied, or_else, is_id}
 use Rattle.pc_access.specs.declared.Access.{Access}
 use Rattle.pc_access.specs.declared.Denied.{Denied}
 use Rattle.pc_access.specs.declared.Kind.{Kind}
@@ -45,10 +46,6 @@ pub record Sound (m : ℕ) (own : Module) (t : Table) : Type 0 where
   pub disjoint : Apart own.ram own.text
   pub was_given : m ≤ t.given
   pub others : (id : ℕ) (x : Module) → module_of id t ≡ Some x → (id == m) ≡ false → Apart x.ram own.ram × Apart x.ram own.text
-
-aligned_none : (b : Bool) (a : ℕ) (r : Option Denied) → aligned_first b a r ≡ None → (b ≡ false) × (r ≡ None)
-aligned_none true a r e = absurd cc
-aligned_none false a r e = (refl, e)
 
 refused : (b : Bool) (r : _) (a id : ℕ) → refuse_if (not b) r a id ≡ None → b ≡ true
 refused true r a id e = refl
@@ -98,10 +95,10 @@ module _ (m : ℕ) (own : Module) (t : Table) (sound : Sound m own t) where
     unfolding right
     right_out Fetch w a ne e = absurd (ne refl)
     right_out Read w a ne e =
-        let p = aligned_none (misaligned w a) a (right_at (place_of t a) active held Read a) e in
+        let p = aligned_both (misaligned w a) a (right_at (place_of t a) active held Read a) e in
         out_width w own.ram.start (size_of own.ram) a sound.ram_start p.0 (out_of a (not_read a p.1))
     right_out Write w a ne e =
-        let p = aligned_none (misaligned w a) a (right_at (place_of t a) active held Write a) e in
+        let p = aligned_both (misaligned w a) a (right_at (place_of t a) active held Write a) e in
         out_width w own.ram.start (size_of own.ram) a sound.ram_start p.0 (out_of a (not_written a p.1))
 
     reads_by : (k : Kind) (a : ℕ) (w : Width) (ys : List Access) → right t active held (record { kind = k; addr = a; width = w }) ≡ None → Each (OutAccess own.ram.start (size_of own.ram)) ys → Each (OutAccess own.ram.start (size_of own.ram)) (cond (is_read k) (record { kind = k; addr = a; width = w } ∷ ys) ys)
@@ -148,7 +145,7 @@ module _ (m : ℕ) (own : Module) (t : Table) (sound : Sound m own t) (active : 
   text_by : (k : Kind) (a : ℕ) (w : Width) (ys : List Access) → right t active held (record { kind = k; addr = a; width = w }) ≡ None → Each (OutAccess own.text.start (size_of own.text)) ys → Each (OutAccess own.text.start (size_of own.text)) (cond (is_write k) (record { kind = k; addr = a; width = w } ∷ ys) ys)
   unfolding right
   text_by Write a w ys e h =
-      let p = aligned_none (misaligned w a) a (right_at (place_of t a) active held Write a) e in
+      let p = aligned_both (misaligned w a) a (right_at (place_of t a) active held Write a) e in
       (out_width w own.text.start (size_of own.text) a sound.text_start p.0 (text_out_of a p.1), h)
   text_by _ a w ys e h = h
 

@@ -21,7 +21,7 @@ use Rattle.tracer.specs.declared.Event.{Event}
 use Rattle.written_machine.specs.Cycle.{Step, Settled, unsettled, pc_of, ticked, resume_from, close_of, in_text, leave_if, settle_by, settle_in, settle, vector_if, due, rest_of, vector_word, arrive_inside, enter_at, enter}
 use Rattle.written_machine.specs.State.{State}
 use Rattle.isolation.proofs.Bytes.{cleared_comm}
-use Rattle.isolation.proofs.Hide.{veil_core, veil_if, veil_frames, veil, veil_step, hide_by, hide, length_veiled, vector_veiled}
+use Rattle.isolation.proofs.Hide.{veil_core, veil_if, veil_frames, veil, veil_step, hide_by, hide, length_veiled, vector_veiled, held_ids_if}
 use Rattle.isolation.proofs.Rights.{Sound}
 use Rattle.sm_words.specs.Status.{is_gie}
 
@@ -73,10 +73,6 @@ module _ (m : ℕ) (own : Module) where
   resume_by true b fs s = refl
   resume_by false b fs s = refl
 
-  id_if : (c : Bool) (b : Backup) → (veil_if c b).module ≡ b.module
-  id_if true b = refl
-  id_if false b = refl
-
   module _ (s : State) (other : is_id m s.active ≡ false) where
     pub same_hidden : hide m own s ≡ veil m own s
     same_hidden = ap (λ b. hide_by b m own s) other
@@ -89,7 +85,7 @@ module _ (m : ℕ) (own : Module) where
         let build : State → ℕ → Settled = λ u id. record { state = u; events = Event.Resume id ∷ []; left = 0 } in
         let x = veil_if (b.module == m) b in
         let u : State = record (veil m own s) { core = x.core; active = Some x.module; caller = x.caller; frames = veil_frames m fs; phase = Run x.rest; after = closing_after x.closing } in
-        ap (λ i. build u i) (id_if (b.module == m) b) ∙ ap (λ v. build v b.module) (resume_by (b.module == m) b fs s)
+        ap (λ i. build u i) (held_ids_if m (b.module == m) b) ∙ ap (λ v. build v b.module) (resume_by (b.module == m) b fs s)
     resume_veiled _ = unsettled_veiled
 
     close_veiled : (a : Option ℕ) (o : Option Module) → close_of a o (veil m own s) ≡ hide_settled m own (close_of a o s)
