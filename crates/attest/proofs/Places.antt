@@ -1,5 +1,5 @@
 -- Which accesses are refused to no one: reads of a text, and writes to the data of a module that a table takes.
-use Rattle.std.proofs.Common.{◌≡◌, ◌⊎◌, inl, inr, ⊎_elim, ℕ, zero, suc, ◌+◌, ◌<◌, ◌≤◌, List, [], ◌∷◌, ◌++◌, Bool, true, false, nat_le, ◌&&◌, ◌||◌, ◌==◌, Option, Some, None, refl, sym, ◌∙◌, ap, subst, arith}
+use Rattle.std.proofs.Common.{◌≡◌, ◌⊎◌, ⊎_elim, ℕ, zero, suc, ◌+◌, ◌<◌, ◌≤◌, List, [], ◌∷◌, ◌++◌, Bool, true, false, nat_le, ◌&&◌, ◌||◌, ◌==◌, Option, Some, None, refl, sym, ◌∙◌, ap, subst, arith}
 use Rattle.std.proofs.lemmas.Bool.Decides.{nat_tests}
 use Rattle.sm_words.specs.declared.width.Width.TheVariants.{Byte}
 use Rattle.mod_layout.specs.declared.Section.{Section}
@@ -8,8 +8,8 @@ use Rattle.mod_layout.specs.declared.TheConstants.{DEVICES_END}
 use Rattle.mod_layout.specs.declared.Place.{Place}
 use Rattle.mod_layout.specs.declared.Place.TheVariants.{Open, Entry, Text, Data}
 use Rattle.mod_layout.specs.Table.{Table, holds, size_of, place_by, place_in, place_of, find_module, module_of, with_module}
-use Rattle.mod_layout.specs.Tables.{Apart, IsSection, IsModule, Separate, SeparateFrom, AreModules, IsTable}
-use Rattle.mod_layout.proofs.Found.{outside, within, elsewhere, none_found, found_first, separate_found}
+use Rattle.mod_layout.specs.Tables.{Apart, IsModule, Separate, SeparateFrom, AreModules, IsTable}
+use Rattle.mod_layout.proofs.Found.{outside, no_entry, within, elsewhere, none_found, found_first, separate_found}
 pub use Rattle.mod_layout.proofs.Found.{and_true, module_found}
 use Rattle.pc_access.specs.declared.Kind.{Kind}
 use Rattle.pc_access.specs.declared.Kind.TheVariants.{Read, Write}
@@ -80,17 +80,6 @@ separate_end : (x new : Module) (ms : List Module) → SeparateFrom x (ms ++ new
 separate_end x new [] s = s.0
 separate_end x new (y ∷ ms) s = separate_end x new ms s.1
 
-not_entry : (s : Section) (a : ℕ) → IsSection s → (a < s.start) ⊎ (s.end ≤ a) → ((a == s.start) || (a == s.start + 1)) ≡ false
-not_entry s a ok (inl h) =
-    ap (λ (b : Bool). b || (a == s.start + 1)) (let e : (a == s.start) ≡ false = grind (arith, nat_tests) in e)
-    ∙ (let e : (a == s.start + 1) ≡ false = grind (arith, nat_tests) in e)
-not_entry s a ok (inr h) =
-    let o = ok.order in let p = ok.even_start in let q = ok.even_end in
-    let two : s.start + 2 ≤ s.end = omega arith in
-    let far : s.start + 2 ≤ a = omega arith in
-    ap (λ (b : Bool). b || (a == s.start + 1)) (let e : (a == s.start) ≡ false = grind (arith, nat_tests) in e)
-    ∙ (let e : (a == s.start + 1) ≡ false = grind (arith, nat_tests) in e)
-
 open_ram : (given a : ℕ) (new : Module) (ms : List Module) → AreModules given (ms ++ new ∷ []) → new.ram.start ≤ a → a < new.ram.end →
     place_in ms a ≡ Open
 open_ram given a new [] are low high = refl
@@ -99,7 +88,7 @@ open_ram given a new (y ∷ ms) are low high =
     let rest = place_in ms a in
     let past_text = elsewhere y.text new.ram a low high are.0.text_ok.order s.text_ram in
     let past_data = elsewhere y.ram new.ram a low high are.0.ram_ok.order s.rams in
-    ap (λ (b : Bool). place_by b (holds y.text a) (holds y.ram a) y.id rest) (not_entry y.text a are.0.text_ok past_text)
+    ap (λ (b : Bool). place_by b (holds y.text a) (holds y.ram a) y.id rest) (no_entry y.text a are.0.text_ok (outside y.text a past_text))
     ∙ ap (λ (b : Bool). place_by false b (holds y.ram a) y.id rest) (outside y.text a past_text)
     ∙ ap (λ (b : Bool). place_by false false b y.id rest) (outside y.ram a past_data)
     ∙ open_ram given a new ms are.2 low high

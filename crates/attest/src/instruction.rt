@@ -70,7 +70,8 @@ pub fn unit(
 
 /// Inside: the module closes after its last cycle. Outside: R15 is 0.
 fn unprotect(core: &mut Core, table: &ModuleTable, who: Who) -> UnitDone
-    ensures { (key mem : List ℕ) → IsDone (doer table.now who key) Unprotect core.old mem core.new mem table.now result }
+    ensures { (key mem : List ℕ) →
+        IsDone (doer table.now who key) Unprotect core.old mem core.new mem table.now result }
 {
     match table.own(who.active) {
         None => answer(core, 0, SHORT_CYCLES),

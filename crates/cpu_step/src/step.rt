@@ -21,8 +21,10 @@ pub fn execute<P: Port>(insn: &Insn, core: &mut Core, port: &mut P, inside: bool
     requires decoded { IsDecoded insn.now }
     requires no_unit { IsFalse (is_unit insn.now) }
     requires aligned { AreAligned (plan insn.now core.old) }
-    ensures core { core.new ≡ (through P.answer P.after_read P.after_write insn.now core.old inside (P.state port.old)).core }
-    ensures port { P.state port.new ≡ (through P.answer P.after_read P.after_write insn.now core.old inside (P.state port.old)).state }
+    ensures core { core.new ≡
+        (through P.answer P.after_read P.after_write insn.now core.old inside (P.state port.old)).core }
+    ensures port { P.state port.new ≡
+        (through P.answer P.after_read P.after_write insn.now core.old inside (P.state port.old)).state }
     ensures cycles { result ≡ cycles_of insn.now }
     ensures least { 1 ≤ result }
 {

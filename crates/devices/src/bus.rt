@@ -28,7 +28,8 @@ struct Present {
 impl Present {
     fn happen(&mut self, what: What)
         requires { line_number what < 4 }
-        ensures devices { (es : List Entry) → joined self.new.lines self.new.serial self.new.timer es ≡ happens what (joined self.old.lines self.old.serial self.old.timer es) }
+        ensures devices { (es : List Entry) → joined self.new.lines self.new.serial self.new.timer es ≡
+            happens what (joined self.old.lines self.old.serial self.old.timer es) }
         ensures ticks { self.new.ticks ≡ self.old.ticks }
     {
         match what {
@@ -41,7 +42,8 @@ impl Present {
     // Lets these entries act up to the first that is not before cycle `end`, and gives how many have acted.
     fn act_before(&mut self, pending: &[Entry], end: u64) -> usize
         requires { All HasLine pending.now }
-        ensures devices { (es : List Entry) → joined self.new.lines self.new.serial self.new.timer es ≡ acted_before end pending.now (joined self.old.lines self.old.serial self.old.timer es) }
+        ensures devices { (es : List Entry) → joined self.new.lines self.new.serial self.new.timer es ≡
+            acted_before end pending.now (joined self.old.lines self.old.serial self.old.timer es) }
         ensures count { result ≡ past_count end pending.now }
         ensures ticks { self.new.ticks ≡ self.old.ticks }
     {
@@ -96,11 +98,21 @@ impl Model for BusMark {
 
     ghost Value = { MarkedBus };
 
-    ghost view = { λ m. record { devices = joined m.present.lines m.present.serial m.present.timer []; ticks = m.present.ticks } };
+    ghost view = { λ m. record {
+      devices = joined m.present.lines m.present.serial m.present.timer [];
+      ticks = m.present.ticks;
+    } };
 
     ghost invariant = { λ m. m.present.ticks ≤ 2 ^ 62 };
 
-    ghost inverse = { λ m. record { present = record { lines = lines_of m.devices; serial = serial_of m.devices; timer = timer_of m.devices; ticks = m.ticks } } };
+    ghost inverse = { λ m. record {
+      present = record {
+        lines = lines_of m.devices;
+        serial = serial_of m.devices;
+        timer = timer_of m.devices;
+        ticks = m.ticks;
+      };
+    } };
 }
 
 /// The three devices and the schedule that moves them, cycle by cycle from 0.
@@ -118,7 +130,11 @@ impl Model for Bus {
 
     ghost Value = { BusState };
 
-    ghost view = { λ b. record { devices = joined b.present.lines b.present.serial b.present.timer b.agenda.entries.items; ticks = b.present.ticks; moves = b.moves } };
+    ghost view = { λ b. record {
+      devices = joined b.present.lines b.present.serial b.present.timer b.agenda.entries.items;
+      ticks = b.present.ticks;
+      moves = b.moves;
+    } };
 
     ghost invariant = { λ b. IsDue b.agenda.entries.items b.agenda.acted b.present.ticks × (b.present.ticks ≤ 2 ^ 62) };
 }
@@ -126,7 +142,8 @@ impl Model for Bus {
 impl Bus {
     /// The devices of cycle 0, with this schedule.
     pub fn new(alloc: Global, schedule: &Schedule) -> Result<Bus, NoMemory>
-        ensures silent { IfOk result (λ bus. bus ≡ record { devices = silent schedule.now.entries.items; ticks = 0; moves = 0 }) }
+        ensures silent { IfOk result (λ bus.
+            bus ≡ record { devices = silent schedule.now.entries.items; ticks = 0; moves = 0 }) }
     {
         let entries = Vec::from_slice(alloc, schedule.entries.as_slice())?;
         Ok(Bus {
@@ -164,12 +181,15 @@ impl Bus {
         }
     }
 
-    /// Goes back, or on, to a moment, and keeps the schedule: the entries from that moment's next cycle on are still to act.
+    /// Goes back, or on, to a moment, and keeps the schedule: the entries from that moment's next cycle on are
+    /// still to act.
     pub fn back(&mut self, mark: &BusMark)
         ensures bus { self.new ≡ gone_back mark.now self.old }
 
         // A bus of the same schedule is at the moment itself, whatever was done since.
-        ensures moment { (then : BusState) → mark.now ≡ marked_bus then → self.old.devices.schedule ≡ then.devices.schedule → self.new ≡ record then { moves = self.old.moves } }
+        ensures moment { (then : BusState) → mark.now ≡ marked_bus then →
+            self.old.devices.schedule ≡ then.devices.schedule →
+            self.new ≡ record then { moves = self.old.moves } }
     {
         self.present = mark.present;
         self.agenda.acted = self.agenda.past(self.present.ticks);

@@ -68,7 +68,8 @@ pub trait Device {
     /// For how many ticks the raised vector surely stays as it is.
     fn quiet(&self) -> u64
         ensures ticks { result ≡ quiet_of (state self.now) (cycle self.now) }
-        ensures stays { (n : ℕ) → n ≤ result → line_of (ticked_by n (cycle self.now) (state self.now)) ≡ line_of (state self.now) };
+        ensures stays { (n : ℕ) → n ≤ result → line_of (ticked_by n (cycle self.now) (state self.now)) ≡
+            line_of (state self.now) };
 
     /// Does what `n` ticks do.
     fn skip(&mut self, n: u64)

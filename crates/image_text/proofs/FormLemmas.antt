@@ -7,7 +7,7 @@ use Rattle.hex.specs.Hex.{IsBytes, lower_digits, encode_with, encode_lower}
 use Rattle.hex.proofs.HexLemmas.{length-encode_with}
 use Rattle.texts.specs.Hexadecimals.{is_hex_digit, read_hex, read_hex_word}
 use Rattle.texts.proofs.HexLemmas.{read_hex-encode}
-use Rattle.texts.proofs.LawLemmas.{words_are_read}
+use Rattle.texts.proofs.LawLemmas.{words_are_read, word_bytes}
 use Rattle.texts.specs.Hexadecimals.{hex_word}
 use Rattle.image_text.specs.declared.ImageFault.{ImageFault}
 use Rattle.image_text.specs.Refusal.{Spot, fits, has_form, is_bad, bad_digit, formed, bytes_at, word_at}
@@ -172,9 +172,6 @@ after_digits (suc n) form (a ∷ b ∷ line) h =
     record { bytes = byte ∷ r.bytes; rest = r.rest; is = all; are = bytes_cons byte r.bytes (omega (arith, da.0, db.0)) r.are; count = let k = r.count in omega (arith, k); next = r.next }
 
 -- ---- words of a form
-
-pub word_bytes : (w : ℕ) → w < 65536 → IsBytes (w / 256 ∷ w % 256 ∷ [])
-word_bytes w l = bytes_cons (w / 256) (w % 256 ∷ []) (omega arith) (bytes_cons (w % 256) [] (omega arith) bytes_nil)
 
 record TwoBytes (bytes : List ℕ) : Type 0 where
   pub word : ℕ

@@ -11,7 +11,7 @@ use Rattle.mod_layout.specs.declared.TableFault.TheVariants.{Empty, Odd, Reserve
 use Rattle.mod_layout.specs.Table.{Table, fault_of, with_module, empty_table, shares, lowest_met, met_if, fault_if, overlap_or, is_empty, is_odd, is_reserved}
 use Rattle.mod_layout.specs.Tables.{Apart, IsSection, IsModule, Separate, SeparateFrom, AreModules}
 use Rattle.texts.specs.Lines.{is_line_feed, ended_lines, unended}
-use Rattle.texts.proofs.LawLemmas.{decimals_are_read}
+use Rattle.texts.proofs.LawLemmas.{decimals_are_read, word_bytes}
 use Rattle.image_text.specs.declared.numbers.TheConstants.{MAX_COUNT}
 use Rattle.std.specs.Fmt.{decimal}
 use Rattle.std.specs.Char.{is_ascii_digit}
@@ -20,6 +20,7 @@ use Rattle.texts.proofs.DecimalLemmas.{digits_model}
 use Rattle.texts.proofs.LineLemmas.{ended_lines-before, unended-before}
 use Rattle.std.specs.List.{All, list_all}
 use Rattle.std.proofs.lemmas.List.Sums.{AllPass-from_list_all}
+use Rattle.image_text.proofs.RowTexts.{nil_of}
 use Rattle.texts.specs.Hexadecimals.{hex_word}
 use Rattle.image_text.specs.declared.ImageFault.{ImageFault}
 use Rattle.image_text.specs.declared.ImageFault.TheVariants.{Line, Twice}
@@ -27,7 +28,7 @@ use Rattle.image_text.specs.Image.{Image, IsImage, AreNumbered}
 use Rattle.image_text.specs.ImageText.{ended, first_line, key_line, handler_line, count_line, module_line, row_line, end_line, count_text, modules_text, is_zero, rows_text, memory_text, text_after_key, image_text}
 use Rattle.image_text.specs.Refusal.{Spot, past, key_form, handler_form, module_form, row_form, fits, has_form, is_bad, bytes_at, word_at, section_at, count_of, is_row, rows_refusal, end_refusal, taken, added, one_less, modules_refusal, counted, count_refusal, handler_refusal, key_refusal, first_refusal, refusal_of}
 use Rattle.image_text.specs.Reading.{HasForm, due_next}
-use Rattle.image_text.proofs.FormLemmas.{formed_ok, marks, bytes_cons, bytes_nil, word_bytes, word_here, coded_at}
+use Rattle.image_text.proofs.FormLemmas.{formed_ok, marks, bytes_cons, bytes_nil, word_here, coded_at}
 use Rattle.image_text.proofs.StageLemmas.{Stage, none_due, one_due}
 
 -- ---- lines
@@ -330,10 +331,6 @@ no_line (suc n) at next row memory rest l m len p mem q e =
     by true f r = r f
     by false f r = let k = row_one at next row (take 16 memory) rest _ (omega arith) (omega arith) len (first_row n memory mem) p (bytes_take 16 memory q) f in omega (arith, k.0)
 
-nil_of : (m : List ℕ) → length m ≡ 0 → m ≡ []
-nil_of [] e = refl
-nil_of (x ∷ m) e = absurd (omega arith)
-
 joined_parts : (n : ℕ) (m k : List ℕ) → take n m ≡ take n k → drop n m ≡ drop n k → m ≡ k
 joined_parts n m k a b = sym (take-append-drop n m) ∙ ap (λ (l : List ℕ). l ++ drop n m) a ∙ ap (λ (l : List ℕ). take n k ++ l) b ∙ take-append-drop n k
 
@@ -506,6 +503,7 @@ rows_not_due (suc n) at memory room len are =
 shares_not : (a b : Section) → Apart a b → (shares a b ≡ false) × (shares b a ≡ false)
 shares_not a b h = ⊎_elim (λ l. (and_right (nat_lt a.start b.end) (nat_lt b.start a.end) (grind (arith, nat_tests)), and_left (nat_lt b.start a.end) (nat_lt a.start b.end) (grind (arith, nat_tests))))
     (λ l. (and_left (nat_lt a.start b.end) (nat_lt b.start a.end) (grind (arith, nat_tests)), and_right (nat_lt b.start a.end) (nat_lt a.start b.end) (grind (arith, nat_tests)))) h
+
 abbrev ApartFrom : List Module → Module → Type 0
 ApartFrom [] m = Unit {0}
 ApartFrom (x ∷ xs) m = Separate x m × ApartFrom xs m

@@ -15,7 +15,7 @@ use Rattle.image_text.proofs.LineTexts.{row_line_of}
 use Rattle.image_text.proofs.StageLemmas.{line_on, next_on, same_spot}
 use Rattle.image_text.specs.Reading.{Unread, on, ReadLine, HasForm, AddsRow, RowsSoFar, PassedMemory}
 
-nil_of : (m : List ℕ) → length m ≡ 0 → m ≡ []
+pub nil_of : (m : List ℕ) → length m ≡ 0 → m ≡ []
 nil_of [] e = refl
 nil_of (x ∷ m) e = absurd (omega arith)
 

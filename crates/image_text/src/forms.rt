@@ -68,7 +68,9 @@ fn is_bad(mark: u8, byte: u8) -> bool
 pub(crate) fn formed(line: Line<'_>, form: &[u8]) -> Result<(), ImageFault>
     requires { line.at + length line.text.now < 2 ^ 63 }
     ensures ok { OnOk result (HasForm form.now line.entry.text.now) }
-    ensures err { IfErr result (λ fault. (rest : Option ImageFault) → formed_lem form.now record { number = line.entry.number; at = line.entry.at } line.entry.text.now rest ≡ Some fault) }
+    ensures err { IfErr result (λ fault. (rest : Option ImageFault) →
+        formed_lem form.now record { number = line.entry.number; at = line.entry.at } line.entry.text.now rest ≡
+        Some fault) }
 {
     if !has_form(form, line.text) {
         return Err(ImageFault::Line { n: line.number });

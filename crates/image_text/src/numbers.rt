@@ -25,7 +25,8 @@ const MAX_COUNT: u64 = 32;
 
 /// Why a first line is none of versions 1 and 2.
 pub(crate) fn other_version(line: Line<'_>) -> ImageFault
-    ensures { version_refusal record { number = line.entry.number; at = line.entry.at } line.entry.text.now ≡ Some result }
+    ensures { version_refusal record { number = line.entry.number; at = line.entry.at } line.entry.text.now ≡
+        Some result }
 {
     if line.text.starts_with(b"sancus-image ") {
         if let Some(n) = read_decimal(&line.text[13..], MAX_VERSION) {

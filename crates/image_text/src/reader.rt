@@ -20,7 +20,8 @@ use std::alloc::{AllocError, Global};
 // The room of the table that the version of the first line says.
 pub(crate) fn read_version(lines: &mut Lines<'_>) -> Result<u16, ImageFault>
     ensures room { IfOk result (λ room. (room ≡ 8) ⊎ (room ≡ 32)) }
-    ensures passed { IfOk result (λ room. Passed (first_line room) first_refusal (key_refusal room) lines.old lines.new) }
+    ensures passed { IfOk result (λ room.
+        Passed (first_line room) first_refusal (key_refusal room) lines.old lines.new) }
     ensures refused { IfErr result (λ fault. on lines.old first_refusal ≡ Some fault) }
 {
     let line = lines.next()?;
@@ -36,7 +37,8 @@ pub(crate) fn read_version(lines: &mut Lines<'_>) -> Result<u16, ImageFault>
 pub(crate) fn read_key(lines: &mut Lines<'_>) -> Result<[u8; 16], ImageFault>
     ensures sixteen { IfOk result (λ key. length key ≡ 16) }
     ensures bytes { IfOk result (λ key. (n : ℕ) → slice_index key n < 256) }
-    ensures passed { IfOk result (λ key. (room : ℕ) → Passed (key_line key) (key_refusal room) (handler_refusal room) lines.old lines.new) }
+    ensures passed { IfOk result (λ key. (room : ℕ) →
+        Passed (key_line key) (key_refusal room) (handler_refusal room) lines.old lines.new) }
     ensures refused { IfErr result (λ fault. (room : ℕ) → on lines.old (key_refusal room) ≡ Some fault) }
 {
     let line = lines.next()?;
@@ -46,7 +48,8 @@ pub(crate) fn read_key(lines: &mut Lines<'_>) -> Result<[u8; 16], ImageFault>
 
 pub(crate) fn read_handler(lines: &mut Lines<'_>) -> Result<u16, ImageFault>
     ensures even { IfOk result (λ sp. sp % 2 ≡ 0) }
-    ensures passed { IfOk result (λ sp. (room : ℕ) → Passed (handler_line sp) (handler_refusal room) (count_refusal room) lines.old lines.new) }
+    ensures passed { IfOk result (λ sp. (room : ℕ) →
+        Passed (handler_line sp) (handler_refusal room) (count_refusal room) lines.old lines.new) }
     ensures refused { IfErr result (λ fault. (room : ℕ) → on lines.old (handler_refusal room) ≡ Some fault) }
 {
     let line = lines.next()?;
@@ -97,7 +100,8 @@ fn one_less(left: Option<u64>) -> Option<u64>
 fn add_module(lines: &mut Lines<'_>, table: &mut ModuleTable, module: u64) -> Result<(), ImageFault>
     requires { «module» ≡ table.old.given + 1 }
     ensures added { OnOk result (AddsModule lines.old lines.new table.old table.new) }
-    ensures refused { IfErr result (λ fault. (left : Option ℕ) → due_next left (ended_lines lines.old.rest) ≡ true → on lines.old (modules_refusal table.old left) ≡ Some fault) }
+    ensures refused { IfErr result (λ fault. (left : Option ℕ) → due_next left (ended_lines lines.old.rest) ≡ true →
+        on lines.old (modules_refusal table.old left) ≡ Some fault) }
     ensures table { OnOk result (IsTable table.new) }
 {
     let line = lines.next()?;
@@ -154,7 +158,8 @@ fn fill(memory: &mut Vec<u8>, end: usize) -> Result<(), AllocError>
 // Zeros up to an address, and a row there.
 fn grow(memory: &mut Vec<u8>, at: u16, row: &[u8]) -> Result<(), AllocError>
     requires { length memory.old.items ≤ at }
-    ensures { OnOk result (memory.new.items ≡ (memory.old.items ++ replicate (at - length memory.old.items) 0) ++ row.now) }
+    ensures { OnOk result
+        (memory.new.items ≡ (memory.old.items ++ replicate (at - length memory.old.items) 0) ++ row.now) }
 {
     fill(memory, usize::from(at))?;
     memory.extend_from_slice(row)?;
@@ -167,7 +172,8 @@ pub(crate) fn is_zero(row: &[u8]) -> bool
     row.iter().all(|b| *b == 0)
 }
 
-// A row's address is a multiple of 16, no lower than the first row's and no lower than the last, and the row is not all zeros.
+// A row's address is a multiple of 16, no lower than the first row's and no lower than the last, and the row is
+// not all zeros.
 fn is_row(last: u16, at: u16, row: &[u8]) -> bool
     ensures { result ≡ is_row_lem last at row.now }
 {
@@ -183,7 +189,8 @@ fn next_row(
     requires size { length memory.old.items ≡ last + 16 }
     requires even { last % 16 ≡ 0 }
     ensures row { IfOk result (λ at. NextRow last at lines.old lines.new memory.old.items memory.new.items) }
-    ensures refused { IfErr result (λ fault. (fault ≡ ImageFault.NoMemory) ⊎ (on lines.old (rows_refusal last) ≡ Some fault)) }
+    ensures refused { IfErr result (λ fault. (fault ≡ ImageFault.NoMemory) ⊎
+        (on lines.old (rows_refusal last) ≡ Some fault)) }
 {
     let line = match lines.next() {
         Ok(line) => line,
@@ -213,7 +220,8 @@ fn next_row(
 // The rows and the end.
 pub(crate) fn read_memory(alloc: Global, lines: &mut Lines<'_>) -> Result<Vec<u8>, ImageFault>
     ensures passed { IfOk result (λ memory. PassedMemory memory.items lines.old) }
-    ensures refused { IfErr result (λ fault. (fault ≡ ImageFault.NoMemory) ⊎ (on lines.old (rows_refusal BEFORE_ROWS) ≡ Some fault)) }
+    ensures refused { IfErr result (λ fault. (fault ≡ ImageFault.NoMemory) ⊎
+        (on lines.old (rows_refusal BEFORE_ROWS) ≡ Some fault)) }
 {
     let mut memory = match low_memory(alloc) {
         Ok(memory) => memory,

@@ -96,7 +96,8 @@ fn is_held(table: &ModuleTable, id: u16) -> bool
 fn put_modules(text: &mut Vec<u8>, table: &ModuleTable) -> Result<(), AllocError>
     requires numbered { AreNumbered 1 table.now.modules }
     requires few { length table.now.modules ≤ 32 }
-    ensures { OnOk result ((rest : List ℕ) → text.new.items ++ rest ≡ text.old.items ++ modules_text table.now.modules rest) }
+    ensures { OnOk result ((rest : List ℕ) →
+        text.new.items ++ rest ≡ text.old.items ++ modules_text table.now.modules rest) }
 {
     let mut index = 0;
     while let Some(module) = table.get(index + 1) {
@@ -131,7 +132,8 @@ fn put_section(text: &mut Vec<u8>, section: Section) -> Result<(), AllocError>
 // A line for each row from the first on that is not all zeros.
 fn put_rows(text: &mut Vec<u8>, memory: &[u8]) -> Result<(), AllocError>
     requires { length memory.now ≡ 65536 }
-    ensures { OnOk result ((rest : List ℕ) → text.new.items ++ rest ≡ text.old.items ++ rows_text ROW_COUNT FIRST_ROW (drop FIRST_ROW memory.now) rest) }
+    ensures { OnOk result ((rest : List ℕ) →
+        text.new.items ++ rest ≡ text.old.items ++ rows_text ROW_COUNT FIRST_ROW (drop FIRST_ROW memory.now) rest) }
 {
     for row in usize::from(FIRST_ROW) / 16..4096 {
         put_row(text, (16 * row) as u16, &memory[16 * row..16 * row + 16])?;

@@ -35,6 +35,10 @@ module _ (key : List ℕ) (own : Module) (text : List ℕ) (j : Job) (la lb : Lo
   go_on : (x y : Lone) → ((n : ℕ) (es : List Call_of) → Each (IsCall own) es → alike (EvenBy key own text es) (later (outcome j n x)) (later (outcome j n y))) → Evenly key own text j x y
   go_on x y h = record { always = λ n es v. later_alike (EvenBy key own text es) (outcome j n x) (outcome j n y) (h n es v) }
 
+  broken_right : (o : Outcome) → alike (EvenBy key own text []) (later o) (Broken lb.data_bytes 0) → ⊥
+  broken_right Running h = h
+  broken_right _ h = h
+
   together : (x y : Doing) → Now x y → Soon x y → Together key own text j x y la lb
   together Closes Closes now soon = (now [] tt).0
   together Leaves Leaves now soon = ((now [] tt).0, λ es h. (now es h).2)
@@ -43,19 +47,7 @@ module _ (key : List ℕ) (own : Module) (text : List ℕ) (j : Job) (la lb : Lo
   together (Does i) (Waits r) now soon = go_on (lone_does j i la) (record lb { rest = r }) soon
   together (Does i) (Does i') now soon = go_on (lone_does j i la) (lone_does j i' lb) soon
   together (Waits r) Breaks now soon = broken_right (outcome j 0 (record la { rest = r })) (soon 0 [] tt)
-    where
-      broken_right : (o : Outcome) → alike (EvenBy key own text []) (later o) (Broken lb.data_bytes 0) → ⊥
-      broken_right Running h = h
-      broken_right (Exit c d k) h = h
-      broken_right (Closing c d k) h = h
-      broken_right (Broken d k) h = h
   together (Does i) Breaks now soon = broken_right (outcome j 0 (lone_does j i la)) (soon 0 [] tt)
-    where
-      broken_right : (o : Outcome) → alike (EvenBy key own text []) (later o) (Broken lb.data_bytes 0) → ⊥
-      broken_right Running h = h
-      broken_right (Exit c d k) h = h
-      broken_right (Closing c d k) h = h
-      broken_right (Broken d k) h = h
   together Breaks y now soon = soon 0 [] tt
   together _ _ now soon = now [] tt
 

@@ -3,40 +3,25 @@ use Rattle.std.proofs.Common.{◌≡◌, ◌≢◌, ℕ, zero, suc, ◌+◌, ◌
 use Rattle.std.proofs.lemmas.List.{set_past}
 use Rattle.std.proofs.lemmas.Bool.{cases_lt}
 use Rattle.std.proofs.lemmas.Bool.Decides.{nat_tests}
-use Rattle.sm_words.specs.Words.{cleared, word_at, reg}
+use Rattle.sm_words.specs.Words.{cleared, reg}
 use Rattle.sm_words.specs.declared.width.Width.{Width}
 use Rattle.sm_words.specs.declared.width.Width.TheVariants.{Byte, Word}
-use Rattle.insn_decode.specs.Code.{insn_of, length_of}
 use Rattle.insn_decode.specs.declared.insn.Insn.{Insn}
 use Rattle.insn_decode.specs.declared.insn.Insn.TheVariants.{Reti}
 use Rattle.schedule_file.specs.declared.Entry.{Entry as Scheduled}
-use Rattle.mod_layout.specs.Table.{size_of, place_of}
-use Rattle.mod_layout.specs.declared.Module.{Module}
-use Rattle.mod_layout.specs.declared.Place.{Place}
-use Rattle.mod_layout.specs.declared.Place.TheVariants.{Entry}
-use Rattle.pc_access.specs.Rights.{first_denied, right}
+use Rattle.mod_layout.specs.Table.{size_of}
 use Rattle.pc_access.specs.declared.Access.{Access}
-use Rattle.pc_access.specs.declared.Denied.{Denied}
 use Rattle.pc_access.specs.declared.Stop.{Stop}
 use Rattle.image_text.specs.Image.{Image, IsImage}
-use Rattle.reg_backup.specs.Held.{held_ids}
-use Rattle.reg_backup.specs.declared.backup.After.{After}
-use Rattle.reg_backup.specs.declared.backup.After.TheVariants.{Next, Handler, Resume, Close}
-use Rattle.reg_backup.specs.declared.backup.Phase.{Phase}
-use Rattle.reg_backup.specs.declared.backup.Phase.TheVariants.{Run, Pad}
-use Rattle.reg_backup.specs.declared.frames.Frame.{Frame}
-use Rattle.reg_backup.specs.declared.frames.Frame.TheVariants.{Plain, Module as Held}
 use Rattle.attest.specs.Accesses.{reads_of, writes_of}
-use Rattle.attest.specs.Done.{own_of}
 use Rattle.cpu_step.specs.Asked.{asks, effect}
-use Rattle.cpu_step.specs.Fetched.{insn_at}
-use Rattle.written_machine.specs.Cycle.{Step, told, pc_of, byte_of, in_text, resume_from, close_of, leave_if, settle_by, settle_in, settle, ticked, due, arrive_inside, arrive_outside, push_both, pushes, port_of, who_of, perform, perform_unless, attempt, returned_by, reti_by, reti_of, act_by, act_on, act_home, act_first, act, is_home, enter_at, enter, fetch, begin_unless, begin, padded, asleep, turn, counted_by, move, cycle_by}
+use Rattle.written_machine.specs.Cycle.{Step, told, settle, ticked, arrive_inside, arrive_outside, pushes, port_of, who_of, perform, attempt, returned_by, act, enter, begin, turn, counted_by, move, cycle_by}
 use Rattle.written_machine.specs.Ports.{Port, write_in, write_byte, write_width, take_reads, put_writes}
 use Rattle.written_machine.specs.State.{State}
 use Rattle.written_machine.specs.View.{at}
 use Rattle.isolation.proofs.Bytes.{length_cleared}
 use Rattle.isolation.proofs.Ports.{take_reads_memory}
-use Rattle.isolation.proofs.Cases.{turn_at, turn_unless, turn_is}
+use Rattle.isolation.proofs.Ways.{attempt_ways, act_ways, enter_ways, begin_ways, outside_ways, turn_ways, settle_ways}
 
 pub record Filled (mem : List ℕ) : Type 0 where
   pub full : length mem ≡ 65536
@@ -90,121 +75,37 @@ perform_filled insn s h =
     let e = effect (who_of s) insn s.core g.values in
     puts_filled (writes_of xs) g.port e.stored (subst Filled (sym (take_reads_memory 0 0 (reads_of xs) (port_of s))) h)
 
-unless_filled : (d : Option Denied) (insn : Insn) (s : State) → Kept s (perform_unless d insn s).state
-unless_filled (Some d) insn s h = h
-unless_filled None insn s h = perform_filled insn s h
-
 attempt_filled : (insn : Insn) (s : State) → Kept s (attempt insn s).state
-unfolding attempt
-attempt_filled insn s h = unless_filled (first_denied s.table s.active (held_ids s.frames) (asks (who_of s) insn s.core)) insn s h
+attempt_filled insn s = attempt_ways s (λ t. Kept s t.state) insn (λ d h. h) (λ e. perform_filled insn s)
 
 returned_filled : (o : Option Stop) (t : Step) → Filled t.state.memory → Filled (returned_by o t).state.memory
 returned_filled (Some stop) t h = h
 returned_filled None t h = h
 
-reti_filled : (fs : List Frame) (s : State) → Kept s (reti_by fs s).state
-reti_filled (Held b ∷ fs) s h = h
-reti_filled _ s h = returned_filled (attempt Reti s).state.stop (attempt Reti s) (attempt_filled Reti s h)
-
-reti_of_filled : (a : Option ℕ) (s : State) → Kept s (reti_of a s).state
-reti_of_filled (Some id) s h = h
-reti_of_filled None s h = reti_filled s.frames s h
-
-act_by_filled : (insn : Insn) (s : State) → Kept s (act_by insn s).state
-act_by_filled Reti s h = reti_of_filled s.active s h
-act_by_filled insn s h = attempt_filled insn s h
-
-act_on_filled : (o : Option Insn) (s : State) → Kept s (act_on o s).state
-act_on_filled None s h = h
-act_on_filled (Some insn) s h = act_by_filled insn s h
-
-act_home_filled : (b : Bool) (n : ℕ) (s : State) → Kept s (act_home b n s).state
-act_home_filled false n s h = h
-act_home_filled true n s h = act_on_filled (insn_at (byte_of s) (pc_of s) n) s h
-
-act_first_filled : (o : Option Insn) (s : State) → Kept s (act_first o s).state
-act_first_filled None s h = h
-act_first_filled (Some first) s h = act_home_filled (is_home s.table s.active (pc_of s) (length_of first)) (length_of first) s h
-
 act_filled : (s : State) → Kept s (act s).state
-unfolding act
-act_filled s h = act_first_filled (insn_of (word_at (byte_of s) (pc_of s)) 0 0) s h
-
-enter_at_filled : (p : Place) (a : Option ℕ) (left : ℕ) (s : State) → Kept s (enter_at p a left s).state
-enter_at_filled (Entry id) None left s h = h
-enter_at_filled _ _ left s h = h
+act_filled s =
+    act_ways s (λ t. Kept s t.state) (λ rule h. h) (λ b fs e h. h) (λ h. returned_filled (attempt Reti s).state.stop (attempt Reti s) (attempt_filled Reti s h)) (λ insn. attempt_filled insn s)
 
 pub enter_filled : (left : ℕ) (s : State) → Kept s (enter left s).state
-unfolding enter
-enter_filled left s h = enter_at_filled (place_of s.table (pc_of s)) s.active left s h
-
-begin_by_filled : (d : Option Denied) (left : ℕ) (s : State) → Kept s (begin_unless d left s).state
-begin_by_filled (Some d) left s h = h
-begin_by_filled None left s h = act_filled (enter left s).state (enter_filled left s h)
+enter_filled left s = enter_ways s (λ t. Kept s t.state) left (λ h. h) (λ id p a h. h)
 
 begin_filled : (left : ℕ) (s : State) → Kept s (begin left s).state
-unfolding begin
-begin_filled left s h = begin_by_filled (right s.table s.active (held_ids s.frames) (fetch s)) left s h
-
-asleep_filled : (x : Bool) (left : ℕ) (s : State) → Kept s (turn_unless x left s).state
-asleep_filled true left s h = h
-asleep_filled false left s h = begin_filled left s h
-
-push_filled : (d : Option Denied) (v : ℕ) (s : State) → Kept s (push_both d v s).state
-push_filled (Some d) v s h = h
-push_filled None v s h = puts_filled (pushes s) (record { devices = s.devices; memory = s.memory }) (reg s.core 0 ∷ reg s.core 2 ∷ []) h
+begin_filled left s = begin_ways s (λ t. Kept s t.state) left (λ d h. h) (λ e h. act_filled (enter left s).state (enter_filled left s h))
 
 outside_filled : (v : ℕ) (s : State) → Kept s (arrive_outside v s).state
-unfolding arrive_outside
-outside_filled v s h = push_filled (first_denied s.table None (held_ids s.frames) (pushes s)) v s h
+outside_filled v s =
+    outside_ways s (λ t. Kept s t.state) v (λ d h. h) (λ h. puts_filled (pushes s) (record { devices = s.devices; memory = s.memory }) (reg s.core 0 ∷ reg s.core 2 ∷ []) h)
 
 inside_filled : (v id : ℕ) (s : State) → Kept s (arrive_inside v id s).state
 unfolding arrive_inside
 inside_filled v id s h = h
 
-padded_filled : (n : ℕ) (s : State) → Kept s (padded n s)
-padded_filled zero s h = h
-padded_filled (suc n) s h = h
-
-by_filled : (d o : Option ℕ) (p : Phase) (left : ℕ) (s : State) → Kept s (turn_at d o p left s).state
-by_filled d o (Pad n) left s h = padded_filled (n - 1) s h
-by_filled (Some v) (Some id) (Run r) left s h = inside_filled v id s h
-by_filled (Some v) None (Run zero) left s h = outside_filled v s h
-by_filled None None (Run (suc r)) left s h = h
-by_filled None None (Run zero) left s h = asleep_filled (asleep s) left s h
-by_filled None (Some id) (Run zero) left s h = begin_filled left s h
-by_filled _ _ (Run (suc r)) left s h = h
-
 turn_filled : (left : ℕ) (s : State) → Kept s (turn left s).state
-turn_filled left s = subst (λ t. Kept s t.state) (sym (turn_is left s)) (by_filled (due s) s.active s.phase left s)
+turn_filled left s = turn_ways s (λ t. Kept s t.state) left (λ n p h. h) (λ r h. h) (λ h. h) (begin_filled left s) (λ v id d a. inside_filled v id s) (λ v d. outside_filled v s)
 
 -- ---- settling
-resume_filled : (fs : List Frame) (s : State) → Kept s (resume_from fs s).state
-resume_filled [] s h = h
-resume_filled (Plain ∷ fs) s h = h
-resume_filled (Held b ∷ fs) s h = h
-
-close_filled : (a : Option ℕ) (o : Option Module) (s : State) → Kept s (close_of a o s).state
-close_filled (Some id) (Some x) s h = cleared_filled x.ram.start (size_of x.ram) s.memory h
-close_filled _ _ s h = h
-
-leave_filled : (b : Bool) (a : Option ℕ) (s : State) → Kept s (leave_if b a s).state
-leave_filled false (Some id) s h = h
-leave_filled _ _ s h = h
-
-settle_by_filled : (a : After) (s : State) → Kept s (settle_by a s).state
-settle_by_filled Resume s h = resume_filled s.frames s h
-settle_by_filled Close s h = close_filled s.active (own_of s.active s.table) s h
-settle_by_filled Handler s h = h
-settle_by_filled Next s h = leave_filled (in_text (own_of s.active s.table) (pc_of s)) s.active s h
-
-settle_in_filled : (p : Phase) (s : State) → Kept s (settle_in p s).state
-settle_in_filled (Run zero) s h = settle_by_filled s.after s h
-settle_in_filled _ s h = h
-
 pub settle_filled : (s : State) → Kept s (settle s).state
-unfolding settle
-settle_filled s h = settle_in_filled s.phase s h
+settle_filled s = settle_ways s (λ u. Kept s u.state) (λ h. h) (λ b fs e h. h) (λ id x a o. cleared_filled x.ram.start (size_of x.ram) s.memory) (λ e h. h) (λ id a h. h)
 
 pub ticked_filled : (s : State) → Kept s (ticked s)
 unfolding ticked

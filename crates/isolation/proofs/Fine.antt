@@ -1,7 +1,6 @@
 -- What every state of a run keeps of its cores, its table and its ids.
 use Rattle.std.proofs.Common.{◌≡◌, ℕ, zero, suc, ◌+◌, ◌-◌, ◌<◌, ◌≤◌, List, [], ◌∷◌, get_or, replicate, refl, sym, subst, arith, Bool, true, false, cond, Option, Some, None}
-use Rattle.sm_words.specs.Words.{reg, word_at, IsCore}
-use Rattle.insn_decode.specs.Code.{insn_of, length_of}
+use Rattle.sm_words.specs.Words.{reg, IsCore}
 use Rattle.insn_decode.specs.declared.insn.Insn.{Insn}
 use Rattle.insn_decode.specs.declared.insn.Insn.TheVariants.{Reti, Unit as UnitOp}
 use Rattle.schedule_file.specs.declared.Entry.{Entry as Scheduled}
@@ -11,29 +10,22 @@ use Rattle.mod_layout.specs.declared.Module.{Module}
 use Rattle.mod_layout.specs.declared.Place.{Place}
 use Rattle.mod_layout.specs.declared.Place.TheVariants.{Entry}
 use Rattle.mod_layout.specs.declared.Section.{Section}
-use Rattle.pc_access.specs.Rights.{first_denied, right}
-use Rattle.pc_access.specs.declared.Denied.{Denied}
 use Rattle.pc_access.specs.declared.Stop.{Stop}
 use Rattle.image_text.specs.Image.{Image, IsImage}
-use Rattle.reg_backup.specs.Held.{held_ids}
-use Rattle.reg_backup.specs.declared.backup.After.{After}
-use Rattle.reg_backup.specs.declared.backup.After.TheVariants.{Next, Handler, Resume, Close}
-use Rattle.reg_backup.specs.declared.backup.Phase.{Phase}
-use Rattle.reg_backup.specs.declared.backup.Phase.TheVariants.{Run, Pad}
+use Rattle.reg_backup.specs.declared.backup.After.TheVariants.{Next}
+use Rattle.reg_backup.specs.declared.backup.Phase.TheVariants.{Run}
 use Rattle.reg_backup.specs.declared.frames.Frame.{Frame}
 use Rattle.reg_backup.specs.declared.frames.Frame.TheVariants.{Plain, Module as Held}
-use Rattle.attest.specs.Done.{own_of}
 use Rattle.attest.specs.Units.{UnitName, Protect, unit_named, new_text, new_ram, table_by}
-use Rattle.cpu_step.specs.Asked.{table_after, asks}
-use Rattle.cpu_step.specs.Fetched.{insn_at}
-use Rattle.written_machine.specs.Cycle.{Step, Settled, told, denied, unsettled, pc_of, byte_of, in_text, leave_if, close_of, resume_from, settle_by, settle_in, settle, ticked, due, arrive_inside, push_both, pushes, plain_if, arrive_outside, who_of, perform, perform_unless, attempt, without_newest, returned_by, reti_by, reti_of, act_by, act_on, act_home, act_first, act, is_home, enter_at, enter, fetch, begin_unless, begin, padded, asleep, turn, counted_by, move, cycle_by}
+use Rattle.cpu_step.specs.Asked.{table_after}
+use Rattle.written_machine.specs.Cycle.{Step, Settled, stopped, told, denied, unsettled, pc_of, settle, ticked, arrive_inside, plain_if, arrive_outside, who_of, perform, attempt, without_newest, returned_by, reti_by, act, enter_at, enter, begin, padded, turn, counted_by, move, cycle_by}
 use Rattle.written_machine.specs.State.{State}
 use Rattle.written_machine.specs.View.{at}
 use Rattle.isolation.proofs.Each.{Each}
 use Rattle.isolation.proofs.Gie.{effect_keeps, past_keeps}
 use Rattle.mod_layout.proofs.TableLemmas.{taken, table_more, table_dropped}
 use Rattle.sm_words.proofs.Cores.{put_core}
-use Rattle.isolation.proofs.Cases.{turn_at, turn_unless, turn_is}
+use Rattle.isolation.proofs.Ways.{attempt_ways, act_ways, begin_ways, outside_ways, turn_ways, settle_ways}
 
 -- ---- a write of a register keeps a core
 zeros_core : IsCore (replicate 16 0)
@@ -77,32 +69,14 @@ ticked_fine s f = with_core s (ticked s) f f.core_ok refl refl refl
 self : (s : State) → Fine s → FineSettled (unsettled s)
 self s f = record { fine = f; left_small = omega arith }
 
-resume_fine : (fs : List Frame) (s : State) → Fine s → Each FineFrame fs → FineSettled (resume_from fs s)
-resume_fine (Held b ∷ fs) s f h = record { fine = record { core_ok = h.0.0; frames_ok = h.1; active_small = h.0.1; table_ok = f.table_ok; given_small = f.given_small }; left_small = omega arith }
-resume_fine _ s f h = self s f
-
-close_fine : (a : Option ℕ) (o : Option Module) (s : State) → Fine s → FineSettled (close_of a o s)
-close_fine (Some id) (Some x) s f =
-    record { fine = record { core_ok = f.core_ok; frames_ok = f.frames_ok; active_small = tt; table_ok = table_dropped s.table id f.table_ok; given_small = f.given_small }; left_small = omega arith }
-close_fine _ _ s f = self s f
-
-leave_fine : (b : Bool) (a : Option ℕ) (s : State) → Fine s → s.active ≡ a → FineSettled (leave_if b a s)
-leave_fine false (Some id) s f e = record { fine = record { core_ok = f.core_ok; frames_ok = f.frames_ok; active_small = tt; table_ok = f.table_ok; given_small = f.given_small }; left_small = subst Small e f.active_small }
-leave_fine _ _ s f e = self s f
-
-by_fine : (a : After) (s : State) → Fine s → FineSettled (settle_by a s)
-by_fine Resume s f = resume_fine s.frames s f f.frames_ok
-by_fine Close s f = close_fine s.active (own_of s.active s.table) s f
-by_fine Handler s f = record { fine = with_core s (record s { after = Next }) f f.core_ok refl refl refl; left_small = omega arith }
-by_fine Next s f = leave_fine (in_text (own_of s.active s.table) (pc_of s)) s.active s f refl
-
-in_fine : (p : Phase) (s : State) → Fine s → FineSettled (settle_in p s)
-in_fine (Run zero) s f = by_fine s.after s f
-in_fine _ s f = self s f
-
 settle_fine : (s : State) → Fine s → FineSettled (settle s)
-unfolding settle
-settle_fine s f = in_fine s.phase s f
+settle_fine s f =
+    settle_ways s FineSettled (self s f)
+    (λ b fs e. let h = subst (Each FineFrame) e f.frames_ok in
+    record { fine = record { core_ok = h.0.0; frames_ok = h.1; active_small = h.0.1; table_ok = f.table_ok; given_small = f.given_small }; left_small = omega arith })
+    (λ id x a o. record { fine = record { core_ok = f.core_ok; frames_ok = f.frames_ok; active_small = tt; table_ok = table_dropped s.table id f.table_ok; given_small = f.given_small }; left_small = omega arith })
+    (λ e. record { fine = with_core s (record s { after = Next }) f f.core_ok refl refl refl; left_small = omega arith })
+    (λ id a. record { fine = record { core_ok = f.core_ok; frames_ok = f.frames_ok; active_small = tt; table_ok = f.table_ok; given_small = f.given_small }; left_small = subst Small a f.active_small })
 
 pub settled_fine : (s : State) → Fine s → FineSettled (settle (ticked s))
 settled_fine s f = settle_fine (ticked s) (ticked_fine s f)
@@ -117,14 +91,10 @@ plain_fine : (fs : List Frame) → Each FineFrame fs → Each FineFrame (plain_i
 plain_fine [] h = tt
 plain_fine (x ∷ fs) h = (tt, h)
 
-push_fine : (d : Option Denied) (v : ℕ) (s : State) → Fine s → Fine (push_both d v s).state
-push_fine (Some d) v s f = with_core s (push_both (Some d) v s).state f f.core_ok refl refl refl
-push_fine None v s f =
-    record { core_ok = put_core _ 0 _ (put_core _ 2 _ (put_core s.core 1 _ f.core_ok)); frames_ok = plain_fine s.frames f.frames_ok; active_small = f.active_small; table_ok = f.table_ok; given_small = f.given_small }
-
 outside_fine : (v : ℕ) (s : State) → Fine s → Fine (arrive_outside v s).state
-unfolding arrive_outside
-outside_fine v s f = push_fine (first_denied s.table None (held_ids s.frames) (pushes s)) v s f
+outside_fine v s f =
+    outside_ways s (λ t. Fine t.state) v (λ d. with_core s (denied d s).state f f.core_ok refl refl refl)
+    record { core_ok = put_core _ 0 _ (put_core _ 2 _ (put_core s.core 1 _ f.core_ok)); frames_ok = plain_fine s.frames f.frames_ok; active_small = f.active_small; table_ok = f.table_ok; given_small = f.given_small }
 
 -- ---- instructions
 abbrev pub TableFine : Table → Type 0
@@ -149,13 +119,8 @@ perform_fine insn s f =
     let t = table_fine insn s.table s.core (f.table_ok, f.given_small) in
     record { core_ok = effect_keeps IsCore put_core insn (who_of s) s.core _ f.core_ok; frames_ok = f.frames_ok; active_small = f.active_small; table_ok = t.0; given_small = t.1 }
 
-unless_fine : (d : Option Denied) (insn : Insn) (s : State) → Fine s → Fine (perform_unless d insn s).state
-unless_fine (Some d) insn s f = with_core s (denied d s).state f f.core_ok refl refl refl
-unless_fine None insn s f = perform_fine insn s f
-
 attempt_fine : (insn : Insn) (s : State) → Fine s → Fine (attempt insn s).state
-unfolding attempt
-attempt_fine insn s f = unless_fine (first_denied s.table s.active (held_ids s.frames) (asks (who_of s) insn s.core)) insn s f
+attempt_fine insn s f = attempt_ways s (λ t. Fine t.state) insn (λ d. with_core s (denied d s).state f f.core_ok refl refl refl) (λ e. perform_fine insn s f)
 
 newest_fine : (fs : List Frame) → Each FineFrame fs → Each FineFrame (without_newest fs)
 newest_fine [] h = tt
@@ -165,33 +130,11 @@ returned_fine : (o : Option Stop) (u : Step) → Fine u.state → Fine (returned
 returned_fine (Some stop) u f = f
 returned_fine None u f = record { core_ok = f.core_ok; frames_ok = newest_fine u.state.frames f.frames_ok; active_small = f.active_small; table_ok = f.table_ok; given_small = f.given_small }
 
-reti_fine : (fs : List Frame) (s : State) → Fine s → Fine (reti_by fs s).state
-reti_fine (Held b ∷ fs) s f = with_core s (reti_by (Held b ∷ fs) s).state f (past_keeps IsCore put_core Reti s.core f.core_ok) refl refl refl
-reti_fine _ s f = returned_fine (attempt Reti s).state.stop (attempt Reti s) (attempt_fine Reti s f)
-
-reti_of_fine : (a : Option ℕ) (s : State) → Fine s → Fine (reti_of a s).state
-reti_of_fine (Some id) s f = with_core s (reti_of (Some id) s).state f f.core_ok refl refl refl
-reti_of_fine None s f = reti_fine s.frames s f
-
-act_by_fine : (insn : Insn) (s : State) → Fine s → Fine (act_by insn s).state
-act_by_fine Reti s f = reti_of_fine s.active s f
-act_by_fine insn s f = attempt_fine insn s f
-
-act_on_fine : (o : Option Insn) (s : State) → Fine s → Fine (act_on o s).state
-act_on_fine None s f = with_core s (act_on None s).state f f.core_ok refl refl refl
-act_on_fine (Some insn) s f = act_by_fine insn s f
-
-act_home_fine : (b : Bool) (n : ℕ) (s : State) → Fine s → Fine (act_home b n s).state
-act_home_fine false n s f = with_core s (act_home false n s).state f f.core_ok refl refl refl
-act_home_fine true n s f = act_on_fine (insn_at (byte_of s) (pc_of s) n) s f
-
-act_first_fine : (o : Option Insn) (s : State) → Fine s → Fine (act_first o s).state
-act_first_fine None s f = with_core s (act_first None s).state f f.core_ok refl refl refl
-act_first_fine (Some first) s f = act_home_fine (is_home s.table s.active (pc_of s) (length_of first)) (length_of first) s f
-
 act_fine : (s : State) → Fine s → Fine (act s).state
-unfolding act
-act_fine s f = act_first_fine (insn_of (word_at (byte_of s) (pc_of s)) 0 0) s f
+act_fine s f =
+    act_ways s (λ t. Fine t.state) (λ rule. with_core s (stopped rule (pc_of s) 0 s).state f f.core_ok refl refl refl)
+    (λ b fs e. with_core s (reti_by (Held b ∷ fs) s).state f (past_keeps IsCore put_core Reti s.core f.core_ok) refl refl refl)
+    (returned_fine (attempt Reti s).state.stop (attempt Reti s) (attempt_fine Reti s f)) (λ insn. attempt_fine insn s f)
 
 -- a module of the table has a small number
 entry_by : (n id x : ℕ) (e t r : Bool) (rest : Place) → x ≤ n → place_by e t r x rest ≡ Entry id → (rest ≡ Entry id → id ≤ n) → id ≤ n
@@ -211,34 +154,19 @@ pub enter_fine : (left : ℕ) (s : State) → Fine s → Fine (enter left s).sta
 unfolding enter place_of
 enter_fine left s f = enter_by_fine (place_of s.table (pc_of s)) s.active left s f (λ id e. let k = entry_known s.table.given id s.table.modules (pc_of s) f.table_ok.modules e in let g = f.given_small in omega arith)
 
-begin_unless_fine : (d : Option Denied) (left : ℕ) (s : State) → Fine s → Fine (begin_unless d left s).state
-begin_unless_fine (Some d) left s f = with_core s (denied d s).state f f.core_ok refl refl refl
-begin_unless_fine None left s f = act_fine (enter left s).state (enter_fine left s f)
-
 begin_fine : (left : ℕ) (s : State) → Fine s → Fine (begin left s).state
-unfolding begin
-begin_fine left s f = begin_unless_fine (right s.table s.active (held_ids s.frames) (fetch s)) left s f
+begin_fine left s f =
+    begin_ways s (λ t. Fine t.state) left (λ d. with_core s (denied d s).state f f.core_ok refl refl refl) (λ e. act_fine (enter left s).state (enter_fine left s f))
 
 -- ---- a cycle
 padded_fine : (n : ℕ) (s : State) → Fine s → Fine (padded n s)
 padded_fine zero s f = with_core s (padded zero s) f f.core_ok refl refl refl
 padded_fine (suc n) s f = with_core s (padded (suc n) s) f f.core_ok refl refl refl
 
-asleep_fine : (b : Bool) (left : ℕ) (s : State) → Fine s → Fine (turn_unless b left s).state
-asleep_fine true left s f = f
-asleep_fine false left s f = begin_fine left s f
-
-turn_by_fine : (d o : Option ℕ) (p : Phase) (left : ℕ) (s : State) → Fine s → s.active ≡ o → Fine (turn_at d o p left s).state
-turn_by_fine d o (Pad n) left s f e = padded_fine (n - 1) s f
-turn_by_fine (Some v) (Some id) (Run r) left s f e = inside_fine v id s f e
-turn_by_fine (Some v) None (Run zero) left s f e = outside_fine v s f
-turn_by_fine None None (Run (suc r)) left s f e = with_core s (record s { phase = Run r }) f f.core_ok refl refl refl
-turn_by_fine None None (Run zero) left s f e = asleep_fine (asleep s) left s f
-turn_by_fine None (Some id) (Run zero) left s f e = begin_fine left s f
-turn_by_fine _ _ (Run (suc r)) left s f e = with_core s (record s { phase = Run r }) f f.core_ok refl refl refl
-
 turn_fine : (left : ℕ) (s : State) → Fine s → Fine (turn left s).state
-turn_fine left s f = subst (λ t. Fine t.state) (sym (turn_is left s)) (turn_by_fine (due s) s.active s.phase left s f refl)
+turn_fine left s f =
+    turn_ways s (λ t. Fine t.state) left (λ n p. padded_fine (n - 1) s f) (λ r. with_core s (record s { phase = Run r }) f f.core_ok refl refl refl) f (begin_fine left s f)
+    (λ v id d a. inside_fine v id s f a) (λ v d. outside_fine v s f)
 
 counted_fine : (o : Option Stop) (t : Step) → Fine t.state → Fine (counted_by o t).state
 counted_fine (Some stop) t f = f

@@ -63,7 +63,7 @@ hide_by false m own s = veil m own s
 abbrev pub hide : ℕ → Module → State → State
 hide m own s = hide_by (is_id m s.active) m own s
 
-held_ids_if : (m : ℕ) (c : Bool) (b : Backup) → (veil_if c b).module ≡ b.module
+pub held_ids_if : (m : ℕ) (c : Bool) (b : Backup) → (veil_if c b).module ≡ b.module
 held_ids_if m true b = refl
 held_ids_if m false b = refl
 

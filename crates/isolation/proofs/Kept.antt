@@ -1,33 +1,22 @@
 -- What one run keeps of a module until it is closed, and where it is entered.
-use Rattle.std.proofs.Common.{◌≡◌, ◌⊎◌, inl, inr, ⊎_elim, ℕ, zero, List, [], ◌∷◌, ◌++◌, refl, sym, ap, subst, Bool, true, false, cond, Option, Some, None}
-use Rattle.sm_words.specs.Words.{word_at}
-use Rattle.insn_decode.specs.Code.{insn_of, length_of}
+use Rattle.std.proofs.Common.{◌≡◌, ◌⊎◌, inl, inr, ⊎_elim, ℕ, List, [], ◌∷◌, ◌++◌, refl, ap, subst, Bool, true, false, cond, Option, Some, None}
 use Rattle.insn_decode.specs.declared.insn.Insn.{Insn}
 use Rattle.insn_decode.specs.declared.insn.Insn.TheVariants.{Reti}
 use Rattle.mod_layout.specs.Table.{place_of}
 use Rattle.mod_layout.specs.declared.Module.{Module}
 use Rattle.mod_layout.specs.declared.Place.{Place}
 use Rattle.mod_layout.specs.declared.Place.TheVariants.{Entry}
-use Rattle.pc_access.specs.Rights.{first_denied}
 use Rattle.pc_access.specs.declared.Denied.{Denied}
 use Rattle.pc_access.specs.declared.Stop.{Stop}
-use Rattle.reg_backup.specs.Held.{held_ids}
-use Rattle.reg_backup.specs.declared.backup.After.{After}
-use Rattle.reg_backup.specs.declared.backup.After.TheVariants.{Next, Close}
-use Rattle.reg_backup.specs.declared.backup.Phase.{Phase}
-use Rattle.reg_backup.specs.declared.backup.Phase.TheVariants.{Run}
-use Rattle.reg_backup.specs.declared.frames.Frame.{Frame}
-use Rattle.reg_backup.specs.declared.frames.Frame.TheVariants.{Module as Held}
-use Rattle.attest.specs.Done.{own_of}
-use Rattle.cpu_step.specs.Asked.{asks, table_after}
-use Rattle.cpu_step.specs.Fetched.{insn_at}
+use Rattle.reg_backup.specs.declared.backup.After.TheVariants.{Close}
+use Rattle.cpu_step.specs.Asked.{table_after}
 use Rattle.tracer.specs.declared.Event.{Event}
 use Rattle.tracer.specs.declared.Event.TheVariants.{Enter as Entered}
-use Rattle.written_machine.specs.Cycle.{Step, told, denied, pc_of, byte_of, in_text, resume_from, close_of, leave_if, settle_by, settle_in, settle, ticked, due, arrive_inside, arrive_outside, push_both, pushes, who_of, perform, perform_unless, attempt, returned_by, reti_by, reti_of, act_by, act_on, act_home, act_first, act, is_home, enter_at, enter, begin_unless, begin, asleep, turn, sent_event, counted_by, move, cycle_by, cycle}
+use Rattle.written_machine.specs.Cycle.{Step, told, denied, pc_of, settle, ticked, arrive_inside, arrive_outside, perform, attempt, returned_by, act, enter_at, enter, begin_unless, begin, turn, sent_event, counted_by, move, cycle_by, cycle}
 use Rattle.written_machine.specs.State.{State}
 use Rattle.isolation.specs.Calls.{Enters}
 use Rattle.isolation.proofs.Turns.{check, begin_by}
-use Rattle.isolation.proofs.Cases.{turn_at, turn_unless, turn_is}
+use Rattle.isolation.proofs.Ways.{attempt_ways, act_ways, outside_ways, turn_ways, settle_ways}
 
 -- ---- no event of these enters a module
 module _ (m from : ℕ) where
@@ -41,31 +30,10 @@ module _ (m from : ℕ) where
   one : (e : Event) → (e ≡ Entered m from → ⊥) → Quiet (e ∷ [])
   one e n h = ⊎_elim n (λ x. x) h
 
-  resume_quiet : (fs : List Frame) (s : State) → Quiet (resume_from fs s).events
-  resume_quiet (Held b ∷ fs) s = one (Event.Resume b.module) (λ e. cc)
-  resume_quiet _ s = λ h. h
-
-  close_quiet : (a : Option ℕ) (o : Option Module) (s : State) → Quiet (close_of a o s).events
-  close_quiet (Some id) (Some x) s = one (Event.Close id) (λ e. cc)
-  close_quiet _ _ s = λ h. h
-
-  leave_quiet : (b : Bool) (a : Option ℕ) (s : State) → Quiet (leave_if b a s).events
-  leave_quiet false (Some id) s = one (Event.Leave id (pc_of s)) (λ e. cc)
-  leave_quiet _ _ s = λ h. h
-
-  by_quiet : (a : After) (s : State) → Quiet (settle_by a s).events
-  by_quiet After.Resume s = resume_quiet s.frames s
-  by_quiet Close s = close_quiet s.active (own_of s.active s.table) s
-  by_quiet After.Handler s = one (Event.Handler (pc_of s)) (λ e. cc)
-  by_quiet Next s = leave_quiet (in_text (own_of s.active s.table) (pc_of s)) s.active s
-
-  in_quiet : (p : Phase) (s : State) → Quiet (settle_in p s).events
-  in_quiet (Run zero) s = by_quiet s.after s
-  in_quiet _ s = λ h. h
-
   settle_quiet : (s : State) → Quiet (settle s).events
-  unfolding settle
-  settle_quiet s = in_quiet s.phase s
+  settle_quiet s =
+      settle_ways s (λ u. Quiet u.events) (λ h. h) (λ b fs f. one (Event.Resume b.module) (λ e. cc)) (λ id x a o. one (Event.Close id) (λ e. cc)) (λ f. one (Event.Handler (pc_of s)) (λ e. cc))
+      (λ id a. one (Event.Leave id (pc_of s)) (λ e. cc))
 
   made_quiet : (c : Bool) (n : ℕ) → Quiet (cond c [] (Event.Protect n ∷ []))
   made_quiet true n = λ h. h
@@ -78,53 +46,19 @@ module _ (m from : ℕ) where
   denied_quiet : (d : Denied) (s : State) → Quiet (denied d s).events
   denied_quiet d s = one (Event.Stop _) (λ e. cc)
 
-  unless_quiet : (d : Option Denied) (insn : Insn) (s : State) → Quiet (perform_unless d insn s).events
-  unless_quiet (Some d) insn s = denied_quiet d s
-  unless_quiet None insn s = perform_quiet insn s
-
   attempt_quiet : (insn : Insn) (s : State) → Quiet (attempt insn s).events
-  unfolding attempt
-  attempt_quiet insn s = unless_quiet (first_denied s.table s.active (held_ids s.frames) (asks (who_of s) insn s.core)) insn s
+  attempt_quiet insn s = attempt_ways s (λ t. Quiet t.events) insn (λ d. denied_quiet d s) (λ e. perform_quiet insn s)
 
   returned_quiet : (o : Option Stop) (u : Step) → Quiet u.events → Quiet (returned_by o u).events
   returned_quiet (Some stop) u q = q
   returned_quiet None u q = λ h. ⊎_elim (λ (e : Event.Reti ≡ Entered m from). cc) q h
 
-  reti_quiet : (fs : List Frame) (s : State) → Quiet (reti_by fs s).events
-  reti_quiet (Held b ∷ fs) s = λ h. h
-  reti_quiet _ s = returned_quiet (attempt Reti s).state.stop (attempt Reti s) (attempt_quiet Reti s)
-
-  reti_of_quiet : (a : Option ℕ) (s : State) → Quiet (reti_of a s).events
-  reti_of_quiet (Some id) s = one (Event.Stop _) (λ e. cc)
-  reti_of_quiet None s = reti_quiet s.frames s
-
-  act_by_quiet : (insn : Insn) (s : State) → Quiet (act_by insn s).events
-  act_by_quiet Reti s = reti_of_quiet s.active s
-  act_by_quiet insn s = attempt_quiet insn s
-
-  act_on_quiet : (o : Option Insn) (s : State) → Quiet (act_on o s).events
-  act_on_quiet None s = one (Event.Stop _) (λ e. cc)
-  act_on_quiet (Some insn) s = act_by_quiet insn s
-
-  act_home_quiet : (b : Bool) (n : ℕ) (s : State) → Quiet (act_home b n s).events
-  act_home_quiet false n s = one (Event.Stop _) (λ e. cc)
-  act_home_quiet true n s = act_on_quiet (insn_at (byte_of s) (pc_of s) n) s
-
-  act_first_quiet : (o : Option Insn) (s : State) → Quiet (act_first o s).events
-  act_first_quiet None s = one (Event.Stop _) (λ e. cc)
-  act_first_quiet (Some first) s = act_home_quiet (is_home s.table s.active (pc_of s) (length_of first)) (length_of first) s
-
   act_quiet : (s : State) → Quiet (act s).events
-  unfolding act
-  act_quiet s = act_first_quiet (insn_of (word_at (byte_of s) (pc_of s)) 0 0) s
-
-  push_quiet : (d : Option Denied) (v : ℕ) (s : State) → Quiet (push_both d v s).events
-  push_quiet (Some d) v s = denied_quiet d s
-  push_quiet None v s = one (Event.Irq v) (λ e. cc)
+  act_quiet s =
+      act_ways s (λ t. Quiet t.events) (λ rule. one (Event.Stop _) (λ e. cc)) (λ b fs e h. h) (returned_quiet (attempt Reti s).state.stop (attempt Reti s) (attempt_quiet Reti s)) (λ insn. attempt_quiet insn s)
 
   outside_quiet : (v : ℕ) (s : State) → Quiet (arrive_outside v s).events
-  unfolding arrive_outside
-  outside_quiet v s = push_quiet (first_denied s.table None (held_ids s.frames) (pushes s)) v s
+  outside_quiet v s = outside_ways s (λ t. Quiet t.events) v (λ d. denied_quiet d s) (one (Event.Irq v) (λ e. cc))
 
   inside_quiet : (v id : ℕ) (s : State) → Quiet (arrive_inside v id s).events
   unfolding arrive_inside
@@ -163,20 +97,10 @@ module _ (m from : ℕ) where
         let p = begin_entering_by own key text left s (check m own key text s) refl h' in
         record { is = refl; free = p.0; here = p.1; none = p.2; from_is = p.3 }
 
-    unless_entering : (x : Bool) (left : ℕ) (s : State) → Enters m from (turn_unless x left s).events → Enters_now own key text left s (turn_unless x left s)
-    unless_entering true left s h = absurd h
-    unless_entering false left s h = begin_entering left s h
-
-    turn_entering_by : (d a : Option ℕ) (p : Phase) (left : ℕ) (s : State) → Enters m from (turn_at d a p left s).events → Enters_now own key text left s (turn_at d a p left s)
-    turn_entering_by (Some v) (Some id) (Run r) left s h = absurd (inside_quiet v id s h)
-    turn_entering_by (Some v) None (Run zero) left s h = absurd (outside_quiet v s h)
-    turn_entering_by None None (Run zero) left s h = unless_entering (asleep s) left s h
-    turn_entering_by None (Some id) (Run zero) left s h = begin_entering left s h
-    turn_entering_by _ _ _ left s h = absurd h
-
     turn_entering : (left : ℕ) (s : State) → Enters m from (turn left s).events → Enters_now own key text left s (turn left s)
     turn_entering left s =
-        subst (λ t. Enters m from t.events → Enters_now own key text left s t) (sym (turn_is left s)) (turn_entering_by (due s) s.active s.phase left s)
+        turn_ways s (λ t. Enters m from t.events → Enters_now own key text left s t) left (λ n p h. absurd h) (λ r h. absurd h) (λ h. absurd h) (begin_entering left s)
+        (λ v id d a h. absurd (inside_quiet v id s h)) (λ v d h. absurd (outside_quiet v s h))
 
     sent_quiet : (o : Option ℕ) → Quiet (sent_event o)
     sent_quiet None = λ h. h

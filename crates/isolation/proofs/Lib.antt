@@ -1,4 +1,5 @@
 pub mod Cases
+pub mod Ways
 pub mod Each
 pub mod Bytes
 pub mod Ports
@@ -31,7 +32,6 @@ pub mod Padding
 pub mod Telling
 pub mod Moves
 pub mod Playing
-pub mod Allowed
 pub mod Owner
 pub mod Few
 pub mod Framed

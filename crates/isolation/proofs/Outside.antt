@@ -1,8 +1,7 @@
 -- What the outside, handlers and other modules do keeps the relation.
-use Rattle.std.proofs.Common.{◌≡◌, ◌≢◌, ℕ, ◌%◌, List, [], ◌∷◌, refl, sym, ap, ◌∙◌, subst, arith, Bool, true, false, Option, Some, None}
+use Rattle.std.proofs.Common.{◌≡◌, ◌≢◌, ℕ, ◌%◌, List, [], ◌∷◌, refl, sym, ap, ◌∙◌, subst, arith, true, false, Option, Some, None}
 use Rattle.sm_words.specs.Sums.{one_if}
-use Rattle.sm_words.specs.Words.{reg, word_at}
-use Rattle.insn_decode.specs.Code.{insn_of, length_of}
+use Rattle.sm_words.specs.Words.{reg}
 use Rattle.insn_decode.specs.declared.insn.Insn.{Insn}
 use Rattle.insn_decode.specs.declared.insn.Insn.TheVariants.{Reti}
 use Rattle.mod_layout.specs.Table.{size_of, place_of}
@@ -16,8 +15,7 @@ use Rattle.reg_backup.specs.declared.frames.Frame.{Frame}
 use Rattle.reg_backup.specs.declared.frames.Frame.TheVariants.{Module as Held}
 use Rattle.attest.specs.Accesses.{reads_of, writes_of}
 use Rattle.cpu_step.specs.Asked.{asks, effect}
-use Rattle.cpu_step.specs.Fetched.{insn_at}
-use Rattle.written_machine.specs.Cycle.{Step, pc_of, byte_of, is_home, push_both, pushes, plain_if, arrive_outside, port_of, who_of, perform, perform_unless, attempt, without_newest, returned_by, reti_by, reti_of, act_by, act_on, act_home, act_first, act}
+use Rattle.written_machine.specs.Cycle.{Step, stopped, pc_of, push_both, pushes, plain_if, arrive_outside, port_of, who_of, perform, attempt, without_newest, returned_by, reti_by, reti_of, act}
 use Rattle.written_machine.specs.Peers.{section}
 use Rattle.written_machine.specs.Ports.{Port, take_reads}
 use Rattle.written_machine.specs.State.{State}
@@ -26,6 +24,7 @@ use Rattle.isolation.proofs.Ports.{put_writes_part, take_reads_memory}
 use Rattle.isolation.proofs.Relation.{find_held, times, run_by, Keeps, Stays, Outer}
 use Rattle.isolation.proofs.Rights.{Sound, writes_out, text_writes_out}
 use Rattle.isolation.proofs.Tables.{sound_after}
+use Rattle.isolation.proofs.Ways.{attempt_ways, act_with}
 
 found_plain : (m : ℕ) (fs : List Frame) → find_held m (plain_if fs) ≡ find_held m fs
 found_plain m [] = refl
@@ -118,13 +117,8 @@ module _ (m : ℕ) (own : Module) (key text : List ℕ) where
           sound = sound_after m own s.table insn s.core k.sound;
         }
 
-    by_check : (d : Option Denied) (insn : Insn) → first_denied s.table s.active (held_ids s.frames) (asks (who_of s) insn s.core) ≡ d → Acts (perform_unless d insn s)
-    by_check (Some d) insn e = record { active = refl; frames = refl; bytes = refl; texts = refl; key_same = refl; sound = k.sound }
-    by_check None insn e = perform_acts insn e
-
     attempt_acts : (insn : Insn) → Acts (attempt insn s)
-    unfolding attempt
-    attempt_acts insn = by_check (first_denied s.table s.active (held_ids s.frames) (asks (who_of s) insn s.core)) insn refl
+    attempt_acts insn = attempt_ways s Acts insn (λ d. record { active = refl; frames = refl; bytes = refl; texts = refl; key_same = refl; sound = k.sound }) (perform_acts insn)
 
     -- the same, where frames may go that are no module's
     record ActsToo (u : Step) : Type 0 where
@@ -153,25 +147,9 @@ module _ (m : ℕ) (own : Module) (key text : List ℕ) where
     reti_of_acts (Some id) = light_acts (reti_of (Some id) s) (refl, refl, refl, refl, refl)
     reti_of_acts None = reti_acts s.frames refl
 
-    act_by_acts : (insn : Insn) → ActsToo (act_by insn s)
-    act_by_acts Reti = reti_of_acts s.active
-    act_by_acts insn = acts_too (attempt insn s) (attempt_acts insn)
-
-    act_on_acts : (o : Option Insn) → ActsToo (act_on o s)
-    act_on_acts None = light_acts (act_on None s) (refl, refl, refl, refl, refl)
-    act_on_acts (Some insn) = act_by_acts insn
-
-    act_home_acts : (b : Bool) (n : ℕ) → ActsToo (act_home b n s)
-    act_home_acts false n = light_acts (act_home false n s) (refl, refl, refl, refl, refl)
-    act_home_acts true n = act_on_acts (insn_at (byte_of s) (pc_of s) n)
-
-    act_first_acts : (o : Option Insn) → ActsToo (act_first o s)
-    act_first_acts None = light_acts (act_first None s) (refl, refl, refl, refl, refl)
-    act_first_acts (Some first) = act_home_acts (is_home s.table s.active (pc_of s) (length_of first)) (length_of first)
-
     act_acts : ActsToo (act s)
-    unfolding act
-    act_acts = act_first_acts (insn_of (word_at (byte_of s) (pc_of s)) 0 0)
+    act_acts =
+        act_with s ActsToo (λ rule. light_acts (stopped rule (pc_of s) 0 s) (refl, refl, refl, refl, refl)) (reti_of_acts s.active) (λ insn. acts_too (attempt insn s) (attempt_acts insn))
 
     pub act_outer : pc_of s % 2 ≡ 0 → place_of s.table (pc_of s) ≢ Data m → Outer m own key text s (act s) (act (veil m own s))
     act_outer even ne =

@@ -1,23 +1,18 @@
 -- A handler begins 12 cycles after its hide.
-use Rattle.std.proofs.Common.{◌≡◌, ◌⊎◌, inl, inr, ⊎_elim, ℕ, zero, suc, ◌+◌, ◌-◌, List, [], ◌∷◌, ◌++◌, refl, sym, ap, ◌∙◌, subst, arith, Bool, true, false, Option, Some, None}
+use Rattle.std.proofs.Common.{◌≡◌, ◌⊎◌, inl, inr, ⊎_elim, ℕ, zero, suc, ◌+◌, ◌-◌, List, [], ◌∷◌, ◌++◌, refl, sym, ap, ◌∙◌, subst, arith, true, false, Option, Some, None}
 use Rattle.schedule_file.specs.declared.Entry.{Entry as Scheduled}
-use Rattle.mod_layout.specs.declared.Module.{Module}
 use Rattle.pc_access.specs.declared.Stop.{Stop}
 use Rattle.image_text.specs.Image.{Image}
-use Rattle.reg_backup.specs.declared.backup.After.{After}
-use Rattle.reg_backup.specs.declared.backup.After.TheVariants.{Next, Handler, Resume, Close}
-use Rattle.reg_backup.specs.declared.backup.Phase.{Phase}
+use Rattle.reg_backup.specs.declared.backup.After.TheVariants.{Next, Handler}
 use Rattle.reg_backup.specs.declared.backup.Phase.TheVariants.{Run, Pad}
-use Rattle.reg_backup.specs.declared.frames.Frame.{Frame}
-use Rattle.reg_backup.specs.declared.frames.Frame.TheVariants.{Module as Held}
-use Rattle.attest.specs.Done.{own_of}
 use Rattle.tracer.specs.declared.Event.{Event}
-use Rattle.written_machine.specs.Cycle.{Step, Settled, quiet, told, unsettled, pc_of, in_text, rest_of, resume_from, close_of, leave_if, settle_by, settle_in, settle, ticked, due, padded, turn, sent_event, counted_by, move, cycle_by, cycle, after_cycles}
+use Rattle.written_machine.specs.Cycle.{Step, Settled, quiet, told, unsettled, pc_of, rest_of, settle_by, settle_in, settle, ticked, due, padded, turn, sent_event, counted_by, move, cycle_by, cycle, after_cycles}
 use Rattle.written_machine.specs.State.{State}
 use Rattle.written_machine.specs.View.{at}
 use Rattle.isolation.specs.Calls.{Hides, Handles}
 use Rattle.isolation.proofs.Tame.{Calm, is_handler, closing_calm, turned, turn_late, sent_late, Late, bare_hides, late_handles, hides_more, hides_front, cycle_number, ticked_stop, counted_stop, padded_stop}
 use Rattle.isolation.proofs.Cases.{turn_at, turn_is}
+use Rattle.isolation.proofs.Ways.{settle_ways}
 
 -- ---- settling where no handler is due
 record Settles (u : Settled) : Type 0 where
@@ -27,31 +22,10 @@ record Settles (u : Settled) : Type 0 where
 unsettled_calm : (s : State) → Calm s → Settles (unsettled s)
 unsettled_calm s h = record { calm = h; none = λ x. x }
 
-resume_calm : (fs : List Frame) (s : State) → Calm s → Settles (resume_from fs s)
-resume_calm (Held b ∷ fs) s h = record { calm = (refl, closing_calm b.closing); none = λ x. x }
-resume_calm _ s h = unsettled_calm s h
-
-close_calm : (a : Option ℕ) (o : Option Module) (s : State) → Calm s → Settles (close_of a o s)
-close_calm (Some id) (Some x) s h = record { calm = (h.0, refl); none = λ x. x }
-close_calm _ _ s h = unsettled_calm s h
-
-leave_calm : (b : Bool) (a : Option ℕ) (s : State) → Calm s → Settles (leave_if b a s)
-leave_calm false (Some id) s h = record { calm = h; none = λ x. x }
-leave_calm _ _ s h = unsettled_calm s h
-
-by_calm : (a : After) (s : State) → s.after ≡ a → Calm s → Settles (settle_by a s)
-by_calm Resume s e h = resume_calm s.frames s h
-by_calm Close s e h = close_calm s.active (own_of s.active s.table) s h
-by_calm Handler s e h = absurd (let c : true ≡ false = ap is_handler (sym e) ∙ h.1 in cc)
-by_calm Next s e h = leave_calm (in_text (own_of s.active s.table) (pc_of s)) s.active s h
-
-in_calm : (p : Phase) (s : State) → Calm s → Settles (settle_in p s)
-in_calm (Run zero) s h = by_calm s.after s refl h
-in_calm _ s h = unsettled_calm s h
-
 settle_calm : (s : State) → Calm s → Settles (settle s)
-unfolding settle
-settle_calm s h = in_calm s.phase s h
+settle_calm s h =
+    settle_ways s Settles (unsettled_calm s h) (λ b fs e. record { calm = (refl, closing_calm b.closing); none = λ x. x }) (λ id x a o. record { calm = (h.0, refl); none = λ x. x })
+    (λ e. absurd (let c : true ≡ false = ap is_handler (sym e) ∙ h.1 in cc)) (λ id a. record { calm = h; none = λ x. x })
 
 ticked_calm : (s : State) → Calm s → Calm (ticked s)
 unfolding ticked
@@ -251,31 +225,10 @@ record Plainly (s : State) (u : Settled) : Type 0 where
 plainly : (s : State) → Plainly s (unsettled s)
 plainly s = record { none = λ x. x; stop = refl }
 
-resume_plainly : (fs : List Frame) (s : State) → Plainly s (resume_from fs s)
-resume_plainly (Held b ∷ fs) s = record { none = λ x. x; stop = refl }
-resume_plainly _ s = plainly s
-
-close_plainly : (a : Option ℕ) (o : Option Module) (s : State) → Plainly s (close_of a o s)
-close_plainly (Some id) (Some x) s = record { none = λ x. x; stop = refl }
-close_plainly _ _ s = plainly s
-
-leave_plainly : (b : Bool) (a : Option ℕ) (s : State) → Plainly s (leave_if b a s)
-leave_plainly false (Some id) s = record { none = λ x. x; stop = refl }
-leave_plainly _ _ s = plainly s
-
-by_plainly : (a : After) (s : State) → Plainly s (settle_by a s)
-by_plainly Resume s = resume_plainly s.frames s
-by_plainly Close s = close_plainly s.active (own_of s.active s.table) s
-by_plainly Handler s = record { none = λ x. x; stop = refl }
-by_plainly Next s = leave_plainly (in_text (own_of s.active s.table) (pc_of s)) s.active s
-
-in_plainly : (p : Phase) (s : State) → Plainly s (settle_in p s)
-in_plainly (Run zero) s = by_plainly s.after s
-in_plainly _ s = plainly s
-
 settle_plainly : (s : State) → Plainly s (settle s)
-unfolding settle
-settle_plainly s = in_plainly s.phase s
+settle_plainly s =
+    settle_ways s (Plainly s) (plainly s) (λ b fs e. record { none = λ x. x; stop = refl }) (λ id x a o. record { none = λ x. x; stop = refl }) (λ e. record { none = λ x. x; stop = refl })
+    (λ id a. record { none = λ x. x; stop = refl })
 
 -- where a module was hidden, it pads
 abbrev Padded : State → Type 0

@@ -59,9 +59,6 @@ module _ (a b : Image) (m : ℕ) (schedule : List Scheduled) (peers : Peers a b 
   one_move : (x y : Marked) (v w : Move) → v.text ≡ w.text → Alike v.after w.after → Same x y (v ∷ []) (w ∷ [])
   one_move x y v w e h = record { text = ap (λ t. t ++ []) e; leads = h }
 
-  cycle_is : (k : ℕ) → (at a schedule k).cycle ≡ (at b schedule k).cycle
-  cycle_is k = cycles_same a b m schedule peers k
-
   still : (k : ℕ) (ks : List ℕ) → Alike (moment a schedule most k ks) (moment b schedule most k ks)
   still k ks = record { number = k; numbers = ks; one = refl; other = refl }
 
@@ -92,7 +89,7 @@ module _ (a b : Image) (m : ℕ) (schedule : List Scheduled) (peers : Peers a b 
       Same x y (mark_move x (cond c (Some (record x { marks = x.marks ++ x.present ∷ [] })) None) ∷ []) (mark_move y (cond d (Some (record y { marks = y.marks ++ y.present ∷ [] })) None) ∷ []))
   mark_by k ks true true e =
       let count = length-map ks (at a schedule) ∙ sym (length-map ks (at b schedule)) in
-      one_move _ _ _ _ (mark_text_same _ _ _ _ count (cycle_is k)) (record {
+      one_move _ _ _ _ (mark_text_same _ _ _ _ count (cycles_same a b m schedule peers k)) (record {
         number = k;
         numbers = ks ++ k ∷ [];
         one = ap (λ l. let x = moment a schedule most k ks in record x { marks = l }) (sym (map-append (at a schedule) ks (k ∷ [])));
@@ -121,7 +118,7 @@ module _ (a b : Image) (m : ℕ) (schedule : List Scheduled) (peers : Peers a b 
   back_by j k ks (Some i) p q e f =
       let x = moment a schedule most k ks in
       let y = moment b schedule most k ks in
-      rw (e, f) (one_move x y (back_move j x (Some (cut_at j x (at a schedule i)))) (back_move j y (Some (cut_at j y (at b schedule i)))) (back_text_same j _ _ (cycle_is i)) (cut_alike j k ks i))
+      rw (e, f) (one_move x y (back_move j x (Some (cut_at j x (at a schedule i)))) (back_move j y (Some (cut_at j y (at b schedule i)))) (back_text_same j _ _ (cycles_same a b m schedule peers i)) (cut_alike j k ks i))
   back_by j k ks None p q e f = rw (e, f) (one_move _ _ _ _ refl (still k ks))
 
   back_same : (j k : ℕ) (ks : List ℕ) → Same (moment a schedule most k ks) (moment b schedule most k ks) (line_moves (moment a schedule most k ks) (Back j)) (line_moves (moment b schedule most k ks) (Back j))
@@ -153,7 +150,7 @@ module _ (a b : Image) (m : ℕ) (schedule : List Scheduled) (peers : Peers a b 
   last_found addr j k ks (Some i) p q e f =
       let x = moment a schedule most k ks in
       let y = moment b schedule most k ks in
-      rw (e, f) (one_move x y (last_move addr j x (Some (cut_at j x (at a schedule i)))) (last_move addr j y (Some (cut_at j y (at b schedule i)))) (last_text_same addr _ _ (cycle_is i)) (cut_alike j k ks i))
+      rw (e, f) (one_move x y (last_move addr j x (Some (cut_at j x (at a schedule i)))) (last_move addr j y (Some (cut_at j y (at b schedule i)))) (last_text_same addr _ _ (cycles_same a b m schedule peers i)) (cut_alike j k ks i))
   last_found addr j k ks None p q e f =
       let count = length-map ks (at a schedule) ∙ sym (length-map ks (at b schedule)) in
       rw (e, f) (one_move _ _ _ _ (ap (λ n. cond (nat_lt j n) (not_there_text addr) (no_mark_text j)) count) (still k ks))
@@ -165,7 +162,7 @@ module _ (a b : Image) (m : ℕ) (schedule : List Scheduled) (peers : Peers a b 
       let x = moment a schedule most k ks in
       let y = moment b schedule most k ks in
       let n = (at a schedule k).cycle - (at a schedule i).cycle in
-      let same_n : (at b schedule k).cycle - (at b schedule i).cycle ≡ n = ap (λ c. c - (at b schedule i).cycle) (sym (cycle_is k)) ∙ ap (λ c. (at a schedule k).cycle - c) (sym (cycle_is i)) in
+      let same_n : (at b schedule k).cycle - (at b schedule i).cycle ≡ n = ap (λ c. c - (at b schedule i).cycle) (sym (cycles_same a b m schedule peers k)) ∙ ap (λ c. (at a schedule k).cycle - c) (sym (cycles_same a b m schedule peers i)) in
       let l = last_both addr i n in
       last_found addr j k ks l.found _ _
       (ap (option_and_then (last_from addr x)) e ∙ l.one)

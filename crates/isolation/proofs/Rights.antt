@@ -2,6 +2,7 @@
 use Rattle.std.proofs.Common.{◌≡◌, ◌≢◌, ◌⊎◌, ℕ, ◌+◌, ◌%◌, ◌<◌, ◌≤◌, List, [], ◌∷◌, refl, subst, arith, Bool, true, false, cond, not, ◌==◌, Option, Some, None, ⊎_elim}
 use Rattle.std.proofs.lemmas.Bool.{cases_lt}
 use Rattle.std.proofs.lemmas.Bool.Decides.{nat_tests}
+use Rattle.pc_access.proofs.RightLemmas.{aligned_both}
 use Rattle.sm_words.specs.declared.width.Width.{Width}
 use Rattle.sm_words.specs.declared.width.Width.TheVariants.{Byte, Word}
 use Rattle.mod_layout.specs.Table.{Table, place_of, module_of, size_of, holds}
@@ -9,13 +10,14 @@ use Rattle.mod_layout.specs.Tables.{Apart, IsTable}
 use Rattle.mod_layout.specs.declared.Module.{Module}
 use Rattle.mod_layout.specs.declared.Place.TheVariants.{Entry, Text, Data}
 use Rattle.mod_layout.specs.declared.Section.{Section}
-use Rattle.pc_access.specs.Rights.{right, right_at, refuse_if, aligned_first, misaligned, first_denied, or_else, is_id}
+use Rattle.pc_access.specs.Rights.{right, right_at, refuse_if, misaligned, first_denied, or_else, is_id}
 use Rattle.pc_access.specs.declared.Access.{Access}
 use Rattle.pc_access.specs.declared.Denied.{Denied}
 use Rattle.pc_access.specs.declared.Kind.{Kind}
 use Rattle.pc_access.specs.declared.Kind.TheVariants.{Fetch, Read, Write}
 use Rattle.pc_access.specs.declared.Rule.TheVariants.{ReadData, WriteData}
 use Rattle.attest.specs.Accesses.{is_read, is_write, reads_of, writes_of}
+pub use Rattle.mod_layout.proofs.Found.{within as holds_in}
 use Rattle.isolation.proofs.Bytes.{Out}
 use Rattle.isolation.proofs.Each.{Each}
 use Rattle.isolation.proofs.Ports.{OutBy, OutAccess}
@@ -45,19 +47,12 @@ pub record Sound (m : ℕ) (own : Module) (t : Table) : Type 0 where
   pub was_given : m ≤ t.given
   pub others : (id : ℕ) (x : Module) → module_of id t ≡ Some x → (id == m) ≡ false → Apart x.ram own.ram × Apart x.ram own.text
 
-aligned_none : (b : Bool) (a : ℕ) (r : Option Denied) → aligned_first b a r ≡ None → (b ≡ false) × (r ≡ None)
-aligned_none true a r e = absurd cc
-aligned_none false a r e = (refl, e)
-
 refused : (b : Bool) (r : _) (a id : ℕ) → refuse_if (not b) r a id ≡ None → b ≡ true
 refused true r a id e = refl
 refused false r a id e = cc
 
 pub holds_true : (s : Section) (a : ℕ) → holds s a ≡ true → (s.start ≤ a) × (a < s.end)
 holds_true s a e = (grind (arith, nat_tests), grind (arith, nat_tests))
-
-pub holds_in : (s : Section) (a : ℕ) → s.start ≤ a → a < s.end → holds s a ≡ true
-holds_in s a low high = grind (arith, nat_tests)
 
 none_or : (p q : Option Denied) → or_else p q ≡ None → (p ≡ None) × (q ≡ None)
 none_or None q e = (refl, e)
@@ -67,24 +62,23 @@ even_of : (w : Width) (a : ℕ) → misaligned w a ≡ false → (w ≡ Word) �
 even_of Byte a e f = cc
 even_of Word a e f = let k : a % 2 ≢ 1 = grind (arith, nat_tests) in omega arith
 
+-- the byte after an even address is out where that one is
+out_next : (lo n a : ℕ) → lo % 2 ≡ 0 → a % 2 ≡ 0 → Out lo n a → Out lo n (a + 1)
+out_next lo n a start even out low =
+    let low' : lo ≤ a = omega arith in
+    let k : lo + n ≤ a = out low' in
+    omega arith
+
+out_width : (w : Width) (lo n a : ℕ) → lo % 2 ≡ 0 → misaligned w a ≡ false → Out lo n a → OutBy w lo n a
+out_width Byte lo n a start e out = out
+out_width Word lo n a start e out = (out, out_next lo n a start (even_of Word a e refl) out)
+
 module _ (m : ℕ) (own : Module) (t : Table) (sound : Sound m own t) where
   -- an address that is not the module's data is out of them
   out_of : (a : ℕ) → place_of t a ≢ Data m → Out own.ram.start (size_of own.ram) a
   out_of a ne low =
       let lt = sound.ram_order in
       ⊎_elim (λ in_ram. absurd (ne (sound.in_data a (holds_in own.ram a low in_ram)))) (λ past. omega arith) (cases_lt a own.ram.end)
-
-  -- the byte after an even address is out where that one is
-  out_next : (a : ℕ) → a % 2 ≡ 0 → Out own.ram.start (size_of own.ram) a → Out own.ram.start (size_of own.ram) (a + 1)
-  out_next a even out low =
-      let s0 = sound.ram_start in
-      let low' : own.ram.start ≤ a = omega arith in
-      let k : own.ram.start + size_of own.ram ≤ a = out low' in
-      omega arith
-
-  by_width : (w : Width) (a : ℕ) → misaligned w a ≡ false → Out own.ram.start (size_of own.ram) a → OutBy w own.ram.start (size_of own.ram) a
-  by_width Byte a e out = out
-  by_width Word a e out = (out, out_next a (even_of Word a e refl) out)
 
   module _ (active : Option ℕ) (held : List ℕ) (other : is_id m active ≡ false) where
     not_read : (a : ℕ) → right_at (place_of t a) active held Read a ≡ None → place_of t a ≢ Data m
@@ -101,11 +95,11 @@ module _ (m : ℕ) (own : Module) (t : Table) (sound : Sound m own t) where
     unfolding right
     right_out Fetch w a ne e = absurd (ne refl)
     right_out Read w a ne e =
-        let p = aligned_none (misaligned w a) a (right_at (place_of t a) active held Read a) e in
-        by_width w a p.0 (out_of a (not_read a p.1))
+        let p = aligned_both (misaligned w a) a (right_at (place_of t a) active held Read a) e in
+        out_width w own.ram.start (size_of own.ram) a sound.ram_start p.0 (out_of a (not_read a p.1))
     right_out Write w a ne e =
-        let p = aligned_none (misaligned w a) a (right_at (place_of t a) active held Write a) e in
-        by_width w a p.0 (out_of a (not_written a p.1))
+        let p = aligned_both (misaligned w a) a (right_at (place_of t a) active held Write a) e in
+        out_width w own.ram.start (size_of own.ram) a sound.ram_start p.0 (out_of a (not_written a p.1))
 
     reads_by : (k : Kind) (a : ℕ) (w : Width) (ys : List Access) → right t active held (record { kind = k; addr = a; width = w }) ≡ None → Each (OutAccess own.ram.start (size_of own.ram)) ys → Each (OutAccess own.ram.start (size_of own.ram)) (cond (is_read k) (record { kind = k; addr = a; width = w } ∷ ys) ys)
     reads_by Read a w ys e h = (right_out Read w a (λ f. cc) e, h)
@@ -132,7 +126,7 @@ module _ (m : ℕ) (own : Module) (t : Table) (sound : Sound m own t) where
   out_place a ne = out_of m own t sound a ne
 
   pub out_place_next : (a : ℕ) → a % 2 ≡ 0 → place_of t a ≢ Data m → OutBy Word own.ram.start (size_of own.ram) a
-  out_place_next a even ne = (out_of m own t sound a ne, out_next m own t sound a even (out_of m own t sound a ne))
+  out_place_next a even ne = (out_of m own t sound a ne, out_next own.ram.start (size_of own.ram) a sound.ram_start even (out_of m own t sound a ne))
 
 -- what is allowed to be written, to anyone, stays out of the module's text
 module _ (m : ℕ) (own : Module) (t : Table) (sound : Sound m own t) (active : Option ℕ) (held : List ℕ) where
@@ -148,22 +142,11 @@ module _ (m : ℕ) (own : Module) (t : Table) (sound : Sound m own t) (active : 
       let lt = sound.text_order in
       ⊎_elim (λ in_it. absurd (not_text a e (holds_in own.text a low in_it))) (λ past. omega arith) (cases_lt a own.text.end)
 
-  text_next : (a : ℕ) → a % 2 ≡ 0 → Out own.text.start (size_of own.text) a → Out own.text.start (size_of own.text) (a + 1)
-  text_next a even out low =
-      let s0 = sound.text_start in
-      let low' : own.text.start ≤ a = omega arith in
-      let k : own.text.start + size_of own.text ≤ a = out low' in
-      omega arith
-
-  text_width : (w : Width) (a : ℕ) → misaligned w a ≡ false → Out own.text.start (size_of own.text) a → OutBy w own.text.start (size_of own.text) a
-  text_width Byte a e out = out
-  text_width Word a e out = (out, text_next a (even_of Word a e refl) out)
-
   text_by : (k : Kind) (a : ℕ) (w : Width) (ys : List Access) → right t active held (record { kind = k; addr = a; width = w }) ≡ None → Each (OutAccess own.text.start (size_of own.text)) ys → Each (OutAccess own.text.start (size_of own.text)) (cond (is_write k) (record { kind = k; addr = a; width = w } ∷ ys) ys)
   unfolding right
   text_by Write a w ys e h =
-      let p = aligned_none (misaligned w a) a (right_at (place_of t a) active held Write a) e in
-      (text_width w a p.0 (text_out_of a p.1), h)
+      let p = aligned_both (misaligned w a) a (right_at (place_of t a) active held Write a) e in
+      (out_width w own.text.start (size_of own.text) a sound.text_start p.0 (text_out_of a p.1), h)
   text_by _ a w ys e h = h
 
   pub text_writes_out : (xs : List Access) → first_denied t active held xs ≡ None → Each (OutAccess own.text.start (size_of own.text)) (writes_of xs)

@@ -21,7 +21,7 @@ use Rattle.tracer.specs.declared.Event.{Event}
 use Rattle.written_machine.specs.Cycle.{Step, Settled, unsettled, pc_of, ticked, resume_from, close_of, in_text, leave_if, settle_by, settle_in, settle, vector_if, due, rest_of, vector_word, arrive_inside, enter_at, enter}
 use Rattle.written_machine.specs.State.{State}
 use Rattle.isolation.proofs.Bytes.{cleared_comm}
-use Rattle.isolation.proofs.Hide.{veil_core, veil_if, veil_frames, veil, veil_step, hide_by, hide, length_veiled, vector_veiled}
+use Rattle.isolation.proofs.Hide.{veil_core, veil_if, veil_frames, veil, veil_step, hide_by, hide, length_veiled, vector_veiled, held_ids_if}
 use Rattle.isolation.proofs.Rights.{Sound}
 use Rattle.sm_words.specs.Status.{is_gie}
 
@@ -53,22 +53,18 @@ module _ (m : ℕ) (own : Module) where
   due_hidden s = due_by (is_id m s.active) s
 
   -- ---- an arrival inside a module
+  abbrev arrived : ℕ → ℕ → State → ℕ → Bool → Step
+  arrived v id s w c =
+      let b : Backup = record { «module» = id; caller = s.caller; core = s.core; rest = rest_of s.phase; closing = is_close s.after } in
+      record {
+        state = record (veil m own s) { core = put (put (replicate 16 0) 0 w) 1 s.handler_sp; active = None; frames = Held (veil_if c b) ∷ veil_frames m s.frames; phase = Pad 11; after = Next; devices = accepted s.devices v };
+        events = Event.Hide id v ∷ [];
+      }
+
   pub arrive_hidden : (c : Bool) (t : Table) → Sound m own t → (v id : ℕ) (s : State) → (id == m) ≡ c → arrive_inside v id (hide_by c m own s) ≡ veil_step m own (arrive_inside v id s)
   unfolding arrive_inside
-  arrive_hidden true t sound v id s e =
-      let b : Backup = record { «module» = id; caller = s.caller; core = s.core; rest = rest_of s.phase; closing = is_close s.after } in
-      let build : ℕ → Bool → Step = λ w c. record {
-        state = record (veil m own s) { core = put (put (replicate 16 0) 0 w) 1 s.handler_sp; active = None; frames = Held (veil_if c b) ∷ veil_frames m s.frames; phase = Pad 11; after = Next; devices = accepted s.devices v };
-        events = Event.Hide id v ∷ [];
-      } in
-      ap (λ w. build w true) (vector_veiled m own t sound s v) ∙ ap (λ c. build (vector_word s v) c) (sym e)
-  arrive_hidden false t sound v id s e =
-      let b : Backup = record { «module» = id; caller = s.caller; core = s.core; rest = rest_of s.phase; closing = is_close s.after } in
-      let build : ℕ → Bool → Step = λ w c. record {
-        state = record (veil m own s) { core = put (put (replicate 16 0) 0 w) 1 s.handler_sp; active = None; frames = Held (veil_if c b) ∷ veil_frames m s.frames; phase = Pad 11; after = Next; devices = accepted s.devices v };
-        events = Event.Hide id v ∷ [];
-      } in
-      ap (λ w. build w false) (vector_veiled m own t sound s v) ∙ ap (λ c. build (vector_word s v) c) (sym e)
+  arrive_hidden true t sound v id s e = ap (λ w. arrived v id s w true) (vector_veiled m own t sound s v) ∙ ap (arrived v id s (vector_word s v)) (sym e)
+  arrive_hidden false t sound v id s e = ap (λ w. arrived v id s w false) (vector_veiled m own t sound s v) ∙ ap (arrived v id s (vector_word s v)) (sym e)
 
   -- ---- settling while another or none is active
   resume_by : (c : Bool) (b : Backup) (fs : List Frame) (s : State) →
@@ -76,10 +72,6 @@ module _ (m : ℕ) (own : Module) where
       ≡ hide_by c m own (record s { core = b.core; active = Some b.module; caller = b.caller; frames = fs; phase = Run b.rest; after = closing_after b.closing })
   resume_by true b fs s = refl
   resume_by false b fs s = refl
-
-  id_if : (c : Bool) (b : Backup) → (veil_if c b).module ≡ b.module
-  id_if true b = refl
-  id_if false b = refl
 
   module _ (s : State) (other : is_id m s.active ≡ false) where
     pub same_hidden : hide m own s ≡ veil m own s
@@ -93,7 +85,7 @@ module _ (m : ℕ) (own : Module) where
         let build : State → ℕ → Settled = λ u id. record { state = u; events = Event.Resume id ∷ []; left = 0 } in
         let x = veil_if (b.module == m) b in
         let u : State = record (veil m own s) { core = x.core; active = Some x.module; caller = x.caller; frames = veil_frames m fs; phase = Run x.rest; after = closing_after x.closing } in
-        ap (λ i. build u i) (id_if (b.module == m) b) ∙ ap (λ v. build v b.module) (resume_by (b.module == m) b fs s)
+        ap (λ i. build u i) (held_ids_if m (b.module == m) b) ∙ ap (λ v. build v b.module) (resume_by (b.module == m) b fs s)
     resume_veiled _ = unsettled_veiled
 
     close_veiled : (a : Option ℕ) (o : Option Module) → close_of a o (veil m own s) ≡ hide_settled m own (close_of a o s)

@@ -12,36 +12,18 @@ use Rattle.mod_layout.specs.declared.Place.TheVariants.{Open, Entry, Text, Data}
 use Rattle.mod_layout.specs.declared.Section.{Section}
 use Rattle.attest.specs.Units.{UnitName, Protect, unit_named, new_text, new_ram, table_by}
 use Rattle.cpu_step.specs.Asked.{table_after}
-use Rattle.isolation.proofs.Rights.{Sound, holds_true, holds_in}
+use Rattle.isolation.proofs.Rights.{Sound, holds_true}
 use Rattle.mod_layout.proofs.TableLemmas.{apart_sym, table_dropped, table_more}
-use Rattle.mod_layout.proofs.Found.{separate_found}
+use Rattle.mod_layout.proofs.Found.{separate_found, outside, elsewhere, no_entry}
 
 apart_out : (s r : Section) (a : ℕ) → s.start < s.end → r.start < r.end → Apart s r → holds s a ≡ true → holds r a ≡ false
-apart_out s r a so ro h e = let p = holds_true s a e in by (holds r a) refl
-  where
-    by : (c : Bool) → holds r a ≡ c → holds r a ≡ false
-    by false f = f
-    by true f =
-        let p = holds_true s a e in
-        let q = holds_true r a f in
-        absurd (⊎_elim (λ x. omega (arith, p.0, p.1, q.0, q.1)) (λ x. omega (arith, p.0, p.1, q.0, q.1)) h)
+apart_out s r a so ro h e = let p = holds_true s a e in outside r a (elsewhere r s a p.0 p.1 ro (apart_sym s r h))
 
 separate_sym : (x y : Module) → Separate x y → Separate y x
 separate_sym x y s = record { texts = apart_sym x.text y.text s.texts; text_ram = apart_sym x.ram y.text s.ram_text; ram_text = apart_sym x.text y.ram s.text_ram; rams = apart_sym x.ram y.ram s.rams; ids = λ e. s.ids (sym e) }
 
 abbrev is_entry : Section → ℕ → Bool
 is_entry s a = (a == s.start) || (a == s.start + 1)
-
-pub no_entry : (s : Section) (a : ℕ) → IsSection s → holds s a ≡ false → is_entry s a ≡ false
-no_entry s a ok e = by (is_entry s a) refl
-  where
-    by : (c : Bool) → is_entry s a ≡ c → is_entry s a ≡ false
-    by false f = f
-    by true f =
-        let o = ok.order in let e1 = ok.even_start in let e2 = ok.even_end in
-        let low : s.start ≤ a = grind (arith, nat_tests) in
-        let up : a ≤ s.start + 1 = grind (arith, nat_tests) in
-        let t = holds_in s a low (omega arith) in absurd (let c : true ≡ false = sym t ∙ e in cc)
 
 module _ (given : ℕ) (x : Module) (ok : IsModule given x) (rest : Place) (a : ℕ) where
   place_skip : holds x.text a ≡ false → holds x.ram a ≡ false → place_by (is_entry x.text a) (holds x.text a) (holds x.ram a) x.id rest ≡ rest

@@ -1,36 +1,23 @@
 -- What a cycle does to its number, its phase and what is settled next, and which events tell of it.
 use Rattle.std.proofs.Common.{◌≡◌, ◌≢◌, ◌⊎◌, inl, inr, ⊎_elim, ℕ, zero, suc, ◌+◌, ◌-◌, ◌<◌, List, [], ◌∷◌, ◌++◌, refl, sym, ap, ◌∙◌, subst, arith, Bool, true, false, cond, ◌==◌, Option, Some, None, zero-add}
 use Rattle.std.proofs.lemmas.Bool.Decides.{nat_tests}
-use Rattle.sm_words.specs.Words.{word_at}
-use Rattle.insn_decode.specs.Code.{insn_of, length_of}
 use Rattle.insn_decode.specs.declared.insn.Insn.{Insn}
 use Rattle.insn_decode.specs.declared.insn.Insn.TheVariants.{Reti}
 use Rattle.schedule_file.specs.declared.Entry.{Entry as Scheduled}
-use Rattle.mod_layout.specs.Table.{place_of}
-use Rattle.mod_layout.specs.declared.Module.{Module}
-use Rattle.mod_layout.specs.declared.Place.{Place}
-use Rattle.mod_layout.specs.declared.Place.TheVariants.{Entry}
-use Rattle.pc_access.specs.Rights.{first_denied, right}
 use Rattle.pc_access.specs.declared.Denied.{Denied}
 use Rattle.pc_access.specs.declared.Stop.{Stop}
 use Rattle.image_text.specs.Image.{Image}
-use Rattle.reg_backup.specs.Held.{held_ids}
 use Rattle.reg_backup.specs.Saved.{closing_after}
 use Rattle.reg_backup.specs.declared.backup.After.{After}
 use Rattle.reg_backup.specs.declared.backup.After.TheVariants.{Next, Handler, Resume, Close}
-use Rattle.reg_backup.specs.declared.backup.Phase.{Phase}
 use Rattle.reg_backup.specs.declared.backup.Phase.TheVariants.{Run, Pad}
-use Rattle.reg_backup.specs.declared.frames.Frame.{Frame}
-use Rattle.reg_backup.specs.declared.frames.Frame.TheVariants.{Plain, Module as Held}
-use Rattle.attest.specs.Done.{own_of}
-use Rattle.cpu_step.specs.Asked.{asks, table_after}
-use Rattle.cpu_step.specs.Fetched.{insn_at}
+use Rattle.cpu_step.specs.Asked.{table_after}
 use Rattle.tracer.specs.declared.Event.{Event}
-use Rattle.written_machine.specs.Cycle.{Step, quiet, told, denied, pc_of, byte_of, in_text, rest_of, resume_from, close_of, leave_if, settle_by, settle_in, settle, ticked, due, arrive_inside, arrive_outside, push_both, pushes, who_of, perform, perform_unless, attempt, returned_by, reti_by, reti_of, act_by, act_on, act_home, act_first, act, is_home, enter_at, enter, fetch, begin_unless, begin, padded, asleep, turn, sent_event, counted_by, move, cycle_by, after_cycles}
+use Rattle.written_machine.specs.Cycle.{Step, quiet, told, denied, rest_of, settle, ticked, arrive_inside, arrive_outside, perform, attempt, returned_by, act, enter, begin, padded, turn, sent_event, counted_by, move, cycle_by, after_cycles}
 use Rattle.written_machine.specs.State.{State}
 use Rattle.written_machine.specs.View.{at, boot}
 use Rattle.isolation.specs.Calls.{Ends, Hides, Handles}
-use Rattle.isolation.proofs.Cases.{turn_at, turn_unless, turn_is}
+use Rattle.isolation.proofs.Ways.{attempt_ways, act_ways, enter_ways, begin_ways, outside_ways, turn_ways, settle_ways}
 
 abbrev pub is_handler : After → Bool
 is_handler Handler = true
@@ -128,6 +115,9 @@ pub record Tame (s : State) (t : Step) : Type 0 where
 denied_tame : (d : Denied) (s : State) → Tame s (denied d s)
 denied_tame d s = record { same = refl; key = refl; bare = tt; calm = λ h. h }
 
+quiet_tame : (s : State) → Tame s (quiet s)
+quiet_tame s = record { same = refl; key = refl; bare = tt; calm = λ h. h }
+
 made_bare : (c : Bool) (n : ℕ) → Bare (cond c [] (Event.Protect n ∷ []))
 made_bare true n = tt
 made_bare false n = tt
@@ -140,76 +130,30 @@ perform_tame : (insn : Insn) (s : State) → Tame s (perform insn s)
 unfolding perform
 perform_tame insn s = record { same = refl; key = refl; bare = made_bare _ (table_after s.table insn s.core).given; calm = λ h. (refl, closing_calm _) }
 
-unless_tame : (d : Option Denied) (insn : Insn) (s : State) → Tame s (perform_unless d insn s)
-unless_tame (Some d) insn s = denied_tame d s
-unless_tame None insn s = perform_tame insn s
-
 attempt_tame : (insn : Insn) (s : State) → Tame s (attempt insn s)
-unfolding attempt
-attempt_tame insn s = unless_tame (first_denied s.table s.active (held_ids s.frames) (asks (who_of s) insn s.core)) insn s
+attempt_tame insn s = attempt_ways s (Tame s) insn (λ d. denied_tame d s) (λ e. perform_tame insn s)
 
 returned_tame : (o : Option Stop) (s : State) (u : Step) → Tame s u → Tame s (returned_by o u)
 returned_tame (Some stop) s u q = q
 returned_tame None s u q = record { same = q.same; key = q.key; bare = q.bare; calm = q.calm }
 
-reti_tame : (fs : List Frame) (s : State) → Tame s (reti_by fs s)
-reti_tame (Held b ∷ fs) s = record { same = refl; key = refl; bare = tt; calm = λ h. (refl, refl) }
-reti_tame _ s = returned_tame (attempt Reti s).state.stop s (attempt Reti s) (attempt_tame Reti s)
-
-reti_of_tame : (a : Option ℕ) (s : State) → Tame s (reti_of a s)
-reti_of_tame (Some id) s = record { same = refl; key = refl; bare = tt; calm = λ h. h }
-reti_of_tame None s = reti_tame s.frames s
-
-act_by_tame : (insn : Insn) (s : State) → Tame s (act_by insn s)
-act_by_tame Reti s = reti_of_tame s.active s
-act_by_tame insn s = attempt_tame insn s
-
-act_on_tame : (o : Option Insn) (s : State) → Tame s (act_on o s)
-act_on_tame None s = record { same = refl; key = refl; bare = tt; calm = λ h. h }
-act_on_tame (Some insn) s = act_by_tame insn s
-
-act_home_tame : (b : Bool) (n : ℕ) (s : State) → Tame s (act_home b n s)
-act_home_tame false n s = record { same = refl; key = refl; bare = tt; calm = λ h. h }
-act_home_tame true n s = act_on_tame (insn_at (byte_of s) (pc_of s) n) s
-
-act_first_tame : (o : Option Insn) (s : State) → Tame s (act_first o s)
-act_first_tame None s = record { same = refl; key = refl; bare = tt; calm = λ h. h }
-act_first_tame (Some first) s = act_home_tame (is_home s.table s.active (pc_of s) (length_of first)) (length_of first) s
-
 act_tame : (s : State) → Tame s (act s)
-unfolding act
-act_tame s = act_first_tame (insn_of (word_at (byte_of s) (pc_of s)) 0 0) s
-
-enter_at_tame : (p : Place) (a : Option ℕ) (left : ℕ) (s : State) → Tame s (enter_at p a left s)
-enter_at_tame (Entry id) None left s = record { same = refl; key = refl; bare = tt; calm = λ h. (h.0, refl) }
-enter_at_tame _ _ left s = record { same = refl; key = refl; bare = tt; calm = λ h. h }
+act_tame s =
+    act_ways s (Tame s) (λ rule. record { same = refl; key = refl; bare = tt; calm = λ h. h }) (λ b fs e. record { same = refl; key = refl; bare = tt; calm = λ h. (refl, refl) })
+    (returned_tame (attempt Reti s).state.stop s (attempt Reti s) (attempt_tame Reti s)) (λ insn. attempt_tame insn s)
 
 enter_tame : (left : ℕ) (s : State) → Tame s (enter left s)
-unfolding enter
-enter_tame left s = enter_at_tame (place_of s.table (pc_of s)) s.active left s
-
-begin_by_tame : (d : Option Denied) (left : ℕ) (s : State) → Tame s (begin_unless d left s)
-begin_by_tame (Some d) left s = denied_tame d s
-begin_by_tame None left s =
-    let e = enter_tame left s in
-    let a = act_tame (enter left s).state in
-    record { same = a.same ∙ e.same; key = a.key ∙ e.key; bare = bare_both (enter left s).events (act (enter left s).state).events e.bare a.bare; calm = λ h. a.calm (e.calm h) }
+enter_tame left s = enter_ways s (Tame s) left (quiet_tame s) (λ id p a. record { same = refl; key = refl; bare = tt; calm = λ h. (h.0, refl) })
 
 begin_tame : (left : ℕ) (s : State) → Tame s (begin left s)
-unfolding begin
-begin_tame left s = begin_by_tame (right s.table s.active (held_ids s.frames) (fetch s)) left s
-
-asleep_tame : (x : Bool) (left : ℕ) (s : State) → Tame s (turn_unless x left s)
-asleep_tame true left s = record { same = refl; key = refl; bare = tt; calm = λ h. h }
-asleep_tame false left s = begin_tame left s
-
-push_tame : (d : Option Denied) (v : ℕ) (s : State) → Tame s (push_both d v s)
-push_tame (Some d) v s = denied_tame d s
-push_tame None v s = record { same = refl; key = refl; bare = tt; calm = λ h. (refl, h.1) }
+begin_tame left s =
+    let e = enter_tame left s in
+    let a = act_tame (enter left s).state in
+    begin_ways s (Tame s) left (λ d. denied_tame d s)
+    (λ n. record { same = a.same ∙ e.same; key = a.key ∙ e.key; bare = bare_both (enter left s).events (act (enter left s).state).events e.bare a.bare; calm = λ h. a.calm (e.calm h) })
 
 outside_tame : (v : ℕ) (s : State) → Tame s (arrive_outside v s)
-unfolding arrive_outside
-outside_tame v s = push_tame (first_denied s.table None (held_ids s.frames) (pushes s)) v s
+outside_tame v s = outside_ways s (Tame s) v (λ d. denied_tame d s) record { same = refl; key = refl; bare = tt; calm = λ h. (refl, h.1) }
 
 -- ---- a turn
 -- it is tame, or pads, or begins to pad
@@ -237,17 +181,10 @@ inside_begins v id s = record { same = refl; key = refl; late = tt; hides = tt; 
 wait_tame : (r : ℕ) (s : State) → Tame s (quiet (record s { phase = Run r }))
 wait_tame r s = record { same = refl; key = refl; bare = tt; calm = λ h. (refl, h.1) }
 
-by_turned : (d o : Option ℕ) (p : Phase) (left : ℕ) (s : State) → s.phase ≡ p → Turned s (turn_at d o p left s)
-by_turned d o (Pad n) left s e = inr (inr (record { left = n; was = e; is = refl }))
-by_turned (Some v) (Some id) (Run r) left s e = inr (inl (inside_begins v id s))
-by_turned (Some v) None (Run zero) left s e = inl (outside_tame v s)
-by_turned None None (Run (suc r)) left s e = inl (wait_tame r s)
-by_turned None None (Run zero) left s e = inl (asleep_tame (asleep s) left s)
-by_turned None (Some id) (Run zero) left s e = inl (begin_tame left s)
-by_turned _ _ (Run (suc r)) left s e = inl (wait_tame r s)
-
 pub turned : (left : ℕ) (s : State) → Turned s (turn left s)
-turned left s = subst (Turned s) (sym (turn_is left s)) (by_turned (due s) s.active s.phase left s refl)
+turned left s =
+    turn_ways s (Turned s) left (λ n p. inr (inr (record { left = n; was = p; is = refl }))) (λ r. inl (wait_tame r s)) (inl (quiet_tame s)) (inl (begin_tame left s))
+    (λ v id d a. inr (inl (inside_begins v id s))) (λ v d. inl (outside_tame v s))
 
 padded_same : (n : ℕ) (s : State) → (padded n s).cycle ≡ s.cycle
 padded_same zero s = refl
@@ -274,33 +211,8 @@ sent_late (Some b) = tt
 abbrev Keeping : State → State → Type 0
 Keeping s t = (t.cycle ≡ s.cycle) × (t.key ≡ s.key)
 
-settle_same_by : (a : After) (s : State) → Keeping s (settle_by a s).state
-settle_same_by Resume s = resume (s.frames)
-  where
-    resume : (fs : List Frame) → Keeping s (resume_from fs s).state
-    resume [] = (refl, refl)
-    resume (Plain ∷ fs) = (refl, refl)
-    resume (Held b ∷ fs) = (refl, refl)
-settle_same_by Close s = close s.active (own_of s.active s.table)
-  where
-    close : (a : Option ℕ) (o : Option Module) → Keeping s (close_of a o s).state
-    close None o = (refl, refl)
-    close (Some id) None = (refl, refl)
-    close (Some id) (Some x) = (refl, refl)
-settle_same_by Handler s = (refl, refl)
-settle_same_by Next s = leave (in_text (own_of s.active s.table) (pc_of s)) s.active
-  where
-    leave : (b : Bool) (a : Option ℕ) → Keeping s (leave_if b a s).state
-    leave false (Some id) = (refl, refl)
-    leave _ _ = (refl, refl)
-
-settle_same_in : (p : Phase) (s : State) → Keeping s (settle_in p s).state
-settle_same_in (Run zero) s = settle_same_by s.after s
-settle_same_in _ s = (refl, refl)
-
 pub settle_same : (s : State) → Keeping s (settle s).state
-unfolding settle
-settle_same s = settle_same_in s.phase s
+settle_same s = settle_ways s (λ u. Keeping s u.state) (refl, refl) (λ b fs e. (refl, refl)) (λ id x a o. (refl, refl)) (λ e. (refl, refl)) (λ id a. (refl, refl))
 
 ticked_key : (s : State) → (ticked s).key ≡ s.key
 unfolding ticked

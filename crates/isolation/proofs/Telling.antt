@@ -121,18 +121,12 @@ module _ (m : ℕ) (s t : State) (v : view_of s (Only m) ≡ view_of t (Only m))
   all_seen = sym (all_hidden m s) ∙ ap coarse v ∙ all_hidden m t
 
 module _ (a b : Image) (m : ℕ) (schedule : List Scheduled) (peers : Peers a b m) where
-  views : (k : ℕ) → view_of (at a schedule k) (Only m) ≡ view_of (at b schedule k) (Only m)
-  views k = views_equal a b m schedule peers k
-
   pub cycles_same : (k : ℕ) → (at a schedule k).cycle ≡ (at b schedule k).cycle
-  cycles_same k = seen_cycle m (at a schedule k) (at b schedule k) (views k)
-
-  events : (k : ℕ) → (cycle (at a schedule k)).events ≡ (cycle (at b schedule k)).events
-  events k = events_equal a b m schedule peers k
+  cycles_same k = seen_cycle m (at a schedule k) (at b schedule k) (views_equal a b m schedule peers k)
 
   lines_same : (k : ℕ) → lines_of (at a schedule k).cycle (cycle (at a schedule k)).events ≡ lines_of (at b schedule k).cycle (cycle (at b schedule k)).events
   lines_same k =
-      ap (λ c. lines_of c (cycle (at a schedule k)).events) (seen_cycle m (at a schedule k) (at b schedule k) (views k)) ∙ ap (lines_of (at b schedule k).cycle) (events k)
+      ap (λ c. lines_of c (cycle (at a schedule k)).events) (seen_cycle m (at a schedule k) (at b schedule k) (views_equal a b m schedule peers k)) ∙ ap (lines_of (at b schedule k).cycle) (events_equal a b m schedule peers k)
 
   pub lines_from : (k n : ℕ) → lines_after (at a schedule k) n ≡ lines_after (at b schedule k) n
   lines_from k zero = refl
@@ -142,7 +136,7 @@ module _ (a b : Image) (m : ℕ) (schedule : List Scheduled) (peers : Peers a b 
       ∙ ap (λ l. lines_after (at b schedule k) n ++ l) (ap line (after_more a schedule k n) ∙ lines_same (n + k) ∙ ap line (sym (after_more b schedule k n)))
 
   pub ends_same : (k : ℕ) → end_line_of (at a schedule k) ≡ end_line_of (at b schedule k)
-  ends_same k = end_lines m (at a schedule k) (at b schedule k) (views k)
+  ends_same k = end_lines m (at a schedule k) (at b schedule k) (views_equal a b m schedule peers k)
 
   -- peers have one trace
   pub traces_equal : (n : ℕ) → trace a schedule n ≡ trace b schedule n
@@ -164,8 +158,8 @@ module _ (a b : Image) (m : ℕ) (schedule : List Scheduled) (peers : Peers a b 
   stands_same addr k =
       let s = at a schedule k in
       let t = at b schedule k in
-      stands_by s t addr s.active refl (sym (seen_active m s t (views k))) (λ e. phases_equal a b m schedule peers k (ap (is_id m) e)) (seen_core m s t (views k))
+      stands_by s t addr s.active refl (sym (seen_active m s t (views_equal a b m schedule peers k))) (λ e. phases_equal a b m schedule peers k (ap (is_id m) e)) (seen_core m s t (views_equal a b m schedule peers k))
 
   -- what is seen where every module is hidden
   pub outside_equal : (k : ℕ) → view_of (at a schedule k) AllHidden ≡ view_of (at b schedule k) AllHidden
-  outside_equal k = all_seen m (at a schedule k) (at b schedule k) (views k)
+  outside_equal k = all_seen m (at a schedule k) (at b schedule k) (views_equal a b m schedule peers k)

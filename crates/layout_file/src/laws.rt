@@ -17,7 +17,8 @@ pub fn layouts_are_sound(bytes: &[u8])
 /// The two regions that the definition names are the lowest that share an address with an earlier one, and the lowest
 /// such; where it names none, no two share an address.
 pub fn overlaps_are_first(regions: &[Section])
-    ensures lowest { MatchOption (first_clash share_byte regions.now) (AllPairs ShareNoByte regions.now) (IsFirstOverlap regions.now) }
+    ensures lowest { MatchOption (first_clash share_byte regions.now) (AllPairs ShareNoByte regions.now)
+        (IsFirstOverlap regions.now) }
 {
     let _ = regions;
 }

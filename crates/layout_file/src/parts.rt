@@ -26,6 +26,7 @@ pub struct ModuleSpec {
     pub stack: u16,
     /// The names of its 1 to 64 entries.
     pub entries: Vec<String>,
-    /// When the module is protected: modules get their ids in rising `boot`. In a layout of version 1 its number plus 1.
+    /// When the module is protected: modules get their ids in rising `boot`. In a layout of version 1 its
+    /// number plus 1.
     pub boot: u16,
 }

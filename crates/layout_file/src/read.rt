@@ -204,7 +204,8 @@ fn regions(
     ram: Section,
     modules: &[ModuleSpec],
 ) -> Result<Vec<Section>, LayoutFault>
-    ensures { MatchResult result (λ v. v.items ≡ regions_in text ram (map module_of modules.now)) (λ e. e ≡ LayoutFault.NoMemory) }
+    ensures { MatchResult result (λ v. v.items ≡ regions_in text ram (map module_of modules.now))
+        (λ e. e ≡ LayoutFault.NoMemory) }
 {
     let mut regions = Vec::new(alloc);
     regions.push(text)?;
@@ -218,7 +219,8 @@ fn regions(
 
 /// The names of the modules, in order.
 fn names(alloc: Global, modules: &[ModuleSpec]) -> Result<Vec<&str>, LayoutFault>
-    ensures { MatchResult result (λ v. map (λ n. n.now) v.items ≡ names_of (map module_of modules.now)) (λ e. e ≡ LayoutFault.NoMemory) }
+    ensures { MatchResult result (λ v. map (λ n. n.now) v.items ≡ names_of (map module_of modules.now))
+        (λ e. e ≡ LayoutFault.NoMemory) }
 {
     let mut names: Vec<&str> = Vec::new(alloc);
     for module in modules {

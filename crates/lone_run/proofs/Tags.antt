@@ -1,7 +1,8 @@
 -- Tags, and the unit instructions of a module by itself.
-use Rattle.std.proofs.Common.{◌≡◌, ◌≢◌, ◌<◌, ◌≤◌, ℕ, zero, suc, ◌+◌, ◌-◌, ◌*◌, List, [], ◌∷◌, ◌++◌, map, length, take, drop, get_or, slice_index, append_assoc, append-nil, refl, sym, ap, ◌∙◌, arith, true, false, cond, ◌&&◌}
+use Rattle.std.proofs.Common.{◌≡◌, ◌≢◌, ◌<◌, ℕ, zero, suc, ◌+◌, ◌-◌, ◌*◌, List, [], ◌∷◌, ◌++◌, map, length, take, drop, get_or, slice_index, append_assoc, append-nil, refl, sym, ap, ◌∙◌, arith, true, false, cond, ◌&&◌}
 use Rattle.std.proofs.lemmas.Bool.Decides.{nat_tests}
 use Rattle.std.proofs.Math.Seq.{drop-cons}
+use Rattle.std.proofs.Math.ListN.{drop_of_length-le}
 use Rattle.sm_words.specs.Words.{reg, put}
 use Rattle.sm_words.specs.declared.width.Width.TheVariants.{Byte}
 use Rattle.insn_decode.specs.declared.insn.Insn.TheVariants.{Unit as UnitOp}
@@ -77,13 +78,7 @@ each_length kind a zero = refl
 each_length kind a (suc n) = ap suc (each_length kind (a + 1) n)
 
 text_from : (j : Job) (ram : List ℕ) (k n : ℕ) → k + n ≡ length j.text → length j.text ≡ size_of j.owner.text → map (lone_read j ram) (each_byte Read (j.owner.text.start + k) n) ≡ drop k j.text
-text_from j ram k zero e f = sym (none k j.text (omega arith))
-  where
-    none : (k : ℕ) (xs : List ℕ) → length xs ≤ k → drop k xs ≡ []
-    none zero [] h = refl
-    none zero (x ∷ xs) h = absurd (omega arith)
-    none (suc k) [] h = refl
-    none (suc k) (x ∷ xs) h = none k xs (omega arith)
+text_from j ram k zero e f = sym (drop_of_length-le j.text {i = k} (omega arith))
 text_from j ram k (suc n) e f =
     let here : holds j.owner.text (j.owner.text.start + k) ≡ true = grind (arith, nat_tests) in
     let place : j.owner.text.start + k - j.owner.text.start ≡ k = omega arith in

@@ -87,7 +87,8 @@ impl Memory {
     /// Sets a section's bytes to 0, and changes no other.
     #[tactic(auto, using(crate::proofs::Clearing::cleared_next))]
     pub fn clear(&mut self, section: Section)
-        ensures cleared { self.new ≡ record self.old { bytes = cleared section.start (size_of section) self.old.bytes } }
+        ensures cleared { self.new ≡
+            record self.old { bytes = cleared section.start (size_of section) self.old.bytes } }
     {
         for addr in section.start..section.end {
             self.set_byte(addr, 0);
@@ -121,7 +122,8 @@ impl Memory {
         self.marks.len() as u16
     }
 
-    /// Marks the present bytes, and gives the number of marks before. Refused exactly where there is no room for one more.
+    /// Marks the present bytes, and gives the number of marks before. Refused exactly where there is no room
+    /// for one more.
     #[tactic(auto, using(crate::proofs::MarkLemmas::full_shown, crate::proofs::MarkLemmas::full_found, crate::proofs::MarkLemmas::mark_marked, crate::proofs::MarkLemmas::mark_shown))]
     pub fn mark(&mut self) -> Result<u16, Full>
         ensures full { IsErr result ↔ (length self.old.marked ≡ self.old.room) }
@@ -156,7 +158,8 @@ impl Memory {
     /// Makes the bytes those of mark `k`, and drops the marks above it.
     pub fn back(&mut self, k: u16)
         requires { k < length self.old.marked }
-        ensures back { self.new ≡ record self.old { bytes = get_or self.old.marked k []; marked = take (k + 1) self.old.marked } }
+        ensures back { self.new ≡
+            record self.old { bytes = get_or self.old.marked k []; marked = take (k + 1) self.old.marked } }
     {
         for _ in usize::from(k) + 1..self.marks.len() {
             self.drop_newest();

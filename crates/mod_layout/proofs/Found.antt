@@ -1,12 +1,12 @@
 -- The module with an id, and addresses inside and outside of sections.
-use Rattle.std.proofs.Common.{◌≡◌, ◌⊎◌, inl, inr, ⊎_elim, ℕ, ◌<◌, ◌≤◌, List, [], ◌∷◌, Bool, true, false, cond, nat_lt, nat_le, ◌&&◌, ◌==◌, Option, Some, None, IfSome, refl, sym, ◌∙◌, ap, subst, arith}
+use Rattle.std.proofs.Common.{◌≡◌, ◌⊎◌, inl, inr, ⊎_elim, ℕ, ◌+◌, ◌<◌, ◌≤◌, List, [], ◌∷◌, Bool, true, false, cond, nat_lt, nat_le, ◌&&◌, ◌||◌, ◌==◌, Option, Some, None, IfSome, refl, sym, ◌∙◌, ap, subst, arith}
 pub use Rattle.std.proofs.lemmas.Bool.{and_parts as and_true}
 use Rattle.std.proofs.lemmas.Bool.{and_right}
 use Rattle.std.proofs.lemmas.Bool.Decides.{nat_tests}
 use Rattle.mod_layout.specs.declared.Section.{Section}
 use Rattle.mod_layout.specs.declared.Module.{Module}
 use Rattle.mod_layout.specs.Table.{Table, holds, find_module, module_of}
-use Rattle.mod_layout.specs.Tables.{Apart, IsModule, Separate, SeparateFrom, AreModules, IsTable}
+use Rattle.mod_layout.specs.Tables.{Apart, IsSection, IsModule, Separate, SeparateFrom, AreModules, IsTable}
 
 -- ---- addresses
 
@@ -19,6 +19,18 @@ pub within : (s : Section) (a : ℕ) → s.start ≤ a → a < s.end → holds s
 within s a low high =
     ap (λ (b : Bool). b && nat_lt a s.end) (let e : nat_le s.start a ≡ true = grind (arith, nat_tests) in e)
     ∙ (let e : nat_lt a s.end ≡ true = grind (arith, nat_tests) in e)
+
+-- nor is it one of the entry word's
+pub no_entry : (s : Section) (a : ℕ) → IsSection s → holds s a ≡ false → ((a == s.start) || (a == s.start + 1)) ≡ false
+no_entry s a ok e = by ((a == s.start) || (a == s.start + 1)) refl
+  where
+    by : (c : Bool) → ((a == s.start) || (a == s.start + 1)) ≡ c → ((a == s.start) || (a == s.start + 1)) ≡ false
+    by false f = f
+    by true f =
+        let o = ok.order in let e1 = ok.even_start in let e2 = ok.even_end in
+        let low : s.start ≤ a = grind (arith, nat_tests) in
+        let up : a ≤ s.start + 1 = grind (arith, nat_tests) in
+        let t = within s a low (omega arith) in absurd (let c : true ≡ false = sym t ∙ e in cc)
 
 -- an address of one section is outside one apart from it
 pub elsewhere : (s r : Section) (a : ℕ) → r.start ≤ a → a < r.end → s.start < s.end → Apart s r → (a < s.start) ⊎ (s.end ≤ a)

@@ -188,7 +188,8 @@ fn zero_counts(alloc: Global, count: usize) -> Result<Vec<u16>, AllocError>
 
 // So many tables that are not live.
 fn unused_tables(alloc: Global, count: usize) -> Result<Vec<Table>, AllocError>
-    ensures { IfOk result (λ tables. tables.items ≡ replicate count record { is_live = false; places = replicate 256 0 }) }
+    ensures { IfOk result (λ tables.
+        tables.items ≡ replicate count record { is_live = false; places = replicate 256 0 }) }
 {
     let mut tables = Vec::with_capacity(alloc, count)?;
     for _ in 0..count {
@@ -220,7 +221,8 @@ fn raise(counts: &mut Vec<u16>, places: &[u16; TABLE_PLACES])
     requires named { All (λ place. 0 < get_or counts.old.items place 0) places.now }
     requires small { sum counts.old.items ≤ 4096 }
     ensures length { length counts.new.items ≡ length counts.old.items }
-    ensures counted { (page : ℕ) → get_or counts.new.items page 0 ≡ get_or counts.old.items page 0 + times_in page places.now }
+    ensures counted { (page : ℕ) → get_or counts.new.items page 0 ≡
+        get_or counts.old.items page 0 + times_in page places.now }
     ensures total { sum counts.new.items ≡ sum counts.old.items + 256 }
     ensures zeros { count_by (λ count. count == 0) counts.new.items ≡ count_by (λ count. count == 0) counts.old.items }
 {
@@ -244,7 +246,8 @@ fn lower(
     requires small { length free.old.items ≤ 4352 }
     ensures length { length counts.new.items ≡ length counts.old.items }
     ensures room { length free.new.items ≡ length free.old.items }
-    ensures counted { (page : ℕ) → get_or counts.new.items page 0 + times_in page places.now ≡ get_or counts.old.items page 0 }
+    ensures counted { (page : ℕ) → get_or counts.new.items page 0 + times_in page places.now ≡
+        get_or counts.old.items page 0 }
     ensures total { sum counts.new.items + 256 ≡ sum counts.old.items }
     ensures free { IsFree counts.new.items free.new.items result }
 {

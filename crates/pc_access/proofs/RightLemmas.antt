@@ -74,7 +74,7 @@ at_free active held (Data id) Fetch a g f = absurd (data_not_fetched (is_id id a
 at_free active held (Data id) k a g f = allowed_by (not (is_id id active)) _ a id (not_from_true (is_id id active) (data_own (is_id id active) id k g))
 at_free active held _ _ a g f = refl
 
-aligned_both : (b : Bool) (a : ℕ) (rest : Option Denied) → aligned_first b a rest ≡ None → (b ≡ false) × (rest ≡ None)
+pub aligned_both : (b : Bool) (a : ℕ) (rest : Option Denied) → aligned_first b a rest ≡ None → (b ≡ false) × (rest ≡ None)
 aligned_both true a rest e = absurd cc
 aligned_both false a rest e = (refl, e)
 

@@ -90,7 +90,8 @@ pub fn allowed(
 ) -> Result<(), Denied>
     // Exactly as the rules say, with the rule, the address and the module.
     ensures allowed { OnOk result (right table.now active held.now (access_of kind addr width) ≡ None) }
-    ensures denied { IfErr result (λ denied. right table.now active held.now (access_of kind addr width) ≡ Some denied) }
+    ensures denied { IfErr result (λ denied.
+        right table.now active held.now (access_of kind addr width) ≡ Some denied) }
 
     // And so exactly where the table of rights refuses one of the bytes, or the access is misaligned or barred.
     ensures rights { IsOk result ↔ IsRightful table.now active held.now (access_of kind addr width) }

@@ -83,7 +83,7 @@ two_bytes (a ∷ b ∷ []) word l are e =
     (omega arith, cc)
 two_bytes _ word l are e = absurd (omega arith)
 
-word_bytes : (word : ℕ) → word < 65536 → IsBytes (word / 256 ∷ word % 256 ∷ [])
+pub word_bytes : (word : ℕ) → word < 65536 → IsBytes (word / 256 ∷ word % 256 ∷ [])
 word_bytes word l zero = omega arith
 word_bytes word l (suc k) = one_byte (word % 256) (omega arith) k
 

@@ -100,7 +100,8 @@ pub fn is_hex_digit(byte: u8) -> bool
 #[tactic(auto, unfolding(crate::specs::Hexadecimals::read_hex))]
 // Whether the text is as many pairs of digits as there is room for bytes; these bytes are then written there.
 fn decode(text: &[u8], bytes: &mut [u8]) -> bool
-    ensures { MatchBool result (spec.read_hex (length bytes.old) text.now ≡ Some bytes.new) (spec.read_hex (length bytes.old) text.now ≡ None) }
+    ensures { MatchBool result (spec.read_hex (length bytes.old) text.now ≡ Some bytes.new)
+        (spec.read_hex (length bytes.old) text.now ≡ None) }
 {
     if !has_digits(text) {
         return false;

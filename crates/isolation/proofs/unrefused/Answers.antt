@@ -1,8 +1,9 @@
-use Rattle.isolation.proofs.Allowed.{text_allowed, zeros_allowed}
+use Rattle.mod_layout.proofs.TableLemmas.{table_more}
+use Rattle.attest.proofs.Places.{text_allowed, ram_allowed}
 use Rattle.isolation.proofs.unrefused.Goals as goal
 
 pub returns-clause-texts : goal.returns-clause-texts
-returns-clause-texts c = text_allowed
+returns-clause-texts c = λ t m own active held ok e. text_allowed t active held m own ok e
 
 pub returns-clause-zeros : goal.returns-clause-zeros
-returns-clause-zeros c = λ t text ram active held ok e. zeros_allowed t text ram ok e active held
+returns-clause-zeros c = λ t text ram active held ok e. ram_allowed t active held 0 text ram (table_more t 0 text ram ok e)

@@ -51,7 +51,7 @@ returns-then-from-limit c =
     let cycles : c.from-in-loop-core.result ≡ c.do_insn-lasts.result.cycles = omega arith in
     let short : c.args.limit - c.loop-core.cycles < c.do_insn-lasts.result.cycles = omega arith in
     let ends = told (call_of c.args.job.now) (between c.args.entry c.args.ram.now) c.args.limit _ _
-        (at_short c.loop-core.invariant done.some home found done.done more short) (data_short c.loop-core.invariant done.some home found done.done more short) in
+    (at_short c.loop-core.invariant done.some home found done.done more short) (data_short c.loop-core.invariant done.some home found done.done more short) in
     record { outcome = ends.0; ram = ends.1 }
 
 pub returns-then-lasts : goal.returns-then-lasts
@@ -64,7 +64,7 @@ returns-then-lasts c =
     let same : c.from-in-loop-core.result ≡ c.do_insn-lasts.result.cycles = omega arith in
     let fits : c.do_insn-lasts.result.cycles ≤ c.args.limit - c.loop-core.cycles = omega arith in
     let ends = told (call_of c.args.job.now) (between c.args.entry c.args.ram.now) c.args.limit _ _
-        (at_closed c.loop-core.invariant done.some home found done.done fits c.if-lasts.true) refl in
+    (at_closed c.loop-core.invariant done.some home found done.done fits c.if-lasts.true) refl in
     record { outcome = ap (λ n. answer_of (lone.Closing c.do_insn-lasts.new.core c.do_insn-lasts.new.ram (c.loop-core.cycles + n))) cycles ∙ ends.0; ram = c.clear.ensures ∙ ends.1 }
 
 pub loop-core-preserved : goal.loop-core-preserved

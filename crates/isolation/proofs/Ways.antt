@@ -1,0 +1,151 @@
+-- What holds of each way that a step can go holds of the step.
+use Rattle.std.proofs.Common.{◌≡◌, ℕ, zero, suc, ◌-◌, List, ◌∷◌, refl, sym, subst, Bool, true, false, Option, Some, None}
+use Rattle.sm_words.specs.Words.{word_at}
+use Rattle.insn_decode.specs.Code.{insn_of, length_of}
+use Rattle.insn_decode.specs.declared.insn.Insn.{Insn}
+use Rattle.insn_decode.specs.declared.insn.Insn.TheVariants.{Reti}
+use Rattle.mod_layout.specs.Table.{place_of}
+use Rattle.mod_layout.specs.declared.Module.{Module}
+use Rattle.mod_layout.specs.declared.Place.{Place}
+use Rattle.mod_layout.specs.declared.Place.TheVariants.{Entry}
+use Rattle.pc_access.specs.Rights.{first_denied, right}
+use Rattle.pc_access.specs.declared.Denied.{Denied}
+use Rattle.pc_access.specs.declared.Rule.{Rule}
+use Rattle.pc_access.specs.declared.Rule.TheVariants.{Illegal, Straddle, RetiInside}
+use Rattle.reg_backup.specs.Held.{held_ids}
+use Rattle.reg_backup.specs.declared.backup.Backup.{Backup}
+use Rattle.reg_backup.specs.declared.backup.After.{After}
+use Rattle.reg_backup.specs.declared.backup.After.TheVariants.{Next, Handler, Resume, Close}
+use Rattle.reg_backup.specs.declared.backup.Phase.{Phase}
+use Rattle.reg_backup.specs.declared.backup.Phase.TheVariants.{Run, Pad}
+use Rattle.reg_backup.specs.declared.frames.Frame.{Frame}
+use Rattle.reg_backup.specs.declared.frames.Frame.TheVariants.{Module as Held}
+use Rattle.attest.specs.Done.{own_of}
+use Rattle.cpu_step.specs.Asked.{asks}
+use Rattle.cpu_step.specs.Fetched.{insn_at}
+use Rattle.written_machine.specs.Cycle.{Step, Settled, quiet, told, stopped, denied, unsettled, pc_of, byte_of, in_text, resume_from, close_of, leave_if, settle_by, settle_in, settle, due, arrive_inside, arrive_outside, push_both, pushes, who_of, perform, perform_unless, attempt, returned_by, reti_by, reti_of, act_by, act_on, act_home, act_first, act, is_home, enter_at, enter, fetch, begin_unless, begin, padded, asleep, turn}
+use Rattle.written_machine.specs.State.{State}
+use Rattle.isolation.proofs.Cases.{turn_at, turn_unless, turn_is}
+
+module _ (s : State) (P : Step → Type 0) where
+  unless_ways : (insn : Insn) (d : Option Denied) → first_denied s.table s.active (held_ids s.frames) (asks (who_of s) insn s.core) ≡ d → ((d : Denied) → P (denied d s))
+      → (first_denied s.table s.active (held_ids s.frames) (asks (who_of s) insn s.core) ≡ None → P (perform insn s)) → P (perform_unless d insn s)
+  unless_ways insn (Some d) e refused done = refused d
+  unless_ways insn None e refused done = done e
+
+  -- an instruction that is refused an access, or done
+  pub attempt_ways : (insn : Insn) → ((d : Denied) → P (denied d s)) → (first_denied s.table s.active (held_ids s.frames) (asks (who_of s) insn s.core) ≡ None → P (perform insn s)) → P (attempt insn s)
+  unfolding attempt
+  attempt_ways insn refused done = unless_ways insn (first_denied s.table s.active (held_ids s.frames) (asks (who_of s) insn s.core)) refl refused done
+
+  -- what is at PC, with what a return gives
+  module _ (stops : (rule : Rule) → P (stopped rule (pc_of s) 0 s)) (returns : P (reti_of s.active s)) (attempts : (insn : Insn) → P (attempt insn s)) where
+    by_insn : (insn : Insn) → P (act_by insn s)
+    by_insn Reti = returns
+    by_insn insn = attempts insn
+
+    by_found : (o : Option Insn) → P (act_on o s)
+    by_found None = stops Illegal
+    by_found (Some insn) = by_insn insn
+
+    by_home : (b : Bool) (n : ℕ) → P (act_home b n s)
+    by_home false n = stops Straddle
+    by_home true n = by_found (insn_at (byte_of s) (pc_of s) n)
+
+    by_first : (o : Option Insn) → P (act_first o s)
+    by_first None = stops Illegal
+    by_first (Some first) = by_home (is_home s.table s.active (pc_of s) (length_of first)) (length_of first)
+
+    pub act_with : P (act s)
+    unfolding act
+    act_with = by_first (insn_of (word_at (byte_of s) (pc_of s)) 0 0)
+
+  -- what is at PC: a stop, a return to a module, another return, or another instruction
+  module _ (stops : (rule : Rule) → P (stopped rule (pc_of s) 0 s)) (resumes : (b : Backup) (fs : List Frame) → s.active ≡ None → P (reti_by (Held b ∷ fs) s))
+      (returns : P (let t = attempt Reti s in returned_by t.state.stop t)) (attempts : (insn : Insn) → P (attempt insn s)) where
+    by_frames : (fs : List Frame) → s.active ≡ None → P (reti_by fs s)
+    by_frames (Held b ∷ fs) e = resumes b fs e
+    by_frames _ e = returns
+
+    by_active : (a : Option ℕ) → s.active ≡ a → P (reti_of a s)
+    by_active (Some id) e = stops RetiInside
+    by_active None e = by_frames s.frames e
+
+    pub act_ways : P (act s)
+    act_ways = act_with stops (by_active s.active refl) attempts
+
+  -- an entry, or none
+  pub enter_ways : (left : ℕ) → P (quiet s) → ((id : ℕ) → place_of s.table (pc_of s) ≡ Entry id → s.active ≡ None → P (enter_at (Entry id) None left s)) → P (enter left s)
+  unfolding enter
+  enter_ways left stays enters = by (place_of s.table (pc_of s)) s.active refl refl
+    where
+      by : (p : Place) (a : Option ℕ) → place_of s.table (pc_of s) ≡ p → s.active ≡ a → P (enter_at p a left s)
+      by (Entry id) None e f = enters id e f
+      by _ _ e f = stays
+
+  -- a fetch that is refused, or the instruction
+  pub begin_ways : (left : ℕ) → ((d : Denied) → P (denied d s)) → (right s.table s.active (held_ids s.frames) (fetch s) ≡ None → P (told (enter left s).events (act (enter left s).state))) → P (begin left s)
+  unfolding begin
+  begin_ways left refused begins = by (right s.table s.active (held_ids s.frames) (fetch s)) refl
+    where
+      by : (d : Option Denied) → right s.table s.active (held_ids s.frames) (fetch s) ≡ d → P (begin_unless d left s)
+      by (Some d) e = refused d
+      by None e = begins e
+
+  -- pushes that are refused, or done
+  pub outside_ways : (v : ℕ) → ((d : Denied) → P (denied d s)) → P (push_both None v s) → P (arrive_outside v s)
+  unfolding arrive_outside
+  outside_ways v refused pushed = by (first_denied s.table None (held_ids s.frames) (pushes s))
+    where
+      by : (d : Option Denied) → P (push_both d v s)
+      by (Some d) = refused d
+      by None = pushed
+
+  -- a settled cycle
+  module _ (left : ℕ) (pads : (n : ℕ) → s.phase ≡ Pad n → P (quiet (padded (n - 1) s))) (waits : (r : ℕ) → P (quiet (record s { phase = Run r }))) (sleeps : P (quiet s)) (begins : P (begin left s))
+      (inside : (v id : ℕ) → due s ≡ Some v → s.active ≡ Some id → P (arrive_inside v id s)) (outside : (v : ℕ) → due s ≡ Some v → P (arrive_outside v s)) where
+    by_asleep : (x : Bool) → P (turn_unless x left s)
+    by_asleep true = sleeps
+    by_asleep false = begins
+
+    by_case : (d o : Option ℕ) (p : Phase) → due s ≡ d → s.active ≡ o → s.phase ≡ p → P (turn_at d o p left s)
+    by_case d o (Pad n) e a f = pads n f
+    by_case (Some v) (Some id) (Run r) e a f = inside v id e a
+    by_case (Some v) None (Run zero) e a f = outside v e
+    by_case None None (Run (suc r)) e a f = waits r
+    by_case None None (Run zero) e a f = by_asleep (asleep s)
+    by_case None (Some id) (Run zero) e a f = begins
+    by_case _ _ (Run (suc r)) e a f = waits r
+
+    pub turn_ways : P (turn left s)
+    turn_ways = subst P (sym (turn_is left s)) (by_case (due s) s.active s.phase refl refl refl)
+
+-- what is settled: nothing, a resumption, a closing, a handler, or that a module is left
+module _ (s : State) (P : Settled → Type 0) (stays : P (unsettled s)) (resumes : (b : Backup) (fs : List Frame) → s.frames ≡ Held b ∷ fs → P (resume_from (Held b ∷ fs) s))
+    (closes : (id : ℕ) (x : Module) → s.active ≡ Some id → own_of (Some id) s.table ≡ Some x → P (close_of (Some id) (Some x) s)) (handles : s.after ≡ Handler → P (settle_by Handler s))
+    (leaves : (id : ℕ) → s.active ≡ Some id → P (leave_if false (Some id) s)) where
+  resumed : (fs : List Frame) → s.frames ≡ fs → P (resume_from fs s)
+  resumed (Held b ∷ fs) e = resumes b fs e
+  resumed _ e = stays
+
+  closed : (a : Option ℕ) (o : Option Module) → s.active ≡ a → own_of a s.table ≡ o → P (close_of a o s)
+  closed (Some id) (Some x) e f = closes id x e f
+  closed _ _ e f = stays
+
+  left_out : (b : Bool) (a : Option ℕ) → s.active ≡ a → P (leave_if b a s)
+  left_out false (Some id) e = leaves id e
+  left_out _ _ e = stays
+
+  by_after : (a : After) → s.after ≡ a → P (settle_by a s)
+  by_after Resume e = resumed s.frames refl
+  by_after Close e = closed s.active (own_of s.active s.table) refl refl
+  by_after Handler e = handles e
+  by_after Next e = left_out (in_text (own_of s.active s.table) (pc_of s)) s.active refl
+
+  by_phase : (p : Phase) → P (settle_in p s)
+  by_phase (Run zero) = by_after s.after refl
+  by_phase _ = stays
+
+  pub settle_ways : P (settle s)
+  unfolding settle
+  settle_ways = by_phase s.phase
