@@ -45,6 +45,19 @@ def slow_to_check():
     return image_with(code, text, f"module 0007 {text:04x} {text + len(code):04x} {data:04x} {data + 512:04x}\n")
 
 
+def slow_to_balance(nops):
+    """72 calls of a routine with 72 calls of one with a branch: 5,184 lists of return addresses, at each of which the branch's two arms of
+    `nops` instructions are walked."""
+    text, data, calls = 0x0300, 0xF000, 72
+    inner = text + 2 * (8 + 2 * calls)
+    branch = inner + 2 * (2 * calls + 1)
+    code = words(0x4031, data + 0x100, 0x9382, data) + words(0x12B0, inner) * calls + words(0xC032, 0x0107, 0x4030, 0x0214)
+    code += words(0x12B0, branch) * calls + words(0x4130)
+    code += words(0x2400) + words(0x4303) * nops + words(0x4130)
+    module = f"module 0007 {text:04x} {text + len(code):04x} {data:04x} {data + 512:04x}\n"
+    return image_with(code, text, module), f"{branch:04x} {branch + 2 + 2 * nops:04x} {nops}\n"
+
+
 def cases(folder):
     """Name, words, and what is special."""
     def file(name, text):
@@ -69,6 +82,9 @@ def cases(folder):
     arms = "".join(f"{at:04x} {at + 8:04x} 6\n" for at in range(0x300, 0x300 + 2 * 256, 2))
     yield "arms, 256 lines", ["balance", image, "1", file("arms", arms)]
     yield "arms, 1 MiB", ["balance", image, "1", file("arms_long", (arms * 400)[:MEBIBYTE])]
+    for nops in (300, 30_000):
+        walked, arm = slow_to_balance(nops)
+        yield f"balance, arms of {nops:,} met 5,184 times", ["balance", file(f"walked_{nops}", walked), "1", file(f"arm_{nops}", arm)]
     yield "challenges, 4,096", ["challenge", file("challenges", "".join(f"{1600 * k} {'0f' * 16}\n" for k in range(4096)))]
     trace = "0 out 4a\n" * 110_000 + "end 1 stopped\n"
     yield "trace, 1 MiB of out lines", ["vendor", image, "1", "0" * 32, file("challenges_few", "100 " + "0f" * 16 + "\n"), file("trace", trace)]
