@@ -34,14 +34,14 @@ def image_with(text, start, module):
     return HEAD + module + "".join(lines) + "end\n"
 
 
-def slow_to_check():
-    """256 data words are set to 0, and then a loop moves each to the next, the last one first, behind 15,300 other
-    instructions: what the first word becomes in each turn goes one word further a turn."""
+def slow_to_check(count, others):
+    """So many data words are set to 0, and then a loop moves each to the next, the last one first, behind other instructions: what the
+    first word becomes in each turn goes one word further a turn."""
     text, data = 0x0300, 0xF000
-    code = b"".join(words(0x4382, data + 2 * k) for k in range(256))
+    code = b"".join(words(0x4382, data + 2 * k) for k in range(count))
     loop = text + len(code)
-    code += b"".join(words(0x4292, data + 2 * k, data + 2 * k + 2) for k in range(254, -1, -1))
-    code += words(0x5392, data) + words(0x4404) * 15_300 + words(0x4030, loop)
+    code += b"".join(words(0x4292, data + 2 * k, data + 2 * k + 2) for k in range(count - 2, -1, -1))
+    code += words(0x5392, data) + words(0x4404) * others + words(0x4030, loop)
     return image_with(code, text, f"module 0007 {text:04x} {text + len(code):04x} {data:04x} {data + 512:04x}\n")
 
 
@@ -75,7 +75,9 @@ def cases(folder):
     yield "schedule, 65,537 lines", ["image", small, file("lines", "0 serial 00\n" * 65_537), "0"]
     yield "dis, all of memory", ["dis", image, "0200", "fffe"]
     yield "check, a text of 63 KiB in a row", ["check", image, "1"]
-    yield "check, data words that rise one a turn", ["check", file("rising", slow_to_check()), "1"]
+    yield "check, data words that rise one a turn", ["check", file("rising", slow_to_check(256, 15_300)), "1"]
+    yield "check, a text of 2 KiB in a row", ["check", file("row", image_with(words(0x4404) * 1_022 + words(0x4030, 0x0214), 0x0300, "module 0007 0300 0b00 fe00 fe02\n")), "1"]
+    yield "check, a text of 2 KiB whose data words rise one a turn", ["check", file("rising_few", slow_to_check(128, 380)), "1"]
     yield "key, a text of 63 KiB", ["key", image, "1"]
     yield "lone, a text of 63 KiB", ["lone", image, "1", "1000"]
     yield "make", ["make", "4294967295"]
