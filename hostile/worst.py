@@ -34,15 +34,28 @@ def image_with(text, start, module):
     return HEAD + module + "".join(lines) + "end\n"
 
 
-def slow_to_check():
-    """256 data words are set to 0, and then a loop moves each to the next, the last one first, behind 15,300 other
-    instructions: what the first word becomes in each turn goes one word further a turn."""
+def slow_to_check(count, others):
+    """So many data words are set to 0, and then a loop moves each to the next, the last one first, behind other instructions: what the
+    first word becomes in each turn goes one word further a turn."""
     text, data = 0x0300, 0xF000
-    code = b"".join(words(0x4382, data + 2 * k) for k in range(256))
+    code = b"".join(words(0x4382, data + 2 * k) for k in range(count))
     loop = text + len(code)
-    code += b"".join(words(0x4292, data + 2 * k, data + 2 * k + 2) for k in range(254, -1, -1))
-    code += words(0x5392, data) + words(0x4404) * 15_300 + words(0x4030, loop)
+    code += b"".join(words(0x4292, data + 2 * k, data + 2 * k + 2) for k in range(count - 2, -1, -1))
+    code += words(0x5392, data) + words(0x4404) * others + words(0x4030, loop)
     return image_with(code, text, f"module 0007 {text:04x} {text + len(code):04x} {data:04x} {data + 512:04x}\n")
+
+
+def slow_to_balance(nops):
+    """72 calls of a routine with 72 calls of one with a branch: 5,184 lists of return addresses, at each of which the branch's two arms of
+    `nops` instructions are walked."""
+    text, data, calls = 0x0300, 0xF000, 72
+    inner = text + 2 * (8 + 2 * calls)
+    branch = inner + 2 * (2 * calls + 1)
+    code = words(0x4031, data + 0x100, 0x9382, data) + words(0x12B0, inner) * calls + words(0xC032, 0x0107, 0x4030, 0x0214)
+    code += words(0x12B0, branch) * calls + words(0x4130)
+    code += words(0x2400) + words(0x4303) * nops + words(0x4130)
+    module = f"module 0007 {text:04x} {text + len(code):04x} {data:04x} {data + 512:04x}\n"
+    return image_with(code, text, module), f"{branch:04x} {branch + 2 + 2 * nops:04x} {nops}\n"
 
 
 def cases(folder):
@@ -62,13 +75,18 @@ def cases(folder):
     yield "schedule, 65,537 lines", ["image", small, file("lines", "0 serial 00\n" * 65_537), "0"]
     yield "dis, all of memory", ["dis", image, "0200", "fffe"]
     yield "check, a text of 63 KiB in a row", ["check", image, "1"]
-    yield "check, data words that rise one a turn", ["check", file("rising", slow_to_check()), "1"]
+    yield "check, data words that rise one a turn", ["check", file("rising", slow_to_check(256, 15_300)), "1"]
+    yield "check, a text of 2 KiB in a row", ["check", file("row", image_with(words(0x4404) * 1_022 + words(0x4030, 0x0214), 0x0300, "module 0007 0300 0b00 fe00 fe02\n")), "1"]
+    yield "check, a text of 2 KiB whose data words rise one a turn", ["check", file("rising_few", slow_to_check(128, 380)), "1"]
     yield "key, a text of 63 KiB", ["key", image, "1"]
     yield "lone, a text of 63 KiB", ["lone", image, "1", "1000"]
     yield "make", ["make", "4294967295"]
     arms = "".join(f"{at:04x} {at + 8:04x} 6\n" for at in range(0x300, 0x300 + 2 * 256, 2))
     yield "arms, 256 lines", ["balance", image, "1", file("arms", arms)]
     yield "arms, 1 MiB", ["balance", image, "1", file("arms_long", (arms * 400)[:MEBIBYTE])]
+    for nops in (300, 30_000):
+        walked, arm = slow_to_balance(nops)
+        yield f"balance, arms of {nops:,} met 5,184 times", ["balance", file(f"walked_{nops}", walked), "1", file(f"arm_{nops}", arm)]
     yield "challenges, 4,096", ["challenge", file("challenges", "".join(f"{1600 * k} {'0f' * 16}\n" for k in range(4096)))]
     trace = "0 out 4a\n" * 110_000 + "end 1 stopped\n"
     yield "trace, 1 MiB of out lines", ["vendor", image, "1", "0" * 32, file("challenges_few", "100 " + "0f" * 16 + "\n"), file("trace", trace)]

@@ -1,5 +1,7 @@
 -- What has room where it stands.
 use Rattle.std.specs.Prelude.{ℕ, ◌≡◌, ◌+◌, List, [], ◌∷◌, length, true, Some, ◌≤◌, All, ◌*◌, ◌%◌, ◌<◌, ◌-◌, slice_index_or}
+use Rattle.mod_layout.specs.declared.TheConstants.{DEVICES_END, FIRST_VECTOR}
+use Rattle.entry_stubs.specs.Stub.{most_entries}
 use Rattle.elf_objects.specs.Object.{ObjectValue, IsObject}
 use Rattle.elf_objects.specs.declared.object.SectionHead.{SectionHead}
 use Rattle.layout_file.specs.Values.{ModuleValue}
@@ -13,8 +15,8 @@ use Rattle.linker.specs.Fields.{target_size, target_address}
 
 -- a place of so many bytes above the devices and below the vectors
 pub record Room (at size : ℕ) : Type 0 where
-  pub above_devices : 512 ≤ at
-  pub below_vectors : at + size ≤ 65504
+  pub above_devices : DEVICES_END ≤ at
+  pub below_vectors : at + size ≤ FIRST_VECTOR
 
 -- every item that goes somewhere has room there
 abbrev pub ItemsFit : (ℕ → ℕ) → List Item → Type 0
@@ -40,10 +42,10 @@ AllFit address (x ∷ xs) = ObjectFits address x × AllFit address xs
 -- a module's stub ends below what its text holds, and its stack in its data
 pub record StubFits (end : ℕ → ℕ) (i : ℕ) (m : ModuleValue) : Type 0 where
   pub some_entries : 1 ≤ length m.entries
-  pub few_entries : length m.entries ≤ 64
+  pub few_entries : length m.entries ≤ most_entries
   pub even_stack : m.stack % 2 ≡ 0
-  pub stack : m.ram.start + 4 + m.stack ≤ 65504
-  pub above_devices : 512 ≤ m.text.start
+  pub stack : m.ram.start + 4 + m.stack ≤ FIRST_VECTOR
+  pub above_devices : DEVICES_END ≤ m.text.start
   pub text : m.text.start + stub_size m ≤ end (2 + 2 * i)
   pub ram : m.ram.start + 4 + m.stack ≤ end (3 + 2 * i)
 
