@@ -30,7 +30,8 @@ use Rattle.asm_text.specs.declared.statement.Field.TheVariants.{Number}
 use Rattle.asm_text.specs.declared.statement.Statement.TheVariants.{Code}
 use Rattle.asm_text.specs.Encoding.{extension, extensions, is_plain, is_source, is_dest, is_coded}
 use Rattle.asm_text.specs.Laws.{ShownIsRead, is_placeless_operand, is_placeless, AreWords}
-use Rattle.asm_text.specs.Lines.{is_space, words, width_of, base_of, two_op_of, one_op_of, cond_of, by_words, statement_of}
+use Rattle.texts.specs.Words.{is_space, words}
+use Rattle.asm_text.specs.Lines.{width_of, base_of, two_op_of, one_op_of, cond_of, by_words, statement_of}
 use Rattle.asm_text.specs.Operands.{before, field_of, of_field, plain, number_by, number_of, indirect_of, indexed_at, indexed_of, operand_of}
 use Rattle.asm_text.specs.Parts.{is_name}
 use Rattle.asm_text.proofs.CodedLemmas.{decoded_coded}

@@ -5,7 +5,8 @@ use Rattle.std.specs.List.{slice_split, onto_first, position_or_len}
 use Rattle.std.proofs.lemmas.Bool.Decides.{nat_tests}
 use Rattle.std.proofs.lemmas.List.Splits.{slice_split_first, slice_split_none}
 use Rattle.std.proofs.lemmas.List.Sums.{fails_before_first}
-use Rattle.asm_text.specs.Lines.{is_space, words, by_words, statement_of}
+use Rattle.texts.specs.Words.{is_space, words}
+use Rattle.asm_text.specs.Lines.{by_words, statement_of}
 
 -- a line whose first space is at i
 pub words_at : (line : List ℕ) (i : ℕ) → position is_space line ≡ Some i → words line ≡ take i line ∷ words (drop (i + 1) line)

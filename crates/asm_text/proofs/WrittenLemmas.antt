@@ -21,8 +21,9 @@ use Rattle.asm_text.specs.declared.statement.Field.TheVariants.{Number, Name}
 use Rattle.asm_text.specs.declared.statement.Statement.{Statement}
 use Rattle.asm_text.specs.declared.statement.Statement.TheVariants.{Section, Label, Global, Word, Space, Jump, Code}
 use Rattle.asm_text.specs.Encoding.{is_coded}
-use Rattle.asm_text.specs.Lines.{is_space, words, coded, width_of, base_of, two_op_of, one_op_of, cond_of, one_coded, two_coded, kind_of, section_of, even_size, space_of, unit_of, alone, jump_or_one, with_one, two_operands, with_two, by_words, statement_of}
-use Rattle.asm_text.specs.Operands.{behind, before, name_of, field_by, field_of, register_of, of_field, plain, number_by, number_of, indirect_by, indirect_of, indexed_at, indexed_by, without_end, indexed_of, indirect_behind, indexed_behind, operand_of}
+use Rattle.texts.specs.Words.{is_space, words}
+use Rattle.asm_text.specs.Lines.{coded, width_of, base_of, two_op_of, one_op_of, cond_of, one_coded, two_coded, kind_of, section_of, even_size, space_of, unit_of, alone, jump_or_one, with_one, two_operands, with_two, by_words, statement_of}
+use Rattle.asm_text.specs.Operands.{behind, before, name_of, field_by, field_of, register_of, of_field, plain, number_by, number_of, indirect_by, indirect_of, indexed_at, indexed_by, without_end, indexed_of, register_operand, absolute_of, behind_or, operand_of}
 use Rattle.asm_text.specs.Parts.{is_name}
 use Rattle.asm_text.specs.Statements.{OperandValue}
 
@@ -90,26 +91,24 @@ number_some text v e = by (bytes_eq text (codes "-1")) e
     by true k = subst (λ (x : OperandValue). NamedOption x.name) (some_is (plain (Const 65535)) v k) tt
     by false k = by_field (field_of text) refl k
 
-absolute_some : (text : List ℕ) (v : OperandValue) → option_map (of_field Absolute) (field_of text) ≡ Some v → NamedOption v.name
+absolute_some : (text : List ℕ) (v : OperandValue) → absolute_of text ≡ Some v → NamedOption v.name
 absolute_some text v e = by (field_of text) refl e
   where
     by : (o : Option (Field (List ℕ))) → field_of text ≡ o → option_map (of_field Absolute) o ≡ Some v → NamedOption v.name
     by (Some f) is k = subst (λ (x : OperandValue). NamedOption x.name) (some_is (of_field Absolute f) v k) (of_field_named Absolute f (field_some text f is))
     by None is k = absurd cc
 
-indirect_some : (o : Option (List ℕ)) (v : OperandValue) → indirect_behind o ≡ Some v → NamedOption v.name
+indirect_some : (text : List ℕ) (v : OperandValue) → indirect_of text ≡ Some v → NamedOption v.name
 unfolding indirect_of
-indirect_some None v e = absurd cc
-indirect_some (Some text) v e = by (before (codes "+") text) e
+indirect_some text v e = by (before (codes "+") text) e
   where
     by : (o : Option (List ℕ)) → indirect_by o text ≡ Some v → NamedOption v.name
     by (Some register) k = plain_some Increment (register_of register) v k
     by None k = plain_some Indirect (register_of text) v k
 
-indexed_some : (o : Option (List ℕ)) (v : OperandValue) → indexed_behind o ≡ Some v → NamedOption v.name
+indexed_some : (text : List ℕ) (v : OperandValue) → indexed_of text ≡ Some v → NamedOption v.name
 unfolding indexed_of
-indexed_some None v e = absurd cc
-indexed_some (Some text) v e = by (without_end (behind (codes "(r") (drop 4 text))) e
+indexed_some text v e = by (without_end (behind (codes "(r") (drop 4 text))) e
   where
     by_parts : (x r : Option ℕ) → indexed_at x r ≡ Some v → NamedOption v.name
     by_parts (Some x) (Some r) k = subst (λ (y : OperandValue). NamedOption y.name) (some_is (plain (Indexed r x)) v k) tt
@@ -123,17 +122,15 @@ indexed_some (Some text) v e = by (without_end (behind (codes "(r") (drop 4 text
 
 operand_some : (text : List ℕ) (v : OperandValue) → operand_of text ≡ Some v → NamedOption v.name
 unfolding operand_of
-operand_some [] v e = absurd cc
-operand_some (b ∷ text) v e = by (nat_eq b 114) (nat_eq b 35) (nat_eq b 38) (nat_eq b 64) (nat_eq b 48) e
+operand_some text v e = by (behind (codes "r") text) (behind (codes "#") text) (behind (codes "&") text) (behind (codes "@r") text) (behind (codes "0x") text) e
   where
-    by : (c d f g h : Bool) → cond c (option_map (λ r. plain (Reg r)) (register_of text)) (cond d (number_of text) (cond f (option_map (of_field Absolute) (field_of text))
-        (cond g (indirect_behind (behind (codes "r") text)) (cond h (indexed_behind (behind (codes "x") text)) None)))) ≡ Some v → NamedOption v.name
-    by true d f g h k = plain_some Reg (register_of text) v k
-    by false true f g h k = number_some text v k
-    by false false true g h k = absolute_some text v k
-    by false false false true h k = indirect_some (behind (codes "r") text) v k
-    by false false false false true k = indexed_some (behind (codes "x") text) v k
-    by false false false false false k = absurd cc
+    by : (c d f g h : Option (List ℕ)) → behind_or c register_operand (behind_or d number_of (behind_or f absolute_of (behind_or g indirect_of (behind_or h indexed_of None)))) ≡ Some v → NamedOption v.name
+    by (Some rest) d f g h k = plain_some Reg (register_of rest) v k
+    by None (Some rest) f g h k = number_some rest v k
+    by None None (Some rest) g h k = absolute_some rest v k
+    by None None None (Some rest) h k = indirect_some rest v k
+    by None None None None (Some rest) k = indexed_some rest v k
+    by None None None None None k = absurd cc
 
 -- ---- statements
 

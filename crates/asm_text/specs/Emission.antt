@@ -47,7 +47,7 @@ offset_bits (pos n) = n
 offset_bits (negsuc n) = 1023 - n
 
 abbrev pub jump_word : ℕ → ℤ → ℕ
-jump_word cond offset = 8192 + cond * 1024 + offset_bits offset
+jump_word cond offset = 0x2000 + cond * 1024 + offset_bits offset
 
 abbrev pub jump_over : ℕ → ℕ → ℤ → Result (List ℕ) AsmFault
 jump_over n cond offset = if is_near offset then Ok (word_bytes (jump_word cond offset)) else Err (Far n offset)

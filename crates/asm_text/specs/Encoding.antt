@@ -44,11 +44,11 @@ byte_flag Word = 0
 
 -- the first word; it means the instruction where any word does
 unfoldable pub first_word : Insn → ℕ
-first_word (Two op w s d) = two_code op * 4096 + source_register s * 256 + dest_mode d * 128 + byte_flag w * 64 + source_mode s * 16 + source_register d
-first_word (One op w a) = 4096 + one_code op * 128 + byte_flag w * 64 + source_mode a * 16 + source_register a
+first_word (Two op w s d) = two_code op * 0x1000 + source_register s * 256 + dest_mode d * 128 + byte_flag w * 64 + source_mode s * 16 + source_register d
+first_word (One op w a) = 0x1000 + one_code op * 128 + byte_flag w * 64 + source_mode a * 16 + source_register a
 first_word (Jump cond offset) = 0
-first_word Reti = 4864
-first_word (UnitOp n) = 4992 + n % 8
+first_word Reti = 0x1300
+first_word (UnitOp n) = 0x1380 + n % 8
 
 -- ---- all words
 

@@ -1,8 +1,8 @@
 -- The statement that a line writes: words parted by single spaces.
-use Rattle.std.specs.Prelude.{ℕ, ◌%◌, ◌==◌, nat_le, Bool, ◌&&◌, if◌then◌else◌, List, [], ◌∷◌, Option, Some, None, option_map, option_and_then, codes, find}
-use Rattle.std.specs.List.{slice_split}
+use Rattle.std.specs.Prelude.{ℕ, ◌%◌, ◌==◌, nat_le, ◌&&◌, if◌then◌else◌, List, [], ◌∷◌, Option, Some, None, option_map, option_and_then, codes, find}
 use Rattle.std.specs.Str.{bytes_eq}
 use Rattle.texts.specs.Decimals.{read_decimal}
+use Rattle.texts.specs.Words.{words}
 use Rattle.sm_words.specs.declared.width.Width.{Width}
 use Rattle.sm_words.specs.declared.width.Width.TheVariants.{Byte, Word as WordWidth}
 use Rattle.insn_decode.specs.declared.insn.TwoOp.{TwoOp}
@@ -19,13 +19,6 @@ use Rattle.asm_text.specs.declared.TheConstants.{MAX_SIZE}
 use Rattle.asm_text.specs.Encoding.{is_coded}
 use Rattle.asm_text.specs.Operands.{name_of, field_of, operand_of, before}
 use Rattle.asm_text.specs.Statements.{OperandValue}
-
-abbrev pub is_space : ℕ → Bool
-is_space b = b == 32
-
--- the words of a line, which single spaces part
-unfoldable pub words : List ℕ → List (List ℕ)
-words line = slice_split is_space line
 
 -- ---- instructions
 

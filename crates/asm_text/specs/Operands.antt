@@ -1,5 +1,5 @@
 -- The text of an operand, read: names stand for numbers, and leave 0.
-use Rattle.std.specs.Prelude.{ℕ, ◌-◌, ◌==◌, if◌then◌else◌, List, [], ◌∷◌, length, take, drop, Option, Some, None, option_map, codes}
+use Rattle.std.specs.Prelude.{ℕ, ◌-◌, ◌==◌, if◌then◌else◌, List, length, take, drop, Option, Some, None, option_map, codes}
 use Rattle.std.specs.List.{starts_with, ends_with}
 use Rattle.std.specs.Str.{bytes_eq}
 use Rattle.texts.specs.Decimals.{read_decimal}
@@ -76,24 +76,24 @@ without_end (Some text) = before (codes ")") text
 unfoldable pub indexed_of : List ℕ → Option OperandValue
 indexed_of text = indexed_by (take 4 text) (without_end (behind (codes "(r") (drop 4 text)))
 
-abbrev pub indirect_behind : Option (List ℕ) → Option OperandValue
-indirect_behind (Some text) = indirect_of text
-indirect_behind None = None
+-- behind `r`: a register
+abbrev pub register_operand : List ℕ → Option OperandValue
+register_operand text = option_map (λ r. plain (Reg r)) (register_of text)
 
-abbrev pub indexed_behind : Option (List ℕ) → Option OperandValue
-indexed_behind (Some text) = indexed_of text
-indexed_behind None = None
+-- behind `&`: a number of four digits or a name
+abbrev pub absolute_of : List ℕ → Option OperandValue
+absolute_of text = option_map (of_field Absolute) (field_of text)
 
--- the operand by its first byte
-abbrev pub operand_by : ℕ → List ℕ → Option OperandValue
-operand_by b text =
-    if b == 114 then option_map (λ r. plain (Reg r)) (register_of text)
-    else (if b == 35 then number_of text
-    else (if b == 38 then option_map (of_field Absolute) (field_of text)
-    else (if b == 64 then indirect_behind (behind (codes "r") text)
-    else (if b == 48 then indexed_behind (behind (codes "x") text)
-    else None))))
+-- what is read behind a front, where the text has it, or else another operand
+abbrev pub behind_or : Option (List ℕ) → (List ℕ → Option OperandValue) → Option OperandValue → Option OperandValue
+behind_or (Some rest) read other = read rest
+behind_or None read other = other
 
+-- the operand by its front; no text has two of these
 unfoldable pub operand_of : List ℕ → Option OperandValue
-operand_of [] = None
-operand_of (b ∷ text) = operand_by b text
+operand_of text =
+    behind_or (behind (codes "r") text) register_operand
+    (behind_or (behind (codes "#") text) number_of
+    (behind_or (behind (codes "&") text) absolute_of
+    (behind_or (behind (codes "@r") text) indirect_of
+    (behind_or (behind (codes "0x") text) indexed_of None))))

@@ -5,6 +5,7 @@ ghost use Rattle.std.specs.Option.{option_copied};
 ghost use Rattle.insn_decode.specs.Code as code;
 ghost use Rattle.insn_decode.specs.Text as names;
 ghost use Rattle.asm_text.specs.Lines as spec;
+ghost use Rattle.texts.specs.Words as spaced;
 ghost use Rattle.asm_text.specs.Operands.{before};
 ghost use Rattle.asm_text.specs.Statements.{with_texts, value_of};
 
@@ -36,8 +37,8 @@ pub fn statement_of(line: &[u8]) -> Option<Statement<&[u8]>>
 
 // The first word of a line, and what stands behind its space; `None` where there is no space.
 fn split_word(line: &[u8]) -> Option<(&[u8], &[u8])>
-    ensures words { IfSome result (λ parts. spec.words line.now ≡ parts.0.now ∷ spec.words parts.1.now) }
-    ensures whole { IfNone result (spec.words line.now ≡ line.now ∷ []) }
+    ensures words { IfSome result (λ parts. spaced.words line.now ≡ parts.0.now ∷ spaced.words parts.1.now) }
+    ensures whole { IfNone result (spaced.words line.now ≡ line.now ∷ []) }
 {
     match first_space(line) {
         None => None,
@@ -46,7 +47,7 @@ fn split_word(line: &[u8]) -> Option<(&[u8], &[u8])>
 }
 
 fn first_space(text: &[u8]) -> Option<usize>
-    ensures { result ≡ position spec.is_space text.now }
+    ensures { result ≡ position spaced.is_space text.now }
 {
     text.iter().position(|byte| *byte == b' ')
 }

@@ -91,6 +91,13 @@ fn plain<'a>(operand: Operand) -> Value<'a>
     }
 }
 
+// What stands behind `r`: a register.
+fn register_operand<'a>(text: &[u8]) -> Option<Value<'a>>
+    ensures { option_map value_of result ≡ spec.register_operand text.now }
+{
+    Some(plain(Operand::Reg(register_of(text)?)))
+}
+
 // What stands behind `#`: -1, a number of four digits or a name, or a small number.
 #[tactic(auto, unfolding(crate::specs::Operands::number_of))]
 fn number_of(text: &[u8]) -> Option<Value<'_>>
@@ -118,9 +125,9 @@ fn small_number_of<'a>(text: &[u8]) -> Option<Value<'a>>
     }
 }
 
-// A number or a name at an address.
+// What stands behind `&`: a number of four digits or a name.
 fn absolute_of(text: &[u8]) -> Option<Value<'_>>
-    ensures { option_map value_of result ≡ option_map (spec.of_field Operand.Absolute) (spec.field_of text.now) }
+    ensures { option_map value_of result ≡ spec.absolute_of text.now }
 {
     match field_of(text)? {
         Field::Number(number) => Some(plain(Operand::Absolute(number))),
@@ -162,15 +169,15 @@ fn indexed_of<'a>(text: &[u8]) -> Option<Value<'a>>
 pub fn operand_of(text: &[u8]) -> Option<Value<'_>>
     ensures { option_map value_of result ≡ spec.operand_of text.now }
 {
-    let [first, rest @ ..] = text else {
-        return None;
-    };
-    match first {
-        b'r' => Some(plain(Operand::Reg(register_of(rest)?))),
-        b'#' => number_of(rest),
-        b'&' => absolute_of(rest),
-        b'@' => indirect_of(rest.strip_prefix(b"r")?),
-        b'0' => indexed_of(rest.strip_prefix(b"x")?),
-        _ => None,
+    if let Some(rest) = text.strip_prefix(b"r") {
+        register_operand(rest)
+    } else if let Some(rest) = text.strip_prefix(b"#") {
+        number_of(rest)
+    } else if let Some(rest) = text.strip_prefix(b"&") {
+        absolute_of(rest)
+    } else if let Some(rest) = text.strip_prefix(b"@r") {
+        indirect_of(rest)
+    } else {
+        indexed_of(text.strip_prefix(b"0x")?)
     }
 }

@@ -114,6 +114,10 @@ fn refusals() -> &'static [(&'static [u8], AsmFault)] {
             b"section a bss\nspace 65534\nspace 2\n",
             AsmFault::Large { n: 3 },
         ),
+        (
+            b"section a code\njmp b\nsection c bss\nspace 65534\nspace 2\n",
+            AsmFault::Large { n: 5 },
+        ),
         (b"section a bss\nspace 3\n", AsmFault::Line { n: 2 }),
         (b"section a bss\nspace 65536\n", AsmFault::Line { n: 2 }),
         (b"section a data\nreti\n", AsmFault::Place { n: 2 }),

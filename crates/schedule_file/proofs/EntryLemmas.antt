@@ -20,7 +20,8 @@ use Rattle.schedule_file.specs.declared.TheConstants.{MAX_CYCLE}
 use Rattle.schedule_file.specs.declared.What.{What}
 use Rattle.schedule_file.specs.declared.What.TheVariants.{Serial, Up, Down}
 use Rattle.schedule_file.specs.Entries.{IsEntry, IsWhat}
-use Rattle.schedule_file.specs.Line.{is_space, move_of, what_of, at_cycle, entry_of, what_text, entry_text}
+use Rattle.texts.specs.Words.{is_space}
+use Rattle.schedule_file.specs.Line.{move_of, what_of, at_cycle, entry_of, what_text, entry_text}
 use Rattle.schedule_file.specs.Laws.{EntriesAreRead}
 
 -- ---- what happens

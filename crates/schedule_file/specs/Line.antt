@@ -1,17 +1,15 @@
 -- The lines of a schedule: `CYCLE serial HH`, `CYCLE line N up` and `CYCLE line N down`.
-use Rattle.std.specs.Prelude.{ℕ, ◌-◌, Bool, ◌==◌, nat_le, not, ◌&&◌, if◌then◌else◌, List, [], ◌∷◌, ◌++◌, drop, Option, Some, None, codes, option_map}
+use Rattle.std.specs.Prelude.{ℕ, ◌-◌, ◌==◌, nat_le, not, ◌&&◌, if◌then◌else◌, List, [], ◌∷◌, ◌++◌, drop, Option, Some, None, codes, option_map}
 use Rattle.std.specs.Fmt.{decimal}
 use Rattle.std.specs.List.{starts_with, before_first, after_first}
 use Rattle.std.specs.Str.{bytes_eq}
 use Rattle.texts.specs.Decimals.{read_decimal}
 use Rattle.texts.specs.Hexadecimals.{hex_byte, read_hex_byte}
+use Rattle.texts.specs.Words.{is_space}
 use Rattle.schedule_file.specs.declared.Entry.{Entry}
 use Rattle.schedule_file.specs.declared.TheConstants.{MAX_CYCLE}
 use Rattle.schedule_file.specs.declared.What.{What}
 use Rattle.schedule_file.specs.declared.What.TheVariants.{Serial, Up, Down}
-
-abbrev pub is_space : ℕ → Bool
-is_space b = b == 32
 
 -- a line's number with `up` or `down` after a space
 abbrev pub move_of : List ℕ → Option What

@@ -1,4 +1,5 @@
 pub mod Decimals
 pub mod Hexadecimals
 pub mod Lines
+pub mod Words
 pub mod Laws

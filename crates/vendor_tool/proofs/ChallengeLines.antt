@@ -11,9 +11,9 @@ use Rattle.texts.specs.Hexadecimals.{hex_key, read_hex_key}
 use Rattle.texts.proofs.WordLemmas.{cut_off, decimal_has_no}
 use Rattle.texts.proofs.LawLemmas.{decimals_are_read, keys_are_read}
 use Rattle.vendor_tool.specs.declared.Challenge.{Challenge}
-use Rattle.vendor_tool.specs.declared.TheConstants.{MAX_CYCLE}
-use Rattle.vendor_tool.specs.Challenges.{IsChallenge}
-use Rattle.vendor_tool.specs.ChallengeText.{is_space, at_cycle, challenge_of, challenge_text}
+use Rattle.vendor_tool.specs.Challenges.{last_cycle, IsChallenge}
+use Rattle.texts.specs.Words.{is_space}
+use Rattle.vendor_tool.specs.ChallengeText.{at_cycle, challenge_of, challenge_text}
 use Rattle.vendor_tool.specs.Laws.{ChallengesAreRead}
 use Rattle.vendor_tool.proofs.LineLemmas.{nothing_is_no_key}
 
@@ -27,12 +27,12 @@ challenge_from : (line : List ℕ) (c : Challenge) → challenge_of line ≡ Som
 unfolding challenge_of
 challenge_from line c h = by (cases_lt (position_or_len is_space line) (length line))
   where
-    parts : (read_decimal MAX_CYCLE (before_first is_space line) ≡ Some c.cycle) × (read_hex_key (after_first is_space line) ≡ Some c.nonce)
+    parts : (read_decimal last_cycle (before_first is_space line) ≡ Some c.cycle) × (read_hex_key (after_first is_space line) ≡ Some c.nonce)
     parts = at_cycle-parts _ _ c h
 
     by : (position_or_len is_space line < length line) ⊎ (length line ≤ position_or_len is_space line) → IsChallenge c × (line ≡ challenge_text c)
     by (inl found) =
-        let r = (decimals_are_read MAX_CYCLE (lit< tt) (before_first is_space line) c.cycle).0 parts.0 in
+        let r = (decimals_are_read last_cycle (lit< tt) (before_first is_space line) c.cycle).0 parts.0 in
         let k = (keys_are_read (after_first is_space line) c.nonce).0 parts.1 in
         let space : get_or line (position_or_len is_space line) 0 ≡ 32 = let p = passes_at_first is_space line 0 found in grind (arith, nat_tests) in
         let whole = split_at_first is_space line 0 found in (
@@ -52,11 +52,11 @@ challenge_to c h =
     let low = h.cycle in
     let fits : c.cycle < 2 ^ 64 = omega arith in
     let cut = cut_off is_space 32 (hex_key c.nonce) refl (decimal c.cycle) (decimal_has_no 32 c.cycle (omega arith) fits) in
-    let read = (decimals_are_read MAX_CYCLE (lit< tt) (decimal c.cycle) c.cycle).1 (low, refl) in
+    let read = (decimals_are_read last_cycle (lit< tt) (decimal c.cycle) c.cycle).1 (low, refl) in
     let key = (keys_are_read (hex_key c.nonce) c.nonce).1 ((h.length, h.bytes), refl) in
     ap challenge_of (append_assoc (decimal c.cycle) (codes " ") (hex_key c.nonce))
-    ∙ ap (λ b. at_cycle (read_decimal MAX_CYCLE b) (read_hex_key (after_first is_space (decimal c.cycle ++ 32 ∷ hex_key c.nonce)))) cut.before
-    ∙ ap (λ a. at_cycle (read_decimal MAX_CYCLE (decimal c.cycle)) (read_hex_key a)) cut.after
+    ∙ ap (λ b. at_cycle (read_decimal last_cycle b) (read_hex_key (after_first is_space (decimal c.cycle ++ 32 ∷ hex_key c.nonce)))) cut.before
+    ∙ ap (λ a. at_cycle (read_decimal last_cycle (decimal c.cycle)) (read_hex_key a)) cut.after
     ∙ ap (λ o. at_cycle o (read_hex_key (hex_key c.nonce))) read
     ∙ ap (at_cycle (Some c.cycle)) key
 

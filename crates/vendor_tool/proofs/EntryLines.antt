@@ -17,8 +17,7 @@ use Rattle.schedule_file.specs.Laws.{EntriesAreRead}
 use Rattle.schedule_file.specs.Line.{entry_of, entry_text}
 use Rattle.schedule_file.specs.Reading.{after_entries, entries_from, schedule_of}
 use Rattle.vendor_tool.specs.declared.Challenge.{Challenge}
-use Rattle.vendor_tool.specs.declared.TheConstants.{MAX_CYCLE, NONCE_CYCLES, BYTE_STEP}
-use Rattle.vendor_tool.specs.Challenges.{IsChallenge, AreChallenges, AreApart}
+use Rattle.vendor_tool.specs.Challenges.{last_cycle, nonce_cycles, byte_step, IsChallenge, AreChallenges, AreApart}
 use Rattle.vendor_tool.proofs.Plain.{byte_plain, each, no_feed}
 use Rattle.vendor_tool.specs.NonceSchedule.{bytes_from, nonce_entries, entries_of, entries_text}
 
@@ -97,14 +96,14 @@ schedule_is law es few r = ap (entries_from 1 0) (lines_are 0 es r) ∙ entries_
 
 -- ---- the entries of challenges
 
-bytes_rise : (cycle i low : ℕ) (bytes : List ℕ) (more : List Entry) → i + length bytes ≤ 16 → cycle ≤ MAX_CYCLE → low ≤ cycle + BYTE_STEP * i → IsBytes bytes
-    → ((last : ℕ) → last ≤ cycle + NONCE_CYCLES → Rise last more) → Rise low (bytes_from cycle i bytes ++ more)
+bytes_rise : (cycle i low : ℕ) (bytes : List ℕ) (more : List Entry) → i + length bytes ≤ 16 → cycle ≤ last_cycle → low ≤ cycle + byte_step * i → IsBytes bytes
+    → ((last : ℕ) → last ≤ cycle + nonce_cycles → Rise last more) → Rise low (bytes_from cycle i bytes ++ more)
 bytes_rise cycle i low [] more fit most h bytes next = next low (omega arith)
 bytes_rise cycle i low (b ∷ bs) more fit most h bytes next =
     let small : b < 256 = bytes 0 in
-    let early : cycle + BYTE_STEP * i < 10 ^ 18 = omega arith in (
-      record { rises = h; entry = (early, small); clean = serial_clean (cycle + BYTE_STEP * i) b early small },
-      bytes_rise cycle (i + 1) (cycle + BYTE_STEP * i) bs more (omega arith) most (omega arith) (λ k. bytes (suc k)) next,
+    let early : cycle + byte_step * i < 10 ^ 18 = omega arith in (
+      record { rises = h; entry = (early, small); clean = serial_clean (cycle + byte_step * i) b early small },
+      bytes_rise cycle (i + 1) (cycle + byte_step * i) bs more (omega arith) most (omega arith) (λ k. bytes (suc k)) next,
     )
 
 entries_rise : (cs : List Challenge) (low : ℕ) → AreChallenges cs → AreApart cs → All (λ c. low ≤ c.cycle) cs → Rise low (entries_of cs)
@@ -115,7 +114,7 @@ entries_rise (c ∷ cs) low are apart later =
     let whole = sound.length in
     bytes_rise c.cycle 0 low c.nonce (entries_of cs) (omega arith) sound.cycle (omega arith) sound.bytes
     (λ last h. entries_rise cs last (All-tail IsChallenge c cs are) (λ i j d l k. apart (suc i) (suc j) d (omega arith) (omega arith))
-    (λ k d l. let a : c.cycle + NONCE_CYCLES ≤ (get_or cs k d).cycle = apart 0 (suc k) d (omega arith) (omega arith) in omega arith))
+    (λ k d l. let a : c.cycle + nonce_cycles ≤ (get_or cs k d).cycle = apart 0 (suc k) d (omega arith) (omega arith) in omega arith))
 
 length_from : (cycle i : ℕ) (bytes : List ℕ) → length (bytes_from cycle i bytes) ≡ length bytes
 length_from cycle i [] = refl

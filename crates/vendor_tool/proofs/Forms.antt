@@ -4,8 +4,8 @@ use Rattle.std.specs.List.{slice_split, onto_first, position_or_len}
 use Rattle.std.proofs.lemmas.Bool.Decides.{nat_tests}
 use Rattle.std.proofs.lemmas.List.Splits.{slice_split_first, slice_split_none}
 use Rattle.std.proofs.lemmas.List.Sums.{fails_before_first}
-use Rattle.vendor_tool.specs.ChallengeText.{is_space}
-use Rattle.vendor_tool.specs.TraceLines.{words, all_fit}
+use Rattle.texts.specs.Words.{is_space, words}
+use Rattle.vendor_tool.specs.TraceLines.{all_fit}
 use Rattle.vendor_tool.specs.declared.trace_line.Word.{Word}
 
 -- a line has a word

@@ -26,11 +26,11 @@ use Rattle.tracer.specs.Lines.{rule_name, event_text, event_line, registers_from
 use Rattle.vendor_tool.specs.declared.trace_line.Kind.{Kind}
 use Rattle.vendor_tool.specs.declared.trace_line.Kind.TheVariants.{Resume, Close, Handler, Leave, Hide, Irq, Enter, Reti, Protect, Out, Stop, Stopped, Inside, Outside}
 use Rattle.vendor_tool.specs.declared.trace_line.Word.TheVariants.{Address, RuleName}
-use Rattle.vendor_tool.specs.ChallengeText.{is_space}
+use Rattle.texts.specs.Words.{is_space, words}
 use Rattle.vendor_tool.specs.Laws.{TimedEvent, IsTold, IsEndState, events_text, sent_in, sent, TracesAreRead}
 use Rattle.vendor_tool.specs.Replies.{last_byte, sent_by, ends, at_end, after_bytes, by_end, from_kind, replies_from, replies_of}
 use Rattle.vendor_tool.proofs.Plain.{IsPlain, decimal_plain, byte_plain, word_plain, each, no_space, no_feed}
-use Rattle.vendor_tool.specs.TraceLines.{words, fits, all_fit, form_of, kinds, kind_of}
+use Rattle.vendor_tool.specs.TraceLines.{fits, all_fit, form_of, kinds, kind_of}
 
 -- ---- words that single spaces part
 

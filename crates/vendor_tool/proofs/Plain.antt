@@ -7,7 +7,7 @@ use Rattle.hex.specs.Hex.{lower_digits}
 use Rattle.texts.specs.Hexadecimals.{hex_digit, hex_byte, hex_word}
 use Rattle.texts.specs.Lines.{is_line_feed}
 use Rattle.texts.proofs.WordLemmas.{decimal_has_no}
-use Rattle.vendor_tool.specs.ChallengeText.{is_space}
+use Rattle.texts.specs.Words.{is_space}
 
 abbrev pub is_plain : ℕ → Bool
 is_plain b = not (b == 32) && not (b == 10)

@@ -1,16 +1,16 @@
--- The schedule that sends challenges: byte i of a nonce comes 100 * i cycles after the challenge's cycle.
+-- The schedule that sends challenges: byte i of a nonce comes i byte steps after the challenge's cycle.
 use Rattle.std.specs.Prelude.{ℕ, ◌+◌, ◌*◌, List, [], ◌∷◌, ◌++◌, codes}
 use Rattle.std.specs.List.{flat_map}
 use Rattle.schedule_file.specs.declared.Entry.{Entry}
 use Rattle.schedule_file.specs.declared.What.TheVariants.{Serial}
 use Rattle.schedule_file.specs.Line.{entry_text}
 use Rattle.vendor_tool.specs.declared.Challenge.{Challenge}
-use Rattle.vendor_tool.specs.declared.TheConstants.{BYTE_STEP}
+use Rattle.vendor_tool.specs.Challenges.{byte_step}
 
 -- the bytes of a nonce from byte i on
 abbrev pub bytes_from : ℕ → ℕ → List ℕ → List Entry
 bytes_from cycle i [] = []
-bytes_from cycle i (byte ∷ bytes) = record { cycle = cycle + BYTE_STEP * i; what = Serial byte } ∷ bytes_from cycle (i + 1) bytes
+bytes_from cycle i (byte ∷ bytes) = record { cycle = cycle + byte_step * i; what = Serial byte } ∷ bytes_from cycle (i + 1) bytes
 
 abbrev pub nonce_entries : Challenge → List Entry
 nonce_entries c = bytes_from c.cycle 0 c.nonce

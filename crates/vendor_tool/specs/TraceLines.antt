@@ -1,13 +1,13 @@
 -- The forms of a trace's lines, word by word, and the kind of a line.
 use Rattle.std.specs.Prelude.{ℕ, Bool, true, false, ◌&&◌, List, [], ◌∷◌, codes, replicate, Option, is_some, find}
-use Rattle.std.specs.List.{slice_split, list_any}
+use Rattle.std.specs.List.{list_any}
 use Rattle.std.specs.Str.{bytes_eq}
 use Rattle.pc_access.specs.declared.Rule.{Rule}
 use Rattle.pc_access.specs.declared.Rule.TheVariants.{FetchNotEntry, FetchData, ReadData, WriteData, WriteText, Reenter, RetiInside, Straddle, Misaligned, Illegal, FetchDevice}
 use Rattle.texts.specs.Decimals.{is_decimal}
 use Rattle.texts.specs.Hexadecimals.{read_hex_byte, read_hex_word}
+use Rattle.texts.specs.Words.{words}
 use Rattle.tracer.specs.Lines.{rule_name}
-use Rattle.vendor_tool.specs.ChallengeText.{is_space}
 use Rattle.vendor_tool.specs.declared.trace_line.Kind.{Kind}
 use Rattle.vendor_tool.specs.declared.trace_line.Kind.TheVariants.{Resume, Close, Handler, Leave, Hide, Irq, Enter, Reti, Protect, Out, Stop, Stopped, Inside, Outside}
 use Rattle.vendor_tool.specs.declared.trace_line.Label.{Label}
@@ -72,10 +72,6 @@ fits Address text = is_some (read_hex_word text)
 fits RuleName text = list_any (λ rule. bytes_eq text (rule_name rule)) rules
 fits (Keyword kind) text = bytes_eq text (keyword kind)
 fits (Mark label) text = bytes_eq text (label_text label)
-
--- the words of a line, which single spaces part
-unfoldable pub words : List ℕ → List (List ℕ)
-words line = slice_split is_space line
 
 -- whether these are all the words of a form
 abbrev pub all_fit : List Word → List (List ℕ) → Bool

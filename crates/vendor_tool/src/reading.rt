@@ -1,6 +1,7 @@
 //! The text of challenges, line by line.
 
 ghost use Rattle.std.specs.Prelude.{◌≡◌, ◌≢◌, Ok, Err, IfOk, IfErr, IfSome, position};
+ghost use Rattle.texts.specs.Words.{is_space};
 ghost use Rattle.vendor_tool.specs.ChallengeText as spec;
 ghost use Rattle.vendor_tool.specs.Challenges.{IsChallenge};
 
@@ -56,7 +57,7 @@ fn challenge_of(line: &[u8]) -> Option<Challenge>
 
 /// The index of the first space.
 pub(crate) fn first_space(text: &[u8]) -> Option<usize>
-    ensures { result ≡ position spec.is_space text.now }
+    ensures { result ≡ position is_space text.now }
 {
     text.iter().position(|byte| *byte == b' ')
 }

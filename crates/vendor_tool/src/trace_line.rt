@@ -1,6 +1,7 @@
 //! The lines of a trace, told by their words.
 
 ghost use Rattle.std.specs.Prelude.{◌≡◌, ◌∷◌, [], ◌<◌, length, IfSome, IfNone};
+ghost use Rattle.texts.specs.Words as spaced;
 ghost use Rattle.vendor_tool.specs.TraceLines as spec;
 ghost use Rattle.vendor_tool.specs.Replies as replies;
 
@@ -102,58 +103,73 @@ fn kinds() -> &'static [Kind]
     ]
 }
 
-// The words of a line of this kind.
+// The words of a line of this kind: the event's, or the end line's.
 fn form_of(kind: Kind) -> &'static [Word]
     ensures { result.now ≡ spec.form_of kind }
 {
     match kind {
         Kind::Resume => &[Word::Number, Word::Keyword(Kind::Resume), Word::Number],
         Kind::Close => &[Word::Number, Word::Keyword(Kind::Close), Word::Number],
-        Kind::Handler => &[
-            Word::Number,
-            Word::Keyword(Kind::Handler),
-            Word::Mark(Label::Pc),
-            Word::Address,
-        ],
-        Kind::Leave => &[
-            Word::Number,
-            Word::Keyword(Kind::Leave),
-            Word::Number,
-            Word::Mark(Label::Pc),
-            Word::Address,
-        ],
-        Kind::Hide => &[
-            Word::Number,
-            Word::Keyword(Kind::Hide),
-            Word::Number,
-            Word::Mark(Label::Vector),
-            Word::Number,
-        ],
+        Kind::Handler => handler_form(),
+        Kind::Leave => leave_form(),
+        Kind::Hide => hide_form(),
         Kind::Irq => &[Word::Number, Word::Keyword(Kind::Irq), Word::Number],
-        Kind::Enter => &[
-            Word::Number,
-            Word::Keyword(Kind::Enter),
-            Word::Number,
-            Word::Mark(Label::From),
-            Word::Number,
-        ],
+        Kind::Enter => enter_form(),
         Kind::Reti => &[Word::Number, Word::Keyword(Kind::Reti)],
         Kind::Protect => &[Word::Number, Word::Keyword(Kind::Protect), Word::Number],
         Kind::Out => &[Word::Number, Word::Keyword(Kind::Out), Word::Byte],
         Kind::Stop => stop_form(),
-        Kind::Stopped => &[
-            Word::Mark(Label::End),
-            Word::Number,
-            Word::Keyword(Kind::Stopped),
-        ],
-        Kind::Inside => &[
-            Word::Mark(Label::End),
-            Word::Number,
-            Word::Keyword(Kind::Inside),
-            Word::Number,
-        ],
+        Kind::Stopped => stopped_form(),
+        Kind::Inside => inside_form(),
         Kind::Outside => outside_form(),
     }
+}
+
+fn handler_form() -> &'static [Word]
+    ensures { result.now ≡ spec.form_of (Kind.Handler) }
+{
+    &[
+        Word::Number,
+        Word::Keyword(Kind::Handler),
+        Word::Mark(Label::Pc),
+        Word::Address,
+    ]
+}
+
+fn leave_form() -> &'static [Word]
+    ensures { result.now ≡ spec.form_of (Kind.Leave) }
+{
+    &[
+        Word::Number,
+        Word::Keyword(Kind::Leave),
+        Word::Number,
+        Word::Mark(Label::Pc),
+        Word::Address,
+    ]
+}
+
+fn hide_form() -> &'static [Word]
+    ensures { result.now ≡ spec.form_of (Kind.Hide) }
+{
+    &[
+        Word::Number,
+        Word::Keyword(Kind::Hide),
+        Word::Number,
+        Word::Mark(Label::Vector),
+        Word::Number,
+    ]
+}
+
+fn enter_form() -> &'static [Word]
+    ensures { result.now ≡ spec.form_of (Kind.Enter) }
+{
+    &[
+        Word::Number,
+        Word::Keyword(Kind::Enter),
+        Word::Number,
+        Word::Mark(Label::From),
+        Word::Number,
+    ]
 }
 
 fn stop_form() -> &'static [Word]
@@ -168,6 +184,29 @@ fn stop_form() -> &'static [Word]
         Word::Mark(Label::Addr),
         Word::Address,
         Word::Mark(Label::Module),
+        Word::Number,
+    ]
+}
+
+// The end line's words where the machine is stopped.
+fn stopped_form() -> &'static [Word]
+    ensures { result.now ≡ spec.form_of (Kind.Stopped) }
+{
+    &[
+        Word::Mark(Label::End),
+        Word::Number,
+        Word::Keyword(Kind::Stopped),
+    ]
+}
+
+// The end line's words where a module is active.
+fn inside_form() -> &'static [Word]
+    ensures { result.now ≡ spec.form_of (Kind.Inside) }
+{
+    &[
+        Word::Mark(Label::End),
+        Word::Number,
+        Word::Keyword(Kind::Inside),
         Word::Number,
     ]
 }
@@ -201,7 +240,7 @@ fn outside_form() -> &'static [Word]
 
 // Whether these are all the words of the line.
 fn has_form(line: &[u8], form: &[Word]) -> bool
-    ensures { result ≡ spec.all_fit form.now (spec.words line.now) }
+    ensures { result ≡ spec.all_fit form.now (spaced.words line.now) }
 {
     let [word, more @ ..] = form else {
         return false;
@@ -214,8 +253,8 @@ fn has_form(line: &[u8], form: &[Word]) -> bool
 
 // The first word of a line, and what stands behind its space; `None` where there is no space.
 fn split_word(line: &[u8]) -> Option<(&[u8], &[u8])>
-    ensures words { IfSome result (λ parts. spec.words line.now ≡ parts.0.now ∷ spec.words parts.1.now) }
-    ensures whole { IfNone result (spec.words line.now ≡ line.now ∷ []) }
+    ensures words { IfSome result (λ parts. spaced.words line.now ≡ parts.0.now ∷ spaced.words parts.1.now) }
+    ensures whole { IfNone result (spaced.words line.now ≡ line.now ∷ []) }
 {
     match first_space(line) {
         None => None,

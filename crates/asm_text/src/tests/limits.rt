@@ -56,6 +56,31 @@ fn a_source_has_256_sections(rt: HostRuntime) -> Result<(), Fail> {
     Ok(())
 }
 
+// The name of section 257 stands before: that is told, and not that there are too many.
+#[test]
+fn a_name_twice_comes_before_too_many(rt: HostRuntime) -> Result<(), Fail> {
+    let mut text = sections(rt.alloc(), 256)?;
+    text.extend_from_slice(b"section s0 bss\n")?;
+    assert!(rt; text.len() <= 1_048_576);
+    let fault = assemble(rt.alloc(), text.as_slice()).err();
+    assert_eq!(rt; fault, Some(AsmFault::Twice { n: 257 }));
+    Ok(())
+}
+
+// The jump of line 2 is one word too long, and that of line 3 has no label: the first line is told.
+#[test]
+fn the_first_jump_is_told(rt: HostRuntime) -> Result<(), Fail> {
+    let mut text = Vec::from_slice(rt.alloc(), b"section a code\njmp far\njmp nowhere\n")?;
+    for _ in 0..511 {
+        text.extend_from_slice(b"reti\n")?;
+    }
+    text.extend_from_slice(b"label far\n")?;
+    assert!(rt; text.len() <= 1_048_576);
+    let fault = assemble(rt.alloc(), text.as_slice()).err();
+    assert_eq!(rt; fault, Some(AsmFault::Far { n: 2, value: 512 }));
+    Ok(())
+}
+
 #[test]
 fn a_source_has_4096_labels(rt: HostRuntime) -> Result<(), Fail> {
     for (count, wanted) in [(4_096, None), (4_097, Some(AsmFault::TooMany { n: 4_098 }))] {
