@@ -47,6 +47,15 @@ fn two_modules() -> Result<ModuleTable, Fail> {
     Ok(table)
 }
 
+// Eight modules, of 2 bytes of text and 4 of data each.
+fn fill(table: &mut ModuleTable) -> Result<(), Fail> {
+    for k in 0..8u16 {
+        let start = 0x1000 + 16 * k;
+        table.add(7, section(start, start + 2), section(start + 4, start + 8))?;
+    }
+    Ok(())
+}
+
 fn memory(alloc: Global, rt: &impl std::process::Abort) -> Result<Memory, Fail> {
     let bytes = vec![in alloc; 0u8; 65536]?;
     let bytes = bytes.as_slice();
@@ -239,5 +248,34 @@ fn protected_and_closed(rt: HostRuntime) -> Result<(), Fail> {
     // Its own caller is none.
     let answer = unit(6, &mut closing, &mut memory, &mut table, who, &NODE_KEY);
     assert_eq!(rt; (answer, closing.get(15)), (Ok(done(6, false, 0)), 0));
+    Ok(())
+}
+
+// Protects a module of 2 bytes of text and 2 of data: what is done, R15, and whether the table has a module 9.
+fn protect_ninth(memory: &mut Memory, table: &mut ModuleTable) -> (Option<UnitDone>, u16, bool) {
+    memory.set_byte(0x2004, 1);
+    let mut core = core(7, 0x2000, 0x2002, 0x2004, 0x2006);
+    let answer = unit(1, &mut core, memory, table, OUTSIDE, &NODE_KEY);
+    (answer.ok(), core.get(15), table.get(9).is_some())
+}
+
+// A ninth module has no room among 8, and is made among 32: its text has 2 bytes, as above.
+#[test]
+fn the_ninth_module(rt: HostRuntime) -> Result<(), Fail> {
+    let mut memory = memory(rt.alloc(), &rt)?;
+    let mut eight = ModuleTable::new();
+    fill(&mut eight)?;
+    assert_eq!(rt;
+        protect_ninth(&mut memory, &mut eight),
+        (Some(done(6, false, 0)), 0, false)
+    );
+    assert_eq!(rt; memory.byte(0x2004), 1);
+    let mut more = ModuleTable::with_room(32);
+    fill(&mut more)?;
+    assert_eq!(rt;
+        protect_ninth(&mut memory, &mut more),
+        (Some(done(518, false, 9)), 9, true)
+    );
+    assert_eq!(rt; memory.byte(0x2004), 0);
     Ok(())
 }
