@@ -23,7 +23,7 @@ use Rattle.sm_cli.specs.Files.{Held, an_image, image_with, need}
 use Rattle.sm_cli.specs.Command.{Answer, Outcome, gives, no_outcome, Command}
 
 -- the module's entry: PC is where its text starts, the other registers are these, and no module calls
-abbrev pub entry_of : Module → List ℕ → lone.Entry_of
+abbrev pub entry_of : Module → List ℕ → lone.Entrance
 entry_of owner registers = record { core = put registers PC owner.text.start; caller = NO_CALLER }
 
 -- how the call of an image's module ends within so many cycles
