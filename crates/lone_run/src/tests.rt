@@ -2,7 +2,7 @@
 
 use crate::{Entry, Outcome, call};
 use mod_layout::{Module, Section};
-use sm_words::Core;
+use sm_words::{Core, PC};
 use std::process::Abort;
 
 const NODE_KEY: [u8; 16] = [0; 16];
@@ -35,8 +35,8 @@ fn highest(core: &Core) -> u16 {
 
 fn end_of(outcome: Outcome) -> End {
     match outcome {
-        Outcome::Exit { core, cycles } => End::Exit(core.get(0), highest(&core), cycles),
-        Outcome::Closed { core, cycles } => End::Closed(core.get(0), highest(&core), cycles),
+        Outcome::Exit { core, cycles } => End::Exit(core.pc(), highest(&core), cycles),
+        Outcome::Closed { core, cycles } => End::Closed(core.pc(), highest(&core), cycles),
         Outcome::Broken { cycles } => End::Broken(cycles),
         Outcome::Running => End::Running,
     }
@@ -59,7 +59,7 @@ fn end_by(rt: &impl Abort, text: &[u8], ram: &mut [u8], limit: u64) -> End {
         },
     };
     let mut core = Core::new([0; 16]);
-    core.put(0, 0x0300);
+    core.put(PC, 0x0300);
     let entry = Entry { core, caller: 0 };
     end_of(call(&NODE_KEY, &owner, text, ram, &entry, limit))
 }
