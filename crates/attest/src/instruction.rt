@@ -13,6 +13,7 @@ use crate::hash::{identity_tag, message_tag};
 use crate::memory::{stands_at, store};
 use crate::rights::{check, in_range};
 use crate::{UnitDone, Who};
+use insn_decode::units::{ATTEST, ID_OF, OWN_ID, PROTECT, TAG, UNPROTECT};
 use mem_map::Memory;
 use mod_keys::IDENTITY_TAIL;
 use mod_layout::{Module, ModuleTable, Place, Section};
@@ -41,7 +42,7 @@ pub fn unit(
     who: Who,
     node_key: &[u8; 16],
 ) -> Result<UnitDone, Denied>
-    requires { op < 7 }
+    requires op { op < 7 }
 
     // By the first of its accesses that is refused, whatever modules wait in frames.
     ensures denied { IfErr result (λ denied. (held : List ℕ) → first_denied table.old who.active held
@@ -58,12 +59,12 @@ pub fn unit(
     ensures table_kept { OnErr result (table.new ≡ table.old) }
 {
     match op {
-        0 => Ok(unprotect(core, table, who)),
-        1 => Ok(protect(core, memory, table, who)),
-        2 => attest(core, memory, table, who, node_key),
-        3 => tag(core, memory, table, who, node_key),
-        4 => Ok(id_of(core, table, who)),
-        5 => Ok(own_id(core, table, who)),
+        UNPROTECT => Ok(unprotect(core, table, who)),
+        PROTECT => Ok(protect(core, memory, table, who)),
+        ATTEST => attest(core, memory, table, who, node_key),
+        TAG => tag(core, memory, table, who, node_key),
+        ID_OF => Ok(id_of(core, table, who)),
+        OWN_ID => Ok(own_id(core, table, who)),
         _ => Ok(caller_id(core, table, who)),
     }
 }
@@ -303,8 +304,8 @@ fn text_module(table: &ModuleTable, addr: u16) -> Option<Module>
 }
 
 /// The blocks of SHA-256 in a HMAC over so many bytes under a key of 16.
-fn hmac_blocks(length: u32) -> u32
-    requires { length < 2 ^ 20 }
+pub fn hmac_blocks(length: u32) -> u32
+    requires short { length < 2 ^ 20 }
     ensures { result ≡ blocks length }
 {
     3 + (length + 72) / 64

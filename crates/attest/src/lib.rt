@@ -8,7 +8,8 @@ mod rights;
 #[cfg(test)]
 mod tests;
 
-pub use instruction::unit;
+pub use instruction::{BLOCK_CYCLES, SHORT_CYCLES, hmac_blocks, unit};
+pub use rights::in_range;
 
 /// Who does an instruction.
 #[derive(Clone, Copy, Debug, PartialEq, Eq)]

@@ -33,12 +33,12 @@ pub record Lone : Type 0 where
   pub closing : Bool
 
 -- an entry: the registers, and a caller id
-pub record Entry_of : Type 0 where
+pub record Entrance : Type 0 where
   pub core : List ℕ
   pub caller : ℕ
 
 -- a call at its entry
-abbrev pub starts : Entry_of → List ℕ → Lone
+abbrev pub starts : Entrance → List ℕ → Lone
 starts e d = record { core = e.core; data_bytes = d; rest = 0; closing = false }
 
 -- the bytes of the two sections
@@ -217,18 +217,18 @@ abbrev pub job_of : List ℕ → Module → List ℕ → ℕ → Job
 job_of key m text caller = record { key = key; owner = m; text = text; caller = caller }
 
 -- these calls, one after another, end alike from both data, within n cycles each
-abbrev pub Even : List ℕ → Module → List ℕ → ℕ → List Entry_of → List ℕ → List ℕ → Type 0
+abbrev pub Even : List ℕ → Module → List ℕ → ℕ → List Entrance → List ℕ → List ℕ → Type 0
 Even key m text n [] d1 d2 = Unit {0}
 Even key m text n (e ∷ es) d1 d2 =
     let j = job_of key m text e.caller in
     alike (Even key m text n es) (outcome j n (starts e d1)) (outcome j n (starts e d2))
 
 -- an entry of the module: a core whose PC is the text's start, and a caller id
-pub record IsEntry (m : Module) (e : Entry_of) : Type 0 where
+pub record IsEntry (m : Module) (e : Entrance) : Type 0 where
   pub core_ok : IsCore e.core
   pub at_start : reg e.core PC ≡ m.text.start
   pub caller_ok : e.caller < 0x10000
 
 -- two data that no list of calls and no number of cycles tells apart
 abbrev pub AlwaysEven : List ℕ → Module → List ℕ → List ℕ → List ℕ → Type 0
-AlwaysEven key m text d1 d2 = (es : List Entry_of) (n : ℕ) → All (IsEntry m) es → Even key m text n es d1 d2
+AlwaysEven key m text d1 d2 = (es : List Entrance) (n : ℕ) → All (IsEntry m) es → Even key m text n es d1 d2

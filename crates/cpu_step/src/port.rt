@@ -23,12 +23,12 @@ pub trait Port {
 
     /// Reads a byte, or a word at an even address.
     fn read(&mut self, addr: u16, width: Width) -> u16
-        requires { IsFalse (misaligned width addr) }
+        requires aligned { IsFalse (misaligned width addr) }
         ensures value { result ≡ answer (state self.old) width addr }
         ensures state { state self.new ≡ after_read (state self.old) width addr };
 
     /// Writes a byte, or a word at an even address.
     fn write(&mut self, addr: u16, width: Width, value: u16)
-        requires { IsFalse (misaligned width addr) }
+        requires aligned { IsFalse (misaligned width addr) }
         ensures state { state self.new ≡ after_write (state self.old) width addr value };
 }

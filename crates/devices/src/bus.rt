@@ -225,7 +225,7 @@ impl Device for Bus {
     ghost owns = { λ _. true };
 
     fn tick(&mut self)
-        requires { 1 ≤ 2 ^ 62 - self.old.ticks }
+        requires left { 1 ≤ 2 ^ 62 - self.old.ticks }
         ensures state { self.new.devices ≡ ticked_devices self.old.devices self.old.ticks }
         ensures ticks { self.new.ticks ≡ self.old.ticks + 1 }
         ensures moves { self.new.moves ≡ min (self.old.moves + 1) (2 ^ 64 - 1) }
@@ -249,7 +249,7 @@ impl Device for Bus {
     }
 
     fn skip(&mut self, n: u64)
-        requires { n ≤ 2 ^ 62 - self.old.ticks }
+        requires left { n ≤ 2 ^ 62 - self.old.ticks }
         ensures state { self.new.devices ≡ ticked_by n self.old.ticks self.old.devices }
         ensures ticks { self.new.ticks ≡ self.old.ticks + n }
         ensures moves { self.new.moves ≡ min (self.old.moves + 1) (2 ^ 64 - 1) }

@@ -56,7 +56,7 @@ pub trait Device {
 
     /// Lets one cycle pass.
     fn tick(&mut self)
-        requires { 1 ≤ ticks_left self.old }
+        requires left { 1 ≤ ticks_left self.old }
         ensures state { state self.new ≡ ticked_devices (state self.old) (cycle self.old) }
         ensures cycle { (state self.old).schedule ≢ [] → cycle self.new ≡ cycle self.old + 1 }
         ensures left { ticks_left self.old ≤ ticks_left self.new + 1 };
@@ -73,7 +73,7 @@ pub trait Device {
 
     /// Does what `n` ticks do.
     fn skip(&mut self, n: u64)
-        requires { n ≤ ticks_left self.old }
+        requires left { n ≤ ticks_left self.old }
         ensures state { state self.new ≡ ticked_by n (cycle self.old) (state self.old) }
         ensures cycle { (state self.old).schedule ≢ [] → cycle self.new ≡ cycle self.old + n }
         ensures left { ticks_left self.old ≤ ticks_left self.new + n };

@@ -8,7 +8,7 @@ use Rattle.flow_rule.proofs.Plans.{none_left}
 use Rattle.mod_layout.specs.declared.Module.{Module}
 use Rattle.mod_layout.specs.Table.{holds}
 use Rattle.mod_layout.specs.Tables.{IsModule}
-use Rattle.cpu_step.specs.Lone.{Entry_of, job_of, Even}
+use Rattle.cpu_step.specs.Lone.{Entrance, job_of, Even}
 use Rattle.std.specs.Prelude.{All}
 use Rattle.cpu_step.specs.Lone.{IsEntry}
 use Rattle.flow_rule.specs.declared.Val.TheVariants.{Away}
@@ -167,7 +167,7 @@ any_with key m text arms shape v = by (has_stub m text) refl
     by true e = stub_with key m text arms shape e v
     by false e = calls_with key m text arms shape e v
 
-pub even_with : (key : List ℕ) (given : ℕ) (m : Module) (text : List ℕ) (arms : List Arm) (n : ℕ) (es : List Entry_of) (da db : List ℕ) → IsModule given m → VerdictWith m text arms Yes →
+pub even_with : (key : List ℕ) (given : ℕ) (m : Module) (text : List ℕ) (arms : List Arm) (n : ℕ) (es : List Entrance) (da db : List ℕ) → IsModule given m → VerdictWith m text arms Yes →
     IsData m da → IsData m db → All (IsEntry m) es → Even key m text n es da db
 even_with key given m text arms n [] da db ok v pa pb h = tt
 even_with key given m text arms n (e ∷ es) da db ok v pa pb h =

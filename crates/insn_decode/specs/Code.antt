@@ -105,10 +105,10 @@ distance (negsuc n) = 65536 - (2 * (n + 1)) % 65536
 -- the instruction that these words begin with, or none where the first is outside the table
 unfoldable pub insn_of : ℕ → ℕ → ℕ → Option Insn
 insn_of w0 w1 w2 =
-    if nat_lt 16383 w0 then two_of (slice_get two_ops (w0 / 4096 - 4)) w0 w1 w2
+    if nat_lt 0x3fff w0 then two_of (slice_get two_ops (w0 / 4096 - 4)) w0 w1 w2
     else (if w0 / 8192 == 1 then Some (Jump ((w0 / 1024) % 8) (offset_of (w0 % 1024)))
-    else (if w0 == 4864 then Some Reti
-    else (if nat_lt 4991 w0 && nat_lt w0 4999 then Some (UnitOp (w0 - 4992))
+    else (if w0 == 0x1300 then Some Reti
+    else (if nat_lt 0x137f w0 && nat_lt w0 0x1387 then Some (UnitOp (w0 - 0x1380))
     else (if w0 / 1024 == 4 then one_of (slice_get one_ops ((w0 / 128) % 8)) w0 w1
     else None))))
 

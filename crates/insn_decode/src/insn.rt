@@ -76,7 +76,7 @@ pub enum Insn {
     },
     /// The return from an interrupt.
     Reti,
-    /// Unit instruction 0 to 6.
+    /// The unit instruction of this number, 0 to 6, as in [`crate::units`].
     Unit(u8),
 }
 

@@ -4,7 +4,7 @@ use Rattle.std.proofs.lemmas.Bool.Decides.{nat_tests}
 use Rattle.std.proofs.lemmas.List.Elements.{All-nil, All-cons}
 use Rattle.std.specs.Prelude.{All}
 use Rattle.mod_layout.specs.declared.Module.{Module}
-use Rattle.cpu_step.specs.Lone.{Job, Lone, Entry_of, Outcome, Exit, Closing, Broken, Running, later, Doing, Waits, Closes, Leaves, Breaks, Does, doing, lone_does, at_once, in_time, outcome, alike, job_of, Even, IsEntry, AlwaysEven}
+use Rattle.cpu_step.specs.Lone.{Job, Lone, Entrance, Outcome, Exit, Closing, Broken, Running, later, Doing, Waits, Closes, Leaves, Breaks, Does, doing, lone_does, at_once, in_time, outcome, alike, job_of, Even, IsEntry, AlwaysEven}
 use Rattle.isolation.proofs.Each.{Each}
 use Rattle.isolation.proofs.EvenBy.{Call_of, begins, IsCall, EvenBy, AlwaysEvenBy}
 
@@ -83,7 +83,7 @@ module _ (j : Job) where
   alike_cut P Q n _ _ f h = absurd h
 
 module _ (key : List ℕ) (own : Module) (text : List ℕ) where
-  abbrev plain : List Call_of → List Entry_of
+  abbrev plain : List Call_of → List Entrance
   plain [] = []
   plain (e ∷ es) = record { core = e.core; caller = e.caller } ∷ plain es
 

@@ -12,7 +12,7 @@ use crate::job::{Job, holds};
 use crate::next::next_insn;
 use crate::{Entry, Outcome};
 use mod_layout::Module;
-use sm_words::Core;
+use sm_words::{Core, PC};
 
 /// Sets all bytes to 0.
 fn clear(bytes: &mut [u8])
@@ -65,7 +65,7 @@ fn run(job: &Job<'_>, ram: &mut [u8], entry: Core, limit: u64) -> Outcome
     let mut core = entry;
     let mut cycles: u64 = 0;
     loop {
-        if !holds(job.owner.text, usize::from(core.get(0))) {
+        if !holds(job.owner.text, usize::from(core.get(PC))) {
             return Outcome::Exit { core, cycles };
         }
         if cycles == limit {

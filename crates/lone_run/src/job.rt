@@ -1,6 +1,6 @@
 //! Whose call it is, and the bytes of the two sections.
 
-ghost use Rattle.std.specs.Prelude.{◌≡◌, ◌<◌, ◌-◌, slice_index, slice_set};
+ghost use Rattle.std.specs.Prelude.{◌≡◌, ◌<◌, ◌-◌, ◌^◌, slice_index, slice_set};
 ghost use Rattle.sm_words.specs.Words.{word_at};
 ghost use Rattle.mod_layout.specs.Table.{holds};
 ghost use Rattle.pc_access.specs.Rights.{misaligned};
@@ -71,7 +71,7 @@ pub fn byte(job: &Job<'_>, ram: &[u8], addr: usize) -> u16
 
 /// The word at an address, low byte first.
 pub fn word(job: &Job<'_>, ram: &[u8], addr: usize) -> u16
-    requires { addr < 1000000 }
+    requires small { addr < 2 ^ 32 }
     ensures { result ≡ word_at (lone_byte (call_of job.now) ram.now) addr }
 {
     byte(job, ram, addr) + 256 * byte(job, ram, addr + 1)

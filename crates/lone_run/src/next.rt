@@ -2,6 +2,7 @@
 
 ghost use Rattle.std.specs.Prelude.{◌≡◌, ◌≤◌, ◌<◌, ◌+◌, ◌*◌, ◌&&◌, ℕ, List, Bool, true, IfSome, Some};
 ghost use Rattle.sm_words.specs.Words.{reg, word_at};
+ghost use Rattle.sm_words.specs.declared.registers.TheConstants.{PC};
 ghost use Rattle.insn_decode.specs.Code.{IsDecoded, insn_of};
 ghost use Rattle.pc_access.specs.declared.Kind.TheVariants.{Read, Write};
 ghost use Rattle.attest.specs.Units.{each_byte, in_range, unit_named, unit_plan, UnitName, Tag};
@@ -12,13 +13,11 @@ ghost use Rattle.cpu_step.specs.Lone.{if_home, next_first, next_insn, Lone};
 ghost use Rattle.lone_run.specs.Jobs.{call_of};
 
 use crate::job::{Job, holds, is_inside, word};
+use attest::in_range;
 use cpu_step::{Access, Kind, plan};
+use insn_decode::units::{ATTEST, ID_OF, PROTECT, TAG};
 use insn_decode::{Insn, decode};
-use mod_layout::DEVICES_END;
-use sm_words::{Core, Width};
-
-/// The unit instruction that makes a tag.
-pub const TAG: u8 = 3;
+use sm_words::{Core, PC, Width};
 
 /// Whether word `k` of an instruction of `n` words at `pc`, if there is one, is in the text.
 fn has_word(job: &Job<'_>, pc: u16, n: u16, k: u16) -> bool
@@ -65,7 +64,7 @@ fn is_alone(insn: &Insn) -> bool
 fn is_unit_alone(op: u8) -> bool
     ensures { result ≡ unit_alone (unit_named op) }
 {
-    op != 1 && op != 2 && op != 4
+    op != PROTECT && op != ATTEST && op != ID_OF
 }
 
 /// Whether each of these accesses is aligned and stays in the two sections.
@@ -97,13 +96,6 @@ fn has_bytes(job: &Job<'_>, kind: Kind, start: u16, count: u16) -> bool
         }
     }
     true
-}
-
-/// Whether the range from `start`, below `end`, is neither a device's nor past the last address.
-fn in_range(start: u32, end: u32) -> bool
-    ensures { result ≡ in_range start end }
-{
-    u32::from(DEVICES_END) <= start && end <= 0x10000 && start <= end
 }
 
 /// Whether a tag is made: of the message from R12, below R13, for the 16 bytes from R14 on.
@@ -177,16 +169,16 @@ fn may_do(job: &Job<'_>, core: &Core, insn: Option<Insn>) -> Option<Insn>
 /// The instruction of `n` words in PC's place, where all of it is in the text and the module may do it.
 fn home_insn(job: &Job<'_>, ram: &[u8], core: &Core, n: u16) -> Option<Insn>
     ensures exact { (rest : ℕ) (closing : Bool) → result
-        ≡ if_home (text_word (call_of job.now) (reg core.now 0) n 1 && text_word (call_of job.now)
-        (reg core.now 0) n 2) (may_do (call_of job.now)
+        ≡ if_home (text_word (call_of job.now) (reg core.now PC) n 1 && text_word (call_of job.now)
+        (reg core.now PC) n 2) (may_do (call_of job.now)
         (record { core = core.now; data_bytes = ram.now; rest = rest; closing = closing })
-        (insn_at (lone_byte (call_of job.now) ram.now) (reg core.now 0) n)) }
+        (insn_at (lone_byte (call_of job.now) ram.now) (reg core.now PC) n)) }
     ensures decoded { IfSome result (λ insn. IsDecoded insn) }
     ensures alone { IfSome result (λ insn. is_alone insn ≡ true) }
     ensures inside { IfSome result (λ insn. all_inside (call_of job.now)
         (asks (lone_who (call_of job.now)) insn core.now) ≡ true) }
 {
-    let pc = core.get(0);
+    let pc = core.get(PC);
     let home = both(has_word(job, pc, n, 1), has_word(job, pc, n, 2));
     if home {
         may_do(job, core, insn_at(job, ram, pc, n))
@@ -205,7 +197,7 @@ pub fn next_insn(job: &Job<'_>, ram: &[u8], core: &Core) -> Option<Insn>
     ensures inside { IfSome result (λ insn. all_inside (call_of job.now)
         (asks (lone_who (call_of job.now)) insn core.now) ≡ true) }
 {
-    let first = decode(word(job, ram, usize::from(core.get(0))), 0, 0);
+    let first = decode(word(job, ram, usize::from(core.get(PC))), 0, 0);
     match first {
         Some(first) => home_insn(job, ram, core, first.length()),
         None => None,

@@ -10,28 +10,18 @@ ghost use Rattle.cpu_step.specs.Lone.{unit_alone, lone_does};
 ghost use Rattle.lone_run.specs.Jobs.{call_of, between, lasting};
 
 use crate::job::{Job, Lasts};
-use crate::next::{TAG, has_ranges};
+use crate::next::has_ranges;
 use crate::tagging::{store, tag_of};
-use sm_words::Core;
-
-/// The unit instruction that gives the module up.
-const UNPROTECT: u8 = 0;
-
-/// The unit instruction that tells the caller's id.
-const CALLER_ID: u8 = 6;
-
-/// The cycles of a unit instruction that hashes nothing.
-const SHORT: u32 = 6;
-
-/// The cycles that each block hashed adds.
-const BLOCK: u32 = 64;
+use attest::{BLOCK_CYCLES, SHORT_CYCLES, hmac_blocks};
+use insn_decode::units::{CALLER_ID, TAG, UNPROTECT};
+use sm_words::{Core, PC};
 
 /// Moves PC past the instruction.
 fn step_past(core: &mut Core)
     ensures { core.new ≡ next core.old }
 {
-    let next = core.get(0).wrapping_add(2);
-    core.put(0, next);
+    let next = core.pc().wrapping_add(2);
+    core.put(PC, next);
 }
 
 /// R15 takes the answer.
@@ -47,14 +37,6 @@ fn answer(core: &mut Core, value: u16, cycles: u32) -> Lasts
     }
 }
 
-/// The blocks of SHA-256 in a HMAC over so many bytes under a key of 16.
-fn hmac_blocks(length: u16) -> u32
-    ensures exact { result ≡ blocks length }
-    ensures few { result < 2000 }
-{
-    3 + (u32::from(length) + 72) / 64
-}
-
 /// The module closes after the last cycle.
 #[tactic(auto, unfolding(cpu_step::specs::Lone::lone_does, cpu_step::specs::Asked::asks, cpu_step::specs::Asked::effect, attest::specs::Units::unit_plan, attest::specs::Units::unit_effect))]
 fn unprotect(job: &Job<'_>, ram: &[u8], core: &mut Core) -> Lasts
@@ -64,7 +46,7 @@ fn unprotect(job: &Job<'_>, ram: &[u8], core: &mut Core) -> Lasts
 {
     step_past(core);
     Lasts {
-        cycles: SHORT + u32::from(job.owner.ram.end - job.owner.ram.start) / 2,
+        cycles: SHORT_CYCLES + u32::from(job.owner.ram.end - job.owner.ram.start) / 2,
         closing: true,
     }
 }
@@ -77,13 +59,17 @@ fn tag(job: &Job<'_>, ram: &mut [u8], core: &mut Core) -> Lasts
     ensures some { 1 ≤ result.cycles }
 {
     if !has_ranges(core) {
-        return answer(core, 0, SHORT);
+        return answer(core, 0, SHORT_CYCLES);
     }
     let start = core.get(12);
     let count = core.get(13) - start;
     let tag = tag_of(job, ram, start, count);
     store(job.owner, ram, core.get(14), &tag);
-    answer(core, 1, SHORT + BLOCK * hmac_blocks(count))
+    answer(
+        core,
+        1,
+        SHORT_CYCLES + BLOCK_CYCLES * hmac_blocks(u32::from(count)),
+    )
 }
 
 /// R15 is the caller's id.
@@ -92,7 +78,7 @@ fn caller_id(job: &Job<'_>, ram: &[u8], core: &mut Core) -> Lasts
     ensures done { lone_does (call_of job.now) (UnitOp 6) (between core.old ram.now) ≡ lasting core.new ram.now result }
     ensures some { 1 ≤ result.cycles }
 {
-    answer(core, job.caller, SHORT)
+    answer(core, job.caller, SHORT_CYCLES)
 }
 
 /// R15 is the module's own id.
@@ -104,7 +90,7 @@ fn own_id(job: &Job<'_>, ram: &[u8], core: &mut Core, op: u8) -> Lasts
         ≡ lasting core.new ram.now result }
     ensures some { 1 ≤ result.cycles }
 {
-    answer(core, job.owner.id, SHORT)
+    answer(core, job.owner.id, SHORT_CYCLES)
 }
 
 /// Does a unit instruction.

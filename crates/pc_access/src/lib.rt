@@ -6,7 +6,8 @@ mod tests;
 
 ghost use Rattle.std.specs.Prelude.{◌≡◌, OnOk, IfErr, IsOk, ◌↔◌, Some, None};
 ghost use Rattle.mod_layout.specs.Table.{place_of};
-ghost use Rattle.pc_access.specs.Rights.{right, right_at, access_of, IsRightful, is_misaligned as is_misaligned_lem, refuse_if as refuse_if_lem};
+ghost use Rattle.pc_access.specs.Rights as spec;
+ghost use Rattle.pc_access.specs.Rights.{right, right_at, access_of, IsRightful};
 
 use mod_layout::{DEVICES_END, ModuleTable, Place};
 use sm_words::Width;
@@ -110,7 +111,7 @@ pub fn allowed(
 }
 
 fn is_misaligned(kind: Kind, addr: u16, width: Width) -> bool
-    ensures { result ≡ is_misaligned_lem (access_of kind addr width) }
+    ensures { result ≡ spec.is_misaligned (access_of kind addr width) }
 {
     match kind {
         Kind::Fetch => false,
@@ -142,7 +143,7 @@ fn refusal(place: Place, active: Option<u16>, kind: Kind, addr: u16, held: &[u16
 }
 
 fn refuse_if(refused: bool, rule: Rule, addr: u16, module: u16) -> Option<Denied>
-    ensures { result ≡ refuse_if_lem refused rule addr «module» }
+    ensures { result ≡ spec.refuse_if refused rule addr «module» }
 {
     if refused {
         Some(Denied { rule, addr, module })

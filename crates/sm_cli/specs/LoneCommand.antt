@@ -27,7 +27,7 @@ abbrev pub no_caller : ℕ
 no_caller = 0
 
 -- the module's entry: PC is where its text starts, the other registers are these, and no module calls
-abbrev pub entry_of : Module → List ℕ → lone.Entry_of
+abbrev pub entry_of : Module → List ℕ → lone.Entrance
 entry_of owner registers = record { core = put registers PC owner.text.start; caller = no_caller }
 
 -- how the call of an image's module ends within so many cycles
