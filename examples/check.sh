@@ -1,6 +1,6 @@
 #!/bin/sh
 # Runs each `./sancus` line of the pages here and of the first page, in their order, and compares what it prints with the block of text
-# after it; then draws the figure again.
+# after it, whose last line is `status N` where the command ends with another status than 0; then draws the figure again.
 #     examples/check.sh [PROGRAM]
 # PROGRAM stands for ./sancus where it is given. The last line is 'N commands, M differ'.
 here=$(dirname -- "$(readlink -f -- "$0")") || exit 1
@@ -50,6 +50,8 @@ for page in examples/../README.md examples/README.md examples/*/README.md; do
     number=1
     while [ -f "command.$number" ]; do
         sh "./command.$number" >got 2>&1
+        status=$?
+        [ "$status" -eq 0 ] || printf 'status %s\n' "$status" >>got
         compare "$page: $(cat "command.$number")" "wanted.$number"
         number=$((number + 1))
     done
