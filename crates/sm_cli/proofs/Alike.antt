@@ -8,7 +8,8 @@ use Rattle.workload.specs.Program.{image}
 use Rattle.workload.specs.Pulses.{pulses}
 use Rattle.workload_peers.specs.Laws.{WorkloadsArePeers}
 use Rattle.sm_cli.specs.Laws.{RunsAreAlike}
-use Rattle.sm_cli.specs.MakeCommand.{number_line, events_after, run_text, start_of}
+use Rattle.sm_cli.specs.MakeCommand.{events_after, run_text, start_of}
+use Rattle.sm_cli.specs.Numbers.{number_line}
 
 module _ (seed v w : ℕ) (peers : Peers (image v) (image w) 1) (events : SameEvents) where
   counts : (n : ℕ) → events_after (boot (image v) (pulses seed 1000)) n ≡ events_after (boot (image w) (pulses seed 1000)) n

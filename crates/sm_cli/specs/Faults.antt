@@ -101,20 +101,20 @@ object_fault_text (elf_fault.HeaderSize n) = codes "HeaderSize " ++ decimal n
 object_fault_text elf_fault.NoMemory = codes "NoMemory"
 
 -- a module's number, or `-`
-abbrev pub module_text : Option ℕ → List ℕ
-module_text (Some n) = decimal n
-module_text None = codes "-"
+abbrev pub module_number : Option ℕ → List ℕ
+module_number (Some n) = decimal n
+module_number None = codes "-"
 
 -- a name and a spot after it
 abbrev pub with_spot : List ℕ → Spot → List ℕ
-with_spot name spot = name ++ (codes " " ++ (module_text spot.«module» ++ (codes " " ++ key_name spot.key)))
+with_spot name spot = name ++ (codes " " ++ (module_number spot.«module» ++ (codes " " ++ key_name spot.key)))
 
 abbrev pub layout_fault_text : LayoutFault → List ℕ
 layout_fault_text layout_fault.Utf8OrToml = codes "Utf8OrToml"
 layout_fault_text (layout_fault.MissingKey spot) = with_spot (codes "MissingKey") spot
 layout_fault_text (layout_fault.WrongKind spot) = with_spot (codes "WrongKind") spot
 layout_fault_text (layout_fault.OutOfRange spot value) = with_spot (codes "OutOfRange") spot ++ (codes " " ++ signed_decimal value)
-layout_fault_text (layout_fault.UnknownKey m) = codes "UnknownKey " ++ module_text m
+layout_fault_text (layout_fault.UnknownKey m) = codes "UnknownKey " ++ module_number m
 layout_fault_text (layout_fault.TooMany spot) = with_spot (codes "TooMany") spot
 layout_fault_text (layout_fault.Overlap first second) = with_numbers (codes "Overlap") (first ∷ second ∷ [])
 layout_fault_text (layout_fault.SameName first second) = with_numbers (codes "SameName") (first ∷ second ∷ [])

@@ -1,20 +1,17 @@
 -- `key IMAGE ID`: the key of a module's vendor, and the module's.
-use Rattle.std.specs.Prelude.{ℕ, List, [], ◌∷◌, ◌++◌, Option, Some, None, codes, slice_range}
+use Rattle.std.specs.Prelude.{ℕ, List, [], ◌∷◌, ◌++◌, Option, Some, None, codes}
 use Rattle.std.specs.Option.{option_map}
 use Rattle.texts.specs.Hexadecimals.{hex_key}
 use Rattle.mod_layout.specs.declared.Module.{Module}
 use Rattle.mod_layout.specs.Table.{module_of}
 use Rattle.mod_keys.specs.Keys.{provider_key, module_key}
 use Rattle.image_text.specs.Image.{Image}
+use Rattle.written_machine.specs.Peers.{section}
 use Rattle.sm_cli.specs.declared.commands.key.KeyCommand.{KeyCommand}
 use Rattle.sm_cli.specs.Words.{Text}
 use Rattle.sm_cli.specs.Arguments.{id_of}
 use Rattle.sm_cli.specs.Files.{Held, an_image, image_with, need}
 use Rattle.sm_cli.specs.Command.{Outcome, done, no_outcome, Command}
-
--- a module's text in an image
-abbrev pub module_text : Image → Module → List ℕ
-module_text value m = slice_range value.memory m.text.start m.text.end
 
 -- the line of a key
 abbrev pub key_line : List ℕ → List ℕ → List ℕ
@@ -24,7 +21,7 @@ abbrev pub two_lines : List ℕ → List ℕ → List ℕ
 two_lines provider key = key_line (codes "provider ") provider ++ key_line (codes "module ") key
 
 abbrev pub key_lines : Image → Module → List ℕ
-key_lines value m = two_lines (provider_key value.node_key m.vendor) (module_key value.node_key m (module_text value m))
+key_lines value m = two_lines (provider_key value.node_key m.vendor) (module_key value.node_key m (section m.text value.memory))
 
 abbrev pub keys_by : Image → Option Module → Outcome
 keys_by value (Some m) = done (key_lines value m)

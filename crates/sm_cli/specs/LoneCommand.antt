@@ -14,29 +14,30 @@ use Rattle.lone_run.specs.declared.Outcome.{Outcome as End}
 use Rattle.lone_run.specs.declared.Outcome.TheVariants.{Exit, Closed, Broken, Running}
 use Rattle.sm_cli.specs.declared.answers.Status.TheVariants as status
 use Rattle.sm_cli.specs.declared.commands.lone.LoneCommand.{LoneCommand}
-use Rattle.sm_cli.specs.declared.commands.lone.TheConstants.{NO_CALLER}
 use Rattle.sm_cli.specs.declared.pairs.Pair.{Pair}
 use Rattle.sm_cli.specs.Words.{Text}
 use Rattle.sm_cli.specs.Arguments.{id_of, cycles_of}
+use Rattle.sm_cli.specs.Numbers.{number_line}
 use Rattle.sm_cli.specs.Pairs.{pairs_in, core_with}
 use Rattle.sm_cli.specs.Files.{Held, an_image, image_with, need}
 use Rattle.sm_cli.specs.Command.{Answer, Outcome, gives, no_outcome, Command}
 
+-- the caller's id where no module calls
+abbrev pub no_caller : ℕ
+no_caller = 0
+
 -- the module's entry: PC is where its text starts, the other registers are these, and no module calls
 abbrev pub entry_of : Module → List ℕ → lone.Entry_of
-entry_of owner registers = record { core = put registers PC owner.text.start; caller = NO_CALLER }
+entry_of owner registers = record { core = put registers PC owner.text.start; caller = no_caller }
 
 -- how the call of an image's module ends within so many cycles
 abbrev pub end_of : Image → Module → List ℕ → ℕ → lone.Outcome
 end_of value owner registers limit =
-    lone.outcome (lone.job_of value.node_key owner (section owner.text value.memory) NO_CALLER) limit (lone.starts (entry_of owner registers) (section owner.ram value.memory))
+    lone.outcome (lone.job_of value.node_key owner (section owner.text value.memory) no_caller) limit (lone.starts (entry_of owner registers) (section owner.ram value.memory))
 
 -- a word, a number of cycles and the sixteen registers
 abbrev pub core_line : List ℕ → ℕ → List ℕ → List ℕ
 core_line name cycles core = name ++ (decimal cycles ++ (registers_from core 0 16 ++ codes "\n"))
-
-abbrev pub number_line : List ℕ → ℕ → List ℕ
-number_line name cycles = name ++ (decimal cycles ++ codes "\n")
 
 -- the line of how a call ends
 abbrev pub end_line : ℕ → End → List ℕ

@@ -1,7 +1,6 @@
 -- `make SEED`: two runs of the workload of a seed, which differ in the module's data; of each the number of lines of its trace, and
 -- the end line.
 use Rattle.std.specs.Prelude.{ℕ, zero, suc, ◌+◌, ◌%◌, List, [], ◌∷◌, ◌++◌, length, Option, None, codes}
-use Rattle.std.specs.Fmt.{decimal}
 use Rattle.std.specs.Option.{option_map}
 use Rattle.texts.specs.Decimals.{read_decimal}
 use Rattle.workload.specs.declared.pulses.TheConstants.{COUNT}
@@ -13,7 +12,8 @@ use Rattle.written_machine.specs.State.{State}
 use Rattle.written_machine.specs.Trace.{end_line_of}
 use Rattle.written_machine.specs.View.{boot}
 use Rattle.sm_cli.specs.declared.commands.make.MakeCommand.{MakeCommand}
-use Rattle.sm_cli.specs.declared.commands.make.TheConstants.{CYCLES, FIRST_DATA, MAX_SEED, WORDS}
+use Rattle.sm_cli.specs.declared.commands.make.TheConstants.{CYCLES, MAX_SEED}
+use Rattle.sm_cli.specs.Numbers.{number_line}
 use Rattle.sm_cli.specs.Words.{Text}
 use Rattle.sm_cli.specs.Command.{done, Command}
 
@@ -24,10 +24,6 @@ seed_of word = read_decimal MAX_SEED word
 abbrev pub events_after : State → ℕ → ℕ
 events_after s zero = 0
 events_after s (suc n) = events_after s n + length (cycle (after_cycles s n)).events
-
--- a name, a number, and LF
-abbrev pub number_line : List ℕ → ℕ → List ℕ
-number_line name number = name ++ (decimal number ++ codes "\n")
 
 -- a trace has a line for each event, and the end line
 unfoldable pub run_text : State → ℕ → List ℕ
@@ -41,12 +37,16 @@ runs_text seed cycles first second = number_line (codes "seed ") seed ++ (run_te
 unfoldable pub start_of : ℕ → ℕ → State
 start_of seed word = boot (image word) (pulses seed COUNT)
 
+-- the first run's data
+abbrev pub first_data : ℕ
+first_data = 0
+
 -- the second run's data are the low word of the number after the seed
 abbrev pub second_data : ℕ → ℕ
-second_data seed = next seed % WORDS
+second_data seed = next seed % 65536
 
 unfoldable pub make_text : ℕ → List ℕ
-make_text seed = runs_text seed CYCLES (start_of seed FIRST_DATA) (start_of seed (second_data seed))
+make_text seed = runs_text seed CYCLES (start_of seed first_data) (start_of seed (second_data seed))
 
 abbrev pub make_command : ℕ → Command
 make_command seed = record { needs = []; outcome = λ helds. done (make_text seed) }

@@ -8,6 +8,7 @@ use Rattle.mod_keys.specs.Keys.{module_key_from}
 use Rattle.image_text.specs.Image.{Image}
 use Rattle.vendor_tool.specs.declared.Challenge.{Challenge}
 use Rattle.vendor_tool.specs.Report.{report_text, all_genuine}
+use Rattle.written_machine.specs.Peers.{section}
 use Rattle.sm_cli.specs.declared.answers.Status.{Status}
 use Rattle.sm_cli.specs.declared.answers.Status.TheVariants as status
 use Rattle.sm_cli.specs.declared.commands.vendor.VendorCommand.{VendorCommand}
@@ -15,7 +16,6 @@ use Rattle.sm_cli.specs.Words.{Text}
 use Rattle.sm_cli.specs.Arguments.{id_of}
 use Rattle.sm_cli.specs.Files.{Held, an_image, the_challenges, the_replies, image_with, challenges_file, trace_file, Need, need}
 use Rattle.sm_cli.specs.Command.{Answer, Outcome, gives, no_outcome, Command}
-use Rattle.sm_cli.specs.KeyCommand.{module_text}
 
 -- the status of a report where all are genuine, or not
 abbrev pub report_status : Bool → Status
@@ -28,7 +28,7 @@ report_answer key challenges sent = record { text = report_text key challenges s
 
 -- the key of a module in an image, under the key of its vendor
 abbrev pub key_under : List ℕ → Image → Module → List ℕ
-key_under provider value m = module_key_from provider m (module_text value m)
+key_under provider value m = module_key_from provider m (section m.text value.memory)
 
 abbrev pub report_by : List ℕ → Image → List Challenge → List ℕ → Option Module → Outcome
 report_by provider value challenges sent (Some m) = gives (report_answer (key_under provider value m) challenges sent)

@@ -21,7 +21,7 @@ pub fn file_named(word: &str) -> Option<&str>
 /// A number of cycles.
 pub fn cycles_of(word: &str) -> Option<u64>
     ensures exact { result ≡ cycles_of word.now }
-    ensures limit { IfSome result (λ cycles. cycles ≤ 1000000000) }
+    ensures limit { IfSome result (λ cycles. cycles ≤ MAX_CYCLES) }
 {
     read_decimal(word.as_bytes(), MAX_CYCLES)
 }

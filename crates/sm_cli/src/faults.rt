@@ -2,7 +2,7 @@
 ghost use Rattle.std.specs.Prelude.{◌++◌, codes};
 ghost use Rattle.std.specs.Fmt.{decimal, signed_decimal};
 ghost use Rattle.sm_io.specs.Sink.{Puts};
-ghost use Rattle.sm_cli.specs.Faults.{number_list, with_numbers, with_spot, module_text, layout_fault_text, object_fault_text, source_fault_text};
+ghost use Rattle.sm_cli.specs.Faults.{number_list, with_numbers, with_spot, module_number, layout_fault_text, object_fault_text, source_fault_text};
 ghost use Rattle.sm_cli.specs.LinkFaults.{link_fault_text, region_text, reloc_fault_text};
 
 use crate::lines::put_field;
@@ -105,7 +105,7 @@ pub fn put_source_fault<S: Sink>(sink: &mut S, fault: AsmFault) -> Result<(), Fa
 
 // Puts a module's number, or `-`.
 fn put_module<S: Sink>(sink: &mut S, name: &[u8], module: Option<u32>) -> Result<(), Failed>
-    ensures { Puts S.taken S.faults S.sure sink.old sink.new (name.now ++ module_text «module») result }
+    ensures { Puts S.taken S.faults S.sure sink.old sink.new (name.now ++ module_number «module») result }
 {
     match module {
         Some(number) => put_field(sink, name, u64::from(number)),

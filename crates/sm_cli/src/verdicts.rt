@@ -1,6 +1,7 @@
 // Verdicts, put to a sink.
-ghost use Rattle.std.specs.Prelude.{◌≡◌, ◌++◌};
+ghost use Rattle.std.specs.Prelude.{◌≡◌, ◌++◌, length};
 ghost use Rattle.texts.specs.Hexadecimals.{hex_word};
+ghost use Rattle.mod_layout.specs.Table.{size_of};
 ghost use Rattle.mod_layout.specs.Tables.{IsModule};
 ghost use Rattle.written_machine.specs.Peers.{section};
 ghost use Rattle.sm_io.specs.Sink.{Took, CutOff, Puts};
@@ -17,7 +18,8 @@ use sm_io::{Failed, Sink, put_all};
 /// The text of the module.
 pub fn text_of(chosen: &Chosen) -> &[u8]
     requires { IsModule chosen.now.image.table.given chosen.now.«module» }
-    ensures { result.now ≡ section chosen.now.«module».text chosen.now.image.memory }
+    ensures bytes { result.now ≡ section chosen.now.«module».text chosen.now.image.memory }
+    ensures size { length result.now ≡ size_of chosen.now.«module».text }
 {
     let text = &chosen.module.text;
     &chosen.image.memory[usize::from(text.start)..usize::from(text.end)]

@@ -1,6 +1,7 @@
 //! `image IMAGE SCHEDULE CYCLES`: the outside trace of an image.
-ghost use Rattle.std.specs.Prelude.{◌≡◌, ◌≤◌, ◌+◌, IfOk, IfSome, map, drop, option_map, option_and_then};
+ghost use Rattle.std.specs.Prelude.{◌≡◌, ◌≤◌, ◌+◌, ◌^◌, IfOk, IfSome, map, drop, option_map, option_and_then};
 ghost use Rattle.sm_io.specs.Sink.{Took, CutOff};
+ghost use Rattle.sm_cli.specs.declared.arguments.TheConstants.{MAX_CYCLES};
 ghost use Rattle.sm_cli.specs.ImageCommand.{image_of, image_asked, answer_from};
 ghost use Rattle.sm_cli.specs.Serve.{EndsAs, texts};
 ghost use Rattle.sm_cli.specs.Words.{values_in};
@@ -27,7 +28,7 @@ pub struct ImageCommand<'a> {
 pub fn read<'a>(alloc: Global, words: &'a [String]) -> Result<Option<ImageCommand<'a>>, AllocError>
     ensures command { IfOk result (λ o. option_map image_asked o
         ≡ option_and_then image_of (values_in 3 3 (drop 1 (texts words.entry.now)))) }
-    ensures bounds { IfOk result (λ o. IfSome o (λ c. c.cycles ≤ 1000000000)) }
+    ensures bounds { IfOk result (λ o. IfSome o (λ c. c.cycles ≤ MAX_CYCLES)) }
 {
     match values_of(alloc, words, 3, 3)? {
         Some(values) => Ok(command_in(values.as_slice())),
@@ -37,7 +38,7 @@ pub fn read<'a>(alloc: Global, words: &'a [String]) -> Result<Option<ImageComman
 
 fn command_in<'a>(values: &[&'a str]) -> Option<ImageCommand<'a>>
     ensures command { option_map image_asked result ≡ image_of (map (λ w. w.now) values.now) }
-    ensures bounds { IfSome result (λ c. c.cycles ≤ 1000000000) }
+    ensures bounds { IfSome result (λ c. c.cycles ≤ MAX_CYCLES) }
 {
     if values.len() != 3 {
         return None;
@@ -55,7 +56,7 @@ fn command_in<'a>(values: &[&'a str]) -> Option<ImageCommand<'a>>
 impl Answering for ImageCommand<'_> {
     ghost asked = { λ c. image_asked c };
 
-    ghost bounds = { λ c. c.cycles ≤ 1000000000 };
+    ghost bounds = { λ c. c.cycles ≤ MAX_CYCLES };
 
     fn answer<F: Files, O: Sink>(
         &self,
@@ -83,7 +84,7 @@ impl Answering for ImageCommand<'_> {
 
 /// Runs the board and puts its trace.
 pub fn put_trace<O: Sink>(board: Board, cycles: u64, out: &mut O) -> Status
-    requires { board.present.cycle + cycles ≤ 4611686018427387904 }
+    requires { board.present.cycle + cycles ≤ 2 ^ 62 }
     ensures { EndsAs result (answer_from board.present cycles) (Took O.taken O.faults O.sure out.old out.new)
         (CutOff O.taken O.faults O.sure out.old out.new) }
 {

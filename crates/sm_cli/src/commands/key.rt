@@ -12,6 +12,7 @@ use crate::arguments::id_of;
 use crate::commands::Answering;
 use crate::lines::put_named;
 use crate::loading::{Chosen, load_with};
+use crate::verdicts::text_of;
 use crate::words::values_of;
 use mod_keys::{TAG_LENGTH, module_key, provider_key};
 use sm_io::{Failed, Files, Sink};
@@ -80,8 +81,7 @@ fn put_keys<O: Sink>(chosen: &Chosen, out: &mut O) -> Result<(), Failed>
     let image = &chosen.image;
     let module = &chosen.module;
     let provider = provider_key(&image.node_key, module.vendor);
-    let text = &image.memory[usize::from(module.text.start)..usize::from(module.text.end)];
-    let key = module_key(&image.node_key, module, text);
+    let key = module_key(&image.node_key, module, text_of(chosen));
     put_both(out, &provider, &key)
 }
 

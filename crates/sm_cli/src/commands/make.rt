@@ -1,7 +1,8 @@
 //! `make SEED`: two runs of the workload of a seed.
 ghost use Rattle.std.specs.Prelude.{◌≡◌, ◌≤◌, ◌+◌, IfOk, map, drop, option_map, option_and_then};
 ghost use Rattle.sm_io.specs.Sink.{Puts};
-ghost use Rattle.sm_cli.specs.MakeCommand.{make_of, make_asked, seed_of, events_after, number_line, run_text, runs_text, start_of, second_data};
+ghost use Rattle.sm_cli.specs.MakeCommand.{make_of, make_asked, seed_of, events_after, run_text, runs_text, start_of, first_data, second_data};
+ghost use Rattle.sm_cli.specs.Numbers.{number_line};
 ghost use Rattle.sm_cli.specs.Serve.{texts};
 ghost use Rattle.sm_cli.specs.Words.{values_in};
 ghost use Rattle.written_machine.specs.Cycle.{after_cycles};
@@ -104,7 +105,7 @@ struct Boards {
 // Makes both machines of a seed.
 #[tactic(auto, unfolding(crate::specs::MakeCommand::start_of))]
 fn boards_of(alloc: Global, seed: u32) -> Result<Boards, NoMemory>
-    ensures first { IfOk result (λ b. b.first ≡ unmarked 0 (start_of seed FIRST_DATA)) }
+    ensures first { IfOk result (λ b. b.first ≡ unmarked 0 (start_of seed first_data)) }
     ensures second { IfOk result (λ b. b.second ≡ unmarked 0 (start_of seed (second_data seed))) }
 {
     let second_data = workload::next(u64::from(seed)) % WORDS;

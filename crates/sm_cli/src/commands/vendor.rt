@@ -13,6 +13,7 @@ use crate::answers::{Refusal, Refused, Status};
 use crate::arguments::id_of;
 use crate::commands::Answering;
 use crate::loading::{Chosen, Replies, load, load_with};
+use crate::verdicts::text_of;
 use crate::words::values_of;
 use mod_keys::{TAG_LENGTH, module_key_from};
 use sm_io::{Failed, Files, Sink};
@@ -128,9 +129,7 @@ fn key_of(provider: &[u8; TAG_LENGTH], chosen: &Chosen) -> [u8; TAG_LENGTH]
     requires { IsModule chosen.now.image.table.given chosen.now.«module» }
     ensures { result ≡ key_under provider.now chosen.now.image chosen.now.«module» }
 {
-    let module = &chosen.module;
-    let text = &chosen.image.memory[usize::from(module.text.start)..usize::from(module.text.end)];
-    module_key_from(provider, module, text)
+    module_key_from(provider, &chosen.module, text_of(chosen))
 }
 
 // Puts the report.

@@ -8,4 +8,4 @@ pub returns : goal.returns
 returns c =
     let owner = c.args.chosen.now.«module» in
     let text = section owner.text c.args.chosen.now.image.memory in
-    IfOk-weaker c.check.result _ _ (λ v h. (c.without_arms.ensures.same owner text v).1 (subst (λ l. VerdictOf owner l v) c.text_of.ensures h)) c.check.ensures.verdict
+    IfOk-weaker c.check.result _ _ (λ v h. (c.without_arms.ensures.same owner text v).1 (subst (λ l. VerdictOf owner l v) c.text_of.ensures.bytes h)) c.check.ensures.verdict

@@ -2,7 +2,8 @@ use Rattle.std.proofs.Common.{◌+◌, codes, ap}
 use Rattle.sm_io.proofs.Putting.{cut_first, puts_last, puts_same, took_same, cut_same}
 use Rattle.written_machine.specs.Cycle.{after_cycles}
 use Rattle.written_machine.specs.Trace.{end_line_of}
-use Rattle.sm_cli.specs.MakeCommand.{number_line, events_after, run_text}
+use Rattle.sm_cli.specs.MakeCommand.{events_after, run_text}
+use Rattle.sm_cli.specs.Numbers.{number_line}
 use Rattle.sm_cli.proofs.commands.make.put_run.Goals as goal
 
 pub returns : goal.returns

@@ -1,6 +1,7 @@
 use Rattle.std.proofs.Common.{◌++◌, codes, ap}
 use Rattle.sm_io.proofs.Putting.{cut_first, cut_later, puts_last, took_same, cut_same}
-use Rattle.sm_cli.specs.MakeCommand.{number_line, run_text}
+use Rattle.sm_cli.specs.MakeCommand.{run_text}
+use Rattle.sm_cli.specs.Numbers.{number_line}
 use Rattle.sm_cli.proofs.commands.make.put_runs.Goals as goal
 
 pub returns-in-Err : goal.returns-in-Err
