@@ -37,5 +37,5 @@ fn main(rt: HostRuntime) -> ExitCode {
             Err(Failed) => Status::WriteFault,
         },
     };
-    ExitCode::from(status as u8)
+    ExitCode::from(status.number())
 }
