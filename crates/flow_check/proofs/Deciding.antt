@@ -3,6 +3,7 @@ use Rattle.std.proofs.Common.{◌≡◌, ◌⊎◌, inl, inr, ℕ, zero, suc, �
 use Rattle.sm_words.specs.Words.{nth, add16}
 use Rattle.std.proofs.lemmas.Bool.Decides.{nat_tests}
 use Rattle.std.proofs.lemmas.Bool.{ltb-true, ltb-false, eqb-true}
+use Rattle.std.proofs.Math.ListN.{drop_of_length-le}
 use Rattle.sm_words.specs.declared.width.Width.TheVariants.{Word}
 use Rattle.insn_decode.specs.declared.insn.TwoOp.TheVariants.{Mov}
 use Rattle.insn_decode.specs.declared.insn.OneOp.TheVariants.{Call}
@@ -364,13 +365,7 @@ least_more step i ps ls d e c o r lt k ec er =
     ∙ ap (λ j. least_from step (points_of (drop j ps) (drop j ls)) (found_of r)) (let f : suc i ≡ i + 1 = omega arith in f)
 
 pub least_end : (step : Point → Step) (n : ℕ) (ps : List CodePair) (ls : List Label) (o : Option Found) → length ps ≤ n → least_from step (points_of (drop n ps) (drop n ls)) o ≡ o
-least_end step n ps ls o h = ap (λ p. least_from step (points_of p (drop n ls)) o) (ended n ps h)
-  where
-    ended : (n : ℕ) (ps : List CodePair) → length ps ≤ n → drop n ps ≡ []
-    ended zero [] h = refl
-    ended zero (b ∷ bs) h = absurd (omega (arith, h))
-    ended (suc n) [] h = refl
-    ended (suc n) (b ∷ bs) h = ended n bs (omega (arith, h))
+least_end step n ps ls o h = ap (λ p. least_from step (points_of p (drop n ls)) o) (drop_of_length-le ps {i = n} h)
 
 -- ---- the verdict
 pub decided_rest : (m : Module) (text : List ℕ) (arms : List Arm) (start : Point) (begin : ℕ) (ps : List CodePair) (ls : List Label) (o : Option Found) (v : Verdict) → length ps ≡ length ls → length ps ≤ 16384 → v ≡ verdict_of o → o ≡ least_from (flow_with m text arms) (points_of ps ls) None →
