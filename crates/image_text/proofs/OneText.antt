@@ -1,6 +1,6 @@
 -- The text of an image is not refused, and no other image has it.
 use Rattle.std.proofs.Common.{◌≡◌, ◌⊎◌, inl, inr, ⊎_elim, ℕ, zero, suc, ◌+◌, ◌*◌, ◌/◌, ◌%◌, ◌<◌, ◌≤◌, List, [], ◌∷◌, ◌++◌, length, take, drop, get_or, slice_index, codes, Bool, true, false, nat_lt, cond, not, ◌&&◌, ◌||◌, ◌==◌, Option, Some, None, refl, sym, ap, ◌∙◌, subst, arith, lit<, length-append, length-take, length-drop}
-use Rattle.std.proofs.lemmas.List.{append-nil, append_cancel_left, take-append-drop}
+use Rattle.std.proofs.lemmas.List.{append-nil, append_cancel_left, take-append-drop, nil_from_length}
 use Rattle.std.proofs.lemmas.Bool.{and_parts, cases_lt, eqb-true, not-true, and_left, and_right, or_from}
 use Rattle.std.proofs.lemmas.Bool.Decides.{nat_tests}
 use Rattle.hex.specs.Hex.{IsBytes, lower_digits, encode_with, encode_lower}
@@ -20,7 +20,6 @@ use Rattle.texts.proofs.DecimalLemmas.{digits_model}
 use Rattle.texts.proofs.LineLemmas.{ended_lines-before, unended-before}
 use Rattle.std.specs.List.{All, list_all}
 use Rattle.std.proofs.lemmas.List.Sums.{AllPass-from_list_all}
-use Rattle.image_text.proofs.RowTexts.{nil_of}
 use Rattle.texts.specs.Hexadecimals.{hex_word}
 use Rattle.image_text.specs.declared.ImageFault.{ImageFault}
 use Rattle.image_text.specs.declared.ImageFault.TheVariants.{Line, Twice}
@@ -337,7 +336,7 @@ joined_parts n m k a b = sym (take-append-drop n m) ∙ ap (λ (l : List ℕ). l
 rows_one : (n at : ℕ) (m k : List ℕ) → at + 16 * n ≤ 65536 → length m ≡ 16 * n → length k ≡ 16 * n → IsBytes m → IsBytes k
     → rows_text n at m (ended end_line []) ≡ rows_text n at k (ended end_line []) → m ≡ k
 unfolding rows_text
-rows_one zero at m k room lm lk p q e = nil_of m (omega (arith, lm)) ∙ sym (nil_of k (omega (arith, lk)))
+rows_one zero at m k room lm lk p q e = nil_from_length m (omega (arith, lm)) ∙ sym (nil_from_length k (omega (arith, lk)))
 rows_one (suc n) at m k room lm lk p q e =
     by (is_zero (take 16 m)) (is_zero (take 16 k)) refl refl e
     (rows_one n (at + 16) (drop 16 m) (drop 16 k) (omega arith) (later_rows n m lm) (later_rows n k lk) (bytes_drop 16 m p) (bytes_drop 16 k q))
