@@ -1,5 +1,6 @@
 -- The rows of attest.
 use Rattle.std.proofs.Common.{◌≡◌, ℕ, ◌+◌, ◌-◌, ◌*◌, ◌≤◌, List, [], ◌++◌, length, take, drop, Bool, true, if◌then◌else◌, Option, Some, None, sym, ◌∙◌, ap, arith, slice_range, append_assoc, append-nil, drop-drop}
+use Rattle.std.proofs.lemmas.List.{take_at, drop_at}
 use Rattle.sm_words.specs.Words.{reg}
 use Rattle.mod_layout.specs.declared.Module.{Module}
 use Rattle.mod_layout.specs.Table.{place_of, size_of}
@@ -15,7 +16,7 @@ use Rattle.attest.specs.Done.{effect_in, own_of}
 use Rattle.attest.proofs.Checks.{denied-append, or_none}
 use Rattle.attest.proofs.Places.{own_text_allowed, other_text_allowed}
 use Rattle.attest.proofs.Rows.{text_values, values_in-reads}
-use Rattle.attest.proofs.Slices.{take_front, drop_front, length-slice_range}
+use Rattle.attest.proofs.Slices.{length-slice_range}
 
 module _ (who : Doer) (core : List ℕ) where
   abbrev at : ℕ
@@ -99,13 +100,13 @@ module _ (who : Doer) (core : List ℕ) where
             let o = other_ok.order in let h = other_ok.high in
             let sixteen : length expected ≡ 16 = length-slice_range mem at (at + 16) (omega arith) (omega arith) ∙ (let z : at + 16 - at ≡ 16 = omega arith in z) in
             let long : length (text_in mem other) ≡ n = length-slice_range mem other.text.start other.text.end (omega arith) (omega arith) in
-            let back : drop 16 (expected ++ rest) ≡ rest = drop_front 16 expected rest sixteen in
+            let back : drop 16 (expected ++ rest) ≡ rest = drop_at expected rest 16 sixteen in
             ap (genuine who.key own other) values_are
-            ∙ ap (λ vs. same_bytes vs (tag_of who.key own (drop (16 + n) (expected ++ rest)) (identity other (take n (drop 16 (expected ++ rest)))))) (take_front 16 expected rest sixteen)
+            ∙ ap (λ vs. same_bytes vs (tag_of who.key own (drop (16 + n) (expected ++ rest)) (identity other (take n (drop 16 (expected ++ rest)))))) (take_at expected rest 16 sixteen)
             ∙ ap (λ vs. same_bytes expected (tag_of who.key own vs (identity other (take n (drop 16 (expected ++ rest))))))
-            (sym (drop-drop n 16 (expected ++ rest)) ∙ ap (drop n) back ∙ drop_front n (text_in mem other) (text_in mem own) long)
+            (sym (drop-drop n 16 (expected ++ rest)) ∙ ap (drop n) back ∙ drop_at (text_in mem other) (text_in mem own) n long)
             ∙ ap (λ vs. same_bytes expected (tag_of who.key own (text_in mem own) (identity other (take n vs)))) back
-            ∙ ap (λ vs. same_bytes expected (tag_of who.key own (text_in mem own) (identity other vs))) (take_front n (text_in mem other) (text_in mem own) long)
+            ∙ ap (λ vs. same_bytes expected (tag_of who.key own (text_in mem own) (identity other vs))) (take_at (text_in mem other) (text_in mem own) n long)
 
         pub effect_whole : (id : ℕ) →
             id ≡ (if same_bytes expected (tag_of who.key own (text_in mem own) (identity other (text_in mem other))) then other.id else 0) →

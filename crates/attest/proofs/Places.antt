@@ -1,6 +1,7 @@
 -- Which accesses are refused to no one: reads of a text, and writes to the data of a module that a table takes.
 use Rattle.std.proofs.Common.{◌≡◌, ◌⊎◌, ⊎_elim, ℕ, zero, suc, ◌+◌, ◌<◌, ◌≤◌, List, [], ◌∷◌, ◌++◌, Bool, true, false, nat_le, ◌&&◌, ◌||◌, ◌==◌, Option, Some, None, refl, sym, ◌∙◌, ap, subst, arith}
 use Rattle.std.proofs.lemmas.Bool.Decides.{nat_tests}
+use Rattle.std.proofs.lemmas.Option.{none-some}
 use Rattle.sm_words.specs.declared.width.Width.TheVariants.{Byte}
 use Rattle.mod_layout.specs.declared.Section.{Section}
 use Rattle.mod_layout.specs.declared.Module.{Module}
@@ -9,7 +10,7 @@ use Rattle.mod_layout.specs.declared.Place.{Place}
 use Rattle.mod_layout.specs.declared.Place.TheVariants.{Open, Entry, Text, Data}
 use Rattle.mod_layout.specs.Table.{Table, holds, size_of, place_by, place_in, place_of, find_module, module_of, with_module}
 use Rattle.mod_layout.specs.Tables.{Apart, IsModule, Separate, SeparateFrom, AreModules, IsTable}
-use Rattle.mod_layout.proofs.Found.{outside, no_entry, within, elsewhere, none_found, found_first, separate_found}
+use Rattle.mod_layout.proofs.Found.{outside, no_entry, within, elsewhere, found_first, separate_found}
 pub use Rattle.mod_layout.proofs.Found.{and_true, module_found}
 use Rattle.pc_access.specs.declared.Kind.{Kind}
 use Rattle.pc_access.specs.declared.Kind.TheVariants.{Read, Write}
@@ -111,14 +112,14 @@ ram_allowed t active held vendor text ram ok =
 
 pub own_text_allowed : (t : Table) (active active' : Option ℕ) (held : List ℕ) (m : Module) → IsTable t → own_of active' t ≡ Some m →
     first_denied t active held (text_reads m) ≡ None
-own_text_allowed t active None held m ok e = absurd (none_found m e)
+own_text_allowed t active None held m ok e = absurd (none-some m e)
 own_text_allowed t active (Some id) held m ok e = text_allowed t active held id m ok e
 
 pub other_text_allowed : (t : Table) (active : Option ℕ) (place : Place) (held : List ℕ) (m : Module) → IsTable t → text_at t place ≡ Some m →
     first_denied t active held (text_reads m) ≡ None
 other_text_allowed t active (Entry id) held m ok e = text_allowed t active held id m ok e
 other_text_allowed t active (Text id) held m ok e = text_allowed t active held id m ok e
-other_text_allowed t active _ held m ok e = absurd (none_found m e)
+other_text_allowed t active _ held m ok e = absurd (none-some m e)
 
 -- ---- ranges
 

@@ -1,6 +1,6 @@
 -- On parts of a list.
 use Rattle.std.proofs.Common.{◌≡◌, ℕ, ◌+◌, ◌-◌, ◌≤◌, List, ◌++◌, take, drop, sym, ◌∙◌, ap, arith, slice_range, take-take, drop-drop, drop-cons, suc, ◌∷◌, ◌<◌, length, slice_index, length-drop, length-take-le}
-use Rattle.std.proofs.Math.Seq.{take-add, take-append_seam, drop-append_seam}
+use Rattle.std.proofs.Math.Seq.{take-add}
 use Rattle.std.proofs.lemmas.List.{drop-take}
 
 -- two parts that meet
@@ -35,10 +35,3 @@ pub length-slice_range : (xs : List ℕ) (a b : ℕ) → a ≤ b → b ≤ lengt
 length-slice_range xs a b h k =
     let e : b - a ≤ length (drop a xs) = omega (arith, length-drop a xs) in
     length-take-le (b - a) (drop a xs) e
-
--- the front of two lists joined, and what comes after it
-pub take_front : (n : ℕ) (xs ys : List ℕ) → length xs ≡ n → take n (xs ++ ys) ≡ xs
-take_front n xs ys e = ap (λ k. take k (xs ++ ys)) (sym e) ∙ take-append_seam xs ys
-
-pub drop_front : (n : ℕ) (xs ys : List ℕ) → length xs ≡ n → drop n (xs ++ ys) ≡ ys
-drop_front n xs ys e = ap (λ k. drop k (xs ++ ys)) (sym e) ∙ drop-append_seam xs ys

@@ -1,5 +1,6 @@
 -- The rows of tag.
 use Rattle.std.proofs.Common.{◌≡◌, ℕ, ◌+◌, ◌-◌, ◌*◌, ◌≤◌, ◌<◌, List, [], ◌++◌, length, take, drop, Bool, true, false, if◌then◌else◌, ◌&&◌, Option, Some, None, sym, ◌∙◌, ap, subst, slice_index, arith, slice_range, append_assoc, append-nil}
+use Rattle.std.proofs.lemmas.List.{take_at, drop_at}
 use Rattle.sm_words.specs.Words.{put, reg}
 use Rattle.mod_layout.specs.declared.Module.{Module}
 use Rattle.mod_layout.specs.Table.{Table, size_of}
@@ -16,7 +17,7 @@ use Rattle.attest.proofs.Checks.{denied-append, or_none}
 use Rattle.attest.proofs.Cores.{standing-answer}
 use Rattle.attest.proofs.Places.{own_text_allowed}
 use Rattle.attest.proofs.Rows.{text_values, values_in-reads, values_in-writes, writes_of-reads, writes_of-writes}
-use Rattle.attest.proofs.Slices.{take_front, drop_front, length-slice_range}
+use Rattle.attest.proofs.Slices.{length-slice_range}
 
 module _ (who : Doer) (core : List ℕ) where
   abbrev from : ℕ
@@ -101,8 +102,8 @@ module _ (who : Doer) (core : List ℕ) where
           effect_by (values_in mem (unit_plan who Tag core)) true e
           ∙ ap (λ plan. whole (values_in mem plan)) (plan_by true e)
           ∙ ap whole values_are
-          ∙ ap (λ vs. with_tag (tag_of who.key own vs (take n (slice_range mem from to ++ text_in mem own)))) (drop_front n (slice_range mem from to) (text_in mem own) long)
-          ∙ ap (λ vs. with_tag (tag_of who.key own (text_in mem own) vs)) (take_front n (slice_range mem from to) (text_in mem own) long)
+          ∙ ap (λ vs. with_tag (tag_of who.key own vs (take n (slice_range mem from to ++ text_in mem own)))) (drop_at (slice_range mem from to) (text_in mem own) n long)
+          ∙ ap (λ vs. with_tag (tag_of who.key own (text_in mem own) vs)) (take_at (slice_range mem from to) (text_in mem own) n long)
 
       pub tagged : (core' mem' : List ℕ) (table' : Table) (done : UnitDone) → core' ≡ put core 15 1 → mem' ≡ stored_in mem (each_byte Write out 16) tag →
           table' ≡ who.table → done ≡ record { cycles = 6 + 64 * blocks (to - from); closing = false; made = 0 } →

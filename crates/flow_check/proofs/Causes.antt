@@ -1,5 +1,5 @@
 -- The least of the reasons that are found.
-use Rattle.std.proofs.Common.{◌≢◌, ◌==◌, ◌≡◌, ℕ, zero, suc, ◌+◌, ◌-◌, ◌<◌, ◌≤◌, List, [], ◌∷◌, ◌++◌, map, length, refl, sym, ap, ◌∙◌, arith, Bool, true, false, cond, Option}
+use Rattle.std.proofs.Common.{◌≢◌, ◌==◌, ◌≡◌, ℕ, zero, suc, ◌+◌, ◌-◌, ◌<◌, ◌≤◌, List, [], ◌∷◌, ◌++◌, map, length, refl, sym, ap, ◌∙◌, arith, Bool, true, false, cond, Option, append_assoc}
 use Rattle.std.specs.Prelude.{ℤ, Some}
 use Rattle.sm_words.specs.Words.{word_at}
 use Rattle.insn_decode.specs.declared.insn.Insn.{Insn}
@@ -111,10 +111,6 @@ both_least rs xs bs o0 o1 o2 o3 e1 e2 e3 =
 pub both_addrs : (xs ys : List Point) (t0 t1 t2 : List ℕ) → t1 ≡ t0 ++ addrs_of xs → t2 ≡ t1 ++ addrs_of ys → t2 ≡ t0 ++ addrs_of (xs ++ ys)
 both_addrs xs ys t0 t1 t2 e1 e2 =
     e2 ∙ ap (λ l. l ++ addrs_of ys) e1 ∙ append_assoc t0 (addrs_of xs) (addrs_of ys) ∙ ap (λ l. t0 ++ l) (sym (addrs_append xs ys))
-  where
-    append_assoc : (a b c : List ℕ) → (a ++ b) ++ c ≡ a ++ (b ++ c)
-    append_assoc [] b c = refl
-    append_assoc (x ∷ a) b c = ap (λ l. x ∷ l) (append_assoc a b c)
 
 pub jump_seven : (m : Module) (text : List ℕ) (insn : Insn) (cond_no : ℕ) (x : Point) → cond_no ≡ 7 →
     step_jump m text insn cond_no x ≡ goes m x.pair.addr x.pair.returns (does_val insn x.pair.addr x.label.core []).core x.label.words

@@ -1,8 +1,9 @@
 -- The least reason, and the verdict.
-use Rattle.std.proofs.Common.{◌≡◌, ◌⊎◌, inl, inr, ℕ, zero, suc, ◌+◌, ◌<◌, ◌≤◌, List, [], ◌∷◌, ◌++◌, length, drop, get_or, refl, sym, ap, ◌∙◌, subst, arith, Bool, true, false, cond, nat_lt, ◌==◌, ◌&&◌, ◌||◌, Option, Some, None, append_assoc, not, map}
+use Rattle.std.proofs.Common.{◌≡◌, ◌⊎◌, inl, inr, ℕ, zero, suc, ◌+◌, ◌<◌, ◌≤◌, List, [], ◌∷◌, ◌++◌, length, drop, get_or, refl, sym, ap, ◌∙◌, subst, arith, Bool, true, false, cond, nat_lt, ◌==◌, ◌&&◌, ◌||◌, Option, Some, None, append_assoc, not, map, append-nil}
 use Rattle.sm_words.specs.Words.{nth, add16}
 use Rattle.std.proofs.lemmas.Bool.Decides.{nat_tests}
 use Rattle.std.proofs.lemmas.Bool.{ltb-true, ltb-false, eqb-true}
+use Rattle.std.proofs.Math.ListN.{drop_of_length-le}
 use Rattle.sm_words.specs.declared.width.Width.TheVariants.{Word}
 use Rattle.insn_decode.specs.declared.insn.TwoOp.TheVariants.{Mov}
 use Rattle.insn_decode.specs.declared.insn.OneOp.TheVariants.{Call}
@@ -131,10 +132,6 @@ least_left r s xs ys h a b = (among_left r xs ys a.0, before_both r xs ys a.1 (b
 least_right : (r s : Found) (xs ys : List Found) → NotAfter s r → Least (Some r) xs → Least (Some s) ys → Least (Some s) (xs ++ ys)
 least_right r s xs ys h a b = (among_right s xs ys b.0, before_both s xs ys (before_more s r xs h a.1) b.1)
 
-nil_right : (xs : List Found) → xs ++ [] ≡ xs
-nil_right [] = refl
-nil_right (x ∷ xs) = ap (λ l. x ∷ l) (nil_right xs)
-
 least_found : (o : Option Found) (r : Found) (xs ys : List Found) → Least o xs → Least (Some r) ys → Least (lesser_found o r) (xs ++ ys)
 least_found None r xs ys a b = subst (λ l. Least (Some r) (l ++ ys)) (sym a) b
 least_found (Some old) r xs ys a b = by (comes_first r old) refl
@@ -164,18 +161,18 @@ least_one pc (Some old) c xs h = by (before c old) refl
     by false e = least_left (found_at pc old) (found_at pc c) xs (found_at pc c ∷ []) (inr (refl, lex_false (number_of c.reason) (number_of old.reason) c.value old.value e)) h only
 
 least_noted : (pc : ℕ) (rs : List Found) (o : Option Cause) (xs : List Found) → AllAt pc rs → Least (at_of pc o) xs → Least (at_of pc (noted rs o)) (xs ++ rs)
-least_noted pc [] o xs a h = subst (λ l. Least (at_of pc o) l) (sym (nil_right xs)) h
+least_noted pc [] o xs a h = subst (λ l. Least (at_of pc o) l) (sym (append-nil xs)) h
 least_noted pc (r ∷ rs) o xs a h =
     let here : found_at pc (cause_of r) ≡ r = ap (λ a. record { addr = a; why = r.why; value = r.value }) (sym a.0) in
     let go = least_noted pc rs (lesser o (cause_of r)) (xs ++ found_at pc (cause_of r) ∷ []) a.1 (least_one pc o (cause_of r) xs h) in
     subst (λ l. Least (at_of pc (noted rs (lesser o (cause_of r)))) l) (append_assoc xs (found_at pc (cause_of r) ∷ []) rs ∙ ap (λ x. xs ++ x ∷ rs) here) go
 
 least_step : (pc : ℕ) (o : Option Found) (c : Option Cause) (xs ys : List Found) → Least o xs → Least (at_of pc c) ys → Least (lesser_of o pc c) (xs ++ ys)
-least_step pc o None xs ys a b = subst (λ l. Least o (xs ++ l)) (sym b) (subst (λ l. Least o l) (sym (nil_right xs)) a)
+least_step pc o None xs ys a b = subst (λ l. Least o (xs ++ l)) (sym b) (subst (λ l. Least o l) (sym (append-nil xs)) a)
 least_step pc o (Some c) xs ys a b = least_found o (found_at pc c) xs ys a b
 
 least_all : (step : Point → Step) (xs : List Point) (o : Option Found) (done : List Found) → ((x : Point) → AllAt x.pair.addr (step x).reasons) → Least o done → Least (least_from step xs o) (done ++ all_reasons step xs)
-least_all step [] o done h a = subst (λ l. Least o l) (sym (nil_right done)) a
+least_all step [] o done h a = subst (λ l. Least o l) (sym (append-nil done)) a
 least_all step (x ∷ xs) o done h a =
     let pc = x.pair.addr in
     let rs = (step x).reasons in
@@ -369,13 +366,7 @@ least_more step i ps ls d e c o r lt k ec er =
     ∙ ap (λ j. least_from step (points_of (drop j ps) (drop j ls)) (found_of r)) (let f : suc i ≡ i + 1 = omega arith in f)
 
 pub least_end : (step : Point → Step) (n : ℕ) (ps : List CodePair) (ls : List Label) (o : Option Found) → length ps ≤ n → least_from step (points_of (drop n ps) (drop n ls)) o ≡ o
-least_end step n ps ls o h = ap (λ p. least_from step (points_of p (drop n ls)) o) (ended n ps h)
-  where
-    ended : (n : ℕ) (ps : List CodePair) → length ps ≤ n → drop n ps ≡ []
-    ended zero [] h = refl
-    ended zero (b ∷ bs) h = absurd (omega (arith, h))
-    ended (suc n) [] h = refl
-    ended (suc n) (b ∷ bs) h = ended n bs (omega (arith, h))
+least_end step n ps ls o h = ap (λ p. least_from step (points_of p (drop n ls)) o) (drop_of_length-le ps {i = n} h)
 
 -- ---- the verdict
 pub decided_rest : (m : Module) (text : List ℕ) (arms : List Arm) (start : Point) (begin : ℕ) (ps : List CodePair) (ls : List Label) (o : Option Found) (v : Verdict) → length ps ≡ length ls → length ps ≤ 16384 → v ≡ verdict_of o → o ≡ least_from (flow_with m text arms) (points_of ps ls) None →

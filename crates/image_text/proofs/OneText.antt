@@ -1,7 +1,7 @@
 -- The text of an image is not refused, and no other image has it.
 use Rattle.std.proofs.Common.{◌≡◌, ◌⊎◌, inl, inr, ⊎_elim, ℕ, zero, suc, ◌+◌, ◌*◌, ◌/◌, ◌%◌, ◌<◌, ◌≤◌, List, [], ◌∷◌, ◌++◌, length, take, drop, get_or, slice_index, codes, Bool, true, false, nat_lt, cond, not, ◌&&◌, ◌||◌, ◌==◌, Option, Some, None, refl, sym, ap, ◌∙◌, subst, arith, lit<, length-append, length-take, length-drop}
-use Rattle.std.proofs.lemmas.List.{append-nil, append_cancel_left, take-append-drop}
-use Rattle.std.proofs.lemmas.Bool.{and_parts, cases_lt, eqb-true, not-true, and_left, and_right, or_from}
+use Rattle.std.proofs.lemmas.List.{append-nil, append_cancel_left, take-append-drop, nil_from_length}
+use Rattle.std.proofs.lemmas.Bool.{and_parts, eqb-true, not-true, and_left, and_right, or_from, agree_below_at}
 use Rattle.std.proofs.lemmas.Bool.Decides.{nat_tests}
 use Rattle.hex.specs.Hex.{IsBytes, lower_digits, encode_with, encode_lower}
 use Rattle.mod_layout.specs.declared.Section.{Section}
@@ -20,7 +20,6 @@ use Rattle.texts.proofs.DecimalLemmas.{digits_model}
 use Rattle.texts.proofs.LineLemmas.{ended_lines-before, unended-before}
 use Rattle.std.specs.List.{All, list_all}
 use Rattle.std.proofs.lemmas.List.Sums.{AllPass-from_list_all}
-use Rattle.image_text.proofs.RowTexts.{nil_of}
 use Rattle.texts.specs.Hexadecimals.{hex_word}
 use Rattle.image_text.specs.declared.ImageFault.{ImageFault}
 use Rattle.image_text.specs.declared.ImageFault.TheVariants.{Line, Twice}
@@ -61,21 +60,6 @@ line_one k l r s p q e =
     let rest : r ≡ s = cc in
     (same, rest)
 
--- ---- tests of all numbers below one
-
-abbrev all_below : (ℕ → Bool) → ℕ → Bool
-all_below f zero = true
-all_below f (suc n) = f n && all_below f n
-
-below_at : (f : ℕ → Bool) (n k : ℕ) → all_below f n ≡ true → k < n → f k ≡ true
-below_at f zero k h l = absurd (omega arith)
-below_at f (suc n) k h l =
-    let p = and_parts (f n) (all_below f n) h in
-    elim (cases_lt k n) [
-      | inl below ↦ below_at f n k p.1 below
-      | inr top ↦ let e : k ≡ n = omega arith in rw e p.0
-    ]
-
 -- ---- forms
 
 record Lined (form line : List ℕ) : Type 0 where
@@ -109,7 +93,7 @@ digit_test d = fits 35 (get_or lower_digits d 0) && (not (is_bad 35 (get_or lowe
 
 lined_digit : (d : ℕ) (form line : List ℕ) → d < 16 → Lined form line → Lined (35 ∷ form) (get_or lower_digits d 0 ∷ line)
 lined_digit d form line l h =
-    let t = below_at digit_test 16 d refl l in
+    let t = agree_below_at digit_test (λ n. true) 16 d refl l in
     let p = and_parts (fits 35 (get_or lower_digits d 0)) (not (is_bad 35 (get_or lower_digits d 0)) && not (get_or lower_digits d 0 == 10)) t in
     let q = and_parts (not (is_bad 35 (get_or lower_digits d 0))) (not (get_or lower_digits d 0 == 10)) p.1 in
     lined_cons 35 (get_or lower_digits d 0) form line p.0 (not-true (is_bad 35 (get_or lower_digits d 0)) q.0) (not-true (get_or lower_digits d 0 == 10) q.1) h
@@ -337,7 +321,7 @@ joined_parts n m k a b = sym (take-append-drop n m) ∙ ap (λ (l : List ℕ). l
 rows_one : (n at : ℕ) (m k : List ℕ) → at + 16 * n ≤ 65536 → length m ≡ 16 * n → length k ≡ 16 * n → IsBytes m → IsBytes k
     → rows_text n at m (ended end_line []) ≡ rows_text n at k (ended end_line []) → m ≡ k
 unfolding rows_text
-rows_one zero at m k room lm lk p q e = nil_of m (omega (arith, lm)) ∙ sym (nil_of k (omega (arith, lk)))
+rows_one zero at m k room lm lk p q e = nil_from_length m (omega (arith, lm)) ∙ sym (nil_from_length k (omega (arith, lk)))
 rows_one (suc n) at m k room lm lk p q e =
     by (is_zero (take 16 m)) (is_zero (take 16 k)) refl refl e
     (rows_one n (at + 16) (drop 16 m) (drop 16 k) (omega arith) (later_rows n m lm) (later_rows n k lk) (bytes_drop 16 m p) (bytes_drop 16 k q))

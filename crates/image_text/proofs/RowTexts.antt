@@ -1,7 +1,7 @@
 -- Texts of rows of memory.
 use Rattle.std.proofs.Common.{◌≡◌, ℕ, zero, suc, ◌+◌, ◌-◌, ◌*◌, ◌/◌, ◌%◌, ◌<◌, ◌≤◌, List, [], ◌∷◌, ◌++◌, length, take, drop, replicate, slice_index, true, false, cond, not, ◌&&◌, ◌==◌, ◌≢◌, nat_eq, nat_lt, Option, Some, refl, sym, ap, ◌∙◌, subst, arith, append_assoc, length-append, length-drop}
 use Rattle.std.proofs.lemmas.Bool.Decides.{nat_tests}
-use Rattle.std.proofs.lemmas.List.{append-nil, take-append-le, drop-append-le, take_at, replicate-append-replicate, get_or_append_left}
+use Rattle.std.proofs.lemmas.List.{append-nil, take-append-le, drop-append-le, take_at, replicate-append-replicate, get_or_append_left, nil_from_length}
 use Rattle.hex.specs.Hex.{IsBytes}
 use Rattle.texts.specs.Lines.{ended_lines, unended}
 use Rattle.image_text.specs.ImageText.{ended, end_line, is_zero, row_line, row_text, rows_text}
@@ -15,15 +15,11 @@ use Rattle.image_text.proofs.LineTexts.{row_line_of}
 use Rattle.image_text.proofs.StageLemmas.{line_on, next_on, same_spot}
 use Rattle.image_text.specs.Reading.{Unread, on, ReadLine, HasForm, AddsRow, RowsSoFar, PassedMemory}
 
-pub nil_of : (m : List ℕ) → length m ≡ 0 → m ≡ []
-nil_of [] e = refl
-nil_of (x ∷ m) e = absurd (omega arith)
-
 -- rows, and more rows
 pub rows_append : (n k at : ℕ) (m1 m2 rest : List ℕ) → length m1 ≡ 16 * n → rows_text (n + k) at (m1 ++ m2) rest ≡ rows_text n at m1 (rows_text k (at + 16 * n) m2 rest)
 unfolding rows_text
 rows_append zero k at m1 m2 rest len =
-    let none : m1 ≡ [] = nil_of m1 (omega (arith, len)) in
+    let none : m1 ≡ [] = nil_from_length m1 (omega (arith, len)) in
     let count : 0 + k ≡ k = omega arith in
     let place : at + 16 * 0 ≡ at = omega arith in
     ap (λ (c : ℕ). rows_text c at (m1 ++ m2) rest) count ∙ ap (λ (m : List ℕ). rows_text k at (m ++ m2) rest) none ∙ sym (ap (λ (a : ℕ). rows_text k a m2 rest) place)

@@ -1,5 +1,5 @@
 -- What is written, and what is left to write.
-use Rattle.std.proofs.Common.{◌≡◌, ℕ, zero, suc, ◌+◌, ◌-◌, ◌*◌, ◌<◌, ◌≤◌, List, [], ◌∷◌, ◌++◌, length, take, drop, Bool, true, false, cond, ◌==◌, nat_lt, Option, Some, None, is_some, refl, sym, ap, ◌∙◌, arith, append_assoc, length-drop, codes}
+use Rattle.std.proofs.Common.{◌≡◌, ℕ, zero, suc, ◌+◌, ◌-◌, ◌*◌, ◌<◌, ◌≤◌, List, [], ◌∷◌, ◌++◌, length, take, drop, Bool, true, false, cond, ◌==◌, nat_lt, Option, Some, None, is_some, refl, sym, ap, ◌∙◌, arith, append_assoc, length-drop, codes, drop-drop}
 use Rattle.std.proofs.lemmas.Bool.Decides.{nat_tests}
 use Rattle.texts.specs.Hexadecimals.{hex_word}
 use Rattle.mod_layout.specs.declared.Module.{Module}
@@ -78,19 +78,10 @@ unfolding rows_text
 rows_from n memory rest l =
     let count : 4096 - n ≡ suc (4096 - (n + 1)) = omega arith in
     let place : 16 * n + 16 ≡ 16 * (n + 1) = omega arith in
-    let behind : drop 16 (drop (16 * n) memory) ≡ drop (16 * (n + 1)) memory = drop_twice 16 (16 * n) memory ∙ ap (λ (k : ℕ). drop k memory) place in
+    let behind : drop 16 (drop (16 * n) memory) ≡ drop (16 * (n + 1)) memory = drop-drop 16 (16 * n) memory ∙ ap (λ (k : ℕ). drop k memory) place in
     ap (λ (c : ℕ). rows_text c (16 * n) (drop (16 * n) memory) rest) count
     ∙ ap (λ (a : ℕ). row_text (16 * n) (take 16 (drop (16 * n) memory)) (rows_text (4096 - (n + 1)) a (drop 16 (drop (16 * n) memory)) rest)) place
     ∙ ap (λ (m : List ℕ). row_text (16 * n) (take 16 (drop (16 * n) memory)) (rows_text (4096 - (n + 1)) (16 * (n + 1)) m rest)) behind
-  where
-    nothing : (k : ℕ) → drop {A = ℕ} k [] ≡ []
-    nothing zero = refl
-    nothing (suc k) = refl
-
-    drop_twice : (i j : ℕ) (xs : List ℕ) → drop i (drop j xs) ≡ drop (j + i) xs
-    drop_twice i zero xs = ap (λ (k : ℕ). drop k xs) (let z : i ≡ 0 + i = omega arith in z)
-    drop_twice i (suc j) [] = nothing i ∙ sym (nothing (suc j + i))
-    drop_twice i (suc j) (x ∷ xs) = drop_twice i j xs ∙ ap (λ (k : ℕ). drop k (x ∷ xs)) (let z : suc (j + i) ≡ suc j + i = omega arith in z)
 
 -- no row is left
 pub rows_over : (at : ℕ) (memory rest : List ℕ) → rows_text 0 at memory rest ≡ rest

@@ -1,5 +1,5 @@
 -- What the module does while it is active is what it does by itself.
-use Rattle.std.proofs.Common.{◌≡◌, ◌≢◌, ℕ, ◌+◌, ◌-◌, ◌*◌, ◌/◌, ◌%◌, List, [], ◌∷◌, get_or, set, map, refl, sym, ap, ◌∙◌, subst, arith, Bool, true, false, nat_lt, cond, not, ◌&&◌, ◌||◌, ◌==◌, Option, Some, None, ⊎_elim}
+use Rattle.std.proofs.Common.{◌≡◌, ℕ, ◌+◌, ◌-◌, ◌*◌, ◌/◌, ◌%◌, List, [], ◌∷◌, get_or, set, map, refl, sym, ap, ◌∙◌, subst, arith, Bool, true, false, nat_lt, cond, not, ◌&&◌, ◌||◌, ◌==◌, Option, Some, None, ⊎_elim}
 use Rattle.std.proofs.lemmas.Bool.{cases_lt, not-true, and_parts, or_right}
 use Rattle.std.proofs.lemmas.Bool.Decides.{nat_tests}
 use Rattle.sm_words.specs.Words.{cleared, reg, word_at}
@@ -32,7 +32,7 @@ use Rattle.written_machine.specs.Ports.{Port, Got, Gots, read_in, read_byte, rea
 use Rattle.written_machine.specs.State.{State}
 use Rattle.isolation.proofs.Bytes.{Out, get_part, part_set_in, part_set_out, cleared_set}
 use Rattle.isolation.proofs.Each.{Each}
-use Rattle.isolation.proofs.Rights.{Sound, holds_true, holds_in}
+use Rattle.isolation.proofs.Rights.{Sound, holds_true, holds_in, even_of}
 
 -- each byte of an access is there
 abbrev pub InBy : Width → (ℕ → Bool) → ℕ → Type 0
@@ -41,9 +41,6 @@ InBy Word P a = (P a ≡ true) × (P (a + 1) ≡ true)
 
 holds_next : (s : Section) (a : ℕ) → s.end % 2 ≡ 0 → a % 2 ≡ 0 → holds s a ≡ true → holds s (a + 1) ≡ true
 holds_next s a end even h = let p = holds_true s a h in holds_in s (a + 1) (omega (arith, p.0)) (omega (arith, p.1))
-
-aligned_even : (a : ℕ) → misaligned Word a ≡ false → a % 2 ≡ 0
-aligned_even a e = let k : a % 2 ≢ 1 = grind (arith, nat_tests) in omega arith
 
 -- ---- instructions that a module may do by itself do not look at the table
 unit_plan_alone : (x : UnitName) (w w' : Doer) (core : List ℕ) → unit_alone x ≡ true → w.own ≡ w'.own → unit_plan w x core ≡ unit_plan w' x core
@@ -198,7 +195,7 @@ module _ (m : ℕ) (own : Module) (t : Table) (sound : Sound m own t) (j : Job) 
 
   in_width : (w : Width) (P : ℕ → Bool) (a : ℕ) → misaligned w a ≡ false → ((x : ℕ) → x % 2 ≡ 0 → P x ≡ true → P (x + 1) ≡ true) → P a ≡ true → InBy w P a
   in_width Byte P a e next h = h
-  in_width Word P a e next h = (h, next a (aligned_even a e) h)
+  in_width Word P a e next h = (h, next a (even_of Word a e refl) h)
 
   same_id : (m == m) ≡ true
   same_id = grind (arith, nat_tests)

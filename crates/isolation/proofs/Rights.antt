@@ -58,7 +58,7 @@ none_or : (p q : Option Denied) → or_else p q ≡ None → (p ≡ None) × (q 
 none_or None q e = (refl, e)
 none_or (Some d) q e = absurd cc
 
-even_of : (w : Width) (a : ℕ) → misaligned w a ≡ false → (w ≡ Word) → a % 2 ≡ 0
+pub even_of : (w : Width) (a : ℕ) → misaligned w a ≡ false → (w ≡ Word) → a % 2 ≡ 0
 even_of Byte a e f = cc
 even_of Word a e f = let k : a % 2 ≢ 1 = grind (arith, nat_tests) in omega arith
 

@@ -1,11 +1,13 @@
 -- What the definition gives keeps the facts of a layout.
 use Rattle.std.proofs.Common.{◌≡◌, ◌≢◌, ◌⊎◌, inl, inr, ℕ, zero, suc, ℤ, pos, negsuc, ◌+◌, ◌/◌, ◌%◌, ◌<◌, ◌≤◌, ◌==◌, nat_le, Bool, true, false, ◌||◌, not, List, [], ◌∷◌, ◌++◌, length, get_or, Option, Some, None, Result, Ok, Err, refl, ap, sym, ◌∙◌, subst, arith}
 use Rattle.std.specs.Prelude.{if◌then◌else◌, IsTrue, IfOk, All, AllPairs}
-use Rattle.std.specs.List.{AllPass, list_all}
+use Rattle.std.specs.List.{AllPass}
 use Rattle.std.specs.Str.{bytes_eq, is_utf8}
 use Rattle.std.proofs.lemmas.Bool.{and_parts, or_cases, leb-true, eqb-true, eqb-false}
 use Rattle.std.proofs.lemmas.Slice.Eq.{bytes_eq-Decides}
-use Rattle.std.proofs.lemmas.List.Elements.{All-nil, All-cons}
+use Rattle.std.proofs.lemmas.List.Elements.{All-nil, All-cons, All-weaker}
+use Rattle.std.proofs.lemmas.List.Sums.{AllPass-from_list_all}
+use Rattle.std.proofs.lemmas.List.Kept.{AllPairs-cons}
 use Rattle.hex.specs.Hex.{decode_sized, decode_pairs}
 use Rattle.hex.specs.declared.error.FromHexError.{FromHexError}
 use Rattle.hex.specs.declared.error.FromHexError.TheVariants.{OddLength, InvalidStringLength}
@@ -137,12 +139,6 @@ length-hex_key spot table key h =
 
 -- ---- names and entries
 
-AllPass-list_all : (p : ℕ → Bool) (xs : List ℕ) → list_all p xs ≡ true → AllPass p xs
-AllPass-list_all p [] h = All-nil (λ x. p x ≡ true)
-AllPass-list_all p (x ∷ xs) h =
-    let parts = and_parts _ _ h in
-    All-cons (λ x. p x ≡ true) x xs parts.0 (AllPass-list_all p xs parts.1)
-
 pub record IsName (s : List ℕ) : Type 0 where
   pub some : 1 ≤ length s
   pub short : length s ≤ 32
@@ -152,7 +148,7 @@ IsName-of_test : (s : List ℕ) → rows.is_name 32 s ≡ true → IsName s
 IsName-of_test s h =
     let parts = and_parts _ _ h in
     let rest = and_parts _ _ parts.1 in
-    record { some = leb-true _ _ parts.0; short = leb-true _ _ rest.0; bytes = AllPass-list_all _ s rest.1 }
+    record { some = leb-true _ _ parts.0; short = leb-true _ _ rest.0; bytes = AllPass-from_list_all _ s rest.1 }
 
 name_of-ok : (s t : List ℕ) → rows.name_of 32 s ≡ Some t → IsName t
 name_of-ok s t h = by (rows.is_name 32 s) refl h
@@ -228,15 +224,6 @@ ones-at {A} {B} f P each n (x ∷ xs) ys h k d inside =
         subst (λ (m : ℕ). P m (get_or zs k d)) same (others k d within)
 
 -- ---- vectors
-
-All-weaker : {X : Type 0} (P Q : X → Type 0) → ((x : X) → P x → Q x) → (xs : List X) → All P xs → All Q xs
-All-weaker P Q step xs all k d inside = step (get_or xs k d) (all k d inside)
-
-AllPairs-cons : {X : Type 0} (R : X → X → Type 0) (x : X) (xs : List X) → All (R x) xs → AllPairs R xs → AllPairs R (x ∷ xs)
-AllPairs-cons R x xs here rest zero zero d order inside = absurd (omega arith)
-AllPairs-cons R x xs here rest zero (suc j) d order inside = here j d (omega arith)
-AllPairs-cons R x xs here rest (suc i) zero d order inside = absurd (omega arith)
-AllPairs-cons R x xs here rest (suc i) (suc j) d order inside = rest i j d (omega arith) (omega arith)
 
 abbrev Rising : VectorValue → VectorValue → Type 0
 Rising v w = v.vector < w.vector

@@ -3,6 +3,7 @@ use Rattle.std.proofs.Common.{◌≡◌, ◌≢◌, ◌<◌, ℕ, zero, suc, ◌
 use Rattle.std.proofs.lemmas.Bool.Decides.{nat_tests}
 use Rattle.std.proofs.Math.Seq.{drop-cons}
 use Rattle.std.proofs.Math.ListN.{drop_of_length-le}
+use Rattle.std.proofs.lemmas.List.{take_at, drop_at, map-append, length-map}
 use Rattle.sm_words.specs.Words.{reg, put}
 use Rattle.sm_words.specs.declared.width.Width.TheVariants.{Byte}
 use Rattle.insn_decode.specs.declared.insn.Insn.TheVariants.{Unit as UnitOp}
@@ -16,7 +17,6 @@ use Rattle.attest.specs.Accesses.{reads_of, writes_of}
 use Rattle.attest.specs.Units.{Effect, Tag, each_byte, in_range, text_reads, unit_plan, unit_effect, unit_named, blocks, next}
 use Rattle.attest.proofs.Tagging.{plan_by, effect_by}
 use Rattle.attest.proofs.Rows.{writes_of-reads, writes_of-writes}
-use Rattle.attest.proofs.Slices.{take_front, drop_front}
 use Rattle.cpu_step.specs.Asked.{asks, effect}
 use Rattle.cpu_step.specs.Lone.{Job, Lone, lone_byte, lone_who, lone_read, lone_write, lone_writes, unit_alone, lone_does}
 use Rattle.lone_run.specs.Jobs.{between}
@@ -32,17 +32,13 @@ each_last kind a n = ap (each_byte kind a) (let e : n + 1 ≡ suc n = omega arit
         ap (λ xs. record { kind = kind; addr = a; width = Byte } ∷ xs) (by (a + 1) n)
         ∙ ap (λ b. record { kind = kind; addr = a; width = Byte } ∷ each_byte kind (a + 1) n ++ record { kind = kind; addr = b; width = Byte } ∷ []) (let e : a + 1 + n ≡ a + suc n = omega arith in e)
 
-map_append : (f : Access → ℕ) (xs ys : List Access) → map f (xs ++ ys) ≡ map f xs ++ map f ys
-map_append f [] ys = refl
-map_append f (x ∷ xs) ys = ap (λ l. f x ∷ l) (map_append f xs ys)
-
 -- one byte more
 pub fed_more : (j : Job) (ram : List ℕ) (message : List ℕ) (a k v : ℕ) → v ≡ lone_byte j ram (a + k) →
     (message ++ map (lone_read j ram) (each_byte Read a k)) ++ v ∷ [] ≡ message ++ map (lone_read j ram) (each_byte Read a (k + 1))
 fed_more j ram message a k v e =
     append_assoc message (map (lone_read j ram) (each_byte Read a k)) (v ∷ [])
     ∙ ap (λ v. message ++ (map (lone_read j ram) (each_byte Read a k) ++ v ∷ [])) e
-    ∙ ap (λ xs. message ++ xs) (sym (ap (map (lone_read j ram)) (each_last Read a k) ∙ map_append (lone_read j ram) (each_byte Read a k) (record { kind = Read; addr = a + k; width = Byte } ∷ [])))
+    ∙ ap (λ xs. message ++ xs) (sym (ap (map (lone_read j ram)) (each_last Read a k) ∙ map-append (lone_read j ram) (each_byte Read a k) (record { kind = Read; addr = a + k; width = Byte } ∷ [])))
 
 pub fed_none : (message : List ℕ) → message ≡ message ++ []
 fed_none message = sym (append-nil message)
@@ -68,10 +64,6 @@ reads_bytes a (suc n) xs = ap (λ l. record { kind = Read; addr = a; width = Byt
 reads_skip : (a n : ℕ) (xs : List Access) → reads_of (each_byte Write a n ++ xs) ≡ reads_of xs
 reads_skip a zero xs = refl
 reads_skip a (suc n) xs = reads_skip (a + 1) n xs
-
-map_length : (f : Access → ℕ) (xs : List Access) → length (map f xs) ≡ length xs
-map_length f [] = refl
-map_length f (x ∷ xs) = ap suc (map_length f xs)
 
 each_length : (kind : Kind) (a n : ℕ) → length (each_byte kind a n) ≡ n
 each_length kind a zero = refl
@@ -122,13 +114,13 @@ module _ (j : Job) (core ram : List ℕ) where
   tagged tag n = record { core = put (next core) 15 1; stored = tag; cycles = 6 + 64 * blocks n; closing = false }
 
   message_long : length message ≡ size
-  message_long = map_length (lone_read j ram) (each_byte Read (reg core 12) size) ∙ each_length Read (reg core 12) size
+  message_long = length-map (each_byte Read (reg core 12) size) (lone_read j ram) ∙ each_length Read (reg core 12) size
 
   tag_values : length j.text ≡ size_of j.owner.text → map (lone_read j ram) (reads_of accesses) ≡ message ++ j.text
   tag_values f =
       ap (λ l. map (lone_read j ram) (reads_of l)) (append_assoc (each_byte Read (reg core 12) size) (each_byte Write (reg core 14) 16) (text_reads j.owner))
       ∙ ap (map (lone_read j ram)) (reads_bytes (reg core 12) size (each_byte Write (reg core 14) 16 ++ text_reads j.owner) ∙ ap (λ l. each_byte Read (reg core 12) size ++ l) (reads_skip (reg core 14) 16 (text_reads j.owner)))
-      ∙ map_append (lone_read j ram) (each_byte Read (reg core 12) size) (reads_of (text_reads j.owner))
+      ∙ map-append (lone_read j ram) (each_byte Read (reg core 12) size) (reads_of (text_reads j.owner))
       ∙ ap (λ l. message ++ l) (text_values j ram f)
 
   tag_writes : writes_of accesses ≡ each_byte Write (reg core 14) 16
@@ -149,8 +141,8 @@ module _ (j : Job) (core ram : List ℕ) where
       ap (λ xs. left_by j ram xs (unit_effect (lone_who j) Tag core (map (lone_read j ram) (reads_of xs)))) (plan_by (lone_who j) core j.owner refl true e)
       ∙ ap (left_by j ram accesses) (effect_by (lone_who j) core j.owner refl (map (lone_read j ram) (reads_of accesses)) true e)
       ∙ ap (λ vs. left_by j ram accesses (tagged (tag_of j.key j.owner (drop size vs) (take size vs)) size)) (tag_values f)
-      ∙ ap (λ t. left_by j ram accesses (tagged (tag_of j.key j.owner t (take size (message ++ j.text))) size)) (drop_front size message j.text message_long)
-      ∙ ap (λ t. left_by j ram accesses (tagged (tag_of j.key j.owner j.text t) size)) (take_front size message j.text message_long)
+      ∙ ap (λ t. left_by j ram accesses (tagged (tag_of j.key j.owner t (take size (message ++ j.text))) size)) (drop_at message j.text size message_long)
+      ∙ ap (λ t. left_by j ram accesses (tagged (tag_of j.key j.owner j.text t) size)) (take_at message j.text size message_long)
       ∙ ap (λ t. left_by j ram accesses (tagged t size)) same
       ∙ ap (λ ys. record { core = put (next core) 15 1; data_bytes = lone_writes j.owner ram ys tag; rest = 6 + 64 * blocks size - 1; closing = false }) tag_writes
       ∙ ap (λ k. record { core = put (next core) 15 1; data_bytes = lone_writes j.owner ram (each_byte Write (reg core 14) 16) tag; rest = 6 + 64 * blocks k - 1; closing = false }) (sym en)

@@ -3,6 +3,7 @@ use Rattle.std.proofs.Common.{◌≡◌, ◌⊎◌, inl, inr, ⊎_elim, ℕ, ◌
 pub use Rattle.std.proofs.lemmas.Bool.{and_parts as and_true}
 use Rattle.std.proofs.lemmas.Bool.{and_right}
 use Rattle.std.proofs.lemmas.Bool.Decides.{nat_tests}
+use Rattle.std.proofs.lemmas.Option.{none-some}
 use Rattle.mod_layout.specs.declared.Section.{Section}
 use Rattle.mod_layout.specs.declared.Module.{Module}
 use Rattle.mod_layout.specs.Table.{Table, holds, find_module, module_of}
@@ -43,17 +44,14 @@ pub found_first : (y m : Module) (rest : Option Module) (b : Bool) → cond b (S
 found_first y m rest true e = inl (let k : y ≡ m = (cc) in k)
 found_first y m rest false e = inr e
 
-pub none_found : (m : Module) → None ≡ Some m → ⊥
-none_found m e = cc
-
 -- a module that was found is one of those that the first is separate from
 pub separate_found : (x m : Module) (id : ℕ) (ms : List Module) → SeparateFrom x ms → find_module id ms ≡ Some m → Separate x m
-separate_found x m id [] s e = absurd (none_found m e)
+separate_found x m id [] s e = absurd (none-some m e)
 separate_found x m id (y ∷ ms) s e =
     ⊎_elim (λ k. subst (Separate x) k s.0) (λ k. separate_found x m id ms s.1 k) (found_first y m (find_module id ms) (y.id == id) e)
 
 pub module_found : (given id : ℕ) (m : Module) (ms : List Module) → AreModules given ms → find_module id ms ≡ Some m → IsModule given m
-module_found given id m [] are e = absurd (none_found m e)
+module_found given id m [] are e = absurd (none-some m e)
 module_found given id m (y ∷ ms) are e =
     ⊎_elim (λ k. subst (IsModule given) k are.0) (λ k. module_found given id m ms are.2 k) (found_first y m (find_module id ms) (y.id == id) e)
 

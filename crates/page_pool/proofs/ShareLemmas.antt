@@ -1,7 +1,7 @@
 -- A table joins, or ends.
 use Rattle.std.proofs.Common.{◌≡◌, ℕ, ◌+◌, ◌<◌, ◌≤◌, ◌==◌, true, false, Bool, cond, List, [], Some, None, Option, length, get_or, All, sum, count_by, sym, refl, ap, ◌∙◌, arith}
 use Rattle.std.proofs.Math.ListN.{set}
-use Rattle.std.proofs.lemmas.List.{length-set, map-set}
+use Rattle.std.proofs.lemmas.List.{length-set, map-set, get_or_read}
 use Rattle.std.proofs.lemmas.List.Elements.{All-get_or, All-set, All-from_get_or}
 use Rattle.std.proofs.lemmas.List.Sums.{sum_by-set, get_or-le-sum_by, count_by-le-length}
 use Rattle.std.proofs.lemmas.Bool.{cond-true, cond-false}
@@ -10,7 +10,7 @@ use Rattle.page_pool.specs.Counts.{times_in, IsFree}
 use Rattle.page_pool.specs.Tables.{table_of}
 use Rattle.page_pool.specs.Naming.{names_of, bytes_at, table_at, tables_at, IsCounted, no_table, place_of, IsLiveIn, IsUnusedIn}
 use Rattle.page_pool.proofs.TableLemmas.{names_in, live_names, live_bytes}
-use Rattle.page_pool.proofs.StoreLemmas.{places_long, place_inside, place_counted, read_as, live_table}
+use Rattle.page_pool.proofs.StoreLemmas.{places_long, place_inside, place_counted, live_table}
 
 dead_names : (page : ℕ) (live : Bool) (places : List ℕ) → live ≡ false → cond live (times_in page places) 0 ≡ 0
 dead_names page live places h = rw h refl
@@ -20,14 +20,14 @@ dead_names page live places h = rw h refl
 pub places_named : (pages : List (List ℕ)) (counts : List ℕ) (tables : List Table) (free : List ℕ) (spare t : ℕ) (u : Table)
     → IsCounted pages counts tables free spare → IsLiveIn tables t → u ≡ get_or tables t u → All (λ place. 0 < get_or counts place 0) u.places
 places_named pages counts tables free spare t u k l e =
-    rw (read_as tables t u no_table l.there e)
+    rw (get_or_read tables t u l.there e no_table)
     (All-from_get_or (λ place. 0 < get_or counts place 0) (get_or tables t no_table).places 0
     (λ n h. let long = places_long pages counts tables free spare t k l in let c = place_counted pages counts tables free spare t n k l (omega arith) in omega arith))
 
 pub places_inside : (pages : List (List ℕ)) (counts : List ℕ) (tables : List Table) (free : List ℕ) (spare t : ℕ) (u : Table)
     → IsCounted pages counts tables free spare → IsLiveIn tables t → u ≡ get_or tables t u → All (λ place. place < length counts) u.places
 places_inside pages counts tables free spare t u k l e =
-    rw (read_as tables t u no_table l.there e, k.counts_length ∙ sym k.pages_length)
+    rw (get_or_read tables t u l.there e no_table, k.counts_length ∙ sym k.pages_length)
     (All-get_or (λ w. All (λ place. place < length pages) w.places) tables t no_table l.there k.named)
 
 live_set : (tables : List Table) (t : ℕ) (v : Table) → t < length tables
@@ -55,7 +55,7 @@ pub share_counted : (pages : List (List ℕ)) (counts : List ℕ) (tables : List
     → IsCounted pages after (set tables to u) free spare
 share_counted pages counts tables free spare t to u after k l n e long counted total zeros =
     let there : to < length tables = n.there in
-    let f : u ≡ get_or tables t no_table = read_as tables t u no_table l.there e in
+    let f : u ≡ get_or tables t no_table = get_or_read tables t u l.there e no_table in
     let live : u.is_live ≡ true = ap (λ (w : Table). w.is_live) f ∙ l.live in
     let named_u : All (λ place. place < length pages) u.places = rw f (All-get_or (λ w. All (λ place. place < length pages) w.places) tables t no_table l.there k.named) in
     let long_u : length u.places ≡ 256 = rw f (places_long pages counts tables free spare t k l) in
@@ -105,7 +105,7 @@ pub share_same : (pages : List (List ℕ)) (tables : List Table) (t to : ℕ) (u
     → IsLiveIn tables t → u ≡ get_or tables t u
     → tables_at pages (set tables to u) ≡ set (tables_at pages tables) to (table_of (tables_at pages tables) t)
 share_same pages tables t to u l e =
-    let f : u ≡ get_or tables t no_table = read_as tables t u no_table l.there e in
+    let f : u ≡ get_or tables t no_table = get_or_read tables t u l.there e no_table in
     let live : u.is_live ≡ true = ap (λ (w : Table). w.is_live) f ∙ l.live in
     let there : table_at pages u ≡ get_or (tables_at pages tables) t None =
     live_bytes pages u.is_live u.places live ∙ ap (λ (w : Table). Some (bytes_at pages w.places)) f ∙ sym (live_table pages tables t l) in
@@ -117,7 +117,7 @@ pub names_enough : (pages : List (List ℕ)) (counts : List ℕ) (tables : List 
     → IsCounted pages counts tables free spare → IsLiveIn tables t → u ≡ get_or tables t u
     → All (λ place. times_in place u.places ≤ get_or counts place 0) u.places
 names_enough pages counts tables free spare t u k l e =
-    rw (read_as tables t u no_table l.there e)
+    rw (get_or_read tables t u l.there e no_table)
     (All-from_get_or (λ place. times_in place (get_or tables t no_table).places ≤ get_or counts place 0) (get_or tables t no_table).places 0
     (λ n h.
     let page = place_of tables t n in
@@ -137,8 +137,8 @@ pub end_counted : (pages : List (List ℕ)) (counts : List ℕ) (tables : List T
     → IsCounted pages after (set tables t record { is_live = false; places = v.places }) free_after spare_after
 end_counted pages counts tables free spare t u v after free_after spare_after k l e e_v long long_free counted total spared =
     let there : t < length tables = l.there in
-    let f : u ≡ get_or tables t no_table = read_as tables t u no_table there e in
-    let g : v ≡ get_or tables t no_table = read_as tables t v no_table there e_v in
+    let f : u ≡ get_or tables t no_table = get_or_read tables t u there e no_table in
+    let g : v ≡ get_or tables t no_table = get_or_read tables t v there e_v no_table in
     let w : Table = record { is_live = false; places = v.places } in
     let named_v : All (λ place. place < length pages) v.places = rw g (All-get_or (λ x. All (λ place. place < length pages) x.places) tables t no_table there k.named) in
     let long_v : length v.places ≡ 256 = rw g (places_long pages counts tables free spare t k l) in

@@ -1,7 +1,7 @@
 -- What a sound store says of a place, and what a write of its page leaves.
 use Rattle.std.proofs.Common.{◌≡◌, ◌≢◌, ℕ, ◌+◌, ◌-◌, ◌*◌, ◌<◌, ◌≤◌, List, [], Some, None, Option, unwrap_or, length, get_or, All, sym, refl, subst, ap, ◌∙◌, arith}
 use Rattle.std.proofs.Math.ListN.{set}
-use Rattle.std.proofs.lemmas.List.{length-set, get_or-set_same, get_or_default, get_or-map}
+use Rattle.std.proofs.lemmas.List.{length-set, get_or-set_same, get_or-map, get_or_read}
 use Rattle.std.proofs.lemmas.List.Elements.{All-get_or, All-set}
 use Rattle.std.proofs.lemmas.List.Sums.{get_or-le-sum_by}
 use Rattle.page_pool.specs.declared.store.Table.{Table}
@@ -9,10 +9,6 @@ use Rattle.page_pool.specs.Naming.{names_of, bytes_at, table_at, tables_at, IsCo
 use Rattle.page_pool.specs.Tables.{bytes_of}
 use Rattle.page_pool.proofs.TableLemmas.{names_in, named_in, live_bytes, tables_at-set_named}
 use Rattle.page_pool.proofs.CopyLemmas.{spare_some, copy_counted, copy_same}
-
--- what a read within a list gives, whatever is given past its end
-pub read_as : {X : Type 0} (xs : List X) (i : ℕ) (x d : X) → i < length xs → x ≡ get_or xs i x → x ≡ get_or xs i d
-read_as xs i x d h e = e ∙ get_or_default xs i x d h
 
 pub places_long : (pages : List (List ℕ)) (counts : List ℕ) (tables : List Table) (free : List ℕ) (spare t : ℕ)
     → IsCounted pages counts tables free spare → IsLiveIn tables t → length (get_or tables t no_table).places ≡ 256
@@ -83,7 +79,7 @@ page_written pages counts tables free spare t n page at byte bytes before k l sm
     record { there = l.there; live = l.live; place = omega arith; names = names; once = sym (k.counted page inside) ∙ one }
     in_page k.named k.whole_pages in
     let there : bytes_of (tables_at pages tables) t ≡ bytes_at pages (get_or tables t no_table).places = ap (λ (o : Option (List ℕ)). unwrap_or o []) (live_table pages tables t l) in
-    rw (← same, there, read_as pages page bytes [] inside e) changed
+    rw (← same, there, get_or_read pages page bytes inside e []) changed
 
 -- ---- a place gets a page of its own
 
@@ -100,7 +96,7 @@ pub page_there : (pages : List (List ℕ)) (counts : List ℕ) (tables : List Ta
 page_there pages counts tables free spare t n place page k l small shared e f =
     let some = spare_there pages counts tables free spare t n k l small shared in
     let room : spare ≤ length free = k.spared.room in
-    let g : place ≡ get_or free (spare - 1) 0 = read_as free (spare - 1) place 0 (omega arith) e in
+    let g : place ≡ get_or free (spare - 1) 0 = get_or_read free (spare - 1) place (omega arith) e 0 in
     let inside = k.spared.inside (spare - 1) (omega arith) in
     let a = k.counts_length in
     let b = k.pages_length in
@@ -120,13 +116,13 @@ copied pages counts tables free spare t n table u shared place page count x k l 
     let inside = place_inside pages counts tables free spare t n k l small in
     let one = place_counted pages counts tables free spare t n k l small in
     let lengths = k.counts_length ∙ sym k.pages_length in
-    let a : table ≡ get_or tables t no_table = read_as tables t table no_table there e_table in
+    let a : table ≡ get_or tables t no_table = get_or_read tables t table there e_table no_table in
     let b : shared ≡ place_of tables t n = e_shared ∙ ap (λ (w : Table). get_or w.places n 0) a in
-    let f : place ≡ get_or free (spare - 1) 0 = read_as free (spare - 1) place 0 (omega arith) e_place in
+    let f : place ≡ get_or free (spare - 1) 0 = get_or_read free (spare - 1) place (omega arith) e_place 0 in
     let g : page ≡ get_or free (spare - 1) 0 = e_page ∙ f in
-    let h : x ≡ get_or pages (place_of tables t n) [] = read_as pages shared x [] (omega arith) e_x ∙ ap (λ (i : ℕ). get_or pages i []) b in
-    let i : count ≡ get_or counts (place_of tables t n) 0 = read_as counts shared count 0 (omega arith) e_count ∙ ap (λ (j : ℕ). get_or counts j 0) b in
-    let j : u ≡ get_or tables t no_table = read_as tables t u no_table there e_u in
+    let h : x ≡ get_or pages (place_of tables t n) [] = get_or_read pages shared x (omega arith) e_x [] ∙ ap (λ (i : ℕ). get_or pages i []) b in
+    let i : count ≡ get_or counts (place_of tables t n) 0 = get_or_read counts shared count (omega arith) e_count 0 ∙ ap (λ (j : ℕ). get_or counts j 0) b in
+    let j : u ≡ get_or tables t no_table = get_or_read tables t u there e_u no_table in
     let counted = copy_counted pages counts tables free spare t n (place_of tables t n) no_table k there l.live small refl (omega arith) in
     let same = copy_same pages counts tables free spare t n (place_of tables t n) no_table k there l.live small refl (omega arith) in
     let fits : get_or free (spare - 1) 0 < length counts = k.spared.inside (spare - 1) (omega arith) in

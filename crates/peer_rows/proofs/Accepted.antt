@@ -1,9 +1,10 @@
 -- An accepted text makes peers.
-use Rattle.std.proofs.Common.{◌≡◌, ◌<◌, ℕ, zero, suc, ◌-◌, ◌==◌, List, [], ◌∷◌, take, drop, slice_index, subst, arith, Bool, true, false, cond, Some}
+use Rattle.std.proofs.Common.{◌<◌, ℕ, zero, suc, ◌-◌, List, [], ◌∷◌, take, drop, slice_index, arith}
 use Rattle.std.proofs.lemmas.List.{length-drop, length-take}
+use Rattle.mod_layout.proofs.Found.{module_found}
 use Rattle.mod_layout.specs.declared.Module.{Module}
-use Rattle.mod_layout.specs.Table.{find_module, size_of}
-use Rattle.mod_layout.specs.Tables.{IsSection, IsModule, AreModules}
+use Rattle.mod_layout.specs.Table.{size_of}
+use Rattle.mod_layout.specs.Tables.{IsSection}
 use Rattle.image_text.specs.Image.{Image, IsImage}
 use Rattle.arm_balance.specs.declared.Arm.{Arm}
 use Rattle.flow_rule.specs.declared.Verdict.TheVariants.{Yes}
@@ -12,14 +13,6 @@ use Rattle.flow_rule.specs.Laws.{IsData}
 use Rattle.flow_rule.proofs.WithArms.{even_with}
 use Rattle.written_machine.specs.Peers.{section, Peers}
 use Rattle.peer_rows.specs.Laws.{DifferInData}
-
-found_module : (given m : ℕ) (ms : List Module) (owner : Module) → AreModules given ms → find_module m ms ≡ Some owner → IsModule given owner
-found_module given m [] owner h e = absurd cc
-found_module given m (x ∷ xs) owner h e = by (x.id == m) e (λ f. found_module given m xs owner h.2 f)
-  where
-    by : (b : Bool) → cond b (Some x) (find_module m xs) ≡ Some owner → (find_module m xs ≡ Some owner → IsModule given owner) → IsModule given owner
-    by true f go = let g : x ≡ owner = cc in subst (IsModule given) g h.0
-    by false f go = go f
 
 taken : (n : ℕ) (xs : List ℕ) → ((i : ℕ) → slice_index xs i < 256) → (i : ℕ) → slice_index (take n xs) i < 256
 taken (suc n) (x ∷ xs) h zero = h 0
@@ -40,7 +33,7 @@ is_data i owner image ram = record {
 
 pub accepted : (a b : Image) (m : ℕ) (owner : Module) (arms : List Arm) → DifferInData a b m owner → VerdictWith owner (section owner.text a.memory) arms Yes → Peers a b m
 accepted a b m owner arms d v =
-    let is = found_module a.table.given m a.table.modules owner d.image_a.table_ok.modules d.owned in
+    let is = module_found a.table.given m owner a.table.modules d.image_a.table_ok.modules d.owned in
     let da = is_data a owner d.image_a is.ram_ok in
     let db = is_data b owner d.image_b is.ram_ok in
     record {

@@ -1,5 +1,5 @@
 -- Two pairs of peers.
-use Rattle.std.proofs.Common.{◌≡◌, ◌≢◌, ◌<◌, ◌≤◌, inl, inr, ℕ, suc, ◌%◌, ◌/◌, ◌&&◌, nat_lt, List, [], ◌∷◌, length, set, replicate, slice_index, refl, sym, ap, ◌∙◌, subst, arith, Bool, true, false, lit≤}
+use Rattle.std.proofs.Common.{◌≡◌, ◌≢◌, ◌<◌, ◌≤◌, inl, inr, ℕ, ◌%◌, ◌/◌, ◌&&◌, nat_lt, List, [], ◌∷◌, length, set, replicate, slice_index, refl, sym, ap, ◌∙◌, subst, arith, Bool, true, false, lit≤}
 use Rattle.std.proofs.lemmas.Bool.Decides.{nat_tests}
 use Rattle.insn_decode.specs.Code.{insn_of}
 use Rattle.cycle_table.specs.Cycles.{cycles_of}
@@ -19,7 +19,7 @@ use Rattle.written_machine.specs.Peers.{section}
 use Rattle.peer_rows.specs.Laws.{DifferInData}
 use Rattle.peer_rows.specs.Rows.{with_words, called, caller, memory_of, image_of, blind, balanced, BlindPeers, BalancedPeers}
 use Rattle.peer_rows.proofs.Accepted.{accepted}
-use Rattle.peer_rows.proofs.Sound.{Sound, Words, sound_words, sound_zeros, set_else}
+use Rattle.peer_rows.proofs.Sound.{Sound, Words, sound_words, sound_zeros, set_else, none_at}
 
 -- ---- images
 
@@ -43,10 +43,6 @@ sound_memory text e =
     (sound_words 0x0300 text (with_words 0x0200 caller (replicate 65536 0)) (lit≤ tt) (words_fit text e)
     (sound_words 0x0200 caller (replicate 65536 0) (lit≤ tt) (words_fit caller refl) (sound_zeros 65536 refl)))
 
-zero_key : (n a : ℕ) → slice_index (replicate n 0) a ≡ 0
-zero_key (suc n) (suc a) = zero_key n a
-zero_key _ _ = refl
-
 is_called : (text_end : ℕ) → 0x0300 < text_end → text_end % 2 ≡ 0 → text_end ≤ 0x0400 → IsModule 1 (called text_end)
 is_called e low even high = record {
   text_ok = record { order = low; even_start = refl; even_end = even; low = omega arith; high = omega arith };
@@ -64,7 +60,7 @@ is_image text e word fit low even high small =
       bytes = s.bytes;
       low = s.low;
       sixteen = refl;
-      key_bytes = λ n. subst (λ v. v < 256) (sym (zero_key 16 n)) (omega arith);
+      key_bytes = λ n. subst (λ v. v < 256) (sym (none_at 16 n)) (omega arith);
       table_ok = record { modules = (is_called e low even high, tt, tt); fits = omega arith; room_ok = inl refl };
       numbered = (refl, omega arith, tt);
       all_held = refl;

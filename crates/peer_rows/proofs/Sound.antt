@@ -39,7 +39,7 @@ sound_words a (x ∷ ws) memory h w s =
     sound_words (a + 2) ws (set (set memory a (x % 256)) (a + 1) (x / 256)) (omega arith) w.1
     (sound_set (set memory a (x % 256)) (a + 1) (x / 256) (sound_set memory a (x % 256) s h (omega arith)) (omega arith) (let b : x < 65536 = w.0 in omega arith))
 
-none_at : (n a : ℕ) → slice_index (replicate n 0) a ≡ 0
+pub none_at : (n a : ℕ) → slice_index (replicate n 0) a ≡ 0
 none_at (suc n) (suc a) = none_at n a
 none_at _ _ = refl
 

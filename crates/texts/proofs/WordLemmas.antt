@@ -1,10 +1,11 @@
 -- A word before a byte that cuts it off.
-use Rattle.std.proofs.Common.{ℕ, zero, suc, ◌≡◌, ◌+◌, ◌^◌, ◌<◌, Bool, true, false, ◌==◌, List, [], ◌∷◌, ◌++◌, length, take, drop, get_or, refl, ap, arith}
+use Rattle.std.proofs.Common.{ℕ, suc, ◌≡◌, ◌+◌, ◌^◌, ◌<◌, Bool, true, false, ◌==◌, List, [], ◌∷◌, ◌++◌, length, take, drop, get_or, refl, ap, arith}
 use Rattle.std.specs.List.{All, before_first, after_first, position_or_len}
 use Rattle.std.specs.Fmt.{decimal}
 use Rattle.std.proofs.lemmas.Bool.Decides.{nat_tests}
 use Rattle.std.proofs.lemmas.Fmt.{digits_decimal}
 use Rattle.std.proofs.lemmas.Str.Parse.{not_in_digits}
+use Rattle.std.proofs.lemmas.Grind.{get_or_default_zero}
 use Rattle.texts.proofs.DecimalLemmas.{digits_model}
 
 -- a text that is cut after this word, before this rest
@@ -38,13 +39,8 @@ module _ (cuts : ℕ → Bool) (byte : ℕ) (rest : List ℕ) (here : cuts byte 
 -- a decimal has no byte but digits
 pub decimal_has_no : (byte n : ℕ) → byte < 48 → n < 2 ^ 64 → All (λ b. (b == byte) ≡ false) (decimal n)
 decimal_has_no byte n other small k d l =
-    let e : get_or (decimal n) k d ≡ get_or (decimal n) k 0 = any_default (decimal n) k d l in
+    let e : get_or (decimal n) k d ≡ get_or (decimal n) k 0 = get_or_default_zero (decimal n) k d l in
     rw e (by (get_or (decimal n) k 0) (not_in_digits digits_model (decimal n) byte (digits_decimal digits_model n small) (λ r. absurd (omega (arith, r.0))) k l))
   where
     by : (b : ℕ) → (b ≡ byte → ⊥) → (b == byte) ≡ false
     by b ne = grind (arith, nat_tests)
-
-    any_default : (xs : List ℕ) (k d : ℕ) → k < length xs → get_or xs k d ≡ get_or xs k 0
-    any_default [] k d l = absurd (omega arith)
-    any_default (x ∷ xs) zero d l = refl
-    any_default (x ∷ xs) (suc k) d l = any_default xs k d (omega arith)

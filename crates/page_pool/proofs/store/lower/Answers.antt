@@ -1,9 +1,8 @@
 use Rattle.std.proofs.Common.{◌≡◌, ◌≤◌, ◌<◌, ◌-◌, ◌∙◌, ℕ, arith, rules, length, get_or, inl, inr, refl, sym, subst, ap}
-use Rattle.std.proofs.lemmas.List.{length-set}
+use Rattle.std.proofs.lemmas.List.{length-set, get_or_read}
 use Rattle.std.proofs.lemmas.List.Elements.{All-get_or}
 use Rattle.page_pool.specs.Counts.{times_in}
 use Rattle.page_pool.proofs.LoopLemmas.{lowered_both, count_there, spare_room}
-use Rattle.page_pool.proofs.StoreLemmas.{read_as}
 use Rattle.page_pool.proofs.store.lower.Goals as goal
 use Rattle.page_pool.proofs.store.lower.Goals.{then-count-eq0, else-count-eq0}
 
@@ -35,7 +34,7 @@ loop-place-preserved c =
     let some = count_there c.args.counts.now.items c.loop-place.counts.items c.args.places.now c.loop-place.place-index place at c.from-page.ensures enough c.loop-place.invariant.0.counted in
     let a = c.loop-place.invariant.1 in
     let b = c.loop-place.invariant.2 in
-    let read : count ≡ get_or c.loop-place.counts.items place 0 = read_as c.loop-place.counts.items place count 0 (omega arith) c.index.ensures in (
+    let read : count ≡ get_or c.loop-place.counts.items place 0 = get_or_read c.loop-place.counts.items place count (omega arith) c.index.ensures 0 in (
       lowered_both c.args.counts.now.items c.loop-place.counts.items c.args.places.now c.loop-place.free.items c.loop-place.spare c.loop-place.place-index place (count - 1) c.if-count-eq0.free.items c.if-count-eq0.spare
           (omega arith) (omega arith) at c.from-page.ensures inside some (ap (λ (x : ℕ). x - 1) read)
           (elim c.if-count-eq0.branch [
