@@ -100,7 +100,7 @@ impl Board {
 
     /// One cycle, with its events in the order of its steps. A stopped board stays as it is and tells none.
     pub fn tick(&mut self) -> ArrayVec<Event, 4>
-        requires { self.old.present.cycle < 2 ^ 62 }
+        requires number { self.old.present.cycle < 2 ^ 62 }
         ensures state { self.new.present ≡ (cycle self.old.present).state }
         ensures events { result.items ≡ (cycle self.old.present).events }
         ensures number { self.new.present.cycle ≤ self.old.present.cycle + 1 }
@@ -137,7 +137,7 @@ impl Board {
     /// That many cycles, or fewer where it stops, with their lines. After `SinkFailed` the board stands after
     /// the cycle whose lines were refused, and they are not put again.
     pub fn run<S: Sink>(&mut self, cycles: u64, sink: &mut S) -> Ran
-        requires { self.old.present.cycle + cycles ≤ 2 ^ 62 }
+        requires number { self.old.present.cycle + cycles ≤ 2 ^ 62 }
         ensures ran { Runs S.taken S.faults S.sure cycles self.old.present self.new.present sink.old sink.new result }
         ensures number { self.new.present.cycle ≤ self.old.present.cycle + cycles }
         ensures marks { self.new ≡ at_state self.old self.new.present }

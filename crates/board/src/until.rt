@@ -17,7 +17,7 @@ impl Board {
     /// where it stops; with their lines. After `SinkFailed` the board stands after the cycle whose lines were refused,
     /// and they are not put again.
     pub fn run_until<S: Sink>(&mut self, addr: u16, most: u64, sink: &mut S) -> Ran
-        requires { self.old.present.cycle + most ≤ 2 ^ 62 }
+        requires number { self.old.present.cycle + most ≤ 2 ^ 62 }
         ensures ran { Runs S.taken S.faults S.sure (cycles_until addr self.old.present most)
             self.old.present self.new.present sink.old sink.new result }
         ensures number { self.new.present.cycle ≤ self.old.present.cycle + most }

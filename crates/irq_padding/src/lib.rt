@@ -13,7 +13,16 @@ mod turn;
 pub use turn::{Turn, choose};
 
 /// The cycles of padding that follow the cycle in which an interrupt of a module is accepted.
-const PADDING: u8 = 11;
+pub const PADDING: u8 = 11;
+
+/// The cycles that an interrupt of the outside takes after the one in which it arrives.
+pub const ARRIVAL: u32 = 5;
+
+/// The cycles that RETI takes after its first where a module is to go on.
+pub const RESUMPTION: u32 = 4;
+
+// The definitions of the machine and its laws take these numbers from here.
+const _: () = prove!(PADDING == 11 && ARRIVAL == 5 && RESUMPTION == 4);
 
 /// The phase in which the machine is once an interrupt of a module was accepted.
 pub fn arrive() -> Phase
@@ -32,7 +41,7 @@ pub fn pad_step(left: u8) -> (Phase, After)
 
 /// The same once `n` of the `left` cycles of padding have passed.
 pub fn pad_by(left: u8, n: u8) -> (Phase, After)
-    requires { 0 < n }
+    requires some { 0 < n }
     ensures stepped { result ≡ stepped n (Phase.Pad left, After.Next) }
     ensures padding { result ≡ padding (left - n) }
 {

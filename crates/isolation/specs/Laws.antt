@@ -10,6 +10,8 @@ use Rattle.mod_layout.specs.declared.Section.{Section}
 use Rattle.pc_access.specs.Rights.{first_denied, is_id}
 use Rattle.pc_access.specs.declared.Kind.TheVariants.{Write}
 use Rattle.image_text.specs.Image.{Image, IsImage}
+use Rattle.reg_backup.specs.declared.frames.TheConstants.{MOST_FRAMES}
+use Rattle.irq_padding.specs.declared.TheConstants.{PADDING}
 use Rattle.attest.specs.Units.{each_byte, text_reads}
 use Rattle.cpu_step.specs.Lone.{outcome, lone_after}
 use Rattle.written_machine.specs.Checks.{refused_in}
@@ -121,15 +123,15 @@ Cost = (a : Image) (schedule : List Entry) (m : ℕ) (owner : Module) (k from n 
     NotBroken (outcome j c l) →
     Takes c (outcome j c l) × ((away m s n).since ≡ None) × ((after_cycles s n).cycle ≡ (at a schedule k).cycle + (c + (away m s n).sum)))
 
--- A handler begins 12 cycles after a hide,
+-- A handler begins 12 cycles after a hide: once the cycle of the hide and the padding have passed,
 abbrev pub HandlerAfterHide : Type 0
 HandlerAfterHide = (a : Image) (schedule : List Entry) (k : ℕ) → Hides (cycle (at a schedule k)).events →
-    Handles (cycle (after_cycles (at a schedule (suc k)) 11)).events
+    Handles (cycle (after_cycles (at a schedule (suc k)) PADDING)).events
 
 -- and at no other time.
 abbrev pub HideBeforeHandler : Type 0
 HideBeforeHandler = (a : Image) (schedule : List Entry) (k : ℕ) → Handles (cycle (at a schedule k)).events →
-    (hid : ℕ) × (k ≡ hid + 12) × Hides (cycle (at a schedule hid)).events
+    (hid : ℕ) × (k ≡ hid + (1 + PADDING)) × Hides (cycle (at a schedule hid)).events
 
 -- ---- what every state of a run keeps
 
@@ -159,7 +161,7 @@ ModuleOnce = (a : Image) (schedule : List Entry) (k m : ℕ) → one_if (is_id m
 
 -- There are at most eight frames.
 abbrev pub FramesFew : Type 0
-FramesFew = (a : Image) (schedule : List Entry) (k : ℕ) → length (at a schedule k).frames ≤ 8
+FramesFew = (a : Image) (schedule : List Entry) (k : ℕ) → length (at a schedule k).frames ≤ MOST_FRAMES
 
 -- ---- cycles and rights
 

@@ -1,11 +1,11 @@
 //! The unit instructions that a module may do by itself.
 
-ghost use Rattle.std.specs.Prelude.{◌≡◌, ◌≢◌, ◌≤◌, ◌-◌, ◌<◌, true, false, length};
+ghost use Rattle.std.specs.Prelude.{◌≡◌, ◌≢◌, ◌≤◌, ◌-◌, true, false, length};
 ghost use Rattle.sm_words.specs.Words.{put};
 ghost use Rattle.insn_decode.specs.declared.insn.Insn.TheVariants.{Unit as UnitOp};
 ghost use Rattle.mod_layout.specs.Table.{size_of};
 ghost use Rattle.mod_layout.specs.Tables.{IsSection};
-ghost use Rattle.attest.specs.Units.{blocks, next, unit_named, Tag};
+ghost use Rattle.attest.specs.Units.{next, unit_named, Tag};
 ghost use Rattle.cpu_step.specs.Lone.{unit_alone, lone_does};
 ghost use Rattle.lone_run.specs.Jobs.{call_of, between, lasting};
 

@@ -65,6 +65,13 @@ fn board_of(alloc: Global, image: &str) -> Result<Board, Fail>
     Ok(Board::with_marks(alloc, &image, &schedule, 16)?)
 }
 
+#[tactic(auto, unfolding(written_machine::specs::View::view_of))]
+fn number(board: &Board) -> u64
+    ensures { result ≡ board.now.present.cycle }
+{
+    board.view(Hidden::All).cycle()
+}
+
 // Images, scripts and what they write.
 fn rows() -> &'static [(&'static str, &'static str, &'static str)] {
     &[
@@ -170,33 +177,104 @@ fn scripts_are_played(rt: HostRuntime) -> Result<(), Fail> {
     Ok(())
 }
 
-// The call of the sink that is refused, the cycle that the board then stands at, and what was taken.
+/// A script on `CALLER`, the call of the sink that is refused, what was taken, and another script on the board that is
+/// left, with its text.
+type Refused = (&'static str, u64, &'static str, &'static str, &'static str);
+
+// A line that is refused is lost, and what it tells of is done: the cycle, the mark, the way back.
+fn refused() -> &'static [Refused] {
+    &[
+        (
+            "mark\ngo 12\nmem 0402 1\n",
+            0,
+            "",
+            "back 0\nregs\n",
+            "\
+            back 0 at 0\n\
+            regs 0 outside 0200 0000 0000 0000 0000 0000 0000 0000 0000 0000 0000 0000 0000 0000 0000 0000\n\
+            end 0 outside 0200 0000 0000 0000 0000 0000 0000 0000 0000 0000 0000 0000 0000 0000 0000 0000\n",
+        ),
+        (
+            "mark\ngo 12\nmem 0402 1\n",
+            1,
+            "mark 0 at 0\n",
+            "go 6\n",
+            "\
+            7 leave 1 pc 0208\n\
+            end 12 outside 0208 0000 0000 0000 0000 0000 0000 0208 0000 0000 0000 0000 0000 0000 0000 0000\n",
+        ),
+        (
+            "mark\ngo 12\nmem 0402 1\n",
+            2,
+            "mark 0 at 0\n5 enter 1 from 0\n",
+            "",
+            "\
+            end 8 outside 0208 0000 0000 0000 0000 0000 0000 0208 0000 0000 0000 0000 0000 0000 0000 0000\n",
+        ),
+        (
+            "mark\ngo 12\nmem 0402 1\n",
+            3,
+            "mark 0 at 0\n5 enter 1 from 0\n7 leave 1 pc 0208\n",
+            "back 0\ngo 6\n",
+            "back 0 at 0\n5 enter 1 from 0\nend 6 inside 1\n",
+        ),
+        (
+            "mark\ngo 12\nmem 0402 1\n",
+            4,
+            "mark 0 at 0\n5 enter 1 from 0\n7 leave 1 pc 0208\n0402: 00\n",
+            "",
+            "\
+            end 12 outside 0208 0000 0000 0000 0000 0000 0000 0208 0000 0000 0000 0000 0000 0000 0000 0000\n",
+        ),
+        (
+            "mark\nmark\ngo 6\nback 0\ngo 9\n",
+            3,
+            "mark 0 at 0\nmark 1 at 0\n5 enter 1 from 0\n",
+            "back 1\ngo 6\n",
+            "refused NoMark 1\n5 enter 1 from 0\nend 6 inside 1\n",
+        ),
+        (
+            "mark\ngo 12\nlast 0208 0\ngo 9\n",
+            3,
+            "mark 0 at 0\n5 enter 1 from 0\n7 leave 1 pc 0208\n",
+            "",
+            "\
+            end 11 outside 0208 0000 0000 0000 0000 0000 0000 0208 0000 0000 0000 0000 0000 0000 0000 0000\n",
+        ),
+    ]
+}
+
 #[test]
 fn refused_puts(rt: HostRuntime) -> Result<(), Fail> {
-    let whole = "mark 0 at 0\n5 enter 1 from 0\n7 leave 1 pc 0208\n0402: 00\nend 12 ";
-    for (call, cycle, taken) in [(0, 0, 0), (1, 6, 12), (2, 8, 29), (3, 12, 47), (4, 12, 56)] {
-        let script = read_script(rt.alloc(), b"mark\ngo 12\nmem 0402 1\n")?;
+    for (script, call, taken, next, text) in refused() {
+        assert!(rt; script.len() < 200 && next.len() < 200);
+        let script = read_script(rt.alloc(), script.as_bytes())?;
+        let next = read_script(rt.alloc(), next.as_bytes())?;
         let mut board = board_of(rt.alloc(), CALLER)?;
         let mut sink = MemSink::new(rt.alloc(), 512)?;
-        sink.fail_at(call)?;
+        let mut other = MemSink::new(rt.alloc(), 512)?;
+        sink.fail_at(*call)?;
         assert_eq!(rt; play(&mut board, &script, &mut sink), Ran::SinkFailed);
-        assert_eq!(rt; sink.taken(), &whole.as_bytes()[..taken]);
-        assert_eq!(rt; board.view(Hidden::All).cycle(), cycle);
+        assert_eq!(rt; sink.taken(), taken.as_bytes());
+        assert!(rt; number(&board) < 1000);
+        assert_eq!(rt; play(&mut board, &next, &mut other), Ran::Done);
+        assert_eq!(rt; other.taken(), text.as_bytes());
     }
     Ok(())
 }
 
+// Each text with the number of its lines.
 #[test]
 fn bounds_are_taken(rt: HostRuntime) -> Result<(), Fail> {
-    for text in [
-        b"".as_slice(),
-        b"go 0\ngo 1000000000",
-        b"until 0000 0\nuntil ffff 1000000000\n",
-        b"mem 0200 256\nmem ff00 256\nmem ffff 1\n",
-        b"back 0\nback 15\nlast ffff 15\nregs\nmark\n",
+    for (text, lines) in [
+        (b"".as_slice(), 0),
+        (b"go 0\ngo 1000000000", 2),
+        (b"until 0000 0\nuntil ffff 1000000000\n", 2),
+        (b"mem 0200 256\nmem ff00 256\nmem ffff 1\n", 3),
+        (b"back 0\nback 15\nlast ffff 15\nregs\nmark\n", 5),
     ] {
         let script = read_script(rt.alloc(), text)?;
-        assert!(rt; script.lines.len() <= 5);
+        assert_eq!(rt; script.lines.len(), lines);
     }
     Ok(())
 }

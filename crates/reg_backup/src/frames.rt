@@ -11,6 +11,9 @@ use std::marker::Model;
 /// The most frames that can stand.
 pub const MOST_FRAMES: usize = 8;
 
+// The definitions of the machine and its laws take the number from here.
+const _: () = prove!(MOST_FRAMES == 8);
+
 /// One interruption.
 #[derive(Clone, Copy, Debug, Default, PartialEq, Eq)]
 pub enum Frame {

@@ -32,6 +32,7 @@ use Rattle.reg_backup.specs.declared.backup.After.TheVariants.{Next, Handler, Re
 use Rattle.reg_backup.specs.declared.backup.Phase.{Phase}
 use Rattle.reg_backup.specs.declared.backup.Phase.TheVariants.{Run, Pad}
 use Rattle.reg_backup.specs.declared.frames.TheConstants.{MOST_FRAMES}
+use Rattle.irq_padding.specs.declared.TheConstants.{PADDING, ARRIVAL, RESUMPTION}
 use Rattle.reg_backup.specs.declared.frames.Frame.{Frame}
 use Rattle.reg_backup.specs.declared.frames.Frame.TheVariants.{Plain, Module as Held}
 use Rattle.attest.specs.Units.{Doer, Effect}
@@ -176,7 +177,7 @@ arrive_inside v id s =
     let b = saved id s.caller s.core (rest_of s.phase) s.after in
     let core = put (put (replicate 16 0) PC (vector_word s v)) SP s.handler_sp in
     record {
-      state = record s { core = core; active = None; frames = Held b ∷ s.frames; phase = Pad 11; after = Next; devices = accepted s.devices v };
+      state = record s { core = core; active = None; frames = Held b ∷ s.frames; phase = Pad PADDING; after = Next; devices = accepted s.devices v };
       events = Hid id v ∷ [];
     }
 
@@ -199,7 +200,7 @@ push_both None v s =
     let p = put_writes (record { devices = s.devices; memory = s.memory }) (pushes s) (reg s.core PC ∷ reg s.core SR ∷ []) in
     let core = put (put (put s.core SP (sub16 (reg s.core SP) 4)) SR (interrupted_sr (reg s.core SR))) PC (vector_in p.memory v) in
     record {
-      state = record s { core = core; memory = p.memory; frames = plain_if s.frames; phase = Run 5; devices = accepted p.devices v };
+      state = record s { core = core; memory = p.memory; frames = plain_if s.frames; phase = Run ARRIVAL; devices = accepted p.devices v };
       events = Irq v ∷ [];
     }
 
@@ -261,19 +262,19 @@ perform_unless None insn s = perform insn s
 unfoldable pub attempt : Insn → State → Step
 attempt insn s = perform_unless (first_denied s.table s.active (held_ids s.frames) (asks (who_of s) insn s.core)) insn s
 
--- RETI with no frame, or with a Plain one newest, which is taken off where nothing is refused
+-- the frames but the newest
 abbrev pub without_newest : List Frame → List Frame
 without_newest [] = []
 without_newest (f ∷ fs) = fs
 
--- the newest frame goes, unless the machine stopped
+-- the newest frame, a Plain one, goes, unless the machine stopped
 abbrev pub returned_by : Option Stop → Step → Step
 returned_by (Some stop) t = t
 returned_by None t = record { state = record t.state { frames = without_newest t.state.frames }; events = Returned ∷ t.events }
 
 -- RETI with a module in the newest frame pops nothing, takes 5 cycles and is settled by Resume
 abbrev pub reti_by : List Frame → State → Step
-reti_by (Held b ∷ fs) s = quiet (record s { core = past Reti s.core; phase = Run 4; after = Resume })
+reti_by (Held b ∷ fs) s = quiet (record s { core = past Reti s.core; phase = Run RESUMPTION; after = Resume })
 reti_by _ s = let t = attempt Reti s in returned_by t.state.stop t
 
 -- inside a module RETI stops the machine

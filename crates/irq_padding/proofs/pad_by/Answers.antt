@@ -5,9 +5,9 @@ use Rattle.irq_padding.proofs.pad_by.Goals as goal
 
 pub returns-then-n-left-clause-stepped : goal.returns-then-n-left-clause-stepped
 returns-then-n-left-clause-stepped c =
-    sym (stepped-padding c.args.n c.args.left c.requires ∙ padding-some (c.args.left - c.args.n) (omega arith))
+    sym (stepped-padding c.args.n c.args.left c.requires.some ∙ padding-some (c.args.left - c.args.n) (omega arith))
 
 pub returns-else-n-left-clause-stepped : goal.returns-else-n-left-clause-stepped
 returns-else-n-left-clause-stepped c =
     let none : c.args.left - c.args.n ≡ 0 = omega arith in
-    sym (stepped-padding c.args.n c.args.left c.requires ∙ ap padding none)
+    sym (stepped-padding c.args.n c.args.left c.requires.some ∙ ap padding none)
