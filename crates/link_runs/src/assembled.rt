@@ -1,6 +1,6 @@
 //! Programs that are assembled, linked and run, by calls of `serve`.
 
-use crate::linked::call;
+use crate::linked::{Given, call};
 use crate::objects::{CALL_LAYOUT, CALL_TEXT};
 use sm_cli::Status;
 use sm_io::MemFiles;
@@ -42,6 +42,9 @@ const CALLS_TRACE: &str = "\
 51 leave 1 pc 0208
 end 60 outside 0208 0000 0000 0000 0000 0000 0000 0000 0000 0000 0000 0000 0000 0000 0000 0000
 ";
+
+/// A jump back into the code at the module's entry.
+const BACK: &str = "word 0x4030\nword 0x0820";
 
 fn sources(alloc: Global) -> Result<MemFiles, Fail> {
     let mut files = MemFiles::new(alloc);
@@ -104,6 +107,40 @@ fn links_and_runs(rt: HostRuntime) -> Result<(), Fail> {
         let given = call(alloc, line, files)?;
         assert_eq!(rt; given.status, Status::Done, "{line}");
         assert_eq!(rt; given.out.taken(), out.as_bytes(), "{line}");
+    }
+    Ok(())
+}
+
+// Assembles a source, links it, and checks its module.
+fn checked(alloc: Global, source: &str) -> Result<Given, Fail> {
+    let mut files = MemFiles::new(alloc);
+    files.put_file("a.s", source.as_bytes())?;
+    let object = call(alloc, "asm a.s", files)?;
+    let mut files = MemFiles::new(alloc);
+    files.put_file("call.toml", CALL_LAYOUT.as_bytes())?;
+    files.put_file("a.o", object.out.taken())?;
+    let image = call(alloc, "link call.toml a.o", files)?;
+    let mut files = MemFiles::new(alloc);
+    files.put_file("a.img", image.out.taken())?;
+    call(alloc, "check a.img 1", files)
+}
+
+#[test]
+fn is_checked(rt: HostRuntime) -> Result<(), Fail> {
+    let alloc = rt.alloc();
+    let back = CALLS.replace(alloc, "mov @r1+, r0", BACK)?;
+    for (source, status, out) in [
+        (CALLS, Status::Done, "yes\n"),
+        (
+            back.as_str(),
+            Status::CheckNo,
+            "no 084e UnknownTarget 0000\n",
+        ),
+    ] {
+        let given = checked(alloc, source)?;
+        assert_eq!(rt; given.out.taken(), out.as_bytes(), "{source}");
+        assert_eq!(rt; given.err.taken(), b"".as_slice(), "{source}");
+        assert_eq!(rt; given.status, status, "{source}");
     }
     Ok(())
 }

@@ -200,23 +200,39 @@ fn files_that_do_not_serve(rt: HostRuntime) -> Result<(), Fail> {
     Ok(())
 }
 
+const AT_REST: &str =
+    "end 0 outside 0000 0000 0000 0000 0000 0000 0000 0000 0000 0000 0000 0000 0000 0000 0000 0000\n";
+
+// A line that ends with so many objects, where 1 and 64 give this output.
+fn assert_count(
+    rt: &impl Abort,
+    alloc: Global,
+    start: &str,
+    count: usize,
+    text: &str,
+) -> Result<(), Fail> {
+    let mut line = String::from_str(alloc, start)?;
+    for _ in 0..count {
+        line.push_str(" empty.o")?;
+    }
+    let given = call(alloc, line.as_str(), files_of(alloc, 0)?)?;
+    let (status, out) = if count == 1 || count == 64 {
+        (Status::Done, text)
+    } else {
+        (Status::Usage, "")
+    };
+    assert_eq!(rt; given.status, status, "{start} {count}");
+    assert_eq!(rt; given.out.taken(), out.as_bytes(), "{start} {count}");
+    Ok(())
+}
+
 // A call links 1 to 64 objects.
 #[test]
 fn as_many_objects(rt: HostRuntime) -> Result<(), Fail> {
     let alloc = rt.alloc();
     for count in [0usize, 1, 64, 65] {
-        let mut line = String::from_str(alloc, "link empty.toml")?;
-        for _ in 0..count {
-            line.push_str(" empty.o")?;
-        }
-        let given = call(alloc, line.as_str(), files_of(alloc, 0)?)?;
-        let (status, out) = if count == 1 || count == 64 {
-            (Status::Done, EMPTY_TEXT)
-        } else {
-            (Status::Usage, "")
-        };
-        assert_eq!(rt; given.status, status, "{count}");
-        assert_eq!(rt; given.out.taken(), out.as_bytes(), "{count}");
+        assert_count(&rt, alloc, "link empty.toml", count, EMPTY_TEXT)?;
+        assert_count(&rt, alloc, "run empty.toml - 0", count, AT_REST)?;
     }
     Ok(())
 }

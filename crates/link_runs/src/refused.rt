@@ -78,6 +78,8 @@ const ADDEND_THIRD: usize = 68;
 
 const SYMBOL_NAME: usize = 86;
 
+const FIRST_OF_NAME: usize = 103;
+
 const SYMBOL_SECTION: usize = 100;
 
 const TEXT_SIZE_HIGH: usize = TEXT + SIZE_HIGH;
@@ -181,6 +183,31 @@ fn no_objects(rt: HostRuntime) -> Result<(), Fail> {
     }
     for (first, second, fault) in twice_wrong() {
         assert_object(&rt, rt.alloc(), &[*first, *second], fault)?;
+    }
+    Ok(())
+}
+
+// A byte that is changed in `gone_object`, and how the name that nothing defines is told: with `?` for what is no visible
+// character, and with nothing where the symbol has no name.
+fn names() -> &'static [(Change, &'static str)] {
+    &[
+        ((FIRST_OF_NAME, 0x20), "?one"),
+        ((FIRST_OF_NAME, 0x21), "!one"),
+        ((FIRST_OF_NAME, 0x7e), "~one"),
+        ((FIRST_OF_NAME, 0x7f), "?one"),
+        ((FIRST_OF_NAME, 0x80), "?one"),
+        ((SYMBOL_NAME, 0), ""),
+    ]
+}
+
+#[test]
+fn names_are_shown(rt: HostRuntime) -> Result<(), Fail> {
+    let alloc = rt.alloc();
+    for (change, name) in names() {
+        let object = patched(alloc, gone_object(), &[*change])?;
+        let given = link_alone(alloc, &object)?;
+        let err = format!(in alloc; "sancus: link Undefined 0 1 name {name}\n")?;
+        assert_told(&rt, &given, Status::LinkRefused, err.as_str());
     }
     Ok(())
 }
