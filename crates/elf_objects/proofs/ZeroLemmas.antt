@@ -1,5 +1,5 @@
 -- The zeros of a string table, and the first one from an offset on.
-use Rattle.std.proofs.Common.{◌≡◌, ℕ, zero, suc, ◌+◌, ◌-◌, ◌<◌, ◌≤◌, List, [], ◌∷◌, drop, length, get_or, Option, Some, None, Bool, true, false, cond, refl, ap, sym, ◌∙◌, ◌⊎◌, inl, inr, arith, add-one, All}
+use Rattle.std.proofs.Common.{◌≡◌, ℕ, zero, suc, ◌+◌, ◌-◌, ◌<◌, ◌≤◌, List, [], ◌∷◌, drop, length, Option, Some, Bool, true, false, cond, refl, ap, sym, ◌∙◌, ◌⊎◌, inl, inr, arith, add-one, All}
 use Rattle.std.specs.Prelude.{slice_get, slice_index, nat_lt}
 use Rattle.std.specs.List.{position_from}
 use Rattle.std.specs.List.Sorted.{IsNonDecreasing, IsPartitionPoint}

@@ -1,4 +1,4 @@
-use Rattle.std.proofs.Common.{◌≡◌, ℕ, suc, ◌<◌, List, ◌++◌, ◌∷◌, [], length, get_or, ap, sym, subst, ◌∙◌, append_assoc, arith}
+use Rattle.std.proofs.Common.{ℕ, suc, ◌<◌, List, ◌++◌, ◌∷◌, [], length, get_or, ap, sym, subst, ◌∙◌, append_assoc, arith}
 use Rattle.memchr.specs.Find.{is_byte}
 use Rattle.memchr.proofs.lemmas.CallerLemmas.{All-places}
 use Rattle.elf_objects.proofs.names.zeros_in.Goals as goal
