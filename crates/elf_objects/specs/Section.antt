@@ -1,5 +1,5 @@
 -- Section headers (TIS ELF 1.2, "Sections"), what is loaded, and which sections are refused.
-use Rattle.std.specs.Prelude.{ℕ, ◌+◌, ◌*◌, ◌/◌, ◌%◌, List, [], ◌∷◌, length, take, drop, Bool, true, false, not, ◌&&◌, ◌||◌, ◌==◌, nat_lt, if◌then◌else◌, Option, Some, None}
+use Rattle.std.specs.Prelude.{ℕ, ◌+◌, ◌*◌, ◌%◌, List, [], ◌∷◌, length, take, drop, Bool, true, false, not, ◌&&◌, ◌||◌, ◌==◌, nat_lt, if◌then◌else◌, Option, Some, None}
 use Rattle.std.specs.List.{list_any}
 use Rattle.elf_objects.specs.declared.fault.ElfFault.{ElfFault}
 use Rattle.elf_objects.specs.declared.fault.ElfFault.TheVariants as fault

@@ -1,8 +1,8 @@
 -- Symbols, one after the other.
-use Rattle.std.proofs.Common.{◌≡◌, ℕ, ◌+◌, ◌<◌, ◌≤◌, List, [], ◌∷◌, ◌++◌, map, refl, ap, sym, subst, ◌∙◌, arith, append_assoc, length, take, get_or, Bool, true, false, not, cond, unwrap_or, Some, None, string_bytes, ltb}
+use Rattle.std.proofs.Common.{◌≡◌, ℕ, ◌+◌, ◌<◌, ◌≤◌, List, [], ◌∷◌, ◌++◌, map, refl, ap, sym, ◌∙◌, arith, append_assoc, length, get_or, Bool, true, false, not, cond, unwrap_or, Some, None, ltb}
 use Rattle.std.specs.Prelude.{position}
 use Rattle.std.specs.List.{position_or_len}
-use Rattle.std.proofs.lemmas.List.{map_more, map_push, get_or-map, append-nil, length-map}
+use Rattle.std.proofs.lemmas.List.{get_or-map, append-nil, length-map}
 use Rattle.std.proofs.lemmas.Bool.Decides.{nat_tests}
 use Rattle.std.proofs.lemmas.List.Sums.{prefix_len-le-length}
 use Rattle.elf_objects.specs.Passes.{all_below}

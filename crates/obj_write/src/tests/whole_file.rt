@@ -6,7 +6,8 @@ use std::alloc::AllocError;
 use std::test::Fail;
 
 /// Code with a name of elsewhere and a local label, data, and a place without bytes.
-const SOURCE: &[u8] = b"section .text code\nglobal main\nlabel main\nmov #far, r5\nlabel here\njmp here\n\
+const SOURCE: &[u8] =
+    b"section .text code\nglobal main\nlabel main\nmov #far, r5\nlabel here\njmp here\n\
 section .data data\nword 0x1234\nsection .bss bss\nspace 4\n";
 
 // The file's header: it starts at 0 and has 52 bytes.
