@@ -98,10 +98,8 @@ impl Model for BusMark {
 
     ghost Value = { MarkedBus };
 
-    ghost view = { λ m. record {
-      devices = joined m.present.lines m.present.serial m.present.timer [];
-      ticks = m.present.ticks;
-    } };
+    ghost view = { λ m.
+        record { devices = joined m.present.lines m.present.serial m.present.timer []; ticks = m.present.ticks } };
 
     ghost invariant = { λ m. m.present.ticks ≤ 2 ^ 62 };
 

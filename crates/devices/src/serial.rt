@@ -24,21 +24,11 @@ impl Model for Serial {
 
     ghost Value = { SerialPart };
 
-    ghost view = { λ s. record {
-      listening = s.listening;
-      got = s.received;
-      lost = s.overrun;
-      byte = s.byte;
-      sent = s.sent;
-    } };
+    ghost view = { λ s.
+        record { listening = s.listening; got = s.received; lost = s.overrun; byte = s.byte; sent = s.sent } };
 
-    ghost inverse = { λ d. record {
-      listening = d.listening;
-      received = d.got;
-      overrun = d.lost;
-      byte = d.byte;
-      sent = d.sent;
-    } };
+    ghost inverse = { λ d.
+        record { listening = d.listening; received = d.got; overrun = d.lost; byte = d.byte; sent = d.sent } };
 }
 
 impl Serial {

@@ -27,23 +27,13 @@ impl Model for Timer {
 
     ghost Value = { TimerPart };
 
-    ghost view = { λ t. record {
-      running = t.running;
-      alarm = t.enabled;
-      flag = t.flag;
-      count = t.count;
-      limit = t.limit;
-    } };
+    ghost view = { λ t.
+        record { running = t.running; alarm = t.enabled; flag = t.flag; count = t.count; limit = t.limit } };
 
     ghost invariant = { λ t. (t.count < 65536) × (t.limit < 65536) };
 
-    ghost inverse = { λ d. record {
-      running = d.running;
-      enabled = d.alarm;
-      flag = d.flag;
-      count = d.count;
-      limit = d.limit;
-    } };
+    ghost inverse = { λ d.
+        record { running = d.running; enabled = d.alarm; flag = d.flag; count = d.count; limit = d.limit } };
 }
 
 impl Timer {
