@@ -39,7 +39,9 @@ pub fn read_whole<F: Files>(alloc: Global, files: &mut F, name: &str) -> Result<
     let mut bytes = Vec::new(alloc);
     while bytes.len() <= MAX_FILE {
         let at = bytes.len();
-        let piece = at.clamp(LEAST_PIECE, MOST_PIECE);
+        let step = at.clamp(LEAST_PIECE, MOST_PIECE);
+        // It ends at a multiple of the step, so that the next read takes the room that a short one left.
+        let piece = step - at % step;
         if bytes.resize(at + piece, 0).is_err() {
             return Err(ReadFault::NoMemory);
         }
