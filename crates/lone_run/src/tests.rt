@@ -127,8 +127,8 @@ fn data_before_the_instruction(rt: HostRuntime) {
     assert_eq!(rt; ram, [0, 0]);
 }
 
-// It tags the word at 0x0400 behind it, keeps the answer, 1, and its own id behind the tag, and leaves with the caller's
-// id in R15. The cycles: 6 and 4 blocks of 64, 4, 6, 4, 6 and 2.
+// It tags the word at 0x0400 behind it, keeps the answer, 1, and its own id behind the tag, and leaves with the id of
+// its caller in R15. The cycles: 6 and 4 blocks of 64, 4, 6, 4, 6 and 2.
 #[test]
 fn a_call_that_tags(rt: HostRuntime) {
     let owner = Module {
