@@ -126,6 +126,19 @@ pub fn alone() -> &'static [Line] {
         ("lone closing.img 1 37", DONE, "running 37\n", ""),
         ("lone asking.img 1 2", DONE, "broken 1\n", ""),
         ("lone asking.img 1 1", DONE, "running 1\n", ""),
+        // No module calls it.
+        (
+            "lone caller.img 1 100 r7=0208",
+            DONE,
+            "exit 8 0208 0000 0000 0000 0000 0000 0000 0208 0000 0000 0000 0000 0000 0000 0000 0000\n",
+            "",
+        ),
+        (
+            "lone caller.img 1 100 r7=0208 r15=ffff",
+            DONE,
+            "exit 8 0208 0000 0000 0000 0000 0000 0000 0208 0000 0000 0000 0000 0000 0000 0000 0000\n",
+            "",
+        ),
         ("lone back.img 1 0", DONE, "running 0\n", ""),
         (
             "lone back.img 1 10 r7=0208",

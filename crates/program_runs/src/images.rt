@@ -3,9 +3,11 @@
 use std::alloc::Global;
 use std::test::Fail;
 
-/// An image of code, up to two modules and a handler. All that is not named is 0.
+/// An image of code, modules and a handler. All that is not named is 0.
 #[derive(Clone, Copy)]
 pub struct Picture {
+    /// 1, or 2 with room for more modules.
+    pub version: u16,
     pub handler_sp: u16,
     /// Where the text and the data of each module start and end.
     pub modules: &'static [[u16; 4]],
@@ -27,6 +29,7 @@ pub struct Picture {
 
 /// Zeros alone.
 pub const EMPTY: Picture = Picture {
+    version: 1,
     handler_sp: 0,
     modules: &[],
     main: &[],
@@ -100,6 +103,32 @@ pub const ASKING: Picture = Picture {
     ..CALLED
 };
 
+/// The same with a module that asks for its caller's id.
+pub const CALLER: Picture = Picture {
+    modules: &[[0x0300, 0x0304, 0x0400, 0x0402]],
+    first: &[0x1386, 0x4700],
+    ..CALLED
+};
+
+/// Protects 0x0a00 to 0x0a02 with data from 0x0a10 to 0x0a12, while there are eight modules.
+pub const NINTH: Picture = Picture {
+    modules: &[
+        [0x0300, 0x0302, 0x0308, 0x030a],
+        [0x0310, 0x0312, 0x0318, 0x031a],
+        [0x0320, 0x0322, 0x0328, 0x032a],
+        [0x0330, 0x0332, 0x0338, 0x033a],
+        [0x0340, 0x0342, 0x0348, 0x034a],
+        [0x0350, 0x0352, 0x0358, 0x035a],
+        [0x0360, 0x0362, 0x0368, 0x036a],
+        [0x0370, 0x0372, 0x0378, 0x037a],
+    ],
+    main: &[
+        0x403c, 0x0a00, 0x403d, 0x0a02, 0x403e, 0x0a10, 0x403f, 0x0a12, 0x1381, 0x3fff,
+    ],
+    reset: 0x0200,
+    ..EMPTY
+};
+
 /// The same with a module that gives itself up.
 pub const CLOSING: Picture = Picture {
     modules: &[[0x0300, 0x0304, 0x0400, 0x0440]],
@@ -113,9 +142,12 @@ impl Picture {
         let mut text = String::new(alloc);
         write!(
             text,
-            "sancus-image 1\nkey 00000000000000000000000000000000\nhandler {:04x}\n",
-            self.handler_sp
+            "sancus-image {}\nkey 00000000000000000000000000000000\nhandler {:04x}\n",
+            self.version, self.handler_sp
         )?;
+        if self.version == 2 {
+            write!(text, "modules {}\n", self.modules.len())?;
+        }
         self.put_modules(&mut text)?;
         for row in 0x0020..0x1000u16 {
             self.put_row(16 * row, &mut text)?;

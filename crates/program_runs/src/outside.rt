@@ -1,6 +1,6 @@
 //! Runs without interrupts, and interrupts of the outside.
 
-use crate::images::{BACK, CALLED, CONSTANT, EMPTY, Picture};
+use crate::images::{BACK, CALLED, CONSTANT, EMPTY, NINTH, Picture};
 use sm_cli::Status;
 
 /// A call of `image`, and what it has to give.
@@ -143,6 +143,29 @@ pub fn calls() -> [Run; 6] {
             cycles: 10,
             status: Status::Stopped,
             text: "5 stop FetchData pc 0400 addr 0400 module 1\nend 5 stopped\n",
+        },
+    ]
+}
+
+/// A ninth module is protected where there is room for it. It hashes eight blocks of 64 cycles, beside 6.
+pub fn ninth_modules() -> [Run; 2] {
+    [
+        Run {
+            image: NINTH,
+            schedule: "",
+            cycles: 530,
+            status: Status::Done,
+            text: "end 530 outside 0212 0000 0000 0000 0000 0000 0000 0000 0000 0000 0000 0000 0a00 0a02 0a10 0000\n",
+        },
+        Run {
+            image: Picture {
+                version: 2,
+                ..NINTH
+            },
+            schedule: "",
+            cycles: 530,
+            status: Status::Done,
+            text: "8 protect 9\nend 530 outside 0212 0000 0000 0000 0000 0000 0000 0000 0000 0000 0000 0000 0a00 0a02 0a10 0009\n",
         },
     ]
 }

@@ -3,10 +3,10 @@
 use crate::calls::{Given, call, call_into};
 use crate::commands::{Line, alone, answers, verdicts};
 use crate::images::{
-    ASKING, BACK, BALANCED, BLIND, CALLED, CLOSING, CONSTANT, Picture, UNBALANCED,
+    ASKING, BACK, BALANCED, BLIND, CALLED, CALLER, CLOSING, CONSTANT, Picture, UNBALANCED,
 };
 use crate::interrupted::{handlers, nested, pulses};
-use crate::outside::{Run, calls, outside_interrupts, plain_runs, refusals};
+use crate::outside::{Run, calls, ninth_modules, outside_interrupts, plain_runs, refusals};
 use board::{Board, Ran};
 use schedule_file::read_schedule;
 use sm_cli::Status;
@@ -77,6 +77,7 @@ fn assert_runs(rt: &impl Abort, alloc: Global, runs: &[Run]) -> Result<(), Fail>
 fn without_interrupts(rt: HostRuntime) -> Result<(), Fail> {
     assert_runs(&rt, rt.alloc(), &plain_runs())?;
     assert_runs(&rt, rt.alloc(), &calls())?;
+    assert_runs(&rt, rt.alloc(), &ninth_modules())?;
     assert_runs(&rt, rt.alloc(), &refusals())
 }
 
@@ -218,6 +219,7 @@ fn put_images(files: &mut MemFiles, alloc: Global) -> Result<(), Fail> {
     files.put_file("blind.img", BLIND.text(alloc)?.as_bytes())?;
     files.put_file("asking.img", ASKING.text(alloc)?.as_bytes())?;
     files.put_file("closing.img", CLOSING.text(alloc)?.as_bytes())?;
+    files.put_file("caller.img", CALLER.text(alloc)?.as_bytes())?;
     Ok(())
 }
 
