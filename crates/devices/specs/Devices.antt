@@ -1,4 +1,4 @@
--- The state of the devices: three lines, a serial device and a timer, moved by a schedule, cycle by cycle.
+-- The state of the devices: four lines, a serial device and a timer, moved by a schedule, cycle by cycle.
 use Rattle.std.specs.Prelude.{ℕ, ◌+◌, ◌*◌, ◌/◌, ◌%◌, ◌^◌, List, [], ◌∷◌, ◌==◌, nat_le, if◌then◌else◌, Bool, true, false, ◌&&◌, ◌||◌, Option, Some, None}
 use Rattle.std.specs.Int.{bit_at}
 use Rattle.std.specs.Option.{option_or}

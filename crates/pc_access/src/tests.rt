@@ -5,7 +5,7 @@ use mod_layout::{ModuleTable, Section};
 use sm_words::Width;
 use std::test::Fail;
 
-// Module 1 has text 0300 to 0306 and data 0400 to 0402, module 2 has text 0500 to 0504 and data 0600 to 0602.
+// Module 1 has text 0300 to 0304 and data 0400 to 0402, module 2 has text 0500 to 0504 and data 0600 to 0602.
 fn table_of_two(rt: &impl std::process::Abort) -> ModuleTable {
     let mut table = ModuleTable::new();
     for start in [0x0300, 0x0500] {
