@@ -2,7 +2,7 @@
 # Each script of this folder with a built program, one after another, and the sums of the table of timings in docs/VALIDATION.md.
 #     validate/all.sh PROGRAM [SCRIPT..]
 # PROGRAM is the built `sancus` (crates/sm_main/out/sm_main); SCRIPT is one or more of timings code_table effects linking programs keys
-# assembler, all of them where none is given. Needs Debian's mspdebug, lld, llvm, clang, binutils, openssl and python3. A line for each: the
+# assembler flow, all of them where none is given. Needs Debian's mspdebug, lld, llvm, clang, binutils, openssl and python3. A line for each: the
 # script and its last line. What else each says is in a log, which is named where the status is not 0. CASES (2000) is how many cases
 # linking has.
 here=$(dirname -- "$(readlink -f -- "$0")") || exit 1
@@ -54,7 +54,7 @@ timings() {
     printf 'timings: %s rows, %s differ\n' "$rows" "$wrong"
 }
 
-[ $# -gt 0 ] || set -- timings keys programs linking assembler code_table effects
+[ $# -gt 0 ] || set -- timings keys flow programs linking assembler code_table effects
 for script in "$@"; do
     case $script in
         timings) timings ;;
