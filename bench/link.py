@@ -78,6 +78,13 @@ def suffixes_four():
     return suffixes(4, 30_000, 480_000)
 
 
+def equal_names():
+    """30,000 symbols in an object that all have one name of 500,000 bytes."""
+    o = Object()
+    o.section(".text", data=bytes(4))
+    yield o.write_with_suffixes(o.symbol("a" * 500_000, ABS, 1, binding=WEAK), 30_000, 0)
+
+
 def full():
     """64 objects of a MiB each, of which nothing is loaded but four bytes."""
     for n in range(64):
@@ -102,6 +109,7 @@ CASES = {
     "sections": sections,
     "suffixes_one": suffixes_one,
     "suffixes_four": suffixes_four,
+    "equal_names": equal_names,
     "full": full,
     "tables": tables,
 }
