@@ -1,5 +1,5 @@
 -- What an instruction reaches and does under a label, and under one that this one absorbs.
-use Rattle.std.proofs.Common.{◌≡◌, ℕ, ◌*◌, List, [], ◌∷◌, ◌++◌, drop, map, set, append_assoc, refl, sym, ap, ◌∙◌, subst, Bool, true, false, cond, ◌==◌, ◌&&◌, Option, Some, None}
+use Rattle.std.proofs.Common.{◌≡◌, ℕ, ◌*◌, List, [], ◌∷◌, ◌++◌, drop, map, append_assoc, refl, sym, ap, ◌∙◌, subst, Bool, true, false, cond, ◌==◌, ◌&&◌, Option, Some, None}
 use Rattle.std.proofs.lemmas.List.{set-set}
 use Rattle.sm_words.specs.Words.{nth, add16, bit, word_at}
 use Rattle.insn_decode.specs.Code.{words_of, distance}
@@ -24,8 +24,8 @@ use Rattle.flow_rule.specs.declared.Val.{Val}
 use Rattle.flow_rule.specs.declared.Val.TheVariants.{Known, Away, Public, Secret}
 use Rattle.flow_rule.specs.declared.Reach.{Reach}
 use Rattle.flow_rule.specs.declared.Told.{Told}
-use Rattle.flow_rule.specs.Values.{over_one, blurred, blurred_all, narrow, val, put_val}
-use Rattle.flow_rule.specs.Does.{place_val, past_val, stepped_val, lowered_val, reach_if, one_reach, plan_val, word_no, half, read_at, read_val, write_at, write_val, writes_val, Done_val, reads_carry, sets_flags, read_if, flags_if, worked, two_val, one_reads_carry, one_sets_flags, one_val, set_flags_by, given_val, after_val, into_register_val, written_val, clears, clears_flags, cleared_core, cleared_if, carry_val, one_done_val, does_val}
+use Rattle.flow_rule.specs.Values.{over_one, blurred, val, put_val}
+use Rattle.flow_rule.specs.Does.{place_val, stepped_val, lowered_val, reach_if, one_reach, plan_val, word_no, half, read_at, read_val, write_at, writes_val, Done_val, reads_carry, sets_flags, read_if, flags_if, worked, two_val, one_reads_carry, one_sets_flags, one_val, set_flags_by, given_val, after_val, into_register_val, written_val, clears, clears_flags, cleared_core, cleared_if, carry_val, one_done_val, does_val}
 use Rattle.flow_rule.specs.Reasons.{reach_reasons, reach_reasons_by}
 use Rattle.flow_rule.proofs.Plans.{none_left, none_right}
 use Rattle.flow_rule.proofs.Absorbing.{AbsorbsVal, AbsorbsEach, AbsorbsOption, over_keeps, over_one_keeps, over_two_keeps, blurred_all_keeps, narrow_keeps, nth_keeps, set_keeps, drop_keeps, put_keeps, past_keeps, EvenPc, put_even, past_even}

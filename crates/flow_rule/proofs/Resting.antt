@@ -1,8 +1,8 @@
 -- The walks along a branch's arms, from a point and from one whose label it absorbs.
-use Rattle.std.proofs.Common.{◌≡◌, ℕ, zero, suc, ◌+◌, ◌-◌, ◌*◌, ◌/◌, ◌%◌, ◌≤◌, List, [], ◌∷◌, ◌++◌, map, refl, sym, ap, ◌∙◌, subst, arith, Bool, true, false, cond, nat_le, nat_lt, ◌==◌, ◌&&◌, ◌||◌, not, Option, Some, None, ℤ}
+use Rattle.std.proofs.Common.{◌≡◌, ℕ, zero, suc, ◌+◌, ◌*◌, ◌%◌, ◌≤◌, List, [], ◌∷◌, ◌++◌, map, refl, sym, ap, ◌∙◌, subst, arith, Bool, true, false, cond, nat_lt, ◌==◌, ◌&&◌, ◌||◌, not, Option, Some, None, ℤ}
 use Rattle.std.proofs.lemmas.Bool.Decides.{nat_tests}
 use Rattle.sm_words.specs.Words.{nth, kept, add16, word_at}
-use Rattle.insn_decode.specs.Code.{insn_of, length_of}
+use Rattle.insn_decode.specs.Code.{insn_of}
 use Rattle.sm_words.specs.declared.width.Width.{Width}
 use Rattle.sm_words.specs.declared.width.Width.TheVariants.{Word}
 use Rattle.insn_decode.specs.declared.insn.TwoOp.{TwoOp}
@@ -31,14 +31,14 @@ use Rattle.flow_rule.specs.Reasons.{because_if, reach_reasons}
 use Rattle.flow_rule.specs.Going.{goes_in, goes_by, goes, both, also}
 use Rattle.flow_rule.specs.Returns.{Turn, turn_of, but_last, last_is}
 use Rattle.flow_rule.specs.Steps.{goes_unless, step_plain, step_jump, step_insn, step_of}
-use Rattle.flow_rule.specs.Stub.{word_of, word_number, is_shut, is_open, shut_reasons, shut_if, step_entries, step_stub, has_stub}
+use Rattle.flow_rule.specs.Stub.{word_number, is_open, shut_reasons, shut_if, step_entries, step_stub, has_stub}
 use Rattle.flow_rule.specs.Verdict.{flow_step}
-use Rattle.flow_rule.specs.Arms.{Walk, ended, met_regs, written_words, met_words, walked, walk_past, walk_on, walk, arm_start, first_walk, second_walk, step_arm}
+use Rattle.flow_rule.specs.Arms.{Walk, ended, met_regs, written_words, met_words, walked, walk_past, walk_on, walk, first_walk, second_walk, step_arm}
 use Rattle.flow_rule.specs.Absorbs.{Absorbs}
 use Rattle.flow_rule.proofs.Plans.{none_left, none_right, none_if}
-use Rattle.flow_rule.proofs.Stub.{StubFacts, stub_facts}
+use Rattle.flow_rule.proofs.Stub.{stub_facts}
 use Rattle.flow_rule.proofs.Absorbing.{AbsorbsVal, AbsorbsEach, of_joins, nth_keeps, past_keeps, EvenPc}
-use Rattle.flow_rule.proofs.AbsorbingDone.{same_plan, reads_keep, writes_keep, Kept, does_keeps}
+use Rattle.flow_rule.proofs.AbsorbingDone.{same_plan, reads_keep, writes_keep, does_keeps}
 
 abbrev point : ℕ → List ℕ → Label → Point
 point a returns label = record { pair = record { addr = a; returns = returns }; label = label }
@@ -312,9 +312,9 @@ module _ (m : Module) (text : List ℕ) where
       let inn = inside (holds m.text arm.join) (none_if _ pc ArmInsn arm.join (none_left _ _ n5)) in
       let k = does_keeps insn pc top.core low.core [] [] o.core tt in (
         walk_same S alike pc arm.join inn (suc arm.join) _ _
-        (record { addr = refl; even = kept_even (add16 pc 2); over = record { core = past_keeps insn pc top.core low.core o.core; words = o.words } }) (none_right (because_if (not (holds m.text arm.join)) pc ArmInsn arm.join) _ n5),
+            (record { addr = refl; even = kept_even (add16 pc 2); over = record { core = past_keeps insn pc top.core low.core o.core; words = o.words } }) (none_right (because_if (not (holds m.text arm.join)) pc ArmInsn arm.join) _ n5),
         walk_same S alike pc arm.join inn (suc arm.join) _ _
-        (record { addr = refl; even = kept_even target; over = record { core = k.core_kept; words = o.words } }) (none_right (because_if (not (holds m.text arm.join)) pc ArmInsn arm.join ++ (first_walk S m text insn arm (point pc r top)).reasons) _ n3),
+            (record { addr = refl; even = kept_even target; over = record { core = k.core_kept; words = o.words } }) (none_right (because_if (not (holds m.text arm.join)) pc ArmInsn arm.join ++ (first_walk S m text insn arm (point pc r top)).reasons) _ n3),
       )
     where
       inside : (b : Bool) → not b ≡ false → b ≡ true
