@@ -69,26 +69,32 @@ not_secret Away Secret e p = absurd p
 not_secret Public Secret e p = absurd p
 not_secret Secret Secret e p = e
 
-over_public : (f : ℕ → ℕ → ℕ → ℕ) (u v w : Val) → is_secret u ≡ false → is_secret v ≡ false → is_secret w ≡ false → AbsorbsVal Public (over f u v w)
+over_public : (f : ℕ → ℕ → ℕ → ℕ) (u v w : Val) → is_secret u ≡ false → is_secret v ≡ false → is_secret w ≡ false →
+    AbsorbsVal Public (over f u v w)
 over_public f Secret v w p q r = absurd cc
 over_public f u Secret w p q r = absurd cc
 over_public f u v Secret p q r = absurd cc
 over_public f (Known a) (Known b) (Known c) p q r = tt
 over_public f u v w p q r = tt
 
-pub over_keeps : (f : ℕ → ℕ → ℕ → ℕ) (t u s t' u' s' : Val) → AbsorbsVal t t' → AbsorbsVal u u' → AbsorbsVal s s' → AbsorbsVal (over f t u s) (over f t' u' s')
+pub over_keeps : (f : ℕ → ℕ → ℕ → ℕ) (t u s t' u' s' : Val) → AbsorbsVal t t' → AbsorbsVal u u' → AbsorbsVal s s' →
+    AbsorbsVal (over f t u s) (over f t' u' s')
 over_keeps f Secret u s t' u' s' p q r = tt
 over_keeps f t Secret s t' u' s' p q r = tt
 over_keeps f t u Secret t' u' s' p q r = tt
 over_keeps f (Known a) (Known b) (Known c) t' u' s' p q r =
-    let e : over f t' u' s' ≡ Known (f a b c) = ap (λ i. over f i u' s') (known_of a t' p) ∙ ap (λ i. over f (Known a) i s') (known_of b u' q) ∙ ap (λ i. over f (Known a) (Known b) i) (known_of c s' r) in
+    let e : over f t' u' s' ≡ Known (f a b c) =
+    ap (λ i. over f i u' s') (known_of a t' p) ∙ ap (λ i. over f (Known a) i s') (known_of b u' q)
+    ∙ ap (λ i. over f (Known a) (Known b) i) (known_of c s' r) in
     subst (λ i. AbsorbsVal (Known (f a b c)) i) (sym e) refl
-over_keeps f t u s t' u' s' p q r = over_public f t' u' s' (not_secret t t' refl p) (not_secret u u' refl q) (not_secret s s' refl r)
+over_keeps f t u s t' u' s' p q r =
+    over_public f t' u' s' (not_secret t t' refl p) (not_secret u u' refl q) (not_secret s s' refl r)
 
 pub over_one_keeps : (f : ℕ → ℕ) (t v : Val) → AbsorbsVal t v → AbsorbsVal (over_one f t) (over_one f v)
 over_one_keeps f t v p = over_keeps (λ x y z. f x) t (Known 0) (Known 0) v (Known 0) (Known 0) p refl refl
 
-pub over_two_keeps : (f : ℕ → ℕ → ℕ) (t u t' u' : Val) → AbsorbsVal t t' → AbsorbsVal u u' → AbsorbsVal (over_two f t u) (over_two f t' u')
+pub over_two_keeps : (f : ℕ → ℕ → ℕ) (t u t' u' : Val) → AbsorbsVal t t' → AbsorbsVal u u' →
+    AbsorbsVal (over_two f t u) (over_two f t' u')
 over_two_keeps f t u t' u' p q = over_keeps (λ x y z. f x y) t u (Known 0) t' u' (Known 0) p q refl
 
 blurred_keeps : (t v : Val) → AbsorbsVal t v → AbsorbsVal (blurred t) (blurred v)
@@ -98,7 +104,8 @@ blurred_keeps Away Secret p = absurd p
 blurred_keeps Public Secret p = absurd p
 blurred_keeps t v p = tt
 
-pub blurred_all_keeps : (t u s t' u' s' : Val) → AbsorbsVal t t' → AbsorbsVal u u' → AbsorbsVal s s' → AbsorbsVal (blurred_all t u s) (blurred_all t' u' s')
+pub blurred_all_keeps : (t u s t' u' s' : Val) → AbsorbsVal t t' → AbsorbsVal u u' → AbsorbsVal s s' →
+    AbsorbsVal (blurred_all t u s) (blurred_all t' u' s')
 blurred_all_keeps t u s t' u' s' p q r = blurred_keeps _ _ (over_keeps (λ x y z. 0) t u s t' u' s' p q r)
 
 on_known_keeps : (f : ℕ → ℕ) (t v : Val) → AbsorbsVal t v → AbsorbsVal (on_known f t) (on_known f v)
@@ -121,7 +128,8 @@ narrow_keeps Byte t v p = over_one_keeps (low Byte) t v p
 kept_keeps : (n : ℕ) (t v : Val) → AbsorbsVal t v → AbsorbsVal (kept_val n t) (kept_val n v)
 kept_keeps n t v p = by (n == 2) (n == 3)
   where
-    by : (c d : Bool) → AbsorbsVal (cond c (blurred t) (cond d (Known 0) (on_known (kept n) t))) (cond c (blurred v) (cond d (Known 0) (on_known (kept n) v)))
+    by : (c d : Bool) → AbsorbsVal (cond c (blurred t) (cond d (Known 0) (on_known (kept n) t)))
+        (cond c (blurred v) (cond d (Known 0) (on_known (kept n) v)))
     by true d = blurred_keeps t v p
     by false true = refl
     by false false = on_known_keeps (kept n) t v p
@@ -133,7 +141,8 @@ nth_keeps (t ∷ ts) [] n p = absurd p
 nth_keeps (t ∷ ts) (v ∷ vs) zero p = p.0
 nth_keeps (t ∷ ts) (v ∷ vs) (suc n) p = nth_keeps ts vs n p.1
 
-pub set_keeps : (ts vs : List Val) (n : ℕ) (t v : Val) → AbsorbsEach ts vs → AbsorbsVal t v → AbsorbsEach (set ts n t) (set vs n v)
+pub set_keeps : (ts vs : List Val) (n : ℕ) (t v : Val) → AbsorbsEach ts vs → AbsorbsVal t v →
+    AbsorbsEach (set ts n t) (set vs n v)
 set_keeps [] vs n t v p q = tt
 set_keeps (u ∷ ts) [] n t v p q = absurd p
 set_keeps (u ∷ ts) (w ∷ vs) zero t v p q = (q, p.1)
@@ -144,11 +153,14 @@ drop_keeps [] vs p = tt
 drop_keeps (t ∷ ts) [] p = absurd p
 drop_keeps (t ∷ ts) (v ∷ vs) p = p.1
 
-pub put_keeps : (ts vs : List Val) (n : ℕ) (t v : Val) → AbsorbsEach ts vs → AbsorbsVal t v → AbsorbsEach (put_val ts n t) (put_val vs n v)
+pub put_keeps : (ts vs : List Val) (n : ℕ) (t v : Val) → AbsorbsEach ts vs → AbsorbsVal t v →
+    AbsorbsEach (put_val ts n t) (put_val vs n v)
 put_keeps ts vs n t v p q = set_keeps ts vs n (kept_val n t) (kept_val n v) p (kept_keeps n t v q)
 
-pub past_keeps : (insn : Insn) (pc : ℕ) (ts vs : List Val) → AbsorbsEach ts vs → AbsorbsEach (past_val insn pc ts) (past_val insn pc vs)
-past_keeps insn pc ts vs p = put_keeps ts vs 0 (Known (add16 pc (2 * length_of insn))) (Known (add16 pc (2 * length_of insn))) p refl
+pub past_keeps : (insn : Insn) (pc : ℕ) (ts vs : List Val) → AbsorbsEach ts vs →
+    AbsorbsEach (past_val insn pc ts) (past_val insn pc vs)
+past_keeps insn pc ts vs p =
+    put_keeps ts vs 0 (Known (add16 pc (2 * length_of insn))) (Known (add16 pc (2 * length_of insn))) p refl
 
 -- ---- PC, where it is known, is even
 abbrev pub EvenPc : List Val → Type 0

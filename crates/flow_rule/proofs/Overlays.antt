@@ -7,7 +7,8 @@ use Rattle.flow_rule.specs.Values.{kept_val, put_val}
 use Rattle.flow_rule.specs.Arms.{blot, blot_core}
 use Rattle.flow_rule.specs.Absorbs.{laid, overlay}
 
-over_set : (b c : List Val) (n : ℕ) (v : Val) → ((x : Val) → laid v x ≡ v) → overlay (set b n v) c ≡ set (overlay b c) n v
+over_set : (b c : List Val) (n : ℕ) (v : Val) → ((x : Val) → laid v x ≡ v) →
+    overlay (set b n v) c ≡ set (overlay b c) n v
 over_set [] c n v h = refl
 over_set (x ∷ b) [] zero v h = refl
 over_set (x ∷ b) [] (suc n) v h = refl
@@ -25,7 +26,8 @@ never_public n x = by (n == 2) (n == 3)
 
 over_core : (ns : List ℕ) (b c : List Val) → overlay (blot_core ns b) c ≡ blot_core ns (overlay b c)
 over_core [] b c = refl
-over_core (n ∷ ns) b c = over_core ns (put_val b n Secret) c ∙ ap (blot_core ns) (over_set b c n (kept_val n Secret) (never_public n))
+over_core (n ∷ ns) b c = over_core ns (put_val b n Secret) c
+    ∙ ap (blot_core ns) (over_set b c n (kept_val n Secret) (never_public n))
 
 over_words : (ns : List ℕ) (b c : List Val) → overlay (blot ns b) c ≡ blot ns (overlay b c)
 over_words [] b c = refl
@@ -37,8 +39,10 @@ blank zero (x ∷ c) e = absurd (omega arith)
 blank (suc n) [] e = absurd (omega arith)
 blank (suc n) (x ∷ c) e = ap (λ i. x ∷ i) (blank n c (omega arith))
 
-pub overlay_core : (ns : List ℕ) (core : List Val) → length core ≡ 16 → overlay (blot_core ns (replicate 16 Public)) core ≡ blot_core ns core
+pub overlay_core : (ns : List ℕ) (core : List Val) → length core ≡ 16 →
+    overlay (blot_core ns (replicate 16 Public)) core ≡ blot_core ns core
 overlay_core ns core e = over_core ns (replicate 16 Public) core ∙ ap (blot_core ns) (blank 16 core e)
 
-pub overlay_words : (ns : List ℕ) (words : List Val) → length words ≡ 256 → overlay (blot ns (replicate 256 Public)) words ≡ blot ns words
+pub overlay_words : (ns : List ℕ) (words : List Val) → length words ≡ 256 →
+    overlay (blot ns (replicate 256 Public)) words ≡ blot ns words
 overlay_words ns words e = over_words ns (replicate 256 Public) words ∙ ap (blot ns) (blank 256 words e)

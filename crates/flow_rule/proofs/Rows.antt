@@ -1,5 +1,5 @@
 -- Worked rows, by computation.
-use Rattle.std.proofs.Common.{◌≡◌, ℕ, ◌%◌, ◌/◌, List, [], ◌∷◌, ◌++◌, refl, length, ℤ, pos}
+use Rattle.std.proofs.Common.{◌≡◌, ℕ, ◌%◌, ◌/◌, List, [], ◌∷◌, ◌++◌, refl, length, pos}
 use Rattle.std.specs.Prelude.{replicate}
 use Rattle.insn_decode.specs.Code.{insn_of}
 use Rattle.insn_decode.specs.declared.insn.Insn.TheVariants.{Jump}
@@ -116,8 +116,11 @@ unfolding branch_text bytes_of
 branch_told x =
     let m = module_of 0x0300 0x0310 0x0400 0x0402 in
     let text = bytes_of branch_text in
-    let arm : Arm = record { branch = 0x0300; join = 0x030e; cycles = 6 } in
-    (first_walk (flow_step m text) m text (Jump 1 (pos 3)) arm x, second_walk (flow_step m text) m text (Jump 1 (pos 3)) 0x0308 arm x)
+    let arm : Arm = record { branch = 0x0300; join = 0x030e; cycles = 6 } in (
+      first_walk (flow_step m text) m text (Jump 1 (pos 3)) arm x,
+      second_walk (flow_step m text) m text
+          (Jump 1 (pos 3)) 0x0308 arm x,
+    )
 
 arm_writes : Walk
 arm_writes = record { reasons = []; cycles = 6; regs = []; words = 0 ∷ [] }

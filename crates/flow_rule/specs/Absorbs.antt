@@ -19,9 +19,11 @@ pub record Absorbs (top low : Label) : Type 0 where
 -- where a branch has no reason under a label, its arms tell the same under each label that this one absorbs
 abbrev pub ArmsRest : Type 0
 ArmsRest = (m : Module) (text : List ℕ) (insn : Insn) (target : ℕ) (arm : Arm) (top x : Point) → m.text.start % 2 ≡ 0 →
-    x.pair.addr ≡ top.pair.addr → Absorbs top.label x.label → (step_arm (flow_step m text) m text insn target arm top).reasons ≡ [] →
-    (first_walk (flow_step m text) m text insn arm x ≡ first_walk (flow_step m text) m text insn arm top)
-    × (second_walk (flow_step m text) m text insn target arm x ≡ second_walk (flow_step m text) m text insn target arm top)
+    x.pair.addr ≡ top.pair.addr → Absorbs top.label x.label →
+    let step = flow_step m text in
+    (step_arm step m text insn target arm top).reasons ≡ [] →
+    (first_walk step m text insn arm x ≡ first_walk step m text insn arm top)
+    × (second_walk step m text insn target arm x ≡ second_walk step m text insn target arm top)
 
 -- through a Public of the first value the second is seen
 abbrev pub laid : Val → Val → Val
