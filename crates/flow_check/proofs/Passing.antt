@@ -14,8 +14,8 @@ use Rattle.flow_rule.specs.Values.{join, join_each}
 use Rattle.flow_rule.specs.Reasons.{because_if}
 use Rattle.flow_rule.specs.Rounds.{Found, Point, Step, given_by}
 use Rattle.flow_rule.specs.Verdict.{flow_step}
-use Rattle.flow_rule.specs.Arms.{Walk, blot, blot_core}
-use Rattle.flow_check.specs.Absorbs.{Absorbs, ArmsRest, laid, overlay, first_walk, second_walk}
+use Rattle.flow_rule.specs.Arms.{Walk, first_walk, second_walk, blot, blot_core}
+use Rattle.flow_rule.specs.Absorbs.{Absorbs, ArmsRest, laid, overlay}
 use Rattle.flow_check.specs.declared.arms.Crossing.{Crossing}
 use Rattle.flow_check.specs.declared.passages.Answer.TheVariants.{Open, Shut}
 use Rattle.flow_check.specs.declared.passages.Passage.{Passage}
@@ -25,7 +25,7 @@ use Rattle.flow_check.specs.declared.returns.Returns.{Returns}
 use Rattle.flow_check.specs.Causes.{noted}
 use Rattle.flow_check.specs.Pairs.{list_of, point_of, points_at, addrs_of}
 use Rattle.flow_check.proofs.Giving.{none_found}
-use Rattle.flow_check.proofs.Overlays.{overlay_core, overlay_words}
+use Rattle.flow_rule.proofs.Overlays.{overlay_core, overlay_words}
 
 -- joining a value to itself changes nothing
 join_own : (v : Val) → join v v ≡ v

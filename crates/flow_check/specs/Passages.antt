@@ -4,9 +4,8 @@ use Rattle.mod_layout.specs.declared.Module.{Module}
 use Rattle.flow_rule.specs.declared.Label.{Label}
 use Rattle.flow_rule.specs.declared.Val.TheVariants.{Public}
 use Rattle.flow_rule.specs.Rounds.{Point, Step}
-use Rattle.flow_rule.specs.Arms.{blot, blot_core, step_arm}
+use Rattle.flow_rule.specs.Arms.{blot, blot_core, first_walk, second_walk, step_arm}
 use Rattle.flow_rule.specs.Verdict.{flow_step}
-use Rattle.flow_check.specs.Absorbs.{first_walk, second_walk}
 use Rattle.flow_check.specs.declared.arms.Crossing.{Crossing}
 use Rattle.flow_check.specs.declared.passages.Answer.{Answer}
 use Rattle.flow_check.specs.declared.passages.Answer.TheVariants.{Open, Shut}

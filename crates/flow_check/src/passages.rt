@@ -3,7 +3,7 @@
 
 ghost use Rattle.std.specs.Prelude.{◌≡◌, ◌≢◌, ◌≤◌, ◌<◌, ◌%◌, ◌++◌, suc, take, drop, ℕ, List, IfSome, IfOk, Some, None, true, slice_get, length, All, []};
 ghost use Rattle.mod_layout.specs.declared.Module.{Module};
-ghost use Rattle.flow_check.specs.Absorbs.{Absorbs, ArmsRest, laid, overlay};
+ghost use Rattle.flow_rule.specs.Absorbs.{Absorbs, laid, overlay};
 ghost use Rattle.flow_check.specs.Pairs.{IsStub};
 ghost use Rattle.flow_check.specs.Passages.{crossing_step, blotted, blank, branch_from, OpensTo, IsPassage};
 ghost use Rattle.flow_check.specs.declared.passages.Outcome.{Outcome};
@@ -14,7 +14,7 @@ use crate::returns::Returns;
 use crate::rounds::join_label;
 use crate::step::Cause;
 use arm_balance::Arm;
-use flow_rule::{Label, Val};
+use flow_rule::{Label, Val, arms_rest};
 use insn_decode::Insn;
 use mod_layout::Module;
 use std::alloc::{AllocError, Global};
@@ -54,12 +54,6 @@ pub struct Passages {
     /// Where the newest passage of the branches with this number is.
     newest: [usize; 256],
 }
-
-// TEMPORARY
-fn arms_rest()
-    requires { ⊥ }
-    ensures rest { ArmsRest }
-{}
 
 /// A label in which nothing is written.
 fn blank() -> Label

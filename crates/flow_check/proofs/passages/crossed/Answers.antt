@@ -1,11 +1,8 @@
 use Rattle.std.proofs.Common.{◌∙◌, sym, refl, subst, ◌≡◌}
 use Rattle.flow_check.specs.Passages.{IsPassage}
-use Rattle.flow_check.specs.Absorbs.{Absorbs}
+use Rattle.flow_rule.specs.Absorbs.{Absorbs}
 use Rattle.flow_check.proofs.Passing.{opens, shuts, absorbs_own}
 use Rattle.flow_check.proofs.passages.crossed.Goals as goal
-
-pub arms_rest-requires : goal.arms_rest-requires
-arms_rest-requires c = ?
 
 pub returns-in-Open-clause-open : goal.returns-in-Open-clause-open
 returns-in-Open-clause-open c = λ _ stub returns.

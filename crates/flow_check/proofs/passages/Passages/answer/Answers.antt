@@ -3,9 +3,6 @@ use Rattle.flow_check.specs.Passages.{IsPassage}
 use Rattle.flow_check.proofs.Passing.{opens, shuts, kept_there}
 use Rattle.flow_check.proofs.passages.Passages.answer.Goals as goal
 
-pub arms_rest-requires : goal.arms_rest-requires
-arms_rest-requires c = ?
-
 pub returns-then-absorbs-clause-open : goal.returns-then-absorbs-clause-open
 returns-then-absorbs-clause-open c = λ _ m text returns even all.
     opens c.arms_rest.ensures.rest m text even c.in-Some.passage c.in-Open.told c.in-Open.is (kept_there m text c.args.self.now.list.items c.args.place c.in-Some.passage c.in-Some.ensures.there all)
