@@ -8,7 +8,7 @@ ghost use Rattle.lone_run.specs.Ends.{answer_of, data_left};
 ghost use Rattle.lone_run.specs.Jobs.{call_of, between};
 
 use crate::acting::do_insn;
-use crate::job::{Job, holds};
+use crate::job::Job;
 use crate::next::next_insn;
 use crate::{Entry, Outcome};
 use mod_layout::Module;
@@ -65,7 +65,7 @@ fn run(job: &Job<'_>, ram: &mut [u8], entry: Core, limit: u64) -> Outcome
     let mut core = entry;
     let mut cycles: u64 = 0;
     loop {
-        if !holds(job.owner.text, usize::from(core.get(PC))) {
+        if !job.owner.text.holds(usize::from(core.get(PC))) {
             return Outcome::Exit { core, cycles };
         }
         if cycles == limit {
