@@ -5,10 +5,12 @@ use Rattle.std.specs.List.{All, list_all}
 use Rattle.std.specs.Cmp.Lexicographic.{pointwise}
 use Rattle.std.specs.Fmt.{decimal, digits}
 use Rattle.std.specs.Str.{bytes_eq}
+use Rattle.std.proofs.lemmas.Bool.{not-true}
 use Rattle.std.proofs.lemmas.Bool.Decides.{nat_tests}
 use Rattle.std.proofs.lemmas.List.{take_at, drop_at}
 use Rattle.std.proofs.lemmas.List.Elements.{All-cons, All-nil, All-tail}
 use Rattle.std.proofs.lemmas.List.Folds.{list_all-append}
+use Rattle.std.proofs.lemmas.List.Sums.{AllPass-from_list_all}
 use Rattle.std.proofs.lemmas.List.Splits.{slice_split_none, slice_split_at}
 use Rattle.texts.specs.Decimals.{read_decimal}
 use Rattle.texts.specs.Hexadecimals.{hex_digit, hex_byte, hex_word, read_hex_word}
@@ -69,14 +71,7 @@ whole_append : (v w : List ℕ) → IsWhole v → IsWhole w → IsWhole (v ++ w)
 whole_append v w p q = list_all-append (λ b. not (is_space b)) v w ∙ (ap (λ c. c && list_all (λ b. not (is_space b)) w) p ∙ q)
 
 each_whole : (text : List ℕ) → IsWhole text → All (λ b. is_space b ≡ false) text
-each_whole [] h = All-nil (λ b. is_space b ≡ false)
-each_whole (b ∷ text) h =
-    let parts = both (not (is_space b)) (list_all (λ b. not (is_space b)) text) h in
-    All-cons (λ b. is_space b ≡ false) b text (by (is_space b) parts.0) (each_whole text parts.1)
-  where
-    by : (c : Bool) → not c ≡ true → c ≡ false
-    by true e = absurd cc
-    by false e = refl
+each_whole text h k d l = not-true _ (AllPass-from_list_all (λ b. not (is_space b)) text h k d l)
 
 digit_whole : (d : ℕ) → d < 16 → IsWhole (hex_digit d ∷ [])
 digit_whole = sixteen (λ d. IsWhole (hex_digit d ∷ [])) refl refl refl refl refl refl refl refl refl refl refl refl refl refl refl refl
