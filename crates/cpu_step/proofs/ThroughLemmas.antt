@@ -1,6 +1,9 @@
 -- An instruction through a port, operand by operand: what each read and write comes to.
-use Rattle.std.proofs.Common.{◌≡◌, ℕ, ◌*◌, List, [], ◌∷◌, ◌++◌, drop, refl, sym, ap, ◌∙◌, subst, append-nil, if◌then◌else◌, Bool, true, false, ◌||◌, Option, Some, None, is_some}
+use Rattle.std.proofs.Common.{◌≡◌, ℕ, ◌*◌, List, [], ◌∷◌, ◌++◌, drop, refl, sym, ap, ◌∙◌, subst, append-nil, if◌then◌else◌, Bool, true, false, not, ◌||◌, Option, Some, None, is_some}
+use Rattle.std.specs.List.{list_all}
+use Rattle.std.proofs.lemmas.Bool.{not-true}
 use Rattle.std.proofs.lemmas.List.Elements.{All-head, All-tail}
+use Rattle.std.proofs.lemmas.List.Sums.{AllPass-from_list_all}
 use Rattle.std.specs.Prelude.{IsFalse, IfSome}
 use Rattle.sm_words.specs.Sums.{low}
 use Rattle.sm_words.specs.Words.{reg, bit, add16}
@@ -25,6 +28,10 @@ use Rattle.cpu_step.specs.Effect.{given, in_memory, after_given, old_value, two_
 use Rattle.cpu_step.specs.declared.result.Computed.{Computed}
 use Rattle.cpu_step.specs.Through.{AreAligned, Taken, taken, stored_in, freely_through}
 use Rattle.cpu_step.proofs.Forms.{plan_two_form, plan_one_form, two_form, one_form}
+
+-- a test of each
+pub aligned_from : (xs : List Access) → list_all (λ x. not (misaligned x.width x.addr)) xs ≡ true → AreAligned xs
+aligned_from xs e k d l = not-true _ (AllPass-from_list_all (λ x. not (misaligned x.width x.addr)) xs e k d l)
 
 -- ---- operands
 

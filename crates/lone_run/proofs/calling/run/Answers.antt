@@ -20,14 +20,14 @@ told j start limit o ram e left = (sym (ap answer_of e), sym (ap (λ o. data_lef
 pub returns-then-not-holds : goal.returns-then-not-holds
 returns-then-not-holds c =
     let wide : c.from.result ≡ c.get.result = omega arith in
-    let home = is_home _ c.loop-core.core _ _ _ _ c.holds.ensures wide c.get.ensures.word c.if-not-holds.true in
+    let home = is_home _ c.loop-core.core _ _ _ _ c.holds.ensures.exact wide c.get.ensures.word c.if-not-holds.true in
     let ends = told (call_of c.args.job.now) (between c.args.entry c.args.ram.now) c.args.limit _ _ (at_exit c.loop-core.invariant home) refl in
     record { outcome = ends.0; ram = ends.1 }
 
 pub returns-then-cycles-limit : goal.returns-then-cycles-limit
 returns-then-cycles-limit c =
     let wide : c.from.result ≡ c.get.result = omega arith in
-    let home = is_home _ c.loop-core.core _ _ _ _ c.holds.ensures wide c.get.ensures.word c.if-not-holds.false in
+    let home = is_home _ c.loop-core.core _ _ _ _ c.holds.ensures.exact wide c.get.ensures.word c.if-not-holds.false in
     let at = c.loop-core.invariant in
     let last = c.if-cycles-limit.true in
     let ends = told (call_of c.args.job.now) (between c.args.entry c.args.ram.now) c.args.limit _ _ (at_limit at home last) (data_limit at last) in
@@ -36,7 +36,7 @@ returns-then-cycles-limit c =
 pub returns-in-None : goal.returns-in-None
 returns-in-None c =
     let wide : c.from.result ≡ c.get.result = omega arith in
-    let home = is_home _ c.loop-core.core _ _ _ _ c.holds.ensures wide c.get.ensures.word c.if-not-holds.false in
+    let home = is_home _ c.loop-core.core _ _ _ _ c.holds.ensures.exact wide c.get.ensures.word c.if-not-holds.false in
     let none = sym (c.next_insn.ensures.exact 0 false) ∙ c.in-None.is in
     let ends = told (call_of c.args.job.now) (between c.args.entry c.args.ram.now) c.args.limit _ _ (at_broken c.loop-core.invariant home none c.if-cycles-limit.false) refl in
     record { outcome = ends.0; ram = ends.1 }
@@ -44,7 +44,7 @@ returns-in-None c =
 pub returns-then-from-limit : goal.returns-then-from-limit
 returns-then-from-limit c =
     let wide : c.from.result ≡ c.get.result = omega arith in
-    let home = is_home _ c.loop-core.core _ _ _ _ c.holds.ensures wide c.get.ensures.word c.if-not-holds.false in
+    let home = is_home _ c.loop-core.core _ _ _ _ c.holds.ensures.exact wide c.get.ensures.word c.if-not-holds.false in
     let found = sym (c.next_insn.ensures.exact 0 false) ∙ c.in-Some.is in
     let done = c.do_insn-lasts.ensures in
     let more = c.if-cycles-limit.false in
@@ -57,7 +57,7 @@ returns-then-from-limit c =
 pub returns-then-lasts : goal.returns-then-lasts
 returns-then-lasts c =
     let wide : c.from.result ≡ c.get.result = omega arith in
-    let home = is_home _ c.loop-core.core _ _ _ _ c.holds.ensures wide c.get.ensures.word c.if-not-holds.false in
+    let home = is_home _ c.loop-core.core _ _ _ _ c.holds.ensures.exact wide c.get.ensures.word c.if-not-holds.false in
     let found = sym (c.next_insn.ensures.exact 0 false) ∙ c.in-Some.is in
     let done = c.do_insn-lasts.ensures in
     let cycles : c.from-cycles.result ≡ c.do_insn-lasts.result.cycles = omega arith in
@@ -70,7 +70,7 @@ returns-then-lasts c =
 pub loop-core-preserved : goal.loop-core-preserved
 loop-core-preserved c =
     let wide : c.from.result ≡ c.get.result = omega arith in
-    let home = is_home _ c.loop-core.core _ _ _ _ c.holds.ensures wide c.get.ensures.word c.if-not-holds.false in
+    let home = is_home _ c.loop-core.core _ _ _ _ c.holds.ensures.exact wide c.get.ensures.word c.if-not-holds.false in
     let found = sym (c.next_insn.ensures.exact 0 false) ∙ c.in-Some.is in
     let done = c.do_insn-lasts.ensures in
     let cycles : c.from-cycles.result ≡ c.do_insn-lasts.result.cycles = omega arith in
