@@ -14,18 +14,10 @@ plain_register r p low = let a : r ≢ 0 = p.not_pc in let b : r ≢ 2 = p.not_s
 
 source_coded : {m r x : ℕ} {o : Operand} → Source m r x o → r < 16 → is_source o ≡ true
 source_coded (register r x ne) low = let n : r ≢ 3 = ne in grind (arith, nat_tests)
-source_coded (symbolic x) low = refl
-source_coded (absolute x) low = refl
 source_coded (indexed r x p) low = plain_register r p low
 source_coded (indirect r x p) low = plain_register r p low
 source_coded (increment r x p) low = plain_register r p low
-source_coded (immediate x) low = refl
-source_coded (four x) low = refl
-source_coded (eight x) low = refl
-source_coded (nought x) low = refl
-source_coded (one x) low = refl
-source_coded (two x) low = refl
-source_coded (all_ones x) low = refl
+source_coded _ low = refl
 
 dest_coded : {m r x : ℕ} {o : Operand} → Destination m r x o → r < 16 → is_dest o ≡ true
 dest_coded (to_register r x) low = grind (arith, nat_tests)

@@ -110,13 +110,9 @@ source_shown (Increment r) e h small = plain_low r e
 
 dest_shown : (o : Operand) → is_dest o ≡ true → is_placeless_operand o ≡ true → AreWords (extension o) → IsShown o
 dest_shown (Reg r) e h small = grind (arith, nat_tests)
-dest_shown (Const c) e h small = absurd cc
-dest_shown (Imm x) e h small = absurd cc
 dest_shown (Indexed r x) e h small = (plain_low r e, small 0 0 (lit< tt))
-dest_shown (Symbolic x) e h small = absurd cc
 dest_shown (Absolute x) e h small = small 0 0 (lit< tt)
-dest_shown (Indirect r) e h small = absurd cc
-dest_shown (Increment r) e h small = absurd cc
+dest_shown _ e h small = absurd cc
 
 word_read : (x : ℕ) → x < 65536 → read_hex_word (hex_word x) ≡ Some x
 word_read x small = (words_are_read (hex_word x) x).1 (small, refl)
@@ -184,31 +180,10 @@ record IsTwoName (op : TwoOp) (w : Width) (text : List ℕ) : Type 0 where
   pub width : width_of text ≡ w
   pub op_is : two_op_of (base_of text) ≡ Some op
 
-two_named : (op : TwoOp) (w : Width) → IsTwoName op w (two_name op ++ suffix_of w)
-two_named Mov Byte = record { whole = refl; other = refl; width = refl; op_is = refl }
-two_named Mov Word = record { whole = refl; other = refl; width = refl; op_is = refl }
-two_named Add Byte = record { whole = refl; other = refl; width = refl; op_is = refl }
-two_named Add Word = record { whole = refl; other = refl; width = refl; op_is = refl }
-two_named Addc Byte = record { whole = refl; other = refl; width = refl; op_is = refl }
-two_named Addc Word = record { whole = refl; other = refl; width = refl; op_is = refl }
-two_named Subc Byte = record { whole = refl; other = refl; width = refl; op_is = refl }
-two_named Subc Word = record { whole = refl; other = refl; width = refl; op_is = refl }
-two_named Sub Byte = record { whole = refl; other = refl; width = refl; op_is = refl }
-two_named Sub Word = record { whole = refl; other = refl; width = refl; op_is = refl }
-two_named Cmp Byte = record { whole = refl; other = refl; width = refl; op_is = refl }
-two_named Cmp Word = record { whole = refl; other = refl; width = refl; op_is = refl }
-two_named Dadd Byte = record { whole = refl; other = refl; width = refl; op_is = refl }
-two_named Dadd Word = record { whole = refl; other = refl; width = refl; op_is = refl }
-two_named Bit Byte = record { whole = refl; other = refl; width = refl; op_is = refl }
-two_named Bit Word = record { whole = refl; other = refl; width = refl; op_is = refl }
-two_named Bic Byte = record { whole = refl; other = refl; width = refl; op_is = refl }
-two_named Bic Word = record { whole = refl; other = refl; width = refl; op_is = refl }
-two_named Bis Byte = record { whole = refl; other = refl; width = refl; op_is = refl }
-two_named Bis Word = record { whole = refl; other = refl; width = refl; op_is = refl }
-two_named Xor Byte = record { whole = refl; other = refl; width = refl; op_is = refl }
-two_named Xor Word = record { whole = refl; other = refl; width = refl; op_is = refl }
-two_named And Byte = record { whole = refl; other = refl; width = refl; op_is = refl }
-two_named And Word = record { whole = refl; other = refl; width = refl; op_is = refl }
+two_named : (w : Width) (op : TwoOp) → IsTwoName op w (two_name op ++ suffix_of w)
+two_named Byte Mov = record { whole = refl; other = refl; width = refl; op_is = refl }
+two_named Word Mov = record { whole = refl; other = refl; width = refl; op_is = refl }
+two_named _ _ = record { whole = refl; other = refl; width = refl; op_is = refl }
 
 record IsOneName (op : OneOp) (w : Width) (text : List ℕ) : Type 0 where
   pub whole : IsWhole text
@@ -221,19 +196,10 @@ record IsOneName (op : OneOp) (w : Width) (text : List ℕ) : Type 0 where
   pub width : width_of text ≡ w
   pub op_is : one_op_of (base_of text) ≡ Some op
 
-one_named : (op : OneOp) (w : Width) → IsOneName op w (one_name op ++ suffix_of w)
-one_named Rrc Byte = record { whole = refl; no_label = refl; no_global = refl; no_word = refl; no_space = refl; no_unit = refl; no_jump = refl; width = refl; op_is = refl }
-one_named Rrc Word = record { whole = refl; no_label = refl; no_global = refl; no_word = refl; no_space = refl; no_unit = refl; no_jump = refl; width = refl; op_is = refl }
-one_named Swpb Byte = record { whole = refl; no_label = refl; no_global = refl; no_word = refl; no_space = refl; no_unit = refl; no_jump = refl; width = refl; op_is = refl }
-one_named Swpb Word = record { whole = refl; no_label = refl; no_global = refl; no_word = refl; no_space = refl; no_unit = refl; no_jump = refl; width = refl; op_is = refl }
-one_named Rra Byte = record { whole = refl; no_label = refl; no_global = refl; no_word = refl; no_space = refl; no_unit = refl; no_jump = refl; width = refl; op_is = refl }
-one_named Rra Word = record { whole = refl; no_label = refl; no_global = refl; no_word = refl; no_space = refl; no_unit = refl; no_jump = refl; width = refl; op_is = refl }
-one_named Sxt Byte = record { whole = refl; no_label = refl; no_global = refl; no_word = refl; no_space = refl; no_unit = refl; no_jump = refl; width = refl; op_is = refl }
-one_named Sxt Word = record { whole = refl; no_label = refl; no_global = refl; no_word = refl; no_space = refl; no_unit = refl; no_jump = refl; width = refl; op_is = refl }
-one_named Push Byte = record { whole = refl; no_label = refl; no_global = refl; no_word = refl; no_space = refl; no_unit = refl; no_jump = refl; width = refl; op_is = refl }
-one_named Push Word = record { whole = refl; no_label = refl; no_global = refl; no_word = refl; no_space = refl; no_unit = refl; no_jump = refl; width = refl; op_is = refl }
-one_named Call Byte = record { whole = refl; no_label = refl; no_global = refl; no_word = refl; no_space = refl; no_unit = refl; no_jump = refl; width = refl; op_is = refl }
-one_named Call Word = record { whole = refl; no_label = refl; no_global = refl; no_word = refl; no_space = refl; no_unit = refl; no_jump = refl; width = refl; op_is = refl }
+one_named : (w : Width) (op : OneOp) → IsOneName op w (one_name op ++ suffix_of w)
+one_named Byte Rrc = record { whole = refl; no_label = refl; no_global = refl; no_word = refl; no_space = refl; no_unit = refl; no_jump = refl; width = refl; op_is = refl }
+one_named Word Rrc = record { whole = refl; no_label = refl; no_global = refl; no_word = refl; no_space = refl; no_unit = refl; no_jump = refl; width = refl; op_is = refl }
+one_named _ _ = record { whole = refl; no_label = refl; no_global = refl; no_word = refl; no_space = refl; no_unit = refl; no_jump = refl; width = refl; op_is = refl }
 
 -- ---- instructions
 
@@ -278,14 +244,8 @@ one_read op w a name text n p r is =
 
 unit_read : (n : ℕ) → n < 7 → statement_of (codes "unit " ++ decimal n) ≡ Some (Code (UnitOp n) None None)
 unfolding statement_of words read_decimal digits
-unit_read zero l = refl
-unit_read (suc zero) l = refl
-unit_read (suc (suc zero)) l = refl
-unit_read (suc (suc (suc zero))) l = refl
-unit_read (suc (suc (suc (suc zero)))) l = refl
-unit_read (suc (suc (suc (suc (suc zero))))) l = refl
-unit_read (suc (suc (suc (suc (suc (suc zero)))))) l = refl
 unit_read (suc (suc (suc (suc (suc (suc (suc n))))))) l = absurd (omega arith)
+unit_read _ l = refl
 
 words_front : (xs ys : List ℕ) → AreWords (xs ++ ys) → AreWords xs × AreWords ys
 words_front [] ys h = (All-nil (λ word. word < 65536), h)
@@ -304,14 +264,14 @@ insn_read (Two op w s d) at is h small =
     let here = add16 at 2 in
     let there = add16 at (2 + 2 * words_of s) in
     ap statement_of (two_text (two_name op) (suffix_of w) (operand_text s here) (operand_text d there))
-    ∙ two_read op w s d (two_name op ++ suffix_of w) (operand_text s here) (operand_text d there) (two_named op w) (operand_whole s here source) (operand_whole d there dest)
+    ∙ two_read op w s d (two_name op ++ suffix_of w) (operand_text s here) (operand_text d there) (two_named w op) (operand_whole s here source) (operand_whole d there dest)
     (operand_read s here source) (operand_read d there dest) is
 insn_read (One op w a) at is h small =
     let coded = both (is_source a) _ is in
     let source = source_shown a coded.0 h small in
     let here = add16 at 2 in
     ap statement_of (one_text (one_name op) (suffix_of w) (operand_text a here))
-    ∙ one_read op w a (one_name op ++ suffix_of w) (operand_text a here) (one_named op w) (operand_whole a here source) (operand_read a here source) is
+    ∙ one_read op w a (one_name op ++ suffix_of w) (operand_text a here) (one_named w op) (operand_whole a here source) (operand_read a here source) is
 insn_read (Jump c o) at is h small = absurd cc
 insn_read Reti at is h small = refl
 insn_read (UnitOp n) at is h small = unit_read n (let low : n < 7 = grind (arith, nat_tests) in low)

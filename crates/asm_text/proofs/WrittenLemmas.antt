@@ -112,9 +112,7 @@ indexed_some text v e = by (without_end (behind (codes "(r") (drop 4 text))) e
   where
     by_parts : (x r : Option ℕ) → indexed_at x r ≡ Some v → NamedOption v.name
     by_parts (Some x) (Some r) k = subst (λ (y : OperandValue). NamedOption y.name) (some_is (plain (Indexed r x)) v k) tt
-    by_parts (Some x) None k = absurd cc
-    by_parts None (Some r) k = absurd cc
-    by_parts None None k = absurd cc
+    by_parts _ _ k = absurd cc
 
     by : (o : Option (List ℕ)) → indexed_by (take 4 text) o ≡ Some v → NamedOption v.name
     by None k = absurd cc
@@ -146,22 +144,14 @@ one_some w op text s e = by op (operand_of text) refl e
   where
     by : (op : Option OneOp) (o : Option OperandValue) → operand_of text ≡ o → one_coded w op o ≡ Some s → IsWritten s
     by (Some op) (Some a) is k = coded_some (One op w a.operand) a.name None s (operand_some text a is) tt k
-    by (Some op) None is k = absurd cc
-    by None (Some a) is k = absurd cc
-    by None None is k = absurd cc
+    by _ _ is k = absurd cc
 
 two_some : (w : Width) (op : Option TwoOp) (source dest : List ℕ) (s : Statement (List ℕ)) → two_coded w op (operand_of source) (operand_of dest) ≡ Some s → IsWritten s
 two_some w op source dest s e = by op (operand_of source) (operand_of dest) refl refl e
   where
     by : (op : Option TwoOp) (o p : Option OperandValue) → operand_of source ≡ o → operand_of dest ≡ p → two_coded w op o p ≡ Some s → IsWritten s
     by (Some op) (Some a) (Some b) i j k = coded_some (Two op w a.operand b.operand) a.name b.name s (operand_some source a i) (operand_some dest b j) k
-    by (Some op) (Some a) None i j k = absurd cc
-    by (Some op) None (Some b) i j k = absurd cc
-    by (Some op) None None i j k = absurd cc
-    by None (Some a) (Some b) i j k = absurd cc
-    by None (Some a) None i j k = absurd cc
-    by None None (Some b) i j k = absurd cc
-    by None None None i j k = absurd cc
+    by _ _ _ i j k = absurd cc
 
 named_some : (make : List ℕ → Statement (List ℕ)) (text : List ℕ) (s : Statement (List ℕ)) → ((name : List ℕ) → is_name name ≡ true → IsWritten (make name)) → option_map make (name_of text) ≡ Some s → IsWritten s
 named_some make text s fine e = by (name_of text) refl e
@@ -242,9 +232,7 @@ section_some text kind s e = by (name_of text) kind refl e
   where
     by : (o : Option (List ℕ)) (kind : Option SectionKind) → name_of text ≡ o → section_of o kind ≡ Some s → IsWritten s
     by (Some name) (Some kind) is k = subst IsWritten (some_is (Section name kind) s k) (name_some text name is)
-    by (Some name) None is k = absurd cc
-    by None (Some kind) is k = absurd cc
-    by None None is k = absurd cc
+    by _ _ is k = absurd cc
 
 with_two_some : (word first second : List ℕ) (s : Statement (List ℕ)) → with_two word first second ≡ Some s → IsWritten s
 with_two_some word first second s e = by (bytes_eq word (codes "section")) e
