@@ -1,6 +1,7 @@
 -- An instruction that some words mean is one that a line may write, jumps aside.
 use Rattle.std.proofs.Common.{ℕ, ◌≡◌, ◌≢◌, ◌<◌, Bool, true, ◌&&◌, refl, ap, ◌∙◌, arith}
 use Rattle.std.proofs.lemmas.Bool.Decides.{nat_tests}
+use Rattle.std.proofs.lemmas.Bool.{and_from}
 use Rattle.insn_decode.specs.declared.insn.Operand.{Operand}
 use Rattle.insn_decode.specs.declared.insn.Insn.{Insn}
 use Rattle.insn_decode.specs.Code.{IsDecoded}
@@ -25,12 +26,9 @@ dest_coded (to_symbolic x) low = refl
 dest_coded (to_absolute x) low = refl
 dest_coded (to_indexed r x p) low = plain_register r p low
 
-and_true : (a b : Bool) → a ≡ true → b ≡ true → (a && b) ≡ true
-and_true a b e f = ap (λ c. c && b) e ∙ f
-
 means_coded : {w0 w1 w2 n : ℕ} {insn : Insn} → Means w0 w1 w2 insn n → is_placeless insn ≡ true → is_coded insn ≡ true
-means_coded {w0} (format_one op s d c source dest) h = and_true (is_source s) (is_dest d) (source_coded source (omega arith)) (dest_coded dest (omega arith))
-means_coded {w0} (format_two op a c k source fits) h = and_true (is_source a) _ (source_coded source (omega arith)) fits
+means_coded {w0} (format_one op s d c source dest) h = and_from (is_source s) (is_dest d) (source_coded source (omega arith)) (dest_coded dest (omega arith))
+means_coded {w0} (format_two op a c k source fits) h = and_from (is_source a) _ (source_coded source (omega arith)) fits
 means_coded (jump c) h = absurd cc
 means_coded (return c) h = refl
 means_coded (unit n low c) h = grind (arith, nat_tests)

@@ -1,6 +1,7 @@
 -- The words of an instruction mean it.
 use Rattle.std.proofs.Common.{ℕ, ◌≡◌, ◌+◌, ◌*◌, ◌/◌, ◌%◌, ◌<◌, Bool, true, false, not, cond, ◌&&◌, ◌||◌, nat_lt, nat_eq, [], ◌∷◌, ◌++◌, Some, refl, ap, sym, subst, ◌∙◌, arith, get_or}
 use Rattle.std.proofs.lemmas.Bool.Decides.{nat_tests}
+use Rattle.std.proofs.lemmas.Bool.{and_parts}
 use Rattle.sm_words.specs.declared.width.Width.{Width}
 use Rattle.sm_words.specs.declared.width.Width.TheVariants.{Byte, Word as WordWidth}
 use Rattle.insn_decode.specs.declared.insn.TwoOp.{TwoOp}
@@ -54,20 +55,15 @@ few_fields op b m d ho hb hm hd = record {
 
 -- ---- operands
 
-pub both : (a b : Bool) → (a && b) ≡ true → (a ≡ true) × (b ≡ true)
-both true true e = (refl, refl)
-both true false e = absurd cc
-both false b e = absurd cc
-
 pub record IsRegister (r : ℕ) : Type 0 where
   pub low : r < 16
   pub plain : IsPlain r
 
 register_plain : (r : ℕ) → is_plain r ≡ true → IsRegister r
 register_plain r e =
-    let three = both (nat_lt r 16 && not (nat_eq r 0) && not (nat_eq r 2)) (not (nat_eq r 3)) e in
-    let two' = both (nat_lt r 16 && not (nat_eq r 0)) (not (nat_eq r 2)) three.0 in
-    let one' = both (nat_lt r 16) (not (nat_eq r 0)) two'.0 in
+    let three = and_parts (nat_lt r 16 && not (nat_eq r 0) && not (nat_eq r 2)) (not (nat_eq r 3)) e in
+    let two' = and_parts (nat_lt r 16 && not (nat_eq r 0)) (not (nat_eq r 2)) three.0 in
+    let one' = and_parts (nat_lt r 16) (not (nat_eq r 0)) two'.0 in
     let low = one'.0 in
     let n0 = one'.1 in
     let n2 = two'.1 in
@@ -122,7 +118,7 @@ constant_source c x e = by (nat_eq c 0) (nat_eq c 1) (nat_eq c 2) (nat_eq c 4) (
 
 pub source_is : (o : Operand) (other : ℕ) → is_source o ≡ true → Source (source_mode o) (source_register o) (ext_of o other) o
 source_is (Reg r) other e =
-    let two' = both (nat_lt r 16) (not (nat_eq r 3)) e in
+    let two' = and_parts (nat_lt r 16) (not (nat_eq r 3)) e in
     let low = two'.0 in
     let n3 = two'.1 in
     let small : r % 16 ≡ r = let l : r < 16 = grind (arith, nat_tests) in omega arith in
@@ -236,8 +232,8 @@ unit_means n low =
 
 pub coded_means : (insn : Insn) → is_coded insn ≡ true → meaning insn ≡ Some insn
 unfolding first_word
-coded_means (Two op w s d) e = let b = both (is_source s) (is_dest d) e in two_means op w s d b.0 b.1
-coded_means (One op w a) e = let b = both (is_source a) (one_fits op w a) e in one_means op w a b.0 b.1
+coded_means (Two op w s d) e = let b = and_parts (is_source s) (is_dest d) e in two_means op w s d b.0 b.1
+coded_means (One op w a) e = let b = and_parts (is_source a) (one_fits op w a) e in one_means op w a b.0 b.1
 coded_means (Jump c o) e = absurd cc
 coded_means Reti e = (means_insn {w0 = 4864} {w1 = 0} {w2 = 0} (return refl)).0
 coded_means (UnitOp n) e = unit_means n (low n e)

@@ -5,7 +5,7 @@ use Rattle.std.specs.List.{All, list_all}
 use Rattle.std.specs.Cmp.Lexicographic.{pointwise}
 use Rattle.std.specs.Fmt.{decimal, digits}
 use Rattle.std.specs.Str.{bytes_eq}
-use Rattle.std.proofs.lemmas.Bool.{not-true}
+use Rattle.std.proofs.lemmas.Bool.{not-true, and_parts}
 use Rattle.std.proofs.lemmas.Bool.Decides.{nat_tests}
 use Rattle.std.proofs.lemmas.List.{take_at, drop_at}
 use Rattle.std.proofs.lemmas.List.Elements.{All-cons, All-nil, All-tail}
@@ -37,7 +37,7 @@ use Rattle.asm_text.specs.Lines.{width_of, base_of, two_op_of, one_op_of, cond_o
 use Rattle.asm_text.specs.Operands.{before, field_of, of_field, plain, number_by, number_of, indirect_of, indexed_at, indexed_of, operand_of}
 use Rattle.asm_text.specs.Parts.{is_name}
 use Rattle.asm_text.proofs.CodedLemmas.{decoded_coded}
-use Rattle.asm_text.proofs.MeaningLemmas.{both, coded_means}
+use Rattle.asm_text.proofs.MeaningLemmas.{coded_means}
 
 -- a fact of each of the sixteen registers, or digits
 sixteen : (P : ℕ → Type 0) → P 0 → P 1 → P 2 → P 3 → P 4 → P 5 → P 6 → P 7 → P 8 → P 9 → P 10 → P 11 → P 12 → P 13 → P 14 → P 15 → (r : ℕ) → r < 16 → P r
@@ -96,10 +96,10 @@ IsShown (Indirect r) = r < 16
 IsShown (Increment r) = r < 16
 
 plain_low : (r : ℕ) → is_plain r ≡ true → r < 16
-plain_low r e = let low = (both (nat_lt r 16) _ (both _ _ (both _ _ e).0).0).0 in grind (arith, nat_tests)
+plain_low r e = let low = (and_parts (nat_lt r 16) _ (and_parts _ _ (and_parts _ _ e).0).0).0 in grind (arith, nat_tests)
 
 source_shown : (o : Operand) → is_source o ≡ true → is_placeless_operand o ≡ true → AreWords (extension o) → IsShown o
-source_shown (Reg r) e h small = let low = (both (nat_lt r 16) (not (nat_eq r 3)) e).0 in grind (arith, nat_tests)
+source_shown (Reg r) e h small = let low = (and_parts (nat_lt r 16) (not (nat_eq r 3)) e).0 in grind (arith, nat_tests)
 source_shown (Const c) e h small = e
 source_shown (Imm x) e h small = small 0 0 (lit< tt)
 source_shown (Indexed r x) e h small = (plain_low r e, small 0 0 (lit< tt))
@@ -256,8 +256,8 @@ words_front (x ∷ xs) ys h =
 insn_read : (insn : Insn) (at : ℕ) → is_coded insn ≡ true → is_placeless insn ≡ true → AreWords (extensions insn) → statement_of (text_of insn at) ≡ Some (Code insn None None)
 unfolding statement_of words
 insn_read (Two op w s d) at is h small =
-    let coded = both (is_source s) (is_dest d) is in
-    let fixed = both (is_placeless_operand s) (is_placeless_operand d) h in
+    let coded = and_parts (is_source s) (is_dest d) is in
+    let fixed = and_parts (is_placeless_operand s) (is_placeless_operand d) h in
     let parts = words_front (extension s) (extension d) small in
     let source = source_shown s coded.0 fixed.0 parts.0 in
     let dest = dest_shown d coded.1 fixed.1 parts.1 in
@@ -267,7 +267,7 @@ insn_read (Two op w s d) at is h small =
     ∙ two_read op w s d (two_name op ++ suffix_of w) (operand_text s here) (operand_text d there) (two_named w op) (operand_whole s here source) (operand_whole d there dest)
     (operand_read s here source) (operand_read d there dest) is
 insn_read (One op w a) at is h small =
-    let coded = both (is_source a) _ is in
+    let coded = and_parts (is_source a) _ is in
     let source = source_shown a coded.0 h small in
     let here = add16 at 2 in
     ap statement_of (one_text (one_name op) (suffix_of w) (operand_text a here))
