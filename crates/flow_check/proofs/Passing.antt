@@ -1,5 +1,5 @@
 -- What one walk along the arms of a branch says of other labels.
-use Rattle.std.proofs.Common.{◌≡◌, ◌≢◌, ℕ, zero, suc, All, set, get_or, take, drop, ◌<◌, ◌≤◌, ◌%◌, List, [], ◌∷◌, ◌++◌, length, replicate, refl, sym, ap, ◌∙◌, subst, not, cond, true, false, Bool, is_some, ◌==◌, arith, Option, Some, None}
+use Rattle.std.proofs.Common.{◌≡◌, ◌≢◌, ℕ, zero, suc, All, set, get_or, take, drop, ◌<◌, ◌≤◌, ◌%◌, List, [], ◌∷◌, ◌++◌, length, replicate, refl, sym, ap, ◌∙◌, subst, not, cond, true, false, is_some, ◌==◌, arith, Option, Some, None}
 use Rattle.std.proofs.lemmas.Bool.Decides.{nat_tests}
 use Rattle.std.specs.List.{slice_get}
 use Rattle.std.proofs.lemmas.Option.{get_or_from_slice_get, slice_get_within}
@@ -7,7 +7,7 @@ use Rattle.std.proofs.lemmas.List.Elements.{All-push, All-set}
 use Rattle.mod_layout.specs.declared.Module.{Module}
 use Rattle.mod_layout.specs.Table.{holds}
 use Rattle.flow_rule.specs.declared.Val.{Val}
-use Rattle.flow_rule.specs.declared.Val.TheVariants.{Known, Away, Public, Secret}
+use Rattle.flow_rule.specs.declared.Val.TheVariants.{Known, Public}
 use Rattle.flow_rule.specs.declared.Label.{Label}
 use Rattle.flow_rule.specs.declared.Reason.TheVariants.{Arm as ArmInsn, ArmTime}
 use Rattle.flow_rule.specs.Values.{join, join_each}
@@ -89,9 +89,10 @@ opens rest m text even p told e is c pc returns l l1 eb ec h core words el =
     let x : Point = branch_from pc returns l in
     let it : ((crossing_step m text p.crossing b).reasons ≡ []) × (told ≡ blotted m text p.crossing b blank) = subst (ComesTo m text p.crossing b) e is in
     let calm : (crossing_step m text c b).reasons ≡ [] = subst (λ c. (crossing_step m text c b).reasons ≡ []) ec it.0 in
-    let same : told ≡ blotted m text c b blank = it.1 ∙ ap (λ c. blotted m text c b blank) ec in
-    (calm_too rest m text even c b x (sym eb) h calm,
-     el ∙ ap (λ t. record { core = overlay t.core l.core; words = overlay t.words l.words }) (same ∙ sym (blotted_too rest m text even c b x (sym eb) h calm blank)) ∙ laid_over m text c x l core words)
+    let same : told ≡ blotted m text c b blank = it.1 ∙ ap (λ c. blotted m text c b blank) ec in (
+      calm_too rest m text even c b x (sym eb) h calm,
+      el ∙ ap (λ t. record { core = overlay t.core l.core; words = overlay t.words l.words }) (same ∙ sym (blotted_too rest m text even c b x (sym eb) h calm blank)) ∙ laid_over m text c x l core words,
+    )
 
 -- a shut one, of a label that absorbs its own
 pub shuts : ArmsRest → (m : Module) (text : List ℕ) → m.text.start % 2 ≡ 0 → (p : Passage) → p.answer ≡ Shut → IsPassage m text p →
@@ -112,9 +113,10 @@ kept_set m text ps qs i p e h all = subst (All (IsPassage m text)) (sym e) (All-
 pub walked_open : (m : Module) (text : List ℕ) (c : Crossing) (pc : ℕ) (r : Returns) (l told0 told : Label) (least : Option Cause) → list_of r ≡ [] → told0 ≡ blank →
     least ≡ noted (crossing_step m text c (point_of pc r l)).reasons None → told ≡ blotted m text c (point_of pc r l) told0 → is_some least ≡ false → ComesTo m text c (branch_from pc [] l) (Open told)
 walked_open m text c pc r l told0 told least er eb el et e =
-    let calm : (crossing_step m text c (branch_from pc (list_of r) l)).reasons ≡ [] = none_found (crossing_step m text c (point_of pc r l)).reasons (sym el ∙ nothing least e) in
-    (subst (λ rs. (crossing_step m text c (branch_from pc rs l)).reasons ≡ []) er calm,
-     et ∙ ap (λ b. blotted m text c (branch_from pc (list_of r) l) b) eb ∙ ap (λ rs. blotted m text c (branch_from pc rs l) blank) er)
+    let calm : (crossing_step m text c (branch_from pc (list_of r) l)).reasons ≡ [] = none_found (crossing_step m text c (point_of pc r l)).reasons (sym el ∙ nothing least e) in (
+      subst (λ rs. (crossing_step m text c (branch_from pc rs l)).reasons ≡ []) er calm,
+      et ∙ ap (λ b. blotted m text c (branch_from pc (list_of r) l) b) eb ∙ ap (λ rs. blotted m text c (branch_from pc rs l) blank) er,
+    )
   where
     nothing : (o : Option Cause) → is_some o ≡ false → o ≡ None
     nothing None e = refl

@@ -12,7 +12,7 @@ use crate::stub::step_base;
 use crate::text::word_number;
 use crate::value::join;
 use crate::walk::Place;
-use arm_balance::{holds, met_arm};
+use arm_balance::met_arm;
 use flow_rule::{Label, Reach, Val};
 use insn_decode::{Insn, OneOp, Operand};
 use mod_layout::Module;
@@ -27,6 +27,7 @@ const REGISTERS: usize = 16;
 
 /// The flags' register, and the stack pointer.
 const FLAGS: u8 = 2;
+
 const STACK: u8 = 1;
 
 /// A set of values of a label, by their numbers.
@@ -80,7 +81,9 @@ enum Way {
 /// The register that an operand's address is made of.
 fn base(operand: Operand) -> Option<u8> {
     match operand {
-        Operand::Indexed { reg, .. } | Operand::Indirect(reg) | Operand::Increment(reg) => Some(reg),
+        Operand::Indexed { reg, .. } | Operand::Indirect(reg) | Operand::Increment(reg) => Some(
+            reg,
+        ),
         Operand::Reg(_)
         | Operand::Const(_)
         | Operand::Imm(_)
@@ -92,11 +95,13 @@ fn base(operand: Operand) -> Option<u8> {
 /// The number of the value at an access's address, where it is one of the label's words.
 fn word_of(module: &Module, reach: Option<&Reach>) -> Option<usize> {
     match reach {
-        Some(Reach {
-            addr: Val::Known(addr),
-            ..
-        }) => {
-            if holds(module.ram, usize::from(*addr)) {
+        Some(
+            Reach {
+                addr: Val::Known(addr),
+                ..
+            },
+        ) => {
+            if module.ram.holds(usize::from(*addr)) {
                 Some(REGISTERS + word_number(module, *addr))
             } else {
                 None
@@ -167,7 +172,11 @@ impl Sources {
 
     /// The flags, if they are read.
     fn carry(&self, read: bool) -> Origins {
-        if read { self.get(usize::from(FLAGS)) } else { Origins::NONE }
+        if read {
+            self.get(usize::from(FLAGS))
+        } else {
+            Origins::NONE
+        }
     }
 
     /// What an instruction makes of what.
@@ -183,7 +192,11 @@ impl Sources {
                 self.need(dst);
                 let source = self.at(self.place(module, src, reaches.first()));
                 let into = self.place(module, dst, reaches.last());
-                let old = if reads_destination(op) { self.at(into) } else { Origins::NONE };
+                let old = if reads_destination(op) {
+                    self.at(into)
+                } else {
+                    Origins::NONE
+                };
                 let made = source.with(old).with(self.carry(reads_carry(op)));
                 if sets_flags(op) {
                     self.set(usize::from(FLAGS), made);

@@ -309,7 +309,13 @@ impl Passages {
     }
 
     /// What the passage there says of a branch under a label. Where the branch is open, its arms then write.
-    fn answer(&self, place: usize, crossing: &Crossing, pc: u16, label: &mut Label) -> Option<Outcome>
+    fn answer(
+        &self,
+        place: usize,
+        crossing: &Crossing,
+        pc: u16,
+        label: &mut Label,
+    ) -> Option<Outcome>
         ensures open { result ≡ Some Outcome.Open → (m : Module) (text returns : List ℕ) → m.text.start % 2 ≡ 0 →
             All (IsPassage m text) self.now.list.items →
             OpensTo m text crossing.now (branch_from pc returns label.old) label.new }

@@ -91,15 +91,7 @@ fn cause_of_arms(
     let mut least = None;
     let mut told = *label;
     walk_arms(
-        module,
-        text,
-        entries,
-        crossing,
-        pc,
-        label,
-        returns,
-        &mut least,
-        &mut told,
+        module, text, entries, crossing, pc, label, returns, &mut least, &mut told,
     );
     least
 }

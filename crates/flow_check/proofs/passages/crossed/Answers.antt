@@ -1,5 +1,4 @@
-use Rattle.std.proofs.Common.{◌∙◌, sym, refl, subst, ◌≡◌}
-use Rattle.flow_check.specs.Passages.{IsPassage}
+use Rattle.std.proofs.Common.{sym, subst}
 use Rattle.flow_rule.specs.Absorbs.{Absorbs}
 use Rattle.flow_check.proofs.Passing.{opens, shuts, absorbs_own}
 use Rattle.flow_check.proofs.passages.crossed.Goals as goal

@@ -1,9 +1,6 @@
-use Rattle.std.proofs.Common.{◌≡◌, ◌∙◌, ap, sym, None, Some, ℕ, List}
-use Rattle.arm_balance.specs.Met.{met}
+use Rattle.std.proofs.Common.{◌∙◌, ap, sym, None, ℕ, List}
 use Rattle.flow_rule.specs.Verdict.{flow_step}
-use Rattle.flow_rule.specs.Values.{val}
 use Rattle.flow_rule.specs.Rounds.{Point, Step}
-use Rattle.flow_rule.specs.Arms.{flow_with}
 use Rattle.flow_check.specs.Causes.{noted}
 use Rattle.flow_check.specs.Pairs.{point_of}
 use Rattle.flow_check.proofs.Walking.{by_crossing, by_none}

@@ -1,5 +1,3 @@
-use Rattle.std.proofs.Common.{All, ◌≡◌, Some}
-use Rattle.flow_check.specs.Passages.{IsPassage}
 use Rattle.flow_check.proofs.Passing.{opens, shuts, kept_there}
 use Rattle.flow_check.proofs.passages.Passages.answer.Goals as goal
 

@@ -1,5 +1,5 @@
-use Rattle.std.proofs.Common.{◌≡◌, ◌≢◌, ◌∙◌, ap, subst, refl, [], Some, All}
-use Rattle.flow_check.specs.Passages.{crossing_step, branch_from, OpensTo, IsPassage}
+use Rattle.std.proofs.Common.{◌≢◌, ◌∙◌, ap, subst, refl, [], Some}
+use Rattle.flow_check.specs.Passages.{crossing_step, branch_from, OpensTo}
 use Rattle.flow_check.proofs.passages.Passages.cross.Goals as goal
 
 pub returns-in-Some-answer-clause-open : goal.returns-in-Some-answer-clause-open
