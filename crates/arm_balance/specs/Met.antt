@@ -4,21 +4,12 @@ use Rattle.sm_words.specs.Words.{word_at}
 use Rattle.insn_decode.specs.Code.{insn_of, length_of}
 use Rattle.insn_decode.specs.declared.insn.Insn.{Insn}
 use Rattle.mod_layout.specs.declared.Section.{Section}
-use Rattle.mod_layout.specs.Table.{holds}
 use Rattle.cpu_step.specs.Fetched.{insn_at}
+pub use Rattle.cpu_step.specs.Fetched.{word_in, if_whole as whole}
 
 -- the byte of the text at an address
 abbrev pub text_byte : Section → List ℕ → ℕ → ℕ
 text_byte s text a = slice_index text (a - s.start)
-
--- whether word k of an instruction of n words at pc, if there is one, is in the text
-abbrev pub word_in : Section → ℕ → ℕ → ℕ → Bool
-word_in s pc n k = not (nat_lt k n) || holds s (pc + 2 * k)
-
--- an instruction, where all its words are in the text
-abbrev pub whole : Bool → Option Insn → Option Insn
-whole true insn = insn
-whole false insn = None
 
 -- the first word tells whether it is an instruction, and the number of its words
 abbrev pub met_first : Option Insn → Section → List ℕ → ℕ → Option Insn

@@ -14,7 +14,7 @@ mod text;
 mod time;
 
 pub use certificates::read_arms;
-pub use text::{byte, holds, met, word};
+pub use text::{byte, met, word};
 pub use time::{arm_next, arm_time, met_arm, target};
 
 /// A certificate of a balanced branch: where both arms meet, and the cycles that each takes.

@@ -3,19 +3,11 @@
 ghost use Rattle.std.specs.Prelude.{◌≡◌, ◌<◌, ◌≤◌, ◌+◌, ◌*◌, ◌&&◌, IfSome};
 ghost use Rattle.sm_words.specs.Words.{word_at};
 ghost use Rattle.insn_decode.specs.Code.{IsDecoded, insn_of};
-ghost use Rattle.mod_layout.specs.Table.{holds};
 ghost use Rattle.cpu_step.specs.Fetched.{later_word, insn_at};
 ghost use Rattle.arm_balance.specs.Met.{text_byte, word_in, whole, met_first, met};
 
 use insn_decode::{Insn, decode};
 use mod_layout::Section;
-
-/// Whether a section has this address.
-pub fn holds(section: Section, addr: usize) -> bool
-    ensures exact { result ≡ holds section addr }
-{
-    usize::from(section.start) <= addr && addr < usize::from(section.end)
-}
 
 /// The byte of the text at an address, and 0 past its end.
 pub fn byte(section: Section, text: &[u8], addr: usize) -> u16
@@ -41,7 +33,7 @@ pub fn word(section: Section, text: &[u8], addr: usize) -> u16
 fn has_word(section: Section, pc: u16, n: u16, k: u16) -> bool
     ensures { result ≡ word_in section pc n k }
 {
-    k >= n || holds(section, usize::from(pc) + 2 * usize::from(k))
+    k >= n || section.holds(usize::from(pc) + 2 * usize::from(k))
 }
 
 /// Word `k` of an instruction of `n` words at `pc`, and 0 past its last.

@@ -7,7 +7,7 @@ ghost use Rattle.insn_decode.specs.Code.{IsDecoded, is_unit, distance};
 ghost use Rattle.arm_balance.specs.Met.{met};
 ghost use Rattle.arm_balance.specs.Balance.{not_pc, next_if, arm_next, arm_on, met_cycles, time_of};
 
-use crate::text::{holds, met};
+use crate::text::met;
 use cycle_table::cycles;
 use insn_decode::{Insn, OneOp, Operand};
 use mod_layout::Section;
@@ -90,7 +90,7 @@ pub fn met_arm(section: Section, text: &[u8], pc: u16, join: u16) -> Option<(Ins
     ensures no_unit { IfSome result (λ r. IsFalse (is_unit r.0)) }
     ensures up { IfSome result (λ r. (pc < r.1) × (r.1 ≤ join)) }
 {
-    if !(holds(section, usize::from(pc)) && pc < join) {
+    if !(section.holds(usize::from(pc)) && pc < join) {
         return None;
     }
     match met(section, text, pc) {

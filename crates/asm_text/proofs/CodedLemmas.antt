@@ -1,6 +1,7 @@
 -- An instruction that some words mean is one that a line may write, jumps aside.
 use Rattle.std.proofs.Common.{ℕ, ◌≡◌, ◌≢◌, ◌<◌, Bool, true, ◌&&◌, refl, ap, ◌∙◌, arith}
 use Rattle.std.proofs.lemmas.Bool.Decides.{nat_tests}
+use Rattle.std.proofs.lemmas.Bool.{and_from}
 use Rattle.insn_decode.specs.declared.insn.Operand.{Operand}
 use Rattle.insn_decode.specs.declared.insn.Insn.{Insn}
 use Rattle.insn_decode.specs.Code.{IsDecoded}
@@ -14,18 +15,10 @@ plain_register r p low = let a : r ≢ 0 = p.not_pc in let b : r ≢ 2 = p.not_s
 
 source_coded : {m r x : ℕ} {o : Operand} → Source m r x o → r < 16 → is_source o ≡ true
 source_coded (register r x ne) low = let n : r ≢ 3 = ne in grind (arith, nat_tests)
-source_coded (symbolic x) low = refl
-source_coded (absolute x) low = refl
 source_coded (indexed r x p) low = plain_register r p low
 source_coded (indirect r x p) low = plain_register r p low
 source_coded (increment r x p) low = plain_register r p low
-source_coded (immediate x) low = refl
-source_coded (four x) low = refl
-source_coded (eight x) low = refl
-source_coded (nought x) low = refl
-source_coded (one x) low = refl
-source_coded (two x) low = refl
-source_coded (all_ones x) low = refl
+source_coded _ low = refl
 
 dest_coded : {m r x : ℕ} {o : Operand} → Destination m r x o → r < 16 → is_dest o ≡ true
 dest_coded (to_register r x) low = grind (arith, nat_tests)
@@ -33,12 +26,9 @@ dest_coded (to_symbolic x) low = refl
 dest_coded (to_absolute x) low = refl
 dest_coded (to_indexed r x p) low = plain_register r p low
 
-and_true : (a b : Bool) → a ≡ true → b ≡ true → (a && b) ≡ true
-and_true a b e f = ap (λ c. c && b) e ∙ f
-
 means_coded : {w0 w1 w2 n : ℕ} {insn : Insn} → Means w0 w1 w2 insn n → is_placeless insn ≡ true → is_coded insn ≡ true
-means_coded {w0} (format_one op s d c source dest) h = and_true (is_source s) (is_dest d) (source_coded source (omega arith)) (dest_coded dest (omega arith))
-means_coded {w0} (format_two op a c k source fits) h = and_true (is_source a) _ (source_coded source (omega arith)) fits
+means_coded {w0} (format_one op s d c source dest) h = and_from (is_source s) (is_dest d) (source_coded source (omega arith)) (dest_coded dest (omega arith))
+means_coded {w0} (format_two op a c k source fits) h = and_from (is_source a) _ (source_coded source (omega arith)) fits
 means_coded (jump c) h = absurd cc
 means_coded (return c) h = refl
 means_coded (unit n low c) h = grind (arith, nat_tests)

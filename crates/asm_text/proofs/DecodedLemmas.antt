@@ -24,12 +24,7 @@ source_back (indexed r x p) low = record { mode = refl; number = omega arith; wo
 source_back (indirect r x p) low = record { mode = refl; number = omega arith; words = inl (refl, refl) }
 source_back (increment r x p) low = record { mode = refl; number = omega arith; words = inl (refl, refl) }
 source_back (immediate x) low = record { mode = refl; number = refl; words = inr (refl, refl) }
-source_back (four x) low = record { mode = refl; number = refl; words = inl (refl, refl) }
-source_back (eight x) low = record { mode = refl; number = refl; words = inl (refl, refl) }
-source_back (nought x) low = record { mode = refl; number = refl; words = inl (refl, refl) }
-source_back (one x) low = record { mode = refl; number = refl; words = inl (refl, refl) }
-source_back (two x) low = record { mode = refl; number = refl; words = inl (refl, refl) }
-source_back (all_ones x) low = record { mode = refl; number = refl; words = inl (refl, refl) }
+source_back _ low = record { mode = refl; number = refl; words = inl (refl, refl) }
 
 record HasDest (m r x : ℕ) (o : Operand) : Type 0 where
   pub mode : dest_mode o ≡ m

@@ -1,7 +1,7 @@
 -- A statement in the last section.
 use Rattle.std.proofs.Common.{ℕ, ◌≡◌, ◌+◌, ◌-◌, ◌<◌, List, [], ◌∷◌, ◌++◌, length, map, get_or, set, Some, None, Ok, Err, refl, ap, sym, ◌∙◌, arith}
 use Rattle.std.specs.Prelude.{slice_get}
-use Rattle.std.proofs.lemmas.List.{length-map, map-set, get_or-map}
+use Rattle.std.proofs.lemmas.List.{length-map, map-set, get_or-map, get_or_default}
 use Rattle.std.proofs.lemmas.Option.{slice_get-get_or}
 use Rattle.asm_text.specs.declared.unit.AsmFault.{AsmFault}
 use Rattle.asm_text.specs.declared.unit.AsmSection.{AsmSection}
@@ -49,15 +49,9 @@ in_last_err m n e i last s fault is at gives =
     ∙ ap (λ j. with_statement m e last s (bytes_of m n j last.size s)) at
     ∙ ap (with_statement m e last s) gives
 
-any_default : {X : Type 0} (xs : List X) (i : ℕ) (d e : X) → i < length xs → get_or xs i d ≡ get_or xs i e
-any_default xs i d e low =
-    let one = slice_get-get_or xs i d low in
-    let two = slice_get-get_or xs i e low in
-    cc
-
 -- an element that is read twice
 pub same_at : {X : Type 0} (xs ys : List X) (i : ℕ) (x y : X) → ys ≡ xs → i < length xs → x ≡ get_or xs i x → y ≡ get_or ys i y → y ≡ x
-same_at xs ys i x y same low a b = b ∙ (ap (λ zs. get_or zs i y) same ∙ (any_default xs i y x low ∙ sym a))
+same_at xs ys i x y same low a b = b ∙ (ap (λ zs. get_or zs i y) same ∙ (get_or_default xs i y x low ∙ sym a))
 
 pub index_is : (xs : List AsmSection) (i : ℕ) → i + 1 ≡ length xs → length (map section_of xs) - 1 ≡ i
 index_is xs i e = omega (arith, length-map xs section_of)

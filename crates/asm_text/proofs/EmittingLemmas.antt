@@ -57,13 +57,11 @@ taken_room m e p q s a t last is =
     some_same a b k = cc
 
 has_room : (m : Meanings) (n : ℕ) (e : Emitted) (p q : Placed) (s : Statement ℕ) → Agree m e p → AreSmall p.heads → placed n p s ≡ Ok q → HasRoom e.sections (size_of s)
-has_room m n e p q (Section name kind) a small j = last_small m e p a small
-has_room m n e p q (Global name) a small j = last_small m e p a small
-has_room m n e p q (Label name) a small j = last_small m e p a small
 has_room m n e p q (Word field) a small j = taken_room m e p q (Word field) a (taken n p q (Word field) (λ h. refl) j)
 has_room m n e p q (Space size) a small j = taken_room m e p q (Space size) a (taken n p q (Space size) (λ h. refl) j)
 has_room m n e p q (Jump c t) a small j = taken_room m e p q (Jump c t) a (taken n p q (Jump c t) (λ h. refl) j)
 has_room m n e p q (Code insn x y) a small j = taken_room m e p q (Code insn x y) a (taken n p q (Code insn x y) (λ h. refl) j)
+has_room m n e p q _ a small j = last_small m e p a small
 
 -- ---- line by line
 

@@ -34,14 +34,10 @@ abbrev pub AreEven : List (Statement ℕ) → Type 0
 AreEven statements = All IsEven statements
 
 even_statement : (t : Tables) (s : Statement (List ℕ)) → IsWritten s → IsEven (numbered t s)
-even_statement t (Section name kind) h = refl
-even_statement t (Label name) h = refl
-even_statement t (Global name) h = refl
 even_statement t (Word (Name name)) h = refl
-even_statement t (Word (Number n)) h = refl
 even_statement t (Space size) h = h.1
-even_statement t (Jump c target) h = refl
 even_statement t (Code insn a b) h = omega arith
+even_statement t _ h = refl
 
 -- an instruction is one that a line may write
 abbrev pub IsSound : Statement ℕ → Type 0
@@ -49,14 +45,9 @@ IsSound (Code insn first second) = is_coded insn ≡ true
 IsSound _ = Unit {0}
 
 sound_statement : (t : Tables) (s : Statement (List ℕ)) → IsWritten s → IsSound (numbered t s)
-sound_statement t (Section name kind) h = tt
-sound_statement t (Label name) h = tt
-sound_statement t (Global name) h = tt
 sound_statement t (Word (Name name)) h = tt
-sound_statement t (Word (Number n)) h = tt
-sound_statement t (Space size) h = tt
-sound_statement t (Jump c target) h = tt
 sound_statement t (Code insn a b) h = h.2
+sound_statement t _ h = tt
 
 -- what each line's statement keeps, all statements of a source do
 all_from : (P : Statement ℕ → Type 0) → ((t : Tables) (s : Statement (List ℕ)) → IsWritten s → P (numbered t s)) → (n : ℕ) (t : Tables) (statements : List (Statement ℕ)) (lines : List (List ℕ)) (tail : List ℕ) → All P statements

@@ -128,22 +128,15 @@ statement_more t (Code insn a b) names sections h =
 
 known_more : (a b : ℕ) (s : Statement ℕ) → a ≤ b → IsKnown a s → IsKnown b s
 known_more a b (Section name kind) most h = tt
-known_more a b (Label name) most h = omega arith
-known_more a b (Global name) most h = omega arith
-known_more a b (Word (Name name)) most h = omega arith
 known_more a b (Word (Number n)) most h = tt
 known_more a b (Space size) most h = h
 known_more a b (Jump c target) most h = (h.0, (let low = h.1 in omega arith))
 known_more a b (Code insn x y) most h = (below_more a b x most h.0, below_more a b y most h.1)
+known_more a b _ most h = omega arith
 
 named_more : (a b : ℕ) (s : Statement ℕ) → a ≤ b → IsNamed a s → IsNamed b s
 named_more a b (Section name kind) most h = omega arith
-named_more a b (Label name) most h = tt
-named_more a b (Global name) most h = tt
-named_more a b (Word field) most h = tt
-named_more a b (Space size) most h = tt
-named_more a b (Jump c target) most h = tt
-named_more a b (Code insn x y) most h = tt
+named_more a b _ most h = tt
 
 -- ---- line by line
 

@@ -89,13 +89,7 @@ last_there m e p h a is =
 
 extension_size : (o : Operand) → length (flat_map word_bytes (extension o)) ≡ 2 * words_in o
 extension_size (Reg r) = refl
-extension_size (Const c) = refl
-extension_size (Imm x) = refl
-extension_size (Indexed r x) = refl
-extension_size (Symbolic x) = refl
-extension_size (Absolute x) = refl
-extension_size (Indirect r) = refl
-extension_size (Increment r) = refl
+extension_size _ = refl
 
 flat_append : (xs ys : List ℕ) → length (flat_map word_bytes (xs ++ ys)) ≡ length (flat_map word_bytes xs) + length (flat_map word_bytes ys)
 flat_append [] ys = omega arith
@@ -112,9 +106,7 @@ code_size (Two op w s d) =
 code_size (One op w a) =
     let one = extension_size a in
     omega (arith, length-append (word_bytes (first_word (One op w a))) (flat_map word_bytes (extension a)))
-code_size (JumpInsn c o) = refl
-code_size Reti = refl
-code_size (UnitOp n) = refl
+code_size _ = refl
 
 two_bytes : (n cond' : ℕ) (offset : ℤ) (bytes : List ℕ) → jump_over n cond' offset ≡ Ok bytes → length bytes ≡ 2
 two_bytes n cond' offset bytes e = by (is_near offset) e
@@ -131,33 +123,23 @@ jump_size n section here cond' (Some spot) bytes e = by (nat_eq spot.section sec
     by true e = two_bytes n cond' (reach here spot.offset) bytes e
     by false e = absurd cc
 
-pub bytes_size : (m : Meanings) (n section here : ℕ) (s : Statement ℕ) (kind : SectionKind) (bytes : List ℕ) → takes kind s ≡ true → bytes_of m n section here s ≡ Ok bytes → length bytes ≡ kept_size kind (size_of s)
-bytes_size m n section here (Word field) CodeKind bytes t e = let same : word_bytes (field_number field) ≡ bytes = cc in ap length (sym same)
-bytes_size m n section here (Word field) DataKind bytes t e = let same : word_bytes (field_number field) ≡ bytes = cc in ap length (sym same)
-bytes_size m n section here (Word field) BssKind bytes t e = absurd cc
-bytes_size m n section here (Space size) CodeKind bytes t e = absurd cc
-bytes_size m n section here (Space size) DataKind bytes t e = absurd cc
-bytes_size m n section here (Space size) BssKind bytes t e = let same : [] ≡ bytes = cc in ap length (sym same)
-bytes_size m n section here (Jump c target) CodeKind bytes t e = jump_size n section here c (spot_of m.spots target) bytes e
-bytes_size m n section here (Jump c target) DataKind bytes t e = absurd cc
-bytes_size m n section here (Jump c target) BssKind bytes t e = absurd cc
-bytes_size m n section here (Code insn a b) CodeKind bytes t e = let same : code_bytes insn ≡ bytes = cc in ap length (sym same) ∙ code_size insn
-bytes_size m n section here (Code insn a b) DataKind bytes t e = absurd cc
-bytes_size m n section here (Code insn a b) BssKind bytes t e = absurd cc
-bytes_size m n section here (Section name kind') CodeKind bytes t e = let same : [] ≡ bytes = cc in ap length (sym same)
-bytes_size m n section here (Section name kind') DataKind bytes t e = let same : [] ≡ bytes = cc in ap length (sym same)
-bytes_size m n section here (Section name kind') BssKind bytes t e = let same : [] ≡ bytes = cc in ap length (sym same)
-bytes_size m n section here (Label name) CodeKind bytes t e = let same : [] ≡ bytes = cc in ap length (sym same)
-bytes_size m n section here (Label name) DataKind bytes t e = let same : [] ≡ bytes = cc in ap length (sym same)
-bytes_size m n section here (Label name) BssKind bytes t e = let same : [] ≡ bytes = cc in ap length (sym same)
-bytes_size m n section here (Global name) CodeKind bytes t e = let same : [] ≡ bytes = cc in ap length (sym same)
-bytes_size m n section here (Global name) DataKind bytes t e = let same : [] ≡ bytes = cc in ap length (sym same)
-bytes_size m n section here (Global name) BssKind bytes t e = let same : [] ≡ bytes = cc in ap length (sym same)
+pub bytes_size : (m : Meanings) (n section here : ℕ) (kind : SectionKind) (s : Statement ℕ) (bytes : List ℕ) → takes kind s ≡ true → bytes_of m n section here s ≡ Ok bytes → length bytes ≡ kept_size kind (size_of s)
+bytes_size m n section here CodeKind (Word field) bytes t e = let same : word_bytes (field_number field) ≡ bytes = cc in ap length (sym same)
+bytes_size m n section here CodeKind (Space size) bytes t e = absurd cc
+bytes_size m n section here CodeKind (Jump c target) bytes t e = jump_size n section here c (spot_of m.spots target) bytes e
+bytes_size m n section here CodeKind (Code insn a b) bytes t e = let same : code_bytes insn ≡ bytes = cc in ap length (sym same) ∙ code_size insn
+bytes_size m n section here DataKind (Word field) bytes t e = let same : word_bytes (field_number field) ≡ bytes = cc in ap length (sym same)
+bytes_size m n section here DataKind (Space size) bytes t e = absurd cc
+bytes_size m n section here DataKind (Jump c target) bytes t e = absurd cc
+bytes_size m n section here DataKind (Code insn a b) bytes t e = absurd cc
+bytes_size m n section here BssKind (Word field) bytes t e = absurd cc
+bytes_size m n section here BssKind (Jump c target) bytes t e = absurd cc
+bytes_size m n section here BssKind (Code insn a b) bytes t e = absurd cc
+bytes_size m n section here kind s bytes t e = let same : [] ≡ bytes = cc in ap length (sym same)
 
 kept_more : (kind : SectionKind) (a b : ℕ) → kept_size kind a + kept_size kind b ≡ kept_size kind (a + b)
 kept_more CodeKind a b = refl
-kept_more DataKind a b = refl
-kept_more BssKind a b = refl
+kept_more _ a b = refl
 
 -- ---- bytes more
 
@@ -210,7 +192,7 @@ taken_agree m n e f p q s a t goes =
         let names : last.name ≡ slice_index_or m.sections t.head.name [] = ap (λ (x : Shape). x.name) l.same in
         let n' = same_number m e p a in
         let at : length e.sections - 1 ≡ length p.heads - 1 = omega arith in
-        let bytes_are : length bytes ≡ kept_size last.kind (size_of s) = bytes_size m n (length e.sections - 1) last.size s last.kind bytes (ap (λ k. takes k s) kinds ∙ t.takes_it) is in
+        let bytes_are : length bytes ≡ kept_size last.kind (size_of s) = bytes_size m n (length e.sections - 1) last.size last.kind s bytes (ap (λ k. takes k s) kinds ∙ t.takes_it) is in
         let full : IsFilled (grown last (size_of s) bytes) = length-append last.bytes bytes ∙ (ap (λ k. k + length bytes) l.filled ∙ (ap (λ k. kept_size last.kind last.size + k) bytes_are ∙ kept_more last.kind last.size (size_of s))) in
         let shape : shape_of (grown last (size_of s) bytes) ≡ head_shape m (record { name = t.head.name; kind = t.head.kind; size = t.head.size + size_of s }) = shape_more last names kinds sizes in
         record {
@@ -253,8 +235,7 @@ section_agree m n e f p q name kind a placed_ok emitted_ok = by (has_section p.h
       where
         empty : (kind : SectionKind) → 0 ≡ kept_size kind 0
         empty CodeKind = refl
-        empty DataKind = refl
-        empty BssKind = refl
+        empty _ = refl
 
 pub label_heads : (n : ℕ) (p q : Placed) (name : ℕ) → in_section n p (last_head p.heads) (Label name) ≡ Ok q → p.heads ≡ q.heads
 label_heads n p q name e = by (last_head p.heads) e
@@ -266,8 +247,7 @@ label_heads n p q name e = by (last_head p.heads) e
 
     by_kind : (h : Head) (kind : SectionKind) → cond (takes kind (Label name)) (with_label n p h name) (Err (Place n)) ≡ Ok q → p.heads ≡ q.heads
     by_kind h CodeKind k = by_label h (is_some (spot_of p.spots name)) (nat_eq (length p.labels) MAX_LABELS) k
-    by_kind h DataKind k = by_label h (is_some (spot_of p.spots name)) (nat_eq (length p.labels) MAX_LABELS) k
-    by_kind h BssKind k = by_label h (is_some (spot_of p.spots name)) (nat_eq (length p.labels) MAX_LABELS) k
+    by_kind h _ k = by_label h (is_some (spot_of p.spots name)) (nat_eq (length p.labels) MAX_LABELS) k
 
     by : (o : Option Head) → in_section n p o (Label name) ≡ Ok q → p.heads ≡ q.heads
     by None k = absurd cc

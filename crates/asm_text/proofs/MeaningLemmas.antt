@@ -1,6 +1,7 @@
 -- The words of an instruction mean it.
 use Rattle.std.proofs.Common.{ℕ, ◌≡◌, ◌+◌, ◌*◌, ◌/◌, ◌%◌, ◌<◌, Bool, true, false, not, cond, ◌&&◌, ◌||◌, nat_lt, nat_eq, [], ◌∷◌, ◌++◌, Some, refl, ap, sym, subst, ◌∙◌, arith, get_or}
 use Rattle.std.proofs.lemmas.Bool.Decides.{nat_tests}
+use Rattle.std.proofs.lemmas.Bool.{and_parts}
 use Rattle.sm_words.specs.declared.width.Width.{Width}
 use Rattle.sm_words.specs.declared.width.Width.TheVariants.{Byte, Word as WordWidth}
 use Rattle.insn_decode.specs.declared.insn.TwoOp.{TwoOp}
@@ -54,20 +55,15 @@ few_fields op b m d ho hb hm hd = record {
 
 -- ---- operands
 
-pub both : (a b : Bool) → (a && b) ≡ true → (a ≡ true) × (b ≡ true)
-both true true e = (refl, refl)
-both true false e = absurd cc
-both false b e = absurd cc
-
 pub record IsRegister (r : ℕ) : Type 0 where
   pub low : r < 16
   pub plain : IsPlain r
 
 register_plain : (r : ℕ) → is_plain r ≡ true → IsRegister r
 register_plain r e =
-    let three = both (nat_lt r 16 && not (nat_eq r 0) && not (nat_eq r 2)) (not (nat_eq r 3)) e in
-    let two' = both (nat_lt r 16 && not (nat_eq r 0)) (not (nat_eq r 2)) three.0 in
-    let one' = both (nat_lt r 16) (not (nat_eq r 0)) two'.0 in
+    let three = and_parts (nat_lt r 16 && not (nat_eq r 0) && not (nat_eq r 2)) (not (nat_eq r 3)) e in
+    let two' = and_parts (nat_lt r 16 && not (nat_eq r 0)) (not (nat_eq r 2)) three.0 in
+    let one' = and_parts (nat_lt r 16) (not (nat_eq r 0)) two'.0 in
     let low = one'.0 in
     let n0 = one'.1 in
     let n2 = two'.1 in
@@ -78,46 +74,16 @@ register_plain r e =
     by r k s n = grind (arith, nat_tests)
 
 pub mode_low : (o : Operand) → source_mode o < 4
-mode_low (Reg r) = omega arith
-mode_low (Const c) = by (nat_eq c 0) (nat_eq c 1) (nat_eq c 2) (nat_eq c 4)
-  where
-    by : (p q r s : Bool) → cond p 0 (cond q 1 (cond r 2 (cond s 2 3))) < 4
-    by true q r s = omega arith
-    by false true r s = omega arith
-    by false false true s = omega arith
-    by false false false true = omega arith
-    by false false false false = omega arith
-mode_low (Imm x) = omega arith
-mode_low (Indexed r x) = omega arith
-mode_low (Symbolic x) = omega arith
-mode_low (Absolute x) = omega arith
-mode_low (Indirect r) = omega arith
-mode_low (Increment r) = omega arith
+mode_low (Const c) = grind (arith, nat_tests)
+mode_low _ = omega arith
 
 pub register_low : (o : Operand) → source_register o < 16
-register_low (Reg r) = omega arith
-register_low (Const c) = by (nat_eq c 4) (nat_eq c 8)
-  where
-    by : (p q : Bool) → cond p 2 (cond q 2 3) < 16
-    by true q = omega arith
-    by false true = omega arith
-    by false false = omega arith
-register_low (Imm x) = omega arith
-register_low (Indexed r x) = omega arith
-register_low (Symbolic x) = omega arith
-register_low (Absolute x) = omega arith
-register_low (Indirect r) = omega arith
-register_low (Increment r) = omega arith
+register_low (Const c) = grind (arith, nat_tests)
+register_low _ = omega arith
 
 dest_mode_low : (o : Operand) → dest_mode o < 2
 dest_mode_low (Reg r) = omega arith
-dest_mode_low (Const c) = omega arith
-dest_mode_low (Imm x) = omega arith
-dest_mode_low (Indexed r x) = omega arith
-dest_mode_low (Symbolic x) = omega arith
-dest_mode_low (Absolute x) = omega arith
-dest_mode_low (Indirect r) = omega arith
-dest_mode_low (Increment r) = omega arith
+dest_mode_low _ = omega arith
 
 flag_low : (w : Width) → byte_flag w < 2
 flag_low Byte = omega arith
@@ -152,7 +118,7 @@ constant_source c x e = by (nat_eq c 0) (nat_eq c 1) (nat_eq c 2) (nat_eq c 4) (
 
 pub source_is : (o : Operand) (other : ℕ) → is_source o ≡ true → Source (source_mode o) (source_register o) (ext_of o other) o
 source_is (Reg r) other e =
-    let two' = both (nat_lt r 16) (not (nat_eq r 3)) e in
+    let two' = and_parts (nat_lt r 16) (not (nat_eq r 3)) e in
     let low = two'.0 in
     let n3 = two'.1 in
     let small : r % 16 ≡ r = let l : r < 16 = grind (arith, nat_tests) in omega arith in
@@ -170,48 +136,25 @@ source_is (Increment r) other e = let p = register_plain r e in let l = p.low in
 
 pub dest_is : (o : Operand) (other : ℕ) → is_dest o ≡ true → Destination (dest_mode o) (source_register o) (ext_of o other) o
 dest_is (Reg r) other e = let low = e in let small : r % 16 ≡ r = let l : r < 16 = grind (arith, nat_tests) in omega arith in subst (λ k. Destination 0 k other (Reg r)) (sym small) (to_register r other)
-dest_is (Const c) other e = absurd cc
-dest_is (Imm x) other e = absurd cc
 dest_is (Indexed r x) other e = let p = register_plain r e in let l = p.low in let small : r % 16 ≡ r = omega arith in subst (λ k. Destination 1 k x (Indexed r x)) (sym small) (to_indexed r x p.plain)
 dest_is (Symbolic x) other e = to_symbolic x
 dest_is (Absolute x) other e = to_absolute x
-dest_is (Indirect r) other e = absurd cc
-dest_is (Increment r) other e = absurd cc
+dest_is _ other e = absurd cc
 
 two_code_low : (op : TwoOp) → two_code op < 16
 two_code_low Mov = omega arith
-two_code_low Add = omega arith
-two_code_low Addc = omega arith
-two_code_low Subc = omega arith
-two_code_low Sub = omega arith
-two_code_low Cmp = omega arith
-two_code_low Dadd = omega arith
-two_code_low Bit = omega arith
-two_code_low Bic = omega arith
-two_code_low Bis = omega arith
-two_code_low Xor = omega arith
-two_code_low And = omega arith
+two_code_low _ = omega arith
 
 one_code_low : (op : OneOp) → one_code op < 8
 one_code_low Rrc = omega arith
-one_code_low Swpb = omega arith
-one_code_low Rra = omega arith
-one_code_low Sxt = omega arith
-one_code_low Push = omega arith
-one_code_low Call = omega arith
+one_code_low _ = omega arith
 
 -- ---- instructions
 
 -- the word of the second operand, after a first one
 second_at : (s d : Operand) → ext_of d (ext_of d 0) ≡ ext_of d 0
 second_at s (Reg r) = refl
-second_at s (Const c) = refl
-second_at s (Imm x) = refl
-second_at s (Indexed r x) = refl
-second_at s (Symbolic x) = refl
-second_at s (Absolute x) = refl
-second_at s (Indirect r) = refl
-second_at s (Increment r) = refl
+second_at s _ = refl
 
 -- a source, and the words after the first
 pub record IsPair (s d : Operand) (w1 w2 : ℕ) : Type 0 where
@@ -237,36 +180,21 @@ no_source s d none words = by d
 
     first : (d : Operand) → ext_of d 0 ≡ get_or (extension d) 0 0
     first (Reg r) = refl
-    first (Const c) = refl
-    first (Imm x) = refl
-    first (Indexed r x) = refl
-    first (Symbolic x) = refl
-    first (Absolute x) = refl
-    first (Indirect r) = refl
-    first (Increment r) = refl
+    first _ = refl
 
     by : (d : Operand) → IsPair s d (get_or (extension s ++ extension d) 0 0) (get_or (extension s ++ extension d) 1 0)
     by d = record { other = get_or (extension s ++ extension d) 0 0; source = sym (front (get_or (extension s ++ extension d) 0 0)); more = 0; dest = first d ∙ (same d ∙ pick d) }
 
 first_of : (d : Operand) → ext_of d 0 ≡ get_or (extension d) 0 0
 first_of (Reg r) = refl
-first_of (Const c) = refl
-first_of (Imm x) = refl
-first_of (Indexed r x) = refl
-first_of (Symbolic x) = refl
-first_of (Absolute x) = refl
-first_of (Indirect r) = refl
-first_of (Increment r) = refl
+first_of _ = refl
 
 pub pair : (s d : Operand) → IsPair s d (get_or (extension s ++ extension d) 0 0) (get_or (extension s ++ extension d) 1 0)
 pair (Reg r) d = no_source (Reg r) d refl refl
 pair (Const c) d = no_source (Const c) d refl refl
-pair (Imm x) d = record { other = 0; source = refl; more = 0; dest = first_of d }
-pair (Indexed r x) d = record { other = 0; source = refl; more = 0; dest = first_of d }
-pair (Symbolic x) d = record { other = 0; source = refl; more = 0; dest = first_of d }
-pair (Absolute x) d = record { other = 0; source = refl; more = 0; dest = first_of d }
 pair (Indirect r) d = no_source (Indirect r) d refl refl
 pair (Increment r) d = no_source (Increment r) d refl refl
+pair _ d = record { other = 0; source = refl; more = 0; dest = first_of d }
 
 two_means : (op : TwoOp) (w : Width) (s d : Operand) → is_source s ≡ true → is_dest d ≡ true → meaning (Two op w s d) ≡ Some (Two op w s d)
 unfolding first_word
@@ -304,8 +232,8 @@ unit_means n low =
 
 pub coded_means : (insn : Insn) → is_coded insn ≡ true → meaning insn ≡ Some insn
 unfolding first_word
-coded_means (Two op w s d) e = let b = both (is_source s) (is_dest d) e in two_means op w s d b.0 b.1
-coded_means (One op w a) e = let b = both (is_source a) (one_fits op w a) e in one_means op w a b.0 b.1
+coded_means (Two op w s d) e = let b = and_parts (is_source s) (is_dest d) e in two_means op w s d b.0 b.1
+coded_means (One op w a) e = let b = and_parts (is_source a) (one_fits op w a) e in one_means op w a b.0 b.1
 coded_means (Jump c o) e = absurd cc
 coded_means Reti e = (means_insn {w0 = 4864} {w1 = 0} {w2 = 0} (return refl)).0
 coded_means (UnitOp n) e = unit_means n (low n e)

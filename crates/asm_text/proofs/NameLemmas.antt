@@ -3,6 +3,8 @@ use Rattle.std.proofs.Common.{ℕ, ◌≡◌, ◌<◌, Bool, true, false, ◌&&�
 use Rattle.std.specs.Str.{IsAscii}
 use Rattle.std.specs.List.{AllPass}
 use Rattle.std.specs.Borrow.{Bor}
+use Rattle.std.proofs.Math.Bool.{and-false}
+use Rattle.std.proofs.lemmas.Bool.{and_parts}
 use Rattle.std.proofs.lemmas.Bool.Decides.{nat_tests}
 use Rattle.std.proofs.lemmas.List.{get_or-map, length-map}
 use Rattle.std.proofs.lemmas.List.Sums.{AllPass-from_list_all}
@@ -10,10 +12,6 @@ use Rattle.std.proofs.lemmas.Str.Ascii.{IsAscii-from_all}
 use Rattle.asm_text.specs.Emitted.{AreNames}
 use Rattle.asm_text.specs.Maps.{texts_in}
 use Rattle.asm_text.specs.Parts.{is_name_byte, is_name}
-
-both_1 : (a b : Bool) → (a && b) ≡ true → b ≡ true
-both_1 true b e = e
-both_1 false b e = absurd cc
 
 low_byte : (b : ℕ) → is_name_byte b ≡ true → b < 128
 unfolding is_name_byte
@@ -27,23 +25,13 @@ low_byte b e = by (nat_le b 127) refl
         let c1 : nat_le b 57 ≡ false = grind (arith, nat_tests) in
         let d1 : (b == 95) ≡ false = grind (arith, nat_tests) in
         let e1 : (b == 46) ≡ false = grind (arith, nat_tests) in
-        let none : (((nat_le 97 b && false) || (nat_le 65 b && false)) || (nat_le 48 b && false) || false || false) ≡ true = rw (a, b1, c1, d1, e1) at e in
-        absurd (never (nat_le 97 b) (nat_le 65 b) (nat_le 48 b) none)
-      where
-        never : (x y z : Bool) → (((x && false) || (y && false)) || (z && false) || false || false) ≡ true → ⊥
-        never true true true n = cc
-        never true true false n = cc
-        never true false true n = cc
-        never true false false n = cc
-        never false true true n = cc
-        never false true false n = cc
-        never false false true n = cc
-        never false false false n = cc
+        let none : false ≡ true = simp (a, b1, c1, d1, e1, and-false) at e in
+        absurd cc
 
 pub name_is_ascii : (name : List ℕ) → is_name name ≡ true → IsAscii name
 unfolding is_name
 name_is_ascii name e =
-    let all : AllPass is_name_byte name = AllPass-from_list_all is_name_byte name (both_1 _ _ e) in
+    let all : AllPass is_name_byte name = AllPass-from_list_all is_name_byte name (and_parts _ _ e).1 in
     IsAscii-from_all name (λ k d low. low_byte (get_or name k d) (all k d low))
 
 -- one of these names

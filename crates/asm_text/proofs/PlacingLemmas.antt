@@ -15,10 +15,8 @@ pub record IsPlacing (names : ℕ) (statements : List (Statement ℕ)) (i : ℕ)
   pub kept : IsPlaced names p
 
 pub no_spot : (names k : ℕ) (spot : Spot) → spot_of (replicate names None) k ≡ Some spot → ⊥
-no_spot zero zero spot e = cc
-no_spot zero (suc k) spot e = cc
-no_spot (suc names) zero spot e = cc
 no_spot (suc names) (suc k) spot e = no_spot names k spot e
+no_spot _ _ spot e = cc
 
 pub length_replicate : {A : Type 0} (n : ℕ) (a : A) → length (replicate n a) ≡ n
 length_replicate zero a = refl

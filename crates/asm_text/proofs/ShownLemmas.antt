@@ -5,10 +5,12 @@ use Rattle.std.specs.List.{All, list_all}
 use Rattle.std.specs.Cmp.Lexicographic.{pointwise}
 use Rattle.std.specs.Fmt.{decimal, digits}
 use Rattle.std.specs.Str.{bytes_eq}
+use Rattle.std.proofs.lemmas.Bool.{not-true, and_parts}
 use Rattle.std.proofs.lemmas.Bool.Decides.{nat_tests}
 use Rattle.std.proofs.lemmas.List.{take_at, drop_at}
 use Rattle.std.proofs.lemmas.List.Elements.{All-cons, All-nil, All-tail}
 use Rattle.std.proofs.lemmas.List.Folds.{list_all-append}
+use Rattle.std.proofs.lemmas.List.Sums.{AllPass-from_list_all}
 use Rattle.std.proofs.lemmas.List.Splits.{slice_split_none, slice_split_at}
 use Rattle.texts.specs.Decimals.{read_decimal}
 use Rattle.texts.specs.Hexadecimals.{hex_digit, hex_byte, hex_word, read_hex_word}
@@ -35,7 +37,7 @@ use Rattle.asm_text.specs.Lines.{width_of, base_of, two_op_of, one_op_of, cond_o
 use Rattle.asm_text.specs.Operands.{before, field_of, of_field, plain, number_by, number_of, indirect_of, indexed_at, indexed_of, operand_of}
 use Rattle.asm_text.specs.Parts.{is_name}
 use Rattle.asm_text.proofs.CodedLemmas.{decoded_coded}
-use Rattle.asm_text.proofs.MeaningLemmas.{both, coded_means}
+use Rattle.asm_text.proofs.MeaningLemmas.{coded_means}
 
 -- a fact of each of the sixteen registers, or digits
 sixteen : (P : ℕ → Type 0) → P 0 → P 1 → P 2 → P 3 → P 4 → P 5 → P 6 → P 7 → P 8 → P 9 → P 10 → P 11 → P 12 → P 13 → P 14 → P 15 → (r : ℕ) → r < 16 → P r
@@ -69,14 +71,7 @@ whole_append : (v w : List ℕ) → IsWhole v → IsWhole w → IsWhole (v ++ w)
 whole_append v w p q = list_all-append (λ b. not (is_space b)) v w ∙ (ap (λ c. c && list_all (λ b. not (is_space b)) w) p ∙ q)
 
 each_whole : (text : List ℕ) → IsWhole text → All (λ b. is_space b ≡ false) text
-each_whole [] h = All-nil (λ b. is_space b ≡ false)
-each_whole (b ∷ text) h =
-    let parts = both (not (is_space b)) (list_all (λ b. not (is_space b)) text) h in
-    All-cons (λ b. is_space b ≡ false) b text (by (is_space b) parts.0) (each_whole text parts.1)
-  where
-    by : (c : Bool) → not c ≡ true → c ≡ false
-    by true e = absurd cc
-    by false e = refl
+each_whole text h k d l = not-true _ (AllPass-from_list_all (λ b. not (is_space b)) text h k d l)
 
 digit_whole : (d : ℕ) → d < 16 → IsWhole (hex_digit d ∷ [])
 digit_whole = sixteen (λ d. IsWhole (hex_digit d ∷ [])) refl refl refl refl refl refl refl refl refl refl refl refl refl refl refl refl
@@ -101,10 +96,10 @@ IsShown (Indirect r) = r < 16
 IsShown (Increment r) = r < 16
 
 plain_low : (r : ℕ) → is_plain r ≡ true → r < 16
-plain_low r e = let low = (both (nat_lt r 16) _ (both _ _ (both _ _ e).0).0).0 in grind (arith, nat_tests)
+plain_low r e = let low = (and_parts (nat_lt r 16) _ (and_parts _ _ (and_parts _ _ e).0).0).0 in grind (arith, nat_tests)
 
 source_shown : (o : Operand) → is_source o ≡ true → is_placeless_operand o ≡ true → AreWords (extension o) → IsShown o
-source_shown (Reg r) e h small = let low = (both (nat_lt r 16) (not (nat_eq r 3)) e).0 in grind (arith, nat_tests)
+source_shown (Reg r) e h small = let low = (and_parts (nat_lt r 16) (not (nat_eq r 3)) e).0 in grind (arith, nat_tests)
 source_shown (Const c) e h small = e
 source_shown (Imm x) e h small = small 0 0 (lit< tt)
 source_shown (Indexed r x) e h small = (plain_low r e, small 0 0 (lit< tt))
@@ -115,13 +110,9 @@ source_shown (Increment r) e h small = plain_low r e
 
 dest_shown : (o : Operand) → is_dest o ≡ true → is_placeless_operand o ≡ true → AreWords (extension o) → IsShown o
 dest_shown (Reg r) e h small = grind (arith, nat_tests)
-dest_shown (Const c) e h small = absurd cc
-dest_shown (Imm x) e h small = absurd cc
 dest_shown (Indexed r x) e h small = (plain_low r e, small 0 0 (lit< tt))
-dest_shown (Symbolic x) e h small = absurd cc
 dest_shown (Absolute x) e h small = small 0 0 (lit< tt)
-dest_shown (Indirect r) e h small = absurd cc
-dest_shown (Increment r) e h small = absurd cc
+dest_shown _ e h small = absurd cc
 
 word_read : (x : ℕ) → x < 65536 → read_hex_word (hex_word x) ≡ Some x
 word_read x small = (words_are_read (hex_word x) x).1 (small, refl)
@@ -189,31 +180,10 @@ record IsTwoName (op : TwoOp) (w : Width) (text : List ℕ) : Type 0 where
   pub width : width_of text ≡ w
   pub op_is : two_op_of (base_of text) ≡ Some op
 
-two_named : (op : TwoOp) (w : Width) → IsTwoName op w (two_name op ++ suffix_of w)
-two_named Mov Byte = record { whole = refl; other = refl; width = refl; op_is = refl }
-two_named Mov Word = record { whole = refl; other = refl; width = refl; op_is = refl }
-two_named Add Byte = record { whole = refl; other = refl; width = refl; op_is = refl }
-two_named Add Word = record { whole = refl; other = refl; width = refl; op_is = refl }
-two_named Addc Byte = record { whole = refl; other = refl; width = refl; op_is = refl }
-two_named Addc Word = record { whole = refl; other = refl; width = refl; op_is = refl }
-two_named Subc Byte = record { whole = refl; other = refl; width = refl; op_is = refl }
-two_named Subc Word = record { whole = refl; other = refl; width = refl; op_is = refl }
-two_named Sub Byte = record { whole = refl; other = refl; width = refl; op_is = refl }
-two_named Sub Word = record { whole = refl; other = refl; width = refl; op_is = refl }
-two_named Cmp Byte = record { whole = refl; other = refl; width = refl; op_is = refl }
-two_named Cmp Word = record { whole = refl; other = refl; width = refl; op_is = refl }
-two_named Dadd Byte = record { whole = refl; other = refl; width = refl; op_is = refl }
-two_named Dadd Word = record { whole = refl; other = refl; width = refl; op_is = refl }
-two_named Bit Byte = record { whole = refl; other = refl; width = refl; op_is = refl }
-two_named Bit Word = record { whole = refl; other = refl; width = refl; op_is = refl }
-two_named Bic Byte = record { whole = refl; other = refl; width = refl; op_is = refl }
-two_named Bic Word = record { whole = refl; other = refl; width = refl; op_is = refl }
-two_named Bis Byte = record { whole = refl; other = refl; width = refl; op_is = refl }
-two_named Bis Word = record { whole = refl; other = refl; width = refl; op_is = refl }
-two_named Xor Byte = record { whole = refl; other = refl; width = refl; op_is = refl }
-two_named Xor Word = record { whole = refl; other = refl; width = refl; op_is = refl }
-two_named And Byte = record { whole = refl; other = refl; width = refl; op_is = refl }
-two_named And Word = record { whole = refl; other = refl; width = refl; op_is = refl }
+two_named : (w : Width) (op : TwoOp) → IsTwoName op w (two_name op ++ suffix_of w)
+two_named Byte Mov = record { whole = refl; other = refl; width = refl; op_is = refl }
+two_named Word Mov = record { whole = refl; other = refl; width = refl; op_is = refl }
+two_named _ _ = record { whole = refl; other = refl; width = refl; op_is = refl }
 
 record IsOneName (op : OneOp) (w : Width) (text : List ℕ) : Type 0 where
   pub whole : IsWhole text
@@ -226,19 +196,10 @@ record IsOneName (op : OneOp) (w : Width) (text : List ℕ) : Type 0 where
   pub width : width_of text ≡ w
   pub op_is : one_op_of (base_of text) ≡ Some op
 
-one_named : (op : OneOp) (w : Width) → IsOneName op w (one_name op ++ suffix_of w)
-one_named Rrc Byte = record { whole = refl; no_label = refl; no_global = refl; no_word = refl; no_space = refl; no_unit = refl; no_jump = refl; width = refl; op_is = refl }
-one_named Rrc Word = record { whole = refl; no_label = refl; no_global = refl; no_word = refl; no_space = refl; no_unit = refl; no_jump = refl; width = refl; op_is = refl }
-one_named Swpb Byte = record { whole = refl; no_label = refl; no_global = refl; no_word = refl; no_space = refl; no_unit = refl; no_jump = refl; width = refl; op_is = refl }
-one_named Swpb Word = record { whole = refl; no_label = refl; no_global = refl; no_word = refl; no_space = refl; no_unit = refl; no_jump = refl; width = refl; op_is = refl }
-one_named Rra Byte = record { whole = refl; no_label = refl; no_global = refl; no_word = refl; no_space = refl; no_unit = refl; no_jump = refl; width = refl; op_is = refl }
-one_named Rra Word = record { whole = refl; no_label = refl; no_global = refl; no_word = refl; no_space = refl; no_unit = refl; no_jump = refl; width = refl; op_is = refl }
-one_named Sxt Byte = record { whole = refl; no_label = refl; no_global = refl; no_word = refl; no_space = refl; no_unit = refl; no_jump = refl; width = refl; op_is = refl }
-one_named Sxt Word = record { whole = refl; no_label = refl; no_global = refl; no_word = refl; no_space = refl; no_unit = refl; no_jump = refl; width = refl; op_is = refl }
-one_named Push Byte = record { whole = refl; no_label = refl; no_global = refl; no_word = refl; no_space = refl; no_unit = refl; no_jump = refl; width = refl; op_is = refl }
-one_named Push Word = record { whole = refl; no_label = refl; no_global = refl; no_word = refl; no_space = refl; no_unit = refl; no_jump = refl; width = refl; op_is = refl }
-one_named Call Byte = record { whole = refl; no_label = refl; no_global = refl; no_word = refl; no_space = refl; no_unit = refl; no_jump = refl; width = refl; op_is = refl }
-one_named Call Word = record { whole = refl; no_label = refl; no_global = refl; no_word = refl; no_space = refl; no_unit = refl; no_jump = refl; width = refl; op_is = refl }
+one_named : (w : Width) (op : OneOp) → IsOneName op w (one_name op ++ suffix_of w)
+one_named Byte Rrc = record { whole = refl; no_label = refl; no_global = refl; no_word = refl; no_space = refl; no_unit = refl; no_jump = refl; width = refl; op_is = refl }
+one_named Word Rrc = record { whole = refl; no_label = refl; no_global = refl; no_word = refl; no_space = refl; no_unit = refl; no_jump = refl; width = refl; op_is = refl }
+one_named _ _ = record { whole = refl; no_label = refl; no_global = refl; no_word = refl; no_space = refl; no_unit = refl; no_jump = refl; width = refl; op_is = refl }
 
 -- ---- instructions
 
@@ -283,14 +244,8 @@ one_read op w a name text n p r is =
 
 unit_read : (n : ℕ) → n < 7 → statement_of (codes "unit " ++ decimal n) ≡ Some (Code (UnitOp n) None None)
 unfolding statement_of words read_decimal digits
-unit_read zero l = refl
-unit_read (suc zero) l = refl
-unit_read (suc (suc zero)) l = refl
-unit_read (suc (suc (suc zero))) l = refl
-unit_read (suc (suc (suc (suc zero)))) l = refl
-unit_read (suc (suc (suc (suc (suc zero))))) l = refl
-unit_read (suc (suc (suc (suc (suc (suc zero)))))) l = refl
 unit_read (suc (suc (suc (suc (suc (suc (suc n))))))) l = absurd (omega arith)
+unit_read _ l = refl
 
 words_front : (xs ys : List ℕ) → AreWords (xs ++ ys) → AreWords xs × AreWords ys
 words_front [] ys h = (All-nil (λ word. word < 65536), h)
@@ -301,22 +256,22 @@ words_front (x ∷ xs) ys h =
 insn_read : (insn : Insn) (at : ℕ) → is_coded insn ≡ true → is_placeless insn ≡ true → AreWords (extensions insn) → statement_of (text_of insn at) ≡ Some (Code insn None None)
 unfolding statement_of words
 insn_read (Two op w s d) at is h small =
-    let coded = both (is_source s) (is_dest d) is in
-    let fixed = both (is_placeless_operand s) (is_placeless_operand d) h in
+    let coded = and_parts (is_source s) (is_dest d) is in
+    let fixed = and_parts (is_placeless_operand s) (is_placeless_operand d) h in
     let parts = words_front (extension s) (extension d) small in
     let source = source_shown s coded.0 fixed.0 parts.0 in
     let dest = dest_shown d coded.1 fixed.1 parts.1 in
     let here = add16 at 2 in
     let there = add16 at (2 + 2 * words_of s) in
     ap statement_of (two_text (two_name op) (suffix_of w) (operand_text s here) (operand_text d there))
-    ∙ two_read op w s d (two_name op ++ suffix_of w) (operand_text s here) (operand_text d there) (two_named op w) (operand_whole s here source) (operand_whole d there dest)
+    ∙ two_read op w s d (two_name op ++ suffix_of w) (operand_text s here) (operand_text d there) (two_named w op) (operand_whole s here source) (operand_whole d there dest)
     (operand_read s here source) (operand_read d there dest) is
 insn_read (One op w a) at is h small =
-    let coded = both (is_source a) _ is in
+    let coded = and_parts (is_source a) _ is in
     let source = source_shown a coded.0 h small in
     let here = add16 at 2 in
     ap statement_of (one_text (one_name op) (suffix_of w) (operand_text a here))
-    ∙ one_read op w a (one_name op ++ suffix_of w) (operand_text a here) (one_named op w) (operand_whole a here source) (operand_read a here source) is
+    ∙ one_read op w a (one_name op ++ suffix_of w) (operand_text a here) (one_named w op) (operand_whole a here source) (operand_read a here source) is
 insn_read (Jump c o) at is h small = absurd cc
 insn_read Reti at is h small = refl
 insn_read (UnitOp n) at is h small = unit_read n (let low : n < 7 = grind (arith, nat_tests) in low)

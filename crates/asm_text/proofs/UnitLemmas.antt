@@ -202,15 +202,10 @@ tied_if m symbols sections section offset (Some name) has low = by (slice_index_
 
 tied_of : (m : Meanings) (symbols sections section here : ℕ) (s : Statement ℕ) → HasSymbols m symbols → section < sections → All (IsRelocation sections symbols) (relocations_of m section here s)
 tied_of m symbols sections section here (Word (Name name)) has low = tied_if m symbols sections section here (Some name) has low
-tied_of m symbols sections section here (Word (Number n)) has low = λ k d h. absurd (omega (arith, h))
 tied_of m symbols sections section here (Code insn x y) has low =
     All-append (IsRelocation sections symbols) (relocation_if m section (here + 2) x) (relocation_if m section (here + second_word insn) y)
     (tied_if m symbols sections section (here + 2) x has low) (tied_if m symbols sections section (here + second_word insn) y has low)
-tied_of m symbols sections section here (Section name kind) has low = λ k d h. absurd (omega (arith, h))
-tied_of m symbols sections section here (Label name) has low = λ k d h. absurd (omega (arith, h))
-tied_of m symbols sections section here (Global name) has low = λ k d h. absurd (omega (arith, h))
-tied_of m symbols sections section here (Space size) has low = λ k d h. absurd (omega (arith, h))
-tied_of m symbols sections section here (Jump c t) has low = λ k d h. absurd (omega (arith, h))
+tied_of m symbols sections section here _ has low = λ k d h. absurd (omega (arith, h))
 
 count_if : (m : Meanings) (section offset : ℕ) (name : Option ℕ) → length (relocation_if m section offset name) ≤ 1
 count_if m section offset None = omega arith
@@ -222,16 +217,11 @@ count_if m section offset (Some name) = by (slice_index_or m.symbols name None)
 
 count_of : (m : Meanings) (section here : ℕ) (s : Statement ℕ) → length (relocations_of m section here s) ≤ 2
 count_of m section here (Word (Name name)) = let one = count_if m section here (Some name) in omega arith
-count_of m section here (Word (Number n)) = omega arith
 count_of m section here (Code insn x y) =
     let one = count_if m section (here + 2) x in
     let two = count_if m section (here + second_word insn) y in
     omega (arith, length-append (relocation_if m section (here + 2) x) (relocation_if m section (here + second_word insn) y))
-count_of m section here (Section name kind) = omega arith
-count_of m section here (Label name) = omega arith
-count_of m section here (Global name) = omega arith
-count_of m section here (Space size) = omega arith
-count_of m section here (Jump c t) = omega arith
+count_of m section here _ = omega arith
 
 -- relocations from line to line
 pub record IsTied (symbols : ℕ) (lines : ℕ) (e : Emitted) : Type 0 where

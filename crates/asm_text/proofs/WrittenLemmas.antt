@@ -3,6 +3,7 @@ use Rattle.std.proofs.Common.{ℕ, ◌≡◌, ◌<◌, ◌≤◌, Bool, true, fa
 use Rattle.std.proofs.lemmas.Bool.Decides.{nat_tests}
 use Rattle.std.specs.Prelude.{option_map, option_and_then}
 use Rattle.std.specs.Str.{bytes_eq}
+use Rattle.std.proofs.lemmas.Option.{same_Some}
 use Rattle.texts.specs.Decimals.{read_decimal}
 use Rattle.texts.specs.Hexadecimals.{read_hex_word}
 use Rattle.texts.proofs.LawLemmas.{decimals_are_read}
@@ -44,27 +45,24 @@ IsWritten (Space size) = (size ≤ MAX_SIZE) × (size % 2 ≡ 0)
 IsWritten (Jump cond target) = (cond < 8) × (is_name target ≡ true)
 IsWritten (Code insn first second) = NamedOption first × NamedOption second × (is_coded insn ≡ true)
 
-some_is : {A : Type 0} (a b : A) → Some a ≡ Some b → a ≡ b
-some_is a b e = cc
-
 -- ---- names, fields and operands
 
 name_some : (text name : List ℕ) → name_of text ≡ Some name → is_name name ≡ true
 name_some text name e = by (is_name text) refl e
   where
     by : (c : Bool) → is_name text ≡ c → cond c (Some text) None ≡ Some name → is_name name ≡ true
-    by true is k = ap is_name (sym (some_is text name k)) ∙ is
+    by true is k = ap is_name (sym (same_Some text name k)) ∙ is
     by false is k = absurd cc
 
 field_some : (text : List ℕ) (f : Field (List ℕ)) → field_of text ≡ Some f → NamedField f
 field_some text f e = by (behind (codes "0x") text) e
   where
     by_word : (w : Option ℕ) → option_map Number w ≡ Some f → NamedField f
-    by_word (Some n) k = subst NamedField (some_is (Number n) f k) tt
+    by_word (Some n) k = subst NamedField (same_Some (Number n) f k) tt
     by_word None k = absurd cc
 
     by_name : (o : Option (List ℕ)) → name_of text ≡ o → option_map Name o ≡ Some f → NamedField f
-    by_name (Some name) is k = subst NamedField (some_is (Name name) f k) (name_some text name is)
+    by_name (Some name) is k = subst NamedField (same_Some (Name name) f k) (name_some text name is)
     by_name None is k = absurd cc
 
     by : (o : Option (List ℕ)) → field_by o text ≡ Some f → NamedField f
@@ -72,7 +70,7 @@ field_some text f e = by (behind (codes "0x") text) e
     by None k = by_name (name_of text) refl k
 
 plain_some : (make : ℕ → Operand) (o : Option ℕ) (v : OperandValue) → option_map (λ r. plain (make r)) o ≡ Some v → NamedOption v.name
-plain_some make (Some r) v e = subst (λ (x : OperandValue). NamedOption x.name) (some_is (plain (make r)) v e) tt
+plain_some make (Some r) v e = subst (λ (x : OperandValue). NamedOption x.name) (same_Some (plain (make r)) v e) tt
 plain_some make None v e = absurd cc
 
 of_field_named : (make : ℕ → Operand) (f : Field (List ℕ)) → NamedField f → NamedOption (of_field make f).name
@@ -84,18 +82,18 @@ unfolding number_of
 number_some text v e = by (bytes_eq text (codes "-1")) e
   where
     by_field : (o : Option (Field (List ℕ))) → field_of text ≡ o → number_by o text ≡ Some v → NamedOption v.name
-    by_field (Some f) is k = subst (λ (x : OperandValue). NamedOption x.name) (some_is (of_field Imm f) v k) (of_field_named Imm f (field_some text f is))
+    by_field (Some f) is k = subst (λ (x : OperandValue). NamedOption x.name) (same_Some (of_field Imm f) v k) (of_field_named Imm f (field_some text f is))
     by_field None is k = plain_some Const (read_decimal 8 text) v k
 
     by : (c : Bool) → cond c (Some (plain (Const 65535))) (number_by (field_of text) text) ≡ Some v → NamedOption v.name
-    by true k = subst (λ (x : OperandValue). NamedOption x.name) (some_is (plain (Const 65535)) v k) tt
+    by true k = subst (λ (x : OperandValue). NamedOption x.name) (same_Some (plain (Const 65535)) v k) tt
     by false k = by_field (field_of text) refl k
 
 absolute_some : (text : List ℕ) (v : OperandValue) → absolute_of text ≡ Some v → NamedOption v.name
 absolute_some text v e = by (field_of text) refl e
   where
     by : (o : Option (Field (List ℕ))) → field_of text ≡ o → option_map (of_field Absolute) o ≡ Some v → NamedOption v.name
-    by (Some f) is k = subst (λ (x : OperandValue). NamedOption x.name) (some_is (of_field Absolute f) v k) (of_field_named Absolute f (field_some text f is))
+    by (Some f) is k = subst (λ (x : OperandValue). NamedOption x.name) (same_Some (of_field Absolute f) v k) (of_field_named Absolute f (field_some text f is))
     by None is k = absurd cc
 
 indirect_some : (text : List ℕ) (v : OperandValue) → indirect_of text ≡ Some v → NamedOption v.name
@@ -111,10 +109,8 @@ unfolding indexed_of
 indexed_some text v e = by (without_end (behind (codes "(r") (drop 4 text))) e
   where
     by_parts : (x r : Option ℕ) → indexed_at x r ≡ Some v → NamedOption v.name
-    by_parts (Some x) (Some r) k = subst (λ (y : OperandValue). NamedOption y.name) (some_is (plain (Indexed r x)) v k) tt
-    by_parts (Some x) None k = absurd cc
-    by_parts None (Some r) k = absurd cc
-    by_parts None None k = absurd cc
+    by_parts (Some x) (Some r) k = subst (λ (y : OperandValue). NamedOption y.name) (same_Some (plain (Indexed r x)) v k) tt
+    by_parts _ _ k = absurd cc
 
     by : (o : Option (List ℕ)) → indexed_by (take 4 text) o ≡ Some v → NamedOption v.name
     by None k = absurd cc
@@ -138,7 +134,7 @@ coded_some : (insn : Insn) (a b : Option (List ℕ)) (s : Statement (List ℕ)) 
 coded_some insn a b s x y e = by (is_coded insn) refl e
   where
     by : (c : Bool) → is_coded insn ≡ c → cond c (Some (Code insn a b)) None ≡ Some s → IsWritten s
-    by true is k = subst IsWritten (some_is (Code insn a b) s k) (x, y, is)
+    by true is k = subst IsWritten (same_Some (Code insn a b) s k) (x, y, is)
     by false is k = absurd cc
 
 one_some : (w : Width) (op : Option OneOp) (text : List ℕ) (s : Statement (List ℕ)) → one_coded w op (operand_of text) ≡ Some s → IsWritten s
@@ -146,35 +142,27 @@ one_some w op text s e = by op (operand_of text) refl e
   where
     by : (op : Option OneOp) (o : Option OperandValue) → operand_of text ≡ o → one_coded w op o ≡ Some s → IsWritten s
     by (Some op) (Some a) is k = coded_some (One op w a.operand) a.name None s (operand_some text a is) tt k
-    by (Some op) None is k = absurd cc
-    by None (Some a) is k = absurd cc
-    by None None is k = absurd cc
+    by _ _ is k = absurd cc
 
 two_some : (w : Width) (op : Option TwoOp) (source dest : List ℕ) (s : Statement (List ℕ)) → two_coded w op (operand_of source) (operand_of dest) ≡ Some s → IsWritten s
 two_some w op source dest s e = by op (operand_of source) (operand_of dest) refl refl e
   where
     by : (op : Option TwoOp) (o p : Option OperandValue) → operand_of source ≡ o → operand_of dest ≡ p → two_coded w op o p ≡ Some s → IsWritten s
     by (Some op) (Some a) (Some b) i j k = coded_some (Two op w a.operand b.operand) a.name b.name s (operand_some source a i) (operand_some dest b j) k
-    by (Some op) (Some a) None i j k = absurd cc
-    by (Some op) None (Some b) i j k = absurd cc
-    by (Some op) None None i j k = absurd cc
-    by None (Some a) (Some b) i j k = absurd cc
-    by None (Some a) None i j k = absurd cc
-    by None None (Some b) i j k = absurd cc
-    by None None None i j k = absurd cc
+    by _ _ _ i j k = absurd cc
 
 named_some : (make : List ℕ → Statement (List ℕ)) (text : List ℕ) (s : Statement (List ℕ)) → ((name : List ℕ) → is_name name ≡ true → IsWritten (make name)) → option_map make (name_of text) ≡ Some s → IsWritten s
 named_some make text s fine e = by (name_of text) refl e
   where
     by : (o : Option (List ℕ)) → name_of text ≡ o → option_map make o ≡ Some s → IsWritten s
-    by (Some name) is k = subst IsWritten (some_is (make name) s k) (fine name (name_some text name is))
+    by (Some name) is k = subst IsWritten (same_Some (make name) s k) (fine name (name_some text name is))
     by None is k = absurd cc
 
 word_some : (text : List ℕ) (s : Statement (List ℕ)) → option_map Word (field_of text) ≡ Some s → IsWritten s
 word_some text s e = by (field_of text) refl e
   where
     by : (o : Option (Field (List ℕ))) → field_of text ≡ o → option_map Word o ≡ Some s → IsWritten s
-    by (Some f) is k = subst IsWritten (some_is (Word f) s k) (field_some text f is)
+    by (Some f) is k = subst IsWritten (same_Some (Word f) s k) (field_some text f is)
     by None is k = absurd cc
 
 space_some : (text : List ℕ) (s : Statement (List ℕ)) → space_of text ≡ Some s → IsWritten s
@@ -184,7 +172,7 @@ space_some text s e = by (read_decimal MAX_SIZE text) refl e
     is_even n is = grind (arith, nat_tests)
 
     by_even : (n : ℕ) (c : Bool) → (nat_le 2 n && nat_eq (n % 2) 0) ≡ c → n ≤ MAX_SIZE → cond c (Some (Space n)) None ≡ Some s → IsWritten s
-    by_even n true is low k = subst IsWritten (some_is (Space n) s k) (low, is_even n is)
+    by_even n true is low k = subst IsWritten (same_Some (Space n) s k) (low, is_even n is)
     by_even n false is low k = absurd cc
 
     by : (o : Option ℕ) → read_decimal MAX_SIZE text ≡ o → option_and_then even_size o ≡ Some s → IsWritten s
@@ -198,7 +186,7 @@ unit_some text s e = by (read_decimal 6 text) refl e
     low n most = grind (arith, nat_tests)
 
     by : (o : Option ℕ) → read_decimal 6 text ≡ o → option_map (λ n. Code (UnitOp n) None None) o ≡ Some s → IsWritten s
-    by (Some n) is k = subst IsWritten (some_is (Code (UnitOp n) None None) s k) (tt, tt, low n ((decimals_are_read 6 (lit< tt) text n).0 is).0)
+    by (Some n) is k = subst IsWritten (same_Some (Code (UnitOp n) None None) s k) (tt, tt, low n ((decimals_are_read 6 (lit< tt) text n).0 is).0)
     by None is k = absurd cc
 
 cond_low : (word : List ℕ) (c : ℕ) → cond_of word ≡ Some c → c < 8
@@ -206,7 +194,7 @@ cond_low word c e =
     by (bytes_eq word (jump_name 0)) (bytes_eq word (jump_name 1)) (bytes_eq word (jump_name 2)) (bytes_eq word (jump_name 3)) (bytes_eq word (jump_name 4)) (bytes_eq word (jump_name 5)) (bytes_eq word (jump_name 6)) (bytes_eq word (jump_name 7)) e
   where
     is : (n : ℕ) → n < 8 → Some n ≡ Some c → c < 8
-    is n low k = subst (λ x. x < 8) (some_is n c k) low
+    is n low k = subst (λ x. x < 8) (same_Some n c k) low
 
     by : (b0 b1 b2 b3 b4 b5 b6 b7 : Bool) → cond b0 (Some 0) (cond b1 (Some 1) (cond b2 (Some 2) (cond b3 (Some 3) (cond b4 (Some 4) (cond b5 (Some 5) (cond b6 (Some 6) (cond b7 (Some 7) None))))))) ≡ Some c → c < 8
     by true b1 b2 b3 b4 b5 b6 b7 k = is 0 (lit< tt) k
@@ -241,10 +229,8 @@ section_some : (text : List ℕ) (kind : Option SectionKind) (s : Statement (Lis
 section_some text kind s e = by (name_of text) kind refl e
   where
     by : (o : Option (List ℕ)) (kind : Option SectionKind) → name_of text ≡ o → section_of o kind ≡ Some s → IsWritten s
-    by (Some name) (Some kind) is k = subst IsWritten (some_is (Section name kind) s k) (name_some text name is)
-    by (Some name) None is k = absurd cc
-    by None (Some kind) is k = absurd cc
-    by None None is k = absurd cc
+    by (Some name) (Some kind) is k = subst IsWritten (same_Some (Section name kind) s k) (name_some text name is)
+    by _ _ is k = absurd cc
 
 with_two_some : (word first second : List ℕ) (s : Statement (List ℕ)) → with_two word first second ≡ Some s → IsWritten s
 with_two_some word first second s e = by (bytes_eq word (codes "section")) e
@@ -261,7 +247,7 @@ alone_some : (word : List ℕ) (s : Statement (List ℕ)) → alone word ≡ Som
 alone_some word s e = by (bytes_eq word (codes "reti")) e
   where
     by : (c : Bool) → cond c (Some (Code Reti None None)) None ≡ Some s → IsWritten s
-    by true k = subst IsWritten (some_is (Code Reti None None) s k) (tt, tt, refl)
+    by true k = subst IsWritten (same_Some (Code Reti None None) s k) (tt, tt, refl)
     by false k = absurd cc
 
 pub statement_some : (line : List ℕ) (s : Statement (List ℕ)) → statement_of line ≡ Some s → IsWritten s

@@ -16,7 +16,7 @@ use crate::statement::{Statement, Value};
 use crate::unit::SectionKind;
 use insn_decode::{Insn, OneOp, TwoOp};
 use sm_words::Width;
-use texts::read_decimal;
+use texts::{read_decimal, split_word};
 
 /// The statement that a line without its LF writes, where it has one of the forms.
 #[tactic(auto, unfolding(crate::specs::Lines::statement_of))]
@@ -33,23 +33,6 @@ pub fn statement_of(line: &[u8]) -> Option<Statement<&[u8]>>
         return None;
     }
     with_two(word, first, second)
-}
-
-// The first word of a line, and what stands behind its space; `None` where there is no space.
-fn split_word(line: &[u8]) -> Option<(&[u8], &[u8])>
-    ensures words { IfSome result (λ parts. spaced.words line.now ≡ parts.0.now ∷ spaced.words parts.1.now) }
-    ensures whole { IfNone result (spaced.words line.now ≡ line.now ∷ []) }
-{
-    match first_space(line) {
-        None => None,
-        Some(end) => Some((&line[..end], &line[end + 1..])),
-    }
-}
-
-fn first_space(text: &[u8]) -> Option<usize>
-    ensures { result ≡ position spaced.is_space text.now }
-{
-    text.iter().position(|byte| *byte == b' ')
 }
 
 // The statement of a line of one word.

@@ -34,10 +34,10 @@ in_row kind a zero plain low high = tt
 in_row kind a (suc n) plain low high =
     (record { plain = plain; byte = refl; low = low; high = omega arith }, in_row kind (a + 1) n plain (omega arith) (omega arith))
 
-no_read : Read ≢ Fetch
+pub no_read : Read ≢ Fetch
 no_read e = cc
 
-no_write : Write ≢ Fetch
+pub no_write : Write ≢ Fetch
 no_write e = cc
 
 in_text : (m : Module) → IsSection m.text → AreMemoryBytes (text_reads m)

@@ -11,11 +11,11 @@ use Rattle.pc_access.specs.declared.Denied.{Denied}
 use Rattle.pc_access.specs.Rights.{right, right_at, or_else, first_denied, access_of}
 use Rattle.attest.specs.Units.{each_byte}
 
-read_anyhow : (p : Place) (active : Option ℕ) (held held' : List ℕ) (a : ℕ) → right_at p active held Read a ≡ right_at p active held' Read a
+pub read_anyhow : (p : Place) (active : Option ℕ) (held held' : List ℕ) (a : ℕ) → right_at p active held Read a ≡ right_at p active held' Read a
 read_anyhow Open active held held' a = refl
 read_anyhow _ active held held' a = refl
 
-write_anyhow : (p : Place) (active : Option ℕ) (held held' : List ℕ) (a : ℕ) → right_at p active held Write a ≡ right_at p active held' Write a
+pub write_anyhow : (p : Place) (active : Option ℕ) (held held' : List ℕ) (a : ℕ) → right_at p active held Write a ≡ right_at p active held' Write a
 write_anyhow Open active held held' a = refl
 write_anyhow _ active held held' a = refl
 

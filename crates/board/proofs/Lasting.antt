@@ -23,29 +23,15 @@ use Rattle.board.specs.declared.port.Surroundings.{Surroundings}
 use Rattle.board.specs.Standing.{Lasting, lasting_of, port_of, answered, after_read as after_port_read, after_write}
 use Rattle.board.proofs.Through.{through_is}
 use Rattle.written_machine.specs.Ports.{Port, read_byte, read_in, read_width, take_reads, write_byte, write_in, write_width, put_writes}
+use Rattle.devices.proofs.Acting.{scheduled-schedule, counts_by-schedule}
 
 -- ---- a tick
-
-happened : (b : Bool) (w : What) (d : Devices) → (happens_if b w d).schedule ≡ d.schedule
-happened true (Serial x) d = refl
-happened true (Up n) d = refl
-happened true (Down n) d = refl
-happened false w d = refl
-
-acted : (es : List Entry) (k : ℕ) (d : Devices) → (scheduled es k d).schedule ≡ d.schedule
-acted [] k d = refl
-acted (e ∷ es) k d = acted es k (happens_if (e.cycle == k) e.what d) ∙ happened (e.cycle == k) e.what d
-
-counted : (b c : Bool) (d : Devices) → (counts_by b c d).schedule ≡ d.schedule
-counted true true d = refl
-counted true false d = refl
-counted false c d = refl
 
 pub ticked_schedule : (d : Devices) (k : ℕ) → (ticked_devices d k).schedule ≡ d.schedule
 unfolding ticked_devices
 ticked_schedule d k =
     let t = scheduled d.schedule k (record d { sent = None }) in
-    counted t.running (t.count == t.limit) t ∙ acted d.schedule k (record d { sent = None })
+    counts_by-schedule t.running (t.count == t.limit) t ∙ scheduled-schedule d.schedule k (record d { sent = None })
 
 pub ticked_by_schedule : (n k : ℕ) (d : Devices) → (ticked_by n k d).schedule ≡ d.schedule
 ticked_by_schedule zero k d = refl

@@ -5,15 +5,11 @@ use Rattle.pc_access.specs.declared.Stop.{Stop}
 use Rattle.written_machine.specs.Cycle.{Step, told, ticked, settle, turn, counted_by, move, cycle, cycle_by, after_cycles}
 use Rattle.written_machine.specs.Standing.{stands_at, this_or, last_standing}
 use Rattle.written_machine.specs.State.{State}
-use Rattle.isolation.proofs.Tame.{cycle_number, runs_so_far, settle_same, turn_same}
+use Rattle.isolation.proofs.Tame.{cycle_number, runs_so_far, settle_same, turn_same, ticked_same}
 use Rattle.board.specs.Sound.{ended_at, RunsTo, LeadsTo, number_of}
 use Rattle.board.proofs.Runs.{state_split, stays, stopped_state}
 
 -- ---- the number of a cycle
-
-ticked_same : (s : State) → (ticked s).cycle ≡ s.cycle
-unfolding ticked
-ticked_same s = refl
 
 counted_stop : (o : Option Stop) (t : Step) (stop : Stop) → t.state.stop ≡ o → (counted_by o t).state.stop ≡ Some stop → (counted_by o t).state.cycle ≡ t.state.cycle
 counted_stop (Some x) t stop e h = refl
@@ -168,10 +164,6 @@ last_here addr i n s t next is number here e =
 pub last_there : (addr i : ℕ) (s t : State) (last next : Option ℕ) → t ≡ after_cycles s i → stands_at addr t ≡ false → last ≡ number_of (last_standing addr s i) → next ≡ last → next ≡ number_of (last_standing addr s (suc i))
 last_there addr i s t last next is off was e =
     e ∙ was ∙ sym (ap (λ b. number_of (this_or b (after_cycles s i) (last_standing addr s i))) (ap (stands_at addr) (sym is) ∙ off))
-
-pub both_false : (b c : Bool) → c ≡ false → (b && c) ≡ false
-both_false true c e = e
-both_false false c e = refl
 
 -- where a walk arrives
 pub arrived : (number : ℕ) (s : State) → RunsTo number s → (after_cycles s (number - s.cycle)).cycle ≡ number

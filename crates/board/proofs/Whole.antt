@@ -1,6 +1,7 @@
 -- An instruction that is decoded at once, from its first word and the two words behind it.
 use Rattle.std.proofs.Common.{◌≡◌, ℕ, ◌+◌, ◌*◌, ◌≤◌, ◌<◌, refl, sym, ap, subst, ◌∙◌, arith, Bool, true, false, Option, Some, None, zero, suc, ◌&&◌}
 use Rattle.std.proofs.lemmas.Bool.Decides.{nat_tests}
+use Rattle.std.proofs.lemmas.Bool.{and_parts}
 use Rattle.sm_words.specs.Words.{word_at, add16}
 use Rattle.insn_decode.specs.Code.{insn_of, length_of, length_at}
 use Rattle.insn_decode.specs.declared.insn.Insn.{Insn}
@@ -60,24 +61,16 @@ whole byte pc v1 v2 insn e one two = by (length_of insn) refl
 near : (t : Table) (active : Option ℕ) (pc n k : ℕ) → k < n → home_word t active pc n k ≡ true → pc + 2 * k < 65536
 near t active pc n k l h = grind (arith, nat_tests)
 
-both_left : (a b : Bool) → (a && b) ≡ true → a ≡ true
-both_left true b h = refl
-both_left false b h = h
-
-both_right : (a b : Bool) → (a && b) ≡ true → b ≡ true
-both_right true b h = h
-both_right false b h = absurd cc
-
 -- where all its words are at home, it is done
 pub home_done : (s : State) (insn : Insn) → insn_of (word_at (byte_of s) (pc_of s)) (word_at (byte_of s) (add16 (pc_of s) 2)) (word_at (byte_of s) (add16 (pc_of s) 4)) ≡ Some insn → is_home s.table s.active (pc_of s) (length_of insn) ≡ true → act_home (is_home s.table s.active (pc_of s) (length_of insn)) (length_of insn) s ≡ act_by insn s
 home_done s insn e h =
     let n : ℕ = length_of insn in
     let one : 1 < n → word_at (byte_of s) (add16 (pc_of s) 2) ≡ word_at (byte_of s) (pc_of s + 2) =
-    λ l. let k : pc_of s + 2 * 1 < 65536 = near s.table s.active (pc_of s) n 1 l (both_left (home_word s.table s.active (pc_of s) n 1) (home_word s.table s.active (pc_of s) n 2) h) in
+    λ l. let k : pc_of s + 2 * 1 < 65536 = near s.table s.active (pc_of s) n 1 l (and_parts (home_word s.table s.active (pc_of s) n 1) (home_word s.table s.active (pc_of s) n 2) h).0 in
     ap (λ (a : ℕ). word_at (byte_of s) a) (let m : add16 (pc_of s) 2 ≡ pc_of s + 2 = omega arith in m)
     in
     let two : 2 < n → word_at (byte_of s) (add16 (pc_of s) 4) ≡ word_at (byte_of s) (pc_of s + 4) =
-    λ l. let k : pc_of s + 2 * 2 < 65536 = near s.table s.active (pc_of s) n 2 l (both_right (home_word s.table s.active (pc_of s) n 1) (home_word s.table s.active (pc_of s) n 2) h) in
+    λ l. let k : pc_of s + 2 * 2 < 65536 = near s.table s.active (pc_of s) n 2 l (and_parts (home_word s.table s.active (pc_of s) n 1) (home_word s.table s.active (pc_of s) n 2) h).1 in
     ap (λ (a : ℕ). word_at (byte_of s) a) (let m : add16 (pc_of s) 4 ≡ pc_of s + 4 = omega arith in m)
     in
     ap (λ (b : Bool). act_home b n s) h

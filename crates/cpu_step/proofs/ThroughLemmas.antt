@@ -1,6 +1,9 @@
 -- An instruction through a port, operand by operand: what each read and write comes to.
-use Rattle.std.proofs.Common.{◌≡◌, ℕ, ◌*◌, List, [], ◌∷◌, ◌++◌, drop, refl, sym, ap, ◌∙◌, subst, append-nil, if◌then◌else◌, Bool, true, false, ◌||◌, Option, Some, None, is_some}
+use Rattle.std.proofs.Common.{◌≡◌, ℕ, ◌*◌, List, [], ◌∷◌, ◌++◌, drop, refl, sym, ap, ◌∙◌, subst, append-nil, append_assoc, if◌then◌else◌, Bool, true, false, not, ◌||◌, Option, Some, None, is_some}
+use Rattle.std.specs.List.{list_all}
+use Rattle.std.proofs.lemmas.Bool.{not-true}
 use Rattle.std.proofs.lemmas.List.Elements.{All-head, All-tail}
+use Rattle.std.proofs.lemmas.List.Sums.{AllPass-from_list_all}
 use Rattle.std.specs.Prelude.{IsFalse, IfSome}
 use Rattle.sm_words.specs.Sums.{low}
 use Rattle.sm_words.specs.Words.{reg, bit, add16}
@@ -25,6 +28,10 @@ use Rattle.cpu_step.specs.Effect.{given, in_memory, after_given, old_value, two_
 use Rattle.cpu_step.specs.declared.result.Computed.{Computed}
 use Rattle.cpu_step.specs.Through.{AreAligned, Taken, taken, stored_in, freely_through}
 use Rattle.cpu_step.proofs.Forms.{plan_two_form, plan_one_form, two_form, one_form}
+
+-- a test of each
+pub aligned_from : (xs : List Access) → list_all (λ x. not (misaligned x.width x.addr)) xs ≡ true → AreAligned xs
+aligned_from xs e k d l = not-true _ (AllPass-from_list_all (λ x. not (misaligned x.width x.addr)) xs e k d l)
 
 -- ---- operands
 
@@ -77,41 +84,23 @@ regrouped (Some x) b r t w = refl
 
 -- ---- reads and writes among the accesses of an instruction
 
+read_front : (r : Bool) (w : Width) (a : Option ℕ) (xs : List Access) → reads_of (access_if r Read w a ++ xs) ≡ access_if r Read w a ++ reads_of xs
+read_front true w (Some x) xs = refl
+read_front _ w _ xs = refl
+
+write_behind : (r : Bool) (w : Width) (a : Option ℕ) (xs : List Access) → writes_of (access_if r Read w a ++ xs) ≡ writes_of xs
+write_behind true w (Some x) xs = refl
+write_behind _ w _ xs = refl
+
+write_alone : (t : Bool) (w : Width) (b : Option ℕ) → (reads_of (access_if t Write w b) ≡ []) × (writes_of (access_if t Write w b) ≡ access_if t Write w b)
+write_alone true w (Some x) = (refl, refl)
+write_alone _ w _ = (refl, refl)
+
 two_reads : (a b : Option ℕ) (r t : Bool) (w : Width) → reads_of ((access_if true Read w a ++ access_if r Read w b) ++ access_if t Write w b) ≡ access_if true Read w a ++ access_if r Read w b
-two_reads None None true true w = refl
-two_reads None None true false w = refl
-two_reads None None false true w = refl
-two_reads None None false false w = refl
-two_reads None (Some y) true true w = refl
-two_reads None (Some y) true false w = refl
-two_reads None (Some y) false true w = refl
-two_reads None (Some y) false false w = refl
-two_reads (Some x) None true true w = refl
-two_reads (Some x) None true false w = refl
-two_reads (Some x) None false true w = refl
-two_reads (Some x) None false false w = refl
-two_reads (Some x) (Some y) true true w = refl
-two_reads (Some x) (Some y) true false w = refl
-two_reads (Some x) (Some y) false true w = refl
-two_reads (Some x) (Some y) false false w = refl
+two_reads a b r t w = rw (append_assoc, read_front true w a _, read_front r w b _, (write_alone t w b).0, append-nil) refl
 
 two_writes : (a b : Option ℕ) (r t : Bool) (w : Width) → writes_of ((access_if true Read w a ++ access_if r Read w b) ++ access_if t Write w b) ≡ access_if t Write w b
-two_writes None None true true w = refl
-two_writes None None true false w = refl
-two_writes None None false true w = refl
-two_writes None None false false w = refl
-two_writes None (Some y) true true w = refl
-two_writes None (Some y) true false w = refl
-two_writes None (Some y) false true w = refl
-two_writes None (Some y) false false w = refl
-two_writes (Some x) None true true w = refl
-two_writes (Some x) None true false w = refl
-two_writes (Some x) None false true w = refl
-two_writes (Some x) None false false w = refl
-two_writes (Some x) (Some y) true true w = refl
-two_writes (Some x) (Some y) true false w = refl
-two_writes (Some x) (Some y) false true w = refl
-two_writes (Some x) (Some y) false false w = refl
+two_writes a b r t w = rw (append_assoc, write_behind true w a _, write_behind r w b _, (write_alone t w b).1) refl
 
 one_reads : (a : Option ℕ) (op : OneOp) (w : Width) (sp : ℕ) → reads_of (access_if true Read w a ++ one_writes op w a sp) ≡ access_if true Read w a
 one_reads None Rrc w sp = refl

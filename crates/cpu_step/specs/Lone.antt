@@ -16,7 +16,8 @@ use Rattle.pc_access.specs.declared.Kind.TheVariants.{Fetch, Read, Write}
 use Rattle.pc_access.specs.Accesses.{reads_of, writes_of, after_writes}
 use Rattle.attest.specs.Units.{Doer, UnitName, Protect, Attest, IdOf, unit_named}
 use Rattle.cpu_step.specs.Asked.{asks, effect}
-use Rattle.cpu_step.specs.Fetched.{insn_at}
+use Rattle.cpu_step.specs.Fetched.{insn_at, word_in}
+pub use Rattle.cpu_step.specs.Fetched.{if_whole as if_home}
 
 -- whose call it is: the image's key, the module, its text, and the caller id
 pub record Job : Type 0 where
@@ -81,19 +82,14 @@ abbrev pub all_inside : Job → List Access → Bool
 all_inside j [] = true
 all_inside j (x ∷ xs) = is_inside j x && all_inside j xs
 
--- whether the k-th of n words of the instruction at pc, if there is one, is in the text
+-- the same of a module's text
 abbrev pub text_word : Job → ℕ → ℕ → ℕ → Bool
-text_word j pc n k = not (nat_lt k n) || holds j.owner.text (pc + 2 * k)
+text_word j = word_in j.owner.text
 
 -- an instruction that it may do, and else none
 abbrev pub may_do : Job → Lone → Option Insn → Option Insn
 may_do j l None = None
 may_do j l (Some insn) = if is_alone insn && all_inside j (asks (lone_who j) insn l.core) then Some insn else None
-
--- an instruction, where all its words are in the text
-abbrev pub if_home : Bool → Option Insn → Option Insn
-if_home true next = next
-if_home false next = None
 
 -- the first word tells whether it is an instruction, and the number of its words
 abbrev pub next_first : Option Insn → Job → Lone → Option Insn

@@ -1,15 +1,18 @@
 //! Which accesses an instruction makes.
 
-ghost use Rattle.std.specs.Prelude.{◌≡◌, ◌+◌, ◌*◌, ◌<◌, ◌≤◌, ◌++◌, []};
+ghost use Rattle.std.specs.Prelude.{◌≡◌, IsTrue, not, ◌+◌, ◌*◌, ◌<◌, ◌≤◌, ◌++◌, []};
+ghost use Rattle.std.specs.List.{list_all};
 ghost use Rattle.arrayvec.specs.ArrayVec.{array_vec_len};
 ghost use Rattle.sm_words.specs.Words.{add16, reg};
 ghost use Rattle.insn_decode.specs.Code.{words_of};
+ghost use Rattle.pc_access.specs.Rights.{misaligned};
+ghost use Rattle.cpu_step.specs.Through.{AreAligned};
 ghost use Rattle.cpu_step.specs.Plan.{past, lowered, access_if, reads_dst, writes_dst, one_writes, plan};
 
 use crate::operand::{increment, place};
 use arrayvec::ArrayVec;
 use insn_decode::{Insn, OneOp, Operand, TwoOp};
-use pc_access::{Access, Kind};
+use pc_access::{Access, Kind, is_misaligned};
 use sm_words::{Core, PC, SP, Width};
 
 /// Moves PC past the instruction.
@@ -195,6 +198,17 @@ pub fn add_plan(insn: &Insn, core: &Core, accesses: &mut ArrayVec<Access, 3>)
         Insn::Reti => plan_reti(core, accesses),
         Insn::Jump { .. } | Insn::Unit(_) => {}
     }
+}
+
+/// Whether each word access among these is at an even address, as `execute` requires.
+#[tactic(auto, using(crate::proofs::ThroughLemmas::aligned_from))]
+pub fn are_aligned(accesses: &[Access]) -> bool
+    ensures exact { result ≡ list_all (λ x. not (misaligned x.width x.addr)) accesses.now }
+    ensures aligned { IsTrue result → AreAligned accesses.now }
+{
+    accesses
+        .iter()
+        .all(|access| !is_misaligned(access.width, access.addr))
 }
 
 /// The list of these accesses.

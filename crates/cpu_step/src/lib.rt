@@ -14,7 +14,7 @@ mod step;
 #[cfg(test)]
 mod tests;
 
-pub use accesses::{add_plan, plan};
+pub use accesses::{add_plan, are_aligned, plan};
 pub use pc_access::{Access, Kind};
 pub use port::Port;
 pub use result::{Computed, one_result, two_result};

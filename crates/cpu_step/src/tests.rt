@@ -1,11 +1,9 @@
 //! Instructions through a port in memory.
 
 ghost use Rattle.std.specs.Prelude.{◌≡◌, ◌%◌, List, ℕ, IsTrue, not, slice_index, slice_set};
-ghost use Rattle.pc_access.specs.Rights.{misaligned};
 ghost use Rattle.cpu_step.specs.Bench.{bench_value, bench_written};
-ghost use Rattle.cpu_step.specs.Through.{AreAligned};
 
-use crate::{Port, execute, plan};
+use crate::{Port, are_aligned, execute, plan};
 use insn_decode::{Insn, decode};
 use pc_access::Access;
 use sm_words::{Core, Width};
@@ -56,23 +54,6 @@ impl Port for Bench {
             self.set_byte(addr.wrapping_add(1), (value / 256) as u8);
         }
     }
-}
-
-fn is_aligned(access: &Access) -> bool
-    ensures { result ≡ not (misaligned access.now.width access.now.addr) }
-{
-    access.width == Width::Byte || access.addr % 2 == 0
-}
-
-fn are_aligned(accesses: &[Access]) -> bool
-    ensures { IsTrue result → AreAligned accesses.now }
-{
-    for access in accesses {
-        if !is_aligned(access) {
-            return false;
-        }
-    }
-    true
 }
 
 /// The first two words of an instruction, R4 and R5, a word of memory at 0, then R5, a word of memory at 2

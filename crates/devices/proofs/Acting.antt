@@ -68,11 +68,11 @@ happens_if-schedule : (b : Bool) (w : What) (d : Devices) → (happens_if b w d)
 happens_if-schedule true (Serial b) d = refl
 happens_if-schedule _ _ d = refl
 
-scheduled-schedule : (es : List Entry) (k : ℕ) (d : Devices) → (scheduled es k d).schedule ≡ d.schedule
+pub scheduled-schedule : (es : List Entry) (k : ℕ) (d : Devices) → (scheduled es k d).schedule ≡ d.schedule
 scheduled-schedule [] k d = refl
 scheduled-schedule (e ∷ es) k d = scheduled-schedule es k (happens_if (nat_eq e.cycle k) e.what d) ∙ happens_if-schedule (nat_eq e.cycle k) e.what d
 
-counts_by-schedule : (r q : Bool) (d : Devices) → (counts_by r q d).schedule ≡ d.schedule
+pub counts_by-schedule : (r q : Bool) (d : Devices) → (counts_by r q d).schedule ≡ d.schedule
 counts_by-schedule true true d = refl
 counts_by-schedule _ _ d = refl
 

@@ -2,6 +2,6 @@ mod Still
 mod Timing
 mod FourBits
 mod Order
-mod Acting
+pub mod Acting
 mod Waiting
 mod Passing

@@ -124,7 +124,7 @@ crossed_is S arms m text x = by (met m.text text x.pair.addr)
     by _ = refl
 
 module _ (S : Point → Step) (m : Module) (text : List ℕ) (insn : Insn) (target : ℕ) (arm : Arm) (x : Point) (t0 t1 t2 : Tally)
-    (label : t0.label ≡ x.label) (still : t0.cycles ≡ 0)
+    (still : t0.cycles ≡ 0)
     (first : (branch : ℕ) → t1 ≡ told (walk S m text branch arm.join (suc arm.join) (arm_start insn (add16 x.pair.addr 2) x (past_val insn x.pair.addr x.label.core))) t0)
     (second : (branch : ℕ) → t2 ≡ told (walk S m text branch arm.join (suc arm.join) (arm_start insn target x (does_val insn x.pair.addr x.label.core []).core)) (record t1 { cycles = 0 }))
   where
@@ -156,17 +156,13 @@ module _ (S : Point → Step) (m : Module) (text : List ℕ) (insn : Insn) (targ
         ∙ sym (noted_append (a ++ w0.reasons ++ w1.reasons ++ b) c o ∙ ap (noted c) (noted_append (a ++ w0.reasons ++ w1.reasons) b o
         ∙ ap (noted b) (noted_append (a ++ w0.reasons) w1.reasons o ∙ ap (noted w1.reasons) (noted_append a w0.reasons o))))
 
-    -- where it goes on, with Secret where an arm wrote
-    pub crossing_gives : (step_arm S m text insn target arm x).gives ≡ points_at (arm.join ∷ []) x.pair.returns t2.label
-    crossing_gives =
-        ap (λ l. record { pair = record { addr = arm.join; returns = x.pair.returns }; label = label_at arm.join l } ∷ []) (sym joined)
-      where
-        joined : t2.label ≡ record { core = blot_core (w0.regs ++ w1.regs) x.label.core; words = blot (w0.words ++ w1.words) x.label.words }
-        joined =
-            ap (λ t. t.label) (second x.pair.addr)
-            ∙ ap (λ l. record { core = blot_core w1.regs l.core; words = blot w1.words l.words }) (ap (λ t. t.label) (first x.pair.addr) ∙ ap (λ l. record { core = blot_core w0.regs l.core; words = blot w0.words l.words }) label)
-            ∙ ap (λ c. record { core = c; words = blot w1.words (blot w0.words x.label.words) }) (sym (core_append w0.regs w1.regs x.label.core))
-            ∙ ap (λ w. record { core = blot_core (w0.regs ++ w1.regs) x.label.core; words = w }) (sym (words_append w0.words w1.words x.label.words))
+    -- Secret where the arms wrote
+    pub crossing_told : t2.label ≡ record { core = blot_core (w0.regs ++ w1.regs) t0.label.core; words = blot (w0.words ++ w1.words) t0.label.words }
+    crossing_told =
+        ap (λ t. t.label) (second x.pair.addr)
+        ∙ ap (λ l. record { core = blot_core w1.regs l.core; words = blot w1.words l.words }) (ap (λ t. t.label) (first x.pair.addr))
+        ∙ ap (λ c. record { core = c; words = blot w1.words (blot w0.words t0.label.words) }) (sym (core_append w0.regs w1.regs t0.label.core))
+        ∙ ap (λ w. record { core = blot_core (w0.regs ++ w1.regs) t0.label.core; words = w }) (sym (words_append w0.words w1.words t0.label.words))
 
 -- a step by what stands at the branch
 pub by_crossing : (S : Point → Step) (arms : List Arm) (m : Module) (text : List ℕ) (x : Point) (c : Crossing) → crossing_by (met m.text text x.pair.addr) arms x.pair.addr (val x.label.core 2) ≡ Some c →

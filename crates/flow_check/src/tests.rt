@@ -8,6 +8,7 @@ use std::process::Abort;
 use std::test::Fail;
 
 mod modes;
+mod passages;
 mod reasons;
 mod stubs;
 

@@ -15,7 +15,7 @@ use crate::reach::reaches;
 use crate::returns::Returns;
 use crate::step::{Cause, Stepped, Targets, note, note_if};
 use crate::stub::step_base;
-use arm_balance::{holds, met_arm};
+use arm_balance::met_arm;
 use cycle_table::cycles;
 use flow_rule::{Label, Reach, Reason, Val};
 use insn_decode::Insn;
@@ -66,7 +66,7 @@ fn first_of(targets: &Targets) -> Option<u16>
 fn is_lost(module: &Module, join: u16, next: u16) -> bool
     ensures { result ≡ (holds module.now.text join || not (next == join)) }
 {
-    holds(module.text, usize::from(join)) || next != join
+    module.text.holds(usize::from(join)) || next != join
 }
 
 /// Does the arm's instruction at this place, and tells whether the arm goes on.

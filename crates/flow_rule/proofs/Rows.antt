@@ -1,13 +1,17 @@
 -- Worked rows, by computation.
-use Rattle.std.proofs.Common.{◌≡◌, ℕ, ◌%◌, ◌/◌, List, [], ◌∷◌, ◌++◌, refl, length}
+use Rattle.std.proofs.Common.{◌≡◌, ℕ, ◌%◌, ◌/◌, List, [], ◌∷◌, ◌++◌, refl, length, pos}
+use Rattle.std.specs.Prelude.{replicate}
 use Rattle.insn_decode.specs.Code.{insn_of}
+use Rattle.insn_decode.specs.declared.insn.Insn.TheVariants.{Jump}
+use Rattle.flow_rule.specs.declared.Val.{Val}
+use Rattle.flow_rule.specs.declared.Val.TheVariants.{Known, Public, Secret}
 use Rattle.mod_layout.specs.declared.Module.{Module}
 use Rattle.flow_rule.specs.declared.Reason.TheVariants.{SecretBranch, UnknownTarget, SecretAtExit, ArmTime}
 use Rattle.flow_rule.specs.Rounds.{Point, Found, rounds, all_reasons}
 use Rattle.flow_rule.specs.Does.{plan_val, does_val}
 use Rattle.cycle_table.specs.Cycles.{cycles_of}
 use Rattle.arm_balance.specs.declared.Arm.{Arm}
-use Rattle.flow_rule.specs.Arms.{flow_with, step_arms}
+use Rattle.flow_rule.specs.Arms.{Walk, refused, first_walk, second_walk, flow_with, step_arms}
 use Rattle.flow_rule.specs.Reasons.{because}
 use Rattle.flow_rule.specs.Steps.{step_of}
 use Rattle.flow_rule.specs.Stub.{step_stub, has_stub}
@@ -92,3 +96,44 @@ away_text =
 away_no : reasons_after 24 (module_of 0x0800 0x0854 0x0a00 0x0a24) (bytes_of away_text) ≡ because 0x0852 UnknownTarget 0
 unfolding bytes_of away_text met step_of step_stub has_stub plan_val does_val insn_of
 away_no = refl
+
+-- both arms of a branch at 0x0300 write the word to which R4 points, and meet at 0x030e
+branch_text : List ℕ
+branch_text = 0x2403 ∷ 0x4584 ∷ 0x0000 ∷ 0x3c03 ∷ 0x4684 ∷ 0x0000 ∷ 0x3c00 ∷ 0x4700 ∷ []
+
+-- at the branch, by what is known of R4, of R5, and of all other registers and words
+abbrev branch_at : Val → Val → Val → Point
+branch_at four five other = record {
+  pair = record { addr = 0x0300; returns = [] };
+  label = record {
+    core = Known 0x0300 ∷ other ∷ Secret ∷ Known 0 ∷ four ∷ five ∷ replicate 10 other;
+    words = replicate 256 other;
+  };
+}
+
+branch_told : Point → Walk × Walk
+unfolding branch_text bytes_of
+branch_told x =
+    let m = module_of 0x0300 0x0310 0x0400 0x0402 in
+    let text = bytes_of branch_text in
+    let arm : Arm = record { branch = 0x0300; join = 0x030e; cycles = 6 } in (
+      first_walk (flow_step m text) m text (Jump 1 (pos 3)) arm x,
+      second_walk (flow_step m text) m text
+          (Jump 1 (pos 3)) 0x0308 arm x,
+    )
+
+arm_writes : Walk
+arm_writes = record { reasons = []; cycles = 6; regs = []; words = 0 ∷ [] }
+
+branch_top : branch_told (branch_at (Known 0x0400) Secret Secret) ≡ (arm_writes, arm_writes)
+unfolding branch_told arm_writes branch_text bytes_of met step_of step_stub has_stub plan_val does_val insn_of cycles_of
+branch_top = refl
+
+branch_low : branch_told (branch_at (Known 0x0400) (Known 5) Public) ≡ (arm_writes, arm_writes)
+unfolding branch_told arm_writes branch_text bytes_of met step_of step_stub has_stub plan_val does_val insn_of cycles_of
+branch_low = refl
+
+-- where R4 is not known, the arms have reasons, and no label is spoken of
+branch_lost : branch_told (branch_at Public Secret Secret) ≡ (refused 0x0300 0x0302, refused 0x0300 0x0308)
+unfolding branch_told branch_text bytes_of met step_of step_stub has_stub plan_val does_val insn_of cycles_of
+branch_lost = refl

@@ -99,12 +99,21 @@ walk step m text branch join (suc fuel) x =
 abbrev pub arm_start : Insn → ℕ → Point → List Val → Point
 arm_start insn a x core = record { pair = record { addr = kept 0 a; returns = x.pair.returns }; label = record { core = core; words = x.label.words } }
 
+-- what the arm tells that the jump does not take, and the arm that it takes
+abbrev pub first_walk : (Point → Step) → Module → List ℕ → Insn → Arm → Point → Walk
+first_walk step m text insn arm x =
+    let pc = x.pair.addr in walk step m text pc arm.join (suc arm.join) (arm_start insn (add16 pc 2) x (past_val insn pc x.label.core))
+
+abbrev pub second_walk : (Point → Step) → Module → List ℕ → Insn → ℕ → Arm → Point → Walk
+second_walk step m text insn target arm x =
+    let pc = x.pair.addr in walk step m text pc arm.join (suc arm.join) (arm_start insn target x (does_val insn pc x.label.core []).core)
+
 -- the rule of a branch with a certificate
 abbrev pub step_arm : (Point → Step) → Module → List ℕ → Insn → ℕ → Arm → Point → Step
 step_arm step m text insn target arm x =
     let pc = x.pair.addr in
-    let w0 = walk step m text pc arm.join (suc arm.join) (arm_start insn (add16 pc 2) x (past_val insn pc x.label.core)) in
-    let w1 = walk step m text pc arm.join (suc arm.join) (arm_start insn target x (does_val insn pc x.label.core []).core) in
+    let w0 = first_walk step m text insn arm x in
+    let w1 = second_walk step m text insn target arm x in
     record {
       reasons = because_if (not (holds m.text arm.join)) pc ArmInsn arm.join ++ w0.reasons ++ w1.reasons
           ++ because_if (not (w0.cycles == arm.cycles)) pc ArmTime 0 ++ because_if (not (w1.cycles == arm.cycles)) pc ArmTime 1;

@@ -4,6 +4,7 @@ use Rattle.flow_rule.specs.declared.Told.{Told}
 use Rattle.std.specs.Prelude.{ℕ, ◌-◌, ◌*◌, ◌/◌, ◌%◌, List, [], ◌∷◌, ◌++◌, drop, slice_set, ◌==◌, if◌then◌else◌, Bool, true, false, ◌&&◌, ◌||◌, not, Option, Some, None}
 use Rattle.sm_words.specs.Words.{nth, add16, bit, word_at}
 use Rattle.insn_decode.specs.Code.{words_of, length_of, distance}
+use Rattle.sm_words.specs.Status.{has_all_flags}
 use Rattle.sm_words.specs.Sums.{low}
 use Rattle.cpu_step.specs.Effect.{value_of, two_result, one_result, in_memory}
 use Rattle.cpu_step.specs.Plan.{step_of, reads_dst, writes_dst}
@@ -190,7 +191,7 @@ written_val false _ res core = record { core = set_flags_by res.flags core; stor
 
 -- a word BIC to SR whose source has all four flags makes them 0 in both runs
 abbrev pub clears : Val → Bool
-clears (Known v) = (v % 8 == 7) && ((v / 256) % 2 == 1)
+clears (Known v) = has_all_flags v
 clears _ = false
 
 abbrev pub clears_flags : TwoOp → Width → Operand → Val → Bool

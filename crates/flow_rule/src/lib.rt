@@ -1,6 +1,7 @@
 //! The rule of flow over a module's text, and its laws: a text that the rule accepts is even for every two data.
 #![tactic(auto)]
 
+ghost use Rattle.flow_rule.specs.Absorbs.{ArmsRest};
 ghost use Rattle.flow_rule.specs.Laws.{Evenness, EvennessWithArms, WithoutArms};
 
 use pc_access::Kind;
@@ -82,4 +83,9 @@ pub fn evenness_with_arms()
 /// No certificates change nothing.
 pub fn without_arms()
     ensures same { WithoutArms }
+{}
+
+/// What no reason says of a branch's arms under a label holds of every label that it absorbs.
+pub fn arms_rest()
+    ensures rest { ArmsRest }
 {}

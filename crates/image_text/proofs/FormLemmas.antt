@@ -60,7 +60,7 @@ tail_form mark b form line h = record {
   digits = λ at. bad_none form line 1 at (tail_bad mark b form line 0 (h.digits 0)).1;
 }
 
-nothing_left : (line : List ℕ) → HasForm [] line → line ≡ []
+pub nothing_left : (line : List ℕ) → HasForm [] line → line ≡ []
 nothing_left [] h = refl
 nothing_left (b ∷ line) h = let e = h.formed in absurd cc
 
@@ -213,6 +213,3 @@ unfolding encode_with
 word_here line rest from w l e =
     let c = coded_at line rest from 2 (w / 256 ∷ w % 256 ∷ []) (omega arith) (word_bytes w l) refl e in
     (c.0, ap (λ l. unwrap_or (read_hex_word l) 0) (coded_text line from 2 (w / 256 ∷ w % 256 ∷ []) c.0 c.1) ∙ ap (λ o. unwrap_or o 0) ((words_are_read (hex_word w) w).1 (l, refl)))
-
-pub nothing_after : (line : List ℕ) → HasForm [] line → line ≡ []
-nothing_after line h = nothing_left line h

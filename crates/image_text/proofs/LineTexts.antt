@@ -6,7 +6,7 @@ use Rattle.texts.specs.Hexadecimals.{hex_word}
 use Rattle.image_text.specs.ImageText.{key_line, handler_line, module_line, row_line}
 use Rattle.image_text.specs.Refusal.{key_form, handler_form, module_form, row_form, bytes_at, word_at, section_at}
 use Rattle.image_text.specs.Reading.{HasForm, CodedAt}
-use Rattle.image_text.proofs.FormLemmas.{after_word, after_digits, after_four, word_here, coded_at, nothing_after, marks}
+use Rattle.image_text.proofs.FormLemmas.{after_word, after_digits, after_four, word_here, coded_at, nothing_left, marks}
 
 pub record IsKeyLine (line : List ℕ) : Type 0 where
   pub coded : CodedAt line 4 16
@@ -16,7 +16,7 @@ pub key_line_of : (line : List ℕ) → HasForm key_form line → IsKeyLine line
 key_line_of line h =
     let w = after_word (codes "key ") (marks 16) line refl h in
     let d = after_digits 16 [] w.rest w.next in
-    let none = nothing_after d.rest d.next in
+    let none = nothing_left d.rest d.next in
     let c = coded_at line d.rest 4 16 d.bytes (omega arith) d.are d.count (ap (drop 4) w.is ∙ d.is) in
     record {
       coded = c.0;
@@ -32,7 +32,7 @@ pub handler_line_of : (line : List ℕ) → HasForm handler_form line → IsHand
 handler_line_of line h =
     let w = after_word (codes "handler ") (marks 2) line refl h in
     let d = after_four [] w.rest w.next in
-    let none = nothing_after d.rest d.next in
+    let none = nothing_left d.rest d.next in
     let c = word_here line d.rest 8 d.word d.small (ap (drop 8) w.is ∙ d.is) in
     record {
       coded = c.0;
@@ -53,7 +53,7 @@ row_line_of line h =
     let a = after_four (32 ∷ marks 16) w.rest w.next in
     let s = after_word (32 ∷ []) (marks 16) a.rest refl a.next in
     let d = after_digits 16 [] s.rest s.next in
-    let none = nothing_after d.rest d.next in
+    let none = nothing_left d.rest d.next in
     let whole : line ≡ codes "at " ++ (hex_word a.word ++ (32 ∷ (encode_lower d.bytes ++ d.rest))) =
     w.is ∙ ap (λ (l : List ℕ). codes "at " ++ l) (a.is ∙ ap (λ (l : List ℕ). hex_word a.word ++ l) (s.is ∙ ap (λ (l : List ℕ). 32 ∷ l) d.is)) in
     let c = word_here line (32 ∷ (encode_lower d.bytes ++ d.rest)) 3 a.word a.small (ap (drop 3) whole) in
@@ -92,7 +92,7 @@ module_line_of line h =
     let c = after_four (32 ∷ marks 2) s3.rest s3.next in
     let s4 = after_word (32 ∷ []) (marks 2) c.rest refl c.next in
     let d = after_four [] s4.rest s4.next in
-    let none = nothing_after d.rest d.next in
+    let none = nothing_left d.rest d.next in
     let e5 : c.rest ≡ 32 ∷ (hex_word d.word ++ []) = s4.is ∙ ap (λ (l : List ℕ). 32 ∷ l) (d.is ∙ ap (λ (l : List ℕ). hex_word d.word ++ l) none) in
     let e4 : b.rest ≡ 32 ∷ (hex_word c.word ++ (32 ∷ (hex_word d.word ++ []))) = s3.is ∙ ap (λ (l : List ℕ). 32 ∷ l) (c.is ∙ ap (λ (l : List ℕ). hex_word c.word ++ l) e5) in
     let e3 : a.rest ≡ 32 ∷ (hex_word b.word ++ (32 ∷ (hex_word c.word ++ (32 ∷ (hex_word d.word ++ []))))) = s2.is ∙ ap (λ (l : List ℕ). 32 ∷ l) (b.is ∙ ap (λ (l : List ℕ). hex_word b.word ++ l) e4) in

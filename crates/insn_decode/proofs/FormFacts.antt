@@ -14,12 +14,7 @@ source_parts h (indexed r x p) = h
 source_parts h (indirect r x p) = h
 source_parts h (increment r x p) = h
 source_parts h (immediate x) = tt
-source_parts h (four x) = refl
-source_parts h (eight x) = refl
-source_parts h (nought x) = refl
-source_parts h (one x) = refl
-source_parts h (two x) = refl
-source_parts h (all_ones x) = refl
+source_parts h _ = refl
 
 destination_parts : {m r x : ℕ} {o : Operand} → r < 16 → Destination m r x o → HasParts o
 destination_parts h (to_register r x) = h

@@ -42,18 +42,10 @@ source_found (register r x ne) = found (kind_of r)
     found (inr (inl e)) = subst (λ (n : ℕ). source_of 0 n x ≡ Some (Reg n)) (sym e) refl
     found (inr (inr (inl e))) = absurd (ne e)
     found (inr (inr (inr p))) = plain_at 0 r x p
-source_found (symbolic x) = refl
-source_found (absolute x) = refl
 source_found (indexed r x p) = plain_at 1 r x p
 source_found (indirect r x p) = plain_at 2 r x p
 source_found (increment r x p) = plain_at 3 r x p
-source_found (immediate x) = refl
-source_found (four x) = refl
-source_found (eight x) = refl
-source_found (nought x) = refl
-source_found (one x) = refl
-source_found (two x) = refl
-source_found (all_ones x) = refl
+source_found _ = refl
 
 pc_read : (m x : ℕ) (o : Operand) → source_of m 0 x ≡ Some o → Source m 0 x o
 pc_read zero x o e = subst (λ (p : Operand). Source 0 0 x p) (same_Some (Reg 0) o e) (register 0 x (omega arith))
@@ -97,10 +89,8 @@ plain_place : (r x : ℕ) → IsPlain r → dest_of 1 r x ≡ Some (Indexed r x)
 plain_place r x p = let a : r ≢ 0 = p.not_pc in let b : r ≢ 2 = p.not_sr in let c : r ≢ 3 = p.not_constants in grind (arith, nat_tests)
 
 pub destination_found : {m r x : ℕ} {o : Operand} → Destination m r x o → dest_of m r x ≡ Some o
-destination_found (to_register r x) = refl
-destination_found (to_symbolic x) = refl
-destination_found (to_absolute x) = refl
 destination_found (to_indexed r x p) = plain_place r x p
+destination_found _ = refl
 
 pub destination_read : (m r x : ℕ) (o : Operand) → m < 2 → dest_of m r x ≡ Some o → Destination m r x o
 destination_read zero r x o h e = subst (λ (p : Operand). Destination 0 r x p) (same_Some (Reg r) o e) (to_register r x)

@@ -40,31 +40,12 @@ words_most (Imm x) = omega arith
 words_most _ = omega arith
 
 fits_same : (op : OneOp) (w : Width) (o : Operand) (v : ℕ) → one_fits op w (with_word o v) ≡ one_fits op w o
-fits_same op w (Reg r) v = refl
-fits_same op w (Const c) v = refl
-fits_same op w (Indirect r) v = refl
-fits_same op w (Increment r) v = refl
-fits_same Push w o v = refl
 fits_same Call Byte o v = refl
-fits_same Call Word o v = refl
-fits_same Swpb Byte o v = refl
-fits_same Sxt Byte o v = refl
 fits_same Swpb Word (Imm x) v = refl
-fits_same Swpb Word (Indexed r x) v = refl
-fits_same Swpb Word (Symbolic x) v = refl
-fits_same Swpb Word (Absolute x) v = refl
 fits_same Sxt Word (Imm x) v = refl
-fits_same Sxt Word (Indexed r x) v = refl
-fits_same Sxt Word (Symbolic x) v = refl
-fits_same Sxt Word (Absolute x) v = refl
 fits_same Rrc w (Imm x) v = refl
-fits_same Rrc w (Indexed r x) v = refl
-fits_same Rrc w (Symbolic x) v = refl
-fits_same Rrc w (Absolute x) v = refl
 fits_same Rra w (Imm x) v = refl
-fits_same Rra w (Indexed r x) v = refl
-fits_same Rra w (Symbolic x) v = refl
-fits_same Rra w (Absolute x) v = refl
+fits_same _ _ _ v = refl
 
 other_source : {m r x : ℕ} {o : Operand} (v : ℕ) → Source m r x o → Source m r v (with_word o v)
 other_source v (register r x ne) = register r v ne
@@ -83,18 +64,7 @@ other_source v (all_ones x) = all_ones v
 
 own_source : {m r x : ℕ} {o : Operand} → Source m r x o → with_word o x ≡ o
 own_source (register r x ne) = refl
-own_source (symbolic x) = refl
-own_source (absolute x) = refl
-own_source (indexed r x p) = refl
-own_source (indirect r x p) = refl
-own_source (increment r x p) = refl
-own_source (immediate x) = refl
-own_source (four x) = refl
-own_source (eight x) = refl
-own_source (nought x) = refl
-own_source (one x) = refl
-own_source (two x) = refl
-own_source (all_ones x) = refl
+own_source _ = refl
 
 other_destination : {m r x : ℕ} {o : Operand} (v : ℕ) → Destination m r x o → Destination m r v (with_word o v)
 other_destination v (to_register r x) = to_register r v
@@ -104,9 +74,7 @@ other_destination v (to_indexed r x p) = to_indexed r v p
 
 own_destination : {m r x : ℕ} {o : Operand} → Destination m r x o → with_word o x ≡ o
 own_destination (to_register r x) = refl
-own_destination (to_symbolic x) = refl
-own_destination (to_absolute x) = refl
-own_destination (to_indexed r x p) = refl
+own_destination _ = refl
 
 -- the word of a destination, after that of its source
 abbrev second : Operand → ℕ → ℕ → ℕ

@@ -2,12 +2,10 @@
 //! MSP430x1xx Family User's Guide SLAU049, worked out by hand.
 
 ghost use Rattle.std.specs.Prelude.{◌≡◌, ◌%◌, not, slice_index, slice_set, IsTrue};
-ghost use Rattle.pc_access.specs.Rights.{misaligned};
 ghost use Rattle.insn_decode.specs.Code.{is_unit};
-ghost use Rattle.cpu_step.specs.Through.{AreAligned};
 
 use arrayvec::ArrayVec;
-use cpu_step::{Port, execute, plan};
+use cpu_step::{Port, are_aligned, execute, plan};
 use insn_decode::{Insn, decode};
 use pc_access::{Access, Kind};
 use sm_words::{Core, Width};
@@ -114,23 +112,6 @@ impl Port for Recorder {
             self.set_byte(addr.wrapping_add(1), (value / 256) as u8);
         }
     }
-}
-
-fn is_aligned(access: &Access) -> bool
-    ensures { result ≡ not (misaligned access.now.width access.now.addr) }
-{
-    access.width == Width::Byte || access.addr % 2 == 0
-}
-
-fn are_aligned(accesses: &[Access]) -> bool
-    ensures { IsTrue result → AreAligned accesses.now }
-{
-    for access in accesses {
-        if !is_aligned(access) {
-            return false;
-        }
-    }
-    true
 }
 
 fn is_unit(insn: &Insn) -> bool

@@ -32,7 +32,8 @@ use Rattle.written_machine.specs.Ports.{Port, Got, Gots, read_in, read_byte, rea
 use Rattle.written_machine.specs.State.{State}
 use Rattle.isolation.proofs.Bytes.{Out, get_part, part_set_in, part_set_out, cleared_set}
 use Rattle.isolation.proofs.Each.{Each}
-use Rattle.isolation.proofs.Rights.{Sound, holds_true, holds_in, even_of}
+use Rattle.isolation.proofs.Rights.{Sound, holds_in, even_of}
+use Rattle.mod_layout.proofs.Found.{ends_of}
 
 -- each byte of an access is there
 abbrev pub InBy : Width → (ℕ → Bool) → ℕ → Type 0
@@ -40,7 +41,7 @@ InBy Byte P a = P a ≡ true
 InBy Word P a = (P a ≡ true) × (P (a + 1) ≡ true)
 
 holds_next : (s : Section) (a : ℕ) → s.end % 2 ≡ 0 → a % 2 ≡ 0 → holds s a ≡ true → holds s (a + 1) ≡ true
-holds_next s a end even h = let p = holds_true s a h in holds_in s (a + 1) (omega (arith, p.0)) (omega (arith, p.1))
+holds_next s a end even h = let p = ends_of s a h in holds_in s (a + 1) (omega (arith, p.0)) (omega (arith, p.1))
 
 -- ---- instructions that a module may do by itself do not look at the table
 unit_plan_alone : (x : UnitName) (w w' : Doer) (core : List ℕ) → unit_alone x ≡ true → w.own ≡ w'.own → unit_plan w x core ≡ unit_plan w' x core
@@ -89,11 +90,11 @@ module _ (m : ℕ) (own : Module) (t : Table) (sound : Sound m own t) (j : Job) 
     -- the machine's bytes are the module's
     same_by : (b : Bool) (a : ℕ) → holds own.text a ≡ b → in_sections a ≡ true → get_or mem a 0 ≡ cond b (get_or j.text (a - own.text.start) 0) (get_or (section own.ram mem) (a - own.ram.start) 0)
     same_by true a e h =
-        let p = holds_true own.text a e in
+        let p = ends_of own.text a e in
         get_part own.text.start (size_of own.text) mem a p.0 (omega (arith, p.0, p.1)) ∙ ap (λ l. get_or l (a - own.text.start) 0) text_is
     same_by false a e h =
         let r : holds own.ram a ≡ true = ap (λ b. b || holds own.ram a) (sym e) ∙ h in
-        let p = holds_true own.ram a r in
+        let p = ends_of own.ram a r in
         get_part own.ram.start (size_of own.ram) mem a p.0 (omega (arith, p.0, p.1))
 
     same_byte : (a : ℕ) → in_sections a ≡ true → get_or mem a 0 ≡ lone_byte j (section own.ram mem) a
@@ -142,7 +143,7 @@ module _ (m : ℕ) (own : Module) (t : Table) (sound : Sound m own t) (j : Job) 
 
   write_byte_same : (p : Port) (a v : ℕ) → holds own.ram a ≡ true → Writes p (write_byte p a v) (set (section own.ram p.memory) (a - own.ram.start) v)
   write_byte_same p a v h =
-      let r = holds_true own.ram a h in
+      let r = ends_of own.ram a h in
       let lo = own.ram.start in
       let n = size_of own.ram in
       let q : Port = record p { memory = set p.memory a v } in
@@ -274,7 +275,7 @@ module _ (m : ℕ) (own : Module) (t : Table) (sound : Sound m own t) (j : Job) 
   home_by false a h = refl
   home_by true a h =
       let e = sound.text_high in
-      let p = holds_true own.text a h in
+      let p = ends_of own.text a h in
       let lt : nat_lt a 65536 ≡ true = grind (arith, nat_tests) in
       ap (λ b. b && at_home (Some m) (place_of t a)) lt ∙ home_here a h
 

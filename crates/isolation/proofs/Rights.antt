@@ -51,9 +51,6 @@ refused : (b : Bool) (r : _) (a id : ℕ) → refuse_if (not b) r a id ≡ None 
 refused true r a id e = refl
 refused false r a id e = cc
 
-pub holds_true : (s : Section) (a : ℕ) → holds s a ≡ true → (s.start ≤ a) × (a < s.end)
-holds_true s a e = (grind (arith, nat_tests), grind (arith, nat_tests))
-
 none_or : (p q : Option Denied) → or_else p q ≡ None → (p ≡ None) × (q ≡ None)
 none_or None q e = (refl, e)
 none_or (Some d) q e = absurd cc

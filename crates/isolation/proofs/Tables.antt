@@ -12,12 +12,12 @@ use Rattle.mod_layout.specs.declared.Place.TheVariants.{Open, Entry, Text, Data}
 use Rattle.mod_layout.specs.declared.Section.{Section}
 use Rattle.attest.specs.Units.{UnitName, Protect, unit_named, new_text, new_ram, table_by}
 use Rattle.cpu_step.specs.Asked.{table_after}
-use Rattle.isolation.proofs.Rights.{Sound, holds_true}
+use Rattle.isolation.proofs.Rights.{Sound}
 use Rattle.mod_layout.proofs.TableLemmas.{apart_sym, table_dropped, table_more}
-use Rattle.mod_layout.proofs.Found.{separate_found, outside, elsewhere, no_entry}
+use Rattle.mod_layout.proofs.Found.{separate_found, outside, elsewhere, no_entry, ends_of}
 
 apart_out : (s r : Section) (a : ℕ) → s.start < s.end → r.start < r.end → Apart s r → holds s a ≡ true → holds r a ≡ false
-apart_out s r a so ro h e = let p = holds_true s a e in outside r a (elsewhere r s a p.0 p.1 ro (apart_sym s r h))
+apart_out s r a so ro h e = let p = ends_of s a e in outside r a (elsewhere r s a p.0 p.1 ro (apart_sym s r h))
 
 separate_sym : (x y : Module) → Separate x y → Separate y x
 separate_sym x y s = record { texts = apart_sym x.text y.text s.texts; text_ram = apart_sym x.ram y.text s.ram_text; ram_text = apart_sym x.text y.ram s.text_ram; rams = apart_sym x.ram y.ram s.rams; ids = λ e. s.ids (sym e) }

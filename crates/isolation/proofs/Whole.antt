@@ -29,7 +29,7 @@ use Rattle.isolation.proofs.Ending.{Settles, outside_settles, inside_settles}
 use Rattle.isolation.proofs.Fine.{Fine, FineSettled, settled_fine, fine_at}
 use Rattle.isolation.proofs.Hide.{veil_if, veil_frames, veil_core, hide_by, hide}
 use Rattle.isolation.proofs.Relation.{run_by, Keeps, Twins, Ready, Stays, Related, Alike, twins_stay_before, seen_veiled}
-use Rattle.isolation.proofs.Rights.{Sound, out_place, holds_in, holds_true}
+use Rattle.isolation.proofs.Rights.{Sound, out_place, holds_in}
 use Rattle.isolation.proofs.Settled.{ticked_stays}
 use Rattle.isolation.proofs.Settling.{ticked_hidden}
 use Rattle.isolation.proofs.Tables.{sound_from}
@@ -37,6 +37,7 @@ use Rattle.isolation.proofs.Turns.{outside_turn}
 use Rattle.std.proofs.lemmas.Bool.{cases_lt}
 use Rattle.isolation.proofs.Tame.{ticked_active}
 use Rattle.sm_words.specs.Status.{is_gie}
+use Rattle.mod_layout.proofs.Found.{ends_of}
 
 module _ (m : ℕ) (own : Module) (key text : List ℕ) where
   ticked_twins : (a b : State) → Twins m own key text a b → Twins m own key text (ticked a) (ticked b)
@@ -211,7 +212,7 @@ module _ (a b : Image) (m : ℕ) (schedule : List Scheduled) (peers : Peers a b 
 
   by_place : (i : ℕ) (c : Bool) → holds own.ram i ≡ c → get_or (cleared own.ram.start (size_of own.ram) a.memory) i 0 ≡ get_or (cleared own.ram.start (size_of own.ram) b.memory) i 0
   by_place i true e =
-      let p = holds_true own.ram i e in
+      let p = ends_of own.ram i e in
       get_in_cleared own.ram.start (size_of own.ram) a.memory i p.0 (omega (arith, p.0, p.1)) ∙ sym (get_in_cleared own.ram.start (size_of own.ram) b.memory i p.0 (omega (arith, p.0, p.1)))
   by_place i false e =
       let out : Out own.ram.start (size_of own.ram) i = λ low. not_in own.ram i e sound_a.ram_order low in

@@ -10,6 +10,7 @@ use Rattle.mod_layout.specs.declared.Section.{Section}
 use Rattle.mod_layout.specs.Table.{holds}
 use Rattle.layout_file.specs.Clashes.{first_with, or_later, clash_after, first_clash, share_byte}
 use Rattle.layout_file.specs.Overlaps.{ShareByte, ShareNoByte, IsFirstOverlap}
+use Rattle.mod_layout.proofs.Found.{ends_of}
 
 none_before : {A : Type 0} (p : A → Bool) (xs : List A) → position p xs ≡ None → (k : ℕ) (d : A) → k < length xs → p (get_or xs k d) ≡ false
 none_before p xs h k d inside = by (nat_lt (prefix_len (λ x. not (p x)) xs) (length xs)) refl h
@@ -41,16 +42,11 @@ AllPairs-first_clash clash xs h = apart-after clash [] xs (λ i j d order inside
 pub AllPairs-weaker : {A : Type 0} (P Q : A → A → Type 0) → ((a b : A) → P a b → Q a b) → (xs : List A) → AllPairs P xs → AllPairs Q xs
 AllPairs-weaker P Q step xs all i j d order inside = step (get_or xs i d) (get_or xs j d) (all i j d order inside)
 
-holds-ends : (s : Section) (a : ℕ) → holds s a ≡ true → (s.start ≤ a) × (a < s.end)
-holds-ends s a h =
-    let ends = and_parts _ _ h in
-    (leb-true s.start a ends.0, ltb-true a s.end ends.1)
-
 pub ShareNoByte-share_byte : (a b : Section) → share_byte a b ≡ false → ShareNoByte a b
 ShareNoByte-share_byte a b h addr inside other =
     let apart = ltb-false _ _ h in
-    let here = holds-ends a addr inside in
-    let there = holds-ends b addr other in
+    let here = ends_of a addr inside in
+    let there = ends_of b addr other in
     absurd (omega arith)
 
 -- ---- the first pair

@@ -105,10 +105,6 @@ module _ {B : Type 0} (f : ℕ → Data → Checked (List B)) where
       ap data_of cut ∙ data_of-append (take i vs) (get_or vs i d ∷ drop (i + 1) vs) in
       rw split (gather-stop f (data_of (take i vs)) (data_of (drop (i + 1) vs)) (view (get_or vs i d)) ys e front last)
 
-pub get_or-of_map : {A B : Type 0} (f : A → B) (xs : List A) (i : ℕ) (d : A) → get_or (map f xs) i (f d) ≡ f (get_or xs i d)
-get_or-of_map f (x ∷ xs) (suc i) d = get_or-of_map f xs i d
-get_or-of_map f _ _ d = refl
-
 -- ---- clashes
 
 prefix_len-of_map : {A B : Type 0} (f : A → B) (p : B → Bool) (xs : List A) → prefix_len (λ x. p (f x)) xs ≡ prefix_len p (map f xs)

@@ -2,16 +2,16 @@
 use Rattle.std.proofs.Common.{◌≡◌, ◌≢◌, ◌⊎◌, inl, inr, ℕ, zero, suc, ℤ, pos, negsuc, ◌+◌, ◌/◌, ◌%◌, ◌<◌, ◌≤◌, ◌==◌, nat_le, Bool, true, false, ◌||◌, not, List, [], ◌∷◌, ◌++◌, length, get_or, Option, Some, None, Result, Ok, Err, refl, ap, sym, ◌∙◌, subst, arith}
 use Rattle.std.specs.Prelude.{if◌then◌else◌, IsTrue, IfOk, All, AllPairs}
 use Rattle.std.specs.List.{AllPass}
+use Rattle.std.specs.Result.{result_ok}
 use Rattle.std.specs.Str.{bytes_eq, is_utf8}
 use Rattle.std.proofs.lemmas.Bool.{and_parts, or_cases, leb-true, eqb-true, eqb-false}
 use Rattle.std.proofs.lemmas.Slice.Eq.{bytes_eq-Decides}
 use Rattle.std.proofs.lemmas.List.Elements.{All-nil, All-cons, All-weaker}
 use Rattle.std.proofs.lemmas.List.Sums.{AllPass-from_list_all}
 use Rattle.std.proofs.lemmas.List.Kept.{AllPairs-cons}
-use Rattle.hex.specs.Hex.{decode_sized, decode_pairs}
+use Rattle.hex.specs.Hex.{decode_sized}
 use Rattle.hex.specs.declared.error.FromHexError.{FromHexError}
-use Rattle.hex.specs.declared.error.FromHexError.TheVariants.{OddLength, InvalidStringLength}
-use Rattle.hex.proofs.HexLemmas.{decode_pairs-ok}
+use Rattle.hex.proofs.HexLemmas.{decode_sized-ok, decode_sized-twice, decode_of-ok}
 use Rattle.toml.specs.Data.{Data, Members, get_member, as_integer, as_str, as_array}
 use Rattle.toml.specs.Parse.{parse_document}
 use Rattle.layout_file.specs.Checked.{Checked, ◌>>=◌, map_ok, gather, one}
@@ -112,7 +112,7 @@ IsRegion-section spot table s h =
 
 -- ---- the key
 
-decoded-ok : (r : Result (List ℕ) FromHexError) (bytes : List ℕ) → rows.decoded r ≡ Some bytes → r ≡ Ok bytes
+decoded-ok : (r : Result (List ℕ) FromHexError) (bytes : List ℕ) → result_ok r ≡ Some bytes → r ≡ Ok bytes
 decoded-ok (Ok a) bytes h = let same : a ≡ bytes = cc in ap Ok same
 decoded-ok (Err e) bytes h = absurd (cc)
 
@@ -121,15 +121,9 @@ of_kind-ok spot None a h = absurd (cc)
 of_kind-ok spot (Some b) a h = let same : b ≡ a = cc in ap Some same
 
 length-decode_sized : (s : List ℕ) (n : ℕ) (bytes : List ℕ) → decode_sized s n ≡ Ok bytes → length bytes ≡ n
-length-decode_sized s n bytes h = by (length s % 2 == 1) refl (length s / 2 == n) refl h
-  where
-    by : (odd : Bool) → (length s % 2 == 1) ≡ odd → (fit : Bool) → (length s / 2 == n) ≡ fit
-        → (if odd then Err OddLength else if fit then decode_pairs 0 s else Err InvalidStringLength) ≡ Ok bytes → length bytes ≡ n
-    by false even true e h =
-        let ok = decode_pairs-ok 0 s bytes h in
-        let half = eqb-true _ _ e in
-        omega (arith, ok.1)
-    by _ odd _ e h = absurd (cc)
+length-decode_sized s n bytes h =
+    let long = decode_sized-ok s n bytes h in
+    omega (arith, long, (decode_of-ok s bytes (sym (decode_sized-twice s n long) ∙ h)).2)
 
 pub length-hex_key : (spot : Spot) (table : Members) (key : List ℕ) → rows.hex_key spot table ≡ Ok key → length key ≡ 16
 length-hex_key spot table key h =

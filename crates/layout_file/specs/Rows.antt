@@ -1,10 +1,10 @@
 -- The refusals of a key, and one function for each kind of value that a key may have.
 use Rattle.std.specs.Prelude.{ℕ, ℤ, pos, negsuc, ◌%◌, ◌==◌, ◌&&◌, ◌||◌, not, Bool, true, false, nat_le, if◌then◌else◌, List, [], ◌∷◌, length, codes, Option, Some, None, option_map, option_and_then, Result, Ok, Err}
 use Rattle.std.specs.List.{list_all, list_any}
+use Rattle.std.specs.Result.{result_ok}
 use Rattle.std.specs.Str.{bytes_eq}
 use Rattle.std.specs.Char.{is_ascii_alphanumeric}
 use Rattle.hex.specs.Hex.{decode_sized}
-use Rattle.hex.specs.declared.error.FromHexError.{FromHexError}
 use Rattle.toml.specs.Data.{Data, Items, no_items, item, Members, no_members, member, get_member, as_integer, as_str, as_array, as_table}
 use Rattle.layout_file.specs.Checked.{Checked, ◌>>=◌, map_ok, gather, one}
 use Rattle.layout_file.specs.Keys.{key_name}
@@ -109,15 +109,11 @@ section spot b table = do
 
 -- ---- a string of 32 hexadecimal digits of either case
 
-abbrev pub decoded : Result (List ℕ) FromHexError → Option (List ℕ)
-decoded (Ok bytes) = Some bytes
-decoded (Err e) = None
-
 abbrev pub hex_key : Spot → Members → Checked (List ℕ)
 hex_key spot table = do
   d ← needed spot table
   s ← of_kind spot (as_str d)
-  of_kind spot (decoded (decode_sized s 16))
+  of_kind spot (result_ok (decode_sized s 16))
 
 -- ---- a string of 1 to `most` letters, digits and `_`
 

@@ -1,14 +1,15 @@
 //! One call, instruction by instruction.
 
 ghost use Rattle.std.specs.Prelude.{◌≡◌, ◌≤◌, ◌^◌, length, replicate};
-ghost use Rattle.mod_layout.specs.Table.{size_of};
+ghost use Rattle.sm_words.specs.Words.{reg};
+ghost use Rattle.mod_layout.specs.Table.{holds, size_of};
 ghost use Rattle.mod_layout.specs.Tables.{IsSection};
 ghost use Rattle.cpu_step.specs.Lone.{job_of, outcome, lone_after};
 ghost use Rattle.lone_run.specs.Ends.{answer_of, data_left};
 ghost use Rattle.lone_run.specs.Jobs.{call_of, between};
 
 use crate::acting::do_insn;
-use crate::job::{Job, holds};
+use crate::job::Job;
 use crate::next::next_insn;
 use crate::{Entry, Outcome};
 use mod_layout::Module;
@@ -53,6 +54,13 @@ pub fn call(
     run(&job, ram, entry.core, limit)
 }
 
+/// Whether PC is in the text.
+fn is_in_text(job: &Job<'_>, core: &Core) -> bool
+    ensures { result ≡ holds job.now.owner.now.text (reg core.now PC) }
+{
+    job.owner.text.holds(usize::from(core.get(PC)))
+}
+
 /// Runs the module from these registers, for at most `limit` cycles.
 fn run(job: &Job<'_>, ram: &mut [u8], entry: Core, limit: u64) -> Outcome
     requires ram { IsSection job.now.owner.now.ram }
@@ -65,7 +73,7 @@ fn run(job: &Job<'_>, ram: &mut [u8], entry: Core, limit: u64) -> Outcome
     let mut core = entry;
     let mut cycles: u64 = 0;
     loop {
-        if !holds(job.owner.text, usize::from(core.get(PC))) {
+        if !is_in_text(job, &core) {
             return Outcome::Exit { core, cycles };
         }
         if cycles == limit {

@@ -2,13 +2,12 @@
 
 ghost use Rattle.std.specs.Prelude.{◌≡◌, ◌<◌, ◌-◌, ◌^◌, slice_index, slice_set};
 ghost use Rattle.sm_words.specs.Words.{word_at};
-ghost use Rattle.mod_layout.specs.Table.{holds};
-ghost use Rattle.pc_access.specs.Rights.{misaligned};
 ghost use Rattle.cpu_step.specs.Lone.{lone_byte, lone_read, lone_write, inside_by, is_inside};
 ghost use Rattle.lone_run.specs.Jobs.{call_of};
 
 use cpu_step::{Access, Kind};
-use mod_layout::{Module, Section};
+use mod_layout::Module;
+use pc_access::is_misaligned;
 use sm_words::Width;
 
 /// Whose call it is: the node's key, the module, its text, and the caller's id.
@@ -25,13 +24,6 @@ pub struct Job<'a> {
 pub struct Lasts {
     pub cycles: u32,
     pub closing: bool,
-}
-
-/// Whether a section has this address.
-pub fn holds(section: Section, addr: usize) -> bool
-    ensures { result ≡ holds section addr }
-{
-    usize::from(section.start) <= addr && addr < usize::from(section.end)
 }
 
 /// The byte at this place, and 0 past the end.
@@ -59,7 +51,7 @@ pub fn byte(job: &Job<'_>, ram: &[u8], addr: usize) -> u16
     ensures value { result ≡ lone_byte (call_of job.now) ram.now addr }
     ensures small { result < 256 }
 {
-    if holds(job.owner.text, addr) {
+    if job.owner.text.holds(addr) {
         at(
             job.text,
             addr.saturating_sub(usize::from(job.owner.text.start)),
@@ -101,23 +93,13 @@ pub fn write(owner: &Module, ram: &mut [u8], access: Access, value: u16)
     }
 }
 
-/// Whether an access is a word at an odd address.
-fn is_misaligned(access: Access) -> bool
-    ensures { result ≡ misaligned access.width access.addr }
-{
-    match access.width {
-        Width::Byte => false,
-        Width::Word => access.addr % 2 == 1,
-    }
-}
-
 /// Whether an access of this kind at an address stays in the two sections.
 fn is_home(job: &Job<'_>, kind: Kind, addr: usize) -> bool
     ensures { result ≡ inside_by kind (call_of job.now) addr }
 {
     match kind {
-        Kind::Read => holds(job.owner.text, addr) || holds(job.owner.ram, addr),
-        Kind::Write => holds(job.owner.ram, addr),
+        Kind::Read => job.owner.text.holds(addr) || job.owner.ram.holds(addr),
+        Kind::Write => job.owner.ram.holds(addr),
         Kind::Fetch => false,
     }
 }
@@ -126,5 +108,5 @@ fn is_home(job: &Job<'_>, kind: Kind, addr: usize) -> bool
 pub fn is_inside(job: &Job<'_>, access: Access) -> bool
     ensures { result ≡ is_inside (call_of job.now) access }
 {
-    !is_misaligned(access) && is_home(job, access.kind, usize::from(access.addr))
+    !is_misaligned(access.width, access.addr) && is_home(job, access.kind, usize::from(access.addr))
 }

@@ -12,7 +12,7 @@ ghost use Rattle.cpu_step.specs.Lone.{lone_byte, lone_who, unit_alone, is_alone,
 ghost use Rattle.cpu_step.specs.Lone.{if_home, next_first, next_insn, Lone};
 ghost use Rattle.lone_run.specs.Jobs.{call_of};
 
-use crate::job::{Job, holds, is_inside, word};
+use crate::job::{Job, is_inside, word};
 use attest::in_range;
 use cpu_step::{Access, Kind, plan};
 use insn_decode::units::{ATTEST, ID_OF, PROTECT, TAG};
@@ -23,7 +23,7 @@ use sm_words::{Core, PC, Width};
 fn has_word(job: &Job<'_>, pc: u16, n: u16, k: u16) -> bool
     ensures { result ≡ text_word (call_of job.now) pc n k }
 {
-    k >= n || holds(job.owner.text, usize::from(pc) + 2 * usize::from(k))
+    k >= n || job.owner.text.holds(usize::from(pc) + 2 * usize::from(k))
 }
 
 /// Word `k` of an instruction of `n` words at `pc`, and 0 past its last.

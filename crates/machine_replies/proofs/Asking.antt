@@ -43,10 +43,8 @@ IsWordPlace (Text id) = IsWord id
 IsWordPlace (Data id) = IsWord id
 
 place_by_word : (entry text ram : Bool) (id : ℕ) (rest : Place) → IsWord id → IsWordPlace rest → IsWordPlace (place_by entry text ram id rest)
-place_by_word true text ram id rest h g = h
-place_by_word false true ram id rest h g = h
-place_by_word false false true id rest h g = h
 place_by_word false false false id rest h g = g
+place_by_word _ _ _ id rest h g = h
 
 place_in_word : (given : ℕ) (ms : List Module) (a : ℕ) → AreModules given ms → IsWord given → IsWordPlace (place_in ms a)
 place_in_word given [] a are h = tt
@@ -72,13 +70,10 @@ right_at_word (Text id) active held Fetch a h g = refuse_word _ _ a id g h
 right_at_word (Data id) active held Fetch a h g = (g, h)
 right_at_word Open active held Fetch a h g = refuse_word _ _ a 0 g (omega arith)
 right_at_word (Data id) active held Read a h g = refuse_word _ _ a id g h
-right_at_word Open active held Read a h g = tt
-right_at_word (Entry id) active held Read a h g = tt
-right_at_word (Text id) active held Read a h g = tt
-right_at_word Open active held Write a h g = tt
 right_at_word (Data id) active held Write a h g = refuse_word _ _ a id g h
 right_at_word (Entry id) active held Write a h g = (g, h)
 right_at_word (Text id) active held Write a h g = (g, h)
+right_at_word _ active held _ a h g = tt
 
 aligned_word : (b : Bool) (a : ℕ) (rest : Option Denied) → IsWord a → IsWordDenied rest → IsWordDenied (aligned_first b a rest)
 aligned_word true a rest g h = (g, omega arith)
@@ -118,25 +113,12 @@ IsWordInsn (One op w a) = IsWordOperand a
 IsWordInsn _ = Unit {0}
 
 source_word : {mode r x : ℕ} {o : Operand} → Source mode r x o → IsWord x → IsWordOperand o
-source_word (Source.register r x p) h = tt
-source_word (Source.symbolic x) h = tt
 source_word (Source.absolute x) h = h
-source_word (Source.indexed r x p) h = tt
-source_word (Source.indirect r x p) h = tt
-source_word (Source.increment r x p) h = tt
-source_word (Source.immediate x) h = tt
-source_word (Source.four x) h = tt
-source_word (Source.eight x) h = tt
-source_word (Source.nought x) h = tt
-source_word (Source.one x) h = tt
-source_word (Source.two x) h = tt
-source_word (Source.all_ones x) h = tt
+source_word _ h = tt
 
 destination_word : {mode r x : ℕ} {o : Operand} → Destination mode r x o → IsWord x → IsWordOperand o
-destination_word (Destination.to_register r x) h = tt
-destination_word (Destination.to_symbolic x) h = tt
 destination_word (Destination.to_absolute x) h = h
-destination_word (Destination.to_indexed r x p) h = tt
+destination_word _ h = tt
 
 either_word : (b : Bool) (x y : ℕ) → IsWord x → IsWord y → IsWord (cond b x y)
 either_word true x y h g = h
@@ -162,9 +144,7 @@ place_of_word (Symbolic x) core ext c h = omega arith
 place_of_word (Absolute x) core ext c h = h
 place_of_word (Indirect r) core ext c h = c.words r
 place_of_word (Increment r) core ext c h = c.words r
-place_of_word (Reg r) core ext c h = tt
-place_of_word (Const x) core ext c h = tt
-place_of_word (Imm x) core ext c h = tt
+place_of_word _ core ext c h = tt
 
 access_word : (b : Bool) (k : Kind) (w : Width) (a : Option ℕ) → AtMaybe a → Each AtWord (access_if b k w a)
 access_word true k w (Some a) h = (h, tt)
@@ -178,20 +158,11 @@ both_words (x ∷ xs) ys h g = (h.0, both_words xs ys h.1 g)
 one_writes_word : (op : OneOp) (w : Width) (a : Option ℕ) (sp : ℕ) → AtMaybe a → IsWord sp → Each AtWord (one_writes op w a sp)
 one_writes_word Push w a sp h g = (g, tt)
 one_writes_word Call w a sp h g = (g, tt)
-one_writes_word Rrc w a sp h g = access_word true Write w a h
-one_writes_word Swpb w a sp h g = access_word true Write w a h
-one_writes_word Rra w a sp h g = access_word true Write w a h
-one_writes_word Sxt w a sp h g = access_word true Write w a h
+one_writes_word _ w a sp h g = access_word true Write w a h
 
 stepped_core : (w : Width) (o : Operand) (core : List ℕ) → IsCore core → IsCore (stepped w o core)
 stepped_core w (Increment r) core c = put_core core r _ c
-stepped_core w (Reg r) core c = c
-stepped_core w (Const x) core c = c
-stepped_core w (Imm x) core c = c
-stepped_core w (Indexed r x) core c = c
-stepped_core w (Symbolic x) core c = c
-stepped_core w (Absolute x) core c = c
-stepped_core w (Indirect r) core c = c
+stepped_core w _ core c = c
 
 past_core : (insn : Insn) (core : List ℕ) → IsCore core → IsCore (past insn core)
 past_core insn core c = put_core core 0 _ c
@@ -293,10 +264,7 @@ unfolding unit_plan
 unit_word Protect who core ok own = protect_by (takes who.table (new_text core) (new_ram core)) who.table core refl
 unit_word Attest who core ok own = attest_word who.table.given who.own (attested who core) (reg core 13) own (text_at_module who.table (place_of who.table (reg core 12)) ok)
 unit_word Tag who core ok own = tag_word who.table.given who.own (reg core 12) (reg core 13) (reg core 14) own
-unit_word Unprotect who core ok own = tt
-unit_word IdOf who core ok own = tt
-unit_word OwnId who core ok own = tt
-unit_word CallerId who core ok own = tt
+unit_word _ who core ok own = tt
 
 pub asks_word : (who : Doer) (insn : Insn) (core : List ℕ) → IsCore core → IsTable who.table → IsMaybeModule who.table.given who.own → IsWordInsn insn → Each AtWord (asks who insn core)
 unfolding asks

@@ -129,10 +129,7 @@ act_event s f m = act_first_event (insn_of (word_at (byte_of s) (pc_of s)) 0 0) 
 
 enter_at_event : (p : Place) (a : Option ℕ) (left : ℕ) (s : State) → IsWordPlace p → IsWord left → AreEvents (enter_at p a left s).events
 enter_at_event (Entry id) None left s h g = ((h, g), tt)
-enter_at_event (Entry id) (Some x) left s h g = tt
-enter_at_event Open a left s h g = tt
-enter_at_event (Text id) a left s h g = tt
-enter_at_event (Data id) a left s h g = tt
+enter_at_event _ _ left s h g = tt
 
 enter_event : (left : ℕ) (s : State) → Fine s → IsWord left → AreEvents (enter left s).events
 unfolding enter
@@ -201,14 +198,11 @@ asleep_event true left s f m g = tt
 asleep_event false left s f m g = begin_event left s f m g
 
 case_event : (d o : Option ℕ) (p : Phase) (left : ℕ) (s : State) → Fine s → Filled s.memory → IsWord left → IsMaybeByte d → s.active ≡ o → AreEvents (turn_at d o p left s).events
-case_event d o (Pad n) left s f m g v e = tt
 case_event (Some v) (Some id) (Run r) left s f m g h e = inside_event v id s h (subst Small e f.active_small)
 case_event (Some v) None (Run zero) left s f m g h e = outside_event v s f h
-case_event (Some v) None (Run (suc r)) left s f m g h e = tt
-case_event None None (Run (suc r)) left s f m g h e = tt
-case_event None (Some id) (Run (suc r)) left s f m g h e = tt
 case_event None None (Run zero) left s f m g h e = asleep_event (asleep s) left s f m g
 case_event None (Some id) (Run zero) left s f m g h e = begin_event left s f m g
+case_event _ _ _ left s f m g _ e = tt
 
 turn_event : (left : ℕ) (s : State) → Fine s → Filled s.memory → IsWord left → AreEvents (turn left s).events
 turn_event left s f m g = subst (λ t. AreEvents t.events) (sym (turn_is left s)) (case_event (due s) s.active s.phase left s f m g (due_byte s) refl)
@@ -365,10 +359,7 @@ act_sends s = act_first_sends (insn_of (word_at (byte_of s) (pc_of s)) 0 0) s
 
 enter_at_sends : (p : Place) (a : Option ℕ) (left : ℕ) (s : State) → Goes s (enter_at p a left s).state
 enter_at_sends (Entry id) None left s = λ k. k
-enter_at_sends (Entry id) (Some x) left s = λ k. k
-enter_at_sends Open a left s = λ k. k
-enter_at_sends (Text id) a left s = λ k. k
-enter_at_sends (Data id) a left s = λ k. k
+enter_at_sends _ _ left s = λ k. k
 
 enter_sends : (left : ℕ) (s : State) → Goes s (enter left s).state
 unfolding enter
@@ -401,32 +392,26 @@ unfolding arrive_inside
 inside_sends v id s = accepted_sends s.devices v
 
 case_sends : (d o : Option ℕ) (p : Phase) (left : ℕ) (s : State) → Goes s (turn_at d o p left s).state
-case_sends d o (Pad n) left s = λ k. k
 case_sends (Some v) (Some id) (Run r) left s = inside_sends v id s
 case_sends (Some v) None (Run zero) left s = outside_sends v s
-case_sends (Some v) None (Run (suc r)) left s = λ k. k
-case_sends None None (Run (suc r)) left s = λ k. k
-case_sends None (Some id) (Run (suc r)) left s = λ k. k
 case_sends None None (Run zero) left s = asleep_sends (asleep s) left s
 case_sends None (Some id) (Run zero) left s = begin_sends left s
+case_sends _ _ _ left s = λ k. k
 
 turn_sends : (left : ℕ) (s : State) → Goes s (turn left s).state
 turn_sends left s = subst (λ t. Goes s t.state) (sym (turn_is left s)) (case_sends (due s) s.active s.phase left s)
 
 resume_sends : (fs : List Frame) (s : State) → Goes s (resume_from fs s).state
 resume_sends [] s = λ k. k
-resume_sends (Plain ∷ fs) s = λ k. k
-resume_sends (Held b ∷ fs) s = λ k. k
+resume_sends _ s = λ k. k
 
 close_sends : (a : Option ℕ) (o : Option Module) (s : State) → Goes s (close_of a o s).state
 close_sends None o s = λ k. k
-close_sends (Some id) None s = λ k. k
-close_sends (Some id) (Some x) s = λ k. k
+close_sends _ _ s = λ k. k
 
 leave_sends : (b : Bool) (a : Option ℕ) (s : State) → Goes s (leave_if b a s).state
 leave_sends false (Some id) s = λ k. k
-leave_sends false None s = λ k. k
-leave_sends true a s = λ k. k
+leave_sends _ _ s = λ k. k
 
 settle_by_sends : (a : After) (s : State) → Goes s (settle_by a s).state
 settle_by_sends Resume s = resume_sends s.frames s

@@ -1,7 +1,7 @@
 -- The module with an id, and addresses inside and outside of sections.
 use Rattle.std.proofs.Common.{◌≡◌, ◌⊎◌, inl, inr, ⊎_elim, ℕ, ◌+◌, ◌<◌, ◌≤◌, List, [], ◌∷◌, Bool, true, false, cond, nat_lt, nat_le, ◌&&◌, ◌||◌, ◌==◌, Option, Some, None, IfSome, refl, sym, ◌∙◌, ap, subst, arith}
 pub use Rattle.std.proofs.lemmas.Bool.{and_parts as and_true}
-use Rattle.std.proofs.lemmas.Bool.{and_right}
+use Rattle.std.proofs.lemmas.Bool.{and_right, leb-true, ltb-true}
 use Rattle.std.proofs.lemmas.Bool.Decides.{nat_tests}
 use Rattle.std.proofs.lemmas.Option.{none-some}
 use Rattle.mod_layout.specs.declared.Section.{Section}
@@ -15,6 +15,10 @@ use Rattle.mod_layout.specs.Tables.{Apart, IsSection, IsModule, Separate, Separa
 pub outside : (s : Section) (a : ℕ) → (a < s.start) ⊎ (s.end ≤ a) → holds s a ≡ false
 outside s a (inl h) = ap (λ (b : Bool). b && nat_lt a s.end) (let e : nat_le s.start a ≡ false = grind (arith, nat_tests) in e)
 outside s a (inr h) = ap (λ (b : Bool). nat_le s.start a && b) (let e : nat_lt a s.end ≡ false = grind (arith, nat_tests) in e) ∙ and_right (nat_le s.start a) false refl
+
+-- and one inside lies between its ends
+pub ends_of : (s : Section) (a : ℕ) → holds s a ≡ true → (s.start ≤ a) × (a < s.end)
+ends_of s a h = let ends = and_true _ _ h in (leb-true s.start a ends.0, ltb-true a s.end ends.1)
 
 pub within : (s : Section) (a : ℕ) → s.start ≤ a → a < s.end → holds s a ≡ true
 within s a low high =

@@ -29,10 +29,10 @@ pub struct Section {
 
 impl Section {
     /// Whether it has this address.
-    pub fn holds(self, addr: u16) -> bool
+    pub fn holds(self, addr: usize) -> bool
         ensures exact { result ≡ holds self addr }
     {
-        self.start <= addr && addr < self.end
+        usize::from(self.start) <= addr && addr < usize::from(self.end)
     }
 
     fn shares(self, other: Section) -> bool

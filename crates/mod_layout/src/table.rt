@@ -236,10 +236,10 @@ fn place_among(modules: &[Module], addr: u16) -> Place
         if module.has_entry(addr) {
             return Place::Entry(module.id);
         }
-        if module.text.holds(addr) {
+        if module.text.holds(usize::from(addr)) {
             return Place::Text(module.id);
         }
-        if module.ram.holds(addr) {
+        if module.ram.holds(usize::from(addr)) {
             return Place::Data(module.id);
         }
     }

@@ -51,9 +51,7 @@ record IsOperands (text : List ℕ) (a : Operands) : Type 0 where
 
 both_parts : (o p : Option ℕ) (a : Operands) → both o p ≡ Some a → (o ≡ Some a.addr) × (p ≡ Some a.number)
 both_parts (Some addr) (Some n) a e = (cc, cc)
-both_parts (Some addr) None a e = absurd cc
-both_parts None (Some n) a e = absurd cc
-both_parts None None a e = absurd cc
+both_parts _ _ a e = absurd cc
 
 operands_from : (text : List ℕ) (a : Operands) → operands_of text ≡ Some a → IsOperands text a
 unfolding operands_of
@@ -96,10 +94,7 @@ most_marks n e = let low : n ≤ 15 = grind (arith, nat_tests) in omega arith
 
 last_of_four : (a b c d : Bool) → (a && b && c && d) ≡ true → c ≡ true
 last_of_four true true true true e = refl
-last_of_four true true true false e = absurd cc
-last_of_four true true false d e = absurd cc
-last_of_four true false c d e = absurd cc
-last_of_four false b c d e = absurd cc
+last_of_four _ _ _ _ e = absurd cc
 
 most_bytes : (addr n : ℕ) → IsBounded (Mem addr n) → n < 2 ^ 64
 most_bytes addr n e =

@@ -27,11 +27,7 @@ all_more (l ∷ lines) line = omega (arith, all_more lines line)
 most_bounded : (line : ScriptLine) → IsBounded line → most_cycles line ≤ MAX_CYCLES
 most_bounded (Go n) b = grind (arith, nat_tests)
 most_bounded (Until addr n) b = grind (arith, nat_tests)
-most_bounded Regs b = omega arith
-most_bounded (Mem addr n) b = omega arith
-most_bounded Mark b = omega arith
-most_bounded (Back k) b = omega arith
-most_bounded (Last addr k) b = omega arith
+most_bounded _ b = omega arith
 
 nothing_before : (r : Result (List ScriptLine) ScriptFault) → r ≡ after_lines [] r
 nothing_before (Ok lines) = refl

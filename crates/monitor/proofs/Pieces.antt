@@ -36,10 +36,8 @@ pub refused_found : (t : Table) (a n i id : ℕ) (rest : List ℕ) → i < n →
 refused_found t a n i id rest h is = refused_at t a n i rest h ∙ ap (λ p. refused_by p (a + i) (refused_or t (a + (i + 1)) (n - (i + 1)) rest)) (sym is)
 
 passed : (p : Place) (a : ℕ) (rest : List ℕ) → ((id : ℕ) → p ≡ Data id → ⊥) → refused_by p a rest ≡ rest
-passed Open a rest h = refl
-passed (Entry id) a rest h = refl
-passed (Text id) a rest h = refl
 passed (Data id) a rest h = absurd (h id refl)
+passed _ a rest h = refl
 
 -- where it does not
 pub refused_next : (t : Table) (a n i : ℕ) (p : Place) (rest : List ℕ) → i < n → p ≡ place_of t (a + i) → ((id : ℕ) → p ≡ Data id → ⊥) → refused_or t (a + i) (n - i) rest ≡ refused_or t (a + (i + 1)) (n - (i + 1)) rest

@@ -4,6 +4,7 @@ use Rattle.std.specs.List.{flat_map}
 use Rattle.std.proofs.lemmas.List.{length-map, length-take, take-append-drop}
 use Rattle.std.proofs.lemmas.List.Concat.{flat_map-append}
 use Rattle.std.proofs.lemmas.List.Elements.{All-get_or, All-filter}
+use Rattle.std.proofs.lemmas.Bool.{and_left, lt-ltb}
 use Rattle.elf_objects.specs.declared.fault.ElfFault.TheVariants as fault
 use Rattle.elf_objects.specs.Bytes.{word_at}
 use Rattle.elf_objects.specs.Passes.{all_below, refuse_if, first_below, or_else}
@@ -35,7 +36,7 @@ use Rattle.obj_write.proofs.NameLemmas.{name_ends, content_read, symbol_strings}
 use Rattle.obj_write.proofs.UnitLemmas.{symtab_parts, strtab_parts, target_of, relocation_parts, symbol_names_few}
 use Rattle.obj_write.proofs.HeaderLemmas.{content_stands, unit_laid, counted_sections, zero_header, part_read, symtab_read, strtab_read, shstrtab_read, relocations_read}
 use Rattle.obj_write.proofs.FaultLemmas.{every_index, no_section_faults, no_compressed_faults, no_rel_faults, no_name_faults}
-use Rattle.obj_write.proofs.LinkLemmas.{first_table, no_link_faults, both_none, other_index, below, false_and}
+use Rattle.obj_write.proofs.LinkLemmas.{first_table, no_link_faults, both_none, other_index}
 
 -- ---- the table of symbols
 
@@ -170,9 +171,9 @@ symbol_by unit is k lt =
     let binding : ltb 2 entry.binding ≡ false = ap (ltb 2) e.binding ∙ bindings s.global in
     let count = counted_sections unit is in
     let section = e.section in
-    let within : ltb entry.section (section_count file) ≡ true = below entry.section (section_count file) (omega (arith, count, home, section)) in
+    let within : ltb entry.section (section_count file) ≡ true = lt-ltb entry.section (section_count file) (omega (arith, count, home, section)) in
     let homed : is_bad_home file entry ≡ false = ap (λ b. not b && not (eqb entry.section 0xFFF1) && not (eqb entry.section 0xFFF2)) within in
-    let common : is_bad_common entry ≡ false = false_and (eqb entry.section 0xFFF2) (eqb entry.binding 0 || not (is_alignment entry.value)) (other_index entry.section 0xFFF2 (omega (arith, home, section, few))) in
+    let common : is_bad_common entry ≡ false = and_left (eqb entry.section 0xFFF2) (eqb entry.binding 0 || not (is_alignment entry.value)) (other_index entry.section 0xFFF2 (omega (arith, home, section, few))) in
     ap (λ b. refuse_if b (fault.Symbol (suc k)))
     (four_false (is_none (end_in (content file (strings_of file table)) entry.name)) (ltb 2 entry.binding) (is_bad_home file entry) (is_bad_common entry) ends binding homed common)
 
@@ -235,13 +236,13 @@ relocation_entry_by unit is j i symbols lt count e within =
     let few = is.few_symbols in
     let info = info_read file at r (omega (arith, symbol, few)) (relocation_stands file (relocations_head_read unit j).offset unit.relocations target e inside (relocations_stand unit is j lt)) in
     let there : word_at file (at + 4) / 256 < symbols = omega (arith, info, symbol, count) in
-    ap (λ b. refuse_if (not b) (fault.Relocation i e)) (below (word_at file (at + 4) / 256) symbols there)
+    ap (λ b. refuse_if (not b) (fault.Relocation i e)) (lt-ltb (word_at file (at + 4) / 256) symbols there)
 
 not_kept_by : (file : List ℕ) (symbols i : ℕ) (h : Header) → header_of file i ≡ h → eqb h.kind 4 ≡ false → relocation_fault file symbols i ≡ None
 unfolding relocation_fault
 not_kept_by file symbols i h e other =
     ap (λ (x : Header). cond (is_kept_table file x) (first_below (entry_fault file symbols i x) (x.size / 12)) None) e
-    ∙ ap (λ b. cond b (first_below (entry_fault file symbols i h) (h.size / 12)) None) (false_and (eqb h.kind 4) (is_loaded_header (header_of file h.info)) other)
+    ∙ ap (λ b. cond b (first_below (entry_fault file symbols i h) (h.size / 12)) None) (and_left (eqb h.kind 4) (is_loaded_header (header_of file h.info)) other)
 
 kept_by : (file : List ℕ) (symbols i : ℕ) (h : Header) → header_of file i ≡ h → ((e : ℕ) → e < h.size / 12 → entry_fault file symbols i h e ≡ None) → relocation_fault file symbols i ≡ None
 unfolding relocation_fault
@@ -254,8 +255,7 @@ kept_by file symbols i h e each =
 
 part_kind : (K : SectionKind) → eqb (kind_of K) 4 ≡ false
 part_kind Code = refl
-part_kind Data = refl
-part_kind Bss = refl
+part_kind _ = refl
 
 pub count_is : (unit : UnitValue) → IsUnit unit → count_of (symbols_header (object_of unit)) ≡ suc (length unit.symbols)
 count_is unit is = ap count_of (symbols_header_is unit is) ∙ symbol_count unit

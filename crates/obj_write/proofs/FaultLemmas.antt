@@ -2,6 +2,7 @@
 use Rattle.std.proofs.Common.{◌≡◌, ℕ, zero, suc, ◌+◌, ◌/◌, ◌%◌, ◌<◌, ◌≤◌, List, [], refl, ap, subst, ◌∙◌, arith, length, get_or, Bool, true, false, not, ltb, eqb, ◌&&◌, ◌||◌, Option, Some, None, is_none}
 use Rattle.std.proofs.lemmas.Bool.Decides.{nat_tests}
 use Rattle.std.proofs.lemmas.List.Elements.{All-get_or}
+use Rattle.std.proofs.lemmas.Bool.{le-ltb}
 use Rattle.elf_objects.specs.declared.fault.ElfFault.{ElfFault}
 use Rattle.elf_objects.specs.declared.fault.ElfFault.TheVariants as fault
 use Rattle.elf_objects.specs.Passes.{refuse_if}
@@ -31,9 +32,6 @@ pub every_index : (P : ℕ → Type 0) (unit : UnitValue) → IsUnit unit → P 
 every_index P unit is first parts a b c others zero lt = first
 every_index P unit is first parts a b c others (suc k) lt = let n = counted_sections unit is in at_all (λ i. P (suc i)) unit parts a b c others k (omega (arith, n))
 
-not_below : (a b : ℕ) → b ≤ a → ltb a b ≡ false
-not_below a b le = grind (arith, nat_tests)
-
 -- ---- sections
 
 zero_section : (unit : UnitValue) → IsUnit unit → section_fault (object_of unit) 0 ≡ None
@@ -42,8 +40,8 @@ zero_section unit is = rw (zero_header unit is) refl
 
 part_sound : (K : SectionKind) (len at size bytes : ℕ) (f : ElfFault) → bytes ≡ kept_size K size → at + bytes ≤ len
     → refuse_if ((not (eqb (kind_of K) 0 || eqb (kind_of K) 8) && ltb len (at + size)) || (is_loaded (kind_of K) (flags_of K) && not (is_alignment 2))) f ≡ None
-part_sound Code len at size bytes f e le = let p : ltb len (at + size) ≡ false = not_below len (at + size) (omega arith) in rw p refl
-part_sound Data len at size bytes f e le = let p : ltb len (at + size) ≡ false = not_below len (at + size) (omega arith) in rw p refl
+part_sound Code len at size bytes f e le = let p : ltb len (at + size) ≡ false = le-ltb len (at + size) (omega arith) in rw p refl
+part_sound Data len at size bytes f e le = let p : ltb len (at + size) ≡ false = le-ltb len (at + size) (omega arith) in rw p refl
 part_sound Bss len at size bytes f e le = refl
 
 part_fault : (unit : UnitValue) → IsUnit unit → (k : ℕ) → k < length unit.sections → section_fault (object_of unit) (suc k) ≡ None
@@ -68,26 +66,26 @@ symtab_fault : (unit : UnitValue) → IsUnit unit → section_fault (object_of u
 symtab_fault unit is =
     let within = ends_within unit is (length unit.sections + 0) (omega arith) in
     let sized : length ((get_or (file_sections unit) (length unit.sections + 0) no_section).content) ≡ length (symbol_table unit.symbols) = ap (λ (t : FileSection). length t.content) (symtab_at unit) ∙ ap length (symtab_parts unit).1 in
-    table_fault_by (object_of unit) (suc (length unit.sections + 0)) _ (symtab_read unit is) (not_below (length (object_of unit)) (content_at (file_sections unit) (length unit.sections + 0) + length (symbol_table unit.symbols)) (omega (arith, within, sized))) refl
+    table_fault_by (object_of unit) (suc (length unit.sections + 0)) _ (symtab_read unit is) (le-ltb (length (object_of unit)) (content_at (file_sections unit) (length unit.sections + 0) + length (symbol_table unit.symbols)) (omega (arith, within, sized))) refl
 
 strtab_fault : (unit : UnitValue) → IsUnit unit → section_fault (object_of unit) (suc (length unit.sections + 1)) ≡ None
 strtab_fault unit is =
     let within = ends_within unit is (length unit.sections + 1) (omega arith) in
     let sized : length ((get_or (file_sections unit) (length unit.sections + 1) no_section).content) ≡ length (string_table (symbol_names unit.symbols)) = ap (λ (t : FileSection). length t.content) (strtab_at unit) ∙ ap length (strtab_parts unit).1 in
-    table_fault_by (object_of unit) (suc (length unit.sections + 1)) _ (strtab_read unit is) (not_below (length (object_of unit)) (content_at (file_sections unit) (length unit.sections + 1) + length (string_table (symbol_names unit.symbols))) (omega (arith, within, sized))) refl
+    table_fault_by (object_of unit) (suc (length unit.sections + 1)) _ (strtab_read unit is) (le-ltb (length (object_of unit)) (content_at (file_sections unit) (length unit.sections + 1) + length (string_table (symbol_names unit.symbols))) (omega (arith, within, sized))) refl
 
 shstrtab_fault : (unit : UnitValue) → IsUnit unit → section_fault (object_of unit) (suc (length unit.sections + 2)) ≡ None
 shstrtab_fault unit is =
     let within = ends_within unit is (length unit.sections + 2) (omega arith) in
     let sized : length ((get_or (file_sections unit) (length unit.sections + 2) no_section).content) ≡ length (string_table (section_names unit)) = ap (λ (t : FileSection). length t.content) (shstrtab_at unit) ∙ ap length (shstrtab_parts unit).1 in
-    table_fault_by (object_of unit) (suc (length unit.sections + 2)) _ (shstrtab_read unit is) (not_below (length (object_of unit)) (content_at (file_sections unit) (length unit.sections + 2) + length (string_table (section_names unit))) (omega (arith, within, sized))) refl
+    table_fault_by (object_of unit) (suc (length unit.sections + 2)) _ (shstrtab_read unit is) (le-ltb (length (object_of unit)) (content_at (file_sections unit) (length unit.sections + 2) + length (string_table (section_names unit))) (omega (arith, within, sized))) refl
 
 relocations_fault : (unit : UnitValue) → IsUnit unit → (j : ℕ) → j < length (relocated_in unit) → section_fault (object_of unit) (suc (length unit.sections + (3 + j))) ≡ None
 relocations_fault unit is j lt =
     let within = ends_within unit is (length unit.sections + (3 + j)) (omega arith) in
     let table : List ℕ = relocation_table unit.relocations (target_of unit j) in
     let sized : length ((get_or (file_sections unit) (length unit.sections + (3 + j)) no_section).content) ≡ length table = ap (λ (t : FileSection). length t.content) (relocations_at unit j lt) ∙ ap length (relocation_parts unit j).1 in
-    table_fault_by (object_of unit) (suc (length unit.sections + (3 + j))) _ (relocations_read unit is j lt) (not_below (length (object_of unit)) (content_at (file_sections unit) (length unit.sections + (3 + j)) + length table) (omega (arith, within, sized))) refl
+    table_fault_by (object_of unit) (suc (length unit.sections + (3 + j))) _ (relocations_read unit is j lt) (le-ltb (length (object_of unit)) (content_at (file_sections unit) (length unit.sections + (3 + j)) + length table) (omega (arith, within, sized))) refl
 
 pub no_section_faults : (unit : UnitValue) → IsUnit unit → section_faults (object_of unit) ≡ None
 unfolding section_faults
@@ -104,8 +102,7 @@ compressed_by file i h e flat =
 
 part_flags : (K : SectionKind) → (is_loaded (kind_of K) (flags_of K) && eqb (flags_of K / 2048 % 2) 1) ≡ false
 part_flags Code = refl
-part_flags Data = refl
-part_flags Bss = refl
+part_flags _ = refl
 
 pub no_compressed_faults : (unit : UnitValue) → IsUnit unit → compressed_faults (object_of unit) ≡ None
 unfolding compressed_faults
@@ -128,8 +125,7 @@ rel_by file i h e other =
 
 part_kind : (K : SectionKind) → eqb (kind_of K) 9 ≡ false
 part_kind Code = refl
-part_kind Data = refl
-part_kind Bss = refl
+part_kind _ = refl
 
 pub no_rel_faults : (unit : UnitValue) → IsUnit unit → rel_faults (object_of unit) ≡ None
 unfolding rel_faults

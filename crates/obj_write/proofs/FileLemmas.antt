@@ -15,10 +15,6 @@ use Rattle.obj_write.proofs.ReadLemmas.{Stands, stands_left, stands_right, stand
 
 -- ---- tests
 
-passed : (b : Bool) → b ≡ true → not b ≡ false
-passed true e = refl
-passed false e = cc
-
 -- nothing is found below a count
 pub nothing_below : {A : Type 0} (f : ℕ → Option A) (n : ℕ) → ((k : ℕ) → k < n → f k ≡ None) → first_below f n ≡ None
 unfolding first_below

@@ -123,8 +123,7 @@ relocation_given unit is j lt e inside =
 
 part_loaded : (K : SectionKind) → is_loaded (kind_of K) (flags_of K) ≡ true
 part_loaded Code = refl
-part_loaded Data = refl
-part_loaded Bss = refl
+part_loaded _ = refl
 
 target_loaded : (unit : UnitValue) → IsUnit unit → (j : ℕ) → j < length (relocated_in unit) → is_loaded_header (header_of (object_of unit) (target_of unit j + 1)) ≡ true
 target_loaded unit is j lt =
@@ -162,8 +161,7 @@ none_at file i h e other =
 
 part_not_kept : (K : SectionKind) (x : Bool) → (eqb (kind_of K) 4 && x) ≡ false
 part_not_kept Code x = refl
-part_not_kept Data x = refl
-part_not_kept Bss x = refl
+part_not_kept _ x = refl
 
 none_before : (unit : UnitValue) → IsUnit unit → (i : ℕ) → i < length unit.sections + 4 → relocations_at (object_of unit) i ≡ []
 none_before unit is zero lt = none_at (object_of unit) 0 (header no_head) (zero_header unit is) refl

@@ -47,13 +47,11 @@ content_below sections k lt =
 
 kind_small : (k : SectionKind) → kind_of k < 9
 kind_small Code = omega arith
-kind_small Data = omega arith
-kind_small Bss = omega arith
+kind_small _ = omega arith
 
 flags_small : (k : SectionKind) → flags_of k < 7
 flags_small Code = omega arith
-flags_small Data = omega arith
-flags_small Bss = omega arith
+flags_small _ = omega arith
 
 global_few : (symbols : List SymbolValue) → first_global symbols ≤ 1 + length symbols
 unfolding first_global

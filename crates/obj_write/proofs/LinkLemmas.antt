@@ -1,6 +1,7 @@
 -- The links between the sections of a unit's file.
 use Rattle.std.proofs.Common.{◌≡◌, ℕ, zero, suc, ◌+◌, ◌%◌, ◌<◌, List, refl, ap, ◌∙◌, arith, length, get_or, Bool, true, false, not, ltb, eqb, ◌&&◌, ◌||◌, Option, Some, None}
 use Rattle.std.proofs.lemmas.Bool.Decides.{nat_tests}
+use Rattle.std.proofs.lemmas.Bool.{and_left, and_right, eq-eqb, lt-ltb}
 use Rattle.elf_objects.specs.declared.fault.ElfFault.{ElfFault}
 use Rattle.elf_objects.specs.declared.fault.ElfFault.TheVariants as fault
 use Rattle.elf_objects.specs.Passes.{refuse_if, first_below, or_else}
@@ -24,24 +25,11 @@ use Rattle.obj_write.proofs.FaultLemmas.{every_index, names_at}
 
 -- ---- tests
 
-pub same_index : (a b : ℕ) → a ≡ b → eqb a b ≡ true
-same_index a b e = grind (arith, nat_tests)
-
 pub other_index : (a b : ℕ) → a < b → eqb a b ≡ false
 other_index a b lt = grind (arith, nat_tests)
 
 above : (a b : ℕ) → b < a → eqb a b ≡ false
 above a b lt = grind (arith, nat_tests)
-
-pub below : (a b : ℕ) → a < b → ltb a b ≡ true
-below a b lt = grind (arith, nat_tests)
-
-pub and_false : (x b : Bool) → b ≡ false → (x && b) ≡ false
-and_false true b e = e
-and_false false b e = refl
-
-pub false_and : (b x : Bool) → b ≡ false → (b && x) ≡ false
-false_and b x e = rw e refl
 
 four_false : (a b c d : Bool) (f : ElfFault) → a ≡ false → b ≡ false → c ≡ false → d ≡ false → refuse_if (a || b || c || d) f ≡ None
 four_false a b c d f p q r s = rw (p, q, r, s) refl
@@ -59,8 +47,7 @@ no_table file i h e other = ap (λ (x : Header). index_if (eqb x.kind 2) i) e �
 
 part_no_table : (K : SectionKind) → eqb (kind_of K) 2 ≡ false
 part_no_table Code = refl
-part_no_table Data = refl
-part_no_table Bss = refl
+part_no_table _ = refl
 
 tables_before : (unit : UnitValue) → IsUnit unit → (i : ℕ) → i < suc (length unit.sections + 0) → index_if (eqb ((header_of (object_of unit) i).kind) 2) i ≡ None
 tables_before unit is zero lt = no_table (object_of unit) 0 (header no_head) (zero_header unit is) refl
@@ -87,24 +74,22 @@ link_by file i h e a b c d =
     ∙ four_false (eqb i (name_table file) && not (eqb h.kind 3)) (eqb h.kind 2 && is_bad_symbol_table file i h) ((eqb h.kind 4 || eqb h.kind 9) && not (ltb h.info (section_count file))) (is_kept_table file h && is_bad_kept_table file h) (fault.Link i) a b c d
 
 other_than_names : (unit : UnitValue) → IsUnit unit → (i : ℕ) (x : Bool) → eqb i (suc (length unit.sections + 2)) ≡ false → (eqb i (name_table (object_of unit)) && x) ≡ false
-other_than_names unit is i x other = false_and (eqb i (name_table (object_of unit))) x (ap (eqb i) (names_at unit is) ∙ other)
+other_than_names unit is i x other = and_left (eqb i (name_table (object_of unit))) x (ap (eqb i) (names_at unit is) ∙ other)
 
 part_no_relocations : (K : SectionKind) (y : Bool) → ((eqb (kind_of K) 4 || eqb (kind_of K) 9) && y) ≡ false
 part_no_relocations Code y = refl
-part_no_relocations Data y = refl
-part_no_relocations Bss y = refl
+part_no_relocations _ y = refl
 
 part_not_kept : (K : SectionKind) (x y : Bool) → (eqb (kind_of K) 4 && x && y) ≡ false
 part_not_kept Code x y = refl
-part_not_kept Data x y = refl
-part_not_kept Bss x y = refl
+part_not_kept _ x y = refl
 
 part_link : (unit : UnitValue) → IsUnit unit → (k : ℕ) → k < length unit.sections → link_fault (object_of unit) (suc k) ≡ None
 part_link unit is k lt =
     let K : SectionKind = (get_or unit.sections k no_part).kind in
     link_by (object_of unit) (suc k) _ (part_read unit is k lt)
     (other_than_names unit is (suc k) (not (eqb (kind_of K) 3)) (other_index (suc k) (suc (length unit.sections + 2)) (omega arith)))
-    (false_and (eqb (kind_of K) 2) _ (part_no_table K)) (part_no_relocations K _) (part_not_kept K _ _)
+    (and_left (eqb (kind_of K) 2) _ (part_no_table K)) (part_no_relocations K _) (part_not_kept K _ _)
 
 strings_kind : (unit : UnitValue) → IsUnit unit → is_kind (object_of unit) 3 (strtab_index unit) ≡ true
 strings_kind unit is =
@@ -112,18 +97,18 @@ strings_kind unit is =
     let n = counted_sections unit is in
     let there : strtab_index unit ≡ suc (length unit.sections + 1) = omega arith in
     let kind : (header_of file (strtab_index unit)).kind ≡ 3 = ap (λ i. (header_of file i).kind) there ∙ ap (λ (h : Header). h.kind) (strtab_read unit is) in
-    let within = below (strtab_index unit) (section_count file) (omega (arith, n)) in
+    let within = lt-ltb (strtab_index unit) (section_count file) (omega (arith, n)) in
     rw (within, kind) refl
 
 is_first : (unit : UnitValue) → IsUnit unit → (i : ℕ) → i ≡ suc (length unit.sections + 0) → is_this (symbol_table (object_of unit)) i ≡ true
-is_first unit is i e = ap (λ o. is_this o i) (first_table unit is) ∙ same_index i (suc (length unit.sections + 0)) e
+is_first unit is i e = ap (λ o. is_this o i) (first_table unit is) ∙ eq-eqb i (suc (length unit.sections + 0)) e
 
 symtab_link : (unit : UnitValue) → IsUnit unit → link_fault (object_of unit) (suc (length unit.sections + 0)) ≡ None
 symtab_link unit is =
     let i : ℕ = suc (length unit.sections + 0) in
     let size : ℕ = length (own.symbol_table unit.symbols) in
     let n = length_symbols unit.symbols in
-    let whole : eqb (size % 16) 0 ≡ true = same_index (size % 16) 0 (omega (arith, n)) in
+    let whole : eqb (size % 16) 0 ≡ true = eq-eqb (size % 16) 0 (omega (arith, n)) in
     link_by (object_of unit) i _ (symtab_read unit is)
     (other_than_names unit is i true (other_index i (suc (length unit.sections + 2)) (omega arith)))
     (four_nots (is_this (symbol_table (object_of unit)) i) (is_kind (object_of unit) 3 (strtab_index unit)) true (eqb (size % 16) 0) (is_first unit is i refl) (strings_kind unit is) refl whole)
@@ -137,7 +122,7 @@ strtab_link unit is =
 shstrtab_link : (unit : UnitValue) → IsUnit unit → link_fault (object_of unit) (suc (length unit.sections + 2)) ≡ None
 shstrtab_link unit is =
     let i : ℕ = suc (length unit.sections + 2) in
-    link_by (object_of unit) i _ (shstrtab_read unit is) (and_false (eqb i (name_table (object_of unit))) false refl) refl refl refl
+    link_by (object_of unit) i _ (shstrtab_read unit is) (and_right (eqb i (name_table (object_of unit))) false refl) refl refl refl
 
 relocations_link : (unit : UnitValue) → IsUnit unit → (j : ℕ) → j < length (relocated_in unit) → link_fault (object_of unit) (suc (length unit.sections + (3 + j))) ≡ None
 relocations_link unit is j lt =
@@ -147,12 +132,12 @@ relocations_link unit is j lt =
     let target = target_within unit j lt in
     let n = counted_sections unit is in
     let m = length_relocations unit.relocations (target_of unit j) in
-    let within : ltb (target_of unit j + 1) (section_count file) ≡ true = below (target_of unit j + 1) (section_count file) (omega (arith, target, n)) in
-    let whole : eqb (size % 12) 0 ≡ true = same_index (size % 12) 0 (omega (arith, m)) in
+    let within : ltb (target_of unit j + 1) (section_count file) ≡ true = lt-ltb (target_of unit j + 1) (section_count file) (omega (arith, target, n)) in
+    let whole : eqb (size % 12) 0 ≡ true = eq-eqb (size % 12) 0 (omega (arith, m)) in
     link_by file i _ (relocations_read unit is j lt)
     (other_than_names unit is i true (above i (suc (length unit.sections + 2)) (omega arith)))
     refl (ap not within)
-    (and_false (is_loaded_header (header_of file (target_of unit j + 1))) _
+    (and_right (is_loaded_header (header_of file (target_of unit j + 1))) _
     (three_nots (is_this (symbol_table file) (symtab_index unit)) true (eqb (size % 12) 0) (is_first unit is (symtab_index unit) (omega arith)) refl whole))
 
 zero_link : (unit : UnitValue) → IsUnit unit → link_fault (object_of unit) 0 ≡ None
@@ -165,7 +150,7 @@ names_link unit is =
     let file : List ℕ = object_of unit in
     let n = counted_sections unit is in
     let e = names_at unit is in
-    let within = below (name_table file) (section_count file) (omega (arith, n, e)) in
+    let within = lt-ltb (name_table file) (section_count file) (omega (arith, n, e)) in
     ap (λ b. refuse_if (not b) (fault.Link (name_table file))) within
 
 pub both_none : {A : Type 0} (a b : Option A) → a ≡ None → b ≡ None → or_else a b ≡ None

@@ -6,6 +6,7 @@ use Rattle.std.proofs.lemmas.Bool.Decides.{nat_tests}
 use Rattle.std.proofs.lemmas.List.{take_at, take-append-drop, drop_at, drop_more}
 use Rattle.std.proofs.lemmas.List.Concat.{flat_map-append}
 use Rattle.std.proofs.lemmas.List.Elements.{All-nil, All-cons, All-get_or, All-append, All-map, All-weaker}
+use Rattle.std.proofs.lemmas.Bool.{and_from, and_parts}
 use Rattle.elf_objects.specs.declared.section.Header.{Header}
 use Rattle.elf_objects.specs.Section.{content}
 use Rattle.elf_objects.specs.Names.{end_in}
@@ -26,25 +27,18 @@ unfolding is_name_byte
 not_zero zero e = cc
 not_zero (suc b) e = let f : eqb (suc b) 0 ≡ false = grind (arith, nat_tests) in ap not f
 
-both_true : (a b : Bool) → (a && b) ≡ true → (a ≡ true) × (b ≡ true)
-both_true true b e = (refl, e)
-both_true false b e = cc
-
-and_true : (a b : Bool) → a ≡ true → b ≡ true → (a && b) ≡ true
-and_true a b p q = rw (p, q) refl
-
 no_zeros : (name : List ℕ) → list_all is_name_byte name ≡ true → list_all (λ b. not (eqb b 0)) name ≡ true
 no_zeros [] e = refl
 no_zeros (b ∷ bs) e =
-    let h = both_true (is_name_byte b) (list_all is_name_byte bs) e in
-    and_true (not (eqb b 0)) (list_all (λ c. not (eqb c 0)) bs) (not_zero b h.0) (no_zeros bs h.1)
+    let h = and_parts (is_name_byte b) (list_all is_name_byte bs) e in
+    and_from (not (eqb b 0)) (list_all (λ c. not (eqb c 0)) bs) (not_zero b h.0) (no_zeros bs h.1)
 
 pub name_is : (name : List ℕ) → is_name name ≡ true → IsString 64 name
 unfolding is_name
 name_is [] e = cc
 name_is (b ∷ bs) e =
-    let h = both_true (not (is_digit b) && nat_le (length (b ∷ bs)) 64) (list_all is_name_byte (b ∷ bs)) e in
-    let g = both_true (not (is_digit b)) (nat_le (length (b ∷ bs)) 64) h.0 in
+    let h = and_parts (not (is_digit b) && nat_le (length (b ∷ bs)) 64) (list_all is_name_byte (b ∷ bs)) e in
+    let g = and_parts (not (is_digit b)) (nat_le (length (b ∷ bs)) 64) h.0 in
     let few : nat_le (length (b ∷ bs)) 64 ≡ true = g.1 in
     record { short = grind (arith, nat_tests); bytes = no_zeros (b ∷ bs) h.1 }
 
@@ -57,7 +51,7 @@ ends_by false bs rest i h further = further h.1 ∙ ap Some (omega arith)
 -- the end of a name that begins here
 ends_at : (name rest : List ℕ) (i : ℕ) → list_all (λ b. not (eqb b 0)) name ≡ true → position_from (λ b. eqb b 0) i (name ++ 0 ∷ rest) ≡ Some (i + length name)
 ends_at [] rest i e = ap Some (omega arith)
-ends_at (b ∷ bs) rest i e = ends_by (eqb b 0) bs rest i (both_true (not (eqb b 0)) (list_all (λ c. not (eqb c 0)) bs) e) (ends_at bs rest (i + 1))
+ends_at (b ∷ bs) rest i e = ends_by (eqb b 0) bs rest i (and_parts (not (eqb b 0)) (list_all (λ c. not (eqb c 0)) bs) e) (ends_at bs rest (i + 1))
 
 after_name : (names : List (List ℕ)) (k : ℕ) → k < length names
     → drop (name_at names k) (string_table names) ≡ get_or names k [] ++ 0 ∷ flat_map terminated (drop (k + 1) names)

@@ -199,14 +199,6 @@ pub symtab_content : (unit : UnitValue) → (symtab_section unit).content ≡ sy
 unfolding symtab_section
 symtab_content unit = refl
 
-pub strtab_parts : (unit : UnitValue) → ((strtab_section unit).head ≡ strings_head (name_at (section_names unit) (length unit.sections + 1)) (length (string_table (symbol_names unit.symbols)))) × ((strtab_section unit).content ≡ string_table (symbol_names unit.symbols))
-unfolding strtab_section
-strtab_parts unit = (refl, refl)
-
-pub shstrtab_parts : (unit : UnitValue) → ((shstrtab_section unit).head ≡ strings_head (name_at (section_names unit) (length unit.sections + 2)) (length (string_table (section_names unit)))) × ((shstrtab_section unit).content ≡ string_table (section_names unit))
-unfolding shstrtab_section
-shstrtab_parts unit = (refl, refl)
-
 -- ---- the file
 
 pub whole_file : (s : Sections) (names table count : ℕ) (begun out : List ℕ) → table ≡ file_header_size + s.contents.len → count ≡ s.heads.len + 1

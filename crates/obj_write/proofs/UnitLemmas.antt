@@ -56,8 +56,7 @@ relocation_parts unit j = (refl, refl)
 
 kept_few : (k : SectionKind) (size : ℕ) → kept_size k size ≤ size
 kept_few Code size = omega arith
-kept_few Data size = omega arith
-kept_few Bss size = omega arith
+kept_few _ size = omega arith
 
 part_few : (unit : UnitValue) → IsUnit unit → (k : ℕ) → k < length unit.sections → length (padded (part_section unit k).content) ≤ 65537
 part_few unit is k lt =

@@ -1,5 +1,5 @@
 -- The rules against the table of rights.
-use Rattle.std.proofs.Common.{◌≡◌, ℕ, ◌%◌, List, Bool, true, false, not, nat_lt, Option, None, refl, sym, ap, ◌∙◌, arith}
+use Rattle.std.proofs.Common.{◌≡◌, ℕ, ◌%◌, List, Bool, true, false, not, nat_lt, Option, Some, None, refl, sym, ap, ◌∙◌, arith}
 use Rattle.std.specs.List.{list_all}
 use Rattle.std.proofs.lemmas.Bool.Decides.{nat_tests}
 use Rattle.std.proofs.lemmas.Bool.{not-false, not_from_true, and_parts}
@@ -14,15 +14,21 @@ use Rattle.mod_layout.proofs.TableLemmas.{one_place}
 use Rattle.pc_access.specs.declared.Kind.{Kind}
 use Rattle.pc_access.specs.declared.Kind.TheVariants.{Fetch, Read, Write}
 use Rattle.pc_access.specs.declared.Rule.{Rule}
+use Rattle.pc_access.specs.declared.Rule.TheVariants.{Misaligned}
 use Rattle.pc_access.specs.declared.Denied.{Denied}
 use Rattle.pc_access.specs.Rights.{grants, is_id, is_held, is_own, is_granted, refuse_if, right_at, aligned_first, right, access_of, is_misaligned, touched, is_barred_at, IsRightful}
 
--- alignment first, then the rules of the place
-pub right_is : (t : Table) (active : Option ℕ) (held : List ℕ) (kind : Kind) (a : ℕ) (w : Width)
-    → right t active held (access_of kind a w) ≡ aligned_first (is_misaligned (access_of kind a w)) a (right_at (place_of t a) active held kind a)
+-- a misaligned access is refused by that rule
+pub right_misaligned : (t : Table) (active : Option ℕ) (held : List ℕ) (kind : Kind) (a : ℕ) (w : Width)
+    → is_misaligned (access_of kind a w) ≡ true → right t active held (access_of kind a w) ≡ Some record { rule = Misaligned; addr = a; «module» = 0 }
 unfolding right
-right_is t active held Fetch a w = refl
-right_is t active held _ a w = refl
+right_misaligned t active held kind a w m = rw m refl
+
+-- any other as the rules of the place say
+pub right_aligned : (t : Table) (active : Option ℕ) (held : List ℕ) (kind : Kind) (a : ℕ) (w : Width) (p : Place)
+    → is_misaligned (access_of kind a w) ≡ false → p ≡ place_of t a → right t active held (access_of kind a w) ≡ right_at p active held kind a
+unfolding right
+right_aligned t active held kind a w p m there = rw (m, there) refl
 
 pub refused_not : (b : Bool) (r : Rule) (a id : ℕ) → refuse_if b r a id ≡ None → b ≡ false
 refused_not true r a id e = absurd cc
@@ -92,13 +98,14 @@ module _ (t : Table) (active : Option ℕ) (held : List ℕ) (ok : IsTable t) wh
 
   -- what no rule refuses is rightful
   pub rightful : (kind : Kind) (a : ℕ) (w : Width) → right t active held (access_of kind a w) ≡ None → IsRightful t active held (access_of kind a w)
+  unfolding right
   rightful kind a w e =
-      let both = aligned_both (is_misaligned (access_of kind a w)) a _ (sym (right_is t active held kind a w) ∙ e) in
+      let both = aligned_both (is_misaligned (access_of kind a w)) a _ e in
       let f = free_at active held (place_of t a) kind a both.1 in
       record { aligned = both.0; granted = all_granted kind a w both.0 f.granted; free = f.free }
 
   -- and what is rightful no rule refuses
   pub unrefused : (kind : Kind) (a : ℕ) (w : Width) → IsRightful t active held (access_of kind a w) → right t active held (access_of kind a w) ≡ None
   unrefused kind a w r =
-      right_is t active held kind a w ∙ ap (λ b. aligned_first b a (right_at (place_of t a) active held kind a)) r.aligned
+      right_aligned t active held kind a w _ r.aligned refl
       ∙ at_free active held (place_of t a) kind a (first_granted kind a w r.granted) r.free

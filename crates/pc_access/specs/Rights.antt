@@ -91,25 +91,20 @@ abbrev pub aligned_first : Bool → ℕ → Option Denied → Option Denied
 aligned_first true a rest = Some record { rule = Misaligned; addr = a; «module» = 0 }
 aligned_first false a rest = rest
 
--- why an access is refused, or none; alignment concerns reads and writes alone
+-- whether an access is a word at an odd address; alignment concerns reads and writes alone
+abbrev pub is_misaligned : Access → Bool
+is_misaligned x =
+    elim x.kind [ Fetch ↦ false | Read ↦ misaligned x.width x.addr | Write ↦ misaligned x.width x.addr ]
+
+-- why an access is refused, or none
 unfoldable pub right : Table → Option ℕ → List ℕ → Access → Option Denied
-right t active held x =
-    elim x.kind [
-      | Fetch ↦ right_at (place_of t x.addr) active held Fetch x.addr
-      | Read ↦ aligned_first (misaligned x.width x.addr) x.addr (right_at (place_of t x.addr) active held Read x.addr)
-      | Write ↦ aligned_first (misaligned x.width x.addr) x.addr (right_at (place_of t x.addr) active held Write x.addr)
-    ]
+right t active held x = aligned_first (is_misaligned x) x.addr (right_at (place_of t x.addr) active held x.kind x.addr)
 
 -- an access of this kind, at this address, of this width
 abbrev pub access_of : Kind → ℕ → Width → Access
 access_of kind addr width = record { kind = kind; addr = addr; width = width }
 
 -- ---- the rules against the table of rights
-
--- whether an access is a word at an odd address; alignment concerns reads and writes alone
-abbrev pub is_misaligned : Access → Bool
-is_misaligned x =
-    elim x.kind [ Fetch ↦ false | Read ↦ misaligned x.width x.addr | Write ↦ misaligned x.width x.addr ]
 
 -- the addresses that an access touches: a word has two bytes; of a fetch, the start of the instruction
 abbrev pub touched : Access → List ℕ

@@ -7,7 +7,7 @@ mod tests;
 ghost use Rattle.std.specs.Prelude.{◌≡◌, OnOk, IfErr, IsOk, ◌↔◌, Some, None};
 ghost use Rattle.mod_layout.specs.Table.{place_of};
 ghost use Rattle.pc_access.specs.Rights as spec;
-ghost use Rattle.pc_access.specs.Rights.{right, right_at, access_of, IsRightful};
+ghost use Rattle.pc_access.specs.Rights.{misaligned, right, right_at, access_of, IsRightful};
 
 use mod_layout::{DEVICES_END, ModuleTable, Place};
 use sm_words::Width;
@@ -97,7 +97,7 @@ pub fn allowed(
     // And so exactly where the table of rights refuses one of the bytes, or the access is misaligned or barred.
     ensures rights { IsOk result ↔ IsRightful table.now active held.now (access_of kind addr width) }
 {
-    if is_misaligned(kind, addr, width) {
+    if breaks_alignment(kind, addr, width) {
         return Err(Denied {
             rule: Rule::Misaligned,
             addr,
@@ -110,13 +110,21 @@ pub fn allowed(
     }
 }
 
-fn is_misaligned(kind: Kind, addr: u16, width: Width) -> bool
+// Whether a read or a write is a word at an odd address.
+fn breaks_alignment(kind: Kind, addr: u16, width: Width) -> bool
     ensures { result ≡ spec.is_misaligned (access_of kind addr width) }
 {
     match kind {
         Kind::Fetch => false,
-        Kind::Read | Kind::Write => width == Width::Word && addr % 2 != 0,
+        Kind::Read | Kind::Write => is_misaligned(width, addr),
     }
+}
+
+/// Whether an access of this width at this address is a word at an odd address.
+pub fn is_misaligned(width: Width, addr: u16) -> bool
+    ensures { result ≡ misaligned width addr }
+{
+    width == Width::Word && addr % 2 != 0
 }
 
 // Why an access at a place is refused, alignment apart.

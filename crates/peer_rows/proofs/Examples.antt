@@ -92,7 +92,7 @@ differ text e v w fit low even high a b = record {
 
 -- ---- texts
 
-bytes_of : List ℕ → List ℕ
+unfoldable pub bytes_of : List ℕ → List ℕ
 bytes_of [] = []
 bytes_of (w ∷ ws) = w % 256 ∷ w / 256 ∷ bytes_of ws
 
@@ -111,7 +111,7 @@ blind_accepted =
     let start : Point = start_of (called 0x0306) (bytes_of blind) in
     (rounds step start 3, record { rounds_to = 3; is = refl; stays = refl }, lit≤ tt, refl)
 
-meet : List Arm
+unfoldable pub meet : List Arm
 meet = record { branch = 0x0304; join = 0x0318; cycles = 6 } ∷ []
 
 abbrev balanced_points : ℕ → List Point

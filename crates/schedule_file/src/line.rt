@@ -5,7 +5,7 @@ ghost use Rattle.schedule_file.specs.Entries.{HasLine, line_number};
 ghost use Rattle.schedule_file.specs.Line as spec;
 
 use crate::{Entry, MAX_CYCLE, What};
-use texts::{read_decimal, read_hex_byte};
+use texts::{first_space, read_decimal, read_hex_byte};
 
 // The entry that a line writes.
 #[tactic(auto, unfolding(crate::specs::Line::entry_of))]
@@ -13,17 +13,10 @@ pub fn entry_of(line: &[u8]) -> Option<Entry>
     ensures entry { result ≡ spec.entry_of line.now }
     ensures line { IfSome result HasLine }
 {
-    let space = first_index(line, b' ')?;
+    let space = first_space(line)?;
     let cycle = read_decimal(&line[..space], MAX_CYCLE)?;
     let what = what_of(&line[space + 1..])?;
     Some(Entry { cycle, what })
-}
-
-// The index of the first byte that is this one.
-fn first_index(text: &[u8], wanted: u8) -> Option<usize>
-    ensures { result ≡ position (λ b. b == wanted) text.now }
-{
-    text.iter().position(|byte| *byte == wanted)
 }
 
 // What happens, from what stands after the cycle and its space.

@@ -7,20 +7,9 @@ use Rattle.flow_rule.specs.declared.Verdict.TheVariants.{Yes, No}
 use Rattle.flow_rule.specs.Rounds.{Point, Found, Step, same_pair, join_label, join_in, join_all, given, round, rounds, IsLabelling, all_reasons}
 use Rattle.flow_rule.specs.Reasons.{number_of, NotAfter, BeforeAll, AmongThem}
 use Rattle.flow_rule.specs.Verdict.{Decided}
+use Rattle.flow_check.proofs.Dirty.{all_longer}
 
 -- Rounds never shorten
-
-chosen_length : (b : Bool) (y z : Point) (ys zs : List Point) → length ys ≤ length zs → length (y ∷ ys) ≤ length (if b then z ∷ ys else y ∷ zs)
-chosen_length true y z ys zs h = omega arith
-chosen_length false y z ys zs h = omega (arith, h)
-
-in_longer : (x : Point) (ys : List Point) → length ys ≤ length (join_in x ys)
-in_longer x [] = omega arith
-in_longer x (y ∷ ys) = chosen_length (same_pair y.pair x.pair) y (record { pair = y.pair; label = join_label y.label x.label }) ys (join_in x ys) (in_longer x ys)
-
-all_longer : (xs ys : List Point) → length ys ≤ length (join_all xs ys)
-all_longer [] ys = omega arith
-all_longer (x ∷ xs) ys = omega (arith, in_longer x ys, all_longer xs (join_in x ys))
 
 module _ (step : Point → Step) where
   -- this many rounds from these points

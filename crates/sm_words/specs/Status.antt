@@ -1,5 +1,5 @@
 -- The bits of the status register (MSP430x1xx Family User's Guide SLAU049, section 3.2.3).
-use Rattle.std.specs.Prelude.{ℕ, ◌+◌, ◌*◌, ◌/◌, ◌%◌, ◌==◌, List, Bool}
+use Rattle.std.specs.Prelude.{ℕ, ◌+◌, ◌-◌, ◌*◌, ◌/◌, ◌%◌, ◌==◌, List, Bool, ◌&&◌}
 use Rattle.sm_words.specs.Words.{bit, reg}
 use Rattle.sm_words.specs.Sums.{one_if}
 use Rattle.sm_words.specs.declared.registers.TheConstants.{SR}
@@ -9,6 +9,10 @@ use Rattle.sm_words.specs.declared.width.Sum.{Sum}
 -- whether the bit with this worth is set
 abbrev pub is_set : ℕ → ℕ → Bool
 is_set mask sr = bit mask sr == 1
+
+-- whether the bits of all four flags are set: those below GIE, and V
+abbrev pub has_all_flags : ℕ → Bool
+has_all_flags sr = (sr % GIE == GIE - 1) && is_set OVERFLOW sr
 
 -- whether interrupts are enabled
 abbrev pub is_gie : List ℕ → Bool

@@ -2,7 +2,7 @@
 ghost use Rattle.std.specs.Prelude.{◌≡◌, ◌<◌};
 ghost use Rattle.sm_words.specs.Words.{bit};
 ghost use Rattle.sm_words.specs.Sums.{one_if};
-ghost use Rattle.sm_words.specs.Status.{is_set, controls, sr_with_flags, confined_sr, interrupted_sr};
+ghost use Rattle.sm_words.specs.Status.{is_set, controls, has_all_flags, sr_with_flags, confined_sr, interrupted_sr};
 
 use crate::width::Sum;
 
@@ -30,6 +30,13 @@ pub fn is_set(mask: u16, sr: u16) -> bool
     ensures worth { one_if result ≡ bit mask sr }
 {
     sr / mask % 2 == 1
+}
+
+/// Whether the bits of all four flags are set.
+pub fn has_all_flags(sr: u16) -> bool
+    ensures exact { result ≡ has_all_flags sr }
+{
+    sr % GIE == GIE - 1 && is_set(OVERFLOW, sr)
 }
 
 /// The bits that are no flags: those from GIE on, below V.

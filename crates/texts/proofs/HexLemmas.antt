@@ -1,6 +1,7 @@
 -- Lemmas on hexadecimal digits.
 use Rattle.std.proofs.Common.{ℕ, suc, ◌≡◌, ◌+◌, ◌*◌, ◌/◌, ◌%◌, ◌<◌, Bool, true, ◌&&◌, nat_lt, List, [], ◌∷◌, length, get_or, slice_index, Option, Some, None, Result, Ok, Err, refl, sym, ap, subst, ◌∙◌, cond, arith}
 use Rattle.std.specs.List.{list_all}
+use Rattle.std.specs.Result.{result_ok}
 use Rattle.std.specs.Str.{IsAscii}
 use Rattle.std.proofs.lemmas.Bool.Decides.{nat_tests}
 use Rattle.std.proofs.lemmas.List.Sums.{AllPass-from_list_all}
@@ -8,7 +9,7 @@ use Rattle.std.proofs.lemmas.Str.Ascii.{IsAscii-from_all}
 use Rattle.hex.specs.Hex.{IsBytes, lower_digits, encode_with, encode_lower, hex_digit_value, digit_or_error, value_at, pair_value, decode_pairs, decode_of, decode_sized, ◌>>=◌}
 use Rattle.hex.specs.declared.error.FromHexError.{FromHexError}
 use Rattle.hex.proofs.HexLemmas.{IsAscii-encode_with, IsDigits-lower_digits, decode_sized-encode_lower, decode_sized-ok, decode_sized-twice, decode_of-ok, decode_of-even}
-use Rattle.texts.specs.Hexadecimals.{is_hex_digit, decoded, read_hex, hex_byte, hex_word}
+use Rattle.texts.specs.Hexadecimals.{is_hex_digit, read_hex, hex_byte, hex_word}
 
 digits_are_ascii : IsAscii lower_digits
 digits_are_ascii = IsAscii-from_all lower_digits (λ k d l. let p : nat_lt (get_or lower_digits k d) 128 ≡ true = AllPass-from_list_all (λ b. nat_lt b 128) lower_digits refl k d l in grind (arith, nat_tests))
@@ -34,7 +35,7 @@ hex_has_digits (b ∷ bytes) h =
 -- what is written is read back
 pub read_hex-encode : (count : ℕ) (bytes : List ℕ) → length bytes ≡ count → IsBytes bytes → read_hex count (encode_lower bytes) ≡ Some bytes
 unfolding read_hex
-read_hex-encode count bytes long are = rw (hex_has_digits bytes are) (ap decoded (decode_sized-encode_lower bytes count long are))
+read_hex-encode count bytes long are = rw (hex_has_digits bytes are) (ap result_ok (decode_sized-encode_lower bytes count long are))
 
 -- ---- one text
 
@@ -103,7 +104,7 @@ pub read_hex-parts : (count : ℕ) (text bytes : List ℕ) → read_hex count te
 unfolding read_hex
 read_hex-parts count text bytes e = by (list_all is_hex_digit text) (decode_sized text count) refl refl e
   where
-    by : (c : Bool) (r : Result (List ℕ) FromHexError) → list_all is_hex_digit text ≡ c → decode_sized text count ≡ r → cond c (decoded r) None ≡ Some bytes → IsReadHex count text bytes
+    by : (c : Bool) (r : Result (List ℕ) FromHexError) → list_all is_hex_digit text ≡ c → decode_sized text count ≡ r → cond c (result_ok r) None ≡ Some bytes → IsReadHex count text bytes
     by true (Ok found) p q e =
         let same : found ≡ bytes = cc in
         let is : decode_sized text count ≡ Ok bytes = q ∙ ap Ok same in

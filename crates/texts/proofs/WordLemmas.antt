@@ -1,12 +1,38 @@
--- A word before a byte that cuts it off.
-use Rattle.std.proofs.Common.{ℕ, suc, ◌≡◌, ◌+◌, ◌^◌, ◌<◌, Bool, true, false, ◌==◌, List, [], ◌∷◌, ◌++◌, length, take, drop, get_or, refl, ap, arith}
-use Rattle.std.specs.List.{All, before_first, after_first, position_or_len}
+-- The words of a line, and a word before a byte that cuts it off.
+use Rattle.std.proofs.Common.{ℕ, suc, ◌≡◌, ◌+◌, ◌^◌, ◌<◌, ◌≤◌, Bool, true, false, cond, ◌==◌, List, [], ◌∷◌, ◌++◌, length, take, drop, get_or, nat_lt, Some, None, position, refl, ap, subst, arith}
+use Rattle.std.specs.List.{All, slice_split, before_first, after_first, position_or_len}
 use Rattle.std.specs.Fmt.{decimal}
 use Rattle.std.proofs.lemmas.Bool.Decides.{nat_tests}
 use Rattle.std.proofs.lemmas.Fmt.{digits_decimal}
+use Rattle.std.proofs.lemmas.List.Splits.{slice_split_first, slice_split_none}
+use Rattle.std.proofs.lemmas.List.Sums.{fails_before_first}
 use Rattle.std.proofs.lemmas.Str.Parse.{not_in_digits}
 use Rattle.std.proofs.lemmas.Grind.{get_or_default_zero}
+use Rattle.texts.specs.Words.{is_space, words}
 use Rattle.texts.proofs.DecimalLemmas.{digits_model}
+
+-- a line whose first space is at i
+pub words_at : (line : List ℕ) (i : ℕ) → position is_space line ≡ Some i → words line ≡ take i line ∷ words (drop (i + 1) line)
+unfolding words
+words_at line i e = by (nat_lt (position_or_len is_space line) (length line)) refl e
+  where
+    by : (found : Bool) → nat_lt (position_or_len is_space line) (length line) ≡ found → cond found (Some (position_or_len is_space line)) None ≡ Some i
+        → slice_split is_space line ≡ take i line ∷ slice_split is_space (drop (i + 1) line)
+    by true is some =
+        let same : position_or_len is_space line ≡ i = cc in
+        subst (λ k. slice_split is_space line ≡ take k line ∷ slice_split is_space (drop (k + 1) line)) same (slice_split_first is_space line 0 (grind (arith, nat_tests)))
+    by false is none = absurd cc
+
+-- a line without a space is one word
+pub words_whole : (line : List ℕ) → position is_space line ≡ None → words line ≡ line ∷ []
+unfolding words
+words_whole line e = by (nat_lt (position_or_len is_space line) (length line)) refl e
+  where
+    by : (found : Bool) → nat_lt (position_or_len is_space line) (length line) ≡ found → cond found (Some (position_or_len is_space line)) None ≡ None → slice_split is_space line ≡ line ∷ []
+    by true is some = absurd cc
+    by false is none =
+        let past : length line ≤ position_or_len is_space line = grind (arith, nat_tests) in
+        slice_split_none is_space line (λ k d l. fails_before_first is_space line k d (omega arith))
 
 -- a text that is cut after this word, before this rest
 pub record IsCutOff (cuts : ℕ → Bool) (text word rest : List ℕ) : Type 0 where

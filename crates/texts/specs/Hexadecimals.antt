@@ -1,8 +1,8 @@
 -- Hexadecimal digits of lower case, two a byte, the high four bits first.
-use Rattle.std.specs.Prelude.{ℕ, ◌+◌, ◌*◌, ◌/◌, ◌%◌, Bool, ◌&&◌, ◌||◌, nat_le, if◌then◌else◌, List, [], ◌∷◌, ◌++◌, slice_index, Option, Some, None, option_map, Result, Ok, Err}
+use Rattle.std.specs.Prelude.{ℕ, ◌+◌, ◌*◌, ◌/◌, ◌%◌, Bool, ◌&&◌, ◌||◌, nat_le, if◌then◌else◌, List, [], ◌∷◌, ◌++◌, slice_index, Option, Some, None, option_map}
 use Rattle.std.specs.List.{list_all}
+use Rattle.std.specs.Result.{result_ok}
 use Rattle.hex.specs.Hex.{lower_digits, encode_lower, decode_sized}
-use Rattle.hex.specs.declared.error.FromHexError.{FromHexError}
 
 -- the digit of a number below 16
 abbrev pub hex_digit : ℕ → ℕ
@@ -24,14 +24,9 @@ hex_key key = encode_lower key
 abbrev pub is_hex_digit : ℕ → Bool
 is_hex_digit b = (nat_le 48 b && nat_le b 57) || (nat_le 97 b && nat_le b 102)
 
--- what was decoded, if it was
-abbrev pub decoded : Result (List ℕ) FromHexError → Option (List ℕ)
-decoded (Ok bytes) = Some bytes
-decoded (Err fault) = None
-
 -- the bytes of a text that is this many pairs of digits
 unfoldable pub read_hex : ℕ → List ℕ → Option (List ℕ)
-read_hex count text = if list_all is_hex_digit text then decoded (decode_sized text count) else None
+read_hex count text = if list_all is_hex_digit text then result_ok (decode_sized text count) else None
 
 -- the byte of two digits
 abbrev pub read_hex_byte : List ℕ → Option ℕ

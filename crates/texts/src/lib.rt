@@ -1,4 +1,4 @@
-//! Numbers as texts, and the lines of a text.
+//! Numbers as texts, the lines of a text, and the words of a line.
 //!
 //! A decimal has no sign and no leading zero; hexadecimal digits are of lower case, two a byte, and the high ones come
 //! first; LF ends a line. Each number has one text, and what is written is read back: `laws` says so.
@@ -10,6 +10,7 @@ pub mod laws;
 mod lines;
 #[cfg(test)]
 mod tests;
+mod words;
 
 pub use decimals::{decimal, is_decimal, push_decimal, read_decimal};
 pub use hexadecimals::{
@@ -17,3 +18,4 @@ pub use hexadecimals::{
     read_hex_key, read_hex_word,
 };
 pub use lines::{next_line, split_line};
+pub use words::{first_space, split_word};

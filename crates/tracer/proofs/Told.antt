@@ -28,9 +28,6 @@ word_in text = unwrap_or (read_hex_word text) 0
 abbrev byte_in : List ℕ → ℕ
 byte_in text = unwrap_or (read_hex_byte text) 0
 
-number_is : (n : ℕ) → n < 2 ^ 64 → number_in (decimal n) ≡ n
-number_is n small = number_in-decimal n small
-
 word_is : (word : ℕ) → word < 65536 → word_in (hex_word word) ≡ word
 word_is word small = ap (λ o. unwrap_or o 0) ((words_are_read (hex_word word) word).1 (small, refl))
 
@@ -87,7 +84,7 @@ two_fields build id between last small =
     ap (λ t. build (number_in (before_first is_space t)) (after_first is_space t)) (append_assoc (decimal id) (32 ∷ between) last)
     ∙ ap (λ w. build (number_in w) (after_first is_space (decimal id ++ 32 ∷ (between ++ last)))) cut.before
     ∙ ap (λ r. build (number_in (decimal id)) r) cut.after
-    ∙ ap (λ n. build n (between ++ last)) (number_is id small)
+    ∙ ap (λ n. build n (between ++ last)) (number_in-decimal id small)
 
 -- a rule, and what stands behind its name and a space
 record IsRuleText (rule : Rule) (rest : List ℕ) : Type 0 where
@@ -111,18 +108,18 @@ stop_is stop h =
     ∙ ap (λ t. Stop (stop_in stop.rule t)) r.after
     ∙ ap (λ n. Stop record { rule = stop.rule; pc = n; addr = word_in (hex_word stop.addr); «module» = number_in (decimal stop.«module») }) (word_is stop.pc h.pc)
     ∙ ap (λ n. Stop record { rule = stop.rule; pc = stop.pc; addr = n; «module» = number_in (decimal stop.«module») }) (word_is stop.addr h.addr)
-    ∙ ap (λ n. Stop record { rule = stop.rule; pc = stop.pc; addr = stop.addr; «module» = n }) (number_is stop.«module» (omega arith))
+    ∙ ap (λ n. Stop record { rule = stop.rule; pc = stop.pc; addr = stop.addr; «module» = n }) (number_in-decimal stop.«module» (omega arith))
 
 event_is : (e : Event) → IsEvent e → event_in (event_text e) ≡ e
-event_is (Resume id) h = ap Resume (number_is id (omega arith))
-event_is (Close id) h = ap Close (number_is id (omega arith))
+event_is (Resume id) h = ap Resume (number_in-decimal id (omega arith))
+event_is (Close id) h = ap Close (number_in-decimal id (omega arith))
 event_is (Handler pc) h = ap Handler (word_is pc h)
 event_is (Leave id pc) h = let small = h.0 in two_fields (λ n rest. Leave n (word_in (drop 3 rest))) id (codes "pc ") (hex_word pc) (omega arith) ∙ ap (Leave id) (word_is pc h.1)
-event_is (Hide id vector) h = let small = h.0 in let byte = h.1 in two_fields (λ n rest. Hide n (number_in (drop 7 rest))) id (codes "vector ") (decimal vector) (omega arith) ∙ ap (Hide id) (number_is vector (omega arith))
-event_is (Irq vector) h = ap Irq (number_is vector (omega arith))
-event_is (Enter id from) h = let small = h.0 in let word = h.1 in two_fields (λ n rest. Enter n (number_in (drop 5 rest))) id (codes "from ") (decimal from) (omega arith) ∙ ap (Enter id) (number_is from (omega arith))
+event_is (Hide id vector) h = let small = h.0 in let byte = h.1 in two_fields (λ n rest. Hide n (number_in (drop 7 rest))) id (codes "vector ") (decimal vector) (omega arith) ∙ ap (Hide id) (number_in-decimal vector (omega arith))
+event_is (Irq vector) h = ap Irq (number_in-decimal vector (omega arith))
+event_is (Enter id from) h = let small = h.0 in let word = h.1 in two_fields (λ n rest. Enter n (number_in (drop 5 rest))) id (codes "from ") (decimal from) (omega arith) ∙ ap (Enter id) (number_in-decimal from (omega arith))
 event_is Reti h = refl
-event_is (Protect id) h = ap Protect (number_is id (omega arith))
+event_is (Protect id) h = ap Protect (number_in-decimal id (omega arith))
 event_is (Out byte) h = ap Out (byte_is byte h)
 event_is (Stop stop) h = stop_is stop h
 
@@ -139,6 +136,6 @@ pub told : LinesAreTold
 told c d e f hc hd he hf same =
     let p = line_cut c e hc in
     let q = line_cut d f hd in
-    let cycles : c ≡ d = sym (number_is c hc) ∙ ap number_in (sym p.before ∙ ap (before_first is_space) same ∙ q.before) ∙ number_is d hd in
+    let cycles : c ≡ d = sym (number_in-decimal c hc) ∙ ap number_in (sym p.before ∙ ap (before_first is_space) same ∙ q.before) ∙ number_in-decimal d hd in
     let texts : event_text e ≡ event_text f = append_cancel_right (event_text e) (event_text f) (codes "\n") (sym p.after ∙ ap (after_first is_space) same ∙ q.after) in
     (cycles, sym (event_is e he) ∙ ap event_in texts ∙ event_is f hf)

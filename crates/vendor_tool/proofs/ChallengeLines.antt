@@ -19,9 +19,7 @@ use Rattle.vendor_tool.proofs.LineLemmas.{nothing_is_no_key}
 
 at_cycle-parts : (o : Option ℕ) (p : Option (List ℕ)) (c : Challenge) → at_cycle o p ≡ Some c → (o ≡ Some c.cycle) × (p ≡ Some c.nonce)
 at_cycle-parts (Some cycle) (Some nonce) c h = (cc, cc)
-at_cycle-parts (Some cycle) None c h = absurd cc
-at_cycle-parts None (Some nonce) c h = absurd cc
-at_cycle-parts None None c h = absurd cc
+at_cycle-parts _ _ c h = absurd cc
 
 challenge_from : (line : List ℕ) (c : Challenge) → challenge_of line ≡ Some c → IsChallenge c × (line ≡ challenge_text c)
 unfolding challenge_of

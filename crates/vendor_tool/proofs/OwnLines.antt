@@ -36,16 +36,7 @@ use Rattle.vendor_tool.specs.TraceLines.{fits, all_fit, form_of, kinds, kind_of}
 
 rule_plain : (rule : Rule) → IsPlain (rule_name rule)
 rule_plain FetchNotEntry = refl
-rule_plain FetchData = refl
-rule_plain ReadData = refl
-rule_plain WriteData = refl
-rule_plain WriteText = refl
-rule_plain Reenter = refl
-rule_plain RetiInside = refl
-rule_plain Straddle = refl
-rule_plain Misaligned = refl
-rule_plain Illegal = refl
-rule_plain FetchDevice = refl
+rule_plain _ = refl
 
 abbrev joined : List ℕ → List (List ℕ) → List ℕ
 joined word [] = word
@@ -76,9 +67,6 @@ kind_is : (line : List ℕ) (ws : List (List ℕ)) (kind : Kind) → words line 
 unfolding kind_of
 kind_is line ws kind are is = ap kind_by are ∙ is
 
-number : (n : ℕ) → n < 2 ^ 64 → is_decimal (decimal n) ≡ true
-number n small = is_decimal-decimal n small
-
 address : (word : ℕ) → word < 65536 → is_some (read_hex_word (hex_word word)) ≡ true
 address word small = ap is_some ((words_are_read (hex_word word) word).1 (small, refl))
 
@@ -87,16 +75,7 @@ byte_word byte small = ap is_some ((bytes_are_read (hex_byte byte) byte).1 (smal
 
 a_rule : (rule : Rule) → fits RuleName (rule_name rule) ≡ true
 a_rule FetchNotEntry = refl
-a_rule FetchData = refl
-a_rule ReadData = refl
-a_rule WriteData = refl
-a_rule WriteText = refl
-a_rule Reenter = refl
-a_rule RetiInside = refl
-a_rule Straddle = refl
-a_rule Misaligned = refl
-a_rule Illegal = refl
-a_rule FetchDevice = refl
+a_rule _ = refl
 
 module _ (c : List ℕ) (cycle : is_decimal c ≡ true) where
   one_number : (m : List ℕ) → is_decimal m ≡ true → (kind_by (c ∷ codes "resume" ∷ m ∷ []) ≡ Some Resume) × (kind_by (c ∷ codes "close" ∷ m ∷ []) ≡ Some Close)
@@ -196,45 +175,45 @@ told c e kind bytes more low joins plain is goes_on sent =
 event_reads : (c : ℕ) (e : Event) → c < 2 ^ 64 → IsEvent e → Reads (event_words c e) false (sent_in e)
 event_reads c (EResume id) low h =
     told c (EResume id) Resume [] (codes "resume" ∷ decimal id ∷ []) low (simp append_assoc) (refl, (decimal_plain id (omega arith), tt))
-    (one_number (decimal c) (number c low) (decimal id) (number id (omega arith))).0 refl refl
+    (one_number (decimal c) (is_decimal-decimal c low) (decimal id) (is_decimal-decimal id (omega arith))).0 refl refl
 event_reads c (EClose id) low h =
     told c (EClose id) Close [] (codes "close" ∷ decimal id ∷ []) low (simp append_assoc) (refl, (decimal_plain id (omega arith), tt))
-    (one_number (decimal c) (number c low) (decimal id) (number id (omega arith))).1 refl refl
+    (one_number (decimal c) (is_decimal-decimal c low) (decimal id) (is_decimal-decimal id (omega arith))).1 refl refl
 event_reads c (EHandler pc) low h =
     told c (EHandler pc) Handler [] (codes "handler" ∷ codes "pc" ∷ hex_word pc ∷ []) low (simp append_assoc) (refl, (refl, (word_plain pc h, tt)))
-    (handler (decimal c) (number c low) (hex_word pc) (address pc h)) refl refl
+    (handler (decimal c) (is_decimal-decimal c low) (hex_word pc) (address pc h)) refl refl
 event_reads c (ELeave id pc) low h =
     let small = h.0 in
     told c (ELeave id pc) Leave [] (codes "leave" ∷ decimal id ∷ codes "pc" ∷ hex_word pc ∷ []) low (simp append_assoc) (refl, (decimal_plain id (omega arith), (refl, (word_plain pc h.1, tt))))
-    (leave (decimal c) (number c low) (decimal id) (hex_word pc) (number id (omega arith)) (address pc h.1)) refl refl
+    (leave (decimal c) (is_decimal-decimal c low) (decimal id) (hex_word pc) (is_decimal-decimal id (omega arith)) (address pc h.1)) refl refl
 event_reads c (EHide id vector) low h =
     let small = h.0 in
     let few = h.1 in
     told c (EHide id vector) Hide [] (codes "hide" ∷ decimal id ∷ codes "vector" ∷ decimal vector ∷ []) low (simp append_assoc) (refl, (decimal_plain id (omega arith), (refl, (decimal_plain vector (omega arith), tt))))
-    (hide (decimal c) (number c low) (decimal id) (decimal vector) (number id (omega arith)) (number vector (omega arith))) refl refl
+    (hide (decimal c) (is_decimal-decimal c low) (decimal id) (decimal vector) (is_decimal-decimal id (omega arith)) (is_decimal-decimal vector (omega arith))) refl refl
 event_reads c (EIrq vector) low h =
     told c (EIrq vector) Irq [] (codes "irq" ∷ decimal vector ∷ []) low (simp append_assoc) (refl, (decimal_plain vector (omega arith), tt))
-    (one_number (decimal c) (number c low) (decimal vector) (number vector (omega arith))).2 refl refl
+    (one_number (decimal c) (is_decimal-decimal c low) (decimal vector) (is_decimal-decimal vector (omega arith))).2 refl refl
 event_reads c (EEnter id from) low h =
     let small = h.0 in
     let few = h.1 in
     told c (EEnter id from) Enter [] (codes "enter" ∷ decimal id ∷ codes "from" ∷ decimal from ∷ []) low (simp append_assoc) (refl, (decimal_plain id (omega arith), (refl, (decimal_plain from (omega arith), tt))))
-    (enter (decimal c) (number c low) (decimal id) (decimal from) (number id (omega arith)) (number from (omega arith))) refl refl
+    (enter (decimal c) (is_decimal-decimal c low) (decimal id) (decimal from) (is_decimal-decimal id (omega arith)) (is_decimal-decimal from (omega arith))) refl refl
 event_reads c EReti low h =
     told c EReti Reti [] (codes "reti" ∷ []) low (simp append_assoc) (refl, tt)
-    (reti (decimal c) (number c low)) refl refl
+    (reti (decimal c) (is_decimal-decimal c low)) refl refl
 event_reads c (EProtect id) low h =
     told c (EProtect id) Protect [] (codes "protect" ∷ decimal id ∷ []) low (simp append_assoc) (refl, (decimal_plain id (omega arith), tt))
-    (one_number (decimal c) (number c low) (decimal id) (number id (omega arith))).3 refl refl
+    (one_number (decimal c) (is_decimal-decimal c low) (decimal id) (is_decimal-decimal id (omega arith))).3 refl refl
 event_reads c (EOut byte) low h =
     told c (EOut byte) Out (byte ∷ []) (codes "out" ∷ hex_byte byte ∷ []) low (simp append_assoc) (refl, (byte_plain byte h, tt))
-    (out (decimal c) (number c low) (hex_byte byte) (byte_word byte h)) refl (out_byte c byte h)
+    (out (decimal c) (is_decimal-decimal c low) (hex_byte byte) (byte_word byte h)) refl (out_byte c byte h)
 event_reads c (EStop s) low h =
     let pc = h.pc in
     let addr = h.addr in
     let id = h.«module» in
     told c (EStop s) Stop [] (codes "stop" ∷ rule_name s.rule ∷ codes "pc" ∷ hex_word s.pc ∷ codes "addr" ∷ hex_word s.addr ∷ codes "module" ∷ decimal s.«module» ∷ []) low (stop_joined (decimal c) (rule_name s.rule) (hex_word s.pc) (hex_word s.addr) (decimal s.«module»)) (refl, (rule_plain s.rule, (refl, (word_plain s.pc pc, (refl, (word_plain s.addr addr, (refl, (decimal_plain s.«module» (omega arith), tt))))))))
-    (stop (decimal c) (number c low) (rule_name s.rule) (hex_word s.pc) (hex_word s.addr) (decimal s.«module») (a_rule s.rule) (address s.pc pc) (address s.addr addr) (number s.«module» (omega arith))) refl refl
+    (stop (decimal c) (is_decimal-decimal c low) (rule_name s.rule) (hex_word s.pc) (hex_word s.addr) (decimal s.«module») (a_rule s.rule) (address s.pc pc) (address s.addr addr) (is_decimal-decimal s.«module» (omega arith))) refl refl
 
 -- ---- the end line
 
@@ -267,7 +246,7 @@ end_reads c EndsStopped low h =
       joins = simp append_assoc;
       first_plain = refl;
       more_plain = (decimal_plain c low, (refl, tt));
-      is = stopped (decimal c) (number c low);
+      is = stopped (decimal c) (is_decimal-decimal c low);
     }) refl refl
 end_reads c (EndsInside id) low h =
     reads _ Inside true [] (record {
@@ -276,7 +255,7 @@ end_reads c (EndsInside id) low h =
       joins = simp append_assoc;
       first_plain = refl;
       more_plain = (decimal_plain c low, (refl, (decimal_plain id (omega arith), tt)));
-      is = inside (decimal c) (number c low) (decimal id) (number id (omega arith));
+      is = inside (decimal c) (is_decimal-decimal c low) (decimal id) (is_decimal-decimal id (omega arith));
     }) refl refl
 end_reads c (EndsOutside core) low h =
     reads _ Outside true [] (record {
@@ -285,7 +264,7 @@ end_reads c (EndsOutside core) low h =
       joins = outside_joined c (registers_from core 0 16) (register_words core 0 16) (registers_joined core 0 16 (codes "outside"));
       first_plain = refl;
       more_plain = (decimal_plain c low, (refl, registers_plain core 0 16 h));
-      is = outside (decimal c) (number c low) (register_words core 0 16) (registers_fit core 0 16 h);
+      is = outside (decimal c) (is_decimal-decimal c low) (register_words core 0 16) (registers_fit core 0 16 h);
     }) refl refl
   where
     outside_joined : (c : ℕ) (rest : List ℕ) (rs : List (List ℕ)) → codes "outside" ++ rest ≡ joined (codes "outside") rs

@@ -1,13 +1,12 @@
 //! The text of challenges, line by line.
 
 ghost use Rattle.std.specs.Prelude.{◌≡◌, ◌≢◌, Ok, Err, IfOk, IfErr, IfSome, position};
-ghost use Rattle.texts.specs.Words.{is_space};
 ghost use Rattle.vendor_tool.specs.ChallengeText as spec;
 ghost use Rattle.vendor_tool.specs.Challenges.{IsChallenge};
 
 use crate::{Challenge, ChallengeFault, Challenges, MAX_CHALLENGES, MAX_CYCLE, NONCE_CYCLES};
 use std::alloc::Global;
-use texts::{next_line, read_decimal, read_hex_key};
+use texts::{first_space, next_line, read_decimal, read_hex_key};
 
 /// The challenges that a text writes, in lines `CYCLE NONCE`; the last line may lack its LF.
 ///
@@ -53,11 +52,4 @@ fn challenge_of(line: &[u8]) -> Option<Challenge>
     let cycle = read_decimal(&line[..space], MAX_CYCLE)?;
     let nonce = read_hex_key(&line[space + 1..])?;
     Some(Challenge { cycle, nonce })
-}
-
-/// The index of the first space.
-pub(crate) fn first_space(text: &[u8]) -> Option<usize>
-    ensures { result ≡ position is_space text.now }
-{
-    text.iter().position(|byte| *byte == b' ')
 }

@@ -5,8 +5,7 @@ ghost use Rattle.texts.specs.Words as spaced;
 ghost use Rattle.vendor_tool.specs.TraceLines as spec;
 ghost use Rattle.vendor_tool.specs.Replies as replies;
 
-use crate::reading::first_space;
-use texts::{is_decimal, read_hex_byte, read_hex_word};
+use texts::{is_decimal, read_hex_byte, read_hex_word, split_word};
 
 /// The kind of a line: that of its event, or of the end that it tells.
 #[derive(Clone, Copy, Debug, PartialEq, Eq)]
@@ -248,17 +247,6 @@ fn has_form(line: &[u8], form: &[Word]) -> bool
     match split_word(line) {
         None => fits(*word, line) && more.is_empty(),
         Some((first, rest)) => fits(*word, first) && has_form(rest, more),
-    }
-}
-
-// The first word of a line, and what stands behind its space; `None` where there is no space.
-fn split_word(line: &[u8]) -> Option<(&[u8], &[u8])>
-    ensures words { IfSome result (λ parts. spaced.words line.now ≡ parts.0.now ∷ spaced.words parts.1.now) }
-    ensures whole { IfNone result (spaced.words line.now ≡ line.now ∷ []) }
-{
-    match first_space(line) {
-        None => None,
-        Some(end) => Some((&line[..end], &line[end + 1..])),
     }
 }
 

@@ -16,6 +16,7 @@ use Rattle.peer_rows.specs.Rows.{called}
 use Rattle.workload.specs.declared.program.TheConstants.{START, PROGRAM, TEXT, DATA, HANDLER, LINE_VECTOR}
 use Rattle.workload.specs.Program.{word_bytes, placed, memory, image}
 use Rattle.workload.proofs.Memory.{low_memory}
+use Rattle.peer_rows.proofs.Sound.{none_at}
 
 -- ---- bytes
 
@@ -88,11 +89,6 @@ same_else v w x e =
 
 -- ---- images
 
-zero_key : (n a : ℕ) → slice_index (replicate n 0) a ≡ 0
-zero_key zero a = refl
-zero_key (suc n) zero = refl
-zero_key (suc n) (suc a) = zero_key n a
-
 is_module : IsModule 1 (called 0x0322)
 is_module = record {
   text_ok = record { order = omega arith; even_start = refl; even_end = refl; low = omega arith; high = omega arith };
@@ -109,7 +105,7 @@ is_image v small = record {
   bytes = byte_at (memory v) (bytes_memory v);
   low = (low_memory v).low;
   sixteen = refl;
-  key_bytes = λ n. subst (λ k. k < 256) (sym (zero_key 16 n)) (omega arith);
+  key_bytes = λ n. subst (λ k. k < 256) (sym (none_at 16 n)) (omega arith);
   table_ok = record { modules = (is_module, tt, tt); fits = omega arith; room_ok = inl refl };
   numbered = (refl, omega arith, tt);
   all_held = refl;

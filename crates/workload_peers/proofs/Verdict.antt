@@ -15,18 +15,11 @@ use Rattle.written_machine.specs.Peers.{section}
 use Rattle.peer_rows.specs.Rows.{called}
 use Rattle.workload.specs.declared.program.TheConstants.{MODULE}
 use Rattle.workload.specs.Program.{placed, memory, image}
-
-bytes_of : List ℕ → List ℕ
-bytes_of [] = []
-bytes_of (w ∷ ws) = w % 256 ∷ w / 256 ∷ bytes_of ws
+use Rattle.peer_rows.proofs.Examples.{bytes_of, meet}
 
 text_is : (v : ℕ) → section (called 0x0322).text (image v).memory ≡ bytes_of MODULE
 unfolding image memory placed bytes_of
 text_is v = refl
-
--- its arms meet after six cycles
-pub meet : List Arm
-meet = record { branch = 0x0304; join = 0x0318; cycles = 6 } ∷ []
 
 abbrev points : ℕ → List Point
 points n = rounds (flow_with (called 0x0322) (bytes_of MODULE) meet) (start_of (called 0x0322) (bytes_of MODULE)) n

@@ -2,6 +2,7 @@ use Rattle.std.proofs.Common.{◌≡◌, ℕ, ◌<◌, [], ◌∷◌, length, ge
 use Rattle.std.specs.BTreeMap.{BTreeMap}
 use Rattle.std.proofs.lemmas.List.{map-append, length-map, length-append}
 use Rattle.std.proofs.lemmas.Result.{err_from_is_err_and}
+use Rattle.std.proofs.Math.ListN.{get_or-map}
 use Rattle.toml.specs.Data.{Members}
 use Rattle.toml.specs.View.{table_view}
 use Rattle.toml.specs.declared.value.Value.{Value}
@@ -9,7 +10,7 @@ use Rattle.layout_file.specs.Checked.{map_ok, one}
 use Rattle.layout_file.specs.Layout.{module_row}
 use Rattle.layout_file.specs.Views.{module_of, modules_of}
 use Rattle.layout_file.specs.declared.fault.LayoutFault.TheVariants.{NoMemory}
-use Rattle.layout_file.proofs.RowLemmas.{list-stop, list-more, get_or-of_map}
+use Rattle.layout_file.proofs.RowLemmas.{list-stop, list-more}
 use Rattle.layout_file.proofs.read.modules.Goals as goal
 
 pub returns-in_err-module-clause-modules : goal.returns-in_err-module-clause-modules
@@ -18,7 +19,7 @@ returns-in_err-module-clause-modules c =
     let see : Bor (BTreeMap (String Global) Value) → Members = λ t. table_view t.now in
     let inside : c.loop-number.number < length (map see c.args.tables.now) = rw length-map (omega arith) in
     let here : get_or (map see c.args.tables.now) c.loop-number.number (see c.index-tables-number.result) ≡ see c.index-tables-number.result =
-    get_or-of_map see c.args.tables.now c.loop-number.number c.index-tables-number.result ∙ ap see (sym c.index-tables-number.is) in
+    get_or-map see c.args.tables.now c.loop-number.number c.index-tables-number.result ∙ ap see (sym c.index-tables-number.is) in
     rw (p.1, p.2) (elim c.in_err-module.ensures [
       | inl h ↦ inl (sym (list-stop (λ (n : ℕ) (t : Members). map_ok one (module_row c.args.version n t)) (map see c.args.tables.now) c.loop-number.number
           (see c.index-tables-number.result) (modules_of c.loop-number.found) c.in_err-module.field-0.0 inside c.loop-number.invariant.read
@@ -31,7 +32,7 @@ loop-number-preserved c =
     let see : Bor (BTreeMap (String Global) Value) → Members = λ t. table_view t.now in
     let inside : c.loop-number.number < length (map see c.args.tables.now) = rw length-map (omega arith) in
     let here : get_or (map see c.args.tables.now) c.loop-number.number (see c.index-tables-number.result) ≡ see c.index-tables-number.result =
-    get_or-of_map see c.args.tables.now c.loop-number.number c.index-tables-number.result ∙ ap see (sym c.index-tables-number.is) in
+    get_or-map see c.args.tables.now c.loop-number.number c.index-tables-number.result ∙ ap see (sym c.index-tables-number.is) in
     record {
       read = elim c.in_ok-module.ensures [
         | inl h ↦ rw (c.in_ok-push.ensures.items, map-append) (list-more (λ (n : ℕ) (t : Members). map_ok one (module_row c.args.version n t)) (map see c.args.tables.now)

@@ -8,26 +8,20 @@ use Rattle.lone_run.specs.Jobs.{call_of, between}
 use Rattle.lone_run.proofs.Calls.{At, at_exit, at_limit, data_limit, at_broken, at_short, data_short, at_more, at_closed}
 use Rattle.lone_run.proofs.calling.run.Goals as goal
 
--- whether PC is in the text, by the code's number
-is_home : (text : Section) (core : List ℕ) (wide word : ℕ) (b d : Bool) → b ≡ holds text wide → wide ≡ word → word ≡ reg core 0 → b ≡ d → holds text (reg core 0) ≡ d
-is_home text core wide word b d tested same read is = sym (tested ∙ ap (holds text) (same ∙ read)) ∙ is
-
 -- the answer and the data of an outcome
 told : (j : lone.Job) (start : lone.Lone) (limit : ℕ) (o : lone.Outcome) (ram : List ℕ) → lone.outcome j limit start ≡ o → data_left o (lone.lone_after j start limit).data_bytes ≡ ram →
     (answer_of o ≡ answer_of (lone.outcome j limit start)) × (ram ≡ data_left (lone.outcome j limit start) (lone.lone_after j start limit).data_bytes)
 told j start limit o ram e left = (sym (ap answer_of e), sym (ap (λ o. data_left o (lone.lone_after j start limit).data_bytes) e ∙ left))
 
-pub returns-then-not-holds : goal.returns-then-not-holds
-returns-then-not-holds c =
-    let wide : c.from.result ≡ c.get.result = omega arith in
-    let home = is_home _ c.loop-core.core _ _ _ _ c.holds.ensures wide c.get.ensures.word c.if-not-holds.true in
+pub returns-then-not-is_in_text : goal.returns-then-not-is_in_text
+returns-then-not-is_in_text c =
+    let home = sym c.is_in_text.ensures ∙ c.if-not-is_in_text.true in
     let ends = told (call_of c.args.job.now) (between c.args.entry c.args.ram.now) c.args.limit _ _ (at_exit c.loop-core.invariant home) refl in
     record { outcome = ends.0; ram = ends.1 }
 
 pub returns-then-cycles-limit : goal.returns-then-cycles-limit
 returns-then-cycles-limit c =
-    let wide : c.from.result ≡ c.get.result = omega arith in
-    let home = is_home _ c.loop-core.core _ _ _ _ c.holds.ensures wide c.get.ensures.word c.if-not-holds.false in
+    let home = sym c.is_in_text.ensures ∙ c.if-not-is_in_text.false in
     let at = c.loop-core.invariant in
     let last = c.if-cycles-limit.true in
     let ends = told (call_of c.args.job.now) (between c.args.entry c.args.ram.now) c.args.limit _ _ (at_limit at home last) (data_limit at last) in
@@ -35,20 +29,18 @@ returns-then-cycles-limit c =
 
 pub returns-in-None : goal.returns-in-None
 returns-in-None c =
-    let wide : c.from.result ≡ c.get.result = omega arith in
-    let home = is_home _ c.loop-core.core _ _ _ _ c.holds.ensures wide c.get.ensures.word c.if-not-holds.false in
+    let home = sym c.is_in_text.ensures ∙ c.if-not-is_in_text.false in
     let none = sym (c.next_insn.ensures.exact 0 false) ∙ c.in-None.is in
     let ends = told (call_of c.args.job.now) (between c.args.entry c.args.ram.now) c.args.limit _ _ (at_broken c.loop-core.invariant home none c.if-cycles-limit.false) refl in
     record { outcome = ends.0; ram = ends.1 }
 
 pub returns-then-from-limit : goal.returns-then-from-limit
 returns-then-from-limit c =
-    let wide : c.from.result ≡ c.get.result = omega arith in
-    let home = is_home _ c.loop-core.core _ _ _ _ c.holds.ensures wide c.get.ensures.word c.if-not-holds.false in
+    let home = sym c.is_in_text.ensures ∙ c.if-not-is_in_text.false in
     let found = sym (c.next_insn.ensures.exact 0 false) ∙ c.in-Some.is in
     let done = c.do_insn-lasts.ensures in
     let more = c.if-cycles-limit.false in
-    let cycles : c.from-in-loop-core.result ≡ c.do_insn-lasts.result.cycles = omega arith in
+    let cycles : c.from.result ≡ c.do_insn-lasts.result.cycles = omega arith in
     let short : c.args.limit - c.loop-core.cycles < c.do_insn-lasts.result.cycles = omega arith in
     let ends = told (call_of c.args.job.now) (between c.args.entry c.args.ram.now) c.args.limit _ _
     (at_short c.loop-core.invariant done.some home found done.done more short) (data_short c.loop-core.invariant done.some home found done.done more short) in
@@ -56,12 +48,11 @@ returns-then-from-limit c =
 
 pub returns-then-lasts : goal.returns-then-lasts
 returns-then-lasts c =
-    let wide : c.from.result ≡ c.get.result = omega arith in
-    let home = is_home _ c.loop-core.core _ _ _ _ c.holds.ensures wide c.get.ensures.word c.if-not-holds.false in
+    let home = sym c.is_in_text.ensures ∙ c.if-not-is_in_text.false in
     let found = sym (c.next_insn.ensures.exact 0 false) ∙ c.in-Some.is in
     let done = c.do_insn-lasts.ensures in
     let cycles : c.from-cycles.result ≡ c.do_insn-lasts.result.cycles = omega arith in
-    let same : c.from-in-loop-core.result ≡ c.do_insn-lasts.result.cycles = omega arith in
+    let same : c.from.result ≡ c.do_insn-lasts.result.cycles = omega arith in
     let fits : c.do_insn-lasts.result.cycles ≤ c.args.limit - c.loop-core.cycles = omega arith in
     let ends = told (call_of c.args.job.now) (between c.args.entry c.args.ram.now) c.args.limit _ _
     (at_closed c.loop-core.invariant done.some home found done.done fits c.if-lasts.true) refl in
@@ -69,12 +60,11 @@ returns-then-lasts c =
 
 pub loop-core-preserved : goal.loop-core-preserved
 loop-core-preserved c =
-    let wide : c.from.result ≡ c.get.result = omega arith in
-    let home = is_home _ c.loop-core.core _ _ _ _ c.holds.ensures wide c.get.ensures.word c.if-not-holds.false in
+    let home = sym c.is_in_text.ensures ∙ c.if-not-is_in_text.false in
     let found = sym (c.next_insn.ensures.exact 0 false) ∙ c.in-Some.is in
     let done = c.do_insn-lasts.ensures in
     let cycles : c.from-cycles.result ≡ c.do_insn-lasts.result.cycles = omega arith in
-    let same : c.from-in-loop-core.result ≡ c.do_insn-lasts.result.cycles = omega arith in
+    let same : c.from.result ≡ c.do_insn-lasts.result.cycles = omega arith in
     let fits : c.do_insn-lasts.result.cycles ≤ c.args.limit - c.loop-core.cycles = omega arith in
     subst (At (call_of c.args.job.now) (between c.args.entry c.args.ram.now) c.args.limit c.do_insn-lasts.new.core c.do_insn-lasts.new.ram)
     (let e : c.loop-core.cycles + c.do_insn-lasts.result.cycles ≡ c.loop-core.cycles + c.from-cycles.result = omega arith in e)

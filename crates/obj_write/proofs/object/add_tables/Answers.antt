@@ -4,8 +4,9 @@ use Rattle.asm_text.specs.Views.{section_of}
 use Rattle.obj_write.specs.Strings.{string_table, name_at}
 use Rattle.obj_write.specs.Symbols.{symbol_names}
 use Rattle.obj_write.specs.Object.{section_names, symtab_section, strtab_section, shstrtab_section}
-use Rattle.obj_write.proofs.ObjectLemmas.{part_count, section_name_at, symtab_is, symtab_content, strings_is, strtab_parts, shstrtab_parts, table_added, three_added}
+use Rattle.obj_write.proofs.ObjectLemmas.{part_count, section_name_at, symtab_is, symtab_content, strings_is, table_added, three_added}
 use Rattle.obj_write.proofs.object.add_tables.Goals as goal
+use Rattle.obj_write.proofs.UnitLemmas.{strtab_parts, shstrtab_parts}
 
 pub returns : goal.returns
 returns c = λ done is.

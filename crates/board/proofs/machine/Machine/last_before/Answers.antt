@@ -1,10 +1,11 @@
 use Rattle.std.proofs.Common.{◌≡◌, suc, ◌+◌, ◌-◌, ◌<◌, sym, ◌∙◌, ap, arith, refl}
+use Rattle.std.proofs.lemmas.Bool.{and_right}
 use Rattle.written_machine.specs.Cycle.{after_cycles}
 use Rattle.written_machine.specs.Standing.{stands_at, last_standing}
 use Rattle.written_machine.specs.State.{State}
 use Rattle.board.specs.Sound.{number_of}
 use Rattle.board.specs.Standing.{state_of}
-use Rattle.board.proofs.Leading.{both_false, last_apart, last_here, last_there, walk_next}
+use Rattle.board.proofs.Leading.{last_apart, last_here, last_there, walk_next}
 use Rattle.board.proofs.Runs.{state_split}
 use Rattle.board.proofs.machine.Machine.last_before.Goals.{then-stands_at, else-stands_at}
 use Rattle.board.proofs.machine.Machine.last_before.Goals as goal
@@ -43,7 +44,7 @@ loop-self-preserved c =
       state = c.pass_idle.ensures.leads.state ∙ ap (λ (x : State). after_cycles x k) walk.0 ∙ sym (state_split (suc n) k s) ∙ ap (after_cycles s) total;
       apart = λ off.
           exact
-          ∙ ap number_of (sym (last_apart addr (suc n) k s u walk.0 (c.pass_idle.ensures.missed addr (both_false (stands_at addr u) (stands_at addr (state_of c.pass_idle.new.self)) off))))
+          ∙ ap number_of (sym (last_apart addr (suc n) k s u walk.0 (c.pass_idle.ensures.missed addr (and_right (stands_at addr u) (stands_at addr (state_of c.pass_idle.new.self)) off))))
           ∙ ap (λ j. number_of (last_standing addr s j)) total;
       ended = λ last.
           let same : suc n ≡ c.pass_idle.new.self.cycle - c.args.self.now.cycle = omega (arith, total, last, walk.1, c.pass_idle.ensures.number, c.pass_idle.ensures.most, c.saturating_sub.ensures) in

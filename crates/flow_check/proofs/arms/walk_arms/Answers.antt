@@ -9,8 +9,8 @@ use Rattle.flow_check.specs.declared.walk.Tally.{Tally}
 use Rattle.flow_check.specs.Causes.{noted}
 use Rattle.flow_check.specs.Pairs.{point_of}
 use Rattle.flow_check.specs.Walks.{told}
-use Rattle.flow_check.proofs.Walking.{crossing_least, crossing_gives}
-use Rattle.flow_check.proofs.arms.step_arm.Goals as goal
+use Rattle.flow_check.proofs.Walking.{crossing_least, crossing_told}
+use Rattle.flow_check.proofs.arms.walk_arms.Goals as goal
 
 pub returns-clause-least : goal.returns-clause-least
 returns-clause-least c = λ stub.
@@ -18,26 +18,26 @@ returns-clause-least c = λ stub.
     let text : List ℕ = c.args.text.now in
     let S : Point → Step = flow_step m text in
     let b = c.args.crossing.now in
-    let x : Point = point_of c.args.pc c.args.stepped.now.returns c.args.label.now in
-    let t0 : Tally = record { least = c.note_if.new.least; cycles = 0; label = c.args.label.now } in
+    let x : Point = point_of c.args.pc c.args.returns.now c.args.label.now in
+    let t0 : Tally = record { least = c.note_if.new.least; cycles = 0; label = c.args.told.now } in
     let wide : c.from.result ≡ b.arm.join = omega arith in
     let wanted : c.from-wanted.result ≡ b.arm.cycles = omega arith in
-    crossing_least S m text b.insn b.target b.arm x t0 c.walk.new.tally c.walk-2.new.tally refl refl
+    crossing_least S m text b.insn b.target b.arm x t0 c.walk.new.tally c.walk-2.new.tally refl
     (λ branch. c.walk.ensures stub branch ∙ ap (λ y. told (walk S m text branch b.arm.join (suc b.arm.join) y) t0) c.first_arm-first.ensures)
     (λ branch. c.walk-2.ensures stub branch ∙ ap (λ y. told (walk S m text branch b.arm.join (suc b.arm.join) y) (record c.walk.new.tally { cycles = 0 })) c.second_arm-second.ensures)
-    c.args.stepped.now.least c.note_if-2.new.least c.note_if-3.new.least
-    (λ pc. c.note_if.ensures pc ∙ ap (λ b. noted (because_if (not b) pc ArmInsn c.args.crossing.now.arm.join) c.args.stepped.now.least) (c.holds-apart.ensures.exact ∙ ap (holds m.text) wide))
+    c.args.least.now c.note_if-2.new.least c.note_if-3.new.least
+    (λ pc. c.note_if.ensures pc ∙ ap (λ b. noted (because_if (not b) pc ArmInsn c.args.crossing.now.arm.join) c.args.least.now) (c.holds-apart.ensures.exact ∙ ap (holds m.text) wide))
     (λ pc. c.note_if-2.ensures pc ∙ ap (λ n. noted (because_if (not (c.walk.new.tally.cycles == n)) pc ArmTime 0) c.walk-2.new.tally.least) wanted)
     (λ pc. c.note_if-3.ensures pc ∙ ap (λ n. noted (because_if (not (c.walk-2.new.tally.cycles == n)) pc ArmTime 1) c.note_if-2.new.least) wanted)
 
-pub returns-clause-gives : goal.returns-clause-gives
-returns-clause-gives c = λ stub.
+pub returns-clause-told : goal.returns-clause-told
+returns-clause-told c = λ stub.
     let m = c.args.module.now in
     let text : List ℕ = c.args.text.now in
     let S : Point → Step = flow_step m text in
     let b = c.args.crossing.now in
-    let x : Point = point_of c.args.pc c.args.stepped.now.returns c.args.label.now in
-    let t0 : Tally = record { least = c.note_if.new.least; cycles = 0; label = c.args.label.now } in
-    crossing_gives S m text b.insn b.target b.arm x t0 c.walk.new.tally c.walk-2.new.tally refl refl
+    let x : Point = point_of c.args.pc c.args.returns.now c.args.label.now in
+    let t0 : Tally = record { least = c.note_if.new.least; cycles = 0; label = c.args.told.now } in
+    crossing_told S m text b.insn b.target b.arm x t0 c.walk.new.tally c.walk-2.new.tally refl
     (λ branch. c.walk.ensures stub branch ∙ ap (λ y. told (walk S m text branch b.arm.join (suc b.arm.join) y) t0) c.first_arm-first.ensures)
     (λ branch. c.walk-2.ensures stub branch ∙ ap (λ y. told (walk S m text branch b.arm.join (suc b.arm.join) y) (record c.walk.new.tally { cycles = 0 })) c.second_arm-second.ensures)

@@ -1,0 +1,447 @@
+-- The walks along a branch's arms, from a point and from one whose label it absorbs.
+use Rattle.std.proofs.Common.{◌≡◌, ℕ, zero, suc, ◌+◌, ◌*◌, ◌%◌, ◌≤◌, List, [], ◌∷◌, ◌++◌, map, refl, sym, ap, ◌∙◌, subst, arith, Bool, true, false, cond, nat_lt, ◌==◌, ◌&&◌, ◌||◌, not, Option, Some, None, ℤ}
+use Rattle.std.proofs.lemmas.Bool.Decides.{nat_tests}
+use Rattle.sm_words.specs.Words.{nth, kept, add16, word_at}
+use Rattle.insn_decode.specs.Code.{insn_of}
+use Rattle.sm_words.specs.declared.width.Width.{Width}
+use Rattle.sm_words.specs.declared.width.Width.TheVariants.{Word}
+use Rattle.insn_decode.specs.declared.insn.TwoOp.{TwoOp}
+use Rattle.insn_decode.specs.declared.insn.TwoOp.TheVariants.{Mov}
+use Rattle.insn_decode.specs.declared.insn.OneOp.{OneOp}
+use Rattle.insn_decode.specs.declared.insn.OneOp.TheVariants.{Call}
+use Rattle.insn_decode.specs.declared.insn.Operand.{Operand}
+use Rattle.insn_decode.specs.declared.insn.Operand.TheVariants.{Reg, Increment}
+use Rattle.insn_decode.specs.declared.insn.Insn.{Insn}
+use Rattle.insn_decode.specs.declared.insn.Insn.TheVariants.{Two, One, Jump, Reti, Unit as UnitOp}
+use Rattle.mod_layout.specs.declared.Module.{Module}
+use Rattle.mod_layout.specs.Table.{holds}
+use Rattle.cpu_step.specs.Fetched.{insn_at, later_word}
+use Rattle.arm_balance.specs.declared.Arm.{Arm}
+use Rattle.arm_balance.specs.Met.{text_byte, word_in, whole, met_first, met}
+use Rattle.arm_balance.specs.Balance.{met_cycles, next_if, arm_next, arm_on}
+use Rattle.flow_rule.specs.declared.Val.{Val}
+use Rattle.flow_rule.specs.declared.Val.TheVariants.{Known, Away, Public, Secret}
+use Rattle.flow_rule.specs.declared.Label.{Label}
+use Rattle.flow_rule.specs.declared.Reach.{Reach}
+use Rattle.flow_rule.specs.declared.Reason.TheVariants.{Arm as ArmInsn, SecretBranch}
+use Rattle.flow_rule.specs.Values.{is_secret, val}
+use Rattle.flow_rule.specs.Rounds.{Point, Found, Step}
+use Rattle.flow_rule.specs.Does.{plan_val, read_val, writes_val, read_reaches, write_reaches, does_val, past_val}
+use Rattle.flow_rule.specs.Reasons.{because_if, reach_reasons}
+use Rattle.flow_rule.specs.Going.{goes_in, goes_by, goes, both, also}
+use Rattle.flow_rule.specs.Returns.{Turn, turn_of, but_last, last_is}
+use Rattle.flow_rule.specs.Steps.{goes_unless, step_plain, step_jump, step_insn, step_of}
+use Rattle.flow_rule.specs.Stub.{word_number, is_open, shut_reasons, shut_if, step_entries, step_stub, has_stub}
+use Rattle.flow_rule.specs.Verdict.{flow_step}
+use Rattle.flow_rule.specs.Arms.{Walk, ended, met_regs, written_words, met_words, walked, walk_past, walk_on, walk, first_walk, second_walk, step_arm}
+use Rattle.flow_rule.specs.Absorbs.{Absorbs}
+use Rattle.flow_rule.proofs.Plans.{none_left, none_right, none_if}
+use Rattle.flow_rule.proofs.Stub.{stub_facts}
+use Rattle.flow_rule.proofs.Absorbing.{AbsorbsVal, AbsorbsEach, of_joins, nth_keeps, past_keeps, EvenPc}
+use Rattle.flow_rule.proofs.AbsorbingDone.{same_plan, reads_keep, writes_keep, does_keeps}
+
+abbrev point : ℕ → List ℕ → Label → Point
+point a returns label = record { pair = record { addr = a; returns = returns }; label = label }
+
+-- a label that knows no more than another
+record Over (top low : Label) : Type 0 where
+  core : AbsorbsEach top.core low.core
+  words : AbsorbsEach top.words low.words
+
+-- two points of an even address, the first with the label that knows less
+record Near (y z : Point) : Type 0 where
+  addr : z.pair.addr ≡ y.pair.addr
+  even : y.pair.addr % 2 ≡ 0
+  over : Over y.label z.label
+
+-- a step that goes to one place, and one that goes there too, with a label that knows no less
+record Leads (s q : Step) : Type 0 where
+  y : Point
+  z : Point
+  to_y : s.gives ≡ y ∷ []
+  to_z : q.gives ≡ z ∷ []
+  none : q.reasons ≡ []
+  near : Near y z
+
+-- the step goes to some place
+record Some_gives (s : Step) : Type 0 where
+  first : Point
+  rest : List Point
+  gives : s.gives ≡ first ∷ rest
+
+module _ (m : Module) (pc : ℕ) where
+  in_keeps : (t : Bool) (to : ℕ) (r q : List ℕ) (ts ws vs us : List Val) → to % 2 ≡ 0 → AbsorbsEach ts vs →
+      AbsorbsEach ws us → Some_gives (goes_in t to pc r ts ws) →
+      Leads (goes_in t to pc r ts ws) (goes_in t to pc q vs us)
+  in_keeps true to r q ts ws vs us even p d g =
+      record {
+        y = point to r (record { core = ts; words = ws });
+        z = point to q (record { core = vs; words = us });
+        to_y = refl;
+        to_z = refl;
+        none = refl;
+        near = record { addr = refl; even = even; over = record { core = p; words = d } };
+      }
+  in_keeps false to r q ts ws vs us even p d g = let e = g.gives in absurd cc
+
+  by_keeps : (t v : Val) (r q : List ℕ) (ts ws vs us : List Val) → AbsorbsVal t v →
+      ((a : ℕ) → t ≡ Known a → a % 2 ≡ 0) → AbsorbsEach ts vs → AbsorbsEach ws us →
+      Some_gives (goes_by t m pc r ts ws) →
+      Leads (goes_by t m pc r ts ws) (goes_by v m pc q vs us)
+  by_keeps (Known to) (Known b) r q ts ws vs us h even p d g =
+      subst (λ b. Leads (goes_by (Known to) m pc r ts ws) (goes_by (Known b) m pc q vs us)) (sym h)
+      (in_keeps (holds m.text to) to r q ts ws vs us (even to refl) p d g)
+  by_keeps (Known to) Away r q ts ws vs us h even p d g = absurd h
+  by_keeps (Known to) Public r q ts ws vs us h even p d g = absurd h
+  by_keeps (Known to) Secret r q ts ws vs us h even p d g = absurd h
+  by_keeps Away v r q ts ws vs us h even p d g = let e = g.gives in absurd cc
+  by_keeps Public v r q ts ws vs us h even p d g = let e = g.gives in absurd cc
+  by_keeps Secret v r q ts ws vs us h even p d g = let e = g.gives in absurd cc
+
+  goes_keeps : (r q : List ℕ) (ts ws vs us : List Val) → EvenPc ts → AbsorbsEach ts vs → AbsorbsEach ws us →
+      Some_gives (goes m pc r ts ws) → Leads (goes m pc r ts ws) (goes m pc q vs us)
+  goes_keeps r q ts ws vs us even p d g =
+      by_keeps (val ts 0) (val vs 0) r q ts ws vs us (nth_keeps ts vs 0 p) even p d g
+
+-- ---- an instruction of an arm leaves the return addresses as they are
+abbrev quiet : List ℕ → Turn
+quiet returns = record { reasons = []; returns = returns; stops = false }
+
+if_first : (a b : Bool) (to next : ℕ) → next_if (a && b) to ≡ Some next → a ≡ true
+if_first true b to next e = refl
+if_first false b to next e = absurd cc
+
+if_seven : (a b c : Bool) (to next : ℕ) → next_if (a && b && c) to ≡ Some next → a ≡ true
+if_seven true b c to next e = refl
+if_seven false b c to next e = absurd cc
+
+two_quiet : (join pc next : ℕ) (op : TwoOp) (w : Width) (s d : Operand) (r : List ℕ) (vs : List Val) →
+    arm_next join pc (Some (Two op w s d)) ≡ Some next → turn_of (Two op w s d) pc r vs ≡ quiet r
+two_quiet join pc next Mov Word (Increment n) (Reg d) r vs on =
+    by (n == 1) (d == 0) (if_first (not (d == 0)) _ _ next on)
+  where
+    returned : Turn
+    returned = record { reasons = []; returns = but_last r; stops = not (last_is (nth 0 vs Secret) r) }
+
+    by : (a b : Bool) → not b ≡ true → cond (a && b) returned (quiet r) ≡ quiet r
+    by true true e = absurd cc
+    by true false e = refl
+    by false b e = refl
+two_quiet join pc next op w s d r vs on = refl
+
+one_quiet : (join pc next : ℕ) (op : OneOp) (w : Width) (a : Operand) (r : List ℕ) (vs : List Val) →
+    arm_next join pc (Some (One op w a)) ≡ Some next → turn_of (One op w a) pc r vs ≡ quiet r
+one_quiet join pc next Call w a r vs on = absurd cc
+one_quiet join pc next op w a r vs on = refl
+
+no_more : (xs ys : List Found) → xs ≡ [] → ys ≡ [] → (xs ++ []) ++ ys ≡ []
+no_more xs ys p q = ap (λ i. (i ++ []) ++ ys) p ∙ q
+
+-- ---- one instruction of an arm
+module _ (m : Module) (text : List ℕ) where
+  -- what is read, over these accesses
+  abbrev given : Label → List Reach → List Val
+  given l xs = map (read_val m text l.words) (read_reaches xs)
+
+  -- a plain step, over its accesses and what it makes of the return addresses
+  abbrev plain : Insn → ℕ → Label → List Reach → Turn → Step
+  plain insn pc l xs t =
+      let d = does_val insn pc l.core (given l xs) in
+      also (reach_reasons m pc xs ++ t.reasons)
+      (goes_unless t.stops m pc t.returns d.core (writes_val m l.words (write_reaches xs) d.stored))
+
+  is_plain : (insn : Insn) (pc : ℕ) (r : List ℕ) (l : Label) (xs : List Reach) → plan_val insn pc l.core ≡ xs →
+      ((vs : List Val) → turn_of insn pc r vs ≡ quiet r) →
+      step_plain m text insn (point pc r l) ≡ plain insn pc l xs (quiet r)
+  is_plain insn pc r l xs e turn =
+      ap (λ t. plain insn pc l (plan_val insn pc l.core) t) (turn (given l (plan_val insn pc l.core)))
+      ∙ ap (λ xs. plain insn pc l xs (quiet r)) e
+
+  plain_leads : (insn : Insn) (pc : ℕ) (r q : List ℕ) (top low : Label) (xs : List Reach) → Over top low →
+      reach_reasons m pc xs ≡ [] → Some_gives (plain insn pc top xs (quiet r)) →
+      Leads (plain insn pc top xs (quiet r)) (plain insn pc low xs (quiet q))
+  plain_leads insn pc r q top low xs o e g =
+      let k = does_keeps insn pc top.core low.core (given top xs) (given low xs) o.core
+      (reads_keep m text (read_reaches xs) top.words low.words o.words) in
+      let h = goes_keeps m pc r q _ _ _ _ k.even_pc k.core_kept
+      (writes_keep m (write_reaches xs) top.words low.words _ _ o.words k.stored_kept)
+      (record { first = g.first; rest = g.rest; gives = g.gives }) in
+      record { y = h.y; z = h.z; to_y = h.to_y; to_z = h.to_z; none = no_more _ _ e h.none; near = h.near }
+
+  -- a step, and the accesses that it is told by
+  record Goes (o : Option Insn) (pc : ℕ) (top low : Label) (s q : Step) : Type 0 where
+    leads : Leads s q
+    same_words : (r r' : List ℕ) → met_words o m (point pc r' low) ≡ met_words o m (point pc r top)
+
+  plain_goes : (insn : Insn) (pc : ℕ) (r q : List ℕ) (top low : Label) →
+      ((r : List ℕ) (vs : List Val) → turn_of insn pc r vs ≡ quiet r) → Over top low →
+      (step_plain m text insn (point pc r top)).reasons ≡ [] → Some_gives (step_plain m text insn (point pc r top)) →
+      Goes (Some insn) pc top low (step_plain m text insn (point pc r top)) (step_plain m text insn (point pc q low))
+  plain_goes insn pc r q top low turn o none g =
+      let xs = plan_val insn pc top.core in
+      let free : reach_reasons m pc xs ≡ [] = none_left _ _ (none_left _ _ none) in
+      let same = same_plan m pc insn top.core low.core o.core free in
+      let a = is_plain insn pc r top xs refl (turn r) in
+      let b = is_plain insn pc q low xs same (turn q) in
+      let P : Step → Type 0 = λ s. Some_gives s in
+      let k = plain_leads insn pc r q top low xs o free (subst P a g) in
+      record {
+        leads = subst (λ s. Leads s (step_plain m text insn (point pc q low))) (sym a)
+            (subst (λ s. Leads (plain insn pc top xs (quiet r)) s) (sym b) k);
+        same_words = λ r r'. ap (λ xs. written_words m (write_reaches xs)) same;
+      }
+
+  jump_goes : (cn : ℕ) (off : ℤ) (pc : ℕ) (r q : List ℕ) (top low : Label) → (cn == 7) ≡ true → Over top low →
+      Some_gives (step_jump m text (Jump cn off) cn (point pc r top)) →
+      Goes (Some (Jump cn off)) pc top low (step_jump m text (Jump cn off) cn (point pc r top))
+      (step_jump m text (Jump cn off) cn (point pc q low))
+  unfolding plan_val
+  jump_goes cn off pc r q top low seven o g = record { leads = by (cn == 7) seven g; same_words = λ r r'. refl }
+    where
+      taken : List ℕ → Label → Step
+      taken r l = goes m pc r (does_val (Jump cn off) pc l.core []).core l.words
+
+      other : List ℕ → Label → Step
+      other r l = also (because_if (is_secret (val l.core 2)) pc SecretBranch 0)
+          (both (taken r l) (goes m pc r (past_val (Jump cn off) pc l.core) l.words))
+
+      by : (c : Bool) → c ≡ true → Some_gives (cond c (taken r top) (other r top)) →
+          Leads (cond c (taken r top) (other r top)) (cond c (taken q low) (other q low))
+      by false e g = absurd cc
+      by true e g = let k = does_keeps (Jump cn off) pc top.core low.core [] [] o.core tt in
+          goes_keeps m pc r q _ _ _ _ k.even_pc k.core_kept o.words g
+
+  insn_goes : (o : Option Insn) (join next pc : ℕ) (r q : List ℕ) (top low : Label) → arm_next join pc o ≡ Some next →
+      Over top low → (step_insn m text o (point pc r top)).reasons ≡ [] →
+      Some_gives (step_insn m text o (point pc r top)) →
+      Goes o pc top low (step_insn m text o (point pc r top)) (step_insn m text o (point pc q low))
+  insn_goes None join next pc r q top low on p none g = absurd cc
+  insn_goes (Some (Two op w s d)) join next pc r q top low on p none g =
+      plain_goes (Two op w s d) pc r q top low (λ r vs. two_quiet join pc next op w s d r vs on) p none g
+  insn_goes (Some (One op w a)) join next pc r q top low on p none g =
+      plain_goes (One op w a) pc r q top low (λ r vs. one_quiet join pc next op w a r vs on) p none g
+  insn_goes (Some (Jump cn off)) join next pc r q top low on p none g =
+      jump_goes cn off pc r q top low (if_seven (cn == 7) _ _ _ next on) p g
+  insn_goes (Some Reti) join next pc r q top low on p none g = absurd cc
+  insn_goes (Some (UnitOp n)) join next pc r q top low on p none g = absurd cc
+
+  -- ---- the steps of a text: each goes on alike from an address of an arm
+  abbrev Alike : (Point → Step) → Type 0
+  Alike S = (join next pc : ℕ) (r q : List ℕ) (top low : Label) → pc % 2 ≡ 0 → holds m.text pc ≡ true →
+      arm_next join pc (met m.text text pc) ≡ Some next → Over top low → (S (point pc r top)).reasons ≡ [] →
+      Some_gives (S (point pc r top)) →
+      Goes (met m.text text pc) pc top low (S (point pc r top)) (S (point pc q low))
+
+  plain_alike : Alike (step_of m text)
+  unfolding step_of
+  plain_alike join next pc r q top low even inn on o none g =
+      insn_goes (met m.text text pc) join next pc r q top low on o none g
+
+  -- the stub's CALL is none of an arm
+  call_stops : (join next pc : ℕ) → word_at (text_byte m.text text) pc ≡ 4758 →
+      arm_next join pc (met m.text text pc) ≡ Some next → ⊥
+  unfolding met insn_of
+  call_stops join next pc e on =
+      by (word_in m.text pc 2 1 && word_in m.text pc 2 2)
+      (subst (λ w. arm_next join pc (met_first (insn_of w 0 0) m.text text pc) ≡ Some next) e on)
+    where
+      by : (b : Bool) → arm_next join pc (whole b (insn_at (text_byte m.text text) pc 2)) ≡ Some next → ⊥
+      by false on = absurd cc
+      by true on =
+          let f : arm_next join pc (insn_of 4758 (later_word (text_byte m.text text) pc 2 1)
+          (later_word (text_byte m.text text) pc 2 2)) ≡ Some next =
+          subst (λ w. arm_next join pc
+          (insn_of w (later_word (text_byte m.text text) pc 2 1) (later_word (text_byte m.text text) pc 2 2))
+          ≡ Some next) e on in absurd cc
+
+  at_word : (pc k : ℕ) → m.text.start % 2 ≡ 0 → pc % 2 ≡ 0 → holds m.text pc ≡ true → (word_number m pc == k) ≡ true →
+      pc ≡ m.text.start + 2 * k
+  at_word pc k start even inn e =
+      let low : m.text.start ≤ pc = grind (arith, nat_tests) in
+      let f : word_number m pc ≡ k = grind (arith, nat_tests) in
+      omega arith
+
+  stub_alike : m.text.start % 2 ≡ 0 → has_stub m text ≡ true → Alike (step_stub m text)
+  unfolding step_stub
+  stub_alike start stub join next pc r q top low even inn on o none g =
+      by (word_number m pc == 17) (is_open (word_number m pc)) refl none g
+    where
+      from_top : Step
+      from_top = step_of m text (point pc r top)
+
+      from_low : Step
+      from_low = step_of m text (point pc q low)
+
+      by : (a b : Bool) → (word_number m pc == 17) ≡ a →
+          (cond a (step_entries m text (point pc r top)) (shut_if b m pc from_top)).reasons ≡ [] →
+          Some_gives (cond a (step_entries m text (point pc r top)) (shut_if b m pc from_top)) →
+          Goes (met m.text text pc) pc top low (cond a (step_entries m text (point pc r top)) (shut_if b m pc from_top))
+          (cond a (step_entries m text (point pc q low)) (shut_if b m pc from_low))
+      by true b e none g =
+          let f = stub_facts m text stub in
+          absurd (call_stops join next pc
+          (ap (word_at (text_byte m.text text)) (at_word pc 17 start even inn e) ∙ f.words 17 (omega arith)) on)
+      by false true e none g = plain_alike join next pc r q top low even inn on o none g
+      by false false e none g =
+          let k = plain_alike join next pc r q top low even inn on o
+          (none_left from_top.reasons (shut_reasons m pc from_top.gives) none)
+          (record { first = g.first; rest = g.rest; gives = g.gives }) in
+          let l = k.leads in
+          record {
+            leads = record {
+              y = l.y;
+              z = l.z;
+              to_y = l.to_y;
+              to_z = l.to_z;
+              none = ap (λ i. i ++ shut_reasons m pc from_low.gives) l.none ∙ shut l;
+              near = l.near;
+            };
+            same_words = k.same_words;
+          }
+        where
+          shut : Leads from_top from_low → shut_reasons m pc from_low.gives ≡ []
+          shut l =
+              ap (shut_reasons m pc) l.to_z
+              ∙ ap (λ a. shut_reasons m pc (point a l.z.pair.returns l.z.label ∷ [])) l.near.addr
+              ∙ sym (ap (shut_reasons m pc) l.to_y)
+              ∙ none_right from_top.reasons (shut_reasons m pc from_top.gives) none
+
+  -- ---- walks
+  module _ (S : Point → Step) (alike : Alike S) (branch join : ℕ) (inn : holds m.text join ≡ true) where
+    -- to the join, in so many steps
+    abbrev onward : ℕ → Point → Walk
+    onward fuel x = walk S m text branch join fuel x
+
+    abbrev Same : ℕ → Type 0
+    Same fuel = (y z : Point) → Near y z → (onward fuel y).reasons ≡ [] → onward fuel z ≡ onward fuel y
+
+    -- after this step of a point
+    abbrev further : ℕ → ℕ → Step → Point → Walk
+    further fuel next s x =
+        walk_past s.reasons s.gives branch (holds m.text join || not (next == join)) next m text x (onward fuel)
+
+    walk_more : (fuel next pc : ℕ) (r q : List ℕ) (top low : Label) → pc % 2 ≡ 0 → holds m.text pc ≡ true →
+        arm_next join pc (met m.text text pc) ≡ Some next → Over top low → Same fuel →
+        (s : Step) → S (point pc r top) ≡ s → (further fuel next s (point pc r top)).reasons ≡ [] →
+        further fuel next (S (point pc q low)) (point pc q low) ≡ further fuel next s (point pc r top)
+    walk_more fuel next pc r q top low even here on o go s es none =
+        by s.reasons s.gives (ap (λ s. s.reasons) es) (ap (λ s. s.gives) es) none
+      where
+        with_words : List ℕ → Walk → Walk
+        with_words ws rest =
+            let o = met m.text text pc in
+            record {
+              reasons = rest.reasons;
+              cycles = met_cycles o + rest.cycles;
+              regs = met_regs o ++ rest.regs;
+              words = ws ++ rest.words;
+            }
+
+        clash : (b c : Bool) → b ≡ true → (b || c) ≡ false → ⊥
+        clash true c e f = cc
+        clash false c e f = cc
+
+        first_same : (a b : Point) (bs : List Point) → a ∷ [] ≡ b ∷ bs → a ≡ b
+        first_same a b bs e = cc
+
+        by : (rs : List Found) (gs : List Point) → (S (point pc r top)).reasons ≡ rs → (S (point pc r top)).gives ≡ gs →
+            (further fuel next (record { reasons = rs; gives = gs }) (point pc r top)).reasons ≡ [] →
+            further fuel next (S (point pc q low)) (point pc q low)
+            ≡ further fuel next (record { reasons = rs; gives = gs }) (point pc r top)
+        by (x ∷ rs) gs er eg none = absurd cc
+        by [] [] er eg none = absurd (clash (holds m.text join) _ inn (none_if _ branch ArmInsn next none))
+        by [] (y ∷ ys) er eg none =
+            let k = alike join next pc r q top low even here on o er (record { first = y; rest = ys; gives = eg }) in
+            let l = k.leads in
+            let e : l.y ≡ y = first_same _ _ _ (sym l.to_y ∙ eg) in
+            let near : Near y l.z = subst (λ y. Near y l.z) e l.near in
+            ap (λ rs. further fuel next (record { reasons = rs; gives = (S (point pc q low)).gives }) (point pc q low))
+            l.none
+            ∙ ap (λ gs. further fuel next (record { reasons = []; gives = gs }) (point pc q low)) l.to_z
+            ∙ ap (walked m text (point pc q low)) (go y l.z near none)
+            ∙ ap (λ ws. with_words ws (onward fuel y)) (k.same_words r q)
+
+    -- a step more, by whether the join is here and by where an instruction of an arm goes on
+    abbrev onward_by : ℕ → Bool → Option ℕ → Point → Walk
+    onward_by fuel c n x = cond c ended (walk_on n (S x) branch (holds m.text join) join m text x (onward fuel))
+
+    walk_at : (fuel pc : ℕ) (r q : List ℕ) (top low : Label) → pc % 2 ≡ 0 → Over top low → Same fuel →
+        (onward (suc fuel) (point pc r top)).reasons ≡ [] →
+        onward (suc fuel) (point pc q low) ≡ onward (suc fuel) (point pc r top)
+    walk_at fuel pc r q top low even o go none = by (pc == join) (arm_on m.text text join pc) refl none
+      where
+        on : (a b : Bool) (next : ℕ) → holds m.text pc ≡ a →
+            cond (a && b) (arm_next join pc (met m.text text pc)) None ≡ Some next →
+            (onward_by fuel false (Some next) (point pc r top)).reasons ≡ [] →
+            onward_by fuel false (Some next) (point pc q low) ≡ onward_by fuel false (Some next) (point pc r top)
+        on true true next here e none = walk_more fuel next pc r q top low even here e o go _ refl none
+        on true false next here e none = absurd cc
+        on false b next here e none = absurd cc
+
+        by : (c : Bool) (n : Option ℕ) → arm_on m.text text join pc ≡ n →
+            (onward_by fuel c n (point pc r top)).reasons ≡ [] →
+            onward_by fuel c n (point pc q low) ≡ onward_by fuel c n (point pc r top)
+        by true n e none = refl
+        by false None e none = absurd cc
+        by false (Some next) e none = on (holds m.text pc) (nat_lt pc join) next refl e none
+
+    walk_same : (fuel : ℕ) → Same fuel
+    walk_same zero y z near none = absurd cc
+    walk_same (suc fuel) y z near none =
+        subst (λ a. onward (suc fuel) (point a z.pair.returns z.label) ≡ onward (suc fuel) y) (sym near.addr)
+        (walk_at fuel y.pair.addr y.pair.returns z.pair.returns y.label z.label near.even near.over
+        (walk_same fuel) none)
+
+  -- ---- both arms of a branch
+  abbrev Rests : (Point → Step) → Insn → ℕ → Arm → Point → Point → Type 0
+  Rests S insn target arm top x =
+      (first_walk S m text insn arm x ≡ first_walk S m text insn arm top)
+      × (second_walk S m text insn target arm x ≡ second_walk S m text insn target arm top)
+
+  kept_even : (a : ℕ) → kept 0 a % 2 ≡ 0
+  kept_even a = omega arith
+
+  arms_same : (S : Point → Step) → Alike S → (insn : Insn) (target : ℕ) (arm : Arm) (pc : ℕ) (r q : List ℕ) →
+      (top low : Label) → Over top low → (step_arm S m text insn target arm (point pc r top)).reasons ≡ [] →
+      Rests S insn target arm (point pc r top) (point pc q low)
+  arms_same S alike insn target arm pc r q top low o none =
+      let apart = because_if (not (holds m.text arm.join)) pc ArmInsn arm.join in
+      let both = none_left _ _ (none_left _ _ none) in
+      let one = none_left _ _ both in
+      let inn = inside (holds m.text arm.join) (none_if _ pc ArmInsn arm.join (none_left apart _ one)) in
+      let k = does_keeps insn pc top.core low.core [] [] o.core tt in
+      let first : Over _ _ = record { core = past_keeps insn pc top.core low.core o.core; words = o.words } in
+      let second : Over _ _ = record { core = k.core_kept; words = o.words } in (
+        walk_same S alike pc arm.join inn (suc arm.join) _ _
+            (record { addr = refl; even = kept_even (add16 pc 2); over = first }) (none_right apart _ one),
+        walk_same S alike pc arm.join inn (suc arm.join) _ _
+            (record { addr = refl; even = kept_even target; over = second })
+            (none_right (apart ++ (first_walk S m text insn arm (point pc r top)).reasons) _ both),
+      )
+    where
+      inside : (b : Bool) → not b ≡ false → b ≡ true
+      inside true e = refl
+      inside false e = absurd cc
+
+  pub arms_rest : (insn : Insn) (target : ℕ) (arm : Arm) (top x : Point) → m.text.start % 2 ≡ 0 →
+      x.pair.addr ≡ top.pair.addr → Absorbs top.label x.label →
+      (step_arm (flow_step m text) m text insn target arm top).reasons ≡ [] →
+      Rests (flow_step m text) insn target arm top x
+  arms_rest insn target arm top x even e a none =
+      subst (λ pc. Rests (flow_step m text) insn target arm top (point pc x.pair.returns x.label)) (sym e)
+      (by (has_stub m text) refl none)
+    where
+      low : Point
+      low = point top.pair.addr x.pair.returns x.label
+
+      of_step : (S : Point → Step) → Alike S → (step_arm S m text insn target arm top).reasons ≡ [] →
+          Rests S insn target arm top low
+      of_step S alike none =
+          arms_same S alike insn target arm top.pair.addr top.pair.returns x.pair.returns top.label x.label
+          (record { core = of_joins _ _ a.core; words = of_joins _ _ a.words }) none
+
+      by : (b : Bool) → has_stub m text ≡ b →
+          (step_arm (cond b (step_stub m text) (step_of m text)) m text insn target arm top).reasons ≡ [] →
+          Rests (cond b (step_stub m text) (step_of m text)) insn target arm top low
+      by true stub none = of_step (step_stub m text) (stub_alike even stub) none
+      by false stub none = of_step (step_of m text) plain_alike none

@@ -1,0 +1,36 @@
+-- Labels that know less than others, and branches whose arms are walked once for all of them.
+use Rattle.std.specs.Prelude.{◌≡◌, ℕ, ◌%◌, List, [], ◌∷◌}
+use Rattle.insn_decode.specs.declared.insn.Insn.{Insn}
+use Rattle.mod_layout.specs.declared.Module.{Module}
+use Rattle.arm_balance.specs.declared.Arm.{Arm}
+use Rattle.flow_rule.specs.declared.Val.{Val}
+use Rattle.flow_rule.specs.declared.Val.TheVariants.{Public}
+use Rattle.flow_rule.specs.declared.Label.{Label}
+use Rattle.flow_rule.specs.Values.{join_each}
+use Rattle.flow_rule.specs.Rounds.{Point}
+use Rattle.flow_rule.specs.Verdict.{flow_step}
+use Rattle.flow_rule.specs.Arms.{first_walk, second_walk, step_arm}
+
+-- a label that absorbs another: joining it changes nothing
+pub record Absorbs (top low : Label) : Type 0 where
+  pub core : join_each top.core low.core ≡ top.core
+  pub words : join_each top.words low.words ≡ top.words
+
+-- where a branch has no reason under a label, its arms tell the same under each label that this one absorbs
+abbrev pub ArmsRest : Type 0
+ArmsRest = (m : Module) (text : List ℕ) (insn : Insn) (target : ℕ) (arm : Arm) (top x : Point) → m.text.start % 2 ≡ 0 →
+    x.pair.addr ≡ top.pair.addr → Absorbs top.label x.label →
+    let step = flow_step m text in
+    (step_arm step m text insn target arm top).reasons ≡ [] →
+    (first_walk step m text insn arm x ≡ first_walk step m text insn arm top)
+    × (second_walk step m text insn target arm x ≡ second_walk step m text insn target arm top)
+
+-- through a Public of the first value the second is seen
+abbrev pub laid : Val → Val → Val
+laid Public v = v
+laid b v = b
+
+-- what was written into a blank label, each value Public, laid over another label's values
+abbrev pub overlay : List Val → List Val → List Val
+overlay (b ∷ bs) (v ∷ vs) = laid b v ∷ overlay bs vs
+overlay _ _ = []
