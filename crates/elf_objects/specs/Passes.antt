@@ -2,16 +2,13 @@
 use Rattle.std.specs.Prelude.{◌≡◌, ◌≢◌, ◌<◌, ℕ, zero, suc, Bool, true, false, List, [], ◌∷◌, ◌++◌, Option, Some, None, Result, Ok, Err}
 use Rattle.elf_objects.specs.declared.fault.ElfFault.{ElfFault}
 use Rattle.elf_objects.specs.declared.fault.ElfFault.TheVariants as fault
+-- the first one, else the other
+pub use Rattle.std.specs.Option.{option_or as or_else}
 
 -- this refusal, where its condition holds
 abbrev pub refuse_if : Bool → ElfFault → Option ElfFault
 refuse_if true fault = Some fault
 refuse_if false fault = None
-
--- the first one, else the other
-abbrev pub or_else : {A : Type 0} → Option A → Option A → Option A
-or_else (Some found) other = Some found
-or_else None other = other
 
 -- the first refusal of a list
 abbrev pub first_of : List (Option ElfFault) → Option ElfFault

@@ -64,10 +64,6 @@ here : (names : List ℕ → Option Meaning) (vs : List (Vec (Option Meaning) Gl
     map listed (drop i vs) ≡ meanings_in names (record { number = i; first = first; object = o }) ∷ map (meanings_in names) (numbered_objects_from (i + 1) (first + length o.sections) (drop (i + 1) os))
 here names vs os i first o h is e = e ∙ ap (map (meanings_in names)) (numbered_step os i first o h is)
 
-pub meanings_within : (names : List ℕ → Option Meaning) (vs : List (Vec (Option Meaning) Global)) (os : List ObjectValue) (i first : ℕ) (o : ObjectValue) → i < length os → o ≡ get_or os i o →
-    map listed (drop i vs) ≡ map (meanings_in names) (numbered_objects_from i first (drop i os)) → i < length vs
-meanings_within names vs os i first o h is e = within listed vs i _ _ (here names vs os i first o h is e)
-
 pub meanings_here : (names : List ℕ → Option Meaning) (vs : List (Vec (Option Meaning) Global)) (os : List ObjectValue) (i first : ℕ) (o : ObjectValue) (d : Vec (Option Meaning) Global) → i < length os → o ≡ get_or os i o →
     map listed (drop i vs) ≡ map (meanings_in names) (numbered_objects_from i first (drop i os)) → (get_or vs i d).items ≡ meanings_in names (record { number = i; first = first; object = o })
 meanings_here names vs os i first o d h is e = (first_is listed vs i _ _ d (here names vs os i first o h is e)).0
@@ -93,11 +89,6 @@ found_more names vs new v os all i first n o h is same pushed value e =
     ∙ (append_assoc (map listed vs) (v.items ∷ []) rest
     ∙ (ap (λ m. map listed vs ++ (m ∷ rest)) value
     ∙ (ap (λ l. map listed vs ++ map (meanings_in names) l) (sym (numbered_step os i first o h is)) ∙ e)))))
-
-pub found_all : (names : List ℕ → Option Meaning) (vs : List (Vec (Option Meaning) Global)) (os : List ObjectValue) (all : List (List (Option Meaning))) (i first : ℕ) → length os ≤ i →
-    map listed vs ++ map (meanings_in names) (numbered_objects_from i first (drop i os)) ≡ all → map listed vs ≡ all
-found_all names vs os all i first h e =
-    sym (append-nil (map listed vs)) ∙ (ap (λ l. map listed vs ++ map (meanings_in names) (numbered_objects_from i first l)) (sym (drop_of_length-le os h)) ∙ e)
 
 pub numbers_here : (l : Linking) (ms : List (Option Meaning)) (vs : List (Vec (Option Meaning) Global)) (os : List ObjectValue) (i first : ℕ) (o : ObjectValue) (v : Vec (Option Meaning) Global) → ms ≡ v.items → v ≡ get_or vs i v → i < length os → o ≡ get_or os i o →
     map listed (drop i vs) ≡ map (meanings_in l.names) (numbered_objects_from i first (drop i os)) →

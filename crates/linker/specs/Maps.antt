@@ -1,5 +1,5 @@
 -- The code's maps of names, and what they hold.
-use Rattle.std.specs.Prelude.{ℕ, ◌≡◌, ◌-◌, List, length, drop, nat_lt, if◌then◌else◌, Option, Some, ◌++◌, map, bytes_eq}
+use Rattle.std.specs.Prelude.{ℕ, ◌≡◌, ◌-◌, List, [], ◌∷◌, length, drop, nat_lt, if◌then◌else◌, Option, Some, ◌++◌, map, bytes_eq}
 use Rattle.std.specs.Borrow.{Bor}
 use Rattle.std.specs.BTreeMap.{BTreeMap, get_by}
 use Rattle.std.specs.Cmp.Lexicographic.{slice_cmp}
@@ -39,10 +39,25 @@ meaning_of_name names name = stands_by (name_entry names.strong name) (name_entr
 abbrev pub Notes : {A : Type 0} → BTreeMap Key A → BTreeMap Key A → List ℕ → A → Type 0
 Notes old new name a = (q : List ℕ) → name_entry new q ≡ or_else (name_entry old q) (some_if (bytes_eq name q) (Some a))
 
+-- what is known of a symbol's name is its first weak definition
+abbrev pub IsFirst : (List ℕ → Option Meaning) → NamedValue → Option Meaning → Type 0
+IsFirst weak s known = (m : Meaning) → known ≡ Some m → weak s.name ≡ Some m
+
+-- so it is with each symbol
+abbrev pub AreFirsts : (List ℕ → Option Meaning) → List NamedValue → List (Option Meaning) → Type 0
+AreFirsts weak [] [] = Unit {0}
+AreFirsts weak (s ∷ ss) (known ∷ os) = IsFirst weak s known × AreFirsts weak ss os
+AreFirsts weak _ _ = ⊥
+
+-- what was kept of these symbols' names is so
+abbrev pub KnowsFirsts : Names → List NamedValue → Type 0
+KnowsFirsts names symbols = AreFirsts (name_entry names.weak) symbols names.firsts.items
+
 -- the definitions of these symbols are noted, and no common
 pub record Holds (names : Names) (symbols : List NamedValue) : Type 0 where
   pub strong : (q : List ℕ) → name_entry names.strong q ≡ strong_of symbols q
   pub weak : (q : List ℕ) → name_entry names.weak q ≡ weak_of symbols q
+  pub firsts : KnowsFirsts names symbols
 
 -- these commons are noted, and are items after the sections
 pub record HoldsCommons (names : Names) (items sections : List Item) (cs : List Common) : Type 0 where

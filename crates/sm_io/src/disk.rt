@@ -1,22 +1,32 @@
 // The trusted edge: the system's files and streams. Nothing is told of what they hold.
-ghost use Rattle.std.specs.Prelude.{◌≡◌, ◌<◌, ◌≤◌, length, None, IfSome, false};
+ghost use Rattle.std.specs.Prelude.{◌≡◌, ◌<◌, ◌≤◌, length, None, IfOk, IfSome, false};
 ghost use Rattle.std.proofs.Common.{arith};
 ghost use Rattle.sm_io.specs.Faults.{counted};
 
 use crate::{Failed, Files, Sink, Unread};
+use std::alloc::AllocGlobal;
 use std::io::{ErrorKind, Write};
 use std::marker::Model;
 use std::os::unix::fs::FileExt;
-use std::{fs, rt};
+use std::{fs, io, rt};
+
+// A file that is open.
+#[derive(Drop)]
+struct OpenFile {
+    name: String,
+    file: fs::File,
+}
 
 /// The system's files. Contracts see the count of faults.
 #[derive(Drop)]
-pub struct DiskFiles<R: rt::Files<File = fs::File> + Drop> {
+pub struct DiskFiles<R: rt::Files<File = fs::File> + AllocGlobal + Drop> {
     runtime: R,
+    // What was opened last stays open, so that a file that is read on is the one that was begun.
+    last: Option<OpenFile>,
     faults: u64,
 }
 
-impl<R: rt::Files<File = fs::File> + Drop> Model for DiskFiles<R> {
+impl<R: rt::Files<File = fs::File> + AllocGlobal + Drop> Model for DiskFiles<R> {
     ghost use Rattle.std.specs.Prelude.{ℕ};
 
     ghost Value = { ℕ };
@@ -24,16 +34,59 @@ impl<R: rt::Files<File = fs::File> + Drop> Model for DiskFiles<R> {
     ghost view = { λ d. d.faults };
 }
 
-impl<R: rt::Files<File = fs::File> + Drop> DiskFiles<R> {
+impl<R: rt::Files<File = fs::File> + AllocGlobal + Drop> DiskFiles<R> {
     /// The files that the system shows, with no fault so far.
     pub fn new(runtime: R) -> Self
         ensures faults { result ≡ 0 }
     {
-        DiskFiles { runtime, faults: 0 }
+        DiskFiles {
+            runtime,
+            last: None,
+            faults: 0,
+        }
+    }
+
+    // Whether the file of that name was opened last.
+    fn is_last(&self, name: &str) -> bool {
+        match &self.last {
+            Some(last) => last.name.as_str() == name,
+            None => false,
+        }
+    }
+
+    // Opens the file of that name.
+    fn open(&mut self, name: &str) -> io::Result<()>
+        ensures same { self.new ≡ self.old }
+    {
+        let file = fs::open(&self.runtime, name)?;
+        let name = String::from_str(self.runtime.alloc(), name)?;
+        self.last = Some(OpenFile { name, file });
+        Ok(())
+    }
+
+    // Reads from the file that was opened last.
+    fn read_last(&self, at: u64, buf: &mut [u8]) -> io::Result<usize>
+        ensures bound { IfOk result (λ n. n ≤ length buf.new) }
+    {
+        match &self.last {
+            Some(last) => last.file.read_at(buf, at),
+            None => Ok(0),
+        }
+    }
+
+    // Reads from the file of that name. A read at its start opens it anew.
+    fn read_named(&mut self, name: &str, at: u64, buf: &mut [u8]) -> io::Result<usize>
+        ensures bound { IfOk result (λ n. n ≤ length buf.new) }
+        ensures same { self.new ≡ self.old }
+    {
+        if at == 0 || !self.is_last(name) {
+            self.open(name)?;
+        }
+        self.read_last(at, buf)
     }
 }
 
-impl<R: rt::Files<File = fs::File> + Drop> Files for DiskFiles<R> {
+impl<R: rt::Files<File = fs::File> + AllocGlobal + Drop> Files for DiskFiles<R> {
     ghost content = { λ _. None };
 
     ghost faults = { λ count. counted count };
@@ -44,11 +97,8 @@ impl<R: rt::Files<File = fs::File> + Drop> Files for DiskFiles<R> {
 
     /// `Absent` is the system's word for a name of no file.
     fn read_at(&mut self, name: &str, at: u64, buf: &mut [u8]) -> Result<usize, Unread> {
-        let fault = match fs::open(&self.runtime, name) {
-            Ok(file) => match file.read_at(buf, at) {
-                Ok(count) => return Ok(count),
-                Err(fault) => fault.kind(),
-            },
+        let fault = match self.read_named(name, at, buf) {
+            Ok(count) => return Ok(count),
             Err(fault) => fault.kind(),
         };
         if fault == ErrorKind::NotFound {

@@ -100,7 +100,10 @@ fn files_of_the_system(rt: HostRuntime) -> Result<(), Fail> {
         read_whole(alloc, &mut files, name)?.as_slice(),
         b"some text".as_slice()
     );
+    assert_eq!(rt; files.read_at(name, 0, &mut buf), Ok(6));
     fs::remove_file(&rt, path.as_str())?;
+    // A file that is read on is the one that was begun.
+    assert_eq!(rt; files.read_at(name, 6, &mut buf), Ok(3));
     assert_eq!(rt; files.read_at(name, 0, &mut buf), Err(Unread::Absent));
     assert_eq!(rt; files.read_at("/", 0, &mut buf), Err(Unread::Failed));
     Ok(())

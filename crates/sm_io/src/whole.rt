@@ -27,6 +27,18 @@ pub enum ReadFault {
     NoMemory,
 }
 
+// All the room that a file can want, once it has more than the least piece: what is not filled takes no memory, and
+// room that grows by and by is copied.
+fn make_room(bytes: &mut Vec<u8>)
+    ensures same { bytes.new.items ≡ bytes.old.items }
+{
+    let len = bytes.len();
+    if LEAST_PIECE <= len && len <= MAX_FILE {
+        // Where it is not to be had, the file may still be short enough.
+        let _had = bytes.reserve(MAX_FILE + MOST_PIECE - len).is_ok();
+    }
+}
+
 /// The file's bytes, to its end.
 pub fn read_whole<F: Files>(alloc: Global, files: &mut F, name: &str) -> Result<Vec<u8>, ReadFault>
     ensures bytes { IfSome (F.content files.old) (λ map. WholeGives (map name.now) result) }
@@ -38,6 +50,7 @@ pub fn read_whole<F: Files>(alloc: Global, files: &mut F, name: &str) -> Result<
 {
     let mut bytes = Vec::new(alloc);
     while bytes.len() <= MAX_FILE {
+        make_room(&mut bytes);
         let at = bytes.len();
         let step = at.clamp(LEAST_PIECE, MOST_PIECE);
         // It ends at a multiple of the step, so that the next read takes the room that a short one left.
