@@ -45,17 +45,42 @@ def slow_to_check(count, others):
     return image_with(code, text, f"module 0007 {text:04x} {text + len(code):04x} {data:04x} {data + 512:04x}\n")
 
 
+CALLS = 72
+
+
+def met_often(text, data, arm, cycles, before=b"", again=b""):
+    """72 calls of a routine with 72 calls of one with a branch, both of whose arms are `arm`: it is met under 5,184 lists of return addresses.
+    The flags are secret by a word past those of which a label knows something. `before` comes first, `again` at the head of a loop."""
+    loop = text + 4 + len(before)
+    head = words(0x4031, data + 0x200) + before + again + words(0x9382, data + 0x200)
+    inner = text + len(head) + 4 * CALLS + 4
+    branch = inner + 4 * CALLS + 2
+    code = head + words(0x12B0, inner) * CALLS + words(0x4030, loop)
+    code += words(0x12B0, branch) * CALLS + words(0x4130)
+    code += words(0x2400) + arm + words(0x4130)
+    module = f"module 0007 {text:04x} {text + len(code):04x} {data:04x} {data + 0x400:04x}\n"
+    return image_with(code, text, module), f"{branch:04x} {branch + 2 + len(arm):04x} {cycles}\n"
+
+
 def slow_to_balance(nops):
-    """72 calls of a routine with 72 calls of one with a branch: 5,184 lists of return addresses, at each of which the branch's two arms of
-    `nops` instructions are walked."""
-    text, data, calls = 0x0300, 0xF000, 72
-    inner = text + 2 * (8 + 2 * calls)
-    branch = inner + 2 * (2 * calls + 1)
-    code = words(0x4031, data + 0x100, 0x9382, data) + words(0x12B0, inner) * calls + words(0xC032, 0x0107, 0x4030, 0x0214)
-    code += words(0x12B0, branch) * calls + words(0x4130)
-    code += words(0x2400) + words(0x4303) * nops + words(0x4130)
-    module = f"module 0007 {text:04x} {text + len(code):04x} {data:04x} {data + 512:04x}\n"
-    return image_with(code, text, module), f"{branch:04x} {branch + 2 + 2 * nops:04x} {nops}\n"
+    """Arms of so many instructions that do nothing."""
+    return met_often(0x0300, 0xF000, words(0x4303) * nops, nops)
+
+
+def balance_that_rises(nops, count=250):
+    """The same in a loop in which so many data words become less known, one a turn."""
+    data = 0xF000
+    before = b"".join(words(0x4382, data + 2 * k) for k in range(count))
+    again = b"".join(words(0x4292, data + 2 * k, data + 2 * k + 2) for k in range(count - 2, -1, -1)) + words(0x5392, data)
+    return met_often(0x0300, data, words(0x4303) * nops, nops, before, again)
+
+
+def balance_of_addresses(count, insn, cycles):
+    """Arms of so many equal instructions whose last one has an address that hangs on the return addresses: what one walk tells is of no use under
+    another list. R4 is the address of the data's first word."""
+    data = 0xF000
+    arm = words(0x4034, data, 0x4384, 0, 0x4125, 0x4116, 2, 0x5605) + words(insn) * count + words(0xF035, 0x00FE, 0x5035, data, 0x4527, 0x4305, 0x4307)
+    return met_often(0x0300, data, arm, 2 + 4 + 2 + 3 + 1 + cycles * count + 2 + 2 + 2 + 1 + 1)
 
 
 def cases(folder):
@@ -87,6 +112,11 @@ def cases(folder):
     for nops in (300, 30_000):
         walked, arm = slow_to_balance(nops)
         yield f"balance, arms of {nops:,} met 5,184 times", ["balance", file(f"walked_{nops}", walked), "1", file(f"arm_{nops}", arm)]
+    walked, arm = balance_that_rises(25_000)
+    yield "balance, arms of 25,000 met 5,184 times, data that rise one a turn", ["balance", file("walked_rising", walked), "1", file("arm_rising", arm)]
+    for name, insn, cycles in (("sums", 0x5605, 1), ("reads", 0x5425, 2)):
+        walked, arm = balance_of_addresses(25_000, insn, cycles)
+        yield f"balance, arms of 25,000 {name} met 5,184 times, a last address that hangs on each", ["balance", file(f"walked_{name}", walked), "1", file(f"arm_{name}", arm)]
     yield "challenges, 4,096", ["challenge", file("challenges", "".join(f"{1600 * k} {'0f' * 16}\n" for k in range(4096)))]
     trace = "0 out 4a\n" * 110_000 + "end 1 stopped\n"
     yield "trace, 1 MiB of out lines", ["vendor", image, "1", "0" * 32, file("challenges_few", "100 " + "0f" * 16 + "\n"), file("trace", trace)]
