@@ -29,11 +29,6 @@ pub record IsLast (heads : List Head) (h : Head) : Type 0 where
 pub is_last : (heads : List Head) (h : Head) → last_head heads ≡ Some h → IsLast heads h
 is_last heads h e = record { some = slice_get_within heads (length heads - 1) h e; is = λ d. get_or_from_slice_get heads (length heads - 1) h d e }
 
-pub last_is_small : (heads : List Head) (h : Head) → AreSmall heads → last_head heads ≡ Some h → h.size ≤ MAX_SIZE
-last_is_small heads h small e =
-    let last = is_last heads h e in
-    subst (λ (x : Head). x.size ≤ MAX_SIZE) (last.is h) (small (length heads - 1) h last.some)
-
 -- ---- a section
 
 not_any : (heads : List Head) (name : ℕ) → has_section heads name ≡ false → (k d : ℕ) → k < length (names_in heads) → get_or (names_in heads) k d ≢ name

@@ -20,9 +20,3 @@ same_map f g names (k ∷ ks) low same =
     let first : f k ≡ g k = same k (low 0 0 (omega arith)) in
     let rest : map f ks ≡ map g ks = same_map f g names ks (λ j d h. low (suc j) d (omega arith)) same in
     rw (first, rest) refl
-
-pub symbols_same : (statements : List (Statement ℕ)) (p : Placed) (names : List (List ℕ)) (globals : List Bool) (order : List ℕ) → AreBelow (length names) order → AreGlobals globals statements (length names)
-    → map (λ k. symbol_by (slice_index_or globals k false) (slice_index_or names k []) (spot_of p.spots k)) order ≡ symbols_for statements p names order
-symbols_same statements p names globals order low are =
-    same_map (λ k. symbol_by (slice_index_or globals k false) (slice_index_or names k []) (spot_of p.spots k)) (symbol_for statements p names) (length names) order low
-    (λ k h. ap (λ b. symbol_by b (slice_index_or names k []) (spot_of p.spots k)) (are k h))

@@ -45,26 +45,6 @@ IsRead-more text rest line after tables tables' statements n s r next is noted i
   indexed = indexed;
 }
 
--- at a line that has no form
-pub IsRead-stopped : (text rest line after : List ℕ) (tables : TablesKept) (statements : List (Statement ℕ)) (n : ℕ) → IsRead text tables statements rest n → IsNext rest line after
-    → statement_of line ≡ None → source_of text ≡ record { tables = tables_of tables; statements = statements; stopped = Some n }
-IsRead-stopped text rest line after tables statements n r next is =
-    by_line text rest line after tables statements n r next
-    ∙ ap (λ o. source_by n (tables_of tables) statements o (λ t ss. source_from (n + 1) t ss (ended_lines after) (unended after))) is
-
 abbrev pub at_end : ℕ → List ℕ → Option ℕ
 at_end n [] = None
 at_end n (b ∷ rest) = Some n
-
--- behind the last LF
-pub IsRead-ended : (text rest : List ℕ) (tables : TablesKept) (statements : List (Statement ℕ)) (n : ℕ) → IsRead text tables statements rest n
-    → ended_lines rest ≡ [] → unended rest ≡ rest → source_of text ≡ record { tables = tables_of tables; statements = statements; stopped = at_end n rest }
-IsRead-ended text rest tables statements n r lines tail =
-    r.total
-    ∙ ap (λ ls. source_from n (tables_of tables) statements ls (unended rest)) lines
-    ∙ ap (λ t. source_from n (tables_of tables) statements [] t) tail
-    ∙ by rest
-  where
-    by : (t : List ℕ) → source_from n (tables_of tables) statements [] t ≡ record { tables = tables_of tables; statements = statements; stopped = at_end n t }
-    by [] = refl
-    by (b ∷ t) = refl

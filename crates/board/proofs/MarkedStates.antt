@@ -29,10 +29,8 @@ states_more f (u ∷ ts) [] t b e = absurd (omega (arith, e))
 states_more f (u ∷ ts) (c ∷ bs) t b e = ap (λ (l : List State). moment_state f u c ∷ l) (states_more f ts bs t b (omega (arith, e)))
 
 pub states_take : (f : Fixed) (n : ℕ) (ts : List Moment) (bs : List (List ℕ)) → states_at f (take n ts) (take n bs) ≡ take n (states_at f ts bs)
-states_take f zero ts bs = refl
-states_take f (suc n) [] bs = refl
-states_take f (suc n) (t ∷ ts) [] = refl
 states_take f (suc n) (t ∷ ts) (b ∷ bs) = ap (λ (l : List State). moment_state f t b ∷ l) (states_take f n ts bs)
+states_take f _ _ _ = refl
 
 -- ---- the marks lead to one another
 

@@ -403,11 +403,13 @@ turn_sends left s = subst (λ t. Goes s t.state) (sym (turn_is left s)) (case_se
 
 resume_sends : (fs : List Frame) (s : State) → Goes s (resume_from fs s).state
 resume_sends [] s = λ k. k
-resume_sends _ s = λ k. k
+resume_sends (Plain ∷ fs) s = λ k. k
+resume_sends (Held b ∷ fs) s = λ k. k
 
 close_sends : (a : Option ℕ) (o : Option Module) (s : State) → Goes s (close_of a o s).state
 close_sends None o s = λ k. k
-close_sends _ _ s = λ k. k
+close_sends (Some id) None s = λ k. k
+close_sends (Some id) (Some x) s = λ k. k
 
 leave_sends : (b : Bool) (a : Option ℕ) (s : State) → Goes s (leave_if b a s).state
 leave_sends false (Some id) s = λ k. k

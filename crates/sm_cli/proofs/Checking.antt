@@ -55,14 +55,6 @@ module _ (map : FileMap) (name : List ℕ) (value : Image) (id : ℕ) (owner : M
     BalanceComes = (arms : List Arm) × Comes (Some map) (balance_command name id arms_name) (judges owner (section owner.text value.memory) arms)
 
     balance_with : (held : Held) → Holds (Some map) (need arms_name arms_file) held → length (image_text value) ≤ most_bytes → BalanceComes
-    balance_with (an_image other) h short = absurd h.is
-    balance_with (a_schedule entries) h short = absurd h.is
-    balance_with (the_challenges list) h short = absurd h.is
-    balance_with (the_replies sent) h short = absurd h.is
-    balance_with (a_layout layout) h short = absurd h.is
-    balance_with (an_object object) h short = absurd h.is
-    balance_with (a_script script) h short = absurd h.is
-    balance_with (a_unit unit) h short = absurd h.is
     balance_with (certificates arms) h short = (
       arms,
       record {
@@ -71,6 +63,7 @@ module _ (map : FileMap) (name : List ℕ) (value : Image) (id : ℕ) (owner : M
         is = ap (balanced_by value arms) owned;
       },
     )
+    balance_with _ h short = absurd h.is
 
     balance_comes : (helds : List Held) → HoldAll (Some map) (need name (image_with id) ∷ need arms_name arms_file ∷ []) helds → BalanceComes
     balance_comes [] h = absurd h

@@ -24,9 +24,6 @@ use Rattle.sm_cli.specs.Words.{is_end, is_option, values, values_in}
 abbrev pub ready : ℕ → ℕ → Rule
 ready least most = record (several least most) { index = Some 1; parser = Some vp.String }
 
-built-rules : (least most : ℕ) → (built (app least most)).top.rules ≡ ready least most ∷ []
-built-rules least most = refl
-
 plain_for : (b : Bool) → (not ((b || false) && false || false) && true && true) ≡ true
 plain_for true = refl
 plain_for false = refl

@@ -13,23 +13,6 @@ pub record IsCounted (from to : State) (count cycles : ℕ) : Type 0 where
   pub few : count ≤ 4 * cycles
   pub number : to.cycle ≤ from.cycle + cycles
 
-pub counted_none : (from : State) → IsCounted from from 0 0
-counted_none from = record { leads = refl; counted = refl; few = omega arith; number = omega arith }
-
-pub counted_more : (from to next : State) (count cycles : ℕ) (events : List Event) → IsCounted from to count cycles → events ≡ (cycle to).events → next ≡ (cycle to).state
-    → length events ≤ 4 → next.cycle ≤ to.cycle + 1 → IsCounted from next (count + length events) (cycles + 1)
-counted_more from to next count cycles events r told leads short one =
-    let more : suc cycles ≡ cycles + 1 = omega arith in
-    let few = r.few in
-    let number = r.number in
-    let all : events ≡ (cycle (after_cycles from cycles)).events = told ∙ ap (λ (s : State). (cycle s).events) r.leads in
-    record {
-      leads = leads ∙ (ap (λ (s : State). (cycle s).state) r.leads ∙ ap (λ n. after_cycles from n) more);
-      counted = ap₂ (λ n (es : List Event). n + length es) r.counted all ∙ ap (λ n. events_after from n) more;
-      few = omega arith;
-      number = omega arith;
-    }
-
 -- a run begins in cycle 0
 pub starts : (seed word : ℕ) (board : Marked) → board ≡ unmarked 0 (start_of seed word) → board.present.cycle ≤ 1000000000
 unfolding start_of

@@ -17,11 +17,8 @@ lines_end (suc more) memory at end h = let off : nat_lt at end ≡ false = grind
 -- an instruction has a word at least
 some_word : (o : Option Insn) → 1 ≤ length_or_one o
 some_word None = omega arith
-some_word (Some (Two op w s d)) = omega arith
-some_word (Some (One op w a)) = omega arith
-some_word (Some (Jump cond offset)) = omega arith
 some_word (Some Reti) = omega arith
-some_word (Some (UnitOp n)) = omega arith
+some_word _ = omega arith
 
 -- the address after what stands at this one
 abbrev pub after : List ℕ → ℕ → ℕ

@@ -19,10 +19,6 @@ pub past_name : {X : Type 0} (f : X → List ℕ) (items : List X) (i : ℕ) (d 
     → (done ++ f (get_or items i d) ∷ []) ++ map f (drop (i + 1) items) ≡ text
 past_name f items i d done text h e = append_assoc done (f (get_or items i d) ∷ []) (map f (drop (i + 1) items)) ∙ at_name f items i d done text h e
 
--- behind the last name there is none
-pub all_names : {X : Type 0} (f : X → List ℕ) (items : List X) (i : ℕ) (done text : List (List ℕ)) → length items ≤ i → done ++ map f (drop i items) ≡ text → done ≡ text
-all_names f items i done text h e = sym (append-nil done) ∙ sym (at_drop_all (λ xs. done ++ map f xs) items i h) ∙ e
-
 -- what refuses at files and a count refuses at their equals
 pub cause_moved : (a b : Option FileMap) (m n after : ℕ) (needs : List Need) (refused : Refusal) (told : List ℕ) → a ≡ b → m ≡ n → IsNeedCause a m after needs refused told
     → IsNeedCause b n after needs refused told
@@ -62,8 +58,6 @@ module _ (files : Option FileMap) where
   pub cause_past : (before after : ℕ) (names : List (List ℕ)) (helds : List Held) (name : List ℕ) (more : List (List ℕ)) (refused : Refusal) (told : List ℕ)
       → HoldAll files (object_needs names) helds → IsNeedCause files before after (need name object_file ∷ []) refused told
       → IsNeedCause files before after (object_needs (names ++ name ∷ more)) refused told
-  cause_past before after names helds name more refusal.Usage told h k = k
   cause_past before after names helds name more (refusal.BadFile f) told h k = (first_past names helds name more told f h k.0, k.1)
   cause_past before after names helds name more refusal.CannotRead told h k = (reached_past names helds name more told h k.0, k.1)
-  cause_past before after names helds name more (refusal.Link f) told h k = k
-  cause_past before after names helds name more refusal.NoMemory told h k = k
+  cause_past before after names helds name more _ told h k = k

@@ -17,14 +17,12 @@ too_many most vs h = ap (λ b. if nat_le 1 (length vs) && b then Some vs else No
 
 module _ (one : List Text → Option Command) (none : (x y : Text) → one (x ∷ y ∷ []) ≡ None) where
   one_of : (vs : Option (List Text)) → option_and_then one (option_and_then (in_number 1 2) vs) ≡ option_and_then one (option_and_then (in_number 1 1) vs)
-  one_of None = refl
-  one_of (Some []) = refl
-  one_of (Some (x ∷ [])) = refl
   one_of (Some (x ∷ y ∷ [])) = none x y
   one_of (Some (x ∷ y ∷ z ∷ more)) =
       let three : 2 < length (x ∷ y ∷ z ∷ more) = omega arith in
       let two : 1 < length (x ∷ y ∷ z ∷ more) = omega arith in
       ap (option_and_then one) (too_many 2 (x ∷ y ∷ z ∷ more) three ∙ sym (too_many 1 (x ∷ y ∷ z ∷ more) two))
+  one_of _ = refl
 
 pub one_name : (words : List Text) → option_and_then challenge_of (values_in 1 2 words) ≡ option_and_then challenge_of (values_in 1 1 words)
 one_name words = one_of challenge_of (λ x y. refl) (values words)

@@ -82,15 +82,7 @@ reason_of n =
 
 numbered : (r : Reason) → reason_of (number_of r) ≡ r
 numbered reason.SecretBranch = refl
-numbered reason.SecretAddress = refl
-numbered reason.OutsideAccess = refl
-numbered reason.SecretAtExit = refl
-numbered reason.UnknownTarget = refl
-numbered reason.Illegal = refl
-numbered reason.Unit = refl
-numbered reason.TooMany = refl
-numbered reason.Arm = refl
-numbered reason.ArmTime = refl
+numbered _ = refl
 
 abbrev no_of : Found → Verdict
 no_of r = No r.addr r.why r.value

@@ -103,35 +103,29 @@ module _ (files : Option FileMap) (before after : ℕ) (refused : Refusal) (told
   cause_first wanted more k = by refused k
     where
       by : (r : Refusal) → IsNeedCause files before after (wanted ∷ []) r told → IsNeedCause files before after (wanted ∷ more) r told
-      by refusal.Usage h = h
       by (refusal.BadFile f) (inl h, quiet) = (inl h, quiet)
       by (refusal.BadFile f) (inr h, quiet) = absurd h.1
       by refusal.CannotRead (inl h, rose) = (inl h, rose)
       by refusal.CannotRead (inr h, rose) = absurd h.1
-      by (refusal.Link f) h = h
-      by refusal.NoMemory h = h
+      by _ h = h
 
   -- a refusal behind a file that serves
   pub cause_next : (wanted : Need) (held : Held) (more : List Need) → Holds files wanted held → IsNeedCause files before after more refused told → IsNeedCause files before after (wanted ∷ more) refused told
   cause_next wanted held more h k = by refused k
     where
       by : (r : Refusal) → IsNeedCause files before after more r told → IsNeedCause files before after (wanted ∷ more) r told
-      by refusal.Usage x = x
       by (refusal.BadFile f) x = (inr ((held, h), x.0), x.1)
       by refusal.CannotRead x = (inr ((held, h), x.0), x.1)
-      by (refusal.Link f) x = x
-      by refusal.NoMemory x = x
+      by _ x = x
 
   -- a refusal of a schedule's file, and one behind it
   pub cause_schedule : (schedule : Option (List ℕ)) (more : List Need) → IsNeedCause files before after (schedule_needs schedule) refused told → IsNeedCause files before after (schedule_needs schedule ++ more) refused told
   cause_schedule None more k = by refused k
     where
       by : (r : Refusal) → IsNeedCause files before after [] r told → IsNeedCause files before after more r told
-      by refusal.Usage h = h
       by (refusal.BadFile f) h = absurd h.0
       by refusal.CannotRead h = absurd h.0
-      by (refusal.Link f) h = h
-      by refusal.NoMemory h = h
+      by _ h = h
   cause_schedule (Some name) more k = cause_first (need name schedule_file) more k
 
   pub cause_scheduled : (schedule : Option (List ℕ)) (entries : List Entry) (more : List Need) → IsScheduleOf files schedule entries → IsNeedCause files before after more refused told → IsNeedCause files before after (schedule_needs schedule ++ more) refused told
@@ -144,8 +138,6 @@ module _ (files : Option FileMap) (before after : ℕ) (refused : Refusal) (told
   cause_unlinked command layout objects comes quiet u = by refused u
     where
       by : (r : Refusal) → IsUnlinked layout objects r told → IsCommandCause files before after command r told
-      by refusal.Usage h = absurd h
-      by (refusal.BadFile f) h = absurd h
-      by refusal.CannotRead h = absurd h
       by (refusal.Link f) h = (subst (λ n. Comes files command (refuses f n)) (sym h.1) (comes f h.0), quiet)
       by refusal.NoMemory h = quiet
+      by _ h = absurd h

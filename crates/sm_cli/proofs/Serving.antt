@@ -79,16 +79,6 @@ module _ (words : List (List ℕ)) (files : Option FileMap) (before after : ℕ)
       let a = subst (λ t. EndsAs t r.answer took cut) e r.ends in
       record { command = own; answer = r.answer; asked = sym c; served = r.served; quiet = quiet; status = a.1; text = a.0 }
 
-  pub when_stopped : Some own ≡ command_of words → IsRun files own ended took cut → HasCause before after false → ended ≡ status.Stopped → Serves (call_of words files before after) status.Stopped took
-  when_stopped c r quiet e =
-      let a = subst (λ t. EndsAs t r.answer took cut) e r.ends in
-      record { command = own; answer = r.answer; asked = sym c; served = r.served; quiet = quiet; status = a.1; text = a.0 }
-
-  pub when_no : Some own ≡ command_of words → IsRun files own ended took cut → HasCause before after false → ended ≡ status.CheckNo → Serves (call_of words files before after) status.CheckNo took
-  when_no c r quiet e =
-      let a = subst (λ t. EndsAs t r.answer took cut) e r.ends in
-      record { command = own; answer = r.answer; asked = sym c; served = r.served; quiet = quiet; status = a.1; text = a.0 }
-
   pub when_cut : Some own ≡ command_of words → IsRun files own ended took cut → HasCause before after false → ended ≡ status.WriteFault → (s : Status) × Serves (call_of words files before after) s cut
   when_cut c r quiet e =
       let a = subst (λ t. EndsAs t r.answer took cut) e r.ends in
@@ -116,43 +106,24 @@ module _ (words : List (List ℕ)) (files : Option FileMap) (before after : ℕ)
       by status.Stopped b = (b.1, b.0)
       by status.CheckNo b = (b.1, b.0)
       by status.WriteFault b = inl b
-      by status.Usage b = absurd b
-      by status.BadFile b = absurd b
-      by status.LinkRefused b = absurd b
-      by status.ReadFault b = absurd b
-      by status.NoMemory b = absurd b
+      by _ b = absurd b
 
 -- Refusals
 
 pub never_write_fault : (r : Refusal) → status_of r ≡ status.WriteFault → ⊥
 never_write_fault refusal.Usage e = cc
-never_write_fault (refusal.BadFile f) e = cc
-never_write_fault refusal.CannotRead e = cc
-never_write_fault (refusal.Link f) e = cc
-never_write_fault refusal.NoMemory e = cc
-
-pub not_read_fault : (r : Refusal) → r ≢ refusal.CannotRead → is_read_fault r ≡ false
-not_read_fault refusal.Usage h = refl
-not_read_fault (refusal.BadFile f) h = refl
-not_read_fault refusal.CannotRead h = absurd (h refl)
-not_read_fault (refusal.Link f) h = refl
-not_read_fault refusal.NoMemory h = refl
+never_write_fault _ e = cc
 
 -- what the files that a command needs call for, the command calls for
 pub by_needs : (files : Option FileMap) (before after : ℕ) (command : Command) (r : Refusal) (name : List ℕ) → IsNeedCause files before after command.needs r name → IsCommandCause files before after command r name
-by_needs files before after command refusal.Usage name f = f
-by_needs files before after command (refusal.BadFile fault) name f = f
-by_needs files before after command refusal.CannotRead name f = f
 by_needs files before after command (refusal.Link fault) name f = absurd f
-by_needs files before after command refusal.NoMemory name f = f
+by_needs files before after command _ name f = f
 
 -- the cause of a refusal by a command
 pub cause_of : (words : List (List ℕ)) (files : Option FileMap) (before after : ℕ) (own : Command) (r : Refusal) (name : List ℕ) → Some own ≡ command_of words → IsCommandCause files before after own r name → IsCause (call_of words files before after) r name
 cause_of words files before after own refusal.Usage name c f = absurd f
-cause_of words files before after own (refusal.BadFile fault) name c f = ((own, sym c, f.0), f.1)
-cause_of words files before after own refusal.CannotRead name c f = ((own, sym c, f.0), f.1)
-cause_of words files before after own (refusal.Link fault) name c f = ((own, sym c, f.0), f.1)
 cause_of words files before after own refusal.NoMemory name c f = (tt, f)
+cause_of words files before after own _ name c f = ((own, sym c, f.0), f.1)
 
 -- files that are told, of the command that the words are
 module _ (words : List (List ℕ)) (files : Option FileMap) (map : FileMap) (own other : Command) (told : files ≡ Some map) (c : Some own ≡ command_of words) (d : command_of words ≡ Some other) where
@@ -229,10 +200,6 @@ module _ (r : Refusal) (name : List ℕ) (ended : Status) (took cut : List ℕ �
 pub run_not_usage : (files : Option FileMap) (own : Command) (ended : Status) (took cut : List ℕ → Type 0) → IsRun files own ended took cut → ended ≡ status.Usage → ⊥
 run_not_usage files own ended took cut r e = subst (λ t. EndsAs t r.answer took cut) e r.ends
 
--- nor as objects that do not link
-pub run_not_link : (files : Option FileMap) (own : Command) (ended : Status) (took cut : List ℕ → Type 0) → IsRun files own ended took cut → ended ≡ status.LinkRefused → ⊥
-run_not_link files own ended took cut r e = subst (λ t. EndsAs t r.answer took cut) e r.ends
-
 -- nor does a refusal by files
 pub refused_not_usage : (r : Refusal) (name : List ℕ) (ended : Status) (took cut : List ℕ → Type 0) (files : Option FileMap) (before after : ℕ) (own : Command)
     → IsCommandCause files before after own r name → Told r name ended took cut → ended ≡ status.Usage → ⊥
@@ -241,10 +208,7 @@ refused_not_usage r name ended took cut files before after own f (inl t) e = by 
   where
     by : (q : Refusal) → IsCommandCause files before after own q name → status_of q ≡ status.Usage → ⊥
     by refusal.Usage h e = h
-    by (refusal.BadFile fault) h e = cc
-    by refusal.CannotRead h e = cc
-    by (refusal.Link fault) h e = cc
-    by refusal.NoMemory h e = cc
+    by _ h e = cc
 
 -- want of memory before any file was read
 pub no_memory_completes : (name : List ℕ) (ended : Status) (took cut : List ℕ → Type 0) (answer : Answer) (whole part : List ℕ → Type 0) (told : Type 0)
@@ -267,11 +231,7 @@ module _ {S : Type 0} (taken : S → Option (List ℕ)) (faults sure : S → ℕ
   run_sure status.Stopped answer a room = (λ e. cc, a.0.quiet)
   run_sure status.CheckNo answer a room = (λ e. cc, a.0.quiet)
   run_sure status.WriteFault answer a room = absurd (cut_room answer.text a room)
-  run_sure status.Usage answer a room = absurd a
-  run_sure status.BadFile answer a room = absurd a
-  run_sure status.LinkRefused answer a room = absurd a
-  run_sure status.ReadFault answer a room = absurd a
-  run_sure status.NoMemory answer a room = absurd a
+  run_sure _ answer a room = absurd a
 
   -- what a run did to a sink whose count did not rise
   pub run_whole : (ended : Status) (answer : Answer) → EndsAs ended answer (Took taken faults sure old new) (CutOff taken faults sure old new) → (Rose (faults old) (faults new) → ⊥) → Took taken faults sure old new answer.text × (ended ≡ answer.status)
@@ -279,13 +239,4 @@ module _ {S : Type 0} (taken : S → Option (List ℕ)) (faults sure : S → ℕ
   run_whole status.Stopped answer a quiet = (a.0, sym a.1)
   run_whole status.CheckNo answer a quiet = (a.0, sym a.1)
   run_whole status.WriteFault answer a quiet = absurd (quiet (cut_rose answer.text a))
-  run_whole status.Usage answer a quiet = absurd a
-  run_whole status.BadFile answer a quiet = absurd a
-  run_whole status.LinkRefused answer a quiet = absurd a
-  run_whole status.ReadFault answer a quiet = absurd a
-  run_whole status.NoMemory answer a quiet = absurd a
-
-  -- what telling did to a sink that is sure of the line
-  pub told_sure : (r : Refusal) (name : List ℕ) (ended : Status) → length (line_of r name) ≤ sure old → Told r name ended (Took taken faults sure old new) (CutOff taken faults sure old new) → (ended ≢ status.WriteFault) × (faults new ≡ faults old)
-  told_sure r name ended room (inl t) = (λ e. never_write_fault r (sym t.0 ∙ e), t.1.quiet)
-  told_sure r name ended room (inr t) = absurd (cut_room (line_of r name) t.1 room)
+  run_whole _ answer a quiet = absurd a

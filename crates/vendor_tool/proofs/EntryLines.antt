@@ -46,12 +46,6 @@ abbrev pub Rise : ℕ → List Entry → Type 0
 Rise low [] = Unit {0}
 Rise low (e ∷ es) = IsSent low e × Rise e.cycle es
 
-rise_lower : (low high : ℕ) (es : List Entry) → low ≤ high → Rise high es → Rise low es
-rise_lower low high [] h r = tt
-rise_lower low high (e ∷ es) h r =
-    let rises = r.0.rises in
-    (record { rises = omega arith; entry = r.0.entry; clean = r.0.clean }, r.1)
-
 nothing_ended : ended_lines [] ≡ []
 unfolding ended_lines
 nothing_ended = refl
