@@ -3,9 +3,9 @@
 
     python3 bench/link.py PROGRAM [RUNS] [CASE..]
 
-PROGRAM is called as `PROGRAM link LAYOUT OBJ..`. A line for each case: seconds and MiB of the program, of ld.lld,
-the ratio of the seconds, and the MiB of the files. The least of RUNS (3) counts, taken in turn, so that both see
-the same noise.
+PROGRAM is called as `PROGRAM link LAYOUT OBJ..`. A line for each case: seconds, seconds of processor and MiB of the
+program, of ld.lld, the two ratios, and the MiB of the files; at last the machine's load. The least of RUNS (3) counts,
+taken in turn, so that both see the same noise.
 """
 import os
 import shutil
@@ -116,12 +116,21 @@ CASES = {
 
 
 def timed(words):
-    """Seconds, MiB and exit status of a run."""
+    """Seconds, seconds of processor, MiB and exit status of a run."""
     start = time.perf_counter()
     child = subprocess.Popen(words, stdout=subprocess.DEVNULL, stderr=subprocess.DEVNULL)
     _, status, usage = os.wait4(child.pid, 0)
     child.returncode = os.waitstatus_to_exitcode(status)
-    return time.perf_counter() - start, usage.ru_maxrss / 1024, child.returncode
+    return time.perf_counter() - start, usage.ru_utime + usage.ru_stime, usage.ru_maxrss / 1024, child.returncode
+
+
+def least(runs):
+    """The least seconds and the least seconds of processor of the runs, and the rest of the quickest."""
+    return min(runs)[0], min(run[1] for run in runs), *min(runs)[2:]
+
+
+def shown(run):
+    return f"{run[0]:8.3f} s {run[1]:8.3f} s {run[2]:7.1f} MiB status {run[3]}"
 
 
 def measure(program, lld, folder, case, runs):
@@ -140,10 +149,10 @@ def measure(program, lld, folder, case, runs):
         ours.append(timed([*program.split(), "link", layout, *paths]))
         if lld:
             theirs.append(timed([lld, "-Ttext=0x200", "-o", os.path.join(folder, "out.elf"), *paths]))
-    own, other = min(ours), min(theirs) if theirs else None
-    line = f"{case:14} {own[0]:8.3f} s {own[1]:7.1f} MiB status {own[2]}"
+    own, other = least(ours), least(theirs) if theirs else None
+    line = f"{case:14} {shown(own)}"
     if other:
-        line += f" | lld {other[0]:8.3f} s {other[1]:7.1f} MiB status {other[2]} | ratio {own[0] / other[0]:6.2f}"
+        line += f" | lld {shown(other)} | ratios {own[0] / other[0]:6.2f} {own[1] / other[1]:6.2f}"
     print(f"{line} | files {total / LIMIT:5.1f} MiB", flush=True)
     for path in paths:
         os.remove(path)
@@ -156,6 +165,7 @@ def main():
     with tempfile.TemporaryDirectory() as folder:
         for case in sys.argv[3:] or CASES:
             measure(program, lld, folder, case, runs)
+    print("load", *os.getloadavg())
 
 
 if __name__ == "__main__":

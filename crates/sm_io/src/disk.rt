@@ -64,16 +64,6 @@ impl<R: rt::Files<File = fs::File> + AllocGlobal + Drop> DiskFiles<R> {
         Ok(())
     }
 
-    // Reads from the file that was opened last.
-    fn read_last(&self, at: u64, buf: &mut [u8]) -> io::Result<usize>
-        ensures bound { IfOk result (λ n. n ≤ length buf.new) }
-    {
-        match &self.last {
-            Some(last) => last.file.read_at(buf, at),
-            None => Ok(0),
-        }
-    }
-
     // Reads from the file of that name. A read at its start opens it anew.
     fn read_named(&mut self, name: &str, at: u64, buf: &mut [u8]) -> io::Result<usize>
         ensures bound { IfOk result (λ n. n ≤ length buf.new) }
@@ -82,7 +72,10 @@ impl<R: rt::Files<File = fs::File> + AllocGlobal + Drop> DiskFiles<R> {
         if at == 0 || !self.is_last(name) {
             self.open(name)?;
         }
-        self.read_last(at, buf)
+        match &self.last {
+            Some(last) => last.file.read_at(buf, at),
+            None => Ok(0),
+        }
     }
 }
 

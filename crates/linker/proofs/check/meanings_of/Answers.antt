@@ -1,5 +1,4 @@
 use Rattle.std.proofs.Common.{None, get_or, sym, subst}
-use Rattle.linker.specs.declared.symbol.Meaning.{Meaning}
 use Rattle.linker.specs.Passes.{NumberedObject}
 use Rattle.linker.specs.Symbols.{NamedValue, symbol_of}
 use Rattle.linker.specs.Maps.{name_entry, IsFirst}
