@@ -141,20 +141,11 @@ dest_is (Symbolic x) other e = to_symbolic x
 dest_is (Absolute x) other e = to_absolute x
 dest_is _ other e = absurd cc
 
-two_code_low : (op : TwoOp) → two_code op < 16
-two_code_low Mov = omega arith
-two_code_low _ = omega arith
-
 one_code_low : (op : OneOp) → one_code op < 8
 one_code_low Rrc = omega arith
 one_code_low _ = omega arith
 
 -- ---- instructions
-
--- the word of the second operand, after a first one
-second_at : (s d : Operand) → ext_of d (ext_of d 0) ≡ ext_of d 0
-second_at s (Reg r) = refl
-second_at s _ = refl
 
 -- a source, and the words after the first
 pub record IsPair (s d : Operand) (w1 w2 : ℕ) : Type 0 where

@@ -13,10 +13,3 @@ pub order_same : (statements : List (Statement ℕ)) (p : Placed) (names : ℕ) 
 unfolding order_of
 order_same statements p names globals order known are is =
     is ∙ ap (λ ks. fold once (fold once [] ks) (below names)) (same_filter (is_local globals) (λ k. not (is_global statements k)) p.labels (λ k d low. ap not (are (get_or p.labels k d) (known k d low))))
-
-same_map : {X : Type 0} (f g : ℕ → X) (names : ℕ) (ks : List ℕ) → AreBelow names ks → ((k : ℕ) → k < names → f k ≡ g k) → map f ks ≡ map g ks
-same_map f g names [] low same = refl
-same_map f g names (k ∷ ks) low same =
-    let first : f k ≡ g k = same k (low 0 0 (omega arith)) in
-    let rest : map f ks ≡ map g ks = same_map f g names ks (λ j d h. low (suc j) d (omega arith)) same in
-    rw (first, rest) refl

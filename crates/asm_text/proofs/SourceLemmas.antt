@@ -44,7 +44,3 @@ IsRead-more text rest line after tables tables' statements n s r next is noted i
   counted = let old = r.counted in omega (arith, ap length next.cut, length-append line (10 ∷ after));
   indexed = indexed;
 }
-
-abbrev pub at_end : ℕ → List ℕ → Option ℕ
-at_end n [] = None
-at_end n (b ∷ rest) = Some n
