@@ -1,11 +1,10 @@
 -- What the code found of the names is what the definitions say of them.
-use Rattle.std.proofs.Common.{ℕ, suc, ◌≡◌, ◌<◌, Bool, false, not, List, [], ◌∷◌, length, map, get_or, refl, ap, ◌∙◌, arith}
+use Rattle.std.proofs.Common.{ℕ, ◌≡◌, Bool, not, List, [], get_or, ap, ◌∙◌}
 use Rattle.std.specs.Prelude.{fold, filter}
-use Rattle.std.specs.List.{slice_index_or}
 use Rattle.asm_text.specs.declared.statement.Statement.{Statement}
 use Rattle.asm_text.specs.Numbering.{AreGlobals, AreBelow}
-use Rattle.asm_text.specs.Placing.{Placed, spot_of}
-use Rattle.asm_text.specs.Symbols.{is_global, is_local, once, below, order_of, symbol_by, symbol_for, symbols_for}
+use Rattle.asm_text.specs.Placing.{Placed}
+use Rattle.asm_text.specs.Symbols.{is_global, is_local, once, below, order_of}
 use Rattle.asm_text.proofs.OrderLemmas.{same_filter}
 
 pub order_same : (statements : List (Statement ℕ)) (p : Placed) (names : ℕ) (globals : List Bool) (order : List ℕ) → AreBelow names p.labels → AreGlobals globals statements names

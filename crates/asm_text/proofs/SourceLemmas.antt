@@ -1,5 +1,5 @@
 -- What reading a source keeps from line to line.
-use Rattle.std.proofs.Common.{ℕ, ◌≡◌, ◌+◌, ◌≤◌, List, [], ◌∷◌, ◌++◌, length, Option, Some, None, refl, ap, sym, ◌∙◌, length-append, arith}
+use Rattle.std.proofs.Common.{ℕ, ◌≡◌, ◌+◌, ◌≤◌, List, [], ◌∷◌, ◌++◌, length, Some, ap, sym, ◌∙◌, length-append, arith}
 use Rattle.texts.specs.Lines.{ended_lines, unended}
 use Rattle.asm_text.specs.declared.reading.Tables.{Tables as TablesKept}
 use Rattle.asm_text.specs.declared.statement.Statement.{Statement}
