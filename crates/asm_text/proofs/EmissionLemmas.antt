@@ -1,5 +1,5 @@
 -- A statement in the last section.
-use Rattle.std.proofs.Common.{ℕ, ◌≡◌, ◌+◌, ◌-◌, ◌<◌, List, [], ◌∷◌, ◌++◌, length, map, get_or, set, Some, None, Ok, Err, refl, ap, sym, ◌∙◌, arith}
+use Rattle.std.proofs.Common.{ℕ, ◌≡◌, ◌+◌, ◌-◌, ◌<◌, List, ◌++◌, length, map, get_or, set, Some, Ok, Err, ap, sym, ◌∙◌, arith}
 use Rattle.std.specs.Prelude.{slice_get}
 use Rattle.std.proofs.lemmas.List.{length-map, map-set, get_or-map, get_or_default}
 use Rattle.std.proofs.lemmas.Option.{slice_get-get_or}
@@ -20,10 +20,6 @@ last_section xs i x e is =
     ap (slice_get (map section_of xs)) size
     ∙ slice_get-get_or (map section_of xs) i (section_of x) low
     ∙ ap Some (get_or-map section_of xs i x (section_of x) within ∙ ap section_of (sym is))
-
-pub none_last : (xs : List AsmSection) → length xs ≡ 0 → last_of (map section_of xs) ≡ None
-none_last [] e = refl
-none_last (x ∷ xs) e = absurd (omega arith)
 
 pub sections_set : (xs : List AsmSection) (i : ℕ) (x : AsmSection) (v : SectionValue) → section_of x ≡ v → map section_of (set xs i x) ≡ set (map section_of xs) i v
 sections_set xs i x v e = map-set section_of xs i x ∙ ap (set (map section_of xs) i) e

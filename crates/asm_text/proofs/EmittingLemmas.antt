@@ -3,23 +3,21 @@ use Rattle.std.proofs.Common.{ℕ, ◌≡◌, ◌+◌, ◌-◌, ◌<◌, ◌≤�
 use Rattle.std.specs.List.{All}
 use Rattle.std.proofs.lemmas.List.{get_or-map, drop_more}
 use Rattle.std.proofs.lemmas.Option.{slice_get_within, get_or_from_slice_get}
-use Rattle.std.proofs.Math.ListN.{drop_of_length-le}
 use Rattle.asm_text.specs.declared.TheConstants.{MAX_SIZE}
 use Rattle.asm_text.specs.declared.placing.Head.{Head}
 use Rattle.asm_text.specs.declared.unit.AsmFault.{AsmFault}
 use Rattle.asm_text.specs.declared.unit.SectionKind.TheVariants.{Code as CodeKind}
 use Rattle.asm_text.specs.declared.statement.Statement.{Statement}
-use Rattle.asm_text.specs.declared.statement.Statement.TheVariants.{Section, Label, Global, Word, Space, Jump, Code}
+use Rattle.asm_text.specs.declared.statement.Statement.TheVariants.{Word, Space, Jump, Code}
 use Rattle.asm_text.specs.Emission.{Meanings, Emitted, nothing, emitted, emitted_next, emitted_from}
 use Rattle.asm_text.specs.Emitted.{HasRoom}
 use Rattle.asm_text.specs.Known.{AreKnown}
 use Rattle.asm_text.specs.Parts.{SectionValue}
 use Rattle.asm_text.specs.Placed.{IsPlaced, AreSmall}
-use Rattle.asm_text.specs.Placing.{Placed, nowhere, placed, placed_next, placed_from}
+use Rattle.asm_text.specs.Placing.{Placed, placed, placed_next, placed_from}
 use Rattle.asm_text.specs.Statements.{size_of}
 use Rattle.asm_text.proofs.LockLemmas.{Shape, shape_of, head_shape, Agree, same_number, last_there, IsTaken, taken, agree_more}
 use Rattle.asm_text.proofs.PlacedLemmas.{placed_kept}
-use Rattle.asm_text.proofs.PlacingLemmas.{nowhere_kept}
 
 abbrev pub some_head : Head
 some_head = record { name = 0; kind = CodeKind; size = 0 }
@@ -84,15 +82,6 @@ pub record IsEmitting (m : Meanings) (names : ℕ) (statements : List (Statement
   pub kept : IsPlaced names place
   pub agree : Agree m e place
 
-pub emitting_start : (m : Meanings) (names : ℕ) (statements : List (Statement ℕ)) (end : Placed) (e : Emitted) → placed_from 1 (nowhere names) statements ≡ Ok end → e ≡ nothing → IsEmitting m names statements end 0 e
-emitting_start m names statements end e goes same = subst (λ (x : Emitted). IsEmitting m names statements end 0 x) (sym same) (record {
-  total = refl;
-  place = nowhere names;
-  goes = goes;
-  kept = nowhere_kept names;
-  agree = record { shapes = refl; filled = λ k d h. absurd (omega (arith, h)) };
-})
-
 -- the place after a line
 pub at_line : (m : Meanings) (names : ℕ) (statements : List (Statement ℕ)) (end : Placed) (i : ℕ) (e : Emitted) (d : Statement ℕ) (g : IsEmitting m names statements end i e) → i < length statements
     → IsNextPlace (i + 1) g.place (get_or statements i d) (drop (i + 1) statements) end
@@ -104,9 +93,6 @@ pub emitting_room : (m : Meanings) (names : ℕ) (statements : List (Statement �
 emitting_room m names statements end i e d g low =
     let x = at_line m names statements end i e d g low in
     has_room m (i + 1) e g.place x.after (get_or statements i d) g.agree g.kept.small x.is
-
-pub emitting_few : (m : Meanings) (names : ℕ) (statements : List (Statement ℕ)) (end : Placed) (i : ℕ) (e : Emitted) → IsEmitting m names statements end i e → length e.sections ≤ 256
-emitting_few m names statements end i e g = let n = same_number m e g.place g.agree in let few = g.kept.few in omega arith
 
 next_total : (m : Meanings) (names : ℕ) (statements : List (Statement ℕ)) (end : Placed) (i : ℕ) (e : Emitted) (d : Statement ℕ) → IsEmitting m names statements end i e → i < length statements
     → emitted_from m 1 nothing statements ≡ emitted_next (emitted m (i + 1) e (get_or statements i d)) (λ f. emitted_from m (i + 1 + 1) f (drop (i + 1) statements))
@@ -123,14 +109,6 @@ emitting_more m names statements end i e f d g known low is =
       kept = placed_kept names (i + 1) g.place x.after (get_or statements i d) g.kept (known i d low) x.is;
       agree = agree_more m (i + 1) e f g.place x.after (get_or statements i d) g.agree x.is is;
     }
-
-pub emitting_hit : (m : Meanings) (names : ℕ) (statements : List (Statement ℕ)) (end : Placed) (i : ℕ) (e : Emitted) (d : Statement ℕ) (fault : AsmFault) → IsEmitting m names statements end i e → i < length statements
-    → emitted m (i + 1) e (get_or statements i d) ≡ Err fault → emitted_from m 1 nothing statements ≡ Err fault
-emitting_hit m names statements end i e d fault g low is =
-    next_total m names statements end i e d g low ∙ ap (λ r. emitted_next r (λ y. emitted_from m (i + 1 + 1) y (drop (i + 1) statements))) is
-
-pub emitting_end : (m : Meanings) (names : ℕ) (statements : List (Statement ℕ)) (end : Placed) (i : ℕ) (e : Emitted) → IsEmitting m names statements end i e → length statements ≤ i → emitted_from m 1 nothing statements ≡ Ok e
-emitting_end m names statements end i e g past = g.total ∙ ap (emitted_from m (i + 1) e) (drop_of_length-le statements {i = i} past)
 
 -- what is written agrees with what was placed
 pub all_agree : (m : Meanings) (n : ℕ) (e f : Emitted) (p q : Placed) (statements : List (Statement ℕ)) → Agree m e p → placed_from n p statements ≡ Ok q → emitted_from m n e statements ≡ Ok f → Agree m f q

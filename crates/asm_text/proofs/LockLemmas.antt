@@ -7,9 +7,9 @@ use Rattle.std.proofs.lemmas.List.{length-map, map-append, map-set, get_or-map}
 use Rattle.std.proofs.lemmas.List.Elements.{All-push, All-set}
 use Rattle.std.proofs.lemmas.Option.{slice_get_within, get_or_from_slice_get, slice_get-get_or}
 use Rattle.insn_decode.specs.declared.insn.Insn.{Insn}
-use Rattle.insn_decode.specs.declared.insn.Insn.TheVariants.{Two, One, Jump as JumpInsn, Reti, Unit as UnitOp}
+use Rattle.insn_decode.specs.declared.insn.Insn.TheVariants.{Two, One}
 use Rattle.insn_decode.specs.declared.insn.Operand.{Operand}
-use Rattle.insn_decode.specs.declared.insn.Operand.TheVariants.{Reg, Const, Imm, Indexed, Symbolic, Absolute, Indirect, Increment}
+use Rattle.insn_decode.specs.declared.insn.Operand.TheVariants.{Reg}
 use Rattle.insn_decode.specs.Code.{words_of as words_in, length_of}
 use Rattle.asm_text.specs.declared.TheConstants.{MAX_SECTIONS, MAX_LABELS, MAX_SIZE}
 use Rattle.asm_text.specs.declared.placing.Head.{Head}

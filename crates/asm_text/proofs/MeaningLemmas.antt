@@ -5,9 +5,8 @@ use Rattle.std.proofs.lemmas.Bool.{and_parts}
 use Rattle.sm_words.specs.declared.width.Width.{Width}
 use Rattle.sm_words.specs.declared.width.Width.TheVariants.{Byte, Word as WordWidth}
 use Rattle.insn_decode.specs.declared.insn.TwoOp.{TwoOp}
-use Rattle.insn_decode.specs.declared.insn.TwoOp.TheVariants.{Mov, Add, Addc, Subc, Sub, Cmp, Dadd, Bit, Bic, Bis, Xor, And}
 use Rattle.insn_decode.specs.declared.insn.OneOp.{OneOp}
-use Rattle.insn_decode.specs.declared.insn.OneOp.TheVariants.{Rrc, Swpb, Rra, Sxt, Push, Call}
+use Rattle.insn_decode.specs.declared.insn.OneOp.TheVariants.{Rrc}
 use Rattle.insn_decode.specs.declared.insn.Operand.{Operand}
 use Rattle.insn_decode.specs.declared.insn.Operand.TheVariants.{Reg, Const, Imm, Indexed, Symbolic, Absolute, Indirect, Increment}
 use Rattle.insn_decode.specs.declared.insn.Insn.{Insn}
@@ -141,20 +140,11 @@ dest_is (Symbolic x) other e = to_symbolic x
 dest_is (Absolute x) other e = to_absolute x
 dest_is _ other e = absurd cc
 
-two_code_low : (op : TwoOp) → two_code op < 16
-two_code_low Mov = omega arith
-two_code_low _ = omega arith
-
 one_code_low : (op : OneOp) → one_code op < 8
 one_code_low Rrc = omega arith
 one_code_low _ = omega arith
 
 -- ---- instructions
-
--- the word of the second operand, after a first one
-second_at : (s d : Operand) → ext_of d (ext_of d 0) ≡ ext_of d 0
-second_at s (Reg r) = refl
-second_at s _ = refl
 
 -- a source, and the words after the first
 pub record IsPair (s d : Operand) (w1 w2 : ℕ) : Type 0 where

@@ -1,5 +1,5 @@
 -- Names are ASCII.
-use Rattle.std.proofs.Common.{ℕ, ◌≡◌, ◌<◌, Bool, true, false, ◌&&◌, ◌||◌, ◌==◌, nat_le, List, [], length, get_or, refl, subst, arith}
+use Rattle.std.proofs.Common.{ℕ, ◌≡◌, ◌<◌, Bool, true, false, ◌==◌, nat_le, List, [], length, get_or, refl, subst, arith}
 use Rattle.std.specs.Str.{IsAscii}
 use Rattle.std.specs.List.{AllPass}
 use Rattle.std.specs.Borrow.{Bor}

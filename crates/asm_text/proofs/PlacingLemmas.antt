@@ -1,9 +1,7 @@
 -- Placing from line to line.
-use Rattle.std.proofs.Common.{ℕ, zero, suc, ◌≡◌, ◌+◌, ◌<◌, ◌≤◌, List, length, get_or, replicate, drop, Some, None, Ok, Err, refl, ap, sym, subst, ◌∙◌, arith}
+use Rattle.std.proofs.Common.{ℕ, suc, ◌≡◌, ◌+◌, ◌<◌, List, length, get_or, replicate, drop, Some, None, Ok, ap, ◌∙◌}
 use Rattle.std.proofs.lemmas.List.{drop_more}
-use Rattle.std.proofs.Math.ListN.{drop_of_length-le}
 use Rattle.asm_text.specs.declared.placing.Spot.{Spot}
-use Rattle.asm_text.specs.declared.unit.AsmFault.{AsmFault}
 use Rattle.asm_text.specs.declared.statement.Statement.{Statement}
 use Rattle.asm_text.specs.Known.{AreKnown}
 use Rattle.asm_text.specs.Placed.{IsPlaced}
@@ -18,24 +16,6 @@ pub no_spot : (names k : ℕ) (spot : Spot) → spot_of (replicate names None) k
 no_spot (suc names) (suc k) spot e = no_spot names k spot e
 no_spot _ _ spot e = cc
 
-pub length_replicate : {A : Type 0} (n : ℕ) (a : A) → length (replicate n a) ≡ n
-length_replicate zero a = refl
-length_replicate (suc n) a = ap suc (length_replicate n a)
-
-pub nowhere_kept : (names : ℕ) → IsPlaced names (nowhere names)
-nowhere_kept names = record {
-  few = omega arith;
-  small = λ k d h. absurd (omega (arith, h));
-  differ = λ i j d h k. absurd (omega (arith, k));
-  labels = omega arith;
-  known = λ k d h. absurd (omega (arith, h));
-  spots = length_replicate names None;
-  within = λ k spot is. absurd (no_spot names k spot is);
-}
-
-pub placing_start : (names : ℕ) (statements : List (Statement ℕ)) (p : Placed) → p ≡ nowhere names → IsPlacing names statements 0 p
-placing_start names statements p e = subst (λ (q : Placed). IsPlacing names statements 0 q) (sym e) (record { total = refl; kept = nowhere_kept names })
-
 next : (names : ℕ) (statements : List (Statement ℕ)) (i : ℕ) (p : Placed) (d : Statement ℕ) → IsPlacing names statements i p → i < length statements
     → placed_from 1 (nowhere names) statements ≡ placed_next (placed (i + 1) p (get_or statements i d)) (λ q. placed_from (i + 1 + 1) q (drop (i + 1) statements))
 next names statements i p d g low = g.total ∙ ap (placed_from (i + 1) p) (drop_more statements i d low)
@@ -46,11 +26,3 @@ placing_more names statements i p q d g known low e = record {
   total = next names statements i p d g low ∙ ap (λ r. placed_next r (λ x. placed_from (i + 1 + 1) x (drop (i + 1) statements))) e;
   kept = placed_kept names (i + 1) p q (get_or statements i d) g.kept (known i d low) e;
 }
-
-pub placing_hit : (names : ℕ) (statements : List (Statement ℕ)) (i : ℕ) (p : Placed) (d : Statement ℕ) (fault : AsmFault) → IsPlacing names statements i p → i < length statements
-    → placed (i + 1) p (get_or statements i d) ≡ Err fault → placed_from 1 (nowhere names) statements ≡ Err fault
-placing_hit names statements i p d fault g low e =
-    next names statements i p d g low ∙ ap (λ r. placed_next r (λ x. placed_from (i + 1 + 1) x (drop (i + 1) statements))) e
-
-pub placing_end : (names : ℕ) (statements : List (Statement ℕ)) (i : ℕ) (p : Placed) → IsPlacing names statements i p → length statements ≤ i → placed_from 1 (nowhere names) statements ≡ Ok p
-placing_end names statements i p g past = g.total ∙ ap (placed_from (i + 1) p) (drop_of_length-le statements {i = i} past)

@@ -1,11 +1,10 @@
 -- What the code found of the names is what the definitions say of them.
-use Rattle.std.proofs.Common.{ℕ, suc, ◌≡◌, ◌<◌, Bool, false, not, List, [], ◌∷◌, length, map, get_or, refl, ap, ◌∙◌, arith}
+use Rattle.std.proofs.Common.{ℕ, ◌≡◌, Bool, not, List, [], get_or, ap, ◌∙◌}
 use Rattle.std.specs.Prelude.{fold, filter}
-use Rattle.std.specs.List.{slice_index_or}
 use Rattle.asm_text.specs.declared.statement.Statement.{Statement}
 use Rattle.asm_text.specs.Numbering.{AreGlobals, AreBelow}
-use Rattle.asm_text.specs.Placing.{Placed, spot_of}
-use Rattle.asm_text.specs.Symbols.{is_global, is_local, once, below, order_of, symbol_by, symbol_for, symbols_for}
+use Rattle.asm_text.specs.Placing.{Placed}
+use Rattle.asm_text.specs.Symbols.{is_global, is_local, once, below, order_of}
 use Rattle.asm_text.proofs.OrderLemmas.{same_filter}
 
 pub order_same : (statements : List (Statement ℕ)) (p : Placed) (names : ℕ) (globals : List Bool) (order : List ℕ) → AreBelow names p.labels → AreGlobals globals statements names
@@ -13,10 +12,3 @@ pub order_same : (statements : List (Statement ℕ)) (p : Placed) (names : ℕ) 
 unfolding order_of
 order_same statements p names globals order known are is =
     is ∙ ap (λ ks. fold once (fold once [] ks) (below names)) (same_filter (is_local globals) (λ k. not (is_global statements k)) p.labels (λ k d low. ap not (are (get_or p.labels k d) (known k d low))))
-
-same_map : {X : Type 0} (f g : ℕ → X) (names : ℕ) (ks : List ℕ) → AreBelow names ks → ((k : ℕ) → k < names → f k ≡ g k) → map f ks ≡ map g ks
-same_map f g names [] low same = refl
-same_map f g names (k ∷ ks) low same =
-    let first : f k ≡ g k = same k (low 0 0 (omega arith)) in
-    let rest : map f ks ≡ map g ks = same_map f g names ks (λ j d h. low (suc j) d (omega arith)) same in
-    rw (first, rest) refl

@@ -19,9 +19,9 @@ use Rattle.sm_words.specs.Words.{add16}
 use Rattle.sm_words.specs.declared.width.Width.{Width}
 use Rattle.sm_words.specs.declared.width.Width.TheVariants.{Byte, Word}
 use Rattle.insn_decode.specs.declared.insn.TwoOp.{TwoOp}
-use Rattle.insn_decode.specs.declared.insn.TwoOp.TheVariants.{Mov, Add, Addc, Subc, Sub, Cmp, Dadd, Bit, Bic, Bis, Xor, And}
+use Rattle.insn_decode.specs.declared.insn.TwoOp.TheVariants.{Mov}
 use Rattle.insn_decode.specs.declared.insn.OneOp.{OneOp}
-use Rattle.insn_decode.specs.declared.insn.OneOp.TheVariants.{Rrc, Swpb, Rra, Sxt, Push, Call}
+use Rattle.insn_decode.specs.declared.insn.OneOp.TheVariants.{Rrc}
 use Rattle.insn_decode.specs.declared.insn.Operand.{Operand}
 use Rattle.insn_decode.specs.declared.insn.Operand.TheVariants.{Reg, Const, Imm, Indexed, Symbolic, Absolute, Indirect, Increment}
 use Rattle.insn_decode.specs.declared.insn.Insn.{Insn}

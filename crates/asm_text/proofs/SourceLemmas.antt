@@ -1,5 +1,5 @@
 -- What reading a source keeps from line to line.
-use Rattle.std.proofs.Common.{ℕ, ◌≡◌, ◌+◌, ◌≤◌, List, [], ◌∷◌, ◌++◌, length, Option, Some, None, refl, ap, sym, ◌∙◌, length-append, arith}
+use Rattle.std.proofs.Common.{ℕ, ◌≡◌, ◌+◌, ◌≤◌, List, [], ◌∷◌, ◌++◌, length, Some, ap, sym, ◌∙◌, length-append, arith}
 use Rattle.texts.specs.Lines.{ended_lines, unended}
 use Rattle.asm_text.specs.declared.reading.Tables.{Tables as TablesKept}
 use Rattle.asm_text.specs.declared.statement.Statement.{Statement}
@@ -44,7 +44,3 @@ IsRead-more text rest line after tables tables' statements n s r next is noted i
   counted = let old = r.counted in omega (arith, ap length next.cut, length-append line (10 ∷ after));
   indexed = indexed;
 }
-
-abbrev pub at_end : ℕ → List ℕ → Option ℕ
-at_end n [] = None
-at_end n (b ∷ rest) = Some n

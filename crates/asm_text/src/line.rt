@@ -1,6 +1,6 @@
 //! The statement that a line writes.
 
-ghost use Rattle.std.specs.Prelude.{◌≡◌, ◌∷◌, [], ◌<◌, Some, None, option_map, position, length, IfSome, IfNone};
+ghost use Rattle.std.specs.Prelude.{◌≡◌, ◌<◌, Some, None, option_map, length, IfSome};
 ghost use Rattle.std.specs.Option.{option_copied};
 ghost use Rattle.insn_decode.specs.Code as code;
 ghost use Rattle.insn_decode.specs.Text as names;

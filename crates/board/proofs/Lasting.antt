@@ -1,8 +1,6 @@
 -- The schedule lasts, whatever moves, reads or writes the devices.
 use Rattle.std.proofs.Common.{◌≡◌, ℕ, zero, suc, ◌+◌, List, [], ◌∷◌, refl, ◌∙◌, ap, Bool, true, false, cond, ◌==◌, nat_lt, None}
 use Rattle.schedule_file.specs.declared.Entry.{Entry}
-use Rattle.schedule_file.specs.declared.What.{What}
-use Rattle.schedule_file.specs.declared.What.TheVariants.{Serial, Up, Down}
 use Rattle.sm_words.specs.declared.width.Width.{Width}
 use Rattle.sm_words.specs.declared.width.Width.TheVariants.{Byte, Word}
 use Rattle.sm_words.specs.Words.{low_byte, high_byte}
@@ -11,7 +9,7 @@ use Rattle.pc_access.specs.declared.Access.{Access}
 use Rattle.std.specs.Prelude.{if◌then◌else◌, ◌%◌, Some}
 use Rattle.std.specs.Int.{bit_at}
 use Rattle.devices.specs.declared.registers.TheConstants.{LINES_ENABLE, SERIAL_CONTROL, SERIAL_DATA, TIMER_CONTROL, TIMER_COUNT, TIMER_COUNT_HIGH, TIMER_LIMIT, TIMER_LIMIT_HIGH, TIMER_VECTOR}
-use Rattle.devices.specs.Devices.{Devices, with_low, with_high, happens_if, scheduled, counts_by, ticked_devices, accepted, after_read, write_of}
+use Rattle.devices.specs.Devices.{Devices, with_low, with_high, scheduled, ticked_devices, accepted, after_read, write_of}
 use Rattle.devices.specs.Time.{ticked_by}
 use Rattle.insn_decode.specs.declared.insn.Insn.{Insn}
 use Rattle.attest.specs.Accesses.{reads_of, writes_of}

@@ -1,5 +1,5 @@
 -- How runs lead from one state to another.
-use Rattle.std.proofs.Common.{◌≡◌, ℕ, zero, suc, ◌+◌, ◌-◌, ◌<◌, ◌≤◌, Bool, true, false, ◌&&◌, Option, Some, None, is_some, refl, sym, ◌∙◌, ap, subst, arith}
+use Rattle.std.proofs.Common.{◌≡◌, ℕ, zero, suc, ◌+◌, ◌-◌, ◌<◌, ◌≤◌, Bool, true, false, Option, Some, None, is_some, refl, sym, ◌∙◌, ap, subst, arith}
 use Rattle.sm_words.specs.Sums.{one_if}
 use Rattle.pc_access.specs.declared.Stop.{Stop}
 use Rattle.written_machine.specs.Cycle.{Step, told, ticked, settle, turn, counted_by, move, cycle, cycle_by, after_cycles}

@@ -1,5 +1,5 @@
 -- A module by itself: what it does from an entry, and what it leaves.
-use Rattle.std.specs.Prelude.{◌≡◌, ℕ, zero, suc, ◌+◌, ◌-◌, ◌*◌, ◌<◌, List, [], ◌∷◌, map, slice_index, slice_set, if◌then◌else◌, Bool, true, false, ◌&&◌, ◌||◌, not, nat_lt, Option, Some, None, All}
+use Rattle.std.specs.Prelude.{◌≡◌, ℕ, zero, suc, ◌+◌, ◌-◌, ◌<◌, List, [], ◌∷◌, map, slice_index, slice_set, if◌then◌else◌, Bool, true, false, ◌&&◌, ◌||◌, not, Option, Some, None, All}
 use Rattle.sm_words.specs.Words.{IsCore, reg, word_at, low_byte, high_byte}
 use Rattle.sm_words.specs.declared.registers.TheConstants.{PC}
 use Rattle.sm_words.specs.declared.width.Width.{Width}

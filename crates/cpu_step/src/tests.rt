@@ -1,11 +1,10 @@
 //! Instructions through a port in memory.
 
-ghost use Rattle.std.specs.Prelude.{◌≡◌, ◌%◌, List, ℕ, IsTrue, not, slice_index, slice_set};
+ghost use Rattle.std.specs.Prelude.{◌≡◌, ◌%◌, List, ℕ, slice_index, slice_set};
 ghost use Rattle.cpu_step.specs.Bench.{bench_value, bench_written};
 
 use crate::{Port, are_aligned, execute, plan};
 use insn_decode::{Insn, decode};
-use pc_access::Access;
 use sm_words::{Core, Width};
 use std::test::Fail;
 

@@ -1,7 +1,7 @@
 //! Single instructions through a memory that records its calls. The values follow from the rules of the
 //! MSP430x1xx Family User's Guide SLAU049, worked out by hand.
 
-ghost use Rattle.std.specs.Prelude.{◌≡◌, ◌%◌, not, slice_index, slice_set, IsTrue};
+ghost use Rattle.std.specs.Prelude.{◌≡◌, ◌%◌, slice_index, slice_set};
 ghost use Rattle.insn_decode.specs.Code.{is_unit};
 
 use arrayvec::ArrayVec;

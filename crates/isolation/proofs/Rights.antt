@@ -9,7 +9,6 @@ use Rattle.mod_layout.specs.Table.{Table, place_of, module_of, size_of, holds}
 use Rattle.mod_layout.specs.Tables.{Apart, IsTable}
 use Rattle.mod_layout.specs.declared.Module.{Module}
 use Rattle.mod_layout.specs.declared.Place.TheVariants.{Entry, Text, Data}
-use Rattle.mod_layout.specs.declared.Section.{Section}
 use Rattle.pc_access.specs.Rights.{right, right_at, refuse_if, misaligned, first_denied, or_else, is_id}
 use Rattle.pc_access.specs.declared.Access.{Access}
 use Rattle.pc_access.specs.declared.Denied.{Denied}

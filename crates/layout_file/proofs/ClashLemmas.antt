@@ -1,13 +1,12 @@
 -- The first pair of a list that clashes, and regions that share a byte.
-use Rattle.std.proofs.Common.{◌≡◌, ℕ, ◌<◌, ◌≤◌, max, nat_lt, Bool, true, false, not, cond, List, [], ◌∷◌, ◌++◌, length, get_or, take, Option, Some, None, refl, subst, arith, append_assoc}
+use Rattle.std.proofs.Common.{◌≡◌, ℕ, ◌<◌, max, nat_lt, Bool, true, false, not, cond, List, [], ◌∷◌, ◌++◌, length, get_or, take, Option, Some, None, refl, subst, arith, append_assoc}
 use Rattle.std.specs.Prelude.{AllPairs, MatchOption, position}
 use Rattle.std.specs.List.{prefix_len}
-use Rattle.std.proofs.lemmas.Bool.{and_parts, and_from, not-true, leb-true, le-leb, ltb-true, ltb-false, lt-ltb}
+use Rattle.std.proofs.lemmas.Bool.{and_from, not-true, le-leb, ltb-true, ltb-false, lt-ltb}
 use Rattle.std.proofs.lemmas.List.{append-nil, take_at, get_or_at, get_or_append_left, length-append}
 use Rattle.std.proofs.lemmas.List.Sums.{prefix_len_passes}
 use Rattle.std.proofs.lemmas.List.Quantifiers.{all_pairs_push, position-Some}
 use Rattle.mod_layout.specs.declared.Section.{Section}
-use Rattle.mod_layout.specs.Table.{holds}
 use Rattle.layout_file.specs.Clashes.{first_with, or_later, clash_after, first_clash, share_byte}
 use Rattle.layout_file.specs.Overlaps.{ShareByte, ShareNoByte, IsFirstOverlap}
 use Rattle.mod_layout.proofs.Found.{ends_of}

@@ -8,9 +8,9 @@ use Rattle.insn_decode.specs.Means.{Means, Source, Destination}
 use Rattle.insn_decode.specs.declared.insn.Insn.{Insn}
 use Rattle.insn_decode.specs.declared.insn.Insn.TheVariants.{Two, One, Jump, Reti, Unit as UnitOp}
 use Rattle.insn_decode.specs.declared.insn.OneOp.{OneOp}
-use Rattle.insn_decode.specs.declared.insn.OneOp.TheVariants.{Rrc, Swpb, Rra, Sxt, Push, Call}
+use Rattle.insn_decode.specs.declared.insn.OneOp.TheVariants.{Push, Call}
 use Rattle.insn_decode.specs.declared.insn.Operand.{Operand}
-use Rattle.insn_decode.specs.declared.insn.Operand.TheVariants.{Reg, Const, Imm, Indexed, Symbolic, Absolute, Indirect, Increment}
+use Rattle.insn_decode.specs.declared.insn.Operand.TheVariants.{Indexed, Symbolic, Absolute, Indirect, Increment}
 use Rattle.insn_decode.proofs.Table.{insn_means}
 use Rattle.sm_words.proofs.Cores.{put_core}
 use Rattle.mod_layout.specs.Table.{Table, own_of, place_by, place_in, place_of, module_of, is_entry, holds, size_of, takes}
@@ -26,7 +26,7 @@ use Rattle.pc_access.specs.declared.Denied.{Denied}
 use Rattle.pc_access.specs.declared.Kind.{Kind}
 use Rattle.pc_access.specs.declared.Kind.TheVariants.{Fetch, Read, Write}
 use Rattle.pc_access.specs.declared.Rule.{Rule}
-use Rattle.attest.specs.Units.{Doer, UnitName, Unprotect, Protect, Attest, Tag, IdOf, OwnId, CallerId, unit_named, unit_plan, each_byte, text_reads, attest_plan, tag_plan, in_range, text_at, attested, new_text, new_ram}
+use Rattle.attest.specs.Units.{Doer, UnitName, Protect, Attest, Tag, unit_named, unit_plan, each_byte, text_reads, attest_plan, tag_plan, in_range, text_at, attested, new_text, new_ram}
 use Rattle.cpu_step.specs.Asked.{asks}
 use Rattle.cpu_step.specs.Plan.{plan, place, past, stepped, lowered, access_if, one_writes, reads_dst, writes_dst}
 use Rattle.tracer.specs.Laws.{IsWord}

@@ -5,7 +5,7 @@ use Rattle.std.proofs.lemmas.List.Elements.{All-push, All-nil}
 use Rattle.std.proofs.lemmas.Bool.Decides.{nat_tests}
 use Rattle.texts.specs.Lines.{lines_of}
 use Rattle.written_machine.specs.declared.ScriptLine.{ScriptLine}
-use Rattle.written_machine.specs.declared.ScriptLine.TheVariants.{Go, Until, Regs, Mem, Mark, Back, Last}
+use Rattle.written_machine.specs.declared.ScriptLine.TheVariants.{Go, Until}
 use Rattle.monitor.specs.Bounds.{IsBounded, most_cycles, all_cycles}
 use Rattle.monitor.specs.declared.TheConstants.{MAX_CYCLES}
 use Rattle.monitor.specs.Line.{form_of, checked}

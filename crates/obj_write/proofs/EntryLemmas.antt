@@ -17,7 +17,7 @@ use Rattle.elf_objects.specs.Symbol.{entry_of, count_in, strings_of, is_bad_comm
 use Rattle.elf_objects.specs.Relocation.{relocation_of, entry_fault, relocation_fault, relocation_faults}
 use Rattle.elf_objects.specs.Object.{contents_fault, elf_fault_of}
 use Rattle.asm_text.specs.declared.unit.SectionKind.{SectionKind}
-use Rattle.asm_text.specs.declared.unit.SectionKind.TheVariants.{Code, Data, Bss}
+use Rattle.asm_text.specs.declared.unit.SectionKind.TheVariants.{Code}
 use Rattle.asm_text.specs.declared.unit.AsmRelocation.{AsmRelocation}
 use Rattle.asm_text.specs.Parts.{SymbolValue, UnitValue, IsUnit, IsSymbol, IsRelocation}
 use Rattle.elf_objects.specs.Numbers.{symbol_size}

@@ -19,7 +19,7 @@ use Rattle.elf_objects.specs.Symbol.{entry_of, strings_of, binding_of, home_of, 
 use Rattle.elf_objects.specs.Relocation.{relocation_of, relocations_at, relocations_of}
 use Rattle.elf_objects.specs.Object.{ObjectValue, IsObject}
 use Rattle.asm_text.specs.declared.unit.SectionKind.{SectionKind}
-use Rattle.asm_text.specs.declared.unit.SectionKind.TheVariants.{Code, Data, Bss}
+use Rattle.asm_text.specs.declared.unit.SectionKind.TheVariants.{Code}
 use Rattle.asm_text.specs.declared.unit.AsmRelocation.{AsmRelocation}
 use Rattle.asm_text.specs.Parts.{SectionValue, SymbolValue, UnitValue, IsUnit, IsSymbol, IsRelocation}
 use Rattle.obj_write.specs.Bytes.{word_bytes}

@@ -1,6 +1,6 @@
 //! One line of a schedule.
 
-ghost use Rattle.std.specs.Prelude.{◌≡◌, ◌<◌, ◌==◌, position, IfSome};
+ghost use Rattle.std.specs.Prelude.{◌≡◌, ◌<◌, IfSome};
 ghost use Rattle.schedule_file.specs.Entries.{HasLine, line_number};
 ghost use Rattle.schedule_file.specs.Line as spec;
 

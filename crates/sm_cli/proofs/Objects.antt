@@ -1,6 +1,6 @@
 -- The files of objects, read one after another.
-use Rattle.std.proofs.Common.{◌≡◌, ℕ, ◌+◌, ◌<◌, ◌≤◌, List, [], ◌∷◌, ◌++◌, get_or, map, length, drop, Option, sym, ◌∙◌, ap, subst, arith, inl, inr}
-use Rattle.std.proofs.lemmas.List.{append_assoc, append-nil, at_drop_more, at_drop_all}
+use Rattle.std.proofs.Common.{◌≡◌, ℕ, ◌+◌, ◌<◌, List, [], ◌∷◌, ◌++◌, get_or, map, length, drop, Option, sym, ◌∙◌, ap, subst, arith, inl, inr}
+use Rattle.std.proofs.lemmas.List.{append_assoc, at_drop_more}
 use Rattle.elf_objects.specs.Object.{ObjectValue}
 use Rattle.linker.specs.Room.{IsSmall}
 use Rattle.sm_io.specs.Files.{FileMap}

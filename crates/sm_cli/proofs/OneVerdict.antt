@@ -1,10 +1,10 @@
 -- A text has one verdict.
-use Rattle.std.proofs.Common.{◌≡◌, ℕ, zero, suc, ◌≤◌, ◌==◌, Bool, true, false, List, [], ◌∷◌, length, if◌then◌else◌, refl, sym, ◌∙◌, ap, subst, arith, inl, inr}
+use Rattle.std.proofs.Common.{◌≡◌, ℕ, zero, suc, ◌≤◌, ◌==◌, List, [], ◌∷◌, length, if◌then◌else◌, refl, sym, ◌∙◌, ap, subst, arith, inl, inr}
 use Rattle.flow_rule.specs.declared.Reason.{Reason}
 use Rattle.flow_rule.specs.declared.Reason.TheVariants as reason
 use Rattle.flow_rule.specs.declared.Verdict.{Verdict}
 use Rattle.flow_rule.specs.declared.Verdict.TheVariants.{Yes, No}
-use Rattle.flow_rule.specs.Rounds.{Point, Found, Step, same_pair, join_label, join_in, join_all, given, round, rounds, IsLabelling, all_reasons}
+use Rattle.flow_rule.specs.Rounds.{Point, Found, Step, given, round, rounds, IsLabelling, all_reasons}
 use Rattle.flow_rule.specs.Reasons.{number_of, NotAfter, BeforeAll, AmongThem}
 use Rattle.flow_rule.specs.Verdict.{Decided}
 use Rattle.flow_check.proofs.Dirty.{all_longer}

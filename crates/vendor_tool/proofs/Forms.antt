@@ -1,9 +1,6 @@
 -- The first form that the words of a line have.
-use Rattle.std.proofs.Common.{ℕ, ◌≡◌, ◌+◌, ◌<◌, ◌≤◌, Bool, true, false, cond, List, [], ◌∷◌, length, take, drop, nat_lt, Some, None, position, refl, subst, arith}
-use Rattle.std.specs.List.{slice_split, onto_first, position_or_len}
-use Rattle.std.proofs.lemmas.Bool.Decides.{nat_tests}
-use Rattle.std.proofs.lemmas.List.Splits.{slice_split_first, slice_split_none}
-use Rattle.std.proofs.lemmas.List.Sums.{fails_before_first}
+use Rattle.std.proofs.Common.{ℕ, ◌≡◌, ◌<◌, Bool, true, false, cond, List, [], ◌∷◌, length, refl, arith}
+use Rattle.std.specs.List.{slice_split, onto_first}
 use Rattle.texts.specs.Words.{is_space, words}
 use Rattle.vendor_tool.specs.TraceLines.{all_fit}
 use Rattle.vendor_tool.specs.declared.trace_line.Word.{Word}

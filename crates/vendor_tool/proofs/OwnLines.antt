@@ -15,7 +15,7 @@ use Rattle.texts.proofs.DecimalLemmas.{is_decimal-decimal}
 use Rattle.texts.proofs.LawLemmas.{bytes_are_read, words_are_read}
 use Rattle.texts.proofs.LineLemmas.{ended_lines-before, unended-before}
 use Rattle.pc_access.specs.declared.Rule.{Rule}
-use Rattle.pc_access.specs.declared.Rule.TheVariants.{FetchNotEntry, FetchData, ReadData, WriteData, WriteText, Reenter, RetiInside, Straddle, Misaligned, Illegal, FetchDevice}
+use Rattle.pc_access.specs.declared.Rule.TheVariants.{FetchNotEntry}
 use Rattle.sm_words.specs.Words.{reg}
 use Rattle.tracer.specs.declared.EndState.{EndState}
 use Rattle.tracer.specs.declared.EndState.TheVariants.{Stopped as EndsStopped, Inside as EndsInside, Outside as EndsOutside}

@@ -1,6 +1,6 @@
 //! The text of challenges, line by line.
 
-ghost use Rattle.std.specs.Prelude.{◌≡◌, ◌≢◌, Ok, Err, IfOk, IfErr, IfSome, position};
+ghost use Rattle.std.specs.Prelude.{◌≡◌, ◌≢◌, Ok, Err, IfOk, IfErr, IfSome};
 ghost use Rattle.vendor_tool.specs.ChallengeText as spec;
 ghost use Rattle.vendor_tool.specs.Challenges.{IsChallenge};
 

@@ -1,6 +1,6 @@
 //! The lines of a trace, told by their words.
 
-ghost use Rattle.std.specs.Prelude.{◌≡◌, ◌∷◌, [], ◌<◌, length, IfSome, IfNone};
+ghost use Rattle.std.specs.Prelude.{◌≡◌, ◌<◌, length};
 ghost use Rattle.texts.specs.Words as spaced;
 ghost use Rattle.vendor_tool.specs.TraceLines as spec;
 ghost use Rattle.vendor_tool.specs.Replies as replies;

@@ -1,8 +1,7 @@
 -- The module's text is accepted, with a certificate of its branch.
-use Rattle.std.proofs.Common.{◌≡◌, ◌≤◌, ℕ, ◌%◌, ◌/◌, List, [], ◌∷◌, length, refl, sym, subst, arith}
+use Rattle.std.proofs.Common.{◌≡◌, ◌≤◌, ℕ, List, [], length, refl, sym, subst, arith}
 use Rattle.insn_decode.specs.Code.{insn_of}
 use Rattle.cycle_table.specs.Cycles.{cycles_of}
-use Rattle.arm_balance.specs.declared.Arm.{Arm}
 use Rattle.arm_balance.specs.Met.{met}
 use Rattle.flow_rule.specs.declared.Verdict.TheVariants.{Yes}
 use Rattle.flow_rule.specs.Does.{plan_val, does_val}
