@@ -248,10 +248,6 @@ fn a_module_that_just_fits(rt: HostRuntime) -> Result<(), Fail> {
         room: 80,
     };
     let longer = changed(&rt, alloc, &CALL, objects::CODE_SIZE, 3)?;
-    assert_fault(
-        &rt,
-        link_one(alloc, layout.as_str(), &longer)?,
-        module,
-    );
+    assert_fault(&rt, link_one(alloc, layout.as_str(), &longer)?, module);
     Ok(())
 }
