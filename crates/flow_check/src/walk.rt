@@ -9,8 +9,10 @@ ghost use Rattle.flow_rule.specs.Does.{write_reaches};
 ghost use Rattle.flow_rule.specs.Arms.{walk, written_regs, written_words, blot, blot_core};
 ghost use Rattle.flow_check.specs.Pairs.{IsStub};
 ghost use Rattle.flow_check.specs.Walks.{told, point_at};
+ghost use Rattle.flow_check.specs.Along.{words_at};
 
-use crate::blot::{blot_registers, blot_words};
+use crate::along::{Way, along, is_call_word};
+use crate::blot::{blot_at, blot_registers, blot_words};
 use crate::reach::reaches;
 use crate::returns::Returns;
 use crate::step::{Cause, Stepped, Targets, note, note_if};
@@ -55,6 +57,30 @@ fn tell(module: &Module, insn: &Insn, reaches: &[Reach], time: u8, tally: &mut T
     blot_words(module, reaches, &mut tally.label.words);
 }
 
+/// Tells what an instruction takes and writes, which wrote this address.
+fn tell_written(
+    module: &Module,
+    insn: &Insn,
+    written: Option<Val>,
+    time: u8,
+    tally: &mut Tally,
+)
+    requires { tally.old.cycles + time < 4294967296 }
+    ensures { tally.new ≡ record tally.old {
+      cycles = tally.old.cycles + time;
+      label = record {
+        core = blot_core
+            (written_regs insn.now) tally.old.label.core;
+        words = blot
+            (words_at module.now written) tally.old.label.words;
+      };
+    } }
+{
+    tally.cycles += u32::from(time);
+    blot_registers(insn, &mut tally.label.core);
+    blot_at(module, written, &mut tally.label.words);
+}
+
 /// The first address.
 fn first_of(targets: &Targets) -> Option<u16>
     ensures { result ≡ slice_get targets.now.items 0 }
@@ -69,8 +95,8 @@ fn is_lost(module: &Module, join: u16, next: u16) -> bool
     module.text.holds(usize::from(join)) || next != join
 }
 
-/// Does the arm's instruction at this place, and tells whether the arm goes on.
-fn walk_on(
+/// Does the arm's instruction at this place as any instruction is done, and tells whether the arm goes on.
+fn walk_by_step(
     module: &Module,
     text: &[u8],
     entries: Option<u16>,
@@ -120,6 +146,55 @@ fn walk_on(
         None => {
             let lost = is_lost(module, join, next);
             note_if(lost, &mut tally.least, Reason::Arm, next);
+            false
+        }
+    }
+}
+
+/// Does the arm's instruction at this place, and tells whether the arm goes on.
+fn walk_on(
+    module: &Module,
+    text: &[u8],
+    entries: Option<u16>,
+    join: u16,
+    place: &mut Place,
+    tally: &mut Tally,
+) -> bool
+    requires few { IfSome entries (λ n. n ≤ 64) }
+    requires before { place.old.pc ≢ join }
+    requires short { tally.old.cycles < 4294967000 }
+    ensures on { result ≡ true → IsStub module.now text.now entries → (branch steps : ℕ) →
+        told (walk (flow_step module.now text.now) module.now text.now branch join (suc steps)
+        (point_at place.old)) tally.old ≡ told
+        (walk (flow_step module.now text.now) module.now text.now branch join steps
+        (point_at place.new)) tally.new }
+    ensures ends { result ≡ false → IsStub module.now text.now entries → (branch steps : ℕ) →
+        told (walk (flow_step module.now text.now) module.now text.now branch join (suc steps)
+        (point_at place.old)) tally.old ≡ tally.new }
+    ensures cycles { tally.new.cycles ≤ tally.old.cycles + 6 }
+{
+    let pc = place.pc;
+    if is_call_word(module, entries, pc) {
+        return walk_by_step(module, text, entries, join, place, tally);
+    }
+    let Some((insn, next)) = met_arm(module.text, text, pc, join) else {
+        note(&mut tally.least, Reason::Arm, pc);
+        return false;
+    };
+    let went = along(module, text, entries, &insn, pc, &mut place.label);
+    match went.way {
+        Way::On(to) => {
+            tell_written(module, &insn, went.written, cycles(&insn), tally);
+            place.pc = to;
+            true
+        }
+        Way::Out => {
+            let lost = is_lost(module, join, next);
+            note_if(lost, &mut tally.least, Reason::Arm, next);
+            false
+        }
+        Way::Cause => {
+            note(&mut tally.least, Reason::Arm, pc);
             false
         }
     }
