@@ -21,8 +21,9 @@ ghost use Rattle.flow_check.specs.Along.{is_clear, taken_by, one_place, one_widt
 ghost use Rattle.flow_check.specs.Along.{way_in, in_open, is_call_word, LeadsTo};
 
 use crate::effect::{carry_of, clear_if, clears_flags, does, finish, finish_one, given, two};
-use crate::reach::{extension, increment, lower, place, reads_destination, second, step_past};
-use crate::reach::writes_destination;
+use crate::reach::{
+    extension, increment, lower, place, reads_destination, second, step_past, writes_destination,
+};
 use crate::registers::{Core, get};
 use crate::step::leave;
 use crate::stub::{is_open, is_shut, word_number};
@@ -171,7 +172,14 @@ fn act_two(
     let told = two(op, width, source, old, carry);
     let stored = finish(writes, dst, &told, &mut label.core);
     clear_if(clears_flags(op, width, dst, source), &mut label.core);
-    store(module, &mut label.words, writes, width, to, stored.as_slice());
+    store(
+        module,
+        &mut label.words,
+        writes,
+        width,
+        to,
+        stored.as_slice(),
+    );
     let source_fine = may(module, true, Kind::Read, width, from);
     let old_fine = may(module, reads, Kind::Read, width, to);
     let write_fine = may(module, writes, Kind::Write, width, to);

@@ -7,12 +7,14 @@ ghost use Rattle.flow_rule.specs.Absorbs.{Absorbs, laid, overlay};
 ghost use Rattle.flow_check.specs.Pairs.{IsStub};
 ghost use Rattle.flow_check.specs.Passages.{crossing_step, blotted, blank, branch_from, OpensTo, IsPassage};
 ghost use Rattle.flow_check.specs.declared.passages.Outcome.{Outcome};
+ghost use Rattle.flow_check.specs.Tables.{IsTable};
 
 use crate::arms::{Crossing, walk_arms};
 use crate::needs::{like, needed};
 use crate::returns::Returns;
 use crate::rounds::join_label;
 use crate::step::Cause;
+use crate::table::Entry;
 use arm_balance::Arm;
 use flow_rule::{Label, Val, arms_rest};
 use insn_decode::Insn;
@@ -69,12 +71,14 @@ fn blank() -> Label
 fn walked(
     module: &Module,
     text: &[u8],
+    table: &[Entry],
     entries: Option<u16>,
     crossing: &Crossing,
     pc: u16,
     label: &Label,
 ) -> Passage
     requires few { IfSome entries (λ n. n ≤ 64) }
+    requires table { IsTable module.now text.now table.now }
     ensures is { IsStub module.now text.now entries → IsPassage module.now text.now result }
     ensures branch { result.branch ≡ pc }
     ensures crossing { result.crossing ≡ crossing.now }
@@ -85,6 +89,7 @@ fn walked(
     walk_arms(
         module,
         text,
+        table,
         entries,
         crossing,
         pc,
@@ -160,19 +165,21 @@ fn overlay_label(label: &mut Label, told: &Label)
 fn crossed(
     module: &Module,
     text: &[u8],
+    table: &[Entry],
     entries: Option<u16>,
     crossing: &Crossing,
     pc: u16,
     label: &mut Label,
 ) -> Outcome
     requires few { IfSome entries (λ n. n ≤ 64) }
+    requires table { IsTable module.now text.now table.now }
     ensures open { result ≡ Outcome.Open → IsStub module.now text.now entries → (returns : List ℕ) →
         OpensTo module.now text.now crossing.now (branch_from pc returns label.old) label.new }
     ensures shut { result ≡ Outcome.Shut → IsStub module.now text.now entries → (returns : List ℕ) →
         (crossing_step module.now text.now crossing.now (branch_from pc returns label.old)).reasons ≢ [] }
 {
     arms_rest();
-    match walked(module, text, entries, crossing, pc, label).answer {
+    match walked(module, text, table, entries, crossing, pc, label).answer {
         Answer::Open(told) => {
             overlay_label(label, &told);
             Outcome::Open
@@ -247,6 +254,7 @@ fn is_open(passage: &Passage) -> bool {
 fn learned(
     module: &Module,
     text: &[u8],
+    table: &[Entry],
     entries: Option<u16>,
     crossing: &Crossing,
     near: Option<Passage>,
@@ -254,24 +262,25 @@ fn learned(
     label: &Label,
 ) -> Passage
     requires few { IfSome entries (λ n. n ≤ 64) }
+    requires table { IsTable module.now text.now table.now }
     ensures { IsStub module.now text.now entries → IsPassage module.now text.now result }
 {
     if let Some(near) = near
         && is_open(&near)
     {
         let top = like(&near.label, label);
-        let passage = walked(module, text, entries, crossing, pc, &top);
+        let passage = walked(module, text, table, entries, crossing, pc, &top);
         if is_open(&passage) {
             return passage;
         }
     }
     if let Some(top) = needed(module, text, entries, crossing, pc, label) {
-        let passage = walked(module, text, entries, crossing, pc, &top);
+        let passage = walked(module, text, table, entries, crossing, pc, &top);
         if is_open(&passage) {
             return passage;
         }
     }
-    walked(module, text, entries, crossing, pc, label)
+    walked(module, text, table, entries, crossing, pc, label)
 }
 
 impl Passages {
@@ -395,6 +404,7 @@ impl Passages {
         &mut self,
         module: &Module,
         text: &[u8],
+        table: &[Entry],
         entries: Option<u16>,
         crossing: &Crossing,
         own: &mut Option<usize>,
@@ -402,6 +412,7 @@ impl Passages {
         label: &mut Label,
     ) -> Result<Outcome, AllocError>
         requires few { IfSome entries (λ n. n ≤ 64) }
+        requires table { IsTable module.now text.now table.now }
         requires passages { IsStub module.now text.now entries →
             All (IsPassage module.now text.now) self.old.list.items }
         ensures open { IfOk result (λ outcome. outcome ≡ Outcome.Open → IsStub module.now text.now entries →
@@ -417,13 +428,13 @@ impl Passages {
             return Ok(outcome);
         }
         let near = self.at(self.newest_of(pc), crossing, pc);
-        let passage = learned(module, text, entries, crossing, near, pc, label);
+        let passage = learned(module, text, table, entries, crossing, near, pc, label);
         let place = self.keep(*own, passage)?;
         *own = Some(place);
         if let Some(outcome) = self.answer(place, crossing, pc, label) {
             return Ok(outcome);
         }
-        Ok(crossed(module, text, entries, crossing, pc, label))
+        Ok(crossed(module, text, table, entries, crossing, pc, label))
     }
 
     /// Whether it is known that a branch has no cause under its label.

@@ -9,12 +9,14 @@ ghost use Rattle.flow_check.specs.Causes.{noted};
 ghost use Rattle.flow_check.specs.Pairs.{IsStub, addrs_of, point_of};
 ghost use Rattle.flow_check.specs.Steps.{GivesAlike};
 ghost use Rattle.flow_check.specs.Passages.{crossing_step, IsPassage};
+ghost use Rattle.flow_check.specs.Tables.{IsTable};
 
 use crate::arms::{Crossing, crossing_of, walk_arms};
 use crate::passages::{Outcome, Passages};
 use crate::returns::Returns;
 use crate::step::{Cause, Stepped, note};
 use crate::stub::step_base;
+use crate::table::Entry;
 use arm_balance::Arm;
 use flow_rule::{Label, Reason};
 use mod_layout::Module;
@@ -24,6 +26,7 @@ use std::alloc::AllocError;
 pub fn step_with(
     module: &Module,
     text: &[u8],
+    table: &[Entry],
     entries: Option<u16>,
     arms: &[Arm],
     passages: &mut Passages,
@@ -33,6 +36,7 @@ pub fn step_with(
     stepped: &mut Stepped,
 ) -> Result<(), AllocError>
     requires few { IfSome entries (λ n. n ≤ 64) }
+    requires table { IsTable module.now text.now table.now }
     requires passages { IsStub module.now text.now entries →
         All (IsPassage module.now text.now) passages.old.list.items }
     requires none { array_vec_len stepped.old.targets ≡ 0 }
@@ -54,7 +58,7 @@ pub fn step_with(
 {
     match crossing_of(module, text, arms, pc, label) {
         Some(crossing) => {
-            match passages.cross(module, text, entries, &crossing, own, pc, label)? {
+            match passages.cross(module, text, table, entries, &crossing, own, pc, label)? {
                 Outcome::Open => stepped.targets.push(crossing.arm.join),
                 Outcome::Shut => note(&mut stepped.least, Reason::Arm, pc),
             }
@@ -71,6 +75,7 @@ pub fn step_with(
 fn cause_of_arms(
     module: &Module,
     text: &[u8],
+    table: &[Entry],
     entries: Option<u16>,
     passages: &Passages,
     own: Option<usize>,
@@ -80,6 +85,7 @@ fn cause_of_arms(
     returns: &Returns,
 ) -> Option<Cause>
     requires few { IfSome entries (λ n. n ≤ 64) }
+    requires table { IsTable module.now text.now table.now }
     requires passages { IsStub module.now text.now entries →
         All (IsPassage module.now text.now) passages.now.list.items }
     ensures { IsStub module.now text.now entries → result ≡ noted (crossing_step module.now text.now crossing.now
@@ -91,7 +97,7 @@ fn cause_of_arms(
     let mut least = None;
     let mut told = *label;
     walk_arms(
-        module, text, entries, crossing, pc, label, returns, &mut least, &mut told,
+        module, text, table, entries, crossing, pc, label, returns, &mut least, &mut told,
     );
     least
 }
@@ -100,6 +106,7 @@ fn cause_of_arms(
 pub fn cause_with(
     module: &Module,
     text: &[u8],
+    table: &[Entry],
     entries: Option<u16>,
     arms: &[Arm],
     passages: &Passages,
@@ -109,6 +116,7 @@ pub fn cause_with(
     returns: &Returns,
 ) -> Option<Cause>
     requires few { IfSome entries (λ n. n ≤ 64) }
+    requires table { IsTable module.now text.now table.now }
     requires passages { IsStub module.now text.now entries →
         All (IsPassage module.now text.now) passages.now.list.items }
     ensures { IsStub module.now text.now entries → result ≡ noted (flow_with module.now text.now arms.now
@@ -116,7 +124,7 @@ pub fn cause_with(
 {
     match crossing_of(module, text, arms, pc, label) {
         Some(crossing) => cause_of_arms(
-            module, text, entries, passages, own, &crossing, pc, label, returns,
+            module, text, table, entries, passages, own, &crossing, pc, label, returns,
         ),
         None => {
             let mut stepped = Stepped::new(returns);

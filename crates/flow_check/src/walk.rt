@@ -10,6 +10,7 @@ ghost use Rattle.flow_rule.specs.Arms.{walk, written_regs, written_words, blot, 
 ghost use Rattle.flow_check.specs.Pairs.{IsStub};
 ghost use Rattle.flow_check.specs.Walks.{told, point_at};
 ghost use Rattle.flow_check.specs.Along.{words_at};
+ghost use Rattle.flow_check.specs.Tables.{IsTable};
 
 use crate::along::{Way, along, is_call_word};
 use crate::blot::{blot_at, blot_registers, blot_words};
@@ -17,6 +18,7 @@ use crate::reach::reaches;
 use crate::returns::Returns;
 use crate::step::{Cause, Stepped, Targets, note, note_if};
 use crate::stub::step_base;
+use crate::table::{Entry, arm_at};
 use arm_balance::met_arm;
 use cycle_table::cycles;
 use flow_rule::{Label, Reach, Reason, Val};
@@ -58,13 +60,7 @@ fn tell(module: &Module, insn: &Insn, reaches: &[Reach], time: u8, tally: &mut T
 }
 
 /// Tells what an instruction takes and writes, which wrote this address.
-fn tell_written(
-    module: &Module,
-    insn: &Insn,
-    written: Option<Val>,
-    time: u8,
-    tally: &mut Tally,
-)
+fn tell_written(module: &Module, insn: &Insn, written: Option<Val>, time: u8, tally: &mut Tally)
     requires { tally.old.cycles + time < 4294967296 }
     ensures { tally.new ≡ record tally.old {
       cycles = tally.old.cycles + time;
@@ -155,12 +151,14 @@ fn walk_by_step(
 fn walk_on(
     module: &Module,
     text: &[u8],
+    table: &[Entry],
     entries: Option<u16>,
     join: u16,
     place: &mut Place,
     tally: &mut Tally,
 ) -> bool
     requires few { IfSome entries (λ n. n ≤ 64) }
+    requires table { IsTable module.now text.now table.now }
     requires before { place.old.pc ≢ join }
     requires short { tally.old.cycles < 4294967000 }
     ensures on { result ≡ true → IsStub module.now text.now entries → (branch steps : ℕ) →
@@ -171,26 +169,26 @@ fn walk_on(
     ensures ends { result ≡ false → IsStub module.now text.now entries → (branch steps : ℕ) →
         told (walk (flow_step module.now text.now) module.now text.now branch join (suc steps)
         (point_at place.old)) tally.old ≡ tally.new }
-    ensures cycles { tally.new.cycles ≤ tally.old.cycles + 6 }
+    ensures cycles { tally.new.cycles ≤ tally.old.cycles + 255 }
 {
     let pc = place.pc;
     if is_call_word(module, entries, pc) {
         return walk_by_step(module, text, entries, join, place, tally);
     }
-    let Some((insn, next)) = met_arm(module.text, text, pc, join) else {
+    let Some(armed) = arm_at(module, text, table, pc, join) else {
         note(&mut tally.least, Reason::Arm, pc);
         return false;
     };
-    let went = along(module, text, entries, &insn, pc, &mut place.label);
+    let went = along(module, text, entries, &armed.insn, pc, &mut place.label);
     match went.way {
         Way::On(to) => {
-            tell_written(module, &insn, went.written, cycles(&insn), tally);
+            tell_written(module, &armed.insn, went.written, armed.time, tally);
             place.pc = to;
             true
         }
         Way::Out => {
-            let lost = is_lost(module, join, next);
-            note_if(lost, &mut tally.least, Reason::Arm, next);
+            let lost = is_lost(module, join, armed.next);
+            note_if(lost, &mut tally.least, Reason::Arm, armed.next);
             false
         }
         Way::Cause => {
@@ -205,12 +203,14 @@ fn walk_on(
 pub fn walk(
     module: &Module,
     text: &[u8],
+    table: &[Entry],
     entries: Option<u16>,
     join: u16,
     from: &Place,
     tally: &mut Tally,
 )
     requires few { IfSome entries (λ n. n ≤ 64) }
+    requires table { IsTable module.now text.now table.now }
     requires start { tally.old.cycles ≡ 0 }
     ensures { IsStub module.now text.now entries → (branch : ℕ) →
         tally.new ≡ told (walk (flow_step module.now text.now) module.now text.now branch join (suc join)
@@ -222,7 +222,7 @@ pub fn walk(
         if place.pc == join {
             return;
         }
-        if !walk_on(module, text, entries, join, &mut place, tally) {
+        if !walk_on(module, text, table, entries, join, &mut place, tally) {
             return;
         }
         left -= 1;

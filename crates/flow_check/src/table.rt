@@ -1,0 +1,119 @@
+//! The instructions of a text, each met once for all walks.
+
+ghost use Rattle.std.specs.Prelude.{◌≡◌, ◌+◌, ◌*◌, IfSome, IfOk, Some, None, slice_get};
+ghost use Rattle.cycle_table.specs.Cycles.{cycles_of};
+ghost use Rattle.insn_decode.specs.Code.{IsDecoded};
+ghost use Rattle.mod_layout.specs.Tables.{IsSection};
+ghost use Rattle.arm_balance.specs.Met.{met};
+ghost use Rattle.arm_balance.specs.Balance.{arm_on};
+ghost use Rattle.flow_check.specs.Tables.{time_of, entry_by, IsTable};
+
+use arm_balance::{arm_next, met};
+use cycle_table::cycles;
+use insn_decode::Insn;
+use mod_layout::Module;
+use std::alloc::{AllocError, Global};
+
+/// The instruction at an address, and its cycles; of a unit instruction 0.
+#[derive(Clone, Copy)]
+pub struct Entry {
+    pub met: Option<Insn>,
+    pub time: u8,
+}
+
+/// An instruction of an arm: where it goes on, and its cycles.
+#[derive(Clone, Copy)]
+pub struct Armed {
+    pub insn: Insn,
+    pub next: u16,
+    pub time: u8,
+}
+
+/// The cycles of an instruction.
+#[tactic(auto, unfolding(cycle_table::specs::Cycles::cycles_of))]
+fn time_of(insn: &Insn) -> u8
+    requires { IsDecoded insn.now }
+    ensures { result ≡ time_of (Some insn.now) }
+{
+    match insn {
+        Insn::Unit(_) => 0,
+        Insn::Two { .. } => cycles(insn),
+        Insn::One { .. } => cycles(insn),
+        Insn::Jump { .. } => cycles(insn),
+        Insn::Reti => cycles(insn),
+    }
+}
+
+/// What is met at an address.
+fn entry_of(module: &Module, text: &[u8], pc: u16) -> Entry
+    ensures { result ≡ entry_by module.now text.now pc }
+{
+    let met = met(module.text, text, pc);
+    let time = match met {
+        Some(insn) => time_of(&insn),
+        None => 0,
+    };
+    Entry { met, time }
+}
+
+/// What is met at each even place of the text.
+#[tactic(auto, using(crate::proofs::Entries::table_next, crate::proofs::Entries::table_end))]
+pub fn table_of(alloc: Global, module: &Module, text: &[u8]) -> Result<Vec<Entry>, AllocError>
+    requires { IsSection module.now.text }
+    ensures { IfOk result (λ table. IsTable module.now text.now table.items) }
+{
+    let mut table = Vec::new(alloc);
+    let count = (module.text.end - module.text.start) / 2;
+    for k in 0..count {
+        table.push(entry_of(module, text, module.text.start + 2 * k))?;
+    }
+    Ok(table)
+}
+
+/// A place of the table.
+fn place(table: &[Entry], k: usize) -> Option<Entry>
+    ensures { result ≡ slice_get table.now k }
+{
+    table.get(k).copied()
+}
+
+/// What is met at an address: from the table, where it is there.
+#[tactic(auto, using(crate::proofs::Entries::entry_there))]
+fn entry_at(module: &Module, text: &[u8], table: &[Entry], pc: u16) -> Entry
+    requires { IsTable module.now text.now table.now }
+    ensures { result ≡ entry_by module.now text.now pc }
+{
+    let offset = usize::from(pc.saturating_sub(module.text.start));
+    if module.text.start <= pc && offset % 2 == 0 {
+        if let Some(entry) = place(table, offset / 2) {
+            return entry;
+        }
+    }
+    entry_of(module, text, pc)
+}
+
+/// The instruction of an arm at `pc`.
+#[tactic(auto, using(crate::proofs::Entries::timed, arm_balance::proofs::Times::on_at, arm_balance::proofs::Times::on_far, arm_balance::proofs::Times::on_stop, arm_balance::proofs::Times::on_unmet))]
+pub fn arm_at(module: &Module, text: &[u8], table: &[Entry], pc: u16, join: u16) -> Option<Armed>
+    requires { IsTable module.now text.now table.now }
+    ensures met { IfSome result (λ a. met module.now.text text.now pc ≡ Some a.insn) }
+    ensures goes_on { IfSome result (λ a. arm_on module.now.text text.now join pc ≡ Some a.next) }
+    ensures time { IfSome result (λ a. a.time ≡ cycles_of a.insn) }
+    ensures stops { result ≡ None → arm_on module.now.text text.now join pc ≡ None }
+{
+    if !(module.text.holds(usize::from(pc)) && pc < join) {
+        return None;
+    }
+    let entry = entry_at(module, text, table, pc);
+    match entry.met {
+        Some(insn) => match arm_next(&insn, pc, join) {
+            Some(next) => Some(Armed {
+                insn,
+                next,
+                time: entry.time,
+            }),
+            None => None,
+        },
+        None => None,
+    }
+}
