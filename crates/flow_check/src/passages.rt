@@ -1,5 +1,5 @@
 //! What is known of the arms of branches. Values rise from Known to Public and to Secret alone, and what the arms of a
-//! branch do hangs on the values that they need: so one walk under a label with little in it serves all labels with more.
+//! branch do hangs on the values that they need: one walk under a label with little in it serves all that know more.
 
 ghost use Rattle.std.specs.Prelude.{◌≡◌, ◌≢◌, ◌≤◌, ◌<◌, ◌%◌, ◌++◌, suc, take, drop, ℕ, List, IfSome, IfOk, Some, None, true, slice_get, length, All, []};
 ghost use Rattle.mod_layout.specs.declared.Module.{Module};

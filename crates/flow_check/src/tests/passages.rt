@@ -5,15 +5,16 @@ use crate::{Reason, Verdict};
 use std::test::Fail;
 
 // The words at 0x0404 and 0x0406 are set to 7, and a routine with a branch on the data's first word is called with R4
-// 0x0404, and then once more: both of its arms write the word at R4. Then the word at 0x0406 is in R5 where the text is left.
+// 0x0404, and then once more: both of its arms write the word at R4. Then the word at 0x0406 is in R5 where the text
+// is left.
 const CALLS: [u16; 35] = [
     0x4031, 0x0420, 0x40b2, 0x0007, 0x0404, 0x40b2, 0x0007, 0x0406, 0x4034, 0x0404, 0x12b0, 0x0330,
     0x4034, 0x0406, 0x12b0, 0x0330, 0x4215, 0x0406, 0xc032, 0x0107, 0x4030, 0x0214, 0x4303, 0x4303,
     0x9382, 0x0400, 0x2403, 0x4384, 0x0000, 0x3c04, 0x4394, 0x0000, 0x4303, 0x4303, 0x4130,
 ];
 
-// What the word at 0x031a, R4 of the second call, and the one at 0x031c, which is that call or a jump back to the first,
-// are, and the verdict.
+// The word at 0x031a, R4 of the second call; the one at 0x031c, which is that call or a jump back to the first; and the
+// verdict.
 fn rows() -> [(u16, u16, Verdict); 4] {
     [
         (0x0406, 0x12b0, no(0x0328, Reason::SecretAtExit, 5)),
