@@ -83,6 +83,15 @@ def balance_of_addresses(count, insn, cycles):
     return met_often(0x0300, data, arm, 2 + 4 + 2 + 3 + 1 + cycles * count + 2 + 2 + 2 + 1 + 1)
 
 
+def balance_of_places(count):
+    """The same where also the word that an address comes from hangs on the return addresses, so that each list wants another label."""
+    data = 0xF000
+    before = b"".join(words(0x40B2, 2 * k, data + 2 * k) for k in range(64))
+    arm = words(0x4034, data, 0x4384, 0x00F0, 0x4125, 0xF035, 0x003E, 0x5035, data, 0x4526) + words(0x5605) * count
+    arm += words(0xF036, 0x003E, 0x5036, data, 0x4627, 0x4305, 0x4306, 0x4307)
+    return met_often(0x0300, data, arm, 2 + 4 + 2 + 2 + 2 + 2 + count + 2 + 2 + 2 + 1 + 1 + 1, before)
+
+
 def cases(folder):
     """Name, words, and what is special."""
     def file(name, text):
@@ -117,6 +126,8 @@ def cases(folder):
     for name, insn, cycles in (("sums", 0x5605, 1), ("reads", 0x5425, 2)):
         walked, arm = balance_of_addresses(25_000, insn, cycles)
         yield f"balance, arms of 25,000 {name} met 5,184 times, a last address that hangs on each", ["balance", file(f"walked_{name}", walked), "1", file(f"arm_{name}", arm)]
+    walked, arm = balance_of_places(25_000)
+    yield "balance, arms of 25,000 sums met 5,184 times, two addresses that hang on each", ["balance", file("walked_places", walked), "1", file("arm_places", arm)]
     yield "challenges, 4,096", ["challenge", file("challenges", "".join(f"{1600 * k} {'0f' * 16}\n" for k in range(4096)))]
     trace = "0 out 4a\n" * 110_000 + "end 1 stopped\n"
     yield "trace, 1 MiB of out lines", ["vendor", image, "1", "0" * 32, file("challenges_few", "100 " + "0f" * 16 + "\n"), file("trace", trace)]
