@@ -1,5 +1,5 @@
 -- An instruction of an arm, without lists.
-use Rattle.std.proofs.Common.{◌≡◌, ◌≢◌, ℕ, ◌+◌, ◌*◌, List, [], ◌∷◌, ◌++◌, map, refl, sym, ap, ◌∙◌, subst, Bool, true, false, cond, nat_lt, ◌==◌, ◌&&◌, ◌||◌, not, Option, Some, None}
+use Rattle.std.proofs.Common.{◌≡◌, ℕ, ◌*◌, List, [], ◌∷◌, ◌++◌, map, refl, sym, ap, ◌∙◌, subst, Bool, true, false, cond, nat_lt, ◌==◌, ◌&&◌, not, Option, Some, None}
 use Rattle.std.specs.Prelude.{ℤ}
 use Rattle.sm_words.specs.Words.{add16, nth}
 use Rattle.sm_words.specs.declared.width.Width.{Width}
@@ -13,7 +13,6 @@ use Rattle.insn_decode.specs.declared.insn.Operand.{Operand}
 use Rattle.insn_decode.specs.declared.insn.Operand.TheVariants.{Reg, Const, Imm, Increment}
 use Rattle.insn_decode.specs.declared.insn.Insn.{Insn}
 use Rattle.insn_decode.specs.declared.insn.Insn.TheVariants.{Two, One, Jump, Reti, Unit as UnitOp}
-use Rattle.pc_access.specs.declared.Kind.{Kind}
 use Rattle.pc_access.specs.declared.Kind.TheVariants.{Read, Write}
 use Rattle.cpu_step.specs.Plan.{reads_dst, writes_dst}
 use Rattle.mod_layout.specs.declared.Module.{Module}
@@ -22,23 +21,23 @@ use Rattle.mod_layout.specs.Table.{holds}
 use Rattle.arm_balance.specs.Met.{met}
 use Rattle.arm_balance.specs.Balance.{next_if, arm_next, arm_on}
 use Rattle.flow_rule.specs.declared.Val.{Val}
-use Rattle.flow_rule.specs.declared.Val.TheVariants.{Known, Away, Public, Secret}
+use Rattle.flow_rule.specs.declared.Val.TheVariants.{Known, Secret}
 use Rattle.flow_rule.specs.declared.Label.{Label}
 use Rattle.flow_rule.specs.declared.Reach.{Reach}
 use Rattle.flow_rule.specs.declared.Told.{Told}
-use Rattle.flow_rule.specs.declared.Reason.TheVariants.{OutsideAccess, SecretBranch}
+use Rattle.flow_rule.specs.declared.Reason.TheVariants.{SecretBranch}
 use Rattle.flow_rule.specs.Values.{is_secret, val, narrow}
 use Rattle.flow_rule.specs.Rounds.{Point, Found, Step}
-use Rattle.flow_rule.specs.Does.{may_reach, place_val, past_val, stepped_val, lowered_val, reach_if, one_reach, plan_val, read_val, read_reaches, write_reaches, writes_val, given_val, after_val, two_val, written_val, clears_flags, cleared_core, cleared_if, carry_val, one_done_val, does_val, Done_val}
+use Rattle.flow_rule.specs.Does.{place_val, past_val, stepped_val, lowered_val, reach_if, one_reach, plan_val, read_val, read_reaches, write_reaches, writes_val, given_val, after_val, two_val, written_val, clears_flags, cleared_core, cleared_if, carry_val, one_done_val, does_val, Done_val}
 use Rattle.flow_rule.specs.Reasons.{because_if, reach_reasons, reach_reasons_by}
 use Rattle.flow_rule.specs.Going.{goes, both, also}
 use Rattle.flow_rule.specs.Returns.{Turn, turn_of, but_last, last_is}
 use Rattle.flow_rule.specs.Steps.{goes_unless, step_plain, step_jump, step_insn, step_of}
-use Rattle.flow_rule.specs.Stub.{word_number, is_open, shut_reasons, shut_if, step_stub}
+use Rattle.flow_rule.specs.Stub.{word_number, is_open, shut_if, step_stub}
 use Rattle.flow_rule.specs.Verdict.{flow_step}
 use Rattle.flow_rule.specs.Arms.{written_words}
 use Rattle.flow_check.specs.declared.along.Way.{Way}
-use Rattle.flow_check.specs.declared.along.Way.TheVariants.{On, Out, Cause}
+use Rattle.flow_check.specs.declared.along.Way.TheVariants.{Cause}
 use Rattle.flow_check.specs.Pairs.{IsStub}
 use Rattle.flow_check.specs.Along.{is_clear, taken_by, one_place, one_width, done_by, words_by, words_at, in_open, is_call_word, LeadsTo}
 use Rattle.flow_check.proofs.Causes.{stub_open, stub_shut}

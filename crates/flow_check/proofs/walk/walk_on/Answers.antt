@@ -1,4 +1,4 @@
-use Rattle.std.proofs.Common.{◌≡◌, ◌∙◌, ◌+◌, [], ap, sym, subst, ℕ, List}
+use Rattle.std.proofs.Common.{◌∙◌, ◌+◌, [], ap, sym, subst, ℕ, List}
 use Rattle.flow_rule.specs.Does.{plan_val, write_reaches}
 use Rattle.flow_rule.specs.Verdict.{flow_step}
 use Rattle.flow_rule.specs.Arms.{walk, written_regs, written_words, blot, blot_core}
