@@ -1,18 +1,17 @@
 //! Which values of a branch's label its arms need, so that one walk serves as many labels as can be. This saves time
 //! alone: what it says is tried by a walk before anything rests on it.
 
-ghost use Rattle.std.specs.Prelude.{◌≤◌, IfSome};
+ghost use Rattle.flow_check.specs.Tables.{IsTable};
 
+use crate::along::{Way, along};
 use crate::arms::{Crossing, first_arm, second_arm};
 use crate::effect::{one_reads_carry, one_sets_flags, reads_carry, sets_flags};
 use crate::reach::{reaches, reads_destination, writes_destination};
 use crate::returns::Returns;
-use crate::step::Stepped;
-use crate::stub::step_base;
+use crate::table::{Entry, arm_at};
 use crate::text::word_number;
 use crate::value::join;
 use crate::walk::Place;
-use arm_balance::met_arm;
 use flow_rule::{Label, Reach, Val};
 use insn_decode::{Insn, OneOp, Operand};
 use mod_layout::Module;
@@ -68,14 +67,6 @@ struct Sources {
     of: [Origins; 272],
     known: Origins,
     open: Origins,
-}
-
-/// Where an instruction's accesses end.
-#[derive(Clone, Copy)]
-enum Way {
-    On(Place),
-    Out,
-    Cause,
 }
 
 /// The register that an operand's address is made of.
@@ -230,44 +221,32 @@ impl Sources {
         }
     }
 
-    /// Follows the instruction at a place.
+    /// Follows the instruction at a place, and tells where it goes on.
     fn step(
         &mut self,
         module: &Module,
         text: &[u8],
+        table: &[Entry],
         entries: Option<u16>,
         join: u16,
-        place: &Place,
+        place: &mut Place,
     ) -> Way
-        requires { IfSome entries (λ n. n ≤ 64) }
+        requires { IsTable module.now text.now table.now }
     {
-        let Some((insn, _)) = met_arm(module.text, text, place.pc, join) else {
+        let Some(armed) = arm_at(module, text, table, place.pc, join) else {
             return Way::Cause;
         };
-        let mut place = *place;
-        let reaches = reaches(&insn, place.pc, &place.label.core);
-        self.follow(module, &insn, reaches.as_slice());
-        let mut stepped = Stepped::new(&place.returns);
-        step_base(
+        let reaches = reaches(&armed.insn, place.pc, &place.label.core);
+        self.follow(module, &armed.insn, reaches.as_slice());
+        along(
             module,
             text,
             entries,
+            &armed.insn,
             place.pc,
             &mut place.label,
-            &mut stepped,
-        );
-        if stepped.least.is_some() {
-            return Way::Cause;
-        }
-        match stepped.targets.first() {
-            Some(to) => {
-                place.pc = *to;
-                place.label.core[0] = Val::Known(*to);
-                place.returns = stepped.returns;
-                Way::On(place)
-            }
-            None => Way::Out,
-        }
+        )
+        .way
     }
 
     /// Follows an arm, and tells whether it has no cause.
@@ -275,11 +254,12 @@ impl Sources {
         &mut self,
         module: &Module,
         text: &[u8],
+        table: &[Entry],
         entries: Option<u16>,
         join: u16,
         from: &Place,
     ) -> bool
-        requires { IfSome entries (λ n. n ≤ 64) }
+        requires { IsTable module.now text.now table.now }
     {
         self.begin();
         let mut place = *from;
@@ -287,8 +267,8 @@ impl Sources {
             if place.pc == join {
                 return true;
             }
-            match self.step(module, text, entries, join, &place) {
-                Way::On(next) => place = next,
+            match self.step(module, text, table, entries, join, &mut place) {
+                Way::On(to) => place.pc = to,
                 Way::Out => {
                     self.leave();
                     return true;
@@ -315,12 +295,13 @@ impl Sources {
 pub fn needed(
     module: &Module,
     text: &[u8],
+    table: &[Entry],
     entries: Option<u16>,
     crossing: &Crossing,
     pc: u16,
     label: &Label,
 ) -> Option<Label>
-    requires { IfSome entries (λ n. n ≤ 64) }
+    requires { IsTable module.now text.now table.now }
 {
     let Crossing { insn, target, arm } = *crossing;
     let returns = Returns::new();
@@ -331,8 +312,8 @@ pub fn needed(
         known: Origins::NONE,
         open: Origins::NONE,
     };
-    if !sources.arm(module, text, entries, arm.join, &first)
-        || !sources.arm(module, text, entries, arm.join, &second)
+    if !sources.arm(module, text, table, entries, arm.join, &first)
+        || !sources.arm(module, text, table, entries, arm.join, &second)
     {
         return None;
     }
