@@ -1,17 +1,18 @@
 //! Which values of a branch's label its arms need, so that one walk serves as many labels as can be. This saves time
 //! alone: what it says is tried by a walk before anything rests on it.
 
-ghost use Rattle.flow_check.specs.Tables.{IsTable};
+ghost use Rattle.std.specs.Prelude.{◌≤◌, IfSome};
 
-use crate::along::{Way, along};
 use crate::arms::{Crossing, first_arm, second_arm};
 use crate::effect::{one_reads_carry, one_sets_flags, reads_carry, sets_flags};
 use crate::reach::{reaches, reads_destination, writes_destination};
 use crate::returns::Returns;
-use crate::table::{Entry, arm_at};
+use crate::step::Stepped;
+use crate::stub::step_base;
 use crate::text::word_number;
 use crate::value::join;
 use crate::walk::Place;
+use arm_balance::met_arm;
 use flow_rule::{Label, Reach, Val};
 use insn_decode::{Insn, OneOp, Operand};
 use mod_layout::Module;
@@ -67,6 +68,14 @@ struct Sources {
     of: [Origins; 272],
     known: Origins,
     open: Origins,
+}
+
+/// Where an instruction's accesses end.
+#[derive(Clone, Copy)]
+enum Way {
+    On(Place),
+    Out,
+    Cause,
 }
 
 /// The register that an operand's address is made of.
@@ -221,32 +230,44 @@ impl Sources {
         }
     }
 
-    /// Follows the instruction at a place, and tells where it goes on.
+    /// Follows the instruction at a place.
     fn step(
         &mut self,
         module: &Module,
         text: &[u8],
-        table: &[Entry],
         entries: Option<u16>,
         join: u16,
-        place: &mut Place,
+        place: &Place,
     ) -> Way
-        requires { IsTable module.now text.now table.now }
+        requires { IfSome entries (λ n. n ≤ 64) }
     {
-        let Some(armed) = arm_at(module, text, table, place.pc, join) else {
+        let Some((insn, _)) = met_arm(module.text, text, place.pc, join) else {
             return Way::Cause;
         };
-        let reaches = reaches(&armed.insn, place.pc, &place.label.core);
-        self.follow(module, &armed.insn, reaches.as_slice());
-        along(
+        let mut place = *place;
+        let reaches = reaches(&insn, place.pc, &place.label.core);
+        self.follow(module, &insn, reaches.as_slice());
+        let mut stepped = Stepped::new(&place.returns);
+        step_base(
             module,
             text,
             entries,
-            &armed.insn,
             place.pc,
             &mut place.label,
-        )
-        .way
+            &mut stepped,
+        );
+        if stepped.least.is_some() {
+            return Way::Cause;
+        }
+        match stepped.targets.first() {
+            Some(to) => {
+                place.pc = *to;
+                place.label.core[0] = Val::Known(*to);
+                place.returns = stepped.returns;
+                Way::On(place)
+            }
+            None => Way::Out,
+        }
     }
 
     /// Follows an arm, and tells whether it has no cause.
@@ -254,12 +275,11 @@ impl Sources {
         &mut self,
         module: &Module,
         text: &[u8],
-        table: &[Entry],
         entries: Option<u16>,
         join: u16,
         from: &Place,
     ) -> bool
-        requires { IsTable module.now text.now table.now }
+        requires { IfSome entries (λ n. n ≤ 64) }
     {
         self.begin();
         let mut place = *from;
@@ -267,8 +287,8 @@ impl Sources {
             if place.pc == join {
                 return true;
             }
-            match self.step(module, text, table, entries, join, &mut place) {
-                Way::On(to) => place.pc = to,
+            match self.step(module, text, entries, join, &place) {
+                Way::On(next) => place = next,
                 Way::Out => {
                     self.leave();
                     return true;
@@ -295,13 +315,12 @@ impl Sources {
 pub fn needed(
     module: &Module,
     text: &[u8],
-    table: &[Entry],
     entries: Option<u16>,
     crossing: &Crossing,
     pc: u16,
     label: &Label,
 ) -> Option<Label>
-    requires { IsTable module.now text.now table.now }
+    requires { IfSome entries (λ n. n ≤ 64) }
 {
     let Crossing { insn, target, arm } = *crossing;
     let returns = Returns::new();
@@ -312,8 +331,8 @@ pub fn needed(
         known: Origins::NONE,
         open: Origins::NONE,
     };
-    if !sources.arm(module, text, table, entries, arm.join, &first)
-        || !sources.arm(module, text, table, entries, arm.join, &second)
+    if !sources.arm(module, text, entries, arm.join, &first)
+        || !sources.arm(module, text, entries, arm.join, &second)
     {
         return None;
     }

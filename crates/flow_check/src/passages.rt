@@ -274,7 +274,7 @@ fn learned(
             return passage;
         }
     }
-    if let Some(top) = needed(module, text, table, entries, crossing, pc, label) {
+    if let Some(top) = needed(module, text, entries, crossing, pc, label) {
         let passage = walked(module, text, table, entries, crossing, pc, &top);
         if is_open(&passage) {
             return passage;
