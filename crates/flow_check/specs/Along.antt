@@ -41,11 +41,13 @@ one_width op w = w
 
 -- what an instruction does to the registers, and what it stores
 abbrev pub done_by : Module → List ℕ → Insn → ℕ → Label → Done_val
-done_by m text insn pc l = does_val insn pc l.core (map (read_val m text l.words) (read_reaches (plan_val insn pc l.core)))
+done_by m text insn pc l = does_val insn pc l.core (map (read_val m text l.words) (read_reaches
+    (plan_val insn pc l.core)))
 
 -- what it does to the words
 abbrev pub words_by : Module → List ℕ → Insn → ℕ → Label → List Val
-words_by m text insn pc l = writes_val m l.words (write_reaches (plan_val insn pc l.core)) (done_by m text insn pc l).stored
+words_by m text insn pc l = writes_val m l.words (write_reaches (plan_val insn pc l.core))
+    (done_by m text insn pc l).stored
 
 -- the word at this address
 abbrev pub words_at : Module → Option Val → List ℕ

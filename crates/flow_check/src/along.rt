@@ -61,6 +61,7 @@ pub struct Went {
 }
 
 /// Whether an access, if it is wanted and has an address, may be done.
+#[inline(always)]
 fn may(module: &Module, wanted: bool, kind: Kind, width: Width, addr: Option<Val>) -> bool
     ensures { (pc : ℕ) → result ≡ is_clear (reach_reasons module.now pc (reach_if wanted kind width addr)) }
 {
@@ -72,6 +73,7 @@ fn may(module: &Module, wanted: bool, kind: Kind, width: Width, addr: Option<Val
 }
 
 /// What an operand with this address gives: what stands there, if it is read.
+#[inline(always)]
 fn taken(
     module: &Module,
     text: &[u8],
@@ -101,6 +103,7 @@ fn taken(
 }
 
 /// Writes what is stored to an address, if that is wanted.
+#[inline(always)]
 fn store(
     module: &Module,
     words: &mut [Val; 256],

@@ -13,7 +13,8 @@ returns-in-Jump c =
       core = none_core m c.args.text.now insn c.args.pc l none c.act_none.new.core c.act_none.ensures.core;
       words = none_words m c.args.text.now insn c.args.pc l none;
       fine = ap (λ a. a.fine) c.act_none.ensures.fine ∙ none_clear m c.args.text.now insn c.args.pc l none;
-      written = none_written m c.args.text.now insn c.args.pc l none ∙ sym (ap (λ a. words_at m a.written) c.act_none.ensures.fine);
+      written = none_written m c.args.text.now insn c.args.pc l none
+          ∙ sym (ap (λ a. words_at m a.written) c.act_none.ensures.fine);
     }
 
 pub returns-in-Reti : goal.returns-in-Reti
@@ -26,7 +27,8 @@ returns-in-Reti c =
       core = none_core m c.args.text.now insn c.args.pc l none c.act_none-in-Reti.new.core c.act_none-in-Reti.ensures.core;
       words = none_words m c.args.text.now insn c.args.pc l none;
       fine = ap (λ a. a.fine) c.act_none-in-Reti.ensures.fine ∙ none_clear m c.args.text.now insn c.args.pc l none;
-      written = none_written m c.args.text.now insn c.args.pc l none ∙ sym (ap (λ a. words_at m a.written) c.act_none-in-Reti.ensures.fine);
+      written = none_written m c.args.text.now insn c.args.pc l none
+          ∙ sym (ap (λ a. words_at m a.written) c.act_none-in-Reti.ensures.fine);
     }
 
 pub returns-in-Unit : goal.returns-in-Unit
@@ -39,5 +41,6 @@ returns-in-Unit c =
       core = none_core m c.args.text.now insn c.args.pc l none c.act_none-in-Unit.new.core c.act_none-in-Unit.ensures.core;
       words = none_words m c.args.text.now insn c.args.pc l none;
       fine = ap (λ a. a.fine) c.act_none-in-Unit.ensures.fine ∙ none_clear m c.args.text.now insn c.args.pc l none;
-      written = none_written m c.args.text.now insn c.args.pc l none ∙ sym (ap (λ a. words_at m a.written) c.act_none-in-Unit.ensures.fine);
+      written = none_written m c.args.text.now insn c.args.pc l none
+          ∙ sym (ap (λ a. words_at m a.written) c.act_none-in-Unit.ensures.fine);
     }

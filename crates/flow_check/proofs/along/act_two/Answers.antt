@@ -25,7 +25,8 @@ returns-clause-fine c =
     c.reads_destination-reads.ensures c.writes_destination-writes.ensures c.step_past.ensures c.extension-ext.ensures c.place-from.ensures c.taken-source.ensures
     c.increment.ensures c.second.ensures c.place-to.ensures c.taken-old.ensures c.carry_of-carry.ensures.exact c.two-told.ensures
     c.may-source_fine.result c.may-old_fine.result c.may-write_fine.result c.both.result c.both-2.result
-    (c.may-source_fine.ensures c.args.pc) (c.may-old_fine.ensures c.args.pc) (c.may-write_fine.ensures c.args.pc) c.both.ensures c.both-2.ensures
+    (c.may-source_fine.ensures c.args.pc) (c.may-old_fine.ensures c.args.pc)
+    (c.may-write_fine.ensures c.args.pc) c.both.ensures c.both-2.ensures
 
 pub returns-clause-written : goal.returns-clause-written
 returns-clause-written c =

@@ -1,11 +1,5 @@
-use Rattle.std.proofs.Common.{ap, sym, ◌∙◌, subst, List}
-use Rattle.flow_rule.specs.declared.Val.{Val}
-use Rattle.flow_rule.specs.Rounds.{Step}
 use Rattle.flow_rule.specs.Does.{plan_val}
 use Rattle.flow_rule.specs.Reasons.{reach_reasons}
-use Rattle.flow_rule.specs.Going.{goes, also}
-use Rattle.flow_rule.specs.Stub.{shut_if}
-use Rattle.flow_check.specs.Along.{LeadsTo}
 use Rattle.flow_check.specs.Pairs.{list_of}
 use Rattle.flow_check.proofs.Acting.{step_is, leads_same}
 use Rattle.flow_check.proofs.along.along.Goals as goal

@@ -1,4 +1,4 @@
-use Rattle.std.proofs.Common.{◌≡◌, ◌∙◌, ◌+◌, [], ap, sym, subst, ℕ, List}
+use Rattle.std.proofs.Common.{◌∙◌, ◌+◌, [], ap, sym, subst, ℕ, List}
 use Rattle.flow_rule.specs.Does.{plan_val, write_reaches}
 use Rattle.flow_rule.specs.Verdict.{flow_step}
 use Rattle.flow_rule.specs.Arms.{walk, written_regs, written_words, blot, blot_core}
@@ -22,12 +22,29 @@ returns-in-On-clause-on c = λ _ stub branch steps.
     let S : Point → Step = flow_step m text in
     let on = on_next m.text text c.args.join p.pc insn next c.in-Some.ensures.met c.in-Some.ensures.goes_on in
     let leads = subst (λ w. LeadsTo w (S (point_at p)) (list_of p.returns) l.core l.words) c.in-On.is
-    (c.along-went.ensures.way c.args.join next p.returns stub (sym c.is_call_word.ensures ∙ c.if-is_call_word.false) c.in-Some.ensures.met on) in
+    (c.along-went.ensures.way c.args.join next p.returns stub (sym c.is_call_word.ensures
+    ∙ c.if-is_call_word.false) c.in-Some.ensures.met on) in
     let y : Point = point_of c.in-On.to p.returns l in
-    walk_goes S m text branch c.args.join steps (point_at p) y [] t next insn c.requires.before c.in-Some.ensures.goes_on c.in-Some.ensures.met leads.0 leads.1
+    walk_goes S m text branch c.args.join steps
+    (point_at p) y [] t next insn c.requires.before c.in-Some.ensures.goes_on c.in-Some.ensures.met leads.0 leads.1
     ∙ ap (told (walk S m text branch c.args.join steps y))
-    (ap (λ n. record t { cycles = t.cycles + n; label = record { core = blot_core (written_regs insn) t.label.core; words = blot (written_words m (write_reaches (plan_val insn p.pc p.label.core))) t.label.words } }) (sym c.in-Some.ensures.time)
-    ∙ ap (λ ws. record t { cycles = t.cycles + c.in-Some.armed.time; label = record { core = blot_core (written_regs insn) t.label.core; words = blot ws t.label.words } }) c.along-went.ensures.written
+    (ap (λ n. record t {
+      cycles = t.cycles + n;
+      label = record {
+        core = blot_core
+            (written_regs insn) t.label.core;
+        words = blot (written_words m (write_reaches
+            (plan_val insn p.pc p.label.core))) t.label.words;
+      };
+    }) (sym c.in-Some.ensures.time)
+    ∙ ap (λ ws. record t {
+      cycles = t.cycles + c.in-Some.armed.time;
+      label = record {
+        core = blot_core
+            (written_regs insn) t.label.core;
+        words = blot ws t.label.words;
+      };
+    }) c.along-went.ensures.written
     ∙ sym c.tell_written.ensures)
 
 pub returns-in-Out-clause-ends : goal.returns-in-Out-clause-ends
@@ -40,8 +57,10 @@ returns-in-Out-clause-ends c = λ _ stub branch steps.
     let S : Point → Step = flow_step m text in
     let on = on_next m.text text c.args.join p.pc c.in-Some.armed.insn next c.in-Some.ensures.met c.in-Some.ensures.goes_on in
     let leads = subst (λ w. LeadsTo w (S (point_at p)) (list_of p.returns) l.core l.words) c.in-Out.is
-    (c.along-went.ensures.way c.args.join next p.returns stub (sym c.is_call_word.ensures ∙ c.if-is_call_word.false) c.in-Some.ensures.met on) in
-    walk_leaves S m text branch c.args.join steps (point_at p) c.args.tally.now next c.is_lost-lost.result c.note_if.new.least c.requires.before c.in-Some.ensures.goes_on leads.0 leads.1
+    (c.along-went.ensures.way c.args.join next p.returns stub (sym c.is_call_word.ensures
+    ∙ c.if-is_call_word.false) c.in-Some.ensures.met on) in
+    walk_leaves S m text branch c.args.join steps
+    (point_at p) c.args.tally.now next c.is_lost-lost.result c.note_if.new.least c.requires.before c.in-Some.ensures.goes_on leads.0 leads.1
     c.is_lost-lost.ensures c.note_if.ensures
 
 pub returns-in-Cause-clause-ends : goal.returns-in-Cause-clause-ends
@@ -54,5 +73,7 @@ returns-in-Cause-clause-ends c = λ _ stub branch steps.
     let S : Point → Step = flow_step m text in
     let on = on_next m.text text c.args.join p.pc c.in-Some.armed.insn next c.in-Some.ensures.met c.in-Some.ensures.goes_on in
     let leads = subst (λ w. LeadsTo w (S (point_at p)) (list_of p.returns) l.core l.words) c.in-Cause.is
-    (c.along-went.ensures.way c.args.join next p.returns stub (sym c.is_call_word.ensures ∙ c.if-is_call_word.false) c.in-Some.ensures.met on) in
-    walk_stops S m text branch c.args.join steps (point_at p) c.args.tally.now next c.note-in-Cause.new.least c.requires.before c.in-Some.ensures.goes_on leads c.note-in-Cause.ensures
+    (c.along-went.ensures.way c.args.join next p.returns stub (sym c.is_call_word.ensures
+    ∙ c.if-is_call_word.false) c.in-Some.ensures.met on) in
+    walk_stops S m text branch c.args.join steps
+    (point_at p) c.args.tally.now next c.note-in-Cause.new.least c.requires.before c.in-Some.ensures.goes_on leads c.note-in-Cause.ensures
