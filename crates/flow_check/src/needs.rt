@@ -1,22 +1,23 @@
 //! Which values of a branch's label its arms need, so that one walk serves as many labels as can be. This saves time
 //! alone: what it says is tried by a walk before anything rests on it.
 
-ghost use Rattle.std.specs.Prelude.{◌≤◌, IfSome};
+ghost use Rattle.flow_check.specs.Tables.{IsTable};
 
+use crate::along::{Way, along};
 use crate::arms::{Crossing, first_arm, second_arm};
 use crate::effect::{one_reads_carry, one_sets_flags, reads_carry, sets_flags};
-use crate::reach::{reaches, reads_destination, writes_destination};
+use crate::reach::{
+    extension, increment, lower, place, reads_destination, second, writes_destination,
+};
+use crate::registers::{Core, get};
 use crate::returns::Returns;
-use crate::step::Stepped;
-use crate::stub::step_base;
+use crate::table::{Entry, arm_at};
 use crate::text::word_number;
 use crate::value::join;
 use crate::walk::Place;
-use arm_balance::met_arm;
-use flow_rule::{Label, Reach, Val};
-use insn_decode::{Insn, OneOp, Operand};
+use flow_rule::{Label, Val};
+use insn_decode::{Insn, OneOp, Operand, TwoOp};
 use mod_layout::Module;
-use pc_access::Kind;
 use sm_words::Width;
 
 /// How many values a label has: its registers and then its words.
@@ -61,21 +62,18 @@ impl Origins {
     }
 }
 
-/// Along an arm: of which values of the branch's label each value is made, which of them have to be Known, and which
-/// may not be Secret.
+/// Along an arm: of which values of the branch's label each value is made, and what the arm needs of them.
 #[derive(Drop)]
 struct Sources {
     of: [Origins; 272],
-    known: Origins,
-    open: Origins,
+    needs: Needs,
 }
 
-/// Where an instruction's accesses end.
+/// Which values of a branch's label its arms need as they are, and which may not be Secret.
 #[derive(Clone, Copy)]
-enum Way {
-    On(Place),
-    Out,
-    Cause,
+pub struct Needs {
+    known: Origins,
+    open: Origins,
 }
 
 /// The register that an operand's address is made of.
@@ -92,23 +90,47 @@ fn base(operand: Operand) -> Option<u8> {
     }
 }
 
-/// The number of the value at an access's address, where it is one of the label's words.
-fn word_of(module: &Module, reach: Option<&Reach>) -> Option<usize> {
-    match reach {
-        Some(
-            Reach {
-                addr: Val::Known(addr),
-                ..
-            },
-        ) => {
-            if module.ram.holds(usize::from(*addr)) {
-                Some(REGISTERS + word_number(module, *addr))
+/// The number of the value at an address, where it is one of the label's words.
+fn word_of(module: &Module, addr: Option<Val>) -> Option<usize> {
+    match addr {
+        Some(Val::Known(addr)) => {
+            if module.ram.holds(usize::from(addr)) {
+                Some(REGISTERS + word_number(module, addr))
             } else {
                 None
             }
         }
         _ => None,
     }
+}
+
+/// The number of the value in an operand with this address.
+fn value_of(module: &Module, operand: Operand, addr: Option<Val>) -> Option<usize> {
+    match operand {
+        Operand::Reg(reg) => Some(usize::from(reg)),
+        _ => word_of(module, addr),
+    }
+}
+
+/// The destination's address, once the source's increment is done.
+fn destination(width: Width, src: Operand, dst: Operand, pc: u16, core: &Core) -> Option<Val> {
+    let ext = second(extension(pc), src);
+    match src {
+        Operand::Increment(_) => {
+            let mut after = *core;
+            increment(width, src, &mut after);
+            place(dst, &after, ext)
+        }
+        _ => place(dst, core, ext),
+    }
+}
+
+/// The address of a word that is pushed.
+fn pushed(width: Width, arg: Operand, core: &Core) -> Option<Val> {
+    let mut after = *core;
+    increment(width, arg, &mut after);
+    lower(&mut after);
+    Some(get(&after, STACK))
 }
 
 impl Sources {
@@ -137,16 +159,7 @@ impl Sources {
     /// An operand's address has to be Known.
     fn need(&mut self, operand: Operand) {
         if let Some(reg) = base(operand) {
-            self.known = self.known.with(self.get(usize::from(reg)));
-        }
-    }
-
-    /// The number of the value in an operand.
-    fn place(&self, module: &Module, operand: Operand, reach: Option<&Reach>) -> Option<usize> {
-        match operand {
-            Operand::Reg(reg) => Some(usize::from(reg)),
-            Operand::Const(_) | Operand::Imm(_) => None,
-            _ => word_of(module, reach),
+            self.needs.known = self.needs.known.with(self.get(usize::from(reg)));
         }
     }
 
@@ -179,46 +192,67 @@ impl Sources {
         }
     }
 
+    /// What an instruction of format I makes of what.
+    fn follow_two(
+        &mut self,
+        module: &Module,
+        op: TwoOp,
+        width: Width,
+        src: Operand,
+        dst: Operand,
+        pc: u16,
+        core: &Core,
+    ) {
+        self.need(src);
+        self.need(dst);
+        let source = self.at(value_of(module, src, place(src, core, extension(pc))));
+        let into = value_of(module, dst, destination(width, src, dst, pc, core));
+        let mut made = source.with(self.carry(reads_carry(op)));
+        if reads_destination(op) {
+            made = made.with(self.at(into));
+        }
+        if sets_flags(op) {
+            self.set(usize::from(FLAGS), made);
+        }
+        if writes_destination(op) {
+            self.write(into, width, made);
+        }
+    }
+
+    /// What an instruction of format II makes of what.
+    fn follow_one(
+        &mut self,
+        module: &Module,
+        op: OneOp,
+        width: Width,
+        arg: Operand,
+        pc: u16,
+        core: &Core,
+    ) {
+        self.need(arg);
+        let from = value_of(module, arg, place(arg, core, extension(pc)));
+        let made = self.at(from).with(self.carry(one_reads_carry(op)));
+        if one_sets_flags(op) {
+            self.set(usize::from(FLAGS), made);
+        }
+        if op == OneOp::Push {
+            self.needs.known = self.needs.known.with(self.get(usize::from(STACK)));
+            self.write(word_of(module, pushed(width, arg, core)), width, made);
+        } else {
+            self.write(from, width, made);
+        }
+    }
+
     /// What an instruction makes of what.
-    fn follow(&mut self, module: &Module, insn: &Insn, reaches: &[Reach]) {
+    fn follow(&mut self, module: &Module, insn: &Insn, pc: u16, core: &Core) {
         match *insn {
             Insn::Two {
                 op,
                 width,
                 src,
                 dst,
-            } => {
-                self.need(src);
-                self.need(dst);
-                let source = self.at(self.place(module, src, reaches.first()));
-                let into = self.place(module, dst, reaches.last());
-                let old = if reads_destination(op) {
-                    self.at(into)
-                } else {
-                    Origins::NONE
-                };
-                let made = source.with(old).with(self.carry(reads_carry(op)));
-                if sets_flags(op) {
-                    self.set(usize::from(FLAGS), made);
-                }
-                if writes_destination(op) {
-                    self.write(into, width, made);
-                }
-            }
-            Insn::One { op, width, arg } => {
-                self.need(arg);
-                let from = self.place(module, arg, reaches.first());
-                let made = self.at(from).with(self.carry(one_reads_carry(op)));
-                if one_sets_flags(op) {
-                    self.set(usize::from(FLAGS), made);
-                }
-                if op == OneOp::Push {
-                    self.known = self.known.with(self.get(usize::from(STACK)));
-                    self.write(word_of(module, reaches.last()), width, made);
-                } else {
-                    self.write(from, width, made);
-                }
-            }
+            } => self.follow_two(module, op, width, src, dst, pc, core),
+            Insn::One { op, width, arg } => self.follow_one(module, op, width, arg, pc, core),
             Insn::Jump { .. } | Insn::Reti | Insn::Unit(_) => {}
         }
     }
@@ -226,48 +260,28 @@ impl Sources {
     /// Where an arm leaves the text, no register may be Secret.
     fn leave(&mut self) {
         for value in 0..REGISTERS {
-            self.open = self.open.with(self.get(value));
+            self.needs.open = self.needs.open.with(self.get(value));
         }
     }
 
-    /// Follows the instruction at a place.
+    /// Follows the instruction at `pc`.
     fn step(
         &mut self,
         module: &Module,
         text: &[u8],
+        table: &[Entry],
         entries: Option<u16>,
         join: u16,
-        place: &Place,
+        pc: u16,
+        label: &mut Label,
     ) -> Way
-        requires { IfSome entries (λ n. n ≤ 64) }
+        requires { IsTable module.now text.now table.now }
     {
-        let Some((insn, _)) = met_arm(module.text, text, place.pc, join) else {
+        let Some(armed) = arm_at(module, text, table, pc, join) else {
             return Way::Cause;
         };
-        let mut place = *place;
-        let reaches = reaches(&insn, place.pc, &place.label.core);
-        self.follow(module, &insn, reaches.as_slice());
-        let mut stepped = Stepped::new(&place.returns);
-        step_base(
-            module,
-            text,
-            entries,
-            place.pc,
-            &mut place.label,
-            &mut stepped,
-        );
-        if stepped.least.is_some() {
-            return Way::Cause;
-        }
-        match stepped.targets.first() {
-            Some(to) => {
-                place.pc = *to;
-                place.label.core[0] = Val::Known(*to);
-                place.returns = stepped.returns;
-                Way::On(place)
-            }
-            None => Way::Out,
-        }
+        self.follow(module, &armed.insn, pc, &label.core);
+        along(module, text, entries, &armed.insn, pc, label).way
     }
 
     /// Follows an arm, and tells whether it has no cause.
@@ -275,20 +289,22 @@ impl Sources {
         &mut self,
         module: &Module,
         text: &[u8],
+        table: &[Entry],
         entries: Option<u16>,
         join: u16,
         from: &Place,
     ) -> bool
-        requires { IfSome entries (λ n. n ≤ 64) }
+        requires { IsTable module.now text.now table.now }
     {
         self.begin();
-        let mut place = *from;
+        let mut pc = from.pc;
+        let mut label = from.label;
         for _ in 0..=u32::from(join) {
-            if place.pc == join {
+            if pc == join {
                 return true;
             }
-            match self.step(module, text, entries, join, &place) {
-                Way::On(next) => place = next,
+            match self.step(module, text, table, entries, join, pc, &mut label) {
+                Way::On(next) => pc = next,
                 Way::Out => {
                     self.leave();
                     return true;
@@ -297,6 +313,22 @@ impl Sources {
             }
         }
         false
+    }
+}
+
+impl Needs {
+    /// Nothing is needed.
+    pub const NONE: Needs = Needs {
+        known: Origins::NONE,
+        open: Origins::NONE,
+    };
+
+    /// What either needs.
+    pub fn with(self, other: Needs) -> Needs {
+        Needs {
+            known: self.known.with(other.known),
+            open: self.open.with(other.open),
+        }
     }
 
     /// A value of a label with as little in it as is needed.
@@ -309,18 +341,31 @@ impl Sources {
             Val::Secret
         }
     }
+
+    /// A label that absorbs this one and has as little in it as is needed.
+    pub fn least(&self, label: &Label) -> Label {
+        let mut top = *label;
+        for n in 0..16 {
+            top.core[n] = self.lower(n, label.core[n]);
+        }
+        for n in 0..256 {
+            top.words[n] = self.lower(REGISTERS + n, label.words[n]);
+        }
+        top
+    }
 }
 
-/// A label that absorbs this one and has as little in it as a branch's arms need, if they have no cause.
+/// What the arms of a branch need under a label, if they have no cause.
 pub fn needed(
     module: &Module,
     text: &[u8],
+    table: &[Entry],
     entries: Option<u16>,
     crossing: &Crossing,
     pc: u16,
     label: &Label,
-) -> Option<Label>
-    requires { IfSome entries (λ n. n ≤ 64) }
+) -> Option<Needs>
+    requires { IsTable module.now text.now table.now }
 {
     let Crossing { insn, target, arm } = *crossing;
     let returns = Returns::new();
@@ -328,41 +373,13 @@ pub fn needed(
     let second = second_arm(&insn, target, pc, label, &returns);
     let mut sources = Sources {
         of: [Origins::NONE; 272],
-        known: Origins::NONE,
-        open: Origins::NONE,
+        needs: Needs::NONE,
     };
-    if !sources.arm(module, text, entries, arm.join, &first)
-        || !sources.arm(module, text, entries, arm.join, &second)
+    if sources.arm(module, text, table, entries, arm.join, &first)
+        && sources.arm(module, text, table, entries, arm.join, &second)
     {
-        return None;
+        Some(sources.needs)
+    } else {
+        None
     }
-    let mut top = *label;
-    for n in 0..16 {
-        top.core[n] = sources.lower(n, label.core[n]);
-    }
-    for n in 0..256 {
-        top.words[n] = sources.lower(REGISTERS + n, label.words[n]);
-    }
-    Some(top)
-}
-
-/// A value with as little in it as another has.
-fn as_little(near: Val, value: Val) -> Val {
-    match near {
-        Val::Known(_) => value,
-        Val::Away | Val::Public => join(value, Val::Public),
-        Val::Secret => Val::Secret,
-    }
-}
-
-/// A label that absorbs this one and is Secret where another is.
-pub fn like(near: &Label, label: &Label) -> Label {
-    let mut top = *label;
-    for n in 0..16 {
-        top.core[n] = as_little(near.core[n], label.core[n]);
-    }
-    for n in 0..256 {
-        top.words[n] = as_little(near.words[n], label.words[n]);
-    }
-    top
 }

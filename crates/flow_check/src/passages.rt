@@ -10,7 +10,7 @@ ghost use Rattle.flow_check.specs.declared.passages.Outcome.{Outcome};
 ghost use Rattle.flow_check.specs.Tables.{IsTable};
 
 use crate::arms::{Crossing, walk_arms};
-use crate::needs::{like, needed};
+use crate::needs::{Needs, needed};
 use crate::returns::Returns;
 use crate::rounds::join_label;
 use crate::step::Cause;
@@ -47,6 +47,19 @@ pub struct Passage {
     pub crossing: Crossing,
     pub label: Label,
     pub answer: Answer,
+    /// Whether the label has no more in it than the arms need.
+    pub tight: bool,
+}
+
+/// Under which label the next walk of a branch is tried first.
+#[derive(Clone, Copy)]
+enum Start {
+    /// One that has what the branch's arms needed under any label so far.
+    Guess,
+    /// One that has what they need under this label.
+    Tight,
+    /// This label.
+    Whole,
 }
 
 /// The passages that were walked.
@@ -55,6 +68,8 @@ pub struct Passages {
     list: Vec<Passage>,
     /// Where the newest passage of the branches with this number is.
     newest: [usize; 256],
+    /// What the arms of the branches with this number needed, under any label.
+    wanted: [Needs; 256],
 }
 
 /// A label in which nothing is written.
@@ -76,6 +91,7 @@ fn walked(
     crossing: &Crossing,
     pc: u16,
     label: &Label,
+    tight: bool,
 ) -> Passage
     requires few { IfSome entries (λ n. n ≤ 64) }
     requires table { IsTable module.now text.now table.now }
@@ -107,6 +123,7 @@ fn walked(
         } else {
             Answer::Shut
         },
+        tight,
     }
 }
 
@@ -179,7 +196,7 @@ fn crossed(
         (crossing_step module.now text.now crossing.now (branch_from pc returns label.old)).reasons ≢ [] }
 {
     arms_rest();
-    match walked(module, text, table, entries, crossing, pc, label).answer {
+    match walked(module, text, table, entries, crossing, pc, label, true).answer {
         Answer::Open(told) => {
             overlay_label(label, &told);
             Outcome::Open
@@ -249,15 +266,14 @@ fn is_open(passage: &Passage) -> bool {
     }
 }
 
-/// Walks the arms of a branch under a label that absorbs this one and has as little as the arms need: as much as they
-/// needed before, or what a look at them tells; and under this label where it has a cause.
-fn learned(
+/// Walks the arms of a branch under a label that has what they need, and else under this label. Says what they need.
+fn tightened(
     module: &Module,
     text: &[u8],
     table: &[Entry],
     entries: Option<u16>,
     crossing: &Crossing,
-    near: Option<Passage>,
+    wanted: &mut Needs,
     pc: u16,
     label: &Label,
 ) -> Passage
@@ -265,22 +281,50 @@ fn learned(
     requires table { IsTable module.now text.now table.now }
     ensures { IsStub module.now text.now entries → IsPassage module.now text.now result }
 {
-    if let Some(near) = near
-        && is_open(&near)
-    {
-        let top = like(&near.label, label);
-        let passage = walked(module, text, table, entries, crossing, pc, &top);
+    if let Some(needs) = needed(module, text, table, entries, crossing, pc, label) {
+        *wanted = wanted.with(needs);
+        let top = needs.least(label);
+        let passage = walked(module, text, table, entries, crossing, pc, &top, true);
         if is_open(&passage) {
             return passage;
         }
     }
-    if let Some(top) = needed(module, text, entries, crossing, pc, label) {
-        let passage = walked(module, text, table, entries, crossing, pc, &top);
-        if is_open(&passage) {
-            return passage;
+    walked(module, text, table, entries, crossing, pc, label, true)
+}
+
+/// Walks the arms of a branch under a label that absorbs this one and has as little in it as they are thought to need,
+/// and under this label where that has a cause.
+fn learned(
+    module: &Module,
+    text: &[u8],
+    table: &[Entry],
+    entries: Option<u16>,
+    crossing: &Crossing,
+    start: Start,
+    wanted: &mut Needs,
+    pc: u16,
+    label: &Label,
+) -> Passage
+    requires few { IfSome entries (λ n. n ≤ 64) }
+    requires table { IsTable module.now text.now table.now }
+    ensures { IsStub module.now text.now entries → IsPassage module.now text.now result }
+{
+    match start {
+        Start::Tight => tightened(module, text, table, entries, crossing, wanted, pc, label),
+        Start::Whole => walked(module, text, table, entries, crossing, pc, label, false),
+        Start::Guess => {
+            let top = wanted.least(label);
+            let passage = walked(module, text, table, entries, crossing, pc, &top, false);
+            if is_open(&passage) {
+                return passage;
+            }
+            let passage = walked(module, text, table, entries, crossing, pc, label, false);
+            if is_open(&passage) {
+                return tightened(module, text, table, entries, crossing, wanted, pc, label);
+            }
+            passage
         }
     }
-    walked(module, text, table, entries, crossing, pc, label)
 }
 
 impl Passages {
@@ -291,6 +335,7 @@ impl Passages {
         Passages {
             list: Vec::new(alloc),
             newest: [0; 256],
+            wanted: [Needs::NONE; 256],
         }
     }
 
@@ -388,14 +433,40 @@ impl Passages {
         }
     }
 
-    /// Keeps a passage in a pair's own place, and tells the place.
-    fn keep(&mut self, own: Option<usize>, passage: Passage) -> Result<usize, AllocError>
+    /// Under which label a branch's next walk is tried first: one that turned out to know too much gives way to one that
+    /// knows as much as is needed, and that to the label itself. Where the branch had a cause, it is likely to have one
+    /// again.
+    fn start(&self, own: Option<usize>, crossing: &Crossing, pc: u16) -> Start {
+        let is_own = own.is_some();
+        let place = match own {
+            Some(place) => place,
+            None => self.newest_of(pc),
+        };
+        match self.at(place, crossing, pc) {
+            Some(passage) => match passage.answer {
+                Answer::Shut => Start::Whole,
+                Answer::Open(_) if !is_own => Start::Guess,
+                Answer::Open(_) if passage.tight => Start::Whole,
+                Answer::Open(_) => Start::Tight,
+            },
+            None => Start::Guess,
+        }
+    }
+
+    /// Keeps a passage in a pair's own place with what its branch needs, and tells the place.
+    fn keep(
+        &mut self,
+        own: Option<usize>,
+        passage: Passage,
+        wanted: Needs,
+    ) -> Result<usize, AllocError>
         ensures passages { IfOk result (λ _. (m : Module) (text : List ℕ) → IsPassage m text passage →
             All (IsPassage m text) self.old.list.items → All (IsPassage m text) self.new.list.items) }
     {
         let place = self.place_for(own);
         put(&mut self.list, place, passage)?;
         self.newest[number(passage.branch)] = place;
+        self.wanted[number(passage.branch)] = wanted;
         Ok(place)
     }
 
@@ -427,9 +498,20 @@ impl Passages {
         if let Some(outcome) = self.known(*own, crossing, pc, label) {
             return Ok(outcome);
         }
-        let near = self.at(self.newest_of(pc), crossing, pc);
-        let passage = learned(module, text, table, entries, crossing, near, pc, label);
-        let place = self.keep(*own, passage)?;
+        let start = self.start(*own, crossing, pc);
+        let mut wanted = self.wanted[number(pc)];
+        let passage = learned(
+            module,
+            text,
+            table,
+            entries,
+            crossing,
+            start,
+            &mut wanted,
+            pc,
+            label,
+        );
+        let place = self.keep(*own, passage, wanted)?;
         *own = Some(place);
         if let Some(outcome) = self.answer(place, crossing, pc, label) {
             return Ok(outcome);
