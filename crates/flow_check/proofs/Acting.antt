@@ -13,6 +13,7 @@ use Rattle.insn_decode.specs.declared.insn.Operand.{Operand}
 use Rattle.insn_decode.specs.declared.insn.Operand.TheVariants.{Reg, Const, Imm, Increment}
 use Rattle.insn_decode.specs.declared.insn.Insn.{Insn}
 use Rattle.insn_decode.specs.declared.insn.Insn.TheVariants.{Two, One, Jump, Reti, Unit as UnitOp}
+use Rattle.pc_access.specs.declared.Kind.{Kind}
 use Rattle.pc_access.specs.declared.Kind.TheVariants.{Read, Write}
 use Rattle.cpu_step.specs.Plan.{reads_dst, writes_dst}
 use Rattle.mod_layout.specs.declared.Module.{Module}
@@ -222,6 +223,59 @@ module _ (m : Module) (text : List ℕ) (insn : Insn) (op : TwoOp) (w : Width) (
         written_words m (write_reaches (plan_val insn pc l.core)) ≡ words_at m o
     two_written o e = ap (λ xs. written_words m (write_reaches xs)) two_plan
         ∙ ap (written_words m) (two_writes f t reads writes w) ∙ e
+
+-- into a register
+no_reach : (b : Bool) (k : Kind) (w : Width) → reach_if b k w None ≡ []
+no_reach true k w = refl
+no_reach false k w = refl
+
+and_trues : (a : Bool) → ((a && true) && true) ≡ a
+and_trues true = refl
+and_trues false = refl
+
+module _ (m : Module) (text : List ℕ) (insn : Insn) (op : TwoOp) (w : Width) (s : Operand) (r pc : ℕ) (l : Label)
+    (is : insn ≡ Two op w s (Reg r)) (c1 c2 : List Val) (ext : ℕ) (f : Option Val) (src ca : Val)
+    (e1 : c1 ≡ past_val insn pc l.core) (ex : ext ≡ add16 pc 2) (ef : f ≡ place_val s c1 ext)
+    (es : src ≡ taken_by f m text true s w (record { core = c1; words = l.words }))
+    (e2 : c2 ≡ stepped_val w s c1) (ec : ca ≡ carry_val l.core)
+  where
+    abbrev into_old : Val
+    into_old = narrow w (val c2 r)
+
+    abbrev into_told : Told
+    into_told = two_val op w src into_old ca
+
+    abbrev into_done : Done_val
+    into_done = written_val (writes_dst op) (Reg r) into_told c2
+
+    pub into_core_is : (c3 : List Val) → c3 ≡ (cleared_if (clears_flags op w (Reg r) src) into_done).core →
+        c3 ≡ (done_by m text insn pc l).core
+    into_core_is c3 e =
+        two_core_is m text insn op w s (Reg r) pc l is (reads_dst op) (writes_dst op) c1 c2 ext (add16 ext
+        (2 * words_of s)) f None src into_old ca into_told refl refl e1 ex ef es e2 refl refl refl ec refl
+        into_done.core c3 (clears_flags op w (Reg r) src) refl refl e
+
+    pub into_words_are : l.words ≡ words_by m text insn pc l
+    into_words_are =
+        two_words_are m text insn op w s (Reg r) pc l is (reads_dst op) (writes_dst op) c1 c2 ext (add16 ext
+        (2 * words_of s)) f None src into_old ca into_told refl refl e1 ex ef es e2 refl refl refl ec refl
+        into_done.stored l.words refl
+        (sym (ap (λ xs. writes_val m l.words xs into_done.stored) (no_reach (writes_dst op) Write w)))
+
+    pub into_clear : (a : Bool) → a ≡ is_clear (reach_reasons m pc (reach_if true Read w f)) →
+        a ≡ is_clear (reach_reasons m pc (plan_val insn pc l.core))
+    into_clear a e = sym (and_trues a) ∙
+        two_clear m text insn op w s (Reg r) pc l is (reads_dst op) (writes_dst op) c1 c2 ext (add16 ext
+        (2 * words_of s)) f None src into_old ca into_told refl refl e1 ex ef es e2 refl refl refl ec refl
+        a true true (a && true) ((a && true) && true) e
+        (sym (ap (λ xs. is_clear (reach_reasons m pc xs)) (no_reach (reads_dst op) Read w)))
+        (sym (ap (λ xs. is_clear (reach_reasons m pc xs)) (no_reach (writes_dst op) Write w))) refl refl
+
+    pub into_written : written_words m (write_reaches (plan_val insn pc l.core)) ≡ words_at m None
+    into_written =
+        two_written m text insn op w s (Reg r) pc l is (reads_dst op) (writes_dst op) c1 c2 ext (add16 ext
+        (2 * words_of s)) f None src into_old ca into_told refl refl e1 ex ef es e2 refl refl refl ec refl
+        None (ap (written_words m) (no_reach (writes_dst op) Write w))
 
 -- ---- format II
 module _ (m : Module) (text : List ℕ) (op : OneOp) (w : Width) (arg : Operand) (pc : ℕ) (l : Label) where

@@ -20,7 +20,9 @@ ghost use Rattle.flow_check.specs.Pairs.{IsStub, list_of, point_of};
 ghost use Rattle.flow_check.specs.Along.{is_clear, taken_by, one_place, one_width, done_by, words_by, words_at};
 ghost use Rattle.flow_check.specs.Along.{way_in, in_open, is_call_word, LeadsTo};
 
-use crate::effect::{carry_of, clear_if, clears_flags, does, finish, finish_one, given, two};
+use crate::effect::{
+    carry_of, clear_if, clears_flags, does, finish, finish_one, given, into_register, two,
+};
 use crate::reach::{
     extension, increment, lower, place, reads_destination, second, step_past, writes_destination,
 };
@@ -192,6 +194,39 @@ fn act_two(
     }
 }
 
+/// An instruction of format I into a register.
+#[inline(always)]
+fn act_into(
+    module: &Module,
+    text: &[u8],
+    insn: &Insn,
+    op: TwoOp,
+    width: Width,
+    src: Operand,
+    reg: u8,
+    pc: u16,
+    label: &mut Label,
+) -> Acted
+    requires { insn.now ≡ Insn.Two op width src (Operand.Reg reg) }
+    ensures core { label.new.core ≡ (done_by module.now text.now insn.now pc label.old).core }
+    ensures words { label.new.words ≡ words_by module.now text.now insn.now pc label.old }
+    ensures fine { result.fine ≡ is_clear (reach_reasons module.now pc (plan_val insn.now pc label.old.core)) }
+    ensures written { written_words module.now (write_reaches (plan_val insn.now pc label.old.core))
+        ≡ words_at module.now result.written }
+{
+    let carry = carry_of(&label.core);
+    step_past(insn, pc, &mut label.core);
+    let from = place(src, &label.core, extension(pc));
+    let source = taken(module, text, label, true, src, width, from);
+    increment(width, src, &mut label.core);
+    into_register(op, width, reg, source, carry, &mut label.core);
+    let fine = may(module, true, Kind::Read, width, from);
+    Acted {
+        fine,
+        written: None,
+    }
+}
+
 /// What SP becomes where a word is pushed.
 fn lowered(core: &Core) -> Val
     ensures { result ≡ val (lowered_val core.now) 1 }
@@ -270,6 +305,7 @@ fn act_none(insn: &Insn, pc: u16, core: &mut Core) -> Acted
 }
 
 /// An instruction, but for where it goes on; a jump is taken.
+#[inline(always)]
 fn act(module: &Module, text: &[u8], insn: &Insn, pc: u16, label: &mut Label) -> Acted
     ensures core { label.new.core ≡ (done_by module.now text.now insn.now pc label.old).core }
     ensures words { label.new.words ≡ words_by module.now text.now insn.now pc label.old }
@@ -283,7 +319,10 @@ fn act(module: &Module, text: &[u8], insn: &Insn, pc: u16, label: &mut Label) ->
             width,
             src,
             dst,
-        } => act_two(module, text, insn, op, width, src, dst, pc, label),
+        } => match dst {
+            Operand::Reg(reg) => act_into(module, text, insn, op, width, src, reg, pc, label),
+            _ => act_two(module, text, insn, op, width, src, dst, pc, label),
+        },
         Insn::One { op, width, arg } => act_one(module, text, insn, op, width, arg, pc, label),
         Insn::Jump { cond, offset } => {
             let _ = cond;
@@ -309,6 +348,7 @@ fn way_out(core: &Core) -> Way
 }
 
 /// To an address of the text.
+#[inline(always)]
 fn way_in(module: &Module, free: bool, to: u16) -> Way
     ensures { result ≡ way_in module.now free to }
 {
@@ -320,6 +360,7 @@ fn way_in(module: &Module, free: bool, to: u16) -> Way
 }
 
 /// Where an instruction goes on that left these registers; `free` if a stub's shut words are open to it.
+#[inline(always)]
 fn way_from(module: &Module, free: bool, core: &Core) -> Way
     ensures { (pc : ℕ) (returns : List ℕ) (words : List Val) →
         LeadsTo result (shut_if free module.now pc (goes module.now pc returns core.now words)) returns core.now words }
@@ -339,6 +380,7 @@ fn way_from(module: &Module, free: bool, core: &Core) -> Way
 
 /// Where an instruction goes on whose accesses are so, and which left these registers.
 #[tactic(auto, using(crate::proofs::Acting::leads_fine, crate::proofs::Acting::leads_not))]
+#[inline(always)]
 fn way_of(module: &Module, free: bool, fine: bool, core: &Core) -> Way
     ensures { (pc : ℕ) (reasons : List Found) (returns : List ℕ) (words : List Val) → fine ≡ is_clear reasons →
         LeadsTo result (shut_if free module.now pc
@@ -352,6 +394,7 @@ fn way_of(module: &Module, free: bool, fine: bool, core: &Core) -> Way
 }
 
 /// Whether a stub's shut words, if there is a stub, are open to the instruction at `pc`.
+#[inline(always)]
 fn in_open(module: &Module, entries: Option<u16>, pc: u16) -> bool
     ensures { result ≡ in_open entries module.now pc }
 {
@@ -362,6 +405,7 @@ fn in_open(module: &Module, entries: Option<u16>, pc: u16) -> bool
 }
 
 /// Whether this is the call of a stub.
+#[inline(always)]
 pub fn is_call_word(module: &Module, entries: Option<u16>, pc: u16) -> bool
     ensures { result ≡ is_call_word entries module.now pc }
 {
@@ -372,6 +416,7 @@ pub fn is_call_word(module: &Module, entries: Option<u16>, pc: u16) -> bool
 }
 
 /// The instruction of an arm at `pc`, which is not a stub's call.
+#[inline(always)]
 pub fn along(
     module: &Module,
     text: &[u8],

@@ -16,6 +16,7 @@ use mod_layout::Module;
 use pc_access::Kind;
 
 /// The register that an operand's increment changes.
+#[inline(always)]
 fn blot_step(operand: Operand, core: &mut Core)
     ensures { core.new ≡ blot_core (stepped_regs operand) core.old }
 {
@@ -25,6 +26,7 @@ fn blot_step(operand: Operand, core: &mut Core)
 }
 
 /// The register that is written, if one is.
+#[inline(always)]
 fn blot_written(written: bool, operand: Operand, core: &mut Core)
     ensures { core.new ≡ blot_core (written_reg written operand) core.old }
 {
@@ -35,6 +37,7 @@ fn blot_written(written: bool, operand: Operand, core: &mut Core)
 
 /// The registers that an instruction writes.
 #[tactic(auto, using(crate::proofs::Blots::core_append))]
+#[inline(always)]
 pub fn blot_registers(insn: &Insn, core: &mut Core)
     ensures { core.new ≡ blot_core (written_regs insn.now) core.old }
 {
@@ -52,6 +55,7 @@ pub fn blot_registers(insn: &Insn, core: &mut Core)
 }
 
 /// What an instruction of format II writes: PUSH lowers SP.
+#[inline(always)]
 fn blot_operand(op: OneOp, arg: Operand, core: &mut Core)
     ensures { core.new ≡ blot_core (one_regs op arg) core.old }
 {
@@ -84,6 +88,7 @@ pub fn blot_words(module: &Module, reaches: &[Reach], words: &mut [Val; 256])
 }
 
 /// The word at this address.
+#[inline(always)]
 pub fn blot_at(module: &Module, written: Option<Val>, words: &mut [Val; 256])
     ensures { words.new ≡ blot (words_at module.now written) words.old }
 {

@@ -71,6 +71,7 @@ pub fn table_of(alloc: Global, module: &Module, text: &[u8]) -> Result<Vec<Entry
 }
 
 /// A place of the table.
+#[inline(always)]
 fn place(table: &[Entry], k: usize) -> Option<Entry>
     ensures { result ≡ slice_get table.now k }
 {
@@ -79,6 +80,7 @@ fn place(table: &[Entry], k: usize) -> Option<Entry>
 
 /// What is met at an address: from the table, where it is there.
 #[tactic(auto, using(crate::proofs::Entries::entry_there))]
+#[inline(always)]
 fn entry_at(module: &Module, text: &[u8], table: &[Entry], pc: u16) -> Entry
     requires { IsTable module.now text.now table.now }
     ensures { result ≡ entry_by module.now text.now pc }
@@ -94,6 +96,7 @@ fn entry_at(module: &Module, text: &[u8], table: &[Entry], pc: u16) -> Entry
 
 /// The instruction of an arm at `pc`.
 #[tactic(auto, using(crate::proofs::Entries::timed, arm_balance::proofs::Times::on_at, arm_balance::proofs::Times::on_far, arm_balance::proofs::Times::on_stop, arm_balance::proofs::Times::on_unmet))]
+#[inline(always)]
 pub fn arm_at(module: &Module, text: &[u8], table: &[Entry], pc: u16, join: u16) -> Option<Armed>
     requires { IsTable module.now text.now table.now }
     ensures met { IfSome result (λ a. met module.now.text text.now pc ≡ Some a.insn) }

@@ -60,6 +60,7 @@ fn tell(module: &Module, insn: &Insn, reaches: &[Reach], time: u8, tally: &mut T
 }
 
 /// Tells what an instruction takes and writes, which wrote this address.
+#[inline(always)]
 fn tell_written(module: &Module, insn: &Insn, written: Option<Val>, time: u8, tally: &mut Tally)
     requires { tally.old.cycles + time < 4294967296 }
     ensures { tally.new ≡ record tally.old {
@@ -148,6 +149,7 @@ fn walk_by_step(
 }
 
 /// Does the arm's instruction at this place, and tells whether the arm goes on.
+#[inline(always)]
 fn walk_on(
     module: &Module,
     text: &[u8],
