@@ -3,7 +3,7 @@ use Rattle.std.proofs.Common.{◌≡◌, ℕ, ◌*◌, List, [], ◌∷◌, ◌+
 use Rattle.std.specs.Prelude.{ℤ}
 use Rattle.sm_words.specs.Words.{add16, nth}
 use Rattle.sm_words.specs.declared.width.Width.{Width}
-use Rattle.sm_words.specs.declared.width.Width.TheVariants.{Word}
+use Rattle.sm_words.specs.declared.width.Width.TheVariants.{Word, Byte}
 use Rattle.insn_decode.specs.Code.{words_of}
 use Rattle.insn_decode.specs.declared.insn.TwoOp.{TwoOp}
 use Rattle.insn_decode.specs.declared.insn.TwoOp.TheVariants.{Mov}
@@ -29,7 +29,7 @@ use Rattle.flow_rule.specs.declared.Told.{Told}
 use Rattle.flow_rule.specs.declared.Reason.TheVariants.{SecretBranch}
 use Rattle.flow_rule.specs.Values.{is_secret, val, narrow}
 use Rattle.flow_rule.specs.Rounds.{Point, Found, Step}
-use Rattle.flow_rule.specs.Does.{place_val, past_val, stepped_val, lowered_val, reach_if, one_reach, plan_val, read_val, read_reaches, write_reaches, writes_val, given_val, after_val, two_val, written_val, clears_flags, cleared_core, cleared_if, carry_val, one_done_val, does_val, Done_val}
+use Rattle.flow_rule.specs.Does.{place_val, past_val, stepped_val, lowered_val, reach_if, one_reach, plan_val, read_val, read_reaches, write_reaches, writes_val, given_val, after_val, two_val, written_val, clears_flags, cleared_core, cleared_if, reads_carry, read_if, carry_val, one_done_val, does_val, Done_val}
 use Rattle.flow_rule.specs.Reasons.{because_if, reach_reasons, reach_reasons_by}
 use Rattle.flow_rule.specs.Going.{goes, both, also}
 use Rattle.flow_rule.specs.Returns.{Turn, turn_of, but_last, last_is}
@@ -225,6 +225,12 @@ module _ (m : Module) (text : List ℕ) (insn : Insn) (op : TwoOp) (w : Width) (
         ∙ ap (written_words m) (two_writes f t reads writes w) ∙ e
 
 -- into a register
+carry_read : (op : TwoOp) (w : Width) (s d c : Val) →
+    two_val op w s d (read_if (reads_carry op) c) ≡ two_val op w s d c
+carry_read Mov Word s d c = refl
+carry_read Mov Byte s d c = refl
+carry_read _ w s d c = refl
+
 no_reach : (b : Bool) (k : Kind) (w : Width) → reach_if b k w None ≡ []
 no_reach true k w = refl
 no_reach false k w = refl
@@ -234,31 +240,36 @@ and_trues true = refl
 and_trues false = refl
 
 module _ (m : Module) (text : List ℕ) (insn : Insn) (op : TwoOp) (w : Width) (s : Operand) (r pc : ℕ) (l : Label)
-    (is : insn ≡ Two op w s (Reg r)) (c1 c2 : List Val) (ext : ℕ) (f : Option Val) (src ca : Val)
+    (is : insn ≡ Two op w s (Reg r)) (c1 c2 : List Val) (ext : ℕ) (f : Option Val) (src : Val)
     (e1 : c1 ≡ past_val insn pc l.core) (ex : ext ≡ add16 pc 2) (ef : f ≡ place_val s c1 ext)
     (es : src ≡ taken_by f m text true s w (record { core = c1; words = l.words }))
-    (e2 : c2 ≡ stepped_val w s c1) (ec : ca ≡ carry_val l.core)
+    (e2 : c2 ≡ stepped_val w s c1)
   where
     abbrev into_old : Val
     into_old = narrow w (val c2 r)
 
     abbrev into_told : Told
-    into_told = two_val op w src into_old ca
+    into_told = two_val op w src into_old (carry_val l.core)
 
     abbrev into_done : Done_val
     into_done = written_val (writes_dst op) (Reg r) into_told c2
 
-    pub into_core_is : (c3 : List Val) → c3 ≡ (cleared_if (clears_flags op w (Reg r) src) into_done).core →
-        c3 ≡ (done_by m text insn pc l).core
-    into_core_is c3 e =
+    pub into_core_is : (ca : Val) (c3 : List Val) → ca ≡ read_if (reads_carry op) (carry_val l.core) →
+        c3 ≡ (cleared_if (clears_flags op w (Reg r) src) (written_val (writes_dst op) (Reg r)
+        (two_val op w src into_old ca) c2)).core → c3 ≡ (done_by m text insn pc l).core
+    into_core_is ca c3 ec e1' =
+        let told : two_val op w src into_old ca ≡ into_told = ap (two_val op w src into_old) ec
+        ∙ carry_read op w src into_old (carry_val l.core) in
+        let e : c3 ≡ (cleared_if (clears_flags op w (Reg r) src) into_done).core = e1' ∙ ap (λ t. (cleared_if
+        (clears_flags op w (Reg r) src) (written_val (writes_dst op) (Reg r) t c2)).core) told in
         two_core_is m text insn op w s (Reg r) pc l is (reads_dst op) (writes_dst op) c1 c2 ext (add16 ext
-        (2 * words_of s)) f None src into_old ca into_told refl refl e1 ex ef es e2 refl refl refl ec refl
+        (2 * words_of s)) f None src into_old (carry_val l.core) into_told refl refl e1 ex ef es e2 refl refl refl refl refl
         into_done.core c3 (clears_flags op w (Reg r) src) refl refl e
 
     pub into_words_are : l.words ≡ words_by m text insn pc l
     into_words_are =
         two_words_are m text insn op w s (Reg r) pc l is (reads_dst op) (writes_dst op) c1 c2 ext (add16 ext
-        (2 * words_of s)) f None src into_old ca into_told refl refl e1 ex ef es e2 refl refl refl ec refl
+        (2 * words_of s)) f None src into_old (carry_val l.core) into_told refl refl e1 ex ef es e2 refl refl refl refl refl
         into_done.stored l.words refl
         (sym (ap (λ xs. writes_val m l.words xs into_done.stored) (no_reach (writes_dst op) Write w)))
 
@@ -266,7 +277,7 @@ module _ (m : Module) (text : List ℕ) (insn : Insn) (op : TwoOp) (w : Width) (
         a ≡ is_clear (reach_reasons m pc (plan_val insn pc l.core))
     into_clear a e = sym (and_trues a) ∙
         two_clear m text insn op w s (Reg r) pc l is (reads_dst op) (writes_dst op) c1 c2 ext (add16 ext
-        (2 * words_of s)) f None src into_old ca into_told refl refl e1 ex ef es e2 refl refl refl ec refl
+        (2 * words_of s)) f None src into_old (carry_val l.core) into_told refl refl e1 ex ef es e2 refl refl refl refl refl
         a true true (a && true) ((a && true) && true) e
         (sym (ap (λ xs. is_clear (reach_reasons m pc xs)) (no_reach (reads_dst op) Read w)))
         (sym (ap (λ xs. is_clear (reach_reasons m pc xs)) (no_reach (writes_dst op) Write w))) refl refl
@@ -274,7 +285,7 @@ module _ (m : Module) (text : List ℕ) (insn : Insn) (op : TwoOp) (w : Width) (
     pub into_written : written_words m (write_reaches (plan_val insn pc l.core)) ≡ words_at m None
     into_written =
         two_written m text insn op w s (Reg r) pc l is (reads_dst op) (writes_dst op) c1 c2 ext (add16 ext
-        (2 * words_of s)) f None src into_old ca into_told refl refl e1 ex ef es e2 refl refl refl ec refl
+        (2 * words_of s)) f None src into_old (carry_val l.core) into_told refl refl e1 ex ef es e2 refl refl refl refl refl
         None (ap (written_words m) (no_reach (writes_dst op) Write w))
 
 -- ---- format II

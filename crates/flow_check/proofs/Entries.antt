@@ -1,5 +1,11 @@
 -- The table of a text's instructions.
-use Rattle.std.proofs.Common.{◌≡◌, ℕ, zero, suc, ◌+◌, ◌-◌, ◌*◌, ◌/◌, ◌%◌, ◌<◌, ◌≤◌, List, [], ◌∷◌, ◌++◌, length, refl, sym, ap, ◌∙◌, arith, Some, IsFalse}
+use Rattle.std.proofs.Common.{◌≡◌, ℕ, zero, suc, ◌+◌, ◌-◌, ◌*◌, ◌/◌, ◌%◌, ◌<◌, ◌≤◌, ◌==◌, ◌&&◌, nat_lt, nat_le, Bool, true, false, List, [], ◌∷◌, ◌++◌, length, refl, sym, ap, ◌∙◌, arith, Option, Some, None, IsFalse}
+use Rattle.std.proofs.lemmas.Bool.Decides.{nat_tests}
+use Rattle.sm_words.specs.Words.{add16}
+use Rattle.insn_decode.specs.Code.{distance}
+use Rattle.insn_decode.specs.declared.insn.OneOp.TheVariants.{Call}
+use Rattle.arm_balance.specs.Met.{met}
+use Rattle.arm_balance.specs.Balance.{not_pc, next_if, arm_next}
 use Rattle.std.specs.List.{slice_get}
 use Rattle.insn_decode.specs.Code.{is_unit}
 use Rattle.insn_decode.specs.declared.insn.Insn.{Insn}
@@ -16,6 +22,107 @@ timed (Two op w s d) h = refl
 timed (One op w a) h = refl
 timed (Jump c off) h = refl
 timed Reti h = refl
+
+-- ---- where an arm goes on, from where one with the last address for its join does
+cut_near : (b : Bool) (n k join next : ℕ) → next_if (b && nat_le n k) n ≡ Some next → next ≤ join →
+    next_if (b && nat_le n join) n ≡ Some next
+cut_near false n k join next e le = absurd cc
+cut_near true n k join next e le = by (nat_le n k) e
+  where
+    by : (c : Bool) → next_if c n ≡ Some next → next_if (nat_le n join) n ≡ Some next
+    by false e = absurd cc
+    by true e =
+        let same : n ≡ next = cc in
+        let t : nat_le n join ≡ true = grind (arith, nat_tests) in
+        ap (λ b. next_if b n) t ∙ e
+
+cut_far : (b : Bool) (n k join next : ℕ) → next_if (b && nat_le n k) n ≡ Some next → join < next →
+    next_if (b && nat_le n join) n ≡ None
+cut_far false n k join next e lt = absurd cc
+cut_far true n k join next e lt = by (nat_le n k) e
+  where
+    by : (c : Bool) → next_if c n ≡ Some next → next_if (nat_le n join) n ≡ None
+    by false e = absurd cc
+    by true e =
+        let same : n ≡ next = cc in
+        let t : nat_le n join ≡ false = grind (arith, nat_tests) in
+        ap (λ b. next_if b n) t
+
+cut_none : (b : Bool) (n k join : ℕ) → join ≤ k → next_if (b && nat_le n k) n ≡ None →
+    next_if (b && nat_le n join) n ≡ None
+cut_none false n k join le e = refl
+cut_none true n k join le e = by (nat_le n k) refl e
+  where
+    by : (c : Bool) → nat_le n k ≡ c → next_if c n ≡ None → next_if (nat_le n join) n ≡ None
+    by true h e = absurd cc
+    by false h e =
+        let t : nat_le n join ≡ false = grind (arith, nat_tests) in
+        ap (λ b. next_if b n) t
+
+pub next_near : (o : Option Insn) (pc join next : ℕ) → arm_next 65535 pc o ≡ Some next → next ≤ join →
+    arm_next join pc o ≡ Some next
+next_near None pc join next e le = absurd cc
+next_near (Some (Two op w s d)) pc join next e le = cut_near (not_pc d) _ 65535 join next e le
+next_near (Some (One Call w a)) pc join next e le = absurd cc
+next_near (Some (One _ w a)) pc join next e le = cut_near (not_pc a) _ 65535 join next e le
+next_near (Some (Jump c off)) pc join next e le =
+    let to : ℕ = add16 (add16 pc 2) (distance off) in
+    three ((c == 7)) (nat_lt pc to) to e
+  where
+    three : (a b : Bool) (to : ℕ) → next_if (a && b && nat_le to 65535) to ≡ Some next →
+        next_if (a && b && nat_le to join) to ≡ Some next
+    three true b to e = cut_near b to 65535 join next e le
+    three false b to e = absurd cc
+next_near (Some _) pc join next e le = absurd cc
+
+pub next_far : (o : Option Insn) (pc join next : ℕ) → arm_next 65535 pc o ≡ Some next → join < next →
+    arm_next join pc o ≡ None
+next_far None pc join next e lt = absurd cc
+next_far (Some (Two op w s d)) pc join next e lt = cut_far (not_pc d) _ 65535 join next e lt
+next_far (Some (One Call w a)) pc join next e lt = absurd cc
+next_far (Some (One _ w a)) pc join next e lt = cut_far (not_pc a) _ 65535 join next e lt
+next_far (Some (Jump c off)) pc join next e lt =
+    let to : ℕ = add16 (add16 pc 2) (distance off) in
+    three ((c == 7)) (nat_lt pc to) to e
+  where
+    three : (a b : Bool) (to : ℕ) → next_if (a && b && nat_le to 65535) to ≡ Some next →
+        next_if (a && b && nat_le to join) to ≡ None
+    three true b to e = cut_far b to 65535 join next e lt
+    three false b to e = absurd cc
+next_far (Some _) pc join next e lt = absurd cc
+
+pub next_none : (o : Option Insn) (pc join : ℕ) → join ≤ 65535 → arm_next 65535 pc o ≡ None →
+    arm_next join pc o ≡ None
+next_none None pc join le e = refl
+next_none (Some (Two op w s d)) pc join le e = cut_none (not_pc d) _ 65535 join le e
+next_none (Some (One Call w a)) pc join le e = refl
+next_none (Some (One _ w a)) pc join le e = cut_none (not_pc a) _ 65535 join le e
+next_none (Some (Jump c off)) pc join le e =
+    let to : ℕ = add16 (add16 pc 2) (distance off) in
+    three ((c == 7)) (nat_lt pc to) to e
+  where
+    three : (a b : Bool) (to : ℕ) → next_if (a && b && nat_le to 65535) to ≡ None →
+        next_if (a && b && nat_le to join) to ≡ None
+    three true b to e = cut_none b to 65535 join le e
+    three false b to e = refl
+next_none (Some _) pc join le e = refl
+
+-- of what is met at an address
+pub entry_next : (m : Module) (text : List ℕ) (pc join next : ℕ) (e : Entry) (insn : Insn) (o : Option ℕ) →
+    e ≡ entry_by m text pc → e.met ≡ Some insn →
+    ((p : ℕ) (i : Option Insn) → e.next ≡ arm_next 65535 p i → o ≡ arm_next join p i) → o ≡ Some next →
+    arm_next join pc (Some insn) ≡ Some next
+entry_next m text pc join next e insn o is there cut found =
+    ap (arm_next join pc) (sym there ∙ ap (λ x. x.met) is) ∙ sym (cut pc (met m.text text pc) (ap (λ x. x.next) is))
+    ∙ found
+
+pub entry_stops : (m : Module) (text : List ℕ) (pc join : ℕ) (e : Entry) (insn : Insn) (o : Option ℕ) →
+    e ≡ entry_by m text pc → e.met ≡ Some insn →
+    ((p : ℕ) (i : Option Insn) → e.next ≡ arm_next 65535 p i → o ≡ arm_next join p i) → o ≡ None →
+    arm_next join pc (Some insn) ≡ None
+entry_stops m text pc join e insn o is there cut found =
+    ap (arm_next join pc) (sym there ∙ ap (λ x. x.met) is) ∙ sym (cut pc (met m.text text pc) (ap (λ x. x.next) is))
+    ∙ found
 
 -- ---- the loop that makes it
 pub table_next : (m : Module) (text : List ℕ) (count k : ℕ) (xs ys : List Entry) (e : Entry) → k < count →

@@ -5,6 +5,7 @@ use Rattle.insn_decode.specs.declared.insn.Insn.TheVariants.{Unit as UnitOp}
 use Rattle.cycle_table.specs.Cycles.{cycles_of}
 use Rattle.mod_layout.specs.declared.Module.{Module}
 use Rattle.arm_balance.specs.Met.{met}
+use Rattle.arm_balance.specs.Balance.{arm_next}
 use Rattle.flow_check.specs.declared.table.Entry.{Entry}
 
 -- the cycles of what is met, which only a unit instruction lacks
@@ -15,7 +16,7 @@ time_of (Some insn) = cycles_of insn
 
 -- what is met at an address
 abbrev pub entry_by : Module → List ℕ → ℕ → Entry
-entry_by m text a = let o = met m.text text a in record { met = o; time = time_of o }
+entry_by m text a = let o = met m.text text a in record { met = o; time = time_of o; next = arm_next 65535 a o }
 
 -- what is met at so many places of the text, from this place on
 abbrev pub entries_from : Module → List ℕ → ℕ → ℕ → List Entry

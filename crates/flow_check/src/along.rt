@@ -21,7 +21,8 @@ ghost use Rattle.flow_check.specs.Along.{is_clear, taken_by, one_place, one_widt
 ghost use Rattle.flow_check.specs.Along.{way_in, in_open, is_call_word, LeadsTo};
 
 use crate::effect::{
-    carry_of, clear_if, clears_flags, does, finish, finish_one, given, into_register, two,
+    carry_for, carry_of, clear_if, clears_flags, does, finish, finish_one, given, into_register,
+    two,
 };
 use crate::reach::{
     extension, increment, lower, place, reads_destination, second, step_past, writes_destination,
@@ -214,7 +215,7 @@ fn act_into(
     ensures written { written_words module.now (write_reaches (plan_val insn.now pc label.old.core))
         ≡ words_at module.now result.written }
 {
-    let carry = carry_of(&label.core);
+    let carry = carry_for(op, &label.core);
     step_past(insn, pc, &mut label.core);
     let from = place(src, &label.core, extension(pc));
     let source = taken(module, text, label, true, src, width, from);

@@ -1,11 +1,12 @@
 //! The instructions of a text, each met once for all walks.
 
-ghost use Rattle.std.specs.Prelude.{◌≡◌, ◌+◌, ◌*◌, IfSome, IfOk, Some, None, slice_get};
+ghost use Rattle.std.specs.Prelude.{◌≡◌, ◌+◌, ◌*◌, ℕ, Option, IfSome, IfOk, Some, None, slice_get};
+ghost use Rattle.insn_decode.specs.declared.insn.Insn.{Insn};
 ghost use Rattle.cycle_table.specs.Cycles.{cycles_of};
 ghost use Rattle.insn_decode.specs.Code.{IsDecoded};
 ghost use Rattle.mod_layout.specs.Tables.{IsSection};
 ghost use Rattle.arm_balance.specs.Met.{met};
-ghost use Rattle.arm_balance.specs.Balance.{arm_on};
+ghost use Rattle.arm_balance.specs.Balance.{arm_on, arm_next};
 ghost use Rattle.flow_check.specs.Tables.{time_of, entry_by, IsTable};
 
 use arm_balance::{arm_next, met};
@@ -14,11 +15,16 @@ use insn_decode::Insn;
 use mod_layout::Module;
 use std::alloc::{AllocError, Global};
 
+/// The last address.
+const LAST: u16 = 65535;
+
 /// The instruction at an address, and its cycles; of a unit instruction 0.
 #[derive(Clone, Copy)]
 pub struct Entry {
     pub met: Option<Insn>,
     pub time: u8,
+    /// Where an arm goes on whose join is past that, or none where none may have the instruction.
+    pub next: Option<u16>,
 }
 
 /// An instruction of an arm: where it goes on, and its cycles.
@@ -53,7 +59,11 @@ fn entry_of(module: &Module, text: &[u8], pc: u16) -> Entry
         Some(insn) => time_of(&insn),
         None => 0,
     };
-    Entry { met, time }
+    let next = match met {
+        Some(insn) => arm_next(&insn, pc, LAST),
+        None => None,
+    };
+    Entry { met, time, next }
 }
 
 /// What is met at each even place of the text.
@@ -94,8 +104,20 @@ fn entry_at(module: &Module, text: &[u8], table: &[Entry], pc: u16) -> Entry
     entry_of(module, text, pc)
 }
 
+/// Where an arm goes on, if that is not past its join.
+#[inline(always)]
+#[tactic(auto, using(crate::proofs::Entries::next_near, crate::proofs::Entries::next_far, crate::proofs::Entries::next_none))]
+fn up_to(next: Option<u16>, join: u16) -> Option<u16>
+    ensures { (pc : ℕ) (insn : Option Insn) → next ≡ arm_next 65535 pc insn → result ≡ arm_next join pc insn }
+{
+    match next {
+        Some(to) => { if to <= join { Some(to) } else { None } }
+        None => None,
+    }
+}
+
 /// The instruction of an arm at `pc`.
-#[tactic(auto, using(crate::proofs::Entries::timed, arm_balance::proofs::Times::on_at, arm_balance::proofs::Times::on_far, arm_balance::proofs::Times::on_stop, arm_balance::proofs::Times::on_unmet))]
+#[tactic(auto, using(crate::proofs::Entries::timed, crate::proofs::Entries::entry_next, crate::proofs::Entries::entry_stops, arm_balance::proofs::Times::on_at, arm_balance::proofs::Times::on_far, arm_balance::proofs::Times::on_stop, arm_balance::proofs::Times::on_unmet))]
 #[inline(always)]
 pub fn arm_at(module: &Module, text: &[u8], table: &[Entry], pc: u16, join: u16) -> Option<Armed>
     requires { IsTable module.now text.now table.now }
@@ -109,7 +131,7 @@ pub fn arm_at(module: &Module, text: &[u8], table: &[Entry], pc: u16, join: u16)
     }
     let entry = entry_at(module, text, table, pc);
     match entry.met {
-        Some(insn) => match arm_next(&insn, pc, join) {
+        Some(insn) => match up_to(entry.next, join) {
             Some(next) => Some(Armed {
                 insn,
                 next,
