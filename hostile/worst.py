@@ -92,6 +92,26 @@ def balance_of_places(count):
     return met_often(0x0300, data, arm, 2 + 4 + 2 + 2 + 2 + 2 + count + 2 + 2 + 2 + 1 + 1 + 1, before)
 
 
+def balance_of_wants(count, insn, cycles):
+    """Each list of return addresses wants its own addresses and one of 72 data words, R9's. A first row of calls tells all these words. Then they become
+    less known one a turn, the one that is wanted last first: what is known of the arms by what all lists wanted is of no use any more, and each list
+    wants a look and a walk of its own. R4 is the address of a word that none wants. The first row's calls can be passed by."""
+    text, data, lists = 0x0300, 0xF000, CALLS - 5
+    arm = words(0x4034, data + 0x180, 0x4384, 0) + words(insn) * count + words(0x4126, 0x4627, 0x4926, 0x4627, 0x4306, 0x4307)
+    head = words(0x4031, data + 0x200, 0x4382, data + 0x182) + b"".join(words(0x40B2, data + 0x100, data + 2 * k) for k in range(CALLS))
+    turn = b"".join(words(0x4292, data + 2 * k + 2, data + 2 * k) for k in range(CALLS - 1)) + words(0x53A2, data + 2 * CALLS - 2)
+    head += turn + words(0x2000 | (-len(turn) // 2 - 1) % 1024, 0x4039, data - 2)
+    first = text + len(head) + 14 * CALLS + 4 + 6 * CALLS + 2
+    inner = first + 10
+    branch = inner + 4 + 4 * lists + 2
+    code = head + words(0x5329, 0x9382, data + 0x182, 0x2002, 0x12B0, first, 0x4303) * CALLS + words(0x4039, data - 2)
+    code += words(0x5329, 0x12B0, inner) * CALLS + words(0x3FFF)
+    code += words(0x9382, data + 0x200, 0x12B0, branch, 0x4130)
+    code += words(0x9382, data + 0x200) + words(0x12B0, branch) * lists + words(0x4130, 0x2400) + arm + words(0x4130)
+    module = f"module 0007 {text:04x} {text + len(code):04x} {data:04x} {data + 0x400:04x}\n"
+    return image_with(code, text, module), f"{branch:04x} {branch + 2 + len(arm):04x} {2 + 4 + cycles * count + 8 + 2}\n"
+
+
 def cases(folder):
     """Name, words, and what is special."""
     def file(name, text):
