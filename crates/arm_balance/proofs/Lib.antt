@@ -1,3 +1,2 @@
 pub mod Times
 mod Reading
-mod Loop

@@ -15,6 +15,7 @@ const MAX_LINES: u64 = 256;
 ///
 /// Line by line from 1, a line 257 is `TooMany`, a line of another form is `Line`, and one whose branch is not above
 /// that of the line before is `NotRising`. The first of these is answered, unless memory runs out before.
+#[tactic(auto, unfolding(crate::specs::Certificates::arms_of))]
 pub fn read_arms(alloc: Global, bytes: &[u8]) -> Result<Arms, ArmsFault>
     ensures read { IfOk result (λ arms. spec.arms_of bytes.now ≡ Ok arms.list.items) }
     ensures refused { IfErr result (λ fault. fault ≢ ArmsFault.NoMemory → spec.arms_of bytes.now ≡ Err fault) }

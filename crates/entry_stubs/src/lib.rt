@@ -2,7 +2,6 @@
 #![tactic(auto)]
 
 ghost use Rattle.std.specs.Prelude.{◌≡◌, ◌+◌, ◌*◌, ◌≤◌, ◌%◌, ◌++◌, length, List, []};
-ghost use Rattle.arrayvec.specs.ArrayVec.{array_vec_len};
 ghost use Rattle.entry_stubs.specs.Stub.{stub_front, stub_words};
 
 use arrayvec::ArrayVec;
@@ -68,16 +67,6 @@ pub fn front(text: Section, data_start: u16, count: u16, stack_end: u16) -> [u16
     ]
 }
 
-fn push_all(words: &mut ArrayVec<u16, MOST_WORDS>, more: &[u16])
-    requires { array_vec_len words.old + length more.now ≤ 102 }
-    ensures items { words.new.items ≡ words.old.items ++ more.now }
-    ensures len { array_vec_len words.new ≡ array_vec_len words.old + length more.now }
-{
-    for word in more {
-        words.push(*word);
-    }
-}
-
 /// The words of the stub of a module whose text is this section, whose data start there, and whose
 /// entries stand at these addresses. The private stack has `stack` bytes, from the data's third word
 /// on. R6 chooses the entry, R7 is the return address, and R12 the result, which is 0 for an unknown
@@ -100,7 +89,8 @@ pub fn stub(
     let mut words = ArrayVec::new();
     let stack_end = data_start + 4 + stack;
     let front = front(text, data_start, entries.len() as u16, stack_end);
-    push_all(&mut words, &front);
-    push_all(&mut words, entries);
+    // Both fit: 38 words, and at most 64 entries.
+    let _front_fits = words.try_extend_from_slice(&front);
+    let _table_fits = words.try_extend_from_slice(entries);
     words
 }

@@ -1,6 +1,7 @@
 -- Passes over a list whose elements are found by their places.
 use Rattle.std.proofs.Common.{◌≡◌, ℕ, suc, ◌+◌, ◌<◌, ◌≤◌, List, ◌∷◌, drop, length, get_or, Option, Some, None, Bool, true, false, ◌||◌, eqb, ◌≢◌, set, length-set, refl, ap, sym, subst, ◌∙◌, arith, fold}
 use Rattle.std.specs.Prelude.{slice_get, All}
+use Rattle.std.proofs.Math.Bool.{or-true}
 use Rattle.std.proofs.Math.Seq.{drop-cons}
 use Rattle.std.proofs.Math.ListN.{drop_of_length-le}
 use Rattle.std.proofs.lemmas.Grind.{get_or-set_at}
@@ -39,10 +40,6 @@ first_hit f xs i x a found hit = ap (first_in f) (drop_found xs i x found) ∙ r
 abbrev pub Marks : List Bool → List Relocation → ℕ → Type 0
 Marks used relocations place = (k : ℕ) → k < length used → is_used relocations k ≡ (get_or used k false || is_used (drop place relocations) k)
 
-or_true : (a : Bool) → (a || true) ≡ true
-or_true true = refl
-or_true false = refl
-
 -- whether the first of the rest uses it, or the others do
 rest_of : (rs : List Relocation) (place : ℕ) (r : Relocation) (k : ℕ) → slice_get rs place ≡ Some r → is_used (drop place rs) k ≡ (eqb r.symbol k || is_used (drop (place + 1) rs) k)
 rest_of rs place r k found = ap (λ l. is_used l k) (drop_found rs place r found)
@@ -52,7 +49,7 @@ mark_by : (used : List Bool) (rs : List Relocation) (place : ℕ) (r : Relocatio
     → is_used rs k ≡ (get_or (set used r.symbol true) k false || is_used (drop (place + 1) rs) k)
 mark_by used rs place r k true same found lt marks =
     let here : k ≡ r.symbol = grind (arith, nat_tests) in
-    marks ∙ (or_true (get_or used k false) ∙ sym (ap (λ b. b || is_used (drop (place + 1) rs) k) (get_or-set_at used r.symbol k true false here lt)))
+    marks ∙ (or-true (get_or used k false) ∙ sym (ap (λ b. b || is_used (drop (place + 1) rs) k) (get_or-set_at used r.symbol k true false here lt)))
 mark_by used rs place r k false other found lt marks =
     let there : k ≢ r.symbol = grind (arith, nat_tests) in
     marks ∙ sym (ap (λ b. b || is_used (drop (place + 1) rs) k) (get_or-set_other used r.symbol k true false there))

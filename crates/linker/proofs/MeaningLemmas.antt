@@ -43,12 +43,6 @@ length_at f i (x ∷ xs) = ap suc (length_at f (i + 1) xs)
 
 -- ---- one object of all
 
-within : {V A : Type 0} (g : V → A) (vs : List V) (i : ℕ) (x : A) (rest : List A) → map g (drop i vs) ≡ x ∷ rest → i < length vs
-within g [] zero x rest e = cc
-within g [] (suc i) x rest e = cc
-within g (v ∷ vs) zero x rest e = omega arith
-within g (v ∷ vs) (suc i) x rest e = let r = within g vs i x rest e in omega (arith, r)
-
 first_is : {V A : Type 0} (g : V → A) (vs : List V) (i : ℕ) (x : A) (rest : List A) (d : V) → map g (drop i vs) ≡ x ∷ rest → (g (get_or vs i d) ≡ x) × (map g (drop (i + 1) vs) ≡ rest)
 first_is g [] zero x rest d e = cc
 first_is g [] (suc i) x rest d e = cc

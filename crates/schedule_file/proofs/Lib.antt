@@ -1,3 +1,2 @@
-mod ReadingLemmas
-mod Loop
+mod Order
 mod EntryLemmas

@@ -15,6 +15,7 @@ const MAX_LINES: u64 = 65_536;
 ///
 /// Line by line from 1, a line 65,537 is `TooMany`, a line of no form is `Line`, and one whose cycle is below that of
 /// the line before is `NotRising`. The first of these is answered, unless memory runs out before.
+#[tactic(auto, unfolding(crate::specs::Reading::schedule_of), using(crate::proofs::Order::never_fall))]
 pub fn read_schedule(alloc: Global, bytes: &[u8]) -> Result<Schedule, ScheduleFault>
     ensures read { IfOk result (λ schedule. schedule_of bytes.now ≡ Ok schedule.entries.items) }
     ensures refused { IfErr result (λ fault. fault ≢ ScheduleFault.NoMemory → schedule_of bytes.now ≡ Err fault) }

@@ -45,12 +45,6 @@ at_piece f pieces i d done text h e = ap (λ (l : List ℕ). done ++ l) (sym (at
 pub past_piece : {X : Type 0} (f : X → List ℕ) (pieces : List X) (i : ℕ) (d : X) (done text : List ℕ) → i < length pieces → done ++ flat_map f (drop i pieces) ≡ text → (done ++ f (get_or pieces i d)) ++ flat_map f (drop (i + 1) pieces) ≡ text
 past_piece f pieces i d done text h e = append_assoc done (f (get_or pieces i d)) (flat_map f (drop (i + 1) pieces)) ∙ at_piece f pieces i d done text h e
 
-pub at_item : {X : Type 0} (f : X → ℕ) (items : List X) (i : ℕ) (d : X) (done text : List ℕ) → i < length items → done ++ map f (drop i items) ≡ text → done ++ (f (get_or items i d) ∷ map f (drop (i + 1) items)) ≡ text
-at_item f items i d done text h e = ap (λ (l : List ℕ). done ++ l) (sym (at_drop_more (map f) items i d h)) ∙ e
-
-pub past_item : {X : Type 0} (f : X → ℕ) (items : List X) (i : ℕ) (d : X) (done text : List ℕ) → i < length items → done ++ map f (drop i items) ≡ text → (done ++ f (get_or items i d) ∷ []) ++ map f (drop (i + 1) items) ≡ text
-past_item f items i d done text h e = append_assoc done (f (get_or items i d) ∷ []) (map f (drop (i + 1) items)) ∙ at_item f items i d done text h e
-
 -- the rest of a text after a front of it was taken
 pub taken_more : (done rest bytes next : List ℕ) (n : ℕ) → done ++ rest ≡ bytes → next ≡ drop n rest → (done ++ take n rest) ++ next ≡ bytes
 taken_more done rest bytes next n whole is = append_assoc done (take n rest) next ∙ ap (λ (l : List ℕ). done ++ l) (ap (λ (l : List ℕ). take n rest ++ l) is ∙ take-append-drop n rest) ∙ whole

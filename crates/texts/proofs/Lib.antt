@@ -3,3 +3,4 @@ pub mod HexLemmas
 pub mod LineLemmas
 pub mod LawLemmas
 pub mod WordLemmas
+pub mod RowLemmas

@@ -2,4 +2,5 @@ pub mod Decimals
 pub mod Hexadecimals
 pub mod Lines
 pub mod Words
+pub mod Rows
 pub mod Laws

@@ -15,7 +15,8 @@ use Rattle.schedule_file.specs.declared.What.TheVariants.{Serial}
 use Rattle.schedule_file.specs.Entries.{IsEntry}
 use Rattle.schedule_file.specs.Laws.{EntriesAreRead}
 use Rattle.schedule_file.specs.Line.{entry_of, entry_text}
-use Rattle.schedule_file.specs.Reading.{after_entries, entries_from, schedule_of}
+use Rattle.texts.specs.Rows.{after_rows, rows_from}
+use Rattle.schedule_file.specs.Reading.{entry_rows, schedule_of}
 use Rattle.vendor_tool.specs.declared.Challenge.{Challenge}
 use Rattle.vendor_tool.specs.Challenges.{last_cycle, nonce_cycles, byte_step, IsChallenge, AreChallenges, AreApart}
 use Rattle.vendor_tool.proofs.Plain.{byte_plain, each, no_feed}
@@ -75,18 +76,18 @@ lines_are low es r = ap (λ ls. ls ++ last_line (unended (entries_text es))) (en
         ∙ unended-before (entry_text e) (entries_text es) r.0.clean
         ∙ behind e.cycle es r.1
 
-entries_are : EntriesAreRead → (n low : ℕ) (es : List Entry) → n + length es ≤ 65537 → Rise low es → entries_from n low (map entry_text es) ≡ Ok es
+entries_are : EntriesAreRead → (n low : ℕ) (es : List Entry) → n + length es ≤ 65537 → Rise low es → rows_from entry_rows n low (map entry_text es) ≡ Ok es
 entries_are law n low [] few r = refl
 entries_are law n low (e ∷ es) few r =
     let rises = r.0.rises in
     let not_last : nat_eq n 65537 ≡ false = grind (arith, nat_tests) in
     let is : entry_of (entry_text e) ≡ Some e = (law (entry_text e) e).1 (r.0.entry, refl) in
     let not_below : nat_lt e.cycle low ≡ false = grind (arith, nat_tests) in
-    rw (not_last, is, not_below) (ap (after_entries (e ∷ [])) (entries_are law (n + 1) e.cycle es (omega arith) r.1))
+    rw (not_last, is, not_below) (ap (after_rows (e ∷ [])) (entries_are law (n + 1) e.cycle es (omega arith) r.1))
 
 pub schedule_is : EntriesAreRead → (es : List Entry) → length es ≤ 65536 → Rise 0 es → schedule_of (entries_text es) ≡ Ok es
 unfolding schedule_of
-schedule_is law es few r = ap (entries_from 1 0) (lines_are 0 es r) ∙ entries_are law 1 0 es (omega arith) r
+schedule_is law es few r = ap (rows_from entry_rows 1 0) (lines_are 0 es r) ∙ entries_are law 1 0 es (omega arith) r
 
 -- ---- the entries of challenges
 

@@ -1,7 +1,6 @@
 pub mod Plain
 pub mod LineLemmas
 pub mod ChallengeLines
-pub mod Loop
 pub mod EntryLines
 pub mod Sending
 pub mod Forms

@@ -13,6 +13,7 @@ use texts::{first_space, next_line, read_decimal, read_hex_key};
 /// CYCLE is a decimal of at most 17 digits, NONCE 32 lower-case hexadecimal digits. Line by line from 1, a line 4,097
 /// is `TooMany`, a line of another form is `Line`, and one whose cycle is below that of the line before plus 1,600 is
 /// `NotRising`. The first of these is answered, unless memory runs out before.
+#[tactic(auto, unfolding(crate::specs::ChallengeText::challenges_of))]
 pub fn read_challenges(alloc: Global, bytes: &[u8]) -> Result<Challenges, ChallengeFault>
     ensures read { IfOk result (λ challenges. spec.challenges_of bytes.now ≡ Ok challenges.list.items) }
     ensures refused { IfErr result (λ fault. fault ≢ ChallengeFault.NoMemory
