@@ -18,19 +18,19 @@ struct Call {
     value: u16,
 }
 
-fn read(addr: u16, value: u16) -> Call {
+fn get(addr: u16, value: u16) -> Call {
     made(Kind::Read, addr, Width::Word, value)
 }
 
-fn write(addr: u16, value: u16) -> Call {
+fn put(addr: u16, value: u16) -> Call {
     made(Kind::Write, addr, Width::Word, value)
 }
 
-fn read_byte(addr: u16, value: u16) -> Call {
+fn get_byte(addr: u16, value: u16) -> Call {
     made(Kind::Read, addr, Width::Byte, value)
 }
 
-fn write_byte(addr: u16, value: u16) -> Call {
+fn put_byte(addr: u16, value: u16) -> Call {
     made(Kind::Write, addr, Width::Byte, value)
 }
 
@@ -188,81 +188,69 @@ fn assert_left(
     }
 }
 
-// Row by row: the code, SR, R5 and R6 before, and PC, SR, R5 and R6 after, with the cycles.
+/// What stands in memory, but where a test says otherwise.
+const WORDS: [(u16, u16); 2] = [(0x0300, 0x89ab), (0x0302, 0x1234)];
+
+/// How far SP moves by a word that is pushed.
+const DOWN: u16 = 0xfffe;
+
+/// So far from 0x0300, where registers stand before.
+fn from_base(far: u16) -> u16 {
+    far.wrapping_add(0x0300)
+}
+
+// Row by row: the code, SR, R5 and R6 before, and SR, R5 and R6 after one cycle.
 #[test]
 fn registers(rt: HostRuntime) {
     let rows = [
         // SUB #1 from 8000 sets C and V; ADD #1 to 7fff N and V; DADD #1 to 9999 Z and C.
-        (0x8315, [0, 0x8000, 0], [0x0202, 0x0101, 0x7fff, 0], 1),
-        (0x5315, [0, 0x7fff, 0], [0x0202, 0x0104, 0x8000, 0], 1),
-        (0xa315, [0, 0x9999, 0], [0x0202, 0x0003, 0x0000, 0], 1),
+        (0x8315, [0, 0x8000, 0], [0x0101, 0x7fff, 0]),
+        (0x5315, [0, 0x7fff, 0], [0x0104, 0x8000, 0]),
+        (0xa315, [0, 0x9999, 0], [0x0003, 0x0000, 0]),
         // With C: ADDC, SUBC and DADD.
-        (0x6506, [1, 0xffff, 0], [0x0202, 0x0003, 0xffff, 0], 1),
-        (0x7506, [0, 4, 5], [0x0202, 0x0003, 4, 0], 1),
-        (0xa315, [1, 0x9998, 0], [0x0202, 0x0003, 0x0000, 0], 1),
+        (0x6506, [1, 0xffff, 0], [0x0003, 0xffff, 0]),
+        (0x7506, [0, 4, 5], [0x0003, 4, 0]),
+        (0xa315, [1, 0x9998, 0], [0x0003, 0x0000, 0]),
         // CMP sets flags alone; XOR of two negative words sets V; AND clears it.
-        (0x9506, [0, 5, 5], [0x0202, 0x0003, 5, 5], 1),
-        (
-            0xe506,
-            [0, 0xffff, 0x8000],
-            [0x0202, 0x0101, 0xffff, 0x7fff],
-            1,
-        ),
-        (
-            0xf506,
-            [0x0101, 0x00ff, 0xff00],
-            [0x0202, 0x0002, 0x00ff, 0],
-            1,
-        ),
+        (0x9506, [0, 5, 5], [0x0003, 5, 5]),
+        (0xe506, [0, 0xffff, 0x8000], [0x0101, 0xffff, 0x7fff]),
+        (0xf506, [0x0101, 0x00ff, 0xff00], [0x0002, 0x00ff, 0]),
         // MOV, ADD, SUB, DADD, RRA and RRC of bytes clear the upper byte.
-        (
-            0x4546,
-            [7, 0x12ab, 0xffff],
-            [0x0202, 0x0007, 0x12ab, 0x00ab],
-            1,
-        ),
-        (
-            0x5546,
-            [0, 0x12f0, 0x3420],
-            [0x0202, 0x0001, 0x12f0, 0x0010],
-            1,
-        ),
-        (
-            0x8546,
-            [0, 0xff01, 0xff80],
-            [0x0202, 0x0101, 0xff01, 0x007f],
-            1,
-        ),
-        (
-            0xa546,
-            [0, 0x1299, 0x3401],
-            [0x0202, 0x0003, 0x1299, 0x0000],
-            1,
-        ),
-        (0x1145, [0, 0x12ff, 0], [0x0202, 0x0005, 0x00ff, 0], 1),
-        (0x1045, [0x0100, 0x1201, 0], [0x0202, 0x0003, 0x0000, 0], 1),
+        (0x4546, [7, 0x12ab, 0xffff], [0x0007, 0x12ab, 0x00ab]),
+        (0x5546, [0, 0x12f0, 0x3420], [0x0001, 0x12f0, 0x0010]),
+        (0x8546, [0, 0xff01, 0xff80], [0x0101, 0xff01, 0x007f]),
+        (0xa546, [0, 0x1299, 0x3401], [0x0003, 0x1299, 0x0000]),
+        (0x1145, [0, 0x12ff, 0], [0x0005, 0x00ff, 0]),
+        (0x1045, [0x0100, 0x1201, 0], [0x0003, 0x0000, 0]),
         // SWPB and SXT.
-        (0x1085, [0x0107, 0x12ab, 0], [0x0202, 0x0107, 0xab12, 0], 1),
-        (0x1185, [0x0100, 0x1280, 0], [0x0202, 0x0005, 0xff80, 0], 1),
+        (0x1085, [0x0107, 0x12ab, 0], [0x0107, 0xab12, 0]),
+        (0x1185, [0x0100, 0x1280, 0], [0x0005, 0xff80, 0]),
         // BIC.B #1, SR and RRA SR: the result wins, and no flags are set.
-        (0xc352, [0x0109, 0, 0], [0x0202, 0x0008, 0, 0], 1),
-        (0x1102, [0x0103, 0, 0], [0x0202, 0x0081, 0, 0], 1),
-        // MOV PC, R5 gives the next address; MOV R5, PC goes to an even one.
-        (0x4005, [0, 0, 0], [0x0202, 0, 0x0202, 0], 1),
-        (0x4500, [0, 0x0457, 0], [0x0456, 0, 0x0457, 0], 2),
+        (0xc352, [0x0109, 0, 0], [0x0008, 0, 0]),
+        (0x1102, [0x0103, 0, 0], [0x0081, 0, 0]),
+        // MOV PC, R5 gives the next address.
+        (0x4005, [0, 0, 0], [0, 0x0202, 0]),
         // MOV of the constants 0, 1, 2, -1, 4 and 8.
-        (0x4305, [0, 9, 0], [0x0202, 0, 0, 0], 1),
-        (0x4315, [0, 9, 0], [0x0202, 0, 1, 0], 1),
-        (0x4325, [0, 9, 0], [0x0202, 0, 2, 0], 1),
-        (0x4335, [0, 9, 0], [0x0202, 0, 0xffff, 0], 1),
-        (0x4225, [0, 9, 0], [0x0202, 0, 4, 0], 1),
-        (0x4235, [0, 9, 0], [0x0202, 0, 8, 0], 1),
+        (0x4305, [0, 9, 0], [0, 0, 0]),
+        (0x4315, [0, 9, 0], [0, 1, 0]),
+        (0x4325, [0, 9, 0], [0, 2, 0]),
+        (0x4335, [0, 9, 0], [0, 0xffff, 0]),
+        (0x4225, [0, 9, 0], [0, 4, 0]),
+        (0x4235, [0, 9, 0], [0, 8, 0]),
     ];
-    for (code, [sr, r5, r6], [pc, new_sr, new_r5, new_r6], cycles) in rows {
-        let after = [pc, 0x0300, new_sr, 0, new_r5, new_r6];
+    for (code, [sr, r5, r6], [new_sr, new_r5, new_r6]) in rows {
+        let after = [0x0202, 0x0300, new_sr, 0, new_r5, new_r6];
         let before = [0x0300, sr, 0, r5, r6];
-        assert_left(&rt, [code, 0, 0], [(0, 0); 2], before, after, &[], cycles);
+        assert_left(&rt, [code, 0, 0], [(0, 0); 2], before, after, &[], 1);
     }
+}
+
+// MOV R5, PC goes to an even address.
+#[test]
+fn moves_to_pc(rt: HostRuntime) {
+    let before = [0x0300, 0, 0, 0x0457, 0];
+    let after = [0x0456, 0x0300, 0, 0, 0x0457, 0];
+    assert_left(&rt, [0x4500, 0, 0], [(0, 0); 2], before, after, &[], 2);
 }
 
 #[test]
@@ -304,419 +292,218 @@ fn inside(rt: HostRuntime) {
     }
 }
 
-// R4 is 0x0300 before, R5 is 0xffff; each gives R5.
+// R4 is 0x0300 before, R5 is 0xffff; each gives R5. Row by row: the code, PC, how far SP and R4 move, R5, the call and
+// the cycles.
 #[test]
 fn reads(rt: HostRuntime) {
     let rows = [
         // 2(R4), -2(R4), 2(SP), symbolic, absolute, @R4, @R4+, @SP+.
+        ([0x4415, 2], [0x0204, 0, 0, 0x1234], get(0x0302, 0x1234), 3),
+        ([0x4415, 0xfffe], [0x0204, 0, 0, 0], get(0x02fe, 0), 3),
+        ([0x4115, 2], [0x0204, 0, 0, 0x1234], get(0x0302, 0x1234), 3),
         (
-            [0x4415, 0x0002, 0],
-            [0x0204, 0x0300, 0x0300, 0x1234],
-            read(0x0302, 0x1234),
+            [0x4015, 0x100],
+            [0x204, 0, 0, 0x1234],
+            get(0x302, 0x1234),
             3,
         ),
         (
-            [0x4415, 0xfffe, 0],
-            [0x0204, 0x0300, 0x0300, 0],
-            read(0x02fe, 0),
+            [0x4215, 0x302],
+            [0x204, 0, 0, 0x1234],
+            get(0x302, 0x1234),
             3,
         ),
-        (
-            [0x4115, 0x0002, 0],
-            [0x0204, 0x0300, 0x0300, 0x1234],
-            read(0x0302, 0x1234),
-            3,
-        ),
-        (
-            [0x4015, 0x0100, 0],
-            [0x0204, 0x0300, 0x0300, 0x1234],
-            read(0x0302, 0x1234),
-            3,
-        ),
-        (
-            [0x4215, 0x0302, 0],
-            [0x0204, 0x0300, 0x0300, 0x1234],
-            read(0x0302, 0x1234),
-            3,
-        ),
-        (
-            [0x4425, 0, 0],
-            [0x0202, 0x0300, 0x0300, 0x89ab],
-            read(0x0300, 0x89ab),
-            2,
-        ),
-        (
-            [0x4435, 0, 0],
-            [0x0202, 0x0300, 0x0302, 0x89ab],
-            read(0x0300, 0x89ab),
-            2,
-        ),
-        (
-            [0x4135, 0, 0],
-            [0x0202, 0x0302, 0x0300, 0x89ab],
-            read(0x0300, 0x89ab),
-            2,
-        ),
+        ([0x4425, 0], [0x0202, 0, 0, 0x89ab], get(0x0300, 0x89ab), 2),
+        ([0x4435, 0], [0x0202, 0, 2, 0x89ab], get(0x0300, 0x89ab), 2),
+        ([0x4135, 0], [0x0202, 2, 0, 0x89ab], get(0x0300, 0x89ab), 2),
         // Bytes: 1(R4), @R4+ by 1, @SP+ by 2.
-        (
-            [0x4455, 0x0001, 0],
-            [0x0204, 0x0300, 0x0300, 0x0089],
-            read_byte(0x0301, 0x89),
-            3,
-        ),
-        (
-            [0x4475, 0, 0],
-            [0x0202, 0x0300, 0x0301, 0x00ab],
-            read_byte(0x0300, 0xab),
-            2,
-        ),
-        (
-            [0x4175, 0, 0],
-            [0x0202, 0x0302, 0x0300, 0x00ab],
-            read_byte(0x0300, 0xab),
-            2,
-        ),
+        ([0x4455, 1], [0x0204, 0, 0, 0x89], get_byte(0x0301, 0x89), 3),
+        ([0x4475, 0], [0x0202, 0, 1, 0xab], get_byte(0x0300, 0xab), 2),
+        ([0x4175, 0], [0x0202, 2, 0, 0xab], get_byte(0x0300, 0xab), 2),
         // CMP @R4, R5 writes nothing: ffff less 89ab is 7654, with no borrow.
-        (
-            [0x9425, 0, 0],
-            [0x0202, 0x0300, 0x0300, 0xffff],
-            read(0x0300, 0x89ab),
-            2,
-        ),
+        ([0x9425, 0], [0x0202, 0, 0, 0xffff], get(0x0300, 0x89ab), 2),
         // CMP R5, 2(R4) neither: 1234 less ffff is 1235, with a borrow.
-        (
-            [0x9584, 0x0002, 0],
-            [0x0204, 0x0300, 0x0300, 0xffff],
-            read(0x0302, 0x1234),
-            4,
-        ),
+        ([0x9584, 2], [0x0204, 0, 0, 0xffff], get(0x0302, 0x1234), 4),
     ];
-    let words = [(0x0300, 0x89ab), (0x0302, 0x1234)];
-    for (code, [pc, sp, r4, r5], call, cycles) in rows {
+    for ([code, next], [pc, sp, r4, r5], call, cycles) in rows {
         // Only CMP sets flags: C.
-        let sr = if code[0] == 0x9425 { 1 } else { 0 };
+        let sr = if code == 0x9425 { 1 } else { 0 };
         let before = [0x0300, 0, 0x0300, 0xffff, 0];
-        let after = [pc, sp, sr, r4, r5, 0];
-        assert_left(&rt, code, words, before, after, &[call], cycles);
+        let after = [pc, from_base(sp), sr, from_base(r4), r5, 0];
+        assert_left(&rt, [code, next, 0], WORDS, before, after, &[call], cycles);
     }
 }
 
-// R4 is 0x5678 and R5 0x0310, before and after. MOV, PUSH and CALL keep the flags.
+// R4 is 0x5678 and R5 0x0310, before and after. MOV, PUSH and CALL keep the flags. Row by row: the code, PC and SP, the
+// call and the cycles.
 #[test]
 fn writes(rt: HostRuntime) {
     let rows = [
         // MOV R4 to 2(R5), 4(SP), symbolic, absolute; a byte to 3(R5).
-        (
-            [0x4485, 0x0002, 0],
-            [0x0204, 0x0300],
-            write(0x0312, 0x5678),
-            4,
-        ),
-        (
-            [0x4481, 0x0004, 0],
-            [0x0204, 0x0300],
-            write(0x0304, 0x5678),
-            4,
-        ),
-        (
-            [0x4480, 0x0100, 0],
-            [0x0204, 0x0300],
-            write(0x0302, 0x5678),
-            4,
-        ),
-        (
-            [0x4482, 0x0304, 0],
-            [0x0204, 0x0300],
-            write(0x0304, 0x5678),
-            4,
-        ),
-        (
-            [0x44c5, 0x0003, 0],
-            [0x0204, 0x0300],
-            write_byte(0x0313, 0x78),
-            4,
-        ),
-        // MOV PC, &0x0400 stores the next address; MOV #0x1234, &0x0400.
-        (
-            [0x4082, 0x0400, 0],
-            [0x0204, 0x0300],
-            write(0x0400, 0x0204),
-            4,
-        ),
-        (
-            [0x40b2, 0x1234, 0x0400],
-            [0x0206, 0x0300],
-            write(0x0400, 0x1234),
-            5,
-        ),
+        ([0x4485, 2], [0x0204, 0x0300], put(0x0312, 0x5678), 4),
+        ([0x4481, 4], [0x0204, 0x0300], put(0x0304, 0x5678), 4),
+        ([0x4480, 0x0100], [0x0204, 0x0300], put(0x0302, 0x5678), 4),
+        ([0x4482, 0x0304], [0x0204, 0x0300], put(0x0304, 0x5678), 4),
+        ([0x44c5, 3], [0x0204, 0x0300], put_byte(0x0313, 0x78), 4),
+        // MOV PC, &0x0400 stores the next address.
+        ([0x4082, 0x0400], [0x0204, 0x0300], put(0x0400, 0x0204), 4),
         // PUSH of R4, its byte, SP, #0x1234 and the constant 4.
-        ([0x1204, 0, 0], [0x0202, 0x02fe], write(0x02fe, 0x5678), 3),
-        (
-            [0x1244, 0, 0],
-            [0x0202, 0x02fe],
-            write_byte(0x02fe, 0x78),
-            3,
-        ),
-        ([0x1201, 0, 0], [0x0202, 0x02fe], write(0x02fe, 0x0300), 3),
-        (
-            [0x1230, 0x1234, 0],
-            [0x0204, 0x02fe],
-            write(0x02fe, 0x1234),
-            4,
-        ),
-        ([0x1222, 0, 0], [0x0202, 0x02fe], write(0x02fe, 0x0004), 3),
+        ([0x1204, 0], [0x0202, 0x02fe], put(0x02fe, 0x5678), 3),
+        ([0x1244, 0], [0x0202, 0x02fe], put_byte(0x02fe, 0x78), 3),
+        ([0x1201, 0], [0x0202, 0x02fe], put(0x02fe, 0x0300), 3),
+        ([0x1230, 0x1234], [0x0204, 0x02fe], put(0x02fe, 0x1234), 4),
+        ([0x1222, 0], [0x0202, 0x02fe], put(0x02fe, 0x0004), 3),
         // CALL #0x0456 and CALL R5.
-        (
-            [0x12b0, 0x0456, 0],
-            [0x0456, 0x02fe],
-            write(0x02fe, 0x0204),
-            5,
-        ),
-        ([0x1285, 0, 0], [0x0310, 0x02fe], write(0x02fe, 0x0202), 4),
+        ([0x12b0, 0x0456], [0x0456, 0x02fe], put(0x02fe, 0x0204), 5),
+        ([0x1285, 0], [0x0310, 0x02fe], put(0x02fe, 0x0202), 4),
     ];
-    for (code, [pc, sp], call, cycles) in rows {
+    for ([code, next], [pc, sp], call, cycles) in rows {
         let before = [0x0300, 0x0107, 0x5678, 0x0310, 0];
         let after = [pc, sp, 0x0107, 0x5678, 0x0310, 0];
+        let code = [code, next, 0];
         assert_left(&rt, code, [(0, 0); 2], before, after, &[call], cycles);
     }
 }
 
-// SR is 0x0101 (C and V), R4 0x0302 and R5 0x0300 before; R4 is kept.
+// MOV #0x1234, &0x0400.
 #[test]
-fn sums_in_memory(rt: HostRuntime) {
+fn writes_a_constant(rt: HostRuntime) {
+    let before = [0x0300, 0x0107, 0x5678, 0x0310, 0];
+    let after = [0x0206, 0x0300, 0x0107, 0x5678, 0x0310, 0];
+    let code = [0x40b2, 0x1234, 0x0400];
+    let call = put(0x0400, 0x1234);
+    assert_left(&rt, code, [(0, 0); 2], before, after, &[call], 5);
+}
+
+/// A word in memory, read and changed there.
+fn change(addr: u16, old: u16, new: u16) -> [Call; 2] {
+    [get(addr, old), put(addr, new)]
+}
+
+/// A byte in memory, read and changed there.
+fn change_byte(addr: u16, old: u16, new: u16) -> [Call; 2] {
+    [get_byte(addr, old), put_byte(addr, new)]
+}
+
+/// A word that is read, and put elsewhere.
+fn copy(from: u16, to: u16, value: u16) -> [Call; 2] {
+    [get(from, value), put(to, value)]
+}
+
+/// Asserts what an instruction at 0x0200 leaves, with SP and R5 0x0300, SR 0x0101 (C and V) and R4 0x0302 before: PC, SR,
+/// how far SP and R5 move, the calls and the cycles. R4 is kept.
+fn assert_moved(
+    rt: &impl Abort,
+    code: [u16; 3],
+    words: [(u16, u16); 2],
+    [pc, sr, sp, r5]: [u16; 4],
+    calls: &[Call],
+    cycles: u8,
+) {
+    let before = [0x0300, 0x0101, 0x0302, 0x0300, 0];
+    let after = [pc, from_base(sp), sr, 0x0302, from_base(r5), 0];
+    assert_left(rt, code, words, before, after, calls, cycles);
+}
+
+// SP and R5 stay. Row by row: the code, PC and SR, the calls and the cycles.
+#[test]
+fn changes_in_memory(rt: HostRuntime) {
     let rows = [
         // ADD R4 to 2(R5), symbolic, absolute; a byte to 2(R5).
+        (0x5485, 2, [0x0204, 0], change(0x0302, 0x1234, 0x1536), 4),
+        (0x5480, 0x100, [0x204, 0], change(0x302, 0x1234, 0x1536), 4),
+        (0x5482, 0x302, [0x204, 0], change(0x302, 0x1234, 0x1536), 4),
+        (0x54c5, 2, [0x0204, 0], change_byte(0x0302, 0x34, 0x36), 4),
+        // RRA @R5, RRC 2(R5), RRC.B 3(R5), SWPB absolute, SXT symbolic.
+        (0x1125, 0, [0x0202, 5], change(0x0300, 0x89ab, 0xc4d5), 3),
+        (0x1015, 2, [0x0204, 4], change(0x0302, 0x1234, 0x891a), 4),
+        (0x1055, 3, [0x0204, 4], change_byte(0x0303, 0x12, 0x89), 4),
         (
-            [0x5485, 0x0002, 0],
-            [0x0204, 0x0300, 0, 0x0300],
-            [read(0x0302, 0x1234), write(0x0302, 0x1536)],
+            0x1092,
+            0x302,
+            [0x204, 0x101],
+            change(0x302, 0x1234, 0x3412),
             4,
         ),
+        (0x1190, 0x100, [0x204, 1], change(0x302, 0x1234, 0x34), 4),
+        // XOR.B #-1 on a byte at an odd address.
         (
-            [0x5480, 0x0100, 0],
-            [0x0204, 0x0300, 0, 0x0300],
-            [read(0x0302, 0x1234), write(0x0302, 0x1536)],
-            4,
-        ),
-        (
-            [0x5482, 0x0302, 0],
-            [0x0204, 0x0300, 0, 0x0300],
-            [read(0x0302, 0x1234), write(0x0302, 0x1536)],
-            4,
-        ),
-        (
-            [0x54c5, 0x0002, 0],
-            [0x0204, 0x0300, 0, 0x0300],
-            [read_byte(0x0302, 0x34), write_byte(0x0302, 0x36)],
-            4,
-        ),
-    ];
-    let words = [(0x0300, 0x89ab), (0x0302, 0x1234)];
-    for (code, [pc, sp, sr, r5], calls, cycles) in rows {
-        let before = [0x0300, 0x0101, 0x0302, 0x0300, 0];
-        let after = [pc, sp, sr, 0x0302, r5, 0];
-        assert_left(&rt, code, words, before, after, &calls, cycles);
-    }
-}
-
-// The same before.
-#[test]
-fn one_operand_in_memory(rt: HostRuntime) {
-    let rows = [
-        // RRA @R5, RRA @R5+, RRC 2(R5), RRC.B 3(R5), SWPB absolute, SXT symbolic.
-        (
-            [0x1125, 0, 0],
-            [0x0202, 0x0300, 5, 0x0300],
-            [read(0x0300, 0x89ab), write(0x0300, 0xc4d5)],
-            3,
-        ),
-        (
-            [0x1135, 0, 0],
-            [0x0202, 0x0300, 5, 0x0302],
-            [read(0x0300, 0x89ab), write(0x0300, 0xc4d5)],
-            3,
-        ),
-        (
-            [0x1015, 0x0002, 0],
-            [0x0204, 0x0300, 4, 0x0300],
-            [read(0x0302, 0x1234), write(0x0302, 0x891a)],
-            4,
-        ),
-        (
-            [0x1055, 0x0003, 0],
-            [0x0204, 0x0300, 4, 0x0300],
-            [read_byte(0x0303, 0x12), write_byte(0x0303, 0x89)],
-            4,
-        ),
-        (
-            [0x1092, 0x0302, 0],
-            [0x0204, 0x0300, 0x0101, 0x0300],
-            [read(0x0302, 0x1234), write(0x0302, 0x3412)],
-            4,
-        ),
-        (
-            [0x1190, 0x0100, 0],
-            [0x0204, 0x0300, 1, 0x0300],
-            [read(0x0302, 0x1234), write(0x0302, 0x0034)],
+            0xe3f2,
+            0x301,
+            [0x204, 0x101],
+            change_byte(0x301, 0x89, 0x76),
             4,
         ),
     ];
-    let words = [(0x0300, 0x89ab), (0x0302, 0x1234)];
-    for (code, [pc, sp, sr, r5], calls, cycles) in rows {
-        let before = [0x0300, 0x0101, 0x0302, 0x0300, 0];
-        let after = [pc, sp, sr, 0x0302, r5, 0];
-        assert_left(&rt, code, words, before, after, &calls, cycles);
+    for (code, next, [pc, sr], calls, cycles) in rows {
+        let after = [pc, sr, 0, 0];
+        assert_moved(&rt, [code, next, 0], WORDS, after, &calls, cycles);
     }
 }
 
-// The same before.
+// The flags are kept. Row by row: the code, PC, how far SP and R5 move, the calls and the cycles.
 #[test]
-fn pushes_and_calls(rt: HostRuntime) {
+fn copies_in_memory(rt: HostRuntime) {
+    let byte = [get_byte(0x0300, 0xab), put_byte(0x0300, 0xab)];
+    let called = [get(0x0300, 0x89ab), put(0x0300, 0x0202)];
+    let called_at = [get(0x0302, 0x1234), put(0x02fe, 0x0204)];
     let rows = [
         // PUSH @SP+ and its byte, PUSH @R5+, PUSH 2(R5).
-        (
-            [0x1231, 0, 0],
-            [0x0202, 0x0300, 0x0101, 0x0300],
-            [read(0x0300, 0x89ab), write(0x0300, 0x89ab)],
-            5,
-        ),
-        (
-            [0x1271, 0, 0],
-            [0x0202, 0x0300, 0x0101, 0x0300],
-            [read_byte(0x0300, 0xab), write_byte(0x0300, 0xab)],
-            5,
-        ),
-        (
-            [0x1235, 0, 0],
-            [0x0202, 0x02fe, 0x0101, 0x0302],
-            [read(0x0300, 0x89ab), write(0x02fe, 0x89ab)],
-            5,
-        ),
-        (
-            [0x1215, 0x0002, 0],
-            [0x0204, 0x02fe, 0x0101, 0x0300],
-            [read(0x0302, 0x1234), write(0x02fe, 0x1234)],
-            5,
-        ),
+        (0x1231, 0, [0x0202, 0, 0], copy(0x0300, 0x0300, 0x89ab), 5),
+        (0x1271, 0, [0x0202, 0, 0], byte, 5),
+        (0x1235, 0, [0x202, DOWN, 2], copy(0x300, 0x2fe, 0x89ab), 5),
+        (0x1215, 2, [0x204, DOWN, 0], copy(0x302, 0x2fe, 0x1234), 5),
         // CALL @R1+, to an even address, and CALL 2(R5).
-        (
-            [0x12b1, 0, 0],
-            [0x89aa, 0x0300, 0x0101, 0x0300],
-            [read(0x0300, 0x89ab), write(0x0300, 0x0202)],
-            5,
-        ),
-        (
-            [0x1295, 0x0002, 0],
-            [0x1234, 0x02fe, 0x0101, 0x0300],
-            [read(0x0302, 0x1234), write(0x02fe, 0x0204)],
-            5,
-        ),
+        (0x12b1, 0, [0x89aa, 0, 0], called, 5),
+        (0x1295, 2, [0x1234, DOWN, 0], called_at, 5),
+        // MOV @R5+, 2(R5).
+        (0x45b5, 2, [0x0204, 0, 2], copy(0x0300, 0x0304, 0x89ab), 5),
     ];
-    let words = [(0x0300, 0x89ab), (0x0302, 0x1234)];
-    for (code, [pc, sp, sr, r5], calls, cycles) in rows {
-        let before = [0x0300, 0x0101, 0x0302, 0x0300, 0];
-        let after = [pc, sp, sr, 0x0302, r5, 0];
-        assert_left(&rt, code, words, before, after, &calls, cycles);
+    for (code, next, [pc, sp, r5], calls, cycles) in rows {
+        let after = [pc, 0x0101, sp, r5];
+        assert_moved(&rt, [code, next, 0], WORDS, after, &calls, cycles);
     }
 }
 
-// The same before.
+// RRA @R5+; RETI; MOV symbolic, absolute; MOV absolute, symbolic.
 #[test]
-fn moves_and_returns(rt: HostRuntime) {
-    let rows = [
-        // MOV @R5+, 2(R5); MOV symbolic, absolute; MOV absolute, symbolic.
-        (
-            [0x45b5, 0x0002, 0],
-            [0x0204, 0x0300, 0x0101, 0x0302],
-            [read(0x0300, 0x89ab), write(0x0304, 0x89ab)],
-            5,
-        ),
-        (
-            [0x4092, 0x0100, 0x0400],
-            [0x0206, 0x0300, 0x0101, 0x0300],
-            [read(0x0302, 0x1234), write(0x0400, 0x1234)],
-            6,
-        ),
-        (
-            [0x4290, 0x0302, 0x0100],
-            [0x0206, 0x0300, 0x0101, 0x0300],
-            [read(0x0302, 0x1234), write(0x0304, 0x1234)],
-            6,
-        ),
-        // XOR.B #-1 on a byte at an odd address; RETI.
-        (
-            [0xe3f2, 0x0301, 0],
-            [0x0204, 0x0300, 0x0101, 0x0300],
-            [read_byte(0x0301, 0x89), write_byte(0x0301, 0x76)],
-            4,
-        ),
-        (
-            [0x1300, 0, 0],
-            [0x1234, 0x0304, 0x01ab, 0x0300],
-            [read(0x0300, 0x89ab), read(0x0302, 0x1234)],
-            5,
-        ),
-    ];
-    let words = [(0x0300, 0x89ab), (0x0302, 0x1234)];
-    for (code, [pc, sp, sr, r5], calls, cycles) in rows {
-        let before = [0x0300, 0x0101, 0x0302, 0x0300, 0];
-        let after = [pc, sp, sr, 0x0302, r5, 0];
-        assert_left(&rt, code, words, before, after, &calls, cycles);
-    }
+fn others_in_memory(rt: HostRuntime) {
+    let halved = change(0x0300, 0x89ab, 0xc4d5);
+    let after = [0x0202, 5, 0, 2];
+    assert_moved(&rt, [0x1135, 0, 0], WORDS, after, &halved, 3);
+    let popped = [get(0x0300, 0x89ab), get(0x0302, 0x1234)];
+    let after = [0x1234, 0x01ab, 4, 0];
+    assert_moved(&rt, [0x1300, 0, 0], WORDS, after, &popped, 5);
+    let after = [0x0206, 0x0101, 0, 0];
+    let moved = copy(0x0302, 0x0400, 0x1234);
+    assert_moved(&rt, [0x4092, 0x0100, 0x0400], WORDS, after, &moved, 6);
+    let moved = copy(0x0302, 0x0304, 0x1234);
+    assert_moved(&rt, [0x4290, 0x0302, 0x0100], WORDS, after, &moved, 6);
 }
 
-// SR is 0x0101 (C and V), R4 0x0302 and R5 0x0300 before; R4 is kept.
+// Row by row: the code, PC, SR, how far SP and R5 move, the number that is put and the cycles.
 #[test]
 fn both_in_memory(rt: HostRuntime) {
-    let words_added = [
-        read(0x0300, 0x0011),
-        read(0x0304, 0x0022),
-        write(0x0304, 0x0033),
-    ];
-    let with_carry = [
-        read(0x0300, 0x0011),
-        read(0x0304, 0x0022),
-        write(0x0304, 0x0034),
-    ];
-    let bytes = [
-        read_byte(0x0300, 0x11),
-        read_byte(0x0304, 0x22),
-        write_byte(0x0304, 0x11),
-    ];
     let rows = [
-        // ADD @R5+, 2(R5); ADD 0(R5), 2(R4); SUB.B @SP+, absolute; BIS symbolic, symbolic; DADD absolute, absolute.
-        (
-            [0x55b5, 0x0002, 0],
-            [0x0204, 0x0300, 0, 0x0302],
-            words_added,
-            5,
-        ),
-        (
-            [0x5594, 0x0000, 0x0002],
-            [0x0206, 0x0300, 0, 0x0300],
-            words_added,
-            6,
-        ),
-        ([0x81f2, 0x0304, 0], [0x0204, 0x0302, 1, 0x0300], bytes, 5),
-        (
-            [0xd090, 0x00fe, 0x0100],
-            [0x0206, 0x0300, 0x0101, 0x0300],
-            words_added,
-            6,
-        ),
-        (
-            [0xa292, 0x0300, 0x0304],
-            [0x0206, 0x0300, 0, 0x0300],
-            with_carry,
-            6,
-        ),
+        // ADD @R5+, 2(R5); ADD 0(R5), 2(R4); BIS symbolic, symbolic; DADD absolute, absolute.
+        ([0x55b5, 2, 0], [0x0204, 0, 0, 2], 0x0033, 5),
+        ([0x5594, 0, 2], [0x0206, 0, 0, 0], 0x0033, 6),
+        ([0xd090, 0x00fe, 0x0100], [0x0206, 0x0101, 0, 0], 0x0033, 6),
+        ([0xa292, 0x0300, 0x0304], [0x0206, 0, 0, 0], 0x0034, 6),
     ];
     let words = [(0x0300, 0x0011), (0x0304, 0x0022)];
-    for (code, [pc, sp, sr, r5], calls, cycles) in rows {
-        let before = [0x0300, 0x0101, 0x0302, 0x0300, 0];
-        let after = [pc, sp, sr, 0x0302, r5, 0];
-        assert_left(&rt, code, words, before, after, &calls, cycles);
+    for (code, after, sum, cycles) in rows {
+        let calls = [get(0x0300, 0x0011), get(0x0304, 0x0022), put(0x0304, sum)];
+        assert_moved(&rt, code, words, after, &calls, cycles);
     }
+    // SUB.B @SP+, absolute.
+    let bytes = [
+        get_byte(0x0300, 0x11),
+        get_byte(0x0304, 0x22),
+        put_byte(0x0304, 0x11),
+    ];
+    let after = [0x0204, 1, 2, 0];
+    assert_moved(&rt, [0x81f2, 0x0304, 0], words, after, &bytes, 5);
 }
 
 // MOV @SP+ into SP and PC: what was read wins over the increment.
@@ -726,7 +513,7 @@ fn popped(rt: HostRuntime) {
     for (code, pc, sp, cycles) in rows {
         let after = [pc, sp, 0x0107, 0, 0, 0];
         let words = [(0x0300, 0x0456), (0, 0)];
-        let calls = [read(0x0300, 0x0456)];
+        let calls = [get(0x0300, 0x0456)];
         let before = [0x0300, 0x0107, 0, 0, 0];
         assert_left(&rt, [code, 0, 0], words, before, after, &calls, cycles);
     }
@@ -737,10 +524,10 @@ fn popped(rt: HostRuntime) {
 fn plans(rt: HostRuntime) {
     let rows = [
         // MOV @R5+, 2(R5); ADD R5, absolute; PUSH @SP+; RETI.
-        ([0x45b5, 0x0002, 0], [read(0x0310, 0), write(0x0314, 0)]),
-        ([0x5582, 0x0400, 0], [read(0x0400, 0), write(0x0400, 0)]),
-        ([0x1231, 0, 0], [read(0x0300, 0), write(0x0300, 0)]),
-        ([0x1300, 0, 0], [read(0x0300, 0), read(0x0302, 0)]),
+        ([0x45b5, 0x0002, 0], [get(0x0310, 0), put(0x0314, 0)]),
+        ([0x5582, 0x0400, 0], [get(0x0400, 0), put(0x0400, 0)]),
+        ([0x1231, 0, 0], [get(0x0300, 0), put(0x0300, 0)]),
+        ([0x1300, 0, 0], [get(0x0300, 0), get(0x0302, 0)]),
     ];
     for (code, calls) in rows {
         let want = calls.map(|call| call.access);
@@ -752,9 +539,9 @@ fn plans(rt: HostRuntime) {
         );
     }
     // CALL #0x0456 and CMP R5, 2(R5) make one access, JMP none.
-    let call = [write(0x02fe, 0).access];
+    let call = [put(0x02fe, 0).access];
     assert_eq!(rt; planned([0x12b0, 0x0456, 0]).as_slice(), call.as_slice());
-    let compared = [read(0x0312, 0).access];
+    let compared = [get(0x0312, 0).access];
     assert_eq!(rt;
         planned([0x9585, 0x0002, 0]).as_slice(),
         compared.as_slice()

@@ -52,39 +52,32 @@ part_fault unit is k lt =
     let h = All-get_or IsSection unit.sections k no_part lt is.sections_kept in
     rw (part_read unit is k lt) (part_sound s.kind (length (object_of unit)) (content_at (file_sections unit) k) s.size (length s.bytes) (fault.Section (suc k)) h.filled (omega (arith, within, sized)))
 
-table_fault_by : (file : List ℕ) (i : ℕ) (h : Header) → header_of file i ≡ h → ltb (length file) (h.offset + h.size) ≡ false → is_loaded_header h ≡ false → section_fault file i ≡ None
+-- a table that stands in the file has no fault
+table_fault_by : (unit : UnitValue) → IsUnit unit → (k : ℕ) → k < length unit.sections + (3 + length (relocated_in unit)) → (s : FileSection) (bytes : List ℕ) (h : Header) → get_or (file_sections unit) k no_section ≡ s → s.content ≡ bytes
+    → header_of (object_of unit) (suc k) ≡ h → h.offset ≡ content_at (file_sections unit) k → h.size ≡ length bytes → is_loaded_header h ≡ false → section_fault (object_of unit) (suc k) ≡ None
 unfolding section_fault
-table_fault_by file i h e past flat =
-    ap (λ (x : Header). refuse_if ((not (is_absent x) && ends_past file x) || (is_loaded_header x && not (is_alignment x.align))) (fault.Section i)) e
+table_fault_by unit is k lt s bytes h at content e place size flat =
+    let file : List ℕ = object_of unit in
+    let within = ends_within unit is k lt in
+    let sized : length ((get_or (file_sections unit) k no_section).content) ≡ length bytes = ap (λ (t : FileSection). length t.content) at ∙ ap length content in
+    let past : ltb (length file) (h.offset + h.size) ≡ false = le-ltb (length file) (h.offset + h.size) (omega (arith, within, sized, place, size)) in
+    ap (λ (x : Header). refuse_if ((not (is_absent x) && ends_past file x) || (is_loaded_header x && not (is_alignment x.align))) (fault.Section (suc k))) e
     ∙ by (not (is_absent h)) (ltb (length file) (h.offset + h.size)) (is_loaded_header h) past flat where
-      by : (a b c : Bool) → b ≡ false → c ≡ false → refuse_if ((a && b) || (c && not (is_alignment h.align))) (fault.Section i) ≡ None
+      by : (a b c : Bool) → b ≡ false → c ≡ false → refuse_if ((a && b) || (c && not (is_alignment h.align))) (fault.Section (suc k)) ≡ None
       by true b c p q = rw (p, q) refl
       by false b c p q = rw q refl
 
 symtab_fault : (unit : UnitValue) → IsUnit unit → section_fault (object_of unit) (suc (length unit.sections + 0)) ≡ None
-symtab_fault unit is =
-    let within = ends_within unit is (length unit.sections + 0) (omega arith) in
-    let sized : length ((get_or (file_sections unit) (length unit.sections + 0) no_section).content) ≡ length (symbol_table unit.symbols) = ap (λ (t : FileSection). length t.content) (symtab_at unit) ∙ ap length (symtab_parts unit).1 in
-    table_fault_by (object_of unit) (suc (length unit.sections + 0)) _ (symtab_read unit is) (le-ltb (length (object_of unit)) (content_at (file_sections unit) (length unit.sections + 0) + length (symbol_table unit.symbols)) (omega (arith, within, sized))) refl
+symtab_fault unit is = table_fault_by unit is (length unit.sections + 0) (omega arith) _ _ _ (symtab_at unit) (symtab_parts unit).1 (symtab_read unit is) refl refl refl
 
 strtab_fault : (unit : UnitValue) → IsUnit unit → section_fault (object_of unit) (suc (length unit.sections + 1)) ≡ None
-strtab_fault unit is =
-    let within = ends_within unit is (length unit.sections + 1) (omega arith) in
-    let sized : length ((get_or (file_sections unit) (length unit.sections + 1) no_section).content) ≡ length (string_table (symbol_names unit.symbols)) = ap (λ (t : FileSection). length t.content) (strtab_at unit) ∙ ap length (strtab_parts unit).1 in
-    table_fault_by (object_of unit) (suc (length unit.sections + 1)) _ (strtab_read unit is) (le-ltb (length (object_of unit)) (content_at (file_sections unit) (length unit.sections + 1) + length (string_table (symbol_names unit.symbols))) (omega (arith, within, sized))) refl
+strtab_fault unit is = table_fault_by unit is (length unit.sections + 1) (omega arith) _ _ _ (strtab_at unit) (strtab_parts unit).1 (strtab_read unit is) refl refl refl
 
 shstrtab_fault : (unit : UnitValue) → IsUnit unit → section_fault (object_of unit) (suc (length unit.sections + 2)) ≡ None
-shstrtab_fault unit is =
-    let within = ends_within unit is (length unit.sections + 2) (omega arith) in
-    let sized : length ((get_or (file_sections unit) (length unit.sections + 2) no_section).content) ≡ length (string_table (section_names unit)) = ap (λ (t : FileSection). length t.content) (shstrtab_at unit) ∙ ap length (shstrtab_parts unit).1 in
-    table_fault_by (object_of unit) (suc (length unit.sections + 2)) _ (shstrtab_read unit is) (le-ltb (length (object_of unit)) (content_at (file_sections unit) (length unit.sections + 2) + length (string_table (section_names unit))) (omega (arith, within, sized))) refl
+shstrtab_fault unit is = table_fault_by unit is (length unit.sections + 2) (omega arith) _ _ _ (shstrtab_at unit) (shstrtab_parts unit).1 (shstrtab_read unit is) refl refl refl
 
 relocations_fault : (unit : UnitValue) → IsUnit unit → (j : ℕ) → j < length (relocated_in unit) → section_fault (object_of unit) (suc (length unit.sections + (3 + j))) ≡ None
-relocations_fault unit is j lt =
-    let within = ends_within unit is (length unit.sections + (3 + j)) (omega arith) in
-    let table : List ℕ = relocation_table unit.relocations (target_of unit j) in
-    let sized : length ((get_or (file_sections unit) (length unit.sections + (3 + j)) no_section).content) ≡ length table = ap (λ (t : FileSection). length t.content) (relocations_at unit j lt) ∙ ap length (relocation_parts unit j).1 in
-    table_fault_by (object_of unit) (suc (length unit.sections + (3 + j))) _ (relocations_read unit is j lt) (le-ltb (length (object_of unit)) (content_at (file_sections unit) (length unit.sections + (3 + j)) + length table) (omega (arith, within, sized))) refl
+relocations_fault unit is j lt = table_fault_by unit is (length unit.sections + (3 + j)) (omega arith) _ _ _ (relocations_at unit j lt) (relocation_parts unit j).1 (relocations_read unit is j lt) refl refl refl
 
 pub no_section_faults : (unit : UnitValue) → IsUnit unit → section_faults (object_of unit) ≡ None
 unfolding section_faults

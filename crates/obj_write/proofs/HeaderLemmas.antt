@@ -126,41 +126,32 @@ small_symtab unit is =
       entry_size = omega arith;
     }
 
+small_strings : (name size at : ℕ) → name < 2 ^ 32 → size < 2 ^ 32 → at < 2 ^ 32 → IsSmall (record (strings_head name size) { offset = at })
+small_strings name size at a b c = record {
+  name = a;
+  kind = omega arith;
+  flags = omega arith;
+  offset = c;
+  size = b;
+  link = omega arith;
+  info = omega arith;
+  align = omega arith;
+  entry_size = omega arith;
+}
+
 small_strtab : (unit : UnitValue) → IsUnit unit → IsSmall (head_of (file_sections unit) (length unit.sections + 1))
 small_strtab unit is =
     let n = length_sections unit in
     let name = name_few unit is (length unit.sections + 1) in
-    let at = offset_few unit is (length unit.sections + 1) (omega (arith, n)) in
     let size = symbol_names_few unit is in
-    subst IsSmall (sym (strtab_of_file unit)) record {
-      name = omega (arith, name);
-      kind = omega arith;
-      flags = omega arith;
-      offset = at;
-      size = omega (arith, size);
-      link = omega arith;
-      info = omega arith;
-      align = omega arith;
-      entry_size = omega arith;
-    }
+    subst IsSmall (sym (strtab_of_file unit)) (small_strings _ _ _ (omega (arith, name)) (omega (arith, size)) (offset_few unit is (length unit.sections + 1) (omega (arith, n))))
 
 small_shstrtab : (unit : UnitValue) → IsUnit unit → IsSmall (head_of (file_sections unit) (length unit.sections + 2))
 small_shstrtab unit is =
     let n = length_sections unit in
     let name = name_few unit is (length unit.sections + 2) in
-    let at = offset_few unit is (length unit.sections + 2) (omega (arith, n)) in
     let size = section_names_few unit is in
-    subst IsSmall (sym (shstrtab_of_file unit)) record {
-      name = omega (arith, name);
-      kind = omega arith;
-      flags = omega arith;
-      offset = at;
-      size = omega (arith, size);
-      link = omega arith;
-      info = omega arith;
-      align = omega arith;
-      entry_size = omega arith;
-    }
+    subst IsSmall (sym (shstrtab_of_file unit)) (small_strings _ _ _ (omega (arith, name)) (omega (arith, size)) (offset_few unit is (length unit.sections + 2) (omega (arith, n))))
 
 -- a table of relocations is of a section of the unit
 pub target_within : (unit : UnitValue) (j : ℕ) → j < length (relocated_in unit) → target_of unit j < length unit.sections
