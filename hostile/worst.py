@@ -143,11 +143,15 @@ def cases(folder):
         yield f"balance, arms of {nops:,} met 5,184 times", ["balance", file(f"walked_{nops}", walked), "1", file(f"arm_{nops}", arm)]
     walked, arm = balance_that_rises(25_000)
     yield "balance, arms of 25,000 met 5,184 times, data that rise one a turn", ["balance", file("walked_rising", walked), "1", file("arm_rising", arm)]
-    for name, insn, cycles in (("sums", 0x5605, 1), ("reads", 0x5425, 2)):
-        walked, arm = balance_of_addresses(25_000, insn, cycles)
-        yield f"balance, arms of 25,000 {name} met 5,184 times, a last address that hangs on each", ["balance", file(f"walked_{name}", walked), "1", file(f"arm_{name}", arm)]
+    for name, insn, cycles, count in (("sums", 0x5605, 1, 25_000), ("reads", 0x5425, 2, 25_000), ("shifts", 0x1124, 3, 21_000)):
+        walked, arm = balance_of_addresses(count, insn, cycles)
+        told = f"balance, arms of {count:,} {name} met 5,184 times, a last address that hangs on each"
+        yield told, ["balance", file(f"walked_{name}", walked), "1", file(f"arm_{name}", arm)]
     walked, arm = balance_of_places(25_000)
     yield "balance, arms of 25,000 sums met 5,184 times, two addresses that hang on each", ["balance", file("walked_places", walked), "1", file("arm_places", arm)]
+    walked, arm = balance_of_wants(25_000, 0x5606, 1)
+    told = "balance, arms of 25,000 sums met 4,896 times, each of which wants another word of those that rise one a turn"
+    yield told, ["balance", file("walked_wants", walked), "1", file("arm_wants", arm)]
     yield "challenges, 4,096", ["challenge", file("challenges", "".join(f"{1600 * k} {'0f' * 16}\n" for k in range(4096)))]
     trace = "0 out 4a\n" * 110_000 + "end 1 stopped\n"
     yield "trace, 1 MiB of out lines", ["vendor", image, "1", "0" * 32, file("challenges_few", "100 " + "0f" * 16 + "\n"), file("trace", trace)]
