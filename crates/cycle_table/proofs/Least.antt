@@ -4,32 +4,24 @@ use Rattle.sm_words.specs.Words.{nth}
 use Rattle.sm_words.specs.declared.width.Width.{Width}
 use Rattle.sm_words.specs.declared.width.Width.TheVariants.{Byte, Word}
 use Rattle.insn_decode.specs.declared.insn.OneOp.{OneOp}
-use Rattle.insn_decode.specs.declared.insn.OneOp.TheVariants.{Rrc, Swpb, Rra, Sxt, Push, Call}
+use Rattle.insn_decode.specs.declared.insn.OneOp.TheVariants.{Push, Call}
 use Rattle.insn_decode.specs.declared.insn.Operand.{Operand}
-use Rattle.insn_decode.specs.declared.insn.Operand.TheVariants.{Reg, Const, Imm}
+use Rattle.insn_decode.specs.declared.insn.Operand.TheVariants.{Const, Imm}
 use Rattle.insn_decode.specs.declared.insn.Insn.{Insn}
 use Rattle.insn_decode.specs.declared.insn.Insn.TheVariants.{One}
 use Rattle.insn_decode.specs.Code.{one_fits, HasForm, IsDecoded}
 use Rattle.insn_decode.proofs.FormFacts.{decoded_form}
 use Rattle.cycle_table.specs.Cycles.{one_row, one_column}
 
-one_least : (op : OneOp) (w : Width) (a : Operand) → one_fits op w a ≡ true → 1 ≤ nth (one_column op) (one_row a) 0
-one_least Rrc w (Const c) h = absurd cc
-one_least Rrc w (Imm x) h = absurd cc
-one_least Swpb w (Reg r) h = omega arith
-one_least Swpb Byte (Const c) h = absurd cc
-one_least Swpb Word (Const c) h = absurd cc
-one_least Swpb Byte (Imm x) h = absurd cc
-one_least Swpb Word (Imm x) h = absurd cc
-one_least Rra w (Const c) h = absurd cc
-one_least Rra w (Imm x) h = absurd cc
-one_least Sxt w (Reg r) h = omega arith
-one_least Sxt Byte (Const c) h = absurd cc
-one_least Sxt Word (Const c) h = absurd cc
-one_least Sxt Byte (Imm x) h = absurd cc
-one_least Sxt Word (Imm x) h = absurd cc
-one_least Push w (Reg r) h = omega arith
-one_least Call w (Reg r) h = omega arith
+pub one_least : (op : OneOp) (w : Width) (a : Operand) → one_fits op w a ≡ true → 1 ≤ nth (one_column op) (one_row a) 0
+one_least Push w (Const c) h = omega arith
+one_least Push w (Imm x) h = omega arith
+one_least Call w (Const c) h = omega arith
+one_least Call w (Imm x) h = omega arith
+one_least op Byte (Const c) h = absurd cc
+one_least op Word (Const c) h = absurd cc
+one_least op Byte (Imm x) h = absurd cc
+one_least op Word (Imm x) h = absurd cc
 one_least _ w _ h = omega arith
 
 -- of an instruction of format II that some words mean

@@ -101,20 +101,12 @@ ends_rise file i j d le lt =
     let c = count_order file (i + 1) (j + 1) (cases_lt (i + 1) (j + 1)) (omega arith) in
     omega (arith, a, b, c)
 
-last_end : (file : List ℕ) (n section place : ℕ) → n ≡ section_count file → n ≤ section → place < count_below file n → ((k : ℕ) (d : ℕ) → 0 ≤ k → k < section → get_or (ends_of file) k d ≤ place) → ⊥
-last_end file zero section place same le lt below = let z = count_zero file in omega (arith, z)
-last_end file (suc n) section place same le lt below =
+begun_at : (file : List ℕ) (n section place : ℕ) → n ≤ section_count file → n ≤ section → ((k : ℕ) (d : ℕ) → 0 ≤ k → k < section → get_or (ends_of file) k d ≤ place) → count_below file n ≤ place
+begun_at file zero section place most le below = let z = count_zero file in omega (arith, z)
+begun_at file (suc n) section place most le below =
     let a = end_at file n 0 (omega arith) in
     let b = below n 0 (omega arith) (omega arith) in
     let c : count_below file (n + 1) ≡ count_below file (suc n) = ap (count_below file) (add-one n) in
-    omega (arith, a, b, c)
-
-begun_at : (file : List ℕ) (section place : ℕ) → section < section_count file → ((k : ℕ) (d : ℕ) → 0 ≤ k → k < section → get_or (ends_of file) k d ≤ place) → count_below file section ≤ place
-begun_at file zero place lt below = let z = count_zero file in omega (arith, z)
-begun_at file (suc k) place lt below =
-    let a = end_at file k 0 (omega arith) in
-    let b = below k 0 (omega arith) (omega arith) in
-    let c : count_below file (k + 1) ≡ count_below file (suc k) = ap (count_below file) (add-one k) in
     omega (arith, a, b, c)
 
 is_in_by : (file : List ℕ) (section place : ℕ) → (section < section_count file) ⊎ (section_count file ≤ section) → place < count_below file (section_count file) → IsPartitionPoint (λ end. end ≤ place) (λ end. place < end) (ends_of file) section → IsIn file section place
@@ -122,8 +114,8 @@ is_in_by file section place (inl lt) within point =
     let n = length_ends file in
     let a = end_at file section 0 lt in
     let b = point.1 section 0 (omega arith) (omega (arith, n)) in
-    record { within = lt; begun = begun_at file section place lt point.0; ends = omega (arith, a, b) }
-is_in_by file section place (inr le) within point = absurd (last_end file (section_count file) section place refl le within point.0)
+    record { within = lt; begun = begun_at file section section place (omega arith) (omega arith) point.0; ends = omega (arith, a, b) }
+is_in_by file section place (inr le) within point = let all = begun_at file (section_count file) section place (omega arith) le point.0 in absurd (omega (arith, all, within))
 
 -- it is where a search by the ends finds it
 pub is_in : (file : List ℕ) (section place : ℕ) → place < length (relocations_of file) → IsPartitionPoint (λ end. end ≤ place) (λ end. place < end) (ends_of file) section → IsIn file section place

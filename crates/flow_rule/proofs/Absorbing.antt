@@ -41,12 +41,7 @@ of_join Away Away e = tt
 of_join Public Secret e = absurd cc
 of_join Public v e = tt
 of_join Secret v e = tt
-of_join (Known a) Away e = absurd cc
-of_join (Known a) Public e = absurd cc
-of_join (Known a) Secret e = absurd cc
-of_join Away (Known b) e = absurd cc
-of_join Away Public e = absurd cc
-of_join Away Secret e = absurd cc
+of_join _ _ e = absurd cc
 
 pub of_joins : (ts vs : List Val) → join_each ts vs ≡ ts → AbsorbsEach ts vs
 of_joins [] vs e = tt
@@ -56,18 +51,12 @@ of_joins (t ∷ ts) (v ∷ vs) e = (of_join t v cc, of_joins ts vs cc)
 -- ---- operations
 known_of : (a : ℕ) (v : Val) → AbsorbsVal (Known a) v → v ≡ Known a
 known_of a (Known b) p = ap Known p
-known_of a Away p = absurd p
-known_of a Public p = absurd p
-known_of a Secret p = absurd p
+known_of a _ p = absurd p
 
 not_secret : (t v : Val) → is_secret t ≡ false → AbsorbsVal t v → is_secret v ≡ false
-not_secret t (Known b) e p = refl
-not_secret t Away e p = refl
-not_secret t Public e p = refl
-not_secret (Known a) Secret e p = absurd p
-not_secret Away Secret e p = absurd p
-not_secret Public Secret e p = absurd p
 not_secret Secret Secret e p = e
+not_secret t Secret e p = absurd p
+not_secret t _ e p = refl
 
 over_public : (f : ℕ → ℕ → ℕ → ℕ) (u v w : Val) → is_secret u ≡ false → is_secret v ≡ false → is_secret w ≡ false →
     AbsorbsVal Public (over f u v w)
@@ -110,16 +99,11 @@ blurred_all_keeps t u s t' u' s' p q r = blurred_keeps _ _ (over_keeps (λ x y z
 
 on_known_keeps : (f : ℕ → ℕ) (t v : Val) → AbsorbsVal t v → AbsorbsVal (on_known f t) (on_known f v)
 on_known_keeps f (Known a) (Known b) p = ap f p
-on_known_keeps f (Known a) Away p = absurd p
-on_known_keeps f (Known a) Public p = absurd p
-on_known_keeps f (Known a) Secret p = absurd p
-on_known_keeps f Away (Known b) p = absurd p
 on_known_keeps f Away Away p = tt
-on_known_keeps f Away Public p = absurd p
-on_known_keeps f Away Secret p = absurd p
 on_known_keeps f Public Secret p = absurd p
 on_known_keeps f Public v p = tt
 on_known_keeps f Secret v p = tt
+on_known_keeps f _ _ p = absurd p
 
 pub narrow_keeps : (w : Width) (t v : Val) → AbsorbsVal t v → AbsorbsVal (narrow w t) (narrow w v)
 narrow_keeps Word t v p = on_known_keeps (low Word) t v p
@@ -168,9 +152,7 @@ EvenPc core = (a : ℕ) → val core 0 ≡ Known a → a % 2 ≡ 0
 
 kept_even : (v : Val) (a : ℕ) → kept_val 0 v ≡ Known a → a % 2 ≡ 0
 kept_even (Known b) a e = let k : kept 0 b ≡ a = cc in omega arith
-kept_even Away a e = absurd cc
-kept_even Public a e = absurd cc
-kept_even Secret a e = absurd cc
+kept_even _ a e = absurd cc
 
 pub put_even : (core : List Val) (n : ℕ) (v : Val) → EvenPc core → EvenPc (put_val core n v)
 put_even [] n v h a e = absurd cc

@@ -133,9 +133,7 @@ module _ (m : Module) (text : List ℕ) where
       by : (v : Val) → AbsorbsVal (elim v [ Known a ↦ read_at m text ts r.width a | _ ↦ Secret ])
           (elim v [ Known a ↦ read_at m text vs r.width a | _ ↦ Secret ])
       by (Known a) = read_keeps r.width a ts vs p
-      by Away = tt
-      by Public = tt
-      by Secret = tt
+      by _ = tt
 
 module _ (m : Module) where
   write_keeps : (w : Width) (a : ℕ) (ts vs : List Val) (t v : Val) → AbsorbsEach ts vs → AbsorbsVal t v →
@@ -156,9 +154,7 @@ module _ (m : Module) where
       by : (v : Val) → AbsorbsEach (elim v [ Known a ↦ write_at m ts r.width a s | _ ↦ ts ])
           (elim v [ Known a ↦ write_at m vs r.width a x | _ ↦ vs ])
       by (Known a) = write_keeps r.width a ts vs s x p q.0
-      by Away = p
-      by Public = p
-      by Secret = p
+      by _ = p
 
 -- ---- what is done
 pub record Kept (x y : Done_val) : Type 0 where
@@ -258,18 +254,12 @@ written_keeps false d x y ts vs t p h =
 -- a BIC of all four flags by a number that is known makes them Public; by any other they become Public or Secret
 clears_too : (a b : Val) → AbsorbsVal a b → clears a ≡ true → clears b ≡ true
 clears_too (Known x) (Known y) p e = ap (λ i. clears (Known i)) p ∙ e
-clears_too (Known x) Away p e = absurd p
-clears_too (Known x) Public p e = absurd p
-clears_too (Known x) Secret p e = absurd p
-clears_too Away b p e = absurd cc
-clears_too Public b p e = absurd cc
-clears_too Secret b p e = absurd cc
+clears_too (Known x) _ p e = absurd p
+clears_too _ b p e = absurd cc
 
 blurred_public : (t : Val) → AbsorbsVal (blurred t) Public
 blurred_public (Known a) = tt
-blurred_public Away = tt
-blurred_public Public = tt
-blurred_public Secret = tt
+blurred_public _ = tt
 
 cleared_even : (c : Bool) (ts : List Val) → EvenPc ts → EvenPc (cleared_core c ts)
 cleared_even true ts h = put_even ts 2 Public h

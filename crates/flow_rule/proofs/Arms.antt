@@ -13,7 +13,7 @@ use Rattle.cpu_step.specs.declared.result.Computed.{Computed}
 use Rattle.sm_words.specs.declared.width.Width.{Width}
 use Rattle.insn_decode.specs.declared.insn.TwoOp.{TwoOp}
 use Rattle.insn_decode.specs.declared.insn.OneOp.{OneOp}
-use Rattle.insn_decode.specs.declared.insn.OneOp.TheVariants.{Rrc, Swpb, Rra, Sxt, Push, Call}
+use Rattle.insn_decode.specs.declared.insn.OneOp.TheVariants.{Push, Call}
 use Rattle.insn_decode.specs.declared.insn.Operand.{Operand}
 use Rattle.insn_decode.specs.declared.insn.Operand.TheVariants.{Reg, Increment}
 use Rattle.insn_decode.specs.declared.insn.Insn.{Insn}
@@ -268,11 +268,7 @@ module _ (key : List ℕ) (m : Module) (text : List ℕ) (caller : ℕ) (shape :
         where
           not_call : (op : OneOp) → arm_next join x.pair.addr (Some (One op w a)) ≡ Some next → op ≢ Call
           not_call Call on f = absurd cc
-          not_call Push on f = absurd cc
-          not_call Rrc on f = absurd cc
-          not_call Rra on f = absurd cc
-          not_call Swpb on f = absurd cc
-          not_call Sxt on f = absurd cc
+          not_call _ on f = absurd cc
 
           one : (op : OneOp) → op ≢ Call → met m.text text x.pair.addr ≡ Some (One op w a) → (step_plain m text (One op w a) x).reasons ≡ [] → Moved x (step_plain m text (One op w a) x).gives c d (cycles_of (One op w a)) (written_regs (One op w a)) (met_words (Some (One op w a)) m x)
           one op nc e none =
@@ -585,9 +581,7 @@ module _ (key : List ℕ) (m : Module) (text : List ℕ) (caller : ℕ) (shape :
 
         is_flag : (v : Val) → is_secret v ≡ true → (a b : ℕ) → Agrees m.text v a b
         is_flag Secret e a b = tt
-        is_flag (Known v) e a b = absurd cc
-        is_flag Away e a b = absurd cc
-        is_flag Public e a b = absurd cc
+        is_flag _ e a b = absurd cc
 
         others : (n : ℕ) → n ≢ 0 → (t : Bool) → (n == 2) ≡ t → NotIn n ((walk_of false).regs ++ (walk_of true).regs) → Agrees m.text (val x.label.core n) (reg p.core n) (reg q.core n)
         others n n0 true e free = let k : n ≡ 2 = grind (arith, nat_tests) in subst (λ i. Agrees m.text (val x.label.core i) (reg p.core n) (reg q.core n)) (sym k) (is_flag (val x.label.core 2) secret (reg p.core n) (reg q.core n))
@@ -681,8 +675,4 @@ module _ (key : List ℕ) (m : Module) (text : List ℕ) (caller : ℕ) (shape :
 
       by : (o : Option Insn) → met m.text text x.pair.addr ≡ o → (step_arms_by o S arms m text x).reasons ≡ [] → Crossing m jj At (step_arms_by o S arms m text x).gives (at_rest ca da) (at_rest cb db)
       by (Some (Jump cn off)) e none = jump_by cn off e (not (cn == 7)) (is_secret (val x.label.core 2)) refl none
-      by None e none = plain none
-      by (Some (Two op w s d)) e none = plain none
-      by (Some (One op w a)) e none = plain none
-      by (Some Reti) e none = plain none
-      by (Some (UnitOp n)) e none = plain none
+      by _ e none = plain none

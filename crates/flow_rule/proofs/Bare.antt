@@ -1,8 +1,8 @@
 -- A text looked at without certificates.
-use Rattle.std.proofs.Common.{◌≡◌, ℕ, List, [], refl, sym, subst, Bool, true, false, ◌&&◌, not, ◌==◌, cond, Option, Some, None}
+use Rattle.std.proofs.Common.{◌≡◌, ℕ, List, [], refl, sym, subst, Bool, true, false, ◌&&◌, not, ◌==◌, cond, Option, Some}
 use Rattle.std.proofs.Math.Path.{fun_ext}
 use Rattle.insn_decode.specs.declared.insn.Insn.{Insn}
-use Rattle.insn_decode.specs.declared.insn.Insn.TheVariants.{Two, One, Jump, Reti, Unit as UnitOp}
+use Rattle.insn_decode.specs.declared.insn.Insn.TheVariants.{Jump}
 use Rattle.mod_layout.specs.declared.Module.{Module}
 use Rattle.arm_balance.specs.Met.{met}
 use Rattle.flow_rule.specs.declared.Verdict.{Verdict}
@@ -22,11 +22,7 @@ step_bare m text x = by (met m.text text x.pair.addr)
         jump : (b : Bool) → cond b (flow_step m text x) (flow_step m text x) ≡ flow_step m text x
         jump true = refl
         jump false = refl
-    by (Some (Two op w s d)) = refl
-    by (Some (One op w a)) = refl
-    by (Some Reti) = refl
-    by (Some (UnitOp n)) = refl
-    by None = refl
+    by _ = refl
 
 steps_bare : (m : Module) (text : List ℕ) → flow_with m text [] ≡ flow_step m text
 steps_bare m text = fun_ext (step_bare m text)

@@ -8,8 +8,7 @@ use Rattle.insn_decode.specs.Code.{source_row, source_of, dest_of, words_of, wid
 use Rattle.sm_words.specs.declared.width.Width.{Width}
 use Rattle.insn_decode.specs.declared.insn.TwoOp.{TwoOp}
 use Rattle.insn_decode.specs.declared.insn.OneOp.{OneOp}
-use Rattle.insn_decode.specs.declared.insn.OneOp.TheVariants.{Push, Call}
-use Rattle.sm_words.specs.declared.width.Width.TheVariants.{Byte, Word}
+use Rattle.cycle_table.proofs.Least.{one_least}
 use Rattle.cycle_table.specs.Cycles.{cycles_of, two_row}
 use Rattle.insn_decode.specs.declared.insn.Operand.{Operand}
 use Rattle.insn_decode.specs.declared.insn.Operand.TheVariants.{Reg, Const, Imm, Indexed, Symbolic, Absolute, Indirect, Increment}
@@ -84,42 +83,11 @@ two_fine (Some op) w0 w1 w2 = by (source_of ((w0 / 16) % 4) ((w0 / 256) % 16) w1
 -- each instruction of format II in the table takes cycles
 one_cycles_some : (op : OneOp) (w : Width) (a : Operand) → one_fits op w a ≡ true → 0 < cycles_of (One op w a)
 unfolding cycles_of
-one_cycles_some Push w (Reg r) e = omega arith
-one_cycles_some Push w (Const c) e = omega arith
-one_cycles_some Push w (Imm x) e = omega arith
-one_cycles_some Push w (Indexed r x) e = omega arith
-one_cycles_some Push w (Symbolic x) e = omega arith
-one_cycles_some Push w (Absolute x) e = omega arith
-one_cycles_some Push w (Indirect r) e = omega arith
-one_cycles_some Push w (Increment r) e = omega arith
-one_cycles_some Call w (Reg r) e = omega arith
-one_cycles_some Call w (Const c) e = omega arith
-one_cycles_some Call w (Imm x) e = omega arith
-one_cycles_some Call w (Indexed r x) e = omega arith
-one_cycles_some Call w (Symbolic x) e = omega arith
-one_cycles_some Call w (Absolute x) e = omega arith
-one_cycles_some Call w (Indirect r) e = omega arith
-one_cycles_some Call w (Increment r) e = omega arith
-one_cycles_some op w (Reg r) e = omega arith
-one_cycles_some op Byte (Const c) e = absurd cc
-one_cycles_some op Word (Const c) e = absurd cc
-one_cycles_some op w (Indexed r x) e = omega arith
-one_cycles_some op w (Symbolic x) e = omega arith
-one_cycles_some op w (Absolute x) e = omega arith
-one_cycles_some op w (Indirect r) e = omega arith
-one_cycles_some op w (Increment r) e = omega arith
-one_cycles_some op Byte (Imm x) e = absurd cc
-one_cycles_some op Word (Imm x) e = absurd cc
+one_cycles_some op w a e = one_least op w a e
 
 row_some : (s : Operand) → (0 < nth 0 (two_row s) 0) × (0 < nth 1 (two_row s) 0) × (0 < nth 2 (two_row s) 0)
 row_some (Reg r) = (omega arith, omega arith, omega arith)
-row_some (Const x) = (omega arith, omega arith, omega arith)
-row_some (Indirect r) = (omega arith, omega arith, omega arith)
-row_some (Increment r) = (omega arith, omega arith, omega arith)
-row_some (Imm x) = (omega arith, omega arith, omega arith)
-row_some (Indexed r x) = (omega arith, omega arith, omega arith)
-row_some (Symbolic x) = (omega arith, omega arith, omega arith)
-row_some (Absolute x) = (omega arith, omega arith, omega arith)
+row_some _ = (omega arith, omega arith, omega arith)
 
 pub two_cycles_some : (op : TwoOp) (w : Width) (s d : Operand) → 0 < cycles_of (Two op w s d)
 unfolding cycles_of

@@ -20,7 +20,7 @@ use Rattle.mod_layout.specs.declared.Module.{Module}
 use Rattle.mod_layout.specs.Table.{holds, size_of}
 use Rattle.cpu_step.specs.Fetched.{insn_at, later_word}
 use Rattle.attest.specs.Accesses.{reads_of, writes_of}
-use Rattle.attest.specs.Units.{UnitName, Unprotect, Protect, Attest, Tag, IdOf, OwnId, CallerId, unit_named, Effect, unit_plan, unit_effect}
+use Rattle.attest.specs.Units.{UnitName, Unprotect, OwnId, CallerId, unit_named, Effect, unit_plan, unit_effect}
 use Rattle.cpu_step.specs.Asked.{asks, effect}
 use Rattle.cpu_step.specs.Lone.{Job, Lone, lone_byte, lone_who, is_alone, unit_alone, all_inside, may_do, if_home, next_first, next_insn, lone_read, lone_writes, lone_does, Does, doing, doing_by, does_or_breaks, lone_step_by, job_of}
 use Rattle.flow_rule.specs.declared.Val.{Val}
@@ -490,10 +490,7 @@ module _ (key : List ℕ) (m : Module) (text : List ℕ) (caller : ℕ) (shape :
   unit_crossing n Unprotect e x ca da cb db at met_it none = shut_crossing n Unprotect e x ca da cb db at met_it (ap unit_alone e) (6 + size_of m.ram / 2 - 1) refl refl refl refl none
   unit_crossing n OwnId e x ca da cb db at met_it none = tell_crossing n OwnId e x ca da cb db at met_it (ap unit_alone e) m.id refl refl refl refl none
   unit_crossing n CallerId e x ca da cb db at met_it none = tell_crossing n CallerId e x ca da cb db at met_it (ap unit_alone e) caller refl refl refl refl none
-  unit_crossing n Protect e x ca da cb db at met_it none = absurd cc
-  unit_crossing n Attest e x ca da cb db at met_it none = absurd cc
-  unit_crossing n Tag e x ca da cb db at met_it none = absurd cc
-  unit_crossing n IdOf e x ca da cb db at met_it none = absurd cc
+  unit_crossing n _ e x ca da cb db at met_it none = absurd cc
 
   -- ---- any instruction
   pub step_crossing : ((pc : ℕ) (insn : Insn) → met m.text text pc ≡ Some insn → RegularInsn insn) → (x : Point) (ca da cb db : List ℕ) → AgreeAt m x ca da cb db → (step_of m text x).reasons ≡ [] → Crossing m j (AgreeAt m) (step_of m text x).gives (at_rest ca da) (at_rest cb db)

@@ -345,10 +345,7 @@ module _ (key : List ℕ) (m : Module) (text : List ℕ) (caller : ℕ) (shape :
 
       by : (a b c d : Bool) → a ≡ true → b ≡ false → c ≡ true → d ≡ false → ((not b && (a || holds m.ram (entry_place c0))) && ((not d && c) && true)) ≡ true
       by true false true false p q r s = refl
-      by false b c d p q r s = absurd cc
-      by true true c d p q r s = absurd cc
-      by true false false d p q r s = absurd cc
-      by true false true true p q r s = absurd cc
+      by _ _ _ _ p q r s = absurd cc
 
   abbrev entry_point : ℕ → List ℕ → List Val → List Val → Point
   entry_point i returns core words =

@@ -20,7 +20,7 @@ use Rattle.arm_balance.specs.declared.Arm.{Arm}
 use Rattle.arm_balance.specs.Met.{text_byte, word_in, whole, met_first, met}
 use Rattle.arm_balance.specs.Balance.{met_cycles, next_if, arm_next, arm_on}
 use Rattle.flow_rule.specs.declared.Val.{Val}
-use Rattle.flow_rule.specs.declared.Val.TheVariants.{Known, Away, Public, Secret}
+use Rattle.flow_rule.specs.declared.Val.TheVariants.{Known, Secret}
 use Rattle.flow_rule.specs.declared.Label.{Label}
 use Rattle.flow_rule.specs.declared.Reach.{Reach}
 use Rattle.flow_rule.specs.declared.Reason.TheVariants.{Arm as ArmInsn, SecretBranch}
@@ -91,12 +91,8 @@ module _ (m : Module) (pc : ℕ) where
   by_keeps (Known to) (Known b) r q ts ws vs us h even p d g =
       subst (λ b. Leads (goes_by (Known to) m pc r ts ws) (goes_by (Known b) m pc q vs us)) (sym h)
       (in_keeps (holds m.text to) to r q ts ws vs us (even to refl) p d g)
-  by_keeps (Known to) Away r q ts ws vs us h even p d g = absurd h
-  by_keeps (Known to) Public r q ts ws vs us h even p d g = absurd h
-  by_keeps (Known to) Secret r q ts ws vs us h even p d g = absurd h
-  by_keeps Away v r q ts ws vs us h even p d g = let e = g.gives in absurd cc
-  by_keeps Public v r q ts ws vs us h even p d g = let e = g.gives in absurd cc
-  by_keeps Secret v r q ts ws vs us h even p d g = let e = g.gives in absurd cc
+  by_keeps (Known to) _ r q ts ws vs us h even p d g = absurd h
+  by_keeps _ v r q ts ws vs us h even p d g = let e = g.gives in absurd cc
 
   goes_keeps : (r q : List ℕ) (ts ws vs us : List Val) → EvenPc ts → AbsorbsEach ts vs → AbsorbsEach ws us →
       Some_gives (goes m pc r ts ws) → Leads (goes m pc r ts ws) (goes m pc q vs us)

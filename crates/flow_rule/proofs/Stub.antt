@@ -1,6 +1,6 @@
 -- The words of a stub, and its steps.
-use Rattle.std.proofs.Common.{◌≡◌, ◌⊎◌, inl, inr, ℕ, zero, suc, ◌+◌, ◌*◌, ◌%◌, ◌<◌, ◌≤◌, List, [], ◌∷◌, length, refl, ap, ◌∙◌, subst, arith, Bool, true, false, nat_lt, nat_le, ◌==◌, ◌&&◌, Some}
-use Rattle.std.proofs.lemmas.Bool.{cases_lt}
+use Rattle.std.proofs.Common.{◌≡◌, ◌⊎◌, inl, inr, ℕ, zero, suc, ◌+◌, ◌*◌, ◌%◌, ◌<◌, ◌≤◌, List, [], ◌∷◌, length, refl, ap, ◌∙◌, subst, arith, Bool, true, nat_lt, nat_le, ◌==◌, ◌&&◌, Some}
+use Rattle.std.proofs.lemmas.Bool.{and_parts, cases_lt}
 use Rattle.std.proofs.lemmas.Bool.Decides.{nat_tests}
 use Rattle.sm_words.specs.Words.{nth, word_at}
 use Rattle.insn_decode.specs.Code.{insn_of, length_of}
@@ -19,15 +19,10 @@ pub record StubFacts (m : Module) (text : List ℕ) (n p : ℕ) : Type 0 where
   pub words : (i : ℕ) → i < 38 → word_of m text i ≡ nth i (stub_front m.text.start m.text.end m.ram.start n p) 0
   pub table : (i : ℕ) → i < n → (word_of m text (38 + i) % 2 ≡ 0) × (m.text.start + 76 + 2 * n ≤ word_of m text (38 + i)) × (word_of m text (38 + i) < m.text.end)
 
-both_true : (a b : Bool) → (a && b) ≡ true → (a ≡ true) × (b ≡ true)
-both_true true true e = (refl, refl)
-both_true true false e = absurd cc
-both_true false b e = absurd cc
-
 words_at : (m : Module) (text : List ℕ) (k : ℕ) (ws : List ℕ) → words_are m text k ws ≡ true → (i : ℕ) → i < length ws → word_of m text (k + i) ≡ nth i ws 0
 words_at m text k [] e i lt = absurd (omega arith)
 words_at m text k (w ∷ ws) e zero lt =
-    let h = both_true (word_of m text k == w) (words_are m text (k + 1) ws) e in
+    let h = and_parts (word_of m text k == w) (words_are m text (k + 1) ws) e in
     let h0 = h.0 in
     let f : k + zero ≡ k = omega arith in
     ap (λ i. word_of m text i) f ∙ is_word (word_of m text k) w h0
@@ -35,7 +30,7 @@ words_at m text k (w ∷ ws) e zero lt =
     is_word : (x w : ℕ) → (x == w) ≡ true → x ≡ w
     is_word x w e = grind (arith, nat_tests)
 words_at m text k (w ∷ ws) e (suc i) lt =
-    let h = both_true (word_of m text k == w) (words_are m text (k + 1) ws) e in
+    let h = and_parts (word_of m text k == w) (words_are m text (k + 1) ws) e in
     let f : k + suc i ≡ k + 1 + i = omega arith in
     ap (λ i. word_of m text i) f ∙ words_at m text (k + 1) ws h.1 i (omega arith)
 
@@ -44,9 +39,9 @@ table_at : (m : Module) (text : List ℕ) (entries k : ℕ) → table_fine m tex
 table_at m text entries zero e i lt = absurd (omega arith)
 table_at m text entries (suc k) e i lt =
     let a = word_of m text (38 + k) in
-    let h1 = both_true ((a % 2 == 0) && nat_le (m.text.start + 76 + 2 * entries) a && nat_lt a m.text.end) (table_fine m text entries k) e in
-    let h2 = both_true ((a % 2 == 0) && nat_le (m.text.start + 76 + 2 * entries) a) (nat_lt a m.text.end) h1.0 in
-    let h3 = both_true (a % 2 == 0) (nat_le (m.text.start + 76 + 2 * entries) a) h2.0 in
+    let h1 = and_parts ((a % 2 == 0) && nat_le (m.text.start + 76 + 2 * entries) a && nat_lt a m.text.end) (table_fine m text entries k) e in
+    let h2 = and_parts ((a % 2 == 0) && nat_le (m.text.start + 76 + 2 * entries) a) (nat_lt a m.text.end) h1.0 in
+    let h3 = and_parts (a % 2 == 0) (nat_le (m.text.start + 76 + 2 * entries) a) h2.0 in
     by (word_facts a h3.0 h3.1 h2.1) (cases_lt i k) (λ lt. table_at m text entries k h1.1 i lt)
   where
     word_facts : (a : ℕ) → (a % 2 == 0) ≡ true → nat_le (m.text.start + 76 + 2 * entries) a ≡ true → nat_lt a m.text.end ≡ true → (a % 2 ≡ 0) × (m.text.start + 76 + 2 * entries ≤ a) × (a < m.text.end)

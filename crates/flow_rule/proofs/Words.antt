@@ -1,6 +1,6 @@
 -- The data of two runs that agree under values of their words, and reads and writes.
-use Rattle.std.proofs.Common.{◌≡◌, ◌≢◌, ◌⊎◌, inl, inr, ℕ, ◌+◌, ◌-◌, ◌*◌, ◌/◌, ◌%◌, ◌<◌, ◌≤◌, List, [], ◌∷◌, length, get_or, set, map, refl, sym, ap, ◌∙◌, subst, arith, Bool, true, false, cond, ◌==◌, ◌&&◌, ◌||◌, not, length-set, get_or-set_same, get_or-set_other}
-use Rattle.std.proofs.lemmas.Bool.{cases_lt}
+use Rattle.std.proofs.Common.{◌≡◌, ◌≢◌, ◌⊎◌, inl, inr, ℕ, ◌+◌, ◌-◌, ◌*◌, ◌/◌, ◌%◌, ◌<◌, ◌≤◌, List, [], ◌∷◌, length, get_or, set, map, refl, sym, ap, ◌∙◌, subst, arith, Bool, true, false, cond, ◌==◌, ◌||◌, not, length-set, get_or-set_same, get_or-set_other}
+use Rattle.std.proofs.lemmas.Bool.{and_parts, cases_lt}
 use Rattle.std.proofs.lemmas.Bool.Decides.{nat_tests}
 use Rattle.std.proofs.lemmas.List.{set_past, get_or_past}
 use Rattle.sm_words.specs.Words.{nth, word_at}
@@ -16,7 +16,7 @@ use Rattle.pc_access.specs.Rights.{misaligned}
 use Rattle.attest.specs.Accesses.{is_read, is_write, reads_of, writes_of}
 use Rattle.cpu_step.specs.Lone.{value_at, Job, lone_byte, lone_read, lone_write, lone_writes, job_of}
 use Rattle.flow_rule.specs.declared.Val.{Val}
-use Rattle.flow_rule.specs.declared.Val.TheVariants.{Known, Away, Public, Secret}
+use Rattle.flow_rule.specs.declared.Val.TheVariants.{Known, Public, Secret}
 use Rattle.flow_rule.specs.Values.{over_one, blurred_all, narrow}
 use Rattle.flow_rule.specs.declared.Reach.{Reach}
 use Rattle.flow_rule.specs.Does.{may_reach, word_no, half, read_at, read_val, write_at, write_val, writes_val, read_reaches, write_reaches}
@@ -52,11 +52,6 @@ pub record AgreeData (m : Module) (v : List Val) (a b : List ℕ) : Type 0 where
   pub is_a : IsData m a
   pub is_b : IsData m b
   pub at : (i : ℕ) → Agrees m.text (nth i v Secret) (word a i) (word b i)
-
-and_true : (a b : Bool) → (a && b) ≡ true → (a ≡ true) × (b ≡ true)
-and_true true true e = (refl, refl)
-and_true true false e = absurd cc
-and_true false b e = absurd cc
 
 or_second : (a b : Bool) → (a || b) ≡ true → a ≡ false → b ≡ true
 or_second false b e f = e
@@ -141,7 +136,7 @@ module _ (key : List ℕ) (m : Module) (text : List ℕ) (caller : ℕ) (shape :
   read_agrees : (v : List Val) (a b : List ℕ) (w : Width) (x : ℕ) → AgreeData m v a b → may_reach m Read w x ≡ true →
       Agrees m.text (read_at m text v w x) (lone_read j a (record { kind = Read; addr = x; width = w })) (lone_read j b (record { kind = Read; addr = x; width = w }))
   read_agrees v a b Word x h e =
-      let t = and_true (not (misaligned Word x)) (holds m.text x || holds m.ram x) e in
+      let t = and_parts (not (misaligned Word x)) (holds m.text x || holds m.ram x) e in
       by (holds m.text x) refl (aligned x t.0) t.1
     where
       by : (c : Bool) → holds m.text x ≡ c → x % 2 ≡ 0 → (holds m.text x || holds m.ram x) ≡ true → Agrees m.text (cond c (Known (word_at (text_byte m.text text) x)) (nth (word_no m x) v Secret)) (word_at (lone_byte j a) x) (word_at (lone_byte j b) x)
@@ -171,12 +166,7 @@ module _ (key : List ℕ) (m : Module) (text : List ℕ) (caller : ℕ) (shape :
   reads_by v a b Read Read r x rs xs h kl ea ew e t = (read_one v a b r x h ea ew e, t)
   reads_by v a b Write Write r x rs xs h kl ea ew e t = t
   reads_by v a b Fetch Fetch r x rs xs h kl ea ew e t = t
-  reads_by v a b Read Write r x rs xs h kl ea ew e t = absurd cc
-  reads_by v a b Read Fetch r x rs xs h kl ea ew e t = absurd cc
-  reads_by v a b Write Read r x rs xs h kl ea ew e t = absurd cc
-  reads_by v a b Write Fetch r x rs xs h kl ea ew e t = absurd cc
-  reads_by v a b Fetch Read r x rs xs h kl ea ew e t = absurd cc
-  reads_by v a b Fetch Write r x rs xs h kl ea ew e t = absurd cc
+  reads_by v a b _ _ r x rs xs h kl ea ew e t = absurd cc
 
   pub reads_agree : (v : List Val) (a b : List ℕ) (rs : List Reach) (xs : List Access) → AgreeData m v a b → Fixed m rs xs →
       AgreeList m.text (map (read_val m text v) (read_reaches rs)) (map (lone_read j a) (reads_of xs)) (map (lone_read j b) (reads_of xs))
@@ -320,7 +310,7 @@ module _ (m : Module) (shape : Shape m) where
 
   write_agrees : (v : List Val) (a b : List ℕ) (w : Width) (x : ℕ) (u : Val) (p q : ℕ) → AgreeData m v a b → may_reach m Write w x ≡ true → Agrees m.text u p q →
       AgreeData m (write_at m v w x u) (lone_write m w a x p) (lone_write m w b x q)
-  write_agrees v a b Word x u p q h e g = let t = and_true (not (misaligned Word x)) (holds m.ram x) e in word_written v a b x u p q h t.1 (aligned x t.0) g
+  write_agrees v a b Word x u p q h e g = let t = and_parts (not (misaligned Word x)) (holds m.ram x) e in word_written v a b x u p q h t.1 (aligned x t.0) g
   write_agrees v a b Byte x u p q h e g = byte_written v a b x u p q h e g
 
   write_one : (v : List Val) (a b : List ℕ) (r : Reach) (x : Access) (u : Val) (p q : ℕ) → AgreeData m v a b → r.addr ≡ Known x.addr → x.width ≡ r.width → may_reach m Write r.width x.addr ≡ true → Agrees m.text u p q →
@@ -340,24 +330,16 @@ module _ (m : Module) (shape : Shape m) where
           AgreeData m (writes_val m v (elim k [ Write ↦ r ∷ write_reaches rs | _ ↦ write_reaches rs ]) us) (lone_writes m a (cond (is_write l) (x ∷ writes_of xs) (writes_of xs)) ps) (lone_writes m b (cond (is_write l) (x ∷ writes_of xs) (writes_of xs)) qs)
       by Write Write go [] [] [] e k g = h
       by Write Write go (u ∷ us) (p ∷ ps) (q ∷ qs) e k g = go (write_val m v r u) (lone_write m x.width a x.addr p) (lone_write m x.width b x.addr q) us ps qs (write_one v a b r x u p q h f.0 f.2 k g.0) g.1
-      by Write Write go [] (p ∷ ps) qs e k g = absurd g
-      by Write Write go [] [] (q ∷ qs) e k g = absurd g
-      by Write Write go (u ∷ us) [] qs e k g = absurd g
-      by Write Write go (u ∷ us) (p ∷ ps) [] e k g = absurd g
+      by Write Write go _ _ _ e k g = absurd g
       by Read Read go us ps qs e k g = go v a b us ps qs h g
       by Fetch Fetch go us ps qs e k g = go v a b us ps qs h g
-      by Read Write go us ps qs e k g = absurd cc
-      by Read Fetch go us ps qs e k g = absurd cc
-      by Write Read go us ps qs e k g = absurd cc
-      by Write Fetch go us ps qs e k g = absurd cc
-      by Fetch Read go us ps qs e k g = absurd cc
-      by Fetch Write go us ps qs e k g = absurd cc
+      by _ _ go us ps qs e k g = absurd cc
 
   -- ---- words that are not written
   one_kept : (w : Width) (a v : ℕ) (d : List ℕ) (i : ℕ) → may_reach m Write w a ≡ true → i ≢ word_no m a → word (lone_write m w d a v) i ≡ word d i
   one_kept Byte a v d i e ne = put_byte_other d (a - m.ram.start) (v % 256) i ne
   one_kept Word a v d i e ne =
-      let t = and_true (not (misaligned Word a)) (holds m.ram a) e in
+      let t = and_parts (not (misaligned Word a)) (holds m.ram a) e in
       let h = in_data a t.1 in
       let h0 = h.0 in let h1 = h.1 in
       let ev = aligned a t.0 in
@@ -375,9 +357,7 @@ module _ (m : Module) (shape : Shape m) where
     where
       split : (v : Val) → v ≡ Known x.addr → NotIn i (elim v [ Known a ↦ word_no m a ∷ written_words m (write_reaches rs) | _ ↦ written_words m (write_reaches rs) ]) → (i ≢ word_no m x.addr) × NotIn i (written_words m (write_reaches rs))
       split (Known a) e h = let g : a ≡ x.addr = cc in (λ z. h.0 (z ∙ ap (word_no m) (sym g)), h.1)
-      split Away e h = absurd cc
-      split Public e h = absurd cc
-      split Secret e h = absurd cc
+      split _ e h = absurd cc
 
       by : (k l : Kind) (vs : List ℕ) → l ≡ k → may_reach m k r.width x.addr ≡ true → NotIn i (written_words m (elim k [ Write ↦ r ∷ write_reaches rs | _ ↦ write_reaches rs ])) →
           ((d : List ℕ) (vs : List ℕ) → NotIn i (written_words m (write_reaches rs)) → word (lone_writes m d (writes_of xs) vs) i ≡ word d i) →
@@ -388,9 +368,4 @@ module _ (m : Module) (shape : Shape m) where
           go (lone_write m x.width d x.addr v) vs s.1 ∙ one_kept x.width x.addr v d i (ap (λ w. may_reach m Write w x.addr) f.2 ∙ k) s.0
       by Read Read vs e k h go = go d vs h
       by Fetch Fetch vs e k h go = go d vs h
-      by Read Write vs e k h go = absurd cc
-      by Read Fetch vs e k h go = absurd cc
-      by Write Read vs e k h go = absurd cc
-      by Write Fetch vs e k h go = absurd cc
-      by Fetch Read vs e k h go = absurd cc
-      by Fetch Write vs e k h go = absurd cc
+      by _ _ vs e k h go = absurd cc

@@ -4,7 +4,6 @@ use Rattle.std.specs.Option.{option_map, option_and_then}
 use Rattle.std.proofs.lemmas.Bool.Decides.{nat_tests}
 use Rattle.std.proofs.lemmas.List.{append_assoc, append-nil, at_drop_more}
 use Rattle.std.proofs.lemmas.Option.{slice_get_past}
-use Rattle.std.proofs.Math.ListN.{drop_of_length-le}
 use Rattle.pc_access.specs.declared.Stop.{Stop}
 use Rattle.sm_io.specs.Sink.{Took, CutOff, Puts}
 use Rattle.sm_io.specs.declared.sink.Failed.{Failed}
@@ -47,10 +46,6 @@ last_refused_after addr k g new fault h is = is ∙ sym (ap (λ (m : Move). m.af
 -- the i-th line, and what its cycles leave for the lines after it
 pub line_at : (script items : List ScriptLine) (i : ℕ) (d : ScriptLine) → items ≡ script → i < length items → drop i script ≡ get_or items i d ∷ drop (i + 1) script
 line_at script items i d is h = subst (λ ls. i < length ls → drop i script ≡ get_or ls i d ∷ drop (i + 1) script) (sym is) (λ low. at_drop_more (λ ls. ls) script i d low) h
-
--- no line is left
-pub none_left : (script items : List ScriptLine) (i : ℕ) → items ≡ script → (i < length items → ⊥) → drop i script ≡ []
-none_left script items i is h = let past : length script ≤ i = omega (arith, ap length is, h) in drop_of_length-le script {i = i} past
 
 pub cycles_left : (script : List ScriptLine) (i : ℕ) (l : ScriptLine) (now most : ℕ) → drop i script ≡ l ∷ drop (i + 1) script → now + all_cycles (drop i script) ≤ most → now + (most_cycles l + all_cycles (drop (i + 1) script)) ≤ most
 cycles_left script i l now most at h = subst (λ ls. now + all_cycles ls ≤ most) at h

@@ -129,7 +129,7 @@ balanced_few : length (balanced_points 5) ≡ 5
 unfolding bytes_of meet step_arms met step_of step_stub has_stub plan_val does_val insn_of cycles_of
 balanced_few = refl
 
-balanced_accepted : VerdictWith (called 0x0322) (bytes_of balanced) meet Yes
+pub balanced_accepted : VerdictWith (called 0x0322) (bytes_of balanced) meet Yes
 balanced_accepted =
     (balanced_points 5, record { rounds_to = 5; is = refl; stays = balanced_stays }, subst (λ n. n ≤ 16384) (sym balanced_few) (omega arith), balanced_reasons)
 
