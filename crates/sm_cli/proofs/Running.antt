@@ -1,7 +1,9 @@
 -- The answers of commands.
-use Rattle.std.proofs.Common.{◌≡◌, false, ℕ, List, [], ◌∷◌, ◌++◌, map, Option, Some, None, inl, inr, refl, sym, ◌∙◌, ap, ap₂, subst}
+use Rattle.std.proofs.Common.{◌≡◌, false, ℕ, List, [], ◌∷◌, ◌++◌, map, Option, Some, None, Result, Ok, Err, inl, inr, refl, sym, ◌∙◌, ap, ap₂, subst}
 use Rattle.sm_io.specs.Faults.{HasCause}
 use Rattle.sm_io.specs.Files.{FileMap}
+use Rattle.sm_io.specs.Sink.{Took, CutOff, Puts}
+use Rattle.sm_io.specs.declared.sink.Failed.{Failed}
 use Rattle.image_text.specs.Image.{Image}
 use Rattle.schedule_file.specs.declared.Entry.{Entry}
 use Rattle.sm_cli.specs.Files.{image_file, need, an_image, a_schedule, a_script, Holds, IsScheduleOf, schedule_file, script_file, layout_file, Need, schedule_needs, object_needs, Held, a_layout, an_object, HoldAll}
@@ -19,13 +21,31 @@ use Rattle.sm_cli.specs.LinkCommand.{link_command, objects_in, linked, linked_by
 use Rattle.written_machine.specs.declared.ScriptLine.{ScriptLine}
 use Rattle.sm_cli.specs.MonitorCommand.{monitor_command, script_answer}
 use Rattle.sm_cli.specs.RunCommand.{run_command}
-use Rattle.sm_cli.specs.Serve.{IsNeedCause, IsCommandCause}
+use Rattle.sm_cli.specs.Serve.{IsNeedCause, IsCommandCause, EndsAs, IsRun}
+use Rattle.sm_cli.specs.StatusNumbers.{status_after}
+use Rattle.sm_cli.specs.declared.answers.Status.{Status}
+use Rattle.sm_cli.specs.declared.answers.Status.TheVariants as status
 use Rattle.sm_cli.specs.SymbolNames.{symbol_name}
 use Rattle.sm_cli.specs.Unlinked.{IsUnlinked}
 
 -- what a command gives is its answer
 pub gives_answer : (files : Option FileMap) (command : Command) (answer : Answer) → Comes files command (gives answer) → IsAnswer files command answer
 gives_answer files command answer comes = record { outcome = gives answer; comes = comes; is = refl }
+
+-- an output that is put is the answer
+module _ {S : Type 0} (taken : S → Option (List ℕ)) (faults sure : S → ℕ) (old new : S) where
+  ends_after : (answer : Answer) → answer.status ≡ status.Done → (put : Result (Unit {0}) Failed) → Puts taken faults sure old new answer.text put
+      → EndsAs (status_after put) answer (Took taken faults sure old new) (CutOff taken faults sure old new)
+  ends_after answer e (Ok x) h = (h, e)
+  ends_after answer e (Err x) h = h
+
+  pub put_answer : (files : Option FileMap) (command : Command) (answer : Answer) (own : List ℕ) (put : Result (Unit {0}) Failed) (ended : Status) → Comes files command (gives answer) → answer.status ≡ status.Done
+      → own ≡ answer.text → Puts taken faults sure old new own put → ended ≡ status_after put → IsRun files command ended (Took taken faults sure old new) (CutOff taken faults sure old new)
+  put_answer files command answer own put ended comes e same puts ends = record {
+    answer = answer;
+    served = gives_answer files command answer comes;
+    ends = subst (λ s. EndsAs s answer (Took taken faults sure old new) (CutOff taken faults sure old new)) (sym ends) (ends_after answer e put (subst (λ l. Puts taken faults sure old new l put) same puts));
+  }
 
 -- the trace of an image on a schedule
 pub image_answer : (files : Option FileMap) (name : List ℕ) (schedule : Option (List ℕ)) (cycles : ℕ) (value : Image) (entries : List Entry)
@@ -66,11 +86,6 @@ module _ (files : Option FileMap) (name : List ℕ) (names : List (List ℕ)) (l
   pub link_comes : (outcome : Outcome) → Holds files (need name layout_file) (a_layout layout) → HoldAll files (object_needs names) (map an_object objects)
       → linked layout (objects_in (map an_object objects)) text_answer ≡ outcome → Comes files (link_command name names) outcome
   link_comes outcome h hs e = record { helds = a_layout layout ∷ map an_object objects; hold = (h, hs); is = e }
-
-  -- the text of the image that objects link to
-  pub link_answer : Holds files (need name layout_file) (a_layout layout) → HoldAll files (object_needs names) (map an_object objects) → link_fault_of layout objects ≡ None
-      → IsAnswer files (link_command name names) (text_answer (linked_image layout objects))
-  link_answer h hs e = gives_answer files (link_command name names) (text_answer (linked_image layout objects)) (link_comes (gives (text_answer (linked_image layout objects))) h hs (linked_gives layout objects text_answer e))
 
   -- what comes of a layout, a schedule and objects
   pub run_comes : (schedule : Option (List ℕ)) (cycles : ℕ) (entries : List Entry) (outcome : Outcome) → Holds files (need name layout_file) (a_layout layout) → IsScheduleOf files schedule entries

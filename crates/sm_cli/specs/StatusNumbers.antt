@@ -1,5 +1,6 @@
--- The numbers of the statuses, with which the program ends.
-use Rattle.std.specs.Prelude.{ℕ}
+-- The statuses: their numbers, with which the program ends, and that of an output that is put.
+use Rattle.std.specs.Prelude.{ℕ, Result, Ok, Err}
+use Rattle.sm_io.specs.declared.sink.Failed.{Failed}
 use Rattle.sm_cli.specs.declared.answers.Status.{Status}
 use Rattle.sm_cli.specs.declared.answers.Status.TheVariants as status
 
@@ -13,3 +14,8 @@ number_of status.ReadFault = 6
 number_of status.WriteFault = 7
 number_of status.NoMemory = 8
 number_of status.CheckNo = 9
+
+-- by what putting the whole of an output did
+abbrev pub status_after : Result (Unit {0}) Failed → Status
+status_after (Ok put) = status.Done
+status_after (Err failed) = status.WriteFault

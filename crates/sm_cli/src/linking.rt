@@ -9,7 +9,7 @@ ghost use Rattle.sm_cli.specs.NameText.{name_text};
 ghost use Rattle.sm_cli.specs.SymbolNames as spec;
 ghost use Rattle.sm_cli.specs.Unlinked.{IsUnlinked};
 
-use crate::answers::{Name, Refusal, Refused};
+use crate::answers::{NO_MEMORY, Name, Refusal, Refused};
 use elf_objects::Object;
 use image_text::Image;
 use layout_file::{Layout, VectorName};
@@ -31,23 +31,14 @@ pub fn linked_image<'a>(
 {
     match link(alloc, layout, objects) {
         Ok(image) => Ok(image),
-        Err(LinkFault::NoMemory) => Err(refused(Refusal::NoMemory)),
+        Err(LinkFault::NoMemory) => Err(NO_MEMORY),
         Err(fault) => match symbol_name(alloc, layout, objects, fault) {
             Ok(name) => Err(Refused {
                 refusal: Refusal::Link(fault),
                 name: Name::Symbol(name),
             }),
-            Err(_) => Err(refused(Refusal::NoMemory)),
+            Err(_) => Err(NO_MEMORY),
         },
-    }
-}
-
-fn refused<'a>(refusal: Refusal) -> Refused<'a>
-    ensures { result.refusal ≡ refusal }
-{
-    Refused {
-        refusal,
-        name: Name::Word(""),
     }
 }
 

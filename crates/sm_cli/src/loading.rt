@@ -13,7 +13,7 @@ ghost use Rattle.sm_cli.specs.Files.{Kind, Held, an_image, a_schedule, the_chall
 ghost use Rattle.sm_cli.specs.NameText.{name_text};
 ghost use Rattle.sm_cli.specs.Serve.{IsNeedCause};
 
-use crate::answers::{Name, Refused};
+use crate::answers::{NO_MEMORY, Name, Refused};
 use crate::{FileFault, Refusal};
 use arm_balance::{Arms, ArmsFault, read_arms};
 use asm_text::{AsmFault, AsmUnit, assemble};
@@ -301,10 +301,7 @@ pub fn load_objects<'a, F: Files>(
             Err(refused) => return Err(refused),
         };
         if objects.push(object).is_err() {
-            return Err(Refused {
-                refusal: Refusal::NoMemory,
-                name: Name::Word(name),
-            });
+            return Err(NO_MEMORY);
         }
     }
     Ok(objects)

@@ -27,7 +27,7 @@ ghost use Rattle.sm_cli.specs.NameText.{name_text};
 ghost use Rattle.sm_cli.specs.Refusal.{status_of, line_of};
 ghost use Rattle.sm_cli.specs.Serve.{texts, call_of, Serves, Refuses, IsOrOutside, IsRoomForAnswer, IsRoomForLine, Completes};
 
-use crate::answers::{Name, Refused};
+use crate::answers::{NO_MEMORY, Name, Refused};
 use crate::commands::{Answering, read_command};
 use crate::lines::put_refusal;
 use crate::{Refusal, Status};
@@ -153,13 +153,7 @@ pub fn serve<F: Files, O: Sink, E: Sink>(
                 name: Name::Word(""),
             },
         ),
-        Err(_) => return tell(
-            err,
-            Refused {
-                refusal: Refusal::NoMemory,
-                name: Name::Word(""),
-            },
-        ),
+        Err(_) => return tell(err, NO_MEMORY),
     };
     match command.answer(alloc, files, out) {
         Ok(status) => status,

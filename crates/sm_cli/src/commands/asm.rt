@@ -4,13 +4,13 @@ ghost use Rattle.sm_cli.specs.AsmCommand.{asm_of, asm_asked};
 ghost use Rattle.sm_cli.specs.Serve.{texts};
 ghost use Rattle.sm_cli.specs.Words.{values_in};
 
-use crate::answers::{Name, Refusal, Refused, Status};
+use crate::answers::{NO_MEMORY, Refused, Status, status_after};
 use crate::commands::Answering;
 use crate::loading::load;
 use crate::words::values_of;
 use asm_text::AsmUnit;
 use obj_write::write_object;
-use sm_io::{Failed, Files, Sink, put_all};
+use sm_io::{Files, Sink, put_all};
 use std::alloc::{AllocError, Global};
 
 /// The argument.
@@ -56,18 +56,9 @@ impl Answering for AsmCommand<'_> {
             Ok(unit) => unit,
             Err(refused) => return Err(refused),
         };
-        let object = match write_object(alloc, &unit) {
-            Ok(object) => object,
-            Err(_) => {
-                return Err(Refused {
-                    refusal: Refusal::NoMemory,
-                    name: Name::Word(self.source),
-                });
-            }
-        };
-        match put_all(out, object.as_slice()) {
-            Ok(()) => Ok(Status::Done),
-            Err(Failed) => Ok(Status::WriteFault),
+        match write_object(alloc, &unit) {
+            Ok(object) => Ok(status_after(put_all(out, object.as_slice()))),
+            Err(_) => Err(NO_MEMORY),
         }
     }
 }

@@ -7,8 +7,7 @@ ghost use Rattle.sm_cli.specs.BalanceCommand.{balance_of, balance_asked};
 ghost use Rattle.sm_cli.specs.Serve.{texts};
 ghost use Rattle.sm_cli.specs.Words.{values_in};
 
-use crate::Refusal;
-use crate::answers::{Name, Refused, Status};
+use crate::answers::{NO_MEMORY, Refused, Status};
 use crate::arguments::id_of;
 use crate::commands::Answering;
 use crate::loading::{Chosen, load, load_with};
@@ -77,10 +76,7 @@ impl Answering for BalanceCommand<'_> {
         };
         match verdict_with(alloc, &chosen, &arms) {
             Ok(verdict) => Ok(put_verdict(out, verdict)),
-            Err(AllocError) => Err(Refused {
-                refusal: Refusal::NoMemory,
-                name: Name::Word(""),
-            }),
+            Err(AllocError) => Err(NO_MEMORY),
         }
     }
 }

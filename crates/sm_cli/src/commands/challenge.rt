@@ -4,11 +4,11 @@ ghost use Rattle.sm_cli.specs.ChallengeCommand.{challenge_of, challenge_asked};
 ghost use Rattle.sm_cli.specs.Serve.{texts};
 ghost use Rattle.sm_cli.specs.Words.{values_in};
 
-use crate::answers::{Name, Refusal, Refused, Status};
+use crate::answers::{NO_MEMORY, Refused, Status, status_after};
 use crate::commands::Answering;
 use crate::loading::load;
 use crate::words::values_of;
-use sm_io::{Failed, Files, Sink, put_all};
+use sm_io::{Files, Sink, put_all};
 use std::alloc::{AllocError, Global};
 use vendor_tool::{Challenges, schedule_text};
 
@@ -60,18 +60,9 @@ impl Answering for ChallengeCommand<'_> {
             Ok(challenges) => challenges,
             Err(refused) => return Err(refused),
         };
-        let text = match schedule_text(alloc, &challenges) {
-            Ok(text) => text,
-            Err(_) => {
-                return Err(Refused {
-                    refusal: Refusal::NoMemory,
-                    name: Name::Word(self.challenges),
-                });
-            }
-        };
-        match put_all(out, text.as_slice()) {
-            Ok(()) => Ok(Status::Done),
-            Err(Failed) => Ok(Status::WriteFault),
+        match schedule_text(alloc, &challenges) {
+            Ok(text) => Ok(status_after(put_all(out, text.as_slice()))),
+            Err(_) => Err(NO_MEMORY),
         }
     }
 }

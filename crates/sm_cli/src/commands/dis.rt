@@ -9,7 +9,7 @@ ghost use Rattle.sm_cli.specs.DisCommand.{dis_of, dis_asked, listing};
 ghost use Rattle.sm_cli.specs.Serve.{texts};
 ghost use Rattle.sm_cli.specs.Words.{values_in};
 
-use crate::answers::{Refused, Status};
+use crate::answers::{Refused, Status, status_after};
 use crate::commands::Answering;
 use crate::loading::load;
 use crate::words::values_of;
@@ -75,10 +75,8 @@ impl Answering for DisCommand<'_> {
             Ok(image) => image,
             Err(refused) => return Err(refused),
         };
-        match put_listing(image.memory.as_slice(), self.start, self.end, out) {
-            Ok(()) => Ok(Status::Done),
-            Err(Failed) => Ok(Status::WriteFault),
-        }
+        let memory = image.memory.as_slice();
+        Ok(status_after(put_listing(memory, self.start, self.end, out)))
     }
 }
 

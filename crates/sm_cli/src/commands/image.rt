@@ -6,7 +6,7 @@ ghost use Rattle.sm_cli.specs.ImageCommand.{image_of, image_asked, answer_from};
 ghost use Rattle.sm_cli.specs.Serve.{EndsAs, texts};
 ghost use Rattle.sm_cli.specs.Words.{values_in};
 
-use crate::answers::{Name, Refusal, Refused, Status};
+use crate::answers::{NO_MEMORY, Refused, Status};
 use crate::arguments::{cycles_of, file_named};
 use crate::commands::Answering;
 use crate::loading::{load, load_schedule};
@@ -74,10 +74,7 @@ impl Answering for ImageCommand<'_> {
         };
         match Board::new(alloc, &image, &schedule) {
             Ok(board) => Ok(put_trace(board, self.cycles, out)),
-            Err(_) => Err(Refused {
-                refusal: Refusal::NoMemory,
-                name: Name::Word(self.image),
-            }),
+            Err(_) => Err(NO_MEMORY),
         }
     }
 }

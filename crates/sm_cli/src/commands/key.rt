@@ -7,7 +7,7 @@ ghost use Rattle.sm_cli.specs.KeyCommand.{key_of, key_asked, key_lines, key_line
 ghost use Rattle.sm_cli.specs.Serve.{texts};
 ghost use Rattle.sm_cli.specs.Words.{values_in};
 
-use crate::answers::{Refused, Status};
+use crate::answers::{Refused, Status, status_after};
 use crate::arguments::id_of;
 use crate::commands::Answering;
 use crate::lines::put_named;
@@ -66,10 +66,7 @@ impl Answering for KeyCommand<'_> {
             Ok(chosen) => chosen,
             Err(refused) => return Err(refused),
         };
-        match put_keys(&chosen, out) {
-            Ok(()) => Ok(Status::Done),
-            Err(Failed) => Ok(Status::WriteFault),
-        }
+        Ok(status_after(put_keys(&chosen, out)))
     }
 }
 

@@ -4,13 +4,13 @@ ghost use Rattle.sm_cli.specs.LinkCommand.{link_of, link_asked};
 ghost use Rattle.sm_cli.specs.Serve.{texts};
 ghost use Rattle.sm_cli.specs.Words.{values_in};
 
-use crate::answers::{Name, Refusal, Refused, Status};
+use crate::answers::{NO_MEMORY, Refused, Status, status_after};
 use crate::commands::Answering;
 use crate::linking::linked_image;
 use crate::loading::{load, load_objects};
 use crate::words::values_of;
 use layout_file::Layout;
-use sm_io::{Failed, Files, Sink, put_all};
+use sm_io::{Files, Sink, put_all};
 use std::alloc::{AllocError, Global};
 
 /// The arguments: a layout, and 1 to 64 objects.
@@ -69,15 +69,9 @@ impl Answering for LinkCommand<'_> {
             Ok(image) => image,
             Err(refused) => return Err(refused),
         };
-        let Ok(text) = image_text::write(alloc, &image) else {
-            return Err(Refused {
-                refusal: Refusal::NoMemory,
-                name: Name::Word(self.layout),
-            });
-        };
-        match put_all(out, text.as_slice()) {
-            Ok(()) => Ok(Status::Done),
-            Err(Failed) => Ok(Status::WriteFault),
+        match image_text::write(alloc, &image) {
+            Ok(text) => Ok(status_after(put_all(out, text.as_slice()))),
+            Err(_) => Err(NO_MEMORY),
         }
     }
 }

@@ -13,7 +13,7 @@ ghost use Rattle.sm_cli.specs.Numbers.{number_line};
 ghost use Rattle.sm_cli.specs.Serve.{EndsAs, texts};
 ghost use Rattle.sm_cli.specs.Words.{values_in};
 
-use crate::answers::{Name, Refusal, Refused, Status};
+use crate::answers::{NO_MEMORY, Refused, Status};
 use crate::arguments::{cycles_of, id_of};
 use crate::commands::Answering;
 use crate::loading::{Chosen, load_with};
@@ -100,10 +100,7 @@ impl Answering for LoneCommand<'_> {
         };
         match end_of(alloc, &chosen, core_with(self.pairs.as_slice()), self.limit) {
             Ok(end) => Ok(put_end(self.limit, &end, out)),
-            Err(AllocError) => Err(Refused {
-                refusal: Refusal::NoMemory,
-                name: Name::Word(""),
-            }),
+            Err(AllocError) => Err(NO_MEMORY),
         }
     }
 }

@@ -10,7 +10,7 @@ ghost use Rattle.written_machine.specs.Marks.{unmarked};
 ghost use Rattle.written_machine.specs.View.{boot};
 ghost use Rattle.workload.specs.Program.{image};
 
-use crate::answers::{Name, Refusal, Refused, Status};
+use crate::answers::{NO_MEMORY, Refused, Status, status_after};
 use crate::commands::Answering;
 use crate::lines::put_named;
 use crate::words::values_of;
@@ -83,14 +83,8 @@ impl Answering for MakeCommand {
         out: &mut O,
     ) -> Result<Status, Refused<'_>> {
         match boards_of(alloc, self.seed) {
-            Ok(boards) => match put_runs(self.seed, boards, CYCLES, out) {
-                Ok(()) => Ok(Status::Done),
-                Err(Failed) => Ok(Status::WriteFault),
-            },
-            Err(_) => Err(Refused {
-                refusal: Refusal::NoMemory,
-                name: Name::Word(""),
-            }),
+            Ok(boards) => Ok(status_after(put_runs(self.seed, boards, CYCLES, out))),
+            Err(_) => Err(NO_MEMORY),
         }
     }
 }

@@ -5,7 +5,7 @@ ghost use Rattle.sm_cli.specs.RunCommand.{run_of, run_asked};
 ghost use Rattle.sm_cli.specs.Serve.{texts};
 ghost use Rattle.sm_cli.specs.Words.{values_in};
 
-use crate::answers::{Name, Refusal, Refused, Status};
+use crate::answers::{NO_MEMORY, Refused, Status};
 use crate::arguments::{cycles_of, file_named};
 use crate::commands::Answering;
 use crate::commands::image::put_trace;
@@ -88,10 +88,7 @@ impl Answering for RunCommand<'_> {
         };
         match Board::new(alloc, &image, &schedule) {
             Ok(board) => Ok(put_trace(board, self.cycles, out)),
-            Err(_) => Err(Refused {
-                refusal: Refusal::NoMemory,
-                name: Name::Word(self.layout),
-            }),
+            Err(_) => Err(NO_MEMORY),
         }
     }
 }

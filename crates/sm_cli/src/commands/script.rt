@@ -6,7 +6,7 @@ ghost use Rattle.sm_cli.specs.MonitorCommand.{monitor_of, monitor_asked, play_an
 ghost use Rattle.sm_cli.specs.Serve.{EndsAs, texts};
 ghost use Rattle.sm_cli.specs.Words.{values_in};
 
-use crate::answers::{Name, Refusal, Refused, Status};
+use crate::answers::{NO_MEMORY, Refused, Status};
 use crate::arguments::file_named;
 use crate::commands::Answering;
 use crate::loading::{Playable, load, load_schedule};
@@ -80,10 +80,7 @@ impl Answering for MonitorCommand<'_> {
         };
         match Board::with_marks(alloc, &image, &schedule, MOST_MARKS) {
             Ok(board) => Ok(put_play(board, &playable.script, out)),
-            Err(_) => Err(Refused {
-                refusal: Refusal::NoMemory,
-                name: Name::Word(self.image),
-            }),
+            Err(_) => Err(NO_MEMORY),
         }
     }
 }

@@ -1,10 +1,9 @@
 use Rattle.std.proofs.Common.{◌≡◌, None, List, ℕ, map, Bor, refl, ◌∙◌, ap, subst}
 use Rattle.layout_file.specs.Layout.{layout_of}
-use Rattle.sm_io.proofs.Putting.{took_same, cut_same}
 use Rattle.elf_objects.specs.Object.{ObjectValue}
 use Rattle.image_text.specs.ImageText.{image_text}
 use Rattle.linker.specs.Refusals.{link_fault_of}
-use Rattle.sm_cli.specs.Command.{refuses}
+use Rattle.sm_cli.specs.Command.{gives, refuses}
 use Rattle.sm_cli.specs.Serve.{IsNeedCause}
 use Rattle.sm_cli.specs.SymbolNames.{symbol_name}
 use Rattle.sm_cli.specs.Unlinked.{IsUnlinked}
@@ -12,7 +11,7 @@ use Rattle.sm_cli.specs.NameText.{name_text}
 use Rattle.sm_cli.specs.Files.{need, layout_file, a_layout, an_object, object_needs, HoldAll}
 use Rattle.sm_cli.specs.LinkCommand.{link_asked, linked_image, text_answer}
 use Rattle.sm_cli.proofs.Objects.{cause_moved}
-use Rattle.sm_cli.proofs.Running.{link_comes, link_answer, linked_refuses, cause_first, cause_next, cause_unlinked}
+use Rattle.sm_cli.proofs.Running.{link_comes, linked_gives, linked_refuses, put_answer, cause_first, cause_next, cause_unlinked}
 use Rattle.sm_cli.proofs.Serving.{by_needs}
 use Rattle.sm_cli.proofs.commands.link.LinkCommandAnswering.answer.Goals as goal
 
@@ -54,8 +53,8 @@ returns-in-Err-linked_image-clause-refused g c =
     (λ fault e. link_comes files own.layout.now names layout objects (refuses fault (symbol_name layout objects fault)) c.in-Ok.ensures.holds hold (linked_refuses layout objects text_answer fault e))
     (c.in-Ok-load_objects.ensures.quiet ∙ c.in-Ok.ensures.quiet) unlinked
 
-pub returns-in-Ok-put_all-clause-ok : goal.returns-in-Ok-put_all-clause-ok
-returns-in-Ok-put_all-clause-ok g c =
+pub returns-in-Ok-write-clause-ok : goal.returns-in-Ok-write-clause-ok
+returns-in-Ok-write-clause-ok g c =
     let own = c.args.self.now in
     let files = g.F.Files.content c.args.files.now in
     let layout = layout_of c.in-Ok.layout in
@@ -65,27 +64,6 @@ returns-in-Ok-put_all-clause-ok g c =
     let hold = subst (λ f. HoldAll f (object_needs names) (map an_object objects)) c.in-Ok.ensures.same_files read in
     let sound = subst (λ (l : List ObjectValue). link_fault_of layout l ≡ None) c.as_slice-2.ensures.value c.in-Ok-linked_image.ensures.sound in
     let image = c.in-Ok-linked_image.ensures.image ∙ ap (linked_image layout) c.as_slice-2.ensures.value in
-    let text : c.as_slice-3.result.now ≡ image_text (linked_image layout objects) = c.as_slice-3.ensures.value ∙ c.in-Ok-write.ensures.text ∙ ap image_text image in
-    record {
-      answer = text_answer (linked_image layout objects);
-      served = link_answer files own.layout.now names layout objects c.in-Ok.ensures.holds hold sound;
-      ends = (took_same g.O.Sink.taken g.O.Sink.faults g.O.Sink.sure _ _ _ _ text c.in-Ok-put_all.ensures.put, refl);
-    }
-
-pub returns-clause-ok : goal.returns-clause-ok
-returns-clause-ok g c =
-    let own = c.args.self.now in
-    let files = g.F.Files.content c.args.files.now in
-    let layout = layout_of c.in-Ok.layout in
-    let objects = c.in-Ok-load_objects.objects.items in
-    let names = map text_of own.objects.items in
-    let read = subst (λ (l : List (Bor (List ℕ))). HoldAll (g.F.Files.content c.load.new.files) (object_needs (map text_of l)) (map an_object objects)) c.as_slice.ensures.value c.in-Ok-load_objects.ensures.hold in
-    let hold = subst (λ f. HoldAll f (object_needs names) (map an_object objects)) c.in-Ok.ensures.same_files read in
-    let sound = subst (λ (l : List ObjectValue). link_fault_of layout l ≡ None) c.as_slice-2.ensures.value c.in-Ok-linked_image.ensures.sound in
-    let image = c.in-Ok-linked_image.ensures.image ∙ ap (linked_image layout) c.as_slice-2.ensures.value in
-    let text : c.as_slice-3.result.now ≡ image_text (linked_image layout objects) = c.as_slice-3.ensures.value ∙ c.in-Ok-write.ensures.text ∙ ap image_text image in
-    record {
-      answer = text_answer (linked_image layout objects);
-      served = link_answer files own.layout.now names layout objects c.in-Ok.ensures.holds hold sound;
-      ends = cut_same g.O.Sink.taken g.O.Sink.faults g.O.Sink.sure _ _ _ _ text c.in-Err-put_all.ensures.put;
-    }
+    let text : c.as_slice-in-Ok-write.result.now ≡ image_text (linked_image layout objects) = c.as_slice-in-Ok-write.ensures.value ∙ c.in-Ok-write.ensures.text ∙ ap image_text image in
+    let comes = link_comes files own.layout.now names layout objects (gives (text_answer (linked_image layout objects))) c.in-Ok.ensures.holds hold (linked_gives layout objects text_answer sound) in
+    put_answer g.O.Sink.taken g.O.Sink.faults g.O.Sink.sure _ _ files (link_asked own) (text_answer (linked_image layout objects)) _ _ _ comes refl text c.put_all.ensures.put c.status_after.ensures
