@@ -390,8 +390,8 @@ fn copy(from: u16, to: u16, value: u16) -> [Call; 2] {
     [get(from, value), put(to, value)]
 }
 
-/// Asserts what an instruction at 0x0200 leaves, with SP and R5 0x0300, SR 0x0101 (C and V) and R4 0x0302 before: PC, SR,
-/// how far SP and R5 move, the calls and the cycles. R4 is kept.
+/// Asserts what an instruction at 0x0200 leaves, with SP and R5 0x0300, SR 0x0101 (C and V) and R4 0x0302 before: PC,
+/// SR, how far SP and R5 move, the calls and the cycles. R4 is kept.
 fn assert_moved(
     rt: &impl Abort,
     code: [u16; 3],
