@@ -11,7 +11,7 @@ use crate::reach::{
 };
 use crate::registers::{Core, get};
 use crate::returns::Returns;
-use crate::table::{Entry, arm_at};
+use crate::table::{Entry, entry_at, next_of};
 use crate::text::word_number;
 use crate::value::join;
 use crate::walk::Place;
@@ -277,11 +277,14 @@ impl Sources {
     ) -> Way
         requires { IsTable module.now text.now table.now }
     {
-        let Some(armed) = arm_at(module, text, table, pc, join) else {
+        let Some(entry) = entry_at(module, text, table, pc) else {
             return Way::Cause;
         };
-        self.follow(module, &armed.insn, pc, &label.core);
-        along(module, text, entries, &armed.insn, pc, label).way
+        let (Some(insn), Some(_)) = (&entry.met, next_of(module, text, entry, pc, join)) else {
+            return Way::Cause;
+        };
+        self.follow(module, insn, pc, &label.core);
+        along(module, text, entries, insn, pc, label).way
     }
 
     /// Follows an arm, and tells whether it has no cause.

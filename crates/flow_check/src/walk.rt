@@ -18,7 +18,7 @@ use crate::reach::reaches;
 use crate::returns::Returns;
 use crate::step::{Cause, Stepped, Targets, note, note_if};
 use crate::stub::step_base;
-use crate::table::{Entry, arm_at};
+use crate::table::{Entry, entry_at, next_of};
 use arm_balance::met_arm;
 use cycle_table::cycles;
 use flow_rule::{Label, Reach, Reason, Val};
@@ -177,20 +177,23 @@ fn walk_on(
     if is_call_word(module, entries, pc) {
         return walk_by_step(module, text, entries, join, place, tally);
     }
-    let Some(armed) = arm_at(module, text, table, pc, join) else {
+    let Some(entry) = entry_at(module, text, table, pc) else {
+        return walk_by_step(module, text, entries, join, place, tally);
+    };
+    let (Some(insn), Some(next)) = (&entry.met, next_of(module, text, entry, pc, join)) else {
         note(&mut tally.least, Reason::Arm, pc);
         return false;
     };
-    let went = along(module, text, entries, &armed.insn, pc, &mut place.label);
+    let went = along(module, text, entries, insn, pc, &mut place.label);
     match went.way {
         Way::On(to) => {
-            tell_written(module, &armed.insn, went.written, armed.time, tally);
+            tell_written(module, insn, went.written, entry.time, tally);
             place.pc = to;
             true
         }
         Way::Out => {
-            let lost = is_lost(module, join, armed.next);
-            note_if(lost, &mut tally.least, Reason::Arm, armed.next);
+            let lost = is_lost(module, join, next);
+            note_if(lost, &mut tally.least, Reason::Arm, next);
             false
         }
         Way::Cause => {
