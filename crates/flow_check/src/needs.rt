@@ -1,20 +1,13 @@
 //! Which values of a branch's label its arms need, so that one walk serves as many labels as can be. This saves time
 //! alone: what it says is tried by a walk before anything rests on it.
 
-ghost use Rattle.flow_check.specs.Tables.{IsTable};
-
-use crate::along::{Way, along};
-use crate::arms::{Crossing, first_arm, second_arm};
 use crate::effect::{one_reads_carry, one_sets_flags, reads_carry, sets_flags};
 use crate::reach::{
     extension, increment, lower, place, reads_destination, second, writes_destination,
 };
 use crate::registers::{Core, get};
-use crate::returns::Returns;
-use crate::table::{Entry, entry_at, next_of};
 use crate::text::word_number;
 use crate::value::join;
-use crate::walk::Place;
 use flow_rule::{Label, Val};
 use insn_decode::{Insn, OneOp, Operand, TwoOp};
 use mod_layout::Module;
@@ -62,11 +55,13 @@ impl Origins {
     }
 }
 
-/// Along an arm: of which values of the branch's label each value is made, and what the arm needs of them.
+/// Along an arm: of which values of the branch's label each value is made, and what the arms so far need of them.
 #[derive(Drop)]
-struct Sources {
+pub struct Sources {
     of: [Origins; 272],
     needs: Needs,
+    /// Whether instructions are followed.
+    follows: bool,
 }
 
 /// Which values of a branch's label its arms need as they are, and which may not be Secret.
@@ -134,10 +129,21 @@ fn pushed(width: Width, arg: Operand, core: &Core) -> Option<Val> {
 }
 
 impl Sources {
-    /// Each value is made of itself.
-    fn begin(&mut self) {
-        for value in 0..VALUES {
-            self.of[value] = Origins::one(value);
+    /// Nothing is needed so far.
+    pub fn new(follows: bool) -> Sources {
+        Sources {
+            of: [Origins::NONE; 272],
+            needs: Needs::NONE,
+            follows,
+        }
+    }
+
+    /// An arm begins, where each value is made of itself.
+    pub fn begin(&mut self) {
+        if self.follows {
+            for value in 0..VALUES {
+                self.of[value] = Origins::one(value);
+            }
         }
     }
 
@@ -243,8 +249,11 @@ impl Sources {
         }
     }
 
-    /// What an instruction makes of what.
-    fn follow(&mut self, module: &Module, insn: &Insn, pc: u16, core: &Core) {
+    /// What the instruction at `pc` makes of what.
+    pub fn follow(&mut self, module: &Module, insn: &Insn, pc: u16, core: &Core) {
+        if !self.follows {
+            return;
+        }
         match *insn {
             Insn::Two {
                 op,
@@ -257,65 +266,16 @@ impl Sources {
         }
     }
 
+    /// What the arms need, where they were followed.
+    pub fn seen(&self) -> Option<Needs> {
+        if self.follows { Some(self.needs) } else { None }
+    }
+
     /// Where an arm leaves the text, no register may be Secret.
-    fn leave(&mut self) {
+    pub fn leave(&mut self) {
         for value in 0..REGISTERS {
             self.needs.open = self.needs.open.with(self.get(value));
         }
-    }
-
-    /// Follows the instruction at `pc`.
-    fn step(
-        &mut self,
-        module: &Module,
-        text: &[u8],
-        table: &[Entry],
-        entries: Option<u16>,
-        join: u16,
-        pc: u16,
-        label: &mut Label,
-    ) -> Way
-        requires { IsTable module.now text.now table.now }
-    {
-        let Some(entry) = entry_at(module, text, table, pc) else {
-            return Way::Cause;
-        };
-        let (Some(insn), Some(_)) = (&entry.met, next_of(module, text, entry, pc, join)) else {
-            return Way::Cause;
-        };
-        self.follow(module, insn, pc, &label.core);
-        along(module, text, entries, insn, pc, label).way
-    }
-
-    /// Follows an arm, and tells whether it has no cause.
-    fn arm(
-        &mut self,
-        module: &Module,
-        text: &[u8],
-        table: &[Entry],
-        entries: Option<u16>,
-        join: u16,
-        from: &Place,
-    ) -> bool
-        requires { IsTable module.now text.now table.now }
-    {
-        self.begin();
-        let mut pc = from.pc;
-        let mut label = from.label;
-        for _ in 0..=u32::from(join) {
-            if pc == join {
-                return true;
-            }
-            match self.step(module, text, table, entries, join, pc, &mut label) {
-                Way::On(next) => pc = next,
-                Way::Out => {
-                    self.leave();
-                    return true;
-                }
-                Way::Cause => return false,
-            }
-        }
-        false
     }
 }
 
@@ -355,34 +315,5 @@ impl Needs {
             top.words[n] = self.lower(REGISTERS + n, label.words[n]);
         }
         top
-    }
-}
-
-/// What the arms of a branch need under a label, if they have no cause.
-pub fn needed(
-    module: &Module,
-    text: &[u8],
-    table: &[Entry],
-    entries: Option<u16>,
-    crossing: &Crossing,
-    pc: u16,
-    label: &Label,
-) -> Option<Needs>
-    requires { IsTable module.now text.now table.now }
-{
-    let Crossing { insn, target, arm } = *crossing;
-    let returns = Returns::new();
-    let first = first_arm(&insn, pc, label, &returns);
-    let second = second_arm(&insn, target, pc, label, &returns);
-    let mut sources = Sources {
-        of: [Origins::NONE; 272],
-        needs: Needs::NONE,
-    };
-    if sources.arm(module, text, table, entries, arm.join, &first)
-        && sources.arm(module, text, table, entries, arm.join, &second)
-    {
-        Some(sources.needs)
-    } else {
-        None
     }
 }

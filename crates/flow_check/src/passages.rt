@@ -10,7 +10,7 @@ ghost use Rattle.flow_check.specs.declared.passages.Outcome.{Outcome};
 ghost use Rattle.flow_check.specs.Tables.{IsTable};
 
 use crate::arms::{Crossing, walk_arms};
-use crate::needs::{Needs, needed};
+use crate::needs::{Needs, Sources};
 use crate::returns::Returns;
 use crate::rounds::join_label;
 use crate::step::Cause;
@@ -47,8 +47,8 @@ pub struct Passage {
     pub crossing: Crossing,
     pub label: Label,
     pub answer: Answer,
-    /// Whether the label has no more in it than the arms need.
-    pub tight: bool,
+    /// What the arms were seen to need, unless the label had no more in it.
+    pub needs: Option<Needs>,
 }
 
 /// Under which label the next walk of a branch is tried first.
@@ -56,8 +56,8 @@ pub struct Passage {
 enum Start {
     /// One that has what the branch's arms needed under any label so far.
     Guess,
-    /// One that has what they need under this label.
-    Tight,
+    /// One that has what they were seen to need.
+    Tight(Needs),
     /// This label.
     Whole,
 }
@@ -82,7 +82,7 @@ fn blank() -> Label
     }
 }
 
-/// Walks the arms of a branch under a label.
+/// Walks the arms of a branch under a label, and sees what they need of it if it `follows`.
 fn walked(
     module: &Module,
     text: &[u8],
@@ -91,7 +91,7 @@ fn walked(
     crossing: &Crossing,
     pc: u16,
     label: &Label,
-    tight: bool,
+    follows: bool,
 ) -> Passage
     requires few { IfSome entries (λ n. n ≤ 64) }
     requires table { IsTable module.now text.now table.now }
@@ -102,6 +102,7 @@ fn walked(
 {
     let mut told = blank();
     let mut least: Option<Cause> = None;
+    let mut sources = Sources::new(follows);
     walk_arms(
         module,
         text,
@@ -113,17 +114,19 @@ fn walked(
         &Returns::new(),
         &mut least,
         &mut told,
+        &mut sources,
     );
+    let needs = sources.seen();
     Passage {
         branch: pc,
         crossing: *crossing,
         label: *label,
+        needs,
         answer: if least.is_none() {
             Answer::Open(told)
         } else {
             Answer::Shut
         },
-        tight,
     }
 }
 
@@ -196,7 +199,7 @@ fn crossed(
         (crossing_step module.now text.now crossing.now (branch_from pc returns label.old)).reasons ≢ [] }
 {
     arms_rest();
-    match walked(module, text, table, entries, crossing, pc, label, true).answer {
+    match walked(module, text, table, entries, crossing, pc, label, false).answer {
         Answer::Open(told) => {
             overlay_label(label, &told);
             Outcome::Open
@@ -266,8 +269,32 @@ fn is_open(passage: &Passage) -> bool {
     }
 }
 
-/// Walks the arms of a branch under a label that has what they need, and else under this label. Says what they need.
+/// Walks the arms of a branch under a label that has what they need, and else under this label.
 fn tightened(
+    module: &Module,
+    text: &[u8],
+    table: &[Entry],
+    entries: Option<u16>,
+    crossing: &Crossing,
+    needs: &Needs,
+    pc: u16,
+    label: &Label,
+) -> Passage
+    requires few { IfSome entries (λ n. n ≤ 64) }
+    requires table { IsTable module.now text.now table.now }
+    ensures { IsStub module.now text.now entries → IsPassage module.now text.now result }
+{
+    let top = needs.least(label);
+    let passage = walked(module, text, table, entries, crossing, pc, &top, false);
+    if is_open(&passage) {
+        return passage;
+    }
+    walked(module, text, table, entries, crossing, pc, label, false)
+}
+
+/// Walks the arms of a branch under a label that has what they needed under any label, and else under this label; where
+/// that has no cause, says what more they need.
+fn guessed(
     module: &Module,
     text: &[u8],
     table: &[Entry],
@@ -281,15 +308,19 @@ fn tightened(
     requires table { IsTable module.now text.now table.now }
     ensures { IsStub module.now text.now entries → IsPassage module.now text.now result }
 {
-    if let Some(needs) = needed(module, text, table, entries, crossing, pc, label) {
-        *wanted = wanted.with(needs);
-        let top = needs.least(label);
-        let passage = walked(module, text, table, entries, crossing, pc, &top, true);
-        if is_open(&passage) {
-            return passage;
-        }
+    let top = wanted.least(label);
+    let passage = walked(module, text, table, entries, crossing, pc, &top, true);
+    if is_open(&passage) {
+        return passage;
     }
-    walked(module, text, table, entries, crossing, pc, label, true)
+    let passage = walked(module, text, table, entries, crossing, pc, label, true);
+    match passage.needs {
+        Some(needs) if is_open(&passage) => {
+            *wanted = wanted.with(needs);
+            tightened(module, text, table, entries, crossing, &needs, pc, label)
+        }
+        _ => passage,
+    }
 }
 
 /// Walks the arms of a branch under a label that absorbs this one and has as little in it as they are thought to need,
@@ -300,7 +331,7 @@ fn learned(
     table: &[Entry],
     entries: Option<u16>,
     crossing: &Crossing,
-    start: Start,
+    start: &Start,
     wanted: &mut Needs,
     pc: u16,
     label: &Label,
@@ -310,20 +341,11 @@ fn learned(
     ensures { IsStub module.now text.now entries → IsPassage module.now text.now result }
 {
     match start {
-        Start::Tight => tightened(module, text, table, entries, crossing, wanted, pc, label),
-        Start::Whole => walked(module, text, table, entries, crossing, pc, label, false),
-        Start::Guess => {
-            let top = wanted.least(label);
-            let passage = walked(module, text, table, entries, crossing, pc, &top, false);
-            if is_open(&passage) {
-                return passage;
-            }
-            let passage = walked(module, text, table, entries, crossing, pc, label, false);
-            if is_open(&passage) {
-                return tightened(module, text, table, entries, crossing, wanted, pc, label);
-            }
-            passage
+        Start::Tight(needs) => {
+            tightened(module, text, table, entries, crossing, needs, pc, label)
         }
+        Start::Whole => walked(module, text, table, entries, crossing, pc, label, false),
+        Start::Guess => guessed(module, text, table, entries, crossing, wanted, pc, label),
     }
 }
 
@@ -446,8 +468,10 @@ impl Passages {
             Some(passage) => match passage.answer {
                 Answer::Shut => Start::Whole,
                 Answer::Open(_) if !is_own => Start::Guess,
-                Answer::Open(_) if passage.tight => Start::Whole,
-                Answer::Open(_) => Start::Tight,
+                Answer::Open(_) => match passage.needs {
+                    Some(needs) => Start::Tight(needs),
+                    None => Start::Whole,
+                },
             },
             None => Start::Guess,
         }
@@ -506,7 +530,7 @@ impl Passages {
             table,
             entries,
             crossing,
-            start,
+            &start,
             &mut wanted,
             pc,
             label,

@@ -12,6 +12,7 @@ ghost use Rattle.flow_check.specs.Passages.{crossing_step, IsPassage};
 ghost use Rattle.flow_check.specs.Tables.{IsTable};
 
 use crate::arms::{Crossing, crossing_of, walk_arms};
+use crate::needs::Sources;
 use crate::passages::{Outcome, Passages};
 use crate::returns::Returns;
 use crate::step::{Cause, Stepped, note};
@@ -97,7 +98,17 @@ fn cause_of_arms(
     let mut least = None;
     let mut told = *label;
     walk_arms(
-        module, text, table, entries, crossing, pc, label, returns, &mut least, &mut told,
+        module,
+        text,
+        table,
+        entries,
+        crossing,
+        pc,
+        label,
+        returns,
+        &mut least,
+        &mut told,
+        &mut Sources::new(false),
     );
     least
 }
