@@ -12,5 +12,5 @@ returns-in-Open-clause-open c = λ _ stub returns.
 pub returns-in-Shut-clause-shut : goal.returns-in-Shut-clause-shut
 returns-in-Shut-clause-shut c = λ _ stub returns.
     let own : Absorbs c.args.label.now c.walked.result.label = subst (λ l. Absorbs c.args.label.now l) (sym c.walked.ensures.label) (absorbs_own c.args.label.now) in
-    shuts c.arms_rest.ensures.rest c.args.module.now c.args.text.now stub.even c.walked.result c.in-Shut.is (c.walked.ensures.is stub)
+    shuts c.arms_rest.ensures.rest c.args.module.now c.args.text.now stub.even c.walked.result c.in-Shut.field-0 c.in-Shut.is (c.walked.ensures.is stub)
     c.args.crossing.now c.args.pc returns c.args.label.now c.walked.ensures.branch c.walked.ensures.crossing own
