@@ -99,24 +99,33 @@ fn word_of(module: &Module, addr: Option<Val>) -> Option<usize> {
     }
 }
 
-/// The number of the value in an operand with this address.
-fn value_of(module: &Module, operand: Operand, addr: Option<Val>) -> Option<usize> {
-    match operand {
+/// The number of the value in a source.
+#[inline(always)]
+fn source(module: &Module, src: Operand, pc: u16, core: &Core) -> Option<usize> {
+    match src {
         Operand::Reg(reg) => Some(usize::from(reg)),
-        _ => word_of(module, addr),
+        Operand::Const(_) | Operand::Imm(_) => None,
+        _ => word_of(module, place(src, core, extension(pc))),
     }
 }
 
-/// The destination's address, once the source's increment is done.
-fn destination(width: Width, src: Operand, dst: Operand, pc: u16, core: &Core) -> Option<Val> {
-    let ext = second(extension(pc), src);
-    match src {
-        Operand::Increment(_) => {
+/// The number of the value in a destination, once the source's increment is done.
+#[inline(always)]
+fn destination(
+    module: &Module,
+    width: Width,
+    src: Operand,
+    dst: Operand,
+    pc: u16,
+    core: &Core,
+) -> Option<usize> {
+    match dst {
+        Operand::Reg(reg) => Some(usize::from(reg)),
+        _ => {
             let mut after = *core;
             increment(width, src, &mut after);
-            place(dst, &after, ext)
+            word_of(module, place(dst, &after, second(extension(pc), src)))
         }
-        _ => place(dst, core, ext),
     }
 }
 
@@ -180,21 +189,11 @@ impl Sources {
     /// Writes a value made of these; a byte of a word leaves the other.
     fn write(&mut self, place: Option<usize>, width: Width, from: Origins) {
         if let Some(value) = place {
-            let kept = if width == Width::Byte && value >= REGISTERS {
-                self.get(value)
+            if width == Width::Byte && value >= REGISTERS {
+                self.set(value, from.with(self.get(value)));
             } else {
-                Origins::NONE
-            };
-            self.set(value, from.with(kept));
-        }
-    }
-
-    /// The flags, if they are read.
-    fn carry(&self, read: bool) -> Origins {
-        if read {
-            self.get(usize::from(FLAGS))
-        } else {
-            Origins::NONE
+                self.set(value, from);
+            }
         }
     }
 
@@ -211,11 +210,13 @@ impl Sources {
     ) {
         self.need(src);
         self.need(dst);
-        let source = self.at(value_of(module, src, place(src, core, extension(pc))));
-        let into = value_of(module, dst, destination(width, src, dst, pc, core));
-        let mut made = source.with(self.carry(reads_carry(op)));
+        let into = destination(module, width, src, dst, pc, core);
+        let mut made = self.at(source(module, src, pc, core));
         if reads_destination(op) {
             made = made.with(self.at(into));
+        }
+        if reads_carry(op) {
+            made = made.with(self.get(usize::from(FLAGS)));
         }
         if sets_flags(op) {
             self.set(usize::from(FLAGS), made);
@@ -236,8 +237,11 @@ impl Sources {
         core: &Core,
     ) {
         self.need(arg);
-        let from = value_of(module, arg, place(arg, core, extension(pc)));
-        let made = self.at(from).with(self.carry(one_reads_carry(op)));
+        let from = source(module, arg, pc, core);
+        let mut made = self.at(from);
+        if one_reads_carry(op) {
+            made = made.with(self.get(usize::from(FLAGS)));
+        }
         if one_sets_flags(op) {
             self.set(usize::from(FLAGS), made);
         }
@@ -266,9 +270,9 @@ impl Sources {
         }
     }
 
-    /// What the arms need, where they were followed.
-    pub fn seen(&self) -> Option<Needs> {
-        if self.follows { Some(self.needs) } else { None }
+    /// What the arms need.
+    pub fn needs(&self) -> Needs {
+        self.needs
     }
 
     /// Where an arm leaves the text, no register may be Secret.

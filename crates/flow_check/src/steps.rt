@@ -59,7 +59,17 @@ pub fn step_with(
 {
     match crossing_of(module, text, arms, pc, label) {
         Some(crossing) => {
-            match passages.cross(module, text, table, entries, &crossing, own, pc, label)? {
+            match passages.cross(
+                module,
+                text,
+                table,
+                entries,
+                &crossing,
+                own,
+                pc,
+                label,
+                &stepped.returns,
+            )? {
                 Outcome::Open => stepped.targets.push(crossing.arm.join),
                 Outcome::Shut => note(&mut stepped.least, Reason::Arm, pc),
             }
@@ -94,6 +104,9 @@ fn cause_of_arms(
 {
     if passages.is_open(own, crossing, pc, label) {
         return None;
+    }
+    if let Some(cause) = passages.cause(own, crossing, pc, label, returns) {
+        return Some(cause);
     }
     let mut least = None;
     let mut told = *label;
