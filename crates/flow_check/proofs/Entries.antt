@@ -1,13 +1,13 @@
 -- The table of a text's instructions.
-use Rattle.std.proofs.Common.{◌≡◌, ℕ, zero, suc, ◌+◌, ◌-◌, ◌*◌, ◌/◌, ◌%◌, ◌<◌, ◌≤◌, ◌==◌, ◌&&◌, nat_lt, nat_le, Bool, true, false, List, [], ◌∷◌, ◌++◌, length, refl, sym, ap, ◌∙◌, arith, Option, Some, None, IsFalse}
+use Rattle.std.proofs.Common.{◌≡◌, ℕ, zero, suc, ◌+◌, ◌-◌, ◌*◌, ◌/◌, ◌%◌, ◌<◌, ◌≤◌, ◌==◌, ◌&&◌, nat_lt, nat_le, Bool, true, false, List, [], ◌∷◌, ◌++◌, length, refl, sym, ap, ◌∙◌, arith, Option, Some, None, cond}
 use Rattle.std.proofs.lemmas.Bool.Decides.{nat_tests}
 use Rattle.sm_words.specs.Words.{add16}
 use Rattle.insn_decode.specs.Code.{distance}
 use Rattle.insn_decode.specs.declared.insn.OneOp.TheVariants.{Call}
 use Rattle.arm_balance.specs.Met.{met}
-use Rattle.arm_balance.specs.Balance.{not_pc, next_if, arm_next}
+use Rattle.arm_balance.specs.Balance.{not_pc, next_if, arm_next, arm_on}
+use Rattle.mod_layout.specs.Table.{holds}
 use Rattle.std.specs.List.{slice_get}
-use Rattle.insn_decode.specs.Code.{is_unit}
 use Rattle.insn_decode.specs.declared.insn.Insn.{Insn}
 use Rattle.insn_decode.specs.declared.insn.Insn.TheVariants.{Two, One, Jump, Reti, Unit as UnitOp}
 use Rattle.cycle_table.specs.Cycles.{cycles_of}
@@ -15,13 +15,13 @@ use Rattle.mod_layout.specs.declared.Module.{Module}
 use Rattle.flow_check.specs.declared.table.Entry.{Entry}
 use Rattle.flow_check.specs.Tables.{time_of, entry_by, entries_from, IsTable}
 
--- the cycles of an instruction that is no unit's
-pub timed : (insn : Insn) → IsFalse (is_unit insn) → time_of (Some insn) ≡ cycles_of insn
-timed (UnitOp n) h = absurd cc
-timed (Two op w s d) h = refl
-timed (One op w a) h = refl
-timed (Jump c off) h = refl
-timed Reti h = refl
+-- the cycles of an instruction that an arm may have
+timed : (insn : Insn) (join pc next : ℕ) → arm_next join pc (Some insn) ≡ Some next → time_of (Some insn) ≡ cycles_of insn
+timed (UnitOp n) join pc next on = absurd cc
+timed (Two op w s d) join pc next on = refl
+timed (One op w a) join pc next on = refl
+timed (Jump c off) join pc next on = refl
+timed Reti join pc next on = refl
 
 -- ---- where an arm goes on, from where one with the last address for its join does
 cut_near : (b : Bool) (n k join next : ℕ) → next_if (b && nat_le n k) n ≡ Some next → next ≤ join →
@@ -108,21 +108,25 @@ next_none (Some (Jump c off)) pc join le e =
 next_none (Some _) pc join le e = refl
 
 -- of what is met at an address
-pub entry_next : (m : Module) (text : List ℕ) (pc join next : ℕ) (e : Entry) (insn : Insn) (o : Option ℕ) →
-    e ≡ entry_by m text pc → e.met ≡ Some insn →
-    ((p : ℕ) (i : Option Insn) → e.next ≡ arm_next 65535 p i → o ≡ arm_next join p i) → o ≡ Some next →
-    arm_next join pc (Some insn) ≡ Some next
-entry_next m text pc join next e insn o is there cut found =
-    ap (arm_next join pc) (sym there ∙ ap (λ x. x.met) is) ∙ sym (cut pc (met m.text text pc) (ap (λ x. x.next) is))
-    ∙ found
+pub entry_on : (m : Module) (text : List ℕ) (pc join : ℕ) (e : Entry) (o : Option ℕ) → e ≡ entry_by m text pc →
+    holds m.text pc ≡ true → pc < join →
+    ((p : ℕ) (i : Option Insn) → e.next ≡ arm_next 65535 p i → o ≡ arm_next join p i) →
+    arm_on m.text text join pc ≡ o
+entry_on m text pc join e o is h l cut =
+    ap (λ b. cond (b && nat_lt pc join) (arm_next join pc (met m.text text pc)) None) h
+    ∙ ap (λ b. cond (true && b) (arm_next join pc (met m.text text pc)) None)
+    (let t : nat_lt pc join ≡ true = grind (arith, nat_tests) in t)
+    ∙ sym (cut pc (met m.text text pc) (ap (λ x. x.next) is))
 
-pub entry_stops : (m : Module) (text : List ℕ) (pc join : ℕ) (e : Entry) (insn : Insn) (o : Option ℕ) →
-    e ≡ entry_by m text pc → e.met ≡ Some insn →
-    ((p : ℕ) (i : Option Insn) → e.next ≡ arm_next 65535 p i → o ≡ arm_next join p i) → o ≡ None →
-    arm_next join pc (Some insn) ≡ None
-entry_stops m text pc join e insn o is there cut found =
-    ap (arm_next join pc) (sym there ∙ ap (λ x. x.met) is) ∙ sym (cut pc (met m.text text pc) (ap (λ x. x.next) is))
-    ∙ found
+-- what it met and its cycles, where an arm goes on
+pub entry_met : (m : Module) (text : List ℕ) (pc : ℕ) (e : Entry) (insn : Insn) → e ≡ entry_by m text pc →
+    e.met ≡ Some insn → met m.text text pc ≡ Some insn
+entry_met m text pc e insn is there = sym (ap (λ x. x.met) is) ∙ there
+
+pub entry_time : (m : Module) (text : List ℕ) (pc join next : ℕ) (e : Entry) (insn : Insn) → e ≡ entry_by m text pc →
+    e.met ≡ Some insn → arm_next join pc (Some insn) ≡ Some next → e.time ≡ cycles_of insn
+entry_time m text pc join next e insn is there on =
+    ap (λ x. x.time) is ∙ ap time_of (entry_met m text pc e insn is there) ∙ timed insn join pc next on
 
 -- ---- the loop that makes it
 pub table_next : (m : Module) (text : List ℕ) (count k : ℕ) (xs ys : List Entry) (e : Entry) → k < count →

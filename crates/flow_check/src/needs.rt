@@ -1,20 +1,13 @@
 //! Which values of a branch's label its arms need, so that one walk serves as many labels as can be. This saves time
 //! alone: what it says is tried by a walk before anything rests on it.
 
-ghost use Rattle.flow_check.specs.Tables.{IsTable};
-
-use crate::along::{Way, along};
-use crate::arms::{Crossing, first_arm, second_arm};
 use crate::effect::{one_reads_carry, one_sets_flags, reads_carry, sets_flags};
 use crate::reach::{
     extension, increment, lower, place, reads_destination, second, writes_destination,
 };
 use crate::registers::{Core, get};
-use crate::returns::Returns;
-use crate::table::{Entry, arm_at};
 use crate::text::word_number;
 use crate::value::join;
-use crate::walk::Place;
 use flow_rule::{Label, Val};
 use insn_decode::{Insn, OneOp, Operand, TwoOp};
 use mod_layout::Module;
@@ -62,11 +55,13 @@ impl Origins {
     }
 }
 
-/// Along an arm: of which values of the branch's label each value is made, and what the arm needs of them.
+/// Along an arm: of which values of the branch's label each value is made, and what the arms so far need of them.
 #[derive(Drop)]
-struct Sources {
+pub struct Sources {
     of: [Origins; 272],
     needs: Needs,
+    /// Whether instructions are followed.
+    follows: bool,
 }
 
 /// Which values of a branch's label its arms need as they are, and which may not be Secret.
@@ -104,24 +99,33 @@ fn word_of(module: &Module, addr: Option<Val>) -> Option<usize> {
     }
 }
 
-/// The number of the value in an operand with this address.
-fn value_of(module: &Module, operand: Operand, addr: Option<Val>) -> Option<usize> {
-    match operand {
+/// The number of the value in a source.
+#[inline(always)]
+fn source(module: &Module, src: Operand, pc: u16, core: &Core) -> Option<usize> {
+    match src {
         Operand::Reg(reg) => Some(usize::from(reg)),
-        _ => word_of(module, addr),
+        Operand::Const(_) | Operand::Imm(_) => None,
+        _ => word_of(module, place(src, core, extension(pc))),
     }
 }
 
-/// The destination's address, once the source's increment is done.
-fn destination(width: Width, src: Operand, dst: Operand, pc: u16, core: &Core) -> Option<Val> {
-    let ext = second(extension(pc), src);
-    match src {
-        Operand::Increment(_) => {
+/// The number of the value in a destination, once the source's increment is done.
+#[inline(always)]
+fn destination(
+    module: &Module,
+    width: Width,
+    src: Operand,
+    dst: Operand,
+    pc: u16,
+    core: &Core,
+) -> Option<usize> {
+    match dst {
+        Operand::Reg(reg) => Some(usize::from(reg)),
+        _ => {
             let mut after = *core;
             increment(width, src, &mut after);
-            place(dst, &after, ext)
+            word_of(module, place(dst, &after, second(extension(pc), src)))
         }
-        _ => place(dst, core, ext),
     }
 }
 
@@ -134,10 +138,21 @@ fn pushed(width: Width, arg: Operand, core: &Core) -> Option<Val> {
 }
 
 impl Sources {
-    /// Each value is made of itself.
-    fn begin(&mut self) {
-        for value in 0..VALUES {
-            self.of[value] = Origins::one(value);
+    /// Nothing is needed so far.
+    pub fn new(follows: bool) -> Sources {
+        Sources {
+            of: [Origins::NONE; 272],
+            needs: Needs::NONE,
+            follows,
+        }
+    }
+
+    /// An arm begins, where each value is made of itself.
+    pub fn begin(&mut self) {
+        if self.follows {
+            for value in 0..VALUES {
+                self.of[value] = Origins::one(value);
+            }
         }
     }
 
@@ -174,21 +189,11 @@ impl Sources {
     /// Writes a value made of these; a byte of a word leaves the other.
     fn write(&mut self, place: Option<usize>, width: Width, from: Origins) {
         if let Some(value) = place {
-            let kept = if width == Width::Byte && value >= REGISTERS {
-                self.get(value)
+            if width == Width::Byte && value >= REGISTERS {
+                self.set(value, from.with(self.get(value)));
             } else {
-                Origins::NONE
-            };
-            self.set(value, from.with(kept));
-        }
-    }
-
-    /// The flags, if they are read.
-    fn carry(&self, read: bool) -> Origins {
-        if read {
-            self.get(usize::from(FLAGS))
-        } else {
-            Origins::NONE
+                self.set(value, from);
+            }
         }
     }
 
@@ -205,11 +210,13 @@ impl Sources {
     ) {
         self.need(src);
         self.need(dst);
-        let source = self.at(value_of(module, src, place(src, core, extension(pc))));
-        let into = value_of(module, dst, destination(width, src, dst, pc, core));
-        let mut made = source.with(self.carry(reads_carry(op)));
+        let into = destination(module, width, src, dst, pc, core);
+        let mut made = self.at(source(module, src, pc, core));
         if reads_destination(op) {
             made = made.with(self.at(into));
+        }
+        if reads_carry(op) {
+            made = made.with(self.get(usize::from(FLAGS)));
         }
         if sets_flags(op) {
             self.set(usize::from(FLAGS), made);
@@ -230,8 +237,11 @@ impl Sources {
         core: &Core,
     ) {
         self.need(arg);
-        let from = value_of(module, arg, place(arg, core, extension(pc)));
-        let made = self.at(from).with(self.carry(one_reads_carry(op)));
+        let from = source(module, arg, pc, core);
+        let mut made = self.at(from);
+        if one_reads_carry(op) {
+            made = made.with(self.get(usize::from(FLAGS)));
+        }
         if one_sets_flags(op) {
             self.set(usize::from(FLAGS), made);
         }
@@ -243,8 +253,11 @@ impl Sources {
         }
     }
 
-    /// What an instruction makes of what.
-    fn follow(&mut self, module: &Module, insn: &Insn, pc: u16, core: &Core) {
+    /// What the instruction at `pc` makes of what.
+    pub fn follow(&mut self, module: &Module, insn: &Insn, pc: u16, core: &Core) {
+        if !self.follows {
+            return;
+        }
         match *insn {
             Insn::Two {
                 op,
@@ -257,62 +270,16 @@ impl Sources {
         }
     }
 
+    /// What the arms need.
+    pub fn needs(&self) -> Needs {
+        self.needs
+    }
+
     /// Where an arm leaves the text, no register may be Secret.
-    fn leave(&mut self) {
+    pub fn leave(&mut self) {
         for value in 0..REGISTERS {
             self.needs.open = self.needs.open.with(self.get(value));
         }
-    }
-
-    /// Follows the instruction at `pc`.
-    fn step(
-        &mut self,
-        module: &Module,
-        text: &[u8],
-        table: &[Entry],
-        entries: Option<u16>,
-        join: u16,
-        pc: u16,
-        label: &mut Label,
-    ) -> Way
-        requires { IsTable module.now text.now table.now }
-    {
-        let Some(armed) = arm_at(module, text, table, pc, join) else {
-            return Way::Cause;
-        };
-        self.follow(module, &armed.insn, pc, &label.core);
-        along(module, text, entries, &armed.insn, pc, label).way
-    }
-
-    /// Follows an arm, and tells whether it has no cause.
-    fn arm(
-        &mut self,
-        module: &Module,
-        text: &[u8],
-        table: &[Entry],
-        entries: Option<u16>,
-        join: u16,
-        from: &Place,
-    ) -> bool
-        requires { IsTable module.now text.now table.now }
-    {
-        self.begin();
-        let mut pc = from.pc;
-        let mut label = from.label;
-        for _ in 0..=u32::from(join) {
-            if pc == join {
-                return true;
-            }
-            match self.step(module, text, table, entries, join, pc, &mut label) {
-                Way::On(next) => pc = next,
-                Way::Out => {
-                    self.leave();
-                    return true;
-                }
-                Way::Cause => return false,
-            }
-        }
-        false
     }
 }
 
@@ -352,34 +319,5 @@ impl Needs {
             top.words[n] = self.lower(REGISTERS + n, label.words[n]);
         }
         top
-    }
-}
-
-/// What the arms of a branch need under a label, if they have no cause.
-pub fn needed(
-    module: &Module,
-    text: &[u8],
-    table: &[Entry],
-    entries: Option<u16>,
-    crossing: &Crossing,
-    pc: u16,
-    label: &Label,
-) -> Option<Needs>
-    requires { IsTable module.now text.now table.now }
-{
-    let Crossing { insn, target, arm } = *crossing;
-    let returns = Returns::new();
-    let first = first_arm(&insn, pc, label, &returns);
-    let second = second_arm(&insn, target, pc, label, &returns);
-    let mut sources = Sources {
-        of: [Origins::NONE; 272],
-        needs: Needs::NONE,
-    };
-    if sources.arm(module, text, table, entries, arm.join, &first)
-        && sources.arm(module, text, table, entries, arm.join, &second)
-    {
-        Some(sources.needs)
-    } else {
-        None
     }
 }

@@ -4,13 +4,14 @@
 ghost use Rattle.std.specs.Prelude.{◌≡◌, ◌≢◌, ◌≤◌, ◌<◌, ◌%◌, ◌++◌, suc, take, drop, ℕ, List, IfSome, IfOk, Some, None, true, slice_get, length, All, []};
 ghost use Rattle.mod_layout.specs.declared.Module.{Module};
 ghost use Rattle.flow_rule.specs.Absorbs.{Absorbs, laid, overlay};
-ghost use Rattle.flow_check.specs.Pairs.{IsStub};
-ghost use Rattle.flow_check.specs.Passages.{crossing_step, blotted, blank, branch_from, OpensTo, IsPassage};
+ghost use Rattle.flow_check.specs.Causes.{noted};
+ghost use Rattle.flow_check.specs.Pairs.{IsStub, point_of};
+ghost use Rattle.flow_check.specs.Passages.{crossing_step, blotted, blank, branch_from, answer_of, OpensTo, IsPassage};
 ghost use Rattle.flow_check.specs.declared.passages.Outcome.{Outcome};
 ghost use Rattle.flow_check.specs.Tables.{IsTable};
 
 use crate::arms::{Crossing, walk_arms};
-use crate::needs::{Needs, needed};
+use crate::needs::{Needs, Sources};
 use crate::returns::Returns;
 use crate::rounds::join_label;
 use crate::step::Cause;
@@ -29,8 +30,8 @@ const NUMBERS: usize = 256;
 pub enum Answer {
     /// No cause, also under each label that the passage's absorbs. The arms write where this is not Public.
     Open(Label),
-    /// A cause, also under each label that absorbs the passage's.
-    Shut,
+    /// This cause is the least under the passage's label, and there is one under each label that absorbs it.
+    Shut(Cause),
 }
 
 /// Whether a branch has no cause in its arms.
@@ -46,6 +47,7 @@ pub struct Passage {
     pub branch: u16,
     pub crossing: Crossing,
     pub label: Label,
+    pub returns: Returns,
     pub answer: Answer,
     /// Whether the label has no more in it than the arms need.
     pub tight: bool,
@@ -82,7 +84,17 @@ fn blank() -> Label
     }
 }
 
-/// Walks the arms of a branch under a label.
+/// The answer of a walk with this least cause, whose arms wrote so.
+fn answer_of(least: Option<Cause>, told: Label) -> Answer
+    ensures { result ≡ answer_of least told }
+{
+    match least {
+        Some(cause) => Answer::Shut(cause),
+        None => Answer::Open(told),
+    }
+}
+
+/// Walks the arms of a branch under a label, with these return addresses.
 fn walked(
     module: &Module,
     text: &[u8],
@@ -91,7 +103,9 @@ fn walked(
     crossing: &Crossing,
     pc: u16,
     label: &Label,
+    returns: &Returns,
     tight: bool,
+    sources: &mut Sources,
 ) -> Passage
     requires few { IfSome entries (λ n. n ≤ 64) }
     requires table { IsTable module.now text.now table.now }
@@ -103,26 +117,14 @@ fn walked(
     let mut told = blank();
     let mut least: Option<Cause> = None;
     walk_arms(
-        module,
-        text,
-        table,
-        entries,
-        crossing,
-        pc,
-        label,
-        &Returns::new(),
-        &mut least,
-        &mut told,
+        module, text, table, entries, crossing, pc, label, returns, &mut least, &mut told, sources,
     );
     Passage {
         branch: pc,
         crossing: *crossing,
         label: *label,
-        answer: if least.is_none() {
-            Answer::Open(told)
-        } else {
-            Answer::Shut
-        },
+        returns: *returns,
+        answer: answer_of(least, told),
         tight,
     }
 }
@@ -133,6 +135,14 @@ fn absorbs(top: &Label, label: &Label) -> bool
 {
     let mut joined = *top;
     !join_label(&mut joined, label)
+}
+
+/// Whether two labels are the same: each absorbs the other.
+#[tactic(auto, using(crate::proofs::Passing::same_label))]
+fn is_same_label(one: &Label, other: &Label) -> bool
+    ensures { result ≡ true → one.now ≡ other.now }
+{
+    absorbs(one, other) && absorbs(other, one)
 }
 
 /// A value, or what is seen through it where it is Public.
@@ -187,6 +197,7 @@ fn crossed(
     crossing: &Crossing,
     pc: u16,
     label: &mut Label,
+    returns: &Returns,
 ) -> Outcome
     requires few { IfSome entries (λ n. n ≤ 64) }
     requires table { IsTable module.now text.now table.now }
@@ -196,12 +207,25 @@ fn crossed(
         (crossing_step module.now text.now crossing.now (branch_from pc returns label.old)).reasons ≢ [] }
 {
     arms_rest();
-    match walked(module, text, table, entries, crossing, pc, label, true).answer {
+    let mut sources = Sources::new(false);
+    let passage = walked(
+        module,
+        text,
+        table,
+        entries,
+        crossing,
+        pc,
+        label,
+        returns,
+        true,
+        &mut sources,
+    );
+    match passage.answer {
         Answer::Open(told) => {
             overlay_label(label, &told);
             Outcome::Open
         }
-        Answer::Shut => Outcome::Shut,
+        Answer::Shut(_) => Outcome::Shut,
     }
 }
 
@@ -262,11 +286,12 @@ fn number(branch: u16) -> usize
 fn is_open(passage: &Passage) -> bool {
     match passage.answer {
         Answer::Open(_) => true,
-        Answer::Shut => false,
+        Answer::Shut(_) => false,
     }
 }
 
-/// Walks the arms of a branch under a label that has what they need, and else under this label. Says what they need.
+/// Walks the arms of a branch under a label, and where it has no cause under one that has no more in it than they were
+/// seen to need.
 fn tightened(
     module: &Module,
     text: &[u8],
@@ -276,24 +301,88 @@ fn tightened(
     wanted: &mut Needs,
     pc: u16,
     label: &Label,
+    returns: &Returns,
 ) -> Passage
     requires few { IfSome entries (λ n. n ≤ 64) }
     requires table { IsTable module.now text.now table.now }
     ensures { IsStub module.now text.now entries → IsPassage module.now text.now result }
 {
-    if let Some(needs) = needed(module, text, table, entries, crossing, pc, label) {
-        *wanted = wanted.with(needs);
-        let top = needs.least(label);
-        let passage = walked(module, text, table, entries, crossing, pc, &top, true);
-        if is_open(&passage) {
-            return passage;
-        }
+    let mut sources = Sources::new(true);
+    let whole = walked(
+        module,
+        text,
+        table,
+        entries,
+        crossing,
+        pc,
+        label,
+        returns,
+        true,
+        &mut sources,
+    );
+    if !is_open(&whole) {
+        return whole;
     }
-    walked(module, text, table, entries, crossing, pc, label, true)
+    let needs = sources.needs();
+    *wanted = wanted.with(needs);
+    let top = needs.least(label);
+    let mut sources = Sources::new(false);
+    let tight = walked(
+        module,
+        text,
+        table,
+        entries,
+        crossing,
+        pc,
+        &top,
+        returns,
+        true,
+        &mut sources,
+    );
+    if is_open(&tight) { tight } else { whole }
+}
+
+/// Walks the arms of a branch under a label that has what they needed under any label, and else under one that has what
+/// they need under this.
+fn guessed(
+    module: &Module,
+    text: &[u8],
+    table: &[Entry],
+    entries: Option<u16>,
+    crossing: &Crossing,
+    wanted: &mut Needs,
+    pc: u16,
+    label: &Label,
+    returns: &Returns,
+) -> Passage
+    requires few { IfSome entries (λ n. n ≤ 64) }
+    requires table { IsTable module.now text.now table.now }
+    ensures { IsStub module.now text.now entries → IsPassage module.now text.now result }
+{
+    let top = wanted.least(label);
+    let mut sources = Sources::new(false);
+    let passage = walked(
+        module,
+        text,
+        table,
+        entries,
+        crossing,
+        pc,
+        &top,
+        returns,
+        false,
+        &mut sources,
+    );
+    if is_open(&passage) {
+        return passage;
+    }
+    tightened(
+        module, text, table, entries, crossing, wanted, pc, label, returns,
+    )
 }
 
 /// Walks the arms of a branch under a label that absorbs this one and has as little in it as they are thought to need,
-/// and under this label where that has a cause.
+/// or under this label.
 fn learned(
     module: &Module,
     text: &[u8],
@@ -304,25 +393,33 @@ fn learned(
     wanted: &mut Needs,
     pc: u16,
     label: &Label,
+    returns: &Returns,
 ) -> Passage
     requires few { IfSome entries (λ n. n ≤ 64) }
     requires table { IsTable module.now text.now table.now }
     ensures { IsStub module.now text.now entries → IsPassage module.now text.now result }
 {
     match start {
-        Start::Tight => tightened(module, text, table, entries, crossing, wanted, pc, label),
-        Start::Whole => walked(module, text, table, entries, crossing, pc, label, false),
-        Start::Guess => {
-            let top = wanted.least(label);
-            let passage = walked(module, text, table, entries, crossing, pc, &top, false);
-            if is_open(&passage) {
-                return passage;
-            }
-            let passage = walked(module, text, table, entries, crossing, pc, label, false);
-            if is_open(&passage) {
-                return tightened(module, text, table, entries, crossing, wanted, pc, label);
-            }
-            passage
+        Start::Guess => guessed(
+            module, text, table, entries, crossing, wanted, pc, label, returns,
+        ),
+        Start::Tight => tightened(
+            module, text, table, entries, crossing, wanted, pc, label, returns,
+        ),
+        Start::Whole => {
+            let mut sources = Sources::new(false);
+            walked(
+                module,
+                text,
+                table,
+                entries,
+                crossing,
+                pc,
+                label,
+                returns,
+                true,
+                &mut sources,
+            )
         }
     }
 }
@@ -391,7 +488,7 @@ impl Passages {
                     None
                 }
             }
-            Answer::Shut => {
+            Answer::Shut(_) => {
                 if absorbs(label, &passage.label) {
                     Some(Outcome::Shut)
                 } else {
@@ -444,7 +541,7 @@ impl Passages {
         };
         match self.at(place, crossing, pc) {
             Some(passage) => match passage.answer {
-                Answer::Shut => Start::Whole,
+                Answer::Shut(_) => Start::Whole,
                 Answer::Open(_) if !is_own => Start::Guess,
                 Answer::Open(_) if passage.tight => Start::Whole,
                 Answer::Open(_) => Start::Tight,
@@ -481,6 +578,7 @@ impl Passages {
         own: &mut Option<usize>,
         pc: u16,
         label: &mut Label,
+        returns: &Returns,
     ) -> Result<Outcome, AllocError>
         requires few { IfSome entries (λ n. n ≤ 64) }
         requires table { IsTable module.now text.now table.now }
@@ -510,13 +608,14 @@ impl Passages {
             &mut wanted,
             pc,
             label,
+            returns,
         );
         let place = self.keep(*own, passage, wanted)?;
         *own = Some(place);
         if let Some(outcome) = self.answer(place, crossing, pc, label) {
             return Ok(outcome);
         }
-        Ok(crossed(module, text, table, entries, crossing, pc, label))
+        Ok(crossed(module, text, table, entries, crossing, pc, label, returns))
     }
 
     /// Whether it is known that a branch has no cause under its label.
@@ -529,6 +628,38 @@ impl Passages {
         match self.known(own, crossing, pc, &mut label) {
             Some(Outcome::Open) => true,
             Some(Outcome::Shut) | None => false,
+        }
+    }
+
+    /// The least cause of a branch, where the pair's own passage was walked under the same label with the same return
+    /// addresses and has a cause.
+    pub fn cause(
+        &self,
+        own: Option<usize>,
+        crossing: &Crossing,
+        pc: u16,
+        label: &Label,
+        returns: &Returns,
+    ) -> Option<Cause>
+        ensures { IfSome result (λ cause. (m : Module) (text : List ℕ) →
+            All (IsPassage m text) self.now.list.items →
+            noted (crossing_step m text crossing.now (point_of pc returns.now label.now)).reasons None ≡ Some cause) }
+    {
+        let Some(place) = own else {
+            return None;
+        };
+        let Some(passage) = self.at(place, crossing, pc) else {
+            return None;
+        };
+        match passage.answer {
+            Answer::Shut(cause) => {
+                if is_same_label(&passage.label, label) && passage.returns.same(returns) {
+                    Some(cause)
+                } else {
+                    None
+                }
+            }
+            Answer::Open(_) => None,
         }
     }
 }

@@ -12,6 +12,7 @@ ghost use Rattle.flow_check.specs.Passages.{crossing_step, IsPassage};
 ghost use Rattle.flow_check.specs.Tables.{IsTable};
 
 use crate::arms::{Crossing, crossing_of, walk_arms};
+use crate::needs::Sources;
 use crate::passages::{Outcome, Passages};
 use crate::returns::Returns;
 use crate::step::{Cause, Stepped, note};
@@ -58,7 +59,17 @@ pub fn step_with(
 {
     match crossing_of(module, text, arms, pc, label) {
         Some(crossing) => {
-            match passages.cross(module, text, table, entries, &crossing, own, pc, label)? {
+            match passages.cross(
+                module,
+                text,
+                table,
+                entries,
+                &crossing,
+                own,
+                pc,
+                label,
+                &stepped.returns,
+            )? {
                 Outcome::Open => stepped.targets.push(crossing.arm.join),
                 Outcome::Shut => note(&mut stepped.least, Reason::Arm, pc),
             }
@@ -94,10 +105,23 @@ fn cause_of_arms(
     if passages.is_open(own, crossing, pc, label) {
         return None;
     }
+    if let Some(cause) = passages.cause(own, crossing, pc, label, returns) {
+        return Some(cause);
+    }
     let mut least = None;
     let mut told = *label;
     walk_arms(
-        module, text, table, entries, crossing, pc, label, returns, &mut least, &mut told,
+        module,
+        text,
+        table,
+        entries,
+        crossing,
+        pc,
+        label,
+        returns,
+        &mut least,
+        &mut told,
+        &mut Sources::new(false),
     );
     least
 }

@@ -1,6 +1,6 @@
 //! The instructions of a text, each met once for all walks.
 
-ghost use Rattle.std.specs.Prelude.{◌≡◌, ◌+◌, ◌*◌, ℕ, Option, IfSome, IfOk, Some, None, slice_get};
+ghost use Rattle.std.specs.Prelude.{◌≡◌, ◌+◌, ◌*◌, ℕ, Option, IfSome, IfOk, Some, None, slice_get, option_copied};
 ghost use Rattle.insn_decode.specs.declared.insn.Insn.{Insn};
 ghost use Rattle.cycle_table.specs.Cycles.{cycles_of};
 ghost use Rattle.insn_decode.specs.Code.{IsDecoded};
@@ -25,14 +25,6 @@ pub struct Entry {
     pub time: u8,
     /// Where an arm goes on whose join is past that, or none where none may have the instruction.
     pub next: Option<u16>,
-}
-
-/// An instruction of an arm: where it goes on, and its cycles.
-#[derive(Clone, Copy)]
-pub struct Armed {
-    pub insn: Insn,
-    pub next: u16,
-    pub time: u8,
 }
 
 /// The cycles of an instruction.
@@ -82,26 +74,26 @@ pub fn table_of(alloc: Global, module: &Module, text: &[u8]) -> Result<Vec<Entry
 
 /// A place of the table.
 #[inline(always)]
-fn place(table: &[Entry], k: usize) -> Option<Entry>
-    ensures { result ≡ slice_get table.now k }
+fn place(table: &[Entry], k: usize) -> Option<&Entry>
+    ensures { option_copied result ≡ slice_get table.now k }
 {
-    table.get(k).copied()
+    table.get(k)
 }
 
-/// What is met at an address: from the table, where it is there.
+/// What is met at an address, where it is in the table.
 #[tactic(auto, using(crate::proofs::Entries::entry_there))]
 #[inline(always)]
-fn entry_at(module: &Module, text: &[u8], table: &[Entry], pc: u16) -> Entry
+pub fn entry_at<'a>(module: &Module, text: &[u8], table: &'a [Entry], pc: u16) -> Option<&'a Entry>
     requires { IsTable module.now text.now table.now }
-    ensures { result ≡ entry_by module.now text.now pc }
+    ensures { IfSome (option_copied result) (λ e. e ≡ entry_by module.now text.now pc) }
 {
     let offset = usize::from(pc.saturating_sub(module.text.start));
     if module.text.start <= pc && offset % 2 == 0 {
         if let Some(entry) = place(table, offset / 2) {
-            return entry;
+            return Some(entry);
         }
     }
-    entry_of(module, text, pc)
+    None
 }
 
 /// Where an arm goes on, if that is not past its join.
@@ -116,29 +108,16 @@ fn up_to(next: Option<u16>, join: u16) -> Option<u16>
     }
 }
 
-/// The instruction of an arm at `pc`.
-#[tactic(auto, using(crate::proofs::Entries::timed, crate::proofs::Entries::entry_next, crate::proofs::Entries::entry_stops, arm_balance::proofs::Times::on_at, arm_balance::proofs::Times::on_far, arm_balance::proofs::Times::on_stop, arm_balance::proofs::Times::on_unmet))]
+/// Where an arm goes on after the instruction at `pc`, of which the table has this.
+#[tactic(auto, using(crate::proofs::Entries::entry_on, arm_balance::proofs::Times::on_far))]
 #[inline(always)]
-pub fn arm_at(module: &Module, text: &[u8], table: &[Entry], pc: u16, join: u16) -> Option<Armed>
-    requires { IsTable module.now text.now table.now }
-    ensures met { IfSome result (λ a. met module.now.text text.now pc ≡ Some a.insn) }
-    ensures goes_on { IfSome result (λ a. arm_on module.now.text text.now join pc ≡ Some a.next) }
-    ensures time { IfSome result (λ a. a.time ≡ cycles_of a.insn) }
-    ensures stops { result ≡ None → arm_on module.now.text text.now join pc ≡ None }
+pub fn next_of(module: &Module, text: &[u8], entry: &Entry, pc: u16, join: u16) -> Option<u16>
+    requires { entry.now ≡ entry_by module.now text.now pc }
+    ensures { arm_on module.now.text text.now join pc ≡ result }
 {
-    if !(module.text.holds(usize::from(pc)) && pc < join) {
-        return None;
-    }
-    let entry = entry_at(module, text, table, pc);
-    match entry.met {
-        Some(insn) => match up_to(entry.next, join) {
-            Some(next) => Some(Armed {
-                insn,
-                next,
-                time: entry.time,
-            }),
-            None => None,
-        },
-        None => None,
+    if module.text.holds(usize::from(pc)) && pc < join {
+        up_to(entry.next, join)
+    } else {
+        None
     }
 }

@@ -14,11 +14,12 @@ ghost use Rattle.flow_check.specs.Tables.{IsTable};
 
 use crate::along::{Way, along, is_call_word};
 use crate::blot::{blot_at, blot_registers, blot_words};
+use crate::needs::Sources;
 use crate::reach::reaches;
 use crate::returns::Returns;
 use crate::step::{Cause, Stepped, Targets, note, note_if};
 use crate::stub::step_base;
-use crate::table::{Entry, arm_at};
+use crate::table::{Entry, entry_at, next_of};
 use arm_balance::met_arm;
 use cycle_table::cycles;
 use flow_rule::{Label, Reach, Reason, Val};
@@ -158,6 +159,7 @@ fn walk_on(
     join: u16,
     place: &mut Place,
     tally: &mut Tally,
+    sources: &mut Sources,
 ) -> bool
     requires few { IfSome entries (λ n. n ≤ 64) }
     requires table { IsTable module.now text.now table.now }
@@ -177,20 +179,25 @@ fn walk_on(
     if is_call_word(module, entries, pc) {
         return walk_by_step(module, text, entries, join, place, tally);
     }
-    let Some(armed) = arm_at(module, text, table, pc, join) else {
+    let Some(entry) = entry_at(module, text, table, pc) else {
+        return walk_by_step(module, text, entries, join, place, tally);
+    };
+    let (Some(insn), Some(next)) = (&entry.met, next_of(module, text, entry, pc, join)) else {
         note(&mut tally.least, Reason::Arm, pc);
         return false;
     };
-    let went = along(module, text, entries, &armed.insn, pc, &mut place.label);
+    sources.follow(module, insn, pc, &place.label.core);
+    let went = along(module, text, entries, insn, pc, &mut place.label);
     match went.way {
         Way::On(to) => {
-            tell_written(module, &armed.insn, went.written, armed.time, tally);
+            tell_written(module, insn, went.written, entry.time, tally);
             place.pc = to;
             true
         }
         Way::Out => {
-            let lost = is_lost(module, join, armed.next);
-            note_if(lost, &mut tally.least, Reason::Arm, armed.next);
+            sources.leave();
+            let lost = is_lost(module, join, next);
+            note_if(lost, &mut tally.least, Reason::Arm, next);
             false
         }
         Way::Cause => {
@@ -210,6 +217,7 @@ pub fn walk(
     join: u16,
     from: &Place,
     tally: &mut Tally,
+    sources: &mut Sources,
 )
     requires few { IfSome entries (λ n. n ≤ 64) }
     requires table { IsTable module.now text.now table.now }
@@ -218,13 +226,16 @@ pub fn walk(
         tally.new ≡ told (walk (flow_step module.now text.now) module.now text.now branch join (suc join)
         (point_at from.now)) tally.old }
 {
+    sources.begin();
     let mut place = *from;
     let mut left = u32::from(join) + 1;
     while left > 0 {
         if place.pc == join {
             return;
         }
-        if !walk_on(module, text, table, entries, join, &mut place, tally) {
+        if !walk_on(
+            module, text, table, entries, join, &mut place, tally, sources,
+        ) {
             return;
         }
         left -= 1;

@@ -8,5 +8,5 @@ returns-then-absorbs-clause-open c = λ _ m text returns even all.
 
 pub returns-then-absorbs-2-clause-shut : goal.returns-then-absorbs-2-clause-shut
 returns-then-absorbs-2-clause-shut c = λ _ m text returns even all.
-    shuts c.arms_rest.ensures.rest m text even c.in-Some.passage c.in-Shut.is (kept_there m text c.args.self.now.list.items c.args.place c.in-Some.passage c.in-Some.ensures.there all)
+    shuts c.arms_rest.ensures.rest m text even c.in-Some.passage c.in-Shut.field-0 c.in-Shut.is (kept_there m text c.args.self.now.list.items c.args.place c.in-Some.passage c.in-Some.ensures.there all)
     c.args.crossing.now c.args.pc returns c.args.label.now c.in-Some.ensures.branch c.in-Some.ensures.crossing (c.absorbs-in-Shut.ensures c.if-absorbs-2.true)
