@@ -361,7 +361,7 @@ fn act_none(insn: &Insn, pc: u16, core: &mut Core) -> Acted
 }
 
 /// An instruction, but for where it goes on; a jump is taken.
-#[inline(never)]
+#[inline(always)]
 fn act(module: &Module, text: &[u8], insn: &Insn, pc: u16, label: &mut Label) -> Acted
     ensures core { label.new.core ≡ (done_by module.now text.now insn.now pc label.old).core }
     ensures words { label.new.words ≡ words_by module.now text.now insn.now pc label.old }

@@ -41,6 +41,7 @@ impl Origins {
     }
 
     /// Those of either set.
+    #[inline(always)]
     fn with(self, other: Origins) -> Origins {
         let mut set = self;
         for k in 0..5 {
@@ -165,6 +166,7 @@ impl Sources {
     }
 
     /// Says what a value is made of.
+    #[inline(always)]
     fn set(&mut self, value: usize, set: Origins) {
         if value < VALUES {
             self.of[value] = set;
@@ -172,21 +174,29 @@ impl Sources {
     }
 
     /// An operand's address has to be Known.
+    #[inline(always)]
     fn need(&mut self, operand: Operand) {
         if let Some(reg) = base(operand) {
             self.needs.known = self.needs.known.with(self.get(usize::from(reg)));
         }
     }
 
-    /// What the value there is made of.
-    fn at(&self, place: Option<usize>) -> Origins {
-        match place {
-            Some(value) => self.get(value),
-            None => Origins::NONE,
+    /// What the values there are made of.
+    #[inline(always)]
+    fn joined(&self, one: Option<usize>, two: Option<usize>, three: Option<usize>) -> Origins {
+        let mut made = Origins::NONE;
+        for place in [one, two, three] {
+            if let Some(value) = place
+                && let Some(set) = self.of.get(value)
+            {
+                made = made.with(*set);
+            }
         }
+        made
     }
 
     /// Writes a value made of these; a byte of a word leaves the other.
+    #[inline(always)]
     fn write(&mut self, place: Option<usize>, width: Width, from: Origins) {
         if let Some(value) = place {
             if width == Width::Byte && value >= REGISTERS {
@@ -211,13 +221,14 @@ impl Sources {
         self.need(src);
         self.need(dst);
         let into = destination(module, width, src, dst, pc, core);
-        let mut made = self.at(source(module, src, pc, core));
-        if reads_destination(op) {
-            made = made.with(self.at(into));
-        }
-        if reads_carry(op) {
-            made = made.with(self.get(usize::from(FLAGS)));
-        }
+        let from = source(module, src, pc, core);
+        let read = if reads_destination(op) { into } else { None };
+        let carry = if reads_carry(op) {
+            Some(usize::from(FLAGS))
+        } else {
+            None
+        };
+        let made = self.joined(from, read, carry);
         if sets_flags(op) {
             self.set(usize::from(FLAGS), made);
         }
@@ -238,10 +249,12 @@ impl Sources {
     ) {
         self.need(arg);
         let from = source(module, arg, pc, core);
-        let mut made = self.at(from);
-        if one_reads_carry(op) {
-            made = made.with(self.get(usize::from(FLAGS)));
-        }
+        let carry = if one_reads_carry(op) {
+            Some(usize::from(FLAGS))
+        } else {
+            None
+        };
+        let made = self.joined(from, None, carry);
         if one_sets_flags(op) {
             self.set(usize::from(FLAGS), made);
         }
@@ -270,9 +283,9 @@ impl Sources {
         }
     }
 
-    /// What the arms need.
-    pub fn needs(&self) -> Needs {
-        self.needs
+    /// What the arms need, where they were followed.
+    pub fn seen(&self) -> Option<Needs> {
+        if self.follows { Some(self.needs) } else { None }
     }
 
     /// Where an arm leaves the text, no register may be Secret.

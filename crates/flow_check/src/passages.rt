@@ -49,8 +49,8 @@ pub struct Passage {
     pub label: Label,
     pub returns: Returns,
     pub answer: Answer,
-    /// Whether the label has no more in it than the arms need.
-    pub tight: bool,
+    /// What the arms were seen to need, unless the label has no more in it.
+    pub needs: Option<Needs>,
 }
 
 /// Under which label the next walk of a branch is tried first.
@@ -58,8 +58,8 @@ pub struct Passage {
 enum Start {
     /// One that has what the branch's arms needed under any label so far.
     Guess,
-    /// One that has what they need under this label.
-    Tight,
+    /// One that has what they were seen to need.
+    Tight(Needs),
     /// This label.
     Whole,
 }
@@ -94,7 +94,7 @@ fn answer_of(least: Option<Cause>, told: Label) -> Answer
     }
 }
 
-/// Walks the arms of a branch under a label, with these return addresses.
+/// Walks the arms of a branch under a label, with these return addresses, and sees what they need if it `follows`.
 fn walked(
     module: &Module,
     text: &[u8],
@@ -104,8 +104,7 @@ fn walked(
     pc: u16,
     label: &Label,
     returns: &Returns,
-    tight: bool,
-    sources: &mut Sources,
+    follows: bool,
 ) -> Passage
     requires few { IfSome entries (λ n. n ≤ 64) }
     requires table { IsTable module.now text.now table.now }
@@ -116,8 +115,19 @@ fn walked(
 {
     let mut told = blank();
     let mut least: Option<Cause> = None;
+    let mut sources = Sources::new(follows);
     walk_arms(
-        module, text, table, entries, crossing, pc, label, returns, &mut least, &mut told, sources,
+        module,
+        text,
+        table,
+        entries,
+        crossing,
+        pc,
+        label,
+        returns,
+        &mut least,
+        &mut told,
+        &mut sources,
     );
     Passage {
         branch: pc,
@@ -125,7 +135,7 @@ fn walked(
         label: *label,
         returns: *returns,
         answer: answer_of(least, told),
-        tight,
+        needs: sources.seen(),
     }
 }
 
@@ -207,18 +217,8 @@ fn crossed(
         (crossing_step module.now text.now crossing.now (branch_from pc returns label.old)).reasons ≢ [] }
 {
     arms_rest();
-    let mut sources = Sources::new(false);
     let passage = walked(
-        module,
-        text,
-        table,
-        entries,
-        crossing,
-        pc,
-        label,
-        returns,
-        true,
-        &mut sources,
+        module, text, table, entries, crossing, pc, label, returns, false,
     );
     match passage.answer {
         Answer::Open(told) => {
@@ -290,15 +290,14 @@ fn is_open(passage: &Passage) -> bool {
     }
 }
 
-/// Walks the arms of a branch under a label, and where it has no cause under one that has no more in it than they were
-/// seen to need.
+/// Walks the arms of a branch under a label that has what they need, and else under this label.
 fn tightened(
     module: &Module,
     text: &[u8],
     table: &[Entry],
     entries: Option<u16>,
     crossing: &Crossing,
-    wanted: &mut Needs,
+    needs: &Needs,
     pc: u16,
     label: &Label,
     returns: &Returns,
@@ -307,43 +306,20 @@ fn tightened(
     requires table { IsTable module.now text.now table.now }
     ensures { IsStub module.now text.now entries → IsPassage module.now text.now result }
 {
-    let mut sources = Sources::new(true);
-    let whole = walked(
-        module,
-        text,
-        table,
-        entries,
-        crossing,
-        pc,
-        label,
-        returns,
-        true,
-        &mut sources,
-    );
-    if !is_open(&whole) {
-        return whole;
-    }
-    let needs = sources.needs();
-    *wanted = wanted.with(needs);
     let top = needs.least(label);
-    let mut sources = Sources::new(false);
-    let tight = walked(
-        module,
-        text,
-        table,
-        entries,
-        crossing,
-        pc,
-        &top,
-        returns,
-        true,
-        &mut sources,
+    let passage = walked(
+        module, text, table, entries, crossing, pc, &top, returns, false,
     );
-    if is_open(&tight) { tight } else { whole }
+    if is_open(&passage) {
+        return passage;
+    }
+    walked(
+        module, text, table, entries, crossing, pc, label, returns, false,
+    )
 }
 
-/// Walks the arms of a branch under a label that has what they needed under any label, and else under one that has what
-/// they need under this.
+/// Walks the arms of a branch under a label that has what they needed under any label, and else under this label; where
+/// that has no cause, says what more they need.
 fn guessed(
     module: &Module,
     text: &[u8],
@@ -360,36 +336,35 @@ fn guessed(
     ensures { IsStub module.now text.now entries → IsPassage module.now text.now result }
 {
     let top = wanted.least(label);
-    let mut sources = Sources::new(false);
     let passage = walked(
-        module,
-        text,
-        table,
-        entries,
-        crossing,
-        pc,
-        &top,
-        returns,
-        false,
-        &mut sources,
+        module, text, table, entries, crossing, pc, &top, returns, true,
     );
     if is_open(&passage) {
         return passage;
     }
-    tightened(
-        module, text, table, entries, crossing, wanted, pc, label, returns,
-    )
+    let passage = walked(
+        module, text, table, entries, crossing, pc, label, returns, true,
+    );
+    match passage.needs {
+        Some(needs) if is_open(&passage) => {
+            *wanted = wanted.with(needs);
+            tightened(
+                module, text, table, entries, crossing, &needs, pc, label, returns,
+            )
+        }
+        _ => passage,
+    }
 }
 
 /// Walks the arms of a branch under a label that absorbs this one and has as little in it as they are thought to need,
-/// or under this label.
+/// and under this label where that has a cause.
 fn learned(
     module: &Module,
     text: &[u8],
     table: &[Entry],
     entries: Option<u16>,
     crossing: &Crossing,
-    start: Start,
+    start: &Start,
     wanted: &mut Needs,
     pc: u16,
     label: &Label,
@@ -403,24 +378,12 @@ fn learned(
         Start::Guess => guessed(
             module, text, table, entries, crossing, wanted, pc, label, returns,
         ),
-        Start::Tight => tightened(
-            module, text, table, entries, crossing, wanted, pc, label, returns,
+        Start::Tight(needs) => tightened(
+            module, text, table, entries, crossing, needs, pc, label, returns,
         ),
-        Start::Whole => {
-            let mut sources = Sources::new(false);
-            walked(
-                module,
-                text,
-                table,
-                entries,
-                crossing,
-                pc,
-                label,
-                returns,
-                true,
-                &mut sources,
-            )
-        }
+        Start::Whole => walked(
+            module, text, table, entries, crossing, pc, label, returns, false,
+        ),
     }
 }
 
@@ -543,8 +506,10 @@ impl Passages {
             Some(passage) => match passage.answer {
                 Answer::Shut(_) => Start::Whole,
                 Answer::Open(_) if !is_own => Start::Guess,
-                Answer::Open(_) if passage.tight => Start::Whole,
-                Answer::Open(_) => Start::Tight,
+                Answer::Open(_) => match passage.needs {
+                    Some(needs) => Start::Tight(needs),
+                    None => Start::Whole,
+                },
             },
             None => Start::Guess,
         }
@@ -604,7 +569,7 @@ impl Passages {
             table,
             entries,
             crossing,
-            start,
+            &start,
             &mut wanted,
             pc,
             label,
