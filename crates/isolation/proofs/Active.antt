@@ -29,9 +29,9 @@ use Rattle.written_machine.specs.State.{State}
 use Rattle.isolation.proofs.Evenly.{Evenly, Together, next_together}
 use Rattle.isolation.proofs.Gie.{effect_gie}
 use Rattle.isolation.proofs.Hide.{veil_core, hide_by}
-use Rattle.isolation.proofs.Inside.{did_act}
-use Rattle.isolation.proofs.Lockstep.{Moves, moves_alike}
-use Rattle.isolation.proofs.Relation.{times, backup_of, run_by, run_of, lone_of, IsOpen, Secret, Open as IsOpenNow, Keeps, Ready, Alike, Outer, outer_alike, seen_inside, seen_active}
+use Rattle.isolation.proofs.Inside.{Moves, did_act}
+use Rattle.isolation.proofs.Lockstep.{moves_alike}
+use Rattle.isolation.proofs.Relation.{times, backup_of, run_by, lone_of, IsOpen, Open as IsOpenNow, Keeps, Ready, Alike, Outer, outer_alike, BothActive, both_active}
 use Rattle.isolation.proofs.Settled.{arrive_inside_stays}
 use Rattle.isolation.proofs.Settling.{arrive_hidden, due_hidden}
 use Rattle.isolation.proofs.Cases.{turn_at, turn_is}
@@ -94,10 +94,9 @@ not_held m (Plain ∷ fs) e = not_held m fs e
 not_held m (Held b ∷ fs) e = held_by (b.module == m) (times m fs) (is_held m (held_ids fs)) e (λ z. not_held m fs z)
 
 module _ (m : ℕ) (own : Module) (key text : List ℕ) (s : State) (k : Keeps m own key text s) (active_is : s.active ≡ Some m) where
-  pub act_moves : (l : Lone) (insn : Insn) → pc_of s % 2 ≡ 0 → holds own.text (pc_of s) ≡ true → l.core ≡ s.core → l.data_bytes ≡ section own.ram s.memory → next_insn (job_of key own text s.caller) l ≡ Some insn → Moves m own s (lone_does (job_of key own text s.caller) insn l) (act s)
+  pub act_moves : (l : Lone) (insn : Insn) → pc_of s % 2 ≡ 0 → holds own.text (pc_of s) ≡ true → l.core ≡ s.core → l.data_bytes ≡ section own.ram s.memory → next_insn (job_of key own text s.caller) l ≡ Some insn → Moves own s (lone_does (job_of key own text s.caller) insn l) (act s)
   act_moves l insn even here core_is bytes_are e =
-      let d = did_act m own s.table k.sound (job_of key own text s.caller) refl s refl active_is k.text_is k.key_is refl even here l core_is bytes_are insn e in
-      record { memory = d.memory; is = d.is; bytes = d.bytes; rest = d.rest; text = d.text }
+      did_act m own s.table k.sound (job_of key own text s.caller) refl s refl active_is k.text_is k.key_is refl even here l core_is bytes_are insn e
 
   same_id : (m == m) ≡ true
   same_id = grind (arith, nat_tests)
@@ -135,7 +134,7 @@ module _ (m : ℕ) (own : Module) (key text : List ℕ) (s : State) (k : Keeps m
   turn_to left p d e =
       turn_is left s ∙ ap (λ v. turn_at v s.active s.phase left s) d ∙ ap (λ a. turn_at None a s.phase left s) active_is ∙ ap (λ q. turn_at None (Some m) q left s) e
 
-  waits_moves : (left r : ℕ) → due s ≡ None → rest_of s.phase ≡ suc r → Moves m own s (record (lone_of (backup_of m s) (section own.ram s.memory)) { rest = r }) (turn left s)
+  waits_moves : (left r : ℕ) → due s ≡ None → rest_of s.phase ≡ suc r → Moves own s (record (lone_of (backup_of m s) (section own.ram s.memory)) { rest = r }) (turn left s)
   waits_moves left r d e =
       let p = k.proper is_active in
       record {
@@ -146,11 +145,11 @@ module _ (m : ℕ) (own : Module) (key text : List ℕ) (s : State) (k : Keeps m
         text = refl;
       }
 
-  does_moves : (left : ℕ) (insn : Insn) → due s ≡ None → pc_of s % 2 ≡ 0 → rest_of s.phase ≡ 0 → holds own.text (pc_of s) ≡ true → next_insn (job_of key own text s.caller) (lone_of (backup_of m s) (section own.ram s.memory)) ≡ Some insn → Moves m own s (lone_does (job_of key own text s.caller) insn (lone_of (backup_of m s) (section own.ram s.memory))) (turn left s)
+  does_moves : (left : ℕ) (insn : Insn) → due s ≡ None → pc_of s % 2 ≡ 0 → rest_of s.phase ≡ 0 → holds own.text (pc_of s) ≡ true → next_insn (job_of key own text s.caller) (lone_of (backup_of m s) (section own.ram s.memory)) ≡ Some insn → Moves own s (lone_does (job_of key own text s.caller) insn (lone_of (backup_of m s) (section own.ram s.memory))) (turn left s)
   does_moves left insn d even e here next =
       let p = k.proper is_active in
       let to : turn left s ≡ act s = turn_to left (Run 0) d (p.0 ∙ ap Run e) ∙ begin_inside left here in
-      subst (Moves m own s (lone_does (job_of key own text s.caller) insn (lone_of (backup_of m s) (section own.ram s.memory)))) (sym to)
+      subst (Moves own s (lone_does (job_of key own text s.caller) insn (lone_of (backup_of m s) (section own.ram s.memory)))) (sym to)
       (act_moves (lone_of (backup_of m s) (section own.ram s.memory)) insn even here refl refl next)
 
   abbrev IsGoing : Doing → Type 0
@@ -160,7 +159,7 @@ module _ (m : ℕ) (own : Module) (key text : List ℕ) (s : State) (k : Keeps m
 
   -- its turn is its own next step, and GIE stays
   pub turn_moves : (left : ℕ) (x : Doing) → IsCore s.core → due s ≡ None → doing (job_of key own text s.caller) (lone_of (backup_of m s) (section own.ram s.memory)) ≡ x → IsGoing x →
-      Moves m own s (lone_step_by x (job_of key own text s.caller) (lone_of (backup_of m s) (section own.ram s.memory))) (turn left s) × (veil_core (lone_step_by x (job_of key own text s.caller) (lone_of (backup_of m s) (section own.ram s.memory))).core ≡ veil_core s.core)
+      Moves own s (lone_step_by x (job_of key own text s.caller) (lone_of (backup_of m s) (section own.ram s.memory))) (turn left s) × (veil_core (lone_step_by x (job_of key own text s.caller) (lone_of (backup_of m s) (section own.ram s.memory))).core ≡ veil_core s.core)
   unfolding doing
   turn_moves left (Waits r) ok d e g = (waits_moves left r d (waits_rest (rest_of s.phase) (is_close s.after) (holds own.text (pc_of s)) _ r e), refl)
   turn_moves left (Does i) ok d e g =
@@ -172,49 +171,37 @@ pub arrives_at : (m v left : ℕ) (s : State) → s.active ≡ Some m → s.phas
 arrives_at m v left s e p d =
     turn_is left s ∙ ap (λ x. turn_at x s.active s.phase left s) d ∙ ap (λ x. turn_at (Some v) x s.phase left s) e ∙ ap (λ x. turn_at (Some v) (Some m) x left s) p
 
-arrived_none : (v id : ℕ) (s : State) → is_id id (arrive_inside v id s).state.active ≡ false
+pub arrived_none : (m v id : ℕ) (s : State) → is_id m (arrive_inside v id s).state.active ≡ false
 unfolding arrive_inside
-arrived_none v id s = refl
+arrived_none m v id s = refl
 
 module _ (m : ℕ) (own : Module) (key text : List ℕ) (a b : State) (ready : Ready m own key text a b) (act_a : is_id m a.active ≡ true) (ok_a : IsCore a.core) (ok_b : IsCore b.core) where
-  act_b : is_id m b.active ≡ true
-  act_b = ap (is_id m) (sym (seen_active m own key text a b ready.twins.seen)) ∙ act_a
+  both : BothActive m own key text a b
+  both = both_active m own key text a b ready.twins act_a
 
   some_a : a.active ≡ Some m
   some_a = active_some m a.active act_a
 
   some_b : b.active ≡ Some m
-  some_b = active_some m b.active act_b
-
-  seen_in : hide_by true m own a ≡ hide_by true m own b
-  seen_in = seen_inside m own key text a b ready.twins.seen act_a
-
-  secret_now : Secret m own key text (Some (backup_of m a)) (Some (backup_of m b)) (section own.ram a.memory) (section own.ram b.memory)
-  secret_now =
-      let h = ready.twins.secret in
-      let h1 = subst (λ c. Secret m own key text (run_by c m a) (run_of m b) (section own.ram a.memory) (section own.ram b.memory)) act_a h in
-      subst (λ c. Secret m own key text (Some (backup_of m a)) (run_by c m b) (section own.ram a.memory) (section own.ram b.memory)) act_b h1
-
-  job_same : job_of key own text b.caller ≡ job_of key own text a.caller
-  job_same = ap (job_of key own text) (sym secret_now.0)
+  some_b = active_some m b.active both.other
 
   open_a : IsOpen (doing (job_of key own text a.caller) (lone_of (backup_of m a) (section own.ram a.memory)))
   open_a = subst (λ c. IsOpenNow m own key text (run_by c m a) (section own.ram a.memory)) act_a ready.now_a
 
   open_b : IsOpen (doing (job_of key own text b.caller) (lone_of (backup_of m b) (section own.ram b.memory)))
-  open_b = subst (λ c. IsOpenNow m own key text (run_by c m b) (section own.ram b.memory)) act_b ready.now_b
+  open_b = subst (λ c. IsOpenNow m own key text (run_by c m b) (section own.ram b.memory)) both.other ready.now_b
 
   -- an arrival, which sees no secret
   arrives : (v : ℕ) → Alike m own key text (arrive_inside v m a) (arrive_inside v m b)
   arrives v =
       outer_alike m own key text a b (arrive_inside v m a) (arrive_inside v m b) (arrive_inside v m (hide_by true m own a)) (arrive_inside v m (hide_by true m own b)) ready
-      (outer a ready.twins.keeps_a some_a) (outer b ready.twins.keeps_b some_b) (ap (arrive_inside v m) seen_in)
+      (outer a ready.twins.keeps_a some_a) (outer b ready.twins.keeps_b some_b) (ap (arrive_inside v m) both.seen)
     where
       outer : (s : State) → Keeps m own key text s → s.active ≡ Some m → Outer m own key text s (arrive_inside v m s) (arrive_inside v m (hide_by true m own s))
       outer s k e =
           let id : (m == m) ≡ true = grind (arith, nat_tests) in
           record {
-            same = arrive_hidden m own true s.table k.sound v m s id ∙ ap (λ c. let u : Step = record (arrive_inside v m s) { state = hide_by c m own (arrive_inside v m s).state } in u) (sym (arrived_none v m s));
+            same = arrive_hidden m own true s.table k.sound v m s id ∙ ap (λ c. let u : Step = record (arrive_inside v m s) { state = hide_by c m own (arrive_inside v m s).state } in u) (sym (arrived_none m v m s));
             stays = arrive_inside_stays m own key text true v m s k e id;
           }
 
@@ -226,7 +213,7 @@ module _ (m : ℕ) (own : Module) (key text : List ℕ) (a b : State) (ready : R
   finish left x y da db ea eb ga gb ev =
       let va = turn_moves m own key text a ready.twins.keeps_a some_a left x ok_a da ea ga in
       let vb = turn_moves m own key text b ready.twins.keeps_b some_b left y ok_b db eb gb in
-      moves_alike m own key text a b (lone_step_by x (job_of key own text a.caller) (lone_of (backup_of m a) (section own.ram a.memory))) (lone_step_by y (job_of key own text b.caller) (lone_of (backup_of m b) (section own.ram b.memory))) (turn left a) (turn left b) ready.twins.keeps_a ready.twins.keeps_b act_a act_b seen_in va.0 vb.0 va.1 vb.1 ev
+      moves_alike m own key text a b (lone_step_by x (job_of key own text a.caller) (lone_of (backup_of m a) (section own.ram a.memory))) (lone_step_by y (job_of key own text b.caller) (lone_of (backup_of m b) (section own.ram b.memory))) (turn left a) (turn left b) ready.twins.keeps_a ready.twins.keeps_b act_a both.other both.seen va.0 vb.0 va.1 vb.1 ev
 
   -- both go on
   go : (left : ℕ) (x y : Doing) → due a ≡ None → due b ≡ None →
@@ -235,9 +222,9 @@ module _ (m : ℕ) (own : Module) (key text : List ℕ) (a b : State) (ready : R
       IsOpen x → IsOpen y →
       Together key own text (job_of key own text a.caller) x y (lone_of (backup_of m a) (section own.ram a.memory)) (lone_of (backup_of m b) (section own.ram b.memory)) → Alike m own key text (turn left a) (turn left b)
   go left (Waits r) (Waits r') da db ea eb oa ob t = finish left (Waits r) (Waits r') da db ea eb tt tt t
-  go left (Waits r) (Does i) da db ea eb oa ob t = finish left (Waits r) (Does i) da db ea eb tt tt (subst (λ j. Evenly key own text (job_of key own text a.caller) (record (lone_of (backup_of m a) (section own.ram a.memory)) { rest = r }) (lone_does j i (lone_of (backup_of m b) (section own.ram b.memory)))) (sym job_same) t)
+  go left (Waits r) (Does i) da db ea eb oa ob t = finish left (Waits r) (Does i) da db ea eb tt tt (subst (λ j. Evenly key own text (job_of key own text a.caller) (record (lone_of (backup_of m a) (section own.ram a.memory)) { rest = r }) (lone_does j i (lone_of (backup_of m b) (section own.ram b.memory)))) (sym both.job) t)
   go left (Does i) (Waits r) da db ea eb oa ob t = finish left (Does i) (Waits r) da db ea eb tt tt t
-  go left (Does i) (Does i') da db ea eb oa ob t = finish left (Does i) (Does i') da db ea eb tt tt (subst (λ j. Evenly key own text (job_of key own text a.caller) (lone_does (job_of key own text a.caller) i (lone_of (backup_of m a) (section own.ram a.memory))) (lone_does j i' (lone_of (backup_of m b) (section own.ram b.memory)))) (sym job_same) t)
+  go left (Does i) (Does i') da db ea eb oa ob t = finish left (Does i) (Does i') da db ea eb tt tt (subst (λ j. Evenly key own text (job_of key own text a.caller) (lone_does (job_of key own text a.caller) i (lone_of (backup_of m a) (section own.ram a.memory))) (lone_does j i' (lone_of (backup_of m b) (section own.ram b.memory)))) (sym both.job) t)
   go left Closes y da db ea eb oa ob t = absurd oa
   go left Leaves y da db ea eb oa ob t = absurd oa
   go left _ _ da db ea eb oa ob t = absurd t
@@ -247,10 +234,10 @@ module _ (m : ℕ) (own : Module) (key text : List ℕ) (a b : State) (ready : R
 
   by_due : (left : ℕ) (d : Option ℕ) → due a ≡ d → due b ≡ d → Alike m own key text (turn left a) (turn left b)
   by_due left None da db =
-      go left _ _ da db refl refl open_a open_b (subst (λ j. Together key own text (job_of key own text a.caller) (doing (job_of key own text a.caller) (lone_of (backup_of m a) (section own.ram a.memory))) (doing j (lone_of (backup_of m b) (section own.ram b.memory))) (lone_of (backup_of m a) (section own.ram a.memory)) (lone_of (backup_of m b) (section own.ram b.memory))) (sym job_same) (next_together key own text (job_of key own text a.caller) _ _ secret_now.1))
+      go left _ _ da db refl refl open_a open_b (subst (λ j. Together key own text (job_of key own text a.caller) (doing (job_of key own text a.caller) (lone_of (backup_of m a) (section own.ram a.memory))) (doing j (lone_of (backup_of m b) (section own.ram b.memory))) (lone_of (backup_of m a) (section own.ram a.memory)) (lone_of (backup_of m b) (section own.ram b.memory))) (sym both.job) (next_together key own text (job_of key own text a.caller) _ _ both.secret.1))
   by_due left (Some v) da db =
       let pa = ready.twins.keeps_a.proper act_a in
-      let pb = ready.twins.keeps_b.proper act_b in
+      let pb = ready.twins.keeps_b.proper both.other in
       subst (λ u. Alike m own key text u (turn left b)) (sym (arrives_at m v left a some_a pa.0 da))
       (subst (λ u. Alike m own key text (arrive_inside v m a) u) (sym (arrives_at m v left b some_b pb.0 db)) (arrives v))
 

@@ -9,7 +9,7 @@ use Rattle.isolation.proofs.Each.{Each}
 use Rattle.isolation.proofs.EvenBy.{Call_of, begins, IsCall, EvenBy, AlwaysEvenBy}
 
 -- what of an outcome is there within n cycles
-abbrev cut : ℕ → Outcome → Outcome
+abbrev pub cut : ℕ → Outcome → Outcome
 cut n (Exit c d k) = cond (nat_le k n) (Exit c d k) Running
 cut n (Closing c d k) = cond (nat_le k n) (Closing c d k) Running
 cut n (Broken d k) = cond (nat_lt k n) (Broken d k) Running
@@ -66,7 +66,7 @@ module _ (j : Job) where
   suc_cut (Waits r) n f g l h = ap later (h (record l { rest = r })) ∙ sym (cut_later n (g (record l { rest = r })))
   suc_cut (Does i) n f g l h = ap later (h (lone_does j i l)) ∙ sym (cut_later n (g (lone_does j i l)))
 
-  outcome_cut : (n m : ℕ) (l : Lone) → n ≤ m → outcome j n l ≡ cut n (outcome j m l)
+  pub outcome_cut : (n m : ℕ) (l : Lone) → n ≤ m → outcome j n l ≡ cut n (outcome j m l)
   outcome_cut zero zero l le = once_cut (doing j l) l
   outcome_cut zero (suc m) l le = zero_cut (doing j l) (outcome j m) l
   outcome_cut (suc n) zero l le = absurd (omega arith)

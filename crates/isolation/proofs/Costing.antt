@@ -1,5 +1,5 @@
 -- The cycles of a whole call: its own, and those between its hides and resumes.
-use Rattle.std.proofs.Common.{◌≡◌, ◌≢◌, ◌⊎◌, ⊎_elim, ℕ, zero, suc, ◌+◌, ◌<◌, List, [], ◌∷◌, refl, sym, ap, ◌∙◌, subst, arith, Bool, true, false, cond, ◌&&◌, ◌==◌, Option, Some, None, is_none}
+use Rattle.std.proofs.Common.{◌≡◌, ◌≢◌, ◌⊎◌, ⊎_elim, ℕ, zero, suc, ◌+◌, ◌<◌, List, refl, sym, ap, ◌∙◌, subst, arith, Bool, true, false, cond, ◌&&◌, ◌==◌, Option, Some, None, is_none}
 use Rattle.std.proofs.lemmas.Bool.Decides.{nat_tests}
 use Rattle.schedule_file.specs.declared.Entry.{Entry as Scheduled}
 use Rattle.mod_layout.specs.Table.{module_of}
@@ -7,27 +7,22 @@ use Rattle.mod_layout.specs.declared.Module.{Module}
 use Rattle.pc_access.specs.Rights.{is_id}
 use Rattle.pc_access.specs.declared.Stop.{Stop}
 use Rattle.image_text.specs.Image.{Image, IsImage}
-use Rattle.reg_backup.specs.declared.backup.After.{After}
-use Rattle.reg_backup.specs.declared.backup.After.TheVariants.{Next, Handler, Resume, Close}
-use Rattle.reg_backup.specs.declared.backup.Phase.{Phase}
-use Rattle.reg_backup.specs.declared.backup.Phase.TheVariants.{Run}
-use Rattle.reg_backup.specs.declared.frames.Frame.{Frame}
-use Rattle.reg_backup.specs.declared.frames.Frame.TheVariants.{Plain, Module as Held}
-use Rattle.attest.specs.Done.{own_of}
 use Rattle.cpu_step.specs.Lone.{Job, Lone, Outcome, Broken, Running, later, Doing, Waits, Closes, Leaves, Breaks, Does, doing, lone_does, lone_step, lone_step_by, lone_after, in_time, at_once, outcome, job_of}
-use Rattle.written_machine.specs.Cycle.{pc_of, in_text, resume_from, close_of, leave_if, settle_by, settle_in, settle, ticked, due, turn, move, cycle_by, cycle, after_cycles}
+use Rattle.written_machine.specs.Cycle.{settle, ticked, due, turn, move, cycle_by, cycle, after_cycles}
 use Rattle.written_machine.specs.Peers.{section}
 use Rattle.written_machine.specs.State.{State}
 use Rattle.written_machine.specs.View.{at}
 use Rattle.isolation.specs.Calls.{works, worked, NoEnd, Enters, Ends, NotBroken, Takes, away}
+use Rattle.cpu_step.proofs.LoneLemmas.{after_step}
 use Rattle.isolation.proofs.Costs.{Balance, balance}
 use Rattle.isolation.proofs.Ending.{settled_as, settled_doing}
 use Rattle.isolation.proofs.Fine.{Fine}
 use Rattle.isolation.proofs.Follow.{job, Follows, follow_stays, settle_follows, active_doing, counted_events}
 use Rattle.isolation.proofs.Relation.{IsOpen, backup_of, lone_of}
 use Rattle.isolation.proofs.Settled.{ticked_stays}
+use Rattle.isolation.proofs.Ways.{settle_ways}
 use Rattle.isolation.proofs.Tame.{cycle_number, runs_so_far, cycle_ends, ticked_active}
-use Rattle.isolation.proofs.Transparent.{step_first, never_breaks, more_by, follows_on, entry_text, entry_job, entry_lone, entry_open, entry_follows, fine_from}
+use Rattle.isolation.proofs.Transparent.{never_breaks, more_by, follows_on, entry_text, entry_job, entry_lone, entry_open, entry_follows, fine_from}
 
 abbrev pub IsEnd : Doing → Type 0
 IsEnd Closes = Unit {0}
@@ -50,7 +45,7 @@ module _ (j : Job) where
   takes zero l op nb e = at_end (doing j l) l e
   takes (suc c) l op nb e =
       by (doing j l) refl (op 0 (omega arith)) (nb 0 (omega arith))
-      (takes c (lone_step j l) (λ i lt. subst (λ x. IsOpen (doing j x)) (sym (step_first j l i)) (op (suc i) (omega arith))) (λ i lt. subst (λ x. doing j x ≢ Breaks) (sym (step_first j l i)) (nb (suc i) (omega arith))) (subst (λ x. IsEnd (doing j x)) (sym (step_first j l c)) e))
+      (takes c (lone_step j l) (λ i lt. subst (λ x. IsOpen (doing j x)) (sym (after_step j l i)) (op (suc i) (omega arith))) (λ i lt. subst (λ x. doing j x ≢ Breaks) (sym (after_step j l i)) (nb (suc i) (omega arith))) (subst (λ x. IsEnd (doing j x)) (sym (after_step j l c)) e))
     where
       by : (x : Doing) → doing j l ≡ x → IsOpen (doing j l) → doing j l ≢ Breaks → Takes c (outcome j c (lone_step j l)) → Takes (suc c) (in_time x (outcome j c) j l)
       by (Waits r) f o n h = takes_later c (outcome j c (record l { rest = r })) (subst (λ d. Takes c (outcome j c (lone_step_by d j l))) f h)
@@ -63,32 +58,10 @@ module _ (m : ℕ) where
   one_end : (id : ℕ) → (id == m) ≡ false → ((id ≡ m) ⊎ ⊥) → ⊥
   one_end id n h = let ne : id ≢ m = grind (arith, nat_tests) in ⊎_elim ne (λ x. x) h
 
-  resume_ends : (fs : List Frame) (s : State) → Ends m (resume_from fs s).events → ⊥
-  resume_ends [] s h = h
-  resume_ends (Plain ∷ fs) s h = h
-  resume_ends (Held b ∷ fs) s h = h
-
-  close_ends : (a : Option ℕ) (o : Option Module) (s : State) → is_id m a ≡ false → Ends m (close_of a o s).events → ⊥
-  close_ends (Some id) (Some x) s n h = one_end id n h
-  close_ends _ _ s n h = h
-
-  leave_ends : (b : Bool) (a : Option ℕ) (s : State) → is_id m a ≡ false → Ends m (leave_if b a s).events → ⊥
-  leave_ends false (Some id) s n h = one_end id n h
-  leave_ends _ _ s n h = h
-
-  by_ends : (a : After) (s : State) → is_id m s.active ≡ false → Ends m (settle_by a s).events → ⊥
-  by_ends Resume s n h = resume_ends s.frames s h
-  by_ends Close s n h = close_ends s.active (own_of s.active s.table) s n h
-  by_ends Handler s n h = h
-  by_ends Next s n h = leave_ends (in_text (own_of s.active s.table) (pc_of s)) s.active s n h
-
-  in_ends : (p : Phase) (s : State) → is_id m s.active ≡ false → Ends m (settle_in p s).events → ⊥
-  in_ends (Run zero) s n h = by_ends s.after s n h
-  in_ends _ s n h = h
-
   idle_ends : (s : State) → is_id m s.active ≡ false → Ends m (settle s).events → ⊥
-  unfolding settle
-  idle_ends s n h = in_ends s.phase s n h
+  idle_ends s n =
+      settle_ways s (λ u. Ends m u.events → ⊥) (λ h. h) (λ b fs e h. h) (λ id x a o. one_end id (ap (is_id m) (sym a) ∙ n)) (λ e h. h)
+      (λ id a. one_end id (ap (is_id m) (sym a) ∙ n))
 
 module _ (m : ℕ) (own : Module) (key text : List ℕ) (from : ℕ) where
   as_ends : (x : Doing) (s : State) → Ends m (settled_as m own key text x s).events → IsEnd x

@@ -20,7 +20,7 @@ use Rattle.isolation.proofs.Relation.{IsOpen}
 use Rattle.isolation.proofs.Settled.{ticked_stays}
 use Rattle.isolation.proofs.Still.{still_notes, notes_more, sent_still, turn_still, Told, settle_told}
 use Rattle.isolation.proofs.Transparent.{follows_on, more_by, never_breaks}
-use Rattle.isolation.proofs.Turns.{held_idle}
+use Rattle.isolation.proofs.Turns.{held_turn}
 
 -- while it is active all the cycles so far are its own or between a hide and its resume; while it is held, those up to the hide
 abbrev pub Balance : Bool → ℕ → Away → ℕ → Type 0
@@ -70,7 +70,7 @@ module _ (m : ℕ) (own : Module) (key text : List ℕ) (from : ℕ) where
   held_turns : (left : ℕ) (s : State) (la : Lone) → Now m own key text from s la → is_id m s.active ≡ false → IsCore s.core → (i : ℕ) (w : Away) (c : ℕ) → Balance false i w c → Balance (is_id m (turn left s).state.active) (i + 1) (notes m i (turn left s).events w) (c + 0)
   held_turns left s la f out ok i w c b =
       let held : find_held m s.frames ≡ Some f.follows.backup = ap (λ x. run_by x m s) (sym out) ∙ f.follows.run in
-      let idle = held_idle m own key text s f.follows.keeps out ok f.follows.backup held left in
+      let idle = (held_turn m own key text s f.follows.keeps out ok f.follows.backup held left).1 in
       let k : Balance false (i + 1) w (c + 0) = (b.0, b.1, let z = b.2 in omega arith, let z = b.3 in omega arith) in
       let k1 = subst (λ x. Balance false (i + 1) x (c + 0)) (sym (still_notes m i (turn left s).events w (turn_still m left s out))) k in
       subst (λ x. Balance x (i + 1) (notes m i (turn left s).events w) (c + 0)) (sym idle) k1

@@ -24,7 +24,7 @@ use Rattle.isolation.proofs.Active.{active_some}
 use Rattle.isolation.proofs.EvenBy.{AlwaysEvenBy}
 use Rattle.isolation.proofs.Evenly.{Together, next_together}
 use Rattle.isolation.proofs.Hide.{veil_if, veil_frames, hide_by, hide}
-use Rattle.isolation.proofs.Relation.{find_held, found_if, times, backup_of, run_by, run_of, lone_of, IsOpen, Secret, Open as IsOpenNow, Keeps, Twins, Ready, twins_stay, seen_veiled, seen_inside, seen_active}
+use Rattle.isolation.proofs.Relation.{find_held, times, none_found, backup_of, run_by, lone_of, IsOpen, Secret, Open as IsOpenNow, Keeps, Twins, Ready, BothActive, both_active, twins_stay, seen_veiled, seen_active}
 use Rattle.isolation.proofs.Settled.{settle_stays}
 use Rattle.isolation.proofs.Settling.{hide_settled, settle_veiled}
 
@@ -39,16 +39,6 @@ frames_same m (Plain ∷ fs) e = ap (λ l. Plain ∷ l) (frames_same m fs e)
 frames_same m (Held b ∷ fs) e =
     let r : times m fs ≡ 0 = omega arith in
     ap (λ x. Held x ∷ veil_frames m fs) (frame_by (b.module == m) b (times m fs) e) ∙ ap (λ l. Held b ∷ l) (frames_same m fs r)
-
-found_by : (c : Bool) (b : Backup) (o : Option Backup) (n : ℕ) → one_if c + n ≡ 0 → o ≡ None → found_if c b o ≡ None
-found_by true b o n e h = absurd (omega arith)
-found_by false b o n e h = h
-
-none_found : (m : ℕ) (fs : List Frame) → times m fs ≡ 0 → find_held m fs ≡ None
-none_found m [] e = refl
-none_found m (Plain ∷ fs) e = none_found m fs e
-none_found m (Held b ∷ fs) e =
-    let r : times m fs ≡ 0 = omega arith in found_by (b.module == m) b (find_held m fs) (times m fs) e (none_found m fs r)
 
 -- what doing says of rest, closing and PC
 closes_now : (r : ℕ) (c t : Bool) (n : Option Insn) → doing_by r c t n ≡ Closes → (r ≡ 0) × (c ≡ true)
@@ -128,41 +118,33 @@ module _ (m : ℕ) (own : Module) (key text : List ℕ) where
         }
 
     module _ (act_a : is_id m a.active ≡ true) where
-      act_b : is_id m b.active ≡ true
-      act_b = ap (is_id m) (sym (seen_active m own key text a b twins.seen)) ∙ act_a
-
-      seen_in : hide_by true m own a ≡ hide_by true m own b
-      seen_in = seen_inside m own key text a b twins.seen act_a
-
-      secret_now : Secret m own key text (Some (backup_of m a)) (Some (backup_of m b)) (section own.ram a.memory) (section own.ram b.memory)
-      secret_now =
-          let h1 = subst (λ c. Secret m own key text (run_by c m a) (run_of m b) (section own.ram a.memory) (section own.ram b.memory)) act_a twins.secret in
-          subst (λ c. Secret m own key text (Some (backup_of m a)) (run_by c m b) (section own.ram a.memory) (section own.ram b.memory)) act_b h1
+      both : BothActive m own key text a b
+      both = both_active m own key text a b twins act_a
 
       frames_alike : a.frames ≡ b.frames
       frames_alike =
-          sym (frames_same m a.frames (no_times a twins.keeps_a act_a)) ∙ ap (λ s. s.frames) seen_in ∙ frames_same m b.frames (no_times b twins.keeps_b act_b)
+          sym (frames_same m a.frames (no_times a twins.keeps_a act_a)) ∙ ap (λ s. s.frames) both.seen ∙ frames_same m b.frames (no_times b twins.keeps_b both.other)
 
       closed_same : a.core ≡ b.core → rest_of a.phase ≡ 0 → rest_of b.phase ≡ 0 → closed_state a ≡ closed_state b
       closed_same core ra rb =
           let pa = (twins.keeps_a.proper act_a).0 ∙ ap Run ra in
-          let pb = (twins.keeps_b.proper act_b).0 ∙ ap Run rb in
+          let pb = (twins.keeps_b.proper both.other).0 ∙ ap Run rb in
           let build : State → List ℕ → List Frame → Phase → State = λ h c fs p. record h { core = c; frames = fs; phase = p; table = without m h.table; active = None; after = Next } in
-          ap (λ h. build h a.core a.frames a.phase) seen_in ∙ ap (λ c. build (hide_by true m own b) c a.frames a.phase) core
+          ap (λ h. build h a.core a.frames a.phase) both.seen ∙ ap (λ c. build (hide_by true m own b) c a.frames a.phase) core
           ∙ ap (λ fs. build (hide_by true m own b) b.core fs a.phase) frames_alike ∙ ap (build (hide_by true m own b) b.core b.frames) (pa ∙ sym pb)
 
       left_ready : a.core ≡ b.core → AlwaysEvenBy key own text (section own.ram a.memory) (section own.ram b.memory) → rest_of a.phase ≡ 0 → rest_of b.phase ≡ 0 → is_close a.after ≡ false → is_close b.after ≡ false → Ready m own key text (left_state a) (left_state b)
       left_ready core even ra rb ca cb =
           let pa = (twins.keeps_a.proper act_a).0 ∙ ap Run ra in
-          let pb = (twins.keeps_b.proper act_b).0 ∙ ap Run rb in
+          let pb = (twins.keeps_b.proper both.other).0 ∙ ap Run rb in
           let aa = (twins.keeps_a.proper act_a).1 ∙ ap closing_after ca in
-          let ab = (twins.keeps_b.proper act_b).1 ∙ ap closing_after cb in
+          let ab = (twins.keeps_b.proper both.other).1 ∙ ap closing_after cb in
           let build : State → List ℕ → Phase → After → State = λ h c p f. record h { core = c; phase = p; after = f; active = None } in
           let seen : hide m own (left_state a) ≡ hide m own (left_state b) =
-          ap (λ h. build h a.core a.phase a.after) seen_in ∙ ap (λ c. build (hide_by true m own b) c a.phase a.after) core
+          ap (λ h. build h a.core a.phase a.after) both.seen ∙ ap (λ c. build (hide_by true m own b) c a.phase a.after) core
           ∙ ap (λ p. build (hide_by true m own b) b.core p a.after) (pa ∙ sym pb) ∙ ap (build (hide_by true m own b) b.core b.phase) (aa ∙ sym ab) in
           let fa = none_found m a.frames (no_times a twins.keeps_a act_a) in
-          let fb = none_found m b.frames (no_times b twins.keeps_b act_b) in
+          let fb = none_found m b.frames (no_times b twins.keeps_b both.other) in
           let Sec : Option Backup → Option Backup → Type 0 = λ r q. Secret m own key text r q (section own.ram a.memory) (section own.ram b.memory) in
           let s1 : Sec None None = even in
           let s2 = subst (λ r. Sec r None) (sym fa) s1 in
@@ -170,7 +152,7 @@ module _ (m : ℕ) (own : Module) (key text : List ℕ) where
           let oa = subst (λ r. IsOpenNow m own key text r (section own.ram a.memory)) (sym fa) tt in
           let ob = subst (λ r. IsOpenNow m own key text r (section own.ram b.memory)) (sym fb) tt in
           let ta = no_times a twins.keeps_a act_a in
-          let tb = no_times b twins.keeps_b act_b in
+          let tb = no_times b twins.keeps_b both.other in
           record {
             twins = record {
               seen = seen;
@@ -187,13 +169,10 @@ module _ (m : ℕ) (own : Module) (key text : List ℕ) where
           left_keeps : (s : State) → Keeps m own key text s → times m s.frames ≡ 0 → Keeps m own key text (left_state s)
           left_keeps s k t = record { sound = k.sound; key_is = k.key_is; text_is = k.text_is; once = omega arith; proper = λ h. absurd cc }
 
-      job_same : job_of key own text b.caller ≡ job_of key own text a.caller
-      job_same = ap (job_of key own text) (sym secret_now.0)
-
       still : (x y : Doing) → doing (job_of key own text a.caller) (lone_of (backup_of m a) (section own.ram a.memory)) ≡ x → doing (job_of key own text b.caller) (lone_of (backup_of m b) (section own.ram b.memory)) ≡ y → IsOpen x → IsOpen y → Settles (unsettled a) (unsettled b)
       still x y ea eb oa ob =
           let na = subst (λ c. IsOpenNow m own key text (run_by c m a) (section own.ram a.memory)) (sym act_a) (subst IsOpen (sym ea) oa) in
-          let nb = subst (λ c. IsOpenNow m own key text (run_by c m b) (section own.ram b.memory)) (sym act_b) (subst IsOpen (sym eb) ob) in
+          let nb = subst (λ c. IsOpenNow m own key text (run_by c m b) (section own.ram b.memory)) (sym both.other) (subst IsOpen (sym eb) ob) in
           record { events = refl; left = refl; states = inr (record { twins = twins; now_a = na; now_b = nb }) }
 
       inside_by : (x y : Doing) → doing (job_of key own text a.caller) (lone_of (backup_of m a) (section own.ram a.memory)) ≡ x → doing (job_of key own text b.caller) (lone_of (backup_of m b) (section own.ram b.memory)) ≡ y →
@@ -219,7 +198,7 @@ module _ (m : ℕ) (own : Module) (key text : List ℕ) where
           let lb = lone_of (backup_of m b) (section own.ram b.memory) in
           let ja = job_of key own text a.caller in
           let jb = job_of key own text b.caller in
-          let t = next_together key own text ja la lb secret_now.1 in
-          let t' = subst (λ j. Together key own text ja (doing ja la) (doing j lb) la lb) (sym job_same) t in
+          let t = next_together key own text ja la lb both.secret.1 in
+          let t' = subst (λ j. Together key own text ja (doing ja la) (doing j lb) la lb) (sym both.job) t in
           let r = inside_by (doing ja la) (doing jb lb) refl refl t' in
-          subst (λ u. Settles u (settle b)) (sym (settled_doing a twins.keeps_a act_a)) (subst (λ u. Settles (settled_as (doing ja la) a) u) (sym (settled_doing b twins.keeps_b act_b)) r)
+          subst (λ u. Settles u (settle b)) (sym (settled_doing a twins.keeps_a act_a)) (subst (λ u. Settles (settled_as (doing ja la) a) u) (sym (settled_doing b twins.keeps_b both.other)) r)

@@ -1,5 +1,5 @@
 -- The memory stays a list of 65,536 bytes.
-use Rattle.std.proofs.Common.{◌≡◌, ◌≢◌, ℕ, zero, suc, ◌+◌, ◌-◌, ◌/◌, ◌%◌, ◌<◌, List, [], ◌∷◌, length, get_or, set, length-set, get_or-set_same, get_or-set_other, refl, sym, ◌∙◌, subst, arith, Bool, true, false, nat_lt, ◌==◌, Option, Some, None, ⊎_elim}
+use Rattle.std.proofs.Common.{◌≡◌, ◌≢◌, ℕ, zero, suc, ◌+◌, ◌-◌, ◌/◌, ◌%◌, ◌<◌, List, [], ◌∷◌, length, get_or, set, length-set, get_or-set_same, get_or-set_other, refl, sym, ◌∙◌, subst, arith, Bool, true, false, nat_lt, ◌==◌, ⊎_elim}
 use Rattle.std.proofs.lemmas.List.{set_past}
 use Rattle.std.proofs.lemmas.Bool.{cases_lt}
 use Rattle.std.proofs.lemmas.Bool.Decides.{nat_tests}
@@ -7,21 +7,19 @@ use Rattle.sm_words.specs.Words.{cleared, reg}
 use Rattle.sm_words.specs.declared.width.Width.{Width}
 use Rattle.sm_words.specs.declared.width.Width.TheVariants.{Byte, Word}
 use Rattle.insn_decode.specs.declared.insn.Insn.{Insn}
-use Rattle.insn_decode.specs.declared.insn.Insn.TheVariants.{Reti}
 use Rattle.schedule_file.specs.declared.Entry.{Entry as Scheduled}
 use Rattle.mod_layout.specs.Table.{size_of}
 use Rattle.pc_access.specs.declared.Access.{Access}
-use Rattle.pc_access.specs.declared.Stop.{Stop}
 use Rattle.image_text.specs.Image.{Image, IsImage}
 use Rattle.attest.specs.Accesses.{reads_of, writes_of}
 use Rattle.cpu_step.specs.Asked.{asks, effect}
-use Rattle.written_machine.specs.Cycle.{Step, told, settle, ticked, arrive_inside, arrive_outside, pushes, port_of, who_of, perform, attempt, returned_by, act, enter, begin, turn, counted_by, move, cycle_by}
+use Rattle.written_machine.specs.Cycle.{settle, ticked, arrive_inside, pushes, port_of, who_of, perform, enter}
 use Rattle.written_machine.specs.Ports.{Port, write_in, write_byte, write_width, take_reads, put_writes}
 use Rattle.written_machine.specs.State.{State}
 use Rattle.written_machine.specs.View.{at}
 use Rattle.isolation.proofs.Bytes.{length_cleared}
 use Rattle.isolation.proofs.Ports.{take_reads_memory}
-use Rattle.isolation.proofs.Ways.{attempt_ways, act_ways, enter_ways, begin_ways, outside_ways, turn_ways, settle_ways}
+use Rattle.isolation.proofs.Ways.{Lasting, always, enter_ways, settle_ways}
 
 pub record Filled (mem : List ℕ) : Type 0 where
   pub full : length mem ≡ 65536
@@ -75,33 +73,8 @@ perform_filled insn s h =
     let e = effect (who_of s) insn s.core g.values in
     puts_filled (writes_of xs) g.port e.stored (subst Filled (sym (take_reads_memory 0 0 (reads_of xs) (port_of s))) h)
 
-attempt_filled : (insn : Insn) (s : State) → Kept s (attempt insn s).state
-attempt_filled insn s = attempt_ways s (λ t. Kept s t.state) insn (λ d h. h) (λ e. perform_filled insn s)
-
-returned_filled : (o : Option Stop) (t : Step) → Filled t.state.memory → Filled (returned_by o t).state.memory
-returned_filled (Some stop) t h = h
-returned_filled None t h = h
-
-act_filled : (s : State) → Kept s (act s).state
-act_filled s =
-    act_ways s (λ t. Kept s t.state) (λ rule h. h) (λ b fs e h. h) (λ h. returned_filled (attempt Reti s).state.stop (attempt Reti s) (attempt_filled Reti s h)) (λ insn. attempt_filled insn s)
-
 pub enter_filled : (left : ℕ) (s : State) → Kept s (enter left s).state
 enter_filled left s = enter_ways s (λ t. Kept s t.state) left (λ h. h) (λ id p a h. h)
-
-begin_filled : (left : ℕ) (s : State) → Kept s (begin left s).state
-begin_filled left s = begin_ways s (λ t. Kept s t.state) left (λ d h. h) (λ e h. act_filled (enter left s).state (enter_filled left s h))
-
-outside_filled : (v : ℕ) (s : State) → Kept s (arrive_outside v s).state
-outside_filled v s =
-    outside_ways s (λ t. Kept s t.state) v (λ d h. h) (λ h. puts_filled (pushes s) (record { devices = s.devices; memory = s.memory }) (reg s.core 0 ∷ reg s.core 2 ∷ []) h)
-
-inside_filled : (v id : ℕ) (s : State) → Kept s (arrive_inside v id s).state
-unfolding arrive_inside
-inside_filled v id s h = h
-
-turn_filled : (left : ℕ) (s : State) → Kept s (turn left s).state
-turn_filled left s = turn_ways s (λ t. Kept s t.state) left (λ n p h. h) (λ r h. h) (λ h. h) (begin_filled left s) (λ v id d a. inside_filled v id s) (λ v d. outside_filled v s)
 
 -- ---- settling
 pub settle_filled : (s : State) → Kept s (settle s).state
@@ -111,21 +84,19 @@ pub ticked_filled : (s : State) → Kept s (ticked s)
 unfolding ticked
 ticked_filled s h = h
 
-counted_filled : (o : Option Stop) (t : Step) → Filled t.state.memory → Filled (counted_by o t).state.memory
-counted_filled (Some stop) t h = h
-counted_filled None t h = h
-
-move_filled : (s : State) → Kept s (move s).state
-unfolding move
-move_filled s h =
-    let u = settle (ticked s) in
-    let t = turn u.left u.state in
-    counted_filled t.state.stop (told u.events t) (turn_filled u.left u.state (settle_filled (ticked s) (ticked_filled s h)))
-
-cycle_filled : (o : Option Stop) (s : State) → Kept s (cycle_by o s).state
-cycle_filled (Some stop) s h = h
-cycle_filled None s h = move_filled s h
+lasts : Lasting (λ s. Filled s.memory)
+unfolding arrive_inside
+lasts = record {
+  rests = λ s d n p o h. h;
+  performs = perform_filled;
+  returns = λ s h. h;
+  resumes = λ s e h. h;
+  enters = λ left id s free p a h. h;
+  pads = λ n s h. h;
+  inside = λ v id s d a h. h;
+  pushes = λ v s d h. puts_filled (pushes s) (port_of s) (reg s.core 0 ∷ reg s.core 2 ∷ []) h;
+  settles = settle_filled;
+}
 
 pub filled_at : (a : Image) (schedule : List Scheduled) (k : ℕ) → IsImage a → Filled (at a schedule k).memory
-filled_at a schedule zero ok = record { full = ok.full; bytes = ok.bytes }
-filled_at a schedule (suc k) ok = cycle_filled (at a schedule k).stop (at a schedule k) (filled_at a schedule k ok)
+filled_at a schedule k ok = always (λ s. Filled s.memory) lasts a schedule k (record { full = ok.full; bytes = ok.bytes })

@@ -18,7 +18,7 @@ use Rattle.isolation.specs.Calls.{works, NoEnd}
 use Rattle.isolation.proofs.Active.{active_some, turn_moves, arrives_at}
 use Rattle.isolation.proofs.Ending.{settled_as, settled_doing}
 use Rattle.isolation.proofs.Fine.{Fine, settled_fine}
-use Rattle.isolation.proofs.Lockstep.{Moves}
+use Rattle.isolation.proofs.Inside.{Moves}
 use Rattle.isolation.proofs.Relation.{find_held, backup_of, run_by, run_of, lone_of, IsOpen, Keeps, Stays}
 use Rattle.isolation.proofs.Settled.{close_is, settle_stays, ticked_stays, arrive_inside_stays}
 use Rattle.isolation.proofs.Turns.{held_turn}
@@ -79,7 +79,7 @@ module _ (m : ℕ) (own : Module) (key text : List ℕ) (from : ℕ) where
   stepped true la = lone_step job la
   stepped false la = la
 
-  pub moved_follows : (s : State) (la l' : Lone) (u : Step) → Follows s la → is_id m s.active ≡ true → Moves m own s l' u → Follows u.state l'
+  pub moved_follows : (s : State) (la l' : Lone) (u : Step) → Follows s la → is_id m s.active ≡ true → Moves own s l' u → Follows u.state l'
   moved_follows s la l' u f act v =
       let t : State = record s { core = l'.core; memory = v.memory; phase = Run l'.rest; after = closing_after l'.closing } in
       let r : Backup = record { «module» = m; caller = s.caller; core = l'.core; rest = l'.rest; closing = l'.closing } in
@@ -104,7 +104,7 @@ module _ (m : ℕ) (own : Module) (key text : List ℕ) (from : ℕ) where
   goes left Breaks s la f act ok d e nb = absurd (nb refl)
   goes left x s la f act ok d e nb =
       let v = turn_moves m own key text s f.follows.keeps (active_some m s.active act) left x ok d (active_doing s la f.follows act ∙ e) tt in
-      moved_follows s la (lone_step job la) (turn left s) f.follows act (subst (λ l. Moves m own s l (turn left s)) (step_same x s la f.follows act e) v.0)
+      moved_follows s la (lone_step job la) (turn left s) f.follows act (subst (λ l. Moves own s l (turn left s)) (step_same x s la f.follows act e) v.0)
 
   turn_active : (left : ℕ) (d : Option ℕ) (s : State) (la : Lone) → Now s la → is_id m s.active ≡ true → IsCore s.core → due s ≡ d → (is_none d ≡ true → doing job la ≢ Breaks) → Follows (turn left s).state (stepped (is_none d) la)
   turn_active left None s la f act ok e nb = goes left (doing job la) s la f act ok e refl (nb refl)
@@ -119,7 +119,7 @@ module _ (m : ℕ) (own : Module) (key text : List ℕ) (from : ℕ) where
   turn_follows left true s la f e ok nb = turn_active left (due s) s la f e ok refl nb
   turn_follows left false s la f e ok nb =
       let held : find_held m s.frames ≡ Some f.follows.backup = ap (λ c. run_by c m s) (sym e) ∙ f.follows.run in
-      let st = held_turn m own key text s f.follows.keeps e ok f.follows.backup held left in
+      let st = (held_turn m own key text s f.follows.keeps e ok f.follows.backup held left).0 in
       let o = f.now in follow_stays s (turn left s).state la f.follows st (λ h. o)
 
   -- ---- a cycle

@@ -35,6 +35,14 @@ use Rattle.isolation.proofs.Each.{Each}
 use Rattle.isolation.proofs.Rights.{Sound, holds_in, even_of}
 use Rattle.mod_layout.proofs.Found.{ends_of}
 
+-- a step of the active module
+pub record Moves (own : Module) (s : State) (l' : Lone) (u : Step) : Type 0 where
+  pub memory : List ℕ
+  pub is : u ≡ record { state = record s { core = l'.core; memory = memory; phase = Run l'.rest; after = closing_after l'.closing }; events = [] }
+  pub bytes : section own.ram memory ≡ l'.data_bytes
+  pub rest : cleared own.ram.start (size_of own.ram) memory ≡ cleared own.ram.start (size_of own.ram) s.memory
+  pub text : section own.text memory ≡ section own.text s.memory
+
 -- each byte of an access is there
 abbrev pub InBy : Width → (ℕ → Bool) → ℕ → Type 0
 InBy Byte P a = P a ≡ true
@@ -365,15 +373,7 @@ module _ (m : ℕ) (own : Module) (t : Table) (sound : Sound m own t) (j : Job) 
       home_some true o insn e = (refl, e)
       home_some false o insn e = absurd cc
 
-      -- what the machine's step has left
-      pub record Did (l' : Lone) (u : Step) : Type 0 where
-        pub memory : List ℕ
-        pub is : u ≡ record { state = record s { core = l'.core; memory = memory; phase = Run l'.rest; after = closing_after l'.closing }; events = [] }
-        pub bytes : section own.ram memory ≡ l'.data_bytes
-        pub rest : cleared own.ram.start (size_of own.ram) memory ≡ cleared own.ram.start (size_of own.ram) s.memory
-        pub text : section own.text memory ≡ section own.text s.memory
-
-      did_perform : (insn : Insn) → is_alone insn ≡ true → all_inside j (asks (lone_who j) insn s.core) ≡ true → (u : Step) → u ≡ perform insn s → Did (lone_does j insn (record { core = s.core; data_bytes = section own.ram s.memory; rest = l.rest; closing = l.closing })) u
+      did_perform : (insn : Insn) → is_alone insn ≡ true → all_inside j (asks (lone_who j) insn s.core) ≡ true → (u : Step) → u ≡ perform insn s → Moves own s (lone_does j insn (record { core = s.core; data_bytes = section own.ram s.memory; rest = l.rest; closing = l.closing })) u
       unfolding lone_does
       did_perform insn alone h u u_is =
           let xs = asks (lone_who j) insn s.core in
@@ -391,7 +391,7 @@ module _ (m : ℕ) (own : Module) (t : Table) (sound : Sound m own t) (j : Job) 
             text = w.text;
           }
 
-      did_first : (o : Option Insn) (insn : Insn) → next_first o j l ≡ Some insn → Did (lone_does j insn l) (act_first o s)
+      did_first : (o : Option Insn) (insn : Insn) → next_first o j l ≡ Some insn → Moves own s (lone_does j insn l) (act_first o s)
       did_first None insn e = absurd cc
       did_first (Some first) insn e =
           let n = length_of first in
@@ -411,11 +411,11 @@ module _ (m : ℕ) (own : Module) (t : Table) (sound : Sound m own t) (j : Job) 
           ∙ ap (λ o. act_on o s) (insn_same n t1 t2 ∙ q.0)
           ∙ act_by_alone insn q.1
           ∙ attempt_inside insn (asks (lone_who j) insn s.core) (asks_alone insn (who_of s) (lone_who j) s.core q.1 own_is) inside' in
-          subst (λ v. Did (lone_does j insn v) (act_first (Some first) s)) (sym same_l) (did_perform insn q.1 inside' (act_first (Some first) s) to)
+          subst (λ v. Moves own s (lone_does j insn v) (act_first (Some first) s)) (sym same_l) (did_perform insn q.1 inside' (act_first (Some first) s) to)
 
-      pub did_act : (insn : Insn) → next_insn j l ≡ Some insn → Did (lone_does j insn l) (act s)
+      pub did_act : (insn : Insn) → next_insn j l ≡ Some insn → Moves own s (lone_does j insn l) (act s)
       unfolding act next_insn
       did_act insn e =
           let e' = subst (λ c. next_first (insn_of (word_at (lone_byte j l.data_bytes) (reg c 0)) 0 0) j l ≡ Some insn) core_is e in
           let e'' = subst (λ d. next_first (insn_of (word_at (lone_byte j d) (pc_of s)) 0 0) j l ≡ Some insn) bytes_are e' in
-          subst (λ w. Did (lone_does j insn l) (act_first (insn_of w 0 0) s)) (sym first_word_same) (did_first (insn_of (word_at (lone_byte j (section own.ram s.memory)) (pc_of s)) 0 0) insn e'')
+          subst (λ w. Moves own s (lone_does j insn l) (act_first (insn_of w 0 0) s)) (sym first_word_same) (did_first (insn_of (word_at (lone_byte j (section own.ram s.memory)) (pc_of s)) 0 0) insn e'')

@@ -23,7 +23,7 @@ pub mod Fine
 pub mod Whole
 pub mod Follow
 pub mod Transparent
-pub mod Kept
+pub mod Entering
 pub mod Still
 pub mod Costs
 pub mod Tame
@@ -32,7 +32,6 @@ pub mod Padding
 pub mod Telling
 pub mod Moves
 pub mod Playing
-pub mod Owner
 pub mod Few
 pub mod Framed
 pub mod Filled

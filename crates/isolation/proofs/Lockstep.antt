@@ -1,5 +1,5 @@
 -- While the module is active in both runs, they go on together.
-use Rattle.std.proofs.Common.{◌≡◌, inr, ℕ, List, [], refl, sym, ap, ◌∙◌, subst, true, false, Option, Some}
+use Rattle.std.proofs.Common.{◌≡◌, inr, ℕ, List, refl, sym, ap, ◌∙◌, subst, true, false, Option, Some}
 use Rattle.mod_layout.specs.Table.{size_of}
 use Rattle.mod_layout.specs.declared.Module.{Module}
 use Rattle.pc_access.specs.Rights.{is_id}
@@ -12,17 +12,10 @@ use Rattle.written_machine.specs.Peers.{section}
 use Rattle.written_machine.specs.State.{State}
 use Rattle.isolation.proofs.Evenly.{Evenly}
 use Rattle.isolation.proofs.Hide.{veil_core, hide_by, hide}
+use Rattle.isolation.proofs.Inside.{Moves}
 use Rattle.isolation.proofs.Relation.{run_by, run_of, Secret, Keeps, Twins, Alike}
 use Rattle.isolation.proofs.Settled.{close_is}
 use Rattle.sm_words.specs.Words.{cleared}
-
--- a step of the active module
-pub record Moves (m : ℕ) (own : Module) (s : State) (l' : Lone) (u : Step) : Type 0 where
-  pub memory : List ℕ
-  pub is : u ≡ record { state = record s { core = l'.core; memory = memory; phase = Run l'.rest; after = closing_after l'.closing }; events = [] }
-  pub bytes : section own.ram memory ≡ l'.data_bytes
-  pub rest : cleared own.ram.start (size_of own.ram) memory ≡ cleared own.ram.start (size_of own.ram) s.memory
-  pub text : section own.text memory ≡ section own.text s.memory
 
 module _ (m : ℕ) (own : Module) (key text : List ℕ) where
   moved : State → Lone → List ℕ → State
@@ -70,7 +63,7 @@ module _ (m : ℕ) (own : Module) (key text : List ℕ) where
         open_b = λ h. absurd (let x : true ≡ false = sym act_b ∙ h in cc);
       }
 
-  pub moves_alike : (a b : State) (la lb : Lone) (ua ub : Step) → Keeps m own key text a → Keeps m own key text b → is_id m a.active ≡ true → is_id m b.active ≡ true → hide_by true m own a ≡ hide_by true m own b → Moves m own a la ua → Moves m own b lb ub → veil_core la.core ≡ veil_core a.core → veil_core lb.core ≡ veil_core b.core → Evenly key own text (job_of key own text a.caller) la lb → Alike m own key text ua ub
+  pub moves_alike : (a b : State) (la lb : Lone) (ua ub : Step) → Keeps m own key text a → Keeps m own key text b → is_id m a.active ≡ true → is_id m b.active ≡ true → hide_by true m own a ≡ hide_by true m own b → Moves own a la ua → Moves own b lb ub → veil_core la.core ≡ veil_core a.core → veil_core lb.core ≡ veil_core b.core → Evenly key own text (job_of key own text a.caller) la lb → Alike m own key text ua ub
   unfolding moved
   moves_alike a b la lb ua ub ka kb act_a act_b seen va vb ga gb ev =
       let t = moved_alike a b la lb va.memory vb.memory ka kb act_a act_b seen va.bytes vb.bytes va.rest vb.rest va.text vb.text ga gb ev in

@@ -36,9 +36,8 @@ times_plain m (f ∷ fs) = refl
 
 module _ (m : ℕ) (own : Module) (key text : List ℕ) where
   -- a step that leaves the module's data and text, and adds and takes off no frame of a module
-  pub stays_by : (s t : State) → Keeps m own key text s → is_id m s.active ≡ false → t.active ≡ s.active → section own.ram t.memory ≡ section own.ram s.memory → section own.text t.memory ≡ section own.text s.memory → find_held m t.frames ≡ find_held m s.frames → times m t.frames ≡ times m s.frames → t.key ≡ s.key → Sound m own t.table → Stays m own key text s t
-  stays_by s t k other same bytes texts found tm keys sound =
-      let o : is_id m t.active ≡ false = ap (is_id m) same ∙ other in
+  pub stays_by : (s t : State) → Keeps m own key text s → is_id m s.active ≡ false → is_id m t.active ≡ false → section own.ram t.memory ≡ section own.ram s.memory → section own.text t.memory ≡ section own.text s.memory → find_held m t.frames ≡ find_held m s.frames → times m t.frames ≡ times m s.frames → t.key ≡ s.key → Sound m own t.table → Stays m own key text s t
+  stays_by s t k other o bytes texts found tm keys sound =
       record {
         bytes = bytes;
         run = ap (λ c. run_by c m t) o ∙ found ∙ ap (λ c. run_by c m s) (sym other);
@@ -53,11 +52,11 @@ module _ (m : ℕ) (own : Module) (key text : List ℕ) where
 
   module _ (s : State) (k : Keeps m own key text s) (other : is_id m s.active ≡ false) where
     -- it changes none of memory, table, key, frames and active module
-    abbrev Light : State → Type 0
+    abbrev pub Light : State → Type 0
     Light t = (t.active ≡ s.active) × (t.memory ≡ s.memory) × (t.frames ≡ s.frames) × (t.key ≡ s.key) × (t.table ≡ s.table)
 
     pub light : (t : State) → Light t → Stays m own key text s t
-    light t l = stays_by s t k other l.0 (ap (section own.ram) l.1) (ap (section own.text) l.1) (ap (find_held m) l.2) (ap (times m) l.2) l.3 (subst (Sound m own) (sym l.4) k.sound)
+    light t l = stays_by s t k other (ap (is_id m) l.0 ∙ other) (ap (section own.ram) l.1) (ap (section own.text) l.1) (ap (find_held m) l.2) (ap (times m) l.2) l.3 (subst (Sound m own) (sym l.4) k.sound)
 
     -- what is not active is hidden by the data and the frames alone
     pub outer_by : (t t' : Step) → t.state.active ≡ s.active → t' ≡ veil_step m own t → Stays m own key text s t.state → Outer m own key text s t t'
@@ -74,7 +73,7 @@ module _ (m : ℕ) (own : Module) (key text : List ℕ) where
     push_stays None v e =
         let p : Port = record { devices = s.devices; memory = s.memory } in
         let vs = reg s.core 0 ∷ reg s.core 2 ∷ [] in
-        stays_by s (push_both None v s).state k other refl
+        stays_by s (push_both None v s).state k other other
         (put_writes_part own.ram.start (size_of own.ram) (pushes s) p vs (writes_out m own s.table k.sound None (held_ids s.frames) refl (pushes s) e))
         (put_writes_part own.text.start (size_of own.text) (pushes s) p vs (text_writes_out m own s.table k.sound None (held_ids s.frames) (pushes s) e))
         (found_plain m s.frames) (times_plain m s.frames) refl k.sound
@@ -126,14 +125,14 @@ module _ (m : ℕ) (own : Module) (key text : List ℕ) where
       stays : Stays m own key text s u.state
 
     acts_too : (u : Step) → Acts u → ActsToo u
-    acts_too u a = record { active = a.active; stays = stays_by s u.state k other a.active a.bytes a.texts (ap (find_held m) a.frames) (ap (times m) a.frames) a.key_same a.sound }
+    acts_too u a = record { active = a.active; stays = stays_by s u.state k other (ap (is_id m) a.active ∙ other) a.bytes a.texts (ap (find_held m) a.frames) (ap (times m) a.frames) a.key_same a.sound }
 
     returned_acts : (o : Option Stop) (u : Step) → find_held m (without_newest s.frames) ≡ find_held m s.frames → times m (without_newest s.frames) ≡ times m s.frames → Acts u → ActsToo (returned_by o u)
     returned_acts (Some stop) u f t a = acts_too u a
     returned_acts None u f t a =
         record {
           active = a.active;
-          stays = stays_by s (returned_by None u).state k other a.active a.bytes a.texts (ap (λ fs. find_held m (without_newest fs)) a.frames ∙ f) (ap (λ fs. times m (without_newest fs)) a.frames ∙ t) a.key_same a.sound;
+          stays = stays_by s (returned_by None u).state k other (ap (is_id m) a.active ∙ other) a.bytes a.texts (ap (λ fs. find_held m (without_newest fs)) a.frames ∙ f) (ap (λ fs. times m (without_newest fs)) a.frames ∙ t) a.key_same a.sound;
         }
 
     light_acts : (u : Step) → Light u.state → ActsToo u

@@ -10,21 +10,18 @@ use Rattle.written_machine.specs.Cycle.{Step, Settled, quiet, told, unsettled, p
 use Rattle.written_machine.specs.State.{State}
 use Rattle.written_machine.specs.View.{at}
 use Rattle.isolation.specs.Calls.{Hides, Handles}
-use Rattle.isolation.proofs.Tame.{Calm, is_handler, closing_calm, turned, turn_late, sent_late, Late, bare_hides, late_handles, hides_more, hides_front, cycle_number, ticked_stop, counted_stop, padded_stop}
+use Rattle.isolation.proofs.Tame.{Calm, is_handler, closing_calm, turned, turn_late, sent_late, Late, bare_hides, late_handles, hides_more, hides_front, cycle_number, ticked_stop}
 use Rattle.isolation.proofs.Cases.{turn_at, turn_is}
-use Rattle.isolation.proofs.Ways.{settle_ways}
+use Rattle.isolation.proofs.Ways.{counted_holds, settle_ways}
 
 -- ---- settling where no handler is due
 record Settles (u : Settled) : Type 0 where
   calm : Calm u.state
   none : Handles u.events → ⊥
 
-unsettled_calm : (s : State) → Calm s → Settles (unsettled s)
-unsettled_calm s h = record { calm = h; none = λ x. x }
-
 settle_calm : (s : State) → Calm s → Settles (settle s)
 settle_calm s h =
-    settle_ways s Settles (unsettled_calm s h) (λ b fs e. record { calm = (refl, closing_calm b.closing); none = λ x. x }) (λ id x a o. record { calm = (h.0, refl); none = λ x. x })
+    settle_ways s Settles (record { calm = h; none = λ x. x }) (λ b fs e. record { calm = (refl, closing_calm b.closing); none = λ x. x }) (λ id x a o. record { calm = (h.0, refl); none = λ x. x })
     (λ e. absurd (let c : true ≡ false = ap is_handler (sym e) ∙ h.1 in cc)) (λ id a. record { calm = h; none = λ x. x })
 
 ticked_calm : (s : State) → Calm s → Calm (ticked s)
@@ -39,37 +36,18 @@ settle_pad n s e = ap (λ p. settle_in p s) e
 turn_pad : (n left : ℕ) (s : State) → s.phase ≡ Pad n → turn left s ≡ quiet (padded (n - 1) s)
 turn_pad n left s e = turn_is left s ∙ ap (λ p. turn_at (due s) s.active p left s) e
 
-ticked_phase : (s : State) → (ticked s).phase ≡ s.phase
-unfolding ticked
-ticked_phase s = refl
-
-ticked_after : (s : State) → (ticked s).after ≡ s.after
-unfolding ticked
-ticked_after s = refl
-
-counted_phase : (o : Option Stop) (t : Step) → (counted_by o t).state.phase ≡ t.state.phase
-counted_phase (Some stop) t = refl
-counted_phase None t = refl
-
-counted_after : (o : Option Stop) (t : Step) → (counted_by o t).state.after ≡ t.state.after
-counted_after (Some stop) t = refl
-counted_after None t = refl
-
 -- a cycle's end: phase, what is next, and stop
 abbrev Ended : State → State → Type 0
 Ended s t = (t.phase ≡ s.phase) × (t.after ≡ s.after) × (t.stop ≡ s.stop)
 
 move_pad : (n : ℕ) (s : State) → s.phase ≡ Pad n → Ended (padded (n - 1) (ticked s)) (move s).state
-unfolding move
+unfolding move ticked
 move_pad n s e =
     let t = ticked s in
-    let su = settle_pad n t (ticked_phase s ∙ e) in
-    let tu = turn_pad n 0 t (ticked_phase s ∙ e) in
     let q = quiet (padded (n - 1) t) in
     let go : Settled → Step = λ u. let v = turn u.left u.state in counted_by v.state.stop (told u.events v) in
-    let e1 : go (settle t) ≡ counted_by q.state.stop (told [] q) = ap go su ∙ ap (λ v. counted_by v.state.stop (told [] v)) tu in
-    let o = q.state.stop in
-    (ap (λ u. u.state.phase) e1 ∙ counted_phase o (told [] q), ap (λ u. u.state.after) e1 ∙ counted_after o (told [] q), ap (λ u. u.state.stop) e1 ∙ counted_stop o (told [] q))
+    let e1 : go (settle t) ≡ counted_by q.state.stop (told [] q) = ap go (settle_pad n t e) ∙ ap (λ v. counted_by v.state.stop (told [] v)) (turn_pad n 0 t e) in
+    subst (λ u. Ended q.state u.state) (sym e1) (counted_holds (Ended q.state) (λ u k h. h) q.state.stop (told [] q) (refl, refl, refl))
 
 -- ---- a handler begins
 handler_settles : (s : State) → s.phase ≡ Run 0 → s.after ≡ Handler → settle s ≡ record { state = record s { after = Next }; events = Event.Handler (pc_of s) ∷ []; left = 0 }
@@ -84,11 +62,11 @@ counted_handles (Some stop) es t pc e = handles_front es t.events pc e
 counted_handles None es t pc e = subst (λ l. Handles ((l ++ t.events) ++ sent_event t.state.devices.sent)) (sym e) tt
 
 move_handles : (s : State) → s.phase ≡ Run 0 → s.after ≡ Handler → Handles (move s).events
-unfolding move
+unfolding move ticked
 move_handles s p a =
     let u = settle (ticked s) in
     let t = turn u.left u.state in
-    counted_handles t.state.stop u.events t (pc_of (ticked s)) (ap (λ x. x.events) (handler_settles (ticked s) (ticked_phase s ∙ p) (ticked_after s ∙ a)))
+    counted_handles t.state.stop u.events t (pc_of (ticked s)) (ap (λ x. x.events) (handler_settles (ticked s) p a))
 
 counted_none : (o : Option Stop) (es : List Event) (t : Step) → Late t.events → Handles (counted_by o (told es t)).events → Handles es
 counted_none (Some stop) es t l h = late_handles es t.events l h
@@ -114,15 +92,11 @@ unfolding Next_is
 turn_next left s h =
     ⊎_elim (λ t. inl (t.calm h)) (λ x. ⊎_elim (λ b. inr (b.phase, b.after, b.hides)) (λ p. absurd (let e : Pad p.left ≡ Run (rest_of s.phase) = sym p.was ∙ h.0 in cc)) x) (turned left s)
 
-counted_calm : (o : Option Stop) (t : Step) → Calm t.state → Calm (counted_by o t).state
-counted_calm (Some stop) t h = h
-counted_calm None t h = h
-
 next_counted : (s : State) (es : List Event) (t : Step) → Next_is s t → Next_is s (counted_by t.state.stop (told es t))
 unfolding Next_is
 next_counted s es t h =
     let o = t.state.stop in
-    ⊎_elim (λ c. inl (counted_calm o (told es t) c)) (λ b. inr (counted_phase o (told es t) ∙ b.0, counted_after o (told es t) ∙ b.1, counted_hides o es t b.2)) h
+    ⊎_elim (λ c. inl (counted_holds Calm (λ u k g. g) o (told es t) c)) (λ b. let e = counted_holds (Ended t.state) (λ u k g. g) o (told es t) (refl, refl, refl) in inr (e.0 ∙ b.0, e.1 ∙ b.1, counted_hides o es t b.2)) h
 
 next_same : (s s' : State) (t : Step) → Next_is s t → Next_is s' t
 unfolding Next_is
@@ -176,10 +150,8 @@ module _ (a : Image) (schedule : List Scheduled) where
       inr (inl (record { left = left; hid = hid; phase = ap (λ t. t.state.phase) e ∙ q.0 ∙ ap (λ n. (padded n (ticked (at a schedule k))).phase) less; number = omega arith; hides = h }))
 
   handler_next_calm : (s : State) → s.phase ≡ Run 0 → s.after ≡ Handler → Calm (settle (ticked s)).state
-  handler_next_calm s p f =
-      let e = handler_settles (ticked s) (ticked_phase s ∙ p) (ticked_after s ∙ f) in
-      let q : (ticked s).phase ≡ Run (rest_of (ticked s).phase) = ticked_phase s ∙ p ∙ sym (ap (λ x. Run (rest_of x)) (ticked_phase s ∙ p)) in
-      subst (λ u. Calm u.state) (sym e) (q, refl)
+  unfolding ticked
+  handler_next_calm s p f = subst (λ u. Calm u.state) (sym (handler_settles (ticked s) p f)) (p ∙ sym (ap (λ x. Run (rest_of x)) p), refl)
 
   history : (k : ℕ) → (at a schedule k).stop ≡ None → History k
   history zero run = inl (refl, refl)
@@ -196,9 +168,8 @@ module _ (a : Image) (schedule : List Scheduled) where
   runs_by None s e h = e
 
   pad_none : (k : ℕ) (left : ℕ) → (at a schedule k).phase ≡ Pad (suc left) → Handles (settle (ticked (at a schedule k))).events → ⊥
-  pad_none k left p h =
-      let s = at a schedule k in
-      subst (λ u. Handles u.events) (settle_pad (suc left) (ticked s) (ticked_phase s ∙ p)) h
+  unfolding ticked
+  pad_none k left p h = subst (λ u. Handles u.events) (settle_pad (suc left) (ticked (at a schedule k)) p) h
 
   -- where a handler begins, a module was hidden 12 cycles before
   pub hidden_before : (k : ℕ) → Handles (cycle (at a schedule k)).events → (hid : ℕ) × (k ≡ hid + 12) × Hides (cycle (at a schedule hid)).events
@@ -222,12 +193,9 @@ record Plainly (s : State) (u : Settled) : Type 0 where
   none : Hides u.events → ⊥
   stop : u.state.stop ≡ s.stop
 
-plainly : (s : State) → Plainly s (unsettled s)
-plainly s = record { none = λ x. x; stop = refl }
-
 settle_plainly : (s : State) → Plainly s (settle s)
 settle_plainly s =
-    settle_ways s (Plainly s) (plainly s) (λ b fs e. record { none = λ x. x; stop = refl }) (λ id x a o. record { none = λ x. x; stop = refl }) (λ e. record { none = λ x. x; stop = refl })
+    settle_ways s (Plainly s) (record { none = λ x. x; stop = refl }) (λ b fs e. record { none = λ x. x; stop = refl }) (λ id x a o. record { none = λ x. x; stop = refl }) (λ e. record { none = λ x. x; stop = refl })
     (λ id a. record { none = λ x. x; stop = refl })
 
 -- where a module was hidden, it pads
@@ -254,9 +222,8 @@ move_hides s e h =
     let q = settle_plainly (ticked s) in
     let u = settle (ticked s) in
     let t = turn u.left u.state in
-    let o = t.state.stop in
-    let p = turn_hides u.left u.state (q.stop ∙ ticked_stop s ∙ e) (counted_hid o u.events t q.none h) in
-    (counted_phase o (told u.events t) ∙ p.0, counted_stop o (told u.events t) ∙ p.1)
+    let p = turn_hides u.left u.state (q.stop ∙ ticked_stop s ∙ e) (counted_hid t.state.stop u.events t q.none h) in
+    counted_holds Padded (λ v k g. g) t.state.stop (told u.events t) p
 
 cycle_hides : (o : Option Stop) (s : State) → s.stop ≡ o → Hides (cycle_by o s).events → Padded (cycle_by o s).state
 cycle_hides (Some stop) s e h = absurd h
@@ -273,7 +240,7 @@ pads_on (suc i) left s e p =
     let t = after_cycles s i in
     let q = pad_on (suc (suc left)) t h.1 h.0 in
     let less : suc (suc left) - 1 ≡ suc left = omega arith in
-    (q.0 ∙ ap (λ n. (padded n (ticked t)).phase) less, q.2 ∙ padded_stop (suc (suc left) - 1) (ticked t) ∙ ticked_stop t ∙ h.1)
+    (q.0 ∙ ap (λ n. (padded n (ticked t)).phase) less, q.2 ∙ ticked_stop t ∙ h.1)
 
 handler_at_last : (s : State) → Padded s → Handles (cycle (after_cycles s 11)).events
 handler_at_last s d =
@@ -281,7 +248,7 @@ handler_at_last s d =
     let t = after_cycles s 10 in
     let q = pad_on 1 t h.1 h.0 in
     let w = (cycle t).state in
-    let e : w.stop ≡ None = q.2 ∙ padded_stop 0 (ticked t) ∙ ticked_stop t ∙ h.1 in
+    let e : w.stop ≡ None = q.2 ∙ ticked_stop t ∙ h.1 in
     subst (λ u. Handles u.events) (sym (ap (λ o. cycle_by o w) e)) (move_handles w q.0 q.1)
 
 -- 12 cycles after a hide a handler begins

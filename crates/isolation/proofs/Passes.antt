@@ -58,24 +58,6 @@ moved p a s = record s { devices = ticked_devices s.devices s.cycle; cycle = s.c
 abbrev padded_on : ℕ → State → State
 padded_on left s = let p = padding left in moved p.0 p.1 s
 
-padded_stop : (left : ℕ) (s : State) → s.stop ≡ None → (padded left s).stop ≡ None
-padded_stop zero s e = e
-padded_stop (suc left) s e = e
-
-padded_sent : (left : ℕ) (s : State) → (padded left (ticked s)).devices.sent ≡ None
-unfolding ticked
-padded_sent zero s = ticked_sent s.devices s.cycle
-padded_sent (suc left) s = ticked_sent s.devices s.cycle
-
-ticked_on : (s : State) → s.stop ≡ None → (ticked s).stop ≡ None
-unfolding ticked
-ticked_on s e = e
-
-padded_moves : (left : ℕ) (s : State) → (let z = padded left (ticked s) in record z { cycle = z.cycle + 1 }) ≡ padded_on left s
-unfolding ticked
-padded_moves zero s = refl
-padded_moves (suc left) s = refl
-
 pad_settles : (left : ℕ) (s : State) → let x : State = record s { phase = Pad left } in settle (ticked x) ≡ unsettled (ticked x)
 unfolding ticked settle
 pad_settles left s = refl
@@ -85,10 +67,10 @@ unfolding ticked
 pad_turns left s = let x : State = record s { phase = Pad left } in turn_is 0 (ticked x)
 
 pad_one : (left : ℕ) (s : State) → s.stop ≡ None → cycle (record s { phase = Pad left }) ≡ quiet (padded_on (left - 1) s)
+unfolding ticked
 pad_one left s runs =
     let x : State = record s { phase = Pad left } in
-    one x (padded (left - 1) (ticked x)) runs (pad_settles left s) (pad_turns left s) (padded_stop (left - 1) (ticked x) (ticked_on x runs)) (padded_sent (left - 1) x)
-    ∙ ap quiet (padded_moves (left - 1) x)
+    one x (padded (left - 1) (ticked x)) runs (pad_settles left s) (pad_turns left s) runs (ticked_sent s.devices s.cycle)
 
 -- no vector reaches an active module
 abbrev pub Missed : Option ℕ → Option ℕ → Type 0

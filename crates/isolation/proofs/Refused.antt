@@ -1,6 +1,7 @@
 -- A cycle is stopped by the first of its checks that is refused, and by nothing else.
-use Rattle.std.proofs.Common.{◌≡◌, ℕ, zero, suc, List, [], ◌∷◌, ◌-◌, map, refl, sym, ap, ◌∙◌, Bool, true, false, not, Option, Some, None, is_none}
-use Rattle.isolation.proofs.Tame.{ticked_stop, counted_stop, padded_stop}
+use Rattle.std.proofs.Common.{◌≡◌, ℕ, zero, suc, List, [], ◌∷◌, map, refl, sym, ap, ◌∙◌, Bool, true, false, not, Option, Some, None, is_none}
+use Rattle.isolation.proofs.Tame.{ticked_stop}
+use Rattle.isolation.proofs.Ways.{counted_holds, enter_ways}
 use Rattle.insn_decode.specs.Code.{insn_of, length_of, length_or_one, length_at}
 use Rattle.insn_decode.specs.declared.insn.Insn.{Insn}
 use Rattle.insn_decode.specs.declared.insn.Insn.TheVariants.{Reti, Unit as UnitOp}
@@ -25,7 +26,7 @@ use Rattle.cpu_step.specs.Fetched.{insn_at, later_word}
 use Rattle.written_machine.specs.Checks.{active_at, entered, first_word, insn_at_pc, asked_to_return, asked_by, returns_inside, check_of, later_checks, insn_checks, first_refused, stop_at, stop_of, refused_in}
 use Rattle.written_machine.specs.Cycle.{Step, told, pc_of, byte_of, settle, ticked, due, arrive_inside, arrive_outside, push_both, pushes, who_of, perform, perform_unless, attempt, returned_by, reti_by, reti_of, act_by, act_on, act_home, act_first, act, is_home, enter_at, enter, fetch, begin_unless, begin, asleep, turn, move, cycle_by, cycle}
 use Rattle.written_machine.specs.State.{State}
-use Rattle.isolation.proofs.Stopping.{settle_settles, enter_silent}
+use Rattle.isolation.proofs.Stopping.{settle_settles}
 use Rattle.isolation.proofs.Cases.{turn_at, turn_unless, turn_is, checks_at, checks_unless, checks_are}
 
 -- the step leaves the machine stopped by this refusal in this state, and running where there is none
@@ -175,7 +176,7 @@ begin_by_stops (Some d) left s h = refl
 begin_by_stops None left s h =
     let e = (enter left s).state in
     let x = enter_checks left s in
-    act_stops e ((enter_silent left s).1 ∙ h) ∙ stop_core (first_refused (later_checks e)) e s x.1 ∙ ap (λ cs. stop_at (first_refused cs) s) x.0
+    act_stops e (enter_ways s (λ t. t.state.stop ≡ s.stop) left refl (λ id p a. refl) ∙ h) ∙ stop_core (first_refused (later_checks e)) e s x.1 ∙ ap (λ cs. stop_at (first_refused cs) s) x.0
 
 begin_stops : (left : ℕ) (s : State) → s.stop ≡ None → Stops (begin left s) (first_refused (insn_checks s)) s
 unfolding begin
@@ -199,7 +200,7 @@ unfolding arrive_inside
 inside_stops v id s = refl
 
 by_stops : (d a : Option ℕ) (p : Phase) (left : ℕ) (s : State) → s.stop ≡ None → Stops (turn_at d a p left s) (first_refused (checks_at d a p s)) s
-by_stops d a (Pad n) left s h = padded_stop (n - 1) s ∙ h
+by_stops d a (Pad n) left s h = h
 by_stops (Some v) (Some id) (Run r) left s h = inside_stops v id s ∙ h
 by_stops (Some v) None (Run zero) left s h = outside_stops v s h
 by_stops None None (Run (suc r)) left s h = h
@@ -218,7 +219,7 @@ unfolding move refused_in
 move_stops s h =
     let u = settle (ticked s) in
     let t = turn u.left u.state in
-    counted_stop t.state.stop (told u.events t) ∙ turn_stops u.left u.state ((settle_settles (ticked s)).1 ∙ ticked_stop s ∙ h)
+    counted_holds (λ v. v.stop ≡ refused_in s) (λ v k g. g) t.state.stop (told u.events t) (turn_stops u.left u.state ((settle_settles (ticked s)).1 ∙ ticked_stop s ∙ h))
 
 -- a machine that runs is stopped by the first check that is refused, and by nothing else
 pub refused_told : (s : State) → s.stop ≡ None → (cycle s).state.stop ≡ refused_in s

@@ -1,11 +1,13 @@
 -- The relation between two runs, and what keeps it.
-use Rattle.std.proofs.Common.{◌≡◌, ◌⊎◌, inr, ℕ, ◌+◌, ◌≤◌, List, refl, sym, ap, ◌∙◌, subst, Bool, true, false, Option, Some, None}
+use Rattle.std.proofs.Common.{◌≡◌, ◌⊎◌, inr, ⊎_elim, ℕ, ◌+◌, ◌≤◌, List, [], ◌∷◌, refl, sym, ap, ◌∙◌, subst, arith, Bool, true, false, ◌==◌, Option, Some, None}
 use Rattle.sm_words.specs.Sums.{one_if}
 use Rattle.mod_layout.specs.declared.Module.{Module}
 use Rattle.pc_access.specs.Rights.{is_id}
 use Rattle.reg_backup.specs.Saved.{closing_after, is_close}
 use Rattle.reg_backup.specs.declared.backup.Backup.{Backup}
 use Rattle.reg_backup.specs.declared.backup.Phase.TheVariants.{Run}
+use Rattle.reg_backup.specs.declared.frames.Frame.{Frame}
+use Rattle.reg_backup.specs.declared.frames.Frame.TheVariants.{Plain, Module as Held}
 use Rattle.cpu_step.specs.Lone.{Doing, Closes, Leaves, doing, job_of}
 use Rattle.written_machine.specs.Cycle.{Step, rest_of}
 use Rattle.written_machine.specs.Peers.{section}
@@ -15,6 +17,17 @@ use Rattle.isolation.proofs.EvenBy.{AlwaysEvenBy}
 use Rattle.isolation.proofs.Evenly.{Evenly}
 use Rattle.isolation.proofs.Hide.{veil, hide_by, hide}
 use Rattle.isolation.proofs.Rights.{Sound}
+
+-- a module in no frame is not found
+found_by : (c : Bool) (b : Backup) (o : Option Backup) (n : ℕ) → one_if c + n ≡ 0 → o ≡ None → found_if c b o ≡ None
+found_by true b o n e h = absurd (omega arith)
+found_by false b o n e h = h
+
+pub none_found : (m : ℕ) (fs : List Frame) → times m fs ≡ 0 → find_held m fs ≡ None
+none_found m [] e = refl
+none_found m (Plain ∷ fs) e = none_found m fs e
+none_found m (Held b ∷ fs) e =
+    let r : times m fs ≡ 0 = omega arith in found_by (b.module == m) b (find_held m fs) (times m fs) e (none_found m fs r)
 
 abbrev pub IsOpen : Doing → Type 0
 IsOpen Closes = ⊥
@@ -124,12 +137,19 @@ module _ (m : ℕ) (own : Module) (key text : List ℕ) where
       record { events = ap (λ u. u.events) h; related = inr (twins_stay a b ta.state tb.state r oa.stays ob.stays seen).twins }
 
   -- ---- what is seen of both
+  pub seen : {A : Type 0} (f : State → A) → ((c : Bool) (s : State) → f (hide_by c m own s) ≡ f s) → (a b : State) → hide m own a ≡ hide m own b → f a ≡ f b
+  seen f same a b e = sym (same (is_id m a.active) a) ∙ ap f e ∙ same (is_id m b.active) b
+
   hide_active : (c : Bool) (s : State) → (hide_by c m own s).active ≡ s.active
   hide_active true s = refl
   hide_active false s = refl
 
   pub seen_active : (a b : State) → hide m own a ≡ hide m own b → a.active ≡ b.active
-  seen_active a b e = sym (hide_active (is_id m a.active) a) ∙ ap (λ u. u.active) e ∙ hide_active (is_id m b.active) b
+  seen_active a b e = seen (λ s. s.active) hide_active a b e
+
+  -- so it is also where the module is gone
+  pub related_seen : {A : Type 0} (f : State → A) → ((c : Bool) (s : State) → f (hide_by c m own s) ≡ f s) → (a b : State) → Related a b → f a ≡ f b
+  related_seen f same a b r = ⊎_elim (λ e. ap f e) (λ t. seen f same a b t.seen) r
 
   -- where it is not active, the two are alike but for its data and its frame
   pub seen_veiled : (a b : State) → hide m own a ≡ hide m own b → is_id m a.active ≡ false → veil m own a ≡ veil m own b
@@ -137,7 +157,22 @@ module _ (m : ℕ) (own : Module) (key text : List ℕ) where
       let o' = ap (is_id m) (sym (seen_active a b e)) ∙ o in
       ap (λ c. hide_by c m own a) (sym o) ∙ e ∙ ap (λ c. hide_by c m own b) o'
 
-  pub seen_inside : (a b : State) → hide m own a ≡ hide m own b → is_id m a.active ≡ true → hide_by true m own a ≡ hide_by true m own b
-  seen_inside a b e o =
-      let o' = ap (is_id m) (sym (seen_active a b e)) ∙ o in
-      ap (λ c. hide_by c m own a) (sym o) ∙ e ∙ ap (λ c. hide_by c m own b) o'
+  -- where it is active in one of two twins, it is in both
+  pub record BothActive (a b : State) : Type 0 where
+    pub other : is_id m b.active ≡ true
+    pub seen : hide_by true m own a ≡ hide_by true m own b
+    pub secret : Secret (Some (backup_of m a)) (Some (backup_of m b)) (section own.ram a.memory) (section own.ram b.memory)
+    pub job : job_of key own text b.caller ≡ job_of key own text a.caller
+
+  pub both_active : (a b : State) → Twins a b → is_id m a.active ≡ true → BothActive a b
+  both_active a b twins act =
+      let other = ap (is_id m) (sym (seen_active a b twins.seen)) ∙ act in
+      let h = subst (λ c. Secret (run_by c m a) (run_of m b) (section own.ram a.memory) (section own.ram b.memory)) act twins.secret in
+      let secret : Secret (Some (backup_of m a)) (Some (backup_of m b)) (section own.ram a.memory) (section own.ram b.memory) =
+      subst (λ c. Secret (Some (backup_of m a)) (run_by c m b) (section own.ram a.memory) (section own.ram b.memory)) other h in
+      record {
+        other = other;
+        seen = ap (λ c. hide_by c m own a) (sym act) ∙ twins.seen ∙ ap (λ c. hide_by c m own b) other;
+        secret = secret;
+        job = ap (job_of key own text) (sym secret.0);
+      }

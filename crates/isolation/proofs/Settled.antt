@@ -1,5 +1,5 @@
 -- Ticking, settling, arriving and waiting keep the relation.
-use Rattle.std.proofs.Common.{◌≡◌, ℕ, ◌+◌, List, ◌∷◌, refl, sym, ap, ◌∙◌, arith, Bool, true, false, ◌==◌, Some, None}
+use Rattle.std.proofs.Common.{◌≡◌, ℕ, ◌+◌, List, ◌∷◌, refl, sym, ap, ◌∙◌, arith, Bool, true, false, ◌==◌, Some}
 use Rattle.std.proofs.lemmas.Bool.Decides.{nat_tests}
 use Rattle.sm_words.specs.Sums.{one_if}
 use Rattle.mod_layout.specs.Table.{size_of}
@@ -13,12 +13,10 @@ use Rattle.reg_backup.specs.declared.frames.Frame.{Frame}
 use Rattle.reg_backup.specs.declared.frames.Frame.TheVariants.{Module as Held}
 use Rattle.attest.specs.Done.{own_of}
 use Rattle.written_machine.specs.Cycle.{ticked, close_of, leave_if, settle, arrive_inside}
-use Rattle.written_machine.specs.Peers.{section}
 use Rattle.written_machine.specs.State.{State}
 use Rattle.isolation.proofs.Bytes.{part_cleared}
-use Rattle.isolation.proofs.Outside.{light}
+use Rattle.isolation.proofs.Outside.{light, stays_by}
 use Rattle.isolation.proofs.Relation.{find_held, found_if, times, backup_of, run_by, Keeps, Stays, stays_self}
-use Rattle.isolation.proofs.Rights.{Sound}
 use Rattle.isolation.proofs.Tables.{sound_without}
 use Rattle.isolation.proofs.Ways.{settle_ways}
 
@@ -67,33 +65,20 @@ module _ (m : ℕ) (own : Module) (key text : List ℕ) where
           keeps = record { sound = k.sound; key_is = k.key_is; text_is = k.text_is; once = omega arith; proper = λ h. (refl, ap closing_after (sym (close_is b.closing))) };
         }
 
-    -- a state where none is active
-    none_stays : (t : State) → t.active ≡ None → section own.ram t.memory ≡ section own.ram s.memory → section own.text t.memory ≡ section own.text s.memory → t.frames ≡ s.frames → t.key ≡ s.key → Sound m own t.table → St s t
-    none_stays t none bytes texts fs keys sound =
-        let o : is_id m t.active ≡ false = ap (is_id m) none in
-        let e0 : one_if (is_id m t.active) ≡ 0 = ap one_if o in
-        let e2 : times m t.frames ≡ times m s.frames = ap (times m) fs in
-        let k1 = k.once in
-        record {
-          bytes = bytes;
-          run = ap (λ c. run_by c m t) o ∙ ap (find_held m) fs ∙ ap (λ c. run_by c m s) (sym other);
-          keeps = record { sound = sound; key_is = keys ∙ k.key_is; text_is = texts ∙ k.text_is; once = omega arith; proper = λ h. absurd (let x : true ≡ false = sym h ∙ o in cc) };
-        }
-
     closed_stays : (id : ℕ) (x : Module) → s.active ≡ Some id → own_of (Some id) s.table ≡ Some x → St s (close_of (Some id) (Some x) s).state
     closed_stays id x e f =
         let ne : (id == m) ≡ false = ap (is_id m) (sym e) ∙ other in
         let p = k.sound.others id x f ne in
-        none_stays (close_of (Some id) (Some x) s).state refl
+        stays_by m own key text s (close_of (Some id) (Some x) s).state k other refl
         (part_cleared own.ram.start (size_of own.ram) x.ram.start (size_of x.ram) s.memory p.0)
         (part_cleared own.text.start (size_of own.text) x.ram.start (size_of x.ram) s.memory p.1)
-        refl refl (sound_without m own s.table id ne k.sound)
+        refl refl refl (sound_without m own s.table id ne k.sound)
 
     pub settle_stays : St s (settle s).state
     unfolding resumed_state
     settle_stays =
         settle_ways s (λ u. St s u.state) self resumed_stays closed_stays (λ e. light m own key text s k other (record s { after = Next }) (refl, refl, refl, refl, refl))
-        (λ id a. none_stays (leave_if false (Some id) s).state refl refl refl refl refl k.sound)
+        (λ id a. stays_by m own key text s (leave_if false (Some id) s).state k other refl refl refl refl refl refl k.sound)
 
   -- ---- an arrival inside a module, also this one
   pub arrive_inside_stays : (c : Bool) (v id : ℕ) (s : State) → Keeps m own key text s → s.active ≡ Some id → (id == m) ≡ c → St s (arrive_inside v id s).state

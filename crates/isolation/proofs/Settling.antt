@@ -42,6 +42,10 @@ module _ (m : ℕ) (own : Module) where
       let e : (8 * ((reg core 2 / 8) % 2) / 8) % 2 ≡ (reg core 2 / 8) % 2 = omega arith in
       ap (λ b. b == 1) e
 
+  pub gie_hidden : (b : Bool) (s : State) → is_gie (hide_by b m own s).core ≡ is_gie s.core
+  gie_hidden true s = gie_veiled s.core
+  gie_hidden false s = refl
+
   due_by : (b : Bool) (s : State) → due (hide_by b m own s) ≡ due s
   unfolding due
   due_by false s = ap (λ n. vector_if (is_gie s.core && nat_lt n 8) (line_of s.devices)) (length_veiled m s.frames)

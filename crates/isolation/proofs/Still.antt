@@ -1,18 +1,15 @@
 -- Where a module is held, others' turns tell nothing of its hides and resumes.
 use Rattle.std.proofs.Common.{◌≡◌, ℕ, List, [], ◌∷◌, ◌++◌, refl, sym, ap, ◌∙◌, subst, arith, Bool, true, false, cond, ◌==◌, Option, Some, None}
 use Rattle.std.proofs.lemmas.Bool.Decides.{nat_tests}
-use Rattle.insn_decode.specs.declared.insn.Insn.{Insn}
-use Rattle.insn_decode.specs.declared.insn.Insn.TheVariants.{Reti}
 use Rattle.pc_access.specs.Rights.{is_id}
-use Rattle.pc_access.specs.declared.Stop.{Stop}
 use Rattle.reg_backup.specs.declared.backup.Backup.{Backup}
 use Rattle.reg_backup.specs.declared.backup.After.TheVariants.{Handler, Resume}
 use Rattle.cpu_step.specs.Asked.{table_after}
 use Rattle.tracer.specs.declared.Event.{Event}
-use Rattle.written_machine.specs.Cycle.{Step, pc_of, settle, arrive_inside, arrive_outside, perform, attempt, returned_by, act, enter, begin, turn, sent_event}
+use Rattle.written_machine.specs.Cycle.{Step, pc_of, settle, arrive_inside, perform, turn, sent_event}
 use Rattle.written_machine.specs.State.{State}
 use Rattle.isolation.specs.Calls.{Away, away_if, back_from, note, notes}
-use Rattle.isolation.proofs.Ways.{attempt_ways, act_ways, enter_ways, begin_ways, outside_ways, turn_ways, settle_ways}
+use Rattle.isolation.proofs.Ways.{EachAct, EachTurn, each_turn, settle_ways}
 
 module _ (m : ℕ) where
   abbrev pub Still : List Event → Type 0
@@ -20,12 +17,6 @@ module _ (m : ℕ) where
   Still (Event.Hide id v ∷ es) = ((id == m) ≡ false) × Still es
   Still (Event.Resume id ∷ es) = ((id == m) ≡ false) × Still es
   Still (_ ∷ es) = Still es
-
-  pub both : (xs ys : List Event) → Still xs → Still ys → Still (xs ++ ys)
-  both [] ys h g = g
-  both (Event.Hide id v ∷ xs) ys h g = (h.0, both xs ys h.1 g)
-  both (Event.Resume id ∷ xs) ys h g = (h.0, both xs ys h.1 g)
-  both (_ ∷ xs) ys h g = both xs ys h g
 
   pub still_notes : (k : ℕ) (es : List Event) (w : Away) → Still es → notes m k es w ≡ w
   still_notes k [] w h = refl
@@ -45,37 +36,34 @@ module _ (m : ℕ) where
   made_still true n = tt
   made_still false n = tt
 
-  perform_still : (insn : Insn) (s : State) → Still (perform insn s).events
+  acts_still : EachAct (λ s t. Still t.events)
   unfolding perform
-  perform_still insn s = made_still _ (table_after s.table insn s.core).given
-
-  attempt_still : (insn : Insn) (s : State) → Still (attempt insn s).events
-  attempt_still insn s = attempt_ways s (λ t. Still t.events) insn (λ d. tt) (λ e. perform_still insn s)
-
-  returned_still : (o : Option Stop) (u : Step) → Still u.events → Still (returned_by o u).events
-  returned_still (Some stop) u q = q
-  returned_still None u q = q
-
-  act_still : (s : State) → Still (act s).events
-  act_still s = act_ways s (λ t. Still t.events) (λ rule. tt) (λ b fs e. tt) (returned_still (attempt Reti s).state.stop (attempt Reti s) (attempt_still Reti s)) (λ insn. attempt_still insn s)
-
-  outside_still : (v : ℕ) (s : State) → Still (arrive_outside v s).events
-  outside_still v s = outside_ways s (λ t. Still t.events) v (λ d. tt) tt
-
-  other_still : (v id : ℕ) (s : State) → (id == m) ≡ false → Still (arrive_inside v id s).events
-  unfolding arrive_inside
-  other_still v id s e = (e, tt)
-
-  enter_still : (left : ℕ) (s : State) → Still (enter left s).events
-  enter_still left s = enter_ways s (λ t. Still t.events) left tt (λ id p a. tt)
-
-  begin_still : (left : ℕ) (s : State) → Still (begin left s).events
-  begin_still left s = begin_ways s (λ t. Still t.events) left (λ d. tt) (λ e. both (enter left s).events (act (enter left s).state).events (enter_still left s) (act_still (enter left s).state))
+  acts_still = record {
+    stops = λ rule addr id s. tt;
+    performs = λ insn s. made_still _ (table_after s.table insn s.core).given;
+    returns = λ s h. h;
+    resumes = λ s e. tt;
+  }
 
   -- a turn of another
+  abbrev Others : State → Step → Type 0
+  Others s t = is_id m s.active ≡ false → Still t.events
+
+  turns_still : EachTurn (λ s t. Still t.events) Others
+  unfolding arrive_inside
+  turns_still = record {
+    refuses = λ d s e. tt;
+    acts = λ s h e. h;
+    enters = λ left id s free p a h e. h;
+    pads = λ n s p e. tt;
+    waits = λ r s e. tt;
+    sleeps = λ s e. tt;
+    inside = λ v id s d a e. (subst (λ o. is_id m o ≡ false) a e, tt);
+    pushes = λ v s d e. tt;
+  }
+
   pub turn_still : (left : ℕ) (s : State) → is_id m s.active ≡ false → Still (turn left s).events
-  turn_still left s e =
-      turn_ways s (λ t. Still t.events) left (λ n p. tt) (λ r. tt) tt (begin_still left s) (λ v id d a. other_still v id s (subst (λ o. is_id m o ≡ false) a e)) (λ v d. outside_still v s)
+  turn_still left s e = each_turn (λ s t. Still t.events) acts_still Others turns_still left s e
 
   -- ---- settling while the module is not active: it is resumed, or nothing is told of it
   abbrev pub Told : Bool → List Event → Type 0

@@ -1,10 +1,7 @@
 -- What a cycle does to its number, its phase and what is settled next, and which events tell of it.
 use Rattle.std.proofs.Common.{◌≡◌, ◌≢◌, ◌⊎◌, inl, inr, ⊎_elim, ℕ, zero, suc, ◌+◌, ◌-◌, ◌<◌, List, [], ◌∷◌, ◌++◌, refl, sym, ap, ◌∙◌, subst, arith, Bool, true, false, cond, ◌==◌, Option, Some, None, zero-add}
 use Rattle.std.proofs.lemmas.Bool.Decides.{nat_tests}
-use Rattle.insn_decode.specs.declared.insn.Insn.{Insn}
-use Rattle.insn_decode.specs.declared.insn.Insn.TheVariants.{Reti}
 use Rattle.schedule_file.specs.declared.Entry.{Entry as Scheduled}
-use Rattle.pc_access.specs.declared.Denied.{Denied}
 use Rattle.pc_access.specs.declared.Stop.{Stop}
 use Rattle.image_text.specs.Image.{Image}
 use Rattle.reg_backup.specs.Saved.{closing_after}
@@ -13,11 +10,12 @@ use Rattle.reg_backup.specs.declared.backup.After.TheVariants.{Next, Handler, Re
 use Rattle.reg_backup.specs.declared.backup.Phase.TheVariants.{Run, Pad}
 use Rattle.cpu_step.specs.Asked.{table_after}
 use Rattle.tracer.specs.declared.Event.{Event}
-use Rattle.written_machine.specs.Cycle.{Step, quiet, told, denied, rest_of, settle, ticked, arrive_inside, arrive_outside, perform, attempt, returned_by, act, enter, begin, padded, turn, sent_event, counted_by, move, cycle_by, after_cycles}
+use Rattle.written_machine.specs.Cycle.{Step, quiet, told, rest_of, settle, ticked, arrive_inside, perform, padded, turn, sent_event, counted_by, move, cycle_by, after_cycles}
 use Rattle.written_machine.specs.State.{State}
 use Rattle.written_machine.specs.View.{at, boot}
 use Rattle.isolation.specs.Calls.{Ends, Hides, Handles}
-use Rattle.isolation.proofs.Ways.{attempt_ways, act_ways, enter_ways, begin_ways, outside_ways, turn_ways, settle_ways}
+use Rattle.isolation.proofs.Each.{Each, each_map}
+use Rattle.isolation.proofs.Ways.{EachAct, EachTurn, each_turn, Lasting, always, settle_ways}
 
 abbrev pub is_handler : After → Bool
 is_handler Handler = true
@@ -27,73 +25,50 @@ is_handler _ = false
 abbrev pub Calm : State → Type 0
 Calm s = (s.phase ≡ Run (rest_of s.phase)) × (is_handler s.after ≡ false)
 
--- no events of settling, and no hide
+-- not of settling
+abbrev IsLate : Event → Type 0
+IsLate (Event.Close id) = ⊥
+IsLate (Event.Leave id pc) = ⊥
+IsLate (Event.Handler pc) = ⊥
+IsLate (Event.Resume id) = ⊥
+IsLate _ = Unit {0}
+
+-- nor a hide
+abbrev IsBare : Event → Type 0
+IsBare (Event.Hide id v) = ⊥
+IsBare e = IsLate e
+
 abbrev pub Bare : List Event → Type 0
-Bare [] = Unit {0}
-Bare (Event.Close id ∷ es) = ⊥
-Bare (Event.Leave id pc ∷ es) = ⊥
-Bare (Event.Handler pc ∷ es) = ⊥
-Bare (Event.Resume id ∷ es) = ⊥
-Bare (Event.Hide id v ∷ es) = ⊥
-Bare (_ ∷ es) = Bare es
+Bare = Each IsBare
 
--- no events of settling
 abbrev pub Late : List Event → Type 0
-Late [] = Unit {0}
-Late (Event.Close id ∷ es) = ⊥
-Late (Event.Leave id pc ∷ es) = ⊥
-Late (Event.Handler pc ∷ es) = ⊥
-Late (Event.Resume id ∷ es) = ⊥
-Late (_ ∷ es) = Late es
+Late = Each IsLate
 
-bare_both : (xs ys : List Event) → Bare xs → Bare ys → Bare (xs ++ ys)
-bare_both [] ys h g = g
-bare_both (Event.Close id ∷ xs) ys h g = absurd h
-bare_both (Event.Leave id pc ∷ xs) ys h g = absurd h
-bare_both (Event.Handler pc ∷ xs) ys h g = absurd h
-bare_both (Event.Resume id ∷ xs) ys h g = absurd h
-bare_both (Event.Hide id v ∷ xs) ys h g = absurd h
-bare_both (_ ∷ xs) ys h g = bare_both xs ys h g
-
-bare_late : (xs : List Event) → Bare xs → Late xs
-bare_late [] h = tt
-bare_late (Event.Close id ∷ xs) h = absurd h
-bare_late (Event.Leave id pc ∷ xs) h = absurd h
-bare_late (Event.Handler pc ∷ xs) h = absurd h
-bare_late (Event.Resume id ∷ xs) h = absurd h
-bare_late (Event.Hide id v ∷ xs) h = absurd h
-bare_late (_ ∷ xs) h = bare_late xs h
+bare_late : (e : Event) → IsBare e → IsLate e
+bare_late (Event.Hide id v) h = absurd h
+bare_late e h = h
 
 pub bare_hides : (xs : List Event) → Bare xs → Hides xs → ⊥
 bare_hides [] h g = g
-bare_hides (Event.Close id ∷ xs) h g = absurd h
-bare_hides (Event.Leave id pc ∷ xs) h g = absurd h
-bare_hides (Event.Handler pc ∷ xs) h g = absurd h
-bare_hides (Event.Resume id ∷ xs) h g = absurd h
-bare_hides (Event.Hide id v ∷ xs) h g = absurd h
-bare_hides (_ ∷ xs) h g = bare_hides xs h g
+bare_hides (Event.Hide id v ∷ xs) h g = h.0
+bare_hides (_ ∷ xs) h g = bare_hides xs h.1 g
 
 -- events that end in such
 late_ends : (m : ℕ) (xs ys : List Event) → Late ys → Ends m (xs ++ ys) → Ends m xs
 late_ends m [] [] h g = g
-late_ends m [] (Event.Close id ∷ ys) h g = absurd h
-late_ends m [] (Event.Leave id pc ∷ ys) h g = absurd h
-late_ends m [] (Event.Handler pc ∷ ys) h g = absurd h
-late_ends m [] (Event.Resume id ∷ ys) h g = absurd h
+late_ends m [] (Event.Close id ∷ ys) h g = absurd h.0
+late_ends m [] (Event.Leave id pc ∷ ys) h g = absurd h.0
 late_ends m (Event.Close id ∷ xs) ys h g = ⊎_elim inl (λ r. inr (late_ends m xs ys h r)) g
 late_ends m (Event.Leave id pc ∷ xs) ys h g = ⊎_elim inl (λ r. inr (late_ends m xs ys h r)) g
 late_ends m (_ ∷ xs) ys h g = late_ends m xs ys h g
-late_ends m [] (_ ∷ ys) h g = late_ends m [] ys h g
+late_ends m [] (_ ∷ ys) h g = late_ends m [] ys h.1 g
 
 pub late_handles : (xs ys : List Event) → Late ys → Handles (xs ++ ys) → Handles xs
 late_handles [] [] h g = g
-late_handles [] (Event.Close id ∷ ys) h g = absurd h
-late_handles [] (Event.Leave id pc ∷ ys) h g = absurd h
-late_handles [] (Event.Handler pc ∷ ys) h g = absurd h
-late_handles [] (Event.Resume id ∷ ys) h g = absurd h
+late_handles [] (Event.Handler pc ∷ ys) h g = absurd h.0
 late_handles (Event.Handler pc ∷ xs) ys h g = tt
 late_handles (_ ∷ xs) ys h g = late_handles xs ys h g
-late_handles [] (_ ∷ ys) h g = late_handles [] ys h g
+late_handles [] (_ ∷ ys) h g = late_handles [] ys h.1 g
 
 pub hides_more : (xs ys : List Event) → Hides ys → Hides (xs ++ ys)
 hides_more [] ys g = g
@@ -108,58 +83,30 @@ hides_front (_ ∷ xs) ys g = hides_front xs ys g
 -- ---- an instruction
 pub record Tame (s : State) (t : Step) : Type 0 where
   pub same : t.state.cycle ≡ s.cycle
-  pub key : t.state.key ≡ s.key
   pub bare : Bare t.events
   pub calm : Calm s → Calm t.state
 
-denied_tame : (d : Denied) (s : State) → Tame s (denied d s)
-denied_tame d s = record { same = refl; key = refl; bare = tt; calm = λ h. h }
-
-quiet_tame : (s : State) → Tame s (quiet s)
-quiet_tame s = record { same = refl; key = refl; bare = tt; calm = λ h. h }
-
 made_bare : (c : Bool) (n : ℕ) → Bare (cond c [] (Event.Protect n ∷ []))
 made_bare true n = tt
-made_bare false n = tt
+made_bare false n = (tt, tt)
 
 pub closing_calm : (c : Bool) → is_handler (closing_after c) ≡ false
 closing_calm true = refl
 closing_calm false = refl
 
-perform_tame : (insn : Insn) (s : State) → Tame s (perform insn s)
+acts_tame : EachAct Tame
 unfolding perform
-perform_tame insn s = record { same = refl; key = refl; bare = made_bare _ (table_after s.table insn s.core).given; calm = λ h. (refl, closing_calm _) }
-
-attempt_tame : (insn : Insn) (s : State) → Tame s (attempt insn s)
-attempt_tame insn s = attempt_ways s (Tame s) insn (λ d. denied_tame d s) (λ e. perform_tame insn s)
-
-returned_tame : (o : Option Stop) (s : State) (u : Step) → Tame s u → Tame s (returned_by o u)
-returned_tame (Some stop) s u q = q
-returned_tame None s u q = record { same = q.same; key = q.key; bare = q.bare; calm = q.calm }
-
-act_tame : (s : State) → Tame s (act s)
-act_tame s =
-    act_ways s (Tame s) (λ rule. record { same = refl; key = refl; bare = tt; calm = λ h. h }) (λ b fs e. record { same = refl; key = refl; bare = tt; calm = λ h. (refl, refl) })
-    (returned_tame (attempt Reti s).state.stop s (attempt Reti s) (attempt_tame Reti s)) (λ insn. attempt_tame insn s)
-
-enter_tame : (left : ℕ) (s : State) → Tame s (enter left s)
-enter_tame left s = enter_ways s (Tame s) left (quiet_tame s) (λ id p a. record { same = refl; key = refl; bare = tt; calm = λ h. (h.0, refl) })
-
-begin_tame : (left : ℕ) (s : State) → Tame s (begin left s)
-begin_tame left s =
-    let e = enter_tame left s in
-    let a = act_tame (enter left s).state in
-    begin_ways s (Tame s) left (λ d. denied_tame d s)
-    (λ n. record { same = a.same ∙ e.same; key = a.key ∙ e.key; bare = bare_both (enter left s).events (act (enter left s).state).events e.bare a.bare; calm = λ h. a.calm (e.calm h) })
-
-outside_tame : (v : ℕ) (s : State) → Tame s (arrive_outside v s)
-outside_tame v s = outside_ways s (Tame s) v (λ d. denied_tame d s) record { same = refl; key = refl; bare = tt; calm = λ h. (refl, h.1) }
+acts_tame = record {
+  stops = λ rule addr id s. record { same = refl; bare = (tt, tt); calm = λ h. h };
+  performs = λ insn s. record { same = refl; bare = made_bare _ (table_after s.table insn s.core).given; calm = λ h. (refl, closing_calm _) };
+  returns = λ s q. record { same = q.same; bare = (tt, q.bare); calm = q.calm };
+  resumes = λ s e. record { same = refl; bare = tt; calm = λ h. (refl, refl) };
+}
 
 -- ---- a turn
 -- it is tame, or pads, or begins to pad
 pub record Begins (s : State) (t : Step) : Type 0 where
   pub same : t.state.cycle ≡ s.cycle
-  pub key : t.state.key ≡ s.key
   pub late : Late t.events
   pub hides : Hides t.events
   pub phase : t.state.phase ≡ Pad 11
@@ -174,38 +121,31 @@ pub record Pads (s : State) (t : Step) : Type 0 where
 abbrev pub Turned : State → Step → Type 0
 Turned s t = Tame s t ⊎ (Begins s t ⊎ Pads s t)
 
-inside_begins : (v id : ℕ) (s : State) → Begins s (arrive_inside v id s)
+turns_tame : EachTurn Tame Turned
 unfolding arrive_inside
-inside_begins v id s = record { same = refl; key = refl; late = tt; hides = tt; phase = refl; after = refl; stop = refl }
-
-wait_tame : (r : ℕ) (s : State) → Tame s (quiet (record s { phase = Run r }))
-wait_tame r s = record { same = refl; key = refl; bare = tt; calm = λ h. (refl, h.1) }
+turns_tame = record {
+  refuses = λ d s. inl (record { same = refl; bare = (tt, tt); calm = λ h. h });
+  acts = λ s t. inl t;
+  enters = λ left id s free p a t. inl (record { same = t.same; bare = (tt, t.bare); calm = λ h. t.calm (h.0, refl) });
+  pads = λ n s p. inr (inr (record { left = n; was = p; is = refl }));
+  waits = λ r s. inl (record { same = refl; bare = tt; calm = λ h. (refl, h.1) });
+  sleeps = λ s. inl (record { same = refl; bare = tt; calm = λ h. h });
+  inside = λ v id s d a. inr (inl (record { same = refl; late = (tt, tt); hides = tt; phase = refl; after = refl; stop = refl }));
+  pushes = λ v s d. inl (record { same = refl; bare = (tt, tt); calm = λ h. (refl, h.1) });
+}
 
 pub turned : (left : ℕ) (s : State) → Turned s (turn left s)
-turned left s =
-    turn_ways s (Turned s) left (λ n p. inr (inr (record { left = n; was = p; is = refl }))) (λ r. inl (wait_tame r s)) (inl (quiet_tame s)) (inl (begin_tame left s))
-    (λ v id d a. inr (inl (inside_begins v id s))) (λ v d. inl (outside_tame v s))
-
-padded_same : (n : ℕ) (s : State) → (padded n s).cycle ≡ s.cycle
-padded_same zero s = refl
-padded_same (suc n) s = refl
+turned left s = each_turn Tame acts_tame Turned turns_tame left s
 
 pub turn_same : (left : ℕ) (s : State) → (turn left s).state.cycle ≡ s.cycle
-turn_same left s = ⊎_elim (λ t. t.same) (λ x. ⊎_elim (λ b. b.same) (λ p. ap (λ u. u.state.cycle) p.is ∙ padded_same (p.left - 1) s) x) (turned left s)
-
-padded_key : (n : ℕ) (s : State) → (padded n s).key ≡ s.key
-padded_key zero s = refl
-padded_key (suc n) s = refl
-
-pub turn_key : (left : ℕ) (s : State) → (turn left s).state.key ≡ s.key
-turn_key left s = ⊎_elim (λ t. t.key) (λ x. ⊎_elim (λ b. b.key) (λ p. ap (λ u. u.state.key) p.is ∙ padded_key (p.left - 1) s) x) (turned left s)
+turn_same left s = ⊎_elim (λ t. t.same) (λ x. ⊎_elim (λ b. b.same) (λ p. ap (λ u. u.state.cycle) p.is) x) (turned left s)
 
 pub turn_late : (left : ℕ) (s : State) → Late (turn left s).events
-turn_late left s = ⊎_elim (λ t. bare_late (turn left s).events t.bare) (λ x. ⊎_elim (λ b. b.late) (λ p. subst (λ u. Late u.events) (sym p.is) tt) x) (turned left s)
+turn_late left s = ⊎_elim (λ t. each_map bare_late (turn left s).events t.bare) (λ x. ⊎_elim (λ b. b.late) (λ p. subst (λ u. Late u.events) (sym p.is) tt) x) (turned left s)
 
 pub sent_late : (o : Option ℕ) → Late (sent_event o)
 sent_late None = tt
-sent_late (Some b) = tt
+sent_late (Some b) = (tt, tt)
 
 -- ---- settling
 abbrev Keeping : State → State → Type 0
@@ -213,10 +153,6 @@ Keeping s t = (t.cycle ≡ s.cycle) × (t.key ≡ s.key)
 
 pub settle_same : (s : State) → Keeping s (settle s).state
 settle_same s = settle_ways s (λ u. Keeping s u.state) (refl, refl) (λ b fs e. (refl, refl)) (λ id x a o. (refl, refl)) (λ e. (refl, refl)) (λ id a. (refl, refl))
-
-ticked_key : (s : State) → (ticked s).key ≡ s.key
-unfolding ticked
-ticked_key s = refl
 
 pub ticked_stop : (s : State) → (ticked s).stop ≡ s.stop
 unfolding ticked
@@ -227,35 +163,26 @@ unfolding ticked
 ticked_active s = refl
 
 pub settled_key : (s : State) → (settle (ticked s)).state.key ≡ s.key
-settled_key s = (settle_same (ticked s)).1 ∙ ticked_key s
-
-pub counted_stop : (o : Option Stop) (t : Step) → (counted_by o t).state.stop ≡ t.state.stop
-counted_stop (Some stop) t = refl
-counted_stop None t = refl
-
-pub padded_stop : (n : ℕ) (s : State) → (padded n s).stop ≡ s.stop
-padded_stop zero s = refl
-padded_stop (suc n) s = refl
-
-counted_key : (o : Option Stop) (t : Step) → (counted_by o t).state.key ≡ t.state.key
-counted_key (Some stop) t = refl
-counted_key None t = refl
-
-move_key : (s : State) → (move s).state.key ≡ s.key
-unfolding move
-move_key s =
-    let u = settle (ticked s) in
-    let t = turn u.left u.state in
-    counted_key t.state.stop (told u.events t) ∙ turn_key u.left u.state ∙ settled_key s
-
-cycle_key : (o : Option Stop) (s : State) → (cycle_by o s).state.key ≡ s.key
-cycle_key (Some stop) s = refl
-cycle_key None s = move_key s
+unfolding ticked
+settled_key s = (settle_same (ticked s)).1
 
 -- the key is the image's
+key_lasts : (a : Image) → Lasting (λ s. s.key ≡ a.node_key)
+unfolding perform arrive_inside
+key_lasts a = record {
+  rests = λ s d n p o h. h;
+  performs = λ insn s h. h;
+  returns = λ s h. h;
+  resumes = λ s e h. h;
+  enters = λ left id s free p x h. h;
+  pads = λ n s h. h;
+  inside = λ v id s d x h. h;
+  pushes = λ v s d h. h;
+  settles = λ s h. (settle_same s).1 ∙ h;
+}
+
 pub key_at : (a : Image) (schedule : List Scheduled) (k : ℕ) → (at a schedule k).key ≡ a.node_key
-key_at a schedule zero = refl
-key_at a schedule (suc k) = cycle_key (at a schedule k).stop (at a schedule k) ∙ key_at a schedule k
+key_at a schedule k = always (λ s. s.key ≡ a.node_key) (key_lasts a) a schedule k refl
 
 pub ticked_same : (s : State) → (ticked s).cycle ≡ s.cycle
 unfolding ticked

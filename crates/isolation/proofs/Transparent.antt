@@ -1,5 +1,5 @@
 -- Whatever interrupts it, an active or held module stands where it stands by itself.
-use Rattle.std.proofs.Common.{◌≡◌, ◌≢◌, ℕ, zero, suc, ◌+◌, ◌<◌, List, [], ◌∷◌, refl, sym, ap, ◌∙◌, subst, arith, Bool, true, false, cond, ◌==◌, Option, Some, None}
+use Rattle.std.proofs.Common.{◌≡◌, ◌≢◌, ℕ, zero, suc, ◌+◌, ◌<◌, List, refl, sym, ap, ◌∙◌, subst, arith, Bool, true, false, cond, nat_le, ◌==◌, Option, Some, None}
 use Rattle.sm_words.specs.Sums.{one_if}
 use Rattle.sm_words.specs.Words.{IsCore}
 use Rattle.insn_decode.specs.declared.insn.Insn.{Insn}
@@ -8,78 +8,56 @@ use Rattle.mod_layout.specs.Table.{place_of, module_of}
 use Rattle.mod_layout.specs.declared.Module.{Module}
 use Rattle.mod_layout.specs.declared.Place.TheVariants.{Entry}
 use Rattle.pc_access.specs.Rights.{is_id, is_held}
-use Rattle.pc_access.specs.declared.Stop.{Stop}
 use Rattle.image_text.specs.Image.{Image, IsImage}
 use Rattle.reg_backup.specs.Held.{held_ids}
-use Rattle.cpu_step.specs.Lone.{Job, Lone, Outcome, Broken, later, Doing, Waits, Closes, Leaves, Breaks, Does, doing, lone_does, lone_step_by, lone_step, lone_after, in_time, at_once, outcome, does_or_breaks, next_insn, job_of}
-use Rattle.tracer.specs.declared.Event.{Event}
-use Rattle.written_machine.specs.Cycle.{Step, told, pc_of, settle, ticked, act, begin, turn, counted_by, move, cycle_by, cycle, after_cycles}
+use Rattle.cpu_step.specs.Lone.{Job, Lone, Outcome, Exit, Closing, Broken, Running, later, Doing, Waits, Breaks, Does, doing, lone_does, lone_step_by, lone_step, lone_after, in_time, outcome, does_or_breaks, next_insn, job_of}
+use Rattle.written_machine.specs.Cycle.{Step, told, pc_of, settle, ticked, act, turn, move, cycle_by, cycle, after_cycles}
 use Rattle.written_machine.specs.Peers.{section}
 use Rattle.written_machine.specs.State.{State}
 use Rattle.written_machine.specs.View.{at}
 use Rattle.isolation.specs.Calls.{works, worked, NoEnd, Enters, NotBroken, Stands, backup_of, run_by}
 use Rattle.isolation.proofs.Fine.{Fine, settled_fine, fine_at}
+use Rattle.cpu_step.proofs.LoneLemmas.{after_step}
+use Rattle.isolation.proofs.Bounds.{cut, outcome_cut}
+use Rattle.isolation.proofs.Ways.{counted_holds}
 use Rattle.isolation.proofs.Follow.{job, Follows, stepped, cycle_follows, moved_follows, counted_follows}
-use Rattle.isolation.proofs.Kept.{Enters_now, cycle_entering}
+use Rattle.isolation.proofs.Entering.{Enters_now, cycle_entering}
 use Rattle.isolation.proofs.Relation.{Keeps, IsOpen}
 use Rattle.isolation.proofs.Tables.{sound_from}
 use Rattle.isolation.proofs.Tame.{settled_key, key_at}
-use Rattle.isolation.proofs.Turns.{times_none, begin_by, entry_free, at_entry, entered, entered_is, entered_keeps, entered_moves, start, start_doing}
+use Rattle.isolation.proofs.Turns.{times_none, entry_free, at_entry, entered, entered_keeps, entered_moves, start, start_doing}
 use Rattle.std.proofs.lemmas.Bool.Decides.{nat_tests}
 
 module _ (j : Job) where
-  pub step_first : (l : Lone) (i : ℕ) → lone_after j (lone_step j l) i ≡ lone_after j l (suc i)
-  step_first l zero = refl
-  step_first l (suc i) = ap (lone_step j) (step_first l i)
-
   not_later : (o : Outcome) → NotBroken (later o) → NotBroken o
   not_later (Broken d k) h = h
   not_later _ h = tt
 
-  -- once it has ended it stays
-  stays_closed : (l : Lone) → doing j l ≡ Closes → (i : ℕ) → lone_after j l i ≡ l
-  stays_closed l e zero = refl
-  stays_closed l e (suc i) = ap (lone_step j) (stays_closed l e i) ∙ ap (λ d. lone_step_by d j l) e
+  unbroken_if : (b : Bool) (o : Outcome) → NotBroken o → NotBroken (cond b o Running)
+  unbroken_if true o h = h
+  unbroken_if false o h = tt
 
-  stays_left : (l : Lone) → doing j l ≡ Leaves → (i : ℕ) → lone_after j l i ≡ l
-  stays_left l e zero = refl
-  stays_left l e (suc i) = ap (lone_step j) (stays_left l e i) ∙ ap (λ d. lone_step_by d j l) e
-
-  pub never_breaks : (c : ℕ) (l : Lone) (i : ℕ) → i < c → NotBroken (outcome j c l) → doing j (lone_after j l i) ≢ Breaks
-  never_breaks zero l i lt h = absurd (omega arith)
-  never_breaks (suc c) l i lt h = by (doing j l) refl (subst (λ d. NotBroken (in_time d (outcome j c) j l)) refl h) (λ l' k lt' h'. never_breaks c l' k lt' h')
-    where
-      go : (l' : Lone) → lone_step j l ≡ l' → NotBroken (later (outcome j c l')) → ((l' : Lone) (k : ℕ) → k < c → NotBroken (outcome j c l') → doing j (lone_after j l' k) ≢ Breaks) → (i : ℕ) → i < suc c → doing j l ≢ Breaks → doing j (lone_after j l i) ≢ Breaks
-      go l' e h r zero lt nb = nb
-      go l' e h r (suc k) lt nb =
-          let x = r l' k (omega arith) (not_later (outcome j c l') h) in
-          λ b. x (ap (λ u. doing j (lone_after j u k)) (sym e) ∙ ap (doing j) (step_first l k) ∙ b)
-
-      by : (d : Doing) → doing j l ≡ d → NotBroken (in_time d (outcome j c) j l) → ((l' : Lone) (k : ℕ) → k < c → NotBroken (outcome j c l') → doing j (lone_after j l' k) ≢ Breaks) → doing j (lone_after j l i) ≢ Breaks
-      by (Waits x) e h r = go (record l { rest = x }) (ap (λ d. lone_step_by d j l) e) h r i lt (λ b. let f : Waits x ≡ Breaks = sym e ∙ b in cc)
-      by (Does x) e h r = go (lone_does j x l) (ap (λ d. lone_step_by d j l) e) h r i lt (λ b. let f : Does x ≡ Breaks = sym e ∙ b in cc)
-      by Closes e h r = λ b. let f : Closes ≡ Breaks = sym e ∙ ap (doing j) (sym (stays_closed l e i)) ∙ b in cc
-      by Leaves e h r = λ b. let f : Leaves ≡ Breaks = sym e ∙ ap (doing j) (sym (stays_left l e i)) ∙ b in cc
-      by Breaks e h r = absurd h
+  cut_unbroken : (n : ℕ) (o : Outcome) → NotBroken o → NotBroken (cut n o)
+  cut_unbroken n (Exit c d k) h = unbroken_if (nat_le k n) (Exit c d k) h
+  cut_unbroken n (Closing c d k) h = unbroken_if (nat_le k n) (Closing c d k) h
+  cut_unbroken n (Broken d k) h = absurd h
+  cut_unbroken n Running h = tt
 
   -- an outcome that is not broken in time was not broken earlier
   not_sooner : (c : ℕ) (l : Lone) → NotBroken (outcome j (suc c) l) → NotBroken (outcome j c l)
-  not_sooner zero l h = by (doing j l)
-    where
-      by : (d : Doing) → NotBroken (at_once d l)
-      by Closes = tt
-      by _ = tt
-  not_sooner (suc c) l h = by (doing j l) h (λ l' h'. not_sooner c l' h')
-    where
-      more : (o : Outcome) → NotBroken o → NotBroken (later o)
-      more (Broken d k) h = h
-      more _ h = tt
+  not_sooner c l h = subst NotBroken (sym (outcome_cut j c (suc c) l (omega arith))) (cut_unbroken c (outcome j (suc c) l) h)
 
-      by : (d : Doing) → NotBroken (in_time d (outcome j (suc c)) j l) → ((l' : Lone) → NotBroken (outcome j (suc c) l') → NotBroken (outcome j c l')) → NotBroken (in_time d (outcome j c) j l)
-      by (Waits x) h r = more (outcome j c (record l { rest = x })) (r (record l { rest = x }) (not_later (outcome j (suc c) (record l { rest = x })) h))
-      by (Does x) h r = more (outcome j c (lone_does j x l)) (r (lone_does j x l) (not_later (outcome j (suc c) (lone_does j x l)) h))
-      by Breaks h r = absurd h
-      by _ h r = tt
+  -- nor is the rest of it
+  rest_unbroken : (x : Doing) (c : ℕ) (l : Lone) → NotBroken (in_time x (outcome j c) j l) → NotBroken (outcome j c l) → NotBroken (outcome j c (lone_step_by x j l))
+  rest_unbroken (Waits r) c l h g = not_later (outcome j c (record l { rest = r })) h
+  rest_unbroken (Does i) c l h g = not_later (outcome j c (lone_does j i l)) h
+  rest_unbroken _ c l h g = g
+
+  pub never_breaks : (c : ℕ) (l : Lone) (i : ℕ) → i < c → NotBroken (outcome j c l) → doing j (lone_after j l i) ≢ Breaks
+  never_breaks zero l i lt h = absurd (omega arith)
+  never_breaks (suc c) l zero lt h = λ b. subst (λ d. NotBroken (in_time d (outcome j c) j l)) b h
+  never_breaks (suc c) l (suc i) lt h =
+      λ b. never_breaks c (lone_step j l) i (omega arith) (rest_unbroken (doing j l) c l h (not_sooner c l h)) (ap (doing j) (after_step j l i) ∙ b)
 
 module _ (m : ℕ) (own : Module) (key text : List ℕ) (from : ℕ) (s : State) (l0 : Lone) (c0 : ℕ) where
   -- c0 cycles were done before; n more cycles of the machine pass
@@ -139,25 +117,19 @@ module _ (m : ℕ) (own : Module) (key text : List ℕ) (from : ℕ) where
       let f = moved_follows m own key text from (entered m own key text from s) l (lone_does j i l) (act (at_entry m own key text from s)) (begun_follows s k free) (is_entered s) v in
       (subst (λ x. Follows m own key text from (act (at_entry m own key text from s)).state (lone_step_by x j l)) (sym d) f, ap (λ x. is_id m x.state.active) v.is ∙ is_entered s)
 
-  enters_follows : (left : ℕ) (s : State) (u : Step) → Keeps m own key text s → IsCore s.core → Enters_now m from own key text left s u → doing (job m own key text from) (start m own key text from s) ≢ Breaks → Follows m own key text from u.state (lone_step (job m own key text from) (start m own key text from s)) × (is_id m u.state.active ≡ true)
-  enters_follows left s u k ok en nb =
-      let free = entry_free m own key text s en.free en.here in
+  enters_follows : (s : State) (u : Step) → Keeps m own key text s → IsCore s.core → Enters_now m from s u → doing (job m own key text from) (start m own key text from s) ≢ Breaks → Follows m own key text from u.state (lone_step (job m own key text from) (start m own key text from s)) × (is_id m u.state.active ≡ true)
+  enters_follows s u k ok en nb =
+      let free = entry_free m s en.free en.here in
       let f = first_step (next_insn (job m own key text from) (start m own key text from s)) s k ok en.here free refl nb in
-      let b : u ≡ told (Event.Enter m from ∷ []) (act (at_entry m own key text from s)) =
-      en.is ∙ ap (λ l. begin l s) en.from_is ∙ begin_by m own key text from s None en.free ∙ ap (λ x. told x.events (act x.state)) (entered_is m own key text from s en.here en.none) in
-      (subst (λ x. Follows m own key text from x.state (lone_step (job m own key text from) (start m own key text from s))) (sym b) f.0, ap (λ x. is_id m x.state.active) b ∙ f.1)
+      (subst (λ x. Follows m own key text from x.state (lone_step (job m own key text from) (start m own key text from s))) (sym en.is) f.0, ap (λ x. is_id m x.state.active) en.is ∙ f.1)
 
-  counted_active : (o : Option Stop) (t : Step) → (counted_by o t).state.active ≡ t.state.active
-  counted_active (Some stop) t = refl
-  counted_active None t = refl
-
-  move_enters : (s : State) → Keeps m own key text (settle (ticked s)).state → Fine s → Enters_now m from own key text (settle (ticked s)).left (settle (ticked s)).state (turn (settle (ticked s)).left (settle (ticked s)).state) → doing (job m own key text from) (start m own key text from (settle (ticked s)).state) ≢ Breaks → Follows m own key text from (move s).state (lone_step (job m own key text from) (start m own key text from (settle (ticked s)).state)) × (is_id m (move s).state.active ≡ true)
+  move_enters : (s : State) → Keeps m own key text (settle (ticked s)).state → Fine s → Enters_now m from (settle (ticked s)).state (turn (settle (ticked s)).left (settle (ticked s)).state) → doing (job m own key text from) (start m own key text from (settle (ticked s)).state) ≢ Breaks → Follows m own key text from (move s).state (lone_step (job m own key text from) (start m own key text from (settle (ticked s)).state)) × (is_id m (move s).state.active ≡ true)
   unfolding move
   move_enters s k fine en nb =
       let u = settle (ticked s) in
       let t = turn u.left u.state in
-      let e = enters_follows u.left u.state t k (settled_fine s fine).fine.core_ok en nb in
-      (counted_follows m own key text from t.state.stop (told u.events t) (lone_step (job m own key text from) (start m own key text from u.state)) e.0, ap (is_id m) (counted_active t.state.stop (told u.events t)) ∙ e.1)
+      let e = enters_follows u.state t k (settled_fine s fine).fine.core_ok en nb in
+      (counted_follows m own key text from t.state.stop (told u.events t) (lone_step (job m own key text from) (start m own key text from u.state)) e.0, counted_holds (λ v. is_id m v.active ≡ true) (λ v n h. h) t.state.stop (told u.events t) e.1)
 
 pub after_more : (a : Image) (schedule : List Scheduled) (k i : ℕ) → after_cycles (at a schedule k) i ≡ at a schedule (i + k)
 after_more a schedule k zero = ap (at a schedule) (let e : k ≡ 0 + k = omega arith in e)
@@ -182,8 +154,8 @@ module _ (a : Image) (m : ℕ) (own : Module) (schedule : List Scheduled) (k fro
   abbrev pub entry_lone : Lone
   entry_lone = let u = (settle (ticked (at a schedule k))).state in record { core = u.core; data_bytes = section own.ram u.memory; rest = 0; closing = false }
 
-  entering : ((at a schedule k).stop ≡ None) × (let u = settle (ticked (at a schedule k)) in Enters_now m from own a.node_key entry_text u.left u.state (turn u.left u.state))
-  entering = cycle_entering m from own a.node_key entry_text (at a schedule k) enters
+  entering : ((at a schedule k).stop ≡ None) × (let u = settle (ticked (at a schedule k)) in Enters_now m from u.state (turn u.left u.state))
+  entering = cycle_entering m from (at a schedule k) enters
 
   pub entry_runs : (at a schedule k).stop ≡ None
   entry_runs = entering.0
@@ -196,7 +168,7 @@ module _ (a : Image) (m : ℕ) (own : Module) (schedule : List Scheduled) (k fro
       let u = entry_state in
       let p = entering.1 in
       let idle : is_id m u.active ≡ false = ap (is_id m) p.none in
-      let none = times_none m u.frames (entry_free m own a.node_key entry_text u p.free p.here) in
+      let none = times_none m u.frames (entry_free m u p.free p.here) in
       record {
         sound = sound_from m own u.table entry_fine.table_ok own_is;
         key_is = settled_key (at a schedule k) ∙ key_at a schedule k;

@@ -1,5 +1,5 @@
 -- A turn in which the module is not active, also one that enters it.
-use Rattle.std.proofs.Common.{◌≡◌, ◌≢◌, ℕ, zero, suc, ◌+◌, ◌-◌, ◌%◌, ◌<◌, List, [], ◌∷◌, refl, sym, ap, ◌∙◌, subst, arith, Bool, true, false, ◌||◌, ◌==◌, Option, Some, None}
+use Rattle.std.proofs.Common.{◌≡◌, ◌≢◌, ℕ, zero, suc, ◌+◌, ◌-◌, ◌<◌, List, [], ◌∷◌, refl, sym, ap, ◌∙◌, subst, arith, Bool, true, false, ◌||◌, ◌==◌, Option, Some, None}
 use Rattle.std.proofs.lemmas.Bool.Decides.{nat_tests}
 use Rattle.pc_access.proofs.RightLemmas.{refused_not}
 use Rattle.sm_words.specs.Sums.{one_if}
@@ -25,18 +25,19 @@ use Rattle.tracer.specs.declared.Event.{Event}
 use Rattle.written_machine.specs.Cycle.{Step, quiet, told, denied, pc_of, due, arrive_inside, arrive_outside, asleep, padded, turn, begin_unless, begin, enter_at, enter, fetch, act}
 use Rattle.written_machine.specs.Peers.{section}
 use Rattle.written_machine.specs.State.{State}
-use Rattle.isolation.proofs.Active.{does_gie}
+use Rattle.isolation.proofs.Active.{arrived_none, does_gie}
 use Rattle.isolation.proofs.EvenBy.{begins, AlwaysEvenBy}
 use Rattle.isolation.proofs.Evenly.{Evenly, Together, next_together}
-use Rattle.isolation.proofs.Hide.{veil, veil_core, hide_by, held_ids_veiled}
-use Rattle.isolation.proofs.Inside.{did_act}
-use Rattle.isolation.proofs.Lockstep.{Moves, moves_alike}
-use Rattle.isolation.proofs.Outside.{light, outer_by, arrived_active, arrive_outside_outer, act_outer, act_active}
-use Rattle.isolation.proofs.Relation.{find_held, found_if, times, run_by, run_of, Secret, Keeps, Ready, Stays, Alike, Outer, outer_alike, seen_veiled, seen_active}
-use Rattle.isolation.proofs.Rights.{Sound, holds_in}
+use Rattle.isolation.proofs.Hide.{veil, veil_step, veil_core, hide_by, held_ids_veiled}
+use Rattle.isolation.proofs.Inside.{Moves, did_act}
+use Rattle.isolation.proofs.Lockstep.{moves_alike}
+use Rattle.isolation.proofs.Outside.{Light, light, outer_by, stays_by, arrived_active, arrive_outside_outer, act_outer, act_active}
+use Rattle.isolation.proofs.Relation.{find_held, times, none_found, run_by, run_of, Secret, Keeps, Ready, Stays, stays_self, Alike, Outer, outer_alike, seen_veiled, seen_active}
+use Rattle.isolation.proofs.Rights.{holds_in}
 use Rattle.isolation.proofs.Settled.{arrive_inside_stays}
 use Rattle.isolation.proofs.Settling.{arrive_hidden, due_hidden, enter_veiled}
 use Rattle.isolation.proofs.Cases.{turn_at, turn_unless, turn_is}
+use Rattle.isolation.proofs.Ways.{begin_ways, enter_ways, turn_ways}
 
 -- ---- a fetch that is allowed
 fetch_data : (m : ℕ) (p : Place) (active : Option ℕ) (held : List ℕ) (a : ℕ) → right_at p active held Fetch a ≡ None → p ≢ Data m
@@ -51,72 +52,56 @@ times_none m (Held b ∷ fs) e = by (b.module == m) (is_held m (held_ids fs)) (t
     by true x n e h = cc
     by false x n e h = let z = h e in omega arith
 
-pub found_none : (m : ℕ) (fs : List Frame) → is_held m (held_ids fs) ≡ false → find_held m fs ≡ None
-found_none m [] e = refl
-found_none m (Plain ∷ fs) e = found_none m fs e
-found_none m (Held b ∷ fs) e = by (b.module == m) (is_held m (held_ids fs)) (find_held m fs) e (λ h. found_none m fs h)
-  where
-    by : (c x : Bool) (o : Option Backup) → (c || x) ≡ false → (x ≡ false → o ≡ None) → found_if c b o ≡ None
-    by true x o e h = cc
-    by false x o e h = h e
+-- the check of a fetch
+abbrev pub check : State → Option Denied
+check s = right s.table s.active (held_ids s.frames) (fetch s)
+
+pub right_fetch : (s : State) → check s ≡ None → right_at (place_of s.table (pc_of s)) s.active (held_ids s.frames) Fetch (pc_of s) ≡ None
+unfolding right
+right_fetch s e = e
+
+pub begin_by : (left : ℕ) (s : State) (d : Option Denied) → check s ≡ d → begin left s ≡ begin_unless d left s
+unfolding begin
+begin_by left s d e = ap (λ x. begin_unless x left s) e
+
+-- where a module becomes active, it is entered
+enters_it : (m left : ℕ) (s : State) → is_id m s.active ≡ false → is_id m (enter left s).state.active ≡ true → (place_of s.table (pc_of s) ≡ Entry m) × (s.active ≡ None)
+enters_it m left s n =
+    enter_ways s (λ e. is_id m e.state.active ≡ true → (place_of s.table (pc_of s) ≡ Entry m) × (s.active ≡ None)) left (λ h. absurd (let c : true ≡ false = sym h ∙ n in cc))
+    (λ id p a h. let same : id ≡ m = grind (arith, nat_tests) in (p ∙ ap Entry same, a))
+
+entered_is : (m left : ℕ) (s : State) → place_of s.table (pc_of s) ≡ Entry m → s.active ≡ None → enter left s ≡ record { state = record s { active = Some m; caller = left; after = Next }; events = Event.Enter m left ∷ [] }
+unfolding enter
+entered_is m left s p o = ap (λ x. enter_at x s.active left s) p ∙ ap (λ x. enter_at (Entry m) x left s) o
+
+pub entry_free : (m : ℕ) (s : State) → check s ≡ None → place_of s.table (pc_of s) ≡ Entry m → is_held m (held_ids s.frames) ≡ false
+entry_free m s e p =
+    let e' = subst (λ q. right_at q s.active (held_ids s.frames) Fetch (pc_of s) ≡ None) p (right_fetch s e) in
+    refused_not (is_held m (held_ids s.frames)) Rule.Reenter (pc_of s) m e'
 
 module _ (m : ℕ) (own : Module) (key text : List ℕ) where
   -- ---- unary: what one run does
-  pub check : State → Option Denied
-  check s = right s.table s.active (held_ids s.frames) (fetch s)
-
   check_veiled : (s : State) → check (veil m own s) ≡ check s
-  unfolding check
   check_veiled s = ap (λ ids. right s.table s.active ids (fetch s)) (held_ids_veiled m s.frames)
 
-  check_place : (s : State) → check s ≡ None → right_at (place_of s.table (pc_of s)) s.active (held_ids s.frames) Fetch (pc_of s) ≡ None
-  unfolding check right
-  check_place s e = e
-
-  pub begin_by : (left : ℕ) (s : State) (d : Option Denied) → check s ≡ d → begin left s ≡ begin_unless d left s
-  unfolding check begin
-  begin_by left s d e = ap (λ x. begin_unless x left s) e
-
   -- entering another, or going on
-  pub entered_active : (p : Place) (o : Option ℕ) (left : ℕ) (s : State) → s.active ≡ o → is_id m s.active ≡ false → is_id m (enter_at p o left s).state.active ≡ true → (p ≡ Entry m) × (o ≡ None)
-  entered_active (Entry id) None left s e n h = let same : id ≡ m = grind (arith, nat_tests) in (ap Entry same, refl)
-  entered_active _ _ left s e n h = absurd (let c : true ≡ false = sym h ∙ n in cc)
-
-  entered_light : (p : Place) (o : Option ℕ) (left : ℕ) (s : State) → (let t = (enter_at p o left s).state in (t.memory ≡ s.memory) × (t.frames ≡ s.frames) × (t.key ≡ s.key) × (t.table ≡ s.table) × (t.core ≡ s.core))
-  entered_light (Entry id) None left s = (refl, refl, refl, refl, refl)
-  entered_light _ _ left s = (refl, refl, refl, refl, refl)
-
-  enter_light : (left : ℕ) (s : State) → (let t = (enter left s).state in (t.memory ≡ s.memory) × (t.frames ≡ s.frames) × (t.key ≡ s.key) × (t.table ≡ s.table) × (t.core ≡ s.core))
-  unfolding enter
-  enter_light left s = entered_light (place_of s.table (pc_of s)) s.active left s
-
-  pub enter_stays : (left : ℕ) (s : State) → Keeps m own key text s → is_id m s.active ≡ false → is_id m (enter left s).state.active ≡ false → Stays m own key text s (enter left s).state
-  enter_stays left s k n o =
-      let l = enter_light left s in
-      let t = (enter left s).state in
-      let e1 : one_if (is_id m t.active) ≡ 0 = ap one_if o in
-      let e2 : times m t.frames ≡ times m s.frames = ap (times m) l.1 in
-      let k1 = k.once in
-      record {
-        bytes = ap (section own.ram) l.0;
-        run = ap (λ c. run_by c m t) o ∙ ap (find_held m) l.1 ∙ ap (λ c. run_by c m s) (sym n);
-        keeps = record { sound = subst (Sound m own) (sym l.3) k.sound; key_is = l.2 ∙ k.key_is; text_is = ap (section own.text) l.0 ∙ k.text_is; once = omega arith; proper = λ h. absurd (let c : true ≡ false = sym h ∙ o in cc) };
-      }
+  enter_stays : (left : ℕ) (s : State) → Keeps m own key text s → is_id m s.active ≡ false → is_id m (enter left s).state.active ≡ false → Stays m own key text s (enter left s).state
+  enter_stays left s k n =
+      enter_ways s (λ e. is_id m e.state.active ≡ false → Stays m own key text s e.state) left (λ o. stays_self m own key text s k)
+      (λ id p a o. stays_by m own key text s (record s { active = Some id; caller = left; after = Next }) k n o refl refl refl refl refl k.sound)
 
   stays_then : (s t u : State) → Stays m own key text s t → Stays m own key text t u → Stays m own key text s u
   stays_then s t u x y = record { bytes = y.bytes ∙ x.bytes; run = y.run ∙ x.run; keeps = y.keeps }
 
   act_entered : (left : ℕ) (s : State) → Keeps m own key text s → is_id m s.active ≡ false → is_id m (enter left s).state.active ≡ false → IsCore s.core → check s ≡ None → Outer m own key text (enter left s).state (act (enter left s).state) (act (veil m own (enter left s).state))
   act_entered left s k n o ok e =
-      let l = enter_light left s in
-      let t = (enter left s).state in
-      let even : pc_of t % 2 ≡ 0 = ap (λ c. reg c 0 % 2) l.4 ∙ ok.even_pc in
-      let same : place_of t.table (pc_of t) ≡ place_of s.table (pc_of s) = ap (λ u. place_of u (pc_of t)) l.3 ∙ ap (λ c. place_of s.table (reg c 0)) l.4 in
-      let ne = fetch_data m (place_of s.table (pc_of s)) s.active (held_ids s.frames) (pc_of s) (check_place s e) in
-      act_outer m own key text t (enter_stays left s k n o).keeps o even (λ d. ne (sym same ∙ d))
+      let ne = fetch_data m (place_of s.table (pc_of s)) s.active (held_ids s.frames) (pc_of s) (right_fetch s e) in
+      enter_ways s (λ e. Keeps m own key text e.state → is_id m e.state.active ≡ false → Outer m own key text e.state (act e.state) (act (veil m own e.state))) left
+      (λ k o. act_outer m own key text s k o ok.even_pc ne) (λ id p a k o. act_outer m own key text (record s { active = Some id; caller = left; after = Next }) k o ok.even_pc ne)
+      (enter_stays left s k n o).keeps o
 
   -- a turn's instruction, where it enters no module or another
-  pub begin_outer : (left : ℕ) (s : State) → Keeps m own key text s → is_id m s.active ≡ false → is_id m (enter left s).state.active ≡ false → IsCore s.core → check s ≡ None → Outer m own key text s (begin left s) (begin left (veil m own s))
+  begin_outer : (left : ℕ) (s : State) → Keeps m own key text s → is_id m s.active ≡ false → is_id m (enter left s).state.active ≡ false → IsCore s.core → check s ≡ None → Outer m own key text s (begin left s) (begin left (veil m own s))
   begin_outer left s k n o ok e =
       let t = enter left s in
       let x = act_entered left s k n o ok e in
@@ -127,35 +112,15 @@ module _ (m : ℕ) (own : Module) (key text : List ℕ) where
       (subst (λ u. Outer m own key text s (told t.events (act t.state)) u) (sym b')
       (record { same = ap (λ u. told t.events u) x.same; stays = stays_then s t.state (act t.state).state (enter_stays left s k n o) x.stays }))
 
-  pub denied_outer : (d : Denied) (s : State) → Keeps m own key text s → is_id m s.active ≡ false → Outer m own key text s (denied d s) (denied d (veil m own s))
-  denied_outer d s k n = outer_by m own key text s k n (denied d s) (denied d (veil m own s)) refl refl (light m own key text s k n (denied d s).state (refl, refl, refl, refl, refl))
+  -- what changes none of memory, table, key, frames and active module
+  light_outer : (f : State → Step) (s : State) (k : Keeps m own key text s) (n : is_id m s.active ≡ false) → f (veil m own s) ≡ veil_step m own (f s) → Light m own key text s k n (f s).state → Outer m own key text s (f s) (f (veil m own s))
+  light_outer f s k n e l = outer_by m own key text s k n (f s) (f (veil m own s)) l.0 e (light m own key text s k n (f s).state l)
 
-  padded_veiled : (n : ℕ) (s : State) → padded n (veil m own s) ≡ veil m own (padded n s)
-  padded_veiled zero s = refl
-  padded_veiled (suc n) s = refl
-
-  padded_light : (n : ℕ) (s : State) → ((padded n s).active ≡ s.active) × ((padded n s).memory ≡ s.memory) × ((padded n s).frames ≡ s.frames) × ((padded n s).key ≡ s.key) × ((padded n s).table ≡ s.table)
-  padded_light zero s = (refl, refl, refl, refl, refl)
-  padded_light (suc n) s = (refl, refl, refl, refl, refl)
-
-  pub padded_outer : (n : ℕ) (s : State) → Keeps m own key text s → is_id m s.active ≡ false → Outer m own key text s (quiet (padded n s)) (quiet (padded n (veil m own s)))
-  padded_outer n s k o = outer_by m own key text s k o (quiet (padded n s)) (quiet (padded n (veil m own s))) (padded_light n s).0 (ap quiet (padded_veiled n s)) (light m own key text s k o (padded n s) (padded_light n s))
-
-  pub waits_outer : (p : Phase) (s : State) → Keeps m own key text s → is_id m s.active ≡ false → Outer m own key text s (quiet (record s { phase = p })) (quiet (record (veil m own s) { phase = p }))
-  waits_outer p s k o = outer_by m own key text s k o (quiet (record s { phase = p })) (quiet (record (veil m own s) { phase = p })) refl refl (light m own key text s k o (record s { phase = p }) (refl, refl, refl, refl, refl))
-
-  pub quiet_outer : (s : State) → Keeps m own key text s → is_id m s.active ≡ false → Outer m own key text s (quiet s) (quiet (veil m own s))
-  quiet_outer s k o = outer_by m own key text s k o (quiet s) (quiet (veil m own s)) refl refl (light m own key text s k o s (refl, refl, refl, refl, refl))
-
-  inside_none : (v id : ℕ) (s : State) → is_id m (arrive_inside v id s).state.active ≡ false
-  unfolding arrive_inside
-  inside_none v id s = refl
-
-  pub inside_outer : (v id : ℕ) (s : State) → Keeps m own key text s → s.active ≡ Some id → is_id m s.active ≡ false → Outer m own key text s (arrive_inside v id s) (arrive_inside v id (veil m own s))
+  inside_outer : (v id : ℕ) (s : State) → Keeps m own key text s → s.active ≡ Some id → is_id m s.active ≡ false → Outer m own key text s (arrive_inside v id s) (arrive_inside v id (veil m own s))
   inside_outer v id s k e o =
       let ne : (id == m) ≡ false = ap (is_id m) (sym e) ∙ o in
       record {
-        same = arrive_hidden m own false s.table k.sound v id s ne ∙ ap (λ c. let u : Step = record (arrive_inside v id s) { state = hide_by c m own (arrive_inside v id s).state } in u) (sym (inside_none v id s));
+        same = arrive_hidden m own false s.table k.sound v id s ne ∙ ap (λ c. let u : Step = record (arrive_inside v id s) { state = hide_by c m own (arrive_inside v id s).state } in u) (sym (arrived_none m v id s));
         stays = arrive_inside_stays m own key text false v id s k e ne;
       }
 
@@ -168,15 +133,6 @@ module _ (m : ℕ) (own : Module) (key text : List ℕ) where
 
   unfoldable pub start : ℕ → State → Lone
   start left s = record { core = s.core; data_bytes = section own.ram s.memory; rest = 0; closing = false }
-
-  pub entered_is : (left : ℕ) (s : State) → place_of s.table (pc_of s) ≡ Entry m → s.active ≡ None → enter left s ≡ record { state = record s { active = Some m; caller = left; after = Next }; events = Event.Enter m left ∷ [] }
-  unfolding enter
-  entered_is left s p o = ap (λ x. enter_at x s.active left s) p ∙ ap (λ x. enter_at (Entry m) x left s) o
-
-  pub entry_free : (s : State) → check s ≡ None → place_of s.table (pc_of s) ≡ Entry m → is_held m (held_ids s.frames) ≡ false
-  entry_free s e p =
-      let e' = subst (λ q. right_at q s.active (held_ids s.frames) Fetch (pc_of s) ≡ None) p (check_place s e) in
-      refused_not (is_held m (held_ids s.frames)) Rule.Reenter (pc_of s) m e'
 
   pub entered_keeps : (left : ℕ) (s : State) → Keeps m own key text s → is_held m (held_ids s.frames) ≡ false → Keeps m own key text (entered left s)
   unfolding entered
@@ -195,7 +151,7 @@ module _ (m : ℕ) (own : Module) (key text : List ℕ) where
       let o = k.sound.text_order in
       holds_in own.text (pc_of s) (omega arith) (omega arith)
 
-  pub entered_moves : (left : ℕ) (s : State) (insn : Insn) → Keeps m own key text s → IsCore s.core → place_of s.table (pc_of s) ≡ Entry m → next_insn (job_of key own text left) (start left s) ≡ Some insn → Moves m own (entered left s) (lone_does (job_of key own text left) insn (start left s)) (act (record s { active = Some m; caller = left; after = Next }))
+  pub entered_moves : (left : ℕ) (s : State) (insn : Insn) → Keeps m own key text s → IsCore s.core → place_of s.table (pc_of s) ≡ Entry m → next_insn (job_of key own text left) (start left s) ≡ Some insn → Moves own (entered left s) (lone_does (job_of key own text left) insn (start left s)) (act (record s { active = Some m; caller = left; after = Next }))
   unfolding entered start
   entered_moves left s insn k ok p e =
       let t : State = record s { active = Some m; caller = left; after = Next } in
@@ -224,6 +180,10 @@ module _ (m : ℕ) (own : Module) (key text : List ℕ) where
 
     join : (f : State → Step) → Outer m own key text a (f a) (f (veil m own a)) → Outer m own key text b (f b) (f (veil m own b)) → Alike m own key text (f a) (f b)
     join f oa ob = outer_alike m own key text a b (f a) (f b) (f (veil m own a)) (f (veil m own b)) ready oa ob (ap f veiled)
+
+    -- a step that is light in both
+    both_light : (f : State → Step) → ((s : State) → f (veil m own s) ≡ veil_step m own (f s)) → ((s : State) (k : Keeps m own key text s) (n : is_id m s.active ≡ false) → Light m own key text s k n (f s).state) → Alike m own key text (f a) (f b)
+    both_light f e l = join f (light_outer f a ka out_a (e a) (l a ka out_a)) (light_outer f b kb out_b (e b) (l b kb out_b))
 
     check_same : check a ≡ check b
     check_same = sym (check_veiled a) ∙ ap check veiled ∙ check_veiled b
@@ -256,16 +216,16 @@ module _ (m : ℕ) (own : Module) (key text : List ℕ) where
         let eb : check b ≡ None = sym check_same ∙ e in
         let pb : place_of b.table (pc_of b) ≡ Entry m = ap (λ (s : State). place_of s.table (reg s.core 0)) (sym veiled) ∙ p in
         let ob : b.active ≡ None = sym same_active ∙ o in
-        let fa = entry_free a e p in
-        let fb = entry_free b eb pb in
-        let ev = evenly_start left small p (found_none m a.frames fa) (found_none m b.frames fb) in
+        let fa = entry_free m a e p in
+        let fb = entry_free m b eb pb in
+        let ev = evenly_start left small p (none_found m a.frames (times_none m a.frames fa)) (none_found m b.frames (times_none m b.frames fb)) in
         let j = job_of key own text left in
         let t0 = next_together key own text j (start left a) (start left b) ev in
         let t1 = subst (λ d. Together key own text j d (doing j (start left b)) (start left a) (start left b)) (start_doing left a ka ok_a p) t0 in
         let t2 = subst (λ d. Together key own text j (does_or_breaks (next_insn j (start left a))) d (start left a) (start left b)) (start_doing left b kb ok_b pb) t1 in
         let r = first_together left (next_insn j (start left a)) (next_insn j (start left b)) refl refl p pb fa fb t2 in
-        let ba : begin left a ≡ told (Event.Enter m left ∷ []) (act (at_entry left a)) = begin_by left a None e ∙ ap (λ u. told u.events (act u.state)) (entered_is left a p o) in
-        let bb : begin left b ≡ told (Event.Enter m left ∷ []) (act (at_entry left b)) = begin_by left b None eb ∙ ap (λ u. told u.events (act u.state)) (entered_is left b pb ob) in
+        let ba : begin left a ≡ told (Event.Enter m left ∷ []) (act (at_entry left a)) = begin_by left a None e ∙ ap (λ u. told u.events (act u.state)) (entered_is m left a p o) in
+        let bb : begin left b ≡ told (Event.Enter m left ∷ []) (act (at_entry left b)) = begin_by left b None eb ∙ ap (λ u. told u.events (act u.state)) (entered_is m left b pb ob) in
         let x : Alike m own key text (told (Event.Enter m left ∷ []) (act (at_entry left a))) (told (Event.Enter m left ∷ []) (act (at_entry left b))) = record { events = ap (λ es. Event.Enter m left ∷ es) r.events; related = r.related } in
         subst (λ u. Alike m own key text u (begin left b)) (sym ba) (subst (λ u. Alike m own key text (told (Event.Enter m left ∷ []) (act (at_entry left a))) u) (sym bb) x)
 
@@ -274,12 +234,8 @@ module _ (m : ℕ) (own : Module) (key text : List ℕ) where
     enter_same left =
         ap (λ u. u.state.active) (sym (enter_veiled m own left a)) ∙ ap (λ s. (enter left s).state.active) veiled ∙ ap (λ u. u.state.active) (enter_veiled m own left b)
 
-    enter_cases : (left : ℕ) → is_id m (enter left a).state.active ≡ true → (place_of a.table (pc_of a) ≡ Entry m) × (a.active ≡ None)
-    unfolding enter
-    enter_cases left h = entered_active (place_of a.table (pc_of a)) a.active left a refl out_a h
-
     begin_free : (left : ℕ) (c : Bool) → left < 65536 → check a ≡ None → is_id m (enter left a).state.active ≡ c → Alike m own key text (begin left a) (begin left b)
-    begin_free left true small e h = let p = enter_cases left h in enters left small e p.0 p.1
+    begin_free left true small e h = let p = enters_it m left a out_a h in enters left small e p.0 p.1
     begin_free left false small e h =
         join (begin left) (begin_outer left a ka out_a h ok_a e) (begin_outer left b kb out_b (ap (is_id m) (sym (enter_same left)) ∙ h) ok_b (sym check_same ∙ e))
 
@@ -287,27 +243,27 @@ module _ (m : ℕ) (own : Module) (key text : List ℕ) where
     begin_checked left None small e = begin_free left (is_id m (enter left a).state.active) small e refl
     begin_checked left (Some d) small e =
         let eb : check b ≡ Some d = sym check_same ∙ e in
-        let r = join (denied d) (denied_outer d a ka out_a) (denied_outer d b kb out_b) in
+        let r = both_light (denied d) (λ s. refl) (λ s k n. (refl, refl, refl, refl, refl)) in
         subst (λ u. Alike m own key text u (begin left b)) (sym (begin_by left a (Some d) e)) (subst (λ u. Alike m own key text (denied d a) u) (sym (begin_by left b (Some d) eb)) r)
 
     begin_alike : (left : ℕ) → left < 65536 → Alike m own key text (begin left a) (begin left b)
     begin_alike left small = begin_checked left (check a) small refl
 
     unless_alike : (x : Bool) (left : ℕ) → left < 65536 → Alike m own key text (turn_unless x left a) (turn_unless x left b)
-    unless_alike true left small = join quiet (quiet_outer a ka out_a) (quiet_outer b kb out_b)
+    unless_alike true left small = both_light quiet (λ s. refl) (λ s k n. (refl, refl, refl, refl, refl))
     unless_alike false left small = begin_alike left small
 
     -- ---- the cases of a turn
     by_cases : (d o : Option ℕ) (p : Phase) (left : ℕ) → left < 65536 → a.active ≡ o → Alike m own key text (turn_at d o p left a) (turn_at d o p left b)
-    by_cases d o (Pad n) left small e = join (λ s. quiet (padded (n - 1) s)) (padded_outer (n - 1) a ka out_a) (padded_outer (n - 1) b kb out_b)
+    by_cases d o (Pad n) left small e = both_light (λ s. quiet (padded (n - 1) s)) (λ s. refl) (λ s k n. (refl, refl, refl, refl, refl))
     by_cases (Some v) (Some id) (Run r) left small e =
         join (arrive_inside v id) (inside_outer v id a ka e out_a) (inside_outer v id b kb (sym same_active ∙ e) out_b)
     by_cases (Some v) None (Run zero) left small e = join (arrive_outside v) (arrive_outside_outer m own key text a ka out_a v) (arrive_outside_outer m own key text b kb out_b v)
-    by_cases None None (Run (suc r)) left small e = join (λ s. quiet (record s { phase = Run r })) (waits_outer (Run r) a ka out_a) (waits_outer (Run r) b kb out_b)
+    by_cases None None (Run (suc r)) left small e = both_light (λ s. quiet (record s { phase = Run r })) (λ s. refl) (λ s k n. (refl, refl, refl, refl, refl))
     by_cases None None (Run zero) left small e =
         subst (λ x. Alike m own key text (turn_unless (asleep a) left a) (turn_unless x left b)) (ap asleep veiled) (unless_alike (asleep a) left small)
     by_cases None (Some id) (Run zero) left small e = begin_alike left small
-    by_cases _ _ (Run (suc r)) left small e = join (λ s. quiet (record s { phase = Run r })) (waits_outer (Run r) a ka out_a) (waits_outer (Run r) b kb out_b)
+    by_cases _ _ (Run (suc r)) left small e = both_light (λ s. quiet (record s { phase = Run r })) (λ s. refl) (λ s k n. (refl, refl, refl, refl, refl))
 
     pub outside_turn : (left : ℕ) → left < 65536 → Alike m own key text (turn left a) (turn left b)
     outside_turn left small =
@@ -320,66 +276,25 @@ module _ (m : ℕ) (own : Module) (key text : List ℕ) where
 
   -- ---- one run alone: while the module is held, no turn moves it
   module _ (s : State) (k : Keeps m own key text s) (out : is_id m s.active ≡ false) (ok : IsCore s.core) (r : Backup) (held : find_held m s.frames ≡ Some r) where
-    enter_is : (left : ℕ) → is_id m (enter left s).state.active ≡ true → (place_of s.table (pc_of s) ≡ Entry m) × (s.active ≡ None)
-    unfolding enter
-    enter_is left h = entered_active (place_of s.table (pc_of s)) s.active left s refl out h
+    -- and it stays held
+    abbrev Held_on : Step → Type 0
+    Held_on t = Stays m own key text s t.state × (is_id m t.state.active ≡ false)
 
-    free_stays : (left : ℕ) (c : Bool) → check s ≡ None → is_id m (enter left s).state.active ≡ c → Stays m own key text s (begin left s).state
-    free_stays left true e h =
-        let p = enter_is left h in
-        absurd (let n = found_none m s.frames (entry_free s e p.0) in let f : None ≡ Some r = sym n ∙ held in cc)
-    free_stays left false e h = (begin_outer left s k out h ok e).stays
+    begin_held : (left : ℕ) → Held_on (begin left s)
+    begin_held left = begin_ways s Held_on left (λ d. ((light_outer (denied d) s k out refl (refl, refl, refl, refl, refl)).stays, out)) (λ e. by (is_id m (enter left s).state.active) refl e)
+      where
+        by : (c : Bool) → is_id m (enter left s).state.active ≡ c → check s ≡ None → Held_on (told (enter left s).events (act (enter left s).state))
+        by true h e =
+            let n = none_found m s.frames (times_none m s.frames (entry_free m s e (enters_it m left s out h).0)) in
+            absurd (let f : None ≡ Some r = sym n ∙ held in cc)
+        by false h e =
+            let t = (enter left s).state in
+            let x = enter_stays left s k out h in
+            (stays_then s t (act t).state x (act_entered left s k out h ok e).stays, ap (is_id m) (act_active m own key text t x.keeps h) ∙ h)
 
-    checked_stays : (left : ℕ) (d : Option Denied) → check s ≡ d → Stays m own key text s (begin left s).state
-    checked_stays left None e = free_stays left (is_id m (enter left s).state.active) e refl
-    checked_stays left (Some d) e = subst (λ u. Stays m own key text s u.state) (sym (begin_by left s (Some d) e)) (denied_outer d s k out).stays
-
-    asleep_stays : (x : Bool) (left : ℕ) → Stays m own key text s (turn_unless x left s).state
-    asleep_stays true left = (quiet_outer s k out).stays
-    asleep_stays false left = checked_stays left (check s) refl
-
-    cases_stay : (d o : Option ℕ) (p : Phase) (left : ℕ) → s.active ≡ o → Stays m own key text s (turn_at d o p left s).state
-    cases_stay d o (Pad n) left e = (padded_outer (n - 1) s k out).stays
-    cases_stay (Some v) (Some id) (Run x) left e = (inside_outer v id s k e out).stays
-    cases_stay (Some v) None (Run zero) left e = (arrive_outside_outer m own key text s k out v).stays
-    cases_stay None None (Run (suc x)) left e = (waits_outer (Run x) s k out).stays
-    cases_stay None None (Run zero) left e = asleep_stays (asleep s) left
-    cases_stay None (Some id) (Run zero) left e = checked_stays left (check s) refl
-    cases_stay _ _ (Run (suc x)) left e = (waits_outer (Run x) s k out).stays
-
-    pub held_turn : (left : ℕ) → Stays m own key text s (turn left s).state
-    held_turn left = subst (λ t. Stays m own key text s t.state) (sym (turn_is left s)) (cases_stay (due s) s.active s.phase left refl)
-
-    -- and none enters it
-    free_idle : (left : ℕ) (c : Bool) → check s ≡ None → is_id m (enter left s).state.active ≡ c → is_id m (begin left s).state.active ≡ false
-    free_idle left true e h =
-        let p = enter_is left h in
-        absurd (let n = found_none m s.frames (entry_free s e p.0) in let f : None ≡ Some r = sym n ∙ held in cc)
-    free_idle left false e h =
-        let t = enter left s in
-        let b : begin left s ≡ told t.events (act t.state) = begin_by left s None e in
-        let a = act_active m own key text t.state (enter_stays left s k out h).keeps h in
-        ap (λ u. is_id m u.state.active) b ∙ ap (is_id m) a ∙ h
-
-    checked_idle : (left : ℕ) (d : Option Denied) → check s ≡ d → is_id m (begin left s).state.active ≡ false
-    checked_idle left None e = free_idle left (is_id m (enter left s).state.active) e refl
-    checked_idle left (Some d) e = ap (λ u. is_id m u.state.active) (begin_by left s (Some d) e) ∙ out
-
-    asleep_idle : (x : Bool) (left : ℕ) → is_id m (turn_unless x left s).state.active ≡ false
-    asleep_idle true left = out
-    asleep_idle false left = checked_idle left (check s) refl
-
-    arrived_idle : (v : ℕ) → is_id m (arrive_outside v s).state.active ≡ false
-    arrived_idle v = ap (is_id m) (arrived_active m own key text s k out v) ∙ out
-
-    cases_idle : (d o : Option ℕ) (p : Phase) (left : ℕ) → is_id m (turn_at d o p left s).state.active ≡ false
-    cases_idle d o (Pad n) left = ap (is_id m) (padded_light (n - 1) s).0 ∙ out
-    cases_idle (Some v) (Some id) (Run x) left = inside_none v id s
-    cases_idle (Some v) None (Run zero) left = arrived_idle v
-    cases_idle None None (Run (suc x)) left = out
-    cases_idle None None (Run zero) left = asleep_idle (asleep s) left
-    cases_idle None (Some id) (Run zero) left = checked_idle left (check s) refl
-    cases_idle _ _ (Run (suc x)) left = out
-
-    pub held_idle : (left : ℕ) → is_id m (turn left s).state.active ≡ false
-    held_idle left = ap (λ t. is_id m t.state.active) (turn_is left s) ∙ cases_idle (due s) s.active s.phase left
+    pub held_turn : (left : ℕ) → Held_on (turn left s)
+    held_turn left =
+        turn_ways s Held_on left (λ n p. ((light_outer (λ u. quiet (padded (n - 1) u)) s k out refl (refl, refl, refl, refl, refl)).stays, out))
+        (λ x. ((light_outer (λ u. quiet (record u { phase = Run x })) s k out refl (refl, refl, refl, refl, refl)).stays, out)) (stays_self m own key text s k, out) (begin_held left)
+        (λ v id d a. ((inside_outer v id s k a out).stays, arrived_none m v id s))
+        (λ v d. ((arrive_outside_outer m own key text s k out v).stays, ap (is_id m) (arrived_active m own key text s k out v) ∙ out))

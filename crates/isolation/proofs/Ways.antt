@@ -1,9 +1,10 @@
 -- What holds of each way that a step can go holds of the step.
-use Rattle.std.proofs.Common.{◌≡◌, ℕ, zero, suc, ◌-◌, List, ◌∷◌, refl, sym, subst, Bool, true, false, Option, Some, None}
+use Rattle.std.proofs.Common.{◌≡◌, ℕ, zero, suc, ◌+◌, ◌-◌, List, [], ◌∷◌, refl, sym, subst, Bool, true, false, Option, Some, None}
 use Rattle.sm_words.specs.Words.{word_at}
 use Rattle.insn_decode.specs.Code.{insn_of, length_of}
 use Rattle.insn_decode.specs.declared.insn.Insn.{Insn}
 use Rattle.insn_decode.specs.declared.insn.Insn.TheVariants.{Reti}
+use Rattle.schedule_file.specs.declared.Entry.{Entry as Scheduled}
 use Rattle.mod_layout.specs.Table.{place_of}
 use Rattle.mod_layout.specs.declared.Module.{Module}
 use Rattle.mod_layout.specs.declared.Place.{Place}
@@ -12,6 +13,10 @@ use Rattle.pc_access.specs.Rights.{first_denied, right}
 use Rattle.pc_access.specs.declared.Denied.{Denied}
 use Rattle.pc_access.specs.declared.Rule.{Rule}
 use Rattle.pc_access.specs.declared.Rule.TheVariants.{Illegal, Straddle, RetiInside}
+use Rattle.pc_access.specs.declared.Stop.{Stop}
+use Rattle.devices.specs.Devices.{Devices}
+use Rattle.image_text.specs.Image.{Image}
+use Rattle.irq_padding.specs.declared.TheConstants.{RESUMPTION}
 use Rattle.reg_backup.specs.Held.{held_ids}
 use Rattle.reg_backup.specs.declared.backup.Backup.{Backup}
 use Rattle.reg_backup.specs.declared.backup.After.{After}
@@ -23,8 +28,11 @@ use Rattle.reg_backup.specs.declared.frames.Frame.TheVariants.{Module as Held}
 use Rattle.attest.specs.Done.{own_of}
 use Rattle.cpu_step.specs.Asked.{asks}
 use Rattle.cpu_step.specs.Fetched.{insn_at}
-use Rattle.written_machine.specs.Cycle.{Step, Settled, quiet, told, stopped, denied, unsettled, pc_of, byte_of, in_text, resume_from, close_of, leave_if, settle_by, settle_in, settle, due, arrive_inside, arrive_outside, push_both, pushes, who_of, perform, perform_unless, attempt, returned_by, reti_by, reti_of, act_by, act_on, act_home, act_first, act, is_home, enter_at, enter, fetch, begin_unless, begin, padded, asleep, turn}
+use Rattle.cpu_step.specs.Plan.{past}
+use Rattle.tracer.specs.declared.Event.TheVariants.{Enter as Entered}
+use Rattle.written_machine.specs.Cycle.{Step, Settled, quiet, told, stopped, denied, unsettled, pc_of, byte_of, in_text, resume_from, close_of, leave_if, settle_by, settle_in, settle, ticked, due, arrive_inside, arrive_outside, push_both, pushes, who_of, perform, perform_unless, attempt, without_newest, returned_by, reti_by, reti_of, act_by, act_on, act_home, act_first, act, is_home, enter_at, enter, fetch, begin_unless, begin, padded, asleep, turn, counted_by, move, cycle_by}
 use Rattle.written_machine.specs.State.{State}
+use Rattle.written_machine.specs.View.{at, boot}
 use Rattle.isolation.proofs.Cases.{turn_at, turn_unless, turn_is}
 
 module _ (s : State) (P : Step → Type 0) where
@@ -149,3 +157,106 @@ module _ (s : State) (P : Settled → Type 0) (stays : P (unsettled s)) (resumes
   pub settle_ways : P (settle s)
   unfolding settle
   settle_ways = by_phase s.phase
+
+-- ---- what holds of each way from any state
+
+-- of an instruction: a stop, its accesses and changes, a return that takes off a frame, and one to a module
+pub record EachAct (A : State → Step → Type 0) : Type 0 where
+  pub stops : (rule : Rule) (addr id : ℕ) (s : State) → A s (stopped rule addr id s)
+  pub performs : (insn : Insn) (s : State) → A s (perform insn s)
+  pub returns : (s : State) → A s (perform Reti s) → A s (returned_by None (perform Reti s))
+  pub resumes : (s : State) → s.active ≡ None → A s (quiet (record s { core = past Reti s.core; phase = Run RESUMPTION; after = Resume }))
+
+-- of a turn, by what holds of its instruction: also where it enters a module
+pub record EachTurn (A P : State → Step → Type 0) : Type 0 where
+  pub refuses : (d : Denied) (s : State) → P s (denied d s)
+  pub acts : (s : State) → A s (act s) → P s (act s)
+  pub enters : (left id : ℕ) (s : State) → right s.table s.active (held_ids s.frames) (fetch s) ≡ None → place_of s.table (pc_of s) ≡ Entry id → s.active ≡ None →
+      (let e : State = record s { active = Some id; caller = left; after = Next } in A e (act e) → P s (told (Entered id left ∷ []) (act e)))
+  pub pads : (n : ℕ) (s : State) → s.phase ≡ Pad n → P s (quiet (padded (n - 1) s))
+  pub waits : (r : ℕ) (s : State) → P s (quiet (record s { phase = Run r }))
+  pub sleeps : (s : State) → P s (quiet s)
+  pub inside : (v id : ℕ) (s : State) → due s ≡ Some v → s.active ≡ Some id → P s (arrive_inside v id s)
+  pub pushes : (v : ℕ) (s : State) → due s ≡ Some v → P s (push_both None v s)
+
+module _ (A : State → Step → Type 0) (each : EachAct A) where
+  each_attempt : (insn : Insn) (s : State) → A s (attempt insn s)
+  each_attempt insn s = attempt_ways s (A s) insn (λ d. each.stops d.rule d.addr d.module s) (λ e. each.performs insn s)
+
+  each_return : (s : State) → A s (let t = attempt Reti s in returned_by t.state.stop t)
+  each_return s = attempt_ways s (λ t. A s (returned_by t.state.stop t)) Reti (λ d. each.stops d.rule d.addr d.module s) (λ e. by (perform Reti s).state.stop)
+    where
+      by : (o : Option Stop) → A s (returned_by o (perform Reti s))
+      by (Some stop) = each.performs Reti s
+      by None = each.returns s (each.performs Reti s)
+
+  pub each_act : (s : State) → A s (act s)
+  each_act s = act_ways s (A s) (λ rule. each.stops rule (pc_of s) 0 s) (λ b fs e. each.resumes s e) (each_return s) (λ insn. each_attempt insn s)
+
+  pub each_turn : (P : State → Step → Type 0) → EachTurn A P → (left : ℕ) (s : State) → P s (turn left s)
+  each_turn P turns left s =
+      turn_ways s (P s) left (λ n p. turns.pads n s p) (λ r. turns.waits r s) (turns.sleeps s) begins (λ v id d a. turns.inside v id s d a)
+      (λ v d. outside_ways s (P s) v (λ r. turns.refuses r s) (turns.pushes v s d))
+    where
+      begins : P s (begin left s)
+      begins =
+          begin_ways s (P s) left (λ d. turns.refuses d s)
+          (λ free. enter_ways s (λ e. P s (told e.events (act e.state))) left (turns.acts s (each_act s)) (λ id p a. turns.enters left id s free p a (each_act _)))
+
+-- of states: what each way keeps, every cycle keeps
+pub record Lasting (I : State → Type 0) : Type 0 where
+  pub rests : (s : State) (d : Devices) (n : ℕ) (p : Phase) (o : Option Stop) → I s → I (record s { devices = d; cycle = n; phase = p; stop = o })
+  pub performs : (insn : Insn) (s : State) → I s → I (perform insn s).state
+  pub returns : (s : State) → I s → I (record s { frames = without_newest s.frames })
+  pub resumes : (s : State) → s.active ≡ None → I s → I (record s { core = past Reti s.core; phase = Run RESUMPTION; after = Resume })
+  pub enters : (left id : ℕ) (s : State) → right s.table s.active (held_ids s.frames) (fetch s) ≡ None → place_of s.table (pc_of s) ≡ Entry id → s.active ≡ None →
+      I s → I (record s { active = Some id; caller = left; after = Next })
+  pub pads : (n : ℕ) (s : State) → I s → I (padded n s)
+  pub inside : (v id : ℕ) (s : State) → due s ≡ Some v → s.active ≡ Some id → I s → I (arrive_inside v id s).state
+  pub pushes : (v : ℕ) (s : State) → due s ≡ Some v → I s → I (push_both None v s).state
+  pub settles : (s : State) → I s → I (settle s).state
+
+-- a cycle's last step changes the number alone
+pub counted_holds : (P : State → Type 0) → ((s : State) (n : ℕ) → P s → P (record s { cycle = n })) → (o : Option Stop) (t : Step) → P t.state → P (counted_by o t).state
+counted_holds P keep (Some stop) t h = h
+counted_holds P keep None t h = keep t.state (t.state.cycle + 1) h
+
+module _ (I : State → Type 0) (l : Lasting I) where
+  abbrev Keeps : State → Step → Type 0
+  Keeps s t = I s → I t.state
+
+  acts_last : EachAct Keeps
+  acts_last = record {
+    stops = λ rule addr id s h. l.rests s s.devices s.cycle s.phase _ h;
+    performs = l.performs;
+    returns = λ s k h. l.returns (perform Reti s).state (k h);
+    resumes = l.resumes;
+  }
+
+  turns_last : EachTurn Keeps Keeps
+  turns_last = record {
+    refuses = λ d s h. l.rests s s.devices s.cycle s.phase _ h;
+    acts = λ s k. k;
+    enters = λ left id s free p a k h. k (l.enters left id s free p a h);
+    pads = λ n s p. l.pads (n - 1) s;
+    waits = λ r s h. l.rests s s.devices s.cycle (Run r) s.stop h;
+    sleeps = λ s h. h;
+    inside = l.inside;
+    pushes = l.pushes;
+  }
+
+  move_lasts : (s : State) → I s → I (move s).state
+  unfolding move ticked
+  move_lasts s h =
+      let u = settle (ticked s) in
+      let t = turn u.left u.state in
+      counted_holds I (λ s n g. l.rests s s.devices n s.phase s.stop g) t.state.stop (told u.events t)
+      (each_turn Keeps acts_last Keeps turns_last u.left u.state (l.settles (ticked s) (l.rests s _ s.cycle s.phase s.stop h)))
+
+  cycle_lasts : (o : Option Stop) (s : State) → I s → I (cycle_by o s).state
+  cycle_lasts (Some stop) s h = h
+  cycle_lasts None s h = move_lasts s h
+
+  pub always : (a : Image) (schedule : List Scheduled) (k : ℕ) → I (boot a schedule) → I (at a schedule k)
+  always a schedule zero h = h
+  always a schedule (suc k) h = cycle_lasts (at a schedule k).stop (at a schedule k) (always a schedule k h)

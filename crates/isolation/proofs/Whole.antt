@@ -1,8 +1,8 @@
 -- A whole cycle, and a whole run.
-use Rattle.std.proofs.Common.{◌≡◌, ◌≢◌, inl, inr, ⊎_elim, ℕ, zero, suc, ◌+◌, ◌*◌, ◌<◌, ◌≤◌, List, [], ◌∷◌, ◌++◌, length, get_or, map, replicate, refl, sym, ap, ◌∙◌, subst, arith, Bool, true, false, nat_lt, cond, ◌==◌, Option, Some, None, ext_get_or, ◌/◌, ◌%◌}
+use Rattle.std.proofs.Common.{◌≡◌, ◌≢◌, inl, inr, ⊎_elim, ℕ, zero, suc, ◌+◌, ◌*◌, ◌<◌, ◌≤◌, List, [], ◌∷◌, ◌++◌, length, get_or, map, replicate, refl, sym, ap, ◌∙◌, subst, arith, Bool, true, false, nat_lt, cond, ◌==◌, Option, Some, None, ext_get_or}
 use Rattle.std.proofs.lemmas.Bool.Decides.{nat_tests}
 use mathlib.Core.Path.{fun_ext}
-use Rattle.sm_words.specs.Words.{cleared, put, word_at, IsCore, reg, bit}
+use Rattle.sm_words.specs.Words.{cleared, put, word_at, IsCore}
 use Rattle.schedule_file.specs.declared.Entry.{Entry as Scheduled}
 use Rattle.mod_layout.specs.Table.{Table, size_of, module_of, holds, place_of}
 use Rattle.mod_layout.specs.declared.Module.{Module}
@@ -28,10 +28,10 @@ use Rattle.isolation.proofs.Bytes.{Out, get_cleared, length_cleared, get_in_clea
 use Rattle.isolation.proofs.Ending.{Settles, outside_settles, inside_settles}
 use Rattle.isolation.proofs.Fine.{Fine, FineSettled, settled_fine, fine_at}
 use Rattle.isolation.proofs.Hide.{veil_if, veil_frames, veil_core, hide_by, hide}
-use Rattle.isolation.proofs.Relation.{run_by, Keeps, Twins, Ready, Stays, Related, Alike, twins_stay_before, seen_veiled}
+use Rattle.isolation.proofs.Relation.{run_by, Keeps, Twins, Ready, Stays, Related, Alike, twins_stay_before, seen, related_seen, seen_veiled}
 use Rattle.isolation.proofs.Rights.{Sound, out_place, holds_in}
 use Rattle.isolation.proofs.Settled.{ticked_stays}
-use Rattle.isolation.proofs.Settling.{ticked_hidden}
+use Rattle.isolation.proofs.Settling.{ticked_hidden, gie_hidden}
 use Rattle.isolation.proofs.Tables.{sound_from}
 use Rattle.isolation.proofs.Turns.{outside_turn}
 use Rattle.std.proofs.lemmas.Bool.{cases_lt}
@@ -87,22 +87,23 @@ module _ (m : ℕ) (own : Module) (key text : List ℕ) where
       twins_stay_before m own key text a b (counts a) (counts b) t (counts_stays a t.keeps_a) (counts_stays b t.keeps_b)
       (counts_hidden (is_id m a.active) a ∙ ap counts t.seen ∙ sym (counts_hidden (is_id m b.active) b)) refl refl
 
-  seen_part : (c : Bool) (s : State) → ((hide_by c m own s).stop ≡ s.stop) × ((hide_by c m own s).devices ≡ s.devices)
-  seen_part true s = (refl, refl)
-  seen_part false s = (refl, refl)
+  stop_hidden : (c : Bool) (s : State) → (hide_by c m own s).stop ≡ s.stop
+  stop_hidden true s = refl
+  stop_hidden false s = refl
 
   seen_stop : (a b : State) → hide m own a ≡ hide m own b → a.stop ≡ b.stop
-  seen_stop a b e = sym (seen_part (is_id m a.active) a).0 ∙ ap (λ s. s.stop) e ∙ (seen_part (is_id m b.active) b).0
+  seen_stop a b e = seen m own key text (λ s. s.stop) stop_hidden a b e
 
-  seen_devices : (a b : State) → hide m own a ≡ hide m own b → a.devices ≡ b.devices
-  seen_devices a b e = sym (seen_part (is_id m a.active) a).1 ∙ ap (λ s. s.devices) e ∙ (seen_part (is_id m b.active) b).1
+  devices_hidden : (c : Bool) (s : State) → (hide_by c m own s).devices ≡ s.devices
+  devices_hidden true s = refl
+  devices_hidden false s = refl
 
   counted_alike_by : (o : Option Stop) (es : List Event) (ta tb : Step) → ta.events ≡ tb.events → Twins m own key text ta.state tb.state → Alike m own key text (counted_by o (told es ta)) (counted_by o (told es tb))
   unfolding counts
   counted_alike_by (Some stop) es ta tb e t = record { events = ap (λ x. es ++ x) e; related = inr t }
   counted_alike_by None es ta tb e t =
       record {
-        events = ap (λ x. es ++ x ++ sent_event ta.state.devices.sent) e ∙ ap (λ (d : Devices). es ++ tb.events ++ sent_event d.sent) (seen_devices ta.state tb.state t.seen);
+        events = ap (λ x. es ++ x ++ sent_event ta.state.devices.sent) e ∙ ap (λ (d : Devices). es ++ tb.events ++ sent_event d.sent) (seen m own key text (λ s. s.devices) devices_hidden ta.state tb.state t.seen);
         related = inr (counts_twins ta.state tb.state t);
       }
 
@@ -197,9 +198,6 @@ out_holds r x e h = grind (arith, nat_tests)
 not_in : (r : Section) (x : ℕ) → holds r x ≡ false → r.start < r.end → r.start ≤ x → r.start + size_of r ≤ x
 not_in r x e o low = ⊎_elim (λ lt. absurd (let t = holds_in r x low lt in let f : true ≡ false = sym t ∙ e in cc)) (λ ge. omega arith) (cases_lt x r.end)
 
-bit_of_bit : (v : ℕ) → bit 8 (8 * bit 8 v) ≡ bit 8 v
-bit_of_bit v = let q : ℕ = v / 8 in let e : (8 * (q % 2)) / 8 % 2 ≡ q % 2 = omega arith in e
-
 module _ (a b : Image) (m : ℕ) (schedule : List Scheduled) (peers : Peers a b m) where
   abbrev own : Module
   own = peers.owner
@@ -278,23 +276,11 @@ module _ (a b : Image) (m : ℕ) (schedule : List Scheduled) (peers : Peers a b 
   caller_hidden true s = refl
   caller_hidden false s = refl
 
-  gie_hidden : (c : Bool) (s : State) → is_gie (hide_by c m own s).core ≡ is_gie s.core
-  gie_hidden true s = ap (λ b. b == 1) (bit_of_bit (reg s.core 2))
-  gie_hidden false s = refl
-
-  callers_alike : (s t : State) → Related m own a.node_key (section own.text a.memory) s t → s.caller ≡ t.caller
-  callers_alike s t r =
-      ⊎_elim (λ p. ap (λ u. u.caller) p) (λ x. sym (caller_hidden (is_id m s.active) s) ∙ ap (λ u. u.caller) x.seen ∙ caller_hidden (is_id m t.active) t) r
-
   pub callers_equal : (k : ℕ) → (at a schedule k).caller ≡ (at b schedule k).caller
-  callers_equal k = callers_alike (at a schedule k) (at b schedule k) (related_at k)
-
-  gie_alike : (s t : State) → Related m own a.node_key (section own.text a.memory) s t → is_gie s.core ≡ is_gie t.core
-  gie_alike s t r =
-      ⊎_elim (λ p. ap (λ u. is_gie u.core) p) (λ x. sym (gie_hidden (is_id m s.active) s) ∙ ap (λ u. is_gie u.core) x.seen ∙ gie_hidden (is_id m t.active) t) r
+  callers_equal k = related_seen m own a.node_key (section own.text a.memory) (λ s. s.caller) caller_hidden (at a schedule k) (at b schedule k) (related_at k)
 
   pub gie_equal : (k : ℕ) → is_gie (at a schedule k).core ≡ is_gie (at b schedule k).core
-  gie_equal k = gie_alike (at a schedule k) (at b schedule k) (related_at k)
+  gie_equal k = related_seen m own a.node_key (section own.text a.memory) (λ s. is_gie s.core) (gie_hidden m own) (at a schedule k) (at b schedule k) (related_at k)
 
   gone_alike : (s t : State) → Related m own a.node_key (section own.text a.memory) s t → module_of m s.table ≡ None → s ≡ t
   gone_alike s t r e =

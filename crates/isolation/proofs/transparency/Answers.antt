@@ -1,4 +1,4 @@
-use Rattle.isolation.proofs.Owner.{entered_known}
+use Rattle.isolation.proofs.Entering.{entered_known}
 use Rattle.isolation.proofs.Transparent.{transparent}
 use Rattle.isolation.proofs.transparency.Goals as goal
 
