@@ -202,7 +202,7 @@ module _ (m : ℕ) (own : Module) (key text : List ℕ) (a b : State) (ready : R
           let id : (m == m) ≡ true = grind (arith, nat_tests) in
           record {
             same = arrive_hidden m own true s.table k.sound v m s id ∙ ap (λ c. let u : Step = record (arrive_inside v m s) { state = hide_by c m own (arrive_inside v m s).state } in u) (sym (arrived_none m v m s));
-            stays = arrive_inside_stays m own key text true v m s k e id;
+            stays = arrive_inside_stays m own key text v m s k e;
           }
 
   finish : (left : ℕ) (x y : Doing) → due a ≡ None → due b ≡ None →

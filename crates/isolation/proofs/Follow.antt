@@ -1,6 +1,5 @@
 -- One run alone: a module that is active or held stands where it stands by itself.
-use Rattle.std.proofs.Common.{◌≡◌, ◌≢◌, ℕ, ◌+◌, List, [], ◌∷◌, ◌++◌, refl, sym, ap, ◌∙◌, subst, arith, Bool, true, false, ◌&&◌, ◌==◌, Option, Some, None, is_none}
-use Rattle.std.proofs.lemmas.Bool.Decides.{nat_tests}
+use Rattle.std.proofs.Common.{◌≡◌, ◌≢◌, ℕ, ◌+◌, List, [], ◌∷◌, ◌++◌, refl, sym, ap, ◌∙◌, subst, Bool, true, false, ◌&&◌, Option, Some, None, is_none}
 use Rattle.isolation.proofs.Tame.{ticked_active}
 use Rattle.sm_words.specs.Words.{IsCore}
 use Rattle.mod_layout.specs.declared.Module.{Module}
@@ -20,8 +19,9 @@ use Rattle.isolation.proofs.Ending.{settled_as, settled_doing}
 use Rattle.isolation.proofs.Fine.{Fine, settled_fine}
 use Rattle.isolation.proofs.Inside.{Moves}
 use Rattle.isolation.proofs.Relation.{find_held, backup_of, run_by, run_of, lone_of, IsOpen, Keeps, Stays}
-use Rattle.isolation.proofs.Settled.{close_is, settle_stays, ticked_stays, arrive_inside_stays}
+use Rattle.isolation.proofs.Settled.{close_is, settle_stays, passing_stays, ticked_stays, arrive_inside_stays}
 use Rattle.isolation.proofs.Turns.{held_turn}
+use Rattle.isolation.proofs.Ways.{counted_holds}
 
 module _ (m : ℕ) (own : Module) (key text : List ℕ) (from : ℕ) where
   abbrev pub job : Job
@@ -110,8 +110,7 @@ module _ (m : ℕ) (own : Module) (key text : List ℕ) (from : ℕ) where
   turn_active left None s la f act ok e nb = goes left (doing job la) s la f act ok e refl (nb refl)
   turn_active left (Some v) s la f act ok e nb =
       let a = active_some m s.active act in
-      let same : (m == m) ≡ true = grind (arith, nat_tests) in
-      let st = arrive_inside_stays m own key text true v m s f.follows.keeps a same in
+      let st = arrive_inside_stays m own key text v m s f.follows.keeps a in
       let o = f.now in
       subst (λ u. Follows u.state la) (sym (arrives_at m v left s a (f.follows.keeps.proper act).0 e)) (follow_stays s (arrive_inside v m s).state la f.follows st (λ h. o))
 
@@ -130,20 +129,8 @@ module _ (m : ℕ) (own : Module) (key text : List ℕ) (from : ℕ) where
   no_end_front (_ ∷ es) fs n = no_end_front es fs n
 
   pub counted_follows : (o : Option Stop) (t : Step) (la : Lone) → Follows t.state la → Follows (counted_by o t).state la
-  counted_follows (Some stop) t la f = f
-  counted_follows None t la f =
-      record {
-        keeps = record { sound = f.keeps.sound; key_is = f.keeps.key_is; text_is = f.keeps.text_is; once = f.keeps.once; proper = f.keeps.proper };
-        backup = f.backup;
-        run = count_run (is_id m t.state.active) ∙ f.run;
-        lone = f.lone;
-        caller = f.caller;
-        opened = f.opened;
-      }
-    where
-      count_run : (c : Bool) → run_by c m (record t.state { cycle = t.state.cycle + 1 }) ≡ run_by c m t.state
-      count_run true = refl
-      count_run false = refl
+  counted_follows o t la f =
+      counted_holds (λ u. Follows u la) (λ s n g. follow_stays s (record s { cycle = n }) la g (passing_stays m own key text s s.devices n g.keeps) g.opened) o t f
 
   pub counted_events : (o : Option Stop) (es : List Event) (t : Step) → NoEnd m (counted_by o (told es t)).events → NoEnd m es
   counted_events (Some stop) es t n = no_end_front es t.events n

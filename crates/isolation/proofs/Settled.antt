@@ -5,6 +5,7 @@ use Rattle.sm_words.specs.Sums.{one_if}
 use Rattle.mod_layout.specs.Table.{size_of}
 use Rattle.mod_layout.specs.declared.Module.{Module}
 use Rattle.pc_access.specs.Rights.{is_id}
+use Rattle.devices.specs.Devices.{Devices}
 use Rattle.reg_backup.specs.Saved.{closing_after, is_close}
 use Rattle.reg_backup.specs.declared.backup.After.TheVariants.{Next}
 use Rattle.reg_backup.specs.declared.backup.Backup.{Backup}
@@ -28,14 +29,17 @@ module _ (m : ℕ) (own : Module) (key text : List ℕ) where
   abbrev St : State → State → Type 0
   St = Stays m own key text
 
-  -- ---- the devices
+  -- ---- devices and cycles
+  pub passing_stays : (s : State) (d : Devices) (n : ℕ) → Keeps m own key text s → St s (record s { devices = d; cycle = n })
+  passing_stays s d n k = record { bytes = refl; run = same_run (is_id m s.active); keeps = record { sound = k.sound; key_is = k.key_is; text_is = k.text_is; once = k.once; proper = k.proper } }
+    where
+      same_run : (c : Bool) → run_by c m (record s { devices = d; cycle = n }) ≡ run_by c m s
+      same_run true = refl
+      same_run false = refl
+
   pub ticked_stays : (s : State) → Keeps m own key text s → St s (ticked s)
   unfolding ticked
-  ticked_stays s k = record { bytes = refl; run = ticked_run (is_id m s.active); keeps = record { sound = k.sound; key_is = k.key_is; text_is = k.text_is; once = k.once; proper = k.proper } }
-    where
-      ticked_run : (c : Bool) → run_by c m (ticked s) ≡ run_by c m s
-      ticked_run true = refl
-      ticked_run false = refl
+  ticked_stays s k = passing_stays s _ s.cycle k
 
   module _ (s : State) (k : Keeps m own key text s) (other : is_id m s.active ≡ false) where
     self : St s s
@@ -81,26 +85,17 @@ module _ (m : ℕ) (own : Module) (key text : List ℕ) where
         (λ id a. stays_by m own key text s (leave_if false (Some id) s).state k other refl refl refl refl refl refl k.sound)
 
   -- ---- an arrival inside a module, also this one
-  pub arrive_inside_stays : (c : Bool) (v id : ℕ) (s : State) → Keeps m own key text s → s.active ≡ Some id → (id == m) ≡ c → St s (arrive_inside v id s).state
+  pub arrive_inside_stays : (v id : ℕ) (s : State) → Keeps m own key text s → s.active ≡ Some id → St s (arrive_inside v id s).state
   unfolding arrive_inside
-  arrive_inside_stays true v id s k e f =
-      let b = backup_of id s in
-      let same : id ≡ m = grind (arith, nat_tests) in
-      let a1 : one_if (is_id m s.active) ≡ 1 = ap (λ a. one_if (is_id m a)) e ∙ ap one_if f in
-      let a2 : one_if (id == m) ≡ 1 = ap one_if f in
+  arrive_inside_stays v id s k e =
+      let a : one_if (is_id m s.active) ≡ one_if (id == m) = ap (λ o. one_if (is_id m o)) e in
       let k1 = k.once in
       record {
         bytes = refl;
-        run = ap (λ x. found_if x b (find_held m s.frames)) f ∙ ap (λ i. Some (backup_of i s)) same ∙ ap (λ c. run_by c m s) (sym (ap (is_id m) e ∙ f));
+        run = arrived_run (id == m) refl ∙ ap (λ o. run_by (is_id m o) m s) (sym e);
         keeps = record { sound = k.sound; key_is = k.key_is; text_is = k.text_is; once = omega arith; proper = λ h. absurd cc };
       }
-  arrive_inside_stays false v id s k e f =
-      let b = backup_of id s in
-      let a1 : one_if (is_id m s.active) ≡ 0 = ap (λ a. one_if (is_id m a)) e ∙ ap one_if f in
-      let a2 : one_if (id == m) ≡ 0 = ap one_if f in
-      let k1 = k.once in
-      record {
-        bytes = refl;
-        run = ap (λ x. found_if x b (find_held m s.frames)) f ∙ ap (λ c. run_by c m s) (sym (ap (is_id m) e ∙ f));
-        keeps = record { sound = k.sound; key_is = k.key_is; text_is = k.text_is; once = omega arith; proper = λ h. absurd cc };
-      }
+    where
+      arrived_run : (c : Bool) → (id == m) ≡ c → found_if c (backup_of id s) (find_held m s.frames) ≡ run_by c m s
+      arrived_run true f = let same : id ≡ m = grind (arith, nat_tests) in ap (λ i. Some (backup_of i s)) same
+      arrived_run false f = refl

@@ -121,7 +121,7 @@ module _ (m : ℕ) (own : Module) (key text : List ℕ) where
       let ne : (id == m) ≡ false = ap (is_id m) (sym e) ∙ o in
       record {
         same = arrive_hidden m own false s.table k.sound v id s ne ∙ ap (λ c. let u : Step = record (arrive_inside v id s) { state = hide_by c m own (arrive_inside v id s).state } in u) (sym (arrived_none m v id s));
-        stays = arrive_inside_stays m own key text false v id s k e ne;
+        stays = arrive_inside_stays m own key text v id s k e;
       }
 
   -- ---- entering the module

@@ -28,9 +28,9 @@ use Rattle.isolation.proofs.Bytes.{Out, get_cleared, length_cleared, get_in_clea
 use Rattle.isolation.proofs.Ending.{Settles, outside_settles, inside_settles}
 use Rattle.isolation.proofs.Fine.{Fine, FineSettled, settled_fine, fine_at}
 use Rattle.isolation.proofs.Hide.{veil_if, veil_frames, veil_core, hide_by, hide}
-use Rattle.isolation.proofs.Relation.{run_by, Keeps, Twins, Ready, Stays, Related, Alike, twins_stay_before, seen, related_seen, seen_veiled}
+use Rattle.isolation.proofs.Relation.{Twins, Ready, Related, Alike, twins_stay_before, seen, related_seen, seen_veiled}
 use Rattle.isolation.proofs.Rights.{Sound, out_place, holds_in}
-use Rattle.isolation.proofs.Settled.{ticked_stays}
+use Rattle.isolation.proofs.Settled.{passing_stays, ticked_stays}
 use Rattle.isolation.proofs.Settling.{ticked_hidden, gie_hidden}
 use Rattle.isolation.proofs.Tables.{sound_from}
 use Rattle.isolation.proofs.Turns.{outside_turn}
@@ -72,19 +72,10 @@ module _ (m : ℕ) (own : Module) (key text : List ℕ) where
   counts_hidden true s = refl
   counts_hidden false s = refl
 
-  counts_run : (c : Bool) (s : State) → run_by c m (counts s) ≡ run_by c m s
-  unfolding counts
-  counts_run true s = refl
-  counts_run false s = refl
-
-  counts_stays : (s : State) → Keeps m own key text s → Stays m own key text s (counts s)
-  unfolding counts
-  counts_stays s k = record { bytes = refl; run = counts_run (is_id m s.active) s; keeps = record { sound = k.sound; key_is = k.key_is; text_is = k.text_is; once = k.once; proper = k.proper } }
-
   counts_twins : (a b : State) → Twins m own key text a b → Twins m own key text (counts a) (counts b)
   unfolding counts
   counts_twins a b t =
-      twins_stay_before m own key text a b (counts a) (counts b) t (counts_stays a t.keeps_a) (counts_stays b t.keeps_b)
+      twins_stay_before m own key text a b (counts a) (counts b) t (passing_stays m own key text a a.devices (a.cycle + 1) t.keeps_a) (passing_stays m own key text b b.devices (b.cycle + 1) t.keeps_b)
       (counts_hidden (is_id m a.active) a ∙ ap counts t.seen ∙ sym (counts_hidden (is_id m b.active) b)) refl refl
 
   stop_hidden : (c : Bool) (s : State) → (hide_by c m own s).stop ≡ s.stop
@@ -189,9 +180,6 @@ module _ (m : ℕ) (own : Module) (key text : List ℕ) where
       r
 
 -- ---- the beginning
-pub sound_image : (a : Image) (m : ℕ) (own : Module) → IsImage a → module_of m a.table ≡ Some own → Sound m own a.table
-sound_image a m own ok e = sound_from m own a.table ok.table_ok e
-
 out_holds : (r : Section) (x : ℕ) → r.end ≤ 65504 → 65504 ≤ x → holds r x ≡ false
 out_holds r x e h = grind (arith, nat_tests)
 
@@ -203,7 +191,7 @@ module _ (a b : Image) (m : ℕ) (schedule : List Scheduled) (peers : Peers a b 
   own = peers.owner
 
   sound_a : Sound m own a.table
-  sound_a = sound_image a m own peers.image_a peers.owned
+  sound_a = sound_from m own a.table peers.image_a.table_ok peers.owned
 
   out_byte : (x : ℕ) → 65504 ≤ x → get_or a.memory x 0 ≡ get_or b.memory x 0
   out_byte x h = peers.elsewhere x (out_holds own.ram x sound_a.ram_high h)
@@ -261,16 +249,13 @@ module _ (a b : Image) (m : ℕ) (schedule : List Scheduled) (peers : Peers a b 
   pub events_equal : (k : ℕ) → (cycle (at a schedule k)).events ≡ (cycle (at b schedule k)).events
   events_equal k = (cycle_alike m own a.node_key (section own.text a.memory) (at a schedule k) (at b schedule k) (related_at k) (fine_at a schedule k peers.image_a) (fine_at b schedule k peers.image_b)).events
 
-  outside_alike : (s t : State) → Related m own a.node_key (section own.text a.memory) s t → is_id m s.active ≡ false → (s.phase ≡ t.phase) × (s.after ≡ t.after)
-  outside_alike s t r e =
-      ⊎_elim
-      (λ p. (ap (λ u. u.phase) p, ap (λ u. u.after) p))
-      (λ x. let v = seen_veiled m own a.node_key (section own.text a.memory) s t x.seen e in (ap (λ u. u.phase) v, ap (λ u. u.after) v))
-      r
-
   -- while the module is not active
   pub phases_equal : (k : ℕ) → is_id m (at a schedule k).active ≡ false → ((at a schedule k).phase ≡ (at b schedule k).phase) × ((at a schedule k).after ≡ (at b schedule k).after)
-  phases_equal k e = outside_alike (at a schedule k) (at b schedule k) (related_at k) e
+  phases_equal k e =
+      ⊎_elim
+      (λ p. (ap (λ u. u.phase) p, ap (λ u. u.after) p))
+      (λ x. let v = seen_veiled m own a.node_key (section own.text a.memory) (at a schedule k) (at b schedule k) x.seen e in (ap (λ u. u.phase) v, ap (λ u. u.after) v))
+      (related_at k)
 
   caller_hidden : (c : Bool) (s : State) → (hide_by c m own s).caller ≡ s.caller
   caller_hidden true s = refl
@@ -282,10 +267,6 @@ module _ (a b : Image) (m : ℕ) (schedule : List Scheduled) (peers : Peers a b 
   pub gie_equal : (k : ℕ) → is_gie (at a schedule k).core ≡ is_gie (at b schedule k).core
   gie_equal k = related_seen m own a.node_key (section own.text a.memory) (λ s. is_gie s.core) (gie_hidden m own) (at a schedule k) (at b schedule k) (related_at k)
 
-  gone_alike : (s t : State) → Related m own a.node_key (section own.text a.memory) s t → module_of m s.table ≡ None → s ≡ t
-  gone_alike s t r e =
-      ⊎_elim (λ p. p) (λ x. absurd (let f : Some own ≡ None = sym x.keeps_a.sound.found ∙ e in cc)) r
-
   -- once the module has left the table
   pub gone_equal : (k : ℕ) → module_of m (at a schedule k).table ≡ None → at a schedule k ≡ at b schedule k
-  gone_equal k e = gone_alike (at a schedule k) (at b schedule k) (related_at k) e
+  gone_equal k e = ⊎_elim (λ p. p) (λ x. absurd (let f : Some own ≡ None = sym x.keeps_a.sound.found ∙ e in cc)) (related_at k)
