@@ -1,27 +1,40 @@
--- One run alone: a module that is active or held stands where it stands by itself.
-use Rattle.std.proofs.Common.{◌≡◌, ◌≢◌, ℕ, ◌+◌, List, [], ◌∷◌, ◌++◌, refl, sym, ap, ◌∙◌, subst, Bool, true, false, ◌&&◌, Option, Some, None, is_none}
-use Rattle.isolation.proofs.Tame.{ticked_active}
+-- One run alone: whatever interrupts it, a module that is active or held stands where it stands by itself.
+use Rattle.std.proofs.Common.{◌≡◌, ◌≢◌, ℕ, ◌+◌, List, [], ◌∷◌, ◌++◌, refl, sym, ap, ◌∙◌, subst, Bool, true, false, ◌&&◌, Option, Some, None, is_none, zero, suc, ◌<◌, arith, cond, nat_le, ◌==◌}
+use Rattle.isolation.proofs.Tame.{ticked_active, settled_key, key_at}
 use Rattle.sm_words.specs.Words.{IsCore}
 use Rattle.mod_layout.specs.declared.Module.{Module}
-use Rattle.pc_access.specs.Rights.{is_id}
+use Rattle.pc_access.specs.Rights.{is_id, is_held}
 use Rattle.pc_access.specs.declared.Stop.{Stop}
 use Rattle.reg_backup.specs.Saved.{closing_after}
 use Rattle.reg_backup.specs.declared.backup.Backup.{Backup}
 use Rattle.reg_backup.specs.declared.backup.Phase.TheVariants.{Run}
-use Rattle.cpu_step.specs.Lone.{Job, Lone, Doing, Closes, Leaves, Breaks, doing, lone_step_by, lone_step, job_of}
+use Rattle.cpu_step.specs.Lone.{Job, Lone, Doing, Closes, Leaves, Breaks, doing, lone_step_by, lone_step, job_of, Outcome, Exit, Closing, Broken, Running, later, Waits, Does, lone_does, lone_after, in_time, outcome, does_or_breaks, next_insn}
 use Rattle.tracer.specs.declared.Event.{Event}
-use Rattle.written_machine.specs.Cycle.{Step, told, due, ticked, settle, turn, arrive_inside, sent_event, counted_by, move, cycle_by}
+use Rattle.written_machine.specs.Cycle.{Step, told, due, ticked, settle, turn, arrive_inside, sent_event, counted_by, move, cycle_by, pc_of, act, cycle, after_cycles}
 use Rattle.written_machine.specs.Peers.{section}
 use Rattle.written_machine.specs.State.{State}
-use Rattle.isolation.specs.Calls.{works, NoEnd}
+use Rattle.isolation.specs.Calls.{works, NoEnd, worked, Enters, NotBroken, Stands, backup_of, run_by}
 use Rattle.isolation.proofs.Active.{active_some, turn_moves, arrives_at}
 use Rattle.isolation.proofs.Ending.{settled_as, settled_doing}
-use Rattle.isolation.proofs.Fine.{Fine, settled_fine}
+use Rattle.isolation.proofs.Fine.{Fine, settled_fine, fine_at}
 use Rattle.isolation.proofs.Inside.{Moves}
 use Rattle.isolation.proofs.Relation.{find_held, backup_of, run_by, run_of, lone_of, IsOpen, Keeps, Stays}
 use Rattle.isolation.proofs.Settled.{close_is, settle_stays, passing_stays, ticked_stays, arrive_inside_stays}
-use Rattle.isolation.proofs.Turns.{held_turn}
+use Rattle.isolation.proofs.Turns.{held_turn, times_none, entry_free, at_entry, entered, entered_keeps, entered_moves, start, start_doing}
 use Rattle.isolation.proofs.Ways.{counted_holds}
+use Rattle.sm_words.specs.Sums.{one_if}
+use Rattle.insn_decode.specs.declared.insn.Insn.{Insn}
+use Rattle.schedule_file.specs.declared.Entry.{Entry as Scheduled}
+use Rattle.mod_layout.specs.Table.{place_of, module_of}
+use Rattle.mod_layout.specs.declared.Place.TheVariants.{Entry}
+use Rattle.image_text.specs.Image.{Image, IsImage}
+use Rattle.reg_backup.specs.Held.{held_ids}
+use Rattle.written_machine.specs.View.{at}
+use Rattle.cpu_step.proofs.LoneLemmas.{after_step}
+use Rattle.isolation.proofs.EvenBy.{cut, outcome_cut}
+use Rattle.isolation.proofs.Entering.{Enters_now, cycle_entering}
+use Rattle.isolation.proofs.Tables.{sound_from}
+use Rattle.std.proofs.lemmas.Bool.Decides.{nat_tests}
 
 module _ (m : ℕ) (own : Module) (key text : List ℕ) (from : ℕ) where
   abbrev pub job : Job
@@ -154,3 +167,180 @@ module _ (m : ℕ) (own : Module) (key text : List ℕ) (from : ℕ) where
   cycle_follows None s la e f fine n nb =
       let w : works m s ≡ (is_id m (settle (ticked s)).state.active && is_none (due (settle (ticked s)).state)) = ap (λ x. is_none x && is_id m (settle (ticked s)).state.active && is_none (due (settle (ticked s)).state)) e in
       subst (λ c. Follows (move s).state (stepped c la)) (sym w) (move_follows s la f fine n (λ h. nb (w ∙ h)))
+
+module _ (j : Job) where
+  not_later : (o : Outcome) → NotBroken (later o) → NotBroken o
+  not_later (Broken d k) h = h
+  not_later _ h = tt
+
+  unbroken_if : (b : Bool) (o : Outcome) → NotBroken o → NotBroken (cond b o Running)
+  unbroken_if true o h = h
+  unbroken_if false o h = tt
+
+  cut_unbroken : (n : ℕ) (o : Outcome) → NotBroken o → NotBroken (cut n o)
+  cut_unbroken n (Exit c d k) h = unbroken_if (nat_le k n) (Exit c d k) h
+  cut_unbroken n (Closing c d k) h = unbroken_if (nat_le k n) (Closing c d k) h
+  cut_unbroken n (Broken d k) h = absurd h
+  cut_unbroken n Running h = tt
+
+  -- an outcome that is not broken in time was not broken earlier
+  not_sooner : (c : ℕ) (l : Lone) → NotBroken (outcome j (suc c) l) → NotBroken (outcome j c l)
+  not_sooner c l h = subst NotBroken (sym (outcome_cut j c (suc c) l (omega arith))) (cut_unbroken c (outcome j (suc c) l) h)
+
+  -- nor is the rest of it
+  rest_unbroken : (x : Doing) (c : ℕ) (l : Lone) → NotBroken (in_time x (outcome j c) j l) → NotBroken (outcome j c l) → NotBroken (outcome j c (lone_step_by x j l))
+  rest_unbroken (Waits r) c l h g = not_later (outcome j c (record l { rest = r })) h
+  rest_unbroken (Does i) c l h g = not_later (outcome j c (lone_does j i l)) h
+  rest_unbroken _ c l h g = g
+
+  pub never_breaks : (c : ℕ) (l : Lone) (i : ℕ) → i < c → NotBroken (outcome j c l) → doing j (lone_after j l i) ≢ Breaks
+  never_breaks zero l i lt h = absurd (omega arith)
+  never_breaks (suc c) l zero lt h = λ b. subst (λ d. NotBroken (in_time d (outcome j c) j l)) b h
+  never_breaks (suc c) l (suc i) lt h =
+      λ b. never_breaks c (lone_step j l) i (omega arith) (rest_unbroken (doing j l) c l h (not_sooner c l h)) (ap (doing j) (after_step j l i) ∙ b)
+
+module _ (m : ℕ) (own : Module) (key text : List ℕ) (from : ℕ) (s : State) (l0 : Lone) (c0 : ℕ) where
+  -- c0 cycles were done before; n more cycles of the machine pass
+  pub more_by : (b : Bool) (c : ℕ) (l : Lone) → NotBroken (outcome (job m own key text from) (c + cond b 1 0) l) → NotBroken (outcome (job m own key text from) c l)
+  more_by false c l h = subst (λ k. NotBroken (outcome (job m own key text from) k l)) (let e : c + 0 ≡ c = omega arith in e) h
+  more_by true c l h = not_sooner (job m own key text from) c l (subst (λ k. NotBroken (outcome (job m own key text from) k l)) (let e : c + 1 ≡ suc c = omega arith in e) h)
+
+  step_by : (b : Bool) (c : ℕ) (t : State) → Follows m own key text from t (cond b (lone_step (job m own key text from) (lone_after (job m own key text from) l0 c)) (lone_after (job m own key text from) l0 c)) → Follows m own key text from t (lone_after (job m own key text from) l0 (c + cond b 1 0))
+  step_by false c t f = subst (λ k. Follows m own key text from t (lone_after (job m own key text from) l0 k)) (let e : c ≡ c + 0 = omega arith in e) f
+  step_by true c t f = subst (λ k. Follows m own key text from t (lone_after (job m own key text from) l0 k)) (let e : suc c ≡ c + 1 = omega arith in e) f
+
+  pub follows_on : (n : ℕ) → Follows m own key text from s (lone_after (job m own key text from) l0 c0) → ((i : ℕ) → i < n → Fine (after_cycles s i)) → ((i : ℕ) → i < n → NoEnd m (cycle (after_cycles s i)).events) → NotBroken (outcome (job m own key text from) (c0 + worked m s n) l0) →
+      Follows m own key text from (after_cycles s n) (lone_after (job m own key text from) l0 (c0 + worked m s n))
+  follows_on zero f fine ends h = subst (λ k. Follows m own key text from s (lone_after (job m own key text from) l0 k)) (let e : c0 ≡ c0 + 0 = omega arith in e) f
+  follows_on (suc n) f fine ends h =
+      let t = after_cycles s n in
+      let c = c0 + worked m s n in
+      let b = works m t in
+      let assoc : c0 + (worked m s n + cond b 1 0) ≡ c + cond b 1 0 = omega arith in
+      let h' = subst (λ k. NotBroken (outcome (job m own key text from) k l0)) assoc h in
+      let g = follows_on n f (λ i lt. fine i (omega arith)) (λ i lt. ends i (omega arith)) (more_by b c l0 h') in
+      let r = cycle_follows m own key text from t.stop t (lone_after (job m own key text from) l0 c) refl g (fine n (omega arith)) (ends n (omega arith)) (λ e. never_breaks (job m own key text from) (c + cond b 1 0) l0 c (let one : c < c + 1 = omega arith in subst (λ x. c < c + cond x 1 0) (sym e) one) h') in
+      subst (λ k. Follows m own key text from (after_cycles s (suc n)) (lone_after (job m own key text from) l0 k)) (sym assoc) (step_by b c (after_cycles s (suc n)) (stepped_is b (after_cycles s (suc n)) (lone_after (job m own key text from) l0 c) r))
+    where
+      stepped_is : (b : Bool) (u : State) (l : Lone) → Follows m own key text from u (stepped m own key text from b l) → Follows m own key text from u (cond b (lone_step (job m own key text from) l) l)
+      stepped_is true u l f = f
+      stepped_is false u l f = f
+
+module _ (m : ℕ) (own : Module) (key text : List ℕ) (from : ℕ) where
+  begun_follows : (s : State) → Keeps m own key text s → is_held m (held_ids s.frames) ≡ false → Follows m own key text from (entered m own key text from s) (start m own key text from s)
+  unfolding entered start
+  begun_follows s k free =
+      let same : (m == m) ≡ true = grind (arith, nat_tests) in
+      let t = entered m own key text from s in
+      record {
+        keeps = entered_keeps m own key text from s k free;
+        backup = backup_of m t;
+        run = ap (λ c. run_by c m t) same;
+        lone = refl;
+        caller = refl;
+        opened = λ h. absurd (let c : true ≡ false = sym same ∙ h in cc);
+      }
+
+  is_entered : (s : State) → is_id m (entered m own key text from s).active ≡ true
+  unfolding entered
+  is_entered s = grind (arith, nat_tests)
+
+  -- the first instruction of a call
+  first_step : (next : Option Insn) (s : State) → Keeps m own key text s → IsCore s.core → place_of s.table (pc_of s) ≡ Entry m → is_held m (held_ids s.frames) ≡ false →
+      next_insn (job m own key text from) (start m own key text from s) ≡ next → doing (job m own key text from) (start m own key text from s) ≢ Breaks → Follows m own key text from (act (at_entry m own key text from s)).state (lone_step (job m own key text from) (start m own key text from s)) × (is_id m (act (at_entry m own key text from s)).state.active ≡ true)
+  first_step None s k ok here free e nb = absurd (nb (start_doing m own key text from s k ok here ∙ ap does_or_breaks e))
+  first_step (Some i) s k ok here free e nb =
+      let j = job m own key text from in
+      let l = start m own key text from s in
+      let d : doing j l ≡ Does i = start_doing m own key text from s k ok here ∙ ap does_or_breaks e in
+      let v = entered_moves m own key text from s i k ok here e in
+      let f = moved_follows m own key text from (entered m own key text from s) l (lone_does j i l) (act (at_entry m own key text from s)) (begun_follows s k free) (is_entered s) v in
+      (subst (λ x. Follows m own key text from (act (at_entry m own key text from s)).state (lone_step_by x j l)) (sym d) f, ap (λ x. is_id m x.state.active) v.is ∙ is_entered s)
+
+  enters_follows : (s : State) (u : Step) → Keeps m own key text s → IsCore s.core → Enters_now m from s u → doing (job m own key text from) (start m own key text from s) ≢ Breaks → Follows m own key text from u.state (lone_step (job m own key text from) (start m own key text from s)) × (is_id m u.state.active ≡ true)
+  enters_follows s u k ok en nb =
+      let free = entry_free m s en.free en.here in
+      let f = first_step (next_insn (job m own key text from) (start m own key text from s)) s k ok en.here free refl nb in
+      (subst (λ x. Follows m own key text from x.state (lone_step (job m own key text from) (start m own key text from s))) (sym en.is) f.0, ap (λ x. is_id m x.state.active) en.is ∙ f.1)
+
+  move_enters : (s : State) → Keeps m own key text (settle (ticked s)).state → Fine s → Enters_now m from (settle (ticked s)).state (turn (settle (ticked s)).left (settle (ticked s)).state) → doing (job m own key text from) (start m own key text from (settle (ticked s)).state) ≢ Breaks → Follows m own key text from (move s).state (lone_step (job m own key text from) (start m own key text from (settle (ticked s)).state)) × (is_id m (move s).state.active ≡ true)
+  unfolding move
+  move_enters s k fine en nb =
+      let u = settle (ticked s) in
+      let t = turn u.left u.state in
+      let e = enters_follows u.state t k (settled_fine s fine).fine.core_ok en nb in
+      (counted_follows m own key text from t.state.stop (told u.events t) (lone_step (job m own key text from) (start m own key text from u.state)) e.0, counted_holds (λ v. is_id m v.active ≡ true) (λ v n h. h) t.state.stop (told u.events t) e.1)
+
+pub after_more : (a : Image) (schedule : List Scheduled) (k i : ℕ) → after_cycles (at a schedule k) i ≡ at a schedule (i + k)
+after_more a schedule k zero = ap (at a schedule) (let e : k ≡ 0 + k = omega arith in e)
+after_more a schedule k (suc i) = ap (λ s. (cycle s).state) (after_more a schedule k i) ∙ ap (at a schedule) (let e : suc (i + k) ≡ suc i + k = omega arith in e)
+
+open_next : (n : Option Insn) → IsOpen (does_or_breaks n)
+open_next None = tt
+open_next (Some i) = tt
+
+-- an entry, with the module as it is then, and where the module stands a cycle later
+module _ (a : Image) (m : ℕ) (own : Module) (schedule : List Scheduled) (k from : ℕ) (ok : IsImage a)
+    (enters : Enters m from (cycle (at a schedule k)).events) (own_is : module_of m (settle (ticked (at a schedule k))).state.table ≡ Some own) where
+  abbrev entry_state : State
+  entry_state = (settle (ticked (at a schedule k))).state
+
+  abbrev pub entry_text : List ℕ
+  entry_text = let u = (settle (ticked (at a schedule k))).state in section own.text u.memory
+
+  abbrev pub entry_job : Job
+  entry_job = let u = (settle (ticked (at a schedule k))).state in job_of a.node_key own (section own.text u.memory) from
+
+  abbrev pub entry_lone : Lone
+  entry_lone = let u = (settle (ticked (at a schedule k))).state in record { core = u.core; data_bytes = section own.ram u.memory; rest = 0; closing = false }
+
+  entering : ((at a schedule k).stop ≡ None) × (let u = settle (ticked (at a schedule k)) in Enters_now m from u.state (turn u.left u.state))
+  entering = cycle_entering m from (at a schedule k) enters
+
+  pub entry_runs : (at a schedule k).stop ≡ None
+  entry_runs = entering.0
+
+  entry_fine : Fine entry_state
+  entry_fine = (settled_fine (at a schedule k) (fine_at a schedule k ok)).fine
+
+  entry_keeps : Keeps m own a.node_key entry_text entry_state
+  entry_keeps =
+      let u = entry_state in
+      let p = entering.1 in
+      let idle : is_id m u.active ≡ false = ap (is_id m) p.none in
+      let none = times_none m u.frames (entry_free m u p.free p.here) in
+      record {
+        sound = sound_from m own u.table entry_fine.table_ok own_is;
+        key_is = settled_key (at a schedule k) ∙ key_at a schedule k;
+        text_is = refl;
+        once = let e : one_if (is_id m u.active) ≡ 0 = ap one_if idle in omega arith;
+        proper = λ h. absurd (let c : true ≡ false = sym h ∙ idle in cc);
+      }
+
+  pub entry_open : IsOpen (doing entry_job entry_lone)
+  unfolding start
+  entry_open =
+      let u = entry_state in
+      subst IsOpen (sym (start_doing m own a.node_key entry_text from u entry_keeps entry_fine.core_ok entering.1.here)) (open_next (next_insn (job m own a.node_key entry_text from) (start m own a.node_key entry_text from u)))
+
+  pub entry_follows : doing entry_job entry_lone ≢ Breaks → Follows m own a.node_key entry_text from (at a schedule (suc k)) (lone_after entry_job entry_lone 1) × (is_id m (at a schedule (suc k)).active ≡ true)
+  unfolding start
+  entry_follows nb =
+      let s = at a schedule k in
+      let same : cycle s ≡ move s = ap (λ o. cycle_by o s) entry_runs in
+      let f = move_enters m own a.node_key entry_text from s entry_keeps (fine_at a schedule k ok) entering.1 nb in
+      (subst (λ x. Follows m own a.node_key entry_text from x.state (lone_step entry_job entry_lone)) (sym same) f.0, ap (λ x. is_id m x.state.active) same ∙ f.1)
+
+  pub fine_from : (i : ℕ) → Fine (after_cycles (at a schedule (suc k)) i)
+  fine_from i = subst Fine (sym (after_more a schedule (suc k) i)) (fine_at a schedule (i + suc k) ok)
+
+  -- the module stands in the machine where it stands by itself, whatever comes between
+  pub transparent : (n : ℕ) → ((i : ℕ) → i < n → NoEnd m (cycle (after_cycles (at a schedule (suc k)) i)).events) →
+      (let c = 1 + worked m (at a schedule (suc k)) n in
+      NotBroken (outcome entry_job c entry_lone) → Stands m own (after_cycles (at a schedule (suc k)) n) (lone_after entry_job entry_lone c))
+  transparent n ends h =
+      let c = 1 + worked m (at a schedule (suc k)) n in
+      let nb = never_breaks entry_job c entry_lone 0 (omega arith) h in
+      let f = entry_follows nb in
+      let r = follows_on m own a.node_key entry_text from (at a schedule (suc k)) entry_lone 1 n f.0 (λ i lt. fine_from i) ends h in
+      record { backup = r.backup; run = r.run; same = r.lone; once = r.keeps.once }

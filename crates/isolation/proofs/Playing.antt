@@ -20,7 +20,7 @@ use Rattle.std.proofs.lemmas.List.{map-append, length-map, take-map}
 use Rattle.std.proofs.lemmas.Option.{slice_get-map}
 use Rattle.isolation.proofs.Moves.{text_append, led_cycles, text_cycles}
 use Rattle.isolation.proofs.Telling.{cycles_same, lines_from, ends_same, stands_same, outside_equal}
-use Rattle.isolation.proofs.Transparent.{after_more}
+use Rattle.isolation.proofs.Follow.{after_more}
 
 -- an image's machine after k cycles, with marks after so many cycles each
 abbrev moment : Image → List Scheduled → ℕ → ℕ → List ℕ → Marked

@@ -20,7 +20,7 @@ use Rattle.written_machine.specs.View.{boot, at, is_hidden_by, Seen, SeenPlain, 
 use Rattle.written_machine.specs.declared.Hidden.TheVariants.{All as AllHidden, Only}
 use Rattle.std.proofs.Common.{◌≡◌, ℕ, zero, suc, ◌+◌, List, [], ◌∷◌, ◌++◌, map, refl, sym, ap, ◌∙◌, Bool, true, false, nat_lt, cond, not, ◌&&◌, ◌==◌, Option, Some, None, is_some, is_none}
 use mathlib.Core.Path.{fun_ext}
-use Rattle.isolation.proofs.Transparent.{after_more}
+use Rattle.isolation.proofs.Follow.{after_more}
 use Rattle.isolation.proofs.Whole.{views_equal, events_equal, phases_equal}
 
 -- ---- a view that hides all modules, from one that hides one

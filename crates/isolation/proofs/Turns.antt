@@ -25,12 +25,11 @@ use Rattle.tracer.specs.declared.Event.{Event}
 use Rattle.written_machine.specs.Cycle.{Step, quiet, told, denied, pc_of, due, arrive_inside, arrive_outside, asleep, padded, turn, begin_unless, begin, enter_at, enter, fetch, act}
 use Rattle.written_machine.specs.Peers.{section}
 use Rattle.written_machine.specs.State.{State}
-use Rattle.isolation.proofs.Active.{arrived_none, does_gie}
+use Rattle.isolation.proofs.Active.{arrived_none, does_gie, moves_alike}
 use Rattle.isolation.proofs.EvenBy.{begins, AlwaysEvenBy}
 use Rattle.isolation.proofs.Evenly.{Evenly, Together, next_together}
 use Rattle.isolation.proofs.Hide.{veil, veil_step, veil_core, hide_by, held_ids_veiled}
 use Rattle.isolation.proofs.Inside.{Moves, did_act}
-use Rattle.isolation.proofs.Lockstep.{moves_alike}
 use Rattle.isolation.proofs.Outside.{Light, light, outer_by, stays_by, arrived_active, arrive_outside_outer, act_outer, act_active}
 use Rattle.isolation.proofs.Relation.{find_held, times, none_found, run_by, run_of, Secret, Keeps, Ready, Stays, stays_self, Alike, Outer, outer_alike, seen_veiled, seen_active}
 use Rattle.isolation.proofs.Rights.{holds_in}

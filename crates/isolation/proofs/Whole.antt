@@ -23,7 +23,7 @@ use Rattle.written_machine.specs.State.{State}
 use Rattle.written_machine.specs.View.{boot, at, is_hidden_by, Seen, seen_if, seen_frame, seen_byte, View, view_of}
 use Rattle.written_machine.specs.declared.Hidden.TheVariants.{Only}
 use Rattle.isolation.proofs.Active.{active_turn}
-use Rattle.isolation.proofs.Bounds.{each_bound}
+use Rattle.isolation.proofs.EvenBy.{each_bound}
 use Rattle.isolation.proofs.Bytes.{Out, get_cleared, length_cleared, get_in_cleared, part_cleared}
 use Rattle.isolation.proofs.Ending.{Settles, outside_settles, inside_settles}
 use Rattle.isolation.proofs.Fine.{Fine, FineSettled, settled_fine, fine_at}

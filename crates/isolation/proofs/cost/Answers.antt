@@ -1,4 +1,4 @@
-use Rattle.isolation.proofs.Costing.{costs}
+use Rattle.isolation.proofs.Costs.{costs}
 use Rattle.isolation.proofs.cost.Goals as goal
 
 pub returns : goal.returns

@@ -1,6 +1,5 @@
-use Rattle.isolation.proofs.Few.{four_events}
+use Rattle.isolation.proofs.Told.{four_events, stop_told}
 use Rattle.isolation.proofs.Refused.{refused_told}
-use Rattle.isolation.proofs.Stopping.{stop_told}
 use Rattle.isolation.proofs.tells.Goals as goal
 
 pub returns : goal.returns

@@ -1,5 +1,5 @@
 use Rattle.isolation.proofs.Entering.{entered_known}
-use Rattle.isolation.proofs.Transparent.{transparent}
+use Rattle.isolation.proofs.Follow.{transparent}
 use Rattle.isolation.proofs.transparency.Goals as goal
 
 pub returns : goal.returns
