@@ -1,23 +1,23 @@
 -- A cycle in which the module is active in both runs: they go on together.
-use Rattle.std.proofs.Common.{◌≡◌, inr, ℕ, List, refl, sym, ap, ◌∙◌, subst, true, false, Option, Some, ⊎_elim, zero, suc, ◌+◌, ◌*◌, ◌%◌, [], ◌∷◌, length, map, arith, Bool, cond, not, ◌&&◌, ◌||◌, ◌==◌, None}
+use Rattle.std.proofs.Common.{◌≡◌, inr, ℕ, List, refl, sym, ap, ◌∙◌, subst, true, false, Option, Some, ⊎_elim, zero, suc, ◌+◌, ◌*◌, ◌%◌, [], ◌∷◌, length, map, arith, Bool, not, ◌&&◌, ◌||◌, ◌==◌, None}
 use Rattle.mod_layout.specs.Table.{size_of, place_of, holds}
 use Rattle.mod_layout.specs.declared.Module.{Module}
 use Rattle.pc_access.specs.Rights.{is_id, is_held, refuse_if, right, right_at}
 use Rattle.reg_backup.specs.Saved.{closing_after, is_close}
 use Rattle.reg_backup.specs.declared.backup.Backup.{Backup}
 use Rattle.reg_backup.specs.declared.backup.Phase.TheVariants.{Run}
-use Rattle.cpu_step.specs.Lone.{Lone, job_of, Job, Doing, Waits, Closes, Leaves, Does, doing, doing_by, next_insn, next_first, if_home, may_do, text_word, lone_does, lone_step_by, lone_read, lone_who, lone_byte, is_alone, all_inside}
+use Rattle.cpu_step.specs.LoneLaws.{GoesOn}
+use Rattle.cpu_step.specs.Lone.{Lone, job_of, Job, Doing, Waits, Closes, Leaves, Does, doing, doing_by, next_insn, next_first, may_do, text_word, lone_does, lone_step_by, lone_read, lone_who, lone_byte, is_alone}
 use Rattle.written_machine.specs.Cycle.{Step, act, quiet, told, pc_of, rest_of, due, arrive_inside, turn, begin_unless, begin, enter_at, enter, fetch}
 use Rattle.written_machine.specs.Peers.{section}
 use Rattle.written_machine.specs.State.{State}
 use Rattle.isolation.proofs.Evenly.{Evenly, Together, next_together}
 use Rattle.isolation.proofs.Hide.{veil_core, hide_by, hide}
-use Rattle.isolation.proofs.Inside.{Moves, did_act}
-use Rattle.isolation.proofs.Relation.{run_by, run_of, Secret, Keeps, Twins, Alike, times, backup_of, lone_of, IsOpen, Open as IsOpenNow, Ready, Outer, outer_alike, BothActive, both_active}
+use Rattle.isolation.proofs.Inside.{Moves, may_some, home_some, did_act}
+use Rattle.isolation.proofs.Relation.{run_by, run_of, Secret, same_secret, Keeps, Twins, Alike, times, backup_of, lone_of, IsOpen, Open as IsOpenNow, Ready, Outer, outer_alike, BothActive, both_active}
 use Rattle.isolation.proofs.Settled.{close_is, arrive_inside_stays}
 use Rattle.sm_words.specs.Words.{cleared, reg, word_at, IsCore}
 use Rattle.std.proofs.lemmas.Bool.Decides.{nat_tests}
-use Rattle.std.proofs.lemmas.Bool.{and_parts}
 use Rattle.sm_words.specs.Sums.{one_if}
 use Rattle.insn_decode.specs.Code.{insn_of, length_of}
 use Rattle.insn_decode.specs.declared.insn.Insn.{Insn}
@@ -65,17 +65,12 @@ module _ (m : ℕ) (own : Module) (key text : List ℕ) where
       Evenly key own text (job_of key own text a.caller) la lb → Twins m own key text (moved a la ma) (moved b lb mb)
   unfolding moved
   moved_alike a b la lb ma mb ka kb act_a act_b seen da db ra rb ta tb ga gb ev =
-      let Sec : Option Backup → Option Backup → List ℕ → List ℕ → Type 0 = Secret m own key text in
       let xa : Backup = record { «module» = m; caller = a.caller; core = la.core; rest = la.rest; closing = la.closing } in
       let xb : Backup = record { «module» = m; caller = b.caller; core = lb.core; rest = lb.rest; closing = lb.closing } in
-      let s0 : Sec (Some xa) (Some xb) la.data_bytes lb.data_bytes = (ap (λ u. u.caller) seen, ev) in
-      let s1 = subst (λ r. Sec r (Some xb) la.data_bytes lb.data_bytes) (sym (moved_run a la ma act_a)) s0 in
-      let s2 = subst (λ r. Sec (run_of m (moved a la ma)) r la.data_bytes lb.data_bytes) (sym (moved_run b lb mb act_b)) s1 in
-      let s3 = subst (λ d. Sec (run_of m (moved a la ma)) (run_of m (moved b lb mb)) d lb.data_bytes) (sym da) s2 in
-      let s4 = subst (λ d. Sec (run_of m (moved a la ma)) (run_of m (moved b lb mb)) (section own.ram ma) d) (sym db) s3 in
+      let s : Secret m own key text (Some xa) (Some xb) la.data_bytes lb.data_bytes = (ap (λ u. u.caller) seen, ev) in
       record {
         seen = moved_hidden a la ma act_a ra ga ∙ seen ∙ sym (moved_hidden b lb mb act_b rb gb);
-        secret = s4;
+        secret = same_secret m own key text (moved_run a la ma act_a) (moved_run b lb mb act_b) da db s;
         keeps_a = moved_keeps a la ma ka ta;
         keeps_b = moved_keeps b lb mb kb tb;
         open_a = λ h. absurd (let x : true ≡ false = sym act_a ∙ h in cc);
@@ -95,27 +90,13 @@ active_some m None e = cc
 active_some m (Some x) e = let same : x ≡ m = grind (arith, nat_tests) in ap Some same
 
 -- ---- what the next instruction may be
-if_alone : (b : Bool) (x insn : Insn) (c : Bool) → b ≡ (is_alone x && c) → cond b (Some x) None ≡ Some insn → is_alone insn ≡ true
-if_alone true x insn c e f =
-    let same : x ≡ insn = cc in
-    let a : is_alone x ≡ true = (and_parts (is_alone x) c (sym e)).0 in
-    subst (λ i. is_alone i ≡ true) same a
-if_alone false x insn c e f = cc
-
-may_alone : (j : Job) (l : Lone) (o : Option Insn) (insn : Insn) → may_do j l o ≡ Some insn → is_alone insn ≡ true
-may_alone j l None insn e = cc
-may_alone j l (Some x) insn e = if_alone (is_alone x && all_inside j (asks (lone_who j) x l.core)) x insn (all_inside j (asks (lone_who j) x l.core)) refl e
-
-home_alone : (b : Bool) (j : Job) (l : Lone) (o : Option Insn) (insn : Insn) → if_home b (may_do j l o) ≡ Some insn → is_alone insn ≡ true
-home_alone true j l o insn e = may_alone j l o insn e
-home_alone false j l o insn e = cc
-
 first_alone : (j : Job) (l : Lone) (o : Option Insn) (insn : Insn) → next_first o j l ≡ Some insn → is_alone insn ≡ true
 first_alone j l None insn e = cc
 first_alone j l (Some first) insn e =
     let pc = reg l.core 0 in
     let n = length_of first in
-    home_alone (text_word j pc n 1 && text_word j pc n 2) j l (insn_at (lone_byte j l.data_bytes) pc n) insn e
+    let o = insn_at (lone_byte j l.data_bytes) pc n in
+    (may_some j l o insn (home_some (text_word j pc n 1 && text_word j pc n 2) (may_do j l o) insn e).1).1
 
 next_alone : (j : Job) (l : Lone) (insn : Insn) → next_insn j l ≡ Some insn → is_alone insn ≡ true
 unfolding next_insn
@@ -206,13 +187,8 @@ module _ (m : ℕ) (own : Module) (key text : List ℕ) (s : State) (k : Keeps m
       subst (Moves own s (lone_does (job_of key own text s.caller) insn (lone_of (backup_of m s) (section own.ram s.memory)))) (sym to)
       (act_moves (lone_of (backup_of m s) (section own.ram s.memory)) insn even here refl refl next)
 
-  abbrev IsGoing : Doing → Type 0
-  IsGoing (Waits r) = Unit {0}
-  IsGoing (Does i) = Unit {0}
-  IsGoing _ = ⊥
-
   -- its turn is its own next step, and GIE stays
-  pub turn_moves : (left : ℕ) (x : Doing) → IsCore s.core → due s ≡ None → doing (job_of key own text s.caller) (lone_of (backup_of m s) (section own.ram s.memory)) ≡ x → IsGoing x →
+  pub turn_moves : (left : ℕ) (x : Doing) → IsCore s.core → due s ≡ None → doing (job_of key own text s.caller) (lone_of (backup_of m s) (section own.ram s.memory)) ≡ x → GoesOn x →
       Moves own s (lone_step_by x (job_of key own text s.caller) (lone_of (backup_of m s) (section own.ram s.memory))) (turn left s) × (veil_core (lone_step_by x (job_of key own text s.caller) (lone_of (backup_of m s) (section own.ram s.memory))).core ≡ veil_core s.core)
   unfolding doing
   turn_moves left (Waits r) ok d e g = (waits_moves left r d (waits_rest (rest_of s.phase) (is_close s.after) (holds own.text (pc_of s)) _ r e), refl)
@@ -262,7 +238,7 @@ module _ (m : ℕ) (own : Module) (key text : List ℕ) (a b : State) (ready : R
   finish : (left : ℕ) (x y : Doing) → due a ≡ None → due b ≡ None →
       doing (job_of key own text a.caller) (lone_of (backup_of m a) (section own.ram a.memory)) ≡ x →
       doing (job_of key own text b.caller) (lone_of (backup_of m b) (section own.ram b.memory)) ≡ y →
-      IsGoing m own key text a ready.twins.keeps_a some_a x → IsGoing m own key text b ready.twins.keeps_b some_b y →
+      GoesOn x → GoesOn y →
       Evenly key own text (job_of key own text a.caller) (lone_step_by x (job_of key own text a.caller) (lone_of (backup_of m a) (section own.ram a.memory))) (lone_step_by y (job_of key own text b.caller) (lone_of (backup_of m b) (section own.ram b.memory))) → Alike m own key text (turn left a) (turn left b)
   finish left x y da db ea eb ga gb ev =
       let va = turn_moves m own key text a ready.twins.keeps_a some_a left x ok_a da ea ga in

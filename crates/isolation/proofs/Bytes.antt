@@ -1,5 +1,6 @@
 -- A memory whose data section is cleared.
 use Rattle.std.proofs.Common.{◌≡◌, ◌⊎◌, inl, inr, ⊎_elim, ℕ, zero, suc, ◌+◌, ◌-◌, ◌<◌, ◌≤◌, List, [], ◌∷◌, length, get_or, take, drop, set, refl, sym, ap, ◌∙◌, arith, get_or-take, get_or-drop}
+use Rattle.std.proofs.Math.Seq.{take-set-lt}
 use Rattle.std.proofs.lemmas.List.{drop-set-add, take-set-le}
 use Rattle.sm_words.specs.Words.{cleared}
 
@@ -38,17 +39,12 @@ get_in_cleared zero (suc n) (x ∷ xs) (suc a) low high = get_in_cleared zero n 
 get_in_cleared (suc lo) (suc n) (x ∷ xs) (suc a) low high = get_in_cleared lo (suc n) xs a (omega arith) (omega arith)
 get_in_cleared _ _ _ _ low high = absurd (omega arith)
 
-take_set_in : (n : ℕ) (xs : List ℕ) (i v : ℕ) → i < n → take n (set xs i v) ≡ set (take n xs) i v
-take_set_in zero xs i v h = absurd (omega arith)
-take_set_in (suc n) (x ∷ xs) (suc i) v h = ap (λ l. x ∷ l) (take_set_in n xs i v (omega arith))
-take_set_in (suc n) _ _ v h = refl
-
 -- the section's own bytes
 pub part_set_in : (lo n : ℕ) (mem : List ℕ) (a v : ℕ) → lo ≤ a → a < lo + n → take n (drop lo (set mem a v)) ≡ set (take n (drop lo mem)) (a - lo) v
 part_set_in lo n mem a v low high =
     let e : a ≡ lo + (a - lo) = omega arith in
     let d = drop-set-add lo mem (a - lo) v in
-    ap (λ i. take n (drop lo (set mem i v))) e ∙ ap (take n) d ∙ take_set_in n (drop lo mem) (a - lo) v (omega arith)
+    ap (λ i. take n (drop lo (set mem i v))) e ∙ ap (take n) d ∙ take-set-lt n (drop lo mem) (a - lo) v (omega arith)
 
 pub part_set_out : (lo n : ℕ) (mem : List ℕ) (a v : ℕ) → Out lo n a → take n (drop lo (set mem a v)) ≡ take n (drop lo mem)
 part_set_out zero n mem a v out = take-set-le n mem a v (omega arith)

@@ -24,7 +24,7 @@ use Rattle.isolation.proofs.Active.{active_some}
 use Rattle.isolation.proofs.EvenBy.{AlwaysEvenBy}
 use Rattle.isolation.proofs.Evenly.{Together, next_together}
 use Rattle.isolation.proofs.Hide.{veil_if, veil_frames, hide_by, hide}
-use Rattle.isolation.proofs.Relation.{find_held, times, none_found, backup_of, run_by, lone_of, IsOpen, Secret, Open as IsOpenNow, Keeps, Twins, Ready, BothActive, both_active, twins_stay, seen_veiled, seen_active}
+use Rattle.isolation.proofs.Relation.{times, none_found, backup_of, run_by, lone_of, IsOpen, same_secret, Open as IsOpenNow, Keeps, Twins, Ready, BothActive, both_active, twins_stay, seen_veiled, seen_active}
 use Rattle.isolation.proofs.Settled.{settle_stays}
 use Rattle.isolation.proofs.Settling.{hide_settled, settle_veiled}
 
@@ -145,10 +145,6 @@ module _ (m : ℕ) (own : Module) (key text : List ℕ) where
           ∙ ap (λ p. build (hide_by true m own b) b.core p a.after) (pa ∙ sym pb) ∙ ap (build (hide_by true m own b) b.core b.phase) (aa ∙ sym ab) in
           let fa = none_found m a.frames (no_times a twins.keeps_a act_a) in
           let fb = none_found m b.frames (no_times b twins.keeps_b both.other) in
-          let Sec : Option Backup → Option Backup → Type 0 = λ r q. Secret m own key text r q (section own.ram a.memory) (section own.ram b.memory) in
-          let s1 : Sec None None = even in
-          let s2 = subst (λ r. Sec r None) (sym fa) s1 in
-          let s3 = subst (λ r. Sec (find_held m a.frames) r) (sym fb) s2 in
           let oa = subst (λ r. IsOpenNow m own key text r (section own.ram a.memory)) (sym fa) tt in
           let ob = subst (λ r. IsOpenNow m own key text r (section own.ram b.memory)) (sym fb) tt in
           let ta = no_times a twins.keeps_a act_a in
@@ -156,7 +152,7 @@ module _ (m : ℕ) (own : Module) (key text : List ℕ) where
           record {
             twins = record {
               seen = seen;
-              secret = s3;
+              secret = same_secret m own key text fa fb refl refl even;
               keeps_a = left_keeps a twins.keeps_a ta;
               keeps_b = left_keeps b twins.keeps_b tb;
               open_a = λ h. oa;

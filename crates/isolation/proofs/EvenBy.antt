@@ -1,5 +1,5 @@
 -- Even calls with a bound for each call, which the proofs follow, and that one bound for all says as much.
-use Rattle.std.proofs.Common.{◌≡◌, ℕ, ◌<◌, List, [], ◌∷◌, false, zero, suc, ◌+◌, ◌≤◌, max, refl, sym, ap, ◌∙◌, subst, arith, Bool, true, nat_le, nat_lt, cond}
+use Rattle.std.proofs.Common.{◌≡◌, ℕ, ◌<◌, List, [], ◌∷◌, false, zero, suc, ◌+◌, ◌≤◌, max, refl, sym, ap, ◌∙◌, subst, arith, Bool, true, nat_lt, cond}
 use Rattle.sm_words.specs.Words.{reg, IsCore}
 use Rattle.mod_layout.specs.declared.Module.{Module}
 use Rattle.cpu_step.specs.Lone.{Lone, outcome, alike, job_of, Job, Entrance, Outcome, Exit, Closing, Broken, Running, later, Doing, Waits, Closes, Leaves, Breaks, Does, doing, lone_does, at_once, in_time, Even, IsEntry, AlwaysEven}
@@ -32,42 +32,33 @@ AlwaysEvenBy key m text d1 d2 = (es : List Call_of) → Each (IsCall m) es → E
 
 -- what of an outcome is there within n cycles
 abbrev pub cut : ℕ → Outcome → Outcome
-cut n (Exit c d k) = cond (nat_le k n) (Exit c d k) Running
-cut n (Closing c d k) = cond (nat_le k n) (Closing c d k) Running
+cut n (Exit c d k) = cond (nat_lt k (suc n)) (Exit c d k) Running
+cut n (Closing c d k) = cond (nat_lt k (suc n)) (Closing c d k) Running
 cut n (Broken d k) = cond (nat_lt k n) (Broken d k) Running
 cut n Running = Running
-
-le_suc : (k n : ℕ) → nat_le (k + 1) (suc n) ≡ nat_le k n
-le_suc k n = grind (arith, nat_tests)
 
 lt_suc : (k n : ℕ) → nat_lt (k + 1) (suc n) ≡ nat_lt k n
 lt_suc k n = grind (arith, nat_tests)
 
-le_none : (k : ℕ) → nat_le (k + 1) 0 ≡ false
-le_none k = grind (arith, nat_tests)
-
 lt_none : (k : ℕ) → nat_lt k 0 ≡ false
 lt_none k = grind (arith, nat_tests)
 
-zero_le_suc : (n : ℕ) → nat_le 0 (suc n) ≡ true
-zero_le_suc n = grind (arith, nat_tests)
-
-zero_lt_suc' : (n : ℕ) → nat_lt 0 (suc n) ≡ true
-zero_lt_suc' n = grind (arith, nat_tests)
+zero_lt : (n : ℕ) → nat_lt 0 (suc n) ≡ true
+zero_lt n = grind (arith, nat_tests)
 
 cut_if : (b : Bool) (o : Outcome) → cond b (later o) Running ≡ later (cond b o Running)
 cut_if true o = refl
 cut_if false o = refl
 
 cut_later : (n : ℕ) (o : Outcome) → cut (suc n) (later o) ≡ later (cut n o)
-cut_later n (Exit c d k) = ap (λ b. cond b (Exit c d (k + 1)) Running) (le_suc k n) ∙ cut_if (nat_le k n) (Exit c d k)
-cut_later n (Closing c d k) = ap (λ b. cond b (Closing c d (k + 1)) Running) (le_suc k n) ∙ cut_if (nat_le k n) (Closing c d k)
+cut_later n (Exit c d k) = ap (λ b. cond b (Exit c d (k + 1)) Running) (lt_suc k (suc n)) ∙ cut_if (nat_lt k (suc n)) (Exit c d k)
+cut_later n (Closing c d k) = ap (λ b. cond b (Closing c d (k + 1)) Running) (lt_suc k (suc n)) ∙ cut_if (nat_lt k (suc n)) (Closing c d k)
 cut_later n (Broken d k) = ap (λ b. cond b (Broken d (k + 1)) Running) (lt_suc k n) ∙ cut_if (nat_lt k n) (Broken d k)
 cut_later n Running = refl
 
 cut_none : (o : Outcome) → cut 0 (later o) ≡ Running
-cut_none (Exit c d k) = ap (λ b. cond b (Exit c d (k + 1)) Running) (le_none k)
-cut_none (Closing c d k) = ap (λ b. cond b (Closing c d (k + 1)) Running) (le_none k)
+cut_none (Exit c d k) = ap (λ b. cond b (Exit c d (k + 1)) Running) (lt_suc k 0 ∙ lt_none k)
+cut_none (Closing c d k) = ap (λ b. cond b (Closing c d (k + 1)) Running) (lt_suc k 0 ∙ lt_none k)
 cut_none (Broken d k) = ap (λ b. cond b (Broken d (k + 1)) Running) (lt_none (k + 1))
 cut_none Running = refl
 
@@ -82,9 +73,9 @@ module _ (j : Job) where
   zero_cut _ f l = refl
 
   suc_cut : (x : Doing) (n : ℕ) (f g : Lone → Outcome) (l : Lone) → ((l' : Lone) → f l' ≡ cut n (g l')) → in_time x f j l ≡ cut (suc n) (in_time x g j l)
-  suc_cut Closes n f g l h = sym (ap (λ b. cond b (Closing l.core l.data_bytes 0) Running) (zero_le_suc n))
-  suc_cut Leaves n f g l h = sym (ap (λ b. cond b (Exit l.core l.data_bytes 0) Running) (zero_le_suc n))
-  suc_cut Breaks n f g l h = sym (ap (λ b. cond b (Broken l.data_bytes 0) Running) (zero_lt_suc' n))
+  suc_cut Closes n f g l h = sym (ap (λ b. cond b (Closing l.core l.data_bytes 0) Running) (zero_lt (suc n)))
+  suc_cut Leaves n f g l h = sym (ap (λ b. cond b (Exit l.core l.data_bytes 0) Running) (zero_lt (suc n)))
+  suc_cut Breaks n f g l h = sym (ap (λ b. cond b (Broken l.data_bytes 0) Running) (zero_lt n))
   suc_cut (Waits r) n f g l h = ap later (h (record l { rest = r })) ∙ sym (cut_later n (g (record l { rest = r })))
   suc_cut (Does i) n f g l h = ap later (h (lone_does j i l)) ∙ sym (cut_later n (g (lone_does j i l)))
 
@@ -100,8 +91,8 @@ module _ (j : Job) where
 
   alike_cut : (P Q : List ℕ → List ℕ → Type 0) (n : ℕ) (o p : Outcome) → ((d d' : List ℕ) → P d d' → Q d d') → alike P o p → alike Q (cut n o) (cut n p)
   alike_cut P Q n Running Running f h = tt
-  alike_cut P Q n (Closing c d k) (Closing c' d' k') f h = subst (λ i. alike Q (cut n (Closing c d k)) (cond (nat_le i n) (Closing c' d' k') Running)) h.1 (alike_if Q (nat_le k n) (Closing c d k) (Closing c' d' k') h)
-  alike_cut P Q n (Exit c d k) (Exit c' d' k') f h = subst (λ i. alike Q (cut n (Exit c d k)) (cond (nat_le i n) (Exit c' d' k') Running)) h.1 (alike_if Q (nat_le k n) (Exit c d k) (Exit c' d' k') (h.0, h.1, f d d' h.2))
+  alike_cut P Q n (Closing c d k) (Closing c' d' k') f h = subst (λ i. alike Q (cut n (Closing c d k)) (cond (nat_lt i (suc n)) (Closing c' d' k') Running)) h.1 (alike_if Q (nat_lt k (suc n)) (Closing c d k) (Closing c' d' k') h)
+  alike_cut P Q n (Exit c d k) (Exit c' d' k') f h = subst (λ i. alike Q (cut n (Exit c d k)) (cond (nat_lt i (suc n)) (Exit c' d' k') Running)) h.1 (alike_if Q (nat_lt k (suc n)) (Exit c d k) (Exit c' d' k') (h.0, h.1, f d d' h.2))
   alike_cut P Q n _ _ f h = absurd h
 
 module _ (key : List ℕ) (own : Module) (text : List ℕ) where

@@ -1,5 +1,5 @@
 -- One run alone: whatever interrupts it, a module that is active or held stands where it stands by itself.
-use Rattle.std.proofs.Common.{◌≡◌, ◌≢◌, ℕ, ◌+◌, List, [], ◌∷◌, ◌++◌, refl, sym, ap, ◌∙◌, subst, Bool, true, false, ◌&&◌, Option, Some, None, is_none, zero, suc, ◌<◌, arith, cond, nat_le, ◌==◌}
+use Rattle.std.proofs.Common.{◌≡◌, ◌≢◌, ℕ, ◌+◌, List, [], ◌∷◌, ◌++◌, refl, sym, ap, ◌∙◌, subst, Bool, true, false, ◌&&◌, Option, Some, None, is_none, zero, suc, ◌<◌, arith, cond, nat_lt, ◌==◌}
 use Rattle.isolation.proofs.Tame.{ticked_active, settled_key, key_at}
 use Rattle.sm_words.specs.Words.{IsCore}
 use Rattle.mod_layout.specs.declared.Module.{Module}
@@ -178,8 +178,8 @@ module _ (j : Job) where
   unbroken_if false o h = tt
 
   cut_unbroken : (n : ℕ) (o : Outcome) → NotBroken o → NotBroken (cut n o)
-  cut_unbroken n (Exit c d k) h = unbroken_if (nat_le k n) (Exit c d k) h
-  cut_unbroken n (Closing c d k) h = unbroken_if (nat_le k n) (Closing c d k) h
+  cut_unbroken n (Exit c d k) h = unbroken_if (nat_lt k (suc n)) (Exit c d k) h
+  cut_unbroken n (Closing c d k) h = unbroken_if (nat_lt k (suc n)) (Closing c d k) h
   cut_unbroken n (Broken d k) h = absurd h
   cut_unbroken n Running h = tt
 

@@ -14,10 +14,11 @@ use Rattle.image_text.specs.Image.{Image}
 use Rattle.reg_backup.specs.Held.{held_ids}
 use Rattle.reg_backup.specs.Saved.{closing_after}
 use Rattle.reg_backup.specs.declared.backup.After.{After}
-use Rattle.reg_backup.specs.declared.backup.After.TheVariants.{Next, Resume}
+use Rattle.reg_backup.specs.declared.backup.After.TheVariants.{Next}
 use Rattle.reg_backup.specs.declared.frames.Frame.{Frame}
 use Rattle.reg_backup.specs.declared.frames.Frame.TheVariants.{Plain, Module as Held}
 use Rattle.written_machine.specs.Cycle.{pc_of, settle, due, vector_if, arrive_inside, plain_if, perform, without_newest, fetch, padded}
+use Rattle.written_machine.specs.Standing.{is_resume}
 use Rattle.written_machine.specs.State.{State}
 use Rattle.written_machine.specs.View.{at}
 use Rattle.isolation.specs.Calls.{times}
@@ -25,10 +26,6 @@ use Rattle.isolation.proofs.Turns.{times_none, entry_free}
 pub use Rattle.isolation.proofs.Turns.{right_fetch}
 use Rattle.sm_words.specs.Status.{is_gie}
 use Rattle.isolation.proofs.Ways.{Lasting, always, settle_ways}
-
-abbrev pub is_resume : After → Bool
-is_resume Resume = true
-is_resume _ = false
 
 pub record FramedBy (active : Option ℕ) (frames : List Frame) (after : After) : Type 0 where
   pub once : (m : ℕ) → one_if (is_id m active) + times m frames ≤ 1

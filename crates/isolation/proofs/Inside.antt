@@ -1,6 +1,6 @@
 -- What the module does while it is active is what it does by itself.
 use Rattle.std.proofs.Common.{◌≡◌, ℕ, ◌+◌, ◌-◌, ◌*◌, ◌/◌, ◌%◌, List, [], ◌∷◌, get_or, set, map, refl, sym, ap, ◌∙◌, subst, arith, Bool, true, false, nat_lt, cond, not, ◌&&◌, ◌||◌, ◌==◌, Option, Some, None, ⊎_elim}
-use Rattle.std.proofs.lemmas.Bool.{cases_lt, not-true, and_parts, or_right}
+use Rattle.std.proofs.lemmas.Bool.{cases_lt, not-true, and_parts, or_cases, or_right}
 use Rattle.std.proofs.lemmas.Bool.Decides.{nat_tests}
 use Rattle.sm_words.specs.Words.{cleared, reg, word_at}
 use Rattle.sm_words.specs.declared.width.Width.{Width}
@@ -86,6 +86,22 @@ pub table_alone : (insn : Insn) (t : Table) (core : List ℕ) → is_alone insn 
 unfolding table_after
 table_alone (UnitOp n) t core e = table_by_alone (unit_named n) t core e
 table_alone _ t core e = refl
+
+-- what the instruction that comes next says
+pub may_some : (j : Job) (l : Lone) (o : Option Insn) (insn : Insn) → may_do j l o ≡ Some insn → (o ≡ Some insn) × (is_alone insn ≡ true) × (all_inside j (asks (lone_who j) insn l.core) ≡ true)
+may_some j l None insn e = absurd cc
+may_some j l (Some x) insn e = chosen (is_alone x && all_inside j (asks (lone_who j) x l.core)) refl e
+  where
+    chosen : (b : Bool) → (is_alone x && all_inside j (asks (lone_who j) x l.core)) ≡ b → cond b (Some x) None ≡ Some insn → (Some x ≡ Some insn) × (is_alone insn ≡ true) × (all_inside j (asks (lone_who j) insn l.core) ≡ true)
+    chosen true h f =
+        let same : x ≡ insn = cc in
+        let p = and_parts (is_alone x) (all_inside j (asks (lone_who j) x l.core)) h in
+        (f, subst (λ i. is_alone i ≡ true) same p.0, subst (λ i. all_inside j (asks (lone_who j) i l.core) ≡ true) same p.1)
+    chosen false h f = absurd cc
+
+pub home_some : (b : Bool) (o : Option Insn) (insn : Insn) → if_home b o ≡ Some insn → (b ≡ true) × (o ≡ Some insn)
+home_some true o insn e = (refl, e)
+home_some false o insn e = absurd cc
 
 module _ (m : ℕ) (own : Module) (t : Table) (sound : Sound m own t) (j : Job) (owner : j.owner ≡ own) where
   abbrev pub in_sections : ℕ → Bool
@@ -194,13 +210,10 @@ module _ (m : ℕ) (own : Module) (t : Table) (sound : Sound m own t) (j : Job) 
   sections_next : (a : ℕ) → a % 2 ≡ 0 → in_sections a ≡ true → in_sections (a + 1) ≡ true
   sections_next a even h =
       let e1 = sound.text_end in let e2 = sound.ram_end in
-      or_cases (holds own.text a) (holds own.ram a) h
+      ⊎_elim
       (λ x. ap (λ b. b || holds own.ram (a + 1)) (holds_next own.text a sound.text_end even x))
       (λ x. or_right (holds own.text (a + 1)) (holds own.ram (a + 1)) (holds_next own.ram a sound.ram_end even x))
-    where
-      or_cases : {P : Type 0} (a b : Bool) → (a || b) ≡ true → (a ≡ true → P) → (b ≡ true → P) → P
-      or_cases true b e f g = f refl
-      or_cases false b e f g = g e
+      (or_cases (holds own.text a) (holds own.ram a) h)
 
   in_width : (w : Width) (P : ℕ → Bool) (a : ℕ) → misaligned w a ≡ false → ((x : ℕ) → x % 2 ≡ 0 → P x ≡ true → P (x + 1) ≡ true) → P a ≡ true → InBy w P a
   in_width Byte P a e next h = h
@@ -243,13 +256,10 @@ module _ (m : ℕ) (own : Module) (t : Table) (sound : Sound m own t) (j : Job) 
     -- the module may read its sections and write its data
     may_read : (a : ℕ) → in_sections a ≡ true → right_at (place_of t a) (Some m) held Read a ≡ None
     may_read a h =
-        or_case (holds own.text a) (holds own.ram a) h
+        ⊎_elim
         (λ x. ⊎_elim (λ p. rw p refl) (λ p. rw p refl) (sound.in_text a x))
         (λ x. subst (λ p. right_at p (Some m) held Read a ≡ None) (sym (sound.in_data a x)) (ap (λ b. refuse_if (not b) Rule.ReadData a m) same_id))
-      where
-        or_case : {P : Type 0} (a b : Bool) → (a || b) ≡ true → (a ≡ true → P) → (b ≡ true → P) → P
-        or_case true b e f g = f refl
-        or_case false b e f g = g e
+        (or_cases (holds own.text a) (holds own.ram a) h)
 
     may_write : (a : ℕ) → holds own.ram a ≡ true → right_at (place_of t a) (Some m) held Write a ≡ None
     may_write a x = subst (λ p. right_at p (Some m) held Write a ≡ None) (sym (sound.in_data a x)) (ap (λ b. refuse_if (not b) Rule.WriteData a m) same_id)
@@ -359,20 +369,6 @@ module _ (m : ℕ) (own : Module) (t : Table) (sound : Sound m own t) (j : Job) 
           ∙ ap (λ w. insn_of (word_at b' pc) w (later_word b pc n 2)) (later_same n 1 h1)
           ∙ ap (λ w. insn_of (word_at b' pc) (later_word b' pc n 1) w) (later_same n 2 h2)
 
-      may_some : (o : Option Insn) (insn : Insn) → may_do j l o ≡ Some insn → (o ≡ Some insn) × (is_alone insn ≡ true) × (all_inside j (asks (lone_who j) insn l.core) ≡ true)
-      may_some None insn e = absurd cc
-      may_some (Some x) insn e = chosen (is_alone x && all_inside j (asks (lone_who j) x l.core)) refl e
-        where
-          chosen : (b : Bool) → (is_alone x && all_inside j (asks (lone_who j) x l.core)) ≡ b → cond b (Some x) None ≡ Some insn → (Some x ≡ Some insn) × (is_alone insn ≡ true) × (all_inside j (asks (lone_who j) insn l.core) ≡ true)
-          chosen true h f =
-              let same : x ≡ insn = cc in
-              (f, subst (λ i. is_alone i ≡ true) same (and_parts (is_alone x) (all_inside j (asks (lone_who j) x l.core)) h).0, subst (λ i. all_inside j (asks (lone_who j) i l.core) ≡ true) same (and_parts (is_alone x) (all_inside j (asks (lone_who j) x l.core)) h).1)
-          chosen false h f = absurd cc
-
-      home_some : (b : Bool) (o : Option Insn) (insn : Insn) → if_home b o ≡ Some insn → (b ≡ true) × (o ≡ Some insn)
-      home_some true o insn e = (refl, e)
-      home_some false o insn e = absurd cc
-
       did_perform : (insn : Insn) → is_alone insn ≡ true → all_inside j (asks (lone_who j) insn s.core) ≡ true → (u : Step) → u ≡ perform insn s → Moves own s (lone_does j insn (record { core = s.core; data_bytes = section own.ram s.memory; rest = l.rest; closing = l.closing })) u
       unfolding lone_does
       did_perform insn alone h u u_is =
@@ -402,7 +398,7 @@ module _ (m : ℕ) (own : Module) (t : Table) (sound : Sound m own t) (j : Job) 
           let p = home_some (text_word j (pc_of s) n 1 && text_word j (pc_of s) n 2) (may_do j l (insn_at (lone_byte j (section own.ram s.memory)) (pc_of s) n)) insn e'' in
           let t1 = (and_parts (text_word j (pc_of s) n 1) (text_word j (pc_of s) n 2) p.0).0 in
           let t2 = (and_parts (text_word j (pc_of s) n 1) (text_word j (pc_of s) n 2) p.0).1 in
-          let q = may_some (insn_at (lone_byte j (section own.ram s.memory)) (pc_of s) n) insn p.1 in
+          let q = may_some j l (insn_at (lone_byte j (section own.ram s.memory)) (pc_of s) n) insn p.1 in
           let inside' = subst (λ c. all_inside j (asks (lone_who j) insn c) ≡ true) core_is q.2 in
           let home : is_home s.table s.active (pc_of s) n ≡ true =
           ap (λ b. b && home_word s.table s.active (pc_of s) n 2) (home_word_same n 1 t1) ∙ home_word_same n 2 t2 in

@@ -58,19 +58,11 @@ moved p a s = record s { devices = ticked_devices s.devices s.cycle; cycle = s.c
 abbrev padded_on : ℕ → State → State
 padded_on left s = let p = padding left in moved p.0 p.1 s
 
-pad_settles : (left : ℕ) (s : State) → let x : State = record s { phase = Pad left } in settle (ticked x) ≡ unsettled (ticked x)
-unfolding ticked settle
-pad_settles left s = refl
-
-pad_turns : (left : ℕ) (s : State) → let x : State = record s { phase = Pad left } in turn 0 (ticked x) ≡ quiet (padded (left - 1) (ticked x))
-unfolding ticked
-pad_turns left s = let x : State = record s { phase = Pad left } in turn_is 0 (ticked x)
-
 pad_one : (left : ℕ) (s : State) → s.stop ≡ None → cycle (record s { phase = Pad left }) ≡ quiet (padded_on (left - 1) s)
-unfolding ticked
+unfolding ticked settle
 pad_one left s runs =
     let x : State = record s { phase = Pad left } in
-    one x (padded (left - 1) (ticked x)) runs (pad_settles left s) (pad_turns left s) runs (ticked_sent s.devices s.cycle)
+    one x (padded (left - 1) (ticked x)) runs refl (turn_is 0 (ticked x)) runs (ticked_sent s.devices s.cycle)
 
 -- no vector reaches an active module
 abbrev pub Missed : Option ℕ → Option ℕ → Type 0

@@ -44,13 +44,10 @@ first_of_map t active held (x ∷ xs) = ap (or_else (right t active held x)) (fi
 abbrev refusal : List Access → State → Option Denied
 refusal xs s = first_denied s.table s.active (held_ids s.frames) xs
 
-perform_stop : (insn : Insn) (s : State) → (perform insn s).state.stop ≡ s.stop
-unfolding perform
-perform_stop insn s = refl
-
 unless_stops : (d : Option Denied) (insn : Insn) (s : State) → s.stop ≡ None → Stops (perform_unless d insn s) d s
+unfolding perform
 unless_stops (Some d) insn s h = refl
-unless_stops None insn s h = perform_stop insn s ∙ h
+unless_stops None insn s h = h
 
 attempt_stops : (insn : Insn) (s : State) → s.stop ≡ None → Stops (attempt insn s) (refusal (asks (who_of s) insn s.core) s) s
 unfolding attempt
@@ -195,13 +192,10 @@ unfolding arrive_outside
 outside_stops v s h =
     push_stops (first_denied s.table None (held_ids s.frames) (pushes s)) v s h ∙ ap (λ d. stop_at d s) (sym (first_of_map s.table None (held_ids s.frames) (pushes s)))
 
-inside_stops : (v id : ℕ) (s : State) → (arrive_inside v id s).state.stop ≡ s.stop
-unfolding arrive_inside
-inside_stops v id s = refl
-
 by_stops : (d a : Option ℕ) (p : Phase) (left : ℕ) (s : State) → s.stop ≡ None → Stops (turn_at d a p left s) (first_refused (checks_at d a p s)) s
+unfolding arrive_inside
 by_stops d a (Pad n) left s h = h
-by_stops (Some v) (Some id) (Run r) left s h = inside_stops v id s ∙ h
+by_stops (Some v) (Some id) (Run r) left s h = h
 by_stops (Some v) None (Run zero) left s h = outside_stops v s h
 by_stops None None (Run (suc r)) left s h = h
 by_stops None None (Run zero) left s h = asleep_stops (asleep s) left s h

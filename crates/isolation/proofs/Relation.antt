@@ -45,6 +45,9 @@ module _ (m : ℕ) (own : Module) (key text : List ℕ) where
   Secret None None da db = AlwaysEvenBy key own text da db
   Secret _ _ da db = ⊥
 
+  pub same_secret : {ra ra' rb rb' : Option Backup} {da da' db db' : List ℕ} → ra' ≡ ra → rb' ≡ rb → da' ≡ da → db' ≡ db → Secret ra rb da db → Secret ra' rb' da' db'
+  same_secret e f g h s = rw (e, f, g, h) s
+
   -- it neither closes nor leaves before its next cycle
   abbrev pub Open : Option Backup → List ℕ → Type 0
   Open None d = Unit {0}
@@ -86,13 +89,7 @@ module _ (m : ℕ) (own : Module) (key text : List ℕ) where
       subst (λ d. Open (run_of m t) d) (sym st.bytes) (subst (λ r. Open r (section own.ram s.memory)) (sym st.run) o)
 
   secret_stays : (a b a' b' : State) → Stays a a' → Stays b b' → Secret (run_of m a) (run_of m b) (section own.ram a.memory) (section own.ram b.memory) → Secret (run_of m a') (run_of m b') (section own.ram a'.memory) (section own.ram b'.memory)
-  secret_stays a b a' b' sa sb h =
-      let da = section own.ram a.memory in
-      let db = section own.ram b.memory in
-      let h1 = subst (λ r. Secret r (run_of m b) da db) (sym sa.run) h in
-      let h2 = subst (λ r. Secret (run_of m a') r da db) (sym sb.run) h1 in
-      let h3 = subst (λ d. Secret (run_of m a') (run_of m b') d db) (sym sa.bytes) h2 in
-      subst (λ d. Secret (run_of m a') (run_of m b') (section own.ram a'.memory) d) (sym sb.bytes) h3
+  secret_stays a b a' b' sa sb h = same_secret sa.run sb.run sa.bytes sb.bytes h
 
   -- both stay, and are seen alike
   pub twins_stay : (a b a' b' : State) → Ready a b → Stays a a' → Stays b b' → hide m own a' ≡ hide m own b' → Ready a' b'
@@ -167,9 +164,8 @@ module _ (m : ℕ) (own : Module) (key text : List ℕ) where
   pub both_active : (a b : State) → Twins a b → is_id m a.active ≡ true → BothActive a b
   both_active a b twins act =
       let other = ap (is_id m) (sym (seen_active a b twins.seen)) ∙ act in
-      let h = subst (λ c. Secret (run_by c m a) (run_of m b) (section own.ram a.memory) (section own.ram b.memory)) act twins.secret in
       let secret : Secret (Some (backup_of m a)) (Some (backup_of m b)) (section own.ram a.memory) (section own.ram b.memory) =
-      subst (λ c. Secret (Some (backup_of m a)) (run_by c m b) (section own.ram a.memory) (section own.ram b.memory)) other h in
+      same_secret (ap (λ c. run_by c m a) (sym act)) (ap (λ c. run_by c m b) (sym other)) refl refl twins.secret in
       record {
         other = other;
         seen = ap (λ c. hide_by c m own a) (sym act) ∙ twins.seen ∙ ap (λ c. hide_by c m own b) other;

@@ -86,22 +86,15 @@ module _ (m : ℕ) (s t : State) (v : view_of s (Only m) ≡ view_of t (Only m))
   unfolding view_of
   seen_cycle = ap (λ x. x.cycle) v
 
-  seen_stop : s.stop ≡ t.stop
-  unfolding view_of
-  seen_stop = ap (λ x. x.stop) v
-
   seen_active : s.active ≡ t.active
   unfolding view_of
   seen_active = ap (λ x. x.active) v
 
-  seen_registers : cond (is_hidden_by (Only m) s.active) None (Some s.core) ≡ cond (is_hidden_by (Only m) t.active) None (Some t.core)
-  unfolding view_of
-  seen_registers = ap (λ x. x.registers) v
-
   seen_core : s.active ≡ None → s.core ≡ t.core
+  unfolding view_of
   seen_core e =
       let a : Some s.core ≡ Some t.core =
-      sym (ap (λ o. cond (is_hidden_by (Only m) o) None (Some s.core)) e) ∙ seen_registers ∙ ap (λ o. cond (is_hidden_by (Only m) o) None (Some t.core)) (sym seen_active ∙ e) in
+      sym (ap (λ o. cond (is_hidden_by (Only m) o) None (Some s.core)) e) ∙ ap (λ x. x.registers) v ∙ ap (λ o. cond (is_hidden_by (Only m) o) None (Some t.core)) (sym seen_active ∙ e) in
       cc
 
   core_same : (o : Option ℕ) → s.active ≡ o → standing o s.core ≡ standing o t.core
@@ -113,9 +106,10 @@ module _ (m : ℕ) (s t : State) (v : view_of s (Only m) ≡ view_of t (Only m))
   end_same None = core_same s.active refl
 
   end_lines : end_line_of s ≡ end_line_of t
+  unfolding view_of
   end_lines =
       ap (λ c. end_line_at c (end_by s.stop s.active s.core)) seen_cycle
-      ∙ ap (end_line_at t.cycle) (end_same s.stop ∙ ap (λ o. end_by o s.active t.core) seen_stop ∙ ap (λ a. end_by t.stop a t.core) seen_active)
+      ∙ ap (end_line_at t.cycle) (end_same s.stop ∙ ap (λ x. end_by x.stop s.active t.core) v ∙ ap (λ a. end_by t.stop a t.core) seen_active)
 
   all_seen : view_of s AllHidden ≡ view_of t AllHidden
   all_seen = sym (all_hidden m s) ∙ ap coarse v ∙ all_hidden m t

@@ -31,7 +31,7 @@ use Rattle.isolation.proofs.Evenly.{Evenly, Together, next_together}
 use Rattle.isolation.proofs.Hide.{veil, veil_step, veil_core, hide_by, held_ids_veiled}
 use Rattle.isolation.proofs.Inside.{Moves, did_act}
 use Rattle.isolation.proofs.Outside.{Light, light, outer_by, stays_by, arrived_active, arrive_outside_outer, act_outer, act_active}
-use Rattle.isolation.proofs.Relation.{find_held, times, none_found, run_by, run_of, Secret, Keeps, Ready, Stays, stays_self, Alike, Outer, outer_alike, seen_veiled, seen_active}
+use Rattle.isolation.proofs.Relation.{find_held, times, none_found, run_by, run_of, same_secret, Keeps, Ready, Stays, stays_self, Alike, Outer, outer_alike, seen_veiled, seen_active}
 use Rattle.isolation.proofs.Rights.{holds_in}
 use Rattle.isolation.proofs.Settled.{arrive_inside_stays}
 use Rattle.isolation.proofs.Settling.{arrive_hidden, due_hidden, enter_veiled}
@@ -193,11 +193,10 @@ module _ (m : ℕ) (own : Module) (key text : List ℕ) where
     evenly_start left small p fa fb =
         let ra : run_of m a ≡ None = ap (λ c. run_by c m a) out_a ∙ fa in
         let rb : run_of m b ≡ None = ap (λ c. run_by c m b) out_b ∙ fb in
-        let s1 = subst (λ r. Secret m own key text r (run_of m b) (section own.ram a.memory) (section own.ram b.memory)) ra ready.twins.secret in
-        let s2 : AlwaysEvenBy key own text (section own.ram a.memory) (section own.ram b.memory) = subst (λ r. Secret m own key text None r (section own.ram a.memory) (section own.ram b.memory)) rb s1 in
+        let even : AlwaysEvenBy key own text (section own.ram a.memory) (section own.ram b.memory) = same_secret m own key text (sym ra) (sym rb) refl refl ready.twins.secret in
         let core : a.core ≡ b.core = ap (λ s. s.core) veiled in
         let ev : Evenly key own text (job_of key own text left) (start left a) (begins (record { core = a.core; caller = left; within = 0 }) (section own.ram b.memory)) =
-        record { always = λ n es h. s2 (record { core = a.core; caller = left; within = n } ∷ es) (record { core_ok = ok_a; at_start = at_start a ka ok_a p; caller_ok = small }, h) } in
+        record { always = λ n es h. even (record { core = a.core; caller = left; within = n } ∷ es) (record { core_ok = ok_a; at_start = at_start a ka ok_a p; caller_ok = small }, h) } in
         subst (λ c. Evenly key own text (job_of key own text left) (start left a) (record { core = c; data_bytes = section own.ram b.memory; rest = 0; closing = false })) core ev
 
     first_together : (left : ℕ) (na nb : Option Insn) → next_insn (job_of key own text left) (start left a) ≡ na → next_insn (job_of key own text left) (start left b) ≡ nb → place_of a.table (pc_of a) ≡ Entry m → place_of b.table (pc_of b) ≡ Entry m → is_held m (held_ids a.frames) ≡ false → is_held m (held_ids b.frames) ≡ false → Together key own text (job_of key own text left) (does_or_breaks na) (does_or_breaks nb) (start left a) (start left b) → Alike m own key text (act (at_entry left a)) (act (at_entry left b))
