@@ -36,23 +36,20 @@ use Rattle.isolation.proofs.Gie.{effect_gie}
 use Rattle.isolation.proofs.Settling.{arrive_hidden, due_hidden}
 use Rattle.isolation.proofs.Cases.{turn_at, turn_is}
 
+abbrev pub moved : State → Lone → List ℕ → State
+moved s l' memory = record s { core = l'.core; memory = memory; phase = Run l'.rest; after = closing_after l'.closing }
+
+pub moved_run : (m : ℕ) (s : State) (l' : Lone) (memory : List ℕ) → is_id m s.active ≡ true → run_of m (moved s l' memory) ≡ Some record { «module» = m; caller = s.caller; core = l'.core; rest = l'.rest; closing = l'.closing }
+moved_run m s l' memory act =
+    ap (λ c. run_by c m (moved s l' memory)) act
+    ∙ ap (λ c. let r : Backup = record { «module» = m; caller = s.caller; core = l'.core; rest = l'.rest; closing = c } in Some r) (close_is l'.closing)
+
 module _ (m : ℕ) (own : Module) (key text : List ℕ) where
-  moved : State → Lone → List ℕ → State
-  moved s l' memory = record s { core = l'.core; memory = memory; phase = Run l'.rest; after = closing_after l'.closing }
-
-  moved_run : (s : State) (l' : Lone) (memory : List ℕ) → is_id m s.active ≡ true → run_of m (moved s l' memory) ≡ Some record { «module» = m; caller = s.caller; core = l'.core; rest = l'.rest; closing = l'.closing }
-  unfolding moved
-  moved_run s l' memory act =
-      ap (λ c. run_by c m (moved s l' memory)) act
-      ∙ ap (λ c. let r : Backup = record { «module» = m; caller = s.caller; core = l'.core; rest = l'.rest; closing = c } in Some r) (close_is l'.closing)
-
-  moved_keeps : (s : State) (l' : Lone) (memory : List ℕ) → Keeps m own key text s → section own.text memory ≡ section own.text s.memory → Keeps m own key text (moved s l' memory)
-  unfolding moved
+  pub moved_keeps : (s : State) (l' : Lone) (memory : List ℕ) → Keeps m own key text s → section own.text memory ≡ section own.text s.memory → Keeps m own key text (moved s l' memory)
   moved_keeps s l' memory k t =
       record { sound = k.sound; key_is = k.key_is; text_is = t ∙ k.text_is; once = k.once; proper = λ h. (refl, ap closing_after (sym (close_is l'.closing))) }
 
   moved_hidden : (s : State) (l' : Lone) (memory : List ℕ) → is_id m s.active ≡ true → cleared own.ram.start (size_of own.ram) memory ≡ cleared own.ram.start (size_of own.ram) s.memory → veil_core l'.core ≡ veil_core s.core → hide m own (moved s l' memory) ≡ hide_by true m own s
-  unfolding moved
   moved_hidden s l' memory act rest gie =
       let build : List ℕ → List ℕ → State = λ core mem. record (hide_by true m own s) { core = core; memory = mem } in
       ap (λ c. hide_by c m own (moved s l' memory)) act ∙ ap (λ c. build c (cleared own.ram.start (size_of own.ram) memory)) gie ∙ ap (build (veil_core s.core)) rest
@@ -63,14 +60,13 @@ module _ (m : ℕ) (own : Module) (key text : List ℕ) where
       section own.text ma ≡ section own.text a.memory → section own.text mb ≡ section own.text b.memory →
       veil_core la.core ≡ veil_core a.core → veil_core lb.core ≡ veil_core b.core →
       Evenly key own text (job_of key own text a.caller) la lb → Twins m own key text (moved a la ma) (moved b lb mb)
-  unfolding moved
   moved_alike a b la lb ma mb ka kb act_a act_b seen da db ra rb ta tb ga gb ev =
       let xa : Backup = record { «module» = m; caller = a.caller; core = la.core; rest = la.rest; closing = la.closing } in
       let xb : Backup = record { «module» = m; caller = b.caller; core = lb.core; rest = lb.rest; closing = lb.closing } in
       let s : Secret m own key text (Some xa) (Some xb) la.data_bytes lb.data_bytes = (ap (λ u. u.caller) seen, ev) in
       record {
         seen = moved_hidden a la ma act_a ra ga ∙ seen ∙ sym (moved_hidden b lb mb act_b rb gb);
-        secret = same_secret m own key text (moved_run a la ma act_a) (moved_run b lb mb act_b) da db s;
+        secret = same_secret m own key text (moved_run m a la ma act_a) (moved_run m b lb mb act_b) da db s;
         keeps_a = moved_keeps a la ma ka ta;
         keeps_b = moved_keeps b lb mb kb tb;
         open_a = λ h. absurd (let x : true ≡ false = sym act_a ∙ h in cc);
@@ -78,7 +74,6 @@ module _ (m : ℕ) (own : Module) (key text : List ℕ) where
       }
 
   pub moves_alike : (a b : State) (la lb : Lone) (ua ub : Step) → Keeps m own key text a → Keeps m own key text b → is_id m a.active ≡ true → is_id m b.active ≡ true → hide_by true m own a ≡ hide_by true m own b → Moves own a la ua → Moves own b lb ub → veil_core la.core ≡ veil_core a.core → veil_core lb.core ≡ veil_core b.core → Evenly key own text (job_of key own text a.caller) la lb → Alike m own key text ua ub
-  unfolding moved
   moves_alike a b la lb ua ub ka kb act_a act_b seen va vb ga gb ev =
       let t = moved_alike a b la lb va.memory vb.memory ka kb act_a act_b seen va.bytes vb.bytes va.rest vb.rest va.text vb.text ga gb ev in
       let t1 = subst (λ u. Twins m own key text u.state (moved b lb vb.memory)) (sym va.is) t in

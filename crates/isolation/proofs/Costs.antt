@@ -15,9 +15,8 @@ use Rattle.isolation.specs.Calls.{works, worked, NoEnd, NotBroken, Away, away_if
 use Rattle.isolation.proofs.Active.{active_some, turn_moves, arrives_at}
 use Rattle.isolation.proofs.Ending.{settled_as, settled_doing}
 use Rattle.isolation.proofs.Fine.{Fine, settled_fine}
-use Rattle.isolation.proofs.Follow.{job, Follows, Now, follow_stays, settle_follows, active_doing, counted_events, follows_on, more_by, never_breaks, entry_text, entry_job, entry_lone, entry_open, entry_follows, fine_from}
+use Rattle.isolation.proofs.Follow.{job, works_is, Follows, Now, ticked_follows, settle_follows, active_doing, counted_events, follows_on, more_by, never_breaks, entry_text, entry_job, entry_lone, entry_open, entry_follows, fine_from}
 use Rattle.isolation.proofs.Relation.{IsOpen, backup_of, lone_of}
-use Rattle.isolation.proofs.Settled.{ticked_stays}
 use Rattle.isolation.proofs.Still.{still_notes, notes_more, sent_still, turn_still, Told, settle_told}
 use Rattle.isolation.proofs.Turns.{held_turn}
 use Rattle.schedule_file.specs.declared.Entry.{Entry as Scheduled}
@@ -115,7 +114,7 @@ module _ (m : ℕ) (own : Module) (key text : List ℕ) (from : ℕ) where
       let t = ticked s in
       let u = settle t in
       let v = turn u.left u.state in
-      let g = follow_stays m own key text from s t la f (ticked_stays m own key text s f.keeps) (λ h. f.opened (ap (is_id m) (sym (ticked_active s)) ∙ h)) in
+      let g = ticked_follows m own key text from s la f in
       let ne = counted_events m own key text from v.state.stop u.events v n in
       let now = settle_follows m own key text from (is_id m t.active) t la g refl ne in
       let b1 = subst (λ a. Balance (is_id m a) i w c) (sym (ticked_active s)) b in
@@ -123,15 +122,12 @@ module _ (m : ℕ) (own : Module) (key text : List ℕ) (from : ℕ) where
       let b3 = turns u.left (is_id m u.state.active) u.state la now refl (settled_fine s fine).fine.core_ok nb i (notes m i u.events w) c b2 in
       counted v.state.stop u.events v i w (c + cond (is_id m u.state.active && is_none (due u.state)) 1 0) b3
 
-  works_is : (s : State) → s.stop ≡ None → works m s ≡ (let u = settle (ticked s) in is_id m u.state.active && is_none (due u.state))
-  works_is s e = ap (λ x. is_none x && is_id m (settle (ticked s)).state.active && is_none (due (settle (ticked s)).state)) e
-
   cycle_balance : (s : State) (la : Lone) → s.stop ≡ None → Follows m own key text from s la → Fine s → NoEnd m (cycle s).events → (works m s ≡ true → doing (job m own key text from) la ≢ Breaks) → (i : ℕ) (w : Away) (c : ℕ) → Balance (is_id m s.active) i w c → Balance (is_id m (cycle s).state.active) (i + 1) (notes m i (cycle s).events w) (c + cond (works m s) 1 0)
   cycle_balance s la e f fine n nb i w c b =
       let same : cycle s ≡ move s = ap (λ o. cycle_by o s) e in
       let n' = subst (λ u. NoEnd m u.events) same n in
-      let r = moves_balance s la f fine n' (λ h. nb (works_is s e ∙ h)) i w c b in
-      let r1 = subst (λ x. Balance (is_id m (move s).state.active) (i + 1) (notes m i (move s).events w) (c + cond x 1 0)) (sym (works_is s e)) r in
+      let r = moves_balance s la f fine n' (λ h. nb (works_is m None s e ∙ h)) i w c b in
+      let r1 = subst (λ x. Balance (is_id m (move s).state.active) (i + 1) (notes m i (move s).events w) (c + cond x 1 0)) (sym (works_is m None s e)) r in
       subst (λ u. Balance (is_id m u.state.active) (i + 1) (notes m i u.events w) (c + cond (works m s) 1 0)) (sym same) r1
 
   -- over n cycles from a state where the module has done one cycle of its own and is active
@@ -206,7 +202,7 @@ module _ (m : ℕ) (own : Module) (key text : List ℕ) (from : ℕ) where
   ends_now s la f h =
       let t = ticked s in
       let same = ticked_active s in
-      let g = follow_stays m own key text from s t la f (ticked_stays m own key text s f.keeps) (λ h. f.opened (ap (is_id m) (sym same) ∙ h)) in
+      let g = ticked_follows m own key text from s la f in
       let r = settle_ends (is_id m t.active) t la g refl h in
       (ap (is_id m) (sym same) ∙ r.0, r.1)
 
@@ -217,12 +213,12 @@ module _ (m : ℕ) (own : Module) (key text : List ℕ) (from : ℕ) where
       let t = ticked s in
       let u = settle t in
       let v = turn u.left u.state in
-      let g = follow_stays m own key text from s t la f (ticked_stays m own key text s f.keeps) (λ h. f.opened (ap (is_id m) (sym (ticked_active s)) ∙ h)) in
+      let g = ticked_follows m own key text from s la f in
       (settle_follows m own key text from (is_id m t.active) t la g refl (counted_events m own key text from v.state.stop u.events v n)).now
 
   cycle_open : (o : Option Stop) (s : State) (la : Lone) → s.stop ≡ o → Follows m own key text from s la → NoEnd m (cycle_by o s).events → works m s ≡ true → IsOpen (doing (job m own key text from) la)
   cycle_open (Some stop) s la e f n w =
-      let w' : works m s ≡ false = ap (λ x. is_none x && is_id m (settle (ticked s)).state.active && is_none (due (settle (ticked s)).state)) e in
+      let w' = works_is m (Some stop) s e in
       absurd (let c : true ≡ false = sym w ∙ w' in cc)
   cycle_open None s la e f n w = move_open s la f n
 

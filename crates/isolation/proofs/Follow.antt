@@ -1,25 +1,23 @@
 -- One run alone: whatever interrupts it, a module that is active or held stands where it stands by itself.
 use Rattle.std.proofs.Common.{◌≡◌, ◌≢◌, ℕ, ◌+◌, List, [], ◌∷◌, ◌++◌, refl, sym, ap, ◌∙◌, subst, Bool, true, false, ◌&&◌, Option, Some, None, is_none, zero, suc, ◌<◌, arith, cond, nat_lt, ◌==◌}
-use Rattle.isolation.proofs.Tame.{ticked_active, settled_key, key_at}
+use Rattle.isolation.proofs.Tame.{settled_key, key_at}
 use Rattle.sm_words.specs.Words.{IsCore}
 use Rattle.mod_layout.specs.declared.Module.{Module}
 use Rattle.pc_access.specs.Rights.{is_id, is_held}
 use Rattle.pc_access.specs.declared.Stop.{Stop}
-use Rattle.reg_backup.specs.Saved.{closing_after}
 use Rattle.reg_backup.specs.declared.backup.Backup.{Backup}
-use Rattle.reg_backup.specs.declared.backup.Phase.TheVariants.{Run}
 use Rattle.cpu_step.specs.Lone.{Job, Lone, Doing, Closes, Leaves, Breaks, doing, lone_step_by, lone_step, job_of, Outcome, Exit, Closing, Broken, Running, later, Waits, Does, lone_does, lone_after, in_time, outcome, does_or_breaks, next_insn}
 use Rattle.tracer.specs.declared.Event.{Event}
 use Rattle.written_machine.specs.Cycle.{Step, told, due, ticked, settle, turn, arrive_inside, sent_event, counted_by, move, cycle_by, pc_of, act, cycle, after_cycles}
 use Rattle.written_machine.specs.Peers.{section}
 use Rattle.written_machine.specs.State.{State}
 use Rattle.isolation.specs.Calls.{works, NoEnd, worked, Enters, NotBroken, Stands, backup_of, run_by}
-use Rattle.isolation.proofs.Active.{active_some, turn_moves, arrives_at}
+use Rattle.isolation.proofs.Active.{active_some, moved, moved_run, moved_keeps, turn_moves, arrives_at}
 use Rattle.isolation.proofs.Ending.{settled_as, settled_doing}
 use Rattle.isolation.proofs.Fine.{Fine, settled_fine, fine_at}
 use Rattle.isolation.proofs.Inside.{Moves}
 use Rattle.isolation.proofs.Relation.{find_held, backup_of, run_by, run_of, lone_of, IsOpen, Keeps, Stays}
-use Rattle.isolation.proofs.Settled.{close_is, settle_stays, passing_stays, ticked_stays, arrive_inside_stays}
+use Rattle.isolation.proofs.Settled.{settle_stays, passing_stays, ticked_stays, arrive_inside_stays}
 use Rattle.isolation.proofs.Turns.{held_turn, times_none, entry_free, at_entry, entered, entered_keeps, entered_moves, start, start_doing}
 use Rattle.isolation.proofs.Ways.{counted_holds}
 use Rattle.sm_words.specs.Sums.{one_if}
@@ -35,6 +33,9 @@ use Rattle.isolation.proofs.EvenBy.{cut, outcome_cut}
 use Rattle.isolation.proofs.Entering.{Enters_now, cycle_entering}
 use Rattle.isolation.proofs.Tables.{sound_from}
 use Rattle.std.proofs.lemmas.Bool.Decides.{nat_tests}
+
+pub works_is : (m : ℕ) (o : Option Stop) (s : State) → s.stop ≡ o → works m s ≡ (let u = settle (ticked s) in is_none o && is_id m u.state.active && is_none (due u.state))
+works_is m o s e = ap (λ x. is_none x && is_id m (settle (ticked s)).state.active && is_none (due (settle (ticked s)).state)) e
 
 module _ (m : ℕ) (own : Module) (key text : List ℕ) (from : ℕ) where
   abbrev pub job : Job
@@ -57,6 +58,10 @@ module _ (m : ℕ) (own : Module) (key text : List ℕ) (from : ℕ) where
   pub follow_stays : (s t : State) (la : Lone) → Follows s la → Stays m own key text s t → (is_id m t.active ≡ false → IsOpen (doing job la)) → Follows t la
   follow_stays s t la f st o =
       record { keeps = st.keeps; backup = f.backup; run = st.run ∙ f.run; lone = ap (lone_of f.backup) st.bytes ∙ f.lone; caller = f.caller; opened = o }
+
+  pub ticked_follows : (s : State) (la : Lone) → Follows s la → Follows (ticked s) la
+  unfolding ticked
+  ticked_follows s la f = follow_stays s (ticked s) la f (ticked_stays m own key text s f.keeps) f.opened
 
   -- what it is while it is active
   active_backup : (s : State) (la : Lone) (f : Follows s la) → is_id m s.active ≡ true → backup_of m s ≡ f.backup
@@ -94,13 +99,12 @@ module _ (m : ℕ) (own : Module) (key text : List ℕ) (from : ℕ) where
 
   pub moved_follows : (s : State) (la l' : Lone) (u : Step) → Follows s la → is_id m s.active ≡ true → Moves own s l' u → Follows u.state l'
   moved_follows s la l' u f act v =
-      let t : State = record s { core = l'.core; memory = v.memory; phase = Run l'.rest; after = closing_after l'.closing } in
+      let t = moved s l' v.memory in
       let r : Backup = record { «module» = m; caller = s.caller; core = l'.core; rest = l'.rest; closing = l'.closing } in
-      let run : run_of m t ≡ Some r = ap (λ c. run_by c m t) act ∙ ap (λ c. let q : Backup = record r { closing = c } in Some q) (close_is l'.closing) in
       let g : Follows t l' = record {
-        keeps = record { sound = f.keeps.sound; key_is = f.keeps.key_is; text_is = v.text ∙ f.keeps.text_is; once = f.keeps.once; proper = λ h. (refl, ap closing_after (sym (close_is l'.closing))) };
+        keeps = moved_keeps m own key text s l' v.memory f.keeps v.text;
         backup = r;
-        run = run;
+        run = moved_run m s l' v.memory act;
         lone = ap (λ d. lone_of r d) v.bytes;
         caller = ap (λ q. q.caller) (active_backup s la f act) ∙ f.caller;
         opened = λ h. absurd (let c : true ≡ false = sym act ∙ h in cc);
@@ -155,17 +159,16 @@ module _ (m : ℕ) (own : Module) (key text : List ℕ) (from : ℕ) where
       let t = ticked s in
       let u = settle t in
       let v = turn u.left u.state in
-      let g = follow_stays s t la f (ticked_stays m own key text s f.keeps) (λ h. f.opened (ap (is_id m) (sym (ticked_active s)) ∙ h)) in
+      let g = ticked_follows s la f in
       let w = settle_follows (is_id m t.active) t la g refl (counted_events v.state.stop u.events v n) in
       counted_follows v.state.stop (told u.events v) (stepped (is_id m u.state.active && is_none (due u.state)) la)
       (turn_follows u.left (is_id m u.state.active) u.state la w refl (settled_fine s fine).fine.core_ok nb)
 
   pub cycle_follows : (o : Option Stop) (s : State) (la : Lone) → s.stop ≡ o → Follows s la → Fine s → NoEnd m (cycle_by o s).events → (works m s ≡ true → doing job la ≢ Breaks) → Follows (cycle_by o s).state (stepped (works m s) la)
   cycle_follows (Some stop) s la e f fine n nb =
-      let w : works m s ≡ false = ap (λ x. is_none x && is_id m (settle (ticked s)).state.active && is_none (due (settle (ticked s)).state)) e in
-      subst (λ c. Follows s (stepped c la)) (sym w) f
+      subst (λ c. Follows s (stepped c la)) (sym (works_is m (Some stop) s e)) f
   cycle_follows None s la e f fine n nb =
-      let w : works m s ≡ (is_id m (settle (ticked s)).state.active && is_none (due (settle (ticked s)).state)) = ap (λ x. is_none x && is_id m (settle (ticked s)).state.active && is_none (due (settle (ticked s)).state)) e in
+      let w = works_is m None s e in
       subst (λ c. Follows (move s).state (stepped c la)) (sym w) (move_follows s la f fine n (λ h. nb (w ∙ h)))
 
 module _ (j : Job) where

@@ -32,7 +32,7 @@ use Rattle.written_machine.specs.Ports.{Port, Got, Gots, read_in, read_byte, rea
 use Rattle.written_machine.specs.State.{State}
 use Rattle.isolation.proofs.Bytes.{Out, get_part, part_set_in, part_set_out, cleared_set}
 use Rattle.isolation.proofs.Each.{Each}
-use Rattle.isolation.proofs.Rights.{Sound, holds_in, even_of}
+use Rattle.isolation.proofs.Rights.{Sound, holds_in, each_read, each_write, even_of}
 use Rattle.mod_layout.proofs.Found.{ends_of}
 
 -- a step of the active module
@@ -234,23 +234,15 @@ module _ (m : ℕ) (own : Module) (t : Table) (sound : Sound m own t) (j : Job) 
       in_width w (λ x. holds own.ram x) a (not-true (misaligned w a) (and_parts (not (misaligned w a)) (holds own.ram a) h').0) (λ x even g. holds_next own.ram x sound.ram_end even g) (and_parts (not (misaligned w a)) (holds own.ram a) h').1
   inside_write _ w a f h = cc
 
-  if_reads : (b : Bool) (x : Access) (ys : List Access) → (b ≡ true → InBy x.width in_sections x.addr) → Each (λ x. InBy x.width in_sections x.addr) ys → Each (λ x. InBy x.width in_sections x.addr) (cond b (x ∷ ys) ys)
-  if_reads true x ys f h = (f refl, h)
-  if_reads false x ys f h = h
-
-  if_writes : (b : Bool) (x : Access) (ys : List Access) → (b ≡ true → InBy x.width (λ a. holds own.ram a) x.addr) → Each (λ x. InBy x.width (λ a. holds own.ram a) x.addr) ys → Each (λ x. InBy x.width (λ a. holds own.ram a) x.addr) (cond b (x ∷ ys) ys)
-  if_writes true x ys f h = (f refl, h)
-  if_writes false x ys f h = h
+  inside_each : (xs : List Access) → all_inside j xs ≡ true → Each (λ x. is_inside j x ≡ true) xs
+  inside_each [] h = tt
+  inside_each (x ∷ xs) h = let p = and_parts (is_inside j x) (all_inside j xs) h in (p.0, inside_each xs p.1)
 
   all_reads : (xs : List Access) → all_inside j xs ≡ true → Each (λ x. InBy x.width in_sections x.addr) (reads_of xs)
-  all_reads [] h = tt
-  all_reads (x ∷ xs) h =
-      if_reads (is_read x.kind) x (reads_of xs) (λ f. inside_read x.kind x.width x.addr f (and_parts (is_inside j x) (all_inside j xs) h).0) (all_reads xs (and_parts (is_inside j x) (all_inside j xs) h).1)
+  all_reads xs h = each_read (λ x. InBy x.width in_sections x.addr) (λ x. is_inside j x ≡ true) (λ x. inside_read x.kind x.width x.addr) xs (inside_each xs h)
 
   all_writes : (xs : List Access) → all_inside j xs ≡ true → Each (λ x. InBy x.width (λ a. holds own.ram a) x.addr) (writes_of xs)
-  all_writes [] h = tt
-  all_writes (x ∷ xs) h =
-      if_writes (is_write x.kind) x (writes_of xs) (λ f. inside_write x.kind x.width x.addr f (and_parts (is_inside j x) (all_inside j xs) h).0) (all_writes xs (and_parts (is_inside j x) (all_inside j xs) h).1)
+  all_writes xs h = each_write (λ x. InBy x.width (λ a. holds own.ram a) x.addr) (λ x. is_inside j x ≡ true) (λ x. inside_write x.kind x.width x.addr) xs (inside_each xs h)
 
   module _ (held : List ℕ) where
     -- the module may read its sections and write its data

@@ -1,19 +1,19 @@
 -- What is allowed to others stays out of the module's data.
-use Rattle.std.proofs.Common.{◌≡◌, ◌≢◌, ◌⊎◌, ℕ, ◌+◌, ◌%◌, ◌<◌, ◌≤◌, List, [], ◌∷◌, refl, subst, arith, Bool, true, false, cond, not, ◌==◌, Option, Some, None, ⊎_elim}
+use Rattle.std.proofs.Common.{◌≡◌, ◌≢◌, ◌⊎◌, ℕ, ◌+◌, ◌%◌, ◌<◌, ◌≤◌, List, [], ◌∷◌, refl, ap, subst, arith, Bool, true, false, cond, not, ◌==◌, Option, Some, None, ⊎_elim}
 use Rattle.std.proofs.lemmas.Bool.{cases_lt}
 use Rattle.std.proofs.lemmas.Bool.Decides.{nat_tests}
-use Rattle.pc_access.proofs.RightLemmas.{aligned_both}
+use Rattle.pc_access.proofs.RightLemmas.{aligned_both, refused_not}
 use Rattle.sm_words.specs.declared.width.Width.{Width}
 use Rattle.sm_words.specs.declared.width.Width.TheVariants.{Byte, Word}
 use Rattle.mod_layout.specs.Table.{Table, place_of, module_of, size_of, holds}
 use Rattle.mod_layout.specs.Tables.{Apart, IsTable}
 use Rattle.mod_layout.specs.declared.Module.{Module}
 use Rattle.mod_layout.specs.declared.Place.TheVariants.{Entry, Text, Data}
-use Rattle.pc_access.specs.Rights.{right, right_at, refuse_if, misaligned, first_denied, or_else, is_id}
+use Rattle.pc_access.specs.Rights.{right, right_at, misaligned, first_denied, or_else, is_id}
 use Rattle.pc_access.specs.declared.Access.{Access}
 use Rattle.pc_access.specs.declared.Denied.{Denied}
 use Rattle.pc_access.specs.declared.Kind.{Kind}
-use Rattle.pc_access.specs.declared.Kind.TheVariants.{Fetch, Read, Write}
+use Rattle.pc_access.specs.declared.Kind.TheVariants.{Read, Write}
 use Rattle.pc_access.specs.declared.Rule.TheVariants.{ReadData, WriteData}
 use Rattle.attest.specs.Accesses.{is_read, is_write, reads_of, writes_of}
 pub use Rattle.mod_layout.proofs.Found.{within as holds_in}
@@ -46,13 +46,27 @@ pub record Sound (m : ℕ) (own : Module) (t : Table) : Type 0 where
   pub was_given : m ≤ t.given
   pub others : (id : ℕ) (x : Module) → module_of id t ≡ Some x → (id == m) ≡ false → Apart x.ram own.ram × Apart x.ram own.text
 
-refused : (b : Bool) (r : _) (a id : ℕ) → refuse_if (not b) r a id ≡ None → b ≡ true
-refused true r a id e = refl
-refused false r a id e = cc
-
 none_or : (p q : Option Denied) → or_else p q ≡ None → (p ≡ None) × (q ≡ None)
 none_or None q e = (refl, e)
 none_or (Some d) q e = absurd cc
+
+allowed_each : (t : Table) (active : Option ℕ) (held : List ℕ) (xs : List Access) → first_denied t active held xs ≡ None → Each (λ x. right t active held x ≡ None) xs
+allowed_each t active held [] e = tt
+allowed_each t active held (x ∷ xs) e =
+    let p = none_or (right t active held x) (first_denied t active held xs) e in (p.0, allowed_each t active held xs p.1)
+
+-- what holds of each read or write of a kind that may be
+each_if : (P : Access → Type 0) (b : Bool) (x : Access) (ys : List Access) → (b ≡ true → P x) → Each P ys → Each P (cond b (x ∷ ys) ys)
+each_if P true x ys f h = (f refl, h)
+each_if P false x ys f h = h
+
+pub each_read : (P Q : Access → Type 0) → ((x : Access) → is_read x.kind ≡ true → Q x → P x) → (xs : List Access) → Each Q xs → Each P (reads_of xs)
+each_read P Q f [] h = tt
+each_read P Q f (x ∷ xs) h = each_if P (is_read x.kind) x (reads_of xs) (λ e. f x e h.0) (each_read P Q f xs h.1)
+
+pub each_write : (P Q : Access → Type 0) → ((x : Access) → is_write x.kind ≡ true → Q x → P x) → (xs : List Access) → Each Q xs → Each P (writes_of xs)
+each_write P Q f [] h = tt
+each_write P Q f (x ∷ xs) h = each_if P (is_write x.kind) x (writes_of xs) (λ e. f x e h.0) (each_write P Q f xs h.1)
 
 pub even_of : (w : Width) (a : ℕ) → misaligned w a ≡ false → (w ≡ Word) → a % 2 ≡ 0
 even_of Byte a e f = cc
@@ -80,42 +94,32 @@ module _ (m : ℕ) (own : Module) (t : Table) (sound : Sound m own t) where
     not_read : (a : ℕ) → right_at (place_of t a) active held Read a ≡ None → place_of t a ≢ Data m
     not_read a e d =
         let e' = subst (λ p. right_at p active held Read a ≡ None) d e in
-        let b = refused (is_id m active) ReadData a m e' in cc
+        let b = refused_not (not (is_id m active)) ReadData a m e' in let c = ap not other in cc
 
     not_written : (a : ℕ) → right_at (place_of t a) active held Write a ≡ None → place_of t a ≢ Data m
     not_written a e d =
         let e' = subst (λ p. right_at p active held Write a ≡ None) d e in
-        let b = refused (is_id m active) WriteData a m e' in cc
+        let b = refused_not (not (is_id m active)) WriteData a m e' in let c = ap not other in cc
 
-    right_out : (k : Kind) (w : Width) (a : ℕ) → k ≢ Fetch → right t active held (record { kind = k; addr = a; width = w }) ≡ None → OutBy w own.ram.start (size_of own.ram) a
+    read_out : (k : Kind) (w : Width) (a : ℕ) → is_read k ≡ true → right t active held (record { kind = k; addr = a; width = w }) ≡ None → OutBy w own.ram.start (size_of own.ram) a
     unfolding right
-    right_out Fetch w a ne e = absurd (ne refl)
-    right_out Read w a ne e =
+    read_out Read w a f e =
         let p = aligned_both (misaligned w a) a (right_at (place_of t a) active held Read a) e in
         out_width w own.ram.start (size_of own.ram) a sound.ram_start p.0 (out_of a (not_read a p.1))
-    right_out Write w a ne e =
+    read_out _ w a f e = cc
+
+    write_out : (k : Kind) (w : Width) (a : ℕ) → is_write k ≡ true → right t active held (record { kind = k; addr = a; width = w }) ≡ None → OutBy w own.ram.start (size_of own.ram) a
+    unfolding right
+    write_out Write w a f e =
         let p = aligned_both (misaligned w a) a (right_at (place_of t a) active held Write a) e in
         out_width w own.ram.start (size_of own.ram) a sound.ram_start p.0 (out_of a (not_written a p.1))
-
-    reads_by : (k : Kind) (a : ℕ) (w : Width) (ys : List Access) → right t active held (record { kind = k; addr = a; width = w }) ≡ None → Each (OutAccess own.ram.start (size_of own.ram)) ys → Each (OutAccess own.ram.start (size_of own.ram)) (cond (is_read k) (record { kind = k; addr = a; width = w } ∷ ys) ys)
-    reads_by Read a w ys e h = (right_out Read w a (λ f. cc) e, h)
-    reads_by _ a w ys e h = h
-
-    writes_by : (k : Kind) (a : ℕ) (w : Width) (ys : List Access) → right t active held (record { kind = k; addr = a; width = w }) ≡ None → Each (OutAccess own.ram.start (size_of own.ram)) ys → Each (OutAccess own.ram.start (size_of own.ram)) (cond (is_write k) (record { kind = k; addr = a; width = w } ∷ ys) ys)
-    writes_by Write a w ys e h = (right_out Write w a (λ f. cc) e, h)
-    writes_by _ a w ys e h = h
+    write_out _ w a f e = cc
 
     pub reads_out : (xs : List Access) → first_denied t active held xs ≡ None → Each (OutAccess own.ram.start (size_of own.ram)) (reads_of xs)
-    reads_out [] e = tt
-    reads_out (x ∷ xs) e =
-        let p = none_or (right t active held x) (first_denied t active held xs) e in
-        reads_by x.kind x.addr x.width (reads_of xs) p.0 (reads_out xs p.1)
+    reads_out xs e = each_read (OutAccess own.ram.start (size_of own.ram)) (λ x. right t active held x ≡ None) (λ x. read_out x.kind x.width x.addr) xs (allowed_each t active held xs e)
 
     pub writes_out : (xs : List Access) → first_denied t active held xs ≡ None → Each (OutAccess own.ram.start (size_of own.ram)) (writes_of xs)
-    writes_out [] e = tt
-    writes_out (x ∷ xs) e =
-        let p = none_or (right t active held x) (first_denied t active held xs) e in
-        writes_by x.kind x.addr x.width (writes_of xs) p.0 (writes_out xs p.1)
+    writes_out xs e = each_write (OutAccess own.ram.start (size_of own.ram)) (λ x. right t active held x ≡ None) (λ x. write_out x.kind x.width x.addr) xs (allowed_each t active held xs e)
 
 module _ (m : ℕ) (own : Module) (t : Table) (sound : Sound m own t) where
   pub out_place : (a : ℕ) → place_of t a ≢ Data m → Out own.ram.start (size_of own.ram) a
@@ -138,15 +142,12 @@ module _ (m : ℕ) (own : Module) (t : Table) (sound : Sound m own t) (active : 
       let lt = sound.text_order in
       ⊎_elim (λ in_it. absurd (not_text a e (holds_in own.text a low in_it))) (λ past. omega arith) (cases_lt a own.text.end)
 
-  text_by : (k : Kind) (a : ℕ) (w : Width) (ys : List Access) → right t active held (record { kind = k; addr = a; width = w }) ≡ None → Each (OutAccess own.text.start (size_of own.text)) ys → Each (OutAccess own.text.start (size_of own.text)) (cond (is_write k) (record { kind = k; addr = a; width = w } ∷ ys) ys)
+  text_out : (k : Kind) (w : Width) (a : ℕ) → is_write k ≡ true → right t active held (record { kind = k; addr = a; width = w }) ≡ None → OutBy w own.text.start (size_of own.text) a
   unfolding right
-  text_by Write a w ys e h =
+  text_out Write w a f e =
       let p = aligned_both (misaligned w a) a (right_at (place_of t a) active held Write a) e in
-      (out_width w own.text.start (size_of own.text) a sound.text_start p.0 (text_out_of a p.1), h)
-  text_by _ a w ys e h = h
+      out_width w own.text.start (size_of own.text) a sound.text_start p.0 (text_out_of a p.1)
+  text_out _ w a f e = cc
 
   pub text_writes_out : (xs : List Access) → first_denied t active held xs ≡ None → Each (OutAccess own.text.start (size_of own.text)) (writes_of xs)
-  text_writes_out [] e = tt
-  text_writes_out (x ∷ xs) e =
-      let p = none_or (right t active held x) (first_denied t active held xs) e in
-      text_by x.kind x.addr x.width (writes_of xs) p.0 (text_writes_out xs p.1)
+  text_writes_out xs e = each_write (OutAccess own.text.start (size_of own.text)) (λ x. right t active held x ≡ None) (λ x. text_out x.kind x.width x.addr) xs (allowed_each t active held xs e)
