@@ -11,11 +11,11 @@ use Rattle.tracer.specs.declared.Event.{Event}
 use Rattle.written_machine.specs.Cycle.{Step, told, unsettled, due, ticked, settle, turn, arrive_inside, sent_event, counted_by, move, cycle_by, cycle, after_cycles}
 use Rattle.written_machine.specs.Peers.{section}
 use Rattle.written_machine.specs.State.{State}
-use Rattle.isolation.specs.Calls.{works, worked, NoEnd, NotBroken, Away, away_if, back_from, notes, away, backup_of, run_by, lone_of, find_held, Enters, Ends, Takes}
+use Rattle.isolation.specs.Calls.{entry_job, entry_lone, works, worked, NoEnd, NotBroken, Away, away_if, back_from, notes, away, backup_of, run_by, lone_of, find_held, Enters, Ends, Takes}
 use Rattle.isolation.proofs.Active.{active_some, turn_moves, arrives_at}
 use Rattle.isolation.proofs.Ending.{settled_as, settled_doing}
 use Rattle.isolation.proofs.Fine.{Fine, settled_fine}
-use Rattle.isolation.proofs.Follow.{job, works_is, Follows, Now, ticked_follows, settle_follows, active_doing, counted_events, follows_on, more_by, never_breaks, entry_text, entry_job, entry_lone, entry_open, entry_follows, fine_from}
+use Rattle.isolation.proofs.Follow.{job, works_is, Follows, Now, ticked_follows, settle_follows, active_doing, counted_events, follows_on, more_by, never_breaks, entry_text, entry_open, entry_follows, fine_from}
 use Rattle.isolation.proofs.Relation.{IsOpen, backup_of, lone_of}
 use Rattle.isolation.proofs.Still.{still_notes, notes_more, sent_still, turn_still, Told, settle_told}
 use Rattle.isolation.proofs.Turns.{held_turn}
@@ -245,8 +245,8 @@ module _ (a : Image) (m : ℕ) (own : Module) (schedule : List Scheduled) (k fro
     (enters : Enters m from (cycle (at a schedule k)).events) (own_is : module_of m (settle (ticked (at a schedule k))).state.table ≡ Some own) where
   pub costs : (n : ℕ) → ((i : ℕ) → i < n → NoEnd m (cycle (after_cycles (at a schedule (suc k)) i)).events) → Ends m (cycle (after_cycles (at a schedule (suc k)) n)).events →
       (let s = at a schedule (suc k) in
-      let j = entry_job a m own schedule k from ok enters own_is in
-      let l = entry_lone a m own schedule k from ok enters own_is in
+      let j = entry_job a schedule own k from in
+      let l = entry_lone a schedule own k from in
       let c = 1 + worked m s n in
       NotBroken (outcome j c l) → Takes c (outcome j c l) × ((away m s n).since ≡ None) × ((after_cycles s n).cycle ≡ (at a schedule k).cycle + (c + (away m s n).sum)))
   costs n ends ending h =
@@ -254,8 +254,8 @@ module _ (a : Image) (m : ℕ) (own : Module) (schedule : List Scheduled) (k fro
       let t = after_cycles s n in
       let key = a.node_key in
       let text = entry_text a m own schedule k from ok enters own_is in
-      let j = entry_job a m own schedule k from ok enters own_is in
-      let l = entry_lone a m own schedule k from ok enters own_is in
+      let j = entry_job a schedule own k from in
+      let l = entry_lone a schedule own k from in
       let c = 1 + worked m s n in
       let nb = never_breaks j c l 0 (omega arith) h in
       let f = entry_follows a m own schedule k from ok enters own_is nb in

@@ -1,19 +1,17 @@
 -- What every state of a run keeps of its cores, its table and its ids.
-use Rattle.std.proofs.Common.{◌≡◌, ℕ, suc, ◌<◌, ◌≤◌, List, [], ◌∷◌, get_or, replicate, refl, sym, subst, arith, Bool, true, false, cond, Option, Some, None}
-use Rattle.sm_words.specs.Words.{reg, IsCore}
+use Rattle.std.proofs.Common.{◌≡◌, ℕ, suc, ◌<◌, ◌≤◌, List, [], ◌∷◌, get_or, replicate, refl, sym, subst, arith, Bool, true, false, Option, Some, None}
+use Rattle.sm_words.specs.Words.{IsCore}
 use Rattle.insn_decode.specs.declared.insn.Insn.{Insn}
-use Rattle.insn_decode.specs.declared.insn.Insn.TheVariants.{Reti, Unit as UnitOp}
+use Rattle.insn_decode.specs.declared.insn.Insn.TheVariants.{Reti}
 use Rattle.schedule_file.specs.declared.Entry.{Entry as Scheduled}
-use Rattle.mod_layout.specs.Table.{Table, place_by, place_in, place_of, holds, takes, with_module}
+use Rattle.mod_layout.specs.Table.{Table, place_by, place_in, place_of, holds}
 use Rattle.mod_layout.specs.Tables.{AreModules, IsTable}
 use Rattle.mod_layout.specs.declared.Module.{Module}
 use Rattle.mod_layout.specs.declared.Place.{Place}
 use Rattle.mod_layout.specs.declared.Place.TheVariants.{Entry}
-use Rattle.mod_layout.specs.declared.Section.{Section}
 use Rattle.image_text.specs.Image.{Image, IsImage}
 use Rattle.reg_backup.specs.declared.frames.Frame.{Frame}
 use Rattle.reg_backup.specs.declared.frames.Frame.TheVariants.{Plain, Module as Held}
-use Rattle.attest.specs.Units.{UnitName, Protect, unit_named, new_text, new_ram, table_by}
 use Rattle.cpu_step.specs.Asked.{table_after}
 use Rattle.written_machine.specs.Cycle.{Settled, pc_of, settle, ticked, arrive_inside, plain_if, push_both, who_of, perform, without_newest, enter}
 use Rattle.written_machine.specs.State.{State}
@@ -22,6 +20,7 @@ use Rattle.isolation.proofs.Each.{Each}
 use Rattle.isolation.proofs.Gie.{effect_keeps, past_keeps}
 use Rattle.mod_layout.proofs.TableLemmas.{taken, table_more, table_dropped}
 use Rattle.sm_words.proofs.Cores.{put_core}
+use Rattle.isolation.proofs.Tables.{table_keeps}
 use Rattle.isolation.proofs.Ways.{Lasting, always, enter_ways, settle_ways}
 
 -- ---- a write of a register keeps a core
@@ -91,18 +90,8 @@ push_fine v s f =
 abbrev pub TableFine : Table → Type 0
 TableFine t = IsTable t × (t.given < 65536)
 
-protect_fine : (t : Table) (vendor : ℕ) (text ram : Section) (c : Bool) → takes t text ram ≡ c → TableFine t → TableFine (cond c (with_module t vendor text ram) t)
-protect_fine t vendor text ram false e h = h
-protect_fine t vendor text ram true e h = (table_more t vendor text ram h.0 e, let k = (taken t text ram e).given in omega arith)
-
-unit_table_fine : (x : UnitName) (t : Table) (core : List ℕ) → TableFine t → TableFine (table_by x t core)
-unit_table_fine Protect t core h = protect_fine t (reg core 11) (new_text core) (new_ram core) (takes t (new_text core) (new_ram core)) refl h
-unit_table_fine _ t core h = h
-
 pub table_fine : (insn : Insn) (t : Table) (core : List ℕ) → TableFine t → TableFine (table_after t insn core)
-unfolding table_after
-table_fine (UnitOp n) t core h = unit_table_fine (unit_named n) t core h
-table_fine _ t core h = h
+table_fine insn t core h = table_keeps TableFine (λ u vendor text ram e k. (table_more u vendor text ram k.0 e, let g = (taken u text ram e).given in omega arith)) insn t core h
 
 perform_fine : (insn : Insn) (s : State) → Fine s → Fine (perform insn s).state
 unfolding perform

@@ -11,7 +11,7 @@ use Rattle.tracer.specs.declared.Event.{Event}
 use Rattle.written_machine.specs.Cycle.{Step, told, due, ticked, settle, turn, arrive_inside, sent_event, counted_by, move, cycle_by, pc_of, act, cycle, after_cycles}
 use Rattle.written_machine.specs.Peers.{section}
 use Rattle.written_machine.specs.State.{State}
-use Rattle.isolation.specs.Calls.{works, NoEnd, worked, Enters, NotBroken, Stands, backup_of, run_by}
+use Rattle.isolation.specs.Calls.{entry_state, entry_job, entry_lone, works, NoEnd, worked, Enters, NotBroken, Stands, backup_of, run_by}
 use Rattle.isolation.proofs.Active.{active_some, moved, moved_run, moved_keeps, turn_moves, arrives_at}
 use Rattle.isolation.proofs.Ending.{settled_as, settled_doing}
 use Rattle.isolation.proofs.Fine.{Fine, settled_fine, fine_at}
@@ -285,17 +285,8 @@ open_next (Some i) = tt
 -- an entry, with the module as it is then, and where the module stands a cycle later
 module _ (a : Image) (m : ℕ) (own : Module) (schedule : List Scheduled) (k from : ℕ) (ok : IsImage a)
     (enters : Enters m from (cycle (at a schedule k)).events) (own_is : module_of m (settle (ticked (at a schedule k))).state.table ≡ Some own) where
-  abbrev entry_state : State
-  entry_state = (settle (ticked (at a schedule k))).state
-
   abbrev pub entry_text : List ℕ
-  entry_text = let u = (settle (ticked (at a schedule k))).state in section own.text u.memory
-
-  abbrev pub entry_job : Job
-  entry_job = let u = (settle (ticked (at a schedule k))).state in job_of a.node_key own (section own.text u.memory) from
-
-  abbrev pub entry_lone : Lone
-  entry_lone = let u = (settle (ticked (at a schedule k))).state in record { core = u.core; data_bytes = section own.ram u.memory; rest = 0; closing = false }
+  entry_text = section own.text (entry_state a schedule k).memory
 
   entering : ((at a schedule k).stop ≡ None) × (let u = settle (ticked (at a schedule k)) in Enters_now m from u.state (turn u.left u.state))
   entering = cycle_entering m from (at a schedule k) enters
@@ -303,12 +294,12 @@ module _ (a : Image) (m : ℕ) (own : Module) (schedule : List Scheduled) (k fro
   pub entry_runs : (at a schedule k).stop ≡ None
   entry_runs = entering.0
 
-  entry_fine : Fine entry_state
+  entry_fine : Fine (entry_state a schedule k)
   entry_fine = (settled_fine (at a schedule k) (fine_at a schedule k ok)).fine
 
-  entry_keeps : Keeps m own a.node_key entry_text entry_state
+  entry_keeps : Keeps m own a.node_key entry_text (entry_state a schedule k)
   entry_keeps =
-      let u = entry_state in
+      let u = (entry_state a schedule k) in
       let p = entering.1 in
       let idle : is_id m u.active ≡ false = ap (is_id m) p.none in
       let none = times_none m u.frames (entry_free m u p.free p.here) in
@@ -320,19 +311,19 @@ module _ (a : Image) (m : ℕ) (own : Module) (schedule : List Scheduled) (k fro
         proper = λ h. absurd (let c : true ≡ false = sym h ∙ idle in cc);
       }
 
-  pub entry_open : IsOpen (doing entry_job entry_lone)
+  pub entry_open : IsOpen (doing (entry_job a schedule own k from) (entry_lone a schedule own k from))
   unfolding start
   entry_open =
-      let u = entry_state in
+      let u = (entry_state a schedule k) in
       subst IsOpen (sym (start_doing m own a.node_key entry_text from u entry_keeps entry_fine.core_ok entering.1.here)) (open_next (next_insn (job m own a.node_key entry_text from) (start m own a.node_key entry_text from u)))
 
-  pub entry_follows : doing entry_job entry_lone ≢ Breaks → Follows m own a.node_key entry_text from (at a schedule (suc k)) (lone_after entry_job entry_lone 1) × (is_id m (at a schedule (suc k)).active ≡ true)
+  pub entry_follows : doing (entry_job a schedule own k from) (entry_lone a schedule own k from) ≢ Breaks → Follows m own a.node_key entry_text from (at a schedule (suc k)) (lone_after (entry_job a schedule own k from) (entry_lone a schedule own k from) 1) × (is_id m (at a schedule (suc k)).active ≡ true)
   unfolding start
   entry_follows nb =
       let s = at a schedule k in
       let same : cycle s ≡ move s = ap (λ o. cycle_by o s) entry_runs in
       let f = move_enters m own a.node_key entry_text from s entry_keeps (fine_at a schedule k ok) entering.1 nb in
-      (subst (λ x. Follows m own a.node_key entry_text from x.state (lone_step entry_job entry_lone)) (sym same) f.0, ap (λ x. is_id m x.state.active) same ∙ f.1)
+      (subst (λ x. Follows m own a.node_key entry_text from x.state (lone_step (entry_job a schedule own k from) (entry_lone a schedule own k from))) (sym same) f.0, ap (λ x. is_id m x.state.active) same ∙ f.1)
 
   pub fine_from : (i : ℕ) → Fine (after_cycles (at a schedule (suc k)) i)
   fine_from i = subst Fine (sym (after_more a schedule (suc k) i)) (fine_at a schedule (i + suc k) ok)
@@ -340,10 +331,10 @@ module _ (a : Image) (m : ℕ) (own : Module) (schedule : List Scheduled) (k fro
   -- the module stands in the machine where it stands by itself, whatever comes between
   pub transparent : (n : ℕ) → ((i : ℕ) → i < n → NoEnd m (cycle (after_cycles (at a schedule (suc k)) i)).events) →
       (let c = 1 + worked m (at a schedule (suc k)) n in
-      NotBroken (outcome entry_job c entry_lone) → Stands m own (after_cycles (at a schedule (suc k)) n) (lone_after entry_job entry_lone c))
+      NotBroken (outcome (entry_job a schedule own k from) c (entry_lone a schedule own k from)) → Stands m own (after_cycles (at a schedule (suc k)) n) (lone_after (entry_job a schedule own k from) (entry_lone a schedule own k from) c))
   transparent n ends h =
       let c = 1 + worked m (at a schedule (suc k)) n in
-      let nb = never_breaks entry_job c entry_lone 0 (omega arith) h in
+      let nb = never_breaks (entry_job a schedule own k from) c (entry_lone a schedule own k from) 0 (omega arith) h in
       let f = entry_follows nb in
-      let r = follows_on m own a.node_key entry_text from (at a schedule (suc k)) entry_lone 1 n f.0 (λ i lt. fine_from i) ends h in
+      let r = follows_on m own a.node_key entry_text from (at a schedule (suc k)) (entry_lone a schedule own k from) 1 n f.0 (λ i lt. fine_from i) ends h in
       record { backup = r.backup; run = r.run; same = r.lone; once = r.keeps.once }

@@ -93,7 +93,7 @@ module _ (m : ℕ) (own : Module) (t : Table) (sound : Sound m own t) where
       ap (λ b. b + 256 * byte_of (veil m own s) (a + 1)) (byte_veiled s a out.0) ∙ ap (λ b. byte_of s a + 256 * b) (byte_veiled s (a + 1) out.1)
 
   vector_out : (a : ℕ) → 65504 ≤ a → Out own.ram.start (size_of own.ram) a
-  vector_out a h low = let e = sound.ram_high in let o = sound.ram_order in omega arith
+  vector_out a h low = let e = sound.own_ok.ram_ok.high in let o = sound.own_ok.ram_ok.order in omega arith
 
   vector_cleared : (mem : List ℕ) (v : ℕ) → vector_in (cleared own.ram.start (size_of own.ram) mem) v ≡ vector_in mem v
   vector_cleared mem v =

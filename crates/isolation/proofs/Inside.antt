@@ -108,7 +108,7 @@ module _ (m : ℕ) (own : Module) (t : Table) (sound : Sound m own t) (j : Job) 
   in_sections a = holds own.text a || holds own.ram a
 
   not_low : (a : ℕ) → in_sections a ≡ true → nat_lt a 512 ≡ false
-  not_low a h = let l = sound.text_low in let r = sound.ram_low in grind (arith, nat_tests)
+  not_low a h = let l = sound.own_ok.text_ok.low in let r = sound.own_ok.ram_ok.low in grind (arith, nat_tests)
 
   module _ (mem : List ℕ) (text_is : section own.text mem ≡ j.text) where
     -- the machine's bytes are the module's
@@ -159,11 +159,11 @@ module _ (m : ℕ) (own : Module) (t : Table) (sound : Sound m own t) (j : Job) 
 
   text_out : (a : ℕ) → holds own.ram a ≡ true → Out own.text.start (size_of own.text) a
   text_out a h low =
-      let o = sound.text_order in
+      let o = sound.own_ok.text_ok.order in
       ⊎_elim (λ lt. absurd (let k = holds_in own.text a low lt in let f = sound.apart a k in cc)) (λ ge. omega arith) (cases_lt a own.text.end)
 
   ram_low' : (a : ℕ) → holds own.ram a ≡ true → nat_lt a 512 ≡ false
-  ram_low' a h = let r = sound.ram_low in grind (arith, nat_tests)
+  ram_low' a h = let r = sound.own_ok.ram_ok.low in grind (arith, nat_tests)
 
   write_byte_same : (p : Port) (a v : ℕ) → holds own.ram a ≡ true → Writes p (write_byte p a v) (set (section own.ram p.memory) (a - own.ram.start) v)
   write_byte_same p a v h =
@@ -209,10 +209,10 @@ module _ (m : ℕ) (own : Module) (t : Table) (sound : Sound m own t) (j : Job) 
   -- ---- accesses that stay inside are allowed
   sections_next : (a : ℕ) → a % 2 ≡ 0 → in_sections a ≡ true → in_sections (a + 1) ≡ true
   sections_next a even h =
-      let e1 = sound.text_end in let e2 = sound.ram_end in
+      let e1 = sound.own_ok.text_ok.even_end in let e2 = sound.own_ok.ram_ok.even_end in
       ⊎_elim
-      (λ x. ap (λ b. b || holds own.ram (a + 1)) (holds_next own.text a sound.text_end even x))
-      (λ x. or_right (holds own.text (a + 1)) (holds own.ram (a + 1)) (holds_next own.ram a sound.ram_end even x))
+      (λ x. ap (λ b. b || holds own.ram (a + 1)) (holds_next own.text a sound.own_ok.text_ok.even_end even x))
+      (λ x. or_right (holds own.text (a + 1)) (holds own.ram (a + 1)) (holds_next own.ram a sound.own_ok.ram_ok.even_end even x))
       (or_cases (holds own.text a) (holds own.ram a) h)
 
   in_width : (w : Width) (P : ℕ → Bool) (a : ℕ) → misaligned w a ≡ false → ((x : ℕ) → x % 2 ≡ 0 → P x ≡ true → P (x + 1) ≡ true) → P a ≡ true → InBy w P a
@@ -231,7 +231,7 @@ module _ (m : ℕ) (own : Module) (t : Table) (sound : Sound m own t) (j : Job) 
   inside_write : (k : Kind) (w : Width) (a : ℕ) → is_write k ≡ true → is_inside j (record { kind = k; addr = a; width = w }) ≡ true → InBy w (λ x. holds own.ram x) a
   inside_write Write w a f h =
       let h' = subst (λ (o : Module). (not (misaligned w a) && holds o.ram a) ≡ true) owner h in
-      in_width w (λ x. holds own.ram x) a (not-true (misaligned w a) (and_parts (not (misaligned w a)) (holds own.ram a) h').0) (λ x even g. holds_next own.ram x sound.ram_end even g) (and_parts (not (misaligned w a)) (holds own.ram a) h').1
+      in_width w (λ x. holds own.ram x) a (not-true (misaligned w a) (and_parts (not (misaligned w a)) (holds own.ram a) h').0) (λ x even g. holds_next own.ram x sound.own_ok.ram_ok.even_end even g) (and_parts (not (misaligned w a)) (holds own.ram a) h').1
   inside_write _ w a f h = cc
 
   inside_each : (xs : List Access) → all_inside j xs ≡ true → Each (λ x. is_inside j x ≡ true) xs
@@ -284,7 +284,7 @@ module _ (m : ℕ) (own : Module) (t : Table) (sound : Sound m own t) (j : Job) 
   home_by : (b : Bool) (a : ℕ) → (not b || holds own.text a) ≡ true → (not b || (nat_lt a 65536 && at_home (Some m) (place_of t a))) ≡ true
   home_by false a h = refl
   home_by true a h =
-      let e = sound.text_high in
+      let e = sound.own_ok.text_ok.high in
       let p = ends_of own.text a h in
       let lt : nat_lt a 65536 ≡ true = grind (arith, nat_tests) in
       ap (λ b. b && at_home (Some m) (place_of t a)) lt ∙ home_here a h

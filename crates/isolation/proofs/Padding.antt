@@ -84,30 +84,24 @@ counted_hides (Some stop) es t h = hides_more es t.events h
 counted_hides None es t h = hides_front (es ++ t.events) (sent_event t.state.devices.sent) (hides_more es t.events h)
 
 -- from a calm state, settled
-Next_is : State → Step → Type 0
-Next_is s t = Calm t.state ⊎ ((t.state.phase ≡ Pad 11) × (t.state.after ≡ Next) × Hides t.events)
+abbrev Next_is : Step → Type 0
+Next_is t = Calm t.state ⊎ ((t.state.phase ≡ Pad 11) × (t.state.after ≡ Next) × Hides t.events)
 
-turn_next : (left : ℕ) (s : State) → Calm s → Next_is s (turn left s)
-unfolding Next_is
+turn_next : (left : ℕ) (s : State) → Calm s → Next_is (turn left s)
 turn_next left s h =
     ⊎_elim (λ t. inl (t.calm h)) (λ x. ⊎_elim (λ b. inr (b.phase, b.after, b.hides)) (λ p. absurd (let e : Pad p.left ≡ Run (rest_of s.phase) = sym p.was ∙ h.0 in cc)) x) (turned left s)
 
-next_counted : (s : State) (es : List Event) (t : Step) → Next_is s t → Next_is s (counted_by t.state.stop (told es t))
-unfolding Next_is
-next_counted s es t h =
+next_counted : (es : List Event) (t : Step) → Next_is t → Next_is (counted_by t.state.stop (told es t))
+next_counted es t h =
     let o = t.state.stop in
     ⊎_elim (λ c. inl (counted_holds Calm (λ u k g. g) o (told es t) c)) (λ b. let e = counted_holds (Ended t.state) (λ u k g. g) o (told es t) (refl, refl, refl) in inr (e.0 ∙ b.0, e.1 ∙ b.1, counted_hides o es t b.2)) h
 
-next_same : (s s' : State) (t : Step) → Next_is s t → Next_is s' t
-unfolding Next_is
-next_same s s' t h = h
-
-move_next : (s : State) → Calm (settle (ticked s)).state → Next_is s (move s)
+move_next : (s : State) → Calm (settle (ticked s)).state → Next_is (move s)
 unfolding move
 move_next s c =
     let u = settle (ticked s) in
     let t = turn u.left u.state in
-    next_same u.state s (counted_by t.state.stop (told u.events t)) (next_counted u.state u.events t (turn_next u.left u.state c))
+    next_counted u.events t (turn_next u.left u.state c)
 
 module _ (a : Image) (schedule : List Scheduled) where
   record Padding (k : ℕ) : Type 0 where
@@ -131,11 +125,8 @@ module _ (a : Image) (schedule : List Scheduled) where
   same_move k e = ap (λ o. cycle_by o (at a schedule k)) e
 
   calm_history : (k : ℕ) → (at a schedule k).stop ≡ None → Calm (settle (ticked (at a schedule k))).state → History (suc k)
-  unfolding Next_is
   calm_history k run c =
-      let s = at a schedule k in
-      let e = same_move k run in
-      let n = subst (λ t. Calm t.state ⊎ ((t.state.phase ≡ Pad 11) × (t.state.after ≡ Next) × Hides t.events)) (sym e) (move_next s c) in
+      let n = subst Next_is (sym (same_move k run)) (move_next (at a schedule k) c) in
       ⊎_elim inl (λ b. inr (inl (record { left = 10; hid = k; phase = b.0; number = omega arith; hides = b.2 }))) n
 
   pad_history : (k : ℕ) (left hid : ℕ) → (at a schedule k).stop ≡ None → (at a schedule k).phase ≡ Pad (suc left) → k + suc left ≡ hid + 12 → Hides (cycle (at a schedule hid)).events → History (suc k)

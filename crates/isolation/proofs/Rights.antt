@@ -1,12 +1,12 @@
 -- What is allowed to others stays out of the module's data.
-use Rattle.std.proofs.Common.{◌≡◌, ◌≢◌, ◌⊎◌, ℕ, ◌+◌, ◌%◌, ◌<◌, ◌≤◌, List, [], ◌∷◌, refl, ap, subst, arith, Bool, true, false, cond, not, ◌==◌, Option, Some, None, ⊎_elim}
+use Rattle.std.proofs.Common.{◌≡◌, ◌≢◌, ◌⊎◌, ℕ, ◌+◌, ◌%◌, ◌≤◌, List, [], ◌∷◌, refl, ap, subst, arith, Bool, true, false, cond, not, ◌==◌, Option, Some, None, ⊎_elim}
 use Rattle.std.proofs.lemmas.Bool.{cases_lt}
 use Rattle.std.proofs.lemmas.Bool.Decides.{nat_tests}
 use Rattle.pc_access.proofs.RightLemmas.{aligned_both, refused_not}
 use Rattle.sm_words.specs.declared.width.Width.{Width}
 use Rattle.sm_words.specs.declared.width.Width.TheVariants.{Byte, Word}
 use Rattle.mod_layout.specs.Table.{Table, place_of, module_of, size_of, holds}
-use Rattle.mod_layout.specs.Tables.{Apart, IsTable}
+use Rattle.mod_layout.specs.Tables.{Apart, IsModule, IsTable}
 use Rattle.mod_layout.specs.declared.Module.{Module}
 use Rattle.mod_layout.specs.declared.Place.TheVariants.{Entry, Text, Data}
 use Rattle.pc_access.specs.Rights.{right, right_at, misaligned, first_denied, or_else, is_id}
@@ -25,25 +25,11 @@ use Rattle.isolation.proofs.Ports.{OutBy, OutAccess}
 pub record Sound (m : ℕ) (own : Module) (t : Table) : Type 0 where
   pub is_table : IsTable t
   pub found : module_of m t ≡ Some own
-  pub id_is : own.id ≡ m
+  pub own_ok : IsModule t.given own
   pub in_data : (a : ℕ) → holds own.ram a ≡ true → place_of t a ≡ Data m
-  pub data_only : (a : ℕ) → place_of t a ≡ Data m → holds own.ram a ≡ true
   pub in_text : (a : ℕ) → holds own.text a ≡ true → (place_of t a ≡ Text m) ⊎ (place_of t a ≡ Entry m)
-  pub text_only : (a : ℕ) → place_of t a ≡ Text m → holds own.text a ≡ true
   pub entry_only : (a : ℕ) → place_of t a ≡ Entry m → a % 2 ≡ 0 → a ≡ own.text.start
-  pub ram_start : own.ram.start % 2 ≡ 0
-  pub ram_end : own.ram.end % 2 ≡ 0
-  pub text_start : own.text.start % 2 ≡ 0
-  pub text_end : own.text.end % 2 ≡ 0
-  pub ram_order : own.ram.start < own.ram.end
-  pub text_order : own.text.start < own.text.end
-  pub ram_low : 512 ≤ own.ram.start
-  pub text_low : 512 ≤ own.text.start
-  pub ram_high : own.ram.end ≤ 65504
-  pub text_high : own.text.end ≤ 65504
   pub apart : (a : ℕ) → holds own.text a ≡ true → holds own.ram a ≡ false
-  pub disjoint : Apart own.ram own.text
-  pub was_given : m ≤ t.given
   pub others : (id : ℕ) (x : Module) → module_of id t ≡ Some x → (id == m) ≡ false → Apart x.ram own.ram × Apart x.ram own.text
 
 none_or : (p q : Option Denied) → or_else p q ≡ None → (p ≡ None) × (q ≡ None)
@@ -85,10 +71,13 @@ out_width Word lo n a start e out = (out, out_next lo n a start (even_of Word a 
 
 module _ (m : ℕ) (own : Module) (t : Table) (sound : Sound m own t) where
   -- an address that is not the module's data is out of them
-  out_of : (a : ℕ) → place_of t a ≢ Data m → Out own.ram.start (size_of own.ram) a
-  out_of a ne low =
-      let lt = sound.ram_order in
+  pub out_place : (a : ℕ) → place_of t a ≢ Data m → Out own.ram.start (size_of own.ram) a
+  out_place a ne low =
+      let lt = sound.own_ok.ram_ok.order in
       ⊎_elim (λ in_ram. absurd (ne (sound.in_data a (holds_in own.ram a low in_ram)))) (λ past. omega arith) (cases_lt a own.ram.end)
+
+  pub out_place_next : (a : ℕ) → a % 2 ≡ 0 → place_of t a ≢ Data m → OutBy Word own.ram.start (size_of own.ram) a
+  out_place_next a even ne = (out_place a ne, out_next own.ram.start (size_of own.ram) a sound.own_ok.ram_ok.even_start even (out_place a ne))
 
   module _ (active : Option ℕ) (held : List ℕ) (other : is_id m active ≡ false) where
     not_read : (a : ℕ) → right_at (place_of t a) active held Read a ≡ None → place_of t a ≢ Data m
@@ -105,14 +94,14 @@ module _ (m : ℕ) (own : Module) (t : Table) (sound : Sound m own t) where
     unfolding right
     read_out Read w a f e =
         let p = aligned_both (misaligned w a) a (right_at (place_of t a) active held Read a) e in
-        out_width w own.ram.start (size_of own.ram) a sound.ram_start p.0 (out_of a (not_read a p.1))
+        out_width w own.ram.start (size_of own.ram) a sound.own_ok.ram_ok.even_start p.0 (out_place a (not_read a p.1))
     read_out _ w a f e = cc
 
     write_out : (k : Kind) (w : Width) (a : ℕ) → is_write k ≡ true → right t active held (record { kind = k; addr = a; width = w }) ≡ None → OutBy w own.ram.start (size_of own.ram) a
     unfolding right
     write_out Write w a f e =
         let p = aligned_both (misaligned w a) a (right_at (place_of t a) active held Write a) e in
-        out_width w own.ram.start (size_of own.ram) a sound.ram_start p.0 (out_of a (not_written a p.1))
+        out_width w own.ram.start (size_of own.ram) a sound.own_ok.ram_ok.even_start p.0 (out_place a (not_written a p.1))
     write_out _ w a f e = cc
 
     pub reads_out : (xs : List Access) → first_denied t active held xs ≡ None → Each (OutAccess own.ram.start (size_of own.ram)) (reads_of xs)
@@ -120,13 +109,6 @@ module _ (m : ℕ) (own : Module) (t : Table) (sound : Sound m own t) where
 
     pub writes_out : (xs : List Access) → first_denied t active held xs ≡ None → Each (OutAccess own.ram.start (size_of own.ram)) (writes_of xs)
     writes_out xs e = each_write (OutAccess own.ram.start (size_of own.ram)) (λ x. right t active held x ≡ None) (λ x. write_out x.kind x.width x.addr) xs (allowed_each t active held xs e)
-
-module _ (m : ℕ) (own : Module) (t : Table) (sound : Sound m own t) where
-  pub out_place : (a : ℕ) → place_of t a ≢ Data m → Out own.ram.start (size_of own.ram) a
-  out_place a ne = out_of m own t sound a ne
-
-  pub out_place_next : (a : ℕ) → a % 2 ≡ 0 → place_of t a ≢ Data m → OutBy Word own.ram.start (size_of own.ram) a
-  out_place_next a even ne = (out_of m own t sound a ne, out_next own.ram.start (size_of own.ram) a sound.ram_start even (out_of m own t sound a ne))
 
 -- what is allowed to be written, to anyone, stays out of the module's text
 module _ (m : ℕ) (own : Module) (t : Table) (sound : Sound m own t) (active : Option ℕ) (held : List ℕ) where
@@ -139,14 +121,14 @@ module _ (m : ℕ) (own : Module) (t : Table) (sound : Sound m own t) (active : 
 
   text_out_of : (a : ℕ) → right_at (place_of t a) active held Write a ≡ None → Out own.text.start (size_of own.text) a
   text_out_of a e low =
-      let lt = sound.text_order in
+      let lt = sound.own_ok.text_ok.order in
       ⊎_elim (λ in_it. absurd (not_text a e (holds_in own.text a low in_it))) (λ past. omega arith) (cases_lt a own.text.end)
 
   text_out : (k : Kind) (w : Width) (a : ℕ) → is_write k ≡ true → right t active held (record { kind = k; addr = a; width = w }) ≡ None → OutBy w own.text.start (size_of own.text) a
   unfolding right
   text_out Write w a f e =
       let p = aligned_both (misaligned w a) a (right_at (place_of t a) active held Write a) e in
-      out_width w own.text.start (size_of own.text) a sound.text_start p.0 (text_out_of a p.1)
+      out_width w own.text.start (size_of own.text) a sound.own_ok.text_ok.even_start p.0 (text_out_of a p.1)
   text_out _ w a f e = cc
 
   pub text_writes_out : (xs : List Access) → first_denied t active held xs ≡ None → Each (OutAccess own.text.start (size_of own.text)) (writes_of xs)

@@ -8,7 +8,7 @@ use Rattle.mod_layout.specs.Table.{Table, place_by, place_in, place_of, find_mod
 use Rattle.mod_layout.specs.Tables.{Apart, IsSection, IsModule, Separate, SeparateFrom, AreModules, IsTable}
 use Rattle.mod_layout.specs.declared.Module.{Module}
 use Rattle.mod_layout.specs.declared.Place.{Place}
-use Rattle.mod_layout.specs.declared.Place.TheVariants.{Open, Entry, Text, Data}
+use Rattle.mod_layout.specs.declared.Place.TheVariants.{Entry, Text, Data}
 use Rattle.mod_layout.specs.declared.Section.{Section}
 use Rattle.attest.specs.Units.{UnitName, Protect, unit_named, new_text, new_ram, table_by}
 use Rattle.cpu_step.specs.Asked.{table_after}
@@ -41,37 +41,34 @@ module _ (given : ℕ) (x : Module) (ok : IsModule given x) (rest : Place) (a : 
       by true e = inr (rw e refl)
       by false e = inl (rw (e, t) refl)
 
--- what a place says of the module m
+-- what an entry says of the module m
 abbrev Says : ℕ → Module → Place → ℕ → Type 0
-Says m own Open a = Unit {0}
 Says m own (Entry id) a = id ≡ m → is_entry own.text a ≡ true
-Says m own (Text id) a = id ≡ m → holds own.text a ≡ true
-Says m own (Data id) a = id ≡ m → holds own.ram a ≡ true
+Says m own _ a = Unit {0}
 
--- a place that is not the module's
+-- a place that is not the module's entry
 abbrev IsNot : ℕ → Place → Type 0
-IsNot m Open = Unit {0}
 IsNot m (Entry id) = id ≢ m
-IsNot m (Text id) = id ≢ m
-IsNot m (Data id) = id ≢ m
+IsNot m _ = Unit {0}
 
 says_not : (m : ℕ) (own : Module) (p : Place) (a : ℕ) → IsNot m p → Says m own p a
-says_not m own Open a h = tt
-says_not m own _ a h = λ e. absurd (h e)
+says_not m own (Entry id) a h = λ e. absurd (h e)
+says_not m own _ a h = tt
 
 not_by : (m id : ℕ) (e t r : Bool) (rest : Place) → id ≢ m → IsNot m rest → IsNot m (place_by e t r id rest)
+not_by m id true t r rest ne h = ne
 not_by m id false false false rest ne h = h
-not_by m id _ _ _ rest ne h = ne
+not_by m id false _ _ rest ne h = tt
 
-says_by : (m : ℕ) (own : Module) (a id : ℕ) (e t r : Bool) (rest : Place) → is_entry own.text a ≡ e → holds own.text a ≡ t → holds own.ram a ≡ r → IsNot m rest → Says m own (place_by e t r id rest) a
-says_by m own a id true t r rest he ht hr h = λ q. he
-says_by m own a id false true r rest he ht hr h = λ q. ht
-says_by m own a id false false true rest he ht hr h = λ q. hr
-says_by m own a id false false false rest he ht hr h = says_not m own rest a h
+says_by : (m : ℕ) (own : Module) (a id : ℕ) (e t r : Bool) (rest : Place) → is_entry own.text a ≡ e → IsNot m rest → Says m own (place_by e t r id rest) a
+says_by m own a id true t r rest he h = λ q. he
+says_by m own a id false false false rest he h = says_not m own rest a h
+says_by m own a id false _ _ rest he h = tt
 
 says_skip : (m : ℕ) (own : Module) (a id : ℕ) (e t r : Bool) (rest : Place) → id ≢ m → Says m own rest a → Says m own (place_by e t r id rest) a
+says_skip m own a id true t r rest ne h = λ q. absurd (ne q)
 says_skip m own a id false false false rest ne h = h
-says_skip m own a id _ _ _ rest ne h = λ q. absurd (ne q)
+says_skip m own a id false _ _ rest ne h = tt
 
 module _ (given : ℕ) (m : ℕ) where
   others_not : (x : Module) (ms : List Module) (a : ℕ) → x.id ≡ m → SeparateFrom x ms → IsNot m (place_in ms a)
@@ -82,7 +79,6 @@ module _ (given : ℕ) (m : ℕ) where
   -- where the module is found in a list
   pub record Found (ms : List Module) (own : Module) : Type 0 where
     pub is_module : IsModule given own
-    pub id_is : own.id ≡ m
     pub in_data : (a : ℕ) → holds own.ram a ≡ true → place_in ms a ≡ Data m
     pub in_text : (a : ℕ) → holds own.text a ≡ true → (place_in ms a ≡ Text m) ⊎ (place_in ms a ≡ Entry m)
     pub says : (a : ℕ) → Says m own (place_in ms a) a
@@ -91,10 +87,9 @@ module _ (given : ℕ) (m : ℕ) where
   found_here x ms ok s e =
       record {
         is_module = ok;
-        id_is = e;
         in_data = λ a h. place_data given x ok (place_in ms a) a h ∙ ap Data e;
         in_text = λ a h. ⊎_elim (λ p. inl (p ∙ ap Text e)) (λ p. inr (p ∙ ap Entry e)) (place_text given x ok (place_in ms a) a h);
-        says = λ a. says_by m x a x.id (is_entry x.text a) (holds x.text a) (holds x.ram a) (place_in ms a) refl refl refl (others_not x ms a e s);
+        says = λ a. says_by m x a x.id (is_entry x.text a) (holds x.text a) (holds x.ram a) (place_in ms a) refl (others_not x ms a e s);
       }
 
   found_later : (x : Module) (ms : List Module) (own : Module) → IsModule given x → Separate x own → x.id ≢ m → Found ms own → Found (x ∷ ms) own
@@ -102,7 +97,6 @@ module _ (given : ℕ) (m : ℕ) where
       let o = f.is_module in
       record {
         is_module = f.is_module;
-        id_is = f.id_is;
         in_data = λ a h. place_skip given x ok (place_in ms a) a (apart_out own.ram x.text a o.ram_ok.order ok.text_ok.order (apart_sym x.text own.ram s.text_ram) h) (apart_out own.ram x.ram a o.ram_ok.order ok.ram_ok.order (apart_sym x.ram own.ram s.rams) h) ∙ f.in_data a h;
         in_text = λ a h.
             let e = place_skip given x ok (place_in ms a) a (apart_out own.text x.text a o.text_ok.order ok.text_ok.order (apart_sym x.text own.text s.texts) h) (apart_out own.text x.ram a o.text_ok.order ok.ram_ok.order (apart_sym x.ram own.text s.ram_text) h) in
@@ -142,25 +136,11 @@ sound_from m own t ok e =
     record {
       is_table = ok;
       found = e;
-      id_is = f.id_is;
+      own_ok = o;
       in_data = f.in_data;
-      data_only = λ a h. subst (λ p. Says m own p a) h (f.says a) refl;
       in_text = f.in_text;
-      text_only = λ a h. subst (λ p. Says m own p a) h (f.says a) refl;
       entry_only = λ a h even. at_start own.text a o.text_ok (subst (λ p. Says m own p a) h (f.says a) refl) even;
-      ram_start = o.ram_ok.even_start;
-      ram_end = o.ram_ok.even_end;
-      text_start = o.text_ok.even_start;
-      text_end = o.text_ok.even_end;
-      ram_order = o.ram_ok.order;
-      text_order = o.text_ok.order;
-      ram_low = o.ram_ok.low;
-      text_low = o.text_ok.low;
-      ram_high = o.ram_ok.high;
-      text_high = o.text_ok.high;
       apart = λ a h. apart_out own.text own.ram a o.text_ok.order o.ram_ok.order (apart_sym own.ram own.text o.apart) h;
-      disjoint = o.apart;
-      was_given = subst (λ i. i ≤ t.given) f.id_is o.known;
       others = λ id x g ne. let s = two_found t.given id m t.modules x own ok.modules ne g e in (s.rams, s.ram_text);
     }
   where
@@ -195,15 +175,21 @@ find_more m (y ∷ ms) new own e = by (y.id == m) e (λ f. find_more m ms new ow
     by true f r = f
     by false f r = r f
 
-sound_by : (m : ℕ) (own : Module) (t : Table) (vendor : ℕ) (text ram : Section) (c : Bool) → takes t text ram ≡ c → Sound m own t → Sound m own (cond c (with_module t vendor text ram) t)
-sound_by m own t vendor text ram true e s = sound_from m own (with_module t vendor text ram) (table_more t vendor text ram s.is_table e) (find_more m t.modules _ own s.found)
-sound_by m own t vendor text ram false e s = s
+-- what a table keeps as it takes a module, it keeps over an instruction
+module _ (P : Table → Type 0) (more : (t : Table) (vendor : ℕ) (text ram : Section) → takes t text ram ≡ true → P t → P (with_module t vendor text ram)) where
+  taken_keeps : (t : Table) (vendor : ℕ) (text ram : Section) (c : Bool) → takes t text ram ≡ c → P t → P (cond c (with_module t vendor text ram) t)
+  taken_keeps t vendor text ram true e h = more t vendor text ram e h
+  taken_keeps t vendor text ram false e h = h
 
-sound_unit : (m : ℕ) (own : Module) (t : Table) (x : UnitName) (core : List ℕ) → Sound m own t → Sound m own (table_by x t core)
-sound_unit m own t Protect core s = sound_by m own t (reg core 11) (new_text core) (new_ram core) (takes t (new_text core) (new_ram core)) refl s
-sound_unit m own t _ core s = s
+  unit_keeps : (x : UnitName) (t : Table) (core : List ℕ) → P t → P (table_by x t core)
+  unit_keeps Protect t core h = taken_keeps t (reg core 11) (new_text core) (new_ram core) (takes t (new_text core) (new_ram core)) refl h
+  unit_keeps _ t core h = h
+
+  pub table_keeps : (insn : Insn) (t : Table) (core : List ℕ) → P t → P (table_after t insn core)
+  unfolding table_after
+  table_keeps (UnitOp n) t core h = unit_keeps (unit_named n) t core h
+  table_keeps _ t core h = h
 
 pub sound_after : (m : ℕ) (own : Module) (t : Table) (insn : Insn) (core : List ℕ) → Sound m own t → Sound m own (table_after t insn core)
-unfolding table_after
-sound_after m own t (UnitOp n) core s = sound_unit m own t (unit_named n) core s
-sound_after m own t _ core s = s
+sound_after m own t insn core s =
+    table_keeps (Sound m own) (λ u vendor text ram e k. sound_from m own (with_module u vendor text ram) (table_more u vendor text ram k.is_table e) (find_more m u.modules _ own k.found)) insn t core s

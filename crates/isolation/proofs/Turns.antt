@@ -147,7 +147,7 @@ module _ (m : ℕ) (own : Module) (key text : List ℕ) where
   in_its_text : (s : State) → Keeps m own key text s → IsCore s.core → place_of s.table (pc_of s) ≡ Entry m → holds own.text (pc_of s) ≡ true
   in_its_text s k ok p =
       let a = at_start s k ok p in
-      let o = k.sound.text_order in
+      let o = k.sound.own_ok.text_ok.order in
       holds_in own.text (pc_of s) (omega arith) (omega arith)
 
   pub entered_moves : (left : ℕ) (s : State) (insn : Insn) → Keeps m own key text s → IsCore s.core → place_of s.table (pc_of s) ≡ Entry m → next_insn (job_of key own text left) (start left s) ≡ Some insn → Moves own (entered left s) (lone_does (job_of key own text left) insn (start left s)) (act (record s { active = Some m; caller = left; after = Next }))

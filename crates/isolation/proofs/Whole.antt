@@ -194,14 +194,14 @@ module _ (a b : Image) (m : ℕ) (schedule : List Scheduled) (peers : Peers a b 
   sound_a = sound_from m own a.table peers.image_a.table_ok peers.owned
 
   out_byte : (x : ℕ) → 65504 ≤ x → get_or a.memory x 0 ≡ get_or b.memory x 0
-  out_byte x h = peers.elsewhere x (out_holds own.ram x sound_a.ram_high h)
+  out_byte x h = peers.elsewhere x (out_holds own.ram x sound_a.own_ok.ram_ok.high h)
 
   by_place : (i : ℕ) (c : Bool) → holds own.ram i ≡ c → get_or (cleared own.ram.start (size_of own.ram) a.memory) i 0 ≡ get_or (cleared own.ram.start (size_of own.ram) b.memory) i 0
   by_place i true e =
       let p = ends_of own.ram i e in
       get_in_cleared own.ram.start (size_of own.ram) a.memory i p.0 (omega (arith, p.0, p.1)) ∙ sym (get_in_cleared own.ram.start (size_of own.ram) b.memory i p.0 (omega (arith, p.0, p.1)))
   by_place i false e =
-      let out : Out own.ram.start (size_of own.ram) i = λ low. not_in own.ram i e sound_a.ram_order low in
+      let out : Out own.ram.start (size_of own.ram) i = λ low. not_in own.ram i e sound_a.own_ok.ram_ok.order low in
       get_cleared own.ram.start (size_of own.ram) a.memory i out ∙ peers.elsewhere i e ∙ sym (get_cleared own.ram.start (size_of own.ram) b.memory i out)
 
   cleared_same : cleared own.ram.start (size_of own.ram) a.memory ≡ cleared own.ram.start (size_of own.ram) b.memory
@@ -215,7 +215,7 @@ module _ (a b : Image) (m : ℕ) (schedule : List Scheduled) (peers : Peers a b 
   text_same =
       let lo = own.text.start in
       let n = size_of own.text in
-      sym (part_cleared lo n own.ram.start (size_of own.ram) b.memory sound_a.disjoint) ∙ ap (section own.text) (sym cleared_same) ∙ part_cleared lo n own.ram.start (size_of own.ram) a.memory sound_a.disjoint
+      sym (part_cleared lo n own.ram.start (size_of own.ram) b.memory sound_a.own_ok.apart) ∙ ap (section own.text) (sym cleared_same) ∙ part_cleared lo n own.ram.start (size_of own.ram) a.memory sound_a.own_ok.apart
 
   boot_seen : hide m own (boot a schedule) ≡ hide m own (boot b schedule)
   boot_seen =
