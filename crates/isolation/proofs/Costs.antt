@@ -17,14 +17,14 @@ use Rattle.isolation.proofs.Ending.{settled_as, settled_doing}
 use Rattle.isolation.proofs.Fine.{Fine, settled_fine}
 use Rattle.isolation.proofs.Follow.{job, works_is, Follows, Now, ticked_follows, settle_follows, active_doing, counted_events, follows_on, more_by, never_breaks, entry_text, entry_open, entry_follows, fine_from}
 use Rattle.isolation.proofs.Relation.{IsOpen, backup_of, lone_of}
-use Rattle.isolation.proofs.Still.{still_notes, notes_more, sent_still, turn_still, Told, settle_told}
+use Rattle.isolation.proofs.Still.{Still, still_notes, notes_more, turn_still, Told, settle_told}
 use Rattle.isolation.proofs.Turns.{held_turn}
 use Rattle.schedule_file.specs.declared.Entry.{Entry as Scheduled}
 use Rattle.mod_layout.specs.Table.{module_of}
 use Rattle.image_text.specs.Image.{Image, IsImage}
 use Rattle.written_machine.specs.View.{at}
 use Rattle.cpu_step.proofs.LoneLemmas.{after_step}
-use Rattle.isolation.proofs.Ways.{settle_ways}
+use Rattle.isolation.proofs.Ways.{sent_tells, settle_ways}
 
 -- while it is active all the cycles so far are its own or between a hide and its resume; while it is held, those up to the hide
 abbrev pub Balance : Bool → ℕ → Away → ℕ → Type 0
@@ -105,7 +105,7 @@ module _ (m : ℕ) (own : Module) (key text : List ℕ) (from : ℕ) where
   counted None es t i w c b =
       let s = sent_event t.state.devices.sent in
       let e : notes m i (es ++ t.events ++ s) w ≡ notes m i t.events (notes m i es w) =
-      notes_more m i (es ++ t.events) s w ∙ still_notes m i s (notes m i (es ++ t.events) w) (sent_still m t.state.devices.sent) ∙ notes_more m i es t.events w in
+      notes_more m i (es ++ t.events) s w ∙ still_notes m i s (notes m i (es ++ t.events) w) (sent_tells (Still m) tt (λ b. tt) t.state.devices.sent) ∙ notes_more m i es t.events w in
       subst (λ y. Balance (is_id m t.state.active) (i + 1) y c) (sym e) b
 
   moves_balance : (s : State) (la : Lone) → Follows m own key text from s la → Fine s → NoEnd m (move s).events → (let u = settle (ticked s) in (is_id m u.state.active && is_none (due u.state)) ≡ true → doing (job m own key text from) la ≢ Breaks) → (i : ℕ) (w : Away) (c : ℕ) → Balance (is_id m s.active) i w c → Balance (is_id m (move s).state.active) (i + 1) (notes m i (move s).events w) (c + (let u = settle (ticked s) in cond (is_id m u.state.active && is_none (due u.state)) 1 0))

@@ -10,14 +10,13 @@ use Rattle.pc_access.specs.declared.Stop.{Stop}
 use Rattle.image_text.specs.Image.{Image}
 use Rattle.reg_backup.specs.Held.{held_ids}
 use Rattle.reg_backup.specs.declared.backup.After.TheVariants.{Next}
-use Rattle.cpu_step.specs.Asked.{table_after}
 use Rattle.tracer.specs.declared.Event.{Event}
 use Rattle.tracer.specs.declared.Event.TheVariants.{Enter as Entered}
-use Rattle.written_machine.specs.Cycle.{Step, told, pc_of, settle, ticked, arrive_inside, perform, act, fetch, turn, sent_event, counted_by, move, cycle_by, cycle}
+use Rattle.written_machine.specs.Cycle.{Step, told, pc_of, settle, ticked, arrive_inside, act, fetch, turn, sent_event, counted_by, move, cycle_by, cycle}
 use Rattle.written_machine.specs.State.{State}
 use Rattle.written_machine.specs.View.{at}
 use Rattle.isolation.specs.Calls.{Enters}
-use Rattle.isolation.proofs.Ways.{EachAct, EachTurn, each_turn, settle_ways}
+use Rattle.isolation.proofs.Ways.{perform_tells, sent_tells, EachAct, EachTurn, each_turn, settle_ways}
 
 -- ---- no event of these enters a module
 module _ (m from : ℕ) where
@@ -36,15 +35,10 @@ module _ (m from : ℕ) where
       settle_ways s (λ u. Quiet u.events) (λ h. h) (λ b fs f. one (Event.Resume b.module) (λ e. cc)) (λ id x a o. one (Event.Close id) (λ e. cc)) (λ f. one (Event.Handler (pc_of s)) (λ e. cc))
       (λ id a. one (Event.Leave id (pc_of s)) (λ e. cc))
 
-  made_quiet : (c : Bool) (n : ℕ) → Quiet (cond c [] (Event.Protect n ∷ []))
-  made_quiet true n = λ h. h
-  made_quiet false n = one (Event.Protect n) (λ e. cc)
-
   acts_quiet : EachAct (λ s t. Quiet t.events)
-  unfolding perform
   acts_quiet = record {
     stops = λ rule addr id s. one (Event.Stop _) (λ e. cc);
-    performs = λ insn s. made_quiet _ (table_after s.table insn s.core).given;
+    performs = λ insn s. perform_tells Quiet (λ h. h) (λ n. one (Event.Protect n) (λ e. cc)) insn s;
     returns = λ s q h. ⊎_elim (λ (e : Event.Reti ≡ Entered m from). cc) q h;
     resumes = λ s e h. h;
   }
@@ -81,16 +75,12 @@ module _ (m from : ℕ) where
     pushes = λ v s d h. absurd (one (Event.Irq v) (λ e. cc) h);
   }
 
-  sent_quiet : (o : Option ℕ) → Quiet (sent_event o)
-  sent_quiet None = λ h. h
-  sent_quiet (Some b) = one (Event.Out b) (λ e. cc)
-
   counted_entering : (o : Option Stop) (es : List Event) (t : Step) → Quiet es → Enters m from (counted_by o (told es t)).events → Enters m from t.events
   counted_entering (Some stop) es t q h = ⊎_elim (λ x. absurd (q x)) (λ x. x) (split es t.events h)
   counted_entering None es t q h =
       ⊎_elim
       (λ x. ⊎_elim (λ y. absurd (q y)) (λ y. y) (split es t.events x))
-      (λ x. absurd (sent_quiet t.state.devices.sent x))
+      (λ x. absurd (sent_tells Quiet (λ h. h) (λ b. one (Event.Out b) (λ e. cc)) t.state.devices.sent x))
       (split (es ++ t.events) (sent_event t.state.devices.sent) h)
 
   move_entering : (s : State) → Enters m from (move s).events → (let u = settle (ticked s) in Enters_now u.state (turn u.left u.state))

@@ -94,8 +94,7 @@ module _ (m : ℕ) (own : Module) (key text : List ℕ) (from : ℕ) where
 
   -- ---- a turn
   abbrev pub stepped : Bool → Lone → Lone
-  stepped true la = lone_step job la
-  stepped false la = la
+  stepped b la = cond b (lone_step job la) la
 
   pub moved_follows : (s : State) (la l' : Lone) (u : Step) → Follows s la → is_id m s.active ≡ true → Moves own s l' u → Follows u.state l'
   moved_follows s la l' u f act v =
@@ -223,11 +222,7 @@ module _ (m : ℕ) (own : Module) (key text : List ℕ) (from : ℕ) (s : State)
       let h' = subst (λ k. NotBroken (outcome (job m own key text from) k l0)) assoc h in
       let g = follows_on n f (λ i lt. fine i (omega arith)) (λ i lt. ends i (omega arith)) (more_by b c l0 h') in
       let r = cycle_follows m own key text from t.stop t (lone_after (job m own key text from) l0 c) refl g (fine n (omega arith)) (ends n (omega arith)) (λ e. never_breaks (job m own key text from) (c + cond b 1 0) l0 c (let one : c < c + 1 = omega arith in subst (λ x. c < c + cond x 1 0) (sym e) one) h') in
-      subst (λ k. Follows m own key text from (after_cycles s (suc n)) (lone_after (job m own key text from) l0 k)) (sym assoc) (step_by b c (after_cycles s (suc n)) (stepped_is b (after_cycles s (suc n)) (lone_after (job m own key text from) l0 c) r))
-    where
-      stepped_is : (b : Bool) (u : State) (l : Lone) → Follows m own key text from u (stepped m own key text from b l) → Follows m own key text from u (cond b (lone_step (job m own key text from) l) l)
-      stepped_is true u l f = f
-      stepped_is false u l f = f
+      subst (λ k. Follows m own key text from (after_cycles s (suc n)) (lone_after (job m own key text from) l0 k)) (sym assoc) (step_by b c (after_cycles s (suc n)) r)
 
 module _ (m : ℕ) (own : Module) (key text : List ℕ) (from : ℕ) where
   begun_follows : (s : State) → Keeps m own key text s → is_held m (held_ids s.frames) ≡ false → Follows m own key text from (entered m own key text from s) (start m own key text from s)

@@ -8,23 +8,22 @@ use Rattle.mod_layout.specs.Table.{size_of, place_of}
 use Rattle.mod_layout.specs.declared.Module.{Module}
 use Rattle.mod_layout.specs.declared.Place.TheVariants.{Data}
 use Rattle.pc_access.specs.Rights.{is_id, first_denied}
-use Rattle.pc_access.specs.declared.Denied.{Denied}
 use Rattle.pc_access.specs.declared.Stop.{Stop}
 use Rattle.reg_backup.specs.Held.{held_ids}
 use Rattle.reg_backup.specs.declared.frames.Frame.{Frame}
 use Rattle.reg_backup.specs.declared.frames.Frame.TheVariants.{Module as Held}
 use Rattle.attest.specs.Accesses.{reads_of, writes_of}
 use Rattle.cpu_step.specs.Asked.{asks, effect}
-use Rattle.written_machine.specs.Cycle.{Step, stopped, pc_of, push_both, pushes, plain_if, arrive_outside, port_of, who_of, perform, attempt, without_newest, returned_by, reti_by, reti_of, act}
+use Rattle.written_machine.specs.Cycle.{Step, stopped, denied, pc_of, push_both, pushes, plain_if, arrive_outside, port_of, who_of, perform, attempt, without_newest, returned_by, reti_by, reti_of, act}
 use Rattle.written_machine.specs.Peers.{section}
-use Rattle.written_machine.specs.Ports.{Port, take_reads}
+use Rattle.written_machine.specs.Ports.{take_reads}
 use Rattle.written_machine.specs.State.{State}
 use Rattle.isolation.proofs.Hide.{veil, veil_step, hide_by, arrive_outside_veiled, act_veiled}
 use Rattle.isolation.proofs.Ports.{put_writes_part, take_reads_memory}
 use Rattle.isolation.proofs.Relation.{find_held, times, run_by, Keeps, Stays, Outer}
 use Rattle.isolation.proofs.Rights.{Sound, writes_out, text_writes_out}
 use Rattle.isolation.proofs.Tables.{sound_after}
-use Rattle.isolation.proofs.Ways.{attempt_ways, act_with}
+use Rattle.isolation.proofs.Ways.{attempt_ways, act_with, outside_ways}
 
 found_plain : (m : ℕ) (fs : List Frame) → find_held m (plain_if fs) ≡ find_held m fs
 found_plain m [] = refl
@@ -64,96 +63,73 @@ module _ (m : ℕ) (own : Module) (key text : List ℕ) where
         let o : is_id m t.state.active ≡ false = ap (is_id m) same ∙ other in
         record { same = e ∙ ap (λ c. let u : Step = record t { state = hide_by c m own t.state } in u) (sym o); stays = st }
 
-    push_active : (d : Option Denied) (v : ℕ) → (push_both d v s).state.active ≡ s.active
-    push_active (Some d) v = refl
-    push_active None v = refl
+    -- a step that keeps the active module, and leaves m where it stood
+    abbrev Acts : Step → Type 0
+    Acts u = (u.state.active ≡ s.active) × Stays m own key text s u.state
 
-    push_stays : (d : Option Denied) (v : ℕ) → first_denied s.table None (held_ids s.frames) (pushes s) ≡ d → Stays m own key text s (push_both d v s).state
-    push_stays (Some d) v e = light (push_both (Some d) v s).state (refl, refl, refl, refl, refl)
-    push_stays None v e =
-        let p : Port = record { devices = s.devices; memory = s.memory } in
+    light_acts : (u : Step) → Light u.state → Acts u
+    light_acts u l = (l.0, light u.state l)
+
+    arrives : (v : ℕ) → Acts (arrive_outside v s)
+    arrives v =
+        let p = port_of s in
         let vs = reg s.core 0 ∷ reg s.core 2 ∷ [] in
+        outside_ways s Acts v (λ d. light_acts (denied d s) (refl, refl, refl, refl, refl))
+        (λ e. (refl,
         stays_by s (push_both None v s).state k other other
         (put_writes_part own.ram.start (size_of own.ram) (pushes s) p vs (writes_out m own s.table k.sound None (held_ids s.frames) refl (pushes s) e))
         (put_writes_part own.text.start (size_of own.text) (pushes s) p vs (text_writes_out m own s.table k.sound None (held_ids s.frames) (pushes s) e))
-        (found_plain m s.frames) (times_plain m s.frames) refl k.sound
+        (found_plain m s.frames) (times_plain m s.frames) refl k.sound))
 
     pub arrived_active : (v : ℕ) → (arrive_outside v s).state.active ≡ s.active
-    unfolding arrive_outside
-    arrived_active v = push_active (first_denied s.table None (held_ids s.frames) (pushes s)) v
-
-    arrived_stays : (v : ℕ) → Stays m own key text s (arrive_outside v s).state
-    unfolding arrive_outside
-    arrived_stays v = push_stays (first_denied s.table None (held_ids s.frames) (pushes s)) v refl
+    arrived_active v = (arrives v).0
 
     pub arrive_outside_outer : (v : ℕ) → Outer m own key text s (arrive_outside v s) (arrive_outside v (veil m own s))
     arrive_outside_outer v =
-        outer_by (arrive_outside v s) (arrive_outside v (veil m own s)) (arrived_active v) (arrive_outside_veiled m own s.table k.sound v s refl) (arrived_stays v)
+        outer_by (arrive_outside v s) (arrive_outside v (veil m own s)) (arrived_active v) (arrive_outside_veiled m own s.table k.sound v s refl) (arrives v).1
 
     -- ---- instructions
-    -- a step that keeps the frames too
-    record Acts (u : Step) : Type 0 where
-      active : u.state.active ≡ s.active
-      frames : u.state.frames ≡ s.frames
-      bytes : section own.ram u.state.memory ≡ section own.ram s.memory
-      texts : section own.text u.state.memory ≡ section own.text s.memory
-      key_same : u.state.key ≡ s.key
-      sound : Sound m own u.state.table
-
-    perform_acts : (insn : Insn) → first_denied s.table s.active (held_ids s.frames) (asks (who_of s) insn s.core) ≡ None → Acts (perform insn s)
+    -- what is done, where frames may go that are no module's
+    perform_stays : (insn : Insn) (fs : List Frame) → find_held m fs ≡ find_held m s.frames → times m fs ≡ times m s.frames → first_denied s.table s.active (held_ids s.frames) (asks (who_of s) insn s.core) ≡ None →
+        Stays m own key text s (record (perform insn s).state { frames = fs })
     unfolding perform
-    perform_acts insn e =
+    perform_stays insn fs f t e =
         let xs = asks (who_of s) insn s.core in
         let g = take_reads (port_of s) (reads_of xs) in
-        let f = effect (who_of s) insn s.core g.values in
+        let x = effect (who_of s) insn s.core g.values in
         let same = take_reads_memory own.ram.start (size_of own.ram) (reads_of xs) (port_of s) in
-        record {
-          active = refl;
-          frames = refl;
-          key_same = refl;
-          bytes = put_writes_part own.ram.start (size_of own.ram) (writes_of xs) g.port f.stored (writes_out m own s.table k.sound s.active (held_ids s.frames) other xs e) ∙ ap (section own.ram) same;
-          texts = put_writes_part own.text.start (size_of own.text) (writes_of xs) g.port f.stored (text_writes_out m own s.table k.sound s.active (held_ids s.frames) xs e) ∙ ap (section own.text) same;
-          sound = sound_after m own s.table insn s.core k.sound;
-        }
+        stays_by s (record (perform insn s).state { frames = fs }) k other other
+        (put_writes_part own.ram.start (size_of own.ram) (writes_of xs) g.port x.stored (writes_out m own s.table k.sound s.active (held_ids s.frames) other xs e) ∙ ap (section own.ram) same)
+        (put_writes_part own.text.start (size_of own.text) (writes_of xs) g.port x.stored (text_writes_out m own s.table k.sound s.active (held_ids s.frames) xs e) ∙ ap (section own.text) same)
+        f t refl (sound_after m own s.table insn s.core k.sound)
 
     attempt_acts : (insn : Insn) → Acts (attempt insn s)
-    attempt_acts insn = attempt_ways s Acts insn (λ d. record { active = refl; frames = refl; bytes = refl; texts = refl; key_same = refl; sound = k.sound }) (perform_acts insn)
+    unfolding perform
+    attempt_acts insn = attempt_ways s Acts insn (λ d. light_acts (denied d s) (refl, refl, refl, refl, refl)) (λ e. (refl, perform_stays insn s.frames refl refl e))
 
-    -- the same, where frames may go that are no module's
-    record ActsToo (u : Step) : Type 0 where
-      active : u.state.active ≡ s.active
-      stays : Stays m own key text s u.state
+    returned_acts : find_held m (without_newest s.frames) ≡ find_held m s.frames → times m (without_newest s.frames) ≡ times m s.frames → Acts (let t = attempt Reti s in returned_by t.state.stop t)
+    unfolding perform
+    returned_acts f t = attempt_ways s (λ u. Acts (returned_by u.state.stop u)) Reti (λ d. light_acts (denied d s) (refl, refl, refl, refl, refl)) (by s.stop)
+      where
+        by : (o : Option Stop) → first_denied s.table s.active (held_ids s.frames) (asks (who_of s) Reti s.core) ≡ None → Acts (returned_by o (perform Reti s))
+        by (Some stop) e = (refl, perform_stays Reti s.frames refl refl e)
+        by None e = (refl, perform_stays Reti (without_newest s.frames) f t e)
 
-    acts_too : (u : Step) → Acts u → ActsToo u
-    acts_too u a = record { active = a.active; stays = stays_by s u.state k other (ap (is_id m) a.active ∙ other) a.bytes a.texts (ap (find_held m) a.frames) (ap (times m) a.frames) a.key_same a.sound }
-
-    returned_acts : (o : Option Stop) (u : Step) → find_held m (without_newest s.frames) ≡ find_held m s.frames → times m (without_newest s.frames) ≡ times m s.frames → Acts u → ActsToo (returned_by o u)
-    returned_acts (Some stop) u f t a = acts_too u a
-    returned_acts None u f t a =
-        record {
-          active = a.active;
-          stays = stays_by s (returned_by None u).state k other (ap (is_id m) a.active ∙ other) a.bytes a.texts (ap (λ fs. find_held m (without_newest fs)) a.frames ∙ f) (ap (λ fs. times m (without_newest fs)) a.frames ∙ t) a.key_same a.sound;
-        }
-
-    light_acts : (u : Step) → Light u.state → ActsToo u
-    light_acts u l = record { active = l.0; stays = light u.state l }
-
-    reti_acts : (fs : List Frame) → s.frames ≡ fs → ActsToo (reti_by fs s)
+    reti_acts : (fs : List Frame) → s.frames ≡ fs → Acts (reti_by fs s)
     reti_acts (Held b ∷ fs) e = light_acts (reti_by (Held b ∷ fs) s) (refl, refl, refl, refl, refl)
-    reti_acts _ e = returned_acts (attempt Reti s).state.stop (attempt Reti s) (rw e refl) (rw e refl) (attempt_acts Reti)
+    reti_acts _ e = returned_acts (rw e refl) (rw e refl)
 
-    reti_of_acts : (a : Option ℕ) → ActsToo (reti_of a s)
+    reti_of_acts : (a : Option ℕ) → Acts (reti_of a s)
     reti_of_acts (Some id) = light_acts (reti_of (Some id) s) (refl, refl, refl, refl, refl)
     reti_of_acts None = reti_acts s.frames refl
 
-    act_acts : ActsToo (act s)
-    act_acts =
-        act_with s ActsToo (λ rule. light_acts (stopped rule (pc_of s) 0 s) (refl, refl, refl, refl, refl)) (reti_of_acts s.active) (λ insn. acts_too (attempt insn s) (attempt_acts insn))
+    act_acts : Acts (act s)
+    act_acts = act_with s Acts (λ rule. light_acts (stopped rule (pc_of s) 0 s) (refl, refl, refl, refl, refl)) (reti_of_acts s.active) attempt_acts
 
     pub act_outer : pc_of s % 2 ≡ 0 → place_of s.table (pc_of s) ≢ Data m → Outer m own key text s (act s) (act (veil m own s))
     act_outer even ne =
         let a = act_acts in
-        outer_by (act s) (act (veil m own s)) a.active (act_veiled m own s.table k.sound s refl other even ne) a.stays
+        outer_by (act s) (act (veil m own s)) a.0 (act_veiled m own s.table k.sound s refl other even ne) a.1
 
     pub act_active : (act s).state.active ≡ s.active
-    act_active = act_acts.active
+    act_active = act_acts.0

@@ -10,9 +10,9 @@ use Rattle.written_machine.specs.Cycle.{Step, Settled, quiet, told, unsettled, p
 use Rattle.written_machine.specs.State.{State}
 use Rattle.written_machine.specs.View.{at}
 use Rattle.isolation.specs.Calls.{Hides, Handles}
-use Rattle.isolation.proofs.Tame.{Calm, is_handler, closing_calm, turned, turn_late, sent_late, Late, bare_hides, late_handles, hides_more, hides_front, cycle_number, ticked_stop}
+use Rattle.isolation.proofs.Tame.{Calm, is_handler, closing_calm, turned, turn_late, Late, bare_hides, late_handles, hides_more, hides_front, cycle_number, ticked_stop}
 use Rattle.isolation.proofs.Cases.{turn_at, turn_is}
-use Rattle.isolation.proofs.Ways.{counted_holds, settle_ways}
+use Rattle.isolation.proofs.Ways.{sent_tells, counted_holds, settle_ways}
 
 -- ---- settling where no handler is due
 record Settles (u : Settled) : Type 0 where
@@ -70,7 +70,7 @@ move_handles s p a =
 
 counted_none : (o : Option Stop) (es : List Event) (t : Step) → Late t.events → Handles (counted_by o (told es t)).events → Handles es
 counted_none (Some stop) es t l h = late_handles es t.events l h
-counted_none None es t l h = late_handles es t.events l (late_handles (es ++ t.events) (sent_event t.state.devices.sent) (sent_late t.state.devices.sent) h)
+counted_none None es t l h = late_handles es t.events l (late_handles (es ++ t.events) (sent_event t.state.devices.sent) (sent_tells Late tt (λ b. (tt, tt)) t.state.devices.sent) h)
 
 move_none : (s : State) → Handles (move s).events → Handles (settle (ticked s)).events
 unfolding move
@@ -197,14 +197,10 @@ turn_hides : (left : ℕ) (s : State) → s.stop ≡ None → Hides (turn left s
 turn_hides left s e h =
     ⊎_elim (λ t. absurd (bare_hides (turn left s).events t.bare h)) (λ x. ⊎_elim (λ b. (b.phase, b.stop ∙ e)) (λ p. absurd (subst (λ u. Hides u.events) p.is h)) x) (turned left s)
 
-sent_hides : (o : Option ℕ) → Hides (sent_event o) → ⊥
-sent_hides None h = h
-sent_hides (Some b) h = h
-
 counted_hid : (o : Option Stop) (es : List Event) (t : Step) → (Hides es → ⊥) → Hides (counted_by o (told es t)).events → Hides t.events
 counted_hid (Some stop) es t n h = ⊎_elim (λ x. absurd (n x)) (λ x. x) (hides_split es t.events h)
 counted_hid None es t n h =
-    ⊎_elim (λ y. ⊎_elim (λ x. absurd (n x)) (λ x. x) (hides_split es t.events y)) (λ x. absurd (sent_hides t.state.devices.sent x))
+    ⊎_elim (λ y. ⊎_elim (λ x. absurd (n x)) (λ x. x) (hides_split es t.events y)) (λ x. absurd (sent_tells (λ es. Hides es → ⊥) (λ h. h) (λ b h. h) t.state.devices.sent x))
     (hides_split (es ++ t.events) (sent_event t.state.devices.sent) h)
 
 move_hides : (s : State) → s.stop ≡ None → Hides (move s).events → Padded (move s).state

@@ -1,15 +1,14 @@
 -- Where a module is held, others' turns tell nothing of its hides and resumes.
-use Rattle.std.proofs.Common.{◌≡◌, ℕ, List, [], ◌∷◌, ◌++◌, refl, sym, ap, ◌∙◌, subst, arith, Bool, true, false, cond, ◌==◌, Option, Some, None}
+use Rattle.std.proofs.Common.{◌≡◌, ℕ, List, [], ◌∷◌, ◌++◌, refl, sym, ap, ◌∙◌, subst, arith, Bool, true, false, ◌==◌, Some}
 use Rattle.std.proofs.lemmas.Bool.Decides.{nat_tests}
 use Rattle.pc_access.specs.Rights.{is_id}
 use Rattle.reg_backup.specs.declared.backup.Backup.{Backup}
 use Rattle.reg_backup.specs.declared.backup.After.TheVariants.{Handler, Resume}
-use Rattle.cpu_step.specs.Asked.{table_after}
 use Rattle.tracer.specs.declared.Event.{Event}
-use Rattle.written_machine.specs.Cycle.{Step, pc_of, settle, arrive_inside, perform, turn, sent_event}
+use Rattle.written_machine.specs.Cycle.{Step, pc_of, settle, arrive_inside, turn}
 use Rattle.written_machine.specs.State.{State}
 use Rattle.isolation.specs.Calls.{Away, away_if, back_from, note, notes}
-use Rattle.isolation.proofs.Ways.{EachAct, EachTurn, each_turn, settle_ways}
+use Rattle.isolation.proofs.Ways.{perform_tells, EachAct, EachTurn, each_turn, settle_ways}
 
 module _ (m : ℕ) where
   abbrev pub Still : List Event → Type 0
@@ -28,19 +27,10 @@ module _ (m : ℕ) where
   notes_more k [] fs w = refl
   notes_more k (e ∷ es) fs w = notes_more k es fs (note m k e w)
 
-  pub sent_still : (o : Option ℕ) → Still (sent_event o)
-  sent_still None = tt
-  sent_still (Some b) = tt
-
-  made_still : (c : Bool) (n : ℕ) → Still (cond c [] (Event.Protect n ∷ []))
-  made_still true n = tt
-  made_still false n = tt
-
   acts_still : EachAct (λ s t. Still t.events)
-  unfolding perform
   acts_still = record {
     stops = λ rule addr id s. tt;
-    performs = λ insn s. made_still _ (table_after s.table insn s.core).given;
+    performs = λ insn s. perform_tells Still tt (λ n. tt) insn s;
     returns = λ s h. h;
     resumes = λ s e. tt;
   }

@@ -1,5 +1,5 @@
 -- What a cycle does to its number, its phase and what is settled next, and which events tell of it.
-use Rattle.std.proofs.Common.{◌≡◌, ◌≢◌, ◌⊎◌, inl, inr, ⊎_elim, ℕ, zero, suc, ◌+◌, ◌-◌, ◌<◌, List, [], ◌∷◌, ◌++◌, refl, sym, ap, ◌∙◌, subst, arith, Bool, true, false, cond, ◌==◌, Option, Some, None, zero-add}
+use Rattle.std.proofs.Common.{◌≡◌, ◌≢◌, ◌⊎◌, inl, inr, ⊎_elim, ℕ, zero, suc, ◌+◌, ◌-◌, ◌<◌, List, [], ◌∷◌, ◌++◌, refl, sym, ap, ◌∙◌, subst, arith, Bool, true, false, ◌==◌, Option, Some, None, zero-add}
 use Rattle.std.proofs.lemmas.Bool.Decides.{nat_tests}
 use Rattle.schedule_file.specs.declared.Entry.{Entry as Scheduled}
 use Rattle.pc_access.specs.declared.Stop.{Stop}
@@ -8,14 +8,13 @@ use Rattle.reg_backup.specs.Saved.{closing_after}
 use Rattle.reg_backup.specs.declared.backup.After.{After}
 use Rattle.reg_backup.specs.declared.backup.After.TheVariants.{Next, Handler, Resume, Close}
 use Rattle.reg_backup.specs.declared.backup.Phase.TheVariants.{Run, Pad}
-use Rattle.cpu_step.specs.Asked.{table_after}
 use Rattle.tracer.specs.declared.Event.{Event}
 use Rattle.written_machine.specs.Cycle.{Step, quiet, told, rest_of, settle, ticked, arrive_inside, perform, padded, turn, sent_event, counted_by, move, cycle_by, after_cycles}
 use Rattle.written_machine.specs.State.{State}
 use Rattle.written_machine.specs.View.{at, boot}
 use Rattle.isolation.specs.Calls.{Ends, Hides, Handles}
 use Rattle.isolation.proofs.Each.{Each, each_map}
-use Rattle.isolation.proofs.Ways.{EachAct, EachTurn, each_turn, Lasting, always, settle_ways}
+use Rattle.isolation.proofs.Ways.{perform_tells, sent_tells, EachAct, EachTurn, each_turn, Lasting, always, settle_ways}
 
 abbrev pub is_handler : After → Bool
 is_handler Handler = true
@@ -86,10 +85,6 @@ pub record Tame (s : State) (t : Step) : Type 0 where
   pub bare : Bare t.events
   pub calm : Calm s → Calm t.state
 
-made_bare : (c : Bool) (n : ℕ) → Bare (cond c [] (Event.Protect n ∷ []))
-made_bare true n = tt
-made_bare false n = (tt, tt)
-
 pub closing_calm : (c : Bool) → is_handler (closing_after c) ≡ false
 closing_calm true = refl
 closing_calm false = refl
@@ -98,7 +93,7 @@ acts_tame : EachAct Tame
 unfolding perform
 acts_tame = record {
   stops = λ rule addr id s. record { same = refl; bare = (tt, tt); calm = λ h. h };
-  performs = λ insn s. record { same = refl; bare = made_bare _ (table_after s.table insn s.core).given; calm = λ h. (refl, closing_calm _) };
+  performs = λ insn s. record { same = refl; bare = perform_tells Bare tt (λ n. (tt, tt)) insn s; calm = λ h. (refl, closing_calm _) };
   returns = λ s q. record { same = q.same; bare = (tt, q.bare); calm = q.calm };
   resumes = λ s e. record { same = refl; bare = tt; calm = λ h. (refl, refl) };
 }
@@ -142,10 +137,6 @@ turn_same left s = ⊎_elim (λ t. t.same) (λ x. ⊎_elim (λ b. b.same) (λ p.
 
 pub turn_late : (left : ℕ) (s : State) → Late (turn left s).events
 turn_late left s = ⊎_elim (λ t. each_map bare_late (turn left s).events t.bare) (λ x. ⊎_elim (λ b. b.late) (λ p. subst (λ u. Late u.events) (sym p.is) tt) x) (turned left s)
-
-pub sent_late : (o : Option ℕ) → Late (sent_event o)
-sent_late None = tt
-sent_late (Some b) = (tt, tt)
 
 -- ---- settling
 abbrev Keeping : State → State → Type 0
@@ -220,7 +211,7 @@ runs_so_far s (suc n) h =
 -- ---- ends are told by settling alone
 ends_counted : (m : ℕ) (o : Option Stop) (es : List Event) (t : Step) → Late t.events → Ends m (counted_by o (told es t)).events → Ends m es
 ends_counted m (Some stop) es t l h = late_ends m es t.events l h
-ends_counted m None es t l h = late_ends m es t.events l (late_ends m (es ++ t.events) (sent_event t.state.devices.sent) (sent_late t.state.devices.sent) h)
+ends_counted m None es t l h = late_ends m es t.events l (late_ends m (es ++ t.events) (sent_event t.state.devices.sent) (sent_tells Late tt (λ b. (tt, tt)) t.state.devices.sent) h)
 
 move_ends : (m : ℕ) (s : State) → Ends m (move s).events → Ends m (settle (ticked s)).events
 unfolding move

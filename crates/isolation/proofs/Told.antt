@@ -1,5 +1,5 @@
 -- What a cycle tells: of a stop where it stops, and four events at most.
-use Rattle.std.proofs.Common.{◌≡◌, ℕ, List, [], ◌∷◌, ◌++◌, refl, sym, ◌∙◌, subst, Bool, true, false, cond, Option, Some, None, ◌≤◌, length, length-append, ap, arith, ◌==◌}
+use Rattle.std.proofs.Common.{◌≡◌, ℕ, List, [], ◌∷◌, ◌++◌, refl, sym, ◌∙◌, subst, true, cond, Option, Some, None, ◌≤◌, length, length-append, ap, arith, ◌==◌}
 use Rattle.isolation.proofs.Tame.{ticked_stop}
 use Rattle.pc_access.specs.declared.Stop.{Stop}
 use Rattle.cpu_step.specs.Asked.{table_after}
@@ -7,7 +7,7 @@ use Rattle.tracer.specs.declared.Event.{Event}
 use Rattle.written_machine.specs.Cycle.{Step, Settled, cycle, told, settle, ticked, arrive_inside, perform, turn, sent_event, counted_by, move, cycle_by}
 use Rattle.written_machine.specs.State.{State}
 use Rattle.isolation.specs.Calls.{stop_in}
-use Rattle.isolation.proofs.Ways.{EachAct, EachTurn, each_turn, settle_ways}
+use Rattle.isolation.proofs.Ways.{perform_tells, sent_tells, EachAct, EachTurn, each_turn, settle_ways}
 use Rattle.std.proofs.lemmas.Bool.Decides.{nat_tests}
 use Rattle.insn_decode.specs.declared.insn.Insn.TheVariants.{Reti}
 
@@ -25,10 +25,6 @@ silent_first (Event.Stop x ∷ xs) ys h = absurd cc
 silent_first (_ ∷ xs) ys h = silent_first xs ys h
 
 -- ---- an instruction
-made_silent : (c : Bool) (n : ℕ) → Silent (cond c [] (Event.Protect n ∷ []))
-made_silent true n = refl
-made_silent false n = refl
-
 -- from a machine that runs
 abbrev Running : State → Step → Type 0
 Running s t = s.stop ≡ None → Tells t
@@ -37,7 +33,7 @@ acts_tell : EachAct Running
 unfolding perform
 acts_tell = record {
   stops = λ rule addr id s h. refl;
-  performs = λ insn s h. made_silent _ (table_after s.table insn s.core).given ∙ sym h;
+  performs = λ insn s h. perform_tells Silent refl (λ n. refl) insn s ∙ sym h;
   returns = λ s k h. k h;
   resumes = λ s e h. sym h;
 }
@@ -64,13 +60,9 @@ pub settle_settles : (s : State) → Settles s (settle s)
 settle_settles s = settle_ways s (Settles s) (refl, refl) (λ b fs e. (refl, refl)) (λ id x a o. (refl, refl)) (λ e. (refl, refl)) (λ id a. (refl, refl))
 
 -- ---- a cycle
-sent_silent : (o : Option ℕ) → Silent (sent_event o)
-sent_silent None = refl
-sent_silent (Some b) = refl
-
 counted_tells : (o : Option Stop) (t : Step) → t.state.stop ≡ o → Tells t → Tells (counted_by o t)
 counted_tells (Some stop) t e h = h
-counted_tells None t e h = silent_first t.events (sent_event t.state.devices.sent) (h ∙ e) ∙ sent_silent t.state.devices.sent ∙ sym e
+counted_tells None t e h = silent_first t.events (sent_event t.state.devices.sent) (h ∙ e) ∙ sent_tells Silent refl (λ b. refl) t.state.devices.sent ∙ sym e
 
 move_tells : (s : State) → s.stop ≡ None → Tells (move s)
 unfolding move
@@ -89,10 +81,6 @@ abbrev AtMost : ℕ → List Event → Type 0
 AtMost n es = length es ≤ n
 
 -- ---- an instruction tells at most one
-made_few : (c : Bool) (n : ℕ) → AtMost 1 (cond c [] (Event.Protect n ∷ []))
-made_few true n = omega arith
-made_few false n = omega arith
-
 perform_reti : (s : State) → (perform Reti s).events ≡ []
 unfolding perform table_after
 perform_reti s = let same : (s.table.given == s.table.given) ≡ true = grind (arith, nat_tests) in ap (λ b. cond b [] (Event.Protect s.table.given ∷ [])) same
@@ -101,7 +89,7 @@ acts_few : EachAct (λ s t. AtMost 1 t.events)
 unfolding perform
 acts_few = record {
   stops = λ rule addr id s. omega arith;
-  performs = λ insn s. made_few _ (table_after s.table insn s.core).given;
+  performs = λ insn s. perform_tells (AtMost 1) (omega arith) (λ n. omega arith) insn s;
   returns = λ s h. let e = perform_reti s in omega (arith, ap length e);
   resumes = λ s e. omega arith;
 }
@@ -124,15 +112,11 @@ turns_few = record {
 settle_few : (s : State) → AtMost 1 (settle s).events
 settle_few s = settle_ways s (λ u. AtMost 1 u.events) (omega arith) (λ b fs e. omega arith) (λ id x a o. omega arith) (λ e. omega arith) (λ id a. omega arith)
 
-sent_few : (o : Option ℕ) → AtMost 1 (sent_event o)
-sent_few None = omega arith
-sent_few (Some b) = omega arith
-
 counted_few : (o : Option Stop) (es : List Event) (t : Step) → AtMost 1 es → AtMost 2 t.events → AtMost 4 (counted_by o (told es t)).events
 counted_few (Some stop) es t h g = omega (arith, length-append es t.events)
 counted_few None es t h g =
     let sent = sent_event t.state.devices.sent in
-    let x = sent_few t.state.devices.sent in
+    let x = sent_tells (AtMost 1) (omega arith) (λ b. omega arith) t.state.devices.sent in
     omega (arith, length-append (es ++ t.events) sent, length-append es t.events)
 
 move_few : (s : State) → AtMost 4 (move s).events

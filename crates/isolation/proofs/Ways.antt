@@ -1,5 +1,5 @@
 -- What holds of each way that a step can go holds of the step.
-use Rattle.std.proofs.Common.{◌≡◌, ℕ, zero, suc, ◌+◌, ◌-◌, List, [], ◌∷◌, refl, sym, subst, Bool, true, false, Option, Some, None}
+use Rattle.std.proofs.Common.{◌≡◌, ℕ, zero, suc, ◌+◌, ◌-◌, List, [], ◌∷◌, refl, sym, subst, Bool, true, false, cond, Option, Some, None}
 use Rattle.sm_words.specs.Words.{word_at}
 use Rattle.insn_decode.specs.Code.{insn_of, length_of}
 use Rattle.insn_decode.specs.declared.insn.Insn.{Insn}
@@ -26,11 +26,12 @@ use Rattle.reg_backup.specs.declared.backup.Phase.TheVariants.{Run, Pad}
 use Rattle.reg_backup.specs.declared.frames.Frame.{Frame}
 use Rattle.reg_backup.specs.declared.frames.Frame.TheVariants.{Module as Held}
 use Rattle.attest.specs.Done.{own_of}
-use Rattle.cpu_step.specs.Asked.{asks}
+use Rattle.cpu_step.specs.Asked.{asks, table_after}
 use Rattle.cpu_step.specs.Fetched.{insn_at}
 use Rattle.cpu_step.specs.Plan.{past}
+use Rattle.tracer.specs.declared.Event.{Event}
 use Rattle.tracer.specs.declared.Event.TheVariants.{Enter as Entered}
-use Rattle.written_machine.specs.Cycle.{Step, Settled, quiet, told, stopped, denied, unsettled, pc_of, byte_of, in_text, resume_from, close_of, leave_if, settle_by, settle_in, settle, ticked, due, arrive_inside, arrive_outside, push_both, pushes, who_of, perform, perform_unless, attempt, without_newest, returned_by, reti_by, reti_of, act_by, act_on, act_home, act_first, act, is_home, enter_at, enter, fetch, begin_unless, begin, padded, asleep, turn, counted_by, move, cycle_by}
+use Rattle.written_machine.specs.Cycle.{Step, Settled, quiet, told, stopped, denied, unsettled, pc_of, byte_of, in_text, resume_from, close_of, leave_if, settle_by, settle_in, settle, ticked, due, arrive_inside, arrive_outside, push_both, pushes, who_of, perform, perform_unless, attempt, without_newest, returned_by, reti_by, reti_of, act_by, act_on, act_home, act_first, act, is_home, enter_at, enter, fetch, begin_unless, begin, padded, asleep, turn, sent_event, counted_by, move, cycle_by}
 use Rattle.written_machine.specs.State.{State}
 use Rattle.written_machine.specs.View.{at, boot}
 use Rattle.isolation.proofs.Cases.{turn_at, turn_unless, turn_is}
@@ -101,13 +102,13 @@ module _ (s : State) (P : Step → Type 0) where
       by None e = begins e
 
   -- pushes that are refused, or done
-  pub outside_ways : (v : ℕ) → ((d : Denied) → P (denied d s)) → P (push_both None v s) → P (arrive_outside v s)
+  pub outside_ways : (v : ℕ) → ((d : Denied) → P (denied d s)) → (first_denied s.table None (held_ids s.frames) (pushes s) ≡ None → P (push_both None v s)) → P (arrive_outside v s)
   unfolding arrive_outside
-  outside_ways v refused pushed = by (first_denied s.table None (held_ids s.frames) (pushes s))
+  outside_ways v refused pushed = by (first_denied s.table None (held_ids s.frames) (pushes s)) refl
     where
-      by : (d : Option Denied) → P (push_both d v s)
-      by (Some d) = refused d
-      by None = pushed
+      by : (d : Option Denied) → first_denied s.table None (held_ids s.frames) (pushes s) ≡ d → P (push_both d v s)
+      by (Some d) e = refused d
+      by None e = pushed e
 
   -- a settled cycle
   module _ (left : ℕ) (pads : (n : ℕ) → s.phase ≡ Pad n → P (quiet (padded (n - 1) s))) (waits : (r : ℕ) → P (quiet (record s { phase = Run r }))) (sleeps : P (quiet s)) (begins : P (begin left s))
@@ -167,6 +168,20 @@ pub record EachAct (A : State → Step → Type 0) : Type 0 where
   pub returns : (s : State) → A s (perform Reti s) → A s (returned_by None (perform Reti s))
   pub resumes : (s : State) → s.active ≡ None → A s (quiet (record s { core = past Reti s.core; phase = Run RESUMPTION; after = Resume }))
 
+-- what it tells: that a module is protected, or nothing
+pub perform_tells : (P : List Event → Type 0) → P [] → ((n : ℕ) → P (Event.Protect n ∷ [])) → (insn : Insn) (s : State) → P (perform insn s).events
+unfolding perform
+perform_tells P none made insn s = by _ (table_after s.table insn s.core).given
+  where
+    by : (c : Bool) (n : ℕ) → P (cond c [] (Event.Protect n ∷ []))
+    by true n = none
+    by false n = made n
+
+-- of the byte sent in a cycle
+pub sent_tells : (P : List Event → Type 0) → P [] → ((b : ℕ) → P (Event.Out b ∷ [])) → (o : Option ℕ) → P (sent_event o)
+sent_tells P none sent None = none
+sent_tells P none sent (Some b) = sent b
+
 -- of a turn, by what holds of its instruction: also where it enters a module
 pub record EachTurn (A P : State → Step → Type 0) : Type 0 where
   pub refuses : (d : Denied) (s : State) → P s (denied d s)
@@ -196,7 +211,7 @@ module _ (A : State → Step → Type 0) (each : EachAct A) where
   pub each_turn : (P : State → Step → Type 0) → EachTurn A P → (left : ℕ) (s : State) → P s (turn left s)
   each_turn P turns left s =
       turn_ways s (P s) left (λ n p. turns.pads n s p) (λ r. turns.waits r s) (turns.sleeps s) begins (λ v id d a. turns.inside v id s d a)
-      (λ v d. outside_ways s (P s) v (λ r. turns.refuses r s) (turns.pushes v s d))
+      (λ v d. outside_ways s (P s) v (λ r. turns.refuses r s) (λ e. turns.pushes v s d))
     where
       begins : P s (begin left s)
       begins =
