@@ -1,7 +1,7 @@
 -- Inside a module GIE stays.
 use Rattle.std.specs.Prelude.{ℤ}
 use Rattle.std.proofs.Common.{◌≡◌, ◌≢◌, ℕ, ◌/◌, ◌%◌, ◌<◌, List, length, refl, ap, ◌∙◌, arith, Bool, true, false, cond, ◌==◌, Option, Some, None, length-set, get_or-set_other, get_or-set_same, is_some}
-use Rattle.sm_words.specs.Words.{reg, put, bit, kept}
+use Rattle.sm_words.specs.Words.{reg, put, add16, bit, kept}
 use Rattle.sm_words.specs.declared.width.Width.{Width}
 use Rattle.insn_decode.specs.declared.insn.Insn.{Insn}
 use Rattle.insn_decode.specs.declared.insn.Insn.TheVariants.{Two, One, Jump, Reti, Unit as UnitOp}
@@ -9,7 +9,8 @@ use Rattle.insn_decode.specs.declared.insn.OneOp.TheVariants.{Push, Call}
 use Rattle.insn_decode.specs.declared.insn.Operand.{Operand}
 use Rattle.insn_decode.specs.declared.insn.Operand.TheVariants.{Reg, Increment}
 use Rattle.mod_layout.specs.declared.Module.{Module}
-use Rattle.attest.specs.Units.{Doer, UnitName, Unprotect, Protect, Attest, Tag, unit_named, unit_effect, Effect, answer, attest_answer, tag_answer, attested, unprotected}
+use Rattle.attest.specs.Units.{Doer, next, unit_named}
+use Rattle.attest.proofs.Moved.{unit_leaves}
 use Rattle.cpu_step.specs.Asked.{effect}
 use Rattle.cpu_step.specs.Effect.{into_register, written, does_freely, confined, confined_sr, does, set_flags, jumps, jumped}
 use Rattle.cpu_step.specs.Lone.{is_alone}
@@ -21,42 +22,6 @@ put_length core n v = length-set core n (kept n v)
 
 put_other : (core : List ℕ) (n v : ℕ) → 2 ≢ n → reg (put core n v) 2 ≡ reg core 2
 put_other core n v ne = get_or-set_other core n 2 (kept n v) 0 ne
-
--- what every write of a register but SR keeps, every unit instruction keeps
-module _ (P : List ℕ → Type 0) (keeps : (core : List ℕ) (n v : ℕ) → 2 ≢ n → P core → P (put core n v)) where
-  next_keeps : (core : List ℕ) → P core → P (past (UnitOp 0) core)
-  next_keeps core h = keeps core 0 _ (λ e. absurd (omega (arith, e))) h
-
-  answer_keeps : (core : List ℕ) (v c : ℕ) → P core → P (answer core v c).core
-  answer_keeps core v c h = keeps (past (UnitOp 0) core) 15 v (λ e. absurd (omega (arith, e))) (next_keeps core h)
-
-  unprotected_keeps : (o : Option Module) (core : List ℕ) → P core → P (unprotected o core).core
-  unprotected_keeps None core h = answer_keeps core 0 6 h
-  unprotected_keeps (Some own) core h = next_keeps core h
-
-  stored_keeps : (b : Bool) (core : List ℕ) (v x y : ℕ) (vs : List ℕ) → P core → P (cond b (let e : Effect = record (answer core v x) { stored = vs } in e) (answer core 0 y)).core
-  stored_keeps true core v x y vs h = answer_keeps core v x h
-  stored_keeps false core v x y vs h = answer_keeps core 0 y h
-
-  either_keeps : (b : Bool) (core : List ℕ) (v x y : ℕ) → P core → P (cond b (answer core v x) (answer core 0 y)).core
-  either_keeps true core v x y h = answer_keeps core v x h
-  either_keeps false core v x y h = answer_keeps core 0 y h
-
-  attest_keeps : (key : List ℕ) (own o : Option Module) (core values : List ℕ) → P core → P (attest_answer key own o core values).core
-  attest_keeps key (Some own) (Some other) core values h = either_keeps _ core _ _ 6 h
-  attest_keeps key _ _ core values h = answer_keeps core 0 6 h
-
-  tag_keeps : (key : List ℕ) (own : Option Module) (core values : List ℕ) → P core → P (tag_answer key own core values).core
-  tag_keeps key None core values h = answer_keeps core 0 6 h
-  tag_keeps key (Some own) core values h = stored_keeps _ core 1 _ 6 _ h
-
-  unit_keeps : (x : UnitName) (w : Doer) (core values : List ℕ) → P core → P (unit_effect w x core values).core
-  unfolding unit_effect
-  unit_keeps Unprotect w core values h = unprotected_keeps w.own core h
-  unit_keeps Protect w core values h = stored_keeps _ core _ _ 6 _ h
-  unit_keeps Attest w core values h = attest_keeps w.key w.own (attested w core) core values h
-  unit_keeps Tag w core values h = tag_keeps w.key w.own core values h
-  unit_keeps _ w core values h = answer_keeps core _ 6 h
 
 -- what every write of a register keeps, every instruction keeps
 module _ (P : List ℕ → Type 0) (keeps : (core : List ℕ) (n v : ℕ) → P core → P (put core n v)) where
@@ -102,7 +67,7 @@ module _ (P : List ℕ → Type 0) (keeps : (core : List ℕ) (n v : ℕ) → P 
 
   pub effect_keeps : (insn : Insn) (w : Doer) (core values : List ℕ) → P core → P (effect w insn core values).core
   unfolding effect
-  effect_keeps (UnitOp n) w core values h = unit_keeps P (λ c k v ne g. keeps c k v g) (unit_named n) w core values h
+  effect_keeps (UnitOp n) w core values h = unit_leaves core P (λ v. keeps (next core) 15 v (keeps core 0 _ h)) (keeps core 0 _ h) w (unit_named n) values
   effect_keeps insn w core values h = does_keeps insn core values (is_some w.own) h
 
 core_length : (insn : Insn) (core values : List ℕ) (n : ℕ) → length core ≡ n → length (does_freely insn core values).core ≡ n
@@ -128,6 +93,7 @@ inside_gie insn core values b e len = ap (λ c. bit 8 (reg (does insn core value
 pub effect_gie : (insn : Insn) (w : Doer) (core values : List ℕ) → is_alone insn ≡ true → is_some w.own ≡ true → length core ≡ 16 → bit 8 (reg (effect w insn core values).core 2) ≡ bit 8 (reg core 2)
 unfolding effect
 effect_gie (UnitOp n) w core values e s len =
-    unit_keeps (λ c. bit 8 (reg c 2) ≡ bit 8 (reg core 2)) (λ c k v ne h. ap (bit 8) (put_other c k v ne) ∙ h) (unit_named n) w core values refl
+    let same = put_other core 0 (add16 (reg core 0) 2) (λ e. absurd (omega (arith, e))) in
+    unit_leaves core (λ c. bit 8 (reg c 2) ≡ bit 8 (reg core 2)) (λ v. ap (bit 8) (put_other (next core) 15 v (λ e. absurd (omega (arith, e))) ∙ same)) (ap (bit 8) same) w (unit_named n) values
 effect_gie Reti w core values e s len = cc
 effect_gie insn w core values e s len = inside_gie insn core values (is_some w.own) s len
