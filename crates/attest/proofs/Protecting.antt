@@ -1,5 +1,5 @@
 -- The rows of protect.
-use Rattle.std.proofs.Common.{◌≡◌, ℕ, suc, ◌+◌, ◌*◌, ◌<◌, List, [], Bool, true, false, if◌then◌else◌, Option, None, sym, ◌∙◌, ap, subst, arith, append-nil, replicate, slice_index}
+use Rattle.std.proofs.Common.{◌≡◌, ℕ, suc, ◌+◌, ◌*◌, ◌<◌, List, [], Bool, true, false, if◌then◌else◌, Option, None, sym, ◌∙◌, ap, arith, append-nil, replicate, slice_index}
 use Rattle.sm_words.specs.Words.{put, reg}
 use Rattle.mod_layout.specs.Table.{Table, size_of, takes, with_module}
 use Rattle.mod_layout.specs.Tables.{IsTable}
@@ -9,8 +9,9 @@ use Rattle.pc_access.specs.Rights.{first_denied}
 use Rattle.attest.specs.declared.UnitDone.{UnitDone}
 use Rattle.attest.specs.Units.{Protect, Doer, Effect, answer, blocks, each_byte, new_ram, new_text, table_by, unit_effect, unit_plan}
 use Rattle.attest.specs.Accesses.{stored_in, values_in, writes_of}
-use Rattle.attest.specs.Done.{IsDone, effect_in, made_by, standing}
+use Rattle.attest.specs.Done.{IsDone, effect_in, made_by}
 use Rattle.attest.proofs.Cores.{standing-answer}
+use Rattle.attest.proofs.Finished.{done_by}
 use Rattle.attest.proofs.Places.{ram_allowed}
 use Rattle.attest.proofs.Rows.{writes_of-writes}
 
@@ -56,13 +57,6 @@ module _ (who : Doer) (core : List ℕ) where
       let f : whole ≡ effect_in who Protect core mem = sym (effect_by (values_in mem (unit_plan who Protect core)) true e) in
       let writes : clearing ≡ writes_of (unit_plan who Protect core) =
       sym (ap writes_of (plan_by true e ∙ sym (append-nil clearing)) ∙ writes_of-writes (reg core 14) (size_of (new_ram core)) [] ∙ append-nil clearing) in
-      record {
-        core_is = core_is ∙ standing-answer core (who.table.given + 1) ∙ ap (λ (x : Effect). standing core x.core) f;
-        memory_is = mem_is ∙ ap (λ xs. stored_in mem xs (replicate (size_of (new_ram core)) 0)) writes
-            ∙ ap (λ (x : Effect). stored_in mem (writes_of (unit_plan who Protect core)) x.stored) f;
-        table_is = table_is ∙ sym (table_is_by true e);
-        bytes = λ k. subst (λ (x : Effect). slice_index x.stored k < 256) f (zeros (size_of (new_ram core)) k);
-        cycles = ap (λ (d : UnitDone). d.cycles) done_is ∙ ap (λ (x : Effect). x.cycles) f;
-        closing = ap (λ (d : UnitDone). d.closing) done_is ∙ ap (λ (x : Effect). x.closing) f;
-        made = ap (λ (d : UnitDone). d.made) done_is ∙ sym (made_is_by true e);
-      }
+      done_by who Protect core mem whole core' mem' table' done f (core_is ∙ standing-answer core (who.table.given + 1)) (mem_is ∙ ap (λ xs. stored_in mem xs (replicate (size_of (new_ram core)) 0)) writes)
+      (table_is ∙ sym (table_is_by true e)) (λ k. zeros (size_of (new_ram core)) k)
+      (done_is ∙ ap (λ n. let d : UnitDone = record { cycles = whole.cycles; closing = false; made = n } in d) (sym (made_is_by true e)))

@@ -1,5 +1,5 @@
 -- The rows of tag.
-use Rattle.std.proofs.Common.{◌≡◌, ℕ, ◌+◌, ◌-◌, ◌*◌, ◌≤◌, ◌<◌, List, [], ◌++◌, length, take, drop, Bool, true, false, if◌then◌else◌, ◌&&◌, Option, Some, None, sym, ◌∙◌, ap, subst, slice_index, arith, slice_range, append_assoc, append-nil}
+use Rattle.std.proofs.Common.{◌≡◌, ℕ, ◌+◌, ◌-◌, ◌*◌, ◌≤◌, ◌<◌, List, [], ◌++◌, length, take, drop, Bool, true, false, if◌then◌else◌, ◌&&◌, Option, Some, None, sym, ◌∙◌, ap, slice_index, arith, slice_range, append_assoc, append-nil}
 use Rattle.std.proofs.lemmas.List.{take_at, drop_at}
 use Rattle.sm_words.specs.Words.{put, reg}
 use Rattle.mod_layout.specs.declared.Module.{Module}
@@ -12,9 +12,10 @@ use Rattle.pc_access.specs.Rights.{first_denied, or_else}
 use Rattle.attest.specs.declared.UnitDone.{UnitDone}
 use Rattle.attest.specs.Units.{Tag, Doer, Effect, answer, blocks, each_byte, in_range, tag_answer, tag_plan, text_reads, unit_effect, unit_plan}
 use Rattle.attest.specs.Accesses.{stored_in, text_in, values_in, writes_of}
-use Rattle.attest.specs.Done.{IsDone, effect_in, own_of, standing}
+use Rattle.attest.specs.Done.{IsDone, effect_in, own_of}
 use Rattle.attest.proofs.Checks.{denied-append, or_none}
 use Rattle.attest.proofs.Cores.{standing-answer}
+use Rattle.attest.proofs.Finished.{done_by}
 use Rattle.attest.proofs.Places.{own_text_allowed}
 use Rattle.attest.proofs.Rows.{text_values, values_in-reads, values_in-writes, writes_of-reads, writes_of-writes}
 use Rattle.attest.proofs.Slices.{length-slice_range}
@@ -109,13 +110,5 @@ module _ (who : Doer) (core : List ℕ) where
           table' ≡ who.table → done ≡ record { cycles = 6 + 64 * blocks (to - from); closing = false; made = 0 } →
           ((k : ℕ) → slice_index tag k < 256) → IsDone who Tag core mem core' mem' table' done
       tagged core' mem' table' done core_is mem_is table_is done_is bytes =
-          let f = sym effect_whole in
-          record {
-            core_is = core_is ∙ standing-answer core 1 ∙ ap (λ (x : Effect). standing core x.core) f;
-            memory_is = mem_is ∙ ap (λ xs. stored_in mem xs tag) (sym writes_are) ∙ ap (λ (x : Effect). stored_in mem (writes_of (unit_plan who Tag core)) x.stored) f;
-            table_is = table_is;
-            bytes = λ k. subst (λ (x : Effect). slice_index x.stored k < 256) f (bytes k);
-            cycles = ap (λ (d : UnitDone). d.cycles) done_is ∙ ap (λ (x : Effect). x.cycles) f;
-            closing = ap (λ (d : UnitDone). d.closing) done_is ∙ ap (λ (x : Effect). x.closing) f;
-            made = ap (λ (d : UnitDone). d.made) done_is;
-          }
+          done_by who Tag core mem (record (answer core 1 (6 + 64 * blocks (to - from))) { stored = tag }) core' mem' table' done (sym effect_whole) (core_is ∙ standing-answer core 1)
+          (mem_is ∙ ap (λ xs. stored_in mem xs tag) (sym writes_are)) table_is bytes done_is
