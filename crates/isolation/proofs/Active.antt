@@ -7,7 +7,7 @@ use Rattle.reg_backup.specs.Saved.{closing_after, is_close}
 use Rattle.reg_backup.specs.declared.backup.Backup.{Backup}
 use Rattle.reg_backup.specs.declared.backup.Phase.TheVariants.{Run}
 use Rattle.cpu_step.specs.LoneLaws.{GoesOn}
-use Rattle.cpu_step.specs.Lone.{Lone, job_of, Job, Doing, Waits, Closes, Leaves, Does, doing, doing_by, next_insn, next_first, may_do, text_word, lone_does, lone_step_by, lone_read, lone_who, lone_byte, is_alone}
+use Rattle.cpu_step.specs.Lone.{Lone, job_of, Job, Doing, Waits, Closes, Leaves, Breaks, Does, doing, doing_by, next_insn, next_first, may_do, text_word, lone_does, lone_step_by, lone_read, lone_who, lone_byte, is_alone}
 use Rattle.written_machine.specs.Cycle.{Step, act, quiet, told, pc_of, rest_of, due, arrive_inside, turn, begin_unless, begin, enter_at, enter, fetch}
 use Rattle.written_machine.specs.Peers.{section}
 use Rattle.written_machine.specs.State.{State}
@@ -104,15 +104,22 @@ does_gie j l insn e len =
     ap (λ b. 0 ∷ 0 ∷ 8 * b ∷ []) g
 
 -- ---- what the module is about to do
-waits_rest : (r : ℕ) (c t : Bool) (n : Option Insn) (r' : ℕ) → doing_by r c t n ≡ Waits r' → r ≡ suc r'
-waits_rest (suc r) c t n r' e = let k : r ≡ r' = cc in ap suc k
-waits_rest zero false true None r' e = cc
-waits_rest zero false true (Some i) r' e = cc
-waits_rest zero _ _ n r' e = cc
+abbrev Said : ℕ → Bool → Bool → Option Insn → Doing → Type 0
+Said r c t n (Waits r') = r ≡ suc r'
+Said r c t n Closes = (r ≡ 0) × (c ≡ true)
+Said r c t n Leaves = (r ≡ 0) × (c ≡ false) × (t ≡ false)
+Said r c t n (Does i) = (r ≡ 0) × (t ≡ true) × (n ≡ Some i)
+Said r c t n Breaks = Unit {0}
 
-does_now : (r : ℕ) (c t : Bool) (n : Option Insn) (i : Insn) → doing_by r c t n ≡ Does i → (r ≡ 0) × (t ≡ true) × (n ≡ Some i)
-does_now zero false true (Some x) i e = let k : x ≡ i = cc in (refl, refl, ap Some k)
-does_now _ _ _ _ i e = absurd cc
+pub said : (r : ℕ) (c t : Bool) (n : Option Insn) (x : Doing) → doing_by r c t n ≡ x → Said r c t n x
+said r c t n x e = subst (Said r c t n) e (by r c t n)
+  where
+    by : (r : ℕ) (c t : Bool) (n : Option Insn) → Said r c t n (doing_by r c t n)
+    by (suc r) c t n = refl
+    by zero true t n = (refl, refl)
+    by zero false false n = (refl, refl, refl)
+    by zero false true None = tt
+    by zero false true (Some i) = (refl, refl, refl)
 
 held_by : (c : Bool) (n : ℕ) (x : Bool) → one_if c + n ≡ 0 → (n ≡ 0 → x ≡ false) → (c || x) ≡ false
 held_by true n x e h = absurd (omega arith)
@@ -186,9 +193,9 @@ module _ (m : ℕ) (own : Module) (key text : List ℕ) (s : State) (k : Keeps m
   pub turn_moves : (left : ℕ) (x : Doing) → IsCore s.core → due s ≡ None → doing (job_of key own text s.caller) (lone_of (backup_of m s) (section own.ram s.memory)) ≡ x → GoesOn x →
       Moves own s (lone_step_by x (job_of key own text s.caller) (lone_of (backup_of m s) (section own.ram s.memory))) (turn left s) × (veil_core (lone_step_by x (job_of key own text s.caller) (lone_of (backup_of m s) (section own.ram s.memory))).core ≡ veil_core s.core)
   unfolding doing
-  turn_moves left (Waits r) ok d e g = (waits_moves left r d (waits_rest (rest_of s.phase) (is_close s.after) (holds own.text (pc_of s)) _ r e), refl)
+  turn_moves left (Waits r) ok d e g = (waits_moves left r d (said (rest_of s.phase) (is_close s.after) (holds own.text (pc_of s)) _ (Waits r) e), refl)
   turn_moves left (Does i) ok d e g =
-      let w = does_now (rest_of s.phase) (is_close s.after) (holds own.text (pc_of s)) _ i e in
+      let w = said (rest_of s.phase) (is_close s.after) (holds own.text (pc_of s)) _ (Does i) e in
       (does_moves left i d ok.even_pc w.0 w.1 w.2, does_gie (job_of key own text s.caller) (lone_of (backup_of m s) (section own.ram s.memory)) i w.2 ok.sixteen)
   turn_moves left _ ok d e g = absurd g
 

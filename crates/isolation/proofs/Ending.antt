@@ -20,7 +20,7 @@ use Rattle.tracer.specs.declared.Event.{Event}
 use Rattle.written_machine.specs.Cycle.{Settled, unsettled, pc_of, rest_of, in_text, leave_if, close_of, settle_by, settle_in, settle}
 use Rattle.written_machine.specs.Peers.{section}
 use Rattle.written_machine.specs.State.{State}
-use Rattle.isolation.proofs.Active.{active_some}
+use Rattle.isolation.proofs.Active.{active_some, said}
 use Rattle.isolation.proofs.EvenBy.{AlwaysEvenBy}
 use Rattle.isolation.proofs.Evenly.{Together, next_together}
 use Rattle.isolation.proofs.Hide.{veil_if, veil_frames, hide_by, hide}
@@ -39,17 +39,6 @@ frames_same m (Plain ∷ fs) e = ap (λ l. Plain ∷ l) (frames_same m fs e)
 frames_same m (Held b ∷ fs) e =
     let r : times m fs ≡ 0 = omega arith in
     ap (λ x. Held x ∷ veil_frames m fs) (frame_by (b.module == m) b (times m fs) e) ∙ ap (λ l. Held b ∷ l) (frames_same m fs r)
-
--- what doing says of rest, closing and PC
-closes_now : (r : ℕ) (c t : Bool) (n : Option Insn) → doing_by r c t n ≡ Closes → (r ≡ 0) × (c ≡ true)
-closes_now zero true t n e = (refl, refl)
-closes_now zero false true None e = absurd cc
-closes_now _ _ _ n e = absurd cc
-
-leaves_now : (r : ℕ) (c t : Bool) (n : Option Insn) → doing_by r c t n ≡ Leaves → (r ≡ 0) × (c ≡ false) × (t ≡ false)
-leaves_now zero false false n e = (refl, refl, refl)
-leaves_now zero false true None e = absurd cc
-leaves_now _ _ _ _ e = absurd cc
 
 module _ (m : ℕ) (own : Module) (key text : List ℕ) where
   abbrev pub closed_state : State → State
@@ -175,12 +164,12 @@ module _ (m : ℕ) (own : Module) (key text : List ℕ) where
           Together key own text (job_of key own text a.caller) x y (lone_of (backup_of m a) (section own.ram a.memory)) (lone_of (backup_of m b) (section own.ram b.memory)) → Settles (settled_as x a) (settled_as y b)
       unfolding doing
       inside_by Closes Closes ea eb t =
-          let na = closes_now (rest_of a.phase) (is_close a.after) (holds own.text (pc_of a)) _ ea in
-          let nb = closes_now (rest_of b.phase) (is_close b.after) (holds own.text (pc_of b)) _ eb in
+          let na = said (rest_of a.phase) (is_close a.after) (holds own.text (pc_of a)) _ Closes ea in
+          let nb = said (rest_of b.phase) (is_close b.after) (holds own.text (pc_of b)) _ Closes eb in
           record { events = refl; left = refl; states = inl (closed_same t na.0 nb.0) }
       inside_by Leaves Leaves ea eb t =
-          let na = leaves_now (rest_of a.phase) (is_close a.after) (holds own.text (pc_of a)) _ ea in
-          let nb = leaves_now (rest_of b.phase) (is_close b.after) (holds own.text (pc_of b)) _ eb in
+          let na = said (rest_of a.phase) (is_close a.after) (holds own.text (pc_of a)) _ Leaves ea in
+          let nb = said (rest_of b.phase) (is_close b.after) (holds own.text (pc_of b)) _ Leaves eb in
           record { events = ap (λ c. Event.Leave m (reg c 0) ∷ []) t.0; left = refl; states = inr (left_ready t.0 t.1 na.0 nb.0 na.1 nb.1) }
       inside_by (Waits r) (Waits r') ea eb t = still (Waits r) (Waits r') ea eb tt tt
       inside_by (Waits r) (Does i) ea eb t = still (Waits r) (Does i) ea eb tt tt

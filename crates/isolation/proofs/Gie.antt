@@ -1,6 +1,6 @@
 -- Inside a module GIE stays.
 use Rattle.std.specs.Prelude.{ℤ}
-use Rattle.std.proofs.Common.{◌≡◌, ◌≢◌, ℕ, ◌/◌, ◌%◌, ◌<◌, List, length, refl, ap, ◌∙◌, arith, Bool, true, false, cond, ◌==◌, Option, Some, None, length-set, get_or-set_other, get_or-set_same, is_some}
+use Rattle.std.proofs.Common.{◌≡◌, ◌≢◌, ℕ, ◌/◌, ◌%◌, ◌<◌, List, length, ap, ◌∙◌, arith, Bool, true, false, ◌==◌, length-set, get_or-set_other, get_or-set_same, is_some}
 use Rattle.sm_words.specs.Words.{reg, put, add16, bit, kept}
 use Rattle.sm_words.specs.declared.width.Width.{Width}
 use Rattle.insn_decode.specs.declared.insn.Insn.{Insn}
@@ -8,7 +8,6 @@ use Rattle.insn_decode.specs.declared.insn.Insn.TheVariants.{Two, One, Jump, Ret
 use Rattle.insn_decode.specs.declared.insn.OneOp.TheVariants.{Push, Call}
 use Rattle.insn_decode.specs.declared.insn.Operand.{Operand}
 use Rattle.insn_decode.specs.declared.insn.Operand.TheVariants.{Reg, Increment}
-use Rattle.mod_layout.specs.declared.Module.{Module}
 use Rattle.attest.specs.Units.{Doer, next, unit_named}
 use Rattle.attest.proofs.Moved.{unit_leaves}
 use Rattle.cpu_step.specs.Asked.{effect}

@@ -43,12 +43,18 @@ unfolding last_text
 last_text_same addr x y c = ap (λ l. codes "last " ++ (hex_word addr ++ l)) (at_cycle_same x y c)
 
 module _ (a b : Image) (m : ℕ) (schedule : List Scheduled) (peers : Peers a b m) (most : ℕ) where
+  abbrev at_a : ℕ → List ℕ → Marked
+  at_a k ks = moment a schedule most k ks
+
+  abbrev at_b : ℕ → List ℕ → Marked
+  at_b k ks = moment b schedule most k ks
+
   -- both machines stand after the same cycles, with marks after the same
   record Alike (x y : Marked) : Type 0 where
     number : ℕ
     numbers : List ℕ
-    one : x ≡ moment a schedule most number numbers
-    other : y ≡ moment b schedule most number numbers
+    one : x ≡ at_a number numbers
+    other : y ≡ at_b number numbers
 
   -- both do what writes the same, and leads to the same cycles
   record Same (x y : Marked) (ms ns : List Move) : Type 0 where
@@ -59,14 +65,14 @@ module _ (a b : Image) (m : ℕ) (schedule : List Scheduled) (peers : Peers a b 
   one_move : (x y : Marked) (v w : Move) → v.text ≡ w.text → Alike v.after w.after → Same x y (v ∷ []) (w ∷ [])
   one_move x y v w e h = record { text = ap (λ t. t ++ []) e; leads = h }
 
-  still : (k : ℕ) (ks : List ℕ) → Alike (moment a schedule most k ks) (moment b schedule most k ks)
+  still : (k : ℕ) (ks : List ℕ) → Alike (at_a k ks) (at_b k ks)
   still k ks = record { number = k; numbers = ks; one = refl; other = refl }
 
   -- ---- cycles
-  go_same : (k : ℕ) (ks : List ℕ) (n : ℕ) → Same (moment a schedule most k ks) (moment b schedule most k ks) (cycle_moves (moment a schedule most k ks) n) (cycle_moves (moment b schedule most k ks) n)
+  go_same : (k : ℕ) (ks : List ℕ) (n : ℕ) → Same (at_a k ks) (at_b k ks) (cycle_moves (at_a k ks) n) (cycle_moves (at_b k ks) n)
   go_same k ks n =
-      let x = moment a schedule most k ks in
-      let y = moment b schedule most k ks in
+      let x = at_a k ks in
+      let y = at_b k ks in
       record {
         text = text_cycles x n ∙ lines_from a b m schedule peers k n ∙ sym (text_cycles y n);
         leads = record {
@@ -85,43 +91,39 @@ module _ (a b : Image) (m : ℕ) (schedule : List Scheduled) (peers : Peers a b 
 
   -- ---- marks
   mark_by : (k : ℕ) (ks : List ℕ) (c d : Bool) → c ≡ d
-      → (let x = moment a schedule most k ks in let y = moment b schedule most k ks in
+      → (let x = at_a k ks in let y = at_b k ks in
       Same x y (mark_move x (cond c (Some (record x { marks = x.marks ++ x.present ∷ [] })) None) ∷ []) (mark_move y (cond d (Some (record y { marks = y.marks ++ y.present ∷ [] })) None) ∷ []))
   mark_by k ks true true e =
       let count = length-map ks (at a schedule) ∙ sym (length-map ks (at b schedule)) in
       one_move _ _ _ _ (mark_text_same _ _ _ _ count (cycles_same a b m schedule peers k)) (record {
         number = k;
         numbers = ks ++ k ∷ [];
-        one = ap (λ l. let x = moment a schedule most k ks in record x { marks = l }) (sym (map-append (at a schedule) ks (k ∷ [])));
-        other = ap (λ l. let y = moment b schedule most k ks in record y { marks = l }) (sym (map-append (at b schedule) ks (k ∷ [])));
+        one = ap (λ l. let x = at_a k ks in record x { marks = l }) (sym (map-append (at a schedule) ks (k ∷ [])));
+        other = ap (λ l. let y = at_b k ks in record y { marks = l }) (sym (map-append (at b schedule) ks (k ∷ [])));
       })
   mark_by k ks false false e = one_move _ _ _ _ refl (still k ks)
   mark_by k ks _ _ e = absurd cc
 
-  mark_same : (k : ℕ) (ks : List ℕ) → Same (moment a schedule most k ks) (moment b schedule most k ks) (line_moves (moment a schedule most k ks) Mark) (line_moves (moment b schedule most k ks) Mark)
+  mark_same : (k : ℕ) (ks : List ℕ) → Same (at_a k ks) (at_b k ks) (line_moves (at_a k ks) Mark) (line_moves (at_b k ks) Mark)
   mark_same k ks =
       let count = length-map ks (at a schedule) ∙ sym (length-map ks (at b schedule)) in
       mark_by k ks _ _ (ap (λ n. nat_lt n most) count)
 
   -- back to a state of either, under the marks up to the one of number j
-  cut_alike : (j k : ℕ) (ks : List ℕ) (i : ℕ) → Alike (cut_at j (moment a schedule most k ks) (at a schedule i)) (cut_at j (moment b schedule most k ks) (at b schedule i))
+  cut_alike : (j k : ℕ) (ks : List ℕ) (i : ℕ) → Alike (cut_at j (at_a k ks) (at a schedule i)) (cut_at j (at_b k ks) (at b schedule i))
   cut_alike j k ks i = record {
     number = i;
     numbers = take (j + 1) ks;
-    one = ap (λ l. let x = moment a schedule most i ks in record x { marks = l }) (take-map (at a schedule) (j + 1) ks);
-    other = ap (λ l. let y = moment b schedule most i ks in record y { marks = l }) (take-map (at b schedule) (j + 1) ks);
+    one = ap (λ l. let x = at_a i ks in record x { marks = l }) (take-map (at a schedule) (j + 1) ks);
+    other = ap (λ l. let y = at_b i ks in record y { marks = l }) (take-map (at b schedule) (j + 1) ks);
   }
 
   back_by : (j k : ℕ) (ks : List ℕ) (o : Option ℕ) (p q : Option State) → p ≡ option_map (at a schedule) o → q ≡ option_map (at b schedule) o
-      → (let x = moment a schedule most k ks in let y = moment b schedule most k ks in
-      Same x y (back_move j x (option_map (cut_at j x) p) ∷ []) (back_move j y (option_map (cut_at j y) q) ∷ []))
-  back_by j k ks (Some i) p q e f =
-      let x = moment a schedule most k ks in
-      let y = moment b schedule most k ks in
-      rw (e, f) (one_move x y (back_move j x (Some (cut_at j x (at a schedule i)))) (back_move j y (Some (cut_at j y (at b schedule i)))) (back_text_same j _ _ (cycles_same a b m schedule peers i)) (cut_alike j k ks i))
+      → Same (at_a k ks) (at_b k ks) (back_move j (at_a k ks) (option_map (cut_at j (at_a k ks)) p) ∷ []) (back_move j (at_b k ks) (option_map (cut_at j (at_b k ks)) q) ∷ [])
+  back_by j k ks (Some i) p q e f = rw (e, f) (one_move _ _ _ _ (back_text_same j _ _ (cycles_same a b m schedule peers i)) (cut_alike j k ks i))
   back_by j k ks None p q e f = rw (e, f) (one_move _ _ _ _ refl (still k ks))
 
-  back_same : (j k : ℕ) (ks : List ℕ) → Same (moment a schedule most k ks) (moment b schedule most k ks) (line_moves (moment a schedule most k ks) (Back j)) (line_moves (moment b schedule most k ks) (Back j))
+  back_same : (j k : ℕ) (ks : List ℕ) → Same (at_a k ks) (at_b k ks) (line_moves (at_a k ks) (Back j)) (line_moves (at_b k ks) (Back j))
   back_same j k ks = back_by j k ks (slice_get ks j) _ _ (slice_get-map (at a schedule) ks j) (slice_get-map (at b schedule) ks j)
 
   -- the same state of both is the last that stands there
@@ -145,22 +147,18 @@ module _ (a b : Image) (m : ℕ) (schedule : List Scheduled) (peers : Peers a b 
   last_both addr i (suc n) = last_next addr i n (stands_at addr (at a schedule (n + i))) refl (last_both addr i n)
 
   last_found : (addr j k : ℕ) (ks : List ℕ) (o : Option ℕ) (p q : Option State) → p ≡ option_map (at a schedule) o → q ≡ option_map (at b schedule) o
-      → (let x = moment a schedule most k ks in let y = moment b schedule most k ks in
-      Same x y (last_move addr j x (option_map (cut_at j x) p) ∷ []) (last_move addr j y (option_map (cut_at j y) q) ∷ []))
-  last_found addr j k ks (Some i) p q e f =
-      let x = moment a schedule most k ks in
-      let y = moment b schedule most k ks in
-      rw (e, f) (one_move x y (last_move addr j x (Some (cut_at j x (at a schedule i)))) (last_move addr j y (Some (cut_at j y (at b schedule i)))) (last_text_same addr _ _ (cycles_same a b m schedule peers i)) (cut_alike j k ks i))
+      → Same (at_a k ks) (at_b k ks) (last_move addr j (at_a k ks) (option_map (cut_at j (at_a k ks)) p) ∷ []) (last_move addr j (at_b k ks) (option_map (cut_at j (at_b k ks)) q) ∷ [])
+  last_found addr j k ks (Some i) p q e f = rw (e, f) (one_move _ _ _ _ (last_text_same addr _ _ (cycles_same a b m schedule peers i)) (cut_alike j k ks i))
   last_found addr j k ks None p q e f =
       let count = length-map ks (at a schedule) ∙ sym (length-map ks (at b schedule)) in
       rw (e, f) (one_move _ _ _ _ (ap (λ n. cond (nat_lt j n) (not_there_text addr) (no_mark_text j)) count) (still k ks))
 
   last_by : (addr j k : ℕ) (ks : List ℕ) (o : Option ℕ) (p q : Option State) → p ≡ option_map (at a schedule) o → q ≡ option_map (at b schedule) o
-      → (let x = moment a schedule most k ks in let y = moment b schedule most k ks in
+      → (let x = at_a k ks in let y = at_b k ks in
       Same x y (last_move addr j x (option_map (cut_at j x) (option_and_then (last_from addr x) p)) ∷ []) (last_move addr j y (option_map (cut_at j y) (option_and_then (last_from addr y) q)) ∷ []))
   last_by addr j k ks (Some i) p q e f =
-      let x = moment a schedule most k ks in
-      let y = moment b schedule most k ks in
+      let x = at_a k ks in
+      let y = at_b k ks in
       let n = (at a schedule k).cycle - (at a schedule i).cycle in
       let same_n : (at b schedule k).cycle - (at b schedule i).cycle ≡ n = ap (λ c. c - (at b schedule i).cycle) (sym (cycles_same a b m schedule peers k)) ∙ ap (λ c. (at a schedule k).cycle - c) (sym (cycles_same a b m schedule peers i)) in
       let l = last_both addr i n in
@@ -168,20 +166,15 @@ module _ (a b : Image) (m : ℕ) (schedule : List Scheduled) (peers : Peers a b 
       (ap (option_and_then (last_from addr x)) e ∙ l.one)
       (ap (option_and_then (last_from addr y)) f ∙ ap (last_standing addr (at b schedule i)) same_n ∙ l.other)
   last_by addr j k ks None p q e f =
-      let x = moment a schedule most k ks in
-      let y = moment b schedule most k ks in
-      last_found addr j k ks None _ _ (ap (option_and_then (last_from addr x)) e) (ap (option_and_then (last_from addr y)) f)
+      last_found addr j k ks None _ _ (ap (option_and_then (last_from addr (at_a k ks))) e) (ap (option_and_then (last_from addr (at_b k ks))) f)
 
-  last_same : (addr j k : ℕ) (ks : List ℕ) → Same (moment a schedule most k ks) (moment b schedule most k ks) (line_moves (moment a schedule most k ks) (Last addr j)) (line_moves (moment b schedule most k ks) (Last addr j))
+  last_same : (addr j k : ℕ) (ks : List ℕ) → Same (at_a k ks) (at_b k ks) (line_moves (at_a k ks) (Last addr j)) (line_moves (at_b k ks) (Last addr j))
   last_same addr j k ks = last_by addr j k ks (slice_get ks j) _ _ (slice_get-map (at a schedule) ks j) (slice_get-map (at b schedule) ks j)
 
   -- ---- a line
-  line_same : (l : ScriptLine) (k : ℕ) (ks : List ℕ) → Same (moment a schedule most k ks) (moment b schedule most k ks) (line_moves (moment a schedule most k ks) l) (line_moves (moment b schedule most k ks) l)
+  line_same : (l : ScriptLine) (k : ℕ) (ks : List ℕ) → Same (at_a k ks) (at_b k ks) (line_moves (at_a k ks) l) (line_moves (at_b k ks) l)
   line_same (Go n) k ks = go_same k ks n
-  line_same (Until addr n) k ks =
-      let x = moment a schedule most k ks in
-      let y = moment b schedule most k ks in
-      rw (until_same addr k n) (go_same k ks (cycles_until addr (at b schedule k) n))
+  line_same (Until addr n) k ks = rw (until_same addr k n) (go_same k ks (cycles_until addr (at b schedule k) n))
   line_same Regs k ks = one_move _ _ _ _ (ap regs_text (outside_equal a b m schedule peers k)) (still k ks)
   line_same (Mem addr n) k ks = one_move _ _ _ _ (ap (λ v. mem_text v addr n) (outside_equal a b m schedule peers k)) (still k ks)
   line_same Mark k ks = mark_same k ks
@@ -189,11 +182,11 @@ module _ (a b : Image) (m : ℕ) (schedule : List Scheduled) (peers : Peers a b 
   line_same (Last addr j) k ks = last_same addr j k ks
 
   -- ---- a script
-  plays_from : (ls : List ScriptLine) (k : ℕ) (ks : List ℕ) → text_of (moves (moment a schedule most k ks) ls) ≡ text_of (moves (moment b schedule most k ks) ls)
+  plays_from : (ls : List ScriptLine) (k : ℕ) (ks : List ℕ) → text_of (moves (at_a k ks) ls) ≡ text_of (moves (at_b k ks) ls)
   plays_from [] k ks = ap (λ t. t ++ []) (ends_same a b m schedule peers k)
   plays_from (l ∷ ls) k ks =
-      let x = moment a schedule most k ks in
-      let y = moment b schedule most k ks in
+      let x = at_a k ks in
+      let y = at_b k ks in
       let h = line_same l k ks in
       text_append (line_moves x l) (moves (led x (line_moves x l)) ls)
       ∙ ap (λ t. t ++ text_of (moves (led x (line_moves x l)) ls)) h.text
