@@ -132,14 +132,11 @@ module _ (m : ℕ) (own : Module) (key text : List ℕ) (from : ℕ) where
 
   -- over n cycles from a state where the module has done one cycle of its own and is active
   module _ (s : State) (l0 : Lone) (act : is_id m s.active ≡ true) (f0 : Follows m own key text from s (lone_after (job m own key text from) l0 1)) where
-    lower : (c : ℕ) (b : Bool) → NotBroken (outcome (job m own key text from) (1 + (c + cond b 1 0)) l0) → NotBroken (outcome (job m own key text from) (1 + c) l0)
-    lower c b h = more_by m own key text from s l0 0 b (1 + c) l0 (subst (λ k. NotBroken (outcome (job m own key text from) k l0)) (let e : 1 + (c + cond b 1 0) ≡ 1 + c + cond b 1 0 = omega arith in e) h)
-
     pub balance : (n : ℕ) → ((i : ℕ) → i < n → Fine (after_cycles s i)) → ((i : ℕ) → i < n → NoEnd m (cycle (after_cycles s i)).events) → ((i : ℕ) → i < n → (after_cycles s i).stop ≡ None) → NotBroken (outcome (job m own key text from) (1 + worked m s n) l0) → Balance (is_id m (after_cycles s n).active) n (away m s n) (worked m s n)
     balance zero fine ends runs h = subst (λ x. Balance x 0 (away m s 0) 0) (sym act) (refl, refl)
     balance (suc n) fine ends runs h =
         let t = after_cycles s n in
-        let h' = lower (worked m s n) (works m t) h in
+        let h' = more_by m own key text from s l0 0 (works m t) (1 + worked m s n) (1 + (worked m s n + cond (works m t) 1 0)) (omega arith) h in
         let g = follows_on m own key text from s l0 1 n f0 (λ i lt. fine i (omega arith)) (λ i lt. ends i (omega arith)) h' in
         let b = balance n (λ i lt. fine i (omega arith)) (λ i lt. ends i (omega arith)) (λ i lt. runs i (omega arith)) h' in
         let r = cycle_balance t (lone_after (job m own key text from) l0 (1 + worked m s n)) (runs n (omega arith)) g (fine n (omega arith)) (ends n (omega arith)) (λ e. never_breaks (job m own key text from) (1 + (worked m s n + cond (works m t) 1 0)) l0 (1 + worked m s n) (let one : 1 + worked m s n < 1 + (worked m s n + 1) = omega arith in subst (λ x. 1 + worked m s n < 1 + (worked m s n + cond x 1 0)) (sym e) one) h) n (away m s n) (worked m s n) b in
@@ -235,7 +232,7 @@ module _ (m : ℕ) (own : Module) (key text : List ℕ) (from : ℕ) where
     open_so_far zero fine ends h i lt = let e : i ≡ 0 = omega arith in subst (λ q. IsOpen (doing (job m own key text from) (lone_after (job m own key text from) l0 q))) (sym e) first
     open_so_far (suc n) fine ends h i lt =
         let t = after_cycles s n in
-        let h' = more_by m own key text from s l0 0 (works m t) (1 + worked m s n) l0 (subst (λ k. NotBroken (outcome (job m own key text from) k l0)) (let e : 1 + (worked m s n + cond (works m t) 1 0) ≡ 1 + worked m s n + cond (works m t) 1 0 = omega arith in e) h) in
+        let h' = more_by m own key text from s l0 0 (works m t) (1 + worked m s n) (1 + (worked m s n + cond (works m t) 1 0)) (omega arith) h in
         let g = follows_on m own key text from s l0 1 n f0 (λ i lt. fine i (omega arith)) (λ i lt. ends i (omega arith)) h' in
         one_more (works m t) (worked m s n) i lt (open_so_far n (λ i lt. fine i (omega arith)) (λ i lt. ends i (omega arith)) h')
         (λ w. cycle_open t.stop t (lone_after (job m own key text from) l0 (1 + worked m s n)) refl g (ends n (omega arith)) w)

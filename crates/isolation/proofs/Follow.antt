@@ -203,9 +203,9 @@ module _ (j : Job) where
 
 module _ (m : ℕ) (own : Module) (key text : List ℕ) (from : ℕ) (s : State) (l0 : Lone) (c0 : ℕ) where
   -- c0 cycles were done before; n more cycles of the machine pass
-  pub more_by : (b : Bool) (c : ℕ) (l : Lone) → NotBroken (outcome (job m own key text from) (c + cond b 1 0) l) → NotBroken (outcome (job m own key text from) c l)
-  more_by false c l h = subst (λ k. NotBroken (outcome (job m own key text from) k l)) (let e : c + 0 ≡ c = omega arith in e) h
-  more_by true c l h = not_sooner (job m own key text from) c l (subst (λ k. NotBroken (outcome (job m own key text from) k l)) (let e : c + 1 ≡ suc c = omega arith in e) h)
+  pub more_by : (b : Bool) (c k : ℕ) → k ≡ c + cond b 1 0 → NotBroken (outcome (job m own key text from) k l0) → NotBroken (outcome (job m own key text from) c l0)
+  more_by false c k e h = subst (λ i. NotBroken (outcome (job m own key text from) i l0)) (let z : k ≡ c = omega arith in z) h
+  more_by true c k e h = not_sooner (job m own key text from) c l0 (subst (λ i. NotBroken (outcome (job m own key text from) i l0)) (let z : k ≡ suc c = omega arith in z) h)
 
   step_by : (b : Bool) (c : ℕ) (t : State) → Follows m own key text from t (cond b (lone_step (job m own key text from) (lone_after (job m own key text from) l0 c)) (lone_after (job m own key text from) l0 c)) → Follows m own key text from t (lone_after (job m own key text from) l0 (c + cond b 1 0))
   step_by false c t f = subst (λ k. Follows m own key text from t (lone_after (job m own key text from) l0 k)) (let e : c ≡ c + 0 = omega arith in e) f
@@ -220,7 +220,7 @@ module _ (m : ℕ) (own : Module) (key text : List ℕ) (from : ℕ) (s : State)
       let b = works m t in
       let assoc : c0 + (worked m s n + cond b 1 0) ≡ c + cond b 1 0 = omega arith in
       let h' = subst (λ k. NotBroken (outcome (job m own key text from) k l0)) assoc h in
-      let g = follows_on n f (λ i lt. fine i (omega arith)) (λ i lt. ends i (omega arith)) (more_by b c l0 h') in
+      let g = follows_on n f (λ i lt. fine i (omega arith)) (λ i lt. ends i (omega arith)) (more_by b c (c + cond b 1 0) refl h') in
       let r = cycle_follows m own key text from t.stop t (lone_after (job m own key text from) l0 c) refl g (fine n (omega arith)) (ends n (omega arith)) (λ e. never_breaks (job m own key text from) (c + cond b 1 0) l0 c (let one : c < c + 1 = omega arith in subst (λ x. c < c + cond x 1 0) (sym e) one) h') in
       subst (λ k. Follows m own key text from (after_cycles s (suc n)) (lone_after (job m own key text from) l0 k)) (sym assoc) (step_by b c (after_cycles s (suc n)) r)
 

@@ -137,12 +137,13 @@ module _ (m : ℕ) (own : Module) (key text : List ℕ) where
   pub seen : {A : Type 0} (f : State → A) → ((c : Bool) (s : State) → f (hide_by c m own s) ≡ f s) → (a b : State) → hide m own a ≡ hide m own b → f a ≡ f b
   seen f same a b e = sym (same (is_id m a.active) a) ∙ ap f e ∙ same (is_id m b.active) b
 
-  hide_active : (c : Bool) (s : State) → (hide_by c m own s).active ≡ s.active
-  hide_active true s = refl
-  hide_active false s = refl
+  -- what is never hidden
+  pub hidden_same : (c : Bool) (s : State) → ((hide_by c m own s).active ≡ s.active) × ((hide_by c m own s).stop ≡ s.stop) × ((hide_by c m own s).devices ≡ s.devices) × ((hide_by c m own s).caller ≡ s.caller)
+  hidden_same true s = (refl, refl, refl, refl)
+  hidden_same false s = (refl, refl, refl, refl)
 
   pub seen_active : (a b : State) → hide m own a ≡ hide m own b → a.active ≡ b.active
-  seen_active a b e = seen (λ s. s.active) hide_active a b e
+  seen_active a b e = seen (λ s. s.active) (λ c s. (hidden_same c s).0) a b e
 
   -- so it is also where the module is gone
   pub related_seen : {A : Type 0} (f : State → A) → ((c : Bool) (s : State) → f (hide_by c m own s) ≡ f s) → (a b : State) → Related a b → f a ≡ f b

@@ -28,7 +28,7 @@ use Rattle.isolation.proofs.Bytes.{Out, get_cleared, length_cleared, get_in_clea
 use Rattle.isolation.proofs.Ending.{Settles, outside_settles, inside_settles}
 use Rattle.isolation.proofs.Fine.{Fine, FineSettled, settled_fine, fine_at}
 use Rattle.isolation.proofs.Hide.{veil_if, veil_frames, veil_core, hide_by, hide}
-use Rattle.isolation.proofs.Relation.{Twins, Ready, Related, Alike, twins_stay_before, seen, related_seen, seen_veiled}
+use Rattle.isolation.proofs.Relation.{Twins, Ready, Related, Alike, twins_stay_before, hidden_same, seen, related_seen, seen_veiled}
 use Rattle.isolation.proofs.Rights.{Sound, out_place, holds_in}
 use Rattle.isolation.proofs.Settled.{passing_stays, ticked_stays}
 use Rattle.isolation.proofs.Settling.{ticked_hidden, gie_hidden}
@@ -78,23 +78,15 @@ module _ (m : ℕ) (own : Module) (key text : List ℕ) where
       twins_stay_before m own key text a b (counts a) (counts b) t (passing_stays m own key text a a.devices (a.cycle + 1) t.keeps_a) (passing_stays m own key text b b.devices (b.cycle + 1) t.keeps_b)
       (counts_hidden (is_id m a.active) a ∙ ap counts t.seen ∙ sym (counts_hidden (is_id m b.active) b)) refl refl
 
-  stop_hidden : (c : Bool) (s : State) → (hide_by c m own s).stop ≡ s.stop
-  stop_hidden true s = refl
-  stop_hidden false s = refl
-
   seen_stop : (a b : State) → hide m own a ≡ hide m own b → a.stop ≡ b.stop
-  seen_stop a b e = seen m own key text (λ s. s.stop) stop_hidden a b e
-
-  devices_hidden : (c : Bool) (s : State) → (hide_by c m own s).devices ≡ s.devices
-  devices_hidden true s = refl
-  devices_hidden false s = refl
+  seen_stop a b e = seen m own key text (λ s. s.stop) (λ c s. (hidden_same m own key text c s).1) a b e
 
   counted_alike_by : (o : Option Stop) (es : List Event) (ta tb : Step) → ta.events ≡ tb.events → Twins m own key text ta.state tb.state → Alike m own key text (counted_by o (told es ta)) (counted_by o (told es tb))
   unfolding counts
   counted_alike_by (Some stop) es ta tb e t = record { events = ap (λ x. es ++ x) e; related = inr t }
   counted_alike_by None es ta tb e t =
       record {
-        events = ap (λ x. es ++ x ++ sent_event ta.state.devices.sent) e ∙ ap (λ (d : Devices). es ++ tb.events ++ sent_event d.sent) (seen m own key text (λ s. s.devices) devices_hidden ta.state tb.state t.seen);
+        events = ap (λ x. es ++ x ++ sent_event ta.state.devices.sent) e ∙ ap (λ (d : Devices). es ++ tb.events ++ sent_event d.sent) (seen m own key text (λ s. s.devices) (λ c s. (hidden_same m own key text c s).2) ta.state tb.state t.seen);
         related = inr (counts_twins ta.state tb.state t);
       }
 
@@ -257,12 +249,8 @@ module _ (a b : Image) (m : ℕ) (schedule : List Scheduled) (peers : Peers a b 
       (λ x. let v = seen_veiled m own a.node_key (section own.text a.memory) (at a schedule k) (at b schedule k) x.seen e in (ap (λ u. u.phase) v, ap (λ u. u.after) v))
       (related_at k)
 
-  caller_hidden : (c : Bool) (s : State) → (hide_by c m own s).caller ≡ s.caller
-  caller_hidden true s = refl
-  caller_hidden false s = refl
-
   pub callers_equal : (k : ℕ) → (at a schedule k).caller ≡ (at b schedule k).caller
-  callers_equal k = related_seen m own a.node_key (section own.text a.memory) (λ s. s.caller) caller_hidden (at a schedule k) (at b schedule k) (related_at k)
+  callers_equal k = related_seen m own a.node_key (section own.text a.memory) (λ s. s.caller) (λ c s. (hidden_same m own a.node_key (section own.text a.memory) c s).3) (at a schedule k) (at b schedule k) (related_at k)
 
   pub gie_equal : (k : ℕ) → is_gie (at a schedule k).core ≡ is_gie (at b schedule k).core
   gie_equal k = related_seen m own a.node_key (section own.text a.memory) (λ s. is_gie s.core) (gie_hidden m own) (at a schedule k) (at b schedule k) (related_at k)
