@@ -11,8 +11,10 @@ use Rattle.attest.proofs.Cores.{standing-answer, standing-next}
 use Rattle.attest.proofs.Rows.{stored_in-none}
 
 -- an effect that is known gives what is done
-pub done_by : (who : Doer) (x : UnitName) (core mem : List ℕ) (f : Effect) (core' mem' : List ℕ) (table' : Table) (done : UnitDone) → f ≡ effect_in who x core mem →
-    core' ≡ standing core f.core → mem' ≡ stored_in mem (writes_of (unit_plan who x core)) f.stored → table' ≡ table_by x who.table core → ((k : ℕ) → slice_index f.stored k < 256) →
+pub done_by : (who : Doer) (x : UnitName) (core mem : List ℕ) (f : Effect) (core' mem' : List ℕ) (table' : Table) (done : UnitDone) →
+    f ≡ effect_in who x core mem →
+    core' ≡ standing core f.core → mem' ≡ stored_in mem (writes_of (unit_plan who x core)) f.stored →
+    table' ≡ table_by x who.table core → ((k : ℕ) → slice_index f.stored k < 256) →
     done ≡ record { cycles = f.cycles; closing = f.closing; made = made_by x who.table core } → IsDone who x core mem core' mem' table' done
 done_by who x core mem f core' mem' table' done e core_is memory_is table_is bytes done_is = record {
   core_is = core_is ∙ ap (λ (g : Effect). standing core g.core) e;
@@ -28,7 +30,8 @@ pub answered : (who : Doer) (x : UnitName) (core mem : List ℕ) (v cycles : ℕ
     effect_in who x core mem ≡ answer core v cycles → core' ≡ put core 15 v → done ≡ record { cycles = cycles; closing = false; made = 0 } →
     table' ≡ table_by x who.table core → 0 ≡ made_by x who.table core → IsDone who x core mem core' mem table' done
 answered who x core mem v cycles core' table' done e core_is done_is table_is made_is =
-    done_by who x core mem (answer core v cycles) core' mem table' done (sym e) (core_is ∙ standing-answer core v) (sym (stored_in-none mem (writes_of (unit_plan who x core)))) table_is (λ k. omega arith)
+    done_by who x core mem (answer core v cycles) core' mem table' done (sym e) (core_is ∙ standing-answer core v)
+    (sym (stored_in-none mem (writes_of (unit_plan who x core)))) table_is (λ k. omega arith)
     (done_is ∙ ap (λ n. let d : UnitDone = record { cycles = cycles; closing = false; made = n } in d) made_is)
 
 -- the running module closes
@@ -37,5 +40,6 @@ pub closed : (who : Doer) (own : Module) (core mem core' : List ℕ) (table' : T
     IsDone who Unprotect core mem core' mem table' done
 unfolding unit_effect
 closed who own core mem core' table' done own_is core_is table_is done_is =
-    done_by who Unprotect core mem (unprotected (Some own) core) core' mem table' done (ap (λ o. unprotected o core) (sym own_is)) (core_is ∙ standing-next core)
+    done_by who Unprotect core mem (unprotected (Some own) core) core' mem table' done (ap (λ o. unprotected o core) (sym own_is))
+    (core_is ∙ standing-next core)
     (sym (stored_in-none mem (writes_of (unit_plan who Unprotect core)))) table_is (λ k. omega arith) done_is

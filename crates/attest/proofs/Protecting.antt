@@ -57,6 +57,7 @@ module _ (who : Doer) (core : List ℕ) where
       let f : whole ≡ effect_in who Protect core mem = sym (effect_by (values_in mem (unit_plan who Protect core)) true e) in
       let writes : clearing ≡ writes_of (unit_plan who Protect core) =
       sym (ap writes_of (plan_by true e ∙ sym (append-nil clearing)) ∙ writes_of-writes (reg core 14) (size_of (new_ram core)) [] ∙ append-nil clearing) in
-      done_by who Protect core mem whole core' mem' table' done f (core_is ∙ standing-answer core (who.table.given + 1)) (mem_is ∙ ap (λ xs. stored_in mem xs (replicate (size_of (new_ram core)) 0)) writes)
+      done_by who Protect core mem whole core' mem' table' done f (core_is ∙ standing-answer core (who.table.given + 1))
+      (mem_is ∙ ap (λ xs. stored_in mem xs (replicate (size_of (new_ram core)) 0)) writes)
       (table_is ∙ sym (table_is_by true e)) (λ k. zeros (size_of (new_ram core)) k)
       (done_is ∙ ap (λ n. let d : UnitDone = record { cycles = whole.cycles; closing = false; made = n } in d) (sym (made_is_by true e)))

@@ -110,5 +110,6 @@ module _ (who : Doer) (core : List ℕ) where
           table' ≡ who.table → done ≡ record { cycles = 6 + 64 * blocks (to - from); closing = false; made = 0 } →
           ((k : ℕ) → slice_index tag k < 256) → IsDone who Tag core mem core' mem' table' done
       tagged core' mem' table' done core_is mem_is table_is done_is bytes =
-          done_by who Tag core mem (record (answer core 1 (6 + 64 * blocks (to - from))) { stored = tag }) core' mem' table' done (sym effect_whole) (core_is ∙ standing-answer core 1)
+          done_by who Tag core mem (record (answer core 1 (6 + 64 * blocks (to - from))) { stored = tag }) core' mem' table' done (sym effect_whole)
+          (core_is ∙ standing-answer core 1)
           (mem_is ∙ ap (λ xs. stored_in mem xs tag) (sym writes_are)) table_is bytes done_is

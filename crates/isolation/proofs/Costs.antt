@@ -105,7 +105,8 @@ module _ (m : ℕ) (own : Module) (key text : List ℕ) (from : ℕ) where
   counted None es t i w c b =
       let s = sent_event t.state.devices.sent in
       let e : notes m i (es ++ t.events ++ s) w ≡ notes m i t.events (notes m i es w) =
-      notes_more m i (es ++ t.events) s w ∙ still_notes m i s (notes m i (es ++ t.events) w) (sent_tells (Still m) tt (λ b. tt) t.state.devices.sent) ∙ notes_more m i es t.events w in
+      notes_more m i (es ++ t.events) s w ∙ still_notes m i s (notes m i (es ++ t.events) w)
+      (sent_tells (Still m) tt (λ b. tt) t.state.devices.sent) ∙ notes_more m i es t.events w in
       subst (λ y. Balance (is_id m t.state.active) (i + 1) y c) (sym e) b
 
   moves_balance : (s : State) (la : Lone) → Follows m own key text from s la → Fine s → NoEnd m (move s).events → (let u = settle (ticked s) in (is_id m u.state.active && is_none (due u.state)) ≡ true → doing (job m own key text from) la ≢ Breaks) → (i : ℕ) (w : Away) (c : ℕ) → Balance (is_id m s.active) i w c → Balance (is_id m (move s).state.active) (i + 1) (notes m i (move s).events w) (c + (let u = settle (ticked s) in cond (is_id m u.state.active && is_none (due u.state)) 1 0))

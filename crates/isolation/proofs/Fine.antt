@@ -91,7 +91,8 @@ abbrev pub TableFine : Table → Type 0
 TableFine t = IsTable t × (t.given < 65536)
 
 pub table_fine : (insn : Insn) (t : Table) (core : List ℕ) → TableFine t → TableFine (table_after t insn core)
-table_fine insn t core h = table_keeps TableFine (λ u vendor text ram e k. (table_more u vendor text ram k.0 e, let g = (taken u text ram e).given in omega arith)) insn t core h
+table_fine insn t core h = table_keeps TableFine
+    (λ u vendor text ram e k. (table_more u vendor text ram k.0 e, let g = (taken u text ram e).given in omega arith)) insn t core h
 
 perform_fine : (insn : Insn) (s : State) → Fine s → Fine (perform insn s).state
 unfolding perform

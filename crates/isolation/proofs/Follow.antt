@@ -266,8 +266,10 @@ module _ (m : ℕ) (own : Module) (key text : List ℕ) (from : ℕ) where
   move_enters s k fine en nb =
       let u = settle (ticked s) in
       let t = turn u.left u.state in
-      let e = enters_follows u.state t k (settled_fine s fine).fine.core_ok en nb in
-      (counted_follows m own key text from t.state.stop (told u.events t) (lone_step (job m own key text from) (start m own key text from u.state)) e.0, counted_holds (λ v. is_id m v.active ≡ true) (λ v n h. h) t.state.stop (told u.events t) e.1)
+      let e = enters_follows u.state t k (settled_fine s fine).fine.core_ok en nb in (
+        counted_follows m own key text from t.state.stop (told u.events t) (lone_step (job m own key text from) (start m own key text from u.state)) e.0,
+        counted_holds (λ v. is_id m v.active ≡ true) (λ v n h. h) t.state.stop (told u.events t) e.1,
+      )
 
 pub after_more : (a : Image) (schedule : List Scheduled) (k i : ℕ) → after_cycles (at a schedule k) i ≡ at a schedule (i + k)
 after_more a schedule k zero = ap (at a schedule) (let e : k ≡ 0 + k = omega arith in e)

@@ -64,7 +64,8 @@ entered_once m id fs true e n h =
     let o : one_if (id == m) ≡ 1 = ap one_if e in omega arith
 entered_once m id fs false e n h = let o : one_if (id == m) ≡ 0 = ap one_if e in omega arith
 
-enter_framed : (id left : ℕ) (s : State) → right s.table s.active (held_ids s.frames) (fetch s) ≡ None → place_of s.table (pc_of s) ≡ Entry id → Framed s → FramedBy (Some id) s.frames Next
+enter_framed : (id left : ℕ) (s : State) → right s.table s.active (held_ids s.frames) (fetch s) ≡ None → place_of s.table (pc_of s) ≡ Entry id →
+    Framed s → FramedBy (Some id) s.frames Next
 enter_framed id left s e p h =
     let zero_times = times_none id s.frames (entry_free id s e p) in
     record {

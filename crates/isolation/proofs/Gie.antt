@@ -93,6 +93,7 @@ pub effect_gie : (insn : Insn) (w : Doer) (core values : List ℕ) → is_alone 
 unfolding effect
 effect_gie (UnitOp n) w core values e s len =
     let same = put_other core 0 (add16 (reg core 0) 2) (λ e. absurd (omega (arith, e))) in
-    unit_leaves core (λ c. bit 8 (reg c 2) ≡ bit 8 (reg core 2)) (λ v. ap (bit 8) (put_other (next core) 15 v (λ e. absurd (omega (arith, e))) ∙ same)) (ap (bit 8) same) w (unit_named n) values
+    unit_leaves core (λ c. bit 8 (reg c 2) ≡ bit 8 (reg core 2)) (λ v. ap (bit 8) (put_other (next core) 15 v (λ e. absurd (omega (arith, e))) ∙ same))
+    (ap (bit 8) same) w (unit_named n) values
 effect_gie Reti w core values e s len = cc
 effect_gie insn w core values e s len = inside_gie insn core values (is_some w.own) s len

@@ -35,7 +35,9 @@ times_plain m (f ∷ fs) = refl
 
 module _ (m : ℕ) (own : Module) (key text : List ℕ) where
   -- a step that leaves the module's data and text, and adds and takes off no frame of a module
-  pub stays_by : (s t : State) → Keeps m own key text s → is_id m s.active ≡ false → is_id m t.active ≡ false → section own.ram t.memory ≡ section own.ram s.memory → section own.text t.memory ≡ section own.text s.memory → find_held m t.frames ≡ find_held m s.frames → times m t.frames ≡ times m s.frames → t.key ≡ s.key → Sound m own t.table → Stays m own key text s t
+  pub stays_by : (s t : State) → Keeps m own key text s → is_id m s.active ≡ false → is_id m t.active ≡ false → section own.ram t.memory ≡ section own.ram s.memory →
+      section own.text t.memory ≡ section own.text s.memory → find_held m t.frames ≡ find_held m s.frames →
+      times m t.frames ≡ times m s.frames → t.key ≡ s.key → Sound m own t.table → Stays m own key text s t
   stays_by s t k other o bytes texts found tm keys sound =
       record {
         bytes = bytes;
@@ -75,11 +77,13 @@ module _ (m : ℕ) (own : Module) (key text : List ℕ) where
         let p = port_of s in
         let vs = reg s.core 0 ∷ reg s.core 2 ∷ [] in
         outside_ways s Acts v (λ d. light_acts (denied d s) (refl, refl, refl, refl, refl))
-        (λ e. (refl,
-        stays_by s (push_both None v s).state k other other
-        (put_writes_part own.ram.start (size_of own.ram) (pushes s) p vs (writes_out m own s.table k.sound None (held_ids s.frames) refl (pushes s) e))
-        (put_writes_part own.text.start (size_of own.text) (pushes s) p vs (text_writes_out m own s.table k.sound None (held_ids s.frames) (pushes s) e))
-        (found_plain m s.frames) (times_plain m s.frames) refl k.sound))
+        (λ e. (
+          refl,
+          stays_by s (push_both None v s).state k other other
+              (put_writes_part own.ram.start (size_of own.ram) (pushes s) p vs (writes_out m own s.table k.sound None (held_ids s.frames) refl (pushes s) e))
+              (put_writes_part own.text.start (size_of own.text) (pushes s) p vs (text_writes_out m own s.table k.sound None (held_ids s.frames) (pushes s) e))
+              (found_plain m s.frames) (times_plain m s.frames) refl k.sound,
+        ))
 
     pub arrived_active : (v : ℕ) → (arrive_outside v s).state.active ≡ s.active
     arrived_active v = (arrives v).0

@@ -21,7 +21,8 @@ record Settles (u : Settled) : Type 0 where
 
 settle_calm : (s : State) → Calm s → Settles (settle s)
 settle_calm s h =
-    settle_ways s Settles (record { calm = h; none = λ x. x }) (λ b fs e. record { calm = (refl, closing_calm b.closing); none = λ x. x }) (λ id x a o. record { calm = (h.0, refl); none = λ x. x })
+    settle_ways s Settles (record { calm = h; none = λ x. x })
+    (λ b fs e. record { calm = (refl, closing_calm b.closing); none = λ x. x }) (λ id x a o. record { calm = (h.0, refl); none = λ x. x })
     (λ e. absurd (let c : true ≡ false = ap is_handler (sym e) ∙ h.1 in cc)) (λ id a. record { calm = h; none = λ x. x })
 
 ticked_calm : (s : State) → Calm s → Calm (ticked s)
@@ -46,7 +47,8 @@ move_pad n s e =
     let t = ticked s in
     let q = quiet (padded (n - 1) t) in
     let go : Settled → Step = λ u. let v = turn u.left u.state in counted_by v.state.stop (told u.events v) in
-    let e1 : go (settle t) ≡ counted_by q.state.stop (told [] q) = ap go (settle_pad n t e) ∙ ap (λ v. counted_by v.state.stop (told [] v)) (turn_pad n 0 t e) in
+    let e1 : go (settle t) ≡ counted_by q.state.stop (told [] q) = ap go (settle_pad n t e)
+    ∙ ap (λ v. counted_by v.state.stop (told [] v)) (turn_pad n 0 t e) in
     subst (λ u. Ended q.state u.state) (sym e1) (counted_holds (Ended q.state) (λ u k h. h) q.state.stop (told [] q) (refl, refl, refl))
 
 -- ---- a handler begins
@@ -70,7 +72,8 @@ move_handles s p a =
 
 counted_none : (o : Option Stop) (es : List Event) (t : Step) → Late t.events → Handles (counted_by o (told es t)).events → Handles es
 counted_none (Some stop) es t l h = late_handles es t.events l h
-counted_none None es t l h = late_handles es t.events l (late_handles (es ++ t.events) (sent_event t.state.devices.sent) (sent_tells Late tt (λ b. (tt, tt)) t.state.devices.sent) h)
+counted_none None es t l h = late_handles es t.events l
+    (late_handles (es ++ t.events) (sent_event t.state.devices.sent) (sent_tells Late tt (λ b. (tt, tt)) t.state.devices.sent) h)
 
 move_none : (s : State) → Handles (move s).events → Handles (settle (ticked s)).events
 unfolding move
@@ -94,7 +97,8 @@ turn_next left s h =
 next_counted : (es : List Event) (t : Step) → Next_is t → Next_is (counted_by t.state.stop (told es t))
 next_counted es t h =
     let o = t.state.stop in
-    ⊎_elim (λ c. inl (counted_holds Calm (λ u k g. g) o (told es t) c)) (λ b. let e = counted_holds (Ended t.state) (λ u k g. g) o (told es t) (refl, refl, refl) in inr (e.0 ∙ b.0, e.1 ∙ b.1, counted_hides o es t b.2)) h
+    ⊎_elim (λ c. inl (counted_holds Calm (λ u k g. g) o (told es t) c))
+    (λ b. let e = counted_holds (Ended t.state) (λ u k g. g) o (told es t) (refl, refl, refl) in inr (e.0 ∙ b.0, e.1 ∙ b.1, counted_hides o es t b.2)) h
 
 move_next : (s : State) → Calm (settle (ticked s)).state → Next_is (move s)
 unfolding move
@@ -186,7 +190,8 @@ record Plainly (s : State) (u : Settled) : Type 0 where
 
 settle_plainly : (s : State) → Plainly s (settle s)
 settle_plainly s =
-    settle_ways s (Plainly s) (record { none = λ x. x; stop = refl }) (λ b fs e. record { none = λ x. x; stop = refl }) (λ id x a o. record { none = λ x. x; stop = refl }) (λ e. record { none = λ x. x; stop = refl })
+    settle_ways s (Plainly s) (record { none = λ x. x; stop = refl })
+    (λ b fs e. record { none = λ x. x; stop = refl }) (λ id x a o. record { none = λ x. x; stop = refl }) (λ e. record { none = λ x. x; stop = refl })
     (λ id a. record { none = λ x. x; stop = refl })
 
 -- where a module was hidden, it pads
@@ -200,7 +205,8 @@ turn_hides left s e h =
 counted_hid : (o : Option Stop) (es : List Event) (t : Step) → (Hides es → ⊥) → Hides (counted_by o (told es t)).events → Hides t.events
 counted_hid (Some stop) es t n h = ⊎_elim (λ x. absurd (n x)) (λ x. x) (hides_split es t.events h)
 counted_hid None es t n h =
-    ⊎_elim (λ y. ⊎_elim (λ x. absurd (n x)) (λ x. x) (hides_split es t.events y)) (λ x. absurd (sent_tells (λ es. Hides es → ⊥) (λ h. h) (λ b h. h) t.state.devices.sent x))
+    ⊎_elim (λ y. ⊎_elim (λ x. absurd (n x)) (λ x. x) (hides_split es t.events y))
+    (λ x. absurd (sent_tells (λ es. Hides es → ⊥) (λ h. h) (λ b h. h) t.state.devices.sent x))
     (hides_split (es ++ t.events) (sent_event t.state.devices.sent) h)
 
 move_hides : (s : State) → s.stop ≡ None → Hides (move s).events → Padded (move s).state

@@ -119,7 +119,8 @@ module _ (a b : Image) (m : ℕ) (schedule : List Scheduled) (peers : Peers a b 
   }
 
   back_by : (j k : ℕ) (ks : List ℕ) (o : Option ℕ) (p q : Option State) → p ≡ option_map (at a schedule) o → q ≡ option_map (at b schedule) o
-      → Same (at_a k ks) (at_b k ks) (back_move j (at_a k ks) (option_map (cut_at j (at_a k ks)) p) ∷ []) (back_move j (at_b k ks) (option_map (cut_at j (at_b k ks)) q) ∷ [])
+      → Same (at_a k ks) (at_b k ks) (back_move j (at_a k ks) (option_map (cut_at j (at_a k ks)) p) ∷ [])
+      (back_move j (at_b k ks) (option_map (cut_at j (at_b k ks)) q) ∷ [])
   back_by j k ks (Some i) p q e f = rw (e, f) (one_move _ _ _ _ (back_text_same j _ _ (cycles_same a b m schedule peers i)) (cut_alike j k ks i))
   back_by j k ks None p q e f = rw (e, f) (one_move _ _ _ _ refl (still k ks))
 
@@ -147,7 +148,8 @@ module _ (a b : Image) (m : ℕ) (schedule : List Scheduled) (peers : Peers a b 
   last_both addr i (suc n) = last_next addr i n (stands_at addr (at a schedule (n + i))) refl (last_both addr i n)
 
   last_found : (addr j k : ℕ) (ks : List ℕ) (o : Option ℕ) (p q : Option State) → p ≡ option_map (at a schedule) o → q ≡ option_map (at b schedule) o
-      → Same (at_a k ks) (at_b k ks) (last_move addr j (at_a k ks) (option_map (cut_at j (at_a k ks)) p) ∷ []) (last_move addr j (at_b k ks) (option_map (cut_at j (at_b k ks)) q) ∷ [])
+      → Same (at_a k ks) (at_b k ks) (last_move addr j (at_a k ks) (option_map (cut_at j (at_a k ks)) p) ∷ [])
+      (last_move addr j (at_b k ks) (option_map (cut_at j (at_b k ks)) q) ∷ [])
   last_found addr j k ks (Some i) p q e f = rw (e, f) (one_move _ _ _ _ (last_text_same addr _ _ (cycles_same a b m schedule peers i)) (cut_alike j k ks i))
   last_found addr j k ks None p q e f =
       let count = length-map ks (at a schedule) ∙ sym (length-map ks (at b schedule)) in

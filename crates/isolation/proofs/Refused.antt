@@ -173,7 +173,8 @@ begin_by_stops (Some d) left s h = refl
 begin_by_stops None left s h =
     let e = (enter left s).state in
     let x = enter_checks left s in
-    act_stops e (enter_ways s (λ t. t.state.stop ≡ s.stop) left refl (λ id p a. refl) ∙ h) ∙ stop_core (first_refused (later_checks e)) e s x.1 ∙ ap (λ cs. stop_at (first_refused cs) s) x.0
+    act_stops e (enter_ways s (λ t. t.state.stop ≡ s.stop) left refl (λ id p a. refl) ∙ h)
+    ∙ stop_core (first_refused (later_checks e)) e s x.1 ∙ ap (λ cs. stop_at (first_refused cs) s) x.0
 
 begin_stops : (left : ℕ) (s : State) → s.stop ≡ None → Stops (begin left s) (first_refused (insn_checks s)) s
 unfolding begin
@@ -213,7 +214,8 @@ unfolding move refused_in
 move_stops s h =
     let u = settle (ticked s) in
     let t = turn u.left u.state in
-    counted_holds (λ v. v.stop ≡ refused_in s) (λ v k g. g) t.state.stop (told u.events t) (turn_stops u.left u.state ((settle_settles (ticked s)).1 ∙ ticked_stop s ∙ h))
+    counted_holds (λ v. v.stop ≡ refused_in s) (λ v k g. g) t.state.stop (told u.events t)
+    (turn_stops u.left u.state ((settle_settles (ticked s)).1 ∙ ticked_stop s ∙ h))
 
 -- a machine that runs is stopped by the first check that is refused, and by nothing else
 pub refused_told : (s : State) → s.stop ≡ None → (cycle s).state.stop ≡ refused_in s

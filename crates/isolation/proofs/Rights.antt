@@ -36,7 +36,8 @@ none_or : (p q : Option Denied) → or_else p q ≡ None → (p ≡ None) × (q 
 none_or None q e = (refl, e)
 none_or (Some d) q e = absurd cc
 
-allowed_each : (t : Table) (active : Option ℕ) (held : List ℕ) (xs : List Access) → first_denied t active held xs ≡ None → Each (λ x. right t active held x ≡ None) xs
+allowed_each : (t : Table) (active : Option ℕ) (held : List ℕ) (xs : List Access) →
+    first_denied t active held xs ≡ None → Each (λ x. right t active held x ≡ None) xs
 allowed_each t active held [] e = tt
 allowed_each t active held (x ∷ xs) e =
     let p = none_or (right t active held x) (first_denied t active held xs) e in (p.0, allowed_each t active held xs p.1)
@@ -90,14 +91,16 @@ module _ (m : ℕ) (own : Module) (t : Table) (sound : Sound m own t) where
         let e' = subst (λ p. right_at p active held Write a ≡ None) d e in
         let b = refused_not (not (is_id m active)) WriteData a m e' in let c = ap not other in cc
 
-    read_out : (k : Kind) (w : Width) (a : ℕ) → is_read k ≡ true → right t active held (record { kind = k; addr = a; width = w }) ≡ None → OutBy w own.ram.start (size_of own.ram) a
+    read_out : (k : Kind) (w : Width) (a : ℕ) → is_read k ≡ true → right t active held (record { kind = k; addr = a; width = w }) ≡ None →
+        OutBy w own.ram.start (size_of own.ram) a
     unfolding right
     read_out Read w a f e =
         let p = aligned_both (misaligned w a) a (right_at (place_of t a) active held Read a) e in
         out_width w own.ram.start (size_of own.ram) a sound.own_ok.ram_ok.even_start p.0 (out_place a (not_read a p.1))
     read_out _ w a f e = cc
 
-    write_out : (k : Kind) (w : Width) (a : ℕ) → is_write k ≡ true → right t active held (record { kind = k; addr = a; width = w }) ≡ None → OutBy w own.ram.start (size_of own.ram) a
+    write_out : (k : Kind) (w : Width) (a : ℕ) → is_write k ≡ true → right t active held (record { kind = k; addr = a; width = w }) ≡ None →
+        OutBy w own.ram.start (size_of own.ram) a
     unfolding right
     write_out Write w a f e =
         let p = aligned_both (misaligned w a) a (right_at (place_of t a) active held Write a) e in
@@ -105,10 +108,12 @@ module _ (m : ℕ) (own : Module) (t : Table) (sound : Sound m own t) where
     write_out _ w a f e = cc
 
     pub reads_out : (xs : List Access) → first_denied t active held xs ≡ None → Each (OutAccess own.ram.start (size_of own.ram)) (reads_of xs)
-    reads_out xs e = each_read (OutAccess own.ram.start (size_of own.ram)) (λ x. right t active held x ≡ None) (λ x. read_out x.kind x.width x.addr) xs (allowed_each t active held xs e)
+    reads_out xs e = each_read (OutAccess own.ram.start (size_of own.ram)) (λ x. right t active held x ≡ None)
+        (λ x. read_out x.kind x.width x.addr) xs (allowed_each t active held xs e)
 
     pub writes_out : (xs : List Access) → first_denied t active held xs ≡ None → Each (OutAccess own.ram.start (size_of own.ram)) (writes_of xs)
-    writes_out xs e = each_write (OutAccess own.ram.start (size_of own.ram)) (λ x. right t active held x ≡ None) (λ x. write_out x.kind x.width x.addr) xs (allowed_each t active held xs e)
+    writes_out xs e = each_write (OutAccess own.ram.start (size_of own.ram)) (λ x. right t active held x ≡ None)
+        (λ x. write_out x.kind x.width x.addr) xs (allowed_each t active held xs e)
 
 -- what is allowed to be written, to anyone, stays out of the module's text
 module _ (m : ℕ) (own : Module) (t : Table) (sound : Sound m own t) (active : Option ℕ) (held : List ℕ) where
@@ -124,7 +129,8 @@ module _ (m : ℕ) (own : Module) (t : Table) (sound : Sound m own t) (active : 
       let lt = sound.own_ok.text_ok.order in
       ⊎_elim (λ in_it. absurd (not_text a e (holds_in own.text a low in_it))) (λ past. omega arith) (cases_lt a own.text.end)
 
-  text_out : (k : Kind) (w : Width) (a : ℕ) → is_write k ≡ true → right t active held (record { kind = k; addr = a; width = w }) ≡ None → OutBy w own.text.start (size_of own.text) a
+  text_out : (k : Kind) (w : Width) (a : ℕ) → is_write k ≡ true → right t active held (record { kind = k; addr = a; width = w }) ≡ None →
+      OutBy w own.text.start (size_of own.text) a
   unfolding right
   text_out Write w a f e =
       let p = aligned_both (misaligned w a) a (right_at (place_of t a) active held Write a) e in
@@ -132,4 +138,5 @@ module _ (m : ℕ) (own : Module) (t : Table) (sound : Sound m own t) (active : 
   text_out _ w a f e = cc
 
   pub text_writes_out : (xs : List Access) → first_denied t active held xs ≡ None → Each (OutAccess own.text.start (size_of own.text)) (writes_of xs)
-  text_writes_out xs e = each_write (OutAccess own.text.start (size_of own.text)) (λ x. right t active held x ≡ None) (λ x. text_out x.kind x.width x.addr) xs (allowed_each t active held xs e)
+  text_writes_out xs e = each_write (OutAccess own.text.start (size_of own.text)) (λ x. right t active held x ≡ None)
+      (λ x. text_out x.kind x.width x.addr) xs (allowed_each t active held xs e)

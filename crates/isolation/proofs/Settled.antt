@@ -31,7 +31,11 @@ module _ (m : ℕ) (own : Module) (key text : List ℕ) where
 
   -- ---- devices and cycles
   pub passing_stays : (s : State) (d : Devices) (n : ℕ) → Keeps m own key text s → St s (record s { devices = d; cycle = n })
-  passing_stays s d n k = record { bytes = refl; run = same_run (is_id m s.active); keeps = record { sound = k.sound; key_is = k.key_is; text_is = k.text_is; once = k.once; proper = k.proper } }
+  passing_stays s d n k = record {
+    bytes = refl;
+    run = same_run (is_id m s.active);
+    keeps = record { sound = k.sound; key_is = k.key_is; text_is = k.text_is; once = k.once; proper = k.proper };
+  }
     where
       same_run : (c : Bool) → run_by c m (record s { devices = d; cycle = n }) ≡ run_by c m s
       same_run true = refl

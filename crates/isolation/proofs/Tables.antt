@@ -192,4 +192,5 @@ module _ (P : Table → Type 0) (more : (t : Table) (vendor : ℕ) (text ram : S
 
 pub sound_after : (m : ℕ) (own : Module) (t : Table) (insn : Insn) (core : List ℕ) → Sound m own t → Sound m own (table_after t insn core)
 sound_after m own t insn core s =
-    table_keeps (Sound m own) (λ u vendor text ram e k. sound_from m own (with_module u vendor text ram) (table_more u vendor text ram k.is_table e) (find_more m u.modules _ own k.found)) insn t core s
+    table_keeps (Sound m own)
+    (λ u vendor text ram e k. sound_from m own (with_module u vendor text ram) (table_more u vendor text ram k.is_table e) (find_more m u.modules _ own k.found)) insn t core s

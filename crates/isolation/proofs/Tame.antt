@@ -136,7 +136,8 @@ pub turn_same : (left : ℕ) (s : State) → (turn left s).state.cycle ≡ s.cyc
 turn_same left s = ⊎_elim (λ t. t.same) (λ x. ⊎_elim (λ b. b.same) (λ p. ap (λ u. u.state.cycle) p.is) x) (turned left s)
 
 pub turn_late : (left : ℕ) (s : State) → Late (turn left s).events
-turn_late left s = ⊎_elim (λ t. each_map bare_late (turn left s).events t.bare) (λ x. ⊎_elim (λ b. b.late) (λ p. subst (λ u. Late u.events) (sym p.is) tt) x) (turned left s)
+turn_late left s = ⊎_elim (λ t. each_map bare_late (turn left s).events t.bare)
+    (λ x. ⊎_elim (λ b. b.late) (λ p. subst (λ u. Late u.events) (sym p.is) tt) x) (turned left s)
 
 -- ---- settling
 abbrev Keeping : State → State → Type 0
@@ -211,7 +212,8 @@ runs_so_far s (suc n) h =
 -- ---- ends are told by settling alone
 ends_counted : (m : ℕ) (o : Option Stop) (es : List Event) (t : Step) → Late t.events → Ends m (counted_by o (told es t)).events → Ends m es
 ends_counted m (Some stop) es t l h = late_ends m es t.events l h
-ends_counted m None es t l h = late_ends m es t.events l (late_ends m (es ++ t.events) (sent_event t.state.devices.sent) (sent_tells Late tt (λ b. (tt, tt)) t.state.devices.sent) h)
+ends_counted m None es t l h = late_ends m es t.events l
+    (late_ends m (es ++ t.events) (sent_event t.state.devices.sent) (sent_tells Late tt (λ b. (tt, tt)) t.state.devices.sent) h)
 
 move_ends : (m : ℕ) (s : State) → Ends m (move s).events → Ends m (settle (ticked s)).events
 unfolding move

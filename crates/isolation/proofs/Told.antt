@@ -62,7 +62,8 @@ settle_settles s = settle_ways s (Settles s) (refl, refl) (λ b fs e. (refl, ref
 -- ---- a cycle
 counted_tells : (o : Option Stop) (t : Step) → t.state.stop ≡ o → Tells t → Tells (counted_by o t)
 counted_tells (Some stop) t e h = h
-counted_tells None t e h = silent_first t.events (sent_event t.state.devices.sent) (h ∙ e) ∙ sent_tells Silent refl (λ b. refl) t.state.devices.sent ∙ sym e
+counted_tells None t e h = silent_first t.events (sent_event t.state.devices.sent) (h ∙ e)
+    ∙ sent_tells Silent refl (λ b. refl) t.state.devices.sent ∙ sym e
 
 move_tells : (s : State) → s.stop ≡ None → Tells (move s)
 unfolding move
@@ -71,7 +72,8 @@ move_tells s h =
     let t = turn u.left u.state in
     let x = settle_settles (ticked s) in
     let g : u.state.stop ≡ None = x.1 ∙ ticked_stop s ∙ h in
-    counted_tells t.state.stop (told u.events t) refl (silent_first u.events t.events x.0 ∙ each_turn Running acts_tell Running turns_tell u.left u.state g)
+    counted_tells t.state.stop (told u.events t) refl
+    (silent_first u.events t.events x.0 ∙ each_turn Running acts_tell Running turns_tell u.left u.state g)
 
 -- a cycle of a machine that runs tells of a stop exactly where it stops, and of which
 pub stop_told : (s : State) → s.stop ≡ None → stop_in (cycle s).events ≡ (cycle s).state.stop
@@ -124,7 +126,8 @@ unfolding move
 move_few s =
     let u = settle (ticked s) in
     let t = turn u.left u.state in
-    counted_few t.state.stop u.events t (settle_few (ticked s)) (each_turn (λ s t. AtMost 1 t.events) acts_few (λ s t. AtMost 2 t.events) turns_few u.left u.state)
+    counted_few t.state.stop u.events t (settle_few (ticked s))
+    (each_turn (λ s t. AtMost 1 t.events) acts_few (λ s t. AtMost 2 t.events) turns_few u.left u.state)
 
 cycle_few : (o : Option Stop) (s : State) → AtMost 4 (cycle_by o s).events
 cycle_few (Some stop) s = omega arith

@@ -66,7 +66,8 @@ begin_by left s d e = ap (λ x. begin_unless x left s) e
 -- where a module becomes active, it is entered
 enters_it : (m left : ℕ) (s : State) → is_id m s.active ≡ false → is_id m (enter left s).state.active ≡ true → (place_of s.table (pc_of s) ≡ Entry m) × (s.active ≡ None)
 enters_it m left s n =
-    enter_ways s (λ e. is_id m e.state.active ≡ true → (place_of s.table (pc_of s) ≡ Entry m) × (s.active ≡ None)) left (λ h. absurd (let c : true ≡ false = sym h ∙ n in cc))
+    enter_ways s (λ e. is_id m e.state.active ≡ true → (place_of s.table (pc_of s) ≡ Entry m) × (s.active ≡ None)) left
+    (λ h. absurd (let c : true ≡ false = sym h ∙ n in cc))
     (λ id p a h. let same : id ≡ m = grind (arith, nat_tests) in (p ∙ ap Entry same, a))
 
 entered_is : (m left : ℕ) (s : State) → place_of s.table (pc_of s) ≡ Entry m → s.active ≡ None → enter left s ≡ record { state = record s { active = Some m; caller = left; after = Next }; events = Event.Enter m left ∷ [] }
@@ -96,7 +97,8 @@ module _ (m : ℕ) (own : Module) (key text : List ℕ) where
   act_entered left s k n o ok e =
       let ne = fetch_data m (place_of s.table (pc_of s)) s.active (held_ids s.frames) (pc_of s) (right_fetch s e) in
       enter_ways s (λ e. Keeps m own key text e.state → is_id m e.state.active ≡ false → Outer m own key text e.state (act e.state) (act (veil m own e.state))) left
-      (λ k o. act_outer m own key text s k o ok.even_pc ne) (λ id p a k o. act_outer m own key text (record s { active = Some id; caller = left; after = Next }) k o ok.even_pc ne)
+      (λ k o. act_outer m own key text s k o ok.even_pc ne)
+      (λ id p a k o. act_outer m own key text (record s { active = Some id; caller = left; after = Next }) k o ok.even_pc ne)
       (enter_stays left s k n o).keeps o
 
   -- a turn's instruction, where it enters no module or another
@@ -112,7 +114,8 @@ module _ (m : ℕ) (own : Module) (key text : List ℕ) where
       (record { same = ap (λ u. told t.events u) x.same; stays = stays_then s t.state (act t.state).state (enter_stays left s k n o) x.stays }))
 
   -- what changes none of memory, table, key, frames and active module
-  light_outer : (f : State → Step) (s : State) (k : Keeps m own key text s) (n : is_id m s.active ≡ false) → f (veil m own s) ≡ veil_step m own (f s) → Light m own key text s k n (f s).state → Outer m own key text s (f s) (f (veil m own s))
+  light_outer : (f : State → Step) (s : State) (k : Keeps m own key text s) (n : is_id m s.active ≡ false) →
+      f (veil m own s) ≡ veil_step m own (f s) → Light m own key text s k n (f s).state → Outer m own key text s (f s) (f (veil m own s))
   light_outer f s k n e l = outer_by m own key text s k n (f s) (f (veil m own s)) l.0 e (light m own key text s k n (f s).state l)
 
   inside_outer : (v id : ℕ) (s : State) → Keeps m own key text s → s.active ≡ Some id → is_id m s.active ≡ false → Outer m own key text s (arrive_inside v id s) (arrive_inside v id (veil m own s))
@@ -181,7 +184,8 @@ module _ (m : ℕ) (own : Module) (key text : List ℕ) where
     join f oa ob = outer_alike m own key text a b (f a) (f b) (f (veil m own a)) (f (veil m own b)) ready oa ob (ap f veiled)
 
     -- a step that is light in both
-    both_light : (f : State → Step) → ((s : State) → f (veil m own s) ≡ veil_step m own (f s)) → ((s : State) (k : Keeps m own key text s) (n : is_id m s.active ≡ false) → Light m own key text s k n (f s).state) → Alike m own key text (f a) (f b)
+    both_light : (f : State → Step) → ((s : State) → f (veil m own s) ≡ veil_step m own (f s)) →
+        ((s : State) (k : Keeps m own key text s) (n : is_id m s.active ≡ false) → Light m own key text s k n (f s).state) → Alike m own key text (f a) (f b)
     both_light f e l = join f (light_outer f a ka out_a (e a) (l a ka out_a)) (light_outer f b kb out_b (e b) (l b kb out_b))
 
     check_same : check a ≡ check b
@@ -279,7 +283,8 @@ module _ (m : ℕ) (own : Module) (key text : List ℕ) where
     Held_on t = Stays m own key text s t.state × (is_id m t.state.active ≡ false)
 
     begin_held : (left : ℕ) → Held_on (begin left s)
-    begin_held left = begin_ways s Held_on left (λ d. ((light_outer (denied d) s k out refl (refl, refl, refl, refl, refl)).stays, out)) (λ e. by (is_id m (enter left s).state.active) refl e)
+    begin_held left = begin_ways s Held_on left (λ d. ((light_outer (denied d) s k out refl (refl, refl, refl, refl, refl)).stays, out))
+        (λ e. by (is_id m (enter left s).state.active) refl e)
       where
         by : (c : Bool) → is_id m (enter left s).state.active ≡ c → check s ≡ None → Held_on (told (enter left s).events (act (enter left s).state))
         by true h e =
@@ -293,6 +298,7 @@ module _ (m : ℕ) (own : Module) (key text : List ℕ) where
     pub held_turn : (left : ℕ) → Held_on (turn left s)
     held_turn left =
         turn_ways s Held_on left (λ n p. ((light_outer (λ u. quiet (padded (n - 1) u)) s k out refl (refl, refl, refl, refl, refl)).stays, out))
-        (λ x. ((light_outer (λ u. quiet (record u { phase = Run x })) s k out refl (refl, refl, refl, refl, refl)).stays, out)) (stays_self m own key text s k, out) (begin_held left)
+        (λ x. ((light_outer (λ u. quiet (record u { phase = Run x })) s k out refl (refl, refl, refl, refl, refl)).stays, out))
+        (stays_self m own key text s k, out) (begin_held left)
         (λ v id d a. ((inside_outer v id s k a out).stays, arrived_none m v id s))
         (λ v d. ((arrive_outside_outer m own key text s k out v).stays, ap (is_id m) (arrived_active m own key text s k out v) ∙ out))

@@ -102,7 +102,8 @@ module _ (s : State) (P : Step → Type 0) where
       by None e = begins e
 
   -- pushes that are refused, or done
-  pub outside_ways : (v : ℕ) → ((d : Denied) → P (denied d s)) → (first_denied s.table None (held_ids s.frames) (pushes s) ≡ None → P (push_both None v s)) → P (arrive_outside v s)
+  pub outside_ways : (v : ℕ) → ((d : Denied) → P (denied d s)) →
+      (first_denied s.table None (held_ids s.frames) (pushes s) ≡ None → P (push_both None v s)) → P (arrive_outside v s)
   unfolding arrive_outside
   outside_ways v refused pushed = by (first_denied s.table None (held_ids s.frames) (pushes s)) refl
     where
@@ -186,7 +187,8 @@ sent_tells P none sent (Some b) = sent b
 pub record EachTurn (A P : State → Step → Type 0) : Type 0 where
   pub refuses : (d : Denied) (s : State) → P s (denied d s)
   pub acts : (s : State) → A s (act s) → P s (act s)
-  pub enters : (left id : ℕ) (s : State) → right s.table s.active (held_ids s.frames) (fetch s) ≡ None → place_of s.table (pc_of s) ≡ Entry id → s.active ≡ None →
+  pub enters : (left id : ℕ) (s : State) → right s.table s.active (held_ids s.frames) (fetch s) ≡ None →
+      place_of s.table (pc_of s) ≡ Entry id → s.active ≡ None →
       (let e : State = record s { active = Some id; caller = left; after = Next } in A e (act e) → P s (told (Entered id left ∷ []) (act e)))
   pub pads : (n : ℕ) (s : State) → s.phase ≡ Pad n → P s (quiet (padded (n - 1) s))
   pub waits : (r : ℕ) (s : State) → P s (quiet (record s { phase = Run r }))
@@ -199,7 +201,8 @@ module _ (A : State → Step → Type 0) (each : EachAct A) where
   each_attempt insn s = attempt_ways s (A s) insn (λ d. each.stops d.rule d.addr d.module s) (λ e. each.performs insn s)
 
   each_return : (s : State) → A s (let t = attempt Reti s in returned_by t.state.stop t)
-  each_return s = attempt_ways s (λ t. A s (returned_by t.state.stop t)) Reti (λ d. each.stops d.rule d.addr d.module s) (λ e. by (perform Reti s).state.stop)
+  each_return s = attempt_ways s (λ t. A s (returned_by t.state.stop t)) Reti
+      (λ d. each.stops d.rule d.addr d.module s) (λ e. by (perform Reti s).state.stop)
     where
       by : (o : Option Stop) → A s (returned_by o (perform Reti s))
       by (Some stop) = each.performs Reti s
@@ -216,7 +219,8 @@ module _ (A : State → Step → Type 0) (each : EachAct A) where
       begins : P s (begin left s)
       begins =
           begin_ways s (P s) left (λ d. turns.refuses d s)
-          (λ free. enter_ways s (λ e. P s (told e.events (act e.state))) left (turns.acts s (each_act s)) (λ id p a. turns.enters left id s free p a (each_act _)))
+          (λ free. enter_ways s (λ e. P s (told e.events (act e.state))) left (turns.acts s (each_act s))
+          (λ id p a. turns.enters left id s free p a (each_act _)))
 
 -- of states: what each way keeps, every cycle keeps
 pub record Lasting (I : State → Type 0) : Type 0 where
@@ -224,7 +228,8 @@ pub record Lasting (I : State → Type 0) : Type 0 where
   pub performs : (insn : Insn) (s : State) → I s → I (perform insn s).state
   pub returns : (s : State) → I s → I (record s { frames = without_newest s.frames })
   pub resumes : (s : State) → s.active ≡ None → I s → I (record s { core = past Reti s.core; phase = Run RESUMPTION; after = Resume })
-  pub enters : (left id : ℕ) (s : State) → right s.table s.active (held_ids s.frames) (fetch s) ≡ None → place_of s.table (pc_of s) ≡ Entry id → s.active ≡ None →
+  pub enters : (left id : ℕ) (s : State) → right s.table s.active (held_ids s.frames) (fetch s) ≡ None →
+      place_of s.table (pc_of s) ≡ Entry id → s.active ≡ None →
       I s → I (record s { active = Some id; caller = left; after = Next })
   pub pads : (n : ℕ) (s : State) → I s → I (padded n s)
   pub inside : (v id : ℕ) (s : State) → due s ≡ Some v → s.active ≡ Some id → I s → I (arrive_inside v id s).state
@@ -232,7 +237,8 @@ pub record Lasting (I : State → Type 0) : Type 0 where
   pub settles : (s : State) → I s → I (settle s).state
 
 -- a cycle's last step changes the number alone
-pub counted_holds : (P : State → Type 0) → ((s : State) (n : ℕ) → P s → P (record s { cycle = n })) → (o : Option Stop) (t : Step) → P t.state → P (counted_by o t).state
+pub counted_holds : (P : State → Type 0) → ((s : State) (n : ℕ) → P s → P (record s { cycle = n })) →
+    (o : Option Stop) (t : Step) → P t.state → P (counted_by o t).state
 counted_holds P keep (Some stop) t h = h
 counted_holds P keep None t h = keep t.state (t.state.cycle + 1) h
 

@@ -75,7 +75,8 @@ module _ (m : ℕ) (own : Module) (key text : List ℕ) where
   counts_twins : (a b : State) → Twins m own key text a b → Twins m own key text (counts a) (counts b)
   unfolding counts
   counts_twins a b t =
-      twins_stay_before m own key text a b (counts a) (counts b) t (passing_stays m own key text a a.devices (a.cycle + 1) t.keeps_a) (passing_stays m own key text b b.devices (b.cycle + 1) t.keeps_b)
+      twins_stay_before m own key text a b (counts a) (counts b) t
+      (passing_stays m own key text a a.devices (a.cycle + 1) t.keeps_a) (passing_stays m own key text b b.devices (b.cycle + 1) t.keeps_b)
       (counts_hidden (is_id m a.active) a ∙ ap counts t.seen ∙ sym (counts_hidden (is_id m b.active) b)) refl refl
 
   seen_stop : (a b : State) → hide m own a ≡ hide m own b → a.stop ≡ b.stop
@@ -86,7 +87,8 @@ module _ (m : ℕ) (own : Module) (key text : List ℕ) where
   counted_alike_by (Some stop) es ta tb e t = record { events = ap (λ x. es ++ x) e; related = inr t }
   counted_alike_by None es ta tb e t =
       record {
-        events = ap (λ x. es ++ x ++ sent_event ta.state.devices.sent) e ∙ ap (λ (d : Devices). es ++ tb.events ++ sent_event d.sent) (seen m own key text (λ s. s.devices) (λ c s. (hidden_same m own key text c s).2) ta.state tb.state t.seen);
+        events = ap (λ x. es ++ x ++ sent_event ta.state.devices.sent) e
+            ∙ ap (λ (d : Devices). es ++ tb.events ++ sent_event d.sent) (seen m own key text (λ s. s.devices) (λ c s. (hidden_same m own key text c s).2) ta.state tb.state t.seen);
         related = inr (counts_twins ta.state tb.state t);
       }
 
@@ -250,10 +252,12 @@ module _ (a b : Image) (m : ℕ) (schedule : List Scheduled) (peers : Peers a b 
       (related_at k)
 
   pub callers_equal : (k : ℕ) → (at a schedule k).caller ≡ (at b schedule k).caller
-  callers_equal k = related_seen m own a.node_key (section own.text a.memory) (λ s. s.caller) (λ c s. (hidden_same m own a.node_key (section own.text a.memory) c s).3) (at a schedule k) (at b schedule k) (related_at k)
+  callers_equal k = related_seen m own a.node_key (section own.text a.memory) (λ s. s.caller)
+      (λ c s. (hidden_same m own a.node_key (section own.text a.memory) c s).3) (at a schedule k) (at b schedule k) (related_at k)
 
   pub gie_equal : (k : ℕ) → is_gie (at a schedule k).core ≡ is_gie (at b schedule k).core
-  gie_equal k = related_seen m own a.node_key (section own.text a.memory) (λ s. is_gie s.core) (gie_hidden m own) (at a schedule k) (at b schedule k) (related_at k)
+  gie_equal k = related_seen m own a.node_key (section own.text a.memory) (λ s. is_gie s.core)
+      (gie_hidden m own) (at a schedule k) (at b schedule k) (related_at k)
 
   -- once the module has left the table
   pub gone_equal : (k : ℕ) → module_of m (at a schedule k).table ≡ None → at a schedule k ≡ at b schedule k
