@@ -14,6 +14,7 @@ use Rattle.written_machine.specs.State.{State}
 use Rattle.isolation.proofs.Evenly.{Evenly, Together, next_together}
 use Rattle.isolation.proofs.Hide.{veil_core, hide_by, hide}
 use Rattle.isolation.proofs.Inside.{Moves, may_some, home_some, did_act}
+use Rattle.isolation.proofs.Rights.{own_id}
 use Rattle.isolation.proofs.Relation.{run_by, run_of, Secret, same_secret, Keeps, Twins, Alike, times, backup_of, lone_of, IsOpen, Open as IsOpenNow, Ready, Outer, outer_alike, BothActive, both_active}
 use Rattle.isolation.proofs.Settled.{close_is, arrive_inside_stays}
 use Rattle.sm_words.specs.Words.{cleared, reg, word_at, IsCore}
@@ -135,11 +136,8 @@ module _ (m : ℕ) (own : Module) (key text : List ℕ) (s : State) (k : Keeps m
   act_moves l insn even here core_is bytes_are e =
       did_act m own s.table k.sound (job_of key own text s.caller) refl s refl active_is k.text_is k.key_is refl even here l core_is bytes_are insn e
 
-  same_id : (m == m) ≡ true
-  same_id = grind (arith, nat_tests)
-
   is_active : is_id m s.active ≡ true
-  is_active = ap (is_id m) active_is ∙ same_id
+  is_active = ap (is_id m) active_is ∙ (own_id m)
 
   no_frame : is_held m (held_ids s.frames) ≡ false
   no_frame = not_held m s.frames (let a : one_if (is_id m s.active) ≡ 1 = ap one_if is_active in let k1 = k.once in omega arith)
@@ -149,7 +147,7 @@ module _ (m : ℕ) (own : Module) (key text : List ℕ) (s : State) (k : Keeps m
   fetch_allowed here =
       ap (λ a. right_at (place_of s.table (pc_of s)) a (held_ids s.frames) Fetch (pc_of s)) active_is
       ∙ ⊎_elim
-      (λ p. ap (λ x. right_at x (Some m) (held_ids s.frames) Fetch (pc_of s)) p ∙ ap (λ b. refuse_if (not b) Rule.FetchNotEntry (pc_of s) m) same_id)
+      (λ p. ap (λ x. right_at x (Some m) (held_ids s.frames) Fetch (pc_of s)) p ∙ ap (λ b. refuse_if (not b) Rule.FetchNotEntry (pc_of s) m) (own_id m))
       (λ p. ap (λ x. right_at x (Some m) (held_ids s.frames) Fetch (pc_of s)) p ∙ ap (λ b. refuse_if b Rule.Reenter (pc_of s) m) no_frame)
       (k.sound.in_text (pc_of s) here)
 
@@ -231,9 +229,8 @@ module _ (m : ℕ) (own : Module) (key text : List ℕ) (a b : State) (ready : R
     where
       outer : (s : State) → Keeps m own key text s → s.active ≡ Some m → Outer m own key text s (arrive_inside v m s) (arrive_inside v m (hide_by true m own s))
       outer s k e =
-          let id : (m == m) ≡ true = grind (arith, nat_tests) in
           record {
-            same = arrive_hidden m own true s.table k.sound v m s id ∙ ap (λ c. let u : Step = record (arrive_inside v m s) { state = hide_by c m own (arrive_inside v m s).state } in u) (sym (arrived_none m v m s));
+            same = arrive_hidden m own true s.table k.sound v m s (own_id m) ∙ ap (λ c. let u : Step = record (arrive_inside v m s) { state = hide_by c m own (arrive_inside v m s).state } in u) (sym (arrived_none m v m s));
             stays = arrive_inside_stays m own key text v m s k e;
           }
 

@@ -16,6 +16,7 @@ use Rattle.isolation.proofs.Active.{active_some, turn_moves, arrives_at}
 use Rattle.isolation.proofs.Ending.{settled_as, settled_doing}
 use Rattle.isolation.proofs.Fine.{Fine, settled_fine}
 use Rattle.isolation.proofs.Follow.{job, works_is, Follows, Now, ticked_follows, settle_follows, active_doing, counted_events, follows_on, more_by, never_breaks, entry_text, entry_open, entry_follows, fine_from}
+use Rattle.isolation.proofs.Rights.{own_id}
 use Rattle.isolation.proofs.Relation.{IsOpen, backup_of, lone_of}
 use Rattle.isolation.proofs.Still.{Still, still_notes, notes_more, turn_still, Told, settle_told}
 use Rattle.isolation.proofs.Turns.{held_turn}
@@ -62,12 +63,11 @@ module _ (m : ℕ) (own : Module) (key text : List ℕ) (from : ℕ) where
       subst (λ x. Balance x (i + 1) (notes m i (turn left s).events w) (c + 1)) (sym (ap (is_id m) p.1 ∙ act)) (subst (λ es. Balance true (i + 1) (notes m i es w) (c + 1)) (sym p.0) k)
   active_turns left (Some v) s la f act ok e nb i w c b =
       let a = active_some m s.active act in
-      let same : (m == m) ≡ true = grind (arith, nat_tests) in
       let t = arrives_at m v left s a (f.follows.keeps.proper act).0 e in
       let q = arrived v m s in
       let w' : Away = record { since = Some i; sum = w.sum } in
       let k : Balance false (i + 1) w' (c + 0) = (i, refl, omega arith, let z = b.1 in omega arith) in
-      let k1 = subst (λ x. Balance false (i + 1) (away_if x w' w) (c + 0)) (sym same) k in
+      let k1 = subst (λ x. Balance false (i + 1) (away_if x w' w) (c + 0)) (sym (own_id m)) k in
       let k2 = subst (λ es. Balance false (i + 1) (notes m i es w) (c + 0)) (sym (ap (λ u. u.events) t ∙ q.0)) k1 in
       subst (λ x. Balance x (i + 1) (notes m i (turn left s).events w) (c + 0)) (sym (ap (λ u. is_id m u.state.active) t ∙ ap (is_id m) q.1)) k2
 
@@ -87,10 +87,9 @@ module _ (m : ℕ) (own : Module) (key text : List ℕ) (from : ℕ) where
   told_balance : (x : Bool) (es : List Event) (i : ℕ) (w : Away) (c : ℕ) → Told m x es → Balance false i w c → Balance x i (notes m i es w) c
   told_balance false es i w c t b = subst (λ y. Balance false i y c) (sym (still_notes m i es w t)) b
   told_balance true es i w c t b =
-      let same : (m == m) ≡ true = grind (arith, nat_tests) in
       let k : Balance true i (back_from (Some b.0) i w.sum) c = (refl, let z = b.3 in let y = b.2 in omega arith) in
       let k1 = subst (λ o. Balance true i (back_from o i w.sum) c) (sym b.1) k in
-      let k2 = subst (λ y. Balance true i (away_if y (back_from w.since i w.sum) w) c) (sym same) k1 in
+      let k2 = subst (λ y. Balance true i (away_if y (back_from w.since i w.sum) w) c) (sym (own_id m)) k1 in
       subst (λ l. Balance true i (notes m i l w) c) (sym t) k2
 
   settles : (x : Bool) (s : State) (la : Lone) → Follows m own key text from s la → is_id m s.active ≡ x → NoEnd m (settle s).events → (i : ℕ) (w : Away) (c : ℕ) → Balance x i w c → Balance (is_id m (settle s).state.active) i (notes m i (settle s).events w) c

@@ -1,8 +1,7 @@
 -- Even calls with a bound for each call, which the proofs follow, and that one bound for all says as much.
-use Rattle.std.proofs.Common.{◌≡◌, ℕ, ◌<◌, List, [], ◌∷◌, false, zero, suc, ◌+◌, ◌≤◌, max, refl, sym, ap, ◌∙◌, subst, arith, Bool, true, nat_lt, cond}
-use Rattle.sm_words.specs.Words.{reg, IsCore}
+use Rattle.std.proofs.Common.{◌≡◌, ℕ, List, [], ◌∷◌, false, zero, suc, ◌+◌, ◌≤◌, max, refl, sym, ap, ◌∙◌, subst, arith, Bool, true, nat_lt, cond}
 use Rattle.mod_layout.specs.declared.Module.{Module}
-use Rattle.cpu_step.specs.Lone.{Lone, outcome, alike, job_of, Job, Entrance, Outcome, Exit, Closing, Broken, Running, later, Doing, Waits, Closes, Leaves, Breaks, Does, doing, lone_does, at_once, in_time, Even, IsEntry, AlwaysEven}
+use Rattle.cpu_step.specs.Lone.{starts, Lone, outcome, alike, job_of, Job, Entrance, Outcome, Exit, Closing, Broken, Running, later, Doing, Waits, Closes, Leaves, Breaks, Does, doing, lone_does, at_once, in_time, Even, IsEntry, AlwaysEven}
 use Rattle.isolation.proofs.Each.{Each}
 use Rattle.std.proofs.lemmas.Bool.Decides.{nat_tests}
 use Rattle.std.proofs.lemmas.List.Elements.{All-nil, All-cons}
@@ -13,13 +12,14 @@ pub record Call_of : Type 0 where
   pub caller : ℕ
   pub within : ℕ
 
-abbrev pub begins : Call_of → List ℕ → Lone
-begins e d = record { core = e.core; data_bytes = d; rest = 0; closing = false }
+abbrev pub entrance : Call_of → Entrance
+entrance e = record { core = e.core; caller = e.caller }
 
-pub record IsCall (m : Module) (e : Call_of) : Type 0 where
-  pub core_ok : IsCore e.core
-  pub at_start : reg e.core 0 ≡ m.text.start
-  pub caller_ok : e.caller < 65536
+abbrev pub begins : Call_of → List ℕ → Lone
+begins e d = starts (entrance e) d
+
+abbrev pub IsCall : Module → Call_of → Type 0
+IsCall m e = IsEntry m (entrance e)
 
 abbrev pub EvenBy : List ℕ → Module → List ℕ → List Call_of → List ℕ → List ℕ → Type 0
 EvenBy key m text [] d1 d2 = Unit {0}
@@ -98,7 +98,7 @@ module _ (j : Job) where
 module _ (key : List ℕ) (own : Module) (text : List ℕ) where
   abbrev plain : List Call_of → List Entrance
   plain [] = []
-  plain (e ∷ es) = record { core = e.core; caller = e.caller } ∷ plain es
+  plain (e ∷ es) = entrance e ∷ plain es
 
   abbrev most : List Call_of → ℕ
   most [] = 0
@@ -114,7 +114,7 @@ module _ (key : List ℕ) (own : Module) (text : List ℕ) where
 
   plain_entries : (es : List Call_of) → Each (IsCall own) es → All (IsEntry own) (plain es)
   plain_entries [] h = All-nil (IsEntry own)
-  plain_entries (e ∷ es) h = All-cons (IsEntry own) (record { core = e.core; caller = e.caller }) (plain es) (record { core_ok = h.0.core_ok; at_start = h.0.at_start; caller_ok = h.0.caller_ok }) (plain_entries es h.1)
+  plain_entries (e ∷ es) h = All-cons (IsEntry own) (entrance e) (plain es) h.0 (plain_entries es h.1)
 
   pub each_bound : (d1 d2 : List ℕ) → AlwaysEven key own text d1 d2 → AlwaysEvenBy key own text d1 d2
   each_bound d1 d2 h es es_ok = lower (most es) es d1 d2 (omega arith) (h (plain es) (most es) (plain_entries es es_ok))

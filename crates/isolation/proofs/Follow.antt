@@ -1,5 +1,5 @@
 -- One run alone: whatever interrupts it, a module that is active or held stands where it stands by itself.
-use Rattle.std.proofs.Common.{◌≡◌, ◌≢◌, ℕ, ◌+◌, List, [], ◌∷◌, ◌++◌, refl, sym, ap, ◌∙◌, subst, Bool, true, false, ◌&&◌, Option, Some, None, is_none, zero, suc, ◌<◌, arith, cond, nat_lt, ◌==◌}
+use Rattle.std.proofs.Common.{◌≡◌, ◌≢◌, ℕ, ◌+◌, List, [], ◌∷◌, ◌++◌, refl, sym, ap, ◌∙◌, subst, Bool, true, false, ◌&&◌, Option, Some, None, is_none, zero, suc, ◌<◌, arith, cond, nat_lt}
 use Rattle.isolation.proofs.Tame.{settled_key, key_at}
 use Rattle.sm_words.specs.Words.{IsCore}
 use Rattle.mod_layout.specs.declared.Module.{Module}
@@ -16,6 +16,7 @@ use Rattle.isolation.proofs.Active.{active_some, moved, moved_run, moved_keeps, 
 use Rattle.isolation.proofs.Ending.{settled_as, settled_doing}
 use Rattle.isolation.proofs.Fine.{Fine, settled_fine, fine_at}
 use Rattle.isolation.proofs.Inside.{Moves}
+use Rattle.isolation.proofs.Rights.{own_id}
 use Rattle.isolation.proofs.Relation.{find_held, backup_of, run_by, run_of, lone_of, IsOpen, Keeps, Stays}
 use Rattle.isolation.proofs.Settled.{settle_stays, passing_stays, ticked_stays, arrive_inside_stays}
 use Rattle.isolation.proofs.Turns.{held_turn, times_none, entry_free, at_entry, entered, entered_keeps, entered_moves, start, start_doing}
@@ -32,7 +33,6 @@ use Rattle.cpu_step.proofs.LoneLemmas.{after_step}
 use Rattle.isolation.proofs.EvenBy.{cut, outcome_cut}
 use Rattle.isolation.proofs.Entering.{Enters_now, cycle_entering}
 use Rattle.isolation.proofs.Tables.{sound_from}
-use Rattle.std.proofs.lemmas.Bool.Decides.{nat_tests}
 
 pub works_is : (m : ℕ) (o : Option Stop) (s : State) → s.stop ≡ o → works m s ≡ (let u = settle (ticked s) in is_none o && is_id m u.state.active && is_none (due u.state))
 works_is m o s e = ap (λ x. is_none x && is_id m (settle (ticked s)).state.active && is_none (due (settle (ticked s)).state)) e
@@ -228,20 +228,19 @@ module _ (m : ℕ) (own : Module) (key text : List ℕ) (from : ℕ) where
   begun_follows : (s : State) → Keeps m own key text s → is_held m (held_ids s.frames) ≡ false → Follows m own key text from (entered m own key text from s) (start m own key text from s)
   unfolding entered start
   begun_follows s k free =
-      let same : (m == m) ≡ true = grind (arith, nat_tests) in
       let t = entered m own key text from s in
       record {
         keeps = entered_keeps m own key text from s k free;
         backup = backup_of m t;
-        run = ap (λ c. run_by c m t) same;
+        run = ap (λ c. run_by c m t) (own_id m);
         lone = refl;
         caller = refl;
-        opened = λ h. absurd (let c : true ≡ false = sym same ∙ h in cc);
+        opened = λ h. absurd (let c : true ≡ false = sym (own_id m) ∙ h in cc);
       }
 
   is_entered : (s : State) → is_id m (entered m own key text from s).active ≡ true
   unfolding entered
-  is_entered s = grind (arith, nat_tests)
+  is_entered s = own_id m
 
   -- the first instruction of a call
   first_step : (next : Option Insn) (s : State) → Keeps m own key text s → IsCore s.core → place_of s.table (pc_of s) ≡ Entry m → is_held m (held_ids s.frames) ≡ false →

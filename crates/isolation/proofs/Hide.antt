@@ -84,23 +84,17 @@ plain_veiled m [] = refl
 plain_veiled m (f ∷ fs) = refl
 
 module _ (m : ℕ) (own : Module) (t : Table) (sound : Sound m own t) where
-  -- a byte that is not the module's is seen
-  byte_veiled : (s : State) (a : ℕ) → Out own.ram.start (size_of own.ram) a → byte_of (veil m own s) a ≡ byte_of s a
-  byte_veiled s a out = get_cleared own.ram.start (size_of own.ram) s.memory a out
-
-  word_veiled : (s : State) (a : ℕ) → OutBy Word own.ram.start (size_of own.ram) a → word_at (byte_of (veil m own s)) a ≡ word_at (byte_of s) a
-  word_veiled s a out =
-      ap (λ b. b + 256 * byte_of (veil m own s) (a + 1)) (byte_veiled s a out.0) ∙ ap (λ b. byte_of s a + 256 * b) (byte_veiled s (a + 1) out.1)
+  -- a word that is not the module's is seen
+  word_cleared : (mem : List ℕ) (a : ℕ) → OutBy Word own.ram.start (size_of own.ram) a → word_at (λ x. get_or (cleared own.ram.start (size_of own.ram) mem) x 0) a ≡ word_at (λ x. get_or mem x 0) a
+  word_cleared mem a out =
+      ap (λ b. b + 256 * get_or (cleared own.ram.start (size_of own.ram) mem) (a + 1) 0) (get_cleared own.ram.start (size_of own.ram) mem a out.0)
+      ∙ ap (λ b. get_or mem a 0 + 256 * b) (get_cleared own.ram.start (size_of own.ram) mem (a + 1) out.1)
 
   vector_out : (a : ℕ) → 65504 ≤ a → Out own.ram.start (size_of own.ram) a
   vector_out a h low = let e = sound.own_ok.ram_ok.high in let o = sound.own_ok.ram_ok.order in omega arith
 
   vector_cleared : (mem : List ℕ) (v : ℕ) → vector_in (cleared own.ram.start (size_of own.ram) mem) v ≡ vector_in mem v
-  vector_cleared mem v =
-      let a = 65504 + 2 * v in
-      let c = cleared own.ram.start (size_of own.ram) mem in
-      ap (λ b. b + 256 * get_or c (a + 1) 0) (get_cleared own.ram.start (size_of own.ram) mem a (vector_out a (omega arith)))
-      ∙ ap (λ b. get_or mem a 0 + 256 * b) (get_cleared own.ram.start (size_of own.ram) mem (a + 1) (vector_out (a + 1) (omega arith)))
+  vector_cleared mem v = word_cleared mem (65504 + 2 * v) (vector_out (65504 + 2 * v) (omega arith), vector_out (65504 + 2 * v + 1) (omega arith))
 
   pub vector_veiled : (s : State) (v : ℕ) → vector_word (veil m own s) v ≡ vector_word s v
   vector_veiled s v = vector_cleared s.memory v
@@ -199,7 +193,7 @@ module _ (m : ℕ) (own : Module) (t : Table) (sound : Sound m own t) where
     later_by : (b : Bool) (a : ℕ) (c : Bool) → a % 2 ≡ 0 → (not b || (c && at_home s.active (place_of s.table a))) ≡ true → cond b (word_at (byte_of (veil m own s)) a) 0 ≡ cond b (word_at (byte_of s) a) 0
     later_by false a c even h = refl
     later_by true a true even h =
-        word_veiled s a (out_place_next m own t sound a even (λ d. not_home s.active (subst (λ p. at_home s.active p ≡ true) (ap (λ u. place_of u a) table_is ∙ d) h)))
+        word_cleared s.memory a (out_place_next m own t sound a even (λ d. not_home s.active (subst (λ p. at_home s.active p ≡ true) (ap (λ u. place_of u a) table_is ∙ d) h)))
     later_by true a false even h = cc
 
     later_veiled : (n k : ℕ) → pc_of s % 2 ≡ 0 → home_word s.table s.active (pc_of s) n k ≡ true → later_word (byte_of (veil m own s)) (pc_of s) n k ≡ later_word (byte_of s) (pc_of s) n k
@@ -212,7 +206,7 @@ module _ (m : ℕ) (own : Module) (t : Table) (sound : Sound m own t) where
         let b' = byte_of (veil m own s) in
         let b = byte_of s in
         let pc = pc_of s in
-        ap (λ w. insn_of w (later_word b' pc n 1) (later_word b' pc n 2)) (word_veiled s pc out)
+        ap (λ w. insn_of w (later_word b' pc n 1) (later_word b' pc n 2)) (word_cleared s.memory pc out)
         ∙ ap (λ w. insn_of (word_at b pc) w (later_word b' pc n 2)) (later_veiled n 1 even h1)
         ∙ ap (λ w. insn_of (word_at b pc) (later_word b pc n 1) w) (later_veiled n 2 even h2)
 
@@ -230,4 +224,4 @@ module _ (m : ℕ) (own : Module) (t : Table) (sound : Sound m own t) where
     unfolding act
     act_veiled even ne =
         let out = out_place_next m own t sound (pc_of s) even ne in
-        ap (λ w. act_first (insn_of w 0 0) (veil m own s)) (word_veiled s (pc_of s) out) ∙ act_first_veiled (insn_of (word_at (byte_of s) (pc_of s)) 0 0) even out
+        ap (λ w. act_first (insn_of w 0 0) (veil m own s)) (word_cleared s.memory (pc_of s) out) ∙ act_first_veiled (insn_of (word_at (byte_of s) (pc_of s)) 0 0) even out

@@ -32,7 +32,7 @@ use Rattle.written_machine.specs.Ports.{Port, Got, Gots, read_in, read_byte, rea
 use Rattle.written_machine.specs.State.{State}
 use Rattle.isolation.proofs.Bytes.{Out, get_part, part_set_in, part_set_out, cleared_set}
 use Rattle.isolation.proofs.Each.{Each}
-use Rattle.isolation.proofs.Rights.{Sound, holds_in, each_read, each_write, even_of}
+use Rattle.isolation.proofs.Rights.{Sound, own_id, holds_in, each_read, each_write, even_of}
 use Rattle.mod_layout.proofs.Found.{ends_of}
 
 -- a step of the active module
@@ -219,9 +219,6 @@ module _ (m : ℕ) (own : Module) (t : Table) (sound : Sound m own t) (j : Job) 
   in_width Byte P a e next h = h
   in_width Word P a e next h = (h, next a (even_of Word a e refl) h)
 
-  same_id : (m == m) ≡ true
-  same_id = grind (arith, nat_tests)
-
   inside_read : (k : Kind) (w : Width) (a : ℕ) → is_read k ≡ true → is_inside j (record { kind = k; addr = a; width = w }) ≡ true → InBy w in_sections a
   inside_read Read w a f h =
       let h' = subst (λ (o : Module). (not (misaligned w a) && (holds o.text a || holds o.ram a)) ≡ true) owner h in
@@ -250,11 +247,11 @@ module _ (m : ℕ) (own : Module) (t : Table) (sound : Sound m own t) (j : Job) 
     may_read a h =
         ⊎_elim
         (λ x. ⊎_elim (λ p. rw p refl) (λ p. rw p refl) (sound.in_text a x))
-        (λ x. subst (λ p. right_at p (Some m) held Read a ≡ None) (sym (sound.in_data a x)) (ap (λ b. refuse_if (not b) Rule.ReadData a m) same_id))
+        (λ x. subst (λ p. right_at p (Some m) held Read a ≡ None) (sym (sound.in_data a x)) (ap (λ b. refuse_if (not b) Rule.ReadData a m) (own_id m)))
         (or_cases (holds own.text a) (holds own.ram a) h)
 
     may_write : (a : ℕ) → holds own.ram a ≡ true → right_at (place_of t a) (Some m) held Write a ≡ None
-    may_write a x = subst (λ p. right_at p (Some m) held Write a ≡ None) (sym (sound.in_data a x)) (ap (λ b. refuse_if (not b) Rule.WriteData a m) same_id)
+    may_write a x = subst (λ p. right_at p (Some m) held Write a ≡ None) (sym (sound.in_data a x)) (ap (λ b. refuse_if (not b) Rule.WriteData a m) (own_id m))
 
     allowed_by : (k : Kind) (w : Width) (a : ℕ) → is_inside j (record { kind = k; addr = a; width = w }) ≡ true → right t (Some m) held (record { kind = k; addr = a; width = w }) ≡ None
     unfolding right
@@ -279,7 +276,7 @@ module _ (m : ℕ) (own : Module) (t : Table) (sound : Sound m own t) (j : Job) 
       let x : in_sections a ≡ true = ap (λ b. b || holds own.ram a) h in (x, sections_next a even x)
 
   home_here : (a : ℕ) → holds own.text a ≡ true → at_home (Some m) (place_of t a) ≡ true
-  home_here a h = ⊎_elim (λ p. rw p same_id) (λ p. rw p same_id) (sound.in_text a h)
+  home_here a h = ⊎_elim (λ p. rw p (own_id m)) (λ p. rw p (own_id m)) (sound.in_text a h)
 
   home_by : (b : Bool) (a : ℕ) → (not b || holds own.text a) ≡ true → (not b || (nat_lt a 65536 && at_home (Some m) (place_of t a))) ≡ true
   home_by false a h = refl

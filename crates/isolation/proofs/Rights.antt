@@ -55,6 +55,9 @@ pub each_write : (P Q : Access → Type 0) → ((x : Access) → is_write x.kind
 each_write P Q f [] h = tt
 each_write P Q f (x ∷ xs) h = each_if P (is_write x.kind) x (writes_of xs) (λ e. f x e h.0) (each_write P Q f xs h.1)
 
+pub own_id : (m : ℕ) → (m == m) ≡ true
+own_id m = grind (arith, nat_tests)
+
 pub even_of : (w : Width) (a : ℕ) → misaligned w a ≡ false → (w ≡ Word) → a % 2 ≡ 0
 even_of Byte a e f = cc
 even_of Word a e f = let k : a % 2 ≢ 1 = grind (arith, nat_tests) in omega arith

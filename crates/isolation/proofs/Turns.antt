@@ -32,7 +32,7 @@ use Rattle.isolation.proofs.Hide.{veil, veil_step, veil_core, hide_by, held_ids_
 use Rattle.isolation.proofs.Inside.{Moves, did_act}
 use Rattle.isolation.proofs.Outside.{Light, light, outer_by, stays_by, arrived_active, arrive_outside_outer, act_outer, act_active}
 use Rattle.isolation.proofs.Relation.{find_held, times, none_found, run_by, run_of, same_secret, Keeps, Ready, Stays, stays_self, Alike, Outer, outer_alike, seen_veiled, seen_active}
-use Rattle.isolation.proofs.Rights.{holds_in}
+use Rattle.isolation.proofs.Rights.{own_id, holds_in}
 use Rattle.isolation.proofs.Settled.{arrive_inside_stays}
 use Rattle.isolation.proofs.Settling.{arrive_hidden, due_hidden, enter_veiled}
 use Rattle.isolation.proofs.Cases.{turn_at, turn_unless, turn_is}
@@ -139,8 +139,7 @@ module _ (m : ℕ) (own : Module) (key text : List ℕ) where
   pub entered_keeps : (left : ℕ) (s : State) → Keeps m own key text s → is_held m (held_ids s.frames) ≡ false → Keeps m own key text (entered left s)
   unfolding entered
   entered_keeps left s k free =
-      let same : (m == m) ≡ true = grind (arith, nat_tests) in
-      let e1 : one_if (m == m) ≡ 1 = ap one_if same in
+      let e1 : one_if (m == m) ≡ 1 = ap one_if (own_id m) in
       let e2 = times_none m s.frames free in
       record { sound = k.sound; key_is = k.key_is; text_is = k.text_is; once = omega arith; proper = λ h. (refl, refl) }
 
@@ -206,10 +205,9 @@ module _ (m : ℕ) (own : Module) (key text : List ℕ) where
     first_together : (left : ℕ) (na nb : Option Insn) → next_insn (job_of key own text left) (start left a) ≡ na → next_insn (job_of key own text left) (start left b) ≡ nb → place_of a.table (pc_of a) ≡ Entry m → place_of b.table (pc_of b) ≡ Entry m → is_held m (held_ids a.frames) ≡ false → is_held m (held_ids b.frames) ≡ false → Together key own text (job_of key own text left) (does_or_breaks na) (does_or_breaks nb) (start left a) (start left b) → Alike m own key text (act (at_entry left a)) (act (at_entry left b))
     unfolding entered start
     first_together left (Some i) (Some i') ea eb pa pb fa fb t =
-        let id : (m == m) ≡ true = grind (arith, nat_tests) in
         let seen : hide_by true m own (entered left a) ≡ hide_by true m own (entered left b) = ap (λ (v : State). let u : State = record v { core = veil_core v.core; active = Some m; caller = left; phase = Run 0; after = Next } in u) veiled in
         moves_alike m own key text (entered left a) (entered left b) (lone_does (job_of key own text left) i (start left a)) (lone_does (job_of key own text left) i' (start left b)) (act (at_entry left a)) (act (at_entry left b))
-        (entered_keeps left a ka fa) (entered_keeps left b kb fb) id id seen (entered_moves left a i ka ok_a pa ea) (entered_moves left b i' kb ok_b pb eb)
+        (entered_keeps left a ka fa) (entered_keeps left b kb fb) (own_id m) (own_id m) seen (entered_moves left a i ka ok_a pa ea) (entered_moves left b i' kb ok_b pb eb)
         (does_gie (job_of key own text left) (start left a) i ea ok_a.sixteen) (does_gie (job_of key own text left) (start left b) i' eb ok_b.sixteen) t
     first_together left _ _ ea eb pa pb fa fb t = absurd t
 
