@@ -4,7 +4,6 @@ use Rattle.schedule_file.specs.declared.Entry.{Entry}
 use Rattle.schedule_file.specs.declared.What.{What}
 use Rattle.schedule_file.specs.declared.What.TheVariants.{Serial}
 use Rattle.devices.specs.Devices.{Devices, ticked_devices, happens_if, scheduled, counts_by}
-use Rattle.devices.specs.Time.{ticked_by}
 use Rattle.irq_padding.specs.Padding.{padding}
 use Rattle.pc_access.specs.declared.Stop.{Stop}
 use Rattle.reg_backup.specs.declared.backup.After.{After}
@@ -110,25 +109,6 @@ lead_more n s x t u e rest same = record { state = sym same ∙ rest.state ∙ s
     silent zero h = ap (λ (y : Step). y.events) e
     silent (suc m) h = ap (λ (y : State). (cycle y).events) (after m) ∙ rest.events m (omega (arith, h))
 
--- two such states that differ in how a number is written
-same_run : (d : Devices) (c c' r r' : ℕ) (a : After) (s : State) → c ≡ c' → r ≡ r' →
-    let t : State = record s { devices = d; cycle = c; phase = Run r; after = a } in
-    let u : State = record s { devices = d; cycle = c'; phase = Run r'; after = a } in
-    t ≡ u
-same_run d c c' r r' a s e f =
-    ap (λ (k : ℕ). let t : State = record s { devices = d; cycle = k; phase = Run r; after = a } in t) e
-    ∙ ap (λ (k : ℕ). let t : State = record s { devices = d; cycle = c'; phase = Run k; after = a } in t) f
-
-same_pad : (d : Devices) (c c' r r' : ℕ) (s : State) → c ≡ c' → r ≡ r' →
-    let p = padding r in
-    let q = padding r' in
-    let t : State = record s { devices = d; cycle = c; phase = p.0; after = p.1 } in
-    let u : State = record s { devices = d; cycle = c'; phase = q.0; after = q.1 } in
-    t ≡ u
-same_pad d c c' r r' s e f =
-    ap (λ (k : ℕ). let p = padding r in let t : State = record s { devices = d; cycle = k; phase = p.0; after = p.1 } in t) e
-    ∙ ap (λ (k : ℕ). let p = padding k in let t : State = record s { devices = d; cycle = c'; phase = p.0; after = p.1 } in t) f
-
 -- at least one cycle of padding
 pads : (n left : ℕ) (s : State) → s.stop ≡ None → suc n ≤ left → let x : State = record s { phase = Pad left } in Leads (suc n) x (passed (suc n) x)
 pads zero (suc left) s runs h =
@@ -142,31 +122,31 @@ pads (suc n) (suc (suc left)) s runs h =
     lead_more (suc n) x y (passed (suc n) y) (passed (suc (suc n)) x)
     (pad_one (suc (suc left)) s runs ∙ ap (λ (k : ℕ). quiet (padded_on k s)) less)
     (pads n (suc left) y runs (omega (arith, h)))
-    (same_pad (ticked_by (suc n) y.cycle y.devices) (s.cycle + 1 + suc n) (s.cycle + suc (suc n)) (suc left - suc n) (suc (suc left) - suc (suc n)) s (omega arith) (omega arith))
+    (let e : s.cycle + 1 + suc n ≡ s.cycle + suc (suc n) = omega arith in let f : suc left - suc n ≡ suc (suc left) - suc (suc n) = omega arith in rw (e, f) refl)
 pads _ _ s runs h = absurd (omega (arith, h))
 
 waits : (n rest : ℕ) (s : State) → s.stop ≡ None → n ≤ rest → ((m : ℕ) → 0 < m → m ≤ n → Missed (due_after m s) s.active) → let x : State = record s { phase = Run rest } in Leads n x (passed n x)
 waits zero rest s runs h missed =
     let x : State = record s { phase = Run rest } in
-    lead_none x (passed 0 x) (same_run s.devices (s.cycle + 0) s.cycle (rest - 0) rest s.after s (omega arith) (omega arith))
+    lead_none x (passed 0 x) (let e : s.cycle + 0 ≡ s.cycle = omega arith in let f : rest - 0 ≡ rest = omega arith in rw (e, f) refl)
 waits (suc n) zero s runs h missed = absurd (omega (arith, h))
 waits (suc n) (suc rest) s runs h missed =
     let x : State = record s { phase = Run (suc rest) } in
     let y = moved (Run rest) s.after s in
     lead_more n x y (passed n y) (passed (suc n) x) (wait_one rest s runs (missed 1 (omega arith) (omega arith)))
     (waits n rest y runs (omega (arith, h)) (λ m some few. missed (suc m) (omega arith) (omega (arith, few))))
-    (same_run (ticked_by n y.cycle y.devices) (s.cycle + 1 + n) (s.cycle + suc n) (rest - n) (suc rest - suc n) s.after s (omega arith) (omega arith))
+    (let e : s.cycle + 1 + n ≡ s.cycle + suc n = omega arith in let f : rest - n ≡ suc rest - suc n = omega arith in rw (e, f) refl)
 
 sleeps : (n : ℕ) (s : State) → s.stop ≡ None → asleep s ≡ true → Calm n s → let x : State = record s { phase = Run 0; after = Next; active = None } in Leads n x (passed n x)
 sleeps zero s runs off calm =
     let x : State = record s { phase = Run 0; after = Next; active = None } in
-    lead_none x (passed 0 x) (same_run s.devices (s.cycle + 0) s.cycle (0 - 0) 0 Next x (omega arith) (omega arith))
+    lead_none x (passed 0 x) (let e : s.cycle + 0 ≡ s.cycle = omega arith in rw e refl)
 sleeps (suc n) s runs off calm =
     let x : State = record s { phase = Run 0; after = Next; active = None } in
     let y = moved (Run 0) Next x in
     lead_more n x y (passed n y) (passed (suc n) x) (sleep_one s runs off (calm 1 (omega arith) (omega arith)))
     (sleeps n y runs off (λ m some few. calm (suc m) (omega arith) (omega (arith, few))))
-    (same_run (ticked_by n y.cycle y.devices) (s.cycle + 1 + n) (s.cycle + suc n) (0 - n) (0 - suc n) Next x (omega arith) (omega arith))
+    (let e : s.cycle + 1 + n ≡ s.cycle + suc n = omega arith in let f : 0 - n ≡ 0 - suc n = omega arith in rw (e, f) refl)
 
 -- ---- by what stands
 
