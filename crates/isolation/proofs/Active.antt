@@ -51,9 +51,7 @@ module _ (m : ℕ) (own : Module) (key text : List ℕ) where
       record { sound = k.sound; key_is = k.key_is; text_is = t ∙ k.text_is; once = k.once; proper = λ h. (refl, ap closing_after (sym (close_is l'.closing))) }
 
   moved_hidden : (s : State) (l' : Lone) (memory : List ℕ) → is_id m s.active ≡ true → cleared own.ram.start (size_of own.ram) memory ≡ cleared own.ram.start (size_of own.ram) s.memory → veil_core l'.core ≡ veil_core s.core → hide m own (moved s l' memory) ≡ hide_by true m own s
-  moved_hidden s l' memory act rest gie =
-      let build : List ℕ → List ℕ → State = λ core mem. record (hide_by true m own s) { core = core; memory = mem } in
-      ap (λ c. hide_by c m own (moved s l' memory)) act ∙ ap (λ c. build c (cleared own.ram.start (size_of own.ram) memory)) gie ∙ ap (build (veil_core s.core)) rest
+  moved_hidden s l' memory act rest gie = rw (act, gie, rest) refl
 
   moved_alike : (a b : State) (la lb : Lone) (ma mb : List ℕ) → Keeps m own key text a → Keeps m own key text b → is_id m a.active ≡ true → is_id m b.active ≡ true → hide_by true m own a ≡ hide_by true m own b →
       section own.ram ma ≡ la.data_bytes → section own.ram mb ≡ lb.data_bytes →

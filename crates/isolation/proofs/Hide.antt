@@ -1,7 +1,7 @@
 -- A state with one module's secrets taken out, and what the outside does to it.
-use Rattle.std.proofs.Common.{◌≡◌, ◌≢◌, ℕ, suc, ◌+◌, ◌-◌, ◌*◌, ◌%◌, ◌≤◌, List, [], ◌∷◌, length, get_or, refl, sym, ap, ◌∙◌, subst, arith, Bool, true, false, nat_lt, cond, not, ◌&&◌, ◌||◌, ◌==◌, Option, Some, None}
+use Rattle.std.proofs.Common.{◌≡◌, ◌≢◌, ℕ, suc, ◌+◌, ◌*◌, ◌%◌, ◌≤◌, List, [], ◌∷◌, length, get_or, refl, sym, ap, ◌∙◌, subst, arith, Bool, true, false, nat_lt, cond, not, ◌&&◌, ◌||◌, ◌==◌, Option, Some, None}
 use Rattle.std.proofs.lemmas.Bool.{and_parts}
-use Rattle.sm_words.specs.Words.{cleared, reg, put, bit, add16, word_at}
+use Rattle.sm_words.specs.Words.{cleared, reg, bit, word_at}
 use Rattle.sm_words.specs.declared.width.Width.TheVariants.{Word}
 use Rattle.insn_decode.specs.Code.{insn_of, length_of}
 use Rattle.insn_decode.specs.declared.insn.Insn.{Insn}
@@ -12,24 +12,22 @@ use Rattle.mod_layout.specs.declared.Place.TheVariants.{Data}
 use Rattle.pc_access.specs.Rights.{first_denied, is_id}
 use Rattle.pc_access.specs.declared.Denied.{Denied}
 use Rattle.pc_access.specs.declared.Stop.{Stop}
-use Rattle.devices.specs.Devices.{accepted}
 use Rattle.reg_backup.specs.Held.{held_ids}
-use Rattle.reg_backup.specs.Saved.{closing_after}
 use Rattle.reg_backup.specs.declared.backup.After.TheVariants.{Next}
 use Rattle.reg_backup.specs.declared.backup.Backup.{Backup}
 use Rattle.reg_backup.specs.declared.backup.Phase.TheVariants.{Run}
 use Rattle.reg_backup.specs.declared.frames.Frame.{Frame}
 use Rattle.reg_backup.specs.declared.frames.Frame.TheVariants.{Plain, Module as Held}
 use Rattle.attest.specs.Accesses.{reads_of, writes_of}
-use Rattle.cpu_step.specs.Asked.{asks, effect, table_after}
+use Rattle.cpu_step.specs.Asked.{asks, effect}
 use Rattle.cpu_step.specs.Fetched.{later_word, insn_at}
 use Rattle.tracer.specs.declared.Event.{Event}
-use Rattle.written_machine.specs.Cycle.{Step, pc_of, byte_of, vector_in, vector_word, push_both, pushes, plain_if, arrive_outside, at_home, home_word, is_home, who_of, port_of, made_events, done_by, perform, perform_unless, attempt, without_newest, returned_by, reti_by, reti_of, act_by, act_on, act_home, act_first, act}
-use Rattle.written_machine.specs.Ports.{Port, take_reads, put_writes}
+use Rattle.written_machine.specs.Cycle.{Step, pc_of, byte_of, vector_in, vector_word, push_both, pushes, plain_if, arrive_outside, at_home, home_word, is_home, who_of, port_of, perform, perform_unless, attempt, without_newest, returned_by, reti_by, reti_of, act_by, act_on, act_home, act_first, act}
+use Rattle.written_machine.specs.Ports.{take_reads, put_writes}
 use Rattle.written_machine.specs.State.{State}
 use Rattle.isolation.proofs.Bytes.{Out, get_cleared}
 use Rattle.isolation.proofs.Each.{Each}
-use Rattle.isolation.proofs.Ports.{OutBy, OutAccess, veil_port, take_reads_veiled, put_writes_veiled}
+use Rattle.isolation.proofs.Ports.{OutBy, OutAccess, take_reads_veiled, put_writes_veiled}
 use Rattle.isolation.proofs.Rights.{Sound, reads_out, writes_out, out_place_next}
 
 -- of a hidden core GIE alone is seen
@@ -103,19 +101,9 @@ module _ (m : ℕ) (own : Module) (t : Table) (sound : Sound m own t) where
   push_veiled : (d : Option Denied) (v : ℕ) (s : State) → (d ≡ None → Each (OutAccess own.ram.start (size_of own.ram)) (pushes s)) → push_both d v (veil m own s) ≡ veil_step m own (push_both d v s)
   push_veiled (Some d) v s out = refl
   push_veiled None v s out =
-      let build : Port → ℕ → List Frame → Step = λ p w fs.
-      record {
-        state = record s { core = put (put (put s.core 1 (add16 (reg s.core 1) 65532)) 2 (64 * bit 64 (reg s.core 2))) 0 w; memory = p.memory; frames = fs; phase = Run 5; devices = accepted p.devices v };
-        events = Event.Irq v ∷ [];
-      } in
-      let p0 : Port = record { devices = s.devices; memory = s.memory } in
+      let p = port_of s in
       let vs = reg s.core 0 ∷ reg s.core 2 ∷ [] in
-      let e1 = put_writes_veiled own.ram.start (size_of own.ram) (pushes s) p0 vs (out refl) in
-      let q = put_writes p0 (pushes s) vs in
-      let p1 = veil_port own.ram.start (size_of own.ram) q in
-      ap (λ p. build p (vector_in p.memory v) (plain_if (veil_frames m s.frames))) e1
-      ∙ ap (λ w. build p1 w (plain_if (veil_frames m s.frames))) (vector_cleared q.memory v)
-      ∙ ap (λ fs. build p1 (vector_in q.memory v) fs) (plain_veiled m s.frames)
+      rw (put_writes_veiled own.ram.start (size_of own.ram) (pushes s) p vs (out refl), vector_cleared (put_writes p (pushes s) vs).memory v, plain_veiled m s.frames) refl
 
   pub arrive_outside_veiled : (v : ℕ) (s : State) → s.table ≡ t → arrive_outside v (veil m own s) ≡ veil_step m own (arrive_outside v s)
   unfolding arrive_outside
@@ -133,14 +121,7 @@ module _ (m : ℕ) (own : Module) (t : Table) (sound : Sound m own t) where
         let p = port_of s in
         let g = take_reads p (reads_of xs) in
         let e = effect (who_of s) insn s.core g.values in
-        let r = take_reads_veiled own.ram.start (size_of own.ram) (reads_of xs) p out_r in
-        let w = put_writes_veiled own.ram.start (size_of own.ram) (writes_of xs) g.port e.stored out_w in
-        let finish : Port → Step = λ q.
-        record {
-          state = record (veil m own s) { core = e.core; memory = q.memory; devices = q.devices; table = table_after s.table insn s.core; phase = Run (e.cycles - 1); after = closing_after e.closing };
-          events = made_events s.table (table_after s.table insn s.core);
-        } in
-        ap (λ u. done_by (veil m own s) insn u (effect (who_of s) insn s.core u.values)) r ∙ ap finish w
+        rw (take_reads_veiled own.ram.start (size_of own.ram) (reads_of xs) p out_r, put_writes_veiled own.ram.start (size_of own.ram) (writes_of xs) g.port e.stored out_w) refl
 
     pub attempt_veiled : (insn : Insn) → attempt insn (veil m own s) ≡ veil_step m own (attempt insn s)
     unfolding attempt
@@ -203,12 +184,7 @@ module _ (m : ℕ) (own : Module) (t : Table) (sound : Sound m own t) where
     insn_veiled n even out h =
         let h1 : home_word s.table s.active (pc_of s) n 1 ≡ true = (and_parts _ (home_word s.table s.active (pc_of s) n 2) h).0 in
         let h2 : home_word s.table s.active (pc_of s) n 2 ≡ true = (and_parts (home_word s.table s.active (pc_of s) n 1) _ h).1 in
-        let b' = byte_of (veil m own s) in
-        let b = byte_of s in
-        let pc = pc_of s in
-        ap (λ w. insn_of w (later_word b' pc n 1) (later_word b' pc n 2)) (word_cleared s.memory pc out)
-        ∙ ap (λ w. insn_of (word_at b pc) w (later_word b' pc n 2)) (later_veiled n 1 even h1)
-        ∙ ap (λ w. insn_of (word_at b pc) (later_word b pc n 1) w) (later_veiled n 2 even h2)
+        rw (word_cleared s.memory (pc_of s) out, later_veiled n 1 even h1, later_veiled n 2 even h2) refl
 
     act_home_veiled : (b : Bool) (n : ℕ) → pc_of s % 2 ≡ 0 → OutBy Word own.ram.start (size_of own.ram) (pc_of s) → is_home s.table s.active (pc_of s) n ≡ b → act_home b n (veil m own s) ≡ veil_step m own (act_home b n s)
     act_home_veiled false n even out h = refl

@@ -26,7 +26,7 @@ use Rattle.cpu_step.specs.Asked.{asks, effect, table_after}
 use Rattle.cpu_step.specs.Fetched.{later_word, insn_at}
 use Rattle.cpu_step.specs.Lone.{Job, Lone, lone_byte, lone_who, unit_alone, is_alone, is_inside, all_inside, text_word, lone_read, lone_write, lone_writes, may_do, if_home, next_first, next_insn, lone_does}
 use Rattle.tracer.specs.declared.Event.{Event}
-use Rattle.written_machine.specs.Cycle.{Step, pc_of, byte_of, at_home, home_word, is_home, who_of, port_of, made_events, perform, perform_unless, attempt, act_by, act_on, act_home, act_first, act}
+use Rattle.written_machine.specs.Cycle.{Step, pc_of, byte_of, at_home, home_word, is_home, who_of, port_of, made_events, perform, attempt, act_by, act_on, act_home, act_first, act}
 use Rattle.written_machine.specs.Peers.{section}
 use Rattle.written_machine.specs.Ports.{Port, Got, Gots, read_in, read_byte, read_width, write_in, write_byte, write_width, take_reads, put_writes}
 use Rattle.written_machine.specs.State.{State}
@@ -304,31 +304,13 @@ module _ (m : ℕ) (own : Module) (t : Table) (sound : Sound m own t) (j : Job) 
     unfolding perform
     perform_inside insn alone xs xs_is e e_is rs ws =
         let r = reads_same (reads_of xs) (port_of s) text_is rs in
-        let g0 : Gots = record { port = port_of s; values = map (lone_read j (section own.ram s.memory)) (reads_of xs) } in
         let w = writes_same (writes_of xs) (port_of s) e.stored ws in
-        let q = put_writes (port_of s) (writes_of xs) e.stored in
-        let by : List Access → Gots → Effect → Step = λ ys g f.
-        let p = put_writes g.port (writes_of ys) f.stored in
-        record {
-          state = record s { core = f.core; memory = p.memory; devices = p.devices; table = table_after s.table insn s.core; phase = Run (f.cycles - 1); after = closing_after f.closing };
-          events = made_events s.table (table_after s.table insn s.core);
-        } in
-        let fin : _ → Table → List Event → Step = λ v u es. record { state = record s { core = e.core; memory = q.memory; devices = v; table = u; phase = Run (e.cycles - 1); after = closing_after e.closing }; events = es } in
-        ap (λ ys. let g = take_reads (port_of s) (reads_of ys) in by ys g (effect (who_of s) insn s.core g.values)) xs_is
-        ∙ ap (λ g. by xs g (effect (who_of s) insn s.core g.values)) r
-        ∙ ap (by xs g0) e_is
-        ∙ ap (λ v. fin v (table_after s.table insn s.core) (made_events s.table (table_after s.table insn s.core))) w.devices
-        ∙ ap (λ u. fin s.devices u (made_events s.table (table_after s.table insn s.core))) (table_alone insn s.table s.core alone)
-        ∙ ap (λ es. fin s.devices s.table es) (made_none insn alone)
+        rw (xs_is, r, e_is, w.devices, made_none insn alone, table_alone insn s.table s.core alone) refl
 
     attempt_inside : (insn : Insn) → (xs : List Access) → asks (who_of s) insn s.core ≡ xs → all_inside j xs ≡ true → attempt insn s ≡ perform insn s
     unfolding attempt
     attempt_inside insn xs xs_is h =
-        let ids = held_ids s.frames in
-        ap (λ ys. perform_unless (first_denied s.table s.active ids ys) insn s) xs_is
-        ∙ ap (λ u. perform_unless (first_denied u s.active ids xs) insn s) table_is
-        ∙ ap (λ a. perform_unless (first_denied t a ids xs) insn s) active_is
-        ∙ ap (λ d. perform_unless d insn s) (all_allowed ids xs h)
+        rw (xs_is, table_is, active_is, all_allowed (held_ids s.frames) xs h) refl
 
     act_by_alone : (insn : Insn) → is_alone insn ≡ true → act_by insn s ≡ attempt insn s
     act_by_alone Reti e = cc
@@ -350,13 +332,7 @@ module _ (m : ℕ) (own : Module) (t : Table) (sound : Sound m own t) (j : Job) 
       first_word_same = same_word s.memory text_is (pc_of s) (text_even (pc_of s) even here)
 
       insn_same : (n : ℕ) → text_word j (pc_of s) n 1 ≡ true → text_word j (pc_of s) n 2 ≡ true → insn_at (byte_of s) (pc_of s) n ≡ insn_at (lone_byte j (section own.ram s.memory)) (pc_of s) n
-      insn_same n h1 h2 =
-          let b' = lone_byte j (section own.ram s.memory) in
-          let b = byte_of s in
-          let pc = pc_of s in
-          ap (λ w. insn_of w (later_word b pc n 1) (later_word b pc n 2)) first_word_same
-          ∙ ap (λ w. insn_of (word_at b' pc) w (later_word b pc n 2)) (later_same n 1 h1)
-          ∙ ap (λ w. insn_of (word_at b' pc) (later_word b' pc n 1) w) (later_same n 2 h2)
+      insn_same n h1 h2 = rw (first_word_same, later_same n 1 h1, later_same n 2 h2) refl
 
       did_perform : (insn : Insn) → is_alone insn ≡ true → all_inside j (asks (lone_who j) insn s.core) ≡ true → (u : Step) → u ≡ perform insn s → Moves own s (lone_does j insn (record { core = s.core; data_bytes = section own.ram s.memory; rest = l.rest; closing = l.closing })) u
       unfolding lone_does

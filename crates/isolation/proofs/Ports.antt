@@ -1,5 +1,5 @@
 -- Reads and writes that stay out of a section do not see what stands there.
-use Rattle.std.proofs.Common.{◌≡◌, ℕ, ◌+◌, ◌*◌, ◌/◌, ◌%◌, List, [], ◌∷◌, take, drop, refl, ap, ◌∙◌, Bool, true, false, nat_lt}
+use Rattle.std.proofs.Common.{◌≡◌, ℕ, ◌+◌, ◌/◌, ◌%◌, List, [], ◌∷◌, take, drop, refl, ap, ◌∙◌, Bool, true, false, nat_lt}
 use Rattle.sm_words.specs.declared.width.Width.{Width}
 use Rattle.sm_words.specs.declared.width.Width.TheVariants.{Byte, Word}
 use Rattle.pc_access.specs.declared.Access.{Access}
@@ -33,20 +33,12 @@ module _ (lo n : ℕ) where
   read_width_veiled : (w : Width) (p : Port) (a : ℕ) → OutBy w lo n a → read_width w (veil_port lo n p) a ≡ veil_got lo n (read_width w p a)
   read_width_veiled Byte p a out = read_in_veiled (nat_lt a 512) p a out
   read_width_veiled Word p a out =
-      let lo' = read_in_veiled (nat_lt a 512) p a out.0 in
-      let g = read_byte p a in
-      let hi = read_in_veiled (nat_lt (a + 1) 512) g.port (a + 1) out.1 in
-      let join : Got → Got → Got = λ x y. record { port = y.port; value = x.value + 256 * y.value } in
-      ap (λ x. join x (read_byte x.port (a + 1))) lo' ∙ ap (λ y. join (veil_got lo n g) y) hi
+      rw (read_in_veiled (nat_lt a 512) p a out.0, read_in_veiled (nat_lt (a + 1) 512) (read_byte p a).port (a + 1) out.1) refl
 
   pub take_reads_veiled : (xs : List Access) (p : Port) → Each (OutAccess lo n) xs → take_reads (veil_port lo n p) xs ≡ veil_gots lo n (take_reads p xs)
   take_reads_veiled [] p out = refl
   take_reads_veiled (x ∷ xs) p out =
-      let h = read_width_veiled x.width p x.addr out.0 in
-      let g = read_width x.width p x.addr in
-      let t = take_reads_veiled xs g.port out.1 in
-      let join : Got → Gots → Gots = λ u v. record { port = v.port; values = u.value ∷ v.values } in
-      ap (λ u. join u (take_reads u.port xs)) h ∙ ap (λ v. join (veil_got lo n g) v) t
+      rw (read_width_veiled x.width p x.addr out.0, take_reads_veiled xs (read_width x.width p x.addr).port out.1) refl
 
   write_in_veiled : (b : Bool) (p : Port) (a v : ℕ) → Out lo n a → write_in b (veil_port lo n p) a v ≡ veil_port lo n (write_in b p a v)
   write_in_veiled true p a v out = refl

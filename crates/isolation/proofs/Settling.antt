@@ -1,24 +1,24 @@
 -- Settling, ticking and arriving, with one module hidden.
-use Rattle.std.proofs.Common.{◌≡◌, ℕ, zero, ◌*◌, ◌/◌, ◌%◌, List, [], ◌∷◌, length, replicate, refl, sym, ap, ◌∙◌, arith, Bool, true, false, nat_lt, ◌&&◌, ◌==◌, Option, Some, None}
+use Rattle.std.proofs.Common.{◌≡◌, ℕ, zero, ◌*◌, ◌/◌, ◌%◌, List, [], ◌∷◌, length, refl, sym, ap, ◌∙◌, arith, Bool, true, false, nat_lt, ◌&&◌, ◌==◌, Option, Some, None}
 use Rattle.isolation.proofs.Tame.{ticked_active}
-use Rattle.sm_words.specs.Words.{reg, put}
-use Rattle.mod_layout.specs.Table.{Table, place_of, size_of, without}
+use Rattle.sm_words.specs.Words.{reg}
+use Rattle.mod_layout.specs.Table.{Table, place_of, size_of}
 use Rattle.mod_layout.specs.declared.Module.{Module}
 use Rattle.mod_layout.specs.declared.Place.{Place}
 use Rattle.mod_layout.specs.declared.Place.TheVariants.{Entry}
 use Rattle.pc_access.specs.Rights.{is_id}
-use Rattle.devices.specs.Devices.{accepted, line_of}
-use Rattle.reg_backup.specs.Saved.{closing_after, is_close}
+use Rattle.devices.specs.Devices.{line_of}
+use Rattle.reg_backup.specs.Saved.{closing_after}
 use Rattle.reg_backup.specs.declared.backup.After.{After}
 use Rattle.reg_backup.specs.declared.backup.After.TheVariants.{Next, Handler, Resume, Close}
 use Rattle.reg_backup.specs.declared.backup.Backup.{Backup}
 use Rattle.reg_backup.specs.declared.backup.Phase.{Phase}
-use Rattle.reg_backup.specs.declared.backup.Phase.TheVariants.{Run, Pad}
+use Rattle.reg_backup.specs.declared.backup.Phase.TheVariants.{Run}
 use Rattle.reg_backup.specs.declared.frames.Frame.{Frame}
 use Rattle.reg_backup.specs.declared.frames.Frame.TheVariants.{Module as Held}
 use Rattle.attest.specs.Done.{own_of}
 use Rattle.tracer.specs.declared.Event.{Event}
-use Rattle.written_machine.specs.Cycle.{Step, Settled, unsettled, pc_of, ticked, resume_from, close_of, in_text, leave_if, settle_by, settle_in, settle, vector_if, due, rest_of, vector_word, arrive_inside, enter_at, enter}
+use Rattle.written_machine.specs.Cycle.{Settled, unsettled, pc_of, ticked, resume_from, close_of, in_text, leave_if, settle_by, settle_in, settle, vector_if, due, arrive_inside, enter_at, enter}
 use Rattle.written_machine.specs.State.{State}
 use Rattle.isolation.proofs.Bytes.{cleared_comm}
 use Rattle.isolation.proofs.Hide.{veil_core, veil_if, veil_frames, veil, veil_step, hide_by, hide, length_veiled, vector_veiled, held_ids_if}
@@ -57,18 +57,10 @@ module _ (m : ℕ) (own : Module) where
   due_hidden s = due_by (is_id m s.active) s
 
   -- ---- an arrival inside a module
-  abbrev arrived : ℕ → ℕ → State → ℕ → Bool → Step
-  arrived v id s w c =
-      let b : Backup = record { «module» = id; caller = s.caller; core = s.core; rest = rest_of s.phase; closing = is_close s.after } in
-      record {
-        state = record (veil m own s) { core = put (put (replicate 16 0) 0 w) 1 s.handler_sp; active = None; frames = Held (veil_if c b) ∷ veil_frames m s.frames; phase = Pad 11; after = Next; devices = accepted s.devices v };
-        events = Event.Hide id v ∷ [];
-      }
-
   pub arrive_hidden : (c : Bool) (t : Table) → Sound m own t → (v id : ℕ) (s : State) → (id == m) ≡ c → arrive_inside v id (hide_by c m own s) ≡ veil_step m own (arrive_inside v id s)
   unfolding arrive_inside
-  arrive_hidden true t sound v id s e = ap (λ w. arrived v id s w true) (vector_veiled m own t sound s v) ∙ ap (arrived v id s (vector_word s v)) (sym e)
-  arrive_hidden false t sound v id s e = ap (λ w. arrived v id s w false) (vector_veiled m own t sound s v) ∙ ap (arrived v id s (vector_word s v)) (sym e)
+  arrive_hidden true t sound v id s e = rw (vector_veiled m own t sound s v, e) refl
+  arrive_hidden false t sound v id s e = rw (vector_veiled m own t sound s v, e) refl
 
   -- ---- settling while another or none is active
   resume_by : (c : Bool) (b : Backup) (fs : List Frame) (s : State) →
@@ -93,13 +85,7 @@ module _ (m : ℕ) (own : Module) where
     resume_veiled _ = unsettled_veiled
 
     close_veiled : (a : Option ℕ) (o : Option Module) → close_of a o (veil m own s) ≡ hide_settled m own (close_of a o s)
-    close_veiled (Some id) (Some x) =
-        let build : List ℕ → Settled = λ mem. record {
-          state = record (veil m own s) { memory = mem; table = without id s.table; active = None; after = Next };
-          events = Event.Close id ∷ [];
-          left = 0;
-        } in
-        ap build (cleared_comm x.ram.start (size_of x.ram) own.ram.start (size_of own.ram) s.memory)
+    close_veiled (Some id) (Some x) = rw (cleared_comm x.ram.start (size_of x.ram) own.ram.start (size_of own.ram) s.memory) refl
     close_veiled _ _ = unsettled_veiled
 
     leave_veiled : (b : Bool) (a : Option ℕ) → leave_if b a (veil m own s) ≡ hide_settled m own (leave_if b a s)
@@ -107,9 +93,7 @@ module _ (m : ℕ) (own : Module) where
     leave_veiled _ _ = unsettled_veiled
 
     handler_veiled : settle_by Handler (veil m own s) ≡ hide_settled m own (settle_by Handler s)
-    handler_veiled =
-        let build : State → Settled = λ u. record { state = u; events = Event.Handler (pc_of s) ∷ []; left = 0 } in
-        ap (λ b. build (hide_by b m own (record s { after = Next }))) (sym other)
+    handler_veiled = rw other refl
 
     settle_by_veiled : (a : After) → settle_by a (veil m own s) ≡ hide_settled m own (settle_by a s)
     settle_by_veiled Resume = resume_veiled s.frames

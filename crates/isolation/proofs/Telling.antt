@@ -1,5 +1,4 @@
 -- What peers write is the same: their traces, their end lines, what is seen of them, and where they stand.
-use Rattle.sm_words.specs.Words.{reg}
 use Rattle.schedule_file.specs.declared.Entry.{Entry as Scheduled}
 use Rattle.mod_layout.specs.Table.{place_of}
 use Rattle.mod_layout.specs.declared.Place.{Place}
@@ -11,14 +10,14 @@ use Rattle.reg_backup.specs.declared.backup.Backup.{Backup}
 use Rattle.reg_backup.specs.declared.frames.Frame.{Frame}
 use Rattle.reg_backup.specs.declared.frames.Frame.TheVariants.{Plain, Module as Held}
 use Rattle.tracer.specs.Lines.{end_line_at}
-use Rattle.written_machine.specs.Cycle.{pc_of, cycle, after_cycles}
+use Rattle.written_machine.specs.Cycle.{cycle, after_cycles}
 use Rattle.written_machine.specs.Peers.{Peers}
-use Rattle.written_machine.specs.Standing.{is_ready, is_resume, stands_at}
+use Rattle.written_machine.specs.Standing.{stands_at}
 use Rattle.written_machine.specs.State.{State}
 use Rattle.written_machine.specs.Trace.{lines_of, standing, end_by, end_line_of, lines_after, trace}
 use Rattle.written_machine.specs.View.{boot, at, is_hidden_by, Seen, SeenPlain, SeenHidden, SeenWhole, seen_if, seen_frame, seen_byte, View, view_of}
 use Rattle.written_machine.specs.declared.Hidden.TheVariants.{All as AllHidden, Only}
-use Rattle.std.proofs.Common.{◌≡◌, ℕ, zero, suc, ◌+◌, List, [], ◌∷◌, ◌++◌, map, refl, sym, ap, ◌∙◌, Bool, true, false, nat_lt, cond, not, ◌&&◌, ◌==◌, Option, Some, None, is_some, is_none}
+use Rattle.std.proofs.Common.{◌≡◌, ℕ, zero, suc, ◌+◌, List, [], ◌∷◌, ◌++◌, map, refl, sym, ap, ◌∙◌, Bool, true, false, nat_lt, cond, ◌==◌, Option, Some, None, is_some}
 use mathlib.Core.Path.{fun_ext}
 use Rattle.isolation.proofs.Follow.{after_more}
 use Rattle.isolation.proofs.Whole.{views_equal, events_equal, phases_equal}
@@ -139,14 +138,8 @@ module _ (a b : Image) (m : ℕ) (schedule : List Scheduled) (peers : Peers a b 
   -- ---- where the outside stands
   stands_by : (s t : State) (addr : ℕ) (o : Option ℕ) → s.active ≡ o → t.active ≡ o → (s.active ≡ None → (s.phase ≡ t.phase) × (s.after ≡ t.after)) → (s.active ≡ None → s.core ≡ t.core) → stands_at addr s ≡ stands_at addr t
   unfolding stands_at
-  stands_by s t addr (Some id) es et p c =
-      ap (λ x. is_none x && is_ready s.phase && not (is_resume s.after) && (pc_of s == addr)) es ∙ sym (ap (λ x. is_none x && is_ready t.phase && not (is_resume t.after) && (pc_of t == addr)) et)
-  stands_by s t addr None es et p c =
-      let q = p es in
-      ap (λ x. is_none x && is_ready s.phase && not (is_resume s.after) && (pc_of s == addr)) (es ∙ sym et)
-      ∙ ap (λ x. is_none t.active && is_ready x && not (is_resume s.after) && (pc_of s == addr)) q.0
-      ∙ ap (λ x. is_none t.active && is_ready t.phase && not (is_resume x) && (pc_of s == addr)) q.1
-      ∙ ap (λ x. is_none t.active && is_ready t.phase && not (is_resume t.after) && (reg x 0 == addr)) (c es)
+  stands_by s t addr (Some id) es et p c = rw (es, et) refl
+  stands_by s t addr None es et p c = let q = p es in rw (es, et, q.0, q.1, c es) refl
 
   pub stands_same : (addr k : ℕ) → stands_at addr (at a schedule k) ≡ stands_at addr (at b schedule k)
   stands_same addr k =
