@@ -265,8 +265,7 @@ module _ (m : ℕ) (own : Module) (key text : List ℕ) (a b : State) (ready : R
   by_due left (Some v) da db =
       let pa = ready.twins.keeps_a.proper act_a in
       let pb = ready.twins.keeps_b.proper both.other in
-      subst (λ u. Alike m own key text u (turn left b)) (sym (arrives_at m v left a some_a pa.0 da))
-      (subst (λ u. Alike m own key text (arrive_inside v m a) u) (sym (arrives_at m v left b some_b pb.0 db)) (arrives v))
+      rw (arrives_at m v left a some_a pa.0 da, arrives_at m v left b some_b pb.0 db) (arrives v)
 
   pub active_turn : (left : ℕ) → Alike m own key text (turn left a) (turn left b)
   active_turn left = by_due left (due a) refl (sym due_same)

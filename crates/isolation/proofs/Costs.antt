@@ -11,7 +11,7 @@ use Rattle.tracer.specs.declared.Event.{Event}
 use Rattle.written_machine.specs.Cycle.{Step, told, unsettled, due, ticked, settle, turn, arrive_inside, sent_event, counted_by, move, cycle_by, cycle, after_cycles}
 use Rattle.written_machine.specs.Peers.{section}
 use Rattle.written_machine.specs.State.{State}
-use Rattle.isolation.specs.Calls.{entry_job, entry_lone, works, worked, NoEnd, NotBroken, Away, away_if, back_from, notes, away, backup_of, run_by, lone_of, find_held, Enters, Ends, Takes}
+use Rattle.isolation.specs.Calls.{entry_job, entry_lone, works, worked, NoEnd, NotBroken, Away, back_from, notes, away, backup_of, run_by, lone_of, find_held, Enters, Ends, Takes}
 use Rattle.isolation.proofs.Active.{active_some, turn_moves, arrives_at}
 use Rattle.isolation.proofs.Ending.{settled_as, settled_doing}
 use Rattle.isolation.proofs.Fine.{Fine, settled_fine}
@@ -67,17 +67,14 @@ module _ (m : ℕ) (own : Module) (key text : List ℕ) (from : ℕ) where
       let q = arrived v m s in
       let w' : Away = record { since = Some i; sum = w.sum } in
       let k : Balance false (i + 1) w' (c + 0) = (i, refl, omega arith, let z = b.1 in omega arith) in
-      let k1 = subst (λ x. Balance false (i + 1) (away_if x w' w) (c + 0)) (sym (own_id m)) k in
-      let k2 = subst (λ es. Balance false (i + 1) (notes m i es w) (c + 0)) (sym (ap (λ u. u.events) t ∙ q.0)) k1 in
-      subst (λ x. Balance x (i + 1) (notes m i (turn left s).events w) (c + 0)) (sym (ap (λ u. is_id m u.state.active) t ∙ ap (is_id m) q.1)) k2
+      rw (t, q.0, q.1, own_id m) k
 
   held_turns : (left : ℕ) (s : State) (la : Lone) → Now m own key text from s la → is_id m s.active ≡ false → IsCore s.core → (i : ℕ) (w : Away) (c : ℕ) → Balance false i w c → Balance (is_id m (turn left s).state.active) (i + 1) (notes m i (turn left s).events w) (c + 0)
   held_turns left s la f out ok i w c b =
       let held : find_held m s.frames ≡ Some f.follows.backup = ap (λ x. run_by x m s) (sym out) ∙ f.follows.run in
       let idle = (held_turn m own key text s f.follows.keeps out ok f.follows.backup held left).1 in
       let k : Balance false (i + 1) w (c + 0) = (b.0, b.1, let z = b.2 in omega arith, let z = b.3 in omega arith) in
-      let k1 = subst (λ x. Balance false (i + 1) x (c + 0)) (sym (still_notes m i (turn left s).events w (turn_still m left s out))) k in
-      subst (λ x. Balance x (i + 1) (notes m i (turn left s).events w) (c + 0)) (sym idle) k1
+      rw (still_notes m i (turn left s).events w (turn_still m left s out), idle) k
 
   turns : (left : ℕ) (x : Bool) (s : State) (la : Lone) → Now m own key text from s la → is_id m s.active ≡ x → IsCore s.core → ((x && is_none (due s)) ≡ true → doing (job m own key text from) la ≢ Breaks) → (i : ℕ) (w : Away) (c : ℕ) → Balance x i w c → Balance (is_id m (turn left s).state.active) (i + 1) (notes m i (turn left s).events w) (c + cond (x && is_none (due s)) 1 0)
   turns left true s la f e ok nb i w c b = active_turns left (due s) s la f e ok refl nb i w c b
@@ -88,9 +85,7 @@ module _ (m : ℕ) (own : Module) (key text : List ℕ) (from : ℕ) where
   told_balance false es i w c t b = subst (λ y. Balance false i y c) (sym (still_notes m i es w t)) b
   told_balance true es i w c t b =
       let k : Balance true i (back_from (Some b.0) i w.sum) c = (refl, let z = b.3 in let y = b.2 in omega arith) in
-      let k1 = subst (λ o. Balance true i (back_from o i w.sum) c) (sym b.1) k in
-      let k2 = subst (λ y. Balance true i (away_if y (back_from w.since i w.sum) w) c) (sym (own_id m)) k1 in
-      subst (λ l. Balance true i (notes m i l w) c) (sym t) k2
+      rw (t, own_id m, b.1) k
 
   settles : (x : Bool) (s : State) (la : Lone) → Follows m own key text from s la → is_id m s.active ≡ x → NoEnd m (settle s).events → (i : ℕ) (w : Away) (c : ℕ) → Balance x i w c → Balance (is_id m (settle s).state.active) i (notes m i (settle s).events w) c
   settles true s la f e n i w c b =

@@ -28,7 +28,7 @@ use Rattle.cpu_step.specs.Lone.{Job, Lone, lone_byte, lone_who, unit_alone, is_a
 use Rattle.tracer.specs.declared.Event.{Event}
 use Rattle.written_machine.specs.Cycle.{Step, pc_of, byte_of, at_home, home_word, is_home, who_of, port_of, made_events, perform, attempt, act_by, act_on, act_home, act_first, act}
 use Rattle.written_machine.specs.Peers.{section}
-use Rattle.written_machine.specs.Ports.{Port, Got, Gots, read_in, read_byte, read_width, write_in, write_byte, write_width, take_reads, put_writes}
+use Rattle.written_machine.specs.Ports.{Port, read_in, read_byte, read_width, write_in, write_byte, write_width, take_reads, put_writes}
 use Rattle.written_machine.specs.State.{State}
 use Rattle.isolation.proofs.Bytes.{Out, get_part, part_set_in, part_set_out, cleared_set}
 use Rattle.isolation.proofs.Each.{Each}
@@ -134,21 +134,12 @@ module _ (m : ℕ) (own : Module) (t : Table) (sound : Sound m own t) (j : Job) 
   read_in_same p a h = ap (λ b. read_in b p a) (not_low a h)
 
   read_same : (w : Width) (p : Port) (text_is : section own.text p.memory ≡ j.text) (k : Kind) (a : ℕ) → InBy w in_sections a → read_width w p a ≡ record { port = p; value = lone_read j (section own.ram p.memory) (record { kind = k; addr = a; width = w }) }
-  read_same Byte p text_is k a h =
-      let build : ℕ → Got = λ v. record { port = p; value = v } in
-      read_in_same p a h ∙ ap build (same_byte p.memory text_is a h)
-  read_same Word p text_is k a h =
-      let lo : Got = record { port = p; value = get_or p.memory a 0 } in
-      let join : Got → Got → Got = λ x y. record { port = y.port; value = x.value + 256 * y.value } in
-      let build : ℕ → Got = λ v. record { port = p; value = v } in
-      ap (λ g. join g (read_byte g.port (a + 1))) (read_in_same p a h.0) ∙ ap (join lo) (read_in_same p (a + 1) h.1) ∙ ap build (same_word p.memory text_is a h)
+  read_same Byte p text_is k a h = rw (read_in_same p a h, same_byte p.memory text_is a h) refl
+  read_same Word p text_is k a h = rw (read_in_same p a h.0, read_in_same p (a + 1) h.1, same_word p.memory text_is a h) refl
 
   pub reads_same : (xs : List Access) (p : Port) → section own.text p.memory ≡ j.text → Each (λ x. InBy x.width in_sections x.addr) xs → take_reads p xs ≡ record { port = p; values = map (lone_read j (section own.ram p.memory)) xs }
   reads_same [] p text_is h = refl
-  reads_same (x ∷ xs) p text_is h =
-      let g : Got = record { port = p; value = lone_read j (section own.ram p.memory) x } in
-      let join : Got → Gots → Gots = λ u v. record { port = v.port; values = u.value ∷ v.values } in
-      ap (λ u. join u (take_reads u.port xs)) (read_same x.width p text_is x.kind x.addr h.0) ∙ ap (join g) (reads_same xs p text_is h.1)
+  reads_same (x ∷ xs) p text_is h = rw (read_same x.width p text_is x.kind x.addr h.0, reads_same xs p text_is h.1) refl
 
   -- ---- writes
   pub record Writes (p q : Port) (d : List ℕ) : Type 0 where

@@ -21,7 +21,7 @@ use Rattle.tracer.specs.declared.Event.{Event}
 use Rattle.written_machine.specs.Cycle.{Settled, unsettled, pc_of, ticked, resume_from, close_of, in_text, leave_if, settle_by, settle_in, settle, vector_if, due, arrive_inside, enter_at, enter}
 use Rattle.written_machine.specs.State.{State}
 use Rattle.isolation.proofs.Bytes.{cleared_comm}
-use Rattle.isolation.proofs.Hide.{veil_core, veil_if, veil_frames, veil, veil_step, hide_by, hide, length_veiled, vector_veiled, held_ids_if}
+use Rattle.isolation.proofs.Hide.{veil_core, veil_if, veil_frames, veil, veil_step, hide_by, hide, length_veiled, vector_veiled}
 use Rattle.isolation.proofs.Rights.{Sound}
 use Rattle.sm_words.specs.Status.{is_gie}
 
@@ -64,8 +64,17 @@ module _ (m : ℕ) (own : Module) where
 
   -- ---- settling while another or none is active
   resume_by : (c : Bool) (b : Backup) (fs : List Frame) (s : State) →
-      (let x = veil_if c b in let u : State = record (veil m own s) { core = x.core; active = Some x.module; caller = x.caller; frames = veil_frames m fs; phase = Run x.rest; after = closing_after x.closing } in u)
-      ≡ hide_by c m own (record s { core = b.core; active = Some b.module; caller = b.caller; frames = fs; phase = Run b.rest; after = closing_after b.closing })
+      (let x = veil_if c b in
+      let u : Settled = record {
+        state = record (veil m own s) { core = x.core; active = Some x.module; caller = x.caller; frames = veil_frames m fs; phase = Run x.rest; after = closing_after x.closing };
+        events = Event.Resume x.module ∷ [];
+        left = 0;
+      } in u)
+      ≡ record {
+        state = hide_by c m own (record s { core = b.core; active = Some b.module; caller = b.caller; frames = fs; phase = Run b.rest; after = closing_after b.closing });
+        events = Event.Resume b.module ∷ [];
+        left = 0;
+      }
   resume_by true b fs s = refl
   resume_by false b fs s = refl
 
@@ -77,11 +86,7 @@ module _ (m : ℕ) (own : Module) where
     unsettled_veiled = ap unsettled (sym same_hidden)
 
     resume_veiled : (fs : List Frame) → resume_from (veil_frames m fs) (veil m own s) ≡ hide_settled m own (resume_from fs s)
-    resume_veiled (Held b ∷ fs) =
-        let build : State → ℕ → Settled = λ u id. record { state = u; events = Event.Resume id ∷ []; left = 0 } in
-        let x = veil_if (b.module == m) b in
-        let u : State = record (veil m own s) { core = x.core; active = Some x.module; caller = x.caller; frames = veil_frames m fs; phase = Run x.rest; after = closing_after x.closing } in
-        ap (λ i. build u i) (held_ids_if m (b.module == m) b) ∙ ap (λ v. build v b.module) (resume_by (b.module == m) b fs s)
+    resume_veiled (Held b ∷ fs) = resume_by (b.module == m) b fs s
     resume_veiled _ = unsettled_veiled
 
     close_veiled : (a : Option ℕ) (o : Option Module) → close_of a o (veil m own s) ≡ hide_settled m own (close_of a o s)
