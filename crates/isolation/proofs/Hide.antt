@@ -68,10 +68,7 @@ held_ids_if m false b = refl
 pub held_ids_veiled : (m : ℕ) (fs : List Frame) → held_ids (veil_frames m fs) ≡ held_ids fs
 held_ids_veiled m [] = refl
 held_ids_veiled m (Plain ∷ fs) = held_ids_veiled m fs
-held_ids_veiled m (Held b ∷ fs) =
-    let e = held_ids_if m (b.module == m) b in
-    let h = held_ids_veiled m fs in
-    ap (λ i. i ∷ held_ids (veil_frames m fs)) e ∙ ap (λ l. b.module ∷ l) h
+held_ids_veiled m (Held b ∷ fs) = rw (held_ids_if m (b.module == m) b, held_ids_veiled m fs) refl
 
 pub length_veiled : (m : ℕ) (fs : List Frame) → length (veil_frames m fs) ≡ length fs
 length_veiled m [] = refl
@@ -84,9 +81,7 @@ plain_veiled m (f ∷ fs) = refl
 module _ (m : ℕ) (own : Module) (t : Table) (sound : Sound m own t) where
   -- a word that is not the module's is seen
   word_cleared : (mem : List ℕ) (a : ℕ) → OutBy Word own.ram.start (size_of own.ram) a → word_at (λ x. get_or (cleared own.ram.start (size_of own.ram) mem) x 0) a ≡ word_at (λ x. get_or mem x 0) a
-  word_cleared mem a out =
-      ap (λ b. b + 256 * get_or (cleared own.ram.start (size_of own.ram) mem) (a + 1) 0) (get_cleared own.ram.start (size_of own.ram) mem a out.0)
-      ∙ ap (λ b. get_or mem a 0 + 256 * b) (get_cleared own.ram.start (size_of own.ram) mem (a + 1) out.1)
+  word_cleared mem a out = rw (get_cleared own.ram.start (size_of own.ram) mem a out.0, get_cleared own.ram.start (size_of own.ram) mem (a + 1) out.1) refl
 
   vector_out : (a : ℕ) → 65504 ≤ a → Out own.ram.start (size_of own.ram) a
   vector_out a h low = let e = sound.own_ok.ram_ok.high in let o = sound.own_ok.ram_ok.order in omega arith

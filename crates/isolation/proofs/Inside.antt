@@ -1,5 +1,5 @@
 -- What the module does while it is active is what it does by itself.
-use Rattle.std.proofs.Common.{◌≡◌, ℕ, ◌+◌, ◌-◌, ◌*◌, ◌/◌, ◌%◌, List, [], ◌∷◌, get_or, set, map, refl, sym, ap, ◌∙◌, subst, arith, Bool, true, false, nat_lt, cond, not, ◌&&◌, ◌||◌, ◌==◌, Option, Some, None, ⊎_elim}
+use Rattle.std.proofs.Common.{◌≡◌, ℕ, ◌+◌, ◌-◌, ◌*◌, ◌/◌, ◌%◌, List, [], ◌∷◌, get_or, set, map, refl, sym, ap, ◌∙◌, subst, arith, Bool, true, false, nat_lt, cond, not, ◌&&◌, ◌||◌, Option, Some, None, ⊎_elim}
 use Rattle.std.proofs.lemmas.Bool.{cases_lt, not-true, and_parts, or_cases, or_right}
 use Rattle.std.proofs.lemmas.Bool.Decides.{nat_tests}
 use Rattle.sm_words.specs.Words.{cleared, reg, word_at}
@@ -25,10 +25,9 @@ use Rattle.attest.specs.Units.{Doer, UnitName, Unprotect, Protect, Attest, Tag, 
 use Rattle.cpu_step.specs.Asked.{asks, effect, table_after}
 use Rattle.cpu_step.specs.Fetched.{later_word, insn_at}
 use Rattle.cpu_step.specs.Lone.{Job, Lone, lone_byte, lone_who, unit_alone, is_alone, is_inside, all_inside, text_word, lone_read, lone_write, lone_writes, may_do, if_home, next_first, next_insn, lone_does}
-use Rattle.tracer.specs.declared.Event.{Event}
 use Rattle.written_machine.specs.Cycle.{Step, pc_of, byte_of, at_home, home_word, is_home, who_of, port_of, made_events, perform, attempt, act_by, act_on, act_home, act_first, act}
 use Rattle.written_machine.specs.Peers.{section}
-use Rattle.written_machine.specs.Ports.{Port, read_in, read_byte, read_width, write_in, write_byte, write_width, take_reads, put_writes}
+use Rattle.written_machine.specs.Ports.{Port, read_in, read_byte, read_width, write_byte, write_width, take_reads, put_writes}
 use Rattle.written_machine.specs.State.{State}
 use Rattle.isolation.proofs.Bytes.{Out, get_part, part_set_in, part_set_out, cleared_set}
 use Rattle.isolation.proofs.Each.{Each}
@@ -127,8 +126,7 @@ module _ (m : ℕ) (own : Module) (t : Table) (sound : Sound m own t) (j : Job) 
         ∙ ap (λ o. cond (holds o.text a) (get_or j.text (a - o.text.start) 0) (get_or (section own.ram mem) (a - o.ram.start) 0)) (sym owner)
 
     same_word : (a : ℕ) → InBy Word in_sections a → word_at (λ x. get_or mem x 0) a ≡ word_at (lone_byte j (section own.ram mem)) a
-    same_word a h =
-        ap (λ b. b + 256 * get_or mem (a + 1) 0) (same_byte a h.0) ∙ ap (λ b. lone_byte j (section own.ram mem) a + 256 * b) (same_byte (a + 1) h.1)
+    same_word a h = rw (same_byte a h.0, same_byte (a + 1) h.1) refl
 
   read_in_same : (p : Port) (a : ℕ) → in_sections a ≡ true → read_byte p a ≡ record { port = p; value = get_or p.memory a 0 }
   read_in_same p a h = ap (λ b. read_in b p a) (not_low a h)
@@ -161,15 +159,12 @@ module _ (m : ℕ) (own : Module) (t : Table) (sound : Sound m own t) (j : Job) 
       let r = ends_of own.ram a h in
       let lo = own.ram.start in
       let n = size_of own.ram in
-      let q : Port = record p { memory = set p.memory a v } in
-      let e : q ≡ write_byte p a v = ap (λ b. write_in b p a v) (sym (ram_low' a h)) in
-      let w : Writes p q (set (section own.ram p.memory) (a - lo) v) = record {
+      rw (ram_low' a h) (record {
         devices = refl;
         bytes = part_set_in lo n p.memory a v r.0 (omega (arith, r.0, r.1));
         rest = cleared_set lo n p.memory a v r.0 (omega (arith, r.0, r.1));
         text = part_set_out own.text.start (size_of own.text) p.memory a v (text_out a h);
-      } in
-      subst (λ u. Writes p u (set (section own.ram p.memory) (a - lo) v)) e w
+      })
 
   write_same : (w : Width) (p : Port) (a v : ℕ) → InBy w (λ x. holds own.ram x) a → Writes p (write_width w p a v) (lone_write own w (section own.ram p.memory) a v)
   write_same Byte p a v h = write_byte_same p a (v % 256) h
@@ -287,9 +282,7 @@ module _ (m : ℕ) (own : Module) (t : Table) (sound : Sound m own t) (j : Job) 
     own_is = ap (λ a. own_of a s.table) active_is ∙ ap (λ u. module_of m u) table_is ∙ sound.found ∙ ap Some (sym owner)
 
     made_none : (insn : Insn) → is_alone insn ≡ true → made_events s.table (table_after s.table insn s.core) ≡ []
-    made_none insn e =
-        let same : (s.table.given == s.table.given) ≡ true = grind (arith, nat_tests) in
-        ap (λ u. made_events s.table u) (table_alone insn s.table s.core e) ∙ ap (λ b. cond b [] (Event.Protect s.table.given ∷ [])) same
+    made_none insn e = rw (table_alone insn s.table s.core e, own_id s.table.given) refl
 
     pub perform_inside : (insn : Insn) → is_alone insn ≡ true → (xs : List Access) → asks (who_of s) insn s.core ≡ xs → (e : Effect) → effect (who_of s) insn s.core (map (lone_read j (section own.ram s.memory)) (reads_of xs)) ≡ e → Each (λ x. InBy x.width in_sections x.addr) (reads_of xs) → Each (λ x. InBy x.width (λ a. holds own.ram a) x.addr) (writes_of xs) → perform insn s ≡ record { state = record s { core = e.core; memory = (put_writes (port_of s) (writes_of xs) e.stored).memory; phase = Run (e.cycles - 1); after = closing_after e.closing }; events = [] }
     unfolding perform

@@ -26,21 +26,15 @@ pub text_cycles : (g : Marked) (n : ℕ) → text_of (cycle_moves g n) ≡ lines
 text_cycles g zero = refl
 text_cycles g (suc n) =
     let t = after_cycles g.present n in
-    text_append (cycle_moves g n) (cycle_move (at_state g t) ∷ [])
-    ∙ ap (λ l. l ++ (lines_of t.cycle (cycle t).events ++ [])) (text_cycles g n)
-    ∙ ap (λ l. lines_after g.present n ++ l) (append-nil (lines_of t.cycle (cycle t).events))
+    rw (text_append (cycle_moves g n) (cycle_move (at_state g t) ∷ []), text_cycles g n, append-nil (lines_of t.cycle (cycle t).events)) refl
 
 -- n cycles and m more
 pub cycles_split : (g : Marked) (n m : ℕ) → cycle_moves g (n + m) ≡ cycle_moves g n ++ cycle_moves (at_state g (after_cycles g.present n)) m
 cycles_split g n zero = (let e : n + 0 ≡ n = omega arith in ap (cycle_moves g) e) ∙ sym (append-nil (cycle_moves g n))
 cycles_split g n (suc m) =
     let e : n + suc m ≡ suc (n + m) = omega arith in
-    let last : State → List Move = λ t. cycle_move (at_state g t) ∷ [] in
     let h = at_state g (after_cycles g.present n) in
-    ap (cycle_moves g) e
-    ∙ ap (λ l. l ++ last (after_cycles g.present (n + m))) (cycles_split g n m)
-    ∙ ap (λ t. (cycle_moves g n ++ cycle_moves h m) ++ last t) (state_split g.present n m)
-    ∙ append_assoc (cycle_moves g n) (cycle_moves h m) (last (after_cycles h.present m))
+    rw (e, cycles_split g n m, state_split g.present n m) (append_assoc (cycle_moves g n) (cycle_moves h m) (cycle_move (at_state g (after_cycles h.present m)) ∷ []))
   where
     state_split : (s : State) (n m : ℕ) → after_cycles s (n + m) ≡ after_cycles (after_cycles s n) m
     state_split s n zero = let e : n + 0 ≡ n = omega arith in ap (after_cycles s) e

@@ -54,8 +54,7 @@ module _ (m : ℕ) where
   unfolding coarse_frame
   frames_coarse [] = refl
   frames_coarse (Plain ∷ fs) = ap (λ l. SeenPlain ∷ l) (frames_coarse fs)
-  frames_coarse (Held b ∷ fs) =
-      ap (λ x. x ∷ map coarse_frame (map (seen_frame (Only m)) fs)) (frame_by (b.module == m) b) ∙ ap (λ l. SeenHidden b.module ∷ l) (frames_coarse fs)
+  frames_coarse (Held b ∷ fs) = rw (frame_by (b.module == m) b, frames_coarse fs) refl
 
   byte_coarse : (p : Place) (b : ℕ) → coarse_byte p (seen_byte (Only m) p b) ≡ seen_byte AllHidden p b
   unfolding coarse_byte
