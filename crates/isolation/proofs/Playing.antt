@@ -190,12 +190,9 @@ module _ (a b : Image) (m : ℕ) (schedule : List Scheduled) (peers : Peers a b 
       let x = at_a k ks in
       let y = at_b k ks in
       let h = line_same l k ks in
-      text_append (line_moves x l) (moves (led x (line_moves x l)) ls)
-      ∙ ap (λ t. t ++ text_of (moves (led x (line_moves x l)) ls)) h.text
-      ∙ ap (λ g. text_of (line_moves y l) ++ text_of (moves g ls)) h.leads.one
-      ∙ ap (λ t. text_of (line_moves y l) ++ t) (plays_from ls h.leads.number h.leads.numbers)
-      ∙ ap (λ g. text_of (line_moves y l) ++ text_of (moves g ls)) (sym h.leads.other)
-      ∙ sym (text_append (line_moves y l) (moves (led y (line_moves y l)) ls))
+      let first = text_append (line_moves x l) (moves (led x (line_moves x l)) ls) in
+      let second = text_append (line_moves y l) (moves (led y (line_moves y l)) ls) in
+      rw (first, second, h.text, h.leads.one, h.leads.other, plays_from ls h.leads.number h.leads.numbers) refl
 
   pub plays_equal : (ls : List ScriptLine) → play (unmarked most (boot a schedule)) ls ≡ play (unmarked most (boot b schedule)) ls
   plays_equal ls = plays_from ls 0 []

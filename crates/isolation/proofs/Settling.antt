@@ -1,5 +1,5 @@
 -- Settling, ticking and arriving, with one module hidden.
-use Rattle.std.proofs.Common.{◌≡◌, ℕ, zero, ◌*◌, ◌/◌, ◌%◌, List, [], ◌∷◌, length, refl, sym, ap, ◌∙◌, arith, Bool, true, false, nat_lt, ◌&&◌, ◌==◌, Option, Some, None}
+use Rattle.std.proofs.Common.{◌≡◌, ℕ, zero, ◌*◌, ◌/◌, ◌%◌, List, [], ◌∷◌, refl, sym, ap, ◌∙◌, arith, Bool, true, false, ◌==◌, Option, Some, None}
 use Rattle.isolation.proofs.Tame.{ticked_active}
 use Rattle.sm_words.specs.Words.{reg}
 use Rattle.mod_layout.specs.Table.{Table, place_of, size_of}
@@ -7,7 +7,6 @@ use Rattle.mod_layout.specs.declared.Module.{Module}
 use Rattle.mod_layout.specs.declared.Place.{Place}
 use Rattle.mod_layout.specs.declared.Place.TheVariants.{Entry}
 use Rattle.pc_access.specs.Rights.{is_id}
-use Rattle.devices.specs.Devices.{line_of}
 use Rattle.reg_backup.specs.Saved.{closing_after}
 use Rattle.reg_backup.specs.declared.backup.After.{After}
 use Rattle.reg_backup.specs.declared.backup.After.TheVariants.{Next, Handler, Resume, Close}
@@ -18,7 +17,7 @@ use Rattle.reg_backup.specs.declared.frames.Frame.{Frame}
 use Rattle.reg_backup.specs.declared.frames.Frame.TheVariants.{Module as Held}
 use Rattle.attest.specs.Done.{own_of}
 use Rattle.tracer.specs.declared.Event.{Event}
-use Rattle.written_machine.specs.Cycle.{Settled, unsettled, pc_of, ticked, resume_from, close_of, in_text, leave_if, settle_by, settle_in, settle, vector_if, due, arrive_inside, enter_at, enter}
+use Rattle.written_machine.specs.Cycle.{Settled, unsettled, pc_of, ticked, resume_from, close_of, in_text, leave_if, settle_by, settle_in, settle, due, arrive_inside, enter_at, enter}
 use Rattle.written_machine.specs.State.{State}
 use Rattle.isolation.proofs.Bytes.{cleared_comm}
 use Rattle.isolation.proofs.Hide.{veil_core, veil_if, veil_frames, veil, veil_step, hide_by, hide, length_veiled, vector_veiled}
@@ -48,10 +47,8 @@ module _ (m : ℕ) (own : Module) where
 
   due_by : (b : Bool) (s : State) → due (hide_by b m own s) ≡ due s
   unfolding due
-  due_by false s = ap (λ n. vector_if (is_gie s.core && nat_lt n 8) (line_of s.devices)) (length_veiled m s.frames)
-  due_by true s =
-      ap (λ n. vector_if (is_gie (veil_core s.core) && nat_lt n 8) (line_of s.devices)) (length_veiled m s.frames)
-      ∙ ap (λ g. vector_if (g && nat_lt (length s.frames) 8) (line_of s.devices)) (gie_veiled s.core)
+  due_by false s = rw (length_veiled m s.frames) refl
+  due_by true s = rw (length_veiled m s.frames, gie_veiled s.core) refl
 
   pub due_hidden : (s : State) → due (hide m own s) ≡ due s
   due_hidden s = due_by (is_id m s.active) s

@@ -10,7 +10,7 @@ use Rattle.reg_backup.specs.declared.backup.Backup.{Backup}
 use Rattle.reg_backup.specs.declared.frames.Frame.{Frame}
 use Rattle.reg_backup.specs.declared.frames.Frame.TheVariants.{Plain, Module as Held}
 use Rattle.tracer.specs.Lines.{end_line_at}
-use Rattle.written_machine.specs.Cycle.{cycle, after_cycles}
+use Rattle.written_machine.specs.Cycle.{cycle}
 use Rattle.written_machine.specs.Peers.{Peers}
 use Rattle.written_machine.specs.Standing.{stands_at}
 use Rattle.written_machine.specs.State.{State}
@@ -122,10 +122,7 @@ module _ (a b : Image) (m : ℕ) (schedule : List Scheduled) (peers : Peers a b 
 
   pub lines_from : (k n : ℕ) → lines_after (at a schedule k) n ≡ lines_after (at b schedule k) n
   lines_from k zero = refl
-  lines_from k (suc n) =
-      let line : State → List ℕ = λ t. lines_of t.cycle (cycle t).events in
-      ap (λ l. l ++ line (after_cycles (at a schedule k) n)) (lines_from k n)
-      ∙ ap (λ l. lines_after (at b schedule k) n ++ l) (ap line (after_more a schedule k n) ∙ lines_same (n + k) ∙ ap line (sym (after_more b schedule k n)))
+  lines_from k (suc n) = rw (lines_from k n, after_more a schedule k n, after_more b schedule k n, lines_same (n + k)) refl
 
   pub ends_same : (k : ℕ) → end_line_of (at a schedule k) ≡ end_line_of (at b schedule k)
   ends_same k = end_lines m (at a schedule k) (at b schedule k) (views_equal a b m schedule peers k)
