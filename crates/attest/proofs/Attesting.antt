@@ -1,5 +1,5 @@
 -- The rows of attest.
-use Rattle.std.proofs.Common.{◌≡◌, ℕ, ◌+◌, ◌-◌, ◌*◌, ◌≤◌, List, [], ◌++◌, length, take, drop, Bool, true, if◌then◌else◌, Option, Some, None, sym, ◌∙◌, ap, arith, slice_range, append_assoc, append-nil, drop-drop}
+use Rattle.std.proofs.Common.{refl, ◌≡◌, ℕ, ◌+◌, ◌-◌, ◌*◌, ◌≤◌, List, [], ◌++◌, length, take, drop, Bool, true, if◌then◌else◌, Option, Some, None, sym, ◌∙◌, ap, arith, slice_range, append_assoc, append-nil, drop-drop}
 use Rattle.std.proofs.lemmas.List.{take_at, drop_at}
 use Rattle.sm_words.specs.Words.{reg}
 use Rattle.mod_layout.specs.declared.Module.{Module}
@@ -48,9 +48,7 @@ module _ (who : Doer) (core : List ℕ) where
 
       pub plan_by : (b : Bool) → in_range at (at + 16) ≡ b → unit_plan who Attest core ≡ (if b then accesses else [])
       unfolding unit_plan
-      plan_by b e =
-          ap (λ o. attest_plan o (attested who core) at) own_is ∙ ap (λ o. attest_plan (Some own) o at) other_is
-          ∙ ap (λ (x : Bool). if x then accesses else []) e
+      plan_by b e = rw (own_is, other_is, e) refl
 
       abbrev whole : List ℕ → Effect
       whole values = answer core (if genuine who.key own other values then other.id else 0) (6 + 64 * blocks (size_of other.text + 8))
@@ -58,10 +56,7 @@ module _ (who : Doer) (core : List ℕ) where
       pub effect_by : (values : List ℕ) (b : Bool) → in_range at (at + 16) ≡ b →
           unit_effect who Attest core values ≡ (if b then whole values else answer core 0 6)
       unfolding unit_effect
-      effect_by values b e =
-          ap (λ o. attest_answer who.key o (attested who core) core values) own_is
-          ∙ ap (λ o. attest_answer who.key (Some own) o core values) other_is
-          ∙ ap (λ (x : Bool). if x then whole values else answer core 0 6) e
+      effect_by values b e = rw (own_is, other_is, e) refl
 
       -- the texts are refused to no one, so the 16 bytes decide
       pub denied_by : (active : Option ℕ) (held : List ℕ) (d : Option Denied) → IsTable who.table → own_of active who.table ≡ Some own →
@@ -72,13 +67,9 @@ module _ (who : Doer) (core : List ℕ) where
           let mine : first_denied t active held (text_reads own) ≡ None = own_text_allowed t active active held own ok found in
           let others : first_denied t active held (text_reads other) ≡ None =
           other_text_allowed t active (place_of t (reg core 12)) held other ok other_is in
-          ap (first_denied t active held) (plan_by true e)
-          ∙ denied-append t active held (each_byte Read at 16 ++ text_reads other) (text_reads own)
-          ∙ ap (λ x. or_else x (first_denied t active held (text_reads own))) (denied-append t active held (each_byte Read at 16) (text_reads other))
-          ∙ ap (or_else (or_else (first_denied t active held (each_byte Read at 16)) (first_denied t active held (text_reads other)))) mine
-          ∙ or_none (or_else (first_denied t active held (each_byte Read at 16)) (first_denied t active held (text_reads other)))
-          ∙ ap (or_else (first_denied t active held (each_byte Read at 16))) others
-          ∙ or_none (first_denied t active held (each_byte Read at 16)) ∙ bytes
+          let tag = each_byte Read at 16 in
+          rw (plan_by true e, denied-append t active held (tag ++ text_reads other) (text_reads own), denied-append t active held tag (text_reads other), mine, others, bytes)
+          (or_none (or_else d None) ∙ or_none d)
 
       module _ (mem : List ℕ) (size : length mem ≡ 65536) (own_ok : IsSection own.text) (other_ok : IsSection other.text) (e : in_range at (at + 16) ≡ true) (fits : at + 16 ≤ 65536) where
         values_are : values_in mem accesses ≡ slice_range mem at (at + 16) ++ (text_in mem other ++ text_in mem own)

@@ -1,5 +1,5 @@
 -- On accesses checked one by one.
-use Rattle.std.proofs.Common.{◌≡◌, ◌≢◌, ℕ, suc, ◌+◌, List, [], ◌∷◌, ◌++◌, Option, Some, None, refl, ◌∙◌, ap}
+use Rattle.std.proofs.Common.{◌≡◌, ◌≢◌, ℕ, suc, ◌+◌, List, [], ◌∷◌, ◌++◌, Option, Some, None, refl}
 use Rattle.sm_words.specs.declared.width.Width.TheVariants.{Byte}
 use Rattle.mod_layout.specs.declared.Place.{Place}
 use Rattle.mod_layout.specs.declared.Place.TheVariants.{Open}
@@ -32,16 +32,14 @@ pub denied-later : (t : Table) (active : Option ℕ) (held : List ℕ) (kind : K
     right t active [] (access_of kind a Byte) ≡ None →
     first_denied t active held (each_byte kind a n) ≡ first_denied t active held (each_byte kind (a + 1) m)
 denied-later t active held kind a n m plain e free =
-    ap (λ k. first_denied t active held (each_byte kind a k)) e
-    ∙ ap (λ d. or_else d (first_denied t active held (each_byte kind (a + 1) m))) (right-held t active held [] kind a plain ∙ free)
+    rw (e, right-held t active held [] kind a plain, free) refl
 
 -- where the first is refused it decides
 pub denied-now : (t : Table) (active : Option ℕ) (held : List ℕ) (kind : Kind) (a n m : ℕ) (d : Denied) → kind ≢ Fetch → n ≡ suc m →
     right t active [] (access_of kind a Byte) ≡ Some d →
     first_denied t active held (each_byte kind a n) ≡ Some d
 denied-now t active held kind a n m d plain e refused =
-    ap (λ k. first_denied t active held (each_byte kind a k)) e
-    ∙ ap (λ r. or_else r (first_denied t active held (each_byte kind (a + 1) m))) (right-held t active held [] kind a plain ∙ refused)
+    rw (e, right-held t active held [] kind a plain, refused) refl
 
 or_else-later : (d x y z : Option Denied) → z ≡ or_else x y → or_else d z ≡ or_else (or_else d x) y
 or_else-later None x y z e = e

@@ -89,10 +89,7 @@ open_ram given a new (y ∷ ms) are low high =
     let rest = place_in ms a in
     let past_text = elsewhere y.text new.ram a low high are.0.text_ok.order s.text_ram in
     let past_data = elsewhere y.ram new.ram a low high are.0.ram_ok.order s.rams in
-    ap (λ (b : Bool). place_by b (holds y.text a) (holds y.ram a) y.id rest) (no_entry y.text a are.0.text_ok (outside y.text a past_text))
-    ∙ ap (λ (b : Bool). place_by false b (holds y.ram a) y.id rest) (outside y.text a past_text)
-    ∙ ap (λ (b : Bool). place_by false false b y.id rest) (outside y.ram a past_data)
-    ∙ open_ram given a new ms are.2 low high
+    rw (no_entry y.text a are.0.text_ok (outside y.text a past_text), outside y.text a past_text, outside y.ram a past_data) (open_ram given a new ms are.2 low high)
 
 last_ok : (given : ℕ) (new : Module) (ms : List Module) → AreModules given (ms ++ new ∷ []) → IsModule given new
 last_ok given new [] are = are.0

@@ -1,5 +1,5 @@
 -- The rows of tag.
-use Rattle.std.proofs.Common.{◌≡◌, ℕ, ◌+◌, ◌-◌, ◌*◌, ◌≤◌, ◌<◌, List, [], ◌++◌, length, take, drop, Bool, true, false, if◌then◌else◌, ◌&&◌, Option, Some, None, sym, ◌∙◌, ap, slice_index, arith, slice_range, append_assoc, append-nil}
+use Rattle.std.proofs.Common.{refl, ◌≡◌, ℕ, ◌+◌, ◌-◌, ◌*◌, ◌≤◌, ◌<◌, List, [], ◌++◌, length, take, drop, Bool, true, false, if◌then◌else◌, ◌&&◌, Option, Some, None, sym, ◌∙◌, ap, slice_index, arith, slice_range, append_assoc, append-nil}
 use Rattle.std.proofs.lemmas.List.{take_at, drop_at}
 use Rattle.sm_words.specs.Words.{put, reg}
 use Rattle.mod_layout.specs.declared.Module.{Module}
@@ -55,8 +55,7 @@ module _ (who : Doer) (core : List ℕ) where
 
     pub effect_by : (values : List ℕ) (b : Bool) → in_ranges ≡ b → unit_effect who Tag core values ≡ (if b then whole values else answer core 0 6)
     unfolding unit_effect
-    effect_by values b e =
-        ap (λ o. tag_answer who.key o core values) own_is ∙ ap (λ (x : Bool). if x then whole values else answer core 0 6) e
+    effect_by values b e = rw (own_is, e) refl
 
     -- the text is refused to no one, so the message and then the output decide
     pub denied_by : (active : Option ℕ) (held : List ℕ) → IsTable who.table → own_of active who.table ≡ Some own → in_ranges ≡ true →
