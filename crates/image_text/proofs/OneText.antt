@@ -27,6 +27,7 @@ use Rattle.image_text.specs.Image.{Image, IsImage, AreNumbered}
 use Rattle.image_text.specs.ImageText.{ended, first_line, key_line, handler_line, count_line, module_line, row_line, end_line, count_text, modules_text, is_zero, rows_text, memory_text, text_after_key, image_text}
 use Rattle.image_text.specs.Refusal.{Spot, past, key_form, handler_form, module_form, row_form, fits, has_form, is_bad, bytes_at, word_at, section_at, count_of, is_row, rows_refusal, end_refusal, taken, added, one_less, modules_refusal, counted, count_refusal, handler_refusal, key_refusal, first_refusal, refusal_of}
 use Rattle.image_text.specs.Reading.{HasForm, due_next}
+use Rattle.image_text.proofs.WholeText.{few}
 use Rattle.image_text.proofs.FormLemmas.{formed_ok, marks, bytes_cons, bytes_nil, word_here, coded_at}
 use Rattle.image_text.proofs.StageLemmas.{Stage, none_due, one_due}
 
@@ -368,11 +369,7 @@ same_image i j a b c d =
     let e : ◌≡◌ {A = Image} record { memory = i.memory; table = i.table; node_key = i.node_key; handler_sp = i.handler_sp } j = rw (a, b, c, d) refl in e
 
 few_given : (i : Image) → IsImage i → i.table.given ≤ 32
-few_given i h =
-    let t = h.table_ok in
-    let f = t.fits in
-    let a = h.all_held in
-    ⊎_elim (λ e. omega (arith, e, f, a)) (λ e. omega (arith, e, f, a)) t.room_ok
+few_given i h = let t = h.table_ok in few i.table.given i.table.room (omega (arith, t.fits, h.all_held)) t.room_ok
 
 -- no other image has the text of an image
 pub images_of_one_text : (i j : Image) → IsImage i → IsImage j → image_text i ≡ image_text j → i ≡ j
@@ -626,7 +623,7 @@ text_has_no_refusal i h =
     let more : List ℕ = modules_text i.table.modules rest in
     let len : length (drop 512 i.memory) ≡ 16 * 4064 = omega (arith, f, length-drop 512 i.memory) in
     let are = bytes_drop 512 i.memory h.bytes in
-    let small : i.table.room ≤ 32 = ⊎_elim (λ e. omega (arith, e)) (λ e. omega (arith, e)) t.room_ok in
+    let small : i.table.room ≤ 32 = few i.table.room i.table.room (omega arith) t.room_ok in
     let after : (left : Option ℕ) (q : Spot) → AreDue left i.table.given → says (modules_refusal (empty_table i.table.room) left) q more ≡ None =
     λ left q due. modules_ok i.table.modules [] 0 i.table.given i.table.room left q rest refl (omega (arith, fits)) small h.numbered t.modules tt (subst (AreDue left) (sym held) due)
     (rows_not_due 4064 512 (drop 512 i.memory) (omega arith) len are)

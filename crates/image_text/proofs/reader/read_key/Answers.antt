@@ -25,15 +25,3 @@ returns-clause-passed c = λ room.
       refusal = line_on (key_refusal room) c.args.lines.now c.next.new.self c.in_ok-line.line.text.now r ∙ formed_ok key_form c.args.lines.now.spot c.in_ok-line.line.text.now _ c.in_ok-formed.ensures.ok
           ∙ next_on (handler_refusal room) c.args.lines.now c.next.new.self c.in_ok-line.line.text.now r;
     }
-
-pub returns-clause-bytes : goal.returns-clause-bytes
-returns-clause-bytes c =
-    let k = key_line_of c.in_ok-line.line.text.now c.in_ok-formed.ensures.ok in
-    let r = k.coded in
-    rw c.sixteen_at.ensures r.are_bytes
-
-pub returns-clause-sixteen : goal.returns-clause-sixteen
-returns-clause-sixteen c =
-    let k = key_line_of c.in_ok-line.line.text.now c.in_ok-formed.ensures.ok in
-    let r = k.coded in
-    rw c.sixteen_at.ensures r.count
