@@ -166,21 +166,6 @@ after_digits (suc n) form (a ∷ b ∷ line) h =
 
 -- ---- words of a form
 
-record TwoBytes (bytes : List ℕ) : Type 0 where
-  pub word : ℕ
-  pub small : word < 65536
-  pub is : word / 256 ∷ word % 256 ∷ [] ≡ bytes
-
-two_bytes : (bytes : List ℕ) → length bytes ≡ 2 → IsBytes bytes → TwoBytes bytes
-two_bytes (a ∷ b ∷ []) e h =
-    let la : a < 256 = h 0 in
-    let lb : b < 256 = h 1 in
-    let ea : (256 * a + b) / 256 ≡ a = omega arith in
-    let eb : (256 * a + b) % 256 ≡ b = omega arith in
-    let all : (256 * a + b) / 256 ∷ (256 * a + b) % 256 ∷ [] ≡ a ∷ b ∷ [] = cc in
-    record { word = 256 * a + b; small = omega arith; is = all }
-two_bytes _ e h = absurd (omega arith)
-
 pub record AfterFour (form line : List ℕ) : Type 0 where
   pub word : ℕ
   pub rest : List ℕ
@@ -191,10 +176,20 @@ pub record AfterFour (form line : List ℕ) : Type 0 where
 -- the four digits of a word
 pub after_four : (form line : List ℕ) → HasForm (35 ∷ 35 ∷ 35 ∷ 35 ∷ form) line → AfterFour form line
 unfolding encode_with
-after_four form line h =
-    let d = after_digits 2 form line h in
-    let t = two_bytes d.bytes d.count d.are in
-    record { word = t.word; rest = d.rest; is = d.is ∙ ap (λ (l : List ℕ). encode_lower l ++ d.rest) (sym t.is); small = t.small; next = d.next }
+after_four form line h = by d.bytes d.is d.are d.count
+  where
+    d : AfterDigits 2 form line
+    d = after_digits 2 form line h
+
+    by : (bytes : List ℕ) → line ≡ encode_lower bytes ++ d.rest → IsBytes bytes → length bytes ≡ 2 → AfterFour form line
+    by (a ∷ b ∷ []) is are e =
+        let high : a < 256 = are 0 in
+        let low : b < 256 = are 1 in
+        let first : (256 * a + b) / 256 ≡ a = omega arith in
+        let last : (256 * a + b) % 256 ≡ b = omega arith in
+        let same : (256 * a + b) / 256 ∷ (256 * a + b) % 256 ∷ [] ≡ a ∷ b ∷ [] = cc in
+        record { word = 256 * a + b; rest = d.rest; is = is ∙ ap (λ (l : List ℕ). encode_lower l ++ d.rest) (sym same); small = omega arith; next = d.next }
+    by _ is are e = absurd (omega arith)
 
 -- a word at a place of a line
 pub word_here : (line rest : List ℕ) (from w : ℕ) → w < 65536 → drop from line ≡ hex_word w ++ rest → CodedAt line from 2 × (word_at from line ≡ w)
