@@ -62,9 +62,9 @@ first_clash-says clash earlier (x ∷ xs) pairs = by (first_with clash earlier x
   where
     by : (o : Option ℕ) → first_with clash earlier x ≡ o
         → (AllPairs (λ a b. clash a b ≡ false) (earlier ++ x ∷ []) → MatchOption (clash_after clash (earlier ++ x ∷ []) xs)
-            (AllPairs (λ a b. clash a b ≡ false) ((earlier ++ x ∷ []) ++ xs)) (IsFirst clash ((earlier ++ x ∷ []) ++ xs)))
+        (AllPairs (λ a b. clash a b ≡ false) ((earlier ++ x ∷ []) ++ xs)) (IsFirst clash ((earlier ++ x ∷ []) ++ xs)))
         → MatchOption (or_later o (length earlier) (clash_after clash (earlier ++ x ∷ []) xs))
-            (AllPairs (λ a b. clash a b ≡ false) (earlier ++ x ∷ xs)) (IsFirst clash (earlier ++ x ∷ xs))
+        (AllPairs (λ a b. clash a b ≡ false) (earlier ++ x ∷ xs)) (IsFirst clash (earlier ++ x ∷ xs))
     by None e more =
         let front = all_pairs_push (λ a b. clash a b ≡ false) earlier x pairs (none_before (λ y. clash y x) earlier e) in
         let joined : (earlier ++ x ∷ []) ++ xs ≡ earlier ++ x ∷ xs = rw append_assoc refl in
