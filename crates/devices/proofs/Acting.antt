@@ -40,7 +40,8 @@ happens_if-counts false w d = refl
 scheduled-past : (f : Devices → Devices) → ((b : Bool) (w : What) (d : Devices) → f (happens_if b w d) ≡ happens_if b w (f d))
     → (es : List Entry) (k : ℕ) (d : Devices) → f (scheduled es k d) ≡ scheduled es k (f d)
 scheduled-past f each [] k d = refl
-scheduled-past f each (e ∷ es) k d = scheduled-past f each es k (happens_if (nat_eq e.cycle k) e.what d) ∙ ap (scheduled es k) (each (nat_eq e.cycle k) e.what d)
+scheduled-past f each (e ∷ es) k d =
+    scheduled-past f each es k (happens_if (nat_eq e.cycle k) e.what d) ∙ ap (scheduled es k) (each (nat_eq e.cycle k) e.what d)
 
 pub scheduled-counted_by : (n : ℕ) (es : List Entry) (k : ℕ) (d : Devices) → counted_by n (scheduled es k d) ≡ scheduled es k (counted_by n d)
 scheduled-counted_by zero es k d = refl
@@ -106,7 +107,8 @@ within-first (e ∷ es) low k h d r more = by (nat_lt e.cycle k) refl (nat_eq e.
         let b : nat_le (k + 1) e.cycle ≡ true = grind (arith, nat_tests) in
         let later : k < e.cycle = grind (arith, nat_tests) in
         let x : Devices = happens_if (nat_lt e.cycle h) e.what d in
-        rw (a, b, other, scheduled-later es e.cycle k d r.1 later) (rest x ∙ ap (acted_within (k + 1) h es) (scheduled-later es e.cycle k x r.1 later))
+        rw (a, b, other, scheduled-later es e.cycle k d r.1 later)
+        (rest x ∙ ap (acted_within (k + 1) h es) (scheduled-later es e.cycle k x r.1 later))
 
 within-none : (es : List Entry) (k h : ℕ) (d : Devices) → h ≤ k → acted_within k h es d ≡ d
 within-none [] k h d less = refl

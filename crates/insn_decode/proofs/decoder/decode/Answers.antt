@@ -20,7 +20,8 @@ is_none_at None e = search rules
 is_none_at (Some insn) e = absurd cc
 
 pub returns-clause-form : goal.returns-clause-form
-returns-clause-form c = if_some HasForm c.by_form.result (λ insn e. means_form (insn_means c.args.w0 c.args.w1 c.args.w2 insn (sym c.by_form.ensures ∙ e)))
+returns-clause-form c =
+    if_some HasForm c.by_form.result (λ insn e. means_form (insn_means c.args.w0 c.args.w1 c.args.w2 insn (sym c.by_form.ensures ∙ e)))
 
 pub returns-clause-outside : goal.returns-clause-outside
 returns-clause-outside c = (
@@ -30,7 +31,8 @@ returns-clause-outside c = (
 
 pub returns-clause-length : goal.returns-clause-length
 returns-clause-length c =
-    if_some (λ insn. length_of insn ≡ length_at c.args.w0) c.by_form.result (λ insn e. length_same c.args.w0 c.args.w1 c.args.w2 insn (sym c.by_form.ensures ∙ e))
+    if_some (λ insn. length_of insn ≡ length_at c.args.w0) c.by_form.result
+    (λ insn e. length_same c.args.w0 c.args.w1 c.args.w2 insn (sym c.by_form.ensures ∙ e))
 
 pub returns-clause-one_word : goal.returns-clause-one_word
 returns-clause-one_word c h v1 v2 = unread_both c.args.w0 c.args.w1 c.args.w2 v1 v2 h ∙ sym c.by_form.ensures
