@@ -36,22 +36,21 @@ happens_if-counts : (b : Bool) (w : What) (d : Devices) → counts (happens_if b
 happens_if-counts true w d = happens-counts w d
 happens_if-counts false w d = refl
 
-scheduled-counts : (es : List Entry) (k : ℕ) (d : Devices) → counts (scheduled es k d) ≡ scheduled es k (counts d)
-scheduled-counts [] k d = refl
-scheduled-counts (e ∷ es) k d = scheduled-counts es k (happens_if (nat_eq e.cycle k) e.what d) ∙ ap (scheduled es k) (happens_if-counts (nat_eq e.cycle k) e.what d)
+-- what goes past each that happens goes past a schedule
+scheduled-past : (f : Devices → Devices) → ((b : Bool) (w : What) (d : Devices) → f (happens_if b w d) ≡ happens_if b w (f d))
+    → (es : List Entry) (k : ℕ) (d : Devices) → f (scheduled es k d) ≡ scheduled es k (f d)
+scheduled-past f each [] k d = refl
+scheduled-past f each (e ∷ es) k d =
+    scheduled-past f each es k (happens_if (nat_eq e.cycle k) e.what d) ∙ ap (scheduled es k) (each (nat_eq e.cycle k) e.what d)
 
 pub scheduled-counted_by : (n : ℕ) (es : List Entry) (k : ℕ) (d : Devices) → counted_by n (scheduled es k d) ≡ scheduled es k (counted_by n d)
 scheduled-counted_by zero es k d = refl
-scheduled-counted_by (suc n) es k d = ap (counted_by n) (scheduled-counts es k d) ∙ scheduled-counted_by n es k (counts d)
+scheduled-counted_by (suc n) es k d = ap (counted_by n) (scheduled-past counts happens_if-counts es k d) ∙ scheduled-counted_by n es k (counts d)
 
 -- nothing that happens sends a byte
 happens_if-clear : (b : Bool) (w : What) (d : Devices) → clear (happens_if b w d) ≡ happens_if b w (clear d)
 happens_if-clear true (Serial b) d = refl
 happens_if-clear _ _ d = refl
-
-scheduled-clear : (es : List Entry) (k : ℕ) (d : Devices) → clear (scheduled es k d) ≡ scheduled es k (clear d)
-scheduled-clear [] k d = refl
-scheduled-clear (e ∷ es) k d = scheduled-clear es k (happens_if (nat_eq e.cycle k) e.what d) ∙ ap (scheduled es k) (happens_if-clear (nat_eq e.cycle k) e.what d)
 
 counts_by-clear : (r q : Bool) (d : Devices) → clear (counts_by r q d) ≡ counts_by r q (clear d)
 counts_by-clear true true d = refl
@@ -61,7 +60,7 @@ cleared-counts : (n : ℕ) (es : List Entry) (k : ℕ) (d : Devices) → cleared
 cleared-counts zero es k d = refl
 cleared-counts (suc n) es k d =
     let x : Devices = scheduled es k (clear d) in
-    counts_by-clear x.running (nat_eq x.count x.limit) x ∙ ap counts (scheduled-clear es k (clear d))
+    counts_by-clear x.running (nat_eq x.count x.limit) x ∙ ap counts (scheduled-past clear happens_if-clear es k (clear d))
 
 -- nothing changes the schedule
 happens_if-schedule : (b : Bool) (w : What) (d : Devices) → (happens_if b w d).schedule ≡ d.schedule
@@ -97,27 +96,19 @@ within-first (e ∷ es) low k h d r more = by (nat_lt e.cycle k) refl (nat_eq e.
         let a : nat_le k e.cycle ≡ false = grind (arith, nat_tests) in
         let b : nat_le (k + 1) e.cycle ≡ false = grind (arith, nat_tests) in
         let q : nat_eq e.cycle k ≡ false = grind (arith, nat_tests) in
-        ap (λ x. acted_within k h es (happens_if (x && nat_lt e.cycle h) e.what d)) a ∙ rest d
-        ∙ sym (ap (λ x. acted_within (k + 1) h es (happens_if (x && nat_lt e.cycle h) e.what (scheduled es k (happens_if (nat_eq e.cycle k) e.what d)))) b
-        ∙ ap (λ x. acted_within (k + 1) h es (scheduled es k (happens_if x e.what d))) q)
+        rw (a, b, q) (rest d)
     by false above true same rest =
         let a : nat_le k e.cycle ≡ true = grind (arith, nat_tests) in
         let b : nat_le (k + 1) e.cycle ≡ false = grind (arith, nat_tests) in
         let l : nat_lt e.cycle h ≡ true = grind (arith, nat_tests) in
-        ap (λ x. acted_within k h es (happens_if (x && nat_lt e.cycle h) e.what d)) a
-        ∙ ap (λ x. acted_within k h es (happens_if x e.what d)) l ∙ rest (happens e.what d)
-        ∙ sym (ap (λ x. acted_within (k + 1) h es (happens_if (x && nat_lt e.cycle h) e.what (scheduled es k (happens_if (nat_eq e.cycle k) e.what d)))) b
-        ∙ ap (λ x. acted_within (k + 1) h es (scheduled es k (happens_if x e.what d))) same)
+        rw (a, b, l, same) (rest (happens e.what d))
     by false above false other rest =
         let a : nat_le k e.cycle ≡ true = grind (arith, nat_tests) in
         let b : nat_le (k + 1) e.cycle ≡ true = grind (arith, nat_tests) in
         let later : k < e.cycle = grind (arith, nat_tests) in
         let x : Devices = happens_if (nat_lt e.cycle h) e.what d in
-        ap (λ y. acted_within k h es (happens_if (y && nat_lt e.cycle h) e.what d)) a ∙ rest x
-        ∙ ap (acted_within (k + 1) h es) (scheduled-later es e.cycle k x r.1 later)
-        ∙ sym (ap (λ y. acted_within (k + 1) h es (happens_if (y && nat_lt e.cycle h) e.what (scheduled es k (happens_if (nat_eq e.cycle k) e.what d)))) b
-        ∙ ap (λ y. acted_within (k + 1) h es (happens_if (nat_lt e.cycle h) e.what (scheduled es k (happens_if y e.what d)))) other
-        ∙ ap (λ y. acted_within (k + 1) h es (happens_if (nat_lt e.cycle h) e.what y)) (scheduled-later es e.cycle k d r.1 later))
+        rw (a, b, other, scheduled-later es e.cycle k d r.1 later)
+        (rest x ∙ ap (acted_within (k + 1) h es) (scheduled-later es e.cycle k x r.1 later))
 
 within-none : (es : List Entry) (k h : ℕ) (d : Devices) → h ≤ k → acted_within k h es d ≡ d
 within-none [] k h d less = refl

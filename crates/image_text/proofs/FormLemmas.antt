@@ -2,7 +2,7 @@
 use Rattle.std.proofs.Common.{◌≡◌, ◌≢◌, ℕ, zero, suc, ◌+◌, ◌*◌, ◌-◌, ◌/◌, ◌%◌, ◌<◌, List, [], ◌∷◌, ◌++◌, length, take, drop, get_or, slice_range, Bool, true, false, nat_lt, cond, not, ◌&&◌, ◌==◌, Option, Some, None, unwrap_or, refl, sym, ap, ◌∙◌, subst, arith, length-drop, length-append}
 use Rattle.std.proofs.lemmas.List.{take_at}
 use Rattle.std.proofs.lemmas.Bool.Decides.{nat_tests}
-use Rattle.std.proofs.lemmas.Bool.{and_parts}
+use Rattle.std.proofs.lemmas.Bool.{and_parts, not-false}
 use Rattle.hex.specs.Hex.{IsBytes, lower_digits, encode_with, encode_lower}
 use Rattle.hex.proofs.HexLemmas.{length-encode_with}
 use Rattle.texts.specs.Hexadecimals.{is_hex_digit, read_hex, read_hex_word}
@@ -104,13 +104,6 @@ digit_is c e =
     let same : cond (nat_lt (digit_value c) 10) (48 + digit_value c) (87 + digit_value c) ≡ c = grind (arith, nat_tests) in
     (small, digit_at (digit_value c) small ∙ same)
 
-good : (b : ℕ) → is_bad 35 b ≡ false → is_hex_digit b ≡ true
-good b e = by (is_hex_digit b) e
-  where
-    by : (c : Bool) → (true && not c) ≡ false → c ≡ true
-    by true f = refl
-    by false f = cc
-
 -- bytes that stand as digits at a place
 pub coded_at : (line rest : List ℕ) (from n : ℕ) (bytes : List ℕ) → 0 < n → IsBytes bytes → length bytes ≡ n → drop from line ≡ encode_lower bytes ++ rest
     → CodedAt line from n × (bytes_at from n line ≡ bytes)
@@ -135,7 +128,7 @@ marks zero = []
 marks (suc n) = 35 ∷ 35 ∷ marks n
 
 digit_head : (b : ℕ) (form line : List ℕ) → HasForm (35 ∷ form) (b ∷ line) → is_hex_digit b ≡ true
-digit_head b form line h = good b (tail_bad 35 b form line 0 (h.digits 0)).0
+digit_head b form line h = not-false (is_hex_digit b) (tail_bad 35 b form line 0 (h.digits 0)).0
 
 pub bytes_cons : (b : ℕ) (bytes : List ℕ) → b < 256 → IsBytes bytes → IsBytes (b ∷ bytes)
 bytes_cons b bytes l h zero = l
@@ -173,21 +166,6 @@ after_digits (suc n) form (a ∷ b ∷ line) h =
 
 -- ---- words of a form
 
-record TwoBytes (bytes : List ℕ) : Type 0 where
-  pub word : ℕ
-  pub small : word < 65536
-  pub is : word / 256 ∷ word % 256 ∷ [] ≡ bytes
-
-two_bytes : (bytes : List ℕ) → length bytes ≡ 2 → IsBytes bytes → TwoBytes bytes
-two_bytes (a ∷ b ∷ []) e h =
-    let la : a < 256 = h 0 in
-    let lb : b < 256 = h 1 in
-    let ea : (256 * a + b) / 256 ≡ a = omega arith in
-    let eb : (256 * a + b) % 256 ≡ b = omega arith in
-    let all : (256 * a + b) / 256 ∷ (256 * a + b) % 256 ∷ [] ≡ a ∷ b ∷ [] = cc in
-    record { word = 256 * a + b; small = omega arith; is = all }
-two_bytes _ e h = absurd (omega arith)
-
 pub record AfterFour (form line : List ℕ) : Type 0 where
   pub word : ℕ
   pub rest : List ℕ
@@ -198,18 +176,24 @@ pub record AfterFour (form line : List ℕ) : Type 0 where
 -- the four digits of a word
 pub after_four : (form line : List ℕ) → HasForm (35 ∷ 35 ∷ 35 ∷ 35 ∷ form) line → AfterFour form line
 unfolding encode_with
-after_four form line h =
-    let d = after_digits 2 form line h in
-    let t = two_bytes d.bytes d.count d.are in
-    record { word = t.word; rest = d.rest; is = d.is ∙ ap (λ (l : List ℕ). encode_lower l ++ d.rest) (sym t.is); small = t.small; next = d.next }
+after_four form line h = by d.bytes d.is d.are d.count
+  where
+    d : AfterDigits 2 form line
+    d = after_digits 2 form line h
 
--- the digits that stand at a place
-coded_text : (line : List ℕ) (from n : ℕ) (bytes : List ℕ) → CodedAt line from n → bytes_at from n line ≡ bytes → slice_range line from (from + 2 * n) ≡ encode_lower bytes
-coded_text line from n bytes c e = c.text ∙ ap encode_lower e
+    by : (bytes : List ℕ) → line ≡ encode_lower bytes ++ d.rest → IsBytes bytes → length bytes ≡ 2 → AfterFour form line
+    by (a ∷ b ∷ []) is are e =
+        let high : a < 256 = are 0 in
+        let low : b < 256 = are 1 in
+        let first : (256 * a + b) / 256 ≡ a = omega arith in
+        let last : (256 * a + b) % 256 ≡ b = omega arith in
+        let same : (256 * a + b) / 256 ∷ (256 * a + b) % 256 ∷ [] ≡ a ∷ b ∷ [] = cc in
+        record { word = 256 * a + b; rest = d.rest; is = is ∙ ap (λ (l : List ℕ). encode_lower l ++ d.rest) (sym same); small = omega arith; next = d.next }
+    by _ is are e = absurd (omega arith)
 
 -- a word at a place of a line
 pub word_here : (line rest : List ℕ) (from w : ℕ) → w < 65536 → drop from line ≡ hex_word w ++ rest → CodedAt line from 2 × (word_at from line ≡ w)
 unfolding encode_with
 word_here line rest from w l e =
     let c = coded_at line rest from 2 (w / 256 ∷ w % 256 ∷ []) (omega arith) (word_bytes w l) refl e in
-    (c.0, ap (λ l. unwrap_or (read_hex_word l) 0) (coded_text line from 2 (w / 256 ∷ w % 256 ∷ []) c.0 c.1) ∙ ap (λ o. unwrap_or o 0) ((words_are_read (hex_word w) w).1 (l, refl)))
+    (c.0, ap (λ l. unwrap_or (read_hex_word l) 0) (c.0.text ∙ ap encode_lower c.1) ∙ ap (λ o. unwrap_or o 0) ((words_are_read (hex_word w) w).1 (l, refl)))

@@ -27,6 +27,7 @@ use Rattle.image_text.specs.Image.{Image, IsImage, AreNumbered}
 use Rattle.image_text.specs.ImageText.{ended, first_line, key_line, handler_line, count_line, module_line, row_line, end_line, count_text, modules_text, is_zero, rows_text, memory_text, text_after_key, image_text}
 use Rattle.image_text.specs.Refusal.{Spot, past, key_form, handler_form, module_form, row_form, fits, has_form, is_bad, bytes_at, word_at, section_at, count_of, is_row, rows_refusal, end_refusal, taken, added, one_less, modules_refusal, counted, count_refusal, handler_refusal, key_refusal, first_refusal, refusal_of}
 use Rattle.image_text.specs.Reading.{HasForm, due_next}
+use Rattle.image_text.proofs.WholeText.{few}
 use Rattle.image_text.proofs.FormLemmas.{formed_ok, marks, bytes_cons, bytes_nil, word_here, coded_at}
 use Rattle.image_text.proofs.StageLemmas.{Stage, none_due, one_due}
 
@@ -167,10 +168,7 @@ record ModuleText (m : Module) : Type 0 where
   pub ram_is : section_at 22 (module_line m) ≡ m.ram
 
 same_section : (a b : ℕ) (s : Section) → a ≡ s.start → b ≡ s.end → (λ (x : Section). x) record { start = a; end = b } ≡ s
-same_section a b s e f =
-    let by_start = λ (x : ℕ). let t : Section = record { start = x; end = b } in t in
-    let by_end = λ (x : ℕ). let t : Section = record { start = s.start; end = x } in t in
-    ap by_start e ∙ ap by_end f
+same_section a b s e f = rw (e, f) refl
 
 text_of_module : (m : Module) → IsSmall m → ModuleText m
 unfolding encode_with
@@ -228,12 +226,7 @@ small_module g m h v =
     record { vendor = v; text_start = omega (arith, a, b); text_end = omega (arith, b); ram_start = omega (arith, c, d); ram_end = omega (arith, d) }
 
 same_module : (m n : Module) → m.id ≡ n.id → m.vendor ≡ n.vendor → m.text ≡ n.text → m.ram ≡ n.ram → m ≡ n
-same_module m n a b c d =
-    let by_id = λ (x : ℕ). let t : Module = record { id = x; vendor = m.vendor; text = m.text; ram = m.ram } in t in
-    let by_vendor = λ (x : ℕ). let t : Module = record { id = n.id; vendor = x; text = m.text; ram = m.ram } in t in
-    let by_text = λ (x : Section). let t : Module = record { id = n.id; vendor = n.vendor; text = x; ram = m.ram } in t in
-    let by_ram = λ (x : Section). let t : Module = record { id = n.id; vendor = n.vendor; text = n.text; ram = x } in t in
-    ap by_id a ∙ ap by_vendor b ∙ ap by_text c ∙ ap by_ram d
+same_module m n a b c d = let e : ◌≡◌ {A = Module} record { id = m.id; vendor = m.vendor; text = m.text; ram = m.ram } n = rw (a, b, c, d) refl in e
 
 -- lists that differ at a place
 other_place : (a b n : ℕ) (r s : List ℕ) → (a == b) ≡ false → get_or r n 0 ≡ a → get_or s n 0 ≡ b → r ≡ s → ⊥
@@ -348,7 +341,8 @@ same_front (suc n) _ _ l r p q = absurd (omega arith)
 -- ---- images of one text
 
 first_plain : (room : ℕ) → (room ≡ 8) ⊎ (room ≡ 32) → no_lf (first_line room) ≡ true
-first_plain room h = ⊎_elim (λ e. subst (λ (r : ℕ). no_lf (first_line r) ≡ true) (sym e) refl) (λ e. subst (λ (r : ℕ). no_lf (first_line r) ≡ true) (sym e) refl) h
+first_plain room (inl e) = rw e refl
+first_plain room (inr e) = rw e refl
 
 first_one : (a b : ℕ) → (a ≡ 8) ⊎ (a ≡ 32) → (b ≡ 8) ⊎ (b ≡ 32) → first_line a ≡ first_line b → a ≡ b
 first_one a b (inl p) (inl q) e = p ∙ sym q
@@ -368,26 +362,14 @@ count_one room a b r s la lb e = by (room == 8) e
     by false f = let x = text_of_count a la in let y = text_of_count b lb in (line_one (count_line a) (count_line b) r s x.plain y.plain f).1
 
 same_table : (t u : Table) → t.modules ≡ u.modules → t.given ≡ u.given → t.room ≡ u.room → t ≡ u
-same_table t u a b c =
-    let by_modules = λ (x : List Module). let v : Table = record { modules = x; given = t.given; room = t.room } in v in
-    let by_given = λ (x : ℕ). let v : Table = record { modules = u.modules; given = x; room = t.room } in v in
-    let by_room = λ (x : ℕ). let v : Table = record { modules = u.modules; given = u.given; room = x } in v in
-    ap by_modules a ∙ ap by_given b ∙ ap by_room c
+same_table t u a b c = let e : ◌≡◌ {A = Table} record { modules = t.modules; given = t.given; room = t.room } u = rw (a, b, c) refl in e
 
 same_image : (i j : Image) → i.memory ≡ j.memory → i.table ≡ j.table → i.node_key ≡ j.node_key → i.handler_sp ≡ j.handler_sp → i ≡ j
 same_image i j a b c d =
-    let by_memory = λ (x : List ℕ). let v : Image = record { memory = x; table = i.table; node_key = i.node_key; handler_sp = i.handler_sp } in v in
-    let by_table = λ (x : Table). let v : Image = record { memory = j.memory; table = x; node_key = i.node_key; handler_sp = i.handler_sp } in v in
-    let by_key = λ (x : List ℕ). let v : Image = record { memory = j.memory; table = j.table; node_key = x; handler_sp = i.handler_sp } in v in
-    let by_handler = λ (x : ℕ). let v : Image = record { memory = j.memory; table = j.table; node_key = j.node_key; handler_sp = x } in v in
-    ap by_memory a ∙ ap by_table b ∙ ap by_key c ∙ ap by_handler d
+    let e : ◌≡◌ {A = Image} record { memory = i.memory; table = i.table; node_key = i.node_key; handler_sp = i.handler_sp } j = rw (a, b, c, d) refl in e
 
 few_given : (i : Image) → IsImage i → i.table.given ≤ 32
-few_given i h =
-    let t = h.table_ok in
-    let f = t.fits in
-    let a = h.all_held in
-    ⊎_elim (λ e. omega (arith, e, f, a)) (λ e. omega (arith, e, f, a)) t.room_ok
+few_given i h = let t = h.table_ok in few i.table.given i.table.room (omega (arith, t.fits, h.all_held)) t.room_ok
 
 -- no other image has the text of an image
 pub images_of_one_text : (i j : Image) → IsImage i → IsImage j → image_text i ≡ image_text j → i ≡ j
@@ -601,11 +583,8 @@ modules_ok (m ∷ ms) xs g k room left s rest gl held small num mods apart due o
 -- ---- no refusal: the first lines
 
 first_ok : (room : ℕ) (s : Spot) (rest : List ℕ) → (room ≡ 8) ⊎ (room ≡ 32) → says first_refusal s (ended (first_line room) rest) ≡ says (key_refusal room) (past (first_line room) s) rest
-first_ok room s rest h =
-    ⊎_elim
-    (λ e. subst (λ (r : ℕ). says first_refusal s (ended (first_line r) rest) ≡ says (key_refusal r) (past (first_line r) s) rest) (sym e) (at_line first_refusal s (codes "sancus-image 1") rest refl))
-    (λ e. subst (λ (r : ℕ). says first_refusal s (ended (first_line r) rest) ≡ says (key_refusal r) (past (first_line r) s) rest) (sym e) (at_line first_refusal s (codes "sancus-image 2") rest refl))
-    h
+first_ok room s rest (inl e) = rw e (at_line first_refusal s (codes "sancus-image 1") rest refl)
+first_ok room s rest (inr e) = rw e (at_line first_refusal s (codes "sancus-image 2") rest refl)
 
 key_ok : (room : ℕ) (s : Spot) (key rest : List ℕ) → length key ≡ 16 → IsBytes key → says (key_refusal room) s (ended (key_line key) rest) ≡ says (handler_refusal room) (past (key_line key) s) rest
 key_ok room s key rest len are =
@@ -623,17 +602,12 @@ handler_ok room s sp rest small even =
 
 count_ok : (room n : ℕ) (s : Spot) (rest : List ℕ) → (room ≡ 8) ⊎ (room ≡ 32) → n ≤ 32
     → ((left : Option ℕ) (q : Spot) → AreDue left n → says (modules_refusal (empty_table room) left) q rest ≡ None) → says (count_refusal room) s (count_text room n rest) ≡ None
-count_ok room n s rest h small after =
-    ⊎_elim
-    (λ e. subst (λ (r : ℕ). says (count_refusal r) s (count_text r n rest) ≡ None) (sym e) (subst (λ (r : ℕ). says (modules_refusal (empty_table r) None) s rest ≡ None) e (after None s tt)))
-    (λ e. subst (λ (r : ℕ). says (count_refusal r) s (count_text r n rest) ≡ None) (sym e)
-    (at_line (count_refusal 32) s (count_line n) rest t.plain
-    ∙ ap (λ (o : Option ℕ). counted o s (says (modules_refusal (empty_table 32) o) (past (count_line n) s) rest)) t.count_is
-    ∙ subst (λ (r : ℕ). says (modules_refusal (empty_table r) (Some n)) (past (count_line n) s) rest ≡ None) e (after (Some n) (past (count_line n) s) refl)))
-    h
-  where
-    t : CountText n
-    t = text_of_count n small
+count_ok room n s rest (inl e) small after = let none = after None s tt in rw e (rw e at none)
+count_ok room n s rest (inr e) small after =
+    let t = text_of_count n small in
+    let none = after (Some n) (past (count_line n) s) refl in
+    rw e (at_line (count_refusal 32) s (count_line n) rest t.plain
+    ∙ ap (λ (o : Option ℕ). counted o s (says (modules_refusal (empty_table 32) o) (past (count_line n) s) rest)) t.count_is ∙ (rw e at none))
 
 -- the text of an image is not refused
 pub text_has_no_refusal : (i : Image) → IsImage i → refusal_of (image_text i) ≡ None
@@ -649,7 +623,7 @@ text_has_no_refusal i h =
     let more : List ℕ = modules_text i.table.modules rest in
     let len : length (drop 512 i.memory) ≡ 16 * 4064 = omega (arith, f, length-drop 512 i.memory) in
     let are = bytes_drop 512 i.memory h.bytes in
-    let small : i.table.room ≤ 32 = ⊎_elim (λ e. omega (arith, e)) (λ e. omega (arith, e)) t.room_ok in
+    let small : i.table.room ≤ 32 = few i.table.room i.table.room (omega arith) t.room_ok in
     let after : (left : Option ℕ) (q : Spot) → AreDue left i.table.given → says (modules_refusal (empty_table i.table.room) left) q more ≡ None =
     λ left q due. modules_ok i.table.modules [] 0 i.table.given i.table.room left q rest refl (omega (arith, fits)) small h.numbered t.modules tt (subst (AreDue left) (sym held) due)
     (rows_not_due 4064 512 (drop 512 i.memory) (omega arith) len are)

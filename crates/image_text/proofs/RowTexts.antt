@@ -1,7 +1,7 @@
 -- Texts of rows of memory.
-use Rattle.std.proofs.Common.{◌≡◌, ℕ, zero, suc, ◌+◌, ◌-◌, ◌*◌, ◌/◌, ◌%◌, ◌<◌, ◌≤◌, List, [], ◌∷◌, ◌++◌, length, take, drop, replicate, slice_index, true, false, cond, not, ◌&&◌, ◌==◌, ◌≢◌, nat_eq, nat_lt, Option, Some, refl, sym, ap, ◌∙◌, subst, arith, append_assoc, length-append, length-drop}
+use Rattle.std.proofs.Common.{◌≡◌, ℕ, zero, suc, ◌+◌, ◌-◌, ◌*◌, ◌/◌, ◌%◌, ◌<◌, ◌≤◌, List, [], ◌∷◌, ◌++◌, length, take, drop, replicate, slice_index, Bool, true, false, cond, not, ◌&&◌, ◌==◌, ◌≢◌, nat_eq, nat_lt, Option, Some, refl, sym, ap, ◌∙◌, subst, arith, append_assoc, length-append, length-drop}
 use Rattle.std.proofs.lemmas.Bool.Decides.{nat_tests}
-use Rattle.std.proofs.lemmas.List.{append-nil, take-append-le, drop-append-le, take_at, replicate-append-replicate, get_or_append_left, nil_from_length}
+use Rattle.std.proofs.lemmas.List.{append-nil, take-append-le, drop-append-le, take_at, length-replicate, replicate-append-replicate, get_or-replicate, get_or_append_left, nil_from_length}
 use Rattle.hex.specs.Hex.{IsBytes}
 use Rattle.texts.specs.Lines.{ended_lines, unended}
 use Rattle.image_text.specs.ImageText.{ended, end_line, is_zero, row_line, row_text, rows_text}
@@ -12,7 +12,7 @@ use Rattle.image_text.specs.declared.ImageFault.TheVariants.{Line, Twice}
 use Rattle.image_text.specs.Refusal.{Spot, past, formed, row_form, placed, is_row, word_at, bytes_at, rows_refusal, end_refusal}
 use Rattle.image_text.proofs.FormLemmas.{formed_ok}
 use Rattle.image_text.proofs.LineTexts.{row_line_of}
-use Rattle.image_text.proofs.StageLemmas.{line_on, next_on, same_spot}
+use Rattle.image_text.proofs.StageLemmas.{line_on, next_on}
 use Rattle.image_text.specs.Reading.{Unread, on, ReadLine, HasForm, AddsRow, RowsSoFar, PassedMemory}
 
 -- rows, and more rows
@@ -77,7 +77,7 @@ rows_more rest last at memory grown old new even h a =
     let d : List ℕ = drop 512 memory in
     let z : List ℕ = replicate (16 * j) 0 in
     let dlen : length d ≡ 16 * k = omega (arith, length-drop 512 memory) in
-    let zlen : length z ≡ 16 * j = length_zeros (16 * j) in
+    let zlen : length z ≡ 16 * j = length-replicate (16 * j) 0 in
     let dzlen : length (d ++ z) ≡ 16 * (k + j) = omega (arith, length-append d z) in
     let joined : grown ≡ memory ++ (z ++ a.row) = a.memory_is ∙ ap (λ (n : ℕ). (memory ++ replicate n 0) ++ a.row) gap ∙ append_assoc memory z a.row in
     let dropped : drop 512 grown ≡ (d ++ z) ++ a.row = ap (drop 512) joined ∙ drop-append-le 512 memory (z ++ a.row) (omega arith) ∙ sym (append_assoc d z a.row) in
@@ -95,10 +95,6 @@ rows_more rest last at memory grown old new even h a =
           ∙ sym (rows_append (k + j) 1 512 (d ++ z) a.row new.rest dzlen)
           ∙ ap (λ (m : List ℕ). rows_text (k + j + 1) 512 m new.rest) (sym dropped);
     }
-  where
-    length_zeros : (n : ℕ) → length {A = ℕ} (replicate n 0) ≡ n
-    length_zeros zero = refl
-    length_zeros (suc n) = ap suc (length_zeros n)
 
 pub rows_none : (rest memory : List ℕ) → memory ≡ replicate 512 0 → RowsSoFar rest 496 memory rest
 unfolding rows_text
@@ -106,16 +102,11 @@ rows_none rest memory e = record {
   rows = 0;
   size = ap length e;
   last_is = refl;
-  low = λ a l. ap (λ (m : List ℕ). slice_index m a) e ∙ zeros_at 512 a l;
+  low = λ a l. ap (λ (m : List ℕ). slice_index m a) e ∙ get_or-replicate 512 a 0 0 l;
   are_bytes = subst IsBytes (sym e) (bytes_zeros 512);
   small = omega arith;
   text = refl;
 }
-  where
-    zeros_at : (n a : ℕ) → a < n → slice_index (replicate n 0) a ≡ 0
-    zeros_at zero a l = absurd (omega arith)
-    zeros_at (suc n) zero l = refl
-    zeros_at (suc n) (suc a) l = zeros_at n a (omega arith)
 
 -- the memory is whole
 pub rows_done : (start : Unread) (last : ℕ) (memory filled : List ℕ) (left : List ℕ) → last % 16 ≡ 0 → RowsSoFar start.rest last memory left → left ≡ ended end_line [] → filled ≡ memory ++ replicate (65536 - length memory) 0 → PassedMemory filled start
@@ -130,7 +121,7 @@ rows_done start last memory filled left even h is e =
     let d : List ℕ = drop 512 memory in
     let z : List ℕ = replicate (16 * j) 0 in
     let dlen : length d ≡ 16 * k = omega (arith, length-drop 512 memory) in
-    let zlen : length z ≡ 16 * j = length_zeros (16 * j) in
+    let zlen : length z ≡ 16 * j = length-replicate (16 * j) 0 in
     let joined : filled ≡ memory ++ z = e ∙ ap (λ (n : ℕ). memory ++ replicate n 0) gap in
     let dropped : drop 512 filled ≡ d ++ z = ap (drop 512) joined ∙ drop-append-le 512 memory z (omega arith) in
     record {
@@ -142,10 +133,6 @@ rows_done start last memory filled left even h is e =
       low = λ b l. ap (λ (m : List ℕ). slice_index m b) joined ∙ low_kept memory z (omega arith) h.low b l;
       are_bytes = subst IsBytes (sym joined) (bytes_append memory z h.are_bytes (bytes_zeros (16 * j)));
     }
-  where
-    length_zeros : (n : ℕ) → length {A = ℕ} (replicate n 0) ≡ n
-    length_zeros zero = refl
-    length_zeros (suc n) = ap suc (length_zeros n)
 
 -- ---- a row's line
 
@@ -164,31 +151,22 @@ is_placed last a row e =
     record { even = grind (arith, nat_tests); filled = c; above = grind (arith, nat_tests) }
 
 module _ (last : ℕ) (old new : Unread) (line : List ℕ) (read : ReadLine old line new) (other : pointwise nat_eq line end_line ≡ false) where
-  pub row_on : on old (rows_refusal last) ≡ formed row_form old.spot line (placed last old.spot line (rows_refusal (word_at 3 line) (past line old.spot) (ended_lines new.rest) (unended new.rest)))
+  -- what the rules say behind this row
+  abbrev behind : Option ImageFault
+  behind = rows_refusal (word_at 3 line) (past line old.spot) (ended_lines new.rest) (unended new.rest)
+
+  pub row_on : on old (rows_refusal last) ≡ formed row_form old.spot line (placed last old.spot line behind)
   row_on =
       line_on (rows_refusal last) old new line read
-      ∙ ap (λ b. cond b (end_refusal (past line old.spot) (ended_lines new.rest) (unended new.rest)) (formed row_form old.spot line (placed last old.spot line (rows_refusal (word_at 3 line) (past line old.spot) (ended_lines new.rest) (unended new.rest))))) other
-
-  pub row_fails : (n a : ℕ) (fault : ImageFault) → n ≡ old.spot.number → a ≡ old.spot.at
-      → ((rest : Option ImageFault) → formed row_form record { number = n; at = a } line rest ≡ Some fault) → on old (rows_refusal last) ≡ Some fault
-  row_fails n a fault e f err =
-      row_on ∙ sym (ap (λ (s : Spot). formed row_form s line (placed last old.spot line (rows_refusal (word_at 3 line) (past line old.spot) (ended_lines new.rest) (unended new.rest)))) (same_spot old.spot n a e f)) ∙ err _
+      ∙ ap (λ b. cond b (end_refusal (past line old.spot) (ended_lines new.rest) (unended new.rest)) (formed row_form old.spot line (placed last old.spot line behind))) other
 
   module _ (form : HasForm row_form line) where
-    pub row_formed : on old (rows_refusal last) ≡ placed last old.spot line (rows_refusal (word_at 3 line) (past line old.spot) (ended_lines new.rest) (unended new.rest))
-    row_formed = row_on ∙ formed_ok row_form old.spot line _ form
-
-    pub row_misplaced : is_row last (word_at 3 line) (bytes_at 8 16 line) ≡ false → on old (rows_refusal last) ≡ Some (Line old.spot.number)
-    row_misplaced e = row_formed ∙ ap (λ b. cond b (cond (word_at 3 line == last) (Some (Twice (word_at 3 line))) (rows_refusal (word_at 3 line) (past line old.spot) (ended_lines new.rest) (unended new.rest))) (Some (Line old.spot.number))) e
-
-    pub row_is : is_row last (word_at 3 line) (bytes_at 8 16 line) ≡ true → on old (rows_refusal last) ≡ cond (word_at 3 line == last) (Some (Twice (word_at 3 line))) (rows_refusal (word_at 3 line) (past line old.spot) (ended_lines new.rest) (unended new.rest))
-    row_is e = row_formed ∙ ap (λ b. cond b (cond (word_at 3 line == last) (Some (Twice (word_at 3 line))) (rows_refusal (word_at 3 line) (past line old.spot) (ended_lines new.rest) (unended new.rest))) (Some (Line old.spot.number))) e
-
-    pub row_twice : is_row last (word_at 3 line) (bytes_at 8 16 line) ≡ true → (word_at 3 line == last) ≡ true → on old (rows_refusal last) ≡ Some (Twice (word_at 3 line))
-    row_twice e f = row_is e ∙ ap (λ b. cond b (Some (Twice (word_at 3 line))) (rows_refusal (word_at 3 line) (past line old.spot) (ended_lines new.rest) (unended new.rest))) f
-
-    pub row_placed : is_row last (word_at 3 line) (bytes_at 8 16 line) ≡ true → (word_at 3 line == last) ≡ false → on old (rows_refusal last) ≡ on new (rows_refusal (word_at 3 line))
-    row_placed e f = row_is e ∙ ap (λ b. cond b (Some (Twice (word_at 3 line))) (rows_refusal (word_at 3 line) (past line old.spot) (ended_lines new.rest) (unended new.rest))) f ∙ next_on (rows_refusal (word_at 3 line)) old new line read
+    pub row_says : (c d : Bool) → is_row last (word_at 3 line) (bytes_at 8 16 line) ≡ c → (word_at 3 line == last) ≡ d
+        → on old (rows_refusal last) ≡ cond c (cond d (Some (Twice (word_at 3 line))) behind) (Some (Line old.spot.number))
+    row_says c d e f =
+        row_on ∙ formed_ok row_form old.spot line _ form
+        ∙ ap (λ b. cond b (cond (word_at 3 line == last) (Some (Twice (word_at 3 line))) behind) (Some (Line old.spot.number))) e
+        ∙ ap (λ b. cond c (cond b (Some (Twice (word_at 3 line))) behind) (Some (Line old.spot.number))) f
 
     -- the row is added
     pub adds_row : (at : ℕ) (memory grown : List ℕ) → at ≡ word_at 3 line → is_row last (word_at 3 line) (bytes_at 8 16 line) ≡ true → (word_at 3 line == last) ≡ false
@@ -208,6 +186,6 @@ module _ (last : ℕ) (old new : Unread) (line : List ℕ) (read : ReadLine old 
           even = ap (λ (n : ℕ). n % 16) is ∙ p.even;
           above = omega arith;
           text = let t = read in t.text ∙ ap (λ (l : List ℕ). ended l new.rest) (k.text ∙ ap (λ (n : ℕ). row_line n (bytes_at 8 16 line)) (sym is));
-          refusal = row_placed e f ∙ ap (λ (n : ℕ). on new (rows_refusal n)) (sym is);
+          refusal = row_says true false e f ∙ next_on (rows_refusal (word_at 3 line)) old new line read ∙ ap (λ (n : ℕ). on new (rows_refusal n)) (sym is);
           memory_is = m;
         }

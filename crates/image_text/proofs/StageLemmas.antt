@@ -19,11 +19,10 @@ use Rattle.image_text.proofs.LineTexts.{module_line_of}
 abbrev pub Stage : Type 0
 Stage = Spot → List (List ℕ) → List ℕ → Option ImageFault
 
-pub same_spot : (s : Spot) (n a : ℕ) → n ≡ s.number → a ≡ s.at → (λ (x : Spot). x) record { number = n; at = a } ≡ s
-same_spot s n a e f =
-    let by_number = λ (x : ℕ). let t : Spot = record { number = x; at = a } in t in
-    let by_at = λ (x : ℕ). let t : Spot = record { number = s.number; at = x } in t in
-    ap by_number e ∙ ap by_at f
+-- what is refused of a line at a spot, by the parts of the spot
+pub form_fails : (form line : List ℕ) (s : Spot) (rest said : Option ImageFault) (n a : ℕ) (fault : ImageFault) → said ≡ formed form s line rest → n ≡ s.number → a ≡ s.at
+    → ((rest : Option ImageFault) → formed form record { number = n; at = a } line rest ≡ Some fault) → said ≡ Some fault
+form_fails form line s rest said n a fault is e f err = let whole = err rest in is ∙ (rw (e, f) at whole)
 
 -- what a stage says where one line was read
 pub line_on : (R : Stage) (old new : Unread) (line : List ℕ) → ReadLine old line new → on old R ≡ R old.spot (line ∷ ended_lines new.rest) (unended new.rest)
@@ -32,16 +31,6 @@ line_on R old new line h = ap (λ (l : List (List ℕ)). R old.spot l (unended o
 -- and from the next line on
 pub next_on : (R : Stage) (old new : Unread) (line : List ℕ) → ReadLine old line new → R (past line old.spot) (ended_lines new.rest) (unended new.rest) ≡ on new R
 next_on R old new line h = ap (λ (s : Spot). R s (ended_lines new.rest) (unended new.rest)) (sym h.spot)
-
-module _ (form : List ℕ) (R : Stage) (K : Spot → List ℕ → Stage) (step : (s : Spot) (line : List ℕ) (more : List (List ℕ)) (tail : List ℕ) → R s (line ∷ more) tail ≡ formed form s line (K s line s more tail)) (old new : Unread) (line : List ℕ) (read : ReadLine old line new) where
-  pub line_passes : HasForm form line → on old R ≡ K old.spot line old.spot (ended_lines new.rest) (unended new.rest)
-  line_passes h = line_on R old new line read ∙ step old.spot line _ _ ∙ formed_ok form old.spot line _ h
-
-  pub line_fails : (n a : ℕ) (fault : ImageFault) → n ≡ old.spot.number → a ≡ old.spot.at
-      → ((rest : Option ImageFault) → formed form record { number = n; at = a } line rest ≡ Some fault) → on old R ≡ Some fault
-  line_fails n a fault e f err =
-      line_on R old new line read ∙ step old.spot line _ _
-      ∙ sym (ap (λ (s : Spot). formed form s line (K old.spot line old.spot (ended_lines new.rest) (unended new.rest))) (same_spot old.spot n a e f)) ∙ err _
 
 -- ---- modules
 
@@ -109,12 +98,6 @@ not_ended_yet s (b ∷ bytes) l = not_ended s b bytes
 module _ (old new : Unread) (t : Table) (left : Option ℕ) (line : List ℕ) (read : ReadLine old line new) (due : due_next left (ended_lines old.rest) ≡ true) where
   pub due_line : on old (modules_refusal t left) ≡ formed module_form old.spot line (taken (fault_of t (section_at 12 line) (section_at 22 line)) (t.given + 1) (modules_refusal (added t line) (one_less left) (past line old.spot) (ended_lines new.rest) (unended new.rest)))
   due_line = line_on (modules_refusal t left) old new line read ∙ one_due t left old.spot line _ _ (ap (due_next left) (sym read.lines) ∙ due)
-
-  pub module_fails : (n a : ℕ) (fault : ImageFault) → n ≡ old.spot.number → a ≡ old.spot.at
-      → ((rest : Option ImageFault) → formed module_form record { number = n; at = a } line rest ≡ Some fault) → on old (modules_refusal t left) ≡ Some fault
-  module_fails n a fault e f err =
-      due_line
-      ∙ sym (ap (λ (s : Spot). formed module_form s line (taken (fault_of t (section_at 12 line) (section_at 22 line)) (t.given + 1) (modules_refusal (added t line) (one_less left) (past line old.spot) (ended_lines new.rest) (unended new.rest)))) (same_spot old.spot n a e f)) ∙ err _
 
   pub module_refused : (fault : TableFault) → HasForm module_form line → fault_of t (section_at 12 line) (section_at 22 line) ≡ Some fault → on old (modules_refusal t left) ≡ Some (TableRefuses (t.given + 1) fault)
   module_refused fault h e =

@@ -22,7 +22,8 @@ whole_text image room due u0 u1 u2 u3 u4 u5 r k g e0 e1 e2 e3 e4 e5 =
     e0 ∙ ap (λ (l : List ℕ). ended (first_line room) l) f1
     ∙ sym (ap (λ (n : ℕ). ended (first_line n) (ended (key_line image.node_key) (ended (handler_line image.handler_sp) (count_text n image.table.given (modules_text image.table.modules (memory_text image.memory)))))) r)
 
-few : (n room : ℕ) → n ≤ room → (room ≡ 8) ⊎ (room ≡ 32) → n < 65536
+-- a table has room for no more than 32
+pub few : (n room : ℕ) → n ≤ room → (room ≡ 8) ⊎ (room ≡ 32) → n ≤ 32
 few n room l h = ⊎_elim (λ e. omega (arith, e)) (λ e. omega (arith, e)) h
 
 pub whole_image : (memory key : List ℕ) (table : Table) (sp room : ℕ) (due : Option ℕ) (u4 u5 w : Unread) → PassedModules room due table u4 u5 → PassedMemory memory w
@@ -41,7 +42,7 @@ whole_image memory key table sp room due u4 u5 w t m sixteen key_bytes even smal
       table_ok = t.table_ok;
       numbered = t.numbered;
       all_held = t.all_held;
-      given_small = let f = few (length table.modules) table.room fits ok.room_ok in omega (arith, held);
+      given_small = let f = few (length table.modules) table.room fits ok.room_ok in omega (arith, held, f);
       even_sp = even;
       small_sp = small;
     }

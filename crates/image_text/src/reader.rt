@@ -192,17 +192,11 @@ fn next_row(
     ensures refused { IfErr result (λ fault. (fault ≡ ImageFault.NoMemory) ⊎
         (on lines.old (rows_refusal last) ≡ Some fault)) }
 {
-    let line = match lines.next() {
-        Ok(line) => line,
-        Err(fault) => return Err(fault),
-    };
+    let line = lines.next()?;
     if line.text == b"end".as_slice() {
         return Ok(None);
     }
-    match formed(line, ROW) {
-        Ok(()) => {}
-        Err(fault) => return Err(fault),
-    }
+    formed(line, ROW)?;
     let at = word_at(line.text, 3);
     let row = sixteen_at(line.text, 8);
     if !is_row(last, at, &row) {
@@ -223,22 +217,12 @@ pub(crate) fn read_memory(alloc: Global, lines: &mut Lines<'_>) -> Result<Vec<u8
     ensures refused { IfErr result (λ fault. (fault ≡ ImageFault.NoMemory) ⊎
         (on lines.old (rows_refusal BEFORE_ROWS) ≡ Some fault)) }
 {
-    let mut memory = match low_memory(alloc) {
-        Ok(memory) => memory,
-        Err(fault) => return Err(fault),
-    };
+    let mut memory = low_memory(alloc)?;
     let mut last = BEFORE_ROWS;
-    'rows: loop {
-        match next_row(lines, last, &mut memory) {
-            Ok(Some(at)) => last = at,
-            Ok(None) => break 'rows,
-            Err(fault) => return Err(fault),
-        }
+    while let Some(at) = next_row(lines, last, &mut memory)? {
+        last = at;
     }
-    match lines.end() {
-        Ok(()) => {}
-        Err(fault) => return Err(fault),
-    }
+    lines.end()?;
     match fill(&mut memory, 65536) {
         Ok(()) => Ok(memory),
         Err(AllocError) => Err(ImageFault::NoMemory),
@@ -258,30 +242,12 @@ pub fn read(alloc: Global, bytes: &[u8]) -> Result<Image, ImageFault>
     ensures reads { Reads bytes.now result }
 {
     let mut lines = Lines::new(bytes);
-    let room = match read_version(&mut lines) {
-        Ok(room) => room,
-        Err(fault) => return Err(fault),
-    };
-    let node_key = match read_key(&mut lines) {
-        Ok(key) => key,
-        Err(fault) => return Err(fault),
-    };
-    let handler_sp = match read_handler(&mut lines) {
-        Ok(sp) => sp,
-        Err(fault) => return Err(fault),
-    };
-    let due = match read_count(&mut lines, room) {
-        Ok(due) => due,
-        Err(fault) => return Err(fault),
-    };
-    let table = match read_modules(&mut lines, room, due) {
-        Ok(table) => table,
-        Err(fault) => return Err(fault),
-    };
-    let memory = match read_memory(alloc, &mut lines) {
-        Ok(memory) => memory,
-        Err(fault) => return Err(fault),
-    };
+    let room = read_version(&mut lines)?;
+    let node_key = read_key(&mut lines)?;
+    let handler_sp = read_handler(&mut lines)?;
+    let due = read_count(&mut lines, room)?;
+    let table = read_modules(&mut lines, room, due)?;
+    let memory = read_memory(alloc, &mut lines)?;
     Ok(Image {
         memory,
         table,

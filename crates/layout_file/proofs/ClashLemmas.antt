@@ -21,23 +21,6 @@ none_before p xs h k d inside = by (nat_lt (prefix_len (λ x. not (p x)) xs) (le
         let all = ltb-false _ _ e in
         not-true _ (prefix_len_passes (λ x. not (p x)) xs k d (omega arith))
 
-pub apart-after : {A : Type 0} (clash : A → A → Bool) (earlier xs : List A) → AllPairs (λ a b. clash a b ≡ false) earlier
-    → clash_after clash earlier xs ≡ None → AllPairs (λ a b. clash a b ≡ false) (earlier ++ xs)
-apart-after clash earlier [] pairs h = rw append-nil pairs
-apart-after clash earlier (x ∷ xs) pairs h = by (first_with clash earlier x) refl h (apart-after clash (earlier ++ x ∷ []) xs)
-  where
-    by : (o : Option ℕ) → first_with clash earlier x ≡ o → or_later o (length earlier) (clash_after clash (earlier ++ x ∷ []) xs) ≡ None
-        → (AllPairs (λ a b. clash a b ≡ false) (earlier ++ x ∷ []) → clash_after clash (earlier ++ x ∷ []) xs ≡ None
-        → AllPairs (λ a b. clash a b ≡ false) ((earlier ++ x ∷ []) ++ xs)) → AllPairs (λ a b. clash a b ≡ false) (earlier ++ x ∷ xs)
-    by None e rest more =
-        let front = all_pairs_push (λ a b. clash a b ≡ false) earlier x pairs (none_before (λ y. clash y x) earlier e) in
-        let joined : (earlier ++ x ∷ []) ++ xs ≡ earlier ++ x ∷ xs = rw append_assoc refl in
-        subst (AllPairs (λ a b. clash a b ≡ false)) joined (more front rest)
-    by (Some k) e rest more = absurd (cc)
-
-pub AllPairs-first_clash : {A : Type 0} (clash : A → A → Bool) (xs : List A) → first_clash clash xs ≡ None → AllPairs (λ a b. clash a b ≡ false) xs
-AllPairs-first_clash clash xs h = apart-after clash [] xs (λ i j d order inside. absurd (omega arith)) h
-
 pub AllPairs-weaker : {A : Type 0} (P Q : A → A → Type 0) → ((a b : A) → P a b → Q a b) → (xs : List A) → AllPairs P xs → AllPairs Q xs
 AllPairs-weaker P Q step xs all i j d order inside = step (get_or xs i d) (get_or xs j d) (all i j d order inside)
 
@@ -71,21 +54,29 @@ IsFirst-here clash earlier x xs i pairs e =
           rw (get_or_append_left earlier (x ∷ xs) d k within, get_or_at earlier x xs d (length earlier) refl) ((found d).2 k below);
     }
 
-IsFirst-after : {A : Type 0} (clash : A → A → Bool) (earlier xs : List A) (pair : ℕ × ℕ) → AllPairs (λ a b. clash a b ≡ false) earlier
-    → clash_after clash earlier xs ≡ Some pair → IsFirst clash (earlier ++ xs) pair
-IsFirst-after clash earlier [] pair pairs h = absurd (cc)
-IsFirst-after clash earlier (x ∷ xs) pair pairs h = by (first_with clash earlier x) refl h (IsFirst-after clash (earlier ++ x ∷ []) xs pair)
+-- no two clash, or this is the first pair that does
+first_clash-says : {A : Type 0} (clash : A → A → Bool) (earlier xs : List A) → AllPairs (λ a b. clash a b ≡ false) earlier
+    → MatchOption (clash_after clash earlier xs) (AllPairs (λ a b. clash a b ≡ false) (earlier ++ xs)) (IsFirst clash (earlier ++ xs))
+first_clash-says clash earlier [] pairs = rw append-nil pairs
+first_clash-says clash earlier (x ∷ xs) pairs = by (first_with clash earlier x) refl (first_clash-says clash (earlier ++ x ∷ []) xs)
   where
-    by : (o : Option ℕ) → first_with clash earlier x ≡ o → or_later o (length earlier) (clash_after clash (earlier ++ x ∷ []) xs) ≡ Some pair
-        → (AllPairs (λ a b. clash a b ≡ false) (earlier ++ x ∷ []) → clash_after clash (earlier ++ x ∷ []) xs ≡ Some pair
-        → IsFirst clash ((earlier ++ x ∷ []) ++ xs) pair) → IsFirst clash (earlier ++ x ∷ xs) pair
-    by None e rest more =
+    by : (o : Option ℕ) → first_with clash earlier x ≡ o
+        → (AllPairs (λ a b. clash a b ≡ false) (earlier ++ x ∷ []) → MatchOption (clash_after clash (earlier ++ x ∷ []) xs)
+        (AllPairs (λ a b. clash a b ≡ false) ((earlier ++ x ∷ []) ++ xs)) (IsFirst clash ((earlier ++ x ∷ []) ++ xs)))
+        → MatchOption (or_later o (length earlier) (clash_after clash (earlier ++ x ∷ []) xs))
+        (AllPairs (λ a b. clash a b ≡ false) (earlier ++ x ∷ xs)) (IsFirst clash (earlier ++ x ∷ xs))
+    by None e more =
         let front = all_pairs_push (λ a b. clash a b ≡ false) earlier x pairs (none_before (λ y. clash y x) earlier e) in
         let joined : (earlier ++ x ∷ []) ++ xs ≡ earlier ++ x ∷ xs = rw append_assoc refl in
-        subst (λ l. IsFirst clash l pair) joined (more front rest)
-    by (Some i) e rest more =
-        let same : (i, length earlier) ≡ pair = cc in
-        subst (IsFirst clash (earlier ++ x ∷ xs)) same (IsFirst-here clash earlier x xs i pairs e)
+        subst (λ l. MatchOption (clash_after clash (earlier ++ x ∷ []) xs) (AllPairs (λ a b. clash a b ≡ false) l) (IsFirst clash l)) joined (more front)
+    by (Some i) e more = IsFirst-here clash earlier x xs i pairs e
+
+first_pair : {A : Type 0} (clash : A → A → Bool) (xs : List A) → MatchOption (first_clash clash xs) (AllPairs (λ a b. clash a b ≡ false) xs) (IsFirst clash xs)
+first_pair clash xs = first_clash-says clash [] xs (λ i j d order inside. absurd (omega arith))
+
+pub AllPairs-first_clash : {A : Type 0} (clash : A → A → Bool) (xs : List A) → first_clash clash xs ≡ None → AllPairs (λ a b. clash a b ≡ false) xs
+AllPairs-first_clash clash xs h =
+    subst (λ o. MatchOption o (AllPairs (λ a b. clash a b ≡ false) xs) (IsFirst clash xs)) h (first_pair clash xs)
 
 ShareByte-share_byte : (a b : Section) → share_byte a b ≡ true → ShareByte a b
 ShareByte-share_byte a b h =
@@ -96,21 +87,20 @@ ShareByte-share_byte a b h =
       and_from _ _ (le-leb b.start start (omega arith)) (lt-ltb start b.end (omega arith)),
     )
 
-IsFirstOverlap-first : (regions : List Section) (pair : ℕ × ℕ) → first_clash share_byte regions ≡ Some pair → IsFirstOverlap regions pair
-IsFirstOverlap-first regions pair h =
-    let first = IsFirst-after share_byte [] regions pair (λ i j d order inside. absurd (omega arith)) h in
-    record {
+pub overlaps-named : (regions : List Section)
+    → MatchOption (first_clash share_byte regions) (AllPairs ShareNoByte regions) (IsFirstOverlap regions)
+overlaps-named regions = by (first_clash share_byte regions) (first_pair share_byte regions)
+  where
+    apart : (xs : List Section) → AllPairs (λ a b. share_byte a b ≡ false) xs → AllPairs ShareNoByte xs
+    apart = AllPairs-weaker (λ a b. share_byte a b ≡ false) ShareNoByte ShareNoByte-share_byte
+
+    by : (o : Option (ℕ × ℕ)) → MatchOption o (AllPairs (λ a b. share_byte a b ≡ false) regions) (IsFirst share_byte regions)
+        → MatchOption o (AllPairs ShareNoByte regions) (IsFirstOverlap regions)
+    by None all = apart regions all
+    by (Some pair) first = record {
       earlier = first.earlier;
       inside = first.inside;
       shared = λ d. ShareByte-share_byte _ _ (first.clashes d);
-      lowest_second = AllPairs-weaker (λ a b. share_byte a b ≡ false) ShareNoByte ShareNoByte-share_byte (take pair.1 regions) first.lowest_second;
+      lowest_second = apart (take pair.1 regions) first.lowest_second;
       lowest_first = λ k d below. ShareNoByte-share_byte _ _ (first.lowest_first k d below);
     }
-
-pub overlaps-named : (regions : List Section)
-    → MatchOption (first_clash share_byte regions) (AllPairs ShareNoByte regions) (IsFirstOverlap regions)
-overlaps-named regions = by (first_clash share_byte regions) refl
-  where
-    by : (o : Option (ℕ × ℕ)) → first_clash share_byte regions ≡ o → MatchOption o (AllPairs ShareNoByte regions) (IsFirstOverlap regions)
-    by None e = AllPairs-weaker (λ a b. share_byte a b ≡ false) ShareNoByte ShareNoByte-share_byte regions (AllPairs-first_clash share_byte regions e)
-    by (Some pair) e = IsFirstOverlap-first regions pair e

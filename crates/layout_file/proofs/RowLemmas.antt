@@ -2,9 +2,10 @@
 use Rattle.std.proofs.Common.{◌≡◌, ◌≢◌, ℕ, suc, ◌+◌, ◌<◌, Bool, ◌&&◌, List, [], ◌∷◌, ◌++◌, length, get_or, take, map, None, Ok, Err, String, Global, string_bytes, refl, ap, ◌∙◌, sym, arith, drop, length-take-le, take-append-drop, add-zero, append_assoc}
 use Rattle.std.proofs.lemmas.List.{append-nil, take_more, drop_more}
 use Rattle.layout_file.specs.declared.fault.LayoutFault.{LayoutFault}
+use Rattle.std.proofs.Math.ListN.{get_or-map}
 use Rattle.std.specs.List.{list_all, prefix_len}
 use Rattle.std.specs.Prelude.{position, not, if◌then◌else◌}
-use Rattle.std.proofs.lemmas.List.{length-map, map-append}
+use Rattle.std.proofs.lemmas.List.{length-map, map-append, take-map}
 use Rattle.layout_file.specs.Clashes.{clash_after, first_clash}
 use Rattle.layout_file.specs.Checked.{Checked, map_ok, ◌>>=◌, gather}
 use Rattle.layout_file.specs.Rows.{two, all_keys, list_of}
@@ -17,10 +18,10 @@ pub two-other : (vs : List Value) → length vs ≢ 2 → two (items_view vs) �
 two-other (a ∷ b ∷ []) ne = absurd (ne refl)
 two-other _ ne = refl
 
-pub all_keys-view : (p : List ℕ → Bool) (es : List (String Global × Value))
-    → list_all (λ k. p (string_bytes k)) (keys_of es) ≡ all_keys p (members_view es)
-all_keys-view p [] = refl
-all_keys-view p (e ∷ es) = ap (λ b. p (string_bytes e.0) && b) (all_keys-view p es)
+pub keys_seen : (p : List ℕ → Bool) (es : List (String Global × Value))
+    → all_keys p (members_view es) ≡ list_all (λ k. p (string_bytes k)) (keys_of es)
+keys_seen p [] = refl
+keys_seen p (e ∷ es) = ap (λ b. p (string_bytes e.0) && b) (keys_seen p es)
 
 -- ---- what gather gives of a list in two parts
 
@@ -46,64 +47,41 @@ module _ {A B : Type 0} (f : ℕ → A → Checked (List B)) where
       rw (gather-append (n + 1) xs ys, k) (joined (f n x) (gather f (n + 1) xs) (gather f (n + length (x ∷ xs)) ys))
 
   -- one more, and the first fault
-  pub gather-more : (xs : List A) (x : A) (ys zs : List B) → gather f 0 xs ≡ Ok ys → f (length xs) x ≡ Ok zs
-      → gather f 0 (xs ++ x ∷ []) ≡ Ok (ys ++ zs)
-  gather-more xs x ys zs front here =
-      let k : 0 + length xs ≡ length xs = omega arith in
-      rw (gather-append 0 xs (x ∷ []), front, k, here, append-nil) refl
-
-  pub gather-stop : (xs rest : List A) (x : A) (ys : List B) (e : LayoutFault) → gather f 0 xs ≡ Ok ys → f (length xs) x ≡ Err e
-      → gather f 0 (xs ++ x ∷ rest) ≡ Err e
-  gather-stop xs rest x ys e front here =
-      let k : 0 + length xs ≡ length xs = omega arith in
-      rw (gather-append 0 xs (x ∷ rest), front, k, here) refl
-
   pub list-more : (vs : List A) (i : ℕ) (d : A) (ys zs : List B) → i < length vs → gather f 0 (take i vs) ≡ Ok ys
       → f i (get_or vs i d) ≡ Ok zs → gather f 0 (take (i + 1) vs) ≡ Ok (ys ++ zs)
   list-more vs i d ys zs h front here =
-      let front_length : length (take i vs) ≡ i = length-take-le i vs (omega arith) in
-      let last : f (length (take i vs)) (get_or vs i d) ≡ Ok zs = rw front_length here in
-      rw (take_more vs i d h) (gather-more (take i vs) (get_or vs i d) ys zs front last)
+      let place : 0 + length (take i vs) ≡ i = omega (arith, length-take-le i vs (omega arith)) in
+      rw (take_more vs i d h, gather-append 0 (take i vs) (get_or vs i d ∷ []), front, place, here, append-nil) refl
 
   pub list-stop : (vs : List A) (i : ℕ) (d : A) (ys : List B) (e : LayoutFault) → i < length vs → gather f 0 (take i vs) ≡ Ok ys
       → f i (get_or vs i d) ≡ Err e → gather f 0 vs ≡ Err e
   list-stop vs i d ys e h front here =
-      let front_length : length (take i vs) ≡ i = length-take-le i vs (omega arith) in
-      let last : f (length (take i vs)) (get_or vs i d) ≡ Err e = rw front_length here in
+      let place : 0 + length (take i vs) ≡ i = omega (arith, length-take-le i vs (omega arith)) in
       let cut : vs ≡ take i vs ++ get_or vs i d ∷ drop (i + 1) vs = sym (take-append-drop i vs) ∙ ap (λ (l : List A). take i vs ++ l) (drop_more vs i d h) in
-      let stopped = gather-stop (take i vs) (drop (i + 1) vs) (get_or vs i d) ys e front last in
-      ap (gather f 0) cut ∙ stopped
+      ap (gather f 0) cut ∙ rw (gather-append 0 (take i vs) (get_or vs i d ∷ drop (i + 1) vs), front, place, here) refl
 
 -- ---- the values of an array
 
 abbrev pub data_of : List Value → List Data
 data_of vs = list_of (items_view vs)
 
-pub data_of-length : (vs : List Value) → length (data_of vs) ≡ length vs
-data_of-length [] = refl
-data_of-length (v ∷ vs) = ap suc (data_of-length vs)
+data_seen : (vs : List Value) → data_of vs ≡ map view vs
+data_seen [] = refl
+data_seen (v ∷ vs) = ap (λ (l : List Data). view v ∷ l) (data_seen vs)
 
-pub data_of-append : (xs ys : List Value) → data_of (xs ++ ys) ≡ data_of xs ++ data_of ys
-data_of-append [] ys = refl
-data_of-append (x ∷ xs) ys = ap (λ (l : List Data). view x ∷ l) (data_of-append xs ys)
+module _ {B : Type 0} (f : ℕ → Data → Checked (List B)) (vs : List Value) (i : ℕ) (d : Value) where
+  seen_front : (ys : List B) → gather f 0 (data_of (take i vs)) ≡ Ok ys → gather f 0 (take i (map view vs)) ≡ Ok ys
+  seen_front ys front = rw (take-map, ← data_seen (take i vs)) front
 
-module _ {B : Type 0} (f : ℕ → Data → Checked (List B)) where
-  pub values-more : (vs : List Value) (i : ℕ) (d : Value) (ys zs : List B) → i < length vs → gather f 0 (data_of (take i vs)) ≡ Ok ys
+  pub values-more : (ys zs : List B) → i < length vs → gather f 0 (data_of (take i vs)) ≡ Ok ys
       → f i (view (get_or vs i d)) ≡ Ok zs → gather f 0 (data_of (take (i + 1) vs)) ≡ Ok (ys ++ zs)
-  values-more vs i d ys zs h front here =
-      let front_length : length (data_of (take i vs)) ≡ i = data_of-length (take i vs) ∙ length-take-le i vs (omega arith) in
-      let last : f (length (data_of (take i vs))) (view (get_or vs i d)) ≡ Ok zs = rw front_length here in
-      rw (take_more vs i d h, data_of-append (take i vs) (get_or vs i d ∷ [])) (gather-more f (data_of (take i vs)) (view (get_or vs i d)) ys zs front last)
+  values-more ys zs h front here =
+      rw (data_seen (take (i + 1) vs), ← take-map) (list-more f (map view vs) i (view d) ys zs (rw length-map h) (seen_front ys front) (rw (get_or-map view vs i d) here))
 
-  pub values-stop : (vs : List Value) (i : ℕ) (d : Value) (ys : List B) (e : LayoutFault) → i < length vs → gather f 0 (data_of (take i vs)) ≡ Ok ys
+  pub values-stop : (ys : List B) (e : LayoutFault) → i < length vs → gather f 0 (data_of (take i vs)) ≡ Ok ys
       → f i (view (get_or vs i d)) ≡ Err e → gather f 0 (data_of vs) ≡ Err e
-  values-stop vs i d ys e h front here =
-      let front_length : length (data_of (take i vs)) ≡ i = data_of-length (take i vs) ∙ length-take-le i vs (omega arith) in
-      let last : f (length (data_of (take i vs))) (view (get_or vs i d)) ≡ Err e = rw front_length here in
-      let cut : vs ≡ take i vs ++ get_or vs i d ∷ drop (i + 1) vs = sym (take-append-drop i vs) ∙ ap (λ (l : List Value). take i vs ++ l) (drop_more vs i d h) in
-      let split : data_of vs ≡ data_of (take i vs) ++ view (get_or vs i d) ∷ data_of (drop (i + 1) vs) =
-      ap data_of cut ∙ data_of-append (take i vs) (get_or vs i d ∷ drop (i + 1) vs) in
-      rw split (gather-stop f (data_of (take i vs)) (data_of (drop (i + 1) vs)) (view (get_or vs i d)) ys e front last)
+  values-stop ys e h front here =
+      rw (data_seen vs) (list-stop f (map view vs) i (view d) ys e (rw length-map h) (seen_front ys front) (rw (get_or-map view vs i d) here))
 
 -- ---- clashes
 

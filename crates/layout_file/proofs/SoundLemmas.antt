@@ -6,6 +6,7 @@ use Rattle.std.specs.Result.{result_ok}
 use Rattle.std.specs.Str.{bytes_eq, is_utf8}
 use Rattle.std.proofs.lemmas.Bool.{and_parts, or_cases, leb-true, eqb-true, eqb-false}
 use Rattle.std.proofs.lemmas.Slice.Eq.{bytes_eq-Decides}
+use Rattle.std.proofs.lemmas.List.{get_or-map}
 use Rattle.std.proofs.lemmas.List.Elements.{All-nil, All-cons, All-weaker}
 use Rattle.std.proofs.lemmas.List.Sums.{AllPass-from_list_all}
 use Rattle.std.proofs.lemmas.List.Kept.{AllPairs-cons}
@@ -46,14 +47,6 @@ map_ok-ok f (Err e) b h = absurd (cc)
 
 -- ---- integers and regions
 
-fits-in_bounds : (spot : Spot) (b : Bounds) (z : ℤ) (n : ℕ) → in_bounds spot b z ≡ Ok n → fits b n ≡ true
-fits-in_bounds spot b (pos m) n h = by (fits b m) refl h
-  where
-    by : (c : Bool) → fits b m ≡ c → (if c then Ok m else Err (OutOfRange spot (pos m))) ≡ Ok n → fits b n ≡ true
-    by true e h = let same : m ≡ n = cc in rw (← same) e
-    by false e h = absurd (cc)
-fits-in_bounds spot b (negsuc m) n h = absurd (cc)
-
 pub record Within (b : Bounds) (n : ℕ) : Type 0 where
   pub least : b.least ≤ n
   pub most : n ≤ b.most
@@ -77,7 +70,12 @@ Within-fits b n h =
     not_both false e odd = absurd (cc)
 
 Within-in_bounds : (spot : Spot) (b : Bounds) (z : ℤ) (n : ℕ) → in_bounds spot b z ≡ Ok n → Within b n
-Within-in_bounds spot b z n h = Within-fits b n (fits-in_bounds spot b z n h)
+Within-in_bounds spot b (pos m) n h = by (fits b m) refl h
+  where
+    by : (c : Bool) → fits b m ≡ c → (if c then Ok m else Err (OutOfRange spot (pos m))) ≡ Ok n → Within b n
+    by true e h = let same : m ≡ n = cc in subst (Within b) same (Within-fits b m e)
+    by false e h = absurd (cc)
+Within-in_bounds spot b (negsuc m) n h = absurd (cc)
 
 pub Within-integer : (spot : Spot) (b : Bounds) (table : Members) (n : ℕ) → rows.integer spot b table ≡ Ok n → Within b n
 Within-integer spot b table n h =
@@ -138,17 +136,15 @@ pub record IsName (s : List ℕ) : Type 0 where
   pub short : length s ≤ 32
   pub bytes : AllPass is_name_byte s
 
-IsName-of_test : (s : List ℕ) → rows.is_name 32 s ≡ true → IsName s
-IsName-of_test s h =
-    let parts = and_parts _ _ h in
-    let rest = and_parts _ _ parts.1 in
-    record { some = leb-true _ _ parts.0; short = leb-true _ _ rest.0; bytes = AllPass-from_list_all _ s rest.1 }
-
 name_of-ok : (s t : List ℕ) → rows.name_of 32 s ≡ Some t → IsName t
 name_of-ok s t h = by (rows.is_name 32 s) refl h
   where
     by : (c : Bool) → rows.is_name 32 s ≡ c → (if c then Some s else None) ≡ Some t → IsName t
-    by true e h = let same : s ≡ t = cc in subst IsName same (IsName-of_test s e)
+    by true e h =
+        let same : s ≡ t = cc in
+        let parts = and_parts _ _ e in
+        let rest = and_parts _ _ parts.1 in
+        subst IsName same record { some = leb-true _ _ parts.0; short = leb-true _ _ rest.0; bytes = AllPass-from_list_all _ s rest.1 }
     by false e h = absurd (cc)
 
 pub IsName-name : (spot : Spot) (table : Members) (s : List ℕ) → rows.name spot 32 table ≡ Ok s → IsName s
@@ -300,27 +296,21 @@ length-tables spot most table ts h = by (rows.at spot table) h
         let found = bind-ok (rows.inner_tables spot (rows.list_of items.0)) _ ts items.2 in
         length-at_most spot most found.0 ts found.2
 
--- what a module's table gives, but for the bound of `boot`
-pub record IsRow (version n : ℕ) (m : ModuleValue) : Type 0 where
-  pub name : IsName m.name
-  pub vendor : m.vendor ≤ 65535
-  pub text : IsRegion m.text
-  pub ram : IsRegion m.ram
-  pub stack : Within (layout.evens 2 32768) m.stack
-  pub entries : (1 ≤ length m.entries) × (length m.entries ≤ 64)
+-- what a module's table gives
+record IsRow (version n : ℕ) (m : ModuleValue) : Type 0 where
   pub first_version : (version == 1) ≡ true → m.boot ≡ n + 1
-  pub later_version : (version == 1) ≡ false → Within (layout.between 1 32) m.boot
+  pub is_module : n < layout.room_of version → IsModule (layout.room_of version) m
 
 record IsBoot (first : Bool) (n boot : ℕ) : Type 0 where
   first_version : first ≡ true → boot ≡ n + 1
-  later_version : first ≡ false → Within (layout.between 1 32) boot
+  within : n < (if first then 8 else 32) → (1 ≤ boot) × (boot ≤ (if first then 8 else 32))
 
 IsBoot-choice : (first : Bool) (n : ℕ) (table : Members) (boot : ℕ)
     → (if first then Ok (n + 1) else rows.integer (layout.in_module n Boot) (layout.between 1 32) table) ≡ Ok boot → IsBoot first n boot
-IsBoot-choice true n table boot h = let same : n + 1 ≡ boot = cc in record { first_version = λ _. sym same; later_version = λ e. absurd (cc) }
+IsBoot-choice true n table boot h = let same : n + 1 ≡ boot = cc in record { first_version = λ _. sym same; within = λ inside. (omega arith, omega arith) }
 IsBoot-choice false n table boot h =
-    let within = Within-integer (layout.in_module n Boot) (layout.between 1 32) table boot h in
-    record { first_version = λ e. absurd (cc); later_version = λ _. within }
+    let bounds = Within-integer (layout.in_module n Boot) (layout.between 1 32) table boot h in
+    record { first_version = λ e. absurd (cc); within = λ inside. (bounds.least, bounds.most) }
 
 IsRow-module_row : (version n : ℕ) (table : Members) (m : ModuleValue) → layout.module_row version n table ≡ Ok m → IsRow version n m
 IsRow-module_row version n table m h =
@@ -334,47 +324,32 @@ IsRow-module_row version n table m h =
     let boot = bind-ok (layout.boot version n table) _ m entries.2 in
     let booted = IsBoot-choice (version == 1) n table boot.0 boot.1 in
     let made : record { name = name.0; vendor = vendor.0; text = text.0; ram = ram.0; stack = stack.0; entries = entries.0; boot = boot.0 } ≡ m = ok_same _ m boot.2 in
+    let name_ok = IsName-name (layout.in_module n Name) table name.0 name.1 in
+    let stack_ok = Within-integer (layout.in_module n Stack) (layout.evens 2 32768) table stack.0 stack.1 in
+    let entries_ok = length-entries (layout.in_module n Entries) table entries.0 entries.1 in
     subst (IsRow version n) made (record {
-      name = IsName-name (layout.in_module n Name) table name.0 name.1;
-      vendor = (Within-integer (layout.in_module n Vendor) (layout.between 0 65535) table vendor.0 vendor.1).most;
-      text = IsRegion-section (layout.in_module n Text) table text.0 text.1;
-      ram = IsRegion-section (layout.in_module n DataKey) table ram.0 ram.1;
-      stack = Within-integer (layout.in_module n Stack) (layout.evens 2 32768) table stack.0 stack.1;
-      entries = length-entries (layout.in_module n Entries) table entries.0 entries.1;
       first_version = booted.first_version;
-      later_version = booted.later_version;
+      is_module = λ inside. record {
+        some_name = name_ok.some;
+        short_name = name_ok.short;
+        name_bytes = name_ok.bytes;
+        vendor_word = (Within-integer (layout.in_module n Vendor) (layout.between 0 65535) table vendor.0 vendor.1).most;
+        text_region = IsRegion-section (layout.in_module n Text) table text.0 text.1;
+        ram_region = IsRegion-section (layout.in_module n DataKey) table ram.0 ram.1;
+        even_stack = stack_ok.even refl;
+        some_stack = stack_ok.least;
+        small_stack = stack_ok.most;
+        some_entries = entries_ok.0;
+        few_entries = entries_ok.1;
+        some_boot = (booted.within inside).0;
+        small_boot = (booted.within inside).1;
+      };
     })
-
-IsModule-row : (version n : ℕ) (m : ModuleValue) → IsRow version n m → n < layout.room_of version → IsModule (layout.room_of version) m
-IsModule-row version n m row inside =
-    let bounds = by (version == 1) refl inside in
-    record {
-      some_name = row.name.some;
-      short_name = row.name.short;
-      name_bytes = row.name.bytes;
-      vendor_word = row.vendor;
-      text_region = row.text;
-      ram_region = row.ram;
-      even_stack = row.stack.even refl;
-      some_stack = row.stack.least;
-      small_stack = row.stack.most;
-      some_entries = row.entries.0;
-      few_entries = row.entries.1;
-      some_boot = bounds.0;
-      small_boot = bounds.1;
-    }
-  where
-    by : (first : Bool) → (version == 1) ≡ first → n < (if first then 8 else 32) → (1 ≤ m.boot) × (m.boot ≤ (if first then 8 else 32))
-    by true e inside = let booted = row.first_version e in (omega arith, omega arith)
-    by false e inside = let booted = row.later_version e in (booted.least, booted.most)
 
 -- ---- regions, names and boots
 
 differ-bytes_eq : (a b : List ℕ) → bytes_eq a b ≡ false → a ≢ b
 differ-bytes_eq a b h same = let tested = (bytes_eq-Decides a b).1 same in absurd (cc)
-
-differ-== : (a b : ℕ) → (a == b) ≡ false → a ≢ b
-differ-== a b h = eqb-false a b h
 
 no_pair-ok : (fault : ℕ → ℕ → LayoutFault) (o : Option (ℕ × ℕ)) (u : Unit {0}) → layout.no_pair fault o ≡ Ok u → o ≡ None
 no_pair-ok fault None u h = refl
@@ -394,7 +369,7 @@ AreClear-clear text ram ms u h =
           (AllPairs-first_clash share_byte (regions text ram ms) (no_pair-ok Overlap _ apart.0 apart.1));
       names = AllPairs-weaker (λ a b. bytes_eq a b ≡ false) (λ a b. a ≢ b) differ-bytes_eq (names_of ms)
           (AllPairs-first_clash bytes_eq (names_of ms) (no_pair-ok SameName _ named.0 named.1));
-      boots = AllPairs-weaker (λ a b. (a == b) ≡ false) (λ a b. a ≢ b) differ-== (boots_of ms)
+      boots = AllPairs-weaker (λ a b. (a == b) ≡ false) (λ a b. a ≢ b) eqb-false (boots_of ms)
           (AllPairs-first_clash (λ a b. a == b) (boots_of ms) (no_pair-ok SameBoot _ u named.2));
     }
 
@@ -414,11 +389,6 @@ first_of_room version h = by (version == 1) h
     by true h = refl
     by false h = absurd (omega arith)
 
-boots-at : (ms : List ModuleValue) (k : ℕ) (m : ModuleValue) (d : ℕ) → k < length ms → get_or (boots_of ms) k d ≡ (get_or ms k m).boot
-boots-at [] k m d inside = absurd (omega arith)
-boots-at (x ∷ xs) zero m d inside = refl
-boots-at (x ∷ xs) (suc k) m d inside = boots-at xs k m d (omega arith)
-
 record AreModules (version : ℕ) (ms : List ModuleValue) : Type 0 where
   each : All (IsModule (layout.room_of version)) ms
   few : length ms ≤ layout.room_of version
@@ -432,11 +402,11 @@ AreModules-modules_in version ts ms few h =
     λ k d inside. let same : 0 + k ≡ k = omega arith in
     subst (λ (n : ℕ). IsRow version n (get_or ms k d)) same (ones-at (layout.module_row version) (IsRow version) (IsRow-module_row version) 0 ts ms h k d inside) in
     record {
-      each = λ k d inside. IsModule-row version k (get_or ms k d) (row k d inside) (omega (arith, count));
+      each = λ k d inside. (row k d inside).is_module (omega (arith, count));
       few = omega (arith, count);
       in_order = λ room k d inside.
           let m : ModuleValue = first_module ms k inside in
-          boots-at ms k m d inside ∙ (row k m inside).first_version (first_of_room version room);
+          get_or-map (λ (x : ModuleValue). x.boot) ms k m d inside ∙ (row k m inside).first_version (first_of_room version room);
     }
   where
     first_module : (ms : List ModuleValue) (k : ℕ) → k < length ms → ModuleValue

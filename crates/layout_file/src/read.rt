@@ -74,16 +74,7 @@ static TOP_KEYS: [Key; 7] = [
     Key::Module,
 ];
 
-static MODULE_KEYS: [Key; 6] = [
-    Key::Name,
-    Key::Vendor,
-    Key::Text,
-    Key::Data,
-    Key::Stack,
-    Key::Entries,
-];
-
-static MODULE_KEYS_2: [Key; 7] = [
+static MODULE_KEYS: [Key; 7] = [
     Key::Name,
     Key::Vendor,
     Key::Text,
@@ -93,14 +84,14 @@ static MODULE_KEYS_2: [Key; 7] = [
     Key::Boot,
 ];
 
-/// The keys of a module's table.
+/// The keys of a module's table, in version 1 without the last.
 fn module_keys(version: u16) -> &'static [Key]
     ensures { result.now ≡ layout.module_keys version }
 {
     if version == 1 {
-        MODULE_KEYS.as_slice()
+        &MODULE_KEYS[..6]
     } else {
-        MODULE_KEYS_2.as_slice()
+        MODULE_KEYS.as_slice()
     }
 }
 

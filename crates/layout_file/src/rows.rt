@@ -39,15 +39,23 @@ fn has_listed_keys(table: &Table, keys: &[Key]) -> bool
     table.keys().all(|key| is_listed(keys, key.as_str()))
 }
 
-/// Refuses a table with a key that is not listed.
-pub fn listed(table: &Table, keys: &[Key], number: Option<u32>) -> Result<(), LayoutFault>
-    ensures { result ≡ rows.listed keys.now number (table_view table.now) }
+/// Refuses a table with a key that is not known.
+fn known(is_known: bool, number: Option<u32>) -> Result<(), LayoutFault>
+    ensures { result ≡ rows.known is_known number }
 {
-    if has_listed_keys(table, keys) {
+    if is_known {
         Ok(())
     } else {
         Err(LayoutFault::UnknownKey { module: number })
     }
+}
+
+/// Refuses a table with a key that is not listed.
+#[tactic(auto, using(crate::proofs::RowLemmas::keys_seen))]
+pub fn listed(table: &Table, keys: &[Key], number: Option<u32>) -> Result<(), LayoutFault>
+    ensures { result ≡ rows.listed keys.now number (table_view table.now) }
+{
+    known(has_listed_keys(table, keys), number)
 }
 
 /// The value at the key with this name.
@@ -68,10 +76,7 @@ fn at(table: &Table, spot: Spot) -> Option<&Value>
 pub fn needed(table: &Table, spot: Spot) -> Result<&Value, LayoutFault>
     ensures { map_ok (λ v. view v.now) result ≡ rows.needed spot (table_view table.now) }
 {
-    match at(table, spot) {
-        Some(value) => Ok(value),
-        None => Err(LayoutFault::MissingKey { spot }),
-    }
+    at(table, spot).ok_or(LayoutFault::MissingKey { spot })
 }
 
 /// The integer, if it is within the bounds.
@@ -92,10 +97,10 @@ fn in_bounds(spot: Spot, bounds: Bounds, value: i64) -> Result<u16, LayoutFault>
 pub fn integer(table: &Table, spot: Spot, bounds: Bounds) -> Result<u16, LayoutFault>
     ensures { result ≡ rows.integer spot bounds (table_view table.now) }
 {
-    match needed(table, spot)?.as_integer() {
-        Some(value) => in_bounds(spot, bounds, value),
-        None => Err(LayoutFault::WrongKind { spot }),
-    }
+    let value = needed(table, spot)?
+        .as_integer()
+        .ok_or(LayoutFault::WrongKind { spot })?;
+    in_bounds(spot, bounds, value)
 }
 
 /// The two integers, if these are two.
@@ -121,9 +126,7 @@ fn as_pair(value: &Value) -> Option<(i64, i64)>
 pub fn section(table: &Table, spot: Spot, bounds: Bounds) -> Result<Section, LayoutFault>
     ensures { result ≡ rows.section spot bounds (table_view table.now) }
 {
-    let Some((first, second)) = as_pair(needed(table, spot)?) else {
-        return Err(LayoutFault::WrongKind { spot });
-    };
+    let (first, second) = as_pair(needed(table, spot)?).ok_or(LayoutFault::WrongKind { spot })?;
     let start = in_bounds(spot, bounds, first)?;
     let end = in_bounds(spot, bounds, second)?;
     if start <= end {
@@ -140,9 +143,9 @@ pub fn section(table: &Table, spot: Spot, bounds: Bounds) -> Result<Section, Lay
 pub fn hex_key(table: &Table, spot: Spot) -> Result<[u8; 16], LayoutFault>
     ensures { result ≡ rows.hex_key spot (table_view table.now) }
 {
-    let Some(text) = needed(table, spot)?.as_str() else {
-        return Err(LayoutFault::WrongKind { spot });
-    };
+    let text = needed(table, spot)?
+        .as_str()
+        .ok_or(LayoutFault::WrongKind { spot })?;
     match <[u8; 16] as FromHex>::from_hex(text) {
         Ok(key) => Ok(key),
         Err(_) => Err(LayoutFault::WrongKind { spot }),
@@ -169,9 +172,9 @@ fn is_name(text: &str, most: usize) -> bool
 pub fn name(alloc: Global, table: &Table, spot: Spot, most: usize) -> Result<String, LayoutFault>
     ensures { Reads string_bytes result (rows.name spot most (table_view table.now)) }
 {
-    let Some(text) = needed(table, spot)?.as_str() else {
-        return Err(LayoutFault::WrongKind { spot });
-    };
+    let text = needed(table, spot)?
+        .as_str()
+        .ok_or(LayoutFault::WrongKind { spot })?;
     if !is_name(text, most) {
         return Err(LayoutFault::WrongKind { spot });
     }
@@ -182,10 +185,8 @@ pub fn name(alloc: Global, table: &Table, spot: Spot, most: usize) -> Result<Str
 fn string(alloc: Global, value: &Value, spot: Spot) -> Result<String, LayoutFault>
     ensures { Reads string_bytes result (rows.string spot (view value.now)) }
 {
-    match value.as_str() {
-        Some(text) => Ok(String::from_str(alloc, text)?),
-        None => Err(LayoutFault::WrongKind { spot }),
-    }
+    let text = value.as_str().ok_or(LayoutFault::WrongKind { spot })?;
+    Ok(String::from_str(alloc, text)?)
 }
 
 /// Copies of the values of an array, each a string.
@@ -208,9 +209,9 @@ pub fn entries(
 ) -> Result<Vec<String>, LayoutFault>
     ensures { Reads strings_of result (rows.entries spot most (table_view table.now)) }
 {
-    let Some(items) = needed(table, spot)?.as_array() else {
-        return Err(LayoutFault::WrongKind { spot });
-    };
+    let items = needed(table, spot)?
+        .as_array()
+        .ok_or(LayoutFault::WrongKind { spot })?;
     let names = strings(alloc, items.as_slice(), spot)?;
     if names.as_slice().len() > most {
         return Err(LayoutFault::TooMany { spot });
@@ -289,14 +290,11 @@ fn named_vectors(alloc: Global, table: &Table, spot: Spot) -> Result<Vec<VectorN
 }
 
 /// Refuses a table with a key that is no vector's.
+#[tactic(auto, using(crate::proofs::RowLemmas::keys_seen))]
 fn known_vectors(table: &Table) -> Result<(), LayoutFault>
     ensures { result ≡ rows.known (rows.all_keys rows.is_vector_key (table_view table.now)) None }
 {
-    if has_vector_keys(table) {
-        Ok(())
-    } else {
-        Err(LayoutFault::UnknownKey { module: None })
-    }
+    known(has_vector_keys(table), None)
 }
 
 /// The names in a table of vectors alone.
@@ -321,10 +319,7 @@ pub fn vectors(alloc: Global, table: &Table, spot: Spot) -> Result<Vec<VectorNam
 fn inner_table(value: &Value, spot: Spot) -> Result<&Table, LayoutFault>
     ensures { map_ok (λ t. table_view t.now) result ≡ rows.inner_table spot (view value.now) }
 {
-    match value.as_table() {
-        Some(inner) => Ok(inner),
-        None => Err(LayoutFault::WrongKind { spot }),
-    }
+    value.as_table().ok_or(LayoutFault::WrongKind { spot })
 }
 
 /// The values of an array, each a table.
@@ -351,9 +346,7 @@ pub fn tables(
     let Some(value) = at(table, spot) else {
         return Ok(Vec::new(alloc));
     };
-    let Some(items) = value.as_array() else {
-        return Err(LayoutFault::WrongKind { spot });
-    };
+    let items = value.as_array().ok_or(LayoutFault::WrongKind { spot })?;
     let found = inner_tables(alloc, items.as_slice(), spot)?;
     if found.as_slice().len() > most {
         return Err(LayoutFault::TooMany { spot });

@@ -33,26 +33,22 @@ static LINES: [&str; 22] = [
     "boot = 1",
 ];
 
-/// A line of the layout, and what stands in its place.
-#[derive(Clone, Copy, Debug)]
-struct Change {
-    line: usize,
-    text: &'static str,
-}
+/// The number of a line of the layout, and what stands in its place.
+type Change<'a> = (usize, &'a str);
 
 /// The line as it stands in the changed layout.
-fn changed_line(number: usize, line: &'static str, changes: &[Change]) -> &'static str {
-    match changes.iter().find(|change| change.line == number) {
-        Some(change) => change.text,
+fn changed_line<'a>(number: usize, line: &'a str, changes: &[Change<'a>]) -> &'a str {
+    match changes.iter().find(|change| change.0 == number) {
+        Some(change) => change.1,
         None => line,
     }
 }
 
 /// The text of some lines, each with this end.
-fn text_of(
+fn text_of<'a>(
     alloc: Global,
-    lines: &[&'static str],
-    changes: &[Change],
+    lines: &[&'a str],
+    changes: &[Change<'a>],
     end: &str,
 ) -> Result<String, Fail> {
     let mut text = String::new(alloc);

@@ -66,71 +66,23 @@ fn is_that_of_lines(layout: &Layout) -> bool {
 }
 
 /// The same layout in other words of TOML.
-static SAME: [Change; 16] = [
-    Change {
-        line: 0,
-        text: "version = 2 # the second",
-    },
-    Change {
-        line: 0,
-        text: "\"version\" = 2",
-    },
-    Change {
-        line: 0,
-        text: "'version' = +2",
-    },
-    Change {
-        line: 0,
-        text: "\u{feff}version = 0x2",
-    },
-    Change {
-        line: 1,
-        text: "key = '000102030405060708090A0B0C0D0E0F'",
-    },
-    Change {
-        line: 1,
-        text: "key = \"\"\"000102030405060708090a0b0c0d0e0f\"\"\"",
-    },
-    Change {
-        line: 2,
-        text: "handler_sp = 1_536",
-    },
-    Change {
-        line: 2,
-        text: "handler_sp = 0x06_00",
-    },
-    Change {
-        line: 2,
-        text: "handler_sp = 0o3000",
-    },
-    Change {
-        line: 2,
-        text: "handler_sp = 0b110_0000_0000",
-    },
-    Change {
-        line: 3,
-        text: "text = [\n  512, # from\n  1_024,\n]",
-    },
-    Change {
-        line: 5,
-        text: "vectors.v15 = 'main'\nvectors.\"v2\" = ''",
-    },
-    Change {
-        line: 5,
-        text: "[vectors]\nv2 = \"\"\nv15 = \"m\\u0061in\"",
-    },
-    Change {
-        line: 6,
-        text: "[[ module ]]",
-    },
-    Change {
-        line: 14,
-        text: "[['module']]",
-    },
-    Change {
-        line: 20,
-        text: "entries = ['g', \"\"\"h\"\"\",]",
-    },
+static SAME: [Change<'static>; 16] = [
+    (0, "version = 2 # the second"),
+    (0, "\"version\" = 2"),
+    (0, "'version' = +2"),
+    (0, "\u{feff}version = 0x2"),
+    (1, "key = '000102030405060708090A0B0C0D0E0F'"),
+    (1, "key = \"\"\"000102030405060708090a0b0c0d0e0f\"\"\""),
+    (2, "handler_sp = 1_536"),
+    (2, "handler_sp = 0x06_00"),
+    (2, "handler_sp = 0o3000"),
+    (2, "handler_sp = 0b110_0000_0000"),
+    (3, "text = [\n  512, # from\n  1_024,\n]"),
+    (5, "vectors.v15 = 'main'\nvectors.\"v2\" = ''"),
+    (5, "[vectors]\nv2 = \"\"\nv15 = \"m\\u0061in\""),
+    (6, "[[ module ]]"),
+    (14, "[['module']]"),
+    (20, "entries = ['g', \"\"\"h\"\"\",]"),
 ];
 
 #[test]
@@ -165,72 +117,24 @@ fn inline_modules(rt: HostRuntime) -> Result<(), Fail> {
 }
 
 /// Each bound at its ends.
-static EDGES: [Change; 17] = [
-    Change {
-        line: 2,
-        text: "handler_sp = 0",
-    },
-    Change {
-        line: 2,
-        text: "handler_sp = 65534",
-    },
-    Change {
-        line: 3,
-        text: "text = [0x0200, 0x0200]",
-    },
-    Change {
-        line: 3,
-        text: "text = [0xffe0, 0xffe0]",
-    },
-    Change {
-        line: 4,
-        text: "data = [0x0c00, 0xffe0]",
-    },
-    Change {
-        line: 5,
-        text: "vectors = {}",
-    },
-    Change { line: 5, text: "" },
-    Change {
-        line: 7,
-        text: "name = \"_\"",
-    },
-    Change {
-        line: 7,
-        text: "name = \"ABCDEFGHIJKLMNOPQRSTUVWXYZ012345\"",
-    },
-    Change {
-        line: 8,
-        text: "vendor = 0",
-    },
-    Change {
-        line: 8,
-        text: "vendor = 65535",
-    },
-    Change {
-        line: 9,
-        text: "text = [0x0300, 0x0300]",
-    },
-    Change {
-        line: 11,
-        text: "stack = 2",
-    },
-    Change {
-        line: 11,
-        text: "stack = 32768",
-    },
-    Change {
-        line: 12,
-        text: "entries = [\"\"]",
-    },
-    Change {
-        line: 13,
-        text: "boot = 32",
-    },
-    Change {
-        line: 21,
-        text: "boot = 3",
-    },
+static EDGES: [Change<'static>; 17] = [
+    (2, "handler_sp = 0"),
+    (2, "handler_sp = 65534"),
+    (3, "text = [0x0200, 0x0200]"),
+    (3, "text = [0xffe0, 0xffe0]"),
+    (4, "data = [0x0c00, 0xffe0]"),
+    (5, "vectors = {}"),
+    (5, ""),
+    (7, "name = \"_\""),
+    (7, "name = \"ABCDEFGHIJKLMNOPQRSTUVWXYZ012345\""),
+    (8, "vendor = 0"),
+    (8, "vendor = 65535"),
+    (9, "text = [0x0300, 0x0300]"),
+    (11, "stack = 2"),
+    (11, "stack = 32768"),
+    (12, "entries = [\"\"]"),
+    (13, "boot = 32"),
+    (21, "boot = 3"),
 ];
 
 #[test]
@@ -241,12 +145,7 @@ fn ends_of_bounds(rt: HostRuntime) -> Result<(), Fail> {
         let layout = layout_of(alloc, text.as_str())?;
         assert_eq!(rt; layout.modules.len(), 2, "{change:?}");
     }
-    let mut text = text_of(
-        alloc,
-        LINES.as_slice(),
-        [Change { line: 20, text: "" }].as_slice(),
-        "\n",
-    )?;
+    let mut text = text_of(alloc, LINES.as_slice(), [(20, "")].as_slice(), "\n")?;
     text.push_str("entries = [")?;
     for _ in 0..64 {
         text.push_str("\"e\",")?;
@@ -280,15 +179,12 @@ fn push_module(alloc: Global, text: &mut String, version: u16, number: u16) -> R
 fn layout_with(alloc: Global, version: u16, count: u16) -> Result<Layout, Fail>
     requires { count ≤ 32 }
 {
-    let first = Change {
-        line: 0,
-        text: if version == 1 {
-            "version = 1"
-        } else {
-            "version = 2"
-        },
+    let first = if version == 1 {
+        "version = 1"
+    } else {
+        "version = 2"
     };
-    let mut text = text_of(alloc, &LINES[..6], [first].as_slice(), "\n")?;
+    let mut text = text_of(alloc, &LINES[..6], [(0, first)].as_slice(), "\n")?;
     for number in 0..count {
         push_module(alloc, &mut text, version, number)?;
     }

@@ -1,5 +1,8 @@
 //! Which refusal comes.
-use super::cases::{ARRAYS, CLASHES_CASES, Case, MODULE_CASES, PAIRS, TOP_CASES};
+use super::cases::Wanted::Wrong;
+use super::cases::{
+    ARRAYS, CLASHES_CASES, Case, KINDS, Kind, MODULE_CASES, PAIRS, TOP_CASES, VALUES, Wanted,
+};
 use super::{Change, LINES, fault_of, text_of};
 use crate::LayoutFault::{OutOfRange, TooMany, Utf8OrToml};
 use crate::{Key, LayoutFault, Spot};
@@ -7,19 +10,49 @@ use std::alloc::Global;
 use std::process::Abort;
 use std::test::Fail;
 
+/// The layout of two modules is refused so with these changes.
+fn assert_refused(
+    rt: &impl Abort,
+    alloc: Global,
+    changes: &[Change<'_>],
+    fault: Wanted,
+) -> Result<(), Fail> {
+    let text = text_of(alloc, LINES.as_slice(), changes, "\n")?;
+    assert_eq!(rt;
+        fault_of(alloc, text.as_bytes()),
+        Some(fault.fault()),
+        "{changes:?}"
+    );
+    Ok(())
+}
+
 /// Tries each case in the layout of two modules.
 fn try_cases(rt: &impl Abort, alloc: Global, cases: &[Case]) -> Result<(), Fail> {
     for (line, text, fault) in cases {
-        let changes = [Change {
-            line: *line,
-            text: *text,
-        }];
-        let changed = text_of(alloc, LINES.as_slice(), changes.as_slice(), "\n")?;
-        assert_eq!(rt;
-            fault_of(alloc, changed.as_bytes()),
-            Some(fault.fault()),
-            "{text}"
-        );
+        assert_refused(rt, alloc, [(*line, *text)].as_slice(), *fault)?;
+    }
+    Ok(())
+}
+
+/// Tries a value of each other kind at a key.
+fn try_other_kinds(rt: &impl Abort, alloc: Global, of: &Kind) -> Result<(), Fail> {
+    let (line, module, key, kind) = *of;
+    for value in VALUES.iter().filter(|value| **value != kind) {
+        let text = format!(in alloc; "{} = {value}", key.name())?;
+        assert_refused(
+            rt,
+            alloc,
+            [(line, text.as_str())].as_slice(),
+            Wrong(module, key),
+        )?;
+    }
+    Ok(())
+}
+
+#[test]
+fn other_kinds(rt: HostRuntime) -> Result<(), Fail> {
+    for kind in &KINDS {
+        try_other_kinds(&rt, rt.alloc(), kind)?;
     }
     Ok(())
 }
@@ -43,22 +76,8 @@ fn clashes(rt: HostRuntime) -> Result<(), Fail> {
 fn two_faults(rt: HostRuntime) -> Result<(), Fail> {
     let alloc = rt.alloc();
     for (first_line, first, second_line, second, fault) in &PAIRS {
-        let changes = [
-            Change {
-                line: *first_line,
-                text: *first,
-            },
-            Change {
-                line: *second_line,
-                text: *second,
-            },
-        ];
-        let changed = text_of(alloc, LINES.as_slice(), changes.as_slice(), "\n")?;
-        assert_eq!(rt;
-            fault_of(alloc, changed.as_bytes()),
-            Some(fault.fault()),
-            "{first}, {second}"
-        );
+        let changes = [(*first_line, *first), (*second_line, *second)];
+        assert_refused(&rt, alloc, changes.as_slice(), *fault)?;
     }
     Ok(())
 }
@@ -126,11 +145,7 @@ fn short_texts(rt: HostRuntime) -> Result<(), Fail> {
 #[test]
 fn nine_modules(rt: HostRuntime) -> Result<(), Fail> {
     let alloc = rt.alloc();
-    let first = [Change {
-        line: 0,
-        text: "version = 1",
-    }];
-    let mut text = text_of(alloc, &LINES[..6], first.as_slice(), "\n")?;
+    let mut text = text_of(alloc, &LINES[..6], [(0, "version = 1")].as_slice(), "\n")?;
     for _ in 0..9 {
         text.push_str("[[module]]\n")?;
     }

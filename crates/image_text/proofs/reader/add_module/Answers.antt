@@ -3,15 +3,16 @@ use Rattle.std.proofs.lemmas.Result.{err_from_is_err_and}
 use Rattle.mod_layout.specs.declared.Section.{Section}
 use Rattle.mod_layout.specs.Table.{fault_of}
 use Rattle.image_text.specs.declared.ImageFault.TheVariants.{Table as TableRefuses}
-use Rattle.image_text.specs.Refusal.{section_at}
+use Rattle.image_text.specs.Refusal.{module_form, section_at}
 use Rattle.image_text.proofs.LineTexts.{module_line_of}
-use Rattle.image_text.proofs.StageLemmas.{module_fails, module_refused}
+use Rattle.image_text.proofs.StageLemmas.{form_fails, due_line, module_refused}
 use Rattle.image_text.proofs.reader.add_module.Goals as goal
 
 pub returns-in_err-formed-clause-refused : goal.returns-in_err-formed-clause-refused
 returns-in_err-formed-clause-refused c = let p = err_from_is_err_and c.from_residual-in_err-formed.result c.from_residual-in_err-formed.ensures.1 in rw (p.1, p.2) (λ left due.
-    module_fails c.args.lines.now c.next.new.self c.args.table.now left c.in_ok-line.line.text.now c.in_ok-line.ensures.line due
-    c.in_ok-line.line.number c.in_ok-line.line.at c.in_err-formed.field-0.0 c.in_ok-line.ensures.spot.0 c.in_ok-line.ensures.spot.1 c.in_err-formed.ensures.err)
+    form_fails module_form c.in_ok-line.line.text.now c.args.lines.now.spot _ _ c.in_ok-line.line.number c.in_ok-line.line.at c.in_err-formed.field-0.0
+    (due_line c.args.lines.now c.next.new.self c.args.table.now left c.in_ok-line.line.text.now c.in_ok-line.ensures.line due)
+    c.in_ok-line.ensures.spot.0 c.in_ok-line.ensures.spot.1 c.in_err-formed.ensures.err)
 
 pub word_at-vendor-requires : goal.word_at-vendor-requires
 word_at-vendor-requires c = let k = module_line_of c.in_ok-line.line.text.now c.in_ok-formed.ensures.ok in k.vendor

@@ -1,4 +1,6 @@
 use Rattle.std.proofs.Common.{◌≡◌, ℕ, inl, inr, List, sym, ap, ◌∙◌, ⊎_elim, arith}
+use Rattle.std.proofs.lemmas.Result.{err_from_is_err_and}
+use Rattle.image_text.specs.Image.{Image}
 use Rattle.image_text.specs.Refusal.{first_refusal, refusal_of}
 use Rattle.image_text.specs.Reading.{Unread, on}
 use Rattle.image_text.proofs.WholeText.{whole_text, whole_image}
@@ -8,85 +10,74 @@ start : (bytes : List ℕ) (u : Unread) → u ≡ record { rest = bytes; spot = 
 unfolding refusal_of
 start bytes u e = ap (λ (x : Unread). on x first_refusal) (sym e)
 
-pub returns-in-Err-clause-refused : goal.returns-in-Err-clause-refused
-returns-in-Err-clause-refused c =
-    inr (start c.args.bytes.now c.new-lines.result c.new-lines.ensures ∙ c.in-Err.ensures.refused)
+pub returns-in_err-room : goal.returns-in_err-room
+returns-in_err-room c =
+    let p = err_from_is_err_and c.from_residual.result c.from_residual.ensures.1 in
+    let e = inr (start c.args.bytes.now c.new-lines.result c.new-lines.ensures ∙ c.in_err-room.ensures.refused) in
+    rw (p.1, p.2) record { image = tt; text = tt; refused = e; reads = e }
 
-pub returns-in-Err-read_key-clause-refused : goal.returns-in-Err-read_key-clause-refused
-returns-in-Err-read_key-clause-refused c =
-    let p = c.in-Ok.ensures.passed in
-    inr (start c.args.bytes.now c.new-lines.result c.new-lines.ensures ∙ p.refusal ∙ c.in-Err-read_key.ensures.refused c.in-Ok.room)
+pub returns-in_err-node_key : goal.returns-in_err-node_key
+returns-in_err-node_key c =
+    let p = err_from_is_err_and c.from_residual-in_err-node_key.result c.from_residual-in_err-node_key.ensures.1 in
+    let r = c.in_ok-room.ensures.passed in
+    let e = inr (start c.args.bytes.now c.new-lines.result c.new-lines.ensures ∙ r.refusal ∙ c.in_err-node_key.ensures.refused c.in_ok-room.room) in
+    rw (p.1, p.2) record { image = tt; text = tt; refused = e; reads = e }
 
-pub returns-in-Err-read_handler-clause-refused : goal.returns-in-Err-read_handler-clause-refused
-returns-in-Err-read_handler-clause-refused c =
-    let p = c.in-Ok.ensures.passed in
-    let k = c.in-Ok-read_key.ensures.passed c.in-Ok.room in
-    inr (start c.args.bytes.now c.new-lines.result c.new-lines.ensures ∙ p.refusal ∙ k.refusal ∙ c.in-Err-read_handler.ensures.refused c.in-Ok.room)
+pub returns-in_err-handler_sp : goal.returns-in_err-handler_sp
+returns-in_err-handler_sp c =
+    let p = err_from_is_err_and c.from_residual-in_err-handler_sp.result c.from_residual-in_err-handler_sp.ensures.1 in
+    let r = c.in_ok-room.ensures.passed in
+    let k = c.in_ok-node_key.ensures.passed c.in_ok-room.room in
+    let e = inr (start c.args.bytes.now c.new-lines.result c.new-lines.ensures ∙ r.refusal ∙ k.refusal ∙ c.in_err-handler_sp.ensures.refused c.in_ok-room.room) in
+    rw (p.1, p.2) record { image = tt; text = tt; refused = e; reads = e }
 
-pub returns-in-Err-read_count-clause-refused : goal.returns-in-Err-read_count-clause-refused
-returns-in-Err-read_count-clause-refused c =
-    let p = c.in-Ok.ensures.passed in
-    let k = c.in-Ok-read_key.ensures.passed c.in-Ok.room in
-    let h = c.in-Ok-read_handler.ensures.passed c.in-Ok.room in
-    inr (start c.args.bytes.now c.new-lines.result c.new-lines.ensures ∙ p.refusal ∙ k.refusal ∙ h.refusal ∙ c.in-Err-read_count.ensures.refused)
+pub returns-in_err-due : goal.returns-in_err-due
+returns-in_err-due c =
+    let p = err_from_is_err_and c.from_residual-in_err-due.result c.from_residual-in_err-due.ensures.1 in
+    let r = c.in_ok-room.ensures.passed in
+    let k = c.in_ok-node_key.ensures.passed c.in_ok-room.room in
+    let h = c.in_ok-handler_sp.ensures.passed c.in_ok-room.room in
+    let e = inr (start c.args.bytes.now c.new-lines.result c.new-lines.ensures ∙ r.refusal ∙ k.refusal ∙ h.refusal ∙ c.in_err-due.ensures.refused) in
+    rw (p.1, p.2) record { image = tt; text = tt; refused = e; reads = e }
 
-pub returns-in-Err-read_modules-clause-refused : goal.returns-in-Err-read_modules-clause-refused
-returns-in-Err-read_modules-clause-refused c =
-    let p = c.in-Ok.ensures.passed in
-    let k = c.in-Ok-read_key.ensures.passed c.in-Ok.room in
-    let h = c.in-Ok-read_handler.ensures.passed c.in-Ok.room in
-    let n = c.in-Ok-read_count.ensures.passed in
-    inr (start c.args.bytes.now c.new-lines.result c.new-lines.ensures ∙ p.refusal ∙ k.refusal ∙ h.refusal ∙ n.refusal ∙ c.in-Err-read_modules.ensures.refused)
+pub returns-in_err-table : goal.returns-in_err-table
+returns-in_err-table c =
+    let p = err_from_is_err_and c.from_residual-in_err-table.result c.from_residual-in_err-table.ensures.1 in
+    let r = c.in_ok-room.ensures.passed in
+    let k = c.in_ok-node_key.ensures.passed c.in_ok-room.room in
+    let h = c.in_ok-handler_sp.ensures.passed c.in_ok-room.room in
+    let n = c.in_ok-due.ensures.passed in
+    let e = inr (start c.args.bytes.now c.new-lines.result c.new-lines.ensures ∙ r.refusal ∙ k.refusal ∙ h.refusal ∙ n.refusal ∙ c.in_err-table.ensures.refused) in
+    rw (p.1, p.2) record { image = tt; text = tt; refused = e; reads = e }
 
-pub returns-in-Err-read_memory-clause-refused : goal.returns-in-Err-read_memory-clause-refused
-returns-in-Err-read_memory-clause-refused c =
-    let p = c.in-Ok.ensures.passed in
-    let k = c.in-Ok-read_key.ensures.passed c.in-Ok.room in
-    let h = c.in-Ok-read_handler.ensures.passed c.in-Ok.room in
-    let n = c.in-Ok-read_count.ensures.passed in
-    let m = c.in-Ok-read_modules.ensures.passed in
-    ⊎_elim inl (λ e. inr (start c.args.bytes.now c.new-lines.result c.new-lines.ensures ∙ p.refusal ∙ k.refusal ∙ h.refusal ∙ n.refusal ∙ m.refusal ∙ e)) c.in-Err-read_memory.ensures.refused
+pub returns-in_err-memory : goal.returns-in_err-memory
+returns-in_err-memory c =
+    let p = err_from_is_err_and c.from_residual-in_err-memory.result c.from_residual-in_err-memory.ensures.1 in
+    let r = c.in_ok-room.ensures.passed in
+    let k = c.in_ok-node_key.ensures.passed c.in_ok-room.room in
+    let h = c.in_ok-handler_sp.ensures.passed c.in_ok-room.room in
+    let n = c.in_ok-due.ensures.passed in
+    let m = c.in_ok-table.ensures.passed in
+    let before = start c.args.bytes.now c.new-lines.result c.new-lines.ensures ∙ r.refusal ∙ k.refusal ∙ h.refusal ∙ n.refusal ∙ m.refusal in
+    let e = ⊎_elim inl (λ e. inr (before ∙ e)) c.in_err-memory.ensures.refused in
+    rw (p.1, p.2) record { image = tt; text = tt; refused = e; reads = e }
 
 pub invariant_of-result : goal.invariant_of-result
 invariant_of-result c =
-    let m = c.in-Ok-read_modules.ensures.passed in
-    whole_image c.in-Ok-read_memory.memory.items c.in-Ok-read_key.key c.in-Ok-read_modules.table c.in-Ok-read_handler.sp c.in-Ok.room c.in-Ok-read_count.due c.read_count.new.lines c.read_modules.new.lines c.read_modules.new.lines m
-    c.in-Ok-read_memory.ensures.passed c.in-Ok-read_key.ensures.sixteen c.in-Ok-read_key.ensures.bytes c.in-Ok-read_handler.ensures.even (omega arith)
+    whole_image c.in_ok-memory.memory.items c.in_ok-node_key.node_key c.in_ok-table.table c.in_ok-handler_sp.handler_sp c.in_ok-room.room c.in_ok-due.due
+    c.read_count.new.lines c.read_modules.new.lines c.read_modules.new.lines c.in_ok-table.ensures.passed c.in_ok-memory.ensures.passed
+    c.in_ok-node_key.ensures.sixteen c.in_ok-node_key.ensures.bytes c.in_ok-handler_sp.ensures.even (omega arith)
 
-pub returns-clause-image : goal.returns-clause-image
-returns-clause-image c =
-    invariant_of-result c
-
-pub returns-clause-text : goal.returns-clause-text
-returns-clause-text c =
-    let p = c.in-Ok.ensures.passed in
-    let k = c.in-Ok-read_key.ensures.passed c.in-Ok.room in
-    let h = c.in-Ok-read_handler.ensures.passed c.in-Ok.room in
-    let n = c.in-Ok-read_count.ensures.passed in
-    let m = c.in-Ok-read_modules.ensures.passed in
-    let w = c.in-Ok-read_memory.ensures.passed in
+pub returns : goal.returns
+returns c =
+    let r = c.in_ok-room.ensures.passed in
+    let k = c.in_ok-node_key.ensures.passed c.in_ok-room.room in
+    let h = c.in_ok-handler_sp.ensures.passed c.in_ok-room.room in
+    let n = c.in_ok-due.ensures.passed in
+    let m = c.in_ok-table.ensures.passed in
+    let w = c.in_ok-memory.ensures.passed in
     let first : c.args.bytes.now ≡ c.new-lines.result.rest = sym (ap (λ (u : Unread). u.rest) c.new-lines.ensures) in
-    first ∙ whole_text record { memory = c.in-Ok-read_memory.memory.items; table = c.in-Ok-read_modules.table; node_key = c.in-Ok-read_key.key; handler_sp = c.in-Ok-read_handler.sp } c.in-Ok.room c.in-Ok-read_count.due
-    c.new-lines.result.rest c.read_version.new.lines.rest c.read_key.new.lines.rest c.read_handler.new.lines.rest c.read_count.new.lines.rest c.read_modules.new.lines.rest
-    m.room_is n.kind m.count p.text k.text h.text n.text m.text w.text
-
-pub returns-in-Err-clause-reads : goal.returns-in-Err-clause-reads
-returns-in-Err-clause-reads c = returns-in-Err-clause-refused c
-
-pub returns-in-Err-read_key-clause-reads : goal.returns-in-Err-read_key-clause-reads
-returns-in-Err-read_key-clause-reads c = returns-in-Err-read_key-clause-refused c
-
-pub returns-in-Err-read_handler-clause-reads : goal.returns-in-Err-read_handler-clause-reads
-returns-in-Err-read_handler-clause-reads c = returns-in-Err-read_handler-clause-refused c
-
-pub returns-in-Err-read_count-clause-reads : goal.returns-in-Err-read_count-clause-reads
-returns-in-Err-read_count-clause-reads c = returns-in-Err-read_count-clause-refused c
-
-pub returns-in-Err-read_modules-clause-reads : goal.returns-in-Err-read_modules-clause-reads
-returns-in-Err-read_modules-clause-reads c = returns-in-Err-read_modules-clause-refused c
-
-pub returns-in-Err-read_memory-clause-reads : goal.returns-in-Err-read_memory-clause-reads
-returns-in-Err-read_memory-clause-reads c = returns-in-Err-read_memory-clause-refused c
-
-pub returns-clause-reads : goal.returns-clause-reads
-returns-clause-reads c = (returns-clause-image c, returns-clause-text c)
+    let image : Image = record { memory = c.in_ok-memory.memory.items; table = c.in_ok-table.table; node_key = c.in_ok-node_key.node_key; handler_sp = c.in_ok-handler_sp.handler_sp } in
+    let text = first ∙ whole_text image c.in_ok-room.room c.in_ok-due.due c.new-lines.result.rest c.read_version.new.lines.rest c.read_key.new.lines.rest
+    c.read_handler.new.lines.rest c.read_count.new.lines.rest c.read_modules.new.lines.rest m.room_is n.kind m.count r.text k.text h.text n.text m.text w.text in
+    record { image = invariant_of-result c; text = text; refused = tt; reads = (invariant_of-result c, text) }

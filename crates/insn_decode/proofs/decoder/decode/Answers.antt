@@ -1,23 +1,15 @@
-use Rattle.std.proofs.Common.{◌≡◌, ℕ, ◌∙◌, sym, refl, Option, Some, None, rules}
+use Rattle.std.proofs.Common.{◌≡◌, ◌∙◌, sym, refl, Option, Some, None, rules}
 use Rattle.std.specs.Prelude.{IfSome, IsNone}
 use Rattle.insn_decode.specs.declared.insn.Insn.{Insn}
-use Rattle.insn_decode.specs.Code.{insn_of, length_of, length_at, IsDecoded, HasForm}
+use Rattle.insn_decode.specs.Code.{length_of, length_at, HasForm}
 use Rattle.insn_decode.proofs.Table.{insn_means}
 use Rattle.insn_decode.proofs.FormFacts.{means_form}
 use Rattle.insn_decode.proofs.Unread.{length_same, unread_both, unread_last, none_outside, outside_none}
 use Rattle.insn_decode.proofs.decoder.decode.Goals as goal
 
-some_decoded : (w0 w1 w2 : ℕ) (o : Option Insn) → o ≡ insn_of w0 w1 w2 → IfSome o (λ insn. IsDecoded insn)
-some_decoded w0 w1 w2 None e = tt
-some_decoded w0 w1 w2 (Some insn) e = record { first = w0; second = w1; third = w2; means = sym e }
-
-some_form : (w0 w1 w2 : ℕ) (o : Option Insn) → o ≡ insn_of w0 w1 w2 → IfSome o (λ insn. HasForm insn)
-some_form w0 w1 w2 None e = tt
-some_form w0 w1 w2 (Some insn) e = means_form (insn_means w0 w1 w2 insn (sym e))
-
-some_length : (w0 w1 w2 : ℕ) (o : Option Insn) → o ≡ insn_of w0 w1 w2 → IfSome o (λ insn. length_of insn ≡ length_at w0)
-some_length w0 w1 w2 None e = tt
-some_length w0 w1 w2 (Some insn) e = length_same w0 w1 w2 insn (sym e)
+if_some : (P : Insn → Type 0) (o : Option Insn) → ((insn : Insn) → o ≡ Some insn → P insn) → IfSome o P
+if_some P None each = tt
+if_some P (Some insn) each = each insn refl
 
 none_is : (o : Option Insn) → IsNone o → o ≡ None
 none_is None h = refl
@@ -27,11 +19,9 @@ is_none_at : (o : Option Insn) → o ≡ None → IsNone o
 is_none_at None e = search rules
 is_none_at (Some insn) e = absurd cc
 
-pub returns-clause-decoded : goal.returns-clause-decoded
-returns-clause-decoded c = some_decoded c.args.w0 c.args.w1 c.args.w2 c.by_form.result c.by_form.ensures
-
 pub returns-clause-form : goal.returns-clause-form
-returns-clause-form c = some_form c.args.w0 c.args.w1 c.args.w2 c.by_form.result c.by_form.ensures
+returns-clause-form c =
+    if_some HasForm c.by_form.result (λ insn e. means_form (insn_means c.args.w0 c.args.w1 c.args.w2 insn (sym c.by_form.ensures ∙ e)))
 
 pub returns-clause-outside : goal.returns-clause-outside
 returns-clause-outside c = (
@@ -40,7 +30,9 @@ returns-clause-outside c = (
 )
 
 pub returns-clause-length : goal.returns-clause-length
-returns-clause-length c = some_length c.args.w0 c.args.w1 c.args.w2 c.by_form.result c.by_form.ensures
+returns-clause-length c =
+    if_some (λ insn. length_of insn ≡ length_at c.args.w0) c.by_form.result
+    (λ insn e. length_same c.args.w0 c.args.w1 c.args.w2 insn (sym c.by_form.ensures ∙ e))
 
 pub returns-clause-one_word : goal.returns-clause-one_word
 returns-clause-one_word c h v1 v2 = unread_both c.args.w0 c.args.w1 c.args.w2 v1 v2 h ∙ sym c.by_form.ensures

@@ -6,6 +6,3 @@ returns-clause-found c = insn_means
 
 pub returns-clause-given : goal.returns-clause-given
 returns-clause-given c w0 w1 w2 n insn m = (means_insn m).0
-
-pub returns-clause-length : goal.returns-clause-length
-returns-clause-length c w0 w1 w2 n insn m = (means_insn m).1

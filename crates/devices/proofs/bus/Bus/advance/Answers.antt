@@ -1,7 +1,4 @@
-use Rattle.std.proofs.Common.{◌≡◌, ◌≤◌, ◌+◌, ◌∙◌, sym, ap, subst, arith, length}
-use Rattle.std.specs.Prelude.{All}
-use Rattle.std.proofs.lemmas.List.Elements.{All-drop}
-use Rattle.schedule_file.specs.Entries.{HasLine}
+use Rattle.std.proofs.Common.{◌≡◌, ◌≤◌, ◌+◌, ◌∙◌, ap, arith, length}
 use Rattle.devices.specs.Parts.{joined}
 use Rattle.devices.specs.Time.{ticked_by}
 use Rattle.devices.specs.Bus.{BusState, IsDue, acted_before, past_count}
@@ -11,10 +8,6 @@ use Rattle.devices.proofs.bus.Bus.advance.Goals as goal
 
 pub pending-requires : goal.pending-requires
 pending-requires c = IsDue-within _ _ _ c.self.invariant.0
-
-pub act_before-acted-requires : goal.act_before-acted-requires
-act_before-acted-requires c =
-    subst (All HasLine) (sym c.pending.ensures.entries) (All-drop HasLine c.self.inside.agenda.acted c.self.inside.agenda.entries.items c.self.invariant.0.lines)
 
 pub overflow_add-self : goal.overflow_add-self
 overflow_add-self c =
