@@ -3,9 +3,10 @@
 
     python3 bench/link.py PROGRAM [RUNS] [CASE..]
 
-PROGRAM is called as `PROGRAM link LAYOUT OBJ..`. A line for each case: seconds, seconds of processor and MiB of the
-program, of ld.lld, the two ratios, and the MiB of the files; at last the machine's load. The least of RUNS (3) counts,
-taken in turn, so that both see the same noise.
+PROGRAM is called as `PROGRAM link LAYOUT OBJ..`, with the setting for huge pages that `sancus` gives it, unless
+GLIBC_TUNABLES is set. A line for each case: seconds, seconds of processor and MiB of the program, of ld.lld, the two
+ratios, and the MiB of the files; at last the machine's load. The least of RUNS (3) counts, taken in turn, so that both
+see the same noise.
 """
 import os
 import shutil
@@ -18,6 +19,8 @@ sys.path.insert(0, os.path.dirname(os.path.abspath(__file__)))
 from elf430 import ABS, ALLOC, EXEC, GLOBAL, WEAK, Object  # noqa: E402
 
 LIMIT = 1 << 20
+# As in the launcher.
+HUGE_PAGES = "glibc.malloc.hugetlb=1:glibc.malloc.mmap_threshold=33554432"
 LAYOUT = """version = 1
 key = "00000000000000000000000000000000"
 handler_sp = 0xff00
@@ -115,10 +118,11 @@ CASES = {
 }
 
 
-def timed(words):
-    """Seconds, seconds of processor, MiB and exit status of a run."""
+def timed(words, settings):
+    """Seconds, seconds of processor, MiB and exit status of a run with these variables more."""
     start = time.perf_counter()
-    child = subprocess.Popen(words, stdout=subprocess.DEVNULL, stderr=subprocess.DEVNULL)
+    null = subprocess.DEVNULL
+    child = subprocess.Popen(words, stdout=null, stderr=null, env={**settings, **os.environ})
     _, status, usage = os.wait4(child.pid, 0)
     child.returncode = os.waitstatus_to_exitcode(status)
     return time.perf_counter() - start, usage.ru_utime + usage.ru_stime, usage.ru_maxrss / 1024, child.returncode
@@ -146,9 +150,9 @@ def measure(program, lld, folder, case, runs):
             f.write(data)
     ours, theirs = [], []
     for _ in range(runs):
-        ours.append(timed([*program.split(), "link", layout, *paths]))
+        ours.append(timed([*program.split(), "link", layout, *paths], {"GLIBC_TUNABLES": HUGE_PAGES}))
         if lld:
-            theirs.append(timed([lld, "-Ttext=0x200", "-o", os.path.join(folder, "out.elf"), *paths]))
+            theirs.append(timed([lld, "-Ttext=0x200", "-o", os.path.join(folder, "out.elf"), *paths], {}))
     own, other = least(ours), least(theirs) if theirs else None
     line = f"{case:14} {shown(own)}"
     if other:

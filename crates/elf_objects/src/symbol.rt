@@ -176,7 +176,7 @@ fn symbols_in(
     requires { AreNames file.now (strings_of file.now table.now) names.now }
     ensures { IfOk result (λ v. v.items ≡ symbols_in file.now (Some table.now)) }
 {
-    let mut symbols = Vec::new(alloc);
+    let mut symbols = Vec::with_capacity(alloc, count_in(table) as usize)?;
     for k in 0..count_in(table) {
         symbols.push(symbol_of(file, table, names, k))?;
     }

@@ -63,6 +63,18 @@ fn whole_files(rt: HostRuntime) -> Result<(), Fail> {
     Ok(())
 }
 
+// A short file does not keep the room of a long one.
+#[test]
+fn room_of_a_short_file(rt: HostRuntime) -> Result<(), Fail> {
+    let alloc = rt.alloc();
+    let mut files = MemFiles::new(alloc);
+    files.put_file("short", vec![in alloc; b'x'; 5000]?.as_slice())?;
+    let bytes = read_whole(alloc, &mut files, "short")?;
+    assert_eq!(rt; bytes.len(), 5000);
+    assert!(rt; bytes.capacity() < 65536);
+    Ok(())
+}
+
 // A path that no other process uses.
 fn own_path(rt: &HostRuntime, name: &str) -> Result<String, Fail> {
     let folder = env::temp_dir(rt)?;

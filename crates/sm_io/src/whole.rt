@@ -14,6 +14,9 @@ const LEAST_PIECE: usize = 4096;
 
 const MOST_PIECE: usize = 65536;
 
+// So much room that a file has not filled is given back: with less, to copy the file costs more than the room.
+const MOST_SPARE: usize = 262144;
+
 /// Why a whole file was not read.
 #[derive(Clone, Copy, Debug, PartialEq, Eq)]
 pub enum ReadFault {
@@ -36,6 +39,15 @@ fn make_room(bytes: &mut Vec<u8>)
     if LEAST_PIECE <= len && len <= MAX_FILE {
         // Where it is not to be had, the file may still be short enough.
         let _had = bytes.reserve(MAX_FILE + MOST_PIECE - len).is_ok();
+    }
+}
+
+// The room that a whole file has not filled: where memory comes in huge pages, it is taken as soon as a part of it is filled.
+fn give_back(bytes: &mut Vec<u8>)
+    ensures same { bytes.new.items ≡ bytes.old.items }
+{
+    if bytes.capacity() - bytes.len() > MOST_SPARE {
+        bytes.shrink_to_fit();
     }
 }
 
@@ -66,6 +78,7 @@ pub fn read_whole<F: Files>(alloc: Global, files: &mut F, name: &str) -> Result<
         };
         bytes.truncate(at + count);
         if count == 0 {
+            give_back(&mut bytes);
             return Ok(bytes);
         }
     }
