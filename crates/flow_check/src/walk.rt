@@ -14,6 +14,7 @@ ghost use Rattle.flow_check.specs.Tables.{IsTable};
 
 use crate::along::{Way, along, is_call_word};
 use crate::blot::{blot_at, blot_registers, blot_words};
+use crate::glide::glide;
 use crate::needs::Sources;
 use crate::reach::reaches;
 use crate::returns::Returns;
@@ -150,7 +151,7 @@ fn walk_by_step(
 }
 
 /// Does the arm's instruction at this place, and tells whether the arm goes on.
-#[inline(always)]
+#[inline(never)]
 fn walk_on(
     module: &Module,
     text: &[u8],
@@ -230,6 +231,12 @@ pub fn walk(
     let mut place = *from;
     let mut left = u32::from(join) + 1;
     while left > 0 {
+        left = glide(
+            module, text, table, entries, join, &mut place, tally, left,
+        );
+        if left == 0 {
+            break;
+        }
         if place.pc == join {
             return;
         }
