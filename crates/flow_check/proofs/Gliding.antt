@@ -26,7 +26,7 @@ use Rattle.flow_rule.specs.Reasons.{because_if, reach_reasons}
 use Rattle.flow_rule.specs.Going.{goes, goes_by, goes_in}
 use Rattle.flow_rule.specs.Stub.{word_number, is_shut, shut_if}
 use Rattle.flow_rule.specs.Verdict.{flow_step}
-use Rattle.flow_rule.specs.Arms.{written_words}
+use Rattle.flow_rule.specs.Arms.{written_reg, written_regs, written_words}
 use Rattle.flow_check.specs.declared.along.Way.TheVariants.{On}
 use Rattle.flow_check.specs.Pairs.{IsStub}
 use Rattle.flow_check.specs.Along.{is_clear, done_by, words_by, in_open, is_call_word, LeadsTo}
@@ -111,6 +111,9 @@ module _ (m : Module) (text : List ℕ) (join pc next : ℕ) (l : Label) (insn :
 
   pub glide_written : written_words m (write_reaches (plan_val insn pc l.core)) ≡ []
   glide_written = into_written m text insn op w s r pc l is c1 c1 (add16 pc 2) from v past refl refl (short.value (add16 pc 2)) (sym short.still)
+
+  pub glide_regs : written_regs insn ≡ written_reg (writes_dst op) (Reg r)
+  glide_regs = ap written_regs is ∙ ap (λ rs. rs ++ written_reg (writes_dst op) (Reg r)) short.steps
 
   glide_words : l.words ≡ words_by m text insn pc l
   glide_words = into_words_are m text insn op w s r pc l is c1 c1 (add16 pc 2) from v past refl refl (short.value (add16 pc 2)) (sym short.still)

@@ -1,8 +1,6 @@
 //! Secret where the instructions of an arm write.
 
 ghost use Rattle.std.specs.Prelude.{◌≡◌, ◌∷◌, List};
-ghost use Rattle.sm_words.specs.declared.width.Width.{Width};
-ghost use Rattle.insn_decode.specs.declared.insn.Insn.{Insn};
 ghost use Rattle.flow_rule.specs.declared.Reach.{Reach};
 ghost use Rattle.flow_rule.specs.Does.{write_reaches};
 ghost use Rattle.flow_check.specs.Walks.{one_regs};
@@ -13,7 +11,7 @@ use crate::reach::writes_destination;
 use crate::registers::{Core, put};
 use crate::text::{put_word, word_number};
 use flow_rule::{Reach, Val};
-use insn_decode::{Insn, OneOp, Operand, TwoOp};
+use insn_decode::{Insn, OneOp, Operand};
 use mod_layout::Module;
 use pc_access::Kind;
 
@@ -29,22 +27,12 @@ fn blot_step(operand: Operand, core: &mut Core)
 
 /// The register that is written, if one is.
 #[inline(always)]
-fn blot_written(written: bool, operand: Operand, core: &mut Core)
+pub fn blot_written(written: bool, operand: Operand, core: &mut Core)
     ensures { core.new ≡ blot_core (written_reg written operand) core.old }
 {
     if written && let Operand::Reg(reg) = operand {
         put(core, reg, Val::Secret);
     }
-}
-
-/// The registers that an instruction of format I writes.
-#[tactic(auto, using(crate::proofs::Blots::core_append))]
-#[inline(always)]
-pub fn blot_two(op: TwoOp, src: Operand, dst: Operand, core: &mut Core)
-    ensures { (width : Width) → core.new ≡ blot_core (written_regs (Insn.Two op width src dst)) core.old }
-{
-    blot_step(src, core);
-    blot_written(writes_destination(op), dst, core);
 }
 
 /// The registers that an instruction writes.
@@ -54,7 +42,10 @@ pub fn blot_registers(insn: &Insn, core: &mut Core)
     ensures { core.new ≡ blot_core (written_regs insn.now) core.old }
 {
     match *insn {
-        Insn::Two { op, src, dst, .. } => blot_two(op, src, dst, core),
+        Insn::Two { op, src, dst, .. } => {
+            blot_step(src, core);
+            blot_written(writes_destination(op), dst, core);
+        }
         Insn::One { op, arg, .. } => {
             blot_step(arg, core);
             blot_operand(op, arg, core);

@@ -6,10 +6,9 @@ ghost use Rattle.flow_rule.specs.declared.Val.TheVariants.{Known};
 ghost use Rattle.flow_rule.specs.Values.{val};
 ghost use Rattle.flow_rule.specs.Stub.{word_number, is_shut};
 ghost use Rattle.flow_rule.specs.Verdict.{flow_step};
-ghost use Rattle.flow_rule.specs.Arms.{walk, written_regs, blot_core};
-ghost use Rattle.insn_decode.specs.declared.insn.Insn.{Insn};
+ghost use Rattle.cpu_step.specs.Plan.{writes_dst};
+ghost use Rattle.flow_rule.specs.Arms.{walk, written_reg, blot_core};
 ghost use Rattle.insn_decode.specs.declared.insn.Operand.{Operand};
-ghost use Rattle.sm_words.specs.declared.width.Width.{Width};
 ghost use Rattle.flow_check.specs.Pairs.{IsStub};
 ghost use Rattle.flow_check.specs.Walks.{told, point_at};
 ghost use Rattle.flow_check.specs.Along.{is_call_word, in_open};
@@ -17,8 +16,10 @@ ghost use Rattle.flow_check.specs.Gliding.{IsWordThere, IsShortSource, moved_on}
 ghost use Rattle.flow_check.specs.Tables.{IsTable};
 
 use crate::access::may;
-use crate::blot::blot_two;
+use crate::blot::blot_written;
 use crate::effect::{carry_for, into_register, low};
+use crate::reach::writes_destination;
+use crate::needs::Sources;
 use crate::registers::{Core, get};
 use crate::stub::word_number;
 use crate::table::{Entry, entry_at, next_of};
@@ -92,20 +93,20 @@ fn source(module: &Module, text: &[u8], width: Width, src: Operand, label: &Labe
     }
 }
 
-/// Tells what an instruction of format I takes and writes, which writes a register.
+/// Tells what a short instruction takes and writes.
 #[inline(always)]
-fn tell_register(op: TwoOp, src: Operand, reg: u8, time: u8, tally: &mut Tally)
+fn tell_short(op: TwoOp, reg: u8, time: u8, tally: &mut Tally)
     requires { tally.old.cycles + time < 4294967296 }
-    ensures { (width : Width) → tally.new ≡ record tally.old {
+    ensures { tally.new ≡ record tally.old {
       cycles = tally.old.cycles + time;
       label = record tally.old.label {
         core = blot_core
-            (written_regs (Insn.Two op width src (Operand.Reg reg))) tally.old.label.core;
+            (written_reg (writes_dst op) (Operand.Reg reg)) tally.old.label.core;
       };
     } }
 {
     tally.cycles += u32::from(time);
-    blot_two(op, src, Operand::Reg(reg), &mut tally.label.core);
+    blot_written(writes_destination(op), Operand::Reg(reg), &mut tally.label.core);
 }
 
 /// Moves PC on to an even address.
@@ -129,6 +130,7 @@ fn glide_on(
     join: u16,
     place: &mut Place,
     tally: &mut Tally,
+    sources: &mut Sources,
 ) -> bool
     requires table { IsTable module.now text.now table.now }
     requires before { place.old.pc ≢ join }
@@ -146,7 +148,7 @@ fn glide_on(
     let Some(entry) = entry_at(module, text, table, pc) else {
         return false;
     };
-    let Some(insn) = entry.met else {
+    let Some(insn) = &entry.met else {
         return false;
     };
     let Insn::Two {
@@ -154,7 +156,7 @@ fn glide_on(
         width,
         src,
         dst,
-    } = insn
+    } = *insn
     else {
         return false;
     };
@@ -173,17 +175,18 @@ fn glide_on(
     let Some(value) = source(module, text, width, src, &place.label) else {
         return false;
     };
+    sources.follow(module, insn, pc, &place.label.core);
     let carry = carry_for(op, &place.label.core);
     move_on(&mut place.label.core, next);
     into_register(op, width, reg, value, carry, &mut place.label.core);
-    tell_register(op, src, reg, entry.time, tally);
+    tell_short(op, reg, entry.time, tally);
     place.pc = next;
     true
 }
 
 /// Goes on along the shortest instructions, for at most so many steps, and tells how many of these are left.
 #[inline(never)]
-pub fn glide(
+fn glide_along(
     module: &Module,
     text: &[u8],
     table: &[Entry],
@@ -191,6 +194,7 @@ pub fn glide(
     join: u16,
     place: &mut Place,
     tally: &mut Tally,
+    sources: &mut Sources,
     most: u32,
 ) -> u32
     requires table { IsTable module.now text.now table.now }
@@ -209,11 +213,51 @@ pub fn glide(
             return left;
         }
         if !glide_on(
-            module, text, table, entries, join, place, tally,
+            module, text, table, entries, join, place, tally, sources,
         ) {
             return left;
         }
         left -= 1;
     }
     0
+}
+
+/// Whether the instruction at an address is likely to be one of the shortest: only then is it tried.
+#[inline(always)]
+fn seems_short(module: &Module, table: &[Entry], pc: u16) -> bool {
+    match table.get(usize::from(pc.saturating_sub(module.text.start)) / 2) {
+        Some(entry) => matches!(entry.met, Some(Insn::Two { dst: Operand::Reg(_), .. })),
+        None => false,
+    }
+}
+
+/// The same, where the first is likely to be one of them.
+#[inline(always)]
+pub fn glide(
+    module: &Module,
+    text: &[u8],
+    table: &[Entry],
+    entries: Option<u16>,
+    join: u16,
+    place: &mut Place,
+    tally: &mut Tally,
+    sources: &mut Sources,
+    most: u32,
+) -> u32
+    requires table { IsTable module.now text.now table.now }
+    requires short { tally.old.cycles + 255 * most ≤ 255 * 65536 }
+    ensures same { IsStub module.now text.now entries → (branch : ℕ) →
+        told (walk (flow_step module.now text.now) module.now text.now branch join most
+        (point_at place.old)) tally.old ≡ told
+        (walk (flow_step module.now text.now) module.now text.now branch join result
+        (point_at place.new)) tally.new }
+    ensures cycles { tally.new.cycles + 255 * result ≤ tally.old.cycles + 255 * most }
+    ensures fewer { result ≤ most }
+{
+    if !seems_short(module, table, place.pc) {
+        return most;
+    }
+    glide_along(
+        module, text, table, entries, join, place, tally, sources, most,
+    )
 }

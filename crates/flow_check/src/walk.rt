@@ -151,7 +151,7 @@ fn walk_by_step(
 }
 
 /// Does the arm's instruction at this place, and tells whether the arm goes on.
-#[inline(never)]
+#[inline(always)]
 fn walk_on(
     module: &Module,
     text: &[u8],
@@ -232,7 +232,7 @@ pub fn walk(
     let mut left = u32::from(join) + 1;
     while left > 0 {
         left = glide(
-            module, text, table, entries, join, &mut place, tally, left,
+            module, text, table, entries, join, &mut place, tally, sources, left,
         );
         if left == 0 {
             break;

@@ -13,7 +13,7 @@ use Rattle.flow_check.specs.Pairs.{list_of, point_of}
 use Rattle.flow_check.specs.Walks.{told, point_at}
 use Rattle.flow_check.proofs.Acting.{on_next}
 use Rattle.flow_check.proofs.Entries.{entry_met, entry_time}
-use Rattle.flow_check.proofs.Gliding.{glide_core, glide_written, glide_leads, first_keeps}
+use Rattle.flow_check.proofs.Gliding.{glide_core, glide_regs, glide_written, glide_leads, first_keeps}
 use Rattle.flow_check.proofs.Walking.{walk_goes}
 use Rattle.flow_check.proofs.glide.glide_on.Goals as goal
 
@@ -63,13 +63,13 @@ returns-clause-on c = λ _ stub branch steps.
         words = blot ws t.label.words;
       };
     }) (glide_written m text c.args.join p.pc next p.label insn op w s r v is low on short)
-    ∙ ap (λ i. record t {
+    ∙ ap (λ rs. record t {
       cycles = t.cycles + entry.time;
-      label = record t.label { core = blot_core (written_regs i) t.label.core };
-    }) is
-    ∙ sym (c.tell_register.ensures w))
+      label = record t.label { core = blot_core rs t.label.core };
+    }) (glide_regs m text c.args.join p.pc next p.label insn op w s r v is low on short)
+    ∙ sym c.tell_short.ensures)
 
 pub returns-clause-cycles : goal.returns-clause-cycles
 returns-clause-cycles c =
-    let e = ap (λ t. t.cycles) (c.tell_register.ensures c.in-Two.width) in
+    let e = ap (λ t. t.cycles) c.tell_short.ensures in
     omega (arith, e)

@@ -3,7 +3,7 @@ use Rattle.flow_rule.specs.Verdict.{flow_step}
 use Rattle.flow_rule.specs.Rounds.{Point, Step}
 use Rattle.flow_rule.specs.Arms.{walk}
 use Rattle.flow_check.specs.Walks.{told, point_at}
-use Rattle.flow_check.proofs.glide.glide.Goals as goal
+use Rattle.flow_check.proofs.glide.glide_along.Goals as goal
 
 pub loop-left-preserved : goal.loop-left-preserved
 loop-left-preserved c = record {

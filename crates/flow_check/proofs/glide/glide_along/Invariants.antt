@@ -3,7 +3,7 @@ use Rattle.flow_rule.specs.Verdict.{flow_step}
 use Rattle.flow_rule.specs.Arms.{walk}
 use Rattle.flow_check.specs.Pairs.{IsStub}
 use Rattle.flow_check.specs.Walks.{told, point_at}
-use Rattle.flow_check.proofs.glide.glide.Given as goal
+use Rattle.flow_check.proofs.glide.glide_along.Given as goal
 
 abbrev pub invariant-loop-left : goal.invariant-loop-left
 invariant-loop-left l = record {
