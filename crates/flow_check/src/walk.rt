@@ -187,7 +187,7 @@ fn walk_on(
         note(&mut tally.least, Reason::Arm, pc);
         return false;
     };
-    sources.follow(module, insn, pc, &place.label.core);
+    sources.follow(module, pc, &place.label.core);
     let went = along(module, text, entries, insn, pc, &mut place.label);
     match went.way {
         Way::On(to) => {
