@@ -175,7 +175,7 @@ fn glide_on(
     let Some(value) = source(module, text, width, src, &place.label) else {
         return false;
     };
-    sources.follow(module, insn, pc, &place.label.core);
+    sources.follow(module, pc, &place.label.core);
     let carry = carry_for(op, &place.label.core);
     move_on(&mut place.label.core, next);
     into_register(op, width, reg, value, carry, &mut place.label.core);
