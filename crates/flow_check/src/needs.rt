@@ -110,7 +110,11 @@ pub struct Needs([u8; 273]);
 
 /// How each value is needed at a place of an arm, by its number.
 #[derive(Clone, Copy)]
-struct Wanted([u8; 512]);
+struct Wanted {
+    how: [u8; 512],
+    /// Whether a word may be needed.
+    wants_words: bool,
+}
 
 /// What an operation of format I does.
 fn role(op: TwoOp) -> u8 {
@@ -269,10 +273,13 @@ fn slot(number: u16) -> usize
 impl Wanted {
     /// What is needed where an arm ends: no register may be Secret if it leaves the text.
     fn at_end(left: bool) -> Wanted {
-        let mut wanted = Wanted([0; 512]);
+        let mut wanted = Wanted {
+            how: [0; 512],
+            wants_words: false,
+        };
         if left {
             for n in 0..REGISTERS {
-                wanted.0[n] = OPEN;
+                wanted.how[n] = OPEN;
             }
         }
         wanted
@@ -282,14 +289,14 @@ impl Wanted {
     #[inline(always)]
     fn add(&mut self, slot: usize, how: u8) {
         if slot < ROOM {
-            self.0[slot] |= how;
+            self.how[slot] |= how;
         }
     }
 
     /// What is no value is not needed.
     #[inline(always)]
     fn clear_none(&mut self) {
-        self.0[usize::from(NONE)] = 0;
+        self.how[usize::from(NONE)] = 0;
     }
 
     /// Where what an instruction makes is needed, so is what it makes that of.
@@ -298,12 +305,13 @@ impl Wanted {
         let flags = usize::from(FLAGS);
         let writes = role & WRITES;
         let sets = role >> SETS_AT & EITHER;
-        let how = self.0[destination % ROOM] & writes | self.0[flags] & sets;
-        self.0[flags] &= !sets;
-        self.0[destination % ROOM] &= !writes;
+        let how = self.how[destination % ROOM] & writes | self.how[flags] & sets;
+        self.how[flags] &= !sets;
+        self.how[destination % ROOM] &= !writes;
         self.add(flags, how & role >> CARRIES_AT);
         self.add(destination, how & role >> READS_AT);
         self.add(source, how);
+        self.wants_words |= usize::from(NONE) < source || usize::from(NONE) < destination;
         self.clear_none();
     }
 
@@ -318,16 +326,24 @@ impl Wanted {
     /// Whether what an instruction may make is needed.
     #[inline(always)]
     fn may_pass(&self, destination: usize) -> bool {
-        self.0[destination % ROOM] | self.0[usize::from(FLAGS)] != 0
+        self.how[destination % ROOM] | self.how[usize::from(FLAGS)] != 0
+    }
+
+    /// Whether it has to be seen what an instruction's destination is: not where it can be no word that is needed.
+    #[inline(always)]
+    fn looks_at(&self, destination: Part) -> bool {
+        destination.base == NONE || self.wants_words || self.how[usize::from(FLAGS)] != 0
     }
 
     /// Goes back over an instruction that reaches what its registers held.
     #[inline(always)]
     fn back_reaching(&mut self, module: &Module, form: &Form, mark: &Mark) {
-        let destination = slot(number_of(module, form.destination, mark.destination));
-        if self.may_pass(destination) {
-            let source = slot(number_of(module, form.source, mark.source));
-            self.pass(source, destination, form.role);
+        if self.looks_at(form.destination) {
+            let destination = slot(number_of(module, form.destination, mark.destination));
+            if self.may_pass(destination) {
+                let source = slot(number_of(module, form.source, mark.source));
+                self.pass(source, destination, form.role);
+            }
         }
         self.know(form);
     }
@@ -474,7 +490,7 @@ impl Needs {
     /// What is needed where an arm begins is needed too.
     fn add(&mut self, wanted: &Wanted) {
         for n in 0..NUMBERS {
-            self.0[n] |= wanted.0[n];
+            self.0[n] |= wanted.how[n];
         }
     }
 
