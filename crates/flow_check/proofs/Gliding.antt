@@ -95,38 +95,38 @@ goes_there free m pc to rs core words first inside open1 =
 module _ (m : Module) (text : List ℕ) (join pc next : ℕ) (l : Label) (insn : Insn) (op : TwoOp) (w : Width) (s : Operand) (r : ℕ) (v : Val)
     (is : insn ≡ Two op w s (Reg r)) (low : join ≤ 65535) (on : arm_next join pc (Some insn) ≡ Some next) (short : IsShortSource m text w s l next v)
   where
-  abbrev c1 : List Val
-  c1 = moved_on l.core next
+    abbrev c1 : List Val
+    c1 = moved_on l.core next
 
-  abbrev from : Option Val
-  from = place_val s c1 (add16 pc 2)
+    abbrev from : Option Val
+    from = place_val s c1 (add16 pc 2)
 
-  past : c1 ≡ past_val insn pc l.core
-  past = rw is (ap (λ n. put_val l.core 0 (Known n)) (two_next op w s (Reg r) join pc next low (sym (ap (λ i. arm_next join pc (Some i)) is) ∙ on)))
+    past : c1 ≡ past_val insn pc l.core
+    past = rw is (ap (λ n. put_val l.core 0 (Known n)) (two_next op w s (Reg r) join pc next low (sym (ap (λ i. arm_next join pc (Some i)) is) ∙ on)))
 
-  pub glide_core : (ca : Val) (c3 : List Val) → ca ≡ read_if (reads_carry op) (carry_val l.core) →
-      c3 ≡ (cleared_if (clears_flags op w (Reg r) v) (written_val (writes_dst op) (Reg r) (two_val op w v (narrow w (val c1 r)) ca) c1)).core →
-      c3 ≡ (done_by m text insn pc l).core
-  glide_core = into_core_is m text insn op w s r pc l is c1 c1 (add16 pc 2) from v past refl refl (short.value (add16 pc 2)) (sym short.still)
+    pub glide_core : (ca : Val) (c3 : List Val) → ca ≡ read_if (reads_carry op) (carry_val l.core) →
+        c3 ≡ (cleared_if (clears_flags op w (Reg r) v) (written_val (writes_dst op) (Reg r) (two_val op w v (narrow w (val c1 r)) ca) c1)).core →
+        c3 ≡ (done_by m text insn pc l).core
+    glide_core = into_core_is m text insn op w s r pc l is c1 c1 (add16 pc 2) from v past refl refl (short.value (add16 pc 2)) (sym short.still)
 
-  pub glide_written : written_words m (write_reaches (plan_val insn pc l.core)) ≡ []
-  glide_written = into_written m text insn op w s r pc l is c1 c1 (add16 pc 2) from v past refl refl (short.value (add16 pc 2)) (sym short.still)
+    pub glide_written : written_words m (write_reaches (plan_val insn pc l.core)) ≡ []
+    glide_written = into_written m text insn op w s r pc l is c1 c1 (add16 pc 2) from v past refl refl (short.value (add16 pc 2)) (sym short.still)
 
-  pub glide_regs : written_regs insn ≡ written_reg (writes_dst op) (Reg r)
-  glide_regs = ap written_regs is ∙ ap (λ rs. rs ++ written_reg (writes_dst op) (Reg r)) short.steps
+    pub glide_regs : written_regs insn ≡ written_reg (writes_dst op) (Reg r)
+    glide_regs = ap written_regs is ∙ ap (λ rs. rs ++ written_reg (writes_dst op) (Reg r)) short.steps
 
-  glide_words : l.words ≡ words_by m text insn pc l
-  glide_words = into_words_are m text insn op w s r pc l is c1 c1 (add16 pc 2) from v past refl refl (short.value (add16 pc 2)) (sym short.still)
+    glide_words : l.words ≡ words_by m text insn pc l
+    glide_words = into_words_are m text insn op w s r pc l is c1 c1 (add16 pc 2) from v past refl refl (short.value (add16 pc 2)) (sym short.still)
 
-  glide_clear : is_clear (reach_reasons m pc (plan_val insn pc l.core)) ≡ true
-  glide_clear = sym (into_clear m text insn op w s r pc l is c1 c1 (add16 pc 2) from v past refl refl (short.value (add16 pc 2)) (sym short.still) true
-      (sym (short.clear pc (add16 pc 2))))
+    glide_clear : is_clear (reach_reasons m pc (plan_val insn pc l.core)) ≡ true
+    glide_clear = sym (into_clear m text insn op w s r pc l is c1 c1 (add16 pc 2) from v past refl refl (short.value (add16 pc 2)) (sym short.still) true
+        (sym (short.clear pc (add16 pc 2))))
 
-  pub glide_leads : (entries : Option ℕ) (rs : List ℕ) (c3 : List Val) → c3 ≡ (done_by m text insn pc l).core → val c3 0 ≡ Known next → holds m.text next ≡ true →
-      IsStub m text entries → is_call_word entries m pc ≡ false → met m.text text pc ≡ Some insn → (in_open entries m pc || not (is_shut (word_number m next))) ≡ true →
-      LeadsTo (On next) (flow_step m text (record { pair = record { addr = pc; returns = rs }; label = l })) rs c3 l.words
-  glide_leads entries rs c3 ec first inside stub call there open1 =
-      let free : Bool = in_open entries m pc in
-      leads_same (On next) m text pc rs l insn c3 l.words free free _ ec glide_words refl (step_is m text pc rs l insn entries join next stub call there on)
-      (leads_fine (On next) free m pc (reach_reasons m pc (plan_val insn pc l.core)) (goes m pc rs c3 l.words) rs c3 l.words glide_clear
-      (goes_there free m pc next rs c3 l.words first inside open1))
+    pub glide_leads : (entries : Option ℕ) (rs : List ℕ) (c3 : List Val) → c3 ≡ (done_by m text insn pc l).core → val c3 0 ≡ Known next → holds m.text next ≡ true →
+        IsStub m text entries → is_call_word entries m pc ≡ false → met m.text text pc ≡ Some insn → (in_open entries m pc || not (is_shut (word_number m next))) ≡ true →
+        LeadsTo (On next) (flow_step m text (record { pair = record { addr = pc; returns = rs }; label = l })) rs c3 l.words
+    glide_leads entries rs c3 ec first inside stub call there open1 =
+        let free : Bool = in_open entries m pc in
+        leads_same (On next) m text pc rs l insn c3 l.words free free _ ec glide_words refl (step_is m text pc rs l insn entries join next stub call there on)
+        (leads_fine (On next) free m pc (reach_reasons m pc (plan_val insn pc l.core)) (goes m pc rs c3 l.words) rs c3 l.words glide_clear
+        (goes_there free m pc next rs c3 l.words first inside open1))

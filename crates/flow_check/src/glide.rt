@@ -1,5 +1,5 @@
-//! The shortest instructions of an arm: one word of format I into a register, of which the longest arms are made. They have a
-//! loop of their own, so that a walk of many of them takes few of the host's instructions for each.
+//! The shortest instructions of an arm: one word of format I into a register, of which the longest arms are made. They
+//! have a loop of their own, so that a walk of many of them takes few of the host's instructions for each.
 
 ghost use Rattle.std.specs.Prelude.{◌≡◌, ◌≢◌, ◌≤◌, ◌<◌, ◌+◌, ◌*◌, ◌%◌, ◌||◌, not, suc, true, false, ℕ, Some, None, IfSome};
 ghost use Rattle.flow_rule.specs.declared.Val.TheVariants.{Known};
@@ -18,8 +18,8 @@ ghost use Rattle.flow_check.specs.Tables.{IsTable};
 use crate::access::may;
 use crate::blot::blot_written;
 use crate::effect::{carry_for, into_register, low};
-use crate::reach::writes_destination;
 use crate::needs::Sources;
+use crate::reach::writes_destination;
 use crate::registers::{Core, get};
 use crate::stub::word_number;
 use crate::table::{Entry, entry_at, next_of};
@@ -56,7 +56,13 @@ fn is_behind(module: &Module, entries: Option<u16>, addr: u16) -> bool
 
 /// The value at an address, where it may be read.
 #[inline(always)]
-fn word_there(module: &Module, text: &[u8], width: Width, addr: Val, words: &[Val; 256]) -> Option<Val>
+fn word_there(
+    module: &Module,
+    text: &[u8],
+    width: Width,
+    addr: Val,
+    words: &[Val; 256],
+) -> Option<Val>
     ensures { IfSome result (IsWordThere module.now text.now width addr words.now) }
 {
     if !may(module, true, Kind::Read, width, Some(addr)) {
@@ -70,7 +76,8 @@ fn word_there(module: &Module, text: &[u8], width: Width, addr: Val, words: &[Va
     Some(narrow(width, read(module, text, words, &reach)))
 }
 
-/// What a source gives that is a register but PC, a number, or a word at such a register's address, where it may be read.
+/// What a source gives that is a register but PC, a number, or a word at such a register's address, where it may be
+/// read.
 #[inline(always)]
 fn source(module: &Module, text: &[u8], width: Width, src: Operand, label: &Label) -> Option<Val>
     ensures { IfSome result (λ value. (next : ℕ) → IsShortSource module.now text.now width src label.now next value) }
@@ -106,7 +113,11 @@ fn tell_short(op: TwoOp, reg: u8, time: u8, tally: &mut Tally)
     } }
 {
     tally.cycles += u32::from(time);
-    blot_written(writes_destination(op), Operand::Reg(reg), &mut tally.label.core);
+    blot_written(
+        writes_destination(op),
+        Operand::Reg(reg),
+        &mut tally.label.core,
+    );
 }
 
 /// Moves PC on to an even address.
@@ -212,9 +223,7 @@ fn glide_along(
         if place.pc == join {
             return left;
         }
-        if !glide_on(
-            module, text, table, entries, join, place, tally, sources,
-        ) {
+        if !glide_on(module, text, table, entries, join, place, tally, sources) {
             return left;
         }
         left -= 1;
@@ -226,7 +235,13 @@ fn glide_along(
 #[inline(always)]
 fn seems_short(module: &Module, table: &[Entry], pc: u16) -> bool {
     match table.get(usize::from(pc.saturating_sub(module.text.start)) / 2) {
-        Some(entry) => matches!(entry.met, Some(Insn::Two { dst: Operand::Reg(_), .. })),
+        Some(entry) => matches!(
+            entry.met,
+            Some(Insn::Two {
+                dst: Operand::Reg(_),
+                ..
+            })
+        ),
         None => false,
     }
 }

@@ -4,7 +4,8 @@
 
 ghost use Rattle.std.specs.Prelude.{◌<◌};
 
-use crate::reach::{extension, second, step};
+use crate::effect::{one_reads_carry, one_sets_flags, reads_carry, sets_flags};
+use crate::reach::{extension, reads_destination, second, step, writes_destination};
 use crate::registers::{Core, get};
 use crate::table::Entry;
 use crate::text::word_number;
@@ -49,22 +50,28 @@ const OPEN: u8 = 2;
 /// Either.
 const EITHER: u8 = 3;
 
-/// What an operation does, by as many bits each: it writes its destination, sets the flags, reads its destination, and
-/// reads C.
-const WRITES: u8 = 3;
+/// What an operation does: for each `EITHER` or nothing, as a mask of how values are needed.
+#[derive(Clone, Copy)]
+struct Role {
+    /// It writes its destination.
+    writes: u8,
+    /// It sets the flags.
+    sets: u8,
+    /// It reads its destination.
+    reads: u8,
+    /// It reads C.
+    carries: u8,
+}
 
-const SETS: u8 = 12;
-
-const READS: u8 = 48;
-
-const CARRIES: u8 = 192;
-
-/// At which bits these begin but for the first.
-const SETS_AT: u8 = 2;
-
-const READS_AT: u8 = 4;
-
-const CARRIES_AT: u8 = 6;
+impl Role {
+    /// Nothing.
+    const IDLE: Role = Role {
+        writes: 0,
+        sets: 0,
+        reads: 0,
+        carries: 0,
+    };
+}
 
 /// An operand: the number of its value, or the register that its address is made of and what is added to that.
 #[derive(Clone, Copy)]
@@ -80,7 +87,7 @@ struct Form {
     destination: Part,
     /// Whether an address is made of a register.
     reaches: bool,
-    role: u8,
+    role: Role,
 }
 
 /// An instruction of an arm, by its place in the text, and what the registers held that its addresses are made of.
@@ -116,23 +123,28 @@ struct Wanted {
     wants_words: bool,
 }
 
+/// A mask of all, or of nothing.
+fn either(all: bool) -> u8 {
+    if all { EITHER } else { 0 }
+}
+
 /// What an operation of format I does.
-fn role(op: TwoOp) -> u8 {
-    match op {
-        TwoOp::Mov => WRITES,
-        TwoOp::Bic | TwoOp::Bis => WRITES | READS,
-        TwoOp::Cmp | TwoOp::Bit => READS | SETS,
-        TwoOp::Add | TwoOp::Sub | TwoOp::Xor | TwoOp::And => WRITES | READS | SETS,
-        TwoOp::Addc | TwoOp::Subc | TwoOp::Dadd => WRITES | READS | SETS | CARRIES,
+fn two_role(op: TwoOp) -> Role {
+    Role {
+        writes: either(writes_destination(op)),
+        sets: either(sets_flags(op)),
+        reads: either(reads_destination(op)),
+        carries: either(reads_carry(op)),
     }
 }
 
-/// What an operation of format II does.
-fn one_role(op: OneOp) -> u8 {
-    match op {
-        OneOp::Swpb | OneOp::Push | OneOp::Call => WRITES,
-        OneOp::Rra | OneOp::Sxt => WRITES | SETS,
-        OneOp::Rrc => WRITES | SETS | CARRIES,
+/// What an operation of format II does with what it reads and writes; a read of its own destination is its source.
+fn one_role(op: OneOp) -> Role {
+    Role {
+        writes: EITHER,
+        sets: either(one_sets_flags(op)),
+        reads: 0,
+        carries: either(one_reads_carry(op)),
     }
 }
 
@@ -185,19 +197,22 @@ fn other_byte(width: Width, destination: Operand) -> u8 {
     match destination {
         Operand::Reg(_) => 0,
         _ => match width {
-            Width::Byte => READS,
+            Width::Byte => EITHER,
             Width::Word => 0,
         },
     }
 }
 
 /// An instruction that does this with its operands.
-fn make_form(source: Part, destination: Part, role: u8) -> Form {
+fn make_form(source: Part, destination: Part, role: Role, other: u8) -> Form {
     Form {
         source,
         destination,
         reaches: source.base != NONE || destination.base != NONE,
-        role,
+        role: Role {
+            reads: role.reads | other,
+            ..role
+        },
     }
 }
 
@@ -206,7 +221,7 @@ fn form_two(module: &Module, op: TwoOp, width: Width, src: Operand, dst: Operand
     let ext = extension(pc);
     let source = part_of(module, src, ext);
     let destination = after_increment(width, src, part_of(module, dst, second(ext, src)));
-    make_form(source, destination, role(op) | other_byte(width, dst))
+    make_form(source, destination, two_role(op), other_byte(width, dst))
 }
 
 /// The form of an instruction of format II.
@@ -215,9 +230,9 @@ fn form_one(module: &Module, op: OneOp, width: Width, arg: Operand, pc: u16) -> 
     if op == OneOp::Push {
         let destination = after_increment(width, arg, beyond(STACK, LOWER));
         let other = other_byte(width, Operand::Indirect(STACK));
-        make_form(source, destination, one_role(op) | other)
+        make_form(source, destination, one_role(op), other)
     } else {
-        make_form(source, source, one_role(op))
+        make_form(source, source, one_role(op), 0)
     }
 }
 
@@ -233,7 +248,12 @@ fn form_of(module: &Module, met: Option<Insn>, pc: u16) -> Form {
             },
         ) => form_two(module, op, width, src, dst, pc),
         Some(Insn::One { op, width, arg }) => form_one(module, op, width, arg, pc),
-        _ => make_form(value(u16::from(NONE)), value(u16::from(NONE)), 0),
+        _ => make_form(
+            value(u16::from(NONE)),
+            value(u16::from(NONE)),
+            Role::IDLE,
+            0,
+        ),
     }
 }
 
@@ -301,15 +321,13 @@ impl Wanted {
 
     /// Where what an instruction makes is needed, so is what it makes that of.
     #[inline(always)]
-    fn pass(&mut self, source: usize, destination: usize, role: u8) {
+    fn pass(&mut self, source: usize, destination: usize, role: Role) {
         let flags = usize::from(FLAGS);
-        let writes = role & WRITES;
-        let sets = role >> SETS_AT & EITHER;
-        let how = self.how[destination % ROOM] & writes | self.how[flags] & sets;
-        self.how[flags] &= !sets;
-        self.how[destination % ROOM] &= !writes;
-        self.add(flags, how & role >> CARRIES_AT);
-        self.add(destination, how & role >> READS_AT);
+        let how = self.how[destination % ROOM] & role.writes | self.how[flags] & role.sets;
+        self.how[flags] &= !role.sets;
+        self.how[destination % ROOM] &= !role.writes;
+        self.add(flags, how & role.carries);
+        self.add(destination, how & role.reads);
         self.add(source, how);
         self.wants_words |= usize::from(NONE) < source || usize::from(NONE) < destination;
         self.clear_none();

@@ -39,13 +39,13 @@ returns-clause-on c = λ _ stub branch steps.
     let low : c.args.join ≤ 65535 = omega (arith, c.ranges.join.fits) in
     let short = c.in-Some-source.ensures next in
     let done = glide_core m text c.args.join p.pc next p.label insn op w s r v is low on short c.carry_for-carry.result core c.carry_for-carry.ensures.exact
-        (c.into_register.ensures ∙ ap (λ c1. (cleared_if (clears_flags op w (Reg r) v) (written_val (writes_dst op) (Reg r) (two_val op w v (narrow w (val c1 r)) c.carry_for-carry.result) c1)).core) c.move_on.ensures.moved) in
+    (c.into_register.ensures ∙ ap (λ c1. (cleared_if (clears_flags op w (Reg r) v) (written_val (writes_dst op) (Reg r) (two_val op w v (narrow w (val c1 r)) c.carry_for-carry.result) c1)).core) c.move_on.ensures.moved) in
     let first = ap (λ x. val x 0) c.into_register.ensures
-        ∙ first_keeps (clears_flags op w (Reg r) v) (writes_dst op) r (two_val op w v (narrow w (val c.move_on.new.core r)) c.carry_for-carry.result) c.move_on.new.core (omega (arith, c.if-reg-le-FLAGS.false))
-        ∙ c.move_on.ensures.there in
+    ∙ first_keeps (clears_flags op w (Reg r) v) (writes_dst op) r (two_val op w v (narrow w (val c.move_on.new.core r)) c.carry_for-carry.result) c.move_on.new.core (omega (arith, c.if-reg-le-FLAGS.false))
+    ∙ c.move_on.ensures.there in
     let leads = glide_leads m text c.args.join p.pc next p.label insn op w s r v is low on short c.args.entries (list_of p.returns) core done first
-        (ap (holds m.text) (sym c.from.ensures) ∙ sym c.holds.ensures.exact ∙ c.if-not-holds.false) stub (c.is_behind.ensures.call c.if-not-is_behind.false) there
-        (c.is_behind-else-not-is_behind.ensures.open c.if-not-is_behind-2.false p.pc) in
+    (ap (holds m.text) (sym c.from.ensures) ∙ sym c.holds.ensures.exact ∙ c.if-not-holds.false) stub (c.is_behind.ensures.call c.if-not-is_behind.false) there
+    (c.is_behind-else-not-is_behind.ensures.open c.if-not-is_behind-2.false p.pc) in
     let y : Point = point_of next p.returns (record { core = core; words = p.label.words }) in
     walk_goes S m text branch c.args.join steps (point_at p) y [] t next insn c.requires.before c.in-Some-next_of.ensures there leads.0 leads.1
     ∙ ap (told (walk S m text branch c.args.join steps y))
