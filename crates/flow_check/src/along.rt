@@ -1,11 +1,13 @@
 //! An instruction of an arm: what it does to a label, with none of the lists that the step of any instruction fills.
 
-ghost use Rattle.std.specs.Prelude.{◌≡◌, ◌++◌, ◌&&◌, ℕ, List, [], Some, None, true, false};
+ghost use Rattle.std.specs.Prelude.{◌≡◌, ◌++◌, ◌&&◌, ℕ, List, [], ◌∷◌, Some, None, true, false};
 ghost use Rattle.arm_balance.specs.Met.{met};
 ghost use Rattle.arm_balance.specs.Balance.{arm_next};
 ghost use Rattle.flow_rule.specs.declared.Val.{Val};
-ghost use Rattle.flow_rule.specs.Values.{val};
-ghost use Rattle.flow_rule.specs.Does.{reach_if, plan_val, lowered_val, write_reaches, writes_val, does_val};
+ghost use Rattle.mod_layout.specs.Table.{holds};
+ghost use Rattle.cpu_step.specs.Plan.{writes_dst};
+ghost use Rattle.flow_rule.specs.Does.{plan_val, place_val, may_reach, reach_if, write_reaches, writes_val};
+ghost use Rattle.flow_rule.specs.Does.{does_val, two_val, set_flags_by};
 ghost use Rattle.flow_rule.specs.Reasons.{exit_reasons, reach_reasons};
 ghost use Rattle.flow_rule.specs.Going.{also, goes};
 ghost use Rattle.flow_rule.specs.Rounds.{Found};
@@ -17,23 +19,28 @@ ghost use Rattle.flow_rule.specs.Arms.{written_words};
 ghost use Rattle.flow_rule.specs.Verdict.{flow_step};
 ghost use Rattle.flow_check.specs.declared.returns.Returns.{Returns};
 ghost use Rattle.flow_check.specs.Pairs.{IsStub, list_of, point_of};
-ghost use Rattle.flow_check.specs.Along.{is_clear, taken_by, one_place, one_width, done_by, words_by, words_at};
+ghost use Rattle.flow_check.specs.Along.{is_clear, taken_by, done_by, words_by, words_at};
+ghost use Rattle.flow_check.specs.Along.{two_done_at, two_read_at, two_write_at};
+ghost use Rattle.flow_check.specs.Carries.{IsCarry};
+ghost use Rattle.insn_decode.specs.declared.insn.Operand.{Operand};
+ghost use Rattle.insn_decode.specs.declared.insn.TwoOp.{TwoOp};
 ghost use Rattle.flow_check.specs.Along.{way_in, in_open, is_call_word, LeadsTo};
 
+use crate::access::{Acted, both, if_wanted, may, store, taken};
 use crate::effect::{
-    carry_for, carry_of, clear_if, clears_flags, does, finish, finish_one, given, into_register,
-    two,
+    carry_for, clear_if, clears_flags, does, finish, into_register, set_flags, two,
 };
+use crate::one::act_one;
 use crate::reach::{
-    extension, increment, lower, place, reads_destination, second, step_past, writes_destination,
+    extension, increment, place, reads_destination, second, step_past, writes_destination,
 };
 use crate::registers::{Core, get};
 use crate::step::leave;
 use crate::stub::{is_open, is_shut, word_number};
-use crate::text::{may_reach, read, write};
+use crate::text::{in_data, is_data, write_at};
 use crate::value::narrow;
-use flow_rule::{Label, Reach, Val};
-use insn_decode::{Insn, OneOp, Operand, TwoOp};
+use flow_rule::{Label, Val};
+use insn_decode::{Insn, Operand, TwoOp};
 use mod_layout::Module;
 use pc_access::Kind;
 use sm_words::Width;
@@ -49,13 +56,6 @@ pub enum Way {
     Cause,
 }
 
-/// What an instruction did: whether it may do each of its accesses, and the address that it wrote.
-#[derive(Clone, Copy)]
-pub struct Acted {
-    pub fine: bool,
-    pub written: Option<Val>,
-}
-
 /// Where an instruction went on, and the address that it wrote.
 #[derive(Clone, Copy)]
 pub struct Went {
@@ -63,90 +63,372 @@ pub struct Went {
     pub written: Option<Val>,
 }
 
-/// Whether an access, if it is wanted and has an address, may be done.
+/// What stands in the data, if it is read.
 #[inline(always)]
-fn may(module: &Module, wanted: bool, kind: Kind, width: Width, addr: Option<Val>) -> bool
-    ensures { (pc : ℕ) → result ≡ is_clear (reach_reasons module.now pc (reach_if wanted kind width addr)) }
-{
-    match addr {
-        Some(Val::Known(addr)) => !wanted || may_reach(module, kind, width, addr),
-        Some(Val::Away | Val::Public | Val::Secret) => !wanted,
-        None => true,
-    }
-}
-
-/// What an operand with this address gives: what stands there, if it is read.
-#[inline(always)]
-fn taken(
+fn old_data(
     module: &Module,
     text: &[u8],
     label: &Label,
     wanted: bool,
-    operand: Operand,
     width: Width,
-    addr: Option<Val>,
+    addr: u16,
 ) -> Val
-    ensures { result ≡ taken_by addr module.now text.now wanted operand width label.now }
+    requires { holds module.now.text addr ≡ false }
+    ensures { (operand : Operand) →
+        result ≡ taken_by (Some (Val.Known addr)) module.now text.now wanted operand width label.now }
 {
-    match addr {
-        Some(addr) => {
-            if wanted {
-                let reach = Reach {
-                    kind: Kind::Read,
-                    addr,
-                    width,
-                };
-                narrow(width, read(module, text, &label.words, &reach))
-            } else {
-                narrow(width, Val::Secret)
-            }
-        }
-        None => given(operand, width, &label.core, &[]),
+    if wanted {
+        narrow(width, in_data(module, text, &label.words, width, addr))
+    } else {
+        narrow(width, Val::Secret)
     }
 }
 
-/// Writes what is stored to an address, if that is wanted.
+/// Writes to an address, if that is wanted.
 #[inline(always)]
-fn store(
+fn write_if(
     module: &Module,
     words: &mut [Val; 256],
     wanted: bool,
     width: Width,
-    addr: Option<Val>,
-    stored: &[Val],
+    addr: u16,
+    value: Val,
 )
-    ensures { words.new ≡ writes_val module.now words.old (reach_if wanted Kind.Write width addr) stored.now }
+    ensures { words.new ≡ writes_val module.now words.old
+        (reach_if wanted Kind.Write width (Some (Val.Known addr))) (value ∷ []) }
 {
-    if let Some(addr) = addr
-        && wanted
-        && let Some(value) = stored.first()
-    {
-        let reach = Reach {
-            kind: Kind::Write,
-            addr,
-            width,
-        };
-        write(module, words, &reach, *value);
+    if wanted {
+        write_at(module, words, width, addr, value);
     }
 }
 
-/// The address that is written, if one is.
-#[tactic(auto, using(crate::proofs::Acting::written_if))]
-fn if_wanted(wanted: bool, addr: Option<Val>) -> Option<Val>
-    ensures { (m : Module) (width : Width) →
-        written_words m (reach_if wanted Kind.Write width addr) ≡ words_at m result }
+/// What format I does to a destination, once the source is read and its increment is done.
+#[inline(never)]
+fn two_far(
+    module: &Module,
+    text: &[u8],
+    op: TwoOp,
+    width: Width,
+    dst: Operand,
+    ext: u16,
+    source: Val,
+    carry: Val,
+    label: &mut Label,
+) -> Acted
+    requires small { IsCarry carry }
+    ensures core { label.new.core ≡ (two_done_at module.now text.now op width dst ext source carry label.old).core }
+    ensures words { label.new.words ≡ writes_val module.now label.old.words
+        (two_write_at op width dst ext label.old.core)
+        (two_done_at module.now text.now op width dst ext source carry label.old).stored }
+    ensures fine { (at : ℕ) → result.fine ≡
+        (is_clear (reach_reasons module.now at (two_read_at op width dst ext label.old.core))
+        && is_clear (reach_reasons module.now at (two_write_at op width dst ext label.old.core))) }
+    ensures written { written_words module.now (two_write_at op width dst ext label.old.core)
+        ≡ words_at module.now result.written }
 {
-    if wanted { addr } else { None }
+    let reads = reads_destination(op);
+    let writes = writes_destination(op);
+    let to = place(dst, &label.core, ext);
+    let old = taken(module, text, label, reads, dst, width, to);
+    let told = two(op, width, source, old, carry);
+    let stored = finish(writes, dst, &told, &mut label.core);
+    clear_if(clears_flags(op, width, dst, source), &mut label.core);
+    store(
+        module,
+        &mut label.words,
+        writes,
+        width,
+        to,
+        stored.as_slice(),
+    );
+    let old_fine = may(module, reads, Kind::Read, width, to);
+    let write_fine = may(module, writes, Kind::Write, width, to);
+    Acted {
+        fine: both(old_fine, write_fine),
+        written: if_wanted(writes, to),
+    }
 }
 
-/// Whether both hold.
-fn both(one: bool, other: bool) -> bool
-    ensures { result ≡ (one && other) }
+/// Writes what format I gives of a source and of what stands in the data, or sets the flags alone.
+#[inline(always)]
+fn change(
+    module: &Module,
+    op: TwoOp,
+    width: Width,
+    addr: u16,
+    source: Val,
+    old: Val,
+    carry: Val,
+    label: &mut Label,
+)
+    requires { IsCarry carry }
+    ensures core { label.new.core ≡ set_flags_by (two_val op width source old carry).flags label.old.core }
+    ensures words { label.new.words ≡ writes_val module.now label.old.words
+        (reach_if (writes_dst op) Kind.Write width (Some (Val.Known addr)))
+        ((two_val op width source old carry).value ∷ []) }
 {
-    one && other
+    let writes = writes_destination(op);
+    let told = two(op, width, source, old, carry);
+    set_flags(told.flags, &mut label.core);
+    write_if(module, &mut label.words, writes, width, addr, told.value);
 }
 
-/// An instruction of format I.
+/// The same, with code of its own for each operation.
+#[inline(always)]
+fn change_as(
+    module: &Module,
+    op: TwoOp,
+    width: Width,
+    addr: u16,
+    source: Val,
+    old: Val,
+    carry: Val,
+    label: &mut Label,
+)
+    requires { IsCarry carry }
+    ensures core { label.new.core ≡ set_flags_by (two_val op width source old carry).flags label.old.core }
+    ensures words { label.new.words ≡ writes_val module.now label.old.words
+        (reach_if (writes_dst op) Kind.Write width (Some (Val.Known addr)))
+        ((two_val op width source old carry).value ∷ []) }
+{
+    match op {
+        TwoOp::Mov => change(module, TwoOp::Mov, width, addr, source, old, carry, label),
+        TwoOp::Add => change(module, TwoOp::Add, width, addr, source, old, carry, label),
+        TwoOp::Addc => change(module, TwoOp::Addc, width, addr, source, old, carry, label),
+        TwoOp::Subc => change(module, TwoOp::Subc, width, addr, source, old, carry, label),
+        TwoOp::Sub => change(module, TwoOp::Sub, width, addr, source, old, carry, label),
+        TwoOp::Cmp => change(module, TwoOp::Cmp, width, addr, source, old, carry, label),
+        TwoOp::Dadd => change(module, TwoOp::Dadd, width, addr, source, old, carry, label),
+        TwoOp::Bit => change(module, TwoOp::Bit, width, addr, source, old, carry, label),
+        TwoOp::Bic => change(module, TwoOp::Bic, width, addr, source, old, carry, label),
+        TwoOp::Bis => change(module, TwoOp::Bis, width, addr, source, old, carry, label),
+        TwoOp::Xor => change(module, TwoOp::Xor, width, addr, source, old, carry, label),
+        TwoOp::And => change(module, TwoOp::And, width, addr, source, old, carry, label),
+    }
+}
+
+/// The same, with code of its own for each width too.
+#[inline(always)]
+fn change_each(
+    module: &Module,
+    op: TwoOp,
+    width: Width,
+    addr: u16,
+    source: Val,
+    old: Val,
+    carry: Val,
+    label: &mut Label,
+)
+    requires { IsCarry carry }
+    ensures core { label.new.core ≡ set_flags_by (two_val op width source old carry).flags label.old.core }
+    ensures words { label.new.words ≡ writes_val module.now label.old.words
+        (reach_if (writes_dst op) Kind.Write width (Some (Val.Known addr)))
+        ((two_val op width source old carry).value ∷ []) }
+{
+    match width {
+        Width::Byte => change_as(module, op, Width::Byte, addr, source, old, carry, label),
+        Width::Word => change_as(module, op, Width::Word, addr, source, old, carry, label),
+    }
+}
+
+/// What format I does to a word or a byte of the data.
+#[inline(always)]
+fn two_data(
+    module: &Module,
+    text: &[u8],
+    op: TwoOp,
+    width: Width,
+    dst: Operand,
+    ext: u16,
+    addr: u16,
+    source: Val,
+    carry: Val,
+    label: &mut Label,
+) -> Acted
+    requires small { IsCarry carry }
+    requires there { place_val dst label.old.core ext ≡ Some (Val.Known addr) }
+    requires free { may_reach module.now Kind.Write width addr ≡ true }
+    requires data { holds module.now.text addr ≡ false }
+    ensures core { label.new.core ≡ (two_done_at module.now text.now op width dst ext source carry label.old).core }
+    ensures words { label.new.words ≡ writes_val module.now label.old.words
+        (two_write_at op width dst ext label.old.core)
+        (two_done_at module.now text.now op width dst ext source carry label.old).stored }
+    ensures fine { (at : ℕ) → result.fine ≡
+        (is_clear (reach_reasons module.now at (two_read_at op width dst ext label.old.core))
+        && is_clear (reach_reasons module.now at (two_write_at op width dst ext label.old.core))) }
+    ensures written { written_words module.now (two_write_at op width dst ext label.old.core)
+        ≡ words_at module.now result.written }
+{
+    let _ = ext;
+    let writes = writes_destination(op);
+    let old = old_data(module, text, label, reads_destination(op), width, addr);
+    change_each(module, op, width, addr, source, old, carry, label);
+    Acted {
+        fine: true,
+        written: if_wanted(writes, Some(Val::Known(addr))),
+    }
+}
+
+/// The same to any destination.
+#[inline(always)]
+fn two_at(
+    module: &Module,
+    text: &[u8],
+    op: TwoOp,
+    width: Width,
+    dst: Operand,
+    ext: u16,
+    source: Val,
+    carry: Val,
+    label: &mut Label,
+) -> Acted
+    requires small { IsCarry carry }
+    ensures core { label.new.core ≡ (two_done_at module.now text.now op width dst ext source carry label.old).core }
+    ensures words { label.new.words ≡ writes_val module.now label.old.words
+        (two_write_at op width dst ext label.old.core)
+        (two_done_at module.now text.now op width dst ext source carry label.old).stored }
+    ensures fine { (at : ℕ) → result.fine ≡
+        (is_clear (reach_reasons module.now at (two_read_at op width dst ext label.old.core))
+        && is_clear (reach_reasons module.now at (two_write_at op width dst ext label.old.core))) }
+    ensures written { written_words module.now (two_write_at op width dst ext label.old.core)
+        ≡ words_at module.now result.written }
+{
+    match place(dst, &label.core, ext) {
+        Some(Val::Known(addr)) => {
+            if is_data(module, width, addr) {
+                two_data(
+                    module, text, op, width, dst, ext, addr, source, carry, label,
+                )
+            } else {
+                two_far(module, text, op, width, dst, ext, source, carry, label)
+            }
+        }
+        _ => two_far(module, text, op, width, dst, ext, source, carry, label),
+    }
+}
+
+/// An instruction of format I, where it is called.
+#[inline(always)]
+fn two_from(
+    module: &Module,
+    text: &[u8],
+    insn: &Insn,
+    op: TwoOp,
+    width: Width,
+    src: Operand,
+    dst: Operand,
+    pc: u16,
+    label: &mut Label,
+) -> Acted
+    requires { insn.now ≡ Insn.Two op width src dst }
+    ensures core { label.new.core ≡ (done_by module.now text.now insn.now pc label.old).core }
+    ensures words { label.new.words ≡ words_by module.now text.now insn.now pc label.old }
+    ensures fine { result.fine ≡ is_clear (reach_reasons module.now pc (plan_val insn.now pc label.old.core)) }
+    ensures written { written_words module.now (write_reaches (plan_val insn.now pc label.old.core))
+        ≡ words_at module.now result.written }
+{
+    let carry = carry_for(op, &label.core);
+    step_past(insn, pc, &mut label.core);
+    let ext = extension(pc);
+    let from = place(src, &label.core, ext);
+    let source = taken(module, text, label, true, src, width, from);
+    increment(width, src, &mut label.core);
+    let after = second(ext, src);
+    let done = two_at(module, text, op, width, dst, after, source, carry, label);
+    let fine = may(module, true, Kind::Read, width, from);
+    Acted {
+        fine: both(fine, done.fine),
+        written: done.written,
+    }
+}
+
+/// An instruction of format I of a register.
+#[inline(never)]
+fn two_of_register(
+    module: &Module,
+    text: &[u8],
+    op: TwoOp,
+    width: Width,
+    reg: u8,
+    dst: Operand,
+    pc: u16,
+    label: &mut Label,
+) -> Acted
+    ensures core { label.new.core
+        ≡ (done_by module.now text.now (Insn.Two op width (Operand.Reg reg) dst) pc label.old).core }
+    ensures words { label.new.words
+        ≡ words_by module.now text.now (Insn.Two op width (Operand.Reg reg) dst) pc label.old }
+    ensures fine { result.fine ≡ is_clear (reach_reasons module.now pc
+        (plan_val (Insn.Two op width (Operand.Reg reg) dst) pc label.old.core)) }
+    ensures written { written_words module.now (write_reaches
+        (plan_val (Insn.Two op width (Operand.Reg reg) dst) pc label.old.core)) ≡ words_at module.now result.written }
+{
+    let src = Operand::Reg(reg);
+    let insn = Insn::Two {
+        op,
+        width,
+        src,
+        dst,
+    };
+    two_from(module, text, &insn, op, width, src, dst, pc, label)
+}
+
+/// An instruction of format I of a constant.
+#[inline(never)]
+fn two_of_number(
+    module: &Module,
+    text: &[u8],
+    op: TwoOp,
+    width: Width,
+    number: u16,
+    dst: Operand,
+    pc: u16,
+    label: &mut Label,
+) -> Acted
+    ensures core { label.new.core
+        ≡ (done_by module.now text.now (Insn.Two op width (Operand.Const number) dst) pc label.old).core }
+    ensures words { label.new.words
+        ≡ words_by module.now text.now (Insn.Two op width (Operand.Const number) dst) pc label.old }
+    ensures fine { result.fine ≡ is_clear (reach_reasons module.now pc
+        (plan_val (Insn.Two op width (Operand.Const number) dst) pc label.old.core)) }
+    ensures written { written_words module.now (write_reaches
+        (plan_val (Insn.Two op width (Operand.Const number) dst) pc label.old.core)) ≡ words_at module.now result.written }
+{
+    let src = Operand::Const(number);
+    let insn = Insn::Two {
+        op,
+        width,
+        src,
+        dst,
+    };
+    two_from(module, text, &insn, op, width, src, dst, pc, label)
+}
+
+/// An instruction of format I of any source.
+#[inline(never)]
+fn two_of_any(
+    module: &Module,
+    text: &[u8],
+    insn: &Insn,
+    op: TwoOp,
+    width: Width,
+    src: Operand,
+    dst: Operand,
+    pc: u16,
+    label: &mut Label,
+) -> Acted
+    requires { insn.now ≡ Insn.Two op width src dst }
+    ensures core { label.new.core ≡ (done_by module.now text.now insn.now pc label.old).core }
+    ensures words { label.new.words ≡ words_by module.now text.now insn.now pc label.old }
+    ensures fine { result.fine ≡ is_clear (reach_reasons module.now pc (plan_val insn.now pc label.old.core)) }
+    ensures written { written_words module.now (write_reaches (plan_val insn.now pc label.old.core))
+        ≡ words_at module.now result.written }
+{
+    two_from(module, text, insn, op, width, src, dst, pc, label)
+}
+
+/// An instruction of format I, with code of its own for the shortest sources.
+#[inline(always)]
 fn act_two(
     module: &Module,
     text: &[u8],
@@ -165,33 +447,10 @@ fn act_two(
     ensures written { written_words module.now (write_reaches (plan_val insn.now pc label.old.core))
         ≡ words_at module.now result.written }
 {
-    let carry = carry_of(&label.core);
-    let reads = reads_destination(op);
-    let writes = writes_destination(op);
-    step_past(insn, pc, &mut label.core);
-    let ext = extension(pc);
-    let from = place(src, &label.core, ext);
-    let source = taken(module, text, label, true, src, width, from);
-    increment(width, src, &mut label.core);
-    let to = place(dst, &label.core, second(ext, src));
-    let old = taken(module, text, label, reads, dst, width, to);
-    let told = two(op, width, source, old, carry);
-    let stored = finish(writes, dst, &told, &mut label.core);
-    clear_if(clears_flags(op, width, dst, source), &mut label.core);
-    store(
-        module,
-        &mut label.words,
-        writes,
-        width,
-        to,
-        stored.as_slice(),
-    );
-    let source_fine = may(module, true, Kind::Read, width, from);
-    let old_fine = may(module, reads, Kind::Read, width, to);
-    let write_fine = may(module, writes, Kind::Write, width, to);
-    Acted {
-        fine: both(both(source_fine, old_fine), write_fine),
-        written: if_wanted(writes, to),
+    match src {
+        Operand::Reg(reg) => two_of_register(module, text, op, width, reg, dst, pc, label),
+        Operand::Const(number) => two_of_number(module, text, op, width, number, dst, pc, label),
+        _ => two_of_any(module, text, insn, op, width, src, dst, pc, label),
     }
 }
 
@@ -280,71 +539,6 @@ fn act_register(
             act_into(module, text, &insn, op, width, src, reg, pc, label)
         }
         _ => act_into(module, text, insn, op, width, src, reg, pc, label),
-    }
-}
-
-/// What SP becomes where a word is pushed.
-fn lowered(core: &Core) -> Val
-    ensures { result ≡ val (lowered_val core.now) 1 }
-{
-    let mut core = *core;
-    lower(&mut core);
-    get(&core, 1)
-}
-
-/// Where an instruction of format II writes.
-fn one_place(op: OneOp, from: Option<Val>, core: &Core) -> Option<Val>
-    ensures { result ≡ one_place op from (val (lowered_val core.now) 1) }
-{
-    match op {
-        OneOp::Push => Some(lowered(core)),
-        OneOp::Call => Some(lowered(core)),
-        OneOp::Rrc | OneOp::Swpb | OneOp::Rra | OneOp::Sxt => from,
-    }
-}
-
-/// How wide it writes.
-fn one_width(op: OneOp, width: Width) -> Width
-    ensures { result ≡ one_width op width }
-{
-    match op {
-        OneOp::Call => Width::Word,
-        OneOp::Push | OneOp::Rrc | OneOp::Swpb | OneOp::Rra | OneOp::Sxt => width,
-    }
-}
-
-/// An instruction of format II.
-fn act_one(
-    module: &Module,
-    text: &[u8],
-    insn: &Insn,
-    op: OneOp,
-    width: Width,
-    arg: Operand,
-    pc: u16,
-    label: &mut Label,
-) -> Acted
-    requires { insn.now ≡ Insn.One op width arg }
-    ensures core { label.new.core ≡ (done_by module.now text.now insn.now pc label.old).core }
-    ensures words { label.new.words ≡ words_by module.now text.now insn.now pc label.old }
-    ensures fine { result.fine ≡ is_clear (reach_reasons module.now pc (plan_val insn.now pc label.old.core)) }
-    ensures written { written_words module.now (write_reaches (plan_val insn.now pc label.old.core))
-        ≡ words_at module.now result.written }
-{
-    let carry = carry_of(&label.core);
-    step_past(insn, pc, &mut label.core);
-    let from = place(arg, &label.core, extension(pc));
-    let operand = taken(module, text, label, true, arg, width, from);
-    increment(width, arg, &mut label.core);
-    let to = one_place(op, from, &label.core);
-    let wide = one_width(op, width);
-    let stored = finish_one(op, width, arg, operand, carry, &mut label.core);
-    store(module, &mut label.words, true, wide, to, stored.as_slice());
-    let read_fine = may(module, true, Kind::Read, width, from);
-    let write_fine = may(module, true, Kind::Write, wide, to);
-    Acted {
-        fine: both(read_fine, write_fine),
-        written: if_wanted(true, to),
     }
 }
 

@@ -27,7 +27,7 @@ fn blot_step(operand: Operand, core: &mut Core)
 
 /// The register that is written, if one is.
 #[inline(always)]
-fn blot_written(written: bool, operand: Operand, core: &mut Core)
+pub fn blot_written(written: bool, operand: Operand, core: &mut Core)
     ensures { core.new ≡ blot_core (written_reg written operand) core.old }
 {
     if written && let Operand::Reg(reg) = operand {

@@ -72,6 +72,9 @@ pub struct Passages {
     newest: [usize; 256],
     /// What the arms of the branches with this number needed, under any label.
     wanted: [Needs; 256],
+    /// What follows the walks.
+    sources: Sources,
+    alloc: Global,
 }
 
 /// A label in which nothing is written.
@@ -104,6 +107,7 @@ fn walked(
     pc: u16,
     label: &Label,
     returns: &Returns,
+    sources: &mut Sources,
     follows: bool,
 ) -> Passage
     requires few { IfSome entries (λ n. n ≤ 64) }
@@ -115,19 +119,9 @@ fn walked(
 {
     let mut told = blank();
     let mut least: Option<Cause> = None;
-    let mut sources = Sources::new(follows);
+    sources.start(module, table, follows);
     walk_arms(
-        module,
-        text,
-        table,
-        entries,
-        crossing,
-        pc,
-        label,
-        returns,
-        &mut least,
-        &mut told,
-        &mut sources,
+        module, text, table, entries, crossing, pc, label, returns, &mut least, &mut told, sources,
     );
     Passage {
         branch: pc,
@@ -208,6 +202,7 @@ fn crossed(
     pc: u16,
     label: &mut Label,
     returns: &Returns,
+    sources: &mut Sources,
 ) -> Outcome
     requires few { IfSome entries (λ n. n ≤ 64) }
     requires table { IsTable module.now text.now table.now }
@@ -218,7 +213,7 @@ fn crossed(
 {
     arms_rest();
     let passage = walked(
-        module, text, table, entries, crossing, pc, label, returns, false,
+        module, text, table, entries, crossing, pc, label, returns, sources, false,
     );
     match passage.answer {
         Answer::Open(told) => {
@@ -301,6 +296,7 @@ fn tightened(
     pc: u16,
     label: &Label,
     returns: &Returns,
+    sources: &mut Sources,
 ) -> Passage
     requires few { IfSome entries (λ n. n ≤ 64) }
     requires table { IsTable module.now text.now table.now }
@@ -308,13 +304,13 @@ fn tightened(
 {
     let top = needs.least(label);
     let passage = walked(
-        module, text, table, entries, crossing, pc, &top, returns, false,
+        module, text, table, entries, crossing, pc, &top, returns, sources, false,
     );
     if is_open(&passage) {
         return passage;
     }
     walked(
-        module, text, table, entries, crossing, pc, label, returns, false,
+        module, text, table, entries, crossing, pc, label, returns, sources, false,
     )
 }
 
@@ -330,6 +326,7 @@ fn guessed(
     pc: u16,
     label: &Label,
     returns: &Returns,
+    sources: &mut Sources,
 ) -> Passage
     requires few { IfSome entries (λ n. n ≤ 64) }
     requires table { IsTable module.now text.now table.now }
@@ -337,19 +334,19 @@ fn guessed(
 {
     let top = wanted.least(label);
     let passage = walked(
-        module, text, table, entries, crossing, pc, &top, returns, true,
+        module, text, table, entries, crossing, pc, &top, returns, sources, true,
     );
     if is_open(&passage) {
         return passage;
     }
     let passage = walked(
-        module, text, table, entries, crossing, pc, label, returns, true,
+        module, text, table, entries, crossing, pc, label, returns, sources, true,
     );
     match passage.needs {
         Some(needs) if is_open(&passage) => {
             *wanted = wanted.with(needs);
             tightened(
-                module, text, table, entries, crossing, &needs, pc, label, returns,
+                module, text, table, entries, crossing, &needs, pc, label, returns, sources,
             )
         }
         _ => passage,
@@ -369,6 +366,7 @@ fn learned(
     pc: u16,
     label: &Label,
     returns: &Returns,
+    sources: &mut Sources,
 ) -> Passage
     requires few { IfSome entries (λ n. n ≤ 64) }
     requires table { IsTable module.now text.now table.now }
@@ -376,13 +374,13 @@ fn learned(
 {
     match start {
         Start::Guess => guessed(
-            module, text, table, entries, crossing, wanted, pc, label, returns,
+            module, text, table, entries, crossing, wanted, pc, label, returns, sources,
         ),
         Start::Tight(needs) => tightened(
-            module, text, table, entries, crossing, needs, pc, label, returns,
+            module, text, table, entries, crossing, needs, pc, label, returns, sources,
         ),
         Start::Whole => walked(
-            module, text, table, entries, crossing, pc, label, returns, false,
+            module, text, table, entries, crossing, pc, label, returns, sources, false,
         ),
     }
 }
@@ -396,7 +394,14 @@ impl Passages {
             list: Vec::new(alloc),
             newest: [0; 256],
             wanted: [Needs::NONE; 256],
+            sources: Sources::new(alloc),
+            alloc,
         }
+    }
+
+    /// What follows no walk.
+    pub fn still(&self) -> Sources {
+        Sources::new(self.alloc)
     }
 
     /// The passage there, if it is of this branch.
@@ -574,13 +579,24 @@ impl Passages {
             pc,
             label,
             returns,
+            &mut self.sources,
         );
         let place = self.keep(*own, passage, wanted)?;
         *own = Some(place);
         if let Some(outcome) = self.answer(place, crossing, pc, label) {
             return Ok(outcome);
         }
-        Ok(crossed(module, text, table, entries, crossing, pc, label, returns))
+        Ok(crossed(
+            module,
+            text,
+            table,
+            entries,
+            crossing,
+            pc,
+            label,
+            returns,
+            &mut self.sources,
+        ))
     }
 
     /// Whether it is known that a branch has no cause under its label.

@@ -12,7 +12,6 @@ ghost use Rattle.flow_check.specs.Passages.{crossing_step, IsPassage};
 ghost use Rattle.flow_check.specs.Tables.{IsTable};
 
 use crate::arms::{Crossing, crossing_of, walk_arms};
-use crate::needs::Sources;
 use crate::passages::{Outcome, Passages};
 use crate::returns::Returns;
 use crate::step::{Cause, Stepped, note};
@@ -121,7 +120,7 @@ fn cause_of_arms(
         returns,
         &mut least,
         &mut told,
-        &mut Sources::new(false),
+        &mut passages.still(),
     );
     least
 }

@@ -14,6 +14,7 @@ ghost use Rattle.flow_check.specs.Tables.{IsTable};
 
 use crate::along::{Way, along, is_call_word};
 use crate::blot::{blot_at, blot_registers, blot_words};
+use crate::glide::glide;
 use crate::needs::Sources;
 use crate::reach::reaches;
 use crate::returns::Returns;
@@ -186,7 +187,7 @@ fn walk_on(
         note(&mut tally.least, Reason::Arm, pc);
         return false;
     };
-    sources.follow(module, insn, pc, &place.label.core);
+    sources.follow(module, pc, &place.label.core);
     let went = along(module, text, entries, insn, pc, &mut place.label);
     match went.way {
         Way::On(to) => {
@@ -230,6 +231,12 @@ pub fn walk(
     let mut place = *from;
     let mut left = u32::from(join) + 1;
     while left > 0 {
+        left = glide(
+            module, text, table, entries, join, &mut place, tally, sources, left,
+        );
+        if left == 0 {
+            break;
+        }
         if place.pc == join {
             return;
         }
