@@ -5,9 +5,7 @@ ghost use Rattle.arm_balance.specs.Met.{met};
 ghost use Rattle.arm_balance.specs.Balance.{arm_next};
 ghost use Rattle.flow_rule.specs.declared.Val.{Val};
 ghost use Rattle.mod_layout.specs.Table.{holds};
-ghost use Rattle.cpu_step.specs.Plan.{writes_dst};
-ghost use Rattle.flow_rule.specs.Does.{plan_val, place_val, may_reach, reach_if, write_reaches, writes_val};
-ghost use Rattle.flow_rule.specs.Does.{does_val, two_val, set_flags_by};
+ghost use Rattle.flow_rule.specs.Does.{plan_val, place_val, may_reach, reach_if, write_reaches, writes_val, does_val};
 ghost use Rattle.flow_rule.specs.Reasons.{exit_reasons, reach_reasons};
 ghost use Rattle.flow_rule.specs.Going.{also, goes};
 ghost use Rattle.flow_rule.specs.Rounds.{Found};
@@ -19,8 +17,7 @@ ghost use Rattle.flow_rule.specs.Arms.{written_words};
 ghost use Rattle.flow_rule.specs.Verdict.{flow_step};
 ghost use Rattle.flow_check.specs.declared.returns.Returns.{Returns};
 ghost use Rattle.flow_check.specs.Pairs.{IsStub, list_of, point_of};
-ghost use Rattle.flow_check.specs.Along.{is_clear, taken_by, done_by, words_by, words_at};
-ghost use Rattle.flow_check.specs.Along.{two_done_at, two_read_at, two_write_at};
+ghost use Rattle.flow_check.specs.Along.{is_clear, taken_by, two_done_at, two_read_at, two_write_at, done_by, words_by, words_at};
 ghost use Rattle.flow_check.specs.Carries.{IsCarry};
 ghost use Rattle.insn_decode.specs.declared.insn.Operand.{Operand};
 ghost use Rattle.insn_decode.specs.declared.insn.TwoOp.{TwoOp};
@@ -28,7 +25,7 @@ ghost use Rattle.flow_check.specs.Along.{way_in, in_open, is_call_word, LeadsTo}
 
 use crate::access::{Acted, both, if_wanted, may, store, taken};
 use crate::effect::{
-    carry_for, clear_if, clears_flags, does, finish, into_register, set_flags, two,
+    carry_for, clear_if, clears_flags, does, finish, into_register, set_flags, two, two_each,
 };
 use crate::one::act_one;
 use crate::reach::{
@@ -149,89 +146,7 @@ fn two_far(
     }
 }
 
-/// Writes what format I gives of a source and of what stands in the data, or sets the flags alone.
-#[inline(always)]
-fn change(
-    module: &Module,
-    op: TwoOp,
-    width: Width,
-    addr: u16,
-    source: Val,
-    old: Val,
-    carry: Val,
-    label: &mut Label,
-)
-    requires { IsCarry carry }
-    ensures core { label.new.core ≡ set_flags_by (two_val op width source old carry).flags label.old.core }
-    ensures words { label.new.words ≡ writes_val module.now label.old.words
-        (reach_if (writes_dst op) Kind.Write width (Some (Val.Known addr)))
-        ((two_val op width source old carry).value ∷ []) }
-{
-    let writes = writes_destination(op);
-    let told = two(op, width, source, old, carry);
-    set_flags(told.flags, &mut label.core);
-    write_if(module, &mut label.words, writes, width, addr, told.value);
-}
-
-/// The same, with code of its own for each operation.
-#[inline(always)]
-fn change_as(
-    module: &Module,
-    op: TwoOp,
-    width: Width,
-    addr: u16,
-    source: Val,
-    old: Val,
-    carry: Val,
-    label: &mut Label,
-)
-    requires { IsCarry carry }
-    ensures core { label.new.core ≡ set_flags_by (two_val op width source old carry).flags label.old.core }
-    ensures words { label.new.words ≡ writes_val module.now label.old.words
-        (reach_if (writes_dst op) Kind.Write width (Some (Val.Known addr)))
-        ((two_val op width source old carry).value ∷ []) }
-{
-    match op {
-        TwoOp::Mov => change(module, TwoOp::Mov, width, addr, source, old, carry, label),
-        TwoOp::Add => change(module, TwoOp::Add, width, addr, source, old, carry, label),
-        TwoOp::Addc => change(module, TwoOp::Addc, width, addr, source, old, carry, label),
-        TwoOp::Subc => change(module, TwoOp::Subc, width, addr, source, old, carry, label),
-        TwoOp::Sub => change(module, TwoOp::Sub, width, addr, source, old, carry, label),
-        TwoOp::Cmp => change(module, TwoOp::Cmp, width, addr, source, old, carry, label),
-        TwoOp::Dadd => change(module, TwoOp::Dadd, width, addr, source, old, carry, label),
-        TwoOp::Bit => change(module, TwoOp::Bit, width, addr, source, old, carry, label),
-        TwoOp::Bic => change(module, TwoOp::Bic, width, addr, source, old, carry, label),
-        TwoOp::Bis => change(module, TwoOp::Bis, width, addr, source, old, carry, label),
-        TwoOp::Xor => change(module, TwoOp::Xor, width, addr, source, old, carry, label),
-        TwoOp::And => change(module, TwoOp::And, width, addr, source, old, carry, label),
-    }
-}
-
-/// The same, with code of its own for each width too.
-#[inline(always)]
-fn change_each(
-    module: &Module,
-    op: TwoOp,
-    width: Width,
-    addr: u16,
-    source: Val,
-    old: Val,
-    carry: Val,
-    label: &mut Label,
-)
-    requires { IsCarry carry }
-    ensures core { label.new.core ≡ set_flags_by (two_val op width source old carry).flags label.old.core }
-    ensures words { label.new.words ≡ writes_val module.now label.old.words
-        (reach_if (writes_dst op) Kind.Write width (Some (Val.Known addr)))
-        ((two_val op width source old carry).value ∷ []) }
-{
-    match width {
-        Width::Byte => change_as(module, op, Width::Byte, addr, source, old, carry, label),
-        Width::Word => change_as(module, op, Width::Word, addr, source, old, carry, label),
-    }
-}
-
-/// What format I does to a word or a byte of the data.
+/// The same to a word or a byte of the data.
 #[inline(always)]
 fn two_data(
     module: &Module,
@@ -262,7 +177,9 @@ fn two_data(
     let _ = ext;
     let writes = writes_destination(op);
     let old = old_data(module, text, label, reads_destination(op), width, addr);
-    change_each(module, op, width, addr, source, old, carry, label);
+    let told = two_each(op, width, source, old, carry);
+    set_flags(told.flags, &mut label.core);
+    write_if(module, &mut label.words, writes, width, addr, told.value);
     Acted {
         fine: true,
         written: if_wanted(writes, Some(Val::Known(addr))),

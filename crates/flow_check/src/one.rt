@@ -22,7 +22,7 @@ use crate::access::{Acted, both, if_wanted, may, put_down, store, taken};
 use crate::effect::{carry_for_one, carry_of, copied, finish_one, given, shift_flags, shift_in};
 use crate::reach::{extension, increment, lower, place, step_past};
 use crate::registers::{Core, get};
-use crate::text::{in_data, is_data, may_reach, read_at, write_at};
+use crate::text::{in_data, is_data, write_at};
 use crate::value::narrow;
 use flow_rule::{Label, Val};
 use insn_decode::{Insn, OneOp, Operand};
@@ -388,9 +388,9 @@ fn push_plain(
     push_value(module, width, value, label)
 }
 
-/// PUSH of a word or a byte that may be read.
+/// PUSH of a word or a byte of the data.
 #[inline(always)]
-fn push_read(
+fn push_data(
     module: &Module,
     text: &[u8],
     width: Width,
@@ -400,7 +400,8 @@ fn push_read(
     label: &mut Label,
 ) -> Acted
     requires there { place_val arg label.old.core (add16 pc 2) ≡ Some (Val.Known addr) }
-    requires free { may_reach module.now Kind.Read width addr ≡ true }
+    requires free { may_reach module.now Kind.Write width addr ≡ true }
+    requires data { holds module.now.text addr ≡ false }
     ensures core { label.new.core ≡ (one_done_at module.now text.now OneOp.Push width arg pc label.old).core }
     ensures words { label.new.words ≡ writes_val module.now label.old.words
         (one_write_at OneOp.Push width arg pc label.old.core)
@@ -413,7 +414,7 @@ fn push_read(
 {
     let _ = pc;
     increment(width, arg, &mut label.core);
-    let value = narrow(width, read_at(module, text, &label.words, width, addr));
+    let value = narrow(width, in_data(module, text, &label.words, width, addr));
     push_value(module, width, value, label)
 }
 
@@ -439,8 +440,8 @@ fn push_from(
 {
     match place(arg, &label.core, extension(pc)) {
         Some(Val::Known(addr)) => {
-            if may_reach(module, Kind::Read, width, addr) {
-                push_read(module, text, width, arg, addr, pc, label)
+            if is_data(module, width, addr) {
+                push_data(module, text, width, arg, addr, pc, label)
             } else {
                 one_far(module, text, OneOp::Push, width, arg, pc, label)
             }
