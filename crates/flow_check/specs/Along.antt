@@ -16,8 +16,7 @@ use Rattle.flow_rule.specs.declared.Val.TheVariants.{Known, Secret}
 use Rattle.flow_rule.specs.declared.Label.{Label}
 use Rattle.flow_rule.specs.declared.Reach.{Reach}
 use Rattle.flow_rule.specs.Values.{val, narrow}
-use Rattle.flow_rule.specs.Does.{place_val, stepped_val, lowered_val, reach_if, carry_val, one_done_val, two_val, written_val, clears_flags, cleared_if}
-use Rattle.flow_rule.specs.Does.{Done_val, plan_val, given_val, read_val, read_reaches, write_reaches, writes_val, does_val, word_no}
+use Rattle.flow_rule.specs.Does.{Done_val, place_val, stepped_val, lowered_val, reach_if, carry_val, one_done_val, two_val, written_val, clears_flags, cleared_if, plan_val, given_val, read_val, read_reaches, write_reaches, writes_val, does_val, word_no}
 use Rattle.flow_rule.specs.Rounds.{Found, Step}
 use Rattle.flow_rule.specs.Stub.{word_number, is_open, is_shut}
 use Rattle.flow_check.specs.declared.along.Way.{Way}
@@ -66,12 +65,6 @@ one_write_at op w arg pc core = reach_if true Write (one_width op w) (one_place 
 abbrev pub two_done_at : Module → List ℕ → TwoOp → Width → Operand → ℕ → Val → Val → Label → Done_val
 two_done_at m text op w d ext src carry l = cleared_if (clears_flags op w d src) (written_val (writes_dst op) d
     (two_val op w src (taken_by (place_val d l.core ext) m text (reads_dst op) d w l) carry) l.core)
-
-abbrev pub two_read_at : TwoOp → Width → Operand → ℕ → List Val → List Reach
-two_read_at op w d ext core = reach_if (reads_dst op) Read w (place_val d core ext)
-
-abbrev pub two_write_at : TwoOp → Width → Operand → ℕ → List Val → List Reach
-two_write_at op w d ext core = reach_if (writes_dst op) Write w (place_val d core ext)
 
 -- what an instruction does to the registers, and what it stores
 abbrev pub done_by : Module → List ℕ → Insn → ℕ → Label → Done_val

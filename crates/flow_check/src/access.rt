@@ -113,13 +113,7 @@ pub fn both(one: bool, other: bool) -> bool
 
 /// Writes a word or a byte, and tells whether that may be done.
 #[inline(always)]
-pub fn put_down(
-    module: &Module,
-    words: &mut [Val; 256],
-    width: Width,
-    addr: Val,
-    value: Val,
-) -> bool
+pub fn put_down(module: &Module, words: &mut [Val; 256], width: Width, addr: Val, value: Val) -> bool
     ensures words { words.new ≡ write_val module.now words.old
         (record { kind = Kind.Write; addr = addr; width = width }) value }
     ensures fine { (at : ℕ) →

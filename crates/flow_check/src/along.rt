@@ -5,6 +5,7 @@ ghost use Rattle.arm_balance.specs.Met.{met};
 ghost use Rattle.arm_balance.specs.Balance.{arm_next};
 ghost use Rattle.flow_rule.specs.declared.Val.{Val};
 ghost use Rattle.mod_layout.specs.Table.{holds};
+ghost use Rattle.cpu_step.specs.Plan.{reads_dst, writes_dst};
 ghost use Rattle.flow_rule.specs.Does.{plan_val, place_val, may_reach, reach_if, write_reaches, writes_val, does_val};
 ghost use Rattle.flow_rule.specs.Reasons.{exit_reasons, reach_reasons};
 ghost use Rattle.flow_rule.specs.Going.{also, goes};
@@ -17,7 +18,7 @@ ghost use Rattle.flow_rule.specs.Arms.{written_words};
 ghost use Rattle.flow_rule.specs.Verdict.{flow_step};
 ghost use Rattle.flow_check.specs.declared.returns.Returns.{Returns};
 ghost use Rattle.flow_check.specs.Pairs.{IsStub, list_of, point_of};
-ghost use Rattle.flow_check.specs.Along.{is_clear, taken_by, two_done_at, two_read_at, two_write_at, done_by, words_by, words_at};
+ghost use Rattle.flow_check.specs.Along.{is_clear, taken_by, two_done_at, done_by, words_by, words_at};
 ghost use Rattle.flow_check.specs.Carries.{IsCarry};
 ghost use Rattle.insn_decode.specs.declared.insn.Operand.{Operand};
 ghost use Rattle.insn_decode.specs.declared.insn.TwoOp.{TwoOp};
@@ -25,7 +26,7 @@ ghost use Rattle.flow_check.specs.Along.{way_in, in_open, is_call_word, LeadsTo}
 
 use crate::access::{Acted, both, if_wanted, may, store, taken};
 use crate::effect::{
-    carry_for, clear_if, clears_flags, does, finish, into_register, set_flags, two, two_each,
+    carry_for, clear_if, clears_flags, does, finish, into_register, set_flags, two,
 };
 use crate::one::act_one;
 use crate::reach::{
@@ -62,14 +63,7 @@ pub struct Went {
 
 /// What stands in the data, if it is read.
 #[inline(always)]
-fn old_data(
-    module: &Module,
-    text: &[u8],
-    label: &Label,
-    wanted: bool,
-    width: Width,
-    addr: u16,
-) -> Val
+fn old_data(module: &Module, text: &[u8], label: &Label, wanted: bool, width: Width, addr: u16) -> Val
     requires { holds module.now.text addr ≡ false }
     ensures { (operand : Operand) →
         result ≡ taken_by (Some (Val.Known addr)) module.now text.now wanted operand width label.now }
@@ -83,14 +77,7 @@ fn old_data(
 
 /// Writes to an address, if that is wanted.
 #[inline(always)]
-fn write_if(
-    module: &Module,
-    words: &mut [Val; 256],
-    wanted: bool,
-    width: Width,
-    addr: u16,
-    value: Val,
-)
+fn write_if(module: &Module, words: &mut [Val; 256], wanted: bool, width: Width, addr: u16, value: Val)
     ensures { words.new ≡ writes_val module.now words.old
         (reach_if wanted Kind.Write width (Some (Val.Known addr))) (value ∷ []) }
 {
@@ -115,12 +102,12 @@ fn two_far(
     requires small { IsCarry carry }
     ensures core { label.new.core ≡ (two_done_at module.now text.now op width dst ext source carry label.old).core }
     ensures words { label.new.words ≡ writes_val module.now label.old.words
-        (two_write_at op width dst ext label.old.core)
+        (reach_if (writes_dst op) Kind.Write width (place_val dst label.old.core ext))
         (two_done_at module.now text.now op width dst ext source carry label.old).stored }
-    ensures fine { (at : ℕ) → result.fine ≡
-        (is_clear (reach_reasons module.now at (two_read_at op width dst ext label.old.core))
-        && is_clear (reach_reasons module.now at (two_write_at op width dst ext label.old.core))) }
-    ensures written { written_words module.now (two_write_at op width dst ext label.old.core)
+    ensures fine { (at : ℕ) → result.fine ≡ (is_clear (reach_reasons module.now at
+        (reach_if (reads_dst op) Kind.Read width (place_val dst label.old.core ext))) && is_clear (reach_reasons module.now at
+        (reach_if (writes_dst op) Kind.Write width (place_val dst label.old.core ext)))) }
+    ensures written { written_words module.now (reach_if (writes_dst op) Kind.Write width (place_val dst label.old.core ext))
         ≡ words_at module.now result.written }
 {
     let reads = reads_destination(op);
@@ -166,23 +153,132 @@ fn two_data(
     requires data { holds module.now.text addr ≡ false }
     ensures core { label.new.core ≡ (two_done_at module.now text.now op width dst ext source carry label.old).core }
     ensures words { label.new.words ≡ writes_val module.now label.old.words
-        (two_write_at op width dst ext label.old.core)
+        (reach_if (writes_dst op) Kind.Write width (place_val dst label.old.core ext))
         (two_done_at module.now text.now op width dst ext source carry label.old).stored }
-    ensures fine { (at : ℕ) → result.fine ≡
-        (is_clear (reach_reasons module.now at (two_read_at op width dst ext label.old.core))
-        && is_clear (reach_reasons module.now at (two_write_at op width dst ext label.old.core))) }
-    ensures written { written_words module.now (two_write_at op width dst ext label.old.core)
+    ensures fine { (at : ℕ) → result.fine ≡ (is_clear (reach_reasons module.now at
+        (reach_if (reads_dst op) Kind.Read width (place_val dst label.old.core ext))) && is_clear (reach_reasons module.now at
+        (reach_if (writes_dst op) Kind.Write width (place_val dst label.old.core ext)))) }
+    ensures written { written_words module.now (reach_if (writes_dst op) Kind.Write width (place_val dst label.old.core ext))
         ≡ words_at module.now result.written }
 {
     let _ = ext;
     let writes = writes_destination(op);
     let old = old_data(module, text, label, reads_destination(op), width, addr);
-    let told = two_each(op, width, source, old, carry);
+    let told = two(op, width, source, old, carry);
     set_flags(told.flags, &mut label.core);
-    write_if(module, &mut label.words, writes, width, addr, told.value);
+    write_if(
+        module,
+        &mut label.words,
+        writes,
+        width,
+        addr,
+        told.value,
+    );
     Acted {
         fine: true,
         written: if_wanted(writes, Some(Val::Known(addr))),
+    }
+}
+
+/// The same, with code of its own for each operation.
+#[inline(always)]
+fn two_data_by(
+    module: &Module,
+    text: &[u8],
+    op: TwoOp,
+    width: Width,
+    dst: Operand,
+    ext: u16,
+    addr: u16,
+    source: Val,
+    carry: Val,
+    label: &mut Label,
+) -> Acted
+    requires small { IsCarry carry }
+    requires there { place_val dst label.old.core ext ≡ Some (Val.Known addr) }
+    requires free { may_reach module.now Kind.Write width addr ≡ true }
+    requires data { holds module.now.text addr ≡ false }
+    ensures core { label.new.core ≡ (two_done_at module.now text.now op width dst ext source carry label.old).core }
+    ensures words { label.new.words ≡ writes_val module.now label.old.words
+        (reach_if (writes_dst op) Kind.Write width (place_val dst label.old.core ext))
+        (two_done_at module.now text.now op width dst ext source carry label.old).stored }
+    ensures fine { (at : ℕ) → result.fine ≡ (is_clear (reach_reasons module.now at
+        (reach_if (reads_dst op) Kind.Read width (place_val dst label.old.core ext))) && is_clear (reach_reasons module.now at
+        (reach_if (writes_dst op) Kind.Write width (place_val dst label.old.core ext)))) }
+    ensures written { written_words module.now (reach_if (writes_dst op) Kind.Write width (place_val dst label.old.core ext))
+        ≡ words_at module.now result.written }
+{
+    match op {
+        TwoOp::Mov => two_data(
+            module, text, TwoOp::Mov, width, dst, ext, addr, source, carry, label,
+        ),
+        TwoOp::Add => two_data(
+            module, text, TwoOp::Add, width, dst, ext, addr, source, carry, label,
+        ),
+        TwoOp::Addc => two_data(
+            module, text, TwoOp::Addc, width, dst, ext, addr, source, carry, label,
+        ),
+        TwoOp::Subc => two_data(
+            module, text, TwoOp::Subc, width, dst, ext, addr, source, carry, label,
+        ),
+        TwoOp::Sub => two_data(
+            module, text, TwoOp::Sub, width, dst, ext, addr, source, carry, label,
+        ),
+        TwoOp::Cmp => two_data(
+            module, text, TwoOp::Cmp, width, dst, ext, addr, source, carry, label,
+        ),
+        TwoOp::Dadd => two_data(
+            module, text, TwoOp::Dadd, width, dst, ext, addr, source, carry, label,
+        ),
+        TwoOp::Bit => two_data(
+            module, text, TwoOp::Bit, width, dst, ext, addr, source, carry, label,
+        ),
+        TwoOp::Bic => two_data(
+            module, text, TwoOp::Bic, width, dst, ext, addr, source, carry, label,
+        ),
+        TwoOp::Bis => two_data(
+            module, text, TwoOp::Bis, width, dst, ext, addr, source, carry, label,
+        ),
+        TwoOp::Xor => two_data(
+            module, text, TwoOp::Xor, width, dst, ext, addr, source, carry, label,
+        ),
+        TwoOp::And => two_data(
+            module, text, TwoOp::And, width, dst, ext, addr, source, carry, label,
+        ),
+    }
+}
+
+/// The same, with code of its own for each width too.
+#[inline(always)]
+fn two_data_as(
+    module: &Module,
+    text: &[u8],
+    op: TwoOp,
+    width: Width,
+    dst: Operand,
+    ext: u16,
+    addr: u16,
+    source: Val,
+    carry: Val,
+    label: &mut Label,
+) -> Acted
+    requires small { IsCarry carry }
+    requires there { place_val dst label.old.core ext ≡ Some (Val.Known addr) }
+    requires free { may_reach module.now Kind.Write width addr ≡ true }
+    requires data { holds module.now.text addr ≡ false }
+    ensures core { label.new.core ≡ (two_done_at module.now text.now op width dst ext source carry label.old).core }
+    ensures words { label.new.words ≡ writes_val module.now label.old.words
+        (reach_if (writes_dst op) Kind.Write width (place_val dst label.old.core ext))
+        (two_done_at module.now text.now op width dst ext source carry label.old).stored }
+    ensures fine { (at : ℕ) → result.fine ≡ (is_clear (reach_reasons module.now at
+        (reach_if (reads_dst op) Kind.Read width (place_val dst label.old.core ext))) && is_clear (reach_reasons module.now at
+        (reach_if (writes_dst op) Kind.Write width (place_val dst label.old.core ext)))) }
+    ensures written { written_words module.now (reach_if (writes_dst op) Kind.Write width (place_val dst label.old.core ext))
+        ≡ words_at module.now result.written }
+{
+    match width {
+        Width::Byte => two_data_by(module, text, op, Width::Byte, dst, ext, addr, source, carry, label),
+        Width::Word => two_data_by(module, text, op, Width::Word, dst, ext, addr, source, carry, label),
     }
 }
 
@@ -202,20 +298,18 @@ fn two_at(
     requires small { IsCarry carry }
     ensures core { label.new.core ≡ (two_done_at module.now text.now op width dst ext source carry label.old).core }
     ensures words { label.new.words ≡ writes_val module.now label.old.words
-        (two_write_at op width dst ext label.old.core)
+        (reach_if (writes_dst op) Kind.Write width (place_val dst label.old.core ext))
         (two_done_at module.now text.now op width dst ext source carry label.old).stored }
-    ensures fine { (at : ℕ) → result.fine ≡
-        (is_clear (reach_reasons module.now at (two_read_at op width dst ext label.old.core))
-        && is_clear (reach_reasons module.now at (two_write_at op width dst ext label.old.core))) }
-    ensures written { written_words module.now (two_write_at op width dst ext label.old.core)
+    ensures fine { (at : ℕ) → result.fine ≡ (is_clear (reach_reasons module.now at
+        (reach_if (reads_dst op) Kind.Read width (place_val dst label.old.core ext))) && is_clear (reach_reasons module.now at
+        (reach_if (writes_dst op) Kind.Write width (place_val dst label.old.core ext)))) }
+    ensures written { written_words module.now (reach_if (writes_dst op) Kind.Write width (place_val dst label.old.core ext))
         ≡ words_at module.now result.written }
 {
     match place(dst, &label.core, ext) {
         Some(Val::Known(addr)) => {
             if is_data(module, width, addr) {
-                two_data(
-                    module, text, op, width, dst, ext, addr, source, carry, label,
-                )
+                two_data_as(module, text, op, width, dst, ext, addr, source, carry, label)
             } else {
                 two_far(module, text, op, width, dst, ext, source, carry, label)
             }
@@ -224,9 +318,9 @@ fn two_at(
     }
 }
 
-/// An instruction of format I, where it is called.
-#[inline(always)]
-fn two_from(
+/// An instruction of format I.
+#[inline(never)]
+fn act_two(
     module: &Module,
     text: &[u8],
     insn: &Insn,
@@ -256,118 +350,6 @@ fn two_from(
     Acted {
         fine: both(fine, done.fine),
         written: done.written,
-    }
-}
-
-/// An instruction of format I of a register.
-#[inline(never)]
-fn two_of_register(
-    module: &Module,
-    text: &[u8],
-    op: TwoOp,
-    width: Width,
-    reg: u8,
-    dst: Operand,
-    pc: u16,
-    label: &mut Label,
-) -> Acted
-    ensures core { label.new.core
-        ≡ (done_by module.now text.now (Insn.Two op width (Operand.Reg reg) dst) pc label.old).core }
-    ensures words { label.new.words
-        ≡ words_by module.now text.now (Insn.Two op width (Operand.Reg reg) dst) pc label.old }
-    ensures fine { result.fine ≡ is_clear (reach_reasons module.now pc
-        (plan_val (Insn.Two op width (Operand.Reg reg) dst) pc label.old.core)) }
-    ensures written { written_words module.now (write_reaches
-        (plan_val (Insn.Two op width (Operand.Reg reg) dst) pc label.old.core)) ≡ words_at module.now result.written }
-{
-    let src = Operand::Reg(reg);
-    let insn = Insn::Two {
-        op,
-        width,
-        src,
-        dst,
-    };
-    two_from(module, text, &insn, op, width, src, dst, pc, label)
-}
-
-/// An instruction of format I of a constant.
-#[inline(never)]
-fn two_of_number(
-    module: &Module,
-    text: &[u8],
-    op: TwoOp,
-    width: Width,
-    number: u16,
-    dst: Operand,
-    pc: u16,
-    label: &mut Label,
-) -> Acted
-    ensures core { label.new.core
-        ≡ (done_by module.now text.now (Insn.Two op width (Operand.Const number) dst) pc label.old).core }
-    ensures words { label.new.words
-        ≡ words_by module.now text.now (Insn.Two op width (Operand.Const number) dst) pc label.old }
-    ensures fine { result.fine ≡ is_clear (reach_reasons module.now pc
-        (plan_val (Insn.Two op width (Operand.Const number) dst) pc label.old.core)) }
-    ensures written { written_words module.now (write_reaches
-        (plan_val (Insn.Two op width (Operand.Const number) dst) pc label.old.core)) ≡ words_at module.now result.written }
-{
-    let src = Operand::Const(number);
-    let insn = Insn::Two {
-        op,
-        width,
-        src,
-        dst,
-    };
-    two_from(module, text, &insn, op, width, src, dst, pc, label)
-}
-
-/// An instruction of format I of any source.
-#[inline(never)]
-fn two_of_any(
-    module: &Module,
-    text: &[u8],
-    insn: &Insn,
-    op: TwoOp,
-    width: Width,
-    src: Operand,
-    dst: Operand,
-    pc: u16,
-    label: &mut Label,
-) -> Acted
-    requires { insn.now ≡ Insn.Two op width src dst }
-    ensures core { label.new.core ≡ (done_by module.now text.now insn.now pc label.old).core }
-    ensures words { label.new.words ≡ words_by module.now text.now insn.now pc label.old }
-    ensures fine { result.fine ≡ is_clear (reach_reasons module.now pc (plan_val insn.now pc label.old.core)) }
-    ensures written { written_words module.now (write_reaches (plan_val insn.now pc label.old.core))
-        ≡ words_at module.now result.written }
-{
-    two_from(module, text, insn, op, width, src, dst, pc, label)
-}
-
-/// An instruction of format I, with code of its own for the shortest sources.
-#[inline(always)]
-fn act_two(
-    module: &Module,
-    text: &[u8],
-    insn: &Insn,
-    op: TwoOp,
-    width: Width,
-    src: Operand,
-    dst: Operand,
-    pc: u16,
-    label: &mut Label,
-) -> Acted
-    requires { insn.now ≡ Insn.Two op width src dst }
-    ensures core { label.new.core ≡ (done_by module.now text.now insn.now pc label.old).core }
-    ensures words { label.new.words ≡ words_by module.now text.now insn.now pc label.old }
-    ensures fine { result.fine ≡ is_clear (reach_reasons module.now pc (plan_val insn.now pc label.old.core)) }
-    ensures written { written_words module.now (write_reaches (plan_val insn.now pc label.old.core))
-        ≡ words_at module.now result.written }
-{
-    match src {
-        Operand::Reg(reg) => two_of_register(module, text, op, width, reg, dst, pc, label),
-        Operand::Const(number) => two_of_number(module, text, op, width, number, dst, pc, label),
-        _ => two_of_any(module, text, insn, op, width, src, dst, pc, label),
     }
 }
 

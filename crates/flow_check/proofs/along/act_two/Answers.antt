@@ -1,5 +1,5 @@
 use Rattle.flow_check.proofs.Acting.{rest_core_is, rest_words_are, rest_clear, rest_written}
-use Rattle.flow_check.proofs.along.two_from.Goals as goal
+use Rattle.flow_check.proofs.along.act_two.Goals as goal
 
 pub returns-clause-core : goal.returns-clause-core
 returns-clause-core c =
