@@ -40,7 +40,7 @@ use Rattle.flow_rule.specs.Arms.{written_words}
 use Rattle.flow_check.specs.declared.along.Way.{Way}
 use Rattle.flow_check.specs.declared.along.Way.TheVariants.{Cause}
 use Rattle.flow_check.specs.Pairs.{IsStub}
-use Rattle.flow_check.specs.Along.{is_clear, taken_by, one_place, one_width, two_done_at, one_done_at, one_read_at, one_write_at, done_by, words_by, words_at, in_open, is_call_word, LeadsTo}
+use Rattle.flow_check.specs.Along.{is_clear, taken_by, one_place, one_width, one_done_at, one_read_at, one_write_at, done_by, words_by, words_at, in_open, is_call_word, LeadsTo}
 use Rattle.flow_check.proofs.Causes.{stub_open, stub_shut}
 use Rattle.flow_check.proofs.Stubs.{base_some, base_none}
 
@@ -230,66 +230,6 @@ carry_read : (op : TwoOp) (w : Width) (s d c : Val) →
 carry_read Mov Word s d c = refl
 carry_read Mov Byte s d c = refl
 carry_read _ w s d c = refl
-
--- by what is done to the destination, once the source is read and its increment is done
-module _ (m : Module) (text : List ℕ) (insn : Insn) (op : TwoOp) (w : Width) (s d : Operand) (pc : ℕ) (l : Label)
-    (is : insn ≡ Two op w s d) (c1 c2 : List Val) (ext after : ℕ) (f : Option Val) (src ca : Val)
-    (e1 : c1 ≡ past_val insn pc l.core) (ex : ext ≡ add16 pc 2) (ef : f ≡ place_val s c1 ext)
-    (es : src ≡ taken_by f m text true s w (record { core = c1; words = l.words }))
-    (e2 : c2 ≡ stepped_val w s c1) (ea : after ≡ add16 ext (2 * words_of s))
-    (ec : ca ≡ read_if (reads_carry op) (carry_val l.core))
-  where
-    abbrev rest_label : Label
-    rest_label = record { core = c2; words = l.words }
-
-    abbrev rest_to : Option Val
-    rest_to = place_val d c2 after
-
-    abbrev rest_old : Val
-    rest_old = taken_by rest_to m text (reads_dst op) d w rest_label
-
-    abbrev rest_told : Told
-    rest_told = two_val op w src rest_old (carry_val l.core)
-
-    abbrev rest_done : Done_val
-    rest_done = written_val (writes_dst op) d rest_told c2
-
-    rest_is : two_done_at m text op w d after src ca rest_label ≡ cleared_if (clears_flags op w d src) rest_done
-    rest_is = ap (λ t. cleared_if (clears_flags op w d src) (written_val (writes_dst op) d t c2))
-        (ap (two_val op w src rest_old) ec ∙ carry_read op w src rest_old (carry_val l.core))
-
-    pub rest_core_is : (new : List Val) → new ≡ (two_done_at m text op w d after src ca rest_label).core →
-        new ≡ (done_by m text insn pc l).core
-    rest_core_is new e =
-        two_core_is m text insn op w s d pc l is (reads_dst op) (writes_dst op) c1 c2 ext after f rest_to src rest_old
-        (carry_val l.core) rest_told refl refl e1 ex ef es e2 ea refl refl refl refl
-        rest_done.core new (clears_flags op w d src) refl refl (e ∙ ap (λ x. x.core) rest_is)
-
-    pub rest_words_are : (new : List Val) → new ≡ writes_val m l.words (reach_if (writes_dst op) Write w rest_to)
-        (two_done_at m text op w d after src ca rest_label).stored → new ≡ words_by m text insn pc l
-    rest_words_are new e =
-        two_words_are m text insn op w s d pc l is (reads_dst op) (writes_dst op) c1 c2 ext after f rest_to src rest_old
-        (carry_val l.core) rest_told refl refl e1 ex ef es e2 ea refl refl refl refl
-        rest_done.stored new refl
-        (e ∙ ap (λ x. writes_val m l.words (reach_if (writes_dst op) Write w rest_to) x.stored) rest_is)
-
-    pub rest_clear : (a bc abc : Bool) → a ≡ is_clear (reach_reasons m pc (reach_if true Read w f)) →
-        bc ≡ (is_clear (reach_reasons m pc (reach_if (reads_dst op) Read w rest_to))
-        && is_clear (reach_reasons m pc (reach_if (writes_dst op) Write w rest_to))) → abc ≡ (a && bc) →
-        abc ≡ is_clear (reach_reasons m pc (plan_val insn pc l.core))
-    rest_clear a bc abc pa pbc pabc =
-        let b : Bool = is_clear (reach_reasons m pc (reach_if (reads_dst op) Read w rest_to)) in
-        let c : Bool = is_clear (reach_reasons m pc (reach_if (writes_dst op) Write w rest_to)) in
-        two_clear m text insn op w s d pc l is (reads_dst op) (writes_dst op) c1 c2 ext after f rest_to src rest_old
-        (carry_val l.core) rest_told refl refl e1 ex ef es e2 ea refl refl refl refl
-        a b c (a && b) abc pa refl refl refl (pabc ∙ ap (λ x. a && x) pbc ∙ all_of a b c)
-
-    pub rest_written : (o : Option Val) →
-        written_words m (reach_if (writes_dst op) Write w rest_to) ≡ words_at m o →
-        written_words m (write_reaches (plan_val insn pc l.core)) ≡ words_at m o
-    rest_written o e =
-        two_written m text insn op w s d pc l is (reads_dst op) (writes_dst op) c1 c2 ext after f rest_to src rest_old
-        (carry_val l.core) rest_told refl refl e1 ex ef es e2 ea refl refl refl refl o e
 
 no_reach : (b : Bool) (k : Kind) (w : Width) → reach_if b k w None ≡ []
 no_reach true k w = refl

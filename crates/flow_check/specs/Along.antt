@@ -3,8 +3,6 @@ use Rattle.std.specs.Prelude.{◌≡◌, ◌≢◌, ℕ, List, [], ◌∷◌, ma
 use Rattle.sm_words.specs.Words.{add16}
 use Rattle.sm_words.specs.declared.width.Width.{Width}
 use Rattle.sm_words.specs.declared.width.Width.TheVariants.{Word}
-use Rattle.cpu_step.specs.Plan.{reads_dst, writes_dst}
-use Rattle.insn_decode.specs.declared.insn.TwoOp.{TwoOp}
 use Rattle.insn_decode.specs.declared.insn.OneOp.{OneOp}
 use Rattle.insn_decode.specs.declared.insn.OneOp.TheVariants.{Push, Call}
 use Rattle.insn_decode.specs.declared.insn.Operand.{Operand}
@@ -16,7 +14,7 @@ use Rattle.flow_rule.specs.declared.Val.TheVariants.{Known, Secret}
 use Rattle.flow_rule.specs.declared.Label.{Label}
 use Rattle.flow_rule.specs.declared.Reach.{Reach}
 use Rattle.flow_rule.specs.Values.{val, narrow}
-use Rattle.flow_rule.specs.Does.{Done_val, place_val, stepped_val, lowered_val, reach_if, carry_val, one_done_val, two_val, written_val, clears_flags, cleared_if, plan_val, given_val, read_val, read_reaches, write_reaches, writes_val, does_val, word_no}
+use Rattle.flow_rule.specs.Does.{Done_val, place_val, stepped_val, lowered_val, reach_if, carry_val, one_done_val, plan_val, given_val, read_val, read_reaches, write_reaches, writes_val, does_val, word_no}
 use Rattle.flow_rule.specs.Rounds.{Found, Step}
 use Rattle.flow_rule.specs.Stub.{word_number, is_open, is_shut}
 use Rattle.flow_check.specs.declared.along.Way.{Way}
@@ -60,11 +58,6 @@ one_read_at w arg pc core = reach_if true Read w (place_val arg core (add16 pc 2
 abbrev pub one_write_at : OneOp → Width → Operand → ℕ → List Val → List Reach
 one_write_at op w arg pc core = reach_if true Write (one_width op w) (one_place op (place_val arg core (add16 pc 2))
     (val (lowered_val (stepped_val w arg core)) 1))
-
--- what format I does to a destination, whose extension word is there, with this source
-abbrev pub two_done_at : Module → List ℕ → TwoOp → Width → Operand → ℕ → Val → Val → Label → Done_val
-two_done_at m text op w d ext src carry l = cleared_if (clears_flags op w d src) (written_val (writes_dst op) d
-    (two_val op w src (taken_by (place_val d l.core ext) m text (reads_dst op) d w l) carry) l.core)
 
 -- what an instruction does to the registers, and what it stores
 abbrev pub done_by : Module → List ℕ → Insn → ℕ → Label → Done_val

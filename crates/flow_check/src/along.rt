@@ -1,12 +1,10 @@
 //! An instruction of an arm: what it does to a label, with none of the lists that the step of any instruction fills.
 
-ghost use Rattle.std.specs.Prelude.{◌≡◌, ◌++◌, ◌&&◌, ℕ, List, [], ◌∷◌, Some, None, true, false};
+ghost use Rattle.std.specs.Prelude.{◌≡◌, ◌++◌, ◌&&◌, ℕ, List, [], Some, None, true, false};
 ghost use Rattle.arm_balance.specs.Met.{met};
 ghost use Rattle.arm_balance.specs.Balance.{arm_next};
 ghost use Rattle.flow_rule.specs.declared.Val.{Val};
-ghost use Rattle.mod_layout.specs.Table.{holds};
-ghost use Rattle.cpu_step.specs.Plan.{reads_dst, writes_dst};
-ghost use Rattle.flow_rule.specs.Does.{plan_val, place_val, may_reach, reach_if, write_reaches, writes_val, does_val};
+ghost use Rattle.flow_rule.specs.Does.{plan_val, write_reaches, does_val};
 ghost use Rattle.flow_rule.specs.Reasons.{exit_reasons, reach_reasons};
 ghost use Rattle.flow_rule.specs.Going.{also, goes};
 ghost use Rattle.flow_rule.specs.Rounds.{Found};
@@ -18,15 +16,12 @@ ghost use Rattle.flow_rule.specs.Arms.{written_words};
 ghost use Rattle.flow_rule.specs.Verdict.{flow_step};
 ghost use Rattle.flow_check.specs.declared.returns.Returns.{Returns};
 ghost use Rattle.flow_check.specs.Pairs.{IsStub, list_of, point_of};
-ghost use Rattle.flow_check.specs.Along.{is_clear, taken_by, two_done_at, done_by, words_by, words_at};
-ghost use Rattle.flow_check.specs.Carries.{IsCarry};
-ghost use Rattle.insn_decode.specs.declared.insn.Operand.{Operand};
-ghost use Rattle.insn_decode.specs.declared.insn.TwoOp.{TwoOp};
+ghost use Rattle.flow_check.specs.Along.{is_clear, done_by, words_by, words_at};
 ghost use Rattle.flow_check.specs.Along.{way_in, in_open, is_call_word, LeadsTo};
 
 use crate::access::{Acted, both, if_wanted, may, store, taken};
 use crate::effect::{
-    carry_for, clear_if, clears_flags, does, finish, into_register, set_flags, two,
+    carry_for, carry_of, clear_if, clears_flags, does, finish, into_register, two,
 };
 use crate::one::act_one;
 use crate::reach::{
@@ -35,8 +30,6 @@ use crate::reach::{
 use crate::registers::{Core, get};
 use crate::step::leave;
 use crate::stub::{is_open, is_shut, word_number};
-use crate::text::{in_data, is_data, write_at};
-use crate::value::narrow;
 use flow_rule::{Label, Val};
 use insn_decode::{Insn, Operand, TwoOp};
 use mod_layout::Module;
@@ -61,265 +54,7 @@ pub struct Went {
     pub written: Option<Val>,
 }
 
-/// What stands in the data, if it is read.
-#[inline(always)]
-fn old_data(module: &Module, text: &[u8], label: &Label, wanted: bool, width: Width, addr: u16) -> Val
-    requires { holds module.now.text addr ≡ false }
-    ensures { (operand : Operand) →
-        result ≡ taken_by (Some (Val.Known addr)) module.now text.now wanted operand width label.now }
-{
-    if wanted {
-        narrow(width, in_data(module, text, &label.words, width, addr))
-    } else {
-        narrow(width, Val::Secret)
-    }
-}
-
-/// Writes to an address, if that is wanted.
-#[inline(always)]
-fn write_if(module: &Module, words: &mut [Val; 256], wanted: bool, width: Width, addr: u16, value: Val)
-    ensures { words.new ≡ writes_val module.now words.old
-        (reach_if wanted Kind.Write width (Some (Val.Known addr))) (value ∷ []) }
-{
-    if wanted {
-        write_at(module, words, width, addr, value);
-    }
-}
-
-/// What format I does to a destination, once the source is read and its increment is done.
-#[inline(never)]
-fn two_far(
-    module: &Module,
-    text: &[u8],
-    op: TwoOp,
-    width: Width,
-    dst: Operand,
-    ext: u16,
-    source: Val,
-    carry: Val,
-    label: &mut Label,
-) -> Acted
-    requires small { IsCarry carry }
-    ensures core { label.new.core ≡ (two_done_at module.now text.now op width dst ext source carry label.old).core }
-    ensures words { label.new.words ≡ writes_val module.now label.old.words
-        (reach_if (writes_dst op) Kind.Write width (place_val dst label.old.core ext))
-        (two_done_at module.now text.now op width dst ext source carry label.old).stored }
-    ensures fine { (at : ℕ) → result.fine ≡ (is_clear (reach_reasons module.now at
-        (reach_if (reads_dst op) Kind.Read width (place_val dst label.old.core ext))) && is_clear (reach_reasons module.now at
-        (reach_if (writes_dst op) Kind.Write width (place_val dst label.old.core ext)))) }
-    ensures written { written_words module.now (reach_if (writes_dst op) Kind.Write width (place_val dst label.old.core ext))
-        ≡ words_at module.now result.written }
-{
-    let reads = reads_destination(op);
-    let writes = writes_destination(op);
-    let to = place(dst, &label.core, ext);
-    let old = taken(module, text, label, reads, dst, width, to);
-    let told = two(op, width, source, old, carry);
-    let stored = finish(writes, dst, &told, &mut label.core);
-    clear_if(clears_flags(op, width, dst, source), &mut label.core);
-    store(
-        module,
-        &mut label.words,
-        writes,
-        width,
-        to,
-        stored.as_slice(),
-    );
-    let old_fine = may(module, reads, Kind::Read, width, to);
-    let write_fine = may(module, writes, Kind::Write, width, to);
-    Acted {
-        fine: both(old_fine, write_fine),
-        written: if_wanted(writes, to),
-    }
-}
-
-/// The same to a word or a byte of the data.
-#[inline(always)]
-fn two_data(
-    module: &Module,
-    text: &[u8],
-    op: TwoOp,
-    width: Width,
-    dst: Operand,
-    ext: u16,
-    addr: u16,
-    source: Val,
-    carry: Val,
-    label: &mut Label,
-) -> Acted
-    requires small { IsCarry carry }
-    requires there { place_val dst label.old.core ext ≡ Some (Val.Known addr) }
-    requires free { may_reach module.now Kind.Write width addr ≡ true }
-    requires data { holds module.now.text addr ≡ false }
-    ensures core { label.new.core ≡ (two_done_at module.now text.now op width dst ext source carry label.old).core }
-    ensures words { label.new.words ≡ writes_val module.now label.old.words
-        (reach_if (writes_dst op) Kind.Write width (place_val dst label.old.core ext))
-        (two_done_at module.now text.now op width dst ext source carry label.old).stored }
-    ensures fine { (at : ℕ) → result.fine ≡ (is_clear (reach_reasons module.now at
-        (reach_if (reads_dst op) Kind.Read width (place_val dst label.old.core ext))) && is_clear (reach_reasons module.now at
-        (reach_if (writes_dst op) Kind.Write width (place_val dst label.old.core ext)))) }
-    ensures written { written_words module.now (reach_if (writes_dst op) Kind.Write width (place_val dst label.old.core ext))
-        ≡ words_at module.now result.written }
-{
-    let _ = ext;
-    let writes = writes_destination(op);
-    let old = old_data(module, text, label, reads_destination(op), width, addr);
-    let told = two(op, width, source, old, carry);
-    set_flags(told.flags, &mut label.core);
-    write_if(
-        module,
-        &mut label.words,
-        writes,
-        width,
-        addr,
-        told.value,
-    );
-    Acted {
-        fine: true,
-        written: if_wanted(writes, Some(Val::Known(addr))),
-    }
-}
-
-/// The same, with code of its own for each operation.
-#[inline(always)]
-fn two_data_by(
-    module: &Module,
-    text: &[u8],
-    op: TwoOp,
-    width: Width,
-    dst: Operand,
-    ext: u16,
-    addr: u16,
-    source: Val,
-    carry: Val,
-    label: &mut Label,
-) -> Acted
-    requires small { IsCarry carry }
-    requires there { place_val dst label.old.core ext ≡ Some (Val.Known addr) }
-    requires free { may_reach module.now Kind.Write width addr ≡ true }
-    requires data { holds module.now.text addr ≡ false }
-    ensures core { label.new.core ≡ (two_done_at module.now text.now op width dst ext source carry label.old).core }
-    ensures words { label.new.words ≡ writes_val module.now label.old.words
-        (reach_if (writes_dst op) Kind.Write width (place_val dst label.old.core ext))
-        (two_done_at module.now text.now op width dst ext source carry label.old).stored }
-    ensures fine { (at : ℕ) → result.fine ≡ (is_clear (reach_reasons module.now at
-        (reach_if (reads_dst op) Kind.Read width (place_val dst label.old.core ext))) && is_clear (reach_reasons module.now at
-        (reach_if (writes_dst op) Kind.Write width (place_val dst label.old.core ext)))) }
-    ensures written { written_words module.now (reach_if (writes_dst op) Kind.Write width (place_val dst label.old.core ext))
-        ≡ words_at module.now result.written }
-{
-    match op {
-        TwoOp::Mov => two_data(
-            module, text, TwoOp::Mov, width, dst, ext, addr, source, carry, label,
-        ),
-        TwoOp::Add => two_data(
-            module, text, TwoOp::Add, width, dst, ext, addr, source, carry, label,
-        ),
-        TwoOp::Addc => two_data(
-            module, text, TwoOp::Addc, width, dst, ext, addr, source, carry, label,
-        ),
-        TwoOp::Subc => two_data(
-            module, text, TwoOp::Subc, width, dst, ext, addr, source, carry, label,
-        ),
-        TwoOp::Sub => two_data(
-            module, text, TwoOp::Sub, width, dst, ext, addr, source, carry, label,
-        ),
-        TwoOp::Cmp => two_data(
-            module, text, TwoOp::Cmp, width, dst, ext, addr, source, carry, label,
-        ),
-        TwoOp::Dadd => two_data(
-            module, text, TwoOp::Dadd, width, dst, ext, addr, source, carry, label,
-        ),
-        TwoOp::Bit => two_data(
-            module, text, TwoOp::Bit, width, dst, ext, addr, source, carry, label,
-        ),
-        TwoOp::Bic => two_data(
-            module, text, TwoOp::Bic, width, dst, ext, addr, source, carry, label,
-        ),
-        TwoOp::Bis => two_data(
-            module, text, TwoOp::Bis, width, dst, ext, addr, source, carry, label,
-        ),
-        TwoOp::Xor => two_data(
-            module, text, TwoOp::Xor, width, dst, ext, addr, source, carry, label,
-        ),
-        TwoOp::And => two_data(
-            module, text, TwoOp::And, width, dst, ext, addr, source, carry, label,
-        ),
-    }
-}
-
-/// The same, with code of its own for each width too.
-#[inline(always)]
-fn two_data_as(
-    module: &Module,
-    text: &[u8],
-    op: TwoOp,
-    width: Width,
-    dst: Operand,
-    ext: u16,
-    addr: u16,
-    source: Val,
-    carry: Val,
-    label: &mut Label,
-) -> Acted
-    requires small { IsCarry carry }
-    requires there { place_val dst label.old.core ext ≡ Some (Val.Known addr) }
-    requires free { may_reach module.now Kind.Write width addr ≡ true }
-    requires data { holds module.now.text addr ≡ false }
-    ensures core { label.new.core ≡ (two_done_at module.now text.now op width dst ext source carry label.old).core }
-    ensures words { label.new.words ≡ writes_val module.now label.old.words
-        (reach_if (writes_dst op) Kind.Write width (place_val dst label.old.core ext))
-        (two_done_at module.now text.now op width dst ext source carry label.old).stored }
-    ensures fine { (at : ℕ) → result.fine ≡ (is_clear (reach_reasons module.now at
-        (reach_if (reads_dst op) Kind.Read width (place_val dst label.old.core ext))) && is_clear (reach_reasons module.now at
-        (reach_if (writes_dst op) Kind.Write width (place_val dst label.old.core ext)))) }
-    ensures written { written_words module.now (reach_if (writes_dst op) Kind.Write width (place_val dst label.old.core ext))
-        ≡ words_at module.now result.written }
-{
-    match width {
-        Width::Byte => two_data_by(module, text, op, Width::Byte, dst, ext, addr, source, carry, label),
-        Width::Word => two_data_by(module, text, op, Width::Word, dst, ext, addr, source, carry, label),
-    }
-}
-
-/// The same to any destination.
-#[inline(always)]
-fn two_at(
-    module: &Module,
-    text: &[u8],
-    op: TwoOp,
-    width: Width,
-    dst: Operand,
-    ext: u16,
-    source: Val,
-    carry: Val,
-    label: &mut Label,
-) -> Acted
-    requires small { IsCarry carry }
-    ensures core { label.new.core ≡ (two_done_at module.now text.now op width dst ext source carry label.old).core }
-    ensures words { label.new.words ≡ writes_val module.now label.old.words
-        (reach_if (writes_dst op) Kind.Write width (place_val dst label.old.core ext))
-        (two_done_at module.now text.now op width dst ext source carry label.old).stored }
-    ensures fine { (at : ℕ) → result.fine ≡ (is_clear (reach_reasons module.now at
-        (reach_if (reads_dst op) Kind.Read width (place_val dst label.old.core ext))) && is_clear (reach_reasons module.now at
-        (reach_if (writes_dst op) Kind.Write width (place_val dst label.old.core ext)))) }
-    ensures written { written_words module.now (reach_if (writes_dst op) Kind.Write width (place_val dst label.old.core ext))
-        ≡ words_at module.now result.written }
-{
-    match place(dst, &label.core, ext) {
-        Some(Val::Known(addr)) => {
-            if is_data(module, width, addr) {
-                two_data_as(module, text, op, width, dst, ext, addr, source, carry, label)
-            } else {
-                two_far(module, text, op, width, dst, ext, source, carry, label)
-            }
-        }
-        _ => two_far(module, text, op, width, dst, ext, source, carry, label),
-    }
-}
-
 /// An instruction of format I.
-#[inline(never)]
 fn act_two(
     module: &Module,
     text: &[u8],
@@ -338,18 +73,33 @@ fn act_two(
     ensures written { written_words module.now (write_reaches (plan_val insn.now pc label.old.core))
         ≡ words_at module.now result.written }
 {
-    let carry = carry_for(op, &label.core);
+    let carry = carry_of(&label.core);
+    let reads = reads_destination(op);
+    let writes = writes_destination(op);
     step_past(insn, pc, &mut label.core);
     let ext = extension(pc);
     let from = place(src, &label.core, ext);
     let source = taken(module, text, label, true, src, width, from);
     increment(width, src, &mut label.core);
-    let after = second(ext, src);
-    let done = two_at(module, text, op, width, dst, after, source, carry, label);
-    let fine = may(module, true, Kind::Read, width, from);
+    let to = place(dst, &label.core, second(ext, src));
+    let old = taken(module, text, label, reads, dst, width, to);
+    let told = two(op, width, source, old, carry);
+    let stored = finish(writes, dst, &told, &mut label.core);
+    clear_if(clears_flags(op, width, dst, source), &mut label.core);
+    store(
+        module,
+        &mut label.words,
+        writes,
+        width,
+        to,
+        stored.as_slice(),
+    );
+    let source_fine = may(module, true, Kind::Read, width, from);
+    let old_fine = may(module, reads, Kind::Read, width, to);
+    let write_fine = may(module, writes, Kind::Write, width, to);
     Acted {
-        fine: both(fine, done.fine),
-        written: done.written,
+        fine: both(both(source_fine, old_fine), write_fine),
+        written: if_wanted(writes, to),
     }
 }
 
