@@ -1,10 +1,10 @@
 -- An instruction of an arm, without lists.
 use Rattle.std.proofs.Common.{◌≡◌, ℕ, ◌*◌, List, [], ◌∷◌, ◌++◌, map, refl, sym, ap, ◌∙◌, subst, Bool, true, false, cond, nat_lt, ◌==◌, ◌&&◌, not, Option, Some, None}
-use Rattle.std.specs.Prelude.{ℤ, slice_set}
-use Rattle.sm_words.specs.Words.{add16, bit, nth}
+use Rattle.std.specs.Prelude.{ℤ}
+use Rattle.sm_words.specs.Words.{add16, nth}
 use Rattle.sm_words.specs.declared.width.Width.{Width}
 use Rattle.sm_words.specs.declared.width.Width.TheVariants.{Word, Byte}
-use Rattle.insn_decode.specs.Code.{words_of, length_of}
+use Rattle.insn_decode.specs.Code.{words_of}
 use Rattle.insn_decode.specs.declared.insn.TwoOp.{TwoOp}
 use Rattle.insn_decode.specs.declared.insn.TwoOp.TheVariants.{Mov}
 use Rattle.insn_decode.specs.declared.insn.OneOp.{OneOp}
@@ -27,7 +27,7 @@ use Rattle.flow_rule.specs.declared.Label.{Label}
 use Rattle.flow_rule.specs.declared.Reach.{Reach}
 use Rattle.flow_rule.specs.declared.Told.{Told}
 use Rattle.flow_rule.specs.declared.Reason.TheVariants.{SecretBranch}
-use Rattle.flow_rule.specs.Values.{is_secret, val, kept_val, narrow, over_one}
+use Rattle.flow_rule.specs.Values.{is_secret, val, narrow}
 use Rattle.flow_rule.specs.Rounds.{Point, Found, Step}
 use Rattle.flow_rule.specs.Does.{place_val, past_val, stepped_val, lowered_val, reach_if, one_reach, plan_val, read_val, read_reaches, write_reaches, writes_val, given_val, after_val, two_val, written_val, clears_flags, cleared_core, cleared_if, reads_carry, read_if, carry_val, one_done_val, does_val, Done_val}
 use Rattle.flow_rule.specs.Reasons.{because_if, reach_reasons, reach_reasons_by}
@@ -40,7 +40,7 @@ use Rattle.flow_rule.specs.Arms.{written_words}
 use Rattle.flow_check.specs.declared.along.Way.{Way}
 use Rattle.flow_check.specs.declared.along.Way.TheVariants.{Cause}
 use Rattle.flow_check.specs.Pairs.{IsStub}
-use Rattle.flow_check.specs.Along.{is_clear, taken_by, one_place, one_width, one_done_at, one_read_at, one_write_at, done_by, words_by, words_at, in_open, is_call_word, LeadsTo}
+use Rattle.flow_check.specs.Along.{is_clear, taken_by, one_place, one_width, done_by, words_by, words_at, in_open, is_call_word, LeadsTo}
 use Rattle.flow_check.proofs.Causes.{stub_open, stub_shut}
 use Rattle.flow_check.proofs.Stubs.{base_some, base_none}
 
@@ -308,58 +308,54 @@ module _ (m : Module) (text : List ℕ) (op : OneOp) (w : Width) (arg : Operand)
   one_done = ap (λ a. one_done_val op w arg a (carry_val l.core) (stepped_val w arg one_past))
       (given_one m text w l.words arg one_past (add16 pc 2) (one_reach op w one_from one_sp))
 
-kept_two : (core : List Val) (v : Val) → val (slice_set core 0 v) 2 ≡ val core 2
-kept_two [] v = refl
-kept_two (x ∷ core) v = refl
+  one_words : words_by m text (One op w arg) pc l ≡ writes_val m l.words (reach_if true Write (one_width op w)
+      (one_place op one_from one_sp)) (one_done_val op w arg one_source (carry_val l.core)
+      (stepped_val w arg one_past)).stored
+  unfolding plan_val
+  one_words =
+      ap (λ xs. writes_val m l.words xs (done_by m text (One op w arg) pc l).stored) (one_writes one_from op w one_sp)
+      ∙ ap (λ x. writes_val m l.words (reach_if true Write (one_width op w)
+      (one_place op one_from one_sp)) x.stored) one_done
 
--- by what is done once PC is past it
-module _ (m : Module) (text : List ℕ) (insn : Insn) (op : OneOp) (w : Width) (arg : Operand) (pc : ℕ) (l : Label)
-    (is : insn ≡ One op w arg) (core : List Val) (past : core ≡ past_val insn pc l.core)
+module _ (m : Module) (text : List ℕ) (insn : Insn) (op : OneOp) (w wide : Width) (arg : Operand) (pc : ℕ)
+    (l : Label) (is : insn ≡ One op w arg) (c1 c2 : List Val) (ext : ℕ) (f t : Option Val) (src ca : Val)
+    (e1 : c1 ≡ past_val insn pc l.core) (ex : ext ≡ add16 pc 2) (ef : f ≡ place_val arg c1 ext)
+    (es : src ≡ taken_by f m text true arg w (record { core = c1; words = l.words }))
+    (e2 : c2 ≡ stepped_val w arg c1)
+    (et : t ≡ one_place op f (val (lowered_val c2) 1)) (ei : wide ≡ one_width op w) (ec : ca ≡ carry_val l.core)
   where
-    abbrev one_label : Label
-    one_label = record { core = core; words = l.words }
+    pub one_core_is : (c3 : List Val) → c3 ≡ (one_done_val op w arg src ca c2).core →
+        c3 ≡ (done_by m text insn pc l).core
+    one_core_is c3 e3 = rw e3 (rw ec (rw e2 (rw es (rw ef (rw ex (rw e1 (rw is (sym (ap (λ x. x.core)
+        (one_done m text op w arg pc l))))))))))
 
-    abbrev one_at : Option Val
-    one_at = place_val arg core (add16 pc 2)
+    pub one_words_are : (stored words : List Val) → stored ≡ (one_done_val op w arg src ca c2).stored →
+        words ≡ writes_val m l.words (reach_if true Write wide t) stored → words ≡ words_by m text insn pc l
+    one_words_are stored words e3 e4 = rw e4 (rw e3 (rw ei (rw et (rw ec (rw e2 (rw es (rw ef (rw ex (rw e1 (rw is
+        (sym (one_words m text op w arg pc l))))))))))))
 
-    abbrev one_top : Val
-    one_top = val (lowered_val (stepped_val w arg core)) 1
-
-    one_is : one_done_at m text op w arg pc one_label ≡ done_by m text insn pc l
-    one_is = rw past (rw is (
-        ap (λ v. one_done_val op w arg (one_source m text op w arg pc l) (over_one (bit 1) v)
-        (stepped_val w arg (one_past m text op w arg pc l)))
-        (kept_two l.core (kept_val 0 (Known (add16 pc (2 * length_of (One op w arg))))))
-        ∙ sym (one_done m text op w arg pc l)))
-
-    one_plan : plan_val insn pc l.core ≡ one_read_at w arg pc core ++ one_reach op w one_at one_top
+    one_plan : plan_val insn pc l.core ≡ reach_if true Read w f ++ one_reach op w f (val (lowered_val c2) 1)
     unfolding plan_val
-    one_plan = rw past (rw is refl)
+    one_plan = rw e2 (rw ef (rw ex (rw e1 (rw is refl))))
 
-    one_wrote : write_reaches (plan_val insn pc l.core) ≡ one_write_at op w arg pc core
-    one_wrote = ap write_reaches one_plan ∙ one_writes one_at op w one_top
+    one_write : one_reach op w f (val (lowered_val c2) 1) ≡ reach_if true Write wide t
+    one_write = one_reach_is f op w (val (lowered_val c2) 1) ∙ sym (rw ei (rw et refl))
 
-    pub one_core_is : (new : List Val) → new ≡ (one_done_at m text op w arg pc one_label).core →
-        new ≡ (done_by m text insn pc l).core
-    one_core_is new e = e ∙ ap (λ x. x.core) one_is
+    pub one_clear : (a b ab : Bool) → a ≡ is_clear (reach_reasons m pc (reach_if true Read w f)) →
+        b ≡ is_clear (reach_reasons m pc (reach_if true Write wide t)) → ab ≡ (a && b) →
+        ab ≡ is_clear (reach_reasons m pc (plan_val insn pc l.core))
+    one_clear a b ab pa pb pab =
+        let r1 = reach_if true Read w f in
+        let r2 = reach_if true Write wide t in
+        pab ∙ ap (λ x. x && b) pa ∙ ap (λ y. is_clear (reach_reasons m pc r1) && y) pb ∙ sym (clear_reaches m pc r1 r2)
+        ∙ sym (ap (λ xs. is_clear (reach_reasons m pc xs)) (one_plan ∙ ap (λ xs. r1 ++ xs) one_write))
 
-    pub one_words_are : (new : List Val) → new ≡ writes_val m l.words (one_write_at op w arg pc core)
-        (one_done_at m text op w arg pc one_label).stored → new ≡ words_by m text insn pc l
-    one_words_are new e = e ∙ ap (λ x. writes_val m l.words (one_write_at op w arg pc core) x.stored) one_is
-        ∙ sym (ap (λ xs. writes_val m l.words xs (done_by m text insn pc l).stored) one_wrote)
-
-    pub one_clear : (fine : Bool) → fine ≡ (is_clear (reach_reasons m pc (one_read_at w arg pc core))
-        && is_clear (reach_reasons m pc (one_write_at op w arg pc core))) →
-        fine ≡ is_clear (reach_reasons m pc (plan_val insn pc l.core))
-    one_clear fine e =
-        let r1 = one_read_at w arg pc core in
-        e ∙ sym (clear_reaches m pc r1 (one_write_at op w arg pc core))
-        ∙ sym (ap (λ xs. is_clear (reach_reasons m pc xs)) (one_plan ∙ ap (λ xs. r1 ++ xs)
-        (one_reach_is one_at op w one_top)))
-
-    pub one_written : (o : Option Val) → written_words m (one_write_at op w arg pc core) ≡ words_at m o →
+    pub one_written : (o : Option Val) → written_words m (reach_if true Write wide t) ≡ words_at m o →
         written_words m (write_reaches (plan_val insn pc l.core)) ≡ words_at m o
-    one_written o e = ap (written_words m) one_wrote ∙ e
+    one_written o e =
+        ap (λ xs. written_words m (write_reaches xs)) one_plan
+        ∙ ap (written_words m) (one_writes f op w (val (lowered_val c2) 1))
+        ∙ ap (written_words m) (sym (one_reach_is f op w (val (lowered_val c2) 1)) ∙ one_write) ∙ e
 
 -- ---- an instruction without accesses
 module _ (m : Module) (text : List ℕ) (insn : Insn) (pc : ℕ) (l : Label) (none : plan_val insn pc l.core ≡ []) where

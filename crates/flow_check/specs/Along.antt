@@ -1,20 +1,18 @@
 -- An instruction of an arm, without lists.
 use Rattle.std.specs.Prelude.{◌≡◌, ◌≢◌, ℕ, List, [], ◌∷◌, map, ◌==◌, ◌||◌, not, Bool, true, false, Option, Some, None}
-use Rattle.sm_words.specs.Words.{add16}
 use Rattle.sm_words.specs.declared.width.Width.{Width}
 use Rattle.sm_words.specs.declared.width.Width.TheVariants.{Word}
 use Rattle.insn_decode.specs.declared.insn.OneOp.{OneOp}
 use Rattle.insn_decode.specs.declared.insn.OneOp.TheVariants.{Push, Call}
 use Rattle.insn_decode.specs.declared.insn.Operand.{Operand}
 use Rattle.insn_decode.specs.declared.insn.Insn.{Insn}
-use Rattle.pc_access.specs.declared.Kind.TheVariants.{Read, Write}
+use Rattle.pc_access.specs.declared.Kind.TheVariants.{Read}
 use Rattle.mod_layout.specs.declared.Module.{Module}
 use Rattle.flow_rule.specs.declared.Val.{Val}
 use Rattle.flow_rule.specs.declared.Val.TheVariants.{Known, Secret}
 use Rattle.flow_rule.specs.declared.Label.{Label}
-use Rattle.flow_rule.specs.declared.Reach.{Reach}
-use Rattle.flow_rule.specs.Values.{val, narrow}
-use Rattle.flow_rule.specs.Does.{Done_val, place_val, stepped_val, lowered_val, reach_if, carry_val, one_done_val, plan_val, given_val, read_val, read_reaches, write_reaches, writes_val, does_val, word_no}
+use Rattle.flow_rule.specs.Values.{narrow}
+use Rattle.flow_rule.specs.Does.{Done_val, plan_val, given_val, read_val, read_reaches, write_reaches, writes_val, does_val, word_no}
 use Rattle.flow_rule.specs.Rounds.{Found, Step}
 use Rattle.flow_rule.specs.Stub.{word_number, is_open, is_shut}
 use Rattle.flow_check.specs.declared.along.Way.{Way}
@@ -40,24 +38,6 @@ one_place op a sp = a
 abbrev pub one_width : OneOp → Width → Width
 one_width Call w = Word
 one_width op w = w
-
--- whether it is none of PUSH and CALL
-abbrev pub is_shift : OneOp → Bool
-is_shift Push = false
-is_shift Call = false
-is_shift op = true
-
--- the same past its PC: what it does, reads and writes
-abbrev pub one_done_at : Module → List ℕ → OneOp → Width → Operand → ℕ → Label → Done_val
-one_done_at m text op w arg pc l = one_done_val op w arg (taken_by (place_val arg l.core (add16 pc 2)) m text true arg w l)
-    (carry_val l.core) (stepped_val w arg l.core)
-
-abbrev pub one_read_at : Width → Operand → ℕ → List Val → List Reach
-one_read_at w arg pc core = reach_if true Read w (place_val arg core (add16 pc 2))
-
-abbrev pub one_write_at : OneOp → Width → Operand → ℕ → List Val → List Reach
-one_write_at op w arg pc core = reach_if true Write (one_width op w) (one_place op (place_val arg core (add16 pc 2))
-    (val (lowered_val (stepped_val w arg core)) 1))
 
 -- what an instruction does to the registers, and what it stores
 abbrev pub done_by : Module → List ℕ → Insn → ℕ → Label → Done_val

@@ -4,7 +4,8 @@ ghost use Rattle.std.specs.Prelude.{◌≡◌, ◌++◌, ◌&&◌, ℕ, List, []
 ghost use Rattle.arm_balance.specs.Met.{met};
 ghost use Rattle.arm_balance.specs.Balance.{arm_next};
 ghost use Rattle.flow_rule.specs.declared.Val.{Val};
-ghost use Rattle.flow_rule.specs.Does.{plan_val, write_reaches, does_val};
+ghost use Rattle.flow_rule.specs.Values.{val};
+ghost use Rattle.flow_rule.specs.Does.{reach_if, plan_val, lowered_val, write_reaches, writes_val, does_val};
 ghost use Rattle.flow_rule.specs.Reasons.{exit_reasons, reach_reasons};
 ghost use Rattle.flow_rule.specs.Going.{also, goes};
 ghost use Rattle.flow_rule.specs.Rounds.{Found};
@@ -16,22 +17,23 @@ ghost use Rattle.flow_rule.specs.Arms.{written_words};
 ghost use Rattle.flow_rule.specs.Verdict.{flow_step};
 ghost use Rattle.flow_check.specs.declared.returns.Returns.{Returns};
 ghost use Rattle.flow_check.specs.Pairs.{IsStub, list_of, point_of};
-ghost use Rattle.flow_check.specs.Along.{is_clear, done_by, words_by, words_at};
+ghost use Rattle.flow_check.specs.Along.{is_clear, taken_by, one_place, one_width, done_by, words_by, words_at};
 ghost use Rattle.flow_check.specs.Along.{way_in, in_open, is_call_word, LeadsTo};
 
-use crate::access::{Acted, both, if_wanted, may, store, taken};
 use crate::effect::{
-    carry_for, carry_of, clear_if, clears_flags, does, finish, into_register, two,
+    carry_for, carry_of, clear_if, clears_flags, does, finish, finish_one, given, into_register,
+    two,
 };
-use crate::one::act_one;
 use crate::reach::{
-    extension, increment, place, reads_destination, second, step_past, writes_destination,
+    extension, increment, lower, place, reads_destination, second, step_past, writes_destination,
 };
 use crate::registers::{Core, get};
 use crate::step::leave;
 use crate::stub::{is_open, is_shut, word_number};
-use flow_rule::{Label, Val};
-use insn_decode::{Insn, Operand, TwoOp};
+use crate::text::{may_reach, read, write};
+use crate::value::narrow;
+use flow_rule::{Label, Reach, Val};
+use insn_decode::{Insn, OneOp, Operand, TwoOp};
 use mod_layout::Module;
 use pc_access::Kind;
 use sm_words::Width;
@@ -47,11 +49,101 @@ pub enum Way {
     Cause,
 }
 
+/// What an instruction did: whether it may do each of its accesses, and the address that it wrote.
+#[derive(Clone, Copy)]
+pub struct Acted {
+    pub fine: bool,
+    pub written: Option<Val>,
+}
+
 /// Where an instruction went on, and the address that it wrote.
 #[derive(Clone, Copy)]
 pub struct Went {
     pub way: Way,
     pub written: Option<Val>,
+}
+
+/// Whether an access, if it is wanted and has an address, may be done.
+#[inline(always)]
+fn may(module: &Module, wanted: bool, kind: Kind, width: Width, addr: Option<Val>) -> bool
+    ensures { (pc : ℕ) → result ≡ is_clear (reach_reasons module.now pc (reach_if wanted kind width addr)) }
+{
+    match addr {
+        Some(Val::Known(addr)) => !wanted || may_reach(module, kind, width, addr),
+        Some(Val::Away | Val::Public | Val::Secret) => !wanted,
+        None => true,
+    }
+}
+
+/// What an operand with this address gives: what stands there, if it is read.
+#[inline(always)]
+fn taken(
+    module: &Module,
+    text: &[u8],
+    label: &Label,
+    wanted: bool,
+    operand: Operand,
+    width: Width,
+    addr: Option<Val>,
+) -> Val
+    ensures { result ≡ taken_by addr module.now text.now wanted operand width label.now }
+{
+    match addr {
+        Some(addr) => {
+            if wanted {
+                let reach = Reach {
+                    kind: Kind::Read,
+                    addr,
+                    width,
+                };
+                narrow(width, read(module, text, &label.words, &reach))
+            } else {
+                narrow(width, Val::Secret)
+            }
+        }
+        None => given(operand, width, &label.core, &[]),
+    }
+}
+
+/// Writes what is stored to an address, if that is wanted.
+#[inline(always)]
+fn store(
+    module: &Module,
+    words: &mut [Val; 256],
+    wanted: bool,
+    width: Width,
+    addr: Option<Val>,
+    stored: &[Val],
+)
+    ensures { words.new ≡ writes_val module.now words.old (reach_if wanted Kind.Write width addr) stored.now }
+{
+    if let Some(addr) = addr
+        && wanted
+        && let Some(value) = stored.first()
+    {
+        let reach = Reach {
+            kind: Kind::Write,
+            addr,
+            width,
+        };
+        write(module, words, &reach, *value);
+    }
+}
+
+/// The address that is written, if one is.
+#[tactic(auto, using(crate::proofs::Acting::written_if))]
+fn if_wanted(wanted: bool, addr: Option<Val>) -> Option<Val>
+    ensures { (m : Module) (width : Width) →
+        written_words m (reach_if wanted Kind.Write width addr) ≡ words_at m result }
+{
+    if wanted { addr } else { None }
+}
+
+/// Whether both hold.
+fn both(one: bool, other: bool) -> bool
+    ensures { result ≡ (one && other) }
+{
+    one && other
 }
 
 /// An instruction of format I.
@@ -188,6 +280,71 @@ fn act_register(
             act_into(module, text, &insn, op, width, src, reg, pc, label)
         }
         _ => act_into(module, text, insn, op, width, src, reg, pc, label),
+    }
+}
+
+/// What SP becomes where a word is pushed.
+fn lowered(core: &Core) -> Val
+    ensures { result ≡ val (lowered_val core.now) 1 }
+{
+    let mut core = *core;
+    lower(&mut core);
+    get(&core, 1)
+}
+
+/// Where an instruction of format II writes.
+fn one_place(op: OneOp, from: Option<Val>, core: &Core) -> Option<Val>
+    ensures { result ≡ one_place op from (val (lowered_val core.now) 1) }
+{
+    match op {
+        OneOp::Push => Some(lowered(core)),
+        OneOp::Call => Some(lowered(core)),
+        OneOp::Rrc | OneOp::Swpb | OneOp::Rra | OneOp::Sxt => from,
+    }
+}
+
+/// How wide it writes.
+fn one_width(op: OneOp, width: Width) -> Width
+    ensures { result ≡ one_width op width }
+{
+    match op {
+        OneOp::Call => Width::Word,
+        OneOp::Push | OneOp::Rrc | OneOp::Swpb | OneOp::Rra | OneOp::Sxt => width,
+    }
+}
+
+/// An instruction of format II.
+fn act_one(
+    module: &Module,
+    text: &[u8],
+    insn: &Insn,
+    op: OneOp,
+    width: Width,
+    arg: Operand,
+    pc: u16,
+    label: &mut Label,
+) -> Acted
+    requires { insn.now ≡ Insn.One op width arg }
+    ensures core { label.new.core ≡ (done_by module.now text.now insn.now pc label.old).core }
+    ensures words { label.new.words ≡ words_by module.now text.now insn.now pc label.old }
+    ensures fine { result.fine ≡ is_clear (reach_reasons module.now pc (plan_val insn.now pc label.old.core)) }
+    ensures written { written_words module.now (write_reaches (plan_val insn.now pc label.old.core))
+        ≡ words_at module.now result.written }
+{
+    let carry = carry_of(&label.core);
+    step_past(insn, pc, &mut label.core);
+    let from = place(arg, &label.core, extension(pc));
+    let operand = taken(module, text, label, true, arg, width, from);
+    increment(width, arg, &mut label.core);
+    let to = one_place(op, from, &label.core);
+    let wide = one_width(op, width);
+    let stored = finish_one(op, width, arg, operand, carry, &mut label.core);
+    store(module, &mut label.words, true, wide, to, stored.as_slice());
+    let read_fine = may(module, true, Kind::Read, width, from);
+    let write_fine = may(module, true, Kind::Write, wide, to);
+    Acted {
+        fine: both(read_fine, write_fine),
+        written: if_wanted(true, to),
     }
 }
 
