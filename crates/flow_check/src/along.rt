@@ -65,7 +65,7 @@ pub struct Went {
 
 /// Whether an access, if it is wanted and has an address, may be done.
 #[inline(always)]
-fn may(module: &Module, wanted: bool, kind: Kind, width: Width, addr: Option<Val>) -> bool
+pub fn may(module: &Module, wanted: bool, kind: Kind, width: Width, addr: Option<Val>) -> bool
     ensures { (pc : ℕ) → result ≡ is_clear (reach_reasons module.now pc (reach_if wanted kind width addr)) }
 {
     match addr {
@@ -228,61 +228,6 @@ fn act_into(
     }
 }
 
-/// The same, with code of its own for the shortest instructions.
-#[inline(always)]
-fn act_register(
-    module: &Module,
-    text: &[u8],
-    insn: &Insn,
-    op: TwoOp,
-    width: Width,
-    src: Operand,
-    reg: u8,
-    pc: u16,
-    label: &mut Label,
-) -> Acted
-    requires { insn.now ≡ Insn.Two op width src (Operand.Reg reg) }
-    ensures core { label.new.core ≡ (done_by module.now text.now insn.now pc label.old).core }
-    ensures words { label.new.words ≡ words_by module.now text.now insn.now pc label.old }
-    ensures fine { result.fine ≡ is_clear (reach_reasons module.now pc (plan_val insn.now pc label.old.core)) }
-    ensures written { written_words module.now (write_reaches (plan_val insn.now pc label.old.core))
-        ≡ words_at module.now result.written }
-{
-    match src {
-        Operand::Reg(from) => {
-            let src = Operand::Reg(from);
-            let insn = Insn::Two {
-                op,
-                width,
-                src,
-                dst: Operand::Reg(reg),
-            };
-            act_into(module, text, &insn, op, width, src, reg, pc, label)
-        }
-        Operand::Const(number) => {
-            let src = Operand::Const(number);
-            let insn = Insn::Two {
-                op,
-                width,
-                src,
-                dst: Operand::Reg(reg),
-            };
-            act_into(module, text, &insn, op, width, src, reg, pc, label)
-        }
-        Operand::Indirect(from) => {
-            let src = Operand::Indirect(from);
-            let insn = Insn::Two {
-                op,
-                width,
-                src,
-                dst: Operand::Reg(reg),
-            };
-            act_into(module, text, &insn, op, width, src, reg, pc, label)
-        }
-        _ => act_into(module, text, insn, op, width, src, reg, pc, label),
-    }
-}
-
 /// What SP becomes where a word is pushed.
 fn lowered(core: &Core) -> Val
     ensures { result ≡ val (lowered_val core.now) 1 }
@@ -376,7 +321,7 @@ fn act(module: &Module, text: &[u8], insn: &Insn, pc: u16, label: &mut Label) ->
             src,
             dst,
         } => match dst {
-            Operand::Reg(reg) => act_register(module, text, insn, op, width, src, reg, pc, label),
+            Operand::Reg(reg) => act_into(module, text, insn, op, width, src, reg, pc, label),
             _ => act_two(module, text, insn, op, width, src, dst, pc, label),
         },
         Insn::One { op, width, arg } => act_one(module, text, insn, op, width, arg, pc, label),

@@ -15,7 +15,7 @@ ghost use Rattle.flow_check.specs.Along.{is_call_word, in_open};
 ghost use Rattle.flow_check.specs.Gliding.{IsWordThere, IsShortSource, moved_on};
 ghost use Rattle.flow_check.specs.Tables.{IsTable};
 
-use crate::access::may;
+use crate::along::may;
 use crate::blot::blot_written;
 use crate::effect::{carry_for, into_register, low};
 use crate::needs::Sources;
