@@ -1,7 +1,7 @@
 #!/usr/bin/env python3
 """Counts the host instructions that `balance` takes for an instruction of an arm.
 
-    python3 bench/balance.py PROGRAM [COUNT]
+    python3 bench/balance.py PROGRAM [COUNT] [KIND..]
 
 PROGRAM is the built `sancus` (crates/sm_main/out/sm_main), run under valgrind's callgrind, so that noise of the machine does not matter. COUNT (2,000) equal
 instructions make the arm of a branch that is met under thousands of lists of return addresses, as in hostile/worst.py. A line for each kind: instructions in all,
@@ -43,7 +43,8 @@ def counted(program, folder, made):
 def main():
     program, count = sys.argv[1], int(sys.argv[2]) if len(sys.argv) > 2 else 2_000
     with tempfile.TemporaryDirectory() as folder:
-        for kind, make in KINDS.items():
+        for kind in sys.argv[3:] or KINDS:
+            make = KINDS[kind]
             whole = counted(program, folder, make(count))
             arms = whole - counted(program, folder, make(1))
             print(f"{kind:8} {whole:15,} {arms:15,} {arms / (WALKED * (count - 1)):7.1f}", flush=True)
