@@ -112,6 +112,32 @@ def balance_of_wants(count, insn, cycles):
     return image_with(code, text, module), f"{branch:04x} {branch + 2 + len(arm):04x} {2 + 4 + cycles * count + 8 + 2}\n"
 
 
+ROWS = 51
+
+
+def balance_that_shuts(count, insn, cycles):
+    """51 calls of a routine with 51 calls of one with a branch whose arms want the return addresses and a data word. Each call can be passed by, so that what
+    changes comes to all lists also where a branch has a cause. In the first turn no list has one; then the word is not known any more and each has; then
+    another word rises, so that what was seen of the causes is of no use for the verdict. R4 is the address of a word that none wants."""
+    text, data = 0x0300, 0xF000
+    secret, public, wanted, other = data + 0x200, data + 0x182, data + 0x184, data + 0x186
+    arm = words(0x4034, data + 0x188, 0x4384, 0, 0x4125, 0x4116, 2, 0x5605) + words(insn) * count
+    arm += words(0x5215, wanted, 0xF035, 0x00FE, 0x5035, data, 0x4527, 0x4305, 0x4307)
+
+    def row(routine):
+        return words(0x9382, public, 0x2002, 0x12B0, routine) * ROWS
+
+    head = words(0x4031, data + 0x200, 0x4382, public, 0x4382, wanted, 0x4382, other)
+    loop = text + len(head)
+    inner = loop + len(row(0)) + 14
+    last = inner + len(row(0)) + 2
+    branch = last + 4
+    code = head + row(inner) + words(0x4292, wanted, other, 0x5392, wanted, 0x4030, loop) + row(last) + words(0x4130)
+    code += words(0x9382, secret, 0x2400) + arm + words(0x4130)
+    module = f"module 0007 {text:04x} {text + len(code):04x} {data:04x} {data + 0x400:04x}\n"
+    return image_with(code, text, module), f"{branch:04x} {branch + 2 + len(arm):04x} {2 + 4 + 2 + 3 + 1 + cycles * count + 3 + 2 + 2 + 2 + 1 + 1}\n"
+
+
 def cases(folder):
     """Name, words, and what is special."""
     def file(name, text):
@@ -143,7 +169,7 @@ def cases(folder):
         yield f"balance, arms of {nops:,} met 5,184 times", ["balance", file(f"walked_{nops}", walked), "1", file(f"arm_{nops}", arm)]
     walked, arm = balance_that_rises(25_000)
     yield "balance, arms of 25,000 met 5,184 times, data that rise one a turn", ["balance", file("walked_rising", walked), "1", file("arm_rising", arm)]
-    for name, insn, cycles, count in (("sums", 0x5605, 1, 25_000), ("reads", 0x5425, 2, 25_000), ("shifts", 0x1124, 3, 21_000)):
+    for name, insn, cycles, count in (("sums", 0x5605, 1, 25_000), ("reads", 0x5425, 2, 25_000), ("byte reads", 0x5465, 2, 25_000), ("shifts", 0x1124, 3, 21_000)):
         walked, arm = balance_of_addresses(count, insn, cycles)
         told = f"balance, arms of {count:,} {name} met 5,184 times, a last address that hangs on each"
         yield told, ["balance", file(f"walked_{name}", walked), "1", file(f"arm_{name}", arm)]
@@ -152,6 +178,10 @@ def cases(folder):
     walked, arm = balance_of_wants(25_000, 0x5606, 1)
     told = "balance, arms of 25,000 sums met 4,896 times, each of which wants another word of those that rise one a turn"
     yield told, ["balance", file("walked_wants", walked), "1", file("arm_wants", arm)]
+    for name, insn, cycles, count in (("sums", 0x5605, 1, 29_000), ("reads", 0x5425, 2, 29_000), ("byte reads", 0x5465, 2, 29_000), ("shifts", 0x1124, 3, 21_000)):
+        walked, arm = balance_that_shuts(count, insn, cycles)
+        told = f"balance, arms of {count:,} {name} met 2,601 times, which get a cause and then other labels"
+        yield told, ["balance", file(f"walked_shut_{name}", walked), "1", file(f"arm_shut_{name}", arm)]
     yield "challenges, 4,096", ["challenge", file("challenges", "".join(f"{1600 * k} {'0f' * 16}\n" for k in range(4096)))]
     trace = "0 out 4a\n" * 110_000 + "end 1 stopped\n"
     yield "trace, 1 MiB of out lines", ["vendor", image, "1", "0" * 32, file("challenges_few", "100 " + "0f" * 16 + "\n"), file("trace", trace)]

@@ -225,7 +225,7 @@ module _ (m : Module) (text : List ℕ) (insn : Insn) (op : TwoOp) (w : Width) (
         ∙ ap (written_words m) (two_writes f t reads writes w) ∙ e
 
 -- into a register
-carry_read : (op : TwoOp) (w : Width) (s d c : Val) →
+pub carry_read : (op : TwoOp) (w : Width) (s d c : Val) →
     two_val op w s d (read_if (reads_carry op) c) ≡ two_val op w s d c
 carry_read Mov Word s d c = refl
 carry_read Mov Byte s d c = refl

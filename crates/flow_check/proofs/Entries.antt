@@ -174,3 +174,11 @@ entry_there m text table pc offset e is low eo even h =
     (length table) 0 (offset / 2) e (sym (ap (λ t. slice_get t (offset / 2)) is) ∙ h) in
     let one : e ≡ entry_by m text (m.text.start + 2 * (0 + offset / 2)) = cc in
     one ∙ ap (entry_by m text) (let f : m.text.start + 2 * (0 + offset / 2) ≡ pc = omega arith in f)
+
+pub entry_placed : (m : Module) (text : List ℕ) (table : List Entry) (pc k : ℕ) (e : Entry) → IsTable m text table → slice_get table k ≡ Some e → pc ≡ m.text.start + 2 * k →
+    e ≡ entry_by m text pc
+entry_placed m text table pc k e is h at =
+    let there : Some e ≡ Some (entry_by m text (m.text.start + 2 * (0 + k))) = at_place m text (length table) 0 k e (sym
+    (ap (λ t. slice_get t k) is) ∙ h) in
+    let one : e ≡ entry_by m text (m.text.start + 2 * (0 + k)) = cc in
+    one ∙ ap (entry_by m text) (let f : m.text.start + 2 * (0 + k) ≡ pc = omega (arith, at) in f)

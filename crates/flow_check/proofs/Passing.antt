@@ -1,6 +1,5 @@
 -- What one walk along the arms of a branch says of other labels.
 use Rattle.std.proofs.Common.{◌≡◌, ◌≢◌, ℕ, zero, suc, All, set, get_or, take, drop, ◌<◌, ◌≤◌, ◌%◌, List, [], ◌∷◌, ◌++◌, length, replicate, refl, sym, ap, ◌∙◌, subst, not, cond, true, false, Bool, ◌==◌, arith, Option, Some, None}
-use Rattle.std.proofs.lemmas.Bool.Decides.{nat_tests}
 use Rattle.std.proofs.lemmas.Bool.{eqb-true}
 use Rattle.std.specs.List.{slice_get}
 use Rattle.std.proofs.lemmas.Option.{get_or_from_slice_get, slice_get_within}
@@ -26,13 +25,9 @@ use Rattle.flow_check.specs.declared.returns.Returns.{Returns}
 use Rattle.flow_check.specs.Causes.{noted}
 use Rattle.flow_check.specs.Pairs.{list_of, point_of, points_at, addrs_of}
 use Rattle.flow_check.proofs.Finding.{list_is}
+use Rattle.flow_check.proofs.Joins.{join_own}
 use Rattle.flow_check.proofs.Giving.{none_found}
 use Rattle.flow_rule.proofs.Overlays.{overlay_core, overlay_words}
-
--- joining a value to itself changes nothing
-join_own : (v : Val) → join v v ≡ v
-join_own (Known a) = let e : (a == a) ≡ true = grind (arith, nat_tests) in ap (λ b. cond b (Known a) Public) e
-join_own _ = refl
 
 join_each_own : (vs : List Val) → join_each vs vs ≡ vs
 join_each_own [] = refl

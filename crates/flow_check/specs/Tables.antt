@@ -1,11 +1,16 @@
 -- The instructions of a text, each met once.
-use Rattle.std.specs.Prelude.{◌≡◌, ℕ, zero, suc, ◌+◌, ◌*◌, List, [], ◌∷◌, length, Option, Some, None}
+use Rattle.std.specs.Prelude.{◌≡◌, ℕ, zero, suc, ◌+◌, ◌-◌, ◌*◌, ◌/◌, ◌%◌, ◌==◌, ◌&&◌, nat_lt, Bool, List, [], ◌∷◌, length, Option, Some, None}
 use Rattle.insn_decode.specs.declared.insn.Insn.{Insn}
-use Rattle.insn_decode.specs.declared.insn.Insn.TheVariants.{Unit as UnitOp}
+use Rattle.insn_decode.specs.declared.insn.Insn.TheVariants.{Two, Unit as UnitOp}
+use Rattle.insn_decode.specs.declared.insn.Operand.TheVariants.{Reg}
 use Rattle.cycle_table.specs.Cycles.{cycles_of}
 use Rattle.mod_layout.specs.declared.Module.{Module}
+use Rattle.mod_layout.specs.Table.{holds}
+use Rattle.entry_stubs.specs.Stub.{unknown_word}
 use Rattle.arm_balance.specs.Met.{met}
-use Rattle.arm_balance.specs.Balance.{arm_next}
+use Rattle.arm_balance.specs.Balance.{arm_next, next_if}
+use Rattle.flow_rule.specs.Stub.{word_number}
+use Rattle.flow_check.specs.declared.table.Plain.{Plain}
 use Rattle.flow_check.specs.declared.table.Entry.{Entry}
 
 -- the cycles of what is met, which only a unit instruction lacks
@@ -14,9 +19,35 @@ time_of None = 0
 time_of (Some (UnitOp n)) = 0
 time_of (Some insn) = cycles_of insn
 
+-- an address of the text behind the words that are met from a stub alone
+abbrev pub is_deep : Module → ℕ → Bool
+is_deep m a = holds m.text a && nat_lt (unknown_word + 1) (word_number m a)
+
+-- an even address, so many whole words behind the text's start
+abbrev pub is_aligned : Module → ℕ → Bool
+is_aligned m a = (a % 2 == 0) && ((a - m.text.start) % 2 == 0)
+
+-- where an arm goes on, if both addresses are such, and this one even and above
+abbrev pub glides_by : Module → ℕ → Option ℕ → Option ℕ
+glides_by m a None = None
+glides_by m a (Some next) = next_if (is_deep m a && is_deep m next && is_aligned m next && nat_lt a next) next
+
+-- the place of an address in the table
+abbrev pub place_of : Module → Option ℕ → ℕ
+place_of m None = 0
+place_of m (Some a) = (a - m.text.start) / 2
+
+-- an operation into a register
+abbrev pub plain_of : Option Insn → Option Plain
+plain_of (Some (Two op w s (Reg r))) = Some (record { op = op; width = w; src = s; reg = r })
+plain_of o = None
+
 -- what is met at an address
 abbrev pub entry_by : Module → List ℕ → ℕ → Entry
-entry_by m text a = let o = met m.text text a in record { met = o; time = time_of o; next = arm_next 65535 a o }
+entry_by m text a =
+    let o = met m.text text a in
+    let next = arm_next 65535 a o in
+    record { met = o; time = time_of o; next = next; glides = glides_by m a next; to = place_of m next; plain = plain_of o }
 
 -- what is met at so many places of the text, from this place on
 abbrev pub entries_from : Module → List ℕ → ℕ → ℕ → List Entry

@@ -17,7 +17,7 @@ use pc_access::Kind;
 
 /// The register that an operand's increment changes.
 #[inline(always)]
-fn blot_step(operand: Operand, core: &mut Core)
+pub fn blot_step(operand: Operand, core: &mut Core)
     ensures { core.new ≡ blot_core (stepped_regs operand) core.old }
 {
     if let Operand::Increment(reg) = operand {

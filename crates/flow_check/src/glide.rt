@@ -1,137 +1,90 @@
-//! The shortest instructions of an arm: one word of format I into a register, of which the longest arms are made. They
-//! have a loop of their own, so that a walk of many of them takes few of the host's instructions for each.
+//! The instructions of an arm that have no cause and go on: they have a loop of their own, so that a walk of many of them
+//! takes few of the host's instructions for each.
 
-ghost use Rattle.std.specs.Prelude.{◌≡◌, ◌≢◌, ◌≤◌, ◌<◌, ◌+◌, ◌*◌, ◌%◌, ◌||◌, not, suc, true, false, ℕ, Some, None, IfSome};
-ghost use Rattle.flow_rule.specs.declared.Val.TheVariants.{Known};
-ghost use Rattle.flow_rule.specs.Values.{val};
-ghost use Rattle.flow_rule.specs.Stub.{word_number, is_shut};
+ghost use Rattle.std.specs.Prelude.{◌≡◌, ◌≢◌, ◌≤◌, ◌<◌, ◌+◌, ◌*◌, ◌%◌, suc, true, false, ℕ, Some, None, IfSome};
+ghost use Rattle.insn_decode.specs.declared.insn.Insn.{Insn};
+ghost use Rattle.arm_balance.specs.Balance.{arm_next};
 ghost use Rattle.flow_rule.specs.Verdict.{flow_step};
-ghost use Rattle.cpu_step.specs.Plan.{writes_dst};
-ghost use Rattle.flow_rule.specs.Arms.{walk, written_reg, blot_core};
-ghost use Rattle.insn_decode.specs.declared.insn.Operand.{Operand};
+ghost use Rattle.flow_rule.specs.Arms.{walk};
 ghost use Rattle.flow_check.specs.Pairs.{IsStub};
 ghost use Rattle.flow_check.specs.Walks.{told, point_at};
-ghost use Rattle.flow_check.specs.Along.{is_call_word, in_open};
-ghost use Rattle.flow_check.specs.Gliding.{IsWordThere, IsShortSource, moved_on};
-ghost use Rattle.flow_check.specs.Tables.{IsTable};
+ghost use Rattle.flow_check.specs.Gliding.{IsGlided};
+ghost use Rattle.flow_check.specs.Tables.{entry_by, IsTable};
 
-use crate::along::may;
-use crate::blot::blot_written;
-use crate::effect::{carry_for, into_register, low};
-use crate::needs::Sources;
-use crate::reach::writes_destination;
-use crate::registers::{Core, get};
-use crate::stub::word_number;
-use crate::table::{Entry, entry_at, next_of};
-use crate::text::read;
-use crate::value::narrow;
+use crate::arms::ALWAYS;
+use crate::glide_into::glide_plain;
+use crate::glide_one::{glide_jump, glide_one};
+use crate::glide_two::glide_two;
+use crate::table::{Entry, entry_of};
 use crate::walk::{Place, Tally};
-use flow_rule::{Label, Reach, Val};
-use insn_decode::{Insn, Operand, TwoOp};
+use flow_rule::Label;
+use insn_decode::Insn;
 use mod_layout::Module;
-use pc_access::Kind;
-use sm_words::Width;
 
-/// The flags' register: those above it keep what is written there, whatever was there before.
-const FLAGS: u8 = 2;
-
-/// How many registers there are.
-const REGISTERS: u8 = 16;
-
-/// The last word of a stub that is met from the stub alone.
-const LAST_SHUT: u16 = 37;
-
-/// Whether an address is behind the words of a stub that are met from the stub alone, if there is a stub.
+/// Does an instruction that goes on at `next`, where it has no cause; of another, nothing changes.
 #[inline(always)]
-fn is_behind(module: &Module, entries: Option<u16>, addr: u16) -> bool
-    ensures call { result ≡ true → is_call_word entries module.now addr ≡ false }
-    ensures open { result ≡ true → (pc : ℕ) →
-        (in_open entries module.now pc || not (is_shut (word_number module.now addr))) ≡ true }
-{
-    match entries {
-        Some(_) => word_number(module, addr) > LAST_SHUT,
-        None => true,
-    }
-}
-
-/// The value at an address, where it may be read.
-#[inline(always)]
-fn word_there(
+fn glide_insn(
     module: &Module,
     text: &[u8],
-    width: Width,
-    addr: Val,
-    words: &[Val; 256],
-) -> Option<Val>
-    ensures { IfSome result (IsWordThere module.now text.now width addr words.now) }
-{
-    if !may(module, true, Kind::Read, width, Some(addr)) {
-        return None;
-    }
-    let reach = Reach {
-        kind: Kind::Read,
-        addr,
-        width,
-    };
-    Some(narrow(width, read(module, text, words, &reach)))
-}
-
-/// What a source gives that is a register but PC, a number, or a word at such a register's address, where it may be
-/// read.
-#[inline(always)]
-fn source(module: &Module, text: &[u8], width: Width, src: Operand, label: &Label) -> Option<Val>
-    ensures { IfSome result (λ value. (next : ℕ) → IsShortSource module.now text.now width src label.now next value) }
-{
-    match src {
-        Operand::Reg(reg) => {
-            if reg == 0 {
-                return None;
-            }
-            Some(narrow(width, get(&label.core, reg)))
-        }
-        Operand::Const(number) => Some(Val::Known(low(width, number))),
-        Operand::Indirect(reg) => {
-            if reg == 0 {
-                return None;
-            }
-            word_there(module, text, width, get(&label.core, reg), &label.words)
-        }
-        _ => None,
-    }
-}
-
-/// Tells what a short instruction takes and writes.
-#[inline(always)]
-fn tell_short(op: TwoOp, reg: u8, time: u8, tally: &mut Tally)
-    requires { tally.old.cycles + time < 4294967296 }
-    ensures { tally.new ≡ record tally.old {
-      cycles = tally.old.cycles + time;
-      label = record tally.old.label {
-        core = blot_core
-            (written_reg (writes_dst op) (Operand.Reg reg)) tally.old.label.core;
-      };
-    } }
-{
-    tally.cycles += u32::from(time);
-    blot_written(
-        writes_destination(op),
-        Operand::Reg(reg),
-        &mut tally.label.core,
-    );
-}
-
-/// Moves PC on to an even address.
-#[tactic(auto, using(crate::proofs::Gliding::even_kept))]
-#[inline(always)]
-fn move_on(core: &mut Core, next: u16)
+    insn: &Insn,
+    pc: u16,
+    next: u16,
+    label: &mut Label,
+    told: &mut Label,
+) -> bool
+    requires arm { arm_next 65535 pc (Some insn.now) ≡ Some next }
     requires even { next % 2 ≡ 0 }
-    ensures moved { core.new ≡ moved_on core.old next }
-    ensures there { val core.new 0 ≡ Known next }
+    ensures done { result ≡ true →
+        IsGlided module.now text.now insn.now pc next label.old label.new told.old told.new }
+    ensures same_label { result ≡ false → label.new ≡ label.old }
+    ensures same_told { result ≡ false → told.new ≡ told.old }
 {
-    core[0] = Val::Known(next);
+    match *insn {
+        Insn::Two {
+            op,
+            width,
+            src,
+            dst,
+        } => glide_two(module, text, op, width, src, dst, pc, next, label, told),
+        Insn::One { op, width, arg } => {
+            glide_one(module, text, op, width, arg, pc, next, label, told)
+        }
+        Insn::Jump { cond, offset } => {
+            cond == ALWAYS && glide_jump(module, text, cond, offset, pc, next, label, told)
+        }
+        Insn::Reti | Insn::Unit(_) => false,
+    }
 }
 
-/// Does the arm's instruction at this place where it is one of the shortest; of another, nothing changes.
+/// Does the instruction of an entry that goes on at `next`, where it has no cause; of another, nothing changes.
+#[inline(always)]
+fn glide_entry(
+    module: &Module,
+    text: &[u8],
+    entry: &Entry,
+    pc: u16,
+    next: u16,
+    label: &mut Label,
+    told: &mut Label,
+) -> bool
+    requires entry { entry.now ≡ entry_by module.now text.now pc }
+    requires goes { entry.now.glides ≡ Some next }
+    ensures done { result ≡ true → (insn : Insn) → entry.now.met ≡ Some insn →
+        IsGlided module.now text.now insn pc next label.old label.new told.old told.new }
+    ensures same_label { result ≡ false → label.new ≡ label.old }
+    ensures same_told { result ≡ false → told.new ≡ told.old }
+{
+    match &entry.plain {
+        Some(plain) => glide_plain(module, text, plain, pc, next, label, told),
+        None => match &entry.met {
+            Some(insn) => glide_insn(module, text, insn, pc, next, label, told),
+            None => false,
+        },
+    }
+}
+
+/// Does the arm's instruction at this place, the `k`-th of the table, where it has no cause and goes on, and tells the
+/// next place in the table; of another, nothing changes.
 #[inline(always)]
 fn glide_on(
     module: &Module,
@@ -139,63 +92,62 @@ fn glide_on(
     table: &[Entry],
     entries: Option<u16>,
     join: u16,
+    k: u16,
     place: &mut Place,
     tally: &mut Tally,
-    sources: &mut Sources,
-) -> bool
+) -> Option<u16>
     requires table { IsTable module.now text.now table.now }
+    requires at { place.old.pc ≡ module.now.text.start + 2 * k }
     requires before { place.old.pc ≢ join }
     requires short { tally.old.cycles < 4294967000 }
-    ensures on { result ≡ true → IsStub module.now text.now entries → (branch steps : ℕ) →
+    ensures on { (to : ℕ) → result ≡ Some to → IsStub module.now text.now entries → (branch steps : ℕ) →
         told (walk (flow_step module.now text.now) module.now text.now branch join (suc steps)
         (point_at place.old)) tally.old ≡ told
         (walk (flow_step module.now text.now) module.now text.now branch join steps
         (point_at place.new)) tally.new }
-    ensures same_place { result ≡ false → place.new ≡ place.old }
-    ensures same_tally { result ≡ false → tally.new ≡ tally.old }
+    ensures at { IfSome result (λ to. place.new.pc ≡ module.now.text.start + 2 * to) }
+    ensures same_place { result ≡ None → place.new ≡ place.old }
+    ensures same_tally { result ≡ None → tally.new ≡ tally.old }
     ensures cycles { tally.new.cycles ≤ tally.old.cycles + 255 }
 {
     let pc = place.pc;
-    let Some(entry) = entry_at(module, text, table, pc) else {
-        return false;
+    let Some(entry) = entry_of(table, usize::from(k)) else {
+        return None;
     };
-    let Some(insn) = &entry.met else {
-        return false;
+    let Some(next) = entry.glides else {
+        return None;
     };
-    let Insn::Two {
-        op,
-        width,
-        src,
-        dst,
-    } = *insn
-    else {
-        return false;
-    };
-    let Operand::Reg(reg) = dst else {
-        return false;
-    };
-    let Some(next) = next_of(module, text, entry, pc, join) else {
-        return false;
-    };
-    if !is_behind(module, entries, pc) || !is_behind(module, entries, next) {
-        return false;
+    if next > join {
+        return None;
     }
-    if reg <= FLAGS || REGISTERS <= reg || next % 2 != 0 || !module.text.holds(usize::from(next)) {
-        return false;
+    if !glide_entry(
+        module,
+        text,
+        entry,
+        pc,
+        next,
+        &mut place.label,
+        &mut tally.label,
+    ) {
+        return None;
     }
-    let Some(value) = source(module, text, width, src, &place.label) else {
-        return false;
-    };
-    sources.follow(module, pc, &place.label.core);
-    let carry = carry_for(op, &place.label.core);
-    move_on(&mut place.label.core, next);
-    into_register(op, width, reg, value, carry, &mut place.label.core);
-    tell_short(op, reg, entry.time, tally);
+    tally.cycles += u32::from(entry.time);
     place.pc = next;
-    true
+    Some(entry.to)
 }
 
-/// Goes on along the shortest instructions, for at most so many steps, and tells how many of these are left.
+/// The place of an address in the table.
+fn first_place(module: &Module, pc: u16) -> Option<u16>
+    ensures { IfSome result (λ k. pc ≡ module.now.text.start + 2 * k) }
+{
+    if module.text.start <= pc && (pc - module.text.start) % 2 == 0 {
+        Some((pc - module.text.start) / 2)
+    } else {
+        None
+    }
+}
+
+/// Goes on along such instructions, for at most so many steps, and tells how many of these are left.
 #[inline(never)]
 fn glide_along(
     module: &Module,
@@ -205,7 +157,6 @@ fn glide_along(
     join: u16,
     place: &mut Place,
     tally: &mut Tally,
-    sources: &mut Sources,
     most: u32,
 ) -> u32
     requires table { IsTable module.now text.now table.now }
@@ -218,35 +169,33 @@ fn glide_along(
     ensures cycles { tally.new.cycles + 255 * result ≤ tally.old.cycles + 255 * most }
     ensures fewer { result ≤ most }
 {
+    let Some(mut k) = first_place(module, place.pc) else {
+        return most;
+    };
     let mut left = most;
     while left > 0 {
         if place.pc == join {
             return left;
         }
-        if !glide_on(module, text, table, entries, join, place, tally, sources) {
-            return left;
+        match glide_on(module, text, table, entries, join, k, place, tally) {
+            Some(to) => k = to,
+            None => return left,
         }
         left -= 1;
     }
     0
 }
 
-/// Whether the instruction at an address is likely to be one of the shortest: only then is it tried.
+/// Whether the instruction at an address may be one of them: only then is it tried.
 #[inline(always)]
-fn seems_short(module: &Module, table: &[Entry], pc: u16) -> bool {
+fn may_glide(module: &Module, table: &[Entry], pc: u16) -> bool {
     match table.get(usize::from(pc.saturating_sub(module.text.start)) / 2) {
-        Some(entry) => matches!(
-            entry.met,
-            Some(Insn::Two {
-                dst: Operand::Reg(_),
-                ..
-            })
-        ),
+        Some(entry) => entry.glides.is_some(),
         None => false,
     }
 }
 
-/// The same, where the first is likely to be one of them.
+/// The same, where the first may be one of them.
 #[inline(always)]
 pub fn glide(
     module: &Module,
@@ -256,7 +205,6 @@ pub fn glide(
     join: u16,
     place: &mut Place,
     tally: &mut Tally,
-    sources: &mut Sources,
     most: u32,
 ) -> u32
     requires table { IsTable module.now text.now table.now }
@@ -269,10 +217,8 @@ pub fn glide(
     ensures cycles { tally.new.cycles + 255 * result ≤ tally.old.cycles + 255 * most }
     ensures fewer { result ≤ most }
 {
-    if !seems_short(module, table, place.pc) {
+    if !may_glide(module, table, place.pc) {
         return most;
     }
-    glide_along(
-        module, text, table, entries, join, place, tally, sources, most,
-    )
+    glide_along(module, text, table, entries, join, place, tally, most)
 }

@@ -11,9 +11,9 @@ ghost use Rattle.flow_check.specs.declared.passages.Outcome.{Outcome};
 ghost use Rattle.flow_check.specs.Tables.{IsTable};
 
 use crate::arms::{Crossing, walk_arms};
-use crate::needs::{Needs, Sources};
 use crate::returns::Returns;
 use crate::rounds::join_label;
+use crate::scout::Scout;
 use crate::step::Cause;
 use crate::table::Entry;
 use arm_balance::Arm;
@@ -49,19 +49,6 @@ pub struct Passage {
     pub label: Label,
     pub returns: Returns,
     pub answer: Answer,
-    /// What the arms were seen to need, unless the label has no more in it.
-    pub needs: Option<Needs>,
-}
-
-/// Under which label the next walk of a branch is tried first.
-#[derive(Clone, Copy)]
-enum Start {
-    /// One that has what the branch's arms needed under any label so far.
-    Guess,
-    /// One that has what they were seen to need.
-    Tight(Needs),
-    /// This label.
-    Whole,
 }
 
 /// The passages that were walked.
@@ -70,11 +57,8 @@ pub struct Passages {
     list: Vec<Passage>,
     /// Where the newest passage of the branches with this number is.
     newest: [usize; 256],
-    /// What the arms of the branches with this number needed, under any label.
-    wanted: [Needs; 256],
-    /// What follows the walks.
-    sources: Sources,
-    alloc: Global,
+    /// What goes before the walks.
+    scout: Scout,
 }
 
 /// A label in which nothing is written.
@@ -97,7 +81,7 @@ fn answer_of(least: Option<Cause>, told: Label) -> Answer
     }
 }
 
-/// Walks the arms of a branch under a label, with these return addresses, and sees what they need if it `follows`.
+/// Walks the arms of a branch under a label, with these return addresses.
 fn walked(
     module: &Module,
     text: &[u8],
@@ -107,8 +91,6 @@ fn walked(
     pc: u16,
     label: &Label,
     returns: &Returns,
-    sources: &mut Sources,
-    follows: bool,
 ) -> Passage
     requires few { IfSome entries (λ n. n ≤ 64) }
     requires table { IsTable module.now text.now table.now }
@@ -119,9 +101,8 @@ fn walked(
 {
     let mut told = blank();
     let mut least: Option<Cause> = None;
-    sources.start(module, table, follows);
     walk_arms(
-        module, text, table, entries, crossing, pc, label, returns, &mut least, &mut told, sources,
+        module, text, table, entries, crossing, pc, label, returns, &mut least, &mut told,
     );
     Passage {
         branch: pc,
@@ -129,7 +110,6 @@ fn walked(
         label: *label,
         returns: *returns,
         answer: answer_of(least, told),
-        needs: sources.seen(),
     }
 }
 
@@ -202,7 +182,6 @@ fn crossed(
     pc: u16,
     label: &mut Label,
     returns: &Returns,
-    sources: &mut Sources,
 ) -> Outcome
     requires few { IfSome entries (λ n. n ≤ 64) }
     requires table { IsTable module.now text.now table.now }
@@ -212,9 +191,7 @@ fn crossed(
         (crossing_step module.now text.now crossing.now (branch_from pc returns label.old)).reasons ≢ [] }
 {
     arms_rest();
-    let passage = walked(
-        module, text, table, entries, crossing, pc, label, returns, sources, false,
-    );
+    let passage = walked(module, text, table, entries, crossing, pc, label, returns);
     match passage.answer {
         Answer::Open(told) => {
             overlay_label(label, &told);
@@ -285,104 +262,31 @@ fn is_open(passage: &Passage) -> bool {
     }
 }
 
-/// Walks the arms of a branch under a label that has what they need, and else under this label.
-fn tightened(
-    module: &Module,
-    text: &[u8],
-    table: &[Entry],
-    entries: Option<u16>,
-    crossing: &Crossing,
-    needs: &Needs,
-    pc: u16,
-    label: &Label,
-    returns: &Returns,
-    sources: &mut Sources,
-) -> Passage
-    requires few { IfSome entries (λ n. n ≤ 64) }
-    requires table { IsTable module.now text.now table.now }
-    ensures { IsStub module.now text.now entries → IsPassage module.now text.now result }
-{
-    let top = needs.least(label);
-    let passage = walked(
-        module, text, table, entries, crossing, pc, &top, returns, sources, false,
-    );
-    if is_open(&passage) {
-        return passage;
-    }
-    walked(
-        module, text, table, entries, crossing, pc, label, returns, sources, false,
-    )
-}
-
-/// Walks the arms of a branch under a label that has what they needed under any label, and else under this label; where
-/// that has no cause, says what more they need.
-fn guessed(
-    module: &Module,
-    text: &[u8],
-    table: &[Entry],
-    entries: Option<u16>,
-    crossing: &Crossing,
-    wanted: &mut Needs,
-    pc: u16,
-    label: &Label,
-    returns: &Returns,
-    sources: &mut Sources,
-) -> Passage
-    requires few { IfSome entries (λ n. n ≤ 64) }
-    requires table { IsTable module.now text.now table.now }
-    ensures { IsStub module.now text.now entries → IsPassage module.now text.now result }
-{
-    let top = wanted.least(label);
-    let passage = walked(
-        module, text, table, entries, crossing, pc, &top, returns, sources, true,
-    );
-    if is_open(&passage) {
-        return passage;
-    }
-    let passage = walked(
-        module, text, table, entries, crossing, pc, label, returns, sources, true,
-    );
-    match passage.needs {
-        Some(needs) if is_open(&passage) => {
-            *wanted = wanted.with(needs);
-            tightened(
-                module, text, table, entries, crossing, &needs, pc, label, returns, sources,
-            )
-        }
-        _ => passage,
-    }
-}
-
-/// Walks the arms of a branch under a label that absorbs this one and has as little in it as they are thought to need,
-/// and under this label where that has a cause.
+/// Walks the arms of a branch under a label that absorbs this one and has as little in it as they seem to need, and
+/// under this label where that has a cause.
 fn learned(
     module: &Module,
     text: &[u8],
     table: &[Entry],
     entries: Option<u16>,
     crossing: &Crossing,
-    start: &Start,
-    wanted: &mut Needs,
+    scout: &mut Scout,
     pc: u16,
     label: &Label,
     returns: &Returns,
-    sources: &mut Sources,
 ) -> Passage
     requires few { IfSome entries (λ n. n ≤ 64) }
     requires table { IsTable module.now text.now table.now }
     ensures { IsStub module.now text.now entries → IsPassage module.now text.now result }
 {
-    match start {
-        Start::Guess => guessed(
-            module, text, table, entries, crossing, wanted, pc, label, returns, sources,
-        ),
-        Start::Tight(needs) => tightened(
-            module, text, table, entries, crossing, needs, pc, label, returns, sources,
-        ),
-        Start::Whole => walked(
-            module, text, table, entries, crossing, pc, label, returns, sources, false,
-        ),
+    if let Some(needs) = scout.needs(module, text, table, entries, crossing, pc, label) {
+        let top = needs.least(label);
+        let passage = walked(module, text, table, entries, crossing, pc, &top, returns);
+        if is_open(&passage) {
+            return passage;
+        }
     }
+    walked(module, text, table, entries, crossing, pc, label, returns)
 }
 
 impl Passages {
@@ -393,15 +297,8 @@ impl Passages {
         Passages {
             list: Vec::new(alloc),
             newest: [0; 256],
-            wanted: [Needs::NONE; 256],
-            sources: Sources::new(alloc),
-            alloc,
+            scout: Scout::new(alloc),
         }
-    }
-
-    /// What follows no walk.
-    pub fn still(&self) -> Sources {
-        Sources::new(self.alloc)
     }
 
     /// The passage there, if it is of this branch.
@@ -498,42 +395,14 @@ impl Passages {
         }
     }
 
-    /// Under which label a branch's next walk is tried first: one that turned out to know too much gives way to one that
-    /// knows as much as is needed, and that to the label itself. Where the branch had a cause, it is likely to have one
-    /// again.
-    fn start(&self, own: Option<usize>, crossing: &Crossing, pc: u16) -> Start {
-        let is_own = own.is_some();
-        let place = match own {
-            Some(place) => place,
-            None => self.newest_of(pc),
-        };
-        match self.at(place, crossing, pc) {
-            Some(passage) => match passage.answer {
-                Answer::Shut(_) => Start::Whole,
-                Answer::Open(_) if !is_own => Start::Guess,
-                Answer::Open(_) => match passage.needs {
-                    Some(needs) => Start::Tight(needs),
-                    None => Start::Whole,
-                },
-            },
-            None => Start::Guess,
-        }
-    }
-
-    /// Keeps a passage in a pair's own place with what its branch needs, and tells the place.
-    fn keep(
-        &mut self,
-        own: Option<usize>,
-        passage: Passage,
-        wanted: Needs,
-    ) -> Result<usize, AllocError>
+    /// Keeps a passage in a pair's own place, and tells the place.
+    fn keep(&mut self, own: Option<usize>, passage: Passage) -> Result<usize, AllocError>
         ensures passages { IfOk result (λ _. (m : Module) (text : List ℕ) → IsPassage m text passage →
             All (IsPassage m text) self.old.list.items → All (IsPassage m text) self.new.list.items) }
     {
         let place = self.place_for(own);
         put(&mut self.list, place, passage)?;
         self.newest[number(passage.branch)] = place;
-        self.wanted[number(passage.branch)] = wanted;
         Ok(place)
     }
 
@@ -566,37 +435,23 @@ impl Passages {
         if let Some(outcome) = self.known(*own, crossing, pc, label) {
             return Ok(outcome);
         }
-        let start = self.start(*own, crossing, pc);
-        let mut wanted = self.wanted[number(pc)];
         let passage = learned(
             module,
             text,
             table,
             entries,
             crossing,
-            &start,
-            &mut wanted,
+            &mut self.scout,
             pc,
             label,
             returns,
-            &mut self.sources,
         );
-        let place = self.keep(*own, passage, wanted)?;
+        let place = self.keep(*own, passage)?;
         *own = Some(place);
         if let Some(outcome) = self.answer(place, crossing, pc, label) {
             return Ok(outcome);
         }
-        Ok(crossed(
-            module,
-            text,
-            table,
-            entries,
-            crossing,
-            pc,
-            label,
-            returns,
-            &mut self.sources,
-        ))
+        Ok(crossed(module, text, table, entries, crossing, pc, label, returns))
     }
 
     /// Whether it is known that a branch has no cause under its label.

@@ -110,17 +110,7 @@ fn cause_of_arms(
     let mut least = None;
     let mut told = *label;
     walk_arms(
-        module,
-        text,
-        table,
-        entries,
-        crossing,
-        pc,
-        label,
-        returns,
-        &mut least,
-        &mut told,
-        &mut passages.still(),
+        module, text, table, entries, crossing, pc, label, returns, &mut least, &mut told,
     );
     least
 }

@@ -7,16 +7,30 @@ ghost use Rattle.insn_decode.specs.Code.{IsDecoded};
 ghost use Rattle.mod_layout.specs.Tables.{IsSection};
 ghost use Rattle.arm_balance.specs.Met.{met};
 ghost use Rattle.arm_balance.specs.Balance.{arm_on, arm_next};
-ghost use Rattle.flow_check.specs.Tables.{time_of, entry_by, IsTable};
+ghost use Rattle.flow_check.specs.Tables.{time_of, is_deep, is_aligned, place_of, plain_of, glides_by, entry_by, IsTable};
 
+use crate::stub::word_number;
 use arm_balance::{arm_next, met};
 use cycle_table::cycles;
-use insn_decode::Insn;
+use insn_decode::{Insn, Operand, TwoOp};
 use mod_layout::Module;
+use sm_words::Width;
 use std::alloc::{AllocError, Global};
 
 /// The last address.
 const LAST: u16 = 65535;
+
+/// The last word of a stub that is met from the stub alone.
+const LAST_SHUT: u16 = 37;
+
+/// An operation into a register.
+#[derive(Clone, Copy)]
+pub struct Plain {
+    pub op: TwoOp,
+    pub width: Width,
+    pub src: Operand,
+    pub reg: u8,
+}
 
 /// The instruction at an address, and its cycles; of a unit instruction 0.
 #[derive(Clone, Copy)]
@@ -25,6 +39,12 @@ pub struct Entry {
     pub time: u8,
     /// Where an arm goes on whose join is past that, or none where none may have the instruction.
     pub next: Option<u16>,
+    /// The same, if both addresses are even ones of the text, behind the words that are met from a stub alone.
+    pub glides: Option<u16>,
+    /// The place of that in the table.
+    pub to: u16,
+    /// The same instruction, if it is an operation into a register.
+    pub plain: Option<Plain>,
 }
 
 /// The cycles of an instruction.
@@ -42,8 +62,70 @@ fn time_of(insn: &Insn) -> u8
     }
 }
 
+/// Whether an address of the text is behind the words that are met from a stub alone.
+fn is_deep(module: &Module, addr: u16) -> bool
+    ensures { result ≡ is_deep module.now addr }
+{
+    module.text.holds(usize::from(addr)) && word_number(module, addr) > LAST_SHUT
+}
+
+/// Whether an address is even, and so many whole words behind the text's start.
+fn is_aligned(module: &Module, addr: u16) -> bool
+    ensures { result ≡ is_aligned module.now addr }
+{
+    addr % 2 == 0 && addr.saturating_sub(module.text.start) % 2 == 0
+}
+
+/// The place of an address in the table.
+fn place_of(module: &Module, next: Option<u16>) -> u16
+    ensures { result ≡ place_of module.now next }
+{
+    match next {
+        Some(to) => to.saturating_sub(module.text.start) / 2,
+        None => 0,
+    }
+}
+
+/// An instruction as a plain one, if it is that.
+fn plain_of(met: &Option<Insn>) -> Option<Plain>
+    ensures { result ≡ plain_of met.now }
+{
+    match *met {
+        Some(
+            Insn::Two {
+                op,
+                width,
+                src,
+                dst: Operand::Reg(reg),
+            },
+        ) => Some(Plain {
+            op,
+            width,
+            src,
+            reg,
+        }),
+        _ => None,
+    }
+}
+
+/// Where an arm goes on from an address, if nothing about these two can be a cause.
+fn glides_of(module: &Module, pc: u16, next: Option<u16>) -> Option<u16>
+    ensures { result ≡ glides_by module.now pc next }
+{
+    match next {
+        Some(to) => {
+            if is_deep(module, pc) && is_deep(module, to) && is_aligned(module, to) && pc < to {
+                Some(to)
+            } else {
+                None
+            }
+        }
+        None => None,
+    }
+}
+
 /// What is met at an address.
-fn entry_of(module: &Module, text: &[u8], pc: u16) -> Entry
+fn entry_for(module: &Module, text: &[u8], pc: u16) -> Entry
     ensures { result ≡ entry_by module.now text.now pc }
 {
     let met = met(module.text, text, pc);
@@ -55,7 +137,14 @@ fn entry_of(module: &Module, text: &[u8], pc: u16) -> Entry
         Some(insn) => arm_next(&insn, pc, LAST),
         None => None,
     };
-    Entry { met, time, next }
+    Entry {
+        met,
+        time,
+        next,
+        glides: glides_of(module, pc, next),
+        to: place_of(module, next),
+        plain: plain_of(&met),
+    }
 }
 
 /// What is met at each even place of the text.
@@ -67,14 +156,14 @@ pub fn table_of(alloc: Global, module: &Module, text: &[u8]) -> Result<Vec<Entry
     let mut table = Vec::new(alloc);
     let count = (module.text.end - module.text.start) / 2;
     for k in 0..count {
-        table.push(entry_of(module, text, module.text.start + 2 * k))?;
+        table.push(entry_for(module, text, module.text.start + 2 * k))?;
     }
     Ok(table)
 }
 
-/// A place of the table.
+/// What stands at a place of the table.
 #[inline(always)]
-fn place(table: &[Entry], k: usize) -> Option<&Entry>
+pub fn entry_of(table: &[Entry], k: usize) -> Option<&Entry>
     ensures { option_copied result ≡ slice_get table.now k }
 {
     table.get(k)
@@ -87,9 +176,11 @@ pub fn entry_at<'a>(module: &Module, text: &[u8], table: &'a [Entry], pc: u16) -
     requires { IsTable module.now text.now table.now }
     ensures { IfSome (option_copied result) (λ e. e ≡ entry_by module.now text.now pc) }
 {
-    let offset = usize::from(pc.saturating_sub(module.text.start));
-    if module.text.start <= pc && offset % 2 == 0 {
-        if let Some(entry) = place(table, offset / 2) {
+    if module.text.start <= pc {
+        let offset = usize::from(pc - module.text.start);
+        if offset % 2 == 0
+            && let Some(entry) = entry_of(table, offset / 2)
+        {
             return Some(entry);
         }
     }

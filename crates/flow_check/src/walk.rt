@@ -15,7 +15,6 @@ ghost use Rattle.flow_check.specs.Tables.{IsTable};
 use crate::along::{Way, along, is_call_word};
 use crate::blot::{blot_at, blot_registers, blot_words};
 use crate::glide::glide;
-use crate::needs::Sources;
 use crate::reach::reaches;
 use crate::returns::Returns;
 use crate::step::{Cause, Stepped, Targets, note, note_if};
@@ -160,7 +159,6 @@ fn walk_on(
     join: u16,
     place: &mut Place,
     tally: &mut Tally,
-    sources: &mut Sources,
 ) -> bool
     requires few { IfSome entries (λ n. n ≤ 64) }
     requires table { IsTable module.now text.now table.now }
@@ -187,7 +185,6 @@ fn walk_on(
         note(&mut tally.least, Reason::Arm, pc);
         return false;
     };
-    sources.follow(module, pc, &place.label.core);
     let went = along(module, text, entries, insn, pc, &mut place.label);
     match went.way {
         Way::On(to) => {
@@ -196,7 +193,6 @@ fn walk_on(
             true
         }
         Way::Out => {
-            sources.leave();
             let lost = is_lost(module, join, next);
             note_if(lost, &mut tally.least, Reason::Arm, next);
             false
@@ -218,7 +214,6 @@ pub fn walk(
     join: u16,
     from: &Place,
     tally: &mut Tally,
-    sources: &mut Sources,
 )
     requires few { IfSome entries (λ n. n ≤ 64) }
     requires table { IsTable module.now text.now table.now }
@@ -227,22 +222,17 @@ pub fn walk(
         tally.new ≡ told (walk (flow_step module.now text.now) module.now text.now branch join (suc join)
         (point_at from.now)) tally.old }
 {
-    sources.begin();
     let mut place = *from;
     let mut left = u32::from(join) + 1;
     while left > 0 {
-        left = glide(
-            module, text, table, entries, join, &mut place, tally, sources, left,
-        );
+        left = glide(module, text, table, entries, join, &mut place, tally, left);
         if left == 0 {
             break;
         }
         if place.pc == join {
             return;
         }
-        if !walk_on(
-            module, text, table, entries, join, &mut place, tally, sources,
-        ) {
+        if !walk_on(module, text, table, entries, join, &mut place, tally) {
             return;
         }
         left -= 1;

@@ -12,7 +12,8 @@ loop-left-preserved c = record {
       let one : c.loop-left.left ≡ suc (c.loop-left.left - 1) = omega arith in
       c.loop-left.invariant.rest stub branch
       ∙ ap (λ n. told (walk S c.args.module.now c.args.text.now branch c.args.join n (point_at c.loop-left.place)) c.loop-left.tally) one
-      ∙ c.glide_on.ensures.on c.if-not-glide_on.false stub branch (c.loop-left.left - 1);
+      ∙ c.glide_on.ensures.on c.in-Some-glide_on.to c.in-Some-glide_on.is stub branch (c.loop-left.left - 1);
+  at = c.in-Some-glide_on.ensures.at;
   cycles = omega (arith, c.loop-left.invariant.cycles, c.glide_on.ensures.cycles);
   fewer = omega (arith, c.loop-left.invariant.fewer);
 }

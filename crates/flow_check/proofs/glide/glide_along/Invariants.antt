@@ -8,6 +8,7 @@ use Rattle.flow_check.proofs.glide.glide_along.Given as goal
 abbrev pub invariant-loop-left : goal.invariant-loop-left
 invariant-loop-left l = record {
   rest : IsStub l.module l.text l.entries → (branch : ℕ) → told (walk (flow_step l.module l.text) l.module l.text branch l.join l.fn.most (point_at l.fn.place)) l.fn.tally ≡ told (walk (flow_step l.module l.text) l.module l.text branch l.join l.left (point_at l.place)) l.tally;
+  at : l.place.pc ≡ l.module.text.start + 2 * l.k;
   cycles : l.tally.cycles + 255 * l.left ≤ l.fn.tally.cycles + 255 * l.fn.most;
   fewer : l.left ≤ l.fn.most;
 }

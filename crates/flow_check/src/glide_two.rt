@@ -1,0 +1,411 @@
+//! Instructions of format I into memory along an arm, where they have no cause.
+
+ghost use Rattle.std.specs.Prelude.{◌≡◌, ◌<◌, ◌%◌, ◌∷◌, [], List, ℕ, true, false, Some, None, IfSome};
+ghost use Rattle.insn_decode.specs.declared.insn.Operand.{Operand};
+ghost use Rattle.pc_access.specs.declared.Kind.{Kind};
+ghost use Rattle.cpu_step.specs.Plan.{reads_dst, writes_dst};
+ghost use Rattle.mod_layout.specs.declared.Module.{Module};
+ghost use Rattle.sm_words.specs.declared.width.Width.{Width};
+ghost use Rattle.flow_rule.specs.declared.Val.{Val};
+ghost use Rattle.flow_rule.specs.Values.{val};
+ghost use Rattle.flow_rule.specs.Arms.{stepped_regs, written_words, blot, blot_core};
+ghost use Rattle.flow_rule.specs.Does.{past_val, stepped_val, reach_if, two_val, carry_val, set_flags_by, writes_val, word_no};
+ghost use Rattle.flow_check.specs.Along.{taken_by};
+ghost use Rattle.flow_check.specs.Gliding.{IsGlided, IsWordThere, moved_on};
+ghost use Rattle.flow_check.specs.GlidingTwo.{source_place, destination_place, IsTwoPlace, IsTwoSource, IsTwoAddress, IsTwoReady, tried};
+
+use crate::blot::blot_step;
+use crate::effect::{carry_for, low, set_flags, two};
+use crate::reach::{extension, increment, reads_destination, second, writes_destination};
+use crate::registers::{Core, get, move_on};
+use crate::text::{may_reach, put_word, read_at, read_numbered, word_number, write_numbered};
+use crate::value::{narrow, plus};
+use flow_rule::{Label, Told, Val};
+use insn_decode::{Insn, Operand, TwoOp};
+use mod_layout::Module;
+use pc_access::Kind;
+use sm_words::Width;
+
+/// The address of a source in memory, but for one by PC.
+#[tactic(auto, using(crate::proofs::GlidingTwo::moved_other, crate::proofs::GlidingTwo::still_raised))]
+#[inline(always)]
+fn source_place(src: Operand, core: &Core, pc: u16) -> Option<Val>
+    ensures { IfSome result (λ addr. (next : ℕ) → IsTwoPlace src core.now pc next addr) }
+{
+    match src {
+        Operand::Indexed { reg, x } => {
+            if reg == 0 {
+                return None;
+            }
+            Some(plus(get(core, reg), x))
+        }
+        Operand::Indirect(reg) => {
+            if reg == 0 {
+                return None;
+            }
+            Some(get(core, reg))
+        }
+        Operand::Increment(reg) => {
+            if reg == 0 {
+                return None;
+            }
+            Some(get(core, reg))
+        }
+        Operand::Symbolic(x) => Some(Val::Known(extension(pc).wrapping_add(x))),
+        Operand::Absolute(x) => Some(Val::Known(x)),
+        Operand::Reg(_) | Operand::Const(_) | Operand::Imm(_) => None,
+    }
+}
+
+/// What a register but PC holds once the source's increment is done.
+#[tactic(auto, using(crate::proofs::GlidingTwo::raised_same, crate::proofs::GlidingTwo::raised_other, crate::proofs::GlidingTwo::moved_other))]
+#[inline(always)]
+fn after_source(width: Width, src: Operand, core: &Core, reg: u8) -> Val
+    requires { 0 < reg }
+    ensures { (next : ℕ) → result ≡ val (stepped_val width src (moved_on core.now next)) reg }
+{
+    match src {
+        Operand::Increment(raised) => {
+            if raised == reg {
+                let mut after = *core;
+                increment(width, src, &mut after);
+                get(&after, reg)
+            } else {
+                get(core, reg)
+            }
+        }
+        _ => get(core, reg),
+    }
+}
+
+/// The address of a destination in memory, but for one by PC.
+#[inline(always)]
+fn destination_place(width: Width, src: Operand, dst: Operand, core: &Core, pc: u16) -> Option<Val>
+    ensures { IfSome result (λ addr. (next : ℕ) → destination_place width src dst core.now pc next ≡ Some addr) }
+{
+    match dst {
+        Operand::Indexed { reg, x } => {
+            if reg == 0 {
+                return None;
+            }
+            Some(plus(after_source(width, src, core, reg), x))
+        }
+        Operand::Symbolic(x) => Some(Val::Known(second(extension(pc), src).wrapping_add(x))),
+        Operand::Absolute(x) => Some(Val::Known(x)),
+        _ => None,
+    }
+}
+
+/// The access by which a destination is tried.
+#[inline(always)]
+fn tried(op: TwoOp) -> Kind
+    ensures { result ≡ tried op }
+{
+    if writes_destination(op) {
+        Kind::Write
+    } else {
+        Kind::Read
+    }
+}
+
+/// Whether what an operation does at an address may be done there.
+#[tactic(auto, using(crate::proofs::GlidingTwo::tried_read, crate::proofs::GlidingTwo::tried_write))]
+#[inline(always)]
+fn may_do(module: &Module, op: TwoOp, width: Width, addr: u16) -> bool
+    ensures { result ≡ true → IsTwoAddress module.now op width addr }
+{
+    may_reach(module, tried(op), width, addr)
+}
+
+/// What stands at an address, where it may be read.
+#[tactic(auto, using(crate::proofs::GlidingTwo::allowed))]
+#[inline(always)]
+fn word_there(
+    module: &Module,
+    text: &[u8],
+    width: Width,
+    addr: Val,
+    words: &[Val; 256],
+) -> Option<Val>
+    ensures { IfSome result (IsWordThere module.now text.now width addr words.now) }
+{
+    let Val::Known(number) = addr else {
+        return None;
+    };
+    if !may_reach(module, Kind::Read, width, number) {
+        return None;
+    }
+    Some(narrow(width, read_at(module, text, words, width, number)))
+}
+
+/// What a source in memory gives, where it may be read.
+#[tactic(auto, using(crate::proofs::GlidingTwo::there_is))]
+#[inline(always)]
+fn source_there(
+    module: &Module,
+    text: &[u8],
+    width: Width,
+    src: Operand,
+    label: &Label,
+    pc: u16,
+) -> Option<Val>
+    ensures { IfSome result (λ value. (next : ℕ) → IsTwoSource module.now text.now width src label.now pc next value) }
+{
+    let Some(addr) = source_place(src, &label.core, pc) else {
+        return None;
+    };
+    word_there(module, text, width, addr, &label.words)
+}
+
+/// What a source gives, where it may be read, but for one of PC.
+#[tactic(auto, using(crate::proofs::GlidingTwo::moved_other))]
+#[inline(always)]
+fn source(
+    module: &Module,
+    text: &[u8],
+    width: Width,
+    src: Operand,
+    label: &Label,
+    pc: u16,
+) -> Option<Val>
+    ensures { IfSome result (λ value. (next : ℕ) → IsTwoSource module.now text.now width src label.now pc next value) }
+{
+    match src {
+        Operand::Reg(reg) => {
+            if reg == 0 {
+                return None;
+            }
+            Some(narrow(width, get(&label.core, reg)))
+        }
+        Operand::Const(number) => Some(Val::Known(low(width, number))),
+        Operand::Imm(number) => Some(Val::Known(low(width, number))),
+        _ => source_there(module, text, width, src, label, pc),
+    }
+}
+
+/// What stands at the destination, where the operation reads it.
+#[inline(always)]
+fn old_value(
+    module: &Module,
+    text: &[u8],
+    op: TwoOp,
+    width: Width,
+    addr: u16,
+    n: usize,
+    words: &[Val; 256],
+) -> Val
+    requires { n ≡ word_no module.now addr }
+    ensures { (dst : Operand) (core : List Val) → result ≡ taken_by (Some (Val.Known addr)) module.now text.now
+        (reads_dst op) dst width (record { core = core; words = words.now }) }
+{
+    if reads_destination(op) {
+        narrow(width, read_numbered(module, text, words, width, addr, n))
+    } else {
+        narrow(width, Val::Secret)
+    }
+}
+
+/// What an operation gives, of its source and of what stood at the destination.
+#[tactic(auto, using(crate::proofs::Acting::carry_read))]
+#[inline(always)]
+fn work(op: TwoOp, width: Width, source: Val, old: Val, core: &Core) -> Told
+    ensures { result ≡ two_val op width source old (carry_val core.now) }
+{
+    let carry = carry_for(op, core);
+    two(op, width, source, old, carry)
+}
+
+/// Moves PC on, does the source's increment, and sets the flags, if they are set.
+#[tactic(auto, using(crate::proofs::GlidingTwo::flags_keep))]
+#[inline(always)]
+fn settle(width: Width, src: Operand, next: u16, flags: Option<Val>, core: &mut Core)
+    requires even { next % 2 ≡ 0 }
+    requires still { (c : List Val) → val (stepped_val width src c) 0 ≡ val c 0 }
+    ensures done { core.new ≡ set_flags_by flags (stepped_val width src (moved_on core.old next)) }
+    ensures there { val core.new 0 ≡ Val.Known next }
+{
+    move_on(core, next);
+    increment(width, src, core);
+    set_flags(flags, core);
+}
+
+/// Writes a result to its address, where the operation writes.
+#[inline(always)]
+fn store(op: TwoOp, width: Width, n: usize, value: Val, words: &mut [Val; 256])
+    ensures { (m : Module) (addr : ℕ) → n ≡ word_no m addr → words.new ≡ writes_val m words.old
+        (reach_if (writes_dst op) Kind.Write width (Some (Val.Known addr))) (value ∷ []) }
+{
+    if writes_destination(op) {
+        write_numbered(words, width, n, value);
+    }
+}
+
+/// Tells what is written.
+#[inline(always)]
+fn tell(op: TwoOp, src: Operand, n: usize, told: &mut Label)
+    ensures { (m : Module) (width : Width) (addr : ℕ) → n ≡ word_no m addr → told.new ≡ record {
+      core = blot_core (stepped_regs src) told.old.core;
+      words = blot (written_words m (reach_if (writes_dst op) Kind.Write width (Some (Val.Known addr)))) told.old.words;
+    } }
+{
+    blot_step(src, &mut told.core);
+    if writes_destination(op) {
+        put_word(&mut told.words, n, Val::Secret);
+    }
+}
+
+/// What an operation is done with: its source and what that gave, its destination's address, and where it goes on.
+#[derive(Clone, Copy)]
+struct Given {
+    src: Operand,
+    value: Val,
+    addr: u16,
+    next: u16,
+}
+
+/// Does an operation.
+#[inline(always)]
+fn finish(
+    module: &Module,
+    text: &[u8],
+    op: TwoOp,
+    width: Width,
+    given: Given,
+    label: &mut Label,
+    told: &mut Label,
+) -> bool
+    requires even { given.next % 2 ≡ 0 }
+    requires still { (c : List Val) → val (stepped_val width given.src c) 0 ≡ val c 0 }
+    ensures done { result ≡ true → (dst : Operand) (pc : ℕ) →
+        IsTwoReady module.now text.now op width given.src dst label.old pc given.next given.value given.addr →
+        IsGlided module.now text.now (Insn.Two op width given.src dst) pc given.next label.old label.new
+        told.old told.new }
+    ensures same_label { result ≡ false → label.new ≡ label.old }
+    ensures same_told { result ≡ false → told.new ≡ told.old }
+{
+    let Given {
+        src,
+        value,
+        addr,
+        next,
+    } = given;
+    if !may_do(module, op, width, addr) {
+        return false;
+    }
+    let n = word_number(module, addr);
+    let old = old_value(module, text, op, width, addr, n, &label.words);
+    let result = work(op, width, value, old, &label.core);
+    settle(width, src, next, result.flags, &mut label.core);
+    store(op, width, n, result.value, &mut label.words);
+    tell(op, src, n, told);
+    true
+}
+
+/// Does an operation on words, with code of its own for each.
+#[inline(always)]
+fn finish_word(
+    module: &Module,
+    text: &[u8],
+    op: TwoOp,
+    given: Given,
+    label: &mut Label,
+    told: &mut Label,
+) -> bool
+    requires even { given.next % 2 ≡ 0 }
+    requires still { (c : List Val) → val (stepped_val Width.Word given.src c) 0 ≡ val c 0 }
+    ensures done { result ≡ true → (dst : Operand) (pc : ℕ) →
+        IsTwoReady module.now text.now op Width.Word given.src dst label.old pc given.next given.value given.addr →
+        IsGlided module.now text.now (Insn.Two op Width.Word given.src dst) pc given.next label.old label.new
+        told.old told.new }
+    ensures same_label { result ≡ false → label.new ≡ label.old }
+    ensures same_told { result ≡ false → told.new ≡ told.old }
+{
+    match op {
+        TwoOp::Mov => finish(module, text, TwoOp::Mov, Width::Word, given, label, told),
+        TwoOp::Add => finish(module, text, TwoOp::Add, Width::Word, given, label, told),
+        TwoOp::Addc => finish(module, text, TwoOp::Addc, Width::Word, given, label, told),
+        TwoOp::Subc => finish(module, text, TwoOp::Subc, Width::Word, given, label, told),
+        TwoOp::Sub => finish(module, text, TwoOp::Sub, Width::Word, given, label, told),
+        TwoOp::Cmp => finish(module, text, TwoOp::Cmp, Width::Word, given, label, told),
+        TwoOp::Dadd => finish(module, text, TwoOp::Dadd, Width::Word, given, label, told),
+        TwoOp::Bit => finish(module, text, TwoOp::Bit, Width::Word, given, label, told),
+        TwoOp::Bic => finish(module, text, TwoOp::Bic, Width::Word, given, label, told),
+        TwoOp::Bis => finish(module, text, TwoOp::Bis, Width::Word, given, label, told),
+        TwoOp::Xor => finish(module, text, TwoOp::Xor, Width::Word, given, label, told),
+        TwoOp::And => finish(module, text, TwoOp::And, Width::Word, given, label, told),
+    }
+}
+
+/// Does an operation on bytes, with code of its own for each.
+fn finish_byte(
+    module: &Module,
+    text: &[u8],
+    op: TwoOp,
+    given: Given,
+    label: &mut Label,
+    told: &mut Label,
+) -> bool
+    requires even { given.next % 2 ≡ 0 }
+    requires still { (c : List Val) → val (stepped_val Width.Byte given.src c) 0 ≡ val c 0 }
+    ensures done { result ≡ true → (dst : Operand) (pc : ℕ) →
+        IsTwoReady module.now text.now op Width.Byte given.src dst label.old pc given.next given.value given.addr →
+        IsGlided module.now text.now (Insn.Two op Width.Byte given.src dst) pc given.next label.old label.new
+        told.old told.new }
+    ensures same_label { result ≡ false → label.new ≡ label.old }
+    ensures same_told { result ≡ false → told.new ≡ told.old }
+{
+    match op {
+        TwoOp::Mov => finish(module, text, TwoOp::Mov, Width::Byte, given, label, told),
+        TwoOp::Add => finish(module, text, TwoOp::Add, Width::Byte, given, label, told),
+        TwoOp::Addc => finish(module, text, TwoOp::Addc, Width::Byte, given, label, told),
+        TwoOp::Subc => finish(module, text, TwoOp::Subc, Width::Byte, given, label, told),
+        TwoOp::Sub => finish(module, text, TwoOp::Sub, Width::Byte, given, label, told),
+        TwoOp::Cmp => finish(module, text, TwoOp::Cmp, Width::Byte, given, label, told),
+        TwoOp::Dadd => finish(module, text, TwoOp::Dadd, Width::Byte, given, label, told),
+        TwoOp::Bit => finish(module, text, TwoOp::Bit, Width::Byte, given, label, told),
+        TwoOp::Bic => finish(module, text, TwoOp::Bic, Width::Byte, given, label, told),
+        TwoOp::Bis => finish(module, text, TwoOp::Bis, Width::Byte, given, label, told),
+        TwoOp::Xor => finish(module, text, TwoOp::Xor, Width::Byte, given, label, told),
+        TwoOp::And => finish(module, text, TwoOp::And, Width::Byte, given, label, told),
+    }
+}
+
+/// Does an instruction of format I whose destination is no register, where it has no cause; of another, nothing
+/// changes.
+#[inline(always)]
+pub fn glide_two(
+    module: &Module,
+    text: &[u8],
+    op: TwoOp,
+    width: Width,
+    src: Operand,
+    dst: Operand,
+    pc: u16,
+    next: u16,
+    label: &mut Label,
+    told: &mut Label,
+) -> bool
+    requires past { moved_on label.old.core next ≡ past_val (Insn.Two op width src dst) pc label.old.core }
+    requires even { next % 2 ≡ 0 }
+    ensures done { result ≡ true →
+        IsGlided module.now text.now (Insn.Two op width src dst) pc next label.old label.new told.old told.new }
+    ensures same_label { result ≡ false → label.new ≡ label.old }
+    ensures same_told { result ≡ false → told.new ≡ told.old }
+{
+    let Some(Val::Known(addr)) = destination_place(width, src, dst, &label.core, pc) else {
+        return false;
+    };
+    let Some(value) = source(module, text, width, src, label, pc) else {
+        return false;
+    };
+    let given = Given {
+        src,
+        value,
+        addr,
+        next,
+    };
+    match width {
+        Width::Byte => finish_byte(module, text, op, given, label, told),
+        Width::Word => finish_word(module, text, op, given, label, told),
+    }
+}
