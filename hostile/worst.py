@@ -70,8 +70,7 @@ def slow_to_balance(nops):
 def balance_that_rises(nops, count=250):
     """The same in a loop in which so many data words become less known, one a turn."""
     data = 0xF000
-    before = b"".join(words(0x4382, data + 2 * k) for k in range(count))
-    again = b"".join(words(0x4292, data + 2 * k, data + 2 * k + 2) for k in range(count - 2, -1, -1)) + words(0x5392, data)
+    before, again = rising(data, count)
     return met_often(0x0300, data, words(0x4303) * nops, nops, before, again)
 
 
@@ -113,27 +112,43 @@ def balance_of_wants(count, insn, cycles):
 
 
 ROWS = 51
+RISING = 190
+
+
+def rising(data, count):
+    """What sets so many data words to 0, and a turn in which each becomes the next, so that they become less known one a turn."""
+    before = b"".join(words(0x4382, data + 2 * k) for k in range(count))
+    return before, b"".join(words(0x4292, data + 2 * k, data + 2 * k + 2) for k in range(count - 2, -1, -1)) + words(0x5392, data)
+
+
+def balance_of_addresses_that_rises(count, insn, cycles):
+    """As `balance_of_addresses`, in a loop in which so many other data words rise one a turn. R4 is the address of a word that does not."""
+    data = 0xF000
+    before, again = rising(data, RISING)
+    arm = words(0x4125, 0x4116, 2, 0x5605) + words(insn) * count + words(0xF035, 0x00FE, 0x5035, data, 0x4527, 0x4305, 0x4307)
+    return met_often(0x0300, data, arm, 2 + 3 + 1 + cycles * count + 2 + 2 + 2 + 1 + 1, words(0x4034, data + 0x1F6, 0x4384, 0) + before, again)
 
 
 def balance_that_shuts(count, insn, cycles):
     """51 calls of a routine with 51 calls of one with a branch whose arms want the return addresses and a data word. Each call can be passed by, so that what
     changes comes to all lists also where a branch has a cause. In the first turn no list has one; then the word is not known any more and each has; then
-    another word rises, so that what was seen of the causes is of no use for the verdict. R4 is the address of a word that none wants."""
+    others rise one a turn, so that what was seen of the causes is of no use for the verdict. R4 is the address of a word that none wants."""
     text, data = 0x0300, 0xF000
-    secret, public, wanted, other = data + 0x200, data + 0x182, data + 0x184, data + 0x186
+    secret, public, wanted = data + 0x200, data + 0x182, data + 0x184
     arm = words(0x4034, data + 0x188, 0x4384, 0, 0x4125, 0x4116, 2, 0x5605) + words(insn) * count
     arm += words(0x5215, wanted, 0xF035, 0x00FE, 0x5035, data, 0x4527, 0x4305, 0x4307)
 
     def row(routine):
         return words(0x9382, public, 0x2002, 0x12B0, routine) * ROWS
 
-    head = words(0x4031, data + 0x200, 0x4382, public, 0x4382, wanted, 0x4382, other)
+    before, again = rising(data, RISING)
+    head = words(0x4031, data + 0x200, 0x4382, public, 0x4382, wanted) + before
     loop = text + len(head)
-    inner = loop + len(row(0)) + 14
+    again += words(0x5392, wanted, 0x4030, loop)
+    inner = loop + len(row(0)) + len(again)
     last = inner + len(row(0)) + 2
     branch = last + 4
-    code = head + row(inner) + words(0x4292, wanted, other, 0x5392, wanted, 0x4030, loop) + row(last) + words(0x4130)
-    code += words(0x9382, secret, 0x2400) + arm + words(0x4130)
+    code = head + row(inner) + again + row(last) + words(0x4130) + words(0x9382, secret, 0x2400) + arm + words(0x4130)
     module = f"module 0007 {text:04x} {text + len(code):04x} {data:04x} {data + 0x400:04x}\n"
     return image_with(code, text, module), f"{branch:04x} {branch + 2 + len(arm):04x} {2 + 4 + 2 + 3 + 1 + cycles * count + 3 + 2 + 2 + 2 + 1 + 1}\n"
 
@@ -178,9 +193,12 @@ def cases(folder):
     walked, arm = balance_of_wants(25_000, 0x5606, 1)
     told = "balance, arms of 25,000 sums met 4,896 times, each of which wants another word of those that rise one a turn"
     yield told, ["balance", file("walked_wants", walked), "1", file("arm_wants", arm)]
-    for name, insn, cycles, count in (("sums", 0x5605, 1, 29_000), ("reads", 0x5425, 2, 29_000), ("byte reads", 0x5465, 2, 29_000), ("shifts", 0x1124, 3, 21_000)):
+    for name, insn, cycles, count in (("reads", 0x5425, 2, 27_000), ("byte reads", 0x5465, 2, 27_000), ("shifts", 0x1124, 3, 21_000)):
+        walked, arm = balance_of_addresses_that_rises(count, insn, cycles)
+        told = f"balance, arms of {count:,} {name} met 5,184 times, a last address that hangs on each, data that rise one a turn"
+        yield told, ["balance", file(f"walked_both_{name}", walked), "1", file(f"arm_both_{name}", arm)]
         walked, arm = balance_that_shuts(count, insn, cycles)
-        told = f"balance, arms of {count:,} {name} met 2,601 times, which get a cause and then other labels"
+        told = f"balance, arms of {count:,} {name} met 2,601 times, which get a cause, data that rise one a turn"
         yield told, ["balance", file(f"walked_shut_{name}", walked), "1", file(f"arm_shut_{name}", arm)]
     yield "challenges, 4,096", ["challenge", file("challenges", "".join(f"{1600 * k} {'0f' * 16}\n" for k in range(4096)))]
     trace = "0 out 4a\n" * 110_000 + "end 1 stopped\n"
