@@ -34,10 +34,9 @@ use Rattle.flow_rule.specs.Arms.{walk, stepped_regs, written_regs, written_words
 use Rattle.flow_check.specs.declared.along.Way.TheVariants.{On}
 use Rattle.flow_check.specs.declared.returns.Returns.{Returns}
 use Rattle.flow_check.specs.declared.table.Entry.{Entry}
-use Rattle.flow_check.specs.declared.table.Plain.{Plain}
 use Rattle.flow_check.specs.declared.walk.Tally.{Tally}
 use Rattle.flow_check.specs.Pairs.{IsStub, list_of, point_of}
-use Rattle.flow_check.specs.Tables.{is_deep, is_aligned, place_of, plain_of, glides_by, entry_by}
+use Rattle.flow_check.specs.Tables.{is_deep, is_aligned, place_of, glides_by, entry_by}
 use Rattle.flow_check.specs.Walks.{told}
 use Rattle.flow_check.specs.Along.{is_clear, taken_by, in_open, is_call_word, LeadsTo}
 use Rattle.flow_check.specs.Gliding.{moved_on, into_regs, IsWordThere, IsStill, IsSource, IsGlided}
@@ -178,7 +177,7 @@ none_glides m text pc next e is it go =
     no_some : (n : ℕ) → None ≡ Some n → ⊥
     no_some n e = absurd cc
 
-some_same : (a b : Insn) → Some a ≡ Some b → a ≡ b
+pub some_same : (a b : Insn) → Some a ≡ Some b → a ≡ b
 some_same a b e = let f : a ≡ b = cc in f
 
 -- ---- behind a stub's shut words
@@ -272,29 +271,6 @@ entry_place m text pc next e is go = by e.met refl
         let le : m.text.start ≤ next = grind (arith, nat_tests) in
         let even : (next - m.text.start) % 2 ≡ 0 = g.whole in
         omega (arith, to, le, even)
-
--- an operation on words into a register
-pub plain_met : (o : Option Insn) (p : Plain) → plain_of o ≡ Some p → o ≡ Some (Two p.op p.width p.src (Reg p.reg))
-plain_met (Some (Two op w s (Reg r))) p e =
-    let f : record { op = op; width = w; src = s; reg = r } ≡ p = cc in
-    ap (λ q. Some (Two q.op q.width q.src (Reg q.reg))) f
-plain_met o p e = absurd cc
-
--- what an entry says of a plain one
-pub entry_plain : (m : Module) (text : List ℕ) (pc : ℕ) (e : Entry) (p : Plain) → e ≡ entry_by m text pc → e.plain ≡ Some p → e.met ≡ Some (Two p.op p.width p.src (Reg p.reg))
-entry_plain m text pc e p is it = plain_met e.met p (ap (λ x. plain_of x.met) is ∙ sym (ap (λ x. x.plain) is) ∙ it)
-
-pub plain_moves : (m : Module) (text : List ℕ) (pc next : ℕ) (e : Entry) (p : Plain) (core : List Val) → e ≡ entry_by m text pc → e.glides ≡ Some next → e.plain ≡ Some p →
-    moved_on core next ≡ past_val (Two p.op p.width p.src (Reg p.reg)) pc core
-plain_moves m text pc next e p core is go it =
-    two_moves (Two p.op p.width p.src (Reg p.reg)) p.op p.width p.src (Reg p.reg) pc next core refl
-    (gliding_on m text pc next (Two p.op p.width p.src (Reg p.reg)) e is (entry_plain m text pc e p is it) go).0
-
-pub plain_done : (m : Module) (text : List ℕ) (pc next : ℕ) (e : Entry) (p : Plain) (l l1 b b1 : Label) → e ≡ entry_by m text pc → e.plain ≡ Some p →
-    IsGlided m text (Two p.op p.width p.src (Reg p.reg)) pc next l l1 b b1 → (insn : Insn) → e.met ≡ Some insn → IsGlided m text insn pc next l l1 b b1
-plain_done m text pc next e p l l1 b b1 is it done insn met =
-    let f : Two p.op p.width p.src (Reg p.reg) ≡ insn = some_same _ insn (sym (entry_plain m text pc e p is it) ∙ met) in
-    subst (λ i. IsGlided m text i pc next l l1 b b1) f done
 
 -- ---- sources
 set_still : (c : List Val) (r n : ℕ) (v : Val) → r ≢ n → val (slice_set c r v) n ≡ val c n

@@ -21,10 +21,16 @@ const LIMIT: u32 = 0x10000;
 /// Set in a value that is not Known, whose other bits mean nothing. Sums of words leave it as it is.
 const UNKNOWN: u32 = 0x8000_0000;
 
+/// How many bytes of the data a label tells of.
+const TOLD_BYTES: u16 = 512;
+
 /// The values at a place of an arm, by their numbers.
 #[derive(Drop)]
 pub struct Course {
     values: [u32; 512],
+    /// Where the data begins, and how many of its bytes a label tells of.
+    data: u16,
+    bytes: u16,
 }
 
 /// What stands for what is known of a value.
@@ -91,17 +97,6 @@ fn made(operation: Operation, form: &Form, source: u32, old: u32) -> u32 {
     }
 }
 
-/// The number of the word of the data at an address, where it is one of the label's.
-#[inline(always)]
-fn word_at(module: &Module, addr: u16) -> Option<u16> {
-    let offset = addr.wrapping_sub(module.ram.start);
-    if module.ram.start <= addr && addr < module.ram.end && offset < 512 {
-        Some(FIRST_WORD + offset / 2)
-    } else {
-        None
-    }
-}
-
 /// Whether no access of this width may have this address.
 #[inline(always)]
 fn is_odd(width: Width, addr: u16) -> bool {
@@ -128,7 +123,7 @@ fn part_of(width: Width, addr: u16, value: u32) -> u32 {
 
 impl Course {
     /// The values of a label.
-    pub fn start(label: &Label) -> Course {
+    pub fn start(module: &Module, label: &Label) -> Course {
         let mut values = [UNKNOWN; 512];
         for n in 0..REGISTERS {
             values[n] = number_of(label.core[n]);
@@ -137,7 +132,23 @@ impl Course {
             values[usize::from(FIRST_WORD) + n] = number_of(label.words[n]);
         }
         values[usize::from(ZERO)] = 0;
-        Course { values }
+        let size = module.ram.end.saturating_sub(module.ram.start);
+        Course {
+            values,
+            data: module.ram.start,
+            bytes: size.min(TOLD_BYTES),
+        }
+    }
+
+    /// The number of the word of the data at an address, where it is one of the label's.
+    #[inline(always)]
+    fn word_at(&self, addr: u16) -> Option<u16> {
+        let offset = addr.wrapping_sub(self.data);
+        if offset < self.bytes {
+            Some(FIRST_WORD + offset % TOLD_BYTES / 2)
+        } else {
+            None
+        }
     }
 
     /// The address that is the sum of a base and a number, where it is Known.
@@ -187,7 +198,7 @@ impl Course {
             let base = usize::from(form.source);
             self.values[base] = self.values[base].wrapping_add(u32::from(form.step)) % LIMIT;
         }
-        match word_at(module, addr) {
+        match self.word_at(addr) {
             Some(number) => {
                 form.from = number;
                 Some(part_of(reach.width, addr, self.values[slot(number)]))
@@ -212,7 +223,7 @@ impl Course {
         if reach.access == Access::Read {
             return module.ram.holds(here) || module.text.holds(here);
         }
-        match word_at(module, addr) {
+        match self.word_at(addr) {
             Some(number) => {
                 form.to = number;
                 true
@@ -246,7 +257,10 @@ impl Course {
         if reach.access != Access::Nothing && !self.reach(module, form, reach) {
             return false;
         }
-        let to = slot(form.to);
+        let to = match reach.access {
+            Access::Nothing => usize::from(form.destination),
+            Access::Read | Access::Write | Access::Push => slot(form.to),
+        };
         self.values[to] = made(operation, form, source, self.values[to]);
         true
     }

@@ -12,13 +12,15 @@ ghost use Rattle.flow_check.specs.Gliding.{IsGlided};
 ghost use Rattle.flow_check.specs.Tables.{entry_by, IsTable};
 
 use crate::arms::ALWAYS;
-use crate::glide_into::glide_plain;
+use crate::glide_into::glide_into;
 use crate::glide_one::{glide_jump, glide_one};
+use crate::glide_own::{Ran, own_along};
 use crate::glide_two::glide_two;
+use crate::own::room_of;
 use crate::table::{Entry, entry_of};
 use crate::walk::{Place, Tally};
 use flow_rule::Label;
-use insn_decode::Insn;
+use insn_decode::{Insn, Operand};
 use mod_layout::Module;
 
 /// Does an instruction that goes on at `next`, where it has no cause; of another, nothing changes.
@@ -40,6 +42,12 @@ fn glide_insn(
     ensures same_told { result ≡ false → told.new ≡ told.old }
 {
     match *insn {
+        Insn::Two {
+            op,
+            width,
+            src,
+            dst: Operand::Reg(reg),
+        } => glide_into(module, text, op, width, &src, reg, pc, next, label, told),
         Insn::Two {
             op,
             width,
@@ -74,66 +82,38 @@ fn glide_entry(
     ensures same_label { result ≡ false → label.new ≡ label.old }
     ensures same_told { result ≡ false → told.new ≡ told.old }
 {
-    match &entry.plain {
-        Some(plain) => glide_plain(module, text, plain, pc, next, label, told),
-        None => match &entry.met {
-            Some(insn) => glide_insn(module, text, insn, pc, next, label, told),
-            None => false,
-        },
+    match &entry.met {
+        Some(insn) => glide_insn(module, text, insn, pc, next, label, told),
+        None => false,
     }
 }
 
-/// Does the arm's instruction at this place, the `k`-th of the table, where it has no cause and goes on, and tells the
-/// next place in the table; of another, nothing changes.
+/// Does the instruction of an entry that goes on up to the join, and tells where, where it has no cause; of another,
+/// nothing changes.
 #[inline(always)]
-fn glide_on(
+pub fn glide_on(
     module: &Module,
     text: &[u8],
-    table: &[Entry],
-    entries: Option<u16>,
+    entry: &Entry,
     join: u16,
-    k: u16,
-    place: &mut Place,
-    tally: &mut Tally,
+    pc: u16,
+    label: &mut Label,
+    told: &mut Label,
 ) -> Option<u16>
-    requires table { IsTable module.now text.now table.now }
-    requires at { place.old.pc ≡ module.now.text.start + 2 * k }
-    requires before { place.old.pc ≢ join }
-    requires short { tally.old.cycles < 4294967000 }
-    ensures on { (to : ℕ) → result ≡ Some to → IsStub module.now text.now entries → (branch steps : ℕ) →
-        told (walk (flow_step module.now text.now) module.now text.now branch join (suc steps)
-        (point_at place.old)) tally.old ≡ told
-        (walk (flow_step module.now text.now) module.now text.now branch join steps
-        (point_at place.new)) tally.new }
-    ensures at { IfSome result (λ to. place.new.pc ≡ module.now.text.start + 2 * to) }
-    ensures same_place { result ≡ None → place.new ≡ place.old }
-    ensures same_tally { result ≡ None → tally.new ≡ tally.old }
-    ensures cycles { tally.new.cycles ≤ tally.old.cycles + 255 }
+    requires entry { entry.now ≡ entry_by module.now text.now pc }
+    ensures near { IfSome result (λ next. next ≤ join) }
+    ensures glides { IfSome result (λ next. entry.now.glides ≡ Some next) }
+    ensures done { (next : ℕ) → result ≡ Some next → (insn : Insn) → entry.now.met ≡ Some insn →
+        IsGlided module.now text.now insn pc next label.old label.new told.old told.new }
+    ensures same_label { result ≡ None → label.new ≡ label.old }
+    ensures same_told { result ≡ None → told.new ≡ told.old }
 {
-    let pc = place.pc;
-    let Some(entry) = entry_of(table, usize::from(k)) else {
-        return None;
-    };
-    let Some(next) = entry.glides else {
-        return None;
-    };
-    if next > join {
-        return None;
+    let next = entry.glides?;
+    if next <= join && glide_entry(module, text, entry, pc, next, label, told) {
+        Some(next)
+    } else {
+        None
     }
-    if !glide_entry(
-        module,
-        text,
-        entry,
-        pc,
-        next,
-        &mut place.label,
-        &mut tally.label,
-    ) {
-        return None;
-    }
-    tally.cycles += u32::from(entry.time);
-    place.pc = next;
-    Some(entry.to)
 }
 
 /// The place of an address in the table.
@@ -169,21 +149,22 @@ fn glide_along(
     ensures cycles { tally.new.cycles + 255 * result ≤ tally.old.cycles + 255 * most }
     ensures fewer { result ≤ most }
 {
-    let Some(mut k) = first_place(module, place.pc) else {
+    let Some(k) = first_place(module, place.pc) else {
         return most;
     };
-    let mut left = most;
-    while left > 0 {
-        if place.pc == join {
-            return left;
-        }
-        match glide_on(module, text, table, entries, join, k, place, tally) {
-            Some(to) => k = to,
-            None => return left,
-        }
-        left -= 1;
-    }
-    0
+    let from = Ran { k, left: most };
+    own_along(
+        module,
+        text,
+        room_of(module),
+        table,
+        entries,
+        join,
+        from,
+        place,
+        tally,
+    )
+    .left
 }
 
 /// Whether the instruction at an address may be one of them: only then is it tried.

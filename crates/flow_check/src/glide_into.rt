@@ -18,7 +18,6 @@ use crate::blot::{blot_step, blot_written};
 use crate::effect::{carry_for, low, operate};
 use crate::reach::{extension, increment, writes_destination};
 use crate::registers::{Core, get, move_on};
-use crate::table::Plain;
 use crate::text::read;
 use crate::value::{narrow, plus};
 use flow_rule::{Label, Reach, Val};
@@ -30,12 +29,9 @@ use sm_words::{PC, SR, Width};
 /// How many registers there are.
 const REGISTERS: u8 = 16;
 
-/// The first register without a rule of its own for what is put into it.
-const FIRST_OWN: u8 = 4;
-
 /// The value at an address, where it may be read.
 #[inline(always)]
-fn word_there(
+pub fn word_there(
     module: &Module,
     text: &[u8],
     width: Width,
@@ -186,8 +182,8 @@ fn into(op: TwoOp, width: Width, reg: u8, source: Val, core: &mut Core, told: &m
 }
 
 /// The same of words, with code of its own for each operation.
-#[inline(always)]
-fn into_word(op: TwoOp, reg: u8, source: Val, core: &mut Core, told: &mut Core)
+#[inline(never)]
+pub fn into_word(op: TwoOp, reg: u8, source: Val, core: &mut Core, told: &mut Core)
     ensures core { core.new ≡ (cleared_if (clears_flags op Width.Word (Operand.Reg reg) source)
         (written_val (writes_dst op) (Operand.Reg reg) (two_val op Width.Word source
         (narrow Width.Word (val core.old reg)) (read_if (reads_carry op) (carry_val core.old))) core.old)).core }
@@ -209,33 +205,9 @@ fn into_word(op: TwoOp, reg: u8, source: Val, core: &mut Core, told: &mut Core)
     }
 }
 
-/// The same of words, for the loop alone, so that it is a part of that.
-#[inline(always)]
-fn into_own(op: TwoOp, reg: u8, source: Val, core: &mut Core, told: &mut Core)
-    ensures core { core.new ≡ (cleared_if (clears_flags op Width.Word (Operand.Reg reg) source)
-        (written_val (writes_dst op) (Operand.Reg reg) (two_val op Width.Word source
-        (narrow Width.Word (val core.old reg)) (read_if (reads_carry op) (carry_val core.old))) core.old)).core }
-    ensures told { told.new ≡ blot_core (into_regs op reg) told.old }
-{
-    match op {
-        TwoOp::Mov => into(TwoOp::Mov, Width::Word, reg, source, core, told),
-        TwoOp::Add => into(TwoOp::Add, Width::Word, reg, source, core, told),
-        TwoOp::Addc => into(TwoOp::Addc, Width::Word, reg, source, core, told),
-        TwoOp::Subc => into(TwoOp::Subc, Width::Word, reg, source, core, told),
-        TwoOp::Sub => into(TwoOp::Sub, Width::Word, reg, source, core, told),
-        TwoOp::Cmp => into(TwoOp::Cmp, Width::Word, reg, source, core, told),
-        TwoOp::Dadd => into(TwoOp::Dadd, Width::Word, reg, source, core, told),
-        TwoOp::Bit => into(TwoOp::Bit, Width::Word, reg, source, core, told),
-        TwoOp::Bic => into(TwoOp::Bic, Width::Word, reg, source, core, told),
-        TwoOp::Bis => into(TwoOp::Bis, Width::Word, reg, source, core, told),
-        TwoOp::Xor => into(TwoOp::Xor, Width::Word, reg, source, core, told),
-        TwoOp::And => into(TwoOp::And, Width::Word, reg, source, core, told),
-    }
-}
-
-/// The same of bytes, for one function alone, so that it is a part of that.
-#[inline(always)]
-fn into_byte(op: TwoOp, reg: u8, source: Val, core: &mut Core, told: &mut Core)
+/// The same of bytes.
+#[inline(never)]
+pub fn into_byte(op: TwoOp, reg: u8, source: Val, core: &mut Core, told: &mut Core)
     ensures core { core.new ≡ (cleared_if (clears_flags op Width.Byte (Operand.Reg reg) source)
         (written_val (writes_dst op) (Operand.Reg reg) (two_val op Width.Byte source
         (narrow Width.Byte (val core.old reg)) (read_if (reads_carry op) (carry_val core.old))) core.old)).core }
@@ -265,9 +237,44 @@ fn move_back(core: &mut Core, before: Val)
     core[0] = before;
 }
 
-/// Does an instruction of format I on words into this register, where it has no cause; of another, nothing changes.
-#[inline(always)]
-fn glide_own(
+/// Does an instruction of format I on bytes into any register but PC, where it has no cause; of another, nothing
+/// changes.
+#[inline(never)]
+fn glide_byte(
+    module: &Module,
+    text: &[u8],
+    op: TwoOp,
+    src: &Operand,
+    reg: u8,
+    pc: u16,
+    next: u16,
+    label: &mut Label,
+    told: &mut Label,
+) -> bool
+    requires past { moved_on label.old.core next
+        ≡ past_val (Insn.Two op Width.Byte src.now (Operand.Reg reg)) pc label.old.core }
+    requires even { next % 2 ≡ 0 }
+    requires other { 0 < reg }
+    ensures done { result ≡ true → IsGlided module.now text.now
+        (Insn.Two op Width.Byte src.now (Operand.Reg reg))
+        pc next label.old label.new told.old told.new }
+    ensures same_label { result ≡ false → label.new ≡ label.old }
+    ensures same_told { result ≡ false → told.new ≡ told.old }
+{
+    let before = get(&label.core, 0);
+    move_on(&mut label.core, next);
+    let value = source(module, text, Width::Byte, src, pc, label, &mut told.core);
+    let Some(value) = value else {
+        move_back(&mut label.core, before);
+        return false;
+    };
+    into_byte(op, reg, value, &mut label.core, &mut told.core);
+    true
+}
+
+/// The same of words.
+#[inline(never)]
+fn glide_word(
     module: &Module,
     text: &[u8],
     op: TwoOp,
@@ -282,7 +289,8 @@ fn glide_own(
         ≡ past_val (Insn.Two op Width.Word src.now (Operand.Reg reg)) pc label.old.core }
     requires even { next % 2 ≡ 0 }
     requires other { 0 < reg }
-    ensures done { result ≡ true → IsGlided module.now text.now (Insn.Two op Width.Word src.now (Operand.Reg reg))
+    ensures done { result ≡ true → IsGlided module.now text.now
+        (Insn.Two op Width.Word src.now (Operand.Reg reg))
         pc next label.old label.new told.old told.new }
     ensures same_label { result ≡ false → label.new ≡ label.old }
     ensures same_told { result ≡ false → told.new ≡ told.old }
@@ -294,123 +302,38 @@ fn glide_own(
         move_back(&mut label.core, before);
         return false;
     };
-    into_own(op, reg, value, &mut label.core, &mut told.core);
-    true
-}
-
-/// The same of bytes.
-#[inline(never)]
-fn glide_byte(
-    module: &Module,
-    text: &[u8],
-    plain: &Plain,
-    pc: u16,
-    next: u16,
-    label: &mut Label,
-    told: &mut Label,
-) -> bool
-    requires past { moved_on label.old.core next
-        ≡ past_val (Insn.Two plain.now.op Width.Byte plain.now.src (Operand.Reg plain.now.reg)) pc label.old.core }
-    requires even { next % 2 ≡ 0 }
-    requires other { 0 < plain.now.reg }
-    ensures done { result ≡ true → IsGlided module.now text.now
-        (Insn.Two plain.now.op Width.Byte plain.now.src (Operand.Reg plain.now.reg))
-        pc next label.old label.new told.old told.new }
-    ensures same_label { result ≡ false → label.new ≡ label.old }
-    ensures same_told { result ≡ false → told.new ≡ told.old }
-{
-    let before = get(&label.core, 0);
-    move_on(&mut label.core, next);
-    let value = source(
-        module,
-        text,
-        Width::Byte,
-        &plain.src,
-        pc,
-        label,
-        &mut told.core,
-    );
-    let Some(value) = value else {
-        move_back(&mut label.core, before);
-        return false;
-    };
-    into_byte(plain.op, plain.reg, value, &mut label.core, &mut told.core);
-    true
-}
-
-/// The same of words, into any register but PC.
-#[inline(never)]
-fn glide_word(
-    module: &Module,
-    text: &[u8],
-    plain: &Plain,
-    pc: u16,
-    next: u16,
-    label: &mut Label,
-    told: &mut Label,
-) -> bool
-    requires past { moved_on label.old.core next
-        ≡ past_val (Insn.Two plain.now.op Width.Word plain.now.src (Operand.Reg plain.now.reg)) pc label.old.core }
-    requires even { next % 2 ≡ 0 }
-    requires other { 0 < plain.now.reg }
-    ensures done { result ≡ true → IsGlided module.now text.now
-        (Insn.Two plain.now.op Width.Word plain.now.src (Operand.Reg plain.now.reg))
-        pc next label.old label.new told.old told.new }
-    ensures same_label { result ≡ false → label.new ≡ label.old }
-    ensures same_told { result ≡ false → told.new ≡ told.old }
-{
-    let before = get(&label.core, 0);
-    move_on(&mut label.core, next);
-    let value = source(
-        module,
-        text,
-        Width::Word,
-        &plain.src,
-        pc,
-        label,
-        &mut told.core,
-    );
-    let Some(value) = value else {
-        move_back(&mut label.core, before);
-        return false;
-    };
-    into_word(plain.op, plain.reg, value, &mut label.core, &mut told.core);
+    into_word(op, reg, value, &mut label.core, &mut told.core);
     true
 }
 
 /// Does an operation into a register, where it has no cause; of another, nothing changes.
 #[inline(always)]
-pub fn glide_plain(
+pub fn glide_into(
     module: &Module,
     text: &[u8],
-    plain: &Plain,
+    op: TwoOp,
+    width: Width,
+    src: &Operand,
+    reg: u8,
     pc: u16,
     next: u16,
     label: &mut Label,
     told: &mut Label,
 ) -> bool
     requires past { moved_on label.old.core next
-        ≡ past_val (Insn.Two plain.now.op plain.now.width plain.now.src (Operand.Reg plain.now.reg)) pc label.old.core }
+        ≡ past_val (Insn.Two op width src.now (Operand.Reg reg)) pc label.old.core }
     requires even { next % 2 ≡ 0 }
     ensures done { result ≡ true → IsGlided module.now text.now
-        (Insn.Two plain.now.op plain.now.width plain.now.src (Operand.Reg plain.now.reg))
+        (Insn.Two op width src.now (Operand.Reg reg))
         pc next label.old label.new told.old told.new }
     ensures same_label { result ≡ false → label.new ≡ label.old }
     ensures same_told { result ≡ false → told.new ≡ told.old }
 {
-    if plain.reg == PC || REGISTERS <= plain.reg {
+    if reg == PC || REGISTERS <= reg {
         return false;
     }
-    match plain.width {
-        Width::Byte => glide_byte(module, text, plain, pc, next, label, told),
-        Width::Word => {
-            if FIRST_OWN <= plain.reg {
-                glide_own(
-                    module, text, plain.op, &plain.src, plain.reg, pc, next, label, told,
-                )
-            } else {
-                glide_word(module, text, plain, pc, next, label, told)
-            }
-        }
+    match width {
+        Width::Byte => glide_byte(module, text, op, src, reg, pc, next, label, told),
+        Width::Word => glide_word(module, text, op, src, reg, pc, next, label, told),
     }
 }

@@ -82,13 +82,11 @@ impl Needs {
         }
     }
 
-    /// What an arm of these instructions needs.
-    pub fn of(forms: &[Form]) -> Needs {
-        let mut needs = Needs::NONE;
+    /// Goes back over these instructions.
+    pub fn go_back(&mut self, forms: &[Form]) {
         for form in forms.iter().rev() {
-            needs.back(form);
+            self.back(form);
         }
-        needs
     }
 
     /// What either needs.
@@ -98,6 +96,21 @@ impl Needs {
             needs.0[number] |= other.0[number];
         }
         needs
+    }
+
+    /// Whether the second label has each value of the first that is needed.
+    pub fn are_kept(&self, old: &Label, new: &Label) -> bool {
+        for n in 0..REGISTERS {
+            if self.0[n] && old.core[n] != new.core[n] {
+                return false;
+            }
+        }
+        for n in 0..WORDS {
+            if self.0[usize::from(FIRST_WORD) + n] && old.words[n] != new.words[n] {
+                return false;
+            }
+        }
+        true
     }
 
     /// A label that absorbs this one and has as little in it as is needed.

@@ -1,18 +1,20 @@
 //! What is known of the arms of branches. Values rise from Known to Public and to Secret alone, and what the arms of a
 //! branch do hangs on the values that they need: one walk under a label with little in it serves all that know more.
 
-ghost use Rattle.std.specs.Prelude.{◌≡◌, ◌≢◌, ◌≤◌, ◌<◌, ◌%◌, ◌++◌, suc, take, drop, ℕ, List, IfSome, IfOk, Some, None, true, slice_get, length, All, []};
+ghost use Rattle.std.specs.Prelude.{◌≡◌, ◌≢◌, ◌≤◌, ◌<◌, ◌%◌, ℕ, List, IfSome, IfOk, Some, None, true, slice_get, All, []};
 ghost use Rattle.mod_layout.specs.declared.Module.{Module};
-ghost use Rattle.flow_rule.specs.Absorbs.{Absorbs, laid, overlay};
 ghost use Rattle.flow_check.specs.Causes.{noted};
+ghost use Rattle.flow_check.specs.Frames.{AlikeBut, numbers_of};
 ghost use Rattle.flow_check.specs.Pairs.{IsStub, point_of};
 ghost use Rattle.flow_check.specs.Passages.{crossing_step, blotted, blank, branch_from, answer_of, OpensTo, IsPassage};
 ghost use Rattle.flow_check.specs.declared.passages.Outcome.{Outcome};
 ghost use Rattle.flow_check.specs.Tables.{IsTable};
 
-use crate::arms::{Crossing, walk_arms};
+use crate::arms::{Crossing, is_past_barred, is_taken_barred, walk_arms};
+use crate::listed::{Told, Top, absorbs};
+use crate::needs::Needs;
+use crate::places::Places;
 use crate::returns::Returns;
-use crate::rounds::join_label;
 use crate::scout::Scout;
 use crate::step::Cause;
 use crate::table::Entry;
@@ -26,12 +28,23 @@ use std::alloc::{AllocError, Global};
 const NUMBERS: usize = 256;
 
 /// What the arms of a branch come to.
-#[derive(Clone, Copy)]
+#[derive(Drop)]
 pub enum Answer {
     /// No cause, also under each label that the passage's absorbs. The arms write where this is not Public.
-    Open(Label),
+    Open(Told),
     /// This cause is the least under the passage's label, and there is one under each label that absorbs it.
     Shut(Cause),
+    /// There is a cause under the passage's label and each that absorbs it. Which is the least was not asked.
+    Barred,
+}
+
+/// An arm of a branch that seems to have a cause.
+#[derive(Clone, Copy)]
+enum Suspect {
+    /// The one that the jump does not take.
+    Past,
+    /// The one that it takes.
+    Taken,
 }
 
 /// Whether a branch has no cause in its arms.
@@ -42,13 +55,15 @@ pub enum Outcome {
 }
 
 /// What the arms of a branch come to under a label.
-#[derive(Clone, Copy)]
+#[derive(Drop)]
 pub struct Passage {
     pub branch: u16,
     pub crossing: Crossing,
-    pub label: Label,
+    pub label: Top,
     pub returns: Returns,
     pub answer: Answer,
+    /// What the arm seemed to need that the jump does not take, where that was asked.
+    past: Option<Needs>,
 }
 
 /// The passages that were walked.
@@ -72,12 +87,12 @@ fn blank() -> Label
 }
 
 /// The answer of a walk with this least cause, whose arms wrote so.
-fn answer_of(least: Option<Cause>, told: Label) -> Answer
-    ensures { result ≡ answer_of least told }
+fn answer_of(least: Option<Cause>, told: &Label) -> Answer
+    ensures { result ≡ answer_of least told.now }
 {
     match least {
         Some(cause) => Answer::Shut(cause),
-        None => Answer::Open(told),
+        None => Answer::Open(Told::of(told)),
     }
 }
 
@@ -107,18 +122,70 @@ fn walked(
     Passage {
         branch: pc,
         crossing: *crossing,
-        label: *label,
+        label: Top::of(label),
         returns: *returns,
-        answer: answer_of(least, told),
+        answer: answer_of(least, &told),
+        past: None,
     }
 }
 
-/// Whether joining a label to another changes nothing.
-fn absorbs(top: &Label, label: &Label) -> bool
-    ensures { result ≡ true → Absorbs top.now label.now }
+/// Whether this arm of a branch has a cause by itself.
+fn is_barred(
+    module: &Module,
+    text: &[u8],
+    table: &[Entry],
+    entries: Option<u16>,
+    crossing: &Crossing,
+    suspect: Suspect,
+    pc: u16,
+    label: &Label,
+    returns: &Returns,
+) -> bool
+    requires few { IfSome entries (λ n. n ≤ 64) }
+    requires table { IsTable module.now text.now table.now }
+    ensures { result ≡ true → IsStub module.now text.now entries → (crossing_step module.now text.now crossing.now
+        (point_of pc returns.now label.now)).reasons ≢ [] }
 {
-    let mut joined = *top;
-    !join_label(&mut joined, label)
+    match suspect {
+        Suspect::Past => {
+            is_past_barred(module, text, table, entries, crossing, pc, label, returns)
+        }
+        Suspect::Taken => {
+            is_taken_barred(module, text, table, entries, crossing, pc, label, returns)
+        }
+    }
+}
+
+/// What a walk of one arm tells, where that has a cause.
+fn barred(
+    module: &Module,
+    text: &[u8],
+    table: &[Entry],
+    entries: Option<u16>,
+    crossing: &Crossing,
+    suspect: Suspect,
+    pc: u16,
+    label: &Label,
+    returns: &Returns,
+) -> Option<Passage>
+    requires few { IfSome entries (λ n. n ≤ 64) }
+    requires table { IsTable module.now text.now table.now }
+    ensures { IfSome result (λ p. IsStub module.now text.now entries → IsPassage module.now text.now p) }
+{
+    let found = is_barred(
+        module, text, table, entries, crossing, suspect, pc, label, returns,
+    );
+    if !found {
+        return None;
+    }
+    Some(Passage {
+        branch: pc,
+        crossing: *crossing,
+        label: Top::of(label),
+        returns: *returns,
+        answer: Answer::Barred,
+        past: None,
+    })
 }
 
 /// Whether two labels are the same: each absorbs the other.
@@ -127,49 +194,6 @@ fn is_same_label(one: &Label, other: &Label) -> bool
     ensures { result ≡ true → one.now ≡ other.now }
 {
     absorbs(one, other) && absorbs(other, one)
-}
-
-/// A value, or what is seen through it where it is Public.
-fn laid(told: Val, value: Val) -> Val
-    ensures { result ≡ laid told value }
-{
-    if told == Val::Public { value } else { told }
-}
-
-/// Writes a value, unless it is Public.
-#[tactic(auto, using(crate::proofs::Passing::overlay_step))]
-fn overlay_at(into: &mut [Val], told: &[Val], i: usize)
-    requires here { i < length into.old }
-    requires alike { length told.now ≡ length into.old }
-    ensures length { length into.new ≡ length into.old }
-    ensures step { take i into.old ++ overlay (drop i told.now) (drop i into.old)
-        ≡ take (suc i) into.new ++ overlay (drop (suc i) told.now) (drop (suc i) into.new) }
-{
-    into[i] = laid(told[i], into[i]);
-}
-
-/// Writes the values that are not Public.
-#[tactic(auto, using(crate::proofs::Passing::overlay_end))]
-fn overlay(into: &mut [Val], told: &[Val])
-    requires { length told.now ≡ length into.old }
-    ensures { into.new ≡ overlay told.now into.old }
-{
-    for i in 0..into.len() {
-        overlay_at(into, told, i);
-    }
-}
-
-/// Writes what the arms of a branch wrote.
-fn overlay_label(label: &mut Label, told: &Label)
-    ensures laid { label.new ≡ record {
-      core = overlay told.now.core label.old.core;
-      words = overlay told.now.words label.old.words;
-    } }
-    ensures core { length label.old.core ≡ 16 }
-    ensures words { length label.old.words ≡ 256 }
-{
-    overlay(&mut label.core, &told.core);
-    overlay(&mut label.words, &told.words);
 }
 
 /// Walks the arms of a branch under its label, and writes what they write where there is no cause.
@@ -182,6 +206,7 @@ fn crossed(
     pc: u16,
     label: &mut Label,
     returns: &Returns,
+    written: &mut Places,
 ) -> Outcome
     requires few { IfSome entries (λ n. n ≤ 64) }
     requires table { IsTable module.now text.now table.now }
@@ -189,15 +214,17 @@ fn crossed(
         OpensTo module.now text.now crossing.now (branch_from pc returns label.old) label.new }
     ensures shut { result ≡ Outcome.Shut → IsStub module.now text.now entries → (returns : List ℕ) →
         (crossing_step module.now text.now crossing.now (branch_from pc returns label.old)).reasons ≢ [] }
+    ensures frame { result ≡ Outcome.Open → AlikeBut (numbers_of written.new) label.old.words label.new.words }
 {
     arms_rest();
     let passage = walked(module, text, table, entries, crossing, pc, label, returns);
-    match passage.answer {
+    match &passage.answer {
         Answer::Open(told) => {
-            overlay_label(label, &told);
+            told.lay(label, written);
             Outcome::Open
         }
         Answer::Shut(_) => Outcome::Shut,
+        Answer::Barred => Outcome::Shut,
     }
 }
 
@@ -256,9 +283,9 @@ fn number(branch: u16) -> usize
 
 /// Whether a passage is open.
 fn is_open(passage: &Passage) -> bool {
-    match passage.answer {
+    match &passage.answer {
         Answer::Open(_) => true,
-        Answer::Shut(_) => false,
+        Answer::Shut(_) | Answer::Barred => false,
     }
 }
 
@@ -279,14 +306,46 @@ fn learned(
     requires table { IsTable module.now text.now table.now }
     ensures { IsStub module.now text.now entries → IsPassage module.now text.now result }
 {
-    if let Some(needs) = scout.needs(module, text, table, entries, crossing, pc, label) {
-        let top = needs.least(label);
+    if let Some((past, taken)) = scout.needs(module, text, table, entries, crossing, pc, label) {
+        let top = past.or(&taken).least(label);
         let passage = walked(module, text, table, entries, crossing, pc, &top, returns);
         if is_open(&passage) {
-            return passage;
+            return Passage {
+                past: Some(past),
+                ..passage
+            };
         }
     }
     walked(module, text, table, entries, crossing, pc, label, returns)
+}
+
+/// The same, where an arm may have a cause: then one may be enough.
+fn learned_anew(
+    module: &Module,
+    text: &[u8],
+    table: &[Entry],
+    entries: Option<u16>,
+    crossing: &Crossing,
+    scout: &mut Scout,
+    suspect: Option<Suspect>,
+    pc: u16,
+    label: &Label,
+    returns: &Returns,
+) -> Passage
+    requires few { IfSome entries (λ n. n ≤ 64) }
+    requires table { IsTable module.now text.now table.now }
+    ensures { IsStub module.now text.now entries → IsPassage module.now text.now result }
+{
+    if let Some(suspect) = suspect
+        && let Some(passage) = barred(
+            module, text, table, entries, crossing, suspect, pc, label, returns,
+        )
+    {
+        return passage;
+    }
+    learned(
+        module, text, table, entries, crossing, scout, pc, label, returns,
+    )
 }
 
 impl Passages {
@@ -302,15 +361,15 @@ impl Passages {
     }
 
     /// The passage there, if it is of this branch.
-    fn at(&self, place: usize, crossing: &Crossing, pc: u16) -> Option<Passage>
-        ensures branch { IfSome result (λ p. p.branch ≡ pc) }
-        ensures crossing { IfSome result (λ p. p.crossing ≡ crossing.now) }
-        ensures there { IfSome result (λ p. slice_get self.now.list.items place ≡ Some p) }
+    fn at(&self, place: usize, crossing: &Crossing, pc: u16) -> Option<&Passage>
+        ensures branch { IfSome result (λ p. p.now.branch ≡ pc) }
+        ensures crossing { IfSome result (λ p. p.now.crossing ≡ crossing.now) }
+        ensures there { IfSome result (λ p. slice_get self.now.list.items place ≡ Some p.now) }
     {
         match self.list.get(place) {
             Some(passage) => {
                 if passage.branch == pc && is_same(&passage.crossing, crossing) {
-                    Some(*passage)
+                    Some(passage)
                 } else {
                     None
                 }
@@ -331,6 +390,7 @@ impl Passages {
         crossing: &Crossing,
         pc: u16,
         label: &mut Label,
+        written: &mut Places,
     ) -> Option<Outcome>
         ensures open { result ≡ Some Outcome.Open → (m : Module) (text returns : List ℕ) → m.text.start % 2 ≡ 0 →
             All (IsPassage m text) self.now.list.items →
@@ -339,22 +399,31 @@ impl Passages {
             All (IsPassage m text) self.now.list.items →
             (crossing_step m text crossing.now (branch_from pc returns label.old)).reasons ≢ [] }
         ensures silent { result ≡ None → label.new ≡ label.old }
+        ensures frame { result ≡ Some Outcome.Open →
+            AlikeBut (numbers_of written.new) label.old.words label.new.words }
     {
         arms_rest();
         let Some(passage) = self.at(place, crossing, pc) else {
             return None;
         };
-        match passage.answer {
+        match &passage.answer {
             Answer::Open(told) => {
-                if absorbs(&passage.label, label) {
-                    overlay_label(label, &told);
+                if passage.label.absorbs(label) {
+                    told.lay(label, written);
                     Some(Outcome::Open)
                 } else {
                     None
                 }
             }
             Answer::Shut(_) => {
-                if absorbs(label, &passage.label) {
+                if absorbs(label, passage.label.label()) {
+                    Some(Outcome::Shut)
+                } else {
+                    None
+                }
+            }
+            Answer::Barred => {
+                if absorbs(label, passage.label.label()) {
                     Some(Outcome::Shut)
                 } else {
                     None
@@ -370,6 +439,7 @@ impl Passages {
         crossing: &Crossing,
         pc: u16,
         label: &mut Label,
+        written: &mut Places,
     ) -> Option<Outcome>
         ensures open { result ≡ Some Outcome.Open → (m : Module) (text returns : List ℕ) → m.text.start % 2 ≡ 0 →
             All (IsPassage m text) self.now.list.items →
@@ -378,13 +448,27 @@ impl Passages {
             All (IsPassage m text) self.now.list.items →
             (crossing_step m text crossing.now (branch_from pc returns label.old)).reasons ≢ [] }
         ensures silent { result ≡ None → label.new ≡ label.old }
+        ensures frame { result ≡ Some Outcome.Open →
+            AlikeBut (numbers_of written.new) label.old.words label.new.words }
     {
         if let Some(place) = own
-            && let Some(outcome) = self.answer(place, crossing, pc, label)
+            && let Some(outcome) = self.answer(place, crossing, pc, label, written)
         {
             return Some(outcome);
         }
-        self.answer(self.newest_of(pc), crossing, pc, label)
+        self.answer(self.newest_of(pc), crossing, pc, label, written)
+    }
+
+    /// Which arm seems to have a cause under a label, where a pair's own passage is open under one that does not absorb
+    /// it.
+    fn suspect(&self, own: Option<usize>, label: &Label) -> Option<Suspect> {
+        let passage = self.list.get(own?)?;
+        let past = passage.past.as_ref()?;
+        if past.are_kept(passage.label.label(), label) {
+            Some(Suspect::Taken)
+        } else {
+            Some(Suspect::Past)
+        }
     }
 
     /// A pair's own place, or else a new one.
@@ -401,12 +485,14 @@ impl Passages {
             All (IsPassage m text) self.old.list.items → All (IsPassage m text) self.new.list.items) }
     {
         let place = self.place_for(own);
+        let branch = passage.branch;
         put(&mut self.list, place, passage)?;
-        self.newest[number(passage.branch)] = place;
+        self.newest[number(branch)] = place;
         Ok(place)
     }
 
-    /// Whether a branch has no cause under its label. Where it has none, its arms then write.
+    /// Whether a branch has no cause under its label. Where it has none, its arms then write, and it is told at which
+    /// places.
     pub fn cross(
         &mut self,
         module: &Module,
@@ -418,40 +504,48 @@ impl Passages {
         pc: u16,
         label: &mut Label,
         returns: &Returns,
+        written: &mut Places,
     ) -> Result<Outcome, AllocError>
         requires few { IfSome entries (λ n. n ≤ 64) }
         requires table { IsTable module.now text.now table.now }
         requires passages { IsStub module.now text.now entries →
             All (IsPassage module.now text.now) self.old.list.items }
+        requires unwritten { numbers_of written.old ≡ [] }
         ensures open { IfOk result (λ outcome. outcome ≡ Outcome.Open → IsStub module.now text.now entries →
             (returns : List ℕ) → OpensTo module.now text.now crossing.now
             (branch_from pc returns label.old) label.new) }
         ensures shut { IfOk result (λ outcome. outcome ≡ Outcome.Shut → IsStub module.now text.now entries →
             (returns : List ℕ) → (crossing_step module.now text.now crossing.now
             (branch_from pc returns label.old)).reasons ≢ []) }
+        ensures frame { IfOk result (λ outcome. outcome ≡ Outcome.Open →
+            AlikeBut (numbers_of written.new) label.old.words label.new.words) }
         ensures passages { IfOk result (λ _. IsStub module.now text.now entries →
             All (IsPassage module.now text.now) self.new.list.items) }
     {
-        if let Some(outcome) = self.known(*own, crossing, pc, label) {
+        if let Some(outcome) = self.known(*own, crossing, pc, label, written) {
             return Ok(outcome);
         }
-        let passage = learned(
+        let suspect = self.suspect(*own, label);
+        let passage = learned_anew(
             module,
             text,
             table,
             entries,
             crossing,
             &mut self.scout,
+            suspect,
             pc,
             label,
             returns,
         );
         let place = self.keep(*own, passage)?;
         *own = Some(place);
-        if let Some(outcome) = self.answer(place, crossing, pc, label) {
+        if let Some(outcome) = self.answer(place, crossing, pc, label, written) {
             return Ok(outcome);
         }
-        Ok(crossed(module, text, table, entries, crossing, pc, label, returns))
+        Ok(crossed(
+            module, text, table, entries, crossing, pc, label, returns, written,
+        ))
     }
 
     /// Whether it is known that a branch has no cause under its label.
@@ -461,7 +555,8 @@ impl Passages {
             (crossing_step m text crossing.now (branch_from pc returns label.now)).reasons ≡ [] }
     {
         let mut label = *label;
-        match self.known(own, crossing, pc, &mut label) {
+        let mut written = Places::new();
+        match self.known(own, crossing, pc, &mut label, &mut written) {
             Some(Outcome::Open) => true,
             Some(Outcome::Shut) | None => false,
         }
@@ -487,15 +582,15 @@ impl Passages {
         let Some(passage) = self.at(place, crossing, pc) else {
             return None;
         };
-        match passage.answer {
+        match &passage.answer {
             Answer::Shut(cause) => {
-                if is_same_label(&passage.label, label) && passage.returns.same(returns) {
-                    Some(cause)
+                if is_same_label(passage.label.label(), label) && passage.returns.same(returns) {
+                    Some(*cause)
                 } else {
                     None
                 }
             }
-            Answer::Open(_) => None,
+            Answer::Open(_) | Answer::Barred => None,
         }
     }
 }

@@ -1,5 +1,6 @@
 //! What goes before the walks: both arms of a branch are followed with numbers alone, to see which values of its label
-//! they need. The way of an arm is the same under each label, so it is found once for the branch that is asked for.
+//! they need. Where an arm goes on from a place hangs on the place alone, so arms that meet have one way from there on: one
+//! way is kept, the road, with the forms along it side by side, and of another arm only what comes before it meets that.
 
 use crate::arms::Crossing;
 use crate::course::Course;
@@ -17,15 +18,6 @@ const NOWHERE: u16 = 65535;
 /// More places than a text has. An arm goes up, so it takes fewer steps.
 const MOST_STEPS: u32 = 65536;
 
-/// A branch with its certificate.
-#[derive(Clone, Copy, PartialEq, Eq)]
-struct Branch {
-    pc: u16,
-    target: u16,
-    join: u16,
-    cycles: u16,
-}
-
 /// What is met at a place of the text, and at which place an arm goes on.
 #[derive(Clone, Copy)]
 struct Spot {
@@ -35,18 +27,35 @@ struct Spot {
     next: u16,
 }
 
+/// Where a place is on a road, and the time from the road's start to there.
+#[derive(Clone, Copy)]
+struct Milestone {
+    road: u32,
+    at: usize,
+    time: u32,
+}
+
+/// The part of the road that an arm goes along, and the arm's time.
+#[derive(Clone, Copy)]
+struct Stretch {
+    from: usize,
+    to: usize,
+    time: u32,
+}
+
 /// Goes along the arms of a branch with numbers alone.
 #[derive(Drop)]
 pub struct Scout {
     /// The text's places, once they are asked for.
     spots: Vec<Spot>,
-    /// The branch that was asked for last.
-    branch: Option<Branch>,
-    /// The forms along its arms.
-    first: Vec<Form>,
-    second: Vec<Form>,
-    /// Whether both arms come to the join in the certificate's time.
-    is_balanced: bool,
+    /// Where each of them is on the road, if its milestone has the road's number.
+    milestones: Vec<Milestone>,
+    /// The number of the road, which is not 0.
+    number: u32,
+    /// The forms along the road.
+    road: Vec<Form>,
+    /// The forms of an arm before it meets the road.
+    lane: Vec<Form>,
 }
 
 /// The place of an address in the text.
@@ -84,88 +93,148 @@ fn spot_of(module: &Module, has_stub: bool, entry: &Entry, pc: u16) -> Spot {
     }
 }
 
-/// Keeps the forms along an arm between two places, up to the last that has an address, and tells the arm's time. None
-/// where the arm does not come to its end, or memory runs out.
-fn lay(arm: &mut Vec<Form>, spots: &[Spot], start: u16, join: u16) -> Option<u32> {
-    arm.clear();
-    let mut place = start;
-    let mut time: u32 = 0;
-    let mut end = 0;
-    for _ in 0..MOST_STEPS {
-        if place == join {
-            arm.truncate(end);
-            return Some(time);
-        }
-        if place > join {
-            return None;
-        }
-        let spot = spots.get(usize::from(place))?;
-        if !spot.is_idle {
-            arm.push(spot.form).ok()?;
-        }
-        if spot.form.reaches {
-            end = arm.len();
-        }
-        time = time.wrapping_add(u32::from(spot.time));
-        place = spot.next;
-    }
-    None
-}
-
-/// What an arm needs of a label, where it has no cause under it.
-fn needs_of(module: &Module, text: &[u8], label: &Label, arm: &mut Vec<Form>) -> Option<Needs> {
-    if arm.is_empty() {
-        return Some(Needs::NONE);
-    }
-    if !Course::start(label).run(module, text, arm.as_mut_slice()) {
-        return None;
-    }
-    Some(Needs::of(arm.as_slice()))
-}
-
 impl Scout {
     /// Nothing is seen so far.
     pub fn new(alloc: Global) -> Scout {
         Scout {
             spots: Vec::new(alloc),
-            branch: None,
-            first: Vec::new(alloc),
-            second: Vec::new(alloc),
-            is_balanced: false,
+            milestones: Vec::new(alloc),
+            number: 1,
+            road: Vec::new(alloc),
+            lane: Vec::new(alloc),
         }
     }
 
     /// Reads the text's places; fewer, where memory runs out.
     fn read(&mut self, module: &Module, table: &[Entry], has_stub: bool) {
         self.spots.clear();
+        self.milestones.clear();
+        let none = Milestone {
+            road: 0,
+            at: 0,
+            time: 0,
+        };
         let mut pc = module.text.start;
         for entry in table {
             let spot = spot_of(module, has_stub, entry, pc);
-            if self.spots.push(spot).is_err() {
+            if self.milestones.push(none).is_err() || self.spots.push(spot).is_err() {
                 return;
             }
             pc = pc.wrapping_add(2);
         }
     }
 
-    /// Finds the ways of a branch's arms.
-    fn find(&mut self, module: &Module, table: &[Entry], has_stub: bool, branch: &Branch) {
-        if self.spots.len() != table.len() {
-            self.read(module, table, has_stub);
+    /// Makes the way from a place on the road, as far as it goes.
+    fn lay_road(&mut self, start: u16) -> Option<()> {
+        self.road.clear();
+        self.number = self.number.wrapping_add(1);
+        let mut place = start;
+        let mut time: u32 = 0;
+        for _ in 0..MOST_STEPS {
+            let spot = self.spots.get(usize::from(place))?;
+            *self.milestones.get_mut(usize::from(place))? = Milestone {
+                road: self.number,
+                at: self.road.len(),
+                time,
+            };
+            if !spot.is_idle {
+                self.road.push(spot.form).ok()?;
+            }
+            time = time.wrapping_add(u32::from(spot.time));
+            place = spot.next;
         }
-        let spots = self.spots.as_slice();
-        let join = place(module, branch.join);
-        let start = place(module, branch.pc.wrapping_add(2));
-        let first = lay(&mut self.first, spots, start, join);
-        let target = place(module, branch.target);
-        let second = lay(&mut self.second, spots, target, join);
-        let time = Some(u32::from(branch.cycles));
-        let meets = module.text.holds(usize::from(branch.join));
-        self.is_balanced = meets && first == time && second == time;
-        self.branch = Some(*branch);
+        None
     }
 
-    /// Which values of a branch's label its arms need, where they seem to have no cause.
+    /// Where a place is on the road, if it is there.
+    fn milestone(&self, place: u16) -> Option<Milestone> {
+        let stone = *self.milestones.get(usize::from(place))?;
+        if stone.road == self.number {
+            Some(stone)
+        } else {
+            None
+        }
+    }
+
+    /// The part of the road between two places of it, to which an arm comes after this time.
+    fn stretch(&self, from: &Milestone, join: u16, time: u32) -> Option<Stretch> {
+        let to = self.milestone(join)?;
+        Some(Stretch {
+            from: from.at,
+            to: to.at,
+            time: time.wrapping_add(to.time.wrapping_sub(from.time)),
+        })
+    }
+
+    /// Keeps the forms of an arm up to where it meets the road, and tells how it goes on. None where it does not come to
+    /// the join, or memory runs out.
+    fn lay_lane(&mut self, start: u16, join: u16) -> Option<Stretch> {
+        self.lane.clear();
+        let mut place = start;
+        let mut time: u32 = 0;
+        for _ in 0..MOST_STEPS {
+            if let Some(stone) = self.milestone(place) {
+                return self.stretch(&stone, join, time);
+            }
+            if place >= join {
+                break;
+            }
+            let spot = self.spots.get(usize::from(place))?;
+            if !spot.is_idle {
+                self.lane.push(spot.form).ok()?;
+            }
+            time = time.wrapping_add(u32::from(spot.time));
+            place = spot.next;
+        }
+        if place == join {
+            Some(Stretch {
+                from: 0,
+                to: 0,
+                time,
+            })
+        } else {
+            None
+        }
+    }
+
+    /// The same, where a longer arm that does not meet the road becomes the road.
+    fn find(&mut self, start: u16, join: u16) -> Option<Stretch> {
+        let found = self.lay_lane(start, join)?;
+        if self.lane.len() <= self.road.len() {
+            return Some(found);
+        }
+        let _ = self.lay_road(start);
+        self.lay_lane(start, join)
+    }
+
+    /// What an arm needs of a label, where it seems to have no cause under it and takes this time.
+    fn needs_of(
+        &mut self,
+        module: &Module,
+        text: &[u8],
+        label: &Label,
+        start: u16,
+        join: u16,
+        cycles: u16,
+    ) -> Option<Needs> {
+        let stretch = self.find(start, join)?;
+        if stretch.time != u32::from(cycles) {
+            return None;
+        }
+        let lane = self.lane.as_mut_slice();
+        let road = self.road.as_mut_slice().get_mut(stretch.from..stretch.to)?;
+        let mut course = Course::start(module, label);
+        if !course.run(module, text, lane) || !course.run(module, text, road) {
+            return None;
+        }
+        let mut needs = Needs::NONE;
+        needs.go_back(road);
+        needs.go_back(lane);
+        Some(needs)
+    }
+
+    /// Which values of a branch's label the arm needs that the jump does not take, and which the other, where they seem
+    /// to have no cause.
     pub fn needs(
         &mut self,
         module: &Module,
@@ -175,21 +244,19 @@ impl Scout {
         crossing: &Crossing,
         pc: u16,
         label: &Label,
-    ) -> Option<Needs> {
-        let branch = Branch {
-            pc,
-            target: crossing.target,
-            join: crossing.arm.join,
-            cycles: crossing.arm.cycles,
-        };
-        if self.branch != Some(branch) {
-            self.find(module, table, entries.is_some(), &branch);
-        }
-        if !self.is_balanced {
+    ) -> Option<(Needs, Needs)> {
+        let arm = &crossing.arm;
+        if !module.text.holds(usize::from(arm.join)) {
             return None;
         }
-        let first = needs_of(module, text, label, &mut self.first)?;
-        let second = needs_of(module, text, label, &mut self.second)?;
-        Some(first.or(&second))
+        if self.spots.len() != table.len() {
+            self.read(module, table, entries.is_some());
+        }
+        let join = place(module, arm.join);
+        let past = place(module, pc.wrapping_add(2));
+        let taken = place(module, crossing.target);
+        let first = self.needs_of(module, text, label, past, join, arm.cycles)?;
+        let second = self.needs_of(module, text, label, taken, join, arm.cycles)?;
+        Some((first, second))
     }
 }

@@ -6,6 +6,7 @@ ghost use Rattle.flow_rule.specs.Rounds.{given_by};
 ghost use Rattle.flow_rule.specs.Arms.{flow_with};
 ghost use Rattle.flow_check.specs.declared.step.Cause.{Cause};
 ghost use Rattle.flow_check.specs.Causes.{noted};
+ghost use Rattle.flow_check.specs.Frames.{AlikeBut, numbers_of};
 ghost use Rattle.flow_check.specs.Pairs.{IsStub, addrs_of, point_of};
 ghost use Rattle.flow_check.specs.Steps.{GivesAlike};
 ghost use Rattle.flow_check.specs.Passages.{crossing_step, IsPassage};
@@ -42,6 +43,7 @@ pub fn step_with(
     requires none { array_vec_len stepped.old.targets ≡ 0 }
     requires empty { stepped.old.targets.items ≡ [] }
     requires calm { stepped.old.least ≡ None }
+    requires unwritten { numbers_of stepped.old.written ≡ [] }
     ensures calm { IfOk result (λ _. stepped.new.least ≡ None → IsStub module.now text.now entries →
         (flow_with module.now text.now arms.now (point_of pc stepped.old.returns label.old)).reasons ≡ []) }
     ensures stirred { IfOk result (λ _. (c : Cause) → stepped.new.least ≡ Some c →
@@ -53,6 +55,8 @@ pub fn step_with(
     ensures gives { IfOk result (λ _. stepped.new.least ≡ None → IsStub module.now text.now entries →
         GivesAlike (flow_with module.now text.now arms.now
         (point_of pc stepped.old.returns label.old)) stepped.new.returns label.new) }
+    ensures frame { IfOk result (λ _. stepped.new.least ≡ None →
+        AlikeBut (numbers_of stepped.new.written) label.old.words label.new.words) }
     ensures passages { IfOk result (λ _. IsStub module.now text.now entries →
         All (IsPassage module.now text.now) passages.new.list.items) }
 {
@@ -68,6 +72,7 @@ pub fn step_with(
                 pc,
                 label,
                 &stepped.returns,
+                &mut stepped.written,
             )? {
                 Outcome::Open => stepped.targets.push(crossing.arm.join),
                 Outcome::Shut => note(&mut stepped.least, Reason::Arm, pc),

@@ -7,14 +7,14 @@ ghost use Rattle.insn_decode.specs.Code.{IsDecoded};
 ghost use Rattle.mod_layout.specs.Tables.{IsSection};
 ghost use Rattle.arm_balance.specs.Met.{met};
 ghost use Rattle.arm_balance.specs.Balance.{arm_on, arm_next};
-ghost use Rattle.flow_check.specs.Tables.{time_of, is_deep, is_aligned, place_of, plain_of, glides_by, entry_by, IsTable};
+ghost use Rattle.flow_check.specs.Tables.{time_of, is_deep, is_aligned, place_of, is_other, is_apart, own_if, plain_by, glides_by, entry_by, IsTable};
 
 use crate::stub::word_number;
 use arm_balance::{arm_next, met};
 use cycle_table::cycles;
 use insn_decode::{Insn, Operand, TwoOp};
 use mod_layout::Module;
-use sm_words::Width;
+use sm_words::{SR, Width};
 use std::alloc::{AllocError, Global};
 
 /// The last address.
@@ -23,13 +23,30 @@ const LAST: u16 = 65535;
 /// The last word of a stub that is met from the stub alone.
 const LAST_SHUT: u16 = 37;
 
-/// An operation into a register.
+/// The first register after PC.
+const FIRST_OTHER: u8 = 1;
+
+/// How many registers there are.
+const REGISTERS: u8 = 16;
+
+/// An operation into a register but PC, from a source that PC is no part of, that goes on at an address.
 #[derive(Clone, Copy)]
-pub struct Plain {
+pub struct Own {
     pub op: TwoOp,
-    pub width: Width,
     pub src: Operand,
     pub reg: u8,
+    pub next: u16,
+}
+
+/// The form of an instruction that goes on.
+#[derive(Clone, Copy)]
+pub enum Plain {
+    /// Such an operation on words.
+    Words(Own),
+    /// The same on bytes.
+    Bytes(Own),
+    /// Any other, or none.
+    Other,
 }
 
 /// The instruction at an address, and its cycles; of a unit instruction 0.
@@ -43,8 +60,8 @@ pub struct Entry {
     pub glides: Option<u16>,
     /// The place of that in the table.
     pub to: u16,
-    /// The same instruction, if it is an operation into a register.
-    pub plain: Option<Plain>,
+    /// The form of the same instruction.
+    pub plain: Plain,
 }
 
 /// The cycles of an instruction.
@@ -86,9 +103,41 @@ fn place_of(module: &Module, next: Option<u16>) -> u16
     }
 }
 
-/// An instruction as a plain one, if it is that.
-fn plain_of(met: &Option<Insn>) -> Option<Plain>
-    ensures { result ≡ plain_of met.now }
+/// Whether a register is one but PC.
+fn is_other(reg: u8) -> bool
+    ensures { result ≡ is_other reg }
+{
+    0 < reg && reg < REGISTERS
+}
+
+/// Whether PC is no part of a source, whose increment leaves the flags as they are.
+fn is_apart(src: Operand) -> bool
+    ensures { result ≡ is_apart src }
+{
+    match src {
+        Operand::Reg(reg) => is_other(reg),
+        Operand::Indexed { reg, .. } => is_other(reg),
+        Operand::Indirect(reg) => is_other(reg),
+        Operand::Increment(reg) => is_other(reg) && reg != SR,
+        Operand::Symbolic(_) | Operand::Absolute(_) => true,
+        Operand::Const(_) | Operand::Imm(_) => true,
+    }
+}
+
+/// An operation of a width, if it is such a one.
+fn own_if(is_own: bool, width: Width, own: Own) -> Plain
+    ensures { result ≡ own_if is_own width own }
+{
+    match (is_own, width) {
+        (true, Width::Word) => Plain::Words(own),
+        (true, Width::Byte) => Plain::Bytes(own),
+        (false, _) => Plain::Other,
+    }
+}
+
+/// The form of an instruction that goes on at an address.
+fn form_of(met: &Option<Insn>, next: u16) -> Plain
+    ensures { result ≡ plain_by (Some next) met.now }
 {
     match *met {
         Some(
@@ -98,13 +147,25 @@ fn plain_of(met: &Option<Insn>) -> Option<Plain>
                 src,
                 dst: Operand::Reg(reg),
             },
-        ) => Some(Plain {
-            op,
-            width,
-            src,
-            reg,
-        }),
-        _ => None,
+        ) => {
+            let own = Own { op, src, reg, next };
+            own_if(
+                FIRST_OTHER <= reg && reg < REGISTERS && is_apart(src),
+                width,
+                own,
+            )
+        }
+        _ => Plain::Other,
+    }
+}
+
+/// The form of an instruction, if it goes on.
+fn plain_of(glides: Option<u16>, met: &Option<Insn>) -> Plain
+    ensures { result ≡ plain_by glides met.now }
+{
+    match glides {
+        Some(next) => form_of(met, next),
+        None => Plain::Other,
     }
 }
 
@@ -137,13 +198,14 @@ fn entry_for(module: &Module, text: &[u8], pc: u16) -> Entry
         Some(insn) => arm_next(&insn, pc, LAST),
         None => None,
     };
+    let glides = glides_of(module, pc, next);
     Entry {
         met,
         time,
         next,
-        glides: glides_of(module, pc, next),
+        glides,
         to: place_of(module, next),
-        plain: plain_of(&met),
+        plain: plain_of(glides, &met),
     }
 }
 

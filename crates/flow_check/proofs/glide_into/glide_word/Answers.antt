@@ -4,7 +4,7 @@ use Rattle.flow_check.proofs.glide_into.glide_word.Goals as goal
 
 pub returns-clause-done : goal.returns-clause-done
 returns-clause-done c = λ _.
-    into_glided c.args.module.now c.args.text.now c.args.pc c.args.next c.args.label.now c.args.plain.now.op Word c.args.plain.now.src c.args.plain.now.reg c.in-Some.value
+    into_glided c.args.module.now c.args.text.now c.args.pc c.args.next c.args.label.now c.args.op Word c.args.src.now c.args.reg c.in-Some.value
     c.move_on.new.core c.into_word.new.core c.source-value.new.label c.args.told.now c.source-value.new.told c.into_word.new.told
     c.requires.past c.requires.other c.move_on.ensures.moved c.move_on.ensures.there c.in-Some.ensures.source (c.source-value.ensures.stepped c.in-Some.value c.in-Some.is)
     c.into_word.ensures.core (c.source-value.ensures.told c.in-Some.value c.in-Some.is) c.into_word.ensures.told

@@ -1,4 +1,6 @@
 use Rattle.std.proofs.Common.{sym, subst}
+use Rattle.flow_rule.specs.declared.Label.{Label}
+use Rattle.flow_rule.specs.Rounds.{Point}
 use Rattle.flow_check.specs.Pairs.{point_of}
 use Rattle.flow_check.specs.Passages.{ComesTo}
 use Rattle.flow_check.proofs.Passing.{walked_tells}
@@ -6,6 +8,10 @@ use Rattle.flow_check.proofs.passages.walked.Goals as goal
 
 pub returns-clause-is : goal.returns-clause-is
 returns-clause-is c = λ stub.
-    subst (ComesTo c.args.module.now c.args.text.now c.args.crossing.now (point_of c.args.pc c.args.returns.now c.args.label.now)) (sym c.answer_of.ensures)
-    (walked_tells c.args.module.now c.args.text.now c.args.crossing.now c.args.pc c.args.returns.now c.args.label.now c.blank-told.result c.walk_arms.new.told c.walk_arms.new.least c.blank-told.ensures
-    (c.walk_arms.ensures.least stub) (c.walk_arms.ensures.told stub))
+    let m = c.args.module.now in
+    let text = c.args.text.now in
+    let branch : Label → Point = λ l. point_of c.args.pc c.args.returns.now l in
+    subst (λ l. ComesTo m text c.args.crossing.now (branch l) c.answer_of.result) (sym c.of.ensures)
+    (subst (ComesTo m text c.args.crossing.now (branch c.args.label.now)) (sym c.answer_of.ensures)
+    (walked_tells m text c.args.crossing.now c.args.pc c.args.returns.now c.args.label.now c.blank-told.result c.walk_arms.new.told c.walk_arms.new.least c.blank-told.ensures
+    (c.walk_arms.ensures.least stub) (c.walk_arms.ensures.told stub)))
