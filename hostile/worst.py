@@ -45,6 +45,28 @@ def slow_to_check(count, others):
     return image_with(code, text, f"module 0007 {text:04x} {text + len(code):04x} {data:04x} {data + 512:04x}\n")
 
 
+SECRET = 0x206
+
+
+def rising_twice(data, count):
+    """What sets so many data words and two more to 0, and a turn in which each of them becomes the next, so that they become less known one a turn,
+    and once more: the first is counted up, and a longer way round brings it a secret, which follows 60 instructions behind."""
+    late, public = data + 2 * count, data + 0x1FC
+    before = b"".join(words(0x4382, data + 2 * k) for k in range(count + 1)) + words(0x4382, public)
+    turn = b"".join(words(0x4292, data + 2 * k, data + 2 * k + 2) for k in range(count - 2, -1, -1))
+    longer = words(0x4303) * 60 + words(0x4292, data + SECRET, late)
+    return before, turn + words(0x5392, data, 0x5292, late, data, 0x9382, public, 0x2000 | len(longer) // 2) + longer
+
+
+def slow_to_check_twice(count, others):
+    """The same where each word becomes less known twice."""
+    text, data = 0x0300, 0xF000
+    code, turn = rising_twice(data, count)
+    loop = text + len(code)
+    code += turn + words(0x4404) * others + words(0x4030, loop)
+    return image_with(code, text, f"module 0007 {text:04x} {text + len(code):04x} {data:04x} {data + 1024:04x}\n")
+
+
 CALLS = 72
 
 
@@ -67,10 +89,10 @@ def slow_to_balance(nops):
     return met_often(0x0300, 0xF000, words(0x4303) * nops, nops)
 
 
-def balance_that_rises(nops, count=250):
-    """The same in a loop in which so many data words become less known, one a turn."""
+def balance_that_rises(nops, count=240):
+    """The same in a loop in which so many data words become less known, one a turn, each twice."""
     data = 0xF000
-    before, again = rising(data, count)
+    before, again = rising_twice(data, count)
     return met_often(0x0300, data, words(0x4303) * nops, nops, before, again)
 
 
@@ -122,35 +144,42 @@ def rising(data, count):
 
 
 def balance_of_addresses_that_rises(count, insn, cycles):
-    """As `balance_of_addresses`, in a loop in which so many other data words rise one a turn. R4 is the address of a word that does not."""
+    """As `balance_of_addresses`, in a loop in which so many other data words rise one a turn, each twice. R4 is the address of a word that does not."""
     data = 0xF000
-    before, again = rising(data, RISING)
+    before, again = rising_twice(data, RISING)
     arm = words(0x4125, 0x4116, 2, 0x5605) + words(insn) * count + words(0xF035, 0x00FE, 0x5035, data, 0x4527, 0x4305, 0x4307)
-    return met_often(0x0300, data, arm, 2 + 3 + 1 + cycles * count + 2 + 2 + 2 + 1 + 1, words(0x4034, data + 0x1F6, 0x4384, 0) + before, again)
+    return met_often(0x0300, data, arm, 2 + 3 + 1 + cycles * count + 2 + 2 + 2 + 1 + 1, words(0x4034, data + 0x1F8, 0x4384, 0) + before, again)
 
 
-def balance_that_shuts(count, insn, cycles):
-    """51 calls of a routine with 51 calls of one with a branch whose arms want the return addresses and a data word. Each call can be passed by, so that what
-    changes comes to all lists also where a branch has a cause. In the first turn no list has one; then the word is not known any more and each has; then
-    others rise one a turn, so that what was seen of the causes is of no use for the verdict. R4 is the address of a word that none wants."""
+def balance_of_two(count, insn, cycles, shuts):
+    """51 calls of a routine with 51 calls of one with two branches of one join: after the first comes the second, and there is no way back, but each call can
+    be passed by, so that what changes comes to all lists also where a branch has a cause. Data words rise one a turn, each twice. Where it shuts, the arms
+    want one more data word, which is not known any more from the second turn on: then each branch has a cause, and what rises afterwards makes what was seen of
+    the causes useless for the verdict. R4 is the address of a word that does not rise."""
     text, data = 0x0300, 0xF000
-    secret, public, wanted = data + 0x200, data + 0x182, data + 0x184
-    arm = words(0x4034, data + 0x188, 0x4384, 0, 0x4125, 0x4116, 2, 0x5605) + words(insn) * count
-    arm += words(0x5215, wanted, 0xF035, 0x00FE, 0x5035, data, 0x4527, 0x4305, 0x4307)
+    public, wanted, other = data + 0x1F0, data + 0x1F2, data + 0x1F4
+    before, again = rising_twice(data, RISING)
+    arm = words(0x4034, data + 0x1F8, 0x4384, 0, 0x4125, 0x4116, 2, 0x5605) + words(insn) * count
+    time = 2 + 2 + 4 + 2 + 3 + 1 + cycles * count + 8
+    if shuts:
+        arm += words(0x5215, wanted)
+        time += 3
+        again += words(0x5292, other, wanted, 0x5392, other)
+    arm += words(0xF035, 0x00FE, 0x5035, data, 0x4527, 0x4305, 0x4307)
 
     def row(routine):
-        return words(0x9382, public, 0x2002, 0x12B0, routine) * ROWS
+        return words(0x9382, public) + words(0x2002, 0x12B0, routine) * ROWS
 
-    before, again = rising(data, RISING)
-    head = words(0x4031, data + 0x200, 0x4382, public, 0x4382, wanted) + before
+    head = words(0x4031, data + 0x200, 0x4382, public, 0x4382, wanted, 0x4382, other) + before
     loop = text + len(head)
-    again += words(0x5392, wanted, 0x4030, loop)
+    again += words(0x4030, loop)
     inner = loop + len(row(0)) + len(again)
     last = inner + len(row(0)) + 2
-    branch = last + 4
-    code = head + row(inner) + again + row(last) + words(0x4130) + words(0x9382, secret, 0x2400) + arm + words(0x4130)
+    first, second = last + 4, last + 8
+    join = second + 4 + len(arm)
+    code = head + row(inner) + again + row(last) + words(0x4130, 0x9382, data + SECRET, 0x2400, 0x3C02, 0x2400, 0x3C00) + arm + words(0x4030, second)
     module = f"module 0007 {text:04x} {text + len(code):04x} {data:04x} {data + 0x400:04x}\n"
-    return image_with(code, text, module), f"{branch:04x} {branch + 2 + len(arm):04x} {2 + 4 + 2 + 3 + 1 + cycles * count + 3 + 2 + 2 + 2 + 1 + 1}\n"
+    return image_with(code, text, module), f"{first:04x} {join:04x} {time}\n{second:04x} {join:04x} {time}\n"
 
 
 def cases(folder):
@@ -171,6 +200,7 @@ def cases(folder):
     yield "dis, all of memory", ["dis", image, "0200", "fffe"]
     yield "check, a text of 63 KiB in a row", ["check", image, "1"]
     yield "check, data words that rise one a turn", ["check", file("rising", slow_to_check(256, 15_300)), "1"]
+    yield "check, data words that rise one a turn, each twice", ["check", file("rising_twice", slow_to_check_twice(250, 14_900)), "1"]
     yield "check, a text of 2 KiB in a row", ["check", file("row", image_with(words(0x4404) * 1_022 + words(0x4030, 0x0214), 0x0300, "module 0007 0300 0b00 fe00 fe02\n")), "1"]
     yield "check, a text of 2 KiB whose data words rise one a turn", ["check", file("rising_few", slow_to_check(128, 380)), "1"]
     yield "key, a text of 63 KiB", ["key", image, "1"]
@@ -183,7 +213,7 @@ def cases(folder):
         walked, arm = slow_to_balance(nops)
         yield f"balance, arms of {nops:,} met 5,184 times", ["balance", file(f"walked_{nops}", walked), "1", file(f"arm_{nops}", arm)]
     walked, arm = balance_that_rises(25_000)
-    yield "balance, arms of 25,000 met 5,184 times, data that rise one a turn", ["balance", file("walked_rising", walked), "1", file("arm_rising", arm)]
+    yield "balance, arms of 25,000 met 5,184 times, data that rise one a turn, each twice", ["balance", file("walked_rising", walked), "1", file("arm_rising", arm)]
     for name, insn, cycles, count in (("sums", 0x5605, 1, 25_000), ("reads", 0x5425, 2, 25_000), ("byte reads", 0x5465, 2, 25_000), ("shifts", 0x1124, 3, 21_000)):
         walked, arm = balance_of_addresses(count, insn, cycles)
         told = f"balance, arms of {count:,} {name} met 5,184 times, a last address that hangs on each"
@@ -193,13 +223,19 @@ def cases(folder):
     walked, arm = balance_of_wants(25_000, 0x5606, 1)
     told = "balance, arms of 25,000 sums met 4,896 times, each of which wants another word of those that rise one a turn"
     yield told, ["balance", file("walked_wants", walked), "1", file("arm_wants", arm)]
-    for name, insn, cycles, count in (("reads", 0x5425, 2, 27_000), ("byte reads", 0x5465, 2, 27_000), ("shifts", 0x1124, 3, 21_000)):
+    for name, insn, cycles, count in (
+        ("reads", 0x5425, 2, 27_000),
+        ("byte reads", 0x5465, 2, 27_000),
+        ("reads into SR", 0xD422, 2, 27_000),
+        ("shifts", 0x1124, 3, 21_000),
+    ):
         walked, arm = balance_of_addresses_that_rises(count, insn, cycles)
-        told = f"balance, arms of {count:,} {name} met 5,184 times, a last address that hangs on each, data that rise one a turn"
+        told = f"balance, arms of {count:,} {name} met 5,184 times, a last address that hangs on each, data that rise one a turn, each twice"
         yield told, ["balance", file(f"walked_both_{name}", walked), "1", file(f"arm_both_{name}", arm)]
-        walked, arm = balance_that_shuts(count, insn, cycles)
-        told = f"balance, arms of {count:,} {name} met 2,601 times, which get a cause, data that rise one a turn"
-        yield told, ["balance", file(f"walked_shut_{name}", walked), "1", file(f"arm_shut_{name}", arm)]
+        for shuts, which in ((False, ""), (True, ", which get a cause")):
+            walked, arm = balance_of_two(count, insn, cycles, shuts)
+            told = f"balance, two branches with arms of {count:,} {name} met 2,601 times{which}, data that rise one a turn, each twice"
+            yield told, ["balance", file(f"walked_two_{name}_{shuts}", walked), "1", file(f"arm_two_{name}_{shuts}", arm)]
     yield "challenges, 4,096", ["challenge", file("challenges", "".join(f"{1600 * k} {'0f' * 16}\n" for k in range(4096)))]
     trace = "0 out 4a\n" * 110_000 + "end 1 stopped\n"
     yield "trace, 1 MiB of out lines", ["vendor", image, "1", "0" * 32, file("challenges_few", "100 " + "0f" * 16 + "\n"), file("trace", trace)]
