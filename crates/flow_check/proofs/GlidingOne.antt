@@ -1,7 +1,7 @@
 -- Instructions of format II that have no cause: what they make of a label.
 use Rattle.std.specs.Prelude.{ℤ}
 use Rattle.insn_decode.specs.Code.{distance, length_of}
-use Rattle.std.proofs.Common.{◌≤◌, nat_le, nat_lt, ◌≡◌, ℕ, zero, suc, ◌<◌, ◌*◌, List, [], ◌∷◌, ◌++◌, refl, sym, ap, ◌∙◌, arith, slice_set, ◌&&◌, ◌||◌, not, Bool, true, false, ◌==◌, Option, Some, None}
+use Rattle.std.proofs.Common.{◌≤◌, nat_le, nat_lt, ◌≡◌, ℕ, zero, suc, ◌<◌, ◌*◌, List, [], ◌∷◌, ◌++◌, refl, sym, ap, ◌∙◌, arith, subst, slice_set, ◌&&◌, ◌||◌, not, Bool, true, false, ◌==◌, Option, Some, None}
 use Rattle.sm_words.specs.Words.{nth, add16, kept}
 use Rattle.sm_words.specs.declared.width.Width.{Width}
 use Rattle.sm_words.specs.declared.width.Width.TheVariants.{Word, Byte}
@@ -27,7 +27,7 @@ use Rattle.flow_rule.specs.Reasons.{because_if, reach_reasons}
 use Rattle.flow_rule.specs.declared.Reason.TheVariants.{OutsideAccess}
 use Rattle.flow_rule.specs.Arms.{stepped_regs, written_reg, written_regs, written_words, blot, blot_core}
 use Rattle.flow_check.specs.Along.{is_clear, taken_by, one_place, one_width, words_at}
-use Rattle.flow_check.specs.Gliding.{moved_on, IsGlided}
+use Rattle.flow_check.specs.Gliding.{moved_on, IsWordThere, IsGlided}
 use Rattle.flow_check.specs.Pushing.{IsPushed}
 use Rattle.flow_check.proofs.Acting.{one_core_is, one_words_are, one_clear, one_written, written_if, none_core, none_words, none_clear, none_written, jump_none}
 use Rattle.flow_check.proofs.Gliding.{put_other, flags_keep}
@@ -60,6 +60,10 @@ step_keeps r n w core h = put_keeps core r n _ h
 pub memory_there : (f : Option Val) (w : Width) (arg : Operand) (next : ℕ) (c : List Val) → ((core : List Val) → val (stepped_val w arg core) 0 ≡ val core 0) →
     val c 0 ≡ Known next → val (set_flags_by f (stepped_val w arg c)) 0 ≡ Known next
 memory_there f w arg next c still e = flags_keep f (stepped_val w arg c) ∙ still c ∙ e
+
+pub known_there : (arg : Operand) (c : List Val) (next pc ext a : ℕ) → ext ≡ add16 pc 2 → place_val arg (moved_on c next) ext ≡ Some (Known a) →
+    place_val arg (moved_on c next) (add16 pc 2) ≡ Some (Known a)
+known_there arg c next pc ext a e place = ap (place_val arg (moved_on c next)) (sym e) ∙ place
 
 -- ---- accesses
 clear_if_may : (b : Bool) (pc a : ℕ) → b ≡ true → true ≡ is_clear (because_if (not b) pc OutsideAccess a ++ [])
@@ -192,8 +196,27 @@ lowered_at [] v sp e es = absurd cc
 lowered_at (x ∷ []) v sp e es = absurd cc
 lowered_at (x ∷ y ∷ ys) v sp e es = ap (λ z. kept_val 1 (over_one (λ v. add16 v 65534) z)) e ∙ ap Known es
 
-pub push_there : (c1 c2 : List Val) (next : ℕ) → val c1 0 ≡ Known next → val c2 0 ≡ val c1 0 → val (lowered_val c2) 0 ≡ Known next
-push_there c1 c2 next there still = put_other c2 1 (over_one (λ v. add16 v 65534) (val c2 1)) (omega arith) ∙ still ∙ there
+-- SP alone becomes the address that lowering it gives
+pub lowered_to : (c : List Val) (sp : ℕ) → val (lowered_val c) 1 ≡ Known sp → slice_set c 1 (Known sp) ≡ lowered_val c
+lowered_to [] sp e = refl
+lowered_to (x ∷ []) sp e = refl
+lowered_to (x ∷ y ∷ ys) sp e = ap (λ k. x ∷ k ∷ ys) (sym e)
+
+pub pushed_at : (m : Module) (text : List ℕ) (w : Width) (arg : Operand) (pc ext next : ℕ) (l : Label) (v : Val) → ext ≡ add16 pc 2 →
+    IsPushed m text w arg ext next l v → IsPushed m text w arg (add16 pc 2) next l v
+pushed_at m text w arg pc ext next l v e given = subst (λ x. IsPushed m text w arg x next l v) e given
+
+pub lowered_there : (m : Module) (text : List ℕ) (w : Width) (arg : Operand) (ext next sp : ℕ) (l : Label) (v : Val) → IsPushed m text w arg ext next l v →
+    ((c : List Val) → val c 1 ≡ val l.core 1 → val (lowered_val c) 1 ≡ Known sp) → val (lowered_val (stepped_val w arg (moved_on l.core next))) 1 ≡ Known sp
+lowered_there m text w arg ext next sp l v given low = low (stepped_val w arg (moved_on l.core next)) given.same_sp
+
+set_first : (c : List Val) (v : Val) → val (slice_set c 1 v) 0 ≡ val c 0
+set_first [] v = refl
+set_first (x ∷ []) v = refl
+set_first (x ∷ y ∷ ys) v = refl
+
+pub push_there : (c1 c2 : List Val) (sp next : ℕ) → val c1 0 ≡ Known next → val c2 0 ≡ val c1 0 → val (slice_set c2 1 (Known sp)) 0 ≡ Known next
+push_there c1 c2 sp next there still = set_first c2 (Known sp) ∙ still ∙ there
 
 pub glided_push : (m : Module) (text : List ℕ) (w : Width) (arg : Operand) (pc next sp : ℕ) (l l1 b b1 : Label) (value : Val) →
     moved_on l.core next ≡ past_val (One Push w arg) pc l.core → IsPushed m text w arg (add16 pc 2) next l value →
@@ -208,13 +231,13 @@ glided_push m text w arg pc next sp l l1 b b1 value past given low may core word
 
 pub pushed_from : (m : Module) (text : List ℕ) (w : Width) (arg : Operand) (ext next a : ℕ) (l : Label) (value : Val) →
     ((core : List Val) → val (stepped_val w arg core) 1 ≡ val core 1) → ((core : List Val) → val (stepped_val w arg core) 0 ≡ val core 0) →
-    place_val arg (moved_on l.core next) ext ≡ Some (Known a) → may_reach m Read w a ≡ true → value ≡ narrow w (read_at m text l.words w a) →
+    place_val arg (moved_on l.core next) ext ≡ Some (Known a) → IsWordThere m text w (Known a) l.words value →
     IsPushed m text w arg ext next l value
-pushed_from m text w arg ext next a l value same_sp still place may is =
+pushed_from m text w arg ext next a l value same_sp still place there =
     let c1 = moved_on l.core next in
     record {
-      value = is ∙ ap (λ f. taken_by f m text true arg w (record { core = c1; words = l.words })) (sym place);
-      clear = λ pc. reach_clear m Read w a pc may ∙ ap (λ f. is_clear (reach_reasons m pc (reach_if true Read w f))) (sym place);
+      value = there.value ∙ ap (λ f. taken_by f m text true arg w (record { core = c1; words = l.words })) (sym place);
+      clear = λ pc. sym (there.clear pc) ∙ ap (λ f. is_clear (reach_reasons m pc (reach_if true Read w f))) (sym place);
       still = still c1;
       same_sp = same_sp c1 ∙ other_val l.core (Known next) 1 (omega arith);
     }

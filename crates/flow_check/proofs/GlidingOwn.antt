@@ -11,6 +11,7 @@ use Rattle.insn_decode.specs.declared.insn.Operand.TheVariants.{Reg, Increment}
 use Rattle.insn_decode.specs.declared.insn.Insn.{Insn}
 use Rattle.insn_decode.specs.declared.insn.Insn.TheVariants.{Two}
 use Rattle.pc_access.specs.declared.Kind.TheVariants.{Read}
+use Rattle.pc_access.specs.Rights.{misaligned}
 use Rattle.mod_layout.specs.declared.Module.{Module}
 use Rattle.mod_layout.specs.Table.{holds}
 use Rattle.flow_rule.specs.declared.Val.{Val}
@@ -25,7 +26,7 @@ use Rattle.flow_check.specs.declared.table.Own.{Own}
 use Rattle.flow_check.specs.declared.table.Plain.{Plain}
 use Rattle.flow_check.specs.declared.table.Plain.TheVariants.{Words, Bytes}
 use Rattle.flow_check.specs.Along.{is_clear, taken_by}
-use Rattle.flow_check.specs.Gliding.{moved_on, IsStill, IsSource, IsGiven, IsWordThere, IsRoom, IsGlided}
+use Rattle.flow_check.specs.Gliding.{moved_on, IsStill, IsSource, IsGiven, IsWordThere, IsRoom, IsNear, IsGlided}
 use Rattle.flow_check.specs.Tables.{is_other, is_apart, own_if, plain_by, entry_by}
 use Rattle.flow_check.proofs.GlidingOne.{below_apart, above_apart, word_apart, byte_apart}
 use Rattle.flow_check.proofs.GlidingTwo.{allowed}
@@ -115,6 +116,15 @@ pub byte_data : (m : Module) (room a n : ℕ) (words : List Val) (v : Val) → I
 byte_data m room a n words v is low high same e text = record {
   value = e ∙ ap (λ k. narrow Byte (over_one (half a) (nth k words Secret))) same ∙ sym (ap (narrow Byte) (byte_apart m text words a (is.apart a low high)));
   clear = λ pc. allowed m Read Byte a pc (or_right (holds m.text a) (holds m.ram a) (is.inside a low high));
+}
+
+pub near_data : (m : Module) (room a n : ℕ) (w : Width) → IsRoom m room → m.ram.start ≤ a → a < m.ram.start + room → misaligned w a ≡ false → n ≡ word_no m a →
+    n < 256 → IsNear m w a n
+near_data m room a n w is low high even same few = record {
+  few = few;
+  number = same;
+  apart = is.apart a low high;
+  write = ap (λ b. not b && holds m.ram a) even ∙ is.inside a low high;
 }
 
 -- ---- sources

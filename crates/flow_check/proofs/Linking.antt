@@ -1,5 +1,5 @@
 -- What the targets of a pair have taken, as hints and labels change.
-use Rattle.std.proofs.Common.{◌≡◌, ◌≢◌, ◌⊎◌, inl, inr, ℕ, zero, suc, ◌+◌, ◌<◌, ◌≤◌, List, [], ◌∷◌, ◌++◌, length, set, get_or, refl, sym, ap, ◌∙◌, subst, arith, Bool, true, false, ◌||◌, ◌==◌, ◌/◌, Some, None, All, min, get_or-set_other, get_or-set_same, length-set}
+use Rattle.std.proofs.Common.{◌≡◌, ◌≢◌, ◌⊎◌, inl, inr, ℕ, zero, suc, ◌+◌, ◌<◌, ◌≤◌, List, [], ◌∷◌, ◌++◌, length, set, drop, get_or, refl, sym, ap, ◌∙◌, subst, arith, Bool, true, false, ◌||◌, ◌==◌, ◌/◌, Some, None, All, min, get_or-set_other, get_or-set_same, length-set}
 use Rattle.std.specs.List.{slice_get}
 use Rattle.std.proofs.lemmas.Bool.{cases_lt}
 use Rattle.flow_rule.specs.declared.Val.{Val}
@@ -391,6 +391,14 @@ all_fit hs ls cs h = λ k d lt. one (get_or cs k d) (h k d lt)
 
     one : (c : Changed) → Fits ls c → Waits hs ls c
     one c e = let r = within ls c.at c.label e in record { there = r.0; same = λ q f. ap (λ x. word x.words q) r.1 }
+
+pub front_waits : (hs : List Hint) (ls : List Label) (xs ys : List Changed) (k : ℕ) (c : Changed) → All (Waits hs ls) ys → drop k xs ≡ drop k ys → k < length ys → c ≡ get_or xs k c → Waits hs ls c
+front_waits hs ls xs ys k c h e lt g = subst (Waits hs ls) (sym (g ∙ sym (first xs k) ∙ ap (λ l. get_or l 0 c) e ∙ first ys k)) (h k c lt)
+  where
+    first : (xs : List Changed) (k : ℕ) → get_or (drop k xs) 0 c ≡ get_or xs k c
+    first xs zero = refl
+    first [] (suc k) = refl
+    first (x ∷ xs) (suc k) = first xs k
 
 pub all_wait : (hs gs : List Hint) (ls ms : List Label) (cs : List Changed) → ((c : Changed) → Waits hs ls c → Waits gs ms c) → All (Waits hs ls) cs → All (Waits gs ms) cs
 all_wait hs gs ls ms cs f h = λ k d lt. f (get_or cs k d) (h k d lt)

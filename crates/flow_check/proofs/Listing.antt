@@ -1,89 +1,54 @@
--- Labels with lists of the words that count.
-use Rattle.std.proofs.Common.{◌≡◌, ◌≢◌, ℕ, zero, suc, ◌+◌, ◌<◌, ◌≤◌, ◌==◌, ◌||◌, List, [], ◌∷◌, ◌++◌, length, get_or, set, refl, sym, ap, ◌∙◌, subst, arith, Bool, true, false, eq-eqb, below_more, ◌⊎◌, inl, inr}
+-- Labels by lists of the words that differ from the others.
+use Rattle.std.proofs.Common.{◌≡◌, ◌≢◌, ℕ, zero, suc, ◌<◌, ◌≤◌, ◌==◌, ◌||◌, List, [], ◌∷◌, ◌++◌, length, get_or, set, drop, replicate, refl, sym, ap, ◌∙◌, subst, arith, Bool, true, false, eq-eqb}
 use Rattle.std.specs.List.{slice_get}
-use Rattle.std.proofs.lemmas.Bool.{eqb-true, cases_lt}
+use Rattle.std.proofs.lemmas.List.Elements.{All-push}
 use Rattle.flow_rule.specs.declared.Label.{Label}
 use Rattle.flow_rule.specs.declared.Val.{Val}
 use Rattle.flow_rule.specs.declared.Val.TheVariants.{Known, Away, Public, Secret}
 use Rattle.flow_rule.specs.Values.{join, join_each}
 use Rattle.flow_rule.specs.Absorbs.{laid, overlay}
+use Rattle.flow_check.specs.declared.listed.Word.{Word}
 use Rattle.flow_check.specs.Frames.{is_among, AlikeBut}
-use Rattle.flow_check.specs.Listed.{AllBut, KeepsAt, IsLaidAt, AtEach}
+use Rattle.flow_check.specs.Listed.{spread_on, spread, places_of, AllOther, front, KeepsAt}
 
--- ---- places in a list
+-- ---- the words that differ from a value
 
-among_first : (b : Bool) → (b || false) ≡ false → (false ≡ false) × (b ≡ false)
-among_first true e = absurd cc
-among_first false e = (refl, refl)
+spread_push : (vs : List Val) (ws : List Word) (w : Word) → spread_on vs (ws ++ w ∷ []) ≡ set (spread_on vs ws) w.place w.value
+spread_push vs [] w = refl
+spread_push vs (u ∷ ws) w = spread_push (set vs u.place u.value) ws w
 
-or_false : (b c : Bool) → (b || c) ≡ false → (b ≡ false) × (c ≡ false)
-or_false true c e = absurd cc
-or_false false c e = (refl, e)
+front_set : (i : ℕ) (c d : Val) (xs : List Val) → set (front i c xs) i (get_or xs i d) ≡ front (suc i) c xs
+front_set zero c d [] = refl
+front_set (suc i) c d [] = refl
+front_set zero c d (x ∷ xs) = refl
+front_set (suc i) c d (x ∷ xs) = ap (λ l. x ∷ l) (front_set i c d xs)
 
-both_false : (b c : Bool) → b ≡ false → c ≡ false → (b || c) ≡ false
-both_false true c e f = absurd cc
-both_false false c e f = f
+front_same : (i : ℕ) (c d : Val) (xs : List Val) → get_or xs i d ≡ c → front i c xs ≡ front (suc i) c xs
+front_same i c d [] e = refl
+front_same zero c d (x ∷ xs) e = ap (λ y. y ∷ front 0 c xs) (sym e)
+front_same (suc i) c d (x ∷ xs) e = ap (λ l. x ∷ l) (front_same i c d xs e)
 
--- a place that a longer list does not name
-pub among_push : (q p : ℕ) (ps : List ℕ) → is_among q (ps ++ p ∷ []) ≡ false → (is_among q ps ≡ false) × ((p == q) ≡ false)
-among_push q p [] e = among_first (p == q) e
-among_push q p (r ∷ ps) e =
-    let o : ((r == q) ≡ false) × (is_among q (ps ++ p ∷ []) ≡ false) = or_false (r == q) (is_among q (ps ++ p ∷ [])) e in
-    let n : (is_among q ps ≡ false) × ((p == q) ≡ false) = among_push q p ps o.1 in
-    (both_false (r == q) (is_among q ps) o.0 n.0, n.1)
+pub front_push : (ws us : List Word) (i : ℕ) (c d : Val) (xs : List Val) → us ≡ ws ++ (record { place = i; value = get_or xs i d }) ∷ [] →
+    spread c ws ≡ front i c xs → spread c us ≡ front (suc i) c xs
+front_push ws us i c d xs e h =
+    ap (spread c) e ∙ spread_push (replicate 256 c) ws (record { place = i; value = get_or xs i d }) ∙ ap (λ l. set l i (get_or xs i d)) h ∙ front_set i c d xs
 
-either_true : (b c : Bool) (P : Type 0) → (b ≡ true → P) → (c ≡ true → P) → (b || c) ≡ true → P
-either_true true c P h k e = h refl
-either_true false c P h k e = k e
+pub front_skip : (ws : List Word) (i : ℕ) (c d : Val) (xs : List Val) → get_or xs i d ≡ c → spread c ws ≡ front i c xs → spread c ws ≡ front (suc i) c xs
+front_skip ws i c d xs e h = h ∙ front_same i c d xs e
 
--- a fact of each index is one of each place
-pub each_of : (P : ℕ → Type 0) (ps : List ℕ) → ((j : ℕ) → j < length ps → P (get_or ps j 0)) → AtEach ps P
-each_of P [] h q e = absurd cc
-each_of P (p ∷ ps) h q e =
-    either_true (p == q) (is_among q ps) (P q) (λ f. subst P (eqb-true p q f) (h 0 (omega arith))) (each_of P ps (λ j lt. h (suc j) (omega (arith, lt))) q) e
+pub other_push : (ws us : List Word) (w : Word) (c : Val) → us ≡ ws ++ w ∷ [] → w.value ≢ c → AllOther c ws → AllOther c us
+other_push ws us w c e h all = subst (AllOther c) (sym e) (All-push (λ w. w.value ≢ c) ws w all h)
 
--- a place is named or not
-both : (b : Bool) → (P : Type 0) → (b ≡ true → P) → (b ≡ false → P) → P
-both true P h k = h refl
-both false P h k = k refl
+pub front_start : (n : ℕ) (c : Val) (xs : List Val) → length xs ≡ n → replicate n c ≡ front 0 c xs
+front_start zero c [] e = refl
+front_start (suc n) c (x ∷ xs) e = ap (λ l. c ∷ l) (front_start n c xs (omega (arith, e)))
+front_start (suc n) c [] e = absurd (omega (arith, e))
+front_start zero c (x ∷ xs) e = absurd (omega (arith, e))
 
--- past its end a list has the other value alone
-past : (vs : List Val) (q : ℕ) (d : Val) → length vs ≤ q → get_or vs q d ≡ d
-past [] q d h = refl
-past (v ∷ vs) zero d h = absurd (omega (arith, h))
-past (v ∷ vs) (suc q) d h = past vs q d (omega (arith, h))
-
--- before its end the other value does not count
-within : (vs : List Val) (q : ℕ) (d e : Val) → q < length vs → get_or vs q d ≡ get_or vs q e
-within [] q d e h = absurd (omega (arith, h))
-within (v ∷ vs) zero d e h = refl
-within (v ∷ vs) (suc q) d e h = within vs q d e (omega (arith, h))
-
--- ---- the list of the words that differ from a value
-
--- each of the first words outside these places has this value
-abbrev pub AllButTo : ℕ → List ℕ → Val → List Val → Type 0
-AllButTo i places v words = (q : ℕ) → q < i → is_among q places ≡ false → get_or words q v ≡ v
-
-apart : (i q : ℕ) → (i == q) ≡ false → i ≢ q
-apart i q e same = let t : (i == q) ≡ true = eq-eqb i q same in cc
-
-pub listed_push : (i : ℕ) (ps qs : List ℕ) (v : Val) (words : List Val) → qs ≡ ps ++ i ∷ [] → AllButTo i ps v words → AllButTo (i + 1) qs v words
-listed_push i ps qs v words e all q lt out =
-    let o : (is_among q ps ≡ false) × ((i == q) ≡ false) = among_push q i ps (ap (is_among q) (sym e) ∙ out) in
-    let n : i ≢ q = apart i q o.1 in
-    all q (omega (arith, lt, n)) o.0
-
-pub listed_skip : (i : ℕ) (ps qs : List ℕ) (v d : Val) (words : List Val) → qs ≡ ps → i < length words → get_or words i d ≡ v → AllButTo i ps v words → AllButTo (i + 1) qs v words
-listed_skip i ps qs v d words same lt e all =
-    subst (λ ps. AllButTo (i + 1) ps v words) (sym same) (below_more (λ q. is_among q ps ≡ false → get_or words q v ≡ v) i all (λ out. within words i v d lt ∙ e))
-
-pub listed_end : (ps : List ℕ) (v : Val) (words : List Val) → length words ≡ 256 → AllButTo 256 ps v words → AllBut ps v words
-listed_end ps v words e all q out = by (cases_lt q 256)
-  where
-    by : (q < 256) ⊎ (256 ≤ q) → get_or words q v ≡ v
-    by (inl lt) = all q lt out
-    by (inr ge) = past words q v (omega (arith, ge, e))
+pub front_end : (n : ℕ) (c : Val) (xs : List Val) → length xs ≤ n → front n c xs ≡ xs
+front_end n c [] e = refl
+front_end zero c (x ∷ xs) e = absurd (omega (arith, e))
+front_end (suc n) c (x ∷ xs) e = ap (λ l. x ∷ l) (front_end n c xs (omega (arith, e)))
 
 -- ---- words that change nothing
 
@@ -92,49 +57,116 @@ keeps_all [] ws e h = refl
 keeps_all (v ∷ vs) (w ∷ ws) e h = ap (λ x. x ∷ join_each vs ws) (h 0 (omega arith)) ∙ ap (λ xs. v ∷ xs) (keeps_all vs ws (omega (arith, e)) (λ q lt. h (suc q) (omega (arith, lt))))
 keeps_all (v ∷ vs) [] e h = absurd (omega (arith, e))
 
+-- joining a word to this one changes nothing
+abbrev pub KeepsWord : List Val → Word → Type 0
+KeepsWord low w = join w.value (get_or low w.place Secret) ≡ w.value
+
+keeps_set : (vs low : List Val) (i : ℕ) (v : Val) → join v (get_or low i Secret) ≡ v → join_each vs low ≡ vs → join_each (set vs i v) low ≡ set vs i v
+keeps_set [] low i v e h = refl
+keeps_set (x ∷ xs) [] i v e h = absurd cc
+keeps_set (x ∷ xs) (y ∷ ys) zero v e h = ap (λ u. u ∷ join_each xs ys) e ∙ ap (λ l. v ∷ l) (ap (drop 1) h)
+keeps_set (x ∷ xs) (y ∷ ys) (suc i) v e h =
+    ap (λ u. u ∷ join_each (set xs i v) ys) (ap (λ l. get_or l 0 x) h) ∙ ap (λ l. x ∷ l) (keeps_set xs ys i v e (ap (drop 1) h))
+
+keeps_on : (vs low : List Val) (ws : List Word) (d : Word) → join_each vs low ≡ vs → ((j : ℕ) → j < length ws → KeepsWord low (get_or ws j d)) →
+    join_each (spread_on vs ws) low ≡ spread_on vs ws
+keeps_on vs low [] d e h = e
+keeps_on vs low (w ∷ ws) d e h =
+    keeps_on (set vs w.place w.value) low ws d (keeps_set vs low w.place w.value (h 0 (omega arith)) e) (λ j lt. h (suc j) (omega (arith, lt)))
+
+keeps_secret : (n : ℕ) (low : List Val) → length low ≡ n → join_each (replicate n Secret) low ≡ replicate n Secret
+keeps_secret zero low e = refl
+keeps_secret (suc n) (v ∷ vs) e = ap (λ l. Secret ∷ l) (keeps_secret n vs (omega (arith, e)))
+keeps_secret (suc n) [] e = absurd (omega (arith, e))
+
 -- those that are not listed are Secret
-pub keeps_listed : (ps : List ℕ) (vs ws : List Val) → length vs ≡ length ws → AllBut ps Secret vs → AtEach ps (KeepsAt vs ws) → join_each vs ws ≡ vs
-keeps_listed ps vs ws e all each = keeps_all vs ws e (λ q lt. both (is_among q ps) (KeepsAt vs ws q) (each q) (λ out. subst (λ v. join v (get_or ws q Secret) ≡ v) (sym (all q out)) refl))
+pub keeps_spread : (low : List Val) (ws : List Word) (d : Word) → length low ≡ 256 → ((j : ℕ) → j < length ws → KeepsWord low (get_or ws j d)) →
+    join_each (spread Secret ws) low ≡ spread Secret ws
+keeps_spread low ws d e h = keeps_on (replicate 256 Secret) low ws d (keeps_secret 256 low e) h
 
 -- ---- words that are written
 
-laid_twice : (t v : Val) → laid t (laid t v) ≡ laid t v
-laid_twice Public v = refl
-laid_twice (Known a) v = refl
-laid_twice Away v = refl
-laid_twice Secret v = refl
+pub spread_step : (i : ℕ) (vs : List Val) (ws : List Word) (d : Word) → i < length ws →
+    spread_on vs (drop i ws) ≡ spread_on (set vs (get_or ws i d).place (get_or ws i d).value) (drop (suc i) ws)
+spread_step zero vs (w ∷ ws) d lt = refl
+spread_step (suc i) vs (w ∷ ws) d lt = spread_step i vs ws d (omega (arith, lt))
+spread_step i vs [] d lt = absurd (omega (arith, lt))
 
--- a write of a word does not change what the words become
-lays : (ts vs : List Val) (i : ℕ) (d : Val) → overlay ts (set vs i (laid (get_or ts i d) (get_or vs i d))) ≡ overlay ts vs
-lays [] vs i d = refl
-lays (t ∷ ts) [] i d = refl
-lays (t ∷ ts) (v ∷ vs) zero d = ap (λ w. w ∷ overlay ts vs) (laid_twice t v)
-lays (t ∷ ts) (v ∷ vs) (suc i) d = ap (λ ws. laid t v ∷ ws) (lays ts vs i d)
+pub spread_end : (i : ℕ) (vs : List Val) (ws : List Word) → length ws ≤ i → spread_on vs (drop i ws) ≡ vs
+spread_end zero vs [] e = refl
+spread_end (suc i) vs [] e = refl
+spread_end zero vs (w ∷ ws) e = absurd (omega (arith, e))
+spread_end (suc i) vs (w ∷ ws) e = spread_end i vs ws (omega (arith, e))
 
-pub lays_on : (ts vs : List Val) (i : ℕ) (d v : Val) → v ≡ laid (get_or ts i d) (get_or vs i d) → overlay ts (set vs i v) ≡ overlay ts vs
-lays_on ts vs i d v e = ap (λ v. overlay ts (set vs i v)) e ∙ lays ts vs i d
+pub places_step : (i : ℕ) (ps : List ℕ) (ws : List Word) (d : Word) → i < length ws →
+    ps ++ places_of (drop i ws) ≡ (ps ++ (get_or ws i d).place ∷ []) ++ places_of (drop (suc i) ws)
+places_step i [] ws d lt = head i ws lt
+  where
+    head : (i : ℕ) (ws : List Word) → i < length ws → places_of (drop i ws) ≡ (get_or ws i d).place ∷ places_of (drop (suc i) ws)
+    head zero (w ∷ ws) lt = refl
+    head (suc i) (w ∷ ws) lt = head i ws (omega (arith, lt))
+    head i [] lt = absurd (omega (arith, lt))
+places_step i (p ∷ ps) ws d lt = ap (λ l. p ∷ l) (places_step i ps ws d lt)
 
-laid_all : (ts vs : List Val) → length ts ≡ length vs → ((q : ℕ) → q < length vs → IsLaidAt ts vs q) → overlay ts vs ≡ vs
-laid_all [] [] e h = refl
-laid_all (t ∷ ts) (v ∷ vs) e h = ap (λ w. w ∷ overlay ts vs) (h 0 (omega arith)) ∙ ap (λ ws. v ∷ ws) (laid_all ts vs (omega (arith, e)) (λ q lt. h (suc q) (omega (arith, lt))))
-laid_all [] (v ∷ vs) e h = absurd (omega (arith, e))
-laid_all (t ∷ ts) [] e h = absurd (omega (arith, e))
+pub places_end : (i : ℕ) (ps : List ℕ) (ws : List Word) → length ws ≤ i → ps ++ places_of (drop i ws) ≡ ps
+places_end i [] ws e = none i ws e
+  where
+    none : (i : ℕ) (ws : List Word) → length ws ≤ i → places_of (drop i ws) ≡ []
+    none zero [] e = refl
+    none (suc i) [] e = refl
+    none zero (w ∷ ws) e = absurd (omega (arith, e))
+    none (suc i) (w ∷ ws) e = none i ws (omega (arith, e))
+places_end i (p ∷ ps) ws e = ap (λ l. p ∷ l) (places_end i ps ws e)
+
+laid_other : (v x : Val) → v ≢ Public → laid v x ≡ v
+laid_other Public x h = absurd (h refl)
+laid_other (Known a) x h = refl
+laid_other Away x h = refl
+laid_other Secret x h = refl
+
+lays : (ts vs : List Val) (i : ℕ) (v : Val) → v ≢ Public → overlay (set ts i v) vs ≡ set (overlay ts vs) i v
+lays [] vs i v h = refl
+lays (t ∷ ts) [] zero v h = refl
+lays (t ∷ ts) [] (suc i) v h = refl
+lays (t ∷ ts) (x ∷ xs) zero v h = ap (λ u. u ∷ overlay ts xs) (laid_other v x h)
+lays (t ∷ ts) (x ∷ xs) (suc i) v h = ap (λ l. laid t x ∷ l) (lays ts xs i v h)
+
+lays_on : (ts vs : List Val) (ws : List Word) → AllOther Public ws → overlay (spread_on ts ws) vs ≡ spread_on (overlay ts vs) ws
+lays_on ts vs [] all = refl
+lays_on ts vs (w ∷ ws) all =
+    lays_on (set ts w.place w.value) vs ws (λ i d lt. all (suc i) d (omega (arith, lt))) ∙ ap (λ l. spread_on l ws) (lays ts vs w.place w.value (all 0 w (omega arith)))
+
+lays_public : (n : ℕ) (vs : List Val) → length vs ≡ n → overlay (replicate n Public) vs ≡ vs
+lays_public zero [] e = refl
+lays_public (suc n) (v ∷ vs) e = ap (λ l. v ∷ l) (lays_public n vs (omega (arith, e)))
+lays_public (suc n) [] e = absurd (omega (arith, e))
+lays_public zero (v ∷ vs) e = absurd (omega (arith, e))
 
 -- what is not listed is Public
-pub laid_listed : (ps : List ℕ) (ts old new : List Val) → length ts ≡ length new → AllBut ps Public ts → AtEach ps (IsLaidAt ts new) → overlay ts new ≡ overlay ts old → new ≡ overlay ts old
-laid_listed ps ts old new e all each same =
-    sym (laid_all ts new e (λ q lt. both (is_among q ps) (IsLaidAt ts new q) (each q) (λ out. subst (λ t. laid t (get_or new q Public) ≡ get_or new q Public) (sym (all q out)) refl))) ∙ same
+pub laid_spread : (vs : List Val) (ws : List Word) → length vs ≡ 256 → AllOther Public ws → spread_on vs ws ≡ overlay (spread Public ws) vs
+laid_spread vs ws e all = sym (lays_on (replicate 256 Public) vs ws all ∙ ap (λ l. spread_on l ws) (lays_public 256 vs e))
 
--- a word under a Public one stays
-pub stays : (ts vs : List Val) (q : ℕ) → length ts ≡ length vs → get_or ts q Public ≡ Public → slice_get (overlay ts vs) q ≡ slice_get vs q
-stays [] [] q e h = refl
-stays (t ∷ ts) (v ∷ vs) zero e h = ap (λ u. slice_get (laid u v ∷ overlay ts vs) 0) h
-stays (t ∷ ts) (v ∷ vs) (suc q) e h = stays ts vs q (omega (arith, e)) h
-stays [] (v ∷ vs) q e h = absurd (omega (arith, e))
-stays (t ∷ ts) [] q e h = absurd (omega (arith, e))
+-- ---- words that stay
 
-pub frame_listed : (ps : List ℕ) (ts old new : List Val) → length ts ≡ length old → AllBut ps Public ts → new ≡ overlay ts old → AlikeBut ps old new
-frame_listed ps ts old new e all is q out = ap (λ ws. slice_get ws q) is ∙ stays ts old q e (all q out)
+or_false : (b c : Bool) → (b || c) ≡ false → (b ≡ false) × (c ≡ false)
+or_false true c e = absurd cc
+or_false false c e = (refl, e)
+
+apart : (i q : ℕ) → (i == q) ≡ false → i ≢ q
+apart i q e same = let t : (i == q) ≡ true = eq-eqb i q same in cc
+
+stays : (vs : List Val) (i q : ℕ) (v : Val) → i ≢ q → slice_get (set vs i v) q ≡ slice_get vs q
+stays [] i q v h = refl
+stays (x ∷ xs) zero zero v h = absurd (h refl)
+stays (x ∷ xs) zero (suc q) v h = refl
+stays (x ∷ xs) (suc i) zero v h = refl
+stays (x ∷ xs) (suc i) (suc q) v h = stays xs i q v (λ e. h (ap suc e))
+
+pub frame_spread : (vs : List Val) (ws : List Word) → AlikeBut (places_of ws) vs (spread_on vs ws)
+frame_spread vs [] q out = refl
+frame_spread vs (w ∷ ws) q out =
+    let o : ((w.place == q) ≡ false) × (is_among q (places_of ws) ≡ false) = or_false (w.place == q) (is_among q (places_of ws)) out in
+    frame_spread (set vs w.place w.value) ws q o.1 ∙ stays vs w.place q w.value (apart w.place q o.0)
 
 abbrev make : List Val → List Val → Label
 make core words = record { core = core; words = words }

@@ -7,14 +7,14 @@ use Rattle.insn_decode.specs.declared.insn.Operand.{Operand}
 use Rattle.insn_decode.specs.declared.insn.Operand.TheVariants.{Reg}
 use Rattle.cpu_step.specs.Plan.{writes_dst}
 use Rattle.insn_decode.specs.declared.insn.Insn.{Insn}
-use Rattle.pc_access.specs.declared.Kind.TheVariants.{Read}
+use Rattle.pc_access.specs.declared.Kind.TheVariants.{Read, Write}
 use Rattle.mod_layout.specs.declared.Module.{Module}
 use Rattle.mod_layout.specs.Table.{holds}
 use Rattle.flow_rule.specs.declared.Val.{Val}
 use Rattle.flow_rule.specs.declared.Val.TheVariants.{Known}
 use Rattle.flow_rule.specs.declared.Label.{Label}
 use Rattle.flow_rule.specs.Values.{narrow, put_val, val}
-use Rattle.flow_rule.specs.Does.{given_val, place_val, reach_if, stepped_val, read_val, plan_val, write_reaches}
+use Rattle.flow_rule.specs.Does.{given_val, place_val, reach_if, stepped_val, read_val, plan_val, write_reaches, word_no, may_reach}
 use Rattle.flow_rule.specs.Reasons.{reach_reasons}
 use Rattle.flow_rule.specs.Arms.{written_reg, written_regs, written_words, blot, blot_core}
 use Rattle.flow_check.specs.Along.{is_clear, taken_by, done_by, words_by}
@@ -61,3 +61,10 @@ pub record IsRoom (m : Module) (room : ℕ) : Type 0 where
   pub few : room ≤ 512
   pub apart : (a : ℕ) → m.ram.start ≤ a → a < m.ram.start + room → holds m.text a ≡ false
   pub inside : (a : ℕ) → m.ram.start ≤ a → a < m.ram.start + room → holds m.ram a ≡ true
+
+-- at this address, which may be written and is no part of the text, stands the word of the data with this number
+pub record IsNear (m : Module) (w : Width) (a n : ℕ) : Type 0 where
+  pub few : n < 256
+  pub number : n ≡ word_no m a
+  pub apart : holds m.text a ≡ false
+  pub write : may_reach m Write w a ≡ true

@@ -1,7 +1,8 @@
 -- Instructions of format I into memory along an arm: what each part of one gives, where it goes on at `next`.
-use Rattle.std.specs.Prelude.{◌≡◌, ℕ, ◌*◌, List, true, cond, Option, Some}
-use Rattle.sm_words.specs.Words.{add16}
+use Rattle.std.specs.Prelude.{◌≡◌, ℕ, ◌*◌, List, Bool, true, false, cond, Option, Some, slice_set}
+use Rattle.sm_words.specs.Words.{add16, nth}
 use Rattle.sm_words.specs.declared.width.Width.{Width}
+use Rattle.sm_words.specs.declared.width.Width.TheVariants.{Word, Byte}
 use Rattle.insn_decode.specs.Code.{words_of}
 use Rattle.insn_decode.specs.declared.insn.TwoOp.{TwoOp}
 use Rattle.insn_decode.specs.declared.insn.Operand.{Operand}
@@ -11,10 +12,10 @@ use Rattle.pc_access.specs.declared.Kind.TheVariants.{Read, Write}
 use Rattle.cpu_step.specs.Plan.{reads_dst, writes_dst}
 use Rattle.mod_layout.specs.declared.Module.{Module}
 use Rattle.flow_rule.specs.declared.Val.{Val}
-use Rattle.flow_rule.specs.declared.Val.TheVariants.{Known}
+use Rattle.flow_rule.specs.declared.Val.TheVariants.{Known, Public, Secret}
 use Rattle.flow_rule.specs.declared.Label.{Label}
-use Rattle.flow_rule.specs.Values.{val}
-use Rattle.flow_rule.specs.Does.{place_val, past_val, stepped_val, reach_if}
+use Rattle.flow_rule.specs.Values.{val, narrow, over_one, blurred_all}
+use Rattle.flow_rule.specs.Does.{half, place_val, past_val, stepped_val, reach_if}
 use Rattle.flow_rule.specs.Reasons.{reach_reasons}
 use Rattle.flow_check.specs.Along.{is_clear, taken_by}
 use Rattle.flow_check.specs.Gliding.{moved_on}
@@ -55,3 +56,20 @@ pub record IsTwoReady (m : Module) (text : List ℕ) (op : TwoOp) (w : Width) (s
   pub past : moved_on l.core next ≡ past_val (Two op w s d) pc l.core
   pub source : IsTwoSource m text w s l pc next v
   pub place : destination_place w s d l.core pc next ≡ Some (Known n)
+
+-- the words once a result is written to the one with this number, if it is written
+abbrev pub put_near : Bool → Width → ℕ → Val → List Val → List Val
+put_near true Word n v words = slice_set words n (narrow Word v)
+put_near true Byte n v words = slice_set words n (blurred_all (nth n words Secret) v Public)
+put_near false w n v words = words
+
+-- what stands in the word with this number at an address, where it is read
+abbrev pub old_near : Bool → Width → ℕ → ℕ → List Val → Val
+old_near true Word a n words = narrow Word (nth n words Secret)
+old_near true Byte a n words = narrow Byte (over_one (half a) (nth n words Secret))
+old_near false w a n words = narrow w Secret
+
+-- what is told of the words where that one is written
+abbrev pub told_near : Bool → ℕ → List Val → List Val
+told_near true n words = slice_set words n Secret
+told_near false n words = words

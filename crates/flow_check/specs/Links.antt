@@ -3,8 +3,10 @@ use Rattle.std.specs.Prelude.{◌≡◌, ◌<◌, ℕ, List, [], length, get_or,
 use Rattle.flow_rule.specs.declared.Val.{Val}
 use Rattle.flow_rule.specs.declared.Label.{Label}
 use Rattle.flow_check.specs.declared.hints.Hint.{Hint}
+use Rattle.flow_check.specs.declared.pairs.Pair.{Pair as CodePair}
 use Rattle.flow_check.specs.declared.rounds.Changed.{Changed}
 use Rattle.flow_check.specs.declared.rounds.Labelling.{Labelling}
+use Rattle.flow_check.specs.Frames.{AlikeBut}
 use Rattle.flow_check.specs.Fresh.{is_fresh, word, Takes}
 use Rattle.flow_check.specs.Hints.{target_of}
 
@@ -36,6 +38,13 @@ pub record Linked (hints : List Hint) (labels : List Label) : Type 0 where
 pub record Waits (hints : List Hint) (labels : List Label) (c : Changed) : Type 0 where
   pub there : c.at < length labels
   pub same : (q : ℕ) → is_fresh (hint_at hints c.at).next q ≡ false → word_at labels c.at q ≡ word c.label.words q
+
+-- these words are those of a label that was taken to be given, but at these places
+pub record Lags (hints : List Hint) (labels : List Label) (from : ℕ) (places : List ℕ) (words : List Val) : Type 0 where
+  pub pair : CodePair
+  pub label : Label
+  pub waits : Waits hints labels record { at = from; pair = pair; label = label }
+  pub frame : AlikeBut places label.words words
 
 -- the label of a pair is the one that was taken
 abbrev pub Fits : List Label → Changed → Type 0

@@ -1,7 +1,14 @@
-//! What the values of a label are along an arm, as numbers.
+//! What the values of a label are along two arms at once, as numbers: each number has two halves, the first arm's value
+//! and the second's. Where both arms have the same forms to go along, one pass serves both.
 
-use crate::forms::{Access, FIRST_WORD, Form, HIDDEN, Operation, Reach, SINK, ZERO};
+ghost use Rattle.std.specs.Prelude.{◌<◌};
+
+use crate::forms::{
+    Access, Code, FIRST_WORD, Form, HIDDEN, LOW, MEANING, Operation, PART, PART_UNKNOWN, SINK,
+    UNKNOWN, ZERO, both,
+};
 use crate::needs::slot;
+use crate::reach::step;
 use arm_balance::{byte, word};
 use flow_rule::{Label, Val};
 use mod_layout::Module;
@@ -12,88 +19,122 @@ const REGISTERS: usize = 16;
 
 const WORDS: usize = 256;
 
-/// The stack pointer.
+/// The stack pointer, and what is added to it by a push.
 const STACK: usize = 1;
 
-/// The first number that a word is too small for.
-const LIMIT: u32 = 0x10000;
+const LOWER: u32 = 0xfffe;
 
-/// Set in a value that is not Known, whose other bits mean nothing. Sums of words leave it as it is.
-const UNKNOWN: u32 = 0x8000_0000;
+/// What the second half counts in.
+const SECOND: u64 = 0x1_0000_0000;
+
+/// The first arm's half.
+const FIRST_HALF: u64 = 0xffff_ffff;
+
+/// What the second arm's number counts in, where something was met.
+const OTHER: u32 = 0x1_0000;
+
+/// The highest bit of a half.
+const TOP: u32 = 0x8000_0000;
 
 /// How many bytes of the data a label tells of.
 const TOLD_BYTES: u16 = 512;
 
-/// The values at a place of an arm, by their numbers.
+/// The low bytes of both halves, the highest bits of these, and of the words.
+const BYTES: u64 = 0x0000_00ff_0000_00ff;
+
+const BYTE_SIGNS: u64 = 0x0000_0080_0000_0080;
+
+const WORD_SIGNS: u64 = 0x0000_8000_0000_8000;
+
+/// Two words that are even, and 1 in both halves.
+const EVEN: u64 = 0x0000_fffe_0000_fffe;
+
+const ONES: u64 = 0x0000_0001_0000_0001;
+
+/// What a byte's sign becomes by this factor, where the byte becomes a word.
+const EXTENSION: u64 = 0x1fe;
+
+/// The values at a place of two arms, by their numbers.
 #[derive(Drop)]
 pub struct Course {
-    values: [u32; 512],
-    /// Where the data begins, and how many of its bytes a label tells of.
+    values: [u64; 512],
+    /// Where the data begins, how many of its bytes a label tells of, and how many words these are.
     data: u16,
-    bytes: u16,
+    bytes: u32,
+    words: u32,
+}
+
+/// What both arms met, and what that holds.
+#[derive(Clone, Copy)]
+struct Met {
+    number: u32,
+    value: u64,
 }
 
 /// What stands for what is known of a value.
 #[inline(always)]
-fn number_of(value: Val) -> u32 {
+fn number_of(value: Val) -> u64 {
     match value {
-        Val::Known(number) => u32::from(number),
+        Val::Known(number) => both(u32::from(number)),
         Val::Away | Val::Public | Val::Secret => UNKNOWN,
     }
 }
 
+/// The first arm's half of this, and the second's of that.
+#[inline(always)]
+fn halves(first: u64, second: u64) -> u64 {
+    (first % SECOND) | (second & !FIRST_HALF)
+}
+
 /// What a destination keeps of a number that is made of these.
 #[inline(always)]
-fn kept(form: &Form, number: u32, made_of: u32) -> u32 {
-    (number & u32::from(form.keep)) | (made_of & UNKNOWN)
+fn kept(end: u64, number: u64, made_of: u64) -> u64 {
+    (number & end) | (made_of & UNKNOWN)
 }
 
-/// Half of a signed byte.
+/// Halves of signed bytes.
 #[inline(always)]
-fn half_byte(number: u32) -> u32 {
-    (number & 0xff) / 2 | (number & 0x80)
+fn half_bytes(number: u64) -> u64 {
+    (number & BYTES) / 2 | (number & BYTE_SIGNS)
 }
 
-/// Half of a signed word.
+/// Halves of signed words.
 #[inline(always)]
-fn half_word(number: u32) -> u32 {
-    (number & 0xffff) / 2 | (number & 0x8000)
+fn half_words(number: u64) -> u64 {
+    (number & EVEN) / 2 | (number & WORD_SIGNS)
 }
 
-/// A word with its bytes changed about.
+/// Words with their bytes changed about.
 #[inline(always)]
-fn swapped(number: u32) -> u32 {
-    number % 256 * 256 | number / 256 % 256
+fn swapped(number: u64) -> u64 {
+    (number & BYTES).wrapping_mul(256) | (number / 256 & BYTES)
 }
 
-/// The low byte as a signed word.
+/// The low bytes as signed words.
 #[inline(always)]
-fn extended(number: u32) -> u32 {
-    let byte = number % 256;
-    if byte < 128 { byte } else { byte + 0xff00 }
+fn extended(number: u64) -> u64 {
+    (number & BYTES) | (number & BYTE_SIGNS).wrapping_mul(EXTENSION)
 }
 
-/// What an operation makes of a source and of what the destination held.
+/// What an operation makes of a source and of what the destination held, where the destination keeps these bits.
 #[inline(always)]
-fn made(operation: Operation, form: &Form, source: u32, old: u32) -> u32 {
+fn made(operation: Operation, end: u64, source: u64, old: u64) -> u64 {
     match operation {
-        Operation::Move => kept(form, source, source),
-        Operation::Add => kept(form, old.wrapping_add(source), old | source),
-        Operation::Subtract => kept(form, old.wrapping_sub(source), old | source),
-        Operation::And => kept(form, old & source, old | source),
-        Operation::AndNot => kept(form, old & !source, old | source),
-        Operation::Or => kept(form, old | source, old | source),
-        Operation::Xor => kept(form, old ^ source, old | source),
-        Operation::Swap => kept(form, swapped(old), old),
-        Operation::Halve => kept(form, half_word(old), old),
-        Operation::HalveByte => kept(form, half_byte(old), old),
-        Operation::Extend => kept(form, extended(old), old),
-        Operation::Hide
-        | Operation::Load
-        | Operation::LoadByte
-        | Operation::Store
-        | Operation::StoreByte
-        | Operation::Reach => UNKNOWN,
+        Operation::Move => source & end,
+        Operation::Add => kept(end, old.wrapping_add(source), old | source),
+        Operation::Subtract => {
+            let number = old.wrapping_add(source ^ LOW).wrapping_add(ONES);
+            kept(end, number, old | source)
+        }
+        Operation::And => kept(end, old & source, old | source),
+        Operation::AndNot => kept(end, old & !source, old | source),
+        Operation::Or => (old | source) & end,
+        Operation::Xor => kept(end, old ^ source, old | source),
+        Operation::Swap => kept(end, swapped(old), old),
+        Operation::Halve => kept(end, half_words(old), old),
+        Operation::HalveByte => kept(end, half_bytes(old), old),
+        Operation::Extend => kept(end, extended(old), old),
+        Operation::Hide => UNKNOWN,
     }
 }
 
@@ -108,16 +149,75 @@ fn is_odd(width: Width, addr: u16) -> bool {
 
 /// What an access of this width at an address gives of its word.
 #[inline(always)]
-fn part_of(width: Width, addr: u16, value: u32) -> u32 {
+fn part_of(width: Width, addr: u32, value: u64) -> u64 {
     match width {
         Width::Word => value,
         Width::Byte => {
-            if addr % 2 == 0 {
-                (value % 256) | (value & UNKNOWN)
-            } else {
-                (value / 256 % 256) | (value & UNKNOWN)
-            }
+            let here = if addr % 2 == 0 { value } else { value / 256 };
+            (here & BYTES) | (value & UNKNOWN)
         }
+    }
+}
+
+/// What two arms met, as a form keeps it.
+#[inline(always)]
+fn both_met(first: u32, second: u32) -> u32 {
+    first | (first ^ second).wrapping_mul(OTHER)
+}
+
+/// What the first arm met, and what the second did.
+#[inline(always)]
+pub fn first_met(number: u32) -> usize
+    ensures { result < 512 }
+{
+    slot(number)
+}
+
+#[inline(always)]
+pub fn second_met(number: u32) -> usize
+    ensures { result < 512 }
+{
+    slot(number ^ number / OTHER)
+}
+
+/// The two halves.
+#[inline(always)]
+fn first_half(number: u64) -> u32 {
+    (number % SECOND) as u32
+}
+
+#[inline(always)]
+fn second_half(number: u64) -> u32 {
+    (number / SECOND) as u32
+}
+
+/// The half of a number, which is large where that is odd or not Known.
+#[inline(always)]
+fn turned(number: u32) -> u32 {
+    number / 2 | (number % 2).wrapping_mul(TOP)
+}
+
+/// Reads what is no word of the label.
+#[inline(never)]
+fn read_far(module: &Module, text: &[u8], width: Width, addr: u16) -> Option<Met> {
+    let here = usize::from(addr);
+    if module.text.holds(here) {
+        let value = match width {
+            Width::Word => word(module.text, text, here),
+            Width::Byte => byte(module.text, text, here),
+        };
+        return Some(Met {
+            number: u32::from(ZERO),
+            value: both(u32::from(value)),
+        });
+    }
+    if module.ram.holds(here) {
+        Some(Met {
+            number: u32::from(HIDDEN),
+            value: UNKNOWN,
+        })
+    } else {
+        None
     }
 }
 
@@ -133,192 +233,346 @@ impl Course {
         }
         values[usize::from(ZERO)] = 0;
         let size = module.ram.end.saturating_sub(module.ram.start);
+        let bytes = u32::from(size.min(TOLD_BYTES));
         Course {
             values,
             data: module.ram.start,
-            bytes: size.min(TOLD_BYTES),
+            bytes,
+            words: bytes / 2,
         }
     }
 
-    /// The number of the word of the data at an address, where it is one of the label's.
+    /// The first arm's values of this, and the second's of the other.
+    pub fn join(&mut self, other: &Course) {
+        for n in 0..512 {
+            self.values[n] = halves(self.values[n], other.values[n]);
+        }
+    }
+
+    /// The number of the word that is reached in this half of a sum of a base and a number, where it is one of the
+    /// label's.
     #[inline(always)]
-    fn word_at(&self, addr: u16) -> Option<u16> {
-        let offset = addr.wrapping_sub(self.data);
-        if offset < self.bytes {
-            Some(FIRST_WORD + offset % TOLD_BYTES / 2)
+    fn word_in(&self, width: Width, place: u32) -> Option<u16> {
+        let is_told = match width {
+            Width::Word => turned(place) < self.words,
+            Width::Byte => place < self.bytes,
+        };
+        if is_told {
+            Some(FIRST_WORD + (place / 2 % 256) as u16)
         } else {
             None
         }
     }
 
-    /// The address that is the sum of a base and a number, where it is Known.
+    /// The same where both arms reach it.
     #[inline(always)]
-    fn address(&self, base: u8, plus: u16) -> Option<u16> {
-        let value = self.values[usize::from(base)];
-        if value & UNKNOWN == 0 {
-            Some((value.wrapping_add(u32::from(plus)) % LIMIT) as u16)
+    fn word(&self, width: Width, sum: u64) -> Option<u16> {
+        let place = first_half(sum & MEANING);
+        if second_half(sum & MEANING) == place {
+            self.word_in(width, place)
         } else {
             None
+        }
+    }
+
+    /// An arm's address, where it is Known and may be had.
+    #[inline(always)]
+    fn address(&self, width: Width, half: u32) -> Option<u16> {
+        let addr = self.data.wrapping_add((half & PART) as u16);
+        if half & PART_UNKNOWN == 0 && !is_odd(width, addr) {
+            Some(addr)
+        } else {
+            None
+        }
+    }
+
+    /// Reads an arm's address.
+    #[inline(always)]
+    fn read(&self, module: &Module, text: &[u8], width: Width, half: u32) -> Option<Met> {
+        match self.word_in(width, half) {
+            Some(number) => Some(Met {
+                number: u32::from(number),
+                value: part_of(width, half, self.values[slot(u32::from(number))]),
+            }),
+            None => read_far(module, text, width, self.address(width, half)?),
+        }
+    }
+
+    /// What the arms read, where both addresses are words of the label.
+    #[inline(always)]
+    fn words_apart(&self, width: Width, sum: u64) -> Option<Met> {
+        let places = (first_half(sum & MEANING), second_half(sum & MEANING));
+        let first = self.word_in(width, places.0)?;
+        let second = self.word_in(width, places.1)?;
+        let there = self.values[slot(u32::from(first))];
+        let other = self.values[slot(u32::from(second))];
+        Some(Met {
+            number: both_met(u32::from(first), u32::from(second)),
+            value: halves(
+                part_of(width, places.0, there),
+                part_of(width, places.1, other),
+            ),
+        })
+    }
+
+    /// Reads the arms' addresses, which are not the same or no word of the label.
+    #[inline(never)]
+    fn read_apart(&self, module: &Module, text: &[u8], width: Width, sum: u64) -> Option<Met> {
+        let first = self.read(module, text, width, first_half(sum & MEANING))?;
+        let second = self.read(module, text, width, second_half(sum & MEANING))?;
+        Some(Met {
+            number: both_met(first.number, second.number),
+            value: halves(first.value, second.value),
+        })
+    }
+
+    /// Reads the source's address.
+    #[inline(always)]
+    fn load(&mut self, module: &Module, text: &[u8], form: &mut Form, width: Width) -> Option<u64> {
+        let sum = self.values[usize::from(form.source)].wrapping_add(form.plus);
+        if let Some(number) = self.word(width, sum) {
+            form.from = u32::from(number);
+            let value = self.values[slot(u32::from(number))];
+            return Some(part_of(width, first_half(sum), value));
+        }
+        let there = match self.words_apart(width, sum) {
+            Some(there) => there,
+            None => self.read_apart(module, text, width, sum)?,
+        };
+        form.from = there.number;
+        Some(there.value)
+    }
+
+    /// What an arm writes at its address, where that may be had.
+    #[inline(always)]
+    fn place(&self, module: &Module, width: Width, half: u32) -> Option<u32> {
+        if let Some(number) = self.word_in(width, half) {
+            return Some(u32::from(number));
+        }
+        let addr = self.address(width, half)?;
+        if module.ram.holds(usize::from(addr)) {
+            Some(u32::from(SINK))
+        } else {
+            None
+        }
+    }
+
+    /// Whether an arm may read its address.
+    #[inline(always)]
+    fn is_had(&self, module: &Module, width: Width, half: u32) -> bool {
+        match self.address(width, half) {
+            Some(addr) => {
+                module.ram.holds(usize::from(addr)) || module.text.holds(usize::from(addr))
+            }
+            None => false,
+        }
+    }
+
+    /// Whether both may read the destination's address.
+    fn are_had(&self, module: &Module, form: &Form) -> bool {
+        let sum = self.values[usize::from(form.destination)].wrapping_add(form.end);
+        self.is_had(module, form.width, first_half(sum))
+            && self.is_had(module, form.width, second_half(sum))
+    }
+
+    /// Writes where the arms' addresses are not the same or no word of the label.
+    #[inline(never)]
+    fn write_apart(
+        &mut self,
+        module: &Module,
+        form: &mut Form,
+        operation: Operation,
+        source: u64,
+        sum: u64,
+    ) -> Option<()> {
+        let first = self.place(module, form.width, first_half(sum & MEANING))?;
+        let second = self.place(module, form.width, second_half(sum & MEANING))?;
+        form.to = both_met(first, second);
+        let old = halves(self.values[slot(first)], self.values[slot(second)]);
+        let new = made(operation, MEANING, source, old);
+        self.values[slot(first)] = halves(new, self.values[slot(first)]);
+        self.values[slot(second)] = halves(self.values[slot(second)], new);
+        Some(())
+    }
+
+    /// Does this to the word at the destination's address.
+    #[inline(always)]
+    fn write(
+        &mut self,
+        module: &Module,
+        form: &mut Form,
+        operation: Operation,
+        width: Width,
+        source: u64,
+    ) -> Option<()> {
+        let sum = self.values[usize::from(form.destination)].wrapping_add(form.end);
+        match self.word(width, sum) {
+            Some(number) => {
+                form.to = u32::from(number);
+                let to = slot(u32::from(number));
+                self.values[to] = made(operation, MEANING, source, self.values[to]);
+                Some(())
+            }
+            None => self.write_apart(module, form, operation, source, sum),
         }
     }
 
     /// The value of a source without an address.
     #[inline(always)]
-    fn source(&self, form: &Form) -> u32 {
-        self.values[usize::from(form.source)].wrapping_add(u32::from(form.plus))
+    fn source(&self, form: &Form) -> u64 {
+        self.values[usize::from(form.source)].wrapping_add(form.plus)
     }
 
-    /// Reads what is no word of the label.
-    #[inline(never)]
-    fn read_far(module: &Module, text: &[u8], form: &mut Form, addr: u16) -> Option<u32> {
-        let here = usize::from(addr);
-        if module.text.holds(here) {
-            form.from = u16::from(ZERO);
-            return Some(u32::from(match form.reach.width {
-                Width::Word => word(module.text, text, here),
-                Width::Byte => byte(module.text, text, here),
-            }));
-        }
-        form.from = u16::from(HIDDEN);
-        if module.ram.holds(here) {
-            Some(UNKNOWN)
-        } else {
-            None
-        }
-    }
-
-    /// Reads the source's address.
+    /// A register becomes what this makes.
     #[inline(always)]
-    fn load(&mut self, module: &Module, text: &[u8], form: &mut Form, reach: Reach) -> Option<u32> {
-        let addr = self.address(form.source, form.plus)?;
-        if is_odd(reach.width, addr) {
-            return None;
-        }
-        if reach.rises {
-            let base = usize::from(form.source);
-            self.values[base] = self.values[base].wrapping_add(u32::from(form.step)) % LIMIT;
-        }
-        match self.word_at(addr) {
-            Some(number) => {
-                form.from = number;
-                Some(part_of(reach.width, addr, self.values[slot(number)]))
-            }
-            None => Course::read_far(module, text, form, addr),
-        }
-    }
-
-    /// Whether the destination's address may be had; notes which value it is that is written there.
-    #[inline(always)]
-    fn reach(&mut self, module: &Module, form: &mut Form, reach: Reach) -> bool {
-        let Some(addr) = self.address(form.destination, form.offset) else {
-            return false;
-        };
-        if is_odd(reach.width, addr) {
-            return false;
-        }
-        if reach.access == Access::Push {
-            self.values[STACK] = u32::from(addr - addr % 2);
-        }
-        let here = usize::from(addr);
-        if reach.access == Access::Read {
-            return module.ram.holds(here) || module.text.holds(here);
-        }
-        match self.word_at(addr) {
-            Some(number) => {
-                form.to = number;
-                true
-            }
-            None => {
-                form.to = u16::from(SINK);
-                module.ram.holds(here)
-            }
-        }
-    }
-
-    /// Does an instruction that reaches this and makes that, and tells whether it has no cause: each address is Known
-    /// and may be had.
-    #[inline(always)]
-    fn follow_reach(
-        &mut self,
-        module: &Module,
-        text: &[u8],
-        form: &mut Form,
-        reach: Reach,
-        operation: Operation,
-    ) -> bool {
-        let source = if reach.loads {
-            match self.load(module, text, form, reach) {
-                Some(source) => source,
-                None => return false,
-            }
-        } else {
-            self.source(form)
-        };
-        if reach.access != Access::Nothing && !self.reach(module, form, reach) {
-            return false;
-        }
-        let to = match reach.access {
-            Access::Nothing => usize::from(form.destination),
-            Access::Read | Access::Write | Access::Push => slot(form.to),
-        };
-        self.values[to] = made(operation, form, source, self.values[to]);
-        true
-    }
-
-    /// The same, where this is reached.
-    #[inline(always)]
-    fn follow_as(&mut self, module: &Module, text: &[u8], form: &mut Form, reach: Reach) -> bool {
-        self.follow_reach(module, text, form, reach, form.operation)
-    }
-
-    /// The same, where a byte is written: nothing is Known of its word.
-    #[inline(always)]
-    fn hide_byte(&mut self, module: &Module, text: &[u8], form: &mut Form) -> bool {
-        self.follow_reach(module, text, form, Reach::STORE_BYTE, Operation::Hide)
-    }
-
-    /// The same, where what is reached is no common thing.
-    #[inline(never)]
-    fn follow_any(&mut self, module: &Module, text: &[u8], form: &mut Form) -> bool {
-        self.follow_reach(module, text, form, form.reach, form.operation)
+    fn put(&mut self, operation: Operation, form: &Form, source: u64) -> Option<()> {
+        let to = usize::from(form.destination);
+        self.values[to] = made(operation, form.end, source, self.values[to]);
+        Some(())
     }
 
     /// Does an instruction without an address.
     #[inline(always)]
-    fn make(&mut self, operation: Operation, form: &Form) {
-        let to = usize::from(form.destination);
-        self.values[to] = made(operation, form, self.source(form), self.values[to]);
+    fn make(&mut self, operation: Operation, form: &Form) -> Option<()> {
+        self.put(operation, form, self.source(form))
+    }
+
+    /// Reads into a register.
+    #[inline(always)]
+    fn fetch(
+        &mut self,
+        module: &Module,
+        text: &[u8],
+        form: &mut Form,
+        operation: Operation,
+        width: Width,
+    ) -> Option<()> {
+        let source = self.load(module, text, form, width)?;
+        self.put(operation, form, source)
+    }
+
+    /// Lowers the stack pointer for a push.
+    #[inline(always)]
+    fn lower(&mut self) {
+        self.values[STACK] = self.values[STACK].wrapping_add(both(LOWER)) & MEANING;
+    }
+
+    /// Does to the destination, whatever that is, what the form says.
+    #[inline(never)]
+    fn end(&mut self, module: &Module, form: &mut Form, source: u64) -> Option<()> {
+        match form.access {
+            Access::Nothing => self.put(form.operation, form, source),
+            Access::Read => {
+                if self.are_had(module, form) {
+                    Some(())
+                } else {
+                    None
+                }
+            }
+            Access::Write => self.write(module, form, form.operation, form.width, source),
+            Access::Push => {
+                self.write(module, form, form.operation, form.width, source)?;
+                self.lower();
+                Some(())
+            }
+        }
+    }
+
+    /// The base of the source's address rises.
+    #[inline(always)]
+    fn raise(&mut self, form: &Form) {
+        let base = usize::from(form.source);
+        let by = both(u32::from(step(form.width, form.source)));
+        self.values[base] = self.values[base].wrapping_add(by) & MEANING;
+    }
+
+    /// Reads a word into a register, and the base of its address rises.
+    #[inline(always)]
+    fn fetch_rising(&mut self, module: &Module, text: &[u8], form: &mut Form) -> Option<()> {
+        let source = self.load(module, text, form, Width::Word)?;
+        self.raise(form);
+        self.put(form.operation, form, source)
+    }
+
+    /// Reads a word and does this to another.
+    #[inline(always)]
+    fn both_words(&mut self, module: &Module, text: &[u8], form: &mut Form) -> Option<()> {
+        let source = self.load(module, text, form, Width::Word)?;
+        self.write(module, form, form.operation, Width::Word, source)
+    }
+
+    /// Pushes a word that is not read.
+    #[inline(always)]
+    fn push(&mut self, module: &Module, form: &mut Form) -> Option<()> {
+        let source = self.source(form);
+        self.write(module, form, Operation::Move, Width::Word, source)?;
+        self.lower();
+        Some(())
+    }
+
+    /// Does an instruction whose source has an address, and may raise the register that this is made of.
+    #[inline(never)]
+    fn through(&mut self, module: &Module, text: &[u8], form: &mut Form) -> Option<()> {
+        let source = match form.width {
+            Width::Word => self.load(module, text, form, Width::Word)?,
+            Width::Byte => self.load(module, text, form, Width::Byte)?,
+        };
+        if form.code == Code::ThroughRise {
+            self.raise(form);
+        }
+        self.end(module, form, source)
+    }
+
+    /// Does this to the word at the destination's address, with a source that has none.
+    #[inline(always)]
+    fn store(&mut self, module: &Module, form: &mut Form) -> Option<()> {
+        let source = self.source(form);
+        self.write(module, form, form.operation, Width::Word, source)
+    }
+
+    /// Does something else at the destination's address, with a source that has none.
+    #[inline(always)]
+    fn reach(&mut self, module: &Module, form: &mut Form) -> Option<()> {
+        let source = self.source(form);
+        self.end(module, form, source)
     }
 
     /// Does an instruction, and tells whether it has no cause. Each operation has code of its own.
     #[inline(always)]
-    fn follow(&mut self, module: &Module, text: &[u8], form: &mut Form) -> bool {
+    fn follow(&mut self, module: &Module, text: &[u8], form: &mut Form) -> Option<()> {
         match form.code {
-            Operation::Move => self.make(Operation::Move, form),
-            Operation::Add => self.make(Operation::Add, form),
-            Operation::Subtract => self.make(Operation::Subtract, form),
-            Operation::And => self.make(Operation::And, form),
-            Operation::AndNot => self.make(Operation::AndNot, form),
-            Operation::Or => self.make(Operation::Or, form),
-            Operation::Xor => self.make(Operation::Xor, form),
-            Operation::Swap => self.make(Operation::Swap, form),
-            Operation::Halve => self.make(Operation::Halve, form),
-            Operation::HalveByte => self.make(Operation::HalveByte, form),
-            Operation::Extend => self.make(Operation::Extend, form),
-            Operation::Hide => self.make(Operation::Hide, form),
-            Operation::Load => return self.follow_as(module, text, form, Reach::LOAD),
-            Operation::LoadByte => return self.follow_as(module, text, form, Reach::LOAD_BYTE),
-            Operation::Store => return self.follow_as(module, text, form, Reach::STORE),
-            Operation::StoreByte => return self.hide_byte(module, text, form),
-            Operation::Reach => return self.follow_any(module, text, form),
+            Code::Move => self.make(Operation::Move, form),
+            Code::Add => self.make(Operation::Add, form),
+            Code::Subtract => self.make(Operation::Subtract, form),
+            Code::And => self.make(Operation::And, form),
+            Code::AndNot => self.make(Operation::AndNot, form),
+            Code::Or => self.make(Operation::Or, form),
+            Code::Xor => self.make(Operation::Xor, form),
+            Code::Swap => self.make(Operation::Swap, form),
+            Code::Halve => self.make(Operation::Halve, form),
+            Code::HalveByte => self.make(Operation::HalveByte, form),
+            Code::Extend => self.make(Operation::Extend, form),
+            Code::Hide => self.make(Operation::Hide, form),
+            Code::LoadMove => self.fetch(module, text, form, Operation::Move, Width::Word),
+            Code::LoadAdd => self.fetch(module, text, form, Operation::Add, Width::Word),
+            Code::Load => self.fetch(module, text, form, form.operation, Width::Word),
+            Code::LoadByteMove => self.fetch(module, text, form, Operation::Move, Width::Byte),
+            Code::LoadByteAdd => self.fetch(module, text, form, Operation::Add, Width::Byte),
+            Code::LoadByte => self.fetch(module, text, form, form.operation, Width::Byte),
+            Code::LoadRise => self.fetch_rising(module, text, form),
+            Code::Store => self.store(module, form),
+            Code::StoreByte => self.write(module, form, Operation::Hide, Width::Byte, UNKNOWN),
+            Code::Both => self.both_words(module, text, form),
+            Code::Push => self.push(module, form),
+            Code::Reach => self.reach(module, form),
+            Code::Through | Code::ThroughRise => self.through(module, text, form),
         }
-        true
     }
 
-    /// Does the instructions of an arm, and tells whether none of them has a cause.
-    pub fn run(&mut self, module: &Module, text: &[u8], arm: &mut [Form]) -> bool {
-        for form in arm.iter_mut() {
-            if !self.follow(module, text, form) {
+    /// Does the instructions of two arms, and tells whether none of them has a cause under either.
+    pub fn run(&mut self, module: &Module, text: &[u8], arms: &mut [Form]) -> bool {
+        for form in arms.iter_mut() {
+            if self.follow(module, text, form).is_none() {
                 return false;
             }
         }

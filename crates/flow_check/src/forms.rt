@@ -21,14 +21,41 @@ pub const FIRST_WORD: u16 = 19;
 /// The first power of two that has room for all numbers.
 pub const ROOM: usize = 512;
 
+/// What says that both arms need a value: the first arm's bit and the second's.
+pub const BOTH_ARMS: u8 = 3;
+
 /// The stack pointer, which is even.
 const STACK: u8 = 1;
 
 /// What is added to the stack pointer for the address that is pushed to.
 const LOWER: u16 = 65534;
 
-/// What is made of a source and of what the destination held, or, from `Swap` on, of the latter alone. The last five
-/// say that there are addresses.
+/// The values of two arms stand side by side in one number. This is what one half holds of a value.
+pub const PART: u32 = 0xffff;
+
+/// Set in a half whose value is not Known; its other bits mean nothing then. Two halves with it can be added, and the sum
+/// stays in its half.
+pub const PART_UNKNOWN: u32 = 0x4000_0000;
+
+/// More than each value of a half.
+const OVER: u32 = 0x1_0000;
+
+/// The bits of both halves' values.
+pub const LOW: u64 = 0x0000_ffff_0000_ffff;
+
+/// What says of each half that it is not Known.
+pub const UNKNOWN: u64 = 0x4000_0000_4000_0000;
+
+/// All bits that mean something.
+pub const MEANING: u64 = 0x4000_ffff_4000_ffff;
+
+/// The number whose halves are this.
+#[inline(always)]
+pub fn both(part: u32) -> u64 {
+    u64::from(part).wrapping_mul(0x1_0000_0001)
+}
+
+/// What is made of a source and of what the destination held, or, from `Swap` on, of the latter alone.
 #[derive(Clone, Copy, PartialEq, Eq)]
 pub enum Operation {
     Move,
@@ -44,16 +71,62 @@ pub enum Operation {
     Extend,
     /// What is never Known.
     Hide,
-    /// As [`Reach::LOAD`] says.
+}
+
+/// What an instruction does: an operation on a register, or how it reaches memory. Each common thing has code of its own.
+#[derive(Clone, Copy, PartialEq, Eq)]
+pub enum Code {
+    Move,
+    Add,
+    Subtract,
+    And,
+    AndNot,
+    Or,
+    Xor,
+    Swap,
+    Halve,
+    HalveByte,
+    Extend,
+    Hide,
+    /// A word is read, and a register becomes it.
+    LoadMove,
+    /// A word is read and added to a register.
+    LoadAdd,
+    /// A word is read into a register in another way.
     Load,
-    /// As [`Reach::LOAD_BYTE`] says.
+    /// A byte is read, and a register becomes it.
+    LoadByteMove,
+    /// A byte is read and added to a register.
+    LoadByteAdd,
+    /// A byte is read into a register in another way.
     LoadByte,
-    /// As [`Reach::STORE`] says.
+    /// A word is read into a register, and the base of its address rises.
+    LoadRise,
+    /// A word is written, made of a register or of what it was.
     Store,
-    /// As [`Reach::STORE_BYTE`] says.
+    /// A byte is written, made of a register or of what it was.
     StoreByte,
-    /// Any other.
+    /// A word is pushed that is not read.
+    Push,
+    /// A word is read and another is written.
+    Both,
+    /// There is another access at the destination's address, and none at the source's.
     Reach,
+    /// There is an access at the source's address, and there may be one at the destination's.
+    Through,
+    /// The same, and the base of the source's address rises.
+    ThroughRise,
+}
+
+/// Which addresses there are.
+#[derive(Clone, Copy, PartialEq, Eq)]
+pub enum Trace {
+    /// None.
+    Making,
+    /// The source has one.
+    Loading,
+    /// The destination has one, and the source may have one.
+    Reaching,
 }
 
 /// What is done at the address of a destination.
@@ -67,46 +140,44 @@ pub enum Access {
     Push,
 }
 
-/// What an instruction reaches.
-#[derive(Clone, Copy, PartialEq, Eq)]
-pub struct Reach {
-    /// Whether its source has an address.
-    pub loads: bool,
-    /// Whether the register that this is made of rises.
-    pub rises: bool,
-    pub access: Access,
-    pub width: Width,
-}
-
 /// What an instruction of the text makes of what. An address is the sum of a base, which is a register's number or
-/// `ZERO`, and a number.
+/// `ZERO`, and a number; it counts from the data's start, and [`OVER`] more. What was met at an address last is the
+/// number of the first arm's value, and, 65,536 times, what the second's number has other bits.
 #[derive(Clone, Copy)]
 pub struct Form {
-    /// What it makes, where it has no address, or that it has one.
-    pub code: Operation,
+    pub code: Code,
     /// What it makes.
     pub operation: Operation,
-    /// Whether it has an address.
-    pub reaches: bool,
-    /// Whether it makes its value of what the destination held.
-    pub reads_old: bool,
-    pub reach: Reach,
+    pub access: Access,
+    pub width: Width,
     /// The number of the source's value, or the base of its address.
     pub source: u8,
     /// The number of the destination's value, or the base of its address.
     pub destination: u8,
-    /// The number of the source's value; if that has an address, of what was met there last.
-    pub from: u16,
+    /// Which arms need what the destination held, if they need what it makes: none or both.
+    pub old: u8,
+    pub trace: Trace,
     /// What is added to the source's value, or to its base.
-    pub plus: u16,
-    /// By how much the base of the source rises.
-    pub step: u16,
-    /// The number of the destination's value; if that has an address, of what was met there last.
-    pub to: u16,
-    /// What is added to the destination's base.
-    pub offset: u16,
-    /// The bits that the destination keeps.
-    pub keep: u16,
+    pub plus: u64,
+    /// The bits that a register keeps, or what is added to the destination's base.
+    pub end: u64,
+    /// What was met at the source's address.
+    pub from: u32,
+    /// What was met at the destination's address.
+    pub to: u32,
+}
+
+/// What is added to a base for an address.
+fn distance(plus: u16, data: u16) -> u64 {
+    both((OVER + u32::from(plus)).wrapping_sub(u32::from(data)))
+}
+
+/// Where an instruction stands, where the next one does, and where the data begins.
+#[derive(Clone, Copy)]
+struct Site {
+    pc: u16,
+    next: u16,
+    data: u16,
 }
 
 /// An operand: the sum of a base and a number, which is an address or the operand's value.
@@ -162,7 +233,7 @@ fn written(reg: u8) -> u8 {
 }
 
 /// The bits that a register keeps of a value of this width.
-fn kept_bits(width: Width, reg: u8) -> u16 {
+fn kept_bits(width: Width, reg: u8) -> u32 {
     match width {
         Width::Byte if reg == STACK => 0x00fe,
         Width::Byte => 0x00ff,
@@ -206,141 +277,148 @@ fn in_memory(operation: Operation, width: Width) -> Operation {
     }
 }
 
-impl Reach {
-    /// No address.
-    const NOTHING: Reach = Reach {
-        loads: false,
-        rises: false,
-        access: Access::Nothing,
-        width: Width::Word,
-    };
-
-    /// A word is read into a register.
-    pub const LOAD: Reach = Reach {
-        loads: true,
-        rises: false,
-        access: Access::Nothing,
-        width: Width::Word,
-    };
-
-    /// A byte is read into a register.
-    pub const LOAD_BYTE: Reach = Reach {
-        loads: true,
-        rises: false,
-        access: Access::Nothing,
-        width: Width::Byte,
-    };
-
-    /// A word is written, made of a register or of what it was.
-    pub const STORE: Reach = Reach {
-        loads: false,
-        rises: false,
-        access: Access::Write,
-        width: Width::Word,
-    };
-
-    /// A byte is written, made of a register or of what it was.
-    pub const STORE_BYTE: Reach = Reach {
-        loads: false,
-        rises: false,
-        access: Access::Write,
-        width: Width::Byte,
-    };
-
-    /// What says that this is reached.
-    fn code(self) -> Operation {
-        if self == Reach::LOAD {
-            Operation::Load
-        } else if self == Reach::LOAD_BYTE {
-            Operation::LoadByte
-        } else if self == Reach::STORE {
-            Operation::Store
-        } else if self == Reach::STORE_BYTE {
-            Operation::StoreByte
-        } else {
-            Operation::Reach
-        }
+/// What is done where a word or byte is read and a register is made of it.
+fn load_code(operation: Operation, width: Width) -> Code {
+    match width {
+        Width::Word => match operation {
+            Operation::Move => Code::LoadMove,
+            Operation::Add => Code::LoadAdd,
+            _ => Code::Load,
+        },
+        Width::Byte => match operation {
+            Operation::Move => Code::LoadByteMove,
+            Operation::Add => Code::LoadByteAdd,
+            _ => Code::LoadByte,
+        },
     }
+}
 
-    /// Nothing at this width.
-    fn nothing(width: Width) -> Reach {
-        Reach {
-            width,
-            ..Reach::NOTHING
-        }
+/// What is done where a base rises past what is read, and a register is made of that.
+fn rise_code(width: Width) -> Code {
+    match width {
+        Width::Word => Code::LoadRise,
+        Width::Byte => Code::ThroughRise,
+    }
+}
+
+/// What is done where nothing is read but what the destination held.
+fn access_code(access: Access, width: Width) -> Code {
+    match width {
+        Width::Word => match access {
+            Access::Write => Code::Store,
+            Access::Push => Code::Push,
+            Access::Nothing | Access::Read => Code::Reach,
+        },
+        Width::Byte => match access {
+            Access::Write => Code::StoreByte,
+            Access::Nothing | Access::Read | Access::Push => Code::Reach,
+        },
+    }
+}
+
+/// What is done where also the source has an address.
+fn through_code(access: Access, width: Width) -> Code {
+    if access == Access::Write && width == Width::Word {
+        Code::Both
+    } else {
+        Code::Through
+    }
+}
+
+/// What is done without an address.
+fn making_code(operation: Operation) -> Code {
+    match operation {
+        Operation::Move => Code::Move,
+        Operation::Add => Code::Add,
+        Operation::Subtract => Code::Subtract,
+        Operation::And => Code::And,
+        Operation::AndNot => Code::AndNot,
+        Operation::Or => Code::Or,
+        Operation::Xor => Code::Xor,
+        Operation::Swap => Code::Swap,
+        Operation::Halve => Code::Halve,
+        Operation::HalveByte => Code::HalveByte,
+        Operation::Extend => Code::Extend,
+        Operation::Hide => Code::Hide,
     }
 }
 
 impl Form {
     /// An instruction that makes nothing that may be needed.
     const IDLE: Form = Form {
-        code: Operation::Move,
+        code: Code::Move,
         operation: Operation::Move,
-        reaches: false,
-        reads_old: false,
-        reach: Reach::NOTHING,
+        access: Access::Nothing,
+        width: Width::Word,
         source: ZERO,
         destination: SINK,
-        from: ZERO as u16,
+        old: 0,
+        trace: Trace::Making,
         plus: 0,
-        step: 0,
-        to: SINK as u16,
-        offset: 0,
-        keep: 0xffff,
+        end: MEANING,
+        from: ZERO as u32,
+        to: SINK as u32,
     };
 
     /// An instruction that makes this of what is still to be told.
     fn making(operation: Operation, reads_old: bool, width: Width) -> Form {
         Form {
-            code: operation,
+            code: making_code(operation),
             operation,
-            reads_old,
-            reach: Reach::nothing(width),
+            old: if reads_old { BOTH_ARMS } else { 0 },
+            width,
             ..Form::IDLE
         }
     }
 
-    /// The same with what it reaches.
-    fn reaching(self, reach: Reach) -> Form {
-        Form {
-            code: reach.code(),
-            reaches: true,
-            reach,
+    /// The same with this source.
+    fn with_source(self, part: Part, data: u16) -> Form {
+        let form = Form {
+            source: part.base,
+            from: u32::from(part.base),
+            plus: both(u32::from(part.plus)),
             ..self
+        };
+        if !part.in_memory {
+            return form;
+        }
+        let code = if part.step == 0 {
+            load_code(form.operation, form.width)
+        } else {
+            rise_code(form.width)
+        };
+        Form {
+            code,
+            trace: Trace::Loading,
+            plus: distance(part.plus, data),
+            ..form
         }
     }
 
-    /// The same with this source.
-    fn with_source(self, part: Part) -> Form {
-        let form = Form {
-            source: part.base,
-            from: u16::from(part.base),
-            plus: part.plus,
-            step: part.step,
-            ..self
-        };
-        if part.in_memory {
-            form.reaching(Reach {
-                loads: true,
-                rises: part.step != 0,
-                ..form.reach
-            })
-        } else {
-            form
+    /// What is done where this has an address for its destination too.
+    fn code_with(&self, access: Access) -> Code {
+        match self.code {
+            Code::LoadRise | Code::ThroughRise => Code::ThroughRise,
+            _ => {
+                if self.trace == Trace::Loading {
+                    through_code(access, self.width)
+                } else {
+                    access_code(access, self.width)
+                }
+            }
         }
     }
 
     /// The same, with an address that it does this at.
-    fn with_access(self, access: Access, base: u8, offset: u16) -> Form {
-        let form = self.reaching(Reach {
-            access,
-            ..self.reach
-        });
+    fn with_access(self, access: Access, base: u8, offset: u16, data: u16) -> Form {
         Form {
-            operation: in_memory(self.operation, self.reach.width),
+            code: self.code_with(access),
+            trace: Trace::Reaching,
+            operation: in_memory(self.operation, self.width),
+            access,
             destination: base,
-            offset,
-            ..form
+            end: distance(offset, data),
+            ..self
         }
     }
 
@@ -349,18 +427,18 @@ impl Form {
         let number = written(reg);
         Form {
             destination: number,
-            to: u16::from(number),
-            keep: kept_bits(self.reach.width, reg),
+            to: u32::from(number),
+            end: both(kept_bits(self.width, reg)) | UNKNOWN,
             ..self
         }
     }
 
     /// An instruction of format I.
-    fn two(op: TwoOp, width: Width, src: Operand, dst: Operand, pc: u16, next: u16) -> Form {
-        let ext = extension(pc);
-        let source = part_of(src, width, ext, next);
+    fn two(op: TwoOp, width: Width, src: Operand, dst: Operand, spot: Site) -> Form {
+        let ext = extension(spot.pc);
+        let source = part_of(src, width, ext, spot.next);
         let form = Form::making(two_operation(op), reads_destination(op), width).with_source(
-            source,
+            source, spot.data,
         );
         let writes = writes_destination(op);
         match dst {
@@ -372,36 +450,36 @@ impl Form {
                 }
             }
             _ => {
-                let part = part_of(dst, width, second(ext, src), next);
+                let part = part_of(dst, width, second(ext, src), spot.next);
                 let access = if writes { Access::Write } else { Access::Read };
-                form.with_access(access, part.base, part.plus)
+                form.with_access(access, part.base, part.plus, spot.data)
             }
         }
     }
 
     /// A PUSH.
-    fn push(width: Width, part: Part) -> Form {
+    fn push(width: Width, part: Part, data: u16) -> Form {
         let form = Form::making(Operation::Move, false, width);
-        form.with_source(part)
-            .with_access(Access::Push, STACK, LOWER)
+        form.with_source(part, data)
+            .with_access(Access::Push, STACK, LOWER, data)
     }
 
     /// Another instruction of format II: of an operand that rises, the source is what is read first.
-    fn one(op: OneOp, width: Width, arg: Operand, part: Part) -> Form {
+    fn one(op: OneOp, width: Width, arg: Operand, part: Part, data: u16) -> Form {
         let form = Form::making(one_operation(op, width), true, width);
         match arg {
             Operand::Reg(reg) => form.with_register(reg),
             Operand::Increment(_) => {
                 let offset = part.plus.wrapping_sub(part.step);
-                form.with_source(part)
-                    .with_access(Access::Write, part.base, offset)
+                form.with_source(part, data)
+                    .with_access(Access::Write, part.base, offset, data)
             }
-            _ => form.with_access(Access::Write, part.base, part.plus),
+            _ => form.with_access(Access::Write, part.base, part.plus, data),
         }
     }
 
-    /// The form of what is met at `pc`.
-    pub fn of(met: Option<Insn>, pc: u16) -> Form {
+    /// The form of what is met at `pc`, where the data begins at `data`.
+    pub fn of(met: Option<Insn>, pc: u16, data: u16) -> Form {
         let Some(insn) = met else {
             return Form::IDLE;
         };
@@ -412,13 +490,13 @@ impl Form {
                 width,
                 src,
                 dst,
-            } => Form::two(op, width, src, dst, pc, next),
+            } => Form::two(op, width, src, dst, Site { pc, next, data }),
             Insn::One { op, width, arg } => {
                 let part = part_of(arg, width, extension(pc), next);
                 if op == OneOp::Push {
-                    Form::push(width, part)
+                    Form::push(width, part, data)
                 } else {
-                    Form::one(op, width, arg, part)
+                    Form::one(op, width, arg, part, data)
                 }
             }
             Insn::Jump { .. } | Insn::Reti | Insn::Unit(_) => Form::IDLE,
@@ -427,6 +505,6 @@ impl Form {
 
     /// Whether it makes nothing that may be needed, and has no address.
     pub fn is_idle(&self) -> bool {
-        !self.reaches && self.to == u16::from(SINK)
+        self.trace == Trace::Making && self.to == u32::from(SINK)
     }
 }

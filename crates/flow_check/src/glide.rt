@@ -8,7 +8,7 @@ ghost use Rattle.flow_rule.specs.Verdict.{flow_step};
 ghost use Rattle.flow_rule.specs.Arms.{walk};
 ghost use Rattle.flow_check.specs.Pairs.{IsStub};
 ghost use Rattle.flow_check.specs.Walks.{told, point_at};
-ghost use Rattle.flow_check.specs.Gliding.{IsGlided};
+ghost use Rattle.flow_check.specs.Gliding.{IsGlided, IsRoom};
 ghost use Rattle.flow_check.specs.Tables.{entry_by, IsTable};
 
 use crate::arms::ALWAYS;
@@ -28,12 +28,14 @@ use mod_layout::Module;
 fn glide_insn(
     module: &Module,
     text: &[u8],
+    room: u16,
     insn: &Insn,
     pc: u16,
     next: u16,
     label: &mut Label,
     told: &mut Label,
 ) -> bool
+    requires room { IsRoom module.now room }
     requires arm { arm_next 65535 pc (Some insn.now) ≡ Some next }
     requires even { next % 2 ≡ 0 }
     ensures done { result ≡ true →
@@ -53,9 +55,11 @@ fn glide_insn(
             width,
             src,
             dst,
-        } => glide_two(module, text, op, width, src, dst, pc, next, label, told),
+        } => glide_two(
+            module, text, room, op, width, src, dst, pc, next, label, told,
+        ),
         Insn::One { op, width, arg } => {
-            glide_one(module, text, op, width, arg, pc, next, label, told)
+            glide_one(module, text, room, op, width, arg, pc, next, label, told)
         }
         Insn::Jump { cond, offset } => {
             cond == ALWAYS && glide_jump(module, text, cond, offset, pc, next, label, told)
@@ -69,12 +73,14 @@ fn glide_insn(
 fn glide_entry(
     module: &Module,
     text: &[u8],
+    room: u16,
     entry: &Entry,
     pc: u16,
     next: u16,
     label: &mut Label,
     told: &mut Label,
 ) -> bool
+    requires room { IsRoom module.now room }
     requires entry { entry.now ≡ entry_by module.now text.now pc }
     requires goes { entry.now.glides ≡ Some next }
     ensures done { result ≡ true → (insn : Insn) → entry.now.met ≡ Some insn →
@@ -83,7 +89,7 @@ fn glide_entry(
     ensures same_told { result ≡ false → told.new ≡ told.old }
 {
     match &entry.met {
-        Some(insn) => glide_insn(module, text, insn, pc, next, label, told),
+        Some(insn) => glide_insn(module, text, room, insn, pc, next, label, told),
         None => false,
     }
 }
@@ -94,12 +100,14 @@ fn glide_entry(
 pub fn glide_on(
     module: &Module,
     text: &[u8],
+    room: u16,
     entry: &Entry,
     join: u16,
     pc: u16,
     label: &mut Label,
     told: &mut Label,
 ) -> Option<u16>
+    requires room { IsRoom module.now room }
     requires entry { entry.now ≡ entry_by module.now text.now pc }
     ensures near { IfSome result (λ next. next ≤ join) }
     ensures glides { IfSome result (λ next. entry.now.glides ≡ Some next) }
@@ -109,7 +117,7 @@ pub fn glide_on(
     ensures same_told { result ≡ None → told.new ≡ told.old }
 {
     let next = entry.glides?;
-    if next <= join && glide_entry(module, text, entry, pc, next, label, told) {
+    if next <= join && glide_entry(module, text, room, entry, pc, next, label, told) {
         Some(next)
     } else {
         None

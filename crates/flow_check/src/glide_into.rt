@@ -170,7 +170,7 @@ fn source(
 
 /// Does an operation into a register, and tells that.
 #[inline(always)]
-fn into(op: TwoOp, width: Width, reg: u8, source: Val, core: &mut Core, told: &mut Core)
+pub fn into(op: TwoOp, width: Width, reg: u8, source: Val, core: &mut Core, told: &mut Core)
     ensures core { core.new ≡ (cleared_if (clears_flags op width (Operand.Reg reg) source)
         (written_val (writes_dst op) (Operand.Reg reg) (two_val op width source
         (narrow width (val core.old reg)) (read_if (reads_carry op) (carry_val core.old))) core.old)).core }
@@ -183,7 +183,7 @@ fn into(op: TwoOp, width: Width, reg: u8, source: Val, core: &mut Core, told: &m
 
 /// The same of words, with code of its own for each operation.
 #[inline(never)]
-pub fn into_word(op: TwoOp, reg: u8, source: Val, core: &mut Core, told: &mut Core)
+fn into_word(op: TwoOp, reg: u8, source: Val, core: &mut Core, told: &mut Core)
     ensures core { core.new ≡ (cleared_if (clears_flags op Width.Word (Operand.Reg reg) source)
         (written_val (writes_dst op) (Operand.Reg reg) (two_val op Width.Word source
         (narrow Width.Word (val core.old reg)) (read_if (reads_carry op) (carry_val core.old))) core.old)).core }
@@ -207,7 +207,7 @@ pub fn into_word(op: TwoOp, reg: u8, source: Val, core: &mut Core, told: &mut Co
 
 /// The same of bytes.
 #[inline(never)]
-pub fn into_byte(op: TwoOp, reg: u8, source: Val, core: &mut Core, told: &mut Core)
+fn into_byte(op: TwoOp, reg: u8, source: Val, core: &mut Core, told: &mut Core)
     ensures core { core.new ≡ (cleared_if (clears_flags op Width.Byte (Operand.Reg reg) source)
         (written_val (writes_dst op) (Operand.Reg reg) (two_val op Width.Byte source
         (narrow Width.Byte (val core.old reg)) (read_if (reads_carry op) (carry_val core.old))) core.old)).core }

@@ -21,7 +21,7 @@ ghost use Rattle.flow_check.specs.Walks.{told, point_at};
 use crate::blot::blot_step;
 use crate::effect::low;
 use crate::glide::glide_on;
-use crate::glide_into::{into_byte, into_word, word_there};
+use crate::glide_into::{into, word_there};
 use crate::own::{data_byte, data_word, held, own_into};
 use crate::reach::{extension, increment};
 use crate::registers::{Core, move_on};
@@ -164,6 +164,23 @@ fn source_byte(
     }
 }
 
+/// Does an operation into a register but PC, and tells that.
+#[inline(always)]
+fn other_into(op: TwoOp, width: Width, reg: u8, source: Val, core: &mut Core, told: &mut Core)
+    requires high { 1 ≤ reg }
+    requires low { reg < 16 }
+    ensures core { core.new ≡ (cleared_if (clears_flags op width (Operand.Reg reg) source)
+        (written_val (writes_dst op) (Operand.Reg reg) (two_val op width source
+        (narrow width (val core.old reg)) (read_if (reads_carry op) (carry_val core.old))) core.old)).core }
+    ensures told { told.new ≡ blot_core (into_regs op reg) told.old }
+{
+    if reg < FIRST_OWN {
+        into(op, width, reg, source, core, told);
+    } else {
+        own_into(op, width, reg, source, core, told);
+    }
+}
+
 /// Does an operation on words into a register, and tells that, with code of its own for each operation.
 #[inline(always)]
 fn into_words(op: TwoOp, reg: u8, source: Val, core: &mut Core, told: &mut Core)
@@ -174,23 +191,19 @@ fn into_words(op: TwoOp, reg: u8, source: Val, core: &mut Core, told: &mut Core)
         (narrow Width.Word (val core.old reg)) (read_if (reads_carry op) (carry_val core.old))) core.old)).core }
     ensures told { told.new ≡ blot_core (into_regs op reg) told.old }
 {
-    if reg < FIRST_OWN {
-        into_word(op, reg, source, core, told);
-        return;
-    }
     match op {
-        TwoOp::Mov => own_into(TwoOp::Mov, Width::Word, reg, source, core, told),
-        TwoOp::Add => own_into(TwoOp::Add, Width::Word, reg, source, core, told),
-        TwoOp::Addc => own_into(TwoOp::Addc, Width::Word, reg, source, core, told),
-        TwoOp::Subc => own_into(TwoOp::Subc, Width::Word, reg, source, core, told),
-        TwoOp::Sub => own_into(TwoOp::Sub, Width::Word, reg, source, core, told),
-        TwoOp::Cmp => own_into(TwoOp::Cmp, Width::Word, reg, source, core, told),
-        TwoOp::Dadd => own_into(TwoOp::Dadd, Width::Word, reg, source, core, told),
-        TwoOp::Bit => own_into(TwoOp::Bit, Width::Word, reg, source, core, told),
-        TwoOp::Bic => own_into(TwoOp::Bic, Width::Word, reg, source, core, told),
-        TwoOp::Bis => own_into(TwoOp::Bis, Width::Word, reg, source, core, told),
-        TwoOp::Xor => own_into(TwoOp::Xor, Width::Word, reg, source, core, told),
-        TwoOp::And => own_into(TwoOp::And, Width::Word, reg, source, core, told),
+        TwoOp::Mov => other_into(TwoOp::Mov, Width::Word, reg, source, core, told),
+        TwoOp::Add => other_into(TwoOp::Add, Width::Word, reg, source, core, told),
+        TwoOp::Addc => other_into(TwoOp::Addc, Width::Word, reg, source, core, told),
+        TwoOp::Subc => other_into(TwoOp::Subc, Width::Word, reg, source, core, told),
+        TwoOp::Sub => other_into(TwoOp::Sub, Width::Word, reg, source, core, told),
+        TwoOp::Cmp => other_into(TwoOp::Cmp, Width::Word, reg, source, core, told),
+        TwoOp::Dadd => other_into(TwoOp::Dadd, Width::Word, reg, source, core, told),
+        TwoOp::Bit => other_into(TwoOp::Bit, Width::Word, reg, source, core, told),
+        TwoOp::Bic => other_into(TwoOp::Bic, Width::Word, reg, source, core, told),
+        TwoOp::Bis => other_into(TwoOp::Bis, Width::Word, reg, source, core, told),
+        TwoOp::Xor => other_into(TwoOp::Xor, Width::Word, reg, source, core, told),
+        TwoOp::And => other_into(TwoOp::And, Width::Word, reg, source, core, told),
     }
 }
 
@@ -204,23 +217,19 @@ fn into_bytes(op: TwoOp, reg: u8, source: Val, core: &mut Core, told: &mut Core)
         (narrow Width.Byte (val core.old reg)) (read_if (reads_carry op) (carry_val core.old))) core.old)).core }
     ensures told { told.new ≡ blot_core (into_regs op reg) told.old }
 {
-    if reg < FIRST_OWN {
-        into_byte(op, reg, source, core, told);
-        return;
-    }
     match op {
-        TwoOp::Mov => own_into(TwoOp::Mov, Width::Byte, reg, source, core, told),
-        TwoOp::Add => own_into(TwoOp::Add, Width::Byte, reg, source, core, told),
-        TwoOp::Addc => own_into(TwoOp::Addc, Width::Byte, reg, source, core, told),
-        TwoOp::Subc => own_into(TwoOp::Subc, Width::Byte, reg, source, core, told),
-        TwoOp::Sub => own_into(TwoOp::Sub, Width::Byte, reg, source, core, told),
-        TwoOp::Cmp => own_into(TwoOp::Cmp, Width::Byte, reg, source, core, told),
-        TwoOp::Dadd => own_into(TwoOp::Dadd, Width::Byte, reg, source, core, told),
-        TwoOp::Bit => own_into(TwoOp::Bit, Width::Byte, reg, source, core, told),
-        TwoOp::Bic => own_into(TwoOp::Bic, Width::Byte, reg, source, core, told),
-        TwoOp::Bis => own_into(TwoOp::Bis, Width::Byte, reg, source, core, told),
-        TwoOp::Xor => own_into(TwoOp::Xor, Width::Byte, reg, source, core, told),
-        TwoOp::And => own_into(TwoOp::And, Width::Byte, reg, source, core, told),
+        TwoOp::Mov => other_into(TwoOp::Mov, Width::Byte, reg, source, core, told),
+        TwoOp::Add => other_into(TwoOp::Add, Width::Byte, reg, source, core, told),
+        TwoOp::Addc => other_into(TwoOp::Addc, Width::Byte, reg, source, core, told),
+        TwoOp::Subc => other_into(TwoOp::Subc, Width::Byte, reg, source, core, told),
+        TwoOp::Sub => other_into(TwoOp::Sub, Width::Byte, reg, source, core, told),
+        TwoOp::Cmp => other_into(TwoOp::Cmp, Width::Byte, reg, source, core, told),
+        TwoOp::Dadd => other_into(TwoOp::Dadd, Width::Byte, reg, source, core, told),
+        TwoOp::Bit => other_into(TwoOp::Bit, Width::Byte, reg, source, core, told),
+        TwoOp::Bic => other_into(TwoOp::Bic, Width::Byte, reg, source, core, told),
+        TwoOp::Bis => other_into(TwoOp::Bis, Width::Byte, reg, source, core, told),
+        TwoOp::Xor => other_into(TwoOp::Xor, Width::Byte, reg, source, core, told),
+        TwoOp::And => other_into(TwoOp::And, Width::Byte, reg, source, core, told),
     }
 }
 
@@ -330,7 +339,7 @@ fn own_on(
                 None
             }
         }
-        Plain::Other => glide_on(module, text, entry, join, pc, label, told),
+        Plain::Other => glide_on(module, text, room, entry, join, pc, label, told),
     }
 }
 

@@ -9,22 +9,29 @@ ghost use Rattle.sm_words.specs.declared.width.Width.{Width};
 ghost use Rattle.flow_rule.specs.declared.Val.{Val};
 ghost use Rattle.flow_rule.specs.Values.{val};
 ghost use Rattle.flow_rule.specs.Arms.{stepped_regs, written_words, blot, blot_core};
-ghost use Rattle.flow_rule.specs.Does.{past_val, stepped_val, reach_if, two_val, carry_val, set_flags_by, writes_val, word_no};
+ghost use Rattle.flow_rule.specs.Does.{past_val, stepped_val, reach_if, two_val, carry_val, set_flags_by, writes_val, word_no, worked, read_if, reads_carry};
+ghost use Rattle.flow_check.specs.Carries.{IsCarry};
 ghost use Rattle.flow_check.specs.Along.{taken_by};
-ghost use Rattle.flow_check.specs.Gliding.{IsGlided, IsWordThere, moved_on};
-ghost use Rattle.flow_check.specs.GlidingTwo.{source_place, destination_place, IsTwoPlace, IsTwoSource, IsTwoAddress, IsTwoReady, tried};
+ghost use Rattle.flow_check.specs.Gliding.{IsGlided, IsRoom, IsNear, IsWordThere, moved_on};
+ghost use Rattle.flow_check.specs.GlidingTwo.{source_place, destination_place, IsTwoPlace, IsTwoSource, IsTwoAddress, IsTwoReady, tried, put_near, old_near, told_near};
 
 use crate::blot::blot_step;
-use crate::effect::{carry_for, low, set_flags, two};
+use crate::effect::{
+    carry_for, flags_if, low, read_if, reads_carry, set_flags, sets_flags, two, worked,
+};
+use crate::own::{data_there, near_number};
 use crate::reach::{extension, increment, reads_destination, second, writes_destination};
 use crate::registers::{Core, get, move_on};
-use crate::text::{may_reach, put_word, read_at, read_numbered, word_number, write_numbered};
-use crate::value::{narrow, plus};
+use crate::text::{
+    blot_near, may_reach, near_at, put_word, read_at, read_numbered, word_number, write_near,
+    write_numbered,
+};
+use crate::value::{blurred_all, narrow, plus};
 use flow_rule::{Label, Told, Val};
 use insn_decode::{Insn, Operand, TwoOp};
 use mod_layout::Module;
 use pc_access::Kind;
-use sm_words::Width;
+use sm_words::{SR, Width};
 
 /// The address of a source in memory, but for one by PC.
 #[tactic(auto, using(crate::proofs::GlidingTwo::moved_other, crate::proofs::GlidingTwo::still_raised))]
@@ -120,22 +127,41 @@ fn may_do(module: &Module, op: TwoOp, width: Width, addr: u16) -> bool
 /// What stands at an address, where it may be read.
 #[tactic(auto, using(crate::proofs::GlidingTwo::allowed))]
 #[inline(always)]
-fn word_there(
+fn far_there(
     module: &Module,
     text: &[u8],
+    width: Width,
+    number: u16,
+    words: &[Val; 256],
+) -> Option<Val>
+    ensures { IfSome result (IsWordThere module.now text.now width (Val.Known number) words.now) }
+{
+    if !may_reach(module, Kind::Read, width, number) {
+        return None;
+    }
+    Some(narrow(width, read_at(module, text, words, width, number)))
+}
+
+/// The same; most addresses are of the data.
+#[inline(always)]
+pub fn word_there(
+    module: &Module,
+    text: &[u8],
+    room: u16,
     width: Width,
     addr: Val,
     words: &[Val; 256],
 ) -> Option<Val>
+    requires room { IsRoom module.now room }
     ensures { IfSome result (IsWordThere module.now text.now width addr words.now) }
 {
     let Val::Known(number) = addr else {
         return None;
     };
-    if !may_reach(module, Kind::Read, width, number) {
-        return None;
+    match data_there(module, room, width, number, words) {
+        Some(value) => Some(value),
+        None => far_there(module, text, width, number, words),
     }
-    Some(narrow(width, read_at(module, text, words, width, number)))
 }
 
 /// What a source in memory gives, where it may be read.
@@ -144,17 +170,19 @@ fn word_there(
 fn source_there(
     module: &Module,
     text: &[u8],
+    room: u16,
     width: Width,
     src: Operand,
     label: &Label,
     pc: u16,
 ) -> Option<Val>
+    requires room { IsRoom module.now room }
     ensures { IfSome result (λ value. (next : ℕ) → IsTwoSource module.now text.now width src label.now pc next value) }
 {
     let Some(addr) = source_place(src, &label.core, pc) else {
         return None;
     };
-    word_there(module, text, width, addr, &label.words)
+    word_there(module, text, room, width, addr, &label.words)
 }
 
 /// What a source gives, where it may be read, but for one of PC.
@@ -163,11 +191,13 @@ fn source_there(
 fn source(
     module: &Module,
     text: &[u8],
+    room: u16,
     width: Width,
     src: Operand,
     label: &Label,
     pc: u16,
 ) -> Option<Val>
+    requires room { IsRoom module.now room }
     ensures { IfSome result (λ value. (next : ℕ) → IsTwoSource module.now text.now width src label.now pc next value) }
 {
     match src {
@@ -179,7 +209,7 @@ fn source(
         }
         Operand::Const(number) => Some(Val::Known(low(width, number))),
         Operand::Imm(number) => Some(Val::Known(low(width, number))),
-        _ => source_there(module, text, width, src, label, pc),
+        _ => source_there(module, text, room, width, src, label, pc),
     }
 }
 
@@ -337,6 +367,7 @@ fn finish_word(
 }
 
 /// Does an operation on bytes, with code of its own for each.
+#[inline(always)]
 fn finish_byte(
     module: &Module,
     text: &[u8],
@@ -370,12 +401,366 @@ fn finish_byte(
     }
 }
 
+/// The same anywhere.
+#[inline(never)]
+fn finish_far(
+    module: &Module,
+    text: &[u8],
+    op: TwoOp,
+    width: Width,
+    given: Given,
+    label: &mut Label,
+    told: &mut Label,
+) -> bool
+    requires even { given.next % 2 ≡ 0 }
+    requires still { (c : List Val) → val (stepped_val width given.src c) 0 ≡ val c 0 }
+    ensures done { result ≡ true → (dst : Operand) (pc : ℕ) →
+        IsTwoReady module.now text.now op width given.src dst label.old pc given.next given.value given.addr →
+        IsGlided module.now text.now (Insn.Two op width given.src dst) pc given.next label.old label.new
+        told.old told.new }
+    ensures same_label { result ≡ false → label.new ≡ label.old }
+    ensures same_told { result ≡ false → told.new ≡ told.old }
+{
+    match width {
+        Width::Byte => finish_byte(module, text, op, given, label, told),
+        Width::Word => finish_word(module, text, op, given, label, told),
+    }
+}
+
+/// What stands at such a destination whose word has a number below 256.
+#[inline(always)]
+fn near_old(op: TwoOp, width: Width, addr: u16, n: usize, words: &[Val; 256]) -> Val
+    requires few { n < 256 }
+    ensures { result ≡ old_near (reads_dst op) width addr n words.now }
+{
+    if reads_destination(op) {
+        near_at(words, width, addr, n)
+    } else {
+        narrow(width, Val::Secret)
+    }
+}
+
+/// Writes a result to its word, if the operation writes.
+#[inline(always)]
+fn store_near(op: TwoOp, width: Width, n: usize, value: Val, words: &mut [Val; 256])
+    requires few { n < 256 }
+    ensures { words.new ≡ put_near (writes_dst op) width n value words.old }
+{
+    if writes_destination(op) {
+        write_near(words, width, n, value);
+    }
+}
+
+/// Tells what is written.
+#[inline(always)]
+fn tell_near(op: TwoOp, n: usize, told: &mut [Val; 256])
+    requires few { n < 256 }
+    ensures { told.new ≡ told_near (writes_dst op) n told.old }
+{
+    if writes_destination(op) {
+        blot_near(told, n);
+    }
+}
+
+/// Sets the flags by this result, writes it, and tells what is written.
+#[inline(always)]
+fn end_near(
+    op: TwoOp,
+    width: Width,
+    n: usize,
+    given: Told,
+    label: &mut Label,
+    told: &mut [Val; 256],
+)
+    requires few { n < 256 }
+    ensures core { label.new.core ≡ set_flags_by given.flags label.old.core }
+    ensures words { label.new.words ≡ put_near (writes_dst op) width n given.value label.old.words }
+    ensures told { told.new ≡ told_near (writes_dst op) n told.old }
+{
+    set_flags(given.flags, &mut label.core);
+    store_near(op, width, n, given.value, &mut label.words);
+    tell_near(op, n, told);
+}
+
+/// The same, of what an operation gives of these values, but for a word MOV.
+#[inline(always)]
+fn worked_near(
+    op: TwoOp,
+    width: Width,
+    n: usize,
+    s: Val,
+    d: Val,
+    c: Val,
+    label: &mut Label,
+    told: &mut [Val; 256],
+)
+    requires carry { IsCarry c }
+    requires few { n < 256 }
+    ensures core { label.new.core ≡ set_flags_by (worked op width s d c).flags label.old.core }
+    ensures words { label.new.words ≡ put_near (writes_dst op) width n (worked op width s d c).value label.old.words }
+    ensures told { told.new ≡ told_near (writes_dst op) n told.old }
+{
+    match (s, d, c) {
+        (Val::Known(x), Val::Known(y), Val::Known(z)) => {
+            let result = worked(op, width, Val::Known(x), Val::Known(y), Val::Known(z));
+            end_near(op, width, n, result, label, told);
+        }
+        _ => {
+            let value = blurred_all(s, d, c);
+            let result = Told {
+                value,
+                flags: flags_if(sets_flags(op), value),
+            };
+            end_near(op, width, n, result, label, told);
+        }
+    }
+}
+
+/// The same of any operation.
+#[inline(always)]
+fn work_near(
+    op: TwoOp,
+    width: Width,
+    n: usize,
+    s: Val,
+    d: Val,
+    c: Val,
+    label: &mut Label,
+    told: &mut [Val; 256],
+)
+    requires carry { IsCarry c }
+    requires few { n < 256 }
+    ensures core { label.new.core ≡ set_flags_by (two_val op width s d c).flags label.old.core }
+    ensures words { label.new.words ≡ put_near (writes_dst op) width n (two_val op width s d c).value label.old.words }
+    ensures told { told.new ≡ told_near (writes_dst op) n told.old }
+{
+    match (op, width) {
+        (TwoOp::Mov, Width::Word) => {
+            let result = Told {
+                value: s,
+                flags: None,
+            };
+            end_near(op, width, n, result, label, told);
+        }
+        _ => worked_near(
+            op,
+            width,
+            n,
+            s,
+            read_if(reads_destination(op), d),
+            read_if(reads_carry(op), c),
+            label,
+            told,
+        ),
+    }
+}
+
+/// Does an operation on a word of the data that has a number below 256, once the registers but the flags are settled.
+#[inline(always)]
+fn near_as(
+    op: TwoOp,
+    width: Width,
+    addr: u16,
+    n: usize,
+    value: Val,
+    label: &mut Label,
+    told: &mut [Val; 256],
+)
+    requires few { n < 256 }
+    ensures core { label.new.core ≡ set_flags_by (two_val op width value
+        (old_near (reads_dst op) width addr n label.old.words)
+        (read_if (reads_carry op) (carry_val label.old.core))).flags label.old.core }
+    ensures words { label.new.words ≡ put_near (writes_dst op) width n (two_val op width value
+        (old_near (reads_dst op) width addr n label.old.words)
+        (read_if (reads_carry op) (carry_val label.old.core))).value label.old.words }
+    ensures told { told.new ≡ told_near (writes_dst op) n told.old }
+{
+    let old = near_old(op, width, addr, n, &label.words);
+    let carry = carry_for(op, &label.core);
+    work_near(op, width, n, value, old, carry, label, told);
+}
+
+/// The same on words, with code of its own for each operation.
+#[inline(never)]
+fn near_word(op: TwoOp, addr: u16, n: usize, value: Val, label: &mut Label, told: &mut [Val; 256])
+    requires few { n < 256 }
+    ensures core { label.new.core ≡ set_flags_by (two_val op Width.Word value
+        (old_near (reads_dst op) Width.Word addr n label.old.words)
+        (read_if (reads_carry op) (carry_val label.old.core))).flags label.old.core }
+    ensures words { label.new.words ≡ put_near (writes_dst op) Width.Word n (two_val op Width.Word value
+        (old_near (reads_dst op) Width.Word addr n label.old.words)
+        (read_if (reads_carry op) (carry_val label.old.core))).value label.old.words }
+    ensures told { told.new ≡ told_near (writes_dst op) n told.old }
+{
+    match op {
+        TwoOp::Mov => near_as(TwoOp::Mov, Width::Word, addr, n, value, label, told),
+        TwoOp::Add => near_as(TwoOp::Add, Width::Word, addr, n, value, label, told),
+        TwoOp::Addc => near_as(TwoOp::Addc, Width::Word, addr, n, value, label, told),
+        TwoOp::Subc => near_as(TwoOp::Subc, Width::Word, addr, n, value, label, told),
+        TwoOp::Sub => near_as(TwoOp::Sub, Width::Word, addr, n, value, label, told),
+        TwoOp::Cmp => near_as(TwoOp::Cmp, Width::Word, addr, n, value, label, told),
+        TwoOp::Dadd => near_as(TwoOp::Dadd, Width::Word, addr, n, value, label, told),
+        TwoOp::Bit => near_as(TwoOp::Bit, Width::Word, addr, n, value, label, told),
+        TwoOp::Bic => near_as(TwoOp::Bic, Width::Word, addr, n, value, label, told),
+        TwoOp::Bis => near_as(TwoOp::Bis, Width::Word, addr, n, value, label, told),
+        TwoOp::Xor => near_as(TwoOp::Xor, Width::Word, addr, n, value, label, told),
+        TwoOp::And => near_as(TwoOp::And, Width::Word, addr, n, value, label, told),
+    }
+}
+
+/// The same on bytes.
+#[inline(never)]
+fn near_byte(op: TwoOp, addr: u16, n: usize, value: Val, label: &mut Label, told: &mut [Val; 256])
+    requires few { n < 256 }
+    ensures core { label.new.core ≡ set_flags_by (two_val op Width.Byte value
+        (old_near (reads_dst op) Width.Byte addr n label.old.words)
+        (read_if (reads_carry op) (carry_val label.old.core))).flags label.old.core }
+    ensures words { label.new.words ≡ put_near (writes_dst op) Width.Byte n (two_val op Width.Byte value
+        (old_near (reads_dst op) Width.Byte addr n label.old.words)
+        (read_if (reads_carry op) (carry_val label.old.core))).value label.old.words }
+    ensures told { told.new ≡ told_near (writes_dst op) n told.old }
+{
+    match op {
+        TwoOp::Mov => near_as(TwoOp::Mov, Width::Byte, addr, n, value, label, told),
+        TwoOp::Add => near_as(TwoOp::Add, Width::Byte, addr, n, value, label, told),
+        TwoOp::Addc => near_as(TwoOp::Addc, Width::Byte, addr, n, value, label, told),
+        TwoOp::Subc => near_as(TwoOp::Subc, Width::Byte, addr, n, value, label, told),
+        TwoOp::Sub => near_as(TwoOp::Sub, Width::Byte, addr, n, value, label, told),
+        TwoOp::Cmp => near_as(TwoOp::Cmp, Width::Byte, addr, n, value, label, told),
+        TwoOp::Dadd => near_as(TwoOp::Dadd, Width::Byte, addr, n, value, label, told),
+        TwoOp::Bit => near_as(TwoOp::Bit, Width::Byte, addr, n, value, label, told),
+        TwoOp::Bic => near_as(TwoOp::Bic, Width::Byte, addr, n, value, label, told),
+        TwoOp::Bis => near_as(TwoOp::Bis, Width::Byte, addr, n, value, label, told),
+        TwoOp::Xor => near_as(TwoOp::Xor, Width::Byte, addr, n, value, label, told),
+        TwoOp::And => near_as(TwoOp::And, Width::Byte, addr, n, value, label, told),
+    }
+}
+
+/// The same of each width.
+#[inline(always)]
+fn near_any(
+    op: TwoOp,
+    width: Width,
+    addr: u16,
+    n: usize,
+    value: Val,
+    label: &mut Label,
+    told: &mut [Val; 256],
+)
+    requires few { n < 256 }
+    ensures core { label.new.core ≡ set_flags_by (two_val op width value
+        (old_near (reads_dst op) width addr n label.old.words)
+        (read_if (reads_carry op) (carry_val label.old.core))).flags label.old.core }
+    ensures words { label.new.words ≡ put_near (writes_dst op) width n (two_val op width value
+        (old_near (reads_dst op) width addr n label.old.words)
+        (read_if (reads_carry op) (carry_val label.old.core))).value label.old.words }
+    ensures told { told.new ≡ told_near (writes_dst op) n told.old }
+{
+    match width {
+        Width::Byte => near_byte(op, addr, n, value, label, told),
+        Width::Word => near_word(op, addr, n, value, label, told),
+    }
+}
+
+/// Whether a source's increment leaves the flags as they are.
+#[tactic(auto, using(crate::proofs::GlidingTwo::still_flags))]
+#[inline(always)]
+fn keeps_flags(src: Operand) -> bool
+    ensures { result ≡ true → (w : Width) (c : List Val) → val (stepped_val w src c) 2 ≡ val c 2 }
+{
+    match src {
+        Operand::Increment(reg) => {
+            if reg == SR {
+                return false;
+            }
+            true
+        }
+        Operand::Reg(_) => true,
+        Operand::Const(_) => true,
+        Operand::Imm(_) => true,
+        Operand::Indexed { .. } => true,
+        Operand::Indirect(_) => true,
+        Operand::Symbolic(_) => true,
+        Operand::Absolute(_) => true,
+    }
+}
+
+/// Does an instruction on a word of the data that has this number below 256.
+#[inline(always)]
+fn finish_near(
+    module: &Module,
+    text: &[u8],
+    op: TwoOp,
+    width: Width,
+    given: Given,
+    n: usize,
+    label: &mut Label,
+    told: &mut Label,
+) -> bool
+    requires even { given.next % 2 ≡ 0 }
+    requires still { (c : List Val) → val (stepped_val width given.src c) 0 ≡ val c 0 }
+    requires flags { (w : Width) (c : List Val) → val (stepped_val w given.src c) 2 ≡ val c 2 }
+    requires near { IsNear module.now width given.addr n }
+    ensures done { result ≡ true → (dst : Operand) (pc : ℕ) →
+        IsTwoReady module.now text.now op width given.src dst label.old pc given.next given.value given.addr →
+        IsGlided module.now text.now (Insn.Two op width given.src dst) pc given.next label.old label.new
+        told.old told.new }
+    ensures same_label { result ≡ false → label.new ≡ label.old }
+    ensures same_told { result ≡ false → told.new ≡ told.old }
+{
+    let _ = module;
+    let _ = text;
+    let Given {
+        src,
+        value,
+        addr,
+        next,
+    } = given;
+    move_on(&mut label.core, next);
+    increment(width, src, &mut label.core);
+    blot_step(src, &mut told.core);
+    near_any(op, width, addr, n, value, label, &mut told.words);
+    true
+}
+
+/// Does an instruction by its source's value and its destination's address.
+#[inline(always)]
+fn finish_two(
+    module: &Module,
+    text: &[u8],
+    room: u16,
+    op: TwoOp,
+    width: Width,
+    given: Given,
+    label: &mut Label,
+    told: &mut Label,
+) -> bool
+    requires room { IsRoom module.now room }
+    requires even { given.next % 2 ≡ 0 }
+    requires still { (c : List Val) → val (stepped_val width given.src c) 0 ≡ val c 0 }
+    ensures done { result ≡ true → (dst : Operand) (pc : ℕ) →
+        IsTwoReady module.now text.now op width given.src dst label.old pc given.next given.value given.addr →
+        IsGlided module.now text.now (Insn.Two op width given.src dst) pc given.next label.old label.new
+        told.old told.new }
+    ensures same_label { result ≡ false → label.new ≡ label.old }
+    ensures same_told { result ≡ false → told.new ≡ told.old }
+{
+    if !keeps_flags(given.src) {
+        return false;
+    }
+    match near_number(module, room, width, given.addr) {
+        Some(n) => finish_near(module, text, op, width, given, n, label, told),
+        None => finish_far(module, text, op, width, given, label, told),
+    }
+}
+
 /// Does an instruction of format I whose destination is no register, where it has no cause; of another, nothing
 /// changes.
 #[inline(always)]
 pub fn glide_two(
     module: &Module,
     text: &[u8],
+    room: u16,
     op: TwoOp,
     width: Width,
     src: Operand,
@@ -385,6 +770,7 @@ pub fn glide_two(
     label: &mut Label,
     told: &mut Label,
 ) -> bool
+    requires room { IsRoom module.now room }
     requires past { moved_on label.old.core next ≡ past_val (Insn.Two op width src dst) pc label.old.core }
     requires even { next % 2 ≡ 0 }
     ensures done { result ≡ true →
@@ -395,7 +781,7 @@ pub fn glide_two(
     let Some(Val::Known(addr)) = destination_place(width, src, dst, &label.core, pc) else {
         return false;
     };
-    let Some(value) = source(module, text, width, src, label, pc) else {
+    let Some(value) = source(module, text, room, width, src, label, pc) else {
         return false;
     };
     let given = Given {
@@ -404,8 +790,5 @@ pub fn glide_two(
         addr,
         next,
     };
-    match width {
-        Width::Byte => finish_byte(module, text, op, given, label, told),
-        Width::Word => finish_word(module, text, op, given, label, told),
-    }
+    finish_two(module, text, room, op, width, given, label, told)
 }

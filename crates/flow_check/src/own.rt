@@ -9,7 +9,7 @@ ghost use Rattle.flow_rule.specs.Values.{val, narrow, put_val};
 ghost use Rattle.flow_rule.specs.Does.{worked, cleared_if, clears_flags, written_val, two_val, read_if, reads_carry, carry_val};
 ghost use Rattle.flow_rule.specs.Arms.{blot_core};
 ghost use Rattle.flow_check.specs.Carries.{IsCarry};
-ghost use Rattle.flow_check.specs.Gliding.{IsRoom, IsWordThere, moved_on, into_regs};
+ghost use Rattle.flow_check.specs.Gliding.{IsRoom, IsNear, IsWordThere, moved_on, into_regs};
 ghost use Rattle.flow_check.specs.Tables.{is_other};
 
 use crate::effect::{
@@ -21,6 +21,7 @@ use crate::value::{blurred_all, half, narrow};
 use flow_rule::{Told, Val};
 use insn_decode::TwoOp;
 use mod_layout::Module;
+use pc_access::is_misaligned;
 use sm_words::Width;
 
 /// The most addresses of the data that have words of their own.
@@ -83,6 +84,45 @@ pub fn data_byte(module: &Module, room: u16, addr: u16, words: &[Val; 256]) -> O
         return None;
     }
     Some(narrow(Width::Byte, half(addr, words[usize::from(offset / 2)])))
+}
+
+/// What stands at an address of the data.
+#[inline(always)]
+pub fn data_there(
+    module: &Module,
+    room: u16,
+    width: Width,
+    addr: u16,
+    words: &[Val; 256],
+) -> Option<Val>
+    requires room { IsRoom module.now room }
+    ensures { IfSome result (λ v. (text : List ℕ) → IsWordThere module.now text width (Val.Known addr) words.now v) }
+{
+    match width {
+        Width::Word => data_word(module, room, addr, words),
+        Width::Byte => data_byte(module, room, addr, words),
+    }
+}
+
+/// The number of the word at an address of the data that may be written.
+#[tactic(auto, using(crate::proofs::GlidingOwn::near_data))]
+#[inline(always)]
+pub fn near_number(module: &Module, room: u16, width: Width, addr: u16) -> Option<usize>
+    requires room { IsRoom module.now room }
+    ensures { IfSome result (IsNear module.now width addr) }
+{
+    let start = module.ram.start;
+    if addr < start {
+        return None;
+    }
+    let offset = addr - start;
+    if room <= offset {
+        return None;
+    }
+    if is_misaligned(width, addr) {
+        return None;
+    }
+    Some(usize::from(offset / 2))
 }
 
 /// What is known of a register but PC.

@@ -63,12 +63,13 @@ pub struct Passage {
     pub returns: Returns,
     pub answer: Answer,
     /// What the arm seemed to need that the jump does not take, where that was asked.
-    past: Option<Needs>,
+    past: Option<Box<Needs>>,
 }
 
 /// The passages that were walked.
 #[derive(Drop)]
 pub struct Passages {
+    alloc: Global,
     list: Vec<Passage>,
     /// Where the newest passage of the branches with this number is.
     newest: [usize; 256],
@@ -87,17 +88,19 @@ fn blank() -> Label
 }
 
 /// The answer of a walk with this least cause, whose arms wrote so.
-fn answer_of(least: Option<Cause>, told: &Label) -> Answer
-    ensures { result ≡ answer_of least told.now }
+fn answer_of(alloc: Global, least: Option<Cause>, told: &Label) -> Result<Answer, AllocError>
+    ensures { IfOk result (λ answer. answer ≡ answer_of least told.now) }
 {
-    match least {
-        Some(cause) => Answer::Shut(cause),
-        None => Answer::Open(Told::of(told)),
-    }
+    let Some(cause) = least else {
+        let told = Told::of(alloc, told)?;
+        return Ok(Answer::Open(told));
+    };
+    Ok(Answer::Shut(cause))
 }
 
 /// Walks the arms of a branch under a label, with these return addresses.
 fn walked(
+    alloc: Global,
     module: &Module,
     text: &[u8],
     table: &[Entry],
@@ -106,27 +109,29 @@ fn walked(
     pc: u16,
     label: &Label,
     returns: &Returns,
-) -> Passage
+) -> Result<Passage, AllocError>
     requires few { IfSome entries (λ n. n ≤ 64) }
     requires table { IsTable module.now text.now table.now }
-    ensures is { IsStub module.now text.now entries → IsPassage module.now text.now result }
-    ensures branch { result.branch ≡ pc }
-    ensures crossing { result.crossing ≡ crossing.now }
-    ensures label { result.label ≡ label.now }
+    ensures is { IfOk result (λ p. IsStub module.now text.now entries → IsPassage module.now text.now p) }
+    ensures branch { IfOk result (λ p. p.branch ≡ pc) }
+    ensures crossing { IfOk result (λ p. p.crossing ≡ crossing.now) }
+    ensures label { IfOk result (λ p. p.label ≡ label.now) }
 {
     let mut told = blank();
     let mut least: Option<Cause> = None;
     walk_arms(
         module, text, table, entries, crossing, pc, label, returns, &mut least, &mut told,
     );
-    Passage {
+    let top = Top::of(alloc, label)?;
+    let answer = answer_of(alloc, least, &told)?;
+    Ok(Passage {
         branch: pc,
         crossing: *crossing,
-        label: Top::of(label),
+        label: top,
         returns: *returns,
-        answer: answer_of(least, &told),
+        answer,
         past: None,
-    }
+    })
 }
 
 /// Whether this arm of a branch has a cause by itself.
@@ -158,6 +163,7 @@ fn is_barred(
 
 /// What a walk of one arm tells, where that has a cause.
 fn barred(
+    alloc: Global,
     module: &Module,
     text: &[u8],
     table: &[Entry],
@@ -167,25 +173,27 @@ fn barred(
     pc: u16,
     label: &Label,
     returns: &Returns,
-) -> Option<Passage>
+) -> Result<Option<Passage>, AllocError>
     requires few { IfSome entries (λ n. n ≤ 64) }
     requires table { IsTable module.now text.now table.now }
-    ensures { IfSome result (λ p. IsStub module.now text.now entries → IsPassage module.now text.now p) }
+    ensures { IfOk result (λ found. IfSome found (λ p. IsStub module.now text.now entries →
+        IsPassage module.now text.now p)) }
 {
     let found = is_barred(
         module, text, table, entries, crossing, suspect, pc, label, returns,
     );
     if !found {
-        return None;
+        return Ok(None);
     }
-    Some(Passage {
+    let top = Top::of(alloc, label)?;
+    Ok(Some(Passage {
         branch: pc,
         crossing: *crossing,
-        label: Top::of(label),
+        label: top,
         returns: *returns,
         answer: Answer::Barred,
         past: None,
-    })
+    }))
 }
 
 /// Whether two labels are the same: each absorbs the other.
@@ -198,6 +206,7 @@ fn is_same_label(one: &Label, other: &Label) -> bool
 
 /// Walks the arms of a branch under its label, and writes what they write where there is no cause.
 fn crossed(
+    alloc: Global,
     module: &Module,
     text: &[u8],
     table: &[Entry],
@@ -207,24 +216,29 @@ fn crossed(
     label: &mut Label,
     returns: &Returns,
     written: &mut Places,
-) -> Outcome
+) -> Result<Outcome, AllocError>
     requires few { IfSome entries (λ n. n ≤ 64) }
     requires table { IsTable module.now text.now table.now }
-    ensures open { result ≡ Outcome.Open → IsStub module.now text.now entries → (returns : List ℕ) →
-        OpensTo module.now text.now crossing.now (branch_from pc returns label.old) label.new }
-    ensures shut { result ≡ Outcome.Shut → IsStub module.now text.now entries → (returns : List ℕ) →
-        (crossing_step module.now text.now crossing.now (branch_from pc returns label.old)).reasons ≢ [] }
-    ensures frame { result ≡ Outcome.Open → AlikeBut (numbers_of written.new) label.old.words label.new.words }
+    ensures open { IfOk result (λ outcome. outcome ≡ Outcome.Open → IsStub module.now text.now entries →
+        (returns : List ℕ) → OpensTo module.now text.now crossing.now
+        (branch_from pc returns label.old) label.new) }
+    ensures shut { IfOk result (λ outcome. outcome ≡ Outcome.Shut → IsStub module.now text.now entries →
+        (returns : List ℕ) → (crossing_step module.now text.now crossing.now
+        (branch_from pc returns label.old)).reasons ≢ []) }
+    ensures frame { IfOk result (λ outcome. outcome ≡ Outcome.Open →
+        AlikeBut (numbers_of written.new) label.old.words label.new.words) }
 {
     arms_rest();
-    let passage = walked(module, text, table, entries, crossing, pc, label, returns);
+    let passage = walked(
+        alloc, module, text, table, entries, crossing, pc, label, returns,
+    )?;
     match &passage.answer {
         Answer::Open(told) => {
             told.lay(label, written);
-            Outcome::Open
+            Ok(Outcome::Open)
         }
-        Answer::Shut(_) => Outcome::Shut,
-        Answer::Barred => Outcome::Shut,
+        Answer::Shut(_) => Ok(Outcome::Shut),
+        Answer::Barred => Ok(Outcome::Shut),
     }
 }
 
@@ -292,6 +306,7 @@ fn is_open(passage: &Passage) -> bool {
 /// Walks the arms of a branch under a label that absorbs this one and has as little in it as they seem to need, and
 /// under this label where that has a cause.
 fn learned(
+    alloc: Global,
     module: &Module,
     text: &[u8],
     table: &[Entry],
@@ -301,26 +316,32 @@ fn learned(
     pc: u16,
     label: &Label,
     returns: &Returns,
-) -> Passage
+) -> Result<Passage, AllocError>
     requires few { IfSome entries (λ n. n ≤ 64) }
     requires table { IsTable module.now text.now table.now }
-    ensures { IsStub module.now text.now entries → IsPassage module.now text.now result }
+    ensures { IfOk result (λ p. IsStub module.now text.now entries → IsPassage module.now text.now p) }
 {
     if let Some((past, taken)) = scout.needs(module, text, table, entries, crossing, pc, label) {
         let top = past.or(&taken).least(label);
-        let passage = walked(module, text, table, entries, crossing, pc, &top, returns);
+        let passage = walked(
+            alloc, module, text, table, entries, crossing, pc, &top, returns,
+        )?;
         if is_open(&passage) {
-            return Passage {
+            let past = Box::new(alloc, past)?;
+            return Ok(Passage {
                 past: Some(past),
                 ..passage
-            };
+            });
         }
     }
-    walked(module, text, table, entries, crossing, pc, label, returns)
+    walked(
+        alloc, module, text, table, entries, crossing, pc, label, returns,
+    )
 }
 
 /// The same, where an arm may have a cause: then one may be enough.
 fn learned_anew(
+    alloc: Global,
     module: &Module,
     text: &[u8],
     table: &[Entry],
@@ -331,20 +352,20 @@ fn learned_anew(
     pc: u16,
     label: &Label,
     returns: &Returns,
-) -> Passage
+) -> Result<Passage, AllocError>
     requires few { IfSome entries (λ n. n ≤ 64) }
     requires table { IsTable module.now text.now table.now }
-    ensures { IsStub module.now text.now entries → IsPassage module.now text.now result }
+    ensures { IfOk result (λ p. IsStub module.now text.now entries → IsPassage module.now text.now p) }
 {
     if let Some(suspect) = suspect
         && let Some(passage) = barred(
-            module, text, table, entries, crossing, suspect, pc, label, returns,
-        )
+            alloc, module, text, table, entries, crossing, suspect, pc, label, returns,
+        )?
     {
-        return passage;
+        return Ok(passage);
     }
     learned(
-        module, text, table, entries, crossing, scout, pc, label, returns,
+        alloc, module, text, table, entries, crossing, scout, pc, label, returns,
     )
 }
 
@@ -354,6 +375,7 @@ impl Passages {
         ensures { (m : Module) (text : List ℕ) → All (IsPassage m text) result.list.items }
     {
         Passages {
+            alloc,
             list: Vec::new(alloc),
             newest: [0; 256],
             scout: Scout::new(alloc),
@@ -416,14 +438,14 @@ impl Passages {
                 }
             }
             Answer::Shut(_) => {
-                if absorbs(label, passage.label.label()) {
+                if passage.label.is_absorbed(label) {
                     Some(Outcome::Shut)
                 } else {
                     None
                 }
             }
             Answer::Barred => {
-                if absorbs(label, passage.label.label()) {
+                if passage.label.is_absorbed(label) {
                     Some(Outcome::Shut)
                 } else {
                     None
@@ -464,7 +486,7 @@ impl Passages {
     fn suspect(&self, own: Option<usize>, label: &Label) -> Option<Suspect> {
         let passage = self.list.get(own?)?;
         let past = passage.past.as_ref()?;
-        if past.are_kept(passage.label.label(), label) {
+        if past.are_kept(&passage.label.label(), label) {
             Some(Suspect::Taken)
         } else {
             Some(Suspect::Past)
@@ -527,6 +549,7 @@ impl Passages {
         }
         let suspect = self.suspect(*own, label);
         let passage = learned_anew(
+            self.alloc,
             module,
             text,
             table,
@@ -537,15 +560,16 @@ impl Passages {
             pc,
             label,
             returns,
-        );
+        )?;
         let place = self.keep(*own, passage)?;
         *own = Some(place);
         if let Some(outcome) = self.answer(place, crossing, pc, label, written) {
             return Ok(outcome);
         }
-        Ok(crossed(
-            module, text, table, entries, crossing, pc, label, returns, written,
-        ))
+        let outcome = crossed(
+            self.alloc, module, text, table, entries, crossing, pc, label, returns, written,
+        )?;
+        Ok(outcome)
     }
 
     /// Whether it is known that a branch has no cause under its label.
@@ -584,7 +608,7 @@ impl Passages {
         };
         match &passage.answer {
             Answer::Shut(cause) => {
-                if is_same_label(passage.label.label(), label) && passage.returns.same(returns) {
+                if is_same_label(&passage.label.label(), label) && passage.returns.same(returns) {
                     Some(*cause)
                 } else {
                     None

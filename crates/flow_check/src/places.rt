@@ -24,6 +24,13 @@ impl Places {
         }
     }
 
+    /// Takes all numbers out.
+    pub fn clear(&mut self)
+        ensures { numbers_of self.new ≡ [] }
+    {
+        self.count = 0;
+    }
+
     /// One number more.
     pub fn push(&mut self, number: u8)
         requires { length (numbers_of self.old) < 256 }

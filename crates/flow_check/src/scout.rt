@@ -5,7 +5,7 @@
 use crate::arms::Crossing;
 use crate::course::Course;
 use crate::forms::Form;
-use crate::needs::Needs;
+use crate::needs::{Needs, Wants};
 use crate::stub::{is_shut, word_number};
 use crate::table::Entry;
 use flow_rule::Label;
@@ -43,6 +43,21 @@ struct Stretch {
     time: u32,
 }
 
+/// One of the arms of a branch.
+#[derive(Clone, Copy, PartialEq, Eq)]
+enum Arm {
+    First,
+    Second,
+}
+
+/// The ways of both arms: each goes along a lane and its own part of the road, and then both along the same part.
+#[derive(Clone, Copy)]
+struct Ways {
+    first: Stretch,
+    second: Stretch,
+    shared: Stretch,
+}
+
 /// Goes along the arms of a branch with numbers alone.
 #[derive(Drop)]
 pub struct Scout {
@@ -54,8 +69,9 @@ pub struct Scout {
     number: u32,
     /// The forms along the road.
     road: Vec<Form>,
-    /// The forms of an arm before it meets the road.
-    lane: Vec<Form>,
+    /// The forms of each arm before it meets the road.
+    first: Vec<Form>,
+    second: Vec<Form>,
 }
 
 /// The place of an address in the text.
@@ -74,7 +90,7 @@ fn is_free(module: &Module, has_stub: bool, pc: u16) -> bool {
 
 /// What is met at `pc`.
 fn spot_of(module: &Module, has_stub: bool, entry: &Entry, pc: u16) -> Spot {
-    let form = Form::of(entry.met, pc);
+    let form = Form::of(entry.met, pc, module.ram.start);
     let next = match entry.next {
         Some(next) => {
             if is_free(module, has_stub, pc) {
@@ -93,6 +109,40 @@ fn spot_of(module: &Module, has_stub: bool, entry: &Entry, pc: u16) -> Spot {
     }
 }
 
+/// The ways of two arms, of which each goes along this part of the road.
+fn shared_ways(first: &Stretch, second: &Stretch) -> Ways {
+    let shared = if first.to == second.to {
+        Stretch {
+            from: first.from.max(second.from),
+            ..*first
+        }
+    } else {
+        Stretch {
+            from: 0,
+            to: 0,
+            time: 0,
+        }
+    };
+    if shared.to == 0 {
+        return Ways {
+            first: *first,
+            second: *second,
+            shared,
+        };
+    }
+    Ways {
+        first: Stretch {
+            to: shared.from,
+            ..*first
+        },
+        second: Stretch {
+            to: shared.from,
+            ..*second
+        },
+        shared,
+    }
+}
+
 impl Scout {
     /// Nothing is seen so far.
     pub fn new(alloc: Global) -> Scout {
@@ -101,7 +151,8 @@ impl Scout {
             milestones: Vec::new(alloc),
             number: 1,
             road: Vec::new(alloc),
-            lane: Vec::new(alloc),
+            first: Vec::new(alloc),
+            second: Vec::new(alloc),
         }
     }
 
@@ -166,10 +217,18 @@ impl Scout {
         })
     }
 
+    /// The lane of an arm.
+    fn lane(&mut self, arm: Arm) -> &mut Vec<Form> {
+        match arm {
+            Arm::First => &mut self.first,
+            Arm::Second => &mut self.second,
+        }
+    }
+
     /// Keeps the forms of an arm up to where it meets the road, and tells how it goes on. None where it does not come to
     /// the join, or memory runs out.
-    fn lay_lane(&mut self, start: u16, join: u16) -> Option<Stretch> {
-        self.lane.clear();
+    fn lay_lane(&mut self, arm: Arm, start: u16, join: u16) -> Option<Stretch> {
+        self.lane(arm).clear();
         let mut place = start;
         let mut time: u32 = 0;
         for _ in 0..MOST_STEPS {
@@ -179,9 +238,9 @@ impl Scout {
             if place >= join {
                 break;
             }
-            let spot = self.spots.get(usize::from(place))?;
+            let spot = *self.spots.get(usize::from(place))?;
             if !spot.is_idle {
-                self.lane.push(spot.form).ok()?;
+                self.lane(arm).push(spot.form).ok()?;
             }
             time = time.wrapping_add(u32::from(spot.time));
             place = spot.next;
@@ -198,39 +257,82 @@ impl Scout {
     }
 
     /// The same, where a longer arm that does not meet the road becomes the road.
-    fn find(&mut self, start: u16, join: u16) -> Option<Stretch> {
-        let found = self.lay_lane(start, join)?;
-        if self.lane.len() <= self.road.len() {
+    fn find(&mut self, arm: Arm, start: u16, join: u16) -> Option<Stretch> {
+        let found = self.lay_lane(arm, start, join)?;
+        if self.lane(arm).len() <= self.road.len() {
             return Some(found);
         }
         let _ = self.lay_road(start);
-        self.lay_lane(start, join)
+        self.lay_lane(arm, start, join)
     }
 
-    /// What an arm needs of a label, where it seems to have no cause under it and takes this time.
+    /// The ways of both arms, where each takes this time.
+    fn ways(&mut self, past: u16, taken: u16, join: u16, cycles: u16) -> Option<Ways> {
+        let mut first = self.find(Arm::First, past, join)?;
+        let number = self.number;
+        let second = self.find(Arm::Second, taken, join)?;
+        if self.number != number {
+            first = self.lay_lane(Arm::First, past, join)?;
+        }
+        if first.time != u32::from(cycles) || second.time != u32::from(cycles) {
+            return None;
+        }
+        Some(shared_ways(&first, &second))
+    }
+
+    /// Goes along an arm's own way, and tells whether it has no cause there.
+    fn run_own(
+        &mut self,
+        module: &Module,
+        text: &[u8],
+        arm: Arm,
+        own: &Stretch,
+        course: &mut Course,
+    ) -> Option<()> {
+        if !course.run(module, text, self.lane(arm).as_mut_slice()) {
+            return None;
+        }
+        let road = self.road.as_mut_slice().get_mut(own.from..own.to)?;
+        if course.run(module, text, road) {
+            Some(())
+        } else {
+            None
+        }
+    }
+
+    /// What an arm needs on its own way for what it needs behind that.
+    fn needs_own(&mut self, arm: Arm, own: &Stretch, wants: Wants) -> Option<Needs> {
+        let mut wants = wants;
+        wants.go_back(self.road.as_slice().get(own.from..own.to)?);
+        wants.go_back(self.lane(arm).as_slice());
+        Some(wants.needs())
+    }
+
+    /// What the arms that go these ways need of a label, where they seem to have no cause under it.
     fn needs_of(
         &mut self,
         module: &Module,
         text: &[u8],
         label: &Label,
-        start: u16,
-        join: u16,
-        cycles: u16,
-    ) -> Option<Needs> {
-        let stretch = self.find(start, join)?;
-        if stretch.time != u32::from(cycles) {
-            return None;
-        }
-        let lane = self.lane.as_mut_slice();
-        let road = self.road.as_mut_slice().get_mut(stretch.from..stretch.to)?;
+        ways: &Ways,
+    ) -> Option<(Needs, Needs)> {
         let mut course = Course::start(module, label);
-        if !course.run(module, text, lane) || !course.run(module, text, road) {
+        let mut other = Course::start(module, label);
+        self.run_own(module, text, Arm::First, &ways.first, &mut course)?;
+        self.run_own(module, text, Arm::Second, &ways.second, &mut other)?;
+        course.join(&other);
+        let road = self
+            .road
+            .as_mut_slice()
+            .get_mut(ways.shared.from..ways.shared.to)?;
+        if !course.run(module, text, road) {
             return None;
         }
-        let mut needs = Needs::NONE;
-        needs.go_back(road);
-        needs.go_back(lane);
-        Some(needs)
+        let mut wants = Wants::NONE;
+        wants.go_back(road);
+        let first = self.needs_own(Arm::First, &ways.first, wants.first())?;
+        let second = self.needs_own(Arm::Second, &ways.second, wants.second())?;
+        Some((first, second))
     }
 
     /// Which values of a branch's label the arm needs that the jump does not take, and which the other, where they seem
@@ -255,8 +357,7 @@ impl Scout {
         let join = place(module, arm.join);
         let past = place(module, pc.wrapping_add(2));
         let taken = place(module, crossing.target);
-        let first = self.needs_of(module, text, label, past, join, arm.cycles)?;
-        let second = self.needs_of(module, text, label, taken, join, arm.cycles)?;
-        Some((first, second))
+        let ways = self.ways(past, taken, join, arm.cycles)?;
+        self.needs_of(module, text, label, &ways)
     }
 }

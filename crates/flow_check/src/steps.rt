@@ -4,6 +4,7 @@ ghost use Rattle.std.specs.Prelude.{◌≡◌, ◌≤◌, ℕ, [], All, IfSome, 
 ghost use Rattle.arrayvec.specs.ArrayVec.{array_vec_len};
 ghost use Rattle.flow_rule.specs.Rounds.{given_by};
 ghost use Rattle.flow_rule.specs.Arms.{flow_with};
+ghost use Rattle.arm_balance.specs.Certificates.{BranchesRise};
 ghost use Rattle.flow_check.specs.declared.step.Cause.{Cause};
 ghost use Rattle.flow_check.specs.Causes.{noted};
 ghost use Rattle.flow_check.specs.Frames.{AlikeBut, numbers_of};
@@ -17,7 +18,7 @@ use crate::passages::{Outcome, Passages};
 use crate::returns::Returns;
 use crate::step::{Cause, Stepped, note};
 use crate::stub::step_base;
-use crate::table::Entry;
+use crate::table::{Entry, met_of};
 use arm_balance::Arm;
 use flow_rule::{Label, Reason};
 use mod_layout::Module;
@@ -38,6 +39,7 @@ pub fn step_with(
 ) -> Result<(), AllocError>
     requires few { IfSome entries (λ n. n ≤ 64) }
     requires table { IsTable module.now text.now table.now }
+    requires rise { BranchesRise arms.now }
     requires passages { IsStub module.now text.now entries →
         All (IsPassage module.now text.now) passages.old.list.items }
     requires none { array_vec_len stepped.old.targets ≡ 0 }
@@ -60,7 +62,8 @@ pub fn step_with(
     ensures passages { IfOk result (λ _. IsStub module.now text.now entries →
         All (IsPassage module.now text.now) passages.new.list.items) }
 {
-    match crossing_of(module, text, arms, pc, label) {
+    let insn = met_of(module, text, table, pc);
+    match crossing_of(module, text, &insn, arms, pc, label) {
         Some(crossing) => {
             match passages.cross(
                 module,
@@ -80,7 +83,7 @@ pub fn step_with(
             Ok(())
         }
         None => {
-            step_base(module, text, entries, pc, label, stepped);
+            step_base(module, text, &insn, entries, pc, label, stepped);
             Ok(())
         }
     }
@@ -135,19 +138,21 @@ pub fn cause_with(
 ) -> Option<Cause>
     requires few { IfSome entries (λ n. n ≤ 64) }
     requires table { IsTable module.now text.now table.now }
+    requires rise { BranchesRise arms.now }
     requires passages { IsStub module.now text.now entries →
         All (IsPassage module.now text.now) passages.now.list.items }
     ensures { IsStub module.now text.now entries → result ≡ noted (flow_with module.now text.now arms.now
         (point_of pc returns.now label.now)).reasons None }
 {
-    match crossing_of(module, text, arms, pc, label) {
+    let insn = met_of(module, text, table, pc);
+    match crossing_of(module, text, &insn, arms, pc, label) {
         Some(crossing) => cause_of_arms(
             module, text, table, entries, passages, own, &crossing, pc, label, returns,
         ),
         None => {
             let mut stepped = Stepped::new(returns);
             let mut label = *label;
-            step_base(module, text, entries, pc, &mut label, &mut stepped);
+            step_base(module, text, &insn, entries, pc, &mut label, &mut stepped);
             stepped.least
         }
     }

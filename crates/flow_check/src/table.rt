@@ -249,6 +249,17 @@ pub fn entry_at<'a>(module: &Module, text: &[u8], table: &'a [Entry], pc: u16) -
     None
 }
 
+/// The instruction that is met at an address, from the table if it is there.
+pub fn met_of(module: &Module, text: &[u8], table: &[Entry], pc: u16) -> Option<Insn>
+    requires { IsTable module.now text.now table.now }
+    ensures { result ≡ met module.now.text text.now pc }
+{
+    match entry_at(module, text, table, pc) {
+        Some(entry) => entry.met,
+        None => met(module.text, text, pc),
+    }
+}
+
 /// Where an arm goes on, if that is not past its join.
 #[inline(always)]
 #[tactic(auto, using(crate::proofs::Entries::next_near, crate::proofs::Entries::next_far, crate::proofs::Entries::next_none))]

@@ -124,6 +124,7 @@ fn walk_by_step(
     step_base(
         module,
         text,
+        &Some(insn),
         entries,
         place.pc,
         &mut place.label,

@@ -11,7 +11,7 @@ returns-clause-is c = λ stub.
     let m = c.args.module.now in
     let text = c.args.text.now in
     let branch : Label → Point = λ l. point_of c.args.pc c.args.returns.now l in
-    subst (λ l. ComesTo m text c.args.crossing.now (branch l) c.answer_of.result) (sym c.of.ensures)
-    (subst (ComesTo m text c.args.crossing.now (branch c.args.label.now)) (sym c.answer_of.ensures)
+    subst (λ l. ComesTo m text c.args.crossing.now (branch l) c.in_ok-answer.answer) (sym c.in_ok-top.ensures)
+    (subst (ComesTo m text c.args.crossing.now (branch c.args.label.now)) (sym c.in_ok-answer.ensures)
     (walked_tells m text c.args.crossing.now c.args.pc c.args.returns.now c.args.label.now c.blank-told.result c.walk_arms.new.told c.walk_arms.new.least c.blank-told.ensures
     (c.walk_arms.ensures.least stub) (c.walk_arms.ensures.told stub)))

@@ -4,7 +4,8 @@ use Rattle.flow_check.proofs.rounds.Labelling.join_in.Goals as goal
 
 pub rise-requires-clause-settled : goal.rise-requires-clause-settled
 rise-requires-clause-settled c =
-    settled_by c.args.self.now.hints.items c.args.self.now.labels.items c.args.changed.now c.args.k c.find-at.result c.args.label.now.words c.args.written.now c.stirred-blocks.result c.requires.linked c.requires.waits c.requires.frame c.stirred-blocks.ensures
+    let l = c.requires.lags in
+    settled_by c.args.self.now.hints.items c.args.self.now.labels.items record { at = c.args.from; pair = l.pair; label = l.label } c.args.k c.find-at.result c.args.label.now.words c.args.written.now c.stirred-blocks.result c.requires.linked l.waits l.frame c.stirred-blocks.ensures
 
 pub returns-then-at-len-clause-takes : goal.returns-then-at-len-clause-takes
 returns-then-at-len-clause-takes c = λ q.

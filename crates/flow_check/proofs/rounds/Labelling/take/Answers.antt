@@ -7,11 +7,14 @@ use Rattle.flow_check.proofs.rounds.Labelling.take.Goals as goal
 pub take_one-requires-clause-linked : goal.take_one-requires-clause-linked
 take_one-requires-clause-linked c = c.loop-k.invariant.5
 
-pub take_one-requires-clause-waits : goal.take_one-requires-clause-waits
-take_one-requires-clause-waits c = c.loop-k.invariant.6 c.args.changed.now c.requires.waits
-
-pub take_one-requires-clause-frame : goal.take_one-requires-clause-frame
-take_one-requires-clause-frame c = subst (λ w. AlikeBut (numbers_of c.args.written.now) c.args.changed.now.label.words w) (sym c.loop-k.invariant.7) c.requires.frame
+pub take_one-requires-clause-lags : goal.take_one-requires-clause-lags
+take_one-requires-clause-lags c =
+    let l = c.requires.lags in record {
+      pair = l.pair;
+      label = l.label;
+      waits = c.loop-k.invariant.6 record { at = c.args.from; pair = l.pair; label = l.label } l.waits;
+      frame = subst (λ w. AlikeBut (numbers_of c.args.written.now) l.label.words w) (sym c.loop-k.invariant.7) l.frame;
+    }
 
 pub take_one-requires-clause-gave : goal.take_one-requires-clause-gave
 take_one-requires-clause-gave c = c.loop-k.invariant.8
@@ -19,11 +22,14 @@ take_one-requires-clause-gave c = c.loop-k.invariant.8
 pub settle-requires-clause-linked : goal.settle-requires-clause-linked
 settle-requires-clause-linked c = c.loop-k.invariant.5
 
-pub settle-requires-clause-waits : goal.settle-requires-clause-waits
-settle-requires-clause-waits c = c.loop-k.invariant.6 c.args.changed.now c.requires.waits
-
-pub settle-requires-clause-frame : goal.settle-requires-clause-frame
-settle-requires-clause-frame c = subst (λ w. AlikeBut (numbers_of c.args.written.now) c.args.changed.now.label.words w) (sym c.loop-k.invariant.7) c.requires.frame
+pub settle-requires-clause-lags : goal.settle-requires-clause-lags
+settle-requires-clause-lags c =
+    let l = c.requires.lags in record {
+      pair = l.pair;
+      label = l.label;
+      waits = c.loop-k.invariant.6 record { at = c.args.from; pair = l.pair; label = l.label } l.waits;
+      frame = subst (λ w. AlikeBut (numbers_of c.args.written.now) l.label.words w) (sym c.loop-k.invariant.7) l.frame;
+    }
 
 pub returns-clause-waits : goal.returns-clause-waits
 returns-clause-waits c = λ one w. c.settle.ensures.waits one (c.loop-k.invariant.6 one w)
@@ -42,5 +48,5 @@ loop-k-preserved c =
       e.linked,
       (λ one w. e.waits one (h.6 one w)),
       same ∙ h.7,
-      subst (λ w. Gave new.hints.items new.labels.items c.args.changed.now.at (c.loop-k.k + 1) w) (sym same) e.gave,
+      subst (λ w. Gave new.hints.items new.labels.items c.args.from (c.loop-k.k + 1) w) (sym same) e.gave,
     )
