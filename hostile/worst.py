@@ -151,16 +151,17 @@ def balance_of_addresses_that_rises(count, insn, cycles):
     return met_often(0x0300, data, arm, 2 + 3 + 1 + cycles * count + 2 + 2 + 2 + 1 + 1, words(0x4034, data + 0x1F8, 0x4384, 0) + before, again)
 
 
-def balance_of_two(count, insn, cycles, shuts):
+def balance_of_two(count, insn, cycles, shuts, address=None):
     """51 calls of a routine with 51 calls of one with two branches of one join: after the first comes the second, and there is no way back, but each call can
     be passed by, so that what changes comes to all lists also where a branch has a cause. Data words rise one a turn, each twice. Where it shuts, the arms
     want one more data word, which is not known any more from the second turn on: then each branch has a cause, and what rises afterwards makes what was seen of
-    the causes useless for the verdict. R4 is the address of a word that does not rise."""
+    the causes useless for the verdict. R4 is the address of a word that does not rise, or this one."""
     text, data = 0x0300, 0xF000
     public, wanted, other = data + 0x1F0, data + 0x1F2, data + 0x1F4
     before, again = rising_twice(data, RISING)
-    arm = words(0x4034, data + 0x1F8, 0x4384, 0, 0x4125, 0x4116, 2, 0x5605) + words(*insn) * count
-    time = 2 + 2 + 4 + 2 + 3 + 1 + cycles * count + 8
+    moved = () if address is None else (0x4034, address)
+    arm = words(0x4034, data + 0x1F8, 0x4384, 0, 0x4125, 0x4116, 2, 0x5605, *moved) + words(*insn) * count
+    time = 2 + 2 + 4 + 2 + 3 + 1 + len(moved) + cycles * count + 8
     if shuts:
         arm += words(0x5215, wanted)
         time += 3
@@ -237,6 +238,20 @@ def cases(folder):
             walked, arm = balance_of_two(count, insn, cycles, shuts)
             told = f"balance, two branches with arms of {count:,} {name} met 2,601 times{which}, data that rise one a turn, each twice"
             yield told, ["balance", file(f"walked_two_{name}_{shuts}", walked), "1", file(f"arm_two_{name}_{shuts}", arm)]
+    for name, insn, cycles, count, address in (
+        ("reads of the text", [0x5425], 2, 26_900, 0x0400),
+        ("byte reads of the text", [0x5465], 2, 26_900, 0x0401),
+        ("byte reads past the words of the data", [0x4468], 2, 26_900, 0xF301),
+        ("shifts past the words of the data", [0x1124], 3, 21_000, 0xF300),
+        ("sums past the words of the data", [0x54A4, 0], 5, 13_000, 0xF300),
+        ("shifts of SR", [0x1102], 1, 26_900, None),
+        ("byte sums of PC", [0x5048], 1, 26_900, None),
+        ("sums of PC in memory", [0x5084, 0], 4, 13_000, None),
+    ):
+        for shuts, which in ((False, ""), (True, ", which get a cause")):
+            walked, arm = balance_of_two(count, insn, cycles, shuts, address)
+            told = f"balance, two branches with arms of {count:,} {name} met 2,601 times{which}, data that rise one a turn, each twice"
+            yield told, ["balance", file(f"walked_past_{name}_{shuts}", walked), "1", file(f"arm_past_{name}_{shuts}", arm)]
     yield "challenges, 4,096", ["challenge", file("challenges", "".join(f"{1600 * k} {'0f' * 16}\n" for k in range(4096)))]
     trace = "0 out 4a\n" * 110_000 + "end 1 stopped\n"
     yield "trace, 1 MiB of out lines", ["vendor", image, "1", "0" * 32, file("challenges_few", "100 " + "0f" * 16 + "\n"), file("trace", trace)]
