@@ -19,28 +19,51 @@ import worst  # noqa: E402
 
 FEW, MANY = 3, 5
 WORDS, CYCLES = 26_900, 64_000
-COUNT = 3_000
-DATA, THERE = 0xF000, 0xF100
-FIRST = {"mov": 4, "add": 5, "addc": 6, "cmp": 9, "dadd": 10, "bic": 12, "bis": 13, "xor": 14}
+COUNT = 1_500
+# A word of the data that has a place in a label, one that has none, and one of the text.
+DATA, THERE, PAST, TEXT = 0xF000, 0xF100, 0xF300, 0x0320
+FIRST = {"mov": 4, "add": 5, "addc": 6, "subc": 7, "sub": 8, "cmp": 9, "dadd": 10, "bit": 11, "bic": 12, "bis": 13, "xor": 14, "and": 15}
 SECOND = {"rrc": 0, "swpb": 1, "rra": 2, "sxt": 3}
+# Operations that are tried with all operands; the others with these sources and destinations alone.
+TRIED = ("mov", "add", "dadd", "bic")
+FEW_SOURCES, FEW_TARGETS = ("pc", "r9", "@r4", "@text"), ("sr", "r8", "0(r4)")
 # Name, register, mode, words after it, cycles into a register and into memory.
 SOURCES = [
     ("pc", 0, 0, [], 1, 4),
+    ("sp", 1, 0, [], 1, 4),
     ("sr", 2, 0, [], 1, 4),
     ("#8", 2, 3, [], 1, 4),
+    ("#n", 0, 3, [0x1234], 2, 5),
     ("r9", 9, 0, [], 1, 4),
+    ("@sp", 1, 2, [], 2, 5),
     ("@r4", 4, 2, [], 2, 5),
+    ("@past", 10, 2, [], 2, 5),
+    ("@text", 11, 2, [], 2, 5),
     ("@r4+", 4, 3, [], 2, 5),
+    ("@past+", 10, 3, [], 2, 5),
     ("0(r4)", 4, 1, [0], 3, 6),
     ("&there", 2, 1, [THERE], 3, 6),
+    ("text", 0, 1, [0xFFC0], 3, 6),
 ]
-TARGETS = [("sr", 2, 0, []), ("r3", 3, 0, []), ("r8", 8, 0, []), ("0(r4)", 4, 1, [0]), ("&there", 2, 1, [THERE])]
-OPERANDS = [("r8", 8, 0, [], 1), ("sr", 2, 0, [], 1), ("@r4", 4, 2, [], 3), ("@r4+", 4, 3, [], 3), ("0(r4)", 4, 1, [0], 4), ("&there", 2, 1, [THERE], 4)]
+TARGETS = [("sp", 1, 0, []), ("sr", 2, 0, []), ("r3", 3, 0, []), ("r8", 8, 0, []), ("0(r4)", 4, 1, [0]), ("&there", 2, 1, [THERE]), ("0(past)", 10, 1, [0])]
+OPERANDS = [
+    ("r8", 8, 0, [], 1),
+    ("sp", 1, 0, [], 1),
+    ("sr", 2, 0, [], 1),
+    ("@r4", 4, 2, [], 3),
+    ("@past", 10, 2, [], 3),
+    ("@r4+", 4, 3, [], 3),
+    ("@past+", 10, 3, [], 3),
+    ("0(r4)", 4, 1, [0], 4),
+    ("&there", 2, 1, [THERE], 4),
+]
 
 
 def lowered(name, byte):
-    """What makes R4 what it was, where a source raises it: SUB of 2 or 1, a cycle."""
-    return [0x8314 if byte else 0x8324] if "+" in name else []
+    """What makes R4 or R10 what it was, where a source raises it: SUB of 2 or 1, a cycle."""
+    if "+" not in name:
+        return []
+    return [0x8300 | (0x10 if byte else 0x20) | (10 if "past" in name else 4)]
 
 
 def forms():
@@ -49,6 +72,8 @@ def forms():
         for byte in (0, 1):
             for source, src, mode, extra, to_register, to_memory in SOURCES:
                 for target, dst, into, more in TARGETS:
+                    if op not in TRIED and (source not in FEW_SOURCES or target not in FEW_TARGETS):
+                        continue
                     back = lowered(source, byte)
                     insn = [code << 12 | src << 8 | into << 7 | byte << 6 | mode << 4 | dst, *extra, *more, *back]
                     yield f"{op}{'.b' * byte} {source},{target}", insn, (to_memory if into else to_register) + len(back)
@@ -57,15 +82,19 @@ def forms():
             for operand, reg, mode, extra, cycles in OPERANDS:
                 back = lowered(operand, byte)
                 yield f"{op}{'.b' * byte} {operand}", [0x1000 | code << 7 | byte << 6 | mode << 4 | reg, *extra, *back], cycles + len(back)
+    for byte in (0, 1):
+        for source, src, mode, extra, _, _ in SOURCES:
+            back = lowered(source, byte)
+            yield f"push{'.b' * byte} {source}", [0x1200 | byte << 6 | mode << 4 | src, *extra, 0x5321, *back], (3 if mode == 0 or source == "#8" else 5 if back or mode == 1 else 4) + 1 + len(back)
     yield "jmp", [0x3C00], 2
 
 
 def text_with(insn, cycles, calls):
     """Arms of many of these, after which an address hangs on the return addresses, of which there are so many lists squared."""
     worst.CALLS = calls
-    arm = worst.words(0x4034, THERE, 0x4384, 0, 0x4125, 0x4116, 2, 0x5605, 0x4038, 0x1234, 0x4039, 0x1234) + worst.words(*insn) * COUNT
-    arm += worst.words(0xF035, 0x00FE, 0x5035, DATA, 0x4527, 0x4305, 0x4307)
-    return worst.met_often(0x0300, DATA, arm, 2 + 4 + 2 + 3 + 1 + 2 + 2 + cycles * COUNT + 2 + 2 + 2 + 1 + 1)
+    arm = worst.words(0x4034, THERE, 0x403A, PAST, 0x403B, TEXT, 0x4384, 0, 0x4125, 0x4116, 2, 0x5605, 0x4038, 0x1234, 0x4039, 0x1234)
+    arm += worst.words(*insn) * COUNT + worst.words(0xF035, 0x00FE, 0x5035, DATA, 0x4527, 0x4305, 0x4307)
+    return worst.met_often(0x0300, DATA, arm, 2 + 2 + 2 + 4 + 2 + 3 + 1 + 2 + 2 + cycles * COUNT + 2 + 2 + 2 + 1 + 1)
 
 
 def counted(program, made):

@@ -8,6 +8,7 @@ is measured: its memory is the program's alone. Cycles are not a matter of reade
 objects have a benchmark of their own, bench/link.py.
 """
 import os
+import random
 import subprocess
 import sys
 import tempfile
@@ -183,6 +184,18 @@ def balance_of_two(count, insn, cycles, shuts, address=None):
     return image_with(code, text, module), f"{first:04x} {join:04x} {time}\n{second:04x} {join:04x} {time}\n"
 
 
+def mixed(count, sources):
+    """Instructions of format I into R8 to R15, of words and of bytes, in an order that is random and the same each time, so that the host foresees no jump; and their
+    cycles. A source is a register, its mode and its cycles; there are so many instructions, or as many as an arm has time for."""
+    chance = random.Random(7)
+    codes, cycles = [], 0
+    while len(codes) < count and cycles < 63_000:
+        src, mode, time = chance.choice(sources)
+        codes.append(chance.randrange(4, 16) << 12 | src << 8 | chance.randrange(2) << 6 | mode << 4 | chance.randrange(8, 16))
+        cycles += time
+    return codes, cycles
+
+
 def cases(folder):
     """Name, words, and what is special."""
     def file(name, text):
@@ -252,6 +265,13 @@ def cases(folder):
             walked, arm = balance_of_two(count, insn, cycles, shuts, address)
             told = f"balance, two branches with arms of {count:,} {name} met 2,601 times{which}, data that rise one a turn, each twice"
             yield told, ["balance", file(f"walked_past_{name}_{shuts}", walked), "1", file(f"arm_past_{name}_{shuts}", arm)]
+    registers = [(reg, 0, 1) for reg in range(8, 16)]
+    for name, sources in (("registers", registers), ("reads", [(4, 2, 2)]), ("registers, reads and constants", registers + [(4, 2, 2)] * 8 + [(3, mode, 1) for mode in range(4)])):
+        insn, cycles = mixed(26_900, sources)
+        for shuts, which in ((False, ""), (True, ", which get a cause")):
+            walked, arm = balance_of_two(1, insn, cycles, shuts)
+            told = f"balance, two branches with arms of {len(insn):,} mixed instructions of {name} met 2,601 times{which}, data that rise one a turn, each twice"
+            yield told, ["balance", file(f"walked_mixed_{name}_{shuts}", walked), "1", file(f"arm_mixed_{name}_{shuts}", arm)]
     yield "challenges, 4,096", ["challenge", file("challenges", "".join(f"{1600 * k} {'0f' * 16}\n" for k in range(4096)))]
     trace = "0 out 4a\n" * 110_000 + "end 1 stopped\n"
     yield "trace, 1 MiB of out lines", ["vendor", image, "1", "0" * 32, file("challenges_few", "100 " + "0f" * 16 + "\n"), file("trace", trace)]

@@ -1,15 +1,16 @@
 -- Blocks of words, and joins of some words alone.
-use Rattle.std.proofs.Common.{◌≡◌, ◌≢◌, ◌⊎◌, inl, inr, ℕ, zero, suc, ◌+◌, ◌/◌, ◌<◌, ◌≤◌, List, [], ◌∷◌, length, set, get_or, refl, sym, ap, ◌∙◌, subst, arith, Bool, true, false, cond, ◌||◌, ◌==◌, get_or-set_other, get_or-set_same}
-use Rattle.std.proofs.lemmas.Bool.{both_ways, cases_lt, eqb-true}
+use Rattle.std.proofs.Common.{◌≡◌, ◌≢◌, ◌⊎◌, inl, inr, ℕ, zero, suc, ◌+◌, ◌/◌, ◌<◌, ◌≤◌, List, [], ◌∷◌, ◌++◌, ◌&&◌, length, set, get_or, refl, sym, ap, ◌∙◌, subst, arith, Bool, true, false, cond, ◌||◌, ◌==◌, get_or-set_other, get_or-set_same}
+use Rattle.std.proofs.lemmas.Bool.{both_ways, cases_lt, eqb-true, eq-eqb}
 use Rattle.flow_rule.specs.declared.Val.{Val}
 use Rattle.flow_rule.specs.declared.Val.TheVariants.{Known, Away, Public, Secret}
 use Rattle.flow_rule.specs.Values.{join, join_each}
 use Rattle.flow_check.specs.declared.blocks.Blocks.{Blocks}
 use Rattle.flow_check.specs.declared.places.Places.{Places}
 use Rattle.flow_check.specs.Frames.{numbers_of, is_among}
-use Rattle.flow_check.specs.Fresh.{is_fresh, word, Takes, Settled, Joins}
+use Rattle.flow_check.specs.Fresh.{block_at, listed, is_told, is_fresh, word, Takes, Settled, Joins}
 use Rattle.flow_check.specs.Weights.{weight_all}
 use Rattle.flow_check.proofs.Dirty.{join_twice, join_stays}
+use Rattle.flow_check.proofs.Written.{not_before, not_last}
 
 -- ---- values
 pub takes_over : (v w u : Val) → Takes v w → Takes w u → Takes v u
@@ -48,10 +49,69 @@ flag_set (b ∷ bs) zero (suc k) e = (e, λ f. absurd (omega (arith, f)))
 flag_set (b ∷ bs) (suc i) zero e = (e, λ f. absurd (omega (arith, f)))
 flag_set (b ∷ bs) (suc i) (suc k) e = let h = flag_set bs i k e in (h.0, λ f. h.1 (omega (arith, f)))
 
-pub added : (b c : Blocks) (place q : ℕ) → c.flags ≡ set b.flags (place / 16) true → is_fresh c q ≡ false → (is_fresh b q ≡ false) × (q ≢ place)
-added b c place q e f =
-    let h = flag_set b.flags (place / 16) (q / 16) (subst (λ l. get_or l (q / 16) true ≡ false) e f) in
-    (h.0, λ g. h.1 (ap (λ n. n / 16) g))
+either_off : (a b : Bool) → (a || b) ≡ false → (a ≡ false) × (b ≡ false)
+either_off false b e = (refl, e)
+either_off true b e = absurd cc
+
+and_off : (a : Bool) → (a && false) ≡ false
+and_off false = refl
+and_off true = refl
+
+both_off : (a b : Bool) → (a && b) ≡ false → (a ≡ false) ⊎ (b ≡ false)
+both_off false b e = inl refl
+both_off true b e = inr e
+
+both_on : (a b : Bool) → (a && b) ≡ true → (a ≡ true) × (b ≡ true)
+both_on true b e = (refl, e)
+both_on false b e = absurd cc
+
+-- a word that is not told, or whose block is not flagged, has not changed
+untold : (b : Blocks) (q : ℕ) → is_told b q ≡ false → is_fresh b q ≡ false
+untold b q e = ap (λ t. t && block_at b (q / 16)) e
+
+unflagged : (b : Blocks) (q : ℕ) → block_at b (q / 16) ≡ false → is_fresh b q ≡ false
+unflagged b q e = ap (λ t. is_told b q && t) e ∙ and_off (is_told b q)
+
+pub among_of : (q : ℕ) (ps : List ℕ) (k : ℕ) → k < length ps → get_or ps k 0 ≡ q → is_among q ps ≡ true
+among_of q [] k lt e = absurd (omega (arith, lt))
+among_of q (p ∷ ps) zero lt e = ap (λ b. b || is_among q ps) (eq-eqb p q e)
+among_of q (p ∷ ps) (suc k) lt e = ap (λ b. (p == q) || b) (among_of q ps k (omega (arith, lt)) e) ∙ or_on (p == q)
+  where
+    or_on : (a : Bool) → (a || true) ≡ true
+    or_on true = refl
+    or_on false = refl
+
+pub told_already : (b : Blocks) (p q : ℕ) → is_told b p ≡ true → is_told b q ≡ false → q ≢ p
+told_already b p q t f e = both_ways (is_told b q) f (ap (is_told b) e ∙ t)
+
+pub told_pushed : (b c : Blocks) (p q : ℕ) → listed c ≡ listed b ++ p ∷ [] → c.many ≡ b.many → is_told c q ≡ false → (is_told b q ≡ false) × (q ≢ p)
+told_pushed b c p q e m f =
+    let g = either_off c.many (is_among q (listed c)) f in
+    let h : is_among q (listed b ++ p ∷ []) ≡ false = ap (is_among q) (sym e) ∙ g.1 in
+    (ap (λ t. t || is_among q (listed b)) (sym m ∙ g.0) ∙ not_before q p (listed b) h, λ s. not_last q p (listed b) h (sym s))
+
+pub added : (b c : Blocks) (place q : ℕ) → c.flags ≡ set b.flags (place / 16) true → (is_told c q ≡ false → is_told b q ≡ false) → (is_told c q ≡ false → q ≢ place) → is_fresh c q ≡ false → (is_fresh b q ≡ false) × (q ≢ place)
+added b c place q e told other f = by (both_off (is_told c q) (block_at c (q / 16)) f)
+  where
+    by : (is_told c q ≡ false) ⊎ (block_at c (q / 16) ≡ false) → (is_fresh b q ≡ false) × (q ≢ place)
+    by (inl g) = (untold b q (told g), other g)
+    by (inr g) =
+        let h = flag_set b.flags (place / 16) (q / 16) (subst (λ l. get_or l (q / 16) true ≡ false) e g) in
+        (unflagged b q h.0, λ s. h.1 (ap (λ n. n / 16) s))
+
+pub either_own : (b o m c : Blocks) → ((i : ℕ) → block_at m i ≡ (block_at b i || block_at o i)) → ((q : ℕ) → is_told m q ≡ is_told b q) → c.flags ≡ m.flags → ((q : ℕ) → is_told c q ≡ false → is_told m q ≡ false) → (q : ℕ) → is_fresh c q ≡ false → is_fresh b q ≡ false
+either_own b o m c flags same e told q f = by (both_off (is_told c q) (block_at c (q / 16)) f)
+  where
+    by : (is_told c q ≡ false) ⊎ (block_at c (q / 16) ≡ false) → is_fresh b q ≡ false
+    by (inl g) = untold b q (sym (same q) ∙ told q g)
+    by (inr g) = unflagged b q (either_off (block_at b (q / 16)) (block_at o (q / 16)) (sym (flags (q / 16)) ∙ ap (λ l. get_or l (q / 16) true) (sym e) ∙ g)).0
+
+pub either_other : (b o m c : Blocks) → ((i : ℕ) → block_at m i ≡ (block_at b i || block_at o i)) → c.flags ≡ m.flags → ((q : ℕ) → is_told c q ≡ false → is_told o q ≡ false) → (q : ℕ) → is_fresh c q ≡ false → is_fresh o q ≡ false
+either_other b o m c flags e told q f = by (both_off (is_told c q) (block_at c (q / 16)) f)
+  where
+    by : (is_told c q ≡ false) ⊎ (block_at c (q / 16) ≡ false) → is_fresh o q ≡ false
+    by (inl g) = untold o q (told q g)
+    by (inr g) = unflagged o q (either_off (block_at b (q / 16)) (block_at o (q / 16)) (sym (flags (q / 16)) ∙ ap (λ l. get_or l (q / 16) true) (sym e) ∙ g)).1
 
 -- ---- a word
 each_kept : (i : ℕ) (xs ys : List Val) → join_each (set xs i (join (word xs i) (word ys i))) ys ≡ join_each xs ys
@@ -74,13 +134,13 @@ takes_here from old new i lt e =
     let p : word new i ≡ join (word old i) w = ap (λ l. word l i) e ∙ get_or-set_same old i (join (word old i) w) Secret lt in
     subst (λ v. Takes v w) (sym p) (join_twice (word old i) w)
 
-pub joins_noted : (from old new : List Val) (was now : Blocks) (i : ℕ) → new ≡ set old i (join (word old i) (word from i)) → now.flags ≡ set was.flags (i / 16) true → weight_all old < weight_all new →
+pub joins_noted : (from old new : List Val) (was now : Blocks) (i : ℕ) → new ≡ set old i (join (word old i) (word from i)) → ((q : ℕ) → is_fresh now q ≡ false → (is_fresh was q ≡ false) × (q ≢ i)) → weight_all old < weight_all new →
     Joins from old new was now true
 joins_noted from old new was now i e f r = record {
   whole = ap (λ l. join_each l from) e ∙ each_kept i old from;
   still = λ q h. subst (λ l. Takes (word l q) (word from q)) (sym e) (put_still old i q (word from i) (word from q) h);
-  clear = λ q h. (added was now i q f h).0;
-  noted = λ q h. ap (λ l. word l q) e ∙ get_or-set_other old i q (join (word old i) (word from i)) Secret (added was now i q f h).1;
+  clear = λ q h. (f q h).0;
+  noted = λ q h. ap (λ l. word l q) e ∙ get_or-set_other old i q (join (word old i) (word from i)) Secret (f q h).1;
   same = λ h. absurd (clash h);
   above = omega (arith, r);
   rises = λ _. r;
@@ -165,17 +225,29 @@ among_at q (p ∷ ps) e = by (p == q) refl e (λ g. among_at q ps g)
     by true f g go = (zero, omega arith, eqb-true p q f)
     by false f g go = let h = go g in (suc h.0, (let l = h.1 in omega (arith, l)), h.2)
 
-pub not_among_them : (b : Blocks) (ps : List ℕ) (n q : ℕ) → length ps ≤ n → ((k : ℕ) → k < n → is_fresh b (get_or ps k 0) ≡ true) → is_fresh b q ≡ false → is_among q ps ≡ false
-not_among_them b ps n q le h e = by (is_among q ps) refl
+pub not_among_them : (ps : List ℕ) (n q : ℕ) → length ps ≤ n → ((k : ℕ) → k < n → get_or ps k 0 ≢ q) → is_among q ps ≡ false
+not_among_them ps n q le h = by (is_among q ps) refl
   where
     by : (c : Bool) → is_among q ps ≡ c → is_among q ps ≡ false
     by false f = f
-    by true f =
-        let g = among_at q ps f in
-        let t : is_fresh b q ≡ true = subst (λ k. is_fresh b k ≡ true) g.2 (h g.0 (let l = g.1 in omega (arith, l, le))) in
-        absurd (both_ways (is_fresh b q) e t)
+    by true f = let g = among_at q ps f in absurd (h g.0 (let l = g.1 in omega (arith, l, le)) g.2)
+
+-- one more of those that others are not
+pub none_more : (ps : List ℕ) (n q : ℕ) → ((k : ℕ) → k < n → get_or ps k 0 ≢ q) → q ≢ get_or ps n 0 → (k : ℕ) → k < n + 1 → get_or ps k 0 ≢ q
+none_more ps n q below here k lt = by (cases_lt k n)
+  where
+    by : (k < n) ⊎ (n ≤ k) → get_or ps k 0 ≢ q
+    by (inl h) = below k h
+    by (inr h) = let e : k ≡ n = omega (arith, h, lt) in λ s. here (sym s ∙ ap (λ i. get_or ps i 0) e)
 
 pub takes_among : (from into : List Val) (ps : List ℕ) (n q : ℕ) → length ps ≤ n → ((k : ℕ) → k < n → Takes (word into (get_or ps k 0)) (word from (get_or ps k 0))) → is_among q ps ≡ true → Takes (word into q) (word from q)
 takes_among from into ps n q le h e =
     let g = among_at q ps e in
     subst (λ k. Takes (word into k) (word from k)) g.2 (h g.0 (let l = g.1 in omega (arith, l, le)))
+
+-- the words that may have changed have taken
+pub takes_many : (b : Blocks) (from into : List Val) → ((q : ℕ) → q < 256 → block_at b (q / 16) ≡ true → Takes (word into q) (word from q)) → (q : ℕ) → q < 256 → is_fresh b q ≡ true → Takes (word into q) (word from q)
+takes_many b from into h q lt f = h q lt (both_on (is_told b q) (block_at b (q / 16)) f).1
+
+pub takes_few : (b : Blocks) (from into : List Val) → b.many ≡ false → ((q : ℕ) → is_among q (listed b) ≡ true → Takes (word into q) (word from q)) → (q : ℕ) → q < 256 → is_fresh b q ≡ true → Takes (word into q) (word from q)
+takes_few b from into m h q lt f = h q (ap (λ t. t || is_among q (listed b)) (sym m) ∙ (both_on (is_told b q) (block_at b (q / 16)) f).0)

@@ -45,7 +45,7 @@ register_keeps false r t c h = put_other (flagged) r t.value h ∙ flags_keep t.
     flagged : List Val
     flagged = set_flags_by t.flags c
 
-pub register_there : (r next : ℕ) (t : Told) (c : List Val) → 2 < r → val c 0 ≡ Known next → val (written_val true (Reg r) t c).core 0 ≡ Known next
+pub register_there : (r next : ℕ) (t : Told) (c : List Val) → 0 < r → val c 0 ≡ Known next → val (written_val true (Reg r) t c).core 0 ≡ Known next
 register_there r next t c h e = register_keeps (r == 2) r t c (omega arith) ∙ e
 
 pub step_keeps : (r n : ℕ) (w : Width) (core : List Val) → n < r → val (stepped_val w (Increment r) core) n ≡ val core n
@@ -159,7 +159,7 @@ module _ (m : Module) (text : List ℕ) (op : OneOp) (w : Width) (pc next : ℕ)
       reads writes there (tc ∙ ap (λ rs. blot_core rs b.core) (sym (o.regs w arg))) tw
 
   -- a register
-  pub glided_register : (r : ℕ) → moved_on l.core next ≡ past_val (One op w (Reg r)) pc l.core → 2 < r →
+  pub glided_register : (r : ℕ) → moved_on l.core next ≡ past_val (One op w (Reg r)) pc l.core → 0 < r →
       l1.core ≡ (written_val true (Reg r) (one_val op w (narrow w (val l.core r)) (carry_val l.core)) (moved_on l.core next)).core → val l1.core 0 ≡ Known next → l1.words ≡ l.words →
       b1.core ≡ put_val b.core r Secret → b1.words ≡ b.words → IsGlided m text (One op w (Reg r)) pc next l l1 b b1
   glided_register r past h core there words tc tw =

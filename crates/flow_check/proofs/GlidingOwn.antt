@@ -1,7 +1,7 @@
 -- Operations into a register without a rule of its own along an arm.
-use Rattle.std.proofs.Common.{◌≡◌, ◌≢◌, ℕ, zero, suc, ◌+◌, ◌%◌, ◌<◌, ◌≤◌, ◌==◌, ◌&&◌, ◌||◌, not, nat_lt, nat_le, List, [], ◌∷◌, refl, sym, ap, ◌∙◌, subst, arith, Bool, true, false, Option, Some, None}
+use Rattle.std.proofs.Common.{◌≡◌, ◌≢◌, ℕ, zero, suc, ◌+◌, ◌%◌, ◌<◌, ◌≤◌, ◌==◌, ◌&&◌, ◌||◌, not, nat_lt, nat_le, List, [], ◌∷◌, length, refl, sym, ap, ◌∙◌, subst, arith, Bool, true, false, Option, Some, None}
 use Rattle.std.proofs.lemmas.Bool.Decides.{nat_tests}
-use Rattle.sm_words.specs.Words.{add16, nth}
+use Rattle.sm_words.specs.Words.{add16, kept, nth}
 use Rattle.sm_words.specs.declared.width.Width.{Width}
 use Rattle.sm_words.specs.declared.width.Width.TheVariants.{Word, Byte}
 use Rattle.insn_decode.specs.declared.insn.TwoOp.{TwoOp}
@@ -42,6 +42,15 @@ pub other_held : (c : List Val) (r next : ℕ) → is_other r ≡ true → val c
 other_held [] r next h = refl
 other_held (x ∷ c) zero next h = absurd cc
 other_held (x ∷ c) (suc r) next h = refl
+
+pub pc_held : (c : List Val) (next : ℕ) → length c ≡ 16 → kept 0 next ≡ next → Known next ≡ val (moved_on c next) 0
+pc_held [] next n e = absurd cc
+pc_held (x ∷ c) next n e = ap Known (sym e)
+
+pub later_held : (c : List Val) (r next : ℕ) → r ≢ 0 → val c r ≡ val (moved_on c next) r
+later_held [] r next h = refl
+later_held (x ∷ c) zero next h = absurd (h refl)
+later_held (x ∷ c) (suc r) next h = refl
 
 pub raised_still : (r : ℕ) (c : List Val) → is_apart (Increment r) ≡ true → IsStill (Increment r) c
 raised_still r c h =

@@ -1,5 +1,5 @@
 -- What the targets of a pair have taken, as hints and labels change.
-use Rattle.std.proofs.Common.{◌≡◌, ◌≢◌, ◌⊎◌, inl, inr, ℕ, zero, suc, ◌+◌, ◌<◌, ◌≤◌, List, [], ◌∷◌, ◌++◌, length, set, drop, get_or, refl, sym, ap, ◌∙◌, subst, arith, Bool, true, false, ◌||◌, ◌==◌, ◌/◌, Some, None, All, min, get_or-set_other, get_or-set_same, length-set}
+use Rattle.std.proofs.Common.{◌≡◌, ◌≢◌, ◌⊎◌, inl, inr, ℕ, zero, suc, ◌+◌, ◌<◌, ◌≤◌, List, [], ◌∷◌, ◌++◌, length, set, drop, get_or, refl, sym, ap, ◌∙◌, subst, arith, Bool, true, false, ◌==◌, Some, None, All, min, get_or-set_other, get_or-set_same, length-set}
 use Rattle.std.specs.List.{slice_get}
 use Rattle.std.proofs.lemmas.Bool.{cases_lt}
 use Rattle.flow_rule.specs.declared.Val.{Val}
@@ -13,16 +13,12 @@ use Rattle.flow_check.specs.declared.places.Places.{Places}
 use Rattle.flow_check.specs.declared.rounds.Changed.{Changed}
 use Rattle.flow_check.specs.declared.rounds.Labelling.{Labelling}
 use Rattle.flow_check.specs.Frames.{numbers_of, is_among, AlikeBut}
-use Rattle.flow_check.specs.Fresh.{block_at, is_fresh, word, Takes, Settled}
+use Rattle.flow_check.specs.Fresh.{is_fresh, word, Takes, Settled}
 use Rattle.flow_check.specs.Hints.{target_of, pointed_by, pointed, Unstirred, Refreshed}
 use Rattle.flow_check.specs.Links.{no_hint, hint_at, label_there, word_at, LinkedBy, Linked, Waits, Fits, Gave, Onward}
 use Rattle.flow_check.proofs.Dirty.{join_twice, join_stays}
 use Rattle.flow_check.proofs.Joins.{join_own}
 use Rattle.flow_check.proofs.Freshness.{takes_over}
-
-either_off : (a b : Bool) → (a || b) ≡ false → (a ≡ false) × (b ≡ false)
-either_off true b e = absurd cc
-either_off false b e = (refl, e)
 
 same_or : (p i : ℕ) → (p ≡ i) ⊎ (p ≢ i)
 same_or p i = by (cases_lt p i) (cases_lt i p)
@@ -33,21 +29,16 @@ same_or p i = by (cases_lt p i) (cases_lt i p)
     by (inr h) (inr g) = inl (omega (arith, h, g))
 
 -- ---- one hint
-pub unstirred : (h : Hint) (b : Blocks) (k at : ℕ) → ((i : ℕ) → block_at b i ≡ (block_at h.fresh i || block_at h.next i)) → k < h.given → target_of k h ≡ at → (q : ℕ) → is_fresh b q ≡ false → Unstirred h k at q
-unstirred h b k at both lt e q f =
-    let g = either_off (is_fresh h.fresh q) (is_fresh h.next q) (sym (both (q / 16)) ∙ f) in
-    record { given = lt; there = e; fresh = g.0; next = g.1 }
+pub unstirred : (h : Hint) (b : Blocks) (k at : ℕ) → ((q : ℕ) → is_fresh b q ≡ false → is_fresh h.fresh q ≡ false) → ((q : ℕ) → is_fresh b q ≡ false → is_fresh h.next q ≡ false) → k < h.given → target_of k h ≡ at → (q : ℕ) → is_fresh b q ≡ false → Unstirred h k at q
+unstirred h b k at own other lt e q f = record { given = lt; there = e; fresh = own q f; next = other q f }
 
-pub refreshed : (h g : Hint) (b : Blocks) → ((i : ℕ) → block_at b i ≡ (block_at h.fresh i || block_at h.next i)) → g.targets ≡ h.targets → g.given ≡ h.given → g.fresh ≡ b → Refreshed h g
-refreshed h g b both t n e = record {
+pub refreshed : (h g : Hint) (b : Blocks) → ((q : ℕ) → is_fresh b q ≡ false → is_fresh h.fresh q ≡ false) → ((q : ℕ) → is_fresh b q ≡ false → is_fresh h.next q ≡ false) → g.targets ≡ h.targets → g.given ≡ h.given → g.fresh ≡ b → Refreshed h g
+refreshed h g b own other t n e = record {
   targets = t;
   given = n;
-  fresh = λ q f. (off q f).0;
-  next = λ q f. (off q f).1;
+  fresh = λ q f. own q (ap (λ x. is_fresh x q) (sym e) ∙ f);
+  next = λ q f. other q (ap (λ x. is_fresh x q) (sym e) ∙ f);
 }
-  where
-    off : (q : ℕ) → is_fresh g.fresh q ≡ false → (is_fresh h.fresh q ≡ false) × (is_fresh h.next q ≡ false)
-    off q f = either_off (is_fresh h.fresh q) (is_fresh h.next q) (sym (both (q / 16)) ∙ ap (λ x. is_fresh x q) (sym e) ∙ f)
 
 -- ---- hints in a list
 hint_here : (hs : List Hint) (i : ℕ) (h : Hint) → i < length hs → hint_at (set hs i h) i ≡ h

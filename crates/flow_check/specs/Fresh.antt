@@ -1,5 +1,5 @@
--- Which words of a label may have changed, by blocks of 16, and joins of those alone.
-use Rattle.std.specs.Prelude.{◌≡◌, ◌≤◌, ◌<◌, ◌/◌, ℕ, List, get_or, Bool, true, false}
+-- Which words of a label may have changed, one by one where they are few and else by blocks of 16, and joins of those alone.
+use Rattle.std.specs.Prelude.{◌≡◌, ◌≤◌, ◌<◌, ◌/◌, ◌||◌, ◌&&◌, ℕ, List, get_or, take, Bool, true, false}
 use Rattle.flow_rule.specs.declared.Val.{Val}
 use Rattle.flow_rule.specs.declared.Val.TheVariants.{Secret}
 use Rattle.flow_rule.specs.Values.{join, join_each}
@@ -12,9 +12,17 @@ use Rattle.flow_check.specs.Weights.{weight_all}
 abbrev pub block_at : Blocks → ℕ → Bool
 block_at b i = get_or b.flags i true
 
--- whether the block of a word is among these
+-- the words that are listed
+abbrev pub listed : Blocks → List ℕ
+listed b = take b.count b.numbers
+
+-- whether a word is listed, or too many are to be
+abbrev pub is_told : Blocks → ℕ → Bool
+is_told b q = b.many || is_among q (listed b)
+
+-- whether a word may have changed
 abbrev pub is_fresh : Blocks → ℕ → Bool
-is_fresh b q = block_at b (q / 16)
+is_fresh b q = is_told b q && block_at b (q / 16)
 
 -- a word, and Secret past the last
 abbrev pub word : List Val → ℕ → Val
@@ -29,7 +37,7 @@ abbrev pub Settled : Blocks → Places → List Val → List Val → Type 0
 Settled blocks places into from =
     (q : ℕ) → is_fresh blocks q ≡ false → is_among q (numbers_of places) ≡ false → Takes (word into q) (word from q)
 
--- some values were joined to their own, blocks with a word that changed were noted, and whether one changed was told
+-- some values were joined to their own, words that changed were noted, and whether one changed was told
 pub record Joins (from old new : List Val) (was now : Blocks) (changed : Bool) : Type 0 where
   pub whole : join_each new from ≡ join_each old from
   pub still : (q : ℕ) → Takes (word old q) (word from q) → Takes (word new q) (word from q)

@@ -1,5 +1,5 @@
 -- What the targets of a pair have taken of its label.
-use Rattle.std.specs.Prelude.{◌≡◌, ◌<◌, ℕ, List, [], length, get_or, false, None, Some, slice_get}
+use Rattle.std.specs.Prelude.{◌≡◌, ◌<◌, ℕ, List, [], length, get_or, true, false, None, Some, slice_get}
 use Rattle.flow_rule.specs.declared.Val.{Val}
 use Rattle.flow_rule.specs.declared.Label.{Label}
 use Rattle.flow_check.specs.declared.hints.Hint.{Hint}
@@ -12,7 +12,7 @@ use Rattle.flow_check.specs.Hints.{target_of}
 
 -- a hint that says nothing
 abbrev pub no_hint : Hint
-no_hint = record { targets = []; given = 0; fresh = record { flags = [] }; next = record { flags = [] }; passage = None }
+no_hint = record { targets = []; given = 0; fresh = record { flags = []; numbers = []; count = 0; many = true }; next = record { flags = []; numbers = []; count = 0; many = true }; passage = None }
 
 abbrev pub hint_at : List Hint → ℕ → Hint
 hint_at hs p = get_or hs p no_hint

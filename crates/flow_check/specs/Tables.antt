@@ -46,9 +46,9 @@ place_of m (Some a) = (a - m.text.start) / 2
 abbrev pub is_other : ℕ → Bool
 is_other r = nat_lt 0 r && nat_lt r 16
 
--- a source that PC is no part of, and whose increment leaves the flags as they are
+-- a source of which PC is no part but where it is the register itself, and whose increment leaves the flags as they are
 abbrev pub is_apart : Operand → Bool
-is_apart (Reg r) = is_other r
+is_apart (Reg r) = nat_lt r 16
 is_apart (Indexed r x) = is_other r
 is_apart (Indirect r) = is_other r
 is_apart (Increment r) = is_other r && not (r == 2)

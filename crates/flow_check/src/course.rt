@@ -39,6 +39,9 @@ const TOP: u32 = 0x8000_0000;
 /// How many bytes of the data a label tells of.
 const TOLD_BYTES: u16 = 512;
 
+/// The bits of a half that mean something.
+const HALF_MEANING: u32 = 0x4000_ffff;
+
 /// The low bytes of both halves, the highest bits of these, and of the words.
 const BYTES: u64 = 0x0000_00ff_0000_00ff;
 
@@ -62,6 +65,27 @@ pub struct Course {
     data: u16,
     bytes: u32,
     words: u32,
+    /// How many bytes of the data from its start on are no part of the text, and how many words these are.
+    clear_bytes: u32,
+    clear_words: u32,
+    /// What is added to a place of the data for the place in the text.
+    shift: u16,
+}
+
+/// What was met at the addresses of an instruction: at the source's, and at the destination's. That is the number of the
+/// first arm's value, and, 65,536 times, what the second's number has other bits.
+#[derive(Clone, Copy)]
+pub struct Track {
+    pub from: u32,
+    pub to: u32,
+}
+
+impl Track {
+    /// Nothing that is needed.
+    pub const NONE: Track = Track {
+        from: ZERO as u32,
+        to: SINK as u32,
+    };
 }
 
 /// What both arms met, and what that holds.
@@ -159,7 +183,7 @@ fn part_of(width: Width, addr: u32, value: u64) -> u64 {
     }
 }
 
-/// What two arms met, as a form keeps it.
+/// What two arms met, as a track keeps it.
 #[inline(always)]
 fn both_met(first: u32, second: u32) -> u32 {
     first | (first ^ second).wrapping_mul(OTHER)
@@ -198,27 +222,68 @@ fn turned(number: u32) -> u32 {
 }
 
 /// Reads what is no word of the label.
-#[inline(never)]
-fn read_far(module: &Module, text: &[u8], width: Width, addr: u16) -> Option<Met> {
+#[inline(always)]
+fn read_far(module: &Module, text: &[u8], width: Width, addr: u16) -> Option<u64> {
     let here = usize::from(addr);
     if module.text.holds(here) {
         let value = match width {
             Width::Word => word(module.text, text, here),
             Width::Byte => byte(module.text, text, here),
         };
-        return Some(Met {
-            number: u32::from(ZERO),
-            value: both(u32::from(value)),
-        });
+        return Some(both(u32::from(value)));
     }
     if module.ram.holds(here) {
-        Some(Met {
-            number: u32::from(HIDDEN),
-            value: UNKNOWN,
-        })
+        Some(UNKNOWN)
     } else {
         None
     }
+}
+
+/// What is met there: nothing that a label tells of.
+#[inline(always)]
+fn far(value: u64) -> Met {
+    let number = if value == UNKNOWN { HIDDEN } else { ZERO };
+    Met {
+        number: u32::from(number),
+        value,
+    }
+}
+
+/// How many bytes of the data from its start on are no part of the text.
+fn clear_bytes(module: &Module) -> u16 {
+    let start = module.ram.start;
+    let size = module.ram.end.saturating_sub(start);
+    if module.text.end <= start {
+        size
+    } else {
+        size.min(module.text.start.saturating_sub(start))
+    }
+}
+
+/// What stands at a place of the text, if there is one.
+#[inline(always)]
+fn text_at(text: &[u8], width: Width, at: usize) -> Option<u32> {
+    match width {
+        Width::Byte => Some(u32::from(*text.get(at)?)),
+        Width::Word => {
+            if at >= text.len().saturating_sub(1) {
+                return None;
+            }
+            Some(u32::from(u16::from(text[at]) + 256 * u16::from(text[at + 1])))
+        }
+    }
+}
+
+/// Whether both arms have the same address.
+#[inline(always)]
+fn is_same(sum: u64) -> bool {
+    (first_half(sum) ^ second_half(sum)) & HALF_MEANING == 0
+}
+
+/// The first arm's place in the data, by the sum that is its address.
+#[inline(always)]
+fn first_place(sum: u64) -> u32 {
+    first_half(sum) & HALF_MEANING
 }
 
 impl Course {
@@ -234,11 +299,15 @@ impl Course {
         values[usize::from(ZERO)] = 0;
         let size = module.ram.end.saturating_sub(module.ram.start);
         let bytes = u32::from(size.min(TOLD_BYTES));
+        let clear = u32::from(clear_bytes(module));
         Course {
             values,
             data: module.ram.start,
             bytes,
             words: bytes / 2,
+            clear_bytes: clear,
+            clear_words: clear / 2,
+            shift: module.ram.start.wrapping_sub(module.text.start),
         }
     }
 
@@ -267,9 +336,8 @@ impl Course {
     /// The same where both arms reach it.
     #[inline(always)]
     fn word(&self, width: Width, sum: u64) -> Option<u16> {
-        let place = first_half(sum & MEANING);
-        if second_half(sum & MEANING) == place {
-            self.word_in(width, place)
+        if is_same(sum) {
+            self.word_in(width, first_place(sum))
         } else {
             None
         }
@@ -294,7 +362,63 @@ impl Course {
                 number: u32::from(number),
                 value: part_of(width, half, self.values[slot(u32::from(number))]),
             }),
-            None => read_far(module, text, width, self.address(width, half)?),
+            None => {
+                let value = read_far(module, text, width, self.address(width, half)?)?;
+                Some(far(value))
+            }
+        }
+    }
+
+    /// Whether data without a word of its own is reached in this half.
+    #[inline(always)]
+    fn is_clear(&self, width: Width, place: u32) -> bool {
+        match width {
+            Width::Word => turned(place) < self.clear_words,
+            Width::Byte => place < self.clear_bytes,
+        }
+    }
+
+    /// What is reached of the text in this half, where it is Known and may be had.
+    #[inline(always)]
+    fn in_text(&self, text: &[u8], width: Width, place: u32) -> Option<u32> {
+        if place & PART_UNKNOWN != 0 {
+            return None;
+        }
+        let at = ((place & PART) as u16).wrapping_add(self.shift);
+        if is_odd(width, at) {
+            return None;
+        }
+        text_at(text, width, usize::from(at))
+    }
+
+    /// Reads the address of both arms, which is no word of the label, where it is none of the usual places.
+    #[inline(never)]
+    fn read_rest(&self, module: &Module, text: &[u8], width: Width, half: u32) -> Option<Met> {
+        let value = read_far(module, text, width, self.address(width, half)?)?;
+        Some(far(value))
+    }
+
+    /// Reads the address of both arms, which is no word of the label.
+    #[inline(always)]
+    fn read_same(&self, module: &Module, text: &[u8], width: Width, half: u32) -> Option<Met> {
+        if self.is_clear(width, half) {
+            return Some(far(UNKNOWN));
+        }
+        match self.in_text(text, width, half) {
+            Some(number) => Some(far(both(number))),
+            None => self.read_rest(module, text, width, half),
+        }
+    }
+
+    /// What the arms read, where they have not the same address or it is no word of the label.
+    #[inline(always)]
+    fn read_other(&self, module: &Module, text: &[u8], width: Width, sum: u64) -> Option<Met> {
+        if is_same(sum) {
+            return self.read_same(module, text, width, first_place(sum));
+        }
+        match self.words_apart(width, sum) {
+            Some(there) => Some(there),
+            None => self.read_apart(module, text, width, sum),
         }
     }
 
@@ -315,7 +439,7 @@ impl Course {
         })
     }
 
-    /// Reads the arms' addresses, which are not the same or no word of the label.
+    /// Reads the arms' addresses, which are not the same.
     #[inline(never)]
     fn read_apart(&self, module: &Module, text: &[u8], width: Width, sum: u64) -> Option<Met> {
         let first = self.read(module, text, width, first_half(sum & MEANING))?;
@@ -328,18 +452,22 @@ impl Course {
 
     /// Reads the source's address.
     #[inline(always)]
-    fn load(&mut self, module: &Module, text: &[u8], form: &mut Form, width: Width) -> Option<u64> {
+    fn load(
+        &mut self,
+        module: &Module,
+        text: &[u8],
+        form: &Form,
+        track: &mut Track,
+        width: Width,
+    ) -> Option<u64> {
         let sum = self.values[usize::from(form.source)].wrapping_add(form.plus);
         if let Some(number) = self.word(width, sum) {
-            form.from = u32::from(number);
+            track.from = u32::from(number);
             let value = self.values[slot(u32::from(number))];
             return Some(part_of(width, first_half(sum), value));
         }
-        let there = match self.words_apart(width, sum) {
-            Some(there) => there,
-            None => self.read_apart(module, text, width, sum)?,
-        };
-        form.from = there.number;
+        let there = self.read_other(module, text, width, sum)?;
+        track.from = there.number;
         Some(there.value)
     }
 
@@ -375,19 +503,37 @@ impl Course {
             && self.is_had(module, form.width, second_half(sum))
     }
 
-    /// Writes where the arms' addresses are not the same or no word of the label.
+    /// Writes where both arms have the same address, which is no word of the label.
+    #[inline(never)]
+    fn write_same(
+        &mut self,
+        module: &Module,
+        form: &Form,
+        track: &mut Track,
+        operation: Operation,
+        source: u64,
+        half: u32,
+    ) -> Option<()> {
+        track.to = self.place(module, form.width, half)?;
+        let to = slot(track.to);
+        self.values[to] = made(operation, MEANING, source, self.values[to]);
+        Some(())
+    }
+
+    /// Writes where the arms' addresses are not the same.
     #[inline(never)]
     fn write_apart(
         &mut self,
         module: &Module,
-        form: &mut Form,
+        form: &Form,
+        track: &mut Track,
         operation: Operation,
         source: u64,
         sum: u64,
     ) -> Option<()> {
         let first = self.place(module, form.width, first_half(sum & MEANING))?;
         let second = self.place(module, form.width, second_half(sum & MEANING))?;
-        form.to = both_met(first, second);
+        track.to = both_met(first, second);
         let old = halves(self.values[slot(first)], self.values[slot(second)]);
         let new = made(operation, MEANING, source, old);
         self.values[slot(first)] = halves(new, self.values[slot(first)]);
@@ -400,7 +546,8 @@ impl Course {
     fn write(
         &mut self,
         module: &Module,
-        form: &mut Form,
+        form: &Form,
+        track: &mut Track,
         operation: Operation,
         width: Width,
         source: u64,
@@ -408,12 +555,16 @@ impl Course {
         let sum = self.values[usize::from(form.destination)].wrapping_add(form.end);
         match self.word(width, sum) {
             Some(number) => {
-                form.to = u32::from(number);
+                track.to = u32::from(number);
                 let to = slot(u32::from(number));
                 self.values[to] = made(operation, MEANING, source, self.values[to]);
                 Some(())
             }
-            None => self.write_apart(module, form, operation, source, sum),
+            None if is_same(sum) => {
+                let half = first_half(sum & MEANING);
+                self.write_same(module, form, track, operation, source, half)
+            }
+            None => self.write_apart(module, form, track, operation, source, sum),
         }
     }
 
@@ -443,11 +594,12 @@ impl Course {
         &mut self,
         module: &Module,
         text: &[u8],
-        form: &mut Form,
+        form: &Form,
+        track: &mut Track,
         operation: Operation,
         width: Width,
     ) -> Option<()> {
-        let source = self.load(module, text, form, width)?;
+        let source = self.load(module, text, form, track, width)?;
         self.put(operation, form, source)
     }
 
@@ -459,19 +611,20 @@ impl Course {
 
     /// Does to the destination, whatever that is, what the form says.
     #[inline(never)]
-    fn end(&mut self, module: &Module, form: &mut Form, source: u64) -> Option<()> {
+    fn end(&mut self, module: &Module, form: &Form, track: &mut Track, source: u64) -> Option<()> {
         match form.access {
             Access::Nothing => self.put(form.operation, form, source),
             Access::Read => {
+                track.to = u32::from(SINK);
                 if self.are_had(module, form) {
                     Some(())
                 } else {
                     None
                 }
             }
-            Access::Write => self.write(module, form, form.operation, form.width, source),
+            Access::Write => self.write(module, form, track, form.operation, form.width, source),
             Access::Push => {
-                self.write(module, form, form.operation, form.width, source)?;
+                self.write(module, form, track, form.operation, form.width, source)?;
                 self.lower();
                 Some(())
             }
@@ -488,58 +641,82 @@ impl Course {
 
     /// Reads a word into a register, and the base of its address rises.
     #[inline(always)]
-    fn fetch_rising(&mut self, module: &Module, text: &[u8], form: &mut Form) -> Option<()> {
-        let source = self.load(module, text, form, Width::Word)?;
+    fn fetch_rising(
+        &mut self,
+        module: &Module,
+        text: &[u8],
+        form: &Form,
+        track: &mut Track,
+    ) -> Option<()> {
+        let source = self.load(module, text, form, track, Width::Word)?;
         self.raise(form);
         self.put(form.operation, form, source)
     }
 
     /// Reads a word and does this to another.
     #[inline(always)]
-    fn both_words(&mut self, module: &Module, text: &[u8], form: &mut Form) -> Option<()> {
-        let source = self.load(module, text, form, Width::Word)?;
-        self.write(module, form, form.operation, Width::Word, source)
+    fn both_words(
+        &mut self,
+        module: &Module,
+        text: &[u8],
+        form: &Form,
+        track: &mut Track,
+    ) -> Option<()> {
+        let source = self.load(module, text, form, track, Width::Word)?;
+        self.write(module, form, track, form.operation, Width::Word, source)
     }
 
     /// Pushes a word that is not read.
     #[inline(always)]
-    fn push(&mut self, module: &Module, form: &mut Form) -> Option<()> {
+    fn push(&mut self, module: &Module, form: &Form, track: &mut Track) -> Option<()> {
         let source = self.source(form);
-        self.write(module, form, Operation::Move, Width::Word, source)?;
+        self.write(module, form, track, Operation::Move, Width::Word, source)?;
         self.lower();
         Some(())
     }
 
     /// Does an instruction whose source has an address, and may raise the register that this is made of.
     #[inline(never)]
-    fn through(&mut self, module: &Module, text: &[u8], form: &mut Form) -> Option<()> {
+    fn through(
+        &mut self,
+        module: &Module,
+        text: &[u8],
+        form: &Form,
+        track: &mut Track,
+    ) -> Option<()> {
         let source = match form.width {
-            Width::Word => self.load(module, text, form, Width::Word)?,
-            Width::Byte => self.load(module, text, form, Width::Byte)?,
+            Width::Word => self.load(module, text, form, track, Width::Word)?,
+            Width::Byte => self.load(module, text, form, track, Width::Byte)?,
         };
         if form.code == Code::ThroughRise {
             self.raise(form);
         }
-        self.end(module, form, source)
+        self.end(module, form, track, source)
     }
 
     /// Does this to the word at the destination's address, with a source that has none.
     #[inline(always)]
-    fn store(&mut self, module: &Module, form: &mut Form) -> Option<()> {
+    fn store(&mut self, module: &Module, form: &Form, track: &mut Track) -> Option<()> {
         let source = self.source(form);
-        self.write(module, form, form.operation, Width::Word, source)
+        self.write(module, form, track, form.operation, Width::Word, source)
     }
 
     /// Does something else at the destination's address, with a source that has none.
     #[inline(always)]
-    fn reach(&mut self, module: &Module, form: &mut Form) -> Option<()> {
+    fn reach(&mut self, module: &Module, form: &Form, track: &mut Track) -> Option<()> {
         let source = self.source(form);
-        self.end(module, form, source)
+        self.end(module, form, track, source)
     }
 
     /// Does an instruction, and tells whether it has no cause. Each operation has code of its own.
     #[inline(always)]
-    fn follow(&mut self, module: &Module, text: &[u8], form: &mut Form) -> Option<()> {
+    fn follow(
+        &mut self,
+        module: &Module,
+        text: &[u8],
+        form: &Form,
+        track: &mut Track,
+    ) -> Option<()> {
         match form.code {
             Code::Move => self.make(Operation::Move, form),
             Code::Add => self.make(Operation::Add, form),
@@ -553,26 +730,61 @@ impl Course {
             Code::HalveByte => self.make(Operation::HalveByte, form),
             Code::Extend => self.make(Operation::Extend, form),
             Code::Hide => self.make(Operation::Hide, form),
-            Code::LoadMove => self.fetch(module, text, form, Operation::Move, Width::Word),
-            Code::LoadAdd => self.fetch(module, text, form, Operation::Add, Width::Word),
-            Code::Load => self.fetch(module, text, form, form.operation, Width::Word),
-            Code::LoadByteMove => self.fetch(module, text, form, Operation::Move, Width::Byte),
-            Code::LoadByteAdd => self.fetch(module, text, form, Operation::Add, Width::Byte),
-            Code::LoadByte => self.fetch(module, text, form, form.operation, Width::Byte),
-            Code::LoadRise => self.fetch_rising(module, text, form),
-            Code::Store => self.store(module, form),
-            Code::StoreByte => self.write(module, form, Operation::Hide, Width::Byte, UNKNOWN),
-            Code::Both => self.both_words(module, text, form),
-            Code::Push => self.push(module, form),
-            Code::Reach => self.reach(module, form),
-            Code::Through | Code::ThroughRise => self.through(module, text, form),
+            Code::LoadMove => self.fetch(module, text, form, track, Operation::Move, Width::Word),
+            Code::LoadAdd => self.fetch(module, text, form, track, Operation::Add, Width::Word),
+            Code::Load => self.fetch(module, text, form, track, form.operation, Width::Word),
+            Code::LoadByteMove => self.fetch(
+                module,
+                text,
+                form,
+                track,
+                Operation::Move,
+                Width::Byte,
+            ),
+            Code::LoadByteAdd => self.fetch(module, text, form, track, Operation::Add, Width::Byte),
+            Code::LoadHide => self.fetch(module, text, form, track, Operation::Hide, Width::Word),
+            Code::LoadByteHide => self.fetch(
+                module,
+                text,
+                form,
+                track,
+                Operation::Hide,
+                Width::Byte,
+            ),
+            Code::LoadByte => self.fetch(module, text, form, track, form.operation, Width::Byte),
+            Code::LoadRise => self.fetch_rising(module, text, form, track),
+            Code::Store => self.store(module, form, track),
+            Code::StoreByte => self.write(
+                module,
+                form,
+                track,
+                Operation::Hide,
+                Width::Byte,
+                UNKNOWN,
+            ),
+            Code::Both => self.both_words(module, text, form, track),
+            Code::Push => self.push(module, form, track),
+            Code::Reach => self.reach(module, form, track),
+            Code::Through | Code::ThroughRise => self.through(module, text, form, track),
         }
     }
 
-    /// Does the instructions of two arms, and tells whether none of them has a cause under either.
-    pub fn run(&mut self, module: &Module, text: &[u8], arms: &mut [Form]) -> bool {
-        for form in arms.iter_mut() {
-            if self.follow(module, text, form).is_none() {
+    /// Does these instructions of two arms, keeps what they met, and tells whether none of them has a cause under either.
+    pub fn run(
+        &mut self,
+        module: &Module,
+        text: &[u8],
+        forms: &[Form],
+        tracks: &mut [Track],
+    ) -> bool {
+        let Some(tracks) = tracks.get_mut(..forms.len()) else {
+            return false;
+        };
+        for k in 0..forms.len() {
+            if self
+                .follow(module, text, &forms[k], &mut tracks[k])
+                .is_none()
+            {
                 return false;
             }
         }

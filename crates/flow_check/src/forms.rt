@@ -92,12 +92,16 @@ pub enum Code {
     LoadMove,
     /// A word is read and added to a register.
     LoadAdd,
+    /// A word is read, and a register is not Known.
+    LoadHide,
     /// A word is read into a register in another way.
     Load,
     /// A byte is read, and a register becomes it.
     LoadByteMove,
     /// A byte is read and added to a register.
     LoadByteAdd,
+    /// A byte is read, and a register is not Known.
+    LoadByteHide,
     /// A byte is read into a register in another way.
     LoadByte,
     /// A word is read into a register, and the base of its address rises.
@@ -141,8 +145,7 @@ pub enum Access {
 }
 
 /// What an instruction of the text makes of what. An address is the sum of a base, which is a register's number or
-/// `ZERO`, and a number; it counts from the data's start, and [`OVER`] more. What was met at an address last is the
-/// number of the first arm's value, and, 65,536 times, what the second's number has other bits.
+/// `ZERO`, and a number; it counts from the data's start, and [`OVER`] more.
 #[derive(Clone, Copy)]
 pub struct Form {
     pub code: Code,
@@ -161,10 +164,6 @@ pub struct Form {
     pub plus: u64,
     /// The bits that a register keeps, or what is added to the destination's base.
     pub end: u64,
-    /// What was met at the source's address.
-    pub from: u32,
-    /// What was met at the destination's address.
-    pub to: u32,
 }
 
 /// What is added to a base for an address.
@@ -256,6 +255,14 @@ fn two_operation(op: TwoOp) -> Operation {
     }
 }
 
+/// Whether what is made for a destination may be needed: a register that is never Known takes anything.
+fn is_needed(writes: bool, dst: Operand) -> bool {
+    match dst {
+        Operand::Reg(reg) => writes && written(reg) != SINK,
+        _ => true,
+    }
+}
+
 /// What an operation of format II makes of a register.
 fn one_operation(op: OneOp, width: Width) -> Operation {
     match op {
@@ -283,11 +290,13 @@ fn load_code(operation: Operation, width: Width) -> Code {
         Width::Word => match operation {
             Operation::Move => Code::LoadMove,
             Operation::Add => Code::LoadAdd,
+            Operation::Hide => Code::LoadHide,
             _ => Code::Load,
         },
         Width::Byte => match operation {
             Operation::Move => Code::LoadByteMove,
             Operation::Add => Code::LoadByteAdd,
+            Operation::Hide => Code::LoadByteHide,
             _ => Code::LoadByte,
         },
     }
@@ -356,8 +365,6 @@ impl Form {
         trace: Trace::Making,
         plus: 0,
         end: MEANING,
-        from: ZERO as u32,
-        to: SINK as u32,
     };
 
     /// An instruction that makes this of what is still to be told.
@@ -375,7 +382,6 @@ impl Form {
     fn with_source(self, part: Part, data: u16) -> Form {
         let form = Form {
             source: part.base,
-            from: u32::from(part.base),
             plus: both(u32::from(part.plus)),
             ..self
         };
@@ -427,7 +433,6 @@ impl Form {
         let number = written(reg);
         Form {
             destination: number,
-            to: u32::from(number),
             end: both(kept_bits(self.width, reg)) | UNKNOWN,
             ..self
         }
@@ -437,10 +442,15 @@ impl Form {
     fn two(op: TwoOp, width: Width, src: Operand, dst: Operand, spot: Site) -> Form {
         let ext = extension(spot.pc);
         let source = part_of(src, width, ext, spot.next);
-        let form = Form::making(two_operation(op), reads_destination(op), width).with_source(
+        let writes = writes_destination(op);
+        let operation = if is_needed(writes, dst) {
+            two_operation(op)
+        } else {
+            Operation::Hide
+        };
+        let form = Form::making(operation, reads_destination(op), width).with_source(
             source, spot.data,
         );
-        let writes = writes_destination(op);
         match dst {
             Operand::Reg(reg) => {
                 if writes {
@@ -505,6 +515,6 @@ impl Form {
 
     /// Whether it makes nothing that may be needed, and has no address.
     pub fn is_idle(&self) -> bool {
-        self.trace == Trace::Making && self.to == u32::from(SINK)
+        self.trace == Trace::Making && self.destination == SINK
     }
 }

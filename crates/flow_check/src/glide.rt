@@ -135,7 +135,8 @@ fn first_place(module: &Module, pc: u16) -> Option<u16>
     }
 }
 
-/// Goes on along such instructions, for at most so many steps, and tells how many of these are left.
+/// Goes on along such instructions, for at most so many steps and until no more than `rest` are left, and tells how
+/// many are left.
 #[inline(never)]
 fn glide_along(
     module: &Module,
@@ -146,6 +147,7 @@ fn glide_along(
     place: &mut Place,
     tally: &mut Tally,
     most: u32,
+    rest: u32,
 ) -> u32
     requires table { IsTable module.now text.now table.now }
     requires short { tally.old.cycles + 255 * most ≤ 255 * 65536 }
@@ -169,6 +171,7 @@ fn glide_along(
         entries,
         join,
         from,
+        rest,
         place,
         tally,
     )
@@ -195,6 +198,7 @@ pub fn glide(
     place: &mut Place,
     tally: &mut Tally,
     most: u32,
+    rest: u32,
 ) -> u32
     requires table { IsTable module.now text.now table.now }
     requires short { tally.old.cycles + 255 * most ≤ 255 * 65536 }
@@ -209,5 +213,5 @@ pub fn glide(
     if !may_glide(module, table, place.pc) {
         return most;
     }
-    glide_along(module, text, table, entries, join, place, tally, most)
+    glide_along(module, text, table, entries, join, place, tally, most, rest)
 }

@@ -21,10 +21,10 @@ use crate::effect::{
     carry_of, copied, flags_if, low, number_of_one, one_reads_carry, one_sets_flags, put_result,
     read_if, set_flags, single_of,
 };
-use crate::glide_two::word_there;
 use crate::own::near_number;
 use crate::reach::{extension, increment};
 use crate::registers::{Core, get, move_on, put};
+use crate::sources::word_there;
 use crate::text::{
     blot_near, data_at, may_reach, near_at, put_word, read_at, word_number, write_near,
     write_numbered,
@@ -36,9 +36,6 @@ use mod_layout::Module;
 use pc_access::Kind;
 use sm_words::{SP, Width};
 
-/// The flags' register: those above it keep what is written there, whatever was there before.
-const FLAGS: u8 = 2;
-
 /// How many registers there are.
 const REGISTERS: u8 = 16;
 
@@ -46,7 +43,7 @@ const REGISTERS: u8 = 16;
 #[tactic(auto, using(crate::proofs::GlidingOne::register_there))]
 #[inline(always)]
 fn change_core(op: OneOp, width: Width, reg: u8, next: u16, core: &mut Core)
-    requires above { 2 < reg }
+    requires above { 0 < reg }
     requires even { next % 2 ≡ 0 }
     ensures changed { core.new ≡ (written_val true (Operand.Reg reg)
         (one_val op width (narrow width (val core.old reg)) (carry_val core.old)) (moved_on core.old next)).core }
@@ -57,7 +54,7 @@ fn change_core(op: OneOp, width: Width, reg: u8, next: u16, core: &mut Core)
     put_result(reg, &changed, core);
 }
 
-/// Changes a register, where it is one above the flags'.
+/// Changes a register but PC.
 #[inline(always)]
 fn change_register(
     module: &Module,
@@ -78,7 +75,7 @@ fn change_register(
     ensures same_label { result ≡ false → label.new ≡ label.old }
     ensures same_told { result ≡ false → told.new ≡ told.old }
 {
-    if reg <= FLAGS || REGISTERS <= reg {
+    if reg == 0 || REGISTERS <= reg {
         return false;
     }
     change_core(op, width, reg, next, &mut label.core);

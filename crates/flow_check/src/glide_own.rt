@@ -1,5 +1,4 @@
-//! Operations into a register but PC, from a source that PC is no part of: most of what arms do, so that they have a loop
-//! of their own.
+//! Operations into a register but PC: most of what arms do, so that they have a loop of their own.
 
 ghost use Rattle.std.specs.Prelude.{◌≡◌, ◌≢◌, ◌≤◌, ◌<◌, ◌+◌, ◌*◌, ◌%◌, true, false, ℕ, List, Some, None, IfSome};
 ghost use Rattle.sm_words.specs.Words.{add16};
@@ -22,7 +21,7 @@ use crate::blot::blot_step;
 use crate::effect::low;
 use crate::glide::glide_on;
 use crate::glide_into::{into, word_there};
-use crate::own::{data_byte, data_word, held, own_into};
+use crate::own::{data_byte, data_word, given_by, held, own_into};
 use crate::reach::{extension, increment};
 use crate::registers::{Core, move_on};
 use crate::table::{Entry, Own, Plain, entry_of};
@@ -42,18 +41,18 @@ enum Got {
     Place(Val),
 }
 
-/// What a source of words gives, or where it stands, as if PC were moved on.
+/// What a source of words gives, or where it stands, once PC is moved on.
 #[tactic(auto, using(crate::proofs::GlidingOwn::raised_still))]
 #[inline(always)]
-fn got_word(src: Operand, core: &Core, ext: u16) -> Got
+fn got_word(src: Operand, core: &Core, ext: u16, next: u16) -> Got
     requires apart { is_apart src ≡ true }
-    ensures value { (v : Val) → result ≡ Got.Value v → (next : ℕ) → IsGiven src Width.Word (moved_on core.now next) ext v }
-    ensures place { (addr : Val) → result ≡ Got.Place addr → (next : ℕ) →
-        place_val src (moved_on core.now next) ext ≡ Some addr }
-    ensures still { (next : ℕ) → IsStill src (moved_on core.now next) }
+    requires even { next % 2 ≡ 0 }
+    ensures value { (v : Val) → result ≡ Got.Value v → IsGiven src Width.Word (moved_on core.now next) ext v }
+    ensures place { (addr : Val) → result ≡ Got.Place addr → place_val src (moved_on core.now next) ext ≡ Some addr }
+    ensures still { IsStill src (moved_on core.now next) }
 {
     match src {
-        Operand::Reg(reg) => Got::Value(held(core, reg)),
+        Operand::Reg(reg) => Got::Value(given_by(core, reg, next)),
         Operand::Const(number) => Got::Value(Val::Known(number)),
         Operand::Imm(number) => Got::Value(Val::Known(number)),
         Operand::Indexed { reg, x } => Got::Place(plus(held(core, reg), x)),
@@ -67,15 +66,15 @@ fn got_word(src: Operand, core: &Core, ext: u16) -> Got
 /// The same of bytes.
 #[tactic(auto, using(crate::proofs::GlidingOwn::raised_still))]
 #[inline(always)]
-fn got_byte(src: Operand, core: &Core, ext: u16) -> Got
+fn got_byte(src: Operand, core: &Core, ext: u16, next: u16) -> Got
     requires apart { is_apart src ≡ true }
-    ensures value { (v : Val) → result ≡ Got.Value v → (next : ℕ) → IsGiven src Width.Byte (moved_on core.now next) ext v }
-    ensures place { (addr : Val) → result ≡ Got.Place addr → (next : ℕ) →
-        place_val src (moved_on core.now next) ext ≡ Some addr }
-    ensures still { (next : ℕ) → IsStill src (moved_on core.now next) }
+    requires even { next % 2 ≡ 0 }
+    ensures value { (v : Val) → result ≡ Got.Value v → IsGiven src Width.Byte (moved_on core.now next) ext v }
+    ensures place { (addr : Val) → result ≡ Got.Place addr → place_val src (moved_on core.now next) ext ≡ Some addr }
+    ensures still { IsStill src (moved_on core.now next) }
 {
     match src {
-        Operand::Reg(reg) => Got::Value(narrow(Width::Byte, held(core, reg))),
+        Operand::Reg(reg) => Got::Value(narrow(Width::Byte, given_by(core, reg, next))),
         Operand::Const(number) => Got::Value(Val::Known(low(Width::Byte, number))),
         Operand::Imm(number) => Got::Value(Val::Known(low(Width::Byte, number))),
         Operand::Indexed { reg, x } => Got::Place(plus(held(core, reg), x)),
@@ -116,7 +115,7 @@ fn byte_at(module: &Module, text: &[u8], room: u16, addr: Val, words: &[Val; 256
     }
 }
 
-/// What a source of words gives, where it may be read, as if PC were moved on.
+/// What a source of words gives, where it may be read, once PC is moved on.
 #[tactic(auto, using(crate::proofs::GlidingOwn::source_given, crate::proofs::Gliding::source_read))]
 #[inline(always)]
 fn source_word(
@@ -125,16 +124,18 @@ fn source_word(
     room: u16,
     src: Operand,
     pc: u16,
+    next: u16,
     label: &Label,
 ) -> Option<Val>
     requires apart { is_apart src ≡ true }
+    requires even { next % 2 ≡ 0 }
     requires room { IsRoom module.now room }
-    ensures { IfSome result (λ v. (next : ℕ) → IsSource module.now text.now Width.Word src pc (record {
+    ensures { IfSome result (λ v. IsSource module.now text.now Width.Word src pc (record {
       core = moved_on label.now.core next;
       words = label.now.words;
     }) v) }
 {
-    match got_word(src, &label.core, extension(pc)) {
+    match got_word(src, &label.core, extension(pc), next) {
         Got::Value(value) => Some(value),
         Got::Place(addr) => word_at(module, text, room, addr, &label.words),
     }
@@ -149,16 +150,18 @@ fn source_byte(
     room: u16,
     src: Operand,
     pc: u16,
+    next: u16,
     label: &Label,
 ) -> Option<Val>
     requires apart { is_apart src ≡ true }
+    requires even { next % 2 ≡ 0 }
     requires room { IsRoom module.now room }
-    ensures { IfSome result (λ v. (next : ℕ) → IsSource module.now text.now Width.Byte src pc (record {
+    ensures { IfSome result (λ v. IsSource module.now text.now Width.Byte src pc (record {
       core = moved_on label.now.core next;
       words = label.now.words;
     }) v) }
 {
-    match got_byte(src, &label.core, extension(pc)) {
+    match got_byte(src, &label.core, extension(pc), next) {
         Got::Value(value) => Some(value),
         Got::Place(addr) => byte_at(module, text, room, addr, &label.words),
     }
@@ -257,7 +260,7 @@ fn own_word(
     ensures same_label { result ≡ false → label.new ≡ label.old }
     ensures same_told { result ≡ false → told.new ≡ told.old }
 {
-    let Some(value) = source_word(module, text, room, own.src, pc, label) else {
+    let Some(value) = source_word(module, text, room, own.src, pc, own.next, label) else {
         return false;
     };
     move_on(&mut label.core, own.next);
@@ -291,7 +294,7 @@ fn own_byte(
     ensures same_label { result ≡ false → label.new ≡ label.old }
     ensures same_told { result ≡ false → told.new ≡ told.old }
 {
-    let Some(value) = source_byte(module, text, room, own.src, pc, label) else {
+    let Some(value) = source_byte(module, text, room, own.src, pc, own.next, label) else {
         return false;
     };
     move_on(&mut label.core, own.next);
@@ -350,7 +353,7 @@ pub struct Ran {
     pub left: u32,
 }
 
-/// Goes on along such operations, for at most so many steps.
+/// Goes on along such operations, until no more than so many steps are left.
 #[inline(always)]
 pub fn own_along(
     module: &Module,
@@ -360,6 +363,7 @@ pub fn own_along(
     entries: Option<u16>,
     join: u16,
     from: Ran,
+    rest: u32,
     place: &mut Place,
     tally: &mut Tally,
 ) -> Ran
@@ -380,7 +384,7 @@ pub fn own_along(
     let mut left = from.left;
     let mut pc = place.pc;
     let mut cycles = tally.cycles;
-    while left > 0 && pc != join {
+    while left > rest && pc != join {
         let Some(entry) = entry_of(table, usize::from(k)) else {
             break;
         };

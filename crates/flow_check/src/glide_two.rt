@@ -12,96 +12,26 @@ ghost use Rattle.flow_rule.specs.Arms.{stepped_regs, written_words, blot, blot_c
 ghost use Rattle.flow_rule.specs.Does.{past_val, stepped_val, reach_if, two_val, carry_val, set_flags_by, writes_val, word_no, worked, read_if, reads_carry};
 ghost use Rattle.flow_check.specs.Carries.{IsCarry};
 ghost use Rattle.flow_check.specs.Along.{taken_by};
-ghost use Rattle.flow_check.specs.Gliding.{IsGlided, IsRoom, IsNear, IsWordThere, moved_on};
-ghost use Rattle.flow_check.specs.GlidingTwo.{source_place, destination_place, IsTwoPlace, IsTwoSource, IsTwoAddress, IsTwoReady, tried, put_near, old_near, told_near};
+ghost use Rattle.flow_check.specs.Gliding.{IsGlided, IsRoom, IsNear, moved_on};
+ghost use Rattle.flow_check.specs.GlidingTwo.{IsTwoAddress, IsTwoReady, tried, put_near, old_near, told_near};
 
 use crate::blot::blot_step;
 use crate::effect::{
-    carry_for, flags_if, low, read_if, reads_carry, set_flags, sets_flags, two, worked,
+    carry_for, flags_if, read_if, reads_carry, set_flags, sets_flags, two, worked,
 };
-use crate::own::{data_there, near_number};
-use crate::reach::{extension, increment, reads_destination, second, writes_destination};
-use crate::registers::{Core, get, move_on};
+use crate::own::near_number;
+use crate::reach::{increment, reads_destination, writes_destination};
+use crate::registers::{Core, move_on};
+use crate::sources::{destination_place, source};
 use crate::text::{
-    blot_near, may_reach, near_at, put_word, read_at, read_numbered, word_number, write_near,
-    write_numbered,
+    blot_near, may_reach, near_at, put_word, read_numbered, word_number, write_near, write_numbered,
 };
-use crate::value::{blurred_all, narrow, plus};
+use crate::value::{blurred_all, narrow};
 use flow_rule::{Label, Told, Val};
 use insn_decode::{Insn, Operand, TwoOp};
 use mod_layout::Module;
 use pc_access::Kind;
 use sm_words::{SR, Width};
-
-/// The address of a source in memory, but for one by PC.
-#[tactic(auto, using(crate::proofs::GlidingTwo::moved_other, crate::proofs::GlidingTwo::still_raised))]
-#[inline(always)]
-fn source_place(src: Operand, core: &Core, pc: u16) -> Option<Val>
-    ensures { IfSome result (λ addr. (next : ℕ) → IsTwoPlace src core.now pc next addr) }
-{
-    match src {
-        Operand::Indexed { reg, x } => {
-            if reg == 0 {
-                return None;
-            }
-            Some(plus(get(core, reg), x))
-        }
-        Operand::Indirect(reg) => {
-            if reg == 0 {
-                return None;
-            }
-            Some(get(core, reg))
-        }
-        Operand::Increment(reg) => {
-            if reg == 0 {
-                return None;
-            }
-            Some(get(core, reg))
-        }
-        Operand::Symbolic(x) => Some(Val::Known(extension(pc).wrapping_add(x))),
-        Operand::Absolute(x) => Some(Val::Known(x)),
-        Operand::Reg(_) | Operand::Const(_) | Operand::Imm(_) => None,
-    }
-}
-
-/// What a register but PC holds once the source's increment is done.
-#[tactic(auto, using(crate::proofs::GlidingTwo::raised_same, crate::proofs::GlidingTwo::raised_other, crate::proofs::GlidingTwo::moved_other))]
-#[inline(always)]
-fn after_source(width: Width, src: Operand, core: &Core, reg: u8) -> Val
-    requires { 0 < reg }
-    ensures { (next : ℕ) → result ≡ val (stepped_val width src (moved_on core.now next)) reg }
-{
-    match src {
-        Operand::Increment(raised) => {
-            if raised == reg {
-                let mut after = *core;
-                increment(width, src, &mut after);
-                get(&after, reg)
-            } else {
-                get(core, reg)
-            }
-        }
-        _ => get(core, reg),
-    }
-}
-
-/// The address of a destination in memory, but for one by PC.
-#[inline(always)]
-fn destination_place(width: Width, src: Operand, dst: Operand, core: &Core, pc: u16) -> Option<Val>
-    ensures { IfSome result (λ addr. (next : ℕ) → destination_place width src dst core.now pc next ≡ Some addr) }
-{
-    match dst {
-        Operand::Indexed { reg, x } => {
-            if reg == 0 {
-                return None;
-            }
-            Some(plus(after_source(width, src, core, reg), x))
-        }
-        Operand::Symbolic(x) => Some(Val::Known(second(extension(pc), src).wrapping_add(x))),
-        Operand::Absolute(x) => Some(Val::Known(x)),
-        _ => None,
-    }
-}
 
 /// The access by which a destination is tried.
 #[inline(always)]
@@ -122,95 +52,6 @@ fn may_do(module: &Module, op: TwoOp, width: Width, addr: u16) -> bool
     ensures { result ≡ true → IsTwoAddress module.now op width addr }
 {
     may_reach(module, tried(op), width, addr)
-}
-
-/// What stands at an address, where it may be read.
-#[tactic(auto, using(crate::proofs::GlidingTwo::allowed))]
-#[inline(always)]
-fn far_there(
-    module: &Module,
-    text: &[u8],
-    width: Width,
-    number: u16,
-    words: &[Val; 256],
-) -> Option<Val>
-    ensures { IfSome result (IsWordThere module.now text.now width (Val.Known number) words.now) }
-{
-    if !may_reach(module, Kind::Read, width, number) {
-        return None;
-    }
-    Some(narrow(width, read_at(module, text, words, width, number)))
-}
-
-/// The same; most addresses are of the data.
-#[inline(always)]
-pub fn word_there(
-    module: &Module,
-    text: &[u8],
-    room: u16,
-    width: Width,
-    addr: Val,
-    words: &[Val; 256],
-) -> Option<Val>
-    requires room { IsRoom module.now room }
-    ensures { IfSome result (IsWordThere module.now text.now width addr words.now) }
-{
-    let Val::Known(number) = addr else {
-        return None;
-    };
-    match data_there(module, room, width, number, words) {
-        Some(value) => Some(value),
-        None => far_there(module, text, width, number, words),
-    }
-}
-
-/// What a source in memory gives, where it may be read.
-#[tactic(auto, using(crate::proofs::GlidingTwo::there_is))]
-#[inline(always)]
-fn source_there(
-    module: &Module,
-    text: &[u8],
-    room: u16,
-    width: Width,
-    src: Operand,
-    label: &Label,
-    pc: u16,
-) -> Option<Val>
-    requires room { IsRoom module.now room }
-    ensures { IfSome result (λ value. (next : ℕ) → IsTwoSource module.now text.now width src label.now pc next value) }
-{
-    let Some(addr) = source_place(src, &label.core, pc) else {
-        return None;
-    };
-    word_there(module, text, room, width, addr, &label.words)
-}
-
-/// What a source gives, where it may be read, but for one of PC.
-#[tactic(auto, using(crate::proofs::GlidingTwo::moved_other))]
-#[inline(always)]
-fn source(
-    module: &Module,
-    text: &[u8],
-    room: u16,
-    width: Width,
-    src: Operand,
-    label: &Label,
-    pc: u16,
-) -> Option<Val>
-    requires room { IsRoom module.now room }
-    ensures { IfSome result (λ value. (next : ℕ) → IsTwoSource module.now text.now width src label.now pc next value) }
-{
-    match src {
-        Operand::Reg(reg) => {
-            if reg == 0 {
-                return None;
-            }
-            Some(narrow(width, get(&label.core, reg)))
-        }
-        Operand::Const(number) => Some(Val::Known(low(width, number))),
-        Operand::Imm(number) => Some(Val::Known(low(width, number))),
-        _ => source_there(module, text, room, width, src, label, pc),
-    }
 }
 
 /// What stands at the destination, where the operation reads it.
@@ -781,7 +622,7 @@ pub fn glide_two(
     let Some(Val::Known(addr)) = destination_place(width, src, dst, &label.core, pc) else {
         return false;
     };
-    let Some(value) = source(module, text, room, width, src, label, pc) else {
+    let Some(value) = source(module, text, room, width, src, label, pc, next) else {
         return false;
     };
     let given = Given {

@@ -6,7 +6,7 @@ ghost use Rattle.flow_rule.specs.declared.Label.{Label};
 ghost use Rattle.flow_rule.specs.Values.{join, join_each};
 ghost use Rattle.flow_rule.specs.Rounds.{join_label};
 ghost use Rattle.flow_check.specs.Frames.{is_among};
-ghost use Rattle.flow_check.specs.Fresh.{is_fresh, word, Takes, Settled, Joins};
+ghost use Rattle.flow_check.specs.Fresh.{block_at, is_fresh, word, Takes, Settled, Joins};
 ghost use Rattle.flow_check.specs.Links.{label_there, word_at};
 ghost use Rattle.flow_check.specs.Weights.{weight_all, weight_label};
 
@@ -21,7 +21,27 @@ const BLOCKS: usize = 16;
 /// How many words a block has.
 const WORDS: usize = 16;
 
-/// Joins a value to its own, and tells whether it changed.
+/// Joins a value to its own, and tells whether it changed: code of its own, so that the loops are short.
+#[tactic(auto, using(crate::proofs::Joins::join_step, crate::proofs::Joins::join_still, crate::proofs::Joins::set_same, crate::proofs::Joins::put_own, crate::proofs::Joins::put_still, crate::proofs::Weights::set_up, crate::proofs::Weights::set_rises))]
+#[inline(never)]
+fn join_other(into: &mut [Val], from: &[Val], i: usize) -> bool
+    requires here { i < length into.old }
+    requires alike { length into.old ≡ length from.now }
+    ensures length { length into.new ≡ length into.old }
+    ensures step { take i into.old ++ join_each (drop i into.old) (drop i from.now)
+        ≡ take (suc i) into.new ++ join_each (drop (suc i) into.new) (drop (suc i) from.now) }
+    ensures put { into.new ≡ slice_set into.old i (join (word into.old i) (word from.now i)) }
+    ensures same { result ≡ false → into.new ≡ into.old }
+    ensures above { weight_all into.old ≤ weight_all into.new }
+    ensures rises { result ≡ true → weight_all into.old < weight_all into.new }
+{
+    let old = into[i];
+    let new = join(old, from[i]);
+    into[i] = new;
+    new != old
+}
+
+/// The same, where most values are the same.
 #[tactic(auto, using(crate::proofs::Joins::join_step, crate::proofs::Joins::join_still, crate::proofs::Joins::set_same, crate::proofs::Joins::put_own, crate::proofs::Joins::put_still, crate::proofs::Weights::set_up, crate::proofs::Weights::set_rises))]
 fn join_at(into: &mut [Val], from: &[Val], i: usize) -> bool
     requires here { i < length into.old }
@@ -34,14 +54,11 @@ fn join_at(into: &mut [Val], from: &[Val], i: usize) -> bool
     ensures above { weight_all into.old ≤ weight_all into.new }
     ensures rises { result ≡ true → weight_all into.old < weight_all into.new }
 {
-    let old = into[i];
-    let value = from[i];
-    if value == old {
-        return false;
+    if from[i] == into[i] {
+        false
+    } else {
+        join_other(into, from, i)
     }
-    let new = join(old, value);
-    into[i] = new;
-    new != old
 }
 
 /// Joins each of these values to its own, and tells whether one changed.
@@ -104,7 +121,7 @@ fn join_if(into: &mut [Val], from: &[Val], blocks: &Blocks, b: usize, changed: &
     requires many { length into.old ≡ 256 }
     requires alike { length from.now ≡ 256 }
     ensures joins { Joins from.now into.old into.new changed.old changed.new result }
-    ensures takes { (q : ℕ) → 16 * b ≤ q → q < 16 * (b + 1) → is_fresh blocks.now q ≡ true →
+    ensures takes { (q : ℕ) → 16 * b ≤ q → q < 16 * (b + 1) → block_at blocks.now (q / 16) ≡ true →
         Takes (word into.new q) (word from.now q) }
 {
     if blocks.has(b) {
@@ -116,11 +133,12 @@ fn join_if(into: &mut [Val], from: &[Val], blocks: &Blocks, b: usize, changed: &
 
 /// Joins the words of these blocks.
 #[tactic(auto, using(crate::proofs::Freshness::joins_on, crate::proofs::Freshness::joins_off, crate::proofs::Freshness::joins_none))]
+#[inline(never)]
 fn join_blocks(into: &mut [Val], from: &[Val], blocks: &Blocks, changed: &mut Blocks) -> bool
     requires many { length into.old ≡ 256 }
     requires alike { length from.now ≡ 256 }
     ensures joins { Joins from.now into.old into.new changed.old changed.new result }
-    ensures takes { (q : ℕ) → q < 256 → is_fresh blocks.now q ≡ true → Takes (word into.new q) (word from.now q) }
+    ensures takes { (q : ℕ) → q < 256 → block_at blocks.now (q / 16) ≡ true → Takes (word into.new q) (word from.now q) }
 {
     let mut any = false;
     for b in 0..BLOCKS {
@@ -148,6 +166,21 @@ fn join_places(into: &mut [Val], from: &[Val], places: &[u8], changed: &mut Bloc
     any
 }
 
+/// Joins the words that may have changed.
+#[tactic(auto, using(crate::proofs::Freshness::takes_many, crate::proofs::Freshness::takes_few))]
+fn join_fresh(into: &mut [Val], from: &[Val], blocks: &Blocks, changed: &mut Blocks) -> bool
+    requires many { length into.old ≡ 256 }
+    requires alike { length from.now ≡ 256 }
+    ensures joins { Joins from.now into.old into.new changed.old changed.new result }
+    ensures takes { (q : ℕ) → q < 256 → is_fresh blocks.now q ≡ true → Takes (word into.new q) (word from.now q) }
+{
+    if blocks.is_many() {
+        join_blocks(into, from, blocks, changed)
+    } else {
+        join_places(into, from, blocks.listed(), changed)
+    }
+}
+
 /// Joins words, where outside these blocks and places nothing changes.
 #[tactic(auto, using(crate::proofs::Freshness::joins_all))]
 fn join_some(
@@ -163,7 +196,7 @@ fn join_some(
     ensures joined { into.new ≡ join_each into.old from.now }
     ensures joins { Joins from.now into.old into.new changed.old changed.new result }
 {
-    let by_blocks = join_blocks(into, from, blocks, changed);
+    let by_blocks = join_fresh(into, from, blocks, changed);
     let by_places = join_places(into, from, places.as_slice(), changed);
     by_blocks || by_places
 }

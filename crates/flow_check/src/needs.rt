@@ -4,7 +4,7 @@
 
 ghost use Rattle.std.specs.Prelude.{◌<◌};
 
-use crate::course::{first_met, second_met};
+use crate::course::{Track, first_met, second_met};
 use crate::forms::{BOTH_ARMS, Code, FIRST_WORD, Form, ROOM, Trace};
 use flow_rule::{Label, Val};
 
@@ -114,18 +114,18 @@ impl Wants {
 
     /// The same where the source has an address, and the destination has none.
     #[inline(always)]
-    fn back_loading(&mut self, form: &Form) {
+    fn back_loading(&mut self, form: &Form, track: &Track) {
         let arms = self.take(usize::from(form.destination), form.old);
         if arms != 0 {
-            self.add_met(form.from, arms);
+            self.add_met(track.from, arms);
         }
         self.add_base(form.source);
     }
 
     /// The same where only the destination has one.
     #[inline(always)]
-    fn back_storing(&mut self, form: &Form) {
-        let arms = self.take_met(form.to, form.old);
+    fn back_storing(&mut self, form: &Form, track: &Track) {
+        let arms = self.take_met(track.to, form.old);
         if arms != 0 {
             self.add(form.source, arms);
         }
@@ -134,10 +134,10 @@ impl Wants {
 
     /// The same where both have one.
     #[inline(always)]
-    fn back_through(&mut self, form: &Form) {
-        let arms = self.take_met(form.to, form.old);
+    fn back_through(&mut self, form: &Form, track: &Track) {
+        let arms = self.take_met(track.to, form.old);
         if arms != 0 {
-            self.add_met(form.from, arms);
+            self.add_met(track.from, arms);
         }
         self.add_base(form.source);
         self.add_base(form.destination);
@@ -145,27 +145,30 @@ impl Wants {
 
     /// Goes back over an instruction with an address for its destination.
     #[inline(always)]
-    fn back_reaching(&mut self, form: &Form) {
+    fn back_reaching(&mut self, form: &Form, track: &Track) {
         match form.code {
-            Code::Both | Code::Through | Code::ThroughRise => self.back_through(form),
-            _ => self.back_storing(form),
+            Code::Both | Code::Through | Code::ThroughRise => self.back_through(form, track),
+            _ => self.back_storing(form, track),
         }
     }
 
     /// Goes back over an instruction.
     #[inline(always)]
-    fn back(&mut self, form: &Form) {
+    fn back(&mut self, form: &Form, track: &Track) {
         match form.trace {
             Trace::Making => self.back_making(form),
-            Trace::Loading => self.back_loading(form),
-            Trace::Reaching => self.back_reaching(form),
+            Trace::Loading => self.back_loading(form, track),
+            Trace::Reaching => self.back_reaching(form, track),
         }
     }
 
-    /// Goes back over these instructions.
-    pub fn go_back(&mut self, forms: &[Form]) {
-        for form in forms.iter().rev() {
-            self.back(form);
+    /// Goes back over these instructions, which met this.
+    pub fn go_back(&mut self, forms: &[Form], tracks: &[Track]) {
+        let Some(tracks) = tracks.get(..forms.len()) else {
+            return;
+        };
+        for k in (0..forms.len()).rev() {
+            self.back(&forms[k], &tracks[k]);
         }
     }
 
@@ -198,6 +201,9 @@ impl Wants {
 }
 
 impl Needs {
+    /// Nothing is needed.
+    pub const NONE: Needs = Needs([false; 512]);
+
     /// What either needs.
     pub fn or(&self, other: &Needs) -> Needs {
         let mut needs = *self;

@@ -1,6 +1,6 @@
 //! Registers without a rule of their own, and data apart from the text: what is read and written there wants no test.
 
-ghost use Rattle.std.specs.Prelude.{◌≡◌, ◌≤◌, ◌<◌, ℕ, List, true, IfSome};
+ghost use Rattle.std.specs.Prelude.{◌≡◌, ◌≤◌, ◌<◌, ◌%◌, ℕ, List, true, IfSome};
 ghost use Rattle.sm_words.specs.declared.width.Width.{Width};
 ghost use Rattle.insn_decode.specs.declared.insn.Operand.{Operand};
 ghost use Rattle.cpu_step.specs.Plan.{writes_dst};
@@ -132,6 +132,20 @@ pub fn held(core: &Core, n: u8) -> Val
     requires { is_other n ≡ true }
     ensures { (next : ℕ) → result ≡ val (moved_on core.now next) n }
 {
+    core[usize::from(n)]
+}
+
+/// What is known of a register once PC is moved on to this address.
+#[tactic(auto, using(crate::proofs::GlidingOwn::pc_held, crate::proofs::GlidingOwn::later_held, crate::proofs::Gliding::even_kept))]
+#[inline(always)]
+pub fn given_by(core: &Core, n: u8, next: u16) -> Val
+    requires low { n < 16 }
+    requires even { next % 2 ≡ 0 }
+    ensures { result ≡ val (moved_on core.now next) n }
+{
+    if n == 0 {
+        return Val::Known(next);
+    }
     core[usize::from(n)]
 }
 

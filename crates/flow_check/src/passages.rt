@@ -5,12 +5,14 @@ ghost use Rattle.std.specs.Prelude.{◌≡◌, ◌≢◌, ◌≤◌, ◌<◌, �
 ghost use Rattle.mod_layout.specs.declared.Module.{Module};
 ghost use Rattle.flow_check.specs.Causes.{noted};
 ghost use Rattle.flow_check.specs.Frames.{AlikeBut, numbers_of};
+ghost use Rattle.flow_check.specs.Jobs.{IsWalked};
 ghost use Rattle.flow_check.specs.Pairs.{IsStub, point_of};
 ghost use Rattle.flow_check.specs.Passages.{crossing_step, blotted, blank, branch_from, answer_of, OpensTo, IsPassage};
 ghost use Rattle.flow_check.specs.declared.passages.Outcome.{Outcome};
 ghost use Rattle.flow_check.specs.Tables.{IsTable};
 
 use crate::arms::{Crossing, is_past_barred, is_taken_barred, walk_arms};
+use crate::jobs::Job;
 use crate::listed::{Told, Top, absorbs};
 use crate::needs::Needs;
 use crate::places::Places;
@@ -26,6 +28,9 @@ use std::alloc::{AllocError, Global};
 
 /// How many numbers branches have.
 const NUMBERS: usize = 256;
+
+/// The most pairs that are learned together.
+const MOST_AHEAD: usize = 8;
 
 /// What the arms of a branch come to.
 #[derive(Drop)]
@@ -66,6 +71,18 @@ pub struct Passage {
     past: Option<Box<Needs>>,
 }
 
+/// A pair whose branch is learned ahead of its turn.
+#[derive(Clone, Copy)]
+pub struct Ahead {
+    /// Where the pair is.
+    pub at: usize,
+    /// Where what is known of its arms is.
+    pub own: Option<usize>,
+    pub returns: Returns,
+    /// What the arm seems to need that the jump does not take, once that was asked.
+    pub past: Needs,
+}
+
 /// The passages that were walked.
 #[derive(Drop)]
 pub struct Passages {
@@ -73,12 +90,14 @@ pub struct Passages {
     list: Vec<Passage>,
     /// Where the newest passage of the branches with this number is.
     newest: [usize; 256],
+    /// How many open ones were learned since one served another pair than its own, up to MOST_AHEAD.
+    streak: usize,
     /// What goes before the walks.
     scout: Scout,
 }
 
 /// A label in which nothing is written.
-fn blank() -> Label
+pub fn blank() -> Label
     ensures { result ≡ blank }
 {
     Label {
@@ -303,6 +322,45 @@ fn is_open(passage: &Passage) -> bool {
     }
 }
 
+/// How many open passages were learned in a row, with this one.
+fn streak_with(streak: usize, passage: &Passage) -> usize {
+    if !is_open(passage) {
+        return 0;
+    }
+    if streak < MOST_AHEAD {
+        streak + 1
+    } else {
+        MOST_AHEAD
+    }
+}
+
+/// The passage that a walk ahead tells, where that has no cause.
+fn told_by(
+    alloc: Global,
+    crossing: &Crossing,
+    pc: u16,
+    job: &Job,
+    past: &Needs,
+) -> Result<Option<Passage>, AllocError>
+    ensures { IfOk result (λ found. IfSome found (λ p. (m : Module) (text : List ℕ) →
+        IsWalked m text crossing.now pc job.now → IsPassage m text p)) }
+{
+    if job.tally.least.is_some() {
+        return Ok(None);
+    }
+    let top = Top::of(alloc, &job.label)?;
+    let answer = answer_of(alloc, job.tally.least, &job.tally.label)?;
+    let past = Box::new(alloc, *past)?;
+    Ok(Some(Passage {
+        branch: pc,
+        crossing: *crossing,
+        label: top,
+        returns: job.returns,
+        answer,
+        past: Some(past),
+    }))
+}
+
 /// Walks the arms of a branch under a label that absorbs this one and has as little in it as they seem to need, and
 /// under this label where that has a cause.
 fn learned(
@@ -378,6 +436,7 @@ impl Passages {
             alloc,
             list: Vec::new(alloc),
             newest: [0; 256],
+            streak: 0,
             scout: Scout::new(alloc),
         }
     }
@@ -508,6 +567,7 @@ impl Passages {
     {
         let place = self.place_for(own);
         let branch = passage.branch;
+        self.streak = streak_with(self.streak, &passage);
         put(&mut self.list, place, passage)?;
         self.newest[number(branch)] = place;
         Ok(place)
@@ -570,6 +630,115 @@ impl Passages {
             self.alloc, module, text, table, entries, crossing, pc, label, returns, written,
         )?;
         Ok(outcome)
+    }
+
+    /// What keeps the pairs that are learned together.
+    pub fn alloc(&self) -> Global {
+        self.alloc
+    }
+
+    /// How many pairs may be learned together: the more, the longer no passage served another pair than its own.
+    pub fn ahead(&self) -> usize {
+        if self.streak < MOST_AHEAD {
+            self.streak + 1
+        } else {
+            MOST_AHEAD
+        }
+    }
+
+    /// Whether the passage there says something of a branch under a label.
+    fn says(&self, place: usize, crossing: &Crossing, pc: u16, label: &Label) -> bool {
+        let Some(passage) = self.at(place, crossing, pc) else {
+            return false;
+        };
+        match &passage.answer {
+            Answer::Open(_) => passage.label.absorbs(label),
+            Answer::Shut(_) | Answer::Barred => passage.label.is_absorbed(label),
+        }
+    }
+
+    /// Whether nothing is known of a branch under a label. Where its newest passage serves, that may serve more.
+    pub fn asks(&mut self, own: Option<usize>, crossing: &Crossing, pc: u16, label: &Label) -> bool
+        ensures { self.new.list ≡ self.old.list }
+    {
+        if let Some(place) = own
+            && self.says(place, crossing, pc, label)
+        {
+            return false;
+        }
+        if self.says(self.newest_of(pc), crossing, pc, label) {
+            self.streak = 0;
+            return false;
+        }
+        true
+    }
+
+    /// Notes the walk of the label that was scouted as this one, where the arms seem to have no cause.
+    fn want(
+        &mut self,
+        k: usize,
+        label: &Label,
+        wanted: &Ahead,
+        jobs: &mut Vec<Job>,
+        ahead: &mut Vec<Ahead>,
+    ) -> Result<(), AllocError>
+        ensures { self.new.list ≡ self.old.list }
+    {
+        match self.scout.needs_of(k) {
+            Some((past, taken)) => {
+                jobs.push(Job::new(&past.or(&taken).least(label), &wanted.returns))?;
+                ahead.push(Ahead { past, ..*wanted })?;
+            }
+            None => self.streak = 0,
+        }
+        Ok(())
+    }
+
+    /// Notes the walks to be made for these labels of pairs that want them.
+    pub fn want_all(
+        &mut self,
+        module: &Module,
+        text: &[u8],
+        table: &[Entry],
+        entries: Option<u16>,
+        crossing: &Crossing,
+        pc: u16,
+        labels: &[Label],
+        wanted: &[Ahead],
+        jobs: &mut Vec<Job>,
+        ahead: &mut Vec<Ahead>,
+    ) -> Result<(), AllocError>
+        ensures { self.new.list ≡ self.old.list }
+    {
+        self.scout
+            .scout(module, text, table, entries, crossing, pc, labels);
+        for k in 0..labels.len() {
+            if let Some(one) = wanted.get(k) {
+                self.want(k, &labels[k], one, jobs, ahead)?;
+            }
+        }
+        Ok(())
+    }
+
+    /// Keeps what a walk ahead told, and tells where.
+    pub fn keep_told(
+        &mut self,
+        crossing: &Crossing,
+        pc: u16,
+        job: &Job,
+        ahead: &mut Ahead,
+    ) -> Result<(), AllocError>
+        ensures { IfOk result (λ _. (m : Module) (text : List ℕ) → IsWalked m text crossing.now pc job.now →
+            All (IsPassage m text) self.old.list.items → All (IsPassage m text) self.new.list.items) }
+    {
+        match told_by(self.alloc, crossing, pc, job, &ahead.past)? {
+            Some(passage) => {
+                let place = self.keep(ahead.own, passage)?;
+                ahead.own = Some(place);
+            }
+            None => self.streak = 0,
+        }
+        Ok(())
     }
 
     /// Whether it is known that a branch has no cause under its label.

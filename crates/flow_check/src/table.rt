@@ -29,7 +29,7 @@ const FIRST_OTHER: u8 = 1;
 /// How many registers there are.
 const REGISTERS: u8 = 16;
 
-/// An operation into a register but PC, from a source that PC is no part of, that goes on at an address.
+/// An operation into a register but PC that goes on at an address.
 #[derive(Clone, Copy)]
 pub struct Own {
     pub op: TwoOp,
@@ -110,12 +110,12 @@ fn is_other(reg: u8) -> bool
     0 < reg && reg < REGISTERS
 }
 
-/// Whether PC is no part of a source, whose increment leaves the flags as they are.
+/// Whether PC is no part of a source but where it is the register itself, and the increment leaves the flags as they are.
 fn is_apart(src: Operand) -> bool
     ensures { result ≡ is_apart src }
 {
     match src {
-        Operand::Reg(reg) => is_other(reg),
+        Operand::Reg(reg) => reg < REGISTERS,
         Operand::Indexed { reg, .. } => is_other(reg),
         Operand::Indirect(reg) => is_other(reg),
         Operand::Increment(reg) => is_other(reg) && reg != SR,

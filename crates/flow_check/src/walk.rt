@@ -152,7 +152,7 @@ fn walk_by_step(
 
 /// Does the arm's instruction at this place, and tells whether the arm goes on.
 #[inline(always)]
-fn walk_on(
+pub fn walk_on(
     module: &Module,
     text: &[u8],
     table: &[Entry],
@@ -205,6 +205,41 @@ fn walk_on(
     }
 }
 
+/// Walks from a place to the join, for at most so many steps.
+pub fn walk_from(
+    module: &Module,
+    text: &[u8],
+    table: &[Entry],
+    entries: Option<u16>,
+    join: u16,
+    place: &mut Place,
+    most: u32,
+    tally: &mut Tally,
+)
+    requires few { IfSome entries (λ n. n ≤ 64) }
+    requires table { IsTable module.now text.now table.now }
+    requires short { tally.old.cycles + 255 * most ≤ 255 * 65536 }
+    ensures { IsStub module.now text.now entries → (branch : ℕ) →
+        tally.new ≡ told (walk (flow_step module.now text.now) module.now text.now branch join most
+        (point_at place.old)) tally.old }
+{
+    let mut left = most;
+    while left > 0 {
+        left = glide(module, text, table, entries, join, place, tally, left, 0);
+        if left == 0 {
+            break;
+        }
+        if place.pc == join {
+            return;
+        }
+        if !walk_on(module, text, table, entries, join, place, tally) {
+            return;
+        }
+        left -= 1;
+    }
+    note(&mut tally.least, Reason::Arm, place.pc);
+}
+
 /// Walks from a place to the join. Each instruction of an arm goes up, so there are no more than addresses up to the
 /// join.
 pub fn walk(
@@ -224,19 +259,6 @@ pub fn walk(
         (point_at from.now)) tally.old }
 {
     let mut place = *from;
-    let mut left = u32::from(join) + 1;
-    while left > 0 {
-        left = glide(module, text, table, entries, join, &mut place, tally, left);
-        if left == 0 {
-            break;
-        }
-        if place.pc == join {
-            return;
-        }
-        if !walk_on(module, text, table, entries, join, &mut place, tally) {
-            return;
-        }
-        left -= 1;
-    }
-    note(&mut tally.least, Reason::Arm, place.pc);
+    let most = u32::from(join) + 1;
+    walk_from(module, text, table, entries, join, &mut place, most, tally);
 }

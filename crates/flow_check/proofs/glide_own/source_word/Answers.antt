@@ -6,13 +6,13 @@ use Rattle.flow_check.proofs.GlidingOwn.{source_given, source_there}
 use Rattle.flow_check.proofs.glide_own.source_word.Goals as goal
 
 pub returns-in-Value : goal.returns-in-Value
-returns-in-Value c = λ next.
-    let l : Label = record { core = moved_on c.args.label.now.core next; words = c.args.label.now.words } in
+returns-in-Value c =
+    let l : Label = record { core = moved_on c.args.label.now.core c.args.next; words = c.args.label.now.words } in
     source_given c.args.module.now c.args.text.now Word c.args.src c.args.pc c.extension.result l c.in-Value.value c.extension.ensures
-    (c.got_word.ensures.value c.in-Value.value c.in-Value.is next) (c.got_word.ensures.still next)
+    (c.got_word.ensures.value c.in-Value.value c.in-Value.is) c.got_word.ensures.still
 
 pub returns-in-Place : goal.returns-in-Place
-returns-in-Place c = IfSome_then c.word_at.result c.word_at.ensures (λ v there next.
-    let l : Label = record { core = moved_on c.args.label.now.core next; words = c.args.label.now.words } in
+returns-in-Place c = IfSome_then c.word_at.result c.word_at.ensures (λ v there.
+    let l : Label = record { core = moved_on c.args.label.now.core c.args.next; words = c.args.label.now.words } in
     source_there c.args.module.now c.args.text.now Word c.args.src c.args.pc c.extension.result l c.in-Place.addr v c.extension.ensures
-    (c.got_word.ensures.place c.in-Place.addr c.in-Place.is next) (c.got_word.ensures.still next) there)
+    (c.got_word.ensures.place c.in-Place.addr c.in-Place.is) c.got_word.ensures.still there)

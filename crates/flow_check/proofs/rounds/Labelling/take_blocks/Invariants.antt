@@ -2,7 +2,7 @@ use Rattle.std.proofs.Common.{◌≡◌, ◌++◌, ◌*◌, ◌<◌, ℕ, length
 use Rattle.flow_check.specs.Pairs.{fronts_of}
 use Rattle.flow_check.specs.Links.{Fits}
 use Rattle.flow_check.specs.Marks.{mark_at, flagged_from}
-use Rattle.flow_check.proofs.rounds.Labelling.take_group.Given as goal
+use Rattle.flow_check.proofs.rounds.Labelling.take_blocks.Given as goal
 
 abbrev pub invariant-loop-b : goal.invariant-loop-b
 invariant-loop-b l =

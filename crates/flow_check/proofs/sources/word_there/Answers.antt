@@ -1,7 +1,7 @@
 use Rattle.std.proofs.Common.{sym, subst}
 use Rattle.flow_rule.specs.declared.Val.{Val}
 use Rattle.flow_check.specs.Gliding.{IsWordThere}
-use Rattle.flow_check.proofs.glide_two.word_there.Goals as goal
+use Rattle.flow_check.proofs.sources.word_there.Goals as goal
 
 pub returns-in-Some : goal.returns-in-Some
 returns-in-Some c =

@@ -1,0 +1,253 @@
+//! What the next pairs of a round want to know of a branch's arms is learned together, where one passage serves few.
+
+ghost use Rattle.std.specs.Prelude.{◌≡◌, ◌≤◌, ℕ, List, All, IfSome, IfOk};
+ghost use Rattle.mod_layout.specs.declared.Module.{Module};
+ghost use Rattle.arm_balance.specs.Certificates.{BranchesRise};
+ghost use Rattle.flow_check.specs.Jobs.{IsWalked};
+ghost use Rattle.flow_check.specs.Links.{Onward};
+ghost use Rattle.flow_check.specs.Pairs.{IsStub};
+ghost use Rattle.flow_check.specs.Passages.{IsPassage};
+ghost use Rattle.flow_check.specs.Tables.{IsTable};
+
+use crate::arms::{Crossing, crossing_of};
+use crate::jobs::{Job, walk_arms_all};
+use crate::needs::Needs;
+use crate::passages::{Ahead, Passages};
+use crate::registers::get;
+use crate::rounds::{Changed, Labelling};
+use crate::table::{Entry, met_of};
+use crate::value::is_secret;
+use arm_balance::Arm;
+use flow_rule::Label;
+use mod_layout::Module;
+use std::alloc::AllocError;
+
+/// How far ahead the pairs are looked for.
+const REACH: usize = 64;
+
+/// The number of SR.
+const SR: u8 = 2;
+
+/// Notes a pair, if it wants to know more of this branch.
+fn gather_one(
+    crossing: &Crossing,
+    pc: u16,
+    passages: &mut Passages,
+    all: &Labelling,
+    changed: &Changed,
+    labels: &mut Vec<Label>,
+    wanted: &mut Vec<Ahead>,
+) -> Result<(), AllocError>
+    ensures { passages.new.list ≡ passages.old.list }
+{
+    let label = &changed.label;
+    if changed.pair.addr != pc || !is_secret(get(&label.core, SR)) {
+        return Ok(());
+    }
+    let own = all.passage(changed.at);
+    if !passages.asks(own, crossing, pc, label) {
+        return Ok(());
+    }
+    labels.push(*label)?;
+    wanted.push(Ahead {
+        at: changed.at,
+        own,
+        returns: changed.pair.returns,
+        past: Needs::NONE,
+    })?;
+    Ok(())
+}
+
+/// Notes the pairs among these that want to know more of this branch, up to so many.
+fn gather(
+    crossing: &Crossing,
+    pc: u16,
+    passages: &mut Passages,
+    all: &Labelling,
+    front: &[Changed],
+    most: usize,
+    labels: &mut Vec<Label>,
+    wanted: &mut Vec<Ahead>,
+) -> Result<(), AllocError>
+    ensures { passages.new.list ≡ passages.old.list }
+{
+    for changed in front {
+        if labels.len() >= most {
+            return Ok(());
+        }
+        gather_one(crossing, pc, passages, all, changed, labels, wanted)?;
+    }
+    Ok(())
+}
+
+/// Keeps what a walk told, and tells the k-th pair where.
+fn keep_at(
+    passages: &mut Passages,
+    crossing: &Crossing,
+    pc: u16,
+    job: &Job,
+    ahead: &mut Vec<Ahead>,
+    k: usize,
+) -> Result<(), AllocError>
+    ensures { IfOk result (λ _. (m : Module) (text : List ℕ) → IsWalked m text crossing.now pc job.now →
+        All (IsPassage m text) passages.old.list.items → All (IsPassage m text) passages.new.list.items) }
+{
+    match ahead.get_mut(k) {
+        Some(one) => passages.keep_told(crossing, pc, job, one),
+        None => Ok(()),
+    }
+}
+
+/// Keeps what the walks told, and tells each pair where.
+fn keep_all(
+    passages: &mut Passages,
+    crossing: &Crossing,
+    pc: u16,
+    jobs: &[Job],
+    ahead: &mut Vec<Ahead>,
+) -> Result<(), AllocError>
+    ensures { IfOk result (λ _. (m : Module) (text : List ℕ) →
+        All (IsWalked m text crossing.now pc) jobs.now → All (IsPassage m text) passages.old.list.items →
+        All (IsPassage m text) passages.new.list.items) }
+{
+    for k in 0..jobs.len() {
+        keep_at(passages, crossing, pc, &jobs[k], ahead, k)?;
+    }
+    Ok(())
+}
+
+/// Says where what is known of these pairs' arms is.
+fn point_all(all: &mut Labelling, ahead: &[Ahead])
+    ensures pairs { all.new.pairs ≡ all.old.pairs }
+    ensures labels { all.new.labels ≡ all.old.labels }
+    ensures marks { all.new.marks ≡ all.old.marks }
+    ensures onward { Onward all.old all.new }
+{
+    for one in ahead {
+        all.set_passage(one.at, one.own);
+    }
+}
+
+/// The next pairs, from the k-th on.
+fn next_of(front: &[Changed], k: usize) -> &[Changed] {
+    let rest = match front.get(k..) {
+        Some(rest) => rest,
+        None => front,
+    };
+    match rest.get(..REACH) {
+        Some(next) => next,
+        None => rest,
+    }
+}
+
+/// Learns what the k-th pair and the next ones want to know of a branch's arms, up to so many.
+#[tactic(auto, using(crate::proofs::Foretold::onward_own))]
+fn learn_next(
+    module: &Module,
+    text: &[u8],
+    table: &[Entry],
+    entries: Option<u16>,
+    crossing: &Crossing,
+    pc: u16,
+    passages: &mut Passages,
+    all: &mut Labelling,
+    front: &[Changed],
+    most: usize,
+) -> Result<(), AllocError>
+    requires few { IfSome entries (λ n. n ≤ 64) }
+    requires table { IsTable module.now text.now table.now }
+    requires passages { IsStub module.now text.now entries →
+        All (IsPassage module.now text.now) passages.old.list.items }
+    ensures pairs { all.new.pairs ≡ all.old.pairs }
+    ensures labels { all.new.labels ≡ all.old.labels }
+    ensures marks { all.new.marks ≡ all.old.marks }
+    ensures onward { Onward all.old all.new }
+    ensures passages { IfOk result (λ _. IsStub module.now text.now entries →
+        All (IsPassage module.now text.now) passages.new.list.items) }
+{
+    let mut labels = Vec::with_capacity(passages.alloc(), most)?;
+    let mut wanted = Vec::with_capacity(passages.alloc(), most)?;
+    gather(
+        crossing,
+        pc,
+        passages,
+        all,
+        front,
+        most,
+        &mut labels,
+        &mut wanted,
+    )?;
+    let mut jobs = Vec::with_capacity(passages.alloc(), most)?;
+    let mut ahead = Vec::with_capacity(passages.alloc(), most)?;
+    passages.want_all(
+        module,
+        text,
+        table,
+        entries,
+        crossing,
+        pc,
+        labels.as_slice(),
+        wanted.as_slice(),
+        &mut jobs,
+        &mut ahead,
+    )?;
+    let walks = jobs.as_mut_slice();
+    walk_arms_all(module, text, table, entries, crossing, pc, walks);
+    keep_all(passages, crossing, pc, walks, &mut ahead)?;
+    point_all(all, ahead.as_slice());
+    Ok(())
+}
+
+/// Learns together what the k-th pair of a round and the next ones want to know of a branch's arms, where that pays.
+#[tactic(auto, using(crate::proofs::Foretold::onward_own))]
+pub fn foresee(
+    module: &Module,
+    text: &[u8],
+    table: &[Entry],
+    entries: Option<u16>,
+    arms: &[Arm],
+    passages: &mut Passages,
+    all: &mut Labelling,
+    front: &[Changed],
+    k: usize,
+) -> Result<(), AllocError>
+    requires few { IfSome entries (λ n. n ≤ 64) }
+    requires table { IsTable module.now text.now table.now }
+    requires rise { BranchesRise arms.now }
+    requires passages { IsStub module.now text.now entries →
+        All (IsPassage module.now text.now) passages.old.list.items }
+    ensures pairs { all.new.pairs ≡ all.old.pairs }
+    ensures labels { all.new.labels ≡ all.old.labels }
+    ensures marks { all.new.marks ≡ all.old.marks }
+    ensures onward { Onward all.old all.new }
+    ensures passages { IfOk result (λ _. IsStub module.now text.now entries →
+        All (IsPassage module.now text.now) passages.new.list.items) }
+{
+    let most = passages.ahead();
+    if most < 2 {
+        return Ok(());
+    }
+    let Some(changed) = front.get(k) else {
+        return Ok(());
+    };
+    let pc = changed.pair.addr;
+    let insn = met_of(module, text, table, pc);
+    let Some(crossing) = crossing_of(module, text, &insn, arms, pc, &changed.label) else {
+        return Ok(());
+    };
+    if !passages.asks(all.passage(changed.at), &crossing, pc, &changed.label) {
+        return Ok(());
+    }
+    learn_next(
+        module,
+        text,
+        table,
+        entries,
+        &crossing,
+        pc,
+        passages,
+        all,
+        next_of(front, k),
+        most,
+    )
+}
