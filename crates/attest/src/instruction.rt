@@ -231,7 +231,8 @@ fn id_of(core: &mut Core, table: &ModuleTable, who: Who) -> UnitDone
 
 /// R15 is the active module's id, else 0.
 fn own_id(core: &mut Core, table: &ModuleTable, who: Who) -> UnitDone
-    ensures { (key mem : List ℕ) → IsDone (doer table.now who key) OwnId core.old mem core.new mem table.now result }
+    ensures { (key mem : List ℕ) →
+        IsDone (doer table.now who key) OwnId core.old mem core.new mem table.now result }
 {
     let own = table.own(who.active);
     answer(core, id_or_zero(own), SHORT_CYCLES)
@@ -239,7 +240,8 @@ fn own_id(core: &mut Core, table: &ModuleTable, who: Who) -> UnitDone
 
 /// R15 is the id of the active module's caller; outside 0.
 fn caller_id(core: &mut Core, table: &ModuleTable, who: Who) -> UnitDone
-    ensures { (key mem : List ℕ) → IsDone (doer table.now who key) CallerId core.old mem core.new mem table.now result }
+    ensures { (key mem : List ℕ) →
+        IsDone (doer table.now who key) CallerId core.old mem core.new mem table.now result }
 {
     let own = table.own(who.active);
     answer(core, caller_or_zero(own, who.caller), SHORT_CYCLES)

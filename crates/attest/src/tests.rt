@@ -11,15 +11,18 @@ use std::test::Fail;
 const NODE_KEY: [u8; 16] = [0, 1, 2, 3, 4, 5, 6, 7, 8, 9, 10, 11, 12, 13, 14, 15];
 
 /// The tag of the bytes cd ab under module 1's key. That key is the first 16 bytes of
-///     printf '\203\023\000\107\000\003\004\003\000\004\022\004' | openssl dgst -sha256 -mac HMAC -macopt hexkey:226b13d20262706f6143d81ffe421caa
+///     printf '\203\023\000\107\000\003\004\003\000\004\022\004' |
+///         openssl dgst -sha256 -mac HMAC -macopt hexkey:226b13d20262706f6143d81ffe421caa
 /// (the provider's key of vendor 7), and the tag those of
-///     printf '\315\253' | openssl dgst -sha256 -mac HMAC -macopt hexkey:ca7a6a7c1cbf8a34c1efeed78576b2fb
+///     printf '\315\253' |
+///         openssl dgst -sha256 -mac HMAC -macopt hexkey:ca7a6a7c1cbf8a34c1efeed78576b2fb
 const TAG: [u8; 16] = [
     0xbd, 0xc5, 0xb7, 0xda, 0x9a, 0xeb, 0x15, 0x62, 0xe4, 0x4b, 0x63, 0xfd, 0x71, 0xb6, 0x73, 0x99,
 ];
 
 /// The tag of module 2's identity under module 1's key:
-///     printf '\003\103\000\107\000\007\004\007\200\007\202\007' | openssl dgst -sha256 -mac HMAC -macopt hexkey:ca7a6a7c1cbf8a34c1efeed78576b2fb
+///     printf '\003\103\000\107\000\007\004\007\200\007\202\007' |
+///         openssl dgst -sha256 -mac HMAC -macopt hexkey:ca7a6a7c1cbf8a34c1efeed78576b2fb
 const IDENTITY_TAG: [u8; 16] = [
     0xd2, 0xf2, 0x73, 0xa0, 0x49, 0x5a, 0xa2, 0x3c, 0xf6, 0x83, 0x46, 0x5b, 0xf1, 0x1d, 0x5e, 0x83,
 ];
