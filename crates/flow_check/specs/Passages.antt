@@ -1,5 +1,5 @@
 -- One walk along the arms of a branch serves many labels.
-use Rattle.std.specs.Prelude.{◌≡◌, ◌≢◌, ℕ, List, [], ◌++◌, replicate, Option, Some, None}
+use Rattle.std.specs.Prelude.{◌≡◌, ℕ, List, [], ◌++◌, replicate, Option, Some, None}
 use Rattle.mod_layout.specs.declared.Module.{Module}
 use Rattle.flow_rule.specs.declared.Label.{Label}
 use Rattle.flow_rule.specs.declared.Val.TheVariants.{Public}
@@ -8,7 +8,7 @@ use Rattle.flow_rule.specs.Arms.{blot, blot_core, first_walk, second_walk, step_
 use Rattle.flow_rule.specs.Verdict.{flow_step}
 use Rattle.flow_check.specs.declared.arms.Crossing.{Crossing}
 use Rattle.flow_check.specs.declared.passages.Answer.{Answer}
-use Rattle.flow_check.specs.declared.passages.Answer.TheVariants.{Open, Shut, Barred}
+use Rattle.flow_check.specs.declared.passages.Answer.TheVariants.{Open, Shut}
 use Rattle.flow_check.specs.declared.passages.Passage.{Passage}
 use Rattle.flow_check.specs.declared.step.Cause.{Cause}
 use Rattle.flow_check.specs.Causes.{noted}
@@ -46,7 +46,6 @@ answer_of None told = Open told
 abbrev pub ComesTo : Module → List ℕ → Crossing → Point → Answer → Type 0
 ComesTo m text c x (Open told) = ((crossing_step m text c x).reasons ≡ []) × (told ≡ blotted m text c x blank)
 ComesTo m text c x (Shut cause) = noted (crossing_step m text c x).reasons None ≡ Some cause
-ComesTo m text c x Barred = (crossing_step m text c x).reasons ≢ []
 
 -- what is kept of a branch's arms is so under its own label, with its own return addresses
 abbrev pub IsPassage : Module → List ℕ → Passage → Type 0

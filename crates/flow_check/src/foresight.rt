@@ -1,4 +1,5 @@
-//! What the next pairs of a round want to know of a branch's arms is learned together, where one passage serves few.
+//! What pairs want to know of a branch's arms is learned together: in a round that of the next ones, where one passage
+//! serves few.
 
 ghost use Rattle.std.specs.Prelude.{◌≡◌, ◌≤◌, ℕ, List, All, IfSome, IfOk};
 ghost use Rattle.mod_layout.specs.declared.Module.{Module};
@@ -11,8 +12,7 @@ ghost use Rattle.flow_check.specs.Tables.{IsTable};
 
 use crate::arms::{Crossing, crossing_of};
 use crate::jobs::{Job, walk_arms_all};
-use crate::needs::Needs;
-use crate::passages::{Ahead, Passages};
+use crate::passages::{Ahead, Passages, Under, is_in_vain};
 use crate::registers::get;
 use crate::rounds::{Changed, Labelling};
 use crate::table::{Entry, met_of};
@@ -53,7 +53,7 @@ fn gather_one(
         at: changed.at,
         own,
         returns: changed.pair.returns,
-        past: Needs::NONE,
+        under: Under::Own,
     })?;
     Ok(())
 }
@@ -128,6 +128,112 @@ fn point_all(all: &mut Labelling, ahead: &[Ahead])
     }
 }
 
+/// Makes these walks along a branch's arms, and keeps what they tell of these pairs.
+#[tactic(auto, using(crate::proofs::Foretold::onward_own))]
+pub fn learn_jobs(
+    module: &Module,
+    text: &[u8],
+    table: &[Entry],
+    entries: Option<u16>,
+    crossing: &Crossing,
+    pc: u16,
+    passages: &mut Passages,
+    all: &mut Labelling,
+    jobs: &mut [Job],
+    ahead: &mut Vec<Ahead>,
+) -> Result<(), AllocError>
+    requires few { IfSome entries (λ n. n ≤ 64) }
+    requires table { IsTable module.now text.now table.now }
+    requires passages { IsStub module.now text.now entries →
+        All (IsPassage module.now text.now) passages.old.list.items }
+    ensures pairs { all.new.pairs ≡ all.old.pairs }
+    ensures labels { all.new.labels ≡ all.old.labels }
+    ensures marks { all.new.marks ≡ all.old.marks }
+    ensures onward { Onward all.old all.new }
+    ensures passages { IfOk result (λ _. IsStub module.now text.now entries →
+        All (IsPassage module.now text.now) passages.new.list.items) }
+{
+    walk_arms_all(module, text, table, entries, crossing, pc, jobs);
+    keep_all(passages, crossing, pc, jobs, ahead)?;
+    point_all(all, ahead.as_slice());
+    Ok(())
+}
+
+/// Notes the walk of the k-th label itself, if one under a label that says less was in vain.
+fn want_again(
+    jobs: &[Job],
+    labels: &[Label],
+    ahead: &[Ahead],
+    k: usize,
+    again: &mut Vec<Job>,
+    left: &mut Vec<Ahead>,
+) -> Result<(), AllocError> {
+    if let Some(job) = jobs.get(k)
+        && let Some(label) = labels.get(k)
+        && let Some(one) = ahead.get(k)
+        && is_in_vain(job, one.under)
+    {
+        again.push(Job::new(label, &one.returns))?;
+        left.push(Ahead {
+            under: Under::Own,
+            ..*one
+        })?;
+    }
+    Ok(())
+}
+
+/// The same of all labels.
+fn want_all_again(
+    jobs: &[Job],
+    labels: &[Label],
+    ahead: &[Ahead],
+    again: &mut Vec<Job>,
+    left: &mut Vec<Ahead>,
+) -> Result<(), AllocError> {
+    for k in 0..jobs.len() {
+        want_again(jobs, labels, ahead, k, again, left)?;
+    }
+    Ok(())
+}
+
+/// Walks the labels themselves where walks under labels that say less were in vain.
+#[tactic(auto, using(crate::proofs::Foretold::onward_own))]
+fn learn_again(
+    module: &Module,
+    text: &[u8],
+    table: &[Entry],
+    entries: Option<u16>,
+    crossing: &Crossing,
+    pc: u16,
+    passages: &mut Passages,
+    all: &mut Labelling,
+    jobs: &[Job],
+    labels: &[Label],
+    ahead: &[Ahead],
+) -> Result<(), AllocError>
+    requires few { IfSome entries (λ n. n ≤ 64) }
+    requires table { IsTable module.now text.now table.now }
+    requires passages { IsStub module.now text.now entries →
+        All (IsPassage module.now text.now) passages.old.list.items }
+    ensures pairs { all.new.pairs ≡ all.old.pairs }
+    ensures labels { all.new.labels ≡ all.old.labels }
+    ensures marks { all.new.marks ≡ all.old.marks }
+    ensures onward { Onward all.old all.new }
+    ensures passages { IfOk result (λ _. IsStub module.now text.now entries →
+        All (IsPassage module.now text.now) passages.new.list.items) }
+{
+    let mut again = Vec::new(passages.alloc());
+    let mut left = Vec::new(passages.alloc());
+    want_all_again(jobs, labels, ahead, &mut again, &mut left)?;
+    if again.is_empty() {
+        return Ok(());
+    }
+    let walks = again.as_mut_slice();
+    learn_jobs(
+        module, text, table, entries, crossing, pc, passages, all, walks, &mut left,
+    )
+}
+
 /// The next pairs, from the k-th on.
 fn next_of(front: &[Changed], k: usize) -> &[Changed] {
     let rest = match front.get(k..) {
@@ -192,10 +298,22 @@ fn learn_next(
         &mut ahead,
     )?;
     let walks = jobs.as_mut_slice();
-    walk_arms_all(module, text, table, entries, crossing, pc, walks);
-    keep_all(passages, crossing, pc, walks, &mut ahead)?;
-    point_all(all, ahead.as_slice());
-    Ok(())
+    learn_jobs(
+        module, text, table, entries, crossing, pc, passages, all, walks, &mut ahead,
+    )?;
+    learn_again(
+        module,
+        text,
+        table,
+        entries,
+        crossing,
+        pc,
+        passages,
+        all,
+        jobs.as_slice(),
+        labels.as_slice(),
+        ahead.as_slice(),
+    )
 }
 
 /// Learns together what the k-th pair of a round and the next ones want to know of a branch's arms, where that pays.

@@ -201,9 +201,6 @@ impl Wants {
 }
 
 impl Needs {
-    /// Nothing is needed.
-    pub const NONE: Needs = Needs([false; 512]);
-
     /// What either needs.
     pub fn or(&self, other: &Needs) -> Needs {
         let mut needs = *self;
@@ -211,21 +208,6 @@ impl Needs {
             needs.0[number] |= other.0[number];
         }
         needs
-    }
-
-    /// Whether the second label has each value of the first that is needed.
-    pub fn are_kept(&self, old: &Label, new: &Label) -> bool {
-        for n in 0..REGISTERS {
-            if self.0[n] && old.core[n] != new.core[n] {
-                return false;
-            }
-        }
-        for n in 0..WORDS {
-            if self.0[usize::from(FIRST_WORD) + n] && old.words[n] != new.words[n] {
-                return false;
-            }
-        }
-        true
     }
 
     /// A label that absorbs this one and has as little in it as is needed.

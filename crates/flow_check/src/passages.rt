@@ -11,10 +11,9 @@ ghost use Rattle.flow_check.specs.Passages.{crossing_step, blotted, blank, branc
 ghost use Rattle.flow_check.specs.declared.passages.Outcome.{Outcome};
 ghost use Rattle.flow_check.specs.Tables.{IsTable};
 
-use crate::arms::{Crossing, is_past_barred, is_taken_barred, walk_arms};
+use crate::arms::{Crossing, walk_arms};
 use crate::jobs::Job;
 use crate::listed::{Told, Top, absorbs};
-use crate::needs::Needs;
 use crate::places::Places;
 use crate::returns::Returns;
 use crate::scout::Scout;
@@ -30,7 +29,7 @@ use std::alloc::{AllocError, Global};
 const NUMBERS: usize = 256;
 
 /// The most pairs that are learned together.
-const MOST_AHEAD: usize = 8;
+pub const MOST_AHEAD: usize = 8;
 
 /// What the arms of a branch come to.
 #[derive(Drop)]
@@ -39,17 +38,6 @@ pub enum Answer {
     Open(Told),
     /// This cause is the least under the passage's label, and there is one under each label that absorbs it.
     Shut(Cause),
-    /// There is a cause under the passage's label and each that absorbs it. Which is the least was not asked.
-    Barred,
-}
-
-/// An arm of a branch that seems to have a cause.
-#[derive(Clone, Copy)]
-enum Suspect {
-    /// The one that the jump does not take.
-    Past,
-    /// The one that it takes.
-    Taken,
 }
 
 /// Whether a branch has no cause in its arms.
@@ -67,11 +55,20 @@ pub struct Passage {
     pub label: Top,
     pub returns: Returns,
     pub answer: Answer,
-    /// What the arm seemed to need that the jump does not take, where that was asked.
-    past: Option<Box<Needs>>,
 }
 
-/// A pair whose branch is learned ahead of its turn.
+/// Under which label a branch is walked for a pair that is learned with others.
+#[derive(Clone, Copy, Debug, PartialEq, Eq)]
+pub enum Under {
+    /// One with as little in it as the arms seem to need: a cause there says nothing of the pair.
+    Needs,
+    /// The pair's own.
+    Own,
+    /// The pair's own at the end, when no pair is to come: the newest passage stays as it is.
+    Last,
+}
+
+/// A pair whose branch is learned with those of others.
 #[derive(Clone, Copy)]
 pub struct Ahead {
     /// Where the pair is.
@@ -79,8 +76,7 @@ pub struct Ahead {
     /// Where what is known of its arms is.
     pub own: Option<usize>,
     pub returns: Returns,
-    /// What the arm seems to need that the jump does not take, once that was asked.
-    pub past: Needs,
+    pub under: Under,
 }
 
 /// The passages that were walked.
@@ -90,8 +86,10 @@ pub struct Passages {
     list: Vec<Passage>,
     /// Where the newest passage of the branches with this number is.
     newest: [usize; 256],
-    /// How many open ones were learned since one served another pair than its own, up to MOST_AHEAD.
+    /// How many were learned since one served another pair than its own, up to MOST_AHEAD.
     streak: usize,
+    /// How many of the last ones in a row are shut, up to MOST_AHEAD.
+    shut: usize,
     /// What goes before the walks.
     scout: Scout,
 }
@@ -149,70 +147,7 @@ fn walked(
         label: top,
         returns: *returns,
         answer,
-        past: None,
     })
-}
-
-/// Whether this arm of a branch has a cause by itself.
-fn is_barred(
-    module: &Module,
-    text: &[u8],
-    table: &[Entry],
-    entries: Option<u16>,
-    crossing: &Crossing,
-    suspect: Suspect,
-    pc: u16,
-    label: &Label,
-    returns: &Returns,
-) -> bool
-    requires few { IfSome entries (λ n. n ≤ 64) }
-    requires table { IsTable module.now text.now table.now }
-    ensures { result ≡ true → IsStub module.now text.now entries → (crossing_step module.now text.now crossing.now
-        (point_of pc returns.now label.now)).reasons ≢ [] }
-{
-    match suspect {
-        Suspect::Past => {
-            is_past_barred(module, text, table, entries, crossing, pc, label, returns)
-        }
-        Suspect::Taken => {
-            is_taken_barred(module, text, table, entries, crossing, pc, label, returns)
-        }
-    }
-}
-
-/// What a walk of one arm tells, where that has a cause.
-fn barred(
-    alloc: Global,
-    module: &Module,
-    text: &[u8],
-    table: &[Entry],
-    entries: Option<u16>,
-    crossing: &Crossing,
-    suspect: Suspect,
-    pc: u16,
-    label: &Label,
-    returns: &Returns,
-) -> Result<Option<Passage>, AllocError>
-    requires few { IfSome entries (λ n. n ≤ 64) }
-    requires table { IsTable module.now text.now table.now }
-    ensures { IfOk result (λ found. IfSome found (λ p. IsStub module.now text.now entries →
-        IsPassage module.now text.now p)) }
-{
-    let found = is_barred(
-        module, text, table, entries, crossing, suspect, pc, label, returns,
-    );
-    if !found {
-        return Ok(None);
-    }
-    let top = Top::of(alloc, label)?;
-    Ok(Some(Passage {
-        branch: pc,
-        crossing: *crossing,
-        label: top,
-        returns: *returns,
-        answer: Answer::Barred,
-        past: None,
-    }))
 }
 
 /// Whether two labels are the same: each absorbs the other.
@@ -257,7 +192,6 @@ fn crossed(
             Ok(Outcome::Open)
         }
         Answer::Shut(_) => Ok(Outcome::Shut),
-        Answer::Barred => Ok(Outcome::Shut),
     }
 }
 
@@ -318,47 +252,38 @@ fn number(branch: u16) -> usize
 fn is_open(passage: &Passage) -> bool {
     match &passage.answer {
         Answer::Open(_) => true,
-        Answer::Shut(_) | Answer::Barred => false,
+        Answer::Shut(_) => false,
     }
 }
 
-/// How many open passages were learned in a row, with this one.
-fn streak_with(streak: usize, passage: &Passage) -> usize {
-    if !is_open(passage) {
-        return 0;
-    }
-    if streak < MOST_AHEAD {
-        streak + 1
+/// One more of so many, up to MOST_AHEAD.
+fn one_more(count: usize) -> usize {
+    if count < MOST_AHEAD {
+        count + 1
     } else {
         MOST_AHEAD
     }
 }
 
-/// The passage that a walk ahead tells, where that has no cause.
-fn told_by(
-    alloc: Global,
-    crossing: &Crossing,
-    pc: u16,
-    job: &Job,
-    past: &Needs,
-) -> Result<Option<Passage>, AllocError>
-    ensures { IfOk result (λ found. IfSome found (λ p. (m : Module) (text : List ℕ) →
-        IsWalked m text crossing.now pc job.now → IsPassage m text p)) }
+/// Whether a walk told nothing of the pair for which it was made: there is a cause under a label that says less.
+pub fn is_in_vain(job: &Job, under: Under) -> bool {
+    under == Under::Needs && job.tally.least.is_some()
+}
+
+/// The passage that a walk tells.
+fn told_by(alloc: Global, crossing: &Crossing, pc: u16, job: &Job) -> Result<Passage, AllocError>
+    ensures { IfOk result (λ p. (m : Module) (text : List ℕ) →
+        IsWalked m text crossing.now pc job.now → IsPassage m text p) }
 {
-    if job.tally.least.is_some() {
-        return Ok(None);
-    }
     let top = Top::of(alloc, &job.label)?;
     let answer = answer_of(alloc, job.tally.least, &job.tally.label)?;
-    let past = Box::new(alloc, *past)?;
-    Ok(Some(Passage {
+    Ok(Passage {
         branch: pc,
         crossing: *crossing,
         label: top,
         returns: job.returns,
         answer,
-        past: Some(past),
-    }))
+    })
 }
 
 /// Walks the arms of a branch under a label that absorbs this one and has as little in it as they seem to need, and
@@ -385,45 +310,11 @@ fn learned(
             alloc, module, text, table, entries, crossing, pc, &top, returns,
         )?;
         if is_open(&passage) {
-            let past = Box::new(alloc, past)?;
-            return Ok(Passage {
-                past: Some(past),
-                ..passage
-            });
+            return Ok(passage);
         }
     }
     walked(
         alloc, module, text, table, entries, crossing, pc, label, returns,
-    )
-}
-
-/// The same, where an arm may have a cause: then one may be enough.
-fn learned_anew(
-    alloc: Global,
-    module: &Module,
-    text: &[u8],
-    table: &[Entry],
-    entries: Option<u16>,
-    crossing: &Crossing,
-    scout: &mut Scout,
-    suspect: Option<Suspect>,
-    pc: u16,
-    label: &Label,
-    returns: &Returns,
-) -> Result<Passage, AllocError>
-    requires few { IfSome entries (λ n. n ≤ 64) }
-    requires table { IsTable module.now text.now table.now }
-    ensures { IfOk result (λ p. IsStub module.now text.now entries → IsPassage module.now text.now p) }
-{
-    if let Some(suspect) = suspect
-        && let Some(passage) = barred(
-            alloc, module, text, table, entries, crossing, suspect, pc, label, returns,
-        )?
-    {
-        return Ok(passage);
-    }
-    learned(
-        alloc, module, text, table, entries, crossing, scout, pc, label, returns,
     )
 }
 
@@ -437,6 +328,7 @@ impl Passages {
             list: Vec::new(alloc),
             newest: [0; 256],
             streak: 0,
+            shut: 0,
             scout: Scout::new(alloc),
         }
     }
@@ -503,13 +395,6 @@ impl Passages {
                     None
                 }
             }
-            Answer::Barred => {
-                if passage.label.is_absorbed(label) {
-                    Some(Outcome::Shut)
-                } else {
-                    None
-                }
-            }
         }
     }
 
@@ -540,18 +425,6 @@ impl Passages {
         self.answer(self.newest_of(pc), crossing, pc, label, written)
     }
 
-    /// Which arm seems to have a cause under a label, where a pair's own passage is open under one that does not absorb
-    /// it.
-    fn suspect(&self, own: Option<usize>, label: &Label) -> Option<Suspect> {
-        let passage = self.list.get(own?)?;
-        let past = passage.past.as_ref()?;
-        if past.are_kept(&passage.label.label(), label) {
-            Some(Suspect::Taken)
-        } else {
-            Some(Suspect::Past)
-        }
-    }
-
     /// A pair's own place, or else a new one.
     fn place_for(&self, own: Option<usize>) -> usize {
         match own {
@@ -561,16 +434,46 @@ impl Passages {
     }
 
     /// Keeps a passage in a pair's own place, and tells the place.
+    fn store(&mut self, own: Option<usize>, passage: Passage) -> Result<usize, AllocError>
+        ensures { IfOk result (λ _. (m : Module) (text : List ℕ) → IsPassage m text passage →
+            All (IsPassage m text) self.old.list.items → All (IsPassage m text) self.new.list.items) }
+    {
+        let place = self.place_for(own);
+        put(&mut self.list, place, passage)?;
+        Ok(place)
+    }
+
+    /// The same of the branch's newest passage.
     fn keep(&mut self, own: Option<usize>, passage: Passage) -> Result<usize, AllocError>
         ensures passages { IfOk result (λ _. (m : Module) (text : List ℕ) → IsPassage m text passage →
             All (IsPassage m text) self.old.list.items → All (IsPassage m text) self.new.list.items) }
     {
-        let place = self.place_for(own);
         let branch = passage.branch;
-        self.streak = streak_with(self.streak, &passage);
-        put(&mut self.list, place, passage)?;
+        self.streak = one_more(self.streak);
+        self.shut = if is_open(&passage) {
+            0
+        } else {
+            one_more(self.shut)
+        };
+        let place = self.store(own, passage)?;
         self.newest[number(branch)] = place;
         Ok(place)
+    }
+
+    /// Keeps what a walk told as one under this label.
+    fn keep_under(
+        &mut self,
+        own: Option<usize>,
+        under: Under,
+        passage: Passage,
+    ) -> Result<usize, AllocError>
+        ensures { IfOk result (λ _. (m : Module) (text : List ℕ) → IsPassage m text passage →
+            All (IsPassage m text) self.old.list.items → All (IsPassage m text) self.new.list.items) }
+    {
+        match under {
+            Under::Needs | Under::Own => self.keep(own, passage),
+            Under::Last => self.store(own, passage),
+        }
     }
 
     /// Whether a branch has no cause under its label. Where it has none, its arms then write, and it is told at which
@@ -607,8 +510,7 @@ impl Passages {
         if let Some(outcome) = self.known(*own, crossing, pc, label, written) {
             return Ok(outcome);
         }
-        let suspect = self.suspect(*own, label);
-        let passage = learned_anew(
+        let passage = learned(
             self.alloc,
             module,
             text,
@@ -616,7 +518,6 @@ impl Passages {
             entries,
             crossing,
             &mut self.scout,
-            suspect,
             pc,
             label,
             returns,
@@ -639,11 +540,7 @@ impl Passages {
 
     /// How many pairs may be learned together: the more, the longer no passage served another pair than its own.
     pub fn ahead(&self) -> usize {
-        if self.streak < MOST_AHEAD {
-            self.streak + 1
-        } else {
-            MOST_AHEAD
-        }
+        one_more(self.streak)
     }
 
     /// Whether the passage there says something of a branch under a label.
@@ -653,7 +550,7 @@ impl Passages {
         };
         match &passage.answer {
             Answer::Open(_) => passage.label.absorbs(label),
-            Answer::Shut(_) | Answer::Barred => passage.label.is_absorbed(label),
+            Answer::Shut(_) => passage.label.is_absorbed(label),
         }
     }
 
@@ -673,24 +570,56 @@ impl Passages {
         true
     }
 
-    /// Notes the walk of the label that was scouted as this one, where the arms seem to have no cause.
-    fn want(
+    /// Scouts the arms of a branch under these labels, and tells how many were scouted: one where that has a cause, as the
+    /// last ones had, so that the others will have.
+    fn scout_all(
         &mut self,
+        module: &Module,
+        text: &[u8],
+        table: &[Entry],
+        entries: Option<u16>,
+        crossing: &Crossing,
+        pc: u16,
+        labels: &[Label],
+    ) -> usize
+        ensures { self.new.list ≡ self.old.list }
+    {
+        if self.shut >= MOST_AHEAD {
+            let first = labels.get(..1).unwrap_or(labels);
+            self.scout
+                .scout(module, text, table, entries, crossing, pc, first);
+            if self.scout.needs_of(0).is_none() {
+                return 1;
+            }
+        }
+        self.scout
+            .scout(module, text, table, entries, crossing, pc, labels);
+        labels.len()
+    }
+
+    /// Notes the walk of the k-th label, of which so many were scouted: where its arms seem to have no cause, of one with
+    /// as little in it as they need.
+    fn want(
+        &self,
         k: usize,
+        count: usize,
         label: &Label,
         wanted: &Ahead,
         jobs: &mut Vec<Job>,
         ahead: &mut Vec<Ahead>,
-    ) -> Result<(), AllocError>
-        ensures { self.new.list ≡ self.old.list }
-    {
-        match self.scout.needs_of(k) {
-            Some((past, taken)) => {
-                jobs.push(Job::new(&past.or(&taken).least(label), &wanted.returns))?;
-                ahead.push(Ahead { past, ..*wanted })?;
-            }
-            None => self.streak = 0,
+    ) -> Result<(), AllocError> {
+        if k < count
+            && let Some((past, taken)) = self.scout.needs_of(k)
+        {
+            jobs.push(Job::new(&past.or(&taken).least(label), &wanted.returns))?;
+            ahead.push(Ahead {
+                under: Under::Needs,
+                ..*wanted
+            })?;
+            return Ok(());
         }
+        jobs.push(Job::new(label, &wanted.returns))?;
+        ahead.push(*wanted)?;
         Ok(())
     }
 
@@ -710,17 +639,16 @@ impl Passages {
     ) -> Result<(), AllocError>
         ensures { self.new.list ≡ self.old.list }
     {
-        self.scout
-            .scout(module, text, table, entries, crossing, pc, labels);
+        let count = self.scout_all(module, text, table, entries, crossing, pc, labels);
         for k in 0..labels.len() {
             if let Some(one) = wanted.get(k) {
-                self.want(k, &labels[k], one, jobs, ahead)?;
+                self.want(k, count, &labels[k], one, jobs, ahead)?;
             }
         }
         Ok(())
     }
 
-    /// Keeps what a walk ahead told, and tells where.
+    /// Keeps what a walk told of a pair, and tells where.
     pub fn keep_told(
         &mut self,
         crossing: &Crossing,
@@ -731,14 +659,37 @@ impl Passages {
         ensures { IfOk result (λ _. (m : Module) (text : List ℕ) → IsWalked m text crossing.now pc job.now →
             All (IsPassage m text) self.old.list.items → All (IsPassage m text) self.new.list.items) }
     {
-        match told_by(self.alloc, crossing, pc, job, &ahead.past)? {
-            Some(passage) => {
-                let place = self.keep(ahead.own, passage)?;
-                ahead.own = Some(place);
-            }
-            None => self.streak = 0,
+        if is_in_vain(job, ahead.under) {
+            return Ok(());
         }
+        let passage = told_by(self.alloc, crossing, pc, job)?;
+        let place = self.keep_under(ahead.own, ahead.under, passage)?;
+        ahead.own = Some(place);
         Ok(())
+    }
+
+    /// Whether the passage there has a cause.
+    pub fn is_shut(&self, own: Option<usize>) -> bool {
+        let Some(place) = own else {
+            return false;
+        };
+        match self.list.get(place) {
+            Some(passage) => !is_open(passage),
+            None => false,
+        }
+    }
+
+    /// Whether the least cause of a branch under a label is still to be learned.
+    pub fn asks_cause(
+        &self,
+        own: Option<usize>,
+        crossing: &Crossing,
+        pc: u16,
+        label: &Label,
+        returns: &Returns,
+    ) -> bool {
+        self.cause(own, crossing, pc, label, returns).is_none()
+            && !self.is_open(own, crossing, pc, label)
     }
 
     /// Whether it is known that a branch has no cause under its label.
@@ -783,7 +734,7 @@ impl Passages {
                     None
                 }
             }
-            Answer::Open(_) | Answer::Barred => None,
+            Answer::Open(_) => None,
         }
     }
 }

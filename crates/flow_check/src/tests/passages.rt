@@ -37,3 +37,44 @@ fn met_again(rt: HostRuntime) -> Result<(), Fail> {
     }
     Ok(())
 }
+
+// A loop in which a data word is counted up, and in each turn five calls of a routine are met at once, each with its own
+// R4: both arms of the routine's branch on the data's first word write the word at R4.
+const AT_ONCE: [u16; 61] = [
+    0x4031, 0x0420, 0x4382, 0x041c, 0x5392, 0x041c, 0x9382, 0x041c, 0x2009, 0x4303, 0x4303, 0x4303,
+    0x4303, 0x4034, 0x0402, 0x12b0, 0x0364, 0x3fff, 0x2008, 0x4303, 0x4303, 0x4303, 0x4034, 0x0404,
+    0x12b0, 0x0364, 0x3fff, 0x2007, 0x4303, 0x4303, 0x4034, 0x0406, 0x12b0, 0x0364, 0x3fff, 0x2006,
+    0x4303, 0x4034, 0x0408, 0x12b0, 0x0364, 0x3fff, 0x2005, 0x4034, 0x040a, 0x12b0, 0x0364, 0x3fff,
+    0x4030, 0x0308, 0x9382, 0x0400, 0x2403, 0x4384, 0x0000, 0x3c04, 0x4394, 0x0000, 0x4303, 0x4303,
+    0x4130,
+];
+
+// Where the R4 of each call stands.
+const PLACES: [usize; 5] = [14, 23, 31, 38, 44];
+
+// Which calls have an R4 past the data, and the verdict.
+fn rows_at_once() -> [([bool; 5], Verdict); 5] {
+    let arm = no(0x0368, Reason::Arm, 0x036a);
+    [
+        ([false, false, false, false, false], Verdict::Yes),
+        ([true, true, true, true, true], arm),
+        ([true, false, false, false, false], arm),
+        ([false, true, false, true, true], arm),
+        ([false, false, false, false, true], arm),
+    ]
+}
+
+#[test]
+fn met_at_once(rt: HostRuntime) -> Result<(), Fail> {
+    for (past, expected) in rows_at_once() {
+        let mut text = AT_ONCE;
+        for k in 0..PLACES.len() {
+            if past[k] {
+                text[PLACES[k]] = 0x0420;
+            }
+        }
+        let found = verdict_at(rt.alloc(), &rt, 0x0300, 0x0400, 0x20, &text, b"0368 0378 6")?;
+        assert_eq!(rt; found, expected);
+    }
+    Ok(())
+}
