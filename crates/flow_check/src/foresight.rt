@@ -348,12 +348,16 @@ pub fn foresee(
     let Some(changed) = front.get(k) else {
         return Ok(());
     };
+    let own = all.passage(changed.at);
+    if passages.is_shut(own) {
+        return Ok(());
+    }
     let pc = changed.pair.addr;
     let insn = met_of(module, text, table, pc);
     let Some(crossing) = crossing_of(module, text, &insn, arms, pc, &changed.label) else {
         return Ok(());
     };
-    if !passages.asks(all.passage(changed.at), &crossing, pc, &changed.label) {
+    if !passages.asks(own, &crossing, pc, &changed.label) {
         return Ok(());
     }
     learn_next(

@@ -554,10 +554,14 @@ impl Passages {
         }
     }
 
-    /// Whether nothing is known of a branch under a label. Where its newest passage serves, that may serve more.
+    /// Whether nothing is known of a branch under a label. Where its newest passage serves, that may serve more. A pair
+    /// that had a cause has one for good.
     pub fn asks(&mut self, own: Option<usize>, crossing: &Crossing, pc: u16, label: &Label) -> bool
         ensures { self.new.list ≡ self.old.list }
     {
+        if self.is_shut(own) {
+            return false;
+        }
         if let Some(place) = own
             && self.says(place, crossing, pc, label)
         {
@@ -570,8 +574,8 @@ impl Passages {
         true
     }
 
-    /// Scouts the arms of a branch under these labels, and tells how many were scouted: one where that has a cause, as the
-    /// last ones had, so that the others will have.
+    /// Scouts the arms of a branch under these labels, and tells how many were scouted: one where that has a cause, as
+    /// the last ones had, so that the others will have.
     fn scout_all(
         &mut self,
         module: &Module,
@@ -597,8 +601,8 @@ impl Passages {
         labels.len()
     }
 
-    /// Notes the walk of the k-th label, of which so many were scouted: where its arms seem to have no cause, of one with
-    /// as little in it as they need.
+    /// Notes the walk of the k-th label, of which so many were scouted: where its arms seem to have no cause, of one
+    /// with as little in it as they need.
     fn want(
         &self,
         k: usize,
@@ -668,7 +672,7 @@ impl Passages {
         Ok(())
     }
 
-    /// Whether the passage there has a cause.
+    /// Whether a pair's own passage has a cause.
     pub fn is_shut(&self, own: Option<usize>) -> bool {
         let Some(place) = own else {
             return false;
