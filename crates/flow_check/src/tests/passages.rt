@@ -38,8 +38,8 @@ fn met_again(rt: HostRuntime) -> Result<(), Fail> {
     Ok(())
 }
 
-// A loop in which a data word is counted up, and in each turn five calls of a routine are met at once, each with its own
-// R4: both arms of the routine's branch on the data's first word write the word at R4.
+// A loop in which a data word is counted up, and in each turn five calls of a routine are met at once, each with its
+// own R4: both arms of the routine's branch on the data's first word write the word at R4.
 const AT_ONCE: [u16; 61] = [
     0x4031, 0x0420, 0x4382, 0x041c, 0x5392, 0x041c, 0x9382, 0x041c, 0x2009, 0x4303, 0x4303, 0x4303,
     0x4303, 0x4034, 0x0402, 0x12b0, 0x0364, 0x3fff, 0x2008, 0x4303, 0x4303, 0x4303, 0x4034, 0x0404,
@@ -69,8 +69,9 @@ fn met_at_once(rt: HostRuntime) -> Result<(), Fail> {
     for (past, expected) in rows_at_once() {
         let mut text = AT_ONCE;
         for k in 0..PLACES.len() {
-            if past[k] {
-                text[PLACES[k]] = 0x0420;
+            let place = PLACES[k];
+            if past[k] && place < text.len() {
+                text[place] = 0x0420;
             }
         }
         let found = verdict_at(rt.alloc(), &rt, 0x0300, 0x0400, 0x20, &text, b"0368 0378 6")?;
