@@ -23,7 +23,7 @@ use mod_layout::Module;
 use std::alloc::AllocError;
 
 /// How far ahead the pairs are looked for.
-const REACH: usize = 64;
+const REACH: usize = 128;
 
 /// The number of SR.
 const SR: u8 = 2;

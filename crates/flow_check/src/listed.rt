@@ -9,7 +9,6 @@ ghost use Rattle.flow_check.specs.Frames.{AlikeBut, numbers_of};
 ghost use Rattle.flow_check.specs.Listed.{AllOther, front, places_of, spread, spread_on, words_of};
 
 use crate::places::Places;
-use crate::value::join;
 use flow_rule::{Label, Val};
 use std::alloc::{AllocError, Global};
 use std::marker::Model;
@@ -129,7 +128,7 @@ fn list_of(alloc: Global, words: &[Val; 256], common: Val) -> Result<Vec<Word>, 
 fn keeps(top: Val, value: Val) -> bool
     ensures { result ≡ true → join top value ≡ top }
 {
-    join(top, value) == top
+    top == value || top == Val::Secret || (top == Val::Public && value != Val::Secret)
 }
 
 /// Whether joining each of these values to its own changes nothing.
@@ -274,6 +273,17 @@ impl Top {
         Ok(Top {
             core: label.core,
             words,
+        })
+    }
+
+    /// This label, with all its words side by side.
+    pub fn whole(alloc: Global, label: &Label) -> Result<Top, AllocError>
+        ensures { IfOk result (λ top. top ≡ label.now) }
+    {
+        let words = Box::new(alloc, label.words)?;
+        Ok(Top {
+            core: label.core,
+            words: TopWords::Many(words),
         })
     }
 

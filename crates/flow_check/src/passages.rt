@@ -29,7 +29,7 @@ use std::alloc::{AllocError, Global};
 const NUMBERS: usize = 256;
 
 /// The most pairs that are learned together.
-pub const MOST_AHEAD: usize = 8;
+pub const MOST_AHEAD: usize = 16;
 
 /// What the arms of a branch come to.
 #[derive(Drop)]
@@ -115,6 +115,16 @@ fn answer_of(alloc: Global, least: Option<Cause>, told: &Label) -> Result<Answer
     Ok(Answer::Shut(cause))
 }
 
+/// A label that was walked with this least cause. Where there is a cause, it is compared as a whole.
+fn top_of(alloc: Global, least: Option<Cause>, label: &Label) -> Result<Top, AllocError>
+    ensures { IfOk result (λ top. top ≡ label.now) }
+{
+    match least {
+        Some(_) => Top::whole(alloc, label),
+        None => Top::of(alloc, label),
+    }
+}
+
 /// Walks the arms of a branch under a label, with these return addresses.
 fn walked(
     alloc: Global,
@@ -139,7 +149,7 @@ fn walked(
     walk_arms(
         module, text, table, entries, crossing, pc, label, returns, &mut least, &mut told,
     );
-    let top = Top::of(alloc, label)?;
+    let top = top_of(alloc, least, label)?;
     let answer = answer_of(alloc, least, &told)?;
     Ok(Passage {
         branch: pc,
@@ -275,7 +285,7 @@ fn told_by(alloc: Global, crossing: &Crossing, pc: u16, job: &Job) -> Result<Pas
     ensures { IfOk result (λ p. (m : Module) (text : List ℕ) →
         IsWalked m text crossing.now pc job.now → IsPassage m text p) }
 {
-    let top = Top::of(alloc, &job.label)?;
+    let top = top_of(alloc, job.tally.least, &job.label)?;
     let answer = answer_of(alloc, job.tally.least, &job.tally.label)?;
     Ok(Passage {
         branch: pc,
