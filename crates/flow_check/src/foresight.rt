@@ -20,13 +20,11 @@ use crate::value::is_secret;
 use arm_balance::Arm;
 use flow_rule::Label;
 use mod_layout::Module;
+use sm_words::SR;
 use std::alloc::AllocError;
 
 /// How far ahead the pairs are looked for.
 const REACH: usize = 128;
-
-/// The number of SR.
-const SR: u8 = 2;
 
 /// Notes a pair, if it wants to know more of this branch.
 fn gather_one(

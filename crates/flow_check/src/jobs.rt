@@ -17,10 +17,10 @@ use flow_rule::{Label, Reason, Val};
 use mod_layout::Module;
 
 /// How many instructions a walk goes before it is the next one's turn.
-const TURN: u32 = 32;
+const TURN: u32 = 64;
 
 /// How many turns there are at most: the longest arm is through by then.
-const TURNS: u32 = 2048;
+const TURNS: u32 = 1024;
 
 /// A label at a branch, whose arms are walked.
 #[derive(Clone, Copy)]

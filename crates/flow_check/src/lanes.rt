@@ -9,7 +9,7 @@ use mod_layout::Module;
 use std::alloc::Global;
 
 /// How many instructions a label goes before the next.
-const TURN: usize = 32;
+const TURN: usize = 64;
 
 /// The own way of an arm: what comes before it meets the road, and its own part of that.
 #[derive(Clone, Copy)]

@@ -17,10 +17,8 @@ use crate::table::{Entry, met_of};
 use crate::value::is_secret;
 use arm_balance::Arm;
 use mod_layout::Module;
+use sm_words::SR;
 use std::alloc::AllocError;
-
-/// The number of SR.
-const SR: u8 = 2;
 
 /// Notes the k-th pair, if the least cause of this branch under its label is still to be learned.
 fn want_cause(
