@@ -21,39 +21,17 @@ pub const FIRST_WORD: u16 = 19;
 /// The first power of two that has room for all numbers.
 pub const ROOM: usize = 512;
 
-/// What says that both arms need a value: the first arm's bit and the second's.
-pub const BOTH_ARMS: u8 = 3;
+/// What says that all arms of all labels need a value.
+pub const EACH: u32 = u32::MAX;
+
+/// All bits of a number.
+const ALL: u16 = 0xffff;
 
 /// The stack pointer, which is even.
 const STACK: u8 = 1;
 
 /// What is added to the stack pointer for the address that is pushed to.
 const LOWER: u16 = 65534;
-
-/// The values of two arms stand side by side in one number. This is what one half holds of a value.
-pub const PART: u32 = 0xffff;
-
-/// Set in a half whose value is not Known; its other bits mean nothing then. Two halves with it can be added, and the sum
-/// stays in its half.
-pub const PART_UNKNOWN: u32 = 0x4000_0000;
-
-/// More than each value of a half.
-const OVER: u32 = 0x1_0000;
-
-/// The bits of both halves' values.
-pub const LOW: u64 = 0x0000_ffff_0000_ffff;
-
-/// What says of each half that it is not Known.
-pub const UNKNOWN: u64 = 0x4000_0000_4000_0000;
-
-/// All bits that mean something.
-pub const MEANING: u64 = 0x4000_ffff_4000_ffff;
-
-/// The number whose halves are this.
-#[inline(always)]
-pub fn both(part: u32) -> u64 {
-    u64::from(part).wrapping_mul(0x1_0000_0001)
-}
 
 /// What is made of a source and of what the destination held, or, from `Swap` on, of the latter alone.
 #[derive(Clone, Copy, PartialEq, Eq)]
@@ -73,7 +51,8 @@ pub enum Operation {
     Hide,
 }
 
-/// What an instruction does: an operation on a register, or how it reaches memory. Each common thing has code of its own.
+/// What an instruction does: an operation on a register, or how it reaches memory. Each common thing has code of its
+/// own.
 #[derive(Clone, Copy, PartialEq, Eq)]
 pub enum Code {
     Move,
@@ -129,8 +108,10 @@ pub enum Trace {
     Making,
     /// The source has one.
     Loading,
-    /// The destination has one, and the source may have one.
-    Reaching,
+    /// The destination has one.
+    Storing,
+    /// Both have one.
+    Through,
 }
 
 /// What is done at the address of a destination.
@@ -145,7 +126,7 @@ pub enum Access {
 }
 
 /// What an instruction of the text makes of what. An address is the sum of a base, which is a register's number or
-/// `ZERO`, and a number; it counts from the data's start, and [`OVER`] more.
+/// `ZERO`, and a number; it counts from the data's start.
 #[derive(Clone, Copy)]
 pub struct Form {
     pub code: Code,
@@ -157,18 +138,13 @@ pub struct Form {
     pub source: u8,
     /// The number of the destination's value, or the base of its address.
     pub destination: u8,
-    /// Which arms need what the destination held, if they need what it makes: none or both.
-    pub old: u8,
+    /// Which arms need what the destination held, if they need what it makes: none or each.
+    pub old: u32,
     pub trace: Trace,
     /// What is added to the source's value, or to its base.
-    pub plus: u64,
+    pub plus: u16,
     /// The bits that a register keeps, or what is added to the destination's base.
-    pub end: u64,
-}
-
-/// What is added to a base for an address.
-fn distance(plus: u16, data: u16) -> u64 {
-    both((OVER + u32::from(plus)).wrapping_sub(u32::from(data)))
+    pub end: u16,
 }
 
 /// Where an instruction stands, where the next one does, and where the data begins.
@@ -232,7 +208,7 @@ fn written(reg: u8) -> u8 {
 }
 
 /// The bits that a register keeps of a value of this width.
-fn kept_bits(width: Width, reg: u8) -> u32 {
+fn kept_bits(width: Width, reg: u8) -> u16 {
     match width {
         Width::Byte if reg == STACK => 0x00fe,
         Width::Byte => 0x00ff,
@@ -364,7 +340,7 @@ impl Form {
         old: 0,
         trace: Trace::Making,
         plus: 0,
-        end: MEANING,
+        end: ALL,
     };
 
     /// An instruction that makes this of what is still to be told.
@@ -372,7 +348,7 @@ impl Form {
         Form {
             code: making_code(operation),
             operation,
-            old: if reads_old { BOTH_ARMS } else { 0 },
+            old: if reads_old { EACH } else { 0 },
             width,
             ..Form::IDLE
         }
@@ -382,7 +358,7 @@ impl Form {
     fn with_source(self, part: Part, data: u16) -> Form {
         let form = Form {
             source: part.base,
-            plus: both(u32::from(part.plus)),
+            plus: part.plus,
             ..self
         };
         if !part.in_memory {
@@ -396,7 +372,7 @@ impl Form {
         Form {
             code,
             trace: Trace::Loading,
-            plus: distance(part.plus, data),
+            plus: part.plus.wrapping_sub(data),
             ..form
         }
     }
@@ -417,13 +393,17 @@ impl Form {
 
     /// The same, with an address that it does this at.
     fn with_access(self, access: Access, base: u8, offset: u16, data: u16) -> Form {
+        let trace = match self.trace {
+            Trace::Loading => Trace::Through,
+            _ => Trace::Storing,
+        };
         Form {
             code: self.code_with(access),
-            trace: Trace::Reaching,
+            trace,
             operation: in_memory(self.operation, self.width),
             access,
             destination: base,
-            end: distance(offset, data),
+            end: offset.wrapping_sub(data),
             ..self
         }
     }
@@ -433,7 +413,7 @@ impl Form {
         let number = written(reg);
         Form {
             destination: number,
-            end: both(kept_bits(self.width, reg)) | UNKNOWN,
+            end: kept_bits(self.width, reg),
             ..self
         }
     }

@@ -4,8 +4,9 @@
 
 ghost use Rattle.std.specs.Prelude.{◌<◌};
 
-use crate::course::{Track, first_met, second_met};
-use crate::forms::{BOTH_ARMS, Code, FIRST_WORD, Form, ROOM, Trace};
+use crate::forms::{EACH, FIRST_WORD, Form, ROOM, Trace};
+use crate::rows::{bit_of, both_bits, first_bits, is_twice};
+use crate::tracks::{APART, Track, list_of, slot};
 use flow_rule::{Label, Val};
 
 /// How many registers a label has, and how many words.
@@ -13,29 +14,13 @@ const REGISTERS: usize = 16;
 
 const WORDS: usize = 256;
 
-/// The bits of the arms.
-const FIRST_ARM: u8 = 1;
-
-const SECOND_ARM: u8 = 2;
-
-/// The first number of what was met that says that two arms met not the same.
-const APART: u32 = 0x1_0000;
-
 /// Whether each value is needed, by its number.
 #[derive(Clone, Copy)]
 pub struct Needs([bool; 512]);
 
-/// Which of two arms need each value, by its number.
+/// Which arms of which labels need each value, by its number: a bit for each place of a row.
 #[derive(Clone, Copy)]
-pub struct Wants([u8; 512]);
-
-/// Where a number stands.
-#[inline(always)]
-pub fn slot(number: u32) -> usize
-    ensures { result < 512 }
-{
-    number as usize % ROOM
-}
+pub struct Wants([u32; 512]);
 
 /// What is known of a value of a label: all of it where it is needed, and else nothing.
 #[inline(always)]
@@ -47,154 +32,181 @@ impl Wants {
     /// Nothing is needed.
     pub const NONE: Wants = Wants([0; 512]);
 
-    /// These arms need a value whose number is a base.
+    /// These places need a value.
     #[inline(always)]
-    fn add(&mut self, number: u8, arms: u8) {
-        self.0[usize::from(number)] |= arms;
+    fn add(&mut self, number: u8, places: u32) {
+        self.0[usize::from(number)] |= places;
     }
 
-    /// Both arms need a value whose number is a base.
-    #[inline(always)]
-    fn add_base(&mut self, number: u8) {
-        self.0[usize::from(number)] = BOTH_ARMS;
-    }
-
-    /// These arms need what they met.
-    #[inline(always)]
-    fn add_met(&mut self, number: u32, arms: u8) {
-        if number < APART {
-            self.0[first_met(number)] |= arms;
-        } else {
-            self.0[first_met(number)] |= arms & FIRST_ARM;
-            self.0[second_met(number)] |= arms & SECOND_ARM;
+    /// These places need values of these numbers, each its own.
+    fn add_each<const P: usize>(&mut self, numbers: &[u16; P], places: u32) {
+        let mut bit: u32 = 1;
+        for k in 0..P {
+            self.0[slot(u32::from(numbers[k]))] |= places & bit;
+            bit = bit.wrapping_mul(2);
         }
     }
 
-    /// Goes back over what writes here: tells which arms need it, and leaves what they need of what was there.
+    /// The same where both arms of each label have the same number.
+    fn add_twice<const P: usize>(&mut self, numbers: &[u16; P], places: u32) {
+        let mut bits: u32 = both_bits::<P>(1);
+        for second in P / 2..P {
+            self.0[slot(u32::from(numbers[second]))] |= places & bits;
+            bits = bits.wrapping_mul(2);
+        }
+    }
+
+    /// These places need what they met.
     #[inline(always)]
-    fn take(&mut self, to: usize, old: u8) -> u8
+    fn add_met<const P: usize>(&mut self, number: u32, places: u32, apart: &[[u16; P]]) {
+        if number < APART {
+            self.0[slot(number)] |= places;
+        } else if let Some(numbers) = list_of(apart, number) {
+            if is_twice(numbers) {
+                self.add_twice(numbers, places);
+            } else {
+                self.add_each(numbers, places);
+            }
+        }
+    }
+
+    /// Goes back over what writes here: tells which places need it, and leaves what they need of what was there.
+    #[inline(always)]
+    fn take(&mut self, to: usize, old: u32) -> u32
         requires { to < 512 }
     {
-        let arms = self.0[to];
-        if arms != 0 {
-            self.0[to] = arms & old;
+        let places = self.0[to];
+        self.0[to] = places & old;
+        places
+    }
+
+    /// The same where each place writes a value of its own.
+    fn take_each<const P: usize>(&mut self, numbers: &[u16; P], old: u32) -> u32 {
+        let mut places: u32 = 0;
+        let mut bit: u32 = 1;
+        for k in 0..P {
+            let to = slot(u32::from(numbers[k]));
+            places |= self.0[to] & bit;
+            self.0[to] &= old | !bit;
+            bit = bit.wrapping_mul(2);
         }
-        arms
+        places
     }
 
-    /// The same where the arms write not the same.
-    #[inline(never)]
-    fn take_apart(&mut self, number: u32, old: u8) -> u8 {
-        let first = first_met(number);
-        let second = second_met(number);
-        let arms = (self.0[first] & FIRST_ARM) | (self.0[second] & SECOND_ARM);
-        self.0[first] &= SECOND_ARM | old;
-        self.0[second] &= FIRST_ARM | old;
-        arms
+    /// The same where both arms of each label write the same value.
+    fn take_twice<const P: usize>(&mut self, numbers: &[u16; P], old: u32) -> u32 {
+        let mut places: u32 = 0;
+        let mut bits: u32 = both_bits::<P>(1);
+        for second in P / 2..P {
+            let to = slot(u32::from(numbers[second]));
+            places |= self.0[to] & bits;
+            self.0[to] &= old | !bits;
+            bits = bits.wrapping_mul(2);
+        }
+        places
     }
 
-    /// The same where both write what they met.
+    /// The same where they write what they met.
     #[inline(always)]
-    fn take_met(&mut self, number: u32, old: u8) -> u8 {
+    fn take_met<const P: usize>(&mut self, number: u32, old: u32, apart: &[[u16; P]]) -> u32 {
         if number < APART {
-            self.take(first_met(number), old)
+            self.take(slot(number), old)
+        } else if let Some(numbers) = list_of(apart, number) {
+            if is_twice(numbers) {
+                self.take_twice(numbers, old)
+            } else {
+                self.take_each(numbers, old)
+            }
         } else {
-            self.take_apart(number, old)
+            0
         }
     }
 
     /// Goes back over an instruction without an address: where what it makes is needed, so is what it makes that of.
     #[inline(always)]
     fn back_making(&mut self, form: &Form) {
-        let arms = self.take(usize::from(form.destination), form.old);
-        if arms != 0 {
-            self.add(form.source, arms);
-        }
+        let places = self.take(usize::from(form.destination), form.old);
+        self.add(form.source, places);
     }
 
     /// The same where the source has an address, and the destination has none.
     #[inline(always)]
-    fn back_loading(&mut self, form: &Form, track: &Track) {
-        let arms = self.take(usize::from(form.destination), form.old);
-        if arms != 0 {
-            self.add_met(track.from, arms);
-        }
-        self.add_base(form.source);
+    fn back_loading<const P: usize>(&mut self, form: &Form, track: &Track, apart: &[[u16; P]]) {
+        let places = self.take(usize::from(form.destination), form.old);
+        self.add_met(track.from, places, apart);
+        self.add(form.source, EACH);
     }
 
     /// The same where only the destination has one.
     #[inline(always)]
-    fn back_storing(&mut self, form: &Form, track: &Track) {
-        let arms = self.take_met(track.to, form.old);
-        if arms != 0 {
-            self.add(form.source, arms);
-        }
-        self.add_base(form.destination);
+    fn back_storing<const P: usize>(&mut self, form: &Form, track: &Track, apart: &[[u16; P]]) {
+        let places = self.take_met(track.to, form.old, apart);
+        self.add(form.source, places);
+        self.add(form.destination, EACH);
     }
 
     /// The same where both have one.
     #[inline(always)]
-    fn back_through(&mut self, form: &Form, track: &Track) {
-        let arms = self.take_met(track.to, form.old);
-        if arms != 0 {
-            self.add_met(track.from, arms);
-        }
-        self.add_base(form.source);
-        self.add_base(form.destination);
-    }
-
-    /// Goes back over an instruction with an address for its destination.
-    #[inline(always)]
-    fn back_reaching(&mut self, form: &Form, track: &Track) {
-        match form.code {
-            Code::Both | Code::Through | Code::ThroughRise => self.back_through(form, track),
-            _ => self.back_storing(form, track),
-        }
+    fn back_through<const P: usize>(&mut self, form: &Form, track: &Track, apart: &[[u16; P]]) {
+        let places = self.take_met(track.to, form.old, apart);
+        self.add_met(track.from, places, apart);
+        self.add(form.source, EACH);
+        self.add(form.destination, EACH);
     }
 
     /// Goes back over an instruction.
     #[inline(always)]
-    fn back(&mut self, form: &Form, track: &Track) {
+    fn back<const P: usize>(&mut self, form: &Form, track: &Track, apart: &[[u16; P]]) {
         match form.trace {
             Trace::Making => self.back_making(form),
-            Trace::Loading => self.back_loading(form, track),
-            Trace::Reaching => self.back_reaching(form, track),
+            Trace::Loading => self.back_loading(form, track, apart),
+            Trace::Storing => self.back_storing(form, track, apart),
+            Trace::Through => self.back_through(form, track, apart),
         }
     }
 
     /// Goes back over these instructions, which met this.
-    pub fn go_back(&mut self, forms: &[Form], tracks: &[Track]) {
+    pub fn go_back<const P: usize>(
+        &mut self,
+        forms: &[Form],
+        tracks: &[Track],
+        apart: &[[u16; P]],
+    ) {
         let Some(tracks) = tracks.get(..forms.len()) else {
             return;
         };
         for k in (0..forms.len()).rev() {
-            self.back(&forms[k], &tracks[k]);
+            self.back(&forms[k], &tracks[k], apart);
         }
     }
 
-    /// What the first arm alone needs.
-    pub fn first(&self) -> Wants {
+    /// What these places alone need.
+    fn of(&self, places: u32) -> Wants {
         let mut wants = *self;
         for number in 0..ROOM {
-            wants.0[number] &= FIRST_ARM;
+            wants.0[number] &= places;
         }
         wants
     }
 
-    /// What the second arm alone needs.
-    pub fn second(&self) -> Wants {
-        let mut wants = *self;
-        for number in 0..ROOM {
-            wants.0[number] &= SECOND_ARM;
-        }
-        wants
+    /// What the first arms alone need.
+    pub fn first<const P: usize>(&self) -> Wants {
+        self.of(first_bits::<P>())
     }
 
-    /// What any arm needs.
-    pub fn needs(&self) -> Needs {
+    /// What the second arms alone need.
+    pub fn second<const P: usize>(&self) -> Wants {
+        self.of(!first_bits::<P>())
+    }
+
+    /// What any arm of a label needs.
+    pub fn needs<const P: usize>(&self, lane: usize) -> Needs
+        requires { lane < 16 }
+    {
+        let places = both_bits::<P>(bit_of(lane));
         let mut needs = Needs([false; 512]);
         for number in 0..ROOM {
-            needs.0[number] = self.0[number] != 0;
+            needs.0[number] = self.0[number] & places != 0;
         }
         needs
     }

@@ -2,9 +2,12 @@
 //! they need. Many labels go together.
 
 use crate::arms::Crossing;
-use crate::lanes::{Lane, go_all, go_back_all};
+use crate::forms::Form;
+use crate::ground::Ground;
+use crate::lanes::{Lanes, OwnWay};
 use crate::needs::Needs;
 use crate::roads::{Arm, Roads, Ways};
+use crate::rows::{HALF, PAIR, PLACES};
 use crate::table::Entry;
 use flow_rule::Label;
 use mod_layout::Module;
@@ -15,9 +18,45 @@ use std::alloc::Global;
 pub struct Scout {
     alloc: Global,
     roads: Roads,
-    /// The labels that go along, and the ways that they went last.
-    lanes: Vec<Lane>,
-    ways: Option<Ways>,
+    /// The lanes of many labels, of few, and of a lone one, once there are any.
+    many: Vec<Lanes<PLACES>>,
+    few: Vec<Lanes<HALF>>,
+    lone: Vec<Lanes<PAIR>>,
+    /// Which of them tell of the labels that were scouted last.
+    told: Told,
+}
+
+/// Which lanes tell something.
+#[derive(Clone, Copy, PartialEq, Eq)]
+enum Told {
+    Nothing,
+    Lone,
+    Few,
+    Many,
+}
+
+/// Makes the lanes, if there are none.
+#[inline(never)]
+fn make<const P: usize>(alloc: Global, lanes: &mut Vec<Lanes<P>>) -> Option<()> {
+    if lanes.is_empty() {
+        lanes.push(Lanes::new(alloc)).ok()?;
+    }
+    Some(())
+}
+
+/// Goes along the ways under these labels in these lanes.
+fn go<const P: usize>(
+    alloc: Global,
+    lanes: &mut Vec<Lanes<P>>,
+    ground: &Ground<'_>,
+    first: OwnWay<'_>,
+    second: OwnWay<'_>,
+    shared: &[Form],
+    labels: &[Label],
+) -> Option<()> {
+    make(alloc, lanes)?;
+    let lanes = lanes.as_mut_slice().get_mut(0)?;
+    lanes.scout(ground, first, second, shared, labels)
 }
 
 impl Scout {
@@ -26,44 +65,11 @@ impl Scout {
         Scout {
             alloc,
             roads: Roads::new(alloc),
-            lanes: Vec::new(alloc),
-            ways: None,
+            many: Vec::new(alloc),
+            few: Vec::new(alloc),
+            lone: Vec::new(alloc),
+            told: Told::Nothing,
         }
-    }
-
-    /// Begins with a label, along the arms' own ways.
-    fn begin(
-        &mut self,
-        module: &Module,
-        text: &[u8],
-        ways: &Ways,
-        k: usize,
-        label: &Label,
-    ) -> Option<()> {
-        if self.lanes.len() <= k {
-            let lane = Lane::new(self.alloc, module, label);
-            self.lanes.push(lane).ok()?;
-        }
-        let first = self.roads.own_way(Arm::First, &ways.first)?;
-        let second = self.roads.own_way(Arm::Second, &ways.second)?;
-        let count = self.roads.shared_way(ways)?.len();
-        let lane = self.lanes.get_mut(k)?;
-        lane.begin(module, text, first, second, count, label);
-        Some(())
-    }
-
-    /// Begins with each of these labels.
-    fn begin_all(
-        &mut self,
-        module: &Module,
-        text: &[u8],
-        ways: &Ways,
-        labels: &[Label],
-    ) -> Option<()> {
-        for (k, label) in labels.iter().enumerate() {
-            self.begin(module, text, ways, k, label)?;
-        }
-        Some(())
     }
 
     /// Goes along the arms of a branch under each of these labels.
@@ -73,16 +79,41 @@ impl Scout {
         text: &[u8],
         ways: &Ways,
         labels: &[Label],
-    ) -> Option<()> {
-        self.begin_all(module, text, ways, labels)?;
-        let way = self.roads.shared_way(ways)?;
-        let lanes = self.lanes.as_mut_slice().get_mut(..labels.len())?;
-        go_all(lanes, module, text, way);
-        go_back_all(lanes, way);
-        Some(())
+    ) -> Option<Told> {
+        let first = self.roads.own_way(Arm::First, &ways.first)?;
+        let second = self.roads.own_way(Arm::Second, &ways.second)?;
+        let shared = self.roads.shared_way(ways)?;
+        let ground = Ground::of(module, text);
+        let alloc = self.alloc;
+        if labels.len() == 1 {
+            go(
+                alloc,
+                &mut self.lone,
+                &ground,
+                first,
+                second,
+                shared,
+                labels,
+            )?;
+            Some(Told::Lone)
+        } else if labels.len() <= HALF / 2 {
+            go(alloc, &mut self.few, &ground, first, second, shared, labels)?;
+            Some(Told::Few)
+        } else {
+            go(
+                alloc,
+                &mut self.many,
+                &ground,
+                first,
+                second,
+                shared,
+                labels,
+            )?;
+            Some(Told::Many)
+        }
     }
 
-    /// Scouts the arms of a branch under each of these labels.
+    /// Scouts the arms of a branch under each of these labels, as many as there are lanes.
     pub fn scout(
         &mut self,
         module: &Module,
@@ -93,21 +124,23 @@ impl Scout {
         pc: u16,
         labels: &[Label],
     ) {
-        self.ways = self.roads.ways_of(module, table, entries, crossing, pc);
-        if let Some(ways) = self.ways
-            && self.follow(module, text, &ways, labels).is_none()
+        self.told = Told::Nothing;
+        if let Some(ways) = self.roads.ways_of(module, table, entries, crossing, pc)
+            && let Some(told) = self.follow(module, text, &ways, labels)
         {
-            self.ways = None;
+            self.told = told;
         }
     }
 
     /// Which values of the label that was scouted as this one the arm needs that the jump does not take, and which the
     /// other, where they seem to have no cause.
     pub fn needs_of(&self, k: usize) -> Option<(Needs, Needs)> {
-        let ways = self.ways?;
-        let first = self.roads.own_way(Arm::First, &ways.first)?;
-        let second = self.roads.own_way(Arm::Second, &ways.second)?;
-        self.lanes.get(k)?.needs(first, second)
+        match self.told {
+            Told::Nothing => None,
+            Told::Lone => self.lone.get(0)?.needs(k),
+            Told::Few => self.few.get(0)?.needs(k),
+            Told::Many => self.many.get(0)?.needs(k),
+        }
     }
 
     /// The same of one label.
