@@ -272,6 +272,29 @@ def cases(folder):
             walked, arm = balance_of_two(1, insn, cycles, shuts)
             told = f"balance, two branches with arms of {len(insn):,} mixed instructions of {name} met 2,601 times{which}, data that rise one a turn, each twice"
             yield told, ["balance", file(f"walked_mixed_{name}_{shuts}", walked), "1", file(f"arm_mixed_{name}_{shuts}", arm)]
+    for name, base, insn, cycles, count in (
+        ("reads", 0xF000, [0x5528], 2, 26_890),
+        ("byte reads", 0xF000, [0x5568], 2, 26_890),
+        ("sums in memory", 0xF000, [0x5885, 0], 4, 12_500),
+        ("reads past the words of the data", 0xF300, [0x5528], 2, 26_890),
+        ("reads of the text", 0x0400, [0x5528], 2, 26_890),
+    ):
+        # R5 becomes an address that hangs on the return address.
+        own = [0x4125, 0xF035, 0x00FE, 0x5035, base]
+        for shuts, which in ((False, ""), (True, ", which get a cause")):
+            walked, arm = balance_of_two(1, own + insn * count, 6 + cycles * count, shuts)
+            told = f"balance, two branches with arms of {count:,} {name} at addresses of each list's own met 2,601 times{which}, data that rise one a turn, each twice"
+            yield told, ["balance", file(f"walked_own_{name}_{shuts}", walked), "1", file(f"arm_own_{name}_{shuts}", arm)]
+    for name, insn, cycles, count in (
+        ("decimal sums", [0xA908] * 26_900, 26_900, 26_900),
+        ("SXT", [0x1188] * 26_900, 26_900, 26_900),
+        ("SWPB", [0x1088] * 26_900, 26_900, 26_900),
+        ("PUSH of what SP rises past", [0x8031, 16] + [0x1231] * 12_000 + [0x5031, 16], 5 * 12_000 + 4, 12_000),
+    ):
+        for shuts, which in ((False, ""), (True, ", which get a cause")):
+            walked, arm = balance_of_two(1, insn, cycles, shuts)
+            told = f"balance, two branches with arms of {count:,} {name} met 2,601 times{which}, data that rise one a turn, each twice"
+            yield told, ["balance", file(f"walked_more_{name}_{shuts}", walked), "1", file(f"arm_more_{name}_{shuts}", arm)]
     yield "challenges, 4,096", ["challenge", file("challenges", "".join(f"{1600 * k} {'0f' * 16}\n" for k in range(4096)))]
     trace = "0 out 4a\n" * 110_000 + "end 1 stopped\n"
     yield "trace, 1 MiB of out lines", ["vendor", image, "1", "0" * 32, file("challenges_few", "100 " + "0f" * 16 + "\n"), file("trace", trace)]

@@ -218,16 +218,27 @@ set_first (x ∷ y ∷ ys) v = refl
 pub push_there : (c1 c2 : List Val) (sp next : ℕ) → val c1 0 ≡ Known next → val c2 0 ≡ val c1 0 → val (slice_set c2 1 (Known sp)) 0 ≡ Known next
 push_there c1 c2 sp next there still = set_first c2 (Known sp) ∙ still ∙ there
 
+pub glided_pushing : (m : Module) (text : List ℕ) (w : Width) (arg : Operand) (pc next sp : ℕ) (l l1 b b1 : Label) (value : Val) →
+    moved_on l.core next ≡ past_val (One Push w arg) pc l.core →
+    value ≡ taken_by (place_val arg (moved_on l.core next) (add16 pc 2)) m text true arg w (record { core = moved_on l.core next; words = l.words }) →
+    true ≡ is_clear (reach_reasons m pc (reach_if true Read w (place_val arg (moved_on l.core next) (add16 pc 2)))) →
+    val (lowered_val (stepped_val w arg (moved_on l.core next))) 1 ≡ Known sp → may_reach m Write w sp ≡ true →
+    l1.core ≡ lowered_val (stepped_val w arg (moved_on l.core next)) → l1.words ≡ write_at m l.words w sp (over_one (λ v. v) value) →
+    val l1.core 0 ≡ Known next → b1.core ≡ blot_core (written_regs (One Push w arg)) b.core → b1.words ≡ slice_set b.words (word_no m sp) Secret →
+    IsGlided m text (One Push w arg) pc next l l1 b b1
+glided_pushing m text w arg pc next sp l l1 b b1 value past given clear low may core words there tc tw =
+    let c2 = stepped_val w arg (moved_on l.core next) in
+    glided_by m text Push w w arg pc next l l1 b b1 c2 (place_val arg (moved_on l.core next) (add16 pc 2)) (Some (Known sp)) value past refl given refl
+    (ap Some (sym low)) refl core words clear (reach_clear m Write w sp pc may) there tc tw
+
 pub glided_push : (m : Module) (text : List ℕ) (w : Width) (arg : Operand) (pc next sp : ℕ) (l l1 b b1 : Label) (value : Val) →
     moved_on l.core next ≡ past_val (One Push w arg) pc l.core → IsPushed m text w arg (add16 pc 2) next l value →
     val (lowered_val (stepped_val w arg (moved_on l.core next))) 1 ≡ Known sp → may_reach m Write w sp ≡ true →
     l1.core ≡ lowered_val (stepped_val w arg (moved_on l.core next)) → l1.words ≡ write_at m l.words w sp (over_one (λ v. v) value) →
     val l1.core 0 ≡ Known next → b1.core ≡ blot_core (written_regs (One Push w arg)) b.core → b1.words ≡ slice_set b.words (word_no m sp) Secret →
     IsGlided m text (One Push w arg) pc next l l1 b b1
-glided_push m text w arg pc next sp l l1 b b1 value past given low may core words there tc tw =
-    let c2 = stepped_val w arg (moved_on l.core next) in
-    glided_by m text Push w w arg pc next l l1 b b1 c2 (place_val arg (moved_on l.core next) (add16 pc 2)) (Some (Known sp)) value past refl given.value refl
-    (ap Some (sym low)) refl core words (given.clear pc) (reach_clear m Write w sp pc may) there tc tw
+glided_push m text w arg pc next sp l l1 b b1 value past given =
+    glided_pushing m text w arg pc next sp l l1 b b1 value past given.value (given.clear pc)
 
 pub pushed_from : (m : Module) (text : List ℕ) (w : Width) (arg : Operand) (ext next a : ℕ) (l : Label) (value : Val) →
     ((core : List Val) → val (stepped_val w arg core) 1 ≡ val core 1) → ((core : List Val) → val (stepped_val w arg core) 0 ≡ val core 0) →

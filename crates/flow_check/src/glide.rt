@@ -125,7 +125,7 @@ pub fn glide_on(
 }
 
 /// The place of an address in the table.
-fn first_place(module: &Module, pc: u16) -> Option<u16>
+pub fn first_place(module: &Module, pc: u16) -> Option<u16>
     ensures { IfSome result (λ k. pc ≡ module.now.text.start + 2 * k) }
 {
     if module.text.start <= pc && (pc - module.text.start) % 2 == 0 {

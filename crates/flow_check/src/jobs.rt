@@ -13,6 +13,7 @@ use crate::returns::Returns;
 use crate::step::{Cause, note_if};
 use crate::table::Entry;
 use crate::walk::{Place, Tally, walk_from, walk_on};
+use crate::wave_jobs::go_abreast;
 use flow_rule::{Label, Reason, Val};
 use mod_layout::Module;
 
@@ -22,6 +23,12 @@ const TURN: u32 = 64;
 /// How many turns there are at most: the longest arm is through by then.
 const TURNS: u32 = 1024;
 
+/// How many steps a wave goes at least, so that another is tried at once.
+const FAR: u32 = 256;
+
+/// How many turns pass else before another is tried.
+const WAIT: u32 = 8;
+
 /// A label at a branch, whose arms are walked.
 #[derive(Clone, Copy)]
 pub struct Job {
@@ -30,9 +37,9 @@ pub struct Job {
     /// What is told so far.
     pub tally: Tally,
     /// Where the walk stands.
-    place: Place,
+    pub place: Place,
     /// How many steps it has left.
-    left: u32,
+    pub left: u32,
     /// The cycles of the first arm.
     first_time: u32,
 }
@@ -277,6 +284,33 @@ fn turn(
     moved
 }
 
+/// Tries a wave where no more turns are to pass before, and tells how many are to pass then.
+fn try_wave(
+    module: &Module,
+    text: &[u8],
+    table: &[Entry],
+    entries: Option<u16>,
+    crossing: &Crossing,
+    jobs: &mut [Job],
+    wait: u32,
+) -> u32
+    requires table { IsTable module.now text.now table.now }
+    requires short { All IsShort jobs.old }
+    ensures short { All IsShort jobs.new }
+    ensures first { IsStub module.now text.now entries → (pc : ℕ) →
+        All (IsFirst module.now text.now crossing.now pc) jobs.old →
+        All (IsFirst module.now text.now crossing.now pc) jobs.new }
+    ensures second { IsStub module.now text.now entries → (pc : ℕ) →
+        All (IsSecond module.now text.now crossing.now pc) jobs.old →
+        All (IsSecond module.now text.now crossing.now pc) jobs.new }
+{
+    if wait > 0 {
+        return wait - 1;
+    }
+    let went = go_abreast(module, text, table, entries, crossing, jobs);
+    if went < FAR { WAIT } else { 0 }
+}
+
 /// Lets the jobs go on in turns, as far as they go.
 fn take_turns(
     module: &Module,
@@ -297,7 +331,9 @@ fn take_turns(
         All (IsSecond module.now text.now crossing.now pc) jobs.old →
         All (IsSecond module.now text.now crossing.now pc) jobs.new }
 {
+    let mut wait: u32 = 0;
     for _ in 0..TURNS {
+        wait = try_wave(module, text, table, entries, crossing, jobs, wait);
         if !turn(module, text, table, entries, crossing, jobs) {
             return;
         }

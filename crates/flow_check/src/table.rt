@@ -111,7 +111,7 @@ fn is_other(reg: u8) -> bool
 }
 
 /// Whether PC is no part of a source but where it is the register itself, and the increment leaves the flags as they are.
-fn is_apart(src: Operand) -> bool
+pub fn is_apart(src: Operand) -> bool
     ensures { result ≡ is_apart src }
 {
     match src {

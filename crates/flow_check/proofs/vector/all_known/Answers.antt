@@ -1,0 +1,5 @@
+use Rattle.flow_check.proofs.Vectors.{one_more_known}
+use Rattle.flow_check.proofs.vector.all_known.Goals as goal
+
+pub loop-k-preserved : goal.loop-k-preserved
+loop-k-preserved c = one_more_known c.loop-k.k c.args.vector.now c.loop-k.other c.loop-k.invariant
