@@ -1,5 +1,4 @@
-//! What pairs want to know of a branch's arms is learned together: in a round that of the next ones, where one passage
-//! serves few.
+//! What pairs want to know of a branch's arms is learned together: in a round that of the next ones.
 
 ghost use Rattle.std.specs.Prelude.{◌≡◌, ◌≤◌, ℕ, List, All, IfSome, IfOk};
 ghost use Rattle.mod_layout.specs.declared.Module.{Module};
@@ -12,7 +11,7 @@ ghost use Rattle.flow_check.specs.Tables.{IsTable};
 
 use crate::arms::{Crossing, crossing_of};
 use crate::jobs::{Job, walk_arms_all};
-use crate::passages::{Ahead, Passages, Under, is_in_vain};
+use crate::passages::{Ahead, MOST_AHEAD, Passages, Under, is_in_vain};
 use crate::registers::get;
 use crate::rounds::{Changed, Labelling};
 use crate::table::{Entry, met_of};
@@ -30,14 +29,12 @@ const REACH: usize = 128;
 fn gather_one(
     crossing: &Crossing,
     pc: u16,
-    passages: &mut Passages,
+    passages: &Passages,
     all: &Labelling,
     changed: &Changed,
     labels: &mut Vec<Label>,
     wanted: &mut Vec<Ahead>,
-) -> Result<(), AllocError>
-    ensures { passages.new.list ≡ passages.old.list }
-{
+) -> Result<(), AllocError> {
     let label = &changed.label;
     if changed.pair.addr != pc || !is_secret(get(&label.core, SR)) {
         return Ok(());
@@ -56,21 +53,18 @@ fn gather_one(
     Ok(())
 }
 
-/// Notes the pairs among these that want to know more of this branch, up to so many.
+/// Notes the pairs among these that want to know more of this branch, up to MOST_AHEAD.
 fn gather(
     crossing: &Crossing,
     pc: u16,
-    passages: &mut Passages,
+    passages: &Passages,
     all: &Labelling,
     front: &[Changed],
-    most: usize,
     labels: &mut Vec<Label>,
     wanted: &mut Vec<Ahead>,
-) -> Result<(), AllocError>
-    ensures { passages.new.list ≡ passages.old.list }
-{
+) -> Result<(), AllocError> {
     for changed in front {
-        if labels.len() >= most {
+        if labels.len() >= MOST_AHEAD {
             return Ok(());
         }
         gather_one(crossing, pc, passages, all, changed, labels, wanted)?;
@@ -244,7 +238,7 @@ fn next_of(front: &[Changed], k: usize) -> &[Changed] {
     }
 }
 
-/// Learns what the k-th pair and the next ones want to know of a branch's arms, up to so many.
+/// Learns what the k-th pair and the next ones want to know of a branch's arms.
 #[tactic(auto, using(crate::proofs::Foretold::onward_own))]
 fn learn_next(
     module: &Module,
@@ -256,7 +250,6 @@ fn learn_next(
     passages: &mut Passages,
     all: &mut Labelling,
     front: &[Changed],
-    most: usize,
 ) -> Result<(), AllocError>
     requires few { IfSome entries (λ n. n ≤ 64) }
     requires table { IsTable module.now text.now table.now }
@@ -269,20 +262,11 @@ fn learn_next(
     ensures passages { IfOk result (λ _. IsStub module.now text.now entries →
         All (IsPassage module.now text.now) passages.new.list.items) }
 {
-    let mut labels = Vec::with_capacity(passages.alloc(), most)?;
-    let mut wanted = Vec::with_capacity(passages.alloc(), most)?;
-    gather(
-        crossing,
-        pc,
-        passages,
-        all,
-        front,
-        most,
-        &mut labels,
-        &mut wanted,
-    )?;
-    let mut jobs = Vec::with_capacity(passages.alloc(), most)?;
-    let mut ahead = Vec::with_capacity(passages.alloc(), most)?;
+    let mut labels = Vec::with_capacity(passages.alloc(), MOST_AHEAD)?;
+    let mut wanted = Vec::with_capacity(passages.alloc(), MOST_AHEAD)?;
+    gather(crossing, pc, passages, all, front, &mut labels, &mut wanted)?;
+    let mut jobs = Vec::with_capacity(passages.alloc(), MOST_AHEAD)?;
+    let mut ahead = Vec::with_capacity(passages.alloc(), MOST_AHEAD)?;
     passages.want_all(
         module,
         text,
@@ -314,7 +298,8 @@ fn learn_next(
     )
 }
 
-/// Learns together what the k-th pair of a round and the next ones want to know of a branch's arms, where that pays.
+/// Learns together what the k-th pair of a round and the next ones want to know of a branch's arms: to walk for many
+/// takes no longer than for one.
 #[tactic(auto, using(crate::proofs::Foretold::onward_own))]
 pub fn foresee(
     module: &Module,
@@ -339,10 +324,6 @@ pub fn foresee(
     ensures passages { IfOk result (λ _. IsStub module.now text.now entries →
         All (IsPassage module.now text.now) passages.new.list.items) }
 {
-    let most = passages.ahead();
-    if most < 2 {
-        return Ok(());
-    }
     let Some(changed) = front.get(k) else {
         return Ok(());
     };
@@ -368,6 +349,5 @@ pub fn foresee(
         passages,
         all,
         next_of(front, k),
-        most,
     )
 }

@@ -86,8 +86,6 @@ pub struct Passages {
     list: Vec<Passage>,
     /// Where the newest passage of the branches with this number is.
     newest: [usize; 256],
-    /// How many were learned since one served another pair than its own, up to MOST_AHEAD.
-    streak: usize,
     /// How many of the last ones in a row are shut, up to MOST_AHEAD.
     shut: usize,
     /// What goes before the walks.
@@ -296,38 +294,6 @@ fn told_by(alloc: Global, crossing: &Crossing, pc: u16, job: &Job) -> Result<Pas
     })
 }
 
-/// Walks the arms of a branch under a label that absorbs this one and has as little in it as they seem to need, and
-/// under this label where that has a cause.
-fn learned(
-    alloc: Global,
-    module: &Module,
-    text: &[u8],
-    table: &[Entry],
-    entries: Option<u16>,
-    crossing: &Crossing,
-    scout: &mut Scout,
-    pc: u16,
-    label: &Label,
-    returns: &Returns,
-) -> Result<Passage, AllocError>
-    requires few { IfSome entries (λ n. n ≤ 64) }
-    requires table { IsTable module.now text.now table.now }
-    ensures { IfOk result (λ p. IsStub module.now text.now entries → IsPassage module.now text.now p) }
-{
-    if let Some((past, taken)) = scout.needs(module, text, table, entries, crossing, pc, label) {
-        let top = past.or(&taken).least(label);
-        let passage = walked(
-            alloc, module, text, table, entries, crossing, pc, &top, returns,
-        )?;
-        if is_open(&passage) {
-            return Ok(passage);
-        }
-    }
-    walked(
-        alloc, module, text, table, entries, crossing, pc, label, returns,
-    )
-}
-
 impl Passages {
     /// No passage.
     pub fn new(alloc: Global) -> Passages
@@ -337,7 +303,6 @@ impl Passages {
             alloc,
             list: Vec::new(alloc),
             newest: [0; 256],
-            streak: 0,
             shut: 0,
             scout: Scout::new(alloc),
         }
@@ -459,7 +424,6 @@ impl Passages {
             All (IsPassage m text) self.old.list.items → All (IsPassage m text) self.new.list.items) }
     {
         let branch = passage.branch;
-        self.streak = one_more(self.streak);
         self.shut = if is_open(&passage) {
             0
         } else {
@@ -489,13 +453,13 @@ impl Passages {
     /// Whether a branch has no cause under its label. Where it has none, its arms then write, and it is told at which
     /// places.
     pub fn cross(
-        &mut self,
+        &self,
         module: &Module,
         text: &[u8],
         table: &[Entry],
         entries: Option<u16>,
         crossing: &Crossing,
-        own: &mut Option<usize>,
+        own: Option<usize>,
         pc: u16,
         label: &mut Label,
         returns: &Returns,
@@ -504,8 +468,7 @@ impl Passages {
         requires few { IfSome entries (λ n. n ≤ 64) }
         requires table { IsTable module.now text.now table.now }
         requires passages { IsStub module.now text.now entries →
-            All (IsPassage module.now text.now) self.old.list.items }
-        requires unwritten { numbers_of written.old ≡ [] }
+            All (IsPassage module.now text.now) self.now.list.items }
         ensures open { IfOk result (λ outcome. outcome ≡ Outcome.Open → IsStub module.now text.now entries →
             (returns : List ℕ) → OpensTo module.now text.now crossing.now
             (branch_from pc returns label.old) label.new) }
@@ -514,43 +477,18 @@ impl Passages {
             (branch_from pc returns label.old)).reasons ≢ []) }
         ensures frame { IfOk result (λ outcome. outcome ≡ Outcome.Open →
             AlikeBut (numbers_of written.new) label.old.words label.new.words) }
-        ensures passages { IfOk result (λ _. IsStub module.now text.now entries →
-            All (IsPassage module.now text.now) self.new.list.items) }
     {
-        if let Some(outcome) = self.known(*own, crossing, pc, label, written) {
-            return Ok(outcome);
+        match self.known(own, crossing, pc, label, written) {
+            Some(outcome) => Ok(outcome),
+            None => crossed(
+                self.alloc, module, text, table, entries, crossing, pc, label, returns, written,
+            ),
         }
-        let passage = learned(
-            self.alloc,
-            module,
-            text,
-            table,
-            entries,
-            crossing,
-            &mut self.scout,
-            pc,
-            label,
-            returns,
-        )?;
-        let place = self.keep(*own, passage)?;
-        *own = Some(place);
-        if let Some(outcome) = self.answer(place, crossing, pc, label, written) {
-            return Ok(outcome);
-        }
-        let outcome = crossed(
-            self.alloc, module, text, table, entries, crossing, pc, label, returns, written,
-        )?;
-        Ok(outcome)
     }
 
     /// What keeps the pairs that are learned together.
     pub fn alloc(&self) -> Global {
         self.alloc
-    }
-
-    /// How many pairs may be learned together: the more, the longer no passage served another pair than its own.
-    pub fn ahead(&self) -> usize {
-        one_more(self.streak)
     }
 
     /// Whether the passage there says something of a branch under a label.
@@ -564,11 +502,8 @@ impl Passages {
         }
     }
 
-    /// Whether nothing is known of a branch under a label. Where its newest passage serves, that may serve more. A pair
-    /// that had a cause has one for good.
-    pub fn asks(&mut self, own: Option<usize>, crossing: &Crossing, pc: u16, label: &Label) -> bool
-        ensures { self.new.list ≡ self.old.list }
-    {
+    /// Whether nothing is known of a branch under a label. A pair that had a cause has one for good.
+    pub fn asks(&self, own: Option<usize>, crossing: &Crossing, pc: u16, label: &Label) -> bool {
         if self.is_shut(own) {
             return false;
         }
@@ -577,11 +512,7 @@ impl Passages {
         {
             return false;
         }
-        if self.says(self.newest_of(pc), crossing, pc, label) {
-            self.streak = 0;
-            return false;
-        }
-        true
+        !self.says(self.newest_of(pc), crossing, pc, label)
     }
 
     /// Scouts the arms of a branch under these labels, and tells how many were scouted: one where that has a cause, as

@@ -142,19 +142,4 @@ impl Scout {
             Told::Many => self.many.get(0)?.needs(k),
         }
     }
-
-    /// The same of one label.
-    pub fn needs(
-        &mut self,
-        module: &Module,
-        text: &[u8],
-        table: &[Entry],
-        entries: Option<u16>,
-        crossing: &Crossing,
-        pc: u16,
-        label: &Label,
-    ) -> Option<(Needs, Needs)> {
-        self.scout(module, text, table, entries, crossing, pc, &[*label]);
-        self.needs_of(0)
-    }
 }

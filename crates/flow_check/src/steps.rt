@@ -31,8 +31,8 @@ pub fn step_with(
     table: &[Entry],
     entries: Option<u16>,
     arms: &[Arm],
-    passages: &mut Passages,
-    own: &mut Option<usize>,
+    passages: &Passages,
+    own: Option<usize>,
     pc: u16,
     label: &mut Label,
     stepped: &mut Stepped,
@@ -41,7 +41,7 @@ pub fn step_with(
     requires table { IsTable module.now text.now table.now }
     requires rise { BranchesRise arms.now }
     requires passages { IsStub module.now text.now entries →
-        All (IsPassage module.now text.now) passages.old.list.items }
+        All (IsPassage module.now text.now) passages.now.list.items }
     requires none { array_vec_len stepped.old.targets ≡ 0 }
     requires empty { stepped.old.targets.items ≡ [] }
     requires calm { stepped.old.least ≡ None }
@@ -59,8 +59,6 @@ pub fn step_with(
         (point_of pc stepped.old.returns label.old)) stepped.new.returns label.new) }
     ensures frame { IfOk result (λ _. stepped.new.least ≡ None →
         AlikeBut (numbers_of stepped.new.written) label.old.words label.new.words) }
-    ensures passages { IfOk result (λ _. IsStub module.now text.now entries →
-        All (IsPassage module.now text.now) passages.new.list.items) }
 {
     let insn = met_of(module, text, table, pc);
     match crossing_of(module, text, &insn, arms, pc, label) {

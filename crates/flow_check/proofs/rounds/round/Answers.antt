@@ -26,7 +26,7 @@ loop-k-preserved c =
       e.alike,
       e.marked,
       e.kept (points_of first.pairs.items first.labels.items) (kept_same h.all mid (points_of first.pairs.items first.labels.items) f.pairs f.labels f.marks h.invariant.4),
-      e.passages,
+      c.in_ok-foresee.ensures.passages,
       e.linked,
       all_wait h.all.hints.items new.hints.items h.all.labels.items new.labels.items c.args.front.now.items (λ x w. e.waits x (f.onward.waits x w)) h.invariant.7,
       rest_same h.front.items c.args.front.now.items h.k c.give.new.changed h.invariant.8,
