@@ -11,13 +11,19 @@ use Rattle.flow_rule.specs.Does.{word_no}
 use Rattle.flow_rule.specs.declared.Val.TheVariants.{Known}
 use Rattle.flow_check.specs.declared.vector.Vector.{Vector}
 use Rattle.flow_check.specs.Vectors.{cell}
-use Rattle.flow_check.specs.Waves.{IsOpen, IsSpot, AllSpots}
+use Rattle.flow_check.specs.Waves.{IsInText, IsOpen, IsSpot, AllSpots}
 
 pub open_by : (m : Module) (a : ℕ) (w : Width) → m.ram.start ≤ a → a < m.ram.end → (nat_le m.text.start a && nat_lt a m.text.end) ≡ false → misaligned w a ≡ false → IsOpen m w a
 open_by m a w low high apart even =
     let l : nat_le m.ram.start a ≡ true = grind (arith, nat_tests) in
     let h : nat_lt a m.ram.end ≡ true = grind (arith, nat_tests) in
     record { above = low; apart = apart; write = ap (λ b. not b && holds m.ram a) even ∙ ap (λ b. b && nat_lt a m.ram.end) l ∙ h }
+
+pub text_by : (m : Module) (a : ℕ) (w : Width) → m.text.start ≤ a → a < m.text.end → misaligned w a ≡ false → IsInText m w a
+text_by m a w low high even =
+    let l : nat_le m.text.start a ≡ true = grind (arith, nat_tests) in
+    let h : nat_lt a m.text.end ≡ true = grind (arith, nat_tests) in
+    record { inside = ap (λ b. b && nat_lt a m.text.end) l ∙ h; aligned = even }
 
 pub open_spot : (m : Module) (a n : ℕ) (w : Width) → IsOpen m w a → n ≡ word_no m a → IsSpot m w a n
 open_spot m a n w is e = record { number = e; apart = is.apart; write = is.write }

@@ -7,6 +7,7 @@ use Rattle.insn_decode.specs.declared.insn.Operand.{Operand}
 use Rattle.insn_decode.specs.declared.insn.Operand.TheVariants.{Indirect}
 use Rattle.mod_layout.specs.declared.Module.{Module}
 use Rattle.mod_layout.specs.Table.{holds}
+use Rattle.pc_access.specs.Rights.{misaligned}
 use Rattle.pc_access.specs.declared.Kind.TheVariants.{Write}
 use Rattle.flow_rule.specs.declared.Val.{Val}
 use Rattle.flow_rule.specs.declared.Val.TheVariants.{Known, Secret}
@@ -56,6 +57,11 @@ pub record IsOpen (m : Module) (w : Width) (a : ℕ) : Type 0 where
   pub above : m.ram.start ≤ a
   pub apart : holds m.text a ≡ false
   pub write : may_reach m Write w a ≡ true
+
+-- an address of the text at which a value of this width is read
+pub record IsInText (m : Module) (w : Width) (a : ℕ) : Type 0 where
+  pub inside : holds m.text a ≡ true
+  pub aligned : misaligned w a ≡ false
 
 -- each lane of a vector has an address of a word that may be written and is no part of the text, and the word has this number
 abbrev pub AllSpots : Module → Width → Vector → List ℕ → Type 0

@@ -2,6 +2,7 @@
 
 ghost use Rattle.std.specs.Prelude.{◌≡◌, ◌≢◌, ◌<◌, ◌≤◌, ◌%◌, ◌-◌, ◌/◌, ℕ, List, Some, true, false, length, IfSome, slice_set};
 ghost use Rattle.sm_words.specs.Words.{nth};
+ghost use Rattle.mod_layout.specs.Table.{holds};
 ghost use Rattle.pc_access.specs.Rights.{misaligned};
 ghost use Rattle.flow_rule.specs.declared.Val.{Val};
 ghost use Rattle.flow_rule.specs.Values.{val};
@@ -10,7 +11,7 @@ ghost use Rattle.flow_check.specs.Gliding.{IsWordThere, moved_on};
 ghost use Rattle.flow_check.specs.GlidingTwo.{destination_place, old_near, put_near};
 ghost use Rattle.flow_check.specs.Tables.{is_other};
 ghost use Rattle.flow_check.specs.Vectors.{cell, column};
-ghost use Rattle.flow_check.specs.Waves.{is_served, IsOpen, IsSpot, AllSpots, AllThere, AllPlaces, struck};
+ghost use Rattle.flow_check.specs.Waves.{is_served, IsInText, IsOpen, IsSpot, AllSpots, AllThere, AllPlaces, struck};
 
 use crate::reach::{extension, second};
 use crate::rows::LANES;
@@ -368,20 +369,52 @@ pub fn strike(told: &mut Strikes, numbers: &[u16; LANES])
     }
 }
 
+/// Whether an address is none of the text, or no word is read there.
+#[tactic(auto, using(crate::proofs::Strays::text_by))]
+#[inline(always)]
+fn is_outside(module: &Module, width: Width, addr: u16) -> bool
+    ensures { result ≡ false → IsInText module.now width addr }
+{
+    (addr < module.text.start) | (module.text.end <= addr) | is_misaligned(width, addr)
+}
+
+/// Whether any of these addresses is such a one.
+#[tactic(auto, using(crate::proofs::Strays::no_more, crate::proofs::Strays::still_small))]
+#[inline(always)]
+fn any_outside(module: &Module, width: Width, addrs: &[u16; LANES]) -> bool
+    ensures { result ≡ false → (k : ℕ) → k < 16 → IsInText module.now width (nth k addrs.now 0) }
+{
+    let mut found: u16 = 0;
+    for k in 0..LANES {
+        found |= u16::from(is_outside(module, width, addrs[k]));
+    }
+    found != 0
+}
+
+/// The number of what stands at such an address.
+#[inline(always)]
+fn text_number(module: &Module, text: &[u8], width: Width, addr: u16) -> u16
+    requires inside { holds module.now.text addr ≡ true }
+    requires aligned { misaligned width addr ≡ false }
+    ensures { (words : List Val) →
+        IsWordThere module.now text.now width (Val.Known addr) words (Val.Known result) }
+{
+    match width {
+        Width::Word => word(module.text, text, usize::from(addr)),
+        Width::Byte => byte(module.text, text, usize::from(addr)),
+    }
+}
+
 /// The number of what stands at an address of the text.
 #[inline(always)]
 fn text_there(module: &Module, text: &[u8], width: Width, addr: u16) -> Option<u16>
     ensures { IfSome result (λ n. (words : List Val) →
         IsWordThere module.now text.now width (Val.Known addr) words (Val.Known n)) }
 {
-    let here = usize::from(addr);
-    if !module.text.holds(here) || is_misaligned(width, addr) {
+    if !module.text.holds(usize::from(addr)) || is_misaligned(width, addr) {
         return None;
     }
-    match width {
-        Width::Word => Some(word(module.text, text, here)),
-        Width::Byte => Some(byte(module.text, text, here)),
-    }
+    Some(text_number(module, text, width, addr))
 }
 
 /// What stands at an address of the data in one lane, where it may be read.
@@ -457,9 +490,12 @@ fn each_text(
     ensures { IfSome result (AllThere module.now text.now width addrs.now words.now) }
 {
     let _ = words;
+    if any_outside(module, width, &addrs.numbers) {
+        return None;
+    }
     let mut numbers = addrs.numbers;
     for k in 0..LANES {
-        numbers[k] = text_there(module, text, width, addrs.numbers[k])?;
+        numbers[k] = text_number(module, text, width, addrs.numbers[k]);
     }
     Some(numbered(&numbers))
 }

@@ -11,8 +11,13 @@ loop-k-preserved c =
     let old = c.loop-k.invariant in
     record {
       many = omega (arith, length-set {A = ℕ});
-      done = texts_more c.args.module.now c.args.text.now c.args.width c.args.addrs.now.numbers c.loop-k.numbers c.loop-k.k c.in_ok-numbers.field-0 (omega arith) old.done c.in_ok-numbers.ensures;
+      done = texts_more c.args.module.now c.args.text.now c.args.width c.args.addrs.now.numbers c.loop-k.numbers c.loop-k.k c.text_number.result (omega arith) old.done c.text_number.ensures;
     }
+
+pub text_number-requires : goal.text_number-requires
+text_number-requires c =
+    let is = c.any_outside.ensures c.if-any_outside.false c.loop-k.k (omega arith) in
+    record { inside = is.inside; aligned = is.aligned }
 
 pub returns : goal.returns
 returns c = λ k lt.
