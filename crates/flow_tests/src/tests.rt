@@ -1,7 +1,7 @@
 //! Worked verdicts.
 
-use crate::{Reason, Verdict, check, check_with};
 use arm_balance::read_arms;
+use flow_check::{Reason, Verdict, check, check_with};
 use mod_layout::{Module, Section};
 use std::alloc::Global;
 use std::process::Abort;

@@ -1,7 +1,7 @@
 //! The reason that a verdict names: that of the lowest address, there the lowest, and there the lowest value.
 
 use super::{no, verdict, verdict_at};
-use crate::{Reason, Verdict};
+use flow_check::{Reason, Verdict};
 use std::test::Fail;
 
 /// A text, and what is named of it.

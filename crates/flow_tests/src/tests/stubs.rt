@@ -1,7 +1,7 @@
 //! Texts that begin with a stub, and some that nearly do.
 
 use super::{no, verdict_at};
-use crate::{Reason, Verdict};
+use flow_check::{Reason, Verdict};
 use std::alloc::Global;
 use std::process::Abort;
 use std::test::Fail;

@@ -1,7 +1,7 @@
 //! A branch that is met several times.
 
 use super::{no, verdict_at};
-use crate::{Reason, Verdict};
+use flow_check::{Reason, Verdict};
 use std::test::Fail;
 
 // The words at 0x0404 and 0x0406 are set to 7, and a routine with a branch on the data's first word is called with R4

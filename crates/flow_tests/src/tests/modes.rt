@@ -2,7 +2,7 @@
 
 use super::stubs::STUB;
 use super::{no, verdict_at};
-use crate::{Reason, Verdict};
+use flow_check::{Reason, Verdict};
 use flow_rule::Val;
 use std::alloc::Global;
 use std::process::Abort;

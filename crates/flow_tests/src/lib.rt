@@ -1,0 +1,5 @@
+//! Tests of the checker: worked verdicts.
+#![tactic(auto)]
+
+#[cfg(test)]
+mod tests;
