@@ -144,12 +144,13 @@ def rising(data, count):
     return before, b"".join(words(0x4292, data + 2 * k, data + 2 * k + 2) for k in range(count - 2, -1, -1)) + words(0x5392, data)
 
 
-def balance_of_addresses_that_rises(count, insn, cycles):
-    """As `balance_of_addresses` with so many instructions, each of these words, in a loop in which so many other data words rise one a turn, each twice. R4 is the address of a word that does not."""
+def balance_of_addresses_that_rises(count, insn, cycles, first=()):
+    """As `balance_of_addresses` with so many instructions, each of these words, in a loop in which so many other data words rise one a turn, each twice. R4 is the address of a word that does not.
+    The arms begin with these words, which take a cycle each."""
     data = 0xF000
     before, again = rising_twice(data, RISING)
-    arm = words(0x4125, 0x4116, 2, 0x5605) + words(*insn) * count + words(0xF035, 0x00FE, 0x5035, data, 0x4527, 0x4305, 0x4307)
-    return met_often(0x0300, data, arm, 2 + 3 + 1 + cycles * count + 2 + 2 + 2 + 1 + 1, words(0x4034, data + 0x1F8, 0x4384, 0) + before, again)
+    arm = words(0x4125, 0x4116, 2, 0x5605, *first) + words(*insn) * count + words(0xF035, 0x00FE, 0x5035, data, 0x4527, 0x4305, 0x4307)
+    return met_often(0x0300, data, arm, 2 + 3 + 1 + len(first) + cycles * count + 2 + 2 + 2 + 1 + 1, words(0x4034, data + 0x1F8, 0x4384, 0) + before, again)
 
 
 def balance_of_two(count, insn, cycles, shuts, address=None):
@@ -265,6 +266,17 @@ def cases(folder):
             walked, arm = balance_of_two(count, insn, cycles, shuts, address)
             told = f"balance, two branches with arms of {count:,} {name} met 2,601 times{which}, data that rise one a turn, each twice"
             yield told, ["balance", file(f"walked_past_{name}_{shuts}", walked), "1", file(f"arm_past_{name}_{shuts}", arm)]
+    # R10 becomes an address past the words of the data, and R11 one of the text.
+    past, text = [0x403A, 0xF300], [0x403B, 0x0320]
+    for name, insn, cycles, count, first in (
+        ("decimal sums of the text", [0xAB28], 2, 26_880, text),
+        ("decimal sums", [0xA908], 1, 26_880, [0x4038, 0x1234, 0x4039, 0x1234]),
+        ("byte shifts past the words of the data, by an address that rises and falls", [0x117A, 0x831A], 4, 13_000, past),
+        ("sums of PC in memory", [0x5084, 0], 4, 13_000, []),
+    ):
+        walked, arm = balance_of_addresses_that_rises(count, insn, cycles, first)
+        told = f"balance, arms of {count:,} {name} met 5,184 times, a last address that hangs on each, data that rise one a turn, each twice"
+        yield told, ["balance", file(f"walked_one_{name}", walked), "1", file(f"arm_one_{name}", arm)]
     registers = [(reg, 0, 1) for reg in range(8, 16)]
     for name, sources in (("registers", registers), ("reads", [(4, 2, 2)]), ("registers, reads and constants", registers + [(4, 2, 2)] * 8 + [(3, mode, 1) for mode in range(4)])):
         insn, cycles = mixed(26_900, sources)
