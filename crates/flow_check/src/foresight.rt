@@ -298,8 +298,8 @@ fn learn_next(
     )
 }
 
-/// Learns together what the k-th pair of a round and the next ones want to know of a branch's arms: to walk for many
-/// takes no longer than for one.
+/// Learns together what the k-th pair of a round and the next ones want to know of a branch's arms: up to sixteen
+/// that go side by side take about what two take alone.
 #[tactic(auto, using(crate::proofs::Foretold::onward_own))]
 pub fn foresee(
     module: &Module,
