@@ -185,6 +185,63 @@ def balance_of_two(count, insn, cycles, shuts, address=None):
     return image_with(code, text, module), f"{first:04x} {join:04x} {time}\n{second:04x} {join:04x} {time}\n"
 
 
+# What makes R7 2 in the first arm of a branch and 4 in the second, which meet behind that, so that R7 says in which they are.
+APART = (0x4327, 0x3C02, 0x4227, 0x3C00)
+
+
+def own_address(base):
+    """What makes R5 an address that hangs on the return address, and on the arm."""
+    return words(0x4125, 0xF035, 0x00FE, 0x5035, base, 0x5705)
+
+
+def last_address(data, more=b""):
+    """What makes the last address of an arm hang on the return addresses, and on what these words add to R5, and then clears what it used."""
+    return words(0x4125, 0x4116, 2, 0x5605) + more + words(0xF035, 0x00FE, 0x5035, data, 0x4527, 0x4305, 0x4307)
+
+
+def balance_of_arms_apart(count, insn, cycles, base):
+    """As `balance_of_addresses_that_rises` with instructions whose addresses are each list's own, and each arm's."""
+    text, data = 0x0300, 0xF000
+    before, again = rising_twice(data, RISING)
+    before = words(0x4034, data + 0x1F8, 0x4384, 0) + before
+    arm = own_address(base) + words(*insn) * count + last_address(data)
+    head = words(0x4031, data + 0x200) + before + again + words(0x9382, data + 0x200)
+    inner = text + len(head) + 4 * CALLS + 4
+    branch = inner + 4 * CALLS + 2
+    code = head + words(0x12B0, inner) * CALLS + words(0x4030, text + 4 + len(before))
+    code += words(0x12B0, branch) * CALLS + words(0x4130, 0x2402, *APART) + arm + words(0x4130)
+    module = f"module 0007 {text:04x} {text + len(code):04x} {data:04x} {data + 0x400:04x}\n"
+    return image_with(code, text, module), f"{branch:04x} {branch + 10 + len(arm):04x} {3 + 7 + cycles * count + 14}\n"
+
+
+def balance_of_two_apart(count, insn, cycles, base, shuts):
+    """As `balance_of_two` with such instructions."""
+    text, data = 0x0300, 0xF000
+    public, wanted, other = data + 0x1F0, data + 0x1F2, data + 0x1F4
+    before, again = rising_twice(data, RISING)
+    arm = words(0x4034, data + 0x1F8, 0x4384, 0) + own_address(base) + words(*insn) * count
+    arm += last_address(data, words(0x5215, wanted) if shuts else b"")
+    if shuts:
+        again += words(0x5292, other, wanted, 0x5392, other)
+    time = 3 + 6 + 7 + cycles * count + 3 * shuts + 14
+
+    def row(routine):
+        return words(0x9382, public) + words(0x2002, 0x12B0, routine) * ROWS
+
+    head = words(0x4031, data + 0x200, 0x4382, public, 0x4382, wanted, 0x4382, other) + before
+    loop = text + len(head)
+    again += words(0x4030, loop)
+    inner = loop + len(row(0)) + len(again)
+    last = inner + len(row(0)) + 2
+    first, second = last + 4, last + 14
+    join = second + 10 + len(arm)
+    code = head + row(inner) + again + row(last) + words(0x4130, 0x9382, data + SECRET)
+    # the first branch's arms jump past the second branch
+    code += words(0x2402, 0x4327, 0x3C07, 0x4227, 0x3C05, 0x2402, *APART) + arm + words(0x4030, second)
+    module = f"module 0007 {text:04x} {text + len(code):04x} {data:04x} {data + 0x400:04x}\n"
+    return image_with(code, text, module), f"{first:04x} {join:04x} {time}\n{second:04x} {join:04x} {time}\n"
+
+
 def mixed(count, sources):
     """Instructions of format I into R8 to R15, of words and of bytes, in an order that is random and the same each time, so that the host foresees no jump; and their
     cycles. A source is a register, its mode and its cycles; there are so many instructions, or as many as an arm has time for."""
@@ -297,6 +354,32 @@ def cases(folder):
             walked, arm = balance_of_two(1, own + insn * count, 6 + cycles * count, shuts)
             told = f"balance, two branches with arms of {count:,} {name} at addresses of each list's own met 2,601 times{which}, data that rise one a turn, each twice"
             yield told, ["balance", file(f"walked_own_{name}_{shuts}", walked), "1", file(f"arm_own_{name}_{shuts}", arm)]
+    for name, base, insn, cycles, count in (
+        ("reads", 0xF000, [0x5528], 2, 26_860),
+        ("byte reads", 0xF000, [0x5568], 2, 26_860),
+        ("sums in memory", 0xF000, [0x5885, 0], 4, 12_500),
+        ("sums of words in memory", 0xF000, [0x55A5, 0], 5, 12_500),
+        ("reads of the text", 0x0400, [0x5528], 2, 26_860),
+        ("decimal sums of the text", 0x0400, [0xA528], 2, 26_860),
+        ("byte shifts past the words of the data", 0xF200, [0x1165], 3, 20_900),
+    ):
+        own = f"{count:,} {name} at addresses of each list's and each arm's own"
+        walked, arm = balance_of_arms_apart(count, insn, cycles, base)
+        told = f"balance, arms of {own} met 5,184 times, data that rise one a turn, each twice"
+        yield told, ["balance", file(f"walked_apart_{name}", walked), "1", file(f"arm_apart_{name}", arm)]
+        for shuts, which in ((False, ""), (True, ", which get a cause")):
+            walked, arm = balance_of_two_apart(count, insn, cycles, base, shuts)
+            told = f"balance, two branches with arms of {own} met 2,601 times{which}, data that rise one a turn, each twice"
+            yield told, ["balance", file(f"walked_apart_{name}_{shuts}", walked), "1", file(f"arm_apart_{name}_{shuts}", arm)]
+    insn, cycles = mixed(26_850, [(5, 2, 2)])
+    own = f"{len(insn):,} mixed reads at addresses of each list's and each arm's own"
+    walked, arm = balance_of_arms_apart(1, insn, cycles, 0xF000)
+    told = f"balance, arms of {own} met 5,184 times, data that rise one a turn, each twice"
+    yield told, ["balance", file("walked_apart_mixed", walked), "1", file("arm_apart_mixed", arm)]
+    for shuts, which in ((False, ""), (True, ", which get a cause")):
+        walked, arm = balance_of_two_apart(1, insn, cycles, 0xF000, shuts)
+        told = f"balance, two branches with arms of {own} met 2,601 times{which}, data that rise one a turn, each twice"
+        yield told, ["balance", file(f"walked_apart_mixed_{shuts}", walked), "1", file(f"arm_apart_mixed_{shuts}", arm)]
     for name, insn, cycles, count in (
         ("decimal sums", [0xA908] * 26_900, 26_900, 26_900),
         ("SXT", [0x1188] * 26_900, 26_900, 26_900),

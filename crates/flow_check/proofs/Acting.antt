@@ -1,5 +1,5 @@
 -- An instruction of an arm, without lists.
-use Rattle.std.proofs.Common.{◌≡◌, ℕ, ◌*◌, List, [], ◌∷◌, ◌++◌, map, refl, sym, ap, ◌∙◌, subst, Bool, true, false, cond, nat_lt, ◌==◌, ◌&&◌, not, Option, Some, None}
+use Rattle.std.proofs.Common.{◌≡◌, ℕ, ◌*◌, List, [], ◌∷◌, ◌++◌, map, refl, sym, ap, ◌∙◌, subst, Bool, true, false, cond, ◌==◌, ◌&&◌, not, Option, Some, None}
 use Rattle.std.specs.Prelude.{ℤ}
 use Rattle.sm_words.specs.Words.{add16, nth}
 use Rattle.sm_words.specs.declared.width.Width.{Width}
@@ -17,10 +17,8 @@ use Rattle.pc_access.specs.declared.Kind.{Kind}
 use Rattle.pc_access.specs.declared.Kind.TheVariants.{Read, Write}
 use Rattle.cpu_step.specs.Plan.{reads_dst, writes_dst}
 use Rattle.mod_layout.specs.declared.Module.{Module}
-use Rattle.mod_layout.specs.declared.Section.{Section}
-use Rattle.mod_layout.specs.Table.{holds}
 use Rattle.arm_balance.specs.Met.{met}
-use Rattle.arm_balance.specs.Balance.{next_if, arm_next, arm_on}
+use Rattle.arm_balance.specs.Balance.{next_if, arm_next}
 use Rattle.flow_rule.specs.declared.Val.{Val}
 use Rattle.flow_rule.specs.declared.Val.TheVariants.{Known, Secret}
 use Rattle.flow_rule.specs.declared.Label.{Label}
@@ -37,8 +35,6 @@ use Rattle.flow_rule.specs.Steps.{goes_unless, step_plain, step_jump, step_insn,
 use Rattle.flow_rule.specs.Stub.{word_number, is_open, shut_if, step_stub}
 use Rattle.flow_rule.specs.Verdict.{flow_step}
 use Rattle.flow_rule.specs.Arms.{written_words}
-use Rattle.flow_check.specs.declared.along.Way.{Way}
-use Rattle.flow_check.specs.declared.along.Way.TheVariants.{Cause}
 use Rattle.flow_check.specs.Pairs.{IsStub}
 use Rattle.flow_check.specs.Along.{is_clear, taken_by, one_place, one_width, done_by, words_by, words_at, in_open, is_call_word, LeadsTo}
 use Rattle.flow_check.proofs.Causes.{stub_open, stub_shut}
@@ -377,14 +373,6 @@ pub jump_none : (cn : ℕ) (off : ℤ) (insn : Insn) (pc : ℕ) (core : List Val
 unfolding plan_val
 jump_none cn off insn pc core e = rw e refl
 
-pub reti_none : (insn : Insn) (pc : ℕ) (core : List Val) → insn ≡ Reti → plan_val insn pc core ≡ []
-unfolding plan_val
-reti_none insn pc core e = rw e refl
-
-pub unit_none : (n : ℕ) (insn : Insn) (pc : ℕ) (core : List Val) → insn ≡ UnitOp n → plan_val insn pc core ≡ []
-unfolding plan_val
-unit_none n insn pc core e = rw e refl
-
 -- ---- where it goes on
 pub written_if : (m : Module) (wanted : Bool) (w : Width) (a : Option Val) →
     written_words m (reach_if wanted Write w a) ≡ words_at m (cond wanted a None)
@@ -481,40 +469,24 @@ module _ (m : Module) (text : List ℕ) (pc : ℕ) (r : List ℕ) (l : Label) wh
       flow_is entries h e ∙ ap (shut_if (in_open entries m pc) m pc) (ap (λ o. step_insn m text o (at pc r l)) it
       ∙ arm_is insn join next on)
 
--- with accesses that may be done, and with one that may not
-pub leads_fine : (way : Way) (free : Bool) (m : Module) (pc : ℕ) (rs : List Found) (s : Step) (r : List ℕ)
-    (core words : List Val) → is_clear rs ≡ true → LeadsTo way (shut_if free m pc s) r core words →
-    LeadsTo way (shut_if free m pc (also (rs ++ []) s)) r core words
-leads_fine way free m pc [] s r core words e h = h
-leads_fine way free m pc (x ∷ rs) s r core words e h = absurd cc
-
-pub leads_not : (free : Bool) (m : Module) (pc : ℕ) (rs : List Found) (s : Step) (r : List ℕ)
-    (core words : List Val) → is_clear rs ≡ false → LeadsTo Cause (shut_if free m pc (also (rs ++ []) s)) r core words
-leads_not free m pc [] s r core words e = absurd cc
-leads_not true m pc (x ∷ rs) s r core words e = λ none. cc
-leads_not false m pc (x ∷ rs) s r core words e = λ none. cc
+-- with accesses that may be done
+pub leads_fine : (to : ℕ) (free : Bool) (m : Module) (pc : ℕ) (rs : List Found) (s : Step) (r : List ℕ)
+    (core words : List Val) → is_clear rs ≡ true → LeadsTo to (shut_if free m pc s) r core words →
+    LeadsTo to (shut_if free m pc (also (rs ++ []) s)) r core words
+leads_fine to free m pc [] s r core words e h = h
+leads_fine to free m pc (x ∷ rs) s r core words e h = absurd cc
 
 -- the step of the instruction, from where its registers and words go on
-pub leads_same : (way : Way) (m : Module) (text : List ℕ) (pc : ℕ) (r : List ℕ) (l : Label) (insn : Insn)
+pub leads_same : (to : ℕ) (m : Module) (text : List ℕ) (pc : ℕ) (r : List ℕ) (l : Label) (insn : Insn)
     (core words : List Val) (free open1 : Bool) (s : Step) → core ≡ (done_by m text insn pc l).core →
     words ≡ words_by m text insn pc l → free ≡ open1 →
     s ≡ shut_if open1 m pc (arm_step m text pc r l insn) →
-    LeadsTo way (shut_if free m pc (also (reach_reasons m pc (plan_val insn pc l.core) ++ [])
-    (goes m pc r core words))) r core words → LeadsTo way s r core words
-leads_same way m text pc r l insn core words free open1 s ec ew ef es h =
+    LeadsTo to (shut_if free m pc (also (reach_reasons m pc (plan_val insn pc l.core) ++ [])
+    (goes m pc r core words))) r core words → LeadsTo to s r core words
+leads_same to m text pc r l insn core words free open1 s ec ew ef es h =
     let rr : List Found = reach_reasons m pc (plan_val insn pc l.core) ++ [] in
     let e : shut_if free m pc (also rr (goes m pc r core words)) ≡ s =
     ap (λ b. shut_if b m pc (also rr (goes m pc r core words))) ef
     ∙ ap (λ c. shut_if open1 m pc (also rr (goes m pc r c words))) ec
     ∙ ap (λ w. shut_if open1 m pc (also rr (goes m pc r (done_by m text insn pc l).core w))) ew ∙ sym es in
-    subst (λ s. LeadsTo way s r core words) e h
-
--- where an instruction of an arm goes on
-pub on_next : (s : Section) (text : List ℕ) (join pc : ℕ) (insn : Insn) (next : ℕ) → met s text pc ≡ Some insn →
-    arm_on s text join pc ≡ Some next → arm_next join pc (Some insn) ≡ Some next
-on_next s text join pc insn next it = by (holds s pc && nat_lt pc join)
-  where
-    by : (b : Bool) → cond b (arm_next join pc (met s text pc)) None ≡ Some next →
-        arm_next join pc (Some insn) ≡ Some next
-    by true e = sym (ap (arm_next join pc) it) ∙ e
-    by false e = absurd cc
+    subst (λ s. LeadsTo to s r core words) e h

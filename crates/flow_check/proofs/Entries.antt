@@ -1,12 +1,11 @@
 -- The table of a text's instructions.
-use Rattle.std.proofs.Common.{◌≡◌, ℕ, zero, suc, ◌+◌, ◌-◌, ◌*◌, ◌/◌, ◌%◌, ◌<◌, ◌≤◌, ◌==◌, ◌&&◌, nat_lt, nat_le, Bool, true, false, List, [], ◌∷◌, ◌++◌, length, refl, sym, ap, ◌∙◌, arith, Option, Some, None, cond}
+use Rattle.std.proofs.Common.{◌≡◌, ℕ, zero, suc, ◌+◌, ◌-◌, ◌*◌, ◌/◌, ◌%◌, ◌<◌, ◌≤◌, ◌==◌, ◌&&◌, nat_lt, nat_le, Bool, true, false, List, [], ◌∷◌, ◌++◌, length, refl, sym, ap, ◌∙◌, arith, Option, Some, None}
 use Rattle.std.proofs.lemmas.Bool.Decides.{nat_tests}
 use Rattle.sm_words.specs.Words.{add16}
 use Rattle.insn_decode.specs.Code.{distance}
 use Rattle.insn_decode.specs.declared.insn.OneOp.TheVariants.{Call}
 use Rattle.arm_balance.specs.Met.{met}
-use Rattle.arm_balance.specs.Balance.{not_pc, next_if, arm_next, arm_on}
-use Rattle.mod_layout.specs.Table.{holds}
+use Rattle.arm_balance.specs.Balance.{not_pc, next_if, arm_next}
 use Rattle.std.specs.List.{slice_get}
 use Rattle.insn_decode.specs.declared.insn.Insn.{Insn}
 use Rattle.insn_decode.specs.declared.insn.Insn.TheVariants.{Two, One, Jump, Reti, Unit as UnitOp}
@@ -36,29 +35,6 @@ cut_near true n k join next e le = by (nat_le n k) e
         let t : nat_le n join ≡ true = grind (arith, nat_tests) in
         ap (λ b. next_if b n) t ∙ e
 
-cut_far : (b : Bool) (n k join next : ℕ) → next_if (b && nat_le n k) n ≡ Some next → join < next →
-    next_if (b && nat_le n join) n ≡ None
-cut_far false n k join next e lt = absurd cc
-cut_far true n k join next e lt = by (nat_le n k) e
-  where
-    by : (c : Bool) → next_if c n ≡ Some next → next_if (nat_le n join) n ≡ None
-    by false e = absurd cc
-    by true e =
-        let same : n ≡ next = cc in
-        let t : nat_le n join ≡ false = grind (arith, nat_tests) in
-        ap (λ b. next_if b n) t
-
-cut_none : (b : Bool) (n k join : ℕ) → join ≤ k → next_if (b && nat_le n k) n ≡ None →
-    next_if (b && nat_le n join) n ≡ None
-cut_none false n k join le e = refl
-cut_none true n k join le e = by (nat_le n k) refl e
-  where
-    by : (c : Bool) → nat_le n k ≡ c → next_if c n ≡ None → next_if (nat_le n join) n ≡ None
-    by true h e = absurd cc
-    by false h e =
-        let t : nat_le n join ≡ false = grind (arith, nat_tests) in
-        ap (λ b. next_if b n) t
-
 pub next_near : (o : Option Insn) (pc join next : ℕ) → arm_next 65535 pc o ≡ Some next → next ≤ join →
     arm_next join pc o ≡ Some next
 next_near None pc join next e le = absurd cc
@@ -74,49 +50,6 @@ next_near (Some (Jump c off)) pc join next e le =
     three true b to e = cut_near b to 65535 join next e le
     three false b to e = absurd cc
 next_near (Some _) pc join next e le = absurd cc
-
-pub next_far : (o : Option Insn) (pc join next : ℕ) → arm_next 65535 pc o ≡ Some next → join < next →
-    arm_next join pc o ≡ None
-next_far None pc join next e lt = absurd cc
-next_far (Some (Two op w s d)) pc join next e lt = cut_far (not_pc d) _ 65535 join next e lt
-next_far (Some (One Call w a)) pc join next e lt = absurd cc
-next_far (Some (One _ w a)) pc join next e lt = cut_far (not_pc a) _ 65535 join next e lt
-next_far (Some (Jump c off)) pc join next e lt =
-    let to : ℕ = add16 (add16 pc 2) (distance off) in
-    three ((c == 7)) (nat_lt pc to) to e
-  where
-    three : (a b : Bool) (to : ℕ) → next_if (a && b && nat_le to 65535) to ≡ Some next →
-        next_if (a && b && nat_le to join) to ≡ None
-    three true b to e = cut_far b to 65535 join next e lt
-    three false b to e = absurd cc
-next_far (Some _) pc join next e lt = absurd cc
-
-pub next_none : (o : Option Insn) (pc join : ℕ) → join ≤ 65535 → arm_next 65535 pc o ≡ None →
-    arm_next join pc o ≡ None
-next_none None pc join le e = refl
-next_none (Some (Two op w s d)) pc join le e = cut_none (not_pc d) _ 65535 join le e
-next_none (Some (One Call w a)) pc join le e = refl
-next_none (Some (One _ w a)) pc join le e = cut_none (not_pc a) _ 65535 join le e
-next_none (Some (Jump c off)) pc join le e =
-    let to : ℕ = add16 (add16 pc 2) (distance off) in
-    three ((c == 7)) (nat_lt pc to) to e
-  where
-    three : (a b : Bool) (to : ℕ) → next_if (a && b && nat_le to 65535) to ≡ None →
-        next_if (a && b && nat_le to join) to ≡ None
-    three true b to e = cut_none b to 65535 join le e
-    three false b to e = refl
-next_none (Some _) pc join le e = refl
-
--- of what is met at an address
-pub entry_on : (m : Module) (text : List ℕ) (pc join : ℕ) (e : Entry) (o : Option ℕ) → e ≡ entry_by m text pc →
-    holds m.text pc ≡ true → pc < join →
-    ((p : ℕ) (i : Option Insn) → e.next ≡ arm_next 65535 p i → o ≡ arm_next join p i) →
-    arm_on m.text text join pc ≡ o
-entry_on m text pc join e o is h l cut =
-    ap (λ b. cond (b && nat_lt pc join) (arm_next join pc (met m.text text pc)) None) h
-    ∙ ap (λ b. cond (true && b) (arm_next join pc (met m.text text pc)) None)
-    (let t : nat_lt pc join ≡ true = grind (arith, nat_tests) in t)
-    ∙ sym (cut pc (met m.text text pc) (ap (λ x. x.next) is))
 
 -- what it met and its cycles, where an arm goes on
 pub entry_met : (m : Module) (text : List ℕ) (pc : ℕ) (e : Entry) (insn : Insn) → e ≡ entry_by m text pc →

@@ -1,5 +1,5 @@
 -- The instructions of an arm that have no cause and go on.
-use Rattle.std.proofs.Common.{◌≡◌, ◌≢◌, ℕ, zero, suc, ◌+◌, ◌-◌, ◌*◌, ◌/◌, ◌%◌, ◌≤◌, ◌<◌, ◌==◌, List, [], ◌∷◌, ◌++◌, refl, sym, ap, ◌∙◌, subst, arith, Bool, true, false, cond, ◌&&◌, ◌||◌, not, nat_le, nat_lt, slice_set, Option, Some, None}
+use Rattle.std.proofs.Common.{◌≡◌, ◌≢◌, ℕ, zero, suc, ◌+◌, ◌-◌, ◌*◌, ◌/◌, ◌%◌, ◌≤◌, ◌<◌, ◌==◌, List, [], ◌∷◌, ◌++◌, refl, sym, ap, ◌∙◌, subst, arith, Bool, true, false, cond, ◌&&◌, ◌||◌, not, nat_le, nat_lt, length, slice_set, Option, Some, None}
 use Rattle.std.proofs.lemmas.Bool.Decides.{nat_tests}
 use Rattle.sm_words.specs.Words.{add16, bit, kept}
 use Rattle.sm_words.specs.declared.width.Width.{Width}
@@ -19,27 +19,25 @@ use Rattle.arm_balance.specs.Met.{met}
 use Rattle.arm_balance.specs.Balance.{next_if, not_pc, ends_by, arm_next, arm_on}
 use Rattle.flow_rule.specs.declared.Val.{Val}
 use Rattle.flow_rule.specs.declared.Val.TheVariants.{Known, Public}
-use Rattle.pc_access.specs.declared.Kind.TheVariants.{Read}
 use Rattle.flow_rule.specs.declared.Label.{Label}
 use Rattle.flow_rule.specs.declared.Told.{Told}
 use Rattle.flow_rule.specs.declared.Reason.TheVariants.{UnknownTarget}
 use Rattle.flow_rule.specs.Values.{over_one, val, kept_val, put_val, narrow}
-use Rattle.flow_rule.specs.Does.{place_val, reach_if, past_val, plan_val, write_reaches, stepped_val, two_val, written_val, into_register_val, set_flags_by, clears_flags, cleared_if, reads_carry, read_if, carry_val}
+use Rattle.flow_rule.specs.Does.{place_val, past_val, plan_val, write_reaches, stepped_val, two_val, written_val, into_register_val, set_flags_by, clears_flags, cleared_if, reads_carry, read_if, carry_val}
 use Rattle.flow_rule.specs.Rounds.{Step}
 use Rattle.flow_rule.specs.Reasons.{because_if, reach_reasons}
 use Rattle.flow_rule.specs.Going.{goes, goes_by, goes_in}
 use Rattle.flow_rule.specs.Stub.{word_number, is_shut, shut_if}
 use Rattle.flow_rule.specs.Verdict.{flow_step}
 use Rattle.flow_rule.specs.Arms.{walk, stepped_regs, written_regs, written_words, blot, blot_core}
-use Rattle.flow_check.specs.declared.along.Way.TheVariants.{On}
 use Rattle.flow_check.specs.declared.returns.Returns.{Returns}
 use Rattle.flow_check.specs.declared.table.Entry.{Entry}
 use Rattle.flow_check.specs.declared.walk.Tally.{Tally}
 use Rattle.flow_check.specs.Pairs.{IsStub, list_of, point_of}
-use Rattle.flow_check.specs.Tables.{is_deep, is_aligned, place_of, glides_by, entry_by}
+use Rattle.flow_check.specs.Tables.{is_deep, is_aligned, is_other, is_apart, place_of, glides_by, entry_by}
 use Rattle.flow_check.specs.Walks.{told}
-use Rattle.flow_check.specs.Along.{is_clear, taken_by, in_open, is_call_word, LeadsTo}
-use Rattle.flow_check.specs.Gliding.{moved_on, into_regs, IsWordThere, IsStill, IsSource, IsGlided}
+use Rattle.flow_check.specs.Along.{in_open, is_call_word, LeadsTo}
+use Rattle.flow_check.specs.Gliding.{moved_on, into_regs, IsStill, IsSource, IsGlided}
 use Rattle.flow_check.proofs.Acting.{into_core_is, into_words_are, into_clear, into_written, step_is, leads_same, leads_fine}
 use Rattle.flow_check.proofs.Blots.{core_append}
 use Rattle.flow_check.proofs.Entries.{entry_met, entry_time, next_near}
@@ -48,6 +46,10 @@ use Rattle.flow_check.proofs.Walking.{walk_goes}
 -- ---- PC
 pub even_kept : (next : ℕ) → next < 65536 → next % 2 ≡ 0 → kept 0 next ≡ next
 even_kept next low even = omega (arith, low, even)
+
+pub pc_held : (c : List Val) (next : ℕ) → length c ≡ 16 → kept 0 next ≡ next → Known next ≡ val (moved_on c next) 0
+pc_held [] next n e = absurd cc
+pc_held (x ∷ c) next n e = ap Known (sym e)
 
 pub put_other : (c : List Val) (n : ℕ) (v : Val) → 0 < n → val (put_val c n v) 0 ≡ val c 0
 put_other [] n v h = refl
@@ -112,15 +114,15 @@ one_moves insn op w a pc next core is on =
     moves_to (One op w a) pc next core (one_ends op w a pc next (sym (ap (λ i. arm_next 65535 pc (Some i)) is) ∙ on))
 
 pub goes_there : (free : Bool) (m : Module) (pc to : ℕ) (rs : List ℕ) (core words : List Val) → val core 0 ≡ Known to → holds m.text to ≡ true →
-    (free || not (is_shut (word_number m to))) ≡ true → LeadsTo (On to) (shut_if free m pc (goes m pc rs core words)) rs core words
+    (free || not (is_shut (word_number m to))) ≡ true → LeadsTo to (shut_if free m pc (goes m pc rs core words)) rs core words
 goes_there free m pc to rs core words first inside open1 =
     let here : goes m pc rs core words ≡ there = ap (λ v. goes_by v m pc rs core words) first ∙ ap (λ b. goes_in b to pc rs core words) inside in
-    subst (λ s. LeadsTo (On to) (shut_if free m pc s) rs core words) (sym here) (by free (is_shut (word_number m to)) refl open1)
+    subst (λ s. LeadsTo to (shut_if free m pc s) rs core words) (sym here) (by free (is_shut (word_number m to)) refl open1)
   where
     there : Step
     there = goes_in true to pc rs core words
 
-    by : (f b : Bool) → is_shut (word_number m to) ≡ b → (f || not b) ≡ true → LeadsTo (On to) (shut_if f m pc there) rs core words
+    by : (f b : Bool) → is_shut (word_number m to) ≡ b → (f || not b) ≡ true → LeadsTo to (shut_if f m pc there) rs core words
     by true b e h = (refl, refl)
     by false false e h = (ap (λ b. because_if b pc UnknownTarget 0 ++ []) e, refl)
     by false true e h = absurd cc
@@ -180,6 +182,9 @@ none_glides m text pc next e is it go =
 pub some_same : (a b : Insn) → Some a ≡ Some b → a ≡ b
 some_same a b e = let f : a ≡ b = cc in f
 
+pub some_next : (a b : ℕ) → Some a ≡ Some b → a ≡ b
+some_next a b e = let f : a ≡ b = cc in f
+
 -- ---- behind a stub's shut words
 high_false : (k : ℕ) → nat_lt 37 k ≡ true → (k == 17) ≡ false
 high_false k h = grind (arith, nat_tests)
@@ -231,10 +236,10 @@ module _ (m : Module) (text : List ℕ) (entries : Option ℕ) (branch join step
         ∙ ap (arm_next join pc) g.met ∙ on in
         let free : Bool = in_open entries m pc in
         let rs : List ℕ = list_of returns in
-        let leads : LeadsTo (On next) (flow_step m text (point_of pc returns l)) rs l1.core l1.words =
-        leads_same (On next) m text pc rs l insn l1.core l1.words free free _ done.core done.words refl
+        let leads : LeadsTo next (flow_step m text (point_of pc returns l)) rs l1.core l1.words =
+        leads_same next m text pc rs l insn l1.core l1.words free free _ done.core done.words refl
         (step_is m text pc rs l insn entries join next stub (deep_call m pc entries g.here) g.met on)
-        (leads_fine (On next) free m pc (reach_reasons m pc (plan_val insn pc l.core)) (goes m pc rs l1.core l1.words) rs l1.core l1.words done.fine
+        (leads_fine next free m pc (reach_reasons m pc (plan_val insn pc l.core)) (goes m pc rs l1.core l1.words) rs l1.core l1.words done.fine
         (goes_there free m pc next rs l1.core l1.words done.there (deep_held m next g.there) (deep_open m next free g.there))) in
         let so : t1 ≡ record {
           least = t.least;
@@ -289,18 +294,17 @@ still_rising r core n0 n2 = record {
     put_still : (c : List Val) (r n : ℕ) (v : Val) → r ≢ n → val (put_val c r v) n ≡ val c n
     put_still c r n v ne = set_still c r n (kept_val r v) ne
 
-pub source_read : (m : Module) (text : List ℕ) (w : Width) (s : Operand) (pc : ℕ) (l : Label) (a v : Val) → place_val s l.core (add16 pc 2) ≡ Some a → IsStill s l.core →
-    IsWordThere m text w a l.words v → IsSource m text w s pc l v
-source_read m text w s pc l a v e still there = record {
-  value = there.value ∙ sym (ap (λ o. taken_by o m text true s w l) e);
-  clear = ap (λ o. is_clear (reach_reasons m pc (reach_if true Read w o))) e ∙ there.clear pc;
-  still = still;
-}
-
--- PC that is moved back
-pub moved_back : (c : List Val) (next : ℕ) (before : Val) (c1 c2 : List Val) → before ≡ val c 0 → c1 ≡ moved_on c next → c2 ≡ slice_set c1 0 before → c2 ≡ c
-moved_back [] next before c1 c2 e e1 e2 = e2 ∙ ap (λ x. slice_set x 0 before) e1
-moved_back (x ∷ c) next before c1 c2 e e1 e2 = e2 ∙ ap (λ x. slice_set x 0 before) e1 ∙ ap (λ v. v ∷ c) e
+pub raised_still : (r : ℕ) (c : List Val) → is_apart (Increment r) ≡ true → IsStill (Increment r) c
+raised_still r c h =
+    let e = both_true (is_other r) (not (r == 2)) h in
+    let o = both_true (nat_lt 0 r) (nat_lt r 16) e.0 in
+    let t : nat_lt 0 r ≡ true = o.0 in
+    let f : not (r == 2) ≡ true = e.1 in
+    let low : 0 < r = grind (arith, nat_tests) in
+    still_rising r c (omega arith) (two r f)
+  where
+    two : (r : ℕ) → not (r == 2) ≡ true → r ≢ 2
+    two r e is = let f : false ≡ true = sym (ap (λ n. not (n == 2)) is) ∙ e in absurd cc
 
 -- ---- format I into a register
 stepped_words : (s : Operand) (core : List Val) (op : TwoOp) (r : ℕ) → blot_core (into_regs op r) (blot_core (stepped_regs s) core) ≡ blot_core (stepped_regs s ++ into_regs op r) core

@@ -1,16 +1,14 @@
 -- Instructions of format II that have no cause: what they make of a label.
 use Rattle.std.specs.Prelude.{ℤ}
 use Rattle.insn_decode.specs.Code.{distance, length_of}
-use Rattle.std.proofs.Common.{◌≤◌, nat_le, nat_lt, ◌≡◌, ℕ, zero, suc, ◌<◌, ◌*◌, List, [], ◌∷◌, ◌++◌, refl, sym, ap, ◌∙◌, arith, subst, slice_set, ◌&&◌, ◌||◌, not, Bool, true, false, ◌==◌, Option, Some, None}
-use Rattle.sm_words.specs.Words.{nth, add16, kept}
+use Rattle.std.proofs.Common.{◌≡◌, ℕ, zero, suc, ◌<◌, ◌*◌, List, [], ◌∷◌, ◌++◌, refl, sym, ap, ◌∙◌, arith, slice_set, ◌&&◌, ◌||◌, not, Bool, true, false, ◌==◌, Option, Some, None}
+use Rattle.sm_words.specs.Words.{nth, add16}
 use Rattle.sm_words.specs.declared.width.Width.{Width}
 use Rattle.sm_words.specs.declared.width.Width.TheVariants.{Word, Byte}
-use Rattle.mod_layout.specs.declared.Section.{Section}
-use Rattle.std.proofs.lemmas.Bool.Decides.{nat_tests}
 use Rattle.insn_decode.specs.declared.insn.OneOp.{OneOp}
 use Rattle.insn_decode.specs.declared.insn.OneOp.TheVariants.{Push, Call}
 use Rattle.insn_decode.specs.declared.insn.Operand.{Operand}
-use Rattle.insn_decode.specs.declared.insn.Operand.TheVariants.{Reg, Increment}
+use Rattle.insn_decode.specs.declared.insn.Operand.TheVariants.{Reg}
 use Rattle.insn_decode.specs.declared.insn.Insn.TheVariants.{One, Jump}
 use Rattle.pc_access.specs.declared.Kind.TheVariants.{Read, Write}
 use Rattle.pc_access.specs.declared.Kind.{Kind}
@@ -19,7 +17,7 @@ use Rattle.flow_rule.specs.declared.Val.{Val}
 use Rattle.flow_rule.specs.declared.Val.TheVariants.{Known, Secret}
 use Rattle.flow_rule.specs.declared.Label.{Label}
 use Rattle.flow_rule.specs.declared.Told.{Told}
-use Rattle.flow_rule.specs.Values.{val, put_val, kept_val, over_one, narrow}
+use Rattle.flow_rule.specs.Values.{val, put_val, over_one, narrow}
 use Rattle.flow_rule.specs.Does.{half, place_val, past_val, stepped_val, lowered_val, reach_if, writes_val, plan_val, write_reaches, one_val, written_val, into_register_val, set_flags_by, carry_val, one_done_val, may_reach, read_at, write_at, word_no, does_val}
 use Rattle.pc_access.specs.Rights.{misaligned}
 use Rattle.mod_layout.specs.Table.{holds}
@@ -27,8 +25,7 @@ use Rattle.flow_rule.specs.Reasons.{because_if, reach_reasons}
 use Rattle.flow_rule.specs.declared.Reason.TheVariants.{OutsideAccess}
 use Rattle.flow_rule.specs.Arms.{stepped_regs, written_reg, written_regs, written_words, blot, blot_core}
 use Rattle.flow_check.specs.Along.{is_clear, taken_by, one_place, one_width, words_at}
-use Rattle.flow_check.specs.Gliding.{moved_on, IsWordThere, IsGlided}
-use Rattle.flow_check.specs.Pushing.{IsPushed}
+use Rattle.flow_check.specs.Gliding.{moved_on, IsGlided}
 use Rattle.flow_check.proofs.Acting.{one_core_is, one_words_are, one_clear, one_written, written_if, none_core, none_words, none_clear, none_written, jump_none}
 use Rattle.flow_check.proofs.Gliding.{put_other, flags_keep}
 
@@ -48,23 +45,6 @@ register_keeps false r t c h = put_other (flagged) r t.value h ∙ flags_keep t.
 pub register_there : (r next : ℕ) (t : Told) (c : List Val) → 0 < r → val c 0 ≡ Known next → val (written_val true (Reg r) t c).core 0 ≡ Known next
 register_there r next t c h e = register_keeps (r == 2) r t c (omega arith) ∙ e
 
-pub step_keeps : (r n : ℕ) (w : Width) (core : List Val) → n < r → val (stepped_val w (Increment r) core) n ≡ val core n
-step_keeps r n w core h = put_keeps core r n _ h
-  where
-    put_keeps : (c : List Val) (r n : ℕ) (v : Val) → n < r → val (slice_set c r v) n ≡ val c n
-    put_keeps [] r n v h = refl
-    put_keeps (x ∷ xs) zero n v h = absurd (omega (arith, h))
-    put_keeps (x ∷ xs) (suc r) zero v h = refl
-    put_keeps (x ∷ xs) (suc r) (suc n) v h = put_keeps xs r n v (omega (arith, h))
-
-pub memory_there : (f : Option Val) (w : Width) (arg : Operand) (next : ℕ) (c : List Val) → ((core : List Val) → val (stepped_val w arg core) 0 ≡ val core 0) →
-    val c 0 ≡ Known next → val (set_flags_by f (stepped_val w arg c)) 0 ≡ Known next
-memory_there f w arg next c still e = flags_keep f (stepped_val w arg c) ∙ still c ∙ e
-
-pub known_there : (arg : Operand) (c : List Val) (next pc ext a : ℕ) → ext ≡ add16 pc 2 → place_val arg (moved_on c next) ext ≡ Some (Known a) →
-    place_val arg (moved_on c next) (add16 pc 2) ≡ Some (Known a)
-known_there arg c next pc ext a e place = ap (place_val arg (moved_on c next)) (sym e) ∙ place
-
 -- ---- accesses
 clear_if_may : (b : Bool) (pc a : ℕ) → b ≡ true → true ≡ is_clear (because_if (not b) pc OutsideAccess a ++ [])
 clear_if_may true pc a e = refl
@@ -80,21 +60,6 @@ reads_too m w a e = by (misaligned w a) (holds m.text a) (holds m.ram a) e
     by true t r e = absurd cc
     by false true r e = refl
     by false false r e = e
-
-pub below_apart : (s : Section) (a : ℕ) → a < s.start → holds s a ≡ false
-below_apart s a h = by (nat_le s.start a) (nat_lt a s.end) refl
-  where
-    by : (b d : Bool) → nat_le s.start a ≡ b → (b && d) ≡ false
-    by false d e = refl
-    by true d e = absurd (let le : s.start ≤ a = grind (arith, nat_tests, e) in omega (arith, le, h))
-
-pub above_apart : (s : Section) (a : ℕ) → s.end ≤ a → holds s a ≡ false
-above_apart s a h = by (nat_le s.start a) (nat_lt a s.end) refl
-  where
-    by : (b d : Bool) → nat_lt a s.end ≡ d → (b && d) ≡ false
-    by false d e = refl
-    by true false e = refl
-    by true true e = absurd (let le : a < s.end = grind (arith, nat_tests, e) in omega (arith, le, h))
 
 pub word_apart : (m : Module) (text : List ℕ) (words : List Val) (a : ℕ) → holds m.text a ≡ false → read_at m text words Word a ≡ nth (word_no m a) words Secret
 word_apart m text words a h = rw h refl
@@ -191,33 +156,6 @@ module _ (m : Module) (text : List ℕ) (op : OneOp) (w : Width) (pc next : ℕ)
       (tc ∙ ap (λ rs. blot_core rs b.core) (sym s.1)) tw
 
 -- ---- PUSH
-pub lowered_at : (c : List Val) (v sp : ℕ) → val c 1 ≡ Known v → kept 1 (add16 v 65534) ≡ sp → val (lowered_val c) 1 ≡ Known sp
-lowered_at [] v sp e es = absurd cc
-lowered_at (x ∷ []) v sp e es = absurd cc
-lowered_at (x ∷ y ∷ ys) v sp e es = ap (λ z. kept_val 1 (over_one (λ v. add16 v 65534) z)) e ∙ ap Known es
-
--- SP alone becomes the address that lowering it gives
-pub lowered_to : (c : List Val) (sp : ℕ) → val (lowered_val c) 1 ≡ Known sp → slice_set c 1 (Known sp) ≡ lowered_val c
-lowered_to [] sp e = refl
-lowered_to (x ∷ []) sp e = refl
-lowered_to (x ∷ y ∷ ys) sp e = ap (λ k. x ∷ k ∷ ys) (sym e)
-
-pub pushed_at : (m : Module) (text : List ℕ) (w : Width) (arg : Operand) (pc ext next : ℕ) (l : Label) (v : Val) → ext ≡ add16 pc 2 →
-    IsPushed m text w arg ext next l v → IsPushed m text w arg (add16 pc 2) next l v
-pushed_at m text w arg pc ext next l v e given = subst (λ x. IsPushed m text w arg x next l v) e given
-
-pub lowered_there : (m : Module) (text : List ℕ) (w : Width) (arg : Operand) (ext next sp : ℕ) (l : Label) (v : Val) → IsPushed m text w arg ext next l v →
-    ((c : List Val) → val c 1 ≡ val l.core 1 → val (lowered_val c) 1 ≡ Known sp) → val (lowered_val (stepped_val w arg (moved_on l.core next))) 1 ≡ Known sp
-lowered_there m text w arg ext next sp l v given low = low (stepped_val w arg (moved_on l.core next)) given.same_sp
-
-set_first : (c : List Val) (v : Val) → val (slice_set c 1 v) 0 ≡ val c 0
-set_first [] v = refl
-set_first (x ∷ []) v = refl
-set_first (x ∷ y ∷ ys) v = refl
-
-pub push_there : (c1 c2 : List Val) (sp next : ℕ) → val c1 0 ≡ Known next → val c2 0 ≡ val c1 0 → val (slice_set c2 1 (Known sp)) 0 ≡ Known next
-push_there c1 c2 sp next there still = set_first c2 (Known sp) ∙ still ∙ there
-
 pub glided_pushing : (m : Module) (text : List ℕ) (w : Width) (arg : Operand) (pc next sp : ℕ) (l l1 b b1 : Label) (value : Val) →
     moved_on l.core next ≡ past_val (One Push w arg) pc l.core →
     value ≡ taken_by (place_val arg (moved_on l.core next) (add16 pc 2)) m text true arg w (record { core = moved_on l.core next; words = l.words }) →
@@ -230,28 +168,6 @@ glided_pushing m text w arg pc next sp l l1 b b1 value past given clear low may 
     let c2 = stepped_val w arg (moved_on l.core next) in
     glided_by m text Push w w arg pc next l l1 b b1 c2 (place_val arg (moved_on l.core next) (add16 pc 2)) (Some (Known sp)) value past refl given refl
     (ap Some (sym low)) refl core words clear (reach_clear m Write w sp pc may) there tc tw
-
-pub glided_push : (m : Module) (text : List ℕ) (w : Width) (arg : Operand) (pc next sp : ℕ) (l l1 b b1 : Label) (value : Val) →
-    moved_on l.core next ≡ past_val (One Push w arg) pc l.core → IsPushed m text w arg (add16 pc 2) next l value →
-    val (lowered_val (stepped_val w arg (moved_on l.core next))) 1 ≡ Known sp → may_reach m Write w sp ≡ true →
-    l1.core ≡ lowered_val (stepped_val w arg (moved_on l.core next)) → l1.words ≡ write_at m l.words w sp (over_one (λ v. v) value) →
-    val l1.core 0 ≡ Known next → b1.core ≡ blot_core (written_regs (One Push w arg)) b.core → b1.words ≡ slice_set b.words (word_no m sp) Secret →
-    IsGlided m text (One Push w arg) pc next l l1 b b1
-glided_push m text w arg pc next sp l l1 b b1 value past given =
-    glided_pushing m text w arg pc next sp l l1 b b1 value past given.value (given.clear pc)
-
-pub pushed_from : (m : Module) (text : List ℕ) (w : Width) (arg : Operand) (ext next a : ℕ) (l : Label) (value : Val) →
-    ((core : List Val) → val (stepped_val w arg core) 1 ≡ val core 1) → ((core : List Val) → val (stepped_val w arg core) 0 ≡ val core 0) →
-    place_val arg (moved_on l.core next) ext ≡ Some (Known a) → IsWordThere m text w (Known a) l.words value →
-    IsPushed m text w arg ext next l value
-pushed_from m text w arg ext next a l value same_sp still place there =
-    let c1 = moved_on l.core next in
-    record {
-      value = there.value ∙ ap (λ f. taken_by f m text true arg w (record { core = c1; words = l.words })) (sym place);
-      clear = λ pc. sym (there.clear pc) ∙ ap (λ f. is_clear (reach_reasons m pc (reach_if true Read w f))) (sym place);
-      still = still c1;
-      same_sp = same_sp c1 ∙ other_val l.core (Known next) 1 (omega arith);
-    }
 
 -- ---- a jump that is taken
 put_again : (c : List Val) (v u : Val) → put_val (put_val c 0 u) 0 v ≡ put_val c 0 v

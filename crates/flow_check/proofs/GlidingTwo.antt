@@ -1,6 +1,6 @@
 -- Instructions of format I into memory along an arm: their parts together are the instruction.
-use Rattle.std.proofs.Common.{◌≡◌, ◌≢◌, ℕ, zero, suc, ◌*◌, ◌<◌, List, [], ◌∷◌, ◌++◌, refl, sym, ap, ◌∙◌, arith, Bool, true, false, ◌&&◌, ◌||◌, not, cond, slice_set, Option, Some, None}
-use Rattle.sm_words.specs.Words.{add16, nth, bit}
+use Rattle.std.proofs.Common.{◌≡◌, ℕ, ◌*◌, List, [], ◌∷◌, ◌++◌, refl, sym, ap, ◌∙◌, Bool, true, false, ◌&&◌, ◌||◌, not, cond, slice_set, Option, Some, None}
+use Rattle.sm_words.specs.Words.{add16, nth}
 use Rattle.sm_words.specs.declared.width.Width.{Width}
 use Rattle.sm_words.specs.declared.width.Width.TheVariants.{Word, Byte}
 use Rattle.insn_decode.specs.Code.{words_of}
@@ -21,45 +21,15 @@ use Rattle.flow_rule.specs.declared.Val.TheVariants.{Known, Public, Secret}
 use Rattle.flow_rule.specs.declared.Label.{Label}
 use Rattle.flow_rule.specs.declared.Told.{Told}
 use Rattle.flow_rule.specs.Values.{val, narrow, over_one, blurred_all}
-use Rattle.flow_rule.specs.Does.{half, place_val, stepped_val, reach_if, plan_val, write_reaches, writes_val, may_reach, word_no, worked, two_val, read_if, reads_carry, carry_val, set_flags_by, written_val, clears_flags}
+use Rattle.flow_rule.specs.Does.{half, place_val, stepped_val, reach_if, plan_val, write_reaches, writes_val, may_reach, word_no, two_val, carry_val, set_flags_by, written_val, clears_flags}
 use Rattle.flow_rule.specs.declared.Reason.TheVariants.{OutsideAccess}
 use Rattle.flow_rule.specs.Reasons.{because_if, reach_reasons}
 use Rattle.flow_rule.specs.Arms.{stepped_regs, written_reg, written_regs, written_words, blot, blot_core}
 use Rattle.flow_check.specs.Along.{is_clear, taken_by, done_by, words_by}
-use Rattle.flow_check.specs.Gliding.{moved_on, IsWordThere, IsNear, IsGlided}
-use Rattle.flow_check.specs.GlidingTwo.{tried, source_place, IsTwoPlace, IsTwoSource, IsTwoAddress, IsTwoReady, put_near, old_near, told_near}
+use Rattle.flow_check.specs.Gliding.{moved_on, IsGlided}
+use Rattle.flow_check.specs.GlidingTwo.{tried, source_place, IsTwoAddress, IsTwoReady, put_near, old_near, told_near}
 use Rattle.flow_check.proofs.GlidingOne.{word_apart, byte_apart}
-use Rattle.flow_check.proofs.Acting.{carry_read, two_core_is, two_words_are, two_clear, two_written, written_if}
-
--- ---- the registers that addresses are made of
-pub set_other : (c : List Val) (n k : ℕ) (x : Val) → n ≢ k → nth k (slice_set c n x) Secret ≡ nth k c Secret
-set_other [] n k x e = refl
-set_other (y ∷ ys) zero zero x e = absurd (e refl)
-set_other (y ∷ ys) zero (suc k) x e = refl
-set_other (y ∷ ys) (suc n) zero x e = refl
-set_other (y ∷ ys) (suc n) (suc k) x e = set_other ys n k x (λ f. e (ap suc f))
-
--- another register than PC, as if PC had not moved
-pub moved_other : (c : List Val) (r next : ℕ) → 0 < r → val (moved_on c next) r ≡ val c r
-moved_other [] r next h = refl
-moved_other (y ∷ ys) zero next h = absurd (omega arith)
-moved_other (y ∷ ys) (suc r) next h = refl
-
--- what a register holds that the source's increment raises, and another
-pub raised_same : (w : Width) (r next : ℕ) (c : List Val) → 0 < r →
-    val (stepped_val w (Increment r) c) r ≡ val (stepped_val w (Increment r) (moved_on c next)) r
-raised_same w r next [] h = refl
-raised_same w zero next (y ∷ ys) h = absurd (omega arith)
-raised_same w (suc r) next (y ∷ ys) h = refl
-
-pub raised_other : (w : Width) (r k next : ℕ) (c : List Val) → r ≢ k → 0 < k →
-    val c k ≡ val (stepped_val w (Increment r) (moved_on c next)) k
-raised_other w r k next c e h =
-    sym (set_other (moved_on c next) r k _ e ∙ moved_other c k next h)
-
--- a source's increment of a register but PC
-pub still_raised : (r : ℕ) (w : Width) (c : List Val) → 0 < r → val (stepped_val w (Increment r) c) 0 ≡ val c 0
-still_raised r w c h = set_other c r 0 _ (omega (arith, h))
+use Rattle.flow_check.proofs.Acting.{two_core_is, two_words_are, two_clear, two_written, written_if}
 
 -- ---- what may be written may be read
 write_read : (a b c : Bool) → (not a && c) ≡ true → (not a && (b || c)) ≡ true
@@ -85,26 +55,6 @@ tried_write m Cmp w n pc e = refl
 tried_write m Bit w n pc e = refl
 tried_write m op w n pc e = allowed m Write w n pc e
 
-near_read : (m : Module) (op : TwoOp) (w : Width) (n pc : ℕ) → may_reach m Write w n ≡ true →
-    is_clear (reach_reasons m pc (reach_if (reads_dst op) Read w (Some (Known n)))) ≡ true
-near_read m Mov w n pc e = refl
-near_read m op w n pc e = allowed m Read w n pc (write_read (misaligned w n) (holds m.text n) (holds m.ram n) e)
-
-near_write : (m : Module) (op : TwoOp) (w : Width) (n pc : ℕ) → may_reach m Write w n ≡ true →
-    is_clear (reach_reasons m pc (reach_if (writes_dst op) Write w (Some (Known n)))) ≡ true
-near_write m Cmp w n pc e = refl
-near_write m Bit w n pc e = refl
-near_write m op w n pc e = allowed m Write w n pc e
-
-pub near_address : (m : Module) (op : TwoOp) (w : Width) (a n : ℕ) → IsNear m w a n → IsTwoAddress m op w a
-near_address m op w a n near = record {
-  read = λ pc. near_read m op w a pc near.write;
-  write = λ pc. near_write m op w a pc near.write;
-}
-
-pub near_worked : (op : TwoOp) (w : Width) (s d c k : Val) → k ≡ read_if (reads_carry op) c → two_val op w s d k ≡ two_val op w s d c
-near_worked op w s d c k e = ap (two_val op w s d) e ∙ carry_read op w s d c
-
 pub near_put : (m : Module) (b : Bool) (w : Width) (a n : ℕ) (v : Val) (words : List Val) → n ≡ word_no m a →
     put_near b w n v words ≡ writes_val m words (reach_if b Write w (Some (Known a))) (v ∷ [])
 near_put m true Word a n v words e = ap (λ k. slice_set words k (narrow Word v)) e
@@ -124,39 +74,9 @@ pub near_told : (m : Module) (b : Bool) (w : Width) (a n : ℕ) (words : List Va
 near_told m true w a n words e = ap (λ k. slice_set words k Secret) e
 near_told m false w a n words e = refl
 
-pub still_flags : (r : ℕ) (w : Width) (c : List Val) → r ≢ 2 → val (stepped_val w (Increment r) c) 2 ≡ val c 2
-still_flags r w c h = set_other c r 2 _ h
-
-pub same_carry : (op : TwoOp) (c d : List Val) → val c 2 ≡ val d 2 → read_if (reads_carry op) (carry_val c) ≡ read_if (reads_carry op) (carry_val d)
-same_carry op c d e = ap (λ v. read_if (reads_carry op) (over_one (bit 1) v)) e
-
 pub label_is : (c d words others : List Val) → c ≡ d → words ≡ others →
     let a : Label = record { core = c; words = words } in let b : Label = record { core = d; words = others } in a ≡ b
 label_is c d words others ec ew = ap (λ x. record { core = x; words = words }) ec ∙ ap (λ x. record { core = d; words = x }) ew
-
-pub worked_known : (op : TwoOp) (w : Width) (s d c : Val) (x y z : ℕ) → s ≡ Known x → d ≡ Known y → c ≡ Known z →
-    worked op w (Known x) (Known y) (Known z) ≡ worked op w s d c
-worked_known op w s d c x y z es ed ec =
-    ap (λ v. worked op w v (Known y) (Known z)) (sym es) ∙ ap (λ v. worked op w s v (Known z)) (sym ed) ∙ ap (worked op w s d) (sym ec)
-
--- ---- what the source gives that stands in memory
-pub there_is : (m : Module) (text : List ℕ) (w : Width) (s : Operand) (l : Label) (pc next : ℕ) (a v : Val) →
-    IsTwoPlace s l.core pc next a → IsWordThere m text w a l.words v → IsTwoSource m text w s l pc next v
-there_is m text w s l pc next a v p h = record {
-  value = h.value ∙ sym (ap (λ o. taken_by o m text true s w
-      (record { core = moved_on l.core next; words = l.words })) p.place);
-  clear = ap (λ o. is_clear (reach_reasons m pc (reach_if true Read w o))) p.place ∙ h.clear pc;
-  still = p.still w;
-}
-
--- ---- registers
-pub flags_keep : (f : Option Val) (c : List Val) → val (set_flags_by f c) 0 ≡ val c 0
-flags_keep None c = refl
-flags_keep (Some f) c = set_other c 2 0 _ (omega arith)
-
-pub still_there : (f : Option Val) (w : Width) (s : Operand) (next : ℕ) (c : List Val) → ((c : List Val) → val (stepped_val w s c) 0 ≡ val c 0) →
-    val c 0 ≡ Known next → val (set_flags_by f (stepped_val w s c)) 0 ≡ Known next
-still_there f w s next c still e = flags_keep f (stepped_val w s c) ∙ still c ∙ e
 
 -- ---- a destination that has an address is no register
 mem_core : (b : Bool) (d : Operand) (t : Told) (c e : List Val) (n : ℕ) (a : Val) → place_val d e n ≡ Some a →

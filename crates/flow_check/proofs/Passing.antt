@@ -17,7 +17,7 @@ use Rattle.flow_rule.specs.Verdict.{flow_step}
 use Rattle.flow_rule.specs.Arms.{Walk, first_walk, second_walk, blot, blot_core}
 use Rattle.flow_rule.specs.Absorbs.{Absorbs, ArmsRest, laid, overlay}
 use Rattle.flow_check.specs.declared.arms.Crossing.{Crossing}
-use Rattle.flow_check.specs.declared.passages.Answer.TheVariants.{Open, Shut}
+use Rattle.flow_check.specs.declared.passages.Answer.TheVariants.{Open, Shut, Barred}
 use Rattle.flow_check.specs.declared.passages.Passage.{Passage}
 use Rattle.flow_check.specs.Passages.{crossing_step, blotted, blank, branch_from, answer_of, OpensTo, ComesTo, IsPassage}
 use Rattle.flow_check.specs.declared.step.Cause.{Cause}
@@ -128,6 +128,14 @@ shuts rest m text even p cause e is c pc returns l eb ec h = λ none.
   where
     not_both : (o : Option Cause) (cause : Cause) → o ≡ None → o ≡ Some cause → ⊥
     not_both o cause e f = cc
+
+-- one that tells that there is a cause
+pub bars : ArmsRest → (m : Module) (text : List ℕ) → m.text.start % 2 ≡ 0 → (p : Passage) → p.answer ≡ Barred → IsPassage m text p →
+    (c : Crossing) (pc : ℕ) (returns : List ℕ) (l : Label) → p.branch ≡ pc → p.crossing ≡ c → Absorbs l p.label → (crossing_step m text c (branch_from pc returns l)).reasons ≢ []
+bars rest m text even p e is c pc returns l eb ec h = λ none.
+    let b : Point = point_of p.branch p.returns p.label in
+    subst (ComesTo m text p.crossing b) e is
+    (subst (λ c. (crossing_step m text c b).reasons ≡ []) (sym ec) (calm_too rest m text even c (branch_from pc returns l) b eb h none))
 
 -- the cause of a shut one, under the same label with the same return addresses
 pub cause_same : (m : Module) (text : List ℕ) (p : Passage) (cause : Cause) → p.answer ≡ Shut cause → IsPassage m text p → (c : Crossing) (pc : ℕ) (r : Returns) (l : Label) →

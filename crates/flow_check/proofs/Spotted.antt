@@ -1,14 +1,12 @@
 -- Words of many labels: what is read and written in one lane, and what is told there.
-use Rattle.std.proofs.Common.{◌≡◌, ℕ, zero, suc, ◌+◌, ◌-◌, ◌/◌, ◌%◌, ◌<◌, ◌≤◌, ◌&&◌, ◌||◌, not, List, [], ◌∷◌, length, slice_set, slice_index_or, refl, sym, ap, ◌∙◌, subst, arith, Bool, true, false, if◌then◌else◌, nat_lt, below_more, replicate}
+use Rattle.std.proofs.Common.{◌≡◌, ℕ, zero, suc, ◌+◌, ◌%◌, ◌<◌, ◌≤◌, ◌||◌, List, [], ◌∷◌, length, slice_set, slice_index_or, refl, sym, ap, ◌∙◌, subst, arith, Bool, true, false, if◌then◌else◌, nat_lt, below_more, replicate}
 use Rattle.std.proofs.lemmas.Bool.Decides.{nat_tests}
 use Rattle.std.proofs.lemmas.List.{get_or-set_same, get_or-set_other, get_or-replicate}
 use Rattle.sm_words.specs.Words.{nth}
 use Rattle.sm_words.specs.declared.width.Width.{Width}
 use Rattle.sm_words.specs.declared.width.Width.TheVariants.{Word, Byte}
 use Rattle.pc_access.specs.declared.Kind.TheVariants.{Read}
-use Rattle.pc_access.specs.Rights.{misaligned}
 use Rattle.mod_layout.specs.declared.Module.{Module}
-use Rattle.mod_layout.specs.Table.{holds}
 use Rattle.flow_rule.specs.declared.Val.{Val}
 use Rattle.flow_rule.specs.declared.Val.TheVariants.{Known, Secret}
 use Rattle.flow_rule.specs.Values.{narrow, over_one}
@@ -16,7 +14,7 @@ use Rattle.flow_rule.specs.Does.{half}
 use Rattle.flow_check.specs.declared.vector.Vector.{Vector}
 use Rattle.flow_check.specs.Vectors.{cell, cell_by, column}
 use Rattle.flow_check.specs.Waves.{IsSpot, struck}
-use Rattle.flow_check.specs.Gliding.{IsWordThere, IsRoom}
+use Rattle.flow_check.specs.Gliding.{IsWordThere}
 use Rattle.flow_check.specs.GlidingTwo.{old_near}
 use Rattle.flow_check.proofs.Columns.{column_set, column_nth, column_none, column_length, set_past}
 use Rattle.flow_check.proofs.GlidingOne.{word_apart, byte_apart, reads_too}
@@ -106,16 +104,6 @@ spots_more m w addrs numbers k x lt before here =
     below_more (λ j. IsSpot m w (nth j addrs 0) (nth j (slice_set numbers k x) 0)) k
     (λ j low. subst (λ n. IsSpot m w (nth j addrs 0) n) (sym (get_or-set_other numbers k j x 0 (omega (arith, low)))) (before j low))
     (subst (λ n. IsSpot m w (nth k addrs 0) n) (sym (get_or-set_same numbers k x 0 lt)) here)
-
--- the number of the word at an address of the data's first
-pub spot_first : (m : Module) (w : Width) (room a b : ℕ) → IsRoom m room → a < 65536 → a ≡ b → m.ram.start ≤ a → a < m.ram.start + room → misaligned w a ≡ false →
-    IsSpot m w b ((a + (65536 - m.ram.start)) % 65536 / 2)
-spot_first m w room a b is fits e low high even =
-    subst (λ c. IsSpot m w c ((a + (65536 - m.ram.start)) % 65536 / 2)) e (record {
-      number = let d : (a + (65536 - m.ram.start)) % 65536 ≡ a - m.ram.start = omega arith in ap (λ x. x / 2) d;
-      apart = is.apart a low high;
-      write = ap (λ b. not b && holds m.ram a) even ∙ is.inside a low high;
-    })
 
 -- a word is as it is written
 fitted_by : (n : ℕ) (hidden away secret : Bool) → n < 65536 → cell_by n hidden away secret ≡ narrow Word (cell_by n hidden away secret)

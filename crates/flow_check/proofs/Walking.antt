@@ -23,7 +23,7 @@ use Rattle.flow_rule.specs.Arms.{written_regs, written_words, met_regs, met_word
 use Rattle.flow_check.specs.declared.step.Cause.{Cause}
 use Rattle.flow_check.specs.declared.arms.Crossing.{Crossing}
 use Rattle.flow_check.specs.declared.walk.Tally.{Tally}
-use Rattle.flow_check.specs.Causes.{lesser, noted}
+use Rattle.flow_check.specs.Causes.{noted}
 use Rattle.flow_check.specs.Pairs.{point_of, addrs_of, points_at, label_at}
 use Rattle.flow_check.specs.Walks.{told, branch_of, crossing_by, crossed}
 use Rattle.flow_check.proofs.Blots.{core_append, words_append}
@@ -66,17 +66,6 @@ module _ (S : Point → Step) (m : Module) (text : List ℕ) (branch join : ℕ)
       by b f =
           ap (λ c. record { least = noted (because_if b branch ArmInsn next) t.least; cycles = c; label = t.label }) (let g : t.cycles + 0 ≡ t.cycles = omega arith in g)
           ∙ ap (λ l. record t { least = l }) (ap (λ b. noted (because_if b branch ArmInsn next) t.least) f ∙ sym (e branch))
-
-  -- an instruction with a cause
-  pub walk_stops : (steps : ℕ) (x : Point) (t : Tally) (next : ℕ) (l : Option Cause) → x.pair.addr ≢ join → arm_on m.text text join x.pair.addr ≡ Some next → (S x).reasons ≢ [] →
-      l ≡ lesser t.least (record { reason = ArmInsn; value = x.pair.addr }) → told (walk S m text branch join (suc steps) x) t ≡ record t { least = l }
-  walk_stops steps x t next l ne on some e = ap (λ w. told w t) (walk_at steps x (Some next) ne on) ∙ by (S x).reasons some
-    where
-      by : (rs : List Found) → rs ≢ [] → told (walk_past rs (S x).gives branch (holds m.text join || not (next == join)) next m text x (walk S m text branch join steps)) t ≡ record t { least = l }
-      by [] some = absurd (some refl)
-      by (r ∷ rs) some =
-          ap (λ c. record { least = lesser t.least (record { reason = ArmInsn; value = x.pair.addr }); cycles = c; label = t.label }) (let g : t.cycles + 0 ≡ t.cycles = omega arith in g)
-          ∙ ap (λ l. record t { least = l }) (sym e)
 
   -- an instruction that goes on
   pub walk_goes : (steps : ℕ) (x y : Point) (ys : List Point) (t : Tally) (next : ℕ) (insn : Insn) → x.pair.addr ≢ join → arm_on m.text text join x.pair.addr ≡ Some next → met m.text text x.pair.addr ≡ Some insn →

@@ -30,22 +30,18 @@ not_same : (k n : ℕ) → k < n → k ≢ n
 not_same k n lt e = omega (arith, lt, e)
 
 -- one lane more has its job's label
-pub one_boarded : (n m : ℕ) (w0 w1 : Wave) (stand : Stand) (jobs : List Job) (z : Job) → ((d : Job) → n < length jobs → stands stand (get_or jobs n d) ≡ true → m ≡ n) →
-    lane_label n w1 ≡ (get_or jobs m z).place.label → ((j : ℕ) → j ≢ n → lane_label j w1 ≡ lane_label j w0) →
+pub one_boarded : (n : ℕ) (w0 w1 : Wave) (stand : Stand) (jobs : List Job) → ((d : Job) → n < length jobs → stands stand (get_or jobs n d) ≡ true → lane_label n w1 ≡ (get_or jobs n d).place.label) →
+    ((j : ℕ) → j ≢ n → lane_label j w1 ≡ lane_label j w0) →
     ((k : ℕ) (d : Job) → k < n → k < length jobs → stands stand (get_or jobs k d) ≡ true → lane_label k w0 ≡ (get_or jobs k d).place.label) →
     (k : ℕ) (d : Job) → k < n + 1 → k < length jobs → stands stand (get_or jobs k d) ≡ true → lane_label k w1 ≡ (get_or jobs k d).place.label
-one_boarded n m w0 w1 stand jobs z own here others before k d lt few e = by (below_or k n lt)
+one_boarded n w0 w1 stand jobs here others before k d lt few e = by (below_or k n lt)
   where
-    at : (i : ℕ) → i ≡ n → i < length jobs → stands stand (get_or jobs i d) ≡ true → lane_label i w1 ≡ (get_or jobs i d).place.label
-    at i ei fewi si =
-        let lt : n < length jobs = subst (λ j. j < length jobs) ei fewi in
-        let st : stands stand (get_or jobs n d) ≡ true = subst (λ j. stands stand (get_or jobs j d) ≡ true) ei si in
-        subst (λ j. lane_label j w1 ≡ (get_or jobs j d).place.label) (sym ei)
-        (here ∙ ap (λ j. (get_or jobs j z).place.label) (own d lt st) ∙ ap (λ (x : Job). x.place.label) (get_or_default jobs n z d lt))
-
     by : (k < n) ⊎ (k ≡ n) → lane_label k w1 ≡ (get_or jobs k d).place.label
     by (inl l) = others k (not_same k n l) ∙ before k d l few e
-    by (inr l) = at k l few e
+    by (inr l) =
+        let lt : n < length jobs = subst (λ j. j < length jobs) l few in
+        let st : stands stand (get_or jobs n d) ≡ true = subst (λ j. stands stand (get_or jobs j d) ≡ true) l e in
+        subst (λ j. lane_label j w1 ≡ (get_or jobs j d).place.label) (sym l) (here d lt st)
 
 -- ---- each job lands, or keeps still
 

@@ -31,9 +31,8 @@ use Rattle.flow_check.specs.Vectors.{column}
 use Rattle.flow_check.specs.Waves.{is_served, IsSpot}
 use Rattle.flow_check.proofs.Blots.{core_append}
 use Rattle.flow_check.proofs.Columns.{column_length}
-use Rattle.flow_check.proofs.Gliding.{put_other, flags_keep, even_kept}
+use Rattle.flow_check.proofs.Gliding.{put_other, flags_keep, even_kept, raised_still, pc_held}
 use Rattle.flow_check.proofs.GlidingOne.{glided_memory, glided_pushing, reach_clear, reads_too}
-use Rattle.flow_check.proofs.GlidingOwn.{raised_still, pc_held}
 use Rattle.flow_check.proofs.GlidingTwo.{two_glided, tried_read, tried_write, near_put, near_told, old_there, label_is}
 
 -- ---- registers

@@ -1,5 +1,5 @@
 -- An instruction of an arm, without lists.
-use Rattle.std.specs.Prelude.{◌≡◌, ◌≢◌, ℕ, List, [], ◌∷◌, map, ◌==◌, ◌||◌, not, Bool, true, false, Option, Some, None}
+use Rattle.std.specs.Prelude.{◌≡◌, ℕ, List, [], ◌∷◌, map, ◌==◌, Bool, true, false, Option, Some, None}
 use Rattle.sm_words.specs.declared.width.Width.{Width}
 use Rattle.sm_words.specs.declared.width.Width.TheVariants.{Word}
 use Rattle.insn_decode.specs.declared.insn.OneOp.{OneOp}
@@ -14,9 +14,7 @@ use Rattle.flow_rule.specs.declared.Label.{Label}
 use Rattle.flow_rule.specs.Values.{narrow}
 use Rattle.flow_rule.specs.Does.{Done_val, plan_val, given_val, read_val, read_reaches, write_reaches, writes_val, does_val, word_no}
 use Rattle.flow_rule.specs.Rounds.{Found, Step}
-use Rattle.flow_rule.specs.Stub.{word_number, is_open, is_shut}
-use Rattle.flow_check.specs.declared.along.Way.{Way}
-use Rattle.flow_check.specs.declared.along.Way.TheVariants.{On, Out, Cause}
+use Rattle.flow_rule.specs.Stub.{word_number, is_open}
 
 -- nothing is found
 abbrev pub is_clear : List Found → Bool
@@ -54,14 +52,6 @@ abbrev pub words_at : Module → Option Val → List ℕ
 words_at m (Some (Known a)) = word_no m a ∷ []
 words_at m _ = []
 
--- to an address of the text, where the stub's shut words may be open
-abbrev pub way_if : Bool → ℕ → Way
-way_if true to = On to
-way_if false to = Cause
-
-abbrev pub way_in : Module → Bool → ℕ → Way
-way_in m free to = way_if (free || not (is_shut (word_number m to))) to
-
 -- whether a stub's shut words, if there is a stub, are open to the instruction at an address
 abbrev pub in_open : Option ℕ → Module → ℕ → Bool
 in_open (Some n) m pc = is_open (word_number m pc)
@@ -72,9 +62,7 @@ abbrev pub is_call_word : Option ℕ → Module → ℕ → Bool
 is_call_word (Some n) m pc = word_number m pc == 17
 is_call_word None m pc = false
 
--- a step goes on so: to one address with these return addresses and this label, out of the text, or nowhere
-abbrev pub LeadsTo : Way → Step → List ℕ → List Val → List Val → Type 0
-LeadsTo (On to) s returns core words =
+-- a step goes on at this address with these return addresses and this label
+abbrev pub LeadsTo : ℕ → Step → List ℕ → List Val → List Val → Type 0
+LeadsTo to s returns core words =
     (s.reasons ≡ []) × (s.gives ≡ record { pair = record { addr = to; returns = returns }; label = record { core = core; words = words } } ∷ [])
-LeadsTo Out s returns core words = (s.reasons ≡ []) × (s.gives ≡ [])
-LeadsTo Cause s returns core words = s.reasons ≢ []

@@ -1,5 +1,5 @@
 -- The shortest instructions of an arm: what their source gives.
-use Rattle.std.specs.Prelude.{◌≡◌, ◌≤◌, ◌<◌, ◌+◌, ℕ, List, [], true, false, Some, None}
+use Rattle.std.specs.Prelude.{◌≡◌, ℕ, List, true, Some}
 use Rattle.sm_words.specs.Words.{add16}
 use Rattle.sm_words.specs.declared.width.Width.{Width}
 use Rattle.insn_decode.specs.declared.insn.TwoOp.{TwoOp}
@@ -7,14 +7,13 @@ use Rattle.insn_decode.specs.declared.insn.Operand.{Operand}
 use Rattle.insn_decode.specs.declared.insn.Operand.TheVariants.{Reg}
 use Rattle.cpu_step.specs.Plan.{writes_dst}
 use Rattle.insn_decode.specs.declared.insn.Insn.{Insn}
-use Rattle.pc_access.specs.declared.Kind.TheVariants.{Read, Write}
+use Rattle.pc_access.specs.declared.Kind.TheVariants.{Read}
 use Rattle.mod_layout.specs.declared.Module.{Module}
-use Rattle.mod_layout.specs.Table.{holds}
 use Rattle.flow_rule.specs.declared.Val.{Val}
 use Rattle.flow_rule.specs.declared.Val.TheVariants.{Known}
 use Rattle.flow_rule.specs.declared.Label.{Label}
 use Rattle.flow_rule.specs.Values.{narrow, put_val, val}
-use Rattle.flow_rule.specs.Does.{given_val, place_val, reach_if, stepped_val, read_val, plan_val, write_reaches, word_no, may_reach}
+use Rattle.flow_rule.specs.Does.{place_val, reach_if, stepped_val, read_val, plan_val, write_reaches}
 use Rattle.flow_rule.specs.Reasons.{reach_reasons}
 use Rattle.flow_rule.specs.Arms.{written_reg, written_regs, written_words, blot, blot_core}
 use Rattle.flow_check.specs.Along.{is_clear, taken_by, done_by, words_by}
@@ -50,21 +49,3 @@ pub record IsGlided (m : Module) (text : List ℕ) (insn : Insn) (pc next : ℕ)
   pub fine : is_clear (reach_reasons m pc (plan_val insn pc l.core)) ≡ true
   pub there : val l1.core 0 ≡ Known next
   pub told : b1 ≡ record { core = blot_core (written_regs insn) b.core; words = blot (written_words m (write_reaches (plan_val insn pc l.core))) b.words }
-
--- this value is what a source gives that does not stand in memory
-pub record IsGiven (s : Operand) (w : Width) (core : List Val) (ext : ℕ) (v : Val) : Type 0 where
-  pub place : place_val s core ext ≡ None
-  pub value : v ≡ given_val s w core []
-
--- so many addresses of the data from its start on are no part of the text and have words of their own
-pub record IsRoom (m : Module) (room : ℕ) : Type 0 where
-  pub few : room ≤ 512
-  pub apart : (a : ℕ) → m.ram.start ≤ a → a < m.ram.start + room → holds m.text a ≡ false
-  pub inside : (a : ℕ) → m.ram.start ≤ a → a < m.ram.start + room → holds m.ram a ≡ true
-
--- at this address, which may be written and is no part of the text, stands the word of the data with this number
-pub record IsNear (m : Module) (w : Width) (a n : ℕ) : Type 0 where
-  pub few : n < 256
-  pub number : n ≡ word_no m a
-  pub apart : holds m.text a ≡ false
-  pub write : may_reach m Write w a ≡ true

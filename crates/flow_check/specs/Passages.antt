@@ -1,5 +1,5 @@
 -- One walk along the arms of a branch serves many labels.
-use Rattle.std.specs.Prelude.{◌≡◌, ℕ, List, [], ◌++◌, replicate, Option, Some, None}
+use Rattle.std.specs.Prelude.{◌≡◌, ◌≢◌, ℕ, List, [], ◌++◌, replicate, Option, Some, None, Bool, true, false, All}
 use Rattle.mod_layout.specs.declared.Module.{Module}
 use Rattle.flow_rule.specs.declared.Label.{Label}
 use Rattle.flow_rule.specs.declared.Val.TheVariants.{Public}
@@ -8,7 +8,7 @@ use Rattle.flow_rule.specs.Arms.{blot, blot_core, first_walk, second_walk, step_
 use Rattle.flow_rule.specs.Verdict.{flow_step}
 use Rattle.flow_check.specs.declared.arms.Crossing.{Crossing}
 use Rattle.flow_check.specs.declared.passages.Answer.{Answer}
-use Rattle.flow_check.specs.declared.passages.Answer.TheVariants.{Open, Shut}
+use Rattle.flow_check.specs.declared.passages.Answer.TheVariants.{Open, Shut, Barred}
 use Rattle.flow_check.specs.declared.passages.Passage.{Passage}
 use Rattle.flow_check.specs.declared.step.Cause.{Cause}
 use Rattle.flow_check.specs.Causes.{noted}
@@ -46,7 +46,17 @@ answer_of None told = Open told
 abbrev pub ComesTo : Module → List ℕ → Crossing → Point → Answer → Type 0
 ComesTo m text c x (Open told) = ((crossing_step m text c x).reasons ≡ []) × (told ≡ blotted m text c x blank)
 ComesTo m text c x (Shut cause) = noted (crossing_step m text c x).reasons None ≡ Some cause
+ComesTo m text c x Barred = (crossing_step m text c x).reasons ≢ []
 
 -- what is kept of a branch's arms is so under its own label, with its own return addresses
 abbrev pub IsPassage : Module → List ℕ → Passage → Type 0
 IsPassage m text p = ComesTo m text p.crossing (point_of p.branch p.returns p.label) p.answer
+
+-- a passage that is proved is so; another is there where claims are trusted
+abbrev pub IsKept : Module → List ℕ → Bool → Passage → Type 0
+IsKept m text trusting p = (p.proved ≡ true → IsPassage m text p) × (p.proved ≡ false → trusting ≡ true)
+
+-- what was kept is kept still, and if all of these passages are so, all of those were
+pub record Grows (m : Module) (text : List ℕ) (trusting : Bool) (old new : List Passage) : Type 0 where
+  pub kept : All (IsKept m text trusting) old → All (IsKept m text trusting) new
+  pub back : All (IsKept m text trusting) old → All (IsPassage m text) new → All (IsPassage m text) old

@@ -1,11 +1,9 @@
 -- The instructions of a text, each met once.
-use Rattle.std.specs.Prelude.{◌≡◌, ℕ, zero, suc, ◌+◌, ◌-◌, ◌*◌, ◌/◌, ◌%◌, ◌==◌, ◌&&◌, not, nat_le, nat_lt, Bool, true, false, List, [], ◌∷◌, length, Option, Some, None}
+use Rattle.std.specs.Prelude.{◌≡◌, ℕ, zero, suc, ◌+◌, ◌-◌, ◌*◌, ◌/◌, ◌%◌, ◌==◌, ◌&&◌, not, nat_lt, Bool, true, List, [], ◌∷◌, length, Option, Some, None}
 use Rattle.insn_decode.specs.declared.insn.Insn.{Insn}
-use Rattle.insn_decode.specs.declared.insn.Insn.TheVariants.{Two, Unit as UnitOp}
+use Rattle.insn_decode.specs.declared.insn.Insn.TheVariants.{Unit as UnitOp}
 use Rattle.insn_decode.specs.declared.insn.Operand.{Operand}
 use Rattle.insn_decode.specs.declared.insn.Operand.TheVariants.{Reg, Indexed, Indirect, Increment}
-use Rattle.sm_words.specs.declared.width.Width.{Width}
-use Rattle.sm_words.specs.declared.width.Width.TheVariants.{Word, Byte}
 use Rattle.cycle_table.specs.Cycles.{cycles_of}
 use Rattle.mod_layout.specs.declared.Module.{Module}
 use Rattle.mod_layout.specs.Table.{holds}
@@ -13,9 +11,6 @@ use Rattle.entry_stubs.specs.Stub.{unknown_word}
 use Rattle.arm_balance.specs.Met.{met}
 use Rattle.arm_balance.specs.Balance.{arm_next, next_if}
 use Rattle.flow_rule.specs.Stub.{word_number}
-use Rattle.flow_check.specs.declared.table.Own.{Own}
-use Rattle.flow_check.specs.declared.table.Plain.{Plain}
-use Rattle.flow_check.specs.declared.table.Plain.TheVariants.{Words, Bytes, Other}
 use Rattle.flow_check.specs.declared.table.Entry.{Entry}
 
 -- the cycles of what is met, which only a unit instruction lacks
@@ -54,24 +49,13 @@ is_apart (Indirect r) = is_other r
 is_apart (Increment r) = is_other r && not (r == 2)
 is_apart s = true
 
-abbrev pub own_if : Bool → Width → Own → Plain
-own_if true Word own = Words own
-own_if true Byte own = Bytes own
-own_if false w own = Other
-
--- the form of what is met and goes on at an address: an operation into a register but PC, from such a source, or another
-abbrev pub plain_by : Option ℕ → Option Insn → Plain
-plain_by (Some next) (Some (Two op w s (Reg r))) =
-    own_if (nat_le 1 r && nat_lt r 16 && is_apart s) w (record { op = op; src = s; reg = r; next = next })
-plain_by g o = Other
-
 -- what is met at an address
 abbrev pub entry_by : Module → List ℕ → ℕ → Entry
 entry_by m text a =
     let o = met m.text text a in
     let next = arm_next 65535 a o in
     let glides = glides_by m a next in
-    record { met = o; time = time_of o; next = next; glides = glides; to = place_of m next; plain = plain_by glides o }
+    record { met = o; time = time_of o; next = next; glides = glides; to = place_of m next }
 
 -- what is met at so many places of the text, from this place on
 abbrev pub entries_from : Module → List ℕ → ℕ → ℕ → List Entry

@@ -4,7 +4,6 @@ ghost use Rattle.std.specs.Prelude.{◌≡◌, ◌∷◌, List};
 ghost use Rattle.flow_rule.specs.declared.Reach.{Reach};
 ghost use Rattle.flow_rule.specs.Does.{write_reaches};
 ghost use Rattle.flow_check.specs.Walks.{one_regs};
-ghost use Rattle.flow_check.specs.Along.{words_at};
 ghost use Rattle.flow_rule.specs.Arms.{stepped_regs, written_reg, written_regs, written_words, blot, blot_core};
 
 use crate::reach::writes_destination;
@@ -84,15 +83,5 @@ pub fn blot_words(module: &Module, reaches: &[Reach], words: &mut [Val; 256])
 {
     for reach in reaches {
         blot_reach(module, reach, words);
-    }
-}
-
-/// The word at this address.
-#[inline(always)]
-pub fn blot_at(module: &Module, written: Option<Val>, words: &mut [Val; 256])
-    ensures { words.new ≡ blot (words_at module.now written) words.old }
-{
-    if let Some(Val::Known(addr)) = written {
-        put_word(words, word_number(module, addr), Val::Secret);
     }
 }

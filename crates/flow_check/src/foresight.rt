@@ -1,17 +1,19 @@
-//! What pairs want to know of a branch's arms is learned together: in a round that of the next ones.
+//! What pairs want to know of a branch's arms is learned together, in a round that of the next ones: as claims, or by
+//! walks.
 
-ghost use Rattle.std.specs.Prelude.{◌≡◌, ◌≤◌, ℕ, List, All, IfSome, IfOk};
+ghost use Rattle.std.specs.Prelude.{◌≡◌, ◌≤◌, ℕ, Bool, List, All, IfSome, IfOk};
 ghost use Rattle.mod_layout.specs.declared.Module.{Module};
 ghost use Rattle.arm_balance.specs.Certificates.{BranchesRise};
 ghost use Rattle.flow_check.specs.Jobs.{IsWalked};
 ghost use Rattle.flow_check.specs.Links.{Onward};
 ghost use Rattle.flow_check.specs.Pairs.{IsStub};
-ghost use Rattle.flow_check.specs.Passages.{IsPassage};
+ghost use Rattle.flow_check.specs.Passages.{IsPassage, Grows};
 ghost use Rattle.flow_check.specs.Tables.{IsTable};
 
 use crate::arms::{Crossing, crossing_of};
+use crate::claims::make_room;
 use crate::jobs::{Job, walk_arms_all};
-use crate::passages::{Ahead, MOST_AHEAD, Passages, Under, is_in_vain};
+use crate::passages::{Ahead, MOST_AHEAD, Passages};
 use crate::registers::get;
 use crate::rounds::{Changed, Labelling};
 use crate::table::{Entry, met_of};
@@ -20,7 +22,7 @@ use arm_balance::Arm;
 use flow_rule::Label;
 use mod_layout::Module;
 use sm_words::SR;
-use std::alloc::AllocError;
+use std::alloc::{AllocError, Global};
 
 /// How far ahead the pairs are looked for.
 const REACH: usize = 128;
@@ -48,7 +50,7 @@ fn gather_one(
         at: changed.at,
         own,
         returns: changed.pair.returns,
-        under: Under::Own,
+        leads: true,
     })?;
     Ok(())
 }
@@ -81,8 +83,11 @@ fn keep_at(
     ahead: &mut Vec<Ahead>,
     k: usize,
 ) -> Result<(), AllocError>
-    ensures { IfOk result (λ _. (m : Module) (text : List ℕ) → IsWalked m text crossing.now pc job.now →
+    ensures passages { IfOk result (λ _. (m : Module) (text : List ℕ) → IsWalked m text crossing.now pc job.now →
         All (IsPassage m text) passages.old.list.items → All (IsPassage m text) passages.new.list.items) }
+    ensures grows { IfOk result (λ _. (m : Module) (text : List ℕ) (trusting : Bool) →
+        IsWalked m text crossing.now pc job.now →
+        Grows m text trusting passages.old.list.items passages.new.list.items) }
 {
     match ahead.get_mut(k) {
         Some(one) => passages.keep_told(crossing, pc, job, one),
@@ -98,9 +103,12 @@ fn keep_all(
     jobs: &[Job],
     ahead: &mut Vec<Ahead>,
 ) -> Result<(), AllocError>
-    ensures { IfOk result (λ _. (m : Module) (text : List ℕ) →
+    ensures passages { IfOk result (λ _. (m : Module) (text : List ℕ) →
         All (IsWalked m text crossing.now pc) jobs.now → All (IsPassage m text) passages.old.list.items →
         All (IsPassage m text) passages.new.list.items) }
+    ensures grows { IfOk result (λ _. (m : Module) (text : List ℕ) (trusting : Bool) →
+        All (IsWalked m text crossing.now pc) jobs.now →
+        Grows m text trusting passages.old.list.items passages.new.list.items) }
 {
     for k in 0..jobs.len() {
         keep_at(passages, crossing, pc, &jobs[k], ahead, k)?;
@@ -136,14 +144,15 @@ pub fn learn_jobs(
 ) -> Result<(), AllocError>
     requires few { IfSome entries (λ n. n ≤ 64) }
     requires table { IsTable module.now text.now table.now }
-    requires passages { IsStub module.now text.now entries →
-        All (IsPassage module.now text.now) passages.old.list.items }
     ensures pairs { all.new.pairs ≡ all.old.pairs }
     ensures labels { all.new.labels ≡ all.old.labels }
     ensures marks { all.new.marks ≡ all.old.marks }
     ensures onward { Onward all.old all.new }
     ensures passages { IfOk result (λ _. IsStub module.now text.now entries →
+        All (IsPassage module.now text.now) passages.old.list.items →
         All (IsPassage module.now text.now) passages.new.list.items) }
+    ensures grows { IfOk result (λ _. IsStub module.now text.now entries → (trusting : Bool) →
+        Grows module.now text.now trusting passages.old.list.items passages.new.list.items) }
 {
     walk_arms_all(module, text, table, entries, crossing, pc, jobs);
     keep_all(passages, crossing, pc, jobs, ahead)?;
@@ -151,79 +160,15 @@ pub fn learn_jobs(
     Ok(())
 }
 
-/// Notes the walk of the k-th label itself, if one under a label that says less was in vain.
-fn want_again(
-    jobs: &[Job],
-    labels: &[Label],
-    ahead: &[Ahead],
-    k: usize,
-    again: &mut Vec<Job>,
-    left: &mut Vec<Ahead>,
-) -> Result<(), AllocError> {
-    if let Some(job) = jobs.get(k)
-        && let Some(label) = labels.get(k)
-        && let Some(one) = ahead.get(k)
-        && is_in_vain(job, one.under)
-    {
-        again.push(Job::new(label, &one.returns))?;
-        left.push(Ahead {
-            under: Under::Own,
-            ..*one
-        })?;
+/// The walks of these pairs, each under its own label.
+fn jobs_of(alloc: Global, labels: &[Label], wanted: &[Ahead]) -> Result<Vec<Job>, AllocError> {
+    let mut jobs = Vec::with_capacity(alloc, MOST_AHEAD)?;
+    for k in 0..labels.len() {
+        if let Some(one) = wanted.get(k) {
+            jobs.push(Job::new(&labels[k], &one.returns))?;
+        }
     }
-    Ok(())
-}
-
-/// The same of all labels.
-fn want_all_again(
-    jobs: &[Job],
-    labels: &[Label],
-    ahead: &[Ahead],
-    again: &mut Vec<Job>,
-    left: &mut Vec<Ahead>,
-) -> Result<(), AllocError> {
-    for k in 0..jobs.len() {
-        want_again(jobs, labels, ahead, k, again, left)?;
-    }
-    Ok(())
-}
-
-/// Walks the labels themselves where walks under labels that say less were in vain.
-#[tactic(auto, using(crate::proofs::Foretold::onward_own))]
-fn learn_again(
-    module: &Module,
-    text: &[u8],
-    table: &[Entry],
-    entries: Option<u16>,
-    crossing: &Crossing,
-    pc: u16,
-    passages: &mut Passages,
-    all: &mut Labelling,
-    jobs: &[Job],
-    labels: &[Label],
-    ahead: &[Ahead],
-) -> Result<(), AllocError>
-    requires few { IfSome entries (λ n. n ≤ 64) }
-    requires table { IsTable module.now text.now table.now }
-    requires passages { IsStub module.now text.now entries →
-        All (IsPassage module.now text.now) passages.old.list.items }
-    ensures pairs { all.new.pairs ≡ all.old.pairs }
-    ensures labels { all.new.labels ≡ all.old.labels }
-    ensures marks { all.new.marks ≡ all.old.marks }
-    ensures onward { Onward all.old all.new }
-    ensures passages { IfOk result (λ _. IsStub module.now text.now entries →
-        All (IsPassage module.now text.now) passages.new.list.items) }
-{
-    let mut again = Vec::new(passages.alloc());
-    let mut left = Vec::new(passages.alloc());
-    want_all_again(jobs, labels, ahead, &mut again, &mut left)?;
-    if again.is_empty() {
-        return Ok(());
-    }
-    let walks = again.as_mut_slice();
-    learn_jobs(
-        module, text, table, entries, crossing, pc, passages, all, walks, &mut left,
-    )
+    Ok(jobs)
 }
 
 /// The next pairs, from the k-th on.
@@ -238,8 +183,9 @@ fn next_of(front: &[Changed], k: usize) -> &[Changed] {
     }
 }
 
-/// Learns what the k-th pair and the next ones want to know of a branch's arms.
-#[tactic(auto, using(crate::proofs::Foretold::onward_own))]
+/// Learns what the k-th pair and the next ones want to know of a branch's arms: as a claim of the scout, where claims
+/// are trusted, and else by walks.
+#[tactic(auto, using(crate::proofs::Foretold::onward_own, crate::proofs::Claiming::grows_none))]
 fn learn_next(
     module: &Module,
     text: &[u8],
@@ -247,43 +193,41 @@ fn learn_next(
     entries: Option<u16>,
     crossing: &Crossing,
     pc: u16,
+    trusting: bool,
     passages: &mut Passages,
     all: &mut Labelling,
     front: &[Changed],
 ) -> Result<(), AllocError>
     requires few { IfSome entries (λ n. n ≤ 64) }
     requires table { IsTable module.now text.now table.now }
-    requires passages { IsStub module.now text.now entries →
-        All (IsPassage module.now text.now) passages.old.list.items }
     ensures pairs { all.new.pairs ≡ all.old.pairs }
     ensures labels { all.new.labels ≡ all.old.labels }
     ensures marks { all.new.marks ≡ all.old.marks }
     ensures onward { Onward all.old all.new }
-    ensures passages { IfOk result (λ _. IsStub module.now text.now entries →
-        All (IsPassage module.now text.now) passages.new.list.items) }
+    ensures grows { IfOk result (λ _. IsStub module.now text.now entries →
+        Grows module.now text.now trusting passages.old.list.items passages.new.list.items) }
 {
     let mut labels = Vec::with_capacity(passages.alloc(), MOST_AHEAD)?;
     let mut wanted = Vec::with_capacity(passages.alloc(), MOST_AHEAD)?;
     gather(crossing, pc, passages, all, front, &mut labels, &mut wanted)?;
-    let mut jobs = Vec::with_capacity(passages.alloc(), MOST_AHEAD)?;
-    let mut ahead = Vec::with_capacity(passages.alloc(), MOST_AHEAD)?;
-    passages.want_all(
-        module,
-        text,
-        table,
-        entries,
-        crossing,
-        pc,
-        labels.as_slice(),
-        wanted.as_slice(),
-        &mut jobs,
-        &mut ahead,
-    )?;
+    let labels = labels.as_slice();
+    if trusting {
+        passages.claim_all(
+            module,
+            text,
+            table,
+            entries,
+            crossing,
+            pc,
+            labels,
+            &mut wanted,
+        )?;
+        point_all(all, wanted.as_slice());
+        return Ok(());
+    }
+    let mut jobs = jobs_of(passages.alloc(), labels, wanted.as_slice())?;
     let walks = jobs.as_mut_slice();
     learn_jobs(
-        module, text, table, entries, crossing, pc, passages, all, walks, &mut ahead,
-    )?;
-    learn_again(
         module,
         text,
         table,
@@ -292,21 +236,21 @@ fn learn_next(
         pc,
         passages,
         all,
-        jobs.as_slice(),
-        labels.as_slice(),
-        ahead.as_slice(),
+        walks,
+        &mut wanted,
     )
 }
 
-/// Learns together what the k-th pair of a round and the next ones want to know of a branch's arms: up to sixteen
-/// that go side by side take about what two take alone.
-#[tactic(auto, using(crate::proofs::Foretold::onward_own))]
+/// Learns together what the k-th pair of a round and the next ones want to know of a branch's arms, up to sixteen of
+/// them. Where much is claimed, that is proved before.
+#[tactic(auto, using(crate::proofs::Foretold::onward_own, crate::proofs::Claiming::grows_none))]
 pub fn foresee(
     module: &Module,
     text: &[u8],
     table: &[Entry],
     entries: Option<u16>,
     arms: &[Arm],
+    trusting: bool,
     passages: &mut Passages,
     all: &mut Labelling,
     front: &[Changed],
@@ -315,14 +259,12 @@ pub fn foresee(
     requires few { IfSome entries (λ n. n ≤ 64) }
     requires table { IsTable module.now text.now table.now }
     requires rise { BranchesRise arms.now }
-    requires passages { IsStub module.now text.now entries →
-        All (IsPassage module.now text.now) passages.old.list.items }
     ensures pairs { all.new.pairs ≡ all.old.pairs }
     ensures labels { all.new.labels ≡ all.old.labels }
     ensures marks { all.new.marks ≡ all.old.marks }
     ensures onward { Onward all.old all.new }
-    ensures passages { IfOk result (λ _. IsStub module.now text.now entries →
-        All (IsPassage module.now text.now) passages.new.list.items) }
+    ensures grows { IfOk result (λ _. IsStub module.now text.now entries →
+        Grows module.now text.now trusting passages.old.list.items passages.new.list.items) }
 {
     let Some(changed) = front.get(k) else {
         return Ok(());
@@ -339,15 +281,10 @@ pub fn foresee(
     if !passages.asks(own, &crossing, pc, &changed.label) {
         return Ok(());
     }
+    make_room(module, text, table, entries, passages)?;
+    let next = next_of(front, k);
     learn_next(
-        module,
-        text,
-        table,
-        entries,
-        &crossing,
-        pc,
-        passages,
-        all,
-        next_of(front, k),
-    )
+        module, text, table, entries, &crossing, pc, trusting, passages, all, next,
+    )?;
+    Ok(())
 }

@@ -1,5 +1,7 @@
 //! What stands at the places that arms reach: words of a label, other data, and the text.
 
+ghost use Rattle.std.specs.Prelude.{◌<◌};
+
 use crate::forms::FIRST_WORD;
 use crate::rows::raised;
 use mod_layout::Module;
@@ -95,17 +97,68 @@ impl<'a> Ground<'a> {
         self.text_at(width, at).unwrap_or(0)
     }
 
+    /// A byte of the text, or 0.
+    #[inline(always)]
+    fn text_byte(&self, at: usize) -> u16
+        ensures { result < 256 }
+    {
+        match self.text.get(at) {
+            Some(byte) => u16::from(*byte),
+            None => 0,
+        }
+    }
+
+    /// A word of the text, of which bytes that are missing are 0.
+    #[inline(always)]
+    fn text_word(&self, at: usize) -> u16
+        requires { at < 65536 }
+    {
+        if at + 1 < self.text.len() {
+            return u16::from(self.text[at]) + 256 * u16::from(self.text[at + 1]);
+        }
+        self.text_byte(at) + 256 * self.text_byte(at + 1)
+    }
+
+    /// The words at these places, counted from the text's start.
+    #[inline(always)]
+    fn words_there<const P: usize>(&self, places: [u16; P]) -> [u16; P] {
+        let mut found = places;
+        for k in 0..P {
+            found[k] = self.text_word(usize::from(found[k]));
+        }
+        found
+    }
+
+    /// The bytes there.
+    #[inline(always)]
+    fn bytes_there<const P: usize>(&self, places: [u16; P]) -> [u16; P] {
+        let mut found = places;
+        for k in 0..P {
+            found[k] = self.text_byte(usize::from(found[k]));
+        }
+        found
+    }
+
+    /// What stands at these places of the text.
+    #[inline(always)]
+    pub fn texts<const P: usize>(&self, width: Width, places: &[u16; P]) -> [u16; P] {
+        match width {
+            Width::Byte => self.bytes_there(self.in_text(places)),
+            Width::Word => self.words_there(self.in_text(places)),
+        }
+    }
+
     /// What stands at a place of the text.
     #[inline(always)]
-    fn text_at(&self, width: Width, at: usize) -> Option<u16> {
+    fn text_at(&self, width: Width, at: usize) -> Option<u16>
+        requires { at < 65536 }
+    {
+        if at >= usize::from(self.text_bytes) {
+            return None;
+        }
         match width {
-            Width::Byte => Some(u16::from(*self.text.get(at)?)),
-            Width::Word => {
-                if at >= self.text.len().saturating_sub(1) {
-                    return None;
-                }
-                Some(u16::from(self.text[at]) + 256 * u16::from(self.text[at + 1]))
-            }
+            Width::Byte => Some(self.text_byte(at)),
+            Width::Word => Some(self.text_word(at)),
         }
     }
 

@@ -1,5 +1,5 @@
-//! Many walks along the arms of one branch, a few instructions of each in turn: the host meets an instruction again
-//! soon after it has just done it, and foresees where it leads.
+//! Many walks along the arms of one branch: side by side as far as none of them has a cause, and past what ends that
+//! one by one.
 
 ghost use Rattle.std.specs.Prelude.{◌≡◌, ◌≤◌, ◌+◌, ◌*◌, ℕ, List, All, IfSome};
 ghost use Rattle.flow_check.specs.Jobs.{IsShort, IsFirst, IsSecond, IsWalked};
@@ -7,7 +7,6 @@ ghost use Rattle.flow_check.specs.Pairs.{IsStub};
 ghost use Rattle.flow_check.specs.Tables.{IsTable};
 
 use crate::arms::{Crossing, first_arm, second_arm};
-use crate::glide::glide;
 use crate::passages::blank;
 use crate::returns::Returns;
 use crate::step::{Cause, note_if};
@@ -17,17 +16,8 @@ use crate::wave_jobs::go_abreast;
 use flow_rule::{Label, Reason, Val};
 use mod_layout::Module;
 
-/// How many instructions a walk goes before it is the next one's turn.
-const TURN: u32 = 64;
-
-/// How many turns there are at most: the longest arm is through by then.
+/// How many waves go along an arm at most, each with a step of each job after it.
 const TURNS: u32 = 1024;
-
-/// How many steps a wave goes at least, so that another is tried at once.
-const FAR: u32 = 256;
-
-/// How many turns pass else before another is tried.
-const WAIT: u32 = 8;
 
 /// A label at a branch, whose arms are walked.
 #[derive(Clone, Copy)]
@@ -91,14 +81,12 @@ fn begin_first(module: &Module, crossing: &Crossing, pc: u16, job: &mut Job)
 fn begin_second(
     module: &Module,
     text: &[u8],
-    table: &[Entry],
     entries: Option<u16>,
     crossing: &Crossing,
     pc: u16,
     job: &mut Job,
 )
     requires few { IfSome entries (λ n. n ≤ 64) }
-    requires table { IsTable module.now text.now table.now }
     requires short { IsShort job.old }
     ensures short { IsShort job.new }
     ensures second { IsStub module.now text.now entries → IsFirst module.now text.now crossing.now pc job.old →
@@ -108,7 +96,7 @@ fn begin_second(
     let mut place = job.place;
     let mut tally = job.tally;
     walk_from(
-        module, text, table, entries, join, &mut place, job.left, &mut tally,
+        module, text, entries, join, &mut place, job.left, &mut tally,
     );
     job.first_time = tally.cycles;
     job.tally = Tally { cycles: 0, ..tally };
@@ -126,14 +114,12 @@ fn begin_second(
 fn end_second(
     module: &Module,
     text: &[u8],
-    table: &[Entry],
     entries: Option<u16>,
     crossing: &Crossing,
     pc: u16,
     job: &mut Job,
 )
     requires few { IfSome entries (λ n. n ≤ 64) }
-    requires table { IsTable module.now text.now table.now }
     requires short { IsShort job.old }
     ensures { IsStub module.now text.now entries → IsSecond module.now text.now crossing.now pc job.old →
         IsWalked module.now text.now crossing.now pc job.new }
@@ -144,7 +130,6 @@ fn end_second(
     walk_from(
         module,
         text,
-        table,
         entries,
         crossing.arm.join,
         &mut place,
@@ -162,49 +147,16 @@ fn end_second(
     job.tally = tally;
 }
 
-/// Goes on along a job's arm until no more than `rest` steps are left, as far as instructions have no cause.
-fn glide_job(
-    module: &Module,
-    text: &[u8],
-    table: &[Entry],
-    entries: Option<u16>,
-    crossing: &Crossing,
-    rest: u32,
-    job: &mut Job,
-)
-    requires table { IsTable module.now text.now table.now }
-    requires short { IsShort job.old }
-    ensures short { IsShort job.new }
-    ensures first { IsStub module.now text.now entries → (pc : ℕ) →
-        IsFirst module.now text.now crossing.now pc job.old → IsFirst module.now text.now crossing.now pc job.new }
-    ensures second { IsStub module.now text.now entries → (pc : ℕ) →
-        IsSecond module.now text.now crossing.now pc job.old → IsSecond module.now text.now crossing.now pc job.new }
-{
-    job.left = glide(
-        module,
-        text,
-        table,
-        entries,
-        crossing.arm.join,
-        &mut job.place,
-        &mut job.tally,
-        job.left,
-        rest,
-    );
-}
-
 /// Does one more instruction of a job's arm. A walk that ends there is as one that stands at the join: it has no more
-/// to tell.
+/// to tell. Tells whether it went on at all.
 fn step_job(
     module: &Module,
     text: &[u8],
-    table: &[Entry],
     entries: Option<u16>,
     crossing: &Crossing,
     job: &mut Job,
-)
+) -> bool
     requires few { IfSome entries (λ n. n ≤ 64) }
-    requires table { IsTable module.now text.now table.now }
     requires short { IsShort job.old }
     ensures short { IsShort job.new }
     ensures first { IsStub module.now text.now entries → (pc : ℕ) →
@@ -214,59 +166,31 @@ fn step_job(
 {
     let join = crossing.arm.join;
     if job.left < 2 || job.place.pc == join {
-        return;
+        return false;
     }
     let mut place = job.place;
     let mut tally = job.tally;
-    if walk_on(module, text, table, entries, join, &mut place, &mut tally) {
+    if walk_on(module, text, entries, join, &mut place, &mut tally) {
         job.place = place;
         job.tally = tally;
         job.left -= 1;
-        return;
+        return true;
     }
     job.place = Place { pc: join, ..place };
     job.tally = tally;
     job.left = 1;
+    true
 }
 
-/// Goes on along a job's arm for a turn, and tells whether it went on at all.
-fn go_on(
-    module: &Module,
-    text: &[u8],
-    table: &[Entry],
-    entries: Option<u16>,
-    crossing: &Crossing,
-    job: &mut Job,
-) -> bool
-    requires few { IfSome entries (λ n. n ≤ 64) }
-    requires table { IsTable module.now text.now table.now }
-    requires short { IsShort job.old }
-    ensures short { IsShort job.new }
-    ensures first { IsStub module.now text.now entries → (pc : ℕ) →
-        IsFirst module.now text.now crossing.now pc job.old → IsFirst module.now text.now crossing.now pc job.new }
-    ensures second { IsStub module.now text.now entries → (pc : ℕ) →
-        IsSecond module.now text.now crossing.now pc job.old → IsSecond module.now text.now crossing.now pc job.new }
-{
-    let before = job.left;
-    let rest = before.saturating_sub(TURN);
-    glide_job(module, text, table, entries, crossing, rest, job);
-    if job.left > rest {
-        step_job(module, text, table, entries, crossing, job);
-    }
-    job.left < before
-}
-
-/// Lets each job go on for a turn, and tells whether one went on at all.
+/// Lets each job take a step, and tells whether one went on at all.
 fn turn(
     module: &Module,
     text: &[u8],
-    table: &[Entry],
     entries: Option<u16>,
     crossing: &Crossing,
     jobs: &mut [Job],
 ) -> bool
     requires few { IfSome entries (λ n. n ≤ 64) }
-    requires table { IsTable module.now text.now table.now }
     requires short { All IsShort jobs.old }
     ensures short { All IsShort jobs.new }
     ensures first { IsStub module.now text.now entries → (pc : ℕ) →
@@ -278,40 +202,13 @@ fn turn(
 {
     let mut moved = false;
     for k in 0..jobs.len() {
-        let went = go_on(module, text, table, entries, crossing, &mut jobs[k]);
+        let went = step_job(module, text, entries, crossing, &mut jobs[k]);
         moved = moved || went;
     }
     moved
 }
 
-/// Tries a wave where no more turns are to pass before, and tells how many are to pass then.
-fn try_wave(
-    module: &Module,
-    text: &[u8],
-    table: &[Entry],
-    entries: Option<u16>,
-    crossing: &Crossing,
-    jobs: &mut [Job],
-    wait: u32,
-) -> u32
-    requires table { IsTable module.now text.now table.now }
-    requires short { All IsShort jobs.old }
-    ensures short { All IsShort jobs.new }
-    ensures first { IsStub module.now text.now entries → (pc : ℕ) →
-        All (IsFirst module.now text.now crossing.now pc) jobs.old →
-        All (IsFirst module.now text.now crossing.now pc) jobs.new }
-    ensures second { IsStub module.now text.now entries → (pc : ℕ) →
-        All (IsSecond module.now text.now crossing.now pc) jobs.old →
-        All (IsSecond module.now text.now crossing.now pc) jobs.new }
-{
-    if wait > 0 {
-        return wait - 1;
-    }
-    let went = go_abreast(module, text, table, entries, crossing, jobs);
-    if went < FAR { WAIT } else { 0 }
-}
-
-/// Lets the jobs go on in turns, as far as they go.
+/// Lets the jobs go on side by side, and past an instruction at which that ends by a step of each.
 fn take_turns(
     module: &Module,
     text: &[u8],
@@ -331,10 +228,9 @@ fn take_turns(
         All (IsSecond module.now text.now crossing.now pc) jobs.old →
         All (IsSecond module.now text.now crossing.now pc) jobs.new }
 {
-    let mut wait: u32 = 0;
     for _ in 0..TURNS {
-        wait = try_wave(module, text, table, entries, crossing, jobs, wait);
-        if !turn(module, text, table, entries, crossing, jobs) {
+        go_abreast(module, text, table, entries, crossing, jobs);
+        if !turn(module, text, entries, crossing, jobs) {
             return;
         }
     }
@@ -354,14 +250,12 @@ fn begin_all(module: &Module, crossing: &Crossing, pc: u16, jobs: &mut [Job])
 fn begin_second_all(
     module: &Module,
     text: &[u8],
-    table: &[Entry],
     entries: Option<u16>,
     crossing: &Crossing,
     pc: u16,
     jobs: &mut [Job],
 )
     requires few { IfSome entries (λ n. n ≤ 64) }
-    requires table { IsTable module.now text.now table.now }
     requires short { All IsShort jobs.old }
     ensures short { All IsShort jobs.new }
     ensures second { IsStub module.now text.now entries →
@@ -369,7 +263,7 @@ fn begin_second_all(
         All (IsSecond module.now text.now crossing.now pc) jobs.new }
 {
     for k in 0..jobs.len() {
-        begin_second(module, text, table, entries, crossing, pc, &mut jobs[k]);
+        begin_second(module, text, entries, crossing, pc, &mut jobs[k]);
     }
 }
 
@@ -377,21 +271,19 @@ fn begin_second_all(
 fn end_all(
     module: &Module,
     text: &[u8],
-    table: &[Entry],
     entries: Option<u16>,
     crossing: &Crossing,
     pc: u16,
     jobs: &mut [Job],
 )
     requires few { IfSome entries (λ n. n ≤ 64) }
-    requires table { IsTable module.now text.now table.now }
     requires short { All IsShort jobs.old }
     ensures { IsStub module.now text.now entries →
         All (IsSecond module.now text.now crossing.now pc) jobs.old →
         All (IsWalked module.now text.now crossing.now pc) jobs.new }
 {
     for k in 0..jobs.len() {
-        end_second(module, text, table, entries, crossing, pc, &mut jobs[k]);
+        end_second(module, text, entries, crossing, pc, &mut jobs[k]);
     }
 }
 
@@ -411,7 +303,7 @@ pub fn walk_arms_all(
 {
     begin_all(module, crossing, pc, jobs);
     take_turns(module, text, table, entries, crossing, jobs);
-    begin_second_all(module, text, table, entries, crossing, pc, jobs);
+    begin_second_all(module, text, entries, crossing, pc, jobs);
     take_turns(module, text, table, entries, crossing, jobs);
-    end_all(module, text, table, entries, crossing, pc, jobs);
+    end_all(module, text, entries, crossing, pc, jobs);
 }

@@ -3,7 +3,8 @@
 use crate::course::Course;
 use crate::forms::Form;
 use crate::ground::Ground;
-use crate::needs::{Needs, Wants};
+use crate::needs::{Seen, Wants};
+use crate::passages::blank;
 use crate::rows::{LANES, bit_of};
 use crate::tracks::{Track, fit};
 use flow_rule::Label;
@@ -143,14 +144,19 @@ impl<const P: usize> Lanes<P> {
         self.back(first, second)
     }
 
-    /// What each arm needs of the label in this lane, where neither seems to have a cause.
-    pub fn needs(&self, lane: usize) -> Option<(Needs, Needs)> {
+    /// What is seen of the label in this lane, but for the registers that are written, where neither arm has a cause.
+    pub fn seen(&self, lane: usize) -> Option<Seen> {
         if lane >= LANES || lane >= P / 2 || self.course.open & bit_of(lane) == 0 {
             return None;
         }
-        Some((
-            self.first_wants.needs::<P>(lane),
-            self.second_wants.needs::<P>(lane),
-        ))
+        let first = self.first_wants.needs::<P>(lane);
+        let second = self.second_wants.needs::<P>(lane);
+        let mut told = blank();
+        self.first_wants.tell::<P>(lane, &mut told);
+        self.second_wants.tell::<P>(lane, &mut told);
+        Some(Seen {
+            needs: first.or(&second),
+            told,
+        })
     }
 }

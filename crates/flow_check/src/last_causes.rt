@@ -9,7 +9,7 @@ ghost use Rattle.flow_check.specs.Tables.{IsTable};
 use crate::arms::{Crossing, crossing_of};
 use crate::foresight::learn_jobs;
 use crate::jobs::Job;
-use crate::passages::{Ahead, MOST_AHEAD, Passages, Under};
+use crate::passages::{Ahead, MOST_AHEAD, Passages};
 use crate::registers::get;
 use crate::rounds::Labelling;
 use crate::steps::cause_with;
@@ -46,7 +46,7 @@ fn want_cause(
             at: k,
             own,
             returns: pair.returns,
-            under: Under::Last,
+            leads: false,
         })?;
     }
     Ok(())

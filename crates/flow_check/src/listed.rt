@@ -324,6 +324,18 @@ impl Told {
         })
     }
 
+    /// What was written, as a label that is Public elsewhere.
+    pub fn label(&self) -> Label
+        ensures { result ≡ self.now }
+    {
+        let mut words = [Val::Public; 256];
+        spread_on(&mut words, self.words.as_slice());
+        Label {
+            core: self.core,
+            words,
+        }
+    }
+
     /// Writes it, and tells at which places words may have changed.
     pub fn lay(&self, label: &mut Label, written: &mut Places)
         ensures laid { label.new ≡ record {

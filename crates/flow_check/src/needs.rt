@@ -1,6 +1,5 @@
 //! Which values of a branch's label its arms need, so that one walk serves as many labels as can be: those that the
-//! addresses of accesses are made of. This saves time alone: what it says is tried by a walk before anything rests on
-//! it.
+//! addresses of accesses are made of; and which words they write. What it says is claimed alone, until a walk tells it.
 
 ghost use Rattle.std.specs.Prelude.{◌<◌};
 
@@ -18,9 +17,21 @@ const WORDS: usize = 256;
 #[derive(Clone, Copy)]
 pub struct Needs([bool; 512]);
 
-/// Which arms of which labels need each value, by its number: a bit for each place of a row.
+/// Which arms of which labels need each value, and which write it in memory, by its number: a bit for each place of a
+/// row.
 #[derive(Clone, Copy)]
-pub struct Wants([u32; 512]);
+pub struct Wants {
+    needed: [u32; 512],
+    written: [u32; 512],
+}
+
+/// What is seen of the arms of a branch under a label that have no cause: what either needs of the label, and Secret
+/// where either writes.
+#[derive(Clone, Copy)]
+pub struct Seen {
+    pub needs: Needs,
+    pub told: Label,
+}
 
 /// What is known of a value of a label: all of it where it is needed, and else nothing.
 #[inline(always)]
@@ -30,19 +41,22 @@ fn lowered(needed: bool, value: Val) -> Val {
 
 impl Wants {
     /// Nothing is needed.
-    pub const NONE: Wants = Wants([0; 512]);
+    pub const NONE: Wants = Wants {
+        needed: [0; 512],
+        written: [0; 512],
+    };
 
     /// These places need a value.
     #[inline(always)]
     fn add(&mut self, number: u8, places: u32) {
-        self.0[usize::from(number)] |= places;
+        self.needed[usize::from(number)] |= places;
     }
 
     /// These places need values of these numbers, each its own.
     fn add_each<const P: usize>(&mut self, numbers: &[u16; P], places: u32) {
         let mut bit: u32 = 1;
         for k in 0..P {
-            self.0[slot(u32::from(numbers[k]))] |= places & bit;
+            self.needed[slot(u32::from(numbers[k]))] |= places & bit;
             bit = bit.wrapping_mul(2);
         }
     }
@@ -51,7 +65,7 @@ impl Wants {
     fn add_twice<const P: usize>(&mut self, numbers: &[u16; P], places: u32) {
         let mut bits: u32 = both_bits::<P>(1);
         for second in P / 2..P {
-            self.0[slot(u32::from(numbers[second]))] |= places & bits;
+            self.needed[slot(u32::from(numbers[second]))] |= places & bits;
             bits = bits.wrapping_mul(2);
         }
     }
@@ -60,7 +74,7 @@ impl Wants {
     #[inline(always)]
     fn add_met<const P: usize>(&mut self, number: u32, places: u32, apart: &[[u16; P]]) {
         if number < APART {
-            self.0[slot(number)] |= places;
+            self.needed[slot(number)] |= places;
         } else if let Some(numbers) = list_of(apart, number) {
             if is_twice(numbers) {
                 self.add_twice(numbers, places);
@@ -75,8 +89,8 @@ impl Wants {
     fn take(&mut self, to: usize, old: u32) -> u32
         requires { to < 512 }
     {
-        let places = self.0[to];
-        self.0[to] = places & old;
+        let places = self.needed[to];
+        self.needed[to] = places & old;
         places
     }
 
@@ -86,8 +100,9 @@ impl Wants {
         let mut bit: u32 = 1;
         for k in 0..P {
             let to = slot(u32::from(numbers[k]));
-            places |= self.0[to] & bit;
-            self.0[to] &= old | !bit;
+            self.written[to] |= bit;
+            places |= self.needed[to] & bit;
+            self.needed[to] &= old | !bit;
             bit = bit.wrapping_mul(2);
         }
         places
@@ -99,8 +114,9 @@ impl Wants {
         let mut bits: u32 = both_bits::<P>(1);
         for second in P / 2..P {
             let to = slot(u32::from(numbers[second]));
-            places |= self.0[to] & bits;
-            self.0[to] &= old | !bits;
+            self.written[to] |= bits;
+            places |= self.needed[to] & bits;
+            self.needed[to] &= old | !bits;
             bits = bits.wrapping_mul(2);
         }
         places
@@ -110,7 +126,9 @@ impl Wants {
     #[inline(always)]
     fn take_met<const P: usize>(&mut self, number: u32, old: u32, apart: &[[u16; P]]) -> u32 {
         if number < APART {
-            self.take(slot(number), old)
+            let to = slot(number);
+            self.written[to] = EACH;
+            self.take(to, old)
         } else if let Some(numbers) = list_of(apart, number) {
             if is_twice(numbers) {
                 self.take_twice(numbers, old)
@@ -184,7 +202,8 @@ impl Wants {
     fn of(&self, places: u32) -> Wants {
         let mut wants = *self;
         for number in 0..ROOM {
-            wants.0[number] &= places;
+            wants.needed[number] &= places;
+            wants.written[number] &= places;
         }
         wants
     }
@@ -206,9 +225,21 @@ impl Wants {
         let places = both_bits::<P>(bit_of(lane));
         let mut needs = Needs([false; 512]);
         for number in 0..ROOM {
-            needs.0[number] = self.0[number] & places != 0;
+            needs.0[number] = self.needed[number] & places != 0;
         }
         needs
+    }
+
+    /// Tells where any arm of a label writes words.
+    pub fn tell<const P: usize>(&self, lane: usize, told: &mut Label)
+        requires { lane < 16 }
+    {
+        let places = both_bits::<P>(bit_of(lane));
+        for n in 0..WORDS {
+            if self.written[usize::from(FIRST_WORD) + n] & places != 0 {
+                told.words[n] = Val::Secret;
+            }
+        }
     }
 }
 

@@ -1,27 +1,29 @@
 //! What is known of the arms of branches. Values rise from Known to Public and to Secret alone, and what the arms of a
 //! branch do hangs on the values that they need: one walk under a label with little in it serves all that know more.
+//! What is known is claimed first, as the scout saw it, and proved by a walk later.
 
-ghost use Rattle.std.specs.Prelude.{◌≡◌, ◌≢◌, ◌≤◌, ◌<◌, ◌%◌, ℕ, List, IfSome, IfOk, Some, None, true, slice_get, All, []};
+ghost use Rattle.std.specs.Prelude.{◌≡◌, ◌≢◌, ◌≤◌, ◌<◌, ◌%◌, ℕ, Bool, true, false, List, [], All, slice_get};
+ghost use Rattle.std.specs.Prelude.{IfSome, IfOk, Some, None};
 ghost use Rattle.mod_layout.specs.declared.Module.{Module};
 ghost use Rattle.flow_check.specs.Causes.{noted};
 ghost use Rattle.flow_check.specs.Frames.{AlikeBut, numbers_of};
 ghost use Rattle.flow_check.specs.Jobs.{IsWalked};
 ghost use Rattle.flow_check.specs.Pairs.{IsStub, point_of};
-ghost use Rattle.flow_check.specs.Passages.{crossing_step, blotted, blank, branch_from, answer_of, OpensTo, IsPassage};
+ghost use Rattle.flow_check.specs.Passages.{crossing_step, blotted, blank, branch_from, answer_of};
+ghost use Rattle.flow_check.specs.Passages.{OpensTo, IsPassage, IsKept, Grows};
 ghost use Rattle.flow_check.specs.declared.passages.Outcome.{Outcome};
 ghost use Rattle.flow_check.specs.Tables.{IsTable};
 
 use crate::arms::{Crossing, walk_arms};
+use crate::confirm::{confirms, is_same, is_same_label};
 use crate::jobs::Job;
-use crate::listed::{Told, Top, absorbs};
+use crate::listed::{Told, Top};
 use crate::places::Places;
 use crate::returns::Returns;
 use crate::scout::Scout;
 use crate::step::Cause;
 use crate::table::Entry;
-use arm_balance::Arm;
 use flow_rule::{Label, Val, arms_rest};
-use insn_decode::Insn;
 use mod_layout::Module;
 use std::alloc::{AllocError, Global};
 
@@ -31,6 +33,9 @@ const NUMBERS: usize = 256;
 /// The most pairs that are learned together.
 pub const MOST_AHEAD: usize = 16;
 
+/// How many claims are proved at once, though rounds go on.
+const MOST_CLAIMS: usize = 4096;
+
 /// What the arms of a branch come to.
 #[derive(Drop)]
 pub enum Answer {
@@ -38,6 +43,8 @@ pub enum Answer {
     Open(Told),
     /// This cause is the least under the passage's label, and there is one under each label that absorbs it.
     Shut(Cause),
+    /// There is a cause under the passage's label, and under each label that absorbs it.
+    Barred,
 }
 
 /// Whether a branch has no cause in its arms.
@@ -55,17 +62,8 @@ pub struct Passage {
     pub label: Top,
     pub returns: Returns,
     pub answer: Answer,
-}
-
-/// Under which label a branch is walked for a pair that is learned with others.
-#[derive(Clone, Copy, Debug, PartialEq, Eq)]
-pub enum Under {
-    /// One with as little in it as the arms seem to need: a cause there says nothing of the pair.
-    Needs,
-    /// The pair's own.
-    Own,
-    /// The pair's own at the end, when no pair is to come: the newest passage stays as it is.
-    Last,
+    /// Whether a walk told it; else it is claimed until one does.
+    pub proved: bool,
 }
 
 /// A pair whose branch is learned with those of others.
@@ -76,19 +74,24 @@ pub struct Ahead {
     /// Where what is known of its arms is.
     pub own: Option<usize>,
     pub returns: Returns,
-    pub under: Under,
+    /// Whether its passage is the branch's newest then. At the end, when no pair is to come, that stays as it is.
+    pub leads: bool,
 }
 
-/// The passages that were walked.
+/// The passages that walks told, and those that are claimed until walks do.
 #[derive(Drop)]
 pub struct Passages {
     alloc: Global,
     list: Vec<Passage>,
     /// Where the newest passage of the branches with this number is.
     newest: [usize; 256],
-    /// How many of the last ones in a row are shut, up to MOST_AHEAD.
-    shut: usize,
-    /// What goes before the walks.
+    /// Places that no pair needs any more: those of proved passages, and those of claimed ones.
+    spare: Vec<usize>,
+    stale: Vec<usize>,
+    /// How many are claimed, and whether a walk told otherwise of one.
+    claims: usize,
+    is_refuted: bool,
+    /// What claims are made of.
     scout: Scout,
 }
 
@@ -155,15 +158,8 @@ fn walked(
         label: top,
         returns: *returns,
         answer,
+        proved: true,
     })
-}
-
-/// Whether two labels are the same: each absorbs the other.
-#[tactic(auto, using(crate::proofs::Passing::same_label))]
-fn is_same_label(one: &Label, other: &Label) -> bool
-    ensures { result ≡ true → one.now ≡ other.now }
-{
-    absorbs(one, other) && absorbs(other, one)
 }
 
 /// Walks the arms of a branch under its label, and writes what they write where there is no cause.
@@ -200,53 +196,25 @@ fn crossed(
             Ok(Outcome::Open)
         }
         Answer::Shut(_) => Ok(Outcome::Shut),
+        Answer::Barred => Ok(Outcome::Shut),
     }
 }
 
-/// Whether two jumps are the same.
-fn is_same_jump(one: &Insn, other: &Insn) -> bool
-    ensures { result ≡ true → one.now ≡ other.now }
-{
-    match *one {
-        Insn::Jump { cond, offset } => match *other {
-            Insn::Jump {
-                cond: other_cond,
-                offset: other_offset,
-            } => cond == other_cond && offset == other_offset,
-            _ => false,
-        },
-        _ => false,
-    }
-}
-
-/// Whether two certificates are the same.
-fn is_same_arm(one: &Arm, other: &Arm) -> bool
-    ensures { result ≡ true → one.now ≡ other.now }
-{
-    one.branch == other.branch && one.join == other.join && one.cycles == other.cycles
-}
-
-/// Whether two crossings are the same.
-fn is_same(one: &Crossing, other: &Crossing) -> bool
-    ensures { result ≡ true → one.now ≡ other.now }
-{
-    is_same_jump(&one.insn, &other.insn)
-        && one.target == other.target
-        && is_same_arm(&one.arm, &other.arm)
-}
-
-/// Puts a passage in this place, or behind all others.
-#[tactic(auto, using(crate::proofs::Passing::kept_push, crate::proofs::Passing::kept_set))]
-fn put(list: &mut Vec<Passage>, place: usize, passage: Passage) -> Result<(), AllocError>
-    ensures { IfOk result (λ _. (m : Module) (text : List ℕ) → IsPassage m text passage →
+/// Puts a passage in this place, if what is there is proved, or else behind all others; tells where.
+#[tactic(auto, using(crate::proofs::Claiming::grows_push, crate::proofs::Claiming::grows_over))]
+fn put(list: &mut Vec<Passage>, place: usize, passage: Passage) -> Result<usize, AllocError>
+    ensures passages { IfOk result (λ _. (m : Module) (text : List ℕ) → IsPassage m text passage →
         All (IsPassage m text) list.old.items → All (IsPassage m text) list.new.items) }
+    ensures grows { IfOk result (λ _. (m : Module) (text : List ℕ) (trusting : Bool) →
+        IsKept m text trusting passage → Grows m text trusting list.old.items list.new.items) }
 {
-    if place < list.len() {
+    if place < list.len() && list[place].proved {
         list[place] = passage;
-        return Ok(());
+        return Ok(place);
     }
+    let last = list.len();
     list.push(passage)?;
-    Ok(())
+    Ok(last)
 }
 
 /// The number of a branch, where its newest passage is looked for.
@@ -260,28 +228,15 @@ fn number(branch: u16) -> usize
 fn is_open(passage: &Passage) -> bool {
     match &passage.answer {
         Answer::Open(_) => true,
-        Answer::Shut(_) => false,
+        Answer::Shut(_) | Answer::Barred => false,
     }
-}
-
-/// One more of so many, up to MOST_AHEAD.
-fn one_more(count: usize) -> usize {
-    if count < MOST_AHEAD {
-        count + 1
-    } else {
-        MOST_AHEAD
-    }
-}
-
-/// Whether a walk told nothing of the pair for which it was made: there is a cause under a label that says less.
-pub fn is_in_vain(job: &Job, under: Under) -> bool {
-    under == Under::Needs && job.tally.least.is_some()
 }
 
 /// The passage that a walk tells.
 fn told_by(alloc: Global, crossing: &Crossing, pc: u16, job: &Job) -> Result<Passage, AllocError>
-    ensures { IfOk result (λ p. (m : Module) (text : List ℕ) →
+    ensures is { IfOk result (λ p. (m : Module) (text : List ℕ) →
         IsWalked m text crossing.now pc job.now → IsPassage m text p) }
+    ensures proved { IfOk result (λ p. p.proved ≡ true) }
 {
     let top = top_of(alloc, job.tally.least, &job.label)?;
     let answer = answer_of(alloc, job.tally.least, &job.tally.label)?;
@@ -291,19 +246,25 @@ fn told_by(alloc: Global, crossing: &Crossing, pc: u16, job: &Job) -> Result<Pas
         label: top,
         returns: job.returns,
         answer,
+        proved: true,
     })
 }
 
 impl Passages {
     /// No passage.
     pub fn new(alloc: Global) -> Passages
-        ensures { (m : Module) (text : List ℕ) → All (IsPassage m text) result.list.items }
+        ensures passages { (m : Module) (text : List ℕ) → All (IsPassage m text) result.list.items }
+        ensures kept { (m : Module) (text : List ℕ) (trusting : Bool) →
+            All (IsKept m text trusting) result.list.items }
     {
         Passages {
             alloc,
             list: Vec::new(alloc),
             newest: [0; 256],
-            shut: 0,
+            spare: Vec::new(alloc),
+            stale: Vec::new(alloc),
+            claims: 0,
+            is_refuted: false,
             scout: Scout::new(alloc),
         }
     }
@@ -358,19 +319,21 @@ impl Passages {
             Answer::Open(told) => {
                 if passage.label.absorbs(label) {
                     told.lay(label, written);
-                    Some(Outcome::Open)
-                } else {
-                    None
+                    return Some(Outcome::Open);
                 }
             }
             Answer::Shut(_) => {
                 if passage.label.is_absorbed(label) {
-                    Some(Outcome::Shut)
-                } else {
-                    None
+                    return Some(Outcome::Shut);
+                }
+            }
+            Answer::Barred => {
+                if passage.label.is_absorbed(label) {
+                    return Some(Outcome::Shut);
                 }
             }
         }
+        None
     }
 
     /// What the pair's own passage or the branch's newest says.
@@ -400,54 +363,59 @@ impl Passages {
         self.answer(self.newest_of(pc), crossing, pc, label, written)
     }
 
-    /// A pair's own place, or else a new one.
-    fn place_for(&self, own: Option<usize>) -> usize {
-        match own {
-            Some(place) => place,
-            None => self.list.len(),
+    /// Whether the passage there is proved.
+    fn is_proved(&self, place: usize) -> bool {
+        match self.list.get(place) {
+            Some(passage) => passage.proved,
+            None => false,
         }
     }
 
-    /// Keeps a passage in a pair's own place, and tells the place.
-    fn store(&mut self, own: Option<usize>, passage: Passage) -> Result<usize, AllocError>
-        ensures { IfOk result (λ _. (m : Module) (text : List ℕ) → IsPassage m text passage →
-            All (IsPassage m text) self.old.list.items → All (IsPassage m text) self.new.list.items) }
+    /// Where a pair's passage goes: to its own place, if what is there is proved, or else to a spare one, or a new one.
+    fn place_for(&mut self, own: Option<usize>) -> Result<usize, AllocError>
+        ensures { self.new.list ≡ self.old.list }
     {
-        let place = self.place_for(own);
-        put(&mut self.list, place, passage)?;
-        Ok(place)
+        if let Some(place) = own {
+            if self.is_proved(place) {
+                return Ok(place);
+            }
+            self.stale.push(place)?;
+        }
+        match self.spare.pop() {
+            Some(place) => Ok(place),
+            None => Ok(self.list.len()),
+        }
     }
 
-    /// The same of the branch's newest passage.
-    fn keep(&mut self, own: Option<usize>, passage: Passage) -> Result<usize, AllocError>
+    /// Keeps a passage in a pair's own place, or in another, and tells the place.
+    fn store(&mut self, own: Option<usize>, passage: Passage) -> Result<usize, AllocError>
         ensures passages { IfOk result (λ _. (m : Module) (text : List ℕ) → IsPassage m text passage →
             All (IsPassage m text) self.old.list.items → All (IsPassage m text) self.new.list.items) }
+        ensures grows { IfOk result (λ _. (m : Module) (text : List ℕ) (trusting : Bool) →
+            IsKept m text trusting passage → Grows m text trusting self.old.list.items self.new.list.items) }
     {
-        let branch = passage.branch;
-        self.shut = if is_open(&passage) {
-            0
-        } else {
-            one_more(self.shut)
-        };
-        let place = self.store(own, passage)?;
-        self.newest[number(branch)] = place;
-        Ok(place)
+        let place = self.place_for(own)?;
+        put(&mut self.list, place, passage)
     }
 
-    /// Keeps what a walk told as one under this label.
-    fn keep_under(
+    /// The same, as the branch's newest passage if it leads.
+    fn keep(
         &mut self,
         own: Option<usize>,
-        under: Under,
+        leads: bool,
         passage: Passage,
     ) -> Result<usize, AllocError>
-        ensures { IfOk result (λ _. (m : Module) (text : List ℕ) → IsPassage m text passage →
+        ensures passages { IfOk result (λ _. (m : Module) (text : List ℕ) → IsPassage m text passage →
             All (IsPassage m text) self.old.list.items → All (IsPassage m text) self.new.list.items) }
+        ensures grows { IfOk result (λ _. (m : Module) (text : List ℕ) (trusting : Bool) →
+            IsKept m text trusting passage → Grows m text trusting self.old.list.items self.new.list.items) }
     {
-        match under {
-            Under::Needs | Under::Own => self.keep(own, passage),
-            Under::Last => self.store(own, passage),
+        let branch = passage.branch;
+        let place = self.store(own, passage)?;
+        if leads {
+            self.newest[number(branch)] = place;
         }
+        Ok(place)
     }
 
     /// Whether a branch has no cause under its label. Where it has none, its arms then write, and it is told at which
@@ -467,12 +435,12 @@ impl Passages {
     ) -> Result<Outcome, AllocError>
         requires few { IfSome entries (λ n. n ≤ 64) }
         requires table { IsTable module.now text.now table.now }
-        requires passages { IsStub module.now text.now entries →
-            All (IsPassage module.now text.now) self.now.list.items }
         ensures open { IfOk result (λ outcome. outcome ≡ Outcome.Open → IsStub module.now text.now entries →
+            All (IsPassage module.now text.now) self.now.list.items →
             (returns : List ℕ) → OpensTo module.now text.now crossing.now
             (branch_from pc returns label.old) label.new) }
         ensures shut { IfOk result (λ outcome. outcome ≡ Outcome.Shut → IsStub module.now text.now entries →
+            All (IsPassage module.now text.now) self.now.list.items →
             (returns : List ℕ) → (crossing_step module.now text.now crossing.now
             (branch_from pc returns label.old)).reasons ≢ []) }
         ensures frame { IfOk result (λ outcome. outcome ≡ Outcome.Open →
@@ -498,7 +466,7 @@ impl Passages {
         };
         match &passage.answer {
             Answer::Open(_) => passage.label.absorbs(label),
-            Answer::Shut(_) => passage.label.is_absorbed(label),
+            Answer::Shut(_) | Answer::Barred => passage.label.is_absorbed(label),
         }
     }
 
@@ -515,61 +483,75 @@ impl Passages {
         !self.says(self.newest_of(pc), crossing, pc, label)
     }
 
-    /// Scouts the arms of a branch under these labels, and tells how many were scouted: one where that has a cause, as
-    /// the last ones had, so that the others will have.
-    fn scout_all(
-        &mut self,
-        module: &Module,
-        text: &[u8],
-        table: &[Entry],
-        entries: Option<u16>,
-        crossing: &Crossing,
-        pc: u16,
-        labels: &[Label],
-    ) -> usize
-        ensures { self.new.list ≡ self.old.list }
-    {
-        if self.shut >= MOST_AHEAD {
-            let first = labels.get(..1).unwrap_or(labels);
-            self.scout
-                .scout(module, text, table, entries, crossing, pc, first);
-            if self.scout.needs_of(0).is_none() {
-                return 1;
-            }
-        }
-        self.scout
-            .scout(module, text, table, entries, crossing, pc, labels);
-        labels.len()
-    }
-
-    /// Notes the walk of the k-th label, of which so many were scouted: where its arms seem to have no cause, of one
-    /// with as little in it as they need.
-    fn want(
+    /// What the scout saw of a branch under the k-th label, as a claim.
+    fn claim(
         &self,
         k: usize,
-        count: usize,
+        crossing: &Crossing,
+        pc: u16,
         label: &Label,
-        wanted: &Ahead,
-        jobs: &mut Vec<Job>,
-        ahead: &mut Vec<Ahead>,
-    ) -> Result<(), AllocError> {
-        if k < count
-            && let Some((past, taken)) = self.scout.needs_of(k)
-        {
-            jobs.push(Job::new(&past.or(&taken).least(label), &wanted.returns))?;
-            ahead.push(Ahead {
-                under: Under::Needs,
-                ..*wanted
-            })?;
-            return Ok(());
-        }
-        jobs.push(Job::new(label, &wanted.returns))?;
-        ahead.push(*wanted)?;
+        returns: &Returns,
+    ) -> Result<Passage, AllocError>
+        ensures { IfOk result (λ p. p.proved ≡ false) }
+    {
+        let (top, answer) = match self.scout.seen_of(k) {
+            Some(seen) => (
+                Top::of(self.alloc, &seen.needs.least(label))?,
+                Answer::Open(Told::of(self.alloc, &seen.told)?),
+            ),
+            None => (Top::whole(self.alloc, label)?, Answer::Barred),
+        };
+        Ok(Passage {
+            branch: pc,
+            crossing: *crossing,
+            label: top,
+            returns: *returns,
+            answer,
+            proved: false,
+        })
+    }
+
+    /// Claims what the scout saw of the k-th label, and tells where that is.
+    #[tactic(auto, using(crate::proofs::Claiming::kept_claimed))]
+    fn claim_one(
+        &mut self,
+        k: usize,
+        crossing: &Crossing,
+        pc: u16,
+        label: &Label,
+        ahead: &mut Ahead,
+    ) -> Result<(), AllocError>
+        ensures { IfOk result (λ _. (m : Module) (text : List ℕ) →
+            Grows m text true self.old.list.items self.new.list.items) }
+    {
+        let passage = self.claim(k, crossing, pc, label, &ahead.returns)?;
+        let place = self.keep(ahead.own, ahead.leads, passage)?;
+        ahead.own = Some(place);
+        self.claims = self.claims.saturating_add(1);
         Ok(())
     }
 
-    /// Notes the walks to be made for these labels of pairs that want them.
-    pub fn want_all(
+    /// The same of the k-th pair.
+    #[tactic(auto, using(crate::proofs::Claiming::grows_none))]
+    fn claim_at(
+        &mut self,
+        k: usize,
+        crossing: &Crossing,
+        pc: u16,
+        label: &Label,
+        ahead: &mut Vec<Ahead>,
+    ) -> Result<(), AllocError>
+        ensures { IfOk result (λ _. (m : Module) (text : List ℕ) →
+            Grows m text true self.old.list.items self.new.list.items) }
+    {
+        match ahead.get_mut(k) {
+            Some(one) => self.claim_one(k, crossing, pc, label, one),
+            None => Ok(()),
+        }
+    }
+
+    /// Scouts the arms of a branch under these labels, claims of each what was seen, and tells where that is.
+    pub fn claim_all(
         &mut self,
         module: &Module,
         text: &[u8],
@@ -578,17 +560,92 @@ impl Passages {
         crossing: &Crossing,
         pc: u16,
         labels: &[Label],
-        wanted: &[Ahead],
-        jobs: &mut Vec<Job>,
         ahead: &mut Vec<Ahead>,
     ) -> Result<(), AllocError>
+        ensures { IfOk result (λ _. (m : Module) (text : List ℕ) →
+            Grows m text true self.old.list.items self.new.list.items) }
+    {
+        self.scout
+            .scout(module, text, table, entries, crossing, pc, labels);
+        for k in 0..labels.len() {
+            self.claim_at(k, crossing, pc, &labels[k], ahead)?;
+        }
+        Ok(())
+    }
+
+    /// How many passages there are.
+    pub fn len(&self) -> usize {
+        self.list.len()
+    }
+
+    /// The passage there, if it is claimed.
+    pub fn claimed(&self, place: usize) -> Option<&Passage> {
+        match self.list.get(place) {
+            Some(passage) => { if passage.proved { None } else { Some(passage) } }
+            None => None,
+        }
+    }
+
+    /// The passage there, if it is claimed of this branch.
+    pub fn claimed_of(&self, place: usize, crossing: &Crossing, pc: u16) -> Option<&Passage> {
+        match self.at(place, crossing, pc) {
+            Some(passage) => { if passage.proved { None } else { Some(passage) } }
+            None => None,
+        }
+    }
+
+    /// Whether so much is claimed that it is to be proved.
+    pub fn is_full(&self) -> bool {
+        !self.is_refuted && self.claims >= MOST_CLAIMS
+    }
+
+    /// Whether a walk told otherwise than was claimed.
+    pub fn is_refuted(&self) -> bool {
+        self.is_refuted
+    }
+
+    /// Whether nothing is claimed any more.
+    pub fn are_proved(&self) -> bool
+        ensures { result ≡ true → (m : Module) (text : List ℕ) (trusting : Bool) →
+            All (IsKept m text trusting) self.now.list.items → All (IsPassage m text) self.now.list.items }
+    {
+        for k in 0..self.list.len() {
+            if !self.list[k].proved {
+                return false;
+            }
+        }
+        true
+    }
+
+    /// Keeps what a walk told in the place of the claim that it is; where it is another, that is refuted.
+    #[tactic(auto, using(crate::proofs::Claiming::grows_none, crate::proofs::Claiming::grows_set, crate::proofs::Claiming::kept_proved))]
+    pub fn prove(
+        &mut self,
+        place: usize,
+        crossing: &Crossing,
+        pc: u16,
+        job: &Job,
+    ) -> Result<(), AllocError>
+        ensures { IfOk result (λ _. (m : Module) (text : List ℕ) (trusting : Bool) →
+            IsWalked m text crossing.now pc job.now →
+            Grows m text trusting self.old.list.items self.new.list.items) }
+    {
+        let passage = told_by(self.alloc, crossing, pc, job)?;
+        if place >= self.list.len() || !confirms(&passage, &self.list[place]) {
+            self.is_refuted = true;
+            return Ok(());
+        }
+        self.list[place] = passage;
+        self.claims = self.claims.saturating_sub(1);
+        Ok(())
+    }
+
+    /// Once all claims are proved, the places that no pair needs are spare.
+    pub fn reuse(&mut self) -> Result<(), AllocError>
         ensures { self.new.list ≡ self.old.list }
     {
-        let count = self.scout_all(module, text, table, entries, crossing, pc, labels);
-        for k in 0..labels.len() {
-            if let Some(one) = wanted.get(k) {
-                self.want(k, count, &labels[k], one, jobs, ahead)?;
-            }
+        while let Some(place) = self.stale.pop() {
+            self.spare.push(place)?;
         }
         Ok(())
     }
@@ -601,14 +658,14 @@ impl Passages {
         job: &Job,
         ahead: &mut Ahead,
     ) -> Result<(), AllocError>
-        ensures { IfOk result (λ _. (m : Module) (text : List ℕ) → IsWalked m text crossing.now pc job.now →
+        ensures passages { IfOk result (λ _. (m : Module) (text : List ℕ) → IsWalked m text crossing.now pc job.now →
             All (IsPassage m text) self.old.list.items → All (IsPassage m text) self.new.list.items) }
+        ensures grows { IfOk result (λ _. (m : Module) (text : List ℕ) (trusting : Bool) →
+            IsWalked m text crossing.now pc job.now →
+            Grows m text trusting self.old.list.items self.new.list.items) }
     {
-        if is_in_vain(job, ahead.under) {
-            return Ok(());
-        }
         let passage = told_by(self.alloc, crossing, pc, job)?;
-        let place = self.keep_under(ahead.own, ahead.under, passage)?;
+        let place = self.keep(ahead.own, ahead.leads, passage)?;
         ahead.own = Some(place);
         Ok(())
     }
@@ -679,7 +736,7 @@ impl Passages {
                     None
                 }
             }
-            Answer::Open(_) => None,
+            Answer::Open(_) | Answer::Barred => None,
         }
     }
 }

@@ -1,12 +1,15 @@
-//! The ways of arms. Where an arm goes on from a place hangs on the place alone, so arms that meet have one way from there
-//! on: one way is kept, the road, with the forms along it side by side, and of another arm only what comes before it meets
-//! that.
+//! The ways of arms. Where an arm goes on from a place hangs on the place alone, so arms that meet have one way from
+//! there on: one way is kept, the road, with the forms along it side by side, and of another arm only what comes before
+//! it meets that.
 
 use crate::arms::Crossing;
 use crate::forms::Form;
 use crate::lanes::OwnWay;
-use crate::stub::{is_shut, word_number};
+use crate::reach::writes_destination;
+use crate::rows::bit_of;
+use crate::stub::{is_open, is_shut, word_number};
 use crate::table::Entry;
+use insn_decode::{Insn, OneOp, Operand};
 use mod_layout::Module;
 use std::alloc::Global;
 
@@ -16,6 +19,12 @@ const NOWHERE: u16 = 65535;
 /// More places than a text has. An arm goes up, so it takes fewer steps.
 const MOST_STEPS: u32 = 65536;
 
+/// How many registers there are.
+const REGISTERS: usize = 16;
+
+/// The stack pointer.
+const STACK: u8 = 1;
+
 /// What is met at a place of the text, and at which place an arm goes on.
 #[derive(Clone, Copy)]
 struct Spot {
@@ -23,22 +32,27 @@ struct Spot {
     is_idle: bool,
     time: u8,
     next: u16,
+    /// The registers that it writes, as bits.
+    registers: u32,
 }
 
-/// Where a place is on a road, and the time from the road's start to there.
+/// Where a place is on a road, the time from the road's start to there, and how often each register is written on that
+/// way.
 #[derive(Clone, Copy)]
 struct Milestone {
     road: u32,
     at: usize,
     time: u32,
+    writes: [u16; REGISTERS],
 }
 
-/// The part of the road that an arm goes along, and the arm's time.
+/// The part of the road that an arm goes along, and the arm's time and the registers that it writes, as bits.
 #[derive(Clone, Copy)]
 pub struct Stretch {
     from: usize,
     to: usize,
     time: u32,
+    registers: u32,
 }
 
 /// One of the arms of a branch.
@@ -54,6 +68,8 @@ pub struct Ways {
     pub first: Stretch,
     pub second: Stretch,
     pub shared: Stretch,
+    /// The registers that either arm writes, as bits.
+    pub registers: u32,
 }
 
 /// The forms along the arms of a branch.
@@ -81,9 +97,69 @@ fn place(module: &Module, pc: u16) -> u16 {
     }
 }
 
-/// Whether an arm may have an instruction there: not among the words that are met from a stub alone.
-fn is_free(module: &Module, has_stub: bool, pc: u16) -> bool {
-    !has_stub || !is_shut(word_number(module, pc))
+/// Whether an arm may go from an instruction to the next: to a word that is met from a stub alone it comes from the
+/// stub's open words alone.
+fn is_free(module: &Module, has_stub: bool, pc: u16, next: u16) -> bool {
+    !has_stub || is_open(word_number(module, pc)) || !is_shut(word_number(module, next))
+}
+
+/// The bit of a register.
+fn register_bit(reg: u8) -> u32 {
+    bit_of(usize::from(reg) % REGISTERS)
+}
+
+/// The register that an operand's increment writes, as a bit.
+fn stepped(operand: Operand) -> u32 {
+    match operand {
+        Operand::Increment(reg) => register_bit(reg),
+        _ => 0,
+    }
+}
+
+/// The register that is a destination, as a bit.
+fn into(writes: bool, operand: Operand) -> u32 {
+    match operand {
+        Operand::Reg(reg) if writes => register_bit(reg),
+        _ => 0,
+    }
+}
+
+/// The registers that an instruction writes, as bits.
+fn registers_of(met: &Option<Insn>) -> u32 {
+    let Some(insn) = met else {
+        return 0;
+    };
+    match *insn {
+        Insn::Two { op, src, dst, .. } => stepped(src) | into(writes_destination(op), dst),
+        Insn::One { op, arg, .. } => {
+            if op == OneOp::Push {
+                stepped(arg) | register_bit(STACK)
+            } else {
+                stepped(arg) | into(true, arg)
+            }
+        }
+        Insn::Jump { .. } | Insn::Reti | Insn::Unit(_) => 0,
+    }
+}
+
+/// Counts what an instruction writes that writes these registers.
+fn count(registers: u32, writes: &mut [u16; REGISTERS]) {
+    for n in 0..REGISTERS {
+        if registers & bit_of(n) != 0 {
+            writes[n] = writes[n].wrapping_add(1);
+        }
+    }
+}
+
+/// The registers that are written between two places of a road, as bits.
+fn written_between(from: &Milestone, to: &Milestone) -> u32 {
+    let mut registers: u32 = 0;
+    for n in 0..REGISTERS {
+        if from.writes[n] != to.writes[n] {
+            registers |= bit_of(n);
+        }
+    }
+    registers
 }
 
 /// What is met at `pc`.
@@ -91,7 +167,7 @@ fn spot_of(module: &Module, has_stub: bool, entry: &Entry, pc: u16) -> Spot {
     let form = Form::of(entry.met, pc, module.ram.start);
     let next = match entry.next {
         Some(next) => {
-            if is_free(module, has_stub, pc) {
+            if is_free(module, has_stub, pc, next) {
                 place(module, next)
             } else {
                 NOWHERE
@@ -104,6 +180,7 @@ fn spot_of(module: &Module, has_stub: bool, entry: &Entry, pc: u16) -> Spot {
         is_idle: form.is_idle(),
         time: entry.time,
         next,
+        registers: registers_of(&entry.met),
     }
 }
 
@@ -119,13 +196,16 @@ fn shared_ways(first: &Stretch, second: &Stretch) -> Ways {
             from: 0,
             to: 0,
             time: 0,
+            registers: 0,
         }
     };
+    let registers = first.registers | second.registers;
     if shared.to == 0 {
         return Ways {
             first: *first,
             second: *second,
             shared,
+            registers,
         };
     }
     Ways {
@@ -138,6 +218,7 @@ fn shared_ways(first: &Stretch, second: &Stretch) -> Ways {
             ..*second
         },
         shared,
+        registers,
     }
 }
 
@@ -162,6 +243,7 @@ impl Roads {
             road: 0,
             at: 0,
             time: 0,
+            writes: [0; REGISTERS],
         };
         let mut pc = module.text.start;
         for entry in table {
@@ -179,16 +261,19 @@ impl Roads {
         self.number = self.number.wrapping_add(1);
         let mut place = start;
         let mut time: u32 = 0;
+        let mut writes = [0; REGISTERS];
         for _ in 0..MOST_STEPS {
             let spot = self.spots.get(usize::from(place))?;
             *self.milestones.get_mut(usize::from(place))? = Milestone {
                 road: self.number,
                 at: self.road.len(),
                 time,
+                writes,
             };
             if !spot.is_idle {
                 self.road.push(spot.form).ok()?;
             }
+            count(spot.registers, &mut writes);
             time = time.wrapping_add(u32::from(spot.time));
             place = spot.next;
         }
@@ -205,13 +290,15 @@ impl Roads {
         }
     }
 
-    /// The part of the road between two places of it, to which an arm comes after this time.
-    fn stretch(&self, from: &Milestone, join: u16, time: u32) -> Option<Stretch> {
+    /// The part of the road between two places of it, to which an arm comes after this time, having written these
+    /// registers.
+    fn stretch(&self, from: &Milestone, join: u16, time: u32, registers: u32) -> Option<Stretch> {
         let to = self.milestone(join)?;
         Some(Stretch {
             from: from.at,
             to: to.at,
             time: time.wrapping_add(to.time.wrapping_sub(from.time)),
+            registers: registers | written_between(from, &to),
         })
     }
 
@@ -223,23 +310,25 @@ impl Roads {
         }
     }
 
-    /// Keeps the forms of an arm up to where it meets the road, and tells how it goes on. None where it does not come to
-    /// the join, or memory runs out.
+    /// Keeps the forms of an arm up to where it meets the road, and tells how it goes on. None where it does not come
+    /// to the join, or memory runs out.
     fn lay_lane(&mut self, arm: Arm, start: u16, join: u16) -> Option<Stretch> {
         self.lane(arm).clear();
         let mut place = start;
         let mut time: u32 = 0;
+        let mut registers: u32 = 0;
         for _ in 0..MOST_STEPS {
-            if let Some(stone) = self.milestone(place) {
-                return self.stretch(&stone, join, time);
-            }
             if place >= join {
                 break;
+            }
+            if let Some(stone) = self.milestone(place) {
+                return self.stretch(&stone, join, time, registers);
             }
             let spot = *self.spots.get(usize::from(place))?;
             if !spot.is_idle {
                 self.lane(arm).push(spot.form).ok()?;
             }
+            registers |= spot.registers;
             time = time.wrapping_add(u32::from(spot.time));
             place = spot.next;
         }
@@ -248,6 +337,7 @@ impl Roads {
                 from: 0,
                 to: 0,
                 time,
+                registers,
             })
         } else {
             None
@@ -312,6 +402,9 @@ impl Roads {
             self.read(module, table, entries.is_some());
         }
         let join = place(module, arm.join);
+        if join == NOWHERE {
+            return None;
+        }
         let past = place(module, pc.wrapping_add(2));
         let taken = place(module, crossing.target);
         self.ways(past, taken, join, arm.cycles)

@@ -1,17 +1,21 @@
 //! What goes before the walks: both arms of a branch are followed with numbers alone, to see which values of its label
-//! they need. Many labels go together.
+//! they need and where they write. Many labels go together.
 
 use crate::arms::Crossing;
 use crate::forms::Form;
 use crate::ground::Ground;
 use crate::lanes::{Lanes, OwnWay};
-use crate::needs::Needs;
+use crate::needs::Seen;
+use crate::registers::{Core, put};
 use crate::roads::{Arm, Roads, Ways};
-use crate::rows::{HALF, PAIR, PLACES};
+use crate::rows::{HALF, PAIR, PLACES, bit_of};
 use crate::table::Entry;
-use flow_rule::Label;
+use flow_rule::{Label, Val};
 use mod_layout::Module;
 use std::alloc::Global;
+
+/// How many registers there are.
+const REGISTERS: usize = 16;
 
 /// Goes along the arms of a branch with numbers alone.
 #[derive(Drop)]
@@ -24,6 +28,8 @@ pub struct Scout {
     lone: Vec<Lanes<PAIR>>,
     /// Which of them tell of the labels that were scouted last.
     told: Told,
+    /// The registers that their arms write, as bits.
+    registers: u32,
 }
 
 /// Which lanes tell something.
@@ -33,6 +39,15 @@ enum Told {
     Lone,
     Few,
     Many,
+}
+
+/// Puts Secret into these registers; R3 stays 0.
+fn tell_registers(registers: u32, core: &mut Core) {
+    for n in 0..REGISTERS {
+        if registers & bit_of(n) != 0 {
+            put(core, n as u8, Val::Secret);
+        }
+    }
 }
 
 /// Makes the lanes, if there are none.
@@ -69,6 +84,7 @@ impl Scout {
             few: Vec::new(alloc),
             lone: Vec::new(alloc),
             told: Told::Nothing,
+            registers: 0,
         }
     }
 
@@ -129,17 +145,19 @@ impl Scout {
             && let Some(told) = self.follow(module, text, &ways, labels)
         {
             self.told = told;
+            self.registers = ways.registers;
         }
     }
 
-    /// Which values of the label that was scouted as this one the arm needs that the jump does not take, and which the
-    /// other, where they seem to have no cause.
-    pub fn needs_of(&self, k: usize) -> Option<(Needs, Needs)> {
-        match self.told {
-            Told::Nothing => None,
-            Told::Lone => self.lone.get(0)?.needs(k),
-            Told::Few => self.few.get(0)?.needs(k),
-            Told::Many => self.many.get(0)?.needs(k),
-        }
+    /// What is seen of the label that was scouted as this one, where its arms have no cause.
+    pub fn seen_of(&self, k: usize) -> Option<Seen> {
+        let mut seen = match self.told {
+            Told::Nothing => return None,
+            Told::Lone => self.lone.get(0)?.seen(k)?,
+            Told::Few => self.few.get(0)?.seen(k)?,
+            Told::Many => self.many.get(0)?.seen(k)?,
+        };
+        tell_registers(self.registers, &mut seen.told.core);
+        Some(seen)
     }
 }

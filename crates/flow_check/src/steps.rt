@@ -40,21 +40,23 @@ pub fn step_with(
     requires few { IfSome entries (λ n. n ≤ 64) }
     requires table { IsTable module.now text.now table.now }
     requires rise { BranchesRise arms.now }
-    requires passages { IsStub module.now text.now entries →
-        All (IsPassage module.now text.now) passages.now.list.items }
     requires none { array_vec_len stepped.old.targets ≡ 0 }
     requires empty { stepped.old.targets.items ≡ [] }
     requires calm { stepped.old.least ≡ None }
     requires unwritten { numbers_of stepped.old.written ≡ [] }
     ensures calm { IfOk result (λ _. stepped.new.least ≡ None → IsStub module.now text.now entries →
+        All (IsPassage module.now text.now) passages.now.list.items →
         (flow_with module.now text.now arms.now (point_of pc stepped.old.returns label.old)).reasons ≡ []) }
     ensures stirred { IfOk result (λ _. (c : Cause) → stepped.new.least ≡ Some c →
         IsStub module.now text.now entries →
+        All (IsPassage module.now text.now) passages.now.list.items →
         given_by (flow_with module.now text.now arms.now (point_of pc stepped.old.returns label.old)) ≡ []) }
     ensures targets { IfOk result (λ _. stepped.new.least ≡ None → IsStub module.now text.now entries →
+        All (IsPassage module.now text.now) passages.now.list.items →
         stepped.new.targets.items ≡ addrs_of (flow_with module.now text.now arms.now
         (point_of pc stepped.old.returns label.old)).gives) }
     ensures gives { IfOk result (λ _. stepped.new.least ≡ None → IsStub module.now text.now entries →
+        All (IsPassage module.now text.now) passages.now.list.items →
         GivesAlike (flow_with module.now text.now arms.now
         (point_of pc stepped.old.returns label.old)) stepped.new.returns label.new) }
     ensures frame { IfOk result (λ _. stepped.new.least ≡ None →

@@ -1,20 +1,21 @@
 //! The instructions of a text, each met once for all walks.
 
-ghost use Rattle.std.specs.Prelude.{◌≡◌, ◌+◌, ◌*◌, ℕ, Option, IfSome, IfOk, Some, None, slice_get, option_copied};
+ghost use Rattle.std.specs.Prelude.{◌≡◌, ◌+◌, ◌*◌, Option, IfSome, IfOk, Some, None, slice_get, option_copied};
 ghost use Rattle.insn_decode.specs.declared.insn.Insn.{Insn};
 ghost use Rattle.cycle_table.specs.Cycles.{cycles_of};
 ghost use Rattle.insn_decode.specs.Code.{IsDecoded};
 ghost use Rattle.mod_layout.specs.Tables.{IsSection};
 ghost use Rattle.arm_balance.specs.Met.{met};
-ghost use Rattle.arm_balance.specs.Balance.{arm_on, arm_next};
-ghost use Rattle.flow_check.specs.Tables.{time_of, is_deep, is_aligned, place_of, is_other, is_apart, own_if, plain_by, glides_by, entry_by, IsTable};
+ghost use Rattle.arm_balance.specs.Balance.{arm_next};
+ghost use Rattle.flow_check.specs.Tables.{time_of, is_deep, is_aligned, place_of, is_other, is_apart, glides_by};
+ghost use Rattle.flow_check.specs.Tables.{entry_by, IsTable};
 
 use crate::stub::word_number;
 use arm_balance::{arm_next, met};
 use cycle_table::cycles;
-use insn_decode::{Insn, Operand, TwoOp};
+use insn_decode::{Insn, Operand};
 use mod_layout::Module;
-use sm_words::{SR, Width};
+use sm_words::SR;
 use std::alloc::{AllocError, Global};
 
 /// The last address.
@@ -23,31 +24,8 @@ const LAST: u16 = 65535;
 /// The last word of a stub that is met from the stub alone.
 const LAST_SHUT: u16 = 37;
 
-/// The first register after PC.
-const FIRST_OTHER: u8 = 1;
-
 /// How many registers there are.
 const REGISTERS: u8 = 16;
-
-/// An operation into a register but PC that goes on at an address.
-#[derive(Clone, Copy)]
-pub struct Own {
-    pub op: TwoOp,
-    pub src: Operand,
-    pub reg: u8,
-    pub next: u16,
-}
-
-/// The form of an instruction that goes on.
-#[derive(Clone, Copy)]
-pub enum Plain {
-    /// Such an operation on words.
-    Words(Own),
-    /// The same on bytes.
-    Bytes(Own),
-    /// Any other, or none.
-    Other,
-}
 
 /// The instruction at an address, and its cycles; of a unit instruction 0.
 #[derive(Clone, Copy)]
@@ -60,8 +38,6 @@ pub struct Entry {
     pub glides: Option<u16>,
     /// The place of that in the table.
     pub to: u16,
-    /// The form of the same instruction.
-    pub plain: Plain,
 }
 
 /// The cycles of an instruction.
@@ -110,7 +86,8 @@ fn is_other(reg: u8) -> bool
     0 < reg && reg < REGISTERS
 }
 
-/// Whether PC is no part of a source but where it is the register itself, and the increment leaves the flags as they are.
+/// Whether PC is no part of a source but where it is the register itself, and the increment leaves the flags as they
+/// are.
 pub fn is_apart(src: Operand) -> bool
     ensures { result ≡ is_apart src }
 {
@@ -121,51 +98,6 @@ pub fn is_apart(src: Operand) -> bool
         Operand::Increment(reg) => is_other(reg) && reg != SR,
         Operand::Symbolic(_) | Operand::Absolute(_) => true,
         Operand::Const(_) | Operand::Imm(_) => true,
-    }
-}
-
-/// An operation of a width, if it is such a one.
-fn own_if(is_own: bool, width: Width, own: Own) -> Plain
-    ensures { result ≡ own_if is_own width own }
-{
-    match (is_own, width) {
-        (true, Width::Word) => Plain::Words(own),
-        (true, Width::Byte) => Plain::Bytes(own),
-        (false, _) => Plain::Other,
-    }
-}
-
-/// The form of an instruction that goes on at an address.
-fn form_of(met: &Option<Insn>, next: u16) -> Plain
-    ensures { result ≡ plain_by (Some next) met.now }
-{
-    match *met {
-        Some(
-            Insn::Two {
-                op,
-                width,
-                src,
-                dst: Operand::Reg(reg),
-            },
-        ) => {
-            let own = Own { op, src, reg, next };
-            own_if(
-                FIRST_OTHER <= reg && reg < REGISTERS && is_apart(src),
-                width,
-                own,
-            )
-        }
-        _ => Plain::Other,
-    }
-}
-
-/// The form of an instruction, if it goes on.
-fn plain_of(glides: Option<u16>, met: &Option<Insn>) -> Plain
-    ensures { result ≡ plain_by glides met.now }
-{
-    match glides {
-        Some(next) => form_of(met, next),
-        None => Plain::Other,
     }
 }
 
@@ -205,7 +137,6 @@ fn entry_for(module: &Module, text: &[u8], pc: u16) -> Entry
         next,
         glides,
         to: place_of(module, next),
-        plain: plain_of(glides, &met),
     }
 }
 
@@ -221,6 +152,17 @@ pub fn table_of(alloc: Global, module: &Module, text: &[u8]) -> Result<Vec<Entry
         table.push(entry_for(module, text, module.text.start + 2 * k))?;
     }
     Ok(table)
+}
+
+/// The place of an address in the table.
+pub fn first_place(module: &Module, pc: u16) -> Option<u16>
+    ensures { IfSome result (λ k. pc ≡ module.now.text.start + 2 * k) }
+{
+    if module.text.start <= pc && (pc - module.text.start) % 2 == 0 {
+        Some((pc - module.text.start) / 2)
+    } else {
+        None
+    }
 }
 
 /// What stands at a place of the table.
@@ -257,31 +199,5 @@ pub fn met_of(module: &Module, text: &[u8], table: &[Entry], pc: u16) -> Option<
     match entry_at(module, text, table, pc) {
         Some(entry) => entry.met,
         None => met(module.text, text, pc),
-    }
-}
-
-/// Where an arm goes on, if that is not past its join.
-#[inline(always)]
-#[tactic(auto, using(crate::proofs::Entries::next_near, crate::proofs::Entries::next_far, crate::proofs::Entries::next_none))]
-fn up_to(next: Option<u16>, join: u16) -> Option<u16>
-    ensures { (pc : ℕ) (insn : Option Insn) → next ≡ arm_next 65535 pc insn → result ≡ arm_next join pc insn }
-{
-    match next {
-        Some(to) => { if to <= join { Some(to) } else { None } }
-        None => None,
-    }
-}
-
-/// Where an arm goes on after the instruction at `pc`, of which the table has this.
-#[tactic(auto, using(crate::proofs::Entries::entry_on, arm_balance::proofs::Times::on_far))]
-#[inline(always)]
-pub fn next_of(module: &Module, text: &[u8], entry: &Entry, pc: u16, join: u16) -> Option<u16>
-    requires { entry.now ≡ entry_by module.now text.now pc }
-    ensures { arm_on module.now.text text.now join pc ≡ result }
-{
-    if module.text.holds(usize::from(pc)) && pc < join {
-        up_to(entry.next, join)
-    } else {
-        None
     }
 }

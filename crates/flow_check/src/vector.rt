@@ -77,6 +77,29 @@ pub fn all_secret() -> Vector
     }
 }
 
+/// A value in each lane.
+#[inline(always)]
+pub fn every(value: Val) -> Vector
+    ensures { (k : ℕ) → k < 16 → cell k result ≡ value }
+{
+    match value {
+        Val::Known(number) => splat(number),
+        Val::Away => Vector {
+            numbers: [0; LANES],
+            hidden: [false; LANES],
+            away: [true; LANES],
+            secret: [false; LANES],
+        },
+        Val::Public => Vector {
+            numbers: [0; LANES],
+            hidden: [true; LANES],
+            away: [false; LANES],
+            secret: [false; LANES],
+        },
+        Val::Secret => all_secret(),
+    }
+}
+
 /// The value in a lane.
 #[inline(always)]
 pub fn lane(vector: &Vector, k: usize) -> Val

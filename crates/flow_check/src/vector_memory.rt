@@ -1,7 +1,8 @@
 //! Words of many labels, as vectors: where operands stand, and what is read and written there.
 
 ghost use Rattle.std.specs.Prelude.{◌≡◌, ◌≢◌, ◌<◌, ◌≤◌, ◌%◌, ◌-◌, ◌/◌, ℕ, List, Some, true, false, length, IfSome, slice_set};
-ghost use Rattle.sm_words.specs.Words.{nth};
+ghost use Rattle.sm_words.specs.Words.{nth, word_at};
+ghost use Rattle.arm_balance.specs.Met.{text_byte};
 ghost use Rattle.mod_layout.specs.Table.{holds};
 ghost use Rattle.pc_access.specs.Rights.{misaligned};
 ghost use Rattle.flow_rule.specs.declared.Val.{Val};
@@ -391,6 +392,19 @@ fn any_outside(module: &Module, width: Width, addrs: &[u16; LANES]) -> bool
     found != 0
 }
 
+/// The word of the text at an address that is not before it: both bytes at once, where both are there.
+#[inline(always)]
+fn text_word(module: &Module, text: &[u8], addr: u16) -> u16
+    requires { module.now.text.start ≤ addr }
+    ensures { result ≡ word_at (text_byte module.now.text text.now) addr }
+{
+    let at = usize::from(addr - module.text.start);
+    if at + 1 < text.len() {
+        return u16::from(text[at]) + 256 * u16::from(text[at + 1]);
+    }
+    word(module.text, text, usize::from(addr))
+}
+
 /// The number of what stands at such an address.
 #[inline(always)]
 fn text_number(module: &Module, text: &[u8], width: Width, addr: u16) -> u16
@@ -400,7 +414,7 @@ fn text_number(module: &Module, text: &[u8], width: Width, addr: u16) -> u16
         IsWordThere module.now text.now width (Val.Known addr) words (Val.Known result) }
 {
     match width {
-        Width::Word => word(module.text, text, usize::from(addr)),
+        Width::Word => text_word(module, text, addr),
         Width::Byte => byte(module.text, text, usize::from(addr)),
     }
 }

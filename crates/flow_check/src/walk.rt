@@ -9,17 +9,12 @@ ghost use Rattle.flow_rule.specs.Does.{write_reaches};
 ghost use Rattle.flow_rule.specs.Arms.{walk, written_regs, written_words, blot, blot_core};
 ghost use Rattle.flow_check.specs.Pairs.{IsStub};
 ghost use Rattle.flow_check.specs.Walks.{told, point_at};
-ghost use Rattle.flow_check.specs.Along.{words_at};
-ghost use Rattle.flow_check.specs.Tables.{IsTable};
 
-use crate::along::{Way, along, is_call_word};
-use crate::blot::{blot_at, blot_registers, blot_words};
-use crate::glide::glide;
+use crate::blot::{blot_registers, blot_words};
 use crate::reach::reaches;
 use crate::returns::Returns;
 use crate::step::{Cause, Stepped, Targets, note, note_if};
 use crate::stub::step_base;
-use crate::table::{Entry, entry_at, next_of};
 use arm_balance::met_arm;
 use cycle_table::cycles;
 use flow_rule::{Label, Reach, Reason, Val};
@@ -60,25 +55,6 @@ fn tell(module: &Module, insn: &Insn, reaches: &[Reach], time: u8, tally: &mut T
     blot_words(module, reaches, &mut tally.label.words);
 }
 
-/// Tells what an instruction takes and writes, which wrote this address.
-#[inline(always)]
-fn tell_written(module: &Module, insn: &Insn, written: Option<Val>, time: u8, tally: &mut Tally)
-    requires { tally.old.cycles + time < 4294967296 }
-    ensures { tally.new ≡ record tally.old {
-      cycles = tally.old.cycles + time;
-      label = record {
-        core = blot_core
-            (written_regs insn.now) tally.old.label.core;
-        words = blot
-            (words_at module.now written) tally.old.label.words;
-      };
-    } }
-{
-    tally.cycles += u32::from(time);
-    blot_registers(insn, &mut tally.label.core);
-    blot_at(module, written, &mut tally.label.words);
-}
-
 /// The first address.
 fn first_of(targets: &Targets) -> Option<u16>
     ensures { result ≡ slice_get targets.now.items 0 }
@@ -93,8 +69,8 @@ fn is_lost(module: &Module, join: u16, next: u16) -> bool
     module.text.holds(usize::from(join)) || next != join
 }
 
-/// Does the arm's instruction at this place as any instruction is done, and tells whether the arm goes on.
-fn walk_by_step(
+/// Does the arm's instruction at this place, and tells whether the arm goes on.
+pub fn walk_on(
     module: &Module,
     text: &[u8],
     entries: Option<u16>,
@@ -150,66 +126,10 @@ fn walk_by_step(
     }
 }
 
-/// Does the arm's instruction at this place, and tells whether the arm goes on.
-#[inline(always)]
-pub fn walk_on(
-    module: &Module,
-    text: &[u8],
-    table: &[Entry],
-    entries: Option<u16>,
-    join: u16,
-    place: &mut Place,
-    tally: &mut Tally,
-) -> bool
-    requires few { IfSome entries (λ n. n ≤ 64) }
-    requires table { IsTable module.now text.now table.now }
-    requires before { place.old.pc ≢ join }
-    requires short { tally.old.cycles < 4294967000 }
-    ensures on { result ≡ true → IsStub module.now text.now entries → (branch steps : ℕ) →
-        told (walk (flow_step module.now text.now) module.now text.now branch join (suc steps)
-        (point_at place.old)) tally.old ≡ told
-        (walk (flow_step module.now text.now) module.now text.now branch join steps
-        (point_at place.new)) tally.new }
-    ensures ends { result ≡ false → IsStub module.now text.now entries → (branch steps : ℕ) →
-        told (walk (flow_step module.now text.now) module.now text.now branch join (suc steps)
-        (point_at place.old)) tally.old ≡ tally.new }
-    ensures cycles { tally.new.cycles ≤ tally.old.cycles + 255 }
-{
-    let pc = place.pc;
-    if is_call_word(module, entries, pc) {
-        return walk_by_step(module, text, entries, join, place, tally);
-    }
-    let Some(entry) = entry_at(module, text, table, pc) else {
-        return walk_by_step(module, text, entries, join, place, tally);
-    };
-    let (Some(insn), Some(next)) = (&entry.met, next_of(module, text, entry, pc, join)) else {
-        note(&mut tally.least, Reason::Arm, pc);
-        return false;
-    };
-    let went = along(module, text, entries, insn, pc, &mut place.label);
-    match went.way {
-        Way::On(to) => {
-            tell_written(module, insn, went.written, entry.time, tally);
-            place.pc = to;
-            true
-        }
-        Way::Out => {
-            let lost = is_lost(module, join, next);
-            note_if(lost, &mut tally.least, Reason::Arm, next);
-            false
-        }
-        Way::Cause => {
-            note(&mut tally.least, Reason::Arm, pc);
-            false
-        }
-    }
-}
-
 /// Walks from a place to the join, for at most so many steps.
 pub fn walk_from(
     module: &Module,
     text: &[u8],
-    table: &[Entry],
     entries: Option<u16>,
     join: u16,
     place: &mut Place,
@@ -217,7 +137,6 @@ pub fn walk_from(
     tally: &mut Tally,
 )
     requires few { IfSome entries (λ n. n ≤ 64) }
-    requires table { IsTable module.now text.now table.now }
     requires short { tally.old.cycles + 255 * most ≤ 255 * 65536 }
     ensures { IsStub module.now text.now entries → (branch : ℕ) →
         tally.new ≡ told (walk (flow_step module.now text.now) module.now text.now branch join most
@@ -225,14 +144,10 @@ pub fn walk_from(
 {
     let mut left = most;
     while left > 0 {
-        left = glide(module, text, table, entries, join, place, tally, left, 0);
-        if left == 0 {
-            break;
-        }
         if place.pc == join {
             return;
         }
-        if !walk_on(module, text, table, entries, join, place, tally) {
+        if !walk_on(module, text, entries, join, place, tally) {
             return;
         }
         left -= 1;
@@ -245,14 +160,12 @@ pub fn walk_from(
 pub fn walk(
     module: &Module,
     text: &[u8],
-    table: &[Entry],
     entries: Option<u16>,
     join: u16,
     from: &Place,
     tally: &mut Tally,
 )
     requires few { IfSome entries (λ n. n ≤ 64) }
-    requires table { IsTable module.now text.now table.now }
     requires start { tally.old.cycles ≡ 0 }
     ensures { IsStub module.now text.now entries → (branch : ℕ) →
         tally.new ≡ told (walk (flow_step module.now text.now) module.now text.now branch join (suc join)
@@ -260,5 +173,5 @@ pub fn walk(
 {
     let mut place = *from;
     let most = u32::from(join) + 1;
-    walk_from(module, text, table, entries, join, &mut place, most, tally);
+    walk_from(module, text, entries, join, &mut place, most, tally);
 }

@@ -9,7 +9,7 @@ ghost use Rattle.flow_check.specs.Waves.{is_served, lane_label, lane_told, marke
 
 use crate::registers::Core;
 use crate::rows::LANES;
-use crate::vector::{Vector, lane, set_lane, splat};
+use crate::vector::{Vector, every, lane, set_lane, splat};
 use crate::vector_core::VectorCore;
 use crate::vector_memory::{Strikes, VectorWords};
 use flow_rule::{Label, Val};
@@ -32,14 +32,19 @@ pub struct Wave {
 }
 
 impl Wave {
-    /// Without labels: 0 everywhere.
-    pub fn new() -> Wave
+    /// With a label in each lane, before anything is written.
+    pub fn of(label: &Label) -> Wave
+        ensures label { (k : ℕ) → k < 16 → lane_label k result ≡ label.now }
         ensures written { (core : List Val) → marked 0 result.written core ≡ core }
         ensures told { (k : ℕ) (words : List Val) → struck k result.told words ≡ words }
     {
+        let mut core = [splat(0); REGISTERS];
+        spread(&mut core, &label.core);
+        let mut words = [splat(0); WORDS];
+        spread(&mut words, &label.words);
         Wave {
-            core: [splat(0); REGISTERS],
-            words: [splat(0); WORDS],
+            core,
+            words,
             written: [false; REGISTERS],
             told: [[false; LANES]; WORDS],
         }
@@ -74,6 +79,17 @@ impl Wave {
     {
         tell_registers(&self.written, &mut told.core);
         tell_words(&self.told, k, &mut told.words);
+    }
+}
+
+/// Takes values into each lane.
+fn spread(vectors: &mut [Vector], values: &[Val])
+    requires { length vectors.old ≡ length values.now }
+    ensures here { (k : ℕ) → k < 16 → column k vectors.new ≡ values.now }
+    ensures length { length vectors.new ≡ length vectors.old }
+{
+    for n in 0..vectors.len() {
+        vectors[n] = every(values[n]);
     }
 }
 

@@ -1,6 +1,6 @@
 //! Jobs that stand at one place of an arm go on side by side.
 
-ghost use Rattle.std.specs.Prelude.{◌≡◌, ◌≤◌, ◌<◌, ◌+◌, ◌*◌, ℕ, All, length, true, IfSome};
+ghost use Rattle.std.specs.Prelude.{◌≡◌, ◌≢◌, ◌≤◌, ◌<◌, ◌+◌, ◌*◌, ℕ, All, length, true, IfSome};
 ghost use Rattle.sm_words.specs.Words.{nth};
 ghost use Rattle.flow_check.specs.declared.jobs.Job.{Job};
 ghost use Rattle.flow_check.specs.Jobs.{IsShort, IsFirst, IsSecond};
@@ -10,18 +10,12 @@ ghost use Rattle.flow_check.specs.WaveJobs.{stands, landed, landed_from};
 ghost use Rattle.flow_check.specs.Waves.{lane_label};
 
 use crate::arms::Crossing;
-use crate::glide::first_place;
 use crate::jobs::Job;
 use crate::rows::LANES;
-use crate::table::Entry;
+use crate::table::{Entry, first_place};
 use crate::wave::Wave;
 use crate::wave_walk::{Stand, wave_along};
 use mod_layout::Module;
-
-/// How many jobs make a wave worth while, and how far they have to go.
-const FEW: usize = 3;
-
-const NEAR: u16 = 256;
 
 /// Whether a job stands where the lanes do.
 fn fits(job: &Job, stand: &Stand) -> bool
@@ -30,41 +24,29 @@ fn fits(job: &Job, stand: &Stand) -> bool
     job.place.pc == stand.pc && job.left == stand.left
 }
 
-/// How many jobs do.
-fn count_fits(jobs: &[Job], stand: &Stand) -> usize {
-    let mut count: usize = 0;
-    for job in jobs {
-        if fits(job, stand) && count < LANES {
-            count += 1;
-        }
-    }
-    count
-}
-
-/// Which job's label goes in a lane: the lane's own, or the leading one's where that doesn't stand there.
-fn job_in(jobs: &[Job], k: usize, lead: usize, stand: &Stand) -> usize
-    requires { lead < length jobs.now }
-    ensures inside { result < length jobs.now }
-    ensures own { (d : Job) → k < length jobs.now → stands stand.now (nth k jobs.now d) ≡ true → result ≡ k }
+/// Takes a job's label into its lane, if it stands there.
+fn board_one(jobs: &[Job], k: usize, stand: &Stand, wave: &mut Wave)
+    requires { k < 16 }
+    ensures here { (d : Job) → k < length jobs.now → stands stand.now (nth k jobs.now d) ≡ true →
+        lane_label k wave.new ≡ (nth k jobs.now d).place.label }
+    ensures others { (j : ℕ) → j ≢ k → lane_label j wave.new ≡ lane_label j wave.old }
+    ensures written { wave.new.written ≡ wave.old.written }
+    ensures told { wave.new.told ≡ wave.old.told }
 {
     if k < jobs.len() && fits(&jobs[k], stand) {
-        k
-    } else {
-        lead
+        wave.take(k, &jobs[k].place.label);
     }
 }
 
 /// Takes the labels of the jobs that stand there.
-fn board(jobs: &[Job], lead: usize, stand: &Stand, wave: &mut Wave)
-    requires { lead < length jobs.now }
+fn board(jobs: &[Job], stand: &Stand, wave: &mut Wave)
     ensures labels { (k : ℕ) (d : Job) → k < 16 → k < length jobs.now → stands stand.now (nth k jobs.now d) ≡ true →
         lane_label k wave.new ≡ (nth k jobs.now d).place.label }
     ensures written { wave.new.written ≡ wave.old.written }
     ensures told { wave.new.told ≡ wave.old.told }
 {
     for k in 0..LANES {
-        let n = job_in(jobs, k, lead, stand);
-        wave.take(k, &jobs[n].place.label);
+        board_one(jobs, k, stand, wave);
     }
 }
 
@@ -124,8 +106,7 @@ fn lead_of(module: &Module, join: u16, jobs: &[Job]) -> Option<(usize, Stand)>
     None
 }
 
-/// Lets the jobs that stand where the first of them does go on side by side, as far as none has a cause, and tells how
-/// many steps they went.
+/// Lets the jobs that stand where the first of them does go on side by side, as far as none has a cause.
 pub fn go_abreast(
     module: &Module,
     text: &[u8],
@@ -133,7 +114,7 @@ pub fn go_abreast(
     entries: Option<u16>,
     crossing: &Crossing,
     jobs: &mut [Job],
-) -> u32
+)
     requires table { IsTable module.now text.now table.now }
     requires short { All IsShort jobs.old }
     ensures short { All IsShort jobs.new }
@@ -146,14 +127,10 @@ pub fn go_abreast(
 {
     let join = crossing.arm.join;
     let Some((k, from)) = lead_of(module, join, jobs) else {
-        return 0;
+        return;
     };
-    if join.saturating_sub(from.pc) < NEAR || count_fits(jobs, &from) < FEW {
-        return 0;
-    }
-    let mut wave = Wave::new();
-    board(jobs, k, &from, &mut wave);
+    let mut wave = Wave::of(&jobs[k].place.label);
+    board(jobs, &from, &mut wave);
     let to = wave_along(module, text, table, entries, join, from, 1, &mut wave);
     land_all(&wave, &from, &to, jobs);
-    from.left - to.left
 }

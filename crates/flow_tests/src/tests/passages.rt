@@ -79,3 +79,33 @@ fn met_at_once(rt: HostRuntime) -> Result<(), Fail> {
     }
     Ok(())
 }
+
+// Both arms read an address at 0x0330, and then what stands there. Where the data begin with the text, what the scout
+// claims of the arms is refuted, since it takes that address for one of the data, and the rule for one of the text.
+const CLAIMED: [u16; 25] = [
+    0x4031, 0x0420, 0x9382, 0x0400, 0x2404, 0x4215, 0x0330, 0x4526, 0x3c05, 0x4215, 0x0330, 0x4526,
+    0x4303, 0x4303, 0x4305, 0x4306, 0xc032, 0x0107, 0x4030, 0x0214, 0x4303, 0x4303, 0x4303, 0x4303,
+    0x0300,
+];
+
+// Where the data begin, how many bytes they have, the address that is read, and the verdict.
+fn rows_claimed() -> [(u16, u16, u16, Verdict); 4] {
+    [
+        (0x0400, 0x20, 0x0300, Verdict::Yes),
+        (0x0300, 0x120, 0x0300, Verdict::Yes),
+        // No address of the module.
+        (0x0400, 0x20, 0x0420, no(0x0308, Reason::Arm, 0x030e)),
+        (0x0300, 0x120, 0x0420, no(0x0308, Reason::Arm, 0x030e)),
+    ]
+}
+
+#[test]
+fn claimed(rt: HostRuntime) -> Result<(), Fail> {
+    for (start, size, address, expected) in rows_claimed() {
+        let mut text = CLAIMED;
+        text[24] = address;
+        let found = verdict_at(rt.alloc(), &rt, 0x0300, start, size, &text, b"0308 031c 7")?;
+        assert_eq!(rt; found, expected);
+    }
+    Ok(())
+}

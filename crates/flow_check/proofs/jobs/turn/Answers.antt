@@ -4,16 +4,16 @@ use Rattle.flow_check.specs.declared.jobs.Job.{Job}
 use Rattle.flow_check.specs.Jobs.{IsShort, IsFirst, IsSecond}
 use Rattle.flow_check.proofs.jobs.turn.Goals as goal
 
-pub go_on-went-requires-clause-short : goal.go_on-went-requires-clause-short
-go_on-went-requires-clause-short c =
+pub step_job-went-requires-clause-short : goal.step_job-went-requires-clause-short
+step_job-went-requires-clause-short c =
     let h = c.loop-k in
     h.invariant.1 h.k _ (omega (arith, c.loop-k-test.true, h.invariant.0))
 
 pub loop-k-preserved : goal.loop-k-preserved
 loop-k-preserved c =
     let h = c.loop-k in
-    let e = c.go_on-went.ensures in
-    let new : Job = c.go_on-went.new.job in
+    let e = c.step_job-went.ensures in
+    let new : Job = c.step_job-went.new.job in
     let First : ℕ → Job → Type 0 = IsFirst c.args.module.now c.args.text.now c.args.crossing.now in
     let Second : ℕ → Job → Type 0 = IsSecond c.args.module.now c.args.text.now c.args.crossing.now in (
       length-set h.jobs h.k new ∙ h.invariant.0,

@@ -5,6 +5,7 @@ use Rattle.flow_check.proofs.Taking.{rest_same}
 use Rattle.flow_check.proofs.Foretold.{same_points, kept_same, front_here}
 use Rattle.flow_check.specs.Labellings.{points_in}
 use Rattle.flow_check.specs.Pairs.{points_of, fronts_of, Distinct}
+use Rattle.flow_check.proofs.Claiming.{grows_then}
 use Rattle.flow_check.proofs.Linking.{all_wait, front_waits}
 use Rattle.flow_check.proofs.rounds.round.Goals as goal
 
@@ -19,14 +20,14 @@ loop-k-preserved c =
     let step = flow_with c.args.module.now c.args.text.now c.args.arms.now in
     let one = c.index_mut.result.now in
     let next = front_here h.front.items c.args.front.now.items h.k one h.invariant.8 (omega (arith, h.invariant.9)) c.index_mut.ensures.value in (
-      (λ stub. h.invariant.0 stub ∙ ap (λ cs. join_all (given step (fronts_of cs)) (points_in h.all)) next
+      (λ stub kept so. h.invariant.0 stub kept ((c.in_ok-foresee.ensures.grows stub).back ((h.invariant.5 stub).kept kept) so) ∙ ap (λ cs. join_all (given step (fronts_of cs)) (points_in h.all)) next
           ∙ ap (join_all (given step (fronts_of (one ∷ drop (h.k + 1) c.args.front.now.items)))) (sym (same_points h.all mid f.pairs f.labels))
-          ∙ e.joined stub (drop (h.k + 1) c.args.front.now.items)),
+          ∙ e.joined stub so (drop (h.k + 1) c.args.front.now.items)),
       e.distinct,
       e.alike,
       e.marked,
       e.kept (points_of first.pairs.items first.labels.items) (kept_same h.all mid (points_of first.pairs.items first.labels.items) f.pairs f.labels f.marks h.invariant.4),
-      c.in_ok-foresee.ensures.passages,
+      (λ stub. grows_then (h.invariant.5 stub) (c.in_ok-foresee.ensures.grows stub)),
       e.linked,
       all_wait h.all.hints.items new.hints.items h.all.labels.items new.labels.items c.args.front.now.items (λ x w. e.waits x (f.onward.waits x w)) h.invariant.7,
       rest_same h.front.items c.args.front.now.items h.k c.give.new.changed h.invariant.8,

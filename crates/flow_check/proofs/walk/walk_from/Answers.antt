@@ -9,24 +9,27 @@ use Rattle.flow_check.proofs.walk.walk_from.Goals as goal
 pub returns-then-place-join : goal.returns-then-place-join
 returns-then-place-join c = λ stub branch.
     let S : Point → Step = flow_step c.args.module.now c.args.text.now in
-    sym (c.loop-left.invariant.rest stub branch ∙ c.glide-left.ensures.same stub branch
-    ∙ walk_there S c.args.module.now c.args.text.now branch c.args.join c.glide-left.result (point_at c.glide-left.new.place) c.glide-left.new.tally (omega (arith, c.if-left-eq0.false)) c.if-place-join.true)
+    let h = c.loop-left in
+    sym (h.invariant.rest stub branch
+    ∙ walk_there S c.args.module.now c.args.text.now branch c.args.join h.left (point_at h.place) h.tally (omega (arith, c.loop-left-test.true)) c.if-place-join.true)
 
 pub returns-then-not-walk_on : goal.returns-then-not-walk_on
 returns-then-not-walk_on c = λ stub branch.
     let S : Point → Step = flow_step c.args.module.now c.args.text.now in
-    let one : c.glide-left.result ≡ suc (c.glide-left.result - 1) = omega (arith, c.if-left-eq0.false) in
-    sym (c.loop-left.invariant.rest stub branch ∙ c.glide-left.ensures.same stub branch
-    ∙ ap (λ n. told (walk S c.args.module.now c.args.text.now branch c.args.join n (point_at c.glide-left.new.place)) c.glide-left.new.tally) one
-    ∙ c.walk_on.ensures.ends c.if-not-walk_on.true stub branch (c.glide-left.result - 1))
+    let h = c.loop-left in
+    let one : h.left ≡ suc (h.left - 1) = omega (arith, c.loop-left-test.true) in
+    sym (h.invariant.rest stub branch
+    ∙ ap (λ n. told (walk S c.args.module.now c.args.text.now branch c.args.join n (point_at h.place)) h.tally) one
+    ∙ c.walk_on.ensures.ends c.if-not-walk_on.true stub branch (h.left - 1))
 
 pub loop-left-preserved : goal.loop-left-preserved
 loop-left-preserved c = record {
   rest = λ stub branch.
       let S : Point → Step = flow_step c.args.module.now c.args.text.now in
-      let one : c.glide-left.result ≡ suc (c.glide-left.result - 1) = omega (arith, c.if-left-eq0.false) in
-      c.loop-left.invariant.rest stub branch ∙ c.glide-left.ensures.same stub branch
-      ∙ ap (λ n. told (walk S c.args.module.now c.args.text.now branch c.args.join n (point_at c.glide-left.new.place)) c.glide-left.new.tally) one
-      ∙ c.walk_on.ensures.on c.if-not-walk_on.false stub branch (c.glide-left.result - 1);
-  short = omega (arith, c.loop-left.invariant.short, c.glide-left.ensures.cycles, c.walk_on.ensures.cycles);
+      let h = c.loop-left in
+      let one : h.left ≡ suc (h.left - 1) = omega (arith, c.loop-left-test.true) in
+      h.invariant.rest stub branch
+      ∙ ap (λ n. told (walk S c.args.module.now c.args.text.now branch c.args.join n (point_at h.place)) h.tally) one
+      ∙ c.walk_on.ensures.on c.if-not-walk_on.false stub branch (h.left - 1);
+  short = omega (arith, c.loop-left.invariant.short, c.walk_on.ensures.cycles);
 }

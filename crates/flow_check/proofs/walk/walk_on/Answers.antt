@@ -1,83 +1,49 @@
-use Rattle.std.proofs.Common.{◌∙◌, ◌+◌, [], ap, sym, subst, ℕ, List}
+use Rattle.std.proofs.Common.{◌≡◌, ◌∙◌, ◌+◌, ap, sym, ℕ, List, slice_set}
+use Rattle.flow_rule.specs.declared.Val.TheVariants.{Known}
 use Rattle.flow_rule.specs.Does.{plan_val, write_reaches}
 use Rattle.flow_rule.specs.Verdict.{flow_step}
 use Rattle.flow_rule.specs.Arms.{walk, written_regs, written_words, blot, blot_core}
 use Rattle.flow_rule.specs.Rounds.{Point, Step}
-use Rattle.flow_check.specs.Pairs.{list_of, point_of}
+use Rattle.flow_check.specs.Pairs.{point_of, addrs_of, list_of}
 use Rattle.flow_check.specs.Walks.{told, point_at}
-use Rattle.flow_check.specs.Along.{LeadsTo}
-use Rattle.flow_check.proofs.Acting.{on_next}
-use Rattle.flow_check.proofs.Entries.{entry_met, entry_time}
-use Rattle.flow_check.proofs.Walking.{walk_leaves, walk_stops, walk_goes}
+use Rattle.flow_check.proofs.Walking.{calm_step, same_gives, same_points, gives_first, gives_none, walk_leaves, walk_goes}
 use Rattle.flow_check.proofs.walk.walk_on.Goals as goal
 
-pub returns-in-On-clause-on : goal.returns-in-On-clause-on
-returns-in-On-clause-on c = λ _ stub branch steps.
+pub returns-in-None-clause-ends : goal.returns-in-None-clause-ends
+returns-in-None-clause-ends c = λ _ stub branch steps.
+    let m = c.args.module.now in
+    let text : List ℕ = c.args.text.now in
+    let p = c.args.place.now in
+    let S : Point → Step = flow_step m text in
+    let r0 = c.new-stepped.result.returns in
+    let new = c.step_base.new.stepped in
+    let gs : List Point = (S (point_of p.pc p.returns p.label)).gives in
+    let none = calm_step S p.pc r0 p.returns p.label c.new-stepped.result.least new.least c.new-stepped.ensures.returns c.new-stepped.ensures.least (c.step_base.ensures.least stub) (sym c.is_some.ensures ∙ c.if-is_some.false) in
+    let targets : new.targets.items ≡ addrs_of gs = same_gives S p.pc r0 p.returns p.label c.new-stepped.result.targets.items new.targets.items c.new-stepped.ensures.returns c.new-stepped.ensures.targets (c.step_base.ensures.targets stub) in
+    let points = same_points S p.pc r0 p.returns p.label c.step_base.new.label (list_of new.returns) c.new-stepped.ensures.returns none (c.step_base.ensures.gives stub) in
+    walk_leaves S m text branch c.args.join steps (point_at p) c.args.tally.now c.in-Some.next c.is_lost-lost.result c.note_if.new.least c.requires.before c.in-Some.ensures.goes_on none
+    (gives_none gs new.targets.items (list_of new.returns) c.step_base.new.label targets points (sym c.first_of.ensures ∙ c.in-None.is))
+    c.is_lost-lost.ensures c.note_if.ensures
+
+pub returns-in-Some-first_of-clause-on : goal.returns-in-Some-first_of-clause-on
+returns-in-Some-first_of-clause-on c = λ _ stub branch steps.
     let m = c.args.module.now in
     let text : List ℕ = c.args.text.now in
     let p = c.args.place.now in
     let t = c.args.tally.now in
-    let insn = c.in-Some-Some.insn in
-    let next : ℕ = c.in-Some-Some.next in
-    let l = c.along-went.new.label in
+    let insn = c.in-Some.insn in
     let S : Point → Step = flow_step m text in
-    let there = entry_met m text p.pc c.in-Some.entry.now c.in-Some-Some.insn c.in-Some.ensures c.in-Some-Some.is-0 in
-    let on = on_next m.text text c.args.join p.pc insn next there c.in-Some-Some.ensures in
-    let leads = subst (λ w. LeadsTo w (S (point_at p)) (list_of p.returns) l.core l.words) c.in-On.is
-    (c.along-went.ensures.way c.args.join next p.returns stub (sym c.is_call_word.ensures
-    ∙ c.if-is_call_word.false) there on) in
-    let y : Point = point_of c.in-On.to p.returns l in
-    walk_goes S m text branch c.args.join steps
-    (point_at p) y [] t next insn c.requires.before c.in-Some-Some.ensures there leads.0 leads.1
+    let r0 = c.new-stepped.result.returns in
+    let new = c.step_base.new.stepped in
+    let gs : List Point = (S (point_of p.pc p.returns p.label)).gives in
+    let none = calm_step S p.pc r0 p.returns p.label c.new-stepped.result.least new.least c.new-stepped.ensures.returns c.new-stepped.ensures.least (c.step_base.ensures.least stub) (sym c.is_some.ensures ∙ c.if-is_some.false) in
+    let targets : new.targets.items ≡ addrs_of gs = same_gives S p.pc r0 p.returns p.label c.new-stepped.result.targets.items new.targets.items c.new-stepped.ensures.returns c.new-stepped.ensures.targets (c.step_base.ensures.targets stub) in
+    let points = same_points S p.pc r0 p.returns p.label c.step_base.new.label (list_of new.returns) c.new-stepped.ensures.returns none (c.step_base.ensures.gives stub) in
+    let first = gives_first gs new.targets.items (list_of new.returns) c.step_base.new.label c.in-Some-first_of.to targets points (sym c.first_of.ensures ∙ c.in-Some-first_of.is) in
+    let y : Point = record { pair = record { addr = c.in-Some-first_of.to; returns = list_of new.returns }; label = record { core = slice_set c.step_base.new.label.core 0 (Known c.in-Some-first_of.to); words = c.step_base.new.label.words } } in
+    let reached : c.as_slice.result.now ≡ plan_val insn p.pc p.label.core = c.as_slice.ensures.value ∙ c.reaches-reaches.ensures in
+    walk_goes S m text branch c.args.join steps (point_at p) y first.0 t c.in-Some.next insn c.requires.before c.in-Some.ensures.goes_on c.in-Some.ensures.met none first.1
     ∙ ap (told (walk S m text branch c.args.join steps y))
-    (ap (λ n. record t {
-      cycles = t.cycles + n;
-      label = record {
-        core = blot_core
-            (written_regs insn) t.label.core;
-        words = blot (written_words m (write_reaches
-            (plan_val insn p.pc p.label.core))) t.label.words;
-      };
-    }) (sym (entry_time m text p.pc c.args.join next c.in-Some.entry.now insn c.in-Some.ensures c.in-Some-Some.is-0 on))
-    ∙ ap (λ ws. record t {
-      cycles = t.cycles + c.in-Some.entry.now.time;
-      label = record {
-        core = blot_core
-            (written_regs insn) t.label.core;
-        words = blot ws t.label.words;
-      };
-    }) c.along-went.ensures.written
-    ∙ sym c.tell_written.ensures)
-
-pub returns-in-Out-clause-ends : goal.returns-in-Out-clause-ends
-returns-in-Out-clause-ends c = λ _ stub branch steps.
-    let m = c.args.module.now in
-    let text : List ℕ = c.args.text.now in
-    let p = c.args.place.now in
-    let next : ℕ = c.in-Some-Some.next in
-    let l = c.along-went.new.label in
-    let S : Point → Step = flow_step m text in
-    let there = entry_met m text p.pc c.in-Some.entry.now c.in-Some-Some.insn c.in-Some.ensures c.in-Some-Some.is-0 in
-    let on = on_next m.text text c.args.join p.pc c.in-Some-Some.insn next there c.in-Some-Some.ensures in
-    let leads = subst (λ w. LeadsTo w (S (point_at p)) (list_of p.returns) l.core l.words) c.in-Out.is
-    (c.along-went.ensures.way c.args.join next p.returns stub (sym c.is_call_word.ensures
-    ∙ c.if-is_call_word.false) there on) in
-    walk_leaves S m text branch c.args.join steps
-    (point_at p) c.args.tally.now next c.is_lost-lost.result c.note_if.new.least c.requires.before c.in-Some-Some.ensures leads.0 leads.1
-    c.is_lost-lost.ensures c.note_if.ensures
-
-pub returns-in-Cause-clause-ends : goal.returns-in-Cause-clause-ends
-returns-in-Cause-clause-ends c = λ _ stub branch steps.
-    let m = c.args.module.now in
-    let text : List ℕ = c.args.text.now in
-    let p = c.args.place.now in
-    let next : ℕ = c.in-Some-Some.next in
-    let l = c.along-went.new.label in
-    let S : Point → Step = flow_step m text in
-    let there = entry_met m text p.pc c.in-Some.entry.now c.in-Some-Some.insn c.in-Some.ensures c.in-Some-Some.is-0 in
-    let on = on_next m.text text c.args.join p.pc c.in-Some-Some.insn next there c.in-Some-Some.ensures in
-    let leads = subst (λ w. LeadsTo w (S (point_at p)) (list_of p.returns) l.core l.words) c.in-Cause.is
-    (c.along-went.ensures.way c.args.join next p.returns stub (sym c.is_call_word.ensures
-    ∙ c.if-is_call_word.false) there on) in
-    walk_stops S m text branch c.args.join steps
-    (point_at p) c.args.tally.now next c.note-in-Cause.new.least c.requires.before c.in-Some-Some.ensures leads c.note-in-Cause.ensures
+    (ap (λ n. record t { cycles = t.cycles + n; label = record { core = blot_core (written_regs insn) t.label.core; words = blot (written_words m (write_reaches (plan_val insn p.pc p.label.core))) t.label.words } }) (sym c.cycles.ensures.exact)
+    ∙ ap (λ xs. record t { cycles = t.cycles + c.cycles.result; label = record { core = blot_core (written_regs insn) t.label.core; words = blot (written_words m (write_reaches xs)) t.label.words } }) (sym reached)
+    ∙ sym c.tell.ensures)

@@ -8,9 +8,9 @@ loop-k-init c = (refl, refl, λ k d lt. absurd (omega (arith, lt)))
 pub loop-k-preserved : goal.loop-k-preserved
 loop-k-preserved c =
     let h = c.loop-k in (
-      c.take.ensures.written ∙ h.invariant.0,
-      c.take.ensures.told ∙ h.invariant.1,
-      one_boarded h.k c.job_in-n.result h.wave c.take.new.self c.args.stand.now c.args.jobs.now _ c.job_in-n.ensures.own c.take.ensures.here c.take.ensures.others h.invariant.2,
+      c.board_one.ensures.written ∙ h.invariant.0,
+      c.board_one.ensures.told ∙ h.invariant.1,
+      one_boarded h.k h.wave c.board_one.new.wave c.args.stand.now c.args.jobs.now c.board_one.ensures.here c.board_one.ensures.others h.invariant.2,
     )
 
 pub returns-clause-labels : goal.returns-clause-labels

@@ -39,14 +39,14 @@ returns-clause-first c = λ stub pc.
     let olds = c.args.jobs.now in
     let from : Stand = c.in-Some.from in
     let to : Stand = c.wave_along-to.result in
-    let w0 : Wave = c.new-wave.result in
+    let w0 : Wave = c.of-wave.result in
     let w1 : Wave = c.board.new.wave in
     let w : Wave = c.wave_along-to.new.wave in
     all_landed w from to olds (IsFirst m text b pc) c.land_all.new.jobs c.land_all.ensures.length (λ k d lt few. c.land_all.ensures.each k d lt)
     (λ k d lt few st first.
     let x : Job = get_or olds k d in
     let same : told_of m text b pc (landed k w to x) ≡ told_of m text b pc x =
-    told_landed m text b pc k w0 w1 w from to x c.new-wave.ensures.written (c.new-wave.ensures.told k) c.board.ensures.written c.board.ensures.told
+    told_landed m text b pc k w0 w1 w from to x c.of-wave.ensures.written (c.of-wave.ensures.told k) c.board.ensures.written c.board.ensures.told
     c.in-Some.ensures.fresh st (c.board.ensures.labels k d few lt st)
     (c.wave_along-to.ensures.same stub pc k few x.place.returns x.tally (c.land_all.ensures.long k d lt few st)) in
     same ∙ first)
@@ -59,14 +59,14 @@ returns-clause-second c = λ stub pc.
     let olds = c.args.jobs.now in
     let from : Stand = c.in-Some.from in
     let to : Stand = c.wave_along-to.result in
-    let w0 : Wave = c.new-wave.result in
+    let w0 : Wave = c.of-wave.result in
     let w1 : Wave = c.board.new.wave in
     let w : Wave = c.wave_along-to.new.wave in
     all_landed w from to olds (IsSecond m text b pc) c.land_all.new.jobs c.land_all.ensures.length (λ k d lt few. c.land_all.ensures.each k d lt)
     (λ k d lt few st second.
     let x : Job = get_or olds k d in
     let same : told_of m text b pc (landed k w to x) ≡ told_of m text b pc x =
-    told_landed m text b pc k w0 w1 w from to x c.new-wave.ensures.written (c.new-wave.ensures.told k) c.board.ensures.written c.board.ensures.told
+    told_landed m text b pc k w0 w1 w from to x c.of-wave.ensures.written (c.of-wave.ensures.told k) c.board.ensures.written c.board.ensures.told
     c.in-Some.ensures.fresh st (c.board.ensures.labels k d few lt st)
     (c.wave_along-to.ensures.same stub pc k few x.place.returns x.tally (c.land_all.ensures.long k d lt few st)) in
     (same ∙ second.0, second.1))

@@ -1,8 +1,7 @@
 use Rattle.std.proofs.Common.{ℕ, ◌∙◌, sym, subst}
 use Rattle.insn_decode.specs.declared.insn.Insn.{Insn}
 use Rattle.flow_check.specs.Waves.{AllGlided}
-use Rattle.flow_check.proofs.Gliding.{gliding_on, some_same}
-use Rattle.flow_check.proofs.GlidingOwn.{some_next}
+use Rattle.flow_check.proofs.Gliding.{gliding_on, some_same, some_next}
 use Rattle.flow_check.proofs.wave_walk.wave_on.Goals as goal
 
 pub wave_insn-requires-clause-even : goal.wave_insn-requires-clause-even

@@ -1,4 +1,4 @@
-use Rattle.flow_check.proofs.Passing.{opens, shuts, kept_there}
+use Rattle.flow_check.proofs.Passing.{opens, shuts, bars, kept_there}
 use Rattle.flow_check.proofs.passages.Passages.answer.Goals as goal
 
 pub returns-then-absorbs-clause-open : goal.returns-then-absorbs-clause-open
@@ -10,3 +10,8 @@ pub returns-then-is_absorbed-clause-shut : goal.returns-then-is_absorbed-clause-
 returns-then-is_absorbed-clause-shut c = λ _ m text returns even all.
     shuts c.arms_rest.ensures.rest m text even c.in-Some.passage.now c.in-Shut.field-0 c.in-Shut.is (kept_there m text c.args.self.now.list.items c.args.place c.in-Some.passage.now c.in-Some.ensures.there all)
     c.args.crossing.now c.args.pc returns c.args.label.now c.in-Some.ensures.branch c.in-Some.ensures.crossing (c.is_absorbed.ensures c.if-is_absorbed.true)
+
+pub returns-then-is_absorbed-2-clause-shut : goal.returns-then-is_absorbed-2-clause-shut
+returns-then-is_absorbed-2-clause-shut c = λ _ m text returns even all.
+    bars c.arms_rest.ensures.rest m text even c.in-Some.passage.now c.in-Barred.is (kept_there m text c.args.self.now.list.items c.args.place c.in-Some.passage.now c.in-Some.ensures.there all)
+    c.args.crossing.now c.args.pc returns c.args.label.now c.in-Some.ensures.branch c.in-Some.ensures.crossing (c.is_absorbed-in-Barred.ensures c.if-is_absorbed-2.true)
