@@ -5,13 +5,15 @@
 
 PROGRAM is the built `sancus` (crates/sm_main/out/sm_main). With WORD only the cases whose names have it. Needs Debian's `time`, whose child
 is measured: its memory is the program's alone. Cycles are not a matter of readers: a run of 10^9 cycles takes as long as it takes. Links of many
-objects have a benchmark of their own, bench/link.py.
+objects have a benchmark of their own, bench/link.py. A fixed loop of Python before the first case and behind each that takes over a second tells how fast
+the machine is then: what it takes hangs on what else is at work.
 """
 import os
 import random
 import subprocess
 import sys
 import tempfile
+import time
 
 sys.path.insert(0, os.path.join(os.path.dirname(os.path.abspath(__file__)), "..", "bench"))
 import link  # noqa: E402
@@ -413,11 +415,24 @@ def cases(folder):
     yield "run, the object of `suffixes_one`", ["run", layout, "-", "1000", os.path.join(folder, "suffixes_one")]
 
 
+def loop():
+    """Seconds of the processor that a fixed loop takes: how fast the machine is at the time."""
+    begin, total = time.process_time(), 0
+    for number in range(6_000_000):
+        total += number * number % 7
+    return time.process_time() - begin
+
+
 def measured(folder, program, line):
-    """Seconds of the processor, MiB, status and standard error."""
+    """Seconds of the processor, MiB, status and standard error, with huge pages where the launcher asks for them."""
     told = os.path.join(folder, "told")
+    pages = {"GLIBC_TUNABLES": "glibc.malloc.hugetlb=1"} if line[0] in ("link", "run", "balance") else {}
     child = subprocess.run(
-        ["/usr/bin/time", "-f", "%U %S %M", "-o", told, program, *line], stdout=subprocess.DEVNULL, stderr=subprocess.PIPE, check=False
+        ["/usr/bin/time", "-f", "%U %S %M", "-o", told, program, *line],
+        stdout=subprocess.DEVNULL,
+        stderr=subprocess.PIPE,
+        check=False,
+        env={**os.environ, **pages},
     )
     with open(told) as it:
         user, system, kibibytes = it.read().split("\n")[-2].split()
@@ -427,6 +442,7 @@ def measured(folder, program, line):
 def main():
     program, word = sys.argv[1], sys.argv[2] if len(sys.argv) > 2 else ""
     slowest = largest = 0
+    loops = [loop()]
     print("| Input | Status | Time | Memory |\n|---|---|---|---|")
     with tempfile.TemporaryDirectory() as folder:
         for name, line in cases(folder):
@@ -435,8 +451,10 @@ def main():
             seconds, memory, status, said = measured(folder, program, line)
             slowest, largest = max(slowest, seconds), max(largest, memory)
             print(f"| {name} | {status} | {seconds:.2f} s | {memory:.1f} MiB |", flush=True)
-            print(said[:80], file=sys.stderr)
-    print(f"slowest {slowest:.2f} s, largest {largest:.1f} MiB")
+            if seconds > 1:
+                loops.append(loop())
+            print(f"{said[:80]} (loop {loops[-1]:.2f} s)", file=sys.stderr)
+    print(f"slowest {slowest:.2f} s, largest {largest:.1f} MiB, the loop {min(loops):.2f} to {max(loops):.2f} s")
 
 
 if __name__ == "__main__":
