@@ -15,6 +15,7 @@ use std::test::Fail;
 
 /// How many branches are tried, and the number that they are drawn from.
 const BRANCHES: u64 = 1000;
+
 const SEED: u64 = 1;
 
 /// More instructions than an arm has here.
@@ -22,19 +23,26 @@ const MOST: usize = 400;
 
 /// Registers whose numbers are addresses mostly: from this one on, so many.
 const FIRST_BASE: u64 = 4;
+
 const BASES: u64 = 6;
 
 /// The words of the data from this one to that one are small numbers mostly.
 const FIRST_SMALL: usize = 20;
+
 const PAST_SMALL: usize = 32;
 
 const PC: u16 = 0;
+
 const SP: u8 = 1;
+
 const SR: u16 = 2;
+
 const CONSTANT: u16 = 3;
 
 const INDEXED: u16 = 1;
+
 const INDIRECT: u16 = 2;
+
 const INCREMENT: u16 = 3;
 
 /// Random numbers.
@@ -54,13 +62,27 @@ struct Land {
 #[derive(Clone, Copy)]
 enum Kind {
     /// An address becomes another, mostly.
-    AddConstant { op: u16, constant: u16 },
-    AddWord { op: u16 },
+    AddConstant {
+        op: u16,
+        constant: u16,
+    },
+    AddWord {
+        op: u16,
+    },
     SwapTwice,
     DoubleAndHalve,
     /// An instruction of two operands, or of one.
-    Two { op: u16, byte: u16, source: Source, destination: Destination },
-    One { op: u16, byte: u16, source: Source },
+    Two {
+        op: u16,
+        byte: u16,
+        source: Source,
+        destination: Destination,
+    },
+    One {
+        op: u16,
+        byte: u16,
+        source: Source,
+    },
 }
 
 #[derive(Clone, Copy)]
@@ -115,7 +137,10 @@ fn address(draw: &mut Draw, land: &Land) -> u16 {
     let data = size(land.ram);
     let near = if draw.one_in(3) { data } else { data.min(40) };
     let addr = match draw.below(10) {
-        0 => land.text.start.wrapping_add(draw.below(size(land.text)) as u16),
+        0 => land
+            .text
+            .start
+            .wrapping_add(draw.below(size(land.text)) as u16),
         1 => land.ram.start.wrapping_add(draw.below(data) as u16),
         _ => land.ram.start.wrapping_add(draw.below(near) as u16),
     };
@@ -146,7 +171,8 @@ fn value(draw: &mut Draw, land: &Land) -> Val {
 
 /// What is known of a register.
 fn held(draw: &mut Draw, land: &Land, reg: u8) -> Val {
-    let is_base = reg == SP || (FIRST_BASE <= u64::from(reg) && u64::from(reg) < FIRST_BASE + BASES);
+    let is_base = reg == SP
+        || (FIRST_BASE <= u64::from(reg) && u64::from(reg) < FIRST_BASE + BASES);
     if is_base && !draw.one_in(30) {
         Val::Known(address(draw, land))
     } else {
@@ -203,9 +229,13 @@ fn some_source(draw: &mut Draw) -> Source {
         0 => Source::Immediate,
         1 => Source::Absolute,
         2 => Source::Symbolic,
-        3 => Source::Constant { mode: draw.small(4) },
+        3 => Source::Constant {
+            mode: draw.small(4),
+        },
         4 => Source::Counter,
-        _ => Source::Register { mode: draw.small(4) },
+        _ => Source::Register {
+            mode: draw.small(4),
+        },
     }
 }
 
@@ -219,7 +249,11 @@ fn some_destination(draw: &mut Draw) -> Destination {
 
 /// MOV or ADD half the time.
 fn some_operation(draw: &mut Draw) -> u16 {
-    if draw.one_in(2) { 4 + draw.small(2) } else { 4 + draw.small(12) }
+    if draw.one_in(2) {
+        4 + draw.small(2)
+    } else {
+        4 + draw.small(12)
+    }
 }
 
 /// ADD, SUB, BIC, BIS or XOR.
@@ -236,11 +270,18 @@ fn steering(draw: &mut Draw) -> u16 {
 fn some_kind(draw: &mut Draw) -> Kind {
     let byte = if draw.one_in(4) { 1 } else { 0 };
     match draw.below(12) {
-        0 => Kind::AddConstant { op: steering(draw), constant: draw.small(3) },
+        0 => Kind::AddConstant {
+            op: steering(draw),
+            constant: draw.small(3),
+        },
         1 => Kind::AddWord { op: steering(draw) },
         2 => Kind::SwapTwice,
         3 => Kind::DoubleAndHalve,
-        4 | 5 => Kind::One { op: draw.small(5), byte, source: some_source(draw) },
+        4 | 5 => Kind::One {
+            op: draw.small(5),
+            byte,
+            source: some_source(draw),
+        },
         _ => Kind::Two {
             op: some_operation(draw),
             byte,
@@ -302,10 +343,19 @@ fn push_offset(draw: &mut Draw, text: &mut Vec<u8>) -> Result<(), Fail> {
 }
 
 /// The further word of a source, if it has one.
-fn push_source(draw: &mut Draw, land: &Land, source: Source, text: &mut Vec<u8>) -> Result<(), Fail> {
+fn push_source(
+    draw: &mut Draw,
+    land: &Land,
+    source: Source,
+    text: &mut Vec<u8>,
+) -> Result<(), Fail> {
     match source {
         Source::Immediate => {
-            let number = if draw.one_in(2) { draw.word() } else { address(draw, land) };
+            let number = if draw.one_in(2) {
+                draw.word()
+            } else {
+                address(draw, land)
+            };
             push(text, number)
         }
         Source::Absolute => push(text, address(draw, land)),
@@ -388,9 +438,12 @@ fn push_kind(draw: &mut Draw, land: &Land, kind: Kind, text: &mut Vec<u8>) -> Re
             push(text, 0x5000 | reg << 8 | reg)?;
             push(text, 0x1100 | reg)
         }
-        Kind::Two { op, byte, source, destination } => {
-            push_two(draw, land, op << 12 | byte << 6, source, destination, text)
-        }
+        Kind::Two {
+            op,
+            byte,
+            source,
+            destination,
+        } => { push_two(draw, land, op << 12 | byte << 6, source, destination, text) }
         Kind::One { op, byte, source } => push_one(draw, land, op, byte, source, text),
     }
 }
@@ -411,7 +464,12 @@ struct Drawn {
     join: usize,
 }
 
-fn push_arm(draw: &mut Draw, land: &Land, kinds: &Vec<Kind>, text: &mut Vec<u8>) -> Result<(), Fail> {
+fn push_arm(
+    draw: &mut Draw,
+    land: &Land,
+    kinds: &Vec<Kind>,
+    text: &mut Vec<u8>,
+) -> Result<(), Fail> {
     for kind in kinds.iter() {
         push_kind(draw, land, *kind, text)?;
     }
@@ -419,7 +477,12 @@ fn push_arm(draw: &mut Draw, land: &Land, kinds: &Vec<Kind>, text: &mut Vec<u8>)
 }
 
 /// A branch at the text's start, whose arms are of the same kinds; in one text of three they are the same.
-fn draw_branch(alloc: Global, draw: &mut Draw, land: &Land, kinds: &Vec<Kind>) -> Result<Drawn, Fail> {
+fn draw_branch(
+    alloc: Global,
+    draw: &mut Draw,
+    land: &Land,
+    kinds: &Vec<Kind>,
+) -> Result<Drawn, Fail> {
     let mut text: Vec<u8> = Vec::new(alloc);
     push(&mut text, 0)?;
     let is_same = draw.one_in(3);
@@ -456,7 +519,14 @@ fn fill(draw: &mut Draw, land: &Land, text: &mut Vec<u8>) -> Result<(), Fail> {
             break;
         }
         let number = value(draw, land);
-        push(text, if let Val::Known(known) = number { known } else { 0 })?;
+        push(
+            text,
+            if let Val::Known(known) = number {
+                known
+            } else {
+                0
+            },
+        )?;
     }
     Ok(())
 }
@@ -482,7 +552,10 @@ fn some_land(draw: &mut Draw, text_bytes: u16) -> Land {
     };
     Land {
         text: Section { start, end },
-        ram: Section { start: ram, end: ram.wrapping_add(bytes) },
+        ram: Section {
+            start: ram,
+            end: ram.wrapping_add(bytes),
+        },
     }
 }
 
@@ -531,11 +604,25 @@ fn claim(
     let most = if draw.one_in(3) { 1 } else { 16 };
     for at in 0..1 + draw.below(most) {
         labels.push(like(draw, land, &first))?;
-        ahead.push(Ahead { at: at as usize, own: None, returns: Returns::new(), leads: true })?;
+        ahead.push(Ahead {
+            at: at as usize,
+            own: None,
+            returns: Returns::new(),
+            leads: true,
+        })?;
     }
     let pc = module.text.start;
     let mut passages = Passages::new(alloc);
-    passages.claim_all(module, text, table, None, crossing, pc, labels.as_slice(), &mut ahead)?;
+    passages.claim_all(
+        module,
+        text,
+        table,
+        None,
+        crossing,
+        pc,
+        labels.as_slice(),
+        &mut ahead,
+    )?;
     for k in 0..labels.len() {
         if passages.is_open(ahead[k].own, crossing, pc, &labels[k]) {
             counts.open += 1;
@@ -550,7 +637,12 @@ fn claim(
 }
 
 /// One random branch.
-fn try_branch(rt: &impl Abort, alloc: Global, draw: &mut Draw, counts: &mut Counts) -> Result<(), Fail> {
+fn try_branch(
+    rt: &impl Abort,
+    alloc: Global,
+    draw: &mut Draw,
+    counts: &mut Counts,
+) -> Result<(), Fail> {
     let mut kinds: Vec<Kind> = Vec::new(alloc);
     for _ in 0..1 + draw.below(10) {
         kinds.push(some_kind(draw))?;
@@ -558,7 +650,12 @@ fn try_branch(rt: &impl Abort, alloc: Global, draw: &mut Draw, counts: &mut Coun
     let land = some_land(draw, 240);
     let mut drawn = draw_branch(alloc, draw, &land, &kinds)?;
     fill(draw, &land, &mut drawn.text)?;
-    let module = Module { id: 1, vendor: 7, text: land.text, ram: land.ram };
+    let module = Module {
+        id: 1,
+        vendor: 7,
+        text: land.text,
+        ram: land.ram,
+    };
     assert!(rt; land.text.start < land.text.end && land.ram.start < land.ram.end);
     let text = drawn.text.as_slice();
     let table = table_of(alloc, &module, text)?;
@@ -575,7 +672,11 @@ fn try_branch(rt: &impl Abort, alloc: Global, draw: &mut Draw, counts: &mut Coun
         arm: Arm {
             branch: start,
             join,
-            cycles: if draw.one_in(60) { cycles.wrapping_add(1) } else { cycles },
+            cycles: if draw.one_in(60) {
+                cycles.wrapping_add(1)
+            } else {
+                cycles
+            },
         },
     };
     claim(alloc, draw, &land, &module, text, table, &crossing, counts)
@@ -583,14 +684,22 @@ fn try_branch(rt: &impl Abort, alloc: Global, draw: &mut Draw, counts: &mut Coun
 
 #[test]
 fn scouts_agree(rt: HostRuntime) -> Result<(), Fail> {
-    let mut counts = Counts { labels: 0, open: 0, refuted: 0 };
+    let mut counts = Counts {
+        labels: 0,
+        open: 0,
+        refuted: 0,
+    };
     for k in 0..BRANCHES {
         let state = SEED.wrapping_add(k).wrapping_mul(0x9e3779b97f4a7c15);
         let mut draw = Draw { state };
         let _ = draw.next();
         try_branch(&rt, rt.alloc(), &mut draw, &mut counts)?;
     }
-    let Counts { labels, open, refuted } = counts;
+    let Counts {
+        labels,
+        open,
+        refuted,
+    } = counts;
     println!(rt; "{labels} labels, {open} without a cause, {refuted} branches refuted")?;
     assert!(rt; open > labels / 10);
     assert_eq!(rt; refuted, 0);
