@@ -374,14 +374,15 @@ def cases(folder):
             told = f"balance, two branches with arms of {own} met 2,601 times{which}, data that rise one a turn, each twice"
             yield told, ["balance", file(f"walked_apart_{name}_{shuts}", walked), "1", file(f"arm_apart_{name}_{shuts}", arm)]
     insn, cycles = mixed(26_850, [(5, 2, 2)])
-    own = f"{len(insn):,} mixed reads at addresses of each list's and each arm's own"
-    walked, arm = balance_of_arms_apart(1, insn, cycles, 0xF000)
-    told = f"balance, arms of {own} met 5,184 times, data that rise one a turn, each twice"
-    yield told, ["balance", file("walked_apart_mixed", walked), "1", file("arm_apart_mixed", arm)]
-    for shuts, which in ((False, ""), (True, ", which get a cause")):
-        walked, arm = balance_of_two_apart(1, insn, cycles, 0xF000, shuts)
-        told = f"balance, two branches with arms of {own} met 2,601 times{which}, data that rise one a turn, each twice"
-        yield told, ["balance", file(f"walked_apart_mixed_{shuts}", walked), "1", file(f"arm_apart_mixed_{shuts}", arm)]
+    for name, base in (("mixed reads", 0xF000), ("mixed reads of the text", 0x0400)):
+        own = f"{len(insn):,} {name} at addresses of each list's and each arm's own"
+        walked, arm = balance_of_arms_apart(1, insn, cycles, base)
+        told = f"balance, arms of {own} met 5,184 times, data that rise one a turn, each twice"
+        yield told, ["balance", file(f"walked_apart_{name}", walked), "1", file(f"arm_apart_{name}", arm)]
+        for shuts, which in ((False, ""), (True, ", which get a cause")):
+            walked, arm = balance_of_two_apart(1, insn, cycles, base, shuts)
+            told = f"balance, two branches with arms of {own} met 2,601 times{which}, data that rise one a turn, each twice"
+            yield told, ["balance", file(f"walked_apart_{name}_{shuts}", walked), "1", file(f"arm_apart_{name}_{shuts}", arm)]
     for name, insn, cycles, count in (
         ("decimal sums", [0xA908] * 26_900, 26_900, 26_900),
         ("SXT", [0x1188] * 26_900, 26_900, 26_900),
