@@ -1,5 +1,5 @@
 -- Words of many labels: what is read and written in one lane, and what is told there.
-use Rattle.std.proofs.Common.{◌≡◌, ℕ, zero, suc, ◌+◌, ◌%◌, ◌<◌, ◌≤◌, ◌||◌, List, [], ◌∷◌, length, slice_set, slice_index_or, refl, sym, ap, ◌∙◌, subst, arith, Bool, true, false, if◌then◌else◌, nat_lt, below_more, replicate}
+use Rattle.std.proofs.Common.{◌≡◌, ℕ, zero, suc, ◌+◌, ◌<◌, ◌≤◌, ◌||◌, List, [], ◌∷◌, length, slice_set, slice_index_or, refl, sym, ap, ◌∙◌, subst, arith, Bool, true, false, if◌then◌else◌, nat_lt, below_more, replicate}
 use Rattle.std.proofs.lemmas.Bool.Decides.{nat_tests}
 use Rattle.std.proofs.lemmas.List.{get_or-set_same, get_or-set_other, get_or-replicate}
 use Rattle.sm_words.specs.Words.{nth}
@@ -12,7 +12,8 @@ use Rattle.flow_rule.specs.declared.Val.TheVariants.{Known, Secret}
 use Rattle.flow_rule.specs.Values.{narrow, over_one}
 use Rattle.flow_rule.specs.Does.{half}
 use Rattle.flow_check.specs.declared.vector.Vector.{Vector}
-use Rattle.flow_check.specs.Vectors.{cell, cell_by, column}
+use Rattle.flow_check.specs.Vectors.{cell, column}
+use Rattle.flow_check.proofs.Vectors.{word_cell}
 use Rattle.flow_check.specs.Waves.{IsSpot, struck}
 use Rattle.flow_check.specs.Gliding.{IsWordThere}
 use Rattle.flow_check.specs.GlidingTwo.{old_near}
@@ -26,6 +27,10 @@ pub word_read : (k n i : ℕ) (ws : List Vector) (v d : Vector) → i ≡ n → 
 word_read k n i ws v d e lt is =
     let low : i < length ws = grind (arith, nat_tests) in
     ap (cell k) is ∙ sym (column_nth k ws i d low) ∙ ap (λ j. nth j (column k ws) Secret) e
+
+-- the same where the number is that of a word
+pub word_near : (k n i : ℕ) (ws : List Vector) (d : Vector) → i ≡ n → n < length ws → cell k (slice_index_or ws i d) ≡ nth n (column k ws) Secret
+word_near k n i ws d e lt = sym (column_nth k ws i d (omega (arith, e, lt))) ∙ ap (λ j. nth j (column k ws) Secret) e
 
 pub word_none : (k n i : ℕ) (ws : List Vector) (v : Val) → i ≡ n → false ≡ nat_lt i (length ws) → v ≡ Secret → v ≡ nth n (column k ws) Secret
 word_none k n i ws v e ge is =
@@ -106,15 +111,8 @@ spots_more m w addrs numbers k x lt before here =
     (subst (λ n. IsSpot m w (nth k addrs 0) n) (sym (get_or-set_same numbers k x 0 lt)) here)
 
 -- a word is as it is written
-fitted_by : (n : ℕ) (hidden away secret : Bool) → n < 65536 → cell_by n hidden away secret ≡ narrow Word (cell_by n hidden away secret)
-fitted_by n hidden away true lt = refl
-fitted_by n hidden true false lt = refl
-fitted_by n true false false lt = refl
-fitted_by n false false false lt = let e : n ≡ n % 65536 = omega arith in ap Known e
-
 pub fitted : (k : ℕ) (v : Vector) → nth k v.numbers 0 < 65536 → cell k v ≡ narrow Word (cell k v)
-unfolding cell
-fitted k v lt = fitted_by (nth k v.numbers 0) (nth k v.hidden false) (nth k v.away false) (nth k v.secret false) lt
+fitted k v lt = word_cell k v lt
 
 pub neither : (a b : Bool) → (a || b) ≡ false → (a ≡ false) × (b ≡ false)
 neither true b e = absurd cc

@@ -1,5 +1,5 @@
 -- Vectors: what is known in each lane once the lanes are worked on one after the other.
-use Rattle.std.proofs.Common.{◌≡◌, ◌≢◌, ℕ, zero, suc, ◌+◌, ◌-◌, ◌/◌, ◌%◌, ◌<◌, ◌≤◌, ◌==◌, ◌||◌, List, length}
+use Rattle.std.proofs.Common.{◌≡◌, ◌≢◌, ℕ, zero, suc, ◌+◌, ◌-◌, ◌/◌, ◌%◌, ◌<◌, ◌≤◌, ◌==◌, ◌||◌, not, List, length}
 use Rattle.std.proofs.Common.{replicate, refl, sym, ap, ◌∙◌, arith, Bool, true, false, length-set}
 use Rattle.std.specs.Prelude.{slice_set}
 use Rattle.std.proofs.lemmas.Bool.{cases_lt, or_parts}
@@ -19,23 +19,18 @@ use Rattle.insn_decode.specs.declared.insn.OneOp.{OneOp}
 use Rattle.sm_words.specs.declared.width.Width.{Width}
 use Rattle.sm_words.specs.declared.width.Width.TheVariants.{Word}
 use Rattle.std.proofs.lemmas.Bool.Decides.{nat_tests}
+use Rattle.flow_check.specs.declared.vector.Mark.{Mark}
+use Rattle.flow_check.specs.declared.vector.Mark.TheVariants.{Number, Beyond, Equal, Any}
 use Rattle.flow_check.specs.declared.vector.Vector.{Vector}
-use Rattle.flow_check.specs.Vectors.{cell, cell_by, told_at}
+use Rattle.flow_check.specs.Vectors.{alone, cell, cell_by, is_number, mark_of, merged, told_at, veiled}
 
--- ---- a lane by its number and its marks
-pub cell_is : (k : ℕ) (v : Vector) (n : ℕ) (h a s : Bool) → nth k v.numbers 0 ≡ n → nth k v.hidden false ≡ h →
-    nth k v.away false ≡ a → nth k v.secret false ≡ s → cell k v ≡ cell_by n h a s
+-- ---- a lane by its number and its mark
+pub cell_is : (k : ℕ) (v : Vector) (n : ℕ) (m : Mark) → nth k v.numbers 0 ≡ n → nth k v.marks Number ≡ m → cell k v ≡ cell_by n m
 unfolding cell
-cell_is k v n h a s en eh ea es = cc
+cell_is k v n m en em = cc
 
-pub all_cells : (n : ℕ) (h a s : Bool) (k : ℕ) → k < 16 → cell k (record {
-  numbers = replicate 16 n;
-  hidden = replicate 16 h;
-  away = replicate 16 a;
-  secret = replicate 16 s;
-}) ≡ cell_by n h a s
-all_cells n h a s k lt = cell_is k _ n h a s (get_or-replicate 16 k n 0 lt) (get_or-replicate 16 k h false lt)
-    (get_or-replicate 16 k a false lt) (get_or-replicate 16 k s false lt)
+pub all_cells : (n : ℕ) (m : Mark) (k : ℕ) → k < 16 → cell k (record { numbers = replicate 16 n; marks = replicate 16 m }) ≡ cell_by n m
+all_cells n m k lt = cell_is k _ n m (get_or-replicate 16 k n 0 lt) (get_or-replicate 16 k m Number lt)
 
 -- ---- a loop that works on one lane after the other
 
@@ -66,18 +61,28 @@ pub each_worked : {A : Type 0} (f : ℕ → A → A) (d : A) (k : ℕ) (old new 
     (j : ℕ) → j < 16 → nth j new d ≡ f j (nth j old d)
 each_worked f d k old new h w j lt = w.below j (omega (arith, h, lt))
 
--- whether either mark is set
-abbrev pub or_other : List Bool → ℕ → Bool → Bool
-or_other other j mark = mark || nth j other false
-
-pub either_worked : (one other marks : List Bool) (k : ℕ) → length one ≡ 16 → length other ≡ 16 → 16 ≤ k →
-    Worked (or_other other) false k one marks → (j : ℕ) → nth j marks false ≡ (nth j one false || nth j other false)
-either_worked one other marks k n m h w j = ⊎_elim
-    (λ p. each_worked (or_other other) false k one marks h w j p)
-    (λ p. get_or_past marks j false (omega (arith, w.many, p))
-    ∙ sym (ap (λ b. b || nth j other false) (get_or_past one j false (omega (arith, n, p)))
-    ∙ get_or_past other j false (omega (arith, m, p))))
+-- the same everywhere, where what is past the end stays as it is
+pub always_worked : {A : Type 0} (f : ℕ → A → A) (d : A) (k : ℕ) (old new : List A) → length old ≡ 16 → 16 ≤ k →
+    ((j : ℕ) → 16 ≤ j → f j d ≡ d) → Worked f d k old new → (j : ℕ) → nth j new d ≡ f j (nth j old d)
+always_worked f d k old new n h same w j = ⊎_elim
+    (λ p. each_worked f d k old new h w j p)
+    (λ p. get_or_past new j d (omega (arith, w.many, p))
+    ∙ sym (ap (f j) (get_or_past old j d (omega (arith, n, p))) ∙ same j p))
     (cases_lt j 16)
+
+-- ---- marks: what a loop makes of the mark of a lane
+abbrev pub merged_at : List Mark → List Mark → ℕ → Mark → Mark
+merged_at b c j m = merged m (nth j b Number) (nth j c Number)
+
+pub merged_past : (b c : List Mark) (j : ℕ) → length b ≡ 16 → length c ≡ 16 → 16 ≤ j → merged_at b c j Number ≡ Number
+merged_past b c j n m h = ap (λ x. merged Number x (nth j c Number)) (get_or_past b j Number (omega (arith, n, h)))
+    ∙ ap (λ x. merged Number Number x) (get_or_past c j Number (omega (arith, m, h)))
+
+abbrev pub alone_at : ℕ → Mark → Mark
+alone_at j m = alone m
+
+abbrev pub veiled_at : ℕ → Mark → Mark
+veiled_at j m = veiled m
 
 -- ---- numbers: what a loop makes of the number of a lane
 abbrev pub two_at : TwoOp → Width → List ℕ → List ℕ → ℕ → ℕ → ℕ
@@ -94,171 +99,153 @@ carry_bit zero h = refl
 carry_bit (suc zero) h = refl
 carry_bit (suc (suc n)) h = absurd (omega arith)
 
-known_by : (n m : ℕ) (h a s : Bool) → cell_by n h a s ≡ Known m → n ≡ m
-known_by n m h a true e = absurd cc
-known_by n m h true false e = absurd cc
-known_by n m true false false e = absurd cc
-known_by n m false false false e = cc
+known_by : (n k : ℕ) (m : Mark) → cell_by n m ≡ Known k → n ≡ k
+known_by n k Number e = cc
+known_by n k Beyond e = absurd cc
+known_by n k Equal e = absurd cc
+known_by n k Any e = absurd cc
 
 pub known_number : (k : ℕ) (v : Vector) (m : ℕ) → cell k v ≡ Known m → nth k v.numbers 0 ≡ m
 unfolding cell
-known_number k v m e =
-    known_by (nth k v.numbers 0) m (nth k v.hidden false) (nth k v.away false) (nth k v.secret false) e
+known_number k v m e = known_by (nth k v.numbers 0) m (nth k v.marks Number) e
 
 -- ---- what is made of three values
-pub over_marks : (f : ℕ → ℕ → ℕ → ℕ) (n1 n2 n3 : ℕ) (s1 a1 h1 s2 a2 h2 s3 a3 h3 : Bool) →
-    cell_by (f n1 n2 n3) (((a1 || a2) || a3) || ((h1 || h2) || h3)) false ((s1 || s2) || s3)
-    ≡ over f (cell_by n1 h1 a1 s1) (cell_by n2 h2 a2 s2) (cell_by n3 h3 a3 s3)
-over_marks f n1 n2 n3 true a1 h1 s2 a2 h2 s3 a3 h3 = refl
-over_marks f n1 n2 n3 false true h1 true a2 h2 s3 a3 h3 = refl
-over_marks f n1 n2 n3 false true h1 false true h2 true a3 h3 = refl
-over_marks f n1 n2 n3 false true h1 false true h2 false true h3 = refl
-over_marks f n1 n2 n3 false true h1 false true h2 false false true = refl
-over_marks f n1 n2 n3 false true h1 false true h2 false false false = refl
-over_marks f n1 n2 n3 false true h1 false false true true a3 h3 = refl
-over_marks f n1 n2 n3 false true h1 false false true false true h3 = refl
-over_marks f n1 n2 n3 false true h1 false false true false false true = refl
-over_marks f n1 n2 n3 false true h1 false false true false false false = refl
-over_marks f n1 n2 n3 false true h1 false false false true a3 h3 = refl
-over_marks f n1 n2 n3 false true h1 false false false false true h3 = refl
-over_marks f n1 n2 n3 false true h1 false false false false false true = refl
-over_marks f n1 n2 n3 false true h1 false false false false false false = refl
-over_marks f n1 n2 n3 false false true true a2 h2 s3 a3 h3 = refl
-over_marks f n1 n2 n3 false false true false true h2 true a3 h3 = refl
-over_marks f n1 n2 n3 false false true false true h2 false true h3 = refl
-over_marks f n1 n2 n3 false false true false true h2 false false true = refl
-over_marks f n1 n2 n3 false false true false true h2 false false false = refl
-over_marks f n1 n2 n3 false false true false false true true a3 h3 = refl
-over_marks f n1 n2 n3 false false true false false true false true h3 = refl
-over_marks f n1 n2 n3 false false true false false true false false true = refl
-over_marks f n1 n2 n3 false false true false false true false false false = refl
-over_marks f n1 n2 n3 false false true false false false true a3 h3 = refl
-over_marks f n1 n2 n3 false false true false false false false true h3 = refl
-over_marks f n1 n2 n3 false false true false false false false false true = refl
-over_marks f n1 n2 n3 false false true false false false false false false = refl
-over_marks f n1 n2 n3 false false false true a2 h2 s3 a3 h3 = refl
-over_marks f n1 n2 n3 false false false false true h2 true a3 h3 = refl
-over_marks f n1 n2 n3 false false false false true h2 false true h3 = refl
-over_marks f n1 n2 n3 false false false false true h2 false false true = refl
-over_marks f n1 n2 n3 false false false false true h2 false false false = refl
-over_marks f n1 n2 n3 false false false false false true true a3 h3 = refl
-over_marks f n1 n2 n3 false false false false false true false true h3 = refl
-over_marks f n1 n2 n3 false false false false false true false false true = refl
-over_marks f n1 n2 n3 false false false false false true false false false = refl
-over_marks f n1 n2 n3 false false false false false false true a3 h3 = refl
-over_marks f n1 n2 n3 false false false false false false false true h3 = refl
-over_marks f n1 n2 n3 false false false false false false false false true = refl
-over_marks f n1 n2 n3 false false false false false false false false false = refl
-
-no_mark : (k : ℕ) → nth k (replicate 16 false) false ≡ false
-no_mark k = ⊎_elim (get_or-replicate 16 k false false) (get_or_past (replicate 16 false) k false) (cases_lt k 16)
+pub merged_over : (f : ℕ → ℕ → ℕ → ℕ) (n1 n2 n3 : ℕ) (m1 m2 m3 : Mark) →
+    cell_by (f n1 n2 n3) (merged m1 m2 m3) ≡ over f (cell_by n1 m1) (cell_by n2 m2) (cell_by n3 m3)
+merged_over f n1 n2 n3 Any m2 m3 = refl
+merged_over f n1 n2 n3 Number Any m3 = refl
+merged_over f n1 n2 n3 Number Number Number = refl
+merged_over f n1 n2 n3 Number Number Beyond = refl
+merged_over f n1 n2 n3 Number Number Equal = refl
+merged_over f n1 n2 n3 Number Number Any = refl
+merged_over f n1 n2 n3 Number Beyond Number = refl
+merged_over f n1 n2 n3 Number Beyond Beyond = refl
+merged_over f n1 n2 n3 Number Beyond Equal = refl
+merged_over f n1 n2 n3 Number Beyond Any = refl
+merged_over f n1 n2 n3 Number Equal Number = refl
+merged_over f n1 n2 n3 Number Equal Beyond = refl
+merged_over f n1 n2 n3 Number Equal Equal = refl
+merged_over f n1 n2 n3 Number Equal Any = refl
+merged_over f n1 n2 n3 Beyond Any m3 = refl
+merged_over f n1 n2 n3 Beyond Number Number = refl
+merged_over f n1 n2 n3 Beyond Number Beyond = refl
+merged_over f n1 n2 n3 Beyond Number Equal = refl
+merged_over f n1 n2 n3 Beyond Number Any = refl
+merged_over f n1 n2 n3 Beyond Beyond Number = refl
+merged_over f n1 n2 n3 Beyond Beyond Beyond = refl
+merged_over f n1 n2 n3 Beyond Beyond Equal = refl
+merged_over f n1 n2 n3 Beyond Beyond Any = refl
+merged_over f n1 n2 n3 Beyond Equal Number = refl
+merged_over f n1 n2 n3 Beyond Equal Beyond = refl
+merged_over f n1 n2 n3 Beyond Equal Equal = refl
+merged_over f n1 n2 n3 Beyond Equal Any = refl
+merged_over f n1 n2 n3 Equal Any m3 = refl
+merged_over f n1 n2 n3 Equal Number Number = refl
+merged_over f n1 n2 n3 Equal Number Beyond = refl
+merged_over f n1 n2 n3 Equal Number Equal = refl
+merged_over f n1 n2 n3 Equal Number Any = refl
+merged_over f n1 n2 n3 Equal Beyond Number = refl
+merged_over f n1 n2 n3 Equal Beyond Beyond = refl
+merged_over f n1 n2 n3 Equal Beyond Equal = refl
+merged_over f n1 n2 n3 Equal Beyond Any = refl
+merged_over f n1 n2 n3 Equal Equal Number = refl
+merged_over f n1 n2 n3 Equal Equal Beyond = refl
+merged_over f n1 n2 n3 Equal Equal Equal = refl
+merged_over f n1 n2 n3 Equal Equal Any = refl
 
 -- the vector with these numbers and marks
-abbrev pub shown : List ℕ → List Bool → List Bool → Vector
-shown numbers hidden secret =
-    record { numbers = numbers; hidden = hidden; away = replicate 16 false; secret = secret }
+abbrev pub shown : List ℕ → List Mark → Vector
+shown numbers marks = record { numbers = numbers; marks = marks }
 
--- either mark of two, in a lane
-abbrev pub IsEither : ℕ → List Bool → List Bool → List Bool → Type 0
-IsEither k one other marks = nth k marks false ≡ (nth k one false || nth k other false)
-
-pub over_cells : (f : ℕ → ℕ → ℕ → ℕ) (k : ℕ) (numbers : List ℕ) (h1 h a1 a hidden s1 s : List Bool) (x y z : Vector) →
+pub over_cells : (f : ℕ → ℕ → ℕ → ℕ) (k : ℕ) (numbers : List ℕ) (marks : List Mark) (x y z : Vector) →
     nth k numbers 0 ≡ f (nth k x.numbers 0) (nth k y.numbers 0) (nth k z.numbers 0) →
-    IsEither k x.hidden y.hidden h1 → IsEither k h1 z.hidden h → IsEither k x.away y.away a1 → IsEither k a1 z.away a →
-    IsEither k a h hidden → IsEither k x.secret y.secret s1 → IsEither k s1 z.secret s →
-    cell k (shown numbers hidden s) ≡ over f (cell k x) (cell k y) (cell k z)
+    nth k marks Number ≡ merged (nth k x.marks Number) (nth k y.marks Number) (nth k z.marks Number) →
+    cell k (shown numbers marks) ≡ over f (cell k x) (cell k y) (cell k z)
 unfolding cell
-over_cells f k numbers h1 h a1 a hidden s1 s x y z en eh1 eh ea1 ea e es1 es =
-    cell_is k (shown numbers hidden s) _ _ false _ en (cc) (no_mark k) (cc)
-    ∙ over_marks f (nth k x.numbers 0) (nth k y.numbers 0) (nth k z.numbers 0)
-    (nth k x.secret false) (nth k x.away false) (nth k x.hidden false)
-    (nth k y.secret false) (nth k y.away false) (nth k y.hidden false)
-    (nth k z.secret false) (nth k z.away false) (nth k z.hidden false)
+over_cells f k numbers marks x y z en em =
+    cell_is k (shown numbers marks) _ _ en em
+    ∙ merged_over f (nth k x.numbers 0) (nth k y.numbers 0) (nth k z.numbers 0)
+    (nth k x.marks Number) (nth k y.marks Number) (nth k z.marks Number)
 
 -- ---- what is made of one value
-one_marks : (f : ℕ → ℕ) (n : ℕ) (s a h : Bool) → cell_by (f n) (a || h) false s ≡ over_one f (cell_by n h a s)
-one_marks f n true a h = refl
-one_marks f n false true h = refl
-one_marks f n false false true = refl
-one_marks f n false false false = refl
+alone_over : (f : ℕ → ℕ) (n : ℕ) (m : Mark) → cell_by (f n) (alone m) ≡ over_one f (cell_by n m)
+alone_over f n Number = refl
+alone_over f n Beyond = refl
+alone_over f n Equal = refl
+alone_over f n Any = refl
 
-pub one_cells : (f : ℕ → ℕ) (k : ℕ) (numbers : List ℕ) (hidden : List Bool) (x : Vector) →
-    nth k numbers 0 ≡ f (nth k x.numbers 0) → IsEither k x.away x.hidden hidden →
-    cell k (shown numbers hidden x.secret) ≡ over_one f (cell k x)
+pub one_cells : (f : ℕ → ℕ) (k : ℕ) (numbers : List ℕ) (marks : List Mark) (x : Vector) →
+    nth k numbers 0 ≡ f (nth k x.numbers 0) → nth k marks Number ≡ alone (nth k x.marks Number) →
+    cell k (shown numbers marks) ≡ over_one f (cell k x)
 unfolding cell
-one_cells f k numbers hidden x en e = cell_is k (shown numbers hidden x.secret) _ _ false _ en e (no_mark k) refl
-    ∙ one_marks f (nth k x.numbers 0) (nth k x.secret false) (nth k x.away false) (nth k x.hidden false)
+one_cells f k numbers marks x en em =
+    cell_is k (shown numbers marks) _ _ en em ∙ alone_over f (nth k x.numbers 0) (nth k x.marks Number)
 
 -- ---- what values tell
-blurred_marks : (n : ℕ) (s a h : Bool) → cell_by 0 true false s ≡ blurred (cell_by n h a s)
-blurred_marks n true a h = refl
-blurred_marks n false true h = refl
-blurred_marks n false false true = refl
-blurred_marks n false false false = refl
+veiled_blurred : (n : ℕ) (m : Mark) → cell_by 0 (veiled m) ≡ blurred (cell_by n m)
+veiled_blurred n Number = refl
+veiled_blurred n Beyond = refl
+veiled_blurred n Equal = refl
+veiled_blurred n Any = refl
 
-pub blurred_cells : (k : ℕ) (x : Vector) → k < 16 →
-    cell k (shown (replicate 16 0) (replicate 16 true) x.secret) ≡ blurred (cell k x)
+pub blurred_cells : (k : ℕ) (marks : List Mark) (x : Vector) → k < 16 → nth k marks Number ≡ veiled (nth k x.marks Number) →
+    cell k (shown (replicate 16 0) marks) ≡ blurred (cell k x)
 unfolding cell
-blurred_cells k x lt = cell_is k (shown (replicate 16 0) (replicate 16 true) x.secret) 0 true false _
-    (get_or-replicate 16 k 0 0 lt) (get_or-replicate 16 k true false lt) (no_mark k) refl
-    ∙ blurred_marks (nth k x.numbers 0) (nth k x.secret false) (nth k x.away false) (nth k x.hidden false)
+blurred_cells k marks x lt em =
+    cell_is k (shown (replicate 16 0) marks) 0 _ (get_or-replicate 16 k 0 0 lt) em
+    ∙ veiled_blurred (nth k x.numbers 0) (nth k x.marks Number)
 
-pub all_blurred_cells : (k : ℕ) (s1 s : List Bool) (x y z : Vector) → k < 16 →
-    IsEither k x.secret y.secret s1 → IsEither k s1 z.secret s →
-    cell k (shown (replicate 16 0) (replicate 16 true) s) ≡ blurred_all (cell k x) (cell k y) (cell k z)
+pub all_blurred_cells : (k : ℕ) (all marks : List Mark) (x y z : Vector) → k < 16 →
+    nth k all Number ≡ merged (nth k x.marks Number) (nth k y.marks Number) (nth k z.marks Number) →
+    nth k marks Number ≡ veiled (nth k all Number) →
+    cell k (shown (replicate 16 0) marks) ≡ blurred_all (cell k x) (cell k y) (cell k z)
 unfolding cell
-all_blurred_cells k s1 s x y z lt es1 es =
-    cell_is k (shown (replicate 16 0) (replicate 16 true) s) 0 true false
-    ((nth k x.secret false || nth k y.secret false) || nth k z.secret false)
-    (get_or-replicate 16 k 0 0 lt) (get_or-replicate 16 k true false lt) (no_mark k) (cc)
-    ∙ blurred_marks 0 _ false _
-    ∙ ap blurred (over_marks (λ a b c. 0) (nth k x.numbers 0) (nth k y.numbers 0) (nth k z.numbers 0)
-    (nth k x.secret false) (nth k x.away false) (nth k x.hidden false)
-    (nth k y.secret false) (nth k y.away false) (nth k y.hidden false)
-    (nth k z.secret false) (nth k z.away false) (nth k z.hidden false))
+all_blurred_cells k all marks x y z lt ea em =
+    cell_is k (shown (replicate 16 0) marks) 0 _ (get_or-replicate 16 k 0 0 lt) (em ∙ ap veiled ea)
+    ∙ veiled_blurred 0 (merged (nth k x.marks Number) (nth k y.marks Number) (nth k z.marks Number))
+    ∙ ap blurred (merged_over (λ a b c. 0) (nth k x.numbers 0) (nth k y.numbers 0) (nth k z.numbers 0)
+    (nth k x.marks Number) (nth k y.marks Number) (nth k z.marks Number))
 
 -- ---- lanes that are Known
-known_marks : (n : ℕ) (h a s : Bool) → ((h || a) || s) ≡ false → cell_by n h a s ≡ Known n
-known_marks n true a s e = absurd cc
-known_marks n false true s e = absurd cc
-known_marks n false false true e = absurd cc
-known_marks n false false false e = refl
+known_marks : (n : ℕ) (m : Mark) → not (is_number m) ≡ false → cell_by n m ≡ Known n
+known_marks n Number e = refl
+known_marks n Beyond e = absurd cc
+known_marks n Equal e = absurd cc
+known_marks n Any e = absurd cc
 
 pub one_more_known : (k : ℕ) (v : Vector) (other : Bool) →
     (other ≡ false → (j : ℕ) → j < k → cell j v ≡ Known (nth j v.numbers 0)) →
-    (other || ((nth k v.hidden false || nth k v.away false) || nth k v.secret false)) ≡ false →
+    (other || not (is_number (nth k v.marks Number))) ≡ false →
     (j : ℕ) → j < k + 1 → cell j v ≡ Known (nth j v.numbers 0)
 unfolding cell
 one_more_known k v other h e j lt =
-    let p = or_parts other ((nth k v.hidden false || nth k v.away false) || nth k v.secret false) e in
+    let p = or_parts other (not (is_number (nth k v.marks Number))) e in
     below_more (λ i. cell i v ≡ Known (nth i v.numbers 0)) k (h p.0)
-    (known_marks (nth k v.numbers 0) (nth k v.hidden false) (nth k v.away false) (nth k v.secret false) p.1) j lt
+    (known_marks (nth k v.numbers 0) (nth k v.marks Number) p.1) j lt
 
 -- ---- words: numbers below 65536
-word_marks : (n : ℕ) (h a s : Bool) → n < 65536 → cell_by n h a s ≡ narrow Word (cell_by n h a s)
-word_marks n h a true lt = refl
-word_marks n h true false lt = refl
-word_marks n true false false lt = refl
-word_marks n false false false lt = let e : n ≡ n % 65536 = omega arith in ap Known e
+word_marks : (n : ℕ) (m : Mark) → n < 65536 → cell_by n m ≡ narrow Word (cell_by n m)
+word_marks n Any lt = refl
+word_marks n Beyond lt = refl
+word_marks n Equal lt = refl
+word_marks n Number lt = let e : n ≡ n % 65536 = omega arith in ap Known e
 
 pub word_cell : (k : ℕ) (v : Vector) → nth k v.numbers 0 < 65536 → cell k v ≡ narrow Word (cell k v)
 unfolding cell
-word_cell k v lt = word_marks (nth k v.numbers 0) (nth k v.hidden false) (nth k v.away false) (nth k v.secret false) lt
+word_cell k v lt = word_marks (nth k v.numbers 0) (nth k v.marks Number) lt
 
-even_marks : (n m : ℕ) (h a s : Bool) → n < 65536 → m ≡ n - n % 2 → cell_by m h a s ≡ kept_val 1 (cell_by n h a s)
-even_marks n m h a true lt e = refl
-even_marks n m h true false lt e = refl
-even_marks n m true false false lt e = refl
-even_marks n m false false false lt e = let f : m ≡ n % 65536 - n % 65536 % 2 = omega arith in ap Known f
+even_marks : (n n1 : ℕ) (m : Mark) → n < 65536 → n1 ≡ n - n % 2 → cell_by n1 m ≡ kept_val 1 (cell_by n m)
+even_marks n n1 Any lt e = refl
+even_marks n n1 Beyond lt e = refl
+even_marks n n1 Equal lt e = refl
+even_marks n n1 Number lt e = let f : n1 ≡ n % 65536 - n % 65536 % 2 = omega arith in ap Known f
 
 pub even_cell : (k : ℕ) (v w : Vector) → nth k v.numbers 0 < 65536 →
-    nth k w.numbers 0 ≡ nth k v.numbers 0 - nth k v.numbers 0 % 2 →
-    w.hidden ≡ v.hidden → w.away ≡ v.away → w.secret ≡ v.secret → cell k w ≡ kept_val 1 (cell k v)
+    nth k w.numbers 0 ≡ nth k v.numbers 0 - nth k v.numbers 0 % 2 → w.marks ≡ v.marks → cell k w ≡ kept_val 1 (cell k v)
 unfolding cell
-even_cell k v w lt e eh ea es =
-    cell_is k w _ _ _ _ refl (ap (λ l. nth k l false) eh) (ap (λ l. nth k l false) ea) (ap (λ l. nth k l false) es)
-    ∙ even_marks (nth k v.numbers 0) (nth k w.numbers 0) (nth k v.hidden false) (nth k v.away false)
-    (nth k v.secret false) lt e
+even_cell k v w lt e em =
+    cell_is k w _ _ refl (ap (λ l. nth k l Number) em)
+    ∙ even_marks (nth k v.numbers 0) (nth k w.numbers 0) (nth k v.marks Number) lt e
 
 pub low_bit : (n : ℕ) → n % 2 ≡ bit 1 n
 low_bit n = omega arith
@@ -270,38 +257,24 @@ pub half_odd : (a w : ℕ) → a % 2 ≢ 0 → w / 256 ≡ half a w
 half_odd a w e = grind (arith, nat_tests)
 
 -- ---- a lane that is written
-pub mark_is : (x : Val) (n : ℕ) (h a s : Bool) → (s ≡ true → x ≡ Secret) → (x ≡ Secret → s ≡ true) →
-    (a ≡ true → x ≡ Away) → (x ≡ Away → a ≡ true) → (h ≡ true → x ≡ Public) → (x ≡ Public → h ≡ true) →
-    ((m : ℕ) → x ≡ Known m → n ≡ m) → cell_by n h a s ≡ x
-mark_is x n h a true s1 s2 a1 a2 h1 h2 e = sym (s1 refl)
-mark_is x n h true false s1 s2 a1 a2 h1 h2 e = sym (a1 refl)
-mark_is x n true false false s1 s2 a1 a2 h1 h2 e = sym (h1 refl)
-mark_is (Known m) n false false false s1 s2 a1 a2 h1 h2 e = ap Known (e m refl)
-mark_is Away n false false false s1 s2 a1 a2 h1 h2 e = let f = a2 refl in absurd cc
-mark_is Public n false false false s1 s2 a1 a2 h1 h2 e = let f = h2 refl in absurd cc
-mark_is Secret n false false false s1 s2 a1 a2 h1 h2 e = let f = s2 refl in absurd cc
+pub mark_is : (x : Val) (n : ℕ) → ((m : ℕ) → x ≡ Known m → n ≡ m) → cell_by n (mark_of x) ≡ x
+mark_is (Known m) n e = ap Known (e m refl)
+mark_is Away n e = refl
+mark_is Public n e = refl
+mark_is Secret n e = refl
 
--- a vector with other marks in a lane
-abbrev pub marked_at : ℕ → Vector → List ℕ → Bool → Bool → Bool → Vector
-marked_at k v numbers h a s = record {
-  numbers = numbers;
-  hidden = slice_set v.hidden k h;
-  away = slice_set v.away k a;
-  secret = slice_set v.secret k s;
-}
+-- a vector with another mark in a lane
+abbrev pub marked_at : ℕ → Vector → List ℕ → Mark → Vector
+marked_at k v numbers m = record { numbers = numbers; marks = slice_set v.marks k m }
 
-pub set_here : (k : ℕ) (v : Vector) (numbers : List ℕ) (h a s : Bool) → k < length v.hidden → k < length v.away →
-    k < length v.secret → cell k (marked_at k v numbers h a s) ≡ cell_by (nth k numbers 0) h a s
-set_here k v numbers h a s lh la ls = cell_is k (marked_at k v numbers h a s) _ _ _ _ refl
-    (get_or-set_at v.hidden k k h false refl lh) (get_or-set_at v.away k k a false refl la)
-    (get_or-set_at v.secret k k s false refl ls)
+pub set_here : (k : ℕ) (v : Vector) (numbers : List ℕ) (m : Mark) → k < length v.marks →
+    cell k (marked_at k v numbers m) ≡ cell_by (nth k numbers 0) m
+set_here k v numbers m lt = cell_is k (marked_at k v numbers m) _ _ refl (get_or-set_at v.marks k k m Number refl lt)
 
-pub set_apart : (k j : ℕ) (v : Vector) (numbers : List ℕ) (h a s : Bool) → j ≢ k →
-    nth j numbers 0 ≡ nth j v.numbers 0 → cell j (marked_at k v numbers h a s) ≡ cell j v
+pub set_apart : (k j : ℕ) (v : Vector) (numbers : List ℕ) (m : Mark) → j ≢ k →
+    nth j numbers 0 ≡ nth j v.numbers 0 → cell j (marked_at k v numbers m) ≡ cell j v
 unfolding cell
-set_apart k j v numbers h a s ne e = cell_is j (marked_at k v numbers h a s) _ _ _ _ e
-    (get_or-set_other v.hidden k j h false ne) (get_or-set_other v.away k j a false ne)
-    (get_or-set_other v.secret k j s false ne)
+set_apart k j v numbers m ne e = cell_is j (marked_at k v numbers m) _ _ e (get_or-set_other v.marks k j m Number ne)
 
 -- ---- what an operation tells
 pub worked_cells : (op : TwoOp) (w : Width) (k : ℕ) (value flags : Vector) (sets : Bool) (s d c : Val) →
@@ -355,33 +328,30 @@ pub blind_cells : (op : TwoOp) (w : Width) (k n : ℕ) (value : Vector) (s d c :
     cell k value ≡ over (λ x y z. n) s d c → cell k value ≡ over (λ x y z. value_of (two_result op w x y z)) s d c
 blind_cells op w k n value s d c h e = e ∙ blind_over (λ x y z. n) (λ x y z. value_of (two_result op w x y z)) s d c h
 
-marks_hide : (n m : ℕ) (h a s : Bool) → ((h || a) || s) ≡ true → cell_by n h a s ≢ Known m
-marks_hide n m h a true e = λ is. absurd cc
-marks_hide n m h true false e = λ is. absurd cc
-marks_hide n m true false false e = λ is. absurd cc
-marks_hide n m false false false e = absurd cc
+marks_hide : (n k : ℕ) (m : Mark) → not (is_number m) ≡ true → cell_by n m ≢ Known k
+marks_hide n k Number e = absurd cc
+marks_hide n k Beyond e = λ is. absurd cc
+marks_hide n k Equal e = λ is. absurd cc
+marks_hide n k Any e = λ is. absurd cc
 
-pub never_known : (k m : ℕ) (v : Vector) → ((nth k v.hidden false || nth k v.away false) || nth k v.secret false) ≡ true → cell k v ≢ Known m
+pub never_known : (k m : ℕ) (v : Vector) → not (is_number (nth k v.marks Number)) ≡ true → cell k v ≢ Known m
 unfolding cell
-never_known k m v e = marks_hide (nth k v.numbers 0) m (nth k v.hidden false) (nth k v.away false) (nth k v.secret false) e
+never_known k m v e = marks_hide (nth k v.numbers 0) m (nth k v.marks Number) e
 
 -- ---- a lane that is copied
-pub copied_here : (k : ℕ) (v from : Vector) → k < length v.numbers → k < length v.hidden → k < length v.away → k < length v.secret →
-    cell k (marked_at k v (slice_set v.numbers k (nth k from.numbers 0)) (nth k from.hidden false) (nth k from.away false) (nth k from.secret false)) ≡ cell k from
-copied_here k v from ln lh la ls =
-    cell_is k (marked_at k v (slice_set v.numbers k (nth k from.numbers 0)) (nth k from.hidden false) (nth k from.away false) (nth k from.secret false)) _ _ _ _
-    (get_or-set_at v.numbers k k (nth k from.numbers 0) 0 refl ln) (get_or-set_at v.hidden k k (nth k from.hidden false) false refl lh)
-    (get_or-set_at v.away k k (nth k from.away false) false refl la) (get_or-set_at v.secret k k (nth k from.secret false) false refl ls)
-    ∙ sym (cell_is k from _ _ _ _ refl refl refl refl)
+pub copied_here : (k : ℕ) (v from : Vector) → k < length v.numbers → k < length v.marks →
+    cell k (marked_at k v (slice_set v.numbers k (nth k from.numbers 0)) (nth k from.marks Number)) ≡ cell k from
+copied_here k v from ln lm =
+    cell_is k (marked_at k v (slice_set v.numbers k (nth k from.numbers 0)) (nth k from.marks Number)) _ _
+    (get_or-set_at v.numbers k k (nth k from.numbers 0) 0 refl ln) (get_or-set_at v.marks k k (nth k from.marks Number) Number refl lm)
+    ∙ sym (cell_is k from _ _ refl refl)
 
 pub copied_apart : (k j : ℕ) (v from : Vector) → j ≢ k →
-    cell j (marked_at k v (slice_set v.numbers k (nth k from.numbers 0)) (nth k from.hidden false) (nth k from.away false) (nth k from.secret false)) ≡ cell j v
+    cell j (marked_at k v (slice_set v.numbers k (nth k from.numbers 0)) (nth k from.marks Number)) ≡ cell j v
 copied_apart k j v from ne =
-    set_apart k j v (slice_set v.numbers k (nth k from.numbers 0)) (nth k from.hidden false) (nth k from.away false) (nth k from.secret false) ne
+    set_apart k j v (slice_set v.numbers k (nth k from.numbers 0)) (nth k from.marks Number) ne
     (get_or-set_other v.numbers k j (nth k from.numbers 0) 0 ne)
 
 -- numbers that are Known in each lane
-pub known_cells : (k : ℕ) (numbers : List ℕ) → k < 16 →
-    cell k (record { numbers = numbers; hidden = replicate 16 false; away = replicate 16 false; secret = replicate 16 false }) ≡ Known (nth k numbers 0)
-known_cells k numbers lt = cell_is k _ (nth k numbers 0) false false false refl (get_or-replicate 16 k false false lt)
-    (get_or-replicate 16 k false false lt) (get_or-replicate 16 k false false lt)
+pub known_cells : (k : ℕ) (numbers : List ℕ) → k < 16 → cell k (shown numbers (replicate 16 Number)) ≡ Known (nth k numbers 0)
+known_cells k numbers lt = cell_is k _ (nth k numbers 0) Number refl (get_or-replicate 16 k Number Number lt)

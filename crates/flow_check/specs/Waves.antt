@@ -2,6 +2,7 @@
 use Rattle.std.specs.Prelude.{◌≡◌, nat_lt, ◌<◌, ◌≤◌, ℕ, suc, Bool, true, false, if◌then◌else◌, List, [], ◌∷◌, length}
 use Rattle.sm_words.specs.Words.{nth}
 use Rattle.sm_words.specs.declared.width.Width.{Width}
+use Rattle.sm_words.specs.declared.width.Width.TheVariants.{Word, Byte}
 use Rattle.insn_decode.specs.declared.insn.Insn.{Insn}
 use Rattle.insn_decode.specs.declared.insn.Operand.{Operand}
 use Rattle.insn_decode.specs.declared.insn.Operand.TheVariants.{Indirect}
@@ -62,6 +63,11 @@ pub record IsOpen (m : Module) (w : Width) (a : ℕ) : Type 0 where
 pub record IsInText (m : Module) (w : Width) (a : ℕ) : Type 0 where
   pub inside : holds m.text a ≡ true
   pub aligned : misaligned w a ≡ false
+
+-- how far past its address what is read of this width goes on
+abbrev pub past_of : Width → ℕ
+past_of Word = 1
+past_of Byte = 0
 
 -- each lane of a vector has an address of a word that may be written and is no part of the text, and the word has this number
 abbrev pub AllSpots : Module → Width → Vector → List ℕ → Type 0

@@ -129,6 +129,12 @@ pub enum Access {
 /// `ZERO`, and a number; it counts from the data's start.
 #[derive(Clone, Copy)]
 pub struct Form {
+    /// Which arms need what the destination held, if they need what it makes: none or each.
+    pub old: u32,
+    /// What is added to the source's value, or to its base.
+    pub plus: u16,
+    /// The bits that a register keeps, or what is added to the destination's base.
+    pub end: u16,
     pub code: Code,
     /// What it makes.
     pub operation: Operation,
@@ -138,13 +144,7 @@ pub struct Form {
     pub source: u8,
     /// The number of the destination's value, or the base of its address.
     pub destination: u8,
-    /// Which arms need what the destination held, if they need what it makes: none or each.
-    pub old: u32,
     pub trace: Trace,
-    /// What is added to the source's value, or to its base.
-    pub plus: u16,
-    /// The bits that a register keeps, or what is added to the destination's base.
-    pub end: u16,
 }
 
 /// Where an instruction stands, where the next one does, and where the data begins.

@@ -28,7 +28,7 @@ pub struct Lanes<const P: usize> {
     first: Vec<Track>,
     second: Vec<Track>,
     shared: Vec<Track>,
-    /// The lists of numbers that were met where not all met the same.
+    /// The lists of numbers that were met where not all labels met the same.
     apart: Vec<[u16; P]>,
     /// What each arm needs.
     first_wants: Wants,
@@ -61,11 +61,12 @@ fn run_own<const P: usize>(
 fn back_own<const P: usize>(
     own: OwnWay<'_>,
     tracks: &[Track],
-    apart: &[[u16; P]],
+    lists: &[[u16; P]],
+    left: &mut usize,
     wants: &mut Wants,
 ) -> Option<()> {
-    wants.go_back(own.road, tracks.get(own.lane.len()..)?, apart);
-    wants.go_back(own.lane, tracks.get(..own.lane.len())?, apart);
+    wants.go_back(own.road, tracks.get(own.lane.len()..)?, lists, left);
+    wants.go_back(own.lane, tracks.get(..own.lane.len())?, lists, left);
     Some(())
 }
 
@@ -111,16 +112,18 @@ impl<const P: usize> Lanes<P> {
         self.course.left()
     }
 
-    /// Goes back along the own ways of both.
-    fn back(&mut self, first: OwnWay<'_>, second: OwnWay<'_>) -> Option<()> {
-        let apart = self.apart.as_slice();
-        back_own(first, self.first.as_slice(), apart, &mut self.first_wants)?;
-        back_own(
-            second,
-            self.second.as_slice(),
-            apart,
-            &mut self.second_wants,
-        )
+    /// Goes back along the way of both arms, and then along the own ways, from the last list that was kept to the first.
+    fn back(&mut self, first: OwnWay<'_>, second: OwnWay<'_>, shared: &[Form]) -> Option<()> {
+        let lists = self.apart.as_slice();
+        let mut left = lists.len();
+        let mut wants = Wants::NONE;
+        wants.go_back(shared, self.shared.as_slice(), lists, &mut left);
+        self.first_wants = wants.first::<P>();
+        self.second_wants = wants.second::<P>();
+        let tracks = self.second.as_slice();
+        back_own(second, tracks, lists, &mut left, &mut self.second_wants)?;
+        let tracks = self.first.as_slice();
+        back_own(first, tracks, lists, &mut left, &mut self.first_wants)
     }
 
     /// Goes along the arms under these labels, as many as there are lanes, and back. None where each has a cause, or
@@ -137,11 +140,7 @@ impl<const P: usize> Lanes<P> {
         fit(&mut self.shared, shared.len())?;
         let tracks = self.shared.as_mut_slice();
         self.course.run(ground, shared, tracks, &mut self.apart)?;
-        let mut wants = Wants::NONE;
-        wants.go_back(shared, self.shared.as_slice(), self.apart.as_slice());
-        self.first_wants = wants.first::<P>();
-        self.second_wants = wants.second::<P>();
-        self.back(first, second)
+        self.back(first, second, shared)
     }
 
     /// What is seen of the label in this lane, but for the registers that are written, where neither arm has a cause.

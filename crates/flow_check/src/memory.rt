@@ -9,11 +9,13 @@ use crate::ground::{Far, Ground};
 use crate::rows::{
     PAIR, below, bits_of, both_bits, differs, high_bytes, is_twice, low_bytes, odd, raised, without,
 };
-use crate::tracks::{Track, keep, slot};
+use crate::tracks::{Numbers, Track, keep, slot};
 use sm_words::Width;
 
 /// Where a row stands that was read and is no value's own.
 const READ: usize = 300;
+
+const READ_NUMBER: u16 = 300;
 
 /// Where a row stands that is to be written to several values.
 const WRITTEN: usize = 301;
@@ -83,20 +85,20 @@ fn bytes_at<const P: usize>(words: &[u16; P], places: &[u16; P]) -> [u16; P] {
 impl<const P: usize> Course<P> {
     /// Reads what is no word of the label, and tells its number; all have a cause where there is nothing.
     #[inline(never)]
-    fn read_far(&mut self, ground: &Ground<'_>, width: Width, place: u16) -> u32 {
+    fn read_far(&mut self, ground: &Ground<'_>, width: Width, place: u16) -> u16 {
         match ground.far(width, place) {
             Far::Text(number) => {
                 self.values[READ] = [number; P];
                 self.unknown[READ] = 0;
-                u32::from(ZERO)
+                u16::from(ZERO)
             }
             Far::Hidden => {
                 self.unknown[READ] = u32::MAX;
-                u32::from(HIDDEN)
+                u16::from(HIDDEN)
             }
             Far::Nothing => {
                 self.shut(u32::MAX);
-                u32::from(HIDDEN)
+                u16::from(HIDDEN)
             }
         }
     }
@@ -104,7 +106,7 @@ impl<const P: usize> Course<P> {
     /// Reads the byte of a word at a place.
     #[inline(always)]
     fn read_byte(&mut self, number: u16, place: u16) {
-        let from = slot(u32::from(number));
+        let from = slot(number);
         self.values[READ] = if place % 2 == 0 {
             low_bytes(&self.values[from])
         } else {
@@ -121,18 +123,18 @@ impl<const P: usize> Course<P> {
         width: Width,
         place: u16,
         track: &mut Track,
-    ) -> Option<u32> {
+    ) -> Option<u16> {
         let Some(number) = ground.word(width, place) else {
-            track.from = self.read_far(ground, width, place);
+            track.from = Numbers::all(self.read_far(ground, width, place));
             self.left()?;
-            return Some(READ as u32);
+            return Some(READ_NUMBER);
         };
-        track.from = u32::from(number);
+        track.from = Numbers::all(number);
         match width {
-            Width::Word => Some(u32::from(number)),
+            Width::Word => Some(number),
             Width::Byte => {
                 self.read_byte(number, place);
-                Some(READ as u32)
+                Some(READ_NUMBER)
             }
         }
     }
@@ -147,13 +149,19 @@ impl<const P: usize> Course<P> {
         width: Width,
         track: &mut Track,
         apart: &mut Vec<[u16; P]>,
-    ) -> Option<u32> {
+    ) -> Option<u16> {
         if !self.admits(form.source) {
             return None;
         }
         match self.place(form.source, form.plus) {
             Some(place) => self.read_same(ground, width, place, track),
-            None => self.read_apart(ground, form, width, track, apart),
+            None => {
+                if P == PAIR {
+                    self.read_each(ground, form, width, track, apart)
+                } else {
+                    self.read_apart(ground, form, width, track, apart)
+                }
+            }
         }
     }
 
@@ -196,7 +204,7 @@ impl<const P: usize> Course<P> {
         let mut bits: u32 = both_bits::<P>(1);
         for second in P / 2..P {
             let first = second - P / 2;
-            let from = slot(u32::from(numbers[second]));
+            let from = slot(numbers[second]);
             self.values[to][first] = self.values[from][first];
             self.values[to][second] = self.values[from][second];
             unknown |= self.unknown[from] & bits;
@@ -212,7 +220,7 @@ impl<const P: usize> Course<P> {
         let mut unknown: u32 = 0;
         let mut bit: u32 = 1;
         for k in 0..P {
-            let from = slot(u32::from(numbers[k]));
+            let from = slot(numbers[k]);
             self.values[to][k] = self.values[from][k];
             unknown |= self.unknown[from] & bit;
             bit = bit.wrapping_mul(2);
@@ -237,7 +245,7 @@ impl<const P: usize> Course<P> {
         let mut bits: u32 = both_bits::<P>(1);
         for second in P / 2..P {
             let first = second - P / 2;
-            let to = slot(u32::from(numbers[second]));
+            let to = slot(numbers[second]);
             self.values[to][first] = self.values[WRITTEN][first];
             self.values[to][second] = self.values[WRITTEN][second];
             self.unknown[to] = (self.unknown[to] & !bits) | (unknown & bits);
@@ -250,7 +258,7 @@ impl<const P: usize> Course<P> {
         let unknown = self.unknown[WRITTEN];
         let mut bit: u32 = 1;
         for k in 0..P {
-            let to = slot(u32::from(numbers[k]));
+            let to = slot(numbers[k]);
             self.values[to][k] = self.values[WRITTEN][k];
             self.unknown[to] = (self.unknown[to] & !bit) | (unknown & bit);
             bit = bit.wrapping_mul(2);
@@ -281,11 +289,11 @@ impl<const P: usize> Course<P> {
         width: Width,
         places: &[u16; P],
         track: &mut Track,
-    ) -> Option<u32> {
+    ) -> Option<u16> {
         self.values[READ] = ground.texts(width, places);
         self.unknown[READ] = 0;
-        track.from = u32::from(ZERO);
-        Some(READ as u32)
+        track.from = Numbers::all(u16::from(ZERO));
+        Some(READ_NUMBER)
     }
 
     /// Which of these places are in the text, where not all are of the label's words, as this mask says. Those that may
@@ -313,7 +321,7 @@ impl<const P: usize> Course<P> {
         requires { k < P }
     {
         if let Some(number) = ground.word(width, place) {
-            let from = slot(u32::from(number));
+            let from = slot(number);
             return Some(Met {
                 number,
                 value: part_at(width, place, self.values[from][k]),
@@ -340,11 +348,12 @@ impl<const P: usize> Course<P> {
     fn read_each(
         &mut self,
         ground: &Ground<'_>,
+        form: &Form,
         width: Width,
-        places: &[u16; P],
         track: &mut Track,
         apart: &mut Vec<[u16; P]>,
-    ) -> Option<u32> {
+    ) -> Option<u16> {
+        let places = raised(&self.values[usize::from(form.source)], form.plus);
         let mut numbers = [u16::from(HIDDEN); P];
         let mut known: u32 = 0;
         let mut met: u32 = 0;
@@ -364,7 +373,7 @@ impl<const P: usize> Course<P> {
             self.left()?;
         }
         track.from = keep(apart, &numbers)?;
-        Some(READ as u32)
+        Some(READ_NUMBER)
     }
 
     /// Reads where not all have the same place.
@@ -376,11 +385,8 @@ impl<const P: usize> Course<P> {
         width: Width,
         track: &mut Track,
         apart: &mut Vec<[u16; P]>,
-    ) -> Option<u32> {
+    ) -> Option<u16> {
         let places = raised(&self.values[usize::from(form.source)], form.plus);
-        if P == PAIR {
-            return self.read_each(ground, width, &places, track, apart);
-        }
         let told = within(width, &places, ground.bytes);
         let in_text = if differs(&told, ALL, &self.mask) {
             self.far_places(ground, width, &places, &told)?
@@ -399,7 +405,7 @@ impl<const P: usize> Course<P> {
             self.read_texts(ground, width, &places, &in_text);
         }
         track.from = keep(apart, &numbers)?;
-        Some(READ as u32)
+        Some(READ_NUMBER)
     }
 
     /// Writes where not all have the same place.
@@ -445,11 +451,11 @@ impl<const P: usize> Course<P> {
         requires { source < 512 }
     {
         if let Some(number) = ground.word(form.width, place) {
-            track.to = u32::from(number);
-            self.operate(operation, source, plus, slot(u32::from(number)), ALL);
+            track.to = Numbers::all(number);
+            self.operate(operation, source, plus, slot(number), ALL);
             return Some(());
         }
-        track.to = u32::from(SINK);
+        track.to = Numbers::all(u16::from(SINK));
         if !ground.is_data(form.width, place) {
             self.shut(u32::MAX);
         }
@@ -491,7 +497,7 @@ impl<const P: usize> Course<P> {
 
     /// Reads the destination's address, for nothing. None where no label is left.
     pub fn look(&mut self, ground: &Ground<'_>, form: &Form, track: &mut Track) -> Option<()> {
-        track.to = u32::from(SINK);
+        track.to = Numbers::all(u16::from(SINK));
         if !self.admits(form.destination) {
             return None;
         }

@@ -4,9 +4,14 @@
 ghost use Rattle.std.specs.Prelude.{◌<◌};
 
 use crate::forms::{EACH, FIRST_WORD, Form, ROOM, Trace};
-use crate::rows::{bit_of, both_bits, first_bits, is_twice};
-use crate::tracks::{APART, Track, list_of, slot};
+use crate::rows::{PAIR, bit_of, both_bits, first_bits, is_twice};
+use crate::tracks::{Numbers, Track, last_of, slot};
 use flow_rule::{Label, Val};
+
+/// The bits of a lone label's arms.
+const FIRST_ARM: u32 = 1;
+
+const SECOND_ARM: u32 = 2;
 
 /// How many registers a label has, and how many words.
 const REGISTERS: usize = 16;
@@ -56,7 +61,7 @@ impl Wants {
     fn add_each<const P: usize>(&mut self, numbers: &[u16; P], places: u32) {
         let mut bit: u32 = 1;
         for k in 0..P {
-            self.needed[slot(u32::from(numbers[k]))] |= places & bit;
+            self.needed[slot(numbers[k])] |= places & bit;
             bit = bit.wrapping_mul(2);
         }
     }
@@ -65,21 +70,36 @@ impl Wants {
     fn add_twice<const P: usize>(&mut self, numbers: &[u16; P], places: u32) {
         let mut bits: u32 = both_bits::<P>(1);
         for second in P / 2..P {
-            self.needed[slot(u32::from(numbers[second]))] |= places & bits;
+            self.needed[slot(numbers[second])] |= places & bits;
             bits = bits.wrapping_mul(2);
         }
     }
 
+    /// The arms of a lone label need what they met.
+    #[inline(always)]
+    fn add_pair(&mut self, numbers: Numbers, places: u32) {
+        self.needed[slot(numbers.first)] |= places & FIRST_ARM;
+        self.needed[slot(numbers.second)] |= places & SECOND_ARM;
+    }
+
     /// These places need what they met.
     #[inline(always)]
-    fn add_met<const P: usize>(&mut self, number: u32, places: u32, apart: &[[u16; P]]) {
-        if number < APART {
-            self.needed[slot(number)] |= places;
-        } else if let Some(numbers) = list_of(apart, number) {
-            if is_twice(numbers) {
-                self.add_twice(numbers, places);
+    fn add_met<const P: usize>(
+        &mut self,
+        numbers: Numbers,
+        places: u32,
+        lists: &[[u16; P]],
+        left: &mut usize,
+    ) {
+        if P == PAIR {
+            self.add_pair(numbers, places);
+        } else if !numbers.are_listed() {
+            self.needed[slot(numbers.first)] |= places;
+        } else if let Some(list) = last_of(lists, left) {
+            if is_twice(list) {
+                self.add_twice(list, places);
             } else {
-                self.add_each(numbers, places);
+                self.add_each(list, places);
             }
         }
     }
@@ -99,7 +119,7 @@ impl Wants {
         let mut places: u32 = 0;
         let mut bit: u32 = 1;
         for k in 0..P {
-            let to = slot(u32::from(numbers[k]));
+            let to = slot(numbers[k]);
             self.written[to] |= bit;
             places |= self.needed[to] & bit;
             self.needed[to] &= old | !bit;
@@ -113,7 +133,7 @@ impl Wants {
         let mut places: u32 = 0;
         let mut bits: u32 = both_bits::<P>(1);
         for second in P / 2..P {
-            let to = slot(u32::from(numbers[second]));
+            let to = slot(numbers[second]);
             self.written[to] |= bits;
             places |= self.needed[to] & bits;
             self.needed[to] &= old | !bits;
@@ -122,21 +142,45 @@ impl Wants {
         places
     }
 
-    /// The same where they write what they met.
+    /// The same of a lone label, whose arms write what they met.
     #[inline(always)]
-    fn take_met<const P: usize>(&mut self, number: u32, old: u32, apart: &[[u16; P]]) -> u32 {
-        if number < APART {
-            let to = slot(number);
+    fn take_pair(&mut self, numbers: Numbers, old: u32) -> u32 {
+        let first = slot(numbers.first);
+        let second = slot(numbers.second);
+        self.written[first] |= FIRST_ARM;
+        self.written[second] |= SECOND_ARM;
+        let places = (self.needed[first] & FIRST_ARM) | (self.needed[second] & SECOND_ARM);
+        self.needed[first] &= old | !FIRST_ARM;
+        self.needed[second] &= old | !SECOND_ARM;
+        places
+    }
+
+    /// The same where places write what they met.
+    #[inline(always)]
+    fn take_met<const P: usize>(
+        &mut self,
+        numbers: Numbers,
+        old: u32,
+        lists: &[[u16; P]],
+        left: &mut usize,
+    ) -> u32 {
+        if P == PAIR {
+            return self.take_pair(numbers, old);
+        }
+        if !numbers.are_listed() {
+            let to = slot(numbers.first);
             self.written[to] = EACH;
-            self.take(to, old)
-        } else if let Some(numbers) = list_of(apart, number) {
-            if is_twice(numbers) {
-                self.take_twice(numbers, old)
-            } else {
-                self.take_each(numbers, old)
+            return self.take(to, old);
+        }
+        match last_of(lists, left) {
+            Some(list) => {
+                if is_twice(list) {
+                    self.take_twice(list, old)
+                } else {
+                    self.take_each(list, old)
+                }
             }
-        } else {
-            0
+            None => 0,
         }
     }
 
@@ -149,37 +193,61 @@ impl Wants {
 
     /// The same where the source has an address, and the destination has none.
     #[inline(always)]
-    fn back_loading<const P: usize>(&mut self, form: &Form, track: &Track, apart: &[[u16; P]]) {
+    fn back_loading<const P: usize>(
+        &mut self,
+        form: &Form,
+        track: &Track,
+        lists: &[[u16; P]],
+        left: &mut usize,
+    ) {
         let places = self.take(usize::from(form.destination), form.old);
-        self.add_met(track.from, places, apart);
+        self.add_met(track.from, places, lists, left);
         self.add(form.source, EACH);
     }
 
     /// The same where only the destination has one.
     #[inline(always)]
-    fn back_storing<const P: usize>(&mut self, form: &Form, track: &Track, apart: &[[u16; P]]) {
-        let places = self.take_met(track.to, form.old, apart);
+    fn back_storing<const P: usize>(
+        &mut self,
+        form: &Form,
+        track: &Track,
+        lists: &[[u16; P]],
+        left: &mut usize,
+    ) {
+        let places = self.take_met(track.to, form.old, lists, left);
         self.add(form.source, places);
         self.add(form.destination, EACH);
     }
 
     /// The same where both have one.
     #[inline(always)]
-    fn back_through<const P: usize>(&mut self, form: &Form, track: &Track, apart: &[[u16; P]]) {
-        let places = self.take_met(track.to, form.old, apart);
-        self.add_met(track.from, places, apart);
+    fn back_through<const P: usize>(
+        &mut self,
+        form: &Form,
+        track: &Track,
+        lists: &[[u16; P]],
+        left: &mut usize,
+    ) {
+        let places = self.take_met(track.to, form.old, lists, left);
+        self.add_met(track.from, places, lists, left);
         self.add(form.source, EACH);
         self.add(form.destination, EACH);
     }
 
     /// Goes back over an instruction.
     #[inline(always)]
-    fn back<const P: usize>(&mut self, form: &Form, track: &Track, apart: &[[u16; P]]) {
+    fn back<const P: usize>(
+        &mut self,
+        form: &Form,
+        track: &Track,
+        lists: &[[u16; P]],
+        left: &mut usize,
+    ) {
         match form.trace {
             Trace::Making => self.back_making(form),
-            Trace::Loading => self.back_loading(form, track, apart),
-            Trace::Storing => self.back_storing(form, track, apart),
-            Trace::Through => self.back_through(form, track, apart),
+            Trace::Loading => self.back_loading(form, track, lists, left),
+            Trace::Storing => self.back_storing(form, track, lists, left),
+            Trace::Through => self.back_through(form, track, lists, left),
         }
     }
 
@@ -188,13 +256,14 @@ impl Wants {
         &mut self,
         forms: &[Form],
         tracks: &[Track],
-        apart: &[[u16; P]],
+        lists: &[[u16; P]],
+        left: &mut usize,
     ) {
         let Some(tracks) = tracks.get(..forms.len()) else {
             return;
         };
         for k in (0..forms.len()).rev() {
-            self.back(&forms[k], &tracks[k], apart);
+            self.back(&forms[k], &tracks[k], lists, left);
         }
     }
 

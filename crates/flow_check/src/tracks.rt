@@ -3,32 +3,73 @@
 ghost use Rattle.std.specs.Prelude.{◌<◌};
 
 use crate::forms::{ROOM, SINK, ZERO};
+use crate::rows::PAIR;
 
-/// The first number of what was met that is not the same in all places of a row.
-pub const APART: u32 = 0x1_0000;
+/// The number that stands for a list: what was met is not the same in all places of a row.
+const LISTED: u16 = 0xffff;
 
-/// What was met at the addresses of an instruction: at the source's, and at the destination's. That is the number of a
-/// value, or, from [`APART`] on, which of the lists of numbers it is.
+/// The numbers of the values that were met at an address, in the first arms and in the second ones: a lone label's own,
+/// or one number of all labels, or what says that a list tells them.
+#[derive(Clone, Copy)]
+pub struct Numbers {
+    pub first: u16,
+    pub second: u16,
+}
+
+impl Numbers {
+    /// The same in all places.
+    #[inline(always)]
+    pub fn all(number: u16) -> Numbers {
+        Numbers {
+            first: number,
+            second: number,
+        }
+    }
+
+    /// Whether a list tells them.
+    #[inline(always)]
+    pub fn are_listed(&self) -> bool {
+        self.first == LISTED
+    }
+}
+
+/// What was met at the addresses of an instruction: at the source's, and at the destination's.
 #[derive(Clone, Copy)]
 pub struct Track {
-    pub from: u32,
-    pub to: u32,
+    pub from: Numbers,
+    pub to: Numbers,
 }
 
 impl Track {
     /// Nothing that is needed.
     pub const NONE: Track = Track {
-        from: ZERO as u32,
-        to: SINK as u32,
+        from: Numbers {
+            first: ZERO as u16,
+            second: ZERO as u16,
+        },
+        to: Numbers {
+            first: SINK as u16,
+            second: SINK as u16,
+        },
     };
+}
+
+/// Takes back the last of the lists that are left.
+#[inline(always)]
+pub fn last_of<'a, const P: usize>(
+    lists: &'a [[u16; P]],
+    left: &mut usize,
+) -> Option<&'a [u16; P]> {
+    *left = left.checked_sub(1)?;
+    lists.get(*left)
 }
 
 /// Where a number stands.
 #[inline(always)]
-pub fn slot(number: u32) -> usize
+pub fn slot(number: u16) -> usize
     ensures { result < 512 }
 {
-    number as usize % ROOM
+    usize::from(number) % ROOM
 }
 
 /// Makes room for so many tracks.
@@ -39,14 +80,15 @@ pub fn fit(tracks: &mut Vec<Track>, count: usize) -> Option<()> {
     Some(())
 }
 
-/// Adds a list of numbers, and tells what says so; None where memory runs out.
-pub fn keep<const P: usize>(apart: &mut Vec<[u16; P]>, numbers: &[u16; P]) -> Option<u32> {
-    let number = u32::try_from(apart.len()).ok()?;
-    apart.push(*numbers).ok()?;
-    Some(APART.wrapping_add(number))
-}
-
-/// The list that a number from [`APART`] on says.
-pub fn list_of<const P: usize>(apart: &[[u16; P]], number: u32) -> Option<&[u16; P]> {
-    apart.get(number.wrapping_sub(APART) as usize)
+/// Keeps the numbers that the places of a row met, those of many labels as a list; None where memory runs out.
+#[inline(always)]
+pub fn keep<const P: usize>(lists: &mut Vec<[u16; P]>, numbers: &[u16; P]) -> Option<Numbers> {
+    if P == PAIR {
+        return Some(Numbers {
+            first: *numbers.first()?,
+            second: *numbers.last()?,
+        });
+    }
+    lists.push(*numbers).ok()?;
+    Some(Numbers::all(LISTED))
 }

@@ -7,7 +7,8 @@ ghost use Rattle.flow_rule.specs.declared.Val.{Val};
 ghost use Rattle.flow_rule.specs.Values.{over, over_one, blurred, blurred_all, narrow, kept_val};
 ghost use Rattle.flow_rule.specs.Does.{half, read_if, worked, two_val, one_val};
 ghost use Rattle.flow_check.specs.Carries.{IsCarry};
-ghost use Rattle.flow_check.specs.Vectors.{cell, told_at};
+ghost use Rattle.flow_check.specs.declared.vector.Mark.TheVariants.{Number};
+ghost use Rattle.flow_check.specs.Vectors.{alone, cell, cell_by, is_any, is_number, mark_of, merged, told_at, veiled};
 
 use crate::effect::{
     number_of_one, number_of_two, one_reads_carry, one_sets_flags, reads_carry, sets_flags,
@@ -18,16 +19,24 @@ use flow_rule::Val;
 use insn_decode::{OneOp, TwoOp};
 use sm_words::Width;
 
-/// A value of each lane: its number where none of the marks is set.
+/// What a lane's value is beside its number.
+#[derive(Clone, Copy, Debug, PartialEq, Eq)]
+pub enum Mark {
+    /// Known: the number.
+    Number,
+    /// Away.
+    Beyond,
+    /// Public.
+    Equal,
+    /// Secret.
+    Any,
+}
+
+/// A value of each lane.
 #[derive(Clone, Copy)]
 pub struct Vector {
     pub numbers: [u16; LANES],
-    /// Which are Public.
-    pub hidden: [bool; LANES],
-    /// Which are Away.
-    pub away: [bool; LANES],
-    /// Which are Secret.
-    pub secret: [bool; LANES],
+    pub marks: [Mark; LANES],
 }
 
 /// What an operation gives in each lane: a value, and the flags, if it sets them.
@@ -38,17 +47,23 @@ pub struct Results {
     pub sets: bool,
 }
 
+/// A number with a mark in each lane.
+#[inline(always)]
+fn alike(number: u16, mark: Mark) -> Vector
+    ensures { (k : ℕ) → k < 16 → cell k result ≡ cell_by number mark }
+{
+    Vector {
+        numbers: [number; LANES],
+        marks: [mark; LANES],
+    }
+}
+
 /// A number that is Known in each lane.
 #[inline(always)]
 pub fn splat(number: u16) -> Vector
     ensures { (k : ℕ) → k < 16 → cell k result ≡ Val.Known number }
 {
-    Vector {
-        numbers: [number; LANES],
-        hidden: [false; LANES],
-        away: [false; LANES],
-        secret: [false; LANES],
-    }
+    alike(number, Mark::Number)
 }
 
 /// A number of its own that is Known in each lane.
@@ -58,9 +73,7 @@ pub fn numbered(numbers: &[u16; LANES]) -> Vector
 {
     Vector {
         numbers: *numbers,
-        hidden: [false; LANES],
-        away: [false; LANES],
-        secret: [false; LANES],
+        marks: [Mark::Number; LANES],
     }
 }
 
@@ -69,12 +82,7 @@ pub fn numbered(numbers: &[u16; LANES]) -> Vector
 pub fn all_secret() -> Vector
     ensures { (k : ℕ) → k < 16 → cell k result ≡ Val.Secret }
 {
-    Vector {
-        numbers: [0; LANES],
-        hidden: [false; LANES],
-        away: [false; LANES],
-        secret: [true; LANES],
-    }
+    alike(0, Mark::Any)
 }
 
 /// A value in each lane.
@@ -84,18 +92,8 @@ pub fn every(value: Val) -> Vector
 {
     match value {
         Val::Known(number) => splat(number),
-        Val::Away => Vector {
-            numbers: [0; LANES],
-            hidden: [false; LANES],
-            away: [true; LANES],
-            secret: [false; LANES],
-        },
-        Val::Public => Vector {
-            numbers: [0; LANES],
-            hidden: [true; LANES],
-            away: [false; LANES],
-            secret: [false; LANES],
-        },
+        Val::Away => alike(0, Mark::Beyond),
+        Val::Public => alike(0, Mark::Equal),
         Val::Secret => all_secret(),
     }
 }
@@ -106,14 +104,24 @@ pub fn lane(vector: &Vector, k: usize) -> Val
     requires { k < 16 }
     ensures { result ≡ cell k vector.now }
 {
-    if vector.secret[k] {
-        Val::Secret
-    } else if vector.away[k] {
-        Val::Away
-    } else if vector.hidden[k] {
-        Val::Public
-    } else {
-        Val::Known(vector.numbers[k])
+    match vector.marks[k] {
+        Mark::Number => Val::Known(vector.numbers[k]),
+        Mark::Beyond => Val::Away,
+        Mark::Equal => Val::Public,
+        Mark::Any => Val::Secret,
+    }
+}
+
+/// The mark of a value.
+#[inline(always)]
+fn mark_of(value: Val) -> Mark
+    ensures { result ≡ mark_of value }
+{
+    match value {
+        Val::Known(_) => Mark::Number,
+        Val::Away => Mark::Beyond,
+        Val::Public => Mark::Equal,
+        Val::Secret => Mark::Any,
     }
 }
 
@@ -124,9 +132,7 @@ pub fn set_lane(vector: &mut Vector, k: usize, value: Val)
     ensures here { cell k vector.new ≡ value }
     ensures others { (j : ℕ) → j ≢ k → cell j vector.new ≡ cell j vector.old }
 {
-    vector.secret[k] = value == Val::Secret;
-    vector.away[k] = value == Val::Away;
-    vector.hidden[k] = value == Val::Public;
+    vector.marks[k] = mark_of(value);
     if let Val::Known(number) = value {
         vector.numbers[k] = number;
     }
@@ -140,21 +146,99 @@ pub fn copy_lane(vector: &mut Vector, k: usize, from: &Vector)
     ensures others { (j : ℕ) → j ≢ k → cell j vector.new ≡ cell j vector.old }
 {
     vector.numbers[k] = from.numbers[k];
-    vector.hidden[k] = from.hidden[k];
-    vector.away[k] = from.away[k];
-    vector.secret[k] = from.secret[k];
+    vector.marks[k] = from.marks[k];
 }
 
-/// Whether either mark is set, in each lane.
+/// Whether a mark is that of Secret.
 #[inline(always)]
-fn either(one: &[bool; LANES], other: &[bool; LANES]) -> [bool; LANES]
-    ensures { (k : ℕ) → nth k result false ≡ (nth k one.now false || nth k other.now false) }
+fn is_any(mark: Mark) -> bool
+    ensures { result ≡ is_any mark }
 {
-    let mut marks = *one;
+    match mark {
+        Mark::Any => true,
+        Mark::Number | Mark::Beyond | Mark::Equal => false,
+    }
+}
+
+/// Whether a mark is that of a Known value.
+#[inline(always)]
+fn is_number(mark: Mark) -> bool
+    ensures { result ≡ is_number mark }
+{
+    match mark {
+        Mark::Number => true,
+        Mark::Beyond | Mark::Equal | Mark::Any => false,
+    }
+}
+
+/// The mark of what is made of three values.
+#[inline(always)]
+fn merged(a: Mark, b: Mark, c: Mark) -> Mark
+    ensures { result ≡ merged a b c }
+{
+    if is_any(a) | is_any(b) | is_any(c) {
+        Mark::Any
+    } else if is_number(a) & is_number(b) & is_number(c) {
+        Mark::Number
+    } else {
+        Mark::Equal
+    }
+}
+
+/// The same in each lane.
+#[inline(always)]
+fn merged_all(a: &Vector, b: &Vector, c: &Vector) -> [Mark; LANES]
+    ensures { (k : ℕ) → nth k result Number
+        ≡ merged (nth k a.now.marks Number) (nth k b.now.marks Number) (nth k c.now.marks Number) }
+{
+    let mut marks = a.marks;
     for k in 0..LANES {
-        marks[k] |= other[k];
+        marks[k] = merged(marks[k], b.marks[k], c.marks[k]);
     }
     marks
+}
+
+/// The mark of what is made of one value.
+#[inline(always)]
+fn alone(mark: Mark) -> Mark
+    ensures { result ≡ alone mark }
+{
+    match mark {
+        Mark::Beyond => Mark::Equal,
+        Mark::Number | Mark::Equal | Mark::Any => mark,
+    }
+}
+
+/// The same in each lane.
+#[inline(always)]
+fn alone_all(a: &Vector) -> [Mark; LANES]
+    ensures { (k : ℕ) → nth k result Number ≡ alone (nth k a.now.marks Number) }
+{
+    let mut marks = a.marks;
+    for k in 0..LANES {
+        marks[k] = alone(marks[k]);
+    }
+    marks
+}
+
+/// The mark of what a value tells: Secret where it is, else Public.
+#[inline(always)]
+fn veiled(mark: Mark) -> Mark
+    ensures { result ≡ veiled mark }
+{
+    if is_any(mark) { Mark::Any } else { Mark::Equal }
+}
+
+/// The same in each lane.
+#[inline(always)]
+fn veiled_all(marks: &[Mark; LANES]) -> [Mark; LANES]
+    ensures { (k : ℕ) → k < 16 → nth k result Number ≡ veiled (nth k marks.now Number) }
+{
+    let mut told = *marks;
+    for k in 0..LANES {
+        told[k] = veiled(told[k]);
+    }
+    told
 }
 
 /// What is made of three values in each lane: a number where all are Known, Secret where one is, else Public.
@@ -164,13 +248,9 @@ fn over(numbers: &[u16; LANES], a: &Vector, b: &Vector, c: &Vector) -> Vector
         nth k numbers.now 0 ≡ f (nth k a.now.numbers 0) (nth k b.now.numbers 0) (nth k c.now.numbers 0) →
         cell k result ≡ over f (cell k a.now) (cell k b.now) (cell k c.now) }
 {
-    let hidden = either(&either(&a.hidden, &b.hidden), &c.hidden);
-    let away = either(&either(&a.away, &b.away), &c.away);
     Vector {
         numbers: *numbers,
-        hidden: either(&away, &hidden),
-        away: [false; LANES],
-        secret: either(&either(&a.secret, &b.secret), &c.secret),
+        marks: merged_all(a, b, c),
     }
 }
 
@@ -183,9 +263,7 @@ fn over_one(numbers: &[u16; LANES], a: &Vector) -> Vector
 {
     Vector {
         numbers: *numbers,
-        hidden: either(&a.away, &a.hidden),
-        away: [false; LANES],
-        secret: a.secret,
+        marks: alone_all(a),
     }
 }
 
@@ -196,9 +274,7 @@ pub fn blurred_all(a: &Vector, b: &Vector, c: &Vector) -> Vector
 {
     Vector {
         numbers: [0; LANES],
-        hidden: [true; LANES],
-        away: [false; LANES],
-        secret: either(&either(&a.secret, &b.secret), &c.secret),
+        marks: veiled_all(&merged_all(a, b, c)),
     }
 }
 
@@ -209,9 +285,7 @@ pub fn blurred(value: &Vector) -> Vector
 {
     Vector {
         numbers: [0; LANES],
-        hidden: [true; LANES],
-        away: [false; LANES],
-        secret: value.secret,
+        marks: veiled_all(&value.marks),
     }
 }
 
@@ -364,7 +438,7 @@ fn none_known(vector: &Vector) -> bool
 {
     let mut all = true;
     for k in 0..LANES {
-        all &= vector.hidden[k] | vector.away[k] | vector.secret[k];
+        all &= !is_number(vector.marks[k]);
     }
     all
 }
@@ -445,7 +519,7 @@ pub fn all_known(vector: &Vector) -> bool
 {
     let mut other = false;
     for k in 0..LANES {
-        other |= vector.hidden[k] | vector.away[k] | vector.secret[k];
+        other |= !is_number(vector.marks[k]);
     }
     !other
 }

@@ -1,6 +1,6 @@
 //! Words of many labels, as vectors: where operands stand, and what is read and written there.
 
-ghost use Rattle.std.specs.Prelude.{◌≡◌, ◌≢◌, ◌<◌, ◌≤◌, ◌%◌, ◌-◌, ◌/◌, ℕ, List, Some, true, false, length, IfSome, slice_set};
+ghost use Rattle.std.specs.Prelude.{◌≡◌, ◌≢◌, ◌<◌, ◌≤◌, ◌%◌, ◌+◌, ◌-◌, ◌/◌, ℕ, List, Some, true, false, length, IfSome, slice_set};
 ghost use Rattle.sm_words.specs.Words.{nth, word_at};
 ghost use Rattle.arm_balance.specs.Met.{text_byte};
 ghost use Rattle.mod_layout.specs.Table.{holds};
@@ -12,8 +12,9 @@ ghost use Rattle.flow_check.specs.Gliding.{IsWordThere, moved_on};
 ghost use Rattle.flow_check.specs.GlidingTwo.{destination_place, old_near, put_near};
 ghost use Rattle.flow_check.specs.Tables.{is_other};
 ghost use Rattle.flow_check.specs.Vectors.{cell, column};
-ghost use Rattle.flow_check.specs.Waves.{is_served, IsInText, IsOpen, IsSpot, AllSpots, AllThere, AllPlaces, struck};
+ghost use Rattle.flow_check.specs.Waves.{is_served, past_of, IsInText, IsOpen, IsSpot, AllSpots, AllThere, AllPlaces, struck};
 
+use crate::ranges::{all_in, any_from, any_in};
 use crate::reach::{extension, second};
 use crate::rows::LANES;
 use crate::text::{may_reach, word_number};
@@ -29,6 +30,12 @@ use insn_decode::Operand;
 use mod_layout::Module;
 use pc_access::{Kind, is_misaligned};
 use sm_words::Width;
+
+/// How many words a label has.
+const WORDS: u16 = 256;
+
+/// How many addresses there are.
+const SPACE: usize = 65536;
 
 /// What is known of each word of the data, in each lane.
 pub type VectorWords = [Vector; 256];
@@ -113,17 +120,21 @@ fn is_shut(module: &Module, width: Width, addr: u16) -> bool
         | is_misaligned(width, addr)
 }
 
-/// Whether any of these addresses is such a one.
-#[tactic(auto, using(crate::proofs::Strays::no_more, crate::proofs::Strays::still_small))]
+/// Whether no address of the data is one of the text.
 #[inline(always)]
-fn any_shut(module: &Module, width: Width, addrs: &[u16; LANES]) -> bool
-    ensures { result ≡ false → (k : ℕ) → k < 16 → IsOpen module.now width (nth k addrs.now 0) }
+fn is_apart(module: &Module) -> bool
+    ensures { result ≡ true → (a : ℕ) → holds module.now.ram a ≡ true → holds module.now.text a ≡ false }
 {
-    let mut found: u16 = 0;
-    for k in 0..LANES {
-        found |= u16::from(is_shut(module, width, addrs[k]));
-    }
-    found != 0
+    module.ram.end <= module.text.start || module.text.end <= module.ram.start
+}
+
+/// Whether all of these addresses may be written and are no part of the text.
+#[tactic(auto, using(crate::proofs::Strays::open_by))]
+#[inline(always)]
+fn all_open(module: &Module, width: Width, addrs: &[u16; LANES]) -> bool
+    ensures { result ≡ true → (k : ℕ) → k < 16 → IsOpen module.now width (nth k addrs.now 0) }
+{
+    all_in(module.ram, width, addrs) && (is_apart(module) || !any_in(addrs, module.text))
 }
 
 /// The numbers of the words at such addresses.
@@ -144,7 +155,7 @@ fn numbers_from(start: u16, addrs: &[u16; LANES]) -> [u16; LANES]
 pub fn spots(module: &Module, width: Width, addrs: &Vector) -> Option<[u16; LANES]>
     ensures { IfSome result (AllSpots module.now width addrs.now) }
 {
-    if !all_known(addrs) || any_shut(module, width, &addrs.numbers) {
+    if !all_known(addrs) || !all_open(module, width, &addrs.numbers) {
         return None;
     }
     Some(numbers_from(module.ram.start, &addrs.numbers))
@@ -209,6 +220,36 @@ fn each_word(words: &VectorWords, numbers: &[u16; LANES]) -> Vector
     values
 }
 
+/// Whether any of these is the number of no word.
+#[inline(always)]
+fn any_past(numbers: &[u16; LANES]) -> bool
+    ensures { result ≡ false → (k : ℕ) → k < 16 → nth k numbers.now 0 < 256 }
+{
+    any_from(numbers, WORDS)
+}
+
+/// Takes each lane's word with its own number, where each has one: in each lane the host does the same.
+#[inline(never)]
+fn copy_near(words: &VectorWords, numbers: &[u16; LANES], values: &mut Vector)
+    requires { (k : ℕ) → k < 16 → nth k numbers.now 0 < 256 }
+    ensures { (k : ℕ) → k < 16 → cell k values.new ≡ nth (nth k numbers.now 0) (column k words.now) Val.Secret }
+{
+    for k in 0..LANES {
+        copy_lane(values, k, &words[usize::from(numbers[k])]);
+    }
+}
+
+/// The same, as a vector.
+#[inline(always)]
+fn near_words(words: &VectorWords, numbers: &[u16; LANES]) -> Vector
+    requires { (k : ℕ) → k < 16 → nth k numbers.now 0 < 256 }
+    ensures { (k : ℕ) → k < 16 → cell k result ≡ nth (nth k numbers.now 0) (column k words.now) Val.Secret }
+{
+    let mut values = splat(0);
+    copy_near(words, numbers, &mut values);
+    values
+}
+
 /// The same; most often all lanes have the same number.
 #[inline(always)]
 fn words_of(words: &VectorWords, numbers: &[u16; LANES]) -> Vector
@@ -216,8 +257,10 @@ fn words_of(words: &VectorWords, numbers: &[u16; LANES]) -> Vector
 {
     if all_same(numbers) {
         word_of(words, numbers[0])
-    } else {
+    } else if any_past(numbers) {
         each_word(words, numbers)
+    } else {
+        near_words(words, numbers)
     }
 }
 
@@ -280,6 +323,29 @@ fn put_each(words: &mut VectorWords, numbers: &[u16; LANES], value: &Vector)
     }
 }
 
+/// Writes one lane of the word with a number.
+#[inline(always)]
+fn put_near(words: &mut VectorWords, n: u16, k: usize, value: &Vector)
+    requires lane { k < 16 }
+    requires near { n < 256 }
+    ensures here { column k words.new ≡ slice_set (column k words.old) n (cell k value.now) }
+    ensures others { (j : ℕ) → j ≢ k → column j words.new ≡ column j words.old }
+{
+    copy_lane(&mut words[usize::from(n)], k, value);
+}
+
+/// Writes each lane's word with its own number, where each has one.
+#[inline(never)]
+fn put_near_each(words: &mut VectorWords, numbers: &[u16; LANES], value: &Vector)
+    requires { (k : ℕ) → k < 16 → nth k numbers.now 0 < 256 }
+    ensures { (k : ℕ) → k < 16 →
+        column k words.new ≡ slice_set (column k words.old) (nth k numbers.now 0) (cell k value.now) }
+{
+    for k in 0..LANES {
+        put_near(words, numbers[k], k, value);
+    }
+}
+
 /// The same; most often all lanes have the same number.
 #[inline(always)]
 fn put_words(words: &mut VectorWords, numbers: &[u16; LANES], value: &Vector)
@@ -288,8 +354,10 @@ fn put_words(words: &mut VectorWords, numbers: &[u16; LANES], value: &Vector)
 {
     if all_same(numbers) {
         put_word(words, numbers[0], value);
-    } else {
+    } else if any_past(numbers) {
         put_each(words, numbers, value);
+    } else {
+        put_near_each(words, numbers, value);
     }
 }
 
@@ -370,42 +438,80 @@ pub fn strike(told: &mut Strikes, numbers: &[u16; LANES])
     }
 }
 
-/// Whether an address is none of the text, or no word is read there.
-#[tactic(auto, using(crate::proofs::Strays::text_by))]
+/// The address from which on bytes of what is read there are missing, as far as addresses go.
 #[inline(always)]
-fn is_outside(module: &Module, width: Width, addr: u16) -> bool
-    ensures { result ≡ false → IsInText module.now width addr }
+fn whole_end(module: &Module, text: &[u8], width: Width) -> u16
+    ensures { (addr : ℕ) → addr < result → addr + past_of width < module.now.text.start + length text.now }
 {
-    (addr < module.text.start) | (module.text.end <= addr) | is_misaligned(width, addr)
-}
-
-/// Whether any of these addresses is such a one.
-#[tactic(auto, using(crate::proofs::Strays::no_more, crate::proofs::Strays::still_small))]
-#[inline(always)]
-fn any_outside(module: &Module, width: Width, addrs: &[u16; LANES]) -> bool
-    ensures { result ≡ false → (k : ℕ) → k < 16 → IsInText module.now width (nth k addrs.now 0) }
-{
-    let mut found: u16 = 0;
-    for k in 0..LANES {
-        found |= u16::from(is_outside(module, width, addrs[k]));
+    let bytes = if text.len() < SPACE {
+        text.len()
+    } else {
+        SPACE
+    };
+    let end = usize::from(module.text.start) + bytes;
+    let limit = match width {
+        Width::Word => end.saturating_sub(1),
+        Width::Byte => end,
+    };
+    if limit < SPACE {
+        limit as u16
+    } else {
+        u16::MAX
     }
-    found != 0
 }
 
-/// The word of the text at an address that is not before it: both bytes at once, where both are there.
+/// The word of the text at an address that is not before it, where both bytes are there.
 #[inline(always)]
-fn text_word(module: &Module, text: &[u8], addr: u16) -> u16
-    requires { module.now.text.start ≤ addr }
+fn whole_word(module: &Module, text: &[u8], addr: u16) -> u16
+    requires after { module.now.text.start ≤ addr }
+    requires whole { addr + 1 < module.now.text.start + length text.now }
     ensures { result ≡ word_at (text_byte module.now.text text.now) addr }
 {
     let at = usize::from(addr - module.text.start);
-    if at + 1 < text.len() {
-        return u16::from(text[at]) + 256 * u16::from(text[at + 1]);
-    }
-    word(module.text, text, usize::from(addr))
+    u16::from(text[at]) + 256 * u16::from(text[at + 1])
 }
 
-/// The number of what stands at such an address.
+/// The byte there, where it is there.
+#[inline(always)]
+fn whole_byte(module: &Module, text: &[u8], addr: u16) -> u16
+    requires after { module.now.text.start ≤ addr }
+    requires whole { addr < module.now.text.start + length text.now }
+    ensures exact { result ≡ text_byte module.now.text text.now addr }
+    ensures small { result < 256 }
+{
+    u16::from(text[usize::from(addr - module.text.start)])
+}
+
+/// The number of what stands at an address of the text, of which missing bytes are 0.
+#[inline(never)]
+fn cut_number(module: &Module, text: &[u8], width: Width, addr: u16) -> u16
+    requires inside { holds module.now.text addr ≡ true }
+    requires aligned { misaligned width addr ≡ false }
+    ensures { (words : List Val) →
+        IsWordThere module.now text.now width (Val.Known addr) words (Val.Known result) }
+{
+    match width {
+        Width::Word => word(module.text, text, usize::from(addr)),
+        Width::Byte => byte(module.text, text, usize::from(addr)),
+    }
+}
+
+/// The same where none is missing.
+#[inline(always)]
+fn whole_number(module: &Module, text: &[u8], width: Width, addr: u16) -> u16
+    requires inside { holds module.now.text addr ≡ true }
+    requires aligned { misaligned width addr ≡ false }
+    requires whole { addr + past_of width < module.now.text.start + length text.now }
+    ensures { (words : List Val) →
+        IsWordThere module.now text.now width (Val.Known addr) words (Val.Known result) }
+{
+    match width {
+        Width::Word => whole_word(module, text, addr),
+        Width::Byte => whole_byte(module, text, addr),
+    }
+}
+
+/// The same, whether any is missing or not.
 #[inline(always)]
 fn text_number(module: &Module, text: &[u8], width: Width, addr: u16) -> u16
     requires inside { holds module.now.text addr ≡ true }
@@ -413,9 +519,10 @@ fn text_number(module: &Module, text: &[u8], width: Width, addr: u16) -> u16
     ensures { (words : List Val) →
         IsWordThere module.now text.now width (Val.Known addr) words (Val.Known result) }
 {
-    match width {
-        Width::Word => text_word(module, text, addr),
-        Width::Byte => byte(module.text, text, usize::from(addr)),
+    if addr < whole_end(module, text, width) {
+        whole_number(module, text, width, addr)
+    } else {
+        cut_number(module, text, width, addr)
     }
 }
 
@@ -491,49 +598,63 @@ fn each_there(
     Some(values)
 }
 
-/// What stands at each lane's address of the text.
+/// The numbers of what stands at each lane's address of the text, of which missing bytes are 0.
 #[inline(never)]
-fn each_text(
-    module: &Module,
-    text: &[u8],
-    width: Width,
-    addrs: &Vector,
-    words: &VectorWords,
-) -> Option<Vector>
-    requires { (k : ℕ) → k < 16 → cell k addrs.now ≡ Val.Known (nth k addrs.now.numbers 0) }
-    ensures { IfSome result (AllThere module.now text.now width addrs.now words.now) }
+fn cut_texts(module: &Module, text: &[u8], width: Width, addrs: &[u16; LANES]) -> [u16; LANES]
+    requires { (k : ℕ) → k < 16 → IsInText module.now width (nth k addrs.now 0) }
+    ensures { (k : ℕ) → k < 16 → (words : List Val) → IsWordThere module.now text.now width
+        (Val.Known (nth k addrs.now 0)) words (Val.Known (nth k result 0)) }
 {
-    let _ = words;
-    if any_outside(module, width, &addrs.numbers) {
-        return None;
-    }
-    let mut numbers = addrs.numbers;
+    let mut numbers = *addrs;
     for k in 0..LANES {
-        numbers[k] = text_number(module, text, width, addrs.numbers[k]);
+        numbers[k] = text_number(module, text, width, addrs[k]);
     }
-    Some(numbered(&numbers))
+    numbers
 }
 
-/// What stands at these addresses, of which not all are of the data, where it may be read.
-#[inline(never)]
-fn far_there(
-    module: &Module,
-    text: &[u8],
-    width: Width,
-    addrs: &Vector,
-    words: &VectorWords,
-) -> Option<Vector>
-    requires { (k : ℕ) → k < 16 → cell k addrs.now ≡ Val.Known (nth k addrs.now.numbers 0) }
-    ensures { IfSome result (AllThere module.now text.now width addrs.now words.now) }
+/// The same where none is missing.
+#[inline(always)]
+fn whole_texts(module: &Module, text: &[u8], width: Width, addrs: &[u16; LANES]) -> [u16; LANES]
+    requires inside { (k : ℕ) → k < 16 → IsInText module.now width (nth k addrs.now 0) }
+    requires whole { (k : ℕ) → k < 16 →
+        nth k addrs.now 0 + past_of width < module.now.text.start + length text.now }
+    ensures { (k : ℕ) → k < 16 → (words : List Val) → IsWordThere module.now text.now width
+        (Val.Known (nth k addrs.now 0)) words (Val.Known (nth k result 0)) }
 {
-    if all_same(&addrs.numbers)
-        && let Some(number) = text_there(module, text, width, addrs.numbers[0])
-    {
-        return Some(splat(number));
+    let mut numbers = *addrs;
+    for k in 0..LANES {
+        numbers[k] = whole_number(module, text, width, addrs[k]);
     }
-    match each_text(module, text, width, addrs, words) {
-        Some(values) => Some(values),
-        None => each_there(module, text, width, addrs, words),
+    numbers
+}
+
+/// The same of words, or of bytes.
+#[inline(never)]
+fn texts(module: &Module, text: &[u8], width: Width, addrs: &[u16; LANES]) -> [u16; LANES]
+    requires { (k : ℕ) → k < 16 → IsInText module.now width (nth k addrs.now 0) }
+    ensures { (k : ℕ) → k < 16 → (words : List Val) → IsWordThere module.now text.now width
+        (Val.Known (nth k addrs.now 0)) words (Val.Known (nth k result 0)) }
+{
+    if any_from(addrs, whole_end(module, text, width)) {
+        return cut_texts(module, text, width, addrs);
+    }
+    match width {
+        Width::Word => whole_texts(module, text, Width::Word, addrs),
+        Width::Byte => whole_texts(module, text, Width::Byte, addrs),
+    }
+}
+
+/// What stands at these addresses, which all are of the text.
+#[inline(never)]
+fn text_values(module: &Module, text: &[u8], width: Width, addrs: &Vector) -> Vector
+    requires { (k : ℕ) → k < 16 → IsInText module.now width (nth k addrs.now.numbers 0) }
+    ensures { (k : ℕ) → k < 16 → (words : List Val) → IsWordThere module.now text.now width
+        (Val.Known (nth k addrs.now.numbers 0)) words (cell k result) }
+{
+    if all_same(&addrs.numbers) {
+        splat(text_number(module, text, width, addrs.numbers[0]))
+    } else {
+        numbered(&texts(module, text, width, &addrs.numbers))
     }
 }
 
@@ -548,12 +669,14 @@ pub fn there(
 ) -> Option<Vector>
     ensures { IfSome result (AllThere module.now text.now width addrs.now words.now) }
 {
-    if let Some(numbers) = spots(module, width, addrs) {
-        return Some(old_values(width, words, addrs, &numbers));
+    if !all_known(addrs) {
+        return None;
     }
-    if all_known(addrs) {
-        far_there(module, text, width, addrs, words)
-    } else {
-        None
+    if all_in(module.text, width, &addrs.numbers) {
+        return Some(text_values(module, text, width, addrs));
+    }
+    match spots(module, width, addrs) {
+        Some(numbers) => Some(old_values(width, words, addrs, &numbers)),
+        None => each_there(module, text, width, addrs, words),
     }
 }

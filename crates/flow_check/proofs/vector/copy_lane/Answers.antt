@@ -6,10 +6,8 @@ pub returns : goal.returns
 returns c =
     let v = c.args.vector.now in
     let n : c.args.k < length v.numbers = omega arith in
-    let h : c.args.k < length v.hidden = omega arith in
-    let a : c.args.k < length v.away = omega arith in
-    let s : c.args.k < length v.secret = omega arith in
+    let m : c.args.k < length v.marks = omega arith in
     record {
-      here = copied_here c.args.k v c.args.from.now n h a s;
+      here = copied_here c.args.k v c.args.from.now n m;
       others = λ j ne. copied_apart c.args.k j v c.args.from.now ne;
     }

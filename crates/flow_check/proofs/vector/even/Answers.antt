@@ -12,4 +12,4 @@ returns c = λ k lt.
     let h = c.loop-k in
     let v = c.args.value.now in
     let e = each_worked (λ j v. v - v % 2) 0 h.k v.numbers h.numbers c.loop-k-test.false h.invariant k lt in
-    even_cell k v (record v { numbers = h.numbers }) (c.known.ensures.small k) e refl refl refl
+    even_cell k v (record v { numbers = h.numbers }) (c.known.ensures.small k) e refl

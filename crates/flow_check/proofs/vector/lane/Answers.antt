@@ -1,19 +1,20 @@
-use Rattle.std.proofs.Common.{rules}
-use Rattle.flow_check.specs.Vectors.{cell}
+use Rattle.std.proofs.Common.{ap, sym}
+use Rattle.sm_words.specs.Words.{nth}
+use Rattle.flow_check.specs.Vectors.{cell, cell_by}
 use Rattle.flow_check.proofs.vector.lane.Goals as goal
 
-pub returns-then-vector-k : goal.returns-then-vector-k
+pub returns-in-Number : goal.returns-in-Number
 unfolding cell
-returns-then-vector-k c = search rules
+returns-in-Number c = ap (cell_by (nth c.args.k c.args.vector.now.numbers 0)) (sym c.in-Number.is)
 
-pub returns-then-vector-k-2 : goal.returns-then-vector-k-2
+pub returns-in-Beyond : goal.returns-in-Beyond
 unfolding cell
-returns-then-vector-k-2 c = search rules
+returns-in-Beyond c = ap (cell_by (nth c.args.k c.args.vector.now.numbers 0)) (sym c.in-Beyond.is)
 
-pub returns-then-vector-k-3 : goal.returns-then-vector-k-3
+pub returns-in-Equal : goal.returns-in-Equal
 unfolding cell
-returns-then-vector-k-3 c = search rules
+returns-in-Equal c = ap (cell_by (nth c.args.k c.args.vector.now.numbers 0)) (sym c.in-Equal.is)
 
-pub returns-else-vector-k-3 : goal.returns-else-vector-k-3
+pub returns-in-Any : goal.returns-in-Any
 unfolding cell
-returns-else-vector-k-3 c = search rules
+returns-in-Any c = ap (cell_by (nth c.args.k c.args.vector.now.numbers 0)) (sym c.in-Any.is)
