@@ -201,9 +201,9 @@ def last_address(data, more=b""):
     return words(0x4125, 0x4116, 2, 0x5605) + more + words(0xF035, 0x00FE, 0x5035, data, 0x4527, 0x4305, 0x4307)
 
 
-def balance_of_arms_apart(count, insn, cycles, base):
+def balance_of_arms_apart(count, insn, cycles, base, data=0xF000):
     """As `balance_of_addresses_that_rises` with instructions whose addresses are each list's own, and each arm's."""
-    text, data = 0x0300, 0xF000
+    text = 0x0300
     before, again = rising_twice(data, RISING)
     before = words(0x4034, data + 0x1F8, 0x4384, 0) + before
     arm = own_address(base) + words(*insn) * count + last_address(data)
@@ -216,9 +216,9 @@ def balance_of_arms_apart(count, insn, cycles, base):
     return image_with(code, text, module), f"{branch:04x} {branch + 10 + len(arm):04x} {3 + 7 + cycles * count + 14}\n"
 
 
-def balance_of_two_apart(count, insn, cycles, base, shuts):
+def balance_of_two_apart(count, insn, cycles, base, shuts, data=0xF000):
     """As `balance_of_two` with such instructions."""
-    text, data = 0x0300, 0xF000
+    text = 0x0300
     public, wanted, other = data + 0x1F0, data + 0x1F2, data + 0x1F4
     before, again = rising_twice(data, RISING)
     arm = words(0x4034, data + 0x1F8, 0x4384, 0) + own_address(base) + words(*insn) * count
@@ -242,6 +242,12 @@ def balance_of_two_apart(count, insn, cycles, base, shuts):
     code += words(0x2402, 0x4327, 0x3C07, 0x4227, 0x3C05, 0x2402, *APART) + arm + words(0x4030, second)
     module = f"module 0007 {text:04x} {text + len(code):04x} {data:04x} {data + 0x400:04x}\n"
     return image_with(code, text, module), f"{first:04x} {join:04x} {time}\n{second:04x} {join:04x} {time}\n"
+
+
+def at_the_edge(build):
+    """What this builds with data that begin right behind the text."""
+    image, _ = build(0xF000)
+    return build(int(image.split("module 0007 ")[1].split()[1], 16))
 
 
 def mixed(count, sources):
@@ -383,6 +389,14 @@ def cases(folder):
             walked, arm = balance_of_two_apart(1, insn, cycles, base, shuts)
             told = f"balance, two branches with arms of {own} met 2,601 times{which}, data that rise one a turn, each twice"
             yield told, ["balance", file(f"walked_apart_{name}_{shuts}", walked), "1", file(f"arm_apart_{name}_{shuts}", arm)]
+    own = f"{len(insn):,} mixed reads at addresses of each list's and each arm's own, half of them of the text and half of the data behind it,"
+    walked, arm = at_the_edge(lambda data: balance_of_arms_apart(1, insn, cycles, data - 0x80, data))
+    told = f"balance, arms of {own} met 5,184 times, data that rise one a turn, each twice"
+    yield told, ["balance", file("walked_edge", walked), "1", file("arm_edge", arm)]
+    for shuts, which in ((False, ""), (True, ", which get a cause")):
+        walked, arm = at_the_edge(lambda data: balance_of_two_apart(1, insn, cycles, data - 0x80, shuts, data))
+        told = f"balance, two branches with arms of {own} met 2,601 times{which}, data that rise one a turn, each twice"
+        yield told, ["balance", file(f"walked_edge_{shuts}", walked), "1", file(f"arm_edge_{shuts}", arm)]
     for name, insn, cycles, count in (
         ("decimal sums", [0xA908] * 26_900, 26_900, 26_900),
         ("SXT", [0x1188] * 26_900, 26_900, 26_900),
