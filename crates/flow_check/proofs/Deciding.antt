@@ -39,14 +39,14 @@ use Rattle.flow_rule.specs.Steps.{goes_unless, step_plain, step_jump, step_unit,
 use Rattle.flow_rule.specs.Stub.{call_entry, shut_reasons, shut_if, is_shut, is_open, word_number, step_entries, step_stub, has_stub}
 use Rattle.flow_rule.specs.Verdict.{flow_step, Decided}
 use Rattle.flow_check.specs.declared.step.Cause.{Cause}
-use Rattle.flow_check.specs.declared.spots.Spot.{Spot}
-use Rattle.flow_check.specs.declared.pairs.Pair.{Pair as CodePair}
+use Rattle.flow_check.specs.declared.rounds.Spot.{Spot}
+use Rattle.flow_check.specs.declared.rounds.Pair.{Pair as CodePair}
 use Rattle.flow_check.specs.declared.rounds.Changed.{Changed}
 use Rattle.flow_check.specs.declared.returns.Returns.{Returns}
 use Rattle.flow_check.specs.Causes.{before, lesser, lesser_if, cause_of, noted}
 use Rattle.flow_check.specs.Pairs.{pair_of, points_of, fronts_of, list_of}
 use Rattle.flow_check.specs.Marks.{flagged, Kept, Reached}
-use Rattle.flow_check.specs.Deciding.{found_at, found_of, comes_first, lesser_by, lesser_found, lesser_of, is_past, least_from, verdict_of}
+use Rattle.flow_check.specs.Deciding.{found_at, found_of, comes_first, lesser_by, lesser_found, lesser_of, least_from, verdict_of}
 use Rattle.flow_check.proofs.Dirty.{reached_more, reached_rests, reached_start, flagged_round}
 use Rattle.flow_check.proofs.Taking.{points_length}
 
@@ -364,23 +364,6 @@ least_more step i ps ls d e c o r lt k ec er =
     ∙ ap (λ x. least_from step (points_of (drop (suc i) ps) (drop (suc i) ls)) (lesser_of (found_of o) (get_or ps i d).addr x)) (sym ec)
     ∙ ap (λ x. least_from step (points_of (drop (suc i) ps) (drop (suc i) ls)) x) (sym er)
     ∙ ap (λ j. least_from step (points_of (drop j ps) (drop j ls)) (found_of r)) (let f : suc i ≡ i + 1 = omega arith in f)
-
--- of a higher address no cause is the least
-past_least : (o : Option Spot) (a : ℕ) (c : Option Cause) → is_past o a ≡ true → lesser_of (found_of o) a c ≡ found_of o
-past_least None a c h = grind (arith)
-past_least (Some s) a None h = refl
-past_least (Some s) a (Some c) h = ap (λ b. lesser_by b (found_at a c) (found_at s.addr s.cause)) (comes_late s.addr a (before (cause_of (found_at a c)) (cause_of (found_at s.addr s.cause))) h)
-  where
-    comes_late : (low high : ℕ) (b : Bool) → nat_lt low high ≡ true → (nat_lt high low || ((high == low) && b)) ≡ false
-    comes_late low high b h = grind (arith, nat_tests)
-
-pub least_past : (step : Point → Step) (i : ℕ) (ps : List CodePair) (ls : List Label) (d : CodePair) (o : Option Spot) → i < length ps → length ps ≡ length ls →
-    is_past o (get_or ps i d).addr ≡ true →
-    least_from step (points_of (drop i ps) (drop i ls)) (found_of o) ≡ least_from step (points_of (drop (i + 1) ps) (drop (i + 1) ls)) (found_of o)
-least_past step i ps ls d o lt k h =
-    let e : Label = record { core = []; words = [] } in
-    let c : Option Cause = noted (step record { pair = pair_of (get_or ps i d); label = get_or ls i e }).reasons None in
-    least_more step i ps ls d e c o o lt k refl (sym (past_least o (get_or ps i d).addr c h))
 
 pub least_end : (step : Point → Step) (n : ℕ) (ps : List CodePair) (ls : List Label) (o : Option Found) → length ps ≤ n → least_from step (points_of (drop n ps) (drop n ls)) o ≡ o
 least_end step n ps ls o h = ap (λ p. least_from step (points_of p (drop n ls)) o) (drop_of_length-le ps {i = n} h)

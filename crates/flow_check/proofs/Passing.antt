@@ -1,63 +1,36 @@
 -- What one walk along the arms of a branch says of other labels.
-use Rattle.std.proofs.Common.{◌≡◌, ◌≢◌, ℕ, zero, suc, All, set, get_or, take, drop, ◌<◌, ◌≤◌, ◌%◌, List, [], ◌∷◌, ◌++◌, length, replicate, refl, sym, ap, ◌∙◌, subst, not, cond, true, false, Bool, ◌==◌, arith, Option, Some, None}
-use Rattle.std.proofs.lemmas.Bool.{eqb-true}
+use Rattle.std.proofs.Common.{◌≡◌, ◌≢◌, ℕ, zero, suc, All, set, get_or, take, drop, ◌<◌, ◌≤◌, ◌%◌, List, [], ◌∷◌, ◌++◌, length, replicate, refl, sym, ap, ◌∙◌, subst, not, cond, true, false, is_some, ◌==◌, arith, Option, Some, None}
+use Rattle.std.proofs.lemmas.Bool.Decides.{nat_tests}
 use Rattle.std.specs.List.{slice_get}
 use Rattle.std.proofs.lemmas.Option.{get_or_from_slice_get, slice_get_within}
 use Rattle.std.proofs.lemmas.List.Elements.{All-push, All-set}
 use Rattle.mod_layout.specs.declared.Module.{Module}
 use Rattle.mod_layout.specs.Table.{holds}
 use Rattle.flow_rule.specs.declared.Val.{Val}
-use Rattle.flow_rule.specs.declared.Val.TheVariants.{Known, Away, Public, Secret}
+use Rattle.flow_rule.specs.declared.Val.TheVariants.{Known, Public}
 use Rattle.flow_rule.specs.declared.Label.{Label}
 use Rattle.flow_rule.specs.declared.Reason.TheVariants.{Arm as ArmInsn, ArmTime}
 use Rattle.flow_rule.specs.Values.{join, join_each}
 use Rattle.flow_rule.specs.Reasons.{because_if}
-use Rattle.flow_rule.specs.Rounds.{Found, Point, Step, given_by, same_list}
+use Rattle.flow_rule.specs.Rounds.{Found, Point, Step, given_by}
 use Rattle.flow_rule.specs.Verdict.{flow_step}
 use Rattle.flow_rule.specs.Arms.{Walk, first_walk, second_walk, blot, blot_core}
 use Rattle.flow_rule.specs.Absorbs.{Absorbs, ArmsRest, laid, overlay}
 use Rattle.flow_check.specs.declared.arms.Crossing.{Crossing}
-use Rattle.flow_check.specs.declared.passages.Answer.TheVariants.{Open, Shut, Barred}
+use Rattle.flow_check.specs.declared.passages.Answer.TheVariants.{Open, Shut}
 use Rattle.flow_check.specs.declared.passages.Passage.{Passage}
-use Rattle.flow_check.specs.Passages.{crossing_step, blotted, blank, branch_from, answer_of, OpensTo, ComesTo, IsPassage}
+use Rattle.flow_check.specs.Passages.{crossing_step, blotted, blank, branch_from, OpensTo, ComesTo, IsPassage}
 use Rattle.flow_check.specs.declared.step.Cause.{Cause}
 use Rattle.flow_check.specs.declared.returns.Returns.{Returns}
 use Rattle.flow_check.specs.Causes.{noted}
 use Rattle.flow_check.specs.Pairs.{list_of, point_of, points_at, addrs_of}
-use Rattle.flow_check.proofs.Finding.{list_is}
-use Rattle.flow_check.proofs.Joins.{join_own}
 use Rattle.flow_check.proofs.Giving.{none_found}
+use Rattle.flow_check.proofs.Joins.{join_own}
 use Rattle.flow_rule.proofs.Overlays.{overlay_core, overlay_words}
 
 join_each_own : (vs : List Val) → join_each vs vs ≡ vs
 join_each_own [] = refl
 join_each_own (v ∷ vs) = ap (λ w. w ∷ join_each vs vs) (join_own v) ∙ ap (λ ws. v ∷ ws) (join_each_own vs)
-
--- values that absorb each other are the same
-known_same : (t : Bool) (a b : ℕ) → (a == b) ≡ t → cond t (Known a) Public ≡ Known a → Known a ≡ Known b
-known_same true a b h e = ap Known (eqb-true a b h)
-known_same false a b h e = absurd cc
-
-val_same : (v w : Val) → join v w ≡ v → join w v ≡ w → v ≡ w
-val_same (Known a) (Known b) e f = known_same (a == b) a b refl e
-val_same Away Away e f = refl
-val_same Public Public e f = refl
-val_same Secret Secret e f = refl
-val_same _ _ e f = cc
-
-each_same : (vs ws : List Val) → join_each vs ws ≡ vs → join_each ws vs ≡ ws → vs ≡ ws
-each_same [] [] e f = refl
-each_same (v ∷ vs) (w ∷ ws) e f =
-    ap (λ u. u ∷ vs) (val_same v w (ap (λ us. get_or us 0 v) e) (ap (λ us. get_or us 0 w) f))
-    ∙ ap (λ us. w ∷ us) (each_same vs ws (ap (drop 1) e) (ap (drop 1) f))
-each_same [] (w ∷ ws) e f = f
-each_same (v ∷ vs) [] e f = sym e
-
-abbrev make : List Val → List Val → Label
-make core words = record { core = core; words = words }
-
-pub same_label : (a b : Label) → Absorbs a b → Absorbs b a → a ≡ b
-same_label a b h k = ap (λ c. make c a.words) (each_same a.core b.core h.core k.core) ∙ ap (make b.core) (each_same a.words b.words h.words k.words)
 
 pub absorbs_own : (l : Label) → Absorbs l l
 absorbs_own l = record { core = join_each_own l.core; words = join_each_own l.words }
@@ -108,7 +81,7 @@ pub opens : ArmsRest → (m : Module) (text : List ℕ) → m.text.start % 2 ≡
     (c : Crossing) (pc : ℕ) (returns : List ℕ) (l l1 : Label) → p.branch ≡ pc → p.crossing ≡ c → Absorbs p.label l → length l.core ≡ 16 → length l.words ≡ 256 →
     l1 ≡ record { core = overlay told.core l.core; words = overlay told.words l.words } → OpensTo m text c (branch_from pc returns l) l1
 opens rest m text even p told e is c pc returns l l1 eb ec h core words el =
-    let b : Point = point_of p.branch p.returns p.label in
+    let b : Point = branch_from p.branch [] p.label in
     let x : Point = branch_from pc returns l in
     let it : ((crossing_step m text p.crossing b).reasons ≡ []) × (told ≡ blotted m text p.crossing b blank) = subst (ComesTo m text p.crossing b) e is in
     let calm : (crossing_step m text c b).reasons ≡ [] = subst (λ c. (crossing_step m text c b).reasons ≡ []) ec it.0 in
@@ -118,35 +91,12 @@ opens rest m text even p told e is c pc returns l l1 eb ec h core words el =
     )
 
 -- a shut one, of a label that absorbs its own
-pub shuts : ArmsRest → (m : Module) (text : List ℕ) → m.text.start % 2 ≡ 0 → (p : Passage) (cause : Cause) → p.answer ≡ Shut cause → IsPassage m text p →
+pub shuts : ArmsRest → (m : Module) (text : List ℕ) → m.text.start % 2 ≡ 0 → (p : Passage) → p.answer ≡ Shut → IsPassage m text p →
     (c : Crossing) (pc : ℕ) (returns : List ℕ) (l : Label) → p.branch ≡ pc → p.crossing ≡ c → Absorbs l p.label → (crossing_step m text c (branch_from pc returns l)).reasons ≢ []
-shuts rest m text even p cause e is c pc returns l eb ec h = λ none.
-    let b : Point = point_of p.branch p.returns p.label in
-    let it : noted (crossing_step m text p.crossing b).reasons None ≡ Some cause = subst (ComesTo m text p.crossing b) e is in
-    let calm : (crossing_step m text p.crossing b).reasons ≡ [] = subst (λ c. (crossing_step m text c b).reasons ≡ []) (sym ec) (calm_too rest m text even c (branch_from pc returns l) b eb h none) in
-    not_both (noted (crossing_step m text p.crossing b).reasons None) cause (ap (λ rs. noted rs None) calm) it
-  where
-    not_both : (o : Option Cause) (cause : Cause) → o ≡ None → o ≡ Some cause → ⊥
-    not_both o cause e f = cc
-
--- one that tells that there is a cause
-pub bars : ArmsRest → (m : Module) (text : List ℕ) → m.text.start % 2 ≡ 0 → (p : Passage) → p.answer ≡ Barred → IsPassage m text p →
-    (c : Crossing) (pc : ℕ) (returns : List ℕ) (l : Label) → p.branch ≡ pc → p.crossing ≡ c → Absorbs l p.label → (crossing_step m text c (branch_from pc returns l)).reasons ≢ []
-bars rest m text even p e is c pc returns l eb ec h = λ none.
-    let b : Point = point_of p.branch p.returns p.label in
-    subst (ComesTo m text p.crossing b) e is
-    (subst (λ c. (crossing_step m text c b).reasons ≡ []) (sym ec) (calm_too rest m text even c (branch_from pc returns l) b eb h none))
-
--- the cause of a shut one, under the same label with the same return addresses
-pub cause_same : (m : Module) (text : List ℕ) (p : Passage) (cause : Cause) → p.answer ≡ Shut cause → IsPassage m text p → (c : Crossing) (pc : ℕ) (r : Returns) (l : Label) →
-    p.branch ≡ pc → p.crossing ≡ c → p.label ≡ l → same_list (list_of p.returns) (list_of r) ≡ true → noted (crossing_step m text c (point_of pc r l)).reasons None ≡ Some cause
-cause_same m text p cause e is c pc r l eb ec el er =
-    let it : noted (crossing_step m text p.crossing (point_of p.branch p.returns p.label)).reasons None ≡ Some cause = subst (ComesTo m text p.crossing (point_of p.branch p.returns p.label)) e is in
-    sym (ap (λ c. least c p.branch (list_of p.returns) p.label) ec ∙ ap (λ a. least c a (list_of p.returns) p.label) eb
-    ∙ ap (λ rs. least c pc rs p.label) (list_is (list_of p.returns) (list_of r) er) ∙ ap (least c pc (list_of r)) el) ∙ it
-  where
-    least : Crossing → ℕ → List ℕ → Label → Option Cause
-    least c a rs l = noted (crossing_step m text c (branch_from a rs l)).reasons None
+shuts rest m text even p e is c pc returns l eb ec h = λ none.
+    let b : Point = branch_from p.branch [] p.label in
+    let it : (crossing_step m text p.crossing b).reasons ≢ [] = subst (ComesTo m text p.crossing b) e is in
+    it (subst (λ c. (crossing_step m text c b).reasons ≡ []) (sym ec) (calm_too rest m text even c (branch_from pc returns l) b eb h none))
 
 -- one passage more, or another in its place
 pub kept_push : (m : Module) (text : List ℕ) (ps qs : List Passage) (p : Passage) → qs ≡ ps ++ p ∷ [] → IsPassage m text p → All (IsPassage m text) ps → All (IsPassage m text) qs
@@ -156,13 +106,17 @@ pub kept_set : (m : Module) (text : List ℕ) (ps qs : List Passage) (i : ℕ) (
 kept_set m text ps qs i p e h all = subst (All (IsPassage m text)) (sym e) (All-set (IsPassage m text) ps i p h all)
 
 -- what a walk told
-pub walked_tells : (m : Module) (text : List ℕ) (c : Crossing) (pc : ℕ) (r : Returns) (l told0 told : Label) (least : Option Cause) → told0 ≡ blank →
-    least ≡ noted (crossing_step m text c (point_of pc r l)).reasons None → told ≡ blotted m text c (point_of pc r l) told0 → ComesTo m text c (point_of pc r l) (answer_of least told)
-walked_tells m text c pc r l told0 told None eb el et = (
-  none_found (crossing_step m text c (point_of pc r l)).reasons (sym el),
-  et ∙ ap (λ b. blotted m text c (point_of pc r l) b) eb,
-)
-walked_tells m text c pc r l told0 told (Some cause) eb el et = sym el
+pub walked_open : (m : Module) (text : List ℕ) (c : Crossing) (pc : ℕ) (r : Returns) (l told0 told : Label) (least : Option Cause) → list_of r ≡ [] → told0 ≡ blank →
+    least ≡ noted (crossing_step m text c (point_of pc r l)).reasons None → told ≡ blotted m text c (point_of pc r l) told0 → is_some least ≡ false → ComesTo m text c (branch_from pc [] l) (Open told)
+walked_open m text c pc r l told0 told least er eb el et e =
+    let calm : (crossing_step m text c (branch_from pc (list_of r) l)).reasons ≡ [] = none_found (crossing_step m text c (point_of pc r l)).reasons (sym el ∙ nothing least e) in (
+      subst (λ rs. (crossing_step m text c (branch_from pc rs l)).reasons ≡ []) er calm,
+      et ∙ ap (λ b. blotted m text c (branch_from pc (list_of r) l) b) eb ∙ ap (λ rs. blotted m text c (branch_from pc rs l) blank) er,
+    )
+  where
+    nothing : (o : Option Cause) → is_some o ≡ false → o ≡ None
+    nothing None e = refl
+    nothing (Some c) e = absurd cc
 
 -- ---- the step of a pair
 

@@ -1,5 +1,5 @@
 -- One walk along the arms of a branch serves many labels.
-use Rattle.std.specs.Prelude.{◌≡◌, ◌≢◌, ℕ, List, [], ◌++◌, replicate, Option, Some, None, Bool, true, false, All}
+use Rattle.std.specs.Prelude.{◌≡◌, ◌≢◌, ℕ, List, [], ◌++◌, replicate}
 use Rattle.mod_layout.specs.declared.Module.{Module}
 use Rattle.flow_rule.specs.declared.Label.{Label}
 use Rattle.flow_rule.specs.declared.Val.TheVariants.{Public}
@@ -8,11 +8,8 @@ use Rattle.flow_rule.specs.Arms.{blot, blot_core, first_walk, second_walk, step_
 use Rattle.flow_rule.specs.Verdict.{flow_step}
 use Rattle.flow_check.specs.declared.arms.Crossing.{Crossing}
 use Rattle.flow_check.specs.declared.passages.Answer.{Answer}
-use Rattle.flow_check.specs.declared.passages.Answer.TheVariants.{Open, Shut, Barred}
+use Rattle.flow_check.specs.declared.passages.Answer.TheVariants.{Open, Shut}
 use Rattle.flow_check.specs.declared.passages.Passage.{Passage}
-use Rattle.flow_check.specs.declared.step.Cause.{Cause}
-use Rattle.flow_check.specs.Causes.{noted}
-use Rattle.flow_check.specs.Pairs.{point_of}
 
 -- the step of a branch by its certificate
 abbrev pub crossing_step : Module → List ℕ → Crossing → Point → Step
@@ -37,26 +34,11 @@ branch_from a returns l = record { pair = record { addr = a; returns = returns }
 abbrev pub OpensTo : Module → List ℕ → Crossing → Point → Label → Type 0
 OpensTo m text c x l = ((crossing_step m text c x).reasons ≡ []) × (l ≡ blotted m text c x x.label)
 
--- the answer of a walk with this least cause, whose arms wrote so
-abbrev pub answer_of : Option Cause → Label → Answer
-answer_of (Some cause) told = Shut cause
-answer_of None told = Open told
-
 -- what the arms of a branch come to
 abbrev pub ComesTo : Module → List ℕ → Crossing → Point → Answer → Type 0
 ComesTo m text c x (Open told) = ((crossing_step m text c x).reasons ≡ []) × (told ≡ blotted m text c x blank)
-ComesTo m text c x (Shut cause) = noted (crossing_step m text c x).reasons None ≡ Some cause
-ComesTo m text c x Barred = (crossing_step m text c x).reasons ≢ []
+ComesTo m text c x Shut = (crossing_step m text c x).reasons ≢ []
 
--- what is kept of a branch's arms is so under its own label, with its own return addresses
+-- what is kept of a branch's arms is so under its own label
 abbrev pub IsPassage : Module → List ℕ → Passage → Type 0
-IsPassage m text p = ComesTo m text p.crossing (point_of p.branch p.returns p.label) p.answer
-
--- a passage that is proved is so; another is there where claims are trusted
-abbrev pub IsKept : Module → List ℕ → Bool → Passage → Type 0
-IsKept m text trusting p = (p.proved ≡ true → IsPassage m text p) × (p.proved ≡ false → trusting ≡ true)
-
--- what was kept is kept still, and if all of these passages are so, all of those were
-pub record Grows (m : Module) (text : List ℕ) (trusting : Bool) (old new : List Passage) : Type 0 where
-  pub kept : All (IsKept m text trusting) old → All (IsKept m text trusting) new
-  pub back : All (IsKept m text trusting) old → All (IsPassage m text) new → All (IsPassage m text) old
+IsPassage m text p = ComesTo m text p.crossing (branch_from p.branch [] p.label) p.answer

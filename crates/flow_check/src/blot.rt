@@ -15,8 +15,7 @@ use mod_layout::Module;
 use pc_access::Kind;
 
 /// The register that an operand's increment changes.
-#[inline(always)]
-pub fn blot_step(operand: Operand, core: &mut Core)
+fn blot_step(operand: Operand, core: &mut Core)
     ensures { core.new ≡ blot_core (stepped_regs operand) core.old }
 {
     if let Operand::Increment(reg) = operand {
@@ -25,8 +24,7 @@ pub fn blot_step(operand: Operand, core: &mut Core)
 }
 
 /// The register that is written, if one is.
-#[inline(always)]
-pub fn blot_written(written: bool, operand: Operand, core: &mut Core)
+fn blot_written(written: bool, operand: Operand, core: &mut Core)
     ensures { core.new ≡ blot_core (written_reg written operand) core.old }
 {
     if written && let Operand::Reg(reg) = operand {
@@ -36,7 +34,6 @@ pub fn blot_written(written: bool, operand: Operand, core: &mut Core)
 
 /// The registers that an instruction writes.
 #[tactic(auto, using(crate::proofs::Blots::core_append))]
-#[inline(always)]
 pub fn blot_registers(insn: &Insn, core: &mut Core)
     ensures { core.new ≡ blot_core (written_regs insn.now) core.old }
 {
@@ -54,7 +51,6 @@ pub fn blot_registers(insn: &Insn, core: &mut Core)
 }
 
 /// What an instruction of format II writes: PUSH lowers SP.
-#[inline(always)]
 fn blot_operand(op: OneOp, arg: Operand, core: &mut Core)
     ensures { core.new ≡ blot_core (one_regs op arg) core.old }
 {

@@ -1,336 +1,276 @@
-//! Which values of a branch's label its arms need, so that one walk serves as many labels as can be: those that the
-//! addresses of accesses are made of; and which words they write. What it says is claimed alone, until a walk tells it.
+//! Which values of a branch's label its arms need, so that one walk serves as many labels as can be. This saves time
+//! alone: what it says is tried by a walk before anything rests on it.
 
-ghost use Rattle.std.specs.Prelude.{◌<◌};
+use crate::effect::{one_reads_carry, one_sets_flags, reads_carry, sets_flags};
+use crate::reach::{reads_destination, writes_destination};
+use crate::text::word_number;
+use crate::value::join;
+use flow_rule::{Label, Reach, Val};
+use insn_decode::{Insn, OneOp, Operand};
+use mod_layout::Module;
+use sm_words::Width;
 
-use crate::forms::{EACH, FIRST_WORD, Form, ROOM, Trace};
-use crate::rows::{PAIR, bit_of, both_bits, first_bits, is_twice};
-use crate::tracks::{Numbers, Track, last_of, slot};
-use flow_rule::{Label, Val};
+/// How many values a label has: its registers and then its words.
+const VALUES: usize = 272;
 
-/// The bits of a lone label's arms.
-const FIRST_ARM: u32 = 1;
-
-const SECOND_ARM: u32 = 2;
-
-/// How many registers a label has, and how many words.
+/// How many registers a label has.
 const REGISTERS: usize = 16;
 
-const WORDS: usize = 256;
+/// The flags' register, and the stack pointer.
+const FLAGS: u8 = 2;
 
-/// Whether each value is needed, by its number.
+const STACK: u8 = 1;
+
+/// A set of values of a label, by their numbers.
 #[derive(Clone, Copy)]
-pub struct Needs([bool; 512]);
+struct Origins([u64; 5]);
 
-/// Which arms of which labels need each value, and which write it in memory, by its number: a bit for each place of a
-/// row.
-#[derive(Clone, Copy)]
-pub struct Wants {
-    needed: [u32; 512],
-    written: [u32; 512],
-}
+impl Origins {
+    const NONE: Origins = Origins([0; 5]);
 
-/// What is seen of the arms of a branch under a label that have no cause: what either needs of the label, and Secret
-/// where either writes.
-#[derive(Clone, Copy)]
-pub struct Seen {
-    pub needs: Needs,
-    pub told: Label,
-}
-
-/// What is known of a value of a label: all of it where it is needed, and else nothing.
-#[inline(always)]
-fn lowered(needed: bool, value: Val) -> Val {
-    if needed { value } else { Val::Secret }
-}
-
-impl Wants {
-    /// Nothing is needed.
-    pub const NONE: Wants = Wants {
-        needed: [0; 512],
-        written: [0; 512],
-    };
-
-    /// These places need a value.
-    #[inline(always)]
-    fn add(&mut self, number: u8, places: u32) {
-        self.needed[usize::from(number)] |= places;
-    }
-
-    /// These places need values of these numbers, each its own.
-    fn add_each<const P: usize>(&mut self, numbers: &[u16; P], places: u32) {
-        let mut bit: u32 = 1;
-        for k in 0..P {
-            self.needed[slot(numbers[k])] |= places & bit;
-            bit = bit.wrapping_mul(2);
+    /// One value alone.
+    fn one(value: usize) -> Origins {
+        let mut set = Origins::NONE;
+        if value < VALUES {
+            set.0[value / 64] = 1 << (value % 64);
         }
+        set
     }
 
-    /// The same where both arms of each label have the same number.
-    fn add_twice<const P: usize>(&mut self, numbers: &[u16; P], places: u32) {
-        let mut bits: u32 = both_bits::<P>(1);
-        for second in P / 2..P {
-            self.needed[slot(numbers[second])] |= places & bits;
-            bits = bits.wrapping_mul(2);
+    /// Those of either set.
+    fn with(self, other: Origins) -> Origins {
+        let mut set = self;
+        for k in 0..5 {
+            set.0[k] |= other.0[k];
         }
+        set
     }
 
-    /// The arms of a lone label need what they met.
-    #[inline(always)]
-    fn add_pair(&mut self, numbers: Numbers, places: u32) {
-        self.needed[slot(numbers.first)] |= places & FIRST_ARM;
-        self.needed[slot(numbers.second)] |= places & SECOND_ARM;
+    /// Whether a value is among them.
+    fn has(&self, value: usize) -> bool {
+        value < VALUES && self.0[value / 64] >> (value % 64) & 1 == 1
     }
+}
 
-    /// These places need what they met.
-    #[inline(always)]
-    fn add_met<const P: usize>(
-        &mut self,
-        numbers: Numbers,
-        places: u32,
-        lists: &[[u16; P]],
-        left: &mut usize,
-    ) {
-        if P == PAIR {
-            self.add_pair(numbers, places);
-        } else if !numbers.are_listed() {
-            self.needed[slot(numbers.first)] |= places;
-        } else if let Some(list) = last_of(lists, left) {
-            if is_twice(list) {
-                self.add_twice(list, places);
+/// Along an arm: of which values of the branch's label each value is made, which of them have to be Known, and which
+/// may not be Secret.
+#[derive(Drop)]
+pub struct Sources {
+    of: [Origins; 272],
+    known: Origins,
+    open: Origins,
+    /// Whether instructions are followed.
+    follows: bool,
+}
+
+/// The register that an operand's address is made of.
+fn base(operand: Operand) -> Option<u8> {
+    match operand {
+        Operand::Indexed { reg, .. } | Operand::Indirect(reg) | Operand::Increment(reg) => Some(
+            reg,
+        ),
+        Operand::Reg(_)
+        | Operand::Const(_)
+        | Operand::Imm(_)
+        | Operand::Symbolic(_)
+        | Operand::Absolute(_) => None,
+    }
+}
+
+/// The number of the value at an access's address, where it is one of the label's words.
+fn word_of(module: &Module, reach: Option<&Reach>) -> Option<usize> {
+    match reach {
+        Some(
+            Reach {
+                addr: Val::Known(addr),
+                ..
+            },
+        ) => {
+            if module.ram.holds(usize::from(*addr)) {
+                Some(REGISTERS + word_number(module, *addr))
             } else {
-                self.add_each(list, places);
+                None
+            }
+        }
+        _ => None,
+    }
+}
+
+impl Sources {
+    /// Nothing is needed so far.
+    pub fn new(follows: bool) -> Sources {
+        Sources {
+            of: [Origins::NONE; 272],
+            known: Origins::NONE,
+            open: Origins::NONE,
+            follows,
+        }
+    }
+
+    /// An arm begins, where each value is made of itself.
+    pub fn begin(&mut self) {
+        if self.follows {
+            for value in 0..VALUES {
+                self.of[value] = Origins::one(value);
             }
         }
     }
 
-    /// Goes back over what writes here: tells which places need it, and leaves what they need of what was there.
-    #[inline(always)]
-    fn take(&mut self, to: usize, old: u32) -> u32
-        requires { to < 512 }
-    {
-        let places = self.needed[to];
-        self.needed[to] = places & old;
-        places
+    /// What a value is made of.
+    fn get(&self, value: usize) -> Origins {
+        match self.of.get(value) {
+            Some(set) => *set,
+            None => Origins::NONE,
+        }
     }
 
-    /// The same where each place writes a value of its own.
-    fn take_each<const P: usize>(&mut self, numbers: &[u16; P], old: u32) -> u32 {
-        let mut places: u32 = 0;
-        let mut bit: u32 = 1;
-        for k in 0..P {
-            let to = slot(numbers[k]);
-            self.written[to] |= bit;
-            places |= self.needed[to] & bit;
-            self.needed[to] &= old | !bit;
-            bit = bit.wrapping_mul(2);
+    /// Says what a value is made of.
+    fn set(&mut self, value: usize, set: Origins) {
+        if value < VALUES {
+            self.of[value] = set;
         }
-        places
     }
 
-    /// The same where both arms of each label write the same value.
-    fn take_twice<const P: usize>(&mut self, numbers: &[u16; P], old: u32) -> u32 {
-        let mut places: u32 = 0;
-        let mut bits: u32 = both_bits::<P>(1);
-        for second in P / 2..P {
-            let to = slot(numbers[second]);
-            self.written[to] |= bits;
-            places |= self.needed[to] & bits;
-            self.needed[to] &= old | !bits;
-            bits = bits.wrapping_mul(2);
+    /// An operand's address has to be Known.
+    fn need(&mut self, operand: Operand) {
+        if let Some(reg) = base(operand) {
+            self.known = self.known.with(self.get(usize::from(reg)));
         }
-        places
     }
 
-    /// The same of a lone label, whose arms write what they met.
-    #[inline(always)]
-    fn take_pair(&mut self, numbers: Numbers, old: u32) -> u32 {
-        let first = slot(numbers.first);
-        let second = slot(numbers.second);
-        self.written[first] |= FIRST_ARM;
-        self.written[second] |= SECOND_ARM;
-        let places = (self.needed[first] & FIRST_ARM) | (self.needed[second] & SECOND_ARM);
-        self.needed[first] &= old | !FIRST_ARM;
-        self.needed[second] &= old | !SECOND_ARM;
-        places
+    /// The number of the value in an operand.
+    fn place(&self, module: &Module, operand: Operand, reach: Option<&Reach>) -> Option<usize> {
+        match operand {
+            Operand::Reg(reg) => Some(usize::from(reg)),
+            Operand::Const(_) | Operand::Imm(_) => None,
+            _ => word_of(module, reach),
+        }
     }
 
-    /// The same where places write what they met.
-    #[inline(always)]
-    fn take_met<const P: usize>(
-        &mut self,
-        numbers: Numbers,
-        old: u32,
-        lists: &[[u16; P]],
-        left: &mut usize,
-    ) -> u32 {
-        if P == PAIR {
-            return self.take_pair(numbers, old);
+    /// What the value there is made of.
+    fn at(&self, place: Option<usize>) -> Origins {
+        match place {
+            Some(value) => self.get(value),
+            None => Origins::NONE,
         }
-        if !numbers.are_listed() {
-            let to = slot(numbers.first);
-            self.written[to] = EACH;
-            return self.take(to, old);
+    }
+
+    /// Writes a value made of these; a byte of a word leaves the other.
+    fn write(&mut self, place: Option<usize>, width: Width, from: Origins) {
+        if let Some(value) = place {
+            let kept = if width == Width::Byte && value >= REGISTERS {
+                self.get(value)
+            } else {
+                Origins::NONE
+            };
+            self.set(value, from.with(kept));
         }
-        match last_of(lists, left) {
-            Some(list) => {
-                if is_twice(list) {
-                    self.take_twice(list, old)
+    }
+
+    /// The flags, if they are read.
+    fn carry(&self, read: bool) -> Origins {
+        if read {
+            self.get(usize::from(FLAGS))
+        } else {
+            Origins::NONE
+        }
+    }
+
+    /// What an instruction makes of what.
+    pub fn follow(&mut self, module: &Module, insn: &Insn, reaches: &[Reach]) {
+        if !self.follows {
+            return;
+        }
+        match *insn {
+            Insn::Two {
+                op,
+                width,
+                src,
+                dst,
+            } => {
+                self.need(src);
+                self.need(dst);
+                let source = self.at(self.place(module, src, reaches.first()));
+                let into = self.place(module, dst, reaches.last());
+                let old = if reads_destination(op) {
+                    self.at(into)
                 } else {
-                    self.take_each(list, old)
+                    Origins::NONE
+                };
+                let made = source.with(old).with(self.carry(reads_carry(op)));
+                if sets_flags(op) {
+                    self.set(usize::from(FLAGS), made);
+                }
+                if writes_destination(op) {
+                    self.write(into, width, made);
                 }
             }
-            None => 0,
-        }
-    }
-
-    /// Goes back over an instruction without an address: where what it makes is needed, so is what it makes that of.
-    #[inline(always)]
-    fn back_making(&mut self, form: &Form) {
-        let places = self.take(usize::from(form.destination), form.old);
-        self.add(form.source, places);
-    }
-
-    /// The same where the source has an address, and the destination has none.
-    #[inline(always)]
-    fn back_loading<const P: usize>(
-        &mut self,
-        form: &Form,
-        track: &Track,
-        lists: &[[u16; P]],
-        left: &mut usize,
-    ) {
-        let places = self.take(usize::from(form.destination), form.old);
-        self.add_met(track.from, places, lists, left);
-        self.add(form.source, EACH);
-    }
-
-    /// The same where only the destination has one.
-    #[inline(always)]
-    fn back_storing<const P: usize>(
-        &mut self,
-        form: &Form,
-        track: &Track,
-        lists: &[[u16; P]],
-        left: &mut usize,
-    ) {
-        let places = self.take_met(track.to, form.old, lists, left);
-        self.add(form.source, places);
-        self.add(form.destination, EACH);
-    }
-
-    /// The same where both have one.
-    #[inline(always)]
-    fn back_through<const P: usize>(
-        &mut self,
-        form: &Form,
-        track: &Track,
-        lists: &[[u16; P]],
-        left: &mut usize,
-    ) {
-        let places = self.take_met(track.to, form.old, lists, left);
-        self.add_met(track.from, places, lists, left);
-        self.add(form.source, EACH);
-        self.add(form.destination, EACH);
-    }
-
-    /// Goes back over an instruction.
-    #[inline(always)]
-    fn back<const P: usize>(
-        &mut self,
-        form: &Form,
-        track: &Track,
-        lists: &[[u16; P]],
-        left: &mut usize,
-    ) {
-        match form.trace {
-            Trace::Making => self.back_making(form),
-            Trace::Loading => self.back_loading(form, track, lists, left),
-            Trace::Storing => self.back_storing(form, track, lists, left),
-            Trace::Through => self.back_through(form, track, lists, left),
-        }
-    }
-
-    /// Goes back over these instructions, which met this.
-    pub fn go_back<const P: usize>(
-        &mut self,
-        forms: &[Form],
-        tracks: &[Track],
-        lists: &[[u16; P]],
-        left: &mut usize,
-    ) {
-        let Some(tracks) = tracks.get(..forms.len()) else {
-            return;
-        };
-        for k in (0..forms.len()).rev() {
-            self.back(&forms[k], &tracks[k], lists, left);
-        }
-    }
-
-    /// What these places alone need.
-    fn of(&self, places: u32) -> Wants {
-        let mut wants = *self;
-        for number in 0..ROOM {
-            wants.needed[number] &= places;
-            wants.written[number] &= places;
-        }
-        wants
-    }
-
-    /// What the first arms alone need.
-    pub fn first<const P: usize>(&self) -> Wants {
-        self.of(first_bits::<P>())
-    }
-
-    /// What the second arms alone need.
-    pub fn second<const P: usize>(&self) -> Wants {
-        self.of(!first_bits::<P>())
-    }
-
-    /// What any arm of a label needs.
-    pub fn needs<const P: usize>(&self, lane: usize) -> Needs
-        requires { lane < 16 }
-    {
-        let places = both_bits::<P>(bit_of(lane));
-        let mut needs = Needs([false; 512]);
-        for number in 0..ROOM {
-            needs.0[number] = self.needed[number] & places != 0;
-        }
-        needs
-    }
-
-    /// Tells where any arm of a label writes words.
-    pub fn tell<const P: usize>(&self, lane: usize, told: &mut Label)
-        requires { lane < 16 }
-    {
-        let places = both_bits::<P>(bit_of(lane));
-        for n in 0..WORDS {
-            if self.written[usize::from(FIRST_WORD) + n] & places != 0 {
-                told.words[n] = Val::Secret;
+            Insn::One { op, width, arg } => {
+                self.need(arg);
+                let from = self.place(module, arg, reaches.first());
+                let made = self.at(from).with(self.carry(one_reads_carry(op)));
+                if one_sets_flags(op) {
+                    self.set(usize::from(FLAGS), made);
+                }
+                if op == OneOp::Push {
+                    self.known = self.known.with(self.get(usize::from(STACK)));
+                    self.write(word_of(module, reaches.last()), width, made);
+                } else {
+                    self.write(from, width, made);
+                }
             }
+            Insn::Jump { .. } | Insn::Reti | Insn::Unit(_) => {}
         }
     }
-}
 
-impl Needs {
-    /// What either needs.
-    pub fn or(&self, other: &Needs) -> Needs {
-        let mut needs = *self;
-        for number in 0..ROOM {
-            needs.0[number] |= other.0[number];
+    /// Where an arm leaves the text, no register may be Secret.
+    pub fn leave(&mut self) {
+        for value in 0..REGISTERS {
+            self.open = self.open.with(self.get(value));
         }
-        needs
     }
 
-    /// A label that absorbs this one and has as little in it as is needed.
+    /// A value of a label with as little in it as is needed.
+    fn lower(&self, number: usize, value: Val) -> Val {
+        if self.known.has(number) {
+            value
+        } else if self.open.has(number) {
+            join(value, Val::Public)
+        } else {
+            Val::Secret
+        }
+    }
+
+    /// A label that absorbs this one and has as little in it as was needed.
     pub fn least(&self, label: &Label) -> Label {
         let mut top = *label;
-        for n in 0..REGISTERS {
-            top.core[n] = lowered(self.0[n], label.core[n]);
+        for n in 0..16 {
+            top.core[n] = self.lower(n, label.core[n]);
         }
-        for n in 0..WORDS {
-            top.words[n] = lowered(self.0[usize::from(FIRST_WORD) + n], label.words[n]);
+        for n in 0..256 {
+            top.words[n] = self.lower(REGISTERS + n, label.words[n]);
         }
         top
     }
+}
+
+/// A value with as little in it as another has.
+fn as_little(near: Val, value: Val) -> Val {
+    match near {
+        Val::Known(_) => value,
+        Val::Away | Val::Public => join(value, Val::Public),
+        Val::Secret => Val::Secret,
+    }
+}
+
+/// A label that absorbs this one and is Secret where another is.
+pub fn like(near: &Label, label: &Label) -> Label {
+    let mut top = *label;
+    for n in 0..16 {
+        top.core[n] = as_little(near.core[n], label.core[n]);
+    }
+    for n in 0..256 {
+        top.words[n] = as_little(near.words[n], label.words[n]);
+    }
+    top
 }

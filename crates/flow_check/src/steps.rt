@@ -4,21 +4,18 @@ ghost use Rattle.std.specs.Prelude.{◌≡◌, ◌≤◌, ℕ, [], All, IfSome, 
 ghost use Rattle.arrayvec.specs.ArrayVec.{array_vec_len};
 ghost use Rattle.flow_rule.specs.Rounds.{given_by};
 ghost use Rattle.flow_rule.specs.Arms.{flow_with};
-ghost use Rattle.arm_balance.specs.Certificates.{BranchesRise};
 ghost use Rattle.flow_check.specs.declared.step.Cause.{Cause};
 ghost use Rattle.flow_check.specs.Causes.{noted};
-ghost use Rattle.flow_check.specs.Frames.{AlikeBut, numbers_of};
 ghost use Rattle.flow_check.specs.Pairs.{IsStub, addrs_of, point_of};
 ghost use Rattle.flow_check.specs.Steps.{GivesAlike};
 ghost use Rattle.flow_check.specs.Passages.{crossing_step, IsPassage};
-ghost use Rattle.flow_check.specs.Tables.{IsTable};
 
 use crate::arms::{Crossing, crossing_of, walk_arms};
+use crate::needs::Sources;
 use crate::passages::{Outcome, Passages};
 use crate::returns::Returns;
 use crate::step::{Cause, Stepped, note};
 use crate::stub::step_base;
-use crate::table::{Entry, met_of};
 use arm_balance::Arm;
 use flow_rule::{Label, Reason};
 use mod_layout::Module;
@@ -28,62 +25,44 @@ use std::alloc::AllocError;
 pub fn step_with(
     module: &Module,
     text: &[u8],
-    table: &[Entry],
     entries: Option<u16>,
     arms: &[Arm],
-    passages: &Passages,
-    own: Option<usize>,
+    passages: &mut Passages,
+    own: &mut Option<usize>,
     pc: u16,
     label: &mut Label,
     stepped: &mut Stepped,
 ) -> Result<(), AllocError>
     requires few { IfSome entries (λ n. n ≤ 64) }
-    requires table { IsTable module.now text.now table.now }
-    requires rise { BranchesRise arms.now }
+    requires passages { IsStub module.now text.now entries →
+        All (IsPassage module.now text.now) passages.old.list.items }
     requires none { array_vec_len stepped.old.targets ≡ 0 }
     requires empty { stepped.old.targets.items ≡ [] }
     requires calm { stepped.old.least ≡ None }
-    requires unwritten { numbers_of stepped.old.written ≡ [] }
     ensures calm { IfOk result (λ _. stepped.new.least ≡ None → IsStub module.now text.now entries →
-        All (IsPassage module.now text.now) passages.now.list.items →
         (flow_with module.now text.now arms.now (point_of pc stepped.old.returns label.old)).reasons ≡ []) }
     ensures stirred { IfOk result (λ _. (c : Cause) → stepped.new.least ≡ Some c →
         IsStub module.now text.now entries →
-        All (IsPassage module.now text.now) passages.now.list.items →
         given_by (flow_with module.now text.now arms.now (point_of pc stepped.old.returns label.old)) ≡ []) }
     ensures targets { IfOk result (λ _. stepped.new.least ≡ None → IsStub module.now text.now entries →
-        All (IsPassage module.now text.now) passages.now.list.items →
         stepped.new.targets.items ≡ addrs_of (flow_with module.now text.now arms.now
         (point_of pc stepped.old.returns label.old)).gives) }
     ensures gives { IfOk result (λ _. stepped.new.least ≡ None → IsStub module.now text.now entries →
-        All (IsPassage module.now text.now) passages.now.list.items →
         GivesAlike (flow_with module.now text.now arms.now
         (point_of pc stepped.old.returns label.old)) stepped.new.returns label.new) }
-    ensures frame { IfOk result (λ _. stepped.new.least ≡ None →
-        AlikeBut (numbers_of stepped.new.written) label.old.words label.new.words) }
+    ensures passages { IfOk result (λ _. IsStub module.now text.now entries →
+        All (IsPassage module.now text.now) passages.new.list.items) }
 {
-    let insn = met_of(module, text, table, pc);
-    match crossing_of(module, text, &insn, arms, pc, label) {
+    match crossing_of(module, text, arms, pc, label) {
         Some(crossing) => {
-            match passages.cross(
-                module,
-                text,
-                table,
-                entries,
-                &crossing,
-                own,
-                pc,
-                label,
-                &stepped.returns,
-                &mut stepped.written,
-            )? {
+            match passages.cross(module, text, entries, &crossing, own, pc, label)? {
                 Outcome::Open => stepped.targets.push(crossing.arm.join),
                 Outcome::Shut => note(&mut stepped.least, Reason::Arm, pc),
             }
             Ok(())
         }
         None => {
-            step_base(module, text, &insn, entries, pc, label, stepped);
+            step_base(module, text, entries, pc, label, stepped);
             Ok(())
         }
     }
@@ -93,7 +72,6 @@ pub fn step_with(
 fn cause_of_arms(
     module: &Module,
     text: &[u8],
-    table: &[Entry],
     entries: Option<u16>,
     passages: &Passages,
     own: Option<usize>,
@@ -103,7 +81,6 @@ fn cause_of_arms(
     returns: &Returns,
 ) -> Option<Cause>
     requires few { IfSome entries (λ n. n ≤ 64) }
-    requires table { IsTable module.now text.now table.now }
     requires passages { IsStub module.now text.now entries →
         All (IsPassage module.now text.now) passages.now.list.items }
     ensures { IsStub module.now text.now entries → result ≡ noted (crossing_step module.now text.now crossing.now
@@ -112,13 +89,19 @@ fn cause_of_arms(
     if passages.is_open(own, crossing, pc, label) {
         return None;
     }
-    if let Some(cause) = passages.cause(own, crossing, pc, label, returns) {
-        return Some(cause);
-    }
     let mut least = None;
     let mut told = *label;
     walk_arms(
-        module, text, table, entries, crossing, pc, label, returns, &mut least, &mut told,
+        module,
+        text,
+        entries,
+        crossing,
+        pc,
+        label,
+        returns,
+        &mut least,
+        &mut told,
+        &mut Sources::new(false),
     );
     least
 }
@@ -127,7 +110,6 @@ fn cause_of_arms(
 pub fn cause_with(
     module: &Module,
     text: &[u8],
-    table: &[Entry],
     entries: Option<u16>,
     arms: &[Arm],
     passages: &Passages,
@@ -137,22 +119,19 @@ pub fn cause_with(
     returns: &Returns,
 ) -> Option<Cause>
     requires few { IfSome entries (λ n. n ≤ 64) }
-    requires table { IsTable module.now text.now table.now }
-    requires rise { BranchesRise arms.now }
     requires passages { IsStub module.now text.now entries →
         All (IsPassage module.now text.now) passages.now.list.items }
     ensures { IsStub module.now text.now entries → result ≡ noted (flow_with module.now text.now arms.now
         (point_of pc returns.now label.now)).reasons None }
 {
-    let insn = met_of(module, text, table, pc);
-    match crossing_of(module, text, &insn, arms, pc, label) {
+    match crossing_of(module, text, arms, pc, label) {
         Some(crossing) => cause_of_arms(
-            module, text, table, entries, passages, own, &crossing, pc, label, returns,
+            module, text, entries, passages, own, &crossing, pc, label, returns,
         ),
         None => {
             let mut stepped = Stepped::new(returns);
             let mut label = *label;
-            step_base(module, text, &insn, entries, pc, &mut label, &mut stepped);
+            step_base(module, text, entries, pc, &mut label, &mut stepped);
             stepped.least
         }
     }

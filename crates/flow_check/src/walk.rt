@@ -11,6 +11,7 @@ ghost use Rattle.flow_check.specs.Pairs.{IsStub};
 ghost use Rattle.flow_check.specs.Walks.{told, point_at};
 
 use crate::blot::{blot_registers, blot_words};
+use crate::needs::Sources;
 use crate::reach::reaches;
 use crate::returns::Returns;
 use crate::step::{Cause, Stepped, Targets, note, note_if};
@@ -70,13 +71,14 @@ fn is_lost(module: &Module, join: u16, next: u16) -> bool
 }
 
 /// Does the arm's instruction at this place, and tells whether the arm goes on.
-pub fn walk_on(
+fn walk_on(
     module: &Module,
     text: &[u8],
     entries: Option<u16>,
     join: u16,
     place: &mut Place,
     tally: &mut Tally,
+    sources: &mut Sources,
 ) -> bool
     requires few { IfSome entries (λ n. n ≤ 64) }
     requires before { place.old.pc ≢ join }
@@ -96,11 +98,12 @@ pub fn walk_on(
         return false;
     };
     let reaches = reaches(&insn, place.pc, &place.label.core);
+    let reached = reaches.as_slice();
+    sources.follow(module, &insn, reached);
     let mut stepped = Stepped::new(&place.returns);
     step_base(
         module,
         text,
-        &Some(insn),
         entries,
         place.pc,
         &mut place.label,
@@ -112,47 +115,19 @@ pub fn walk_on(
     }
     match first_of(&stepped.targets) {
         Some(to) => {
-            tell(module, &insn, reaches.as_slice(), cycles(&insn), tally);
+            tell(module, &insn, reached, cycles(&insn), tally);
             place.pc = to;
             place.label.core[0] = Val::Known(to);
             place.returns = stepped.returns;
             true
         }
         None => {
+            sources.leave();
             let lost = is_lost(module, join, next);
             note_if(lost, &mut tally.least, Reason::Arm, next);
             false
         }
     }
-}
-
-/// Walks from a place to the join, for at most so many steps.
-pub fn walk_from(
-    module: &Module,
-    text: &[u8],
-    entries: Option<u16>,
-    join: u16,
-    place: &mut Place,
-    most: u32,
-    tally: &mut Tally,
-)
-    requires few { IfSome entries (λ n. n ≤ 64) }
-    requires short { tally.old.cycles + 255 * most ≤ 255 * 65536 }
-    ensures { IsStub module.now text.now entries → (branch : ℕ) →
-        tally.new ≡ told (walk (flow_step module.now text.now) module.now text.now branch join most
-        (point_at place.old)) tally.old }
-{
-    let mut left = most;
-    while left > 0 {
-        if place.pc == join {
-            return;
-        }
-        if !walk_on(module, text, entries, join, place, tally) {
-            return;
-        }
-        left -= 1;
-    }
-    note(&mut tally.least, Reason::Arm, place.pc);
 }
 
 /// Walks from a place to the join. Each instruction of an arm goes up, so there are no more than addresses up to the
@@ -164,6 +139,7 @@ pub fn walk(
     join: u16,
     from: &Place,
     tally: &mut Tally,
+    sources: &mut Sources,
 )
     requires few { IfSome entries (λ n. n ≤ 64) }
     requires start { tally.old.cycles ≡ 0 }
@@ -171,7 +147,17 @@ pub fn walk(
         tally.new ≡ told (walk (flow_step module.now text.now) module.now text.now branch join (suc join)
         (point_at from.now)) tally.old }
 {
+    sources.begin();
     let mut place = *from;
-    let most = u32::from(join) + 1;
-    walk_from(module, text, entries, join, &mut place, most, tally);
+    let mut left = u32::from(join) + 1;
+    while left > 0 {
+        if place.pc == join {
+            return;
+        }
+        if !walk_on(module, text, entries, join, &mut place, tally, sources) {
+            return;
+        }
+        left -= 1;
+    }
+    note(&mut tally.least, Reason::Arm, place.pc);
 }

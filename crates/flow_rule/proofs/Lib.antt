@@ -19,3 +19,5 @@ pub mod Overlays
 pub mod Absorbing
 pub mod AbsorbingDone
 pub mod Resting
+pub mod Ends
+pub mod OneVerdict

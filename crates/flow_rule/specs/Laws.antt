@@ -30,3 +30,11 @@ EvennessWithArms = (given : ℕ) (m : Module) (text : List ℕ) (arms : List Arm
 -- without certificates the verdict is that of the rule without them
 abbrev pub WithoutArms : Type 0
 WithoutArms = (m : Module) (text : List ℕ) (v : Verdict) → VerdictWith m text [] v ↔ VerdictOf m text v
+
+-- every text has a verdict, under any certificates: the rounds end
+abbrev pub SomeVerdict : Type 0
+SomeVerdict = (m : Module) (text : List ℕ) (arms : List Arm) → (v : Verdict) × VerdictWith m text arms v
+
+-- and no other
+abbrev pub OneVerdict : Type 0
+OneVerdict = (m : Module) (text : List ℕ) (arms : List Arm) (v w : Verdict) → VerdictWith m text arms v → VerdictWith m text arms w → v ≡ w

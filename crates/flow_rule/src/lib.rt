@@ -2,7 +2,7 @@
 #![tactic(auto)]
 
 ghost use Rattle.flow_rule.specs.Absorbs.{ArmsRest};
-ghost use Rattle.flow_rule.specs.Laws.{Evenness, EvennessWithArms, WithoutArms};
+ghost use Rattle.flow_rule.specs.Laws.{Evenness, EvennessWithArms, WithoutArms, SomeVerdict, OneVerdict};
 
 use pc_access::Kind;
 use sm_words::Width;
@@ -88,4 +88,10 @@ pub fn without_arms()
 /// What no reason says of a branch's arms under a label holds of every label that it absorbs.
 pub fn arms_rest()
     ensures rest { ArmsRest }
+{}
+
+/// Every text has one verdict, whatever the module and the certificates.
+pub fn one_verdict()
+    ensures some { SomeVerdict }
+    ensures one { OneVerdict }
 {}

@@ -1,16 +1,39 @@
--- Which case a cycle ends in.
-use Rattle.std.specs.Prelude.{zero, suc, Bool, true, false}
+-- What a cycle ends in.
+use Rattle.std.specs.Prelude.{ℕ, zero, suc, ◌-◌, Bool, true, Option, Some, None}
 use Rattle.reg_backup.specs.declared.backup.Phase.{Phase}
 use Rattle.reg_backup.specs.declared.backup.Phase.TheVariants.{Run, Pad as Padding}
-use Rattle.irq_padding.specs.declared.turn.Turn.{Turn}
+use Rattle.irq_padding.specs.declared.turn.Turn.{Turn as Kind}
 use Rattle.irq_padding.specs.declared.turn.Turn.TheVariants.{Pad, Inside, Outside, Wait, Sleep, Begin}
 
--- the first that fits, by whether a vector is raised with GIE set, whether there is room for a frame,
--- whether a module is active, and whether CPUOFF is set
-abbrev pub turn_of : Phase → Bool → Bool → Bool → Bool → Turn
-turn_of (Padding left) raised room inside asleep = Pad
-turn_of (Run rest) true true true asleep = Inside
-turn_of (Run zero) true true false asleep = Outside
-turn_of (Run (suc rest)) raised room inside asleep = Wait
-turn_of (Run zero) raised room false true = Sleep
-turn_of (Run zero) raised room inside asleep = Begin
+-- each with what it needs
+pub data Turn : Type 0 where
+  -- one cycle of padding, after which so many are left
+  Pads : (left : ℕ) → Turn
+  -- a vector arrives while this module is active, at any cycle of its instruction
+  InterruptsModule : (vector id : ℕ) → Turn
+  -- a vector arrives outside, between two instructions
+  InterruptsOutside : (vector : ℕ) → Turn
+  -- one cycle of an instruction that was begun, after which so many are left
+  Continues : (rest : ℕ) → Turn
+  -- the processor is off
+  Sleeps : Turn
+  -- an instruction begins
+  Begins : Turn
+
+-- the first that fits, by the vector that is due, the active module, and whether CPUOFF is set
+abbrev pub turn_of : Phase → (due active : Option ℕ) → (off : Bool) → Turn
+turn_of (Padding left) due active off = Pads (left - 1)
+turn_of (Run rest) (Some vector) (Some id) off = InterruptsModule vector id
+turn_of (Run zero) (Some vector) None off = InterruptsOutside vector
+turn_of (Run (suc rest)) due active off = Continues rest
+turn_of (Run zero) None None true = Sleeps
+turn_of (Run zero) None active off = Begins
+
+-- the kind alone
+abbrev pub kind_of : Turn → Kind
+kind_of (Pads left) = Pad
+kind_of (InterruptsModule vector id) = Inside
+kind_of (InterruptsOutside vector) = Outside
+kind_of (Continues rest) = Wait
+kind_of Sleeps = Sleep
+kind_of Begins = Begin

@@ -6,25 +6,22 @@ use Rattle.std.specs.Prelude.{codes}
 use Rattle.std.specs.Fmt.{decimal}
 use Rattle.std.specs.List.{slice_get}
 use Rattle.std.specs.Option.{option_and_then}
-use Rattle.written_machine.specs.Cycle.{cycle, after_cycles}
-use Rattle.written_machine.specs.Marks.{Marked, unmarked, at_state, cut_at, last_from}
+use Rattle.written_machine.specs.Cycle.{after_cycles}
+use Rattle.written_machine.specs.Marks.{Marked, at_state, cut_at, last_from}
 use Rattle.written_machine.specs.Peers.{Peers}
 use Rattle.written_machine.specs.Script.{Move, regs_text, mem_text, mark_text, back_text, no_mark_text, last_text, not_there_text, at_cycle, cycle_moves, mark_move, back_move, last_move, line_moves, led, moves, text_of, play}
 use Rattle.written_machine.specs.Standing.{stands_at, one_more_unless, cycles_until, this_or, last_standing}
 use Rattle.written_machine.specs.State.{State}
-use Rattle.written_machine.specs.View.{boot, at}
+use Rattle.written_machine.specs.View.{at}
 use Rattle.written_machine.specs.declared.ScriptLine.{ScriptLine}
 use Rattle.written_machine.specs.declared.ScriptLine.TheVariants.{Go, Until, Regs, Mem, Mark, Back, Last}
-use Rattle.std.proofs.Common.{◌≡◌, ℕ, zero, suc, ◌+◌, ◌-◌, List, [], ◌∷◌, ◌++◌, map, take, refl, sym, ap, ◌∙◌, Bool, true, false, nat_lt, cond, Option, Some, None, option_map}
+use Rattle.std.proofs.Common.{◌≡◌, ℕ, zero, suc, ◌+◌, ◌-◌, List, [], ◌∷◌, ◌++◌, take, refl, sym, ap, ◌∙◌, Bool, true, false, nat_lt, cond, Option, Some, None, option_map}
 use Rattle.std.proofs.lemmas.List.{map-append, length-map, take-map}
 use Rattle.std.proofs.lemmas.Option.{slice_get-map}
-use Rattle.isolation.proofs.Moves.{text_append, led_cycles, text_cycles}
+use Rattle.isolation.specs.Moments.{moment}
+use Rattle.isolation.proofs.Moves.{text_append, led_append, led_cycles, text_cycles}
 use Rattle.isolation.proofs.Telling.{cycles_same, lines_from, ends_same, stands_same, outside_equal}
 use Rattle.isolation.proofs.Follow.{after_more}
-
--- an image's machine after k cycles, with marks after so many cycles each
-abbrev moment : Image → List Scheduled → ℕ → ℕ → List ℕ → Marked
-moment i schedule most k ks = record { present = at i schedule k; most = most; marks = map (at i schedule) ks }
 
 -- a text with a cycle number, by the number
 at_cycle_same : (x y : Marked) → x.present.cycle ≡ y.present.cycle → at_cycle x ≡ at_cycle y
@@ -184,15 +181,31 @@ module _ (a b : Image) (m : ℕ) (schedule : List Scheduled) (peers : Peers a b 
   line_same (Last addr j) k ks = last_same addr j k ks
 
   -- ---- a script
-  plays_from : (ls : List ScriptLine) (k : ℕ) (ks : List ℕ) → text_of (moves (at_a k ks) ls) ≡ text_of (moves (at_b k ks) ls)
-  plays_from [] k ks = ap (λ t. t ++ []) (ends_same a b m schedule peers k)
-  plays_from (l ∷ ls) k ks =
+  pub plays_equal : (ls : List ScriptLine) (k : ℕ) (ks : List ℕ) → play (at_a k ks) ls ≡ play (at_b k ks) ls
+  plays_equal [] k ks = ap (λ t. t ++ []) (ends_same a b m schedule peers k)
+  plays_equal (l ∷ ls) k ks =
       let x = at_a k ks in
       let y = at_b k ks in
       let h = line_same l k ks in
       let first = text_append (line_moves x l) (moves (led x (line_moves x l)) ls) in
       let second = text_append (line_moves y l) (moves (led y (line_moves y l)) ls) in
-      rw (first, second, h.text, h.leads.one, h.leads.other, plays_from ls h.leads.number h.leads.numbers) refl
+      rw (first, second, h.text, h.leads.one, h.leads.other, plays_equal ls h.leads.number h.leads.numbers) refl
 
-  pub plays_equal : (ls : List ScriptLine) → play (unmarked most (boot a schedule)) ls ≡ play (unmarked most (boot b schedule)) ls
-  plays_equal ls = plays_from ls 0 []
+  -- and where it leads
+  leads_alike : (ls : List ScriptLine) (k : ℕ) (ks : List ℕ) → Alike (led (at_a k ks) (moves (at_a k ks) ls)) (led (at_b k ks) (moves (at_b k ks) ls))
+  leads_alike [] k ks = still k ks
+  leads_alike (l ∷ ls) k ks =
+      let x = at_a k ks in
+      let y = at_b k ks in
+      let h = (line_same l k ks).leads in
+      let rest = leads_alike ls h.number h.numbers in
+      record {
+        number = rest.number;
+        numbers = rest.numbers;
+        one = led_append x (line_moves x l) (moves (led x (line_moves x l)) ls) ∙ ap (λ g. led g (moves g ls)) h.one ∙ rest.one;
+        other = led_append y (line_moves y l) (moves (led y (line_moves y l)) ls) ∙ ap (λ g. led g (moves g ls)) h.other ∙ rest.other;
+      }
+
+  pub leads_equal : (ls : List ScriptLine) (k : ℕ) (ks : List ℕ)
+      → (after : ℕ) × (marked : List ℕ) × (led (at_a k ks) (moves (at_a k ks) ls) ≡ at_a after marked) × (led (at_b k ks) (moves (at_b k ks) ls) ≡ at_b after marked)
+  leads_equal ls k ks = let h = leads_alike ls k ks in (h.number, h.numbers, h.one, h.other)

@@ -18,14 +18,14 @@ use Rattle.written_machine.specs.Checks.{refused_in}
 use Rattle.written_machine.specs.Cycle.{cycle, after_cycles}
 use Rattle.written_machine.specs.Passing.{OnlyPass, Leads, passed}
 use Rattle.written_machine.specs.Peers.{Peers}
-use Rattle.written_machine.specs.Marks.{unmarked}
-use Rattle.written_machine.specs.Script.{play}
+use Rattle.written_machine.specs.Script.{play, led, moves}
 use Rattle.written_machine.specs.Standing.{stands_at}
 use Rattle.written_machine.specs.State.{State}
 use Rattle.written_machine.specs.Trace.{end_line_of, lines_after, trace}
-use Rattle.written_machine.specs.View.{view_of, at, boot}
+use Rattle.written_machine.specs.View.{view_of, at}
 use Rattle.written_machine.specs.declared.Hidden.TheVariants.{All as AllHidden, Only}
 use Rattle.written_machine.specs.declared.ScriptLine.{ScriptLine}
+use Rattle.isolation.specs.Moments.{moment}
 use Rattle.isolation.specs.Calls.{Enters, Ends, Hides, Handles, stop_in, UnderWay, entry_state, entry_job, entry_lone, worked, NotBroken, Takes, Stands, times, away}
 use Rattle.sm_words.specs.Status.{is_gie}
 
@@ -87,10 +87,17 @@ abbrev pub SameEnds : Type 0
 SameEnds = (a b : Image) (m : ℕ) (schedule : List Entry) (k : ℕ) → Peers a b m →
     end_line_of (at a schedule k) ≡ end_line_of (at b schedule k)
 
--- A script writes one text, however many marks it may use.
+-- A script writes one text, after any number of cycles, with marks after any numbers of cycles, and however many marks it may use.
 abbrev pub SamePlays : Type 0
-SamePlays = (a b : Image) (m : ℕ) (schedule : List Entry) (most : ℕ) (script : List ScriptLine) → Peers a b m →
-    play (unmarked most (boot a schedule)) script ≡ play (unmarked most (boot b schedule)) script
+SamePlays = (a b : Image) (m : ℕ) (schedule : List Entry) (most k : ℕ) (ks : List ℕ) (script : List ScriptLine) → Peers a b m →
+    play (moment a schedule most k ks) script ≡ play (moment b schedule most k ks) script
+
+-- And it leads both to moments after the same cycles, with marks after the same, from which they play the next script alike.
+abbrev pub SameLeads : Type 0
+SameLeads = (a b : Image) (m : ℕ) (schedule : List Entry) (most k : ℕ) (ks : List ℕ) (script : List ScriptLine) → Peers a b m →
+    (let x = moment a schedule most k ks in
+    let y = moment b schedule most k ks in
+    (after : ℕ) × (marked : List ℕ) × (led x (moves x script) ≡ moment a schedule most after marked) × (led y (moves y script) ≡ moment b schedule most after marked))
 
 -- ---- one run of one image
 

@@ -4,7 +4,7 @@
 //! Each law is what a function here ensures; `specs/Laws.antt` states them in words.
 #![tactic(auto)]
 
-ghost use Rattle.isolation.specs.Laws.{SameViews, SameEvents, SamePhases, SameCallers, SameGie, SameOnceGone, SameTraces, SameLines, SameEnds, SameOutsideViews, SameStanding, SamePlays, EnteredIsKnown, Transparency, Cost, HandlerAfterHide, HideBeforeHandler, Numbered, CoreKept, MemoryFull, MemoryBytes, TableKept, ModuleOnce, FramesFew, Passing, EventsFew, StopTold, StopRefused, TextReadable, ZerosWritable};
+ghost use Rattle.isolation.specs.Laws.{SameViews, SameEvents, SamePhases, SameCallers, SameGie, SameOnceGone, SameTraces, SameLines, SameEnds, SameOutsideViews, SameStanding, SamePlays, SameLeads, EnteredIsKnown, Transparency, Cost, HandlerAfterHide, HideBeforeHandler, Numbered, CoreKept, MemoryFull, MemoryBytes, TableKept, ModuleOnce, FramesFew, Passing, EventsFew, StopTold, StopRefused, TextReadable, ZerosWritable};
 
 /// Two runs of peers are seen alike by all but the one module, and tell the same, in every cycle of every schedule.
 pub fn two_runs()
@@ -24,6 +24,7 @@ pub fn texts()
     ensures outside { SameOutsideViews }
     ensures stands { SameStanding }
     ensures scripts { SamePlays }
+    ensures leads { SameLeads }
 {}
 
 /// A module that is interrupted does what it does by itself.

@@ -47,6 +47,10 @@ pub record Links (layout : LayoutValue) (objects : List ObjectValue) (image : Im
   pub key : image.node_key ≡ layout.key
   pub handler : image.handler_sp ≡ layout.handler_sp
 
+-- which is this one
+unfoldable pub linked_image : LayoutValue → List ObjectValue → Image
+linked_image layout objects = record { memory = linked_memory layout objects; table = linked_table layout objects; node_key = layout.key; handler_sp = layout.handler_sp }
+
 -- the ids of a table are those from 1 on, all of them held
 pub record Held (t : Table) : Type 0 where
   pub numbered_from_1 : AreNumbered 1 t.modules

@@ -200,5 +200,5 @@ module _ {S : Type 0} (taken : S → Option (List ℕ)) (faults sure : S → ℕ
   took_text script old new before after ran.SinkFailed h = h.cut
 
   pub peers_play : SamePlays → (script : List ScriptLine) (old new : Marked) (before after : S) (r : Ran) → Plays taken faults sure script old new before after r → PeersPlay taken faults sure script old before after r
-  peers_play law script old new before after r h a b m schedule most peers is =
-      subst (TookLines taken faults sure r before after) (ap (λ g. play g script) is ∙ law a b m schedule most script peers) (took_text script old new before after r h)
+  peers_play law script old new before after r h a b m schedule most k ks peers is =
+      subst (TookLines taken faults sure r before after) (ap (λ g. play g script) is ∙ law a b m schedule most k ks script peers) (took_text script old new before after r h)

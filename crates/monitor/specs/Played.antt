@@ -5,11 +5,11 @@ use Rattle.schedule_file.specs.declared.Entry.{Entry}
 use Rattle.image_text.specs.Image.{Image}
 use Rattle.sm_io.specs.Sink.{Took, CutOff}
 use Rattle.sm_io.specs.declared.sink.Failed.{Failed}
-use Rattle.written_machine.specs.Marks.{Marked, unmarked}
+use Rattle.written_machine.specs.Marks.{Marked}
 use Rattle.written_machine.specs.Peers.{Peers}
 use Rattle.written_machine.specs.Script.{Move, led, moves, text_of, play}
-use Rattle.written_machine.specs.View.{boot}
 use Rattle.written_machine.specs.declared.ScriptLine.{ScriptLine}
+use Rattle.isolation.specs.Moments.{moment}
 use Rattle.board.specs.declared.Ran.{Ran}
 use Rattle.board.specs.declared.Ran.TheVariants as ran
 use Rattle.board.specs.Alike.{TookLines}
@@ -44,7 +44,8 @@ module _ {S : Type 0} (taken : S → Option (List ℕ)) (faults sure : S → ℕ
   Plays script old new before after (ran.Stopped stop) = Whole old new before after (moves old script) × (new.present.stop ≡ Some stop)
   Plays script old new before after ran.SinkFailed = CutShort new before after (moves old script)
 
-  -- where the board stands at the boot of an image, the sink took what the script writes for each peer, or failed within it
+  -- where the board stands after k cycles of an image, with marks after so many cycles each, the sink took what the script
+  -- writes there for each peer, or failed within it
   abbrev pub PeersPlay : List ScriptLine → Marked → S → S → Ran → Type 0
-  PeersPlay script old before after ended = (a b : Image) (m : ℕ) (schedule : List Entry) (most : ℕ) → Peers a b m → old ≡ unmarked most (boot a schedule)
-      → TookLines taken faults sure ended before after (play (unmarked most (boot b schedule)) script)
+  PeersPlay script old before after ended = (a b : Image) (m : ℕ) (schedule : List Entry) (most k : ℕ) (ks : List ℕ) → Peers a b m
+      → old ≡ moment a schedule most k ks → TookLines taken faults sure ended before after (play (moment b schedule most k ks) script)

@@ -7,7 +7,6 @@ pub mod Needed
 pub mod Objects
 pub mod OneContent
 pub mod OneValue
-pub mod OneVerdict
 pub mod Running
 pub mod Serving
 pub mod Symbols

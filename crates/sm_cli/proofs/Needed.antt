@@ -10,9 +10,10 @@ use Rattle.sm_cli.specs.declared.answers.FileFault.{FileFault}
 use Rattle.sm_cli.specs.declared.answers.FileFault.TheVariants as fault
 use Rattle.sm_cli.specs.Files.{Held, IsHeld, most_bytes, HasFault, Need, Holds, HoldAll, IsFirstFault}
 use Rattle.sm_cli.specs.Command.{Command, Outcome, gives, refuses, judges, Answer, Comes, IsAnswer, verdict_answer, Answers}
-use Rattle.sm_cli.specs.Laws.{IsDecided}
+use Rattle.sm_cli.specs.Laws.{IsDecided, IsAnswered}
 use Rattle.sm_cli.proofs.OneContent.{one_held, accepted, examined}
-use Rattle.sm_cli.proofs.OneVerdict.{one_verdict}
+use Rattle.flow_rule.proofs.Ends.{some_verdict}
+use Rattle.flow_rule.proofs.OneVerdict.{one_verdict}
 
 -- Outcomes
 
@@ -108,3 +109,11 @@ module _ (map : FileMap) where
 
 pub decided : IsDecided
 decided map command = ⊎_elim (λ h. inl (command.outcome h.0, record { helds = h.0; hold = h.1; is = refl })) (λ f. inr f) (all_found map command.needs)
+
+-- an answer comes of what comes of files, since every text has a verdict
+pub answered : IsAnswered
+answered map command (gives own) c = inl (own, record { outcome = gives own; comes = c; is = refl })
+answered map command (judges owner text arms) c =
+    let v = some_verdict (flow_with owner text arms) (start_of owner text) owner.text.start in
+    inl (verdict_answer v.0, record { outcome = judges owner text arms; comes = c; is = record { verdict = v.0; is = v.1; tells = refl } })
+answered map command (refuses fault name) c = inr (fault, name, refl)

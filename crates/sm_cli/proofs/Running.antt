@@ -12,12 +12,12 @@ use Rattle.layout_file.specs.Values.{LayoutValue}
 use Rattle.elf_objects.specs.Object.{ObjectValue}
 use Rattle.linker.specs.declared.fault.LinkFault.{LinkFault}
 use Rattle.mod_layout.specs.Table.{Table}
-use Rattle.linker.specs.Image.{linked_memory, linked_table, Links}
+use Rattle.linker.specs.Image.{linked_memory, linked_table, linked_image, Links}
 use Rattle.linker.specs.Refusals.{link_fault_of}
 use Rattle.sm_cli.specs.declared.answers.Refusal.{Refusal}
 use Rattle.sm_cli.specs.declared.answers.Refusal.TheVariants as refusal
 use Rattle.sm_cli.specs.ImageCommand.{image_command, trace_answer}
-use Rattle.sm_cli.specs.LinkCommand.{link_command, objects_in, linked, linked_by, linked_image, text_answer}
+use Rattle.sm_cli.specs.LinkCommand.{link_command, objects_in, linked, linked_by, text_answer}
 use Rattle.written_machine.specs.declared.ScriptLine.{ScriptLine}
 use Rattle.sm_cli.specs.MonitorCommand.{monitor_command, script_answer}
 use Rattle.sm_cli.specs.RunCommand.{run_command}

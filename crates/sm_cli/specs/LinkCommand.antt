@@ -5,7 +5,7 @@ use Rattle.image_text.specs.ImageText.{image_text}
 use Rattle.layout_file.specs.Values.{LayoutValue}
 use Rattle.elf_objects.specs.Object.{ObjectValue}
 use Rattle.linker.specs.declared.fault.LinkFault.{LinkFault}
-use Rattle.linker.specs.Image.{linked_memory, linked_table}
+pub use Rattle.linker.specs.Image.{linked_image}
 use Rattle.linker.specs.Refusals.{link_fault_of}
 use Rattle.sm_cli.specs.declared.answers.Status.TheVariants as status
 use Rattle.sm_cli.specs.declared.commands.link.LinkCommand.{LinkCommand}
@@ -19,9 +19,6 @@ use Rattle.std.specs.Prelude.{map}
 abbrev pub objects_in : List Held → List ObjectValue
 objects_in (an_object object ∷ more) = object ∷ objects_in more
 objects_in _ = []
-
-unfoldable pub linked_image : LayoutValue → List ObjectValue → Image
-linked_image layout objects = record { memory = linked_memory layout objects; table = linked_table layout objects; node_key = layout.key; handler_sp = layout.handler_sp }
 
 abbrev pub linked_by : LayoutValue → List ObjectValue → (Image → Answer) → Option LinkFault → Outcome
 linked_by layout objects answer None = gives (answer (linked_image layout objects))

@@ -1,9 +1,10 @@
 //! The laws of a command's files and of workloads, the contracts of functions that do nothing.
-ghost use Rattle.sm_cli.specs.Laws.{IsDecided, RunsAreAlike};
+ghost use Rattle.sm_cli.specs.Laws.{IsDecided, IsAnswered, RunsAreAlike};
 
 /// Whatever the files are that are told, a command is answered, or one of its files is refused.
 pub fn every_command()
     ensures decided { IsDecided }
+    ensures answered { IsAnswered }
 {}
 
 /// The runs of a seed are told alike, whatever their module's data, and so both runs of `make`.

@@ -12,8 +12,7 @@ use Rattle.pc_access.specs.declared.Access.{Access}
 use Rattle.pc_access.specs.declared.Denied.{Denied}
 use Rattle.pc_access.specs.declared.Rule.TheVariants.{RetiInside, Straddle, Illegal}
 use Rattle.pc_access.specs.declared.Stop.{Stop}
-use Rattle.irq_padding.specs.declared.turn.Turn.{Turn}
-use Rattle.irq_padding.specs.declared.turn.Turn.TheVariants.{Outside, Begin}
+use Rattle.irq_padding.specs.Turns.{Turn, InterruptsOutside, Begins}
 use Rattle.reg_backup.specs.Held.{held_ids}
 use Rattle.reg_backup.specs.declared.frames.Frame.{Frame}
 use Rattle.reg_backup.specs.declared.frames.Frame.TheVariants.{Module as Held}
@@ -76,10 +75,10 @@ insn_checks s = check_of s.active s (fetch s) ∷ later_checks (entered s)
 
 -- ---- a cycle
 
--- by its case: the pushes of an interrupt of the outside, or an instruction that begins
+-- by what it ends in: the pushes of an interrupt of the outside, or an instruction that begins
 abbrev pub checks_by : Turn → State → List (Option Denied)
-checks_by Outside s = map (check_of None s) (pushes s)
-checks_by Begin s = insn_checks s
+checks_by (InterruptsOutside vector) s = map (check_of None s) (pushes s)
+checks_by Begins s = insn_checks s
 checks_by _ s = []
 
 -- the checks of a settled cycle

@@ -1,5 +1,5 @@
 -- One cycle of the machine, by its steps.
-use Rattle.std.specs.Prelude.{ℕ, zero, suc, ◌+◌, ◌-◌, ◌*◌, List, [], ◌∷◌, ◌++◌, length, slice_index, ◌==◌, nat_lt, if◌then◌else◌, Bool, true, false, ◌&&◌, ◌||◌, not, Option, Some, None, is_some, unwrap_or, replicate}
+use Rattle.std.specs.Prelude.{ℕ, zero, suc, ◌+◌, ◌-◌, ◌*◌, List, [], ◌∷◌, ◌++◌, length, slice_index, ◌==◌, nat_lt, if◌then◌else◌, Bool, true, false, ◌&&◌, ◌||◌, not, Option, Some, None, replicate}
 use Rattle.sm_words.specs.Status.{interrupted_sr, is_cpu_off, is_gie}
 use Rattle.sm_words.specs.Words.{reg, put, sub16, word_at, cleared}
 use Rattle.sm_words.specs.declared.registers.TheConstants.{PC, SP, SR}
@@ -22,9 +22,7 @@ use Rattle.pc_access.specs.declared.Rule.TheVariants.{RetiInside, Straddle, Ille
 use Rattle.pc_access.specs.declared.Stop.{Stop}
 use Rattle.devices.specs.Devices.{ticked_devices, line_of, accepted}
 use Rattle.irq_padding.specs.Padding.{padding}
-use Rattle.irq_padding.specs.Turns.{turn_of}
-use Rattle.irq_padding.specs.declared.turn.Turn.{Turn}
-use Rattle.irq_padding.specs.declared.turn.Turn.TheVariants.{Pad as PadTurn, Inside, Outside, Wait, Sleep, Begin}
+use Rattle.irq_padding.specs.Turns.{Turn, Pads, InterruptsModule, InterruptsOutside, Continues, Sleeps, Begins, turn_of}
 use Rattle.reg_backup.specs.Held.{held_ids}
 use Rattle.reg_backup.specs.Saved.{closing_after, saved}
 use Rattle.reg_backup.specs.declared.backup.After.{After}
@@ -142,15 +140,11 @@ abbrev pub vector_if : Bool → Option ℕ → Option ℕ
 vector_if true v = v
 vector_if false v = None
 
--- the raised vector, where GIE is set
-unfoldable pub raised : State → Option ℕ
-raised s = vector_if (is_gie s.core) (line_of s.devices)
-
 -- whether there is room for a frame
 abbrev pub has_room : State → Bool
 has_room s = nat_lt (length s.frames) MOST_FRAMES
 
--- the vector that arrives where the phase lets it: the raised one, where there is room for its frame
+-- the vector that arrives where the phase lets it: the raised one, where GIE is set and there is room for its frame
 unfoldable pub due : State → Option ℕ
 due s = vector_if (is_gie s.core && has_room s) (line_of s.devices)
 
@@ -328,42 +322,32 @@ begin_unless None left s = let e = enter left s in told e.events (act e.state)
 unfoldable pub begin : ℕ → State → Step
 begin left s = begin_unless (right s.table s.active (held_ids s.frames) (fetch s)) left s
 
--- ---- the cases of a cycle
+-- ---- what a cycle ends in
 
 -- with so many cycles of padding left; with none the handler is settled
 abbrev pub padded : ℕ → State → State
 padded left s = let p = padding left in record s { phase = p.0; after = p.1 }
 
--- the cycles of padding that are left
-abbrev pub padding_left : Phase → ℕ
-padding_left (Pad left) = left
-padding_left (Run rest) = 0
-
--- one cycle of the instruction less
-abbrev pub waited : Phase → Phase
-waited (Run (suc rest)) = Run rest
-waited phase = phase
-
 -- whether the processor is off
 abbrev pub asleep : State → Bool
 asleep s = is_cpu_off s.core
 
--- the case that a settled cycle ends in
-abbrev pub case_of : State → Turn
-case_of s = turn_of s.phase (is_some (raised s)) (has_room s) (is_some s.active) (asleep s)
-
--- what each case does, by the raised vector, the active module and the phase, where left is the module left in this cycle, or 0
-abbrev pub turn_by : Turn → Option ℕ → Option ℕ → Phase → ℕ → State → Step
-turn_by PadTurn vector active phase left s = quiet (padded (padding_left phase - 1) s)
-turn_by Inside vector active phase left s = arrive_inside (unwrap_or vector 0) (unwrap_or active 0) s
-turn_by Outside vector active phase left s = arrive_outside (unwrap_or vector 0) s
-turn_by Wait vector active phase left s = quiet (record s { phase = waited phase })
-turn_by Sleep vector active phase left s = quiet s
-turn_by Begin vector active phase left s = begin left s
-
 -- what a settled cycle ends in
+abbrev pub case_of : State → Turn
+case_of s = turn_of s.phase (due s) s.active (asleep s)
+
+-- by what it is, where left is the module left in this cycle, or 0
+abbrev pub turn_by : Turn → ℕ → State → Step
+turn_by (Pads n) left s = quiet (padded n s)
+turn_by (InterruptsModule vector id) left s = arrive_inside vector id s
+turn_by (InterruptsOutside vector) left s = arrive_outside vector s
+turn_by (Continues rest) left s = quiet (record s { phase = Run rest })
+turn_by Sleeps left s = quiet s
+turn_by Begins left s = begin left s
+
+-- the end of a settled cycle
 unfoldable pub turn : ℕ → State → Step
-turn left s = turn_by (case_of s) (raised s) s.active s.phase left s
+turn left s = turn_by (case_of s) left s
 
 -- the byte sent in this cycle, before a stop's line
 abbrev pub sent_event : Option ℕ → List Event

@@ -23,10 +23,10 @@ returns-clause-least c = λ stub.
     let wide : c.from.result ≡ b.arm.join = omega arith in
     let wanted : c.from-wanted.result ≡ b.arm.cycles = omega arith in
     crossing_least S m text b.insn b.target b.arm x t0 c.walk.new.tally c.walk-2.new.tally refl
-    (c.walk.ensures stub c.args.pc ∙ ap (λ y. told (walk S m text c.args.pc b.arm.join (suc b.arm.join) y) t0) c.first_arm-first.ensures)
-    (c.walk-2.ensures stub c.args.pc ∙ ap (λ y. told (walk S m text c.args.pc b.arm.join (suc b.arm.join) y) (record c.walk.new.tally { cycles = 0 })) c.second_arm-second.ensures)
+    (λ branch. c.walk.ensures stub branch ∙ ap (λ y. told (walk S m text branch b.arm.join (suc b.arm.join) y) t0) c.first_arm-first.ensures)
+    (λ branch. c.walk-2.ensures stub branch ∙ ap (λ y. told (walk S m text branch b.arm.join (suc b.arm.join) y) (record c.walk.new.tally { cycles = 0 })) c.second_arm-second.ensures)
     c.args.least.now c.note_if-2.new.least c.note_if-3.new.least
-    (c.note_if.ensures c.args.pc ∙ ap (λ b. noted (because_if (not b) c.args.pc ArmInsn c.args.crossing.now.arm.join) c.args.least.now) (c.holds-apart.ensures.exact ∙ ap (holds m.text) wide))
+    (λ pc. c.note_if.ensures pc ∙ ap (λ b. noted (because_if (not b) pc ArmInsn c.args.crossing.now.arm.join) c.args.least.now) (c.holds-apart.ensures.exact ∙ ap (holds m.text) wide))
     (λ pc. c.note_if-2.ensures pc ∙ ap (λ n. noted (because_if (not (c.walk.new.tally.cycles == n)) pc ArmTime 0) c.walk-2.new.tally.least) wanted)
     (λ pc. c.note_if-3.ensures pc ∙ ap (λ n. noted (because_if (not (c.walk-2.new.tally.cycles == n)) pc ArmTime 1) c.note_if-2.new.least) wanted)
 
@@ -39,5 +39,5 @@ returns-clause-told c = λ stub.
     let x : Point = point_of c.args.pc c.args.returns.now c.args.label.now in
     let t0 : Tally = record { least = c.note_if.new.least; cycles = 0; label = c.args.told.now } in
     crossing_told S m text b.insn b.target b.arm x t0 c.walk.new.tally c.walk-2.new.tally refl
-    (c.walk.ensures stub c.args.pc ∙ ap (λ y. told (walk S m text c.args.pc b.arm.join (suc b.arm.join) y) t0) c.first_arm-first.ensures)
-    (c.walk-2.ensures stub c.args.pc ∙ ap (λ y. told (walk S m text c.args.pc b.arm.join (suc b.arm.join) y) (record c.walk.new.tally { cycles = 0 })) c.second_arm-second.ensures)
+    (λ branch. c.walk.ensures stub branch ∙ ap (λ y. told (walk S m text branch b.arm.join (suc b.arm.join) y) t0) c.first_arm-first.ensures)
+    (λ branch. c.walk-2.ensures stub branch ∙ ap (λ y. told (walk S m text branch b.arm.join (suc b.arm.join) y) (record c.walk.new.tally { cycles = 0 })) c.second_arm-second.ensures)

@@ -11,15 +11,15 @@ use Rattle.flow_check.proofs.Passing.{crossed_gives, stirred}
 use Rattle.flow_check.proofs.steps.step_with.Goals as goal
 
 pub returns-in-Open-clause-calm : goal.returns-in-Open-clause-calm
-returns-in-Open-clause-calm c = λ _ stub so.
+returns-in-Open-clause-calm c = λ _ stub.
     let m = c.args.module.now in
     let text : List ℕ = c.args.text.now in
     let x : Point = point_of c.args.pc c.args.stepped.now.returns c.args.label.now in
     ap (λ s. s.reasons) (by_crossing (flow_step m text) c.args.arms.now m text x c.in-Some.crossing (sym c.crossing_of.ensures ∙ c.in-Some.is))
-    ∙ (c.in_ok-cross-in-Some.ensures.open c.in-Open.is stub so (list_of c.args.stepped.now.returns)).0
+    ∙ (c.in_ok-cross-in-Some.ensures.open c.in-Open.is stub (list_of c.args.stepped.now.returns)).0
 
 pub returns-in-Open-clause-targets : goal.returns-in-Open-clause-targets
-returns-in-Open-clause-targets c = λ _ stub so.
+returns-in-Open-clause-targets c = λ _ stub.
     let m = c.args.module.now in
     let text : List ℕ = c.args.text.now in
     let x : Point = point_of c.args.pc c.args.stepped.now.returns c.args.label.now in
@@ -27,25 +27,25 @@ returns-in-Open-clause-targets c = λ _ stub so.
     ∙ ap (λ s. addrs_of s.gives) (sym (by_crossing (flow_step m text) c.args.arms.now m text x c.in-Some.crossing (sym c.crossing_of.ensures ∙ c.in-Some.is)))
 
 pub returns-in-Open-clause-gives : goal.returns-in-Open-clause-gives
-returns-in-Open-clause-gives c = λ _ stub so _.
+returns-in-Open-clause-gives c = λ _ stub _.
     let m = c.args.module.now in
     let text : List ℕ = c.args.text.now in
     let x : Point = point_of c.args.pc c.args.stepped.now.returns c.args.label.now in
     crossed_gives m text c.in-Some.crossing x (flow_with m text c.args.arms.now x) c.cross.new.label
     (by_crossing (flow_step m text) c.args.arms.now m text x c.in-Some.crossing (sym c.crossing_of.ensures ∙ c.in-Some.is))
-    (c.in_ok-cross-in-Some.ensures.open c.in-Open.is stub so (list_of c.args.stepped.now.returns)).1
+    (c.in_ok-cross-in-Some.ensures.open c.in-Open.is stub (list_of c.args.stepped.now.returns)).1
 
 pub returns-in-Shut-clause-stirred : goal.returns-in-Shut-clause-stirred
-returns-in-Shut-clause-stirred c = λ _ _ stub so.
+returns-in-Shut-clause-stirred c = λ _ _ stub.
     let m = c.args.module.now in
     let text : List ℕ = c.args.text.now in
     let x : Point = point_of c.args.pc c.args.stepped.now.returns c.args.label.now in
     stirred (flow_with m text c.args.arms.now x) (crossing_step m text c.in-Some.crossing x)
     (by_crossing (flow_step m text) c.args.arms.now m text x c.in-Some.crossing (sym c.crossing_of.ensures ∙ c.in-Some.is))
-    (c.in_ok-cross-in-Some.ensures.shut c.in-Shut.is stub so (list_of c.args.stepped.now.returns))
+    (c.in_ok-cross-in-Some.ensures.shut c.in-Shut.is stub (list_of c.args.stepped.now.returns))
 
 pub returns-in-None-clause-calm : goal.returns-in-None-clause-calm
-returns-in-None-clause-calm c = λ none stub _.
+returns-in-None-clause-calm c = λ none stub.
     let m = c.args.module.now in
     let text : List ℕ = c.args.text.now in
     let S : Point → Step = flow_step m text in
@@ -54,7 +54,7 @@ returns-in-None-clause-calm c = λ none stub _.
     ∙ none_found (S x).reasons (sym (c.step_base.ensures.least stub ∙ ap (noted (S x).reasons) c.requires.calm) ∙ none)
 
 pub returns-in-None-clause-stirred : goal.returns-in-None-clause-stirred
-returns-in-None-clause-stirred c = λ cause some stub _.
+returns-in-None-clause-stirred c = λ cause some stub.
     let m = c.args.module.now in
     let text : List ℕ = c.args.text.now in
     let S : Point → Step = flow_step m text in
@@ -63,7 +63,7 @@ returns-in-None-clause-stirred c = λ cause some stub _.
     ∙ some_found (S x).reasons cause (sym (c.step_base.ensures.least stub ∙ ap (noted (S x).reasons) c.requires.calm) ∙ some) (S x) refl
 
 pub returns-in-None-clause-targets : goal.returns-in-None-clause-targets
-returns-in-None-clause-targets c = λ _ stub _.
+returns-in-None-clause-targets c = λ _ stub.
     let m = c.args.module.now in
     let text : List ℕ = c.args.text.now in
     let S : Point → Step = flow_step m text in
@@ -72,7 +72,7 @@ returns-in-None-clause-targets c = λ _ stub _.
     ∙ ap (λ s. addrs_of s.gives) (sym (by_none S c.args.arms.now m text x (sym c.crossing_of.ensures ∙ c.in-None.is)))
 
 pub returns-in-None-clause-gives : goal.returns-in-None-clause-gives
-returns-in-None-clause-gives c = λ _ stub _.
+returns-in-None-clause-gives c = λ _ stub.
     let m = c.args.module.now in
     let text : List ℕ = c.args.text.now in
     let S : Point → Step = flow_step m text in

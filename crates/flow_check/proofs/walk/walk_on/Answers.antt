@@ -41,7 +41,7 @@ returns-in-Some-first_of-clause-on c = λ _ stub branch steps.
     let points = same_points S p.pc r0 p.returns p.label c.step_base.new.label (list_of new.returns) c.new-stepped.ensures.returns none (c.step_base.ensures.gives stub) in
     let first = gives_first gs new.targets.items (list_of new.returns) c.step_base.new.label c.in-Some-first_of.to targets points (sym c.first_of.ensures ∙ c.in-Some-first_of.is) in
     let y : Point = record { pair = record { addr = c.in-Some-first_of.to; returns = list_of new.returns }; label = record { core = slice_set c.step_base.new.label.core 0 (Known c.in-Some-first_of.to); words = c.step_base.new.label.words } } in
-    let reached : c.as_slice.result.now ≡ plan_val insn p.pc p.label.core = c.as_slice.ensures.value ∙ c.reaches-reaches.ensures in
+    let reached : c.as_slice-reached.result.now ≡ plan_val insn p.pc p.label.core = c.as_slice-reached.ensures.value ∙ c.reaches-reaches.ensures in
     walk_goes S m text branch c.args.join steps (point_at p) y first.0 t c.in-Some.next insn c.requires.before c.in-Some.ensures.goes_on c.in-Some.ensures.met none first.1
     ∙ ap (told (walk S m text branch c.args.join steps y))
     (ap (λ n. record t { cycles = t.cycles + n; label = record { core = blot_core (written_regs insn) t.label.core; words = blot (written_words m (write_reaches (plan_val insn p.pc p.label.core))) t.label.words } }) (sym c.cycles.ensures.exact)

@@ -1,5 +1,5 @@
-use Rattle.sm_cli.proofs.Needed.{decided}
+use Rattle.sm_cli.proofs.Needed.{decided, answered}
 use Rattle.sm_cli.proofs.laws.every_command.Goals as goal
 
 pub returns : goal.returns
-returns c = record { decided = decided }
+returns c = record { decided = decided; answered = answered }

@@ -62,7 +62,7 @@ returns-in-Ok-clause-scripts g c = λ value entries script i no_read no_out no_e
     let ends = run_ends words files before before (asked c.in-Ok-Some.command) c.in-Ok.status _ _ input.map input.command answer input.told some input.asked c.in-Ok.ensures.ok input.served in
     let whole = run_whole g.O.Sink.taken g.O.Sink.faults g.O.Sink.sure c.args.out.now c.answer.new.out c.in-Ok.status answer ends no_out in (
       (whole.0, refl, whole.1),
-      λ other m peers. subst (λ t. Took g.O.Sink.taken g.O.Sink.faults g.O.Sink.sure c.args.out.now c.answer.new.out t) (c.texts.ensures.scripts value other m entries MOST_MARKS script peers) whole.0,
+      λ other m peers. subst (λ t. Took g.O.Sink.taken g.O.Sink.faults g.O.Sink.sure c.args.out.now c.answer.new.out t) (c.texts.ensures.scripts value other m entries MOST_MARKS 0 [] script peers) whole.0,
     )
 
 pub returns-in-Ok-clause-checked : goal.returns-in-Ok-clause-checked

@@ -1,6 +1,0 @@
-use Rattle.std.proofs.Common.{◌-◌, ◌%◌}
-use Rattle.flow_check.proofs.Vectors.{Worked}
-use Rattle.flow_check.proofs.vector.even.Given as goal
-
-abbrev pub invariant-loop-k : goal.invariant-loop-k
-invariant-loop-k l = Worked (λ j v. v - v % 2) 0 l.k l.value.numbers l.numbers

@@ -1,0 +1,134 @@
+-- A text has one verdict.
+use Rattle.std.proofs.Common.{◌≡◌, ℕ, zero, suc, ◌≤◌, ◌==◌, List, [], ◌∷◌, length, if◌then◌else◌, refl, sym, ◌∙◌, ap, subst, arith, inl, inr}
+use Rattle.flow_rule.specs.declared.Reason.{Reason}
+use Rattle.flow_rule.specs.declared.Reason.TheVariants as reason
+use Rattle.flow_rule.specs.declared.Verdict.{Verdict}
+use Rattle.flow_rule.specs.declared.Verdict.TheVariants.{Yes, No}
+use Rattle.flow_rule.specs.Rounds.{Point, Found, Step, given, round, rounds, IsLabelling, all_reasons}
+use Rattle.flow_rule.specs.Reasons.{number_of, NotAfter, BeforeAll, AmongThem}
+use Rattle.flow_rule.specs.Verdict.{Decided}
+use Rattle.flow_rule.proofs.Ends.{all_longer}
+
+-- Rounds never shorten
+
+module _ (step : Point → Step) where
+  -- this many rounds from these points
+  abbrev more : ℕ → List Point → List Point
+  more zero xs = xs
+  more (suc n) xs = round step (more n xs)
+
+  shift : (n : ℕ) (xs : List Point) → more n (round step xs) ≡ round step (more n xs)
+  shift zero xs = refl
+  shift (suc n) xs = ap (round step) (shift n xs)
+
+  still : (xs : List Point) → round step xs ≡ xs → (n : ℕ) → more n xs ≡ xs
+  still xs e zero = refl
+  still xs e (suc n) = ap (round step) (still xs e n) ∙ e
+
+  longer : (n : ℕ) (xs : List Point) → length xs ≤ length (more n xs)
+  longer zero xs = omega arith
+  longer (suc n) xs = omega (arith, longer n xs, all_longer (given step (more n xs)) (more n xs))
+
+  abbrev Stays : List Point → Type 0
+  Stays xs = round step xs ≡ xs
+
+  one_fixed : (n m : ℕ) (xs : List Point) → Stays (more n xs) → Stays (more m xs) → more n xs ≡ more m xs
+  one_fixed zero m xs r s = sym (still xs r m)
+  one_fixed (suc n) zero xs r s = still xs s (suc n)
+  one_fixed (suc n) (suc m) xs r s =
+      sym (shift n xs) ∙ one_fixed n m (round step xs) (subst Stays (sym (shift n xs)) r) (subst Stays (sym (shift m xs)) s) ∙ shift m xs
+
+  -- no round is longer than one that stays
+  not_longer : (n m : ℕ) (xs : List Point) → Stays (more m xs) → length (more n xs) ≤ length (more m xs)
+  not_longer zero m xs s = longer m xs
+  not_longer (suc n) zero xs s = omega (arith, ap length (still xs s (suc n)))
+  not_longer (suc n) (suc m) xs s =
+      let both : length (more n (round step xs)) ≤ length (more m (round step xs)) = not_longer n m (round step xs) (subst Stays (sym (shift m xs)) s) in
+      omega (arith, both, ap length (shift n xs), ap length (shift m xs))
+
+  as_more : (start : Point) (n : ℕ) → rounds step start n ≡ more n (start ∷ [])
+  as_more start zero = refl
+  as_more start (suc n) = ap (round step) (as_more start n)
+
+  module _ (start : Point) where
+    staying : (xs : List Point) (l : IsLabelling step start xs) → more l.rounds_to (start ∷ []) ≡ xs
+    staying xs l = sym (as_more start l.rounds_to) ∙ l.is
+
+    one_labelling : (xs ys : List Point) → IsLabelling step start xs → IsLabelling step start ys → xs ≡ ys
+    one_labelling xs ys l k =
+        sym (staying xs l)
+        ∙ one_fixed l.rounds_to k.rounds_to (start ∷ []) (subst Stays (sym (staying xs l)) l.stays) (subst Stays (sym (staying ys k)) k.stays)
+        ∙ staying ys k
+
+    within : (xs : List Point) (n : ℕ) → IsLabelling step start xs → length (rounds step start n) ≤ length xs
+    within xs n l =
+        let bound = not_longer n l.rounds_to (start ∷ []) (subst Stays (sym (staying xs l)) l.stays) in
+        omega (arith, bound, ap length (as_more start n), ap length (staying xs l))
+
+-- The first reason
+
+abbrev reason_of : ℕ → Reason
+reason_of n =
+    if n == 1 then reason.SecretBranch
+    else if n == 2 then reason.SecretAddress
+    else if n == 3 then reason.OutsideAccess
+    else if n == 4 then reason.SecretAtExit
+    else if n == 5 then reason.UnknownTarget
+    else if n == 6 then reason.Illegal
+    else if n == 7 then reason.Unit
+    else if n == 8 then reason.TooMany
+    else if n == 9 then reason.Arm
+    else reason.ArmTime
+
+numbered : (r : Reason) → reason_of (number_of r) ≡ r
+numbered reason.SecretBranch = refl
+numbered _ = refl
+
+abbrev no_of : Found → Verdict
+no_of r = No r.addr r.why r.value
+
+same_no : (a b : Found) → a.addr ≡ b.addr → number_of a.why ≡ number_of b.why → a.value ≡ b.value → no_of a ≡ no_of b
+same_no a b e f h = let why : a.why ≡ b.why = sym (numbered a.why) ∙ ap reason_of f ∙ numbered b.why in cc
+
+one_first : (a b : Found) → NotAfter a b → NotAfter b a → no_of a ≡ no_of b
+one_first a b (inl h) (inl k) = absurd (omega (arith, h, k))
+one_first a b (inl h) (inr k) = absurd (omega (arith, h, k.0))
+one_first a b (inr h) (inl k) = absurd (omega (arith, h.0, k))
+one_first a b (inr (e, inl h)) (inr (f, inl k)) = absurd (omega (arith, h, k))
+one_first a b (inr (e, inl h)) (inr (f, inr k)) = absurd (omega (arith, h, k.0))
+one_first a b (inr (e, inr h)) (inr (f, inl k)) = absurd (omega (arith, h.0, k))
+one_first a b (inr (e, inr h)) (inr (f, inr k)) = same_no a b e h.0 (omega (arith, h.1, k.1))
+
+before : (r x : Found) (xs : List Found) → BeforeAll r xs → AmongThem x xs → NotAfter r x
+before r x [] b a = absurd a
+before r x (y ∷ ys) b (inl e) = subst (λ z. NotAfter r z) (sym e) b.0
+before r x (y ∷ ys) b (inr a) = before r x ys b.1 a
+
+one_reason : (a b : Found) (xs : List Found) → AmongThem a xs → BeforeAll a xs → AmongThem b xs → BeforeAll b xs → no_of a ≡ no_of b
+one_reason a b xs a_in a_first b_in b_first = one_first a b (before a b xs a_first b_in) (before b a xs b_first a_in)
+
+none_among : (r : Found) (xs : List Found) → xs ≡ [] → AmongThem r xs → ⊥
+none_among r [] e a = a
+none_among r (x ∷ xs) e a = cc
+
+-- Verdicts
+
+module _ (step : Point → Step) (start : Point) (begin : ℕ) where
+  pub one_verdict : (a b : Verdict) → Decided step start begin a → Decided step start begin b → a ≡ b
+  one_verdict Yes Yes d e = refl
+  one_verdict Yes (No addr why value) d (inl e) =
+      let same : all_reasons step e.0 ≡ all_reasons step d.0 = ap (all_reasons step) (one_labelling step start e.0 d.0 e.1 d.1) in
+      absurd (none_among _ (all_reasons step e.0) (same ∙ d.3) e.3)
+  one_verdict Yes (No addr why value) d (inr e) = absurd (omega (arith, d.2, e.1, within step start d.0 e.0 d.1))
+  one_verdict (No addr why value) Yes (inl d) e =
+      let same : all_reasons step d.0 ≡ all_reasons step e.0 = ap (all_reasons step) (one_labelling step start d.0 e.0 d.1 e.1) in
+      absurd (none_among _ (all_reasons step d.0) (same ∙ e.3) d.3)
+  one_verdict (No addr why value) Yes (inr d) e = absurd (omega (arith, e.2, d.1, within step start e.0 d.0 e.1))
+  one_verdict (No addr why value) (No addr2 why2 value2) (inl d) (inl e) =
+      let a : Found = record { addr = addr; why = why; value = value } in
+      let b : Found = record { addr = addr2; why = why2; value = value2 } in
+      let same : e.0 ≡ d.0 = one_labelling step start e.0 d.0 e.1 d.1 in
+      (one_reason a b (all_reasons step d.0) d.3 d.4 (subst (λ xs. AmongThem b (all_reasons step xs)) same e.3) (subst (λ xs. BeforeAll b (all_reasons step xs)) same e.4))
+  one_verdict (No addr why value) (No addr2 why2 value2) (inl d) (inr e) = absurd (omega (arith, d.2, e.1, within step start d.0 e.0 d.1))
+  one_verdict (No addr why value) (No addr2 why2 value2) (inr d) (inl e) = absurd (omega (arith, e.2, d.1, within step start e.0 d.0 e.1))
+  one_verdict (No addr why value) (No addr2 why2 value2) (inr d) (inr e) = ap no_of (d.2 ∙ sym e.2)

@@ -1,0 +1,101 @@
+-- The table of a linked image is a table.
+use Rattle.std.proofs.Common.{◌≡◌, ◌⊎◌, inl, inr, ℕ, zero, suc, ◌+◌, ◌<◌, ◌≤◌, List, [], ◌∷◌, length, Bool, true, false, refl, ap, sym, ◌∙◌, arith, subst, fold}
+use Rattle.std.specs.Prelude.{is_none, if◌then◌else◌, ◌==◌, ◌||◌}
+use Rattle.std.specs.List.{range_with_len}
+use Rattle.std.proofs.lemmas.Bool.Decides.{nat_tests}
+use Rattle.mod_layout.specs.Table.{Table, empty_table, with_module}
+use Rattle.mod_layout.specs.Tables.{IsTable}
+use Rattle.mod_layout.proofs.TableLemmas.{table_more}
+use Rattle.layout_file.specs.Sound.{IsLayout}
+use Rattle.layout_file.specs.Values.{ModuleValue, LayoutValue}
+use Rattle.linker.specs.Passes.{fold_at}
+use Rattle.linker.specs.Placement.{text_of, ram_of}
+use Rattle.linker.specs.Image.{Held, with_boot, with_boots, table_by}
+use Rattle.linker.specs.Tables.{spec_at, some_spec, Drawn, TableFits}
+use Rattle.linker.proofs.ImageLemmas.{held_more, fold_range_more}
+use Rattle.linker.proofs.TableLemmas.{taken, more_by, drawn_next, none_lower, room_by}
+
+module _ (end : ℕ → ℕ) (layout : LayoutValue) (s : IsLayout layout) (fits : TableFits end layout.modules) where
+  abbrev ms : List ModuleValue
+  ms = layout.modules
+
+  -- a table of the layout's room that holds the modules up to this boot, and of the next boot those of lower numbers
+  record Made (boot number : ℕ) (t : Table) : Type 0 where
+    drawn : Drawn end ms boot number t
+    held : Held t
+    is : IsTable t
+    room : t.room ≡ layout.room
+
+  room_or : (b c : Bool) → (layout.room == 8) ≡ b → (layout.room == 32) ≡ c → (b || c) ≡ true → (layout.room ≡ 8) ⊎ (layout.room ≡ 32)
+  room_or true c e f h = inl (grind (arith, nat_tests))
+  room_or false true e f h = inr (grind (arith, nat_tests))
+  room_or false false e f h = cc
+
+  known_room : (layout.room ≡ 8) ⊎ (layout.room ≡ 32)
+  known_room = room_or _ _ refl refl s.known_room
+
+  room_small : (layout.room ≡ 8) ⊎ (layout.room ≡ 32) → layout.room ≤ 32
+  room_small (inl e) = omega arith
+  room_small (inr e) = omega arith
+
+  -- ---- one module
+
+  step_by : (boot number : ℕ) (t : Table) (b : Bool) → ((spec_at ms number).boot == boot + 1) ≡ b → number < length ms → boot < layout.room → Made boot number t
+      → (let m = spec_at ms number in Held (if b then with_module t m.vendor (text_of end number m) (ram_of end number m) else t) × IsTable (if b then with_module t m.vendor (text_of end number m) (ram_of end number m) else t))
+  step_by boot number t false e l low h = (h.held, h.is)
+  step_by boot number t true e l low h =
+      let m = spec_at ms number in
+      let vendor = (s.modules_kept number some_spec l).vendor_word in
+      let room = h.room in
+      let most = room_small known_room in
+      let none = taken end ms boot number t fits h.drawn h.held l (grind (arith, nat_tests)) (omega (arith, room, low)) (omega (arith, room, most)) in (
+        held_more t m.vendor (text_of end number m) (ram_of end number m) (omega (arith, vendor)) h.held,
+        table_more t m.vendor (text_of end number m) (ram_of end number m) h.is (ap is_none none),
+      )
+
+  step : (boot number : ℕ) (t : Table) → number < length ms → boot < layout.room → Made boot number t → Made boot (number + 1) (with_boot end (boot + 1) t number (spec_at ms number))
+  step boot number t l low h =
+      let m = spec_at ms number in
+      let both = step_by boot number t (m.boot == boot + 1) refl l low h in
+      record {
+        drawn = more_by end ms boot number t (m.boot == boot + 1) refl fits l h.drawn;
+        held = both.0;
+        is = both.1;
+        room = room_by (m.boot == boot + 1) t m.vendor (text_of end number m) (ram_of end number m) ∙ h.room;
+      }
+
+  -- ---- the modules of a boot
+
+  steps : (boot i : ℕ) (xs : List ModuleValue) (t : Table) → i + length xs ≡ length ms → ((k : ℕ) → k < length xs → spec_at xs k ≡ spec_at ms (i + k)) → boot < layout.room → Made boot i t
+      → (n : ℕ) × Made boot n (fold_at (with_boot end (boot + 1)) t i xs)
+  steps boot i [] t n same low h = (i, h)
+  steps boot i (x ∷ xs) t n same low h =
+      let here : spec_at ms i ≡ x = sym (same 0 (omega arith) ∙ ap (spec_at ms) (omega arith)) in
+      let next = subst (λ (m : ModuleValue). Made boot (i + 1) (with_boot end (boot + 1) t i m)) here (step boot i t (omega arith) low h) in
+      steps boot (i + 1) xs (with_boot end (boot + 1) t i x) (omega arith) (λ k l. let e : i + suc k ≡ (i + 1) + k = omega arith in same (suc k) (omega arith) ∙ ap (spec_at ms) e) low next
+
+  next_boot : (boot : ℕ) (t : Table) → boot < layout.room → Made boot 0 t → Made (boot + 1) 0 (with_boots end ms t (boot + 1))
+  next_boot boot t low h =
+      let all = steps boot 0 ms t (omega arith) (λ k l. let e : k ≡ 0 + k = omega arith in ap (spec_at ms) e) low h in
+      let m = all.1 in
+      record { drawn = drawn_next end ms boot all.0 _ m.drawn; held = m.held; is = m.is; room = m.room }
+
+  -- ---- all boots
+
+  begun : Made 0 0 (empty_table layout.room)
+  begun = record {
+    drawn = record { from = λ k d l. absurd (omega arith); count = inl (omega arith, λ j l. none_lower ms 0 j l) };
+    held = record { numbered_from_1 = tt; all_held = refl };
+    is = record { modules = tt; fits = omega arith; room_ok = known_room };
+    room = refl;
+  }
+
+  boots : (n : ℕ) → n ≤ layout.room → Made n 0 (fold (with_boots end ms) (empty_table layout.room) (range_with_len 1 n))
+  boots zero l = begun
+  boots (suc n) l =
+      let up : n + 1 ≡ suc n = omega arith in
+      subst (λ (k : ℕ). Made k 0 (fold (with_boots end ms) (empty_table layout.room) (range_with_len 1 k))) up
+      (subst (Made (n + 1) 0) (sym (fold_range_more (with_boots end ms) (empty_table layout.room) n)) (next_boot n _ (omega arith) (boots n (omega arith))))
+
+  pub table_made : IsTable (table_by end layout) × Held (table_by end layout)
+  table_made = let m = boots layout.room (omega arith) in (m.is, m.held)
