@@ -7,7 +7,7 @@ use Rattle.asm_text.specs.declared.unit.AsmFault.{AsmFault}
 use Rattle.asm_text.specs.declared.unit.AsmSection.{AsmSection}
 use Rattle.asm_text.specs.declared.statement.Statement.{Statement}
 use Rattle.asm_text.specs.Emission.{Meanings, Emitted, bytes_of, relocations_of, grown, with_statement, in_last}
-use Rattle.asm_text.specs.Emitted.{last_of}
+use Rattle.asm_text.specs.internal.Emitted.{last_of}
 use Rattle.asm_text.specs.Parts.{SectionValue}
 use Rattle.asm_text.specs.Statements.{size_of}
 use Rattle.asm_text.specs.Views.{section_of}

@@ -10,10 +10,10 @@ use Rattle.asm_text.specs.declared.unit.SectionKind.TheVariants.{Code as CodeKin
 use Rattle.asm_text.specs.declared.statement.Statement.{Statement}
 use Rattle.asm_text.specs.declared.statement.Statement.TheVariants.{Word, Space, Jump, Code}
 use Rattle.asm_text.specs.Emission.{Meanings, Emitted, nothing, emitted, emitted_next, emitted_from}
-use Rattle.asm_text.specs.Emitted.{HasRoom}
-use Rattle.asm_text.specs.Known.{AreKnown}
+use Rattle.asm_text.specs.internal.Emitted.{HasRoom}
+use Rattle.asm_text.specs.internal.Known.{AreKnown}
 use Rattle.asm_text.specs.Parts.{SectionValue}
-use Rattle.asm_text.specs.Placed.{IsPlaced, AreSmall}
+use Rattle.asm_text.specs.internal.Placed.{IsPlaced, AreSmall}
 use Rattle.asm_text.specs.Placing.{Placed, placed, placed_next, placed_from}
 use Rattle.asm_text.specs.Statements.{size_of}
 use Rattle.asm_text.proofs.LockLemmas.{Shape, shape_of, head_shape, Agree, same_number, last_there, IsTaken, taken, agree_more}

@@ -13,9 +13,9 @@ use Rattle.asm_text.specs.declared.TheConstants.{MAX_SOURCE}
 use Rattle.asm_text.specs.declared.statement.Field.TheVariants.{Number, Name}
 use Rattle.asm_text.specs.declared.statement.Statement.{Statement}
 use Rattle.asm_text.specs.declared.statement.Statement.TheVariants.{Section, Label, Global, Word, Space, Jump, Code}
-use Rattle.asm_text.specs.Emitted.{AreNames}
-use Rattle.asm_text.specs.Kept.{IsSource}
-use Rattle.asm_text.specs.Known.{IsBelow, IsKnown, AreKnown, IsNamed, AreNamed}
+use Rattle.asm_text.specs.internal.Emitted.{AreNames}
+use Rattle.asm_text.specs.internal.Kept.{IsSource}
+use Rattle.asm_text.specs.internal.Known.{IsBelow, IsKnown, AreKnown, IsNamed, AreNamed}
 use Rattle.asm_text.specs.Lines.{statement_of}
 use Rattle.asm_text.specs.Names.{place_of, noted_by, noted, Tables, no_tables, noted_option, number_option, tables_after, numbered}
 use Rattle.asm_text.specs.Parts.{is_name}

@@ -10,7 +10,7 @@ use Rattle.std.specs.Map.{lookup, IsKeyTest, AreApart, KeepsOthers}
 use Rattle.std.specs.declared.cmp.Ordering.{Ordering}
 use Rattle.std.proofs.lemmas.Map.Text.{is_eq-slice_cmp}
 use Rattle.std.proofs.lemmas.Slice.Eq.{bytes_eq-Decides}
-use Rattle.asm_text.specs.Maps.{entry_of}
+use Rattle.asm_text.specs.internal.Maps.{entry_of}
 
 -- the order of the keys
 abbrev pub bor_cmp : Bor (List ℕ) → Bor (List ℕ) → Ordering

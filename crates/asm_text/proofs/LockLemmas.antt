@@ -21,7 +21,7 @@ use Rattle.asm_text.specs.declared.unit.SectionKind.TheVariants.{Code as CodeKin
 use Rattle.asm_text.specs.declared.statement.Statement.{Statement}
 use Rattle.asm_text.specs.declared.statement.Statement.TheVariants.{Section, Label, Global, Word, Space, Jump, Code}
 use Rattle.asm_text.specs.Emission.{Meanings, Emitted, bytes_of, grown, with_statement, in_last, opened, emitted, field_number, jump_bytes, jump_over, reach, is_near, jump_word}
-use Rattle.asm_text.specs.Emitted.{last_of}
+use Rattle.asm_text.specs.internal.Emitted.{last_of}
 use Rattle.asm_text.specs.Encoding.{word_bytes, extension, code_bytes, first_word}
 use Rattle.asm_text.specs.Parts.{SectionValue, kept_size}
 use Rattle.asm_text.specs.Placing.{Placed, with_section, with_bytes, with_label, within, in_section, last_head, placed, has_section, spot_of}

@@ -9,8 +9,8 @@ use Rattle.std.proofs.lemmas.Bool.Decides.{nat_tests}
 use Rattle.std.proofs.lemmas.List.{get_or-map, length-map}
 use Rattle.std.proofs.lemmas.List.Sums.{AllPass-from_list_all}
 use Rattle.std.proofs.lemmas.Str.Ascii.{IsAscii-from_all}
-use Rattle.asm_text.specs.Emitted.{AreNames}
-use Rattle.asm_text.specs.Maps.{texts_in}
+use Rattle.asm_text.specs.internal.Emitted.{AreNames}
+use Rattle.asm_text.specs.internal.Maps.{texts_in}
 use Rattle.asm_text.specs.Parts.{is_name_byte, is_name}
 
 low_byte : (b : ℕ) → is_name_byte b ≡ true → b < 128

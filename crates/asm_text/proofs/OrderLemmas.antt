@@ -4,7 +4,7 @@ use Rattle.std.specs.Prelude.{filter}
 use Rattle.std.proofs.lemmas.Bool.Decides.{nat_tests}
 use Rattle.std.proofs.lemmas.List.{length-set, length-map, get_or-set_other, get_or-set_same, get_or-map, same_lists, get_or_push}
 use Rattle.std.proofs.lemmas.Grind.{common_steps}
-use Rattle.asm_text.specs.Numbering.{IsNumbering}
+use Rattle.asm_text.specs.internal.Numbering.{IsNumbering}
 use Rattle.asm_text.specs.Symbols.{symbol_number, once_by, once, below, symbol_numbers}
 use Rattle.asm_text.proofs.PlaceLemmas.{position_hit, position_miss}
 use Rattle.asm_text.proofs.PlacedLemmas.{or_not}

@@ -15,8 +15,8 @@ use Rattle.asm_text.specs.declared.unit.AsmFault.TheVariants.{Place, Twice, TooM
 use Rattle.asm_text.specs.declared.unit.SectionKind.{SectionKind}
 use Rattle.asm_text.specs.declared.statement.Statement.{Statement}
 use Rattle.asm_text.specs.declared.statement.Statement.TheVariants.{Section, Label, Global, Word, Space, Jump, Code}
-use Rattle.asm_text.specs.Known.{IsKnown}
-use Rattle.asm_text.specs.Placed.{IsPlaced, names_in}
+use Rattle.asm_text.specs.internal.Known.{IsKnown}
+use Rattle.asm_text.specs.internal.Placed.{IsPlaced, names_in}
 use Rattle.asm_text.specs.Placing.{Placed, has_section, with_section, spot_of, with_label, with_bytes, within, in_section, last_head, placed}
 use Rattle.asm_text.specs.Statements.{size_of, takes}
 

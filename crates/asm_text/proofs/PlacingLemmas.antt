@@ -3,8 +3,8 @@ use Rattle.std.proofs.Common.{ℕ, suc, ◌≡◌, ◌+◌, ◌<◌, List, lengt
 use Rattle.std.proofs.lemmas.List.{drop_more}
 use Rattle.asm_text.specs.declared.placing.Spot.{Spot}
 use Rattle.asm_text.specs.declared.statement.Statement.{Statement}
-use Rattle.asm_text.specs.Known.{AreKnown}
-use Rattle.asm_text.specs.Placed.{IsPlaced}
+use Rattle.asm_text.specs.internal.Known.{AreKnown}
+use Rattle.asm_text.specs.internal.Placed.{IsPlaced}
 use Rattle.asm_text.specs.Placing.{Placed, nowhere, spot_of, placed, placed_next, placed_from}
 use Rattle.asm_text.proofs.PlacedLemmas.{placed_kept}
 

@@ -19,11 +19,11 @@ use Rattle.asm_text.specs.declared.unit.SectionKind.TheVariants.{Code as CodeKin
 use Rattle.asm_text.specs.declared.unit.SectionKind.{SectionKind}
 use Rattle.asm_text.specs.Assembly.{names_of, symbol_order, meanings, unit_for, with_emitted, with_stop, with_placed, assembled_source, assembled}
 use Rattle.asm_text.specs.Emission.{Meanings, Emitted, nothing, emitted, emitted_next, emitted_from, bytes_of, field_number, with_statement, in_last, grown, opened, reach, is_near, jump_word, jump_over, jump_bytes}
-use Rattle.asm_text.specs.Emitted.{last_of}
+use Rattle.asm_text.specs.internal.Emitted.{last_of}
 use Rattle.asm_text.specs.Encoding.{word_bytes, code_bytes, is_coded}
 use Rattle.asm_text.specs.Jumps.{LeadsToLabel, JumpsReachLabels, LabelsAreEven}
-use Rattle.asm_text.specs.Kept.{IsSource}
-use Rattle.asm_text.specs.Known.{IsKnown}
+use Rattle.asm_text.specs.internal.Kept.{IsSource}
+use Rattle.asm_text.specs.internal.Known.{IsKnown}
 use Rattle.asm_text.specs.Parts.{SectionValue, SymbolValue, UnitValue, kept_size}
 use Rattle.asm_text.specs.Places.{StandsAt, Writes, CodeIsWritten, WordsAreWritten}
 use Rattle.asm_text.specs.Placing.{Placed, nowhere, spot_of, last_head, placed, placed_next, placed_from}

@@ -2,9 +2,10 @@
 use Rattle.std.proofs.Common.{ℕ, ◌≡◌, Bool, not, List, [], get_or, ap, ◌∙◌}
 use Rattle.std.specs.Prelude.{fold, filter}
 use Rattle.asm_text.specs.declared.statement.Statement.{Statement}
-use Rattle.asm_text.specs.Numbering.{AreGlobals, AreBelow}
+use Rattle.asm_text.specs.internal.Numbering.{AreGlobals, AreBelow}
 use Rattle.asm_text.specs.Placing.{Placed}
-use Rattle.asm_text.specs.Symbols.{is_global, is_local, once, below, order_of}
+use Rattle.asm_text.specs.Symbols.{is_global, once, below, order_of}
+use Rattle.asm_text.specs.internal.Symbols.{is_local}
 use Rattle.asm_text.proofs.OrderLemmas.{same_filter}
 
 pub order_same : (statements : List (Statement ℕ)) (p : Placed) (names : ℕ) (globals : List Bool) (order : List ℕ) → AreBelow names p.labels → AreGlobals globals statements names

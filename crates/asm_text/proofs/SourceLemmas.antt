@@ -5,7 +5,7 @@ use Rattle.asm_text.specs.declared.reading.Tables.{Tables as TablesKept}
 use Rattle.asm_text.specs.declared.statement.Statement.{Statement}
 use Rattle.asm_text.specs.Lines.{statement_of}
 use Rattle.asm_text.specs.Names.{no_tables, tables_after}
-use Rattle.asm_text.specs.Read.{tables_of, AreIndexed}
+use Rattle.asm_text.specs.internal.Read.{tables_of, AreIndexed}
 use Rattle.asm_text.specs.Source.{source_by, source_from, source_of, more}
 
 pub record IsRead (text : List ℕ) (tables : TablesKept) (statements : List (Statement ℕ)) (rest : List ℕ) (n : ℕ) : Type 0 where

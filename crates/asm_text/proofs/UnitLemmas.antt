@@ -19,11 +19,11 @@ use Rattle.asm_text.specs.declared.statement.Statement.{Statement}
 use Rattle.asm_text.specs.declared.statement.Statement.TheVariants.{Section, Label, Global, Word, Space, Jump, Code}
 use Rattle.asm_text.specs.Assembly.{names_of, symbol_order, meanings, unit_for}
 use Rattle.asm_text.specs.Emission.{Meanings, Emitted, nothing, emitted, emitted_next, emitted_from, bytes_of, relocation_at, relocation_if, relocations_of, second_word, with_statement, in_last, grown, opened}
-use Rattle.asm_text.specs.Emitted.{last_of, AreNames}
-use Rattle.asm_text.specs.Kept.{IsSource}
-use Rattle.asm_text.specs.Known.{AreNamed, IsNamed}
+use Rattle.asm_text.specs.internal.Emitted.{last_of, AreNames}
+use Rattle.asm_text.specs.internal.Kept.{IsSource}
+use Rattle.asm_text.specs.internal.Known.{AreNamed, IsNamed}
 use Rattle.asm_text.specs.Parts.{SectionValue, SymbolValue, is_name, IsSection, IsSymbol, IsRelocation, IsUnit}
-use Rattle.asm_text.specs.Placed.{IsPlaced, names_in}
+use Rattle.asm_text.specs.internal.Placed.{IsPlaced, names_in}
 use Rattle.asm_text.specs.Placing.{Placed, nowhere, spot_of, has_section, with_section, within, last_head, placed, placed_from}
 use Rattle.asm_text.specs.Source.{Source}
 use Rattle.asm_text.specs.Statements.{size_of}

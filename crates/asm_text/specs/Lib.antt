@@ -8,16 +8,10 @@ pub mod Lines
 pub mod Names
 pub mod Source
 pub mod Placing
-pub mod Maps
-pub mod Placed
-pub mod Read
+pub mod internal
 pub mod Symbols
 pub mod Emission
-pub mod Known
-pub mod Emitted
-pub mod Numbering
 pub mod Assembly
-pub mod Kept
 pub mod Places
 pub mod Jumps
 pub mod Laws

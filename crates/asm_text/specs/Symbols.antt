@@ -6,7 +6,6 @@ use Rattle.asm_text.specs.declared.statement.Statement.{Statement}
 use Rattle.asm_text.specs.declared.statement.Statement.TheVariants.{Global}
 use Rattle.asm_text.specs.Parts.{SymbolValue}
 use Rattle.asm_text.specs.Placing.{Placed, spot_of}
-
 abbrev pub says_global : ℕ → Statement ℕ → Bool
 says_global name (Global other) = other == name
 says_global name _ = false
@@ -31,10 +30,6 @@ once order k = once_by (is_some (symbol_number order k)) order k
 abbrev pub below : ℕ → List ℕ
 below zero = []
 below (suc n) = below n ++ n ∷ []
-
--- whether these say of a name that it is not global
-abbrev pub is_local : List Bool → ℕ → Bool
-is_local globals k = not (slice_index_or globals k false)
 
 -- the labels that no line calls global
 abbrev pub local_labels : List (Statement ℕ) → List ℕ → List ℕ

@@ -2,14 +2,14 @@
 
 ghost use Rattle.std.specs.Prelude.{◌≡◌, ◌≢◌, ◌≤◌, length, None, Ok, Err, IfOk, IfErr};
 ghost use Rattle.asm_text.specs.Assembly as spec;
-ghost use Rattle.asm_text.specs.Kept.{IsSource};
-ghost use Rattle.asm_text.specs.Placed.{placed_of, IsPlaced};
+ghost use Rattle.asm_text.specs.internal.Kept.{IsSource};
+ghost use Rattle.asm_text.specs.internal.Placed.{placed_of, IsPlaced};
 ghost use Rattle.asm_text.specs.Placing.{nowhere, placed_from};
-ghost use Rattle.asm_text.specs.Read.{source_value};
+ghost use Rattle.asm_text.specs.internal.Read.{source_value};
 ghost use Rattle.asm_text.specs.Unit.{unit_of};
 ghost use Rattle.asm_text.specs.Emission.{emitted_from, nothing};
-ghost use Rattle.asm_text.specs.Emitted.{emitted_of};
-ghost use Rattle.asm_text.specs.Numbering.{AreGlobals};
+ghost use Rattle.asm_text.specs.internal.Emitted.{emitted_of};
+ghost use Rattle.asm_text.specs.internal.Numbering.{AreGlobals};
 ghost use Rattle.asm_text.specs.Symbols.{symbol_numbers, symbols_for};
 ghost use Rattle.asm_text.specs.Views as views;
 

@@ -4,10 +4,10 @@ ghost use Rattle.std.specs.Prelude.{◌≡◌, ◌≢◌, ◌<◌, ◌≤◌, �
 ghost use Rattle.std.specs.Option.{option_to_list};
 ghost use Rattle.arrayvec.specs.ArrayVec.{array_vec_len};
 ghost use Rattle.asm_text.specs.Emission as spec;
-ghost use Rattle.asm_text.specs.Emitted.{meanings_of, emitted_of, last_of, HasRoom, AreNames};
-ghost use Rattle.asm_text.specs.Known.{IsBelow, IsKnown, IsNamed, AreKnown, AreNamed};
-ghost use Rattle.asm_text.specs.Placed.{ArePlaced};
-ghost use Rattle.asm_text.specs.Maps.{texts_in};
+ghost use Rattle.asm_text.specs.internal.Emitted.{meanings_of, emitted_of, last_of, HasRoom, AreNames};
+ghost use Rattle.asm_text.specs.internal.Known.{IsBelow, IsKnown, IsNamed, AreKnown, AreNamed};
+ghost use Rattle.asm_text.specs.internal.Placed.{ArePlaced};
+ghost use Rattle.asm_text.specs.internal.Maps.{texts_in};
 ghost use Rattle.asm_text.specs.Statements.{size_of};
 ghost use Rattle.asm_text.specs.Views.{section_of};
 ghost use Rattle.asm_text.specs.Encoding as encoding;

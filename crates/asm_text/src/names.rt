@@ -2,7 +2,7 @@
 
 ghost use Rattle.std.specs.Prelude.{◌≡◌, List, [], ℕ, Some, OnOk, IfOk, bytes_eq, if◌then◌else◌};
 ghost use Rattle.asm_text.specs.Names as spec;
-ghost use Rattle.asm_text.specs.Maps.{entry_of, IsIndexed, texts_of, texts_in};
+ghost use Rattle.asm_text.specs.internal.Maps.{entry_of, IsIndexed, texts_of, texts_in};
 
 use std::alloc::{AllocError, Global};
 use std::collections::BTreeMap;

@@ -3,7 +3,7 @@
 ghost use Rattle.std.specs.Prelude.{◌≡◌, ◌==◌, option_map, true, IfOk, string_bytes};
 ghost use Rattle.asm_text.specs.Parts as parts;
 ghost use Rattle.asm_text.specs.Operands as spec;
-ghost use Rattle.asm_text.specs.Statements.{field_with_text, value_of};
+ghost use Rattle.asm_text.specs.internal.Statements.{field_with_text, value_of};
 ghost use Rattle.std.specs.Option.{option_copied};
 ghost use Rattle.std.specs.List.{list_all};
 

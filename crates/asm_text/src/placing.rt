@@ -2,8 +2,8 @@
 
 ghost use Rattle.std.specs.Prelude.{◌≡◌, ◌≢◌, ◌<◌, ◌≤◌, ◌+◌, ℕ, length, Ok, Err, Some, OnOk, IfOk, IfErr, All};
 ghost use Rattle.asm_text.specs.Placing as spec;
-ghost use Rattle.asm_text.specs.Placed.{placed_of, AreSmall, IsPlaced};
-ghost use Rattle.asm_text.specs.Known.{IsKnown, AreKnown};
+ghost use Rattle.asm_text.specs.internal.Placed.{placed_of, AreSmall, IsPlaced};
+ghost use Rattle.asm_text.specs.internal.Known.{IsKnown, AreKnown};
 ghost use Rattle.asm_text.specs.Statements as statements;
 
 use crate::statement::Statement;

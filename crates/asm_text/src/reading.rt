@@ -1,11 +1,11 @@
 //! The statements of a source.
 
 ghost use Rattle.std.specs.Prelude.{◌≡◌, ◌++◌, ◌∷◌, ◌≤◌, length, List, [], ℕ, Some, OnOk, IfOk};
-ghost use Rattle.asm_text.specs.Maps.{IsIndexed, texts_of};
+ghost use Rattle.asm_text.specs.internal.Maps.{IsIndexed, texts_of};
 ghost use Rattle.asm_text.specs.Names as numbering;
-ghost use Rattle.asm_text.specs.Read.{tables_of, AreIndexed, source_value};
+ghost use Rattle.asm_text.specs.internal.Read.{tables_of, AreIndexed, source_value};
 ghost use Rattle.asm_text.specs.Source as spec;
-ghost use Rattle.asm_text.specs.Statements.{with_texts, field_with_text};
+ghost use Rattle.asm_text.specs.internal.Statements.{with_texts, field_with_text};
 ghost use Rattle.std.specs.Option.{option_copied};
 
 use crate::MAX_SOURCE;

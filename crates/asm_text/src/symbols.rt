@@ -2,12 +2,12 @@
 
 ghost use Rattle.std.specs.Prelude.{◌≡◌, ◌<◌, ◌+◌, ◌^◌, [], ◌≤◌, List, ℕ, Some, map, length, filter, fold, slice_index_or, true, false, OnOk, IfOk, IfSome};
 ghost use Rattle.asm_text.specs.Parts.{is_name};
-ghost use Rattle.asm_text.specs.Known.{AreKnown};
-ghost use Rattle.asm_text.specs.Emitted.{AreNames};
-ghost use Rattle.asm_text.specs.Maps.{texts_in};
+ghost use Rattle.asm_text.specs.internal.Known.{AreKnown};
+ghost use Rattle.asm_text.specs.internal.Emitted.{AreNames};
+ghost use Rattle.asm_text.specs.internal.Maps.{texts_in};
 ghost use Rattle.asm_text.specs.Placing.{spot_of};
 ghost use Rattle.asm_text.specs.declared.placing.Spot.{Spot};
-ghost use Rattle.asm_text.specs.Numbering.{IsNumbering, AreBelow};
+ghost use Rattle.asm_text.specs.internal.Numbering.{IsNumbering, AreBelow};
 ghost use Rattle.asm_text.specs.Symbols as spec;
 ghost use Rattle.asm_text.specs.Views.{symbol_of, symbols_of};
 

@@ -11,7 +11,8 @@ use Rattle.pc_access.specs.declared.Access.{Access}
 use Rattle.pc_access.specs.declared.Denied.{Denied}
 use Rattle.pc_access.specs.Rights.{first_denied, or_else}
 use Rattle.attest.specs.Units.{Attest, Doer, Effect, answer, attest_answer, attest_plan, attested, blocks, each_byte, genuine, in_range, same_bytes, text_reads, unit_effect, unit_plan}
-use Rattle.attest.specs.Accesses.{text_in, values_in}
+use Rattle.attest.specs.Accesses.{values_in}
+use Rattle.attest.specs.internal.Accesses.{text_in}
 use Rattle.attest.specs.Done.{effect_in, own_of}
 use Rattle.attest.proofs.Checks.{denied-append, or_none}
 use Rattle.attest.proofs.Places.{own_text_allowed, other_text_allowed}

@@ -11,7 +11,8 @@ use Rattle.mod_layout.specs.declared.Module.{Module}
 use Rattle.mod_layout.specs.Table.{size_of}
 use Rattle.mod_layout.specs.Tables.{IsSection}
 use Rattle.attest.specs.Units.{each_byte, same_bytes, text_reads}
-use Rattle.attest.specs.Accesses.{writes_of, values_in, stored_in, text_in}
+use Rattle.attest.specs.Accesses.{writes_of, values_in, stored_in}
+use Rattle.attest.specs.internal.Accesses.{text_in}
 use Rattle.attest.proofs.Slices.{slice_range-cons}
 
 -- ---- bytes stored

@@ -11,7 +11,8 @@ use Rattle.pc_access.specs.declared.Access.{Access}
 use Rattle.pc_access.specs.Rights.{first_denied, or_else}
 use Rattle.attest.specs.declared.UnitDone.{UnitDone}
 use Rattle.attest.specs.Units.{Tag, Doer, Effect, answer, blocks, each_byte, in_range, tag_answer, tag_plan, text_reads, unit_effect, unit_plan}
-use Rattle.attest.specs.Accesses.{stored_in, text_in, values_in, writes_of}
+use Rattle.attest.specs.Accesses.{stored_in, values_in, writes_of}
+use Rattle.attest.specs.internal.Accesses.{text_in}
 use Rattle.attest.specs.Done.{IsDone, effect_in, own_of}
 use Rattle.attest.proofs.Checks.{denied-append, or_none}
 use Rattle.attest.proofs.Cores.{standing-answer}

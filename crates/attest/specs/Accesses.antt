@@ -1,9 +1,7 @@
 -- Reads and writes of single bytes in a memory.
-use Rattle.std.specs.Prelude.{ℕ, List, map, slice_index, slice_range, slice_set}
-use Rattle.mod_layout.specs.declared.Module.{Module}
+use Rattle.std.specs.Prelude.{ℕ, List, map, slice_index, slice_set}
 use Rattle.pc_access.specs.declared.Access.{Access}
 pub use Rattle.pc_access.specs.Accesses.{is_read, is_write, reads_of, writes_of, after_writes}
-
 -- the bytes that the reads give
 abbrev pub values_in : List ℕ → List Access → List ℕ
 values_in mem xs = map (λ x. slice_index mem x.addr) (reads_of xs)
@@ -11,7 +9,3 @@ values_in mem xs = map (λ x. slice_index mem x.addr) (reads_of xs)
 -- the memory once these bytes are stored, one at each access
 abbrev pub stored_in : List ℕ → List Access → List ℕ → List ℕ
 stored_in mem xs values = after_writes (λ bytes x v. slice_set bytes x.addr v) mem xs values
-
--- the text of a module as it stands in a memory
-abbrev pub text_in : List ℕ → Module → List ℕ
-text_in mem m = slice_range mem m.text.start m.text.end

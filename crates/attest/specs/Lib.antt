@@ -1,3 +1,4 @@
 pub mod Units
 pub mod Accesses
 pub mod Done
+pub mod internal

@@ -4,7 +4,7 @@ ghost use Rattle.std.specs.Prelude.{◌≡◌, ◌<◌, ◌≤◌, ◌++◌, ℕ
 ghost use Rattle.mod_layout.specs.Tables.{IsSection};
 ghost use Rattle.mod_keys.specs.Fed.{IsFed};
 ghost use Rattle.mod_keys.specs.Keys.{identity, module_key, tag_of};
-ghost use Rattle.attest.specs.Accesses.{text_in};
+ghost use Rattle.attest.specs.internal.Accesses.{text_in};
 
 use mem_map::Memory;
 use mod_keys::{Hmac, identity_tail, provider_key};

@@ -14,8 +14,8 @@ use Rattle.written_machine.specs.Standing.{last_standing}
 use Rattle.written_machine.specs.State.{State}
 use Rattle.board.specs.declared.machine.Machine.{Machine}
 use Rattle.board.specs.declared.moment.Moment.{Moment}
-use Rattle.board.specs.Sound.{Chained, IsInStep, IsSound, Keeps, LeadsTo, RunsTo, Stands, last_number, number_of}
-use Rattle.board.specs.Standing.{Lasting, cut, mark_state, lasting_of, marked_of, marks_of, moment_state, state_of, states_at}
+use Rattle.board.specs.internal.Sound.{Chained, IsInStep, IsSound, Keeps, LeadsTo, RunsTo, Stands, last_number, number_of}
+use Rattle.board.specs.internal.Standing.{Lasting, cut, mark_state, lasting_of, marked_of, marks_of, moment_state, state_of, states_at}
 use Rattle.board.proofs.Leading.{found_by_number, leads_number, none_numbered, some_numbered}
 use Rattle.board.proofs.MarkedStates.{chained_cut, chained_more, states_get, states_length, states_more, states_take}
 

@@ -10,7 +10,7 @@ use Rattle.written_machine.specs.Cycle.{after_cycles, pc_of}
 use Rattle.written_machine.specs.Passing.{OnlyPass, Pads, Waits, WaitsOutside, Sleeps, Leads, later, passed}
 use Rattle.written_machine.specs.Standing.{is_ready, is_resume, stands_at}
 use Rattle.written_machine.specs.State.{State}
-use Rattle.board.specs.Ran.{Apart}
+use Rattle.board.specs.internal.Ran.{Apart}
 
 -- no cycle at all
 pub none_pass : (s : State) → OnlyPass 0 s

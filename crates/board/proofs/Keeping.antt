@@ -8,8 +8,8 @@ use Rattle.written_machine.specs.State.{State}
 use Rattle.isolation.proofs.Tame.{cycle_number}
 use Rattle.board.specs.declared.machine.Machine.{Machine}
 use Rattle.board.specs.declared.moment.Moment.{Moment}
-use Rattle.board.specs.Sound.{Chained, IsSound, Keeps, Stands}
-use Rattle.board.specs.Standing.{Lasting, lasting_of, marked_of, marks_of, state_of, states_at}
+use Rattle.board.specs.internal.Sound.{Chained, IsSound, Keeps, Stands}
+use Rattle.board.specs.internal.Standing.{Lasting, lasting_of, marked_of, marks_of, state_of, states_at}
 use Rattle.board.proofs.Leading.{stop_number}
 use Rattle.board.proofs.MarkedStates.{chained_on}
 use Rattle.board.proofs.Runs.{stays, stopped_state}

@@ -18,7 +18,7 @@ use Rattle.cpu_step.specs.Plan.{plan}
 use Rattle.cpu_step.specs.Through.{After as AfterThrough, through}
 use Rattle.board.specs.declared.machine.Machine.{Machine}
 use Rattle.board.specs.declared.port.Surroundings.{Surroundings}
-use Rattle.board.specs.Standing.{Lasting, lasting_of, port_of, answered, after_read as after_port_read, after_write}
+use Rattle.board.specs.internal.Standing.{Lasting, lasting_of, port_of, answered, after_read as after_port_read, after_write}
 use Rattle.board.proofs.Through.{through_is}
 use Rattle.written_machine.specs.Ports.{Port, read_byte, read_in, read_width, take_reads, write_byte, write_in, write_width, put_writes}
 use Rattle.devices.proofs.Acting.{scheduled-schedule, counts_by-schedule}

@@ -5,8 +5,8 @@ use Rattle.std.proofs.lemmas.List.{get_or_append_left, get_or-append_right, get_
 use Rattle.written_machine.specs.Cycle.{after_cycles}
 use Rattle.written_machine.specs.State.{State}
 use Rattle.board.specs.declared.moment.Moment.{Moment}
-use Rattle.board.specs.Sound.{Chained, LeadsTo}
-use Rattle.board.specs.Standing.{Fixed, moment_state, states_at}
+use Rattle.board.specs.internal.Sound.{Chained, LeadsTo}
+use Rattle.board.specs.internal.Standing.{Fixed, moment_state, states_at}
 use Rattle.board.proofs.Leading.{leads_self, leads_on}
 
 pub states_length : (f : Fixed) (ts : List Moment) (bs : List (List ℕ)) → length ts ≡ length bs → length (states_at f ts bs) ≡ length ts

@@ -5,7 +5,7 @@ use Rattle.pc_access.specs.declared.Stop.{Stop}
 use Rattle.written_machine.specs.Cycle.{cycle, after_cycles}
 use Rattle.written_machine.specs.Standing.{stands_at, one_more_unless, cycles_until}
 use Rattle.written_machine.specs.State.{State}
-use Rattle.board.specs.Ran.{Apart}
+use Rattle.board.specs.internal.Ran.{Apart}
 use Rattle.board.proofs.Runs.{state_split, stopped_state}
 
 -- a first cycle before others

@@ -13,7 +13,8 @@ use Rattle.written_machine.specs.Passing.{Leads}
 use Rattle.written_machine.specs.State.{State}
 use Rattle.written_machine.specs.Trace.{lines_of, lines_after}
 use Rattle.board.specs.declared.Ran.{Ran}
-use Rattle.board.specs.Ran.{lines_now, RanWhole, RanCutOff, Runs, ran_of}
+use Rattle.board.specs.Ran.{lines_now, RanWhole, RanCutOff, Runs}
+use Rattle.board.specs.Ran.{ran_of}
 
 -- one cycle more, at the end
 pub state_more : (n : ℕ) (s : State) → after_cycles s (n + 1) ≡ (cycle (after_cycles s n)).state

@@ -1,6 +1,4 @@
-pub mod Standing
-pub mod Sound
-pub mod Turned
+pub mod internal
 pub mod Ran
 pub mod Shown
 pub mod Alike

@@ -11,7 +11,9 @@ ghost use Rattle.written_machine.specs.Trace.{end_of, end_line_of, lines_of};
 ghost use Rattle.written_machine.specs.View.{boot};
 ghost use Rattle.sm_io.specs.Sink.{Puts};
 ghost use Rattle.board.specs.Alike.{PeersTell, PeersShow, PeersRun, PeersEnd};
-ghost use Rattle.board.specs.Ran.{NoneMissed, Runs, ran_of};
+ghost use Rattle.board.specs.Ran.{Runs};
+ghost use Rattle.board.specs.Ran.{ran_of};
+ghost use Rattle.board.specs.internal.Ran.{NoneMissed};
 
 use crate::machine::Machine;
 use crate::moment::Moment;
@@ -49,8 +51,8 @@ impl Model for Board {
 
     ghost use Rattle.std.specs.Prelude.{◌≤◌};
     ghost use Rattle.std.specs.Vec.{vec_capacity};
-    ghost use Rattle.board.specs.Standing.{marked_of};
-    ghost use Rattle.board.specs.Sound.{Keeps};
+    ghost use Rattle.board.specs.internal.Standing.{marked_of};
+    ghost use Rattle.board.specs.internal.Sound.{Keeps};
 
     ghost view = { λ b. marked_of b.machine b.moments.items };
 
@@ -183,9 +185,9 @@ impl Board {
         self.machine.stop.is_some()
     }
 
-    // How a run ends that leaves this state.
-    pub(crate) fn ended(&self) -> Ran
-        ensures { result ≡ ran_of self.now.present.stop }
+    /// How a run ends that leaves this state: `Stopped` where the machine is stopped, else `Done`.
+    pub fn ended(&self) -> Ran
+        ensures ended { result ≡ ran_of self.now.present.stop }
     {
         match self.machine.stop {
             Some(stop) => Ran::Stopped(stop),

@@ -5,9 +5,9 @@ ghost use Rattle.reg_backup.specs.declared.backup.After.TheVariants.{Next};
 ghost use Rattle.reg_backup.specs.declared.backup.Phase.TheVariants.{Pad};
 ghost use Rattle.written_machine.specs.Cycle.{asleep};
 ghost use Rattle.written_machine.specs.Passing.{Calm, Leads, OnlyPass, passed};
-ghost use Rattle.board.specs.Ran.{NoneMissed};
-ghost use Rattle.board.specs.Standing.{state_of, lasting_of};
-ghost use Rattle.board.specs.Sound.{Stands};
+ghost use Rattle.board.specs.internal.Ran.{NoneMissed};
+ghost use Rattle.board.specs.internal.Standing.{state_of, lasting_of};
+ghost use Rattle.board.specs.internal.Sound.{Stands};
 
 use crate::machine::Machine;
 use devices::Device;

@@ -3,9 +3,9 @@
 ghost use Rattle.std.specs.Prelude.{◌≡◌, ◌+◌, ◌≤◌, ◌∷◌, [], IfSome, None};
 ghost use Rattle.sm_words.specs.Words.{IsCore};
 ghost use Rattle.written_machine.specs.Cycle.{pc_of, asleep, stopped, denied, vector_in, has_room};
-ghost use Rattle.board.specs.Standing.{state_of, clock_of, lasting_of};
-ghost use Rattle.board.specs.Sound.{is_held_first};
-ghost use Rattle.board.specs.Turned.{raised};
+ghost use Rattle.board.specs.internal.Standing.{state_of, clock_of, lasting_of};
+ghost use Rattle.board.specs.internal.Sound.{is_held_first};
+ghost use Rattle.board.specs.internal.Turned.{raised};
 
 use crate::port::Surroundings;
 use arrayvec::ArrayVec;
@@ -62,7 +62,7 @@ impl Machine {
     }
 
     /// The vector that is raised, where interrupts may arrive.
-    #[tactic(auto, using(crate::proofs::Parts::line_low), unfolding(crate::specs::Turned::raised))]
+    #[tactic(auto, using(crate::proofs::Parts::line_low), unfolding(crate::specs::internal::Turned::raised))]
     pub fn raised(&self) -> Option<u8>
         ensures vector { result ≡ raised (state_of self.now) }
         ensures low { IfSome result (λ v. v ≤ 15) }

@@ -29,8 +29,8 @@ pub struct Moment {
 }
 
 impl Machine {
-    ghost use Rattle.board.specs.Sound.{last_number, IsInStep, IsSound, LeadsTo, RunsTo, Stands};
-    ghost use Rattle.board.specs.Standing.{cut, lasting_of, mark_state, moment_state, state_of};
+    ghost use Rattle.board.specs.internal.Sound.{last_number, IsInStep, IsSound, LeadsTo, RunsTo, Stands};
+    ghost use Rattle.board.specs.internal.Standing.{cut, lasting_of, mark_state, moment_state, state_of};
 
     /// This moment.
     pub fn moment(&self) -> Moment

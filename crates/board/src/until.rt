@@ -5,7 +5,8 @@ ghost use Rattle.written_machine.specs.Marks.{at_state};
 ghost use Rattle.written_machine.specs.Passing.{Leads};
 ghost use Rattle.written_machine.specs.Standing.{cycles_until};
 ghost use Rattle.board.specs.Alike.{PeersRun};
-ghost use Rattle.board.specs.Ran.{Apart, Runs};
+ghost use Rattle.board.specs.Ran.{Runs};
+ghost use Rattle.board.specs.internal.Ran.{Apart};
 
 use crate::board::put_lines;
 use crate::{Board, Ran};

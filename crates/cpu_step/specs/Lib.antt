@@ -4,5 +4,5 @@ pub mod Fetched
 pub mod Asked
 pub mod Through
 pub mod Lone
-pub mod Bench
+pub mod internal
 pub mod LoneLaws

@@ -5,9 +5,8 @@ use Rattle.insn_decode.specs.declared.insn.Insn.{Insn}
 use Rattle.pc_access.specs.Rights.{misaligned}
 use Rattle.pc_access.specs.declared.Access.{Access}
 use Rattle.pc_access.specs.Accesses.{reads_of, writes_of, after_writes}
-use Rattle.cpu_step.specs.Effect.{does, does_freely}
+use Rattle.cpu_step.specs.Effect.{does}
 use Rattle.cpu_step.specs.Plan.{plan}
-
 -- each word access among these is at an even address
 abbrev pub AreAligned : List Access → Type 0
 AreAligned xs = All (λ x. IsFalse (misaligned x.width x.addr)) xs
@@ -39,12 +38,4 @@ through answer after_read after_write insn core inside s =
     let accesses = plan insn core in
     let r = taken answer after_read s (reads_of accesses) in
     let d = does insn core r.values inside in
-    record { core = d.core; state = stored_in after_write r.state (writes_of accesses) d.stored }
-
--- the same with no regard to who runs it
-abbrev pub freely_through : {S : Type 0} → (S → Width → ℕ → ℕ) → (S → Width → ℕ → S) → (S → Width → ℕ → ℕ → S) → Insn → List ℕ → S → After S
-freely_through answer after_read after_write insn core s =
-    let accesses = plan insn core in
-    let r = taken answer after_read s (reads_of accesses) in
-    let d = does_freely insn core r.values in
     record { core = d.core; state = stored_in after_write r.state (writes_of accesses) d.stored }

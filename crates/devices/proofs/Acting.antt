@@ -5,8 +5,9 @@ use Rattle.schedule_file.specs.declared.Entry.{Entry}
 use Rattle.schedule_file.specs.declared.What.{What}
 use Rattle.schedule_file.specs.declared.What.TheVariants.{Serial}
 use Rattle.devices.specs.Devices.{Devices, ticked_devices, counts, counts_by, scheduled, happens, happens_if}
-use Rattle.devices.specs.Time.{ticked_by, counted_by}
-use Rattle.devices.specs.Bus.{acted_before, past_count}
+use Rattle.devices.specs.Time.{ticked_by}
+use Rattle.devices.specs.internal.Time.{counted_by}
+use Rattle.devices.specs.internal.Bus.{acted_before, past_count}
 use Rattle.devices.proofs.Order.{Rises, Rises-below}
 
 -- nothing is sent any more

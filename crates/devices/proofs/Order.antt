@@ -8,7 +8,7 @@ use Rattle.std.specs.List.Sorted.{IsPartitionedBy, IsPartitionPoint}
 use Rattle.schedule_file.specs.declared.Entry.{Entry}
 use Rattle.schedule_file.specs.Entries.{CyclesNeverFall}
 use Rattle.schedule_file.specs.Entries.{HasLine}
-use Rattle.devices.specs.Bus.{past_count, IsDue}
+use Rattle.devices.specs.internal.Bus.{past_count, IsDue}
 
 -- no cycle is below the one before, and the first not below `low`
 abbrev pub Rises : ℕ → List Entry → Type 0

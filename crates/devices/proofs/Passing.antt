@@ -3,9 +3,11 @@ use Rattle.std.proofs.Common.{ℕ, zero, suc, ◌≡◌, ◌+◌, ◌-◌, ◌�
 use Rattle.std.specs.Option.{option_or}
 use Rattle.schedule_file.specs.declared.Entry.{Entry}
 use Rattle.devices.specs.Devices.{Devices, counts_by, line_of, timer_line, serial_line, highest_line}
-use Rattle.devices.specs.Time.{ticked_by, counted_by, before_entries, timer_quiet, quiet_of}
-use Rattle.devices.specs.Parts.{LinesPart, SerialPart, TimerPart, serial_alone, timer_alone, joined}
-use Rattle.devices.specs.Bus.{acted_before, past_count, IsDue}
+use Rattle.devices.specs.Time.{ticked_by, before_entries, timer_quiet, quiet_of}
+use Rattle.devices.specs.internal.Time.{counted_by}
+use Rattle.devices.specs.Parts.{LinesPart, SerialPart, TimerPart, serial_alone, timer_alone}
+use Rattle.devices.specs.internal.Parts.{joined}
+use Rattle.devices.specs.internal.Bus.{acted_before, past_count, IsDue}
 use Rattle.devices.proofs.Still.{ticked_by-serial}
 use Rattle.devices.proofs.Timing.{ticked_by-timer}
 use Rattle.devices.proofs.Order.{Rises, Rises-all, past_count-le-length}

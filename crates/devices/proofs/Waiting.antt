@@ -4,7 +4,7 @@ use Rattle.std.proofs.lemmas.Bool.Decides.{nat_tests}
 use Rattle.schedule_file.specs.declared.Entry.{Entry}
 use Rattle.devices.specs.Devices.{Devices, happens_if}
 use Rattle.devices.specs.Time.{before_entries}
-use Rattle.devices.specs.Bus.{past_count}
+use Rattle.devices.specs.internal.Bus.{past_count}
 use Rattle.devices.proofs.Order.{Rises}
 use Rattle.devices.proofs.Acting.{acted_within}
 

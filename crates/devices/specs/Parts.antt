@@ -1,8 +1,6 @@
 -- The three devices one by one, and together.
-use Rattle.std.specs.Prelude.{ℕ, List, [], Bool, Option}
-use Rattle.schedule_file.specs.declared.Entry.{Entry}
+use Rattle.std.specs.Prelude.{ℕ, [], Bool, Option}
 use Rattle.devices.specs.Devices.{Devices, silent}
-
 pub record LinesPart : Type 0 where
   pub enabled : ℕ
   pub levels : ℕ
@@ -30,17 +28,3 @@ serial_alone s = record (silent []) { listening = s.listening; got = s.got; lost
 
 abbrev pub timer_alone : TimerPart → Devices
 timer_alone t = record (silent []) { running = t.running; alarm = t.alarm; flag = t.flag; count = t.count; limit = t.limit }
-
--- the three side by side, with a schedule
-abbrev pub joined : LinesPart → SerialPart → TimerPart → List Entry → Devices
-joined l s t schedule = record { enabled = l.enabled; levels = l.levels; listening = s.listening; got = s.got; lost = s.lost; byte = s.byte; running = t.running; alarm = t.alarm; flag = t.flag; count = t.count; limit = t.limit; schedule = schedule; sent = s.sent }
-
--- the parts of a whole
-abbrev pub lines_of : Devices → LinesPart
-lines_of d = record { enabled = d.enabled; levels = d.levels }
-
-abbrev pub serial_of : Devices → SerialPart
-serial_of d = record { listening = d.listening; got = d.got; lost = d.lost; byte = d.byte; sent = d.sent }
-
-abbrev pub timer_of : Devices → TimerPart
-timer_of d = record { running = d.running; alarm = d.alarm; flag = d.flag; count = d.count; limit = d.limit }

@@ -1,17 +1,11 @@
 -- Many ticks, and how long the raised vector stays as it is.
 use Rattle.std.specs.Prelude.{ℕ, zero, suc, ◌+◌, ◌-◌, ◌%◌, ◌^◌, min, List, [], ◌∷◌, nat_le, if◌then◌else◌, ◌&&◌, not}
 use Rattle.schedule_file.specs.declared.Entry.{Entry}
-use Rattle.devices.specs.Devices.{Devices, ticked_devices, counts}
-
+use Rattle.devices.specs.Devices.{Devices, ticked_devices}
 -- what n ticks from cycle k on leave
 abbrev pub ticked_by : ℕ → ℕ → Devices → Devices
 ticked_by zero k d = d
 ticked_by (suc n) k d = ticked_by n (k + 1) (ticked_devices d k)
-
--- what n ticks of the timer leave
-abbrev pub counted_by : ℕ → Devices → Devices
-counted_by zero d = d
-counted_by (suc n) d = counted_by n (counts d)
 
 -- the ticks before the timer's flag may rise: those up to its limit, where it runs, is enabled and its flag is clear
 unfoldable pub timer_quiet : Devices → ℕ

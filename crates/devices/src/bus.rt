@@ -5,8 +5,9 @@ ghost use Rattle.schedule_file.specs.declared.Entry.{Entry};
 ghost use Rattle.schedule_file.specs.Entries.{CyclesNeverFall, HasLine, line_number};
 ghost use Rattle.devices.specs.Devices.{silent, happens, ticked_devices, line_of, accepted, read_of, after_read, write_of};
 ghost use Rattle.devices.specs.Time.{ticked_by, quiet_of};
-ghost use Rattle.devices.specs.Parts.{joined};
-ghost use Rattle.devices.specs.Bus.{BusState, marked_bus, gone_back, acted_before, past_count};
+ghost use Rattle.devices.specs.internal.Parts.{joined};
+ghost use Rattle.devices.specs.Bus.{BusState, marked_bus, gone_back};
+ghost use Rattle.devices.specs.internal.Bus.{acted_before, past_count};
 
 use crate::registers::{
     LINES_ENABLE, LINES_LEVELS, SERIAL_CONTROL, SERIAL_DATA, TIMER_CONTROL, TIMER_LIMIT_HIGH,
@@ -93,7 +94,7 @@ pub struct BusMark {
 
 impl Model for BusMark {
     ghost use Rattle.std.specs.Prelude.{◌≤◌, ◌^◌, []};
-    ghost use Rattle.devices.specs.Parts.{joined, lines_of, serial_of, timer_of};
+    ghost use Rattle.devices.specs.internal.Parts.{joined, lines_of, serial_of, timer_of};
     ghost use Rattle.devices.specs.Bus.{MarkedBus};
 
     ghost Value = { MarkedBus };
@@ -123,8 +124,9 @@ pub struct Bus {
 
 impl Model for Bus {
     ghost use Rattle.std.specs.Prelude.{◌≤◌, ◌^◌};
-    ghost use Rattle.devices.specs.Parts.{joined};
-    ghost use Rattle.devices.specs.Bus.{BusState, IsDue};
+    ghost use Rattle.devices.specs.internal.Parts.{joined};
+    ghost use Rattle.devices.specs.Bus.{BusState};
+    ghost use Rattle.devices.specs.internal.Bus.{IsDue};
 
     ghost Value = { BusState };
 

@@ -10,7 +10,7 @@ use Rattle.mod_layout.specs.Table.{empty_table}
 use Rattle.image_text.specs.declared.numbers.TheConstants.{MAX_COUNT}
 use Rattle.image_text.specs.ImageText.{ended, count_line}
 use Rattle.image_text.specs.Refusal.{past, count_of, counted, count_refusal, modules_refusal}
-use Rattle.image_text.specs.Reading.{Unread, ReadLine, PassedCount}
+use Rattle.image_text.specs.internal.Reading.{Unread, ReadLine, PassedCount}
 use Rattle.image_text.proofs.StageLemmas.{line_on, next_on}
 
 -- a text that begins so

@@ -17,7 +17,7 @@ use Rattle.image_text.specs.declared.ImageFault.TheVariants.{Line, Twice}
 use Rattle.image_text.specs.Image.{Image}
 use Rattle.image_text.specs.ImageText.{ended, first_line, key_line, handler_line, end_line}
 use Rattle.image_text.specs.Refusal.{Spot, past, line_fault, has_form, bad_digit, digit_or, formed, key_form, handler_form, module_form, row_form, bytes_at, word_at, section_at, count_of, counted, count_refusal, modules_refusal, handler_refusal, key_refusal, version_or_line, version_refusal, first_refusal, end_refusal, is_row, placed, rows_refusal, taken, added, one_less, refusal_of}
-use Rattle.image_text.specs.Reading.{Unread, on, ReadLine, HasForm, PassedCount, due_next, AddsModule, ModulesSoFar, PassedModules, RowsSoFar, PassedMemory}
+use Rattle.image_text.specs.internal.Reading.{Unread, on, ReadLine, HasForm, PassedCount, due_next, AddsModule, ModulesSoFar, PassedModules, RowsSoFar, PassedMemory}
 use Rattle.image_text.specs.Laws.{Complete}
 use Rattle.image_text.proofs.FormLemmas.{has_form_of}
 use Rattle.image_text.proofs.LineTexts.{key_line_of, handler_line_of}

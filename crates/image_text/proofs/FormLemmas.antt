@@ -11,7 +11,7 @@ use Rattle.texts.proofs.LawLemmas.{words_are_read, word_bytes}
 use Rattle.texts.specs.Hexadecimals.{hex_word}
 use Rattle.image_text.specs.declared.ImageFault.{ImageFault}
 use Rattle.image_text.specs.Refusal.{Spot, fits, has_form, is_bad, bad_digit, formed, bytes_at, word_at}
-use Rattle.image_text.specs.Reading.{HasForm, CodedAt}
+use Rattle.image_text.specs.internal.Reading.{HasForm, CodedAt}
 
 pub form_length : (form line : List ℕ) → has_form form line ≡ true → length form ≡ length line
 form_length [] [] e = refl

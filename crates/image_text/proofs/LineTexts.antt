@@ -5,7 +5,7 @@ use Rattle.hex.specs.Hex.{encode_with, encode_lower}
 use Rattle.texts.specs.Hexadecimals.{hex_word}
 use Rattle.image_text.specs.ImageText.{key_line, handler_line, module_line, row_line}
 use Rattle.image_text.specs.Refusal.{key_form, handler_form, module_form, row_form, bytes_at, word_at, section_at}
-use Rattle.image_text.specs.Reading.{HasForm, CodedAt}
+use Rattle.image_text.specs.internal.Reading.{HasForm, CodedAt}
 use Rattle.image_text.proofs.FormLemmas.{after_word, after_digits, after_four, word_here, coded_at, nothing_left, marks}
 
 pub record IsKeyLine (line : List ℕ) : Type 0 where

@@ -26,7 +26,7 @@ use Rattle.image_text.specs.declared.ImageFault.TheVariants.{Line, Twice}
 use Rattle.image_text.specs.Image.{Image, IsImage, AreNumbered}
 use Rattle.image_text.specs.ImageText.{ended, first_line, key_line, handler_line, count_line, module_line, row_line, end_line, count_text, modules_text, is_zero, rows_text, memory_text, text_after_key, image_text}
 use Rattle.image_text.specs.Refusal.{Spot, past, key_form, handler_form, module_form, row_form, fits, has_form, is_bad, bytes_at, word_at, section_at, count_of, is_row, rows_refusal, end_refusal, taken, added, one_less, modules_refusal, counted, count_refusal, handler_refusal, key_refusal, first_refusal, refusal_of}
-use Rattle.image_text.specs.Reading.{HasForm, due_next}
+use Rattle.image_text.specs.internal.Reading.{HasForm, due_next}
 use Rattle.image_text.proofs.WholeText.{few}
 use Rattle.image_text.proofs.FormLemmas.{formed_ok, marks, bytes_cons, bytes_nil, word_here, coded_at}
 use Rattle.image_text.proofs.StageLemmas.{Stage, none_due, one_due}

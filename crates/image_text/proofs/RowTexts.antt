@@ -13,7 +13,7 @@ use Rattle.image_text.specs.Refusal.{Spot, past, formed, row_form, placed, is_ro
 use Rattle.image_text.proofs.FormLemmas.{formed_ok}
 use Rattle.image_text.proofs.LineTexts.{row_line_of}
 use Rattle.image_text.proofs.StageLemmas.{line_on, next_on}
-use Rattle.image_text.specs.Reading.{Unread, on, ReadLine, HasForm, AddsRow, RowsSoFar, PassedMemory}
+use Rattle.image_text.specs.internal.Reading.{Unread, on, ReadLine, HasForm, AddsRow, RowsSoFar, PassedMemory}
 
 -- rows, and more rows
 pub rows_append : (n k at : ℕ) (m1 m2 rest : List ℕ) → length m1 ≡ 16 * n → rows_text (n + k) at (m1 ++ m2) rest ≡ rows_text n at m1 (rows_text k (at + 16 * n) m2 rest)

@@ -12,7 +12,7 @@ use Rattle.image_text.specs.declared.ImageFault.TheVariants.{Line, Table as Tabl
 use Rattle.image_text.specs.Image.{AreNumbered}
 use Rattle.image_text.specs.ImageText.{ended, modules_text, module_line}
 use Rattle.image_text.specs.Refusal.{Spot, past, formed, module_form, modules_refusal, rows_refusal, end_refusal, section_at, word_at, added, taken, one_less}
-use Rattle.image_text.specs.Reading.{Unread, on, ReadLine, HasForm, due_next, AddsModule, IsLeft, IsGiven, ModulesSoFar, PassedModules}
+use Rattle.image_text.specs.internal.Reading.{Unread, on, ReadLine, HasForm, due_next, AddsModule, IsLeft, IsGiven, ModulesSoFar, PassedModules}
 use Rattle.image_text.proofs.FormLemmas.{formed_ok}
 use Rattle.image_text.proofs.LineTexts.{module_line_of}
 

@@ -3,7 +3,7 @@ use Rattle.std.proofs.Common.{◌≡◌, ◌⊎◌, ⊎_elim, ℕ, ◌%◌, ◌<
 use Rattle.mod_layout.specs.Table.{Table}
 use Rattle.image_text.specs.Image.{Image, IsImage}
 use Rattle.image_text.specs.ImageText.{ended, first_line, key_line, handler_line, count_text, modules_text, memory_text, image_text}
-use Rattle.image_text.specs.Reading.{Unread, IsCountOf, IsGiven, count_part, PassedModules, PassedMemory}
+use Rattle.image_text.specs.internal.Reading.{Unread, IsCountOf, IsGiven, count_part, PassedModules, PassedMemory}
 
 count_is : (room given : ℕ) (due : Option ℕ) (rest : List ℕ) → IsCountOf room due → IsGiven due given → count_part due rest ≡ count_text room given rest
 count_is room given None rest k g = rw k refl

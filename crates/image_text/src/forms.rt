@@ -2,7 +2,7 @@
 
 ghost use Rattle.std.specs.Prelude.{◌≡◌, ◌+◌, ◌*◌, ◌<◌, ◌^◌, ◌≤◌, length, Option, Some, OnOk, IfErr};
 ghost use Rattle.image_text.specs.Refusal.{has_form as has_form_lem, fits as fits_lem, is_bad as is_bad_lem, bad_digit as bad_digit_lem, bytes_at as bytes_at_lem, word_at as word_at_lem, section_at as section_at_lem, Spot, formed as formed_lem};
-ghost use Rattle.image_text.specs.Reading.{HasForm, CodedAt};
+ghost use Rattle.image_text.specs.internal.Reading.{HasForm, CodedAt};
 
 use crate::ImageFault;
 use crate::lines::Line;

@@ -3,7 +3,7 @@
 ghost use Rattle.std.specs.Prelude.{◌≡◌, ◌+◌, ◌<◌, ◌^◌, ◌==◌, [], length, position, IfOk, IfErr, OnOk, OnErr, Some};
 ghost use Rattle.texts.specs.Lines.{ended_lines};
 ghost use Rattle.image_text.specs.Refusal.{end_refusal};
-ghost use Rattle.image_text.specs.Reading.{ReadLine, head_has_form, on};
+ghost use Rattle.image_text.specs.internal.Reading.{ReadLine, head_has_form, on};
 
 use crate::ImageFault;
 use crate::forms::has_form;
@@ -29,7 +29,7 @@ pub(crate) struct Line<'a> {
 impl<'a> Model for Lines<'a> {
     ghost use Rattle.std.specs.Prelude.{◌+◌, ◌<◌, ◌≤◌, ◌^◌, length};
     ghost use Rattle.image_text.specs.Refusal.{Spot};
-    ghost use Rattle.image_text.specs.Reading.{Unread};
+    ghost use Rattle.image_text.specs.internal.Reading.{Unread};
 
     ghost Value = { Unread };
 

@@ -1,8 +1,6 @@
 -- A value, or the fault that comes first.
-use Rattle.std.specs.Prelude.{◌≡◌, ◌⊎◌, ℕ, ◌+◌, List, [], ◌∷◌, ◌++◌, Result, Ok, Err}
+use Rattle.std.specs.Prelude.{ℕ, ◌+◌, List, [], ◌∷◌, ◌++◌, Result, Ok, Err}
 use Rattle.layout_file.specs.declared.fault.LayoutFault.{LayoutFault}
-use Rattle.layout_file.specs.declared.fault.LayoutFault.TheVariants.{NoMemory}
-
 abbrev pub Checked : Type 0 → Type 0
 Checked A = Result A LayoutFault
 
@@ -24,7 +22,3 @@ gather f n (x ∷ xs) = f n x >>= (λ here. map_ok (λ more. here ++ more) (gath
 
 abbrev pub one : {A : Type 0} → A → List A
 one a = a ∷ []
-
--- a call answers what is asked, its value seen as `see` says, or it had no memory
-abbrev pub Reads : {A B : Type 0} → (A → B) → Checked A → Checked B → Type 0
-Reads see result asked = (map_ok see result ≡ asked) ⊎ (result ≡ Err NoMemory)

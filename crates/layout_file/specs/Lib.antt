@@ -7,3 +7,4 @@ pub mod Overlaps
 pub mod Sound
 pub mod Views
 pub mod Layout
+pub mod internal

@@ -1,15 +1,9 @@
 -- The values that the code's types stand for.
-use Rattle.std.specs.Prelude.{ℕ, List, [], ◌∷◌, map, Option, Some, None, String, string_bytes, Vec}
-use Rattle.std.specs.Borrow.{Bor}
-use Rattle.std.specs.BTreeMap.{BTreeMap}
+use Rattle.std.specs.Prelude.{ℕ, List, map, String, string_bytes, Vec}
 use Rattle.std.specs.declared.alloc.Global.{Global}
-use Rattle.toml.specs.Data.{Members}
-use Rattle.toml.specs.View.{table_view}
-use Rattle.toml.specs.declared.value.Value.{Value}
 use Rattle.layout_file.specs.Values.{VectorValue, ModuleValue}
 use Rattle.layout_file.specs.declared.parts.VectorName.{VectorName}
 use Rattle.layout_file.specs.declared.parts.ModuleSpec.{ModuleSpec}
-
 abbrev pub strings_of : Vec (String Global) Global → List (List ℕ)
 strings_of v = map string_bytes v.items
 
@@ -18,13 +12,6 @@ vector_of v = record { vector = v.vector; name = string_bytes v.name }
 
 abbrev pub vectors_of : Vec VectorName Global → List VectorValue
 vectors_of v = map vector_of v.items
-
-abbrev pub vector_list : Option VectorName → List VectorValue
-vector_list None = []
-vector_list (Some v) = vector_of v ∷ []
-
-abbrev pub tables_of : Vec (Bor (BTreeMap (String Global) Value)) Global → List Members
-tables_of v = map (λ t. table_view t.now) v.items
 
 abbrev pub module_of : ModuleSpec → ModuleValue
 module_of m = record {

@@ -1,8 +1,9 @@
 //! Reads a layout table by table.
 ghost use Rattle.std.specs.Prelude.{◌≡◌, ◌≢◌, ◌<◌, ◌≤◌, ◌==◌, ◌⊎◌, MatchResult, Ok, Err, IfOk, IfErr, length, map};
 ghost use Rattle.toml.specs.View.{table_view};
-ghost use Rattle.layout_file.specs.Checked.{Reads};
-ghost use Rattle.layout_file.specs.Views.{tables_of, module_of, modules_of};
+ghost use Rattle.layout_file.specs.internal.Checked.{Reads};
+ghost use Rattle.layout_file.specs.Views.{module_of, modules_of};
+ghost use Rattle.layout_file.specs.internal.Views.{tables_of};
 ghost use Rattle.layout_file.specs.Layout.{layout_of, LayoutOf};
 ghost use Rattle.layout_file.specs.Layout as layout;
 ghost use Rattle.layout_file.specs.Clashes.{first_clash as first_clash_of, share_byte};

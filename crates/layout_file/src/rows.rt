@@ -6,8 +6,10 @@ ghost use Rattle.std.specs.List.{list_all, list_any, slice_index_or};
 ghost use Rattle.std.specs.Map.{keys_of};
 ghost use Rattle.std.specs.Str.{bytes_eq};
 ghost use Rattle.layout_file.specs.Rows as rows;
-ghost use Rattle.layout_file.specs.Checked.{map_ok, Reads};
-ghost use Rattle.layout_file.specs.Views.{strings_of, vectors_of, tables_of, vector_list};
+ghost use Rattle.layout_file.specs.Checked.{map_ok};
+ghost use Rattle.layout_file.specs.internal.Checked.{Reads};
+ghost use Rattle.layout_file.specs.Views.{strings_of, vectors_of};
+ghost use Rattle.layout_file.specs.internal.Views.{tables_of, vector_list};
 ghost use Rattle.layout_file.specs.Rows.{is_name_byte};
 
 use crate::fault::{Key, LayoutFault, Spot};

@@ -16,7 +16,7 @@ use Rattle.cpu_step.specs.Through.{AreAligned, Taken, taken, stored_in, through}
 use Rattle.cpu_step.specs.Lone.{Job, lone_read, lone_writes, lone_does, lone_who, all_inside, is_inside}
 use Rattle.cpu_step.proofs.ThroughLemmas.{AtMostOne, few_writes}
 use Rattle.lone_run.specs.Jobs.{between}
-use Rattle.lone_run.specs.Sections.{Held, answered, after_held, after_put}
+use Rattle.lone_run.specs.internal.Sections.{Held, answered, after_held, after_put}
 
 shape : (j : Job) (core ram : List ℕ) (insn : Insn) → IsFalse (is_unit insn) →
     lone_does j insn (between core ram)

@@ -1,17 +1,6 @@
 -- Whose call it is, as the code holds it.
 use Rattle.std.specs.Prelude.{ℕ, ◌-◌, List, false}
 use Rattle.cpu_step.specs.Lone as lone
-use Rattle.lone_run.specs.declared.job.Job.{Job}
-use Rattle.lone_run.specs.declared.job.Lasts.{Lasts}
-
--- the call of the module by itself
-abbrev pub call_of : Job → lone.Job
-call_of j = lone.job_of j.node_key.now j.owner.now j.text.now j.caller
-
 -- where the module stands between two instructions
 abbrev pub between : List ℕ → List ℕ → lone.Lone
 between core ram = record { core = core; data_bytes = ram; rest = 0; closing = false }
-
--- where it stands in the first cycle of an instruction that lasts like this
-abbrev pub lasting : List ℕ → List ℕ → Lasts → lone.Lone
-lasting core ram lasts = record { core = core; data_bytes = ram; rest = lasts.cycles - 1; closing = lasts.closing }

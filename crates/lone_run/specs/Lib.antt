@@ -1,3 +1,3 @@
 pub mod Jobs
 pub mod Ends
-pub mod Sections
+pub mod internal

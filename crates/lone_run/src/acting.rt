@@ -6,7 +6,8 @@ ghost use Rattle.mod_layout.specs.Table.{size_of};
 ghost use Rattle.mod_layout.specs.Tables.{IsSection};
 ghost use Rattle.cpu_step.specs.Asked.{asks};
 ghost use Rattle.cpu_step.specs.Lone.{all_inside, is_alone, lone_does, lone_who};
-ghost use Rattle.lone_run.specs.Jobs.{call_of, between, lasting};
+ghost use Rattle.lone_run.specs.Jobs.{between};
+ghost use Rattle.lone_run.specs.internal.Jobs.{call_of, lasting};
 
 use crate::job::{Job, Lasts};
 use crate::sections::{Sections, settle};

@@ -6,7 +6,8 @@ ghost use Rattle.mod_layout.specs.Table.{holds, size_of};
 ghost use Rattle.mod_layout.specs.Tables.{IsSection};
 ghost use Rattle.cpu_step.specs.Lone.{job_of, outcome, lone_after};
 ghost use Rattle.lone_run.specs.Ends.{answer_of, data_left};
-ghost use Rattle.lone_run.specs.Jobs.{call_of, between};
+ghost use Rattle.lone_run.specs.Jobs.{between};
+ghost use Rattle.lone_run.specs.internal.Jobs.{call_of};
 
 use crate::acting::do_insn;
 use crate::job::Job;

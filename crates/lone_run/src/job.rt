@@ -3,7 +3,7 @@
 ghost use Rattle.std.specs.Prelude.{◌≡◌, ◌<◌, ◌-◌, ◌^◌, slice_index, slice_set};
 ghost use Rattle.sm_words.specs.Words.{word_at};
 ghost use Rattle.cpu_step.specs.Lone.{lone_byte, lone_read, lone_write, inside_by, is_inside};
-ghost use Rattle.lone_run.specs.Jobs.{call_of};
+ghost use Rattle.lone_run.specs.internal.Jobs.{call_of};
 
 use cpu_step::{Access, Kind};
 use mod_layout::Module;

@@ -10,7 +10,7 @@ ghost use Rattle.cpu_step.specs.Fetched.{later_word, insn_at};
 ghost use Rattle.cpu_step.specs.Asked.{asks};
 ghost use Rattle.cpu_step.specs.Lone.{lone_byte, lone_who, unit_alone, is_alone, all_inside, text_word, may_do};
 ghost use Rattle.cpu_step.specs.Lone.{if_home, next_first, next_insn, Lone};
-ghost use Rattle.lone_run.specs.Jobs.{call_of};
+ghost use Rattle.lone_run.specs.internal.Jobs.{call_of};
 
 use crate::job::{Job, is_inside, word};
 use attest::in_range;

@@ -1,7 +1,7 @@
 //! The two sections as an instruction reads and writes them.
 
 ghost use Rattle.std.specs.Prelude.{◌≡◌};
-ghost use Rattle.lone_run.specs.Sections.{after_put};
+ghost use Rattle.lone_run.specs.internal.Sections.{after_put};
 
 use crate::job::{Job, read, write};
 use cpu_step::{Access, Kind, Port};
@@ -27,8 +27,8 @@ pub struct Sections<'a> {
 impl<'a> Port for Sections<'a> {
     ghost use Rattle.std.specs.Prelude.{Some};
     ghost use Rattle.cpu_step.specs.Lone.{lone_byte, value_at};
-    ghost use Rattle.lone_run.specs.Jobs.{call_of};
-    ghost use Rattle.lone_run.specs.Sections.{Held, held, answered, after_held};
+    ghost use Rattle.lone_run.specs.internal.Jobs.{call_of};
+    ghost use Rattle.lone_run.specs.internal.Sections.{Held, held, answered, after_held};
 
     ghost State = { Held };
 

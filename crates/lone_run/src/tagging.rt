@@ -7,7 +7,7 @@ ghost use Rattle.mod_keys.specs.Keys.{tag_of};
 ghost use Rattle.pc_access.specs.declared.Kind.TheVariants.{Read, Write};
 ghost use Rattle.attest.specs.Units.{each_byte};
 ghost use Rattle.cpu_step.specs.Lone.{lone_read, lone_writes};
-ghost use Rattle.lone_run.specs.Jobs.{call_of};
+ghost use Rattle.lone_run.specs.internal.Jobs.{call_of};
 
 use crate::job::{Job, byte, write};
 use cpu_step::{Access, Kind};

@@ -7,7 +7,8 @@ ghost use Rattle.mod_layout.specs.Table.{size_of};
 ghost use Rattle.mod_layout.specs.Tables.{IsSection};
 ghost use Rattle.attest.specs.Units.{next, unit_named, Tag};
 ghost use Rattle.cpu_step.specs.Lone.{unit_alone, lone_does};
-ghost use Rattle.lone_run.specs.Jobs.{call_of, between, lasting};
+ghost use Rattle.lone_run.specs.Jobs.{between};
+ghost use Rattle.lone_run.specs.internal.Jobs.{call_of, lasting};
 
 use crate::job::{Job, Lasts};
 use crate::next::has_ranges;

@@ -9,7 +9,7 @@ use Rattle.std.proofs.lemmas.List.Folds.{sum_by-replicate}
 use Rattle.std.proofs.lemmas.List.Sums.{sum_by-set, sum_by-cons, count_by-le-length}
 use Rattle.page_pool.specs.Tables.{table_of, bytes_of, zeros, IsLive, IsUnused}
 use Rattle.mem_map.specs.Contents.{Contents}
-use Rattle.mem_map.specs.Marks.{contents_of, IsMarked}
+use Rattle.mem_map.specs.internal.Marks.{contents_of, IsMarked}
 
 -- ---- tables
 

@@ -35,7 +35,7 @@ pub struct Memory {
 
 impl Model for Memory {
     ghost use Rattle.mem_map.specs.Contents.{Contents};
-    ghost use Rattle.mem_map.specs.Marks.{contents_of, IsMarked};
+    ghost use Rattle.mem_map.specs.internal.Marks.{contents_of, IsMarked};
 
     ghost Value = { Contents };
 

@@ -19,13 +19,15 @@ use Rattle.board.specs.Alike.{TookLines}
 use Rattle.board.specs.Faults.{IsLastFault}
 use Rattle.board.specs.declared.marks.LastFault.{LastFault}
 use Rattle.board.specs.declared.marks.LastFault.TheVariants as fault
-use Rattle.monitor.specs.Shown.{fault_text}
-use Rattle.board.specs.Ran.{ran_of, RanWhole, RanCutOff}
+use Rattle.monitor.specs.internal.Shown.{fault_text}
+use Rattle.board.specs.Ran.{RanWhole, RanCutOff}
+use Rattle.board.specs.Ran.{ran_of}
 use Rattle.board.specs.declared.Ran.{Ran}
 use Rattle.board.specs.declared.Ran.TheVariants as ran
 use Rattle.board.proofs.Runs.{state_more}
 use Rattle.monitor.specs.Bounds.{most_cycles, all_cycles}
-use Rattle.monitor.specs.Played.{Whole, CutShort, Does, Plays, PeersPlay}
+use Rattle.monitor.specs.Played.{Whole, CutShort, Plays, PeersPlay}
+use Rattle.monitor.specs.internal.Played.{Does}
 
 -- what is told of a fault of `last`
 last_refused : (addr k : ℕ) (g : Marked) (fault : LastFault) → IsLastFault addr k g fault → last_move addr k g (last_at addr k g) ≡ shown (fault_text fault) g

@@ -2,5 +2,5 @@ pub mod Bounds
 pub mod Line
 pub mod Laws
 pub mod Reading
-pub mod Shown
+pub mod internal
 pub mod Played

@@ -10,7 +10,6 @@ use Rattle.monitor.specs.declared.line.Operands.{Operands}
 use Rattle.monitor.specs.declared.line.LineFault.{LineFault}
 use Rattle.monitor.specs.declared.line.LineFault.TheVariants.{Form, Bounds}
 use Rattle.monitor.specs.Bounds.{is_bounded}
-
 -- ---- what stands in a line
 
 -- a decimal of any size
@@ -70,15 +69,6 @@ line_text (Back k) = codes "back " ++ decimal k
 line_text (Last addr k) = codes "last " ++ hex_word addr ++ codes " " ++ decimal k
 
 -- ---- the bounds
-
--- a number that is at most this
-abbrev pub up_to : ℕ → Option ℕ → Result ℕ LineFault
-up_to most None = Err Form
-up_to most (Some n) = if nat_le n most then Ok n else Err Bounds
-
-abbrev pub up_to_operands : ℕ → Option Operands → Result Operands LineFault
-up_to_operands most None = Err Form
-up_to_operands most (Some a) = if nat_le a.number most then Ok a else Err Bounds
 
 -- a line of a form is refused where its numbers are out of bounds
 abbrev pub checked : Option ScriptLine → Result ScriptLine LineFault

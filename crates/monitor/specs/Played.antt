@@ -1,10 +1,9 @@
 -- What playing a script on a sink does.
-use Rattle.std.specs.Prelude.{◌≡◌, ℕ, ◌<◌, List, ◌∷◌, ◌++◌, length, take, Option, Some, None, Result, Ok, Err}
+use Rattle.std.specs.Prelude.{◌≡◌, ℕ, ◌<◌, List, ◌∷◌, ◌++◌, length, take, Option, Some, None}
 use Rattle.std.specs.Io.KnownBytes.{Appends}
 use Rattle.schedule_file.specs.declared.Entry.{Entry}
 use Rattle.image_text.specs.Image.{Image}
 use Rattle.sm_io.specs.Sink.{Took, CutOff}
-use Rattle.sm_io.specs.declared.sink.Failed.{Failed}
 use Rattle.written_machine.specs.Marks.{Marked}
 use Rattle.written_machine.specs.Peers.{Peers}
 use Rattle.written_machine.specs.Script.{Move, led, moves, text_of, play}
@@ -32,11 +31,6 @@ module _ {S : Type 0} (taken : S → Option (List ℕ)) (faults sure : S → ℕ
     pub shorter : front < length move.text
     pub bytes : Appends (taken before) (taken after) (text_of earlier ++ take front move.text)
     pub cut : CutOff taken faults sure before after (text_of ms)
-
-  -- moves that are put to a sink
-  abbrev pub Does : Marked → Marked → S → S → List Move → Result (Unit {0}) Failed → Type 0
-  Does old new before after ms (Ok done) = Whole old new before after ms
-  Does old new before after ms (Err failed) = CutShort new before after ms
 
   -- a script that is played to its end, or cut short by the sink
   abbrev pub Plays : List ScriptLine → Marked → Marked → S → S → Ran → Type 0

@@ -3,7 +3,7 @@
 ghost use Rattle.std.specs.Prelude.{◌≡◌, ◌≤◌};
 ghost use Rattle.written_machine.specs.Marks.{marked, back_to, last_at};
 ghost use Rattle.written_machine.specs.Script.{mark_move, back_move, last_move};
-ghost use Rattle.monitor.specs.Shown.{fault_text};
+ghost use Rattle.monitor.specs.internal.Shown.{fault_text};
 
 use crate::showing::{
     Line, back_line, full_line, last_line, mark_line, no_mark_line, not_there_line,

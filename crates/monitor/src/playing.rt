@@ -6,7 +6,8 @@ ghost use Rattle.sm_io.specs.Sink.{Puts};
 ghost use Rattle.written_machine.specs.Script.{cycle_moves, line_moves};
 ghost use Rattle.written_machine.specs.Standing.{cycles_until};
 ghost use Rattle.monitor.specs.Bounds.{IsBounded, most_cycles, all_cycles};
-ghost use Rattle.monitor.specs.Played.{Does, Plays, PeersPlay};
+ghost use Rattle.monitor.specs.Played.{Plays, PeersPlay};
+ghost use Rattle.monitor.specs.internal.Played.{Does};
 
 use crate::commands::{back, last, mark};
 use crate::showing::{Line, mem_line, regs_line};
@@ -33,19 +34,8 @@ pub fn play<S: Sink>(board: &mut Board, script: &Script, sink: &mut S) -> Ran
         }
     }
     match board.finish(sink) {
-        Ok(()) => ended(board),
+        Ok(()) => board.ended(),
         Err(Failed) => Ran::SinkFailed,
-    }
-}
-
-// How a script ends that leaves this board.
-#[tactic(auto, unfolding(written_machine::specs::View::view_of))]
-fn ended(board: &Board) -> Ran
-    ensures { result ≡ ran_of board.now.present.stop }
-{
-    match board.view(Hidden::All).stop() {
-        Some(stop) => Ran::Stopped(stop),
-        None => Ran::Done,
     }
 }
 

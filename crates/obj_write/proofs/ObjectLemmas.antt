@@ -15,8 +15,10 @@ use Rattle.obj_write.specs.declared.sections.Head.{Head}
 use Rattle.obj_write.specs.declared.sections.Sections.{Sections}
 use Rattle.obj_write.specs.declared.strings.Strings.{Strings}
 use Rattle.elf_objects.specs.Numbers.{file_header_size}
-use Rattle.obj_write.specs.Strings.{name_at, IsTableOf}
-use Rattle.obj_write.specs.Sections.{FileSection, contents_of, head_of, header_table, AreSections}
+use Rattle.obj_write.specs.Strings.{name_at}
+use Rattle.obj_write.specs.internal.Strings.{IsTableOf}
+use Rattle.obj_write.specs.Sections.{FileSection, contents_of, head_of, header_table}
+use Rattle.obj_write.specs.internal.Sections.{AreSections}
 use Rattle.obj_write.specs.Symbols.{symbol_table}
 use Rattle.obj_write.specs.Relocations.{relocations_in, relocation_table, index_where_some, relocated}
 use Rattle.obj_write.specs.Object.{no_part, table_names, part_names, relocation_name, relocated_in, section_names, part_head, part_section, relocations_head, symtab_index, relocation_section, symbols_head, strings_head, symtab_section, file_header, file_of}

@@ -13,7 +13,8 @@ use Rattle.asm_text.specs.Views.{symbol_of}
 use Rattle.obj_write.specs.declared.strings.Strings.{Strings}
 use Rattle.elf_objects.specs.Numbers.{symbol_size}
 use Rattle.obj_write.specs.Bytes.{zeros}
-use Rattle.obj_write.specs.Strings.{name_at, IsTableOf}
+use Rattle.obj_write.specs.Strings.{name_at}
+use Rattle.obj_write.specs.internal.Strings.{IsTableOf}
 use Rattle.obj_write.specs.Symbols.{no_symbol, symbol_entry, symbol_entry_at, symbol_names, symbol_table, first_global}
 
 entry_at_is : (xs : List AsmSymbol) (i name : ℕ) (x : AsmSymbol) → i < length xs → x ≡ get_or xs i x → name ≡ name_at (symbol_names (map symbol_of xs)) i

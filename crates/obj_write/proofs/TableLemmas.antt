@@ -9,8 +9,10 @@ use Rattle.obj_write.specs.declared.sections.Head.{Head}
 use Rattle.obj_write.specs.declared.sections.Sections.{Sections}
 use Rattle.elf_objects.specs.Numbers.{file_header_size, section_header_size}
 use Rattle.obj_write.specs.Bytes.{zeros, padded}
-use Rattle.obj_write.specs.Strings.{terminated, string_table, name_at, IsTableOf}
-use Rattle.obj_write.specs.Sections.{FileSection, no_section, contents_of, content_at, head_of, head_bytes, header_table, AreSections}
+use Rattle.obj_write.specs.Strings.{terminated, string_table, name_at}
+use Rattle.obj_write.specs.internal.Strings.{IsTableOf}
+use Rattle.obj_write.specs.Sections.{FileSection, no_section, contents_of, content_at, head_of, head_bytes, header_table}
+use Rattle.obj_write.specs.internal.Sections.{AreSections}
 use Rattle.obj_write.proofs.PassLemmas.{each_below_same, flat_map_each}
 
 -- ---- string tables

@@ -5,4 +5,4 @@ pub mod Symbols
 pub mod Relocations
 pub mod Object
 pub mod Reader
-pub mod Rows
+pub mod internal

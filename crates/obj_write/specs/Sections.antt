@@ -1,12 +1,10 @@
 -- The sections of a file after section 0: their headers and where their contents stand (TIS ELF 1.2, "Sections").
-use Rattle.std.specs.Prelude.{◌≡◌, ℕ, ◌+◌, List, [], ◌∷◌, ◌++◌, length, take, slice_index_or}
+use Rattle.std.specs.Prelude.{ℕ, ◌+◌, List, [], ◌∷◌, ◌++◌, length, take, slice_index_or}
 use Rattle.std.specs.List.{flat_map}
 use Rattle.elf_objects.specs.Numbers.{file_header_size, section_header_size}
-use Rattle.elf_objects.specs.Passes.{each_below, all_below}
+use Rattle.elf_objects.specs.Passes.{all_below}
 use Rattle.obj_write.specs.declared.sections.Head.{Head}
-use Rattle.obj_write.specs.declared.sections.Sections.{Sections}
 use Rattle.obj_write.specs.Bytes.{words_bytes, zeros, padded}
-
 -- a section: its header without a place, and its content
 pub record FileSection : Type 0 where
   pub head : Head
@@ -38,8 +36,3 @@ head_bytes h = words_bytes (h.name ∷ h.kind ∷ h.flags ∷ 0 ∷ h.offset ∷
 unfoldable pub header_table : List FileSection → List ℕ
 header_table sections =
     zeros section_header_size ++ all_below (λ k. head_bytes (head_of sections k)) (length sections)
-
--- the contents and the headers of these sections
-pub record AreSections (sections : List FileSection) (s : Sections) : Type 0 where
-  pub contents : s.contents.items ≡ contents_of sections
-  pub heads : s.heads.items ≡ each_below (head_of sections) (length sections)

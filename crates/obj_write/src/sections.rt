@@ -2,7 +2,8 @@
 
 ghost use Rattle.std.specs.Prelude.{◌≡◌, ◌++◌, ◌∷◌, List, ℕ, [], IfOk, OnOk};
 ghost use Rattle.std.specs.List.{flat_map};
-ghost use Rattle.obj_write.specs.Sections.{FileSection, AreSections, head_bytes, contents_of, header_table};
+ghost use Rattle.obj_write.specs.Sections.{FileSection, head_bytes, contents_of, header_table};
+ghost use Rattle.obj_write.specs.internal.Sections.{AreSections};
 
 use crate::bytes::{put_padded, put_words};
 use std::alloc::{AllocError, Global};

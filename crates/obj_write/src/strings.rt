@@ -1,7 +1,8 @@
 //! String tables.
 
 ghost use Rattle.std.specs.Prelude.{◌≡◌, ◌<◌, ◌++◌, ◌∷◌, List, ℕ, [], length, IfOk, OnOk};
-ghost use Rattle.obj_write.specs.Strings.{IsTableOf, name_at};
+ghost use Rattle.obj_write.specs.Strings.{name_at};
+ghost use Rattle.obj_write.specs.internal.Strings.{IsTableOf};
 
 use std::alloc::{AllocError, Global};
 

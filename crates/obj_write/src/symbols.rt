@@ -2,7 +2,7 @@
 
 ghost use Rattle.std.specs.Prelude.{◌≡◌, ◌++◌, IfOk, OnOk, map, position};
 ghost use Rattle.asm_text.specs.Views.{symbol_of};
-ghost use Rattle.obj_write.specs.Strings.{IsTableOf};
+ghost use Rattle.obj_write.specs.internal.Strings.{IsTableOf};
 ghost use Rattle.obj_write.specs.Symbols.{info_of, home_index, symbol_entry, symbol_names, symbol_table, first_global};
 
 use crate::bytes::{put_half, put_word};

@@ -2,7 +2,7 @@
 
 ghost use Rattle.std.specs.Prelude.{◌≡◌, IfOk};
 ghost use Rattle.asm_text.specs.Views.{section_of, symbol_of};
-ghost use Rattle.obj_write.specs.Rows.{text_value, here_value, main_value};
+ghost use Rattle.obj_write.specs.internal.Rows.{text_value, here_value, main_value};
 
 use crate::write_object;
 use asm_text::{AsmSection, AsmSymbol, AsmUnit, SectionKind};

@@ -6,8 +6,8 @@ use Rattle.std.proofs.lemmas.List.{get_or-set_same, get_or-set_other, length-set
 use Rattle.std.proofs.lemmas.Bool.Decides.{eqb_tells}
 use Rattle.std.proofs.lemmas.List.Elements.{All-get_or, All-set}
 use Rattle.page_pool.specs.declared.store.Table.{Table}
-use Rattle.page_pool.specs.Naming.{names_of, bytes_at, table_at, tables_at, IsCounted}
-use Rattle.page_pool.specs.Counts.{times_in, IsFree}
+use Rattle.page_pool.specs.internal.Naming.{names_of, bytes_at, table_at, tables_at, IsCounted}
+use Rattle.page_pool.specs.internal.Counts.{times_in, IsFree}
 use Rattle.page_pool.proofs.TableLemmas.{names_in, counts_cover_more, names_of-set_place, bytes_at-set_place, tables_at-set_unnamed, live_bytes, live_names}
 use Rattle.page_pool.proofs.PageLemmas.{bytes_at-set_unnamed}
 use Rattle.std.proofs.Math.Seq.{map-set_same}

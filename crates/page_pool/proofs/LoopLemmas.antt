@@ -4,7 +4,7 @@ use Rattle.std.proofs.Math.ListN.{set}
 use Rattle.std.proofs.lemmas.List.Sums.{sum_by_more, sum_by-take-le, count_by-le-length}
 use Rattle.std.proofs.lemmas.List.{get_or-set_same, get_or-set_other, length-set}
 use Rattle.std.proofs.lemmas.Bool.Decides.{eqb_tells}
-use Rattle.page_pool.specs.Counts.{times_in, IsFree}
+use Rattle.page_pool.specs.internal.Counts.{times_in, IsFree}
 use Rattle.page_pool.proofs.CopyLemmas.{zeros_set, not_zero, is_zero, same_page, other_page, sum_set}
 
 -- one more place is looked at

@@ -8,9 +8,9 @@ use Rattle.std.proofs.lemmas.List.Folds.{sum_by-replicate}
 use Rattle.std.proofs.lemmas.Bool.Decides.{eqb_tells}
 use Rattle.std.proofs.lemmas.Bool.{cond-true, cond-false}
 use Rattle.page_pool.specs.declared.store.Table.{Table}
-use Rattle.page_pool.specs.Counts.{times_in, IsFree}
+use Rattle.page_pool.specs.internal.Counts.{times_in, IsFree}
 use Rattle.page_pool.specs.Tables.{zeros}
-use Rattle.page_pool.specs.Naming.{names_of, bytes_at, table_at, tables_at, IsCounted}
+use Rattle.page_pool.specs.internal.Naming.{names_of, bytes_at, table_at, tables_at, IsCounted}
 use Rattle.page_pool.proofs.TableLemmas.{names_in}
 
 page_zero : (page n : ℕ) → times_in page (replicate n 0) ≡ n * cond {A = ℕ} (eqb 0 page) 1 0

@@ -5,8 +5,8 @@ use Rattle.std.proofs.lemmas.List.Sums.{sum_by-cons, get_or-le-sum_by}
 use Rattle.std.proofs.lemmas.List.{get_or-set_same, get_or-set_other, set-append_left, set-append_right}
 use Rattle.std.proofs.lemmas.List.Elements.{All-head, All-tail, All-get_or}
 use Rattle.std.proofs.lemmas.Bool.Decides.{eqb_tells}
-use Rattle.page_pool.specs.Naming.{bytes_at}
-use Rattle.page_pool.specs.Counts.{times_in}
+use Rattle.page_pool.specs.internal.Naming.{bytes_at}
+use Rattle.page_pool.specs.internal.Counts.{times_in}
 
 -- ---- names in a list of places
 

@@ -6,9 +6,9 @@ use Rattle.std.proofs.lemmas.List.Elements.{All-get_or, All-set, All-from_get_or
 use Rattle.std.proofs.lemmas.List.Sums.{sum_by-set, get_or-le-sum_by, count_by-le-length}
 use Rattle.std.proofs.lemmas.Bool.{cond-true, cond-false}
 use Rattle.page_pool.specs.declared.store.Table.{Table}
-use Rattle.page_pool.specs.Counts.{times_in, IsFree}
+use Rattle.page_pool.specs.internal.Counts.{times_in, IsFree}
 use Rattle.page_pool.specs.Tables.{table_of}
-use Rattle.page_pool.specs.Naming.{names_of, bytes_at, table_at, tables_at, IsCounted, no_table, place_of, IsLiveIn, IsUnusedIn}
+use Rattle.page_pool.specs.internal.Naming.{names_of, bytes_at, table_at, tables_at, IsCounted, no_table, place_of, IsLiveIn, IsUnusedIn}
 use Rattle.page_pool.proofs.TableLemmas.{names_in, live_names, live_bytes}
 use Rattle.page_pool.proofs.StoreLemmas.{places_long, place_inside, place_counted, live_table}
 

@@ -5,7 +5,7 @@ use Rattle.std.proofs.lemmas.List.{length-set, get_or-set_same, get_or-map, get_
 use Rattle.std.proofs.lemmas.List.Elements.{All-get_or, All-set}
 use Rattle.std.proofs.lemmas.List.Sums.{get_or-le-sum_by}
 use Rattle.page_pool.specs.declared.store.Table.{Table}
-use Rattle.page_pool.specs.Naming.{names_of, bytes_at, table_at, tables_at, IsCounted, no_table, place_of, IsLiveIn}
+use Rattle.page_pool.specs.internal.Naming.{names_of, bytes_at, table_at, tables_at, IsCounted, no_table, place_of, IsLiveIn}
 use Rattle.page_pool.specs.Tables.{bytes_of}
 use Rattle.page_pool.proofs.TableLemmas.{names_in, named_in, live_bytes, tables_at-set_named}
 use Rattle.page_pool.proofs.CopyLemmas.{spare_some, copy_counted, copy_same}

@@ -7,8 +7,8 @@ use Rattle.std.proofs.lemmas.Bool.Decides.{eqb_tells}
 use Rattle.std.proofs.lemmas.List.Elements.{All-head, All-tail}
 use Rattle.std.proofs.lemmas.Bool.{cond-true, cond-false}
 use Rattle.page_pool.specs.declared.store.Table.{Table}
-use Rattle.page_pool.specs.Naming.{names_of, bytes_at, tables_at}
-use Rattle.page_pool.specs.Counts.{times_in}
+use Rattle.page_pool.specs.internal.Naming.{names_of, bytes_at, tables_at}
+use Rattle.page_pool.specs.internal.Counts.{times_in}
 use Rattle.page_pool.proofs.PageLemmas.{unnamed_first, named_at, bytes_at-set_unnamed, bytes_at-set_named}
 
 -- how often one table names a page

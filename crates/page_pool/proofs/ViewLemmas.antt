@@ -6,7 +6,7 @@ use Rattle.std.proofs.Math.Seq.{take-append_seam, drop-append-add}
 use Rattle.std.proofs.lemmas.List.Elements.{All-head, All-tail, All-get_or, All-map, All-weaker}
 use Rattle.page_pool.specs.declared.store.Table.{Table}
 use Rattle.page_pool.specs.Tables.{bytes_of, IsLive, IsUnused}
-use Rattle.page_pool.specs.Naming.{bytes_at, table_at, tables_at, IsCounted, no_table, place_of, IsLiveIn, IsUnusedIn}
+use Rattle.page_pool.specs.internal.Naming.{bytes_at, table_at, tables_at, IsCounted, no_table, place_of, IsLiveIn, IsUnusedIn}
 use Rattle.page_pool.proofs.StoreLemmas.{places_long, live_table}
 
 -- ---- pages

@@ -1,3 +1,2 @@
 pub mod Tables
-pub mod Counts
-pub mod Naming
+pub mod internal

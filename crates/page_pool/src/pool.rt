@@ -22,7 +22,7 @@ pub struct Pool {
 
 impl Model for Pool {
     ghost use Rattle.std.specs.Prelude.{ℕ, List, Option};
-    ghost use Rattle.page_pool.specs.Naming.{tables_of, IsStore};
+    ghost use Rattle.page_pool.specs.internal.Naming.{tables_of, IsStore};
 
     // The bytes of each table by its number; none where it is not live.
     ghost Value = { List (Option (List ℕ)) };

@@ -1,7 +1,7 @@
 //! The pages, their counts and the tables.
 
 ghost use Rattle.std.specs.Prelude.{◌≡◌, ◌+◌, ◌*◌, ◌<◌, ◌≤◌, ◌-◌, ℕ, All, length, get_or, sum, IfOk, count_by, replicate, false, ◌==◌};
-ghost use Rattle.page_pool.specs.Counts.{times_in, IsFree};
+ghost use Rattle.page_pool.specs.internal.Counts.{times_in, IsFree};
 
 use std::alloc::{AllocError, Global};
 
@@ -32,7 +32,7 @@ pub struct Store {
 impl Store {
     ghost use Rattle.std.specs.Prelude.{◌≡◌, ◌≢◌, ◌+◌, ◌*◌, ◌<◌, [], get_or, slice_set, replicate, true, All, Some, None, IfOk, IsNone, IfSome};
     ghost use Rattle.page_pool.specs.Tables.{bytes_of, table_of, zeros};
-    ghost use Rattle.page_pool.specs.Naming.{tables_of, place_of, IsLiveIn, IsUnusedIn, IsStore};
+    ghost use Rattle.page_pool.specs.internal.Naming.{tables_of, place_of, IsLiveIn, IsUnusedIn, IsStore};
 
     /// A store of so many tables, of which table 0 alone is live. All its bytes are 0, on one page.
     #[tactic(auto, using(crate::proofs::NewLemmas::new_counted, crate::proofs::NewLemmas::new_shown))]

@@ -8,7 +8,7 @@ use Rattle.sm_cli.specs.declared.answers.FileFault.{FileFault}
 use Rattle.sm_cli.specs.declared.answers.Refusal.{Refusal}
 use Rattle.sm_cli.specs.declared.answers.Refusal.TheVariants as refusal
 use Rattle.sm_cli.specs.Files.{Held, an_object, object_file, Need, need, object_needs, Holds, HoldAll, IsFirstFault, IsReached}
-use Rattle.sm_cli.specs.Serve.{IsNeedCause}
+use Rattle.sm_cli.specs.internal.Serve.{IsNeedCause}
 
 -- the next name of a list, and what stands behind it
 pub at_name : {X : Type 0} (f : X → List ℕ) (items : List X) (i : ℕ) (d : X) (done text : List (List ℕ)) → i < length items → done ++ map f (drop i items) ≡ text

@@ -21,12 +21,12 @@ use Rattle.sm_cli.specs.LinkCommand.{link_command, objects_in, linked, linked_by
 use Rattle.written_machine.specs.declared.ScriptLine.{ScriptLine}
 use Rattle.sm_cli.specs.MonitorCommand.{monitor_command, script_answer}
 use Rattle.sm_cli.specs.RunCommand.{run_command}
-use Rattle.sm_cli.specs.Serve.{IsNeedCause, IsCommandCause, EndsAs, IsRun}
-use Rattle.sm_cli.specs.StatusNumbers.{status_after}
+use Rattle.sm_cli.specs.internal.Serve.{IsNeedCause, IsCommandCause, EndsAs, IsRun}
+use Rattle.sm_cli.specs.internal.StatusNumbers.{status_after}
 use Rattle.sm_cli.specs.declared.answers.Status.{Status}
 use Rattle.sm_cli.specs.declared.answers.Status.TheVariants as status
 use Rattle.sm_cli.specs.SymbolNames.{symbol_name}
-use Rattle.sm_cli.specs.Unlinked.{IsUnlinked}
+use Rattle.sm_cli.specs.internal.Unlinked.{IsUnlinked}
 
 -- what a command gives is its answer
 pub gives_answer : (files : Option FileMap) (command : Command) (answer : Answer) → Comes files command (gives answer) → IsAnswer files command answer

@@ -21,7 +21,8 @@ use Rattle.sm_cli.specs.Input.{IsInput, IsScriptInput}
 use Rattle.sm_cli.specs.MonitorCommand.{monitor_command, script_answer}
 use Rattle.sm_cli.specs.RunCommand.{run_command}
 use Rattle.sm_cli.specs.Refusal.{status_of, line_of}
-use Rattle.sm_cli.specs.Serve.{Call, call_of, Serves, Refuses, IsCause, IsNeedCause, IsRun, EndsAs, Completes, IsOrOutside, IsCommandCause}
+use Rattle.sm_cli.specs.Serve.{Call, call_of, Serves, Refuses, IsCause, Completes, IsOrOutside}
+use Rattle.sm_cli.specs.internal.Serve.{IsNeedCause, IsRun, EndsAs, IsCommandCause}
 use Rattle.sm_cli.proofs.Needed.{one_answer, no_first_fault, no_fault_of_answer, no_refusal_of_answer}
 use Rattle.sm_cli.proofs.Running.{image_answer, run_answer, monitor_answer}
 

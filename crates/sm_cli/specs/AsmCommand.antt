@@ -1,11 +1,9 @@
 -- `asm SOURCE`: the object of a program.
 use Rattle.std.specs.Prelude.{List, [], ◌∷◌, Option, Some, None}
 use Rattle.obj_write.specs.Object.{object_of}
-use Rattle.sm_cli.specs.declared.commands.asm.AsmCommand.{AsmCommand}
 use Rattle.sm_cli.specs.Words.{Text}
 use Rattle.sm_cli.specs.Files.{Held, a_unit, source_file, need}
 use Rattle.sm_cli.specs.Command.{Outcome, done, no_outcome, Command}
-
 abbrev pub asm_outcome : List Held → Outcome
 asm_outcome (a_unit unit ∷ []) = done (object_of unit)
 asm_outcome _ = no_outcome
@@ -16,7 +14,3 @@ asm_command name = record { needs = need name source_file ∷ []; outcome = asm_
 abbrev pub asm_of : List Text → Option Command
 asm_of (name ∷ []) = Some (asm_command name)
 asm_of _ = None
-
--- what the program's value asks for
-abbrev pub asm_asked : AsmCommand → Command
-asm_asked c = asm_command c.source.now

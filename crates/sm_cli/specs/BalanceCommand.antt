@@ -6,12 +6,10 @@ use Rattle.mod_layout.specs.declared.Module.{Module}
 use Rattle.mod_layout.specs.Table.{module_of}
 use Rattle.image_text.specs.Image.{Image}
 use Rattle.written_machine.specs.Peers.{section}
-use Rattle.sm_cli.specs.declared.commands.balance.BalanceCommand.{BalanceCommand}
 use Rattle.sm_cli.specs.Words.{Text}
 use Rattle.sm_cli.specs.Arguments.{id_of}
 use Rattle.sm_cli.specs.Files.{Held, an_image, certificates, arms_file, image_with, need}
 use Rattle.sm_cli.specs.Command.{Outcome, judges, no_outcome, Command}
-
 abbrev pub balanced_by : Image → List Arm → Option Module → Outcome
 balanced_by value arms (Some owner) = judges owner (section owner.text value.memory) arms
 balanced_by value arms None = no_outcome
@@ -30,7 +28,3 @@ balance_in name arms id = balance_command name id arms
 abbrev pub balance_of : List Text → Option Command
 balance_of (name ∷ id ∷ arms ∷ []) = option_map (balance_in name arms) (id_of id)
 balance_of _ = None
-
--- what the program's value asks for
-abbrev pub balance_asked : BalanceCommand → Command
-balance_asked c = balance_command c.image.now c.id c.arms.now

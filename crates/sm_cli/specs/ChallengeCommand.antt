@@ -1,11 +1,9 @@
 -- `challenge CHALLENGES`: the schedule that sends a vendor's challenges.
 use Rattle.std.specs.Prelude.{List, [], ◌∷◌, Option, Some, None}
 use Rattle.vendor_tool.specs.NonceSchedule.{entries_of, entries_text}
-use Rattle.sm_cli.specs.declared.commands.challenge.ChallengeCommand.{ChallengeCommand}
 use Rattle.sm_cli.specs.Words.{Text}
 use Rattle.sm_cli.specs.Files.{Held, the_challenges, challenges_file, need}
 use Rattle.sm_cli.specs.Command.{Outcome, done, no_outcome, Command}
-
 abbrev pub challenge_outcome : List Held → Outcome
 challenge_outcome (the_challenges list ∷ []) = done (entries_text (entries_of list))
 challenge_outcome _ = no_outcome
@@ -16,7 +14,3 @@ challenge_command name = record { needs = need name challenges_file ∷ []; outc
 abbrev pub challenge_of : List Text → Option Command
 challenge_of (name ∷ []) = Some (challenge_command name)
 challenge_of _ = None
-
--- what the program's value asks for
-abbrev pub challenge_asked : ChallengeCommand → Command
-challenge_asked c = challenge_command c.challenges.now

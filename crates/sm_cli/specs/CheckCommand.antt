@@ -5,12 +5,10 @@ use Rattle.mod_layout.specs.declared.Module.{Module}
 use Rattle.mod_layout.specs.Table.{module_of}
 use Rattle.image_text.specs.Image.{Image}
 use Rattle.written_machine.specs.Peers.{section}
-use Rattle.sm_cli.specs.declared.commands.check.CheckCommand.{CheckCommand}
 use Rattle.sm_cli.specs.Words.{Text}
 use Rattle.sm_cli.specs.Arguments.{id_of}
 use Rattle.sm_cli.specs.Files.{Held, an_image, image_with, need}
 use Rattle.sm_cli.specs.Command.{Outcome, judges, no_outcome, Command}
-
 abbrev pub checked_by : Image → Option Module → Outcome
 checked_by value (Some owner) = judges owner (section owner.text value.memory) []
 checked_by value None = no_outcome
@@ -25,7 +23,3 @@ check_command name id = record { needs = need name (image_with id) ∷ []; outco
 abbrev pub check_of : List Text → Option Command
 check_of (name ∷ id ∷ []) = option_map (check_command name) (id_of id)
 check_of _ = None
-
--- what the program's value asks for
-abbrev pub check_asked : CheckCommand → Command
-check_asked c = check_command c.image.now c.id

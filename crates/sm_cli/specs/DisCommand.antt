@@ -5,11 +5,9 @@ use Rattle.sm_words.specs.Words.{word_of}
 use Rattle.insn_decode.specs.declared.insn.Insn.{Insn}
 use Rattle.insn_decode.specs.Code.{insn_of, length_at, length_or_one}
 use Rattle.insn_decode.specs.Text.{text_of}
-use Rattle.sm_cli.specs.declared.commands.dis.DisCommand.{DisCommand}
 use Rattle.sm_cli.specs.Words.{Text}
 use Rattle.sm_cli.specs.Files.{Held, an_image, image_file, need}
 use Rattle.sm_cli.specs.Command.{Outcome, done, no_outcome, Command}
-
 -- the word at an address
 abbrev pub word_in : List ℕ → ℕ → ℕ
 word_in memory at = word_of (slice_index memory at) (slice_index memory (at + 1))
@@ -66,7 +64,3 @@ range_command name start end = if (start % 2 == 0) && nat_le start end then Some
 abbrev pub dis_of : List Text → Option Command
 dis_of (name ∷ start ∷ end ∷ []) = option_and_then (λ s. option_and_then (λ e. range_command name s e) (read_hex_word end)) (read_hex_word start)
 dis_of _ = None
-
--- what the program's value asks for
-abbrev pub dis_asked : DisCommand → Command
-dis_asked c = dis_command c.image.now c.start c.end

@@ -1,20 +1,16 @@
 -- `image IMAGE SCHEDULE CYCLES`: the outside trace of an image.
-use Rattle.std.specs.Prelude.{ℕ, Bool, true, false, List, [], ◌∷◌, ◌++◌, Option, None, is_some}
-use Rattle.std.specs.Option.{option_map, option_copied}
+use Rattle.std.specs.Prelude.{ℕ, Bool, true, false, List, [], ◌∷◌, Option, None, is_some}
+use Rattle.std.specs.Option.{option_map}
 use Rattle.image_text.specs.Image.{Image}
 use Rattle.schedule_file.specs.declared.Entry.{Entry}
-use Rattle.written_machine.specs.Cycle.{after_cycles}
-use Rattle.written_machine.specs.State.{State}
-use Rattle.written_machine.specs.Trace.{trace, lines_after, end_line_of}
+use Rattle.written_machine.specs.Trace.{trace}
 use Rattle.written_machine.specs.View.{at}
 use Rattle.sm_cli.specs.declared.answers.Status.{Status}
 use Rattle.sm_cli.specs.declared.answers.Status.TheVariants as status
-use Rattle.sm_cli.specs.declared.commands.image.ImageCommand.{ImageCommand}
 use Rattle.sm_cli.specs.Words.{Text}
 use Rattle.sm_cli.specs.Arguments.{file_named, cycles_of}
 use Rattle.sm_cli.specs.Files.{Held, an_image, a_schedule, image_file, need, schedule_needs}
 use Rattle.sm_cli.specs.Command.{Answer, Outcome, gives, no_outcome, Command}
-
 -- the status of a run that ends stopped, or not
 abbrev pub run_status : Bool → Status
 run_status true = status.Stopped
@@ -23,10 +19,6 @@ run_status false = status.Done
 -- the outside trace of an image on a schedule
 abbrev pub trace_answer : Image → List Entry → ℕ → Answer
 trace_answer value entries cycles = record { text = trace value entries cycles; status = run_status (is_some (at value entries cycles).stop) }
-
--- what a run of that many cycles from a state writes, and its status
-abbrev pub answer_from : State → ℕ → Answer
-answer_from s cycles = record { text = lines_after s cycles ++ end_line_of (after_cycles s cycles); status = run_status (is_some (after_cycles s cycles).stop) }
 
 -- the entries of a schedule's file; with no file there are none
 abbrev pub entries_in : List Held → List Entry
@@ -43,7 +35,3 @@ image_command name schedule cycles = record { needs = need name image_file ∷ s
 abbrev pub image_of : List Text → Option Command
 image_of (name ∷ schedule ∷ cycles ∷ []) = option_map (image_command name (file_named schedule)) (cycles_of cycles)
 image_of _ = None
-
--- what the program's value asks for
-abbrev pub image_asked : ImageCommand → Command
-image_asked c = image_command c.image.now (option_copied c.schedule) c.cycles

@@ -7,12 +7,10 @@ use Rattle.mod_layout.specs.Table.{module_of}
 use Rattle.mod_keys.specs.Keys.{provider_key, module_key}
 use Rattle.image_text.specs.Image.{Image}
 use Rattle.written_machine.specs.Peers.{section}
-use Rattle.sm_cli.specs.declared.commands.key.KeyCommand.{KeyCommand}
 use Rattle.sm_cli.specs.Words.{Text}
 use Rattle.sm_cli.specs.Arguments.{id_of}
 use Rattle.sm_cli.specs.Files.{Held, an_image, image_with, need}
 use Rattle.sm_cli.specs.Command.{Outcome, done, no_outcome, Command}
-
 -- the line of a key
 abbrev pub key_line : List ℕ → List ℕ → List ℕ
 key_line name key = name ++ (hex_key key ++ codes "\n")
@@ -37,7 +35,3 @@ key_command name id = record { needs = need name (image_with id) ∷ []; outcome
 abbrev pub key_of : List Text → Option Command
 key_of (name ∷ id ∷ []) = option_map (key_command name) (id_of id)
 key_of _ = None
-
--- what the program's value asks for
-abbrev pub key_asked : KeyCommand → Command
-key_asked c = key_command c.image.now c.id

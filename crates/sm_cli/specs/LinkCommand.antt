@@ -8,13 +8,10 @@ use Rattle.linker.specs.declared.fault.LinkFault.{LinkFault}
 pub use Rattle.linker.specs.Image.{linked_image}
 use Rattle.linker.specs.Refusals.{link_fault_of}
 use Rattle.sm_cli.specs.declared.answers.Status.TheVariants as status
-use Rattle.sm_cli.specs.declared.commands.link.LinkCommand.{LinkCommand}
 use Rattle.sm_cli.specs.Words.{Text}
 use Rattle.sm_cli.specs.Files.{Held, an_object, a_layout, layout_file, need, object_needs}
 use Rattle.sm_cli.specs.Command.{Answer, Outcome, gives, refuses, no_outcome, Command}
 use Rattle.sm_cli.specs.SymbolNames.{symbol_name}
-use Rattle.std.specs.Prelude.{map}
-
 -- the objects among what files hold
 abbrev pub objects_in : List Held → List ObjectValue
 objects_in (an_object object ∷ more) = object ∷ objects_in more
@@ -41,7 +38,3 @@ link_command layout objects = record { needs = need layout layout_file ∷ objec
 abbrev pub link_of : List Text → Option Command
 link_of (layout ∷ objects) = Some (link_command layout objects)
 link_of _ = None
-
--- what the program's value asks for
-abbrev pub link_asked : LinkCommand → Command
-link_asked c = link_command c.layout.now (map (λ o. o.now) c.objects.items)

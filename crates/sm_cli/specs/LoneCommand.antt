@@ -13,7 +13,6 @@ use Rattle.lone_run.specs.Ends.{answer_of}
 use Rattle.lone_run.specs.declared.Outcome.{Outcome as End}
 use Rattle.lone_run.specs.declared.Outcome.TheVariants.{Exit, Closed, Broken, Running}
 use Rattle.sm_cli.specs.declared.answers.Status.TheVariants as status
-use Rattle.sm_cli.specs.declared.commands.lone.LoneCommand.{LoneCommand}
 use Rattle.sm_cli.specs.declared.pairs.Pair.{Pair}
 use Rattle.sm_cli.specs.Words.{Text}
 use Rattle.sm_cli.specs.Arguments.{id_of, cycles_of}
@@ -21,7 +20,6 @@ use Rattle.sm_cli.specs.Numbers.{number_line}
 use Rattle.sm_cli.specs.Pairs.{pairs_in, core_with}
 use Rattle.sm_cli.specs.Files.{Held, an_image, image_with, need}
 use Rattle.sm_cli.specs.Command.{Answer, Outcome, gives, no_outcome, Command}
-
 -- the caller's id where no module calls
 abbrev pub no_caller : ℕ
 no_caller = 0
@@ -67,7 +65,3 @@ lone_with name _ _ _ = None
 abbrev pub lone_of : List Text → Option Command
 lone_of (name ∷ id ∷ limit ∷ pairs) = lone_with name (id_of id) (cycles_of limit) (pairs_in pairs)
 lone_of _ = None
-
--- what the program's value asks for
-abbrev pub lone_asked : LoneCommand → Command
-lone_asked c = lone_command c.image.now c.id c.limit (core_with c.pairs.items)

@@ -11,12 +11,10 @@ use Rattle.written_machine.specs.Cycle.{cycle, after_cycles}
 use Rattle.written_machine.specs.State.{State}
 use Rattle.written_machine.specs.Trace.{end_line_of}
 use Rattle.written_machine.specs.View.{boot}
-use Rattle.sm_cli.specs.declared.commands.make.MakeCommand.{MakeCommand}
 use Rattle.sm_cli.specs.declared.commands.make.TheConstants.{CYCLES, MAX_SEED}
 use Rattle.sm_cli.specs.Numbers.{number_line}
 use Rattle.sm_cli.specs.Words.{Text}
 use Rattle.sm_cli.specs.Command.{done, Command}
-
 abbrev pub seed_of : Text → Option ℕ
 seed_of word = read_decimal MAX_SEED word
 
@@ -54,7 +52,3 @@ make_command seed = record { needs = []; outcome = λ helds. done (make_text see
 abbrev pub make_of : List Text → Option Command
 make_of (seed ∷ []) = option_map make_command (seed_of seed)
 make_of _ = None
-
--- what the program's value asks for
-abbrev pub make_asked : MakeCommand → Command
-make_asked c = make_command c.seed

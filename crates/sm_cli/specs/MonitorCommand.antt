@@ -1,20 +1,17 @@
 -- `monitor IMAGE SCHEDULE SCRIPT`: what a script writes on the machine of an image.
 use Rattle.std.specs.Prelude.{List, [], ◌∷◌, ◌++◌, Option, Some, None, is_some}
-use Rattle.std.specs.Option.{option_copied}
 use Rattle.image_text.specs.Image.{Image}
 use Rattle.schedule_file.specs.declared.Entry.{Entry}
 use Rattle.written_machine.specs.Marks.{Marked, unmarked}
 use Rattle.written_machine.specs.Script.{led, moves, play}
 use Rattle.written_machine.specs.View.{boot}
 use Rattle.written_machine.specs.declared.ScriptLine.{ScriptLine}
-use Rattle.sm_cli.specs.declared.commands.script.MonitorCommand.{MonitorCommand}
 use Rattle.sm_cli.specs.declared.commands.script.TheConstants.{MOST_MARKS}
 use Rattle.sm_cli.specs.Words.{Text}
 use Rattle.sm_cli.specs.Arguments.{file_named}
 use Rattle.sm_cli.specs.Files.{Held, an_image, a_schedule, a_script, image_file, script_file, need, schedule_needs}
 use Rattle.sm_cli.specs.Command.{Answer, Outcome, gives, no_outcome, Command}
 use Rattle.sm_cli.specs.ImageCommand.{run_status}
-
 -- what a script writes, and its status: whether the machine is stopped at the end
 abbrev pub play_answer : Marked → List ScriptLine → Answer
 play_answer g script = record { text = play g script; status = run_status (is_some (led g (moves g script)).present.stop) }
@@ -38,7 +35,3 @@ monitor_command name schedule script = record { needs = need name image_file ∷
 abbrev pub monitor_of : List Text → Option Command
 monitor_of (name ∷ schedule ∷ script ∷ []) = Some (monitor_command name (file_named schedule) script)
 monitor_of _ = None
-
--- what the program's value asks for
-abbrev pub monitor_asked : MonitorCommand → Command
-monitor_asked c = monitor_command c.image.now (option_copied c.schedule) c.script.now

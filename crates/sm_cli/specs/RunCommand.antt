@@ -1,14 +1,12 @@
 -- `run LAYOUT SCHEDULE CYCLES OBJ..`: the outside trace of the image that objects link to.
-use Rattle.std.specs.Prelude.{ℕ, List, [], ◌∷◌, ◌++◌, Option, Some, None, map}
-use Rattle.std.specs.Option.{option_map, option_copied}
-use Rattle.sm_cli.specs.declared.commands.run.RunCommand.{RunCommand}
+use Rattle.std.specs.Prelude.{ℕ, List, [], ◌∷◌, ◌++◌, Option, Some, None}
+use Rattle.std.specs.Option.{option_map}
 use Rattle.sm_cli.specs.Words.{Text}
 use Rattle.sm_cli.specs.Arguments.{file_named, cycles_of}
 use Rattle.sm_cli.specs.Files.{Held, a_schedule, a_layout, layout_file, need, schedule_needs, object_needs}
 use Rattle.sm_cli.specs.Command.{Outcome, no_outcome, Command}
 use Rattle.sm_cli.specs.ImageCommand.{trace_answer}
 use Rattle.sm_cli.specs.LinkCommand.{objects_in, linked}
-
 -- with a schedule's file, or with none
 abbrev pub run_outcome : Option Text → ℕ → List Held → Outcome
 run_outcome (Some name) cycles (a_layout layout ∷ a_schedule entries ∷ objects) = linked layout (objects_in objects) (λ image. trace_answer image entries cycles)
@@ -21,7 +19,3 @@ run_command layout schedule cycles objects = record { needs = need layout layout
 abbrev pub run_of : List Text → Option Command
 run_of (layout ∷ schedule ∷ cycles ∷ objects) = option_map (λ n. run_command layout (file_named schedule) n objects) (cycles_of cycles)
 run_of _ = None
-
--- what the program's value asks for
-abbrev pub run_asked : RunCommand → Command
-run_asked c = run_command c.layout.now (option_copied c.schedule) c.cycles (map (λ o. o.now) c.objects.items)

@@ -1,5 +1,5 @@
 -- What a call of `serve` gives.
-use Rattle.std.specs.Prelude.{◌≡◌, ℕ, ◌≤◌, true, false, List, length, Option, Some, None, map, ◌⊎◌, String}
+use Rattle.std.specs.Prelude.{◌≡◌, ℕ, ◌≤◌, false, List, length, Option, Some, None, map, ◌⊎◌, String}
 use Rattle.std.specs.String.{string_bytes}
 use Rattle.std.specs.declared.alloc.Global.{Global}
 use Rattle.sm_io.specs.Faults.{HasCause}
@@ -8,11 +8,10 @@ use Rattle.sm_cli.specs.declared.answers.Status.{Status}
 use Rattle.sm_cli.specs.declared.answers.Status.TheVariants as status
 use Rattle.sm_cli.specs.declared.answers.Refusal.{Refusal}
 use Rattle.sm_cli.specs.declared.answers.Refusal.TheVariants as refusal
-use Rattle.sm_cli.specs.Files.{Need, IsFirstFault, IsReached}
+use Rattle.sm_cli.specs.Files.{IsFirstFault, IsReached}
 use Rattle.sm_cli.specs.Command.{Answer, Command, Comes, refuses, IsAnswer}
 use Rattle.sm_cli.specs.CommandLine.{command_of}
 use Rattle.sm_cli.specs.Refusal.{is_read_fault, status_of, line_of}
-
 -- the bytes of the words
 abbrev pub texts : List (String Global) → List (List ℕ)
 texts words = map string_bytes words
@@ -38,14 +37,6 @@ pub record Serves (call : Call) (ended : Status) (P : List ℕ → Type 0) : Typ
   pub quiet : HasCause call.before call.after false
   pub status : answer.status ≡ ended
   pub text : P answer.text
-
--- an answer ended with this status: its text was taken, or cut off
-abbrev pub EndsAs : Status → Answer → (took cut : List ℕ → Type 0) → Type 0
-EndsAs status.Done answer took cut = took answer.text × (answer.status ≡ status.Done)
-EndsAs status.Stopped answer took cut = took answer.text × (answer.status ≡ status.Stopped)
-EndsAs status.CheckNo answer took cut = took answer.text × (answer.status ≡ status.CheckNo)
-EndsAs status.WriteFault answer took cut = cut answer.text
-EndsAs _ answer took cut = ⊥
 
 -- Refusals
 
@@ -98,22 +89,3 @@ abbrev pub IsRoomForLine : Call → ℕ → Type 0
 IsRoomForLine call room = (refused : Refusal) (name : List ℕ) → is_read_fault refused ≡ false → IsCalledFor call refused name → length (line_of refused name) ≤ room
 
 -- Parts of a call
-
--- these files that are needed call for this refusal
-abbrev pub IsNeedCause : Option FileMap → ℕ → ℕ → List Need → Refusal → List ℕ → Type 0
-IsNeedCause files before after needs refusal.Usage name = ⊥
-IsNeedCause files before after needs (refusal.BadFile fault) name = IsFirstFault files needs name fault × HasCause before after false
-IsNeedCause files before after needs refusal.CannotRead name = IsReached files needs name × HasCause before after true
-IsNeedCause files before after needs (refusal.Link fault) name = ⊥
-IsNeedCause files before after needs refusal.NoMemory name = HasCause before after false
-
--- a command whose files these are calls for this refusal
-abbrev pub IsCommandCause : Option FileMap → ℕ → ℕ → Command → Refusal → List ℕ → Type 0
-IsCommandCause files before after command (refusal.Link fault) name = Comes files command (refuses fault name) × HasCause before after false
-IsCommandCause files before after command refused name = IsNeedCause files before after command.needs refused name
-
--- the files serve the command, and its answer ended so
-pub record IsRun (files : Option FileMap) (command : Command) (ended : Status) (took cut : List ℕ → Type 0) : Type 0 where
-  pub answer : Answer
-  pub served : IsAnswer files command answer
-  pub ends : EndsAs ended answer took cut

@@ -11,12 +11,10 @@ use Rattle.vendor_tool.specs.Report.{report_text, all_genuine}
 use Rattle.written_machine.specs.Peers.{section}
 use Rattle.sm_cli.specs.declared.answers.Status.{Status}
 use Rattle.sm_cli.specs.declared.answers.Status.TheVariants as status
-use Rattle.sm_cli.specs.declared.commands.vendor.VendorCommand.{VendorCommand}
 use Rattle.sm_cli.specs.Words.{Text}
 use Rattle.sm_cli.specs.Arguments.{id_of}
 use Rattle.sm_cli.specs.Files.{Held, an_image, the_challenges, the_replies, image_with, challenges_file, trace_file, Need, need}
 use Rattle.sm_cli.specs.Command.{Answer, Outcome, gives, no_outcome, Command}
-
 -- the status of a report where all are genuine, or not
 abbrev pub report_status : Bool → Status
 report_status true = status.Done
@@ -49,7 +47,3 @@ abbrev pub vendor_of : List Text → Option Command
 vendor_of (image ∷ id ∷ provider ∷ challenges ∷ trace ∷ []) =
     option_and_then (λ n. option_map (λ key. vendor_command image challenges trace n key) (read_hex_key provider)) (id_of id)
 vendor_of _ = None
-
--- what the program's value asks for
-abbrev pub vendor_asked : VendorCommand → Command
-vendor_asked c = vendor_command c.image.now c.challenges.now c.trace.now c.id c.provider

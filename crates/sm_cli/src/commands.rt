@@ -4,10 +4,12 @@ ghost use Rattle.sm_io.specs.Faults.{HasCause};
 ghost use Rattle.sm_io.specs.Sink.{Took, CutOff};
 ghost use Rattle.sm_cli.specs.declared.answers.Refusal.TheVariants.{CannotRead};
 ghost use Rattle.sm_cli.specs.Command.{Command};
-ghost use Rattle.sm_cli.specs.CommandLine.{asked, command_by, command_of, IsBounded};
+ghost use Rattle.sm_cli.specs.CommandLine.{command_by, command_of};
+ghost use Rattle.sm_cli.specs.internal.CommandLine.{asked, IsBounded};
 ghost use Rattle.sm_cli.specs.MakeCommand.{make_of};
-ghost use Rattle.sm_cli.specs.NameText.{name_text};
-ghost use Rattle.sm_cli.specs.Serve.{IsCommandCause, IsRun, texts};
+ghost use Rattle.sm_cli.specs.internal.NameText.{name_text};
+ghost use Rattle.sm_cli.specs.Serve.{texts};
+ghost use Rattle.sm_cli.specs.internal.Serve.{IsCommandCause, IsRun};
 ghost use Rattle.sm_cli.specs.Words.{values_in};
 
 use crate::answers::{Refused, Status};

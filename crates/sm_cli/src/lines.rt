@@ -4,7 +4,7 @@ ghost use Rattle.std.specs.Fmt.{decimal};
 ghost use Rattle.sm_io.specs.Sink.{Puts};
 ghost use Rattle.sm_cli.specs.Faults.{challenge_fault_text, fault_text, image_fault_text, schedule_fault_text, table_fault_text, trace_fault_text, arms_fault_text, script_fault_text};
 ghost use Rattle.sm_cli.specs.Refusal.{line_of, link_end};
-ghost use Rattle.sm_cli.specs.NameText.{name_text};
+ghost use Rattle.sm_cli.specs.internal.NameText.{name_text};
 ghost use Rattle.sm_cli.specs.LinkFaults.{link_fault_text};
 
 use crate::answers::Refused;

@@ -5,9 +5,9 @@ ghost use Rattle.layout_file.specs.Layout.{layout_of};
 ghost use Rattle.linker.specs.Refusals.{link_fault_of};
 ghost use Rattle.linker.specs.Room.{IsSmall};
 ghost use Rattle.sm_cli.specs.LinkCommand.{linked_image};
-ghost use Rattle.sm_cli.specs.NameText.{name_text};
+ghost use Rattle.sm_cli.specs.internal.NameText.{name_text};
 ghost use Rattle.sm_cli.specs.SymbolNames as spec;
-ghost use Rattle.sm_cli.specs.Unlinked.{IsUnlinked};
+ghost use Rattle.sm_cli.specs.internal.Unlinked.{IsUnlinked};
 
 use crate::answers::{NO_MEMORY, Name, Refusal, Refused};
 use elf_objects::Object;

@@ -8,10 +8,10 @@ ghost use Rattle.linker.specs.Room.{IsSmall};
 ghost use Rattle.mod_layout.specs.Table.{module_of};
 ghost use Rattle.mod_layout.specs.Tables.{IsModule};
 ghost use Rattle.monitor.specs.Bounds.{all_cycles};
-ghost use Rattle.sm_cli.specs.Content.{IsContentRefusal};
+ghost use Rattle.sm_cli.specs.internal.Content.{IsContentRefusal};
 ghost use Rattle.sm_cli.specs.Files.{Kind, Held, an_image, a_schedule, the_challenges, the_replies, image_file, image_with, schedule_file, challenges_file, trace_file, need, schedule_needs, HasFile, IsHeld, Holds, IsScheduleOf, most_bytes, certificates, arms_file, a_layout, an_object, layout_file, object_file, object_needs, HoldAll, a_script, script_file, a_unit, source_file};
-ghost use Rattle.sm_cli.specs.NameText.{name_text};
-ghost use Rattle.sm_cli.specs.Serve.{IsNeedCause};
+ghost use Rattle.sm_cli.specs.internal.NameText.{name_text};
+ghost use Rattle.sm_cli.specs.internal.Serve.{IsNeedCause};
 
 use crate::answers::{NO_MEMORY, Name, Refused};
 use crate::{FileFault, Refusal};

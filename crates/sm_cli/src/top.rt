@@ -23,7 +23,7 @@ ghost use Rattle.sm_cli.specs.Files.{IsFirstFault};
 ghost use Rattle.sm_cli.specs.ImageCommand.{run_status};
 ghost use Rattle.sm_cli.specs.Input.{IsInput, IsScriptInput};
 ghost use Rattle.sm_cli.specs.MonitorCommand.{start_of, script_answer};
-ghost use Rattle.sm_cli.specs.NameText.{name_text};
+ghost use Rattle.sm_cli.specs.internal.NameText.{name_text};
 ghost use Rattle.sm_cli.specs.Refusal.{status_of, line_of};
 ghost use Rattle.sm_cli.specs.Serve.{texts, call_of, Serves, Refuses, IsOrOutside, IsRoomForAnswer, IsRoomForLine, Completes};
 

@@ -6,7 +6,7 @@ ghost use Rattle.mod_layout.specs.Tables.{IsModule};
 ghost use Rattle.written_machine.specs.Peers.{section};
 ghost use Rattle.sm_io.specs.Sink.{Took, CutOff, Puts};
 ghost use Rattle.sm_cli.specs.Command.{verdict_answer};
-ghost use Rattle.sm_cli.specs.Serve.{EndsAs};
+ghost use Rattle.sm_cli.specs.internal.Serve.{EndsAs};
 ghost use Rattle.sm_cli.specs.Verdicts.{no_line, reason_name, verdict_line, verdict_status};
 
 use crate::answers::Status;

@@ -2,7 +2,8 @@
 use Rattle.std.proofs.Common.{◌≡◌, ℕ, ◌+◌, ◌≤◌, List, ◌++◌, length, take, drop, Option, Some, None, Ok, IfSome, sym, ◌∙◌, ap, subst, arith, length-append}
 use Rattle.std.proofs.Math.Seq.{take-add, take-append-add}
 use Rattle.std.proofs.lemmas.List.{length-take, take-take, take-append-le, append_assoc}
-use Rattle.sm_io.specs.Files.{FileMap, IsPart, ReadGives, IsReadSoFar}
+use Rattle.sm_io.specs.Files.{FileMap, IsPart, ReadGives}
+use Rattle.sm_io.specs.internal.Files.{IsReadSoFar}
 
 joins : (file so_far buf : List ℕ) (n : ℕ) → take (length so_far) file ≡ so_far → n ≤ length buf → IsPart (length so_far) file buf n
     → take (length (so_far ++ take n buf)) file ≡ so_far ++ take n buf

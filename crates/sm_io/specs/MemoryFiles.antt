@@ -1,14 +1,11 @@
 -- Files in memory.
 use Rattle.std.specs.Prelude.{ℕ, ◌+◌, ◌-◌, min, Bool, List, [], ◌∷◌, ◌++◌, length, take, drop, Option, Some, None, Result, Ok, Err, if◌then◌else◌}
 use Rattle.std.specs.Str.{bytes_eq}
-use Rattle.std.specs.String.{string_bytes}
 use Rattle.sm_io.specs.declared.files.Unread.{Unread}
 use Rattle.sm_io.specs.declared.files.Unread.TheVariants.{Absent, Failed}
-use Rattle.sm_io.specs.declared.memory_files.MemFile.{MemFile}
 use Rattle.sm_io.specs.Faults.{counted}
 use Rattle.sm_io.specs.Files.{FileMap}
 use Rattle.sm_io.specs.Calls.{is_listed}
-
 -- what contracts see: the files, the newest first; the calls that are to fail, and how many calls and faults there were
 pub record MemoryFiles : Type 0 where
   pub files : List (List ℕ × List ℕ)
@@ -20,9 +17,6 @@ pub record MemoryFiles : Type 0 where
 abbrev pub file_of : List (List ℕ × List ℕ) → FileMap
 file_of [] name = None
 file_of (file ∷ files) name = if bytes_eq file.0 name then Some file.1 else file_of files name
-
-abbrev pub named_bytes : MemFile → List ℕ × List ℕ
-named_bytes file = (string_bytes file.name, file.bytes.items)
 
 -- whether the next call is to fail
 abbrev pub fails_now : MemoryFiles → Bool

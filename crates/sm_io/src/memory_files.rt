@@ -4,7 +4,8 @@ ghost use Rattle.std.proofs.Common.{arith};
 ghost use Rattle.sm_io.specs.Faults.{HasCause, counted};
 ghost use Rattle.sm_io.specs.Calls.{is_empty};
 ghost use Rattle.sm_io.specs.Files.{IsPart, ReadGives, read_failed};
-ghost use Rattle.sm_io.specs.MemoryFiles.{file_of, named_bytes, read_answer, buffer_after, files_after};
+ghost use Rattle.sm_io.specs.MemoryFiles.{file_of, read_answer, buffer_after, files_after};
+ghost use Rattle.sm_io.specs.internal.MemoryFiles.{named_bytes};
 
 use crate::{Files, NoMemory, Unread};
 use std::alloc::Global;
@@ -29,7 +30,8 @@ pub struct MemFiles {
 
 impl Model for MemFiles {
     ghost use Rattle.std.specs.Prelude.{map};
-    ghost use Rattle.sm_io.specs.MemoryFiles.{MemoryFiles, named_bytes};
+    ghost use Rattle.sm_io.specs.MemoryFiles.{MemoryFiles};
+    ghost use Rattle.sm_io.specs.internal.MemoryFiles.{named_bytes};
 
     ghost Value = { MemoryFiles };
 

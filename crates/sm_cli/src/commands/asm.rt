@@ -1,6 +1,7 @@
 //! `asm SOURCE`: the object of a program.
 ghost use Rattle.std.specs.Prelude.{◌≡◌, IfOk, map, drop, option_map, option_and_then};
-ghost use Rattle.sm_cli.specs.AsmCommand.{asm_of, asm_asked};
+ghost use Rattle.sm_cli.specs.AsmCommand.{asm_of};
+ghost use Rattle.sm_cli.specs.internal.AsmCommand.{asm_asked};
 ghost use Rattle.sm_cli.specs.Serve.{texts};
 ghost use Rattle.sm_cli.specs.Words.{values_in};
 

@@ -3,7 +3,8 @@ ghost use Rattle.std.specs.Prelude.{◌≡◌, IfOk, map, drop, option_map, opti
 ghost use Rattle.flow_rule.specs.Arms.{VerdictWith};
 ghost use Rattle.mod_layout.specs.Tables.{IsModule};
 ghost use Rattle.written_machine.specs.Peers.{section};
-ghost use Rattle.sm_cli.specs.BalanceCommand.{balance_of, balance_asked};
+ghost use Rattle.sm_cli.specs.BalanceCommand.{balance_of};
+ghost use Rattle.sm_cli.specs.internal.BalanceCommand.{balance_asked};
 ghost use Rattle.sm_cli.specs.Serve.{texts};
 ghost use Rattle.sm_cli.specs.Words.{values_in};
 

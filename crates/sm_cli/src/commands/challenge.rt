@@ -1,6 +1,7 @@
 //! `challenge CHALLENGES`: the schedule that sends a vendor's challenges.
 ghost use Rattle.std.specs.Prelude.{◌≡◌, IfOk, map, drop, option_map, option_and_then};
-ghost use Rattle.sm_cli.specs.ChallengeCommand.{challenge_of, challenge_asked};
+ghost use Rattle.sm_cli.specs.ChallengeCommand.{challenge_of};
+ghost use Rattle.sm_cli.specs.internal.ChallengeCommand.{challenge_asked};
 ghost use Rattle.sm_cli.specs.Serve.{texts};
 ghost use Rattle.sm_cli.specs.Words.{values_in};
 

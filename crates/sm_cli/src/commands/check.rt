@@ -3,7 +3,8 @@ ghost use Rattle.std.specs.Prelude.{◌≡◌, IfOk, [], map, drop, option_map, 
 ghost use Rattle.flow_rule.specs.Arms.{VerdictWith};
 ghost use Rattle.mod_layout.specs.Tables.{IsModule};
 ghost use Rattle.written_machine.specs.Peers.{section};
-ghost use Rattle.sm_cli.specs.CheckCommand.{check_of, check_asked};
+ghost use Rattle.sm_cli.specs.CheckCommand.{check_of};
+ghost use Rattle.sm_cli.specs.internal.CheckCommand.{check_asked};
 ghost use Rattle.sm_cli.specs.Serve.{texts};
 ghost use Rattle.sm_cli.specs.Words.{values_in};
 

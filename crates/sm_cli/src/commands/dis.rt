@@ -5,7 +5,8 @@ ghost use Rattle.insn_decode.specs.Code.{IsDecoded, length_or_one};
 ghost use Rattle.texts.specs.Hexadecimals.{hex_word};
 ghost use Rattle.sm_io.specs.Sink.{Puts};
 ghost use Rattle.sm_cli.specs.DisCommand as spec;
-ghost use Rattle.sm_cli.specs.DisCommand.{dis_of, dis_asked, listing};
+ghost use Rattle.sm_cli.specs.DisCommand.{dis_of, listing};
+ghost use Rattle.sm_cli.specs.internal.DisCommand.{dis_asked};
 ghost use Rattle.sm_cli.specs.Serve.{texts};
 ghost use Rattle.sm_cli.specs.Words.{values_in};
 

@@ -2,8 +2,10 @@
 ghost use Rattle.std.specs.Prelude.{◌≡◌, ◌≤◌, ◌+◌, ◌^◌, IfOk, IfSome, map, drop, option_map, option_and_then};
 ghost use Rattle.sm_io.specs.Sink.{Took, CutOff};
 ghost use Rattle.sm_cli.specs.declared.arguments.TheConstants.{MAX_CYCLES};
-ghost use Rattle.sm_cli.specs.ImageCommand.{image_of, image_asked, answer_from};
-ghost use Rattle.sm_cli.specs.Serve.{EndsAs, texts};
+ghost use Rattle.sm_cli.specs.ImageCommand.{image_of};
+ghost use Rattle.sm_cli.specs.internal.ImageCommand.{image_asked, answer_from};
+ghost use Rattle.sm_cli.specs.Serve.{texts};
+ghost use Rattle.sm_cli.specs.internal.Serve.{EndsAs};
 ghost use Rattle.sm_cli.specs.Words.{values_in};
 
 use crate::answers::{NO_MEMORY, Refused, Status};

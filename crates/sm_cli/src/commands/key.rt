@@ -3,7 +3,8 @@ ghost use Rattle.std.specs.Prelude.{◌≡◌, IfOk, map, drop, option_map, opti
 ghost use Rattle.image_text.specs.Image.{Image as ImageValue};
 ghost use Rattle.mod_layout.specs.Tables.{IsModule};
 ghost use Rattle.sm_io.specs.Sink.{Puts};
-ghost use Rattle.sm_cli.specs.KeyCommand.{key_of, key_asked, key_lines, key_line, two_lines};
+ghost use Rattle.sm_cli.specs.KeyCommand.{key_of, key_lines, key_line, two_lines};
+ghost use Rattle.sm_cli.specs.internal.KeyCommand.{key_asked};
 ghost use Rattle.sm_cli.specs.Serve.{texts};
 ghost use Rattle.sm_cli.specs.Words.{values_in};
 

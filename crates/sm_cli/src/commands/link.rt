@@ -1,6 +1,7 @@
 //! `link LAYOUT OBJ..`: the text of the image that objects link to.
 ghost use Rattle.std.specs.Prelude.{◌≡◌, IfOk, IfSome, ◌≤◌, length, map, drop, option_map, option_and_then};
-ghost use Rattle.sm_cli.specs.LinkCommand.{link_of, link_asked};
+ghost use Rattle.sm_cli.specs.LinkCommand.{link_of};
+ghost use Rattle.sm_cli.specs.internal.LinkCommand.{link_asked};
 ghost use Rattle.sm_cli.specs.Serve.{texts};
 ghost use Rattle.sm_cli.specs.Words.{values_in};
 

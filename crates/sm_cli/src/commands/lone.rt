@@ -8,9 +8,11 @@ ghost use Rattle.sm_io.specs.Sink.{Took, CutOff};
 ghost use Rattle.tracer.specs.Lines.{registers_from};
 ghost use Rattle.written_machine.specs.Peers.{section};
 ghost use Rattle.sm_cli.specs.declared.arguments.TheConstants.{MAX_CYCLES};
-ghost use Rattle.sm_cli.specs.LoneCommand.{lone_of, lone_asked, lone_with, end_of, end_answer, end_line, core_line};
+ghost use Rattle.sm_cli.specs.LoneCommand.{lone_of, lone_with, end_of, end_answer, end_line, core_line};
+ghost use Rattle.sm_cli.specs.internal.LoneCommand.{lone_asked};
 ghost use Rattle.sm_cli.specs.Numbers.{number_line};
-ghost use Rattle.sm_cli.specs.Serve.{EndsAs, texts};
+ghost use Rattle.sm_cli.specs.Serve.{texts};
+ghost use Rattle.sm_cli.specs.internal.Serve.{EndsAs};
 ghost use Rattle.sm_cli.specs.Words.{values_in};
 
 use crate::answers::{NO_MEMORY, Refused, Status};

@@ -1,7 +1,8 @@
 //! `run LAYOUT SCHEDULE CYCLES OBJ..`: the outside trace of the image that objects link to.
 ghost use Rattle.std.specs.Prelude.{◌≡◌, ◌≤◌, IfOk, IfSome, length, map, drop, option_map, option_and_then};
 ghost use Rattle.sm_cli.specs.declared.arguments.TheConstants.{MAX_CYCLES};
-ghost use Rattle.sm_cli.specs.RunCommand.{run_of, run_asked};
+ghost use Rattle.sm_cli.specs.RunCommand.{run_of};
+ghost use Rattle.sm_cli.specs.internal.RunCommand.{run_asked};
 ghost use Rattle.sm_cli.specs.Serve.{texts};
 ghost use Rattle.sm_cli.specs.Words.{values_in};
 

@@ -2,8 +2,10 @@
 ghost use Rattle.std.specs.Prelude.{◌≡◌, ◌≤◌, ◌+◌, ◌^◌, IfOk, map, drop, option_map, option_and_then};
 ghost use Rattle.monitor.specs.Bounds.{all_cycles};
 ghost use Rattle.sm_io.specs.Sink.{Took, CutOff};
-ghost use Rattle.sm_cli.specs.MonitorCommand.{monitor_of, monitor_asked, play_answer};
-ghost use Rattle.sm_cli.specs.Serve.{EndsAs, texts};
+ghost use Rattle.sm_cli.specs.MonitorCommand.{monitor_of, play_answer};
+ghost use Rattle.sm_cli.specs.internal.MonitorCommand.{monitor_asked};
+ghost use Rattle.sm_cli.specs.Serve.{texts};
+ghost use Rattle.sm_cli.specs.internal.Serve.{EndsAs};
 ghost use Rattle.sm_cli.specs.Words.{values_in};
 
 use crate::answers::{NO_MEMORY, Refused, Status};

@@ -4,9 +4,11 @@ ghost use Rattle.mod_layout.specs.Tables.{IsModule};
 ghost use Rattle.sm_io.specs.Faults.{HasCause};
 ghost use Rattle.sm_io.specs.Sink.{Took, CutOff};
 ghost use Rattle.sm_cli.specs.Files.{Holds, need, challenges_file, trace_file, the_challenges, the_replies};
-ghost use Rattle.sm_cli.specs.NameText.{name_text};
-ghost use Rattle.sm_cli.specs.Serve.{EndsAs, IsNeedCause, texts};
-ghost use Rattle.sm_cli.specs.VendorCommand.{vendor_of, vendor_asked, exchange_needs, key_under, report_answer};
+ghost use Rattle.sm_cli.specs.internal.NameText.{name_text};
+ghost use Rattle.sm_cli.specs.Serve.{texts};
+ghost use Rattle.sm_cli.specs.internal.Serve.{EndsAs, IsNeedCause};
+ghost use Rattle.sm_cli.specs.VendorCommand.{vendor_of, exchange_needs, key_under, report_answer};
+ghost use Rattle.sm_cli.specs.internal.VendorCommand.{vendor_asked};
 ghost use Rattle.sm_cli.specs.Words.{values_in};
 
 use crate::answers::{Refusal, Refused, Status};

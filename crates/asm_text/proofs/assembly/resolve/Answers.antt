@@ -1,7 +1,7 @@
 use Rattle.std.proofs.Common.{◌≡◌, length, sym, ap, ◌∙◌}
 use Rattle.asm_text.specs.Assembly.{names_of}
-use Rattle.asm_text.specs.Placed.{placed_of}
-use Rattle.asm_text.specs.Read.{source_value}
+use Rattle.asm_text.specs.internal.Placed.{placed_of}
+use Rattle.asm_text.specs.internal.Read.{source_value}
 use Rattle.asm_text.specs.Symbols.{symbol_numbers}
 use Rattle.asm_text.proofs.OrderLemmas.{all_numbers}
 use Rattle.asm_text.proofs.PlaceLemmas.{length_texts}

@@ -1,6 +1,6 @@
-use Rattle.asm_text.specs.Emitted.{emitted_of}
-use Rattle.asm_text.specs.Placed.{placed_of}
-use Rattle.asm_text.specs.Read.{source_value}
+use Rattle.asm_text.specs.internal.Emitted.{emitted_of}
+use Rattle.asm_text.specs.internal.Placed.{placed_of}
+use Rattle.asm_text.specs.internal.Read.{source_value}
 use Rattle.asm_text.proofs.UnitLemmas.{unit_kept}
 use Rattle.asm_text.proofs.assembly.unit_for.Goals as goal
 

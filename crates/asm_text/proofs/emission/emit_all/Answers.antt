@@ -1,5 +1,5 @@
 use Rattle.std.proofs.Common.{◌<◌, length, arith}
-use Rattle.asm_text.specs.Emitted.{emitted_of, meanings_of}
+use Rattle.asm_text.specs.internal.Emitted.{emitted_of, meanings_of}
 use Rattle.asm_text.proofs.EmittingLemmas.{emitting_room, emitting_more}
 use Rattle.asm_text.proofs.emission.emit_all.Goals as goal
 

@@ -1,5 +1,5 @@
 use Rattle.std.proofs.Common.{length}
-use Rattle.asm_text.specs.Emitted.{emitted_of, meanings_of}
+use Rattle.asm_text.specs.internal.Emitted.{emitted_of, meanings_of}
 use Rattle.asm_text.specs.Placing.{Placed}
 use Rattle.asm_text.proofs.EmittingLemmas.{IsEmitting}
 use Rattle.asm_text.proofs.emission.emit_all.Given as goal

@@ -1,4 +1,4 @@
-use Rattle.asm_text.specs.Placed.{placed_of}
+use Rattle.asm_text.specs.internal.Placed.{placed_of}
 use Rattle.asm_text.proofs.PlacingLemmas.{IsPlacing}
 use Rattle.asm_text.proofs.placing.place_all.Given as goal
 

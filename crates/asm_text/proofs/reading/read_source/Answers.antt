@@ -1,7 +1,7 @@
 use Rattle.std.proofs.Common.{◌≡◌, Some, sym, ap, ◌∙◌}
 use Rattle.std.specs.Prelude.{option_map}
 use Rattle.asm_text.specs.Lines.{statement_of}
-use Rattle.asm_text.specs.Statements.{with_texts}
+use Rattle.asm_text.specs.internal.Statements.{with_texts}
 use Rattle.asm_text.proofs.SourceLemmas.{IsRead-start, IsRead-more, IsNext}
 use Rattle.asm_text.proofs.reading.read_source.Goals as goal
 

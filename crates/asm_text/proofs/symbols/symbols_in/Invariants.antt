@@ -1,6 +1,6 @@
 use Rattle.std.proofs.Common.{ℕ, ◌≡◌, false, [], map, take}
 use Rattle.std.specs.List.{slice_index_or}
-use Rattle.asm_text.specs.Maps.{texts_in}
+use Rattle.asm_text.specs.internal.Maps.{texts_in}
 use Rattle.asm_text.specs.Placing.{spot_of}
 use Rattle.asm_text.specs.Symbols.{symbol_by}
 use Rattle.asm_text.specs.Views.{symbol_of}

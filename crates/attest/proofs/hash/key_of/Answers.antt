@@ -1,7 +1,7 @@
 use Rattle.std.proofs.Common.{◌∙◌, ap}
 use Rattle.mod_keys.specs.Keys.{identity, module_key}
 use Rattle.mod_keys.specs.Mac.{short_hmac}
-use Rattle.attest.specs.Accesses.{text_in}
+use Rattle.attest.specs.internal.Accesses.{text_in}
 use Rattle.attest.proofs.hash.key_of.Goals as goal
 
 pub returns-clause-key : goal.returns-clause-key

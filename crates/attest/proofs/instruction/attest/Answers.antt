@@ -5,7 +5,7 @@ use Rattle.pc_access.specs.Rights.{first_denied}
 use Rattle.pc_access.specs.declared.Kind.TheVariants.{Read}
 use Rattle.attest.specs.Units.{answer, attested, blocks, each_byte, in_range, same_bytes, text_at}
 use Rattle.attest.specs.Done.{doer}
-use Rattle.attest.specs.Accesses.{text_in}
+use Rattle.attest.specs.internal.Accesses.{text_in}
 use Rattle.mod_keys.specs.Keys.{identity, tag_of}
 use Rattle.attest.proofs.Attesting.{plan_outside, effect_outside, plan_nothing, effect_nothing, plan_by, effect_by, denied_by, effect_whole}
 use Rattle.attest.proofs.Finished.{answered}

@@ -8,7 +8,8 @@ use Rattle.pc_access.specs.declared.Kind.TheVariants.{Read, Write}
 use Rattle.attest.specs.declared.UnitDone.{UnitDone}
 use Rattle.attest.specs.Units.{blocks, each_byte, in_range}
 use Rattle.attest.specs.Done.{doer}
-use Rattle.attest.specs.Accesses.{stored_in, text_in}
+use Rattle.attest.specs.Accesses.{stored_in}
+use Rattle.attest.specs.internal.Accesses.{text_in}
 use Rattle.attest.proofs.Tagging.{plan_outside, effect_outside, plan_by, effect_by, denied_by, tagged}
 use Rattle.attest.proofs.Finished.{answered}
 use Rattle.attest.proofs.Places.{and_true, range_of}

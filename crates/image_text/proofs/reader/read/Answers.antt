@@ -2,7 +2,7 @@ use Rattle.std.proofs.Common.{◌≡◌, ℕ, inl, inr, List, sym, ap, ◌∙◌
 use Rattle.std.proofs.lemmas.Result.{err_from_is_err_and}
 use Rattle.image_text.specs.Image.{Image}
 use Rattle.image_text.specs.Refusal.{first_refusal, refusal_of}
-use Rattle.image_text.specs.Reading.{Unread, on}
+use Rattle.image_text.specs.internal.Reading.{Unread, on}
 use Rattle.image_text.proofs.WholeText.{whole_text, whole_image}
 use Rattle.image_text.proofs.reader.read.Goals as goal
 

@@ -1,6 +1,6 @@
 use Rattle.std.proofs.Common.{◌≡◌, ◌-◌, ◌%◌}
 use Rattle.image_text.specs.Refusal.{rows_refusal}
-use Rattle.image_text.specs.Reading.{on, RowsSoFar}
+use Rattle.image_text.specs.internal.Reading.{on, RowsSoFar}
 use Rattle.image_text.proofs.reader.read_memory.Given as goal
 
 abbrev pub invariant-loop-memory : goal.invariant-loop-memory

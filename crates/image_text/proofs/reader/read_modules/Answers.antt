@@ -1,6 +1,6 @@
 use Rattle.std.proofs.Common.{sym, ◌∙◌, ap, subst, arith}
 use Rattle.mod_layout.specs.Table.{Table}
-use Rattle.image_text.specs.Reading.{ModulesSoFar}
+use Rattle.image_text.specs.internal.Reading.{ModulesSoFar}
 use Rattle.image_text.proofs.StageLemmas.{modules_more, modules_done}
 use Rattle.image_text.proofs.reader.read_modules.Goals as goal
 

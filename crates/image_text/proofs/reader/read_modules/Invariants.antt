@@ -1,5 +1,5 @@
 use Rattle.std.proofs.Common.{◌≡◌, ◌+◌, length}
-use Rattle.image_text.specs.Reading.{ModulesSoFar}
+use Rattle.image_text.specs.internal.Reading.{ModulesSoFar}
 use Rattle.image_text.proofs.reader.read_modules.Given as goal
 
 abbrev pub invariant-loop-left : goal.invariant-loop-left

@@ -5,7 +5,7 @@ use Rattle.toml.specs.Data.{Data}
 use Rattle.toml.specs.View.{table_view}
 use Rattle.layout_file.specs.Checked.{map_ok, one}
 use Rattle.layout_file.specs.Rows.{inner_table}
-use Rattle.layout_file.specs.Views.{tables_of}
+use Rattle.layout_file.specs.internal.Views.{tables_of}
 use Rattle.layout_file.proofs.RowLemmas.{values-stop, values-more}
 use Rattle.layout_file.proofs.rows.inner_tables.Goals as goal
 

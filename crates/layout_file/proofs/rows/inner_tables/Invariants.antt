@@ -1,7 +1,7 @@
 use Rattle.std.proofs.Common.{◌≡◌, take, Ok}
 use Rattle.toml.specs.View.{items_view}
 use Rattle.layout_file.specs.Rows as rows
-use Rattle.layout_file.specs.Views.{tables_of}
+use Rattle.layout_file.specs.internal.Views.{tables_of}
 use Rattle.layout_file.proofs.rows.inner_tables.Given as goal
 
 abbrev pub invariant-loop-item : goal.invariant-loop-item

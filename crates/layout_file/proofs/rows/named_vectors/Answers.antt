@@ -3,7 +3,8 @@ use Rattle.std.proofs.lemmas.List.{map-append, append-nil}
 use Rattle.std.proofs.lemmas.Result.{err_from_is_err_and}
 use Rattle.toml.specs.View.{table_view}
 use Rattle.layout_file.specs.Rows.{vector_at, vector_keys}
-use Rattle.layout_file.specs.Views.{vectors_of, vector_list}
+use Rattle.layout_file.specs.Views.{vectors_of}
+use Rattle.layout_file.specs.internal.Views.{vector_list}
 use Rattle.layout_file.specs.declared.fault.LayoutFault.TheVariants.{NoMemory}
 use Rattle.layout_file.proofs.RowLemmas.{list-stop, list-more}
 use Rattle.layout_file.proofs.rows.named_vectors.Goals as goal

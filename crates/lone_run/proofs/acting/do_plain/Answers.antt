@@ -1,4 +1,4 @@
-use Rattle.lone_run.specs.Jobs.{call_of}
+use Rattle.lone_run.specs.internal.Jobs.{call_of}
 use Rattle.lone_run.proofs.Plain.{plain_aligned}
 use Rattle.lone_run.proofs.acting.do_plain.Goals as goal
 

@@ -4,7 +4,8 @@ use Rattle.mod_layout.specs.Table.{holds}
 use Rattle.mod_layout.specs.declared.Section.{Section}
 use Rattle.cpu_step.specs.Lone as lone
 use Rattle.lone_run.specs.Ends.{answer_of, data_left}
-use Rattle.lone_run.specs.Jobs.{call_of, between}
+use Rattle.lone_run.specs.Jobs.{between}
+use Rattle.lone_run.specs.internal.Jobs.{call_of}
 use Rattle.lone_run.proofs.Calls.{At, at_exit, at_limit, data_limit, at_broken, at_short, data_short, at_more, at_closed}
 use Rattle.lone_run.proofs.calling.run.Goals as goal
 

@@ -1,5 +1,6 @@
 use Rattle.std.proofs.Common.{◌-◌}
-use Rattle.lone_run.specs.Jobs.{call_of, between}
+use Rattle.lone_run.specs.Jobs.{between}
+use Rattle.lone_run.specs.internal.Jobs.{call_of}
 use Rattle.lone_run.proofs.Calls.{At}
 use Rattle.lone_run.proofs.calling.run.Given as goal
 

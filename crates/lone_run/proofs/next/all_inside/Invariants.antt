@@ -1,6 +1,6 @@
 use Rattle.std.proofs.Common.{◌≡◌, drop}
 use Rattle.cpu_step.specs.Lone.{all_inside}
-use Rattle.lone_run.specs.Jobs.{call_of}
+use Rattle.lone_run.specs.internal.Jobs.{call_of}
 use Rattle.lone_run.proofs.next.all_inside.Given as goal
 
 abbrev pub invariant-loop-access : goal.invariant-loop-access

@@ -1,6 +1,6 @@
 use Rattle.std.proofs.Common.{◌≡◌, ◌∙◌, ap, sym, ◌-◌}
 use Rattle.sm_words.specs.Words.{reg}
-use Rattle.lone_run.specs.Jobs.{call_of}
+use Rattle.lone_run.specs.internal.Jobs.{call_of}
 use Rattle.lone_run.proofs.Ranges.{tag_ranges}
 use Rattle.lone_run.proofs.next.has_tag.Goals as goal
 

@@ -3,7 +3,7 @@ use Rattle.insn_decode.specs.Code.{insn_of}
 use Rattle.sm_words.specs.Words.{reg, word_at}
 use Rattle.cpu_step.specs.Fetched.{insn_at}
 use Rattle.cpu_step.specs.Lone.{Lone, lone_byte, text_word, may_do, if_home, next_first, next_insn}
-use Rattle.lone_run.specs.Jobs.{call_of}
+use Rattle.lone_run.specs.internal.Jobs.{call_of}
 use Rattle.lone_run.proofs.next.next_insn.Goals as goal
 
 pub returns-in-Some-clause-exact : goal.returns-in-Some-clause-exact

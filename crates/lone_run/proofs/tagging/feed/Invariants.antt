@@ -3,7 +3,7 @@ use Rattle.mod_keys.specs.Fed.{IsFed}
 use Rattle.pc_access.specs.declared.Kind.TheVariants.{Read}
 use Rattle.attest.specs.Units.{each_byte}
 use Rattle.cpu_step.specs.Lone.{lone_read}
-use Rattle.lone_run.specs.Jobs.{call_of}
+use Rattle.lone_run.specs.internal.Jobs.{call_of}
 use Rattle.lone_run.proofs.tagging.feed.Given as goal
 
 abbrev pub invariant-loop-k : goal.invariant-loop-k

@@ -4,7 +4,7 @@ use Rattle.mod_keys.specs.Mac.{short_hmac}
 use Rattle.pc_access.specs.declared.Kind.TheVariants.{Read}
 use Rattle.attest.specs.Units.{each_byte}
 use Rattle.cpu_step.specs.Lone.{lone_read}
-use Rattle.lone_run.specs.Jobs.{call_of}
+use Rattle.lone_run.specs.internal.Jobs.{call_of}
 use Rattle.lone_run.proofs.tagging.tag_of.Goals as goal
 
 pub returns : goal.returns

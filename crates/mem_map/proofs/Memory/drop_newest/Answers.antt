@@ -1,5 +1,5 @@
 use Rattle.std.proofs.Common.{◌∙◌, ap}
-use Rattle.mem_map.specs.Marks.{contents_of}
+use Rattle.mem_map.specs.internal.Marks.{contents_of}
 use Rattle.mem_map.proofs.MarkLemmas.{Tables, drop_marked, drop_shown}
 use Rattle.mem_map.proofs.Memory.drop_newest.Goals as goal
 

@@ -2,7 +2,7 @@ use Rattle.std.proofs.Common.{◌≡◌, ◌∙◌, ap, lit<, sym, refl, ℕ, Li
 use Rattle.std.proofs.lemmas.Bool.{false≢true}
 use Rattle.page_pool.specs.Tables.{table_of}
 use Rattle.std.proofs.Math.ListN.{set}
-use Rattle.mem_map.specs.Marks.{contents_of}
+use Rattle.mem_map.specs.internal.Marks.{contents_of}
 use Rattle.mem_map.proofs.MarkLemmas.{Tables, room_left, marked_length, full_shown, mark_marked, mark_shown}
 use Rattle.mem_map.proofs.Memory.mark.Goals as goal
 

@@ -2,7 +2,7 @@ use Rattle.std.proofs.Common.{◌∙◌, ap}
 use Rattle.std.proofs.Math.ListN.{set}
 use Rattle.page_pool.specs.Tables.{bytes_of}
 use Rattle.mem_map.specs.Contents.{Contents}
-use Rattle.mem_map.specs.Marks.{contents_of}
+use Rattle.mem_map.specs.internal.Marks.{contents_of}
 use Rattle.mem_map.proofs.MarkLemmas.{Tables, written_shown}
 use Rattle.mem_map.proofs.Memory.set_byte.Goals as goal
 

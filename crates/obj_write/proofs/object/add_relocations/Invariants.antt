@@ -1,7 +1,8 @@
 use Rattle.std.proofs.Common.{List, ◌++◌}
 use Rattle.elf_objects.specs.Passes.{each_below}
 use Rattle.asm_text.specs.Unit.{unit_of}
-use Rattle.obj_write.specs.Sections.{FileSection, AreSections}
+use Rattle.obj_write.specs.Sections.{FileSection}
+use Rattle.obj_write.specs.internal.Sections.{AreSections}
 use Rattle.obj_write.specs.Object.{relocation_section}
 use Rattle.obj_write.proofs.object.add_relocations.Given as goal
 

@@ -1,6 +1,6 @@
 use Rattle.std.proofs.Common.{List, ℕ, ◌++◌, map, take}
 use Rattle.asm_text.specs.Views.{section_of}
-use Rattle.obj_write.specs.Strings.{IsTableOf}
+use Rattle.obj_write.specs.internal.Strings.{IsTableOf}
 use Rattle.obj_write.specs.Object.{part_names}
 use Rattle.obj_write.proofs.object.name_parts.Given as goal
 

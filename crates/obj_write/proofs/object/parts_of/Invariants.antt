@@ -1,6 +1,6 @@
 use Rattle.elf_objects.specs.Passes.{each_below}
 use Rattle.asm_text.specs.Unit.{unit_of}
-use Rattle.obj_write.specs.Sections.{AreSections}
+use Rattle.obj_write.specs.internal.Sections.{AreSections}
 use Rattle.obj_write.specs.Object.{part_section}
 use Rattle.obj_write.proofs.object.parts_of.Given as goal
 

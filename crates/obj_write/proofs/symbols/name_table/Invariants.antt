@@ -1,6 +1,6 @@
 use Rattle.std.proofs.Common.{map, take}
 use Rattle.asm_text.specs.Views.{symbol_of}
-use Rattle.obj_write.specs.Strings.{IsTableOf}
+use Rattle.obj_write.specs.internal.Strings.{IsTableOf}
 use Rattle.obj_write.specs.Symbols.{symbol_names}
 use Rattle.obj_write.proofs.symbols.name_table.Given as goal
 

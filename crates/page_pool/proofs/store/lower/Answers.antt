@@ -1,7 +1,7 @@
 use Rattle.std.proofs.Common.{◌≡◌, ◌≤◌, ◌<◌, ◌-◌, ◌∙◌, ℕ, arith, rules, length, get_or, inl, inr, refl, sym, subst, ap}
 use Rattle.std.proofs.lemmas.List.{length-set, get_or_read}
 use Rattle.std.proofs.lemmas.List.Elements.{All-get_or}
-use Rattle.page_pool.specs.Counts.{times_in}
+use Rattle.page_pool.specs.internal.Counts.{times_in}
 use Rattle.page_pool.proofs.LoopLemmas.{lowered_both, count_there, spare_room}
 use Rattle.page_pool.proofs.store.lower.Goals as goal
 use Rattle.page_pool.proofs.store.lower.Goals.{then-count-eq0, else-count-eq0}

@@ -3,9 +3,9 @@ use Rattle.std.proofs.lemmas.List.{map_push}
 use Rattle.std.proofs.lemmas.List.Elements.{All-push}
 use Rattle.std.specs.Result.{is_ok}
 use Rattle.linker.specs.Room.{IsSmall}
-use Rattle.sm_cli.specs.NameText.{name_text}
+use Rattle.sm_cli.specs.internal.NameText.{name_text}
 use Rattle.sm_cli.specs.Files.{an_object, object_file, need, object_needs, Holds, HoldAll}
-use Rattle.sm_cli.specs.Serve.{IsNeedCause}
+use Rattle.sm_cli.specs.internal.Serve.{IsNeedCause}
 use Rattle.sm_cli.proofs.Objects.{at_name, past_name, cause_moved, small_object, hold_past, cause_past}
 use Rattle.sm_cli.proofs.loading.load_objects.Goals as goal
 

@@ -1,7 +1,7 @@
 use Rattle.std.proofs.Common.{ℕ, List, ◌≡◌, ◌+◌, ◌≤◌, ◌<◌, length, map, set, ap, ◌∙◌, arith}
 use Rattle.asm_text.specs.declared.unit.AsmSection.{AsmSection}
 use Rattle.asm_text.specs.Emission.{grown}
-use Rattle.asm_text.specs.Emitted.{emitted_of, meanings_of}
+use Rattle.asm_text.specs.internal.Emitted.{emitted_of, meanings_of}
 use Rattle.asm_text.specs.Statements.{size_of}
 use Rattle.asm_text.specs.Views.{section_of}
 use Rattle.asm_text.proofs.EmissionLemmas.{last_section, index_is, same_at, sections_set, in_last_ok, in_last_err}

@@ -1,6 +1,6 @@
 use Rattle.std.proofs.Common.{◌≡◌, None, length, vec_len, sym, ◌∙◌, position, arith}
 use Rattle.std.specs.Prelude.{bytes_eq}
-use Rattle.asm_text.specs.Maps.{texts_of}
+use Rattle.asm_text.specs.internal.Maps.{texts_of}
 use Rattle.asm_text.proofs.PlaceLemmas.{place_none, indexed_more, length_texts, texts_more}
 use Rattle.asm_text.proofs.names.Names.number.Goals as goal
 

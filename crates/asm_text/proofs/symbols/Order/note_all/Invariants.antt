@@ -1,6 +1,6 @@
 use Rattle.std.proofs.Common.{◌≡◌, ◌+◌, ◌≤◌, length}
 use Rattle.std.specs.Prelude.{fold}
-use Rattle.asm_text.specs.Numbering.{IsNumbering}
+use Rattle.asm_text.specs.internal.Numbering.{IsNumbering}
 use Rattle.asm_text.specs.Symbols.{once, below}
 use Rattle.asm_text.proofs.symbols.Order.note_all.Given as goal
 

@@ -1,7 +1,8 @@
 use Rattle.std.proofs.Common.{◌≡◌, ◌+◌, ◌≤◌, length, drop}
 use Rattle.std.specs.Prelude.{fold, filter}
-use Rattle.asm_text.specs.Numbering.{IsNumbering}
-use Rattle.asm_text.specs.Symbols.{once, is_local}
+use Rattle.asm_text.specs.internal.Numbering.{IsNumbering}
+use Rattle.asm_text.specs.Symbols.{once}
+use Rattle.asm_text.specs.internal.Symbols.{is_local}
 use Rattle.asm_text.proofs.symbols.Order.note_local.Given as goal
 
 abbrev pub invariant-loop-label : goal.invariant-loop-label

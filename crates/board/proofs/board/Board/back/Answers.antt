@@ -1,6 +1,6 @@
 use Rattle.std.proofs.Common.{◌≡◌, ◌+◌, ◌<◌, ◌≤◌, length, take, rules, refl, ◌∙◌, ap, arith}
 use Rattle.written_machine.specs.Marks.{Marked}
-use Rattle.board.specs.Standing.{Lasting, lasting_of}
+use Rattle.board.specs.internal.Standing.{Lasting, lasting_of}
 use Rattle.board.proofs.Going.{back_none, back_number, gone_back, keeps_cut, mark_is, stands_back}
 use Rattle.board.proofs.board.Board.back.Goals as goal
 

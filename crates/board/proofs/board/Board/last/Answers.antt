@@ -2,8 +2,8 @@ use Rattle.std.proofs.Common.{◌≡◌, ℕ, List, ◌+◌, ◌-◌, ◌<◌, [
 use Rattle.written_machine.specs.Cycle.{after_cycles}
 use Rattle.written_machine.specs.Marks.{Marked}
 use Rattle.board.specs.declared.moment.Moment.{Moment}
-use Rattle.board.specs.Sound.{IsSound, RunsTo}
-use Rattle.board.specs.Standing.{Lasting, lasting_of, marks_of, moment_state, state_of}
+use Rattle.board.specs.internal.Sound.{IsSound, RunsTo}
+use Rattle.board.specs.internal.Standing.{Lasting, lasting_of, marks_of, moment_state, state_of}
 use Rattle.board.proofs.Going.{Found, keeps_cut, last_gone, last_none, gone_number, last_some, mark_is, mark_leads, mark_sound, marks_length, went}
 use Rattle.board.proofs.board.Board.last.Goals as goal
 

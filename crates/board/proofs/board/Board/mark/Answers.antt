@@ -1,5 +1,5 @@
 use Rattle.std.proofs.Common.{◌≡◌, ◌<◌, length, rules, sym, ◌∙◌, ap}
-use Rattle.board.specs.Standing.{lasting_of}
+use Rattle.board.specs.internal.Standing.{lasting_of}
 use Rattle.written_machine.specs.Marks.{Marked}
 use Rattle.board.proofs.Going.{keeps_mark, mark_full, mark_made, marks_length}
 use Rattle.board.proofs.board.Board.mark.Goals as goal

@@ -1,7 +1,7 @@
 use Rattle.std.proofs.Common.{◌≤◌, ◌+◌, ◌^◌, sym, subst}
 use Rattle.std.specs.Vec.{vec_capacity}
 use Rattle.written_machine.specs.Marks.{Marked}
-use Rattle.board.specs.Standing.{Lasting, state_of}
+use Rattle.board.specs.internal.Standing.{Lasting, state_of}
 use Rattle.board.proofs.Keeping.{keeps_on, marked_same, number_passed}
 use Rattle.board.proofs.board.Board.pass_idle.Goals as goal
 

@@ -5,7 +5,8 @@ use Rattle.written_machine.specs.Marks.{Marked, at_state}
 use Rattle.written_machine.specs.Standing.{stands_at, cycles_until}
 use Rattle.written_machine.specs.State.{State}
 use Rattle.board.specs.declared.Ran.TheVariants.{SinkFailed}
-use Rattle.board.specs.Ran.{Apart, RanWhole}
+use Rattle.board.specs.Ran.{RanWhole}
+use Rattle.board.specs.internal.Ran.{Apart}
 use Rattle.board.proofs.Runs.{cut_after, ended_runs, ran_on, state_more, stopped_early}
 use Rattle.board.proofs.Reaching.{apart_then, apart_stopped, apart_within, until_there, until_never}
 use Rattle.board.proofs.Seen.{peers_run}

@@ -3,7 +3,7 @@ use Rattle.sm_io.specs.Sink.{Took}
 use Rattle.written_machine.specs.Cycle.{after_cycles}
 use Rattle.written_machine.specs.Marks.{at_state}
 use Rattle.written_machine.specs.Trace.{lines_after}
-use Rattle.board.specs.Ran.{Apart}
+use Rattle.board.specs.internal.Ran.{Apart}
 use Rattle.board.proofs.board.Board.run_until.Given as goal
 
 abbrev pub invariant-loop-left : goal.invariant-loop-left

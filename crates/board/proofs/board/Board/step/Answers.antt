@@ -1,7 +1,7 @@
 use Rattle.std.proofs.Common.{◌≤◌, ◌<◌, ◌^◌, sym, subst}
 use Rattle.written_machine.specs.Marks.{Marked}
 use Rattle.std.specs.Vec.{vec_capacity}
-use Rattle.board.specs.Standing.{Lasting, state_of}
+use Rattle.board.specs.internal.Standing.{Lasting, state_of}
 use Rattle.board.proofs.Keeping.{keeps_on, marked_same, number_next}
 use Rattle.board.proofs.board.Board.step.Goals as goal
 

@@ -6,7 +6,7 @@ use Rattle.pc_access.specs.declared.Rule.TheVariants.{Illegal}
 use Rattle.tracer.specs.declared.Event.{Event}
 use Rattle.written_machine.specs.State.{State}
 use Rattle.written_machine.specs.Cycle.{Step, pc_of, byte_of, stopped}
-use Rattle.board.specs.Standing.{state_of}
+use Rattle.board.specs.internal.Standing.{state_of}
 use Rattle.board.proofs.Whole.{act_none, act_some}
 use Rattle.board.proofs.machine.Machine.act.Goals as goal
 

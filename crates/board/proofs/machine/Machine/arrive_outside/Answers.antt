@@ -1,7 +1,7 @@
 use Rattle.std.proofs.Common.{◌∙◌, ap}
 use Rattle.devices.specs.Bus.{BusState}
 use Rattle.board.specs.declared.port.Surroundings.{Surroundings}
-use Rattle.board.specs.Standing.{lasting_of}
+use Rattle.board.specs.internal.Standing.{lasting_of}
 use Rattle.board.proofs.Lasting.{accepted_schedule, lasting_by, port_lasting}
 use Rattle.board.proofs.machine.Machine.arrive_outside.Goals as goal
 

@@ -1,7 +1,7 @@
 use Rattle.std.proofs.Common.{◌≡◌, arith}
 use Rattle.reg_backup.specs.declared.backup.Phase.TheVariants.{Run}
 use Rattle.written_machine.specs.Passing.{Pads, WaitsOutside, Waits, Sleeps}
-use Rattle.board.specs.Standing.{state_of}
+use Rattle.board.specs.internal.Standing.{state_of}
 use Rattle.board.proofs.Idle.{none_pass}
 use Rattle.board.proofs.machine.Machine.idle_cycles.Goals as goal
 

@@ -2,8 +2,8 @@ use Rattle.std.proofs.Common.{◌≡◌, ◌&&◌, is_some, ◌∙◌}
 use Rattle.irq_padding.specs.Turns.{turn_of, kind_of}
 use Rattle.written_machine.specs.Cycle.{asleep, due, has_room}
 use Rattle.written_machine.specs.State.{State}
-use Rattle.board.specs.Standing.{state_of}
-use Rattle.board.specs.Turned.{raised}
+use Rattle.board.specs.internal.Standing.{state_of}
+use Rattle.board.specs.internal.Turned.{raised}
 use Rattle.board.proofs.Cycles.{is_due}
 use Rattle.board.proofs.machine.Machine.kind.Goals as goal
 

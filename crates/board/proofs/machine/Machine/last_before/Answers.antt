@@ -3,8 +3,8 @@ use Rattle.std.proofs.lemmas.Bool.{and_right}
 use Rattle.written_machine.specs.Cycle.{after_cycles}
 use Rattle.written_machine.specs.Standing.{stands_at, last_standing}
 use Rattle.written_machine.specs.State.{State}
-use Rattle.board.specs.Sound.{number_of}
-use Rattle.board.specs.Standing.{state_of}
+use Rattle.board.specs.internal.Sound.{number_of}
+use Rattle.board.specs.internal.Standing.{state_of}
 use Rattle.board.proofs.Leading.{last_apart, last_here, last_there, walk_next}
 use Rattle.board.proofs.Runs.{state_split}
 use Rattle.board.proofs.machine.Machine.last_before.Goals.{then-stands_at, else-stands_at}

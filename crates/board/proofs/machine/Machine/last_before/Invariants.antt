@@ -1,8 +1,8 @@
 use Rattle.std.proofs.Common.{◌≡◌, ◌-◌, ◌≤◌, false}
 use Rattle.written_machine.specs.Cycle.{after_cycles}
 use Rattle.written_machine.specs.Standing.{stands_at, last_standing}
-use Rattle.board.specs.Sound.{Stands, number_of}
-use Rattle.board.specs.Standing.{state_of, lasting_of}
+use Rattle.board.specs.internal.Sound.{Stands, number_of}
+use Rattle.board.specs.internal.Standing.{state_of, lasting_of}
 use Rattle.board.proofs.machine.Machine.last_before.Given as goal
 
 -- where it stands at the address now, the next round tells so

@@ -1,8 +1,8 @@
 use Rattle.std.proofs.Common.{◌≡◌, ◌+◌, ◌≤◌, ◌^◌, is_some, true, sym, ◌∙◌, ap, subst, arith, rules}
 use Rattle.sm_words.specs.Sums.{one_if}
 use Rattle.written_machine.specs.State.{State}
-use Rattle.board.specs.Sound.{RunsTo}
-use Rattle.board.specs.Standing.{state_of}
+use Rattle.board.specs.internal.Sound.{RunsTo}
+use Rattle.board.specs.internal.Standing.{state_of}
 use Rattle.board.proofs.Leading.{arrived}
 use Rattle.board.proofs.machine.Machine.last_since.Goals as goal
 

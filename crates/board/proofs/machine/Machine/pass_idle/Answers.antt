@@ -2,7 +2,7 @@ use Rattle.std.proofs.Common.{◌<◌, ◌≤◌, ◌&&◌, sym, ◌∙◌, ap, 
 use Rattle.written_machine.specs.Passing.{Leads}
 use Rattle.written_machine.specs.Standing.{stands_at}
 use Rattle.written_machine.specs.State.{State}
-use Rattle.board.specs.Standing.{state_of}
+use Rattle.board.specs.internal.Standing.{state_of}
 use Rattle.board.proofs.Idle.{missed_none}
 use Rattle.board.proofs.machine.Machine.pass_idle.Goals as goal
 

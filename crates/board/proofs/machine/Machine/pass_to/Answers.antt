@@ -1,7 +1,7 @@
 use Rattle.std.proofs.Common.{◌≡◌, suc, ◌+◌, ◌-◌, ◌<◌, sym, ◌∙◌, ap, arith}
 use Rattle.written_machine.specs.Cycle.{after_cycles}
 use Rattle.written_machine.specs.State.{State}
-use Rattle.board.specs.Standing.{state_of}
+use Rattle.board.specs.internal.Standing.{state_of}
 use Rattle.board.proofs.Leading.{walk_next}
 use Rattle.board.proofs.Runs.{state_split}
 use Rattle.board.proofs.machine.Machine.pass_to.Goals as goal

@@ -1,7 +1,7 @@
 use Rattle.std.proofs.Common.{◌≡◌, ◌-◌, ◌≤◌}
 use Rattle.written_machine.specs.Cycle.{after_cycles}
-use Rattle.board.specs.Sound.{Stands}
-use Rattle.board.specs.Standing.{state_of, lasting_of}
+use Rattle.board.specs.internal.Sound.{Stands}
+use Rattle.board.specs.internal.Standing.{state_of, lasting_of}
 use Rattle.board.proofs.machine.Machine.pass_to.Given as goal
 
 abbrev pub invariant-loop-self : goal.invariant-loop-self

@@ -4,8 +4,8 @@ use Rattle.irq_padding.specs.Turns.{kind_of}
 use Rattle.irq_padding.specs.declared.turn.Turn.TheVariants.{Inside, Outside}
 use Rattle.written_machine.specs.Cycle.{Step, case_of}
 use Rattle.written_machine.specs.State.{State}
-use Rattle.board.specs.Standing.{state_of}
-use Rattle.board.specs.Turned.{raised}
+use Rattle.board.specs.internal.Standing.{state_of}
+use Rattle.board.specs.internal.Turned.{raised}
 use Rattle.board.proofs.Cycles.{turned_inside, turned_outside}
 use Rattle.board.proofs.machine.Machine.turn.Goals as goal
 

@@ -1,7 +1,8 @@
 use Rattle.std.proofs.Common.{◌≡◌, ◌≤◌, ◌+◌, ◌∙◌, ap, arith, length}
-use Rattle.devices.specs.Parts.{joined}
+use Rattle.devices.specs.internal.Parts.{joined}
 use Rattle.devices.specs.Time.{ticked_by}
-use Rattle.devices.specs.Bus.{BusState, IsDue, acted_before, past_count}
+use Rattle.devices.specs.Bus.{BusState}
+use Rattle.devices.specs.internal.Bus.{IsDue, acted_before, past_count}
 use Rattle.devices.proofs.Order.{IsDue-later, IsDue-within}
 use Rattle.devices.proofs.Passing.{advanced}
 use Rattle.devices.proofs.bus.Bus.advance.Goals as goal

@@ -1,6 +1,6 @@
 use Rattle.std.proofs.Common.{◌∙◌, sym, subst, arith, List}
 use Rattle.schedule_file.specs.declared.Entry.{Entry}
-use Rattle.devices.specs.Bus.{IsDue}
+use Rattle.devices.specs.internal.Bus.{IsDue}
 use Rattle.devices.proofs.Order.{IsDue-start}
 use Rattle.devices.proofs.bus.Bus.new.Goals as goal
 

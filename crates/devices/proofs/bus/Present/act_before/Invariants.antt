@@ -1,7 +1,7 @@
 use Rattle.std.proofs.Common.{◌≡◌, ◌+◌, List, drop}
 use Rattle.schedule_file.specs.declared.Entry.{Entry}
-use Rattle.devices.specs.Parts.{joined}
-use Rattle.devices.specs.Bus.{acted_before, past_count}
+use Rattle.devices.specs.internal.Parts.{joined}
+use Rattle.devices.specs.internal.Bus.{acted_before, past_count}
 use Rattle.devices.proofs.bus.Present.act_before.Given as goal
 
 abbrev pub invariant-loop-entry : goal.invariant-loop-entry

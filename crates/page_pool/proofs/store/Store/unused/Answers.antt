@@ -2,7 +2,7 @@ use Rattle.std.proofs.Common.{◌≡◌, ◌<◌, ◌≤◌, subst, true, List, 
 use Rattle.std.proofs.lemmas.List.{take_all}
 use Rattle.std.proofs.lemmas.List.Elements.{All-more}
 use Rattle.page_pool.specs.declared.store.Table.{Table}
-use Rattle.page_pool.specs.Naming.{no_table}
+use Rattle.page_pool.specs.internal.Naming.{no_table}
 use Rattle.page_pool.proofs.store.Store.unused.Goals as goal
 
 pub loop-t-preserved : goal.loop-t-preserved

@@ -1,4 +1,4 @@
-use Rattle.page_pool.specs.Naming.{tables_of}
+use Rattle.page_pool.specs.internal.Naming.{tables_of}
 use Rattle.page_pool.proofs.StoreLemmas.{page_written}
 use Rattle.page_pool.proofs.store.Store.write.Goals as goal
 

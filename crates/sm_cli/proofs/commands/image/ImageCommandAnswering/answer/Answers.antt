@@ -3,8 +3,9 @@ use Rattle.std.specs.Option.{option_copied}
 use Rattle.written_machine.specs.Marks.{Marked}
 use Rattle.sm_io.specs.Sink.{Took, CutOff}
 use Rattle.sm_cli.specs.Files.{IsScheduleOf}
-use Rattle.sm_cli.specs.ImageCommand.{trace_answer, answer_from}
-use Rattle.sm_cli.specs.Serve.{EndsAs}
+use Rattle.sm_cli.specs.ImageCommand.{trace_answer}
+use Rattle.sm_cli.specs.internal.ImageCommand.{answer_from}
+use Rattle.sm_cli.specs.internal.Serve.{EndsAs}
 use Rattle.sm_cli.proofs.Running.{image_answer}
 use Rattle.sm_cli.proofs.commands.image.ImageCommandAnswering.answer.Goals as goal
 

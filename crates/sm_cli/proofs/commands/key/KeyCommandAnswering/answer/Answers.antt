@@ -1,7 +1,8 @@
 use Rattle.std.proofs.Common.{[], ◌∷◌, refl, ap}
 use Rattle.sm_cli.specs.declared.answers.Status.TheVariants.{Done}
 use Rattle.sm_cli.specs.Files.{an_image}
-use Rattle.sm_cli.specs.KeyCommand.{key_asked, key_lines, keys_by}
+use Rattle.sm_cli.specs.KeyCommand.{key_lines, keys_by}
+use Rattle.sm_cli.specs.internal.KeyCommand.{key_asked}
 use Rattle.sm_cli.proofs.Running.{put_answer}
 use Rattle.sm_cli.proofs.commands.key.KeyCommandAnswering.answer.Goals as goal
 

@@ -3,9 +3,10 @@ use Rattle.lone_run.specs.Ends.{answer_of}
 use Rattle.lone_run.specs.declared.Outcome.{Outcome as End}
 use Rattle.sm_io.specs.Sink.{Took, CutOff}
 use Rattle.sm_cli.specs.Files.{an_image}
-use Rattle.sm_cli.specs.LoneCommand.{end_of, end_answer, lone_by, lone_asked}
+use Rattle.sm_cli.specs.LoneCommand.{end_of, end_answer, lone_by}
+use Rattle.sm_cli.specs.internal.LoneCommand.{lone_asked}
 use Rattle.sm_cli.specs.Pairs.{core_with}
-use Rattle.sm_cli.specs.Serve.{EndsAs}
+use Rattle.sm_cli.specs.internal.Serve.{EndsAs}
 use Rattle.sm_cli.proofs.Running.{gives_answer}
 use Rattle.sm_cli.proofs.commands.lone.LoneCommandAnswering.answer.Goals as goal
 

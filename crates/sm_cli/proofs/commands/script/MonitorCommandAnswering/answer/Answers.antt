@@ -4,7 +4,7 @@ use Rattle.written_machine.specs.Marks.{Marked}
 use Rattle.sm_io.specs.Sink.{Took, CutOff}
 use Rattle.sm_cli.specs.Files.{need, script_file, a_script, Holds, IsScheduleOf}
 use Rattle.sm_cli.specs.MonitorCommand.{play_answer, script_answer, start_of}
-use Rattle.sm_cli.specs.Serve.{EndsAs}
+use Rattle.sm_cli.specs.internal.Serve.{EndsAs}
 use Rattle.sm_cli.proofs.Running.{monitor_answer}
 use Rattle.sm_cli.proofs.commands.script.MonitorCommandAnswering.answer.Goals as goal
 

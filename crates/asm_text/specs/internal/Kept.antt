@@ -1,8 +1,8 @@
 -- What every source keeps.
 use Rattle.std.specs.Prelude.{◌≢◌, ◌+◌, ◌*◌, ◌≤◌, length, AllPairs}
 use Rattle.asm_text.specs.declared.TheConstants.{MAX_ENTRIES, MAX_LABELS}
-use Rattle.asm_text.specs.Emitted.{AreNames}
-use Rattle.asm_text.specs.Known.{AreKnown, AreNamed}
+use Rattle.asm_text.specs.internal.Emitted.{AreNames}
+use Rattle.asm_text.specs.internal.Known.{AreKnown, AreNamed}
 use Rattle.asm_text.specs.Source.{Source}
 
 pub record IsSource (s : Source) : Type 0 where

@@ -1,7 +1,7 @@
 -- What the code's tables and sources stand for.
 use Rattle.asm_text.specs.declared.reading.Tables.{Tables as TablesKept}
 use Rattle.asm_text.specs.declared.reading.Source.{Source as SourceKept}
-use Rattle.asm_text.specs.Maps.{IsIndexed, texts_of}
+use Rattle.asm_text.specs.internal.Maps.{IsIndexed, texts_of}
 use Rattle.asm_text.specs.Names.{Tables}
 use Rattle.asm_text.specs.Source.{Source}
 

@@ -1,6 +1,6 @@
 -- How a pool keeps its tables: places that name pages, and counts of these names.
 use Rattle.std.specs.Prelude.{◌≡◌, ℕ, ◌*◌, ◌<◌, ◌≤◌, cond, false, true, List, [], Option, Some, None, All, length, get_or, map, sum, sum_by, count_by, flat_map}
-use Rattle.page_pool.specs.Counts.{times_in, IsFree}
+use Rattle.page_pool.specs.internal.Counts.{times_in, IsFree}
 use Rattle.page_pool.specs.declared.store.Table.{Table}
 use Rattle.page_pool.specs.declared.store.Store.{Store}
 

@@ -4,7 +4,7 @@ use Rattle.asm_text.specs.declared.TheConstants.{MAX_SIZE}
 use Rattle.asm_text.specs.declared.emission.Meanings.{Meanings as MeaningsKept}
 use Rattle.asm_text.specs.declared.emission.Emission.{Emission}
 use Rattle.asm_text.specs.Emission.{Meanings, Emitted}
-use Rattle.asm_text.specs.Maps.{texts_in}
+use Rattle.asm_text.specs.internal.Maps.{texts_in}
 use Rattle.asm_text.specs.Parts.{SectionValue, is_name}
 use Rattle.asm_text.specs.Views.{sections_of}
 

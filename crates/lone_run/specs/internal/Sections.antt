@@ -4,7 +4,7 @@ use Rattle.sm_words.specs.declared.width.Width.{Width}
 use Rattle.mod_layout.specs.declared.Module.{Module}
 use Rattle.pc_access.specs.declared.Kind.TheVariants.{Write}
 use Rattle.cpu_step.specs.Lone as lone
-use Rattle.lone_run.specs.Jobs.{call_of}
+use Rattle.lone_run.specs.internal.Jobs.{call_of}
 use Rattle.lone_run.specs.declared.sections.Put.{Put}
 use Rattle.lone_run.specs.declared.sections.Sections.{Sections}
 

@@ -1,0 +1,4 @@
+pub mod Ran
+pub mod Sound
+pub mod Standing
+pub mod Turned

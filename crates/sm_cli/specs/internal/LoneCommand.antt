@@ -1,0 +1,11 @@
+-- What the code's own invariants say of: LoneCommand.
+use Rattle.cpu_step.specs.Lone as lone
+use Rattle.sm_cli.specs.declared.answers.Status.TheVariants as status
+use Rattle.sm_cli.specs.declared.commands.lone.LoneCommand.{LoneCommand}
+use Rattle.sm_cli.specs.Pairs.{core_with}
+use Rattle.sm_cli.specs.Command.{Command}
+use Rattle.sm_cli.specs.LoneCommand.{lone_command}
+
+-- what the program's value asks for
+abbrev pub lone_asked : LoneCommand → Command
+lone_asked c = lone_command c.image.now c.id c.limit (core_with c.pairs.items)
