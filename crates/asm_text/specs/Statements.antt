@@ -6,6 +6,7 @@ use Rattle.asm_text.specs.declared.unit.SectionKind.{SectionKind}
 use Rattle.asm_text.specs.declared.unit.SectionKind.TheVariants.{Code as CodeKind, Bss as BssKind}
 use Rattle.asm_text.specs.declared.statement.Statement.{Statement}
 use Rattle.asm_text.specs.declared.statement.Statement.TheVariants.{Word, Space, Jump, Code}
+
 -- ---- other names in the same places
 
 -- an operand whose number a name may stand for

@@ -6,6 +6,7 @@ use Rattle.asm_text.specs.declared.statement.Statement.{Statement}
 use Rattle.asm_text.specs.declared.statement.Statement.TheVariants.{Global}
 use Rattle.asm_text.specs.Parts.{SymbolValue}
 use Rattle.asm_text.specs.Placing.{Placed, spot_of}
+
 abbrev pub says_global : ℕ → Statement ℕ → Bool
 says_global name (Global other) = other == name
 says_global name _ = false

@@ -2,6 +2,7 @@
 use Rattle.std.specs.Prelude.{ℕ, List, map, slice_index, slice_set}
 use Rattle.pc_access.specs.declared.Access.{Access}
 pub use Rattle.pc_access.specs.Accesses.{is_read, is_write, reads_of, writes_of, after_writes}
+
 -- the bytes that the reads give
 abbrev pub values_in : List ℕ → List Access → List ℕ
 values_in mem xs = map (λ x. slice_index mem x.addr) (reads_of xs)

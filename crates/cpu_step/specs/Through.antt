@@ -7,6 +7,7 @@ use Rattle.pc_access.specs.declared.Access.{Access}
 use Rattle.pc_access.specs.Accesses.{reads_of, writes_of, after_writes}
 use Rattle.cpu_step.specs.Effect.{does}
 use Rattle.cpu_step.specs.Plan.{plan}
+
 -- each word access among these is at an even address
 abbrev pub AreAligned : List Access → Type 0
 AreAligned xs = All (λ x. IsFalse (misaligned x.width x.addr)) xs

@@ -1,6 +1,7 @@
 -- The bus: the three devices side by side, and the schedule.
 use Rattle.std.specs.Prelude.{ℕ, []}
 use Rattle.devices.specs.Devices.{Devices}
+
 -- what a bus is: the devices, the ticks that were done, and the calls that moved it
 pub record BusState : Type 0 where
   pub devices : Devices

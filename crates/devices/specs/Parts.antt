@@ -1,6 +1,7 @@
 -- The three devices one by one, and together.
 use Rattle.std.specs.Prelude.{ℕ, [], Bool, Option}
 use Rattle.devices.specs.Devices.{Devices, silent}
+
 pub record LinesPart : Type 0 where
   pub enabled : ℕ
   pub levels : ℕ

@@ -2,6 +2,7 @@
 use Rattle.std.specs.Prelude.{ℕ, zero, suc, ◌+◌, ◌-◌, ◌%◌, ◌^◌, min, List, [], ◌∷◌, nat_le, if◌then◌else◌, ◌&&◌, not}
 use Rattle.schedule_file.specs.declared.Entry.{Entry}
 use Rattle.devices.specs.Devices.{Devices, ticked_devices}
+
 -- what n ticks from cycle k on leave
 abbrev pub ticked_by : ℕ → ℕ → Devices → Devices
 ticked_by zero k d = d

@@ -5,6 +5,7 @@ use Rattle.image_text.specs.declared.ImageFault.TheVariants.{NoMemory}
 use Rattle.image_text.specs.Image.{Image, IsImage}
 use Rattle.image_text.specs.ImageText.{image_text}
 use Rattle.image_text.specs.Refusal.{refusal_of}
+
 -- what reading these bytes may answer: the image whose text they are, or their refusal, or NoMemory
 abbrev pub Reads : List ℕ → Result Image ImageFault → Type 0
 Reads bytes (Ok image) = IsImage image × (bytes ≡ image_text image)

@@ -1,6 +1,7 @@
 -- A value, or the fault that comes first.
 use Rattle.std.specs.Prelude.{ℕ, ◌+◌, List, [], ◌∷◌, ◌++◌, Result, Ok, Err}
 use Rattle.layout_file.specs.declared.fault.LayoutFault.{LayoutFault}
+
 abbrev pub Checked : Type 0 → Type 0
 Checked A = Result A LayoutFault
 

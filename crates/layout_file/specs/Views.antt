@@ -4,6 +4,7 @@ use Rattle.std.specs.declared.alloc.Global.{Global}
 use Rattle.layout_file.specs.Values.{VectorValue, ModuleValue}
 use Rattle.layout_file.specs.declared.parts.VectorName.{VectorName}
 use Rattle.layout_file.specs.declared.parts.ModuleSpec.{ModuleSpec}
+
 abbrev pub strings_of : Vec (String Global) Global → List (List ℕ)
 strings_of v = map string_bytes v.items
 

@@ -10,6 +10,7 @@ use Rattle.monitor.specs.declared.line.Operands.{Operands}
 use Rattle.monitor.specs.declared.line.LineFault.{LineFault}
 use Rattle.monitor.specs.declared.line.LineFault.TheVariants.{Form, Bounds}
 use Rattle.monitor.specs.Bounds.{is_bounded}
+
 -- ---- what stands in a line
 
 -- a decimal of any size

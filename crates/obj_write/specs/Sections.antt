@@ -5,6 +5,7 @@ use Rattle.elf_objects.specs.Numbers.{file_header_size, section_header_size}
 use Rattle.elf_objects.specs.Passes.{all_below}
 use Rattle.obj_write.specs.declared.sections.Head.{Head}
 use Rattle.obj_write.specs.Bytes.{words_bytes, zeros, padded}
+
 -- a section: its header without a place, and its content
 pub record FileSection : Type 0 where
   pub head : Head

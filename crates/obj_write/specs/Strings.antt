@@ -1,6 +1,7 @@
 -- String tables (TIS ELF 1.2, "String Table").
 use Rattle.std.specs.Prelude.{ℕ, List, [], ◌∷◌, ◌++◌, length, take}
 use Rattle.std.specs.List.{flat_map}
+
 -- a name with the 0 byte that ends it
 abbrev pub terminated : List ℕ → List ℕ
 terminated name = name ++ 0 ∷ []

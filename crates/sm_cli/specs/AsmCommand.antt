@@ -4,6 +4,7 @@ use Rattle.obj_write.specs.Object.{object_of}
 use Rattle.sm_cli.specs.Words.{Text}
 use Rattle.sm_cli.specs.Files.{Held, a_unit, source_file, need}
 use Rattle.sm_cli.specs.Command.{Outcome, done, no_outcome, Command}
+
 abbrev pub asm_outcome : List Held → Outcome
 asm_outcome (a_unit unit ∷ []) = done (object_of unit)
 asm_outcome _ = no_outcome

@@ -10,6 +10,7 @@ use Rattle.sm_cli.specs.Words.{Text}
 use Rattle.sm_cli.specs.Arguments.{id_of}
 use Rattle.sm_cli.specs.Files.{Held, an_image, certificates, arms_file, image_with, need}
 use Rattle.sm_cli.specs.Command.{Outcome, judges, no_outcome, Command}
+
 abbrev pub balanced_by : Image → List Arm → Option Module → Outcome
 balanced_by value arms (Some owner) = judges owner (section owner.text value.memory) arms
 balanced_by value arms None = no_outcome

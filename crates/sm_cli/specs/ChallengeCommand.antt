@@ -4,6 +4,7 @@ use Rattle.vendor_tool.specs.NonceSchedule.{entries_of, entries_text}
 use Rattle.sm_cli.specs.Words.{Text}
 use Rattle.sm_cli.specs.Files.{Held, the_challenges, challenges_file, need}
 use Rattle.sm_cli.specs.Command.{Outcome, done, no_outcome, Command}
+
 abbrev pub challenge_outcome : List Held → Outcome
 challenge_outcome (the_challenges list ∷ []) = done (entries_text (entries_of list))
 challenge_outcome _ = no_outcome

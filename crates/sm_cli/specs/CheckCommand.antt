@@ -9,6 +9,7 @@ use Rattle.sm_cli.specs.Words.{Text}
 use Rattle.sm_cli.specs.Arguments.{id_of}
 use Rattle.sm_cli.specs.Files.{Held, an_image, image_with, need}
 use Rattle.sm_cli.specs.Command.{Outcome, judges, no_outcome, Command}
+
 abbrev pub checked_by : Image → Option Module → Outcome
 checked_by value (Some owner) = judges owner (section owner.text value.memory) []
 checked_by value None = no_outcome

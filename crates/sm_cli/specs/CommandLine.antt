@@ -17,6 +17,7 @@ use Rattle.sm_cli.specs.LoneCommand.{lone_of}
 use Rattle.sm_cli.specs.MonitorCommand.{monitor_of}
 use Rattle.sm_cli.specs.AsmCommand.{asm_of}
 use Rattle.sm_cli.specs.MakeCommand.{make_of}
+
 -- by the first word, with the fewest and the most values that may follow
 abbrev pub command_by : Text → List Text → Option Command
 command_by name words =

@@ -8,6 +8,7 @@ use Rattle.insn_decode.specs.Text.{text_of}
 use Rattle.sm_cli.specs.Words.{Text}
 use Rattle.sm_cli.specs.Files.{Held, an_image, image_file, need}
 use Rattle.sm_cli.specs.Command.{Outcome, done, no_outcome, Command}
+
 -- the word at an address
 abbrev pub word_in : List ℕ → ℕ → ℕ
 word_in memory at = word_of (slice_index memory at) (slice_index memory (at + 1))

@@ -11,6 +11,7 @@ use Rattle.sm_cli.specs.Words.{Text}
 use Rattle.sm_cli.specs.Arguments.{file_named, cycles_of}
 use Rattle.sm_cli.specs.Files.{Held, an_image, a_schedule, image_file, need, schedule_needs}
 use Rattle.sm_cli.specs.Command.{Answer, Outcome, gives, no_outcome, Command}
+
 -- the status of a run that ends stopped, or not
 abbrev pub run_status : Bool → Status
 run_status true = status.Stopped

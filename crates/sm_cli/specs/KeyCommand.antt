@@ -11,6 +11,7 @@ use Rattle.sm_cli.specs.Words.{Text}
 use Rattle.sm_cli.specs.Arguments.{id_of}
 use Rattle.sm_cli.specs.Files.{Held, an_image, image_with, need}
 use Rattle.sm_cli.specs.Command.{Outcome, done, no_outcome, Command}
+
 -- the line of a key
 abbrev pub key_line : List ℕ → List ℕ → List ℕ
 key_line name key = name ++ (hex_key key ++ codes "\n")

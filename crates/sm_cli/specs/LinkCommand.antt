@@ -12,6 +12,7 @@ use Rattle.sm_cli.specs.Words.{Text}
 use Rattle.sm_cli.specs.Files.{Held, an_object, a_layout, layout_file, need, object_needs}
 use Rattle.sm_cli.specs.Command.{Answer, Outcome, gives, refuses, no_outcome, Command}
 use Rattle.sm_cli.specs.SymbolNames.{symbol_name}
+
 -- the objects among what files hold
 abbrev pub objects_in : List Held → List ObjectValue
 objects_in (an_object object ∷ more) = object ∷ objects_in more

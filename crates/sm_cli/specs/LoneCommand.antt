@@ -20,6 +20,7 @@ use Rattle.sm_cli.specs.Numbers.{number_line}
 use Rattle.sm_cli.specs.Pairs.{pairs_in, core_with}
 use Rattle.sm_cli.specs.Files.{Held, an_image, image_with, need}
 use Rattle.sm_cli.specs.Command.{Answer, Outcome, gives, no_outcome, Command}
+
 -- the caller's id where no module calls
 abbrev pub no_caller : ℕ
 no_caller = 0

@@ -15,6 +15,7 @@ use Rattle.sm_cli.specs.declared.commands.make.TheConstants.{CYCLES, MAX_SEED}
 use Rattle.sm_cli.specs.Numbers.{number_line}
 use Rattle.sm_cli.specs.Words.{Text}
 use Rattle.sm_cli.specs.Command.{done, Command}
+
 abbrev pub seed_of : Text → Option ℕ
 seed_of word = read_decimal MAX_SEED word
 

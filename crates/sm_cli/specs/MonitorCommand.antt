@@ -12,6 +12,7 @@ use Rattle.sm_cli.specs.Arguments.{file_named}
 use Rattle.sm_cli.specs.Files.{Held, an_image, a_schedule, a_script, image_file, script_file, need, schedule_needs}
 use Rattle.sm_cli.specs.Command.{Answer, Outcome, gives, no_outcome, Command}
 use Rattle.sm_cli.specs.ImageCommand.{run_status}
+
 -- what a script writes, and its status: whether the machine is stopped at the end
 abbrev pub play_answer : Marked → List ScriptLine → Answer
 play_answer g script = record { text = play g script; status = run_status (is_some (led g (moves g script)).present.stop) }

@@ -7,6 +7,7 @@ use Rattle.sm_cli.specs.Files.{Held, a_schedule, a_layout, layout_file, need, sc
 use Rattle.sm_cli.specs.Command.{Outcome, no_outcome, Command}
 use Rattle.sm_cli.specs.ImageCommand.{trace_answer}
 use Rattle.sm_cli.specs.LinkCommand.{objects_in, linked}
+
 -- with a schedule's file, or with none
 abbrev pub run_outcome : Option Text → ℕ → List Held → Outcome
 run_outcome (Some name) cycles (a_layout layout ∷ a_schedule entries ∷ objects) = linked layout (objects_in objects) (λ image. trace_answer image entries cycles)

@@ -12,6 +12,7 @@ use Rattle.sm_cli.specs.Files.{IsFirstFault, IsReached}
 use Rattle.sm_cli.specs.Command.{Answer, Command, Comes, refuses, IsAnswer}
 use Rattle.sm_cli.specs.CommandLine.{command_of}
 use Rattle.sm_cli.specs.Refusal.{is_read_fault, status_of, line_of}
+
 -- the bytes of the words
 abbrev pub texts : List (String Global) → List (List ℕ)
 texts words = map string_bytes words

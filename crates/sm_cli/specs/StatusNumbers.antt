@@ -2,6 +2,7 @@
 use Rattle.std.specs.Prelude.{ℕ}
 use Rattle.sm_cli.specs.declared.answers.Status.{Status}
 use Rattle.sm_cli.specs.declared.answers.Status.TheVariants as status
+
 abbrev pub number_of : Status → ℕ
 number_of status.Done = 0
 number_of status.Usage = 2

@@ -15,6 +15,7 @@ use Rattle.sm_cli.specs.Words.{Text}
 use Rattle.sm_cli.specs.Arguments.{id_of}
 use Rattle.sm_cli.specs.Files.{Held, an_image, the_challenges, the_replies, image_with, challenges_file, trace_file, Need, need}
 use Rattle.sm_cli.specs.Command.{Answer, Outcome, gives, no_outcome, Command}
+
 -- the status of a report where all are genuine, or not
 abbrev pub report_status : Bool → Status
 report_status true = status.Done

@@ -6,6 +6,7 @@ use Rattle.sm_io.specs.declared.files.Unread.TheVariants.{Absent, Failed}
 use Rattle.sm_io.specs.Faults.{counted}
 use Rattle.sm_io.specs.Files.{FileMap}
 use Rattle.sm_io.specs.Calls.{is_listed}
+
 -- what contracts see: the files, the newest first; the calls that are to fail, and how many calls and faults there were
 pub record MemoryFiles : Type 0 where
   pub files : List (List ℕ × List ℕ)
