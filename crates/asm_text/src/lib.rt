@@ -36,5 +36,10 @@ pub const MAX_LABELS: usize = 4_096;
 /// A section has at most so many bytes.
 pub const MAX_SIZE: u32 = 65_534;
 
+// What the rules say of them: a changed number is refused here.
+const _: () = prove!(MAX_LABELS == 4_096 && MAX_NAME == 64 && MAX_SECTIONS == 256);
+
+const _: () = prove!(MAX_SIZE == 65_534);
+
 /// There are at most so many symbols, and as many relocations.
 pub const MAX_ENTRIES: usize = 1_048_576;

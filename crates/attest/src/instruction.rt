@@ -26,6 +26,9 @@ pub const SHORT_CYCLES: u32 = 6;
 /// The cycles that each block hashed adds.
 pub const BLOCK_CYCLES: u32 = 64;
 
+// What the rules say of them: a changed number is refused here.
+const _: () = prove!(BLOCK_CYCLES == 64 && SHORT_CYCLES == 6);
+
 /// The bytes of a module's identity past its text.
 const TAIL: u32 = IDENTITY_TAIL as u32;
 

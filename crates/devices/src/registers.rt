@@ -25,3 +25,14 @@ pub const LINES_VECTOR: u8 = 1;
 pub const SERIAL_VECTOR: u8 = 6;
 /// The timer's vector.
 pub const TIMER_VECTOR: u8 = 8;
+
+// What the rules say of them: a changed number is refused here.
+const _: () = prove!(LINES_ENABLE == 0x0040 && LINES_LEVELS == 0x0041 && LINES_VECTOR == 1);
+
+const _: () = prove!(SERIAL_CONTROL == 0x0070 && SERIAL_DATA == 0x0071 && SERIAL_VECTOR == 6);
+
+const _: () = prove!(TIMER_CONTROL == 0x0160 && TIMER_COUNT == 0x0162);
+
+const _: () = prove!(TIMER_COUNT_HIGH == 0x0163 && TIMER_LIMIT == 0x0164);
+
+const _: () = prove!(TIMER_LIMIT_HIGH == 0x0165 && TIMER_VECTOR == 8);

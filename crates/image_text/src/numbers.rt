@@ -23,6 +23,11 @@ pub(crate) const ROW_COUNT: usize = (65_536 - FIRST_ROW as usize) / 16;
 /// How many modules a line of version 2 announces at most.
 const MAX_COUNT: u64 = 32;
 
+// What the rules say of them: a changed number is refused here.
+const _: () = prove!(FIRST_ROW == 0x0200 && MAX_COUNT == 32 && MAX_VERSION == 999_999_999);
+
+const _: () = prove!(ROW_COUNT == 4_064);
+
 /// Why a first line is none of versions 1 and 2.
 pub(crate) fn other_version(line: Line<'_>) -> ImageFault
     ensures { version_refusal record { number = line.entry.number; at = line.entry.at } line.entry.text.now ≡

@@ -21,6 +21,9 @@ pub const ARRIVAL: u32 = 5;
 /// The cycles that RETI takes after its first where a module is to go on.
 pub const RESUMPTION: u32 = 4;
 
+// What the rules say of them: a changed number is refused here.
+const _: () = prove!(ARRIVAL == 5 && PADDING == 11 && RESUMPTION == 4);
+
 // The definitions of the machine and its laws take these numbers from here.
 const _: () = prove!(PADDING == 11 && ARRIVAL == 5 && RESUMPTION == 4);
 

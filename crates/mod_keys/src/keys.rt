@@ -10,6 +10,9 @@ use mod_layout::Module;
 /// The bytes of a module's identity past its text.
 pub const IDENTITY_TAIL: usize = 8;
 
+// What the rules say of them: a changed number is refused here.
+const _: () = prove!(IDENTITY_TAIL == 8);
+
 /// The key of a vendor's modules on a node: the first 16 bytes of the HMAC under the node's key of the
 /// vendor's number in two bytes, the low byte first.
 #[tactic(auto, unfolding(crate::specs::Keys::provider_key))]

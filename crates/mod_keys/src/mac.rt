@@ -17,6 +17,9 @@ pub const OUTER_PAD: u8 = 0x5c;
 /// The number of bytes of a tag and of a key: the first of a HMAC.
 pub const TAG_LENGTH: usize = 16;
 
+// What the rules say of them: a changed number is refused here.
+const _: () = prove!(BLOCK == 64 && INNER_PAD == 0x36 && OUTER_PAD == 0x5c && TAG_LENGTH == 16);
+
 /// A HMAC-SHA-256 that is fed piece by piece.
 #[derive(Drop)]
 pub struct Hmac {

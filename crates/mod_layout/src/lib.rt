@@ -20,6 +20,9 @@ pub const FIRST_VECTOR: u16 = 0xffe0;
 /// The address of the last vector, where the machine starts.
 pub const RESET_VECTOR: u16 = 0xfffe;
 
+// What the rules say of them: a changed number is refused here.
+const _: () = prove!(DEVICES_END == 0x0200 && FIRST_VECTOR == 0xffe0 && RESET_VECTOR == 0xfffe);
+
 /// The addresses from `start` on, below `end`.
 #[derive(Clone, Copy, Debug, Default, PartialEq, Eq)]
 pub struct Section {

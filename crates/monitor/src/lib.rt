@@ -32,6 +32,11 @@ pub const MEMORY_END: u64 = 0x10000;
 /// The greatest number of a mark that a line names.
 pub const MAX_MARK: u64 = 15;
 
+// What the rules say of them: a changed number is refused here.
+const _: () = prove!(MAX_BYTES == 256 && MAX_CYCLES == 1_000_000_000 && MAX_MARK == 15);
+
+const _: () = prove!(MEMORY_END == 0x10000);
+
 /// Lines to be done in order, each with its numbers in their bounds.
 #[derive(Debug, Drop)]
 pub struct Script {

@@ -11,6 +11,9 @@ use std::marker::Model;
 /// The most frames that can stand.
 pub const MOST_FRAMES: usize = 8;
 
+// What the rules say of them: a changed number is refused here.
+const _: () = prove!(MOST_FRAMES == 8);
+
 // The definitions of the machine and its laws take the number from here.
 const _: () = prove!(MOST_FRAMES == 8);
 

@@ -19,6 +19,9 @@ pub use reading::read_schedule;
 /// The last cycle of at most eighteen decimal digits.
 pub const MAX_CYCLE: u64 = 999_999_999_999_999_999;
 
+// What the rules say of them: a changed number is refused here.
+const _: () = prove!(MAX_CYCLE == 999_999_999_999_999_999);
+
 /// What happens outside the machine.
 #[derive(Clone, Copy, Debug, PartialEq, Eq)]
 pub enum What {

@@ -11,6 +11,9 @@ const MAX_CYCLES: u64 = 1_000_000_000;
 /// The largest id of a module.
 const MAX_ID: u64 = 65_535;
 
+// What the rules say of them: a changed number is refused here.
+const _: () = prove!(MAX_CYCLES == 1_000_000_000 && MAX_ID == 65_535);
+
 /// The name of a file, or nothing for `-`.
 pub fn file_named(word: &str) -> Option<&str>
     ensures { option_copied result ≡ file_named word.now }

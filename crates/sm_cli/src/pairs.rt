@@ -18,6 +18,9 @@ const EQUALS: u8 = b'=';
 /// The length of `=` and four digits.
 const VALUE_LENGTH: usize = 5;
 
+// What the rules say of them: a changed number is refused here.
+const _: () = prove!(LAST_REGISTER == 15);
+
 /// A register by its number, which is neither PC's nor the constant generator's, and a value.
 #[derive(Clone, Copy)]
 pub struct Pair {

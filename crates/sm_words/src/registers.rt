@@ -15,6 +15,9 @@ pub const SR: u8 = 2;
 /// The register that is the constant generator.
 pub const CG: u8 = 3;
 
+// What the rules say of them: a changed number is refused here.
+const _: () = prove!(CG == 3 && PC == 0 && SP == 1 && SR == 2);
+
 /// The sixteen registers of the processor.
 ///
 /// PC and SP are even, SR has nine bits and R3 is 0, always. A contract sees a core as the list of its

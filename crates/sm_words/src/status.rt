@@ -23,6 +23,13 @@ pub const OVERFLOW: u16 = 0x0100;
 /// The first number that the register is too small for.
 pub const LIMIT: u16 = 0x0200;
 
+// What the rules say of them: a changed number is refused here.
+const _: () = prove!(CARRY == 0x0001 && CPU_OFF == 0x0010 && GIE == 0x0008 && LIMIT == 0x0200);
+
+const _: () = prove!(NEGATIVE == 0x0004 && OVERFLOW == 0x0100 && SCG0 == 0x0040);
+
+const _: () = prove!(ZERO == 0x0002);
+
 /// Whether the bit with this worth is set.
 pub fn is_set(mask: u16, sr: u16) -> bool
     requires bit { 0 < mask }

@@ -23,6 +23,9 @@ pub use schedule::schedule_text;
 /// The bytes of a nonce.
 pub const NONCE_LENGTH: usize = 16;
 
+// What the rules say of them: a changed number is refused here.
+const _: () = prove!(NONCE_LENGTH == 16);
+
 /// The last cycle of at most seventeen decimal digits.
 pub const MAX_CYCLE: u64 = 99_999_999_999_999_999;
 

@@ -63,6 +63,11 @@ pub const HANDLER_STACK: u16 = 0x0600;
 /// The word of RETI.
 pub const RETI: u16 = 0x1300;
 
+// What the rules say of them: a changed number is refused here.
+const _: () = prove!(HANDLER == 0x0500 && HANDLER_STACK == 0x0600 && LINE_VECTOR == 0xffe2);
+
+const _: () = prove!(RETI == 0x1300 && START == 0x0200 && VENDOR == 7);
+
 /// The image whose module has this word as its data.
 pub fn image(alloc: Global, word: u16) -> Result<Image, AllocError>
     ensures image { IfOk result (λ i. i ≡ spec.image word) }

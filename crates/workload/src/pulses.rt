@@ -22,6 +22,9 @@ pub const SPREAD: u64 = 100;
 /// The line that each pulse is on.
 pub const LINE: u8 = 0;
 
+// What the rules say of them: a changed number is refused here.
+const _: () = prove!(COUNT == 1_000 && FIRST == 20 && GAP == 190 && LINE == 0 && SPREAD == 100);
+
 /// The pulses that a seed gives: each goes up at a time that is drawn, and down in the next cycle.
 pub fn schedule(alloc: Global, seed: u32) -> Result<Schedule, AllocError>
     ensures pulses { IfOk result (λ s. s.entries.items ≡ pulses seed COUNT) }

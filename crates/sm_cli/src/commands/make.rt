@@ -30,6 +30,9 @@ pub const FIRST_DATA: u16 = 0;
 /// The largest seed.
 pub const MAX_SEED: u64 = 4_294_967_295;
 
+// What the rules say of them: a changed number is refused here.
+const _: () = prove!(CYCLES == 200_000 && MAX_SEED == 4_294_967_295);
+
 /// How many words there are.
 pub const WORDS: u64 = 0x1_0000;
 

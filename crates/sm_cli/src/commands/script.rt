@@ -22,6 +22,9 @@ use std::alloc::{AllocError, Global};
 /// How many marks a script may use.
 const MOST_MARKS: u16 = 16;
 
+// What the rules say of them: a changed number is refused here.
+const _: () = prove!(MOST_MARKS == 16);
+
 /// The arguments, with no schedule where its word is `-`.
 #[derive(Clone, Copy)]
 pub struct MonitorCommand<'a> {
