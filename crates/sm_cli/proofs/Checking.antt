@@ -11,8 +11,8 @@ use Rattle.flow_rule.specs.declared.Verdict.TheVariants.{Yes, No}
 use Rattle.flow_rule.specs.Arms.{VerdictWith}
 use Rattle.written_machine.specs.Peers.{section, Peers}
 use Rattle.peer_rows.specs.Laws.{DifferInData, AcceptedArePeers}
-use Rattle.sm_cli.specs.declared.answers.Status.TheVariants.{Done}
-use Rattle.sm_cli.specs.Files.{Held, an_image, certificates, image_with, arms_file, need, Holds, HoldAll, most_bytes}
+use Rattle.cli_files.specs.declared.answers.Status.TheVariants.{Done}
+use Rattle.cli_files.specs.Files.{Held, an_image, certificates, image_with, arms_file, need, Holds, HoldAll, most_bytes}
 use Rattle.sm_cli.specs.Command.{Command, Answer, judges, Comes, Answers, IsJudged, IsAnswer}
 use Rattle.sm_cli.specs.Verdicts.{verdict_status}
 use Rattle.sm_cli.specs.CheckCommand.{checked_by, check_command}

@@ -4,9 +4,6 @@ pub mod Clap
 pub mod Counting
 pub mod Listing
 pub mod Needed
-pub mod Objects
-pub mod OneContent
 pub mod OneValue
 pub mod Running
 pub mod Serving
-pub mod Symbols

@@ -6,12 +6,12 @@ use Rattle.sm_io.specs.Files.{FileMap}
 use Rattle.flow_rule.specs.Verdict.{start_of}
 use Rattle.flow_rule.specs.Arms.{flow_with}
 use Rattle.linker.specs.declared.fault.LinkFault.{LinkFault}
-use Rattle.sm_cli.specs.declared.answers.FileFault.{FileFault}
-use Rattle.sm_cli.specs.declared.answers.FileFault.TheVariants as fault
-use Rattle.sm_cli.specs.Files.{Held, IsHeld, most_bytes, HasFault, Need, Holds, HoldAll, IsFirstFault}
+use Rattle.cli_files.specs.declared.answers.FileFault.{FileFault}
+use Rattle.cli_files.specs.declared.answers.FileFault.TheVariants as fault
+use Rattle.cli_files.specs.Files.{Held, IsHeld, most_bytes, HasFault, Need, Holds, HoldAll, IsFirstFault}
 use Rattle.sm_cli.specs.Command.{Command, Outcome, gives, refuses, judges, Answer, Comes, IsAnswer, verdict_answer, Answers}
 use Rattle.sm_cli.specs.Laws.{IsDecided, IsAnswered}
-use Rattle.sm_cli.proofs.OneContent.{one_held, accepted, examined}
+use Rattle.cli_files.proofs.OneContent.{one_held, accepted, examined}
 use Rattle.flow_rule.proofs.Ends.{some_verdict}
 use Rattle.flow_rule.proofs.OneVerdict.{one_verdict}
 

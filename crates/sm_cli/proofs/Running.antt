@@ -6,27 +6,28 @@ use Rattle.sm_io.specs.Sink.{Took, CutOff, Puts}
 use Rattle.sm_io.specs.declared.sink.Failed.{Failed}
 use Rattle.image_text.specs.Image.{Image}
 use Rattle.schedule_file.specs.declared.Entry.{Entry}
-use Rattle.sm_cli.specs.Files.{image_file, need, an_image, a_schedule, a_script, Holds, IsScheduleOf, schedule_file, script_file, layout_file, Need, schedule_needs, object_needs, Held, a_layout, an_object, HoldAll}
+use Rattle.cli_files.specs.Files.{image_file, need, an_image, a_schedule, a_script, Holds, IsScheduleOf, schedule_file, script_file, layout_file, Need, schedule_needs, object_needs, Held, a_layout, an_object, HoldAll}
 use Rattle.sm_cli.specs.Command.{Command, Answer, gives, Comes, IsAnswer, Outcome, refuses}
 use Rattle.layout_file.specs.Values.{LayoutValue}
 use Rattle.elf_objects.specs.Object.{ObjectValue}
 use Rattle.linker.specs.declared.fault.LinkFault.{LinkFault}
 use Rattle.mod_layout.specs.Table.{Table}
-use Rattle.linker.specs.Image.{linked_memory, linked_table, linked_image, Links}
+use Rattle.linker.specs.Image.{linked_image}
 use Rattle.linker.specs.Refusals.{link_fault_of}
-use Rattle.sm_cli.specs.declared.answers.Refusal.{Refusal}
-use Rattle.sm_cli.specs.declared.answers.Refusal.TheVariants as refusal
+use Rattle.cli_files.specs.declared.answers.Refusal.{Refusal}
+use Rattle.cli_files.specs.declared.answers.Refusal.TheVariants as refusal
 use Rattle.sm_cli.specs.ImageCommand.{image_command, trace_answer}
 use Rattle.sm_cli.specs.LinkCommand.{link_command, objects_in, linked, linked_by, text_answer}
 use Rattle.written_machine.specs.declared.ScriptLine.{ScriptLine}
 use Rattle.sm_cli.specs.MonitorCommand.{monitor_command, script_answer}
 use Rattle.sm_cli.specs.RunCommand.{run_command}
-use Rattle.sm_cli.specs.internal.Serve.{IsNeedCause, IsCommandCause, EndsAs, IsRun}
-use Rattle.sm_cli.specs.internal.StatusNumbers.{status_after}
-use Rattle.sm_cli.specs.declared.answers.Status.{Status}
-use Rattle.sm_cli.specs.declared.answers.Status.TheVariants as status
-use Rattle.sm_cli.specs.SymbolNames.{symbol_name}
-use Rattle.sm_cli.specs.internal.Unlinked.{IsUnlinked}
+use Rattle.sm_cli.specs.internal.Serve.{IsCommandCause, EndsAs, IsRun}
+use Rattle.cli_files.specs.Causes.{IsNeedCause}
+use Rattle.cli_files.specs.StatusNumbers.{status_after}
+use Rattle.cli_files.specs.declared.answers.Status.{Status}
+use Rattle.cli_files.specs.declared.answers.Status.TheVariants as status
+use Rattle.cli_files.specs.SymbolNames.{symbol_name}
+use Rattle.cli_files.specs.Unlinked.{IsUnlinked}
 
 -- what a command gives is its answer
 pub gives_answer : (files : Option FileMap) (command : Command) (answer : Answer) → Comes files command (gives answer) → IsAnswer files command answer
@@ -102,13 +103,6 @@ module _ (files : Option FileMap) (name : List ℕ) (names : List (List ℕ)) (l
   run_answer schedule cycles entries h s hs e =
       let told = trace_answer (linked_image layout objects) entries cycles in
       gives_answer files (run_command name schedule cycles names) told (run_comes schedule cycles entries (gives told) h s hs (linked_gives layout objects (λ image. trace_answer image entries cycles) e))
-
--- an image that objects link to is theirs
-pub links_image : (layout : LayoutValue) (objects : List ObjectValue) (image : Image) → Links layout objects image → image ≡ linked_image layout objects
-unfolding linked_image
-links_image layout objects image h =
-    let made : List ℕ → Table → List ℕ → ℕ → Image = λ m t k s. record { memory = m; table = t; node_key = k; handler_sp = s } in
-    ap₂ (λ (m : List ℕ) (t : Table). made m t image.node_key image.handler_sp) h.memory h.table ∙ ap₂ (made (linked_memory layout objects) (linked_table layout objects)) h.key h.handler
 
 -- Refusals
 

@@ -7,12 +7,12 @@ use Rattle.image_text.specs.Image.{Image}
 use Rattle.image_text.specs.ImageText.{image_text}
 use Rattle.schedule_file.specs.declared.Entry.{Entry}
 use Rattle.linker.specs.declared.fault.LinkFault.{LinkFault}
-use Rattle.sm_cli.specs.declared.answers.FileFault.{FileFault}
-use Rattle.sm_cli.specs.declared.answers.Refusal.{Refusal}
-use Rattle.sm_cli.specs.declared.answers.Refusal.TheVariants as refusal
-use Rattle.sm_cli.specs.declared.answers.Status.{Status}
-use Rattle.sm_cli.specs.declared.answers.Status.TheVariants as status
-use Rattle.sm_cli.specs.Files.{IsFirstFault}
+use Rattle.cli_files.specs.declared.answers.FileFault.{FileFault}
+use Rattle.cli_files.specs.declared.answers.Refusal.{Refusal}
+use Rattle.cli_files.specs.declared.answers.Refusal.TheVariants as refusal
+use Rattle.cli_files.specs.declared.answers.Status.{Status}
+use Rattle.cli_files.specs.declared.answers.Status.TheVariants as status
+use Rattle.cli_files.specs.Files.{IsFirstFault}
 use Rattle.sm_cli.specs.Command.{Command, Answer, Outcome, refuses, Comes, IsAnswer}
 use Rattle.sm_cli.specs.CommandLine.{command_of}
 use Rattle.sm_cli.specs.ImageCommand.{image_command, trace_answer}
@@ -20,9 +20,10 @@ use Rattle.written_machine.specs.declared.ScriptLine.{ScriptLine}
 use Rattle.sm_cli.specs.Input.{IsInput, IsScriptInput}
 use Rattle.sm_cli.specs.MonitorCommand.{monitor_command, script_answer}
 use Rattle.sm_cli.specs.RunCommand.{run_command}
-use Rattle.sm_cli.specs.Refusal.{status_of, line_of}
+use Rattle.cli_files.specs.Refusal.{status_of, line_of}
 use Rattle.sm_cli.specs.Serve.{Call, call_of, Serves, Refuses, IsCause, Completes, IsOrOutside}
-use Rattle.sm_cli.specs.internal.Serve.{IsNeedCause, IsRun, EndsAs, IsCommandCause}
+use Rattle.sm_cli.specs.internal.Serve.{IsRun, EndsAs, IsCommandCause}
+use Rattle.cli_files.specs.Causes.{IsNeedCause}
 use Rattle.sm_cli.proofs.Needed.{one_answer, no_first_fault, no_fault_of_answer, no_refusal_of_answer}
 use Rattle.sm_cli.proofs.Running.{image_answer, run_answer, monitor_answer}
 

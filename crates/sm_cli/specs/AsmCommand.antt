@@ -2,7 +2,7 @@
 use Rattle.std.specs.Prelude.{List, [], ◌∷◌, Option, Some, None}
 use Rattle.obj_write.specs.Object.{object_of}
 use Rattle.sm_cli.specs.Words.{Text}
-use Rattle.sm_cli.specs.Files.{Held, a_unit, source_file, need}
+use Rattle.cli_files.specs.Files.{Held, a_unit, source_file, need}
 use Rattle.sm_cli.specs.Command.{Outcome, done, no_outcome, Command}
 
 abbrev pub asm_outcome : List Held → Outcome

@@ -8,7 +8,7 @@ use Rattle.image_text.specs.Image.{Image}
 use Rattle.written_machine.specs.Peers.{section}
 use Rattle.sm_cli.specs.Words.{Text}
 use Rattle.sm_cli.specs.Arguments.{id_of}
-use Rattle.sm_cli.specs.Files.{Held, an_image, certificates, arms_file, image_with, need}
+use Rattle.cli_files.specs.Files.{Held, an_image, certificates, arms_file, image_with, need}
 use Rattle.sm_cli.specs.Command.{Outcome, judges, no_outcome, Command}
 
 abbrev pub balanced_by : Image → List Arm → Option Module → Outcome

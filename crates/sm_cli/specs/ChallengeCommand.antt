@@ -2,7 +2,7 @@
 use Rattle.std.specs.Prelude.{List, [], ◌∷◌, Option, Some, None}
 use Rattle.vendor_tool.specs.NonceSchedule.{entries_of, entries_text}
 use Rattle.sm_cli.specs.Words.{Text}
-use Rattle.sm_cli.specs.Files.{Held, the_challenges, challenges_file, need}
+use Rattle.cli_files.specs.Files.{Held, the_challenges, challenges_file, need}
 use Rattle.sm_cli.specs.Command.{Outcome, done, no_outcome, Command}
 
 abbrev pub challenge_outcome : List Held → Outcome

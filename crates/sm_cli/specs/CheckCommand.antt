@@ -7,7 +7,7 @@ use Rattle.image_text.specs.Image.{Image}
 use Rattle.written_machine.specs.Peers.{section}
 use Rattle.sm_cli.specs.Words.{Text}
 use Rattle.sm_cli.specs.Arguments.{id_of}
-use Rattle.sm_cli.specs.Files.{Held, an_image, image_with, need}
+use Rattle.cli_files.specs.Files.{Held, an_image, image_with, need}
 use Rattle.sm_cli.specs.Command.{Outcome, judges, no_outcome, Command}
 
 abbrev pub checked_by : Image → Option Module → Outcome

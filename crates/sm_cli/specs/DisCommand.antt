@@ -6,7 +6,7 @@ use Rattle.insn_decode.specs.declared.insn.Insn.{Insn}
 use Rattle.insn_decode.specs.Code.{insn_of, length_at, length_or_one}
 use Rattle.insn_decode.specs.Text.{text_of}
 use Rattle.sm_cli.specs.Words.{Text}
-use Rattle.sm_cli.specs.Files.{Held, an_image, image_file, need}
+use Rattle.cli_files.specs.Files.{Held, an_image, image_file, need}
 use Rattle.sm_cli.specs.Command.{Outcome, done, no_outcome, Command}
 
 -- the word at an address

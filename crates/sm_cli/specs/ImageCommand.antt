@@ -5,11 +5,11 @@ use Rattle.image_text.specs.Image.{Image}
 use Rattle.schedule_file.specs.declared.Entry.{Entry}
 use Rattle.written_machine.specs.Trace.{trace}
 use Rattle.written_machine.specs.View.{at}
-use Rattle.sm_cli.specs.declared.answers.Status.{Status}
-use Rattle.sm_cli.specs.declared.answers.Status.TheVariants as status
+use Rattle.cli_files.specs.declared.answers.Status.{Status}
+use Rattle.cli_files.specs.declared.answers.Status.TheVariants as status
 use Rattle.sm_cli.specs.Words.{Text}
 use Rattle.sm_cli.specs.Arguments.{file_named, cycles_of}
-use Rattle.sm_cli.specs.Files.{Held, an_image, a_schedule, image_file, need, schedule_needs}
+use Rattle.cli_files.specs.Files.{Held, an_image, a_schedule, image_file, need, schedule_needs}
 use Rattle.sm_cli.specs.Command.{Answer, Outcome, gives, no_outcome, Command}
 
 -- the status of a run that ends stopped, or not

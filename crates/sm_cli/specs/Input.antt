@@ -9,7 +9,7 @@ use Rattle.linker.specs.Refusals.{link_fault_of}
 use Rattle.schedule_file.specs.declared.Entry.{Entry}
 use Rattle.sm_cli.specs.Words.{Text}
 use Rattle.written_machine.specs.declared.ScriptLine.{ScriptLine}
-use Rattle.sm_cli.specs.Files.{most_bytes, IsScheduleOf, need, layout_file, a_layout, object_needs, an_object, script_file, a_script, Holds, HoldAll}
+use Rattle.cli_files.specs.Files.{most_bytes, IsScheduleOf, need, layout_file, a_layout, object_needs, an_object, script_file, a_script, Holds, HoldAll}
 use Rattle.sm_cli.specs.CommandLine.{command_of}
 use Rattle.sm_cli.specs.ImageCommand.{image_command}
 use Rattle.sm_cli.specs.LinkCommand.{linked_image}

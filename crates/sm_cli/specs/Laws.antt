@@ -1,8 +1,8 @@
 -- The laws of a command's files and of workloads. Each is what a function of this crate ensures.
 use Rattle.std.specs.Prelude.{◌≡◌, ◌<◌, ℕ, List, Some, ◌⊎◌}
 use Rattle.sm_io.specs.Files.{FileMap}
-use Rattle.sm_cli.specs.declared.answers.FileFault.{FileFault}
-use Rattle.sm_cli.specs.Files.{IsFirstFault}
+use Rattle.cli_files.specs.declared.answers.FileFault.{FileFault}
+use Rattle.cli_files.specs.Files.{IsFirstFault}
 use Rattle.sm_cli.specs.Command.{Command, Outcome, refuses, Comes, Answer, IsAnswer}
 use Rattle.linker.specs.declared.fault.LinkFault.{LinkFault}
 use Rattle.sm_cli.specs.MakeCommand.{run_text, start_of}

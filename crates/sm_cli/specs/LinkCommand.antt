@@ -7,11 +7,11 @@ use Rattle.elf_objects.specs.Object.{ObjectValue}
 use Rattle.linker.specs.declared.fault.LinkFault.{LinkFault}
 pub use Rattle.linker.specs.Image.{linked_image}
 use Rattle.linker.specs.Refusals.{link_fault_of}
-use Rattle.sm_cli.specs.declared.answers.Status.TheVariants as status
+use Rattle.cli_files.specs.declared.answers.Status.TheVariants as status
 use Rattle.sm_cli.specs.Words.{Text}
-use Rattle.sm_cli.specs.Files.{Held, an_object, a_layout, layout_file, need, object_needs}
+use Rattle.cli_files.specs.Files.{Held, an_object, a_layout, layout_file, need, object_needs}
 use Rattle.sm_cli.specs.Command.{Answer, Outcome, gives, refuses, no_outcome, Command}
-use Rattle.sm_cli.specs.SymbolNames.{symbol_name}
+use Rattle.cli_files.specs.SymbolNames.{symbol_name}
 
 -- the objects among what files hold
 abbrev pub objects_in : List Held → List ObjectValue

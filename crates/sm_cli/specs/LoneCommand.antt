@@ -12,13 +12,13 @@ use Rattle.cpu_step.specs.Lone as lone
 use Rattle.lone_run.specs.Ends.{answer_of}
 use Rattle.lone_run.specs.declared.Outcome.{Outcome as End}
 use Rattle.lone_run.specs.declared.Outcome.TheVariants.{Exit, Closed, Broken, Running}
-use Rattle.sm_cli.specs.declared.answers.Status.TheVariants as status
+use Rattle.cli_files.specs.declared.answers.Status.TheVariants as status
 use Rattle.sm_cli.specs.declared.pairs.Pair.{Pair}
 use Rattle.sm_cli.specs.Words.{Text}
 use Rattle.sm_cli.specs.Arguments.{id_of, cycles_of}
 use Rattle.sm_cli.specs.Numbers.{number_line}
 use Rattle.sm_cli.specs.Pairs.{pairs_in, core_with}
-use Rattle.sm_cli.specs.Files.{Held, an_image, image_with, need}
+use Rattle.cli_files.specs.Files.{Held, an_image, image_with, need}
 use Rattle.sm_cli.specs.Command.{Answer, Outcome, gives, no_outcome, Command}
 
 -- the caller's id where no module calls

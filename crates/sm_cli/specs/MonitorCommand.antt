@@ -9,7 +9,7 @@ use Rattle.written_machine.specs.declared.ScriptLine.{ScriptLine}
 use Rattle.sm_cli.specs.declared.commands.script.TheConstants.{MOST_MARKS}
 use Rattle.sm_cli.specs.Words.{Text}
 use Rattle.sm_cli.specs.Arguments.{file_named}
-use Rattle.sm_cli.specs.Files.{Held, an_image, a_schedule, a_script, image_file, script_file, need, schedule_needs}
+use Rattle.cli_files.specs.Files.{Held, an_image, a_schedule, a_script, image_file, script_file, need, schedule_needs}
 use Rattle.sm_cli.specs.Command.{Answer, Outcome, gives, no_outcome, Command}
 use Rattle.sm_cli.specs.ImageCommand.{run_status}
 

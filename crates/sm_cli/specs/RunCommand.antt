@@ -3,7 +3,7 @@ use Rattle.std.specs.Prelude.{ℕ, List, [], ◌∷◌, ◌++◌, Option, Some, 
 use Rattle.std.specs.Option.{option_map}
 use Rattle.sm_cli.specs.Words.{Text}
 use Rattle.sm_cli.specs.Arguments.{file_named, cycles_of}
-use Rattle.sm_cli.specs.Files.{Held, a_schedule, a_layout, layout_file, need, schedule_needs, object_needs}
+use Rattle.cli_files.specs.Files.{Held, a_schedule, a_layout, layout_file, need, schedule_needs, object_needs}
 use Rattle.sm_cli.specs.Command.{Outcome, no_outcome, Command}
 use Rattle.sm_cli.specs.ImageCommand.{trace_answer}
 use Rattle.sm_cli.specs.LinkCommand.{objects_in, linked}

@@ -4,14 +4,14 @@ use Rattle.std.specs.String.{string_bytes}
 use Rattle.std.specs.declared.alloc.Global.{Global}
 use Rattle.sm_io.specs.Faults.{HasCause}
 use Rattle.sm_io.specs.Files.{FileMap}
-use Rattle.sm_cli.specs.declared.answers.Status.{Status}
-use Rattle.sm_cli.specs.declared.answers.Status.TheVariants as status
-use Rattle.sm_cli.specs.declared.answers.Refusal.{Refusal}
-use Rattle.sm_cli.specs.declared.answers.Refusal.TheVariants as refusal
-use Rattle.sm_cli.specs.Files.{IsFirstFault, IsReached}
+use Rattle.cli_files.specs.declared.answers.Status.{Status}
+use Rattle.cli_files.specs.declared.answers.Status.TheVariants as status
+use Rattle.cli_files.specs.declared.answers.Refusal.{Refusal}
+use Rattle.cli_files.specs.declared.answers.Refusal.TheVariants as refusal
+use Rattle.cli_files.specs.Files.{IsFirstFault, IsReached}
 use Rattle.sm_cli.specs.Command.{Answer, Command, Comes, refuses, IsAnswer}
 use Rattle.sm_cli.specs.CommandLine.{command_of}
-use Rattle.sm_cli.specs.Refusal.{is_read_fault, status_of, line_of}
+use Rattle.cli_files.specs.Refusal.{is_read_fault, status_of, line_of}
 
 -- the bytes of the words
 abbrev pub texts : List (String Global) → List (List ℕ)

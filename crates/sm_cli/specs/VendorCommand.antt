@@ -9,11 +9,11 @@ use Rattle.image_text.specs.Image.{Image}
 use Rattle.vendor_tool.specs.declared.Challenge.{Challenge}
 use Rattle.vendor_tool.specs.Report.{report_text, all_genuine}
 use Rattle.written_machine.specs.Peers.{section}
-use Rattle.sm_cli.specs.declared.answers.Status.{Status}
-use Rattle.sm_cli.specs.declared.answers.Status.TheVariants as status
+use Rattle.cli_files.specs.declared.answers.Status.{Status}
+use Rattle.cli_files.specs.declared.answers.Status.TheVariants as status
 use Rattle.sm_cli.specs.Words.{Text}
 use Rattle.sm_cli.specs.Arguments.{id_of}
-use Rattle.sm_cli.specs.Files.{Held, an_image, the_challenges, the_replies, image_with, challenges_file, trace_file, Need, need}
+use Rattle.cli_files.specs.Files.{Held, an_image, the_challenges, the_replies, image_with, challenges_file, trace_file, Need, need}
 use Rattle.sm_cli.specs.Command.{Answer, Outcome, gives, no_outcome, Command}
 
 -- the status of a report where all are genuine, or not

@@ -4,7 +4,6 @@ pub mod BalanceCommand
 pub mod ChallengeCommand
 pub mod CheckCommand
 pub mod CommandLine
-pub mod Content
 pub mod DisCommand
 pub mod ImageCommand
 pub mod KeyCommand
@@ -12,9 +11,6 @@ pub mod LinkCommand
 pub mod LoneCommand
 pub mod MakeCommand
 pub mod MonitorCommand
-pub mod NameText
 pub mod RunCommand
 pub mod Serve
-pub mod StatusNumbers
-pub mod Unlinked
 pub mod VendorCommand

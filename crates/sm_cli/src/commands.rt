@@ -2,17 +2,17 @@
 ghost use Rattle.std.specs.Prelude.{◌≡◌, ◌≢◌, IsTrue, IfOk, IfErr, IfSome, false, drop, option_and_then, option_map};
 ghost use Rattle.sm_io.specs.Faults.{HasCause};
 ghost use Rattle.sm_io.specs.Sink.{Took, CutOff};
-ghost use Rattle.sm_cli.specs.declared.answers.Refusal.TheVariants.{CannotRead};
+ghost use Rattle.cli_files.specs.declared.answers.Refusal.TheVariants.{CannotRead};
 ghost use Rattle.sm_cli.specs.Command.{Command};
 ghost use Rattle.sm_cli.specs.CommandLine.{command_by, command_of};
 ghost use Rattle.sm_cli.specs.internal.CommandLine.{asked, IsBounded};
 ghost use Rattle.sm_cli.specs.MakeCommand.{make_of};
-ghost use Rattle.sm_cli.specs.internal.NameText.{name_text};
+ghost use Rattle.cli_files.specs.NameText.{name_text};
 ghost use Rattle.sm_cli.specs.Serve.{texts};
 ghost use Rattle.sm_cli.specs.internal.Serve.{IsCommandCause, IsRun};
 ghost use Rattle.sm_cli.specs.Words.{values_in};
 
-use crate::answers::{Refused, Status};
+use cli_files::{Refused, Status};
 use sm_io::{Files, Sink};
 use std::alloc::{AllocError, Global};
 

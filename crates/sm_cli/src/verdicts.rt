@@ -9,9 +9,7 @@ ghost use Rattle.sm_cli.specs.Command.{verdict_answer};
 ghost use Rattle.sm_cli.specs.internal.Serve.{EndsAs};
 ghost use Rattle.sm_cli.specs.Verdicts.{no_line, reason_name, verdict_line, verdict_status};
 
-use crate::answers::Status;
-use crate::lines::put_named;
-use crate::loading::Chosen;
+use cli_files::{Chosen, Status, put_named};
 use flow_check::{Reason, Verdict};
 use sm_io::{Failed, Sink, put_all};
 

@@ -2,11 +2,12 @@
 use Rattle.std.specs.Prelude.{◌≡◌, ℕ, true, false, List, Option}
 use Rattle.sm_io.specs.Faults.{HasCause}
 use Rattle.sm_io.specs.Files.{FileMap}
-use Rattle.sm_cli.specs.declared.answers.Status.{Status}
-use Rattle.sm_cli.specs.declared.answers.Status.TheVariants as status
-use Rattle.sm_cli.specs.declared.answers.Refusal.{Refusal}
-use Rattle.sm_cli.specs.declared.answers.Refusal.TheVariants as refusal
-use Rattle.sm_cli.specs.Files.{Need, IsFirstFault, IsReached}
+use Rattle.cli_files.specs.declared.answers.Status.{Status}
+use Rattle.cli_files.specs.declared.answers.Status.TheVariants as status
+use Rattle.cli_files.specs.declared.answers.Refusal.{Refusal}
+use Rattle.cli_files.specs.declared.answers.Refusal.TheVariants as refusal
+use Rattle.cli_files.specs.Files.{Need, IsFirstFault, IsReached}
+use Rattle.cli_files.specs.Causes.{IsNeedCause}
 use Rattle.sm_cli.specs.Command.{Answer, Command, Comes, refuses, IsAnswer}
 
 -- an answer ended with this status: its text was taken, or cut off
@@ -16,14 +17,6 @@ EndsAs status.Stopped answer took cut = took answer.text × (answer.status ≡ s
 EndsAs status.CheckNo answer took cut = took answer.text × (answer.status ≡ status.CheckNo)
 EndsAs status.WriteFault answer took cut = cut answer.text
 EndsAs _ answer took cut = ⊥
-
--- these files that are needed call for this refusal
-abbrev pub IsNeedCause : Option FileMap → ℕ → ℕ → List Need → Refusal → List ℕ → Type 0
-IsNeedCause files before after needs refusal.Usage name = ⊥
-IsNeedCause files before after needs (refusal.BadFile fault) name = IsFirstFault files needs name fault × HasCause before after false
-IsNeedCause files before after needs refusal.CannotRead name = IsReached files needs name × HasCause before after true
-IsNeedCause files before after needs (refusal.Link fault) name = ⊥
-IsNeedCause files before after needs refusal.NoMemory name = HasCause before after false
 
 -- a command whose files these are calls for this refusal
 abbrev pub IsCommandCause : Option FileMap → ℕ → ℕ → Command → Refusal → List ℕ → Type 0

@@ -8,12 +8,11 @@ ghost use Rattle.sm_cli.specs.internal.BalanceCommand.{balance_asked};
 ghost use Rattle.sm_cli.specs.Serve.{texts};
 ghost use Rattle.sm_cli.specs.Words.{values_in};
 
-use crate::answers::{NO_MEMORY, Refused, Status};
 use crate::arguments::id_of;
 use crate::commands::Answering;
-use crate::loading::{Chosen, load, load_with};
 use crate::verdicts::{put_verdict, text_of};
 use crate::words::values_of;
+use cli_files::{Chosen, NO_MEMORY, Refused, Status, load, load_with};
 use flow_check::{Arms, Verdict};
 use sm_io::{Files, Sink};
 use std::alloc::{AllocError, Global};

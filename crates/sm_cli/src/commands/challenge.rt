@@ -5,10 +5,9 @@ ghost use Rattle.sm_cli.specs.internal.ChallengeCommand.{challenge_asked};
 ghost use Rattle.sm_cli.specs.Serve.{texts};
 ghost use Rattle.sm_cli.specs.Words.{values_in};
 
-use crate::answers::{NO_MEMORY, Refused, Status, status_after};
 use crate::commands::Answering;
-use crate::loading::load;
 use crate::words::values_of;
+use cli_files::{NO_MEMORY, Refused, Status, load, status_after};
 use sm_io::{Files, Sink, put_all};
 use std::alloc::{AllocError, Global};
 use vendor_tool::{Challenges, schedule_text};

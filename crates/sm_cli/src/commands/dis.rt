@@ -10,11 +10,10 @@ ghost use Rattle.sm_cli.specs.internal.DisCommand.{dis_asked};
 ghost use Rattle.sm_cli.specs.Serve.{texts};
 ghost use Rattle.sm_cli.specs.Words.{values_in};
 
-use crate::answers::{Refused, Status, status_after};
 use crate::commands::Answering;
-use crate::loading::load;
 use crate::words::values_of;
 use arrayvec::ArrayString;
+use cli_files::{Refused, Status, load, status_after};
 use image_text::Image;
 use insn_decode::{Insn, decode, show};
 use sm_io::{Failed, Files, Sink, put_all};

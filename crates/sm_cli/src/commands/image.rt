@@ -8,12 +8,11 @@ ghost use Rattle.sm_cli.specs.Serve.{texts};
 ghost use Rattle.sm_cli.specs.internal.Serve.{EndsAs};
 ghost use Rattle.sm_cli.specs.Words.{values_in};
 
-use crate::answers::{NO_MEMORY, Refused, Status};
 use crate::arguments::{cycles_of, file_named};
 use crate::commands::Answering;
-use crate::loading::{load, load_schedule};
 use crate::words::values_of;
 use board::{Board, Ran};
+use cli_files::{NO_MEMORY, Refused, Status, load, load_schedule};
 use image_text::Image;
 use sm_io::{Failed, Files, Sink};
 use std::alloc::{AllocError, Global};

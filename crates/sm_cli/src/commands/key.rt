@@ -8,13 +8,11 @@ ghost use Rattle.sm_cli.specs.internal.KeyCommand.{key_asked};
 ghost use Rattle.sm_cli.specs.Serve.{texts};
 ghost use Rattle.sm_cli.specs.Words.{values_in};
 
-use crate::answers::{Refused, Status, status_after};
 use crate::arguments::id_of;
 use crate::commands::Answering;
-use crate::lines::put_named;
-use crate::loading::{Chosen, load_with};
 use crate::verdicts::text_of;
 use crate::words::values_of;
+use cli_files::{Chosen, Refused, Status, load_with, put_named, status_after};
 use mod_keys::{TAG_LENGTH, module_key, provider_key};
 use sm_io::{Failed, Files, Sink};
 use std::alloc::{AllocError, Global};

@@ -5,11 +5,9 @@ ghost use Rattle.sm_cli.specs.internal.LinkCommand.{link_asked};
 ghost use Rattle.sm_cli.specs.Serve.{texts};
 ghost use Rattle.sm_cli.specs.Words.{values_in};
 
-use crate::answers::{NO_MEMORY, Refused, Status, status_after};
 use crate::commands::Answering;
-use crate::linking::linked_image;
-use crate::loading::{load, load_objects};
 use crate::words::values_of;
+use cli_files::{NO_MEMORY, Refused, Status, linked_image, load, load_objects, status_after};
 use layout_file::Layout;
 use sm_io::{Files, Sink, put_all};
 use std::alloc::{AllocError, Global};

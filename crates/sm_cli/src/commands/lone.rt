@@ -15,14 +15,13 @@ ghost use Rattle.sm_cli.specs.Serve.{texts};
 ghost use Rattle.sm_cli.specs.internal.Serve.{EndsAs};
 ghost use Rattle.sm_cli.specs.Words.{values_in};
 
-use crate::answers::{NO_MEMORY, Refused, Status};
 use crate::arguments::{cycles_of, id_of};
 use crate::commands::Answering;
-use crate::loading::{Chosen, load_with};
 use crate::pairs::{Pair, core_with, pairs_in};
 use crate::verdicts::text_of;
 use crate::words::values_of;
 use arrayvec::ArrayString;
+use cli_files::{Chosen, NO_MEMORY, Refused, Status, load_with};
 use lone_run::{Entry, Outcome, call};
 use sm_io::{Failed, Files, Sink, put_all};
 use sm_words::{Core, PC};

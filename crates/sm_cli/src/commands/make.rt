@@ -11,11 +11,10 @@ ghost use Rattle.written_machine.specs.Marks.{unmarked};
 ghost use Rattle.written_machine.specs.View.{boot};
 ghost use Rattle.workload.specs.Program.{image};
 
-use crate::answers::{NO_MEMORY, Refused, Status, status_after};
 use crate::commands::Answering;
-use crate::lines::put_named;
 use crate::words::values_of;
 use board::{Board, NoMemory};
+use cli_files::{NO_MEMORY, Refused, Status, put_named, status_after};
 use schedule_file::Schedule;
 use sm_io::{Failed, Files, Sink};
 use std::alloc::{AllocError, Global};

@@ -6,14 +6,12 @@ ghost use Rattle.sm_cli.specs.internal.RunCommand.{run_asked};
 ghost use Rattle.sm_cli.specs.Serve.{texts};
 ghost use Rattle.sm_cli.specs.Words.{values_in};
 
-use crate::answers::{NO_MEMORY, Refused, Status};
 use crate::arguments::{cycles_of, file_named};
 use crate::commands::Answering;
 use crate::commands::image::put_trace;
-use crate::linking::linked_image;
-use crate::loading::{load, load_objects, load_schedule};
 use crate::words::values_of;
 use board::Board;
+use cli_files::{NO_MEMORY, Refused, Status, linked_image, load, load_objects, load_schedule};
 use layout_file::Layout;
 use sm_io::{Files, Sink};
 use std::alloc::{AllocError, Global};

@@ -8,12 +8,11 @@ ghost use Rattle.sm_cli.specs.Serve.{texts};
 ghost use Rattle.sm_cli.specs.internal.Serve.{EndsAs};
 ghost use Rattle.sm_cli.specs.Words.{values_in};
 
-use crate::answers::{NO_MEMORY, Refused, Status};
 use crate::arguments::file_named;
 use crate::commands::Answering;
-use crate::loading::{Playable, load, load_schedule};
 use crate::words::values_of;
 use board::{Board, Ran};
+use cli_files::{NO_MEMORY, Playable, Refused, Status, load, load_schedule};
 use image_text::Image;
 use monitor::{Script, play};
 use sm_io::{Files, Sink};

@@ -3,20 +3,20 @@ ghost use Rattle.std.specs.Prelude.{◌≡◌, ◌≢◌, IsTrue, IfOk, IfErr, f
 ghost use Rattle.mod_layout.specs.Tables.{IsModule};
 ghost use Rattle.sm_io.specs.Faults.{HasCause};
 ghost use Rattle.sm_io.specs.Sink.{Took, CutOff};
-ghost use Rattle.sm_cli.specs.Files.{Holds, need, challenges_file, trace_file, the_challenges, the_replies};
-ghost use Rattle.sm_cli.specs.internal.NameText.{name_text};
+ghost use Rattle.cli_files.specs.Files.{Holds, need, challenges_file, trace_file, the_challenges, the_replies};
+ghost use Rattle.cli_files.specs.NameText.{name_text};
 ghost use Rattle.sm_cli.specs.Serve.{texts};
-ghost use Rattle.sm_cli.specs.internal.Serve.{EndsAs, IsNeedCause};
+ghost use Rattle.sm_cli.specs.internal.Serve.{EndsAs};
+ghost use Rattle.cli_files.specs.Causes.{IsNeedCause};
 ghost use Rattle.sm_cli.specs.VendorCommand.{vendor_of, exchange_needs, key_under, report_answer};
 ghost use Rattle.sm_cli.specs.internal.VendorCommand.{vendor_asked};
 ghost use Rattle.sm_cli.specs.Words.{values_in};
 
-use crate::answers::{Refusal, Refused, Status};
 use crate::arguments::id_of;
 use crate::commands::Answering;
-use crate::loading::{Chosen, Replies, load, load_with};
 use crate::verdicts::text_of;
 use crate::words::values_of;
+use cli_files::{Chosen, Refusal, Refused, Replies, Status, load, load_with};
 use mod_keys::{TAG_LENGTH, module_key_from};
 use sm_io::{Failed, Files, Sink};
 use std::alloc::{AllocError, Global};

@@ -6,9 +6,9 @@ use Rattle.sm_cli.specs.internal.CommandLine.{asked}
 use Rattle.sm_cli.specs.ImageCommand.{trace_answer}
 use Rattle.sm_cli.specs.MonitorCommand.{script_answer}
 use Rattle.sm_cli.specs.declared.commands.script.TheConstants.{MOST_MARKS}
-use Rattle.sm_cli.specs.internal.NameText.{name_text}
+use Rattle.cli_files.specs.NameText.{name_text}
 use Rattle.sm_cli.specs.Serve.{texts, call_of}
-use Rattle.sm_cli.specs.declared.answers.Refusal.TheVariants as refusal
+use Rattle.cli_files.specs.declared.answers.Refusal.TheVariants as refusal
 use Rattle.sm_cli.proofs.Serving.{run_not_usage, refused_not_usage, input_answer, script_input, when_done, when_cut, run_ends, run_no_fault, ends_complete, told_in_part, cause_of, refused_completes, refused_outside, no_memory_completes, cut_rose, run_sure, run_whole, run_no_link, told_bad_file, told_link}
 use Rattle.sm_cli.proofs.Checking.{checked_peers, balanced_peers}
 use Rattle.sm_cli.proofs.top.serve.Goals as goal

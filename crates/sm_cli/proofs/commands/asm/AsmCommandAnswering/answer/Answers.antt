@@ -1,8 +1,8 @@
 use Rattle.std.proofs.Common.{[], ◌∷◌, refl, ◌∙◌}
 use Rattle.asm_text.specs.Unit.{unit_of}
 use Rattle.obj_write.specs.Object.{object_of}
-use Rattle.sm_cli.specs.declared.answers.Status.TheVariants.{Done}
-use Rattle.sm_cli.specs.Files.{a_unit}
+use Rattle.cli_files.specs.declared.answers.Status.TheVariants.{Done}
+use Rattle.cli_files.specs.Files.{a_unit}
 use Rattle.sm_cli.specs.AsmCommand.{asm_command}
 use Rattle.sm_cli.proofs.Running.{put_answer}
 use Rattle.sm_cli.proofs.commands.asm.AsmCommandAnswering.answer.Goals as goal

@@ -1,7 +1,7 @@
 use Rattle.std.proofs.Common.{[], ◌∷◌, refl, ◌∙◌}
 use Rattle.vendor_tool.specs.NonceSchedule.{entries_of, entries_text}
-use Rattle.sm_cli.specs.declared.answers.Status.TheVariants.{Done}
-use Rattle.sm_cli.specs.Files.{the_challenges}
+use Rattle.cli_files.specs.declared.answers.Status.TheVariants.{Done}
+use Rattle.cli_files.specs.Files.{the_challenges}
 use Rattle.sm_cli.specs.ChallengeCommand.{challenge_command}
 use Rattle.sm_cli.proofs.Running.{put_answer}
 use Rattle.sm_cli.proofs.commands.challenge.ChallengeCommandAnswering.answer.Goals as goal

@@ -2,7 +2,7 @@ use Rattle.std.proofs.Common.{[], ◌∷◌, refl, ap}
 use Rattle.written_machine.specs.Peers.{section}
 use Rattle.sm_cli.specs.CheckCommand.{checked_by}
 use Rattle.sm_cli.specs.Command.{judges, verdict_answer}
-use Rattle.sm_cli.specs.Files.{an_image}
+use Rattle.cli_files.specs.Files.{an_image}
 use Rattle.sm_cli.proofs.commands.check.CheckCommandAnswering.answer.Goals as goal
 
 pub returns-in-Ok-verdict_of-clause-ok : goal.returns-in-Ok-verdict_of-clause-ok

@@ -1,8 +1,8 @@
 use Rattle.std.proofs.Common.{◌≡◌, [], ◌∷◌, refl, ap, rules}
-use Rattle.sm_cli.specs.declared.answers.Status.TheVariants.{Done}
+use Rattle.cli_files.specs.declared.answers.Status.TheVariants.{Done}
 use Rattle.sm_cli.specs.DisCommand.{listing}
 use Rattle.sm_cli.specs.internal.DisCommand.{dis_asked}
-use Rattle.sm_cli.specs.Files.{an_image}
+use Rattle.cli_files.specs.Files.{an_image}
 use Rattle.sm_cli.proofs.Running.{put_answer}
 use Rattle.sm_cli.proofs.commands.dis.DisCommandAnswering.answer.Goals as goal
 

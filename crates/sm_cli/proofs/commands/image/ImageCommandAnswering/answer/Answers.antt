@@ -2,7 +2,7 @@ use Rattle.std.proofs.Common.{subst}
 use Rattle.std.specs.Option.{option_copied}
 use Rattle.written_machine.specs.Marks.{Marked}
 use Rattle.sm_io.specs.Sink.{Took, CutOff}
-use Rattle.sm_cli.specs.Files.{IsScheduleOf}
+use Rattle.cli_files.specs.Files.{IsScheduleOf}
 use Rattle.sm_cli.specs.ImageCommand.{trace_answer}
 use Rattle.sm_cli.specs.internal.ImageCommand.{answer_from}
 use Rattle.sm_cli.specs.internal.Serve.{EndsAs}

@@ -1,6 +1,6 @@
 use Rattle.std.proofs.Common.{[], ◌∷◌, refl, ap}
-use Rattle.sm_cli.specs.declared.answers.Status.TheVariants.{Done}
-use Rattle.sm_cli.specs.Files.{an_image}
+use Rattle.cli_files.specs.declared.answers.Status.TheVariants.{Done}
+use Rattle.cli_files.specs.Files.{an_image}
 use Rattle.sm_cli.specs.KeyCommand.{key_lines, keys_by}
 use Rattle.sm_cli.specs.internal.KeyCommand.{key_asked}
 use Rattle.sm_cli.proofs.Running.{put_answer}

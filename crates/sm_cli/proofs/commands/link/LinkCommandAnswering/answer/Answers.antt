@@ -4,14 +4,14 @@ use Rattle.elf_objects.specs.Object.{ObjectValue}
 use Rattle.image_text.specs.ImageText.{image_text}
 use Rattle.linker.specs.Refusals.{link_fault_of}
 use Rattle.sm_cli.specs.Command.{gives, refuses}
-use Rattle.sm_cli.specs.internal.Serve.{IsNeedCause}
-use Rattle.sm_cli.specs.SymbolNames.{symbol_name}
-use Rattle.sm_cli.specs.internal.Unlinked.{IsUnlinked}
-use Rattle.sm_cli.specs.internal.NameText.{name_text}
-use Rattle.sm_cli.specs.Files.{need, layout_file, a_layout, an_object, object_needs, HoldAll}
+use Rattle.cli_files.specs.Causes.{IsNeedCause}
+use Rattle.cli_files.specs.SymbolNames.{symbol_name}
+use Rattle.cli_files.specs.Unlinked.{IsUnlinked}
+use Rattle.cli_files.specs.NameText.{name_text}
+use Rattle.cli_files.specs.Files.{need, layout_file, a_layout, an_object, object_needs, HoldAll}
 use Rattle.sm_cli.specs.LinkCommand.{linked_image, text_answer}
 use Rattle.sm_cli.specs.internal.LinkCommand.{link_asked}
-use Rattle.sm_cli.proofs.Objects.{cause_moved}
+use Rattle.cli_files.proofs.Objects.{cause_moved}
 use Rattle.sm_cli.proofs.Running.{link_comes, linked_gives, linked_refuses, put_answer, cause_first, cause_next, cause_unlinked}
 use Rattle.sm_cli.proofs.Serving.{by_needs}
 use Rattle.sm_cli.proofs.commands.link.LinkCommandAnswering.answer.Goals as goal

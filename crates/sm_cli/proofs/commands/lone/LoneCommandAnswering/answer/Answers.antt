@@ -2,7 +2,7 @@ use Rattle.std.proofs.Common.{◌≡◌, ◌∙◌, ℕ, List, [], ◌∷◌, ap
 use Rattle.lone_run.specs.Ends.{answer_of}
 use Rattle.lone_run.specs.declared.Outcome.{Outcome as End}
 use Rattle.sm_io.specs.Sink.{Took, CutOff}
-use Rattle.sm_cli.specs.Files.{an_image}
+use Rattle.cli_files.specs.Files.{an_image}
 use Rattle.sm_cli.specs.LoneCommand.{end_of, end_answer, lone_by}
 use Rattle.sm_cli.specs.internal.LoneCommand.{lone_asked}
 use Rattle.sm_cli.specs.Pairs.{core_with}

@@ -1,5 +1,5 @@
 use Rattle.std.proofs.Common.{[], refl}
-use Rattle.sm_cli.specs.declared.answers.Status.TheVariants.{Done}
+use Rattle.cli_files.specs.declared.answers.Status.TheVariants.{Done}
 use Rattle.sm_cli.specs.MakeCommand.{make_command, make_text, runs_text, second_data}
 use Rattle.sm_cli.proofs.Counting.{starts, told}
 use Rattle.sm_cli.proofs.Running.{put_answer}

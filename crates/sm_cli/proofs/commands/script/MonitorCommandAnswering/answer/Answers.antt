@@ -2,7 +2,7 @@ use Rattle.std.proofs.Common.{subst, ◌∙◌}
 use Rattle.std.specs.Option.{option_copied}
 use Rattle.written_machine.specs.Marks.{Marked}
 use Rattle.sm_io.specs.Sink.{Took, CutOff}
-use Rattle.sm_cli.specs.Files.{need, script_file, a_script, Holds, IsScheduleOf}
+use Rattle.cli_files.specs.Files.{need, script_file, a_script, Holds, IsScheduleOf}
 use Rattle.sm_cli.specs.MonitorCommand.{play_answer, script_answer, start_of}
 use Rattle.sm_cli.specs.internal.Serve.{EndsAs}
 use Rattle.sm_cli.proofs.Running.{monitor_answer}

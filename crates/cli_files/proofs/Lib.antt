@@ -1,0 +1,4 @@
+pub mod Linking
+pub mod Objects
+pub mod Symbols
+pub mod OneContent

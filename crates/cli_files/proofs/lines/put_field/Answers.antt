@@ -1,0 +1,10 @@
+use Rattle.std.proofs.Common.{◌∙◌}
+use Rattle.std.specs.Fmt.{decimal}
+use Rattle.sm_io.proofs.Putting.{cut_first, puts_last, puts_same}
+use Rattle.cli_files.proofs.lines.put_field.Goals as goal
+
+pub returns-in-Err : goal.returns-in-Err
+returns-in-Err g c = cut_first g.S.Sink.taken g.S.Sink.faults g.S.Sink.sure _ _ c.args.name.now (decimal c.args.number) c.in-Err.ensures.put
+
+pub returns : goal.returns
+returns g c = puts_last g.S.Sink.taken g.S.Sink.faults g.S.Sink.sure _ _ _ c.args.name.now (decimal c.args.number) _ c.in-Ok.ensures.put (puts_same g.S.Sink.taken g.S.Sink.faults g.S.Sink.sure _ _ _ _ _ (c.as_bytes.ensures.value ∙ c.as_str.ensures.value ∙ c.decimal.ensures.text) c.put_all-2.ensures.put)

@@ -1,0 +1,10 @@
+pub mod Causes
+pub mod Content
+pub mod Faults
+pub mod Files
+pub mod LinkFaults
+pub mod NameText
+pub mod Refusal
+pub mod StatusNumbers
+pub mod SymbolNames
+pub mod Unlinked

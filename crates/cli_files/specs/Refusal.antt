@@ -1,0 +1,42 @@
+-- Refusals: their status, and their line.
+use Rattle.std.specs.Prelude.{Bool, true, false, List, ℕ, ◌++◌, codes}
+use Rattle.cli_files.specs.declared.answers.Status.{Status}
+use Rattle.cli_files.specs.declared.answers.Status.TheVariants as status
+use Rattle.cli_files.specs.declared.answers.Refusal.{Refusal}
+use Rattle.cli_files.specs.declared.answers.Refusal.TheVariants as refusal
+use Rattle.linker.specs.declared.fault.LinkFault.{LinkFault}
+use Rattle.linker.specs.declared.fault.LinkFault.TheVariants as link_fault
+use Rattle.cli_files.specs.Faults.{fault_text}
+use Rattle.cli_files.specs.LinkFaults.{link_fault_text}
+
+-- only a file that cannot be read is a fault that was counted
+abbrev pub is_read_fault : Refusal → Bool
+is_read_fault refusal.Usage = false
+is_read_fault (refusal.BadFile fault) = false
+is_read_fault refusal.CannotRead = true
+is_read_fault (refusal.Link fault) = false
+is_read_fault refusal.NoMemory = false
+
+abbrev pub status_of : Refusal → Status
+status_of refusal.Usage = status.Usage
+status_of (refusal.BadFile fault) = status.BadFile
+status_of refusal.CannotRead = status.ReadFault
+status_of (refusal.Link fault) = status.LinkRefused
+status_of refusal.NoMemory = status.NoMemory
+
+-- the name of a symbol where the fault has one, and the end of the line
+abbrev pub link_end : LinkFault → List ℕ → List ℕ
+link_end (link_fault.Duplicate first_object first_symbol object symbol) name = codes " name " ++ (name ++ codes "\n")
+link_end (link_fault.Undefined object symbol) name = codes " name " ++ (name ++ codes "\n")
+link_end (link_fault.NoVector n) name = codes " name " ++ (name ++ codes "\n")
+link_end (link_fault.NoEntry m n) name = codes " name " ++ (name ++ codes "\n")
+link_end (link_fault.EntryElsewhere m n) name = codes " name " ++ (name ++ codes "\n")
+link_end _ name = codes "\n"
+
+-- the line of a refusal, which may name a file or a symbol
+unfoldable pub line_of : Refusal → List ℕ → List ℕ
+line_of refusal.Usage name = codes "sancus: usage\n"
+line_of (refusal.BadFile fault) name = (codes "sancus: bad file " ++ (name ++ codes ": ")) ++ (fault_text fault ++ codes "\n")
+line_of refusal.CannotRead name = codes "sancus: cannot read " ++ (name ++ codes "\n")
+line_of (refusal.Link fault) name = codes "sancus: link " ++ (link_fault_text fault ++ link_end fault name)
+line_of refusal.NoMemory name = codes "sancus: no memory\n"

@@ -1,0 +1,15 @@
+//! What the command-line programs share: files read whole and examined, refusals, their lines and statuses.
+#![tactic(auto)]
+
+mod answers;
+mod faults;
+mod lines;
+mod linking;
+mod loading;
+
+pub use answers::{FileFault, NO_MEMORY, Name, Refusal, Refused, Status, status_after};
+pub use lines::{put_named, put_refusal};
+pub use linking::linked_image;
+pub use loading::{
+    Chosen, Content, Playable, Replies, load, load_objects, load_schedule, load_with,
+};

@@ -1,0 +1,132 @@
+// Linking, and the symbol that a fault names.
+ghost use Rattle.std.specs.Prelude.{◌≡◌, ◌≤◌, ◌==◌, All, length, map, IfOk, IfErr, OnOk, Some, None, slice_get, find, string_bytes};
+ghost use Rattle.std.specs.Option.{option_copied};
+ghost use Rattle.layout_file.specs.Layout.{layout_of};
+ghost use Rattle.linker.specs.Refusals.{link_fault_of};
+ghost use Rattle.linker.specs.Room.{IsSmall};
+ghost use Rattle.linker.specs.Image.{linked_image};
+ghost use Rattle.cli_files.specs.NameText.{name_text};
+ghost use Rattle.cli_files.specs.SymbolNames as spec;
+ghost use Rattle.cli_files.specs.Unlinked.{IsUnlinked};
+
+use crate::answers::{NO_MEMORY, Name, Refusal, Refused};
+use elf_objects::Object;
+use image_text::Image;
+use layout_file::{Layout, VectorName};
+use linker::{LinkFault, link};
+use std::alloc::{AllocError, Global};
+
+/// The image that the objects link to.
+pub fn linked_image<'a>(
+    alloc: Global,
+    layout: &Layout,
+    objects: &[Object],
+) -> Result<Image, Refused<'a>>
+    requires few { length objects.now ≤ 64 }
+    requires small { All IsSmall objects.now }
+    ensures sound { OnOk result (link_fault_of (layout_of layout.now) objects.now ≡ None) }
+    ensures image { IfOk result (λ image. image ≡ linked_image (layout_of layout.now) objects.now) }
+    ensures refused { IfErr result (λ refused. IsUnlinked (layout_of layout.now) objects.now refused.refusal
+        (name_text refused.name)) }
+{
+    match link(alloc, layout, objects) {
+        Ok(image) => Ok(image),
+        Err(LinkFault::NoMemory) => Err(NO_MEMORY),
+        Err(fault) => match symbol_name(alloc, layout, objects, fault) {
+            Ok(name) => Err(Refused {
+                refusal: Refusal::Link(fault),
+                name: Name::Symbol(name),
+            }),
+            Err(_) => Err(NO_MEMORY),
+        },
+    }
+}
+
+// The name of the symbol that a fault of linking names, as it is shown.
+#[tactic(auto, unfolding(crate::specs::SymbolNames::symbol_name))]
+fn symbol_name(
+    alloc: Global,
+    layout: &Layout,
+    objects: &[Object],
+    fault: LinkFault,
+) -> Result<String, AllocError>
+    ensures { IfOk result (λ name. string_bytes name ≡ spec.symbol_name (layout_of layout.now) objects.now fault) }
+{
+    shown(alloc, name_in(layout, objects, fault))
+}
+
+fn name_in<'a>(layout: &'a Layout, objects: &'a [Object], fault: LinkFault) -> &'a [u8]
+    ensures { result.now ≡ spec.name_in (layout_of layout.entry.now) objects.entry.now fault }
+{
+    match fault {
+        LinkFault::Duplicate { object, symbol, .. } => symbol_of(objects, object, symbol),
+        LinkFault::Undefined { object, symbol } => symbol_of(objects, object, symbol),
+        LinkFault::NoVector { vector } => vector_name(layout, vector),
+        LinkFault::NoEntry { module, entry } => entry_of(layout, module, entry),
+        LinkFault::EntryElsewhere { module, entry } => entry_of(layout, module, entry),
+        _ => b"",
+    }
+}
+
+fn symbol_of(objects: &[Object], object: u64, symbol: u64) -> &[u8]
+    ensures { result.now ≡ spec.symbol_of (slice_get objects.entry.now object) symbol }
+{
+    let Some(object) = objects.get(object as usize) else {
+        return b"";
+    };
+    match object.symbols().get(symbol as usize) {
+        Some(symbol) => object.part(symbol.name),
+        None => b"",
+    }
+}
+
+fn vector_name(layout: &Layout, number: u64) -> &[u8]
+    ensures { result.now ≡ spec.vector_name (find (λ v. v.vector == number) (layout_of layout.entry.now).vectors) }
+{
+    match vector_with(layout.vectors.as_slice(), number) {
+        Some(vector) => vector.name.as_str().as_bytes(),
+        None => b"",
+    }
+}
+
+// The name of this vector.
+fn vector_with(vectors: &[VectorName], number: u64) -> Option<&VectorName>
+    ensures { option_copied result ≡ find (λ v. v.vector == number) vectors.now }
+{
+    vectors
+        .iter()
+        .find(|vector| u64::from(vector.vector) == number)
+}
+
+fn entry_of(layout: &Layout, module: u64, entry: u64) -> &[u8]
+    ensures { result.now ≡ spec.entry_of (slice_get (layout_of layout.entry.now).modules «module») entry }
+{
+    let Some(module) = layout.modules.get(module as usize) else {
+        return b"";
+    };
+    match module.entries.get(entry as usize) {
+        Some(name) => name.as_str().as_bytes(),
+        None => b"",
+    }
+}
+
+// A name with `?` for each byte that is no visible character.
+fn shown(alloc: Global, name: &[u8]) -> Result<String, AllocError>
+    ensures { IfOk result (λ shown. string_bytes shown ≡ map spec.shown_byte name.now) }
+{
+    let mut shown = String::new(alloc);
+    for byte in name {
+        shown.push(shown_byte(*byte))?;
+    }
+    Ok(shown)
+}
+
+fn shown_byte(byte: u8) -> char
+    ensures { result ≡ spec.shown_byte byte }
+{
+    if byte.is_ascii_graphic() {
+        byte as char
+    } else {
+        '?'
+    }
+}

@@ -1,6 +1,0 @@
-use Rattle.std.proofs.Common.{◌≡◌, map, take, string_bytes}
-use Rattle.sm_cli.specs.SymbolNames.{shown_byte}
-use Rattle.sm_cli.proofs.linking.shown.Given as goal
-
-abbrev pub invariant-loop-byte : goal.invariant-loop-byte
-invariant-loop-byte l = string_bytes l.shown ≡ map shown_byte (take l.byte-index l.name)
