@@ -1,0 +1,4 @@
+pub mod Searches
+pub mod Strong
+pub mod Conditions
+pub mod Places
