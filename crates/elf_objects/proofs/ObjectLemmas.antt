@@ -8,7 +8,8 @@ use Rattle.elf_objects.specs.Object.{IsObject, elf_fault_of}
 use Rattle.elf_objects.specs.Names.{sections_of}
 use Rattle.elf_objects.specs.Symbol.{symbols_of, symbols_header}
 use Rattle.elf_objects.specs.Section.{symbol_table}
-use Rattle.elf_objects.specs.Relocation.{relocations_of, ends_of}
+use Rattle.elf_objects.specs.Relocation.{relocations_of}
+use Rattle.elf_objects.specs.internal.Relocation.{ends_of}
 use Rattle.elf_objects.specs.Passes.{first_below, each_below, all_below}
 
 -- the lists of a file with no sections

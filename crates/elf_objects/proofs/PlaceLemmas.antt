@@ -8,7 +8,8 @@ use Rattle.elf_objects.specs.declared.object.Relocation.{Relocation}
 use Rattle.elf_objects.specs.Passes.{each_below, all_below}
 use Rattle.elf_objects.specs.Header.{section_count}
 use Rattle.elf_objects.specs.Section.{header_of, is_kept_table}
-use Rattle.elf_objects.specs.Relocation.{relocation_of, relocations_at, relocations_of, count_below, ends_of, IsIn}
+use Rattle.elf_objects.specs.Relocation.{relocation_of, relocations_at, relocations_of}
+use Rattle.elf_objects.specs.internal.Relocation.{count_below, ends_of, IsIn}
 use Rattle.elf_objects.proofs.PassLemmas.{length_each_below, at_each}
 use Rattle.std.proofs.Math.ListN.{get_or-append}
 use Rattle.std.proofs.lemmas.List.{get_or-append-add}

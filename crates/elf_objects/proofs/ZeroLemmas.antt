@@ -7,7 +7,8 @@ use Rattle.std.proofs.lemmas.Bool.{cases_lt, lt-ltb, le-ltb}
 use Rattle.std.proofs.Math.Seq.{drop-cons}
 use Rattle.std.proofs.Math.ListN.{drop_of_length-le}
 use Rattle.memchr.specs.Find.{is_byte, places_from, places}
-use Rattle.elf_objects.specs.Names.{end_in, first_from}
+use Rattle.elf_objects.specs.Names.{end_in}
+use Rattle.elf_objects.specs.internal.Names.{first_from}
 
 -- where a search ends stands the first that is not below
 pub found_by : (zs : List ℕ) (p offset : ℕ) → IsPartitionPoint (λ z. z < offset) (λ z. offset ≤ z) zs p → slice_get zs p ≡ first_from zs offset

@@ -7,3 +7,4 @@ pub mod Names
 pub mod Symbol
 pub mod Relocation
 pub mod Object
+pub mod internal

@@ -1,11 +1,9 @@
 -- Names in a string table (TIS ELF 1.2, "String Table"), and the sections with theirs.
-use Rattle.std.specs.Prelude.{◌≡◌, ℕ, ◌+◌, List, [], ◌∷◌, drop, ◌==◌, nat_lt, if◌then◌else◌, Option, Some, None, is_none, unwrap_or}
+use Rattle.std.specs.Prelude.{ℕ, ◌+◌, List, drop, ◌==◌, Option, is_none, unwrap_or}
 use Rattle.std.specs.List.{position_from}
-use Rattle.std.specs.List.Sorted.{IsNonDecreasing}
 use Rattle.elf_objects.specs.declared.fault.ElfFault.{ElfFault}
 use Rattle.elf_objects.specs.declared.fault.ElfFault.TheVariants as fault
 use Rattle.elf_objects.specs.declared.section.Header.{Header}
-use Rattle.elf_objects.specs.declared.names.Names.{Names}
 use Rattle.elf_objects.specs.declared.object.Span.{Span}
 use Rattle.elf_objects.specs.declared.object.SectionHead.{SectionHead}
 use Rattle.elf_objects.specs.Passes.{refuse_if, first_below, each_below}
@@ -49,14 +47,3 @@ section_of file i = let h = header_of file i in record {
 
 unfoldable pub sections_of : List ℕ → List SectionHead
 sections_of file = each_below (section_of file) (section_count file)
-
--- the first of these that is not below
-abbrev pub first_from : List ℕ → ℕ → Option ℕ
-first_from [] offset = None
-first_from (z ∷ zs) offset = if nat_lt z offset then first_from zs offset else Some z
-
--- the zeros of this string table
-pub record AreNames (file : List ℕ) (strings : Header) (names : Names) : Type 0 where
-  pub start : names.start ≡ strings.offset
-  pub rises : IsNonDecreasing names.zeros.items
-  pub ends : (k : ℕ) → first_from names.zeros.items k ≡ name_end file strings k

@@ -1,17 +1,17 @@
 -- The order of refusals: some conditions one after another, some at each index.
-use Rattle.std.specs.Prelude.{◌≡◌, ◌≢◌, ◌<◌, ℕ, zero, suc, Bool, true, false, List, [], ◌∷◌, ◌++◌, Option, Some, None, Result, Ok, Err}
+-- the first one, else the other
+use Rattle.std.specs.Prelude.{◌≡◌, ◌≢◌, ℕ, zero, suc, Bool, true, false, List, [], ◌∷◌, ◌++◌, Option, Some, None, Result, Ok, Err}
 use Rattle.elf_objects.specs.declared.fault.ElfFault.{ElfFault}
 use Rattle.elf_objects.specs.declared.fault.ElfFault.TheVariants as fault
--- the first one, else the other
 pub use Rattle.std.specs.Option.{option_or as or_else}
 
 -- this refusal, where its condition holds
-abbrev pub refuse_if : Bool → ElfFault → Option ElfFault
+abbrev pub refuse_if : {F : Type 0} → Bool → F → Option F
 refuse_if true fault = Some fault
 refuse_if false fault = None
 
 -- the first refusal of a list
-abbrev pub first_of : List (Option ElfFault) → Option ElfFault
+abbrev pub first_of : {F : Type 0} → List (Option F) → Option F
 first_of [] = None
 first_of (fault ∷ others) = or_else fault (first_of others)
 
@@ -30,16 +30,8 @@ unfoldable pub all_below : {A : Type 0} → (ℕ → List A) → ℕ → List A
 all_below values_at zero = []
 all_below values_at (suc n) = all_below values_at n ++ values_at n
 
--- what is found at the indexes below a count is what this function gives
-abbrev pub FindsBelow : {A : Type 0} → ℕ → (ℕ → Option A → Type 0) → (ℕ → Option A) → Type 0
-FindsBelow {A} count found f = (k : ℕ) (r : Option A) → k < count → found k r → r ≡ f k
-
--- nothing was found below an index
-abbrev pub NoneBelow : {A : Type 0} → ℕ → (ℕ → Option A → Type 0) → ℕ → Type 0
-NoneBelow {A} count found i = (f : ℕ → Option A) → FindsBelow count found f → first_below f i ≡ None
-
 -- a check answers this refusal, if there is one
-abbrev pub Answers : Result (Unit {0}) ElfFault → Option ElfFault → Type 0
+abbrev pub Answers : {F : Type 0} → Result (Unit {0}) F → Option F → Type 0
 Answers (Ok _) refusal = refusal ≡ None
 Answers (Err f) refusal = refusal ≡ Some f
 

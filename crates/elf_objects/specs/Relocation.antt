@@ -1,5 +1,5 @@
 -- Relocations of loaded sections (TIS ELF 1.2, "Relocation"), and which are refused.
-use Rattle.std.specs.Prelude.{ℕ, ◌<◌, ◌≤◌, ◌+◌, ◌*◌, ◌/◌, ◌%◌, List, [], length, not, nat_lt, if◌then◌else◌, Option, None}
+use Rattle.std.specs.Prelude.{ℕ, ◌+◌, ◌*◌, ◌/◌, ◌%◌, List, [], not, nat_lt, if◌then◌else◌, Option, None}
 use Rattle.std.specs.Int.{w32, cast_signed}
 use Rattle.elf_objects.specs.declared.fault.ElfFault.{ElfFault}
 use Rattle.elf_objects.specs.declared.fault.ElfFault.TheVariants as fault
@@ -45,17 +45,3 @@ relocations_at file i = let h = header_of file i in
 -- those of all sections, in order of section and then entry
 unfoldable pub relocations_of : List ℕ → List Relocation
 relocations_of file = all_below (relocations_at file) (section_count file)
-
--- how many of them the sections below an index hold
-abbrev pub count_below : List ℕ → ℕ → ℕ
-count_below file i = length (all_below (relocations_at file) i)
-
--- and how many there are up to the end of each section
-unfoldable pub ends_of : List ℕ → List ℕ
-ends_of file = each_below (λ i. count_below file (i + 1)) (section_count file)
-
--- the section whose table has the relocation of this place among all
-pub record IsIn (file : List ℕ) (section place : ℕ) : Type 0 where
-  pub within : section < section_count file
-  pub begun : count_below file section ≤ place
-  pub ends : place < count_below file (section + 1)

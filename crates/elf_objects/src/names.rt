@@ -4,7 +4,8 @@ ghost use Rattle.std.specs.Prelude.{◌≡◌, ◌<◌, ◌≤◌, ◌+◌, ◌^
 ghost use Rattle.std.specs.List.Sorted.{IsNonDecreasing, IsPartitionPoint};
 ghost use Rattle.memchr.specs.Find.{is_byte, places};
 ghost use Rattle.elf_objects.specs.Passes.{IsFaultOf};
-ghost use Rattle.elf_objects.specs.Names.{AreNames, first_from, section_names, name_fault, name_faults, section_of, sections_of};
+ghost use Rattle.elf_objects.specs.internal.Names.{AreNames, first_from};
+ghost use Rattle.elf_objects.specs.Names.{section_names, name_fault, name_faults, section_of, sections_of};
 
 use crate::fault::ElfFault;
 use crate::header::{name_table, section_count};

@@ -5,7 +5,7 @@ ghost use Rattle.elf_objects.specs.Passes.{IsFaultOf};
 ghost use Rattle.elf_objects.specs.Section.{is_loaded};
 ghost use Rattle.elf_objects.specs.Names.{sections_of};
 ghost use Rattle.elf_objects.specs.Symbol.{symbols_of};
-ghost use Rattle.elf_objects.specs.Relocation.{ends_of};
+ghost use Rattle.elf_objects.specs.internal.Relocation.{ends_of};
 ghost use Rattle.elf_objects.specs.Object.{ObjectValue, IsObject, IsSection, IsSymbol, IsRelocation, elf_fault_of, contents_fault};
 
 use crate::fault::ElfFault;
@@ -106,7 +106,8 @@ pub struct Object {
 
 impl Model for Object {
     ghost use Rattle.std.specs.Prelude.{◌≡◌};
-    ghost use Rattle.elf_objects.specs.Relocation.{relocations_of, ends_of};
+    ghost use Rattle.elf_objects.specs.Relocation.{relocations_of};
+    ghost use Rattle.elf_objects.specs.internal.Relocation.{ends_of};
     ghost use Rattle.elf_objects.specs.Object.{ObjectValue, IsObject};
 
     ghost Value = { ObjectValue };

@@ -1,7 +1,8 @@
 //! Refusals at each index.
 
 ghost use Rattle.std.specs.Prelude.{◌≡◌, ◌<◌, ℕ, Option};
-ghost use Rattle.elf_objects.specs.Passes.{refuse_if, first_below, FindsBelow, Answers};
+ghost use Rattle.elf_objects.specs.Passes.{refuse_if, first_below, Answers};
+ghost use Rattle.elf_objects.specs.internal.Passes.{FindsBelow};
 
 use crate::fault::ElfFault;
 

@@ -3,7 +3,8 @@
 ghost use Rattle.std.specs.Prelude.{◌≡◌, ◌≤◌, ◌<◌, IfOk, IfErr, OnOk, Some, None, length, slice_get};
 ghost use Rattle.std.specs.List.Sorted.{IsNonDecreasing, IsPartitionPoint};
 ghost use Rattle.elf_objects.specs.Passes.{IsFaultOf};
-ghost use Rattle.elf_objects.specs.Relocation.{relocation_of, entry_fault, relocation_fault, relocation_faults, relocations_at, relocations_of, count_below, ends_of, IsIn};
+ghost use Rattle.elf_objects.specs.Relocation.{relocation_of, entry_fault, relocation_fault, relocation_faults, relocations_at, relocations_of};
+ghost use Rattle.elf_objects.specs.internal.Relocation.{count_below, ends_of, IsIn};
 ghost use Rattle.elf_objects.specs.Header.{section_count};
 
 use crate::bytes::word_at;
@@ -90,7 +91,7 @@ fn count_at(file: &[u8], i: u32) -> u32
 }
 
 // How many relocations there are up to the end of each section.
-#[tactic(auto, using(crate::proofs::PassLemmas::each_below_more, crate::proofs::PassLemmas::each_below_zero, crate::proofs::PlaceLemmas::count_more, crate::proofs::PlaceLemmas::count_zero), unfolding(crate::specs::Relocation::ends_of))]
+#[tactic(auto, using(crate::proofs::PassLemmas::each_below_more, crate::proofs::PassLemmas::each_below_zero, crate::proofs::PlaceLemmas::count_more, crate::proofs::PlaceLemmas::count_zero), unfolding(crate::specs::internal::Relocation::ends_of))]
 fn ends_of(alloc: Global, file: &[u8]) -> Result<Vec<usize>, AllocError>
     ensures { IfOk result (λ v. v.items ≡ ends_of file.now) }
 {

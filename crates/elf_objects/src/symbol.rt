@@ -2,7 +2,7 @@
 
 ghost use Rattle.std.specs.Prelude.{◌≡◌, ◌<◌, ◌^◌, IfOk, IfErr, OnOk, Some, None};
 ghost use Rattle.elf_objects.specs.Passes.{IsFaultOf};
-ghost use Rattle.elf_objects.specs.Names.{AreNames};
+ghost use Rattle.elf_objects.specs.internal.Names.{AreNames};
 ghost use Rattle.elf_objects.specs.Symbol.{entry_of, count_in, strings_of, is_bad_common, is_bad_home, is_bad_symbol, symbol_fault, binding_of, home_of, symbol_of, symbols_header, count_of, faults_in, symbol_faults, symbols_in, symbols_of};
 
 use crate::bytes::{byte_at, half_at, word_at};

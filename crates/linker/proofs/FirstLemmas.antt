@@ -6,7 +6,7 @@ use Rattle.elf_objects.specs.declared.object.Symbol.{Symbol}
 use Rattle.linker.specs.declared.symbol.Meaning.{Meaning}
 use Rattle.linker.specs.Passes.{map_at, NumberedObject, numbered_objects_from}
 use Rattle.linker.specs.Symbols.{NamedValue, symbol_of, symbols_in}
-use Rattle.linker.specs.Maps.{IsFirst, AreFirsts}
+use Rattle.linker.specs.internal.Maps.{IsFirst, AreFirsts}
 use Rattle.linker.proofs.Steps.{numbered_step}
 use Rattle.linker.proofs.MeaningLemmas.{length_at}
 

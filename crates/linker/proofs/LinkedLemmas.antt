@@ -7,7 +7,8 @@ use Rattle.layout_file.specs.Sound.{IsLayout}
 use Rattle.layout_file.specs.Values.{LayoutValue}
 use Rattle.mod_layout.specs.Tables.{IsTable}
 use Rattle.linker.specs.Laws.{AreBytes}
-use Rattle.linker.specs.Image.{Links, Held, linked_image, linked_memory, linked_table, table_by, memory_by, zeros}
+use Rattle.linker.specs.Image.{Links, linked_image, linked_memory, linked_table, table_by, memory_by, zeros}
+use Rattle.linker.specs.internal.Tables.{Held}
 use Rattle.linker.specs.Numbers.{linking_of, end_in}
 use Rattle.linker.specs.Placement.{starts_of, items_of, address_at}
 use Rattle.linker.specs.Refusals.{link_fault_of, names_fault, no_place, fill_fault, overfull}
@@ -20,15 +21,15 @@ use Rattle.linker.proofs.MadeLemmas.{table_made}
 use Rattle.linker.proofs.RegionLemmas.{items_are_in, ends_kept, ends_low}
 use Rattle.linker.proofs.TableLemmas.{table_fits, spans_of}
 
-all_placed : (layout : LayoutValue) (os : List ObjectValue) → link_fault_of layout os ≡ None → no_place layout.modules os ≡ None
+pub all_placed : (layout : LayoutValue) (os : List ObjectValue) → link_fault_of layout os ≡ None → no_place layout.modules os ≡ None
 unfolding link_fault_of names_fault
 all_placed layout os e = (both_none _ _ (both_none _ _ e).0).0
 
-none_over : (layout : LayoutValue) (os : List ObjectValue) → link_fault_of layout os ≡ None → overfull layout (end_in layout os) ≡ None
+pub none_over : (layout : LayoutValue) (os : List ObjectValue) → link_fault_of layout os ≡ None → overfull layout (end_in layout os) ≡ None
 unfolding link_fault_of fill_fault
 none_over layout os e = (both_none _ _ (both_none _ _ (both_none _ _ e).1).1).0
 
-memory_is : (layout : LayoutValue) (os : List ObjectValue) (image : Image) → Links layout os image → image.memory ≡ memory_by (linking_of layout os) (end_in layout os) layout os zeros
+pub memory_is : (layout : LayoutValue) (os : List ObjectValue) (image : Image) → Links layout os image → image.memory ≡ memory_by (linking_of layout os) (end_in layout os) layout os zeros
 unfolding linked_memory
 memory_is layout os image h = h.memory
 

@@ -10,8 +10,9 @@ use Rattle.layout_file.specs.Sound.{IsLayout}
 use Rattle.layout_file.specs.Values.{ModuleValue, LayoutValue}
 use Rattle.linker.specs.Passes.{fold_at}
 use Rattle.linker.specs.Placement.{text_of, ram_of}
-use Rattle.linker.specs.Image.{Held, with_boot, with_boots, table_by}
-use Rattle.linker.specs.Tables.{spec_at, some_spec, Drawn, TableFits}
+use Rattle.linker.specs.internal.Tables.{Held}
+use Rattle.linker.specs.Image.{with_boot, with_boots, table_by}
+use Rattle.linker.specs.internal.Tables.{spec_at, some_spec, Drawn, TableFits}
 use Rattle.linker.proofs.ImageLemmas.{held_more, fold_range_more}
 use Rattle.linker.proofs.TableLemmas.{taken, more_by, drawn_next, none_lower, room_by}
 

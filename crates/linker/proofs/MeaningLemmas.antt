@@ -7,7 +7,7 @@ use Rattle.elf_objects.specs.declared.object.Relocation.{Relocation}
 use Rattle.elf_objects.specs.declared.object.Symbol.{Symbol}
 use Rattle.linker.specs.declared.symbol.Meaning.{Meaning}
 use Rattle.linker.specs.Passes.{or_else, first_at, map_at, NumberedObject, numbered_objects_from}
-use Rattle.linker.specs.Meanings.{meaning_at, meanings_in, listed, all_stand, gap_if, gap_at}
+use Rattle.linker.specs.internal.Meanings.{meaning_at, meanings_in, listed, all_stand, gap_if, gap_at}
 use Rattle.linker.specs.Numbers.{Linking, number_or_zero, symbol_number, numbers_in}
 use Rattle.linker.specs.Refusals.{is_used, undefined_at}
 use Rattle.linker.proofs.Steps.{numbered_step}

@@ -12,8 +12,9 @@ use Rattle.linker.specs.Symbols.{NamedValue, symbol_of, symbols_in, symbols_of}
 use Rattle.linker.specs.Definitions.{definition, strong_by, strong_of, weak_of, if_named}
 use Rattle.linker.specs.Commons.{commons_of, common_at}
 use Rattle.linker.specs.Refusals.{duplicate, duplicate_by, duplicate_of}
-use Rattle.linker.specs.Names.{stands_by, stands_for, count_sections, OwnMeaning, OwnMeanings, AllOwnMeanings}
-use Rattle.linker.specs.Maps.{meaning_of_name}
+use Rattle.linker.specs.Names.{stands_by, stands_for, count_sections}
+use Rattle.linker.specs.internal.Meanings.{OwnMeaning, OwnMeanings, AllOwnMeanings}
+use Rattle.linker.specs.internal.Maps.{meaning_of_name}
 use Rattle.linker.proofs.Steps.{numbered_step}
 use Rattle.linker.proofs.BoundLemmas.{both_none}
 use Rattle.linker.proofs.ImageLemmas.{ext}

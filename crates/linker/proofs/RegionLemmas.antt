@@ -14,7 +14,7 @@ use Rattle.linker.specs.Passes.{first_at, or_else, part}
 use Rattle.linker.specs.Parts.{part_at, code_part, data_part, part_in, part_of, item_of, is_loaded_head, items_in, section_items}
 use Rattle.linker.specs.Commons.{commons_of}
 use Rattle.linker.specs.Symbols.{symbols_of}
-use Rattle.linker.specs.Placed.{AreIn, IsInBy}
+use Rattle.linker.specs.internal.Placed.{AreIn, IsInBy}
 use Rattle.linker.specs.Placement.{items_of, starts_of, module_starts}
 use Rattle.linker.specs.Numbers.{end_in}
 use Rattle.linker.specs.Refusals.{overfull}
@@ -77,7 +77,7 @@ starts_more : (ms : List ModuleValue) → length (flat_map module_starts ms) ≡
 starts_more [] = omega arith
 starts_more (m ∷ ms) = omega (arith, starts_more ms)
 
-starts_count : (layout : LayoutValue) → length (starts_of layout) ≡ 2 + 2 * length layout.modules
+pub starts_count : (layout : LayoutValue) → length (starts_of layout) ≡ 2 + 2 * length layout.modules
 unfolding starts_of
 starts_count layout = omega (arith, starts_more layout.modules)
 

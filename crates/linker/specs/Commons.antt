@@ -41,10 +41,6 @@ commons_of symbols = fold (with_symbol (strong_of symbols)) [] symbols
 abbrev pub common_item : Common → Item
 common_item c = record { part = Some (part_at 1 2); align = c.align; size = c.size }
 
--- an item joined with a common more of its name
-abbrev pub joined_item : Item → ℕ → ℕ → Item
-joined_item i size align = record { part = i.part; align = max i.align align; size = max i.size size }
-
 abbrev pub some_item : Item
 some_item = record { part = None; align = 0; size = 0 }
 

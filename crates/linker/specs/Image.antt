@@ -1,10 +1,10 @@
 -- The linked image: zeros, then the sections, the fields of their relocations in order, the stubs and the vectors.
-use Rattle.std.specs.Prelude.{ℕ, ◌≡◌, List, length, ◌==◌, if◌then◌else◌, fold, replicate}
+use Rattle.std.specs.Prelude.{ℕ, ◌≡◌, List, ◌==◌, if◌then◌else◌, fold, replicate}
 use Rattle.elf_objects.specs.Object.{ObjectValue}
 use Rattle.layout_file.specs.Values.{ModuleValue, LayoutValue}
 use Rattle.std.specs.List.{range_with_len}
 use Rattle.mod_layout.specs.Table.{Table, with_module, empty_table}
-use Rattle.image_text.specs.Image.{Image, AreNumbered}
+use Rattle.image_text.specs.Image.{Image}
 use Rattle.linker.specs.Passes.{fold_at, numbered_objects}
 use Rattle.linker.specs.Placement.{text_of, ram_of}
 use Rattle.linker.specs.Numbers.{Linking, linking_of, end_in}
@@ -50,8 +50,3 @@ pub record Links (layout : LayoutValue) (objects : List ObjectValue) (image : Im
 -- which is this one
 unfoldable pub linked_image : LayoutValue → List ObjectValue → Image
 linked_image layout objects = record { memory = linked_memory layout objects; table = linked_table layout objects; node_key = layout.key; handler_sp = layout.handler_sp }
-
--- the ids of a table are those from 1 on, all of them held
-pub record Held (t : Table) : Type 0 where
-  pub numbered_from_1 : AreNumbered 1 t.modules
-  pub all_held : length t.modules ≡ t.given

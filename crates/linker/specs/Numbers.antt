@@ -1,14 +1,12 @@
 -- The numbers of symbols, once everything has an address.
-use Rattle.std.specs.Prelude.{ℕ, ◌+◌, List, Option, Some, None, slice_index}
+use Rattle.std.specs.Prelude.{ℕ, ◌+◌, List, Option, Some, None}
 use Rattle.elf_objects.specs.Object.{ObjectValue}
 use Rattle.elf_objects.specs.declared.object.Symbol.{Symbol}
 use Rattle.layout_file.specs.Values.{LayoutValue}
-use Rattle.linker.specs.declared.names.Names.{Names}
 use Rattle.linker.specs.declared.symbol.Meaning.{Meaning}
 use Rattle.linker.specs.Passes.{map_at, NumberedObject}
 use Rattle.linker.specs.Symbols.{symbol_of}
 use Rattle.linker.specs.Names.{stands_for, symbol_meaning}
-use Rattle.linker.specs.Maps.{meaning_of_name}
 use Rattle.linker.specs.Placement.{items_of, starts_of, filled_end, address_at}
 use Rattle.linker.specs.declared.symbol.Meaning.TheVariants as meaning
 
@@ -39,7 +37,3 @@ symbol_number l x k s = number_or_zero l.address (symbol_meaning l.names (symbol
 
 abbrev pub numbers_in : Linking → NumberedObject → List ℕ
 numbers_in l x = map_at (symbol_number l x) 0 x.object.symbols
-
--- a linking by the code's maps and vectors
-abbrev pub linking_by : Names → List ℕ → Linking
-linking_by names addresses = record { names = meaning_of_name names; address = slice_index addresses }

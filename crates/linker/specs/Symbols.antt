@@ -7,7 +7,6 @@ use Rattle.elf_objects.specs.declared.object.Home.{Home}
 use Rattle.elf_objects.specs.declared.object.Symbol.{Symbol}
 use Rattle.elf_objects.specs.declared.object.Home.TheVariants as home
 use Rattle.linker.specs.declared.symbol.Meaning.{Meaning}
-use Rattle.linker.specs.declared.symbol.Named.{Named}
 use Rattle.linker.specs.declared.symbol.What.{What}
 use Rattle.linker.specs.Passes.{map_at, NumberedObject, numbered_objects, part}
 use Rattle.linker.specs.Parts.{is_loaded_head}
@@ -42,7 +41,3 @@ symbols_in x = map_at (symbol_of x) 0 x.object.symbols
 -- the symbols of all objects, in order of object and index
 abbrev pub symbols_of : List ObjectValue → List NamedValue
 symbols_of objects = flat_map symbols_in (numbered_objects objects)
-
--- what the code's record of a symbol stands for
-abbrev pub value_of : Named → NamedValue
-value_of s = record { object = s.object; symbol = s.symbol; name = s.name.now; binding = s.binding; what = s.what }

@@ -1,2 +1,4 @@
 pub mod FieldLemmas
 pub mod FaultLemmas
+pub mod AppliesLemmas
+pub mod SetsLemmas

@@ -104,8 +104,3 @@ pub record ChangesOnly (old new : List ℕ) (offset size : ℕ) : Type 0 where
 abbrev pub width_of : Option Row → ℕ
 width_of None = 0
 width_of (Some r) = size_of r.field
-
--- what a call leaves is what it gives: a refusal changes nothing
-abbrev pub Leaves : List ℕ → List ℕ → Result (Unit {0}) RelocFault → Result (List ℕ) RelocFault → Type 0
-Leaves old new result (Ok bytes) = (result ≡ Ok tt) × (new ≡ bytes)
-Leaves old new result (Err f) = (result ≡ Err f) × (new ≡ old)

@@ -2,10 +2,12 @@
 #![tactic(auto)]
 
 ghost use Rattle.std.specs.Prelude.{◌≡◌, ◌<◌, ◌≤◌, ◌+◌, ◌≤ℤ◌, ◌^◌, Ok, Err, pos, negsuc, length, IfErr, OnOk, OnErr, true};
-ghost use Rattle.reloc_apply.specs.Fields.{row_of, size_of, limit_of, is_jump, difference_of, value_of, modulo, kept_of, with_number, is_odd, is_in_bounds, written, relocated_by, relocated, Leaves, ChangesOnly, width_of};
+ghost use Rattle.reloc_apply.specs.Fields.{row_of, size_of, limit_of, is_jump, difference_of, value_of, modulo, kept_of, with_number, is_odd, is_in_bounds, written, relocated_by, relocated, ChangesOnly, width_of};
+ghost use Rattle.reloc_apply.specs.internal.Leaves.{Leaves};
 
 use byteorder::{ByteOrder, LittleEndian};
 
+pub mod laws;
 #[cfg(test)]
 mod tests;
 

@@ -1,5 +1,5 @@
 use Rattle.std.proofs.Common.{arith, ap, sym, ◌∙◌}
-use Rattle.elf_objects.specs.Relocation.{count_below}
+use Rattle.elf_objects.specs.internal.Relocation.{count_below}
 use Rattle.elf_objects.proofs.PlaceLemmas.{count_zero, within_ends}
 use Rattle.elf_objects.proofs.relocation.count_before.Goals as goal
 

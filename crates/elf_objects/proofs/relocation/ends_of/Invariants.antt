@@ -1,6 +1,6 @@
 use Rattle.std.proofs.Common.{◌≡◌, ◌≤◌, ◌+◌, ◌*◌, ◌^◌}
 use Rattle.elf_objects.specs.Passes.{each_below}
-use Rattle.elf_objects.specs.Relocation.{count_below}
+use Rattle.elf_objects.specs.internal.Relocation.{count_below}
 use Rattle.elf_objects.proofs.relocation.ends_of.Given as goal
 
 abbrev pub invariant-loop-i : goal.invariant-loop-i

@@ -1,5 +1,5 @@
 use Rattle.std.proofs.Common.{arith}
-use Rattle.elf_objects.specs.Relocation.{IsIn}
+use Rattle.elf_objects.specs.internal.Relocation.{IsIn}
 use Rattle.elf_objects.proofs.PlaceLemmas.{is_in_found, these_rise}
 use Rattle.elf_objects.proofs.relocation.table_with.Goals as goal
 

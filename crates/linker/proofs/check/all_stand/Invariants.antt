@@ -1,5 +1,5 @@
 use Rattle.std.proofs.Common.{◌≡◌, drop}
-use Rattle.linker.specs.Meanings.{all_stand}
+use Rattle.linker.specs.internal.Meanings.{all_stand}
 use Rattle.linker.proofs.check.all_stand.Given as goal
 
 abbrev pub invariant-loop-meaning : goal.invariant-loop-meaning

@@ -1,7 +1,7 @@
 use Rattle.std.proofs.Common.{ap, sym, ◌∙◌, length}
 use Rattle.linker.specs.Passes.{NumberedObject, first_at}
-use Rattle.linker.specs.Maps.{meaning_of_name}
-use Rattle.linker.specs.Meanings.{meaning_at, gap_at}
+use Rattle.linker.specs.internal.Maps.{meaning_of_name}
+use Rattle.linker.specs.internal.Meanings.{meaning_at, gap_at}
 use Rattle.linker.proofs.MeaningLemmas.{gaps_are, length_at}
 use Rattle.linker.proofs.check.check_object.Goals as goal
 

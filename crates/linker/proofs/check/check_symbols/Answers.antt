@@ -1,7 +1,7 @@
 use Rattle.std.proofs.Common.{◌≡◌, ◌+◌, ℕ, List, Option, sym, ap, subst, ◌∙◌, length, take, drop, arith}
 use Rattle.std.specs.List.{flat_map}
 use Rattle.linker.specs.declared.symbol.Meaning.{Meaning}
-use Rattle.linker.specs.Maps.{meaning_of_name, name_entry, AreFirsts}
+use Rattle.linker.specs.internal.Maps.{meaning_of_name, name_entry, AreFirsts}
 use Rattle.linker.specs.Passes.{NumberedObject, numbered_objects, numbered_objects_from, first_in}
 use Rattle.linker.specs.Refusals.{undefined_in}
 use Rattle.linker.specs.Symbols.{symbols_in}

@@ -1,7 +1,7 @@
 use Rattle.std.proofs.Common.{None, get_or, sym, subst}
 use Rattle.linker.specs.Passes.{NumberedObject}
 use Rattle.linker.specs.Symbols.{NamedValue, symbol_of}
-use Rattle.linker.specs.Maps.{name_entry, IsFirst}
+use Rattle.linker.specs.internal.Maps.{name_entry, IsFirst}
 use Rattle.linker.proofs.FirstLemmas.{first_here, firsts_within}
 use Rattle.linker.proofs.check.meanings_of.Goals as goal
 

@@ -1,6 +1,6 @@
 use Rattle.std.proofs.Common.{◌++◌, ◌≡◌, drop}
-use Rattle.linker.specs.Maps.{meaning_of_name}
-use Rattle.linker.specs.Meanings.{meaning_at}
+use Rattle.linker.specs.internal.Maps.{meaning_of_name}
+use Rattle.linker.specs.internal.Meanings.{meaning_at}
 use Rattle.linker.specs.Passes.{map_at}
 use Rattle.linker.proofs.check.meanings_of.Given as goal
 

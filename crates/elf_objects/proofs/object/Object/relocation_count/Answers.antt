@@ -1,5 +1,6 @@
 use Rattle.std.proofs.Common.{◌≡◌, ap, ◌∙◌, length, unwrap_or}
-use Rattle.elf_objects.specs.Relocation.{relocations_of, ends_of}
+use Rattle.elf_objects.specs.Relocation.{relocations_of}
+use Rattle.elf_objects.specs.internal.Relocation.{ends_of}
 use Rattle.elf_objects.specs.Object.{ObjectValue}
 use Rattle.elf_objects.proofs.PlaceLemmas.{last_of}
 use Rattle.elf_objects.proofs.object.Object.relocation_count.Goals as goal

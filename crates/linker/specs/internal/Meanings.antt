@@ -1,5 +1,5 @@
--- What the symbols of objects stand for, found once for all steps.
-use Rattle.std.specs.Prelude.{ℕ, ◌≡◌, List, [], ◌∷◌, Vec, Bool, true, false, Option, Some, None, ◌&&◌, is_none, map}
+-- What the symbols of objects stand for, found once for all steps, and what is known of strong definitions.
+use Rattle.std.specs.Prelude.{ℕ, ◌≡◌, List, [], ◌∷◌, Vec, Bool, true, false, Option, Some, None, ◌&&◌, is_none, map, ◌<◌, length, slice_index_or}
 use Rattle.std.specs.declared.alloc.Global.{Global}
 use Rattle.elf_objects.specs.Object.{ObjectValue}
 use Rattle.elf_objects.specs.declared.object.Symbol.{Symbol}
@@ -8,11 +8,12 @@ use Rattle.linker.specs.declared.check.Resolved.{Resolved}
 use Rattle.linker.specs.declared.fault.LinkFault.{LinkFault}
 use Rattle.linker.specs.declared.symbol.Meaning.{Meaning}
 use Rattle.linker.specs.Passes.{refuse_if, first_at, map_at, NumberedObject, numbered_objects}
-use Rattle.linker.specs.Symbols.{symbol_of}
+use Rattle.linker.specs.Symbols.{symbol_of, NamedValue}
 use Rattle.linker.specs.Names.{symbol_meaning}
-use Rattle.linker.specs.Maps.{meaning_of_name}
+use Rattle.linker.specs.internal.Maps.{meaning_of_name}
 use Rattle.linker.specs.Refusals.{is_used}
 use Rattle.linker.specs.declared.fault.LinkFault.TheVariants as fault
+use Rattle.linker.specs.Definitions.{is_global, definition_of}
 
 abbrev pub meaning_at : (List ℕ → Option Meaning) → NumberedObject → ℕ → Symbol → Option Meaning
 meaning_at names x k s = symbol_meaning names (symbol_of x k s)
@@ -46,3 +47,15 @@ gap_at number relocations k m = gap_if (is_used relocations k) number k m
 -- the first one of an object
 abbrev pub gaps : ℕ → List Relocation → List (Option Meaning) → Option LinkFault
 gaps number relocations meanings = first_at (gap_at number relocations) 0 meanings
+
+-- a symbol that defines its name strongly is what its name stands for
+abbrev pub OwnMeaning : (List ℕ → Option Meaning) → NamedValue → Type 0
+OwnMeaning names s = (m : Meaning) → is_global s.binding ≡ true → definition_of s ≡ Some m → names s.name ≡ Some m
+
+-- so it is with each symbol of an object, and of all objects
+abbrev pub OwnMeanings : (List ℕ → Option Meaning) → NumberedObject → Type 0
+OwnMeanings names x = (k : ℕ) (d : Symbol) → k < length x.object.symbols → OwnMeaning names (symbol_of x k (slice_index_or x.object.symbols k d))
+
+abbrev pub AllOwnMeanings : (List ℕ → Option Meaning) → List NumberedObject → Type 0
+AllOwnMeanings names [] = Unit {0}
+AllOwnMeanings names (x ∷ xs) = OwnMeanings names x × AllOwnMeanings names xs

@@ -1,5 +1,5 @@
 -- The code's maps of names, and what they hold.
-use Rattle.std.specs.Prelude.{ℕ, ◌≡◌, ◌-◌, List, [], ◌∷◌, length, drop, nat_lt, if◌then◌else◌, Option, Some, ◌++◌, map, bytes_eq}
+use Rattle.std.specs.Prelude.{ℕ, ◌≡◌, ◌-◌, List, [], ◌∷◌, length, drop, nat_lt, if◌then◌else◌, Option, Some, ◌++◌, map, bytes_eq, ◌+◌, slice_index}
 use Rattle.std.specs.Borrow.{Bor}
 use Rattle.std.specs.BTreeMap.{BTreeMap, get_by}
 use Rattle.std.specs.Cmp.Lexicographic.{slice_cmp}
@@ -14,6 +14,7 @@ use Rattle.linker.specs.Symbols.{NamedValue}
 use Rattle.linker.specs.Definitions.{strong_of, weak_of}
 use Rattle.linker.specs.Commons.{Common, common_item, common_at}
 use Rattle.linker.specs.Names.{stands_by}
+use Rattle.linker.specs.Numbers.{Linking}
 
 -- the number of a name's last eight bytes, the last one lowest, and 0 for a shorter name
 abbrev pub last_bytes : List ℕ → ℕ
@@ -63,3 +64,7 @@ pub record Holds (names : Names) (symbols : List NamedValue) : Type 0 where
 pub record HoldsCommons (names : Names) (items sections : List Item) (cs : List Common) : Type 0 where
   pub items_are : items ≡ sections ++ map common_item cs
   pub numbers : (q : List ℕ) → name_entry names.commons q ≡ common_at (length sections) cs q
+
+-- a linking by the code's maps and vectors
+abbrev pub linking_by : Names → List ℕ → Linking
+linking_by names addresses = record { names = meaning_of_name names; address = slice_index addresses }

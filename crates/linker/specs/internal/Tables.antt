@@ -4,6 +4,7 @@ use Rattle.layout_file.specs.Values.{ModuleValue}
 use Rattle.mod_layout.specs.declared.Module.{Module}
 use Rattle.mod_layout.specs.Table.{shares, is_empty, is_odd, is_reserved, Table}
 use Rattle.linker.specs.Placement.{text_of, ram_of}
+use Rattle.image_text.specs.Image.{AreNumbered}
 
 abbrev pub some_spec : ModuleValue
 some_spec = record { name = []; vendor = 0; text = record { start = 0; end = 0 }; ram = record { start = 0; end = 0 }; stack = 0; entries = []; boot = 0 }
@@ -36,3 +37,8 @@ pub record TableFits (end : ℕ → ℕ) (modules : List ModuleValue) : Type 0 w
   pub even : (j : ℕ) → j < length modules → (is_odd (text_of end j (spec_at modules j)) || is_odd (ram_of end j (spec_at modules j))) ≡ false
   pub clear : (j : ℕ) → j < length modules → (is_reserved (text_of end j (spec_at modules j)) || is_reserved (ram_of end j (spec_at modules j))) ≡ false
   pub boots : (j k : ℕ) → j < k → k < length modules → (spec_at modules j).boot ≢ (spec_at modules k).boot
+
+-- the ids of a table are those from 1 on, all of them held
+pub record Held (t : Table) : Type 0 where
+  pub numbered_from_1 : AreNumbered 1 t.modules
+  pub all_held : length t.modules ≡ t.given

@@ -1,0 +1,10 @@
+pub mod Searches
+pub mod Strong
+pub mod Conditions
+pub mod Places
+pub mod Writes
+pub mod SectionBytes
+pub mod FieldBytes
+pub mod WordBytes
+pub mod Numbered
+pub mod Contents

@@ -1,0 +1,41 @@
+-- When a relocation applies: what is not refused, by conditions on the number of bytes alone; and what it then writes.
+use Rattle.std.specs.Prelude.{◌≡◌, ◌≤◌, ◌≤ℤ◌, ◌↔◌, ℕ, ◌+◌, ◌%◌, ℤ, List, length, drop, true, false, Option, Some, None, IsOk, Ok}
+use Rattle.byteorder.specs.Endian.{little_number}
+use Rattle.reloc_apply.specs.declared.Row.{Row}
+use Rattle.reloc_apply.specs.Fields.{row_of, size_of, limit_of, width_of, is_jump, is_odd, difference_of, value_of, modulo, relocated, ChangesOnly}
+
+-- a field lies within so many bytes, and its number is in its bounds; a jump's difference is even
+pub record Takes (r : Row) (difference : ℤ) (offset size : ℕ) : Type 0 where
+  pub within : offset + size_of r.field ≤ size
+  pub even : is_jump r.field ≡ true → is_odd difference ≡ false
+  pub low : r.low ≤ℤ value_of (is_jump r.field) difference
+  pub high : value_of (is_jump r.field) difference ≤ℤ r.high
+
+-- the kind is 0, which writes nothing, or has a field that takes the number
+pub data Applies (kind place : ℕ) (sum : ℤ) (offset size : ℕ) : Type 0 where
+  no_field : kind ≡ 0 → Applies kind place sum offset size
+  a_field : (r : Row) → row_of kind ≡ Some r → Takes r (difference_of r.relative place sum) offset size → Applies kind place sum offset size
+
+-- a relocation is taken exactly where it applies
+abbrev pub TakenExactly : Type 0
+TakenExactly = (kind place : ℕ) (sum : ℤ) (offset : ℕ) (bytes : List ℕ) → Applies kind place sum offset (length bytes) ↔ IsOk (relocated kind place sum offset bytes)
+
+-- what a field's numbers are below; with no field there is only 0
+abbrev pub limit_by : Option Row → ℕ
+limit_by None = 1
+limit_by (Some r) = limit_of r.field
+
+-- the number that a field is given
+abbrev pub number_by : Option Row → ℕ → ℤ → ℕ
+number_by None place sum = 0
+number_by (Some r) place sum = modulo (value_of (is_jump r.field) (difference_of r.relative place sum)) (limit_of r.field)
+
+-- as many bytes, the same outside a field, which holds its number, a jump in its low ten bits
+pub record Sets (row : Option Row) (place : ℕ) (sum : ℤ) (offset : ℕ) (old new : List ℕ) : Type 0 where
+  pub as_many : length new ≡ length old
+  pub elsewhere : ChangesOnly old new offset (width_of row)
+  pub number : little_number (width_of row) (drop offset new) % limit_by row ≡ number_by row place sum
+
+-- a relocation that is taken sets its field and nothing else
+abbrev pub SetsField : Type 0
+SetsField = (kind place : ℕ) (sum : ℤ) (offset : ℕ) (old new : List ℕ) → relocated kind place sum offset old ≡ Ok new → Sets (row_of kind) place sum offset old new
