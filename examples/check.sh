@@ -1,15 +1,23 @@
 #!/bin/sh
-# Runs each `./sancus` line of the pages here and of the first page, in their order, and compares what it prints with the block of text
-# after it, whose last line is `status N` where the command ends with another status than 0; then draws the figure again.
+# Runs the commands of all pages, in their order: each `./sancus` line of the README, of docs/ and of the pages here, compared with the block
+# of text after it, whose last line is `status N` where the command ends with another status than 0; each `clang` line, compared with the object
+# in the folder, where clang 14 is there; the commands of the manual, and its files by the command beside each. Then it draws the figure again.
 #     examples/check.sh [PROGRAM]
-# PROGRAM stands for ./sancus where it is given. The last line is 'N commands, M differ'.
+# PROGRAM stands for ./sancus where it is given. The last line is 'N commands, M differ, K not run'.
 here=$(dirname -- "$(readlink -f -- "$0")") || exit 1
-program=$(readlink -f -- "${1:-$here/../sancus}") || exit 1
+top=${here%/*}
+program=$(readlink -f -- "${1:-$top/sancus}") || exit 1
 room=$(mktemp -d) || exit 1
 trap 'rm -rf "$room"' EXIT
 cd "$room" || exit 1
-ln -s "$here" examples
+cp -r "$here" examples
 ln -s "$program" sancus
+ln -s "$top/include" include
+compiler=$(clang --version 2>/dev/null | sed -n 's/.*clang version \([0-9]*\)\..*/\1/p')
+
+total=0
+differ=0
+not_run=0
 
 # From a page, for each command a file COMMAND.n and a file WANTED.n. A line of prose ends what a command is to print.
 split_page() {
@@ -18,7 +26,7 @@ split_page() {
         /^    / {
             line = substr($0, 5)
             if (going_on) command[n] = command[n] " " line
-            else if (line ~ /^\.\/sancus /) { command[++n] = line; printing = 1 }
+            else if (line ~ /^(\.\/sancus|clang) /) { command[++n] = line; printing = 1 }
             else if (printing) wanted[n] = wanted[n] line "\n"
             going_on = line ~ /\\$/
             next
@@ -33,9 +41,6 @@ split_page() {
         }' "$1"
 }
 
-total=0
-differ=0
-
 # compare WHAT WANTED: what was printed, in the file `got`, with a file of what is wanted.
 compare() {
     total=$((total + 1))
@@ -45,18 +50,66 @@ compare() {
     diff "$2" got
 }
 
-for page in examples/../README.md examples/README.md examples/*/README.md; do
-    split_page "$page"
+# run FILE: the command in the file, with what it prints and another status than 0 in `got`.
+run() {
+    sh "$1" >got 2>&1
+    status=$?
+    [ "$status" -eq 0 ] || printf 'status %s\n' "$status" >>got
+}
+
+check_page() {
+    split_page "$1"
     number=1
     while [ -f "command.$number" ]; do
-        sh "./command.$number" >got 2>&1
-        status=$?
-        [ "$status" -eq 0 ] || printf 'status %s\n' "$status" >>got
-        compare "$page: $(cat "command.$number")" "wanted.$number"
+        if [ "$compiler" != 14 ] && grep -q '^clang ' "command.$number"; then
+            not_run=$((not_run + 1))
+        else
+            run "./command.$number"
+            compare "$1: $(cat "command.$number")" "wanted.$number"
+        fi
         number=$((number + 1))
     done
+}
+
+# The manual's commands, a line each; before them its files, and `./sancus` before what stands beside each.
+split_manual() {
+    awk '
+        /^\.\\" file: / { file = $3; inside = 0; next }
+        /^\.\\" try: / { sub(/^[^:]*: /, "./sancus "); print; next }
+        file != "" && /^\.Bd / { inside = 1; next }
+        file != "" && /^\.(Ed|Dl )/ { if ($1 == ".Dl") print substr($0, 5) > file; file = ""; inside = 0; next }
+        inside { print > file; next }
+        /^(\.Dl )?\$ sancus / || going_on {
+            sub(/^(\.Dl )?\$ /, "./")
+            going_on = sub(/ *\\e$/, "")
+            printf "%s%s", $0, going_on ? " " : "\n"
+        }' "$1"
+}
+
+# What they print is in no page: a status of 0, of a stop or of a verdict is wanted.
+check_manual() {
+    split_manual "$top/docs/sancus.1" >manual
+    : >wanted
+    while read -r line; do
+        printf '%s\n' "$line" >command
+        run ./command
+        case $status in 0 | 3 | 9) : >got ;; esac
+        compare "docs/sancus.1: $line" wanted
+    done <manual
+}
+
+for page in "$top"/README.md "$top"/docs/*.md examples/README.md examples/*/README.md examples/attacks/*/README.md; do
+    [ ! -f "$page" ] || check_page "$page"
+done
+check_manual
+for object in examples/*/*.o examples/attacks/*/*.o; do
+    [ ! -f "$object" ] || cmp -s "$object" "$top/$object" || {
+        differ=$((differ + 1))
+        printf '%s is another one than clang makes\n' "$object"
+    }
 done
 examples/channel/draw.sh "$program" >got
 compare 'examples/channel/draw.sh' examples/channel/latency.svg
-printf '%s commands, %s differ\n' "$total" "$differ"
+[ "$not_run" -eq 0 ] || printf 'the lines that begin with clang were not run: there is no clang 14\n'
+printf '%s commands, %s differ, %s not run\n' "$total" "$differ" "$not_run"
 [ "$differ" -eq 0 ]

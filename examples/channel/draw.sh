@@ -1,63 +1,109 @@
 #!/bin/sh
-# Draws what an observer outside learns from interrupts: the time from a pulse to its handler, and the time at which the call is over, for a
-# pulse in each cycle of the call, for two secrets, with the same code as plain code and as a module.
+# Draws what an observer outside learns from interrupts: the time from a pulse to its handler, for a pulse in each cycle of the call, for two
+# secrets, with the same code as plain code and as a module. Below it, the instructions of the plain code.
 #     examples/channel/draw.sh [PROGRAM] > examples/channel/latency.svg
-# PROGRAM is what runs images, ../../sancus if it is left out. All that is drawn comes from traces.
+# PROGRAM is what runs images, ../../sancus if it is left out. All that is drawn comes from its output.
 here=$(dirname -- "$(readlink -f -- "$0")") || exit 1
 program=${1:-$here/../../sancus}
 schedule=$(mktemp) || exit 1
 trap 'rm -f "$schedule"' EXIT
+first=10
+last=28
 
-# The call is under way from cycle 11 on, and the byte that is sent after it in cycle 29 where nothing interrupts.
-for secret in 0 1; do
+# A line 'late KIND SECRET CYCLE CYCLES' for each pulse.
+latencies() {
     for kind in plain module; do
-        pulse=11
-        while [ "$pulse" -le 28 ]; do
+        pulse=$first
+        while [ "$pulse" -le "$last" ]; do
             printf '%s line 0 up\n' "$pulse" >"$schedule"
-            "$program" image "$here/${kind}_$secret.img" "$schedule" 120 |
-                awk -v kind="$kind" -v secret="$secret" -v pulse="$pulse" '
-                    $2 == "irq" { begins = $1 + 6 }
-                    $2 == "handler" { begins = $1 }
-                    $2 == "out" { over = $1 }
-                    END { print kind, secret, pulse, begins - pulse, over }' || exit 1
+            "$program" image "$here/${kind}_$1.img" "$schedule" 120 | awk -v what="late $kind $1 $pulse" -v pulse="$pulse" '
+                $2 == "irq" { begins = $1 + 6 }
+                $2 == "handler" { begins = $1 }
+                END { print what, begins - pulse }'
             pulse=$((pulse + 1))
         done
     done
-done | awk '
-    function x(pulse) { return 70 + (pulse - 11) * 22 }
-    function at(panel, value) { return panel == 1 ? 225 - (value - 6) * 20 : 505 - (value - 40) * 12 }
-    function axis(panel, low, high, step, label, v) {
-        for (v = low; v <= high; v += step) {
-            printf "<line x1=\"70\" x2=\"444\" y1=\"%d\" y2=\"%d\" stroke=\"#ddd\"/>\n", at(panel, v), at(panel, v)
-            printf "<text x=\"62\" y=\"%d\" text-anchor=\"end\">%d</text>\n", at(panel, v) + 4, v
+}
+
+# PC after so many cycles of the plain code.
+pc_after() {
+    "$program" image "$here/plain_$1.img" - "$2" | awk '{ print $4 }'
+}
+
+# A line 'runs SECRET CYCLE INSTRUCTION' for each cycle in which an instruction of the plain code begins: PC goes on in it.
+instructions() {
+    cycle=$first
+    pc=$(pc_after "$1" "$cycle")
+    while [ "$cycle" -le "$last" ]; do
+        next=$(pc_after "$1" "$((cycle + 1))")
+        [ "$pc" = "$next" ] ||
+            "$program" dis "$here/plain_$1.img" "$pc" 0400 | awk -v what="runs $1 $cycle" '
+                NR == 1 {
+                    text = substr($0, 7)
+                    while (text ~ /^[0-9a-f][0-9a-f][0-9a-f][0-9a-f] /) text = substr(text, 6)
+                    print what, text
+                }'
+        pc=$next
+        cycle=$((cycle + 1))
+    done
+}
+
+for secret in 0 1; do
+    latencies "$secret"
+    instructions "$secret"
+done | awk -v first="$first" -v last="$last" '
+    function x(cycle) { return 76 + (cycle - first) * 38 }
+    function y(cycles) { return 304 - (cycles - 5) * 30 }
+    function text(left, top, how, words) { printf "<text x=\"%d\" y=\"%d\" %s>%s</text>\n", left, top, how, words }
+    function line(x1, y1, x2, y2, how) { printf "<line x1=\"%d\" y1=\"%d\" x2=\"%d\" y2=\"%d\" %s/>\n", x1, y1, x2, y2, how }
+    # A curve in steps: a level for each cycle. In the first one the call is not fetched yet, so it is no cycle of the call.
+    function steps(kind, secret, how,    cycle, points) {
+        for (cycle = first + 1; cycle <= last; cycle++)
+            points = points x(cycle) "," y(late[kind, secret, cycle]) " " x(cycle + 1) "," y(late[kind, secret, cycle]) " "
+        printf "<polyline fill=\"none\" %s points=\"%s\"/>\n", how, points
+    }
+    # The instructions of one secret, each from the cycle in which it begins to the next one.
+    function row(secret, top, colour,    cycle, end) {
+        for (cycle = first; cycle <= last; cycle++) {
+            if (!((secret, cycle) in runs)) continue
+            for (end = cycle + 1; end <= last && !((secret, end) in runs); end++) ;
+            line(x(cycle) + 3, top, x(end) - 3, top, "stroke=\"" colour "\" stroke-width=\"3\"")
+            printf "<text transform=\"translate(%d %d) rotate(90)\" font-family=\"monospace\" font-size=\"11\">%s</text>\n", \
+                x(cycle) + 15, top + 8, runs[secret, cycle]
         }
-        printf "<text x=\"70\" y=\"%d\">%s</text>\n", at(panel, high) - 12, label
+        text(8, top + 4, "font-weight=\"bold\" fill=\"" colour "\"", "secret " secret)
     }
-    {
-        name = $1 " " $2
-        first[name] = first[name] x($3) "," at(1, $4) " "
-        second[name] = second[name] x($3) "," at(2, $5) " "
-    }
-    BEGIN {
-        print "<svg xmlns=\"http://www.w3.org/2000/svg\" width=\"720\" height=\"560\" font-family=\"sans-serif\" font-size=\"12\">"
-        print "<rect width=\"720\" height=\"560\" fill=\"white\"/>"
-        colour["plain 0"] = "#c0392b"; colour["plain 1"] = "#e08e0b"; colour["module 0"] = "#1f5fa8"; colour["module 1"] = "#1f5fa8"
-        label["plain 0"] = "plain code, secret 0"; label["plain 1"] = "plain code, secret 1"
-        label["module 0"] = "module, secret 0"; label["module 1"] = "module, secret 1"
-        dash["plain 1"] = "6 3"; dash["module 1"] = "2 4"
-        axis(1, 6, 14, 2, "cycles from the pulse to the first instruction of its handler")
-        axis(2, 40, 55, 5, "cycle in which the outside sees that the call is over")
-        for (pulse = 11; pulse <= 28; pulse += 2) printf "<text x=\"%d\" y=\"525\" text-anchor=\"middle\">%d</text>\n", x(pulse), pulse
-        print "<text x=\"70\" y=\"545\">cycle of the pulse</text>"
-    }
+    $1 == "late" { late[$2, $3, $4] = $5 }
+    $1 == "runs" { cycle = $3; secret = $2; sub(/^runs [0-9]+ [0-9]+ /, ""); gsub(/&/, "\\&amp;"); runs[secret, cycle] = $0 }
     END {
-        n = split("plain 0,plain 1,module 0,module 1", names, ",")
-        for (i = 1; i <= n; i++) {
-            name = names[i]
-            printf "<polyline fill=\"none\" stroke=\"%s\" stroke-width=\"2\" stroke-dasharray=\"%s\" points=\"%s\"/>\n", colour[name], dash[name], first[name]
-            printf "<polyline fill=\"none\" stroke=\"%s\" stroke-width=\"2\" stroke-dasharray=\"%s\" points=\"%s\"/>\n", colour[name], dash[name], second[name]
-            printf "<line x1=\"470\" x2=\"500\" y1=\"%d\" y2=\"%d\" stroke=\"%s\" stroke-width=\"2\" stroke-dasharray=\"%s\"/>\n", 60 + 20 * i, 60 + 20 * i, colour[name], dash[name]
-            printf "<text x=\"508\" y=\"%d\">%s</text>\n", 64 + 20 * i, label[name]
+        width = x(last + 1) + 20
+        print "<svg xmlns=\"http://www.w3.org/2000/svg\" width=\"" width "\" height=\"610\" font-family=\"sans-serif\" font-size=\"13\">"
+        print "<title>How long an interrupt waits, by the cycle in which it comes: plain code tells two secrets apart, a module does not</title>"
+        print "<rect width=\"" width "\" height=\"610\" fill=\"white\"/>"
+        text(8, 22, "font-size=\"15\" font-weight=\"bold\"", "Cycles from an interrupt to the first instruction of its handler")
+        for (cycle = first; cycle <= last; cycle++)
+            if (late["plain", 0, cycle] != late["plain", 1, cycle])
+                printf "<rect x=\"%d\" y=\"44\" width=\"38\" height=\"260\" fill=\"#fbe9d0\"/>\n", x(cycle)
+        for (level = 6; level <= 12; level += 2) {
+            line(x(first), y(level), x(last + 1), y(level), "stroke=\"#ddd\"")
+            text(x(first) - 10, y(level) + 5, "text-anchor=\"end\"", level)
         }
+        steps("module", 1, "stroke=\"#9cc3ee\" stroke-width=\"9\"")
+        steps("module", 0, "stroke=\"#1f4f8f\" stroke-width=\"2\"")
+        steps("plain", 1, "stroke=\"#e08e0b\" stroke-width=\"7\"")
+        steps("plain", 0, "stroke=\"#a52a1c\" stroke-width=\"2\"")
+        text(x(first) + 4, y(12) - 12, "fill=\"#1f4f8f\"", "module: secret 1 (wide) and secret 0 (narrow) wait alike, 12 cycles whatever runs")
+        text(x(first + 9) + 4, y(8) - 12, "fill=\"#a35f00\"", "plain code, secret 1 (wide)")
+        text(x(first + 9) + 4, y(8) + 4, "fill=\"#a52a1c\"", "plain code, secret 0 (narrow)")
+        for (cycle = first; cycle <= last; cycle++) {
+            text(x(cycle) + 19, 322, "text-anchor=\"middle\"", cycle)
+            if (late["plain", 0, cycle] == late["plain", 1, cycle]) continue
+            text(x(cycle) + 19, y(late["plain", 1, cycle]) - 9, "text-anchor=\"middle\" font-weight=\"bold\" fill=\"#a35f00\"", late["plain", 1, cycle])
+            text(x(cycle) + 19, y(late["plain", 0, cycle]) + 18, "text-anchor=\"middle\" font-weight=\"bold\" fill=\"#a52a1c\"", late["plain", 0, cycle])
+        }
+        text(8, 322, "", "in cycle")
+        text(8, 346, "font-weight=\"bold\"", "What the plain code runs in these cycles")
+        row(1, 362, "#e08e0b")
+        row(0, 490, "#a52a1c")
         print "</svg>"
     }'

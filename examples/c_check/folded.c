@@ -1,0 +1,22 @@
+/* The same, but that the secret is a plain static: the compiler sees that nothing changes it, and writes its value into the text. */
+#include "sancus.h"
+
+static __attribute__((section(".sm.vault.data"))) unsigned secret = 1;
+SM_BSS(vault) unsigned ones, zeros;
+
+SM_FUNCTION(vault) unsigned tick(unsigned unused)
+{
+    unsigned bit = secret & 1;
+    ones += bit;
+    zeros += 1 - bit;
+    return 0;
+}
+
+SM_START(0x0e00);
+
+int main(void)
+{
+    SM_CALL(0x1000, 0, 0);
+    for (;;)
+        ;
+}
