@@ -64,7 +64,7 @@ def timed(program, path, out):
     return time.monotonic() - start
 
 
-def main(program, runs=3):
+def main(program="crates/sm_main/out/sm_main", runs=3):
     with tempfile.TemporaryDirectory() as folder:
         path, out = os.path.join(folder, "case.s"), os.path.join(folder, "case.o")
         for name, lines in CASES.items():

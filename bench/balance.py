@@ -41,7 +41,8 @@ def counted(program, folder, made):
 
 
 def main():
-    program, count = sys.argv[1], int(sys.argv[2]) if len(sys.argv) > 2 else 2_000
+    program = sys.argv[1] if len(sys.argv) > 1 else "crates/sm_main/out/sm_main"
+    count = int(sys.argv[2]) if len(sys.argv) > 2 else 2_000
     with tempfile.TemporaryDirectory() as folder:
         for kind in sys.argv[3:] or KINDS:
             make = KINDS[kind]

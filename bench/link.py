@@ -163,7 +163,7 @@ def measure(program, lld, folder, case, runs):
 
 
 def main():
-    program = sys.argv[1]
+    program = sys.argv[1] if len(sys.argv) > 1 else "crates/sm_main/out/sm_main"
     runs = int(sys.argv[2]) if len(sys.argv) > 2 else 3
     lld = shutil.which("ld.lld")
     with tempfile.TemporaryDirectory() as folder:

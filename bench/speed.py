@@ -89,7 +89,8 @@ def seconds(command):
 
 
 def main():
-    program, runs = sys.argv[1], int(sys.argv[2]) if len(sys.argv) > 2 else 5
+    program = sys.argv[1] if len(sys.argv) > 1 else "crates/sm_main/out/sm_main"
+    runs = int(sys.argv[2]) if len(sys.argv) > 2 else 5
     with tempfile.TemporaryDirectory() as folder:
         for name, (pieces, module, end, cycles) in PROGRAMS.items():
             cells = memory(pieces)

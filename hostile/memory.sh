@@ -4,7 +4,7 @@
 # PROGRAM is the built `sancus` (crates/sm_main/out/sm_main). Needs a C compiler and a C library that lets malloc be replaced. A line a
 # command: how many allocations it makes, and how many of them, refused, were told. The last line is 'N refusals, M wrong'.
 here=$(dirname -- "$(readlink -f -- "$0")") || exit 1
-program=$(readlink -f -- "$1") || exit 1
+program=$(readlink -f -- "${1:-$here/../crates/sm_main/out/sm_main}") || exit 1
 room=$(mktemp -d) || exit 1
 trap 'rm -rf "$room"' EXIT
 cc -shared -fPIC -O1 -o "$room/refuse.so" "$here/refuse.c" -ldl || exit 1

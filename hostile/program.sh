@@ -4,7 +4,7 @@
 # PROGRAM is the built `sancus` (crates/sm_main/out/sm_main). The last line is 'N cases, M wrong'. Run as a user who is not root, or the unreadable
 # file is left out.
 here=$(dirname -- "$(readlink -f -- "$0")") || exit 1
-program=$(readlink -f -- "$1") || exit 1
+program=$(readlink -f -- "${1:-$here/../crates/sm_main/out/sm_main}") || exit 1
 examples=$here/../examples
 room=$(mktemp -d) || exit 1
 trap 'rm -rf "$room"' EXIT

@@ -6,8 +6,8 @@
 # script and its last line. What else each says is in a log, which is named where the status is not 0. CASES (2000) is how many cases
 # linking has.
 here=$(dirname -- "$(readlink -f -- "$0")") || exit 1
-program=$(readlink -f -- "$1") || exit 1
-shift
+program=$(readlink -f -- "${1:-$here/../crates/sm_main/out/sm_main}") || exit 1
+[ $# -eq 0 ] || shift
 room=$(mktemp -d) || exit 1
 failed=0
 

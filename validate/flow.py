@@ -102,7 +102,8 @@ def runs_differ(program, folder, rng, words):
 
 
 def main():
-    program, wanted = sys.argv[1], int(sys.argv[2]) if len(sys.argv) > 2 else 1000
+    program = sys.argv[1] if len(sys.argv) > 1 else machine.BUILT
+    wanted = int(sys.argv[2]) if len(sys.argv) > 2 else 1000
     rng = random.Random(int(sys.argv[3]) if len(sys.argv) > 3 else 1)
     tried, accepted, wrong, ended = 0, 0, [], {}
     with tempfile.TemporaryDirectory() as folder:

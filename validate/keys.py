@@ -70,7 +70,8 @@ def tag_cases(program, folder):
 
 
 def main():
-    program, count = sys.argv[1], int(sys.argv[2]) if len(sys.argv) > 2 else 200
+    program = sys.argv[1] if len(sys.argv) > 1 else machine.BUILT
+    count = int(sys.argv[2]) if len(sys.argv) > 2 else 200
     with tempfile.TemporaryDirectory() as folder:
         keys, wrong_keys = key_cases(program, folder, random.Random(1), count)
         tags, wrong_tags = tag_cases(program, folder)

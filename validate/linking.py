@@ -136,7 +136,8 @@ def elf_memory(data):
 
 
 def main():
-    program, count = sys.argv[1], int(sys.argv[2]) if len(sys.argv) > 2 else 300
+    program = sys.argv[1] if len(sys.argv) > 1 else machine.BUILT
+    count = int(sys.argv[2]) if len(sys.argv) > 2 else 300
     rng, both_refuse, linked, wrong = random.Random(int(sys.argv[3]) if len(sys.argv) > 3 else 1), 0, 0, []
     with tempfile.TemporaryDirectory() as folder:
         path = lambda name: os.path.join(folder, name)

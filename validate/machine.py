@@ -3,6 +3,9 @@ import os
 import re
 import subprocess
 
+# What the scripts take for PROGRAM where none is named: the program that was built here.
+BUILT = os.path.join(os.path.dirname(os.path.abspath(__file__)), "..", "crates", "sm_main", "out", "sm_main")
+
 MEMORY = 65536
 FIRST_ROW, RESET_VECTOR = 0x0200, 0xFFFE
 

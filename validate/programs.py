@@ -106,7 +106,7 @@ def differences(program, folder, name, level):
 
 
 def main():
-    program, cases, wrong = sys.argv[1], 0, []
+    program, cases, wrong = sys.argv[1] if len(sys.argv) > 1 else machine.BUILT, 0, []
     with tempfile.TemporaryDirectory() as folder:
         write(folder, "layout.toml", linking.LAYOUT)
         write(folder, "script.ld", linking.SCRIPT.replace("*(.text*)", "*(.text* .rodata*)"))
