@@ -127,14 +127,14 @@ function number(label, value) {
 }
 
 // The timeline of a trace, with two fields for the cycles that it shows.
-async function timeline(text, title, width) {
+async function timeline(text, width) {
   const box = element("div", "", "picture");
   const last = Number(/^end (\d+)/m.exec(text)?.[1] ?? 0);
   const [fromLabel, from] = number("Cycles from", 0);
   const [toLabel, to] = number("to", last);
   const map = await names();
   const draw = () => {
-    box.innerHTML = svg(text, { title, names: map, width, from: Number(from.value), to: Number(to.value) });
+    box.innerHTML = svg(text, { title: "Timeline", names: map, width, from: Number(from.value), to: Number(to.value) });
   };
   draw();
   const form = element("form");
@@ -165,7 +165,7 @@ async function showRun(line, to, ran) {
   box.append(endingOf(ran, to));
   part("runs").prepend(box);
   if (text && isTrace(text) && /^end /m.test(text)) {
-    box.append(...comparison(text), ...await timeline(text, line.split(" > ")[0], box.clientWidth));
+    box.append(...comparison(text), ...await timeline(text, box.clientWidth));
   }
 }
 

@@ -48,9 +48,14 @@ export function spans(lines) {
   let lane = 0;
   let kind = "outside";
   let since = 0;
-  const change = (cycle, nextLane, nextKind) => {
+  const finish = (cycle) => {
     if (cycle > since) found.push({ lane, from: since, to: cycle, kind });
-    [lane, kind, since] = [nextLane, nextKind, Math.max(cycle, since)];
+    since = Math.max(cycle, since);
+  };
+  const change = (cycle, nextLane, nextKind) => {
+    if (nextLane === lane && nextKind === kind) return;
+    finish(cycle);
+    [lane, kind] = [nextLane, nextKind];
   };
   const outside = () => (frames.length ? "open" : "outside");
   const last = lines.at(-1)?.cycle ?? 0;
@@ -82,11 +87,9 @@ export function spans(lines) {
       case "reti":
         change(Math.min(cycle + RETURN, last), 0, (frames.pop(), outside()));
         break;
-      case "stop":
-      case "end":
-        change(cycle, lane, kind);
     }
   }
+  finish(last);
   for (const frame of frames) if (frame.id) found.push({ lane: frame.id, from: frame.from, to: last, kind: "held" });
   return found;
 }
@@ -97,7 +100,7 @@ export function firstDifference(one, other) {
   const b = other.split("\n");
   for (let at = 0; at < Math.max(a.length, b.length); at++) {
     if (a[at] === b[at]) continue;
-    const cycles = [a[at], b[at]].map((line) => line && readLine(line)?.cycle).filter((cycle) => cycle !== undefined);
+    const cycles = [a[at], b[at]].map((line) => readLine(line ?? "")?.cycle).filter((cycle) => cycle !== undefined);
     return { line: at + 1, cycle: cycles.length ? Math.min(...cycles) : null, a: a[at] ?? null, b: b[at] ?? null };
   }
   return null;
@@ -129,9 +132,10 @@ const TELLS = {
 const STYLE = `
 .t{font:12px sans-serif;color:#1b1f24;background:#fff}.t text{fill:currentColor}.t .axis{stroke:#8a929b;stroke-width:1}
 .t .outside{fill:#7d8792}.t .open{fill:#b45f06}.t .accept{fill:#c0392b}.t .padding{fill:#c3c9d0}.t .active{fill:#1f5fa8}.t .held{fill:#9dbfe4}
+.t .padding,.t .held{stroke:#6b747e;stroke-width:.8}
 .t .mark{stroke:#c0392b;stroke-width:1.5}.t .stop{stroke:currentColor;stroke-width:2}.t .first{fill:#ffe08a}
 @media (prefers-color-scheme:dark){.t{color:#e4e7eb;background:#15181c}.t .outside{fill:#8b95a1}.t .open{fill:#e59b3c}.t .accept{fill:#ff7b6b}
-.t .padding{fill:#4a525b}.t .active{fill:#5b9fe6}.t .held{fill:#2c4c6e}.t .mark{stroke:#ff7b6b}.t .first{fill:#6b5710}}`;
+.t .padding{fill:#4a525b}.t .active{fill:#5b9fe6}.t .held{fill:#2c4c6e}.t .padding,.t .held{stroke:#98a2ad}.t .mark{stroke:#ff7b6b}.t .first{fill:#6b5710}}`;
 const ROW = 30;
 const BAR = 20;
 const TOP = 44;
