@@ -18,7 +18,8 @@ const COMMANDS = [
   "key examples/attestation/tagger.img 1",
   "challenge examples/attestation/challenges.txt > schedule.txt",
   "image examples/attestation/tagger.img schedule.txt 9500 > trace.txt",
-  "vendor examples/attestation/tagger.img 1 4288d2bf49ac628155a630f7dab1d6da examples/attestation/challenges.txt trace.txt",
+  "vendor examples/attestation/tagger.img 1 4288d2bf49ac628155a630f7dab1d6da"
+    + " examples/attestation/challenges.txt trace.txt",
   "make 1",
 ];
 const MOST_LINES = 2000;
@@ -153,7 +154,8 @@ function comparison(text) {
   if (!compared) return [];
   const cycle = found?.cycle === null ? "" : `, cycle ${found?.cycle}`;
   return [element("p", found
-    ? `The trace before this one differs first in line ${found.line}${cycle}: “${found.a ?? ""}” there, “${found.b ?? ""}” here`
+    ? `The trace before this one differs first in line ${found.line}${cycle}: “${found.a ?? ""}”`
+      + ` there, “${found.b ?? ""}” here`
     : "The trace before this one is the same", "ended")];
 }
 
@@ -173,9 +175,10 @@ async function runLine(line) {
   const { words, to, fault } = commandOf(line);
   if (fault) return void (part("state").textContent = fault);
   const begun = performance.now();
+  const seconds = () => `${((performance.now() - begun) / 1000).toFixed(2)} s`;
   let lines = 0;
   const tell = () => {
-    part("state").textContent = `Running: ${lines.toLocaleString("en")} lines so far, ${((performance.now() - begun) / 1000).toFixed(1)} s`;
+    part("state").textContent = `Running: ${lines.toLocaleString("en")} lines so far, ${seconds()}`;
   };
   const clock = setInterval(tell, 200);
   part("end").disabled = false;
@@ -184,7 +187,7 @@ async function runLine(line) {
   clearInterval(clock);
   part("end").disabled = true;
   part("go").disabled = false;
-  part("state").textContent = `Done in ${((performance.now() - begun) / 1000).toFixed(2)} s`;
+  part("state").textContent = `Done in ${seconds()}`;
   if (to && !ran.trap && !ran.ended) {
     files.put(to, ran.out);
     listFiles();

@@ -1,9 +1,9 @@
 #!/bin/sh
 # Makes the program's module for WebAssembly from its proved build.
 #     web/build.sh [OUT]
-# OUT is release/sancus.wasm where it is left out. `rattle build` proves and builds the program over the proved libraries that stand in out/,
-# with a toolchain whose clang keeps the LLVM module that it is given. Where the program that comes of it is the one that ./sancus runs, byte
-# by byte, that module is rewritten for wasm32 and compiled.
+# OUT is release/sancus.wasm where it is left out. `rattle build` proves and builds the program over the proved
+# libraries that stand in out/, with a toolchain whose clang keeps the LLVM module that it is given. Where the program
+# that comes of it is the one that ./sancus runs, byte by byte, that module is rewritten for wasm32 and compiled.
 set -eu
 here=$(dirname -- "$(readlink -f -- "$0")")
 top=$(dirname -- "$here")
@@ -37,7 +37,8 @@ named() {
 
 # The program, built with the toolchain in the room.
 build() {
-    set -- --crate-name sm_main src/main.rt --backend llvm --toolchain "$room/toolchain" -o "$room/sm_main.o" --links sm_main= \
+    set -- --crate-name sm_main src/main.rt --links sm_main= \
+        --backend llvm --toolchain "$room/toolchain" -o "$room/sm_main.o" \
         --antt-project "$kit/rattle/logic/antt-project.json" --logic-built "$kit/logic_built" \
         --extern "std=$kit/rlibs/std.rlib" -L "dependency=$kit/rlibs"
     for crate in $(named); do
@@ -47,14 +48,18 @@ build() {
     done
     for crate in $(parts); do
         [ "$crate" = sm_main ] && continue
-        [ -e "$top/crates/$crate/out/rlib/$crate.rlib/format" ] || stop "no proved library $crate stands in crates/$crate/out: \`rt run\` in crates/sm_main makes it"
-        set -- "$@" -L "dependency=$top/crates/$crate/out/rlib"
+        library=$top/crates/$crate/out/rlib
+        [ -e "$library/$crate.rlib/format" ] ||
+            stop "no proved library in $library: \`rt run\` in crates/sm_main makes it"
+        set -- "$@" -L "dependency=$library"
     done
     cd "$top/crates/sm_main"
-    "$kit/bin/rattle" build "$@" >"$room/log" 2>&1 || stop "the program is not proved, or could not be built: $(tail -n 1 "$room/log")"
+    "$kit/bin/rattle" build "$@" >"$room/log" 2>&1 ||
+        stop "the program is not proved and built: $(tail -n 1 "$room/log")"
     grep -q '^logic=proved ' "$room/log" || stop "rattle build does not say that the program is proved"
-    "$kit/bin/rattle-link" --target x86_64-unknown-linux-gnu --toolchain "$kit/toolchain" -o "$room/sm_main" "$room/sm_main.o" \
-        "$kit/c/libos_c.a" "$kit/c/liblibc_c.a" >"$room/log" 2>&1 || stop "the program could not be linked: $(tail -n 1 "$room/log")"
+    "$kit/bin/rattle-link" --target x86_64-unknown-linux-gnu --toolchain "$kit/toolchain" -o "$room/sm_main" \
+        "$room/sm_main.o" "$kit/c/libos_c.a" "$kit/c/liblibc_c.a" >"$room/log" 2>&1 ||
+        stop "the program could not be linked: $(tail -n 1 "$room/log")"
 }
 
 # The module that was kept, if it is the only one.
@@ -70,11 +75,12 @@ compile() {
         -x ir "$1" -o "$room/module.ll"
     "$here/to32.py" "$room/module.ll" "$room/module32.ll" >&2
     # shellcheck disable=SC2086
-    "$tools/clang" $wasm -mllvm -trap-unreachable -ffunction-sections -fdata-sections -O2 -c -x ir "$room/module32.ll" -o "$room/program.o"
+    "$tools/clang" $wasm -mllvm -trap-unreachable -ffunction-sections -fdata-sections -O2 \
+        -c -x ir "$room/module32.ll" -o "$room/program.o"
     # shellcheck disable=SC2086
     "$tools/clang" $wasm -ffreestanding -fno-builtin -nostdinc -Wall -Werror -O2 -c "$here/libc.c" -o "$room/libc.o"
-    "$tools/ld.lld" -flavor wasm -m wasm32 --no-entry -z stack-size=8388608 --stack-first --gc-sections --strip-all -O2 \
-        -o "$room/sancus.wasm" "$room/program.o" "$room/libc.o"
+    "$tools/ld.lld" -flavor wasm -m wasm32 --no-entry -z stack-size=8388608 --stack-first --gc-sections --strip-all \
+        -O2 -o "$room/sancus.wasm" "$room/program.o" "$room/libc.o"
 }
 
 "$top/sancus" image "$top/examples/first.img" - 0 >/dev/null || stop "no proved program stands"
@@ -88,7 +94,8 @@ done
 ln -s "$tools/clang" "$room/clang"
 ln -sf "$here/clang" "$room/toolchain/bin/clang"
 build
-cmp -s "$room/sm_main" "$top/crates/sm_main/out/sm_main" || stop "the build is not the program that stands in crates/sm_main/out"
+cmp -s "$room/sm_main" "$top/crates/sm_main/out/sm_main" ||
+    stop "the build is not the program that stands in crates/sm_main/out"
 compile "$(kept_module)"
 mkdir -p "$(dirname -- "$out")"
 mv -- "$room/sancus.wasm" "$out"

@@ -1,8 +1,10 @@
 #!/bin/sh
-# Runs what the pages show, and more, by the module and by the native program, in Node and in a headless Chromium, and compares.
+# Runs what the pages show, and more, by the module and by the native program, in Node and in a headless Chromium, and
+# compares.
 #     web/check.sh [--build] [PROGRAM]
-# PROGRAM is ../sancus where it is left out. --build makes the module again (web/build.sh) and compares it with release/sancus.wasm.
-# PICTURES=FOLDER keeps pictures of the pages. What cannot be run here is told; the last line is 'N passed, M failed, K not run'.
+# PROGRAM is ../sancus where it is left out. --build makes the module again (web/build.sh) and compares it with
+# release/sancus.wasm. PICTURES=FOLDER keeps pictures of the pages. What cannot be run here is told; the last line is
+# 'N passed, M failed, K not run'.
 here=$(dirname -- "$(readlink -f -- "$0")") || exit 1
 top=$(dirname -- "$here")
 module=$top/release/sancus.wasm

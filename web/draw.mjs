@@ -2,7 +2,8 @@
 // The timeline of a trace as a picture, or the first difference of two traces.
 //     web/draw.mjs TRACE [MAP] > FILE.svg
 //     web/draw.mjs --difference TRACE TRACE
-// MAP is a file that begins with `sancus-map 1`; it gives names to the modules. The status is 1 where two traces differ.
+// MAP is a file that begins with `sancus-map 1`; it gives names to the modules. The status is 1 where two traces
+// differ.
 import { readFileSync } from "node:fs";
 import { firstDifference, readMap, svg } from "./trace.mjs";
 

@@ -1,4 +1,5 @@
-// The page's files by name: those of the examples, which are fetched when a command first names them, and those that the reader adds.
+// The page's files by name: those of the examples, which are fetched when a command first names them, and those that
+// the reader adds.
 import { plainName } from "./host.mjs";
 
 export class Files {

@@ -1,4 +1,5 @@
-// What the program's module asks of its host: its words, files by name, two streams. One instance is one run, as one process natively.
+// What the program's module asks of its host: its words, files by name, two streams. One instance is one run, as one
+// process natively.
 const STREAMS = [1, 2];
 
 // A name as the files have it: `./` and `..` as a system would take them.
@@ -13,7 +14,8 @@ export function plainName(name) {
 
 const isFolder = (files, name) => Object.keys(files).some((file) => file.startsWith(`${name}/`));
 
-// Runs the compiled module on words and files ({name: Uint8Array}); `put(stream, bytes)` takes what is written. The status is returned.
+// Runs the compiled module on words and files ({name: Uint8Array}); `put(stream, bytes)` takes what is written. The
+// status is returned.
 export async function run(module, words, files, put) {
   const encoded = ["sancus", ...words].map((word) => new TextEncoder().encode(word));
   const opened = [];

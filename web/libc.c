@@ -1,4 +1,5 @@
-// What the program asks of a C library, for WebAssembly: a heap, files and streams by the host, its words. Nothing here is proved.
+// What the program asks of a C library, for WebAssembly: a heap, files and streams by the host, its words. Nothing
+// here is proved.
 typedef unsigned char u8;
 typedef unsigned long long u64;
 typedef long long i64;
@@ -107,8 +108,9 @@ void rattle_dealloc(u8 *place) {
 }
 
 struct Tried rattle_realloc(u8 *place, u64 kept, u64 size, u64 align) {
-  if (place > NOTHING && size + HEADER <= 1ull << block_of(place)->power) return (struct Tried){1, (unsigned long)place};
-  struct Tried tried = rattle_alloc(size, align);
+  struct Tried tried = {1, (unsigned long)place};
+  if (place > NOTHING && size + HEADER <= 1ull << block_of(place)->power) return tried;
+  tried = rattle_alloc(size, align);
   if (!tried.is_had) return tried;
   __builtin_memcpy((u8 *)(unsigned long)tried.place, place, kept < size ? kept : size);
   rattle_dealloc(place);

@@ -12,10 +12,11 @@ import { Native } from "./check/native.mjs";
 const top = fileURLToPath(new URL("../", import.meta.url));
 const RUNS = 3;
 const row = (at, bytes) => `at ${at} ${bytes.padEnd(32, "0")}\n`;
-const image = (code, module = "") => `sancus-image 1\nkey ${"0".repeat(32)}\nhandler 0000\n${module}${code}${row("fff0", "0".repeat(28) + "0002")}end\n`;
+const HEAD = `sancus-image 1\nkey ${"0".repeat(32)}\nhandler 0000\n`;
+const image = (code) => `${HEAD}${row("0200", code)}${row("fff0", `${"0".repeat(28)}0002`)}end\n`;
 // Two nested loops of a decrement and a jump, for ever; a byte sent every seven cycles.
-const BUSY = image(row("0200", "3640ffff1683fe23fb3f"));
-const SENDER = image(row("0200", "f2402a007100fc3f"));
+const BUSY = image("3640ffff1683fe23fb3f");
+const SENDER = image("f2402a007100fc3f");
 const LINES = [
   ["10^7 cycles of two loops", "image busy.img - 10000000"],
   ["10^6 cycles, a line each 7", "image sender.img - 1000000"],
@@ -45,13 +46,15 @@ const module = await WebAssembly.compile(bytes);
 const native = new Native(program);
 for (const name in files) native.put(name, files[name]);
 const commit = spawnSync("git", ["-C", top, "rev-parse", "--short", "HEAD"]).stdout.toString().trim();
-console.log(`${new Date().toISOString().slice(0, 16)}Z, commit ${commit}, ${cpus()[0].model}, ${cpus().length} processors, load ${loadavg()[0].toFixed(1)}, node ${process.version}`);
+const machine = `${cpus()[0].model}, ${cpus().length} processors, load ${loadavg()[0].toFixed(1)}`;
+console.log(`${new Date().toISOString().slice(0, 16)}Z, commit ${commit}, ${machine}, node ${process.version}`);
 console.log(`release/sancus.wasm: ${bytes.length} bytes, ${gzipSync(bytes, { level: 9 }).length} with gzip`);
-console.log(`\nleast of ${RUNS} runs, ms${" ".repeat(22)}module  native  ratio`);
+console.log(`\nleast of ${RUNS} runs, ms${" ".repeat(22)}  module  native   ratio`);
 for (const [what, line] of LINES) {
   const words = line.split(" ");
   const ours = await least(() => collect(module, words, files));
   const theirs = await least(() => native.run(words));
-  console.log(`${what.padEnd(42)}${ours.toFixed(0).padStart(7)}${theirs.toFixed(0).padStart(8)}${(ours / theirs).toFixed(1).padStart(7)}`);
+  const numbers = [ours.toFixed(0), theirs.toFixed(0), (ours / theirs).toFixed(1)];
+  console.log(what.padEnd(42) + numbers.map((it) => it.padStart(8)).join(""));
 }
 native.close();

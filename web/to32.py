@@ -3,8 +3,9 @@
 
     to32.py MODULE.ll OUT.ll
 
-The program reckons sizes and offsets with pointers of 8 bytes. So each pointer in memory keeps 8 bytes, of which the upper four are 0, and
-nothing moves. A line of a form that is not known here ends the work: it is told, and no file is left.
+The program reckons sizes and offsets with pointers of 8 bytes. So each pointer in memory keeps 8 bytes, of which the
+upper four are 0, and nothing moves. A line of a form that is not known here ends the work: it is told, and no file
+is left.
 """
 import itertools
 import os
@@ -46,7 +47,8 @@ class Rewriter:
             (rf"  store ptr {VALUE}, {PLACE}$", self.store),
             (rf"  (\S+) = load \{{ (i\d+|ptr), (i\d+|ptr) \}}, {PLACE}$", self.load_pair),
             (r"  (\S+) = alloca ptr, align (\d+)$", lambda name, align: [f"  {name} = alloca i64, align {align}"]),
-            (r"  (\S+) = ptrto(?:addr|int) ptr (\S+) to i64$", lambda name, it: [f"  {name} = ptrtoint ptr {it} to i64"]),
+            (r"  (\S+) = ptrto(?:addr|int) ptr (\S+) to i64$",
+             lambda name, it: [f"  {name} = ptrtoint ptr {it} to i64"]),
             (rf"  call void @llvm\.memset\.p0\.i64\(ptr {VALUE}, i8 ([^,]+), i64 ([^,]+), i1 false\)$", self.fill),
             (rf"  call void @llvm\.(memmove|memcpy)\.p0\.p0\.i64\(ptr {VALUE}, ptr {VALUE}, i64 ([^,]+), i1 false\)$",
              self.move),
@@ -145,13 +147,12 @@ def heading(line):
     if line.startswith("declare") and "@llvm.mem" in line:
         return line.replace(".i64(", ".i32(").replace(", i64, i1", ", i32, i1")
     if line.startswith("attributes"):
-        for word in (' "probe-stack"="inline-asm"', r' "stack-probe-size"="\d+"', r' "target-cpu"="[^"]*"', r' "target-features"="[^"]*"'):
-            line = re.sub(word, "", line)
+        line = re.sub(r' "(?:probe-stack|stack-probe-size|target-cpu|target-features)"="[^"]*"', "", line)
     return line
 
 
 def start(lines):
-    """The start for x86-64 asks for signals and the processor's kind, and then calls the program: here it is only called."""
+    """The start for x86-64 asks for signals and the processor's kind first: here it only calls the program."""
     body = list(itertools.takewhile(lambda line: line != "}\n", lines))
     calls = [line for line in body if re.match(r'  %\w+ = call i32 @"\w+::main\+start"\(\)$', line)]
     if len(calls) != 1:

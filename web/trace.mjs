@@ -1,5 +1,5 @@
-// Outside traces as timelines: for the pages and for draw.mjs. Whatever is drawn is told by the trace's lines, and by three fixed times of
-// the machine: 6 cycles from an `irq` to its handler, 12 from a `hide`, 5 for RETI.
+// Outside traces as timelines: for the pages and for draw.mjs. Whatever is drawn is told by the trace's lines, and by
+// three fixed times of the machine: 6 cycles from an `irq` to its handler, 12 from a `hide`, 5 for RETI.
 const FORMS = {
   resume: /^(\d+) resume (\d+)$/,
   close: /^(\d+) close (\d+)$/,
@@ -38,10 +38,12 @@ export function read(text) {
   return lines;
 }
 
-export const isTrace = (text) => /^(\d+ [a-z]|end \d)/.test(text) && readLine(text.slice(0, text.indexOf("\n"))) !== null;
+// Whether a text begins as a trace.
+export const isTrace = (text) => readLine(text.slice(0, text.indexOf("\n"))) !== null;
 
-// Spans {lane, from, to, kind}: lane 0 is the outside, a module's lane its id. Kinds: `outside`; `open`, outside after an interrupt of which no
-// return was told; `accept`; `padding`; `active`, a module; `held`, a module whose registers are put away.
+// Spans {lane, from, to, kind}: lane 0 is the outside, a module's lane its id. Kinds: `outside`; `open`, outside
+// after an interrupt of which no return was told; `accept`; `padding`; `active`, a module; `held`, a module whose
+// registers are put away.
 export function spans(lines) {
   const found = [];
   const frames = [];
@@ -94,7 +96,8 @@ export function spans(lines) {
   return found;
 }
 
-// The first line in which two traces differ, {line, cycle, a, b}, with null where a text has no such line; null where the texts are equal.
+// The first line in which two traces differ, {line, cycle, a, b}, with null where a text has no such line; null where
+// the texts are equal.
 export function firstDifference(one, other) {
   const a = one.split("\n");
   const b = other.split("\n");
@@ -131,11 +134,14 @@ const TELLS = {
 };
 const STYLE = `
 .t{font:12px sans-serif;color:#1b1f24;background:#fff}.t text{fill:currentColor}.t .axis{stroke:#8a929b;stroke-width:1}
-.t .outside{fill:#7d8792}.t .open{fill:#b45f06}.t .accept{fill:#c0392b}.t .padding{fill:#c3c9d0}.t .active{fill:#1f5fa8}.t .held{fill:#9dbfe4}
+.t .outside{fill:#7d8792}.t .open{fill:#b45f06}.t .accept{fill:#c0392b}
+.t .padding{fill:#c3c9d0}.t .active{fill:#1f5fa8}.t .held{fill:#9dbfe4}
 .t .padding,.t .held{stroke:#6b747e;stroke-width:.8}
 .t .mark{stroke:#c0392b;stroke-width:1.5}.t .stop{stroke:currentColor;stroke-width:2}.t .first{fill:#ffe08a}
-@media (prefers-color-scheme:dark){.t{color:#e4e7eb;background:#15181c}.t .outside{fill:#8b95a1}.t .open{fill:#e59b3c}.t .accept{fill:#ff7b6b}
-.t .padding{fill:#4a525b}.t .active{fill:#5b9fe6}.t .held{fill:#2c4c6e}.t .padding,.t .held{stroke:#98a2ad}.t .mark{stroke:#ff7b6b}.t .first{fill:#6b5710}}`;
+@media (prefers-color-scheme:dark){.t{color:#e4e7eb;background:#15181c}
+.t .outside{fill:#8b95a1}.t .open{fill:#e59b3c}.t .accept{fill:#ff7b6b}
+.t .padding{fill:#4a525b}.t .active{fill:#5b9fe6}.t .held{fill:#2c4c6e}
+.t .padding,.t .held{stroke:#98a2ad}.t .mark{stroke:#ff7b6b}.t .first{fill:#6b5710}}`;
 const ROW = 30;
 const BAR = 20;
 const TOP = 44;
@@ -192,7 +198,8 @@ class Picture {
     const x = this.x(from);
     const wide = Math.max(this.x(to) - x, 0.8).toFixed(1);
     const [y, high] = kind === "held" ? [this.y(lane) + 7, BAR - 14] : [this.y(lane), BAR];
-    return `<rect class="${kind}" x="${x}" y="${y}" width="${wide}" height="${high}"><title>${TELLS[kind]}, ${from} to ${to}</title></rect>`;
+    const tip = `<title>${TELLS[kind]}, ${from} to ${to}</title>`;
+    return `<rect class="${kind}" x="${x}" y="${y}" width="${wide}" height="${high}">${tip}</rect>`;
   }
 
   // What a mark is called: the interrupt's vector, the byte, the rule.
@@ -217,7 +224,8 @@ class Picture {
       const text = at - half < free ? "" : `<text x="${at}" y="${y}" text-anchor="middle">${label}</text>`;
       if (text) free = at + half + 4;
       const sort = line.kind === "stop" ? "stop" : "mark";
-      return `<g><title>${this.tip(line)}</title><line class="${sort}" x1="${x}" x2="${x}" y1="${top}" y2="${bottom}"/>${text}</g>`;
+      const mark = `<line class="${sort}" x1="${x}" x2="${x}" y1="${top}" y2="${bottom}"/>`;
+      return `<g><title>${this.tip(line)}</title>${mark}${text}</g>`;
     });
   }
 
@@ -227,7 +235,8 @@ class Picture {
     const parts = [`<line class="axis" x1="${this.left}" x2="${this.right}" y1="${y}" y2="${y}"/>`];
     for (let cycle = Math.ceil(this.from / step) * step; cycle <= this.to; cycle += step) {
       const x = this.x(cycle);
-      parts.push(`<line class="axis" x1="${x}" x2="${x}" y1="${y}" y2="${y + 4}"/><text x="${x}" y="${y + 17}" text-anchor="middle">${cycle}</text>`);
+      parts.push(`<line class="axis" x1="${x}" x2="${x}" y1="${y}" y2="${y + 4}"/>`);
+      parts.push(`<text x="${x}" y="${y + 17}" text-anchor="middle">${cycle}</text>`);
     }
     return parts;
   }
@@ -235,7 +244,8 @@ class Picture {
   // Where two traces differ first.
   difference() {
     if (this.first === null || this.first < this.from || this.first > this.to) return [];
-    return [`<rect class="first" x="${this.x(this.first) - 4}" y="${TOP - 6}" width="8" height="${this.height - TOP - 16}"/>`];
+    const x = this.x(this.first) - 4;
+    return [`<rect class="first" x="${x}" y="${TOP - 6}" width="8" height="${this.height - TOP - 16}"/>`];
   }
 
   toString() {
@@ -251,8 +261,8 @@ class Picture {
         ...this.axis(),
       ];
     return [
-      `<svg xmlns="http://www.w3.org/2000/svg" class="t" role="img" aria-label="${escape(this.title || "Timeline")}" width="${this.width}"`
-        + ` height="${this.height}" viewBox="0 0 ${this.width} ${this.height}">`,
+      `<svg xmlns="http://www.w3.org/2000/svg" class="t" role="img" aria-label="${escape(this.title || "Timeline")}"`
+        + ` width="${this.width}" height="${this.height}" viewBox="0 0 ${this.width} ${this.height}">`,
       `<style>${STYLE}</style>`,
       `<text x="6" y="16" font-weight="bold">${escape(this.title)}</text>`,
       ...body,

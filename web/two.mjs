@@ -24,7 +24,9 @@ async function traces(kind, cycle) {
   if (!known.has(key)) {
     const schedule = { pulse: new TextEncoder().encode(`${cycle} line 0 up\n`) };
     const both = [];
-    for (const secret of SECRETS) both.push(await output(["image", image(kind, secret), "pulse", String(CYCLES)], schedule));
+    for (const secret of SECRETS) {
+      both.push(await output(["image", image(kind, secret), "pulse", String(CYCLES)], schedule));
+    }
     known.set(key, both);
   }
   return known.get(key);
@@ -43,7 +45,9 @@ function showTraces(kind, both, found) {
     const list = element("pre", "");
     list.tabIndex = 0;
     list.setAttribute("aria-label", `Trace of secret ${secret}`);
-    text.trimEnd().split("\n").forEach((line, at) => list.append(element("span", line, at + 1 === found?.line ? "differs" : "")));
+    text.trimEnd().split("\n").forEach((line, at) => {
+      list.append(element("span", line, at + 1 === found?.line ? "differs" : ""));
+    });
     box.append(element("h3", `Trace of secret ${secret}`), list);
     return box;
   }));
@@ -58,10 +62,13 @@ function show(kind, cycle, both) {
     : "Nothing shows: the two traces are equal.";
   for (const secret of SECRETS) {
     const place = part(`${kind}-${secret}`);
-    place.innerHTML = svg(both[secret], { title: `Secret ${secret}`, width: place.clientWidth, first: found?.cycle ?? null });
+    const how = { title: `Secret ${secret}`, width: place.clientWidth, first: found?.cycle ?? null };
+    place.innerHTML = svg(both[secret], how);
   }
   showTraces(kind, both, found);
-  for (const cell of part(`${kind}-cells`).children) cell.setAttribute("aria-pressed", cell.dataset.cycle === String(cycle));
+  for (const cell of part(`${kind}-cells`).children) {
+    cell.setAttribute("aria-pressed", cell.dataset.cycle === String(cycle));
+  }
 }
 
 async function update() {

@@ -1,4 +1,5 @@
-// Runs the module away from the page: each message is one run, in an instance of its own. What is written is sent on every 50 ms.
+// Runs the module away from the page: each message is one run, in an instance of its own. What is written is sent on
+// every 50 ms.
 import { joined, run } from "./host.mjs";
 
 const PAUSE = 50;

@@ -4,7 +4,10 @@ import { mkdtempSync, rmSync } from "node:fs";
 import { tmpdir } from "node:os";
 import { join } from "node:path";
 
-const FLAGS = ["--headless=new", "--no-sandbox", "--disable-gpu", "--disable-dev-shm-usage", "--no-first-run", "--remote-debugging-pipe"];
+const FLAGS = [
+  "--headless=new", "--no-sandbox", "--disable-gpu", "--disable-dev-shm-usage", "--no-first-run",
+  "--remote-debugging-pipe",
+];
 const KEYS = {
   Enter: { key: "Enter", code: "Enter", windowsVirtualKeyCode: 13, text: "\r" },
   Tab: { key: "Tab", code: "Tab", windowsVirtualKeyCode: 9 },
@@ -12,6 +15,7 @@ const KEYS = {
   ArrowRight: { key: "ArrowRight", code: "ArrowRight", windowsVirtualKeyCode: 39 },
   ArrowUp: { key: "ArrowUp", code: "ArrowUp", windowsVirtualKeyCode: 38 },
 };
+const faultOf = (details) => details.exception?.description ?? details.text;
 const pause = (time) => new Promise((resolve) => setTimeout(resolve, time));
 
 export class Chromium {
@@ -54,8 +58,8 @@ export class Chromium {
       return message.error ? reject(new Error(message.error.message)) : resolve(message.result);
     }
     const { method, params } = message;
-    if (method === "Runtime.exceptionThrown") this.faults.push(params.exceptionDetails.exception?.description ?? params.exceptionDetails.text);
-    if (method === "Log.entryAdded" && params.entry.level === "error") this.faults.push(`${params.entry.text} ${params.entry.url ?? ""}`);
+    if (method === "Runtime.exceptionThrown") this.faults.push(faultOf(params.exceptionDetails));
+    if (method === "Log.entryAdded" && params.entry.level === "error") this.faults.push(params.entry.text);
     if (method === "Network.requestWillBeSent") this.asked.push(params.request.url);
   }
 
@@ -68,13 +72,16 @@ export class Chromium {
 
   // The value of an expression in the page; a promise is awaited.
   async value(expression) {
-    const { result, exceptionDetails } = await this.send("Runtime.evaluate", { expression, awaitPromise: true, returnByValue: true });
-    if (exceptionDetails) throw new Error(exceptionDetails.exception?.description ?? exceptionDetails.text);
+    const asked = { expression, awaitPromise: true, returnByValue: true };
+    const { result, exceptionDetails } = await this.send("Runtime.evaluate", asked);
+    if (exceptionDetails) throw new Error(faultOf(exceptionDetails));
     return result.value;
   }
 
   async until(expression, seconds = 30) {
-    for (const end = Date.now() + seconds * 1000; Date.now() < end; await pause(50)) if (await this.value(expression)) return;
+    for (const end = Date.now() + seconds * 1000; Date.now() < end; await pause(50)) {
+      if (await this.value(expression)) return;
+    }
     throw new Error(`not in ${seconds} s: ${expression}`);
   }
 
@@ -94,7 +101,8 @@ export class Chromium {
 
   // The window's width and the scheme of colours.
   async look(width, scheme) {
-    await this.send("Emulation.setDeviceMetricsOverride", { width, height: 900, deviceScaleFactor: 1, mobile: width < 500 });
+    const metrics = { width, height: 900, deviceScaleFactor: 1, mobile: width < 500 };
+    await this.send("Emulation.setDeviceMetricsOverride", metrics);
     await this.send("Emulation.setEmulatedMedia", { features: [{ name: "prefers-color-scheme", value: scheme }] });
     await pause(200);
   }

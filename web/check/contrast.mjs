@@ -10,13 +10,15 @@ export function contrastFaults() {
     }
     return matchMedia("(prefers-color-scheme: dark)").matches ? [0, 0, 0] : [255, 255, 255];
   };
-  const hasText = (element) => [...element.childNodes].some((node) => node.nodeType === Node.TEXT_NODE && node.data.trim());
-  const seen = [...document.querySelectorAll("body *")].filter((it) => hasText(it) && it.getClientRects().length && !it.closest("style, title, script, :disabled"));
+  const isText = (node) => node.nodeType === Node.TEXT_NODE && node.data.trim();
+  const isSeen = (it) => it.getClientRects().length && !it.closest("style, title, script, :disabled");
+  const seen = [...document.querySelectorAll("body *")].filter((it) => isSeen(it) && [...it.childNodes].some(isText));
   const ratio = (element) => {
     const style = getComputedStyle(element);
     const front = light(parse(element.closest("svg") ? style.fill : style.color));
     const back = light(behind(element));
     return (Math.max(front, back) + 0.05) / (Math.min(front, back) + 0.05);
   };
-  return seen.filter((it) => ratio(it) < 4.5).map((it) => `${it.tagName} ${it.textContent.slice(0, 30)} ${ratio(it).toFixed(1)}`);
+  const faint = seen.filter((it) => ratio(it) < 4.5);
+  return faint.map((it) => `${it.tagName} ${it.textContent.slice(0, 30)} ${ratio(it).toFixed(1)}`);
 }

@@ -1,4 +1,5 @@
-// An image, one bent at some places, a schedule and certificates from a seed, and the command lines that they are tried with.
+// An image, one bent at some places, a schedule and certificates from a seed, and the command lines that they are
+// tried with.
 
 // Numbers below a bound, from a seed (xorshift).
 function numbers(seed) {
@@ -33,7 +34,8 @@ function memory(below) {
   };
   const all = (at, words) => words.forEach((word, step) => put(at + 2 * step, word));
   const some = (count) => Array.from({ length: count }, () => code(below));
-  // The outside: a stack, line 0 may interrupt, GIE, some code, a call of the module, some code, and a jump to itself.
+  // The outside: a stack, line 0 may interrupt, GIE, some code, a call of the module, some code, and a jump to
+  // itself.
   all(0x0200, [0x4031, 0x0a00, 0x43d2, 0x0040, 0xd232, ...some(below(6)), 0x4037, 0x0240, 0x4030, TEXT]);
   all(0x0240, [...some(below(4)), 0x40f2, below(256), 0x0071, 0x3fff]);
   // The module: its data, a few words, and the way back.
@@ -66,7 +68,9 @@ function schedule(below) {
 
 function bent(below, text) {
   const bytes = new TextEncoder().encode(text);
-  for (let count = below(3); count >= 0; count--) bytes[below(bytes.length)] = "0123456789abcdef \n".charCodeAt(below(18));
+  for (let count = below(3); count >= 0; count--) {
+    bytes[below(bytes.length)] = "0123456789abcdef \n".charCodeAt(below(18));
+  }
   return bytes;
 }
 
@@ -75,10 +79,15 @@ export function made(seed) {
   const text = image(below);
   const encode = (it) => new TextEncoder().encode(it);
   return {
-    files: { "made.img": encode(text), "bent.img": bent(below, text), "made.txt": encode(schedule(below)), arms: encode("0304 0318 6\n") },
+    files: {
+      "made.img": encode(text),
+      "bent.img": bent(below, text),
+      "made.txt": encode(schedule(below)),
+      arms: encode("0304 0318 6\n"),
+    },
     lines: [
-      "image made.img - 2000", "image made.img made.txt 2000", "image bent.img made.txt 500", "lone made.img 1 300 r7=0240", "check made.img 1",
-      "balance made.img 1 arms", "dis made.img 0300 0340",
+      "image made.img - 2000", "image made.img made.txt 2000", "image bent.img made.txt 500",
+      "lone made.img 1 300 r7=0240", "check made.img 1", "balance made.img 1 arms", "dis made.img 0300 0340",
     ],
   };
 }

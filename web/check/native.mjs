@@ -28,4 +28,5 @@ export class Native {
 }
 
 // Whether two runs ended alike and wrote the same bytes.
-export const isSame = (one, other) => one.status === other.status && one.err === other.err && Buffer.compare(one.out, other.out) === 0;
+export const isSame = (one, other) =>
+  one.status === other.status && one.err === other.err && Buffer.compare(one.out, other.out) === 0;
