@@ -1,6 +1,6 @@
 //! What an instruction reaches.
 
-ghost use Rattle.std.specs.Prelude.{◌≡◌, ◌+◌, ◌*◌, ◌<◌, ◌≤◌, ◌++◌};
+ghost use Rattle.std.specs.Prelude.{◌≡◌, true, ◌+◌, ◌*◌, ◌<◌, ◌≤◌, ◌++◌};
 ghost use Rattle.arrayvec.specs.ArrayVec.{array_vec_len};
 ghost use Rattle.sm_words.specs.Words.{add16};
 ghost use Rattle.insn_decode.specs.Code.{words_of};
@@ -89,26 +89,16 @@ fn add(reaches: &mut ArrayVec<Reach, 3>, wanted: bool, kind: Kind, width: Width,
     }
 }
 
-/// What an instruction of format I reaches.
-#[tactic(auto, unfolding(flow_rule::specs::Does::plan_val))]
+/// What an instruction of format I reaches, whose operands have these addresses.
 fn reaches_two(
-    insn: &Insn,
     op: TwoOp,
     width: Width,
-    src: Operand,
-    dst: Operand,
-    pc: u16,
-    core: &Core,
+    source: Option<Val>,
+    destination: Option<Val>,
 ) -> ArrayVec<Reach, 3>
-    requires { insn.now ≡ Insn.Two op width src dst }
-    ensures { result.items ≡ plan_val insn.now pc core.now }
+    ensures { result.items ≡ reach_if true Kind.Read width source ++ reach_if (reads_dst op) Kind.Read width destination
+        ++ reach_if (writes_dst op) Kind.Write width destination }
 {
-    let mut after = *core;
-    step_past(insn, pc, &mut after);
-    let ext = extension(pc);
-    let source = place(src, &after, ext);
-    increment(width, src, &mut after);
-    let destination = place(dst, &after, second(ext, src));
     let mut reaches = ArrayVec::new();
     add(&mut reaches, true, Kind::Read, width, source);
     add(
@@ -162,27 +152,13 @@ fn add_write(
     }
 }
 
-/// What an instruction of format II reaches.
-#[tactic(auto, unfolding(flow_rule::specs::Does::plan_val))]
-fn reaches_one(
-    insn: &Insn,
-    op: OneOp,
-    width: Width,
-    arg: Operand,
-    pc: u16,
-    core: &Core,
-) -> ArrayVec<Reach, 3>
-    requires { insn.now ≡ Insn.One op width arg }
-    ensures { result.items ≡ plan_val insn.now pc core.now }
+/// What an instruction of format II reaches, whose operand has this address, with SP lowered.
+fn reaches_one(op: OneOp, width: Width, operand: Option<Val>, sp: Val) -> ArrayVec<Reach, 3>
+    ensures { result.items ≡ reach_if true Kind.Read width operand ++ one_reach op width operand sp }
 {
-    let mut after = *core;
-    step_past(insn, pc, &mut after);
-    let operand = place(arg, &after, extension(pc));
-    increment(width, arg, &mut after);
-    lower(&mut after);
     let mut reaches = ArrayVec::new();
     add(&mut reaches, true, Kind::Read, width, operand);
-    add_write(&mut reaches, op, width, operand, get(&after, 1));
+    add_write(&mut reaches, op, width, operand, sp);
     reaches
 }
 
@@ -191,14 +167,27 @@ fn reaches_one(
 pub fn reaches(insn: &Insn, pc: u16, core: &Core) -> ArrayVec<Reach, 3>
     ensures { result.items ≡ plan_val insn.now pc core.now }
 {
+    let mut after = *core;
+    step_past(insn, pc, &mut after);
+    let ext = extension(pc);
     match *insn {
         Insn::Two {
             op,
             width,
             src,
             dst,
-        } => reaches_two(insn, op, width, src, dst, pc, core),
-        Insn::One { op, width, arg } => reaches_one(insn, op, width, arg, pc, core),
+        } => {
+            let source = place(src, &after, ext);
+            increment(width, src, &mut after);
+            let destination = place(dst, &after, second(ext, src));
+            reaches_two(op, width, source, destination)
+        }
+        Insn::One { op, width, arg } => {
+            let operand = place(arg, &after, ext);
+            increment(width, arg, &mut after);
+            lower(&mut after);
+            reaches_one(op, width, operand, get(&after, 1))
+        }
         Insn::Jump { .. } | Insn::Reti | Insn::Unit(_) => ArrayVec::new(),
     }
 }

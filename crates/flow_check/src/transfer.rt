@@ -3,11 +3,12 @@
 ghost use Rattle.std.specs.Prelude.{◌≡◌, ◌==◌, [], ◌∷◌, true};
 ghost use Rattle.sm_words.specs.Sums.{low};
 ghost use Rattle.sm_words.specs.Words.{nth};
+ghost use Rattle.cpu_step.specs.Plan.{writes_dst};
 ghost use Rattle.cpu_step.specs.Effect.{in_memory, value_of, two_result, one_result};
 ghost use Rattle.flow_rule.specs.Values.{over, over_one, over_two};
 ghost use Rattle.flow_rule.specs.Does.{reads_carry, sets_flags, read_if, flags_if, worked, two_val, one_reads_carry};
 ghost use Rattle.flow_rule.specs.Does.{one_sets_flags, one_val, set_flags_by, given_val, after_val};
-ghost use Rattle.flow_rule.specs.Does.{into_register_val, written_val, clears, clears_flags, cleared_core, carry_val};
+ghost use Rattle.flow_rule.specs.Does.{into_register_val, written_val, clears, clears_flags, cleared_core, cleared_if, carry_val};
 ghost use Rattle.flow_rule.specs.Does.{one_done_val, does_val};
 ghost use Rattle.flow_check.specs.internal.Carries.{IsCarry};
 
@@ -289,29 +290,20 @@ fn copied(value: Val) -> Val
     }
 }
 
-/// Format I.
-#[tactic(auto, unfolding(flow_rule::specs::Does::does_val))]
-fn do_two(
-    insn: &Insn,
+/// Writes what format I gave.
+fn finish_two(
     op: TwoOp,
     width: Width,
-    src: Operand,
     dst: Operand,
-    pc: u16,
+    source: Val,
+    told: &Told,
     core: &mut Core,
-    values: &[Val],
 ) -> Stored
-    requires { insn.now ≡ Insn.Two op width src dst }
-    ensures core { core.new ≡ (does_val insn.now pc core.old values.now).core }
-    ensures stored { result.items ≡ (does_val insn.now pc core.old values.now).stored }
+    ensures core { core.new ≡ (cleared_if (clears_flags op width dst source)
+        (written_val (writes_dst op) dst told.now core.old)).core }
+    ensures stored { result.items ≡ (written_val (writes_dst op) dst told.now core.old).stored }
 {
-    let carry = carry_of(core);
-    step_past(insn, pc, core);
-    let source = given(src, width, core, values);
-    increment(width, src, core);
-    let old = given(dst, width, core, after_given(src, values));
-    let told = two(op, width, source, old, carry);
-    let stored = finish(writes_destination(op), dst, &told, core);
+    let stored = finish(writes_destination(op), dst, told, core);
     clear_if(clears_flags(op, width, dst, source), core);
     stored
 }
@@ -346,61 +338,36 @@ fn finish_one(
     }
 }
 
-/// Format II.
-#[tactic(auto, unfolding(flow_rule::specs::Does::does_val))]
-fn do_one(
-    insn: &Insn,
-    op: OneOp,
-    width: Width,
-    arg: Operand,
-    pc: u16,
-    core: &mut Core,
-    values: &[Val],
-) -> Stored
-    requires { insn.now ≡ Insn.One op width arg }
-    ensures core { core.new ≡ (does_val insn.now pc core.old values.now).core }
-    ensures stored { result.items ≡ (does_val insn.now pc core.old values.now).stored }
-{
-    let carry = carry_of(core);
-    step_past(insn, pc, core);
-    let operand = given(arg, width, core, values);
-    increment(width, arg, core);
-    finish_one(op, width, arg, operand, carry, core)
-}
-
-/// A jump that is taken.
-#[tactic(auto, unfolding(flow_rule::specs::Does::does_val))]
-fn jump(insn: &Insn, cond: u8, offset: i16, pc: u16, core: &mut Core, values: &[Val])
-    requires { insn.now ≡ Insn.Jump cond offset }
-    ensures { core.new ≡ (does_val insn.now pc core.old values.now).core }
-{
-    let _ = cond;
-    let _ = values;
-    step_past(insn, pc, core);
-    put(core, 0, Val::Known(target(pc, offset)));
-}
-
 /// The instruction at `pc`, once its reads gave these values; a jump is taken.
 #[tactic(auto, unfolding(flow_rule::specs::Does::does_val))]
 pub fn does(insn: &Insn, pc: u16, core: &mut Core, values: &[Val]) -> Stored
     ensures core { core.new ≡ (does_val insn.now pc core.old values.now).core }
     ensures stored { result.items ≡ (does_val insn.now pc core.old values.now).stored }
 {
+    let carry = carry_of(core);
+    step_past(insn, pc, core);
     match *insn {
         Insn::Two {
             op,
             width,
             src,
             dst,
-        } => do_two(insn, op, width, src, dst, pc, core, values),
-        Insn::One { op, width, arg } => do_one(insn, op, width, arg, pc, core, values),
-        Insn::Jump { cond, offset } => {
-            jump(insn, cond, offset, pc, core, values);
+        } => {
+            let source = given(src, width, core, values);
+            increment(width, src, core);
+            let old = given(dst, width, core, after_given(src, values));
+            let told = two(op, width, source, old, carry);
+            finish_two(op, width, dst, source, &told, core)
+        }
+        Insn::One { op, width, arg } => {
+            let operand = given(arg, width, core, values);
+            increment(width, arg, core);
+            finish_one(op, width, arg, operand, carry, core)
+        }
+        Insn::Jump { offset, .. } => {
+            put(core, 0, Val::Known(target(pc, offset)));
             Stored::new()
         }
-        Insn::Reti | Insn::Unit(_) => {
-            step_past(insn, pc, core);
-            Stored::new()
-        }
+        Insn::Reti | Insn::Unit(_) => Stored::new(),
     }
 }

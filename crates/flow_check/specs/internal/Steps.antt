@@ -1,6 +1,7 @@
 -- Steps as the code tells them: addresses, with one list of return addresses and one state but for PC.
 use Rattle.std.specs.Prelude.{◌≡◌, ℕ, []}
 use Rattle.insn_decode.specs.declared.insn.Insn.{Insn}
+use Rattle.insn_decode.specs.declared.insn.Insn.TheVariants.{Jump}
 use Rattle.mod_layout.specs.declared.Module.{Module}
 use Rattle.flow_rule.specs.declared.Label.{Label}
 use Rattle.flow_rule.specs.declared.Val.TheVariants.{Public}
@@ -28,3 +29,8 @@ next_step m insn pc returns label = goes m pc (list_of returns) (past_val insn p
 abbrev pub id_step : Module → Insn → ℕ → CallString → Label → Step
 id_step m insn pc returns label =
     goes m pc (list_of returns) (put_val (past_val insn pc label.core) 15 Public) label.words
+
+-- a jump with this condition
+abbrev pub IsJump : Insn → ℕ → Type 0
+IsJump (Jump c offset) cond = c ≡ cond
+IsJump insn cond = ⊥
