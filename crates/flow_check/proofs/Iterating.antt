@@ -9,7 +9,7 @@ use Rattle.flow_rule.specs.Rounds.{same_list, Pair, Point, Step, same_pair, join
 use Rattle.flow_check.specs.internal.Marks.{flagged, Subsumed, AllSubsumed, Clean, Kept, Reached}
 
 -- ---- joins subsume
-same_num : (a : ℕ) → (a == a) ≡ true
+pub same_num : (a : ℕ) → (a == a) ≡ true
 same_num a = grind (arith, nat_tests)
 
 join_twice : (v w : Val) → join (join v w) w ≡ join v w
@@ -151,11 +151,11 @@ each_self : (vs : List Val) → join_each vs vs ≡ vs
 each_self [] = refl
 each_self (v ∷ vs) = ap (λ i. i ∷ join_each vs vs) (join_self v) ∙ ap (λ i. v ∷ i) (each_self vs)
 
-same_lists : (xs : List ℕ) → same_list xs xs ≡ true
+pub same_lists : (xs : List ℕ) → same_list xs xs ≡ true
 same_lists [] = refl
 same_lists (x ∷ xs) = ap (λ b. b && same_list xs xs) (same_num x) ∙ same_lists xs
 
-pair_self : (p : Pair) → same_pair p p ≡ true
+pub pair_self : (p : Pair) → same_pair p p ≡ true
 pair_self p = ap (λ b. b && same_list p.returns p.returns) (same_num p.addr) ∙ same_lists p.returns
 
 joined_subsumes : (xs ys : List Point) → AllSubsumed xs (join_all xs ys)
@@ -226,16 +226,3 @@ reached_start step start marks xs e f = record {
   where
     clash : true ≡ false → ⊥
     clash g = cc
-
--- a iteration makes the list no shorter
-in_longer : (x : Point) (ys : List Point) → length ys ≤ length (join_in x ys)
-in_longer x [] = omega arith
-in_longer x (y ∷ ys) = by (same_pair y.pair x.pair) (in_longer x ys)
-  where
-    by : (c : Bool) → length ys ≤ length (join_in x ys) → suc (length ys) ≤ length (cond c (record { pair = y.pair; label = join_label y.label x.label } ∷ ys) (y ∷ join_in x ys))
-    by true h = omega arith
-    by false h = omega (arith, h)
-
-pub all_longer : (xs ys : List Point) → length ys ≤ length (join_all xs ys)
-all_longer [] ys = omega arith
-all_longer (x ∷ xs) ys = omega (arith, in_longer x ys, all_longer xs (join_in x ys))

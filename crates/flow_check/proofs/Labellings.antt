@@ -7,19 +7,13 @@ use Rattle.std.proofs.lemmas.Option.{same_Some}
 use Rattle.flow_rule.specs.declared.Label.{Label}
 use Rattle.flow_rule.specs.Rounds.{Pair, Point, same_list, same_pair, join_label, join_in}
 use Rattle.flow_check.specs.declared.point.Point.{Point as CodePoint}
+use Rattle.flow_check.proofs.Iterating.{pair_self}
 use Rattle.flow_check.specs.internal.Points.{pair_of, point_at, points_of, risen, same_at, NotAmong, Distinct}
-
-num_same : (x : ℕ) → (x == x) ≡ true
-num_same x = grind (arith, nat_tests)
 
 list_is : (xs ys : List ℕ) → same_list xs ys ≡ true → xs ≡ ys
 list_is [] [] e = refl
 list_is (x ∷ xs) (y ∷ ys) e = let h = and_parts (x == y) (same_list xs ys) e in ap (λ i. i ∷ xs) (eqb-true x y h.0) ∙ ap (λ l. y ∷ l) (list_is xs ys h.1)
 list_is _ _ e = absurd cc
-
-list_same : (xs : List ℕ) → same_list xs xs ≡ true
-list_same [] = refl
-list_same (x ∷ xs) = ap (λ b. b && same_list xs xs) (num_same x) ∙ list_same xs
 
 abbrev make : ℕ → List ℕ → Pair
 make a r = record { addr = a; returns = r }
@@ -27,15 +21,12 @@ make a r = record { addr = a; returns = r }
 pair_is : (p q : Pair) → same_pair p q ≡ true → p ≡ q
 pair_is p q e = let h = and_parts (p.addr == q.addr) (same_list p.returns q.returns) e in ap (λ a. make a p.returns) (eqb-true p.addr q.addr h.0) ∙ ap (make q.addr) (list_is p.returns q.returns h.1)
 
-pair_same : (p : Pair) → same_pair p p ≡ true
-pair_same p = ap (λ b. b && same_list p.returns p.returns) (num_same p.addr) ∙ list_same p.returns
-
 other_way : (p q : Pair) → same_pair p q ≡ false → same_pair q p ≡ false
 other_way p q e = by (same_pair q p) refl
   where
     by : (b : Bool) → same_pair q p ≡ b → same_pair q p ≡ false
     by false f = f
-    by true f = absurd (both_ways (same_pair p q) e (subst (λ z. same_pair z q ≡ true) (pair_is q p f) (pair_same q)))
+    by true f = absurd (both_ways (same_pair p q) e (subst (λ z. same_pair z q ≡ true) (pair_is q p f) (pair_self q)))
 
 pub at_less : (p : Pair) (qs : List CodePoint) (n : ℕ) → same_at p qs n ≡ true → n < length qs
 at_less p [] n e = absurd cc

@@ -37,10 +37,10 @@ reach_more m pc x xs o p e = noted_append (reach_reasons_by x.addr m pc x) (reac
 
 -- ---- the lowest register that is Secret
 found_by : (k n pc : ℕ) (core : List Val) (o : Option Violation) (b : Bool) → is_secret (val core n) ≡ b → b ≡ true →
-    noted (exit_reasons (suc k) n pc core) o ≡ lesser o record { reason = SecretAtExit; value = n }
+    noted (exit_reasons (suc k) n pc core) o ≡ lesser o record { addr = pc; reason = SecretAtExit; value = n }
 found_by k n pc core o b e f = by (is_secret (val core n)) (e ∙ f)
   where
-    by : (c : Bool) → c ≡ true → noted (cond c (record { addr = pc; why = SecretAtExit; value = n } ∷ []) (exit_reasons k (n + 1) pc core)) o ≡ lesser o record { reason = SecretAtExit; value = n }
+    by : (c : Bool) → c ≡ true → noted (cond c (record { addr = pc; why = SecretAtExit; value = n } ∷ []) (exit_reasons k (n + 1) pc core)) o ≡ lesser o record { addr = pc; reason = SecretAtExit; value = n }
     by true e = refl
     by false e = absurd cc
 
@@ -53,7 +53,7 @@ next_by k n pc core o e = by (is_secret (val core n)) e
     by true e = absurd cc
 
 pub exit_found : (n pc : ℕ) (core : List Val) (o : Option Violation) → n < 16 → is_secret (val core n) ≡ true →
-    noted (exit_reasons (16 - n) n pc core) o ≡ lesser o record { reason = SecretAtExit; value = n }
+    noted (exit_reasons (16 - n) n pc core) o ≡ lesser o record { addr = pc; reason = SecretAtExit; value = n }
 exit_found n pc core o lt e = ap (λ k. noted (exit_reasons k n pc core) o) (let f : 16 - n ≡ suc (15 - n) = omega arith in f) ∙ found_by (15 - n) n pc core o true e refl
 
 pub exit_next : (n pc : ℕ) (core : List Val) (o : Option Violation) → n < 16 → is_secret (val core n) ≡ false →
@@ -77,21 +77,21 @@ same_written m ws xs ys (v ∷ vs) h = absurd cc
 -- ---- an instruction of format I or II
 pub plain_least : (m : Module) (text : List ℕ) (insn : Insn) (pc : ℕ) (rs : CallString) (label : Label) (xs : List Reach) (values core : List Val) (stops : Bool) (o0 o1 o2 o3 : Option Violation) →
     xs ≡ plan_val insn pc label.core → values ≡ map (read_val m text label.words) (read_reaches xs) → core ≡ (does_val insn pc label.core values).core →
-    ((p : ℕ) → o1 ≡ noted (reach_reasons m p xs) o0) → o2 ≡ noted (turn_of insn pc (list_of rs) values).reasons o1 → stops ≡ (turn_of insn pc (list_of rs) values).stops →
-    ((p : ℕ) (returns : List ℕ) (words : List Val) → o3 ≡ noted (goes_unless stops m p returns core words).reasons o2) →
+    o1 ≡ noted (reach_reasons m pc xs) o0 → o2 ≡ noted (turn_of insn pc (list_of rs) values).reasons o1 → stops ≡ (turn_of insn pc (list_of rs) values).stops →
+    ((returns : List ℕ) (words : List Val) → o3 ≡ noted (goes_unless stops m pc returns core words).reasons o2) →
     o3 ≡ noted (step_plain m text insn (point_of pc rs label)).reasons o0
 plain_least m text insn pc rs label xs values core stops o0 o1 o2 o3 ex ev ec e1 e2 es e3 =
     let r : List ℕ = list_of rs in
     let vals : List Reach → List Val = λ xs. map (read_val m text label.words) (read_reaches xs) in
     let evs : values ≡ vals (plan_val insn pc label.core) = ev ∙ ap vals ex in
-    let first : o1 ≡ noted (reach_reasons m pc (plan_val insn pc label.core)) o0 = e1 pc ∙ ap (λ x. noted (reach_reasons m pc x) o0) ex in
+    let first : o1 ≡ noted (reach_reasons m pc (plan_val insn pc label.core)) o0 = e1 ∙ ap (λ x. noted (reach_reasons m pc x) o0) ex in
     let second : o2 ≡ noted (turn_of insn pc r (vals (plan_val insn pc label.core))).reasons o1 = e2 ∙ ap (λ v. noted (turn_of insn pc r v).reasons o1) evs in
     let v : List Val = vals (plan_val insn pc label.core) in
     let d = does_val insn pc label.core v in
     let t = turn_of insn pc r v in
     let ws : List Val = writes_val m label.words (write_reaches (plan_val insn pc label.core)) d.stored in
     let third : o3 ≡ noted (goes_unless t.stops m pc t.returns d.core ws).reasons o2 =
-    e3 pc t.returns ws ∙ ap (λ s. noted (goes_unless s m pc t.returns core ws).reasons o2) (es ∙ ap (λ v. (turn_of insn pc r v).stops) evs)
+    e3 t.returns ws ∙ ap (λ s. noted (goes_unless s m pc t.returns core ws).reasons o2) (es ∙ ap (λ v. (turn_of insn pc r v).stops) evs)
     ∙ ap (λ c. noted (goes_unless t.stops m pc t.returns c ws).reasons o2) (ec ∙ ap (λ v. (does_val insn pc label.core v).core) evs) in
     let xs0 : List Found = reach_reasons m pc (plan_val insn pc label.core) in
     let gs : List Found = (goes_unless t.stops m pc t.returns d.core ws).reasons in

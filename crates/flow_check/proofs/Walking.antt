@@ -57,7 +57,7 @@ module _ (S : Point → Step) (m : Module) (text : List ℕ) (branch join : ℕ)
 
   -- an instruction that leaves the text
   pub walk_leaves : (steps : ℕ) (x : Point) (t : Tally) (next : ℕ) (lost : Bool) (l : Option Violation) → x.pair.addr ≢ join → arm_on m.text text join x.pair.addr ≡ Some next → (S x).reasons ≡ [] → (S x).gives ≡ [] →
-      lost ≡ (holds m.text join || not (next == join)) → ((pc : ℕ) → l ≡ noted (because_if lost pc ArmInsn next) t.least) → told (walk S m text branch join (suc steps) x) t ≡ record t { least = l }
+      lost ≡ (holds m.text join || not (next == join)) → l ≡ noted (because_if lost branch ArmInsn next) t.least → told (walk S m text branch join (suc steps) x) t ≡ record t { least = l }
   walk_leaves steps x t next lost l ne on none out el e =
       ap (λ w. told w t) (calm steps x next ne on none ∙ ap (λ gs. walk_past [] gs branch (holds m.text join || not (next == join)) next m text x (walk S m text branch join steps)) out)
       ∙ by (holds m.text join || not (next == join)) (sym el)
@@ -65,7 +65,7 @@ module _ (S : Point → Step) (m : Module) (text : List ℕ) (branch join : ℕ)
       by : (b : Bool) → b ≡ lost → told (record ended { reasons = because_if b branch ArmInsn next }) t ≡ record t { least = l }
       by b f =
           ap (λ c. record { least = noted (because_if b branch ArmInsn next) t.least; cycles = c; state = t.state }) (let g : t.cycles + 0 ≡ t.cycles = omega arith in g)
-          ∙ ap (λ l. record t { least = l }) (ap (λ b. noted (because_if b branch ArmInsn next) t.least) f ∙ sym (e branch))
+          ∙ ap (λ l. record t { least = l }) (ap (λ b. noted (because_if b branch ArmInsn next) t.least) f ∙ sym e)
 
   -- an instruction that goes on
   pub walk_goes : (steps : ℕ) (x y : Point) (ys : List Point) (t : Tally) (next : ℕ) (insn : Insn) → x.pair.addr ≢ join → arm_on m.text text join x.pair.addr ≡ Some next → met m.text text x.pair.addr ≡ Some insn →
@@ -125,8 +125,8 @@ site_is S arms m text x = by (met m.text text x.pair.addr)
 
 module _ (S : Point → Step) (m : Module) (text : List ℕ) (insn : Insn) (target : ℕ) (arm : Arm) (x : Point) (t0 t1 t2 : Tally)
     (still : t0.cycles ≡ 0)
-    (first : (branch : ℕ) → t1 ≡ told (walk S m text branch arm.join (suc arm.join) (arm_start insn (add16 x.pair.addr 2) x (past_val insn x.pair.addr x.label.core))) t0)
-    (second : (branch : ℕ) → t2 ≡ told (walk S m text branch arm.join (suc arm.join) (arm_start insn target x (does_val insn x.pair.addr x.label.core []).core)) (record t1 { cycles = 0 }))
+    (first : t1 ≡ told (walk S m text x.pair.addr arm.join (suc arm.join) (arm_start insn (add16 x.pair.addr 2) x (past_val insn x.pair.addr x.label.core))) t0)
+    (second : t2 ≡ told (walk S m text x.pair.addr arm.join (suc arm.join) (arm_start insn target x (does_val insn x.pair.addr x.label.core []).core)) (record t1 { cycles = 0 }))
   where
     abbrev w0 : Walk
     w0 = walk S m text x.pair.addr arm.join (suc arm.join) (arm_start insn (add16 x.pair.addr 2) x (past_val insn x.pair.addr x.label.core))
@@ -135,32 +135,32 @@ module _ (S : Point → Step) (m : Module) (text : List ℕ) (insn : Insn) (targ
     w1 = walk S m text x.pair.addr arm.join (suc arm.join) (arm_start insn target x (does_val insn x.pair.addr x.label.core []).core)
 
     first_time : t1.cycles ≡ w0.cycles
-    first_time = ap (λ t. t.cycles) (first x.pair.addr) ∙ ap (λ n. n + w0.cycles) still ∙ (let e : 0 + w0.cycles ≡ w0.cycles = omega arith in e)
+    first_time = ap (λ t. t.cycles) first ∙ ap (λ n. n + w0.cycles) still ∙ (let e : 0 + w0.cycles ≡ w0.cycles = omega arith in e)
 
     second_time : t2.cycles ≡ w1.cycles
-    second_time = ap (λ t. t.cycles) (second x.pair.addr) ∙ (let e : 0 + w1.cycles ≡ w1.cycles = omega arith in e)
+    second_time = ap (λ t. t.cycles) second ∙ (let e : 0 + w1.cycles ≡ w1.cycles = omega arith in e)
 
     -- the least of the reasons at a branch with a certificate
-    pub site_least : (o l1 l2 : Option Violation) → ((pc : ℕ) → t0.least ≡ noted (because_if (not (holds m.text arm.join)) pc ArmInsn arm.join) o) →
-        ((pc : ℕ) → l1 ≡ noted (because_if (not (t1.cycles == arm.cycles)) pc ArmTime 0) t2.least) →
-        ((pc : ℕ) → l2 ≡ noted (because_if (not (t2.cycles == arm.cycles)) pc ArmTime 1) l1) → l2 ≡ noted (step_arm S m text insn target arm x).reasons o
+    pub site_least : (o l1 l2 : Option Violation) → t0.least ≡ noted (because_if (not (holds m.text arm.join)) x.pair.addr ArmInsn arm.join) o →
+        l1 ≡ noted (because_if (not (t1.cycles == arm.cycles)) x.pair.addr ArmTime 0) t2.least →
+        l2 ≡ noted (because_if (not (t2.cycles == arm.cycles)) x.pair.addr ArmTime 1) l1 → l2 ≡ noted (step_arm S m text insn target arm x).reasons o
     site_least o l1 l2 e0 e1 e2 =
         let pc : ℕ = x.pair.addr in
         let a : List Found = because_if (not (holds m.text arm.join)) pc ArmInsn arm.join in
         let b : List Found = because_if (not (w0.cycles == arm.cycles)) pc ArmTime 0 in
         let c : List Found = because_if (not (w1.cycles == arm.cycles)) pc ArmTime 1 in
         let walked : t2.least ≡ noted w1.reasons (noted w0.reasons (noted a o)) =
-        ap (λ t. t.least) (second pc) ∙ ap (noted w1.reasons) (ap (λ t. t.least) (first pc) ∙ ap (noted w0.reasons) (e0 pc)) in
-        e2 pc ∙ ap (λ n. noted (because_if (not (n == arm.cycles)) pc ArmTime 1) l1) second_time
-        ∙ ap (noted c) (e1 pc ∙ ap (λ n. noted (because_if (not (n == arm.cycles)) pc ArmTime 0) t2.least) first_time ∙ ap (noted b) walked)
+        ap (λ t. t.least) second ∙ ap (noted w1.reasons) (ap (λ t. t.least) first ∙ ap (noted w0.reasons) e0) in
+        e2 ∙ ap (λ n. noted (because_if (not (n == arm.cycles)) pc ArmTime 1) l1) second_time
+        ∙ ap (noted c) (e1 ∙ ap (λ n. noted (because_if (not (n == arm.cycles)) pc ArmTime 0) t2.least) first_time ∙ ap (noted b) walked)
         ∙ sym (noted_append (a ++ w0.reasons ++ w1.reasons ++ b) c o ∙ ap (noted c) (noted_append (a ++ w0.reasons ++ w1.reasons) b o
         ∙ ap (noted b) (noted_append (a ++ w0.reasons) w1.reasons o ∙ ap (noted w1.reasons) (noted_append a w0.reasons o))))
 
     -- Secret where the arms wrote
     pub site_told : t2.state ≡ record { core = blot_core (w0.regs ++ w1.regs) t0.state.core; words = blot (w0.words ++ w1.words) t0.state.words }
     site_told =
-        ap (λ t. t.state) (second x.pair.addr)
-        ∙ ap (λ l. record { core = blot_core w1.regs l.core; words = blot w1.words l.words }) (ap (λ t. t.state) (first x.pair.addr))
+        ap (λ t. t.state) second
+        ∙ ap (λ l. record { core = blot_core w1.regs l.core; words = blot w1.words l.words }) (ap (λ t. t.state) first)
         ∙ ap (λ c. record { core = c; words = blot w1.words (blot w0.words t0.state.words) }) (sym (core_append w0.regs w1.regs t0.state.core))
         ∙ ap (λ w. record { core = blot_core (w0.regs ++ w1.regs) t0.state.core; words = w }) (sym (words_append w0.words w1.words t0.state.words))
 

@@ -66,6 +66,7 @@ fn is_lost(module: &Module, join: u16, next: u16) -> bool
 /// Does the arm's instruction at this point, and tells whether the arm goes on.
 fn walk_on(
     program: &Program<'_>,
+    branch: u16,
     join: u16,
     point: &mut Point,
     tally: &mut Tally,
@@ -73,19 +74,19 @@ fn walk_on(
 ) -> bool
     requires before { point.old.addr ≢ join }
     requires short { tally.old.cycles < 4294967000 }
-    ensures on { result ≡ true → (branch steps : ℕ) →
+    ensures on { result ≡ true → (steps : ℕ) →
         told (walk (base_flow program.now) program.now.module.now program.now.text.now branch join (suc steps)
         (point_at point.old)) tally.old ≡ told
         (walk (base_flow program.now) program.now.module.now program.now.text.now branch join steps
         (point_at point.new)) tally.new }
-    ensures ends { result ≡ false → (branch steps : ℕ) →
+    ensures ends { result ≡ false → (steps : ℕ) →
         told (walk (base_flow program.now) program.now.module.now program.now.text.now branch join (suc steps)
         (point_at point.old)) tally.old ≡ tally.new }
     ensures cycles { tally.new.cycles ≤ tally.old.cycles + 6 }
 {
     let module = program.module;
     let Some((insn, next)) = met_arm(module.text, program.text, point.addr, join) else {
-        note(&mut tally.least, Reason::Arm, point.addr);
+        note(&mut tally.least, branch, Reason::Arm, point.addr);
         return false;
     };
     let reaches = reaches(&insn, point.addr, &point.state.core);
@@ -94,7 +95,7 @@ fn walk_on(
     let mut stepped = Stepped::new(&point.call_string);
     step_base(program, point.addr, &mut point.state, &mut stepped);
     if stepped.least.is_some() {
-        note(&mut tally.least, Reason::Arm, point.addr);
+        note(&mut tally.least, branch, Reason::Arm, point.addr);
         return false;
     }
     match first_of(&stepped.targets) {
@@ -108,7 +109,7 @@ fn walk_on(
         None => {
             relevance.leave();
             let lost = is_lost(module, join, next);
-            note_if(lost, &mut tally.least, Reason::Arm, next);
+            note_if(lost, &mut tally.least, branch, Reason::Arm, next);
             false
         }
     }
@@ -118,13 +119,14 @@ fn walk_on(
 /// the merge point.
 pub fn walk(
     program: &Program<'_>,
+    branch: u16,
     join: u16,
     from: &Point,
     tally: &mut Tally,
     relevance: &mut Relevance,
 )
     requires start { tally.old.cycles ≡ 0 }
-    ensures { (branch : ℕ) → tally.new ≡ told
+    ensures { tally.new ≡ told
         (walk (base_flow program.now) program.now.module.now program.now.text.now branch join (suc join)
         (point_at from.now)) tally.old }
 {
@@ -135,10 +137,10 @@ pub fn walk(
         if point.addr == join {
             return;
         }
-        if !walk_on(program, join, &mut point, tally, relevance) {
+        if !walk_on(program, branch, join, &mut point, tally, relevance) {
             return;
         }
         left -= 1;
     }
-    note(&mut tally.least, Reason::Arm, point.addr);
+    note(&mut tally.least, branch, Reason::Arm, point.addr);
 }

@@ -154,17 +154,29 @@ pub fn walk_arms(
         state: *told,
     };
     let apart = !program.module.text.holds(usize::from(arm.join));
-    note_if(apart, &mut tally.least, Reason::Arm, arm.join);
+    note_if(apart, &mut tally.least, from.addr, Reason::Arm, arm.join);
     let first = first_arm(&insn, from);
     let second = second_arm(&insn, target, from);
-    walk(program, arm.join, &first, &mut tally, relevance);
+    walk(program, from.addr, arm.join, &first, &mut tally, relevance);
     let first_time = tally.cycles;
     tally.cycles = 0;
-    walk(program, arm.join, &second, &mut tally, relevance);
+    walk(program, from.addr, arm.join, &second, &mut tally, relevance);
     let second_time = tally.cycles;
     let wanted = u32::from(arm.cycles);
-    note_if(first_time != wanted, &mut tally.least, Reason::ArmTime, 0);
-    note_if(second_time != wanted, &mut tally.least, Reason::ArmTime, 1);
+    note_if(
+        first_time != wanted,
+        &mut tally.least,
+        from.addr,
+        Reason::ArmTime,
+        0,
+    );
+    note_if(
+        second_time != wanted,
+        &mut tally.least,
+        from.addr,
+        Reason::ArmTime,
+        1,
+    );
     *least = tally.least;
     *told = tally.state;
 }

@@ -358,7 +358,7 @@ pub fn step_with(
         Some(site) => {
             match summaries.apply(program, &site, own, pc, state)? {
                 Outcome::Open => stepped.targets.push(site.arm.join),
-                Outcome::Shut => note(&mut stepped.least, Reason::Arm, pc),
+                Outcome::Shut => note(&mut stepped.least, pc, Reason::Arm, pc),
             }
             Ok(())
         }
@@ -369,41 +369,43 @@ pub fn step_with(
     }
 }
 
-/// The least violation of a branch with a certificate.
+/// The lesser of a violation and those of a branch with a certificate.
 fn violation_of_arms(
     program: &Program<'_>,
     summaries: &Summaries,
     own: Option<usize>,
     site: &BranchSite,
     point: &Point,
+    mut least: Option<Violation>,
 ) -> Option<Violation>
     requires summaries { AreSummaries program.now summaries.now.list.items }
-    ensures { result ≡ noted (flow_at program.now site.now (point_at point.now)).reasons None }
+    ensures { result ≡ noted (flow_at program.now site.now (point_at point.now)).reasons least }
 {
     if summaries.is_open(own, site, point.addr, &point.state) {
-        return None;
+        return least;
     }
-    let mut least = None;
     let mut told = point.state;
     let mut none = Relevance::new(false);
     walk_arms(program, site, point, &mut least, &mut told, &mut none);
     least
 }
 
-/// The least violation of a program point.
+/// The lesser of a violation and those of a program point.
 pub fn violation_with(
     program: &Program<'_>,
     summaries: &Summaries,
     own: Option<usize>,
     point: &Point,
+    least: Option<Violation>,
 ) -> Option<Violation>
     requires summaries { AreSummaries program.now summaries.now.list.items }
-    ensures { result ≡ noted (flow program.now (point_at point.now)).reasons None }
+    ensures { result ≡ noted (flow program.now (point_at point.now)).reasons least }
 {
     match site_of(program, point.addr, &point.state) {
-        Some(site) => violation_of_arms(program, summaries, own, &site, point),
+        Some(site) => violation_of_arms(program, summaries, own, &site, point, least),
         None => {
             let mut stepped = Stepped::new(&point.call_string);
+            stepped.least = least;
             let mut state = point.state;
             step_base(program, point.addr, &mut state, &mut stepped);
             stepped.least

@@ -1,56 +1,23 @@
 //! The verdict of the fixpoint: the least violation, or yes.
 
 ghost use Rattle.std.specs.Prelude.{◌≡◌, ◌≤◌, ◌<◌, ◌+◌, [], length, drop, ℕ};
-ghost use Rattle.std.specs.Prelude.{IfOk, Some, None};
+ghost use Rattle.std.specs.Prelude.{IfOk, None};
 ghost use Rattle.flow_rule.specs.declared.Label.{Label};
-ghost use Rattle.flow_rule.specs.Rounds.{Point, IsLabelling};
+ghost use Rattle.flow_rule.specs.Rounds.{all_reasons, Point, IsLabelling};
 ghost use Rattle.flow_rule.specs.Verdict.{Decided};
-ghost use Rattle.flow_check.specs.internal.Verdicts.{found_of, lesser_found, lesser_of, least_from, verdict_of};
+ghost use Rattle.flow_check.specs.internal.Verdicts.{verdict_of};
 ghost use Rattle.flow_check.specs.internal.Points.{points_of};
 ghost use Rattle.flow_check.specs.internal.Programs.{flow, AreSummaries};
+ghost use Rattle.flow_check.specs.internal.Violations.{noted};
 ghost use Rattle.flow_check.specs.internal.Labellings.{points_in};
 
 use crate::labelling::{Changed, Labelling, begin};
 use crate::program::Program;
 use crate::summaries::{Summaries, violation_with};
-use crate::violation::{Violation, before};
+use crate::violation::Violation;
 use crate::worklist::iterate;
 use flow_rule::{Label, Reason, Verdict};
 use std::alloc::{AllocError, Global};
-
-/// A violation with its address.
-#[derive(Clone, Copy)]
-pub struct Located {
-    addr: u16,
-    violation: Violation,
-}
-
-/// The lesser of two violations with their addresses.
-fn lesser(least: Option<Located>, addr: u16, violation: Violation) -> Option<Located>
-    ensures { found_of result ≡ lesser_found
-        (found_of least) record { addr = addr; why = violation.reason; value = violation.value } }
-{
-    match least {
-        Some(old) => {
-            if addr < old.addr || (addr == old.addr && before(violation, old.violation)) {
-                Some(Located { addr, violation })
-            } else {
-                Some(old)
-            }
-        }
-        None => Some(Located { addr, violation }),
-    }
-}
-
-/// The lesser of two violations with their addresses, where the second may be none.
-fn lesser_of(least: Option<Located>, addr: u16, violation: Option<Violation>) -> Option<Located>
-    ensures { found_of result ≡ lesser_of (found_of least) addr violation }
-{
-    match violation {
-        Some(violation) => lesser(least, addr, violation),
-        None => least,
-    }
-}
 
 /// The lesser of a violation and those of a program point under its state.
 #[tactic(auto, using(crate::proofs::Verdicts::least_more))]
@@ -59,28 +26,24 @@ fn least_more(
     summaries: &Summaries,
     all: &Labelling,
     i: usize,
-    least: Option<Located>,
-) -> Option<Located>
+    least: Option<Violation>,
+) -> Option<Violation>
     requires summaries { AreSummaries program.now summaries.now.list.items }
     requires here { i < length all.now.points.items }
-    ensures { least_from (flow program.now)
-        (points_of (drop i all.now.points.items)) (found_of least)
-        ≡ least_from (flow program.now)
-        (points_of (drop (i + 1) all.now.points.items)) (found_of result) }
+    ensures { noted (all_reasons (flow program.now) (points_of (drop i all.now.points.items))) least
+        ≡ noted (all_reasons (flow program.now) (points_of (drop (i + 1) all.now.points.items))) result }
 {
     let point = all.points[i];
-    let violation = violation_with(program, summaries, all.summary(i), &point);
-    lesser_of(least, point.addr, violation)
+    violation_with(program, summaries, all.summary(i), &point, least)
 }
 
 /// The least violation of the program points under their states.
 #[tactic(auto, using(crate::proofs::Verdicts::least_end))]
-fn least_of(program: &Program<'_>, summaries: &Summaries, all: &Labelling) -> Option<Located>
+fn least_of(program: &Program<'_>, summaries: &Summaries, all: &Labelling) -> Option<Violation>
     requires summaries { AreSummaries program.now summaries.now.list.items }
-    ensures { found_of result
-        ≡ least_from (flow program.now) (points_in all.now) None }
+    ensures { result ≡ noted (all_reasons (flow program.now) (points_in all.now)) None }
 {
-    let mut least: Option<Located> = None;
+    let mut least: Option<Violation> = None;
     for i in 0..all.points.len() {
         least = least_more(program, summaries, all, i, least);
     }
@@ -88,14 +51,20 @@ fn least_of(program: &Program<'_>, summaries: &Summaries, all: &Labelling) -> Op
 }
 
 /// The verdict of a least violation.
-fn verdict_of(least: Option<Located>) -> Verdict
-    ensures { result ≡ verdict_of (found_of least) }
+fn verdict_of(least: Option<Violation>) -> Verdict
+    ensures { result ≡ verdict_of least }
 {
     match least {
-        Some(spot) => Verdict::No {
-            addr: spot.addr,
-            reason: spot.violation.reason,
-            value: spot.violation.value,
+        Some(
+            Violation {
+                addr,
+                reason,
+                value,
+            },
+        ) => Verdict::No {
+            addr,
+            reason,
+            value,
         },
         None => Verdict::Yes,
     }

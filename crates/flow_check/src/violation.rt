@@ -1,21 +1,22 @@
 //! What is wrong at a program point: the least violation is told.
 
-ghost use Rattle.std.specs.Prelude.{◌≡◌, ◌≤◌, ◌<◌, ◌*◌, ◌==◌, ℕ};
+ghost use Rattle.std.specs.Prelude.{◌≡◌, ◌≤◌, ◌<◌, ◌*◌, ◌==◌};
 ghost use Rattle.std.specs.Prelude.{None, Some};
 ghost use Rattle.flow_rule.specs.Reasons.{number_of, because_if};
 ghost use Rattle.flow_check.specs.internal.Violations.{before, lesser, noted};
 
 use flow_rule::Reason;
 
-/// A reason, and its value.
+/// A reason, with the address of the program point and its value.
 #[derive(Clone, Copy, Debug, PartialEq, Eq)]
 pub struct Violation {
+    pub addr: u16,
     pub reason: Reason,
     pub value: u16,
 }
 
 /// The number of a reason.
-pub fn number(reason: Reason) -> u32
+fn number(reason: Reason) -> u32
     ensures exact { result ≡ number_of reason }
     ensures few { result ≤ 10 }
 {
@@ -33,12 +34,14 @@ pub fn number(reason: Reason) -> u32
     }
 }
 
-/// Whether a violation comes before another: first by the reason's number, then by the value.
-pub fn before(violation: Violation, old: Violation) -> bool
+/// Whether a violation comes before another: first by the address, then by the reason's number, then by the value.
+fn before(violation: Violation, old: Violation) -> bool
     ensures { result ≡ before violation old }
 {
-    number(violation.reason) < number(old.reason)
-        || (number(violation.reason) == number(old.reason) && violation.value < old.value)
+    let (reason, old_reason) = (number(violation.reason), number(old.reason));
+    violation.addr < old.addr
+        || (violation.addr == old.addr
+            && (reason < old_reason || (reason == old_reason && violation.value < old.value)))
 }
 
 /// The lesser of two violations, where the first may be none.
@@ -58,17 +61,22 @@ fn lesser(least: Option<Violation>, violation: Violation) -> Option<Violation>
 }
 
 /// One violation more.
-pub fn note(least: &mut Option<Violation>, reason: Reason, value: u16)
-    ensures { least.new ≡ lesser least.old record { reason = reason; value = value } }
+pub fn note(least: &mut Option<Violation>, addr: u16, reason: Reason, value: u16)
+    ensures { least.new ≡ lesser least.old record { addr = addr; reason = reason; value = value } }
 {
-    *least = lesser(*least, Violation { reason, value });
+    let violation = Violation {
+        addr,
+        reason,
+        value,
+    };
+    *least = lesser(*least, violation);
 }
 
 /// One violation more, where the test says so.
-pub fn note_if(found: bool, least: &mut Option<Violation>, reason: Reason, value: u16)
-    ensures { (pc : ℕ) → least.new ≡ noted (because_if found pc reason value) least.old }
+pub fn note_if(found: bool, least: &mut Option<Violation>, addr: u16, reason: Reason, value: u16)
+    ensures { least.new ≡ noted (because_if found addr reason value) least.old }
 {
     if found {
-        note(least, reason, value);
+        note(least, addr, reason, value);
     }
 }

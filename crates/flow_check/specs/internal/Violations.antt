@@ -7,9 +7,9 @@ use Rattle.flow_rule.specs.Reasons.{number_of, because_if}
 use Rattle.flow_rule.specs.Stub.{is_shut, word_number, word_of}
 use Rattle.flow_check.specs.declared.violation.Violation.{Violation}
 
--- first by the reason's number, then by the value
+-- first by the address, then by the reason's number, then by the value
 abbrev pub before : Violation → Violation → Bool
-before c old = nat_lt (number_of c.reason) (number_of old.reason) || ((number_of c.reason == number_of old.reason) && nat_lt c.value old.value)
+before c old = nat_lt c.addr old.addr || ((c.addr == old.addr) && (nat_lt (number_of c.reason) (number_of old.reason) || ((number_of c.reason == number_of old.reason) && nat_lt c.value old.value)))
 
 abbrev pub lesser_if : Bool → Violation → Violation → Option Violation
 lesser_if true c old = Some c
@@ -22,7 +22,7 @@ lesser (Some old) c = lesser_if (before c old) c old
 
 -- the violation of a reason that was found
 abbrev pub violation_of : Found → Violation
-violation_of r = record { reason = r.why; value = r.value }
+violation_of r = record { addr = r.addr; reason = r.why; value = r.value }
 
 -- the least of these and of what was there before
 abbrev pub noted : List Found → Option Violation → Option Violation

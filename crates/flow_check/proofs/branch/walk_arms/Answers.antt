@@ -23,12 +23,12 @@ returns-clause-least c =
     let wide : c.from.result ≡ b.arm.join = omega arith in
     let wanted : c.from-wanted.result ≡ b.arm.cycles = omega arith in
     site_least S m text b.insn b.target b.arm x t0 c.walk.new.tally c.walk-2.new.tally refl
-    (λ branch. c.walk.ensures branch ∙ ap (λ y. told (walk S m text branch b.arm.join (suc b.arm.join) y) t0) c.first_arm-first.ensures)
-    (λ branch. c.walk-2.ensures branch ∙ ap (λ y. told (walk S m text branch b.arm.join (suc b.arm.join) y) (record c.walk.new.tally { cycles = 0 })) c.second_arm-second.ensures)
+    (c.walk.ensures ∙ ap (λ y. told (walk S m text c.args.from.now.addr b.arm.join (suc b.arm.join) y) t0) c.first_arm-first.ensures)
+    (c.walk-2.ensures ∙ ap (λ y. told (walk S m text c.args.from.now.addr b.arm.join (suc b.arm.join) y) (record c.walk.new.tally { cycles = 0 })) c.second_arm-second.ensures)
     c.args.least.now c.note_if-2.new.least c.note_if-3.new.least
-    (λ pc. c.note_if.ensures pc ∙ ap (λ b. noted (because_if (not b) pc ArmInsn c.args.site.now.arm.join) c.args.least.now) (c.holds-apart.ensures.exact ∙ ap (holds m.text) wide))
-    (λ pc. c.note_if-2.ensures pc ∙ ap (λ n. noted (because_if (not (c.walk.new.tally.cycles == n)) pc ArmTime 0) c.walk-2.new.tally.least) wanted)
-    (λ pc. c.note_if-3.ensures pc ∙ ap (λ n. noted (because_if (not (c.walk-2.new.tally.cycles == n)) pc ArmTime 1) c.note_if-2.new.least) wanted)
+    (c.note_if.ensures ∙ ap (λ b. noted (because_if (not b) c.args.from.now.addr ArmInsn c.args.site.now.arm.join) c.args.least.now) (c.holds-apart.ensures.exact ∙ ap (holds m.text) wide))
+    (c.note_if-2.ensures ∙ ap (λ n. noted (because_if (not (c.walk.new.tally.cycles == n)) c.args.from.now.addr ArmTime 0) c.walk-2.new.tally.least) wanted)
+    (c.note_if-3.ensures ∙ ap (λ n. noted (because_if (not (c.walk-2.new.tally.cycles == n)) c.args.from.now.addr ArmTime 1) c.note_if-2.new.least) wanted)
 
 pub returns-clause-told : goal.returns-clause-told
 returns-clause-told c =
@@ -39,5 +39,5 @@ returns-clause-told c =
     let x : Point = point_at c.args.from.now in
     let t0 : Tally = record { least = c.note_if.new.least; cycles = 0; state = c.args.told.now } in
     site_told S m text b.insn b.target b.arm x t0 c.walk.new.tally c.walk-2.new.tally refl
-    (λ branch. c.walk.ensures branch ∙ ap (λ y. told (walk S m text branch b.arm.join (suc b.arm.join) y) t0) c.first_arm-first.ensures)
-    (λ branch. c.walk-2.ensures branch ∙ ap (λ y. told (walk S m text branch b.arm.join (suc b.arm.join) y) (record c.walk.new.tally { cycles = 0 })) c.second_arm-second.ensures)
+    (c.walk.ensures ∙ ap (λ y. told (walk S m text c.args.from.now.addr b.arm.join (suc b.arm.join) y) t0) c.first_arm-first.ensures)
+    (c.walk-2.ensures ∙ ap (λ y. told (walk S m text c.args.from.now.addr b.arm.join (suc b.arm.join) y) (record c.walk.new.tally { cycles = 0 })) c.second_arm-second.ensures)

@@ -14,7 +14,7 @@ returns c =
     let s : Step = step_of m c.args.text.now (point_of pc c.args.stepped.now.call_string c.args.state.now) in
     let told = c.step.ensures in record {
       least = shut_after m pc s c.as_slice.result.now c.args.stepped.now.least c.step.new.stepped.least c.check_shut.new.least told.least
-          (c.as_slice.ensures.value ∙ told.targets ∙ ap (λ t. t ++ addrs_of s.gives) c.requires.empty) (c.check_shut.ensures pc);
+          (c.as_slice.ensures.value ∙ told.targets ∙ ap (λ t. t ++ addrs_of s.gives) c.requires.empty) c.check_shut.ensures;
       targets = told.targets;
       successors = λ none. told.successors (none_left s.reasons (shut_reasons m pc s.gives) none);
     }

@@ -1,4 +1,4 @@
-use Rattle.std.proofs.Common.{◌∙◌, ap, sym, None, ℕ, List}
+use Rattle.std.proofs.Common.{◌∙◌, ap, sym, ℕ, List}
 use Rattle.flow_rule.specs.Verdict.{flow_step}
 use Rattle.flow_rule.specs.Rounds.{Point, Step}
 use Rattle.flow_check.specs.internal.Violations.{noted}
@@ -12,7 +12,7 @@ returns-in-Some c =
     let m = c.args.program.now.module.now in
     let text : List ℕ = c.args.program.now.text.now in
     let x : Point = point_at c.args.point.now in
-    c.violation_of_arms.ensures ∙ ap (λ s. noted s.reasons None) (sym (by_site (flow_step m text) c.args.program.now.arms.now m text x c.in-Some.site (sym c.site_of.ensures ∙ c.in-Some.is)))
+    c.violation_of_arms.ensures ∙ ap (λ s. noted s.reasons c.args.least) (sym (by_site (flow_step m text) c.args.program.now.arms.now m text x c.in-Some.site (sym c.site_of.ensures ∙ c.in-Some.is)))
 
 pub returns-in-None : goal.returns-in-None
 returns-in-None c =
@@ -20,5 +20,5 @@ returns-in-None c =
     let text : List ℕ = c.args.program.now.text.now in
     let S : Point → Step = flow_step m text in
     let x : Point = point_at c.args.point.now in
-    c.step_base.ensures.least ∙ ap (λ r. noted (S (point_of c.args.point.now.addr r c.args.point.now.state)).reasons c.new-stepped.result.least) c.new-stepped.ensures.call_string ∙ ap (noted (S x).reasons) c.new-stepped.ensures.least
-    ∙ ap (λ s. noted s.reasons None) (sym (by_none S c.args.program.now.arms.now m text x (sym c.site_of.ensures ∙ c.in-None.is)))
+    c.step_base.ensures.least ∙ ap (λ r. noted (S (point_of c.args.point.now.addr r c.args.point.now.state)).reasons c.args.least) c.new-stepped.ensures.call_string
+    ∙ ap (λ s. noted s.reasons c.args.least) (sym (by_none S c.args.program.now.arms.now m text x (sym c.site_of.ensures ∙ c.in-None.is)))
