@@ -21,7 +21,7 @@ fn rows() -> [(u16, u16, Verdict); 4] {
         (0x0404, 0x12b0, Verdict::Yes),
         // Past the data.
         (0x0420, 0x12b0, no(0x0334, Reason::Arm, 0x0336)),
-        // Two addresses under one list of return addresses.
+        // Two addresses under one call string.
         (0x0406, 0x3ffb, no(0x0334, Reason::Arm, 0x0336)),
     ]
 }
