@@ -1,6 +1,6 @@
 -- A walk along an arm, step by step, and the step of a branch with its certificate.
 use Rattle.std.proofs.Common.{◌≡◌, ◌≢◌, ℕ, zero, suc, ◌+◌, ◌<◌, ◌==◌, List, [], ◌∷◌, ◌++◌, refl, sym, ap, ◌∙◌, subst, arith, Bool, true, false, cond, ◌&&◌, ◌||◌, not, Option, Some, None, is_some}
-use Rattle.flow_check.specs.declared.returns.Returns.{Returns}
+use Rattle.flow_check.specs.declared.call_string.CallString.{CallString}
 use Rattle.std.specs.List.{slice_get}
 use Rattle.std.proofs.lemmas.Bool.Decides.{nat_tests}
 use Rattle.sm_words.specs.Words.{add16}
@@ -20,15 +20,15 @@ use Rattle.flow_rule.specs.Values.{is_secret, val}
 use Rattle.flow_rule.specs.Does.{plan_val, write_reaches, past_val, does_val}
 use Rattle.flow_rule.specs.Reasons.{because_if}
 use Rattle.flow_rule.specs.Arms.{written_regs, written_words, met_regs, met_words, blot, blot_core, Walk, ended, walk_past, walk_on, walk, arm_start, find_arm, step_arm, step_branch, step_arms_by, step_arms}
-use Rattle.flow_check.specs.declared.step.Cause.{Cause}
-use Rattle.flow_check.specs.declared.arms.Crossing.{Crossing}
-use Rattle.flow_check.specs.declared.walk.Tally.{Tally}
-use Rattle.flow_check.specs.Causes.{noted}
-use Rattle.flow_check.specs.Pairs.{point_of, addrs_of, points_at, label_at}
-use Rattle.flow_check.specs.Walks.{told, branch_of, crossing_by, crossed}
-use Rattle.flow_check.proofs.Blots.{core_append, words_append}
-use Rattle.flow_check.proofs.Causes.{noted_append}
-use Rattle.flow_check.proofs.Giving.{none_found}
+use Rattle.flow_check.specs.declared.violation.Violation.{Violation}
+use Rattle.flow_check.specs.declared.branch.BranchSite.{BranchSite}
+use Rattle.flow_check.specs.declared.arm.Tally.{Tally}
+use Rattle.flow_check.specs.internal.Violations.{noted}
+use Rattle.flow_check.specs.internal.Points.{point_of, addrs_of, points_at, label_at}
+use Rattle.flow_check.specs.internal.Arms.{told, site_from, site_by, step_at}
+use Rattle.flow_check.proofs.Clobbering.{core_append, words_append}
+use Rattle.flow_check.proofs.Violations.{noted_append}
+use Rattle.flow_check.proofs.Successors.{none_found}
 
 -- ---- one step
 
@@ -56,30 +56,30 @@ module _ (S : Point → Step) (m : Module) (text : List ℕ) (branch join : ℕ)
       walk_at steps x (Some next) ne on ∙ ap (λ rs. walk_past rs (S x).gives branch (holds m.text join || not (next == join)) next m text x (walk S m text branch join steps)) none
 
   -- an instruction that leaves the text
-  pub walk_leaves : (steps : ℕ) (x : Point) (t : Tally) (next : ℕ) (lost : Bool) (l : Option Cause) → x.pair.addr ≢ join → arm_on m.text text join x.pair.addr ≡ Some next → (S x).reasons ≡ [] → (S x).gives ≡ [] →
-      lost ≡ (holds m.text join || not (next == join)) → ((pc : ℕ) → l ≡ noted (because_if lost pc ArmInsn next) t.least) → told (walk S m text branch join (suc steps) x) t ≡ record t { least = l }
+  pub walk_leaves : (steps : ℕ) (x : Point) (t : Tally) (next : ℕ) (lost : Bool) (l : Option Violation) → x.pair.addr ≢ join → arm_on m.text text join x.pair.addr ≡ Some next → (S x).reasons ≡ [] → (S x).gives ≡ [] →
+      lost ≡ (holds m.text join || not (next == join)) → l ≡ noted (because_if lost branch ArmInsn next) t.least → told (walk S m text branch join (suc steps) x) t ≡ record t { least = l }
   walk_leaves steps x t next lost l ne on none out el e =
       ap (λ w. told w t) (calm steps x next ne on none ∙ ap (λ gs. walk_past [] gs branch (holds m.text join || not (next == join)) next m text x (walk S m text branch join steps)) out)
       ∙ by (holds m.text join || not (next == join)) (sym el)
     where
       by : (b : Bool) → b ≡ lost → told (record ended { reasons = because_if b branch ArmInsn next }) t ≡ record t { least = l }
       by b f =
-          ap (λ c. record { least = noted (because_if b branch ArmInsn next) t.least; cycles = c; label = t.label }) (let g : t.cycles + 0 ≡ t.cycles = omega arith in g)
-          ∙ ap (λ l. record t { least = l }) (ap (λ b. noted (because_if b branch ArmInsn next) t.least) f ∙ sym (e branch))
+          ap (λ c. record { least = noted (because_if b branch ArmInsn next) t.least; cycles = c; state = t.state }) (let g : t.cycles + 0 ≡ t.cycles = omega arith in g)
+          ∙ ap (λ l. record t { least = l }) (ap (λ b. noted (because_if b branch ArmInsn next) t.least) f ∙ sym e)
 
   -- an instruction that goes on
   pub walk_goes : (steps : ℕ) (x y : Point) (ys : List Point) (t : Tally) (next : ℕ) (insn : Insn) → x.pair.addr ≢ join → arm_on m.text text join x.pair.addr ≡ Some next → met m.text text x.pair.addr ≡ Some insn →
       (S x).reasons ≡ [] → (S x).gives ≡ y ∷ ys →
       told (walk S m text branch join (suc steps) x) t
-      ≡ told (walk S m text branch join steps y) (record t { cycles = t.cycles + cycles_of insn; label = record { core = blot_core (written_regs insn) t.label.core; words = blot (written_words m (write_reaches (plan_val insn x.pair.addr x.label.core))) t.label.words } })
+      ≡ told (walk S m text branch join steps y) (record t { cycles = t.cycles + cycles_of insn; state = record { core = blot_core (written_regs insn) t.state.core; words = blot (written_words m (write_reaches (plan_val insn x.pair.addr x.label.core))) t.state.words } })
   walk_goes steps x y ys t next insn ne on it none go =
       ap (λ w. told w t)
       (calm steps x next ne on none ∙ ap (λ gs. walk_past [] gs branch (holds m.text join || not (next == join)) next m text x (walk S m text branch join steps)) go
       ∙ ap (λ o. record { reasons = rest.reasons; cycles = met_cycles o + rest.cycles; regs = met_regs o ++ rest.regs; words = met_words o m x ++ rest.words }) it)
-      ∙ ap (λ c. record { least = noted rest.reasons t.least; cycles = c; label = record { core = blot_core (written_regs insn ++ rest.regs) t.label.core; words = blot (ws ++ rest.words) t.label.words } })
+      ∙ ap (λ c. record { least = noted rest.reasons t.least; cycles = c; state = record { core = blot_core (written_regs insn ++ rest.regs) t.state.core; words = blot (ws ++ rest.words) t.state.words } })
       (let e : t.cycles + (cycles_of insn + rest.cycles) ≡ t.cycles + cycles_of insn + rest.cycles = omega arith in e)
-      ∙ ap (λ c. record { least = noted rest.reasons t.least; cycles = t.cycles + cycles_of insn + rest.cycles; label = record { core = c; words = blot (ws ++ rest.words) t.label.words } }) (core_append (written_regs insn) rest.regs t.label.core)
-      ∙ ap (λ w. record { least = noted rest.reasons t.least; cycles = t.cycles + cycles_of insn + rest.cycles; label = record { core = blot_core rest.regs (blot_core (written_regs insn) t.label.core); words = w } }) (words_append ws rest.words t.label.words)
+      ∙ ap (λ c. record { least = noted rest.reasons t.least; cycles = t.cycles + cycles_of insn + rest.cycles; state = record { core = c; words = blot (ws ++ rest.words) t.state.words } }) (core_append (written_regs insn) rest.regs t.state.core)
+      ∙ ap (λ w. record { least = noted rest.reasons t.least; cycles = t.cycles + cycles_of insn + rest.cycles; state = record { core = blot_core rest.regs (blot_core (written_regs insn) t.state.core); words = w } }) (words_append ws rest.words t.state.words)
     where
       rest : Walk
       rest = walk S m text branch join steps y
@@ -93,31 +93,31 @@ module _ (S : Point → Step) (m : Module) (text : List ℕ) (branch join : ℕ)
   walk_there (suc steps) x t h e = ap (λ w. told w t) (walk_joins steps x e) ∙ told_none t
 
 -- what is given, by the first address
-pub gives_first : (gs : List Point) (ts rs : List ℕ) (l : Label) (to : ℕ) → ts ≡ addrs_of gs → gs ≡ points_at (addrs_of gs) rs l → slice_get ts 0 ≡ Some to →
+pub successors_first : (gs : List Point) (ts rs : List ℕ) (l : Label) (to : ℕ) → ts ≡ addrs_of gs → gs ≡ points_at (addrs_of gs) rs l → slice_get ts 0 ≡ Some to →
     (ys : List Point) × (gs ≡ record { pair = record { addr = to; returns = rs }; label = label_at to l } ∷ ys)
-gives_first gs [] rs l to et eg e = absurd cc
-gives_first gs (t ∷ ts) rs l to et eg e =
+successors_first gs [] rs l to et eg e = absurd cc
+successors_first gs (t ∷ ts) rs l to et eg e =
     let f : t ≡ to = cc in
     (points_at ts rs l, eg ∙ ap (λ ts. points_at ts rs l) (sym et) ∙ ap (λ a. record { pair = record { addr = a; returns = rs }; label = label_at a l } ∷ points_at ts rs l) f)
 
-pub gives_none : (gs : List Point) (ts rs : List ℕ) (l : Label) → ts ≡ addrs_of gs → gs ≡ points_at (addrs_of gs) rs l → slice_get ts 0 ≡ None → gs ≡ []
-gives_none gs [] rs l et eg e = eg ∙ ap (λ ts. points_at ts rs l) (sym et)
-gives_none gs (t ∷ ts) rs l et eg e = absurd cc
+pub successors_none : (gs : List Point) (ts rs : List ℕ) (l : Label) → ts ≡ addrs_of gs → gs ≡ points_at (addrs_of gs) rs l → slice_get ts 0 ≡ None → gs ≡ []
+successors_none gs [] rs l et eg e = eg ∙ ap (λ ts. points_at ts rs l) (sym et)
+successors_none gs (t ∷ ts) rs l et eg e = absurd cc
 
 -- ---- the step of a branch
 
 -- a step by its certificate
-pub crossed_is : (S : Point → Step) (arms : List Arm) (m : Module) (text : List ℕ) (x : Point) → step_arms S arms m text x ≡ crossed (crossing_by (met m.text text x.pair.addr) arms x.pair.addr (val x.label.core 2)) S m text x
+pub site_is : (S : Point → Step) (arms : List Arm) (m : Module) (text : List ℕ) (x : Point) → step_arms S arms m text x ≡ step_at (site_by (met m.text text x.pair.addr) arms x.pair.addr (val x.label.core 2)) S m text x
 unfolding step_arms
-crossed_is S arms m text x = by (met m.text text x.pair.addr)
+site_is S arms m text x = by (met m.text text x.pair.addr)
   where
-    by : (o : Option Insn) → step_arms_by o S arms m text x ≡ crossed (crossing_by o arms x.pair.addr (val x.label.core 2)) S m text x
+    by : (o : Option Insn) → step_arms_by o S arms m text x ≡ step_at (site_by o arms x.pair.addr (val x.label.core 2)) S m text x
     by (Some (Jump c off)) = jump (not (c == 7) && is_secret (val x.label.core 2)) (find_arm arms x.pair.addr)
       where
         target : ℕ
         target = add16 (add16 x.pair.addr 2) (distance off)
 
-        jump : (b : Bool) (a : Option Arm) → cond b (step_branch a S m text (Jump c off) x target) (S x) ≡ crossed (cond b (branch_of a (Jump c off) target) None) S m text x
+        jump : (b : Bool) (a : Option Arm) → cond b (step_branch a S m text (Jump c off) x target) (S x) ≡ step_at (cond b (site_from a (Jump c off) target) None) S m text x
         jump true None = refl
         jump true (Some a) = refl
         jump false a = refl
@@ -125,8 +125,8 @@ crossed_is S arms m text x = by (met m.text text x.pair.addr)
 
 module _ (S : Point → Step) (m : Module) (text : List ℕ) (insn : Insn) (target : ℕ) (arm : Arm) (x : Point) (t0 t1 t2 : Tally)
     (still : t0.cycles ≡ 0)
-    (first : (branch : ℕ) → t1 ≡ told (walk S m text branch arm.join (suc arm.join) (arm_start insn (add16 x.pair.addr 2) x (past_val insn x.pair.addr x.label.core))) t0)
-    (second : (branch : ℕ) → t2 ≡ told (walk S m text branch arm.join (suc arm.join) (arm_start insn target x (does_val insn x.pair.addr x.label.core []).core)) (record t1 { cycles = 0 }))
+    (first : t1 ≡ told (walk S m text x.pair.addr arm.join (suc arm.join) (arm_start insn (add16 x.pair.addr 2) x (past_val insn x.pair.addr x.label.core))) t0)
+    (second : t2 ≡ told (walk S m text x.pair.addr arm.join (suc arm.join) (arm_start insn target x (does_val insn x.pair.addr x.label.core []).core)) (record t1 { cycles = 0 }))
   where
     abbrev w0 : Walk
     w0 = walk S m text x.pair.addr arm.join (suc arm.join) (arm_start insn (add16 x.pair.addr 2) x (past_val insn x.pair.addr x.label.core))
@@ -135,59 +135,59 @@ module _ (S : Point → Step) (m : Module) (text : List ℕ) (insn : Insn) (targ
     w1 = walk S m text x.pair.addr arm.join (suc arm.join) (arm_start insn target x (does_val insn x.pair.addr x.label.core []).core)
 
     first_time : t1.cycles ≡ w0.cycles
-    first_time = ap (λ t. t.cycles) (first x.pair.addr) ∙ ap (λ n. n + w0.cycles) still ∙ (let e : 0 + w0.cycles ≡ w0.cycles = omega arith in e)
+    first_time = ap (λ t. t.cycles) first ∙ ap (λ n. n + w0.cycles) still ∙ (let e : 0 + w0.cycles ≡ w0.cycles = omega arith in e)
 
     second_time : t2.cycles ≡ w1.cycles
-    second_time = ap (λ t. t.cycles) (second x.pair.addr) ∙ (let e : 0 + w1.cycles ≡ w1.cycles = omega arith in e)
+    second_time = ap (λ t. t.cycles) second ∙ (let e : 0 + w1.cycles ≡ w1.cycles = omega arith in e)
 
     -- the least of the reasons at a branch with a certificate
-    pub crossing_least : (o l1 l2 : Option Cause) → ((pc : ℕ) → t0.least ≡ noted (because_if (not (holds m.text arm.join)) pc ArmInsn arm.join) o) →
-        ((pc : ℕ) → l1 ≡ noted (because_if (not (t1.cycles == arm.cycles)) pc ArmTime 0) t2.least) →
-        ((pc : ℕ) → l2 ≡ noted (because_if (not (t2.cycles == arm.cycles)) pc ArmTime 1) l1) → l2 ≡ noted (step_arm S m text insn target arm x).reasons o
-    crossing_least o l1 l2 e0 e1 e2 =
+    pub site_least : (o l1 l2 : Option Violation) → t0.least ≡ noted (because_if (not (holds m.text arm.join)) x.pair.addr ArmInsn arm.join) o →
+        l1 ≡ noted (because_if (not (t1.cycles == arm.cycles)) x.pair.addr ArmTime 0) t2.least →
+        l2 ≡ noted (because_if (not (t2.cycles == arm.cycles)) x.pair.addr ArmTime 1) l1 → l2 ≡ noted (step_arm S m text insn target arm x).reasons o
+    site_least o l1 l2 e0 e1 e2 =
         let pc : ℕ = x.pair.addr in
         let a : List Found = because_if (not (holds m.text arm.join)) pc ArmInsn arm.join in
         let b : List Found = because_if (not (w0.cycles == arm.cycles)) pc ArmTime 0 in
         let c : List Found = because_if (not (w1.cycles == arm.cycles)) pc ArmTime 1 in
         let walked : t2.least ≡ noted w1.reasons (noted w0.reasons (noted a o)) =
-        ap (λ t. t.least) (second pc) ∙ ap (noted w1.reasons) (ap (λ t. t.least) (first pc) ∙ ap (noted w0.reasons) (e0 pc)) in
-        e2 pc ∙ ap (λ n. noted (because_if (not (n == arm.cycles)) pc ArmTime 1) l1) second_time
-        ∙ ap (noted c) (e1 pc ∙ ap (λ n. noted (because_if (not (n == arm.cycles)) pc ArmTime 0) t2.least) first_time ∙ ap (noted b) walked)
+        ap (λ t. t.least) second ∙ ap (noted w1.reasons) (ap (λ t. t.least) first ∙ ap (noted w0.reasons) e0) in
+        e2 ∙ ap (λ n. noted (because_if (not (n == arm.cycles)) pc ArmTime 1) l1) second_time
+        ∙ ap (noted c) (e1 ∙ ap (λ n. noted (because_if (not (n == arm.cycles)) pc ArmTime 0) t2.least) first_time ∙ ap (noted b) walked)
         ∙ sym (noted_append (a ++ w0.reasons ++ w1.reasons ++ b) c o ∙ ap (noted c) (noted_append (a ++ w0.reasons ++ w1.reasons) b o
         ∙ ap (noted b) (noted_append (a ++ w0.reasons) w1.reasons o ∙ ap (noted w1.reasons) (noted_append a w0.reasons o))))
 
     -- Secret where the arms wrote
-    pub crossing_told : t2.label ≡ record { core = blot_core (w0.regs ++ w1.regs) t0.label.core; words = blot (w0.words ++ w1.words) t0.label.words }
-    crossing_told =
-        ap (λ t. t.label) (second x.pair.addr)
-        ∙ ap (λ l. record { core = blot_core w1.regs l.core; words = blot w1.words l.words }) (ap (λ t. t.label) (first x.pair.addr))
-        ∙ ap (λ c. record { core = c; words = blot w1.words (blot w0.words t0.label.words) }) (sym (core_append w0.regs w1.regs t0.label.core))
-        ∙ ap (λ w. record { core = blot_core (w0.regs ++ w1.regs) t0.label.core; words = w }) (sym (words_append w0.words w1.words t0.label.words))
+    pub site_told : t2.state ≡ record { core = blot_core (w0.regs ++ w1.regs) t0.state.core; words = blot (w0.words ++ w1.words) t0.state.words }
+    site_told =
+        ap (λ t. t.state) second
+        ∙ ap (λ l. record { core = blot_core w1.regs l.core; words = blot w1.words l.words }) (ap (λ t. t.state) first)
+        ∙ ap (λ c. record { core = c; words = blot w1.words (blot w0.words t0.state.words) }) (sym (core_append w0.regs w1.regs t0.state.core))
+        ∙ ap (λ w. record { core = blot_core (w0.regs ++ w1.regs) t0.state.core; words = w }) (sym (words_append w0.words w1.words t0.state.words))
 
 -- a step by what stands at the branch
-pub by_crossing : (S : Point → Step) (arms : List Arm) (m : Module) (text : List ℕ) (x : Point) (c : Crossing) → crossing_by (met m.text text x.pair.addr) arms x.pair.addr (val x.label.core 2) ≡ Some c →
+pub by_site : (S : Point → Step) (arms : List Arm) (m : Module) (text : List ℕ) (x : Point) (c : BranchSite) → site_by (met m.text text x.pair.addr) arms x.pair.addr (val x.label.core 2) ≡ Some c →
     step_arms S arms m text x ≡ step_arm S m text c.insn c.target c.arm x
-by_crossing S arms m text x c e = crossed_is S arms m text x ∙ ap (λ o. crossed o S m text x) e
+by_site S arms m text x c e = site_is S arms m text x ∙ ap (λ o. step_at o S m text x) e
 
-pub by_none : (S : Point → Step) (arms : List Arm) (m : Module) (text : List ℕ) (x : Point) → crossing_by (met m.text text x.pair.addr) arms x.pair.addr (val x.label.core 2) ≡ None → step_arms S arms m text x ≡ S x
-by_none S arms m text x e = crossed_is S arms m text x ∙ ap (λ o. crossed o S m text x) e
+pub by_none : (S : Point → Step) (arms : List Arm) (m : Module) (text : List ℕ) (x : Point) → site_by (met m.text text x.pair.addr) arms x.pair.addr (val x.label.core 2) ≡ None → step_arms S arms m text x ≡ S x
+by_none S arms m text x e = site_is S arms m text x ∙ ap (λ o. step_at o S m text x) e
 
 -- ---- what the code's step tells
 
-pub calm_step : (S : Point → Step) (pc : ℕ) (r0 r : Returns) (l : Label) (o0 o : Option Cause) → r0 ≡ r → o0 ≡ None → o ≡ noted (S (point_of pc r0 l)).reasons o0 → is_some o ≡ false → (S (point_of pc r l)).reasons ≡ []
+pub calm_step : (S : Point → Step) (pc : ℕ) (r0 r : CallString) (l : Label) (o0 o : Option Violation) → r0 ≡ r → o0 ≡ None → o ≡ noted (S (point_of pc r0 l)).reasons o0 → is_some o ≡ false → (S (point_of pc r l)).reasons ≡ []
 calm_step S pc r0 r l o0 o er eo e none =
     none_found (S (point_of pc r l)).reasons
     (sym (e ∙ ap (λ r. noted (S (point_of pc r l)).reasons o0) er ∙ ap (λ o. noted (S (point_of pc r l)).reasons o) eo) ∙ nothing o none)
   where
-    nothing : (o : Option Cause) → is_some o ≡ false → o ≡ None
+    nothing : (o : Option Violation) → is_some o ≡ false → o ≡ None
     nothing None e = refl
     nothing (Some c) e = absurd cc
 
-pub same_gives : (S : Point → Step) (pc : ℕ) (r0 r : Returns) (l : Label) (t0 t : List ℕ) → r0 ≡ r → t0 ≡ [] → t ≡ t0 ++ addrs_of (S (point_of pc r0 l)).gives → t ≡ addrs_of (S (point_of pc r l)).gives
-same_gives S pc r0 r l t0 t er et e = e ∙ ap (λ t0. t0 ++ addrs_of (S (point_of pc r0 l)).gives) et ∙ ap (λ r. addrs_of (S (point_of pc r l)).gives) er
+pub same_successors : (S : Point → Step) (pc : ℕ) (r0 r : CallString) (l : Label) (t0 t : List ℕ) → r0 ≡ r → t0 ≡ [] → t ≡ t0 ++ addrs_of (S (point_of pc r0 l)).gives → t ≡ addrs_of (S (point_of pc r l)).gives
+same_successors S pc r0 r l t0 t er et e = e ∙ ap (λ t0. t0 ++ addrs_of (S (point_of pc r0 l)).gives) et ∙ ap (λ r. addrs_of (S (point_of pc r l)).gives) er
 
-pub same_points : (S : Point → Step) (pc : ℕ) (r0 r : Returns) (l l1 : Label) (rs : List ℕ) → r0 ≡ r → (S (point_of pc r l)).reasons ≡ [] →
+pub same_points : (S : Point → Step) (pc : ℕ) (r0 r : CallString) (l l1 : Label) (rs : List ℕ) → r0 ≡ r → (S (point_of pc r l)).reasons ≡ [] →
     ((S (point_of pc r0 l)).reasons ≡ [] → (S (point_of pc r0 l)).gives ≡ points_at (addrs_of (S (point_of pc r0 l)).gives) rs l1) → (S (point_of pc r l)).gives ≡ points_at (addrs_of (S (point_of pc r l)).gives) rs l1
 same_points S pc r0 r l l1 rs er none h =
-    let Q : Returns → Type 0 = λ r. (S (point_of pc r l)).reasons ≡ [] → (S (point_of pc r l)).gives ≡ points_at (addrs_of (S (point_of pc r l)).gives) rs l1 in
+    let Q : CallString → Type 0 = λ r. (S (point_of pc r l)).reasons ≡ [] → (S (point_of pc r l)).gives ≡ points_at (addrs_of (S (point_of pc r l)).gives) rs l1 in
     subst Q er h none

@@ -8,9 +8,9 @@ use std::process::Abort;
 use std::test::Fail;
 
 mod modes;
-mod passages;
-mod reasons;
 mod stubs;
+mod summaries;
+mod violations;
 
 /// The most bytes of a text in these tests.
 const MOST: usize = 256;

@@ -1,0 +1,177 @@
+-- The least violation, and the verdict.
+use Rattle.std.proofs.Common.{◌≡◌, ◌⊎◌, inl, inr, ℕ, zero, suc, ◌+◌, ◌<◌, ◌≤◌, List, [], ◌∷◌, ◌++◌, length, drop, get_or, refl, sym, ap, ◌∙◌, subst, arith, Bool, true, false, nat_lt, ◌==◌, ◌&&◌, ◌||◌, Option, Some, None, append_assoc, append-nil}
+use Rattle.std.proofs.lemmas.Bool.Decides.{nat_tests}
+use Rattle.std.proofs.lemmas.Bool.{ltb-true, ltb-false, eqb-true}
+use Rattle.std.proofs.Math.ListN.{drop_of_length-le}
+use Rattle.flow_rule.specs.declared.Reason.TheVariants.{TooMany}
+use Rattle.flow_rule.specs.declared.Label.{Label}
+use Rattle.flow_rule.specs.declared.Verdict.{Verdict}
+use Rattle.flow_rule.specs.declared.Verdict.TheVariants.{No}
+use Rattle.flow_rule.specs.Rounds.{Found, Point, Step, join_all, given, round, rounds, IsLabelling, all_reasons}
+use Rattle.flow_rule.specs.Reasons.{number_of, NotAfter, BeforeAll, AmongThem}
+use Rattle.flow_rule.specs.Verdict.{Decided}
+use Rattle.flow_check.specs.declared.violation.Violation.{Violation}
+use Rattle.flow_check.specs.declared.point.Point.{Point as CodePoint}
+use Rattle.flow_check.specs.declared.labelling.Changed.{Changed}
+use Rattle.flow_check.specs.declared.call_string.CallString.{CallString}
+use Rattle.flow_check.specs.internal.Violations.{before, lesser, lesser_if, violation_of, noted}
+use Rattle.flow_check.specs.internal.Points.{point_at, points_of, fronts_of, list_of}
+use Rattle.flow_check.specs.internal.Marks.{flagged, Kept, Reached}
+use Rattle.flow_check.specs.internal.Verdicts.{found, verdict_of}
+use Rattle.flow_check.proofs.Violations.{noted_append}
+use Rattle.flow_check.proofs.Iterating.{reached_more, reached_rests, reached_start, flagged_round}
+use Rattle.flow_check.proofs.Taking.{points_length}
+
+-- ---- the order
+abbrev Lex : ℕ → ℕ → ℕ → ℕ → Type 0
+Lex n v m w = (n < m) ⊎ ((n ≡ m) × (v ≤ w))
+
+eq_not : (a b : ℕ) → (a == b) ≡ false → b ≤ a → b < a
+eq_not a b e h = grind (arith, nat_tests)
+
+lex_true : (n m v w : ℕ) → (nat_lt n m || ((n == m) && nat_lt v w)) ≡ true → Lex n v m w
+lex_true n m v w e = by (nat_lt n m) (n == m) (nat_lt v w) refl refl refl e
+  where
+    by : (a b c : Bool) → nat_lt n m ≡ a → (n == m) ≡ b → nat_lt v w ≡ c → (a || (b && c)) ≡ true → Lex n v m w
+    by true b c p q r e = inl (ltb-true n m p)
+    by false true true p q r e = let h = ltb-true v w r in inr (eqb-true n m q, omega (arith, h))
+    by false _ _ p q r e = absurd cc
+
+lex_false : (n m v w : ℕ) → (nat_lt n m || ((n == m) && nat_lt v w)) ≡ false → Lex m w n v
+lex_false n m v w e = by (nat_lt n m) (n == m) (nat_lt v w) refl refl refl e
+  where
+    by : (a b c : Bool) → nat_lt n m ≡ a → (n == m) ≡ b → nat_lt v w ≡ c → (a || (b && c)) ≡ false → Lex m w n v
+    by false true false p q r e = inr (sym (eqb-true n m q), ltb-false v w r)
+    by false false c p q r e = inl (eq_not n m q (ltb-false n m p))
+    by _ _ _ p q r e = absurd cc
+
+lex_trans : (a b c d e f : ℕ) → Lex a b c d → Lex c d e f → Lex a b e f
+lex_trans a b c d e f (inl p) (inl q) = inl (omega (arith, p, q))
+lex_trans a b c d e f (inl p) (inr q) = let h = q.0 in inl (omega (arith, p, h))
+lex_trans a b c d e f (inr p) (inl q) = let h = p.0 in inl (omega (arith, h, q))
+lex_trans a b c d e f (inr p) (inr q) = let h = p.1 in let k = q.1 in inr (p.0 ∙ q.0, omega (arith, h, k))
+
+-- the order at one address
+abbrev second : Violation → Violation → Bool
+second c old = nat_lt (number_of c.reason) (number_of old.reason) || ((number_of c.reason == number_of old.reason) && nat_lt c.value old.value)
+
+after_trans : (x y z : Found) → NotAfter x y → NotAfter y z → NotAfter x z
+after_trans x y z (inl p) (inl q) = inl (omega (arith, p, q))
+after_trans x y z (inl p) (inr q) = inl (subst (λ a. x.addr < a) q.0 p)
+after_trans x y z (inr p) (inl q) = inl (subst (λ a. a < z.addr) (sym p.0) q)
+after_trans x y z (inr p) (inr q) = inr (p.0 ∙ q.0, lex_trans (number_of x.why) x.value (number_of y.why) y.value (number_of z.why) z.value p.1 q.1)
+
+after_same : (x : Found) → NotAfter x x
+after_same x = inr (refl, inr (refl, omega arith))
+
+first_true : (c old : Violation) → before c old ≡ true → NotAfter (found c) (found old)
+first_true c old e = by (nat_lt c.addr old.addr) (c.addr == old.addr) (second c old) refl refl refl e
+  where
+    by : (a b s : Bool) → nat_lt c.addr old.addr ≡ a → (c.addr == old.addr) ≡ b → second c old ≡ s → (a || (b && s)) ≡ true → NotAfter (found c) (found old)
+    by true b s p q r e = inl (ltb-true c.addr old.addr p)
+    by false true true p q r e = inr (eqb-true c.addr old.addr q, lex_true (number_of c.reason) (number_of old.reason) c.value old.value r)
+    by false _ _ p q r e = absurd cc
+
+first_false : (c old : Violation) → before c old ≡ false → NotAfter (found old) (found c)
+first_false c old e = by (nat_lt c.addr old.addr) (c.addr == old.addr) (second c old) refl refl refl e
+  where
+    by : (a b s : Bool) → nat_lt c.addr old.addr ≡ a → (c.addr == old.addr) ≡ b → second c old ≡ s → (a || (b && s)) ≡ false → NotAfter (found old) (found c)
+    by false true false p q r e = inr (sym (eqb-true c.addr old.addr q), lex_false (number_of c.reason) (number_of old.reason) c.value old.value r)
+    by false false s p q r e = inl (eq_not c.addr old.addr q (ltb-false c.addr old.addr p))
+    by _ _ _ p q r e = absurd cc
+
+-- ---- the least of a list
+abbrev Least : Option Violation → List Found → Type 0
+Least None rs = rs ≡ []
+Least (Some c) rs = AmongThem (found c) rs × BeforeAll (found c) rs
+
+among_left : (r : Found) (xs ys : List Found) → AmongThem r xs → AmongThem r (xs ++ ys)
+among_left r [] ys h = absurd h
+among_left r (x ∷ xs) ys (inl e) = inl e
+among_left r (x ∷ xs) ys (inr h) = inr (among_left r xs ys h)
+
+among_right : (r : Found) (xs ys : List Found) → AmongThem r ys → AmongThem r (xs ++ ys)
+among_right r [] ys h = h
+among_right r (x ∷ xs) ys h = inr (among_right r xs ys h)
+
+before_both : (r : Found) (xs ys : List Found) → BeforeAll r xs → BeforeAll r ys → BeforeAll r (xs ++ ys)
+before_both r [] ys h k = k
+before_both r (x ∷ xs) ys h k = (h.0, before_both r xs ys h.1 k)
+
+before_more : (r s : Found) (xs : List Found) → NotAfter r s → BeforeAll s xs → BeforeAll r xs
+before_more r s [] h k = tt
+before_more r s (x ∷ xs) h k = (after_trans r s x h k.0, before_more r s xs h k.1)
+
+least_one : (o : Option Violation) (c : Violation) (xs : List Found) → Least o xs → Least (lesser o c) (xs ++ found c ∷ [])
+least_one None c xs h = subst (λ l. Least (Some c) (l ++ found c ∷ [])) (sym h) (inl refl, (after_same (found c), tt))
+least_one (Some old) c xs h = by (before c old) refl
+  where
+    by : (b : Bool) → before c old ≡ b → Least (lesser_if b c old) (xs ++ found c ∷ [])
+    by true e = (among_right (found c) xs (found c ∷ []) (inl refl), before_both (found c) xs (found c ∷ []) (before_more (found c) (found old) xs (first_true c old e) h.1) (after_same (found c), tt))
+    by false e = (among_left (found old) xs (found c ∷ []) h.0, before_both (found old) xs (found c ∷ []) h.1 (first_false c old e, tt))
+
+least_noted : (rs : List Found) (o : Option Violation) (xs : List Found) → Least o xs → Least (noted rs o) (xs ++ rs)
+least_noted [] o xs h = subst (λ l. Least o l) (sym (append-nil xs)) h
+least_noted (r ∷ rs) o xs h =
+    subst (λ l. Least (noted rs (lesser o (violation_of r))) l) (append_assoc xs (r ∷ []) rs)
+    (least_noted rs (lesser o (violation_of r)) (xs ++ r ∷ []) (least_one o (violation_of r) xs h))
+
+-- ---- the code's loop
+points_drop : (i : ℕ) (ps : List CodePoint) (d : CodePoint) → i < length ps → points_of (drop i ps) ≡ point_at (get_or ps i d) ∷ points_of (drop (suc i) ps)
+points_drop i [] d h = absurd (omega (arith, h))
+points_drop zero (p ∷ ps) d h = refl
+points_drop (suc i) (p ∷ ps) d h = points_drop i ps d (omega (arith, h))
+
+pub least_more : (step : Point → Step) (i : ℕ) (ps : List CodePoint) (d : CodePoint) (o r : Option Violation) → i < length ps → r ≡ noted (step (point_at (get_or ps i d))).reasons o →
+    noted (all_reasons step (points_of (drop i ps))) o ≡ noted (all_reasons step (points_of (drop (i + 1) ps))) r
+least_more step i ps d o r lt e =
+    ap (λ xs. noted (all_reasons step xs) o) (points_drop i ps d lt)
+    ∙ noted_append (step (point_at (get_or ps i d))).reasons (all_reasons step (points_of (drop (suc i) ps))) o
+    ∙ ap (noted (all_reasons step (points_of (drop (suc i) ps)))) (sym e)
+    ∙ ap (λ j. noted (all_reasons step (points_of (drop j ps))) r) (let f : suc i ≡ i + 1 = omega arith in f)
+
+pub least_end : (step : Point → Step) (n : ℕ) (ps : List CodePoint) (o : Option Violation) → length ps ≤ n → noted (all_reasons step (points_of (drop n ps))) o ≡ o
+least_end step n ps o h = ap (λ p. noted (all_reasons step (points_of p)) o) (drop_of_length-le ps {i = n} h)
+
+-- ---- the verdict
+pub decided_rest : (step : Point → Step) (start : Point) (begin : ℕ) (ps : List CodePoint) (o : Option Violation) (v : Verdict) → length ps ≤ 16384 → v ≡ verdict_of o → o ≡ noted (all_reasons step (points_of ps)) None →
+    IsLabelling step start (points_of ps) → Decided step start begin v
+decided_rest step start begin ps o v few ev eo is =
+    subst (λ v. Decided step start begin v) (sym ev) (by o (subst (λ o. Least o (all_reasons step xs)) (sym eo) (least_noted (all_reasons step xs) None [] refl)))
+  where
+    xs : List Point
+    xs = points_of ps
+
+    long : length xs ≤ 16384
+    long = let h = points_length ps in omega (arith, h, few)
+
+    by : (o : Option Violation) → Least o (all_reasons step xs) → Decided step start begin (verdict_of o)
+    by None h = (xs, is, long, h)
+    by (Some c) h = inl (xs, is, long, h.0, h.1)
+
+pub started : (step : Point → Step) (m0 m1 : List Bool) (p0 ps : List CodePoint) (a : ℕ) (r : CallString) (l : Label) → m0 ≡ [] → p0 ≡ [] → list_of r ≡ [] → m1 ≡ m0 ++ true ∷ [] → ps ≡ p0 ++ record { addr = a; call_string = r; state = l } ∷ [] →
+    Reached step record { pair = record { addr = a; returns = [] }; label = l } m1 (points_of ps)
+started step m0 m1 p0 ps a r l em ep er fm fp =
+    reached_start step record { pair = record { addr = a; returns = [] }; label = l } m1 (points_of ps)
+    (fm ∙ ap (λ m. m ++ true ∷ []) em)
+    (ap points_of (fp ∙ ap (λ p. p ++ record { addr = a; call_string = r; state = l } ∷ []) ep) ∙ ap (λ t. record { pair = record { addr = a; returns = t }; label = l } ∷ []) er)
+
+pub more_rounds : (step : Point → Step) (start : Point) (m0 m1 : List Bool) (p0 pt p1 : List CodePoint) (front : List Point) → Reached step start m0 (points_of p0) → front ≡ flagged m0 (points_of p0) → pt ≡ p0 →
+    points_of p1 ≡ join_all (given step front) (points_of pt) → Kept m1 (points_of pt) (points_of p1) → Reached step start m1 (points_of p1)
+more_rounds step start m0 m1 p0 pt p1 front r f ep e k =
+    reached_more step start m0 m1 (points_of p0) (points_of p1) front r f (e ∙ ap (λ p. join_all (given step front) (points_of p)) ep) (subst (λ p. Kept m1 (points_of p) (points_of p1)) ep k)
+
+pub rests_there : (step : Point → Step) (start : Point) (m0 : List Bool) (p0 pt : List CodePoint) (front : List Changed) → Reached step start m0 (points_of p0) → fronts_of front ≡ flagged m0 (points_of p0) → length front ≡ 0 → pt ≡ p0 → IsLabelling step start (points_of pt)
+rests_there step start m0 p0 pt front r f e ep =
+    subst (λ p. IsLabelling step start (points_of p)) (sym ep) record { rounds_to = r.turns; is = sym r.is; stays = reached_rests step start m0 (points_of p0) (fronts_of front) r f (none front e) }
+  where
+    none : (front : List Changed) → length front ≡ 0 → fronts_of front ≡ []
+    none [] e = refl
+    none (x ∷ xs) e = absurd (omega (arith, e))
+
+pub decided_many : (step : Point → Step) (start : Point) (begin : ℕ) (m0 : List Bool) (p0 pt : List CodePoint) (front : List Point) → Reached step start m0 (points_of p0) → front ≡ flagged m0 (points_of p0) → pt ≡ p0 →
+    16384 < length (join_all (given step front) (points_of pt)) → Decided step start begin (No begin TooMany 0)
+decided_many step start begin m0 p0 pt front r f ep many =
+    let to_round : join_all (given step front) (points_of pt) ≡ rounds step start (suc r.turns) =
+    ap (λ p. join_all (given step front) (points_of p)) ep ∙ ap (λ g. join_all (given step g) (points_of p0)) f ∙ sym (flagged_round step m0 (points_of p0) (points_of p0) r.clean) ∙ ap (round step) r.is in
+    inr (suc r.turns, subst (λ l. 16384 < length l) to_round many, refl)

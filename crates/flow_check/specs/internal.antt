@@ -1,0 +1,12 @@
+pub mod Carries
+pub mod Points
+pub mod Violations
+pub mod Marks
+pub mod Verdicts
+pub mod Stubs
+pub mod Weights
+pub mod Arms
+pub mod Labellings
+pub mod Steps
+pub mod Summaries
+pub mod Programs

@@ -1,0 +1,44 @@
+-- Steps as the code tells them: addresses, with one list of return addresses and one state but for PC.
+use Rattle.std.specs.Prelude.{◌≡◌, ◌++◌, ℕ, []}
+use Rattle.insn_decode.specs.declared.insn.Insn.{Insn}
+use Rattle.insn_decode.specs.declared.insn.Insn.TheVariants.{Jump}
+use Rattle.mod_layout.specs.declared.Module.{Module}
+use Rattle.flow_rule.specs.declared.Label.{Label}
+use Rattle.flow_rule.specs.declared.Val.TheVariants.{Public}
+use Rattle.flow_rule.specs.Rounds.{Step}
+use Rattle.flow_rule.specs.Values.{put_val}
+use Rattle.flow_rule.specs.Does.{does_val, past_val}
+use Rattle.flow_rule.specs.Going.{goes}
+use Rattle.flow_check.specs.declared.call_string.CallString.{CallString}
+use Rattle.flow_check.specs.declared.step.Stepped.{Stepped}
+use Rattle.flow_check.specs.internal.Violations.{noted}
+use Rattle.flow_check.specs.internal.Points.{list_of, addrs_of, points_at}
+
+-- without reasons, all that a step gives has these return addresses and this state
+abbrev pub SuccessorsAlike : Step → CallString → Label → Type 0
+SuccessorsAlike step returns label =
+    step.reasons ≡ [] → step.gives ≡ points_at (addrs_of step.gives) (list_of returns) label
+
+-- a step was told: the least of its violations and of what was there, and where it goes on
+pub record Tells (step : Step) (old new : Stepped) (state : Label) : Type 0 where
+  pub least : new.least ≡ noted step.reasons old.least
+  pub targets : new.targets.items ≡ old.targets.items ++ addrs_of step.gives
+  pub successors : SuccessorsAlike step new.call_string state
+
+-- the step to where a jump goes
+abbrev pub jump_step : Module → Insn → ℕ → CallString → Label → Step
+jump_step m insn pc returns label = goes m pc (list_of returns) (does_val insn pc label.core []).core label.words
+
+-- the step to the next instruction
+abbrev pub next_step : Module → Insn → ℕ → CallString → Label → Step
+next_step m insn pc returns label = goes m pc (list_of returns) (past_val insn pc label.core) label.words
+
+-- the step past an instruction that names a module in R15
+abbrev pub id_step : Module → Insn → ℕ → CallString → Label → Step
+id_step m insn pc returns label =
+    goes m pc (list_of returns) (put_val (past_val insn pc label.core) 15 Public) label.words
+
+-- a jump with this condition
+abbrev pub IsJump : Insn → ℕ → Type 0
+IsJump (Jump c offset) cond = c ≡ cond
+IsJump insn cond = ⊥

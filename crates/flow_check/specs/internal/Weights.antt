@@ -1,0 +1,31 @@
+-- How far states have risen.
+use Rattle.std.specs.Prelude.{ℕ, suc, ◌+◌, min, List, [], ◌∷◌, Bool, true, false}
+use Rattle.flow_rule.specs.declared.Val.{Val}
+use Rattle.flow_rule.specs.declared.Val.TheVariants.{Known, Away, Public, Secret}
+use Rattle.flow_rule.specs.declared.Label.{Label}
+use Rattle.flow_rule.specs.Rounds.{Point}
+
+abbrev pub weight : Val → ℕ
+weight (Known v) = 0
+weight Away = 0
+weight Public = 1
+weight Secret = 2
+
+abbrev pub weight_all : List Val → ℕ
+weight_all [] = 0
+weight_all (v ∷ vs) = weight v + weight_all vs
+
+-- what the 16 registers and the 256 words of a state have risen, at most twice each
+abbrev pub weight_label : Label → ℕ
+weight_label l = min (weight_all l.core) 32 + min (weight_all l.words) 512
+
+-- a program point counts 1, and its state what its values have risen
+abbrev pub weight_of : List Point → ℕ
+weight_of [] = 0
+weight_of (x ∷ xs) = suc (weight_label x.label + weight_of xs)
+
+-- 1 where a mark is true
+abbrev pub has_mark : List Bool → ℕ
+has_mark [] = 0
+has_mark (true ∷ bs) = 1
+has_mark (false ∷ bs) = has_mark bs

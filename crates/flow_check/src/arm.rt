@@ -1,0 +1,146 @@
+//! An arm of a secret branch, walked from its start to the join.
+
+ghost use Rattle.std.specs.Prelude.{◌≡◌, ◌≢◌, ◌≤◌, ◌<◌, ◌+◌, ◌*◌, suc, true, false, ℕ, Some, None, IfSome, slice_get};
+ghost use Rattle.std.specs.Prelude.{◌||◌, ◌==◌, not};
+ghost use Rattle.mod_layout.specs.Table.{holds};
+ghost use Rattle.flow_rule.specs.Does.{write_reaches};
+ghost use Rattle.flow_rule.specs.Arms.{walk, written_regs, written_words, blot, blot_core};
+ghost use Rattle.flow_check.specs.internal.Arms.{told};
+ghost use Rattle.flow_check.specs.internal.Points.{point_at};
+ghost use Rattle.flow_check.specs.internal.Programs.{base_flow};
+
+use crate::accesses::reaches;
+use crate::clobbers::{clobber_registers, clobber_words};
+use crate::point::Point;
+use crate::program::Program;
+use crate::relevant::Relevance;
+use crate::step::{Stepped, Targets};
+use crate::stub::step_base;
+use crate::violation::{Violation, note, note_if};
+use arm_balance::met_arm;
+use cycle_table::cycles;
+use flow_rule::{Label, Reach, Reason, Val};
+use insn_decode::Insn;
+use mod_layout::Module;
+
+/// What is told along the arms: the least violation, cycles, and the branch's state with Secret where they write.
+#[derive(Clone, Copy)]
+pub struct Tally {
+    pub least: Option<Violation>,
+    pub cycles: u32,
+    pub state: Label,
+}
+
+/// Tells what an instruction takes and writes.
+fn tell(module: &Module, insn: &Insn, reaches: &[Reach], time: u8, tally: &mut Tally)
+    requires { tally.old.cycles + time < 4294967296 }
+    ensures { tally.new ≡ record tally.old {
+      cycles = tally.old.cycles + time;
+      state = record {
+        core = blot_core
+            (written_regs insn.now) tally.old.state.core;
+        words = blot
+            (written_words module.now (write_reaches reaches.now)) tally.old.state.words;
+      };
+    } }
+{
+    tally.cycles += u32::from(time);
+    clobber_registers(insn, &mut tally.state.core);
+    clobber_words(module, reaches, &mut tally.state.words);
+}
+
+/// The first address.
+fn first_of(targets: &Targets) -> Option<u16>
+    ensures { result ≡ slice_get targets.now.items 0 }
+{
+    targets.first().copied()
+}
+
+/// Whether an arm that left the text can't go on: there is no arm's instruction, and no join either.
+fn is_lost(module: &Module, join: u16, next: u16) -> bool
+    ensures { result ≡ (holds module.now.text join || not (next == join)) }
+{
+    module.text.holds(usize::from(join)) || next != join
+}
+
+/// Does the arm's instruction at this point, and tells whether the arm goes on.
+fn walk_on(
+    program: &Program<'_>,
+    branch: u16,
+    join: u16,
+    point: &mut Point,
+    tally: &mut Tally,
+    relevance: &mut Relevance,
+) -> bool
+    requires before { point.old.addr ≢ join }
+    requires short { tally.old.cycles < 4294967000 }
+    ensures on { result ≡ true → (steps : ℕ) →
+        told (walk (base_flow program.now) program.now.module.now program.now.text.now branch join (suc steps)
+        (point_at point.old)) tally.old ≡ told
+        (walk (base_flow program.now) program.now.module.now program.now.text.now branch join steps
+        (point_at point.new)) tally.new }
+    ensures ends { result ≡ false → (steps : ℕ) →
+        told (walk (base_flow program.now) program.now.module.now program.now.text.now branch join (suc steps)
+        (point_at point.old)) tally.old ≡ tally.new }
+    ensures cycles { tally.new.cycles ≤ tally.old.cycles + 6 }
+{
+    let module = program.module;
+    let Some((insn, next)) = met_arm(module.text, program.text, point.addr, join) else {
+        note(&mut tally.least, branch, Reason::Arm, point.addr);
+        return false;
+    };
+    let reaches = reaches(&insn, point.addr, &point.state.core);
+    let reached = reaches.as_slice();
+    relevance.follow(module, &insn, reached);
+    let mut stepped = Stepped::new(&point.call_string);
+    step_base(program, point.addr, &mut point.state, &mut stepped);
+    if stepped.least.is_some() {
+        note(&mut tally.least, branch, Reason::Arm, point.addr);
+        return false;
+    }
+    match first_of(&stepped.targets) {
+        Some(to) => {
+            tell(module, &insn, reached, cycles(&insn), tally);
+            point.addr = to;
+            point.state.core[0] = Val::Known(to);
+            point.call_string = stepped.call_string;
+            true
+        }
+        None => {
+            relevance.leave();
+            let lost = is_lost(module, join, next);
+            note_if(lost, &mut tally.least, branch, Reason::Arm, next);
+            false
+        }
+    }
+}
+
+/// Walks from a point to the merge point. Each instruction of an arm goes up, so there are no more than addresses up to
+/// the merge point.
+pub fn walk(
+    program: &Program<'_>,
+    branch: u16,
+    join: u16,
+    from: &Point,
+    tally: &mut Tally,
+    relevance: &mut Relevance,
+)
+    requires start { tally.old.cycles ≡ 0 }
+    ensures { tally.new ≡ told
+        (walk (base_flow program.now) program.now.module.now program.now.text.now branch join (suc join)
+        (point_at from.now)) tally.old }
+{
+    relevance.begin();
+    let mut point = *from;
+    let mut left = u32::from(join) + 1;
+    while left > 0 {
+        if point.addr == join {
+            return;
+        }
+        if !walk_on(program, branch, join, &mut point, tally, relevance) {
+            return;
+        }
+        left -= 1;
+    }
+    note(&mut tally.least, branch, Reason::Arm, point.addr);
+}

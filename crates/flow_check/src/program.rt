@@ -1,0 +1,20 @@
+//! What is checked.
+
+ghost use Rattle.std.specs.Prelude.{◌≤◌};
+ghost use Rattle.std.specs.Option.{ForSome};
+ghost use Rattle.flow_check.specs.internal.Stubs.{IsStub};
+
+use arm_balance::Arm;
+use mod_layout::Module;
+
+/// A module with its text and the certificates of its balanced branches.
+#[derive(Drop)]
+pub struct Program<'a> {
+    pub module: &'a Module,
+    pub text: &'a [u8],
+    /// The number of the entries, where the text begins with its stub.
+    pub stub: Option<u16>,
+    pub arms: &'a [Arm],
+    pub ghost exact: { IsStub module.now text.now stub },
+    pub ghost few: { ForSome stub (λ n. n ≤ 64) },
+}

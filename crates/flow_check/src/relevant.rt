@@ -1,0 +1,276 @@
+//! Which values of a branch's state its arms need, so that one walk serves as many states as can be. This saves time
+//! alone: what it says is tried by a walk before anything rests on it.
+
+use crate::accesses::{reads_destination, writes_destination};
+use crate::domain::join;
+use crate::memory::word_number;
+use crate::transfer::{one_reads_carry, one_sets_flags, reads_carry, sets_flags};
+use flow_rule::{Label, Reach, Val};
+use insn_decode::{Insn, OneOp, Operand};
+use mod_layout::Module;
+use sm_words::Width;
+
+/// How many values a state has: its registers and then its words.
+const VALUES: usize = 272;
+
+/// How many registers a state has.
+const REGISTERS: usize = 16;
+
+/// The flags' register, and the stack pointer.
+const FLAGS: u8 = 2;
+
+const STACK: u8 = 1;
+
+/// A set of values of a state, by their numbers.
+#[derive(Clone, Copy)]
+struct Origins([u64; 5]);
+
+impl Origins {
+    const NONE: Origins = Origins([0; 5]);
+
+    /// One value alone.
+    fn one(value: usize) -> Origins {
+        let mut set = Origins::NONE;
+        if value < VALUES {
+            set.0[value / 64] = 1 << (value % 64);
+        }
+        set
+    }
+
+    /// Those of either set.
+    fn with(self, other: Origins) -> Origins {
+        let mut set = self;
+        for k in 0..5 {
+            set.0[k] |= other.0[k];
+        }
+        set
+    }
+
+    /// Whether a value is among them.
+    fn has(&self, value: usize) -> bool {
+        value < VALUES && self.0[value / 64] >> (value % 64) & 1 == 1
+    }
+}
+
+/// Along an arm: of which values of the branch's state each value is made, which of them have to be Known, and which
+/// may not be Secret.
+#[derive(Drop)]
+pub struct Relevance {
+    of: [Origins; 272],
+    known: Origins,
+    open: Origins,
+    /// Whether instructions are followed.
+    follows: bool,
+}
+
+/// The register that an operand's address is made of.
+fn base(operand: Operand) -> Option<u8> {
+    match operand {
+        Operand::Indexed { reg, .. } | Operand::Indirect(reg) | Operand::Increment(reg) => Some(
+            reg,
+        ),
+        Operand::Reg(_)
+        | Operand::Const(_)
+        | Operand::Imm(_)
+        | Operand::Symbolic(_)
+        | Operand::Absolute(_) => None,
+    }
+}
+
+/// The number of the value at an access's address, where it is one of the state's words.
+fn word_of(module: &Module, reach: Option<&Reach>) -> Option<usize> {
+    match reach {
+        Some(
+            Reach {
+                addr: Val::Known(addr),
+                ..
+            },
+        ) => {
+            if module.ram.holds(usize::from(*addr)) {
+                Some(REGISTERS + word_number(module, *addr))
+            } else {
+                None
+            }
+        }
+        _ => None,
+    }
+}
+
+impl Relevance {
+    /// Nothing is needed so far.
+    pub fn new(follows: bool) -> Relevance {
+        Relevance {
+            of: [Origins::NONE; 272],
+            known: Origins::NONE,
+            open: Origins::NONE,
+            follows,
+        }
+    }
+
+    /// An arm begins, where each value is made of itself.
+    pub fn begin(&mut self) {
+        if self.follows {
+            for value in 0..VALUES {
+                self.of[value] = Origins::one(value);
+            }
+        }
+    }
+
+    /// What a value is made of.
+    fn get(&self, value: usize) -> Origins {
+        match self.of.get(value) {
+            Some(set) => *set,
+            None => Origins::NONE,
+        }
+    }
+
+    /// Says what a value is made of.
+    fn set(&mut self, value: usize, set: Origins) {
+        if value < VALUES {
+            self.of[value] = set;
+        }
+    }
+
+    /// An operand's address has to be Known.
+    fn need(&mut self, operand: Operand) {
+        if let Some(reg) = base(operand) {
+            self.known = self.known.with(self.get(usize::from(reg)));
+        }
+    }
+
+    /// The number of the value in an operand.
+    fn place(&self, module: &Module, operand: Operand, reach: Option<&Reach>) -> Option<usize> {
+        match operand {
+            Operand::Reg(reg) => Some(usize::from(reg)),
+            Operand::Const(_) | Operand::Imm(_) => None,
+            _ => word_of(module, reach),
+        }
+    }
+
+    /// What the value there is made of.
+    fn at(&self, place: Option<usize>) -> Origins {
+        match place {
+            Some(value) => self.get(value),
+            None => Origins::NONE,
+        }
+    }
+
+    /// Writes a value made of these; a byte of a word leaves the other.
+    fn write(&mut self, place: Option<usize>, width: Width, from: Origins) {
+        if let Some(value) = place {
+            let kept = if width == Width::Byte && value >= REGISTERS {
+                self.get(value)
+            } else {
+                Origins::NONE
+            };
+            self.set(value, from.with(kept));
+        }
+    }
+
+    /// The flags, if they are read.
+    fn carry(&self, read: bool) -> Origins {
+        if read {
+            self.get(usize::from(FLAGS))
+        } else {
+            Origins::NONE
+        }
+    }
+
+    /// What an instruction makes of what.
+    pub fn follow(&mut self, module: &Module, insn: &Insn, reaches: &[Reach]) {
+        if !self.follows {
+            return;
+        }
+        match *insn {
+            Insn::Two {
+                op,
+                width,
+                src,
+                dst,
+            } => {
+                self.need(src);
+                self.need(dst);
+                let source = self.at(self.place(module, src, reaches.first()));
+                let into = self.place(module, dst, reaches.last());
+                let old = if reads_destination(op) {
+                    self.at(into)
+                } else {
+                    Origins::NONE
+                };
+                let made = source.with(old).with(self.carry(reads_carry(op)));
+                if sets_flags(op) {
+                    self.set(usize::from(FLAGS), made);
+                }
+                if writes_destination(op) {
+                    self.write(into, width, made);
+                }
+            }
+            Insn::One { op, width, arg } => {
+                self.need(arg);
+                let from = self.place(module, arg, reaches.first());
+                let made = self.at(from).with(self.carry(one_reads_carry(op)));
+                if one_sets_flags(op) {
+                    self.set(usize::from(FLAGS), made);
+                }
+                if op == OneOp::Push {
+                    self.known = self.known.with(self.get(usize::from(STACK)));
+                    self.write(word_of(module, reaches.last()), width, made);
+                } else {
+                    self.write(from, width, made);
+                }
+            }
+            Insn::Jump { .. } | Insn::Reti | Insn::Unit(_) => {}
+        }
+    }
+
+    /// Where an arm leaves the text, no register may be Secret.
+    pub fn leave(&mut self) {
+        for value in 0..REGISTERS {
+            self.open = self.open.with(self.get(value));
+        }
+    }
+
+    /// A value of a state with as little in it as is needed.
+    fn lower(&self, number: usize, value: Val) -> Val {
+        if self.known.has(number) {
+            value
+        } else if self.open.has(number) {
+            join(value, Val::Public)
+        } else {
+            Val::Secret
+        }
+    }
+
+    /// A state that subsumes this one and has as little in it as was needed.
+    pub fn least(&self, state: &Label) -> Label {
+        let mut top = *state;
+        for n in 0..16 {
+            top.core[n] = self.lower(n, state.core[n]);
+        }
+        for n in 0..256 {
+            top.words[n] = self.lower(REGISTERS + n, state.words[n]);
+        }
+        top
+    }
+}
+
+/// A value with as little in it as another has.
+fn as_little(near: Val, value: Val) -> Val {
+    match near {
+        Val::Known(_) => value,
+        Val::Away | Val::Public => join(value, Val::Public),
+        Val::Secret => Val::Secret,
+    }
+}
+
+/// A state that subsumes this one and is Secret where another is.
+pub fn like(near: &Label, state: &Label) -> Label {
+    let mut top = *state;
+    for n in 0..16 {
+        top.core[n] = as_little(near.core[n], state.core[n]);
+    }
+    for n in 0..256 {
+        top.words[n] = as_little(near.words[n], state.words[n]);
+    }
+    top
+}

@@ -1,0 +1,414 @@
+//! What is known of the arms of branches. Values rise from Known to Public and to Secret alone, and what the arms of a
+//! branch do hangs on the values that they need: so one walk under a state with little in it serves
+//! all states with more.
+
+ghost use Rattle.std.specs.Prelude.{◌≡◌, ◌≢◌, ◌≤◌, ◌<◌, ◌%◌, ℕ, List, IfSome, IfOk, Some};
+ghost use Rattle.std.specs.Prelude.{None, true, slice_get, All, []};
+ghost use Rattle.mod_layout.specs.declared.Module.{Module};
+ghost use Rattle.flow_check.specs.internal.Points.{addrs_of, point_at, point_of};
+ghost use Rattle.flow_check.specs.internal.Programs.{flow, flow_at, AreSummaries};
+ghost use Rattle.flow_check.specs.internal.Summaries.{branch_step, blank, branch_from, OpensTo, IsSummary};
+ghost use Rattle.flow_check.specs.declared.summaries.Outcome.{Outcome};
+ghost use Rattle.arrayvec.specs.ArrayVec.{array_vec_len};
+ghost use Rattle.flow_rule.specs.Rounds.{given_by};
+ghost use Rattle.flow_check.specs.declared.violation.Violation.{Violation};
+ghost use Rattle.flow_check.specs.internal.Violations.{noted};
+ghost use Rattle.flow_check.specs.internal.Steps.{SuccessorsAlike};
+
+use crate::branch::{BranchSite, is_same, site_of, walk_arms};
+use crate::call_string::CallString;
+use crate::domain::{blank, overlay_label, subsumes};
+use crate::point::Point;
+use crate::program::Program;
+use crate::relevant::{Relevance, like};
+use crate::step::Stepped;
+use crate::stub::step_base;
+use crate::violation::{Violation, note};
+use flow_rule::{Label, Reason, arms_rest};
+use std::alloc::{AllocError, Global};
+
+/// How many numbers branches have.
+const NUMBERS: usize = 256;
+
+/// What the arms of a branch come to.
+#[derive(Clone, Copy)]
+pub enum Answer {
+    /// No violation, also under each state that the summary's subsumes. The arms write where this is not Public.
+    Open(Label),
+    /// A violation, also under each state that subsumes the summary's.
+    Shut,
+}
+
+/// Whether a branch has no violation in its arms.
+#[derive(Clone, Copy, Debug, PartialEq, Eq)]
+pub enum Outcome {
+    Open,
+    Shut,
+}
+
+/// What the arms of a branch come to under a state.
+#[derive(Clone, Copy)]
+pub struct Summary {
+    pub branch: u16,
+    pub site: BranchSite,
+    pub state: Label,
+    pub answer: Answer,
+}
+
+/// The summaries that were walked.
+#[derive(Drop)]
+pub struct Summaries {
+    list: Vec<Summary>,
+    /// Where the newest summary of the branches with this number is.
+    newest: [usize; 256],
+}
+
+/// Walks the arms of a branch under a state.
+fn walked(
+    program: &Program<'_>,
+    site: &BranchSite,
+    pc: u16,
+    state: &Label,
+    relevance: &mut Relevance,
+) -> Summary
+    ensures is { IsSummary program.now.module.now program.now.text.now result }
+    ensures branch { result.branch ≡ pc }
+    ensures site { result.site ≡ site.now }
+    ensures state { result.state ≡ state.now }
+{
+    let mut told = blank();
+    let mut least: Option<Violation> = None;
+    let from = Point {
+        addr: pc,
+        call_string: CallString::new(),
+        state: *state,
+    };
+    walk_arms(program, site, &from, &mut least, &mut told, relevance);
+    Summary {
+        branch: pc,
+        site: *site,
+        state: *state,
+        answer: if least.is_none() {
+            Answer::Open(told)
+        } else {
+            Answer::Shut
+        },
+    }
+}
+
+/// Walks the arms of a branch under its state, and writes what they write where there is no violation.
+fn applied(program: &Program<'_>, site: &BranchSite, pc: u16, state: &mut Label) -> Outcome
+    ensures open { result ≡ Outcome.Open → (returns : List ℕ) → OpensTo program.now.module.now program.now.text.now
+        site.now (branch_from pc returns state.old) state.new }
+    ensures shut { result ≡ Outcome.Shut → (returns : List ℕ) →
+        (flow_at program.now site.now (branch_from pc returns state.old)).reasons ≢ [] }
+{
+    arms_rest();
+    let mut none = Relevance::new(false);
+    match walked(program, site, pc, state, &mut none).answer {
+        Answer::Open(told) => {
+            overlay_label(state, &told);
+            Outcome::Open
+        }
+        Answer::Shut => Outcome::Shut,
+    }
+}
+
+/// Puts a summary in this place, or behind all others.
+#[tactic(auto, using(crate::proofs::Subsuming::kept_push, crate::proofs::Subsuming::kept_set))]
+fn put(list: &mut Vec<Summary>, place: usize, summary: Summary) -> Result<(), AllocError>
+    ensures { IfOk result (λ _. (m : Module) (text : List ℕ) → IsSummary m text summary →
+        All (IsSummary m text) list.old.items → All (IsSummary m text) list.new.items) }
+{
+    if place < list.len() {
+        list[place] = summary;
+        return Ok(());
+    }
+    list.push(summary)?;
+    Ok(())
+}
+
+/// The number of a branch, where its newest summary is looked for.
+fn number(branch: u16) -> usize
+    ensures { result < 256 }
+{
+    usize::from(branch / 2) % NUMBERS
+}
+
+/// Whether a summary is open.
+fn is_open(summary: &Summary) -> bool {
+    match summary.answer {
+        Answer::Open(_) => true,
+        Answer::Shut => false,
+    }
+}
+
+/// Walks the arms of a branch under a state that subsumes this one and has as little as the arms need: as much as they
+/// needed before, or what a walk under this state tells; and under this state where it has a violation.
+fn learned(
+    program: &Program<'_>,
+    site: &BranchSite,
+    near: Option<Summary>,
+    pc: u16,
+    state: &Label,
+) -> Summary
+    ensures { IsSummary program.now.module.now program.now.text.now result }
+{
+    let mut none = Relevance::new(false);
+    if let Some(near) = near
+        && is_open(&near)
+    {
+        let top = like(&near.state, state);
+        let summary = walked(program, site, pc, &top, &mut none);
+        if is_open(&summary) {
+            return summary;
+        }
+    }
+    let mut relevance = Relevance::new(true);
+    let whole = walked(program, site, pc, state, &mut relevance);
+    if is_open(&whole) {
+        let top = relevance.least(state);
+        let summary = walked(program, site, pc, &top, &mut none);
+        if is_open(&summary) {
+            return summary;
+        }
+    }
+    whole
+}
+
+impl Summaries {
+    /// No summary.
+    pub fn new(alloc: Global) -> Summaries
+        ensures { (m : Module) (text : List ℕ) → All (IsSummary m text) result.list.items }
+    {
+        Summaries {
+            list: Vec::new(alloc),
+            newest: [0; 256],
+        }
+    }
+
+    /// The summary there, if it is of this branch.
+    fn at(&self, place: usize, site: &BranchSite, pc: u16) -> Option<Summary>
+        ensures branch { IfSome result (λ p. p.branch ≡ pc) }
+        ensures site { IfSome result (λ p. p.site ≡ site.now) }
+        ensures there { IfSome result (λ p. slice_get self.now.list.items place ≡ Some p) }
+    {
+        match self.list.get(place) {
+            Some(summary) => {
+                if summary.branch == pc && is_same(&summary.site, site) {
+                    Some(*summary)
+                } else {
+                    None
+                }
+            }
+            None => None,
+        }
+    }
+
+    /// Where the newest summary of a branch may be.
+    fn newest_of(&self, pc: u16) -> usize {
+        self.newest[number(pc)]
+    }
+
+    /// What the summary there says of a branch under a state. Where the branch is open, its arms then write.
+    fn answer(&self, place: usize, site: &BranchSite, pc: u16, state: &mut Label) -> Option<Outcome>
+        ensures open { result ≡ Some Outcome.Open → (m : Module) (text returns : List ℕ) → m.text.start % 2 ≡ 0 →
+            All (IsSummary m text) self.now.list.items →
+            OpensTo m text site.now (branch_from pc returns state.old) state.new }
+        ensures shut { result ≡ Some Outcome.Shut → (m : Module) (text returns : List ℕ) → m.text.start % 2 ≡ 0 →
+            All (IsSummary m text) self.now.list.items →
+            (branch_step m text site.now (branch_from pc returns state.old)).reasons ≢ [] }
+        ensures silent { result ≡ None → state.new ≡ state.old }
+    {
+        arms_rest();
+        let Some(summary) = self.at(place, site, pc) else {
+            return None;
+        };
+        match summary.answer {
+            Answer::Open(told) => {
+                if subsumes(&summary.state, state) {
+                    overlay_label(state, &told);
+                    Some(Outcome::Open)
+                } else {
+                    None
+                }
+            }
+            Answer::Shut => {
+                if subsumes(state, &summary.state) {
+                    Some(Outcome::Shut)
+                } else {
+                    None
+                }
+            }
+        }
+    }
+
+    /// What the point's own summary or the branch's newest says.
+    fn known(
+        &self,
+        own: Option<usize>,
+        site: &BranchSite,
+        pc: u16,
+        state: &mut Label,
+    ) -> Option<Outcome>
+        ensures open { result ≡ Some Outcome.Open → (m : Module) (text returns : List ℕ) → m.text.start % 2 ≡ 0 →
+            All (IsSummary m text) self.now.list.items →
+            OpensTo m text site.now (branch_from pc returns state.old) state.new }
+        ensures shut { result ≡ Some Outcome.Shut → (m : Module) (text returns : List ℕ) → m.text.start % 2 ≡ 0 →
+            All (IsSummary m text) self.now.list.items →
+            (branch_step m text site.now (branch_from pc returns state.old)).reasons ≢ [] }
+        ensures silent { result ≡ None → state.new ≡ state.old }
+    {
+        if let Some(place) = own
+            && let Some(outcome) = self.answer(place, site, pc, state)
+        {
+            return Some(outcome);
+        }
+        self.answer(self.newest_of(pc), site, pc, state)
+    }
+
+    /// A point's own place, or else a new one.
+    fn place_for(&self, own: Option<usize>) -> usize {
+        match own {
+            Some(place) => place,
+            None => self.list.len(),
+        }
+    }
+
+    /// Keeps a summary in a point's own place, and tells the place.
+    fn keep(&mut self, own: Option<usize>, summary: Summary) -> Result<usize, AllocError>
+        ensures summaries { IfOk result (λ _. (m : Module) (text : List ℕ) → IsSummary m text summary →
+            All (IsSummary m text) self.old.list.items → All (IsSummary m text) self.new.list.items) }
+    {
+        let place = self.place_for(own);
+        put(&mut self.list, place, summary)?;
+        self.newest[number(summary.branch)] = place;
+        Ok(place)
+    }
+
+    /// Whether a branch has no violation under its state. Where it has none, its arms then write.
+    pub fn apply(
+        &mut self,
+        program: &Program<'_>,
+        site: &BranchSite,
+        own: &mut Option<usize>,
+        pc: u16,
+        state: &mut Label,
+    ) -> Result<Outcome, AllocError>
+        requires summaries { AreSummaries program.now self.old.list.items }
+        ensures open { IfOk result (λ outcome. outcome ≡ Outcome.Open → (returns : List ℕ) →
+            OpensTo program.now.module.now program.now.text.now site.now
+            (branch_from pc returns state.old) state.new) }
+        ensures shut { IfOk result (λ outcome. outcome ≡ Outcome.Shut → (returns : List ℕ) →
+            (flow_at program.now site.now (branch_from pc returns state.old)).reasons ≢ []) }
+        ensures summaries { IfOk result (λ _. AreSummaries program.now self.new.list.items) }
+    {
+        if let Some(outcome) = self.known(*own, site, pc, state) {
+            return Ok(outcome);
+        }
+        let near = self.at(self.newest_of(pc), site, pc);
+        let summary = learned(program, site, near, pc, state);
+        let place = self.keep(*own, summary)?;
+        *own = Some(place);
+        if let Some(outcome) = self.answer(place, site, pc, state) {
+            return Ok(outcome);
+        }
+        Ok(applied(program, site, pc, state))
+    }
+
+    /// Whether it is known that a branch has no violation under its state.
+    pub fn is_open(&self, own: Option<usize>, site: &BranchSite, pc: u16, state: &Label) -> bool
+        ensures { result ≡ true → (m : Module) (text returns : List ℕ) → m.text.start % 2 ≡ 0 →
+            All (IsSummary m text) self.now.list.items →
+            (branch_step m text site.now (branch_from pc returns state.now)).reasons ≡ [] }
+    {
+        let mut state = *state;
+        match self.known(own, site, pc, &mut state) {
+            Some(Outcome::Open) => true,
+            Some(Outcome::Shut) | None => false,
+        }
+    }
+}
+
+/// The step of a program point, of whose violations only this is told: whether there is one.
+pub fn step_with(
+    program: &Program<'_>,
+    summaries: &mut Summaries,
+    own: &mut Option<usize>,
+    pc: u16,
+    state: &mut Label,
+    stepped: &mut Stepped,
+) -> Result<(), AllocError>
+    requires summaries { AreSummaries program.now summaries.old.list.items }
+    requires none { array_vec_len stepped.old.targets ≡ 0 }
+    requires empty { stepped.old.targets.items ≡ [] }
+    requires calm { stepped.old.least ≡ None }
+    ensures calm { IfOk result (λ _. stepped.new.least ≡ None →
+        (flow program.now (point_of pc stepped.old.call_string state.old)).reasons ≡ []) }
+    ensures stirred { IfOk result (λ _. (c : Violation) → stepped.new.least ≡ Some c →
+        given_by (flow program.now (point_of pc stepped.old.call_string state.old)) ≡ []) }
+    ensures targets { IfOk result (λ _. stepped.new.least ≡ None → stepped.new.targets.items
+        ≡ addrs_of (flow program.now (point_of pc stepped.old.call_string state.old)).gives) }
+    ensures successors { IfOk result (λ _. stepped.new.least ≡ None →
+        SuccessorsAlike (flow program.now (point_of pc stepped.old.call_string state.old))
+        stepped.new.call_string state.new) }
+    ensures summaries { IfOk result (λ _. AreSummaries program.now summaries.new.list.items) }
+{
+    match site_of(program, pc, state) {
+        Some(site) => {
+            match summaries.apply(program, &site, own, pc, state)? {
+                Outcome::Open => stepped.targets.push(site.arm.join),
+                Outcome::Shut => note(&mut stepped.least, pc, Reason::Arm, pc),
+            }
+            Ok(())
+        }
+        None => {
+            step_base(program, pc, state, stepped);
+            Ok(())
+        }
+    }
+}
+
+/// The lesser of a violation and those of a branch with a certificate.
+fn violation_of_arms(
+    program: &Program<'_>,
+    summaries: &Summaries,
+    own: Option<usize>,
+    site: &BranchSite,
+    point: &Point,
+    mut least: Option<Violation>,
+) -> Option<Violation>
+    requires summaries { AreSummaries program.now summaries.now.list.items }
+    ensures { result ≡ noted (flow_at program.now site.now (point_at point.now)).reasons least }
+{
+    if summaries.is_open(own, site, point.addr, &point.state) {
+        return least;
+    }
+    let mut told = point.state;
+    let mut none = Relevance::new(false);
+    walk_arms(program, site, point, &mut least, &mut told, &mut none);
+    least
+}
+
+/// The lesser of a violation and those of a program point.
+pub fn violation_with(
+    program: &Program<'_>,
+    summaries: &Summaries,
+    own: Option<usize>,
+    point: &Point,
+    least: Option<Violation>,
+) -> Option<Violation>
+    requires summaries { AreSummaries program.now summaries.now.list.items }
+    ensures { result ≡ noted (flow program.now (point_at point.now)).reasons least }
+{
+    match site_of(program, point.addr, &point.state) {
+        Some(site) => violation_of_arms(program, summaries, own, &site, point, least),
+        None => {
+            let mut stepped = Stepped::new(&point.call_string);
+            stepped.least = least;
+            let mut state = point.state;
+            step_base(program, point.addr, &mut state, &mut stepped);
+            stepped.least
+        }
+    }
+}

@@ -1,0 +1,117 @@
+//! The verdict of the fixpoint: the least violation, or yes.
+
+ghost use Rattle.std.specs.Prelude.{◌≡◌, ◌≤◌, ◌<◌, ◌+◌, [], length, drop, ℕ};
+ghost use Rattle.std.specs.Prelude.{IfOk, None};
+ghost use Rattle.flow_rule.specs.declared.Label.{Label};
+ghost use Rattle.flow_rule.specs.Rounds.{all_reasons, Point, IsLabelling};
+ghost use Rattle.flow_rule.specs.Verdict.{Decided};
+ghost use Rattle.flow_check.specs.internal.Verdicts.{verdict_of};
+ghost use Rattle.flow_check.specs.internal.Points.{points_of};
+ghost use Rattle.flow_check.specs.internal.Programs.{flow, AreSummaries};
+ghost use Rattle.flow_check.specs.internal.Violations.{noted};
+ghost use Rattle.flow_check.specs.internal.Labellings.{points_in};
+
+use crate::labelling::{Changed, Labelling, begin};
+use crate::program::Program;
+use crate::summaries::{Summaries, violation_with};
+use crate::violation::Violation;
+use crate::worklist::iterate;
+use flow_rule::{Label, Reason, Verdict};
+use std::alloc::{AllocError, Global};
+
+/// The lesser of a violation and those of a program point under its state.
+#[tactic(auto, using(crate::proofs::Verdicts::least_more))]
+fn least_more(
+    program: &Program<'_>,
+    summaries: &Summaries,
+    all: &Labelling,
+    i: usize,
+    least: Option<Violation>,
+) -> Option<Violation>
+    requires summaries { AreSummaries program.now summaries.now.list.items }
+    requires here { i < length all.now.points.items }
+    ensures { noted (all_reasons (flow program.now) (points_of (drop i all.now.points.items))) least
+        ≡ noted (all_reasons (flow program.now) (points_of (drop (i + 1) all.now.points.items))) result }
+{
+    let point = all.points[i];
+    violation_with(program, summaries, all.summary(i), &point, least)
+}
+
+/// The least violation of the program points under their states.
+#[tactic(auto, using(crate::proofs::Verdicts::least_end))]
+fn least_of(program: &Program<'_>, summaries: &Summaries, all: &Labelling) -> Option<Violation>
+    requires summaries { AreSummaries program.now summaries.now.list.items }
+    ensures { result ≡ noted (all_reasons (flow program.now) (points_in all.now)) None }
+{
+    let mut least: Option<Violation> = None;
+    for i in 0..all.points.len() {
+        least = least_more(program, summaries, all, i, least);
+    }
+    least
+}
+
+/// The verdict of a least violation.
+fn verdict_of(least: Option<Violation>) -> Verdict
+    ensures { result ≡ verdict_of least }
+{
+    match least {
+        Some(
+            Violation {
+                addr,
+                reason,
+                value,
+            },
+        ) => Verdict::No {
+            addr,
+            reason,
+            value,
+        },
+        None => Verdict::Yes,
+    }
+}
+
+/// The verdict where an iteration changed nothing.
+#[tactic(auto, using(crate::proofs::Verdicts::decided_rest))]
+fn decide(program: &Program<'_>, summaries: &Summaries, all: &Labelling) -> Verdict
+    requires summaries { AreSummaries program.now summaries.now.list.items }
+    requires fit { length all.now.points.items ≤ 16384 }
+    ensures { (start : Point) (begin : ℕ) →
+        IsLabelling (flow program.now) start (points_in all.now) →
+        Decided (flow program.now) start begin result }
+{
+    verdict_of(least_of(program, summaries, all))
+}
+
+/// The verdict, by iterations.
+#[tactic(auto, using(crate::proofs::Verdicts::more_rounds, crate::proofs::Verdicts::rests_there, crate::proofs::Verdicts::decided_many))]
+pub fn verdict(
+    alloc: Global,
+    program: &Program<'_>,
+    start: u16,
+    first: &Label,
+) -> Result<Verdict, AllocError>
+    ensures { IfOk result (λ v. Decided
+        (flow program.now) record {
+          pair = record { addr = start; returns = [] };
+          label =
+              first.now;
+        } program.now.module.now.text.start v) }
+{
+    let mut all = begin(alloc, start, first)?;
+    let mut summaries = Summaries::new(alloc);
+    let mut front: Vec<Changed> = Vec::new(alloc);
+    loop {
+        front.clear();
+        all.take_changed(&mut front)?;
+        if front.is_empty() {
+            return Ok(decide(program, &summaries, &all));
+        }
+        if iterate(program, &mut summaries, &mut all, front.as_slice())? {
+            return Ok(Verdict::No {
+                addr: program.module.text.start,
+                reason: Reason::TooMany,
+                value: 0,
+            });
+        }
+    }
+}
