@@ -37,4 +37,4 @@ Answers (Err f) refusal = refusal ≡ Some f
 
 -- unless memory ran out, this is the refusal
 abbrev pub IsFaultOf : Option ElfFault → ElfFault → Type 0
-IsFaultOf refusal f = f ≢ fault.NoMemory → refusal ≡ Some f
+IsFaultOf refusal f = f ≢ fault.NoMemory → Answers (Err f) refusal
