@@ -4,9 +4,19 @@ use crate::images::{BALANCED, CALLED, Picture, UNBALANCED};
 use crate::outside::Run;
 use sm_cli::Status;
 
+const PULSES_1: Picture = Picture {
+    data: 1,
+    ..UNBALANCED
+};
+
+const PULSES_2: Picture = Picture {
+    data: 1,
+    ..BALANCED
+};
+
 /// A call of four cycles, with a pulse of line 0 before it, within it, in its last cycle and after it.
-pub fn pulses() -> [Run; 10] {
-    [
+pub fn pulses() -> &'static [Run] {
+    &[
         Run {
             image: CALLED,
             schedule: "",
@@ -59,10 +69,7 @@ pub fn pulses() -> [Run; 10] {
             text: "12 enter 1 from 0\n30 leave 1 pc 0214\nend 60 outside 0214 0600 0008 0000 0000 0000 0000 0214 0000 0000 0000 0000 0000 0000 0000 0000\n",
         },
         Run {
-            image: Picture {
-                data: 1,
-                ..UNBALANCED
-            },
+            image: PULSES_1,
             schedule: "",
             cycles: 60,
             status: Status::Done,
@@ -77,10 +84,7 @@ pub fn pulses() -> [Run; 10] {
             text: "12 enter 1 from 0\n30 leave 1 pc 0214\nend 60 outside 0214 0600 0008 0000 0000 0000 0000 0214 0000 0000 0000 0000 0000 0000 0000 0000\n",
         },
         Run {
-            image: Picture {
-                data: 1,
-                ..BALANCED
-            },
+            image: PULSES_2,
             schedule: "",
             cycles: 60,
             status: Status::Done,
@@ -89,25 +93,59 @@ pub fn pulses() -> [Run; 10] {
     ]
 }
 
+const HANDLERS_1: Picture = Picture {
+    handler: &[0x4030, 0x0300],
+    ..CALLED
+};
+
+const HANDLERS_2: Picture = Picture {
+    vector: 0x0300,
+    ..CALLED
+};
+
+const HANDLERS_3: Picture = Picture {
+    handler_sp: 0x0402,
+    handler: &[0x1204],
+    ..CALLED
+};
+
+const HANDLERS_4: Picture = Picture {
+    modules: &[
+        [0x0300, 0x0306, 0x0400, 0x0402],
+        [0x0700, 0x0702, 0x0780, 0x0782],
+    ],
+    first: &[0x4303, 0x1386, 0x4700],
+    handler: &[0x4037, 0x0508, 0x4030, 0x0700, 0x1300],
+    second: &[0x4700],
+    ..CALLED
+};
+
+const HANDLERS_5: Picture = Picture {
+    modules: &[[0x0300, 0x0304, 0x0400, 0x0440]],
+    first: &[0x1380, 0x4700],
+    ..CALLED
+};
+
+const HANDLERS_6: Picture = Picture {
+    modules: &[[0x0300, 0x0304, 0x0400, 0x0440]],
+    first: &[0x1380, 0x4700],
+    handler: &[0x4215, 0x0400],
+    ..CALLED
+};
+
 /// What a handler may not do, and what it may.
-pub fn handlers() -> [Run; 6] {
-    [
+pub fn handlers() -> &'static [Run] {
+    &[
         // It goes to the entry of the module that it interrupted.
         Run {
-            image: Picture {
-                handler: &[0x4030, 0x0300],
-                ..CALLED
-            },
+            image: HANDLERS_1,
             schedule: "13 line 0 up\n14 line 0 down\n",
             cycles: 40,
             status: Status::Stopped,
             text: "12 enter 1 from 0\n13 hide 1 vector 1\n25 handler pc 0500\n28 stop Reenter pc 0300 addr 0300 module 1\nend 28 stopped\n",
         },
         Run {
-            image: Picture {
-                vector: 0x0300,
-                ..CALLED
-            },
+            image: HANDLERS_2,
             schedule: "13 line 0 up\n14 line 0 down\n",
             cycles: 40,
             status: Status::Stopped,
@@ -115,11 +153,7 @@ pub fn handlers() -> [Run; 6] {
         },
         // Its stack lies in the module's data.
         Run {
-            image: Picture {
-                handler_sp: 0x0402,
-                handler: &[0x1204],
-                ..CALLED
-            },
+            image: HANDLERS_3,
             schedule: "13 line 0 up\n14 line 0 down\n",
             cycles: 40,
             status: Status::Stopped,
@@ -127,16 +161,7 @@ pub fn handlers() -> [Run; 6] {
         },
         // It calls another module. The first asks for its own caller after that.
         Run {
-            image: Picture {
-                modules: &[
-                    [0x0300, 0x0306, 0x0400, 0x0402],
-                    [0x0700, 0x0702, 0x0780, 0x0782],
-                ],
-                first: &[0x4303, 0x1386, 0x4700],
-                handler: &[0x4037, 0x0508, 0x4030, 0x0700, 0x1300],
-                second: &[0x4700],
-                ..CALLED
-            },
+            image: HANDLERS_4,
             schedule: "13 line 0 up\n14 line 0 down\n",
             cycles: 60,
             status: Status::Done,
@@ -144,23 +169,14 @@ pub fn handlers() -> [Run; 6] {
         },
         // The module gives itself up, and is interrupted while its data are cleared.
         Run {
-            image: Picture {
-                modules: &[[0x0300, 0x0304, 0x0400, 0x0440]],
-                first: &[0x1380, 0x4700],
-                ..CALLED
-            },
+            image: HANDLERS_5,
             schedule: "20 line 0 up\n21 line 0 down\n",
             cycles: 80,
             status: Status::Done,
             text: "12 enter 1 from 0\n20 hide 1 vector 1\n32 handler pc 0500\n37 resume 1\n67 close 1\nend 80 outside 0214 0600 0008 0000 0000 0000 0000 0214 0000 0000 0000 0000 0000 0000 0000 0000\n",
         },
         Run {
-            image: Picture {
-                modules: &[[0x0300, 0x0304, 0x0400, 0x0440]],
-                first: &[0x1380, 0x4700],
-                handler: &[0x4215, 0x0400],
-                ..CALLED
-            },
+            image: HANDLERS_6,
             schedule: "20 line 0 up\n21 line 0 down\n",
             cycles: 80,
             status: Status::Stopped,
@@ -169,14 +185,26 @@ pub fn handlers() -> [Run; 6] {
     ]
 }
 
+const NESTED_1: Picture = Picture {
+    handler: &[0xd232, 0x4303, 0x1300],
+    ..CALLED
+};
+
+const NESTED_2: Picture = Picture {
+    modules: &[
+        [0x0300, 0x0306, 0x0400, 0x0402],
+        [0x0700, 0x0704, 0x0780, 0x0782],
+    ],
+    handler: &[0xd232, 0x4037, 0x050a, 0x4030, 0x0700, 0x1300],
+    second: &[0x4303, 0x4700],
+    ..CALLED
+};
+
 /// Handlers that set GIE, and are interrupted themselves.
-pub fn nested() -> [Run; 3] {
-    [
+pub fn nested() -> &'static [Run] {
+    &[
         Run {
-            image: Picture {
-                handler: &[0xd232, 0x4303, 0x1300],
-                ..CALLED
-            },
+            image: NESTED_1,
             schedule: "13 line 0 up\n14 line 0 down\n26 line 0 up\n27 line 0 down\n",
             cycles: 60,
             status: Status::Done,
@@ -184,15 +212,7 @@ pub fn nested() -> [Run; 3] {
         },
         // A second module is interrupted while the first is held, and may not be entered either.
         Run {
-            image: Picture {
-                modules: &[
-                    [0x0300, 0x0306, 0x0400, 0x0402],
-                    [0x0700, 0x0704, 0x0780, 0x0782],
-                ],
-                handler: &[0xd232, 0x4037, 0x050a, 0x4030, 0x0700, 0x1300],
-                second: &[0x4303, 0x4700],
-                ..CALLED
-            },
+            image: NESTED_2,
             schedule: "13 line 0 up\n14 line 0 down\n32 line 0 up\n33 line 0 down\n",
             cycles: 60,
             status: Status::Stopped,
@@ -201,10 +221,7 @@ pub fn nested() -> [Run; 3] {
         // The line stays up. Each handler sets GIE in one cycle and is interrupted in the next, until eight frames are
         // held: a module's and seven of the outside. The ninth vector waits until RETI has taken one off.
         Run {
-            image: Picture {
-                handler: &[0xd232, 0x4303, 0x1300],
-                ..CALLED
-            },
+            image: NESTED_1,
             schedule: "13 line 0 up\n",
             cycles: 82,
             status: Status::Done,

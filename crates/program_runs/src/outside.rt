@@ -14,9 +14,23 @@ pub struct Run {
     pub text: &'static str,
 }
 
+const PLAIN_RUNS_1: Picture = Picture {
+    main: &[0x40f2, 0x0041, 0x0071, 0x3fff],
+    ..CONSTANT
+};
+
+const PLAIN_RUNS_2: Picture = Picture {
+    main: &[
+        0x4031, 0x0600, 0x43d2, 0x0040, 0xd032, 0x0018, 0x4303, 0x3fff,
+    ],
+    handler: &[0x1300],
+    vector: 0x0500,
+    ..CONSTANT
+};
+
 /// Code without modules.
-pub fn plain_runs() -> [Run; 6] {
-    [
+pub fn plain_runs() -> &'static [Run] {
+    &[
         Run {
             image: EMPTY,
             schedule: "",
@@ -48,10 +62,7 @@ pub fn plain_runs() -> [Run; 6] {
         },
         // Sends a byte.
         Run {
-            image: Picture {
-                main: &[0x40f2, 0x0041, 0x0071, 0x3fff],
-                ..CONSTANT
-            },
+            image: PLAIN_RUNS_1,
             schedule: "",
             cycles: 3,
             status: Status::Done,
@@ -59,14 +70,7 @@ pub fn plain_runs() -> [Run; 6] {
         },
         // Asleep with GIE, and woken by line 0.
         Run {
-            image: Picture {
-                main: &[
-                    0x4031, 0x0600, 0x43d2, 0x0040, 0xd032, 0x0018, 0x4303, 0x3fff,
-                ],
-                handler: &[0x1300],
-                vector: 0x0500,
-                ..CONSTANT
-            },
+            image: PLAIN_RUNS_2,
             schedule: "20 line 0 up\n21 line 0 down\n",
             cycles: 40,
             status: Status::Done,
@@ -75,70 +79,82 @@ pub fn plain_runs() -> [Run; 6] {
     ]
 }
 
+const CALLS_1: Picture = Picture {
+    data: 0x00ab,
+    ..BACK
+};
+
+const CALLS_2: Picture = Picture {
+    data: 0x00cd,
+    ..BACK
+};
+
+const CALLS_3: Picture = Picture {
+    modules: &[[0x0300, 0x0308, 0x0400, 0x0402]],
+    first: &[0x4215, 0x0400, 0x4305, 0x4700],
+    data: 0x00ab,
+    ..BACK
+};
+
+const CALLS_4: Picture = Picture {
+    modules: &[[0x0300, 0x0308, 0x0400, 0x0402]],
+    first: &[0x4215, 0x0400, 0x4305, 0x4700],
+    data: 0x00cd,
+    ..BACK
+};
+
+const CALLS_5: Picture = Picture {
+    modules: &[[0x0300, 0x0304, 0x0400, 0x0402]],
+    main: &[0x4037, 0x0208, 0x4030, 0x0302, 0x3fff],
+    ..BACK
+};
+
+const CALLS_6: Picture = Picture {
+    modules: &[[0x0300, 0x0304, 0x0400, 0x0402]],
+    main: &[0x4037, 0x0208, 0x4030, 0x0400, 0x3fff],
+    ..BACK
+};
+
 /// Calls of a module that goes straight back, and jumps past its entry.
-pub fn calls() -> [Run; 6] {
-    [
+pub fn calls() -> &'static [Run] {
+    &[
         Run {
-            image: Picture {
-                data: 0x00ab,
-                ..BACK
-            },
+            image: CALLS_1,
             schedule: "",
             cycles: 10,
             status: Status::Done,
             text: "5 enter 1 from 0\n7 leave 1 pc 0208\nend 10 outside 0208 0000 0000 0000 0000 0000 0000 0208 0000 0000 0000 0000 0000 0000 0000 0000\n",
         },
         Run {
-            image: Picture {
-                data: 0x00cd,
-                ..BACK
-            },
+            image: CALLS_2,
             schedule: "",
             cycles: 10,
             status: Status::Done,
             text: "5 enter 1 from 0\n7 leave 1 pc 0208\nend 10 outside 0208 0000 0000 0000 0000 0000 0000 0208 0000 0000 0000 0000 0000 0000 0000 0000\n",
         },
         Run {
-            image: Picture {
-                modules: &[[0x0300, 0x0308, 0x0400, 0x0402]],
-                first: &[0x4215, 0x0400, 0x4305, 0x4700],
-                data: 0x00ab,
-                ..BACK
-            },
+            image: CALLS_3,
             schedule: "",
             cycles: 14,
             status: Status::Done,
             text: "5 enter 1 from 0\n11 leave 1 pc 0208\nend 14 outside 0208 0000 0000 0000 0000 0000 0000 0208 0000 0000 0000 0000 0000 0000 0000 0000\n",
         },
         Run {
-            image: Picture {
-                modules: &[[0x0300, 0x0308, 0x0400, 0x0402]],
-                first: &[0x4215, 0x0400, 0x4305, 0x4700],
-                data: 0x00cd,
-                ..BACK
-            },
+            image: CALLS_4,
             schedule: "",
             cycles: 14,
             status: Status::Done,
             text: "5 enter 1 from 0\n11 leave 1 pc 0208\nend 14 outside 0208 0000 0000 0000 0000 0000 0000 0208 0000 0000 0000 0000 0000 0000 0000 0000\n",
         },
         Run {
-            image: Picture {
-                modules: &[[0x0300, 0x0304, 0x0400, 0x0402]],
-                main: &[0x4037, 0x0208, 0x4030, 0x0302, 0x3fff],
-                ..BACK
-            },
+            image: CALLS_5,
             schedule: "",
             cycles: 10,
             status: Status::Stopped,
             text: "5 stop FetchNotEntry pc 0302 addr 0302 module 1\nend 5 stopped\n",
         },
         Run {
-            image: Picture {
-                modules: &[[0x0300, 0x0304, 0x0400, 0x0402]],
-                main: &[0x4037, 0x0208, 0x4030, 0x0400, 0x3fff],
-                ..BACK
-            },
+            image: CALLS_6,
             schedule: "",
             cycles: 10,
             status: Status::Stopped,
@@ -147,9 +163,14 @@ pub fn calls() -> [Run; 6] {
     ]
 }
 
+const NINTH_MODULES_1: Picture = Picture {
+    version: 2,
+    ..NINTH
+};
+
 /// A ninth module is protected where there is room for it. It hashes eight blocks of 64 cycles, beside 6.
-pub fn ninth_modules() -> [Run; 2] {
-    [
+pub fn ninth_modules() -> &'static [Run] {
+    &[
         Run {
             image: NINTH,
             schedule: "",
@@ -158,10 +179,7 @@ pub fn ninth_modules() -> [Run; 2] {
             text: "end 530 outside 0212 0000 0000 0000 0000 0000 0000 0000 0000 0000 0000 0000 0a00 0a02 0a10 0000\n",
         },
         Run {
-            image: Picture {
-                version: 2,
-                ..NINTH
-            },
+            image: NINTH_MODULES_1,
             schedule: "",
             cycles: 530,
             status: Status::Done,
@@ -170,15 +188,38 @@ pub fn ninth_modules() -> [Run; 2] {
     ]
 }
 
+const REFUSALS_1: Picture = Picture {
+    main: &[0x40b2, 0x1234, 0x0300],
+    ..BACK
+};
+
+const REFUSALS_2: Picture = Picture {
+    first: &[0x1300],
+    ..BACK
+};
+
+const REFUSALS_3: Picture = Picture {
+    modules: &[[0x0204, 0x0208, 0x0400, 0x0402]],
+    main: &[0x4303, 0x4035, 0x1234],
+    ..BACK
+};
+
+const REFUSALS_4: Picture = Picture {
+    main: &[0x4215, 0x0401],
+    ..BACK
+};
+
+const REFUSALS_5: Picture = Picture {
+    main: &[0x4303, 0x0000],
+    ..BACK
+};
+
 /// Instructions of which a check is refused, each by another rule.
-pub fn refusals() -> [Run; 5] {
-    [
+pub fn refusals() -> &'static [Run] {
+    &[
         // A text is written to.
         Run {
-            image: Picture {
-                main: &[0x40b2, 0x1234, 0x0300],
-                ..BACK
-            },
+            image: REFUSALS_1,
             schedule: "",
             cycles: 10,
             status: Status::Stopped,
@@ -186,10 +227,7 @@ pub fn refusals() -> [Run; 5] {
         },
         // A module does RETI.
         Run {
-            image: Picture {
-                first: &[0x1300],
-                ..BACK
-            },
+            image: REFUSALS_2,
             schedule: "",
             cycles: 10,
             status: Status::Stopped,
@@ -197,11 +235,7 @@ pub fn refusals() -> [Run; 5] {
         },
         // The second word of an instruction of the outside lies in a text.
         Run {
-            image: Picture {
-                modules: &[[0x0204, 0x0208, 0x0400, 0x0402]],
-                main: &[0x4303, 0x4035, 0x1234],
-                ..BACK
-            },
+            image: REFUSALS_3,
             schedule: "",
             cycles: 10,
             status: Status::Stopped,
@@ -209,10 +243,7 @@ pub fn refusals() -> [Run; 5] {
         },
         // A word is read at an odd address.
         Run {
-            image: Picture {
-                main: &[0x4215, 0x0401],
-                ..BACK
-            },
+            image: REFUSALS_4,
             schedule: "",
             cycles: 10,
             status: Status::Stopped,
@@ -220,10 +251,7 @@ pub fn refusals() -> [Run; 5] {
         },
         // No instruction has this word.
         Run {
-            image: Picture {
-                main: &[0x4303, 0x0000],
-                ..BACK
-            },
+            image: REFUSALS_5,
             schedule: "",
             cycles: 10,
             status: Status::Stopped,
@@ -232,37 +260,42 @@ pub fn refusals() -> [Run; 5] {
     ]
 }
 
+const OUTSIDE_INTERRUPTS_1: Picture = Picture {
+    main: &[
+        0x4031, 0x0402, 0x43d2, 0x0040, 0x4037, 0x0214, 0xd232, 0x4030, 0x0300, 0x4303, 0x3fff,
+    ],
+    ..CALLED
+};
+
+const OUTSIDE_INTERRUPTS_2: Picture = Picture {
+    vector: 0x0300,
+    ..CALLED
+};
+
+const OUTSIDE_INTERRUPTS_3: Picture = Picture {
+    vector: 0x0302,
+    ..CALLED
+};
+
 /// Interrupts of the outside whose pushes meet a module's data, and handlers that are a module.
-pub fn outside_interrupts() -> [Run; 3] {
-    [
+pub fn outside_interrupts() -> &'static [Run] {
+    &[
         Run {
-            image: Picture {
-                main: &[
-                    0x4031, 0x0402, 0x43d2, 0x0040, 0x4037, 0x0214, 0xd232, 0x4030, 0x0300, 0x4303,
-                    0x3fff,
-                ],
-                ..CALLED
-            },
+            image: OUTSIDE_INTERRUPTS_1,
             schedule: "16 line 0 up\n17 line 0 down\n",
             cycles: 40,
             status: Status::Stopped,
             text: "12 enter 1 from 0\n16 leave 1 pc 0214\n16 stop WriteData pc 0214 addr 0400 module 1\nend 16 stopped\n",
         },
         Run {
-            image: Picture {
-                vector: 0x0300,
-                ..CALLED
-            },
+            image: OUTSIDE_INTERRUPTS_2,
             schedule: "16 line 0 up\n17 line 0 down\n",
             cycles: 40,
             status: Status::Done,
             text: "12 enter 1 from 0\n16 leave 1 pc 0214\n16 irq 1\n22 enter 1 from 0\n26 leave 1 pc 0214\nend 40 outside 0214 05fc 0000 0000 0000 0000 0000 0214 0000 0000 0000 0000 0000 0000 0000 0000\n",
         },
         Run {
-            image: Picture {
-                vector: 0x0302,
-                ..CALLED
-            },
+            image: OUTSIDE_INTERRUPTS_3,
             schedule: "16 line 0 up\n17 line 0 down\n",
             cycles: 40,
             status: Status::Stopped,
