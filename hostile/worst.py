@@ -29,7 +29,6 @@ text = [0x0800, 0xfc00]
 data = [0xfc00, 0xff00]
 stack = 64
 entries = ["e0", "e1", "e2", "e3"]
-boot = 5
 """
 START = "    .text\n    .globl _start\n_start:\n    mov #0x0200, r1\n    jmp _start\n"
 TEXT, DATA, SECRET, CALLS, ROWS = 0x0300, 0xF000, 0x206, 72, 51

@@ -24,6 +24,8 @@ use Rattle.flow_check.specs.declared.violation.Violation.{Violation}
 use Rattle.flow_check.specs.declared.branch.BranchSite.{BranchSite}
 use Rattle.flow_check.specs.declared.arm.Tally.{Tally}
 use Rattle.flow_check.specs.internal.Violations.{noted}
+use Rattle.flow_check.specs.declared.program.Program.{Program}
+use Rattle.flow_check.specs.internal.Programs.{flow, base_flow, flow_at}
 use Rattle.flow_check.specs.internal.Points.{point_of, addrs_of, points_at, label_at}
 use Rattle.flow_check.specs.internal.Arms.{told, site_from, site_by, step_at}
 use Rattle.flow_check.proofs.Clobbering.{core_append, words_append}
@@ -165,12 +167,14 @@ module _ (S : Point → Step) (m : Module) (text : List ℕ) (insn : Insn) (targ
         ∙ ap (λ w. record { core = blot_core (w0.regs ++ w1.regs) t0.state.core; words = w }) (sym (words_append w0.words w1.words t0.state.words))
 
 -- a step by what stands at the branch
-pub by_site : (S : Point → Step) (arms : List Arm) (m : Module) (text : List ℕ) (x : Point) (c : BranchSite) → site_by (met m.text text x.pair.addr) arms x.pair.addr (val x.label.core 2) ≡ Some c →
-    step_arms S arms m text x ≡ step_arm S m text c.insn c.target c.arm x
-by_site S arms m text x c e = site_is S arms m text x ∙ ap (λ o. step_at o S m text x) e
+abbrev site_there : Program → Point → Option BranchSite
+site_there p x = site_by (met p.module.now.text p.text.now x.pair.addr) p.arms.now x.pair.addr (val x.label.core 2)
 
-pub by_none : (S : Point → Step) (arms : List Arm) (m : Module) (text : List ℕ) (x : Point) → site_by (met m.text text x.pair.addr) arms x.pair.addr (val x.label.core 2) ≡ None → step_arms S arms m text x ≡ S x
-by_none S arms m text x e = site_is S arms m text x ∙ ap (λ o. step_at o S m text x) e
+pub by_site : (p : Program) (x : Point) (o : Option BranchSite) (c : BranchSite) → o ≡ site_there p x → o ≡ Some c → flow p x ≡ flow_at p c x
+by_site p x o c e f = site_is (base_flow p) p.arms.now p.module.now p.text.now x ∙ ap (λ o. step_at o (base_flow p) p.module.now p.text.now x) (sym e ∙ f)
+
+pub by_none : (p : Program) (x : Point) (o : Option BranchSite) → o ≡ site_there p x → o ≡ None → flow p x ≡ base_flow p x
+by_none p x o e f = site_is (base_flow p) p.arms.now p.module.now p.text.now x ∙ ap (λ o. step_at o (base_flow p) p.module.now p.text.now x) (sym e ∙ f)
 
 -- ---- what the code's step tells
 

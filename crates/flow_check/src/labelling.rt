@@ -123,7 +123,8 @@ impl Labelling {
         Ok(())
     }
 
-    /// The same of the program points of a block.
+    /// The same of the program points of a block, where a mark may be there.
+    #[tactic(auto, using(crate::proofs::Taking::skip_block, crate::proofs::Taking::below_block))]
     fn take_block(&mut self, b: usize, front: &mut Vec<Changed>) -> Result<(), AllocError>
         requires here { b < 128 }
         requires marked { length self.old.marks ≡ length self.old.points.items }
@@ -134,26 +135,11 @@ impl Labelling {
         ensures points { self.new.points.items ≡ self.old.points.items }
         ensures marked { length self.new.marks ≡ length self.old.marks }
     {
+        if !self.marks.block(b) {
+            return Ok(());
+        }
         for i in BLOCK * b..BLOCK * (b + 1) {
             self.take_mark(i, front)?;
-        }
-        Ok(())
-    }
-
-    /// The same, where a mark may be in the block.
-    #[tactic(auto, using(crate::proofs::Taking::skip_block, crate::proofs::Taking::below_block))]
-    fn take_marked(&mut self, b: usize, front: &mut Vec<Changed>) -> Result<(), AllocError>
-        requires here { b < 128 }
-        requires marked { length self.old.marks ≡ length self.old.points.items }
-        requires clear { (k : ℕ) → k < 128 * b → mark_at self.old.marks k ≡ false }
-        ensures clear { IfOk result (λ _. (k : ℕ) → k < 128 * (b + 1) → mark_at self.new.marks k ≡ false) }
-        ensures more { IfOk result (λ _. fronts_of front.old.items ++ flagged_in (128 * b) self.old
-            ≡ fronts_of front.new.items ++ flagged_in (128 * (b + 1)) self.new) }
-        ensures points { self.new.points.items ≡ self.old.points.items }
-        ensures marked { length self.new.marks ≡ length self.old.marks }
-    {
-        if self.marks.block(b) {
-            self.take_block(b, front)?;
         }
         Ok(())
     }
@@ -170,7 +156,7 @@ impl Labelling {
         ensures clear { IfOk result (λ _. NoMark self.new.marks) }
     {
         for b in 0..BLOCK {
-            self.take_marked(b, front)?;
+            self.take_block(b, front)?;
         }
         self.marks.rest();
         Ok(())

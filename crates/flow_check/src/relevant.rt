@@ -66,31 +66,20 @@ pub struct Relevance {
 /// The register that an operand's address is made of.
 fn base(operand: Operand) -> Option<u8> {
     match operand {
-        Operand::Indexed { reg, .. } | Operand::Indirect(reg) | Operand::Increment(reg) => Some(
-            reg,
-        ),
-        Operand::Reg(_)
-        | Operand::Const(_)
-        | Operand::Imm(_)
-        | Operand::Symbolic(_)
-        | Operand::Absolute(_) => None,
+        Operand::Indexed { reg, .. } => Some(reg),
+        Operand::Indirect(reg) | Operand::Increment(reg) => Some(reg),
+        _ => None,
     }
 }
 
 /// The number of the value at an access's address, where it is one of the state's words.
 fn word_of(module: &Module, reach: Option<&Reach>) -> Option<usize> {
-    match reach {
-        Some(
-            Reach {
-                addr: Val::Known(addr),
-                ..
-            },
-        ) => {
-            if module.ram.holds(usize::from(*addr)) {
-                Some(REGISTERS + word_number(module, *addr))
-            } else {
-                None
-            }
+    let Some(reach) = reach else {
+        return None;
+    };
+    match reach.addr {
+        Val::Known(addr) if module.ram.holds(usize::from(addr)) => {
+            Some(REGISTERS + word_number(module, addr))
         }
         _ => None,
     }
@@ -176,6 +165,29 @@ impl Relevance {
         }
     }
 
+    /// What an instruction of format II makes of what.
+    fn follow_one(
+        &mut self,
+        module: &Module,
+        op: OneOp,
+        width: Width,
+        arg: Operand,
+        reaches: &[Reach],
+    ) {
+        self.need(arg);
+        let from = self.place(module, arg, reaches.first());
+        let made = self.at(from).with(self.carry(one_reads_carry(op)));
+        if one_sets_flags(op) {
+            self.set(usize::from(FLAGS), made);
+        }
+        if op == OneOp::Push {
+            self.known = self.known.with(self.get(usize::from(STACK)));
+            self.write(word_of(module, reaches.last()), width, made);
+        } else {
+            self.write(from, width, made);
+        }
+    }
+
     /// What an instruction makes of what.
     pub fn follow(&mut self, module: &Module, insn: &Insn, reaches: &[Reach]) {
         if !self.follows {
@@ -205,20 +217,7 @@ impl Relevance {
                     self.write(into, width, made);
                 }
             }
-            Insn::One { op, width, arg } => {
-                self.need(arg);
-                let from = self.place(module, arg, reaches.first());
-                let made = self.at(from).with(self.carry(one_reads_carry(op)));
-                if one_sets_flags(op) {
-                    self.set(usize::from(FLAGS), made);
-                }
-                if op == OneOp::Push {
-                    self.known = self.known.with(self.get(usize::from(STACK)));
-                    self.write(word_of(module, reaches.last()), width, made);
-                } else {
-                    self.write(from, width, made);
-                }
-            }
+            Insn::One { op, width, arg } => self.follow_one(module, op, width, arg, reaches),
             Insn::Jump { .. } | Insn::Reti | Insn::Unit(_) => {}
         }
     }

@@ -137,10 +137,7 @@ fn number(branch: u16) -> usize
 
 /// Whether a summary is open.
 fn is_open(summary: &Summary) -> bool {
-    match summary.answer {
-        Answer::Open(_) => true,
-        Answer::Shut => false,
-    }
+    matches!(summary.answer, Answer::Open(_))
 }
 
 /// Walks the arms of a branch under a state that subsumes this one and has as little as the arms need: as much as they
@@ -205,11 +202,6 @@ impl Summaries {
         }
     }
 
-    /// Where the newest summary of a branch may be.
-    fn newest_of(&self, pc: u16) -> usize {
-        self.newest[number(pc)]
-    }
-
     /// What the summary there says of a branch under a state. Where the branch is open, its arms then write.
     fn answer(&self, place: usize, site: &BranchSite, pc: u16, state: &mut Label) -> Option<Outcome>
         ensures open { result ≡ Some Outcome.Open → (m : Module) (text returns : List ℕ) → m.text.start % 2 ≡ 0 →
@@ -264,15 +256,7 @@ impl Summaries {
         {
             return Some(outcome);
         }
-        self.answer(self.newest_of(pc), site, pc, state)
-    }
-
-    /// A point's own place, or else a new one.
-    fn place_for(&self, own: Option<usize>) -> usize {
-        match own {
-            Some(place) => place,
-            None => self.list.len(),
-        }
+        self.answer(self.newest[number(pc)], site, pc, state)
     }
 
     /// Keeps a summary in a point's own place, and tells the place.
@@ -280,7 +264,10 @@ impl Summaries {
         ensures summaries { IfOk result (λ _. (m : Module) (text : List ℕ) → IsSummary m text summary →
             All (IsSummary m text) self.old.list.items → All (IsSummary m text) self.new.list.items) }
     {
-        let place = self.place_for(own);
+        let place = match own {
+            Some(place) => place,
+            None => self.list.len(),
+        };
         put(&mut self.list, place, summary)?;
         self.newest[number(summary.branch)] = place;
         Ok(place)
@@ -306,7 +293,7 @@ impl Summaries {
         if let Some(outcome) = self.known(*own, site, pc, state) {
             return Ok(outcome);
         }
-        let near = self.at(self.newest_of(pc), site, pc);
+        let near = self.at(self.newest[number(pc)], site, pc);
         let summary = learned(program, site, near, pc, state);
         let place = self.keep(*own, summary)?;
         *own = Some(place);
