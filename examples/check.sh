@@ -1,7 +1,8 @@
 #!/bin/sh
-# Runs the commands of all pages, in their order: each `./sancus` line of the README, of docs/ and of the pages here, compared with the block
-# of text after it, whose last line is `status N` where the command ends with another status than 0; each `clang` line, compared with the object
-# in the folder, where clang 14 is there; the commands of the manual, and its files by the command beside each. Then it draws the figure again.
+# Runs the commands of all pages, in their order: each `./sancus` line of the README, of docs/ and of the pages here,
+# compared with the block of text after it, whose last line is `status N` where the command ends with another status
+# than 0; each `clang` line, compared with the object in the folder, where clang 14 is there; the commands of the
+# manual, and its files by the command beside each. Then it draws the figure again.
 #     examples/check.sh [PROGRAM]
 # PROGRAM stands for ./sancus where it is given. The last line is 'N commands, M differ, K not run'.
 here=$(dirname -- "$(readlink -f -- "$0")") || exit 1

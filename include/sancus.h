@@ -1,10 +1,10 @@
-/* Modules, devices and unit instructions of the machine, for clang --target=msp430. examples/c/README.md shows how to use them. */
+/* Modules, devices and unit instructions, for clang --target=msp430. examples/c/README.md shows how to use them. */
 #ifndef SANCUS_H
 #define SANCUS_H
 
 /* ---- the parts of a module NAME of the layout */
 
-/* A function of the module. The attributes keep a compiler from moving its code into another section, or dropping it. */
+/* A function of the module. The attributes keep a compiler from moving its code elsewhere, or dropping it. */
 #define SM_FUNCTION(name) __attribute__((section(".sm." #name ".text"), noinline, used))
 /* Data, and data that begin as zeros. Volatile, so that no value is folded into the text, which everyone may read. */
 #define SM_DATA(name) __attribute__((section(".sm." #name ".data"))) static volatile
@@ -37,7 +37,7 @@
 /* What the reset vector names: `start` sets the stack and goes to main. */
 #define SM_START(stack) __asm__(".text\n.globl start\nstart:\n\tmov #" #stack ", r1\n\tbr #main\n")
 
-/* Calls entry NUMBER of the module whose text starts at TEXT, both constants; one argument, or four. The answer is the value. */
+/* Calls entry NUMBER of the module whose text starts at TEXT, both constants. The answer is the value. */
 #define SM_CALL(text, number, argument) SM_CALL_4(text, number, argument, 0, 0, 0)
 #define SM_CALL_4(text, number, first, second, third, fourth)                                      \
     ({                                                                                             \
@@ -68,7 +68,7 @@
         __builtin_unreachable();                                              \
     } while (0)
 
-/* Closes the module and goes back to its caller with 0. The stack is in the data, so it is given up before they are cleared. */
+/* Closes the module and goes back to its caller with 0. The stack lies in the data, so it is left before they go. */
 #define SM_CLOSE(data)                                                                                 \
     do {                                                                                               \
         __asm__ volatile("mov &%c0, r1\n\tmov &%c0+2, r7\n\t.word 0x1380\n\tmov #0, r6\n" SM_CLEAR     \

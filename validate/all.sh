@@ -1,7 +1,7 @@
 #!/bin/sh
 # Each script of this folder with a built program, one after another, and the sums of the table of timings in docs/VALIDATION.md.
-#     validate/all.sh PROGRAM [SCRIPT..]
-# PROGRAM is the built `sancus` (crates/sm_main/out/sm_main); SCRIPT is one or more of timings code_table effects linking programs keys
+#     validate/all.sh [PROGRAM [SCRIPT..]]
+# PROGRAM is crates/sm_main/out/sm_main where it is left out; SCRIPT is one or more of timings code_table effects linking programs keys
 # assembler flow, all of them where none is given. Needs Debian's mspdebug, lld, llvm, clang, binutils, openssl and python3. A line for each: the
 # script and its last line. What else each says is in a log, which is named where the status is not 0. CASES (2000) is how many cases
 # linking has.

@@ -1,4 +1,4 @@
-/* The same, but that the secret is a plain static: the compiler sees that nothing changes it, and writes its value into the text. */
+/* The same with the secret a plain static: nothing changes it, so the compiler writes its value into the text. */
 #include "sancus.h"
 
 static __attribute__((section(".sm.vault.data"))) unsigned secret = 1;

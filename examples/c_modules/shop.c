@@ -1,4 +1,4 @@
-/* A module that calls a module: `shop` asks `bank` to take an amount, and answers its caller once the bank has answered. */
+/* A module that calls a module: `shop` asks `bank` to take an amount, and then answers its own caller. */
 #include "sancus.h"
 
 #define SHOP_TEXT 0x1000

@@ -1,4 +1,4 @@
-/* The unit instructions: a module tags a message, says who it is and who called it, attests another, and closes itself. */
+/* The unit instructions: a module tags a message, tells ids, attests, and closes itself. */
 #include "sancus.h"
 
 #define NODE_DATA 0x1100

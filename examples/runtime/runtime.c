@@ -1,5 +1,5 @@
-/* The functions that clang calls for the MSP430: products and quotients of 16 and 32 bits, shifts of 32 bits, and memset and memcpy. None
- * of them takes equal time for all values, so none is fit for a secret; a module's own code has no calls of them. */
+/* The functions that clang calls for the MSP430: products and quotients of 16 and 32 bits, shifts of 32 bits, memset
+ * and memcpy. Their time depends on the values, so none is fit for a secret; a module's code has no calls of them. */
 
 typedef unsigned char byte;
 typedef unsigned int word;
