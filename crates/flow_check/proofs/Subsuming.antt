@@ -15,7 +15,8 @@ use Rattle.flow_rule.specs.Reasons.{because_if}
 use Rattle.flow_rule.specs.Rounds.{Found, Point, Step, given_by}
 use Rattle.flow_rule.specs.Verdict.{flow_step}
 use Rattle.flow_rule.specs.Arms.{Walk, first_walk, second_walk, blot, blot_core}
-use Rattle.flow_rule.specs.Absorbs.{Absorbs, ArmsRest, laid, overlay}
+use Rattle.flow_rule.specs.Absorbs.{Absorbs, ArmsRest}
+use Rattle.flow_check.specs.internal.Overlays.{laid, overlay}
 use Rattle.flow_check.specs.declared.branch.BranchSite.{BranchSite}
 use Rattle.flow_check.specs.declared.summaries.Answer.TheVariants.{Open, Shut}
 use Rattle.flow_check.specs.declared.summaries.Summary.{Summary}
@@ -26,7 +27,7 @@ use Rattle.flow_check.specs.internal.Violations.{noted}
 use Rattle.flow_check.specs.internal.Points.{list_of, point_of, points_at, addrs_of}
 use Rattle.flow_check.proofs.Successors.{none_found}
 use Rattle.flow_check.proofs.Joins.{join_own}
-use Rattle.flow_rule.proofs.Overlays.{overlay_core, overlay_words}
+use Rattle.flow_check.proofs.Overlaying.{overlay_core, overlay_words}
 
 join_each_own : (vs : List Val) → join_each vs vs ≡ vs
 join_each_own [] = refl

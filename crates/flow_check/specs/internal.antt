@@ -10,3 +10,4 @@ pub mod Labellings
 pub mod Steps
 pub mod Summaries
 pub mod Programs
+pub mod Overlays

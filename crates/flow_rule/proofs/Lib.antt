@@ -15,7 +15,6 @@ pub mod Rows
 pub mod Arms
 pub mod WithArms
 pub mod Bare
-pub mod Overlays
 pub mod Absorbing
 pub mod AbsorbingDone
 pub mod Resting

@@ -24,13 +24,3 @@ ArmsRest = (m : Module) (text : List ℕ) (insn : Insn) (target : ℕ) (arm : Ar
     (step_arm step m text insn target arm top).reasons ≡ [] →
     (first_walk step m text insn arm x ≡ first_walk step m text insn arm top)
     × (second_walk step m text insn target arm x ≡ second_walk step m text insn target arm top)
-
--- through a Public of the first value the second is seen
-abbrev pub laid : Val → Val → Val
-laid Public v = v
-laid b v = b
-
--- what was written into a blank label, each value Public, laid over another label's values
-abbrev pub overlay : List Val → List Val → List Val
-overlay (b ∷ bs) (v ∷ vs) = laid b v ∷ overlay bs vs
-overlay _ _ = []
