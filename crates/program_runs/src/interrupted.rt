@@ -4,19 +4,9 @@ use crate::images::{BALANCED, CALLED, Picture, UNBALANCED};
 use crate::outside::Run;
 use sm_cli::Status;
 
-const PULSES_1: Picture = Picture {
-    data: 1,
-    ..UNBALANCED
-};
-
-const PULSES_2: Picture = Picture {
-    data: 1,
-    ..BALANCED
-};
-
 /// A call of four cycles, with a pulse of line 0 before it, within it, in its last cycle and after it.
-pub fn pulses() -> &'static [Run] {
-    &[
+pub fn pulses() -> [Run; 10] {
+    [
         Run {
             image: CALLED,
             schedule: "",
@@ -69,7 +59,10 @@ pub fn pulses() -> &'static [Run] {
             text: "12 enter 1 from 0\n30 leave 1 pc 0214\nend 60 outside 0214 0600 0008 0000 0000 0000 0000 0214 0000 0000 0000 0000 0000 0000 0000 0000\n",
         },
         Run {
-            image: PULSES_1,
+            image: Picture {
+                data: 1,
+                ..UNBALANCED
+            },
             schedule: "",
             cycles: 60,
             status: Status::Done,
@@ -84,7 +77,10 @@ pub fn pulses() -> &'static [Run] {
             text: "12 enter 1 from 0\n30 leave 1 pc 0214\nend 60 outside 0214 0600 0008 0000 0000 0000 0000 0214 0000 0000 0000 0000 0000 0000 0000 0000\n",
         },
         Run {
-            image: PULSES_2,
+            image: Picture {
+                data: 1,
+                ..BALANCED
+            },
             schedule: "",
             cycles: 60,
             status: Status::Done,
@@ -93,59 +89,25 @@ pub fn pulses() -> &'static [Run] {
     ]
 }
 
-const HANDLERS_1: Picture = Picture {
-    handler: &[0x4030, 0x0300],
-    ..CALLED
-};
-
-const HANDLERS_2: Picture = Picture {
-    vector: 0x0300,
-    ..CALLED
-};
-
-const HANDLERS_3: Picture = Picture {
-    handler_sp: 0x0402,
-    handler: &[0x1204],
-    ..CALLED
-};
-
-const HANDLERS_4: Picture = Picture {
-    modules: &[
-        [0x0300, 0x0306, 0x0400, 0x0402],
-        [0x0700, 0x0702, 0x0780, 0x0782],
-    ],
-    first: &[0x4303, 0x1386, 0x4700],
-    handler: &[0x4037, 0x0508, 0x4030, 0x0700, 0x1300],
-    second: &[0x4700],
-    ..CALLED
-};
-
-const HANDLERS_5: Picture = Picture {
-    modules: &[[0x0300, 0x0304, 0x0400, 0x0440]],
-    first: &[0x1380, 0x4700],
-    ..CALLED
-};
-
-const HANDLERS_6: Picture = Picture {
-    modules: &[[0x0300, 0x0304, 0x0400, 0x0440]],
-    first: &[0x1380, 0x4700],
-    handler: &[0x4215, 0x0400],
-    ..CALLED
-};
-
 /// What a handler may not do, and what it may.
-pub fn handlers() -> &'static [Run] {
-    &[
+pub fn handlers() -> [Run; 6] {
+    [
         // It goes to the entry of the module that it interrupted.
         Run {
-            image: HANDLERS_1,
+            image: Picture {
+                handler: &[0x4030, 0x0300],
+                ..CALLED
+            },
             schedule: "13 line 0 up\n14 line 0 down\n",
             cycles: 40,
             status: Status::Stopped,
             text: "12 enter 1 from 0\n13 hide 1 vector 1\n25 handler pc 0500\n28 stop Reenter pc 0300 addr 0300 module 1\nend 28 stopped\n",
         },
         Run {
-            image: HANDLERS_2,
+            image: Picture {
+                vector: 0x0300,
+                ..CALLED
+            },
             schedule: "13 line 0 up\n14 line 0 down\n",
             cycles: 40,
             status: Status::Stopped,
@@ -153,7 +115,11 @@ pub fn handlers() -> &'static [Run] {
         },
         // Its stack lies in the module's data.
         Run {
-            image: HANDLERS_3,
+            image: Picture {
+                handler_sp: 0x0402,
+                handler: &[0x1204],
+                ..CALLED
+            },
             schedule: "13 line 0 up\n14 line 0 down\n",
             cycles: 40,
             status: Status::Stopped,
@@ -161,7 +127,16 @@ pub fn handlers() -> &'static [Run] {
         },
         // It calls another module. The first asks for its own caller after that.
         Run {
-            image: HANDLERS_4,
+            image: Picture {
+                modules: &[
+                    [0x0300, 0x0306, 0x0400, 0x0402],
+                    [0x0700, 0x0702, 0x0780, 0x0782],
+                ],
+                first: &[0x4303, 0x1386, 0x4700],
+                handler: &[0x4037, 0x0508, 0x4030, 0x0700, 0x1300],
+                second: &[0x4700],
+                ..CALLED
+            },
             schedule: "13 line 0 up\n14 line 0 down\n",
             cycles: 60,
             status: Status::Done,
@@ -169,14 +144,23 @@ pub fn handlers() -> &'static [Run] {
         },
         // The module gives itself up, and is interrupted while its data are cleared.
         Run {
-            image: HANDLERS_5,
+            image: Picture {
+                modules: &[[0x0300, 0x0304, 0x0400, 0x0440]],
+                first: &[0x1380, 0x4700],
+                ..CALLED
+            },
             schedule: "20 line 0 up\n21 line 0 down\n",
             cycles: 80,
             status: Status::Done,
             text: "12 enter 1 from 0\n20 hide 1 vector 1\n32 handler pc 0500\n37 resume 1\n67 close 1\nend 80 outside 0214 0600 0008 0000 0000 0000 0000 0214 0000 0000 0000 0000 0000 0000 0000 0000\n",
         },
         Run {
-            image: HANDLERS_6,
+            image: Picture {
+                modules: &[[0x0300, 0x0304, 0x0400, 0x0440]],
+                first: &[0x1380, 0x4700],
+                handler: &[0x4215, 0x0400],
+                ..CALLED
+            },
             schedule: "20 line 0 up\n21 line 0 down\n",
             cycles: 80,
             status: Status::Stopped,
@@ -185,26 +169,14 @@ pub fn handlers() -> &'static [Run] {
     ]
 }
 
-const NESTED_1: Picture = Picture {
-    handler: &[0xd232, 0x4303, 0x1300],
-    ..CALLED
-};
-
-const NESTED_2: Picture = Picture {
-    modules: &[
-        [0x0300, 0x0306, 0x0400, 0x0402],
-        [0x0700, 0x0704, 0x0780, 0x0782],
-    ],
-    handler: &[0xd232, 0x4037, 0x050a, 0x4030, 0x0700, 0x1300],
-    second: &[0x4303, 0x4700],
-    ..CALLED
-};
-
 /// Handlers that set GIE, and are interrupted themselves.
-pub fn nested() -> &'static [Run] {
-    &[
+pub fn nested() -> [Run; 3] {
+    [
         Run {
-            image: NESTED_1,
+            image: Picture {
+                handler: &[0xd232, 0x4303, 0x1300],
+                ..CALLED
+            },
             schedule: "13 line 0 up\n14 line 0 down\n26 line 0 up\n27 line 0 down\n",
             cycles: 60,
             status: Status::Done,
@@ -212,7 +184,15 @@ pub fn nested() -> &'static [Run] {
         },
         // A second module is interrupted while the first is held, and may not be entered either.
         Run {
-            image: NESTED_2,
+            image: Picture {
+                modules: &[
+                    [0x0300, 0x0306, 0x0400, 0x0402],
+                    [0x0700, 0x0704, 0x0780, 0x0782],
+                ],
+                handler: &[0xd232, 0x4037, 0x050a, 0x4030, 0x0700, 0x1300],
+                second: &[0x4303, 0x4700],
+                ..CALLED
+            },
             schedule: "13 line 0 up\n14 line 0 down\n32 line 0 up\n33 line 0 down\n",
             cycles: 60,
             status: Status::Stopped,
@@ -221,7 +201,10 @@ pub fn nested() -> &'static [Run] {
         // The line stays up. Each handler sets GIE in one cycle and is interrupted in the next, until eight frames are
         // held: a module's and seven of the outside. The ninth vector waits until RETI has taken one off.
         Run {
-            image: NESTED_1,
+            image: Picture {
+                handler: &[0xd232, 0x4303, 0x1300],
+                ..CALLED
+            },
             schedule: "13 line 0 up\n",
             cycles: 82,
             status: Status::Done,

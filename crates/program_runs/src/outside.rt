@@ -14,23 +14,9 @@ pub struct Run {
     pub text: &'static str,
 }
 
-const PLAIN_RUNS_1: Picture = Picture {
-    main: &[0x40f2, 0x0041, 0x0071, 0x3fff],
-    ..CONSTANT
-};
-
-const PLAIN_RUNS_2: Picture = Picture {
-    main: &[
-        0x4031, 0x0600, 0x43d2, 0x0040, 0xd032, 0x0018, 0x4303, 0x3fff,
-    ],
-    handler: &[0x1300],
-    vector: 0x0500,
-    ..CONSTANT
-};
-
 /// Code without modules.
-pub fn plain_runs() -> &'static [Run] {
-    &[
+pub fn plain_runs() -> [Run; 6] {
+    [
         Run {
             image: EMPTY,
             schedule: "",
@@ -62,7 +48,10 @@ pub fn plain_runs() -> &'static [Run] {
         },
         // Sends a byte.
         Run {
-            image: PLAIN_RUNS_1,
+            image: Picture {
+                main: &[0x40f2, 0x0041, 0x0071, 0x3fff],
+                ..CONSTANT
+            },
             schedule: "",
             cycles: 3,
             status: Status::Done,
@@ -70,7 +59,14 @@ pub fn plain_runs() -> &'static [Run] {
         },
         // Asleep with GIE, and woken by line 0.
         Run {
-            image: PLAIN_RUNS_2,
+            image: Picture {
+                main: &[
+                    0x4031, 0x0600, 0x43d2, 0x0040, 0xd032, 0x0018, 0x4303, 0x3fff,
+                ],
+                handler: &[0x1300],
+                vector: 0x0500,
+                ..CONSTANT
+            },
             schedule: "20 line 0 up\n21 line 0 down\n",
             cycles: 40,
             status: Status::Done,
@@ -79,82 +75,70 @@ pub fn plain_runs() -> &'static [Run] {
     ]
 }
 
-const CALLS_1: Picture = Picture {
-    data: 0x00ab,
-    ..BACK
-};
-
-const CALLS_2: Picture = Picture {
-    data: 0x00cd,
-    ..BACK
-};
-
-const CALLS_3: Picture = Picture {
-    modules: &[[0x0300, 0x0308, 0x0400, 0x0402]],
-    first: &[0x4215, 0x0400, 0x4305, 0x4700],
-    data: 0x00ab,
-    ..BACK
-};
-
-const CALLS_4: Picture = Picture {
-    modules: &[[0x0300, 0x0308, 0x0400, 0x0402]],
-    first: &[0x4215, 0x0400, 0x4305, 0x4700],
-    data: 0x00cd,
-    ..BACK
-};
-
-const CALLS_5: Picture = Picture {
-    modules: &[[0x0300, 0x0304, 0x0400, 0x0402]],
-    main: &[0x4037, 0x0208, 0x4030, 0x0302, 0x3fff],
-    ..BACK
-};
-
-const CALLS_6: Picture = Picture {
-    modules: &[[0x0300, 0x0304, 0x0400, 0x0402]],
-    main: &[0x4037, 0x0208, 0x4030, 0x0400, 0x3fff],
-    ..BACK
-};
-
 /// Calls of a module that goes straight back, and jumps past its entry.
-pub fn calls() -> &'static [Run] {
-    &[
+pub fn calls() -> [Run; 6] {
+    [
         Run {
-            image: CALLS_1,
+            image: Picture {
+                data: 0x00ab,
+                ..BACK
+            },
             schedule: "",
             cycles: 10,
             status: Status::Done,
             text: "5 enter 1 from 0\n7 leave 1 pc 0208\nend 10 outside 0208 0000 0000 0000 0000 0000 0000 0208 0000 0000 0000 0000 0000 0000 0000 0000\n",
         },
         Run {
-            image: CALLS_2,
+            image: Picture {
+                data: 0x00cd,
+                ..BACK
+            },
             schedule: "",
             cycles: 10,
             status: Status::Done,
             text: "5 enter 1 from 0\n7 leave 1 pc 0208\nend 10 outside 0208 0000 0000 0000 0000 0000 0000 0208 0000 0000 0000 0000 0000 0000 0000 0000\n",
         },
         Run {
-            image: CALLS_3,
+            image: Picture {
+                modules: &[[0x0300, 0x0308, 0x0400, 0x0402]],
+                first: &[0x4215, 0x0400, 0x4305, 0x4700],
+                data: 0x00ab,
+                ..BACK
+            },
             schedule: "",
             cycles: 14,
             status: Status::Done,
             text: "5 enter 1 from 0\n11 leave 1 pc 0208\nend 14 outside 0208 0000 0000 0000 0000 0000 0000 0208 0000 0000 0000 0000 0000 0000 0000 0000\n",
         },
         Run {
-            image: CALLS_4,
+            image: Picture {
+                modules: &[[0x0300, 0x0308, 0x0400, 0x0402]],
+                first: &[0x4215, 0x0400, 0x4305, 0x4700],
+                data: 0x00cd,
+                ..BACK
+            },
             schedule: "",
             cycles: 14,
             status: Status::Done,
             text: "5 enter 1 from 0\n11 leave 1 pc 0208\nend 14 outside 0208 0000 0000 0000 0000 0000 0000 0208 0000 0000 0000 0000 0000 0000 0000 0000\n",
         },
         Run {
-            image: CALLS_5,
+            image: Picture {
+                modules: &[[0x0300, 0x0304, 0x0400, 0x0402]],
+                main: &[0x4037, 0x0208, 0x4030, 0x0302, 0x3fff],
+                ..BACK
+            },
             schedule: "",
             cycles: 10,
             status: Status::Stopped,
             text: "5 stop FetchNotEntry pc 0302 addr 0302 module 1\nend 5 stopped\n",
         },
         Run {
-            image: CALLS_6,
+            image: Picture {
+                modules: &[[0x0300, 0x0304, 0x0400, 0x0402]],
+                main: &[0x4037, 0x0208, 0x4030, 0x0400, 0x3fff],
+                ..BACK
+            },
             schedule: "",
             cycles: 10,
             status: Status::Stopped,
@@ -163,14 +147,9 @@ pub fn calls() -> &'static [Run] {
     ]
 }
 
-const NINTH_MODULES_1: Picture = Picture {
-    version: 2,
-    ..NINTH
-};
-
 /// A ninth module is protected where there is room for it. It hashes eight blocks of 64 cycles, beside 6.
-pub fn ninth_modules() -> &'static [Run] {
-    &[
+pub fn ninth_modules() -> [Run; 2] {
+    [
         Run {
             image: NINTH,
             schedule: "",
@@ -179,7 +158,10 @@ pub fn ninth_modules() -> &'static [Run] {
             text: "end 530 outside 0212 0000 0000 0000 0000 0000 0000 0000 0000 0000 0000 0000 0a00 0a02 0a10 0000\n",
         },
         Run {
-            image: NINTH_MODULES_1,
+            image: Picture {
+                version: 2,
+                ..NINTH
+            },
             schedule: "",
             cycles: 530,
             status: Status::Done,
@@ -188,38 +170,15 @@ pub fn ninth_modules() -> &'static [Run] {
     ]
 }
 
-const REFUSALS_1: Picture = Picture {
-    main: &[0x40b2, 0x1234, 0x0300],
-    ..BACK
-};
-
-const REFUSALS_2: Picture = Picture {
-    first: &[0x1300],
-    ..BACK
-};
-
-const REFUSALS_3: Picture = Picture {
-    modules: &[[0x0204, 0x0208, 0x0400, 0x0402]],
-    main: &[0x4303, 0x4035, 0x1234],
-    ..BACK
-};
-
-const REFUSALS_4: Picture = Picture {
-    main: &[0x4215, 0x0401],
-    ..BACK
-};
-
-const REFUSALS_5: Picture = Picture {
-    main: &[0x4303, 0x0000],
-    ..BACK
-};
-
 /// Instructions of which a check is refused, each by another rule.
-pub fn refusals() -> &'static [Run] {
-    &[
+pub fn refusals() -> [Run; 5] {
+    [
         // A text is written to.
         Run {
-            image: REFUSALS_1,
+            image: Picture {
+                main: &[0x40b2, 0x1234, 0x0300],
+                ..BACK
+            },
             schedule: "",
             cycles: 10,
             status: Status::Stopped,
@@ -227,7 +186,10 @@ pub fn refusals() -> &'static [Run] {
         },
         // A module does RETI.
         Run {
-            image: REFUSALS_2,
+            image: Picture {
+                first: &[0x1300],
+                ..BACK
+            },
             schedule: "",
             cycles: 10,
             status: Status::Stopped,
@@ -235,7 +197,11 @@ pub fn refusals() -> &'static [Run] {
         },
         // The second word of an instruction of the outside lies in a text.
         Run {
-            image: REFUSALS_3,
+            image: Picture {
+                modules: &[[0x0204, 0x0208, 0x0400, 0x0402]],
+                main: &[0x4303, 0x4035, 0x1234],
+                ..BACK
+            },
             schedule: "",
             cycles: 10,
             status: Status::Stopped,
@@ -243,7 +209,10 @@ pub fn refusals() -> &'static [Run] {
         },
         // A word is read at an odd address.
         Run {
-            image: REFUSALS_4,
+            image: Picture {
+                main: &[0x4215, 0x0401],
+                ..BACK
+            },
             schedule: "",
             cycles: 10,
             status: Status::Stopped,
@@ -251,7 +220,10 @@ pub fn refusals() -> &'static [Run] {
         },
         // No instruction has this word.
         Run {
-            image: REFUSALS_5,
+            image: Picture {
+                main: &[0x4303, 0x0000],
+                ..BACK
+            },
             schedule: "",
             cycles: 10,
             status: Status::Stopped,
@@ -260,42 +232,37 @@ pub fn refusals() -> &'static [Run] {
     ]
 }
 
-const OUTSIDE_INTERRUPTS_1: Picture = Picture {
-    main: &[
-        0x4031, 0x0402, 0x43d2, 0x0040, 0x4037, 0x0214, 0xd232, 0x4030, 0x0300, 0x4303, 0x3fff,
-    ],
-    ..CALLED
-};
-
-const OUTSIDE_INTERRUPTS_2: Picture = Picture {
-    vector: 0x0300,
-    ..CALLED
-};
-
-const OUTSIDE_INTERRUPTS_3: Picture = Picture {
-    vector: 0x0302,
-    ..CALLED
-};
-
 /// Interrupts of the outside whose pushes meet a module's data, and handlers that are a module.
-pub fn outside_interrupts() -> &'static [Run] {
-    &[
+pub fn outside_interrupts() -> [Run; 3] {
+    [
         Run {
-            image: OUTSIDE_INTERRUPTS_1,
+            image: Picture {
+                main: &[
+                    0x4031, 0x0402, 0x43d2, 0x0040, 0x4037, 0x0214, 0xd232, 0x4030, 0x0300, 0x4303,
+                    0x3fff,
+                ],
+                ..CALLED
+            },
             schedule: "16 line 0 up\n17 line 0 down\n",
             cycles: 40,
             status: Status::Stopped,
             text: "12 enter 1 from 0\n16 leave 1 pc 0214\n16 stop WriteData pc 0214 addr 0400 module 1\nend 16 stopped\n",
         },
         Run {
-            image: OUTSIDE_INTERRUPTS_2,
+            image: Picture {
+                vector: 0x0300,
+                ..CALLED
+            },
             schedule: "16 line 0 up\n17 line 0 down\n",
             cycles: 40,
             status: Status::Done,
             text: "12 enter 1 from 0\n16 leave 1 pc 0214\n16 irq 1\n22 enter 1 from 0\n26 leave 1 pc 0214\nend 40 outside 0214 05fc 0000 0000 0000 0000 0000 0214 0000 0000 0000 0000 0000 0000 0000 0000\n",
         },
         Run {
-            image: OUTSIDE_INTERRUPTS_3,
+            image: Picture {
+                vector: 0x0302,
+                ..CALLED
+            },
             schedule: "16 line 0 up\n17 line 0 down\n",
             cycles: 40,
             status: Status::Stopped,

@@ -43,8 +43,8 @@ refused MarksFull 16
 end 0 outside 0200 0000 0000 0000 0000 0000 0000 0000 0000 0000 0000 0000 0000 0000 0000 0000
 ";
 
-fn plays() -> &'static [Play] {
-    &[
+fn plays() -> [Play; 8] {
+    [
         Play {
             image: BACK,
             schedule: "",

@@ -75,22 +75,22 @@ fn assert_runs(rt: &impl Abort, alloc: Global, runs: &[Run]) -> Result<(), Fail>
 
 #[test]
 fn without_interrupts(rt: HostRuntime) -> Result<(), Fail> {
-    assert_runs(&rt, rt.alloc(), plain_runs())?;
-    assert_runs(&rt, rt.alloc(), calls())?;
-    assert_runs(&rt, rt.alloc(), ninth_modules())?;
-    assert_runs(&rt, rt.alloc(), refusals())
+    assert_runs(&rt, rt.alloc(), &plain_runs())?;
+    assert_runs(&rt, rt.alloc(), &calls())?;
+    assert_runs(&rt, rt.alloc(), &ninth_modules())?;
+    assert_runs(&rt, rt.alloc(), &refusals())
 }
 
 #[test]
 fn interrupts_outside(rt: HostRuntime) -> Result<(), Fail> {
-    assert_runs(&rt, rt.alloc(), outside_interrupts())
+    assert_runs(&rt, rt.alloc(), &outside_interrupts())
 }
 
 #[test]
 fn interrupts_inside(rt: HostRuntime) -> Result<(), Fail> {
-    assert_runs(&rt, rt.alloc(), pulses())?;
-    assert_runs(&rt, rt.alloc(), handlers())?;
-    assert_runs(&rt, rt.alloc(), nested())
+    assert_runs(&rt, rt.alloc(), &pulses())?;
+    assert_runs(&rt, rt.alloc(), &handlers())?;
+    assert_runs(&rt, rt.alloc(), &nested())
 }
 
 // Whatever the data are and whenever the pulse comes, the call takes its 18 cycles and the 17 of the interrupt.
