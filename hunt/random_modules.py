@@ -1,7 +1,7 @@
 #!/usr/bin/env python3
 """Random modules that `check` or `balance` accepts, called over and over and interrupted at random cycles, with two data each.
 
-    hunt/random_modules.py PROGRAM [--calls N] [--seed N] [-j N] [--name NAME] [--fresh]
+    hunt/random_modules.py PROGRAM [--calls N] [--minutes N] [--seed N] [-j N] [--name NAME] [--fresh]
 
 Two modules are drawn for an image: the outside calls the first with an argument from the timer, and the handler of line 2 calls the second.
 Interrupts come by three lines and the timer; one handler may be interrupted itself, one sends its registers. Two images differ in the data of
@@ -27,6 +27,11 @@ TEXTS, DATA, BACKS, HANDLER_SP = (0x0800, 0x0C00), (0x1000, 0x1100), (0x023C, 0x
 SIZE = 2 * DATA_WORDS + STACK
 LOOP, TIMER_HANDLER, LINE_0, LINE_1, LINE_2, SP_KEPT = 0x0216, 0x0300, 0x0310, 0x0320, 0x0330, 0x0700
 LONG, SHORT, BATCH = 100000, 400, 40
+# The lines that go up in one cycle and down in the next.
+PULSES = [
+    "".join(f"{{{cycle}}} line {number} {way}\n" for cycle, way in enumerate(("up", "down")) for number in lines)
+    for lines in ((0,), (1,), (2,), (0, 1), (0, 2))
+]
 machine = None
 
 
@@ -65,12 +70,10 @@ def image_of(rng, code, modules, data):
 
 def schedule_of(rng, cycles):
     """Pulses of one cycle, of three lines, some together; often more than one a call."""
-    lines, at, most = [], 0, rng.choice([10, 30, 60, 120])
-    while at < cycles - most - 2:
-        at += rng.randint(2, most)
-        pulse = rng.choice([(0,), (1,), (2,), (0, 1), (0, 2)])
-        lines += [f"{at} line {number} up" for number in pulse] + [f"{at + 1} line {number} down" for number in pulse]
-    return "\n".join([*lines, ""])
+    most = rng.choice([10, 30, 60, 120])
+    gaps = rng.choices(range(3, most + 3), k=2 * cycles // most)
+    starts = itertools.takewhile(lambda at: at < cycles - 2, itertools.accumulate(gaps))
+    return "".join([pulse.format(at, at + 1) for at, pulse in zip(starts, rng.choices(PULSES, k=len(gaps)))])
 
 
 def accepted(modules, image):
@@ -128,6 +131,7 @@ def options():
     said = argparse.ArgumentParser(description=__doc__.split("\n")[0])
     said.add_argument("program")
     said.add_argument("--calls", type=int, default=1000000)
+    said.add_argument("--minutes", type=float, default=600, help="end after so many minutes at the latest")
     said.add_argument("--seed", type=int, default=1)
     said.add_argument("-j", type=int, default=max(1, (os.cpu_count() or 2) - 1))
     said.add_argument("--name", help="write hunt/results/NAME.txt as well")
@@ -151,7 +155,7 @@ def hunted(words, folder):
             differ += [answer[5] for answer in answers if answer[5]]
             told_now = f"random: {sums[2]} of {words.calls} calls interrupted, {len(differ)} differ, {time.monotonic() - begun:.0f} s"
             print(told_now, file=sys.stderr, flush=True)
-            if sums[2] >= words.calls or len(differ) > 9:
+            if sums[2] >= words.calls or len(differ) > 9 or time.monotonic() - begun > 60 * words.minutes:
                 return sums, drawn * BATCH, differ
 
 
