@@ -1,5 +1,5 @@
 // The Bench: a prompt for the program's commands, the files that they read, what they write, and timelines of traces.
-import { commandOf } from "./command.mjs";
+import { commandsOf } from "./command.mjs";
 import { Files } from "./files.mjs";
 import { loadModule, Runner } from "./runner.mjs";
 import { firstDifference, isTrace, LEGEND, readMap, svg } from "./trace.mjs";
@@ -112,6 +112,7 @@ function outputOf(ran) {
 
 function endingOf(ran, to) {
   if (ran.trap) return element("p", `The module trapped: ${ran.trap}`, "ended bad");
+  if (ran.full) return element("p", "The run was ended: it had written too much to keep", "ended bad");
   if (ran.ended) return element("p", "The run was ended", "ended bad");
   const kept = to ? `; ${ran.out.length} bytes kept as ${to}` : "";
   return element("p", `status ${ran.status}${kept}`, ran.status ? "ended bad" : "ended");
@@ -162,7 +163,7 @@ function comparison(text) {
 async function showRun(line, to, ran) {
   const box = element("article", "", "run");
   const text = ran.out.length > MOST_BYTES ? null : textOf(ran.out);
-  box.append(element("h3", `sancus ${line}`), ...(to ? [] : outputOf(ran)));
+  box.append(element("h3", `sancus ${line}${to ? ` > ${to}` : ""}`), ...(to ? [] : outputOf(ran)));
   if (ran.err) box.append(element("pre", ran.err));
   box.append(endingOf(ran, to));
   part("runs").prepend(box);
@@ -171,9 +172,9 @@ async function showRun(line, to, ran) {
   }
 }
 
-async function runLine(line) {
-  const { words, to, fault } = commandOf(line);
-  if (fault) return void (part("state").textContent = fault);
+// Whether the command ended well.
+async function runCommand({ words, to }) {
+  const content = await files.forRun(words);
   const begun = performance.now();
   const seconds = () => `${((performance.now() - begun) / 1000).toFixed(2)} s`;
   let lines = 0;
@@ -183,7 +184,7 @@ async function runLine(line) {
   const clock = setInterval(tell, 200);
   part("end").disabled = false;
   part("go").disabled = true;
-  const ran = await runner.run(words, await files.forRun(words), (count) => (lines = count));
+  const ran = await runner.run(words, content, (count) => (lines = count));
   clearInterval(clock);
   part("end").disabled = true;
   part("go").disabled = false;
@@ -192,7 +193,15 @@ async function runLine(line) {
     files.put(to, ran.out);
     listFiles();
   }
-  await showRun(line, to, ran);
+  await showRun(words.join(" "), to, ran);
+  return ran.status === 0;
+}
+
+async function runLine(line) {
+  const commands = commandsOf(line);
+  const fault = commands.find((it) => it.fault)?.fault;
+  if (fault) return void (part("state").textContent = fault);
+  for (const command of commands) if (!await runCommand(command)) return;
 }
 
 function submit(event) {

@@ -1,6 +1,9 @@
 // The page's side of a run: a worker that does one run after another, and is ended where the reader wishes.
 import { joined } from "./host.mjs";
 
+// More bytes than these are not kept: the run is ended.
+const MOST = 1 << 28;
+
 export async function loadModule(url = new URL("../release/sancus.wasm", import.meta.url)) {
   const answer = await fetch(url);
   if (!answer.ok) throw new Error(`${url} could not be read (${answer.status}): web/build.sh makes it`);
@@ -18,8 +21,8 @@ export class Runner {
     this.#module = module;
   }
 
-  // {status, out, err}, with `ended: true` where it was ended, or with the engine's word where the module trapped.
-  // `progress` is told the number of lines so far.
+  // {status, out, err}, with `ended: true` where it was ended (`full: true` by its size), or with `trap`, the
+  // engine's word. `progress` is told the number of lines so far.
   run(words, files, progress = () => {}) {
     this.#before = this.#before.then(() => this.#start(words, files, progress));
     return this.#before;
@@ -29,28 +32,31 @@ export class Runner {
     this.#worker ??= new Worker(new URL("worker.mjs", import.meta.url), { type: "module" });
     const pieces = { 1: [], 2: [] };
     let lines = 0;
+    let bytes = 0;
     const worker = this.#worker;
     return new Promise((resolve) => {
       const finish = (how) => {
         this.#stop = null;
         resolve({ out: joined(pieces[1]), err: new TextDecoder().decode(joined(pieces[2])), ...how });
       };
-      this.#stop = () => finish({ status: null, ended: true });
+      this.#stop = (more) => finish({ status: null, ended: true, ...more });
       worker.onerror = (event) => finish({ status: null, trap: event.message || "the worker could not be started" });
       worker.onmessage = ({ data }) => {
         if (!data.bytes) return finish(data.trap ? { status: null, trap: data.trap } : { status: data.status });
         pieces[data.stream].push(data.bytes);
         for (const byte of data.bytes) lines += byte === 10;
         progress(lines);
+        bytes += data.bytes.length;
+        if (bytes > MOST) this.end({ full: true });
       };
       worker.postMessage({ module: this.#module, words, files });
     });
   }
 
   // Ends the run that is under way.
-  end() {
+  end(more = {}) {
     this.#worker?.terminate();
     this.#worker = null;
-    this.#stop?.();
+    this.#stop?.(more);
   }
 }

@@ -157,11 +157,11 @@ async function allCases(browser, native) {
   for (const name in files) coded[name] = Buffer.from(files[name]).toString("base64");
   const { cases } = casesOf(top);
   const found = await browser.value(`(${inPage})(${JSON.stringify(cases)}, ${JSON.stringify(coded)})`);
-  cases.forEach(({ line, words, to }, at) => {
+  cases.forEach(({ words, to }, at) => {
     const theirs = native.run(words);
     if (to) native.put(to, theirs.out);
     const ours = { ...found[at], out: Buffer.from(found[at].out, "base64") };
-    check(`in the browser: sancus ${line}`, isSame(ours, theirs));
+    check(`in the browser: sancus ${words.join(" ")}`, isSame(ours, theirs));
   });
 }
 

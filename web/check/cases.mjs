@@ -2,10 +2,11 @@
 // refused.
 import { readdirSync, readFileSync } from "node:fs";
 import { join } from "node:path";
-import { commandOf } from "../command.mjs";
+import { commandsOf } from "../command.mjs";
 
-// What no prompt takes: other words of the shell.
-const SHELL = /[|$<&*;'"`]/;
+// What no prompt takes: more of the shell. What follows a | is another program's.
+const SHELL = /[$<*;'"`]/;
+const ownPart = (line) => line.replace(/\|.*/, "");
 
 function pages(top) {
   const found = ["README.md"];
@@ -28,13 +29,13 @@ function linesOf(page) {
   return [...joined.matchAll(/^ {4}\.\/sancus (.*)$/gm)].map((match) => match[1]);
 }
 
-// {cases, skipped}: the cases are {line, words, to}, in an order in which each file is made before it is read.
+// {cases, skipped}: the cases are {words, to}, in an order in which each file is made before it is read.
 export function casesOf(top) {
-  const lines = pages(top).flatMap((page) => linesOf(readFileSync(join(top, page), "utf8")));
+  const lines = pages(top).flatMap((page) => linesOf(readFileSync(join(top, page), "utf8"))).map(ownPart);
   const plain = lines.filter((line) => !SHELL.test(line));
   const refused = readFileSync(join(top, "web/check/refused.txt"), "utf8").split("\n").slice(0, -1);
   return {
-    cases: [...plain, ...refused].map((line) => ({ line, ...commandOf(line) })),
+    cases: [...plain, ...refused].flatMap(commandsOf),
     skipped: lines.length - plain.length,
   };
 }

@@ -16,13 +16,14 @@ const hex = (number, digits) => number.toString(16).padStart(digits, "0");
 const TEXT = 0x0300;
 const DATA = 0x0500;
 
-// A word of code: mostly an instruction between registers or on memory, a jump, or a unit instruction.
+// A word of code: mostly an operation on registers from R8 on, sometimes a jump ahead by a few words, rarely any word.
 function code(below) {
-  const kind = below(10);
-  if (kind < 4) return ((4 + below(12)) << 12) | (below(16) << 8) | (below(2) << 6) | below(16);
-  if (kind < 6) return 0x2000 | (below(8) << 10) | below(16);
-  if (kind < 7) return 0x1000 | (below(7) << 7) | (below(4) << 4) | below(16);
-  if (kind < 8) return 0x4303;
+  const kind = below(40);
+  const register = 8 + below(8);
+  if (kind < 24) return ((4 + below(12)) << 12) | ((8 + below(8)) << 8) | (below(2) << 6) | register;
+  if (kind < 30) return 0x1000 | (below(4) << 7) | register;
+  if (kind < 34) return 0x2000 | (below(8) << 10) | below(3);
+  if (kind < 39) return 0x4303;
   return below(65536);
 }
 
@@ -61,9 +62,13 @@ function image(below) {
 }
 
 function schedule(below) {
-  const cycles = Array.from({ length: below(6) }, () => below(120)).sort((a, b) => a - b);
-  const what = () => [`line ${below(4)} up`, `line ${below(4)} down`, `serial ${hex(below(256), 2)}`][below(3)];
-  return cycles.map((cycle) => `${cycle} ${what()}\n`).join("");
+  const cycles = Array.from({ length: below(8) }, () => below(80)).sort((a, b) => a - b);
+  const line = () => (below(3) ? 0 : below(4));
+  const what = () => [`line ${line()} up`, `line ${line()} down`, `serial ${hex(below(256), 2)}`][below(3)];
+  // Line 0 goes up about when the module is called.
+  const first = 10 + below(25);
+  const lines = [`${first} line 0 up\n`, ...cycles.map((cycle) => `${first + cycle} ${what()}\n`)];
+  return below(4) ? lines.join("") : lines.slice(1).join("");
 }
 
 function bent(below, text) {
@@ -86,8 +91,8 @@ export function made(seed) {
       arms: encode("0304 0318 6\n"),
     },
     lines: [
-      "image made.img - 2000", "image made.img made.txt 2000", "image bent.img made.txt 500",
-      "lone made.img 1 300 r7=0240", "check made.img 1", "balance made.img 1 arms", "dis made.img 0300 0340",
+      "image made.img made.txt 2000", "image bent.img made.txt 500", "lone made.img 1 300 r7=0240",
+      "check made.img 1", "balance made.img 1 arms",
     ],
   };
 }

@@ -1,5 +1,5 @@
 // Timelines of traces whose spans are worked out by hand, and what no trace tells.
-import { commandOf } from "../command.mjs";
+import { commandsOf } from "../command.mjs";
 import { firstDifference, isTrace, read, readMap, spans, svg } from "../trace.mjs";
 
 let passed = 0;
@@ -66,7 +66,11 @@ same("the difference is marked", /class="first"/.test(picture), true);
 const cut = svg(INSIDE.join("\n"), { from: 12, to: 14 });
 same("a window of cycles", cut.match(/<rect class="(?:active|padding|open)"/g).length, 2);
 const WORDS = { words: ["asm", "a.txt"], to: "b.o", fault: null };
-same("a line of the prompt", commandOf("  ./sancus asm a.txt >b.o "), WORDS);
-same("no word at all", commandOf(""), { words: [], to: null, fault: null });
+const NOTHING = { words: [], to: null, fault: null };
+same("a line of the prompt", commandsOf("  ./sancus asm a.txt >b.o "), [WORDS]);
+same("two commands", commandsOf("asm a.txt > b.o && ./sancus asm a.txt > b.o"), [WORDS, WORDS]);
+same("no word at all", commandsOf(""), [NOTHING]);
+same("two names", commandsOf("image a > b c")[0].fault !== null, true);
+same("another program", commandsOf("image a - 4 | grep b")[0].fault !== null, true);
 console.log(`${passed} passed, ${failed} failed, 0 not run`);
 process.exitCode = failed ? 1 : 0;
