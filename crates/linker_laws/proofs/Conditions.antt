@@ -1,8 +1,7 @@
 -- Objects link exactly where the conditions hold.
-use Rattle.std.proofs.Common.{◌≡◌, ◌≢◌, ◌↔◌, ◌⊎◌, inl, inr, ℕ, zero, suc, ◌+◌, ◌*◌, ◌%◌, ◌-◌, ◌<◌, ◌≤◌, pos, List, [], ◌∷◌, ◌++◌, length, get_or, length-append, Option, Some, None, Result, Ok, Err, Bool, true, false, not, ◌&&◌, ◌||◌, ◌==◌, nat_lt, is_none, IsOk, IfSome, replicate, refl, ap, sym, ◌∙◌, subst, arith}
-use Rattle.std.specs.Prelude.{All, AllPairs, slice_get, if◌then◌else◌, bytes_eq}
-use Rattle.std.specs.List.{list_any}
-use Rattle.std.proofs.lemmas.Bool.{cases_lt, and_parts}
+use Rattle.std.proofs.Common.{◌≡◌, ◌≢◌, ℕ, zero, suc, ◌+◌, ◌*◌, ◌%◌, ◌-◌, ◌<◌, ◌≤◌, pos, List, [], ◌∷◌, length, get_or, Option, Some, None, Result, Ok, Err, Bool, true, false, not, ◌&&◌, ◌||◌, ◌==◌, nat_lt, is_none, IsOk, IfSome, replicate, refl, ap, sym, ◌∙◌, subst, arith}
+use Rattle.std.specs.Prelude.{All, slice_get, if◌then◌else◌}
+use Rattle.std.proofs.lemmas.Bool.{and_parts}
 use Rattle.std.proofs.lemmas.Bool.Decides.{nat_tests}
 use Rattle.std.proofs.lemmas.List.{length-replicate}
 use Rattle.elf_objects.specs.Object.{ObjectValue}
@@ -11,7 +10,6 @@ use Rattle.elf_objects.specs.declared.object.Symbol.{Symbol}
 use Rattle.elf_objects.specs.declared.object.Relocation.{Relocation}
 use Rattle.layout_file.specs.Values.{VectorValue, ModuleValue, LayoutValue}
 use Rattle.reloc_apply.specs.declared.RelocFault.{RelocFault}
-use Rattle.reloc_apply.specs.Fields.{relocated}
 use Rattle.reloc_apply.specs.Applies.{Applies}
 use Rattle.reloc_apply.proofs.AppliesLemmas.{ok_applies, applies_ok}
 use Rattle.linker.specs.declared.fault.LinkFault.{LinkFault}
@@ -23,16 +21,16 @@ use Rattle.linker.specs.declared.item.Part.{Part}
 use Rattle.linker.specs.declared.symbol.Meaning.{Meaning}
 use Rattle.linker.specs.declared.symbol.Meaning.TheVariants as meaning
 use Rattle.mod_layout.specs.declared.Section.{Section}
-use Rattle.linker.specs.Passes.{NumberedObject, numbered_objects, or_else, first_in, first_at, refuse_if, part}
+use Rattle.linker.specs.Passes.{NumberedObject, numbered_objects, first_in, refuse_if, part}
 use Rattle.linker.specs.Parts.{is_loaded_head, code_part, part_of, item_of}
 use Rattle.linker.specs.Symbols.{symbol_of, symbols_of}
 use Rattle.linker.specs.Names.{stands_for, symbol_meaning}
 use Rattle.linker.specs.Placement.{items_of, item_at, text_of, ram_of}
 use Rattle.linker.specs.Numbers.{Linking, linking_of, numbers_in, end_in}
-use Rattle.linker.specs.Fields.{target_address, target_size, sum_of, with_field, reloc_fault, reloc_fault_by, reloc_fault_in}
-use Rattle.linker.specs.Refusals.{no_place, no_place_at, no_place_in, duplicate, is_used, undefined, undefined_at, undefined_in, no_vector, no_vector_at, no_entry, no_entry_at, no_entry_in, is_code_of, is_entry, is_entry_in, elsewhere, elsewhere_at, elsewhere_in, overfull, overfull_at, overfull_in, names_fault, stand_fault, fill_fault, link_fault_of}
+use Rattle.linker.specs.Fields.{target_address, target_size, sum_of, reloc_fault, reloc_fault_by, reloc_fault_in}
+use Rattle.linker.specs.Refusals.{no_place, no_place_at, no_place_in, is_used, undefined, undefined_at, undefined_in, no_vector, no_vector_at, no_entry, no_entry_at, no_entry_in, is_code_of, is_entry, is_entry_in, elsewhere, elsewhere_at, elsewhere_in, overfull, overfull_at, overfull_in, link_fault_of}
 use Rattle.linker.proofs.BoundLemmas.{both_none, not_over}
-use Rattle.linker_laws.specs.Conditions.{SectionsPlaced, OneStrongEach, UsedStand, VectorsStand, IsEntry, EntriesStand, ContentsFit, RelocationsApply, CanLink, LinksExactly}
+use Rattle.linker_laws.specs.Conditions.{SectionsPlaced, UsedStand, VectorsStand, IsEntry, EntriesStand, ContentsFit, RelocationsApply, CanLink, LinksExactly}
 use Rattle.linker_laws.proofs.Searches.{or_none, in_none, none_in, at_none, none_at, refused_not, not_refused, some_is, is_some_by, got, gets}
 use Rattle.linker_laws.proofs.Strong.{duplicates, no_duplicates}
 
@@ -296,35 +294,38 @@ not_relocations l objects h = none_in (reloc_fault_in l) (numbered_objects objec
 -- ---- all of them
 
 pub can_link : (layout : LayoutValue) (objects : List ObjectValue) → link_fault_of layout objects ≡ None → CanLink layout objects
-unfolding link_fault_of names_fault stand_fault fill_fault
+unfolding link_fault_of
 can_link layout objects e =
     let names = stands_for objects in
     let a = both_none _ _ e in
-    let b = both_none _ _ a.0 in
-    let c = both_none _ _ a.1 in
-    let d = both_none _ _ c.0 in
+    let b = both_none _ _ a.1 in
+    let c = both_none _ _ b.1 in
+    let d = both_none _ _ c.1 in
     let f = both_none _ _ d.1 in
     let g = both_none _ _ f.1 in
-    let h = both_none _ _ c.1 in
+    let h = both_none _ _ g.1 in
     record {
-      sections_placed = placed layout.modules objects b.0;
-      one_strong_each = no_duplicates (symbols_of objects) b.1;
-      used_stand = used_stand names objects d.0;
-      vectors_stand = vectors names layout.vectors f.0;
-      entries_stand = entries names (items_of layout objects) layout.modules g.1;
+      sections_placed = placed layout.modules objects a.0;
+      one_strong_each = no_duplicates (symbols_of objects) b.0;
+      used_stand = used_stand names objects c.0;
+      vectors_stand = vectors names layout.vectors d.0;
+      entries_stand = entries names (items_of layout objects) layout.modules g.0;
       contents_fit = contents layout (end_in layout objects) h.0;
-      relocations_apply = relocations (linking_of layout objects) objects h.1;
+      relocations_apply = relocations (linking_of layout objects) objects (both_none _ _ h.1).0;
     }
 
 links : (layout : LayoutValue) (objects : List ObjectValue) → CanLink layout objects → link_fault_of layout objects ≡ None
-unfolding link_fault_of names_fault stand_fault fill_fault
+unfolding link_fault_of
 links layout objects h =
     let names = stands_for objects in
-    or_none _ _ (or_none _ _ (not_placed layout.modules objects h.sections_placed) (duplicates (symbols_of objects) h.one_strong_each))
-    (or_none _ _ (or_none _ _ (not_undefined names objects h.used_stand)
+    or_none _ _ (not_placed layout.modules objects h.sections_placed)
+    (or_none _ _ (duplicates (symbols_of objects) h.one_strong_each)
+    (or_none _ _ (not_undefined names objects h.used_stand)
     (or_none _ _ (not_vectors names layout.vectors h.vectors_stand)
-    (or_none _ _ (no_entry_if names (items_of layout objects) layout.modules h.entries_stand) (not_elsewhere names (items_of layout objects) layout.modules h.entries_stand))))
-    (or_none _ _ (not_overfull layout (end_in layout objects) h.contents_fit) (not_relocations (linking_of layout objects) objects h.relocations_apply)))
+    (or_none _ _ (no_entry_if names (items_of layout objects) layout.modules h.entries_stand)
+    (or_none _ _ (not_elsewhere names (items_of layout objects) layout.modules h.entries_stand)
+    (or_none _ _ (not_overfull layout (end_in layout objects) h.contents_fit)
+    (or_none _ _ (not_relocations (linking_of layout objects) objects h.relocations_apply) refl)))))))
 
 pub links_exactly : LinksExactly
 links_exactly layout objects = (links layout objects, can_link layout objects)

@@ -44,7 +44,8 @@ use Rattle.linker_laws.specs.Contents.{IsLinked, IsLoaded, section_address, fiel
 use Rattle.linker_laws.proofs.Conditions.{can_link}
 use Rattle.linker_laws.proofs.FieldBytes as fields
 use Rattle.linker_laws.proofs.Numbered.{later, one_of, section_item}
-use Rattle.linker_laws.proofs.Places.{in_list, item_high, ranked_at, lies_at, lie_apart, lies_inside}
+use Rattle.linker_laws.proofs.Places.{ranked_at, lies_at, lie_apart, lies_inside}
+use Rattle.linker.proofs.TurnLemmas.{in_list, item_high}
 use Rattle.linker_laws.proofs.Searches.{got, gets}
 use Rattle.linker_laws.proofs.SectionBytes as sections
 use Rattle.linker_laws.proofs.SectionBytes.{Long}
