@@ -58,7 +58,8 @@ region_even [] i = refl
 region_even (m ∷ ms) zero = refl
 region_even (m ∷ ms) (suc i) = let q : suc i + suc i ≡ suc (suc (i + i)) = omega arith in ap (slice_get (flat_map regions_of (m ∷ ms))) q ∙ region_even ms i
 
-region_odd : (ms : List ModuleValue) (i : ℕ) → slice_get (flat_map regions_of ms) (suc (i + i)) ≡ ram_in (slice_get ms i)
+region_odd : (ms : List ModuleValue) (i : ℕ) →
+    slice_get (flat_map regions_of ms) (suc (i + i)) ≡ ram_in (slice_get ms i)
 region_odd [] i = refl
 region_odd (m ∷ ms) zero = refl
 region_odd (m ∷ ms) (suc i) = let q : suc (suc i + suc i) ≡ suc (suc (suc (i + i))) = omega arith in ap (slice_get (flat_map regions_of (m ∷ ms))) q ∙ region_odd ms i
@@ -69,10 +70,12 @@ text_region layout i = let q : 2 + 2 * i ≡ suc (suc (i + i)) = omega arith in 
 ram_region : (layout : LayoutValue) (i : ℕ) → region_at layout (3 + 2 * i) ≡ ram_in (slice_get layout.modules i)
 ram_region layout i = let q : 3 + 2 * i ≡ suc (suc (suc (i + i))) = omega arith in ap (region_at layout) q ∙ region_odd layout.modules i
 
-pub text_start : (layout : LayoutValue) (i : ℕ) (m : ModuleValue) → slice_get layout.modules i ≡ Some m → slice_index (starts_of layout) (2 + 2 * i) ≡ m.text.start + stub_size m
+pub text_start : (layout : LayoutValue) (i : ℕ) (m : ModuleValue) → slice_get layout.modules i ≡ Some m →
+    slice_index (starts_of layout) (2 + 2 * i) ≡ m.text.start + stub_size m
 text_start layout i m e = let g = got layout.modules i m e in text_starts layout i m g.0 ∙ ap (λ (x : ModuleValue). x.text.start + stub_size x) (g.1 m)
 
-ram_start : (layout : LayoutValue) (i : ℕ) (m : ModuleValue) → slice_get layout.modules i ≡ Some m → slice_index (starts_of layout) (3 + 2 * i) ≡ m.ram.start + 4 + m.stack
+ram_start : (layout : LayoutValue) (i : ℕ) (m : ModuleValue) → slice_get layout.modules i ≡ Some m →
+    slice_index (starts_of layout) (3 + 2 * i) ≡ m.ram.start + 4 + m.stack
 ram_start layout i m e = let g = got layout.modules i m e in ram_starts layout i m g.0 ∙ ap (λ (x : ModuleValue). x.ram.start + 4 + x.stack) (g.1 m)
 
 -- a region has room for its contents, and ends below the vectors
@@ -83,7 +86,8 @@ pub record Bounded (layout : LayoutValue) (objects : List ObjectValue) (n : ℕ)
   pub above : 512 ≤ r.start
 
 module _ (layout : LayoutValue) (objects : List ObjectValue) (s : IsLayout layout) (fit : ContentsFit layout (end_in layout objects)) where
-  pub text_bounded : (i : ℕ) (m : ModuleValue) → slice_get layout.modules i ≡ Some m → Bounded layout objects (2 + 2 * i) m.text
+  pub text_bounded : (i : ℕ) (m : ModuleValue) → slice_get layout.modules i ≡ Some m →
+      Bounded layout objects (2 + 2 * i) m.text
   text_bounded i m e =
       let g = got layout.modules i m e in
       let b = text_start layout i m e in
@@ -95,7 +99,8 @@ module _ (layout : LayoutValue) (objects : List ObjectValue) (s : IsLayout layou
       let v = k.below_vectors in let w = k.above_devices in
       record { low = omega (arith, b); high = omega (arith, h, t, u); below = omega (arith, v, t); above = omega (arith, w, f) }
 
-  ram_bounded : (i : ℕ) (m : ModuleValue) → slice_get layout.modules i ≡ Some m → Bounded layout objects (3 + 2 * i) m.ram
+  ram_bounded : (i : ℕ) (m : ModuleValue) → slice_get layout.modules i ≡ Some m →
+      Bounded layout objects (3 + 2 * i) m.ram
   ram_bounded i m e =
       let g = got layout.modules i m e in
       let b = ram_start layout i m e in
@@ -114,7 +119,8 @@ module _ (layout : LayoutValue) (objects : List ObjectValue) (s : IsLayout layou
   second_bounded = let b = (first_two layout).1 in let k = s.ram_region in record { low = omega (arith, b); high = fit.ram; below = k.below_vectors; above = k.above_devices }
 
   -- the region of this number is that one
-  it_is : (n k : ℕ) (r t : Section) → n ≡ k → region_at layout k ≡ Some t → region_at layout n ≡ Some r → Bounded layout objects k t → Bounded layout objects n r
+  it_is : (n k : ℕ) (r t : Section) → n ≡ k → region_at layout k ≡ Some t → region_at layout n ≡ Some r →
+      Bounded layout objects k t → Bounded layout objects n r
   it_is n k r t q f e b =
       subst (λ (x : Section). Bounded layout objects n x) (same_Some t r (sym f ∙ (sym (ap (region_at layout) q) ∙ e)))
       (subst (λ (j : ℕ). Bounded layout objects j t) (sym q) b)
@@ -122,7 +128,8 @@ module _ (layout : LayoutValue) (objects : List ObjectValue) (s : IsLayout layou
   no_region : {A : Type 0} (n k : ℕ) (r : Section) → n ≡ k → region_at layout k ≡ None → region_at layout n ≡ Some r → A
   no_region n k r q f e = some_not r (sym e ∙ (ap (region_at layout) q ∙ f))
 
-  bounded_by : (n : ℕ) (r : Section) → region_at layout n ≡ Some r → (n ≡ 0) ⊎ ((n ≡ 1) ⊎ ((i : ℕ) × ((n ≡ 2 + 2 * i) ⊎ (n ≡ 3 + 2 * i)))) → Bounded layout objects n r
+  bounded_by : (n : ℕ) (r : Section) → region_at layout n ≡ Some r →
+      (n ≡ 0) ⊎ ((n ≡ 1) ⊎ ((i : ℕ) × ((n ≡ 2 + 2 * i) ⊎ (n ≡ 3 + 2 * i)))) → Bounded layout objects n r
   bounded_by n r e (inl q) = it_is n 0 r layout.text q refl e first_bounded
   bounded_by n r e (inr (inl q)) = it_is n 1 r layout.ram q refl e second_bounded
   bounded_by n r e (inr (inr (i, inl q))) = by (slice_get layout.modules i) refl
@@ -153,7 +160,8 @@ module _ (layout : LayoutValue) (objects : List ObjectValue) (s : IsLayout layou
   pub ranked_at : (k : ℕ) (p : Part) → (item_at items k).part ≡ Some p → p.rank < 3
   ranked_at k p e = ranked (2 + 2 * length layout.modules) (item_at items k).part p e (part_by items (2 + 2 * length layout.modules) k (items_are_in layout objects) (inl (in_list items k p e)))
 
-  item_sits : (k : ℕ) (p : Part) (r : Section) → (item_at items k).part ≡ Some p → region_at layout p.region ≡ Some r → Sits p.region (span (address_at starts items k) (item_at items k).size) r
+  item_sits : (k : ℕ) (p : Part) (r : Section) → (item_at items k).part ≡ Some p →
+      region_at layout p.region ≡ Some r → Sits p.region (span (address_at starts items k) (item_at items k).size) r
   item_sits k p r e f =
       let b = bounded p.region r f in
       let u = b.low in let v = b.high in
@@ -161,14 +169,16 @@ module _ (layout : LayoutValue) (objects : List ObjectValue) (s : IsLayout layou
       let h = item_high starts items k p e (ranked_at k p e) in
       record { region = f; inside = record { start = omega (arith, u, l); end = omega (arith, v, h) } }
 
-  pub stub_sits : (i : ℕ) (m : ModuleValue) → slice_get layout.modules i ≡ Some m → Sits (2 + 2 * i) (span m.text.start (stub_size m)) m.text
+  pub stub_sits : (i : ℕ) (m : ModuleValue) → slice_get layout.modules i ≡ Some m →
+      Sits (2 + 2 * i) (span m.text.start (stub_size m)) m.text
   stub_sits i m e =
       let h = (text_bounded i m e).high in
       let b = text_start layout i m e in
       let u = room_for starts items (2 + 2 * i) in
       record { region = text_region layout i ∙ ap text_in e; inside = record { start = omega arith; end = omega (arith, h, b, u) } }
 
-  stack_sits : (i : ℕ) (m : ModuleValue) → slice_get layout.modules i ≡ Some m → Sits (3 + 2 * i) (span m.ram.start (4 + m.stack)) m.ram
+  stack_sits : (i : ℕ) (m : ModuleValue) → slice_get layout.modules i ≡ Some m →
+      Sits (3 + 2 * i) (span m.ram.start (4 + m.stack)) m.ram
   stack_sits i m e =
       let h = (ram_bounded i m e).high in
       let b = ram_start layout i m e in
@@ -183,13 +193,15 @@ module _ (layout : LayoutValue) (objects : List ObjectValue) (s : IsLayout layou
 
   -- ---- apart
 
-  regions_apart : (n k : ℕ) (a b : Section) → region_at layout n ≡ Some a → region_at layout k ≡ Some b → n < k → ShareNoByte a b
+  regions_apart : (n k : ℕ) (a b : Section) → region_at layout n ≡ Some a → region_at layout k ≡ Some b → n < k →
+      ShareNoByte a b
   regions_apart n k a b e f h =
       let all = regions layout.text layout.ram layout.modules in
       let g = got all n a e in let j = got all k b f in
       subst (λ (x : Section). ShareNoByte x b) (g.1 a) (subst (λ (x : Section). ShareNoByte (get_or all n a) x) (j.1 a) (s.regions_apart n k a h j.0))
 
-  away_by : (n k : ℕ) (t u a b : Section) → Sits n t a → Sits k u b → n ≢ k → (n < k) ⊎ (k ≤ n) → (k < n) ⊎ (n ≤ k) → ShareNoByte t u
+  away_by : (n k : ℕ) (t u a b : Section) → Sits n t a → Sits k u b → n ≢ k → (n < k) ⊎ (k ≤ n) → (k < n) ⊎ (n ≤ k) →
+      ShareNoByte t u
   away_by n k t u a b p q ne (inl h) c = inside_apart t u a b p.inside q.inside (regions_apart n k a b p.region q.region h)
   away_by n k t u a b p q ne (inr h) (inl g) = turn u t (inside_apart u t b a q.inside p.inside (regions_apart k n b a q.region p.region g))
   away_by n k t u a b p q ne (inr h) (inr g) = absurd (ne (omega arith))
@@ -205,31 +217,40 @@ module _ (layout : LayoutValue) (objects : List ObjectValue) (s : IsLayout layou
   abbrev item_span : ℕ → Section
   item_span k = span (address_at starts items k) (item_at items k).size
 
-  two_items : (k j : ℕ) (p q : Part) (a b : Section) → (item_at items k).part ≡ Some p → region_at layout p.region ≡ Some a → (item_at items j).part ≡ Some q → region_at layout q.region ≡ Some b → k ≢ j → (p.region ≡ q.region) ⊎ (p.region ≢ q.region) →
+  two_items : (k j : ℕ) (p q : Part) (a b : Section) → (item_at items k).part ≡ Some p →
+      region_at layout p.region ≡ Some a → (item_at items j).part ≡ Some q → region_at layout q.region ≡ Some b →
+      k ≢ j → (p.region ≡ q.region) ⊎ (p.region ≢ q.region) →
       ShareNoByte (item_span k) (item_span j)
   two_items k j p q a b e f g h ne (inl r) = one_or (item_span k) (item_span j) (in_turn starts items k j p q e g ne r)
   two_items k j p q a b e f g h ne (inr r) = away p.region q.region (item_span k) (item_span j) a b (item_sits k p a e f) (item_sits j q b g h) r
 
-  item_stub : (k i : ℕ) (p : Part) (a : Section) (m : ModuleValue) → (item_at items k).part ≡ Some p → region_at layout p.region ≡ Some a → slice_get layout.modules i ≡ Some m → (p.region ≡ 2 + 2 * i) ⊎ (p.region ≢ 2 + 2 * i) → ShareNoByte (item_span k) (span m.text.start (stub_size m))
+  item_stub : (k i : ℕ) (p : Part) (a : Section) (m : ModuleValue) → (item_at items k).part ≡ Some p →
+      region_at layout p.region ≡ Some a → slice_get layout.modules i ≡ Some m →
+      (p.region ≡ 2 + 2 * i) ⊎ (p.region ≢ 2 + 2 * i) → ShareNoByte (item_span k) (span m.text.start (stub_size m))
   item_stub k i p a m e f g (inl r) =
       let l = item_low starts items k p e in let t = ap (slice_index starts) r in let b = text_start layout i m g in
       turn _ _ (one_before (span m.text.start (stub_size m)) (item_span k) (omega (arith, l, t, b)))
   item_stub k i p a m e f g (inr r) = away p.region (2 + 2 * i) _ _ a m.text (item_sits k p a e f) (stub_sits i m g) r
 
-  item_stack : (k i : ℕ) (p : Part) (a : Section) (m : ModuleValue) → (item_at items k).part ≡ Some p → region_at layout p.region ≡ Some a → slice_get layout.modules i ≡ Some m → (p.region ≡ 3 + 2 * i) ⊎ (p.region ≢ 3 + 2 * i) → ShareNoByte (item_span k) (span m.ram.start (4 + m.stack))
+  item_stack : (k i : ℕ) (p : Part) (a : Section) (m : ModuleValue) → (item_at items k).part ≡ Some p →
+      region_at layout p.region ≡ Some a → slice_get layout.modules i ≡ Some m →
+      (p.region ≡ 3 + 2 * i) ⊎ (p.region ≢ 3 + 2 * i) → ShareNoByte (item_span k) (span m.ram.start (4 + m.stack))
   item_stack k i p a m e f g (inl r) =
       let l = item_low starts items k p e in let t = ap (slice_index starts) r in let b = ram_start layout i m g in
       turn _ _ (one_before (span m.ram.start (4 + m.stack)) (item_span k) (omega (arith, l, t, b)))
   item_stack k i p a m e f g (inr r) = away p.region (3 + 2 * i) _ _ a m.ram (item_sits k p a e f) (stack_sits i m g) r
 
-  stub_stack : (i j : ℕ) (m o : ModuleValue) → slice_get layout.modules i ≡ Some m → slice_get layout.modules j ≡ Some o → ShareNoByte (span m.text.start (stub_size m)) (span o.ram.start (4 + o.stack))
+  stub_stack : (i j : ℕ) (m o : ModuleValue) → slice_get layout.modules i ≡ Some m →
+      slice_get layout.modules j ≡ Some o →
+      ShareNoByte (span m.text.start (stub_size m)) (span o.ram.start (4 + o.stack))
   stub_stack i j m o e f = away (2 + 2 * i) (3 + 2 * j) _ _ m.text o.ram (stub_sits i m e) (stack_sits j o f) (λ z. absurd (omega (arith, z)))
 
   -- nothing reaches the vectors
   below_vectors : (n : ℕ) (t a : Section) → Sits n t a → ShareNoByte t (span 65504 32)
   below_vectors n t a p = let b = (bounded n a p.region).below in let e = p.inside.end in one_before t (span 65504 32) (omega (arith, b, e))
 
-  pub apart : (p q : Piece) (t u a b : Section) → Lies layout objects p t a → Lies layout objects q u b → p ≢ q → ShareNoByte t u
+  pub apart : (p q : Piece) (t u a b : Section) → Lies layout objects p t a → Lies layout objects q u b → p ≢ q →
+      ShareNoByte t u
   apart p q t u a b (item_lies k x r e f) (item_lies j y w g h) ne = two_items k j x y r w e f g h (λ z. ne (ap an_item z)) (cases_eq x.region y.region)
   apart p q t u a b (item_lies k x r e f) (stub_lies i m g) ne = item_stub k i x r m e f g (cases_eq x.region (2 + 2 * i))
   apart p q t u a b (item_lies k x r e f) (stack_lies i m g) ne = item_stack k i x r m e f g (cases_eq x.region (3 + 2 * i))
@@ -255,7 +276,8 @@ lies_inside layout objects s e = inside layout objects s (can_link layout object
 pub lie_apart : LieApart
 lie_apart layout objects s e = apart layout objects s (can_link layout objects e).contents_fit
 
-pub lies_at : (layout : LayoutValue) (objects : List ObjectValue) (k : ℕ) (p : Part) → (item_at (items_of layout objects) k).part ≡ Some p →
+pub lies_at : (layout : LayoutValue) (objects : List ObjectValue) (k : ℕ) (p : Part) →
+    (item_at (items_of layout objects) k).part ≡ Some p →
     (r : Section) × Lies layout objects (an_item k) (span (address_at (starts_of layout) (items_of layout objects) k) (item_at (items_of layout objects) k).size) r
 lies_at layout objects k p e =
     let all = regions layout.text layout.ram layout.modules in
@@ -264,7 +286,9 @@ lies_at layout objects k p e =
     let n = regions_count layout.modules in
     (get_or all p.region layout.text, item_lies k p (get_or all p.region layout.text) e (gets all p.region layout.text (omega (arith, l, n))))
 
-lies_by : (layout : LayoutValue) (objects : List ObjectValue) (k : ℕ) (o : Option Part) → (item_at (items_of layout objects) k).part ≡ o → o ≢ None → (s : Section) × ((r : Section) × Lies layout objects (an_item k) s r)
+lies_by : (layout : LayoutValue) (objects : List ObjectValue) (k : ℕ) (o : Option Part) →
+    (item_at (items_of layout objects) k).part ≡ o → o ≢ None →
+    (s : Section) × ((r : Section) × Lies layout objects (an_item k) s r)
 lies_by layout objects k None e h = absurd (h refl)
 lies_by layout objects k (Some p) e h = (_, lies_at layout objects k p e)
 
