@@ -29,7 +29,8 @@ module _ (starts : List ℕ) (items : List Item) where
   abbrev ahead : ℕ → Part → ℕ
   ahead k p = end_of (start_of starts items p.region p.rank) (filter (goes_to p.region p.rank) (take k items))
 
-  pub address_of : (k : ℕ) (p : Part) → (item_at items k).part ≡ Some p → address_at starts items k ≡ place_in (ahead k p) (item_at items k)
+  pub address_of : (k : ℕ) (p : Part) → (item_at items k).part ≡ Some p →
+      address_at starts items k ≡ place_in (ahead k p) (item_at items k)
   unfolding address_at
   address_of k p e = address_is starts items k (item_at items k) (item_at items k).part p e
 
@@ -42,7 +43,8 @@ module _ (starts : List ℕ) (items : List Item) where
   above : (k : ℕ) (p : Part) → (item_at items k).part ≡ Some p → ahead k p ≤ address_at starts items k
   above k p e = let a = address_of k p e in let r = round_up_above (max (item_at items k).align 2) (ahead k p) (omega arith) in omega (arith, a, r)
 
-  rank_above : (k : ℕ) (p : Part) → (item_at items k).part ≡ Some p → start_of starts items p.region p.rank ≤ address_at starts items k
+  rank_above : (k : ℕ) (p : Part) → (item_at items k).part ≡ Some p →
+      start_of starts items p.region p.rank ≤ address_at starts items k
   rank_above k p e = let a = above k p e in let b = end_above (start_of starts items p.region p.rank) (filter (goes_to p.region p.rank) (take k items)) in omega (arith, a, b)
 
   start_at : (p : Part) → slice_index starts p.region ≤ start_of starts items p.region p.rank
@@ -50,7 +52,8 @@ module _ (starts : List ℕ) (items : List Item) where
   start_at p = let u = start_up starts items p.region 0 p.rank in let z : p.rank + 0 ≡ p.rank = omega arith in let e = ap (start_of starts items p.region) z in omega (arith, u, e)
 
   -- it stands above where its region has room
-  pub item_low : (k : ℕ) (p : Part) → (item_at items k).part ≡ Some p → slice_index starts p.region ≤ address_at starts items k
+  pub item_low : (k : ℕ) (p : Part) → (item_at items k).part ≡ Some p →
+      slice_index starts p.region ≤ address_at starts items k
   item_low k p e = let a = rank_above k p e in let b = start_at p in omega (arith, a, b)
 
   part_end : (k : ℕ) (p : Part) → (item_at items k).part ≡ Some p → ends k ≤ start_of starts items p.region (p.rank + 1)
@@ -61,7 +64,8 @@ module _ (starts : List ℕ) (items : List Item) where
       omega (arith, a, w, n)
 
   -- and ends no further than its region's contents
-  pub item_high : (k : ℕ) (p : Part) → (item_at items k).part ≡ Some p → p.rank < 3 → ends k ≤ filled_end starts items p.region
+  pub item_high : (k : ℕ) (p : Part) → (item_at items k).part ≡ Some p → p.rank < 3 →
+      ends k ≤ filled_end starts items p.region
   item_high k p e h = let a = part_end k p e in let u = up_to_3 starts items p.region p.rank h in omega (arith, a, u)
 
   -- ---- two items of one region
@@ -77,7 +81,8 @@ module _ (starts : List ℕ) (items : List Item) where
       by (x ∷ xs) (suc j) (suc k) h = ap (λ (l : List Item). x ∷ l) (by xs j k (omega arith))
 
   -- of one part, the earlier one ends first
-  earlier : (j k : ℕ) (p : Part) → (item_at items j).part ≡ Some p → (item_at items k).part ≡ Some p → j < k → ends j ≤ address_at starts items k
+  earlier : (j k : ℕ) (p : Part) → (item_at items j).part ≡ Some p → (item_at items k).part ≡ Some p → j < k →
+      ends j ≤ address_at starts items k
   earlier j k p e f h =
       let g = goes_to p.region p.rank in
       let s = start_of starts items p.region p.rank in
@@ -88,7 +93,8 @@ module _ (starts : List ℕ) (items : List Item) where
       omega (arith, a, w, t, b)
 
   -- of one region, so does the one of the lower rank
-  lower : (j k : ℕ) (p q : Part) → (item_at items j).part ≡ Some p → (item_at items k).part ≡ Some q → p.region ≡ q.region → p.rank < q.rank → ends j ≤ address_at starts items k
+  lower : (j k : ℕ) (p q : Part) → (item_at items j).part ≡ Some p → (item_at items k).part ≡ Some q →
+      p.region ≡ q.region → p.rank < q.rank → ends j ≤ address_at starts items k
   lower j k p q e f r h =
       let a = part_end j p e in
       let u = start_up starts items p.region (p.rank + 1) (q.rank - (p.rank + 1)) in
@@ -101,7 +107,8 @@ module _ (starts : List ℕ) (items : List Item) where
   same_part : (p q : Part) → p.region ≡ q.region → p.rank ≡ q.rank → p ≡ q
   same_part p q r k = ap (λ (n : ℕ). let t : Part = record { region = n; rank = p.rank } in t) r ∙ ap (λ (n : ℕ). let t : Part = record { region = q.region; rank = n } in t) k
 
-  by_index : (j k : ℕ) (p : Part) → (item_at items j).part ≡ Some p → (item_at items k).part ≡ Some p → j ≢ k → (j < k) ⊎ (k ≤ j) → (ends j ≤ address_at starts items k) ⊎ (ends k ≤ address_at starts items j)
+  by_index : (j k : ℕ) (p : Part) → (item_at items j).part ≡ Some p → (item_at items k).part ≡ Some p → j ≢ k →
+      (j < k) ⊎ (k ≤ j) → (ends j ≤ address_at starts items k) ⊎ (ends k ≤ address_at starts items j)
   by_index j k p e f ne (inl h) = inl (earlier j k p e f h)
   by_index j k p e f ne (inr h) = by (cases_lt k j)
     where
@@ -110,10 +117,12 @@ module _ (starts : List ℕ) (items : List Item) where
       by (inr l) = absurd (ne (omega arith))
 
   -- two items of one region stand one after the other
-  pub in_turn : (j k : ℕ) (p q : Part) → (item_at items j).part ≡ Some p → (item_at items k).part ≡ Some q → j ≢ k → p.region ≡ q.region → (ends j ≤ address_at starts items k) ⊎ (ends k ≤ address_at starts items j)
+  pub in_turn : (j k : ℕ) (p q : Part) → (item_at items j).part ≡ Some p → (item_at items k).part ≡ Some q → j ≢ k →
+      p.region ≡ q.region → (ends j ≤ address_at starts items k) ⊎ (ends k ≤ address_at starts items j)
   in_turn j k p q e f ne r = by (cases_lt p.rank q.rank) (cases_lt q.rank p.rank)
     where
-      by : (p.rank < q.rank) ⊎ (q.rank ≤ p.rank) → (q.rank < p.rank) ⊎ (p.rank ≤ q.rank) → (ends j ≤ address_at starts items k) ⊎ (ends k ≤ address_at starts items j)
+      by : (p.rank < q.rank) ⊎ (q.rank ≤ p.rank) → (q.rank < p.rank) ⊎ (p.rank ≤ q.rank) →
+          (ends j ≤ address_at starts items k) ⊎ (ends k ≤ address_at starts items j)
       by (inl h) c = inl (lower j k p q e f r h)
       by (inr h) (inl g) = inr (lower k j q p f e (sym r) g)
       by (inr h) (inr g) = by_index j k q (e ∙ ap Some (same_part p q r (omega arith))) f ne (cases_lt j k)
@@ -124,7 +133,8 @@ module _ (starts : List ℕ) (items : List Item) where
   room_for r = let u = start_up starts items r 0 3 in let w = filled_is starts items r in omega (arith, u, w)
 
   -- an item stands at a multiple of its alignment
-  pub aligned : (k : ℕ) (p : Part) → (item_at items k).part ≡ Some p → address_at starts items k % max (item_at items k).align 2 ≡ 0
+  pub aligned : (k : ℕ) (p : Part) → (item_at items k).part ≡ Some p →
+      address_at starts items k % max (item_at items k).align 2 ≡ 0
   aligned k p e =
       let a = max (item_at items k).align 2 in
       ap (λ (n : ℕ). n % a) (address_of k p e) ∙ multiple ((ahead k p + (a - 1)) / a) a (omega arith)
