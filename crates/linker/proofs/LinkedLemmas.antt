@@ -11,23 +11,25 @@ use Rattle.linker.specs.Image.{Links, linked_image, linked_memory, linked_table,
 use Rattle.linker.specs.internal.Tables.{Held}
 use Rattle.linker.specs.Numbers.{linking_of, end_in}
 use Rattle.linker.specs.Placement.{starts_of, items_of, address_at}
-use Rattle.linker.specs.Refusals.{link_fault_of, names_fault, no_place, fill_fault, overfull}
+use Rattle.linker.specs.Refusals.{link_fault_of, no_place, overfull}
+use Rattle.linker.specs.internal.Groups.{names_fault, fill_fault}
 use Rattle.linker.proofs.BoundLemmas.{both_none}
 use Rattle.linker.proofs.ByteLemmas.{each_byte, memory_bytes}
 use Rattle.linker.proofs.ClearLemmas.{memory_clear}
 use Rattle.linker.proofs.FitLemmas.{items_fit, all_fit, starts_high, stubs_fit}
 use Rattle.linker.proofs.LinkLemmas.{given_small}
+use Rattle.linker.proofs.OrderLemmas.{in_groups}
 use Rattle.linker.proofs.MadeLemmas.{table_made}
 use Rattle.linker.proofs.RegionLemmas.{items_are_in, ends_kept, ends_low}
 use Rattle.linker.proofs.TableLemmas.{table_fits, spans_of}
 
 pub all_placed : (layout : LayoutValue) (os : List ObjectValue) → link_fault_of layout os ≡ None → no_place layout.modules os ≡ None
-unfolding link_fault_of names_fault
-all_placed layout os e = (both_none _ _ (both_none _ _ e).0).0
+unfolding names_fault
+all_placed layout os e = (both_none _ _ (both_none _ _ (sym (in_groups layout os) ∙ e)).0).0
 
 pub none_over : (layout : LayoutValue) (os : List ObjectValue) → link_fault_of layout os ≡ None → overfull layout (end_in layout os) ≡ None
-unfolding link_fault_of fill_fault
-none_over layout os e = (both_none _ _ (both_none _ _ (both_none _ _ e).1).1).0
+unfolding fill_fault
+none_over layout os e = (both_none _ _ (both_none _ _ (both_none _ _ (sym (in_groups layout os) ∙ e)).1).1).0
 
 pub memory_is : (layout : LayoutValue) (os : List ObjectValue) (image : Image) → Links layout os image → image.memory ≡ memory_by (linking_of layout os) (end_in layout os) layout os zeros
 unfolding linked_memory

@@ -20,7 +20,7 @@ use Rattle.linker.specs.Numbers.{end_in}
 use Rattle.linker.specs.Refusals.{overfull}
 use Rattle.linker.proofs.BoundLemmas.{ends_within}
 use Rattle.linker.proofs.ImageLemmas.{common_in}
-use Rattle.linker.proofs.PlaceLemmas.{start_none}
+use Rattle.linker.proofs.PlaceLemmas.{start_none, filled_is}
 
 -- ---- where sections go
 
@@ -90,7 +90,8 @@ end_by : (layout : LayoutValue) (os : List ObjectValue) → IsLayout layout → 
 end_by layout os s e r (inl l) = ends_kept layout os s e r l
 end_by layout os s e r (inr l) =
     let none = start_none (starts_of layout) (items_of layout os) (2 + 2 * length layout.modules) r 3 (items_are_in layout os) (omega (arith, starts_count layout)) l in
-    omega (arith, none)
+    let w = filled_is (starts_of layout) (items_of layout os) r in
+    omega (arith, none, w)
 
 pub ends_low : (layout : LayoutValue) (os : List ObjectValue) → IsLayout layout → overfull layout (end_in layout os) ≡ None → (r : ℕ) → end_in layout os r ≤ 65504
 ends_low layout os s e r = end_by layout os s e r (cases_lt r (2 + 2 * length layout.modules))

@@ -5,3 +5,4 @@ pub mod Tables
 pub mod Room
 pub mod Values
 pub mod Layouts
+pub mod Groups

@@ -1,8 +1,7 @@
 -- Objects link exactly where the conditions hold.
-use Rattle.std.proofs.Common.{◌≡◌, ◌≢◌, ◌↔◌, ◌⊎◌, inl, inr, ℕ, zero, suc, ◌+◌, ◌*◌, ◌%◌, ◌-◌, ◌<◌, ◌≤◌, pos, List, [], ◌∷◌, ◌++◌, length, get_or, length-append, Option, Some, None, Result, Ok, Err, Bool, true, false, not, ◌&&◌, ◌||◌, ◌==◌, nat_lt, is_none, IsOk, IfSome, replicate, refl, ap, sym, ◌∙◌, subst, arith}
-use Rattle.std.specs.Prelude.{All, AllPairs, slice_get, if◌then◌else◌, bytes_eq}
-use Rattle.std.specs.List.{list_any}
-use Rattle.std.proofs.lemmas.Bool.{cases_lt, and_parts}
+use Rattle.std.proofs.Common.{◌≡◌, ◌≢◌, ℕ, zero, suc, ◌+◌, ◌*◌, ◌%◌, ◌<◌, ◌≤◌, pos, List, [], ◌∷◌, length, get_or, Option, Some, None, Result, Ok, Err, Bool, true, false, not, ◌&&◌, ◌||◌, ◌==◌, nat_lt, is_none, IsOk, IfSome, replicate, refl, ap, sym, ◌∙◌, subst, arith}
+use Rattle.std.specs.Prelude.{All, slice_get, if◌then◌else◌}
+use Rattle.std.proofs.lemmas.Bool.{and_parts}
 use Rattle.std.proofs.lemmas.Bool.Decides.{nat_tests}
 use Rattle.std.proofs.lemmas.List.{length-replicate}
 use Rattle.elf_objects.specs.Object.{ObjectValue}
@@ -11,7 +10,6 @@ use Rattle.elf_objects.specs.declared.object.Symbol.{Symbol}
 use Rattle.elf_objects.specs.declared.object.Relocation.{Relocation}
 use Rattle.layout_file.specs.Values.{VectorValue, ModuleValue, LayoutValue}
 use Rattle.reloc_apply.specs.declared.RelocFault.{RelocFault}
-use Rattle.reloc_apply.specs.Fields.{relocated}
 use Rattle.reloc_apply.specs.Applies.{Applies}
 use Rattle.reloc_apply.proofs.AppliesLemmas.{ok_applies, applies_ok}
 use Rattle.linker.specs.declared.fault.LinkFault.{LinkFault}
@@ -23,46 +21,52 @@ use Rattle.linker.specs.declared.item.Part.{Part}
 use Rattle.linker.specs.declared.symbol.Meaning.{Meaning}
 use Rattle.linker.specs.declared.symbol.Meaning.TheVariants as meaning
 use Rattle.mod_layout.specs.declared.Section.{Section}
-use Rattle.linker.specs.Passes.{NumberedObject, numbered_objects, or_else, first_in, first_at, refuse_if, part}
+use Rattle.linker.specs.Passes.{NumberedObject, numbered_objects, first_in, refuse_if, part}
 use Rattle.linker.specs.Parts.{is_loaded_head, code_part, part_of, item_of}
 use Rattle.linker.specs.Symbols.{symbol_of, symbols_of}
 use Rattle.linker.specs.Names.{stands_for, symbol_meaning}
 use Rattle.linker.specs.Placement.{items_of, item_at, text_of, ram_of}
 use Rattle.linker.specs.Numbers.{Linking, linking_of, numbers_in, end_in}
-use Rattle.linker.specs.Fields.{target_address, target_size, sum_of, with_field, reloc_fault, reloc_fault_by, reloc_fault_in}
-use Rattle.linker.specs.Refusals.{no_place, no_place_at, no_place_in, duplicate, is_used, undefined, undefined_at, undefined_in, no_vector, no_vector_at, no_entry, no_entry_at, no_entry_in, is_code_of, is_entry, is_entry_in, elsewhere, elsewhere_at, elsewhere_in, overfull, overfull_at, overfull_in, names_fault, stand_fault, fill_fault, link_fault_of}
+use Rattle.linker.specs.Fields.{target_address, target_size, sum_of, reloc_fault, reloc_fault_by, reloc_fault_in}
+use Rattle.linker.specs.Refusals.{no_place, no_place_at, no_place_in, is_used, undefined, undefined_at, undefined_in, no_vector, no_vector_at, no_entry, no_entry_at, no_entry_in, is_code_of, is_entry, is_entry_in, elsewhere, elsewhere_at, elsewhere_in, overfull, overfull_at, overfull_in, link_fault_of}
 use Rattle.linker.proofs.BoundLemmas.{both_none, not_over}
-use Rattle.linker_laws.specs.Conditions.{SectionsPlaced, OneStrongEach, UsedStand, VectorsStand, IsEntry, EntriesStand, ContentsFit, RelocationsApply, CanLink, LinksExactly}
+use Rattle.linker_laws.specs.Conditions.{SectionsPlaced, UsedStand, VectorsStand, IsEntry, EntriesStand, ContentsFit, RelocationsApply, CanLink, LinksExactly}
 use Rattle.linker_laws.proofs.Searches.{or_none, in_none, none_in, at_none, none_at, refused_not, not_refused, some_is, is_some_by, got, gets}
 use Rattle.linker_laws.proofs.Strong.{duplicates, no_duplicates}
 
 -- ---- sections
 
-goes_by : (b : Bool) (p : Option Part) (f : LinkFault) → refuse_if (b && is_none (if b then p else None)) f ≡ None → b ≡ true → p ≢ None
+goes_by : (b : Bool) (p : Option Part) (f : LinkFault) → refuse_if (b && is_none (if b then p else None)) f ≡ None →
+    b ≡ true → p ≢ None
 goes_by true None f e h = cc
 goes_by true (Some p) f e h = λ n. cc
 goes_by false p f e h = cc
 
-by_goes : (b : Bool) (p : Option Part) (f : LinkFault) → (b ≡ true → p ≢ None) → refuse_if (b && is_none (if b then p else None)) f ≡ None
+by_goes : (b : Bool) (p : Option Part) (f : LinkFault) → (b ≡ true → p ≢ None) →
+    refuse_if (b && is_none (if b then p else None)) f ≡ None
 by_goes true None f h = absurd (h refl refl)
 by_goes true (Some p) f h = refl
 by_goes false p f h = refl
 
-goes : (modules : List ModuleValue) (x : NumberedObject) (k : ℕ) (s : SectionHead) → no_place_at modules x k s ≡ None → is_loaded_head s ≡ true → part_of modules (part x.object s.name) s ≢ None
+goes : (modules : List ModuleValue) (x : NumberedObject) (k : ℕ) (s : SectionHead) →
+    no_place_at modules x k s ≡ None → is_loaded_head s ≡ true → part_of modules (part x.object s.name) s ≢ None
 unfolding no_place_at item_of
 goes modules x k s e = goes_by (is_loaded_head s) (part_of modules (part x.object s.name) s) (fault.NoPlace x.number k) e
 
-no_gap : (modules : List ModuleValue) (x : NumberedObject) (k : ℕ) (s : SectionHead) → (is_loaded_head s ≡ true → part_of modules (part x.object s.name) s ≢ None) → no_place_at modules x k s ≡ None
+no_gap : (modules : List ModuleValue) (x : NumberedObject) (k : ℕ) (s : SectionHead) →
+    (is_loaded_head s ≡ true → part_of modules (part x.object s.name) s ≢ None) → no_place_at modules x k s ≡ None
 unfolding no_place_at item_of
 no_gap modules x k s h = by_goes (is_loaded_head s) (part_of modules (part x.object s.name) s) (fault.NoPlace x.number k) h
 
-placed : (modules : List ModuleValue) (objects : List ObjectValue) → no_place modules objects ≡ None → SectionsPlaced modules objects
+placed : (modules : List ModuleValue) (objects : List ObjectValue) → no_place modules objects ≡ None →
+    SectionsPlaced modules objects
 unfolding no_place
 placed modules objects e = λ n x l k s m.
     let o = get_or (numbered_objects objects) n x in
     goes modules o k (get_or o.object.sections k s) (at_none (no_place_at modules o) o.object.sections (in_none (no_place_in modules) (numbered_objects objects) e n x l) k s m)
 
-not_placed : (modules : List ModuleValue) (objects : List ObjectValue) → SectionsPlaced modules objects → no_place modules objects ≡ None
+not_placed : (modules : List ModuleValue) (objects : List ObjectValue) → SectionsPlaced modules objects →
+    no_place modules objects ≡ None
 unfolding no_place
 not_placed modules objects h = none_in (no_place_in modules) (numbered_objects objects) (λ n x l.
     let o = get_or (numbered_objects objects) n x in none_at (no_place_at modules o) o.object.sections (λ k s m. no_gap modules o k (get_or o.object.sections k s) (h n x l k s m)))
@@ -81,7 +85,8 @@ used_at (r ∷ rs) (suc j) d l = or_by (r.symbol == (get_or rs j d).symbol) (is_
 abbrev User : List Relocation → ℕ → Type 0
 User rs k = (j : ℕ) × ((j < length rs) × ((d : Relocation) → (get_or rs j d).symbol ≡ k))
 
-user_by : (r : Relocation) (rs : List Relocation) (k : ℕ) (a : Bool) → (r.symbol == k) ≡ a → (a || is_used rs k) ≡ true → (is_used rs k ≡ true → User rs k) → User (r ∷ rs) k
+user_by : (r : Relocation) (rs : List Relocation) (k : ℕ) (a : Bool) → (r.symbol == k) ≡ a →
+    (a || is_used rs k) ≡ true → (is_used rs k ≡ true → User rs k) → User (r ∷ rs) k
 user_by r rs k true q f more = (zero, (omega arith, λ d. grind (arith, nat_tests)))
 user_by r rs k false q f more = let h = more f in (suc h.0, (let l = h.1.0 in omega (arith, l), h.1.1))
 
@@ -92,29 +97,36 @@ user_of (r ∷ rs) k e = user_by r rs k (r.symbol == k) refl e (user_of rs k)
 abbrev Stand : (List ℕ → Option Meaning) → NumberedObject → ℕ → Option Symbol → Type 0
 Stand names x k o = IfSome o (λ s. symbol_meaning names (symbol_of x k s) ≢ None)
 
-stand_by : (names : List ℕ → Option Meaning) (x : NumberedObject) (k : ℕ) (b : Bool) (s : Symbol) → b ≡ true → refuse_if (b && is_none (symbol_meaning names (symbol_of x k s))) (fault.Undefined x.number k) ≡ None →
+stand_by : (names : List ℕ → Option Meaning) (x : NumberedObject) (k : ℕ) (b : Bool) (s : Symbol) → b ≡ true →
+    refuse_if (b && is_none (symbol_meaning names (symbol_of x k s))) (fault.Undefined x.number k) ≡ None →
     symbol_meaning names (symbol_of x k s) ≢ None
 stand_by names x k true s u e = some_is (symbol_meaning names (symbol_of x k s)) (refused_not _ _ e)
 stand_by names x k false s u e = cc
 
-stands_at : (names : List ℕ → Option Meaning) (x : NumberedObject) (k : ℕ) (s : Symbol) → is_used x.object.relocations k ≡ true → undefined_at names x k s ≡ None → symbol_meaning names (symbol_of x k s) ≢ None
+stands_at : (names : List ℕ → Option Meaning) (x : NumberedObject) (k : ℕ) (s : Symbol) →
+    is_used x.object.relocations k ≡ true → undefined_at names x k s ≡ None →
+    symbol_meaning names (symbol_of x k s) ≢ None
 unfolding undefined_at
 stands_at names x k s u e = stand_by names x k (is_used x.object.relocations k) s u e
 
-used_stand_by : (names : List ℕ → Option Meaning) (x : NumberedObject) (k : ℕ) (o : Option Symbol) → slice_get x.object.symbols k ≡ o → is_used x.object.relocations k ≡ true → undefined_in names x ≡ None → Stand names x k o
+used_stand_by : (names : List ℕ → Option Meaning) (x : NumberedObject) (k : ℕ) (o : Option Symbol) →
+    slice_get x.object.symbols k ≡ o → is_used x.object.relocations k ≡ true → undefined_in names x ≡ None →
+    Stand names x k o
 used_stand_by names x k None q u e = tt
 used_stand_by names x k (Some s) q u e =
     let g = got x.object.symbols k s q in
     subst (λ (t : Symbol). symbol_meaning names (symbol_of x k t) ≢ None) (g.1 s) (stands_at names x k (get_or x.object.symbols k s) u (at_none (undefined_at names x) x.object.symbols e k s g.0))
 
-used_stand : (names : List ℕ → Option Meaning) (objects : List ObjectValue) → undefined names objects ≡ None → UsedStand names objects
+used_stand : (names : List ℕ → Option Meaning) (objects : List ObjectValue) → undefined names objects ≡ None →
+    UsedStand names objects
 unfolding undefined
 used_stand names objects e = λ n x l j r m.
     let o = get_or (numbered_objects objects) n x in
     let k = (get_or o.object.relocations j r).symbol in
     used_stand_by names o k (slice_get o.object.symbols k) refl (used_at o.object.relocations j r m) (in_none (undefined_in names) (numbered_objects objects) e n x l)
 
-gap_none : (names : List ℕ → Option Meaning) (x : NumberedObject) (k : ℕ) (s : Symbol) (b : Bool) → is_used x.object.relocations k ≡ b → slice_get x.object.symbols k ≡ Some s →
+gap_none : (names : List ℕ → Option Meaning) (x : NumberedObject) (k : ℕ) (s : Symbol) (b : Bool) →
+    is_used x.object.relocations k ≡ b → slice_get x.object.symbols k ≡ Some s →
     All (λ r. Stand names x r.symbol (slice_get x.object.symbols r.symbol)) x.object.relocations → refuse_if (b && is_none (symbol_meaning names (symbol_of x k s))) (fault.Undefined x.number k) ≡ None
 gap_none names x k s false u g h = refl
 gap_none names x k s true u g h =
@@ -125,12 +137,14 @@ gap_none names x k s true u g h =
     some : Relocation
     some = record { table = 0; entry = 0; target = 0; offset = 0; symbol = 0; kind = 0; addend = pos 0 }
 
-no_gap_at : (names : List ℕ → Option Meaning) (x : NumberedObject) (k : ℕ) (s : Symbol) → slice_get x.object.symbols k ≡ Some s →
+no_gap_at : (names : List ℕ → Option Meaning) (x : NumberedObject) (k : ℕ) (s : Symbol) →
+    slice_get x.object.symbols k ≡ Some s →
     All (λ r. Stand names x r.symbol (slice_get x.object.symbols r.symbol)) x.object.relocations → undefined_at names x k s ≡ None
 unfolding undefined_at
 no_gap_at names x k s g h = gap_none names x k s (is_used x.object.relocations k) refl g h
 
-not_undefined : (names : List ℕ → Option Meaning) (objects : List ObjectValue) → UsedStand names objects → undefined names objects ≡ None
+not_undefined : (names : List ℕ → Option Meaning) (objects : List ObjectValue) → UsedStand names objects →
+    undefined names objects ≡ None
 unfolding undefined
 not_undefined names objects h = none_in (undefined_in names) (numbered_objects objects) (λ n x l.
     let o = get_or (numbered_objects objects) n x in
@@ -142,7 +156,8 @@ vectors : (names : List ℕ → Option Meaning) (vs : List VectorValue) → no_v
 unfolding no_vector
 vectors names vs e = λ k v l. some_is _ (refused_not _ _ (in_none (no_vector_at names) vs e k v l))
 
-not_vectors : (names : List ℕ → Option Meaning) (vs : List VectorValue) → VectorsStand names vs → no_vector names vs ≡ None
+not_vectors : (names : List ℕ → Option Meaning) (vs : List VectorValue) → VectorsStand names vs →
+    no_vector names vs ≡ None
 unfolding no_vector
 not_vectors names vs h = none_in (no_vector_at names) vs (λ k v l. not_refused _ _ (is_some_by _ (h k v l)))
 
@@ -170,7 +185,8 @@ by_code i o e = ap (is_code_of i) e ∙ (let t : ((2 + 2 * i == 2 + 2 * i) && (z
 item_by : (items : List Item) (k : ℕ) (x : Item) → slice_get items k ≡ Some x → item_at items k ≡ x
 item_by items k x e = (got items k x e).1 _
 
-entry_by : (items : List Item) (i k offset : ℕ) (o : Option Item) → slice_get items k ≡ o → is_entry_in i offset o ≡ true → IsEntry items i (Some (meaning.Place k offset))
+entry_by : (items : List Item) (i k offset : ℕ) (o : Option Item) → slice_get items k ≡ o →
+    is_entry_in i offset o ≡ true → IsEntry items i (Some (meaning.Place k offset))
 entry_by items i k offset None q e = cc
 entry_by items i k offset (Some x) q e =
     let b = and_parts (is_code_of i x.part && (offset % 2 == 0)) (nat_lt offset x.size) e in
@@ -194,7 +210,9 @@ entry_of items i (Some (meaning.Place k offset)) e = entry_by items i k offset (
 three : (a b c : Bool) → a ≡ true → b ≡ true → c ≡ true → (a && b && c) ≡ true
 three a b c p q r = rw (p, q, r) refl
 
-item_in : (items : List Item) (i k offset : ℕ) (o : Option Item) → slice_get items k ≡ o → (item_at items k).part ≡ Some (code_part i) → offset % 2 ≡ 0 → offset < (item_at items k).size → is_entry_in i offset o ≡ true
+item_in : (items : List Item) (i k offset : ℕ) (o : Option Item) → slice_get items k ≡ o →
+    (item_at items k).part ≡ Some (code_part i) → offset % 2 ≡ 0 → offset < (item_at items k).size →
+    is_entry_in i offset o ≡ true
 item_in items i k offset None q code even within = past items k q code
   where
     past : (xs : List Item) (n : ℕ) → slice_get xs n ≡ None → (item_at xs n).part ≡ Some (code_part i) → false ≡ true
@@ -210,13 +228,15 @@ item_in items i k offset (Some x) q code even within =
 is_entry_by : (items : List Item) (i : ℕ) (m : Option Meaning) → IsEntry items i m → is_entry items i m ≡ true
 is_entry_by items i m h = ap (is_entry items i) h.place ∙ item_in items i h.item h.offset (slice_get items h.item) refl h.code h.even h.within
 
-entries : (names : List ℕ → Option Meaning) (items : List Item) (ms : List ModuleValue) → elsewhere names items ms ≡ None → EntriesStand names items ms
+entries : (names : List ℕ → Option Meaning) (items : List Item) (ms : List ModuleValue) →
+    elsewhere names items ms ≡ None → EntriesStand names items ms
 unfolding elsewhere
 entries names items ms e = λ i d l k name m.
     let x = get_or ms i d in
     entry_of items i (names (get_or x.entries k name)) (not_true _ (refused_not _ _ (at_none (elsewhere_at names items i) x.entries (at_none (elsewhere_in names items) ms e i d l) k name m)))
 
-not_elsewhere : (names : List ℕ → Option Meaning) (items : List Item) (ms : List ModuleValue) → EntriesStand names items ms → elsewhere names items ms ≡ None
+not_elsewhere : (names : List ℕ → Option Meaning) (items : List Item) (ms : List ModuleValue) →
+    EntriesStand names items ms → elsewhere names items ms ≡ None
 unfolding elsewhere
 not_elsewhere names items ms h = none_at (elsewhere_in names items) ms (λ i d l.
     let x = get_or ms i d in
@@ -225,7 +245,8 @@ not_elsewhere names items ms h = none_at (elsewhere_in names items) ms (λ i d l
 stands_if : (items : List Item) (i : ℕ) (m : Option Meaning) → IsEntry items i m → is_none m ≡ false
 stands_if items i m h = ap is_none h.place
 
-no_entry_if : (names : List ℕ → Option Meaning) (items : List Item) (ms : List ModuleValue) → EntriesStand names items ms → no_entry names ms ≡ None
+no_entry_if : (names : List ℕ → Option Meaning) (items : List Item) (ms : List ModuleValue) →
+    EntriesStand names items ms → no_entry names ms ≡ None
 unfolding no_entry
 no_entry_if names items ms h = none_at (no_entry_in names) ms (λ i d l.
     let x = get_or ms i d in
@@ -271,60 +292,69 @@ ok_none x r (Err f) e = cc
 abbrev AppliesTo : (ℕ → ℕ) → List ℕ → NumberedObject → Relocation → ℕ → Type 0
 AppliesTo address numbers x r size = Applies r.kind ((target_address address x r + r.offset) % 65536) (sum_of numbers r) r.offset size
 
-applies : (address : ℕ → ℕ) (numbers : List ℕ) (x : NumberedObject) (r : Relocation) → reloc_fault address numbers x r ≡ None → AppliesTo address numbers x r (target_size x r)
+applies : (address : ℕ → ℕ) (numbers : List ℕ) (x : NumberedObject) (r : Relocation) →
+    reloc_fault address numbers x r ≡ None → AppliesTo address numbers x r (target_size x r)
 unfolding reloc_fault
 applies address numbers x r e =
     subst (AppliesTo address numbers x r) (length-replicate (target_size x r) 0)
     (ok_applies r.kind ((target_address address x r + r.offset) % 65536) (sum_of numbers r) r.offset (replicate (target_size x r) 0) (none_ok x r _ e))
 
-not_applies : (address : ℕ → ℕ) (numbers : List ℕ) (x : NumberedObject) (r : Relocation) → AppliesTo address numbers x r (target_size x r) → reloc_fault address numbers x r ≡ None
+not_applies : (address : ℕ → ℕ) (numbers : List ℕ) (x : NumberedObject) (r : Relocation) →
+    AppliesTo address numbers x r (target_size x r) → reloc_fault address numbers x r ≡ None
 unfolding reloc_fault
 not_applies address numbers x r h =
     ok_none x r _ (applies_ok r.kind ((target_address address x r + r.offset) % 65536) (sum_of numbers r) r.offset (replicate (target_size x r) 0)
     (subst (AppliesTo address numbers x r) (sym (length-replicate (target_size x r) 0)) h))
 
-pub relocations : (l : Linking) (objects : List ObjectValue) → first_in (reloc_fault_in l) (numbered_objects objects) ≡ None → RelocationsApply l objects
+pub relocations : (l : Linking) (objects : List ObjectValue) →
+    first_in (reloc_fault_in l) (numbered_objects objects) ≡ None → RelocationsApply l objects
 relocations l objects e = λ n x h j r m.
     let o = get_or (numbered_objects objects) n x in
     applies l.address (numbers_in l o) o (get_or o.object.relocations j r) (in_none (reloc_fault l.address (numbers_in l o) o) o.object.relocations (in_none (reloc_fault_in l) (numbered_objects objects) e n x h) j r m)
 
-not_relocations : (l : Linking) (objects : List ObjectValue) → RelocationsApply l objects → first_in (reloc_fault_in l) (numbered_objects objects) ≡ None
+not_relocations : (l : Linking) (objects : List ObjectValue) → RelocationsApply l objects →
+    first_in (reloc_fault_in l) (numbered_objects objects) ≡ None
 not_relocations l objects h = none_in (reloc_fault_in l) (numbered_objects objects) (λ n x m.
     let o = get_or (numbered_objects objects) n x in
     none_in (reloc_fault l.address (numbers_in l o) o) o.object.relocations (λ j r k. not_applies l.address (numbers_in l o) o (get_or o.object.relocations j r) (h n x m j r k)))
 
 -- ---- all of them
 
-pub can_link : (layout : LayoutValue) (objects : List ObjectValue) → link_fault_of layout objects ≡ None → CanLink layout objects
-unfolding link_fault_of names_fault stand_fault fill_fault
+pub can_link : (layout : LayoutValue) (objects : List ObjectValue) → link_fault_of layout objects ≡ None →
+    CanLink layout objects
+unfolding link_fault_of
 can_link layout objects e =
     let names = stands_for objects in
     let a = both_none _ _ e in
-    let b = both_none _ _ a.0 in
-    let c = both_none _ _ a.1 in
-    let d = both_none _ _ c.0 in
+    let b = both_none _ _ a.1 in
+    let c = both_none _ _ b.1 in
+    let d = both_none _ _ c.1 in
     let f = both_none _ _ d.1 in
     let g = both_none _ _ f.1 in
-    let h = both_none _ _ c.1 in
+    let h = both_none _ _ g.1 in
     record {
-      sections_placed = placed layout.modules objects b.0;
-      one_strong_each = no_duplicates (symbols_of objects) b.1;
-      used_stand = used_stand names objects d.0;
-      vectors_stand = vectors names layout.vectors f.0;
-      entries_stand = entries names (items_of layout objects) layout.modules g.1;
+      sections_placed = placed layout.modules objects a.0;
+      one_strong_each = no_duplicates (symbols_of objects) b.0;
+      used_stand = used_stand names objects c.0;
+      vectors_stand = vectors names layout.vectors d.0;
+      entries_stand = entries names (items_of layout objects) layout.modules g.0;
       contents_fit = contents layout (end_in layout objects) h.0;
-      relocations_apply = relocations (linking_of layout objects) objects h.1;
+      relocations_apply = relocations (linking_of layout objects) objects (both_none _ _ h.1).0;
     }
 
-links : (layout : LayoutValue) (objects : List ObjectValue) → CanLink layout objects → link_fault_of layout objects ≡ None
-unfolding link_fault_of names_fault stand_fault fill_fault
+links : (layout : LayoutValue) (objects : List ObjectValue) → CanLink layout objects →
+    link_fault_of layout objects ≡ None
+unfolding link_fault_of
 links layout objects h =
     let names = stands_for objects in
-    or_none _ _ (or_none _ _ (not_placed layout.modules objects h.sections_placed) (duplicates (symbols_of objects) h.one_strong_each))
-    (or_none _ _ (or_none _ _ (not_undefined names objects h.used_stand)
+    or_none _ _ (not_placed layout.modules objects h.sections_placed)
+    (or_none _ _ (duplicates (symbols_of objects) h.one_strong_each)
+    (or_none _ _ (not_undefined names objects h.used_stand)
     (or_none _ _ (not_vectors names layout.vectors h.vectors_stand)
-    (or_none _ _ (no_entry_if names (items_of layout objects) layout.modules h.entries_stand) (not_elsewhere names (items_of layout objects) layout.modules h.entries_stand))))
-    (or_none _ _ (not_overfull layout (end_in layout objects) h.contents_fit) (not_relocations (linking_of layout objects) objects h.relocations_apply)))
+    (or_none _ _ (no_entry_if names (items_of layout objects) layout.modules h.entries_stand)
+    (or_none _ _ (not_elsewhere names (items_of layout objects) layout.modules h.entries_stand)
+    (or_none _ _ (not_overfull layout (end_in layout objects) h.contents_fit)
+    (or_none _ _ (not_relocations (linking_of layout objects) objects h.relocations_apply) refl)))))))
 
 pub links_exactly : LinksExactly
 links_exactly layout objects = (links layout objects, can_link layout objects)

@@ -1,9 +1,9 @@
 -- What each byte of a linked image is.
-use Rattle.std.proofs.Common.{ℤ, ◌≡◌, ◌≢◌, ◌⊎◌, inl, inr, ℕ, zero, suc, ◌+◌, ◌-◌, ◌*◌, ◌%◌, ◌<◌, ◌≤◌, List, [], ◌∷◌, ◌++◌, map, take, drop, length, get_or, replicate, Option, Some, None, Bool, true, false, refl, ap, sym, ◌∙◌, subst, arith, fold, length-take, length-drop}
-use Rattle.std.specs.Prelude.{All, slice_get, slice_index, slice_range, if◌then◌else◌}
+use Rattle.std.proofs.Common.{ℤ, ◌≡◌, ◌≢◌, ◌⊎◌, inl, inr, ℕ, ◌+◌, ◌-◌, ◌*◌, ◌%◌, ◌<◌, ◌≤◌, List, map, drop, length, get_or, replicate, Option, Some, None, Bool, true, false, refl, ap, sym, ◌∙◌, subst, arith, fold, length-take, length-drop}
+use Rattle.std.specs.Prelude.{All, slice_get, slice_index, if◌then◌else◌}
 use Rattle.std.specs.List.{flat_map}
-use Rattle.std.proofs.lemmas.Bool.{cases_eq, cases_lt}
-use Rattle.std.proofs.lemmas.List.{get_or-take, get_or-drop, length-replicate, length-map, get_or-map, get_or-append-add, same_lists, ext_get_or}
+use Rattle.std.proofs.lemmas.Bool.{cases_lt}
+use Rattle.std.proofs.lemmas.List.{get_or-take, get_or-drop, length-replicate, get_or-map, get_or-append-add, ext_get_or}
 use Rattle.mod_layout.specs.declared.Section.{Section}
 use Rattle.mod_layout.specs.Table.{holds}
 use Rattle.elf_objects.specs.Object.{ObjectValue, IsObject}
@@ -24,11 +24,11 @@ use Rattle.linker.specs.declared.item.Item.{Item}
 use Rattle.linker.specs.declared.item.Part.{Part}
 use Rattle.linker.specs.Passes.{NumberedObject, numbered_objects, part, fold_at}
 use Rattle.linker.specs.Parts.{is_loaded_head, item_of, part_of}
-use Rattle.linker.specs.Placement.{items_of, item_at, starts_of, address_at, stub_size, text_of, filled_end}
+use Rattle.linker.specs.Placement.{items_of, item_at, starts_of, address_at, stub_size, text_of}
 use Rattle.linker.specs.Numbers.{Linking, linking_of, numbers_in, end_in}
 use Rattle.linker.specs.Bytes.{bytes_at, word_bytes}
 use Rattle.linker.specs.Sections.{put_sections}
-use Rattle.linker.specs.Fields.{put_fields, size_by, target_size, target_address, sum_of}
+use Rattle.linker.specs.Fields.{put_fields, target_size, target_address, sum_of}
 use Rattle.linker.specs.Stubs.{word_named, stub_of, put_stub, put_vector}
 use Rattle.linker.specs.Image.{Links, zeros, memory_by}
 use Rattle.linker.specs.Refusals.{link_fault_of}
@@ -38,25 +38,27 @@ use Rattle.linker.proofs.FitLemmas.{item_size, some_head, size_is}
 use Rattle.linker.proofs.LinkedLemmas.{memory_is, none_over}
 use Rattle.linker.proofs.PlaceLemmas.{in_region, part_by}
 use Rattle.linker.proofs.RegionLemmas.{items_are_in, ends_kept}
-use Rattle.linker_laws.specs.Conditions.{CanLink}
-use Rattle.linker_laws.specs.Places.{Piece, an_item, a_stub, a_stack, the_vectors, span, Lies, item_lies, stub_lies, vectors_lie}
-use Rattle.linker_laws.specs.Contents.{IsLinked, IsLoaded, section_address, field_span, SectionBytes, FieldNumbers, StubBytes, TableWords, VectorWords, IsGiven, by_section, by_stub, by_vector, ZeroElsewhere}
+use Rattle.linker_laws.specs.Places.{Piece, an_item, a_stub, a_stack, the_vectors, span, stub_lies, vectors_lie}
+use Rattle.linker_laws.specs.Contents.{IsLoaded, section_address, field_span, SectionBytes, FieldNumbers, StubBytes, TableWords, VectorWords, IsGiven, by_section, by_stub, by_vector, ZeroElsewhere}
 use Rattle.linker_laws.proofs.Conditions.{can_link}
 use Rattle.linker_laws.proofs.FieldBytes as fields
 use Rattle.linker_laws.proofs.Numbered.{later, one_of, section_item}
-use Rattle.linker_laws.proofs.Places.{in_list, item_high, ranked_at, lies_at, lie_apart, lies_inside}
+use Rattle.linker_laws.proofs.Places.{ranked_at, lies_at, lie_apart, lies_inside}
+use Rattle.linker.proofs.TurnLemmas.{in_list, item_high}
 use Rattle.linker_laws.proofs.Searches.{got, gets}
 use Rattle.linker_laws.proofs.SectionBytes as sections
 use Rattle.linker_laws.proofs.SectionBytes.{Long}
 use Rattle.linker_laws.proofs.WordBytes as words
 use Rattle.linker_laws.proofs.Writes.{Out, out_less, out_within, outside, among, apart_out, read_at, size_at}
 
-some_part : (b : Bool) (o p : Option Part) → b ≡ true → o ≢ None → p ≡ (if b then o else None) → (q : Part) × (p ≡ Some q)
+some_part : (b : Bool) (o p : Option Part) → b ≡ true → o ≢ None → p ≡ (if b then o else None) →
+    (q : Part) × (p ≡ Some q)
 some_part true None p e h f = absurd (h refl)
 some_part true (Some q) p e h f = (q, f)
 some_part false o p e h f = cc
 
-part_of_item : (ms : List ModuleValue) (o : ObjectValue) (s : SectionHead) → (item_of ms o s).part ≡ (if is_loaded_head s then part_of ms (part o s.name) s else None)
+part_of_item : (ms : List ModuleValue) (o : ObjectValue) (s : SectionHead) →
+    (item_of ms o s).part ≡ (if is_loaded_head s then part_of ms (part o s.name) s else None)
 unfolding item_of
 part_of_item ms o s = refl
 
@@ -113,7 +115,8 @@ module _ (layout : LayoutValue) (objects : List ObjectValue) (kept : IsLayout la
       omega (arith, h, b)
 
   -- an address in one item is outside every other
-  item_away : (k j : ℕ) (p q : Part) (a : ℕ) → (item_at items k).part ≡ Some p → (item_at items j).part ≡ Some q → k ≢ j → holds (item_span k) a ≡ true → Out (address j) (item_at items j).size a
+  item_away : (k j : ℕ) (p q : Part) (a : ℕ) → (item_at items k).part ≡ Some p → (item_at items j).part ≡ Some q →
+      k ≢ j → holds (item_span k) a ≡ true → Out (address j) (item_at items j).size a
   item_away k j p q a f g ne h =
       let x = lies_at layout objects k p f in let y = lies_at layout objects j q g in
       apart_out (item_span k) (address j) (item_at items j).size a (lie_apart layout objects kept e (an_item k) (an_item j) _ _ _ _ x.1 y.1 (λ z. ne (item_same k j z))) h
@@ -154,25 +157,34 @@ module _ (layout : LayoutValue) (objects : List ObjectValue) (kept : IsLayout la
       let sized = ap (λ (i : Item). i.size) item ∙ item_size layout.modules x.object s in
       let same = g.1 s in
       let b = sec.sized in let c = sec.bytes.ordered in let d = sec.bytes.within in
-      let b1 = ap (λ (t : SectionHead). t.bytes.end) same in let b2 = ap (λ (t : SectionHead). t.bytes.start) same in let b3 = ap (λ (t : SectionHead). t.size) same in
+      let b1 = ap (λ (t : SectionHead). t.bytes.end) same in
+      let b2 = ap (λ (t : SectionHead). t.bytes.start) same in
+      let b3 = ap (λ (t : SectionHead). t.size) same in
       record { region = some.0; goes = some.1; room = omega (arith, b, b1, b2, b3, sized); ordered = omega (arith, c, b1, b2); inside_file = omega (arith, d, b1) }
 
-  loaded_at : (n k : ℕ) (d : NumberedObject) (f : SectionHead) → n < length xs → k < length (get_or xs n d).object.sections → is_loaded_head (get_or (get_or xs n d).object.sections k f) ≡ true → IsLoaded objects (get_or xs n d) k (get_or (get_or xs n d).object.sections k f)
+  loaded_at : (n k : ℕ) (d : NumberedObject) (f : SectionHead) → n < length xs →
+      k < length (get_or xs n d).object.sections →
+      is_loaded_head (get_or (get_or xs n d).object.sections k f) ≡ true →
+      IsLoaded objects (get_or xs n d) k (get_or (get_or xs n d).object.sections k f)
   loaded_at n k d f h b t = record { number = n; object = gets xs n d h; section = gets (get_or xs n d).object.sections k f b; loaded = t }
 
   -- an address among a loaded section's bytes is in its item
-  among_item : (x : NumberedObject) (k : ℕ) (s : SectionHead) (n : ℕ) → IsLoaded objects x k s → n < size s → holds (item_span (x.first + k)) (address (x.first + k) + n) ≡ true
+  among_item : (x : NumberedObject) (k : ℕ) (s : SectionHead) (n : ℕ) → IsLoaded objects x k s → n < size s →
+      holds (item_span (x.first + k)) (address (x.first + k) + n) ≡ true
   among_item x k s n h b = let r = (spot_of x k s h).room in among (address (x.first + k)) (item_at items (x.first + k)).size n (omega (arith, r, b))
 
   -- and outside every other loaded section
-  section_away : (x y : NumberedObject) (k j : ℕ) (s t : SectionHead) (a : ℕ) → IsLoaded objects x k s → IsLoaded objects y j t → x.first + k ≢ y.first + j → holds (item_span (x.first + k)) a ≡ true → Out (address (y.first + j)) (size t) a
+  section_away : (x y : NumberedObject) (k j : ℕ) (s t : SectionHead) (a : ℕ) → IsLoaded objects x k s →
+      IsLoaded objects y j t → x.first + k ≢ y.first + j → holds (item_span (x.first + k)) a ≡ true →
+      Out (address (y.first + j)) (size t) a
   section_away x y k j s t a h g ne b =
       let p = spot_of x k s h in let q = spot_of y j t g in
       out_less (address (y.first + j)) (item_at items (y.first + j)).size (size t) a q.room (item_away (x.first + k) (y.first + j) p.region q.region a p.goes q.goes ne b)
 
   -- ---- relocations
 
-  target_loaded : (n j : ℕ) (x : NumberedObject) (d : Relocation) → slice_get xs n ≡ Some x → j < length x.object.relocations →
+  target_loaded : (n j : ℕ) (x : NumberedObject) (d : Relocation) → slice_get xs n ≡ Some x →
+      j < length x.object.relocations →
       (s : SectionHead) × (IsLoaded objects x (get_or x.object.relocations j d).target s × (target_size x (get_or x.object.relocations j d) ≡ size s))
   target_loaded n j x d f b =
       let r = get_or x.object.relocations j d in
@@ -188,17 +200,22 @@ module _ (layout : LayoutValue) (objects : List ObjectValue) (kept : IsLayout la
       let x = get_or xs n d in
       let t = target_loaded n j x r (gets xs n d h) b in
       let s = spot_of x (get_or x.object.relocations j r).target t.0 t.1.0 in
-      let room = s.room in let below = item_below (x.first + (get_or x.object.relocations j r).target) s.region s.goes in let q = t.1.1 in
+      let room = s.room in
+      let below = item_below (x.first + (get_or x.object.relocations j r).target) s.region s.goes in
+      let q = t.1.1 in
       record { fits = omega (arith, room, below, q); applies = (can_link layout objects e).relocations_apply n d h j r b }
 
   -- outside a section is outside its fields
-  clear_by : (x : NumberedObject) (r : Relocation) (a place : ℕ) (sum : ℤ) → Applies r.kind place sum r.offset (target_size x r) → Out (target_address address x r) (target_size x r) a → fields.Clear l low x r a
+  clear_by : (x : NumberedObject) (r : Relocation) (a place : ℕ) (sum : ℤ) →
+      Applies r.kind place sum r.offset (target_size x r) → Out (target_address address x r) (target_size x r) a →
+      fields.Clear l low x r a
   clear_by x r a place sum (no_field z) out = by (cases_lt a (target_address address x r + r.offset))
     where
       none : width_of (row_of r.kind) ≡ 0
       none = ap (λ (k : ℕ). width_of (row_of k)) z ∙ ap width_of none_at_0
 
-      by : (a < target_address address x r + r.offset) ⊎ (target_address address x r + r.offset ≤ a) → fields.Clear l low x r a
+      by : (a < target_address address x r + r.offset) ⊎ (target_address address x r + r.offset ≤ a) →
+          fields.Clear l low x r a
       by (inl h) = inl h
       by (inr h) = inr (omega (arith, none))
   clear_by x r a place sum (a_field row f t) out =
@@ -206,7 +223,9 @@ module _ (layout : LayoutValue) (objects : List ObjectValue) (kept : IsLayout la
       let z = ap width_of f in
       out_within (target_address address x r) (target_size x r) (target_address address x r + r.offset) (width_of (row_of r.kind)) a (omega arith) (omega (arith, w, z)) out
 
-  clear_of : (n : ℕ) (d : NumberedObject) (a : ℕ) → n < length xs → ((j : ℕ) (s : SectionHead) → IsLoaded objects (get_or xs n d) j s → Out (address ((get_or xs n d).first + j)) (size s) a) → fields.ClearOf l low (get_or xs n d) a
+  clear_of : (n : ℕ) (d : NumberedObject) (a : ℕ) → n < length xs →
+      ((j : ℕ) (s : SectionHead) → IsLoaded objects (get_or xs n d) j s → Out (address ((get_or xs n d).first + j)) (size s) a) →
+      fields.ClearOf l low (get_or xs n d) a
   clear_of n d a h out j r b =
       let x = get_or xs n d in
       let t = target_loaded n j x r (gets xs n d h) b in
@@ -244,17 +263,20 @@ module _ (layout : LayoutValue) (objects : List ObjectValue) (kept : IsLayout la
   whole_long = words.vectors_long l with_stubs layout.vectors kept.vectors_kept.below_16 stubs_long
 
   -- outside the stubs and the vectors, fields are the last
-  words_keep : (a : ℕ) → All (λ m. Out m.text.start (stub_size m) a) layout.modules → All (λ v. Out (words.start l v) 2 a) layout.vectors → slice_index whole a ≡ slice_index with_fields a
+  words_keep : (a : ℕ) → All (λ m. Out m.text.start (stub_size m) a) layout.modules →
+      All (λ v. Out (words.start l v) 2 a) layout.vectors → slice_index whole a ≡ slice_index with_fields a
   words_keep a stubs vectors = words.vectors_keep l with_stubs layout.vectors a kept.vectors_kept.below_16 stubs_long vectors ∙ words.stubs_keep l end with_fields 0 layout.modules a starts_low fields_long stubs
 
   -- an address in an item is outside stubs and vectors
-  item_stubs : (k : ℕ) (p : Part) (a : ℕ) → (item_at items k).part ≡ Some p → holds (item_span k) a ≡ true → All (λ m. Out m.text.start (stub_size m) a) layout.modules
+  item_stubs : (k : ℕ) (p : Part) (a : ℕ) → (item_at items k).part ≡ Some p → holds (item_span k) a ≡ true →
+      All (λ m. Out m.text.start (stub_size m) a) layout.modules
   item_stubs k p a f h i d b =
       let m = get_or layout.modules i d in
       let x = lies_at layout objects k p f in
       apart_out (item_span k) m.text.start (stub_size m) a (lie_apart layout objects kept e (an_item k) (a_stub i) _ _ _ _ x.1 (stub_lies i m (gets layout.modules i d b)) (λ z. let c : an_item k ≡ a_stub i = z in cc)) h
 
-  item_vectors : (k : ℕ) (p : Part) (a : ℕ) → (item_at items k).part ≡ Some p → holds (item_span k) a ≡ true → All (λ v. Out (words.start l v) 2 a) layout.vectors
+  item_vectors : (k : ℕ) (p : Part) (a : ℕ) → (item_at items k).part ≡ Some p → holds (item_span k) a ≡ true →
+      All (λ v. Out (words.start l v) 2 a) layout.vectors
   item_vectors k p a f h i d b =
       let v = get_or layout.vectors i d in
       let x = lies_at layout objects k p f in
@@ -264,17 +286,21 @@ module _ (layout : LayoutValue) (objects : List ObjectValue) (kept : IsLayout la
 
   -- ---- sections
 
-  file_byte : (o : ObjectValue) (s : SectionHead) (n : ℕ) → n < size s → slice_index (part o s.bytes) n ≡ slice_index o.file (s.bytes.start + n)
+  file_byte : (o : ObjectValue) (s : SectionHead) (n : ℕ) → n < size s →
+      slice_index (part o s.bytes) n ≡ slice_index o.file (s.bytes.start + n)
   file_byte o s n h = get_or-take (size s) (drop s.bytes.start o.file) n 0 h ∙ get_or-drop s.bytes.start o.file n 0
 
-  part_length : (x : NumberedObject) (k : ℕ) (s : SectionHead) → IsLoaded objects x k s → length (part x.object s.bytes) ≡ size s
+  part_length : (x : NumberedObject) (k : ℕ) (s : SectionHead) → IsLoaded objects x k s →
+      length (part x.object s.bytes) ≡ size s
   part_length x k s h = let p = spot_of x k s h in let a = p.ordered in let b = p.inside_file in simp (length-take, length-drop) (omega (arith, a, b))
 
   -- two sections of different places are different items
-  apart_numbers : (n i k j : ℕ) (x y : NumberedObject) → slice_get xs n ≡ Some x → slice_get xs i ≡ Some y → k < length x.object.sections → n < i → x.first + k ≢ y.first + j
+  apart_numbers : (n i k j : ℕ) (x y : NumberedObject) → slice_get xs n ≡ Some x → slice_get xs i ≡ Some y →
+      k < length x.object.sections → n < i → x.first + k ≢ y.first + j
   apart_numbers n i k j x y f g b h = λ z. let q = later objects n i x y f g h in absurd (omega (arith, q, z, b))
 
-  section_put : (x : NumberedObject) (k : ℕ) (s : SectionHead) (n : ℕ) → IsLoaded objects x k s → n < size s → slice_index with_sections (address (x.first + k) + n) ≡ slice_index x.object.file (s.bytes.start + n)
+  section_put : (x : NumberedObject) (k : ℕ) (s : SectionHead) (n : ℕ) → IsLoaded objects x k s → n < size s →
+      slice_index with_sections (address (x.first + k) + n) ≡ slice_index x.object.file (s.bytes.start + n)
   section_put x k s n h b =
       let a : ℕ = address (x.first + k) + n in
       let o = got xs h.number x h.object in
@@ -286,7 +312,9 @@ module _ (layout : LayoutValue) (objects : List ObjectValue) (kept : IsLayout la
       (λ i d c f j v w t. section_away x (get_or xs i d) k j s (get_or (get_or xs i d).object.sections j v) a h (loaded_at i j d v f w t) (apart_numbers h.number i k j x (get_or xs i d) h.object (gets xs i d f) g.0 c) held)
       ∙ file_byte x.object s n b
 
-  section_bytes : (x : NumberedObject) (k : ℕ) (s : SectionHead) → IsLoaded objects x k s → (n : ℕ) → s.bytes.start + n < s.bytes.end → All (λ r. holds (field_span layout objects x r) (address (x.first + k) + n) ≡ false) x.object.relocations →
+  section_bytes : (x : NumberedObject) (k : ℕ) (s : SectionHead) → IsLoaded objects x k s → (n : ℕ) →
+      s.bytes.start + n < s.bytes.end →
+      All (λ r. holds (field_span layout objects x r) (address (x.first + k) + n) ≡ false) x.object.relocations →
       slice_index whole (address (x.first + k) + n) ≡ slice_index x.object.file (s.bytes.start + n)
   section_bytes x k s h n b out =
       let a : ℕ = address (x.first + k) + n in
@@ -296,24 +324,30 @@ module _ (layout : LayoutValue) (objects : List ObjectValue) (kept : IsLayout la
       ∙ (fields.objects_keep l low xs with_sections a sections_long good (λ i d f. by i d f (cases_lt i h.number) (cases_lt h.number i))
       ∙ section_put x k s n h (omega arith))
     where
-      own : (i : ℕ) (d : NumberedObject) → i < length xs → i ≡ h.number → fields.ClearOf l low (get_or xs i d) (address (x.first + k) + n)
+      own : (i : ℕ) (d : NumberedObject) → i < length xs → i ≡ h.number →
+          fields.ClearOf l low (get_or xs i d) (address (x.first + k) + n)
       own i d f q =
           let same : get_or xs i d ≡ x = ap (λ (j : ℕ). get_or xs j d) q ∙ (got xs h.number x h.object).1 d in
           subst (λ (y : NumberedObject). fields.ClearOf l low y (address (x.first + k) + n)) (sym same)
           (λ j r c. outside (address (x.first + (get_or x.object.relocations j r).target) + (get_or x.object.relocations j r).offset) (width_of (row_of (get_or x.object.relocations j r).kind)) (address (x.first + k) + n) (out j r c))
 
-      other : (i : ℕ) (d : NumberedObject) (f : i < length xs) → ((j : ℕ) (t : SectionHead) → IsLoaded objects (get_or xs i d) j t → x.first + k ≢ (get_or xs i d).first + j) → fields.ClearOf l low (get_or xs i d) (address (x.first + k) + n)
+      other : (i : ℕ) (d : NumberedObject) (f : i < length xs) →
+          ((j : ℕ) (t : SectionHead) → IsLoaded objects (get_or xs i d) j t → x.first + k ≢ (get_or xs i d).first + j) →
+          fields.ClearOf l low (get_or xs i d) (address (x.first + k) + n)
       other i d f ne = clear_of i d (address (x.first + k) + n) f (λ j t g. section_away x (get_or xs i d) k j s t (address (x.first + k) + n) h g (ne j t g) (among_item x k s n h (omega arith)))
 
-      by : (i : ℕ) (d : NumberedObject) → i < length xs → (i < h.number) ⊎ (h.number ≤ i) → (h.number < i) ⊎ (i ≤ h.number) → fields.ClearOf l low (get_or xs i d) (address (x.first + k) + n)
+      by : (i : ℕ) (d : NumberedObject) → i < length xs → (i < h.number) ⊎ (h.number ≤ i) →
+          (h.number < i) ⊎ (i ≤ h.number) → fields.ClearOf l low (get_or xs i d) (address (x.first + k) + n)
       by i d f (inl c) q = other i d f (λ j t g z. apart_numbers i h.number j k (get_or xs i d) x (gets xs i d f) h.object (got (get_or xs i d).object.sections j t g.section).0 c (sym z))
       by i d f (inr c) (inl q) = other i d f (λ j t g. apart_numbers h.number i k j x (get_or xs i d) h.object (gets xs i d f) (got x.object.sections k s h.section).0 q)
       by i d f (inr c) (inr q) = own i d f (omega arith)
 
   -- ---- fields
 
-  field_numbers : (n j : ℕ) (x : NumberedObject) (r : Relocation) → slice_get xs n ≡ Some x → slice_get x.object.relocations j ≡ Some r →
-      ((i : ℕ) (q : Relocation) → j < i → slice_get x.object.relocations i ≡ Some q → ShareNoByte (field_span layout objects x r) (field_span layout objects x q)) → fields.IsSet l low x r whole
+  field_numbers : (n j : ℕ) (x : NumberedObject) (r : Relocation) → slice_get xs n ≡ Some x →
+      slice_get x.object.relocations j ≡ Some r →
+      ((i : ℕ) (q : Relocation) → j < i → slice_get x.object.relocations i ≡ Some q → ShareNoByte (field_span layout objects x r) (field_span layout objects x q)) →
+      fields.IsSet l low x r whole
   field_numbers n j x r f g apart =
       fields.still_set l low x r with_fields whole (λ k b. words_keep (place k) (item_stubs item region (place k) goes (held k b)) (item_vectors item region (place k) goes (held k b)))
       (fields.objects_set l low xs with_sections n j x r sections_long good o.0 o.1 c.0 c.1
@@ -367,7 +401,8 @@ module _ (layout : LayoutValue) (objects : List ObjectValue) (kept : IsLayout la
 
   -- ---- stubs
 
-  stub_byte : (i n : ℕ) (m : ModuleValue) → slice_get layout.modules i ≡ Some m → n < stub_size m → slice_index whole (m.text.start + n) ≡ slice_index (words.bytes_of l end i m) n
+  stub_byte : (i n : ℕ) (m : ModuleValue) → slice_get layout.modules i ≡ Some m → n < stub_size m →
+      slice_index whole (m.text.start + n) ≡ slice_index (words.bytes_of l end i m) n
   stub_byte i n m f b =
       words.vectors_keep l with_stubs layout.vectors (m.text.start + n) kept.vectors_kept.below_16 stubs_long (λ k v h.
       let low_v = kept.vectors_kept.below_16 k v h in
@@ -399,17 +434,20 @@ module _ (layout : LayoutValue) (objects : List ObjectValue) (kept : IsLayout la
       let q = ap (λ (x : ModuleValue). x.text.end) (g.1 m) in
       omega (arith, a, b, q)
 
-  bytes_same : (start count : ℕ) (bytes : List ℕ) → start + count ≤ 65536 → length bytes ≡ count → ((n : ℕ) → n < count → slice_index whole (start + n) ≡ slice_index bytes n) → bytes_at whole start count ≡ bytes
+  bytes_same : (start count : ℕ) (bytes : List ℕ) → start + count ≤ 65536 → length bytes ≡ count →
+      ((n : ℕ) → n < count → slice_index whole (start + n) ≡ slice_index bytes n) → bytes_at whole start count ≡ bytes
   bytes_same start count bytes fit long each =
       let long_whole = whole_long in
       let n = size_at whole start count (omega (arith, long_whole)) in
       ext_get_or 0 (bytes_at whole start count) bytes (n ∙ sym long) (λ i h. let b : i < count = omega (arith, n, h) in read_at whole start count i b ∙ each i b)
 
-  stub_bytes : (i : ℕ) (m : ModuleValue) → slice_get layout.modules i ≡ Some m → bytes_at whole m.text.start (stub_size m) ≡ words.bytes_of l end i m
+  stub_bytes : (i : ℕ) (m : ModuleValue) → slice_get layout.modules i ≡ Some m →
+      bytes_at whole m.text.start (stub_size m) ≡ words.bytes_of l end i m
   stub_bytes i m f = let h = stub_high i m f in bytes_same m.text.start (stub_size m) (words.bytes_of l end i m) (omega (arith, h)) (words.stub_length l end i m) (λ n b. stub_byte i n m f b)
 
   -- the word of an entry in the stub
-  table_word : (i k : ℕ) (m : ModuleValue) (name : List ℕ) → slice_get m.entries k ≡ Some name → get_or (stub_of l end i m) (38 + k) 0 ≡ word_named l name
+  table_word : (i k : ℕ) (m : ModuleValue) (name : List ℕ) → slice_get m.entries k ≡ Some name →
+      get_or (stub_of l end i m) (38 + k) 0 ≡ word_named l name
   unfolding stub_words
   table_word i k m name g =
       let h = got m.entries k name g in
@@ -417,7 +455,9 @@ module _ (layout : LayoutValue) (objects : List ObjectValue) (kept : IsLayout la
       get_or-append-add front (map (word_named l) m.entries) k 0
       ∙ (get_or-map (word_named l) m.entries k name 0 h.0 ∙ ap (word_named l) (h.1 name))
 
-  table_words : (i k : ℕ) (m : ModuleValue) (name : List ℕ) → slice_get layout.modules i ≡ Some m → slice_get m.entries k ≡ Some name → bytes_at whole (m.text.start + 76 + 2 * k) 2 ≡ word_bytes (word_named l name)
+  table_words : (i k : ℕ) (m : ModuleValue) (name : List ℕ) → slice_get layout.modules i ≡ Some m →
+      slice_get m.entries k ≡ Some name →
+      bytes_at whole (m.text.start + 76 + 2 * k) 2 ≡ word_bytes (word_named l name)
   table_words i k m name f g =
       let h = got m.entries k name g in
       let high = stub_high i m f in
@@ -432,7 +472,8 @@ module _ (layout : LayoutValue) (objects : List ObjectValue) (kept : IsLayout la
 
   -- ---- vectors
 
-  vector_words : (k : ℕ) (v : VectorValue) → slice_get layout.vectors k ≡ Some v → bytes_at whole (65504 + 2 * v.vector) 2 ≡ word_bytes (word_named l v.name)
+  vector_words : (k : ℕ) (v : VectorValue) → slice_get layout.vectors k ≡ Some v →
+      bytes_at whole (65504 + 2 * v.vector) 2 ≡ word_bytes (word_named l v.name)
   vector_words k v f =
       let g = got layout.vectors k v f in
       let low_v = kept.vectors_kept.below_16 k v g.0 in
@@ -454,12 +495,15 @@ module _ (layout : LayoutValue) (objects : List ObjectValue) (kept : IsLayout la
       ∙ (sections.objects_keep address low xs zeros a zeros_long (λ n d h j s b t. away (get_or xs n d) j (get_or (get_or xs n d).object.sections j s) (loaded_at n j d s h b t))
       ∙ zero_there a))
     where
-      away : (x : NumberedObject) (j : ℕ) (s : SectionHead) → IsLoaded objects x j s → Out (address (x.first + j)) (size s) a
+      away : (x : NumberedObject) (j : ℕ) (s : SectionHead) → IsLoaded objects x j s →
+          Out (address (x.first + j)) (size s) a
       away x j s g = outside (address (x.first + j)) (size s) a (by_bool _ (λ t. none (by_section x j s g t)))
 
 -- ---- the laws, of every image that is linked
 
-of_image : (layout : LayoutValue) (objects : List ObjectValue) (image : Image) (P : List ℕ → Type 0) → Links layout objects image → P (memory_by (linking_of layout objects) (end_in layout objects) layout objects zeros) → P image.memory
+of_image : (layout : LayoutValue) (objects : List ObjectValue) (image : Image) (P : List ℕ → Type 0) →
+    Links layout objects image →
+    P (memory_by (linking_of layout objects) (end_in layout objects) layout objects zeros) → P image.memory
 of_image layout objects image P links h = subst P (sym (memory_is layout objects image links)) h
 
 pub section_bytes_law : SectionBytes

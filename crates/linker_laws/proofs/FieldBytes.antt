@@ -1,5 +1,5 @@
 -- Fields put into a memory: the number of one that no later one overlaps, and the bytes outside all.
-use Rattle.std.proofs.Common.{◌≡◌, ◌⊎◌, inl, inr, ℕ, zero, suc, ◌+◌, ◌-◌, ◌*◌, ◌%◌, ◌<◌, ◌≤◌, ℤ, List, [], ◌∷◌, drop, length, get_or, Result, Ok, Err, refl, ap, sym, ◌∙◌, subst, arith, fold}
+use Rattle.std.proofs.Common.{◌≡◌, ◌⊎◌, inl, inr, ℕ, zero, suc, ◌+◌, ◌%◌, ◌<◌, ◌≤◌, ℤ, List, [], ◌∷◌, drop, length, get_or, Result, Ok, refl, ap, sym, ◌∙◌, subst, arith, fold}
 use Rattle.std.specs.Prelude.{All, slice_index}
 use Rattle.std.proofs.lemmas.List.{get_or-drop}
 use Rattle.byteorder.specs.Endian.{little_number, little_from}
@@ -16,7 +16,8 @@ use Rattle.linker_laws.proofs.Writes.{Out, out_less, out_or, put_long, put_out, 
 use Rattle.linker_laws.proofs.SectionBytes.{Long}
 
 -- numbers of bytes that are the same are the same
-same_from : (i n : ℕ) (xs ys : List ℕ) → ((k : ℕ) → k < n → slice_index xs (i + k) ≡ slice_index ys (i + k)) → little_from i n xs ≡ little_from i n ys
+same_from : (i n : ℕ) (xs ys : List ℕ) → ((k : ℕ) → k < n → slice_index xs (i + k) ≡ slice_index ys (i + k)) →
+    little_from i n xs ≡ little_from i n ys
 same_from i zero xs ys h = refl
 same_from i (suc n) xs ys h =
     let z : i + 0 ≡ i = omega arith in
@@ -24,7 +25,8 @@ same_from i (suc n) xs ys h =
     let b = same_from (suc i) n xs ys (λ k l. let s : suc i + k ≡ i + suc k = omega arith in ap (slice_index xs) s ∙ (h (suc k) (omega arith) ∙ ap (slice_index ys) (sym s))) in
     omega (arith, a, b)
 
-pub same_number : (n : ℕ) (xs ys : List ℕ) → ((k : ℕ) → k < n → slice_index xs k ≡ slice_index ys k) → little_number n xs ≡ little_number n ys
+pub same_number : (n : ℕ) (xs ys : List ℕ) → ((k : ℕ) → k < n → slice_index xs k ≡ slice_index ys k) →
+    little_number n xs ≡ little_number n ys
 same_number n xs ys h = same_from 0 n xs ys (λ k l. let z : 0 + k ≡ k = omega arith in ap (slice_index xs) z ∙ (h k l ∙ ap (slice_index ys) (sym z)))
 
 -- ---- one field
@@ -59,7 +61,8 @@ module _ (l : Linking) (low : (k : ℕ) → l.address k ≤ 65536) where
       let w = low (x.first + r.target) in
       let p = put_long m (at x r) (or_same (old x r m) (with_field l.address (numbers_in l x) x r (old x r m))) (omega arith) in omega (arith, p)
 
-  old_size : (x : NumberedObject) (m : List ℕ) (r : Relocation) → Long m → IsGood x r → length (old x r m) ≡ target_size x r
+  old_size : (x : NumberedObject) (m : List ℕ) (r : Relocation) → Long m → IsGood x r →
+      length (old x r m) ≡ target_size x r
   old_size x m r h good = let f = good.fits in size_at m (at x r) (target_size x r) (omega (arith, f))
 
   -- what a field makes of the memory
@@ -68,7 +71,8 @@ module _ (l : Linking) (low : (k : ℕ) → l.address k ≤ 65536) where
     put_is : with_one x m r ≡ put m (at x r) new
     sets : Sets (row_of r.kind) (place x r) (sum x r) r.offset (old x r m) new
 
-  put_is_by : (x : NumberedObject) (m : List ℕ) (r : Relocation) (new : List ℕ) → relocated r.kind (place x r) (sum x r) r.offset (old x r m) ≡ Ok new → with_one x m r ≡ put m (at x r) new
+  put_is_by : (x : NumberedObject) (m : List ℕ) (r : Relocation) (new : List ℕ) →
+      relocated r.kind (place x r) (sum x r) r.offset (old x r m) ≡ Ok new → with_one x m r ≡ put m (at x r) new
   unfolding put_field
   put_is_by x m r new e = ap (λ (q : Result (List ℕ) RelocFault). put m (at x r) (or_same (old x r m) q)) e
 
@@ -78,11 +82,13 @@ module _ (l : Linking) (low : (k : ℕ) → l.address k ≤ 65536) where
       record { new = s.0; put_is = put_is_by x m r s.0 s.1.0; sets = s.1.1 }
 
   -- bytes in place of a section's that are the same at an address
-  same_there : (m : List ℕ) (start size a : ℕ) (new : List ℕ) → Long m → start + size ≤ 65536 → length new ≡ size → ((n : ℕ) → n < size → a ≡ start + n → slice_index new n ≡ slice_index (bytes_at m start size) n) →
+  same_there : (m : List ℕ) (start size a : ℕ) (new : List ℕ) → Long m → start + size ≤ 65536 → length new ≡ size →
+      ((n : ℕ) → n < size → a ≡ start + n → slice_index new n ≡ slice_index (bytes_at m start size) n) →
       slice_index (put m start new) a ≡ slice_index m a
   same_there m start size a new h fit long same = by (out_or start size a)
     where
-      by : Out start size a ⊎ ((n : ℕ) × ((n < size) × (a ≡ start + n))) → slice_index (put m start new) a ≡ slice_index m a
+      by : Out start size a ⊎ ((n : ℕ) × ((n < size) × (a ≡ start + n))) →
+          slice_index (put m start new) a ≡ slice_index m a
       by (inl out) = put_out m start new a (omega arith) (out_less start size (length new) a (omega (arith, long)) out)
       by (inr i) =
           let n = i.0 in let e = i.1.1 in
@@ -91,7 +97,8 @@ module _ (l : Linking) (low : (k : ℕ) → l.address k ≤ 65536) where
           ∙ (same n i.1.0 e ∙ (read_at m start size n i.1.0 ∙ ap (slice_index m) (sym e))))
 
   -- outside these of the section
-  kept_at : (bytes new : List ℕ) (start offset size n a : ℕ) → ChangesOnly bytes new offset size → Out (start + offset) size a → a ≡ start + n → slice_index new n ≡ slice_index bytes n
+  kept_at : (bytes new : List ℕ) (start offset size n a : ℕ) → ChangesOnly bytes new offset size →
+      Out (start + offset) size a → a ≡ start + n → slice_index new n ≡ slice_index bytes n
   kept_at bytes new start offset size n a c (inl h) e = c.before n (omega (arith, e, h))
   kept_at bytes new start offset size n a c (inr h) e = c.after n (omega (arith, e, h))
 
@@ -99,7 +106,8 @@ module _ (l : Linking) (low : (k : ℕ) → l.address k ≤ 65536) where
   abbrev pub Clear : NumberedObject → Relocation → ℕ → Type 0
   Clear x r a = Out (at x r + r.offset) (width r) a
 
-  field_keep : (x : NumberedObject) (m : List ℕ) (r : Relocation) (a : ℕ) → Long m → IsGood x r → Clear x r a → slice_index (with_one x m r) a ≡ slice_index m a
+  field_keep : (x : NumberedObject) (m : List ℕ) (r : Relocation) (a : ℕ) → Long m → IsGood x r → Clear x r a →
+      slice_index (with_one x m r) a ≡ slice_index m a
   field_keep x m r a h good out =
       let k = made x m r h good in
       ap (λ (q : List ℕ). slice_index q a) k.put_is
@@ -128,24 +136,29 @@ module _ (l : Linking) (low : (k : ℕ) → l.address k ≤ 65536) where
       ∙ k.sets.number)
 
   -- a memory that is the same at the field
-  pub still_set : (x : NumberedObject) (r : Relocation) (m new : List ℕ) → ((n : ℕ) → n < width r → slice_index new (at x r + r.offset + n) ≡ slice_index m (at x r + r.offset + n)) → IsSet x r m → IsSet x r new
+  pub still_set : (x : NumberedObject) (r : Relocation) (m new : List ℕ) →
+      ((n : ℕ) → n < width r → slice_index new (at x r + r.offset + n) ≡ slice_index m (at x r + r.offset + n)) →
+      IsSet x r m → IsSet x r new
   still_set x r m new same s =
       ap (λ (n : ℕ). n % limit_by (row_of r.kind)) (same_number (width r) (drop (at x r + r.offset) new) (drop (at x r + r.offset) m)
       (λ n g. get_or-drop (at x r + r.offset) new n 0 ∙ (same n g ∙ sym (get_or-drop (at x r + r.offset) m n 0)))) ∙ s
 
   -- ---- an object's fields
 
-  fields_long : (x : NumberedObject) (m : List ℕ) (rs : List Relocation) → Long m → Long (fold (put_field l.address (numbers_in l x) x) m rs)
+  fields_long : (x : NumberedObject) (m : List ℕ) (rs : List Relocation) → Long m →
+      Long (fold (put_field l.address (numbers_in l x) x) m rs)
   fields_long x m [] h = h
   fields_long x m (r ∷ rs) h = fields_long x (with_one x m r) rs (field_long x m r h)
 
-  fields_keep : (x : NumberedObject) (m : List ℕ) (rs : List Relocation) (a : ℕ) → Long m → All (IsGood x) rs → All (λ r. Clear x r a) rs → slice_index (fold (put_field l.address (numbers_in l x) x) m rs) a ≡ slice_index m a
+  fields_keep : (x : NumberedObject) (m : List ℕ) (rs : List Relocation) (a : ℕ) → Long m → All (IsGood x) rs →
+      All (λ r. Clear x r a) rs → slice_index (fold (put_field l.address (numbers_in l x) x) m rs) a ≡ slice_index m a
   fields_keep x m [] a h good out = refl
   fields_keep x m (r ∷ rs) a h good out =
       fields_keep x (with_one x m r) rs a (field_long x m r h) (λ k d b. good (suc k) d (omega arith)) (λ k d b. out (suc k) d (omega arith))
       ∙ field_keep x m r a h (good 0 r (omega arith)) (out 0 r (omega arith))
 
-  fields_set : (x : NumberedObject) (m : List ℕ) (rs : List Relocation) (j : ℕ) (r : Relocation) → Long m → All (IsGood x) rs → j < length rs → ((d : Relocation) → get_or rs j d ≡ r) →
+  fields_set : (x : NumberedObject) (m : List ℕ) (rs : List Relocation) (j : ℕ) (r : Relocation) → Long m →
+      All (IsGood x) rs → j < length rs → ((d : Relocation) → get_or rs j d ≡ r) →
       ((n : ℕ) → n < width r → (i : ℕ) (d : Relocation) → j < i → i < length rs → Clear x (get_or rs i d) (at x r + r.offset + n)) →
       IsSet x r (fold (put_field l.address (numbers_in l x) x) m rs)
   fields_set x m [] j r h good b is out = absurd (omega arith)
@@ -169,13 +182,16 @@ module _ (l : Linking) (low : (k : ℕ) → l.address k ≤ 65536) where
   abbrev pub ClearOf : NumberedObject → ℕ → Type 0
   ClearOf x a = All (λ r. Clear x r a) x.object.relocations
 
-  pub objects_keep : (xs : List NumberedObject) (m : List ℕ) (a : ℕ) → Long m → All AreGood xs → ((n : ℕ) (d : NumberedObject) → n < length xs → ClearOf (get_or xs n d) a) → slice_index (fold (put_fields l) m xs) a ≡ slice_index m a
+  pub objects_keep : (xs : List NumberedObject) (m : List ℕ) (a : ℕ) → Long m → All AreGood xs →
+      ((n : ℕ) (d : NumberedObject) → n < length xs → ClearOf (get_or xs n d) a) →
+      slice_index (fold (put_fields l) m xs) a ≡ slice_index m a
   objects_keep [] m a h good out = refl
   objects_keep (x ∷ xs) m a h good out =
       objects_keep xs (put_fields l m x) a (fields_long x m x.object.relocations h) (λ n d b. good (suc n) d (omega arith)) (λ n d b. out (suc n) d (omega arith))
       ∙ fields_keep x m x.object.relocations a h (good 0 x (omega arith)) (out 0 x (omega arith))
 
-  pub objects_set : (xs : List NumberedObject) (m : List ℕ) (i j : ℕ) (x : NumberedObject) (r : Relocation) → Long m → All AreGood xs → i < length xs → ((d : NumberedObject) → get_or xs i d ≡ x) →
+  pub objects_set : (xs : List NumberedObject) (m : List ℕ) (i j : ℕ) (x : NumberedObject) (r : Relocation) → Long m →
+      All AreGood xs → i < length xs → ((d : NumberedObject) → get_or xs i d ≡ x) →
       j < length x.object.relocations → ((d : Relocation) → get_or x.object.relocations j d ≡ r) →
       ((n : ℕ) → n < width r → (k : ℕ) (d : Relocation) → j < k → k < length x.object.relocations → Clear x (get_or x.object.relocations k d) (at x r + r.offset + n)) →
       ((n : ℕ) → n < width r → (k : ℕ) (d : NumberedObject) → i < k → k < length xs → ClearOf (get_or xs k d) (at x r + r.offset + n)) →

@@ -1,13 +1,10 @@
 -- Everything lies inside its region, apart from all else, at a multiple of its alignment.
-use Rattle.std.proofs.Common.{◌≡◌, ◌≢◌, ◌⊎◌, inl, inr, ℕ, zero, suc, ◌+◌, ◌*◌, ◌/◌, ◌%◌, ◌-◌, ◌<◌, ◌≤◌, List, [], ◌∷◌, length, take, filter, max, get_or, Option, Some, None, Bool, true, false, refl, ap, sym, ◌∙◌, subst, arith}
-use Rattle.std.specs.Prelude.{AllPairs, slice_get, slice_index}
+use Rattle.std.proofs.Common.{◌≡◌, ◌≢◌, ◌⊎◌, inl, inr, ℕ, zero, suc, ◌+◌, ◌*◌, ◌%◌, ◌<◌, ◌≤◌, List, [], ◌∷◌, length, get_or, Option, Some, None, refl, ap, sym, ◌∙◌, subst, arith}
+use Rattle.std.specs.Prelude.{slice_get, slice_index}
 use Rattle.std.specs.List.{flat_map}
 use Rattle.std.proofs.lemmas.Bool.{cases_eq, cases_lt}
-use Rattle.std.proofs.lemmas.List.{take_more}
-use Rattle.std.proofs.lemmas.Nat.{mod-mul-add}
 use Rattle.std.proofs.lemmas.Option.{same_Some}
 use Rattle.mod_layout.specs.declared.Section.{Section}
-use Rattle.mod_layout.specs.Table.{holds}
 use Rattle.mod_layout.proofs.Found.{ends_of, within}
 use Rattle.elf_objects.specs.Object.{ObjectValue}
 use Rattle.layout_file.specs.Overlaps.{ShareNoByte}
@@ -15,125 +12,18 @@ use Rattle.layout_file.specs.Sound.{IsLayout}
 use Rattle.layout_file.specs.Values.{ModuleValue, LayoutValue, regions, regions_of}
 use Rattle.linker.specs.declared.item.Item.{Item}
 use Rattle.linker.specs.declared.item.Part.{Part}
-use Rattle.linker.specs.Placement.{items_of, item_at, starts_of, start_of, filled_end, address_at, stub_size, end_of, place_in, goes_to, round_up, text_of, ram_of}
+use Rattle.linker.specs.Placement.{items_of, item_at, starts_of, address_at, stub_size, round_up}
 use Rattle.linker.specs.Numbers.{end_in}
-use Rattle.linker.specs.Commons.{some_item}
-use Rattle.linker.specs.Refusals.{link_fault_of}
-use Rattle.linker.proofs.BoundLemmas.{end_above, start_up, end_within, round_up_above, up_to_3, region_by}
+use Rattle.linker.proofs.BoundLemmas.{round_up_above, region_by}
 use Rattle.linker.proofs.FitLemmas.{text_starts, ram_starts, first_two}
 use Rattle.linker.proofs.TableLemmas.{regions_count}
-use Rattle.linker.proofs.PlaceLemmas.{more_in, address_is, goes_yes, part_by, ranked, in_region, start_next, some_not}
+use Rattle.linker.proofs.PlaceLemmas.{part_by, ranked, in_region, some_not}
 use Rattle.linker.proofs.RegionLemmas.{items_are_in}
-use Rattle.linker_laws.specs.Conditions.{ContentsFit, CanLink}
-use Rattle.linker_laws.specs.Places.{Piece, an_item, a_stub, a_stack, the_vectors, span, Lies, item_lies, stub_lies, stack_lies, vectors_lie, ItemsLie, IsInside, LiesInside, LieApart, alignment_of, LiesAligned}
+use Rattle.linker.proofs.TurnLemmas.{in_list, item_low, item_high, in_turn, room_for, aligned}
+use Rattle.linker_laws.specs.Conditions.{ContentsFit}
+use Rattle.linker_laws.specs.Places.{Piece, an_item, a_stub, a_stack, span, Lies, item_lies, stub_lies, stack_lies, vectors_lie, ItemsLie, IsInside, LiesInside, LieApart, LiesAligned}
 use Rattle.linker_laws.proofs.Conditions.{can_link}
 use Rattle.linker_laws.proofs.Searches.{got, gets}
-
--- ---- an item in its part
-
--- an item in a part is one of the list
-pub in_list : (items : List Item) (k : ℕ) (p : Part) → (item_at items k).part ≡ Some p → k < length items
-in_list [] k p e = some_not p (sym e)
-in_list (x ∷ xs) zero p e = omega arith
-in_list (x ∷ xs) (suc k) p e = let h = in_list xs k p e in omega (arith, h)
-
-module _ (starts : List ℕ) (items : List Item) where
-  -- where the k-th item ends
-  abbrev pub ends : ℕ → ℕ
-  ends k = address_at starts items k + (item_at items k).size
-
-  -- what stands before the k-th item in its part ends here
-  abbrev pub before : ℕ → Part → ℕ
-  before k p = end_of (start_of starts items p.region p.rank) (filter (goes_to p.region p.rank) (take k items))
-
-  pub address_of : (k : ℕ) (p : Part) → (item_at items k).part ≡ Some p → address_at starts items k ≡ place_in (before k p) (item_at items k)
-  unfolding address_at
-  address_of k p e = address_is starts items k (item_at items k) (item_at items k).part p e
-
-  end_is : (k : ℕ) (p : Part) → (item_at items k).part ≡ Some p → ends k ≡ before (k + 1) p
-  end_is k p e =
-      let a = address_of k p e in
-      let t = more_in (goes_to p.region p.rank) (start_of starts items p.region p.rank) k items some_item (in_list items k p e) (goes_yes p.region p.rank (item_at items k).part p e refl refl) in
-      omega (arith, a, t)
-
-  above : (k : ℕ) (p : Part) → (item_at items k).part ≡ Some p → before k p ≤ address_at starts items k
-  above k p e = let a = address_of k p e in let r = round_up_above (max (item_at items k).align 2) (before k p) (omega arith) in omega (arith, a, r)
-
-  rank_above : (k : ℕ) (p : Part) → (item_at items k).part ≡ Some p → start_of starts items p.region p.rank ≤ address_at starts items k
-  rank_above k p e = let a = above k p e in let b = end_above (start_of starts items p.region p.rank) (filter (goes_to p.region p.rank) (take k items)) in omega (arith, a, b)
-
-  start_at : (p : Part) → slice_index starts p.region ≤ start_of starts items p.region p.rank
-  unfolding start_of
-  start_at p = let u = start_up starts items p.region 0 p.rank in let z : p.rank + 0 ≡ p.rank = omega arith in let e = ap (start_of starts items p.region) z in omega (arith, u, e)
-
-  -- it stands above where its region has room
-  pub item_low : (k : ℕ) (p : Part) → (item_at items k).part ≡ Some p → slice_index starts p.region ≤ address_at starts items k
-  item_low k p e = let a = rank_above k p e in let b = start_at p in omega (arith, a, b)
-
-  part_end : (k : ℕ) (p : Part) → (item_at items k).part ≡ Some p → ends k ≤ start_of starts items p.region (p.rank + 1)
-  part_end k p e =
-      let a = end_is k p e in
-      let w = end_within (goes_to p.region p.rank) (start_of starts items p.region p.rank) (k + 1) items in
-      let n = start_next starts items p.region p.rank in
-      omega (arith, a, w, n)
-
-  -- and ends no further than its region's contents
-  pub item_high : (k : ℕ) (p : Part) → (item_at items k).part ≡ Some p → p.rank < 3 → ends k ≤ filled_end starts items p.region
-  item_high k p e h = let a = part_end k p e in let u = up_to_3 starts items p.region p.rank h in omega (arith, a, u)
-
-  -- ---- two items of one region
-
-  take_take : (j k : ℕ) → j ≤ k → take j (take k items) ≡ take j items
-  take_take j k h = by items j k h
-    where
-      by : (xs : List Item) (j k : ℕ) → j ≤ k → take j (take k xs) ≡ take j xs
-      by xs zero k h = refl
-      by [] (suc j) zero h = absurd (omega arith)
-      by [] (suc j) (suc k) h = refl
-      by (x ∷ xs) (suc j) zero h = absurd (omega arith)
-      by (x ∷ xs) (suc j) (suc k) h = ap (λ (l : List Item). x ∷ l) (by xs j k (omega arith))
-
-  -- of one part, the earlier one ends first
-  earlier : (j k : ℕ) (p : Part) → (item_at items j).part ≡ Some p → (item_at items k).part ≡ Some p → j < k → ends j ≤ address_at starts items k
-  earlier j k p e f h =
-      let g = goes_to p.region p.rank in
-      let s = start_of starts items p.region p.rank in
-      let a = end_is j p e in
-      let w = end_within g s (j + 1) (take k items) in
-      let t = ap (λ (l : List Item). end_of s (filter g l)) (take_take (j + 1) k (omega arith)) in
-      let b = above k p f in
-      omega (arith, a, w, t, b)
-
-  -- of one region, so does the one of the lower rank
-  lower : (j k : ℕ) (p q : Part) → (item_at items j).part ≡ Some p → (item_at items k).part ≡ Some q → p.region ≡ q.region → p.rank < q.rank → ends j ≤ address_at starts items k
-  lower j k p q e f r h =
-      let a = part_end j p e in
-      let u = start_up starts items p.region (p.rank + 1) (q.rank - (p.rank + 1)) in
-      let z : (q.rank - (p.rank + 1)) + (p.rank + 1) ≡ q.rank = omega arith in
-      let t = ap (start_of starts items p.region) z in
-      let v = ap (λ (n : ℕ). start_of starts items n q.rank) r in
-      let b = rank_above k q f in
-      omega (arith, a, u, t, v, b)
-
-  same_part : (p q : Part) → p.region ≡ q.region → p.rank ≡ q.rank → p ≡ q
-  same_part p q r k = ap (λ (n : ℕ). let t : Part = record { region = n; rank = p.rank } in t) r ∙ ap (λ (n : ℕ). let t : Part = record { region = q.region; rank = n } in t) k
-
-  by_index : (j k : ℕ) (p : Part) → (item_at items j).part ≡ Some p → (item_at items k).part ≡ Some p → j ≢ k → (j < k) ⊎ (k ≤ j) → (ends j ≤ address_at starts items k) ⊎ (ends k ≤ address_at starts items j)
-  by_index j k p e f ne (inl h) = inl (earlier j k p e f h)
-  by_index j k p e f ne (inr h) = by (cases_lt k j)
-    where
-      by : (k < j) ⊎ (j ≤ k) → (ends j ≤ address_at starts items k) ⊎ (ends k ≤ address_at starts items j)
-      by (inl l) = inr (earlier k j p f e l)
-      by (inr l) = absurd (ne (omega arith))
-
-  -- two items of one region stand one after the other
-  in_turn : (j k : ℕ) (p q : Part) → (item_at items j).part ≡ Some p → (item_at items k).part ≡ Some q → j ≢ k → p.region ≡ q.region → (ends j ≤ address_at starts items k) ⊎ (ends k ≤ address_at starts items j)
-  in_turn j k p q e f ne r = by (cases_lt p.rank q.rank) (cases_lt q.rank p.rank)
-    where
-      by : (p.rank < q.rank) ⊎ (q.rank ≤ p.rank) → (q.rank < p.rank) ⊎ (p.rank ≤ q.rank) → (ends j ≤ address_at starts items k) ⊎ (ends k ≤ address_at starts items j)
-      by (inl h) c = inl (lower j k p q e f r h)
-      by (inr h) (inl g) = inr (lower k j q p f e (sym r) g)
-      by (inr h) (inr g) = by_index j k q (e ∙ ap Some (same_part p q r (omega arith))) f ne (cases_lt j k)
 
 -- ---- sections
 
@@ -168,7 +58,8 @@ region_even [] i = refl
 region_even (m ∷ ms) zero = refl
 region_even (m ∷ ms) (suc i) = let q : suc i + suc i ≡ suc (suc (i + i)) = omega arith in ap (slice_get (flat_map regions_of (m ∷ ms))) q ∙ region_even ms i
 
-region_odd : (ms : List ModuleValue) (i : ℕ) → slice_get (flat_map regions_of ms) (suc (i + i)) ≡ ram_in (slice_get ms i)
+region_odd : (ms : List ModuleValue) (i : ℕ) →
+    slice_get (flat_map regions_of ms) (suc (i + i)) ≡ ram_in (slice_get ms i)
 region_odd [] i = refl
 region_odd (m ∷ ms) zero = refl
 region_odd (m ∷ ms) (suc i) = let q : suc (suc i + suc i) ≡ suc (suc (suc (i + i))) = omega arith in ap (slice_get (flat_map regions_of (m ∷ ms))) q ∙ region_odd ms i
@@ -179,10 +70,12 @@ text_region layout i = let q : 2 + 2 * i ≡ suc (suc (i + i)) = omega arith in 
 ram_region : (layout : LayoutValue) (i : ℕ) → region_at layout (3 + 2 * i) ≡ ram_in (slice_get layout.modules i)
 ram_region layout i = let q : 3 + 2 * i ≡ suc (suc (suc (i + i))) = omega arith in ap (region_at layout) q ∙ region_odd layout.modules i
 
-pub text_start : (layout : LayoutValue) (i : ℕ) (m : ModuleValue) → slice_get layout.modules i ≡ Some m → slice_index (starts_of layout) (2 + 2 * i) ≡ m.text.start + stub_size m
+pub text_start : (layout : LayoutValue) (i : ℕ) (m : ModuleValue) → slice_get layout.modules i ≡ Some m →
+    slice_index (starts_of layout) (2 + 2 * i) ≡ m.text.start + stub_size m
 text_start layout i m e = let g = got layout.modules i m e in text_starts layout i m g.0 ∙ ap (λ (x : ModuleValue). x.text.start + stub_size x) (g.1 m)
 
-ram_start : (layout : LayoutValue) (i : ℕ) (m : ModuleValue) → slice_get layout.modules i ≡ Some m → slice_index (starts_of layout) (3 + 2 * i) ≡ m.ram.start + 4 + m.stack
+ram_start : (layout : LayoutValue) (i : ℕ) (m : ModuleValue) → slice_get layout.modules i ≡ Some m →
+    slice_index (starts_of layout) (3 + 2 * i) ≡ m.ram.start + 4 + m.stack
 ram_start layout i m e = let g = got layout.modules i m e in ram_starts layout i m g.0 ∙ ap (λ (x : ModuleValue). x.ram.start + 4 + x.stack) (g.1 m)
 
 -- a region has room for its contents, and ends below the vectors
@@ -193,7 +86,8 @@ pub record Bounded (layout : LayoutValue) (objects : List ObjectValue) (n : ℕ)
   pub above : 512 ≤ r.start
 
 module _ (layout : LayoutValue) (objects : List ObjectValue) (s : IsLayout layout) (fit : ContentsFit layout (end_in layout objects)) where
-  pub text_bounded : (i : ℕ) (m : ModuleValue) → slice_get layout.modules i ≡ Some m → Bounded layout objects (2 + 2 * i) m.text
+  pub text_bounded : (i : ℕ) (m : ModuleValue) → slice_get layout.modules i ≡ Some m →
+      Bounded layout objects (2 + 2 * i) m.text
   text_bounded i m e =
       let g = got layout.modules i m e in
       let b = text_start layout i m e in
@@ -205,7 +99,8 @@ module _ (layout : LayoutValue) (objects : List ObjectValue) (s : IsLayout layou
       let v = k.below_vectors in let w = k.above_devices in
       record { low = omega (arith, b); high = omega (arith, h, t, u); below = omega (arith, v, t); above = omega (arith, w, f) }
 
-  ram_bounded : (i : ℕ) (m : ModuleValue) → slice_get layout.modules i ≡ Some m → Bounded layout objects (3 + 2 * i) m.ram
+  ram_bounded : (i : ℕ) (m : ModuleValue) → slice_get layout.modules i ≡ Some m →
+      Bounded layout objects (3 + 2 * i) m.ram
   ram_bounded i m e =
       let g = got layout.modules i m e in
       let b = ram_start layout i m e in
@@ -224,7 +119,8 @@ module _ (layout : LayoutValue) (objects : List ObjectValue) (s : IsLayout layou
   second_bounded = let b = (first_two layout).1 in let k = s.ram_region in record { low = omega (arith, b); high = fit.ram; below = k.below_vectors; above = k.above_devices }
 
   -- the region of this number is that one
-  it_is : (n k : ℕ) (r t : Section) → n ≡ k → region_at layout k ≡ Some t → region_at layout n ≡ Some r → Bounded layout objects k t → Bounded layout objects n r
+  it_is : (n k : ℕ) (r t : Section) → n ≡ k → region_at layout k ≡ Some t → region_at layout n ≡ Some r →
+      Bounded layout objects k t → Bounded layout objects n r
   it_is n k r t q f e b =
       subst (λ (x : Section). Bounded layout objects n x) (same_Some t r (sym f ∙ (sym (ap (region_at layout) q) ∙ e)))
       (subst (λ (j : ℕ). Bounded layout objects j t) (sym q) b)
@@ -232,7 +128,8 @@ module _ (layout : LayoutValue) (objects : List ObjectValue) (s : IsLayout layou
   no_region : {A : Type 0} (n k : ℕ) (r : Section) → n ≡ k → region_at layout k ≡ None → region_at layout n ≡ Some r → A
   no_region n k r q f e = some_not r (sym e ∙ (ap (region_at layout) q ∙ f))
 
-  bounded_by : (n : ℕ) (r : Section) → region_at layout n ≡ Some r → (n ≡ 0) ⊎ ((n ≡ 1) ⊎ ((i : ℕ) × ((n ≡ 2 + 2 * i) ⊎ (n ≡ 3 + 2 * i)))) → Bounded layout objects n r
+  bounded_by : (n : ℕ) (r : Section) → region_at layout n ≡ Some r →
+      (n ≡ 0) ⊎ ((n ≡ 1) ⊎ ((i : ℕ) × ((n ≡ 2 + 2 * i) ⊎ (n ≡ 3 + 2 * i)))) → Bounded layout objects n r
   bounded_by n r e (inl q) = it_is n 0 r layout.text q refl e first_bounded
   bounded_by n r e (inr (inl q)) = it_is n 1 r layout.ram q refl e second_bounded
   bounded_by n r e (inr (inr (i, inl q))) = by (slice_get layout.modules i) refl
@@ -263,7 +160,8 @@ module _ (layout : LayoutValue) (objects : List ObjectValue) (s : IsLayout layou
   pub ranked_at : (k : ℕ) (p : Part) → (item_at items k).part ≡ Some p → p.rank < 3
   ranked_at k p e = ranked (2 + 2 * length layout.modules) (item_at items k).part p e (part_by items (2 + 2 * length layout.modules) k (items_are_in layout objects) (inl (in_list items k p e)))
 
-  item_sits : (k : ℕ) (p : Part) (r : Section) → (item_at items k).part ≡ Some p → region_at layout p.region ≡ Some r → Sits p.region (span (address_at starts items k) (item_at items k).size) r
+  item_sits : (k : ℕ) (p : Part) (r : Section) → (item_at items k).part ≡ Some p →
+      region_at layout p.region ≡ Some r → Sits p.region (span (address_at starts items k) (item_at items k).size) r
   item_sits k p r e f =
       let b = bounded p.region r f in
       let u = b.low in let v = b.high in
@@ -271,22 +169,20 @@ module _ (layout : LayoutValue) (objects : List ObjectValue) (s : IsLayout layou
       let h = item_high starts items k p e (ranked_at k p e) in
       record { region = f; inside = record { start = omega (arith, u, l); end = omega (arith, v, h) } }
 
-  start_at_end : (n : ℕ) → slice_index starts n ≤ end_in layout objects n
-  unfolding start_of
-  start_at_end n = start_up starts items n 0 3
-
-  pub stub_sits : (i : ℕ) (m : ModuleValue) → slice_get layout.modules i ≡ Some m → Sits (2 + 2 * i) (span m.text.start (stub_size m)) m.text
+  pub stub_sits : (i : ℕ) (m : ModuleValue) → slice_get layout.modules i ≡ Some m →
+      Sits (2 + 2 * i) (span m.text.start (stub_size m)) m.text
   stub_sits i m e =
       let h = (text_bounded i m e).high in
       let b = text_start layout i m e in
-      let u = start_at_end (2 + 2 * i) in
+      let u = room_for starts items (2 + 2 * i) in
       record { region = text_region layout i ∙ ap text_in e; inside = record { start = omega arith; end = omega (arith, h, b, u) } }
 
-  stack_sits : (i : ℕ) (m : ModuleValue) → slice_get layout.modules i ≡ Some m → Sits (3 + 2 * i) (span m.ram.start (4 + m.stack)) m.ram
+  stack_sits : (i : ℕ) (m : ModuleValue) → slice_get layout.modules i ≡ Some m →
+      Sits (3 + 2 * i) (span m.ram.start (4 + m.stack)) m.ram
   stack_sits i m e =
       let h = (ram_bounded i m e).high in
       let b = ram_start layout i m e in
-      let u = start_at_end (3 + 2 * i) in
+      let u = room_for starts items (3 + 2 * i) in
       record { region = ram_region layout i ∙ ap ram_in e; inside = record { start = omega arith; end = omega (arith, h, b, u) } }
 
   pub inside : (p : Piece) (t r : Section) → Lies layout objects p t r → IsInside t r
@@ -297,13 +193,15 @@ module _ (layout : LayoutValue) (objects : List ObjectValue) (s : IsLayout layou
 
   -- ---- apart
 
-  regions_apart : (n k : ℕ) (a b : Section) → region_at layout n ≡ Some a → region_at layout k ≡ Some b → n < k → ShareNoByte a b
+  regions_apart : (n k : ℕ) (a b : Section) → region_at layout n ≡ Some a → region_at layout k ≡ Some b → n < k →
+      ShareNoByte a b
   regions_apart n k a b e f h =
       let all = regions layout.text layout.ram layout.modules in
       let g = got all n a e in let j = got all k b f in
       subst (λ (x : Section). ShareNoByte x b) (g.1 a) (subst (λ (x : Section). ShareNoByte (get_or all n a) x) (j.1 a) (s.regions_apart n k a h j.0))
 
-  away_by : (n k : ℕ) (t u a b : Section) → Sits n t a → Sits k u b → n ≢ k → (n < k) ⊎ (k ≤ n) → (k < n) ⊎ (n ≤ k) → ShareNoByte t u
+  away_by : (n k : ℕ) (t u a b : Section) → Sits n t a → Sits k u b → n ≢ k → (n < k) ⊎ (k ≤ n) → (k < n) ⊎ (n ≤ k) →
+      ShareNoByte t u
   away_by n k t u a b p q ne (inl h) c = inside_apart t u a b p.inside q.inside (regions_apart n k a b p.region q.region h)
   away_by n k t u a b p q ne (inr h) (inl g) = turn u t (inside_apart u t b a q.inside p.inside (regions_apart k n b a q.region p.region g))
   away_by n k t u a b p q ne (inr h) (inr g) = absurd (ne (omega arith))
@@ -319,31 +217,40 @@ module _ (layout : LayoutValue) (objects : List ObjectValue) (s : IsLayout layou
   abbrev item_span : ℕ → Section
   item_span k = span (address_at starts items k) (item_at items k).size
 
-  two_items : (k j : ℕ) (p q : Part) (a b : Section) → (item_at items k).part ≡ Some p → region_at layout p.region ≡ Some a → (item_at items j).part ≡ Some q → region_at layout q.region ≡ Some b → k ≢ j → (p.region ≡ q.region) ⊎ (p.region ≢ q.region) →
+  two_items : (k j : ℕ) (p q : Part) (a b : Section) → (item_at items k).part ≡ Some p →
+      region_at layout p.region ≡ Some a → (item_at items j).part ≡ Some q → region_at layout q.region ≡ Some b →
+      k ≢ j → (p.region ≡ q.region) ⊎ (p.region ≢ q.region) →
       ShareNoByte (item_span k) (item_span j)
   two_items k j p q a b e f g h ne (inl r) = one_or (item_span k) (item_span j) (in_turn starts items k j p q e g ne r)
   two_items k j p q a b e f g h ne (inr r) = away p.region q.region (item_span k) (item_span j) a b (item_sits k p a e f) (item_sits j q b g h) r
 
-  item_stub : (k i : ℕ) (p : Part) (a : Section) (m : ModuleValue) → (item_at items k).part ≡ Some p → region_at layout p.region ≡ Some a → slice_get layout.modules i ≡ Some m → (p.region ≡ 2 + 2 * i) ⊎ (p.region ≢ 2 + 2 * i) → ShareNoByte (item_span k) (span m.text.start (stub_size m))
+  item_stub : (k i : ℕ) (p : Part) (a : Section) (m : ModuleValue) → (item_at items k).part ≡ Some p →
+      region_at layout p.region ≡ Some a → slice_get layout.modules i ≡ Some m →
+      (p.region ≡ 2 + 2 * i) ⊎ (p.region ≢ 2 + 2 * i) → ShareNoByte (item_span k) (span m.text.start (stub_size m))
   item_stub k i p a m e f g (inl r) =
       let l = item_low starts items k p e in let t = ap (slice_index starts) r in let b = text_start layout i m g in
       turn _ _ (one_before (span m.text.start (stub_size m)) (item_span k) (omega (arith, l, t, b)))
   item_stub k i p a m e f g (inr r) = away p.region (2 + 2 * i) _ _ a m.text (item_sits k p a e f) (stub_sits i m g) r
 
-  item_stack : (k i : ℕ) (p : Part) (a : Section) (m : ModuleValue) → (item_at items k).part ≡ Some p → region_at layout p.region ≡ Some a → slice_get layout.modules i ≡ Some m → (p.region ≡ 3 + 2 * i) ⊎ (p.region ≢ 3 + 2 * i) → ShareNoByte (item_span k) (span m.ram.start (4 + m.stack))
+  item_stack : (k i : ℕ) (p : Part) (a : Section) (m : ModuleValue) → (item_at items k).part ≡ Some p →
+      region_at layout p.region ≡ Some a → slice_get layout.modules i ≡ Some m →
+      (p.region ≡ 3 + 2 * i) ⊎ (p.region ≢ 3 + 2 * i) → ShareNoByte (item_span k) (span m.ram.start (4 + m.stack))
   item_stack k i p a m e f g (inl r) =
       let l = item_low starts items k p e in let t = ap (slice_index starts) r in let b = ram_start layout i m g in
       turn _ _ (one_before (span m.ram.start (4 + m.stack)) (item_span k) (omega (arith, l, t, b)))
   item_stack k i p a m e f g (inr r) = away p.region (3 + 2 * i) _ _ a m.ram (item_sits k p a e f) (stack_sits i m g) r
 
-  stub_stack : (i j : ℕ) (m o : ModuleValue) → slice_get layout.modules i ≡ Some m → slice_get layout.modules j ≡ Some o → ShareNoByte (span m.text.start (stub_size m)) (span o.ram.start (4 + o.stack))
+  stub_stack : (i j : ℕ) (m o : ModuleValue) → slice_get layout.modules i ≡ Some m →
+      slice_get layout.modules j ≡ Some o →
+      ShareNoByte (span m.text.start (stub_size m)) (span o.ram.start (4 + o.stack))
   stub_stack i j m o e f = away (2 + 2 * i) (3 + 2 * j) _ _ m.text o.ram (stub_sits i m e) (stack_sits j o f) (λ z. absurd (omega (arith, z)))
 
   -- nothing reaches the vectors
   below_vectors : (n : ℕ) (t a : Section) → Sits n t a → ShareNoByte t (span 65504 32)
   below_vectors n t a p = let b = (bounded n a p.region).below in let e = p.inside.end in one_before t (span 65504 32) (omega (arith, b, e))
 
-  pub apart : (p q : Piece) (t u a b : Section) → Lies layout objects p t a → Lies layout objects q u b → p ≢ q → ShareNoByte t u
+  pub apart : (p q : Piece) (t u a b : Section) → Lies layout objects p t a → Lies layout objects q u b → p ≢ q →
+      ShareNoByte t u
   apart p q t u a b (item_lies k x r e f) (item_lies j y w g h) ne = two_items k j x y r w e f g h (λ z. ne (ap an_item z)) (cases_eq x.region y.region)
   apart p q t u a b (item_lies k x r e f) (stub_lies i m g) ne = item_stub k i x r m e f g (cases_eq x.region (2 + 2 * i))
   apart p q t u a b (item_lies k x r e f) (stack_lies i m g) ne = item_stack k i x r m e f g (cases_eq x.region (3 + 2 * i))
@@ -369,7 +276,8 @@ lies_inside layout objects s e = inside layout objects s (can_link layout object
 pub lie_apart : LieApart
 lie_apart layout objects s e = apart layout objects s (can_link layout objects e).contents_fit
 
-pub lies_at : (layout : LayoutValue) (objects : List ObjectValue) (k : ℕ) (p : Part) → (item_at (items_of layout objects) k).part ≡ Some p →
+pub lies_at : (layout : LayoutValue) (objects : List ObjectValue) (k : ℕ) (p : Part) →
+    (item_at (items_of layout objects) k).part ≡ Some p →
     (r : Section) × Lies layout objects (an_item k) (span (address_at (starts_of layout) (items_of layout objects) k) (item_at (items_of layout objects) k).size) r
 lies_at layout objects k p e =
     let all = regions layout.text layout.ram layout.modules in
@@ -378,21 +286,17 @@ lies_at layout objects k p e =
     let n = regions_count layout.modules in
     (get_or all p.region layout.text, item_lies k p (get_or all p.region layout.text) e (gets all p.region layout.text (omega (arith, l, n))))
 
-lies_by : (layout : LayoutValue) (objects : List ObjectValue) (k : ℕ) (o : Option Part) → (item_at (items_of layout objects) k).part ≡ o → o ≢ None → (s : Section) × ((r : Section) × Lies layout objects (an_item k) s r)
+lies_by : (layout : LayoutValue) (objects : List ObjectValue) (k : ℕ) (o : Option Part) →
+    (item_at (items_of layout objects) k).part ≡ o → o ≢ None →
+    (s : Section) × ((r : Section) × Lies layout objects (an_item k) s r)
 lies_by layout objects k None e h = absurd (h refl)
 lies_by layout objects k (Some p) e h = (_, lies_at layout objects k p e)
 
 pub items_lie : ItemsLie
 items_lie layout objects k h = lies_by layout objects k (item_at (items_of layout objects) k).part refl h
 
-multiple : (n a : ℕ) → 1 ≤ a → n * a % a ≡ 0
-multiple n a h = let z : n * a ≡ n * a + 0 = omega arith in ap (λ (m : ℕ). m % a) z ∙ mod-mul-add n a 0 h
-
 pub lies_aligned : LiesAligned
-lies_aligned layout objects s p t r (item_lies k q x e f) =
-    let a = max (item_at (items_of layout objects) k).align 2 in
-    ap (λ (n : ℕ). n % a) (address_of (starts_of layout) (items_of layout objects) k q e)
-    ∙ multiple ((before (starts_of layout) (items_of layout objects) k q + (a - 1)) / a) a (omega arith)
+lies_aligned layout objects s p t r (item_lies k q x e f) = aligned (starts_of layout) (items_of layout objects) k q e
 lies_aligned layout objects s p t r (stub_lies i m e) =
     let g = got layout.modules i m e in
     ap (λ (x : ModuleValue). x.text.start % 2) (sym (g.1 m)) ∙ (s.modules_kept i m g.0).text_region.even_start

@@ -1,5 +1,5 @@
 -- A search finds no refusal exactly where each element gives none.
-use Rattle.std.proofs.Common.{◌≡◌, ◌≢◌, ℕ, zero, suc, ◌+◌, ◌<◌, List, [], ◌∷◌, length, get_or, Option, Some, None, Bool, true, false, not, ◌&&◌, is_none, refl, ap, sym, ◌∙◌, arith}
+use Rattle.std.proofs.Common.{◌≡◌, ◌≢◌, ℕ, zero, suc, ◌+◌, ◌<◌, List, [], ◌∷◌, length, get_or, Option, Some, None, Bool, true, false, is_none, refl, ap, ◌∙◌, arith}
 use Rattle.std.specs.Prelude.{All, slice_get}
 use Rattle.linker.specs.Passes.{or_else, first_in, first_at, refuse_if}
 use Rattle.linker.proofs.BoundLemmas.{both_none}
@@ -17,24 +17,28 @@ pub none_in : {X A : Type 0} (f : X → Option A) (xs : List X) → All (λ x. f
 none_in f [] h = refl
 none_in f (x ∷ xs) h = or_none (f x) (first_in f xs) (h 0 x (omega arith)) (none_in f xs (λ k d l. h (suc k) d (omega arith)))
 
-pub none_from : {X A : Type 0} (f : ℕ → X → Option A) (i : ℕ) (xs : List X) → ((k : ℕ) (d : X) → k < length xs → f (i + k) (get_or xs k d) ≡ None) → first_at f i xs ≡ None
+pub none_from : {X A : Type 0} (f : ℕ → X → Option A) (i : ℕ) (xs : List X) →
+    ((k : ℕ) (d : X) → k < length xs → f (i + k) (get_or xs k d) ≡ None) → first_at f i xs ≡ None
 none_from f i [] h = refl
 none_from f i (x ∷ xs) h =
     let z : i ≡ i + 0 = omega arith in
     or_none (f i x) (first_at f (i + 1) xs) (ap (λ (n : ℕ). f n x) z ∙ h 0 x (omega arith))
     (none_from f (i + 1) xs (λ k d l. let s : (i + 1) + k ≡ i + suc k = omega arith in ap (λ (n : ℕ). f n (get_or xs k d)) s ∙ h (suc k) d (omega arith)))
 
-pub none_at : {X A : Type 0} (f : ℕ → X → Option A) (xs : List X) → ((k : ℕ) (d : X) → k < length xs → f k (get_or xs k d) ≡ None) → first_at f 0 xs ≡ None
+pub none_at : {X A : Type 0} (f : ℕ → X → Option A) (xs : List X) →
+    ((k : ℕ) (d : X) → k < length xs → f k (get_or xs k d) ≡ None) → first_at f 0 xs ≡ None
 none_at f xs h = none_from f 0 xs (λ k d l. let z : 0 + k ≡ k = omega arith in ap (λ (n : ℕ). f n (get_or xs k d)) z ∙ h k d l)
 
-from_none : {X A : Type 0} (f : ℕ → X → Option A) (i : ℕ) (xs : List X) → first_at f i xs ≡ None → (k : ℕ) (d : X) → k < length xs → f (i + k) (get_or xs k d) ≡ None
+from_none : {X A : Type 0} (f : ℕ → X → Option A) (i : ℕ) (xs : List X) → first_at f i xs ≡ None → (k : ℕ) (d : X) →
+    k < length xs → f (i + k) (get_or xs k d) ≡ None
 from_none f i [] e k d l = absurd (omega arith)
 from_none f i (x ∷ xs) e zero d l = let z : i + 0 ≡ i = omega arith in ap (λ (n : ℕ). f n x) z ∙ (both_none (f i x) (first_at f (i + 1) xs) e).0
 from_none f i (x ∷ xs) e (suc k) d l =
     let z : i + suc k ≡ (i + 1) + k = omega arith in
     ap (λ (n : ℕ). f n (get_or xs k d)) z ∙ from_none f (i + 1) xs (both_none (f i x) (first_at f (i + 1) xs) e).1 k d (omega arith)
 
-pub at_none : {X A : Type 0} (f : ℕ → X → Option A) (xs : List X) → first_at f 0 xs ≡ None → (k : ℕ) (d : X) → k < length xs → f k (get_or xs k d) ≡ None
+pub at_none : {X A : Type 0} (f : ℕ → X → Option A) (xs : List X) → first_at f 0 xs ≡ None → (k : ℕ) (d : X) →
+    k < length xs → f k (get_or xs k d) ≡ None
 at_none f xs e k d l = let z : k ≡ 0 + k = omega arith in ap (λ (n : ℕ). f n (get_or xs k d)) z ∙ from_none f 0 xs e k d l
 
 -- ---- one condition
@@ -57,7 +61,8 @@ is_some_by (Some a) h = refl
 
 -- ---- the element at an index
 
-pub got : {X : Type 0} (xs : List X) (k : ℕ) (x : X) → slice_get xs k ≡ Some x → (k < length xs) × ((d : X) → get_or xs k d ≡ x)
+pub got : {X : Type 0} (xs : List X) (k : ℕ) (x : X) → slice_get xs k ≡ Some x →
+    (k < length xs) × ((d : X) → get_or xs k d ≡ x)
 got [] k x e = cc
 got (y ∷ ys) zero x e = (omega arith, λ d. cc)
 got (y ∷ ys) (suc k) x e = let h = got ys k x e in (omega (arith, h.0), h.1)

@@ -17,15 +17,18 @@ module _ (address : ℕ → ℕ) (low : (k : ℕ) → address k ≤ 65536) where
   abbrev pub Away : NumberedObject → ℕ → SectionHead → ℕ → Type 0
   Away x k s a = is_loaded_head s ≡ true → Out (address (x.first + k)) (s.bytes.end - s.bytes.start) a
 
-  long_by : (b : Bool) (x : NumberedObject) (m : List ℕ) (k : ℕ) (s : SectionHead) → Long m → Long (put_section_if b address x m k s)
+  long_by : (b : Bool) (x : NumberedObject) (m : List ℕ) (k : ℕ) (s : SectionHead) → Long m →
+      Long (put_section_if b address x m k s)
   long_by false x m k s h = h
   long_by true x m k s h = let w = low (x.first + k) in let p = put_long m (address (x.first + k)) (part x.object s.bytes) (omega arith) in omega (arith, p)
 
-  section_long : (x : NumberedObject) (m : List ℕ) (k : ℕ) (s : SectionHead) → Long m → Long (put_section address x m k s)
+  section_long : (x : NumberedObject) (m : List ℕ) (k : ℕ) (s : SectionHead) → Long m →
+      Long (put_section address x m k s)
   unfolding put_section
   section_long x m k s h = long_by (is_loaded_head s) x m k s h
 
-  keep_by : (b : Bool) (x : NumberedObject) (m : List ℕ) (k : ℕ) (s : SectionHead) (a : ℕ) → Long m → (b ≡ true → Out (address (x.first + k)) (s.bytes.end - s.bytes.start) a) →
+  keep_by : (b : Bool) (x : NumberedObject) (m : List ℕ) (k : ℕ) (s : SectionHead) (a : ℕ) → Long m →
+      (b ≡ true → Out (address (x.first + k)) (s.bytes.end - s.bytes.start) a) →
       slice_index (put_section_if b address x m k s) a ≡ slice_index m a
   keep_by false x m k s a h out = refl
   keep_by true x m k s a h out =
@@ -33,27 +36,32 @@ module _ (address : ℕ → ℕ) (low : (k : ℕ) → address k ≤ 65536) where
       let z = part_size x.object.file s.bytes.start s.bytes.end in
       put_out m (address (x.first + k)) (part x.object s.bytes) a (omega arith) (out_less _ _ _ a z (out refl))
 
-  section_keep : (x : NumberedObject) (m : List ℕ) (k : ℕ) (s : SectionHead) (a : ℕ) → Long m → Away x k s a → slice_index (put_section address x m k s) a ≡ slice_index m a
+  section_keep : (x : NumberedObject) (m : List ℕ) (k : ℕ) (s : SectionHead) (a : ℕ) → Long m → Away x k s a →
+      slice_index (put_section address x m k s) a ≡ slice_index m a
   unfolding put_section
   section_keep x m k s a h out = keep_by (is_loaded_head s) x m k s a h out
 
-  set_by : (b : Bool) (x : NumberedObject) (m : List ℕ) (k : ℕ) (s : SectionHead) (n : ℕ) → b ≡ true → Long m → n < length (part x.object s.bytes) →
+  set_by : (b : Bool) (x : NumberedObject) (m : List ℕ) (k : ℕ) (s : SectionHead) (n : ℕ) → b ≡ true → Long m →
+      n < length (part x.object s.bytes) →
       slice_index (put_section_if b address x m k s) (address (x.first + k) + n) ≡ slice_index (part x.object s.bytes) n
   set_by false x m k s n e h l = cc
   set_by true x m k s n e h l = let w = low (x.first + k) in put_in m (address (x.first + k)) (part x.object s.bytes) n (omega arith) l
 
-  section_set : (x : NumberedObject) (m : List ℕ) (k : ℕ) (s : SectionHead) (n : ℕ) → is_loaded_head s ≡ true → Long m → n < length (part x.object s.bytes) →
+  section_set : (x : NumberedObject) (m : List ℕ) (k : ℕ) (s : SectionHead) (n : ℕ) → is_loaded_head s ≡ true →
+      Long m → n < length (part x.object s.bytes) →
       slice_index (put_section address x m k s) (address (x.first + k) + n) ≡ slice_index (part x.object s.bytes) n
   unfolding put_section
   section_set x m k s n e h l = set_by (is_loaded_head s) x m k s n e h l
 
   -- ---- an object's sections, numbered from i on
 
-  heads_long : (x : NumberedObject) (m : List ℕ) (i : ℕ) (heads : List SectionHead) → Long m → Long (fold_at (put_section address x) m i heads)
+  heads_long : (x : NumberedObject) (m : List ℕ) (i : ℕ) (heads : List SectionHead) → Long m →
+      Long (fold_at (put_section address x) m i heads)
   heads_long x m i [] h = h
   heads_long x m i (s ∷ ss) h = heads_long x (put_section address x m i s) (i + 1) ss (section_long x m i s h)
 
-  heads_keep : (x : NumberedObject) (m : List ℕ) (i : ℕ) (heads : List SectionHead) (a : ℕ) → Long m → ((k : ℕ) (d : SectionHead) → k < length heads → Away x (i + k) (get_or heads k d) a) →
+  heads_keep : (x : NumberedObject) (m : List ℕ) (i : ℕ) (heads : List SectionHead) (a : ℕ) → Long m →
+      ((k : ℕ) (d : SectionHead) → k < length heads → Away x (i + k) (get_or heads k d) a) →
       slice_index (fold_at (put_section address x) m i heads) a ≡ slice_index m a
   heads_keep x m i [] a h out = refl
   heads_keep x m i (s ∷ ss) a h out =
@@ -62,7 +70,9 @@ module _ (address : ℕ → ℕ) (low : (k : ℕ) → address k ≤ 65536) where
       (λ k d l. let t : i + suc k ≡ (i + 1) + k = omega arith in subst (λ (n : ℕ). Away x n (get_or ss k d) a) t (out (suc k) d (omega arith)))
       ∙ section_keep x m i s a h (subst (λ (n : ℕ). Away x n s a) z (out 0 s (omega arith)))
 
-  head_set : (x : NumberedObject) (m : List ℕ) (i : ℕ) (heads : List SectionHead) (k n : ℕ) (s : SectionHead) → Long m → k < length heads → ((d : SectionHead) → get_or heads k d ≡ s) → is_loaded_head s ≡ true → n < length (part x.object s.bytes) →
+  head_set : (x : NumberedObject) (m : List ℕ) (i : ℕ) (heads : List SectionHead) (k n : ℕ) (s : SectionHead) →
+      Long m → k < length heads → ((d : SectionHead) → get_or heads k d ≡ s) → is_loaded_head s ≡ true →
+      n < length (part x.object s.bytes) →
       ((j : ℕ) (d : SectionHead) → k < j → j < length heads → Away x (i + j) (get_or heads j d) (address (x.first + (i + k)) + n)) →
       slice_index (fold_at (put_section address x) m i heads) (address (x.first + (i + k)) + n) ≡ slice_index (part x.object s.bytes) n
   head_set x m i [] k n s h l is e w out = absurd (omega arith)
@@ -94,16 +104,20 @@ module _ (address : ℕ → ℕ) (low : (k : ℕ) → address k ≤ 65536) where
   abbrev pub AwayFrom : NumberedObject → ℕ → Type 0
   AwayFrom x a = (k : ℕ) (d : SectionHead) → k < length x.object.sections → Away x k (get_or x.object.sections k d) a
 
-  from_0 : (x : NumberedObject) (a : ℕ) → AwayFrom x a → (k : ℕ) (d : SectionHead) → k < length x.object.sections → Away x (0 + k) (get_or x.object.sections k d) a
+  from_0 : (x : NumberedObject) (a : ℕ) → AwayFrom x a → (k : ℕ) (d : SectionHead) → k < length x.object.sections →
+      Away x (0 + k) (get_or x.object.sections k d) a
   from_0 x a out k d l = let z : k ≡ 0 + k = omega arith in subst (λ (n : ℕ). Away x n (get_or x.object.sections k d) a) z (out k d l)
 
-  pub objects_keep : (xs : List NumberedObject) (m : List ℕ) (a : ℕ) → Long m → ((n : ℕ) (d : NumberedObject) → n < length xs → AwayFrom (get_or xs n d) a) → slice_index (fold (put_sections address) m xs) a ≡ slice_index m a
+  pub objects_keep : (xs : List NumberedObject) (m : List ℕ) (a : ℕ) → Long m →
+      ((n : ℕ) (d : NumberedObject) → n < length xs → AwayFrom (get_or xs n d) a) →
+      slice_index (fold (put_sections address) m xs) a ≡ slice_index m a
   objects_keep [] m a h out = refl
   objects_keep (x ∷ xs) m a h out =
       objects_keep xs (put_sections address m x) a (heads_long x m 0 x.object.sections h) (λ n d l. out (suc n) d (omega arith))
       ∙ heads_keep x m 0 x.object.sections a h (from_0 x a (out 0 x (omega arith)))
 
-  pub object_set : (xs : List NumberedObject) (m : List ℕ) (i k n : ℕ) (x : NumberedObject) (s : SectionHead) → Long m → i < length xs → ((d : NumberedObject) → get_or xs i d ≡ x) →
+  pub object_set : (xs : List NumberedObject) (m : List ℕ) (i k n : ℕ) (x : NumberedObject) (s : SectionHead) →
+      Long m → i < length xs → ((d : NumberedObject) → get_or xs i d ≡ x) →
       k < length x.object.sections → ((d : SectionHead) → get_or x.object.sections k d ≡ s) → is_loaded_head s ≡ true → n < length (part x.object s.bytes) →
       ((j : ℕ) (d : SectionHead) → k < j → j < length x.object.sections → Away x j (get_or x.object.sections j d) (address (x.first + k) + n)) →
       ((j : ℕ) (d : NumberedObject) → i < j → j < length xs → AwayFrom (get_or xs j d) (address (x.first + k) + n)) →

@@ -1,6 +1,6 @@
 -- No strong definition is a second one exactly where no two are of one name.
-use Rattle.std.proofs.Common.{◌≡◌, ◌≢◌, ◌⊎◌, inl, inr, ℕ, zero, suc, ◌+◌, ◌-◌, ◌<◌, ◌≤◌, List, [], ◌∷◌, ◌++◌, length, get_or, length-append, append_assoc, Option, Some, None, Bool, true, false, ◌||◌, ◌==◌, refl, ap, sym, ◌∙◌, subst, arith}
-use Rattle.std.specs.Prelude.{All, AllPairs, if◌then◌else◌, bytes_eq, option_map}
+use Rattle.std.proofs.Common.{◌≡◌, ◌≢◌, ◌⊎◌, inl, inr, ℕ, ◌+◌, ◌<◌, ◌≤◌, List, [], ◌∷◌, ◌++◌, length, get_or, length-append, append_assoc, Option, Some, None, Bool, true, false, ◌||◌, ◌==◌, refl, ap, sym, ◌∙◌, subst, arith}
+use Rattle.std.specs.Prelude.{All, if◌then◌else◌, bytes_eq, option_map}
 use Rattle.std.proofs.Math.ListN.{get_or-append}
 use Rattle.std.proofs.lemmas.Bool.{cases_lt}
 use Rattle.std.proofs.lemmas.Bool.Decides.{nat_tests}
@@ -8,12 +8,11 @@ use Rattle.std.proofs.lemmas.List.{get_or-append-add}
 use Rattle.std.proofs.lemmas.Slice.Eq.{bytes_eq-Decides}
 use Rattle.elf_objects.specs.declared.object.Binding.{Binding}
 use Rattle.elf_objects.specs.declared.object.Binding.TheVariants as binding
-use Rattle.linker.specs.declared.fault.LinkFault.{LinkFault}
 use Rattle.linker.specs.declared.names.Definition.{Definition}
 use Rattle.linker.specs.declared.symbol.Meaning.{Meaning}
 use Rattle.linker.specs.declared.symbol.What.{What}
 use Rattle.linker.specs.declared.symbol.What.TheVariants as what
-use Rattle.linker.specs.Passes.{first_in, some_if}
+use Rattle.linker.specs.Passes.{some_if}
 use Rattle.linker.specs.Symbols.{NamedValue}
 use Rattle.linker.specs.Definitions.{is_global, is_local, meaning_in, definition, definition_of, strong_by, strong_of, if_named}
 use Rattle.linker.specs.Refusals.{duplicate, duplicate_by, duplicate_of}
@@ -26,7 +25,8 @@ use Rattle.linker_laws.proofs.Searches.{or_none, in_none, none_in}
 abbrev strong_in : NamedValue → Binding → List ℕ → What → Option Definition
 strong_in s b name w = some_if (is_global b) (option_map (definition s) (if (length name == 0) || is_local b then None else meaning_in w))
 
-strong_if_by : (s : NamedValue) (b : Binding) (name : List ℕ) (w : What) → s.binding ≡ b → s.name ≡ name → s.what ≡ w → strong_in s b name w ≢ None → IsStrong s
+strong_if_by : (s : NamedValue) (b : Binding) (name : List ℕ) (w : What) → s.binding ≡ b → s.name ≡ name →
+    s.what ≡ w → strong_in s b name w ≢ None → IsStrong s
 strong_if_by s binding.Local name w p q r h = absurd (h refl)
 strong_if_by s binding.Weak name w p q r h = absurd (h refl)
 strong_if_by s binding.Global [] w p q r h = absurd (h refl)
@@ -46,7 +46,8 @@ strong_if : (s : NamedValue) → strong_by s ≢ None → IsStrong s
 unfolding strong_by definition_of
 strong_if s h = strong_if_by s s.binding s.name s.what refl refl refl h
 
-strong_by_if : (s : NamedValue) (b : Binding) (name : List ℕ) (w : What) (m : Meaning) → b ≡ binding.Global → name ≢ [] → w ≡ what.Defined m → strong_in s b name w ≢ None
+strong_by_if : (s : NamedValue) (b : Binding) (name : List ℕ) (w : What) (m : Meaning) → b ≡ binding.Global →
+    name ≢ [] → w ≡ what.Defined m → strong_in s b name w ≢ None
 strong_by_if s b [] w m p q r = absurd (q refl)
 strong_by_if s b (c ∷ cs) w m p q r =
     let z : (length (c ∷ cs) == 0) ≡ false = grind (arith, nat_tests) in
@@ -68,10 +69,12 @@ same_name a b e = (bytes_eq-Decides a b).0 e
 eq_itself : (a b : List ℕ) → a ≡ b → bytes_eq a b ≡ true
 eq_itself a b e = (bytes_eq-Decides a b).1 e
 
-named_none : (t : NamedValue) (name : List ℕ) → t.name ≡ name → if_named name t (strong_by t) ≡ None → strong_by t ≡ None
+named_none : (t : NamedValue) (name : List ℕ) → t.name ≡ name → if_named name t (strong_by t) ≡ None →
+    strong_by t ≡ None
 named_none t name e h = ap (λ (b : Bool). some_if b (strong_by t)) (sym (eq_itself t.name name e)) ∙ h
 
-first_none : (xs : List NamedValue) (name : List ℕ) → strong_of xs name ≡ None → All (λ t. if_named name t (strong_by t) ≡ None) xs
+first_none : (xs : List NamedValue) (name : List ℕ) → strong_of xs name ≡ None →
+    All (λ t. if_named name t (strong_by t) ≡ None) xs
 unfolding strong_of
 first_none xs name f = in_none (λ t. if_named name t (strong_by t)) xs f
 
@@ -83,7 +86,8 @@ before_none before s e k d l a b q = by (strong_by s) (strong_of before s.name) 
     by None y p r f = is_strong s b p
     by (Some x) None p r f = is_strong (get_or before k d) a (named_none (get_or before k d) s.name q (first_none before s.name r k d l))
 
-none_if_named : (t : NamedValue) (name : List ℕ) (b : Bool) → bytes_eq t.name name ≡ b → (t.name ≡ name → strong_by t ≡ None) → some_if b (strong_by t) ≡ None
+none_if_named : (t : NamedValue) (name : List ℕ) (b : Bool) → bytes_eq t.name name ≡ b →
+    (t.name ≡ name → strong_by t ≡ None) → some_if b (strong_by t) ≡ None
 none_if_named t name false q h = refl
 none_if_named t name true q h = h (same_name t.name name q)
 
@@ -91,7 +95,8 @@ not_strong : (t : NamedValue) (o : Option Definition) → strong_by t ≡ o → 
 not_strong t None e h = refl
 not_strong t (Some d) e h = absurd (h (strong_if t (λ n. let f : None ≡ Some d = sym n ∙ e in cc)))
 
-none_of : (xs : List NamedValue) (name : List ℕ) → All (λ t. if_named name t (strong_by t) ≡ None) xs → strong_of xs name ≡ None
+none_of : (xs : List NamedValue) (name : List ℕ) → All (λ t. if_named name t (strong_by t) ≡ None) xs →
+    strong_of xs name ≡ None
 unfolding strong_of
 none_of xs name h = none_in (λ t. if_named name t (strong_by t)) xs h
 
@@ -111,13 +116,16 @@ none_before before s h = by (strong_by s) refl
 abbrev PairsFrom : ℕ → List NamedValue → Type 0
 PairsFrom n xs = (i j : ℕ) (d : NamedValue) → i < j → n ≤ j → j < length xs → Differ (get_or xs i d) (get_or xs j d)
 
-here_is : (before ss : List NamedValue) (s d : NamedValue) (j : ℕ) → j ≡ length before → get_or (before ++ s ∷ ss) j d ≡ s
+here_is : (before ss : List NamedValue) (s d : NamedValue) (j : ℕ) → j ≡ length before →
+    get_or (before ++ s ∷ ss) j d ≡ s
 here_is before ss s d j e = let z : j ≡ length before + 0 = omega (arith, e) in ap (λ (n : ℕ). get_or (before ++ s ∷ ss) n d) z ∙ get_or-append-add before (s ∷ ss) 0 d
 
 one_more : (before ss : List NamedValue) (s : NamedValue) → (before ++ s ∷ []) ++ ss ≡ before ++ s ∷ ss
 one_more before ss s = append_assoc before (s ∷ []) ss
 
-pairs_by : (before ss : List NamedValue) (s : NamedValue) → duplicate_of before s ≡ None → PairsFrom (length (before ++ s ∷ [])) ((before ++ s ∷ []) ++ ss) → (i j : ℕ) (d : NamedValue) → i < j → j < length (before ++ s ∷ ss) →
+pairs_by : (before ss : List NamedValue) (s : NamedValue) → duplicate_of before s ≡ None →
+    PairsFrom (length (before ++ s ∷ [])) ((before ++ s ∷ []) ++ ss) → (i j : ℕ) (d : NamedValue) → i < j →
+    j < length (before ++ s ∷ ss) →
     (length before < j) ⊎ (j ≤ length before) → length before ≤ j → Differ (get_or (before ++ s ∷ ss) i d) (get_or (before ++ s ∷ ss) j d)
 pairs_by before ss s e more i j d lt l (inl h) le =
     let n = length-append before (s ∷ []) in

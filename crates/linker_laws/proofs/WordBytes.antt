@@ -1,12 +1,12 @@
 -- Stubs and vectors put into a memory.
-use Rattle.std.proofs.Common.{◌≡◌, ◌≢◌, ◌⊎◌, inl, inr, ℕ, zero, suc, ◌+◌, ◌-◌, ◌*◌, ◌<◌, ◌≤◌, List, [], ◌∷◌, ◌++◌, map, length, get_or, refl, ap, sym, ◌∙◌, subst, arith, fold}
+use Rattle.std.proofs.Common.{◌≡◌, ℕ, zero, suc, ◌+◌, ◌*◌, ◌<◌, ◌≤◌, List, [], ◌∷◌, length, get_or, refl, ap, ◌∙◌, subst, arith, fold}
 use Rattle.std.specs.Prelude.{All, slice_index}
 use Rattle.std.specs.List.{flat_map}
 use Rattle.layout_file.specs.Values.{VectorValue, ModuleValue}
 use Rattle.linker.specs.Passes.{fold_at}
 use Rattle.linker.specs.Placement.{stub_size}
 use Rattle.linker.specs.Numbers.{Linking}
-use Rattle.linker.specs.Bytes.{put, word_bytes}
+use Rattle.linker.specs.Bytes.{word_bytes}
 use Rattle.linker.specs.Stubs.{word_named, stub_of, put_stub, put_vector}
 use Rattle.linker.proofs.ClearLemmas.{stub_size_is, words_size}
 use Rattle.linker_laws.proofs.Writes.{Out, out_less, put_long, put_out, put_in}
@@ -23,28 +23,34 @@ module _ (l : Linking) (end : ℕ → ℕ) where
   unfolding put_stub
   stub_long m i x low h = let p = put_long m x.text.start (bytes_of i x) (omega arith) in omega (arith, p)
 
-  stub_keep : (m : List ℕ) (i : ℕ) (x : ModuleValue) (a : ℕ) → x.text.start ≤ 65536 → Long m → Out x.text.start (stub_size x) a → slice_index (put_stub l end m i x) a ≡ slice_index m a
+  stub_keep : (m : List ℕ) (i : ℕ) (x : ModuleValue) (a : ℕ) → x.text.start ≤ 65536 → Long m →
+      Out x.text.start (stub_size x) a → slice_index (put_stub l end m i x) a ≡ slice_index m a
   unfolding put_stub
   stub_keep m i x a low h out = let n = stub_length i x in put_out m x.text.start (bytes_of i x) a (omega arith) (out_less x.text.start (stub_size x) (length (bytes_of i x)) a (omega (arith, n)) out)
 
-  stub_set : (m : List ℕ) (i : ℕ) (x : ModuleValue) (n : ℕ) → x.text.start ≤ 65536 → Long m → n < stub_size x → slice_index (put_stub l end m i x) (x.text.start + n) ≡ slice_index (bytes_of i x) n
+  stub_set : (m : List ℕ) (i : ℕ) (x : ModuleValue) (n : ℕ) → x.text.start ≤ 65536 → Long m → n < stub_size x →
+      slice_index (put_stub l end m i x) (x.text.start + n) ≡ slice_index (bytes_of i x) n
   unfolding put_stub
   stub_set m i x n low h b = let k = stub_length i x in put_in m x.text.start (bytes_of i x) n (omega arith) (omega (arith, k, b))
 
   abbrev Low : List ModuleValue → Type 0
   Low xs = All (λ x. x.text.start ≤ 65536) xs
 
-  pub stubs_long : (m : List ℕ) (i : ℕ) (xs : List ModuleValue) → Low xs → Long m → Long (fold_at (put_stub l end) m i xs)
+  pub stubs_long : (m : List ℕ) (i : ℕ) (xs : List ModuleValue) → Low xs → Long m →
+      Long (fold_at (put_stub l end) m i xs)
   stubs_long m i [] low h = h
   stubs_long m i (x ∷ xs) low h = stubs_long (put_stub l end m i x) (i + 1) xs (λ k d b. low (suc k) d (omega arith)) (stub_long m i x (low 0 x (omega arith)) h)
 
-  pub stubs_keep : (m : List ℕ) (i : ℕ) (xs : List ModuleValue) (a : ℕ) → Low xs → Long m → All (λ x. Out x.text.start (stub_size x) a) xs → slice_index (fold_at (put_stub l end) m i xs) a ≡ slice_index m a
+  pub stubs_keep : (m : List ℕ) (i : ℕ) (xs : List ModuleValue) (a : ℕ) → Low xs → Long m →
+      All (λ x. Out x.text.start (stub_size x) a) xs →
+      slice_index (fold_at (put_stub l end) m i xs) a ≡ slice_index m a
   stubs_keep m i [] a low h out = refl
   stubs_keep m i (x ∷ xs) a low h out =
       stubs_keep (put_stub l end m i x) (i + 1) xs a (λ k d b. low (suc k) d (omega arith)) (stub_long m i x (low 0 x (omega arith)) h) (λ k d b. out (suc k) d (omega arith))
       ∙ stub_keep m i x a (low 0 x (omega arith)) h (out 0 x (omega arith))
 
-  pub stubs_set : (m : List ℕ) (i : ℕ) (xs : List ModuleValue) (k n : ℕ) (x : ModuleValue) → Low xs → Long m → k < length xs → ((d : ModuleValue) → get_or xs k d ≡ x) → n < stub_size x →
+  pub stubs_set : (m : List ℕ) (i : ℕ) (xs : List ModuleValue) (k n : ℕ) (x : ModuleValue) → Low xs → Long m →
+      k < length xs → ((d : ModuleValue) → get_or xs k d ≡ x) → n < stub_size x →
       ((j : ℕ) (d : ModuleValue) → k < j → j < length xs → Out (get_or xs j d).text.start (stub_size (get_or xs j d)) (x.text.start + n)) →
       slice_index (fold_at (put_stub l end) m i xs) (x.text.start + n) ≡ slice_index (bytes_of (i + k) x) n
   stubs_set m i [] k n x low h b is c out = absurd (omega arith)
@@ -69,11 +75,13 @@ module _ (l : Linking) where
   unfolding put_vector
   vector_long m v low h = let p = put_long m (start v) (word_bytes (word_named l v.name)) (omega arith) in omega (arith, p)
 
-  vector_keep : (m : List ℕ) (v : VectorValue) (a : ℕ) → v.vector < 16 → Long m → Out (start v) 2 a → slice_index (put_vector l m v) a ≡ slice_index m a
+  vector_keep : (m : List ℕ) (v : VectorValue) (a : ℕ) → v.vector < 16 → Long m → Out (start v) 2 a →
+      slice_index (put_vector l m v) a ≡ slice_index m a
   unfolding put_vector
   vector_keep m v a low h out = put_out m (start v) (word_bytes (word_named l v.name)) a (omega arith) out
 
-  vector_set : (m : List ℕ) (v : VectorValue) (n : ℕ) → v.vector < 16 → Long m → n < 2 → slice_index (put_vector l m v) (start v + n) ≡ slice_index (word_bytes (word_named l v.name)) n
+  vector_set : (m : List ℕ) (v : VectorValue) (n : ℕ) → v.vector < 16 → Long m → n < 2 →
+      slice_index (put_vector l m v) (start v + n) ≡ slice_index (word_bytes (word_named l v.name)) n
   unfolding put_vector
   vector_set m v n low h b = put_in m (start v) (word_bytes (word_named l v.name)) n (omega arith) b
 
@@ -84,13 +92,15 @@ module _ (l : Linking) where
   vectors_long m [] low h = h
   vectors_long m (v ∷ vs) low h = vectors_long (put_vector l m v) vs (λ k d b. low (suc k) d (omega arith)) (vector_long m v (low 0 v (omega arith)) h)
 
-  pub vectors_keep : (m : List ℕ) (vs : List VectorValue) (a : ℕ) → Below vs → Long m → All (λ v. Out (start v) 2 a) vs → slice_index (fold (put_vector l) m vs) a ≡ slice_index m a
+  pub vectors_keep : (m : List ℕ) (vs : List VectorValue) (a : ℕ) → Below vs → Long m →
+      All (λ v. Out (start v) 2 a) vs → slice_index (fold (put_vector l) m vs) a ≡ slice_index m a
   vectors_keep m [] a low h out = refl
   vectors_keep m (v ∷ vs) a low h out =
       vectors_keep (put_vector l m v) vs a (λ k d b. low (suc k) d (omega arith)) (vector_long m v (low 0 v (omega arith)) h) (λ k d b. out (suc k) d (omega arith))
       ∙ vector_keep m v a (low 0 v (omega arith)) h (out 0 v (omega arith))
 
-  pub vectors_set : (m : List ℕ) (vs : List VectorValue) (k n : ℕ) (v : VectorValue) → Below vs → Long m → k < length vs → ((d : VectorValue) → get_or vs k d ≡ v) → n < 2 →
+  pub vectors_set : (m : List ℕ) (vs : List VectorValue) (k n : ℕ) (v : VectorValue) → Below vs → Long m →
+      k < length vs → ((d : VectorValue) → get_or vs k d ≡ v) → n < 2 →
       ((j : ℕ) (d : VectorValue) → k < j → j < length vs → Out (start (get_or vs j d)) 2 (start v + n)) →
       slice_index (fold (put_vector l) m vs) (start v + n) ≡ slice_index (word_bytes (word_named l v.name)) n
   vectors_set m [] k n v low h b is c out = absurd (omega arith)
@@ -103,7 +113,8 @@ module _ (l : Linking) where
 
 -- ---- words
 
-pub words_at : (ws : List ℕ) (k n : ℕ) → k < length ws → n < 2 → slice_index (flat_map word_bytes ws) (2 * k + n) ≡ slice_index (word_bytes (get_or ws k 0)) n
+pub words_at : (ws : List ℕ) (k n : ℕ) → k < length ws → n < 2 →
+    slice_index (flat_map word_bytes ws) (2 * k + n) ≡ slice_index (word_bytes (get_or ws k 0)) n
 words_at [] k n h b = absurd (omega arith)
 words_at (w ∷ ws) zero n h b = by n b
   where

@@ -1,11 +1,11 @@
 -- Bytes put into a memory, read one by one.
-use Rattle.std.proofs.Common.{◌≡◌, ◌⊎◌, inl, inr, ℕ, ◌+◌, ◌-◌, ◌<◌, ◌≤◌, List, ◌++◌, take, drop, length, get_or, length-append, length-take, length-drop, Bool, true, false, refl, ap, sym, ◌∙◌, arith}
+use Rattle.std.proofs.Common.{◌≡◌, ◌⊎◌, inl, inr, ℕ, ◌+◌, ◌-◌, ◌<◌, ◌≤◌, List, ◌++◌, take, drop, length, get_or, length-append, length-take, length-drop, true, false, refl, ap, sym, ◌∙◌, arith}
 use Rattle.std.specs.Prelude.{slice_index}
 use Rattle.std.proofs.lemmas.Bool.{cases_lt}
 use Rattle.std.proofs.lemmas.List.{get_or_append_left, get_or-append_right, get_or-take, get_or-drop}
 use Rattle.mod_layout.specs.declared.Section.{Section}
 use Rattle.mod_layout.specs.Table.{holds}
-use Rattle.mod_layout.proofs.Found.{within, ends_of}
+use Rattle.mod_layout.proofs.Found.{within}
 use Rattle.layout_file.specs.Overlaps.{ShareNoByte}
 use Rattle.linker.specs.Bytes.{put, bytes_at}
 use Rattle.linker_laws.specs.Places.{span}
@@ -27,7 +27,8 @@ out_within at size start less a h k (inr l) = inr (omega arith)
 pub out_or : (at size a : ℕ) → Out at size a ⊎ ((n : ℕ) × ((n < size) × (a ≡ at + n)))
 out_or at size a = by (cases_lt a at) (cases_lt a (at + size))
   where
-    by : (a < at) ⊎ (at ≤ a) → (a < at + size) ⊎ (at + size ≤ a) → Out at size a ⊎ ((n : ℕ) × ((n < size) × (a ≡ at + n)))
+    by : (a < at) ⊎ (at ≤ a) → (a < at + size) ⊎ (at + size ≤ a) →
+        Out at size a ⊎ ((n : ℕ) × ((n < size) × (a ≡ at + n)))
     by (inl h) c = inl (inl h)
     by (inr h) (inl g) = inr (a - at, (omega arith, omega arith))
     by (inr h) (inr g) = inl (inr g)
@@ -60,7 +61,8 @@ put_long m at bytes h =
     let b = length-append bytes (drop (at + length bytes) m) in
     omega (arith, t, d, a, b)
 
-pub put_out : (m : List ℕ) (at : ℕ) (bytes : List ℕ) (a : ℕ) → at ≤ length m → Out at (length bytes) a → slice_index (put m at bytes) a ≡ slice_index m a
+pub put_out : (m : List ℕ) (at : ℕ) (bytes : List ℕ) (a : ℕ) → at ≤ length m → Out at (length bytes) a →
+    slice_index (put m at bytes) a ≡ slice_index m a
 put_out m at bytes a fit (inl h) =
     get_or_append_left (take at m) (bytes ++ drop (at + length bytes) m) 0 a (omega (arith, length-take {A = ℕ}))
     ∙ get_or-take at m a 0 h
@@ -70,7 +72,8 @@ put_out m at bytes a fit (inr h) =
     ∙ (get_or-drop (at + length bytes) m (a - at - length bytes) 0
     ∙ ap (λ (i : ℕ). get_or m i 0) (omega arith)))
 
-pub put_in : (m : List ℕ) (at : ℕ) (bytes : List ℕ) (n : ℕ) → at ≤ length m → n < length bytes → slice_index (put m at bytes) (at + n) ≡ slice_index bytes n
+pub put_in : (m : List ℕ) (at : ℕ) (bytes : List ℕ) (n : ℕ) → at ≤ length m → n < length bytes →
+    slice_index (put m at bytes) (at + n) ≡ slice_index bytes n
 put_in m at bytes n fit h =
     get_or-append_right (take at m) (bytes ++ drop (at + length bytes) m) at (at + n) 0 (omega (arith, length-take {A = ℕ})) (omega arith)
     ∙ (ap (λ (i : ℕ). get_or (bytes ++ drop (at + length bytes) m) i 0) (omega arith)

@@ -19,8 +19,8 @@ use Rattle.linker.specs.Refusals.{link_fault_of}
 
 -- each loaded section goes to a part of a region
 abbrev pub SectionsPlaced : List ModuleValue → List ObjectValue → Type 0
-SectionsPlaced modules objects =
-    All (λ x. All (λ s. is_loaded_head s ≡ true → part_of modules (part x.object s.name) s ≢ None) x.object.sections) (numbered_objects objects)
+SectionsPlaced modules objects = All (λ x. All (λ s.
+    is_loaded_head s ≡ true → part_of modules (part x.object s.name) s ≢ None) x.object.sections) (numbered_objects objects)
 
 -- a strong definition: a global symbol with a name, of a number or of a place in a loaded section
 pub record IsStrong (s : NamedValue) : Type 0 where
@@ -35,8 +35,9 @@ OneStrongEach symbols = AllPairs (λ s t. IsStrong s → IsStrong t → s.name �
 
 -- each symbol that a relocation uses stands for something
 abbrev pub UsedStand : (List ℕ → Option Meaning) → List ObjectValue → Type 0
-UsedStand names objects =
-    All (λ x. All (λ r. IfSome (slice_get x.object.symbols r.symbol) (λ s. symbol_meaning names (symbol_of x r.symbol s) ≢ None)) x.object.relocations) (numbered_objects objects)
+UsedStand names objects = All (λ x. All (λ r.
+    IfSome (slice_get x.object.symbols r.symbol) (λ s. symbol_meaning names (symbol_of x r.symbol s) ≢ None))
+    x.object.relocations) (numbered_objects objects)
 
 -- each vector's name stands for something
 abbrev pub VectorsStand : (List ℕ → Option Meaning) → List VectorValue → Type 0
@@ -53,20 +54,23 @@ pub record IsEntry (items : List Item) (i : ℕ) (found : Option Meaning) : Type
 
 -- each entry's name stands for one in its own module
 abbrev pub EntriesStand : (List ℕ → Option Meaning) → List Item → List ModuleValue → Type 0
-EntriesStand names items modules = (i : ℕ) (d : ModuleValue) → i < length modules → All (λ name. IsEntry items i (names name)) (slice_index_or modules i d).entries
+EntriesStand names items modules = (i : ℕ) (d : ModuleValue) → i < length modules →
+    All (λ name. IsEntry items i (names name)) (slice_index_or modules i d).entries
 
 -- each region's contents end within it, a module's at an even address
 pub record ContentsFit (layout : LayoutValue) (end : ℕ → ℕ) : Type 0 where
   pub text : end 0 ≤ layout.text.end
   pub ram : end 1 ≤ layout.ram.end
-  pub module_text : (i : ℕ) (d : ModuleValue) → i < length layout.modules → (text_of end i (slice_index_or layout.modules i d)).end ≤ (slice_index_or layout.modules i d).text.end
-  pub module_ram : (i : ℕ) (d : ModuleValue) → i < length layout.modules → (ram_of end i (slice_index_or layout.modules i d)).end ≤ (slice_index_or layout.modules i d).ram.end
+  pub module_text : (i : ℕ) (d : ModuleValue) → i < length layout.modules →
+      (text_of end i (slice_index_or layout.modules i d)).end ≤ (slice_index_or layout.modules i d).text.end
+  pub module_ram : (i : ℕ) (d : ModuleValue) → i < length layout.modules →
+      (ram_of end i (slice_index_or layout.modules i d)).end ≤ (slice_index_or layout.modules i d).ram.end
 
 -- each relocation applies to its section's bytes, at its address
 abbrev pub RelocationsApply : Linking → List ObjectValue → Type 0
-RelocationsApply l objects =
-    All (λ x. All (λ r. Applies r.kind ((target_address l.address x r + r.offset) % 65536) (sum_of (numbers_in l x) r) r.offset (target_size x r)) x.object.relocations)
-    (numbered_objects objects)
+RelocationsApply l objects = All (λ x. All (λ r.
+    Applies r.kind ((target_address l.address x r + r.offset) % 65536) (sum_of (numbers_in l x) r) r.offset (target_size x r))
+    x.object.relocations) (numbered_objects objects)
 
 pub record CanLink (layout : LayoutValue) (objects : List ObjectValue) : Type 0 where
   pub sections_placed : SectionsPlaced layout.modules objects
@@ -79,4 +83,5 @@ pub record CanLink (layout : LayoutValue) (objects : List ObjectValue) : Type 0 
 
 -- objects link exactly where these hold
 abbrev pub LinksExactly : Type 0
-LinksExactly = (layout : LayoutValue) (objects : List ObjectValue) → CanLink layout objects ↔ (link_fault_of layout objects ≡ None)
+LinksExactly =
+    (layout : LayoutValue) (objects : List ObjectValue) → CanLink layout objects ↔ (link_fault_of layout objects ≡ None)

@@ -25,7 +25,7 @@ use Rattle.linker.specs.Image.{Links}
 use Rattle.linker.specs.Refusals.{link_fault_of}
 use Rattle.linker_laws.specs.Places.{span}
 
--- objects and a layout that link, and the image that they link to
+-- a layout and objects that link, and the image that they link to
 pub record IsLinked (layout : LayoutValue) (objects : List ObjectValue) (image : Image) : Type 0 where
   pub layout_kept : IsLayout layout
   pub objects_kept : All IsObject objects
@@ -50,29 +50,39 @@ field_span layout objects x r = span (section_address layout objects x r.target 
 -- a byte of a loaded section that no relocation writes is the file's
 abbrev pub SectionBytes : Type 0
 SectionBytes = (layout : LayoutValue) (objects : List ObjectValue) (image : Image) → IsLinked layout objects image →
-    (x : NumberedObject) (k : ℕ) (s : SectionHead) → IsLoaded objects x k s → (n : ℕ) → s.bytes.start + n < s.bytes.end →
-    All (λ r. holds (field_span layout objects x r) (section_address layout objects x k + n) ≡ false) x.object.relocations →
+    (x : NumberedObject) (k : ℕ) (s : SectionHead) → IsLoaded objects x k s →
+    (n : ℕ) → s.bytes.start + n < s.bytes.end →
+    All (λ r. holds (field_span layout objects x r) (section_address layout objects x k + n) ≡ false)
+    x.object.relocations →
     slice_index image.memory (section_address layout objects x k + n) ≡ slice_index x.object.file (s.bytes.start + n)
 
--- a field that no later relocation of its object writes to holds its number; a jump's stands in the low ten bits of its word
+-- a field that no later relocation of its object writes to holds its number; a jump's stands in the low ten bits of
+-- its word
 abbrev pub FieldNumbers : Type 0
 FieldNumbers = (layout : LayoutValue) (objects : List ObjectValue) (image : Image) → IsLinked layout objects image →
-    (n j : ℕ) (x : NumberedObject) (r : Relocation) → slice_get (numbered_objects objects) n ≡ Some x → slice_get x.object.relocations j ≡ Some r →
-    ((i : ℕ) (q : Relocation) → j < i → slice_get x.object.relocations i ≡ Some q → ShareNoByte (field_span layout objects x r) (field_span layout objects x q)) →
+    (n j : ℕ) (x : NumberedObject) (r : Relocation) →
+    slice_get (numbered_objects objects) n ≡ Some x → slice_get x.object.relocations j ≡ Some r →
+    ((i : ℕ) (q : Relocation) → j < i → slice_get x.object.relocations i ≡ Some q →
+    ShareNoByte (field_span layout objects x r) (field_span layout objects x q)) →
     let start = section_address layout objects x r.target + r.offset in
-    little_number (width_of (row_of r.kind)) (drop start image.memory) % limit_by (row_of r.kind) ≡ number_by (row_of r.kind) (start % 65536) (sum_of (numbers_in (linking_of layout objects) x) r)
+    let row = row_of r.kind in
+    little_number (width_of row) (drop start image.memory) % limit_by row
+    ≡ number_by row (start % 65536) (sum_of (numbers_in (linking_of layout objects) x) r)
 
 -- each module's text begins with its stub
 abbrev pub StubBytes : Type 0
 StubBytes = (layout : LayoutValue) (objects : List ObjectValue) (image : Image) → IsLinked layout objects image →
     (i : ℕ) (m : ModuleValue) → slice_get layout.modules i ≡ Some m →
-    bytes_at image.memory m.text.start (stub_size m) ≡ flat_map word_bytes (stub_of (linking_of layout objects) (end_in layout objects) i m)
+    bytes_at image.memory m.text.start (stub_size m)
+    ≡ flat_map word_bytes (stub_of (linking_of layout objects) (end_in layout objects) i m)
 
 -- whose table has the address of each entry
 abbrev pub TableWords : Type 0
 TableWords = (layout : LayoutValue) (objects : List ObjectValue) (image : Image) → IsLinked layout objects image →
-    (i k : ℕ) (m : ModuleValue) (name : List ℕ) → slice_get layout.modules i ≡ Some m → slice_get m.entries k ≡ Some name →
-    bytes_at image.memory (m.text.start + 2 * front_words + 2 * k) 2 ≡ word_bytes (word_named (linking_of layout objects) name)
+    (i k : ℕ) (m : ModuleValue) (name : List ℕ) →
+    slice_get layout.modules i ≡ Some m → slice_get m.entries k ≡ Some name →
+    bytes_at image.memory (m.text.start + 2 * front_words + 2 * k) 2
+    ≡ word_bytes (word_named (linking_of layout objects) name)
 
 -- each vector of the layout has the low word of what its name stands for
 abbrev pub VectorWords : Type 0
@@ -82,9 +92,12 @@ VectorWords = (layout : LayoutValue) (objects : List ObjectValue) (image : Image
 
 -- an address with a byte of a loaded section, of a stub or of a vector
 pub data IsGiven (layout : LayoutValue) (objects : List ObjectValue) (a : ℕ) : Type 0 where
-  by_section : (x : NumberedObject) (k : ℕ) (s : SectionHead) → IsLoaded objects x k s → holds (span (section_address layout objects x k) (s.bytes.end - s.bytes.start)) a ≡ true → IsGiven layout objects a
-  by_stub : (i : ℕ) (m : ModuleValue) → slice_get layout.modules i ≡ Some m → holds (span m.text.start (stub_size m)) a ≡ true → IsGiven layout objects a
-  by_vector : (k : ℕ) (v : VectorValue) → slice_get layout.vectors k ≡ Some v → holds (span (FIRST_VECTOR + 2 * v.vector) 2) a ≡ true → IsGiven layout objects a
+  by_section : (x : NumberedObject) (k : ℕ) (s : SectionHead) → IsLoaded objects x k s →
+      holds (span (section_address layout objects x k) (s.bytes.end - s.bytes.start)) a ≡ true → IsGiven layout objects a
+  by_stub : (i : ℕ) (m : ModuleValue) → slice_get layout.modules i ≡ Some m →
+      holds (span m.text.start (stub_size m)) a ≡ true → IsGiven layout objects a
+  by_vector : (k : ℕ) (v : VectorValue) → slice_get layout.vectors k ≡ Some v →
+      holds (span (FIRST_VECTOR + 2 * v.vector) 2) a ≡ true → IsGiven layout objects a
 
 -- every other byte is 0
 abbrev pub ZeroElsewhere : Type 0

@@ -22,18 +22,26 @@ pub data Piece : Type 0 where
 abbrev pub span : ℕ → ℕ → Section
 span at size = record { start = at; end = at + size }
 
+-- the bytes of an item, where it stands
+abbrev pub item_span : LayoutValue → List ObjectValue → ℕ → Section
+item_span layout objects k =
+    span (address_at (starts_of layout) (items_of layout objects) k) (item_at (items_of layout objects) k).size
+
 -- a piece, the bytes that it takes, and the region of the layout that is to hold it
 pub data Lies (layout : LayoutValue) (objects : List ObjectValue) : Piece → Section → Section → Type 0 where
-  item_lies : (k : ℕ) (p : Part) (r : Section) → (item_at (items_of layout objects) k).part ≡ Some p → slice_get (regions layout.text layout.ram layout.modules) p.region ≡ Some r →
-      Lies layout objects (an_item k) (span (address_at (starts_of layout) (items_of layout objects) k) (item_at (items_of layout objects) k).size) r
-  stub_lies : (i : ℕ) (m : ModuleValue) → slice_get layout.modules i ≡ Some m → Lies layout objects (a_stub i) (span m.text.start (stub_size m)) m.text
-  stack_lies : (i : ℕ) (m : ModuleValue) → slice_get layout.modules i ≡ Some m → Lies layout objects (a_stack i) (span m.ram.start (4 + m.stack)) m.ram
+  item_lies : (k : ℕ) (p : Part) (r : Section) → (item_at (items_of layout objects) k).part ≡ Some p →
+      slice_get (regions layout.text layout.ram layout.modules) p.region ≡ Some r →
+      Lies layout objects (an_item k) (item_span layout objects k) r
+  stub_lies : (i : ℕ) (m : ModuleValue) → slice_get layout.modules i ≡ Some m →
+      Lies layout objects (a_stub i) (span m.text.start (stub_size m)) m.text
+  stack_lies : (i : ℕ) (m : ModuleValue) → slice_get layout.modules i ≡ Some m →
+      Lies layout objects (a_stack i) (span m.ram.start (4 + m.stack)) m.ram
   vectors_lie : Lies layout objects the_vectors (span FIRST_VECTOR 32) (span FIRST_VECTOR 32)
 
 -- each section or common that goes to a part lies somewhere
 abbrev pub ItemsLie : Type 0
-ItemsLie = (layout : LayoutValue) (objects : List ObjectValue) (k : ℕ) → (item_at (items_of layout objects) k).part ≢ None →
-    (s : Section) × ((r : Section) × Lies layout objects (an_item k) s r)
+ItemsLie = (layout : LayoutValue) (objects : List ObjectValue) (k : ℕ) →
+    (item_at (items_of layout objects) k).part ≢ None → (s : Section) × ((r : Section) × Lies layout objects (an_item k) s r)
 
 -- all bytes of a section are another's
 pub record IsInside (s r : Section) : Type 0 where
@@ -42,13 +50,14 @@ pub record IsInside (s r : Section) : Type 0 where
 
 -- each piece lies inside its region
 abbrev pub LiesInside : Type 0
-LiesInside = (layout : LayoutValue) (objects : List ObjectValue) → IsLayout layout → link_fault_of layout objects ≡ None →
-    (p : Piece) (s r : Section) → Lies layout objects p s r → IsInside s r
+LiesInside = (layout : LayoutValue) (objects : List ObjectValue) → IsLayout layout →
+    link_fault_of layout objects ≡ None → (p : Piece) (s r : Section) → Lies layout objects p s r → IsInside s r
 
 -- no two pieces share a byte
 abbrev pub LieApart : Type 0
-LieApart = (layout : LayoutValue) (objects : List ObjectValue) → IsLayout layout → link_fault_of layout objects ≡ None →
-    (p q : Piece) (s t a b : Section) → Lies layout objects p s a → Lies layout objects q t b → p ≢ q → ShareNoByte s t
+LieApart = (layout : LayoutValue) (objects : List ObjectValue) → IsLayout layout →
+    link_fault_of layout objects ≡ None → (p q : Piece) (s t a b : Section) →
+    Lies layout objects p s a → Lies layout objects q t b → p ≢ q → ShareNoByte s t
 
 -- an item's alignment is at least 2
 abbrev pub alignment_of : LayoutValue → List ObjectValue → Piece → ℕ

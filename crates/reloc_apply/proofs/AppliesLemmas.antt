@@ -1,5 +1,5 @@
 -- A relocation is taken exactly where it applies.
-use Rattle.std.proofs.Common.{◌≡◌, ◌≤◌, ◌<◌, ◌≤ℤ◌, ◌↔◌, ℕ, ◌+◌, ℤ, int_le, List, length, Option, Some, None, Result, Ok, Err, Bool, true, false, not, ◌&&◌, ◌==◌, T, IsOk, refl, sym, ◌∙◌, ap, subst, arith}
+use Rattle.std.proofs.Common.{◌≡◌, ◌≤ℤ◌, ◌↔◌, ℕ, ◌+◌, ℤ, int_le, List, length, Option, Some, None, Result, Ok, Err, Bool, true, false, not, ◌&&◌, ◌==◌, T, IsOk, refl, sym, ◌∙◌, ap, subst, arith}
 use Rattle.std.specs.Prelude.{if◌then◌else◌, nat_lt}
 use Rattle.std.proofs.lemmas.Bool.{and_parts}
 use Rattle.std.proofs.lemmas.Bool.Decides.{nat_tests}
@@ -35,7 +35,9 @@ none_odd : (j o : Bool) → (j ≡ true → o ≡ false) → (j && o) ≡ false
 none_odd true o h = h refl
 none_odd false o h = refl
 
-takes_by : (r : Row) (d : ℤ) (offset : ℕ) (bytes new : List ℕ) (a b c : Bool) → nat_lt (length bytes) (offset + size_of r.field) ≡ a → (is_jump r.field && is_odd d) ≡ b → is_in_bounds r (value_of (is_jump r.field) d) ≡ c →
+takes_by : (r : Row) (d : ℤ) (offset : ℕ) (bytes new : List ℕ) (a b c : Bool) →
+    nat_lt (length bytes) (offset + size_of r.field) ≡ a → (is_jump r.field && is_odd d) ≡ b →
+    is_in_bounds r (value_of (is_jump r.field) d) ≡ c →
     IsOk {T = List ℕ} {E = RelocFault} (if a then Err fault.Outside else if b then Err (fault.Odd d) else if not c then Err (fault.Range (value_of (is_jump r.field) d)) else Ok new) → Takes r d offset (length bytes)
 takes_by r d offset bytes new true b c p q s ok = cc
 takes_by r d offset bytes new false true c p q s ok = cc
@@ -44,7 +46,8 @@ takes_by r d offset bytes new false false true p q s ok =
     let bounds = and_parts _ _ s in
     record { within = grind (arith, nat_tests); even = odd_not (is_jump r.field) (is_odd d) q; low = at_most r.low _ bounds.0; high = at_most _ r.high bounds.1 }
 
-ok_takes : (r : Row) (d : ℤ) (offset : ℕ) (bytes : List ℕ) → IsOk (relocated_by r d offset bytes) → Takes r d offset (length bytes)
+ok_takes : (r : Row) (d : ℤ) (offset : ℕ) (bytes : List ℕ) → IsOk (relocated_by r d offset bytes) →
+    Takes r d offset (length bytes)
 unfolding relocated_by written
 ok_takes r d offset bytes ok = takes_by r d offset bytes (with_number bytes offset (size_of r.field) (number_of r d bytes offset)) _ _ _ refl refl refl ok
 
@@ -52,7 +55,8 @@ both : (a b : Bool) → a ≡ true → b ≡ true → (a && b) ≡ true
 both a b p q = rw (p, q) refl
 
 -- what a field that is taken becomes
-pub takes_ok : (r : Row) (d : ℤ) (offset : ℕ) (bytes : List ℕ) → Takes r d offset (length bytes) → relocated_by r d offset bytes ≡ Ok (with_number bytes offset (size_of r.field) (number_of r d bytes offset))
+pub takes_ok : (r : Row) (d : ℤ) (offset : ℕ) (bytes : List ℕ) → Takes r d offset (length bytes) →
+    relocated_by r d offset bytes ≡ Ok (with_number bytes offset (size_of r.field) (number_of r d bytes offset))
 unfolding relocated_by written
 takes_ok r d offset bytes t =
     let within = t.within in
@@ -61,15 +65,19 @@ takes_ok r d offset bytes t =
     let s : is_in_bounds r (value_of (is_jump r.field) d) ≡ true = both _ _ (tested r.low _ t.low) (tested _ r.high t.high) in
     rw (p, q, s) refl
 
-applies_at : (o : Option Row) (kind place : ℕ) (sum : ℤ) (offset : ℕ) (bytes : List ℕ) → row_of kind ≡ o → IsOk (relocated_at o kind place sum offset bytes) → Applies kind place sum offset (length bytes)
+applies_at : (o : Option Row) (kind place : ℕ) (sum : ℤ) (offset : ℕ) (bytes : List ℕ) → row_of kind ≡ o →
+    IsOk (relocated_at o kind place sum offset bytes) → Applies kind place sum offset (length bytes)
 applies_at None kind place sum offset bytes e ok = cc
 applies_at (Some r) kind place sum offset bytes e ok = a_field r e (ok_takes r (difference_of r.relative place sum) offset bytes ok)
 
-applies_by : (b : Bool) (kind place : ℕ) (sum : ℤ) (offset : ℕ) (bytes : List ℕ) → (kind == 0) ≡ b → IsOk (if b then Ok bytes else relocated_at (row_of kind) kind place sum offset bytes) → Applies kind place sum offset (length bytes)
+applies_by : (b : Bool) (kind place : ℕ) (sum : ℤ) (offset : ℕ) (bytes : List ℕ) → (kind == 0) ≡ b →
+    IsOk (if b then Ok bytes else relocated_at (row_of kind) kind place sum offset bytes) →
+    Applies kind place sum offset (length bytes)
 applies_by true kind place sum offset bytes e ok = no_field (grind (arith, nat_tests))
 applies_by false kind place sum offset bytes e ok = applies_at (row_of kind) kind place sum offset bytes refl ok
 
-pub ok_applies : (kind place : ℕ) (sum : ℤ) (offset : ℕ) (bytes : List ℕ) → IsOk (relocated kind place sum offset bytes) → Applies kind place sum offset (length bytes)
+pub ok_applies : (kind place : ℕ) (sum : ℤ) (offset : ℕ) (bytes : List ℕ) →
+    IsOk (relocated kind place sum offset bytes) → Applies kind place sum offset (length bytes)
 unfolding relocated
 ok_applies kind place sum offset bytes ok = applies_by (kind == 0) kind place sum offset bytes refl ok
 
@@ -86,18 +94,22 @@ not_0 kind r e = by (kind == 0) refl
     by true q = let z : kind ≡ 0 = grind (arith, nat_tests) in let n : None ≡ Some r = sym none_at_0 ∙ (ap row_of (sym z) ∙ e) in cc
 
 -- the bytes with a field that is taken
-pub relocated_is : (kind place : ℕ) (sum : ℤ) (offset : ℕ) (bytes : List ℕ) (r : Row) → row_of kind ≡ Some r → Takes r (difference_of r.relative place sum) offset (length bytes) →
+pub relocated_is : (kind place : ℕ) (sum : ℤ) (offset : ℕ) (bytes : List ℕ) (r : Row) → row_of kind ≡ Some r →
+    Takes r (difference_of r.relative place sum) offset (length bytes) →
     relocated kind place sum offset bytes ≡ Ok (with_number bytes offset (size_of r.field) (number_of r (difference_of r.relative place sum) bytes offset))
 unfolding relocated
 relocated_is kind place sum offset bytes r e t = rw (not_0 kind r e, e) (takes_ok r (difference_of r.relative place sum) offset bytes t)
 
-pub relocated_0 : (kind place : ℕ) (sum : ℤ) (offset : ℕ) (bytes : List ℕ) → kind ≡ 0 → relocated kind place sum offset bytes ≡ Ok bytes
+pub relocated_0 : (kind place : ℕ) (sum : ℤ) (offset : ℕ) (bytes : List ℕ) → kind ≡ 0 →
+    relocated kind place sum offset bytes ≡ Ok bytes
 unfolding relocated
 relocated_0 kind place sum offset bytes e = let t : (kind == 0) ≡ true = grind (arith, nat_tests) in rw t refl
 
-pub applies_ok : (kind place : ℕ) (sum : ℤ) (offset : ℕ) (bytes : List ℕ) → Applies kind place sum offset (length bytes) → IsOk (relocated kind place sum offset bytes)
+pub applies_ok : (kind place : ℕ) (sum : ℤ) (offset : ℕ) (bytes : List ℕ) →
+    Applies kind place sum offset (length bytes) → IsOk (relocated kind place sum offset bytes)
 applies_ok kind place sum offset bytes (no_field e) = subst (λ (r : Result (List ℕ) RelocFault). IsOk r) (sym (relocated_0 kind place sum offset bytes e)) refl
 applies_ok kind place sum offset bytes (a_field r e t) = subst (λ (x : Result (List ℕ) RelocFault). IsOk x) (sym (relocated_is kind place sum offset bytes r e t)) refl
 
-pub taken_exactly : (kind place : ℕ) (sum : ℤ) (offset : ℕ) (bytes : List ℕ) → Applies kind place sum offset (length bytes) ↔ IsOk (relocated kind place sum offset bytes)
+pub taken_exactly : (kind place : ℕ) (sum : ℤ) (offset : ℕ) (bytes : List ℕ) →
+    Applies kind place sum offset (length bytes) ↔ IsOk (relocated kind place sum offset bytes)
 taken_exactly kind place sum offset bytes = (applies_ok kind place sum offset bytes, ok_applies kind place sum offset bytes)

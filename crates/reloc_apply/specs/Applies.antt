@@ -14,11 +14,13 @@ pub record Takes (r : Row) (difference : ℤ) (offset size : ℕ) : Type 0 where
 -- the kind is 0, which writes nothing, or has a field that takes the number
 pub data Applies (kind place : ℕ) (sum : ℤ) (offset size : ℕ) : Type 0 where
   no_field : kind ≡ 0 → Applies kind place sum offset size
-  a_field : (r : Row) → row_of kind ≡ Some r → Takes r (difference_of r.relative place sum) offset size → Applies kind place sum offset size
+  a_field : (r : Row) → row_of kind ≡ Some r → Takes r (difference_of r.relative place sum) offset size →
+      Applies kind place sum offset size
 
 -- a relocation is taken exactly where it applies
 abbrev pub TakenExactly : Type 0
-TakenExactly = (kind place : ℕ) (sum : ℤ) (offset : ℕ) (bytes : List ℕ) → Applies kind place sum offset (length bytes) ↔ IsOk (relocated kind place sum offset bytes)
+TakenExactly = (kind place : ℕ) (sum : ℤ) (offset : ℕ) (bytes : List ℕ) →
+    Applies kind place sum offset (length bytes) ↔ IsOk (relocated kind place sum offset bytes)
 
 -- what a field's numbers are below; with no field there is only 0
 abbrev pub limit_by : Option Row → ℕ
@@ -38,4 +40,5 @@ pub record Sets (row : Option Row) (place : ℕ) (sum : ℤ) (offset : ℕ) (old
 
 -- a relocation that is taken sets its field and nothing else
 abbrev pub SetsField : Type 0
-SetsField = (kind place : ℕ) (sum : ℤ) (offset : ℕ) (old new : List ℕ) → relocated kind place sum offset old ≡ Ok new → Sets (row_of kind) place sum offset old new
+SetsField = (kind place : ℕ) (sum : ℤ) (offset : ℕ) (old new : List ℕ) →
+    relocated kind place sum offset old ≡ Ok new → Sets (row_of kind) place sum offset old new

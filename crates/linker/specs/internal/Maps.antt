@@ -1,5 +1,5 @@
 -- The code's maps of names, and what they hold.
-use Rattle.std.specs.Prelude.{ℕ, ◌≡◌, ◌-◌, List, [], ◌∷◌, length, drop, nat_lt, if◌then◌else◌, Option, Some, ◌++◌, map, bytes_eq, ◌+◌, slice_index}
+use Rattle.std.specs.Prelude.{ℕ, ◌≡◌, ◌-◌, List, [], ◌∷◌, length, drop, nat_lt, if◌then◌else◌, Option, Some, ◌++◌, map, bytes_eq, slice_index}
 use Rattle.std.specs.Borrow.{Bor}
 use Rattle.std.specs.BTreeMap.{BTreeMap, get_by}
 use Rattle.std.specs.Cmp.Lexicographic.{slice_cmp}

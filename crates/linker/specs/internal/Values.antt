@@ -1,7 +1,7 @@
 -- Values of the code's own records.
 use Rattle.std.specs.Prelude.{ℕ, max}
 use Rattle.linker.specs.declared.item.Item.{Item}
-use Rattle.linker.specs.Passes.{NumberedObject, part}
+use Rattle.linker.specs.Passes.{NumberedObject}
 use Rattle.linker.specs.Symbols.{NamedValue}
 use Rattle.elf_objects.specs.Object.{ObjectValue}
 use Rattle.linker.specs.declared.symbol.Named.{Named}
