@@ -106,7 +106,7 @@ pub struct Refused<'a> {
     pub name: Name<'a>,
 }
 
-/// Want of memory, which needs no name.
+/// Out of memory, which needs no name.
 pub const NO_MEMORY: Refused<'static> = Refused {
     refusal: Refusal::NoMemory,
     name: Name::Word(""),

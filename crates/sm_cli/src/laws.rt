@@ -1,4 +1,4 @@
-//! The laws of a command's files and of workloads, the contracts of functions that do nothing.
+//! The laws of a command's files and of workloads, each the contract of a function with an empty body.
 ghost use Rattle.sm_cli.specs.Laws.{IsDecided, IsAnswered, RunsAreAlike};
 
 /// Whatever the files are that are told, a command is answered, or one of its files is refused.
@@ -11,7 +11,7 @@ pub fn every_command()
 pub fn runs_are_alike()
     ensures alike { RunsAreAlike }
 {
-    // These do nothing: their clauses are the laws of two runs, and that the runs' images are peers.
+    // Lemma calls, no effect at run time: the laws of two runs, and that the runs' images are peers.
     isolation::two_runs();
     isolation::texts();
     workload_peers::workloads_are_peers();

@@ -41,7 +41,7 @@ pub fn serve<F: Files, O: Sink, E: Sink>(
     err: &mut E,
 ) -> Status
     // The headline: whatever image, schedule and bound are given, `out` takes exactly the outside trace of the written
-    // machine, and `err` nothing, but for faults outside and want of memory; and for every image that differs in one
+    // machine, and `err` nothing, unless the system fails or memory runs out; and for every image that differs in one
     // confined module's data alone, whose calls give the same registers in the same cycles, it is the same trace, with
     // equal views of all but that module at every cycle.
     ensures headline { (value : ImageValue) (entries : List EntryValue) (cycles : ℕ) →
@@ -102,7 +102,7 @@ pub fn serve<F: Files, O: Sink, E: Sink>(
         let call = call_of (texts words.now) (F.content files.old) (F.faults files.old) (F.faults files.new) in
         Refuses call Status.NoMemory (Took E.taken E.faults E.sure err.old err.new) × (out.new ≡ out.old) }
 
-    // A fault of a sink: `out` took a front of the output, or `err` one of the line of a refusal that has its cause.
+    // A sink failed: `out` took a prefix of the output, or `err` one of the line of a refusal that has its cause.
     ensures write_fault { result ≡ Status.WriteFault →
         let call = call_of (texts words.now) (F.content files.old) (F.faults files.old) (F.faults files.new) in
         ((ended : Statuses) × Serves call ended (CutOff O.taken O.faults O.sure out.old out.new)
@@ -110,7 +110,7 @@ pub fn serve<F: Files, O: Sink, E: Sink>(
         ⊎ ((ended : Statuses) × Refuses call ended (CutOff E.taken E.faults E.sure err.old err.new)
         × (out.new ≡ out.old)) }
 
-    // Completeness: what the words and the files call for is answered, but for faults outside and want of memory.
+    // Completeness: what the words and the files call for is answered, unless the system fails or memory runs out.
     ensures complete_usage { command_of (texts words.now) ≡ None → IsOrOutside Status.Usage result }
     ensures complete_bad_file { (map : FileMap) (command : Command) (name : List ℕ) (fault : FileFaults) →
         F.content files.old ≡ Some map → command_of (texts words.now) ≡ Some command →
@@ -138,7 +138,7 @@ pub fn serve<F: Files, O: Sink, E: Sink>(
     ensures same_files { F.content files.new ≡ F.content files.old }
     ensures unread { result ≡ Status.Usage → files.new ≡ files.old }
 {
-    // These do nothing: their clauses are the laws of two runs and of peers, for the headline and for checks.
+    // Lemma calls, no effect at run time: the laws of two runs and of peers, for the headline and for checks.
     isolation::two_runs();
     isolation::texts();
     peer_rows::accepted_are_peers();

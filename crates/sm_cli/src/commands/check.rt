@@ -78,7 +78,7 @@ fn verdict_of(alloc: Global, chosen: &Chosen) -> Result<Verdict, AllocError>
     ensures { IfOk result (λ v. VerdictWith chosen.now.«module»
         (section chosen.now.«module».text chosen.now.image.memory) [] v) }
 {
-    // It does nothing: by its clause no certificates change nothing.
+    // Lemma call, no effect at run time: an empty list of certificates changes no verdict.
     flow_rule::without_arms();
     flow_check::check(alloc, &chosen.module, text_of(chosen))
 }
