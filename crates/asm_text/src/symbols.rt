@@ -9,6 +9,7 @@ ghost use Rattle.asm_text.specs.Placing.{spot_of};
 ghost use Rattle.asm_text.specs.declared.placing.Spot.{Spot};
 ghost use Rattle.asm_text.specs.internal.Numbering.{IsNumbering, AreBelow};
 ghost use Rattle.asm_text.specs.Symbols as spec;
+ghost use Rattle.asm_text.specs.internal.Symbols as inner;
 ghost use Rattle.asm_text.specs.Views.{symbol_of, symbols_of};
 
 use crate::operand::string_of;
@@ -82,7 +83,7 @@ impl Order {
         requires numbering { IsNumbering self.old.numbers.items self.old.names.items }
         ensures few { OnOk result (length self.new.names.items ≤ length self.old.names.items + length labels.now) }
         ensures noted { OnOk result (self.new.names.items ≡ fold spec.once self.old.names.items
-            (filter (spec.is_local globals.now) labels.now)) }
+            (filter (inner.is_local globals.now) labels.now)) }
         ensures length { length self.new.numbers.items ≡ length self.old.numbers.items }
         ensures numbering { OnOk result (IsNumbering self.new.numbers.items self.new.names.items) }
     {
@@ -122,7 +123,7 @@ pub fn order_of(
     requires few_names { names ≤ 1048576 }
     requires few_labels { length labels.now ≤ 4096 }
     ensures order { IfOk result (λ order. order.names.items
-        ≡ fold spec.once (fold spec.once [] (filter (spec.is_local globals.now) labels.now)) (spec.below names)) }
+        ≡ fold spec.once (fold spec.once [] (filter (inner.is_local globals.now) labels.now)) (spec.below names)) }
     ensures length { IfOk result (λ order. length order.numbers.items ≡ names) }
     ensures numbering { IfOk result (λ order. IsNumbering order.numbers.items order.names.items) }
 {

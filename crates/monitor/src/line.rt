@@ -3,6 +3,7 @@
 ghost use Rattle.std.specs.Prelude.{◌≡◌, ◌≤◌, ◌<◌, ◌^◌, IfOk};
 ghost use Rattle.monitor.specs.Bounds.{IsBounded};
 ghost use Rattle.monitor.specs.Line as spec;
+ghost use Rattle.monitor.specs.internal.Line as inner;
 
 use crate::{MAX_BYTES, MAX_CYCLES, MAX_MARK, MEMORY_END, ScriptLine};
 use mod_layout::DEVICES_END;
@@ -134,7 +135,7 @@ fn last_line(text: &[u8]) -> Result<ScriptLine, LineFault>
 // An address, a space and a number that is at most `most`.
 #[tactic(auto, unfolding(crate::specs::Line::operands_of))]
 fn read_operands(text: &[u8], most: u64) -> Result<Operands, LineFault>
-    ensures both { result ≡ spec.up_to_operands most (spec.operands_of text.now) }
+    ensures both { result ≡ inner.up_to_operands most (spec.operands_of text.now) }
     ensures most { IfOk result (λ both. both.number ≤ most) }
 {
     if text.len() < 5 || text[4] != b' ' {
@@ -152,7 +153,7 @@ fn read_operands(text: &[u8], most: u64) -> Result<Operands, LineFault>
 // A number that is at most `most`.
 #[tactic(auto, unfolding(texts::specs::Decimals::read_decimal))]
 fn read_number(text: &[u8], most: u64) -> Result<u64, LineFault>
-    ensures number { result ≡ spec.up_to most (spec.number_of text.now) }
+    ensures number { result ≡ inner.up_to most (spec.number_of text.now) }
     ensures most { IfOk result (λ n. n ≤ most) }
 {
     if !is_decimal(text) {

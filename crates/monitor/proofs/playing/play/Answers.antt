@@ -49,7 +49,7 @@ pub returns-in-Ok-finish-clause-played : goal.returns-in-Ok-finish-clause-played
 returns-in-Ok-finish-clause-played g c =
     playing_ended g.S.Sink.taken g.S.Sink.faults g.S.Sink.sure c.args.script.now.lines.items c.args.board.now c.loop-line.board c.args.sink.now c.loop-line.sink c.finish.new.sink c.loop-line.line-index c.ended.result c.loop-line.invariant.playing
     (let past : length c.args.script.now.lines.items ≤ c.loop-line.line-index = omega (arith, c.loop-line-test.false, ap length c.as_slice-line-items.ensures.value) in drop_of_length-le c.args.script.now.lines.items {i = c.loop-line.line-index} past)
-    c.in-Ok-finish.ensures.line c.ended.ensures
+    c.in-Ok-finish.ensures.line c.ended.ensures.ended
 
 pub returns-in-Ok-finish-clause-peers : goal.returns-in-Ok-finish-clause-peers
 returns-in-Ok-finish-clause-peers g c =

@@ -21,7 +21,7 @@ returns-then-stands_at-clause-ran g c =
     let there : stands_at c.args.addr (after_cycles s n) ≡ true = sym (ap (stands_at c.args.addr) {y = after_cycles s n} i.state) ∙ sym c.stands_at.ensures.stands ∙ c.if-stands_at.true in
     let all = until_there c.args.addr n c.args.most s (omega arith) i.apart there in
     let whole = subst (λ k. RanWhole g.S.Sink.taken g.S.Sink.faults g.S.Sink.sure k s c.loop-left.self.present c.args.sink.now c.loop-left.sink) (sym all) record { state = i.state; lines = i.lines } in
-    ended_runs g.S.Sink.taken g.S.Sink.faults g.S.Sink.sure (cycles_until c.args.addr s c.args.most) s c.loop-left.self.present c.args.sink.now c.loop-left.sink _ whole c.ended.ensures
+    ended_runs g.S.Sink.taken g.S.Sink.faults g.S.Sink.sure (cycles_until c.args.addr s c.args.most) s c.loop-left.self.present c.args.sink.now c.loop-left.sink _ whole c.ended.ensures.ended
 
 -- it stopped elsewhere
 pub returns-then-is_stopped-clause-ran : goal.returns-then-is_stopped-clause-ran
@@ -35,7 +35,7 @@ returns-then-is_stopped-clause-ran g c =
     let early = stopped_early n c.args.most s c.loop-left.self.present (omega arith) i.state stopped in
     let whole : RanWhole g.S.Sink.taken g.S.Sink.faults g.S.Sink.sure c.args.most s c.loop-left.self.present c.args.sink.now c.loop-left.sink = record { state = early.0; lines = took_same g.S.Sink.taken g.S.Sink.faults g.S.Sink.sure _ _ _ _ early.1 i.lines } in
     let met = subst (λ k. RanWhole g.S.Sink.taken g.S.Sink.faults g.S.Sink.sure k s c.loop-left.self.present c.args.sink.now c.loop-left.sink) (sym all) whole in
-    ended_runs g.S.Sink.taken g.S.Sink.faults g.S.Sink.sure (cycles_until c.args.addr s c.args.most) s c.loop-left.self.present c.args.sink.now c.loop-left.sink _ met c.ended-then-is_stopped.ensures
+    ended_runs g.S.Sink.taken g.S.Sink.faults g.S.Sink.sure (cycles_until c.args.addr s c.args.most) s c.loop-left.self.present c.args.sink.now c.loop-left.sink _ met c.ended-then-is_stopped.ensures.ended
 
 -- a line was refused
 pub returns-in-Err-clause-ran : goal.returns-in-Err-clause-ran
@@ -60,7 +60,7 @@ returns-clause-ran g c =
     let apart = subst (λ n. Apart c.args.addr n s) all i.apart in
     let met = until_never c.args.addr c.args.most s apart in
     let whole = subst (λ n. RanWhole g.S.Sink.taken g.S.Sink.faults g.S.Sink.sure n s c.loop-left.self.present c.args.sink.now c.loop-left.sink) (all ∙ sym met) record { state = i.state; lines = i.lines } in
-    ended_runs g.S.Sink.taken g.S.Sink.faults g.S.Sink.sure (cycles_until c.args.addr s c.args.most) s c.loop-left.self.present c.args.sink.now c.loop-left.sink _ whole c.ended-2.ensures
+    ended_runs g.S.Sink.taken g.S.Sink.faults g.S.Sink.sure (cycles_until c.args.addr s c.args.most) s c.loop-left.self.present c.args.sink.now c.loop-left.sink _ whole c.ended-2.ensures.ended
 
 pub returns-clause-peers : goal.returns-clause-peers
 returns-clause-peers g c =
