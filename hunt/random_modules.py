@@ -173,9 +173,9 @@ def main():
     pairs, runs, calls, hides, arms = sums
     apart = ", each in a run of its own" if words.fresh else ""
     lines = [
-        f"{drawn} images of two modules drawn (seed {words.seed}), {pairs} accepted, {arms} branches on secrets in them",
+        f"{drawn} images of two modules drawn (seed {words.seed}), {pairs} accepted, {arms} branches on secrets",
         f"{runs} runs with two data each, {calls} calls interrupted{apart}, {hides} hides, {len(differ)} differ",
-        f"{time.monotonic() - begun:.0f} s with {words.j} processes on {platform.machine()}, load {os.getloadavg()[0]:.1f}",
+        f"{time.monotonic() - begun:.0f} s, {words.j} processes on {platform.machine()}, load {os.getloadavg()[0]:.1f}",
     ]
     for number, images, schedule, traces in differ[:3]:
         lines += [f"image {number}:", *images, schedule, *traces]
