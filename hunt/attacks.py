@@ -1,4 +1,5 @@
-"""The attacking outside: it calls once, with the registers that the image's own outside had there, and interrupts at chosen cycles.
+"""The attacking outside: it calls once, with the registers that the image's own outside had there, and interrupts at
+chosen cycles.
 
 A plan is one run: (kind, handler, first cycle, second cycle or None). The kinds are `line` and `timer`.
 """
@@ -78,7 +79,8 @@ class Attack:
             ends = [(TIMER, [0x4382, 0x0160])]
         else:
             # The timer runs on to a new limit, and its vector leads to another handler.
-            ends = [(TIMER, [0x40B2, second - first, 0x0164, 0x4382, 0x0162, 0x40B2, None, FIRST_VECTOR + 2 * TIMER]), (None, [0x4382, 0x0160])]
+            again = [0x40B2, second - first, 0x0164, 0x4382, 0x0162, 0x40B2, None, FIRST_VECTOR + 2 * TIMER]
+            ends = [(TIMER, again), (None, [0x4382, 0x0160])]
         for vector, end in ends:
             words = [self.handler + 2 * (len(end) + len(body)) if word is None else word for word in end] + body
             parts.append((at, words))
@@ -108,7 +110,8 @@ class Attack:
 
 
 def singles(first, last):
-    return [(kind, handler, cycle, None) for kind in ("line", "timer") for handler in SINGLE for cycle in range(first, last + 1)]
+    cycles = range(first, last + 1)
+    return [(kind, handler, cycle, None) for kind in ("line", "timer") for handler in SINGLE for cycle in cycles]
 
 
 def pairs(first, last):

@@ -16,7 +16,8 @@ def jump(condition, words):
 class Drawn:
     """A module's text, the certificates of its branches, and how it goes on being drawn.
 
-    Its data are 16 words and a stack. R12 is an argument that stays public up to the end; R4 points into the data, R5 counts the turns of a loop.
+    Its data are 16 words and a stack. R12 is an argument that stays public up to the end; R4 points into the data,
+    R5 counts the turns of a loop.
     """
 
     def __init__(self, rng, text, data, back):
@@ -66,12 +67,14 @@ class Drawn:
     def straight(self):
         self.words += self.some(1, 6)[0]
         if self.rng.randrange(2):
-            self.words += [0x4030 | POINTER, self.word(), two(self.rng.randrange(4, 16), POINTER, self.rng.choice([2, 3]), self.register())]
+            read = two(self.rng.randrange(4, 16), POINTER, self.rng.choice([2, 3]), self.register())
+            self.words += [0x4030 | POINTER, self.word(), read]
 
     def loop(self):
         """A number of turns that is known."""
         body = self.some(1, 4)[0]
-        self.words += [0x4030 | COUNTER, self.rng.randint(1, 5), *body, two(8, 3, 1, COUNTER), jump(JNE, -len(body) - 2)]
+        back = [two(8, 3, 1, COUNTER), jump(JNE, -len(body) - 2)]
+        self.words += [0x4030 | COUNTER, self.rng.randint(1, 5), *body, *back]
 
     def choice(self):
         """A conditional jump on the argument, over instructions of any time."""

@@ -1,11 +1,13 @@
 #!/usr/bin/env python3
-"""Hunts for a difference between the traces of images that differ in a secret alone, under interrupts in every cycle of one call.
+"""Hunts for a difference between traces of images that differ in a secret alone, interrupted in every cycle of a call.
 
     hunt/hunt.py PROGRAM IMAGE IMAGE.. --module ID [--arms FILE]
     hunt/hunt.py PROGRAM IMAGE IMAGE.. --code START BACK
 
-Each image is run by its own outside until that is about to begin the module's entry (or the instruction at START). From there on the attacking
-outside of attacks.py makes the call once a run: with an interrupt in each cycle, alone and in pairs, by line and by timer, with handlers of
+Each image is run by its own outside until that is about to begin the module's entry (or the instruction at START).
+From there on the attacking
+outside of attacks.py makes the call once a run: with an interrupt in each cycle, alone and in pairs, by line and by
+timer, with handlers of
 several lengths. All traces are compared with the first image's. Status 1 says that some differ. Needs Python 3 alone.
 """
 import argparse
@@ -15,12 +17,13 @@ import sys
 import tempfile
 import time
 
-from attacks import CALL_BEGINS, PAIRS, SINGLE, Attack, length_of, pairs, singles
+from attacks import CALL_BEGINS, SINGLE, Attack, length_of, pairs, singles
 from machine import Image, Machine, Stood
 from picture import picture_of
 from places import Places
 
 BEFORE, BEHIND, LIMIT = 2, 8, 100000
+ALONE = ("line", SINGLE[0], None, None)
 RESULTS = os.path.join(os.path.dirname(os.path.abspath(__file__)), "results")
 state = {}
 
@@ -31,8 +34,9 @@ def options():
     said.add_argument("images", nargs="+", help="two or more, which differ in a secret alone")
     said.add_argument("--module", type=int, help="the module that is called")
     said.add_argument("--arms", help="certificates for its branches: `balance` is asked in place of `check`")
-    said.add_argument("--code", nargs=2, metavar=("START", "BACK"), help="code outside modules that is called, and where it goes back to")
+    said.add_argument("--code", nargs=2, metavar=("START", "BACK"), help="plain code, and where it goes back to")
     said.add_argument("--single", action="store_true", help="single interrupts alone")
+    said.add_argument("--cycles", type=int, default=500, help="at most so many cycles of the call are interrupted")
     said.add_argument("-j", type=int, default=max(1, (os.cpu_count() or 2) - 1), help="processes side by side")
     said.add_argument("--name", help="write hunt/results/NAME.txt and NAME.svg as well")
     words = said.parse_args()
@@ -68,7 +72,8 @@ class Progress:
             return
         self.shown = now
         end = "\r" if sys.stderr.isatty() and done < self.total else "\n"
-        print(f"hunt: {done} of {self.total} plans, {differ} differ, {now - self.begun:.0f} s", end=end, file=sys.stderr, flush=True)
+        said = f"hunt: {done} of {self.total} plans, {differ} differ, {now - self.begun:.0f} s"
+        print(said, end=end, file=sys.stderr, flush=True)
 
 
 def hunted(words, folder, attack, plans, cycles):
@@ -88,7 +93,8 @@ def shown(plan):
     if first is None:
         return "no interrupt"
     what = "line 0 up" if kind == "line" else "timer"
-    then = "" if second is None else f", and {'line 1 up' if kind == 'line' else 'again, its limit'} {second if kind == 'line' else second - first}"
+    more = f"line 1 up {second}" if kind == "line" else f"again, its limit {(second or 0) - first}"
+    then = "" if second is None else f", and {more}"
     return f"{what} in cycle {first}{then}, handler: {handler}"
 
 
@@ -97,7 +103,7 @@ def first_difference(names, traces):
     other = next(n for n, trace in enumerate(traces) if trace != traces[0])
     rows = [traces[n].split("\n") for n in (0, other)]
     at = next(n for n in range(max(map(len, rows))) if [row[n : n + 1] for row in rows] != [rows[0][n : n + 1]] * 2)
-    return other, [f"    {names[n]}: {row[at] if at < len(row) else 'no more line'}" for n, row in zip((0, other), rows)]
+    return other, [f"    {names[n]}: {(row + ['no more line'])[min(at, len(row))]}" for n, row in zip((0, other), rows)]
 
 
 def told_of(names, places, plan, traces):
@@ -115,7 +121,8 @@ def parting(names, places):
         ways = list(zip(places[0].begun, places[other].begun))
         at = next((cycle for cycle, (one, two) in enumerate(ways) if one != two), None)
         if at is not None:
-            return [f"by themselves {names[0]} and {names[other]} go on differently from cycle {at} on, after {places[0].at(at - 1)}"]
+            pair = f"{names[0]} and {names[other]}"
+            return [f"by themselves {pair} go on differently from cycle {at} on, after {places[0].at(at - 1)}"]
     return ["by themselves all do the same instructions in the same cycles"]
 
 
@@ -139,22 +146,20 @@ def report(names, places, plans, found):
 def verdict_of(words, machine):
     if words.module is None:
         return "no module: nothing is claimed of it"
-    asked = ["balance", words.images[0], str(words.module), words.arms] if words.arms else ["check", words.images[0], str(words.module)]
-    return f"{asked[0]}: {machine.run(*asked).split(chr(10))[0]}"
+    asked = [words.images[0], str(words.module), *([words.arms] if words.arms else [])]
+    command = "balance" if words.arms else "check"
+    return f"{command}: {machine.run(command, *asked).splitlines()[0]}"
 
 
-def window_of(words, machine, attack):
-    """The cycles in which an interrupt may meet the call, from the runs without one, and how these end."""
-    plan = ("line", SINGLE[0], None, None)
-    state["cycles"] = LIMIT
-    traces = traces_of(plan)
-    if words.module is not None:
-        left = [int(line.split(" ")[0]) for trace in traces for line in trace.split("\n") if f" leave {words.module} " in line or line.endswith(f" close {words.module}")]
-        ends = left or [int(trace.split("\n")[-2].split(" ")[1]) for trace in traces]
-    else:
+def ends_of(words, machine, attack, traces):
+    """In which cycle the call is over, for each image by itself."""
+    if words.code:
         script = f"until {words.code[1]} {LIMIT}\nregs\n"
-        ends = [int(machine.play(image.text(), script).split("regs ")[1].split(" ")[0]) for image in attack.images(plan)]
-    return CALL_BEGINS - BEFORE, min(max(ends), LIMIT) + BEHIND, traces
+        shown_there = [machine.play(image.text(), script) for image in attack.images(ALONE)]
+        return [int(text.split("regs ")[1].split(" ")[0]) for text in shown_there]
+    over = (f"leave {words.module} ", f"close {words.module}\n", "end ")
+    rows = [[line for line in trace.splitlines(True) if any(one in line for one in over)] for trace in traces]
+    return [min(int(line.split(" ")[line.startswith("end ")]) for line in lines) for lines in rows]
 
 
 def main():
@@ -166,23 +171,28 @@ def main():
         entry = int(words.code[0], 16) if words.code else images[0].entry(words.module)
         attack = Attack([Stood(machine, image, entry, LIMIT) for image in images], entry)
         state.update(machine=machine, attack=attack)
-        first, last, alone = window_of(words, machine, attack)
+        state["cycles"] = LIMIT
+        alone = traces_of(ALONE)
+        first, over = CALL_BEGINS - BEFORE, max(ends_of(words, machine, attack, alone)) + BEHIND
+        last = min(over, first + words.cycles)
         plans = singles(first, last) + ([] if words.single else pairs(first, last))
         begun = time.monotonic()
-        found, sooner = hunted(words, folder, attack, plans, last)
+        found, sooner = hunted(words, folder, attack, plans, over)
         seconds = time.monotonic() - begun
-        places = [Places(machine, image, last) for image in attack.images(("line", SINGLE[0], None, None))]
+        places = [Places(machine, image, last) for image in attack.images(ALONE)]
         lines = [f"{', '.join(names)}: called at {entry:04x}; {verdict_of(words, machine)}"]
         lines += [f"the call begins in cycle {CALL_BEGINS}; interrupts in each cycle from {first} to {last}"]
         if any(trace != alone[0] for trace in alone):
-            lines += ["without an interrupt the traces differ:", *told_of(names, places, ("line", "", None, None), alone)[1:]]
+            lines += ["without an interrupt the traces differ:", *told_of(names, places, ALONE, alone)[1:]]
         lines += [*parting(names, places), *report(names, places, plans, found)]
-        lines += [f"{len(plans) * len(images)} runs, {len(plans)} plans, {len(found)} differ, {seconds:.1f} s with {words.j} processes"]
+        counts = f"{len(plans) * len(images)} runs, {len(plans)} plans, {len(found)} differ"
+        lines += [f"{counts}, {seconds:.1f} s with {words.j} processes"]
         lines += [f"the first difference was found after {sooner:.1f} s"] if found else []
     print("\n".join(lines))
     if words.name:
         os.makedirs(RESULTS, exist_ok=True)
-        for suffix, text in ((".txt", "\n".join([*lines, ""])), (".svg", picture_of(plans, [plan for plan, _ in found], lines[0]))):
+        picture = picture_of(plans, [plan for plan, _ in found], lines[0])
+        for suffix, text in ((".txt", "\n".join([*lines, ""])), (".svg", picture)):
             with open(os.path.join(RESULTS, words.name + suffix), "w", encoding="utf-8") as it:
                 it.write(text)
     return 1 if found else 0

@@ -62,7 +62,8 @@ class Machine:
 
     def run(self, *words):
         """What a command wrote, with its status as a last line."""
-        done = subprocess.run([self.program, *words], stdout=subprocess.PIPE, stderr=subprocess.STDOUT, text=True, check=False)
+        pipe = {"stdout": subprocess.PIPE, "stderr": subprocess.STDOUT}
+        done = subprocess.run([self.program, *words], text=True, check=False, **pipe)
         return done.stdout + (f"status {done.returncode}\n" if done.returncode else "")
 
     def trace(self, image, schedule, cycles):
@@ -75,7 +76,8 @@ class Machine:
 
 
 class Stood:
-    """What stands at the first moment at which the outside is about to begin the instruction at `entry`: registers and memory."""
+    """What stands at the first moment at which the outside is about to begin the instruction at `entry`: registers
+    and memory."""
 
     def __init__(self, machine, image, entry, limit):
         rows = range(FIRST_ROW, MEMORY, 16)

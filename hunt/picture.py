@@ -1,9 +1,10 @@
-"""The picture of a hunt: a row for each kind and handler of single interrupts, a square for each of pairs, red where traces differ."""
-SAME, OTHER, CELL, LEFT = "#9dbfe0", "#c0392b", 6, 190
+"""The picture of a hunt: a row for each kind and handler of single interrupts, a square for each of pairs, red
+where traces differ."""
+SAME, OTHER, CELL, LEFT = "#9dbfe0", "#c0392b", 14, 190
 
 
-def cell(x, y, size, differs):
-    return f'<rect x="{x}" y="{y}" width="{size}" height="{size}" fill="{OTHER if differs else SAME}"/>'
+def cell(x, y, width, differs, height=11):
+    return f'<rect x="{x}" y="{y}" width="{width}" height="{height}" fill="{OTHER if differs else SAME}"/>'
 
 
 def text(x, y, said, anchor="start"):
@@ -24,7 +25,7 @@ def runs(cells):
 
 def row(cells, first, y, height, unit):
     return [
-        f'<rect x="{LEFT + (place - first) * unit}" y="{y}" width="{number * unit}" height="{height}" fill="{OTHER if differs else SAME}"/>'
+        cell(LEFT + (place - first) * unit, y, number * unit, differs, height)
         for place, number, differs in runs(cells)
     ]
 
@@ -64,13 +65,18 @@ def picture_of(plans, found, title):
     more, y = pair_squares(plans, found, first, unit, y + 30)
     parts += more
     if more:
-        parts.append(text(LEFT, y + 6, "two interrupts: the first one's cycle to the right, the second one's downwards"))
+        said = "two interrupts: the first one's cycle to the right, the second one's downwards"
+        parts.append(text(LEFT, y + 6, said))
         y += 20
     width = max(760, LEFT + (last - first + 1) * unit + 20)
     head = [
-        f'<svg xmlns="http://www.w3.org/2000/svg" width="{width}" height="{y + 10}" font-family="sans-serif" font-size="12">',
+        f'<svg xmlns="http://www.w3.org/2000/svg" width="{width}" height="{y + 10}" '
+        'font-family="sans-serif" font-size="12">',
         f'<rect width="{width}" height="{y + 10}" fill="white"/>',
         text(10, 18, title),
-        cell(10, 28, 11, False), text(26, 38, "equal traces"), cell(130, 28, 11, True), text(146, 38, "the secrets give different traces"),
+        cell(10, 28, 11, False),
+        text(26, 38, "equal traces"),
+        cell(130, 28, 11, True),
+        text(146, 38, "the secrets give different traces"),
     ]
     return "\n".join([*head, *parts, "</svg>", ""])

@@ -1,8 +1,10 @@
-"""Which instruction is under way in a cycle. A module's registers are not shown, so it is asked of the same memory without modules."""
+"""Which instruction is under way in a cycle. A module's registers are not shown, so it is asked of the same memory
+without modules."""
 
 
 class Places:
-    """Of one image with its prologue: for each cycle, where the instruction under way begins, and in which cycle it began."""
+    """Of one image with its prologue: for each cycle, where the instruction under way begins, and in which cycle
+    it began."""
 
     def __init__(self, machine, image, cycles):
         self.machine = machine
@@ -14,7 +16,8 @@ class Places:
             self.begun.append((now, cycle) if now != then or not self.begun else self.begun[-1])
 
     def text(self, address):
-        line = self.machine.run("dis", self.machine.file("case.img", self.image.text()), f"{address:04x}", f"{address + 2:04x}")
+        path = self.machine.file("case.img", self.image.text())
+        line = self.machine.run("dis", path, f"{address:04x}", f"{address + 2:04x}")
         words, text = line.strip().split(": ", 1)[0], line.strip()
         parts = text.split(" ")[1:]
         while parts and len(parts[0]) == 4 and all(digit in "0123456789abcdef" for digit in parts[0]):

@@ -1,12 +1,16 @@
 #!/usr/bin/env python3
-"""Random modules that `check` or `balance` accepts, called over and over and interrupted at random cycles, with two data each.
+"""Random modules that `check` or `balance` accepts, called over and over, interrupted at random, with two data each.
 
     hunt/random_modules.py PROGRAM [--calls N] [--minutes N] [--seed N] [-j N] [--name NAME] [--fresh]
 
-Two modules are drawn for an image: the outside calls the first with an argument from the timer, and the handler of line 2 calls the second.
-Interrupts come by three lines and the timer; one handler may be interrupted itself, one sends its registers. Two images differ in the data of
-both modules, and their whole traces are compared. It ends when N calls (1,000,000) of the first module were interrupted, counted from `enter`
-to `leave` with a `hide` between them in the first image's trace. With --fresh each call is the first of an image, in a run of its own.
+Two modules are drawn for an image: the outside calls the first with an argument from the timer, and the handler of
+line 2 calls the second.
+Interrupts come by three lines and the timer; one handler may be interrupted itself, one sends its registers. Two
+images differ in the data of
+both modules, and their whole traces are compared. It ends when N calls (1,000,000) of the first module were
+interrupted, counted from `enter`
+to `leave` with a `hide` between them in the first image's trace. With --fresh each call is the first of an image,
+in a run of its own.
 """
 import argparse
 import itertools
@@ -59,7 +63,8 @@ def outside(rng):
 def image_of(rng, code, modules, data):
     image = Image("sancus-image 1\nkey " + "0" * 32 + f"\nhandler {HANDLER_SP:04x}\nend\n")
     places = zip(modules, TEXTS, DATA)
-    image.modules = [f"module 0007 {text:04x} {text + 2 * len(one.words):04x} {ram:04x} {ram + SIZE:04x}" for one, text, ram in places]
+    rows = [(7, text, text + 2 * len(one.words), ram, ram + SIZE) for one, text, ram in places]
+    image.modules = ["module " + " ".join(f"{field:04x}" for field in row) for row in rows]
     for at, words in code.items():
         image.put(at, words)
     for one, text, ram, secret in zip(modules, TEXTS, DATA, data):
@@ -102,7 +107,8 @@ def counted(trace):
 
 
 def tried(work):
-    """One pair of modules: whether they were accepted, runs, calls interrupted, hides, branches on secrets, and what differs."""
+    """One pair of modules: whether they were accepted, runs, calls interrupted, hides, branches on secrets, and
+    what differs."""
     seed, number, fresh = work
     rng = random.Random(f"{seed} {number}")
     modules = [Drawn(rng, *place) for place in zip(TEXTS, DATA, BACKS)]
@@ -153,8 +159,9 @@ def hunted(words, folder):
             answers = pool.map(tried, batch, chunksize=4)
             sums = [sum(column) for column in zip(sums, *(answer[:5] for answer in answers))]
             differ += [answer[5] for answer in answers if answer[5]]
-            told_now = f"random: {sums[2]} of {words.calls} calls interrupted, {len(differ)} differ, {time.monotonic() - begun:.0f} s"
-            print(told_now, file=sys.stderr, flush=True)
+            seconds = time.monotonic() - begun
+            said = f"random: {sums[2]} of {words.calls} calls interrupted, {len(differ)} differ, {seconds:.0f} s"
+            print(said, file=sys.stderr, flush=True)
             if sums[2] >= words.calls or len(differ) > 9 or time.monotonic() - begun > 60 * words.minutes:
                 return sums, drawn * BATCH, differ
 
@@ -164,10 +171,11 @@ def main():
     with tempfile.TemporaryDirectory() as folder:
         sums, drawn, differ = hunted(words, folder)
     pairs, runs, calls, hides, arms = sums
+    apart = ", each in a run of its own" if words.fresh else ""
     lines = [
-        f"{drawn} images of two modules drawn (seed {words.seed}), {pairs} accepted, {arms} branches on secrets in them",
-        f"{runs} runs of each with two data, {calls} calls interrupted{', each in a run of its own' if words.fresh else ''}, {hides} hides",
-        f"{len(differ)} differ, {time.monotonic() - begun:.0f} s with {words.j} processes on {platform.machine()}, load {os.getloadavg()[0]:.1f}",
+        f"{drawn} images of two modules drawn (seed {words.seed}), {pairs} accepted, {arms} branches on secrets",
+        f"{runs} runs with two data each, {calls} calls interrupted{apart}, {hides} hides, {len(differ)} differ",
+        f"{time.monotonic() - begun:.0f} s, {words.j} processes on {platform.machine()}, load {os.getloadavg()[0]:.1f}",
     ]
     for number, images, schedule, traces in differ[:3]:
         lines += [f"image {number}:", *images, schedule, *traces]
