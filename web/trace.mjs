@@ -157,7 +157,8 @@ function stepOf(cycles, steps) {
 }
 
 class Picture {
-  constructor(lines, { title = "", names = null, width = 900, from = 0, to = null, first = null }) {
+  constructor(lines, { title = "", names = null, width = 900, from = 0, to = null, first = null, legend = false }) {
+    this.hasLegend = legend;
     this.names = names;
     this.title = title;
     this.first = first;
@@ -241,6 +242,18 @@ class Picture {
     return parts;
   }
 
+  // What the kinds of this picture mean, a line each below it.
+  legend() {
+    const kinds = Object.keys(TELLS).filter((kind) => this.spans.some((span) => span.kind === kind));
+    const top = this.height + 8;
+    this.height = top + kinds.length * 18;
+    return kinds.map((kind, at) => {
+      const y = top + at * 18;
+      const key = `<rect class="${kind}" x="6" y="${y}" width="14" height="12"/>`;
+      return `${key}<text x="26" y="${y + 11}">${TELLS[kind]}</text>`;
+    });
+  }
+
   // Where two traces differ first.
   difference() {
     if (this.first === null || this.first < this.from || this.first > this.to) return [];
@@ -259,6 +272,7 @@ class Picture {
         ...this.marks(["hide", "irq", "protect", "close", "stop"], TOP - 8, TOP - 4, bottom - 6),
         ...(this.sent ? this.marks(["out"], bottom + 24, bottom, bottom + 10) : []),
         ...this.axis(),
+        ...(this.hasLegend ? this.legend() : []),
       ];
     return [
       `<svg xmlns="http://www.w3.org/2000/svg" class="t" role="img" aria-label="${escape(this.title || "Timeline")}"`
