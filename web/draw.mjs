@@ -21,7 +21,7 @@ function main(words) {
   if (words[0] === "--difference" && words.length === 3) return difference(words[1], words[2]);
   if (words.length < 1 || words.length > 2 || words[0].startsWith("--")) throw new Error(USAGE);
   const names = words[1] ? readMap(text(words[1])) : null;
-  process.stdout.write(svg(text(words[0]), { title: words[0], names }));
+  process.stdout.write(svg(text(words[0]), { title: words[0], names, legend: true }));
   return 0;
 }
 

@@ -12,43 +12,62 @@ export function plainName(name) {
   return parts.join("/");
 }
 
-const isFolder = (files, name) => Object.keys(files).some((file) => file.startsWith(`${name}/`));
+const isFolder = (files, name) => name !== "" && Object.keys(files).some((file) => file.startsWith(`${name}/`));
 
-// Runs the compiled module on words and files ({name: Uint8Array}); `put(stream, bytes)` takes what is written. The
-// status is returned.
+// The four calls of one instance, over files ({name: Uint8Array}); `put(stream, bytes)` takes what is written.
+class Host {
+  #words;
+  #files;
+  #put;
+  #opened = [];
+  memory = null;
+
+  constructor(words, files, put) {
+    this.#words = ["sancus", ...words].map((word) => new TextEncoder().encode(word));
+    this.#files = files;
+    this.#put = put;
+  }
+
+  #bytes(at, count) {
+    return new Uint8Array(this.memory.buffer, at >>> 0, Number(count));
+  }
+
+  // A folder is opened, and not read.
+  open(at, length) {
+    const name = plainName(new TextDecoder().decode(this.#bytes(at, length)));
+    if (Object.hasOwn(this.#files, name)) return this.#opened.push(this.#files[name]) + 2;
+    return isFolder(this.#files, name) ? this.#opened.push(null) + 2 : -1;
+  }
+
+  pread(file, at, count, from) {
+    const content = this.#opened[file - 3];
+    if (!content) return -1n;
+    const part = content.subarray(Number(from), Number(from + count));
+    this.#bytes(at, part.length).set(part);
+    return BigInt(part.length);
+  }
+
+  write(stream, at, count) {
+    if (!STREAMS.includes(stream)) return -1n;
+    this.#put(stream, this.#bytes(at, count).slice());
+    return count;
+  }
+
+  arg(number, at, room) {
+    const word = this.#words[Number(number)];
+    if (!word) return -1n;
+    if (word.length > Number(room)) return -2n;
+    this.#bytes(at, word.length).set(word);
+    return BigInt(word.length);
+  }
+}
+
+// Runs the compiled module on words and files, and returns its status.
 export async function run(module, words, files, put) {
-  const encoded = ["sancus", ...words].map((word) => new TextEncoder().encode(word));
-  const opened = [];
-  let memory = null;
-  const bytes = (at, count) => new Uint8Array(memory.buffer, at >>> 0, Number(count));
-  const host = {
-    open(at, length) {
-      const name = plainName(new TextDecoder().decode(bytes(at, length)));
-      if (Object.hasOwn(files, name)) return opened.push(files[name]) + 2;
-      return name !== "" && isFolder(files, name) ? opened.push(null) + 2 : -1;
-    },
-    pread(file, at, count, from) {
-      const content = opened[file - 3];
-      if (!content) return -1n;
-      const part = content.subarray(Number(from), Number(from + count));
-      bytes(at, part.length).set(part);
-      return BigInt(part.length);
-    },
-    write(stream, at, count) {
-      if (!STREAMS.includes(stream)) return -1n;
-      put(stream, bytes(at, count).slice());
-      return count;
-    },
-    arg(number, at, room) {
-      const word = encoded[Number(number)];
-      if (!word) return -1n;
-      if (word.length > Number(room)) return -2n;
-      bytes(at, word.length).set(word);
-      return BigInt(word.length);
-    },
-  };
-  const instance = await WebAssembly.instantiate(module, { host });
-  memory = instance.exports.memory;
+  const host = new Host(words, files, put);
+  const calls = ["open", "pread", "write", "arg"].map((name) => [name, host[name].bind(host)]);
+  const instance = await WebAssembly.instantiate(module, { host: Object.fromEntries(calls) });
+  host.memory = instance.exports.memory;
   return instance.exports.run();
 }
 

@@ -139,7 +139,7 @@ def split_fields(text):
 def heading(line):
     """A line outside of functions: the head, declarations and attributes."""
     if "sanitize_address" in line:
-        sys.exit("to32.py: this module is not of a proved build: it was made with a sanitizer")
+        raise Unknown("a sanitizer: the module is not of a proved build")
     if line.startswith("target datalayout"):
         return LAYOUT
     if line.startswith("target triple"):

@@ -41,59 +41,74 @@ export function read(text) {
 // Whether a text begins as a trace.
 export const isTrace = (text) => readLine(text.slice(0, text.indexOf("\n"))) !== null;
 
+// Reads a trace's lines, and keeps what passes between them.
+class Timeline {
+  found = [];
+  // The interrupts that no return was told of: the module that was put away by each, or 0, and since when.
+  #frames = [];
+  #lane = 0;
+  #kind = "outside";
+  #since = 0;
+  #last;
+
+  constructor(last) {
+    this.#last = last;
+  }
+
+  #finish(cycle) {
+    if (cycle > this.#since) this.found.push({ lane: this.#lane, from: this.#since, to: cycle, kind: this.#kind });
+    this.#since = Math.max(cycle, this.#since);
+  }
+
+  #change(cycle, lane, kind) {
+    if (lane === this.#lane && kind === this.#kind) return;
+    this.#finish(Math.min(cycle, this.#last));
+    [this.#lane, this.#kind] = [lane, kind];
+  }
+
+  #leave(cycle) {
+    this.#change(cycle, 0, this.#frames.length ? "open" : "outside");
+  }
+
+  #interrupt(cycle, module, kind, length) {
+    this.#frames.push({ module, from: cycle });
+    this.#change(cycle, 0, kind);
+    this.#change(cycle + length, 0, "open");
+  }
+
+  #held({ module, from }, to) {
+    if (module) this.found.push({ lane: module, from, to, kind: "held" });
+  }
+
+  take({ kind, cycle, args }) {
+    if (kind === "enter") this.#change(cycle, Number(args[0]), "active");
+    if (kind === "leave" || kind === "close") this.#leave(cycle);
+    if (kind === "hide") this.#interrupt(cycle, Number(args[0]), "padding", PADDING);
+    if (kind === "irq") this.#interrupt(cycle, 0, "accept", ACCEPTANCE);
+    if (kind === "resume") {
+      this.#held(this.#frames.pop() ?? {}, cycle);
+      this.#change(cycle, Number(args[0]), "active");
+    }
+    if (kind === "reti") {
+      this.#frames.pop();
+      this.#leave(cycle + RETURN);
+    }
+  }
+
+  end() {
+    this.#finish(this.#last);
+    for (const frame of this.#frames) this.#held(frame, this.#last);
+  }
+}
+
 // Spans {lane, from, to, kind}: lane 0 is the outside, a module's lane its id. Kinds: `outside`; `open`, outside
 // after an interrupt of which no return was told; `accept`; `padding`; `active`, a module; `held`, a module whose
 // registers are put away.
 export function spans(lines) {
-  const found = [];
-  const frames = [];
-  let lane = 0;
-  let kind = "outside";
-  let since = 0;
-  const finish = (cycle) => {
-    if (cycle > since) found.push({ lane, from: since, to: cycle, kind });
-    since = Math.max(cycle, since);
-  };
-  const change = (cycle, nextLane, nextKind) => {
-    if (nextLane === lane && nextKind === kind) return;
-    finish(cycle);
-    [lane, kind] = [nextLane, nextKind];
-  };
-  const outside = () => (frames.length ? "open" : "outside");
-  const last = lines.at(-1)?.cycle ?? 0;
-  for (const { kind: what, cycle, args } of lines) {
-    switch (what) {
-      case "enter":
-        change(cycle, Number(args[0]), "active");
-        break;
-      case "leave":
-      case "close":
-        change(cycle, 0, outside());
-        break;
-      case "hide":
-        frames.push({ id: Number(args[0]), from: cycle });
-        change(cycle, 0, "padding");
-        change(Math.min(cycle + PADDING, last), 0, "open");
-        break;
-      case "irq":
-        frames.push({ id: 0 });
-        change(cycle, 0, "accept");
-        change(Math.min(cycle + ACCEPTANCE, last), 0, "open");
-        break;
-      case "resume": {
-        const frame = frames.pop();
-        if (frame) found.push({ lane: frame.id, from: frame.from, to: cycle, kind: "held" });
-        change(cycle, Number(args[0]), "active");
-        break;
-      }
-      case "reti":
-        change(Math.min(cycle + RETURN, last), 0, (frames.pop(), outside()));
-        break;
-    }
-  }
-  finish(last);
-  for (const frame of frames) if (frame.id) found.push({ lane: frame.id, from: frame.from, to: last, kind: "held" });
-  return found;
+  const timeline = new Timeline(lines.at(-1)?.cycle ?? 0);
+  for (const line of lines) timeline.take(line);
+  timeline.end();
+  return timeline.found;
 }
 
 // The first line in which two traces differ, {line, cycle, a, b}, with null where a text has no such line; null where
@@ -157,7 +172,8 @@ function stepOf(cycles, steps) {
 }
 
 class Picture {
-  constructor(lines, { title = "", names = null, width = 900, from = 0, to = null, first = null }) {
+  constructor(lines, { title = "", names = null, width = 900, from = 0, to = null, first = null, legend = false }) {
+    this.hasLegend = legend;
     this.names = names;
     this.title = title;
     this.first = first;
@@ -241,6 +257,18 @@ class Picture {
     return parts;
   }
 
+  // What the kinds of this picture mean, a line each below it.
+  legend() {
+    const kinds = Object.keys(TELLS).filter((kind) => this.spans.some((span) => span.kind === kind));
+    const top = this.height + 8;
+    this.height = top + kinds.length * 18;
+    return kinds.map((kind, at) => {
+      const y = top + at * 18;
+      const key = `<rect class="${kind}" x="6" y="${y}" width="14" height="12"/>`;
+      return `${key}<text x="26" y="${y + 11}">${TELLS[kind]}</text>`;
+    });
+  }
+
   // Where two traces differ first.
   difference() {
     if (this.first === null || this.first < this.from || this.first > this.to) return [];
@@ -259,6 +287,7 @@ class Picture {
         ...this.marks(["hide", "irq", "protect", "close", "stop"], TOP - 8, TOP - 4, bottom - 6),
         ...(this.sent ? this.marks(["out"], bottom + 24, bottom, bottom + 10) : []),
         ...this.axis(),
+        ...(this.hasLegend ? this.legend() : []),
       ];
     return [
       `<svg xmlns="http://www.w3.org/2000/svg" class="t" role="img" aria-label="${escape(this.title || "Timeline")}"`

@@ -100,6 +100,7 @@ async function fillCells(kind) {
 async function start() {
   runner = new Runner(await loadModule());
   await update();
+  part("cycle").oninput = update;
   part("note").remove();
   part("legend").replaceChildren(...LEGEND.map(([kind, text]) => {
     const item = element("li", text);
@@ -109,7 +110,6 @@ async function start() {
   part("code").textContent = await output(["dis", image("module", 0), "0300", "0326"]);
   for (const kind of KINDS) await fillCells(kind);
   await update();
-  part("cycle").oninput = update;
   addEventListener("resize", update);
   document.body.dataset.ready = "yes";
 }

@@ -135,6 +135,20 @@ async function endButton(browser) {
   check("a run after it", /^end 4 outside 0206/.test(await browser.value(text(".run pre"))));
 }
 
+async function droppedMap(browser) {
+  await browser.value(`{
+    const dataTransfer = new DataTransfer();
+    dataTransfer.items.add(new File(["sancus-map 1\\nmodule 1 meter 0300 0306 0400 0402\\nend\\n"], "called.map"));
+    dispatchEvent(new DragEvent("drop", { dataTransfer }));
+  }`);
+  await browser.until(`${text("#kept")} === "Added: called.map"`);
+  await finished(browser, await runLine(browser, `${CALLED} > first.trace && ${CALLED}`));
+  await browser.until(`/1 meter/.test(${text(".run svg")})`);
+  check("a map that was dropped names the module", true);
+  await browser.until(`${text(".run .ended + .ended")} === "The trace before this one is the same"`);
+  check("two commands in a line", true);
+}
+
 // In the page: the cases one after another, by its own module and worker.
 const inPage = async (cases, files) => {
   const { loadModule, Runner } = await import("/web/runner.mjs");
@@ -193,6 +207,7 @@ try {
   await twoSecrets(browser, url);
   await bench(browser, url, native);
   await endButton(browser);
+  await droppedMap(browser);
   await allCases(browser, native);
   await looks(browser, url);
   check(`no complaint: ${browser.faults.join("; ")}`, browser.faults.length === 0);
