@@ -1,4 +1,4 @@
-pub mod Linking
+pub mod LinksImage
 pub mod Objects
 pub mod Symbols
 pub mod OneContent

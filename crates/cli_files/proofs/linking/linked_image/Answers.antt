@@ -1,5 +1,5 @@
 use Rattle.layout_file.specs.Layout.{layout_of}
-use Rattle.cli_files.proofs.Linking.{links_image}
+use Rattle.cli_files.proofs.LinksImage.{links_image}
 use Rattle.cli_files.proofs.linking.linked_image.Goals as goal
 
 pub returns-in-Ok-clause-image : goal.returns-in-Ok-clause-image
