@@ -74,6 +74,12 @@ if [ -x "$lab" ]; then
     echo 'status 5' >>wanted
     lab map "$layout" "$top/examples/runtime/product.o"
     check 'a map of an object that does not link'
+    for words in c/layout.toml=c/meter.o c_units/layout.toml=c_units/units.o c_check/layout.toml=c_check/vault.o c_devices/layout.toml=c_devices/devices.o; do
+        "$lab" map "$top/examples/${words%=*}" "$top/examples/${words#*=}" >one.map 2>/dev/null
+        "$here/map_check" "$sancus" one.map "$top/examples/${words%=*}" "$top/examples/${words#*=}" 2>&1 | sed 's/^[0-9]* equal/all equal/' >got
+        echo 'all equal, 0 differ' >wanted
+        check "a map of ${words#*=}, and the image"
+    done
 fi
 
 for kind in hex txt elf; do
