@@ -1,7 +1,8 @@
 #!/bin/sh
 # Tries the scripts of this folder.
 #     tools/check.sh [SANCUS [SANCUS_LAB]]
-# SANCUS and SANCUS_LAB stand for ./sancus and ./sancus-lab where they are given. Without the second the rows of maps are left out. The last line is 'N passed, M failed'.
+# SANCUS and SANCUS_LAB stand for ./sancus and ./sancus-lab where they are given.
+# Without the second the rows of maps are left out. The last line is 'N passed, M failed'.
 here=$(dirname -- "$(readlink -f -- "$0")") || exit 1
 top=${here%/*}
 sancus=$(readlink -f -- "${1:-$top/sancus}") || exit 1
@@ -74,9 +75,11 @@ if [ -x "$lab" ]; then
     echo 'status 5' >>wanted
     lab map "$layout" "$top/examples/runtime/product.o"
     check 'a map of an object that does not link'
-    for words in c/layout.toml=c/meter.o c_units/layout.toml=c_units/units.o c_check/layout.toml=c_check/vault.o c_devices/layout.toml=c_devices/devices.o; do
+    for words in c/layout.toml=c/meter.o c_units/layout.toml=c_units/units.o \
+        c_check/layout.toml=c_check/vault.o c_devices/layout.toml=c_devices/devices.o; do
         "$lab" map "$top/examples/${words%=*}" "$top/examples/${words#*=}" >one.map 2>/dev/null
-        "$here/map_check" "$sancus" one.map "$top/examples/${words%=*}" "$top/examples/${words#*=}" 2>&1 | sed 's/^[0-9]* equal/all equal/' >got
+        "$here/map_check" "$sancus" one.map "$top/examples/${words%=*}" "$top/examples/${words#*=}" 2>&1 \
+            | sed 's/^[0-9]* equal/all equal/' >got
         echo 'all equal, 0 differ' >wanted
         check "a map of ${words#*=}, and the image"
     done
