@@ -1,0 +1,140 @@
+#!/bin/sh
+# Tries the scripts of this folder.
+#     tools/check.sh [SANCUS [SANCUS_LAB]]
+# SANCUS and SANCUS_LAB stand for ./sancus and ./sancus-lab where they are given.
+# Without the second the rows of maps are left out. The last line is 'N passed, M failed'.
+here=$(dirname -- "$(readlink -f -- "$0")") || exit 1
+top=${here%/*}
+sancus=$(readlink -f -- "${1:-$top/sancus}") || exit 1
+lab=$(readlink -f -- "${2:-$top/sancus-lab}")
+room=$(mktemp -d) || exit 1
+trap 'rm -rf "$room"' EXIT
+cd "$room" || exit 1
+passed=0
+failed=0
+
+# check WHAT: whether the files `got` and `wanted` are the same.
+check() {
+    if cmp -s got wanted; then
+        passed=$((passed + 1))
+    else
+        failed=$((failed + 1))
+        printf '%s\n' "$1"
+        diff wanted got | head -20
+    fi
+}
+
+layout=$top/examples/c_modules/layout.toml
+object=$top/examples/c_modules/shop.o
+"$sancus" link "$layout" "$object" >shop.img
+
+# From the layout's regions, and the sizes, alignments and values that llvm-readelf and llvm-nm give of the object.
+cat >shop.map <<'MAP'
+sancus-map 1
+module 1 bank 1200 1256 1300 1326
+module 2 shop 1000 10b2 1100 112a
+part 0200 0236 0 0 3 .text
+part 1050 10b2 2 0 7 .sm.shop.text
+part 1124 112a 2 0 10 .sm.shop.bss
+part 124e 1256 1 0 5 .sm.bank.text
+part 1324 1326 1 0 9 .sm.bank.data
+entry 124e 1 0 take
+entry 1050 2 0 answered
+entry 1078 2 1 buy
+vector 15 0200 start
+symbol 1324 1 local 0 balance
+symbol 1124 2 local 0 waiting
+symbol 1126 2 local 0 stack_of_caller
+symbol 1128 2 local 0 return_address
+symbol 0200 0 global 0 start
+symbol 0208 0 global 0 main
+symbol 124e 1 global 0 take
+symbol 1050 2 global 0 answered
+symbol 1078 2 global 0 buy
+end
+MAP
+
+# lab WORDS..: what `sancus-lab` tells, with its status.
+lab() {
+    "$lab" "$@" >got 2>&1
+    printf 'status %s\n' "$?" >>got
+}
+
+if [ -x "$lab" ]; then
+    cp shop.map wanted
+    echo 'status 0' >>wanted
+    lab map "$layout" "$object"
+    check 'a map'
+    printf '%s\n' 'sancus-lab: usage' 'status 2' >wanted
+    lab map "$layout"
+    check 'a map of no object'
+    printf '%s\n' 'sancus-lab: bad file none.o: Absent' 'status 4' >wanted
+    lab map "$layout" none.o
+    check 'a map of a file that is not there'
+    "$sancus" link "$layout" "$top/examples/runtime/product.o" 2>&1 | sed 's/^sancus:/sancus-lab:/' >wanted
+    echo 'status 5' >>wanted
+    lab map "$layout" "$top/examples/runtime/product.o"
+    check 'a map of an object that does not link'
+    for words in c/layout.toml=c/meter.o c_units/layout.toml=c_units/units.o \
+        c_check/layout.toml=c_check/vault.o c_devices/layout.toml=c_devices/devices.o; do
+        "$lab" map "$top/examples/${words%=*}" "$top/examples/${words#*=}" >one.map 2>/dev/null
+        "$here/map_check" "$sancus" one.map "$top/examples/${words%=*}" "$top/examples/${words#*=}" 2>&1 \
+            | sed 's/^[0-9]* equal/all equal/' >got
+        echo 'all equal, 0 differ' >wanted
+        check "a map of ${words#*=}, and the image"
+    done
+fi
+
+for kind in hex txt elf; do
+    "$here/convert" shop.img "there.$kind" && "$here/convert" "there.$kind" back.img --head shop.img
+    cp back.img got
+    cp shop.img wanted
+    check "an image as $kind and back"
+done
+
+"$sancus" run "$layout" - 240 "$object" >trace
+"$here/names" shop.map trace >named
+sed 's/<[^>]*>//' named >got
+cp trace wanted
+check 'a trace without its names'
+sed -n 's/^232 //p' named >got
+echo 'leave 2 pc 022a<main+34>' >wanted
+check 'the name where a module is left for'
+echo 'no 105e SecretBranch 0000' | "$here/names" shop.map >got
+echo 'no 105e<answered+14> SecretBranch 0000' >wanted
+check 'the name of a branch that is refused'
+"$sancus" dis shop.img 124e 1256 >listing
+"$here/names" shop.map listing | sed 's/<[^>]*>//g' >got
+cp listing wanted
+check 'a listing without its names'
+
+"$here/elf" shop.map shop.img shop.elf "$object"
+"$here/convert" shop.elf got.img --head shop.img && mv got.img got
+cp shop.img wanted
+check 'the bytes of an ELF file, and those of the image'
+if command -v llvm-nm >/dev/null; then
+    llvm-nm shop.elf | awk '$3 ~ /^(answered|buy|main|start|take|waiting)$/ { print substr($1, 5), $3 }' | sort >got
+    printf '%s\n' '0200 start' '0208 main' '1050 answered' '1078 buy' '1124 waiting' '124e take' >wanted
+    check 'the symbols of an ELF file'
+fi
+
+words="link $layout $object"
+for line in \
+    'sancus: link Undefined 0 7 name helper|uses helper, which no object defines: add the object or the runtime that does' \
+    'sancus: link NoPlace 0 7|no module of the layout has a place for the section .sm.shop.text: its name must be .sm.MODULE.text, .data or .bss of a module that the layout names' \
+    'sancus-lab: bad file a.o: Absent|there is no such file: check the name and the folder'; do
+    printf '%s\n' "${line%%|*}" | "$here/why" $words | sed 's/^[^ ]* //' >got
+    printf '%s\n' "${line#*|}" >wanted
+    check "${line%%|*}"
+done
+echo '236 out 32' >wanted
+"$here/why" $words <wanted >got
+check 'a line that is no refusal'
+
+"$here/vcd" trace >trace.vcd
+grep -A1 -x '#37\|#151\|#236' trace.vcd | grep -v -e '--' >got
+printf '%s\n' '#37' 'b10 m' '#151' 'b0 m' '#236' 'b110010 s' >wanted
+check 'the changes of a trace'
+
+printf '%d passed, %d failed\n' "$passed" "$failed"
+[ "$failed" -eq 0 ]
