@@ -5,10 +5,9 @@
     hunt/hunt.py PROGRAM IMAGE IMAGE.. --code START BACK
 
 Each image is run by its own outside until that is about to begin the module's entry (or the instruction at START).
-From there on the attacking
-outside of attacks.py makes the call once a run: with an interrupt in each cycle, alone and in pairs, by line and by
-timer, with handlers of
-several lengths. All traces are compared with the first image's. Status 1 says that some differ. Needs Python 3 alone.
+From there on the attacking outside of attacks.py makes the call once a run: with an interrupt in each cycle, alone
+and in pairs, by line and by timer, with handlers of several lengths. All traces are compared with the first image's.
+Status 1 says that some differ. Needs Python 3 alone.
 """
 import argparse
 import multiprocessing
@@ -36,6 +35,9 @@ def options():
     said.add_argument("--arms", help="certificates for its branches: `balance` is asked in place of `check`")
     said.add_argument("--code", nargs=2, metavar=("START", "BACK"), help="plain code, and where it goes back to")
     said.add_argument("--single", action="store_true", help="single interrupts alone")
+    said.add_argument("--handler", help="this handler alone, as a report names it")
+    said.add_argument("--after", type=int, default=0, help="leave out so many plans: a hunt that was cut off goes on")
+    said.add_argument("--first", action="store_true", help="end at the first difference")
     said.add_argument("--cycles", type=int, default=500, help="at most so many cycles of the call are interrupted")
     said.add_argument("-j", type=int, default=max(1, (os.cpu_count() or 2) - 1), help="processes side by side")
     said.add_argument("--name", help="write hunt/results/NAME.txt and NAME.svg as well")
@@ -77,7 +79,8 @@ class Progress:
 
 
 def hunted(words, folder, attack, plans, cycles):
-    """The plans whose traces differ, with these, and after how many seconds the first one was found."""
+    """The plans whose traces differ, with these, after how many seconds the first one was found, and how many were
+    tried."""
     found, first, progress = [], None, Progress(len(plans))
     with multiprocessing.Pool(words.j, begin, (words.program, folder, attack, cycles)) as pool:
         for done, (plan, traces) in enumerate(pool.imap(judged, plans, chunksize=16), 1):
@@ -85,7 +88,9 @@ def hunted(words, folder, attack, plans, cycles):
                 first = first or time.monotonic() - progress.begun
                 found.append((plan, traces))
             progress.show(done, len(found))
-    return found, first
+            if found and words.first:
+                return found, first, done
+    return found, first, len(plans)
 
 
 def shown(plan):
@@ -126,18 +131,17 @@ def parting(names, places):
     return ["by themselves all do the same instructions in the same cycles"]
 
 
-def groups_of(plans):
-    return sorted({(plan[3] is not None, plan[0], plan[1]) for plan in plans}, key=lambda group: (group[0], group[1]))
+def group_of(plan):
+    kind, handler, _, second = plan
+    return f"{'single' if second is None else 'pairs'}, {kind}, handler: {handler}"
 
 
 def report(names, places, plans, found):
     """A line for each kind and handler, and the first plan of each that tells the secrets apart."""
     lines = []
-    for group in groups_of(plans):
-        inside = lambda plan: (plan[3] is not None, plan[0], plan[1]) == group
-        mine = [one for one in found if inside(one[0])]
-        what = f"{'pairs' if group[0] else 'single'}, {group[1]}, handler: {group[2]}"
-        lines.append(f"{what}: {sum(map(inside, plans))} plans, {len(mine)} differ")
+    for group in dict.fromkeys(map(group_of, plans)):
+        mine = [one for one in found if group_of(one[0]) == group]
+        lines.append(f"{group}: {sum(group_of(plan) == group for plan in plans)} plans, {len(mine)} differ")
         if mine:
             lines += told_of(names, places, *mine[0])
     return lines
@@ -162,6 +166,11 @@ def ends_of(words, machine, attack, traces):
     return [min(int(line.split(" ")[line.startswith("end ")]) for line in lines) for lines in rows]
 
 
+def plans_of(words, first, last):
+    plans = singles(first, last) + ([] if words.single else pairs(first, last))
+    return [plan for plan in plans if words.handler in (None, plan[1])][words.after :]
+
+
 def main():
     words = options()
     names = [os.path.basename(path) for path in words.images]
@@ -175,9 +184,10 @@ def main():
         alone = traces_of(ALONE)
         first, over = CALL_BEGINS - BEFORE, max(ends_of(words, machine, attack, alone)) + BEHIND
         last = min(over, first + words.cycles)
-        plans = singles(first, last) + ([] if words.single else pairs(first, last))
+        plans = plans_of(words, first, last)
         begun = time.monotonic()
-        found, sooner = hunted(words, folder, attack, plans, over)
+        found, sooner, tried = hunted(words, folder, attack, plans, over)
+        plans = plans[:tried]
         seconds = time.monotonic() - begun
         places = [Places(machine, image, last) for image in attack.images(ALONE)]
         lines = [f"{', '.join(names)}: called at {entry:04x}; {verdict_of(words, machine)}"]
@@ -186,6 +196,7 @@ def main():
             lines += ["without an interrupt the traces differ:", *told_of(names, places, ALONE, alone)[1:]]
         lines += [*parting(names, places), *report(names, places, plans, found)]
         counts = f"{len(plans) * len(images)} runs, {len(plans)} plans, {len(found)} differ"
+        counts += f" (the first {words.after} plans left out)" if words.after else ""
         lines += [f"{counts}, {seconds:.1f} s with {words.j} processes"]
         lines += [f"the first difference was found after {sooner:.1f} s"] if found else []
     print("\n".join(lines))

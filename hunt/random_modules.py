@@ -4,13 +4,10 @@
     hunt/random_modules.py PROGRAM [--calls N] [--minutes N] [--seed N] [-j N] [--name NAME] [--fresh]
 
 Two modules are drawn for an image: the outside calls the first with an argument from the timer, and the handler of
-line 2 calls the second.
-Interrupts come by three lines and the timer; one handler may be interrupted itself, one sends its registers. Two
-images differ in the data of
-both modules, and their whole traces are compared. It ends when N calls (1,000,000) of the first module were
-interrupted, counted from `enter`
-to `leave` with a `hide` between them in the first image's trace. With --fresh each call is the first of an image,
-in a run of its own.
+line 2 calls the second. Interrupts come by three lines and the timer; one handler may be interrupted itself, one
+sends its registers. Two images differ in the data of both modules, and their whole traces are compared. It ends when
+N calls (1,000,000) of the first module were interrupted, counted from `enter` to `leave` with a `hide` between them
+in the first image's trace. With --fresh each call is the first of an image, in a run of its own.
 """
 import argparse
 import itertools
@@ -30,7 +27,7 @@ RESULTS = os.path.join(os.path.dirname(os.path.abspath(__file__)), "results")
 TEXTS, DATA, BACKS, HANDLER_SP = (0x0800, 0x0C00), (0x1000, 0x1100), (0x023C, 0x0340), 0x0680
 SIZE = 2 * DATA_WORDS + STACK
 LOOP, TIMER_HANDLER, LINE_0, LINE_1, LINE_2, SP_KEPT = 0x0216, 0x0300, 0x0310, 0x0320, 0x0330, 0x0700
-LONG, SHORT, BATCH = 100000, 400, 40
+LONG, SHORT, BATCH = 100000, 400, 8
 # The lines that go up in one cycle and down in the next.
 PULSES = [
     "".join(f"{{{cycle}}} line {number} {way}\n" for cycle, way in enumerate(("up", "down")) for number in lines)
@@ -156,7 +153,7 @@ def hunted(words, folder):
     sums, differ, begun = [0] * 5, [], time.monotonic()
     with multiprocessing.Pool(words.j, begin, (words.program, folder)) as pool:
         for drawn, batch in enumerate(batches(words), 1):
-            answers = pool.map(tried, batch, chunksize=4)
+            answers = pool.map(tried, batch, chunksize=1)
             sums = [sum(column) for column in zip(sums, *(answer[:5] for answer in answers))]
             differ += [answer[5] for answer in answers if answer[5]]
             seconds = time.monotonic() - begun
