@@ -92,8 +92,8 @@ check_manual() {
     split_manual "$top/docs/sancus.1" >manual
     : >wanted
     while read -r line; do
-        printf '%s\n' "$line" >command
-        run ./command
+        printf '%s\n' "$line" >line.sh
+        run ./line.sh
         case $status in 0 | 3 | 9) : >got ;; esac
         compare "docs/sancus.1: $line" wanted
     done <manual

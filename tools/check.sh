@@ -123,11 +123,13 @@ for line in \
     'sancus: link Undefined 0 7 name helper|uses helper, which no object defines: add the object or the runtime that does' \
     'sancus: link NoPlace 0 7|no module of the layout has a place for the section .sm.shop.text: its name must be .sm.MODULE.text, .data or .bss of a module that the layout names' \
     'sancus-lab: bad file a.o: Absent|there is no such file: check the name and the folder'; do
+    # shellcheck disable=SC2086 # some words
     printf '%s\n' "${line%%|*}" | "$here/why" $words | sed 's/^[^ ]* //' >got
     printf '%s\n' "${line#*|}" >wanted
     check "${line%%|*}"
 done
 echo '236 out 32' >wanted
+# shellcheck disable=SC2086 # some words
 "$here/why" $words <wanted >got
 check 'a line that is no refusal'
 

@@ -65,7 +65,9 @@ build() {
 # The module that was kept, if it is the only one.
 kept_module() {
     set -- "$room"/kept/*
-    [ $# -eq 1 ] && [ -f "$1" ] || stop "clang was not given just one module, without a sanitizer"
+    if [ $# -ne 1 ] || ! [ -f "$1" ]; then
+        stop "clang was not given just one module, without a sanitizer"
+    fi
     printf '%s\n' "$1"
 }
 
