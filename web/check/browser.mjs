@@ -59,8 +59,7 @@ const count = (selector) => `document.querySelectorAll(${JSON.stringify(selector
 async function twoSecrets(browser, url) {
   const begun = Date.now();
   await browser.open(`${url}web/index.html`);
-  // Ten seconds are wanted; a machine that proves beside it takes longer, which is no fault of the page.
-  console.log(`Two secrets stand after ${((Date.now() - begun) / 1000).toFixed(1)} s`);
+  check("Two secrets within ten seconds", Date.now() - begun < 10000);
   const verdict = await browser.value(text("#plain-verdict"));
   check("plain code shows the secret at first", /The secret shows.*17 irq 1.*19 irq 1/.test(verdict));
   check("the module shows nothing", /traces are equal/.test(await browser.value(text("#module-verdict"))));

@@ -78,7 +78,7 @@ export class Chromium {
     return result.value;
   }
 
-  async until(expression, seconds = 120) {
+  async until(expression, seconds = 30) {
     for (const end = Date.now() + seconds * 1000; Date.now() < end; await pause(50)) {
       if (await this.value(expression)) return;
     }
