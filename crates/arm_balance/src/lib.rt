@@ -8,8 +8,6 @@
 ghost use Rattle.arm_balance.specs.Certificates.{BranchesRise};
 
 mod certificates;
-#[cfg(test)]
-mod tests;
 mod text;
 mod time;
 

@@ -14,8 +14,6 @@ mod placing;
 mod reading;
 mod statement;
 mod symbols;
-#[cfg(test)]
-mod tests;
 mod unit;
 
 pub use assembly::assemble;

@@ -5,8 +5,6 @@ mod hash;
 mod instruction;
 mod memory;
 mod rights;
-#[cfg(test)]
-mod tests;
 
 pub use instruction::{BLOCK_CYCLES, SHORT_CYCLES, hmac_blocks, unit};
 pub use rights::in_range;

@@ -11,8 +11,6 @@ mod operand;
 mod port;
 mod result;
 mod step;
-#[cfg(test)]
-mod tests;
 
 pub use accesses::{add_plan, are_aligned, plan};
 pub use pc_access::{Access, Kind};

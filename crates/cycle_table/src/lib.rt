@@ -70,5 +70,3 @@ fn one_column(op: OneOp) -> usize
     }
 }
 
-#[cfg(test)]
-mod tests;

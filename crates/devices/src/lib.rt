@@ -22,12 +22,8 @@ ghost use Rattle.devices.specs.Time.{ticked_by, quiet_of};
 mod bits;
 mod bus;
 mod lines;
-#[cfg(test)]
-mod plain;
 pub mod registers;
 mod serial;
-#[cfg(test)]
-mod tests;
 mod timer;
 
 pub use bus::{Bus, BusMark};

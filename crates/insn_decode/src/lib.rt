@@ -13,5 +13,3 @@ pub use decoder::{decode, length};
 pub use insn::{Insn, OneOp, Operand, TwoOp};
 pub use text::show;
 
-#[cfg(test)]
-mod tests;

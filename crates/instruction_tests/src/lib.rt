@@ -2,4 +2,12 @@
 #![tactic(auto)]
 
 #[cfg(test)]
-mod tests;
+mod cycles;
+#[cfg(test)]
+mod decoding;
+#[cfg(test)]
+mod instructions;
+#[cfg(test)]
+mod steps;
+#[cfg(test)]
+mod units;

@@ -6,8 +6,6 @@ ghost use Rattle.irq_padding.specs.Padding.{padding, stepped};
 
 use reg_backup::{After, Phase};
 
-#[cfg(test)]
-mod tests;
 mod turn;
 
 pub use turn::{Turn, choose};

@@ -16,5 +16,3 @@ pub use mod_layout::Section;
 pub use parts::{ModuleSpec, VectorName};
 pub use read::read_layout;
 
-#[cfg(test)]
-mod tests;

@@ -7,8 +7,6 @@ mod job;
 mod next;
 mod sections;
 mod tagging;
-#[cfg(test)]
-mod tests;
 mod units;
 
 pub use calling::call;

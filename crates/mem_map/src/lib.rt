@@ -12,8 +12,6 @@ use page_pool::Pool;
 use std::alloc::{AllocError, Global};
 use std::marker::Model;
 
-#[cfg(test)]
-mod tests;
 
 /// Memory was refused.
 pub type NoMemory = AllocError;

@@ -3,8 +3,6 @@
 
 mod keys;
 mod mac;
-#[cfg(test)]
-mod tests;
 
 pub use keys::{IDENTITY_TAIL, identity_tail, module_key, module_key_from, provider_key};
 pub use mac::{BLOCK, Hmac, INNER_PAD, OUTER_PAD, TAG_LENGTH};

@@ -2,8 +2,6 @@
 #![tactic(auto)]
 
 mod table;
-#[cfg(test)]
-mod tests;
 
 ghost use Rattle.std.specs.Prelude.{◌≡◌, ℕ, ◌+◌, ◌%◌, ◌≤◌};
 ghost use Rattle.mod_layout.specs.Table.{holds, is_entry, size_of, shares, meets, is_empty, is_odd, is_reserved, Table, place_of};

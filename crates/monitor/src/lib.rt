@@ -13,8 +13,6 @@ mod line;
 mod playing;
 mod reading;
 mod showing;
-#[cfg(test)]
-mod tests;
 
 pub use playing::play;
 pub use reading::read_script;

@@ -10,5 +10,3 @@ mod symbols;
 
 pub use object::write_object;
 
-#[cfg(test)]
-mod tests;

@@ -3,7 +3,5 @@
 
 mod pool;
 mod store;
-#[cfg(test)]
-mod tests;
 
 pub use pool::{Full, NoMemory, Pool};

@@ -3,8 +3,6 @@
 
 mod backup;
 mod frames;
-#[cfg(test)]
-mod tests;
 
 pub use backup::{After, Backup, Phase, resume, save};
 pub use frames::{Frame, FrameKind, Frames, FramesFull, MOST_FRAMES};

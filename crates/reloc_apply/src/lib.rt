@@ -8,8 +8,6 @@ ghost use Rattle.reloc_apply.specs.internal.Leaves.{Leaves};
 use byteorder::{ByteOrder, LittleEndian};
 
 pub mod laws;
-#[cfg(test)]
-mod tests;
 
 /// Why a relocation is refused, in the order in which the causes are looked at.
 #[derive(Clone, Copy, Debug, PartialEq, Eq)]

@@ -11,8 +11,6 @@ ghost use Rattle.schedule_file.specs.Entries.{HasLine, CyclesNeverFall};
 pub mod laws;
 mod line;
 mod reading;
-#[cfg(test)]
-mod tests;
 
 pub use reading::read_schedule;
 

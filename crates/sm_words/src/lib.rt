@@ -13,5 +13,3 @@ pub use operations::{add, and, dadd, rra, rrc, swpb, sxt, xor};
 pub use registers::{CG, Core, PC, SP, SR};
 pub use width::{Sum, Width};
 
-#[cfg(test)]
-mod tests;

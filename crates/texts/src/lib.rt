@@ -8,8 +8,6 @@ mod decimals;
 mod hexadecimals;
 pub mod laws;
 mod lines;
-#[cfg(test)]
-mod tests;
 mod words;
 
 pub use decimals::{decimal, is_decimal, push_decimal, read_decimal};

@@ -11,8 +11,6 @@ mod reading;
 mod replies;
 mod reporting;
 mod schedule;
-#[cfg(test)]
-mod tests;
 mod trace_line;
 
 pub use reading::read_challenges;

@@ -10,5 +10,3 @@ pub use draws::next;
 pub use program::image;
 pub use pulses::schedule;
 
-#[cfg(test)]
-mod tests;
