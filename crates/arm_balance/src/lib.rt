@@ -42,6 +42,6 @@ pub enum ArmsFault {
     Line { n: u64 },
     /// The branch of line `n` is not above that of the line before.
     NotRising { n: u64 },
-    /// Memory ran out.
+    /// An allocation failed.
     NoMemory,
 }

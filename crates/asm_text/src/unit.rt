@@ -1,4 +1,4 @@
-//! What a source gives.
+//! The parts of an object that a source gives.
 ghost use Rattle.std.specs.Prelude.{◌≡◌};
 ghost use Rattle.asm_text.specs.declared.unit.AsmFault.TheVariants.{NoMemory};
 ghost use Rattle.asm_text.specs.Parts.{IsUnit};
@@ -59,7 +59,7 @@ pub struct AsmUnit {
     }) },
 }
 
-/// Why a text is no source. Lines are counted from 1.
+/// Why a text is refused. Lines are counted from 1.
 #[derive(Clone, Copy, Debug, PartialEq, Eq)]
 pub enum AsmFault {
     /// Line `n` has none of the forms, or lacks its LF.
@@ -76,7 +76,7 @@ pub enum AsmFault {
     NoLabel { n: u64 },
     /// The jump in line `n` has this offset in words, which is not from -512 to 511.
     Far { n: u64, value: i64 },
-    /// Memory ran out.
+    /// An allocation failed.
     NoMemory,
 }
 

@@ -9,7 +9,7 @@ mod rights;
 pub use instruction::{BLOCK_CYCLES, SHORT_CYCLES, hmac_blocks, unit};
 pub use rights::in_range;
 
-/// Who does an instruction.
+/// The module on whose behalf an instruction runs.
 #[derive(Clone, Copy, Debug, PartialEq, Eq)]
 pub struct Who {
     /// The id of the active module; none outside.
@@ -18,7 +18,7 @@ pub struct Who {
     pub caller: u16,
 }
 
-/// What a unit instruction did, beside its changes of core, memory and table.
+/// The outcome of a unit instruction, beside its changes of core, memory and table.
 #[derive(Clone, Copy, Debug, PartialEq, Eq)]
 pub struct UnitDone {
     /// The cycles that it takes.

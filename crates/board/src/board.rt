@@ -34,9 +34,9 @@ use std::marker::Model;
 use tracer::{EndState, Event};
 use written_machine::Hidden;
 
-/// A machine that runs.
+/// A running machine.
 ///
-/// A contract sees a board as the present state of the written machine, and its states at the marks.
+/// Contracts see a board as the present state of the written machine together with its states at the marks.
 #[derive(Drop)]
 pub struct Board {
     pub(crate) machine: Machine,
@@ -219,7 +219,7 @@ impl Board {
         }
     }
 
-    /// What is seen of it while these modules are hidden.
+    /// The view of the machine that leaves these modules hidden.
     pub fn view(&self, hidden: Hidden) -> View<'_>
         ensures shown { result ≡ record { state = self.now.present; hidden = hidden } }
 

@@ -1,4 +1,4 @@
-//! One instruction: which accesses it makes, and what it does through any port.
+//! One instruction: its memory accesses in order, and its effect through any port.
 //!
 //! The rules are those of the MSP430x1xx Family User's Guide SLAU049, sections 3.3 and 3.4.
 #![tactic(auto)]

@@ -6,10 +6,10 @@ ghost use Rattle.pc_access.specs.Rights.{misaligned};
 
 use sm_words::Width;
 
-/// What an instruction reads and writes through: memory and devices, or the two sections of a module.
+/// The bus as an instruction sees it: memory and devices, or the two sections of a module.
 ///
-/// A port has a state. `answer` is what a read gives in a state; `after_read` and `after_write` are the
-/// states that the calls leave.
+/// A port has a state. `answer` is the value of a read in a state; `after_read` and `after_write` are the
+/// states after a read and after a write.
 pub trait Port {
     ghost State: { Type 0 };
 

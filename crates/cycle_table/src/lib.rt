@@ -8,8 +8,8 @@ ghost use Rattle.cycle_table.specs.Cycles.{cycles_of, two_row, one_row, one_colu
 use insn_decode::{Insn, OneOp, Operand};
 use sm_words::PC;
 
-/// The clock cycles of an instruction, 1 to 6. Those of a unit instruction depend on what it works on, so
-/// it is none.
+/// The clock cycles of an instruction, 1 to 6. The cycles of a unit instruction depend on its operands, so
+/// it must not be one.
 #[tactic(auto, unfolding(crate::specs::Cycles::cycles_of))]
 pub fn cycles(insn: &Insn) -> u8
     requires decoded { IsDecoded insn.now }

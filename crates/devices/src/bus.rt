@@ -86,7 +86,7 @@ impl Agenda {
     }
 }
 
-/// A moment of a bus, to which a bus can go back.
+/// A saved moment of a bus, to which the bus can return.
 #[derive(Clone, Copy, Debug)]
 pub struct BusMark {
     present: Present,
@@ -140,7 +140,7 @@ impl Model for Bus {
 }
 
 impl Bus {
-    /// The devices of cycle 0, with this schedule.
+    /// The devices at cycle 0, driven by this schedule.
     pub fn new(alloc: Global, schedule: &Schedule) -> Result<Bus, NoMemory>
         ensures silent { IfOk result (λ bus.
             bus ≡ record { devices = silent schedule.now.entries.items; ticks = 0; moves = 0 }) }
@@ -172,7 +172,7 @@ impl Bus {
         self.moves
     }
 
-    /// This moment: the devices, the sent byte and the ticks that were done.
+    /// The present moment: the devices, the byte sent, and the number of ticks done.
     pub fn mark(&self) -> BusMark
         ensures mark { result ≡ marked_bus self.now }
     {

@@ -31,10 +31,10 @@ pub use lines::Lines;
 pub use serial::Serial;
 pub use timer::Timer;
 
-/// Memory ran out.
+/// An allocation failed.
 pub type NoMemory = std::alloc::AllocError;
 
-/// What the machine does with a device.
+/// A device as the machine drives it, one tick a cycle.
 ///
 /// A device stands for a state of the devices, in which all that it does not have is at rest.
 pub trait Device {
@@ -44,10 +44,10 @@ pub trait Device {
     /// The number of its next cycle, which rises from tick to tick where a schedule moves it.
     ghost cycle: { Self → ℕ };
 
-    /// How many ticks it can still take.
+    /// How many more ticks it can take before its cycle number overflows.
     ghost ticks_left: { Self → ℕ };
 
-    /// Whether an address is one of its own.
+    /// Whether an address is one of its registers.
     ghost owns: { ℕ → Bool };
 
     /// Lets one cycle pass.
@@ -61,7 +61,7 @@ pub trait Device {
     fn line(&self) -> Option<u8>
         ensures vector { result ≡ line_of (state self.now) };
 
-    /// For how many ticks the raised vector surely stays as it is.
+    /// A number of ticks during which the raised vector does not change.
     fn quiet(&self) -> u64
         ensures ticks { result ≡ quiet_of (state self.now) (cycle self.now) }
         ensures stays { (n : ℕ) → n ≤ result → line_of (ticked_by n (cycle self.now) (state self.now)) ≡

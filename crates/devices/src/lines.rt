@@ -30,7 +30,7 @@ impl Model for Lines {
 }
 
 impl Lines {
-    /// No line is up, and none may interrupt.
+    /// All lines are down and disabled.
     pub fn new() -> Lines
         ensures silent { lines_alone result ≡ silent [] }
     {

@@ -32,7 +32,7 @@ impl Model for Serial {
 }
 
 impl Serial {
-    /// Nothing came, nothing was sent, and it may not interrupt.
+    /// Nothing received, nothing sent, interrupt disabled.
     pub fn new() -> Serial
         ensures silent { serial_alone result ≡ silent [] }
     {

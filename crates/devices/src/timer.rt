@@ -37,7 +37,7 @@ impl Model for Timer {
 }
 
 impl Timer {
-    /// It stands still at 0, and may not interrupt.
+    /// Stopped at 0, interrupt disabled.
     pub fn new() -> Timer
         ensures silent { timer_alone result ≡ silent [] }
     {

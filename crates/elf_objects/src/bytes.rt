@@ -1,4 +1,4 @@
-//! Numbers of a file. One that is not wholly in the file counts as 0.
+//! Little-endian numbers of a file. A number that does not lie wholly in the file reads as 0.
 
 ghost use Rattle.std.specs.Prelude.{◌≡◌, ◌<◌, ◌^◌, slice_index};
 ghost use Rattle.elf_objects.specs.Bytes.{half_at, word_at};

@@ -1,22 +1,22 @@
-//! Why a file is no object.
+//! Why a file is not an object that this reader takes.
 
 ghost use Rattle.std.specs.Prelude.{◌≡◌};
 ghost use Rattle.elf_objects.specs.declared.fault.ElfFault.TheVariants.{NoMemory};
 
 use std::alloc::{AllocError, AllocFailed};
 
-/// Why a file is no object. The causes are looked at in the order Short, Magic, Class, Order,
+/// Why a file is refused. The causes are tested in the order Short, Magic, Class, Order,
 /// Version, Machine, Kind, HeaderSize, Short, Section, Link, Name, Compressed, RelSection, Symbol,
-/// Relocation, each over all indexes, and the first one is given.
+/// Relocation, each over all indexes, and the first that applies is given.
 #[derive(Clone, Copy, Debug, PartialEq, Eq)]
 pub enum ElfFault {
     /// The file ends at `at`, before its header or its table of section headers does.
     Short { at: u64 },
-    /// The file does not start as an ELF file does.
+    /// The file does not start with the ELF magic number.
     Magic,
-    /// The file is not of 32 bits.
+    /// The file is not a 32-bit ELF file.
     Class,
-    /// The file's numbers do not have the low byte first.
+    /// The file is not little-endian.
     Order,
     /// One of the two version fields is not 1.
     Version,
@@ -41,7 +41,7 @@ pub enum ElfFault {
     RelSection { index: u64 },
     /// A section header has `n` bytes, and not 40.
     HeaderSize { n: u64 },
-    /// Memory ran out.
+    /// An allocation failed.
     NoMemory,
 }
 

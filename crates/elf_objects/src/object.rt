@@ -46,7 +46,7 @@ impl SectionHead {
     }
 }
 
-/// How a symbol is seen from other objects.
+/// How a symbol is visible to other objects.
 #[derive(Clone, Copy, Debug, PartialEq, Eq)]
 pub enum Binding {
     /// Not at all.
@@ -128,7 +128,7 @@ impl Model for Object {
 }
 
 impl Object {
-    /// It does nothing. It tells a proof the laws of an object.
+    /// Does nothing. Its contract gives a proof the laws of every object.
     pub fn laws(&self)
         ensures lawful { IsObject self.now }
     {
@@ -189,7 +189,7 @@ impl Object {
         relocation_at(self.file.as_slice(), self.ends.as_slice(), place)
     }
 
-    /// These bytes of the file.
+    /// The bytes of a span of the file.
     pub fn part(&self, span: Span) -> &[u8]
         requires ordered { span.start ≤ span.end }
         requires within { span.end ≤ length self.now.file }

@@ -12,7 +12,7 @@ pub fn refuse_if(refused: bool, fault: ElfFault) -> Option<ElfFault>
     if refused { Some(fault) } else { None }
 }
 
-/// What the lowest index below a count gives that gives something.
+/// The first `Some` of the function over the indexes below a count, in rising order.
 pub fn first_below<T: Drop, F: Fn(u32) -> Option<T>>(count: u32, found_at: F) -> Option<T>
     requires { (k : ℕ) → k < count → F.pre found_at k }
     ensures { (f : ℕ → Option T) → FindsBelow count (F.post found_at) f → result ≡ first_below f count }

@@ -5,7 +5,7 @@ ghost use Rattle.irq_padding.specs.Turns.{turn_of, kind_of};
 
 use reg_backup::Phase;
 
-/// What a cycle ends in, once what is due at rest 0 is settled.
+/// What a cycle ends with, after what is due is settled.
 #[derive(Clone, Copy, Debug, PartialEq, Eq)]
 pub enum Turn {
     /// A cycle of padding passes.

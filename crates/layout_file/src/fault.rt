@@ -71,7 +71,7 @@ pub enum LayoutFault {
     Overlap { first: u64, second: u64 },
     /// Two modules have one name.
     SameName { first: u64, second: u64 },
-    /// There was no memory.
+    /// An allocation failed.
     NoMemory,
     /// Two modules have one boot.
     SameBoot { first: u64, second: u64 },

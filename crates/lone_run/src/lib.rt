@@ -29,6 +29,6 @@ pub enum Outcome {
     /// After so many cycles comes an instruction that would stop the machine, would access a byte outside the two
     /// sections, or is protect, attest or id of address.
     Broken { cycles: u64 },
-    /// None of these within the limit.
+    /// The call has not ended within the limit.
     Running,
 }

@@ -42,13 +42,13 @@ pub struct Script {
     ghost bounds: { All IsBounded lines.items },
 }
 
-/// Why a text is no script.
+/// Why a text is not a script.
 #[derive(Clone, Copy, Debug, PartialEq, Eq)]
 pub enum ScriptFault {
     /// Line `n`, counted from 1, has none of the forms.
     Line { n: u64 },
     /// A number of line `n` is out of bounds.
     Number { n: u64 },
-    /// Memory ran out.
+    /// An allocation failed.
     NoMemory,
 }

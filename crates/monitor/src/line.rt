@@ -9,7 +9,7 @@ use crate::{MAX_BYTES, MAX_CYCLES, MAX_MARK, MEMORY_END, ScriptLine};
 use mod_layout::DEVICES_END;
 use texts::{is_decimal, read_decimal, read_hex_word};
 
-/// Why a text is no line of a script.
+/// Why a text is not a line of a script.
 #[derive(Clone, Copy, Debug, PartialEq, Eq)]
 pub enum LineFault {
     /// It has none of the forms.

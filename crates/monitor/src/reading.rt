@@ -10,7 +10,7 @@ use crate::{Script, ScriptFault};
 use std::alloc::Global;
 use texts::next_line;
 
-/// The script that a text writes.
+/// Reads a script.
 ///
 /// Line by line from 1, a line of no form is `Line`, and one with a number out of bounds is `Number`. The first of
 /// these is answered, unless memory runs out before.

@@ -7,14 +7,14 @@ use crate::store::Store;
 use std::alloc::{AllocError, Global};
 use std::marker::Model;
 
-/// Memory was refused.
+/// An allocation failed.
 pub type NoMemory = AllocError;
 
 /// All tables are live.
 #[derive(Clone, Copy, Debug, PartialEq, Eq)]
 pub struct Full;
 
-/// Up to 17 tables of 65,536 bytes each, of which those that are live have bytes.
+/// Up to 17 tables, of which some are live. A live table has 65,536 bytes.
 #[derive(Debug, Drop)]
 pub struct Pool {
     store: Store,
@@ -33,7 +33,7 @@ impl Model for Pool {
 }
 
 impl Pool {
-    /// So many tables, 1 to 17. Table 0 is live and full of zeros. Takes all memory that the pool ever needs.
+    /// A pool of this many tables, 1 to 17. Table 0 is live and all its bytes are 0. All memory is allocated here.
     pub fn new(alloc: Global, tables: u16) -> Result<Pool, NoMemory>
         requires least { 1 ≤ tables }
         requires most { tables ≤ 17 }
@@ -44,7 +44,7 @@ impl Pool {
         })
     }
 
-    /// The 256 bytes from address 256 times `n` on, of a live table.
+    /// Page `n` of a live table: the 256 bytes from address 256 times `n` on.
     #[tactic(auto, using(crate::proofs::ViewLemmas::page_shown, crate::proofs::ViewLemmas::size_shown))]
     pub fn page(&self, t: u16, n: u8) -> &[u8]
         requires { IsLive self.now t }
@@ -55,7 +55,7 @@ impl Pool {
         self.store.page(usize::from(t), usize::from(n))
     }
 
-    /// Changes one byte of a live table, and no byte of another.
+    /// Writes one byte of a live table; no byte of another table changes.
     pub fn write(&mut self, t: u16, addr: u16, byte: u8)
         requires { IsLive self.old t }
         ensures written { self.new ≡ slice_set self.old t (Some (slice_set (bytes_of self.old t) addr byte)) }
@@ -65,7 +65,7 @@ impl Pool {
         self.store.write(usize::from(t), page, at, byte);
     }
 
-    /// Makes a table live that was not, with the bytes of table `t`, and gives its number. No byte is copied.
+    /// Makes a free table live with the bytes of table `t`, and returns its number. Pages are shared: no byte is copied.
     #[tactic(auto, using(crate::proofs::ViewLemmas::unused_shown, crate::proofs::ViewLemmas::all_shown, crate::proofs::ViewLemmas::not_all_shown))]
     pub fn copy_table(&mut self, t: u16) -> Result<u16, Full>
         requires { IsLive self.old t }
@@ -83,7 +83,7 @@ impl Pool {
         }
     }
 
-    /// Ends a live table.
+    /// Frees a live table, so that its number may be used again.
     pub fn drop_table(&mut self, t: u16)
         requires { IsLive self.old t }
         ensures ended { self.new ≡ slice_set self.old t None }

@@ -25,7 +25,7 @@ fn signed(value: u16, width: Width) -> i32
     }
 }
 
-/// Whether a signed number is outside the range of a byte or a word.
+/// Whether a signed number overflows a byte or a word.
 fn is_outside(total: i32, width: Width) -> bool
     ensures { result ≡ is_outside width total }
 {
@@ -66,7 +66,7 @@ fn signed_total(a: u16, b: u16, c: bool, width: Width) -> i32
     if c { total + 1 } else { total }
 }
 
-/// The byte or the word of a total, whose carry says that it reaches 256 or 65,536.
+/// A total reduced to a byte or a word, with the carry out of it.
 fn carried(total: u32, overflow: bool, width: Width) -> Sum
     ensures { result ≡ flagged width (low width total) (nat_le (limit width) total) overflow }
 {
@@ -87,7 +87,7 @@ pub fn dadd(a: u16, b: u16, c: bool, width: Width) -> Sum
     carried(total, false, width)
 }
 
-/// The decimal sum of this many digits, with its last carry as one digit more.
+/// The decimal sum of this many digits; the carry out of the last is one digit more.
 #[tactic(auto, using(crate::proofs::Decimal::decimal_small))]
 fn decimal_sum(digits: u8, a: u16, b: u16, c: bool) -> u32
     requires { digits < 5 }
@@ -128,14 +128,14 @@ pub fn sxt(a: u16) -> Sum
     flagged(value, value != 0, false, Width::Word)
 }
 
-/// The word with its two bytes changed about.
+/// The word with its two bytes swapped.
 pub fn swpb(a: u16) -> u16
     ensures exact { result ≡ swpb_of a }
 {
     a / 0x100 + 0x100 * (a % 0x100)
 }
 
-/// The bits that both bytes or words have. C is the opposite of Z, V is 0.
+/// Bitwise and. C is the opposite of Z, V is 0.
 pub fn and(a: u16, b: u16, width: Width) -> Sum
     ensures exact { result ≡ and_of width a b }
 {
@@ -143,7 +143,7 @@ pub fn and(a: u16, b: u16, width: Width) -> Sum
     flagged(value, value != 0, false, width)
 }
 
-/// The bits that one of two bytes or words alone has. C is the opposite of Z, V is set where both are
+/// Bitwise exclusive or. C is the opposite of Z, V is set if both operands are
 /// negative.
 pub fn xor(a: u16, b: u16, width: Width) -> Sum
     ensures exact { result ≡ xor_of width a b }

@@ -6,13 +6,13 @@ ghost use Rattle.sm_words.specs.Status.{is_gie, is_cpu_off};
 use crate::status;
 use std::marker::Model;
 
-/// The register that is the program counter.
+/// The number of the program counter, R0.
 pub const PC: u8 = 0;
-/// The register that is the stack pointer.
+/// The number of the stack pointer, R1.
 pub const SP: u8 = 1;
-/// The register that is the status register; its bits are named in [`status`].
+/// The number of the status register, R2; [`status`] names its bits.
 pub const SR: u8 = 2;
-/// The register that is the constant generator.
+/// The number of the constant generator, R3, which reads 0.
 pub const CG: u8 = 3;
 
 // What the rules say of them: a changed number is refused here.
@@ -42,8 +42,8 @@ impl Model for Core {
 }
 
 impl Core {
-    /// The core that keeps of these words what its registers can hold: bit 0 of R0 and R1, the bits of
-    /// R2 from 9 on and all of R3 are cleared.
+    /// A core with these words, as far as the registers can hold them: bit 0 of R0 and R1, bits 9 to 15 of
+    /// R2 and all of R3 are cleared.
     pub fn new(r: [u16; 16]) -> Core
         ensures kept { result ≡ core_of r }
         ensures core { IsCore result }
@@ -56,7 +56,7 @@ impl Core {
         Core { r: words }
     }
 
-    /// The word of register `n`, and 0 where there is no such register.
+    /// The word of register `n`; 0 if there is no such register.
     pub fn get(&self, n: u8) -> u16
         ensures word { result ≡ reg self.now n }
         ensures core { IsCore self.now }
@@ -105,7 +105,7 @@ impl Core {
         status::is_set(status::CPU_OFF, self.sr())
     }
 
-    /// Writes a word to register `n`, which keeps of it what it can hold; nothing changes where there is
+    /// Writes a word to register `n`, which drops the bits that it cannot hold. Nothing changes if there is
     /// no such register.
     #[tactic(auto, using(crate::proofs::Cores::set_core, crate::proofs::Cores::put_past))]
     pub fn put(&mut self, n: u8, word: u16)
@@ -120,7 +120,7 @@ impl Core {
     }
 }
 
-/// What register `n` keeps of a word.
+/// A word without the bits that register `n` cannot hold.
 fn kept(n: u8, word: u16) -> u16
     ensures { result ≡ kept n word }
 {

@@ -12,15 +12,15 @@ pub const CARRY: u16 = 0x0001;
 pub const ZERO: u16 = 0x0002;
 /// N, the result's sign bit.
 pub const NEGATIVE: u16 = 0x0004;
-/// GIE, whether interrupts may arrive; the lowest bit that is no flag.
+/// GIE: interrupts are enabled. The lowest bit that is not an arithmetic flag.
 pub const GIE: u16 = 0x0008;
-/// CPUOFF, whether the processor is off.
+/// CPUOFF: the processor sleeps until an interrupt.
 pub const CPU_OFF: u16 = 0x0010;
-/// SCG0, the one bit that an interrupt keeps.
+/// SCG0: the only bit of SR that survives the acceptance of an interrupt.
 pub const SCG0: u16 = 0x0040;
-/// V, the overflow, which is the highest bit.
+/// V, the signed overflow; the highest bit of the register.
 pub const OVERFLOW: u16 = 0x0100;
-/// The first number that the register is too small for.
+/// One past the greatest value of the register, which has nine bits.
 pub const LIMIT: u16 = 0x0200;
 
 // What the rules say of them: a changed number is refused here.
@@ -30,7 +30,7 @@ const _: () = prove!(NEGATIVE == 0x0004 && OVERFLOW == 0x0100 && SCG0 == 0x0040)
 
 const _: () = prove!(ZERO == 0x0002);
 
-/// Whether the bit with this worth is set.
+/// Whether the bit of this mask is set.
 pub fn is_set(mask: u16, sr: u16) -> bool
     requires bit { 0 < mask }
     ensures set { result ≡ is_set mask sr }
@@ -39,21 +39,21 @@ pub fn is_set(mask: u16, sr: u16) -> bool
     sr / mask % 2 == 1
 }
 
-/// Whether the bits of all four flags are set.
+/// Whether C, Z, N and V are all set.
 pub fn has_all_flags(sr: u16) -> bool
     ensures exact { result ≡ has_all_flags sr }
 {
     sr % GIE == GIE - 1 && is_set(OVERFLOW, sr)
 }
 
-/// The bits that are no flags: those from GIE on, below V.
+/// The bits that are not arithmetic flags: GIE and above, below V.
 fn controls(sr: u16) -> u16
     ensures { result ≡ controls sr }
 {
     GIE * (sr / GIE % (OVERFLOW / GIE))
 }
 
-/// SR with C, Z, N and V of a result, and its other bits as they were.
+/// SR with the flags C, Z, N and V of a result; all other bits stay.
 pub fn with_flags(sum: &Sum, sr: u16) -> u16
     ensures exact { result ≡ sr_with_flags sum.now sr }
 {
@@ -71,7 +71,7 @@ pub fn confine(old: u16, new: u16) -> u16
     new % GIE + controls(old) + OVERFLOW * (new / OVERFLOW % 2)
 }
 
-/// SR once an interrupt was accepted: it keeps SCG0 alone.
+/// SR after the acceptance of an interrupt: all bits but SCG0 are cleared.
 pub fn interrupt(sr: u16) -> u16
     ensures exact { result ≡ interrupted_sr sr }
 {

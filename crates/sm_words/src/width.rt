@@ -1,7 +1,7 @@
 ghost use Rattle.std.specs.Prelude.{◌≡◌};
 ghost use Rattle.sm_words.specs.Sums.{limit, low, complement};
 
-/// How much of a register or of the memory an instruction works on.
+/// The size of an instruction's operands.
 #[derive(Clone, Copy, PartialEq, Eq, Debug, Default)]
 pub enum Width {
     /// The low byte of a register, or one byte of memory.
@@ -12,7 +12,7 @@ pub enum Width {
 }
 
 impl Width {
-    /// The first number that a byte or a word is too small for.
+    /// One past the greatest value: 256 for a byte, 65,536 for a word.
     pub fn limit(self) -> u32
         ensures exact { result ≡ limit self }
     {
@@ -32,7 +32,7 @@ impl Width {
         }
     }
 
-    /// Each bit of the low byte, or of the word, turned.
+    /// The one's complement of the low byte or of the word.
     pub fn complement(self, value: u16) -> u16
         ensures exact { result ≡ complement self value }
     {
@@ -43,7 +43,7 @@ impl Width {
     }
 }
 
-/// What an operation gives: a value with the four flags.
+/// The result of an operation with its four flags.
 #[derive(Clone, Copy, PartialEq, Eq, Debug)]
 pub struct Sum {
     /// The result; of a byte operation a number below 256.

@@ -1,4 +1,4 @@
-//! Decimals.
+//! Decimal numbers, without sign or leading zero: written and read.
 ghost use Rattle.std.specs.Prelude.{◌≡◌, ◌+◌, ◌++◌, ◌<◌, ◌≤◌, ◌^◌, true, IfSome};
 ghost use Rattle.std.specs.Option.{SomeIff};
 ghost use Rattle.std.specs.List.{list_all};
@@ -10,7 +10,7 @@ ghost use Rattle.texts.specs.Decimals as spec;
 use arrayvec::ArrayString;
 use itoa::{Buffer, Integer};
 
-/// A number in decimal.
+/// The decimal digits of a number.
 pub fn decimal(number: u64) -> ArrayString<20>
     ensures text { result.bytes ≡ fmt.decimal number }
 {
@@ -20,7 +20,7 @@ pub fn decimal(number: u64) -> ArrayString<20>
     text
 }
 
-/// Appends a number in decimal.
+/// Appends the decimal digits of a number.
 pub fn push_decimal<I: Integer, const N: usize>(number: I, out: &mut ArrayString<N>)
     requires room { array_string_len out.old + I.MAX_STR_LEN ≤ N }
     ensures text { out.new.bytes ≡ out.old.bytes ++ I.text number }
@@ -32,7 +32,7 @@ pub fn push_decimal<I: Integer, const N: usize>(number: I, out: &mut ArrayString
 
 /// The number whose decimal the text is, where it is at most `most`.
 ///
-/// A decimal of at most n digits is one of at most 10^n - 1.
+/// So `most` of 10^n - 1 allows at most n digits. `None` for every other text.
 #[tactic(auto, unfolding(crate::specs::Decimals::read_decimal), using(std::proofs::lemmas::Bool::Decides::nat_tests))]
 pub fn read_decimal(text: &[u8], most: u64) -> Option<u64>
     ensures number { result ≡ spec.read_decimal most text.now }

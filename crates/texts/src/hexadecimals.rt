@@ -1,4 +1,4 @@
-//! Hexadecimal digits of lower case.
+//! Lower-case hexadecimal digits.
 ghost use Rattle.std.specs.Prelude.{◌≡◌, ◌+◌, ◌*◌, ◌≤◌, ◌++◌, length, Some, None, MatchBool, IsAscii};
 ghost use Rattle.std.specs.List.{list_all};
 ghost use Rattle.hex.specs.Hex.{encode_lower};
@@ -27,7 +27,7 @@ pub fn hex_word(word: u16) -> ArrayString<4>
     as_text(&digits)
 }
 
-/// A key as 32 digits.
+/// A key of 16 bytes as 32 digits, byte 0 first.
 pub fn hex_key(key: &[u8; 16]) -> ArrayString<32>
     ensures text { result.bytes ≡ spec.hex_key key.now }
 {
@@ -54,7 +54,7 @@ pub fn push_hex_word<const N: usize>(word: u16, out: &mut ArrayString<N>)
     out.push_str(hex_word(word).as_str());
 }
 
-/// The byte that two digits write.
+/// The byte that two digits stand for; `None` if the text is anything else.
 pub fn read_hex_byte(text: &[u8]) -> Option<u8>
     ensures byte { result ≡ spec.read_hex_byte text.now }
 {
@@ -66,7 +66,7 @@ pub fn read_hex_byte(text: &[u8]) -> Option<u8>
     }
 }
 
-/// The word that four digits write.
+/// The word that four digits stand for; `None` if the text is anything else.
 pub fn read_hex_word(text: &[u8]) -> Option<u16>
     ensures word { result ≡ spec.read_hex_word text.now }
 {
@@ -78,7 +78,7 @@ pub fn read_hex_word(text: &[u8]) -> Option<u16>
     }
 }
 
-/// The key that 32 digits write.
+/// The key that 32 digits stand for; `None` if the text is anything else.
 pub fn read_hex_key(text: &[u8]) -> Option<[u8; 16]>
     ensures key { result ≡ spec.read_hex_key text.now }
 {

@@ -1,7 +1,7 @@
 //! Numbers as texts, the lines of a text, and the words of a line.
 //!
-//! A decimal has no sign and no leading zero; hexadecimal digits are of lower case, two a byte, and the high ones come
-//! first; LF ends a line. Each number has one text, and what is written is read back: `laws` says so.
+//! Decimal numbers have no sign and no leading zero. Hexadecimal digits are in lower case, two a byte, high digit
+//! first. A line ends with LF. Each number has one text, which reads back to that number: see `laws`.
 #![tactic(auto)]
 
 mod decimals;

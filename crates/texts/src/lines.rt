@@ -2,7 +2,7 @@
 ghost use Rattle.std.specs.Prelude.{◌≡◌, ◌⊎◌, ◌<◌, ◌++◌, ◌∷◌, [], length, position, IfSome, IfNone};
 ghost use Rattle.texts.specs.Lines.{is_line_feed, ended_lines, unended, lines_of};
 
-/// The first line without its LF, and what stands behind it; `None` where there is no LF.
+/// The first line without its LF, and the rest of the text; `None` if there is no LF.
 pub fn split_line(text: &[u8]) -> Option<(&[u8], &[u8])>
     ensures cut { IfSome result (λ parts. text.now ≡ parts.0.now ++ 10 ∷ parts.1.now) }
     ensures lines { IfSome result (λ parts. ended_lines text.now ≡ parts.0.now ∷ ended_lines parts.1.now) }
@@ -23,7 +23,7 @@ fn line_end(text: &[u8]) -> Option<usize>
     text.iter().position(|byte| *byte == b'\n')
 }
 
-/// The first line, where the last may lack its LF, and what stands behind it; `None` at the end of the text.
+/// The first line without its LF, and the rest of the text. The last line may lack its LF. `None` if the text is empty.
 pub fn next_line(text: &[u8]) -> Option<(&[u8], &[u8])>
     ensures cut { IfSome result (λ parts. (text.now ≡ parts.0.now ++ 10 ∷ parts.1.now)
         ⊎ ((text.now ≡ parts.0.now) × (parts.1.now ≡ []))) }

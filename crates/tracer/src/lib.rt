@@ -8,16 +8,16 @@ use pc_access::Stop;
 use sm_words::Core;
 pub use text::{end_line, line};
 
-/// What one cycle tells. The lines of one cycle stand in the order of its steps.
+/// An event of a cycle. The events of one cycle stand in the order of its steps.
 #[derive(Clone, Copy, Debug, Default, PartialEq, Eq)]
 pub enum Event {
-    /// A module held in the newest frame runs on.
+    /// The module of the newest frame resumes.
     Resume { module: u16 },
-    /// A module gave itself up: its data are 0 and it left the table.
+    /// A module unprotected itself: its data are cleared and it left the table.
     Close { module: u16 },
     /// The padding is over, and the handler begins.
     Handler { pc: u16 },
-    /// A module's PC is outside its text.
+    /// The active module was left: PC is outside its text.
     Leave { module: u16, pc: u16 },
     /// An interrupt put a module into a frame.
     Hide { module: u16, vector: u8 },
@@ -36,7 +36,7 @@ pub enum Event {
     Stop(Stop),
 }
 
-/// How a run stands at its end.
+/// The state of a machine at the end of a run, as far as it may be told.
 #[derive(Clone, Copy, Debug, PartialEq, Eq)]
 pub enum EndState {
     /// The machine stopped.
