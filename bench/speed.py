@@ -1,75 +1,33 @@
 #!/usr/bin/env python3
-"""Times the machine beside mspdebug's simulator, on programs that end in a jump to itself.
+"""Times the machine beside mspdebug's simulator, on programs that clang compiled (programs/; each ends in a jump to itself, with 0 in R4).
 
-    python3 bench/speed.py PROGRAM [RUNS]
+    python3 bench/speed.py [PROGRAM [RUNS [NAME..]]]
 
 PROGRAM is called as `PROGRAM image IMAGE - CYCLES`, mspdebug (0.22, Debian) as `mspdebug -q sim`, once bare and once with its tracer.
-A line for each program: the least processor time of RUNS (5), taken in turn, in seconds, and PROGRAM's part of each of mspdebug's.
+A line for each program: the least processor time of RUNS (3), taken in turn, in seconds; PROGRAM's part of each of mspdebug's; and, where
+valgrind is installed, host instructions for each instruction of the program.
+mspdebug has no modules and no timer of this machine: `module` is timed alone.
 """
 import os
+import re
 import resource
+import shutil
 import subprocess
 import sys
 import tempfile
 
-START = 0x0200
-
-# The words by the address where they stand, the module if there is one (vendor, text, data), the address of the jump to itself, and the cycles to it.
-PROGRAMS = {
-    # 300 * 65,535 turns of a decrement and a jump: 2 + 2 + 300 * (2 + 65,535 * 3 + 1 + 2) cycles.
-    "busy": (
-        {START: [0x4031, 0x0A00, 0x4035, 300, 0x4036, 0xFFFF, 0x8316, 0x23FE, 0x8315, 0x23FA, 0x3FFF]},
-        None,
-        0x0214,
-        4 + 300 * 196_610,
-    ),
-    # 20,000 copies of 256 words: a turn is mov @r6+, 0(r7) in 5 cycles, two sums in 2 and a jump in 2.
-    "copy": (
-        {
-            START: [0x4031, 0x0A00, 0x4035, 20_000, 0x4036, 0x0300, 0x4037, 0x0600, 0x4038, 256]
-            + [0x46B7, 0x0000, 0x5327, 0x8318, 0x23FB, 0x8315, 0x23F3, 0x3FFF]
-        },
-        None,
-        0x0222,
-        4 + 20_000 * (6 + 256 * 9 + 3),
-    ),
-    # 60 * 65,535 calls of a sum: call in 5 cycles, the sum in 1, the return in 3, a decrement and a jump in 3.
-    "calls": (
-        {
-            START: [0x4031, 0x0A00, 0x4035, 60, 0x4036, 0xFFFF, 0x12B0, 0x0230, 0x8316, 0x23FC, 0x8315, 0x23F8, 0x3FFF],
-            0x0230: [0x5507, 0x4130],
-        },
-        None,
-        0x0218,
-        4 + 60 * (2 + 65_535 * 12 + 3),
-    ),
-    # The copies again, by a module within its data: entered by mov #0x0300, r0, left by mov r9, r0, and then a jump to itself.
-    # mspdebug knows no modules and runs the same words plainly.
-    "module": (
-        {
-            START: [0x4031, 0x0C00, 0x4039, 0x020C, 0x4030, 0x0300, 0x3FFF],
-            0x0300: [0x4035, 20_000, 0x4036, 0x0500, 0x4037, 0x0700, 0x4038, 256]
-            + [0x46B7, 0x0000, 0x5327, 0x8318, 0x23FB, 0x8315, 0x23F3, 0x4900],
-        },
-        "0007 0300 0320 0400 0a00",
-        0x020C,
-        7 + 2 + 20_000 * (6 + 256 * 9 + 3) + 2 + 2,
-    ),
-}
+HERE = os.path.dirname(os.path.abspath(__file__))
+NAMES = ["checksum", "sort", "tables", "search", "cipher", "calls", "module"]
+MOST_CYCLES = 400_000_000
+COUNTED_CYCLES = 200_000  # of a run by callgrind, less those of a run of 0 cycles
 
 
-def memory(pieces):
-    """The bytes by address, with the reset vector."""
-    cells = {0xFFFE: START}
-    cells.update({addr + 2 * n: word for addr, words in pieces.items() for n, word in enumerate(words)})
-    return {addr + k: word >> 8 * k & 255 for addr, word in cells.items() for k in (0, 1)}
-
-
-def image(cells, module):
-    rows = sorted({addr & ~15 for addr in cells})
-    lines = [f"at {row:04x} " + "".join(f"{cells.get(row + k, 0):02x}" for k in range(16)) for row in rows]
-    modules = [f"module {module}"] if module else []
-    return "\n".join(["sancus-image 1", "key " + "00" * 16, "handler 0000", *modules, *lines, "end"]) + "\n"
+def memory(image):
+    """The bytes by address that an image's rows give."""
+    cells = {}
+    for addr, row in re.findall(r"^at ([0-9a-f]{4}) ([0-9a-f]{32})$", image, re.M):
+        cells.update({int(addr, 16) + k: byte for k, byte in enumerate(bytes.fromhex(row))})
+    return cells
 
 
 def intel_hex(cells):
@@ -80,45 +38,73 @@ def intel_hex(cells):
     return "\n".join(lines + [":00000001FF"]) + "\n"
 
 
-def seconds(command):
+def end_address(cells):
+    """The address of `mov r12, r4` and `jmp $`, the last things that a program does."""
+    word = lambda addr: cells.get(addr, 0) | cells.get(addr + 1, 0) << 8
+    return next(addr + 2 for addr in sorted(cells) if word(addr) == 0x4C04 and word(addr + 2) == 0x3FFF)
+
+
+def seconds(command, text=None):
     """The processor time of a command and what it prints."""
     before = resource.getrusage(resource.RUSAGE_CHILDREN)
-    done = subprocess.run(command, stdin=subprocess.DEVNULL, capture_output=True, text=True)
+    done = subprocess.run(command, input=text, capture_output=True, text=True)
     after = resource.getrusage(resource.RUSAGE_CHILDREN)
     return after.ru_utime + after.ru_stime - before.ru_utime - before.ru_stime, done.stdout
 
 
+def cycles_to(program, image, end, folder):
+    """How many cycles pass until the program stands at its end."""
+    script = os.path.join(folder, "script.txt")
+    with open(script, "w") as out:
+        out.write(f"until {end:04x} {MOST_CYCLES}\n")
+    text = seconds([program, "monitor", image, "-", script])[1]
+    return int(re.search(rf"^end (\d+) outside {end:04x} (?:[0-9a-f]{{4}} ){{3}}0000 ", text, re.M)[1])
+
+
+def host_instructions(program, image, cycles):
+    text = subprocess.run(
+        ["valgrind", "--tool=callgrind", "--callgrind-out-file=/dev/null", program, "image", image, "-", str(cycles)], capture_output=True, text=True
+    ).stderr
+    return int(re.search(r"Collected : (\d+)", text)[1])
+
+
+def one(program, name, runs, folder):
+    image = os.path.join(HERE, "programs", name + ".img")
+    with open(image) as it:
+        cells = memory(it.read())
+    end, loaded = end_address(cells), os.path.join(folder, name + ".hex")
+    with open(loaded, "w") as out:
+        out.write(intel_hex(cells))
+    cycles = cycles_to(program, image, end, folder)
+    load = [f"load {loaded}", "reset", f"setbreak {end:#x}", "run"]
+    commands = {"ours": [program, "image", image, "-", str(cycles)]}
+    if name != "module":
+        commands["bare"] = ["mspdebug", "-q", "sim", *load]
+        commands["traced"] = ["mspdebug", "-q", "sim", "simio add tracer tracer", *load, "simio info tracer"]
+    least, instructions = {}, 0
+    for _ in range(runs):
+        for which, command in commands.items():
+            time, text = seconds(command)
+            if which != "ours" and f"pc: {end:05x}" not in text.lower():
+                sys.exit(f"{name}: {text}")
+            if which == "traced":
+                instructions = int(re.search(r"Instruction count: (\d+)", text)[1])
+            least[which] = min(time, least.get(which, time))
+    line = f"{name}: {cycles} cycles, {least['ours']:.2f} s, {cycles / least['ours'] / 1e6:.1f} million a second"
+    if "bare" in least:
+        line += f"; of mspdebug bare {least['ours'] / least['bare']:.2f}, with its tracer {least['ours'] / least['traced']:.2f}"
+    if instructions and shutil.which("valgrind"):
+        counted = host_instructions(program, image, COUNTED_CYCLES) - host_instructions(program, image, 0)
+        line += f"; {counted / COUNTED_CYCLES * cycles / instructions:.0f} host instructions an instruction"
+    print(line, flush=True)
+
+
 def main():
     program = sys.argv[1] if len(sys.argv) > 1 else "crates/sm_main/out/sm_main"
-    runs = int(sys.argv[2]) if len(sys.argv) > 2 else 5
+    runs = int(sys.argv[2]) if len(sys.argv) > 2 else 3
     with tempfile.TemporaryDirectory() as folder:
-        for name, (pieces, module, end, cycles) in PROGRAMS.items():
-            cells = memory(pieces)
-            given, loaded = os.path.join(folder, name + ".img"), os.path.join(folder, name + ".hex")
-            with open(given, "w") as out:
-                out.write(image(cells, module))
-            with open(loaded, "w") as out:
-                out.write(intel_hex(cells))
-            load = [f"load {loaded}", f"set 0 {START:#x}", f"setbreak {end:#x}", "run"]
-            commands = {
-                "ours": [program, "image", given, "-", str(cycles)],
-                "bare": ["mspdebug", "-q", "sim", *load],
-                "traced": ["mspdebug", "-q", "sim", "simio add tracer tracer", *load],
-            }
-            least = {}
-            for _ in range(runs):
-                for which, command in commands.items():
-                    time, text = seconds(command)
-                    if which == "ours" and f"end {cycles} outside {end:04x}" not in text:
-                        sys.exit(f"{name}: {text}")
-                    if which != "ours" and f"PC: {end:05x}" not in text.lower().replace("pc:", "PC:"):
-                        sys.exit(f"{name}: {text}")
-                    least[which] = min(time, least.get(which, time))
-            print(
-                f"{name}: {cycles} cycles, {least['ours']:.2f} s, {cycles / least['ours'] / 1e6:.1f} million a second;"
-                f" of mspdebug bare {least['ours'] / least['bare']:.2f}, with its tracer {least['ours'] / least['traced']:.2f}",
-                flush=True,
-            )
+        for name in sys.argv[3:] or NAMES:
+            one(program, name, runs, folder)
 
 
 main()
