@@ -36,13 +36,23 @@ def kind_of(words, folder):
     return "proof" if words[1:2] in (["check"], ["build"], ["verdict"]) else "rest"
 
 
-def look(found):
+def is_below(pid, top):
+    """Whether a process was begun by another, or by what that began."""
+    while pid not in (top, 0, 1):
+        with open(f"/proc/{pid}/stat") as it:
+            pid = int(it.read().rpartition(")")[2].split()[1])
+    return pid == top
+
+
+def look(found, top):
     for pid in filter(str.isdigit, os.listdir("/proc")):
         try:
             with open(f"/proc/{pid}/comm") as it:
                 if it.read().strip() != "rattle":
                     continue
             spent, start, memory, words, folder = looked_at(pid)
+            if (pid, start) not in found and not is_below(int(pid), top):
+                continue
         except (OSError, IndexError):
             continue
         if "--crate-name" not in words:
@@ -70,7 +80,7 @@ def main():
     found, begun = {}, time.time()
     with subprocess.Popen(sys.argv[1:]) as running:
         while running.poll() is None:
-            look(found)
+            look(found, running.pid)
             time.sleep(0.5)
     table(found)
     print(f"{(time.time() - begun) / 60:.1f} minutes by the clock, status {running.returncode}")
