@@ -40,16 +40,16 @@ impl Lines {
         }
     }
 
-    // Line `line` goes up.
-    pub(crate) fn raise(&mut self, line: u8)
+    /// Line `line` goes up.
+    pub fn raise(&mut self, line: u8)
         requires { line < 4 }
         ensures { self.new ≡ record self.old { levels = with_bit self.old.levels line 1 } }
     {
         self.levels = with_set(self.levels, line);
     }
 
-    // Line `line` goes down.
-    pub(crate) fn lower(&mut self, line: u8)
+    /// Line `line` goes down.
+    pub fn lower(&mut self, line: u8)
         requires { line < 4 }
         ensures { self.new ≡ record self.old { levels = with_bit self.old.levels line 0 } }
     {

@@ -45,8 +45,8 @@ impl Serial {
         }
     }
 
-    // A byte comes from outside.
-    pub(crate) fn receive(&mut self, byte: u8)
+    /// A byte comes from outside. One that was not read is lost, and the overrun is noted.
+    pub fn receive(&mut self, byte: u8)
         ensures { self.new ≡ record self.old { got = true; lost = self.old.lost || self.old.got; byte = byte } }
     {
         self.overrun = self.overrun || self.received;
@@ -54,8 +54,8 @@ impl Serial {
         self.byte = byte;
     }
 
-    // The byte that was sent in this cycle.
-    pub(crate) fn sent(&self) -> Option<u8>
+    /// The byte that was sent in this cycle.
+    pub fn sent(&self) -> Option<u8>
         ensures { result ≡ self.now.sent }
     {
         self.sent

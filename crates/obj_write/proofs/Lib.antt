@@ -14,4 +14,3 @@ pub mod LinkLemmas
 pub mod EntryLemmas
 pub mod ReaderLemmas
 pub mod GivenLemmas
-pub mod RowLemmas

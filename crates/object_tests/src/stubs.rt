@@ -1,4 +1,5 @@
 use entry_stubs::*;
+use mod_layout::Section;
 
 // The stub of one entry at 0x084e, in a text from 0x0800 to 0x0850 with data from 0x0a00 and a
 // stack of 32 bytes.
