@@ -1,7 +1,7 @@
 //! Instructions through a port in memory.
 
 ghost use Rattle.std.specs.Prelude.{◌≡◌, ◌%◌, List, ℕ, slice_index, slice_set};
-ghost use Rattle.instruction_tests.specs.Bench.{bench_value, bench_written};
+ghost use Rattle.instruction_tests.specs.internal.Bench.{bench_value, bench_written};
 
 use cpu_step::{Port, are_aligned, execute, plan};
 use insn_decode::{Insn, decode};

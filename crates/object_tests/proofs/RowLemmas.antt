@@ -4,7 +4,7 @@ use Rattle.std.specs.List.{AllPairs}
 use Rattle.std.proofs.lemmas.List.Elements.{All-nil, All-cons}
 use Rattle.std.proofs.lemmas.List.Kept.{AllPairs-cons}
 use Rattle.asm_text.specs.Parts.{SectionValue, SymbolValue, IsUnit, IsSection, IsSymbol, IsRelocation, is_name, is_name_byte}
-use Rattle.object_tests.specs.Rows.{text_value, here_value, main_value}
+use Rattle.object_tests.specs.internal.Rows.{text_value, here_value, main_value}
 
 no_pairs : {X : Type 0} (R : X → X → Type 0) → AllPairs R []
 no_pairs R i j d lt within = absurd (omega arith)

@@ -2,7 +2,7 @@
 
 ghost use Rattle.std.specs.Prelude.{◌≡◌, IfOk};
 ghost use Rattle.asm_text.specs.Views.{section_of, symbol_of};
-ghost use Rattle.object_tests.specs.Rows.{text_value, here_value, main_value};
+ghost use Rattle.object_tests.specs.internal.Rows.{text_value, here_value, main_value};
 
 use obj_write::write_object;
 use asm_text::{AsmSection, AsmSymbol, AsmUnit, SectionKind};
