@@ -69,4 +69,3 @@ fn one_column(op: OneOp) -> usize
         OneOp::Rrc | OneOp::Swpb | OneOp::Rra | OneOp::Sxt => 0,
     }
 }
-

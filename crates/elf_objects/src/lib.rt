@@ -13,4 +13,3 @@ mod symbol;
 
 pub use fault::ElfFault;
 pub use object::{Binding, Home, Object, Relocation, SectionHead, Span, Symbol, parse};
-

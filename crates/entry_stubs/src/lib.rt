@@ -7,7 +7,6 @@ ghost use Rattle.entry_stubs.specs.Stub.{stub_front, stub_words};
 use arrayvec::ArrayVec;
 use mod_layout::Section;
 
-
 /// The most words that a stub has: 38 and a table of 64 entries.
 const MOST_WORDS: usize = 102;
 

@@ -12,4 +12,3 @@ pub mod units;
 pub use decoder::{decode, length};
 pub use insn::{Insn, OneOp, Operand, TwoOp};
 pub use text::show;
-

@@ -1,6 +1,6 @@
 //! First words of each row of the table, words outside it, and the text of instructions.
-use insn_decode::{Insn, OneOp, Operand, TwoOp, decode, length, show};
 use arrayvec::ArrayString;
+use insn_decode::{Insn, OneOp, Operand, TwoOp, decode, length, show};
 use sm_words::Width;
 use std::process::Abort;
 

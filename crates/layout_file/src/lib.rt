@@ -15,4 +15,3 @@ pub use layout::Layout;
 pub use mod_layout::Section;
 pub use parts::{ModuleSpec, VectorName};
 pub use read::read_layout;
-

@@ -2,8 +2,8 @@
 
 ghost use Rattle.std.specs.Prelude.{◌≡◌, ◌≤◌, IfOk, length};
 
-use monitor::{ScriptFault, play, read_script};
 use board::{Board, Hidden, Ran};
+use monitor::{ScriptFault, play, read_script};
 use schedule_file::read_schedule;
 use sm_io::MemSink;
 use std::alloc::Global;

@@ -1,12 +1,12 @@
 //! Challenges at their bounds, the schedule of one, traces of every form and of none, and the three judgements.
-use vendor_tool::{
-    Challenge, ChallengeFault, TraceFault, read_challenges, read_replies, report, schedule_text,
-};
 use arrayvec::ArrayString;
 use schedule_file::{Entry, What, read_schedule};
 use sm_io::{Failed, MemSink};
 use std::test::Fail;
 use texts::{push_decimal, push_hex_byte};
+use vendor_tool::{
+    Challenge, ChallengeFault, TraceFault, read_challenges, read_replies, report, schedule_text,
+};
 
 const NONCE: [u8; 16] = [0, 1, 2, 3, 4, 5, 6, 7, 8, 9, 10, 11, 12, 13, 14, 15];
 

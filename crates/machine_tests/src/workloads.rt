@@ -1,7 +1,7 @@
 // Worked numbers, pulses and bytes.
-use workload::*;
 use schedule_file::{Entry, What};
 use std::test::Fail;
+use workload::*;
 
 #[test]
 fn draws(rt: HostRuntime) {

@@ -12,7 +12,6 @@ use page_pool::Pool;
 use std::alloc::{AllocError, Global};
 use std::marker::Model;
 
-
 /// Memory was refused.
 pub type NoMemory = AllocError;
 

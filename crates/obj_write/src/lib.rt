@@ -9,4 +9,3 @@ mod strings;
 mod symbols;
 
 pub use object::write_object;
-

@@ -1,5 +1,5 @@
-use elf_objects::*;
 use byteorder::{ByteOrder, LittleEndian};
+use elf_objects::*;
 use std::alloc::Global;
 use std::process::Abort;
 use std::test::Fail;

@@ -11,11 +11,11 @@ use self::objects::{
     CALL, COMMONS, COMMONS_FIRST, FAULTY, LONG_TEXT, NUMBERS, NUMBERS_FIRST, REPAIRS, ROOM,
     ROOM_SIZE,
 };
-use linker::{LinkFault, Region, link};
 use byteorder::{ByteOrder, LittleEndian};
 use elf_objects::{Object, parse};
 use image_text::Image;
 use layout_file::{Layout, read_layout};
+use linker::{LinkFault, Region, link};
 use reloc_apply::RelocFault;
 use std::alloc::Global;
 use std::process::Abort;

@@ -4,9 +4,9 @@ ghost use Rattle.std.specs.Prelude.{◌≡◌, IfOk};
 ghost use Rattle.asm_text.specs.Views.{section_of, symbol_of};
 ghost use Rattle.object_tests.specs.internal.Rows.{text_value, here_value, main_value};
 
-use obj_write::write_object;
 use asm_text::{AsmSection, AsmSymbol, AsmUnit, SectionKind};
 use elf_objects::{Binding, Home, Object, parse};
+use obj_write::write_object;
 use std::alloc::{AllocError, Global};
 use std::test::Fail;
 

@@ -1,7 +1,6 @@
 //! Rights: which access from where is refused, by which rule.
 #![tactic(auto)]
 
-
 ghost use Rattle.std.specs.Prelude.{◌≡◌, OnOk, IfErr, IsOk, ◌↔◌, Some, None};
 ghost use Rattle.mod_layout.specs.Table.{place_of};
 ghost use Rattle.pc_access.specs.Rights as spec;

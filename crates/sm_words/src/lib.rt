@@ -12,4 +12,3 @@ mod width;
 pub use operations::{add, and, dadd, rra, rrc, swpb, sxt, xor};
 pub use registers::{CG, Core, PC, SP, SR};
 pub use width::{Sum, Width};
-

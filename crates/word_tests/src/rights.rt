@@ -1,7 +1,7 @@
 //! The rules, each at a place of a module.
 
-use pc_access::{Denied, Kind, Rule, allowed};
 use mod_layout::{ModuleTable, Section};
+use pc_access::{Denied, Kind, Rule, allowed};
 use sm_words::Width;
 use std::test::Fail;
 

@@ -1,8 +1,8 @@
 //! Each line and each end line once, and the longest of them.
-use tracer::{EndState, Event, end_line, line};
 use arrayvec::ArrayString;
 use pc_access::{Rule, Stop};
 use sm_words::Core;
+use tracer::{EndState, Event, end_line, line};
 
 fn stop(rule: Rule, pc: u16, addr: u16, module: u16) -> Event {
     Event::Stop(Stop {

@@ -1,5 +1,7 @@
 //! Worked sums, and each call once.
-use sm_words::{CG, Core, PC, SP, SR, Sum, Width, add, and, dadd, rra, rrc, status, swpb, sxt, xor};
+use sm_words::{
+    CG, Core, PC, SP, SR, Sum, Width, add, and, dadd, rra, rrc, status, swpb, sxt, xor,
+};
 
 fn sum(value: u16, n: bool, z: bool, c: bool, v: bool) -> Sum {
     Sum { value, n, z, c, v }

@@ -9,4 +9,3 @@ mod pulses;
 pub use draws::next;
 pub use program::image;
 pub use pulses::schedule;
-

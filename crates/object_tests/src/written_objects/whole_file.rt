@@ -1,7 +1,7 @@
 //! A whole file beside its bytes, which were put together by hand from TIS ELF 1.2.
 
-use obj_write::write_object;
 use asm_text::assemble;
+use obj_write::write_object;
 use std::alloc::AllocError;
 use std::test::Fail;
 

@@ -1,9 +1,9 @@
 //! What is put in place of a line, and the refusal that the rules call for.
+use Wanted::{Booted, Many, Missing, Named, Outside, Shared, Unknown, Wrong};
 use layout_file::Key::{
     Boot, Data, Entries, HandlerSp, Module, Name, Stack, Text, Vectors, Vendor, Version,
 };
 use layout_file::{Key, LayoutFault, Spot};
-use Wanted::{Booted, Many, Missing, Named, Outside, Shared, Unknown, Wrong};
 
 /// The refusal that is wanted.
 #[derive(Clone, Copy, Debug)]
