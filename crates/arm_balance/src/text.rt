@@ -1,10 +1,10 @@
 //! The instruction at an address of a text.
 
-ghost use Rattle.std.specs.Prelude.{◌≡◌, ◌<◌, ◌≤◌, ◌+◌, ◌*◌, ◌&&◌, IfSome};
+ghost use Rattle.std.specs.Prelude.{◌≡◌, ◌<◌, ◌≤◌, ◌+◌, ◌*◌, ◌&&◌, if◌then◌else◌, IfSome, None};
 ghost use Rattle.sm_words.specs.Words.{word_at};
 ghost use Rattle.insn_decode.specs.Code.{IsDecoded, insn_of};
-ghost use Rattle.cpu_step.specs.Fetched.{later_word, insn_at};
-ghost use Rattle.arm_balance.specs.Met.{text_byte, word_in, whole, met_first, met};
+ghost use Rattle.cpu_step.specs.Fetched.{later_word, word_in, insn_at, insn_from};
+ghost use Rattle.arm_balance.specs.Met.{text_byte, met};
 
 use insn_decode::{Insn, decode};
 use mod_layout::Section;
@@ -61,8 +61,8 @@ fn insn_there(section: Section, text: &[u8], pc: u16, n: u16) -> Option<Insn>
 
 /// The instruction of `n` words at an address, where it lies wholly in the text.
 fn whole(section: Section, text: &[u8], pc: u16, n: u16) -> Option<Insn>
-    ensures exact { result ≡ whole (word_in section pc n 1 && word_in section pc n 2)
-        (insn_at (text_byte section text.now) pc n) }
+    ensures exact { result ≡ (if word_in section pc n 1 && word_in section pc n 2
+        then insn_at (text_byte section text.now) pc n else None) }
     ensures decoded { IfSome result (λ insn. IsDecoded insn) }
 {
     if has_word(section, pc, n, 1) && has_word(section, pc, n, 2) {
@@ -74,7 +74,7 @@ fn whole(section: Section, text: &[u8], pc: u16, n: u16) -> Option<Insn>
 
 /// The instruction at an address, where its first word tells its length.
 fn met_first(first: Option<Insn>, section: Section, text: &[u8], pc: u16) -> Option<Insn>
-    ensures exact { result ≡ met_first first section text.now pc }
+    ensures exact { result ≡ insn_from first (text_byte section text.now) section pc }
     ensures decoded { IfSome result (λ insn. IsDecoded insn) }
 {
     match first {

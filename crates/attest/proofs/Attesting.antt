@@ -1,6 +1,8 @@
 -- The rows of attest.
 use Rattle.std.proofs.Common.{refl, ◌≡◌, ℕ, ◌+◌, ◌-◌, ◌*◌, ◌≤◌, List, [], ◌++◌, length, take, drop, Bool, true, if◌then◌else◌, Option, Some, None, sym, ◌∙◌, ap, arith, slice_range, append_assoc, append-nil, drop-drop}
+use Rattle.std.specs.Prelude.{bytes_eq}
 use Rattle.std.proofs.lemmas.List.{take_at, drop_at}
+use Rattle.std.specs.Option.{option_or}
 use Rattle.sm_words.specs.Words.{reg}
 use Rattle.mod_layout.specs.declared.Module.{Module}
 use Rattle.mod_layout.specs.Table.{place_of, size_of}
@@ -9,8 +11,8 @@ use Rattle.mod_keys.specs.Keys.{identity, tag_of}
 use Rattle.pc_access.specs.declared.Kind.TheVariants.{Read}
 use Rattle.pc_access.specs.declared.Access.{Access}
 use Rattle.pc_access.specs.declared.Denied.{Denied}
-use Rattle.pc_access.specs.Rights.{first_denied, or_else}
-use Rattle.attest.specs.Units.{Attest, Doer, Effect, answer, attest_answer, attest_plan, attested, blocks, each_byte, genuine, in_range, same_bytes, text_reads, unit_effect, unit_plan}
+use Rattle.pc_access.specs.Rights.{first_denied}
+use Rattle.attest.specs.Units.{Attest, Doer, Effect, answer, attest_answer, attest_plan, attested, blocks, each_byte, genuine, in_range, text_reads, unit_effect, unit_plan}
 use Rattle.attest.specs.Accesses.{values_in}
 use Rattle.attest.specs.internal.Accesses.{text_in}
 use Rattle.attest.specs.Done.{effect_in, own_of}
@@ -70,7 +72,7 @@ module _ (who : Doer) (core : List ℕ) where
           other_text_allowed t active (place_of t (reg core 12)) held other ok other_is in
           let tag = each_byte Read at 16 in
           rw (plan_by true e, denied-append t active held (tag ++ text_reads other) (text_reads own), denied-append t active held tag (text_reads other), mine, others, bytes)
-          (or_none (or_else d None) ∙ or_none d)
+          (or_none (option_or d None) ∙ or_none d)
 
       module _ (mem : List ℕ) (size : length mem ≡ 65536) (own_ok : IsSection own.text) (other_ok : IsSection other.text) (e : in_range at (at + 16) ≡ true) (fits : at + 16 ≤ 65536) where
         values_are : values_in mem accesses ≡ slice_range mem at (at + 16) ++ (text_in mem other ++ text_in mem own)
@@ -85,7 +87,7 @@ module _ (who : Doer) (core : List ℕ) where
         expected = slice_range mem at (at + 16)
 
         genuine_is : genuine who.key own other (values_in mem accesses)
-            ≡ same_bytes expected (tag_of who.key own (text_in mem own) (identity other (text_in mem other)))
+            ≡ bytes_eq expected (tag_of who.key own (text_in mem own) (identity other (text_in mem other)))
         genuine_is =
             let n = size_of other.text in
             let rest = text_in mem other ++ text_in mem own in
@@ -94,14 +96,14 @@ module _ (who : Doer) (core : List ℕ) where
             let long : length (text_in mem other) ≡ n = length-slice_range mem other.text.start other.text.end (omega arith) (omega arith) in
             let back : drop 16 (expected ++ rest) ≡ rest = drop_at expected rest 16 sixteen in
             ap (genuine who.key own other) values_are
-            ∙ ap (λ vs. same_bytes vs (tag_of who.key own (drop (16 + n) (expected ++ rest)) (identity other (take n (drop 16 (expected ++ rest)))))) (take_at expected rest 16 sixteen)
-            ∙ ap (λ vs. same_bytes expected (tag_of who.key own vs (identity other (take n (drop 16 (expected ++ rest))))))
+            ∙ ap (λ vs. bytes_eq vs (tag_of who.key own (drop (16 + n) (expected ++ rest)) (identity other (take n (drop 16 (expected ++ rest)))))) (take_at expected rest 16 sixteen)
+            ∙ ap (λ vs. bytes_eq expected (tag_of who.key own vs (identity other (take n (drop 16 (expected ++ rest))))))
             (sym (drop-drop n 16 (expected ++ rest)) ∙ ap (drop n) back ∙ drop_at (text_in mem other) (text_in mem own) n long)
-            ∙ ap (λ vs. same_bytes expected (tag_of who.key own (text_in mem own) (identity other (take n vs)))) back
-            ∙ ap (λ vs. same_bytes expected (tag_of who.key own (text_in mem own) (identity other vs))) (take_at (text_in mem other) (text_in mem own) n long)
+            ∙ ap (λ vs. bytes_eq expected (tag_of who.key own (text_in mem own) (identity other (take n vs)))) back
+            ∙ ap (λ vs. bytes_eq expected (tag_of who.key own (text_in mem own) (identity other vs))) (take_at (text_in mem other) (text_in mem own) n long)
 
         pub effect_whole : (id : ℕ) →
-            id ≡ (if same_bytes expected (tag_of who.key own (text_in mem own) (identity other (text_in mem other))) then other.id else 0) →
+            id ≡ (if bytes_eq expected (tag_of who.key own (text_in mem own) (identity other (text_in mem other))) then other.id else 0) →
             effect_in who Attest core mem ≡ answer core id (6 + 64 * blocks (size_of other.text + 8))
         effect_whole id id_is =
             effect_by (values_in mem (unit_plan who Attest core)) true e

@@ -1,5 +1,6 @@
 -- On accesses checked one by one.
 use Rattle.std.proofs.Common.{◌≡◌, ◌≢◌, ℕ, suc, ◌+◌, List, [], ◌∷◌, ◌++◌, Option, Some, None, refl}
+use Rattle.std.specs.Option.{option_or}
 use Rattle.sm_words.specs.declared.width.Width.TheVariants.{Byte}
 use Rattle.mod_layout.specs.declared.Place.{Place}
 use Rattle.mod_layout.specs.declared.Place.TheVariants.{Open}
@@ -8,7 +9,7 @@ use Rattle.pc_access.specs.declared.Kind.{Kind}
 use Rattle.pc_access.specs.declared.Kind.TheVariants.{Fetch, Read, Write}
 use Rattle.pc_access.specs.declared.Access.{Access}
 use Rattle.pc_access.specs.declared.Denied.{Denied}
-use Rattle.pc_access.specs.Rights.{right, right_at, or_else, first_denied, access_of}
+use Rattle.pc_access.specs.Rights.{right, right_at, first_denied, access_of}
 use Rattle.attest.specs.Units.{each_byte}
 
 pub read_anyhow : (p : Place) (active : Option ℕ) (held held' : List ℕ) (a : ℕ) → right_at p active held Read a ≡ right_at p active held' Read a
@@ -41,16 +42,16 @@ pub denied-now : (t : Table) (active : Option ℕ) (held : List ℕ) (kind : Kin
 denied-now t active held kind a n m d plain e refused =
     rw (e, right-held t active held [] kind a plain, refused) refl
 
-or_else-later : (d x y z : Option Denied) → z ≡ or_else x y → or_else d z ≡ or_else (or_else d x) y
-or_else-later None x y z e = e
-or_else-later (Some d) x y z e = refl
+option_or-later : (d x y z : Option Denied) → z ≡ option_or x y → option_or d z ≡ option_or (option_or d x) y
+option_or-later None x y z e = e
+option_or-later (Some d) x y z e = refl
 
 -- of two lists the first decides, if it does
 pub denied-append : (t : Table) (active : Option ℕ) (held : List ℕ) (xs ys : List Access) →
-    first_denied t active held (xs ++ ys) ≡ or_else (first_denied t active held xs) (first_denied t active held ys)
+    first_denied t active held (xs ++ ys) ≡ option_or (first_denied t active held xs) (first_denied t active held ys)
 denied-append t active held [] ys = refl
-denied-append t active held (x ∷ xs) ys = or_else-later (right t active held x) (first_denied t active held xs) (first_denied t active held ys) (first_denied t active held (xs ++ ys)) (denied-append t active held xs ys)
+denied-append t active held (x ∷ xs) ys = option_or-later (right t active held x) (first_denied t active held xs) (first_denied t active held ys) (first_denied t active held (xs ++ ys)) (denied-append t active held xs ys)
 
-pub or_none : (d : Option Denied) → or_else d None ≡ d
+pub or_none : (d : Option Denied) → option_or d None ≡ d
 or_none None = refl
 or_none (Some d) = refl

@@ -2,6 +2,7 @@
 use Rattle.std.proofs.Common.{◌≡◌, ◌⊎◌, ⊎_elim, ℕ, zero, suc, ◌+◌, ◌<◌, ◌≤◌, List, [], ◌∷◌, ◌++◌, Bool, true, false, nat_le, ◌&&◌, ◌||◌, ◌==◌, Option, Some, None, refl, sym, ◌∙◌, ap, subst, arith}
 use Rattle.std.proofs.lemmas.Bool.Decides.{nat_tests}
 use Rattle.std.proofs.lemmas.Option.{none-some}
+use Rattle.std.specs.Option.{option_or}
 use Rattle.sm_words.specs.declared.width.Width.TheVariants.{Byte}
 use Rattle.mod_layout.specs.declared.Section.{Section}
 use Rattle.mod_layout.specs.declared.Module.{Module}
@@ -14,7 +15,7 @@ use Rattle.mod_layout.proofs.Found.{outside, no_entry, within, elsewhere, found_
 pub use Rattle.mod_layout.proofs.Found.{and_true, module_found}
 use Rattle.pc_access.specs.declared.Kind.{Kind}
 use Rattle.pc_access.specs.declared.Kind.TheVariants.{Read, Write}
-use Rattle.pc_access.specs.Rights.{right, right_at, or_else, first_denied, access_of}
+use Rattle.pc_access.specs.Rights.{right, right_at, first_denied, access_of}
 use Rattle.attest.specs.Units.{each_byte, in_range, text_at, text_reads}
 use Rattle.attest.specs.Done.{own_of}
 
@@ -26,7 +27,7 @@ all_allowed t active held kind a (suc n) free =
     let here : a < a + suc n = omega arith in
     let rest : first_denied t active held (each_byte kind (a + 1) n) ≡ None =
     all_allowed t active held kind (a + 1) n (λ k low high. free k (omega arith) (omega arith)) in
-    ap (λ d. or_else d (first_denied t active held (each_byte kind (a + 1) n))) (free a (omega arith) here) ∙ rest
+    ap (λ d. option_or d (first_denied t active held (each_byte kind (a + 1) n))) (free a (omega arith) here) ∙ rest
 
 -- ---- reads of a text
 

@@ -1,5 +1,6 @@
 -- On bytes in a row.
 use Rattle.std.proofs.Common.{◌≡◌, ◌≢◌, ℕ, zero, suc, ◌+◌, ◌-◌, ◌<◌, ◌≤◌, List, [], ◌∷◌, ◌++◌, length, take, drop, Bool, true, false, ◌&&◌, ◌==◌, refl, sym, ◌∙◌, ap, arith, replicate, slice_index, slice_range, slice_set}
+use Rattle.std.specs.Prelude.{bytes_eq}
 use Rattle.std.proofs.lemmas.Bool.Decides.{nat_tests}
 use Rattle.pc_access.specs.declared.Access.{Access}
 use Rattle.pc_access.specs.Rights.{access_of}
@@ -10,7 +11,7 @@ use Rattle.pc_access.specs.declared.Kind.TheVariants.{Read, Write}
 use Rattle.mod_layout.specs.declared.Module.{Module}
 use Rattle.mod_layout.specs.Table.{size_of}
 use Rattle.mod_layout.specs.Tables.{IsSection}
-use Rattle.attest.specs.Units.{each_byte, same_bytes, text_reads}
+use Rattle.attest.specs.Units.{each_byte, text_reads}
 use Rattle.attest.specs.Accesses.{writes_of, values_in, stored_in}
 use Rattle.attest.specs.internal.Accesses.{text_in}
 use Rattle.attest.proofs.Slices.{slice_range-cons}
@@ -35,15 +36,15 @@ stored_in-zeros a (suc n) mem = stored_in-zeros (a + 1) n (slice_set mem a 0) �
 
 -- ---- bytes compared
 
-pub same_bytes-next : (x y : ℕ) (xs ys us ws : List ℕ) → us ≡ x ∷ xs → ws ≡ y ∷ ys → x ≡ y → same_bytes us ws ≡ same_bytes xs ys
-same_bytes-next x y xs ys us ws e f same =
-    ap (λ cs. same_bytes cs ws) e ∙ ap (same_bytes (x ∷ xs)) f
-    ∙ ap (λ (b : Bool). b && same_bytes xs ys) (let h : (x == y) ≡ true = grind (arith, nat_tests) in h)
+pub bytes_eq-next : (x y : ℕ) (xs ys us ws : List ℕ) → us ≡ x ∷ xs → ws ≡ y ∷ ys → x ≡ y → bytes_eq us ws ≡ bytes_eq xs ys
+bytes_eq-next x y xs ys us ws e f same =
+    ap (λ cs. bytes_eq cs ws) e ∙ ap (bytes_eq (x ∷ xs)) f
+    ∙ ap (λ (b : Bool). b && bytes_eq xs ys) (let h : (x == y) ≡ true = grind (arith, nat_tests) in h)
 
-pub same_bytes-other : (x y : ℕ) (xs ys us ws : List ℕ) → us ≡ x ∷ xs → ws ≡ y ∷ ys → x ≢ y → same_bytes us ws ≡ false
-same_bytes-other x y xs ys us ws e f other =
-    ap (λ cs. same_bytes cs ws) e ∙ ap (same_bytes (x ∷ xs)) f
-    ∙ ap (λ (b : Bool). b && same_bytes xs ys) (let h : (x == y) ≡ false = grind (arith, nat_tests) in h)
+pub bytes_eq-other : (x y : ℕ) (xs ys us ws : List ℕ) → us ≡ x ∷ xs → ws ≡ y ∷ ys → x ≢ y → bytes_eq us ws ≡ false
+bytes_eq-other x y xs ys us ws e f other =
+    ap (λ cs. bytes_eq cs ws) e ∙ ap (bytes_eq (x ∷ xs)) f
+    ∙ ap (λ (b : Bool). b && bytes_eq xs ys) (let h : (x == y) ≡ false = grind (arith, nat_tests) in h)
 
 -- ---- reads and writes among accesses
 

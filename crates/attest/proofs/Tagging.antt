@@ -1,6 +1,7 @@
 -- The rows of tag.
 use Rattle.std.proofs.Common.{refl, ◌≡◌, ℕ, ◌+◌, ◌-◌, ◌*◌, ◌≤◌, ◌<◌, List, [], ◌++◌, length, take, drop, Bool, true, false, if◌then◌else◌, ◌&&◌, Option, Some, None, sym, ◌∙◌, ap, slice_index, arith, slice_range, append_assoc, append-nil}
 use Rattle.std.proofs.lemmas.List.{take_at, drop_at}
+use Rattle.std.specs.Option.{option_or}
 use Rattle.sm_words.specs.Words.{put, reg}
 use Rattle.mod_layout.specs.declared.Module.{Module}
 use Rattle.mod_layout.specs.Table.{Table, size_of}
@@ -8,7 +9,7 @@ use Rattle.mod_layout.specs.Tables.{IsSection, IsTable}
 use Rattle.mod_keys.specs.Keys.{tag_of}
 use Rattle.pc_access.specs.declared.Kind.TheVariants.{Read, Write}
 use Rattle.pc_access.specs.declared.Access.{Access}
-use Rattle.pc_access.specs.Rights.{first_denied, or_else}
+use Rattle.pc_access.specs.Rights.{first_denied}
 use Rattle.attest.specs.declared.UnitDone.{UnitDone}
 use Rattle.attest.specs.Units.{Tag, Doer, Effect, answer, blocks, each_byte, in_range, tag_answer, tag_plan, text_reads, unit_effect, unit_plan}
 use Rattle.attest.specs.Accesses.{stored_in, values_in, writes_of}
@@ -61,14 +62,14 @@ module _ (who : Doer) (core : List ℕ) where
     -- the text is refused to no one, so the message and then the output decide
     pub denied_by : (active : Option ℕ) (held : List ℕ) → IsTable who.table → own_of active who.table ≡ Some own → in_ranges ≡ true →
         first_denied who.table active held (unit_plan who Tag core)
-        ≡ or_else (first_denied who.table active held (each_byte Read from (to - from))) (first_denied who.table active held (each_byte Write out 16))
+        ≡ option_or (first_denied who.table active held (each_byte Read from (to - from))) (first_denied who.table active held (each_byte Write out 16))
     denied_by active held ok found e =
         let t = who.table in
         let bytes = each_byte Read from (to - from) in
         let tag = each_byte Write out 16 in
         ap (first_denied t active held) (plan_by true e)
         ∙ denied-append t active held (bytes ++ tag) (text_reads own)
-        ∙ ap (or_else (first_denied t active held (bytes ++ tag))) (own_text_allowed t active active held own ok found)
+        ∙ ap (option_or (first_denied t active held (bytes ++ tag))) (own_text_allowed t active active held own ok found)
         ∙ or_none (first_denied t active held (bytes ++ tag))
         ∙ denied-append t active held bytes tag
 

@@ -1,5 +1,5 @@
 -- The unit instructions: protect and unprotect modules, tags and attestation, ids.
-use Rattle.std.specs.Prelude.{ℕ, zero, suc, ◌+◌, ◌-◌, ◌*◌, ◌/◌, List, [], ◌∷◌, ◌++◌, ◌==◌, nat_le, if◌then◌else◌, Bool, true, false, ◌&&◌, Option, Some, None, take, drop, replicate}
+use Rattle.std.specs.Prelude.{ℕ, zero, suc, ◌+◌, ◌-◌, ◌*◌, ◌/◌, List, [], ◌∷◌, ◌++◌, nat_le, if◌then◌else◌, Bool, true, false, ◌&&◌, Option, Some, None, take, drop, replicate, bytes_eq}
 use Rattle.sm_words.specs.Words.{reg, put, nth, add16}
 use Rattle.sm_words.specs.declared.registers.TheConstants.{PC}
 use Rattle.sm_words.specs.declared.width.Width.TheVariants.{Byte}
@@ -132,16 +132,11 @@ place_id (Entry id) = id
 place_id (Text id) = id
 place_id (Data id) = id
 
-abbrev pub same_bytes : List ℕ → List ℕ → Bool
-same_bytes [] [] = true
-same_bytes (x ∷ xs) (y ∷ ys) = (x == y) && same_bytes xs ys
-same_bytes _ _ = false
-
 -- whether the first values are the tag of the other's identity; its text and the own text follow
 abbrev pub genuine : List ℕ → Module → Module → List ℕ → Bool
 genuine key own other values =
     let n = size_of other.text in
-    same_bytes (take TAG_LENGTH values) (tag_of key own (drop (TAG_LENGTH + n) values) (identity other (take n (drop TAG_LENGTH values))))
+    bytes_eq (take TAG_LENGTH values) (tag_of key own (drop (TAG_LENGTH + n) values) (identity other (take n (drop TAG_LENGTH values))))
 
 -- the id of the other where its tag is genuine
 abbrev pub attest_answer : List ℕ → Option Module → Option Module → List ℕ → List ℕ → Effect

@@ -1,8 +1,8 @@
 //! Bytes of the memory in a row.
 
-ghost use Rattle.std.specs.Prelude.{◌≡◌, ◌+◌, ◌≤◌, length, slice_range};
+ghost use Rattle.std.specs.Prelude.{◌≡◌, ◌+◌, ◌≤◌, length, slice_range, bytes_eq};
 ghost use Rattle.pc_access.specs.declared.Kind.TheVariants.{Write};
-ghost use Rattle.attest.specs.Units.{each_byte, same_bytes};
+ghost use Rattle.attest.specs.Units.{each_byte};
 ghost use Rattle.attest.specs.Accesses.{stored_in};
 ghost use Rattle.mem_map.specs.Contents.{SameMarks};
 
@@ -11,7 +11,7 @@ use mem_map::Memory;
 /// Whether these 16 bytes stand from `addr` on.
 pub fn stands_at(memory: &Memory, addr: u16, tag: &[u8; 16]) -> bool
     requires { addr + 16 ≤ 65536 }
-    ensures same { result ≡ same_bytes (slice_range memory.now.bytes addr (addr + 16)) tag.now }
+    ensures same { result ≡ bytes_eq (slice_range memory.now.bytes addr (addr + 16)) tag.now }
     ensures size { length memory.now.bytes ≡ 65536 }
 {
     for i in 0..16 {

@@ -1,10 +1,10 @@
 -- A module by itself: what it does from an entry, and what it leaves.
 use Rattle.std.specs.Prelude.{◌≡◌, ℕ, zero, suc, ◌+◌, ◌-◌, ◌<◌, List, [], ◌∷◌, map, slice_index, slice_set, if◌then◌else◌, Bool, true, false, ◌&&◌, ◌||◌, not, Option, Some, None, All}
+use Rattle.std.specs.List.{list_all}
 use Rattle.sm_words.specs.Words.{IsCore, reg, word_at, low_byte, high_byte}
 use Rattle.sm_words.specs.declared.registers.TheConstants.{PC}
 use Rattle.sm_words.specs.declared.width.Width.{Width}
 use Rattle.sm_words.specs.declared.width.Width.TheVariants.{Byte, Word}
-use Rattle.insn_decode.specs.Code.{insn_of, length_of}
 use Rattle.insn_decode.specs.declared.insn.Insn.{Insn}
 use Rattle.insn_decode.specs.declared.insn.Insn.TheVariants.{Reti, Unit as UnitOp}
 use Rattle.mod_layout.specs.Table.{Table, holds}
@@ -16,8 +16,7 @@ use Rattle.pc_access.specs.declared.Kind.TheVariants.{Fetch, Read, Write}
 use Rattle.pc_access.specs.Accesses.{reads_of, writes_of, after_writes}
 use Rattle.attest.specs.Units.{Doer, UnitName, Protect, Attest, IdOf, unit_named}
 use Rattle.cpu_step.specs.Asked.{asks, effect}
-use Rattle.cpu_step.specs.Fetched.{insn_at, word_in}
-pub use Rattle.cpu_step.specs.Fetched.{if_whole as if_home}
+use Rattle.cpu_step.specs.Fetched.{insn_in}
 
 -- whose call it is: the image's key, the module, its text, and the caller id
 pub record Job : Type 0 where
@@ -79,30 +78,17 @@ is_inside j x = not (misaligned x.width x.addr) && inside_by x.kind j x.addr
 
 -- each of these accesses does
 abbrev pub all_inside : Job → List Access → Bool
-all_inside j [] = true
-all_inside j (x ∷ xs) = is_inside j x && all_inside j xs
-
--- the same of a module's text
-abbrev pub text_word : Job → ℕ → ℕ → ℕ → Bool
-text_word j = word_in j.owner.text
+all_inside j xs = list_all (is_inside j) xs
 
 -- an instruction that it may do, and else none
 abbrev pub may_do : Job → Lone → Option Insn → Option Insn
 may_do j l None = None
 may_do j l (Some insn) = if is_alone insn && all_inside j (asks (lone_who j) insn l.core) then Some insn else None
 
--- the first word tells whether it is an instruction, and the number of its words
-abbrev pub next_first : Option Insn → Job → Lone → Option Insn
-next_first None j l = None
-next_first (Some first) j l =
-    let pc = reg l.core PC in
-    let n = length_of first in
-    if_home (text_word j pc n 1 && text_word j pc n 2) (may_do j l (insn_at (lone_byte j l.data_bytes) pc n))
-
 -- the next instruction, or none where the module is broken: the machine would stop, a byte outside the
 -- two sections is accessed, or it is protect, attest or id of address
 unfoldable pub next_insn : Job → Lone → Option Insn
-next_insn j l = next_first (insn_of (word_at (lone_byte j l.data_bytes) (reg l.core PC)) 0 0) j l
+next_insn j l = may_do j l (insn_in (lone_byte j l.data_bytes) j.owner.text (reg l.core PC))
 
 -- what a read of this width gives
 abbrev pub value_at : Width → (ℕ → ℕ) → ℕ → ℕ
@@ -151,17 +137,13 @@ pub data Doing : Type 0 where
   Breaks : Doing
   Does : (insn : Insn) → Doing
 
--- the instruction, or none where the module is broken
-abbrev pub does_or_breaks : Option Insn → Doing
-does_or_breaks None = Breaks
-does_or_breaks (Some insn) = Does insn
-
 -- of the rest, whether it is closing, whether PC is in the text, and the next instruction
 abbrev pub doing_by : ℕ → Bool → Bool → Option Insn → Doing
 doing_by (suc r) closing in_text next = Waits r
 doing_by zero true in_text next = Closes
 doing_by zero false false next = Leaves
-doing_by zero false true next = does_or_breaks next
+doing_by zero false true None = Breaks
+doing_by zero false true (Some insn) = Does insn
 
 -- what the module does next
 unfoldable pub doing : Job → Lone → Doing

@@ -1,6 +1,7 @@
--- How the outcome of a call of a module by itself stands to the module by itself, cycle by cycle.
-use Rattle.std.specs.Prelude.{◌≡◌, ◌<◌, ◌≤◌, ℕ, List, true, false, None}
+-- How a call of a module by itself ends, as conditions on where it stands after so many cycles.
+use Rattle.std.specs.Prelude.{◌≡◌, ◌<◌, ◌≤◌, ◌↔◌, ℕ, true, false, None}
 use Rattle.sm_words.specs.Words.{reg}
+use Rattle.sm_words.specs.declared.registers.TheConstants.{PC}
 use Rattle.mod_layout.specs.Table.{holds}
 use Rattle.cpu_step.specs.Lone.{Job, Lone, Outcome, Exit, Closing, Broken, Running, Doing, Waits, Does, doing, next_insn, lone_after, outcome}
 
@@ -10,34 +11,37 @@ GoesOn (Waits rest) = Unit {0}
 GoesOn (Does insn) = Unit {0}
 GoesOn _ = ⊥
 
--- it has not ended before so many cycles
-abbrev pub GoesOnBefore : Job → Lone → ℕ → Type 0
-GoesOnBefore j l c = (k : ℕ) → k < c → GoesOn (doing j (lone_after j l k))
+-- after c cycles it stands at s, and it has ended in none of the cycles before
+pub record Reaches (j : Job) (l : Lone) (c : ℕ) (s : Lone) : Type 0 where
+  pub there : lone_after j l c ≡ s
+  pub before : (k : ℕ) → k < c → GoesOn (doing j (lone_after j l k))
 
--- it left its text after so many cycles, with this core and these data
-pub record ExitsAt (j : Job) (l : Lone) (core left : List ℕ) (c : ℕ) : Type 0 where
-  pub before : GoesOnBefore j l c
-  pub there : lone_after j l c ≡ record { core = core; data_bytes = left; rest = 0; closing = false }
-  pub outside : holds j.owner.text (reg core 0) ≡ false
+-- it has left its text
+pub record HasLeft (j : Job) (s : Lone) : Type 0 where
+  pub rested : s.rest ≡ 0
+  pub not_closing : s.closing ≡ false
+  pub outside : holds j.owner.text (reg s.core PC) ≡ false
 
--- its unprotect ran to its end after so many cycles
-pub record ClosesAt (j : Job) (l : Lone) (core left : List ℕ) (c : ℕ) : Type 0 where
-  pub before : GoesOnBefore j l c
-  pub there : lone_after j l c ≡ record { core = core; data_bytes = left; rest = 0; closing = true }
+-- its unprotect ran to its end
+pub record HasClosed (s : Lone) : Type 0 where
+  pub rested : s.rest ≡ 0
+  pub closing : s.closing ≡ true
 
--- after so many cycles the next instruction is one that it may not do
-pub record BreaksAt (j : Job) (l : Lone) (left : List ℕ) (c : ℕ) : Type 0 where
-  pub before : GoesOnBefore j l c
-  pub there : (core : List ℕ) × (lone_after j l c ≡ record { core = core; data_bytes = left; rest = 0; closing = false }) × (holds j.owner.text (reg core 0) ≡ true)
-  pub none : next_insn j (lone_after j l c) ≡ None
+-- the next instruction is one that it may not do
+pub record IsBroken (j : Job) (s : Lone) : Type 0 where
+  pub rested : s.rest ≡ 0
+  pub not_closing : s.closing ≡ false
+  pub inside : holds j.owner.text (reg s.core PC) ≡ true
+  pub none : next_insn j s ≡ None
 
--- an outcome within n cycles, in the words of the module by itself
-abbrev pub Stands : Job → Lone → ℕ → Outcome → Type 0
-Stands j l n (Exit core left c) = (c ≤ n) × ExitsAt j l core left c
-Stands j l n (Closing core left c) = (c ≤ n) × ClosesAt j l core left c
-Stands j l n (Broken left c) = (c < n) × BreaksAt j l left c
-Stands j l n Running = GoesOnBefore j l n
+-- the end of a call within n cycles: the first that it reaches, where one in the n-th still counts, and where an instruction that
+-- it may not do counts while a cycle is left for it
+pub data Ends (j : Job) (l : Lone) (n : ℕ) : Outcome → Type 0 where
+  leaves : (c : ℕ) (s : Lone) → c ≤ n → Reaches j l c s → HasLeft j s → Ends j l n (Exit s.core s.data_bytes c)
+  closes : (c : ℕ) (s : Lone) → c ≤ n → Reaches j l c s → HasClosed s → Ends j l n (Closing s.core s.data_bytes c)
+  breaks : (c : ℕ) (s : Lone) → c < n → Reaches j l c s → IsBroken j s → Ends j l n (Broken s.data_bytes c)
+  runs : (s : Lone) → Reaches j l n s → ¬ HasLeft j s → ¬ HasClosed s → Ends j l n Running
 
--- each outcome stands
-abbrev pub OutcomesStand : Type 0
-OutcomesStand = (j : Job) (l : Lone) (n : ℕ) → Stands j l n (outcome j n l)
+-- a call has one end, and it is the outcome
+abbrev pub OneEnd : Type 0
+OneEnd = (j : Job) (l : Lone) (n : ℕ) (o : Outcome) → Ends j l n o ↔ (outcome j n l ≡ o)

@@ -1,6 +1,5 @@
 -- The two tables of cycles (made after the MSP430x1xx Family User's Guide SLAU049, section 3.4.4).
-use Rattle.std.specs.Prelude.{ℕ, List, [], ◌∷◌, ◌==◌, if◌then◌else◌}
-use Rattle.sm_words.specs.Words.{nth}
+use Rattle.std.specs.Prelude.{ℕ, ◌==◌, if◌then◌else◌}
 use Rattle.sm_words.specs.declared.registers.TheConstants.{PC}
 use Rattle.insn_decode.specs.declared.insn.OneOp.{OneOp}
 use Rattle.insn_decode.specs.declared.insn.OneOp.TheVariants.{Push, Call}
@@ -9,43 +8,43 @@ use Rattle.insn_decode.specs.declared.insn.Operand.TheVariants.{Reg, Const, Imm,
 use Rattle.insn_decode.specs.declared.insn.Insn.{Insn}
 use Rattle.insn_decode.specs.declared.insn.Insn.TheVariants.{Two, One, Jump, Reti, Unit as UnitOp}
 
--- format I: a source's row, to a register, to PC and to memory
-abbrev pub two_row : Operand → List ℕ
-two_row (Reg r) = 1 ∷ 2 ∷ 4 ∷ []
-two_row (Const c) = 1 ∷ 2 ∷ 4 ∷ []
-two_row (Indirect r) = 2 ∷ 2 ∷ 5 ∷ []
-two_row (Increment r) = 2 ∷ 3 ∷ 5 ∷ []
-two_row (Imm x) = 2 ∷ 3 ∷ 5 ∷ []
-two_row (Indexed r x) = 3 ∷ 3 ∷ 6 ∷ []
-two_row (Symbolic x) = 3 ∷ 3 ∷ 6 ∷ []
-two_row (Absolute x) = 3 ∷ 3 ∷ 6 ∷ []
+-- format I has a column for each place of the result: a register, PC, memory
+abbrev pub by_place : Operand → (register pc memory : ℕ) → ℕ
+by_place (Reg r) register pc memory = if r == PC then pc else register
+by_place _ register pc memory = memory
 
--- the column of a destination: a register, PC, memory
-abbrev pub two_column : Operand → ℕ
-two_column (Reg r) = if r == PC then 1 else 0
-two_column _ = 2
+-- its rows, by the source
+abbrev pub two_cycles : Operand → Operand → ℕ
+two_cycles (Reg r) d = by_place d 1 2 4
+two_cycles (Const c) d = by_place d 1 2 4
+two_cycles (Indirect r) d = by_place d 2 2 5
+two_cycles (Increment r) d = by_place d 2 3 5
+two_cycles (Imm x) d = by_place d 2 3 5
+two_cycles (Indexed r x) d = by_place d 3 3 6
+two_cycles (Symbolic x) d = by_place d 3 3 6
+two_cycles (Absolute x) d = by_place d 3 3 6
 
--- format II: an operand's row, of RRC, RRA, SWPB and SXT, of PUSH and of CALL; 0 where there is none
-abbrev pub one_row : Operand → List ℕ
-one_row (Reg r) = 1 ∷ 3 ∷ 4 ∷ []
-one_row (Const c) = 0 ∷ 3 ∷ 4 ∷ []
-one_row (Indirect r) = 3 ∷ 4 ∷ 4 ∷ []
-one_row (Increment r) = 3 ∷ 5 ∷ 5 ∷ []
-one_row (Imm x) = 0 ∷ 4 ∷ 5 ∷ []
-one_row (Indexed r x) = 4 ∷ 5 ∷ 5 ∷ []
-one_row (Symbolic x) = 4 ∷ 5 ∷ 5 ∷ []
-one_row (Absolute x) = 4 ∷ 5 ∷ 5 ∷ []
+-- format II has a column for RRC, RRA, SWPB and SXT, one for PUSH, and one for CALL
+abbrev pub by_operation : OneOp → (in_place push call : ℕ) → ℕ
+by_operation Push in_place push call = push
+by_operation Call in_place push call = call
+by_operation _ in_place push call = in_place
 
--- the column of an operation of format II
-abbrev pub one_column : OneOp → ℕ
-one_column Push = 1
-one_column Call = 2
-one_column _ = 0
+-- its rows, by the operand; 0 where there is no such instruction
+abbrev pub one_cycles : Operand → OneOp → ℕ
+one_cycles (Reg r) op = by_operation op 1 3 4
+one_cycles (Const c) op = by_operation op 0 3 4
+one_cycles (Indirect r) op = by_operation op 3 4 4
+one_cycles (Increment r) op = by_operation op 3 5 5
+one_cycles (Imm x) op = by_operation op 0 4 5
+one_cycles (Indexed r x) op = by_operation op 4 5 5
+one_cycles (Symbolic x) op = by_operation op 4 5 5
+one_cycles (Absolute x) op = by_operation op 4 5 5
 
 -- the cycles of an instruction; of a unit instruction those that it takes at least
 unfoldable pub cycles_of : Insn → ℕ
-cycles_of (Two op w s d) = nth (two_column d) (two_row s) 0
-cycles_of (One op w a) = nth (one_column op) (one_row a) 0
+cycles_of (Two op w s d) = two_cycles s d
+cycles_of (One op w a) = one_cycles a op
 cycles_of (Jump cond offset) = 2
 cycles_of Reti = 5
 cycles_of (UnitOp n) = 6

@@ -3,7 +3,7 @@
 
 ghost use Rattle.std.specs.Prelude.{◌≡◌, ◌≤◌, ◌<◌, IsFalse};
 ghost use Rattle.insn_decode.specs.Code.{IsDecoded, is_unit};
-ghost use Rattle.cycle_table.specs.Cycles.{cycles_of, two_row, one_row, one_column};
+ghost use Rattle.cycle_table.specs.Cycles.{cycles_of, by_place, two_cycles, by_operation, one_cycles};
 
 use insn_decode::{Insn, OneOp, Operand};
 use sm_words::PC;
@@ -19,53 +19,67 @@ pub fn cycles(insn: &Insn) -> u8
     ensures most { result ≤ 6 }
 {
     match *insn {
-        Insn::Two { src, dst, .. } => match dst {
-            Operand::Reg(PC) => two_row(src)[1],
-            Operand::Reg(_) => two_row(src)[0],
-            _ => two_row(src)[2],
-        },
-        Insn::One { op, arg, .. } => one_row(arg)[one_column(op)],
+        Insn::Two { src, dst, .. } => two_cycles(src, dst),
+        Insn::One { op, arg, .. } => one_cycles(arg, op),
         Insn::Jump { .. } => 2,
         Insn::Reti => 5,
         Insn::Unit(_) => 6,
     }
 }
 
-/// Format I: to a register, to PC and to memory, from this source.
-fn two_row(src: Operand) -> [u8; 3]
-    ensures { result ≡ two_row src }
+/// Format I: the number for this place of the result.
+fn by_place(dst: Operand, register: u8, pc: u8, memory: u8) -> u8
+    ensures { result ≡ by_place dst register pc memory }
+{
+    match dst {
+        Operand::Reg(PC) => pc,
+        Operand::Reg(_) => register,
+        _ => memory,
+    }
+}
+
+/// Format I, from this source to this place.
+#[tactic(auto, using(crate::proofs::Least::two_least, crate::proofs::Least::two_most))]
+fn two_cycles(src: Operand, dst: Operand) -> u8
+    ensures exact { result ≡ two_cycles src dst }
+    ensures least { 1 ≤ result }
+    ensures most { result ≤ 6 }
 {
     match src {
-        Operand::Reg(_) | Operand::Const(_) => [1, 2, 4],
-        Operand::Indirect(_) => [2, 2, 5],
-        Operand::Increment(_) | Operand::Imm(_) => [2, 3, 5],
-        Operand::Indexed { .. } | Operand::Symbolic(_) | Operand::Absolute(_) => [3, 3, 6],
+        Operand::Reg(_) | Operand::Const(_) => by_place(dst, 1, 2, 4),
+        Operand::Indirect(_) => by_place(dst, 2, 2, 5),
+        Operand::Increment(_) | Operand::Imm(_) => by_place(dst, 2, 3, 5),
+        Operand::Indexed { .. } | Operand::Symbolic(_) | Operand::Absolute(_) => by_place(
+            dst, 3, 3, 6,
+        ),
     }
 }
 
-/// Format II: RRC, RRA, SWPB and SXT, PUSH, and CALL on this operand; 0 where there is no such
-/// instruction.
-fn one_row(arg: Operand) -> [u8; 3]
-    ensures { result ≡ one_row arg }
-{
-    match arg {
-        Operand::Reg(_) => [1, 3, 4],
-        Operand::Const(_) => [0, 3, 4],
-        Operand::Indirect(_) => [3, 4, 4],
-        Operand::Increment(_) => [3, 5, 5],
-        Operand::Imm(_) => [0, 4, 5],
-        Operand::Indexed { .. } | Operand::Symbolic(_) | Operand::Absolute(_) => [4, 5, 5],
-    }
-}
-
-/// The column of an operation of format II.
-fn one_column(op: OneOp) -> usize
-    ensures exact { result ≡ one_column op }
-    ensures within { result < 3 }
+/// Format II: the number for this operation.
+fn by_operation(op: OneOp, in_place: u8, push: u8, call: u8) -> u8
+    ensures { result ≡ by_operation op in_place push call }
 {
     match op {
-        OneOp::Push => 1,
-        OneOp::Call => 2,
-        OneOp::Rrc | OneOp::Swpb | OneOp::Rra | OneOp::Sxt => 0,
+        OneOp::Push => push,
+        OneOp::Call => call,
+        OneOp::Rrc | OneOp::Swpb | OneOp::Rra | OneOp::Sxt => in_place,
+    }
+}
+
+/// Format II, of this operation on this operand; 0 where there is no such instruction.
+#[tactic(auto, using(crate::proofs::Least::one_most))]
+fn one_cycles(arg: Operand, op: OneOp) -> u8
+    ensures exact { result ≡ one_cycles arg op }
+    ensures most { result ≤ 6 }
+{
+    match arg {
+        Operand::Reg(_) => by_operation(op, 1, 3, 4),
+        Operand::Const(_) => by_operation(op, 0, 3, 4),
+        Operand::Indirect(_) => by_operation(op, 3, 4, 4),
+        Operand::Increment(_) => by_operation(op, 3, 5, 5),
+        Operand::Imm(_) => by_operation(op, 0, 4, 5),
+        Operand::Indexed { .. } | Operand::Symbolic(_) | Operand::Absolute(_) => by_operation(
+            op, 4, 5, 5,
+        ),
     }
 }

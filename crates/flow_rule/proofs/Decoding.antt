@@ -1,4 +1,4 @@
-use Rattle.arm_balance.specs.Met.{text_byte, word_in, whole, met_first, met}
+use Rattle.arm_balance.specs.Met.{text_byte, met}
 -- An increment that was decoded is none of SR.
 use Rattle.std.proofs.Common.{◌≡◌, ◌≢◌, ℕ, zero, suc, ◌<◌, ◌-◌, ◌/◌, ◌%◌, List, [], ◌∷◌, refl, subst, arith, Bool, true, false, cond, nat_lt, ◌==◌, ◌&&◌, Option, Some, None}
 use Rattle.std.specs.Prelude.{slice_get}
@@ -8,14 +8,14 @@ use Rattle.insn_decode.specs.Code.{source_row, source_of, dest_of, words_of, wid
 use Rattle.sm_words.specs.declared.width.Width.{Width}
 use Rattle.insn_decode.specs.declared.insn.TwoOp.{TwoOp}
 use Rattle.insn_decode.specs.declared.insn.OneOp.{OneOp}
-use Rattle.cycle_table.proofs.Least.{one_least}
-use Rattle.cycle_table.specs.Cycles.{cycles_of, two_row}
+use Rattle.cycle_table.proofs.Least.{one_least, two_least}
+use Rattle.cycle_table.specs.Cycles.{cycles_of}
 use Rattle.insn_decode.specs.declared.insn.Operand.{Operand}
 use Rattle.insn_decode.specs.declared.insn.Operand.TheVariants.{Reg, Const, Imm, Indexed, Symbolic, Absolute, Indirect, Increment}
 use Rattle.insn_decode.specs.declared.insn.Insn.{Insn}
 use Rattle.insn_decode.specs.declared.insn.Insn.TheVariants.{Two, One, Jump, Reti, Unit as UnitOp}
 use Rattle.mod_layout.specs.declared.Module.{Module}
-use Rattle.cpu_step.specs.Fetched.{insn_at}
+use Rattle.cpu_step.specs.Fetched.{insn_at, word_in, insn_from}
 use Rattle.flow_rule.proofs.Effects.{Regular}
 use Rattle.flow_rule.proofs.Instruction.{RegularInsn}
 
@@ -85,18 +85,9 @@ one_cycles_some : (op : OneOp) (w : Width) (a : Operand) → one_fits op w a ≡
 unfolding cycles_of
 one_cycles_some op w a e = one_least op w a e
 
-row_some : (s : Operand) → (0 < nth 0 (two_row s) 0) × (0 < nth 1 (two_row s) 0) × (0 < nth 2 (two_row s) 0)
-row_some (Reg r) = (omega arith, omega arith, omega arith)
-row_some _ = (omega arith, omega arith, omega arith)
-
 pub two_cycles_some : (op : TwoOp) (w : Width) (s d : Operand) → 0 < cycles_of (Two op w s d)
 unfolding cycles_of
-two_cycles_some op w s (Reg r) = let h = row_some s in by (r == 0) h.0 h.1
-  where
-    by : (c : Bool) → 0 < nth 0 (two_row s) 0 → 0 < nth 1 (two_row s) 0 → 0 < nth (cond c 1 0) (two_row s) 0
-    by true p q = q
-    by false p q = p
-two_cycles_some op w s _ = let h = row_some s in h.2
+two_cycles_some op w s d = two_least s d
 
 one_fine : (op : Option OneOp) (w0 w1 : ℕ) → Fine (one_of op w0 w1)
 one_fine None w0 w1 = fine_none
@@ -123,11 +114,11 @@ pub met_regular : (m : Module) (text : List ℕ) (pc : ℕ) (insn : Insn) → me
 unfolding met
 met_regular m text pc insn e = by (insn_of (word_at (text_byte m.text text) pc) 0 0) e
   where
-    whole_by : (b : Bool) (o : Option Insn) → Fine o → whole b o ≡ Some insn → RegularInsn insn
+    whole_by : (b : Bool) (o : Option Insn) → Fine o → cond b o None ≡ Some insn → RegularInsn insn
     whole_by true o h e = h insn e
     whole_by false o h e = absurd cc
 
-    by : (f : Option Insn) → met_first f m.text text pc ≡ Some insn → RegularInsn insn
+    by : (f : Option Insn) → insn_from f (text_byte m.text text) m.text pc ≡ Some insn → RegularInsn insn
     by None e = absurd cc
     by (Some first) e =
         whole_by (word_in m.text pc (length_of first) 1 && word_in m.text pc (length_of first) 2) (insn_at (text_byte m.text text) pc (length_of first))

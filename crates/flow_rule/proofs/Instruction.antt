@@ -18,11 +18,11 @@ use Rattle.insn_decode.specs.declared.insn.Insn.TheVariants.{Two, One, Jump, Ret
 use Rattle.pc_access.specs.declared.Access.{Access}
 use Rattle.mod_layout.specs.declared.Module.{Module}
 use Rattle.mod_layout.specs.Table.{holds, size_of}
-use Rattle.cpu_step.specs.Fetched.{insn_at, later_word}
+use Rattle.cpu_step.specs.Fetched.{insn_at, later_word, word_in, insn_from}
 use Rattle.attest.specs.Accesses.{reads_of, writes_of}
 use Rattle.attest.specs.Units.{UnitName, Unprotect, OwnId, CallerId, unit_named, Effect, unit_plan, unit_effect}
 use Rattle.cpu_step.specs.Asked.{asks, effect}
-use Rattle.cpu_step.specs.Lone.{Job, Lone, lone_byte, lone_who, is_alone, unit_alone, all_inside, may_do, if_home, next_first, next_insn, lone_read, lone_writes, lone_does, Does, doing, doing_by, does_or_breaks, lone_step_by, job_of}
+use Rattle.cpu_step.specs.Lone.{Job, Lone, lone_byte, lone_who, is_alone, unit_alone, all_inside, may_do, next_insn, lone_read, lone_writes, lone_does, Does, doing, doing_by, lone_step_by, job_of}
 use Rattle.flow_rule.specs.declared.Val.{Val}
 use Rattle.flow_rule.specs.declared.Val.TheVariants.{Known, Away, Public, Secret}
 use Rattle.flow_rule.specs.Values.{is_secret, val, put_val}
@@ -38,7 +38,7 @@ use Rattle.flow_rule.proofs.Cores.{Even_section, AgreeCore, put_agrees, put_othe
 use Rattle.flow_rule.proofs.Effects.{Regular, AgreeList, DoneAgrees, one_does, two_does, past_agrees}
 use Rattle.flow_rule.proofs.Plans.{Reached, fixed, inside, one_reached, two_reached, none_left, none_right, none_if}
 use Rattle.flow_rule.specs.Arms.{written_words}
-use Rattle.arm_balance.specs.Met.{text_byte, word_in, whole, met_first, met}
+use Rattle.arm_balance.specs.Met.{text_byte, met}
 use Rattle.flow_rule.proofs.Words.{NotIn, word, writes_keep, Shape, IsData, AgreeData, reads_agree, writes_agree, word_text}
 use Rattle.flow_rule.proofs.Labelling.{Under, Among, among_left, among_right}
 use Rattle.flow_rule.proofs.Runs.{at_rest, Busy, Passes, Ending, Stays, Left, Shut, Crossing}
@@ -157,7 +157,7 @@ module _ (j : Job) where
 
   doing_next : (c d : List ℕ) (insn : Insn) → holds j.owner.text (reg c 0) ≡ true → next_insn j (at_rest c d) ≡ Some insn → doing j (at_rest c d) ≡ Does insn
   unfolding doing
-  doing_next c d insn e f = ap (λ t. doing_by 0 false t (next_insn j (at_rest c d))) e ∙ ap does_or_breaks f
+  doing_next c d insn e f = ap (λ t. doing_by 0 false t (next_insn j (at_rest c d))) e ∙ ap (doing_by 0 false true) f
 
 module _ (key : List ℕ) (m : Module) (text : List ℕ) (caller : ℕ) (shape : Shape m) where
   abbrev pub j : Job
@@ -192,22 +192,23 @@ module _ (key : List ℕ) (m : Module) (text : List ℕ) (caller : ℕ) (shape :
   may_it : (c d : List ℕ) (insn : Insn) → is_alone insn ≡ true → all_inside j (asks (lone_who j) insn c) ≡ true → may_do j (at_rest c d) (Some insn) ≡ Some insn
   may_it c d insn p q = ap (λ b. cond (b && all_inside j (asks (lone_who j) insn c)) (Some insn) None) p ∙ ap (λ b. cond b (Some insn) None) q
 
-  fetched_first : (f : Option Insn) (c d : List ℕ) (insn : Insn) → reg c 0 % 2 ≡ 0 → holds m.text (reg c 0) ≡ true → met_first f m.text text (reg c 0) ≡ Some insn →
-      is_alone insn ≡ true → all_inside j (asks (lone_who j) insn c) ≡ true → next_first f j (at_rest c d) ≡ Some insn
-  fetched_first None c d insn ev t e al ins = absurd cc
-  fetched_first (Some first) c d insn ev t e al ins = by (reg c 0) (length_of first) ev t (word_in m.text (reg c 0) (length_of first) 1 && word_in m.text (reg c 0) (length_of first) 2) refl e
+  fetched_first : (f : Option Insn) (c d : List ℕ) (insn : Insn) → reg c 0 % 2 ≡ 0 → holds m.text (reg c 0) ≡ true →
+      insn_from f (text_byte m.text text) m.text (reg c 0) ≡ Some insn → insn_from f (lone_byte j d) m.text (reg c 0) ≡ Some insn
+  fetched_first None c d insn ev t e = absurd cc
+  fetched_first (Some first) c d insn ev t e = by (reg c 0) (length_of first) ev t (word_in m.text (reg c 0) (length_of first) 1 && word_in m.text (reg c 0) (length_of first) 2) refl e
     where
-      by : (pc n : ℕ) → pc % 2 ≡ 0 → holds m.text pc ≡ true → (b : Bool) → (word_in m.text pc n 1 && word_in m.text pc n 2) ≡ b → whole b (insn_at (text_byte m.text text) pc n) ≡ Some insn → if_home b (may_do j (at_rest c d) (insn_at (lone_byte j d) pc n)) ≡ Some insn
+      by : (pc n : ℕ) → pc % 2 ≡ 0 → holds m.text pc ≡ true → (b : Bool) → (word_in m.text pc n 1 && word_in m.text pc n 2) ≡ b →
+          cond b (insn_at (text_byte m.text text) pc n) None ≡ Some insn → cond b (insn_at (lone_byte j d) pc n) None ≡ Some insn
       by pc n ev t false f e = absurd cc
-      by pc n ev t true f e = ap (may_do j (at_rest c d)) (insn_same d pc n ev t f ∙ e) ∙ may_it c d insn al ins
+      by pc n ev t true f e = insn_same d pc n ev t f ∙ e
 
   pub fetched : (c d : List ℕ) (insn : Insn) → reg c 0 % 2 ≡ 0 → holds m.text (reg c 0) ≡ true → met m.text text (reg c 0) ≡ Some insn →
       is_alone insn ≡ true → all_inside j (asks (lone_who j) insn c) ≡ true → doing j (at_rest c d) ≡ Does insn
   unfolding met next_insn
   fetched c d insn ev t e al ins =
       doing_next j c d insn t
-      (fetched_first (insn_of (word_at (lone_byte j d) (reg c 0)) 0 0) c d insn ev t
-      (ap (λ w. met_first (insn_of w 0 0) m.text text (reg c 0)) (word_text key m text caller shape d (reg c 0) ev t) ∙ e) al ins)
+      (ap (may_do j (at_rest c d)) (fetched_first (insn_of (word_at (lone_byte j d) (reg c 0)) 0 0) c d insn ev t
+      (ap (λ w. insn_from (insn_of w 0 0) (text_byte m.text text) m.text (reg c 0)) (word_text key m text caller shape d (reg c 0) ev t) ∙ e)) ∙ may_it c d insn al ins)
 
   -- ---- from an instruction to a crossing
   crossing : (gives : List Point) (ca da cb db ca' da' cb' db' : List ℕ) (insn : Insn) (r : ℕ) → doing j (at_rest ca da) ≡ Does insn → doing j (at_rest cb db) ≡ Does insn →

@@ -15,9 +15,9 @@ use Rattle.insn_decode.specs.declared.insn.Insn.{Insn}
 use Rattle.insn_decode.specs.declared.insn.Insn.TheVariants.{Two, One, Jump, Reti, Unit as UnitOp}
 use Rattle.mod_layout.specs.declared.Module.{Module}
 use Rattle.mod_layout.specs.Table.{holds}
-use Rattle.cpu_step.specs.Fetched.{insn_at, later_word}
+use Rattle.cpu_step.specs.Fetched.{insn_at, later_word, word_in, insn_from}
 use Rattle.arm_balance.specs.declared.Arm.{Arm}
-use Rattle.arm_balance.specs.Met.{text_byte, word_in, whole, met_first, met}
+use Rattle.arm_balance.specs.Met.{text_byte, met}
 use Rattle.arm_balance.specs.Balance.{met_cycles, next_if, arm_next, arm_on}
 use Rattle.flow_rule.specs.declared.Val.{Val}
 use Rattle.flow_rule.specs.declared.Val.TheVariants.{Known, Secret}
@@ -239,9 +239,9 @@ module _ (m : Module) (text : List ℕ) where
   unfolding met insn_of
   call_stops join next pc e on =
       by (word_in m.text pc 2 1 && word_in m.text pc 2 2)
-      (subst (λ w. arm_next join pc (met_first (insn_of w 0 0) m.text text pc) ≡ Some next) e on)
+      (subst (λ w. arm_next join pc (insn_from (insn_of w 0 0) (text_byte m.text text) m.text pc) ≡ Some next) e on)
     where
-      by : (b : Bool) → arm_next join pc (whole b (insn_at (text_byte m.text text) pc 2)) ≡ Some next → ⊥
+      by : (b : Bool) → arm_next join pc (cond b (insn_at (text_byte m.text text) pc 2) None) ≡ Some next → ⊥
       by false on = absurd cc
       by true on =
           let f : arm_next join pc (insn_of 4758 (later_word (text_byte m.text text) pc 2 1)

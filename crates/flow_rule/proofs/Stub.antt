@@ -1,5 +1,5 @@
 -- The words of a stub, and its steps.
-use Rattle.std.proofs.Common.{◌≡◌, ◌⊎◌, inl, inr, ℕ, zero, suc, ◌+◌, ◌*◌, ◌%◌, ◌<◌, ◌≤◌, List, [], ◌∷◌, length, refl, ap, ◌∙◌, subst, arith, Bool, true, nat_lt, nat_le, ◌==◌, ◌&&◌, Some}
+use Rattle.std.proofs.Common.{◌≡◌, ◌⊎◌, inl, inr, ℕ, zero, suc, ◌+◌, ◌*◌, ◌%◌, ◌<◌, ◌≤◌, List, [], ◌∷◌, length, refl, ap, ◌∙◌, subst, arith, Bool, true, nat_lt, nat_le, ◌==◌, ◌&&◌, cond, Some, None}
 use Rattle.std.proofs.lemmas.Bool.{and_parts, cases_lt}
 use Rattle.std.proofs.lemmas.Bool.Decides.{nat_tests}
 use Rattle.sm_words.specs.Words.{nth, word_at}
@@ -7,9 +7,9 @@ use Rattle.insn_decode.specs.Code.{insn_of, length_of}
 use Rattle.insn_decode.specs.declared.insn.Insn.{Insn}
 use Rattle.mod_layout.specs.declared.Module.{Module}
 use Rattle.mod_layout.specs.Table.{holds, size_of}
-use Rattle.cpu_step.specs.Fetched.{insn_at}
+use Rattle.cpu_step.specs.Fetched.{insn_at, word_in, insn_from}
 use Rattle.flow_rule.specs.Stub.{word_of, words_are, table_fine, has_stub}
-use Rattle.arm_balance.specs.Met.{text_byte, word_in, whole, met_first, met}
+use Rattle.arm_balance.specs.Met.{text_byte, met}
 use Rattle.entry_stubs.specs.Stub.{stub_front}
 
 pub record StubFacts (m : Module) (text : List ℕ) (n p : ℕ) : Type 0 where
@@ -81,12 +81,12 @@ module _ (m : Module) (text : List ℕ) where
   pub met_one : (pc w : ℕ) (insn : Insn) → word_at (text_byte m.text text) pc ≡ w → insn_of w 0 0 ≡ Some insn → length_of insn ≡ 1 → met m.text text pc ≡ Some insn
   unfolding met
   met_one pc w insn e f one =
-      ap (λ w. met_first (insn_of w 0 0) m.text text pc) e ∙ ap (λ o. met_first o m.text text pc) f ∙ ap (λ n. whole (word_in m.text pc n 1 && word_in m.text pc n 2) (insn_at (text_byte m.text text) pc n)) one
+      ap (λ w. insn_from (insn_of w 0 0) (text_byte m.text text) m.text pc) e ∙ ap (λ o. insn_from o (text_byte m.text text) m.text pc) f ∙ ap (λ n. cond (word_in m.text pc n 1 && word_in m.text pc n 2) (insn_at (text_byte m.text text) pc n) None) one
       ∙ ap (λ w. insn_of w 0 0) e ∙ f
 
   pub met_two : (pc w x : ℕ) (first insn : Insn) → word_at (text_byte m.text text) pc ≡ w → word_at (text_byte m.text text) (pc + 2) ≡ x → insn_of w 0 0 ≡ Some first → length_of first ≡ 2 → holds m.text (pc + 2) ≡ true → insn_of w x 0 ≡ Some insn → met m.text text pc ≡ Some insn
   unfolding met
   met_two pc w x first insn e g f two inn h =
-      ap (λ w. met_first (insn_of w 0 0) m.text text pc) e ∙ ap (λ o. met_first o m.text text pc) f ∙ ap (λ n. whole (word_in m.text pc n 1 && word_in m.text pc n 2) (insn_at (text_byte m.text text) pc n)) two
-      ∙ ap (λ b. whole (b && true) (insn_of (word_at (text_byte m.text text) pc) (word_at (text_byte m.text text) (pc + 2)) 0)) inn
+      ap (λ w. insn_from (insn_of w 0 0) (text_byte m.text text) m.text pc) e ∙ ap (λ o. insn_from o (text_byte m.text text) m.text pc) f ∙ ap (λ n. cond (word_in m.text pc n 1 && word_in m.text pc n 2) (insn_at (text_byte m.text text) pc n) None) two
+      ∙ ap (λ b. cond (b && true) (insn_of (word_at (text_byte m.text text) pc) (word_at (text_byte m.text text) (pc + 2)) 0) None) inn
       ∙ ap (λ w. insn_of w (word_at (text_byte m.text text) (pc + 2)) 0) e ∙ ap (λ x. insn_of w x 0) g ∙ h

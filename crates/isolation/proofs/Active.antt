@@ -1,5 +1,5 @@
 -- A cycle in which the module is active in both runs: they go on together.
-use Rattle.std.proofs.Common.{◌≡◌, inr, ℕ, List, refl, sym, ap, ◌∙◌, subst, true, false, Option, Some, ⊎_elim, zero, suc, ◌+◌, ◌*◌, ◌%◌, [], ◌∷◌, length, map, arith, Bool, not, ◌&&◌, ◌||◌, ◌==◌, None}
+use Rattle.std.proofs.Common.{◌≡◌, inr, ℕ, List, refl, sym, ap, ◌∙◌, subst, true, false, Option, Some, ⊎_elim, zero, suc, ◌+◌, ◌*◌, ◌%◌, [], ◌∷◌, length, map, arith, Bool, not, ◌||◌, ◌==◌, None}
 use Rattle.mod_layout.specs.Table.{size_of, place_of, holds}
 use Rattle.mod_layout.specs.declared.Module.{Module}
 use Rattle.pc_access.specs.Rights.{is_id, is_held, refuse_if, right, right_at}
@@ -7,20 +7,19 @@ use Rattle.reg_backup.specs.Saved.{closing_after, is_close}
 use Rattle.reg_backup.specs.declared.backup.Backup.{Backup}
 use Rattle.reg_backup.specs.declared.backup.Phase.TheVariants.{Run}
 use Rattle.cpu_step.specs.LoneLaws.{GoesOn}
-use Rattle.cpu_step.specs.Lone.{Lone, job_of, Job, Doing, Waits, Closes, Leaves, Breaks, Does, doing, doing_by, next_insn, next_first, may_do, text_word, lone_does, lone_step_by, lone_read, lone_who, lone_byte, is_alone}
-use Rattle.written_machine.specs.Cycle.{Step, act, quiet, told, pc_of, rest_of, due, arrive_inside, turn, begin_unless, begin, enter_at, enter, fetch}
+use Rattle.cpu_step.specs.Lone.{Lone, job_of, Job, Doing, Waits, Closes, Leaves, Breaks, Does, doing, doing_by, next_insn, lone_does, lone_step_by, lone_read, lone_who, lone_byte, is_alone}
+use Rattle.written_machine.specs.Cycle.{Step, act, quiet, told, pc_of, rest_of, due, arrive_inside, turn, begin, enter_at, enter, fetch, unless}
 use Rattle.written_machine.specs.Peers.{section}
 use Rattle.written_machine.specs.State.{State}
 use Rattle.isolation.proofs.Evenly.{Evenly, Together, next_together}
 use Rattle.isolation.proofs.Hide.{veil_core, hide_by, hide}
-use Rattle.isolation.proofs.Inside.{Moves, may_some, home_some, did_act}
+use Rattle.isolation.proofs.Inside.{Moves, may_some, did_act}
 use Rattle.isolation.proofs.Rights.{own_id}
 use Rattle.isolation.proofs.Relation.{run_by, run_of, Secret, same_secret, Keeps, Twins, Alike, times, backup_of, lone_of, IsOpen, Open as IsOpenNow, Ready, Outer, outer_alike, BothActive, both_active}
 use Rattle.isolation.proofs.Settled.{close_is, arrive_inside_stays}
-use Rattle.sm_words.specs.Words.{cleared, reg, word_at, IsCore}
+use Rattle.sm_words.specs.Words.{cleared, reg, IsCore}
 use Rattle.std.proofs.lemmas.Bool.Decides.{nat_tests}
 use Rattle.sm_words.specs.Sums.{one_if}
-use Rattle.insn_decode.specs.Code.{insn_of, length_of}
 use Rattle.insn_decode.specs.declared.insn.Insn.{Insn}
 use Rattle.mod_layout.specs.declared.Place.{Place}
 use Rattle.mod_layout.specs.declared.Place.TheVariants.{Entry}
@@ -32,7 +31,7 @@ use Rattle.reg_backup.specs.declared.frames.Frame.{Frame}
 use Rattle.reg_backup.specs.declared.frames.Frame.TheVariants.{Plain, Module as Held}
 use Rattle.attest.specs.Accesses.{reads_of}
 use Rattle.cpu_step.specs.Asked.{asks}
-use Rattle.cpu_step.specs.Fetched.{insn_at}
+use Rattle.cpu_step.specs.Fetched.{insn_in}
 use Rattle.isolation.proofs.Gie.{effect_gie}
 use Rattle.isolation.proofs.Settling.{arrive_hidden, due_hidden}
 use Rattle.isolation.proofs.Cases.{turn_at, turn_is}
@@ -84,17 +83,9 @@ active_some m None e = cc
 active_some m (Some x) e = let same : x ≡ m = grind (arith, nat_tests) in ap Some same
 
 -- ---- what the next instruction may be
-first_alone : (j : Job) (l : Lone) (o : Option Insn) (insn : Insn) → next_first o j l ≡ Some insn → is_alone insn ≡ true
-first_alone j l None insn e = cc
-first_alone j l (Some first) insn e =
-    let pc = reg l.core 0 in
-    let n = length_of first in
-    let o = insn_at (lone_byte j l.data_bytes) pc n in
-    (may_some j l o insn (home_some (text_word j pc n 1 && text_word j pc n 2) (may_do j l o) insn e).1).1
-
 next_alone : (j : Job) (l : Lone) (insn : Insn) → next_insn j l ≡ Some insn → is_alone insn ≡ true
 unfolding next_insn
-next_alone j l insn e = first_alone j l (insn_of (word_at (lone_byte j l.data_bytes) (reg l.core 0)) 0 0) insn e
+next_alone j l insn e = (may_some j l (insn_in (lone_byte j l.data_bytes) j.owner.text (reg l.core 0)) insn e).1
 
 pub does_gie : (j : Job) (l : Lone) (insn : Insn) → next_insn j l ≡ Some insn → length l.core ≡ 16 → veil_core (lone_does j insn l).core ≡ veil_core l.core
 unfolding lone_does
@@ -160,7 +151,7 @@ module _ (m : ℕ) (own : Module) (key text : List ℕ) (s : State) (k : Keeps m
   begin_inside : (left : ℕ) → holds own.text (pc_of s) ≡ true → begin left s ≡ act s
   unfolding begin
   begin_inside left here =
-      ap (λ d. begin_unless d left s) (fetch_allowed here) ∙ ap (λ e. told e.events (act e.state)) (enter_inside left)
+      ap (λ d. unless d s (let e = enter left s in told e.events (act e.state))) (fetch_allowed here) ∙ ap (λ e. told e.events (act e.state)) (enter_inside left)
 
   -- where nothing arrives
   turn_to : (left : ℕ) (p : Phase) → due s ≡ None → s.phase ≡ p → turn left s ≡ turn_at None (Some m) p left s

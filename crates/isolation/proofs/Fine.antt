@@ -1,5 +1,5 @@
 -- What every state of a run keeps of its cores, its table and its ids.
-use Rattle.std.proofs.Common.{◌≡◌, ℕ, suc, ◌<◌, ◌≤◌, List, [], ◌∷◌, get_or, replicate, refl, sym, subst, arith, Bool, true, false, Option, Some, None}
+use Rattle.std.proofs.Common.{◌≡◌, ℕ, suc, ◌<◌, ◌≤◌, List, [], ◌∷◌, get_or, replicate, refl, sym, subst, arith, Bool, true, false, Option, Some, None, drop}
 use Rattle.sm_words.specs.Words.{IsCore}
 use Rattle.insn_decode.specs.declared.insn.Insn.{Insn}
 use Rattle.insn_decode.specs.declared.insn.Insn.TheVariants.{Reti}
@@ -13,7 +13,7 @@ use Rattle.image_text.specs.Image.{Image, IsImage}
 use Rattle.reg_backup.specs.declared.frames.Frame.{Frame}
 use Rattle.reg_backup.specs.declared.frames.Frame.TheVariants.{Plain, Module as Held}
 use Rattle.cpu_step.specs.Asked.{table_after}
-use Rattle.written_machine.specs.Cycle.{Settled, pc_of, settle, ticked, arrive_inside, plain_if, push_both, who_of, perform, without_newest, enter}
+use Rattle.written_machine.specs.Cycle.{Settled, pc_of, settle, ticked, arrive_inside, plain_if, push_both, who_of, perform, enter}
 use Rattle.written_machine.specs.State.{State}
 use Rattle.written_machine.specs.View.{at}
 use Rattle.isolation.proofs.Each.{Each}
@@ -82,7 +82,7 @@ plain_fine : (fs : List Frame) → Each FineFrame fs → Each FineFrame (plain_i
 plain_fine [] h = tt
 plain_fine (x ∷ fs) h = (tt, h)
 
-push_fine : (v : ℕ) (s : State) → Fine s → Fine (push_both None v s).state
+push_fine : (v : ℕ) (s : State) → Fine s → Fine (push_both v s).state
 push_fine v s f =
     record { core_ok = put_core _ 0 _ (put_core _ 2 _ (put_core s.core 1 _ f.core_ok)); frames_ok = plain_fine s.frames f.frames_ok; active_small = f.active_small; table_ok = f.table_ok; given_small = f.given_small }
 
@@ -100,7 +100,7 @@ perform_fine insn s f =
     let t = table_fine insn s.table s.core (f.table_ok, f.given_small) in
     record { core_ok = effect_keeps IsCore put_core insn (who_of s) s.core _ f.core_ok; frames_ok = f.frames_ok; active_small = f.active_small; table_ok = t.0; given_small = t.1 }
 
-newest_fine : (fs : List Frame) → Each FineFrame fs → Each FineFrame (without_newest fs)
+newest_fine : (fs : List Frame) → Each FineFrame fs → Each FineFrame (drop 1 fs)
 newest_fine [] h = tt
 newest_fine (x ∷ fs) h = h.1
 

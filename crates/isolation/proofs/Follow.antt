@@ -6,7 +6,7 @@ use Rattle.mod_layout.specs.declared.Module.{Module}
 use Rattle.pc_access.specs.Rights.{is_id, is_held}
 use Rattle.pc_access.specs.declared.Stop.{Stop}
 use Rattle.reg_backup.specs.declared.backup.Backup.{Backup}
-use Rattle.cpu_step.specs.Lone.{Job, Lone, Doing, Closes, Leaves, Breaks, doing, lone_step_by, lone_step, job_of, Outcome, Exit, Closing, Broken, Running, later, Waits, Does, lone_does, lone_after, in_time, outcome, does_or_breaks, next_insn}
+use Rattle.cpu_step.specs.Lone.{Job, Lone, Doing, Closes, Leaves, Breaks, doing, lone_step_by, lone_step, job_of, Outcome, Exit, Closing, Broken, Running, later, Waits, Does, lone_does, lone_after, in_time, outcome, next_insn, doing_by}
 use Rattle.tracer.specs.declared.Event.{Event}
 use Rattle.written_machine.specs.Cycle.{Step, told, due, ticked, settle, turn, arrive_inside, sent_event, counted_by, move, cycle_by, pc_of, act, cycle, after_cycles}
 use Rattle.written_machine.specs.Peers.{section}
@@ -245,11 +245,11 @@ module _ (m : ℕ) (own : Module) (key text : List ℕ) (from : ℕ) where
   -- the first instruction of a call
   first_step : (next : Option Insn) (s : State) → Keeps m own key text s → IsCore s.core → place_of s.table (pc_of s) ≡ Entry m → is_held m (held_ids s.frames) ≡ false →
       next_insn (job m own key text from) (start m own key text from s) ≡ next → doing (job m own key text from) (start m own key text from s) ≢ Breaks → Follows m own key text from (act (at_entry m own key text from s)).state (lone_step (job m own key text from) (start m own key text from s)) × (is_id m (act (at_entry m own key text from s)).state.active ≡ true)
-  first_step None s k ok here free e nb = absurd (nb (start_doing m own key text from s k ok here ∙ ap does_or_breaks e))
+  first_step None s k ok here free e nb = absurd (nb (start_doing m own key text from s k ok here ∙ ap (doing_by 0 false true) e))
   first_step (Some i) s k ok here free e nb =
       let j = job m own key text from in
       let l = start m own key text from s in
-      let d : doing j l ≡ Does i = start_doing m own key text from s k ok here ∙ ap does_or_breaks e in
+      let d : doing j l ≡ Does i = start_doing m own key text from s k ok here ∙ ap (doing_by 0 false true) e in
       let v = entered_moves m own key text from s i k ok here e in
       let f = moved_follows m own key text from (entered m own key text from s) l (lone_does j i l) (act (at_entry m own key text from s)) (begun_follows s k free) (is_entered s) v in
       (subst (λ x. Follows m own key text from (act (at_entry m own key text from s)).state (lone_step_by x j l)) (sym d) f, ap (λ x. is_id m x.state.active) v.is ∙ is_entered s)
@@ -274,7 +274,7 @@ pub after_more : (a : Image) (schedule : List Scheduled) (k i : ℕ) → after_c
 after_more a schedule k zero = ap (at a schedule) (let e : k ≡ 0 + k = omega arith in e)
 after_more a schedule k (suc i) = ap (λ s. (cycle s).state) (after_more a schedule k i) ∙ ap (at a schedule) (let e : suc (i + k) ≡ suc i + k = omega arith in e)
 
-open_next : (n : Option Insn) → IsOpen (does_or_breaks n)
+open_next : (n : Option Insn) → IsOpen (doing_by 0 false true n)
 open_next None = tt
 open_next (Some i) = tt
 

@@ -1,5 +1,5 @@
 -- A module is active or in one frame at most, and there are at most eight frames.
-use Rattle.std.proofs.Common.{◌≡◌, ℕ, zero, suc, ◌+◌, ◌<◌, ◌≤◌, List, [], ◌∷◌, length, refl, sym, ap, ◌∙◌, subst, arith, Bool, true, false, nat_lt, ◌&&◌, ◌==◌, Option, Some, None}
+use Rattle.std.proofs.Common.{◌≡◌, ℕ, zero, suc, ◌+◌, ◌<◌, ◌≤◌, List, [], ◌∷◌, length, refl, sym, ap, ◌∙◌, subst, arith, Bool, true, false, nat_lt, ◌&&◌, ◌==◌, Option, Some, None, drop, cond}
 use Rattle.std.proofs.lemmas.Bool.Decides.{nat_tests}
 use Rattle.std.proofs.lemmas.Bool.{and_parts}
 use Rattle.isolation.proofs.Outside.{times_plain}
@@ -17,7 +17,7 @@ use Rattle.reg_backup.specs.declared.backup.After.{After}
 use Rattle.reg_backup.specs.declared.backup.After.TheVariants.{Next}
 use Rattle.reg_backup.specs.declared.frames.Frame.{Frame}
 use Rattle.reg_backup.specs.declared.frames.Frame.TheVariants.{Plain, Module as Held}
-use Rattle.written_machine.specs.Cycle.{pc_of, settle, due, vector_if, arrive_inside, plain_if, perform, without_newest, fetch, padded}
+use Rattle.written_machine.specs.Cycle.{pc_of, settle, due, arrive_inside, plain_if, perform, fetch, padded}
 use Rattle.written_machine.specs.Standing.{is_resume}
 use Rattle.written_machine.specs.State.{State}
 use Rattle.written_machine.specs.View.{at}
@@ -43,12 +43,12 @@ perform_framed : (insn : Insn) (s : State) → Framed s → Framed (perform insn
 unfolding perform
 perform_framed insn s h = record { once = h.once; few = h.few; idle = λ e. absurd (let c : true ≡ false = sym e ∙ closing_next _ in cc) }
 
-fewer_times : (m : ℕ) (fs : List Frame) → times m (without_newest fs) ≤ times m fs
+fewer_times : (m : ℕ) (fs : List Frame) → times m (drop 1 fs) ≤ times m fs
 fewer_times m [] = omega arith
 fewer_times m (Plain ∷ fs) = omega arith
 fewer_times m (Held b ∷ fs) = omega arith
 
-pub fewer_frames : (fs : List Frame) → length (without_newest fs) ≤ length fs
+pub fewer_frames : (fs : List Frame) → length (drop 1 fs) ≤ length fs
 fewer_frames [] = omega arith
 fewer_frames (f ∷ fs) = omega arith
 
@@ -75,7 +75,7 @@ enter_framed id left s e p h =
     }
 
 -- ---- arrivals
-room_if : (b : Bool) (l : Option ℕ) (v : ℕ) → vector_if b l ≡ Some v → b ≡ true
+room_if : (b : Bool) (l : Option ℕ) (v : ℕ) → cond b l None ≡ Some v → b ≡ true
 room_if true l v e = refl
 room_if false l v e = absurd cc
 

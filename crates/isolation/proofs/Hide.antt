@@ -1,5 +1,5 @@
 -- A state with one module's secrets taken out, and what the outside does to it.
-use Rattle.std.proofs.Common.{◌≡◌, ◌≢◌, ℕ, suc, ◌+◌, ◌*◌, ◌%◌, ◌≤◌, List, [], ◌∷◌, length, get_or, refl, sym, ap, ◌∙◌, subst, arith, Bool, true, false, nat_lt, cond, not, ◌&&◌, ◌||◌, ◌==◌, Option, Some, None}
+use Rattle.std.proofs.Common.{◌≡◌, ◌≢◌, ℕ, suc, ◌+◌, ◌*◌, ◌%◌, ◌≤◌, List, [], ◌∷◌, length, get_or, refl, sym, ap, ◌∙◌, subst, arith, Bool, true, false, nat_lt, cond, not, ◌&&◌, ◌||◌, ◌==◌, Option, Some, None, drop}
 use Rattle.std.proofs.lemmas.Bool.{and_parts}
 use Rattle.sm_words.specs.Words.{cleared, reg, bit, word_at}
 use Rattle.sm_words.specs.declared.width.Width.TheVariants.{Word}
@@ -22,7 +22,7 @@ use Rattle.attest.specs.Accesses.{reads_of, writes_of}
 use Rattle.cpu_step.specs.Asked.{asks, effect}
 use Rattle.cpu_step.specs.Fetched.{later_word, insn_at}
 use Rattle.tracer.specs.declared.Event.{Event}
-use Rattle.written_machine.specs.Cycle.{Step, pc_of, byte_of, vector_in, vector_word, push_both, pushes, plain_if, arrive_outside, at_home, home_word, is_home, who_of, port_of, perform, perform_unless, attempt, without_newest, returned_by, reti_by, reti_of, act_by, act_on, act_home, act_first, act}
+use Rattle.written_machine.specs.Cycle.{Step, pc_of, byte_of, vector_in, push_both, pushes, plain_if, arrive_outside, at_home, home_word, is_home, who_of, port_of, perform, attempt, returned_by, reti_by, reti_of, act_by, act_on, act_home, act_first, act, unless}
 use Rattle.written_machine.specs.Ports.{take_reads, put_writes}
 use Rattle.written_machine.specs.State.{State}
 use Rattle.isolation.proofs.Bytes.{Out, get_cleared}
@@ -89,11 +89,11 @@ module _ (m : ℕ) (own : Module) (t : Table) (sound : Sound m own t) where
   vector_cleared : (mem : List ℕ) (v : ℕ) → vector_in (cleared own.ram.start (size_of own.ram) mem) v ≡ vector_in mem v
   vector_cleared mem v = word_cleared mem (65504 + 2 * v) (vector_out (65504 + 2 * v) (omega arith), vector_out (65504 + 2 * v + 1) (omega arith))
 
-  pub vector_veiled : (s : State) (v : ℕ) → vector_word (veil m own s) v ≡ vector_word s v
+  pub vector_veiled : (s : State) (v : ℕ) → vector_in (veil m own s).memory v ≡ vector_in s.memory v
   vector_veiled s v = vector_cleared s.memory v
 
   -- ---- an arrival outside
-  push_veiled : (d : Option Denied) (v : ℕ) (s : State) → (d ≡ None → Each (OutAccess own.ram.start (size_of own.ram)) (pushes s)) → push_both d v (veil m own s) ≡ veil_step m own (push_both d v s)
+  push_veiled : (d : Option Denied) (v : ℕ) (s : State) → (d ≡ None → Each (OutAccess own.ram.start (size_of own.ram)) (pushes s)) → unless d (veil m own s) (push_both v (veil m own s)) ≡ veil_step m own (unless d s (push_both v s))
   push_veiled (Some d) v s out = refl
   push_veiled None v s out =
       let p = port_of s in
@@ -103,7 +103,7 @@ module _ (m : ℕ) (own : Module) (t : Table) (sound : Sound m own t) where
   pub arrive_outside_veiled : (v : ℕ) (s : State) → s.table ≡ t → arrive_outside v (veil m own s) ≡ veil_step m own (arrive_outside v s)
   unfolding arrive_outside
   arrive_outside_veiled v s e =
-      ap (λ ids. push_both (first_denied s.table None ids (pushes s)) v (veil m own s)) (held_ids_veiled m s.frames)
+      ap (λ ids. unless (first_denied s.table None ids (pushes s)) (veil m own s) (push_both v (veil m own s))) (held_ids_veiled m s.frames)
       ∙ push_veiled (first_denied s.table None (held_ids s.frames) (pushes s)) v s
       (λ n. writes_out m own t sound None (held_ids s.frames) refl (pushes s) (ap (λ u. first_denied u None (held_ids s.frames) (pushes s)) (sym e) ∙ n))
 
@@ -122,17 +122,17 @@ module _ (m : ℕ) (own : Module) (t : Table) (sound : Sound m own t) where
     unfolding attempt
     attempt_veiled insn =
         let xs = asks (who_of s) insn s.core in
-        ap (λ ids. perform_unless (first_denied s.table s.active ids xs) insn (veil m own s)) (held_ids_veiled m s.frames)
+        ap (λ ids. unless (first_denied s.table s.active ids xs) (veil m own s) (perform insn (veil m own s))) (held_ids_veiled m s.frames)
         ∙ by_check (first_denied s.table s.active (held_ids s.frames) xs) refl
       where
-        by_check : (d : Option Denied) → first_denied s.table s.active (held_ids s.frames) (asks (who_of s) insn s.core) ≡ d → perform_unless d insn (veil m own s) ≡ veil_step m own (perform_unless d insn s)
+        by_check : (d : Option Denied) → first_denied s.table s.active (held_ids s.frames) (asks (who_of s) insn s.core) ≡ d → unless d (veil m own s) (perform insn (veil m own s)) ≡ veil_step m own (unless d s (perform insn s))
         by_check (Some d) e = refl
         by_check None e =
             let xs = asks (who_of s) insn s.core in
             let e' = ap (λ u. first_denied u s.active (held_ids s.frames) xs) (sym table_is) ∙ e in
             perform_veiled insn (reads_out m own t sound s.active (held_ids s.frames) other xs e') (writes_out m own t sound s.active (held_ids s.frames) other xs e')
 
-    without_newest_veiled : (fs : List Frame) → without_newest (veil_frames m fs) ≡ veil_frames m (without_newest fs)
+    without_newest_veiled : (fs : List Frame) → drop 1 (veil_frames m fs) ≡ veil_frames m (drop 1 fs)
     without_newest_veiled [] = refl
     without_newest_veiled (f ∷ fs) = refl
 

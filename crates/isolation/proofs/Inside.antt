@@ -2,6 +2,7 @@
 use Rattle.std.proofs.Common.{◌≡◌, ℕ, ◌+◌, ◌-◌, ◌*◌, ◌/◌, ◌%◌, List, [], ◌∷◌, get_or, set, map, refl, sym, ap, ◌∙◌, subst, arith, Bool, true, false, nat_lt, cond, not, ◌&&◌, ◌||◌, Option, Some, None, ⊎_elim}
 use Rattle.std.proofs.lemmas.Bool.{cases_lt, not-true, and_parts, or_cases, or_right}
 use Rattle.std.proofs.lemmas.Bool.Decides.{nat_tests}
+use Rattle.std.specs.Option.{option_or}
 use Rattle.sm_words.specs.Words.{cleared, reg, word_at}
 use Rattle.sm_words.specs.declared.width.Width.{Width}
 use Rattle.sm_words.specs.declared.width.Width.TheVariants.{Byte, Word}
@@ -11,7 +12,8 @@ use Rattle.insn_decode.specs.declared.insn.Insn.TheVariants.{Reti, Unit as UnitO
 use Rattle.mod_layout.specs.Table.{Table, place_of, module_of, size_of, holds}
 use Rattle.mod_layout.specs.declared.Module.{Module}
 use Rattle.mod_layout.specs.declared.Section.{Section}
-use Rattle.pc_access.specs.Rights.{right, right_at, first_denied, or_else, aligned_first, misaligned, refuse_if}
+use Rattle.pc_access.specs.Rights.{right, right_at, first_denied, misaligned, refuse_if}
+use Rattle.pc_access.specs.declared.Rule.TheVariants.{Misaligned}
 use Rattle.pc_access.specs.declared.Access.{Access}
 use Rattle.pc_access.specs.declared.Kind.{Kind}
 use Rattle.pc_access.specs.declared.Kind.TheVariants.{Fetch, Read, Write}
@@ -23,8 +25,8 @@ use Rattle.attest.specs.Accesses.{is_read, is_write, reads_of, writes_of}
 use Rattle.attest.specs.Done.{own_of}
 use Rattle.attest.specs.Units.{Doer, UnitName, Unprotect, Protect, Attest, Tag, IdOf, OwnId, CallerId, unit_named, unit_plan, unit_effect, Effect, table_by}
 use Rattle.cpu_step.specs.Asked.{asks, effect, table_after}
-use Rattle.cpu_step.specs.Fetched.{later_word, insn_at}
-use Rattle.cpu_step.specs.Lone.{Job, Lone, lone_byte, lone_who, unit_alone, is_alone, is_inside, all_inside, text_word, lone_read, lone_write, lone_writes, may_do, if_home, next_first, next_insn, lone_does}
+use Rattle.cpu_step.specs.Fetched.{later_word, insn_at, word_in, insn_from, insn_in}
+use Rattle.cpu_step.specs.Lone.{Job, Lone, lone_byte, lone_who, unit_alone, is_alone, is_inside, all_inside, lone_read, lone_write, lone_writes, may_do, next_insn, lone_does}
 use Rattle.written_machine.specs.Cycle.{Step, pc_of, byte_of, at_home, home_word, is_home, who_of, port_of, made_events, perform, attempt, act_by, act_on, act_home, act_first, act}
 use Rattle.written_machine.specs.Peers.{section}
 use Rattle.written_machine.specs.Ports.{Port, read_in, read_byte, read_width, write_byte, write_width, take_reads, put_writes}
@@ -98,7 +100,7 @@ may_some j l (Some x) insn e = chosen (is_alone x && all_inside j (asks (lone_wh
         (f, subst (λ i. is_alone i ≡ true) same p.0, subst (λ i. all_inside j (asks (lone_who j) i l.core) ≡ true) same p.1)
     chosen false h f = absurd cc
 
-pub home_some : (b : Bool) (o : Option Insn) (insn : Insn) → if_home b o ≡ Some insn → (b ≡ true) × (o ≡ Some insn)
+pub home_some : (b : Bool) (o : Option Insn) (insn : Insn) → cond b o None ≡ Some insn → (b ≡ true) × (o ≡ Some insn)
 home_some true o insn e = (refl, e)
 home_some false o insn e = absurd cc
 
@@ -244,17 +246,17 @@ module _ (m : ℕ) (own : Module) (t : Table) (sound : Sound m own t) (j : Job) 
     allowed_by Read w a h =
         let h' = subst (λ (o : Module). (not (misaligned w a) && (holds o.text a || holds o.ram a)) ≡ true) owner h in
         let e = not-true (misaligned w a) (and_parts (not (misaligned w a)) (in_sections a) h').0 in
-        ap (λ b. aligned_first b a (right_at (place_of t a) (Some m) held Read a)) e ∙ may_read a (and_parts (not (misaligned w a)) (in_sections a) h').1
+        ap (λ b. option_or (refuse_if b Misaligned a 0) (right_at (place_of t a) (Some m) held Read a)) e ∙ may_read a (and_parts (not (misaligned w a)) (in_sections a) h').1
     allowed_by Write w a h =
         let h' = subst (λ (o : Module). (not (misaligned w a) && holds o.ram a) ≡ true) owner h in
         let e = not-true (misaligned w a) (and_parts (not (misaligned w a)) (holds own.ram a) h').0 in
-        ap (λ b. aligned_first b a (right_at (place_of t a) (Some m) held Write a)) e ∙ may_write a (and_parts (not (misaligned w a)) (holds own.ram a) h').1
+        ap (λ b. option_or (refuse_if b Misaligned a 0) (right_at (place_of t a) (Some m) held Write a)) e ∙ may_write a (and_parts (not (misaligned w a)) (holds own.ram a) h').1
     allowed_by Fetch w a h = absurd (let k = (and_parts (not (misaligned w a)) false h).1 in cc)
 
     all_allowed : (xs : List Access) → all_inside j xs ≡ true → first_denied t (Some m) held xs ≡ None
     all_allowed [] h = refl
     all_allowed (x ∷ xs) h =
-        ap (λ d. or_else d (first_denied t (Some m) held xs)) (allowed_by x.kind x.width x.addr (and_parts (is_inside j x) (all_inside j xs) h).0) ∙ all_allowed xs (and_parts (is_inside j x) (all_inside j xs) h).1
+        ap (λ d. option_or d (first_denied t (Some m) held xs)) (allowed_by x.kind x.width x.addr (and_parts (is_inside j x) (all_inside j xs) h).0) ∙ all_allowed xs (and_parts (is_inside j x) (all_inside j xs) h).1
 
   -- ---- words in the text
   text_even : (a : ℕ) → a % 2 ≡ 0 → holds own.text a ≡ true → InBy Word in_sections a
@@ -302,12 +304,12 @@ module _ (m : ℕ) (own : Module) (t : Table) (sound : Sound m own t) (j : Job) 
 
     -- the module's own next instruction is the machine's
     module _ (even : pc_of s % 2 ≡ 0) (here : holds own.text (pc_of s) ≡ true) (l : Lone) (core_is : l.core ≡ s.core) (bytes_are : l.data_bytes ≡ section own.ram s.memory) where
-      home_word_same : (n k : ℕ) → text_word j (pc_of s) n k ≡ true → home_word s.table s.active (pc_of s) n k ≡ true
+      home_word_same : (n k : ℕ) → word_in j.owner.text (pc_of s) n k ≡ true → home_word s.table s.active (pc_of s) n k ≡ true
       home_word_same n k h =
           let h' = subst (λ (o : Module). (not (nat_lt k n) || holds o.text (pc_of s + 2 * k)) ≡ true) owner h in
           ap (λ u. home_word u s.active (pc_of s) n k) table_is ∙ ap (λ a. home_word t a (pc_of s) n k) active_is ∙ home_by (nat_lt k n) (pc_of s + 2 * k) h'
 
-      later_same : (n k : ℕ) → text_word j (pc_of s) n k ≡ true → later_word (byte_of s) (pc_of s) n k ≡ later_word (lone_byte j (section own.ram s.memory)) (pc_of s) n k
+      later_same : (n k : ℕ) → word_in j.owner.text (pc_of s) n k ≡ true → later_word (byte_of s) (pc_of s) n k ≡ later_word (lone_byte j (section own.ram s.memory)) (pc_of s) n k
       later_same n k h =
           let h' = subst (λ (o : Module). (not (nat_lt k n) || holds o.text (pc_of s + 2 * k)) ≡ true) owner h in
           later_by s.memory text_is (nat_lt k n) (pc_of s + 2 * k) (omega arith) h'
@@ -315,7 +317,7 @@ module _ (m : ℕ) (own : Module) (t : Table) (sound : Sound m own t) (j : Job) 
       first_word_same : word_at (byte_of s) (pc_of s) ≡ word_at (lone_byte j (section own.ram s.memory)) (pc_of s)
       first_word_same = same_word s.memory text_is (pc_of s) (text_even (pc_of s) even here)
 
-      insn_same : (n : ℕ) → text_word j (pc_of s) n 1 ≡ true → text_word j (pc_of s) n 2 ≡ true → insn_at (byte_of s) (pc_of s) n ≡ insn_at (lone_byte j (section own.ram s.memory)) (pc_of s) n
+      insn_same : (n : ℕ) → word_in j.owner.text (pc_of s) n 1 ≡ true → word_in j.owner.text (pc_of s) n 2 ≡ true → insn_at (byte_of s) (pc_of s) n ≡ insn_at (lone_byte j (section own.ram s.memory)) (pc_of s) n
       insn_same n h1 h2 = rw (first_word_same, later_same n 1 h1, later_same n 2 h2) refl
 
       did_perform : (insn : Insn) → is_alone insn ≡ true → all_inside j (asks (lone_who j) insn s.core) ≡ true → (u : Step) → u ≡ perform insn s → Moves own s (lone_does j insn (record { core = s.core; data_bytes = section own.ram s.memory; rest = l.rest; closing = l.closing })) u
@@ -336,31 +338,31 @@ module _ (m : ℕ) (own : Module) (t : Table) (sound : Sound m own t) (j : Job) 
             text = w.text;
           }
 
-      did_first : (o : Option Insn) (insn : Insn) → next_first o j l ≡ Some insn → Moves own s (lone_does j insn l) (act_first o s)
-      did_first None insn e = absurd cc
-      did_first (Some first) insn e =
+      did_first : (o : Option Insn) (insn : Insn) → insn_from o (lone_byte j (section own.ram s.memory)) j.owner.text (pc_of s) ≡ Some insn → is_alone insn ≡ true → all_inside j (asks (lone_who j) insn s.core) ≡ true →
+          Moves own s (lone_does j insn l) (act_first o s)
+      did_first None insn e alone inside = absurd cc
+      did_first (Some first) insn e alone inside =
           let n = length_of first in
           let same_l : l ≡ record { core = s.core; data_bytes = section own.ram s.memory; rest = l.rest; closing = l.closing } =
           ap (λ c. let v : Lone = record l { core = c } in v) core_is ∙ ap (λ d. let v : Lone = record l { core = s.core; data_bytes = d } in v) bytes_are in
-          let e' = subst (λ c. if_home (text_word j (reg c 0) n 1 && text_word j (reg c 0) n 2) (may_do j l (insn_at (lone_byte j l.data_bytes) (reg c 0) n)) ≡ Some insn) core_is e in
-          let e'' = subst (λ d. if_home (text_word j (pc_of s) n 1 && text_word j (pc_of s) n 2) (may_do j l (insn_at (lone_byte j d) (pc_of s) n)) ≡ Some insn) bytes_are e' in
-          let p = home_some (text_word j (pc_of s) n 1 && text_word j (pc_of s) n 2) (may_do j l (insn_at (lone_byte j (section own.ram s.memory)) (pc_of s) n)) insn e'' in
-          let t1 = (and_parts (text_word j (pc_of s) n 1) (text_word j (pc_of s) n 2) p.0).0 in
-          let t2 = (and_parts (text_word j (pc_of s) n 1) (text_word j (pc_of s) n 2) p.0).1 in
-          let q = may_some j l (insn_at (lone_byte j (section own.ram s.memory)) (pc_of s) n) insn p.1 in
-          let inside' = subst (λ c. all_inside j (asks (lone_who j) insn c) ≡ true) core_is q.2 in
+          let p = home_some (word_in j.owner.text (pc_of s) n 1 && word_in j.owner.text (pc_of s) n 2) (insn_at (lone_byte j (section own.ram s.memory)) (pc_of s) n) insn e in
+          let t1 = (and_parts (word_in j.owner.text (pc_of s) n 1) (word_in j.owner.text (pc_of s) n 2) p.0).0 in
+          let t2 = (and_parts (word_in j.owner.text (pc_of s) n 1) (word_in j.owner.text (pc_of s) n 2) p.0).1 in
           let home : is_home s.table s.active (pc_of s) n ≡ true =
           ap (λ b. b && home_word s.table s.active (pc_of s) n 2) (home_word_same n 1 t1) ∙ home_word_same n 2 t2 in
           let to : act_first (Some first) s ≡ perform insn s =
           ap (λ b. act_home b n s) home
-          ∙ ap (λ o. act_on o s) (insn_same n t1 t2 ∙ q.0)
-          ∙ act_by_alone insn q.1
-          ∙ attempt_inside insn (asks (lone_who j) insn s.core) (asks_alone insn (who_of s) (lone_who j) s.core q.1 own_is) inside' in
-          subst (λ v. Moves own s (lone_does j insn v) (act_first (Some first) s)) (sym same_l) (did_perform insn q.1 inside' (act_first (Some first) s) to)
+          ∙ ap (λ o. act_on o s) (insn_same n t1 t2 ∙ p.1)
+          ∙ act_by_alone insn alone
+          ∙ attempt_inside insn (asks (lone_who j) insn s.core) (asks_alone insn (who_of s) (lone_who j) s.core alone own_is) inside in
+          subst (λ v. Moves own s (lone_does j insn v) (act_first (Some first) s)) (sym same_l) (did_perform insn alone inside (act_first (Some first) s) to)
 
       pub did_act : (insn : Insn) → next_insn j l ≡ Some insn → Moves own s (lone_does j insn l) (act s)
       unfolding act next_insn
       did_act insn e =
-          let e' = subst (λ c. next_first (insn_of (word_at (lone_byte j l.data_bytes) (reg c 0)) 0 0) j l ≡ Some insn) core_is e in
-          let e'' = subst (λ d. next_first (insn_of (word_at (lone_byte j d) (pc_of s)) 0 0) j l ≡ Some insn) bytes_are e' in
-          subst (λ w. Moves own s (lone_does j insn l) (act_first (insn_of w 0 0) s)) (sym first_word_same) (did_first (insn_of (word_at (lone_byte j (section own.ram s.memory)) (pc_of s)) 0 0) insn e'')
+          let q = may_some j l (insn_in (lone_byte j l.data_bytes) j.owner.text (reg l.core 0)) insn e in
+          let inside = subst (λ c. all_inside j (asks (lone_who j) insn c) ≡ true) core_is q.2 in
+          let e' = subst (λ c. insn_in (lone_byte j l.data_bytes) j.owner.text (reg c 0) ≡ Some insn) core_is q.0 in
+          let e'' = subst (λ d. insn_in (lone_byte j d) j.owner.text (pc_of s) ≡ Some insn) bytes_are e' in
+          subst (λ w. Moves own s (lone_does j insn l) (act_first (insn_of w 0 0) s)) (sym first_word_same)
+          (did_first (insn_of (word_at (lone_byte j (section own.ram s.memory)) (pc_of s)) 0 0) insn e'' q.1 inside)

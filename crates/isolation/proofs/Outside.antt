@@ -1,5 +1,5 @@
 -- What the outside, handlers and other modules do keeps the relation.
-use Rattle.std.proofs.Common.{◌≡◌, ◌≢◌, ℕ, ◌%◌, List, [], ◌∷◌, refl, sym, ap, ◌∙◌, subst, arith, true, false, Option, Some, None}
+use Rattle.std.proofs.Common.{◌≡◌, ◌≢◌, ℕ, ◌%◌, List, [], ◌∷◌, refl, sym, ap, ◌∙◌, subst, arith, true, false, Option, Some, None, drop}
 use Rattle.sm_words.specs.Sums.{one_if}
 use Rattle.sm_words.specs.Words.{reg}
 use Rattle.insn_decode.specs.declared.insn.Insn.{Insn}
@@ -14,7 +14,7 @@ use Rattle.reg_backup.specs.declared.frames.Frame.{Frame}
 use Rattle.reg_backup.specs.declared.frames.Frame.TheVariants.{Module as Held}
 use Rattle.attest.specs.Accesses.{reads_of, writes_of}
 use Rattle.cpu_step.specs.Asked.{asks, effect}
-use Rattle.written_machine.specs.Cycle.{Step, stopped, denied, pc_of, push_both, pushes, plain_if, arrive_outside, port_of, who_of, perform, attempt, without_newest, returned_by, reti_by, reti_of, act}
+use Rattle.written_machine.specs.Cycle.{Step, stopped, denied, pc_of, push_both, pushes, plain_if, arrive_outside, port_of, who_of, perform, attempt, returned_by, reti_by, reti_of, act}
 use Rattle.written_machine.specs.Peers.{section}
 use Rattle.written_machine.specs.Ports.{take_reads}
 use Rattle.written_machine.specs.State.{State}
@@ -79,7 +79,7 @@ module _ (m : ℕ) (own : Module) (key text : List ℕ) where
         outside_ways s Acts v (λ d. light_acts (denied d s) (refl, refl, refl, refl, refl))
         (λ e. (
           refl,
-          stays_by s (push_both None v s).state k other other
+          stays_by s (push_both v s).state k other other
               (put_writes_part own.ram.start (size_of own.ram) (pushes s) p vs (writes_out m own s.table k.sound None (held_ids s.frames) refl (pushes s) e))
               (put_writes_part own.text.start (size_of own.text) (pushes s) p vs (text_writes_out m own s.table k.sound None (held_ids s.frames) (pushes s) e))
               (found_plain m s.frames) (times_plain m s.frames) refl k.sound,
@@ -111,13 +111,13 @@ module _ (m : ℕ) (own : Module) (key text : List ℕ) where
     unfolding perform
     attempt_acts insn = attempt_ways s Acts insn (λ d. light_acts (denied d s) (refl, refl, refl, refl, refl)) (λ e. (refl, perform_stays insn s.frames refl refl e))
 
-    returned_acts : find_held m (without_newest s.frames) ≡ find_held m s.frames → times m (without_newest s.frames) ≡ times m s.frames → Acts (let t = attempt Reti s in returned_by t.state.stop t)
+    returned_acts : find_held m (drop 1 s.frames) ≡ find_held m s.frames → times m (drop 1 s.frames) ≡ times m s.frames → Acts (let t = attempt Reti s in returned_by t.state.stop t)
     unfolding perform
     returned_acts f t = attempt_ways s (λ u. Acts (returned_by u.state.stop u)) Reti (λ d. light_acts (denied d s) (refl, refl, refl, refl, refl)) (by s.stop)
       where
         by : (o : Option Stop) → first_denied s.table s.active (held_ids s.frames) (asks (who_of s) Reti s.core) ≡ None → Acts (returned_by o (perform Reti s))
         by (Some stop) e = (refl, perform_stays Reti s.frames refl refl e)
-        by None e = (refl, perform_stays Reti (without_newest s.frames) f t e)
+        by None e = (refl, perform_stays Reti (drop 1 s.frames) f t e)
 
     reti_acts : (fs : List Frame) → s.frames ≡ fs → Acts (reti_by fs s)
     reti_acts (Held b ∷ fs) e = light_acts (reti_by (Held b ∷ fs) s) (refl, refl, refl, refl, refl)

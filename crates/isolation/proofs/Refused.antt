@@ -1,5 +1,6 @@
 -- A cycle is stopped by the first of its checks that is refused, and by nothing else.
 use Rattle.std.proofs.Common.{◌≡◌, ℕ, zero, suc, List, [], ◌∷◌, map, refl, sym, ap, ◌∙◌, Bool, true, false, not, Option, Some, None, is_none}
+use Rattle.std.specs.Option.{option_or}
 use Rattle.isolation.proofs.Tame.{ticked_stop}
 use Rattle.isolation.proofs.Ways.{counted_holds, enter_ways}
 use Rattle.insn_decode.specs.Code.{insn_of, length_of, length_or_one, length_at}
@@ -9,7 +10,7 @@ use Rattle.insn_decode.proofs.Unread.{none_outside, outside_none}
 use Rattle.mod_layout.specs.Table.{Table, place_of}
 use Rattle.mod_layout.specs.declared.Place.{Place}
 use Rattle.mod_layout.specs.declared.Place.TheVariants.{Open, Entry}
-use Rattle.pc_access.specs.Rights.{first_denied, or_else, right, refuse_if}
+use Rattle.pc_access.specs.Rights.{first_denied, right, refuse_if}
 use Rattle.pc_access.specs.declared.Access.{Access}
 use Rattle.pc_access.specs.declared.Denied.{Denied}
 use Rattle.pc_access.specs.declared.Rule.TheVariants.{RetiInside, Straddle, Illegal}
@@ -24,7 +25,7 @@ use Rattle.attest.specs.Units.{Doer, UnitName, Unprotect, unit_named, unit_plan}
 use Rattle.cpu_step.specs.Asked.{asks}
 use Rattle.cpu_step.specs.Fetched.{insn_at, later_word}
 use Rattle.written_machine.specs.Checks.{active_at, entered, first_word, insn_at_pc, asked_to_return, asked_by, returns_inside, check_of, later_checks, insn_checks, first_refused, stop_at, stop_of, refused_in}
-use Rattle.written_machine.specs.Cycle.{Step, told, pc_of, byte_of, settle, ticked, due, arrive_inside, arrive_outside, push_both, pushes, who_of, perform, perform_unless, attempt, returned_by, reti_by, reti_of, act_by, act_on, act_home, act_first, act, is_home, enter_at, enter, fetch, begin_unless, begin, asleep, turn, move, cycle_by, cycle}
+use Rattle.written_machine.specs.Cycle.{Step, told, pc_of, byte_of, settle, ticked, due, arrive_inside, arrive_outside, push_both, pushes, who_of, perform, attempt, returned_by, reti_by, reti_of, act_by, act_on, act_home, act_first, act, is_home, enter_at, enter, fetch, begin, asleep, turn, move, cycle_by, cycle, unless}
 use Rattle.written_machine.specs.State.{State}
 use Rattle.isolation.proofs.Told.{settle_settles}
 use Rattle.isolation.proofs.Cases.{turn_at, turn_unless, turn_is, checks_at, checks_unless, checks_are}
@@ -36,7 +37,7 @@ Stops t d s = t.state.stop ≡ stop_at d s
 -- the first refusal among accesses is the first of their checks
 first_of_map : (t : Table) (active : Option ℕ) (held : List ℕ) (xs : List Access) → first_refused (map (right t active held) xs) ≡ first_denied t active held xs
 first_of_map t active held [] = refl
-first_of_map t active held (x ∷ xs) = ap (or_else (right t active held x)) (first_of_map t active held xs)
+first_of_map t active held (x ∷ xs) = ap (option_or (right t active held x)) (first_of_map t active held xs)
 
 -- ---- an instruction
 
@@ -44,7 +45,7 @@ first_of_map t active held (x ∷ xs) = ap (or_else (right t active held x)) (fi
 abbrev refusal : List Access → State → Option Denied
 refusal xs s = first_denied s.table s.active (held_ids s.frames) xs
 
-unless_stops : (d : Option Denied) (insn : Insn) (s : State) → s.stop ≡ None → Stops (perform_unless d insn s) d s
+unless_stops : (d : Option Denied) (insn : Insn) (s : State) → s.stop ≡ None → Stops (unless d s (perform insn s)) d s
 unfolding perform
 unless_stops (Some d) insn s h = refl
 unless_stops None insn s h = h
@@ -63,7 +64,7 @@ reti_stops _ s h = returned_stop (attempt Reti s).state.stop (attempt Reti s) �
 
 -- the refusal of RETI inside a module, or else of an access
 abbrev late : Option Insn → Option ℕ → State → Option Denied
-late o active s = or_else (refuse_if (returns_inside o active) RetiInside (pc_of s) 0) (refusal (asked_by o s) s)
+late o active s = option_or (refuse_if (returns_inside o active) RetiInside (pc_of s) 0) (refusal (asked_by o s) s)
 
 reti_of_stops : (a : Option ℕ) (s : State) → s.stop ≡ None → Stops (reti_of a s) (late (Some Reti) a s) s
 reti_of_stops (Some id) s h = refl
@@ -83,7 +84,7 @@ act_on_stops (Some insn) s h no_none = act_by_stops insn s h
 
 -- the refusal of a place away from home, or else a later one
 abbrev middle : Bool → Option Insn → State → Option Denied
-middle home o s = or_else (refuse_if (not home) Straddle (pc_of s) 0) (late o s.active s)
+middle home o s = option_or (refuse_if (not home) Straddle (pc_of s) 0) (late o s.active s)
 
 act_home_stops : (b : Bool) (n : ℕ) (s : State) → s.stop ≡ None → (insn_at (byte_of s) (pc_of s) n ≡ None → ⊥) → Stops (act_home b n s) (middle b (insn_at (byte_of s) (pc_of s) n) s) s
 act_home_stops false n s h some = refl
@@ -93,7 +94,7 @@ act_home_stops true n s h some = act_on_stops (insn_at (byte_of s) (pc_of s) n) 
 abbrev later_by : Option Insn → State → Option Denied
 later_by o s =
     let n = length_or_one o in
-    or_else (refuse_if (is_none o) Illegal (pc_of s) 0) (middle (is_home s.table s.active (pc_of s) n) (insn_at (byte_of s) (pc_of s) n) s)
+    option_or (refuse_if (is_none o) Illegal (pc_of s) 0) (middle (is_home s.table s.active (pc_of s) n) (insn_at (byte_of s) (pc_of s) n) s)
 
 act_first_stops : (o : Option Insn) (s : State) → insn_of (first_word s) 0 0 ≡ o → s.stop ≡ None → Stops (act_first o s) (later_by o s) s
 act_first_stops None s e h = refl
@@ -106,7 +107,7 @@ later_is : (s : State) → first_refused (later_checks s) ≡ later_by (insn_of 
 later_is s =
     let n = length_at (first_word s) in
     let accesses = asked_by (insn_at_pc s) s in
-    ap (λ d. or_else (refuse_if (is_none (insn_of (first_word s) 0 0)) Illegal (pc_of s) 0) (or_else (refuse_if (not (is_home s.table s.active (pc_of s) n)) Straddle (pc_of s) 0) (or_else (refuse_if (returns_inside (insn_at_pc s) s.active) RetiInside (pc_of s) 0) d))) (first_of_map s.table s.active (held_ids s.frames) accesses)
+    ap (λ d. option_or (refuse_if (is_none (insn_of (first_word s) 0 0)) Illegal (pc_of s) 0) (option_or (refuse_if (not (is_home s.table s.active (pc_of s) n)) Straddle (pc_of s) 0) (option_or (refuse_if (returns_inside (insn_at_pc s) s.active) RetiInside (pc_of s) 0) d))) (first_of_map s.table s.active (held_ids s.frames) accesses)
 
 act_stops : (s : State) → s.stop ≡ None → Stops (act s) (first_refused (later_checks s)) s
 unfolding act
@@ -168,7 +169,7 @@ stop_core None s t e = refl
 stop_core (Some d) s t e = ap (λ c. stop_at (Some d) (record s { core = c })) e
 
 -- ---- a turn
-begin_by_stops : (d : Option Denied) (left : ℕ) (s : State) → s.stop ≡ None → Stops (begin_unless d left s) (or_else d (first_refused (later_checks (entered s)))) s
+begin_by_stops : (d : Option Denied) (left : ℕ) (s : State) → s.stop ≡ None → Stops (unless d s (let e = enter left s in told e.events (act e.state))) (option_or d (first_refused (later_checks (entered s)))) s
 begin_by_stops (Some d) left s h = refl
 begin_by_stops None left s h =
     let e = (enter left s).state in
@@ -184,7 +185,7 @@ asleep_stops : (x : Bool) (left : ℕ) (s : State) → s.stop ≡ None → Stops
 asleep_stops true left s h = h
 asleep_stops false left s h = begin_stops left s h
 
-push_stops : (d : Option Denied) (v : ℕ) (s : State) → s.stop ≡ None → Stops (push_both d v s) d s
+push_stops : (d : Option Denied) (v : ℕ) (s : State) → s.stop ≡ None → Stops (unless d s (push_both v s)) d s
 push_stops (Some d) v s h = refl
 push_stops None v s h = h
 

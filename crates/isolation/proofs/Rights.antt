@@ -2,6 +2,7 @@
 use Rattle.std.proofs.Common.{◌≡◌, ◌≢◌, ◌⊎◌, ℕ, ◌+◌, ◌%◌, ◌≤◌, List, [], ◌∷◌, refl, ap, subst, arith, Bool, true, false, cond, not, ◌==◌, Option, Some, None, ⊎_elim}
 use Rattle.std.proofs.lemmas.Bool.{cases_lt}
 use Rattle.std.proofs.lemmas.Bool.Decides.{nat_tests}
+use Rattle.std.specs.Option.{option_or}
 use Rattle.pc_access.proofs.RightLemmas.{aligned_both, refused_not}
 use Rattle.sm_words.specs.declared.width.Width.{Width}
 use Rattle.sm_words.specs.declared.width.Width.TheVariants.{Byte, Word}
@@ -9,7 +10,7 @@ use Rattle.mod_layout.specs.Table.{Table, place_of, module_of, size_of, holds}
 use Rattle.mod_layout.specs.Tables.{Apart, IsModule, IsTable}
 use Rattle.mod_layout.specs.declared.Module.{Module}
 use Rattle.mod_layout.specs.declared.Place.TheVariants.{Entry, Text, Data}
-use Rattle.pc_access.specs.Rights.{right, right_at, misaligned, first_denied, or_else, is_id}
+use Rattle.pc_access.specs.Rights.{right, right_at, misaligned, first_denied, is_id}
 use Rattle.pc_access.specs.declared.Access.{Access}
 use Rattle.pc_access.specs.declared.Denied.{Denied}
 use Rattle.pc_access.specs.declared.Kind.{Kind}
@@ -32,7 +33,7 @@ pub record Sound (m : ℕ) (own : Module) (t : Table) : Type 0 where
   pub apart : (a : ℕ) → holds own.text a ≡ true → holds own.ram a ≡ false
   pub others : (id : ℕ) (x : Module) → module_of id t ≡ Some x → (id == m) ≡ false → Apart x.ram own.ram × Apart x.ram own.text
 
-none_or : (p q : Option Denied) → or_else p q ≡ None → (p ≡ None) × (q ≡ None)
+none_or : (p q : Option Denied) → option_or p q ≡ None → (p ≡ None) × (q ≡ None)
 none_or None q e = (refl, e)
 none_or (Some d) q e = absurd cc
 

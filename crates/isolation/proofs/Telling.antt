@@ -14,8 +14,8 @@ use Rattle.written_machine.specs.Cycle.{cycle}
 use Rattle.written_machine.specs.Peers.{Peers}
 use Rattle.written_machine.specs.Standing.{stands_at}
 use Rattle.written_machine.specs.State.{State}
-use Rattle.written_machine.specs.Trace.{lines_of, standing, end_by, end_line_of, lines_after, trace}
-use Rattle.written_machine.specs.View.{boot, at, is_hidden_by, Seen, SeenPlain, SeenHidden, SeenWhole, seen_if, seen_frame, seen_byte, View, view_of}
+use Rattle.written_machine.specs.Trace.{lines_of, end_by, end_line_of, lines_after, trace}
+use Rattle.written_machine.specs.View.{boot, at, is_hidden_by, Seen, SeenPlain, SeenHidden, SeenWhole, seen_frame, seen_byte, View, view_of}
 use Rattle.written_machine.specs.declared.Hidden.TheVariants.{All as AllHidden, Only}
 use Rattle.std.proofs.Common.{◌≡◌, ℕ, zero, suc, ◌+◌, List, [], ◌∷◌, ◌++◌, map, refl, sym, ap, ◌∙◌, Bool, true, false, nat_lt, cond, ◌==◌, Option, Some, None, is_some}
 use mathlib.Core.Path.{fun_ext}
@@ -45,7 +45,7 @@ coarse v = record {
 }
 
 module _ (m : ℕ) where
-  frame_by : (c : Bool) (b : Backup) → coarse_frame (seen_if c b) ≡ SeenHidden b.module
+  frame_by : (c : Bool) (b : Backup) → coarse_frame (cond c (SeenHidden b.module) (SeenWhole b)) ≡ SeenHidden b.module
   unfolding coarse_frame
   frame_by true b = refl
   frame_by false b = refl
@@ -95,8 +95,8 @@ module _ (m : ℕ) (s t : State) (v : view_of s (Only m) ≡ view_of t (Only m))
       sym (ap (λ o. cond (is_hidden_by (Only m) o) None (Some s.core)) e) ∙ ap (λ x. x.registers) v ∙ ap (λ o. cond (is_hidden_by (Only m) o) None (Some t.core)) (sym seen_active ∙ e) in
       cc
 
-  core_same : (o : Option ℕ) → s.active ≡ o → standing o s.core ≡ standing o t.core
-  core_same None e = ap (standing None) (seen_core e)
+  core_same : (o : Option ℕ) → s.active ≡ o → end_by None o s.core ≡ end_by None o t.core
+  core_same None e = ap (end_by None None) (seen_core e)
   core_same (Some id) e = refl
 
   end_same : (o : Option Stop) → end_by o s.active s.core ≡ end_by o s.active t.core

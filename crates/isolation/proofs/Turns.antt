@@ -20,9 +20,9 @@ use Rattle.reg_backup.specs.declared.backup.Phase.{Phase}
 use Rattle.reg_backup.specs.declared.backup.Phase.TheVariants.{Run, Pad}
 use Rattle.reg_backup.specs.declared.frames.Frame.{Frame}
 use Rattle.reg_backup.specs.declared.frames.Frame.TheVariants.{Plain, Module as Held}
-use Rattle.cpu_step.specs.Lone.{Lone, doing, doing_by, does_or_breaks, next_insn, lone_does, job_of}
+use Rattle.cpu_step.specs.Lone.{Lone, doing, doing_by, next_insn, lone_does, job_of}
 use Rattle.tracer.specs.declared.Event.{Event}
-use Rattle.written_machine.specs.Cycle.{Step, quiet, told, denied, pc_of, due, arrive_inside, arrive_outside, asleep, padded, turn, begin_unless, begin, enter_at, enter, fetch, act}
+use Rattle.written_machine.specs.Cycle.{Step, quiet, told, denied, pc_of, due, arrive_inside, arrive_outside, asleep, padded, turn, begin, enter_at, enter, fetch, act, unless}
 use Rattle.written_machine.specs.Peers.{section}
 use Rattle.written_machine.specs.State.{State}
 use Rattle.isolation.proofs.Active.{arrived_none, does_gie, moves_alike}
@@ -59,9 +59,9 @@ pub right_fetch : (s : State) → check s ≡ None → right_at (place_of s.tabl
 unfolding right
 right_fetch s e = e
 
-pub begin_by : (left : ℕ) (s : State) (d : Option Denied) → check s ≡ d → begin left s ≡ begin_unless d left s
+pub begin_by : (left : ℕ) (s : State) (d : Option Denied) → check s ≡ d → begin left s ≡ unless d s (let e = enter left s in told e.events (act e.state))
 unfolding begin
-begin_by left s d e = ap (λ x. begin_unless x left s) e
+begin_by left s d e = ap (λ x. unless x s (let e = enter left s in told e.events (act e.state))) e
 
 -- where a module becomes active, it is entered
 enters_it : (m left : ℕ) (s : State) → is_id m s.active ≡ false → is_id m (enter left s).state.active ≡ true → (place_of s.table (pc_of s) ≡ Entry m) × (s.active ≡ None)
@@ -159,7 +159,7 @@ module _ (m : ℕ) (own : Module) (key text : List ℕ) where
       let d = did_act m own s.table k.sound (job_of key own text left) refl t refl refl k.text_is k.key_is refl ok.even_pc (in_its_text s k ok p) (start left s) refl refl insn e in
       record { memory = d.memory; is = d.is; bytes = d.bytes; rest = d.rest; text = d.text }
 
-  pub start_doing : (left : ℕ) (s : State) → Keeps m own key text s → IsCore s.core → place_of s.table (pc_of s) ≡ Entry m → doing (job_of key own text left) (start left s) ≡ does_or_breaks (next_insn (job_of key own text left) (start left s))
+  pub start_doing : (left : ℕ) (s : State) → Keeps m own key text s → IsCore s.core → place_of s.table (pc_of s) ≡ Entry m → doing (job_of key own text left) (start left s) ≡ doing_by 0 false true (next_insn (job_of key own text left) (start left s))
   unfolding start doing
   start_doing left s k ok p = ap (λ h. doing_by 0 false h (next_insn (job_of key own text left) (start left s))) (in_its_text s k ok p)
 
@@ -202,7 +202,7 @@ module _ (m : ℕ) (own : Module) (key text : List ℕ) where
         record { always = λ n es h. even (record { core = a.core; caller = left; within = n } ∷ es) (record { core_ok = ok_a; at_start = at_start a ka ok_a p; caller_ok = small }, h) } in
         subst (λ c. Evenly key own text (job_of key own text left) (start left a) (record { core = c; data_bytes = section own.ram b.memory; rest = 0; closing = false })) core ev
 
-    first_together : (left : ℕ) (na nb : Option Insn) → next_insn (job_of key own text left) (start left a) ≡ na → next_insn (job_of key own text left) (start left b) ≡ nb → place_of a.table (pc_of a) ≡ Entry m → place_of b.table (pc_of b) ≡ Entry m → is_held m (held_ids a.frames) ≡ false → is_held m (held_ids b.frames) ≡ false → Together key own text (job_of key own text left) (does_or_breaks na) (does_or_breaks nb) (start left a) (start left b) → Alike m own key text (act (at_entry left a)) (act (at_entry left b))
+    first_together : (left : ℕ) (na nb : Option Insn) → next_insn (job_of key own text left) (start left a) ≡ na → next_insn (job_of key own text left) (start left b) ≡ nb → place_of a.table (pc_of a) ≡ Entry m → place_of b.table (pc_of b) ≡ Entry m → is_held m (held_ids a.frames) ≡ false → is_held m (held_ids b.frames) ≡ false → Together key own text (job_of key own text left) (doing_by 0 false true na) (doing_by 0 false true nb) (start left a) (start left b) → Alike m own key text (act (at_entry left a)) (act (at_entry left b))
     unfolding entered start
     first_together left (Some i) (Some i') ea eb pa pb fa fb t =
         let seen : hide_by true m own (entered left a) ≡ hide_by true m own (entered left b) = ap (λ (v : State). let u : State = record v { core = veil_core v.core; active = Some m; caller = left; phase = Run 0; after = Next } in u) veiled in
@@ -222,7 +222,7 @@ module _ (m : ℕ) (own : Module) (key text : List ℕ) where
         let j = job_of key own text left in
         let t0 = next_together key own text j (start left a) (start left b) ev in
         let t1 = subst (λ d. Together key own text j d (doing j (start left b)) (start left a) (start left b)) (start_doing left a ka ok_a p) t0 in
-        let t2 = subst (λ d. Together key own text j (does_or_breaks (next_insn j (start left a))) d (start left a) (start left b)) (start_doing left b kb ok_b pb) t1 in
+        let t2 = subst (λ d. Together key own text j (doing_by 0 false true (next_insn j (start left a))) d (start left a) (start left b)) (start_doing left b kb ok_b pb) t1 in
         let r = first_together left (next_insn j (start left a)) (next_insn j (start left b)) refl refl p pb fa fb t2 in
         let ba : begin left a ≡ told (Event.Enter m left ∷ []) (act (at_entry left a)) = begin_by left a None e ∙ ap (λ u. told u.events (act u.state)) (entered_is m left a p o) in
         let bb : begin left b ≡ told (Event.Enter m left ∷ []) (act (at_entry left b)) = begin_by left b None eb ∙ ap (λ u. told u.events (act u.state)) (entered_is m left b pb ob) in

@@ -1,5 +1,5 @@
 -- What holds of each way that a step can go holds of the step.
-use Rattle.std.proofs.Common.{◌≡◌, ℕ, zero, suc, ◌+◌, ◌-◌, List, [], ◌∷◌, refl, sym, subst, Bool, true, false, cond, Option, Some, None}
+use Rattle.std.proofs.Common.{◌≡◌, ℕ, zero, suc, ◌+◌, ◌-◌, List, [], ◌∷◌, refl, sym, subst, Bool, true, false, cond, Option, Some, None, drop}
 use Rattle.sm_words.specs.Words.{word_at}
 use Rattle.insn_decode.specs.Code.{insn_of, length_of}
 use Rattle.insn_decode.specs.declared.insn.Insn.{Insn}
@@ -31,14 +31,14 @@ use Rattle.cpu_step.specs.Fetched.{insn_at}
 use Rattle.cpu_step.specs.Plan.{past}
 use Rattle.tracer.specs.declared.Event.{Event}
 use Rattle.tracer.specs.declared.Event.TheVariants.{Enter as Entered}
-use Rattle.written_machine.specs.Cycle.{Step, Settled, quiet, told, stopped, denied, unsettled, pc_of, byte_of, in_text, resume_from, close_of, leave_if, settle_by, settle_in, settle, ticked, due, arrive_inside, arrive_outside, push_both, pushes, who_of, perform, perform_unless, attempt, without_newest, returned_by, reti_by, reti_of, act_by, act_on, act_home, act_first, act, is_home, enter_at, enter, fetch, begin_unless, begin, padded, asleep, turn, sent_event, counted_by, move, cycle_by}
+use Rattle.written_machine.specs.Cycle.{Step, Settled, quiet, told, stopped, denied, unsettled, pc_of, byte_of, in_text, resume_from, close_of, leave_if, settle_by, settle_in, settle, ticked, due, arrive_inside, arrive_outside, push_both, pushes, who_of, perform, attempt, returned_by, reti_by, reti_of, act_by, act_on, act_home, act_first, act, is_home, enter_at, enter, fetch, begin, padded, asleep, turn, sent_event, counted_by, move, cycle_by, unless}
 use Rattle.written_machine.specs.State.{State}
 use Rattle.written_machine.specs.View.{at, boot}
 use Rattle.isolation.proofs.Cases.{turn_at, turn_unless, turn_is}
 
 module _ (s : State) (P : Step → Type 0) where
   unless_ways : (insn : Insn) (d : Option Denied) → first_denied s.table s.active (held_ids s.frames) (asks (who_of s) insn s.core) ≡ d → ((d : Denied) → P (denied d s))
-      → (first_denied s.table s.active (held_ids s.frames) (asks (who_of s) insn s.core) ≡ None → P (perform insn s)) → P (perform_unless d insn s)
+      → (first_denied s.table s.active (held_ids s.frames) (asks (who_of s) insn s.core) ≡ None → P (perform insn s)) → P (unless d s (perform insn s))
   unless_ways insn (Some d) e refused done = refused d
   unless_ways insn None e refused done = done e
 
@@ -97,17 +97,17 @@ module _ (s : State) (P : Step → Type 0) where
   unfolding begin
   begin_ways left refused begins = by (right s.table s.active (held_ids s.frames) (fetch s)) refl
     where
-      by : (d : Option Denied) → right s.table s.active (held_ids s.frames) (fetch s) ≡ d → P (begin_unless d left s)
+      by : (d : Option Denied) → right s.table s.active (held_ids s.frames) (fetch s) ≡ d → P (unless d s (let e = enter left s in told e.events (act e.state)))
       by (Some d) e = refused d
       by None e = begins e
 
   -- pushes that are refused, or done
   pub outside_ways : (v : ℕ) → ((d : Denied) → P (denied d s)) →
-      (first_denied s.table None (held_ids s.frames) (pushes s) ≡ None → P (push_both None v s)) → P (arrive_outside v s)
+      (first_denied s.table None (held_ids s.frames) (pushes s) ≡ None → P (push_both v s)) → P (arrive_outside v s)
   unfolding arrive_outside
   outside_ways v refused pushed = by (first_denied s.table None (held_ids s.frames) (pushes s)) refl
     where
-      by : (d : Option Denied) → first_denied s.table None (held_ids s.frames) (pushes s) ≡ d → P (push_both d v s)
+      by : (d : Option Denied) → first_denied s.table None (held_ids s.frames) (pushes s) ≡ d → P (unless d s (push_both v s))
       by (Some d) e = refused d
       by None e = pushed e
 
@@ -194,7 +194,7 @@ pub record EachTurn (A P : State → Step → Type 0) : Type 0 where
   pub waits : (r : ℕ) (s : State) → P s (quiet (record s { phase = Run r }))
   pub sleeps : (s : State) → P s (quiet s)
   pub inside : (v id : ℕ) (s : State) → due s ≡ Some v → s.active ≡ Some id → P s (arrive_inside v id s)
-  pub pushes : (v : ℕ) (s : State) → due s ≡ Some v → P s (push_both None v s)
+  pub pushes : (v : ℕ) (s : State) → due s ≡ Some v → P s (push_both v s)
 
 module _ (A : State → Step → Type 0) (each : EachAct A) where
   each_attempt : (insn : Insn) (s : State) → A s (attempt insn s)
@@ -226,14 +226,14 @@ module _ (A : State → Step → Type 0) (each : EachAct A) where
 pub record Lasting (I : State → Type 0) : Type 0 where
   pub rests : (s : State) (d : Devices) (n : ℕ) (p : Phase) (o : Option Stop) → I s → I (record s { devices = d; cycle = n; phase = p; stop = o })
   pub performs : (insn : Insn) (s : State) → I s → I (perform insn s).state
-  pub returns : (s : State) → I s → I (record s { frames = without_newest s.frames })
+  pub returns : (s : State) → I s → I (record s { frames = drop 1 s.frames })
   pub resumes : (s : State) → s.active ≡ None → I s → I (record s { core = past Reti s.core; phase = Run RESUMPTION; after = Resume })
   pub enters : (left id : ℕ) (s : State) → right s.table s.active (held_ids s.frames) (fetch s) ≡ None →
       place_of s.table (pc_of s) ≡ Entry id → s.active ≡ None →
       I s → I (record s { active = Some id; caller = left; after = Next })
   pub pads : (n : ℕ) (s : State) → I s → I (padded n s)
   pub inside : (v id : ℕ) (s : State) → due s ≡ Some v → s.active ≡ Some id → I s → I (arrive_inside v id s).state
-  pub pushes : (v : ℕ) (s : State) → due s ≡ Some v → I s → I (push_both None v s).state
+  pub pushes : (v : ℕ) (s : State) → due s ≡ Some v → I s → I (push_both v s).state
   pub settles : (s : State) → I s → I (settle s).state
 
 -- a cycle's last step changes the number alone

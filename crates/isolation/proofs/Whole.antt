@@ -20,7 +20,7 @@ use Rattle.tracer.specs.declared.Event.{Event}
 use Rattle.written_machine.specs.Cycle.{Step, Settled, told, settle, ticked, turn, sent_event, counted_by, move, cycle_by, cycle}
 use Rattle.written_machine.specs.Peers.{section, Peers}
 use Rattle.written_machine.specs.State.{State}
-use Rattle.written_machine.specs.View.{boot, at, is_hidden_by, Seen, seen_if, seen_frame, seen_byte, View, view_of}
+use Rattle.written_machine.specs.View.{boot, at, is_hidden_by, Seen, seen_frame, seen_byte, View, view_of}
 use Rattle.written_machine.specs.declared.Hidden.TheVariants.{Only}
 use Rattle.isolation.proofs.Active.{active_turn}
 use Rattle.isolation.proofs.EvenBy.{each_bound}
@@ -132,7 +132,7 @@ module _ (m : ℕ) (own : Module) (key text : List ℕ) where
 
   -- ---- the views
   frame_seen : (c : Bool) (b : Backup) → (b.module == m) ≡ c → seen_frame (Only m) (Held (veil_if c b)) ≡ seen_frame (Only m) (Held b)
-  frame_seen true b e = ap (λ d. seen_if d (veil_if true b)) e ∙ sym (ap (λ d. seen_if d b) e)
+  frame_seen true b e = ap (λ d. cond d (Seen.SeenHidden (veil_if true b).module) (Seen.SeenWhole (veil_if true b))) e ∙ sym (ap (λ d. cond d (Seen.SeenHidden b.module) (Seen.SeenWhole b)) e)
   frame_seen false b e = refl
 
   seen_frames : (fs : List Frame) → map (seen_frame (Only m)) (veil_frames m fs) ≡ map (seen_frame (Only m)) fs

@@ -3,32 +3,9 @@ use Rattle.std.proofs.Common.{◌≡◌, ◌≢◌, ◌<◌, ◌≤◌, ℕ, zer
 use Rattle.sm_words.specs.Words.{reg}
 use Rattle.insn_decode.specs.declared.insn.Insn.{Insn}
 use Rattle.mod_layout.specs.Table.{holds}
-use Rattle.cpu_step.specs.Lone.{Job, Lone, Outcome, Exit, Closing, Broken, Running, Waits, Closes, Leaves, does_or_breaks, doing_by, doing, next_insn, later, at_once, in_time, outcome, lone_does, lone_step_by, lone_step, lone_after}
-use Rattle.cpu_step.proofs.LoneLemmas.{after_step, after_more}
+use Rattle.cpu_step.specs.Lone.{Job, Lone, Exit, Closing, Broken, Running, Waits, Closes, Leaves, doing_by, doing, next_insn, later, at_once, in_time, outcome, lone_does, lone_step_by, lone_step, lone_after}
+use Rattle.cpu_step.proofs.LoneLemmas.{after_step, after_more, delayed, delayed_none, delayed_more, later_is}
 use Rattle.lone_run.specs.Jobs.{between}
-
--- an outcome that comes so many cycles later
-abbrev pub delayed : ℕ → Outcome → Outcome
-delayed k (Exit core left c) = Exit core left (c + k)
-delayed k (Closing core left c) = Closing core left (c + k)
-delayed k (Broken left c) = Broken left (c + k)
-delayed k Running = Running
-
-delayed_none : (o : Outcome) → o ≡ delayed 0 o
-delayed_none (Exit core left c) = ap (Exit core left) (let e : c ≡ c + 0 = omega arith in e)
-delayed_none (Closing core left c) = ap (Closing core left) (let e : c ≡ c + 0 = omega arith in e)
-delayed_none (Broken left c) = ap (Broken left) (let e : c ≡ c + 0 = omega arith in e)
-delayed_none Running = refl
-
-delayed_more : (a b : ℕ) (o : Outcome) → delayed a (delayed b o) ≡ delayed (a + b) o
-delayed_more a b (Exit core left c) = ap (Exit core left) (let e : c + b + a ≡ c + (a + b) = omega arith in e)
-delayed_more a b (Closing core left c) = ap (Closing core left) (let e : c + b + a ≡ c + (a + b) = omega arith in e)
-delayed_more a b (Broken left c) = ap (Broken left) (let e : c + b + a ≡ c + (a + b) = omega arith in e)
-delayed_more a b Running = refl
-
-later_is : (o : Outcome) → later o ≡ delayed 1 o
-later_is (Exit core left c) = refl
-later_is _ = refl
 
 -- within an instruction
 abbrev within : List ℕ → List ℕ → ℕ → Bool → Lone
@@ -67,7 +44,7 @@ doing_out : (j : Job) (core ram : List ℕ) → holds j.owner.text (reg core 0) 
 unfolding doing
 doing_out j core ram e = ap (λ b. doing_by 0 false b (next_insn j (between core ram))) e
 
-doing_in : (j : Job) (core ram : List ℕ) (o : Option Insn) → holds j.owner.text (reg core 0) ≡ true → next_insn j (between core ram) ≡ o → doing j (between core ram) ≡ does_or_breaks o
+doing_in : (j : Job) (core ram : List ℕ) (o : Option Insn) → holds j.owner.text (reg core 0) ≡ true → next_insn j (between core ram) ≡ o → doing j (between core ram) ≡ doing_by 0 false true o
 unfolding doing
 doing_in j core ram o e f = ap (λ b. doing_by 0 false b (next_insn j (between core ram))) e ∙ ap (λ o. doing_by 0 false true o) f
 
@@ -86,7 +63,7 @@ closes j (suc n) core ram = ap (λ d. in_time d (outcome j n) j (within core ram
 ends : (j : Job) (core ram : List ℕ) → holds j.owner.text (reg core 0) ≡ true → outcome j 0 (between core ram) ≡ Running
 ends j core ram e = ap (λ d. at_once d (between core ram)) (doing_in j core ram (next_insn j (between core ram)) e refl) ∙ by (next_insn j (between core ram))
   where
-    by : (o : Option Insn) → at_once (does_or_breaks o) (between core ram) ≡ Running
+    by : (o : Option Insn) → at_once (doing_by 0 false true o) (between core ram) ≡ Running
     by None = refl
     by (Some insn) = refl
 

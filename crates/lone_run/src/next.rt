@@ -1,15 +1,15 @@
 //! The next instruction of a module by itself, where it may do it.
 
-ghost use Rattle.std.specs.Prelude.{◌≡◌, ◌≤◌, ◌<◌, ◌+◌, ◌*◌, ◌&&◌, ℕ, List, Bool, true, IfSome, Some};
+ghost use Rattle.std.specs.Prelude.{◌≡◌, ◌≤◌, ◌<◌, ◌+◌, ◌*◌, ◌&&◌, ℕ, List, Bool, true, if◌then◌else◌, IfSome, Some, None};
 ghost use Rattle.sm_words.specs.Words.{reg, word_at};
 ghost use Rattle.sm_words.specs.declared.registers.TheConstants.{PC};
 ghost use Rattle.insn_decode.specs.Code.{IsDecoded, insn_of};
 ghost use Rattle.pc_access.specs.declared.Kind.TheVariants.{Read, Write};
 ghost use Rattle.attest.specs.Units.{each_byte, in_range, unit_named, unit_plan, UnitName, Tag};
-ghost use Rattle.cpu_step.specs.Fetched.{later_word, insn_at};
+ghost use Rattle.cpu_step.specs.Fetched.{later_word, insn_at, word_in, insn_from, insn_in};
 ghost use Rattle.cpu_step.specs.Asked.{asks};
-ghost use Rattle.cpu_step.specs.Lone.{lone_byte, lone_who, unit_alone, is_alone, all_inside, text_word, may_do};
-ghost use Rattle.cpu_step.specs.Lone.{if_home, next_first, next_insn, Lone};
+ghost use Rattle.cpu_step.specs.Lone.{lone_byte, lone_who, unit_alone, is_alone, all_inside, may_do};
+ghost use Rattle.cpu_step.specs.Lone.{next_insn, Lone};
 ghost use Rattle.lone_run.specs.internal.Jobs.{call_of};
 
 use crate::job::{Job, is_inside, word};
@@ -21,7 +21,7 @@ use sm_words::{Core, PC, Width};
 
 /// Whether word `k` of an instruction of `n` words at `pc`, if there is one, is in the text.
 fn has_word(job: &Job<'_>, pc: u16, n: u16, k: u16) -> bool
-    ensures { result ≡ text_word (call_of job.now) pc n k }
+    ensures { result ≡ word_in (call_of job.now).owner.text pc n k }
 {
     k >= n || job.owner.text.holds(usize::from(pc) + 2 * usize::from(k))
 }
@@ -166,25 +166,34 @@ fn may_do(job: &Job<'_>, core: &Core, insn: Option<Insn>) -> Option<Insn>
     }
 }
 
-/// The instruction of `n` words in PC's place, where all of it is in the text and the module may do it.
-fn home_insn(job: &Job<'_>, ram: &[u8], core: &Core, n: u16) -> Option<Insn>
-    ensures exact { (rest : ℕ) (closing : Bool) → result
-        ≡ if_home (text_word (call_of job.now) (reg core.now PC) n 1 && text_word (call_of job.now)
-        (reg core.now PC) n 2) (may_do (call_of job.now)
-        (record { core = core.now; data_bytes = ram.now; rest = rest; closing = closing })
-        (insn_at (lone_byte (call_of job.now) ram.now) (reg core.now PC) n)) }
+/// The instruction of `n` words at `pc`, where all of it is in the text.
+fn whole(job: &Job<'_>, ram: &[u8], pc: u16, n: u16) -> Option<Insn>
+    ensures exact { result ≡ (if word_in (call_of job.now).owner.text pc n 1 && word_in (call_of job.now).owner.text pc n 2
+        then insn_at (lone_byte (call_of job.now) ram.now) pc n else None) }
     ensures decoded { IfSome result (λ insn. IsDecoded insn) }
-    ensures alone { IfSome result (λ insn. is_alone insn ≡ true) }
-    ensures inside { IfSome result (λ insn. all_inside (call_of job.now)
-        (asks (lone_who (call_of job.now)) insn core.now) ≡ true) }
 {
-    let pc = core.get(PC);
     let home = both(has_word(job, pc, n, 1), has_word(job, pc, n, 2));
-    if home {
-        may_do(job, core, insn_at(job, ram, pc, n))
-    } else {
-        None
+    if home { insn_at(job, ram, pc, n) } else { None }
+}
+
+/// The instruction at `pc`, where its first word tells its length.
+fn insn_from(first: Option<Insn>, job: &Job<'_>, ram: &[u8], pc: u16) -> Option<Insn>
+    ensures exact { result ≡ insn_from first (lone_byte (call_of job.now) ram.now) (call_of job.now).owner.text pc }
+    ensures decoded { IfSome result (λ insn. IsDecoded insn) }
+{
+    match first {
+        Some(insn) => whole(job, ram, pc, insn.length()),
+        None => None,
     }
+}
+
+/// The instruction at `pc`, where all of it is in the text.
+fn insn_in(job: &Job<'_>, ram: &[u8], pc: u16) -> Option<Insn>
+    ensures exact { result ≡ insn_in (lone_byte (call_of job.now) ram.now) (call_of job.now).owner.text pc }
+    ensures decoded { IfSome result (λ insn. IsDecoded insn) }
+{
+    let first = decode(word(job, ram, usize::from(pc)), 0, 0);
+    insn_from(first, job, ram, pc)
 }
 
 /// The instruction that the module does next, where all of it is in the text and it may do it.
@@ -197,9 +206,6 @@ pub fn next_insn(job: &Job<'_>, ram: &[u8], core: &Core) -> Option<Insn>
     ensures inside { IfSome result (λ insn. all_inside (call_of job.now)
         (asks (lone_who (call_of job.now)) insn core.now) ≡ true) }
 {
-    let first = decode(word(job, ram, usize::from(core.get(PC))), 0, 0);
-    match first {
-        Some(first) => home_insn(job, ram, core, first.length()),
-        None => None,
-    }
+    let insn = insn_in(job, ram, core.get(PC));
+    may_do(job, core, insn)
 }

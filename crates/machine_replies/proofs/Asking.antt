@@ -1,6 +1,7 @@
 -- The addresses that an instruction asks for are words, and so is what a refusal tells.
 use Rattle.std.proofs.Common.{◌≡◌, ℕ, zero, suc, ◌+◌, ◌*◌, ◌-◌, ◌≤◌, List, [], ◌∷◌, ◌++◌, refl, arith, Bool, true, false, cond, nat_le, ◌&&◌, Option, Some, None}
 use Rattle.std.proofs.lemmas.Bool.Decides.{nat_tests}
+use Rattle.std.specs.Option.{option_or}
 use Rattle.sm_words.specs.Words.{reg, add16, IsCore}
 use Rattle.sm_words.specs.declared.width.Width.{Width}
 use Rattle.insn_decode.specs.Code.{insn_of, words_of}
@@ -20,7 +21,8 @@ use Rattle.mod_layout.specs.declared.Place.{Place}
 use Rattle.mod_layout.specs.declared.Place.TheVariants.{Open, Entry, Text, Data}
 use Rattle.mod_layout.proofs.Found.{module_found, and_true}
 use Rattle.mod_layout.proofs.TableLemmas.{taken}
-use Rattle.pc_access.specs.Rights.{right, right_at, refuse_if, aligned_first, misaligned, or_else, first_denied}
+use Rattle.pc_access.specs.Rights.{right, right_at, refuse_if, misaligned, first_denied}
+use Rattle.pc_access.specs.declared.Rule.TheVariants.{Misaligned}
 use Rattle.pc_access.specs.declared.Access.{Access}
 use Rattle.pc_access.specs.declared.Denied.{Denied}
 use Rattle.pc_access.specs.declared.Kind.{Kind}
@@ -75,7 +77,7 @@ right_at_word (Entry id) active held Write a h g = (g, h)
 right_at_word (Text id) active held Write a h g = (g, h)
 right_at_word _ active held _ a h g = tt
 
-aligned_word : (b : Bool) (a : ℕ) (rest : Option Denied) → IsWord a → IsWordDenied rest → IsWordDenied (aligned_first b a rest)
+aligned_word : (b : Bool) (a : ℕ) (rest : Option Denied) → IsWord a → IsWordDenied rest → IsWordDenied (option_or (refuse_if b Misaligned a 0) rest)
 aligned_word true a rest g h = (g, omega arith)
 aligned_word false a rest g h = h
 
@@ -88,7 +90,7 @@ kind_word t active held Write w a f g = aligned_word (misaligned w a) a _ g (rig
 pub right_word : (t : Table) (active : Option ℕ) (held : List ℕ) (x : Access) → TableFine t → IsWord x.addr → IsWordDenied (right t active held x)
 right_word t active held x f g = kind_word t active held x.kind x.width x.addr f g
 
-or_word : (p q : Option Denied) → IsWordDenied p → IsWordDenied q → IsWordDenied (or_else p q)
+or_word : (p q : Option Denied) → IsWordDenied p → IsWordDenied q → IsWordDenied (option_or p q)
 or_word (Some d) q h g = h
 or_word None q h g = g
 

@@ -33,7 +33,7 @@ use Rattle.cpu_step.specs.Asked.{asks, effect, table_after}
 use Rattle.cpu_step.specs.Fetched.{insn_at, later_word}
 use Rattle.tracer.specs.Laws.{IsWord, IsEvent}
 use Rattle.tracer.specs.declared.Event.{Event}
-use Rattle.written_machine.specs.Cycle.{Step, told, stopped, pc_of, byte_of, in_text, resume_from, close_of, leave_if, settle_by, settle_in, settle, ticked, vector_if, due, arrive_inside, arrive_outside, push_both, pushes, port_of, who_of, perform, perform_unless, attempt, returned_by, reti_by, reti_of, act_by, act_on, act_home, act_first, act, is_home, enter_at, enter, fetch, begin_unless, begin, asleep, turn, sent_event, counted_by, move, cycle_by, cycle}
+use Rattle.written_machine.specs.Cycle.{Step, told, stopped, pc_of, byte_of, in_text, resume_from, close_of, leave_if, settle_by, settle_in, settle, ticked, due, arrive_inside, arrive_outside, push_both, pushes, port_of, who_of, perform, attempt, returned_by, reti_by, reti_of, act_by, act_on, act_home, act_first, act, is_home, enter_at, enter, fetch, begin, asleep, turn, sent_event, counted_by, move, cycle_by, cycle, unless}
 use Rattle.written_machine.specs.Ports.{Port, read_in, read_byte, read_width, write_in, write_byte, write_width, take_reads, put_writes}
 use Rattle.written_machine.specs.State.{State}
 use Rattle.written_machine.specs.View.{at}
@@ -69,7 +69,7 @@ perform_event : (insn : Insn) (s : State) → Fine s → AreEvents (perform insn
 unfolding perform
 perform_event insn s f = made_event _ (table_after s.table insn s.core).given (table_fine insn s.table s.core (f.table_ok, f.given_small)).1
 
-unless_event : (d : Option Denied) (insn : Insn) (s : State) → Fine s → IsWordDenied d → AreEvents (perform_unless d insn s).events
+unless_event : (d : Option Denied) (insn : Insn) (s : State) → Fine s → IsWordDenied d → AreEvents (unless d s (perform insn s)).events
 unless_event (Some d) insn s f h = stopped_event d.rule d.addr d.«module» s f.core_ok h.0 h.1
 unless_event None insn s f h = perform_event insn s f
 
@@ -135,7 +135,7 @@ enter_event : (left : ℕ) (s : State) → Fine s → IsWord left → AreEvents 
 unfolding enter
 enter_event left s f g = enter_at_event (place_of s.table (pc_of s)) s.active left s (place_word s.table (pc_of s) (f.table_ok, f.given_small)) g
 
-begin_by_event : (d : Option Denied) (left : ℕ) (s : State) → Fine s → Filled s.memory → IsWord left → IsWordDenied d → AreEvents (begin_unless d left s).events
+begin_by_event : (d : Option Denied) (left : ℕ) (s : State) → Fine s → Filled s.memory → IsWord left → IsWordDenied d → AreEvents (unless d s (let e = enter left s in told e.events (act e.state))).events
 begin_by_event (Some d) left s f m g h = stopped_event d.rule d.addr d.«module» s f.core_ok h.0 h.1
 begin_by_event None left s f m g h =
     both (enter left s).events (act (enter left s).state).events (enter_event left s f g) (act_event (enter left s).state (enter_fine left s f) (enter_filled left s m))
@@ -169,7 +169,7 @@ line_byte d =
     (if_byte (line_raised d 3) _ _ (omega arith) (if_byte (line_raised d 2) _ _ (omega arith)
     (if_byte (line_raised d 1) _ _ (omega arith) (if_byte (line_raised d 0) _ None (omega arith) tt)))))
 
-vector_byte : (b : Bool) (o : Option ℕ) → IsMaybeByte o → IsMaybeByte (vector_if b o)
+vector_byte : (b : Bool) (o : Option ℕ) → IsMaybeByte o → IsMaybeByte (cond b o None)
 vector_byte true o h = h
 vector_byte false o h = tt
 
@@ -177,7 +177,7 @@ due_byte : (s : State) → IsMaybeByte (due s)
 unfolding due
 due_byte s = vector_byte _ (line_of s.devices) (line_byte s.devices)
 
-push_event : (d : Option Denied) (v : ℕ) (s : State) → Fine s → v < 256 → IsWordDenied d → AreEvents (push_both d v s).events
+push_event : (d : Option Denied) (v : ℕ) (s : State) → Fine s → v < 256 → IsWordDenied d → AreEvents (unless d s (push_both v s)).events
 push_event (Some d) v s f g h = stopped_event d.rule d.addr d.«module» s f.core_ok h.0 h.1
 push_event None v s f g h = (g, tt)
 
@@ -313,7 +313,7 @@ perform_sends insn s = λ k.
     let g = take_reads (port_of s) (reads_of xs) in
     puts_send (writes_of xs) g.port (effect (who_of s) insn s.core g.values).stored (reads_send (reads_of xs) (port_of s) k)
 
-unless_sends : (d : Option Denied) (insn : Insn) (s : State) → Goes s (perform_unless d insn s).state
+unless_sends : (d : Option Denied) (insn : Insn) (s : State) → Goes s (unless d s (perform insn s)).state
 unless_sends (Some d) insn s = λ k. k
 unless_sends None insn s = perform_sends insn s
 
@@ -365,7 +365,7 @@ enter_sends : (left : ℕ) (s : State) → Goes s (enter left s).state
 unfolding enter
 enter_sends left s = enter_at_sends (place_of s.table (pc_of s)) s.active left s
 
-begin_by_sends : (d : Option Denied) (left : ℕ) (s : State) → Goes s (begin_unless d left s).state
+begin_by_sends : (d : Option Denied) (left : ℕ) (s : State) → Goes s (unless d s (let e = enter left s in told e.events (act e.state))).state
 begin_by_sends (Some d) left s = λ k. k
 begin_by_sends None left s = λ k. act_sends (enter left s).state (enter_sends left s k)
 
@@ -377,7 +377,7 @@ asleep_sends : (b : Bool) (left : ℕ) (s : State) → Goes s (turn_unless b lef
 asleep_sends true left s = λ k. k
 asleep_sends false left s = begin_sends left s
 
-push_sends : (d : Option Denied) (v : ℕ) (s : State) → Goes s (push_both d v s).state
+push_sends : (d : Option Denied) (v : ℕ) (s : State) → Goes s (unless d s (push_both v s)).state
 push_sends (Some d) v s = λ k. k
 push_sends None v s = λ k.
     let p = put_writes (port_of s) (pushes s) (reg s.core 0 ∷ reg s.core 2 ∷ []) in

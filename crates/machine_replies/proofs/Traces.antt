@@ -12,7 +12,7 @@ use Rattle.tracer.specs.Lines.{event_line}
 use Rattle.tracer.specs.declared.Event.{Event}
 use Rattle.written_machine.specs.Cycle.{Step, settle, ticked, told, turn, counted_by, move, cycle_by, cycle, after_cycles}
 use Rattle.written_machine.specs.State.{State}
-use Rattle.written_machine.specs.Trace.{lines_of, lines_after, standing, end_by, end_of, end_line_of}
+use Rattle.written_machine.specs.Trace.{lines_of, lines_after, end_by, end_of, end_line_of}
 use Rattle.written_machine.specs.View.{at, boot}
 use Rattle.vendor_tool.specs.Laws.{TimedEvent, IsTold, IsEndState, StandsInPlace, events_text, sent_in, sent}
 use Rattle.vendor_tool.specs.declared.Judgement.TheVariants.{Genuine}
@@ -108,7 +108,7 @@ run_told a schedule (suc n) ok low =
 
 -- ---- the end
 
-standing_fits : (active : Option ℕ) (core : List ℕ) → Small active → IsCore core → IsEndState (standing active core)
+standing_fits : (active : Option ℕ) (core : List ℕ) → Small active → IsCore core → IsEndState (end_by None active core)
 standing_fits (Some id) core h c = h
 standing_fits None core h c = c.words
 

@@ -1,8 +1,9 @@
 -- The rules against the table of rights.
-use Rattle.std.proofs.Common.{◌≡◌, ℕ, ◌%◌, List, Bool, true, false, not, nat_lt, Option, Some, None, refl, sym, ap, ◌∙◌, arith}
+use Rattle.std.proofs.Common.{◌≡◌, ℕ, ◌%◌, List, Bool, true, false, not, nat_lt, Option, Some, None, refl, ◌∙◌, arith}
 use Rattle.std.specs.List.{list_all}
 use Rattle.std.proofs.lemmas.Bool.Decides.{nat_tests}
 use Rattle.std.proofs.lemmas.Bool.{not-false, not_from_true, and_parts}
+use Rattle.std.specs.Option.{option_or}
 use Rattle.sm_words.specs.declared.width.Width.{Width}
 use Rattle.sm_words.specs.declared.width.Width.TheVariants.{Byte, Word}
 use Rattle.mod_layout.specs.declared.TheConstants.{DEVICES_END}
@@ -16,7 +17,7 @@ use Rattle.pc_access.specs.declared.Kind.TheVariants.{Fetch, Read, Write}
 use Rattle.pc_access.specs.declared.Rule.{Rule}
 use Rattle.pc_access.specs.declared.Rule.TheVariants.{Misaligned}
 use Rattle.pc_access.specs.declared.Denied.{Denied}
-use Rattle.pc_access.specs.Rights.{grants, is_id, is_held, is_own, is_granted, refuse_if, right_at, aligned_first, right, access_of, is_misaligned, touched, is_barred_at, IsRightful}
+use Rattle.pc_access.specs.Rights.{grants, is_id, is_held, is_own, is_granted, refuse_if, right_at, right, access_of, is_misaligned, touched, is_barred_at, IsRightful}
 
 -- a misaligned access is refused by that rule
 pub right_misaligned : (t : Table) (active : Option ℕ) (held : List ℕ) (kind : Kind) (a : ℕ) (w : Width)
@@ -80,7 +81,7 @@ at_free active held (Data id) Fetch a g f = absurd (data_not_fetched (is_id id a
 at_free active held (Data id) k a g f = allowed_by (not (is_id id active)) _ a id (not_from_true (is_id id active) (data_own (is_id id active) id k g))
 at_free active held _ _ a g f = refl
 
-pub aligned_both : (b : Bool) (a : ℕ) (rest : Option Denied) → aligned_first b a rest ≡ None → (b ≡ false) × (rest ≡ None)
+pub aligned_both : (b : Bool) (a : ℕ) (rest : Option Denied) → option_or (refuse_if b Misaligned a 0) rest ≡ None → (b ≡ false) × (rest ≡ None)
 aligned_both true a rest e = absurd cc
 aligned_both false a rest e = (refl, e)
 

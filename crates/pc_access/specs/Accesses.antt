@@ -1,5 +1,5 @@
 -- Accesses in their order: the reads and the writes among them, and what the writes leave.
-use Rattle.std.specs.Prelude.{ℕ, List, [], ◌∷◌, if◌then◌else◌, Bool, true, false}
+use Rattle.std.specs.Prelude.{ℕ, List, [], ◌∷◌, filter, Bool, true, false}
 use Rattle.pc_access.specs.declared.Kind.{Kind}
 use Rattle.pc_access.specs.declared.Kind.TheVariants.{Read, Write}
 use Rattle.pc_access.specs.declared.Access.{Access}
@@ -14,13 +14,11 @@ is_write _ = false
 
 -- the reads among these accesses
 abbrev pub reads_of : List Access → List Access
-reads_of [] = []
-reads_of (x ∷ xs) = if is_read x.kind then x ∷ reads_of xs else reads_of xs
+reads_of xs = filter (λ x. is_read x.kind) xs
 
 -- the writes among them
 abbrev pub writes_of : List Access → List Access
-writes_of [] = []
-writes_of (x ∷ xs) = if is_write x.kind then x ∷ writes_of xs else writes_of xs
+writes_of xs = filter (λ x. is_write x.kind) xs
 
 -- what these writes leave of a state, one after another, each with its value
 abbrev pub after_writes : {S : Type 0} → (S → Access → ℕ → S) → S → List Access → List ℕ → S

@@ -1,6 +1,7 @@
 -- Who may do what where.
-use Rattle.std.specs.Prelude.{◌≡◌, ℕ, ◌+◌, ◌%◌, List, [], ◌∷◌, ◌==◌, nat_lt, Bool, true, false, ◌||◌, not, Option, Some, None}
-use Rattle.std.specs.List.{list_all}
+use Rattle.std.specs.Prelude.{◌≡◌, ℕ, ◌+◌, ◌%◌, List, [], ◌∷◌, ◌==◌, nat_lt, Bool, true, false, not, Option, Some, None}
+use Rattle.std.specs.List.{list_all, list_any}
+use Rattle.std.specs.Option.{option_or}
 use Rattle.sm_words.specs.declared.width.Width.{Width}
 use Rattle.sm_words.specs.declared.width.Width.TheVariants.{Byte, Word}
 use Rattle.mod_layout.specs.declared.TheConstants.{DEVICES_END}
@@ -55,8 +56,7 @@ is_granted t active kind a = grants (is_own active (place_of t a)) (place_of t a
 
 -- whether this module is among those held in frames
 abbrev pub is_held : ℕ → List ℕ → Bool
-is_held id [] = false
-is_held id (x ∷ xs) = (x == id) || is_held id xs
+is_held id held = list_any (λ x. x == id) held
 
 abbrev pub refuse_if : Bool → Rule → ℕ → ℕ → Option Denied
 refuse_if true rule addr id = Some record { rule = rule; addr = addr; «module» = id }
@@ -86,19 +86,14 @@ right_at (Data id) active held Write a = refuse_if (not (is_id id active)) Write
 right_at (Entry id) active held Write a = refuse_if true WriteText a id
 right_at (Text id) active held Write a = refuse_if true WriteText a id
 
--- Misaligned comes before every other rule
-abbrev pub aligned_first : Bool → ℕ → Option Denied → Option Denied
-aligned_first true a rest = Some record { rule = Misaligned; addr = a; «module» = 0 }
-aligned_first false a rest = rest
-
 -- whether an access is a word at an odd address; alignment concerns reads and writes alone
 abbrev pub is_misaligned : Access → Bool
 is_misaligned x =
     elim x.kind [ Fetch ↦ false | Read ↦ misaligned x.width x.addr | Write ↦ misaligned x.width x.addr ]
 
--- why an access is refused, or none
+-- why an access is refused, or none: Misaligned comes before every other rule
 unfoldable pub right : Table → Option ℕ → List ℕ → Access → Option Denied
-right t active held x = aligned_first (is_misaligned x) x.addr (right_at (place_of t x.addr) active held x.kind x.addr)
+right t active held x = option_or (refuse_if (is_misaligned x) Misaligned x.addr 0) (right_at (place_of t x.addr) active held x.kind x.addr)
 
 -- an access of this kind, at this address, of this width
 abbrev pub access_of : Kind → ℕ → Width → Access
@@ -125,12 +120,7 @@ pub record IsRightful (t : Table) (active : Option ℕ) (held : List ℕ) (x : A
 
 -- ---- several accesses
 
--- the first that answers
-abbrev pub or_else : Option Denied → Option Denied → Option Denied
-or_else (Some d) rest = Some d
-or_else None rest = rest
-
 -- the first refusal among accesses in their order
 abbrev pub first_denied : Table → Option ℕ → List ℕ → List Access → Option Denied
 first_denied t active held [] = None
-first_denied t active held (x ∷ xs) = or_else (right t active held x) (first_denied t active held xs)
+first_denied t active held (x ∷ xs) = option_or (right t active held x) (first_denied t active held xs)

@@ -1,5 +1,6 @@
 -- The checks of a cycle in their order, and the stop by the first that is refused.
 use Rattle.std.specs.Prelude.{ℕ, List, [], ◌∷◌, map, Bool, true, false, not, Option, Some, None, is_none}
+use Rattle.std.specs.Option.{option_or}
 use Rattle.sm_words.specs.Words.{word_at}
 use Rattle.insn_decode.specs.Code.{insn_of, length_at}
 use Rattle.insn_decode.specs.declared.insn.Insn.{Insn}
@@ -7,7 +8,7 @@ use Rattle.insn_decode.specs.declared.insn.Insn.TheVariants.{Reti}
 use Rattle.mod_layout.specs.Table.{place_of}
 use Rattle.mod_layout.specs.declared.Place.{Place}
 use Rattle.mod_layout.specs.declared.Place.TheVariants.{Entry}
-use Rattle.pc_access.specs.Rights.{right, refuse_if, or_else}
+use Rattle.pc_access.specs.Rights.{right, refuse_if}
 use Rattle.pc_access.specs.declared.Access.{Access}
 use Rattle.pc_access.specs.declared.Denied.{Denied}
 use Rattle.pc_access.specs.declared.Rule.TheVariants.{RetiInside, Straddle, Illegal}
@@ -88,7 +89,7 @@ checks s = checks_by (case_of s) s
 -- the first that is refused
 abbrev pub first_refused : List (Option Denied) → Option Denied
 first_refused [] = None
-first_refused (c ∷ cs) = or_else c (first_refused cs)
+first_refused (c ∷ cs) = option_or c (first_refused cs)
 
 -- the stop by a refusal, with the PC as it stands
 abbrev pub stop_at : Option Denied → State → Option Stop

@@ -1,5 +1,5 @@
 -- One cycle of the machine, by its steps.
-use Rattle.std.specs.Prelude.{ℕ, zero, suc, ◌+◌, ◌-◌, ◌*◌, List, [], ◌∷◌, ◌++◌, length, slice_index, ◌==◌, nat_lt, if◌then◌else◌, Bool, true, false, ◌&&◌, ◌||◌, not, Option, Some, None, replicate}
+use Rattle.std.specs.Prelude.{ℕ, zero, suc, ◌+◌, ◌-◌, ◌*◌, List, [], ◌∷◌, ◌++◌, drop, length, slice_index, ◌==◌, nat_lt, if◌then◌else◌, Bool, true, false, ◌&&◌, ◌||◌, not, Option, Some, None, replicate}
 use Rattle.sm_words.specs.Status.{interrupted_sr, is_cpu_off, is_gie}
 use Rattle.sm_words.specs.Words.{reg, put, sub16, word_at, cleared}
 use Rattle.sm_words.specs.declared.registers.TheConstants.{PC, SP, SR}
@@ -69,6 +69,11 @@ stopped rule addr id s =
 abbrev pub denied : Denied → State → Step
 denied d s = stopped d.rule d.addr d.module s
 
+-- a refusal stops the machine, and nothing is done; where there is none, it goes on
+abbrev pub unless : Option Denied → State → Step → Step
+unless (Some d) s next = denied d s
+unless None s next = next
+
 -- ---- the devices
 
 -- the devices move: the schedule's entries of this cycle, then the timer
@@ -135,18 +140,13 @@ settle s = settle_in s.phase s
 
 -- ---- arrivals
 
--- the vector that may arrive now
-abbrev pub vector_if : Bool → Option ℕ → Option ℕ
-vector_if true v = v
-vector_if false v = None
-
 -- whether there is room for a frame
 abbrev pub has_room : State → Bool
 has_room s = nat_lt (length s.frames) MOST_FRAMES
 
 -- the vector that arrives where the phase lets it: the raised one, where GIE is set and there is room for its frame
 unfoldable pub due : State → Option ℕ
-due s = vector_if (is_gie s.core && has_room s) (line_of s.devices)
+due s = if is_gie s.core && has_room s then line_of s.devices else None
 
 -- the byte at an address
 abbrev pub byte_of : State → ℕ → ℕ
@@ -155,10 +155,6 @@ byte_of s a = slice_index s.memory a
 -- the word of a vector, which is the address to go on at
 abbrev pub vector_in : List ℕ → ℕ → ℕ
 vector_in mem v = word_at (λ a. slice_index mem a) (FIRST_VECTOR + 2 * v)
-
--- a vector's word as memory stands
-abbrev pub vector_word : State → ℕ → ℕ
-vector_word s v = vector_in s.memory v
 
 -- the cycles that the instruction still needs
 abbrev pub rest_of : Phase → ℕ
@@ -169,7 +165,7 @@ rest_of (Pad left) = 0
 unfoldable pub arrive_inside : ℕ → ℕ → State → Step
 arrive_inside v id s =
     let b = saved id s.caller s.core (rest_of s.phase) s.after in
-    let core = put (put (replicate 16 0) PC (vector_word s v)) SP s.handler_sp in
+    let core = put (put (replicate 16 0) PC (vector_in s.memory v)) SP s.handler_sp in
     record {
       state = record s { core = core; active = None; frames = Held b ∷ s.frames; phase = Pad PADDING; after = Next; devices = accepted s.devices v };
       events = Hid id v ∷ [];
@@ -188,9 +184,8 @@ plain_if [] = []
 plain_if (f ∷ fs) = Plain ∷ f ∷ fs
 
 -- both are pushed, then the vector's word is read, then the devices are told
-abbrev pub push_both : Option Denied → ℕ → State → Step
-push_both (Some d) v s = denied d s
-push_both None v s =
+abbrev pub push_both : ℕ → State → Step
+push_both v s =
     let p = put_writes (record { devices = s.devices; memory = s.memory }) (pushes s) (reg s.core PC ∷ reg s.core SR ∷ []) in
     let core = put (put (put s.core SP (sub16 (reg s.core SP) 4)) SR (interrupted_sr (reg s.core SR))) PC (vector_in p.memory v) in
     record {
@@ -200,7 +195,7 @@ push_both None v s =
 
 -- the outside is interrupted, where both pushes are allowed
 unfoldable pub arrive_outside : ℕ → State → Step
-arrive_outside v s = push_both (first_denied s.table None (held_ids s.frames) (pushes s)) v s
+arrive_outside v s = unless (first_denied s.table None (held_ids s.frames) (pushes s)) s (push_both v s)
 
 -- ---- an instruction begins
 
@@ -247,24 +242,14 @@ perform insn s =
     let g = take_reads (port_of s) (reads_of (asks (who_of s) insn s.core)) in
     done_by s insn g (effect (who_of s) insn s.core g.values)
 
--- a refused access stops the machine, and nothing is done
-abbrev pub perform_unless : Option Denied → Insn → State → Step
-perform_unless (Some d) insn s = denied d s
-perform_unless None insn s = perform insn s
-
 -- an instruction whose accesses are checked in their order before any is done
 unfoldable pub attempt : Insn → State → Step
-attempt insn s = perform_unless (first_denied s.table s.active (held_ids s.frames) (asks (who_of s) insn s.core)) insn s
-
--- the frames but the newest
-abbrev pub without_newest : List Frame → List Frame
-without_newest [] = []
-without_newest (f ∷ fs) = fs
+attempt insn s = unless (first_denied s.table s.active (held_ids s.frames) (asks (who_of s) insn s.core)) s (perform insn s)
 
 -- the newest frame, a Plain one, goes, unless the machine stopped
 abbrev pub returned_by : Option Stop → Step → Step
 returned_by (Some stop) t = t
-returned_by None t = record { state = record t.state { frames = without_newest t.state.frames }; events = Returned ∷ t.events }
+returned_by None t = record { state = record t.state { frames = drop 1 t.state.frames }; events = Returned ∷ t.events }
 
 -- RETI with a module in the newest frame pops nothing, takes 5 cycles and is settled by Resume
 abbrev pub reti_by : List Frame → State → Step
@@ -313,14 +298,10 @@ enter left s = enter_at (place_of s.table (pc_of s)) s.active left s
 abbrev pub fetch : State → Access
 fetch s = record { kind = Fetch; addr = pc_of s; width = Word }
 
--- a refused fetch stops the machine; else a module may be entered, and the instruction is done
-abbrev pub begin_unless : Option Denied → ℕ → State → Step
-begin_unless (Some d) left s = denied d s
-begin_unless None left s = let e = enter left s in told e.events (act e.state)
-
--- an instruction begins
+-- an instruction begins: its fetch is checked, then a module may be entered, and the instruction is done
 unfoldable pub begin : ℕ → State → Step
-begin left s = begin_unless (right s.table s.active (held_ids s.frames) (fetch s)) left s
+begin left s =
+    unless (right s.table s.active (held_ids s.frames) (fetch s)) s (let e = enter left s in told e.events (act e.state))
 
 -- ---- what a cycle ends in
 

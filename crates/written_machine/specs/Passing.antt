@@ -1,5 +1,5 @@
 -- Cycles that only pass: of padding, of the rest of an instruction, and of sleep.
-use Rattle.std.specs.Prelude.{◌≡◌, ℕ, ◌+◌, ◌-◌, ◌≤◌, ◌<◌, [], true, ◌&&◌, Option, None}
+use Rattle.std.specs.Prelude.{◌≡◌, ℕ, ◌+◌, ◌-◌, ◌≤◌, ◌<◌, [], true, ◌&&◌, if◌then◌else◌, Option, None}
 use Rattle.sm_words.specs.Status.{is_gie}
 use Rattle.devices.specs.Devices.{line_of}
 use Rattle.devices.specs.Time.{ticked_by}
@@ -8,12 +8,12 @@ use Rattle.reg_backup.specs.declared.backup.After.{After}
 use Rattle.reg_backup.specs.declared.backup.After.TheVariants.{Next}
 use Rattle.reg_backup.specs.declared.backup.Phase.{Phase}
 use Rattle.reg_backup.specs.declared.backup.Phase.TheVariants.{Run, Pad}
-use Rattle.written_machine.specs.Cycle.{asleep, cycle, after_cycles, has_room, vector_if}
+use Rattle.written_machine.specs.Cycle.{asleep, cycle, after_cycles, has_room}
 use Rattle.written_machine.specs.State.{State}
 
 -- the vector that is due once the devices have moved n times
 abbrev pub due_after : ℕ → State → Option ℕ
-due_after n s = vector_if (is_gie s.core && has_room s) (line_of (ticked_by n s.cycle s.devices))
+due_after n s = if is_gie s.core && has_room s then line_of (ticked_by n s.cycle s.devices) else None
 
 -- in none of the next n cycles a vector is due
 abbrev pub Calm : ℕ → State → Type 0

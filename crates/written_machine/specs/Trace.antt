@@ -1,5 +1,5 @@
 -- The outside trace.
-use Rattle.std.specs.Prelude.{ℕ, zero, suc, List, [], ◌∷◌, ◌++◌, Option, Some, None}
+use Rattle.std.specs.Prelude.{ℕ, zero, suc, List, [], ◌++◌, Option, Some, None, flat_map}
 use Rattle.schedule_file.specs.declared.Entry.{Entry}
 use Rattle.pc_access.specs.declared.Stop.{Stop}
 use Rattle.image_text.specs.Image.{Image}
@@ -13,18 +13,13 @@ use Rattle.written_machine.specs.View.{boot, at}
 
 -- the lines of a cycle's events, in their order
 abbrev pub lines_of : ℕ → List Event → List ℕ
-lines_of c [] = []
-lines_of c (e ∷ es) = event_line c e ++ lines_of c es
+lines_of c events = flat_map (event_line c) events
 
--- how a state stands at the end of a run: stopped, inside a module, or outside
-abbrev pub standing : Option ℕ → List ℕ → EndState
-standing (Some id) core = Inside id
-standing None core = Outside core
-
--- by the stop, if there is one
+-- by the stop, if there is one, and by the active module, if there is one
 abbrev pub end_by : Option Stop → Option ℕ → List ℕ → EndState
 end_by (Some stop) active core = EndsStopped
-end_by None active core = standing active core
+end_by None (Some id) core = Inside id
+end_by None None core = Outside core
 
 -- how a state stands at the end
 abbrev pub end_of : State → EndState

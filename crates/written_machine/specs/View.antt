@@ -31,15 +31,10 @@ pub data Seen : Type 0 where
   SeenHidden : (id : ℕ) → Seen
   SeenWhole : (backup : Backup) → Seen
 
--- of a hidden module its id alone
-abbrev pub seen_if : Bool → Backup → Seen
-seen_if true b = SeenHidden b.module
-seen_if false b = SeenWhole b
-
--- one frame
+-- one frame: of a hidden module its id alone
 abbrev pub seen_frame : Hidden → Frame → Seen
 seen_frame h Plain = SeenPlain
-seen_frame h (Held b) = seen_if (is_hidden h b.module) b
+seen_frame h (Held b) = if is_hidden h b.module then SeenHidden b.module else SeenWhole b
 
 -- a byte, unless it is in the data of a hidden module
 abbrev pub seen_byte : Hidden → Place → ℕ → Option ℕ

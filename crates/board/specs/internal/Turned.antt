@@ -1,17 +1,17 @@
 -- What a cycle ends in, by its kind and the machine's parts.
-use Rattle.std.specs.Prelude.{ℕ, suc, ◌-◌, Option, unwrap_or}
+use Rattle.std.specs.Prelude.{ℕ, suc, ◌-◌, if◌then◌else◌, Option, None, unwrap_or}
 use Rattle.sm_words.specs.Status.{is_gie}
 use Rattle.devices.specs.Devices.{line_of}
 use Rattle.irq_padding.specs.declared.turn.Turn.{Turn}
 use Rattle.irq_padding.specs.declared.turn.Turn.TheVariants.{Pad as PadTurn, Inside, Outside, Wait, Sleep, Begin}
 use Rattle.reg_backup.specs.declared.backup.Phase.{Phase}
 use Rattle.reg_backup.specs.declared.backup.Phase.TheVariants.{Run, Pad}
-use Rattle.written_machine.specs.Cycle.{Step, quiet, vector_if, arrive_inside, arrive_outside, begin, padded}
+use Rattle.written_machine.specs.Cycle.{Step, quiet, arrive_inside, arrive_outside, begin, padded}
 use Rattle.written_machine.specs.State.{State}
 
 -- the raised vector, where GIE is set
 unfoldable pub raised : State → Option ℕ
-raised s = vector_if (is_gie s.core) (line_of s.devices)
+raised s = if is_gie s.core then line_of s.devices else None
 
 -- the cycles of padding that are left
 abbrev pub padding_left : Phase → ℕ

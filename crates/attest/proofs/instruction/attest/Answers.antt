@@ -1,9 +1,10 @@
 use Rattle.std.proofs.Common.{◌≡◌, ◌∙◌, ◌+◌, ◌*◌, Bool, true, false, Some, None, ap, sym, refl, if◌then◌else◌, ℕ, slice_range}
+use Rattle.std.specs.Prelude.{bytes_eq}
 use Rattle.sm_words.specs.Words.{reg}
 use Rattle.mod_layout.specs.Table.{place_of, size_of}
 use Rattle.pc_access.specs.Rights.{first_denied}
 use Rattle.pc_access.specs.declared.Kind.TheVariants.{Read}
-use Rattle.attest.specs.Units.{answer, attested, blocks, each_byte, in_range, same_bytes, text_at}
+use Rattle.attest.specs.Units.{answer, attested, blocks, each_byte, in_range, text_at}
 use Rattle.attest.specs.Done.{doer}
 use Rattle.attest.specs.internal.Accesses.{text_in}
 use Rattle.mod_keys.specs.Keys.{identity, tag_of}
@@ -82,11 +83,11 @@ returns c =
     let mem = c.args.memory.now.bytes in
     let at = reg core 13 in
     let fits = (range_of at (at + 16) range).high in
-    let id_is : c.id_if-id.result ≡ (if same_bytes (slice_range mem at (at + 16)) (tag_of who.key own (text_in mem own) (identity other (text_in mem other))) then other.id else 0) =
+    let id_is : c.id_if-id.result ≡ (if bytes_eq (slice_range mem at (at + 16)) (tag_of who.key own (text_in mem own) (identity other (text_in mem other))) then other.id else 0) =
     c.id_if-id.ensures ∙ ap (λ (b : Bool). if b then other.id else 0)
     (c.stands_at.ensures.same
-    ∙ ap (λ a. same_bytes (slice_range mem a (a + 16)) c.identity_tag-tag.result) c.get-expected.ensures.word
-    ∙ ap (same_bytes (slice_range mem at (at + 16))) c.identity_tag-tag.ensures) in
+    ∙ ap (λ a. bytes_eq (slice_range mem a (a + 16)) c.identity_tag-tag.result) c.get-expected.ensures.word
+    ∙ ap (bytes_eq (slice_range mem at (at + 16))) c.identity_tag-tag.ensures) in
     let cycles : 6 + 64 * c.hmac_blocks.result ≡ 6 + 64 * blocks (size_of other.text + 8) =
     ap (λ n. 6 + 64 * n) (c.hmac_blocks.ensures ∙ ap (λ n. blocks (n + 8)) (c.from-length.ensures ∙ c.len.ensures.size)) in
     record {

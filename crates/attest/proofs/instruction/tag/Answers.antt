@@ -1,8 +1,9 @@
 use Rattle.std.proofs.Common.{◌≡◌, ◌∙◌, ◌+◌, ◌-◌, ◌*◌, ◌&&◌, Bool, true, false, Option, Some, None, List, ap, sym, refl, ℕ, slice_range, slice_index, subst, ◌<◌}
+use Rattle.std.specs.Option.{option_or}
 use Rattle.sm_words.specs.Words.{reg}
 use Rattle.mod_layout.specs.Table.{Table}
 use Rattle.mod_keys.specs.Keys.{tag_of}
-use Rattle.pc_access.specs.Rights.{first_denied, or_else}
+use Rattle.pc_access.specs.Rights.{first_denied}
 use Rattle.pc_access.specs.declared.Denied.{Denied}
 use Rattle.pc_access.specs.declared.Kind.TheVariants.{Read, Write}
 use Rattle.attest.specs.declared.UnitDone.{UnitDone}
@@ -64,7 +65,7 @@ returns-in-Err-clause-denied c = λ held.
     let ranges = ranges_are _ _ _ _ _ _ _ _ c.has_ranges.ensures c.get-start.ensures.word c.get-end.ensures.word c.get-output.ensures.word c.if-not-has_ranges.false in
     let bytes = message_read t c.args.who.active held (reg core 12) (reg core 13) _ _ _ c.get-start.ensures.word c.get-end.ensures.word (c.in-Err.ensures.denied held) in
     denied_by who core c.in-Some.own own_is c.args.who.active held c.in-Some.ensures.table own_is ranges
-    ∙ ap (λ d. or_else d (first_denied t c.args.who.active held (each_byte Write (reg core 14) 16))) bytes
+    ∙ ap (λ d. option_or d (first_denied t c.args.who.active held (each_byte Write (reg core 14) 16))) bytes
 
 pub returns-in-Err-check-clause-denied : goal.returns-in-Err-check-clause-denied
 returns-in-Err-check-clause-denied c = λ held.
@@ -77,7 +78,7 @@ returns-in-Err-check-clause-denied c = λ held.
     let output : first_denied t c.args.who.active held (each_byte Write (reg core 14) 16) ≡ Some c.in-Err-check.denied =
     ap (λ a. first_denied t c.args.who.active held (each_byte Write a 16)) (sym c.get-output.ensures.word) ∙ c.in-Err-check.ensures.denied held in
     denied_by who core c.in-Some.own own_is c.args.who.active held c.in-Some.ensures.table own_is ranges
-    ∙ ap (λ d. or_else d (first_denied t c.args.who.active held (each_byte Write (reg core 14) 16))) bytes ∙ output
+    ∙ ap (λ d. option_or d (first_denied t c.args.who.active held (each_byte Write (reg core 14) 16))) bytes ∙ output
 
 pub returns-clause-allowed : goal.returns-clause-allowed
 returns-clause-allowed c = λ held.
@@ -90,7 +91,7 @@ returns-clause-allowed c = λ held.
     let output : first_denied t c.args.who.active held (each_byte Write (reg core 14) 16) ≡ None =
     ap (λ a. first_denied t c.args.who.active held (each_byte Write a 16)) (sym c.get-output.ensures.word) ∙ c.in_default-check-2.ensures.allowed held in
     denied_by who core c.in-Some.own own_is c.args.who.active held c.in-Some.ensures.table own_is ranges
-    ∙ ap (λ d. or_else d (first_denied t c.args.who.active held (each_byte Write (reg core 14) 16))) bytes ∙ output
+    ∙ ap (λ d. option_or d (first_denied t c.args.who.active held (each_byte Write (reg core 14) 16))) bytes ∙ output
 
 pub returns-clause-done : goal.returns-clause-done
 returns-clause-done c =
