@@ -1,6 +1,7 @@
 #!/usr/bin/env python3
-"""Random texts that `sancus check` accepts: by `sancus lone` two data give the same registers in the same cycles, and by `sancus image` two
-images that differ in the module's data alone give the same trace on a random schedule.
+"""Random texts that `sancus check` accepts, or `sancus balance` with certificates of their branches on secrets: by `sancus lone` two data
+give the same registers in the same cycles, and by `sancus image` two images that differ in the module's data alone give the same trace on a
+random schedule.
 
     python3 validate/flow.py PROGRAM [TEXTS] [SEED]
 
@@ -14,6 +15,7 @@ import machine
 
 TEXT, DATA, DATA_END, OUTSIDE, HANDLER, STACK = 0x0300, 0x0400, 0x0420, 0x0214, 0x0500, 0x0600
 VECTOR_OF_LINE_0 = 0xFFE2
+NOP, JMP = 0x4303, 0x3C00
 LIMIT, CYCLES = 2000, 600
 
 # SP, line 0's interrupt, GIE, a jump to the module; where the module goes back, a jump to that jump; a handler that returns.
@@ -59,14 +61,31 @@ def instruction(rng):
     return [0x2000 | rng.randrange(8) << 10 | (rng.choice([0, 1, 2, 3, 1, 2, -2, -4]) & 0x3FF)]
 
 
+def branch(rng, start):
+    """A jump on a data word whose arms take equal cycles, and its certificate; now and then both are a cycle longer than it says."""
+    arms = [[two(rng.randrange(4, 16), register(rng), rng.randrange(2), 0, register(rng)) for _ in range(rng.randrange(5))] for _ in range(2)]
+    cycles = max(map(len, arms))
+    one, other = (arm + [NOP] * (cycles - len(arm)) for arm in arms)
+    words = [two(9, 2, 0, 1, register(rng)), data_word(rng)]
+    at = start + 2 * len(words)
+    words += [0x2000 | rng.randrange(7) << 10 | len(one) + 1, *one, JMP | len(other) + 1, *other, JMP]
+    return words, f"{at:04x} {start + 2 * len(words):04x} {cycles + (2 if rng.randrange(20) else 1)}\n"
+
+
 def text_of(rng):
-    """Some instructions, a few registers and perhaps the flags made known again, and a jump back."""
-    words = [word for _ in range(rng.randint(1, 16)) for word in instruction(rng)]
+    """Some instructions and branches, a few registers and perhaps the flags made known again, and a jump back; and the certificates."""
+    words, arms = [], ""
+    for _ in range(rng.randint(1, 16)):
+        if rng.randrange(8):
+            words += instruction(rng)
+        else:
+            more, certificate = branch(rng, TEXT + 2 * len(words))
+            words, arms = words + more, arms + certificate
     for number in rng.sample(range(4, 16), rng.choice([0, 4, 8, 12, 12])):
         words += [two(4, 0, 0, 3, number), rng.randrange(65536)]
     if rng.randrange(4):
         words += [0xC032, 0x0107]
-    return words + [0x4030, OUTSIDE]
+    return words + [0x4030, OUTSIDE], arms
 
 
 def image_of(words, data):
@@ -105,21 +124,26 @@ def main():
     program = sys.argv[1] if len(sys.argv) > 1 else machine.BUILT
     wanted = int(sys.argv[2]) if len(sys.argv) > 2 else 1000
     rng = random.Random(int(sys.argv[3]) if len(sys.argv) > 3 else 1)
-    tried, accepted, wrong, ended = 0, 0, [], {}
+    tried, accepted, certified, wrong, ended = 0, 0, 0, [], {}
     with tempfile.TemporaryDirectory() as folder:
         while accepted < wanted:
-            words = text_of(rng)
+            words, arms = text_of(rng)
             tried += 1
-            out, status, _ = machine.sancus(program, folder, image_of(words, bytes(DATA_END - DATA)), "check", "IMAGE", "1")
+            asked = ["check", "IMAGE", "1"]
+            if arms:
+                asked = ["balance", "IMAGE", "1", folder + "/arms.txt"]
+                with open(asked[3], "w", encoding="ascii") as it:
+                    it.write(arms)
+            out, status, _ = machine.sancus(program, folder, image_of(words, bytes(DATA_END - DATA)), *asked)
             if (out, status) != ("yes\n", 0):
                 continue
-            accepted += 1
+            accepted, certified = accepted + 1, certified + bool(arms)
             differ, end = runs_differ(program, folder, rng, words)
             ended[end] = ended.get(end, 0) + 1
             wrong += [([f"{word:04x}" for word in words], told) for told in differ]
     for words, told in wrong[:10]:
         print(" ".join(words), told)
-    print(f"{tried} texts were drawn; calls of those accepted end: {ended}")
+    print(f"{tried} texts were drawn, {accepted} accepted, {certified} of them by certificates; their calls end: {ended}")
     print(f"{2 * accepted} cases, {len(wrong)} differences{', each explained' if not wrong else ''}")
     return 1 if wrong else 0
 

@@ -1,14 +1,16 @@
--- Pairs with their states, as lists beside each other.
-use Rattle.std.proofs.Common.{◌⊎◌, inl, inr, ◌≡◌, ℕ, zero, suc, ◌<◌, ◌≤◌, List, [], ◌∷◌, ◌++◌, length, set, refl, sym, ap, ◌∙◌, subst, arith, Bool, true, false, cond, ◌==◌, ◌&&◌, Option, Some, None}
+-- Joining a point to distinct ones: its own state rises, or it comes last.
+use Rattle.std.proofs.Common.{◌≡◌, ℕ, zero, suc, ◌<◌, List, [], ◌∷◌, ◌++◌, length, All, set, refl, sym, ap, ◌∙◌, subst, arith, Bool, true, false, cond, ◌==◌, Option, Some}
 use Rattle.std.specs.List.{slice_get}
-use Rattle.std.proofs.lemmas.Bool.Decides.{nat_tests}
-use Rattle.std.proofs.lemmas.Bool.{cases_lt, and_parts, eqb-true, both_ways}
+use Rattle.std.proofs.lemmas.Bool.{and_parts, eqb-true, both_ways}
+use Rattle.std.proofs.lemmas.List.Elements.{All-nil, All-cons}
+use Rattle.std.proofs.lemmas.List.Kept.{AllPairs-cons}
 use Rattle.std.proofs.lemmas.Option.{same_Some}
-use Rattle.flow_rule.specs.declared.Label.{Label}
-use Rattle.flow_rule.specs.Rounds.{Pair, Point, same_list, same_pair, join_label, join_in}
+use Rattle.flow_rule.specs.Rounds.{Pair, Point, same_list, same_pair, join_in}
 use Rattle.flow_check.specs.declared.point.Point.{Point as CodePoint}
+use Rattle.flow_check.specs.declared.labelling.Node.{Node}
 use Rattle.flow_check.proofs.Iterating.{pair_self}
-use Rattle.flow_check.specs.internal.Points.{pair_of, point_at, points_of, risen, same_at, NotAmong, Distinct}
+use Rattle.flow_check.specs.internal.Points.{pair_of, point_at, points_of}
+use Rattle.flow_check.specs.internal.Labellings.{same_found, same_at, Other, Distinct, joined}
 
 list_is : (xs ys : List ℕ) → same_list xs ys ≡ true → xs ≡ ys
 list_is [] [] e = refl
@@ -28,79 +30,87 @@ other_way p q e = by (same_pair q p) refl
     by false f = f
     by true f = absurd (both_ways (same_pair p q) e (subst (λ z. same_pair z q ≡ true) (pair_is q p f) (pair_self q)))
 
-pub at_less : (p : Pair) (qs : List CodePoint) (n : ℕ) → same_at p qs n ≡ true → n < length qs
-at_less p [] n e = absurd cc
-at_less p (q ∷ qs) zero e = omega arith
-at_less p (q ∷ qs) (suc n) e = let h = at_less p qs n e in omega arith
+pub at_less : (p : Pair) (ns : List Node) (i : ℕ) → same_at p ns i ≡ true → i < length ns
+at_less p [] i e = absurd cc
+at_less p (n ∷ ns) zero e = omega arith
+at_less p (n ∷ ns) (suc i) e = let h = at_less p ns i e in omega arith
 
-not_past : (p : Pair) (qs : List CodePoint) (n : ℕ) → length qs ≤ n → same_at p qs n ≡ false
-not_past p [] n h = refl
-not_past p (q ∷ qs) zero h = absurd (omega (arith, h))
-not_past p (q ∷ qs) (suc n) h = not_past p qs n (omega (arith, h))
+-- ---- distinct program points
+first : (x : Point) (xs : List Point) → Distinct (x ∷ xs) → All (Other x.pair) xs
+first x xs h k d lt = h 0 (suc k) d (omega arith) (omega (arith, lt))
 
-pub not_among : (p : Pair) (qs : List CodePoint) → ((n : ℕ) → n < length qs → same_at p qs n ≡ false) → NotAmong p qs
-not_among p qs h = λ n. by n (cases_lt n (length qs))
+others : (x : Point) (xs : List Point) → Distinct (x ∷ xs) → Distinct xs
+others x xs h i j d lt le = h (suc i) (suc j) d (omega (arith, lt)) (omega (arith, le))
+
+more_others : (p : Pair) (x : Point) (ys : List Point) → Other p x → All (Other p) ys → All (Other p) (join_in x ys)
+more_others p x [] e h = All-cons (Other p) x [] e (All-nil (Other p))
+more_others p x (y ∷ ys) e h = by (same_pair y.pair x.pair) (more_others p x ys e)
   where
-    by : (n : ℕ) → (n < length qs) ⊎ (length qs ≤ n) → same_at p qs n ≡ false
-    by n (inl lt) = h n lt
-    by n (inr ge) = not_past p qs n ge
+    head : Other p y
+    head = h 0 y (omega arith)
 
-abbrev point : Pair → Label → Point
-point p l = record { pair = p; label = l }
+    tail : All (Other p) ys
+    tail k d lt = h (suc k) d (omega (arith, lt))
 
-joins_found : (ps : List CodePoint) (p : Pair) (l : Label) (y : CodePoint) (i : ℕ) → Distinct ps → slice_get ps i ≡ Some y → same_at p ps i ≡ true →
-    points_of (set ps i (risen y l)) ≡ join_in (point p l) (points_of ps)
-joins_found (q ∷ qs) p l y zero h e s = by (same_pair (pair_of q) p) s
+    by : (b : Bool) → (All (Other p) ys → All (Other p) (join_in x ys)) → All (Other p) (cond b (joined y x.label ∷ ys) (y ∷ join_in x ys))
+    by true go = All-cons (Other p) (joined y x.label) ys head tail
+    by false go = All-cons (Other p) y (join_in x ys) head (go tail)
+
+distinct_in : (x : Point) (ys : List Point) → Distinct ys → Distinct (join_in x ys)
+distinct_in x [] h = AllPairs-cons (λ (x y : Point). Other x.pair y) x [] (All-nil (Other x.pair)) h
+distinct_in x (y ∷ ys) h = by (same_pair y.pair x.pair) refl (distinct_in x ys (others y ys h))
   where
-    by : (b : Bool) → b ≡ true → point_at (risen y l) ∷ points_of qs ≡ cond b (point (pair_of q) (join_label q.state l) ∷ points_of qs) (point_at q ∷ join_in (point p l) (points_of qs))
-    by true f = ap (λ x. point_at (risen x l) ∷ points_of qs) (sym (same_Some q y e))
+    by : (b : Bool) → same_pair y.pair x.pair ≡ b → Distinct (join_in x ys) → Distinct (cond b (joined y x.label ∷ ys) (y ∷ join_in x ys))
+    by true e go = AllPairs-cons (λ (x y : Point). Other x.pair y) (joined y x.label) ys (first y ys h) (others y ys h)
+    by false e go = AllPairs-cons (λ (x y : Point). Other x.pair y) y (join_in x ys) (more_others y.pair x ys (other_way y.pair x.pair e) (first y ys h)) go
+
+-- ---- a point that is there
+got : (P : Point → Type 0) (ns : List Node) (i : ℕ) (n : Node) → All P (points_of ns) → slice_get ns i ≡ Some n → P (point_at n.point)
+got P [] i n h e = absurd cc
+got P (m ∷ ns) zero n h e = subst (λ z. P (point_at z.point)) (same_Some m n e) (h 0 (point_at m.point) (omega arith))
+got P (m ∷ ns) (suc i) n h e = got P ns i n (λ k d lt. h (suc k) d (omega (arith, lt))) e
+
+joins_found : (x : Point) (ns : List Node) (i : ℕ) (n : Node) → Distinct (points_of ns) → slice_get ns i ≡ Some n → same_pair (pair_of n.point) x.pair ≡ true →
+    set (points_of ns) i (joined (point_at n.point) x.label) ≡ join_in x (points_of ns)
+joins_found x [] i n h e s = absurd cc
+joins_found x (m ∷ ns) zero n h e s = by (same_pair (pair_of m.point) x.pair) (subst (λ z. same_pair (pair_of z.point) x.pair ≡ true) (sym (same_Some m n e)) s)
+  where
+    by : (b : Bool) → b ≡ true → joined (point_at n.point) x.label ∷ points_of ns ≡ cond b (joined (point_at m.point) x.label ∷ points_of ns) (point_at m.point ∷ join_in x (points_of ns))
+    by true f = ap (λ z. joined (point_at z.point) x.label ∷ points_of ns) (sym (same_Some m n e))
     by false f = absurd cc
-joins_found (q ∷ qs) p l y (suc i) h e s = by (same_pair (pair_of q) p) refl (joins_found qs p l y i h.1 e s)
+joins_found x (m ∷ ns) (suc i) n h e s = by (same_pair (pair_of m.point) x.pair) refl (joins_found x ns i n (others (point_at m.point) (points_of ns) h) e s)
   where
-    by : (b : Bool) → same_pair (pair_of q) p ≡ b → points_of (set qs i (risen y l)) ≡ join_in (point p l) (points_of qs) →
-        point_at q ∷ points_of (set qs i (risen y l)) ≡ cond b (point (pair_of q) (join_label q.state l) ∷ points_of qs) (point_at q ∷ join_in (point p l) (points_of qs))
-    by false f go = ap (λ x. point_at q ∷ x) go
-    by true f go = absurd (both_ways (same_at p qs i) (subst (λ z. same_at z qs i ≡ false) (pair_is (pair_of q) p f) (h.0 i)) s)
-joins_found [] p l y i h e s = absurd cc
+    by : (b : Bool) → same_pair (pair_of m.point) x.pair ≡ b → set (points_of ns) i (joined (point_at n.point) x.label) ≡ join_in x (points_of ns) →
+        point_at m.point ∷ set (points_of ns) i (joined (point_at n.point) x.label) ≡ cond b (joined (point_at m.point) x.label ∷ points_of ns) (point_at m.point ∷ join_in x (points_of ns))
+    by false f go = ap (λ xs. point_at m.point ∷ xs) go
+    by true f go =
+        let other : same_pair (pair_of n.point) (pair_of m.point) ≡ false = got (Other (pair_of m.point)) ns i n (first (point_at m.point) (points_of ns) h) e in
+        absurd (both_ways (same_pair (pair_of n.point) x.pair) (subst (λ p. same_pair (pair_of n.point) p ≡ false) (pair_is (pair_of m.point) x.pair f) other) s)
 
-pub get_some : (ps : List CodePoint) (i : ℕ) → i < length ps → (y : CodePoint) × (slice_get ps i ≡ Some y)
-get_some [] i h = absurd (omega (arith, h))
-get_some (y ∷ ys) zero h = (y, refl)
-get_some (y ∷ ys) (suc i) h = get_some ys i (omega (arith, h))
-
-pub joins_rise : (ps after : List CodePoint) (p : Pair) (l : Label) (i : ℕ) → Distinct ps → i < length ps → same_at p ps i ≡ true →
-    ((y : CodePoint) → slice_get ps i ≡ Some y → after ≡ set ps i (risen y l)) → points_of after ≡ join_in (point p l) (points_of ps)
-joins_rise ps after p l i h lt s k = let g = get_some ps i lt in ap points_of (k g.0 g.1) ∙ joins_found ps p l g.0 i h g.1 s
-
-pub joins_new : (ps : List CodePoint) (n : CodePoint) → NotAmong (pair_of n) ps → points_of (ps ++ n ∷ []) ≡ join_in (point_at n) (points_of ps)
-joins_new [] n h = refl
-joins_new (q ∷ qs) n h = by (same_pair (pair_of q) (pair_of n)) (h zero) (joins_new qs n (λ k. h (suc k)))
+module _ (p : CodePoint) (ns : List Node) (i : ℕ) (h : Distinct (points_of ns)) (s : same_at (pair_of p) ns i ≡ true) (after : List Point)
+    (e : (n : Node) → slice_get ns i ≡ Some n → after ≡ set (points_of ns) i (joined (point_at n.point) p.state))
   where
-    by : (b : Bool) → b ≡ false → points_of (qs ++ n ∷ []) ≡ join_in (point_at n) (points_of qs) →
-        point_at q ∷ points_of (qs ++ n ∷ []) ≡ cond b (point (pair_of q) (join_label q.state n.state) ∷ points_of qs) (point_at q ∷ join_in (point_at n) (points_of qs))
-    by false f go = ap (λ x. point_at q ∷ x) go
-    by true f go = absurd cc
+    pub joins_rise : after ≡ join_in (point_at p) (points_of ns)
+    joins_rise = by (slice_get ns i) refl s
+      where
+        by : (o : Option Node) → slice_get ns i ≡ o → same_found (pair_of p) o ≡ true → after ≡ join_in (point_at p) (points_of ns)
+        by (Some n) f s = e n f ∙ joins_found (point_at p) ns i n h f s
+        by _ f s = absurd cc
 
--- a state that rises changes no program point
-same_risen : (p : Pair) (ps : List CodePoint) (y : CodePoint) (l : Label) (i k : ℕ) → slice_get ps i ≡ Some y → same_at p (set ps i (risen y l)) k ≡ same_at p ps k
-same_risen p (q ∷ qs) y l zero zero e = ap (λ x. same_pair (pair_of x) p) (sym (same_Some q y e))
-same_risen p (q ∷ qs) y l (suc i) (suc k) e = same_risen p qs y l i k e
-same_risen p _ y l _ _ e = refl
+    pub distinct_rise : Distinct after
+    distinct_rise = subst Distinct (sym joins_rise) (distinct_in (point_at p) (points_of ns) h)
 
-distinct_set : (ps : List CodePoint) (y : CodePoint) (l : Label) (i : ℕ) → Distinct ps → slice_get ps i ≡ Some y → Distinct (set ps i (risen y l))
-distinct_set [] y l i h e = tt
-distinct_set (q ∷ qs) y l zero h e = (subst (λ x. NotAmong (pair_of x) qs) (same_Some q y e) h.0, h.1)
-distinct_set (q ∷ qs) y l (suc i) h e = ((λ n. same_risen (pair_of q) qs y l i n e ∙ h.0 n), distinct_set qs y l i h.1 e)
+-- ---- one that is not
+pub joins_new : (ns : List Node) (p : CodePoint) → ((k : ℕ) → k < length ns → same_at (pair_of p) ns k ≡ false) →
+    points_of (ns ++ record { point = p; changed = true } ∷ []) ≡ join_in (point_at p) (points_of ns)
+joins_new [] p h = refl
+joins_new (n ∷ ns) p h = by (same_pair (pair_of n.point) (pair_of p)) (h 0 (omega arith)) (joins_new ns p (λ k lt. h (suc k) (omega (arith, lt))))
+  where
+    by : (b : Bool) → b ≡ false → points_of (ns ++ record { point = p; changed = true } ∷ []) ≡ join_in (point_at p) (points_of ns) →
+        point_at n.point ∷ points_of (ns ++ record { point = p; changed = true } ∷ []) ≡ cond b (joined (point_at n.point) p.state ∷ points_of ns) (point_at n.point ∷ join_in (point_at p) (points_of ns))
+    by false e go = ap (λ xs. point_at n.point ∷ xs) go
+    by true e go = absurd cc
 
-pub distinct_risen : (ps after : List CodePoint) (l : Label) (i : ℕ) → Distinct ps → i < length ps → ((y : CodePoint) → slice_get ps i ≡ Some y → after ≡ set ps i (risen y l)) → Distinct after
-distinct_risen ps after l i h lt k = let g = get_some ps i lt in subst Distinct (sym (k g.0 g.1)) (distinct_set ps g.0 l i h g.1)
-
-not_last : (p : Pair) (qs : List CodePoint) (n : CodePoint) → NotAmong p qs → same_pair (pair_of n) p ≡ false → (k : ℕ) → same_at p (qs ++ n ∷ []) k ≡ false
-not_last p [] n h e zero = e
-not_last p [] n h e (suc k) = refl
-not_last p (q ∷ qs) n h e zero = h zero
-not_last p (q ∷ qs) n h e (suc k) = not_last p qs n (λ j. h (suc j)) e k
-
-pub distinct_new : (ps : List CodePoint) (n : CodePoint) → Distinct ps → NotAmong (pair_of n) ps → Distinct (ps ++ n ∷ [])
-distinct_new [] n h e = ((λ k. refl), tt)
-distinct_new (q ∷ qs) n h e = (not_last (pair_of q) qs n h.0 (other_way (pair_of q) (pair_of n) (e zero)), distinct_new qs n h.1 (λ k. e (suc k)))
+pub distinct_new : (ns : List Node) (p : CodePoint) → ((k : ℕ) → k < length ns → same_at (pair_of p) ns k ≡ false) → Distinct (points_of ns) →
+    Distinct (points_of (ns ++ record { point = p; changed = true } ∷ []))
+distinct_new ns p h d = subst Distinct (sym (joins_new ns p h)) (distinct_in (point_at p) (points_of ns) d)

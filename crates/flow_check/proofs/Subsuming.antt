@@ -1,16 +1,14 @@
 -- What one walk along the arms of a branch says of other states.
-use Rattle.std.proofs.Common.{◌≡◌, ◌≢◌, ℕ, zero, suc, All, set, get_or, take, drop, ◌<◌, ◌≤◌, ◌%◌, List, [], ◌∷◌, ◌++◌, length, replicate, refl, sym, ap, ◌∙◌, subst, not, cond, true, false, is_some, ◌==◌, arith, Option, Some, None}
-use Rattle.std.proofs.lemmas.Bool.Decides.{nat_tests}
+use Rattle.std.proofs.Common.{◌≡◌, ◌≢◌, ℕ, zero, suc, All, set, get_or, take, drop, ◌<◌, ◌≤◌, ◌%◌, List, [], ◌∷◌, ◌++◌, length, replicate, refl, sym, ap, ◌∙◌, subst, not, false, is_some, ◌==◌, arith, Option, Some, None}
 use Rattle.std.specs.List.{slice_get}
 use Rattle.std.proofs.lemmas.Option.{get_or_from_slice_get, slice_get_within}
 use Rattle.std.proofs.lemmas.List.Elements.{All-push, All-set}
 use Rattle.mod_layout.specs.declared.Module.{Module}
 use Rattle.mod_layout.specs.Table.{holds}
 use Rattle.flow_rule.specs.declared.Val.{Val}
-use Rattle.flow_rule.specs.declared.Val.TheVariants.{Known, Public}
+use Rattle.flow_rule.specs.declared.Val.TheVariants.{Public}
 use Rattle.flow_rule.specs.declared.Label.{Label}
 use Rattle.flow_rule.specs.declared.Reason.TheVariants.{Arm as ArmInsn, ArmTime}
-use Rattle.flow_rule.specs.Values.{join, join_each}
 use Rattle.flow_rule.specs.Reasons.{because_if}
 use Rattle.flow_rule.specs.Rounds.{Found, Point, Step, given_by}
 use Rattle.flow_rule.specs.Verdict.{flow_step}
@@ -26,15 +24,7 @@ use Rattle.flow_check.specs.declared.call_string.CallString.{CallString}
 use Rattle.flow_check.specs.internal.Violations.{noted}
 use Rattle.flow_check.specs.internal.Points.{list_of, point_of, points_at, addrs_of}
 use Rattle.flow_check.proofs.Successors.{none_found}
-use Rattle.flow_check.proofs.Joins.{join_own}
 use Rattle.flow_check.proofs.Overlaying.{overlay_core, overlay_words}
-
-join_each_own : (vs : List Val) → join_each vs vs ≡ vs
-join_each_own [] = refl
-join_each_own (v ∷ vs) = ap (λ w. w ∷ join_each vs vs) (join_own v) ∙ ap (λ ws. v ∷ ws) (join_each_own vs)
-
-pub subsumes_own : (l : Label) → Absorbs l l
-subsumes_own l = record { core = join_each_own l.core; words = join_each_own l.words }
 
 -- the reasons of a branch, by what its arms tell
 reasons_by : Module → BranchSite → ℕ → Walk → Walk → List Found

@@ -1,26 +1,27 @@
 -- The least violation, and the verdict.
-use Rattle.std.proofs.Common.{◌≡◌, ◌⊎◌, inl, inr, ℕ, zero, suc, ◌+◌, ◌<◌, ◌≤◌, List, [], ◌∷◌, ◌++◌, length, drop, get_or, refl, sym, ap, ◌∙◌, subst, arith, Bool, true, false, nat_lt, ◌==◌, ◌&&◌, ◌||◌, Option, Some, None, append_assoc, append-nil}
+use Rattle.std.proofs.Common.{◌≡◌, ◌⊎◌, inl, inr, ℕ, zero, ◌+◌, ◌<◌, ◌≤◌, List, [], ◌∷◌, ◌++◌, length, drop, refl, sym, ap, ◌∙◌, subst, arith, Bool, true, false, nat_lt, ◌==◌, ◌&&◌, ◌||◌, Option, Some, None, append_assoc, append-nil}
 use Rattle.std.proofs.lemmas.Bool.Decides.{nat_tests}
-use Rattle.std.proofs.lemmas.Bool.{ltb-true, ltb-false, eqb-true}
+use Rattle.std.proofs.lemmas.Bool.{ltb-true, ltb-false, eqb-true, both_ways}
 use Rattle.std.proofs.Math.ListN.{drop_of_length-le}
 use Rattle.flow_rule.specs.declared.Reason.TheVariants.{TooMany}
 use Rattle.flow_rule.specs.declared.Label.{Label}
 use Rattle.flow_rule.specs.declared.Verdict.{Verdict}
 use Rattle.flow_rule.specs.declared.Verdict.TheVariants.{No}
-use Rattle.flow_rule.specs.Rounds.{Found, Point, Step, join_all, given, round, rounds, IsLabelling, all_reasons}
+use Rattle.flow_rule.specs.Rounds.{Found, Point, Step, join_all, given, IsLabelling, all_reasons}
 use Rattle.flow_rule.specs.Reasons.{number_of, NotAfter, BeforeAll, AmongThem}
 use Rattle.flow_rule.specs.Verdict.{Decided}
 use Rattle.flow_check.specs.declared.violation.Violation.{Violation}
 use Rattle.flow_check.specs.declared.point.Point.{Point as CodePoint}
+use Rattle.flow_check.specs.declared.labelling.Node.{Node}
 use Rattle.flow_check.specs.declared.labelling.Changed.{Changed}
 use Rattle.flow_check.specs.declared.call_string.CallString.{CallString}
 use Rattle.flow_check.specs.internal.Violations.{before, lesser, lesser_if, violation_of, noted}
 use Rattle.flow_check.specs.internal.Points.{point_at, points_of, fronts_of, list_of}
-use Rattle.flow_check.specs.internal.Marks.{flagged, Kept, Reached}
+use Rattle.flow_check.specs.internal.Labellings.{flagged, Reached}
 use Rattle.flow_check.specs.internal.Verdicts.{found, verdict_of}
 use Rattle.flow_check.proofs.Violations.{noted_append}
-use Rattle.flow_check.proofs.Iterating.{reached_more, reached_rests, reached_start, flagged_round}
-use Rattle.flow_check.proofs.Taking.{points_length}
+use Rattle.flow_check.proofs.Iterating.{reached_rests, reached_many}
+use Rattle.flow_check.proofs.Taking.{points_long}
 
 -- ---- the order
 abbrev Lex : ℕ → ℕ → ℕ → ℕ → Type 0
@@ -117,61 +118,44 @@ least_noted (r ∷ rs) o xs h =
     (least_noted rs (lesser o (violation_of r)) (xs ++ r ∷ []) (least_one o (violation_of r) xs h))
 
 -- ---- the code's loop
-points_drop : (i : ℕ) (ps : List CodePoint) (d : CodePoint) → i < length ps → points_of (drop i ps) ≡ point_at (get_or ps i d) ∷ points_of (drop (suc i) ps)
-points_drop i [] d h = absurd (omega (arith, h))
-points_drop zero (p ∷ ps) d h = refl
-points_drop (suc i) (p ∷ ps) d h = points_drop i ps d (omega (arith, h))
+pub least_more : (step : Point → Step) (i : ℕ) (ns : List Node) (p : CodePoint) (o r : Option Violation) → points_of (drop i ns) ≡ point_at p ∷ points_of (drop (i + 1) ns) → r ≡ noted (step (point_at p)).reasons o →
+    noted (all_reasons step (points_of (drop i ns))) o ≡ noted (all_reasons step (points_of (drop (i + 1) ns))) r
+least_more step i ns p o r here e =
+    ap (λ xs. noted (all_reasons step xs) o) here ∙ noted_append (step (point_at p)).reasons (all_reasons step (points_of (drop (i + 1) ns))) o
+    ∙ ap (noted (all_reasons step (points_of (drop (i + 1) ns)))) (sym e)
 
-pub least_more : (step : Point → Step) (i : ℕ) (ps : List CodePoint) (d : CodePoint) (o r : Option Violation) → i < length ps → r ≡ noted (step (point_at (get_or ps i d))).reasons o →
-    noted (all_reasons step (points_of (drop i ps))) o ≡ noted (all_reasons step (points_of (drop (i + 1) ps))) r
-least_more step i ps d o r lt e =
-    ap (λ xs. noted (all_reasons step xs) o) (points_drop i ps d lt)
-    ∙ noted_append (step (point_at (get_or ps i d))).reasons (all_reasons step (points_of (drop (suc i) ps))) o
-    ∙ ap (noted (all_reasons step (points_of (drop (suc i) ps)))) (sym e)
-    ∙ ap (λ j. noted (all_reasons step (points_of (drop j ps))) r) (let f : suc i ≡ i + 1 = omega arith in f)
-
-pub least_end : (step : Point → Step) (n : ℕ) (ps : List CodePoint) (o : Option Violation) → length ps ≤ n → noted (all_reasons step (points_of (drop n ps))) o ≡ o
-least_end step n ps o h = ap (λ p. noted (all_reasons step (points_of p)) o) (drop_of_length-le ps {i = n} h)
+pub least_end : (step : Point → Step) (n : ℕ) (ns : List Node) (o : Option Violation) → length ns ≤ n → noted (all_reasons step (points_of (drop n ns))) o ≡ o
+least_end step n ns o h = ap (λ p. noted (all_reasons step (points_of p)) o) (drop_of_length-le ns {i = n} h)
 
 -- ---- the verdict
-pub decided_rest : (step : Point → Step) (start : Point) (begin : ℕ) (ps : List CodePoint) (o : Option Violation) (v : Verdict) → length ps ≤ 16384 → v ≡ verdict_of o → o ≡ noted (all_reasons step (points_of ps)) None →
-    IsLabelling step start (points_of ps) → Decided step start begin v
-decided_rest step start begin ps o v few ev eo is =
+pub decided_rest : (step : Point → Step) (start : Point) (begin : ℕ) (ns : List Node) (o : Option Violation) (v : Verdict) → length ns ≤ 16384 → v ≡ verdict_of o → o ≡ noted (all_reasons step (points_of ns)) None →
+    IsLabelling step start (points_of ns) → Decided step start begin v
+decided_rest step start begin ns o v few ev eo is =
     subst (λ v. Decided step start begin v) (sym ev) (by o (subst (λ o. Least o (all_reasons step xs)) (sym eo) (least_noted (all_reasons step xs) None [] refl)))
   where
     xs : List Point
-    xs = points_of ps
+    xs = points_of ns
 
     long : length xs ≤ 16384
-    long = let h = points_length ps in omega (arith, h, few)
+    long = let h = points_long ns in omega (arith, h, few)
 
     by : (o : Option Violation) → Least o (all_reasons step xs) → Decided step start begin (verdict_of o)
     by None h = (xs, is, long, h)
     by (Some c) h = inl (xs, is, long, h.0, h.1)
 
-pub started : (step : Point → Step) (m0 m1 : List Bool) (p0 ps : List CodePoint) (a : ℕ) (r : CallString) (l : Label) → m0 ≡ [] → p0 ≡ [] → list_of r ≡ [] → m1 ≡ m0 ++ true ∷ [] → ps ≡ p0 ++ record { addr = a; call_string = r; state = l } ∷ [] →
-    Reached step record { pair = record { addr = a; returns = [] }; label = l } m1 (points_of ps)
-started step m0 m1 p0 ps a r l em ep er fm fp =
-    reached_start step record { pair = record { addr = a; returns = [] }; label = l } m1 (points_of ps)
-    (fm ∙ ap (λ m. m ++ true ∷ []) em)
-    (ap points_of (fp ∙ ap (λ p. p ++ record { addr = a; call_string = r; state = l } ∷ []) ep) ∙ ap (λ t. record { pair = record { addr = a; returns = t }; label = l } ∷ []) er)
+pub started : (step : Point → Step) (ns0 ns : List Node) (a : ℕ) (r : CallString) (l : Label) → ns0 ≡ [] → list_of r ≡ [] → ns ≡ ns0 ++ record { point = record { addr = a; call_string = r; state = l }; changed = true } ∷ [] →
+    Reached step record { pair = record { addr = a; returns = [] }; label = l } ns
+started step ns0 ns a r l none er e =
+    subst (λ ns. Reached step record { pair = record { addr = a; returns = [] }; label = l } ns) (sym (e ∙ ap (λ ns. ns ++ record { point = record { addr = a; call_string = r; state = l }; changed = true } ∷ []) none))
+    record { turns = zero; is = ap (λ t. record { pair = record { addr = a; returns = t }; label = l } ∷ []) er; clean = ((λ f. absurd (both_ways true f refl)), tt) }
 
-pub more_rounds : (step : Point → Step) (start : Point) (m0 m1 : List Bool) (p0 pt p1 : List CodePoint) (front : List Point) → Reached step start m0 (points_of p0) → front ≡ flagged m0 (points_of p0) → pt ≡ p0 →
-    points_of p1 ≡ join_all (given step front) (points_of pt) → Kept m1 (points_of pt) (points_of p1) → Reached step start m1 (points_of p1)
-more_rounds step start m0 m1 p0 pt p1 front r f ep e k =
-    reached_more step start m0 m1 (points_of p0) (points_of p1) front r f (e ∙ ap (λ p. join_all (given step front) (points_of p)) ep) (subst (λ p. Kept m1 (points_of p) (points_of p1)) ep k)
+none_left : (front : List Changed) → length front ≡ 0 → fronts_of front ≡ []
+none_left [] e = refl
+none_left (x ∷ xs) e = absurd (omega (arith, e))
 
-pub rests_there : (step : Point → Step) (start : Point) (m0 : List Bool) (p0 pt : List CodePoint) (front : List Changed) → Reached step start m0 (points_of p0) → fronts_of front ≡ flagged m0 (points_of p0) → length front ≡ 0 → pt ≡ p0 → IsLabelling step start (points_of pt)
-rests_there step start m0 p0 pt front r f e ep =
-    subst (λ p. IsLabelling step start (points_of p)) (sym ep) record { rounds_to = r.turns; is = sym r.is; stays = reached_rests step start m0 (points_of p0) (fronts_of front) r f (none front e) }
-  where
-    none : (front : List Changed) → length front ≡ 0 → fronts_of front ≡ []
-    none [] e = refl
-    none (x ∷ xs) e = absurd (omega (arith, e))
+pub rests_there : (step : Point → Step) (start : Point) (ns cs : List Node) (front : List Changed) → Reached step start ns → fronts_of front ≡ flagged ns → points_of cs ≡ points_of ns → length front ≡ 0 → IsLabelling step start (points_of cs)
+rests_there step start ns cs front r f same e = reached_rests step start ns cs (fronts_of front) r f same (none_left front e)
 
-pub decided_many : (step : Point → Step) (start : Point) (begin : ℕ) (m0 : List Bool) (p0 pt : List CodePoint) (front : List Point) → Reached step start m0 (points_of p0) → front ≡ flagged m0 (points_of p0) → pt ≡ p0 →
-    16384 < length (join_all (given step front) (points_of pt)) → Decided step start begin (No begin TooMany 0)
-decided_many step start begin m0 p0 pt front r f ep many =
-    let to_round : join_all (given step front) (points_of pt) ≡ rounds step start (suc r.turns) =
-    ap (λ p. join_all (given step front) (points_of p)) ep ∙ ap (λ g. join_all (given step g) (points_of p0)) f ∙ sym (flagged_round step m0 (points_of p0) (points_of p0) r.clean) ∙ ap (round step) r.is in
-    inr (suc r.turns, subst (λ l. 16384 < length l) to_round many, refl)
+pub decided_many : (step : Point → Step) (start : Point) (begin : ℕ) (ns cs : List Node) (front : List Point) → Reached step start ns → front ≡ flagged ns → points_of cs ≡ points_of ns →
+    16384 < length (join_all (given step front) (points_of cs)) → Decided step start begin (No begin TooMany 0)
+decided_many step start begin ns cs front r f same many = let n = reached_many step start ns cs front r f same many in inr (n.0, n.1, refl)

@@ -1,7 +1,6 @@
 pub mod Carries
 pub mod Points
 pub mod Violations
-pub mod Marks
 pub mod Verdicts
 pub mod Stubs
 pub mod Weights

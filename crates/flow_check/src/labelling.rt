@@ -1,22 +1,29 @@
 //! The labelling: the state of each program point, and which of them changed.
 
-ghost use Rattle.std.specs.Prelude.{◌≡◌, ◌≤◌, ◌<◌, ◌+◌, ◌*◌, ◌++◌, ◌∷◌, [], length, take, true, false, ℕ};
-ghost use Rattle.std.specs.Prelude.{List, IfSome, IfOk, Some, None, slice_get, slice_set};
+ghost use Rattle.std.specs.Prelude.{◌≡◌, ◌≤◌, ◌<◌, ◌+◌, ◌*◌, ◌++◌, ◌∷◌, [], length, drop, true, false, ℕ};
+ghost use Rattle.std.specs.Prelude.{List, Bool, IfSome, IfOk, Some, None, slice_get, slice_set};
 ghost use Rattle.flow_rule.specs.declared.Label.{Label};
-ghost use Rattle.flow_rule.specs.Rounds.{join_label, join_in, join_all, Point as RulePoint, Step};
-ghost use Rattle.flow_check.specs.internal.Marks.{mark_at, flagged, NoMark, Reached};
-ghost use Rattle.flow_check.specs.internal.Weights.{weight_label};
-ghost use Rattle.flow_check.specs.internal.Points.{fronts_of, pair_of, list_of, label_at, points_at, same_at};
-ghost use Rattle.flow_check.specs.internal.Points.{Distinct, point_at, risen};
-ghost use Rattle.flow_check.specs.declared.point.Point.{Point as CodePoint};
-ghost use Rattle.flow_check.specs.internal.Labellings.{points_in, flagged_in, StillKept};
+ghost use Rattle.flow_rule.specs.Rounds.{join_in, join_all, Point as RulePoint, Step};
+ghost use Rattle.flow_check.specs.internal.Points.{fronts_of, pair_of, list_of, label_at, points_at, point_at, points_of};
+ghost use Rattle.flow_check.specs.internal.Labellings.{mark_at, flagged, flagged_from, same_at, Covered, Kept, NoMark};
+ghost use Rattle.flow_check.specs.internal.Labellings.{Reached, StillKept, MarksOne, joined};
 
 use crate::call_string::CallString;
 use crate::domain::join_label;
 use crate::point::Point;
-use crate::worklist::{BLOCK, Marks};
 use flow_rule::{Label, Val};
 use std::alloc::{AllocError, Global};
+use std::marker::Model;
+
+/// How many program points a block has, and how many blocks there are.
+const BLOCK: usize = 128;
+
+/// A program point with its state, and whether that changed in the last iteration.
+#[derive(Clone, Copy)]
+pub struct Node {
+    pub point: Point,
+    pub changed: bool,
+}
 
 /// A program point whose state changed, with its place.
 #[derive(Clone, Copy)]
@@ -25,117 +32,186 @@ pub struct Changed {
     pub point: Point,
 }
 
-/// The program points with their states, and which of them changed in the last iteration.
-#[derive(Drop)]
-pub struct Labelling {
-    pub points: Vec<Point>,
-    pub marks: Marks,
-    hints: Vec<Hint>,
-}
-
 /// Where to look first.
 #[derive(Clone, Copy)]
-pub struct Hint {
+struct Hint {
     /// For the first two program points that this one gave.
     targets: [usize; 2],
     /// For what is known of its arms.
     summary: Option<usize>,
 }
 
+/// The program points with their states.
+#[derive(Drop)]
+pub struct Labelling {
+    nodes: Vec<Node>,
+    hints: Vec<Hint>,
+    /// In which blocks of program points one may have changed.
+    blocks: [bool; 128],
+}
+
+impl Model for Labelling {
+    ghost use Rattle.std.specs.Prelude.{List};
+    ghost use Rattle.flow_check.specs.declared.labelling.Node.{Node};
+    ghost use Rattle.flow_check.specs.internal.Points.{points_of};
+    ghost use Rattle.flow_check.specs.internal.Labellings.{Distinct, Covered};
+
+    ghost Value = { List Node };
+
+    ghost view = { λ l. l.nodes.items };
+
+    // no program point stands twice, and the block of one that changed is true
+    ghost invariant = { λ l. Distinct (points_of l.nodes.items) × Covered l.nodes.items l.blocks };
+}
+
 /// Whether one of these is this program point.
-fn same_at(points: &[Point], point: &Point, i: usize) -> bool
-    ensures { result ≡ same_at (pair_of point.now) points.now i }
+fn same_at(nodes: &[Node], point: &Point, i: usize) -> bool
+    ensures { result ≡ same_at (pair_of point.now) nodes.now i }
 {
-    match points.get(i) {
-        Some(found) => found.is_same(point),
+    match nodes.get(i) {
+        Some(found) => found.point.is_same(point),
         None => false,
     }
 }
 
 /// The place of a program point, looked for first at a hint; the length where it is not there.
 #[tactic(auto, using(crate::proofs::Labellings::at_less))]
-fn find(points: &[Point], point: &Point, hint: usize) -> usize
-    ensures there { result < length points.now → same_at (pair_of point.now) points.now result ≡ true }
-    ensures absent { length points.now ≤ result → (k : ℕ) → k < length points.now →
-        same_at (pair_of point.now) points.now k ≡ false }
+fn find(nodes: &[Node], point: &Point, hint: usize) -> usize
+    ensures there { result < length nodes.now → same_at (pair_of point.now) nodes.now result ≡ true }
+    ensures absent { length nodes.now ≤ result → (k : ℕ) → k < length nodes.now →
+        same_at (pair_of point.now) nodes.now k ≡ false }
 {
-    if same_at(points, point, hint) {
+    if same_at(nodes, point, hint) {
         return hint;
     }
-    for i in 0..points.len() {
-        if same_at(points, point, i) {
+    for i in 0..nodes.len() {
+        if same_at(nodes, point, i) {
             return i;
         }
     }
-    points.len()
+    nodes.len()
 }
 
 /// Joins a state to the state there, and tells whether it changed.
-#[tactic(auto, using(crate::proofs::Taking::set_same))]
-fn raise(points: &mut Vec<Point>, at: usize, state: &Label) -> bool
-    requires { at < length points.old.items }
-    ensures points { (y : CodePoint) → slice_get points.old.items at ≡ Some y →
-        points.new.items ≡ slice_set points.old.items at (risen y state.now) }
-    ensures same { result ≡ false → points.new.items ≡ points.old.items }
-    ensures rises { result ≡ true → (y : CodePoint) → slice_get points.old.items at ≡ Some y →
-        weight_label y.state < weight_label (join_label y.state state.now) }
-    ensures length { length points.new.items ≡ length points.old.items }
+#[tactic(auto, using(crate::proofs::Taking::set_same, crate::proofs::Taking::points_rise, crate::proofs::Taking::kept_rise, crate::proofs::Marked::set_marks))]
+fn raise(nodes: &mut Vec<Node>, at: usize, state: &Label) -> bool
+    requires { at < length nodes.old.items }
+    ensures points { (n : Node) → slice_get nodes.old.items at ≡ Some n → points_of nodes.new.items
+        ≡ slice_set (points_of nodes.old.items) at (joined (point_at n.point) state.now) }
+    ensures same { result ≡ false → nodes.new.items ≡ nodes.old.items }
+    ensures marks { MarksOne at nodes.old.items nodes.new.items }
+    ensures kept { StillKept nodes.old.items nodes.new.items }
 {
-    join_label(&mut points[at].state, state)
+    let node = &mut nodes[at];
+    let changed = join_label(&mut node.point.state, state);
+    if changed {
+        node.changed = true;
+    }
+    changed
+}
+
+/// Says that a program point in the block of this one may have changed.
+#[tactic(auto, using(crate::proofs::Marked::covered_one))]
+fn cover(blocks: &mut [bool; 128], at: usize)
+    ensures { (old new : List Node) → MarksOne at old new → Covered old blocks.old → Covered new blocks.new }
+{
+    blocks[at / BLOCK % BLOCK] = true;
+}
+
+/// Says that no program point changed.
+#[tactic(auto, using(crate::proofs::Marked::covered_none))]
+fn uncover(blocks: &mut [bool; 128])
+    ensures { (nodes : List Node) → NoMark nodes → Covered nodes blocks.new }
+{
+    *blocks = [false; 128];
 }
 
 impl Labelling {
-    /// The point there, if it is marked.
-    #[tactic(auto, using(crate::proofs::Taking::gap_points))]
-    fn changed_at(&self, i: usize) -> Option<Changed>
-        requires marked { length self.now.marks ≡ length self.now.points.items }
-        ensures some { IfSome result (λ c. (mark_at self.now.marks i ≡ true) ×
-            (slice_get self.now.points.items i ≡ Some c.point)) }
-        ensures none { result ≡ None → mark_at self.now.marks i ≡ false }
+    /// The first program point with its state, which changed.
+    #[tactic(auto, using(crate::proofs::Verdicts::started))]
+    pub fn begin(alloc: Global, start: u16, first: &Label) -> Result<Labelling, AllocError>
+        ensures few { IfOk result (λ all. length all ≤ 16384) }
+        ensures reached { IfOk result (λ all. (step : RulePoint → Step) →
+            Reached step record { pair = record { addr = start; returns = [] }; label = first.now } all) }
     {
-        if !self.marks.get(i) {
-            return None;
-        }
-        match self.points.get(i) {
-            Some(point) => Some(Changed {
-                place: i,
-                point: *point,
-            }),
+        let mut all = Labelling {
+            nodes: Vec::new(alloc),
+            hints: Vec::new(alloc),
+            blocks: [false; 128],
+        };
+        let point = Point {
+            addr: start,
+            call_string: CallString::new(),
+            state: *first,
+        };
+        all.add(&point)?;
+        Ok(all)
+    }
+
+    /// The number of program points.
+    pub fn len(&self) -> usize
+        ensures { result ≡ length self.now }
+    {
+        self.nodes.len()
+    }
+
+    /// The point there.
+    #[tactic(auto, using(crate::proofs::Taking::points_drop))]
+    pub fn point(&self, i: usize) -> Point
+        requires { i < length self.now }
+        ensures { points_of (drop i self.now) ≡ point_at result ∷ points_of (drop (i + 1) self.now) }
+    {
+        self.nodes[i].point
+    }
+
+    /// The point there, if it changed.
+    #[tactic(auto, using(crate::proofs::Taking::node_is))]
+    fn changed_at(&self, i: usize) -> Option<Changed>
+        ensures some { IfSome result (λ c. slice_get self.now i ≡ Some record { point = c.point; changed = true }) }
+        ensures none { result ≡ None → mark_at self.now i ≡ false }
+    {
+        match self.nodes.get(i) {
+            Some(node) => {
+                if node.changed {
+                    Some(Changed {
+                        place: i,
+                        point: node.point,
+                    })
+                } else {
+                    None
+                }
+            }
             None => None,
         }
     }
 
-    /// Moves the program point there to the front, if it is marked.
-    #[tactic(auto, using(crate::proofs::Taking::take_on, crate::proofs::Taking::take_off, crate::proofs::Taking::below_set, crate::proofs::Taking::below_off))]
+    /// Moves the program point there to the front, if it changed.
+    #[tactic(auto, using(crate::proofs::Taking::take_on, crate::proofs::Taking::take_off, crate::proofs::Taking::below_set, crate::proofs::Taking::below_off, crate::proofs::Taking::points_cleared, crate::proofs::Marked::covered_cleared))]
     fn take_mark(&mut self, i: usize, front: &mut Vec<Changed>) -> Result<(), AllocError>
-        requires marked { length self.old.marks ≡ length self.old.points.items }
-        requires clear { (k : ℕ) → k < i → mark_at self.old.marks k ≡ false }
-        ensures clear { IfOk result (λ _. (k : ℕ) → k < i + 1 → mark_at self.new.marks k ≡ false) }
-        ensures more { IfOk result (λ _. fronts_of front.old.items ++ flagged_in i self.old
-            ≡ fronts_of front.new.items ++ flagged_in (i + 1) self.new) }
-        ensures points { self.new.points.items ≡ self.old.points.items }
-        ensures marked { length self.new.marks ≡ length self.old.marks }
+        requires clear { (k : ℕ) → k < i → mark_at self.old k ≡ false }
+        ensures clear { IfOk result (λ _. (k : ℕ) → k < i + 1 → mark_at self.new k ≡ false) }
+        ensures more { IfOk result (λ _. fronts_of front.old.items ++ flagged_from i self.old
+            ≡ fronts_of front.new.items ++ flagged_from (i + 1) self.new) }
+        ensures points { points_of self.new ≡ points_of self.old }
     {
         if let Some(changed) = self.changed_at(i) {
             front.push(changed)?;
-            self.marks.clear(i);
+            self.nodes[i].changed = false;
         }
         Ok(())
     }
 
-    /// The same of the program points of a block, where a mark may be there.
-    #[tactic(auto, using(crate::proofs::Taking::skip_block, crate::proofs::Taking::below_block))]
+    /// The same of the program points of a block, where one may have changed.
+    #[tactic(auto, using(crate::proofs::Taking::skip_block, crate::proofs::Taking::below_block, crate::proofs::Marked::uncovered))]
     fn take_block(&mut self, b: usize, front: &mut Vec<Changed>) -> Result<(), AllocError>
         requires here { b < 128 }
-        requires marked { length self.old.marks ≡ length self.old.points.items }
-        requires clear { (k : ℕ) → k < 128 * b → mark_at self.old.marks k ≡ false }
-        ensures clear { IfOk result (λ _. (k : ℕ) → k < 128 * (b + 1) → mark_at self.new.marks k ≡ false) }
-        ensures more { IfOk result (λ _. fronts_of front.old.items ++ flagged_in (128 * b) self.old
-            ≡ fronts_of front.new.items ++ flagged_in (128 * (b + 1)) self.new) }
-        ensures points { self.new.points.items ≡ self.old.points.items }
-        ensures marked { length self.new.marks ≡ length self.old.marks }
+        requires clear { (k : ℕ) → k < 128 * b → mark_at self.old k ≡ false }
+        ensures clear { IfOk result (λ _. (k : ℕ) → k < 128 * (b + 1) → mark_at self.new k ≡ false) }
+        ensures more { IfOk result (λ _. fronts_of front.old.items ++ flagged_from (128 * b) self.old
+            ≡ fronts_of front.new.items ++ flagged_from (128 * (b + 1)) self.new) }
+        ensures points { points_of self.new ≡ points_of self.old }
     {
-        if !self.marks.block(b) {
+        if !self.blocks[b] {
             return Ok(());
         }
         for i in BLOCK * b..BLOCK * (b + 1) {
@@ -144,69 +220,63 @@ impl Labelling {
         Ok(())
     }
 
-    /// Moves the marked points to the front, in order.
-    #[tactic(auto, using(crate::proofs::Taking::past_all, crate::proofs::Taking::none_left))]
+    /// Moves the points that changed to the front, in order.
+    #[tactic(auto, using(crate::proofs::Taking::past_all, crate::proofs::Taking::none_left, crate::proofs::Taking::points_long))]
     pub fn take_changed(&mut self, front: &mut Vec<Changed>) -> Result<(), AllocError>
         requires empty { front.old.items ≡ [] }
-        requires few { length self.old.points.items ≤ 16384 }
-        requires marked { length self.old.marks ≡ length self.old.points.items }
-        ensures front { IfOk result (λ _. fronts_of front.new.items ≡ flagged self.old.marks (points_in self.old)) }
-        ensures points { self.new.points.items ≡ self.old.points.items }
-        ensures marked { length self.new.marks ≡ length self.old.marks }
-        ensures clear { IfOk result (λ _. NoMark self.new.marks) }
+        requires few { length self.old ≤ 16384 }
+        ensures front { IfOk result (λ _. fronts_of front.new.items ≡ flagged self.old) }
+        ensures points { points_of self.new ≡ points_of self.old }
+        ensures clear { IfOk result (λ _. NoMark self.new) }
     {
         for b in 0..BLOCK {
             self.take_block(b, front)?;
         }
-        self.marks.rest();
+        uncover(&mut self.blocks);
         Ok(())
     }
 
-    /// Joins a state to the state of the program point there.
-    #[tactic(auto, using(crate::proofs::Taking::kept_rise))]
-    fn rise(&mut self, at: usize, state: &Label)
-        requires { at < length self.old.points.items }
-        ensures points { (y : CodePoint) → slice_get self.old.points.items at ≡ Some y →
-            self.new.points.items ≡ slice_set self.old.points.items at (risen y state.now) }
-        ensures length { length self.new.points.items ≡ length self.old.points.items }
+    /// Joins a point's state to that of its place.
+    #[tactic(auto, using(crate::proofs::Labellings::joins_rise, crate::proofs::Labellings::distinct_rise))]
+    fn rise(&mut self, at: usize, point: &Point)
+        requires { same_at (pair_of point.now) self.old at ≡ true }
+        ensures joined { points_of self.new ≡ join_in (point_at point.now) (points_of self.old) }
         ensures kept { StillKept self.old self.new }
-        ensures marked { length self.new.marks ≡ length self.old.marks }
     {
-        if raise(&mut self.points, at, state) {
-            self.marks.set(at);
+        if raise(&mut self.nodes, at, &point.state) {
+            cover(&mut self.blocks, at);
         }
     }
 
     /// One program point more.
-    #[tactic(auto, using(crate::proofs::Taking::kept_new))]
+    #[tactic(auto, using(crate::proofs::Taking::kept_new, crate::proofs::Labellings::joins_new, crate::proofs::Labellings::distinct_new, crate::proofs::Marked::push_marks))]
     fn add(&mut self, point: &Point) -> Result<(), AllocError>
+        requires { (k : ℕ) → k < length self.old → same_at (pair_of point.now) self.old k ≡ false }
+        ensures added { IfOk result (λ _. self.new ≡ self.old ++ record { point = point.now; changed = true } ∷ []) }
+        ensures joined { IfOk result (λ _. points_of self.new ≡ join_in (point_at point.now) (points_of self.old)) }
         ensures kept { IfOk result (λ _. StillKept self.old self.new) }
-        ensures marked { IfOk result (λ _. self.new.marks ≡ self.old.marks ++ true ∷ []) }
-        ensures points { IfOk result (λ _. self.new.points.items ≡ self.old.points.items ++ point.now ∷ []) }
     {
-        self.points.push(*point)?;
-        self.marks.add()?;
+        let at = self.nodes.len();
         self.hints.push(Hint {
             targets: [0, 0],
             summary: None,
         })?;
+        self.nodes.push(Node {
+            point: *point,
+            changed: true,
+        })?;
+        cover(&mut self.blocks, at);
         Ok(())
     }
 
     /// Joins a point's state to that of its place, and tells the place.
-    #[tactic(auto, using(crate::proofs::Labellings::joins_rise, crate::proofs::Labellings::joins_new, crate::proofs::Labellings::distinct_new, crate::proofs::Labellings::not_among))]
     fn join_in(&mut self, point: &Point, hint: usize) -> Result<usize, AllocError>
-        requires marked { length self.old.marks ≡ length self.old.points.items }
-        requires distinct { Distinct self.old.points.items }
-        ensures joined { IfOk result (λ _. points_in self.new ≡ join_in (point_at point.now) (points_in self.old)) }
-        ensures distinct { IfOk result (λ _. Distinct self.new.points.items) }
-        ensures marked { IfOk result (λ _. length self.new.marks ≡ length self.new.points.items) }
+        ensures joined { IfOk result (λ _. points_of self.new ≡ join_in (point_at point.now) (points_of self.old)) }
         ensures kept { IfOk result (λ _. StillKept self.old self.new) }
-        ensures few { IfOk result (λ _. length self.new.points.items ≤ length self.old.points.items + 1) }
     {
-        let at = find(self.points.as_slice(), point, hint);
-        if at < self.points.len() {
-            self.rise(at, &point.state);
+        let at = find(self.nodes.as_slice(), point, hint);
+        if at < self.nodes.len() {
+            self.rise(at, point);
         } else {
             self.add(point)?;
         }
@@ -223,8 +293,7 @@ impl Labelling {
 
     /// Where the program point that another gave is.
     fn set_hint(&mut self, from: usize, k: usize, at: usize)
-        ensures points { self.new.points ≡ self.old.points }
-        ensures marks { self.new.marks ≡ self.old.marks }
+        ensures { self.new ≡ self.old }
     {
         if let Some(found) = self.hints.get_mut(from)
             && k < 2
@@ -243,8 +312,7 @@ impl Labelling {
 
     /// Says where what is known of a program point's arms is.
     pub fn set_summary(&mut self, at: usize, summary: Option<usize>)
-        ensures points { self.new.points ≡ self.old.points }
-        ensures marks { self.new.marks ≡ self.old.marks }
+        ensures { self.new ≡ self.old }
     {
         if let Some(found) = self.hints.get_mut(at) {
             found.summary = summary;
@@ -261,14 +329,10 @@ impl Labelling {
         state: &mut Label,
         call_string: &CallString,
     ) -> Result<(), AllocError>
-        requires marked { length self.old.marks ≡ length self.old.points.items }
-        requires distinct { Distinct self.old.points.items }
         ensures state { state.new ≡ label_at to state.old }
         ensures joined { IfOk result (λ _. (rest : List ℕ) →
-            join_all (points_at (to ∷ rest) (list_of call_string.now) state.old) (points_in self.old)
-            ≡ join_all (points_at rest (list_of call_string.now) state.new) (points_in self.new)) }
-        ensures distinct { IfOk result (λ _. Distinct self.new.points.items) }
-        ensures marked { IfOk result (λ _. length self.new.marks ≡ length self.new.points.items) }
+            join_all (points_at (to ∷ rest) (list_of call_string.now) state.old) (points_of self.old)
+            ≡ join_all (points_at rest (list_of call_string.now) state.new) (points_of self.new)) }
         ensures kept { IfOk result (λ _. StillKept self.old self.new) }
     {
         state.core[0] = Val::Known(to);
@@ -291,12 +355,8 @@ impl Labelling {
         targets: &[u16],
         call_string: &CallString,
     ) -> Result<(), AllocError>
-        requires marked { length self.old.marks ≡ length self.old.points.items }
-        requires distinct { Distinct self.old.points.items }
-        ensures joined { IfOk result (λ _. points_in self.new
-            ≡ join_all (points_at targets.now (list_of call_string.now) state.old) (points_in self.old)) }
-        ensures distinct { IfOk result (λ _. Distinct self.new.points.items) }
-        ensures marked { IfOk result (λ _. length self.new.marks ≡ length self.new.points.items) }
+        ensures joined { IfOk result (λ _. points_of self.new
+            ≡ join_all (points_at targets.now (list_of call_string.now) state.old) (points_of self.old)) }
         ensures kept { IfOk result (λ _. StillKept self.old self.new) }
     {
         for (k, to) in targets.iter().enumerate() {
@@ -304,30 +364,4 @@ impl Labelling {
         }
         Ok(())
     }
-}
-
-/// The first program point with its state, marked.
-#[tactic(auto, using(crate::proofs::Verdicts::started))]
-pub fn begin(alloc: Global, start: u16, first: &Label) -> Result<Labelling, AllocError>
-    ensures distinct { IfOk result (λ all. Distinct all.points.items) }
-    ensures marked { IfOk result (λ all. length all.marks ≡ length all.points.items) }
-    ensures few { IfOk result (λ all. length all.points.items ≤ 16384) }
-    ensures points { IfOk result (λ all. points_in all
-        ≡ record { pair = record { addr = start; returns = [] }; label = first.now } ∷ []) }
-    ensures reached { IfOk result (λ all. (step : RulePoint → Step) →
-        Reached step record { pair = record { addr = start; returns = [] }; label = first.now } all.marks
-        (points_in all)) }
-{
-    let mut all = Labelling {
-        points: Vec::new(alloc),
-        marks: Marks::new(alloc),
-        hints: Vec::new(alloc),
-    };
-    let point = Point {
-        addr: start,
-        call_string: CallString::new(),
-        state: *first,
-    };
-    all.add(&point)?;
-    Ok(all)
 }

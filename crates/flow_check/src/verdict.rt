@@ -9,9 +9,8 @@ ghost use Rattle.flow_check.specs.internal.Verdicts.{verdict_of};
 ghost use Rattle.flow_check.specs.internal.Points.{points_of};
 ghost use Rattle.flow_check.specs.internal.Programs.{flow, AreSummaries};
 ghost use Rattle.flow_check.specs.internal.Violations.{noted};
-ghost use Rattle.flow_check.specs.internal.Labellings.{points_in};
 
-use crate::labelling::{Changed, Labelling, begin};
+use crate::labelling::{Changed, Labelling};
 use crate::program::Program;
 use crate::summaries::{Summaries, violation_with};
 use crate::violation::Violation;
@@ -29,11 +28,11 @@ fn least_more(
     least: Option<Violation>,
 ) -> Option<Violation>
     requires summaries { AreSummaries program.now summaries.now.list.items }
-    requires here { i < length all.now.points.items }
-    ensures { noted (all_reasons (flow program.now) (points_of (drop i all.now.points.items))) least
-        ≡ noted (all_reasons (flow program.now) (points_of (drop (i + 1) all.now.points.items))) result }
+    requires here { i < length all.now }
+    ensures { noted (all_reasons (flow program.now) (points_of (drop i all.now))) least
+        ≡ noted (all_reasons (flow program.now) (points_of (drop (i + 1) all.now))) result }
 {
-    let point = all.points[i];
+    let point = all.point(i);
     violation_with(program, summaries, all.summary(i), &point, least)
 }
 
@@ -41,10 +40,10 @@ fn least_more(
 #[tactic(auto, using(crate::proofs::Verdicts::least_end))]
 fn least_of(program: &Program<'_>, summaries: &Summaries, all: &Labelling) -> Option<Violation>
     requires summaries { AreSummaries program.now summaries.now.list.items }
-    ensures { result ≡ noted (all_reasons (flow program.now) (points_in all.now)) None }
+    ensures { result ≡ noted (all_reasons (flow program.now) (points_of all.now)) None }
 {
     let mut least: Option<Violation> = None;
-    for i in 0..all.points.len() {
+    for i in 0..all.len() {
         least = least_more(program, summaries, all, i, least);
     }
     least
@@ -74,16 +73,16 @@ fn verdict_of(least: Option<Violation>) -> Verdict
 #[tactic(auto, using(crate::proofs::Verdicts::decided_rest))]
 fn decide(program: &Program<'_>, summaries: &Summaries, all: &Labelling) -> Verdict
     requires summaries { AreSummaries program.now summaries.now.list.items }
-    requires fit { length all.now.points.items ≤ 16384 }
+    requires fit { length all.now ≤ 16384 }
     ensures { (start : Point) (begin : ℕ) →
-        IsLabelling (flow program.now) start (points_in all.now) →
+        IsLabelling (flow program.now) start (points_of all.now) →
         Decided (flow program.now) start begin result }
 {
     verdict_of(least_of(program, summaries, all))
 }
 
 /// The verdict, by iterations.
-#[tactic(auto, using(crate::proofs::Verdicts::more_rounds, crate::proofs::Verdicts::rests_there, crate::proofs::Verdicts::decided_many))]
+#[tactic(auto)]
 pub fn verdict(
     alloc: Global,
     program: &Program<'_>,
@@ -97,7 +96,7 @@ pub fn verdict(
               first.now;
         } program.now.module.now.text.start v) }
 {
-    let mut all = begin(alloc, start, first)?;
+    let mut all = Labelling::begin(alloc, start, first)?;
     let mut summaries = Summaries::new(alloc);
     let mut front: Vec<Changed> = Vec::new(alloc);
     loop {

@@ -1,18 +1,88 @@
--- The points of a labelling.
-use Rattle.std.specs.Prelude.{ℕ, List}
-use Rattle.flow_check.specs.declared.labelling.Labelling.{Labelling}
-use Rattle.flow_rule.specs.Rounds.{Point}
-use Rattle.flow_check.specs.internal.Points.{points_of}
-use Rattle.flow_check.specs.internal.Marks.{flagged_from, Kept}
+-- What is true of a labelling: no program point stands twice, and which states changed.
+use Rattle.std.specs.Prelude.{◌≡◌, ◌⊎◌, ◌<◌, ◌/◌, ◌%◌, ℕ, List, [], ◌∷◌, drop, get_or, slice_get, cond, Bool, true, false, Option, Some, None, AllPairs}
+use Rattle.flow_rule.specs.declared.Label.{Label}
+use Rattle.flow_rule.specs.Absorbs.{Absorbs}
+use Rattle.flow_rule.specs.Rounds.{Pair, Point, Step, same_pair, join_label, given_by, rounds}
+use Rattle.flow_check.specs.declared.labelling.Node.{Node}
+use Rattle.flow_check.specs.internal.Points.{pair_of, point_at, points_of}
+use Rattle.flow_check.specs.internal.Weights.{weight_label}
 
--- its points, each a program point under its state
-abbrev pub points_in : Labelling → List Point
-points_in all = points_of all.points.items
+abbrev pub same_found : Pair → Option Node → Bool
+same_found p None = false
+same_found p (Some n) = same_pair (pair_of n.point) p
 
--- its marked points from here on
-abbrev pub flagged_in : ℕ → Labelling → List Point
-flagged_in i all = flagged_from i all.marks all.points.items
+-- whether the n-th of these is this program point
+abbrev pub same_at : Pair → List Node → ℕ → Bool
+same_at p ns n = same_found p (slice_get ns n)
+
+-- another program point
+abbrev pub Other : Pair → Point → Type 0
+Other p x = same_pair x.pair p ≡ false
+
+-- no two of these are the same
+abbrev pub Distinct : List Point → Type 0
+Distinct xs = AllPairs (λ (x y : Point). Other x.pair y) xs
+
+-- a point to whose state another was joined
+abbrev pub joined : Point → Label → Point
+joined x l = record { pair = x.pair; label = join_label x.label l }
+
+abbrev pub is_marked : Option Node → Bool
+is_marked None = false
+is_marked (Some n) = n.changed
+
+-- whether the n-th of these changed
+abbrev pub mark_at : List Node → ℕ → Bool
+mark_at ns n = is_marked (slice_get ns n)
+
+-- none of them changed
+abbrev pub NoMark : List Node → Type 0
+NoMark ns = (i : ℕ) → mark_at ns i ≡ false
+
+-- the block of one that changed is true
+abbrev pub Covered : List Node → List Bool → Type 0
+Covered ns blocks = (i : ℕ) → mark_at ns i ≡ true → get_or blocks (i / 128 % 128) false ≡ true
+
+-- no other than the one there changed meanwhile
+abbrev pub MarksOne : ℕ → List Node → List Node → Type 0
+MarksOne at old new = (i : ℕ) → mark_at new i ≡ true → (mark_at old i ≡ true) ⊎ (i ≡ at)
+
+-- those that changed
+abbrev pub flagged : List Node → List Point
+flagged [] = []
+flagged (n ∷ ns) = cond n.changed (point_at n.point ∷ flagged ns) (flagged ns)
+
+-- those that changed from here on
+abbrev pub flagged_from : ℕ → List Node → List Point
+flagged_from i ns = flagged (drop i ns)
+
+-- joining this point changes nothing
+abbrev pub Subsumed : Point → List Point → Type 0
+Subsumed x [] = ⊥
+Subsumed x (y ∷ ys) = cond (same_pair y.pair x.pair) (Absorbs y.label x.label) (Subsumed x ys)
+
+abbrev pub AllSubsumed : List Point → List Point → Type 0
+AllSubsumed [] ys = Unit {0}
+AllSubsumed (x ∷ xs) ys = Subsumed x ys × AllSubsumed xs ys
+
+-- what a program point that did not change gives is subsumed by ys
+abbrev pub Clean : (Point → Step) → List Node → List Point → Type 0
+Clean step [] ys = Unit {0}
+Clean step (n ∷ ns) ys = (n.changed ≡ false → AllSubsumed (given_by (step (point_at n.point))) ys) × Clean step ns ys
+
+-- the points that did not change are as before, the states of those that did have risen, and new ones changed
+abbrev pub Kept : List Point → List Node → Type 0
+Kept [] [] = Unit {0}
+Kept [] (n ∷ ns) = (n.changed ≡ true) × Kept [] ns
+Kept (x ∷ xs) [] = ⊥
+Kept (x ∷ xs) (n ∷ ns) = (n.changed ≡ false → point_at n.point ≡ x) × (n.changed ≡ true → weight_label x.label < weight_label n.point.state) × Kept xs ns
 
 -- what was kept until one labelling is kept until the next
-abbrev pub StillKept : Labelling → Labelling → Type 0
-StillKept old new = (xs : List Point) → Kept old.marks xs (points_in old) → Kept new.marks xs (points_in new)
+abbrev pub StillKept : List Node → List Node → Type 0
+StillKept old new = (xs : List Point) → Kept xs old → Kept xs new
+
+-- after some iterations
+pub record Reached (step : Point → Step) (start : Point) (ns : List Node) : Type 0 where
+  pub turns : ℕ
+  pub is : points_of ns ≡ rounds step start turns
+  pub clean : Clean step ns (points_of ns)

@@ -1,11 +1,12 @@
 -- The program points and points that the code's stand for.
-use Rattle.std.specs.Prelude.{◌≡◌, ℕ, List, [], ◌∷◌, take, slice_get, slice_set, Bool, true, false, Option, Some, None}
+use Rattle.std.specs.Prelude.{ℕ, List, [], ◌∷◌, take, slice_set}
 use Rattle.flow_check.specs.declared.point.Point.{Point as CodePoint}
+use Rattle.flow_check.specs.declared.labelling.Node.{Node}
 use Rattle.flow_check.specs.declared.labelling.Changed.{Changed}
 use Rattle.flow_check.specs.declared.call_string.CallString.{CallString}
 use Rattle.flow_rule.specs.declared.Val.TheVariants.{Known}
 use Rattle.flow_rule.specs.declared.Label.{Label}
-use Rattle.flow_rule.specs.Rounds.{Pair, Point, same_pair, join_label}
+use Rattle.flow_rule.specs.Rounds.{Pair, Point}
 
 -- a list of return addresses
 abbrev pub list_of : CallString → List ℕ
@@ -37,30 +38,10 @@ points_at (a ∷ more) rs l = record { pair = record { addr = a; returns = rs };
 abbrev pub point_at : CodePoint → Point
 point_at p = record { pair = pair_of p; label = p.state }
 
-abbrev pub points_of : List CodePoint → List Point
+-- the points of a labelling
+abbrev pub points_of : List Node → List Point
 points_of [] = []
-points_of (p ∷ ps) = point_at p ∷ points_of ps
-
--- a point whose state another was joined to
-abbrev pub risen : CodePoint → Label → CodePoint
-risen p l = record p { state = join_label p.state l }
-
-abbrev pub same_found : Pair → Option CodePoint → Bool
-same_found p None = false
-same_found p (Some q) = same_pair (pair_of q) p
-
--- whether the n-th of these is this program point
-abbrev pub same_at : Pair → List CodePoint → ℕ → Bool
-same_at p qs n = same_found p (slice_get qs n)
-
--- none of these is this program point
-abbrev pub NotAmong : Pair → List CodePoint → Type 0
-NotAmong p ps = (n : ℕ) → same_at p ps n ≡ false
-
--- no two of these are the same
-abbrev pub Distinct : List CodePoint → Type 0
-Distinct [] = Unit {0}
-Distinct (q ∷ qs) = NotAmong (pair_of q) qs × Distinct qs
+points_of (n ∷ ns) = point_at n.point ∷ points_of ns
 
 -- the points that changed
 abbrev pub fronts_of : List Changed → List Point

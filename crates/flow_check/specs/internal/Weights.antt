@@ -1,9 +1,10 @@
 -- How far states have risen.
-use Rattle.std.specs.Prelude.{ℕ, suc, ◌+◌, min, List, [], ◌∷◌, Bool, true, false}
+use Rattle.std.specs.Prelude.{ℕ, suc, ◌+◌, min, List, [], ◌∷◌, cond}
 use Rattle.flow_rule.specs.declared.Val.{Val}
 use Rattle.flow_rule.specs.declared.Val.TheVariants.{Known, Away, Public, Secret}
 use Rattle.flow_rule.specs.declared.Label.{Label}
 use Rattle.flow_rule.specs.Rounds.{Point}
+use Rattle.flow_check.specs.declared.labelling.Node.{Node}
 
 abbrev pub weight : Val → ℕ
 weight (Known v) = 0
@@ -24,8 +25,7 @@ abbrev pub weight_of : List Point → ℕ
 weight_of [] = 0
 weight_of (x ∷ xs) = suc (weight_label x.label + weight_of xs)
 
--- 1 where a mark is true
-abbrev pub has_mark : List Bool → ℕ
+-- 1 where one changed
+abbrev pub has_mark : List Node → ℕ
 has_mark [] = 0
-has_mark (true ∷ bs) = 1
-has_mark (false ∷ bs) = has_mark bs
+has_mark (n ∷ ns) = cond n.changed 1 (has_mark ns)

@@ -1,4 +1,4 @@
-use Rattle.std.proofs.Common.{◌≡◌, ◌∙◌, ◌++◌, ◌∷◌, [], ap, sym, subst, refl}
+use Rattle.std.proofs.Common.{◌∙◌, ◌++◌, ◌∷◌, [], ap, sym, subst, refl}
 use Rattle.flow_rule.specs.Rounds.{Point, given_by}
 use Rattle.flow_check.specs.internal.Points.{list_of, addrs_of, point_of}
 use Rattle.flow_check.specs.internal.Programs.{flow, base_flow, flow_at}

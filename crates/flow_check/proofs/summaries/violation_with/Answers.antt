@@ -1,5 +1,4 @@
 use Rattle.std.proofs.Common.{◌∙◌, ap, sym}
-use Rattle.flow_rule.specs.Rounds.{Point}
 use Rattle.flow_check.specs.internal.Points.{point_at, point_of}
 use Rattle.flow_check.specs.internal.Programs.{base_flow}
 use Rattle.flow_check.specs.internal.Violations.{noted}

@@ -7,4 +7,4 @@ use Rattle.flow_check.proofs.verdict.least_of.Given as goal
 
 abbrev pub invariant-loop-i : goal.invariant-loop-i
 invariant-loop-i l =
-    noted (all_reasons (flow l.program) (points_of l.all.points.items)) None ≡ noted (all_reasons (flow l.program) (points_of (drop l.i l.all.points.items))) l.least
+    noted (all_reasons (flow l.program) (points_of l.all)) None ≡ noted (all_reasons (flow l.program) (points_of (drop l.i l.all))) l.least

@@ -1,11 +1,26 @@
-use Rattle.std.proofs.Common.{sym, subst}
-use Rattle.flow_check.specs.internal.Marks.{Kept}
-use Rattle.flow_check.specs.internal.Points.{points_of}
-use Rattle.flow_check.proofs.Taking.{kept_rise}
+use Rattle.std.proofs.Common.{◌≡◌, ◌∙◌, ap, sym, subst, true}
+use Rattle.flow_rule.specs.Rounds.{join_in}
+use Rattle.flow_check.specs.internal.Points.{pair_of, point_at, points_of}
+use Rattle.flow_check.specs.internal.Labellings.{same_at}
+use Rattle.flow_check.proofs.Labellings.{joins_rise, distinct_rise}
 use Rattle.flow_check.proofs.labelling.Labelling.rise.Goals as goal
 
-pub returns-then-raise-clause-kept : goal.returns-then-raise-clause-kept
-returns-then-raise-clause-kept c = λ xs k.
-    let s = c.args.self.now in
-    subst (λ m. Kept m xs (points_of c.raise.new.points.items)) (sym c.set.ensures)
-    (kept_rise s.marks xs s.points.items c.raise.new.points.items c.args.at c.args.state.now c.requires c.raise.ensures.points (c.raise.ensures.rises c.if-raise.true) k)
+pub returns-then-raise-clause-joined : goal.returns-then-raise-clause-joined
+returns-then-raise-clause-joined c =
+    let p = c.args.point.now in
+    let there = subst (λ ns. same_at (pair_of p) ns c.args.at ≡ true) (sym c.self.view_is) c.requires in
+    joins_rise p c.self.inside.nodes.items c.args.at c.self.invariant.0 there (points_of c.raise.new.nodes.items) c.raise.ensures.points ∙ ap (λ ns. join_in (point_at p) (points_of ns)) c.self.view_is
+
+pub returns-else-raise-clause-joined : goal.returns-else-raise-clause-joined
+returns-else-raise-clause-joined c =
+    let p = c.args.point.now in
+    let there = subst (λ ns. same_at (pair_of p) ns c.args.at ≡ true) (sym c.self.view_is) c.requires in
+    joins_rise p c.self.inside.nodes.items c.args.at c.self.invariant.0 there (points_of c.raise.new.nodes.items) c.raise.ensures.points ∙ ap (λ ns. join_in (point_at p) (points_of ns)) c.self.view_is
+
+pub invariant_of-self : goal.invariant_of-self
+invariant_of-self c =
+    let ns = c.self.inside.nodes.items in
+    let there = subst (λ ns. same_at (pair_of c.args.point.now) ns c.args.at ≡ true) (sym c.self.view_is) c.requires in (
+      distinct_rise c.args.point.now ns c.args.at c.self.invariant.0 there (points_of c.raise.new.nodes.items) c.raise.ensures.points,
+      c.cover.ensures ns c.raise.new.nodes.items c.raise.ensures.marks c.self.invariant.1,
+    )
