@@ -1,11 +1,12 @@
 #!/usr/bin/env python3
-"""Random texts that `sancus check` accepts, or `sancus balance` with certificates of their branches on secrets: by `sancus lone` two data
-give the same registers in the same cycles, and by `sancus image` two images that differ in the module's data alone give the same trace on a
-random schedule.
+"""Random texts that `sancus check` accepts, or `sancus balance` with certificates of their branches on secrets: by
+`sancus lone` two data give the same registers in the same cycles, and by `sancus image` two images that differ in the
+module's data alone give the same trace on a random schedule.
 
     python3 validate/flow.py PROGRAM [TEXTS] [SEED]
 
-PROGRAM is the built `sancus` (crates/sm_main/out/sm_main). Texts are drawn until TEXTS (1000) are accepted. Needs Python 3 alone.
+PROGRAM is the built `sancus` (crates/sm_main/out/sm_main). Texts are drawn until TEXTS (1000) are accepted. Needs
+Python 3 alone.
 """
 import random
 import sys
@@ -62,8 +63,10 @@ def instruction(rng):
 
 
 def branch(rng, start):
-    """A jump on a data word whose arms take equal cycles, and its certificate; now and then both are a cycle longer than it says."""
-    arms = [[two(rng.randrange(4, 16), register(rng), rng.randrange(2), 0, register(rng)) for _ in range(rng.randrange(5))] for _ in range(2)]
+    """A jump on a data word whose arms take equal cycles, and its certificate, which now and then says one too few."""
+    def some():
+        return [two(rng.randrange(4, 16), register(rng), rng.randrange(2), 0, register(rng)) for _ in range(rng.randrange(5))]
+    arms = some(), some()
     cycles = max(map(len, arms))
     one, other = (arm + [NOP] * (cycles - len(arm)) for arm in arms)
     words = [two(9, 2, 0, 1, register(rng)), data_word(rng)]
@@ -73,7 +76,7 @@ def branch(rng, start):
 
 
 def text_of(rng):
-    """Some instructions and branches, a few registers and perhaps the flags made known again, and a jump back; and the certificates."""
+    """Some instructions and branches, a few registers and perhaps the flags made known again, a jump back; certificates."""
     words, arms = [], ""
     for _ in range(rng.randint(1, 16)):
         if rng.randrange(8):
@@ -143,7 +146,7 @@ def main():
             wrong += [([f"{word:04x}" for word in words], told) for told in differ]
     for words, told in wrong[:10]:
         print(" ".join(words), told)
-    print(f"{tried} texts were drawn, {accepted} accepted, {certified} of them by certificates; their calls end: {ended}")
+    print(f"{tried} texts were drawn, {accepted} accepted, {certified} by certificates; their calls end: {ended}")
     print(f"{2 * accepted} cases, {len(wrong)} differences{', each explained' if not wrong else ''}")
     return 1 if wrong else 0
 

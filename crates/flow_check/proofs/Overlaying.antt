@@ -5,7 +5,7 @@ use Rattle.flow_rule.specs.declared.Val.{Val}
 use Rattle.flow_rule.specs.declared.Val.TheVariants.{Known, Public, Secret}
 use Rattle.flow_rule.specs.Values.{kept_val, put_val}
 use Rattle.flow_rule.specs.Arms.{blot, blot_core}
-use Rattle.flow_check.specs.internal.Overlays.{laid, overlay}
+use Rattle.flow_check.specs.internal.Summaries.{laid, overlay}
 
 over_set : (b c : List Val) (n : ℕ) (v : Val) → ((x : Val) → laid v x ≡ v) →
     overlay (set b n v) c ≡ set (overlay b c) n v

@@ -14,7 +14,7 @@ use Rattle.flow_rule.specs.Rounds.{Found, Point, Step, given_by}
 use Rattle.flow_rule.specs.Verdict.{flow_step}
 use Rattle.flow_rule.specs.Arms.{Walk, first_walk, second_walk, blot, blot_core}
 use Rattle.flow_rule.specs.Absorbs.{Absorbs, ArmsRest}
-use Rattle.flow_check.specs.internal.Overlays.{laid, overlay}
+use Rattle.flow_check.specs.internal.Summaries.{laid, overlay}
 use Rattle.flow_check.specs.declared.branch.BranchSite.{BranchSite}
 use Rattle.flow_check.specs.declared.summaries.Answer.TheVariants.{Open, Shut}
 use Rattle.flow_check.specs.declared.summaries.Summary.{Summary}

@@ -1,7 +1,6 @@
 pub mod Carries
 pub mod Points
 pub mod Violations
-pub mod Verdicts
 pub mod Stubs
 pub mod Weights
 pub mod Arms
@@ -9,4 +8,3 @@ pub mod Labellings
 pub mod Steps
 pub mod Summaries
 pub mod Programs
-pub mod Overlays

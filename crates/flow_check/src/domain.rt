@@ -10,9 +10,8 @@ ghost use Rattle.flow_check.specs.internal.Carries.{IsCarry};
 ghost use Rattle.flow_rule.specs.declared.Label.{Label};
 ghost use Rattle.flow_rule.specs.Rounds.{join_label, join_all};
 ghost use Rattle.flow_check.specs.internal.Weights.{weight_all, weight_label};
-ghost use Rattle.flow_check.specs.internal.Summaries.{blank};
+ghost use Rattle.flow_check.specs.internal.Summaries.{blank, laid, overlay};
 ghost use Rattle.flow_rule.specs.Absorbs.{Absorbs};
-ghost use Rattle.flow_check.specs.internal.Overlays.{laid, overlay};
 
 use flow_rule::{Label, Val};
 use sm_words::Width;

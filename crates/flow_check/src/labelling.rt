@@ -4,7 +4,8 @@ ghost use Rattle.std.specs.Prelude.{◌≡◌, ◌≤◌, ◌<◌, ◌+◌, ◌*
 ghost use Rattle.std.specs.Prelude.{List, Bool, IfSome, IfOk, Some, None, slice_get, slice_set};
 ghost use Rattle.flow_rule.specs.declared.Label.{Label};
 ghost use Rattle.flow_rule.specs.Rounds.{join_in, join_all, Point as RulePoint, Step};
-ghost use Rattle.flow_check.specs.internal.Points.{fronts_of, pair_of, list_of, label_at, points_at, point_at, points_of};
+ghost use Rattle.flow_check.specs.internal.Points.{fronts_of, pair_of, list_of, label_at, points_at};
+ghost use Rattle.flow_check.specs.internal.Points.{point_at, points_of};
 ghost use Rattle.flow_check.specs.internal.Labellings.{mark_at, flagged, flagged_from, same_at, Covered, Kept, NoMark};
 ghost use Rattle.flow_check.specs.internal.Labellings.{Reached, StillKept, MarksOne, joined};
 

@@ -8,8 +8,8 @@ ghost use Rattle.cpu_step.specs.Effect.{in_memory, value_of, two_result, one_res
 ghost use Rattle.flow_rule.specs.Values.{over, over_one, over_two};
 ghost use Rattle.flow_rule.specs.Does.{reads_carry, sets_flags, read_if, flags_if, worked, two_val, one_reads_carry};
 ghost use Rattle.flow_rule.specs.Does.{one_sets_flags, one_val, set_flags_by, given_val, after_val};
-ghost use Rattle.flow_rule.specs.Does.{into_register_val, written_val, clears, clears_flags, cleared_core, cleared_if, carry_val};
-ghost use Rattle.flow_rule.specs.Does.{one_done_val, does_val};
+ghost use Rattle.flow_rule.specs.Does.{into_register_val, written_val, clears, clears_flags, cleared_core};
+ghost use Rattle.flow_rule.specs.Does.{cleared_if, carry_val, one_done_val, does_val};
 ghost use Rattle.flow_check.specs.internal.Carries.{IsCarry};
 
 use crate::accesses::{increment, lower, reads_destination, step_past, writes_destination};

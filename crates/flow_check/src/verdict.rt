@@ -5,10 +5,9 @@ ghost use Rattle.std.specs.Prelude.{IfOk, None};
 ghost use Rattle.flow_rule.specs.declared.Label.{Label};
 ghost use Rattle.flow_rule.specs.Rounds.{all_reasons, Point, IsLabelling};
 ghost use Rattle.flow_rule.specs.Verdict.{Decided};
-ghost use Rattle.flow_check.specs.internal.Verdicts.{verdict_of};
+ghost use Rattle.flow_check.specs.internal.Violations.{verdict_of, noted};
 ghost use Rattle.flow_check.specs.internal.Points.{points_of};
 ghost use Rattle.flow_check.specs.internal.Programs.{flow, AreSummaries};
-ghost use Rattle.flow_check.specs.internal.Violations.{noted};
 
 use crate::labelling::{Changed, Labelling};
 use crate::program::Program;

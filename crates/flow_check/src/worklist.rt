@@ -64,12 +64,12 @@ pub fn iterate(
 ) -> Result<bool, AllocError>
     requires summaries { AreSummaries program.now summaries.old.list.items }
     requires clear { NoMark all.old }
-    ensures joined { IfOk result (λ many. many ≡ false → points_of all.new ≡ join_all (given (flow program.now) (fronts_of front.now))
-        (points_of all.old)) }
+    ensures joined { IfOk result (λ many. many ≡ false → points_of all.new
+        ≡ join_all (given (flow program.now) (fronts_of front.now)) (points_of all.old)) }
     ensures kept { IfOk result (λ _. Kept (points_of all.old) all.new) }
     ensures few { IfOk result (λ many. many ≡ false → length all.new ≤ 16384) }
-    ensures many { IfOk result (λ many. many ≡ true → 16384 < length (join_all (given (flow program.now) (fronts_of front.now))
-        (points_of all.old))) }
+    ensures many { IfOk result (λ many. many ≡ true → 16384
+        < length (join_all (given (flow program.now) (fronts_of front.now)) (points_of all.old))) }
     ensures summaries { IfOk result (λ _. AreSummaries program.now summaries.new.list.items) }
 {
     for changed in front {

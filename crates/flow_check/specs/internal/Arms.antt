@@ -32,7 +32,8 @@ site_from (Some arm) insn target = Some (record { insn = insn; target = target; 
 -- a conditional jump with Secret flags whose address is a branch of the certificates
 abbrev pub site_by : Option Insn → List Arm → ℕ → Val → Option BranchSite
 site_by (Some (Jump c off)) arms pc flags =
-    if not (c == 7) && is_secret flags then site_from (find_arm arms pc) (Jump c off) (add16 (add16 pc 2) (distance off)) else None
+    if not (c == 7) && is_secret flags then site_from (find_arm arms pc) (Jump c off) (add16 (add16 pc 2) (distance off))
+    else None
 site_by insn arms pc flags = None
 
 -- a step by the certificate, where there is one

@@ -1,5 +1,6 @@
 -- What is true of a labelling: no program point stands twice, and which states changed.
-use Rattle.std.specs.Prelude.{◌≡◌, ◌⊎◌, ◌<◌, ◌/◌, ◌%◌, ℕ, List, [], ◌∷◌, drop, get_or, slice_get, cond, Bool, true, false, Option, Some, None, AllPairs}
+use Rattle.std.specs.Prelude.{◌≡◌, ◌⊎◌, ◌<◌, ◌/◌, ◌%◌, ℕ, List, [], ◌∷◌, drop, get_or, slice_get, cond, AllPairs}
+use Rattle.std.specs.Prelude.{Bool, true, false, Option, Some, None}
 use Rattle.flow_rule.specs.declared.Label.{Label}
 use Rattle.flow_rule.specs.Absorbs.{Absorbs}
 use Rattle.flow_rule.specs.Rounds.{Pair, Point, Step, same_pair, join_label, given_by, rounds}
@@ -75,7 +76,8 @@ abbrev pub Kept : List Point → List Node → Type 0
 Kept [] [] = Unit {0}
 Kept [] (n ∷ ns) = (n.changed ≡ true) × Kept [] ns
 Kept (x ∷ xs) [] = ⊥
-Kept (x ∷ xs) (n ∷ ns) = (n.changed ≡ false → point_at n.point ≡ x) × (n.changed ≡ true → weight_label x.label < weight_label n.point.state) × Kept xs ns
+Kept (x ∷ xs) (n ∷ ns) =
+    (n.changed ≡ false → point_at n.point ≡ x) × (n.changed ≡ true → weight_label x.label < weight_label n.point.state) × Kept xs ns
 
 -- what was kept until one labelling is kept until the next
 abbrev pub StillKept : List Node → List Node → Type 0

@@ -32,7 +32,8 @@ label_at a l = record { core = slice_set l.core 0 (Known a); words = l.words }
 -- points at these addresses, with one list of return addresses and one state but for PC
 abbrev pub points_at : List ℕ → List ℕ → Label → List Point
 points_at [] rs l = []
-points_at (a ∷ more) rs l = record { pair = record { addr = a; returns = rs }; label = label_at a l } ∷ points_at more rs l
+points_at (a ∷ more) rs l =
+    record { pair = record { addr = a; returns = rs }; label = label_at a l } ∷ points_at more rs l
 
 -- the point of the rule that a point stands for
 abbrev pub point_at : CodePoint → Point

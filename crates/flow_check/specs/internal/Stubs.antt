@@ -1,5 +1,6 @@
 -- What makes a stub, in the code's parts.
-use Rattle.std.specs.Prelude.{◌≡◌, ◌≤◌, Option, Some, None, slice_set, true, false, ℕ, ◌+◌, ◌*◌, ◌%◌, ◌==◌, nat_le, nat_lt, Bool, ◌&&◌, List}
+use Rattle.std.specs.Prelude.{◌≡◌, ◌≤◌, ℕ, ◌+◌, ◌*◌, ◌%◌, ◌==◌, nat_le, nat_lt, ◌&&◌, Bool, true, false}
+use Rattle.std.specs.Prelude.{List, slice_set, Option, Some, None}
 use Rattle.mod_layout.specs.declared.Module.{Module}
 use Rattle.mod_layout.specs.Table.{size_of}
 use Rattle.flow_rule.specs.declared.Val.{Val}
@@ -10,11 +11,14 @@ use Rattle.flow_rule.specs.Verdict.{no_secret}
 
 -- the sizes and the stack's end
 abbrev pub fits_of : Module → ℕ → ℕ → Bool
-fits_of m n p = nat_le (76 + 2 * n) (size_of m.text) && nat_le 1 n && nat_le n 64 && nat_le (m.ram.start + 4) p && (p % 2 == 0) && nat_le p m.ram.end
+fits_of m n p =
+    nat_le (76 + 2 * n) (size_of m.text) && nat_le 1 n && nat_le n 64 && nat_le (m.ram.start + 4) p && (p % 2 == 0)
+    && nat_le p m.ram.end
 
 -- one address of the table
 abbrev pub entry_fine : Module → List ℕ → ℕ → ℕ → Bool
-entry_fine m text n k = (word_of m text (38 + k) % 2 == 0) && nat_le (m.text.start + 76 + 2 * n) (word_of m text (38 + k)) && nat_lt (word_of m text (38 + k)) m.text.end
+entry_fine m text n k =
+    let a = word_of m text (38 + k) in (a % 2 == 0) && nat_le (m.text.start + 76 + 2 * n) a && nat_lt a m.text.end
 
 -- the registers at the start
 abbrev pub first_core : Bool → ℕ → List Val

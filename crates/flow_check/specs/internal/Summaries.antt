@@ -1,7 +1,8 @@
 -- One walk along the arms of a branch serves many states.
-use Rattle.std.specs.Prelude.{◌≡◌, ◌≢◌, ℕ, List, [], ◌++◌, replicate}
+use Rattle.std.specs.Prelude.{◌≡◌, ◌≢◌, ℕ, List, [], ◌∷◌, ◌++◌, replicate}
 use Rattle.mod_layout.specs.declared.Module.{Module}
 use Rattle.flow_rule.specs.declared.Label.{Label}
+use Rattle.flow_rule.specs.declared.Val.{Val}
 use Rattle.flow_rule.specs.declared.Val.TheVariants.{Public}
 use Rattle.flow_rule.specs.Rounds.{Point, Step}
 use Rattle.flow_rule.specs.Arms.{blot, blot_core, first_walk, second_walk, step_arm}
@@ -25,6 +26,16 @@ clobbered m text c x l =
 -- nothing is written
 abbrev pub blank : Label
 blank = record { core = replicate 16 Public; words = replicate 256 Public }
+
+-- through a Public of the first value the second is seen
+abbrev pub laid : Val → Val → Val
+laid Public v = v
+laid b v = b
+
+-- what was written into a blank label, each value Public, laid over another label's values
+abbrev pub overlay : List Val → List Val → List Val
+overlay (b ∷ bs) (v ∷ vs) = laid b v ∷ overlay bs vs
+overlay _ _ = []
 
 -- a branch under a state
 abbrev pub branch_from : ℕ → List ℕ → Label → Point

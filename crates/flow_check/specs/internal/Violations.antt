@@ -1,15 +1,20 @@
 -- The order of violations.
-use Rattle.std.specs.Prelude.{ℕ, zero, suc, ◌+◌, ◌==◌, ◌&&◌, ◌||◌, nat_lt, Option, Some, None, Bool, true, false, List, [], ◌∷◌, ◌++◌}
+use Rattle.std.specs.Prelude.{ℕ, zero, suc, ◌+◌, ◌==◌, ◌&&◌, ◌||◌, nat_lt, Bool, true, false}
+use Rattle.std.specs.Prelude.{List, [], ◌∷◌, ◌++◌, Option, Some, None}
 use Rattle.flow_rule.specs.Rounds.{Found}
 use Rattle.mod_layout.specs.declared.Module.{Module}
 use Rattle.flow_rule.specs.declared.Reason.TheVariants.{UnknownTarget}
+use Rattle.flow_rule.specs.declared.Verdict.{Verdict}
+use Rattle.flow_rule.specs.declared.Verdict.TheVariants.{Yes, No}
 use Rattle.flow_rule.specs.Reasons.{number_of, because_if}
 use Rattle.flow_rule.specs.Stub.{is_shut, word_number, word_of}
 use Rattle.flow_check.specs.declared.violation.Violation.{Violation}
 
 -- first by the address, then by the reason's number, then by the value
 abbrev pub before : Violation → Violation → Bool
-before c old = nat_lt c.addr old.addr || ((c.addr == old.addr) && (nat_lt (number_of c.reason) (number_of old.reason) || ((number_of c.reason == number_of old.reason) && nat_lt c.value old.value)))
+before c old =
+    nat_lt c.addr old.addr || ((c.addr == old.addr) && (nat_lt (number_of c.reason) (number_of old.reason)
+    || ((number_of c.reason == number_of old.reason) && nat_lt c.value old.value)))
 
 abbrev pub lesser_if : Bool → Violation → Violation → Option Violation
 lesser_if true c old = Some c
@@ -38,3 +43,11 @@ shut_at m pc (a ∷ more) = because_if (is_shut (word_number m a)) pc UnknownTar
 abbrev pub entry_addrs : Module → List ℕ → ℕ → List ℕ
 entry_addrs m text zero = []
 entry_addrs m text (suc n) = word_of m text (38 + n) ∷ entry_addrs m text n
+
+-- the reason that a violation stands for
+abbrev pub found : Violation → Found
+found c = record { addr = c.addr; why = c.reason; value = c.value }
+
+abbrev pub verdict_of : Option Violation → Verdict
+verdict_of None = Yes
+verdict_of (Some c) = No c.addr c.reason c.value

@@ -1,5 +1,5 @@
 use Rattle.std.proofs.Common.{◌≡◌, ◌++◌, length, take, drop}
-use Rattle.flow_check.specs.internal.Overlays.{overlay}
+use Rattle.flow_check.specs.internal.Summaries.{overlay}
 use Rattle.flow_check.proofs.domain.overlay.Given as goal
 
 abbrev pub invariant-loop-i : goal.invariant-loop-i
