@@ -1,4 +1,3 @@
-pub mod LinksImage
 pub mod Objects
 pub mod Symbols
 pub mod OneContent

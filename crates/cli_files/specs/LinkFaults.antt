@@ -3,10 +3,10 @@ use Rattle.std.specs.Prelude.{List, [], ◌∷◌, ℕ, ◌++◌, codes}
 use Rattle.std.specs.Fmt.{decimal, signed_decimal}
 use Rattle.reloc_apply.specs.declared.RelocFault.{RelocFault}
 use Rattle.reloc_apply.specs.declared.RelocFault.TheVariants as reloc_fault
-use Rattle.linker.specs.declared.fault.Region.{Region}
-use Rattle.linker.specs.declared.fault.Region.TheVariants as region
-use Rattle.linker.specs.declared.fault.LinkFault.{LinkFault}
-use Rattle.linker.specs.declared.fault.LinkFault.TheVariants as link_fault
+use Rattle.link_symbols.specs.declared.fault.Region.{Region}
+use Rattle.link_symbols.specs.declared.fault.Region.TheVariants as region
+use Rattle.link_symbols.specs.declared.fault.LinkFault.{LinkFault}
+use Rattle.link_symbols.specs.declared.fault.LinkFault.TheVariants as link_fault
 use Rattle.cli_files.specs.Faults.{with_numbers}
 
 abbrev pub reloc_fault_text : RelocFault → List ℕ

@@ -4,8 +4,8 @@ use Rattle.cli_files.specs.declared.answers.Status.{Status}
 use Rattle.cli_files.specs.declared.answers.Status.TheVariants as status
 use Rattle.cli_files.specs.declared.answers.Refusal.{Refusal}
 use Rattle.cli_files.specs.declared.answers.Refusal.TheVariants as refusal
-use Rattle.linker.specs.declared.fault.LinkFault.{LinkFault}
-use Rattle.linker.specs.declared.fault.LinkFault.TheVariants as link_fault
+use Rattle.link_symbols.specs.declared.fault.LinkFault.{LinkFault}
+use Rattle.link_symbols.specs.declared.fault.LinkFault.TheVariants as link_fault
 use Rattle.cli_files.specs.Faults.{fault_text}
 use Rattle.cli_files.specs.LinkFaults.{link_fault_text}
 

@@ -3,8 +3,8 @@ use Rattle.std.specs.Prelude.{ℕ, List, [], Option, Some, None, ◌==◌, ◌&&
 use Rattle.layout_file.specs.Values.{LayoutValue, ModuleValue, VectorValue}
 use Rattle.elf_objects.specs.Object.{ObjectValue}
 use Rattle.elf_objects.specs.declared.object.Symbol.{Symbol}
-use Rattle.linker.specs.declared.fault.LinkFault.{LinkFault}
-use Rattle.linker.specs.declared.fault.LinkFault.TheVariants as link_fault
+use Rattle.link_symbols.specs.declared.fault.LinkFault.{LinkFault}
+use Rattle.link_symbols.specs.declared.fault.LinkFault.TheVariants as link_fault
 
 -- the name of an object's symbol
 abbrev pub name_of_symbol : ObjectValue → Option Symbol → List ℕ

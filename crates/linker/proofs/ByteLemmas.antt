@@ -11,8 +11,8 @@ use Rattle.elf_objects.specs.Object.{ObjectValue}
 use Rattle.reloc_apply.specs.declared.RelocFault.{RelocFault}
 use Rattle.reloc_apply.proofs.FaultLemmas.{IsByte, HasBytes, keeps_bytes}
 use Rattle.layout_file.specs.Values.{VectorValue, ModuleValue, LayoutValue}
-use Rattle.linker.specs.Passes.{NumberedObject, numbered_objects, numbered_objects_from, part, fold_at}
-use Rattle.linker.specs.Parts.{is_loaded_head}
+use Rattle.link_symbols.specs.Passes.{NumberedObject, numbered_objects, numbered_objects_from, part, fold_at}
+use Rattle.link_symbols.specs.Parts.{is_loaded_head}
 use Rattle.linker.specs.Numbers.{Linking, numbers_in}
 use Rattle.linker.specs.Bytes.{put, bytes_at, word_bytes}
 use Rattle.linker.specs.Sections.{put_section_if, put_section, put_sections}

@@ -8,7 +8,7 @@ use Rattle.mod_layout.specs.Tables.{IsTable}
 use Rattle.mod_layout.proofs.TableLemmas.{table_more}
 use Rattle.layout_file.specs.Sound.{IsLayout}
 use Rattle.layout_file.specs.Values.{ModuleValue, LayoutValue}
-use Rattle.linker.specs.Passes.{fold_at}
+use Rattle.link_symbols.specs.Passes.{fold_at}
 use Rattle.linker.specs.Placement.{text_of, ram_of}
 use Rattle.linker.specs.internal.Tables.{Held}
 use Rattle.linker.specs.Image.{with_boot, with_boots, table_by}

@@ -8,14 +8,15 @@ use Rattle.elf_objects.specs.declared.object.SectionHead.{SectionHead}
 use Rattle.elf_objects.specs.Object.{ObjectValue}
 use Rattle.layout_file.specs.Sound.{IsLayout}
 use Rattle.layout_file.specs.Values.{ModuleValue, LayoutValue}
-use Rattle.linker.specs.declared.item.Item.{Item}
-use Rattle.linker.specs.declared.item.Part.{Part}
-use Rattle.linker.specs.Passes.{first_at, or_else, part}
-use Rattle.linker.specs.Parts.{part_at, code_part, data_part, part_in, part_of, item_of, is_loaded_head, items_in, section_items}
-use Rattle.linker.specs.Commons.{commons_of}
-use Rattle.linker.specs.Symbols.{symbols_of}
+use Rattle.link_symbols.specs.declared.item.Item.{Item}
+use Rattle.link_symbols.specs.declared.item.Part.{Part}
+use Rattle.link_symbols.specs.Passes.{first_at, or_else, part}
+use Rattle.link_symbols.specs.Parts.{part_at, code_part, data_part, part_in, part_of, item_of, is_loaded_head, items_in, section_items}
+use Rattle.link_symbols.specs.Commons.{commons_of}
+use Rattle.link_symbols.specs.Symbols.{symbols_of}
 use Rattle.linker.specs.internal.Placed.{AreIn, IsInBy}
-use Rattle.linker.specs.Placement.{items_of, starts_of, module_starts}
+use Rattle.link_symbols.specs.Resolved.{items_of}
+use Rattle.linker.specs.Placement.{starts_of, module_starts}
 use Rattle.linker.specs.Numbers.{end_in}
 use Rattle.linker.specs.Refusals.{overfull}
 use Rattle.linker.proofs.BoundLemmas.{ends_within}

@@ -3,9 +3,9 @@ use Rattle.std.proofs.Common.{◌≡◌, ◌≢◌, ◌⊎◌, inl, inr, ℕ, ze
 use Rattle.std.specs.Prelude.{slice_index}
 use Rattle.std.proofs.lemmas.Bool.{cases_lt}
 use Rattle.std.proofs.lemmas.Nat.{mod-mul-add}
-use Rattle.linker.specs.declared.item.Item.{Item}
-use Rattle.linker.specs.declared.item.Part.{Part}
-use Rattle.linker.specs.Commons.{some_item}
+use Rattle.link_symbols.specs.declared.item.Item.{Item}
+use Rattle.link_symbols.specs.declared.item.Part.{Part}
+use Rattle.link_symbols.specs.Commons.{some_item}
 use Rattle.linker.specs.Placement.{item_at, filled_end, address_at, end_of, place_in, goes_to}
 use Rattle.linker.specs.internal.Placed.{start_of}
 use Rattle.linker.proofs.BoundLemmas.{end_above, start_up, end_within, round_up_above, up_to_3}

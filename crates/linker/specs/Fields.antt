@@ -4,11 +4,11 @@ use Rattle.elf_objects.specs.declared.object.SectionHead.{SectionHead}
 use Rattle.elf_objects.specs.declared.object.Relocation.{Relocation}
 use Rattle.reloc_apply.specs.declared.RelocFault.{RelocFault}
 use Rattle.reloc_apply.specs.Fields.{relocated}
-use Rattle.linker.specs.declared.fault.LinkFault.{LinkFault}
-use Rattle.linker.specs.Passes.{first_in, NumberedObject}
+use Rattle.link_symbols.specs.declared.fault.LinkFault.{LinkFault}
+use Rattle.link_symbols.specs.Passes.{first_in, NumberedObject}
 use Rattle.linker.specs.Numbers.{Linking, numbers_in}
 use Rattle.linker.specs.Bytes.{put, bytes_at}
-use Rattle.linker.specs.declared.fault.LinkFault.TheVariants as fault
+use Rattle.link_symbols.specs.declared.fault.LinkFault.TheVariants as fault
 
 abbrev pub size_by : Option SectionHead → ℕ
 size_by None = 0

@@ -1,13 +1,14 @@
 -- The linked image: zeros, then the sections, the fields of their relocations in order, the stubs and the vectors.
-use Rattle.std.specs.Prelude.{ℕ, ◌≡◌, List, ◌==◌, if◌then◌else◌, fold, replicate}
+use Rattle.std.specs.Prelude.{ℕ, ◌≡◌, List, None, ◌==◌, if◌then◌else◌, fold, replicate}
 use Rattle.elf_objects.specs.Object.{ObjectValue}
 use Rattle.layout_file.specs.Values.{ModuleValue, LayoutValue}
 use Rattle.std.specs.List.{range_with_len}
 use Rattle.mod_layout.specs.Table.{Table, with_module, empty_table}
 use Rattle.image_text.specs.Image.{Image}
-use Rattle.linker.specs.Passes.{fold_at, numbered_objects}
+use Rattle.link_symbols.specs.Passes.{fold_at, numbered_objects}
 use Rattle.linker.specs.Placement.{text_of, ram_of}
 use Rattle.linker.specs.Numbers.{Linking, linking_of, end_in}
+use Rattle.linker.specs.Refusals.{link_fault_of}
 use Rattle.linker.specs.Sections.{put_sections}
 use Rattle.linker.specs.Fields.{put_fields}
 use Rattle.linker.specs.Stubs.{put_stub, put_vector}
@@ -40,13 +41,11 @@ table_by end layout = fold (with_boots end layout.modules) (empty_table layout.r
 unfoldable pub linked_table : LayoutValue → List ObjectValue → Table
 linked_table layout objects = table_by (end_in layout objects) layout
 
--- the image is the linked one
-pub record Links (layout : LayoutValue) (objects : List ObjectValue) (image : Image) : Type 0 where
-  pub memory : image.memory ≡ linked_memory layout objects
-  pub table : image.table ≡ linked_table layout objects
-  pub key : image.node_key ≡ layout.key
-  pub handler : image.handler_sp ≡ layout.handler_sp
-
--- which is this one
+-- the image that objects link to
 unfoldable pub linked_image : LayoutValue → List ObjectValue → Image
 linked_image layout objects = record { memory = linked_memory layout objects; table = linked_table layout objects; node_key = layout.key; handler_sp = layout.handler_sp }
+
+-- nothing is refused, and the image is that one
+pub record Links (layout : LayoutValue) (objects : List ObjectValue) (image : Image) : Type 0 where
+  pub unrefused : link_fault_of layout objects ≡ None
+  pub linked : image ≡ linked_image layout objects

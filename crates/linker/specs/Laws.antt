@@ -10,10 +10,10 @@ use Rattle.linker.specs.Refusals.{link_fault_of}
 abbrev pub AreBytes : List ℕ → Type 0
 AreBytes bytes = All (λ b. b < 256) bytes
 
--- Where objects link, each image that they link to keeps what images keep, for any number of objects of any size.
+-- Each image that objects link to keeps what images keep, for any number of objects of any size.
 abbrev pub LinksIsImage : Type 0
 LinksIsImage = (layout : LayoutValue) (objects : List ObjectValue) (image : Image) → IsLayout layout → AreBytes layout.key →
-    All IsObject objects → All (λ o. AreBytes o.file) objects → link_fault_of layout objects ≡ None → Links layout objects image → IsImage image
+    All IsObject objects → All (λ o. AreBytes o.file) objects → Links layout objects image → IsImage image
 
 -- So does the one that is defined.
 abbrev pub LinkedIsImage : Type 0

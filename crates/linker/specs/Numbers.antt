@@ -3,12 +3,13 @@ use Rattle.std.specs.Prelude.{ℕ, ◌+◌, List, Option, Some, None}
 use Rattle.elf_objects.specs.Object.{ObjectValue}
 use Rattle.elf_objects.specs.declared.object.Symbol.{Symbol}
 use Rattle.layout_file.specs.Values.{LayoutValue}
-use Rattle.linker.specs.declared.symbol.Meaning.{Meaning}
-use Rattle.linker.specs.Passes.{map_at, NumberedObject}
-use Rattle.linker.specs.Symbols.{symbol_of}
-use Rattle.linker.specs.Names.{stands_for, symbol_meaning}
-use Rattle.linker.specs.Placement.{items_of, starts_of, filled_end, address_at}
-use Rattle.linker.specs.declared.symbol.Meaning.TheVariants as meaning
+use Rattle.link_symbols.specs.declared.symbol.Meaning.{Meaning}
+use Rattle.link_symbols.specs.Passes.{map_at, NumberedObject}
+use Rattle.link_symbols.specs.Symbols.{symbol_of}
+use Rattle.link_symbols.specs.Names.{stands_for, symbol_meaning}
+use Rattle.link_symbols.specs.Resolved.{items_of}
+use Rattle.linker.specs.Placement.{starts_of, filled_end, address_at}
+use Rattle.link_symbols.specs.declared.symbol.Meaning.TheVariants as meaning
 
 -- a number, or an address and an offset
 abbrev pub number_of : (ℕ → ℕ) → Meaning → ℕ

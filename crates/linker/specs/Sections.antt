@@ -1,8 +1,8 @@
 -- Loaded sections in a memory.
 use Rattle.std.specs.Prelude.{ℕ, ◌+◌, List, Bool, true, false}
 use Rattle.elf_objects.specs.declared.object.SectionHead.{SectionHead}
-use Rattle.linker.specs.Passes.{fold_at, NumberedObject, part}
-use Rattle.linker.specs.Parts.{is_loaded_head}
+use Rattle.link_symbols.specs.Passes.{fold_at, NumberedObject, part}
+use Rattle.link_symbols.specs.Parts.{is_loaded_head}
 use Rattle.linker.specs.Bytes.{put}
 
 abbrev pub put_section_if : Bool → (ℕ → ℕ) → NumberedObject → List ℕ → ℕ → SectionHead → List ℕ

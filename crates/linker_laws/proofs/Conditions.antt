@@ -12,24 +12,27 @@ use Rattle.layout_file.specs.Values.{VectorValue, ModuleValue, LayoutValue}
 use Rattle.reloc_apply.specs.declared.RelocFault.{RelocFault}
 use Rattle.reloc_apply.specs.Applies.{Applies}
 use Rattle.reloc_apply.proofs.AppliesLemmas.{ok_applies, applies_ok}
-use Rattle.linker.specs.declared.fault.LinkFault.{LinkFault}
-use Rattle.linker.specs.declared.fault.LinkFault.TheVariants as fault
-use Rattle.linker.specs.declared.fault.Region.{Region}
-use Rattle.linker.specs.declared.fault.Region.TheVariants as region
-use Rattle.linker.specs.declared.item.Item.{Item}
-use Rattle.linker.specs.declared.item.Part.{Part}
-use Rattle.linker.specs.declared.symbol.Meaning.{Meaning}
-use Rattle.linker.specs.declared.symbol.Meaning.TheVariants as meaning
+use Rattle.link_symbols.specs.declared.fault.LinkFault.{LinkFault}
+use Rattle.link_symbols.specs.declared.fault.LinkFault.TheVariants as fault
+use Rattle.link_symbols.specs.declared.fault.Region.{Region}
+use Rattle.link_symbols.specs.declared.fault.Region.TheVariants as region
+use Rattle.link_symbols.specs.declared.item.Item.{Item}
+use Rattle.link_symbols.specs.declared.item.Part.{Part}
+use Rattle.link_symbols.specs.declared.symbol.Meaning.{Meaning}
+use Rattle.link_symbols.specs.declared.symbol.Meaning.TheVariants as meaning
 use Rattle.mod_layout.specs.declared.Section.{Section}
-use Rattle.linker.specs.Passes.{NumberedObject, numbered_objects, first_in, refuse_if, part}
-use Rattle.linker.specs.Parts.{is_loaded_head, code_part, part_of, item_of}
-use Rattle.linker.specs.Symbols.{symbol_of, symbols_of}
-use Rattle.linker.specs.Names.{stands_for, symbol_meaning}
-use Rattle.linker.specs.Placement.{items_of, item_at, text_of, ram_of}
+use Rattle.link_symbols.specs.Passes.{NumberedObject, numbered_objects, first_in, refuse_if, part}
+use Rattle.link_symbols.specs.Parts.{is_loaded_head, code_part, part_of, item_of}
+use Rattle.link_symbols.specs.Symbols.{symbol_of, symbols_of}
+use Rattle.link_symbols.specs.Names.{stands_for, symbol_meaning}
+use Rattle.link_symbols.specs.Resolved.{items_of}
+use Rattle.linker.specs.Placement.{item_at, text_of, ram_of}
 use Rattle.linker.specs.Numbers.{Linking, linking_of, numbers_in, end_in}
 use Rattle.linker.specs.Fields.{target_address, target_size, sum_of, reloc_fault, reloc_fault_by, reloc_fault_in}
-use Rattle.linker.specs.Refusals.{no_place, no_place_at, no_place_in, is_used, undefined, undefined_at, undefined_in, no_vector, no_vector_at, no_entry, no_entry_at, no_entry_in, is_code_of, is_entry, is_entry_in, elsewhere, elsewhere_at, elsewhere_in, overfull, overfull_at, overfull_in, link_fault_of}
-use Rattle.linker.proofs.BoundLemmas.{both_none, not_over}
+use Rattle.link_symbols.specs.Refusals.{no_place, no_place_at, no_place_in, is_used, undefined, undefined_at, undefined_in, no_vector, no_vector_at, no_entry, no_entry_at, no_entry_in, is_code_of, is_entry, is_entry_in, elsewhere, elsewhere_at, elsewhere_in, unresolved}
+use Rattle.linker.specs.Refusals.{overfull, overfull_at, overfull_in, link_fault_of}
+use Rattle.link_symbols.proofs.OrderLemmas.{both_none}
+use Rattle.linker.proofs.BoundLemmas.{not_over}
 use Rattle.linker_laws.specs.Conditions.{SectionsPlaced, UsedStand, VectorsStand, IsEntry, EntriesStand, ContentsFit, RelocationsApply, CanLink, LinksExactly}
 use Rattle.linker_laws.proofs.Searches.{or_none, in_none, none_in, at_none, none_at, refused_not, not_refused, some_is, is_some_by, got, gets}
 use Rattle.linker_laws.proofs.Strong.{duplicates, no_duplicates}
@@ -322,16 +325,17 @@ not_relocations l objects h = none_in (reloc_fault_in l) (numbered_objects objec
 
 pub can_link : (layout : LayoutValue) (objects : List ObjectValue) → link_fault_of layout objects ≡ None →
     CanLink layout objects
-unfolding link_fault_of
+unfolding link_fault_of unresolved
 can_link layout objects e =
     let names = stands_for objects in
-    let a = both_none _ _ e in
+    let all = both_none _ _ e in
+    let a = both_none _ _ all.0 in
     let b = both_none _ _ a.1 in
     let c = both_none _ _ b.1 in
     let d = both_none _ _ c.1 in
     let f = both_none _ _ d.1 in
     let g = both_none _ _ f.1 in
-    let h = both_none _ _ g.1 in
+    let h = both_none _ _ all.1 in
     record {
       sections_placed = placed layout.modules objects a.0;
       one_strong_each = no_duplicates (symbols_of objects) b.0;
@@ -344,17 +348,18 @@ can_link layout objects e =
 
 links : (layout : LayoutValue) (objects : List ObjectValue) → CanLink layout objects →
     link_fault_of layout objects ≡ None
-unfolding link_fault_of
+unfolding link_fault_of unresolved
 links layout objects h =
     let names = stands_for objects in
-    or_none _ _ (not_placed layout.modules objects h.sections_placed)
+    or_none _ _
+    (or_none _ _ (not_placed layout.modules objects h.sections_placed)
     (or_none _ _ (duplicates (symbols_of objects) h.one_strong_each)
     (or_none _ _ (not_undefined names objects h.used_stand)
     (or_none _ _ (not_vectors names layout.vectors h.vectors_stand)
     (or_none _ _ (no_entry_if names (items_of layout objects) layout.modules h.entries_stand)
-    (or_none _ _ (not_elsewhere names (items_of layout objects) layout.modules h.entries_stand)
+    (or_none _ _ (not_elsewhere names (items_of layout objects) layout.modules h.entries_stand) refl))))))
     (or_none _ _ (not_overfull layout (end_in layout objects) h.contents_fit)
-    (or_none _ _ (not_relocations (linking_of layout objects) objects h.relocations_apply) refl)))))))
+    (or_none _ _ (not_relocations (linking_of layout objects) objects h.relocations_apply) refl))
 
 pub links_exactly : LinksExactly
 links_exactly layout objects = (links layout objects, can_link layout objects)

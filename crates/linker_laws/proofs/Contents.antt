@@ -20,11 +20,12 @@ use Rattle.reloc_apply.specs.Fields.{row_of, width_of}
 use Rattle.reloc_apply.specs.Applies.{Applies, no_field, a_field, limit_by, number_by}
 use Rattle.reloc_apply.proofs.SetsLemmas.{width_within}
 use Rattle.reloc_apply.proofs.AppliesLemmas.{none_at_0}
-use Rattle.linker.specs.declared.item.Item.{Item}
-use Rattle.linker.specs.declared.item.Part.{Part}
-use Rattle.linker.specs.Passes.{NumberedObject, numbered_objects, part, fold_at}
-use Rattle.linker.specs.Parts.{is_loaded_head, item_of, part_of}
-use Rattle.linker.specs.Placement.{items_of, item_at, starts_of, address_at, stub_size, text_of}
+use Rattle.link_symbols.specs.declared.item.Item.{Item}
+use Rattle.link_symbols.specs.declared.item.Part.{Part}
+use Rattle.link_symbols.specs.Passes.{NumberedObject, numbered_objects, part, fold_at}
+use Rattle.link_symbols.specs.Parts.{is_loaded_head, item_of, part_of}
+use Rattle.link_symbols.specs.Resolved.{items_of}
+use Rattle.linker.specs.Placement.{item_at, starts_of, address_at, stub_size, text_of}
 use Rattle.linker.specs.Numbers.{Linking, linking_of, numbers_in, end_in}
 use Rattle.linker.specs.Bytes.{bytes_at, word_bytes}
 use Rattle.linker.specs.Sections.{put_sections}
@@ -508,25 +509,25 @@ of_image layout objects image P links h = subst P (sym (memory_is layout objects
 
 pub section_bytes_law : SectionBytes
 section_bytes_law layout objects image i x k s h n b out =
-    of_image layout objects image (λ m. slice_index m (section_address layout objects x k + n) ≡ slice_index x.object.file (s.bytes.start + n)) i.links (section_bytes layout objects i.layout_kept i.objects_kept i.unrefused x k s h n b out)
+    of_image layout objects image (λ m. slice_index m (section_address layout objects x k + n) ≡ slice_index x.object.file (s.bytes.start + n)) i.links (section_bytes layout objects i.layout_kept i.objects_kept i.links.unrefused x k s h n b out)
 
 pub field_numbers_law : FieldNumbers
 field_numbers_law layout objects image i n j x r f g apart =
     of_image layout objects image (λ m. little_number (width_of (row_of r.kind)) (drop (section_address layout objects x r.target + r.offset) m) % limit_by (row_of r.kind)
     ≡ number_by (row_of r.kind) ((section_address layout objects x r.target + r.offset) % 65536) (sum_of (numbers_in (linking_of layout objects) x) r)) i.links
-    (field_numbers layout objects i.layout_kept i.objects_kept i.unrefused n j x r f g apart)
+    (field_numbers layout objects i.layout_kept i.objects_kept i.links.unrefused n j x r f g apart)
 
 pub stub_bytes_law : StubBytes
 stub_bytes_law layout objects image i k m f =
-    of_image layout objects image (λ c. bytes_at c m.text.start (stub_size m) ≡ flat_map word_bytes (stub_of (linking_of layout objects) (end_in layout objects) k m)) i.links (stub_bytes layout objects i.layout_kept i.objects_kept i.unrefused k m f)
+    of_image layout objects image (λ c. bytes_at c m.text.start (stub_size m) ≡ flat_map word_bytes (stub_of (linking_of layout objects) (end_in layout objects) k m)) i.links (stub_bytes layout objects i.layout_kept i.objects_kept i.links.unrefused k m f)
 
 pub table_words_law : TableWords
 table_words_law layout objects image i j k m name f g =
-    of_image layout objects image (λ c. bytes_at c (m.text.start + 76 + 2 * k) 2 ≡ word_bytes (word_named (linking_of layout objects) name)) i.links (table_words layout objects i.layout_kept i.objects_kept i.unrefused j k m name f g)
+    of_image layout objects image (λ c. bytes_at c (m.text.start + 76 + 2 * k) 2 ≡ word_bytes (word_named (linking_of layout objects) name)) i.links (table_words layout objects i.layout_kept i.objects_kept i.links.unrefused j k m name f g)
 
 pub vector_words_law : VectorWords
 vector_words_law layout objects image i k v f =
-    of_image layout objects image (λ c. bytes_at c (65504 + 2 * v.vector) 2 ≡ word_bytes (word_named (linking_of layout objects) v.name)) i.links (vector_words layout objects i.layout_kept i.objects_kept i.unrefused k v f)
+    of_image layout objects image (λ c. bytes_at c (65504 + 2 * v.vector) 2 ≡ word_bytes (word_named (linking_of layout objects) v.name)) i.links (vector_words layout objects i.layout_kept i.objects_kept i.links.unrefused k v f)
 
 pub zero_elsewhere_law : ZeroElsewhere
-zero_elsewhere_law layout objects image i a none = of_image layout objects image (λ m. slice_index m a ≡ 0) i.links (zero_elsewhere layout objects i.layout_kept i.objects_kept i.unrefused a none)
+zero_elsewhere_law layout objects image i a none = of_image layout objects image (λ m. slice_index m a ≡ 0) i.links (zero_elsewhere layout objects i.layout_kept i.objects_kept i.links.unrefused a none)

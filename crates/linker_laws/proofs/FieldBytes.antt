@@ -8,7 +8,7 @@ use Rattle.reloc_apply.specs.declared.RelocFault.{RelocFault}
 use Rattle.reloc_apply.specs.Fields.{row_of, width_of, relocated, ChangesOnly}
 use Rattle.reloc_apply.specs.Applies.{Applies, limit_by, number_by, Sets}
 use Rattle.reloc_apply.proofs.SetsLemmas.{applies_sets, width_within}
-use Rattle.linker.specs.Passes.{NumberedObject}
+use Rattle.link_symbols.specs.Passes.{NumberedObject}
 use Rattle.linker.specs.Bytes.{put, bytes_at}
 use Rattle.linker.specs.Fields.{put_field, put_fields, with_field, or_same, target_address, target_size, sum_of}
 use Rattle.linker.specs.Numbers.{Linking, numbers_in}

@@ -6,12 +6,13 @@ use Rattle.std.proofs.lemmas.Option.{same_Some}
 use Rattle.elf_objects.specs.Object.{ObjectValue}
 use Rattle.elf_objects.specs.declared.object.SectionHead.{SectionHead}
 use Rattle.layout_file.specs.Values.{ModuleValue, LayoutValue}
-use Rattle.linker.specs.declared.item.Item.{Item}
-use Rattle.linker.specs.Passes.{NumberedObject, numbered_objects, numbered_objects_from}
-use Rattle.linker.specs.Parts.{items_in, section_items, item_of}
-use Rattle.linker.specs.Commons.{commons_of, common_item}
-use Rattle.linker.specs.Symbols.{symbols_of}
-use Rattle.linker.specs.Placement.{items_of, item_at}
+use Rattle.link_symbols.specs.declared.item.Item.{Item}
+use Rattle.link_symbols.specs.Passes.{NumberedObject, numbered_objects, numbered_objects_from}
+use Rattle.link_symbols.specs.Parts.{items_in, section_items, item_of}
+use Rattle.link_symbols.specs.Commons.{commons_of, common_item}
+use Rattle.link_symbols.specs.Symbols.{symbols_of}
+use Rattle.link_symbols.specs.Resolved.{items_of}
+use Rattle.linker.specs.Placement.{item_at}
 use Rattle.linker.proofs.FitLemmas.{item_here}
 
 first_from : (os : List ObjectValue) (number first k : ℕ) (y : NumberedObject) →

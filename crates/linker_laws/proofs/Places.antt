@@ -10,9 +10,10 @@ use Rattle.elf_objects.specs.Object.{ObjectValue}
 use Rattle.layout_file.specs.Overlaps.{ShareNoByte}
 use Rattle.layout_file.specs.Sound.{IsLayout}
 use Rattle.layout_file.specs.Values.{ModuleValue, LayoutValue, regions, regions_of}
-use Rattle.linker.specs.declared.item.Item.{Item}
-use Rattle.linker.specs.declared.item.Part.{Part}
-use Rattle.linker.specs.Placement.{items_of, item_at, starts_of, address_at, stub_size, round_up}
+use Rattle.link_symbols.specs.declared.item.Item.{Item}
+use Rattle.link_symbols.specs.declared.item.Part.{Part}
+use Rattle.link_symbols.specs.Resolved.{items_of}
+use Rattle.linker.specs.Placement.{item_at, starts_of, address_at, stub_size, round_up}
 use Rattle.linker.specs.Numbers.{end_in}
 use Rattle.linker.proofs.BoundLemmas.{round_up_above, region_by}
 use Rattle.linker.proofs.FitLemmas.{text_starts, ram_starts, first_two}

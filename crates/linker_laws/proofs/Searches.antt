@@ -1,8 +1,8 @@
 -- A search finds no refusal exactly where each element gives none.
 use Rattle.std.proofs.Common.{◌≡◌, ◌≢◌, ℕ, zero, suc, ◌+◌, ◌<◌, List, [], ◌∷◌, length, get_or, Option, Some, None, Bool, true, false, is_none, refl, ap, ◌∙◌, arith}
 use Rattle.std.specs.Prelude.{All, slice_get}
-use Rattle.linker.specs.Passes.{or_else, first_in, first_at, refuse_if}
-use Rattle.linker.proofs.BoundLemmas.{both_none}
+use Rattle.link_symbols.specs.Passes.{or_else, first_in, first_at, refuse_if}
+use Rattle.link_symbols.proofs.OrderLemmas.{both_none}
 
 pub or_none : {A : Type 0} (a b : Option A) → a ≡ None → b ≡ None → or_else a b ≡ None
 or_none None b e f = f

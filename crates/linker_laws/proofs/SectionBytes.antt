@@ -2,8 +2,8 @@
 use Rattle.std.proofs.Common.{◌≡◌, ℕ, zero, suc, ◌+◌, ◌-◌, ◌<◌, ◌≤◌, List, [], ◌∷◌, length, get_or, Bool, true, false, refl, ap, sym, ◌∙◌, subst, arith, fold}
 use Rattle.std.specs.Prelude.{slice_index}
 use Rattle.elf_objects.specs.declared.object.SectionHead.{SectionHead}
-use Rattle.linker.specs.Passes.{NumberedObject, part, fold_at}
-use Rattle.linker.specs.Parts.{is_loaded_head}
+use Rattle.link_symbols.specs.Passes.{NumberedObject, part, fold_at}
+use Rattle.link_symbols.specs.Parts.{is_loaded_head}
 use Rattle.linker.specs.Sections.{put_section_if, put_section, put_sections}
 use Rattle.linker.proofs.ClearLemmas.{part_size}
 use Rattle.linker_laws.proofs.Writes.{Out, out_less, put_long, put_out, put_in}

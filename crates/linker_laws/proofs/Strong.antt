@@ -8,15 +8,15 @@ use Rattle.std.proofs.lemmas.List.{get_or-append-add}
 use Rattle.std.proofs.lemmas.Slice.Eq.{bytes_eq-Decides}
 use Rattle.elf_objects.specs.declared.object.Binding.{Binding}
 use Rattle.elf_objects.specs.declared.object.Binding.TheVariants as binding
-use Rattle.linker.specs.declared.names.Definition.{Definition}
-use Rattle.linker.specs.declared.symbol.Meaning.{Meaning}
-use Rattle.linker.specs.declared.symbol.What.{What}
-use Rattle.linker.specs.declared.symbol.What.TheVariants as what
-use Rattle.linker.specs.Passes.{some_if}
-use Rattle.linker.specs.Symbols.{NamedValue}
-use Rattle.linker.specs.Definitions.{is_global, is_local, meaning_in, definition, definition_of, strong_by, strong_of, if_named}
-use Rattle.linker.specs.Refusals.{duplicate, duplicate_by, duplicate_of}
-use Rattle.linker.proofs.BoundLemmas.{both_none}
+use Rattle.link_symbols.specs.declared.names.Definition.{Definition}
+use Rattle.link_symbols.specs.declared.symbol.Meaning.{Meaning}
+use Rattle.link_symbols.specs.declared.symbol.What.{What}
+use Rattle.link_symbols.specs.declared.symbol.What.TheVariants as what
+use Rattle.link_symbols.specs.Passes.{some_if}
+use Rattle.link_symbols.specs.Symbols.{NamedValue}
+use Rattle.link_symbols.specs.Definitions.{is_global, is_local, meaning_in, definition, definition_of, strong_by, strong_of, if_named}
+use Rattle.link_symbols.specs.Refusals.{duplicate, duplicate_by, duplicate_of}
+use Rattle.link_symbols.proofs.OrderLemmas.{both_none}
 use Rattle.linker_laws.specs.Conditions.{IsStrong, OneStrongEach}
 use Rattle.linker_laws.proofs.Searches.{or_none, in_none, none_in}
 

@@ -3,7 +3,7 @@ use Rattle.std.proofs.Common.{◌≡◌, ℕ, zero, suc, ◌+◌, ◌*◌, ◌<�
 use Rattle.std.specs.Prelude.{All, slice_index}
 use Rattle.std.specs.List.{flat_map}
 use Rattle.layout_file.specs.Values.{VectorValue, ModuleValue}
-use Rattle.linker.specs.Passes.{fold_at}
+use Rattle.link_symbols.specs.Passes.{fold_at}
 use Rattle.linker.specs.Placement.{stub_size}
 use Rattle.linker.specs.Numbers.{Linking}
 use Rattle.linker.specs.Bytes.{word_bytes}

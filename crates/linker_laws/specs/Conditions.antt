@@ -4,15 +4,16 @@ use Rattle.elf_objects.specs.Object.{ObjectValue}
 use Rattle.elf_objects.specs.declared.object.Binding.TheVariants as binding
 use Rattle.layout_file.specs.Values.{VectorValue, ModuleValue, LayoutValue}
 use Rattle.reloc_apply.specs.Applies.{Applies}
-use Rattle.linker.specs.declared.item.Item.{Item}
-use Rattle.linker.specs.declared.symbol.Meaning.{Meaning}
-use Rattle.linker.specs.declared.symbol.Meaning.TheVariants as meaning
-use Rattle.linker.specs.declared.symbol.What.TheVariants as what
-use Rattle.linker.specs.Passes.{numbered_objects, part}
-use Rattle.linker.specs.Parts.{is_loaded_head, code_part, part_of}
-use Rattle.linker.specs.Symbols.{NamedValue, symbol_of, symbols_of}
-use Rattle.linker.specs.Names.{stands_for, symbol_meaning}
-use Rattle.linker.specs.Placement.{items_of, item_at, text_of, ram_of}
+use Rattle.link_symbols.specs.declared.item.Item.{Item}
+use Rattle.link_symbols.specs.declared.symbol.Meaning.{Meaning}
+use Rattle.link_symbols.specs.declared.symbol.Meaning.TheVariants as meaning
+use Rattle.link_symbols.specs.declared.symbol.What.TheVariants as what
+use Rattle.link_symbols.specs.Passes.{numbered_objects, part}
+use Rattle.link_symbols.specs.Parts.{is_loaded_head, code_part, part_of}
+use Rattle.link_symbols.specs.Symbols.{NamedValue, symbol_of, symbols_of}
+use Rattle.link_symbols.specs.Names.{stands_for, symbol_meaning}
+use Rattle.link_symbols.specs.Resolved.{items_of}
+use Rattle.linker.specs.Placement.{item_at, text_of, ram_of}
 use Rattle.linker.specs.Numbers.{Linking, linking_of, numbers_in, end_in}
 use Rattle.linker.specs.Fields.{target_address, target_size, sum_of}
 use Rattle.linker.specs.Refusals.{link_fault_of}

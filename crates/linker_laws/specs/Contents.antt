@@ -14,22 +14,21 @@ use Rattle.layout_file.specs.Sound.{IsLayout}
 use Rattle.layout_file.specs.Values.{VectorValue, ModuleValue, LayoutValue}
 use Rattle.reloc_apply.specs.Fields.{row_of, width_of}
 use Rattle.reloc_apply.specs.Applies.{limit_by, number_by}
-use Rattle.linker.specs.Passes.{NumberedObject, numbered_objects}
-use Rattle.linker.specs.Parts.{is_loaded_head}
-use Rattle.linker.specs.Placement.{starts_of, items_of, address_at, stub_size}
+use Rattle.link_symbols.specs.Passes.{NumberedObject, numbered_objects}
+use Rattle.link_symbols.specs.Parts.{is_loaded_head}
+use Rattle.linker.specs.Placement.{starts_of, address_at, stub_size}
+use Rattle.link_symbols.specs.Resolved.{items_of}
 use Rattle.linker.specs.Numbers.{linking_of, numbers_in, end_in}
 use Rattle.linker.specs.Bytes.{bytes_at, word_bytes}
 use Rattle.linker.specs.Fields.{sum_of}
 use Rattle.linker.specs.Stubs.{word_named, stub_of}
 use Rattle.linker.specs.Image.{Links}
-use Rattle.linker.specs.Refusals.{link_fault_of}
 use Rattle.linker_laws.specs.Places.{span}
 
--- a layout and objects that link, and the image that they link to
+-- a layout, and objects that link to this image
 pub record IsLinked (layout : LayoutValue) (objects : List ObjectValue) (image : Image) : Type 0 where
   pub layout_kept : IsLayout layout
   pub objects_kept : All IsObject objects
-  pub unrefused : link_fault_of layout objects ≡ None
   pub links : Links layout objects image
 
 -- section k of an object is a loaded one

@@ -6,8 +6,9 @@ use Rattle.elf_objects.specs.Object.{ObjectValue}
 use Rattle.layout_file.specs.Overlaps.{ShareNoByte}
 use Rattle.layout_file.specs.Sound.{IsLayout}
 use Rattle.layout_file.specs.Values.{ModuleValue, LayoutValue, regions}
-use Rattle.linker.specs.declared.item.Part.{Part}
-use Rattle.linker.specs.Placement.{items_of, item_at, starts_of, address_at, stub_size}
+use Rattle.link_symbols.specs.declared.item.Part.{Part}
+use Rattle.link_symbols.specs.Resolved.{items_of}
+use Rattle.linker.specs.Placement.{item_at, starts_of, address_at, stub_size}
 use Rattle.linker.specs.Refusals.{link_fault_of}
 
 -- what takes bytes: a section or a common, by its number among the items; the entry stub of a module, with its table;

@@ -5,7 +5,7 @@ use Rattle.std.proofs.lemmas.Bool.{cases_lt}
 use Rattle.sm_io.specs.Files.{FileMap}
 use Rattle.flow_rule.specs.Verdict.{start_of}
 use Rattle.flow_rule.specs.Arms.{flow_with}
-use Rattle.linker.specs.declared.fault.LinkFault.{LinkFault}
+use Rattle.link_symbols.specs.declared.fault.LinkFault.{LinkFault}
 use Rattle.cli_files.specs.declared.answers.FileFault.{FileFault}
 use Rattle.cli_files.specs.declared.answers.FileFault.TheVariants as fault
 use Rattle.cli_files.specs.Files.{Held, IsHeld, most_bytes, HasFault, Need, Holds, HoldAll, IsFirstFault}

@@ -10,7 +10,7 @@ use Rattle.cli_files.specs.Files.{image_file, need, an_image, a_schedule, a_scri
 use Rattle.sm_cli.specs.Command.{Command, Answer, gives, Comes, IsAnswer, Outcome, refuses}
 use Rattle.layout_file.specs.Values.{LayoutValue}
 use Rattle.elf_objects.specs.Object.{ObjectValue}
-use Rattle.linker.specs.declared.fault.LinkFault.{LinkFault}
+use Rattle.link_symbols.specs.declared.fault.LinkFault.{LinkFault}
 use Rattle.mod_layout.specs.Table.{Table}
 use Rattle.linker.specs.Image.{linked_image}
 use Rattle.linker.specs.Refusals.{link_fault_of}

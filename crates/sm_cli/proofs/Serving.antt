@@ -6,7 +6,7 @@ use Rattle.sm_io.specs.Sink.{Took, CutOff}
 use Rattle.image_text.specs.Image.{Image}
 use Rattle.image_text.specs.ImageText.{image_text}
 use Rattle.schedule_file.specs.declared.Entry.{Entry}
-use Rattle.linker.specs.declared.fault.LinkFault.{LinkFault}
+use Rattle.link_symbols.specs.declared.fault.LinkFault.{LinkFault}
 use Rattle.cli_files.specs.declared.answers.FileFault.{FileFault}
 use Rattle.cli_files.specs.declared.answers.Refusal.{Refusal}
 use Rattle.cli_files.specs.declared.answers.Refusal.TheVariants as refusal

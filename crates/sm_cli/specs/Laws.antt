@@ -4,7 +4,7 @@ use Rattle.sm_io.specs.Files.{FileMap}
 use Rattle.cli_files.specs.declared.answers.FileFault.{FileFault}
 use Rattle.cli_files.specs.Files.{IsFirstFault}
 use Rattle.sm_cli.specs.Command.{Command, Outcome, refuses, Comes, Answer, IsAnswer}
-use Rattle.linker.specs.declared.fault.LinkFault.{LinkFault}
+use Rattle.link_symbols.specs.declared.fault.LinkFault.{LinkFault}
 use Rattle.sm_cli.specs.MakeCommand.{run_text, start_of}
 
 -- Of every command, on files that are told, something comes, or there is a first file that does not serve.

@@ -4,7 +4,7 @@ use Rattle.image_text.specs.Image.{Image}
 use Rattle.image_text.specs.ImageText.{image_text}
 use Rattle.layout_file.specs.Values.{LayoutValue}
 use Rattle.elf_objects.specs.Object.{ObjectValue}
-use Rattle.linker.specs.declared.fault.LinkFault.{LinkFault}
+use Rattle.link_symbols.specs.declared.fault.LinkFault.{LinkFault}
 pub use Rattle.linker.specs.Image.{linked_image}
 use Rattle.linker.specs.Refusals.{link_fault_of}
 use Rattle.cli_files.specs.declared.answers.Status.TheVariants as status

@@ -17,7 +17,7 @@ ghost use Rattle.cli_files.specs.declared.answers.Status.{Status as Statuses};
 ghost use Rattle.cli_files.specs.declared.answers.FileFault.{FileFault as FileFaults};
 ghost use Rattle.sm_cli.specs.Checked.{IsCheck, IsBalance};
 ghost use Rattle.sm_cli.specs.Command.{Command, Answer, IsAnswer, Comes, refuses};
-ghost use Rattle.linker.specs.declared.fault.LinkFault.{LinkFault as LinkFaults};
+ghost use Rattle.link_symbols.specs.declared.fault.LinkFault.{LinkFault as LinkFaults};
 ghost use Rattle.sm_cli.specs.CommandLine.{command_of};
 ghost use Rattle.cli_files.specs.Files.{IsFirstFault};
 ghost use Rattle.sm_cli.specs.ImageCommand.{run_status};

@@ -1,11 +1,7 @@
 -- What the code needs of a layout.
-use Rattle.std.specs.Prelude.{List, length, ◌≤◌, All, string_bytes}
+use Rattle.std.specs.Prelude.{List, ◌≤◌, All}
 use Rattle.layout_file.specs.declared.parts.ModuleSpec.{ModuleSpec}
 use Rattle.mod_layout.specs.declared.Section.{Section}
-
--- the names of modules are short
-abbrev pub AreShort : List ModuleSpec → Type 0
-AreShort modules = All (λ m. length (string_bytes m.name) ≤ 32) modules
 
 -- the regions of modules end where they start or later
 abbrev pub AreOrdered : List ModuleSpec → Type 0

@@ -1,7 +1,7 @@
 -- What the code's lists of addresses and ends hold while it places the items.
 use Rattle.std.specs.Prelude.{zero, suc, filter, ℕ, ◌≡◌, List, length, Option, Some, None, All, ◌<◌, slice_index}
-use Rattle.linker.specs.declared.item.Part.{Part}
-use Rattle.linker.specs.declared.item.Item.{Item}
+use Rattle.link_symbols.specs.declared.item.Part.{Part}
+use Rattle.link_symbols.specs.declared.item.Item.{Item}
 use Rattle.linker.specs.Placement.{end_of, goes_to, item_at, address_at}
 
 -- where a part starts: where those of lower rank in its region end

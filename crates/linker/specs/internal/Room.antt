@@ -6,10 +6,10 @@ use Rattle.elf_objects.specs.Object.{ObjectValue, IsObject}
 use Rattle.elf_objects.specs.declared.object.SectionHead.{SectionHead}
 use Rattle.layout_file.specs.Values.{ModuleValue}
 use Rattle.elf_objects.specs.declared.object.Relocation.{Relocation}
-use Rattle.linker.specs.declared.item.Part.{Part}
-use Rattle.linker.specs.declared.item.Item.{Item}
-use Rattle.linker.specs.Passes.{NumberedObject}
-use Rattle.linker.specs.Parts.{is_loaded_head}
+use Rattle.link_symbols.specs.declared.item.Part.{Part}
+use Rattle.link_symbols.specs.declared.item.Item.{Item}
+use Rattle.link_symbols.specs.Passes.{NumberedObject}
+use Rattle.link_symbols.specs.Parts.{is_loaded_head}
 use Rattle.linker.specs.Placement.{stub_size, item_at}
 use Rattle.linker.specs.Fields.{target_size, target_address}
 

@@ -1,0 +1,11 @@
+pub mod Steps
+pub mod FoundLemmas
+pub mod ItemLemmas
+pub mod OrderLemmas
+pub mod NameLemmas
+pub mod FirstLemmas
+pub mod CommonLemmas
+pub mod KeyLemmas
+pub mod InputLemmas
+pub mod OwnLemmas
+pub mod MeaningLemmas

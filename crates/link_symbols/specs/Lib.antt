@@ -1,0 +1,9 @@
+pub mod Passes
+pub mod Parts
+pub mod Symbols
+pub mod Definitions
+pub mod Commons
+pub mod Names
+pub mod Resolved
+pub mod Refusals
+pub mod internal

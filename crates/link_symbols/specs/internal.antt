@@ -1,0 +1,5 @@
+pub mod Maps
+pub mod Meanings
+pub mod Values
+pub mod Layouts
+pub mod Groups
