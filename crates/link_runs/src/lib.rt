@@ -4,6 +4,8 @@
 #[cfg(test)]
 mod assembled;
 #[cfg(test)]
+mod checked;
+#[cfg(test)]
 mod linked;
 #[cfg(test)]
 mod objects;

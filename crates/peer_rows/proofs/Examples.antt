@@ -23,7 +23,7 @@ use Rattle.peer_rows.proofs.Sound.{Sound, Words, sound_words, sound_zeros, set_e
 
 -- ---- images
 
-all_words : List ℕ → Bool
+unfoldable pub all_words : List ℕ → Bool
 all_words [] = true
 all_words (w ∷ ws) = nat_lt w 65536 && all_words ws
 
@@ -39,9 +39,11 @@ words_fit (w ∷ ws) e = by (nat_lt w 65536) refl e (λ f. words_fit ws f)
 sound_memory : (text : List ℕ) → all_words text ≡ true → Sound (memory_of text)
 unfolding memory_of all_words
 sound_memory text e =
-    sound_words 0xfffe (0x0200 ∷ []) (with_words 0x0300 text (with_words 0x0200 caller (replicate 65536 0))) (lit≤ tt) (words_fit (0x0200 ∷ []) refl)
+    sound_words 0xfffe (0x0200 ∷ []) (with_words 0xffe2 (0x0500 ∷ []) (with_words 0x0500 (0x1300 ∷ []) (with_words 0x0300 text (with_words 0x0200 caller (replicate 65536 0))))) (lit≤ tt) (words_fit (0x0200 ∷ []) refl)
+    (sound_words 0xffe2 (0x0500 ∷ []) (with_words 0x0500 (0x1300 ∷ []) (with_words 0x0300 text (with_words 0x0200 caller (replicate 65536 0)))) (lit≤ tt) (words_fit (0x0500 ∷ []) refl)
+    (sound_words 0x0500 (0x1300 ∷ []) (with_words 0x0300 text (with_words 0x0200 caller (replicate 65536 0))) (lit≤ tt) (words_fit (0x1300 ∷ []) refl)
     (sound_words 0x0300 text (with_words 0x0200 caller (replicate 65536 0)) (lit≤ tt) (words_fit text e)
-    (sound_words 0x0200 caller (replicate 65536 0) (lit≤ tt) (words_fit caller refl) (sound_zeros 65536 refl)))
+    (sound_words 0x0200 caller (replicate 65536 0) (lit≤ tt) (words_fit caller refl) (sound_zeros 65536 refl)))))
 
 is_called : (text_end : ℕ) → 0x0300 < text_end → text_end % 2 ≡ 0 → text_end ≤ 0x0400 → IsModule 1 (called text_end)
 is_called e low even high = record {
@@ -79,7 +81,7 @@ same_else memory v w x e =
     clash : true ≡ false → ⊥
     clash e = cc
 
-differ : (text : List ℕ) (text_end v w : ℕ) → all_words text ≡ true → 0x0300 < text_end → text_end % 2 ≡ 0 → text_end ≤ 0x0400 → v < 65536 → w < 65536 → DifferInData (image_of text text_end v) (image_of text text_end w) 1 (called text_end)
+pub differ : (text : List ℕ) (text_end v w : ℕ) → all_words text ≡ true → 0x0300 < text_end → text_end % 2 ≡ 0 → text_end ≤ 0x0400 → v < 65536 → w < 65536 → DifferInData (image_of text text_end v) (image_of text text_end w) 1 (called text_end)
 differ text e v w fit low even high a b = record {
   image_a = is_image text e v fit low even high a;
   image_b = is_image text e w fit low even high b;

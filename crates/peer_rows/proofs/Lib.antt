@@ -1,3 +1,5 @@
 pub mod Accepted
 pub mod Sound
 pub mod Examples
+pub mod Interrupted
+pub mod Returning

@@ -19,6 +19,7 @@ use Rattle.sm_cli.specs.CheckCommand.{checked_by, check_command}
 use Rattle.sm_cli.specs.BalanceCommand.{balanced_by, balance_command}
 use Rattle.sm_cli.specs.Checked.{IsCheck, IsBalance}
 use Rattle.sm_cli.specs.Serve.{call_of, Serves}
+use Rattle.sm_cli.proofs.ShortText.{short_text}
 use Rattle.sm_cli.proofs.Needed.{one_outcome}
 
 only_yes : (v : Verdict) → verdict_status v ≡ Done → v ≡ Yes
@@ -26,19 +27,8 @@ only_yes Yes e = refl
 only_yes (No addr why value) e = cc
 
 module _ (map : FileMap) (name : List ℕ) (value : Image) (id : ℕ) (owner : Module) (image : IsImage value) (file : map name ≡ Some (image_text value)) (owned : module_of id value.table ≡ Some owner) where
-  short_text : (helds : List Held) → HoldAll (Some map) (need name (image_with id) ∷ []) helds → length (image_text value) ≤ most_bytes
-  short_text [] h = absurd h
-  short_text (held ∷ helds) h =
-      let same : Some h.0.bytes ≡ Some (image_text value) = sym h.0.file ∙ file in
-      let bytes : h.0.bytes ≡ image_text value = cc in
-      subst (λ l. length l ≤ most_bytes) bytes h.0.short
-
-  check_comes : length (image_text value) ≤ most_bytes → Comes (Some map) (check_command name id) (judges owner (section owner.text value.memory) [])
-  check_comes short = record {
-    helds = an_image value ∷ [];
-    hold = (record { bytes = image_text value; file = file; short = short; is = (record { image = image; text = refl }, ap is_some owned) }, tt);
-    is = ap (checked_by value) owned;
-  }
+  held : Holds (Some map) (need name (image_with id)) (an_image value)
+  held = record { bytes = image_text value; file = file; short = short_text value image; is = (record { image = image; text = refl }, ap is_some owned) }
 
   accepted_by : (command : Command) (arms : List Arm) (answer : Answer) → Comes (Some map) command (judges owner (section owner.text value.memory) arms) → answer.status ≡ Done → IsAnswer (Some map) command answer → VerdictWith owner (section owner.text value.memory) arms Yes
   accepted_by command arms answer comes status a =
@@ -47,33 +37,24 @@ module _ (map : FileMap) (name : List ℕ) (value : Image) (id : ℕ) (owner : M
       let yes : j.verdict ≡ Yes = only_yes j.verdict (ap (λ (b : Answer). b.status) (sym j.tells) ∙ status) in
       subst (λ v. VerdictWith owner text arms v) yes j.is
 
-  accepted : (answer : Answer) → answer.status ≡ Done → IsAnswer (Some map) (check_command name id) answer → VerdictWith owner (section owner.text value.memory) [] Yes
-  accepted answer status a = accepted_by (check_command name id) [] answer (check_comes (short_text a.comes.helds a.comes.hold)) status a
+  pub check_accepted : (answer : Answer) → answer.status ≡ Done → IsAnswer (Some map) (check_command name id) answer → VerdictWith owner (section owner.text value.memory) [] Yes
+  check_accepted answer status a =
+      accepted_by (check_command name id) [] answer (record { helds = an_image value ∷ []; hold = (held, tt); is = ap (checked_by value) owned }) status a
 
   module _ (arms_name : List ℕ) where
     abbrev BalanceComes : Type 0
     BalanceComes = (arms : List Arm) × Comes (Some map) (balance_command name id arms_name) (judges owner (section owner.text value.memory) arms)
 
-    balance_with : (held : Held) → Holds (Some map) (need arms_name arms_file) held → length (image_text value) ≤ most_bytes → BalanceComes
-    balance_with (certificates arms) h short = (
-      arms,
-      record {
-        helds = an_image value ∷ certificates arms ∷ [];
-        hold = (record { bytes = image_text value; file = file; short = short; is = (record { image = image; text = refl }, ap is_some owned) }, (h, tt));
-        is = ap (balanced_by value arms) owned;
-      },
-    )
-    balance_with _ h short = absurd h.is
+    balance_with : (arms : Held) → Holds (Some map) (need arms_name arms_file) arms → BalanceComes
+    balance_with (certificates arms) h = (arms, record { helds = an_image value ∷ certificates arms ∷ []; hold = (held, (h, tt)); is = ap (balanced_by value arms) owned })
+    balance_with _ h = absurd h.is
 
     balance_comes : (helds : List Held) → HoldAll (Some map) (need name (image_with id) ∷ need arms_name arms_file ∷ []) helds → BalanceComes
     balance_comes [] h = absurd h
-    balance_comes (held ∷ []) h = absurd h.1
-    balance_comes (held ∷ more ∷ helds) h =
-        let same : Some h.0.bytes ≡ Some (image_text value) = sym h.0.file ∙ file in
-        let bytes : h.0.bytes ≡ image_text value = cc in
-        balance_with more h.1.0 (subst (λ l. length l ≤ most_bytes) bytes h.0.short)
+    balance_comes (first ∷ []) h = absurd h.1
+    balance_comes (first ∷ second ∷ helds) h = balance_with second h.1.0
 
-    balance_accepted : (answer : Answer) → answer.status ≡ Done → IsAnswer (Some map) (balance_command name id arms_name) answer → (arms : List Arm) × VerdictWith owner (section owner.text value.memory) arms Yes
+    pub balance_accepted : (answer : Answer) → answer.status ≡ Done → IsAnswer (Some map) (balance_command name id arms_name) answer → (arms : List Arm) × VerdictWith owner (section owner.text value.memory) arms Yes
     balance_accepted answer status a =
         let found = balance_comes a.comes.helds a.comes.hold in
         (found.0, accepted_by (balance_command name id arms_name) found.0 answer found.1 status a)
@@ -86,7 +67,7 @@ checked_peers words files before after took value other id owner i d s law =
     let same : s.command ≡ check_command i.name id = cc in
     let answered : IsAnswer (Some i.map) (check_command i.name id) s.answer =
     subst (λ k. IsAnswer (Some i.map) k s.answer) same (subst (λ o. IsAnswer o s.command s.answer) i.told s.served) in
-    law value other id owner [] d (accepted i.map i.name value id owner i.image i.file d.owned s.answer s.status answered)
+    law value other id owner [] d (check_accepted i.map i.name value id owner i.image i.file d.owned s.answer s.status answered)
 
 -- the same with certificates
 pub balanced_peers : (words : List (List ℕ)) (files : Option FileMap) (before after : ℕ) (took : List ℕ → Type 0) (value other : Image) (id : ℕ) (owner : Module)

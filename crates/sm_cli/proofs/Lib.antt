@@ -2,8 +2,14 @@ pub mod Alike
 pub mod Checking
 pub mod Clap
 pub mod Counting
+pub mod Joins
+pub mod KeyBytes
 pub mod Listing
 pub mod Needed
 pub mod OneValue
 pub mod Running
 pub mod Serving
+pub mod ShortText
+pub mod Something
+pub mod Stops
+pub mod Vendor

@@ -9,19 +9,24 @@ use Rattle.link_symbols.specs.declared.fault.LinkFault.{LinkFault}
 use Rattle.cli_files.specs.declared.answers.FileFault.{FileFault}
 use Rattle.cli_files.specs.declared.answers.FileFault.TheVariants as fault
 use Rattle.cli_files.specs.Files.{Held, IsHeld, most_bytes, HasFault, Need, Holds, HoldAll, IsFirstFault}
-use Rattle.sm_cli.specs.Command.{Command, Outcome, gives, refuses, judges, Answer, Comes, IsAnswer, verdict_answer, Answers}
+use Rattle.sm_cli.specs.CommandLine.{command_of}
+use Rattle.sm_cli.specs.Words.{Text}
+use Rattle.sm_cli.specs.Command.{Command, Outcome, gives, runs, refuses, judges, nothing, Answer, IfAnswered, trace_answer, Comes, IsAnswer, IsJudged, verdict_answer, Answers}
 use Rattle.sm_cli.specs.Laws.{IsDecided, IsAnswered}
 use Rattle.cli_files.proofs.OneContent.{one_held, accepted, examined}
 use Rattle.flow_rule.proofs.Ends.{some_verdict}
 use Rattle.flow_rule.proofs.OneVerdict.{one_verdict}
+use Rattle.sm_cli.proofs.Something.{something}
 
 -- Outcomes
 
 one_told : (outcome : Outcome) (a b : Answer) → Answers outcome a → Answers outcome b → a ≡ b
 one_told (gives own) a b r s = sym r ∙ s
+one_told (runs value entries cycles) a b r s = sym r ∙ s
 one_told (judges owner text arms) a b r s =
     r.tells ∙ ap verdict_answer (one_verdict (flow_with owner text arms) (start_of owner text) owner.text.start r.verdict s.verdict r.is s.is) ∙ sym s.tells
 one_told (refuses fault name) a b r s = absurd r
+one_told nothing a b r s = absurd r
 
 -- Files
 
@@ -110,10 +115,23 @@ module _ (map : FileMap) where
 pub decided : IsDecided
 decided map command = ⊎_elim (λ h. inl (command.outcome h.0, record { helds = h.0; hold = h.1; is = refl })) (λ f. inr f) (all_found map command.needs)
 
--- an answer comes of what comes of files, since every text has a verdict
-pub answered : IsAnswered
-answered map command (gives own) c = inl (own, record { outcome = gives own; comes = c; is = refl })
-answered map command (judges owner text arms) c =
+-- what holds of each answer that comes of files holds of one that there is, since every text has a verdict
+pub if_answered : (words : List Text) (map : FileMap) (command : Command) (outcome : Outcome) (P : Answer → Type 0) → command_of words ≡ Some command → Comes (Some map) command outcome
+    → ((answer : Answer) → IsAnswer (Some map) command answer → P answer) → IfAnswered outcome P
+if_answered words map command (gives own) P asked c p = (own, refl, p own (record { outcome = gives own; comes = c; is = refl }))
+if_answered words map command (runs value entries cycles) P asked c p =
+    (trace_answer value entries cycles, refl, p (trace_answer value entries cycles) (record { outcome = runs value entries cycles; comes = c; is = refl }))
+if_answered words map command (judges owner text arms) P asked c p =
     let v = some_verdict (flow_with owner text arms) (start_of owner text) owner.text.start in
-    inl (verdict_answer v.0, record { outcome = judges owner text arms; comes = c; is = record { verdict = v.0; is = v.1; tells = refl } })
-answered map command (refuses fault name) c = inr (fault, name, refl)
+    let told : IsJudged owner text arms (verdict_answer v.0) = record { verdict = v.0; is = v.1; tells = refl } in
+    (verdict_answer v.0, told, p (verdict_answer v.0) (record { outcome = judges owner text arms; comes = c; is = told }))
+if_answered words map command (refuses fault name) P asked c p = tt
+if_answered words map command nothing P asked c p = something words map command nothing asked c refl
+
+pub answered : IsAnswered
+answered words map command outcome asked c = by outcome (if_answered words map command outcome (λ answer. IsAnswer (Some map) command answer) asked c (λ answer a. a))
+  where
+    by : (o : Outcome) → IfAnswered o (λ answer. IsAnswer (Some map) command answer) → ((answer : Answer) × IsAnswer (Some map) command answer) ⊎ ((fault : LinkFault) × (name : List ℕ) × (o ≡ refuses fault name))
+    by (refuses fault name) a = inr (fault, name, refl)
+    by nothing a = absurd a
+    by _ a = inl (a.0, a.2)

@@ -3,7 +3,7 @@ use Rattle.std.proofs.Common.{◌≡◌, ◌≢◌, ℕ, ◌≤◌, false, List,
 use Rattle.sm_io.specs.Faults.{HasCause, Rose}
 use Rattle.sm_io.specs.Files.{FileMap}
 use Rattle.sm_io.specs.Sink.{Took, CutOff}
-use Rattle.image_text.specs.Image.{Image}
+use Rattle.image_text.specs.Image.{Image, IsImage}
 use Rattle.image_text.specs.ImageText.{image_text}
 use Rattle.schedule_file.specs.declared.Entry.{Entry}
 use Rattle.link_symbols.specs.declared.fault.LinkFault.{LinkFault}
@@ -12,20 +12,21 @@ use Rattle.cli_files.specs.declared.answers.Refusal.{Refusal}
 use Rattle.cli_files.specs.declared.answers.Refusal.TheVariants as refusal
 use Rattle.cli_files.specs.declared.answers.Status.{Status}
 use Rattle.cli_files.specs.declared.answers.Status.TheVariants as status
-use Rattle.cli_files.specs.Files.{IsFirstFault}
-use Rattle.sm_cli.specs.Command.{Command, Answer, Outcome, refuses, Comes, IsAnswer}
+use Rattle.cli_files.specs.Files.{an_image, image_file, need, Holds, IsFirstFault}
+use Rattle.sm_cli.specs.Command.{Command, Answer, Outcome, gives, runs, refuses, Comes, IsAnswer}
 use Rattle.sm_cli.specs.CommandLine.{command_of}
-use Rattle.sm_cli.specs.ImageCommand.{image_command, trace_answer}
+use Rattle.sm_cli.specs.ImageCommand.{image_command}
 use Rattle.written_machine.specs.declared.ScriptLine.{ScriptLine}
 use Rattle.sm_cli.specs.Input.{IsInput, IsScriptInput}
 use Rattle.sm_cli.specs.MonitorCommand.{monitor_command, script_answer}
 use Rattle.sm_cli.specs.RunCommand.{run_command}
 use Rattle.cli_files.specs.Refusal.{status_of, line_of}
 use Rattle.sm_cli.specs.Serve.{Call, call_of, Serves, Refuses, IsCause, Completes, IsOrOutside}
-use Rattle.sm_cli.specs.internal.Serve.{IsRun, EndsAs, IsCommandCause}
+use Rattle.sm_cli.specs.internal.Serve.{IsRun, IsSound, EndsAs, IsCommandCause}
 use Rattle.cli_files.specs.Causes.{IsNeedCause}
-use Rattle.sm_cli.proofs.Needed.{one_answer, no_first_fault, no_fault_of_answer, no_refusal_of_answer}
-use Rattle.sm_cli.proofs.Running.{image_answer, run_answer, monitor_answer}
+use Rattle.sm_cli.proofs.Needed.{one_answer, one_outcome, no_first_fault, no_fault_of_answer, no_refusal_of_answer}
+use Rattle.sm_cli.proofs.Running.{image_comes, linked_runs, monitor_comes}
+use Rattle.sm_cli.proofs.ShortText.{short_text}
 
 -- Commands and inputs
 
@@ -37,40 +38,42 @@ one_command words own other c d = let same : Some own ≡ Some other = c ∙ d i
 pub answer_here : (files : Option FileMap) (map : FileMap) (own other : Command) (answer : Answer) → files ≡ Some map → own ≡ other → IsAnswer files own answer → IsAnswer (Some map) other answer
 answer_here files map own other answer told same a = subst (λ c. IsAnswer (Some map) c answer) same (subst (λ o. IsAnswer o own answer) told a)
 
--- what an input is: files that are told, and a command of theirs with this answer
-pub record InputOf (words : List (List ℕ)) (files : Option FileMap) (answer : Answer) : Type 0 where
+-- what an input is: files that are told, and what comes of a command of theirs
+pub record InputOf (words : List (List ℕ)) (files : Option FileMap) (outcome : Outcome) : Type 0 where
   pub map : FileMap
   pub command : Command
   pub told : files ≡ Some map
   pub asked : command_of words ≡ Some command
-  pub served : IsAnswer (Some map) command answer
+  pub comes : Comes (Some map) command outcome
 
-pub input_answer : (words : List (List ℕ)) (files : Option FileMap) (value : Image) (entries : List Entry) (cycles : ℕ) → IsInput words files value entries cycles → InputOf words files (trace_answer value entries cycles)
-input_answer words files value entries cycles (inl i) = record {
+image_held : (files : FileMap) (name : List ℕ) (value : Image) → IsImage value → files name ≡ Some (image_text value) → Holds (Some files) (need name image_file) (an_image value)
+image_held files name value image file = record { bytes = image_text value; file = file; short = short_text value image; is = record { image = image; text = refl } }
+
+pub run_input : (words : List (List ℕ)) (files : Option FileMap) (value : Image) (entries : List Entry) (cycles : ℕ) → IsInput words files value entries cycles → InputOf words files (runs value entries cycles)
+run_input words files value entries cycles (inl i) = record {
   map = i.files_map;
   command = image_command i.name i.schedule cycles;
   told = i.told;
   asked = i.command;
-  served = image_answer (Some i.files_map) i.name i.schedule cycles value entries (record { bytes = image_text value; file = i.file; short = i.short; is = record { image = i.image; text = refl } }) i.entries_are;
+  comes = image_comes (Some i.files_map) i.name i.schedule cycles value entries (image_held i.files_map i.name value i.image i.file) i.entries_are;
 }
-input_answer words files value entries cycles (inr i) = record {
+run_input words files value entries cycles (inr i) = record {
   map = i.files_map;
   command = run_command i.layout_name i.schedule cycles i.object_names;
   told = i.told;
   asked = i.command;
-  served = subst (λ v. IsAnswer (Some i.files_map) (run_command i.layout_name i.schedule cycles i.object_names) (trace_answer v entries cycles)) (sym i.image)
-      (run_answer (Some i.files_map) i.layout_name i.object_names i.layout i.objects i.schedule cycles entries i.layout_is i.entries_are i.objects_are i.links);
+  comes = subst (λ v. Comes (Some i.files_map) (run_command i.layout_name i.schedule cycles i.object_names) (runs v entries cycles)) (sym i.image)
+      (linked_runs (Some i.files_map) i.layout_name i.object_names i.layout i.objects i.schedule cycles entries i.layout_is i.entries_are i.objects_are i.links);
 }
 
 pub script_input : (words : List (List ℕ)) (files : Option FileMap) (value : Image) (entries : List Entry) (script : List ScriptLine) → IsScriptInput words files value entries script
-    → InputOf words files (script_answer value entries script)
+    → InputOf words files (gives (script_answer value entries script))
 script_input words files value entries script i = record {
   map = i.files_map;
   command = monitor_command i.name i.schedule i.script_name;
   told = i.told;
   asked = i.command;
-  served = monitor_answer (Some i.files_map) i.name i.schedule i.script_name value entries script
-      (record { bytes = image_text value; file = i.file; short = i.short; is = record { image = i.image; text = refl } }) i.entries_are i.script_is;
+  comes = monitor_comes (Some i.files_map) i.name i.schedule i.script_name value entries script (image_held i.files_map i.name value i.image i.file) i.entries_are i.script_is;
 }
 
 -- A run that was put, whole or in part
@@ -99,6 +102,12 @@ module _ (words : List (List ℕ)) (files : Option FileMap) (before after : ℕ)
   pub run_ends : (map : FileMap) (other : Command) (answer : Answer) → files ≡ Some map → Some own ≡ command_of words → command_of words ≡ Some other → IsRun files own ended took cut → IsAnswer (Some map) other answer → EndsAs ended answer took cut
   run_ends map other answer told c d r a =
       subst (λ x. EndsAs ended x took cut) (one_answer map other r.answer answer (answer_here files map own other r.answer told (one_command words own other c d) r.served) a) r.ends
+
+  -- what it ran is an image
+  pub run_sound : (map : FileMap) (other : Command) (outcome : Outcome) → files ≡ Some map → Some own ≡ command_of words → command_of words ≡ Some other → (r : IsRun files own ended took cut) → Comes (Some map) other outcome → IsSound outcome
+  run_sound map other outcome told c d r comes =
+      let here : Comes (Some map) other r.served.outcome = subst (λ k. Comes (Some map) k r.served.outcome) (one_command words own other c d) (subst (λ o. Comes o own r.served.outcome) told r.served.comes) in
+      subst IsSound (one_outcome map other r.served.outcome outcome here comes) r.sound
 
   pub ends_complete : (answer : Answer) (told : Type 0) → EndsAs ended answer took cut → Completes ended answer took cut told
   ends_complete answer told a = by ended a
@@ -218,22 +227,11 @@ pub no_memory_completes : (name : List ℕ) (ended : Status) (took cut : List �
 no_memory_completes name ended took cut answer whole part told (inl t) tell = subst (λ s. Completes s answer whole part told) (sym t.0) tt
 no_memory_completes name ended took cut answer whole part told (inr t) tell = subst (λ s. Completes s answer whole part told) (sym t.0) (inr (tell t.0))
 
--- Sinks that are sure of enough, or whose count did not rise
+-- Sinks whose count did not rise
 
 module _ {S : Type 0} (taken : S → Option (List ℕ)) (faults sure : S → ℕ) (old new : S) where
   pub cut_rose : (text : List ℕ) → CutOff taken faults sure old new text → Rose (faults old) (faults new)
   cut_rose text h = h.rose.1
-
-  pub cut_room : (text : List ℕ) → CutOff taken faults sure old new text → length text ≤ sure old → ⊥
-  cut_room text h room = omega (arith, h.not_sure, room)
-
-  -- what a run did to a sink that is sure of its text
-  pub run_sure : (ended : Status) (answer : Answer) → EndsAs ended answer (Took taken faults sure old new) (CutOff taken faults sure old new) → length answer.text ≤ sure old → (ended ≢ status.WriteFault) × (faults new ≡ faults old)
-  run_sure status.Done answer a room = (λ e. cc, a.0.quiet)
-  run_sure status.Stopped answer a room = (λ e. cc, a.0.quiet)
-  run_sure status.CheckNo answer a room = (λ e. cc, a.0.quiet)
-  run_sure status.WriteFault answer a room = absurd (cut_room answer.text a room)
-  run_sure _ answer a room = absurd a
 
   -- what a run did to a sink whose count did not rise
   pub run_whole : (ended : Status) (answer : Answer) → EndsAs ended answer (Took taken faults sure old new) (CutOff taken faults sure old new) → (Rose (faults old) (faults new) → ⊥) → Took taken faults sure old new answer.text × (ended ≡ answer.status)

@@ -9,15 +9,15 @@ use Rattle.written_machine.specs.Peers.{section}
 use Rattle.sm_cli.specs.Words.{Text}
 use Rattle.sm_cli.specs.Arguments.{id_of}
 use Rattle.cli_files.specs.Files.{Held, an_image, certificates, arms_file, image_with, need}
-use Rattle.sm_cli.specs.Command.{Outcome, judges, no_outcome, Command}
+use Rattle.sm_cli.specs.Command.{Outcome, judges, nothing, Command}
 
 abbrev pub balanced_by : Image → List Arm → Option Module → Outcome
 balanced_by value arms (Some owner) = judges owner (section owner.text value.memory) arms
-balanced_by value arms None = no_outcome
+balanced_by value arms None = nothing
 
 abbrev pub balance_outcome : ℕ → List Held → Outcome
 balance_outcome id (an_image value ∷ certificates arms ∷ []) = balanced_by value arms (module_of id value.table)
-balance_outcome id _ = no_outcome
+balance_outcome id _ = nothing
 
 abbrev pub balance_command : Text → ℕ → Text → Command
 balance_command name id arms = record { needs = need name (image_with id) ∷ need arms arms_file ∷ []; outcome = balance_outcome id }

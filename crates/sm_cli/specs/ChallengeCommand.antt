@@ -3,11 +3,11 @@ use Rattle.std.specs.Prelude.{List, [], ◌∷◌, Option, Some, None}
 use Rattle.vendor_tool.specs.NonceSchedule.{entries_of, entries_text}
 use Rattle.sm_cli.specs.Words.{Text}
 use Rattle.cli_files.specs.Files.{Held, the_challenges, challenges_file, need}
-use Rattle.sm_cli.specs.Command.{Outcome, done, no_outcome, Command}
+use Rattle.sm_cli.specs.Command.{Outcome, done, nothing, Command}
 
 abbrev pub challenge_outcome : List Held → Outcome
 challenge_outcome (the_challenges list ∷ []) = done (entries_text (entries_of list))
-challenge_outcome _ = no_outcome
+challenge_outcome _ = nothing
 
 abbrev pub challenge_command : Text → Command
 challenge_command name = record { needs = need name challenges_file ∷ []; outcome = challenge_outcome }

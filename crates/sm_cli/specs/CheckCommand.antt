@@ -8,15 +8,15 @@ use Rattle.written_machine.specs.Peers.{section}
 use Rattle.sm_cli.specs.Words.{Text}
 use Rattle.sm_cli.specs.Arguments.{id_of}
 use Rattle.cli_files.specs.Files.{Held, an_image, image_with, need}
-use Rattle.sm_cli.specs.Command.{Outcome, judges, no_outcome, Command}
+use Rattle.sm_cli.specs.Command.{Outcome, judges, nothing, Command}
 
 abbrev pub checked_by : Image → Option Module → Outcome
 checked_by value (Some owner) = judges owner (section owner.text value.memory) []
-checked_by value None = no_outcome
+checked_by value None = nothing
 
 abbrev pub check_outcome : ℕ → List Held → Outcome
 check_outcome id (an_image value ∷ []) = checked_by value (module_of id value.table)
-check_outcome id _ = no_outcome
+check_outcome id _ = nothing
 
 abbrev pub check_command : Text → ℕ → Command
 check_command name id = record { needs = need name (image_with id) ∷ []; outcome = check_outcome id }

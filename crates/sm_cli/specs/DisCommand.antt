@@ -7,7 +7,7 @@ use Rattle.insn_decode.specs.Code.{insn_of, length_at, length_or_one}
 use Rattle.insn_decode.specs.Text.{text_of}
 use Rattle.sm_cli.specs.Words.{Text}
 use Rattle.cli_files.specs.Files.{Held, an_image, image_file, need}
-use Rattle.sm_cli.specs.Command.{Outcome, done, no_outcome, Command}
+use Rattle.sm_cli.specs.Command.{Outcome, done, nothing, Command}
 
 -- the word at an address
 abbrev pub word_in : List ℕ → ℕ → ℕ
@@ -53,7 +53,7 @@ listing memory start end = lines_below (end - start) memory start end
 
 abbrev pub dis_outcome : ℕ → ℕ → List Held → Outcome
 dis_outcome start end (an_image value ∷ []) = done (listing value.memory start end)
-dis_outcome start end _ = no_outcome
+dis_outcome start end _ = nothing
 
 abbrev pub dis_command : Text → ℕ → ℕ → Command
 dis_command name start end = record { needs = need name image_file ∷ []; outcome = dis_outcome start end }

@@ -1,5 +1,5 @@
 -- Runs: the words and files of which the trace of an image comes.
-use Rattle.std.specs.Prelude.{◌≡◌, ◌≤◌, ℕ, List, length, map, Option, Some, None, ◌⊎◌}
+use Rattle.std.specs.Prelude.{◌≡◌, ℕ, List, map, Option, Some, None, ◌⊎◌}
 use Rattle.sm_io.specs.Files.{FileMap}
 use Rattle.image_text.specs.Image.{Image, IsImage}
 use Rattle.image_text.specs.ImageText.{image_text}
@@ -9,7 +9,7 @@ use Rattle.linker.specs.Refusals.{link_fault_of}
 use Rattle.schedule_file.specs.declared.Entry.{Entry}
 use Rattle.sm_cli.specs.Words.{Text}
 use Rattle.written_machine.specs.declared.ScriptLine.{ScriptLine}
-use Rattle.cli_files.specs.Files.{most_bytes, IsScheduleOf, need, layout_file, a_layout, object_needs, an_object, script_file, a_script, Holds, HoldAll}
+use Rattle.cli_files.specs.Files.{IsScheduleOf, need, layout_file, a_layout, object_needs, an_object, script_file, a_script, Holds, HoldAll}
 use Rattle.sm_cli.specs.CommandLine.{command_of}
 use Rattle.sm_cli.specs.ImageCommand.{image_command}
 use Rattle.sm_cli.specs.LinkCommand.{linked_image}
@@ -25,7 +25,6 @@ pub record IsImageInput (words : List Text) (files : Option FileMap) (value : Im
   pub command : command_of words ≡ Some (image_command name schedule cycles)
   pub image : IsImage value
   pub file : files_map name ≡ Some (image_text value)
-  pub short : length (image_text value) ≤ most_bytes
   pub entries_are : IsScheduleOf (Some files_map) schedule entries
 
 -- the words are `run` with these files, which hold a layout, this schedule and objects that link to this image
@@ -58,6 +57,5 @@ pub record IsScriptInput (words : List Text) (files : Option FileMap) (value : I
   pub command : command_of words ≡ Some (monitor_command name schedule script_name)
   pub image : IsImage value
   pub file : files_map name ≡ Some (image_text value)
-  pub short : length (image_text value) ≤ most_bytes
   pub entries_are : IsScheduleOf (Some files_map) schedule entries
   pub script_is : Holds (Some files_map) (need script_name script_file) (a_script script)

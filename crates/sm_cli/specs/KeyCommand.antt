@@ -10,7 +10,7 @@ use Rattle.written_machine.specs.Peers.{section}
 use Rattle.sm_cli.specs.Words.{Text}
 use Rattle.sm_cli.specs.Arguments.{id_of}
 use Rattle.cli_files.specs.Files.{Held, an_image, image_with, need}
-use Rattle.sm_cli.specs.Command.{Outcome, done, no_outcome, Command}
+use Rattle.sm_cli.specs.Command.{Outcome, done, nothing, Command}
 
 -- the line of a key
 abbrev pub key_line : List ℕ → List ℕ → List ℕ
@@ -24,11 +24,11 @@ key_lines value m = two_lines (provider_key value.node_key m.vendor) (module_key
 
 abbrev pub keys_by : Image → Option Module → Outcome
 keys_by value (Some m) = done (key_lines value m)
-keys_by value None = no_outcome
+keys_by value None = nothing
 
 abbrev pub key_outcome : ℕ → List Held → Outcome
 key_outcome id (an_image value ∷ []) = keys_by value (module_of id value.table)
-key_outcome id _ = no_outcome
+key_outcome id _ = nothing
 
 abbrev pub key_command : Text → ℕ → Command
 key_command name id = record { needs = need name (image_with id) ∷ []; outcome = key_outcome id }

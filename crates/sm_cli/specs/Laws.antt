@@ -1,20 +1,49 @@
 -- The laws of a command's files and of workloads. Each is what a function of this crate ensures.
-use Rattle.std.specs.Prelude.{◌≡◌, ◌<◌, ℕ, List, Some, ◌⊎◌}
+use Rattle.std.specs.Prelude.{◌≡◌, ◌<◌, ◌↔◌, ◌++◌, ℕ, List, Some, None, ◌⊎◌}
 use Rattle.sm_io.specs.Files.{FileMap}
+use Rattle.schedule_file.specs.declared.Entry.{Entry}
+use Rattle.pc_access.specs.declared.Stop.{Stop}
+use Rattle.image_text.specs.Image.{Image}
+use Rattle.tracer.specs.Lines.{event_line}
+use Rattle.tracer.specs.declared.Event.TheVariants.{Stop as StopEvent}
+use Rattle.written_machine.specs.Checks.{refused_in}
+use Rattle.written_machine.specs.Trace.{trace}
+use Rattle.written_machine.specs.View.{at}
 use Rattle.cli_files.specs.declared.answers.FileFault.{FileFault}
+use Rattle.cli_files.specs.declared.answers.Status.TheVariants.{Stopped}
 use Rattle.cli_files.specs.Files.{IsFirstFault}
-use Rattle.sm_cli.specs.Command.{Command, Outcome, refuses, Comes, Answer, IsAnswer}
+use Rattle.sm_cli.specs.Command.{Command, Outcome, refuses, Comes, Answer, IsAnswer, trace_answer}
 use Rattle.link_symbols.specs.declared.fault.LinkFault.{LinkFault}
+use Rattle.sm_cli.specs.CommandLine.{command_of}
 use Rattle.sm_cli.specs.MakeCommand.{run_text, start_of}
+use Rattle.sm_cli.specs.Words.{Text}
 
 -- Of every command, on files that are told, something comes, or there is a first file that does not serve.
 abbrev pub IsDecided : Type 0
 IsDecided = (map : FileMap) (command : Command) → ((outcome : Outcome) × Comes (Some map) command outcome) ⊎ ((name : List ℕ) × (fault : FileFault) × IsFirstFault (Some map) command.needs name fault)
 
--- And one answer comes of it, unless objects do not link.
+-- And of every command line an answer comes of it, unless objects do not link.
 abbrev pub IsAnswered : Type 0
-IsAnswered = (map : FileMap) (command : Command) (outcome : Outcome) → Comes (Some map) command outcome →
+IsAnswered = (words : List Text) (map : FileMap) (command : Command) (outcome : Outcome) → command_of words ≡ Some command → Comes (Some map) command outcome →
     ((answer : Answer) × IsAnswer (Some map) command answer) ⊎ ((fault : LinkFault) × (name : List ℕ) × (outcome ≡ refuses fault name))
+
+-- And no other answer comes of it.
+abbrev pub HasOneAnswer : Type 0
+HasOneAnswer = (map : FileMap) (command : Command) (a b : Answer) → IsAnswer (Some map) command a → IsAnswer (Some map) command b → a ≡ b
+
+-- in cycle k of this run a check is refused first, the machine stops by it, and the trace has its line
+pub record StopsIn (value : Image) (entries : List Entry) (cycles k : ℕ) : Type 0 where
+  pub within : k < cycles
+  pub running : (at value entries k).stop ≡ None
+  pub stop : Stop
+  pub refused : refused_in (at value entries k) ≡ Some stop
+  pub before : List ℕ
+  pub after : List ℕ
+  pub line : trace value entries cycles ≡ before ++ (event_line (at value entries k).cycle (StopEvent stop) ++ after)
+
+-- A run is answered Stopped exactly where, in some cycle below its bound, a check is refused.
+abbrev pub RunsStop : Type 0
+RunsStop = (value : Image) (entries : List Entry) (cycles : ℕ) → ((trace_answer value entries cycles).status ≡ Stopped) ↔ ((k : ℕ) × StopsIn value entries cycles k)
 
 -- The runs of a seed are told alike, however long they are and whatever the words of their module's data.
 abbrev pub RunsAreAlike : Type 0

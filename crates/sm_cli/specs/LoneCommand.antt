@@ -19,7 +19,7 @@ use Rattle.sm_cli.specs.Arguments.{id_of, cycles_of}
 use Rattle.sm_cli.specs.Numbers.{number_line}
 use Rattle.sm_cli.specs.Pairs.{pairs_in, core_with}
 use Rattle.cli_files.specs.Files.{Held, an_image, image_with, need}
-use Rattle.sm_cli.specs.Command.{Answer, Outcome, gives, no_outcome, Command}
+use Rattle.sm_cli.specs.Command.{Answer, Outcome, gives, nothing, Command}
 
 -- the caller's id where no module calls
 abbrev pub no_caller : ℕ
@@ -50,11 +50,11 @@ end_answer limit end = record { text = end_line limit end; status = status.Done 
 
 abbrev pub lone_by : Image → List ℕ → ℕ → Option Module → Outcome
 lone_by value registers limit (Some owner) = gives (end_answer limit (answer_of (end_of value owner registers limit)))
-lone_by value registers limit None = no_outcome
+lone_by value registers limit None = nothing
 
 abbrev pub lone_outcome : ℕ → ℕ → List ℕ → List Held → Outcome
 lone_outcome id limit registers (an_image value ∷ []) = lone_by value registers limit (module_of id value.table)
-lone_outcome id limit registers _ = no_outcome
+lone_outcome id limit registers _ = nothing
 
 abbrev pub lone_command : Text → ℕ → ℕ → List ℕ → Command
 lone_command name id limit registers = record { needs = need name (image_with id) ∷ []; outcome = lone_outcome id limit registers }

@@ -10,8 +10,7 @@ use Rattle.sm_cli.specs.declared.commands.script.TheConstants.{MOST_MARKS}
 use Rattle.sm_cli.specs.Words.{Text}
 use Rattle.sm_cli.specs.Arguments.{file_named}
 use Rattle.cli_files.specs.Files.{Held, an_image, a_schedule, a_script, image_file, script_file, need, schedule_needs}
-use Rattle.sm_cli.specs.Command.{Answer, Outcome, gives, no_outcome, Command}
-use Rattle.sm_cli.specs.ImageCommand.{run_status}
+use Rattle.sm_cli.specs.Command.{Answer, Outcome, gives, nothing, Command, run_status}
 
 -- what a script writes, and its status: whether the machine is stopped at the end
 abbrev pub play_answer : Marked → List ScriptLine → Answer
@@ -28,7 +27,7 @@ script_answer value entries script = play_answer (start_of value entries) script
 abbrev pub monitor_outcome : List Held → Outcome
 monitor_outcome (an_image value ∷ a_schedule entries ∷ a_script script ∷ []) = gives (script_answer value entries script)
 monitor_outcome (an_image value ∷ a_script script ∷ []) = gives (script_answer value [] script)
-monitor_outcome _ = no_outcome
+monitor_outcome _ = nothing
 
 abbrev pub monitor_command : Text → Option Text → Text → Command
 monitor_command name schedule script = record { needs = need name image_file ∷ (schedule_needs schedule ++ need script script_file ∷ []); outcome = monitor_outcome }

@@ -4,15 +4,14 @@ use Rattle.std.specs.Option.{option_map}
 use Rattle.sm_cli.specs.Words.{Text}
 use Rattle.sm_cli.specs.Arguments.{file_named, cycles_of}
 use Rattle.cli_files.specs.Files.{Held, a_schedule, a_layout, layout_file, need, schedule_needs, object_needs}
-use Rattle.sm_cli.specs.Command.{Outcome, no_outcome, Command}
-use Rattle.sm_cli.specs.ImageCommand.{trace_answer}
+use Rattle.sm_cli.specs.Command.{Outcome, runs, nothing, Command}
 use Rattle.sm_cli.specs.LinkCommand.{objects_in, linked}
 
 -- with a schedule's file, or with none
 abbrev pub run_outcome : Option Text → ℕ → List Held → Outcome
-run_outcome (Some name) cycles (a_layout layout ∷ a_schedule entries ∷ objects) = linked layout (objects_in objects) (λ image. trace_answer image entries cycles)
-run_outcome None cycles (a_layout layout ∷ objects) = linked layout (objects_in objects) (λ image. trace_answer image [] cycles)
-run_outcome _ cycles _ = no_outcome
+run_outcome (Some name) cycles (a_layout layout ∷ a_schedule entries ∷ objects) = linked layout (objects_in objects) (λ image. runs image entries cycles)
+run_outcome None cycles (a_layout layout ∷ objects) = linked layout (objects_in objects) (λ image. runs image [] cycles)
+run_outcome _ cycles _ = nothing
 
 abbrev pub run_command : Text → Option Text → ℕ → List Text → Command
 run_command layout schedule cycles objects = record { needs = need layout layout_file ∷ (schedule_needs schedule ++ object_needs objects); outcome = run_outcome schedule cycles }

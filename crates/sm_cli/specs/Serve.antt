@@ -1,5 +1,5 @@
 -- What a call of `serve` gives.
-use Rattle.std.specs.Prelude.{◌≡◌, ℕ, ◌≤◌, false, List, length, Option, Some, None, map, ◌⊎◌, String}
+use Rattle.std.specs.Prelude.{◌≡◌, ℕ, false, List, Option, Some, None, map, ◌⊎◌, String}
 use Rattle.std.specs.String.{string_bytes}
 use Rattle.std.specs.declared.alloc.Global.{Global}
 use Rattle.sm_io.specs.Faults.{HasCause}
@@ -80,13 +80,3 @@ Completes status.WriteFault answer took cut told = cut answer.text ⊎ told
 Completes status.ReadFault answer took cut told = Unit {0}
 Completes status.NoMemory answer took cut told = Unit {0}
 Completes _ answer took cut told = ⊥
-
--- each answer that the words and the files call for is at most this long
-abbrev pub IsRoomForAnswer : List (List ℕ) → Option FileMap → ℕ → Type 0
-IsRoomForAnswer words files room = (command : Command) (answer : Answer) → command_of words ≡ Some command → IsAnswer files command answer → length answer.text ≤ room
-
--- each line of a refusal that the words and the files call for is at most this long
-abbrev pub IsRoomForLine : Call → ℕ → Type 0
-IsRoomForLine call room = (refused : Refusal) (name : List ℕ) → is_read_fault refused ≡ false → IsCalledFor call refused name → length (line_of refused name) ≤ room
-
--- Parts of a call

@@ -14,7 +14,7 @@ use Rattle.cli_files.specs.declared.answers.Status.TheVariants as status
 use Rattle.sm_cli.specs.Words.{Text}
 use Rattle.sm_cli.specs.Arguments.{id_of}
 use Rattle.cli_files.specs.Files.{Held, an_image, the_challenges, the_replies, image_with, challenges_file, trace_file, Need, need}
-use Rattle.sm_cli.specs.Command.{Answer, Outcome, gives, no_outcome, Command}
+use Rattle.sm_cli.specs.Command.{Answer, Outcome, gives, nothing, Command}
 
 -- the status of a report where all are genuine, or not
 abbrev pub report_status : Bool → Status
@@ -31,11 +31,11 @@ key_under provider value m = module_key_from provider m (section m.text value.me
 
 abbrev pub report_by : List ℕ → Image → List Challenge → List ℕ → Option Module → Outcome
 report_by provider value challenges sent (Some m) = gives (report_answer (key_under provider value m) challenges sent)
-report_by provider value challenges sent None = no_outcome
+report_by provider value challenges sent None = nothing
 
 abbrev pub vendor_outcome : ℕ → List ℕ → List Held → Outcome
 vendor_outcome id provider (an_image value ∷ the_challenges list ∷ the_replies sent ∷ []) = report_by provider value list sent (module_of id value.table)
-vendor_outcome id provider _ = no_outcome
+vendor_outcome id provider _ = nothing
 
 -- the files of challenges and of a trace
 abbrev pub exchange_needs : Text → Text → List Need

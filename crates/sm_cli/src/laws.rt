@@ -1,11 +1,43 @@
-//! The laws of a command's files and of workloads, each the contract of a function with an empty body.
-ghost use Rattle.sm_cli.specs.Laws.{IsDecided, IsAnswered, RunsAreAlike};
+//! The laws of commands and of workloads, each the contract of a function with an empty body.
+ghost use Rattle.sm_cli.specs.Joins.{LinkWritesImages, CommandsJoin, VendorTells};
+ghost use Rattle.sm_cli.specs.Laws.{IsDecided, IsAnswered, HasOneAnswer, RunsAreAlike, RunsStop};
 
-/// Whatever the files are that are told, a command is answered, or one of its files is refused.
+/// Whatever the files are that are told, a command has one answer, or one of its files is refused, or objects do not link.
 pub fn every_command()
     ensures decided { IsDecided }
     ensures answered { IsAnswered }
+    ensures one { HasOneAnswer }
 {}
+
+/// What `link` writes is an image; where it is checked, every image that differs in the module's data alone runs as the
+/// objects do.
+pub fn commands_join()
+    ensures images { LinkWritesImages }
+    ensures joined { CommandsJoin }
+{
+    // Lemma calls, no effect at run time: linked images, accepted texts, and the laws of two runs.
+    linker::laws::linked_is_image();
+    peer_rows::accepted_are_peers();
+    isolation::two_runs();
+    isolation::texts();
+}
+
+/// A vendor is told Done exactly of a machine that sent the tags under the key of the module's identity.
+pub fn vendor_tells()
+    ensures tagged { VendorTells }
+{
+    // Lemma calls, no effect at run time: what is read off a machine's trace, and what is genuine.
+    machine_replies::machine_replies();
+    vendor_tool::laws::genuine_is_tagged();
+}
+
+/// A run is answered Stopped, and its trace tells a stop, exactly where a check is refused in some cycle below its bound.
+pub fn runs_stop()
+    ensures stopped { RunsStop }
+{
+    // Lemma call, no effect at run time: a machine stops, and tells it, by the first check that is refused.
+    isolation::tells();
+}
 
 /// The runs of a seed are told alike, whatever their module's data, and so both runs of `make`.
 pub fn runs_are_alike()

@@ -4,7 +4,7 @@ ghost use Rattle.sm_io.specs.Faults.{HasCause, Rose};
 ghost use Rattle.sm_io.specs.Files.{FileMap};
 ghost use Rattle.sm_io.specs.Sink.{Took, CutOff};
 ghost use Rattle.schedule_file.specs.declared.Entry.{Entry as EntryValue};
-ghost use Rattle.image_text.specs.Image.{Image as ImageValue};
+ghost use Rattle.image_text.specs.Image.{Image as ImageValue, IsImage};
 ghost use Rattle.mod_layout.specs.declared.Module.{Module as ModuleValue};
 ghost use Rattle.peer_rows.specs.Laws.{DifferInData};
 ghost use Rattle.written_machine.specs.Peers.{Peers};
@@ -16,16 +16,15 @@ ghost use Rattle.written_machine.specs.declared.ScriptLine.{ScriptLine as Script
 ghost use Rattle.cli_files.specs.declared.answers.Status.{Status as Statuses};
 ghost use Rattle.cli_files.specs.declared.answers.FileFault.{FileFault as FileFaults};
 ghost use Rattle.sm_cli.specs.Checked.{IsCheck, IsBalance};
-ghost use Rattle.sm_cli.specs.Command.{Command, Answer, IsAnswer, Comes, refuses};
+ghost use Rattle.sm_cli.specs.Command.{Command, Outcome, Comes, IfAnswered, refuses, run_status};
 ghost use Rattle.link_symbols.specs.declared.fault.LinkFault.{LinkFault as LinkFaults};
 ghost use Rattle.sm_cli.specs.CommandLine.{command_of};
 ghost use Rattle.cli_files.specs.Files.{IsFirstFault};
-ghost use Rattle.sm_cli.specs.ImageCommand.{run_status};
 ghost use Rattle.sm_cli.specs.Input.{IsInput, IsScriptInput};
 ghost use Rattle.sm_cli.specs.MonitorCommand.{start_of, script_answer};
 ghost use Rattle.cli_files.specs.NameText.{name_text};
 ghost use Rattle.cli_files.specs.Refusal.{status_of, line_of};
-ghost use Rattle.sm_cli.specs.Serve.{texts, call_of, Serves, Refuses, IsOrOutside, IsRoomForAnswer, IsRoomForLine, Completes};
+ghost use Rattle.sm_cli.specs.Serve.{texts, call_of, Serves, Refuses, IsOrOutside, Completes};
 
 use crate::commands::{Answering, read_command};
 use cli_files::{NO_MEMORY, Name, Refusal, Refused, Status, put_refusal};
@@ -40,16 +39,17 @@ pub fn serve<F: Files, O: Sink, E: Sink>(
     out: &mut O,
     err: &mut E,
 ) -> Status
-    // The headline: whatever image, schedule and bound are given, `out` takes exactly the outside trace of the written
-    // machine, and `err` nothing, unless the system fails or memory runs out; and for every image that differs in one
-    // confined module's data alone, whose calls give the same registers in the same cycles, it is the same trace, with
-    // equal views of all but that module at every cycle.
+    // The headline: whatever image, or objects of one, schedule and bound are given, `out` takes exactly the outside
+    // trace of the written machine, and `err` nothing, unless the system fails or memory runs out; and for every image
+    // that differs in one confined module's data alone, whose calls give the same registers in the same cycles, it is
+    // the same trace, with equal views of all but that module at every cycle.
     ensures headline { (value : ImageValue) (entries : List EntryValue) (cycles : ℕ) →
         IsInput (texts words.now) (F.content files.old) value entries cycles →
         ¬ (Rose (F.faults files.old) (F.faults files.new)) → ¬ (Rose (O.faults out.old) (O.faults out.new)) →
         ¬ (Rose (E.faults err.old) (E.faults err.new)) → result ≢ Status.NoMemory →
         (Took O.taken O.faults O.sure out.old out.new (trace value entries cycles) × (err.new ≡ err.old)
         × (result ≡ run_status (is_some (at value entries cycles).stop)))
+        × IsImage value
         × ((other : ImageValue) (m : ℕ) → Peers value other m →
         Took O.taken O.faults O.sure out.old out.new (trace other entries cycles)
         × ((k : ℕ) → k ≤ cycles →
@@ -118,22 +118,17 @@ pub fn serve<F: Files, O: Sink, E: Sink>(
     ensures complete_link_refused { (map : FileMap) (command : Command) (fault : LinkFaults) (name : List ℕ) →
         F.content files.old ≡ Some map → command_of (texts words.now) ≡ Some command →
         Comes (Some map) command (refuses fault name) → IsOrOutside Status.LinkRefused result }
-    ensures complete { (map : FileMap) (command : Command) (answer : Answer) →
+    ensures complete { (map : FileMap) (command : Command) (outcome : Outcome) →
         F.content files.old ≡ Some map → command_of (texts words.now) ≡ Some command →
-        IsAnswer (Some map) command answer →
+        Comes (Some map) command outcome →
         let call = call_of (texts words.now) (F.content files.old) (F.faults files.old) (F.faults files.new) in
-        Completes result answer
+        IfAnswered outcome (λ answer. Completes result answer
         (Took O.taken O.faults O.sure out.old out.new) (CutOff O.taken O.faults O.sure out.old out.new)
-        ((ended : Statuses) × Refuses call ended (CutOff E.taken E.faults E.sure err.old err.new)) }
+        ((ended : Statuses) × Refuses call ended (CutOff E.taken E.faults E.sure err.old err.new))) }
 
-    // Files that are sound are read without a fault, and sinks that are sure of enough take all.
+    // Files that are sound are read without a fault.
     ensures sound { IsTrue (F.sound files.old) →
         (result ≢ Status.ReadFault) × (F.faults files.new ≡ F.faults files.old) }
-    ensures sure { IsTrue (F.sound files.old) →
-        let call = call_of (texts words.now) (F.content files.old) (F.faults files.old) (F.faults files.new) in
-        IsRoomForAnswer (texts words.now) (F.content files.old) (O.sure out.old) →
-        IsRoomForLine call (E.sure err.old) →
-        (result ≢ Status.WriteFault) × (O.faults out.new ≡ O.faults out.old) × (E.faults err.new ≡ E.faults err.old) }
     ensures same_sound { F.sound files.new ≡ F.sound files.old }
     ensures same_files { F.content files.new ≡ F.content files.old }
     ensures unread { result ≡ Status.Usage → files.new ≡ files.old }

@@ -8,7 +8,8 @@ use Rattle.cli_files.specs.declared.answers.Refusal.{Refusal}
 use Rattle.cli_files.specs.declared.answers.Refusal.TheVariants as refusal
 use Rattle.cli_files.specs.Files.{Need, IsFirstFault, IsReached}
 use Rattle.cli_files.specs.Causes.{IsNeedCause}
-use Rattle.sm_cli.specs.Command.{Answer, Command, Comes, refuses, IsAnswer}
+use Rattle.image_text.specs.Image.{IsImage}
+use Rattle.sm_cli.specs.Command.{Answer, Command, Comes, Outcome, runs, refuses, IsAnswer}
 
 -- an answer ended with this status: its text was taken, or cut off
 abbrev pub EndsAs : Status → Answer → (took cut : List ℕ → Type 0) → Type 0
@@ -23,8 +24,14 @@ abbrev pub IsCommandCause : Option FileMap → ℕ → ℕ → Command → Refus
 IsCommandCause files before after command (refusal.Link fault) name = Comes files command (refuses fault name) × HasCause before after false
 IsCommandCause files before after command refused name = IsNeedCause files before after command.needs refused name
 
+-- what is run is an image
+abbrev pub IsSound : Outcome → Type 0
+IsSound (runs value entries cycles) = IsImage value
+IsSound _ = Unit {0}
+
 -- the files serve the command, and its answer ended so
 pub record IsRun (files : Option FileMap) (command : Command) (ended : Status) (took cut : List ℕ → Type 0) : Type 0 where
   pub answer : Answer
   pub served : IsAnswer files command answer
+  pub sound : IsSound served.outcome
   pub ends : EndsAs ended answer took cut

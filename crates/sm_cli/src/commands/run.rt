@@ -1,5 +1,6 @@
 //! `run LAYOUT SCHEDULE CYCLES OBJ..`: the outside trace of the image that objects link to.
 ghost use Rattle.std.specs.Prelude.{◌≡◌, ◌≤◌, IfOk, IfSome, length, map, drop, option_map, option_and_then};
+ghost use Rattle.image_text.specs.Image.{IsImage};
 ghost use Rattle.sm_cli.specs.declared.arguments.TheConstants.{MAX_CYCLES};
 ghost use Rattle.sm_cli.specs.RunCommand.{run_of};
 ghost use Rattle.sm_cli.specs.internal.RunCommand.{run_asked};
@@ -12,6 +13,7 @@ use crate::commands::image::put_trace;
 use crate::words::values_of;
 use board::Board;
 use cli_files::{NO_MEMORY, Refused, Status, linked_image, load, load_objects, load_schedule};
+use image_text::Image;
 use layout_file::Layout;
 use sm_io::{Files, Sink};
 use std::alloc::{AllocError, Global};
@@ -85,9 +87,17 @@ impl Answering for RunCommand<'_> {
             Ok(image) => image,
             Err(refused) => return Err(refused),
         };
+        tell_image(&image);
         match Board::new(alloc, &image, &schedule) {
             Ok(board) => Ok(put_trace(board, self.cycles, out)),
             Err(_) => Err(NO_MEMORY),
         }
     }
+}
+
+// What objects link to is an image. It does nothing.
+fn tell_image(image: &Image)
+    ensures { IsImage image.now }
+{
+    let _memory = &image.memory;
 }

@@ -18,5 +18,6 @@ returns-in-Ok-verdict_with-clause-ok g c =
         comes = record { helds = an_image chosen.image ∷ certificates arms ∷ []; hold = (c.in-Ok.ensures.holds, (held, tt)); is = ap (balanced_by chosen.image arms) c.in-Ok.ensures.chosen };
         is = record { verdict = verdict; is = c.in-Ok-verdict_with.ensures; tells = refl };
       };
+      sound = tt;
       ends = c.put_verdict.ensures;
     }

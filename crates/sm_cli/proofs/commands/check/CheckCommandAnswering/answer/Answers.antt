@@ -16,5 +16,6 @@ returns-in-Ok-verdict_of-clause-ok g c =
         comes = record { helds = an_image chosen.image ∷ []; hold = (c.in-Ok.ensures.holds, tt); is = ap (checked_by chosen.image) c.in-Ok.ensures.chosen };
         is = record { verdict = verdict; is = c.in-Ok-verdict_of.ensures; tells = refl };
       };
+      sound = tt;
       ends = c.put_verdict.ensures;
     }

@@ -9,7 +9,7 @@ use Rattle.cli_files.specs.SymbolNames.{symbol_name}
 use Rattle.cli_files.specs.Unlinked.{IsUnlinked}
 use Rattle.cli_files.specs.NameText.{name_text}
 use Rattle.cli_files.specs.Files.{need, layout_file, a_layout, an_object, object_needs, HoldAll}
-use Rattle.sm_cli.specs.LinkCommand.{linked_image, text_answer}
+use Rattle.sm_cli.specs.LinkCommand.{linked_image, text_answer, text_outcome}
 use Rattle.sm_cli.specs.internal.LinkCommand.{link_asked}
 use Rattle.cli_files.proofs.Objects.{cause_moved}
 use Rattle.sm_cli.proofs.Running.{link_comes, linked_gives, linked_refuses, put_answer, cause_first, cause_next, cause_unlinked}
@@ -51,7 +51,7 @@ returns-in-Err-linked_image-clause-refused g c =
     let hold = subst (λ f. HoldAll f (object_needs names) (map an_object objects)) c.in-Ok.ensures.same_files read in
     let unlinked = subst (λ (l : List ObjectValue). IsUnlinked layout l r.refusal (name_text r.name)) c.as_slice-2.ensures.value c.in-Err-linked_image.ensures.refused in
     cause_unlinked files _ _ r.refusal (name_text r.name) (link_asked own) layout objects
-    (λ fault e. link_comes files own.layout.now names layout objects (refuses fault (symbol_name layout objects fault)) c.in-Ok.ensures.holds hold (linked_refuses layout objects text_answer fault e))
+    (λ fault e. link_comes files own.layout.now names layout objects (refuses fault (symbol_name layout objects fault)) c.in-Ok.ensures.holds hold (linked_refuses layout objects text_outcome fault e))
     (c.in-Ok-load_objects.ensures.quiet ∙ c.in-Ok.ensures.quiet) unlinked
 
 pub returns-in-Ok-write-clause-ok : goal.returns-in-Ok-write-clause-ok
@@ -66,5 +66,5 @@ returns-in-Ok-write-clause-ok g c =
     let sound = subst (λ (l : List ObjectValue). link_fault_of layout l ≡ None) c.as_slice-2.ensures.value c.in-Ok-linked_image.ensures.sound in
     let image = c.in-Ok-linked_image.ensures.image ∙ ap (linked_image layout) c.as_slice-2.ensures.value in
     let text : c.as_slice-in-Ok-write.result.now ≡ image_text (linked_image layout objects) = c.as_slice-in-Ok-write.ensures.value ∙ c.in-Ok-write.ensures.text ∙ ap image_text image in
-    let comes = link_comes files own.layout.now names layout objects (gives (text_answer (linked_image layout objects))) c.in-Ok.ensures.holds hold (linked_gives layout objects text_answer sound) in
+    let comes = link_comes files own.layout.now names layout objects (gives (text_answer (linked_image layout objects))) c.in-Ok.ensures.holds hold (linked_gives layout objects text_outcome sound) in
     put_answer g.O.Sink.taken g.O.Sink.faults g.O.Sink.sure _ _ files (link_asked own) (text_answer (linked_image layout objects)) _ _ _ comes refl text c.put_all.ensures.put c.status_after.ensures

@@ -22,6 +22,7 @@ returns-in-Ok-end_of-clause-ok g c =
       answer = told;
       served = gives_answer (g.F.Files.content c.args.files.now) (lone_asked own) told
           (record { helds = an_image chosen.image ∷ []; hold = (c.in-Ok.ensures.holds, tt); is = ap (lone_by chosen.image registers own.limit) c.in-Ok.ensures.chosen });
+      sound = tt;
       ends = subst
           (λ (end : End). EndsAs c.put_end.result (end_answer own.limit end) (Took g.O.Sink.taken g.O.Sink.faults g.O.Sink.sure c.args.out.now c.put_end.new.out) (CutOff g.O.Sink.taken g.O.Sink.faults g.O.Sink.sure c.args.out.now c.put_end.new.out))
           ended c.put_end.ensures;

@@ -2,23 +2,22 @@ use Rattle.std.proofs.Common.{◌≡◌, None, List, ℕ, ◌++◌, map, Bor, �
 use Rattle.std.specs.Option.{option_copied}
 use Rattle.layout_file.specs.Layout.{layout_of}
 use Rattle.elf_objects.specs.Object.{ObjectValue}
-use Rattle.image_text.specs.Image.{Image}
+use Rattle.image_text.specs.Image.{Image, IsImage}
 use Rattle.linker.specs.Refusals.{link_fault_of}
 use Rattle.written_machine.specs.Marks.{Marked}
 use Rattle.sm_io.specs.Sink.{Took, CutOff}
-use Rattle.sm_cli.specs.Command.{refuses}
+use Rattle.sm_cli.specs.Command.{runs, refuses, trace_answer}
 use Rattle.sm_cli.specs.internal.Serve.{EndsAs}
 use Rattle.cli_files.specs.Causes.{IsNeedCause}
 use Rattle.cli_files.specs.SymbolNames.{symbol_name}
 use Rattle.cli_files.specs.Unlinked.{IsUnlinked}
 use Rattle.cli_files.specs.NameText.{name_text}
 use Rattle.cli_files.specs.Files.{need, layout_file, a_layout, an_object, schedule_needs, object_needs, HoldAll, IsScheduleOf}
-use Rattle.sm_cli.specs.ImageCommand.{trace_answer}
 use Rattle.sm_cli.specs.internal.ImageCommand.{answer_from}
 use Rattle.sm_cli.specs.LinkCommand.{linked_image}
 use Rattle.sm_cli.specs.internal.RunCommand.{run_asked}
 use Rattle.cli_files.proofs.Objects.{cause_moved}
-use Rattle.sm_cli.proofs.Running.{run_comes, run_answer, linked_refuses, cause_first, cause_next, cause_schedule, cause_scheduled, cause_unlinked}
+use Rattle.sm_cli.proofs.Running.{run_comes, linked_runs, runs_answer, linked_refuses, cause_first, cause_next, cause_schedule, cause_scheduled, cause_unlinked}
 use Rattle.sm_cli.proofs.Serving.{by_needs}
 use Rattle.sm_cli.proofs.commands.run.RunCommandAnswering.answer.Goals as goal
 
@@ -81,7 +80,7 @@ returns-in-Err-linked_image-clause-refused g c =
     let unlinked = subst (λ (l : List ObjectValue). IsUnlinked layout l r.refusal (name_text r.name)) c.as_slice-2.ensures.value c.in-Err-linked_image.ensures.refused in
     cause_unlinked files _ _ r.refusal (name_text r.name) (run_asked own) layout objects
     (λ fault e. run_comes files own.layout.now names layout objects schedule own.cycles entries (refuses fault (symbol_name layout objects fault)) c.in-Ok.ensures.holds scheduled hold
-    (linked_refuses layout objects (λ (image : Image). trace_answer image entries own.cycles) fault e))
+    (linked_refuses layout objects (λ (image : Image). runs image entries own.cycles) fault e))
     (c.in-Ok-load_objects.ensures.quiet ∙ c.in-Ok-load_schedule.ensures.quiet ∙ c.in-Ok.ensures.quiet) unlinked
 
 pub returns-in-Ok-new-clause-ok : goal.returns-in-Ok-new-clause-ok
@@ -103,6 +102,8 @@ returns-in-Ok-new-clause-ok g c =
     let run = subst (λ (m : Marked). EndsAs c.put_trace.result (answer_from m.present own.cycles) took cut) c.in-Ok-new.ensures.booted c.put_trace.ensures in
     record {
       answer = trace_answer (linked_image layout objects) entries own.cycles;
-      served = run_answer files own.layout.now names layout objects schedule own.cycles entries c.in-Ok.ensures.holds scheduled hold sound;
+      served = runs_answer files (run_asked own) (linked_image layout objects) entries own.cycles
+          (linked_runs files own.layout.now names layout objects schedule own.cycles entries c.in-Ok.ensures.holds scheduled hold sound);
+      sound = subst (λ (i : Image). IsImage i) image c.tell_image.ensures;
       ends = subst (λ (i : Image). EndsAs c.put_trace.result (trace_answer i entries own.cycles) took cut) image run;
     }

@@ -25,5 +25,6 @@ returns-clause-ok g c =
         hold = (c.in-Ok.ensures.holds, (challenges, (replies, tt)));
         is = ap (report_by own.provider chosen.image list sent) c.in-Ok.ensures.chosen;
       });
+      sound = tt;
       ends = subst (λ (key : List ℕ). EndsAs c.put_report.result (report_answer key list sent) (Took g.O.Sink.taken g.O.Sink.faults g.O.Sink.sure c.args.out.now c.put_report.new.out) (CutOff g.O.Sink.taken g.O.Sink.faults g.O.Sink.sure c.args.out.now c.put_report.new.out)) c.key_of-key.ensures c.put_report.ensures;
     }

@@ -1,0 +1,265 @@
+-- Something comes of the files of every command line.
+use Rattle.std.proofs.Common.{◌≡◌, ℕ, ◌%◌, ◌==◌, ◌&&◌, nat_le, Bool, true, false, if◌then◌else◌, is_some, List, [], ◌∷◌, ◌++◌, Option, Some, None, option_map, refl, ap, sym, ◌∙◌, subst}
+use Rattle.std.specs.Prelude.{codes, option_and_then}
+use Rattle.std.specs.Str.{bytes_eq}
+use Rattle.sm_io.specs.Files.{FileMap}
+use Rattle.texts.specs.Hexadecimals.{read_hex_word, read_hex_key}
+use Rattle.mod_layout.specs.declared.Module.{Module}
+use Rattle.mod_layout.specs.Table.{module_of}
+use Rattle.image_text.specs.Image.{Image}
+use Rattle.layout_file.specs.Values.{LayoutValue}
+use Rattle.elf_objects.specs.Object.{ObjectValue}
+use Rattle.link_symbols.specs.declared.fault.LinkFault.{LinkFault}
+use Rattle.linker.specs.Refusals.{link_fault_of}
+use Rattle.arm_balance.specs.declared.Arm.{Arm}
+use Rattle.vendor_tool.specs.declared.Challenge.{Challenge}
+use Rattle.cli_files.specs.Files.{Held, an_image, a_schedule, the_challenges, the_replies, certificates, a_layout, a_script, a_unit, HoldAll}
+use Rattle.sm_cli.specs.Words.{Text, values_in}
+use Rattle.sm_cli.specs.Arguments.{id_of, cycles_of, file_named}
+use Rattle.sm_cli.specs.Command.{Command, Outcome, gives, runs, nothing, Comes}
+use Rattle.sm_cli.specs.CommandLine.{command_by, command_of}
+use Rattle.sm_cli.specs.AsmCommand.{asm_command, asm_of}
+use Rattle.sm_cli.specs.BalanceCommand.{balanced_by, balance_command, balance_in, balance_of}
+use Rattle.sm_cli.specs.ChallengeCommand.{challenge_command, challenge_of}
+use Rattle.sm_cli.specs.CheckCommand.{checked_by, check_command, check_of}
+use Rattle.sm_cli.specs.DisCommand.{dis_command, range_command, dis_of}
+use Rattle.sm_cli.specs.ImageCommand.{image_command, image_of}
+use Rattle.sm_cli.specs.KeyCommand.{keys_by, key_command, key_of}
+use Rattle.sm_cli.specs.LinkCommand.{linked_by, link_command, link_of, objects_in, text_outcome}
+use Rattle.sm_cli.specs.LoneCommand.{lone_by, lone_command, lone_with, lone_of}
+use Rattle.sm_cli.specs.MakeCommand.{make_command, make_of, seed_of}
+use Rattle.sm_cli.specs.MonitorCommand.{monitor_command, monitor_of}
+use Rattle.sm_cli.specs.declared.pairs.Pair.{Pair}
+use Rattle.sm_cli.specs.Pairs.{core_with, pairs_in}
+use Rattle.sm_cli.specs.RunCommand.{run_command, run_of}
+use Rattle.sm_cli.specs.VendorCommand.{report_by, vendor_command, vendor_of}
+
+-- what files that serve the command hold comes to something
+abbrev Sound : Command → Type 0
+Sound command = (map : FileMap) (helds : List Held) → HoldAll (Some map) command.needs helds → command.outcome helds ≡ nothing → ⊥
+
+-- ---- the commands
+
+sound_image : (name : Text) (schedule : Option Text) (cycles : ℕ) → Sound (image_command name schedule cycles)
+sound_image name schedule cycles map [] h e = h
+sound_image name schedule cycles map (an_image value ∷ more) h e = cc
+sound_image name schedule cycles map (held ∷ more) h e = h.0.is
+
+some_key : (value : Image) (o : Option Module) → is_some o ≡ true → keys_by value o ≡ nothing → ⊥
+some_key value None s e = cc
+some_key value (Some m) s e = cc
+
+sound_key : (name : Text) (id : ℕ) → Sound (key_command name id)
+sound_key name id map [] h e = h
+sound_key name id map (an_image value ∷ []) h e = some_key value (module_of id value.table) h.0.is.1 e
+sound_key name id map (an_image value ∷ held ∷ more) h e = h.1
+sound_key name id map (held ∷ more) h e = h.0.is
+
+sound_dis : (name : Text) (start end : ℕ) → Sound (dis_command name start end)
+sound_dis name start end map [] h e = h
+sound_dis name start end map (an_image value ∷ []) h e = cc
+sound_dis name start end map (an_image value ∷ held ∷ more) h e = h.1
+sound_dis name start end map (held ∷ more) h e = h.0.is
+
+sound_challenge : (name : Text) → Sound (challenge_command name)
+sound_challenge name map [] h e = h
+sound_challenge name map (the_challenges list ∷ []) h e = cc
+sound_challenge name map (the_challenges list ∷ held ∷ more) h e = h.1
+sound_challenge name map (held ∷ more) h e = h.0.is
+
+some_report : (provider : List ℕ) (value : Image) (list : List Challenge) (sent : List ℕ) (o : Option Module) → is_some o ≡ true → report_by provider value list sent o ≡ nothing → ⊥
+some_report provider value list sent None s e = cc
+some_report provider value list sent (Some m) s e = cc
+
+sound_vendor : (image challenges trace : Text) (id : ℕ) (provider : List ℕ) → Sound (vendor_command image challenges trace id provider)
+sound_vendor image challenges trace id provider map [] h e = h
+sound_vendor image challenges trace id provider map (held ∷ []) h e = h.1
+sound_vendor image challenges trace id provider map (held ∷ second ∷ []) h e = h.1.1
+sound_vendor image challenges trace id provider map (an_image value ∷ the_challenges list ∷ the_replies sent ∷ []) h e = some_report provider value list sent (module_of id value.table) h.0.is.1 e
+sound_vendor image challenges trace id provider map (an_image value ∷ the_challenges list ∷ the_replies sent ∷ held ∷ more) h e = h.1.1.1
+sound_vendor image challenges trace id provider map (an_image value ∷ the_challenges list ∷ third ∷ more) h e = h.1.1.0.is
+sound_vendor image challenges trace id provider map (an_image value ∷ second ∷ third ∷ more) h e = h.1.0.is
+sound_vendor image challenges trace id provider map (held ∷ second ∷ third ∷ more) h e = h.0.is
+
+some_check : (value : Image) (o : Option Module) → is_some o ≡ true → checked_by value o ≡ nothing → ⊥
+some_check value None s e = cc
+some_check value (Some m) s e = cc
+
+sound_check : (name : Text) (id : ℕ) → Sound (check_command name id)
+sound_check name id map [] h e = h
+sound_check name id map (an_image value ∷ []) h e = some_check value (module_of id value.table) h.0.is.1 e
+sound_check name id map (an_image value ∷ held ∷ more) h e = h.1
+sound_check name id map (held ∷ more) h e = h.0.is
+
+some_balance : (value : Image) (arms : List Arm) (o : Option Module) → is_some o ≡ true → balanced_by value arms o ≡ nothing → ⊥
+some_balance value arms None s e = cc
+some_balance value arms (Some m) s e = cc
+
+sound_balance : (name : Text) (id : ℕ) (arms : Text) → Sound (balance_command name id arms)
+sound_balance name id arms map [] h e = h
+sound_balance name id arms map (held ∷ []) h e = h.1
+sound_balance name id arms map (an_image value ∷ certificates own ∷ []) h e = some_balance value own (module_of id value.table) h.0.is.1 e
+sound_balance name id arms map (an_image value ∷ certificates own ∷ held ∷ more) h e = h.1.1
+sound_balance name id arms map (an_image value ∷ second ∷ more) h e = h.1.0.is
+sound_balance name id arms map (held ∷ second ∷ more) h e = h.0.is
+
+-- objects link, or they do not
+some_linked : (layout : LayoutValue) (objects : List ObjectValue) (outcome : Image → Outcome) (fault : Option LinkFault) → ((image : Image) → outcome image ≡ nothing → ⊥)
+    → linked_by layout objects outcome fault ≡ nothing → ⊥
+some_linked layout objects outcome None s e = s _ e
+some_linked layout objects outcome (Some fault) s e = cc
+
+sound_link : (layout : Text) (objects : List Text) → Sound (link_command layout objects)
+sound_link name objects map [] h e = h
+sound_link name objects map (a_layout layout ∷ more) h e = some_linked layout (objects_in more) text_outcome (link_fault_of layout (objects_in more)) (λ image e. cc) e
+sound_link name objects map (held ∷ more) h e = h.0.is
+
+sound_run : (layout : Text) (schedule : Option Text) (cycles : ℕ) (objects : List Text) → Sound (run_command layout schedule cycles objects)
+sound_run name schedule cycles objects map [] h e = h
+sound_run name None cycles objects map (a_layout layout ∷ more) h e =
+    some_linked layout (objects_in more) (λ image. runs image [] cycles) (link_fault_of layout (objects_in more)) (λ image e. cc) e
+sound_run name (Some own) cycles objects map (a_layout layout ∷ []) h e = h.1
+sound_run name (Some own) cycles objects map (a_layout layout ∷ a_schedule entries ∷ more) h e =
+    some_linked layout (objects_in more) (λ image. runs image entries cycles) (link_fault_of layout (objects_in more)) (λ image e. cc) e
+sound_run name (Some own) cycles objects map (a_layout layout ∷ held ∷ more) h e = h.1.0.is
+sound_run name schedule cycles objects map (held ∷ more) h e = h.0.is
+
+some_lone : (value : Image) (registers : List ℕ) (limit : ℕ) (o : Option Module) → is_some o ≡ true → lone_by value registers limit o ≡ nothing → ⊥
+some_lone value registers limit None s e = cc
+some_lone value registers limit (Some m) s e = cc
+
+sound_lone : (name : Text) (id limit : ℕ) (registers : List ℕ) → Sound (lone_command name id limit registers)
+sound_lone name id limit registers map [] h e = h
+sound_lone name id limit registers map (an_image value ∷ []) h e = some_lone value registers limit (module_of id value.table) h.0.is.1 e
+sound_lone name id limit registers map (an_image value ∷ held ∷ more) h e = h.1
+sound_lone name id limit registers map (held ∷ more) h e = h.0.is
+
+sound_monitor : (name : Text) (schedule : Option Text) (script : Text) → Sound (monitor_command name schedule script)
+sound_monitor name schedule script map [] h e = h
+sound_monitor name None script map (held ∷ []) h e = h.1
+sound_monitor name None script map (an_image value ∷ a_script lines ∷ []) h e = cc
+sound_monitor name None script map (an_image value ∷ a_script lines ∷ third ∷ more) h e = h.1.1
+sound_monitor name None script map (an_image value ∷ second ∷ more) h e = h.1.0.is
+sound_monitor name (Some own) script map (held ∷ []) h e = h.1
+sound_monitor name (Some own) script map (held ∷ second ∷ []) h e = h.1.1
+sound_monitor name (Some own) script map (an_image value ∷ a_schedule entries ∷ a_script lines ∷ []) h e = cc
+sound_monitor name (Some own) script map (an_image value ∷ a_schedule entries ∷ a_script lines ∷ fourth ∷ more) h e = h.1.1.1
+sound_monitor name (Some own) script map (an_image value ∷ a_schedule entries ∷ third ∷ more) h e = h.1.1.0.is
+sound_monitor name (Some own) script map (an_image value ∷ second ∷ third ∷ more) h e = h.1.0.is
+sound_monitor name schedule script map (held ∷ more) h e = h.0.is
+
+sound_asm : (name : Text) → Sound (asm_command name)
+sound_asm name map [] h e = h
+sound_asm name map (a_unit unit ∷ []) h e = cc
+sound_asm name map (a_unit unit ∷ held ∷ more) h e = h.1
+sound_asm name map (held ∷ more) h e = h.0.is
+
+sound_make : (seed : ℕ) → Sound (make_command seed)
+sound_make seed map helds h e = cc
+
+-- ---- the command of words
+
+abbrev IfSound : Option Command → Type 0
+IfSound o = (command : Command) → o ≡ Some command → Sound command
+
+if_none : IfSound None
+if_none command e = absurd cc
+
+if_some : (own : Command) → Sound own → IfSound (Some own)
+if_some own s command e = let same : own ≡ command = cc in subst Sound same s
+
+if_map : {A : Type 0} (f : A → Command) (o : Option A) → ((a : A) → Sound (f a)) → IfSound (option_map f o)
+if_map f None s = if_none
+if_map f (Some a) s = if_some (f a) (s a)
+
+if_then : {A : Type 0} (f : A → Option Command) (o : Option A) → ((a : A) → IfSound (f a)) → IfSound (option_and_then f o)
+if_then f None s = if_none
+if_then f (Some a) s = s a
+
+if_else : (b : Bool) (x y : Option Command) → IfSound x → IfSound y → IfSound (if b then x else y)
+if_else true x y s t = s
+if_else false x y s t = t
+
+of_image : (vs : List Text) → IfSound (image_of vs)
+of_image (name ∷ schedule ∷ cycles ∷ []) = if_map (image_command name (file_named schedule)) (cycles_of cycles) (sound_image name (file_named schedule))
+of_image _ = if_none
+
+of_key : (vs : List Text) → IfSound (key_of vs)
+of_key (name ∷ id ∷ []) = if_map (key_command name) (id_of id) (sound_key name)
+of_key _ = if_none
+
+of_dis : (vs : List Text) → IfSound (dis_of vs)
+of_dis (name ∷ start ∷ end ∷ []) =
+    if_then (λ s. option_and_then (λ e. range_command name s e) (read_hex_word end)) (read_hex_word start)
+    (λ s. if_then (λ e. range_command name s e) (read_hex_word end) (λ e. if_else ((s % 2 == 0) && nat_le s e) (Some (dis_command name s e)) None (if_some (dis_command name s e) (sound_dis name s e)) if_none))
+of_dis _ = if_none
+
+of_challenge : (vs : List Text) → IfSound (challenge_of vs)
+of_challenge (name ∷ []) = if_some (challenge_command name) (sound_challenge name)
+of_challenge _ = if_none
+
+of_vendor : (vs : List Text) → IfSound (vendor_of vs)
+of_vendor (image ∷ id ∷ provider ∷ challenges ∷ trace ∷ []) =
+    if_then (λ n. option_map (λ key. vendor_command image challenges trace n key) (read_hex_key provider)) (id_of id)
+    (λ n. if_map (λ key. vendor_command image challenges trace n key) (read_hex_key provider) (sound_vendor image challenges trace n))
+of_vendor _ = if_none
+
+of_check : (vs : List Text) → IfSound (check_of vs)
+of_check (name ∷ id ∷ []) = if_map (check_command name) (id_of id) (sound_check name)
+of_check _ = if_none
+
+of_balance : (vs : List Text) → IfSound (balance_of vs)
+of_balance (name ∷ id ∷ arms ∷ []) = if_map (balance_in name arms) (id_of id) (λ n. sound_balance name n arms)
+of_balance _ = if_none
+
+of_link : (vs : List Text) → IfSound (link_of vs)
+of_link (layout ∷ objects) = if_some (link_command layout objects) (sound_link layout objects)
+of_link [] = if_none
+
+of_run : (vs : List Text) → IfSound (run_of vs)
+of_run (layout ∷ schedule ∷ cycles ∷ objects) =
+    if_map (λ n. run_command layout (file_named schedule) n objects) (cycles_of cycles) (λ n. sound_run layout (file_named schedule) n objects)
+of_run _ = if_none
+
+with_lone : (name : Text) (id limit : Option ℕ) (pairs : Option (List Pair)) → IfSound (lone_with name id limit pairs)
+with_lone name (Some id) (Some limit) (Some pairs) = if_some (lone_command name id limit (core_with pairs)) (sound_lone name id limit (core_with pairs))
+with_lone name _ _ _ = if_none
+
+of_lone : (vs : List Text) → IfSound (lone_of vs)
+of_lone (name ∷ id ∷ limit ∷ pairs) = with_lone name (id_of id) (cycles_of limit) (pairs_in pairs)
+of_lone _ = if_none
+
+of_monitor : (vs : List Text) → IfSound (monitor_of vs)
+of_monitor (name ∷ schedule ∷ script ∷ []) = if_some (monitor_command name (file_named schedule) script) (sound_monitor name (file_named schedule) script)
+of_monitor _ = if_none
+
+of_asm : (vs : List Text) → IfSound (asm_of vs)
+of_asm (name ∷ []) = if_some (asm_command name) (sound_asm name)
+of_asm _ = if_none
+
+of_make : (vs : List Text) → IfSound (make_of vs)
+of_make (seed ∷ []) = if_map make_command (seed_of seed) sound_make
+of_make _ = if_none
+
+of_name : (name : Text) (words : List Text) → IfSound (command_by name words)
+of_name name words =
+    if_else (bytes_eq name (codes "image")) _ _ (if_then image_of (values_in 3 3 words) of_image) (
+    if_else (bytes_eq name (codes "key")) _ _ (if_then key_of (values_in 2 2 words) of_key) (
+    if_else (bytes_eq name (codes "dis")) _ _ (if_then dis_of (values_in 3 3 words) of_dis) (
+    if_else (bytes_eq name (codes "challenge")) _ _ (if_then challenge_of (values_in 1 1 words) of_challenge) (
+    if_else (bytes_eq name (codes "vendor")) _ _ (if_then vendor_of (values_in 5 5 words) of_vendor) (
+    if_else (bytes_eq name (codes "check")) _ _ (if_then check_of (values_in 2 2 words) of_check) (
+    if_else (bytes_eq name (codes "balance")) _ _ (if_then balance_of (values_in 3 3 words) of_balance) (
+    if_else (bytes_eq name (codes "link")) _ _ (if_then link_of (values_in 2 65 words) of_link) (
+    if_else (bytes_eq name (codes "run")) _ _ (if_then run_of (values_in 4 67 words) of_run) (
+    if_else (bytes_eq name (codes "lone")) _ _ (if_then lone_of (values_in 3 17 words) of_lone) (
+    if_else (bytes_eq name (codes "monitor")) _ _ (if_then monitor_of (values_in 3 3 words) of_monitor) (
+    if_else (bytes_eq name (codes "asm")) _ _ (if_then asm_of (values_in 1 1 words) of_asm) (
+    if_else (bytes_eq name (codes "make")) _ _ (if_then make_of (values_in 1 1 words) of_make) (
+    if_none)))))))))))))
+
+-- what comes of the files of a command line is something
+pub something : (words : List Text) (map : FileMap) (command : Command) (outcome : Outcome) → command_of words ≡ Some command → Comes (Some map) command outcome → outcome ≡ nothing → ⊥
+unfolding command_of
+something [] map command outcome c h e = cc
+something (name ∷ words) map command outcome c h e = of_name name words command c map h.helds h.hold (h.is ∙ e)
