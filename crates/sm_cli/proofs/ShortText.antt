@@ -68,13 +68,22 @@ short_text i image =
     let handler : length (handler_line i.handler_sp) ≡ 12 = refl in
     let key : length (key_line i.node_key) ≡ suc (suc (suc (suc (length (hex_key i.node_key))))) = refl in
     let tail = count_text i.table.room i.table.given (modules_text i.table.modules (memory_text i.memory)) in
-    omega (arith, few, handler, key, image.all_held, image.sixteen, long_key i.node_key, first_long i.table.room,
-    long_ended (first_line i.table.room) (ended (key_line i.node_key) (text_after_key i)),
-    long_ended (key_line i.node_key) (text_after_key i),
-    long_ended (handler_line i.handler_sp) tail,
-    count_long i.table.room i.table.given (modules_text i.table.modules (memory_text i.memory)) few,
-    modules_long i.table.modules (memory_text i.memory),
-    memory_long i.memory)
+    omega (
+      arith,
+      few,
+      handler,
+      key,
+      image.all_held,
+      image.sixteen,
+      long_key i.node_key,
+      first_long i.table.room,
+      long_ended (first_line i.table.room) (ended (key_line i.node_key) (text_after_key i)),
+      long_ended (key_line i.node_key) (text_after_key i),
+      long_ended (handler_line i.handler_sp) tail,
+      count_long i.table.room i.table.given (modules_text i.table.modules (memory_text i.memory)) few,
+      modules_long i.table.modules (memory_text i.memory),
+      memory_long i.memory,
+    )
   where
     room_few : (i.table.room ≡ 8) ⊎ (i.table.room ≡ 32) → length i.table.modules ≤ i.table.room → length i.table.modules ≡ i.table.given → i.table.given ≤ 32
     room_few (inl e) h k = omega (arith, e, h, k)

@@ -49,8 +49,8 @@ cycle_lines s (suc n) k part lt h =
     ⊎_elim
     (λ below. has_before (lines_after s n) (lines_of t.cycle (cycle t).events) part (cycle_lines s n k part below h))
     (λ here.
-        let same : k ≡ n = omega arith in
-        has_after (lines_after s n) (lines_of t.cycle (cycle t).events) part (subst (λ i. Has (lines_of (after_cycles s i).cycle (cycle (after_cycles s i)).events) part) same h))
+    let same : k ≡ n = omega arith in
+    has_after (lines_after s n) (lines_of t.cycle (cycle t).events) part (subst (λ i. Has (lines_of (after_cycles s i).cycle (cycle (after_cycles s i)).events) part) same h))
     (cases_lt k n)
 
 -- a stopped machine stays so
