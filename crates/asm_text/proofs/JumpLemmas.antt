@@ -1,12 +1,11 @@
 -- The word of a jump means that jump, which leads to its label.
-use Rattle.std.proofs.Common.{ℕ, zero, suc, ◌≡◌, ◌+◌, ◌-◌, ◌*◌, ◌/◌, ◌%◌, ◌<◌, ◌≤◌, Bool, true, false, cond, nat_lt, nat_le, Some, refl, ap, ◌∙◌, arith}
+use Rattle.std.proofs.Common.{ℕ, zero, suc, ◌≡◌, ◌+◌, ◌-◌, ◌*◌, ◌/◌, ◌%◌, ◌<◌, ◌≤◌, Bool, true, false, cond, nat_lt, nat_le, refl, ap, ◌∙◌, subst, arith}
 use Rattle.std.specs.Prelude.{ℤ, pos, negsuc, ◌-ℤ◌}
 use Rattle.std.proofs.lemmas.Bool.Decides.{nat_tests}
 use Rattle.std.proofs.lemmas.Int.{ints}
 use Rattle.insn_decode.specs.declared.insn.Insn.TheVariants.{Jump}
 use Rattle.insn_decode.specs.Code.{offset_of}
-use Rattle.insn_decode.specs.Means.{jump}
-use Rattle.insn_decode.proofs.Table.{means_insn}
+use Rattle.insn_decode.specs.Means.{Means, jump}
 use Rattle.asm_text.specs.Emission.{is_near, offset_bits, jump_word}
 use Rattle.asm_text.specs.Jumps.{target_of}
 use Rattle.asm_text.specs.Laws.{JumpsAreMeant, JumpsLead}
@@ -36,10 +35,10 @@ bits_mean (negsuc n) near =
 pub jumps_are_meant : JumpsAreMeant
 jumps_are_meant c w1 w2 offset low near =
     let b = has_bits c (offset_bits offset) low (bits_low offset near) in
-    (means_insn (jump b.form)).0
-    ∙ (ap (λ k. Some (Jump k (offset_of (jump_word c offset % 1024)))) b.cond_is
-    ∙ (ap (λ k. Some (Jump c (offset_of k))) b.bits_are
-    ∙ ap (λ o. Some (Jump c o)) (bits_mean offset near)))
+    let w = jump_word c offset in
+    subst (λ o. Means w w1 w2 (Jump c o) 1) (bits_mean offset near)
+    (subst (λ (n : ℕ). Means w w1 w2 (Jump c (offset_of n)) 1) b.bits_are
+    (subst (λ (n : ℕ). Means w w1 w2 (Jump n (offset_of (w % 1024))) 1) b.cond_is (jump b.form)))
 
 minus : (k : ℕ) → (pos 0 -ℤ pos (suc k)) ≡ negsuc k
 minus k = omega (arith, ints)

@@ -115,7 +115,7 @@ two_bytes n cond' offset bytes e = by (is_near offset) e
     by true e = let same : word_bytes (jump_word cond' offset) ≡ bytes = cc in ap length (sym same)
     by false e = absurd cc
 
-jump_size : (n section here cond' : ℕ) (spot : Option Spot) (bytes : List ℕ) → jump_bytes n section here cond' spot ≡ Ok bytes → length bytes ≡ 2
+pub jump_size : (n section here cond' : ℕ) (spot : Option Spot) (bytes : List ℕ) → jump_bytes n section here cond' spot ≡ Ok bytes → length bytes ≡ 2
 jump_size n section here cond' None bytes e = absurd cc
 jump_size n section here cond' (Some spot) bytes e = by (nat_eq spot.section section) e
   where

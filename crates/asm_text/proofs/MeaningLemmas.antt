@@ -11,10 +11,9 @@ use Rattle.insn_decode.specs.declared.insn.Operand.{Operand}
 use Rattle.insn_decode.specs.declared.insn.Operand.TheVariants.{Reg, Const, Imm, Indexed, Symbolic, Absolute, Indirect, Increment}
 use Rattle.insn_decode.specs.declared.insn.Insn.{Insn}
 use Rattle.insn_decode.specs.declared.insn.Insn.TheVariants.{Two, One, Jump, Reti, Unit as UnitOp}
-use Rattle.insn_decode.specs.Code.{words_of as words_in, width_of, insn_of, one_fits, is_constant}
-use Rattle.insn_decode.specs.Means.{two_code, one_code, IsPlain, Source, register, symbolic, absolute, indexed, indirect, increment, immediate, four, eight, nought, one, two, all_ones, Destination, to_register, to_symbolic, to_absolute, to_indexed, format_one, format_two, return, unit}
-use Rattle.insn_decode.proofs.Table.{means_insn}
-use Rattle.asm_text.specs.Encoding.{source_mode, source_register, dest_mode, byte_flag, first_word, extension, meaning, is_plain, is_source, is_dest, is_coded}
+use Rattle.insn_decode.specs.Code.{words_of as words_in, width_of, one_fits, is_constant}
+use Rattle.insn_decode.specs.Means.{two_code, one_code, Means, IsPlain, Source, register, symbolic, absolute, indexed, indirect, increment, immediate, four, eight, nought, one, two, all_ones, Destination, to_register, to_symbolic, to_absolute, to_indexed, format_one, format_two, return, unit}
+use Rattle.asm_text.specs.Encoding.{source_mode, source_register, dest_mode, byte_flag, first_word, extension, IsMeant, is_plain, is_source, is_dest, is_coded}
 
 -- ---- the fields of a first word
 
@@ -186,7 +185,7 @@ pair (Indirect r) d = no_source (Indirect r) d refl refl
 pair (Increment r) d = no_source (Increment r) d refl refl
 pair _ d = record { other = 0; source = refl; more = 0; dest = first_of d }
 
-two_means : (op : TwoOp) (w : Width) (s d : Operand) → is_source s ≡ true → is_dest d ≡ true → meaning (Two op w s d) ≡ Some (Two op w s d)
+two_means : (op : TwoOp) (w : Width) (s d : Operand) → is_source s ≡ true → is_dest d ≡ true → IsMeant (Two op w s d)
 unfolding first_word
 two_means op w s d hs hd =
     let w0 = two_code op * 4096 + source_register s * 256 + dest_mode d * 128 + byte_flag w * 64 + source_mode s * 16 + source_register d in
@@ -199,9 +198,9 @@ two_means op w s d hs hd =
     let dest : Destination ((w0 / 128) % 2) (w0 % 16) (cond (nat_eq (words_in s) 1) w2 w1) d =
     subst (λ m. Destination m (w0 % 16) (cond (nat_eq (words_in s) 1) w2 w1) d) (sym f.dest_mode_is) (subst (λ r. Destination (dest_mode d) r (cond (nat_eq (words_in s) 1) w2 w1) d) (sym f.register_is) (subst (λ x. Destination (dest_mode d) (source_register d) x d) p.dest (dest_is d p.more hd))) in
     let width : width_of ((w0 / 64) % 2) ≡ w = ap width_of f.byte ∙ flag_width w in
-    subst (λ (v : Width). insn_of w0 w1 w2 ≡ Some (Two op v s d)) width (means_insn (format_one op s d f.op_is source dest)).0
+    subst (λ (v : Width). Means w0 w1 w2 (Two op v s d) (1 + words_in s + words_in d)) width (format_one op s d f.op_is source dest)
 
-one_means : (op : OneOp) (w : Width) (a : Operand) → is_source a ≡ true → one_fits op w a ≡ true → meaning (One op w a) ≡ Some (One op w a)
+one_means : (op : OneOp) (w : Width) (a : Operand) → is_source a ≡ true → one_fits op w a ≡ true → IsMeant (One op w a)
 unfolding first_word
 one_means op w a ha fits =
     let w0 = 4096 + one_code op * 128 + byte_flag w * 64 + source_mode a * 16 + source_register a in
@@ -211,21 +210,21 @@ one_means op w a ha fits =
     let source : Source ((w0 / 16) % 4) (w0 % 16) w1 a =
     subst (λ m. Source m (w0 % 16) w1 a) (sym f.mode) (subst (λ r. Source (source_mode a) r w1 a) (sym f.register_is) (subst (λ x. Source (source_mode a) (source_register a) x a) (first_of a) (source_is a 0 ha))) in
     let width : width_of ((w0 / 64) % 2) ≡ w = ap width_of f.byte ∙ flag_width w in
-    subst (λ (v : Width). insn_of w0 w1 w2 ≡ Some (One op v a)) width
-    (means_insn (format_two op a f.form f.op_is source (subst (λ (v : Width). one_fits op v a ≡ true) (sym width) fits))).0
+    subst (λ (v : Width). Means w0 w1 w2 (One op v a) (1 + words_in a)) width
+    (format_two op a f.form f.op_is source (subst (λ (v : Width). one_fits op v a ≡ true) (sym width) fits))
 
-unit_means : (n : ℕ) → n < 7 → meaning (UnitOp n) ≡ Some (UnitOp n)
+unit_means : (n : ℕ) → n < 7 → IsMeant (UnitOp n)
 unfolding first_word
 unit_means n low =
     let small : n % 8 ≡ n = omega arith in
-    subst (λ k. insn_of (4992 + k) 0 0 ≡ Some (UnitOp n)) (sym small) (means_insn (unit n low refl)).0
+    subst (λ k. Means (4992 + k) 0 0 (UnitOp n) 1) (sym small) (unit n low refl)
 
-pub coded_means : (insn : Insn) → is_coded insn ≡ true → meaning insn ≡ Some insn
+pub coded_means : (insn : Insn) → is_coded insn ≡ true → IsMeant insn
 unfolding first_word
 coded_means (Two op w s d) e = let b = and_parts (is_source s) (is_dest d) e in two_means op w s d b.0 b.1
 coded_means (One op w a) e = let b = and_parts (is_source a) (one_fits op w a) e in one_means op w a b.0 b.1
 coded_means (Jump c o) e = absurd cc
-coded_means Reti e = (means_insn {w0 = 4864} {w1 = 0} {w2 = 0} (return refl)).0
+coded_means Reti e = return refl
 coded_means (UnitOp n) e = unit_means n (low n e)
   where
     low : (n : ℕ) → nat_lt n 7 ≡ true → n < 7

@@ -121,7 +121,7 @@ pub record IsNextLine (m : Meanings) (n : ℕ) (e : Emitted) (s : Statement ℕ)
   pub is : emitted m n e s ≡ Ok after
   pub goes : emitted_from m (n + 1) after rest ≡ Ok end
 
-next_line : (m : Meanings) (n : ℕ) (e : Emitted) (s : Statement ℕ) (rest : List (Statement ℕ)) (end : Emitted) → emitted_from m n e (s ∷ rest) ≡ Ok end → IsNextLine m n e s rest end
+pub next_line : (m : Meanings) (n : ℕ) (e : Emitted) (s : Statement ℕ) (rest : List (Statement ℕ)) (end : Emitted) → emitted_from m n e (s ∷ rest) ≡ Ok end → IsNextLine m n e s rest end
 next_line m n e s rest end k = by (emitted m n e s) refl k
   where
     by : (r : Result Emitted AsmFault) → emitted m n e s ≡ r → emitted_next r (λ f. emitted_from m (n + 1) f rest) ≡ Ok end → IsNextLine m n e s rest end
@@ -323,7 +323,7 @@ pub record IsAccepted (s : Source) (u : UnitValue) : Type 0 where
   pub is : emitted_from (meanings s places) 1 nothing s.statements ≡ Ok end
   pub unit : unit_for s places end ≡ u
 
-accepted : (s : Source) (u : UnitValue) → assembled_source s ≡ Ok u → IsAccepted s u
+pub accepted : (s : Source) (u : UnitValue) → assembled_source s ≡ Ok u → IsAccepted s u
 accepted s u k = by (placed_from 1 (nowhere (names_of s)) s.statements) refl k
   where
     by_end : (p : Placed) (r : Result Emitted AsmFault) → placed_from 1 (nowhere (names_of s)) s.statements ≡ Ok p → emitted_from (meanings s p) 1 nothing s.statements ≡ r → with_emitted s p r ≡ Ok u → IsAccepted s u

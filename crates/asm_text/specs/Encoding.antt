@@ -1,13 +1,13 @@
 -- The words of an instruction (MSP430x1xx Family User's Guide SLAU049, sections 3.3 and 3.4).
-use Rattle.std.specs.Prelude.{ℕ, ◌+◌, ◌*◌, ◌/◌, ◌%◌, ◌==◌, nat_lt, Bool, true, false, not, ◌&&◌, if◌then◌else◌, List, [], ◌∷◌, ◌++◌, slice_index_or, Option, flat_map}
+use Rattle.std.specs.Prelude.{ℕ, ◌+◌, ◌*◌, ◌/◌, ◌%◌, ◌==◌, nat_lt, Bool, true, false, not, ◌&&◌, if◌then◌else◌, List, [], ◌∷◌, ◌++◌, slice_index_or, flat_map}
 use Rattle.sm_words.specs.declared.width.Width.{Width}
 use Rattle.sm_words.specs.declared.width.Width.TheVariants.{Byte, Word}
 use Rattle.insn_decode.specs.declared.insn.Operand.{Operand}
 use Rattle.insn_decode.specs.declared.insn.Operand.TheVariants.{Reg, Const, Imm, Indexed, Symbolic, Absolute, Indirect, Increment}
 use Rattle.insn_decode.specs.declared.insn.Insn.{Insn}
 use Rattle.insn_decode.specs.declared.insn.Insn.TheVariants.{Two, One, Jump, Reti, Unit as UnitOp}
-use Rattle.insn_decode.specs.Code.{insn_of, one_fits, is_constant}
-use Rattle.insn_decode.specs.Means.{two_code, one_code}
+use Rattle.insn_decode.specs.Code.{length_of, one_fits, is_constant}
+use Rattle.insn_decode.specs.Means.{two_code, one_code, Means}
 
 -- ---- fields of a first word
 
@@ -68,9 +68,9 @@ extensions _ = []
 abbrev pub words_of : Insn → List ℕ
 words_of insn = first_word insn ∷ extensions insn
 
--- what the words of an instruction mean
-abbrev pub meaning : Insn → Option Insn
-meaning insn = insn_of (first_word insn) (slice_index_or (extensions insn) 0 0) (slice_index_or (extensions insn) 1 0)
+-- the words of an instruction mean it, by the code table
+abbrev pub IsMeant : Insn → Type 0
+IsMeant insn = Means (first_word insn) (slice_index_or (extensions insn) 0 0) (slice_index_or (extensions insn) 1 0) insn (length_of insn)
 
 -- a word as two bytes, the low one first
 abbrev pub word_bytes : ℕ → List ℕ

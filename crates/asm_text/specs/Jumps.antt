@@ -1,7 +1,7 @@
 -- Where the jumps of an accepted source lead.
 use Rattle.std.specs.Prelude.{ℕ, ◌≡◌, ◌+◌, ◌-◌, ◌*◌, ◌%◌, ◌≤◌, List, [], length, take, drop, slice_get, slice_index_or, Some, Ok, All, Contains, ℤ, pos, negsuc}
 use Rattle.insn_decode.specs.declared.insn.Insn.TheVariants.{Jump as JumpInsn}
-use Rattle.insn_decode.specs.Code.{insn_of}
+use Rattle.insn_decode.specs.Means.{Means}
 use Rattle.asm_text.specs.declared.TheConstants.{MAX_SOURCE}
 use Rattle.asm_text.specs.declared.statement.Statement.TheVariants.{Jump}
 use Rattle.asm_text.specs.Assembly.{assembled}
@@ -26,7 +26,7 @@ pub record LeadsToLabel (s : Source) (u : UnitValue) (number cond name : ℕ) : 
   pub stands : StandsAt s number section here
   pub given : slice_get u.sections section ≡ Some home
   pub holds : take 2 (drop here home.bytes) ≡ word_bytes word
-  pub means : (w1 w2 : ℕ) → insn_of word w1 w2 ≡ Some (JumpInsn cond offset)
+  pub means : (w1 w2 : ℕ) → Means word w1 w2 (JumpInsn cond offset) 1
   pub symbol : Contains u.symbols label
   pub named : label.name ≡ slice_index_or s.tables.names name []
   pub beside : label.home ≡ Some section

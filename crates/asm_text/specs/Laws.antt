@@ -5,20 +5,21 @@ use Rattle.insn_decode.specs.declared.insn.Operand.TheVariants.{Symbolic}
 use Rattle.insn_decode.specs.declared.insn.Insn.{Insn}
 use Rattle.insn_decode.specs.declared.insn.Insn.TheVariants.{Two, One, Jump}
 use Rattle.insn_decode.specs.Code.{insn_of, length_of, IsDecoded}
+use Rattle.insn_decode.specs.Means.{Means}
 use Rattle.insn_decode.specs.Text.{text_of}
 use Rattle.asm_text.specs.declared.statement.Statement.TheVariants.{Code}
 use Rattle.asm_text.specs.Emission.{reach, is_near, jump_word}
-use Rattle.asm_text.specs.Encoding.{extensions, words_of, is_coded, meaning}
+use Rattle.asm_text.specs.Encoding.{extensions, words_of, is_coded, IsMeant}
 use Rattle.asm_text.specs.Jumps.{target_of}
 use Rattle.asm_text.specs.Lines.{statement_of}
 
--- The words of an instruction that a line may write mean it.
+-- The words of an instruction that a line may write mean it, by the code table.
 abbrev pub CodedIsMeant : Type 0
-CodedIsMeant = (insn : Insn) → is_coded insn ≡ true → meaning insn ≡ Some insn
+CodedIsMeant = (insn : Insn) → is_coded insn ≡ true → IsMeant insn
 
 -- The word of a jump means that jump.
 abbrev pub JumpsAreMeant : Type 0
-JumpsAreMeant = (cond w1 w2 : ℕ) (offset : ℤ) → cond < 8 → is_near offset ≡ true → insn_of (jump_word cond offset) w1 w2 ≡ Some (Jump cond offset)
+JumpsAreMeant = (cond w1 w2 : ℕ) (offset : ℤ) → cond < 8 → is_near offset ≡ true → Means (jump_word cond offset) w1 w2 (Jump cond offset) 1
 
 -- A jump leads to its label.
 abbrev pub JumpsLead : Type 0
@@ -44,7 +45,7 @@ AreWords words = All (λ word. word < 65536) words
 -- The text that `show` writes of such an instruction, at any address, is read as that instruction, which its words mean.
 abbrev pub ShownIsRead : Type 0
 ShownIsRead = (insn : Insn) (at : ℕ) → IsDecoded insn → is_placeless insn ≡ true → AreWords (extensions insn) →
-    (statement_of (text_of insn at) ≡ Some (Code insn None None)) × (meaning insn ≡ Some insn)
+    (statement_of (text_of insn at) ≡ Some (Code insn None None)) × IsMeant insn
 
 abbrev pub is_jump : Insn → Bool
 is_jump (Jump cond offset) = true

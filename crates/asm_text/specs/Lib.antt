@@ -13,5 +13,6 @@ pub mod Symbols
 pub mod Emission
 pub mod Assembly
 pub mod Places
+pub mod Sections
 pub mod Jumps
 pub mod Laws

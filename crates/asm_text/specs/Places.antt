@@ -5,7 +5,7 @@ use Rattle.asm_text.specs.declared.statement.Field.{Field}
 use Rattle.asm_text.specs.declared.statement.Statement.TheVariants.{Word, Code}
 use Rattle.asm_text.specs.Assembly.{names_of, assembled}
 use Rattle.asm_text.specs.Emission.{field_number}
-use Rattle.asm_text.specs.Encoding.{word_bytes, code_bytes, meaning}
+use Rattle.asm_text.specs.Encoding.{word_bytes, code_bytes, IsMeant}
 use Rattle.asm_text.specs.Parts.{SectionValue, UnitValue}
 use Rattle.asm_text.specs.Placing.{Placed, nowhere, last_head, placed_from}
 use Rattle.asm_text.specs.Source.{Source, source_of}
@@ -30,7 +30,7 @@ pub record Writes (s : Source) (u : UnitValue) (number : ℕ) (bytes : List ℕ)
 abbrev pub CodeIsWritten : Type 0
 CodeIsWritten = (text : List ℕ) (u : UnitValue) → assembled text ≡ Ok u →
     (number : ℕ) (insn : Insn) (first second : Option ℕ) → slice_get (source_of text).statements number ≡ Some (Code insn first second) →
-    Writes (source_of text) u number (code_bytes insn) × (meaning insn ≡ Some insn)
+    Writes (source_of text) u number (code_bytes insn) × IsMeant insn
 
 -- Each `word` of it has its number there, and 0 for a name.
 abbrev pub WordsAreWritten : Type 0

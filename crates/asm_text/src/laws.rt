@@ -2,6 +2,7 @@
 ghost use Rattle.asm_text.specs.Jumps.{JumpsReachLabels, LabelsAreEven};
 ghost use Rattle.asm_text.specs.Laws.{CodedIsMeant, JumpsAreMeant, JumpsLead, ShownIsRead, WordsComeBack};
 ghost use Rattle.asm_text.specs.Places.{CodeIsWritten, WordsAreWritten};
+ghost use Rattle.asm_text.specs.Sections.{SectionsAreLines};
 
 /// The words of each instruction that a line may write mean that instruction, with 0 for names; the word of a jump
 /// means that jump, which leads from its place to that of its label.
@@ -27,8 +28,10 @@ pub fn jumps_reach_labels()
 {}
 
 /// Each instruction of a source that is accepted has its words at its place in the unit, which is the end of what was
-/// written before it in its section, with 0 for names, and they mean it; each `word` has its number there.
+/// written before it in its section, with 0 for names, and they mean it; each `word` has its number there. A section's
+/// bytes are those of its lines in their order, with nothing between them and nothing after.
 pub fn lines_are_written()
     ensures code { CodeIsWritten }
     ensures words { WordsAreWritten }
+    ensures sections { SectionsAreLines }
 {}
