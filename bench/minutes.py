@@ -8,6 +8,7 @@ A line for each crate, dearest first: its own proof, its tests, its must-fail ed
 """
 import os
 import re
+import signal
 import subprocess
 import sys
 import time
@@ -79,6 +80,8 @@ def table(found):
 def main():
     found, begun = {}, time.time()
     with subprocess.Popen(sys.argv[1:]) as running:
+        # one that is ended early has its table too
+        signal.signal(signal.SIGTERM, lambda *_: running.terminate())
         while running.poll() is None:
             look(found, running.pid)
             time.sleep(0.5)
