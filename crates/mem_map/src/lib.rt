@@ -97,10 +97,7 @@ impl Memory {
         requires even { addr % 2 ≡ 0 }
         ensures exact { result ≡ word_at (slice_index self.now.bytes) addr }
     {
-        word_in(
-            self.page((addr / PAGE) as u8),
-            usize::from(addr % PAGE),
-        )
+        word_in(self.page((addr / PAGE) as u8), usize::from(addr % PAGE))
     }
 
     /// The word at an even address and the two behind it, past 0xFFFF those at 0x0000.
@@ -120,7 +117,11 @@ impl Memory {
             );
         }
         let page = self.page((addr / PAGE) as u8);
-        (word_in(page, at), word_in(page, at + 2), word_in(page, at + 4))
+        (
+            word_in(page, at),
+            word_in(page, at + 2),
+            word_in(page, at + 4),
+        )
     }
 
     /// The 256 bytes of page `n`, which starts at address 256 times `n`.
