@@ -1,10 +1,10 @@
 #!/usr/bin/env python3
 """Times the machine beside mspdebug's simulator, on programs that clang compiled (programs/; each ends in a jump to itself, with 0 in R4).
 
-    python3 bench/speed.py [PROGRAM [RUNS [NAME..]]]
+    python3 bench/speed.py [PROGRAM[,OTHER..] [RUNS [NAME..]]]
 
-PROGRAM is called as `PROGRAM image IMAGE - CYCLES`, mspdebug (0.22, Debian) as `mspdebug -q sim`, once bare and once with its tracer.
-A line for each program: the least processor time of RUNS (3), taken in turn, in seconds; PROGRAM's part of each of mspdebug's; and, where
+PROGRAM, and each OTHER in turn with it, is called as `PROGRAM image IMAGE - CYCLES`, mspdebug (0.22, Debian) as `mspdebug -q sim`, once bare and once with its tracer.
+A line for each program, and each PROGRAM: the least processor time of RUNS (3), taken in turn, in seconds; PROGRAM's part of each of mspdebug's; and, where
 valgrind is installed, host instructions for each instruction of the program.
 mspdebug has no modules and no timer of this machine: `module` is timed alone.
 """
@@ -68,16 +68,16 @@ def host_instructions(program, image, cycles):
     return int(re.search(r"Collected : (\d+)", text)[1])
 
 
-def one(program, name, runs, folder):
+def one(programs, name, runs, folder):
     image = os.path.join(HERE, "programs", name + ".img")
     with open(image) as it:
         cells = memory(it.read())
     end, loaded = end_address(cells), os.path.join(folder, name + ".hex")
     with open(loaded, "w") as out:
         out.write(intel_hex(cells))
-    cycles = cycles_to(program, image, end, folder)
+    cycles = cycles_to(programs[0], image, end, folder)
     load = [f"load {loaded}", "reset", f"setbreak {end:#x}", "run"]
-    commands = {"ours": [program, "image", image, "-", str(cycles)]}
+    commands = {program: [program, "image", image, "-", str(cycles)] for program in programs}
     if name != "module":
         commands["bare"] = ["mspdebug", "-q", "sim", *load]
         commands["traced"] = ["mspdebug", "-q", "sim", "simio add tracer tracer", *load, "simio info tracer"]
@@ -85,26 +85,28 @@ def one(program, name, runs, folder):
     for _ in range(runs):
         for which, command in commands.items():
             time, text = seconds(command)
-            if which != "ours" and f"pc: {end:05x}" not in text.lower():
+            if which not in programs and f"pc: {end:05x}" not in text.lower():
                 sys.exit(f"{name}: {text}")
             if which == "traced":
                 instructions = int(re.search(r"Instruction count: (\d+)", text)[1])
             least[which] = min(time, least.get(which, time))
-    line = f"{name}: {cycles} cycles, {least['ours']:.2f} s, {cycles / least['ours'] / 1e6:.1f} million a second"
-    if "bare" in least:
-        line += f"; of mspdebug bare {least['ours'] / least['bare']:.2f}, with its tracer {least['ours'] / least['traced']:.2f}"
-    if instructions and shutil.which("valgrind"):
-        counted = host_instructions(program, image, COUNTED_CYCLES) - host_instructions(program, image, 0)
-        line += f"; {counted / COUNTED_CYCLES * cycles / instructions:.0f} host instructions an instruction"
-    print(line, flush=True)
+    for program in programs:
+        ours = least[program]
+        line = f"{name}: {cycles} cycles, {ours:.2f} s, {cycles / ours / 1e6:.1f} million a second"
+        if "bare" in least:
+            line += f"; of mspdebug bare {ours / least['bare']:.2f}, with its tracer {ours / least['traced']:.2f}"
+        if instructions and shutil.which("valgrind"):
+            counted = host_instructions(program, image, COUNTED_CYCLES) - host_instructions(program, image, 0)
+            line += f"; {counted / COUNTED_CYCLES * cycles / instructions:.0f} host instructions an instruction"
+        print(line + (f" ({program})" if len(programs) > 1 else ""), flush=True)
 
 
 def main():
-    program = sys.argv[1] if len(sys.argv) > 1 else "crates/sm_main/out/sm_main"
+    programs = (sys.argv[1] if len(sys.argv) > 1 else "crates/sm_main/out/sm_main").split(",")
     runs = int(sys.argv[2]) if len(sys.argv) > 2 else 3
     with tempfile.TemporaryDirectory() as folder:
         for name in sys.argv[3:] or NAMES:
-            one(program, name, runs, folder)
+            one(programs, name, runs, folder)
 
 
 main()

@@ -16,3 +16,4 @@ pub mod Keeping
 pub mod Reaching
 pub mod Lasting
 pub mod Going
+pub mod Listed

@@ -126,6 +126,7 @@ impl Board {
     }
 
     // One cycle. Sets `events` to its events, in the order of its steps.
+    #[inline(always)]
     pub(crate) fn step(&mut self, events: &mut ArrayVec<Event, 4>)
         requires { self.old.present.cycle < 2 ^ 62 }
         ensures state { self.new.present ≡ (cycle self.old.present).state }
@@ -167,6 +168,7 @@ impl Board {
     }
 
     // Lets at most so many cycles pass in which nothing begins and nothing arrives, and gives how many passed.
+    #[inline(always)]
     pub(crate) fn pass_idle(&mut self, most: u64) -> u64
         requires { self.old.present.cycle + most ≤ 2 ^ 62 }
         ensures most { result ≤ most }

@@ -16,6 +16,7 @@ use reg_backup::{After, Phase};
 
 impl Machine {
     /// Lets at most so many cycles pass in which nothing begins and nothing arrives, and gives how many passed.
+    #[inline(always)]
     pub fn pass_idle(&mut self, most: u64) -> u64
         requires number { self.old.cycle + most ≤ 2 ^ 62 }
         requires stands { Stands self.old }
@@ -28,7 +29,11 @@ impl Machine {
         ensures lasting { lasting_of self.new ≡ lasting_of self.old }
     {
         isolation::passing();
-        let cycles = self.idle_cycles().min(most);
+        let idle = self.idle_cycles();
+        if idle == 0 {
+            return 0;
+        }
+        let cycles = idle.min(most);
         if cycles > 0 {
             self.pass_by(cycles);
         }
@@ -58,7 +63,7 @@ impl Machine {
         ensures next { result ≡ true → self.now.after ≡ After.Next }
         ensures off { result ≡ true → asleep (state_of self.now) ≡ true }
     {
-        self.after == After::Next && self.is_asleep()
+        self.is_asleep() && self.after == After::Next
     }
 
     /// For how many of the next cycles surely no vector is due.

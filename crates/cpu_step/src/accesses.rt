@@ -1,11 +1,12 @@
 //! Which accesses an instruction makes.
 
-ghost use Rattle.std.specs.Prelude.{◌≡◌, IsTrue, not, ◌+◌, ◌*◌, ◌<◌, ◌≤◌, ◌++◌, []};
+ghost use Rattle.std.specs.Prelude.{◌≡◌, IsTrue, not, ◌+◌, ◌*◌, ◌<◌, ◌≤◌, ◌++◌, [], true};
 ghost use Rattle.std.specs.List.{list_all};
 ghost use Rattle.arrayvec.specs.ArrayVec.{array_vec_len};
 ghost use Rattle.sm_words.specs.Words.{add16, reg};
 ghost use Rattle.insn_decode.specs.Code.{words_of};
 ghost use Rattle.pc_access.specs.Rights.{misaligned};
+ghost use Rattle.pc_access.specs.declared.Kind.TheVariants.{Read, Write};
 ghost use Rattle.cpu_step.specs.Through.{AreAligned};
 ghost use Rattle.cpu_step.specs.Plan.{past, lowered, access_if, reads_dst, writes_dst, one_writes, plan};
 
@@ -16,6 +17,7 @@ use pc_access::{Access, Kind, is_misaligned};
 use sm_words::{Core, PC, SP, Width};
 
 /// Moves PC past the instruction.
+#[inline(always)]
 pub fn step_past(insn: &Insn, core: &mut Core)
     ensures { core.new ≡ past insn.now core.old }
 {
@@ -78,6 +80,30 @@ fn add_access(
     }
 }
 
+/// Where an instruction of format I finds its operands in memory: its source, and then, past the increment, its
+/// destination.
+#[inline(always)]
+pub fn places(
+    insn: &Insn,
+    op: TwoOp,
+    width: Width,
+    src: Operand,
+    dst: Operand,
+    core: &Core,
+) -> (Option<u16>, Option<u16>)
+    requires form { insn.now ≡ Insn.Two op width src dst }
+    ensures planned { plan insn.now core.now ≡ access_if true Read width result.0
+        ++ access_if (reads_dst op) Read width result.1 ++ access_if (writes_dst op) Write width result.1 }
+{
+    let mut after = *core;
+    step_past(insn, &mut after);
+    let extension = extension(core);
+    let source = place(src, &after, extension);
+    increment(width, src, &mut after);
+    let destination = place(dst, &after, second_extension(extension, src));
+    (source, destination)
+}
+
 /// Adds the accesses of an instruction of format I to none: the source is read, the increment is done, the
 /// destination is read and written.
 #[inline(always)]
@@ -94,12 +120,7 @@ fn plan_two(
     requires none { accesses.old.items ≡ [] }
     ensures { accesses.new.items ≡ plan insn.now core.now }
 {
-    let mut after = *core;
-    step_past(insn, &mut after);
-    let extension = extension(core);
-    let source = place(src, &after, extension);
-    increment(width, src, &mut after);
-    let destination = place(dst, &after, second_extension(extension, src));
+    let (source, destination) = places(insn, op, width, src, dst, core);
     add_access(accesses, true, Kind::Read, width, source);
     add_access(
         accesses,

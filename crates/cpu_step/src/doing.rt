@@ -22,6 +22,7 @@ use insn_decode::{Insn, OneOp, Operand, TwoOp};
 use sm_words::{Core, PC, SP, SR, Width};
 
 /// The value that an operand gives: it is read at `place`, where it stands in memory.
+#[inline(always)]
 #[tactic(auto, using(crate::proofs::ThroughLemmas::given_read))]
 fn take<P: Port>(
     operand: Operand,
@@ -44,6 +45,7 @@ fn take<P: Port>(
 }
 
 /// The old value of the destination, where it is read, and else 0.
+#[inline(always)]
 fn take_old<P: Port>(
     op: TwoOp,
     dst: Operand,
@@ -96,6 +98,7 @@ fn write_result<P: Port>(
 }
 
 /// Format I, with its result: it is written into the destination, or sets the flags alone.
+#[inline(always)]
 fn finish_two<P: Port>(
     op: TwoOp,
     dst: Operand,
@@ -120,6 +123,7 @@ fn finish_two<P: Port>(
 }
 
 /// Format I: the source is read, its increment is done, and the destination is read and written.
+#[inline(always)]
 fn do_two<P: Port>(
     insn: &Insn,
     op: TwoOp,
@@ -228,6 +232,7 @@ fn do_reti<P: Port>(core: &mut Core, port: &mut P)
 }
 
 /// An instruction with no regard to who runs it.
+#[inline(always)]
 #[tactic(auto, unfolding(crate::specs::Plan::plan, crate::specs::Effect::does_freely))]
 pub fn do_freely<P: Port>(insn: &Insn, core: &mut Core, port: &mut P)
     requires aligned { AreAligned (plan insn.now core.old) }

@@ -13,6 +13,7 @@ use insn_decode::Insn;
 use sm_words::{Core, PC, SR, status};
 
 /// Sets the flags of a result.
+#[inline(always)]
 pub fn set_flags(computed: &Computed, core: &mut Core)
     ensures { core.new ≡ set_flags computed.now core.old }
 {
@@ -21,6 +22,7 @@ pub fn set_flags(computed: &Computed, core: &mut Core)
 }
 
 /// Puts a result into a register: SR keeps what is written there, without flags.
+#[inline(always)]
 pub fn put_result(reg: u8, computed: &Computed, core: &mut Core)
     ensures { core.new ≡ into_register (reg == SR) reg computed.now core.old }
 {
@@ -38,6 +40,7 @@ pub fn carry(core: &Core) -> bool
 }
 
 /// Whether a jump is taken: JNE, JEQ, JNC, JC, JN, JGE, JL, JMP.
+#[inline(always)]
 fn jumps(cond: u8, sr: u16) -> bool
     ensures { result ≡ jumps cond sr }
 {
@@ -66,6 +69,7 @@ fn target(next: u16, offset: i16) -> u16
 }
 
 /// Jumps, if the jump is taken, from past its instruction.
+#[inline(always)]
 fn jump(taken: bool, offset: i16, core: &mut Core)
     ensures { core.new ≡ jumped taken offset core.old }
 {
@@ -76,6 +80,7 @@ fn jump(taken: bool, offset: i16, core: &mut Core)
 }
 
 /// A jump.
+#[inline(always)]
 pub fn do_jump(insn: &Insn, cond: u8, offset: i16, core: &mut Core)
     requires { insn.now ≡ Insn.Jump cond offset }
     ensures { (values : List ℕ) → core.new ≡ (does_freely insn.now core.old values).core }

@@ -12,7 +12,7 @@ mod port;
 mod result;
 mod step;
 
-pub use accesses::{add_plan, are_aligned, plan};
+pub use accesses::{add_plan, are_aligned, places, plan, reads_destination, writes_destination};
 pub use pc_access::{Access, Kind};
 pub use port::Port;
 pub use result::{Computed, one_result, two_result};

@@ -8,6 +8,7 @@ use insn_decode::Operand;
 use sm_words::{Core, SP, Width};
 
 /// The operand's address in memory, where it has one; its extension word stands at `ext`.
+#[inline(always)]
 pub fn place(operand: Operand, core: &Core, ext: u16) -> Option<u16>
     ensures { result ≡ place operand core.now ext }
 {
@@ -31,6 +32,7 @@ fn step(width: Width, reg: u8) -> u16
 }
 
 /// Does the operand's increment.
+#[inline(always)]
 pub fn increment(width: Width, operand: Operand, core: &mut Core)
     ensures { core.new ≡ stepped width operand core.old }
 {
@@ -41,6 +43,7 @@ pub fn increment(width: Width, operand: Operand, core: &mut Core)
 }
 
 /// The value that an operand outside memory gives: of a register, or of the instruction.
+#[inline(always)]
 pub fn at_hand(operand: Operand, width: Width, core: &Core) -> u16
     requires { in_memory operand ≡ false }
     ensures { (values : List ℕ) → result ≡ given operand width core.now values }

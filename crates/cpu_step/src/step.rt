@@ -16,6 +16,7 @@ use sm_words::Core;
 ///
 /// The planned accesses are done in their order, once each, with no other. Inside a module SR keeps all
 /// bits but C, Z, N and V.
+#[inline(always)]
 #[tactic(auto, unfolding(crate::specs::Effect::does))]
 pub fn execute<P: Port>(insn: &Insn, core: &mut Core, port: &mut P, inside: bool) -> u8
     requires decoded { IsDecoded insn.now }

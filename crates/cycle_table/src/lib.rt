@@ -10,6 +10,7 @@ use sm_words::PC;
 
 /// The clock cycles of an instruction, 1 to 6. The cycles of a unit instruction depend on its operands, so
 /// it must not be one.
+#[inline(always)]
 #[tactic(auto, unfolding(crate::specs::Cycles::cycles_of))]
 pub fn cycles(insn: &Insn) -> u8
     requires decoded { IsDecoded insn.now }
@@ -39,6 +40,7 @@ fn by_place(dst: Operand, register: u8, pc: u8, memory: u8) -> u8
 }
 
 /// Format I, from this source to this place.
+#[inline(always)]
 #[tactic(auto, using(crate::proofs::Least::two_least, crate::proofs::Least::two_most))]
 fn two_cycles(src: Operand, dst: Operand) -> u8
     ensures exact { result ≡ two_cycles src dst }

@@ -196,6 +196,7 @@ impl Bus {
     }
 
     // Lets `n` cycles pass.
+    #[inline(always)]
     fn advance(&mut self, n: u64)
         requires { n ≤ 2 ^ 62 - self.old.ticks }
         ensures devices { self.new.devices ≡ ticked_by n self.old.ticks self.old.devices }

@@ -8,6 +8,7 @@ use sm_words::Width;
 
 /// The instruction that begins with these three words, or `None` exactly where the first is outside the
 /// code table. Words past the instruction's length are not looked at.
+#[inline(always)]
 pub fn decode(w0: u16, w1: u16, w2: u16) -> Option<Insn>
     ensures exact { result ≡ insn_of w0 w1 w2 }
     ensures decoded { IfSome result (λ insn. IsDecoded insn) }
@@ -36,6 +37,7 @@ pub fn length(w0: u16) -> u16
 }
 
 /// The instruction, by the part of the table that the first word belongs to.
+#[inline(always)]
 #[tactic(auto, using(crate::proofs::Forms::forms))]
 fn by_form(w0: u16, w1: u16, w2: u16) -> Option<Insn>
     ensures { result ≡ insn_of w0 w1 w2 }
@@ -54,6 +56,7 @@ fn by_form(w0: u16, w1: u16, w2: u16) -> Option<Insn>
 }
 
 /// An instruction of format I, whose source's extension word stands before its destination's.
+#[inline(always)]
 fn decode_two(w0: u16, w1: u16, w2: u16) -> Option<Insn>
     requires { 16383 < w0 }
     ensures { result ≡ two_of (slice_get two_ops (w0 / 4096 - 4)) w0 w1 w2 }
@@ -86,6 +89,7 @@ fn decode_one(w0: u16, w1: u16) -> Option<Insn>
 }
 
 /// The operation of format I with this opcode.
+#[inline(always)]
 fn two_op(code: u16) -> TwoOp
     requires least { 4 ≤ code }
     requires most { code < 16 }
@@ -139,6 +143,7 @@ fn fits(op: OneOp, width: Width, arg: Operand) -> bool
 }
 
 /// The width by the byte flag.
+#[inline(always)]
 fn width(flag: u16) -> Width
     ensures { result ≡ width_of flag }
 {
@@ -158,6 +163,7 @@ fn offset(bits: u16) -> i16
 }
 
 /// A source operand by its mode, 0 to 3, and register; `x` is its extension word.
+#[inline(always)]
 fn source(mode: u16, reg: u8, x: u16) -> Option<Operand>
     requires { mode < 4 }
     ensures { result ≡ source_of mode reg x }
@@ -171,6 +177,7 @@ fn source(mode: u16, reg: u8, x: u16) -> Option<Operand>
 }
 
 /// A destination operand by its mode and register.
+#[inline(always)]
 fn destination(mode: u16, reg: u8, x: u16) -> Option<Operand>
     ensures { result ≡ dest_of mode reg x }
 {
@@ -186,6 +193,7 @@ fn destination(mode: u16, reg: u8, x: u16) -> Option<Operand>
 }
 
 /// The source modes of PC.
+#[inline(always)]
 fn pc_source(mode: u16, x: u16) -> Option<Operand>
     requires { mode < 4 }
     ensures { result ≡ source_of mode 0 x }
@@ -199,6 +207,7 @@ fn pc_source(mode: u16, x: u16) -> Option<Operand>
 }
 
 /// The source modes of SR.
+#[inline(always)]
 fn sr_source(mode: u16, x: u16) -> Operand
     requires { mode < 4 }
     ensures { Some result ≡ source_of mode 2 x }
@@ -212,6 +221,7 @@ fn sr_source(mode: u16, x: u16) -> Operand
 }
 
 /// The source modes of R3.
+#[inline(always)]
 fn constant(mode: u16) -> Operand
     requires { mode < 4 }
     ensures { Some result ≡ source_of mode 3 0 }
@@ -225,6 +235,7 @@ fn constant(mode: u16) -> Operand
 }
 
 /// The source modes of another register.
+#[inline(always)]
 fn plain_source(mode: u16, reg: u8, x: u16) -> Operand
     requires mode { mode < 4 }
     requires not_pc { reg ≢ 0 }

@@ -82,6 +82,7 @@ pub enum Insn {
 
 impl Operand {
     /// The number of extension words, 0 or 1.
+    #[inline(always)]
     pub fn words(&self) -> u16
         ensures exact { result ≡ words_of self.now }
     {
@@ -97,6 +98,7 @@ impl Operand {
 
 impl Insn {
     /// The number of words, 1 to 3.
+    #[inline(always)]
     pub fn length(&self) -> u16
         ensures exact { result ≡ length_of self.now }
     {

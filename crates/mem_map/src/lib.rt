@@ -2,7 +2,7 @@
 #![tactic(auto)]
 
 ghost use Rattle.std.specs.Prelude.{◌≡◌, ◌+◌, ◌*◌, ◌<◌, ◌≤◌, ◌%◌, ◌↔◌, ◌++◌, ◌∷◌, [], IfOk, IsErr, OnOk, OnErr, get_or, length, slice_index, slice_range, slice_set, take, replicate, ◌-◌, Some, None};
-ghost use Rattle.sm_words.specs.Words.{cleared, word_at};
+ghost use Rattle.sm_words.specs.Words.{add16, cleared, word_at};
 ghost use Rattle.mod_layout.specs.Table.{size_of};
 
 use arrayvec::ArrayVec;
@@ -97,9 +97,31 @@ impl Memory {
         requires even { addr % 2 ≡ 0 }
         ensures exact { result ≡ word_at (slice_index self.now.bytes) addr }
     {
-        let page = self.page((addr / PAGE) as u8);
+        word_in(self.page((addr / PAGE) as u8), usize::from(addr % PAGE))
+    }
+
+    /// The word at an even address and the two behind it, past 0xFFFF those at 0x0000.
+    #[inline(always)]
+    pub fn three_words(&self, addr: u16) -> (u16, u16, u16)
+        requires even { addr % 2 ≡ 0 }
+        ensures first { result.0 ≡ word_at (slice_index self.now.bytes) addr }
+        ensures second { result.1 ≡ word_at (slice_index self.now.bytes) (add16 addr 2) }
+        ensures third { result.2 ≡ word_at (slice_index self.now.bytes) (add16 addr 4) }
+    {
         let at = usize::from(addr % PAGE);
-        u16::from_le_bytes([page[at], page[at + 1]])
+        if at > 250 {
+            return (
+                self.word(addr),
+                self.word(addr.wrapping_add(2)),
+                self.word(addr.wrapping_add(4)),
+            );
+        }
+        let page = self.page((addr / PAGE) as u8);
+        (
+            word_in(page, at),
+            word_in(page, at + 2),
+            word_in(page, at + 4),
+        )
     }
 
     /// The 256 bytes of page `n`, which starts at address 256 times `n`.
@@ -174,6 +196,14 @@ impl Memory {
             self.pool.drop_table(mark);
         }
     }
+}
+
+// The word at this place of a page.
+fn word_in(page: &[u8], at: usize) -> u16
+    requires { at + 1 < length page.now }
+    ensures { result ≡ word_at (slice_index page.now) at }
+{
+    u16::from_le_bytes([page[at], page[at + 1]])
 }
 
 // A pool whose table 0 alone is live, and has these bytes.

@@ -1,6 +1,6 @@
 //! The operations on bytes and words.
-ghost use Rattle.std.specs.Prelude.{◌≡◌, ◌<◌, ◌+ℤ◌, ◌-ℤ◌, ◌≤ℤ◌, pos, nat_le};
-ghost use Rattle.sm_words.specs.Sums.{limit, low, is_negative, signed, one_if, flagged, is_outside, sum_of, dadd_of, rrc_of, rra_of, sxt_of, swpb_of, and_of, xor_of, decimal_sum, digits};
+ghost use Rattle.std.specs.Prelude.{◌≡◌, ◌<◌, false, nat_le};
+ghost use Rattle.sm_words.specs.Sums.{limit, low, is_negative, one_if, flagged, sum_of, dadd_of, rrc_of, rra_of, sxt_of, swpb_of, and_of, xor_of, decimal_sum, digits};
 
 use crate::width::{Sum, Width};
 
@@ -11,31 +11,8 @@ fn is_negative(value: u16, width: Width) -> bool
     u32::from(width.low(value)) >= width.limit() / 2
 }
 
-/// The signed number that a byte or a word stands for, in two's complement.
-fn signed(value: u16, width: Width) -> i32
-    ensures exact { result ≡ signed width value }
-    ensures least { (pos 0 -ℤ pos 32768) ≤ℤ result }
-    ensures most { result ≤ℤ pos 32767 }
-{
-    let number = i32::from(width.low(value));
-    if is_negative(value, width) {
-        number - width.limit() as i32
-    } else {
-        number
-    }
-}
-
-/// Whether a signed number overflows a byte or a word.
-fn is_outside(total: i32, width: Width) -> bool
-    ensures { result ≡ is_outside width total }
-{
-    match width {
-        Width::Byte => total < -128 || total >= 128,
-        Width::Word => total < -32768 || total >= 32768,
-    }
-}
-
 /// A result with its flags, of which N and Z are read off it.
+#[inline(always)]
 fn flagged(value: u16, carry: bool, overflow: bool, width: Width) -> Sum
     ensures { result ≡ flagged width value carry overflow }
 {
@@ -50,28 +27,27 @@ fn flagged(value: u16, carry: bool, overflow: bool, width: Width) -> Sum
 
 /// The sum of two bytes or words and a carry. C is set where it reaches 256 or 65,536, V where the sum
 /// of the signed numbers is outside their range.
+#[inline(always)]
 pub fn add(a: u16, b: u16, c: bool, width: Width) -> Sum
     ensures exact { result ≡ sum_of width a b (one_if c) }
 {
     let total = u32::from(width.low(a)) + u32::from(width.low(b)) + u32::from(c);
-    let overflow = is_outside(signed_total(a, b, c, width), width);
-    carried(total, overflow, width)
+    let sum = carried(total, width);
+    // The signed sum is outside where both have the same sign, and the result the other.
+    let negative = is_negative(a, width);
+    Sum {
+        v: negative == is_negative(b, width) && negative != sum.n,
+        ..sum
+    }
 }
 
-/// The sum of two signed bytes or words and a carry.
-fn signed_total(a: u16, b: u16, c: bool, width: Width) -> i32
-    ensures { result ≡ signed width a +ℤ signed width b +ℤ pos (one_if c) }
-{
-    let total = signed(a, width) + signed(b, width);
-    if c { total + 1 } else { total }
-}
-
-/// A total reduced to a byte or a word, with the carry out of it.
-fn carried(total: u32, overflow: bool, width: Width) -> Sum
-    ensures { result ≡ flagged width (low width total) (nat_le (limit width) total) overflow }
+/// A total reduced to a byte or a word, with the carry out of it; V is 0.
+#[inline(always)]
+fn carried(total: u32, width: Width) -> Sum
+    ensures { result ≡ flagged width (low width total) (nat_le (limit width) total) false }
 {
     let bound = width.limit();
-    flagged((total % bound) as u16, total >= bound, overflow, width)
+    flagged((total % bound) as u16, total >= bound, false, width)
 }
 
 /// The decimal sum of two bytes or words and a carry, by digits of four bits. C is the carry of the
@@ -84,7 +60,7 @@ pub fn dadd(a: u16, b: u16, c: bool, width: Width) -> Sum
         Width::Word => 4,
     };
     let total = decimal_sum(digits, width.low(a), width.low(b), c);
-    carried(total, false, width)
+    carried(total, width)
 }
 
 /// The decimal sum of this many digits; the carry out of the last is one digit more.
@@ -136,6 +112,7 @@ pub fn swpb(a: u16) -> u16
 }
 
 /// Bitwise and. C is the opposite of Z, V is 0.
+#[inline(always)]
 pub fn and(a: u16, b: u16, width: Width) -> Sum
     ensures exact { result ≡ and_of width a b }
 {
@@ -145,6 +122,7 @@ pub fn and(a: u16, b: u16, width: Width) -> Sum
 
 /// Bitwise exclusive or. C is the opposite of Z, V is set if both operands are
 /// negative.
+#[inline(always)]
 pub fn xor(a: u16, b: u16, width: Width) -> Sum
     ensures exact { result ≡ xor_of width a b }
 {

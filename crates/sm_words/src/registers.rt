@@ -107,6 +107,7 @@ impl Core {
 
     /// Writes a word to register `n`, which drops the bits that it cannot hold. Nothing changes if there is
     /// no such register.
+    #[inline(always)]
     #[tactic(auto, using(crate::proofs::Cores::set_core, crate::proofs::Cores::put_past))]
     pub fn put(&mut self, n: u8, word: u16)
         ensures written { self.new ≡ put self.old n word }
@@ -121,6 +122,7 @@ impl Core {
 }
 
 /// A word without the bits that register `n` cannot hold.
+#[inline(always)]
 fn kept(n: u8, word: u16) -> u16
     ensures { result ≡ kept n word }
 {

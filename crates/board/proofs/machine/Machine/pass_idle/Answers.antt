@@ -11,15 +11,15 @@ returns-then-cycles-gt0-clause-leads c =
     let s = state_of c.args.self.now in
     let n = c.min-cycles.result in
     let some : 0 < n = omega (arith, c.if-cycles-gt0.true) in
-    let few : n ≤ c.idle_cycles.result = omega (arith, c.min-cycles.ensures) in
+    let few : n ≤ c.idle_cycles-idle.result = omega (arith, c.min-cycles.ensures) in
     subst (Leads n s) (sym c.pass_by.ensures.state)
-    (c.passing.ensures.leads s c.idle_cycles.result n (c.idle_cycles.ensures.runs (omega (arith, some, few))) c.idle_cycles.ensures.pass some few)
+    (c.passing.ensures.leads s c.idle_cycles-idle.result n (c.idle_cycles-idle.ensures.runs (omega (arith, some, few))) c.idle_cycles-idle.ensures.pass some few)
 
 pub returns-then-cycles-gt0-clause-missed : goal.returns-then-cycles-gt0-clause-missed
 returns-then-cycles-gt0-clause-missed c addr ends =
     let s = state_of c.args.self.now in
     let n = c.min-cycles.result in
     let some : 0 < n = omega (arith, c.if-cycles-gt0.true) in
-    let few : n ≤ c.idle_cycles.result = omega (arith, c.min-cycles.ensures) in
-    missed_none c.passing.ensures.leads addr c.idle_cycles.result n s (c.idle_cycles.ensures.runs (omega (arith, some, few))) c.idle_cycles.ensures.pass few
+    let few : n ≤ c.idle_cycles-idle.result = omega (arith, c.min-cycles.ensures) in
+    missed_none c.passing.ensures.leads addr c.idle_cycles-idle.result n s (c.idle_cycles-idle.ensures.runs (omega (arith, some, few))) c.idle_cycles-idle.ensures.pass few
     (ap (λ (t : State). stands_at addr s && stands_at addr t) (sym (returns-then-cycles-gt0-clause-leads c).state) ∙ ends)
