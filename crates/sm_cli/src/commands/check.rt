@@ -78,7 +78,5 @@ fn verdict_of(alloc: Global, chosen: &Chosen) -> Result<Verdict, AllocError>
     ensures { IfOk result (λ v. VerdictWith chosen.now.«module»
         (section chosen.now.«module».text chosen.now.image.memory) [] v) }
 {
-    // Lemma call, no effect at run time: an empty list of certificates changes no verdict.
-    flow_rule::without_arms();
     flow_check::check(alloc, &chosen.module, text_of(chosen))
 }
