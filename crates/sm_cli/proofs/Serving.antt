@@ -1,8 +1,8 @@
 -- From the parts of a call of `serve` to what it gives.
-use Rattle.std.proofs.Common.{◌≡◌, ◌≢◌, ℕ, ◌≤◌, false, List, length, Option, Some, refl, sym, ◌∙◌, subst, arith, inl, inr, ◌⊎◌}
-use Rattle.sm_io.specs.Faults.{HasCause, Rose}
+use Rattle.std.proofs.Common.{◌≡◌, ◌≢◌, ℕ, List, Option, Some, None, refl, sym, ◌∙◌, subst, inl, inr, ◌⊎◌}
+use Rattle.sm_io.specs.Faults.{Rose}
 use Rattle.sm_io.specs.Files.{FileMap}
-use Rattle.sm_io.specs.Sink.{Took, CutOff}
+use Rattle.sm_io.specs.Sink.{CutOff}
 use Rattle.image_text.specs.Image.{Image, IsImage}
 use Rattle.image_text.specs.ImageText.{image_text}
 use Rattle.schedule_file.specs.declared.Entry.{Entry}
@@ -13,7 +13,7 @@ use Rattle.cli_files.specs.declared.answers.Refusal.TheVariants as refusal
 use Rattle.cli_files.specs.declared.answers.Status.{Status}
 use Rattle.cli_files.specs.declared.answers.Status.TheVariants as status
 use Rattle.cli_files.specs.Files.{an_image, image_file, need, Holds, IsFirstFault}
-use Rattle.sm_cli.specs.Command.{Command, Answer, Outcome, gives, runs, refuses, Comes, IsAnswer}
+use Rattle.sm_cli.specs.Command.{Command, Answer, Answers, Outcome, gives, runs, refuses, Comes, IsAnswer}
 use Rattle.sm_cli.specs.CommandLine.{command_of}
 use Rattle.sm_cli.specs.ImageCommand.{image_command}
 use Rattle.written_machine.specs.declared.ScriptLine.{ScriptLine}
@@ -21,8 +21,8 @@ use Rattle.sm_cli.specs.Input.{IsInput, IsScriptInput}
 use Rattle.sm_cli.specs.MonitorCommand.{monitor_command, script_answer}
 use Rattle.sm_cli.specs.RunCommand.{run_command}
 use Rattle.cli_files.specs.Refusal.{status_of, line_of}
-use Rattle.sm_cli.specs.Serve.{Call, call_of, Serves, Refuses, IsCause, Completes, IsOrOutside}
-use Rattle.sm_cli.specs.internal.Serve.{IsRun, IsSound, EndsAs, IsCommandCause}
+use Rattle.sm_cli.specs.Serve.{Call, call_of, Serves, Refuses, IsCalledFor, IsCause, Completes, IsOrOutside}
+use Rattle.sm_cli.specs.internal.Serve.{IsRun, IsSound, EndsAs, IsCommandCause, WasRun, WasTold, TellsAs, Ended, was_run, was_told}
 use Rattle.cli_files.specs.Causes.{IsNeedCause}
 use Rattle.sm_cli.proofs.Needed.{one_answer, one_outcome, no_first_fault, no_fault_of_answer, no_refusal_of_answer}
 use Rattle.sm_cli.proofs.Running.{image_comes, linked_runs, monitor_comes}
@@ -33,10 +33,6 @@ use Rattle.sm_cli.proofs.ShortText.{short_text}
 -- the words are one command
 pub one_command : (words : List (List ℕ)) (own other : Command) → Some own ≡ command_of words → command_of words ≡ Some other → own ≡ other
 one_command words own other c d = let same : Some own ≡ Some other = c ∙ d in cc
-
--- an answer by files that are told, of the command that the words are
-pub answer_here : (files : Option FileMap) (map : FileMap) (own other : Command) (answer : Answer) → files ≡ Some map → own ≡ other → IsAnswer files own answer → IsAnswer (Some map) other answer
-answer_here files map own other answer told same a = subst (λ c. IsAnswer (Some map) c answer) same (subst (λ o. IsAnswer o own answer) told a)
 
 -- what an input is: files that are told, and what comes of a command of theirs
 pub record InputOf (words : List (List ℕ)) (files : Option FileMap) (outcome : Outcome) : Type 0 where
@@ -76,54 +72,7 @@ script_input words files value entries script i = record {
   comes = monitor_comes (Some i.files_map) i.name i.schedule i.script_name value entries script (image_held i.files_map i.name value i.image i.file) i.entries_are i.script_is;
 }
 
--- A run that was put, whole or in part
-
-module _ (words : List (List ℕ)) (files : Option FileMap) (before after : ℕ) (own : Command) (ended : Status) (took cut : List ℕ → Type 0) where
-  pub when_done : Some own ≡ command_of words → IsRun files own ended took cut → HasCause before after false → ended ≡ status.Done → Serves (call_of words files before after) status.Done took
-  when_done c r quiet e =
-      let a = subst (λ t. EndsAs t r.answer took cut) e r.ends in
-      record { command = own; answer = r.answer; asked = sym c; served = r.served; quiet = quiet; status = a.1; text = a.0 }
-
-  pub when_cut : Some own ≡ command_of words → IsRun files own ended took cut → HasCause before after false → ended ≡ status.WriteFault → (s : Status) × Serves (call_of words files before after) s cut
-  when_cut c r quiet e =
-      let a = subst (λ t. EndsAs t r.answer took cut) e r.ends in
-      (r.answer.status, record { command = own; answer = r.answer; asked = sym c; served = r.served; quiet = quiet; status = refl; text = a })
-
-  -- no file that is needed has a fault
-  pub run_no_fault : (map : FileMap) (other : Command) (name : List ℕ) (fault : FileFault) → files ≡ Some map → Some own ≡ command_of words → command_of words ≡ Some other → IsRun files own ended took cut → IsFirstFault (Some map) other.needs name fault → ⊥
-  run_no_fault map other name fault told c d r h = no_fault_of_answer map other r.answer (answer_here files map own other r.answer told (one_command words own other c d) r.served) name fault h
-
-  -- nor do the files refuse to link
-  pub run_no_link : (map : FileMap) (other : Command) (name : List ℕ) (fault : LinkFault) → files ≡ Some map → Some own ≡ command_of words → command_of words ≡ Some other → IsRun files own ended took cut → Comes (Some map) other (refuses fault name) → ⊥
-  run_no_link map other name fault told c d r h =
-      no_refusal_of_answer map other r.answer (answer_here files map own other r.answer told (one_command words own other c d) r.served) fault name h
-
-  -- the answer of a run is the one that the command has
-  pub run_ends : (map : FileMap) (other : Command) (answer : Answer) → files ≡ Some map → Some own ≡ command_of words → command_of words ≡ Some other → IsRun files own ended took cut → IsAnswer (Some map) other answer → EndsAs ended answer took cut
-  run_ends map other answer told c d r a =
-      subst (λ x. EndsAs ended x took cut) (one_answer map other r.answer answer (answer_here files map own other r.answer told (one_command words own other c d) r.served) a) r.ends
-
-  -- what it ran is an image
-  pub run_sound : (map : FileMap) (other : Command) (outcome : Outcome) → files ≡ Some map → Some own ≡ command_of words → command_of words ≡ Some other → (r : IsRun files own ended took cut) → Comes (Some map) other outcome → IsSound outcome
-  run_sound map other outcome told c d r comes =
-      let here : Comes (Some map) other r.served.outcome = subst (λ k. Comes (Some map) k r.served.outcome) (one_command words own other c d) (subst (λ o. Comes o own r.served.outcome) told r.served.comes) in
-      subst IsSound (one_outcome map other r.served.outcome outcome here comes) r.sound
-
-  pub ends_complete : (answer : Answer) (told : Type 0) → EndsAs ended answer took cut → Completes ended answer took cut told
-  ends_complete answer told a = by ended a
-    where
-      by : (s : Status) → EndsAs s answer took cut → Completes s answer took cut told
-      by status.Done b = (b.1, b.0)
-      by status.Stopped b = (b.1, b.0)
-      by status.CheckNo b = (b.1, b.0)
-      by status.WriteFault b = inl b
-      by _ b = absurd b
-
 -- Refusals
-
-pub never_write_fault : (r : Refusal) → status_of r ≡ status.WriteFault → ⊥
-never_write_fault refusal.Usage e = cc
-never_write_fault _ e = cc
 
 -- what the files that a command needs call for, the command calls for
 pub by_needs : (files : Option FileMap) (before after : ℕ) (command : Command) (r : Refusal) (name : List ℕ) → IsNeedCause files before after command.needs r name → IsCommandCause files before after command r name
@@ -136,107 +85,178 @@ cause_of words files before after own refusal.Usage name c f = absurd f
 cause_of words files before after own refusal.NoMemory name c f = (tt, f)
 cause_of words files before after own _ name c f = ((own, sym c, f.0), f.1)
 
--- files that are told, of the command that the words are
-module _ (words : List (List ℕ)) (files : Option FileMap) (map : FileMap) (own other : Command) (told : files ≡ Some map) (c : Some own ≡ command_of words) (d : command_of words ≡ Some other) where
-  pub comes_here : (outcome : Outcome) → Comes files own outcome → Comes (Some map) other outcome
-  comes_here outcome h = subst (λ k. Comes (Some map) k outcome) (one_command words own other c d) (subst (λ o. Comes o own outcome) told h)
+-- How a call ended
 
-  first_here : (name : List ℕ) (fault : FileFault) → IsFirstFault files own.needs name fault → IsFirstFault (Some map) other.needs name fault
-  first_here name fault h = subst (λ (k : Command). IsFirstFault (Some map) k.needs name fault) (one_command words own other c d) (subst (λ o. IsFirstFault o own.needs name fault) told h)
+pub cut_rose : {S : Type 0} (taken : S → Option (List ℕ)) (faults sure : S → ℕ) (old new : S) (text : List ℕ) → CutOff taken faults sure old new text → Rose (faults old) (faults new)
+cut_rose taken faults sure old new text h = h.rose.1
 
-  -- where something comes of the command, no file has a fault
-  pub no_fault_here : (outcome : Outcome) → Comes (Some map) other outcome → (name : List ℕ) (fault : FileFault) → IsFirstFault files own.needs name fault → ⊥
-  no_fault_here outcome h name fault first = no_first_fault map other outcome h name fault (first_here name fault first)
+module _ (call : Call) (took cut told part : List ℕ → Type 0) (same_err same_out : Type 0) where
+  -- what is said of each status
+  abbrev pub Says : Status → Type 0
+  Says status.Done = Serves call status.Done took × same_err
+  Says status.Stopped = Serves call status.Stopped took × same_err
+  Says status.CheckNo = Serves call status.CheckNo took × same_err
+  Says status.WriteFault = ((s : Status) × Serves call s cut × same_err) ⊎ ((s : Status) × Refuses call s part × same_out)
+  Says s = Refuses call s told × same_out
 
--- a refusal that was told, in whole or in part
-module _ (r : Refusal) (name : List ℕ) (ended : Status) (took cut : List ℕ → Type 0) where
-  abbrev pub Told : Type 0
-  Told = ((ended ≡ status_of r) × took (line_of r name)) ⊎ ((ended ≡ status.WriteFault) × cut (line_of r name))
+  serves : (ended s : Status) (P : List ℕ → Type 0) (r : WasRun call ended took cut) → r.run.answer.status ≡ s → P r.run.answer.text → Serves call s P
+  serves ended s P r e t = record { command = r.command; answer = r.run.answer; asked = r.asked; served = r.run.served; quiet = r.quiet; status = e; text = t }
 
-  pub told_in_part : (call : Call) → IsCause call r name → ended ≡ status.WriteFault → Told → (s : Status) × Refuses call s cut
-  told_in_part call cause e (inl t) = absurd (never_write_fault r (sym t.0 ∙ e))
-  told_in_part call cause e (inr t) = (status_of r, record { refused = r; name = name; status = refl; cause = cause; line = t.1 })
+  run_says : (ended : Status) → WasRun call ended took cut → same_err → Says ended
+  run_says status.Done r e = (serves status.Done status.Done took r r.run.ends.1 r.run.ends.0, e)
+  run_says status.Stopped r e = (serves status.Stopped status.Stopped took r r.run.ends.1 r.run.ends.0, e)
+  run_says status.CheckNo r e = (serves status.CheckNo status.CheckNo took r r.run.ends.1 r.run.ends.0, e)
+  run_says status.WriteFault r e = inl (r.run.answer.status, serves status.WriteFault r.run.answer.status cut r refl r.run.ends, e)
+  run_says _ r e = absurd r.run.ends
 
-  -- what a refusal leaves of the words, the files and the command
-  module _ (words : List (List ℕ)) (files : Option FileMap) (map : FileMap) (before after : ℕ) (own other : Command) (is : files ≡ Some map) (c : Some own ≡ command_of words) (d : command_of words ≡ Some other) (f : IsCommandCause files before after own r name) where
-    -- for a command with a file that does not serve
-    pub told_bad_file : (first : List ℕ) (fault : FileFault) → IsFirstFault (Some map) other.needs first fault → Told → IsOrOutside status.BadFile ended
-    told_bad_file first fault x (inr t) = subst (λ s. IsOrOutside status.BadFile s) (sym t.0) tt
-    told_bad_file first fault x (inl t) = subst (λ s. IsOrOutside status.BadFile s) (sym t.0) (by r f)
+  tells : (q : Refusal) (name : List ℕ) (P : List ℕ → Type 0) → IsCause call q name → P (line_of q name) → Refuses call (status_of q) P
+  tells q name P c t = record { refused = q; name = name; status = refl; cause = c; line = t }
+
+  told_says : (q : Refusal) (name : List ℕ) → IsCause call q name → told (line_of q name) → same_out → Says (status_of q)
+  told_says refusal.Usage name c t o = (tells refusal.Usage name told c t, o)
+  told_says q name c t o = (tells q name told c t, o)
+
+  says : (ended : Status) → Ended call ended took cut told part same_err same_out → Says ended
+  says ended (was_run r e) = run_says ended r e
+  says ended (was_told r o) = by r.tells
+    where
+      by : TellsAs ended r.refused r.name told part → Says ended
+      by (inl t) = subst Says (sym t.0) (told_says r.refused r.name r.cause t.1 o)
+      by (inr t) = subst Says (sym t.0) (inr (status_of r.refused, tells r.refused r.name part r.cause t.1, o))
+
+  pub at : (ended s : Status) → Ended call ended took cut told part same_err same_out → ended ≡ s → Says s
+  at ended s h e = subst Says e (says ended h)
+
+  -- a refusal that was told is this one, or of the outside or of want of memory
+  or_outside : (wanted ended : Status) (r : WasTold call ended told part) → ((q : Refusal) → IsCalledFor call q r.name → IsOrOutside wanted (status_of q)) → IsOrOutside wanted ended
+  or_outside wanted ended r of = by r.tells
+    where
+      by : TellsAs ended r.refused r.name told part → IsOrOutside wanted ended
+      by (inl t) = subst (IsOrOutside wanted) (sym t.0) (of r.refused r.cause.0)
+      by (inr t) = subst (IsOrOutside wanted) (sym t.0) tt
+
+  -- Words that are no command
+
+  pub no_command : (ended : Status) → Ended call ended took cut told part same_err same_out → command_of call.words ≡ None → IsOrOutside status.Usage ended
+  no_command ended (was_run r e) none = let clash : Some r.command ≡ None = sym r.asked ∙ none in absurd (cc)
+  no_command ended (was_told r o) none = or_outside status.Usage ended r of
+    where
+      clash : (own : Command) → command_of call.words ≡ Some own → ⊥
+      clash own c = let both : Some own ≡ None = sym c ∙ none in cc
+
+      of : (q : Refusal) → IsCalledFor call q r.name → IsOrOutside status.Usage (status_of q)
+      of refusal.Usage c = refl
+      of (refusal.BadFile fault) c = absurd (clash c.0 c.1)
+      of (refusal.Link fault) c = absurd (clash c.0 c.1)
+      of _ c = tt
+
+  -- Files that are told, of the command that the words are
+
+  module _ (map : FileMap) (other : Command) (is : call.files ≡ Some map) (d : command_of call.words ≡ Some other) where
+    here : (P : Option FileMap → Command → Type 0) (own : Command) → command_of call.words ≡ Some own → P call.files own → P (Some map) other
+    here P own c h = subst (λ k. P (Some map) k) (one_command call.words own other (sym c) d) (subst (λ o. P o own) is h)
+
+    no_usage : command_of call.words ≡ None → ⊥
+    no_usage none = let both : None ≡ Some other = sym none ∙ d in cc
+
+    -- none of them has a fault, and they link, where something comes of the command
+    no_fault : (outcome : Outcome) → Comes (Some map) other outcome → (name : List ℕ) (fault : FileFault) → IsCalledFor call (refusal.BadFile fault) name → ⊥
+    no_fault outcome comes name fault c = no_first_fault map other outcome comes name fault (here (λ o k. IsFirstFault o k.needs name fault) c.0 c.1 c.2)
+
+    no_link : (answer : Answer) → IsAnswer (Some map) other answer → (name : List ℕ) (fault : LinkFault) → IsCalledFor call (refusal.Link fault) name → ⊥
+    no_link answer a name fault c = no_refusal_of_answer map other answer a fault name (here (λ o k. Comes o k (refuses fault name)) c.0 c.1 c.2)
+
+    answer_here : (ended : Status) (r : WasRun call ended took cut) → IsAnswer (Some map) other r.run.answer
+    answer_here ended r = here (λ o k. IsAnswer o k r.run.answer) r.command r.asked r.run.served
+
+    ends_here : (ended : Status) (r : WasRun call ended took cut) (answer : Answer) → IsAnswer (Some map) other answer → EndsAs ended answer took cut
+    ends_here ended r answer a = subst (λ x. EndsAs ended x took cut) (one_answer map other r.run.answer answer (answer_here ended r) a) r.run.ends
+
+    pub bad_file : (ended : Status) → Ended call ended took cut told part same_err same_out → (name : List ℕ) (fault : FileFault) → IsFirstFault (Some map) other.needs name fault → IsOrOutside status.BadFile ended
+    bad_file ended (was_run r e) name fault x = absurd (no_fault_of_answer map other r.run.answer (answer_here ended r) name fault x)
+    bad_file ended (was_told r o) name fault x = or_outside status.BadFile ended r of
       where
-        by : (q : Refusal) → IsCommandCause files before after own q name → IsOrOutside status.BadFile (status_of q)
-        by refusal.Usage h = absurd h
-        by (refusal.BadFile own_fault) h = refl
-        by refusal.CannotRead h = tt
-        by (refusal.Link link) h = absurd (no_first_fault map other (refuses link name) (comes_here words files map own other is c d (refuses link name) h.0) first fault x)
-        by refusal.NoMemory h = tt
+        of : (q : Refusal) → IsCalledFor call q r.name → IsOrOutside status.BadFile (status_of q)
+        of refusal.Usage c = absurd (no_usage c)
+        of (refusal.BadFile own) c = refl
+        of (refusal.Link own) c = absurd (no_first_fault map other (refuses own r.name) (here (λ o k. Comes o k (refuses own r.name)) c.0 c.1 c.2) name fault x)
+        of _ c = tt
 
-    -- for a command whose files serve and do not link
-    pub told_link : (symbol : List ℕ) (fault : LinkFault) → Comes (Some map) other (refuses fault symbol) → Told → IsOrOutside status.LinkRefused ended
-    told_link symbol fault x (inr t) = subst (λ s. IsOrOutside status.LinkRefused s) (sym t.0) tt
-    told_link symbol fault x (inl t) = subst (λ s. IsOrOutside status.LinkRefused s) (sym t.0) (by r f)
+    pub link_refused : (ended : Status) → Ended call ended took cut told part same_err same_out → (name : List ℕ) (fault : LinkFault) → Comes (Some map) other (refuses fault name) → IsOrOutside status.LinkRefused ended
+    link_refused ended (was_run r e) name fault x = absurd (no_refusal_of_answer map other r.run.answer (answer_here ended r) fault name x)
+    link_refused ended (was_told r o) name fault x = or_outside status.LinkRefused ended r of
       where
-        by : (q : Refusal) → IsCommandCause files before after own q name → IsOrOutside status.LinkRefused (status_of q)
-        by refusal.Usage h = absurd h
-        by (refusal.BadFile own_fault) h = absurd (no_fault_here words files map own other is c d (refuses fault symbol) x name own_fault h.0)
-        by refusal.CannotRead h = tt
-        by (refusal.Link link) h = refl
-        by refusal.NoMemory h = tt
+        of : (q : Refusal) → IsCalledFor call q r.name → IsOrOutside status.LinkRefused (status_of q)
+        of refusal.Usage c = absurd (no_usage c)
+        of (refusal.BadFile own) c = absurd (no_fault (refuses fault name) x r.name own c)
+        of (refusal.Link own) c = refl
+        of _ c = tt
 
-    -- for a command that its files serve
-    pub refused_completes : (answer : Answer) (whole part : List ℕ → Type 0) (told : Type 0) → IsAnswer (Some map) other answer → Told → (ended ≡ status.WriteFault → told) → Completes ended answer whole part told
-    refused_completes answer whole part told a (inr t) tell = subst (λ s. Completes s answer whole part told) (sym t.0) (inr (tell t.0))
-    refused_completes answer whole part told a (inl t) tell = subst (λ s. Completes s answer whole part told) (sym t.0) (by r f)
-      where
-        by : (q : Refusal) → IsCommandCause files before after own q name → Completes (status_of q) answer whole part told
-        by refusal.Usage h = absurd h
-        by (refusal.BadFile fault) h = absurd (no_fault_here words files map own other is c d a.outcome a.comes name fault h.0)
-        by refusal.CannotRead h = tt
-        by (refusal.Link link) h = absurd (no_refusal_of_answer map other answer a link name (comes_here words files map own other is c d (refuses link name) h.0))
-        by refusal.NoMemory h = tt
+    abbrev pub Complete : Answer → Status → Type 0
+    Complete answer ended = Completes ended answer took cut ((s : Status) × Refuses call s part)
 
-    -- the outside failed, where the files serve and memory is there
-    pub refused_outside : (answer : Answer) → IsAnswer (Some map) other answer → ended ≢ status.NoMemory → (Rose before after → ⊥) → (cut (line_of r name) → ⊥) → Told → ⊥
-    refused_outside answer a some no_read no_cut (inr t) = no_cut t.1
-    refused_outside answer a some no_read no_cut (inl t) = by r f t.0
+    pub completes : (ended : Status) → Ended call ended took cut told part same_err same_out → (answer : Answer) → IsAnswer (Some map) other answer → Complete answer ended
+    completes ended (was_run r e) answer a = by ended (ends_here ended r answer a)
       where
-        by : (q : Refusal) → IsCommandCause files before after own q name → ended ≡ status_of q → ⊥
-        by refusal.Usage h e = h
-        by (refusal.BadFile fault) h e = no_fault_here words files map own other is c d a.outcome a.comes name fault h.0
-        by refusal.CannotRead h e = no_read h.1.1
-        by (refusal.Link link) h e = no_refusal_of_answer map other answer a link name (comes_here words files map own other is c d (refuses link name) h.0)
-        by refusal.NoMemory h e = some e
+        by : (s : Status) → EndsAs s answer took cut → Complete answer s
+        by status.Done b = (b.1, b.0)
+        by status.Stopped b = (b.1, b.0)
+        by status.CheckNo b = (b.1, b.0)
+        by status.WriteFault b = inl b
+        by _ b = absurd b
+    completes ended (was_told r o) answer a = by r.tells
+      where
+        of : (q : Refusal) → IsCalledFor call q r.name → Complete answer (status_of q)
+        of refusal.Usage c = absurd (no_usage c)
+        of (refusal.BadFile fault) c = absurd (no_fault a.outcome a.comes r.name fault c)
+        of (refusal.Link fault) c = absurd (no_link answer a r.name fault c)
+        of _ c = tt
+
+        by : TellsAs ended r.refused r.name told part → Complete answer ended
+        by (inl t) = subst (Complete answer) (sym t.0) (of r.refused r.cause.0)
+        by (inr t) = subst (Complete answer) (sym t.0) (inr (status_of r.refused, tells r.refused r.name part r.cause t.1))
+
+    -- the whole answer, and what is run is an image, where memory is there and neither the files nor a sink failed
+    pub whole : (ended : Status) → Ended call ended took cut told part same_err same_out → (outcome : Outcome) (answer : Answer) → Comes (Some map) other outcome → Answers outcome answer
+        → ended ≢ status.NoMemory → (Rose call.before call.after → ⊥) → (cut answer.text → ⊥) → ((text : List ℕ) → part text → ⊥)
+        → (took answer.text × same_err × (ended ≡ answer.status)) × IsSound outcome
+    whole ended (was_run r e) outcome answer comes a some no_read no_cut no_part =
+        (by ended (ends_here ended r answer (record { outcome = outcome; comes = comes; is = a })), sound)
+      where
+        by : (s : Status) → EndsAs s answer took cut → took answer.text × same_err × (s ≡ answer.status)
+        by status.Done b = (b.0, e, sym b.1)
+        by status.Stopped b = (b.0, e, sym b.1)
+        by status.CheckNo b = (b.0, e, sym b.1)
+        by status.WriteFault b = absurd (no_cut b)
+        by _ b = absurd b
+
+        sound : IsSound outcome
+        sound = subst IsSound (one_outcome map other r.run.served.outcome outcome (here (λ o k. Comes o k r.run.served.outcome) r.command r.asked r.run.served.comes) comes) r.run.sound
+    whole ended (was_told r o) outcome answer comes a some no_read no_cut no_part = absurd (by r.tells)
+      where
+        of : (q : Refusal) → IsCause call q r.name → ended ≡ status_of q → ⊥
+        of refusal.Usage c e = no_usage c.0
+        of (refusal.BadFile fault) c e = no_fault outcome comes r.name fault c.0
+        of refusal.CannotRead c e = no_read c.1.1
+        of (refusal.Link fault) c e = no_link answer (record { outcome = outcome; comes = comes; is = a }) r.name fault c.0
+        of refusal.NoMemory c e = some e
+
+        by : TellsAs ended r.refused r.name told part → ⊥
+        by (inl t) = of r.refused r.cause t.0
+        by (inr t) = no_part (line_of r.refused r.name) t.1
+
+-- No file is read before Usage
 
 -- a run does not end as words that are no command do
 pub run_not_usage : (files : Option FileMap) (own : Command) (ended : Status) (took cut : List ℕ → Type 0) → IsRun files own ended took cut → ended ≡ status.Usage → ⊥
 run_not_usage files own ended took cut r e = subst (λ t. EndsAs t r.answer took cut) e r.ends
 
 -- nor does a refusal by files
-pub refused_not_usage : (r : Refusal) (name : List ℕ) (ended : Status) (took cut : List ℕ → Type 0) (files : Option FileMap) (before after : ℕ) (own : Command)
-    → IsCommandCause files before after own r name → Told r name ended took cut → ended ≡ status.Usage → ⊥
-refused_not_usage r name ended took cut files before after own f (inr t) e = let clash = sym t.0 ∙ e in cc
-refused_not_usage r name ended took cut files before after own f (inl t) e = by r f (sym t.0 ∙ e)
+pub refused_not_usage : (files : Option FileMap) (before after : ℕ) (own : Command) (r : Refusal) (name : List ℕ) (ended : Status) (took cut : List ℕ → Type 0)
+    → IsCommandCause files before after own r name → TellsAs ended r name took cut → ended ≡ status.Usage → ⊥
+refused_not_usage files before after own r name ended took cut f (inr t) e = let clash = sym t.0 ∙ e in cc
+refused_not_usage files before after own r name ended took cut f (inl t) e = by r f (sym t.0 ∙ e)
   where
     by : (q : Refusal) → IsCommandCause files before after own q name → status_of q ≡ status.Usage → ⊥
     by refusal.Usage h e = h
     by _ h e = cc
-
--- want of memory before any file was read
-pub no_memory_completes : (name : List ℕ) (ended : Status) (took cut : List ℕ → Type 0) (answer : Answer) (whole part : List ℕ → Type 0) (told : Type 0)
-    → Told refusal.NoMemory name ended took cut → (ended ≡ status.WriteFault → told) → Completes ended answer whole part told
-no_memory_completes name ended took cut answer whole part told (inl t) tell = subst (λ s. Completes s answer whole part told) (sym t.0) tt
-no_memory_completes name ended took cut answer whole part told (inr t) tell = subst (λ s. Completes s answer whole part told) (sym t.0) (inr (tell t.0))
-
--- Sinks whose count did not rise
-
-module _ {S : Type 0} (taken : S → Option (List ℕ)) (faults sure : S → ℕ) (old new : S) where
-  pub cut_rose : (text : List ℕ) → CutOff taken faults sure old new text → Rose (faults old) (faults new)
-  cut_rose text h = h.rose.1
-
-  -- what a run did to a sink whose count did not rise
-  pub run_whole : (ended : Status) (answer : Answer) → EndsAs ended answer (Took taken faults sure old new) (CutOff taken faults sure old new) → (Rose (faults old) (faults new) → ⊥) → Took taken faults sure old new answer.text × (ended ≡ answer.status)
-  run_whole status.Done answer a quiet = (a.0, sym a.1)
-  run_whole status.Stopped answer a quiet = (a.0, sym a.1)
-  run_whole status.CheckNo answer a quiet = (a.0, sym a.1)
-  run_whole status.WriteFault answer a quiet = absurd (quiet (cut_rose answer.text a))
-  run_whole _ answer a quiet = absurd a

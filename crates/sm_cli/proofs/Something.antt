@@ -1,5 +1,5 @@
 -- Something comes of the files of every command line.
-use Rattle.std.proofs.Common.{◌≡◌, ℕ, ◌%◌, ◌==◌, ◌&&◌, nat_le, Bool, true, false, if◌then◌else◌, is_some, List, [], ◌∷◌, ◌++◌, Option, Some, None, option_map, refl, ap, sym, ◌∙◌, subst}
+use Rattle.std.proofs.Common.{◌≡◌, ℕ, ◌%◌, ◌==◌, ◌&&◌, nat_le, Bool, true, false, if◌then◌else◌, is_some, List, [], ◌∷◌, Option, Some, None, option_map, ◌∙◌, subst}
 use Rattle.std.specs.Prelude.{codes, option_and_then}
 use Rattle.std.specs.Str.{bytes_eq}
 use Rattle.sm_io.specs.Files.{FileMap}
@@ -16,7 +16,7 @@ use Rattle.vendor_tool.specs.declared.Challenge.{Challenge}
 use Rattle.cli_files.specs.Files.{Held, an_image, a_schedule, the_challenges, the_replies, certificates, a_layout, a_script, a_unit, HoldAll}
 use Rattle.sm_cli.specs.Words.{Text, values_in}
 use Rattle.sm_cli.specs.Arguments.{id_of, cycles_of, file_named}
-use Rattle.sm_cli.specs.Command.{Command, Outcome, gives, runs, nothing, Comes}
+use Rattle.sm_cli.specs.Command.{Command, Outcome, runs, nothing, Comes}
 use Rattle.sm_cli.specs.CommandLine.{command_by, command_of}
 use Rattle.sm_cli.specs.AsmCommand.{asm_command, asm_of}
 use Rattle.sm_cli.specs.BalanceCommand.{balanced_by, balance_command, balance_in, balance_of}

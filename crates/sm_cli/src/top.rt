@@ -24,6 +24,7 @@ ghost use Rattle.sm_cli.specs.Input.{IsInput, IsScriptInput};
 ghost use Rattle.sm_cli.specs.MonitorCommand.{start_of, script_answer};
 ghost use Rattle.cli_files.specs.NameText.{name_text};
 ghost use Rattle.cli_files.specs.Refusal.{status_of, line_of};
+ghost use Rattle.sm_cli.specs.internal.Serve.{Ended, TellsAs};
 ghost use Rattle.sm_cli.specs.Serve.{texts, call_of, Serves, Refuses, IsOrOutside, Completes};
 
 use crate::commands::{Answering, read_command};
@@ -137,6 +138,27 @@ pub fn serve<F: Files, O: Sink, E: Sink>(
     isolation::two_runs();
     isolation::texts();
     peer_rows::accepted_are_peers();
+    answer_words(alloc, words, files, out, err)
+}
+
+// Answers the words, or tells why not.
+fn answer_words<F: Files, O: Sink, E: Sink>(
+    alloc: Global,
+    words: &[String],
+    files: &mut F,
+    out: &mut O,
+    err: &mut E,
+) -> Status
+    ensures ended { Ended (call_of (texts words.now) (F.content files.old) (F.faults files.old) (F.faults files.new)) result
+        (Took O.taken O.faults O.sure out.old out.new) (CutOff O.taken O.faults O.sure out.old out.new)
+        (Took E.taken E.faults E.sure err.old err.new) (CutOff E.taken E.faults E.sure err.old err.new)
+        (err.new ≡ err.old) (out.new ≡ out.old) }
+    ensures sound { IsTrue (F.sound files.old) →
+        (result ≢ Status.ReadFault) × (F.faults files.new ≡ F.faults files.old) }
+    ensures same_sound { F.sound files.new ≡ F.sound files.old }
+    ensures same_files { F.content files.new ≡ F.content files.old }
+    ensures unread { result ≡ Status.Usage → files.new ≡ files.old }
+{
     let command = match read_command(alloc, words) {
         Ok(Some(command)) => command,
         Ok(None) => return tell(
@@ -156,11 +178,8 @@ pub fn serve<F: Files, O: Sink, E: Sink>(
 
 // Puts the line of a refusal, and gives its status.
 fn tell<E: Sink>(err: &mut E, refused: Refused<'_>) -> Status
-    ensures told { (result ≡ status_of refused.entry.refusal)
-        × Took E.taken E.faults E.sure err.old err.new (line_of refused.entry.refusal (name_text refused.entry.name))
-        ⊎ ((result ≡ Status.WriteFault)
-        × CutOff E.taken E.faults E.sure err.old err.new (line_of refused.entry.refusal
-        (name_text refused.entry.name))) }
+    ensures told { TellsAs result refused.entry.refusal (name_text refused.entry.name)
+        (Took E.taken E.faults E.sure err.old err.new) (CutOff E.taken E.faults E.sure err.old err.new) }
 {
     match put_refusal(err, &refused) {
         Ok(()) => status_for(refused.refusal),
