@@ -4,9 +4,9 @@ use Rattle.std.specs.Prelude.{nat_le, option_and_then}
 use Rattle.std.proofs.lemmas.Bool.{lt-leb}
 use Rattle.sm_cli.specs.AsmCommand.{asm_of}
 use Rattle.sm_cli.specs.ChallengeCommand.{challenge_of}
-use Rattle.sm_cli.specs.Command.{Command}
+use Rattle.cli_calls.specs.Command.{Command}
 use Rattle.sm_cli.specs.MakeCommand.{make_of}
-use Rattle.sm_cli.specs.Words.{Text, in_number, values, values_in}
+use Rattle.cli_calls.specs.Words.{Text, in_number, values, values_in}
 
 both_false : (a : Bool) (vs : List Text) → (if a && false then Some vs else None) ≡ None
 both_false true vs = refl

@@ -1,5 +1,5 @@
 -- From the parts of a call of `serve` to what it gives.
-use Rattle.std.proofs.Common.{◌≡◌, ◌≢◌, ℕ, ◌≤◌, false, List, length, Option, Some, refl, sym, ◌∙◌, subst, arith, inl, inr, ◌⊎◌}
+use Rattle.std.proofs.Common.{◌≡◌, ◌≢◌, ℕ, ◌≤◌, false, List, length, Option, Some, refl, sym, ◌∙◌, subst, arith, inl, inr, ◌⊎◌, codes}
 use Rattle.sm_io.specs.Faults.{HasCause, Rose}
 use Rattle.sm_io.specs.Files.{FileMap}
 use Rattle.sm_io.specs.Sink.{Took, CutOff}
@@ -13,7 +13,7 @@ use Rattle.cli_files.specs.declared.answers.Refusal.TheVariants as refusal
 use Rattle.cli_files.specs.declared.answers.Status.{Status}
 use Rattle.cli_files.specs.declared.answers.Status.TheVariants as status
 use Rattle.cli_files.specs.Files.{an_image, image_file, need, Holds, IsFirstFault}
-use Rattle.sm_cli.specs.Command.{Command, Answer, Outcome, gives, runs, refuses, Comes, IsAnswer}
+use Rattle.cli_calls.specs.Command.{Command, Answer, Outcome, gives, runs, refuses, Comes, IsAnswer}
 use Rattle.sm_cli.specs.CommandLine.{command_of}
 use Rattle.sm_cli.specs.ImageCommand.{image_command}
 use Rattle.written_machine.specs.declared.ScriptLine.{ScriptLine}
@@ -21,10 +21,11 @@ use Rattle.sm_cli.specs.Input.{IsInput, IsScriptInput}
 use Rattle.sm_cli.specs.MonitorCommand.{monitor_command, script_answer}
 use Rattle.sm_cli.specs.RunCommand.{run_command}
 use Rattle.cli_files.specs.Refusal.{status_of, line_of}
-use Rattle.sm_cli.specs.Serve.{Call, call_of, Serves, Refuses, IsCause, Completes, IsOrOutside}
-use Rattle.sm_cli.specs.internal.Serve.{IsRun, IsSound, EndsAs, IsCommandCause}
+use Rattle.cli_calls.specs.Calls.{Call, Serves, Refuses, IsCause, Completes, IsOrOutside, Told}
+use Rattle.sm_cli.specs.Serve.{call_of}
+use Rattle.cli_calls.specs.Runs.{IsRun, IsSound, EndsAs, IsCommandCause}
 use Rattle.cli_files.specs.Causes.{IsNeedCause}
-use Rattle.sm_cli.proofs.Needed.{one_answer, one_outcome, no_first_fault, no_fault_of_answer, no_refusal_of_answer}
+use Rattle.cli_calls.proofs.Outcomes.{one_answer, one_outcome, no_first_fault, no_fault_of_answer, no_refusal_of_answer}
 use Rattle.sm_cli.proofs.Running.{image_comes, linked_runs, monitor_comes}
 use Rattle.sm_cli.proofs.ShortText.{short_text}
 
@@ -125,11 +126,6 @@ pub never_write_fault : (r : Refusal) → status_of r ≡ status.WriteFault → 
 never_write_fault refusal.Usage e = cc
 never_write_fault _ e = cc
 
--- what the files that a command needs call for, the command calls for
-pub by_needs : (files : Option FileMap) (before after : ℕ) (command : Command) (r : Refusal) (name : List ℕ) → IsNeedCause files before after command.needs r name → IsCommandCause files before after command r name
-by_needs files before after command (refusal.Link fault) name f = absurd f
-by_needs files before after command _ name f = f
-
 -- the cause of a refusal by a command
 pub cause_of : (words : List (List ℕ)) (files : Option FileMap) (before after : ℕ) (own : Command) (r : Refusal) (name : List ℕ) → Some own ≡ command_of words → IsCommandCause files before after own r name → IsCause (call_of words files before after) r name
 cause_of words files before after own refusal.Usage name c f = absurd f
@@ -150,17 +146,17 @@ module _ (words : List (List ℕ)) (files : Option FileMap) (map : FileMap) (own
 
 -- a refusal that was told, in whole or in part
 module _ (r : Refusal) (name : List ℕ) (ended : Status) (took cut : List ℕ → Type 0) where
-  abbrev pub Told : Type 0
-  Told = ((ended ≡ status_of r) × took (line_of r name)) ⊎ ((ended ≡ status.WriteFault) × cut (line_of r name))
+  abbrev ToldHere : Type 0
+  ToldHere = Told (codes "sancus") r name took cut ended
 
-  pub told_in_part : (call : Call) → IsCause call r name → ended ≡ status.WriteFault → Told → (s : Status) × Refuses call s cut
+  pub told_in_part : (call : Call) → IsCause call r name → ended ≡ status.WriteFault → Told call.program r name took cut ended → (s : Status) × Refuses call s cut
   told_in_part call cause e (inl t) = absurd (never_write_fault r (sym t.0 ∙ e))
   told_in_part call cause e (inr t) = (status_of r, record { refused = r; name = name; status = refl; cause = cause; line = t.1 })
 
   -- what a refusal leaves of the words, the files and the command
   module _ (words : List (List ℕ)) (files : Option FileMap) (map : FileMap) (before after : ℕ) (own other : Command) (is : files ≡ Some map) (c : Some own ≡ command_of words) (d : command_of words ≡ Some other) (f : IsCommandCause files before after own r name) where
     -- for a command with a file that does not serve
-    pub told_bad_file : (first : List ℕ) (fault : FileFault) → IsFirstFault (Some map) other.needs first fault → Told → IsOrOutside status.BadFile ended
+    pub told_bad_file : (first : List ℕ) (fault : FileFault) → IsFirstFault (Some map) other.needs first fault → ToldHere → IsOrOutside status.BadFile ended
     told_bad_file first fault x (inr t) = subst (λ s. IsOrOutside status.BadFile s) (sym t.0) tt
     told_bad_file first fault x (inl t) = subst (λ s. IsOrOutside status.BadFile s) (sym t.0) (by r f)
       where
@@ -172,7 +168,7 @@ module _ (r : Refusal) (name : List ℕ) (ended : Status) (took cut : List ℕ �
         by refusal.NoMemory h = tt
 
     -- for a command whose files serve and do not link
-    pub told_link : (symbol : List ℕ) (fault : LinkFault) → Comes (Some map) other (refuses fault symbol) → Told → IsOrOutside status.LinkRefused ended
+    pub told_link : (symbol : List ℕ) (fault : LinkFault) → Comes (Some map) other (refuses fault symbol) → ToldHere → IsOrOutside status.LinkRefused ended
     told_link symbol fault x (inr t) = subst (λ s. IsOrOutside status.LinkRefused s) (sym t.0) tt
     told_link symbol fault x (inl t) = subst (λ s. IsOrOutside status.LinkRefused s) (sym t.0) (by r f)
       where
@@ -184,7 +180,7 @@ module _ (r : Refusal) (name : List ℕ) (ended : Status) (took cut : List ℕ �
         by refusal.NoMemory h = tt
 
     -- for a command that its files serve
-    pub refused_completes : (answer : Answer) (whole part : List ℕ → Type 0) (told : Type 0) → IsAnswer (Some map) other answer → Told → (ended ≡ status.WriteFault → told) → Completes ended answer whole part told
+    pub refused_completes : (answer : Answer) (whole part : List ℕ → Type 0) (told : Type 0) → IsAnswer (Some map) other answer → ToldHere → (ended ≡ status.WriteFault → told) → Completes ended answer whole part told
     refused_completes answer whole part told a (inr t) tell = subst (λ s. Completes s answer whole part told) (sym t.0) (inr (tell t.0))
     refused_completes answer whole part told a (inl t) tell = subst (λ s. Completes s answer whole part told) (sym t.0) (by r f)
       where
@@ -196,7 +192,7 @@ module _ (r : Refusal) (name : List ℕ) (ended : Status) (took cut : List ℕ �
         by refusal.NoMemory h = tt
 
     -- the outside failed, where the files serve and memory is there
-    pub refused_outside : (answer : Answer) → IsAnswer (Some map) other answer → ended ≢ status.NoMemory → (Rose before after → ⊥) → (cut (line_of r name) → ⊥) → Told → ⊥
+    pub refused_outside : (answer : Answer) → IsAnswer (Some map) other answer → ended ≢ status.NoMemory → (Rose before after → ⊥) → (cut (line_of (codes "sancus") r name) → ⊥) → ToldHere → ⊥
     refused_outside answer a some no_read no_cut (inr t) = no_cut t.1
     refused_outside answer a some no_read no_cut (inl t) = by r f t.0
       where
@@ -213,7 +209,7 @@ run_not_usage files own ended took cut r e = subst (λ t. EndsAs t r.answer took
 
 -- nor does a refusal by files
 pub refused_not_usage : (r : Refusal) (name : List ℕ) (ended : Status) (took cut : List ℕ → Type 0) (files : Option FileMap) (before after : ℕ) (own : Command)
-    → IsCommandCause files before after own r name → Told r name ended took cut → ended ≡ status.Usage → ⊥
+    → IsCommandCause files before after own r name → Told (codes "sancus") r name took cut ended → ended ≡ status.Usage → ⊥
 refused_not_usage r name ended took cut files before after own f (inr t) e = let clash = sym t.0 ∙ e in cc
 refused_not_usage r name ended took cut files before after own f (inl t) e = by r f (sym t.0 ∙ e)
   where
@@ -223,7 +219,7 @@ refused_not_usage r name ended took cut files before after own f (inl t) e = by 
 
 -- want of memory before any file was read
 pub no_memory_completes : (name : List ℕ) (ended : Status) (took cut : List ℕ → Type 0) (answer : Answer) (whole part : List ℕ → Type 0) (told : Type 0)
-    → Told refusal.NoMemory name ended took cut → (ended ≡ status.WriteFault → told) → Completes ended answer whole part told
+    → Told (codes "sancus") refusal.NoMemory name took cut ended → (ended ≡ status.WriteFault → told) → Completes ended answer whole part told
 no_memory_completes name ended took cut answer whole part told (inl t) tell = subst (λ s. Completes s answer whole part told) (sym t.0) tt
 no_memory_completes name ended took cut answer whole part told (inr t) tell = subst (λ s. Completes s answer whole part told) (sym t.0) (inr (tell t.0))
 

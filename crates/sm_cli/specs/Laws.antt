@@ -12,11 +12,11 @@ use Rattle.written_machine.specs.View.{at}
 use Rattle.cli_files.specs.declared.answers.FileFault.{FileFault}
 use Rattle.cli_files.specs.declared.answers.Status.TheVariants.{Stopped}
 use Rattle.cli_files.specs.Files.{IsFirstFault}
-use Rattle.sm_cli.specs.Command.{Command, Outcome, refuses, Comes, Answer, IsAnswer, trace_answer}
+use Rattle.cli_calls.specs.Command.{Command, Outcome, refuses, Comes, Answer, IsAnswer, trace_answer}
 use Rattle.link_symbols.specs.declared.fault.LinkFault.{LinkFault}
 use Rattle.sm_cli.specs.CommandLine.{command_of}
 use Rattle.sm_cli.specs.MakeCommand.{run_text, start_of}
-use Rattle.sm_cli.specs.Words.{Text}
+use Rattle.cli_calls.specs.Words.{Text}
 
 -- Of every command, on files that are told, something comes, or there is a first file that does not serve.
 abbrev pub IsDecided : Type 0

@@ -16,20 +16,24 @@ ghost use Rattle.written_machine.specs.declared.ScriptLine.{ScriptLine as Script
 ghost use Rattle.cli_files.specs.declared.answers.Status.{Status as Statuses};
 ghost use Rattle.cli_files.specs.declared.answers.FileFault.{FileFault as FileFaults};
 ghost use Rattle.sm_cli.specs.Checked.{IsCheck, IsBalance};
-ghost use Rattle.sm_cli.specs.Command.{Command, Outcome, Comes, IfAnswered, refuses, run_status};
+ghost use Rattle.cli_calls.specs.Command.{Command, Outcome, Comes, IfAnswered, refuses, run_status};
 ghost use Rattle.link_symbols.specs.declared.fault.LinkFault.{LinkFault as LinkFaults};
 ghost use Rattle.sm_cli.specs.CommandLine.{command_of};
 ghost use Rattle.cli_files.specs.Files.{IsFirstFault};
 ghost use Rattle.sm_cli.specs.Input.{IsInput, IsScriptInput};
 ghost use Rattle.sm_cli.specs.MonitorCommand.{start_of, script_answer};
-ghost use Rattle.cli_files.specs.NameText.{name_text};
-ghost use Rattle.cli_files.specs.Refusal.{status_of, line_of};
-ghost use Rattle.sm_cli.specs.Serve.{texts, call_of, Serves, Refuses, IsOrOutside, Completes};
+ghost use Rattle.cli_calls.specs.Words.{texts};
+ghost use Rattle.sm_cli.specs.Serve.{call_of};
+ghost use Rattle.cli_calls.specs.Calls.{Serves, Refuses, IsOrOutside, Completes};
 
-use crate::commands::{Answering, read_command};
-use cli_files::{NO_MEMORY, Name, Refusal, Refused, Status, put_refusal};
-use sm_io::{Failed, Files, Sink};
+use crate::commands::read_command;
+use cli_calls::{Answering, tell};
+use cli_files::{NO_MEMORY, Status, USAGE};
+use sm_io::{Files, Sink};
 use std::alloc::Global;
+
+/// What lines of refusals begin with.
+const PROGRAM: &[u8] = b"sancus";
 
 /// Does all that the program does: the command that the words are, on files and two sinks.
 pub fn serve<F: Files, O: Sink, E: Sink>(
@@ -139,43 +143,11 @@ pub fn serve<F: Files, O: Sink, E: Sink>(
     peer_rows::accepted_are_peers();
     let command = match read_command(alloc, words) {
         Ok(Some(command)) => command,
-        Ok(None) => return tell(
-            err,
-            Refused {
-                refusal: Refusal::Usage,
-                name: Name::Word(""),
-            },
-        ),
-        Err(_) => return tell(err, NO_MEMORY),
+        Ok(None) => return tell(err, PROGRAM, USAGE),
+        Err(_) => return tell(err, PROGRAM, NO_MEMORY),
     };
     match command.answer(alloc, files, out) {
         Ok(status) => status,
-        Err(refused) => tell(err, refused),
-    }
-}
-
-// Puts the line of a refusal, and gives its status.
-fn tell<E: Sink>(err: &mut E, refused: Refused<'_>) -> Status
-    ensures told { (result ≡ status_of refused.entry.refusal)
-        × Took E.taken E.faults E.sure err.old err.new (line_of refused.entry.refusal (name_text refused.entry.name))
-        ⊎ ((result ≡ Status.WriteFault)
-        × CutOff E.taken E.faults E.sure err.old err.new (line_of refused.entry.refusal
-        (name_text refused.entry.name))) }
-{
-    match put_refusal(err, &refused) {
-        Ok(()) => status_for(refused.refusal),
-        Err(Failed) => Status::WriteFault,
-    }
-}
-
-fn status_for(refusal: Refusal) -> Status
-    ensures { result ≡ status_of refusal }
-{
-    match refusal {
-        Refusal::Usage => Status::Usage,
-        Refusal::BadFile(_) => Status::BadFile,
-        Refusal::CannotRead => Status::ReadFault,
-        Refusal::Link(_) => Status::LinkRefused,
-        Refusal::NoMemory => Status::NoMemory,
+        Err(refused) => tell(err, PROGRAM, refused),
     }
 }

@@ -3,7 +3,7 @@ use Rattle.cpu_step.specs.Lone as lone
 use Rattle.cli_files.specs.declared.answers.Status.TheVariants as status
 use Rattle.sm_cli.specs.declared.commands.lone.LoneCommand.{LoneCommand}
 use Rattle.sm_cli.specs.Pairs.{core_with}
-use Rattle.sm_cli.specs.Command.{Command}
+use Rattle.cli_calls.specs.Command.{Command}
 use Rattle.sm_cli.specs.LoneCommand.{lone_command}
 
 -- what the program's value asks for

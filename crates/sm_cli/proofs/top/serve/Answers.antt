@@ -3,16 +3,17 @@ use Rattle.std.specs.Option.{option_map}
 use Rattle.sm_io.specs.Sink.{Took, CutOff}
 use Rattle.sm_cli.specs.CommandLine.{command_of}
 use Rattle.sm_cli.specs.internal.CommandLine.{asked}
-use Rattle.sm_cli.specs.Command.{runs, trace_answer}
+use Rattle.cli_calls.specs.Command.{runs, trace_answer}
 use Rattle.sm_cli.specs.MonitorCommand.{script_answer}
 use Rattle.sm_cli.specs.declared.commands.script.TheConstants.{MOST_MARKS}
 use Rattle.cli_files.specs.NameText.{name_text}
-use Rattle.sm_cli.specs.Serve.{texts, call_of}
+use Rattle.cli_calls.specs.Words.{texts}
+use Rattle.sm_cli.specs.Serve.{call_of}
 use Rattle.cli_files.specs.declared.answers.Refusal.TheVariants as refusal
 use Rattle.sm_cli.proofs.Serving.{run_not_usage, refused_not_usage, run_input, script_input, when_done, when_cut, run_ends, run_sound, run_no_fault, ends_complete, told_in_part, cause_of, refused_completes, refused_outside, no_memory_completes, cut_rose, run_whole, run_no_link, told_bad_file, told_link}
 use Rattle.sm_cli.proofs.Checking.{checked_peers, balanced_peers}
 use Rattle.sm_cli.proofs.Needed.{if_answered}
-use Rattle.sm_cli.proofs.Running.{gives_answer, runs_answer}
+use Rattle.cli_calls.proofs.Given.{gives_answer, runs_answer}
 use Rattle.sm_cli.proofs.top.serve.Goals as goal
 
 -- a run

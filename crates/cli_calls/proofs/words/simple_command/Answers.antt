@@ -3,9 +3,9 @@ use Rattle.std.proofs.lemmas.Result.{IfOk-weaker}
 use Rattle.clap.specs.Walk.{rule_of}
 use Rattle.clap.specs.Simple.{Shape, app_of, app_of_fields, new_app, with_rule, on_top}
 use Rattle.clap.specs.declared.builder.range.ValueRange.{ValueRange}
-use Rattle.sm_cli.specs.internal.App.{several}
-use Rattle.sm_cli.proofs.Clap.{some_and}
-use Rattle.sm_cli.proofs.words.simple_command.Goals as goal
+use Rattle.cli_calls.specs.internal.App.{several}
+use Rattle.cli_calls.proofs.Clap.{some_and}
+use Rattle.cli_calls.proofs.words.simple_command.Goals as goal
 
 pub returns : goal.returns
 returns c =

@@ -1,4 +1,4 @@
--- What the code's own invariants say of: Serve.
+-- What a command is answered, and why it is refused.
 use Rattle.std.specs.Prelude.{◌≡◌, ℕ, true, false, List, Option}
 use Rattle.sm_io.specs.Faults.{HasCause}
 use Rattle.sm_io.specs.Files.{FileMap}
@@ -9,7 +9,7 @@ use Rattle.cli_files.specs.declared.answers.Refusal.TheVariants as refusal
 use Rattle.cli_files.specs.Files.{Need, IsFirstFault, IsReached}
 use Rattle.cli_files.specs.Causes.{IsNeedCause}
 use Rattle.image_text.specs.Image.{IsImage}
-use Rattle.sm_cli.specs.Command.{Answer, Command, Comes, Outcome, runs, refuses, IsAnswer}
+use Rattle.cli_calls.specs.Command.{Answer, Command, Comes, Outcome, runs, refuses, IsAnswer}
 
 -- an answer ended with this status: its text was taken, or cut off
 abbrev pub EndsAs : Status → Answer → (took cut : List ℕ → Type 0) → Type 0

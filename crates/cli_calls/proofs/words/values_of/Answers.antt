@@ -6,9 +6,9 @@ use Rattle.clap.specs.Faults.{is_simple_and_free, fault_of}
 use Rattle.clap.proofs.WalkLemmas.{raw_values-rows}
 use Rattle.clap.specs.Kinds.{IsAmong}
 use Rattle.clap.specs.Values.{kind_of}
-use Rattle.sm_cli.specs.internal.App.{id, app}
-use Rattle.sm_cli.proofs.Clap.{is_plain, is_simple_app, decides-all, decided_ok, decided_err, texts_of_strings, Wanted}
-use Rattle.sm_cli.proofs.words.values_of.Goals as goal
+use Rattle.cli_calls.specs.internal.App.{id, app}
+use Rattle.cli_calls.proofs.Clap.{is_plain, is_simple_app, decides-all, decided_ok, decided_err, texts_of_strings, Wanted}
+use Rattle.cli_calls.proofs.words.values_of.Goals as goal
 
 pub returns-in-Some : goal.returns-in-Some
 returns-in-Some c =

@@ -17,8 +17,8 @@ use Rattle.clap.specs.Kinds.{Kinds, IsAmong, or_else, values_kinds, range_kinds}
 use Rattle.clap.specs.declared.error.kind.ErrorKind.{ErrorKind}
 use Rattle.clap.specs.declared.error.kind.ErrorKind.TheVariants.{UnknownArgument, MissingRequiredArgument, WrongNumberOfValues, TooFewValues, TooManyValues}
 use Rattle.clap.specs.declared.builder.value_parser.ValueParser.TheVariants as vp
-use Rattle.sm_cli.specs.internal.App.{id, several, app}
-use Rattle.sm_cli.specs.Words.{is_end, is_option, values, values_in}
+use Rattle.cli_calls.specs.internal.App.{id, several, app}
+use Rattle.cli_calls.specs.Words.{is_end, is_option, values, values_in}
 
 -- the argument as it is built
 abbrev pub ready : ℕ → ℕ → Rule

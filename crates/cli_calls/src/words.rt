@@ -1,8 +1,8 @@
 // The values among a command's words, read by clap.
 ghost use Rattle.std.specs.Prelude.{◌≡◌, ◌<◌, ◌≤◌, IfOk, map, drop, option_map, string_bytes};
 ghost use Rattle.clap.specs.Simple.{app_of};
-ghost use Rattle.sm_cli.specs.internal.App.{app};
-ghost use Rattle.sm_cli.specs.Words.{values_in};
+ghost use Rattle.cli_calls.specs.internal.App.{app};
+ghost use Rattle.cli_calls.specs.Words.{values_in};
 
 use clap::error::ErrorKind;
 use clap::{Arg, ArgAction, Command};
