@@ -1,18 +1,21 @@
 #!/bin/sh
-# Runs the commands of all pages, in their order: each `./sancus` line of the README, of docs/ and of the pages here,
+# Runs the commands of all pages, in their order: each `./sancus` and `./sancus-lab` line of the README, of docs/ and of the pages here,
 # compared with the block of text after it, whose last line is `status N` where the command ends with another status
 # than 0; each `clang` line, compared with the object in the folder, where clang 14 is there; the commands of the
 # manual, and its files by the command beside each. Then it draws the figure again.
-#     examples/check.sh [PROGRAM]
-# PROGRAM stands for ./sancus where it is given. The last line is 'N commands, M differ, K not run'.
+#     examples/check.sh [PROGRAM [LAB]]
+# PROGRAM stands for ./sancus where it is given, LAB for ./sancus-lab. The last line is 'N commands, M differ, K not run'.
 here=$(dirname -- "$(readlink -f -- "$0")") || exit 1
 top=${here%/*}
 program=$(readlink -f -- "${1:-$top/sancus}") || exit 1
+lab=${2:-$top/sancus-lab}
+case $lab in /*) ;; *) lab=$PWD/$lab ;; esac
 room=$(mktemp -d) || exit 1
 trap 'rm -rf "$room"' EXIT
 cd "$room" || exit 1
 cp -r "$here" examples
 ln -s "$program" sancus
+ln -s "$lab" sancus-lab
 ln -s "$top/include" include
 compiler=$(clang --version 2>/dev/null | sed -n 's/.*clang version \([0-9]*\)\..*/\1/p')
 
@@ -27,7 +30,7 @@ split_page() {
         /^    / {
             line = substr($0, 5)
             if (going_on) command[n] = command[n] " " line
-            else if (line ~ /^(\.\/sancus|clang) /) { command[++n] = line; printing = 1 }
+            else if (line ~ /^(\.\/sancus(-lab)?|clang) /) { command[++n] = line; printing = 1 }
             else if (printing) wanted[n] = wanted[n] line "\n"
             going_on = line ~ /\\$/
             next

@@ -33,10 +33,14 @@ link_end (link_fault.NoEntry m n) name = codes " name " ++ (name ++ codes "\n")
 link_end (link_fault.EntryElsewhere m n) name = codes " name " ++ (name ++ codes "\n")
 link_end _ name = codes "\n"
 
--- the line of a refusal, which may name a file or a symbol
-unfoldable pub line_of : Refusal → List ℕ → List ℕ
-line_of refusal.Usage name = codes "sancus: usage\n"
-line_of (refusal.BadFile fault) name = (codes "sancus: bad file " ++ (name ++ codes ": ")) ++ (fault_text fault ++ codes "\n")
-line_of refusal.CannotRead name = codes "sancus: cannot read " ++ (name ++ codes "\n")
-line_of (refusal.Link fault) name = codes "sancus: link " ++ (link_fault_text fault ++ link_end fault name)
-line_of refusal.NoMemory name = codes "sancus: no memory\n"
+-- what a refusal says, which may name a file or a symbol
+unfoldable pub refusal_text : Refusal → List ℕ → List ℕ
+refusal_text refusal.Usage name = codes "usage\n"
+refusal_text (refusal.BadFile fault) name = (codes "bad file " ++ (name ++ codes ": ")) ++ (fault_text fault ++ codes "\n")
+refusal_text refusal.CannotRead name = codes "cannot read " ++ (name ++ codes "\n")
+refusal_text (refusal.Link fault) name = codes "link " ++ (link_fault_text fault ++ link_end fault name)
+refusal_text refusal.NoMemory name = codes "no memory\n"
+
+-- its line, which begins with the program's name
+unfoldable pub line_of : List ℕ → Refusal → List ℕ → List ℕ
+line_of program refused name = (program ++ codes ": ") ++ refusal_text refused name

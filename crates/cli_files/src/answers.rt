@@ -1,6 +1,7 @@
 // How a call ends.
 ghost use Rattle.std.specs.Prelude.{◌≡◌};
 ghost use Rattle.cli_files.specs.NameText.{name_text};
+ghost use Rattle.cli_files.specs.Refusal.{status_of};
 ghost use Rattle.cli_files.specs.StatusNumbers.{number_of};
 ghost use Rattle.cli_files.specs.StatusNumbers.{status_after};
 
@@ -78,6 +79,21 @@ pub enum Refusal {
     NoMemory,
 }
 
+impl Refusal {
+    /// The status of a call that ends with it.
+    pub fn status(self) -> Status
+        ensures { result ≡ status_of self }
+    {
+        match self {
+            Refusal::Usage => Status::Usage,
+            Refusal::BadFile(_) => Status::BadFile,
+            Refusal::CannotRead => Status::ReadFault,
+            Refusal::Link(_) => Status::LinkRefused,
+            Refusal::NoMemory => Status::NoMemory,
+        }
+    }
+}
+
 /// What a refusal names.
 #[derive(Drop)]
 pub enum Name<'a> {
@@ -109,6 +125,12 @@ pub struct Refused<'a> {
 /// Out of memory, which needs no name.
 pub const NO_MEMORY: Refused<'static> = Refused {
     refusal: Refusal::NoMemory,
+    name: Name::Word(""),
+};
+
+/// Words that are no command.
+pub const USAGE: Refused<'static> = Refused {
+    refusal: Refusal::Usage,
     name: Name::Word(""),
 };
 

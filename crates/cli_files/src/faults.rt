@@ -113,7 +113,8 @@ fn put_module<S: Sink>(sink: &mut S, name: &[u8], module: Option<u32>) -> Result
     }
 }
 
-fn put_both<S: Sink>(sink: &mut S, first: &[u8], second: &[u8]) -> Result<(), Failed>
+/// Puts two texts.
+pub fn put_both<S: Sink>(sink: &mut S, first: &[u8], second: &[u8]) -> Result<(), Failed>
     ensures { Puts S.taken S.faults S.sure sink.old sink.new (first.now ++ second.now) result }
 {
     match put_all(sink, first) {

@@ -7,9 +7,9 @@ mod lines;
 mod linking;
 mod loading;
 
-pub use answers::{FileFault, NO_MEMORY, Name, Refusal, Refused, Status, status_after};
+pub use answers::{FileFault, NO_MEMORY, Name, Refusal, Refused, Status, USAGE, status_after};
 pub use lines::{put_named, put_refusal};
-pub use linking::linked_image;
+pub use linking::{linked_image, shown, unlinked};
 pub use loading::{
     Chosen, Content, Playable, Replies, load, load_objects, load_schedule, load_with,
 };

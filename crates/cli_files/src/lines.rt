@@ -3,12 +3,14 @@ ghost use Rattle.std.specs.Prelude.{◌++◌, codes};
 ghost use Rattle.std.specs.Fmt.{decimal};
 ghost use Rattle.sm_io.specs.Sink.{Puts};
 ghost use Rattle.cli_files.specs.Faults.{challenge_fault_text, fault_text, image_fault_text, schedule_fault_text, table_fault_text, trace_fault_text, arms_fault_text, script_fault_text};
-ghost use Rattle.cli_files.specs.Refusal.{line_of, link_end};
+ghost use Rattle.cli_files.specs.Refusal.{line_of, refusal_text, link_end};
 ghost use Rattle.cli_files.specs.NameText.{name_text};
 ghost use Rattle.cli_files.specs.LinkFaults.{link_fault_text};
 
 use crate::answers::Refused;
-use crate::faults::{put_layout_fault, put_link_fault, put_object_fault, put_source_fault};
+use crate::faults::{
+    put_both, put_layout_fault, put_link_fault, put_object_fault, put_source_fault,
+};
 use crate::{FileFault, Refusal};
 use arm_balance::ArmsFault;
 use image_text::ImageFault;
@@ -164,10 +166,10 @@ pub fn put_named<S: Sink>(
 }
 
 fn put_bad_file<S: Sink>(sink: &mut S, name: &[u8], fault: FileFault) -> Result<(), Failed>
-    ensures { Puts S.taken S.faults S.sure sink.old sink.new ((codes "sancus: bad file " ++ (name.now ++ codes ": "))
+    ensures { Puts S.taken S.faults S.sure sink.old sink.new ((codes "bad file " ++ (name.now ++ codes ": "))
         ++ (fault_text fault ++ codes "\n")) result }
 {
-    match put_named(sink, b"sancus: bad file ", name, b": ") {
+    match put_named(sink, b"bad file ", name, b": ") {
         Ok(()) => {}
         Err(Failed) => return Err(Failed),
     }
@@ -193,10 +195,10 @@ fn put_symbol<S: Sink>(sink: &mut S, fault: LinkFault, name: &[u8]) -> Result<()
 }
 
 fn put_link_refusal<S: Sink>(sink: &mut S, fault: LinkFault, name: &[u8]) -> Result<(), Failed>
-    ensures { Puts S.taken S.faults S.sure sink.old sink.new (codes "sancus: link "
+    ensures { Puts S.taken S.faults S.sure sink.old sink.new (codes "link "
         ++ (link_fault_text fault ++ link_end fault name.now)) result }
 {
-    match put_all(sink, b"sancus: link ") {
+    match put_all(sink, b"link ") {
         Ok(()) => {}
         Err(Failed) => return Err(Failed),
     }
@@ -206,17 +208,32 @@ fn put_link_refusal<S: Sink>(sink: &mut S, fault: LinkFault, name: &[u8]) -> Res
     }
 }
 
-/// Puts the line of a refusal.
-pub fn put_refusal<S: Sink>(sink: &mut S, refused: &Refused<'_>) -> Result<(), Failed>
+// Puts what the line of a refusal says after the program's name.
+fn put_refusal_text<S: Sink>(sink: &mut S, refused: &Refused<'_>) -> Result<(), Failed>
     ensures { Puts S.taken S.faults S.sure sink.old sink.new
-        (line_of refused.now.refusal (name_text refused.now.name)) result }
+        (refusal_text refused.now.refusal (name_text refused.now.name)) result }
 {
     let name = refused.name.as_str().as_bytes();
     match refused.refusal {
-        Refusal::Usage => put_all(sink, b"sancus: usage\n"),
+        Refusal::Usage => put_all(sink, b"usage\n"),
         Refusal::BadFile(fault) => put_bad_file(sink, name, fault),
-        Refusal::CannotRead => put_named(sink, b"sancus: cannot read ", name, b"\n"),
+        Refusal::CannotRead => put_named(sink, b"cannot read ", name, b"\n"),
         Refusal::Link(fault) => put_link_refusal(sink, fault, name),
-        Refusal::NoMemory => put_all(sink, b"sancus: no memory\n"),
+        Refusal::NoMemory => put_all(sink, b"no memory\n"),
+    }
+}
+
+/// Puts the line of a refusal of the program of this name.
+pub fn put_refusal<S: Sink>(
+    sink: &mut S,
+    program: &[u8],
+    refused: &Refused<'_>,
+) -> Result<(), Failed>
+    ensures { Puts S.taken S.faults S.sure sink.old sink.new
+        (line_of program.now refused.now.refusal (name_text refused.now.name)) result }
+{
+    match put_both(sink, program, b": ") {
+        Ok(()) => put_refusal_text(sink, refused),
+        Err(Failed) => Err(Failed),
     }
 }

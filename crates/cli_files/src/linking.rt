@@ -2,6 +2,7 @@
 ghost use Rattle.std.specs.Prelude.{◌≡◌, ◌≤◌, ◌==◌, All, length, map, IfOk, IfErr, OnOk, Some, None, slice_get, find, string_bytes};
 ghost use Rattle.std.specs.Option.{option_copied};
 ghost use Rattle.layout_file.specs.Layout.{layout_of};
+ghost use Rattle.link_symbols.specs.Passes.{IsFaultOf};
 ghost use Rattle.linker.specs.Refusals.{link_fault_of};
 ghost use Rattle.linker.specs.Room.{IsSmall};
 ghost use Rattle.linker.specs.Image.{linked_image};
@@ -31,14 +32,29 @@ pub fn linked_image<'a>(
 {
     match link(alloc, layout, objects) {
         Ok(image) => Ok(image),
-        Err(LinkFault::NoMemory) => Err(NO_MEMORY),
-        Err(fault) => match symbol_name(alloc, layout, objects, fault) {
-            Ok(name) => Err(Refused {
-                refusal: Refusal::Link(fault),
-                name: Name::Symbol(name),
-            }),
-            Err(_) => Err(NO_MEMORY),
+        Err(fault) => Err(unlinked(alloc, layout, objects, fault)),
+    }
+}
+
+/// The refusal of objects that do not link for this fault.
+pub fn unlinked<'a>(
+    alloc: Global,
+    layout: &Layout,
+    objects: &[Object],
+    fault: LinkFault,
+) -> Refused<'a>
+    requires { IsFaultOf (link_fault_of (layout_of layout.now) objects.now) fault }
+    ensures { IsUnlinked (layout_of layout.now) objects.now result.refusal (name_text result.name) }
+{
+    if let LinkFault::NoMemory = fault {
+        return NO_MEMORY;
+    }
+    match symbol_name(alloc, layout, objects, fault) {
+        Ok(name) => Refused {
+            refusal: Refusal::Link(fault),
+            name: Name::Symbol(name),
         },
+        Err(_) => NO_MEMORY,
     }
 }
 
@@ -110,8 +126,8 @@ fn entry_of(layout: &Layout, module: u64, entry: u64) -> &[u8]
     }
 }
 
-// A name with `?` for each byte that is no visible character.
-fn shown(alloc: Global, name: &[u8]) -> Result<String, AllocError>
+/// A name with `?` for each byte that is no visible character.
+pub fn shown(alloc: Global, name: &[u8]) -> Result<String, AllocError>
     ensures { IfOk result (λ shown. string_bytes shown ≡ map spec.shown_byte name.now) }
 {
     let mut shown = String::new(alloc);

@@ -12,11 +12,12 @@ use Rattle.link_symbols.specs.declared.item.Item.{Item}
 use Rattle.link_symbols.specs.declared.names.Names.{Names}
 use Rattle.link_symbols.specs.declared.names.Definition.{Definition}
 use Rattle.link_symbols.specs.Parts.{items_in, section_items}
-use Rattle.link_symbols.specs.Commons.{with_symbol, common_item, common_at}
+use Rattle.link_symbols.specs.Commons.{with_symbol, common_item, common_at, commons_of}
 use Rattle.link_symbols.specs.Symbols.{symbols_of}
 use Rattle.link_symbols.specs.Definitions.{strong_of, weak_of}
 use Rattle.link_symbols.specs.Names.{stands_by, stands_for, count_sections}
 use Rattle.link_symbols.specs.Resolved.{items_of}
+use Rattle.link_symbols.specs.internal.Founds.{AreNumbered}
 use Rattle.link_symbols.specs.internal.Layouts.{AreShort}
 use Rattle.link_symbols.specs.internal.Maps.{name_entry, meaning_of_name, Holds, HoldsCommons}
 use Rattle.link_symbols.proofs.OrderLemmas.{ext}
@@ -59,3 +60,14 @@ names_are layout os names before after b h c q =
     ∙ (ap (λ o. stands_by (strong_of (symbols_of os) q) o (weak_of (symbols_of os) q)) (c.numbers q)
     ∙ (ap (λ k. stands_by (strong_of (symbols_of os) q) (common_at k (fold (with_symbol (name_entry names.strong)) [] (symbols_of os)) q) (weak_of (symbols_of os) q)) n
     ∙ ap (λ (f : List ℕ → Option Definition). stands_by (strong_of (symbols_of os) q) (common_at (count_sections os) (fold (with_symbol f) [] (symbols_of os)) q) (weak_of (symbols_of os) q)) e)))
+
+pub numbered_are : (layout : LayoutValue) (os : List ObjectValue) (names : Names) (before after : List Item) → before ≡ section_items layout.modules os → Holds names (symbols_of os) →
+    HoldsCommons names after before (fold (with_symbol (name_entry names.strong)) [] (symbols_of os)) → AreNumbered names os
+numbered_are layout os names before after b h c =
+    let e : name_entry names.strong ≡ strong_of (symbols_of os) = ext (name_entry names.strong) (strong_of (symbols_of os)) h.strong in
+    let n : length before ≡ count_sections os = ap length b ∙ count_items layout.modules os in
+    record {
+      strong = h.strong;
+      commons = λ q. c.numbers q ∙ (ap (λ k. common_at k (fold (with_symbol (name_entry names.strong)) [] (symbols_of os)) q) n
+          ∙ ap (λ (f : List ℕ → Option Definition). common_at (count_sections os) (fold (with_symbol f) [] (symbols_of os)) q) e);
+    }

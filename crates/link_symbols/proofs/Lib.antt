@@ -9,3 +9,4 @@ pub mod KeyLemmas
 pub mod InputLemmas
 pub mod OwnLemmas
 pub mod MeaningLemmas
+pub mod FoundCommons

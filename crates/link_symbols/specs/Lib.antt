@@ -3,6 +3,7 @@ pub mod Parts
 pub mod Symbols
 pub mod Definitions
 pub mod Commons
+pub mod CommonNames
 pub mod Names
 pub mod Resolved
 pub mod Refusals

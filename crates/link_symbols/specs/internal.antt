@@ -3,3 +3,4 @@ pub mod Meanings
 pub mod Values
 pub mod Layouts
 pub mod Groups
+pub mod Founds

@@ -2,6 +2,7 @@
 #![tactic(auto)]
 
 mod check;
+mod commons;
 mod fault;
 mod item;
 mod names;

@@ -5,6 +5,7 @@ ghost use Rattle.elf_objects.specs.Object.{IsSymbol};
 ghost use Rattle.link_symbols.specs.Passes.{NumberedObject, numbered_objects, IsFaultOf, some_if, or_else};
 ghost use Rattle.link_symbols.specs.Passes.{numbered_object};
 ghost use Rattle.link_symbols.specs.Commons.{common_item, commons_of, common_at, some_item, Common, with_common, with_symbol};
+ghost use Rattle.link_symbols.specs.internal.Founds.{is_common};
 ghost use Rattle.link_symbols.specs.internal.Values.{joined_item};
 ghost use Rattle.link_symbols.specs.Names.{stands_by, stands_for};
 ghost use Rattle.link_symbols.specs.Definitions.{weak_of, is_global, definition, definition_of, strong_of};
@@ -186,6 +187,22 @@ impl<'a> Names<'a> {
         match first {
             Some(meaning) => Some(meaning),
             None => find(&self.weak, name),
+        }
+    }
+
+    /// Whether a symbol is a common that is placed as the item of this number.
+    pub fn is_common(&self, s: Named<'a>, number: usize) -> bool
+        ensures { result ≡ is_common self.now (value_of s.entry) number }
+    {
+        let What::Common { .. } = s.what else {
+            return false;
+        };
+        if let Some(_) = find(&self.strong, s.name) {
+            return false;
+        }
+        match find(&self.commons, s.name) {
+            Some(item) => item as usize == number,
+            None => false,
         }
     }
 

@@ -3,23 +3,26 @@
 ghost use Rattle.std.specs.Prelude.{◌≡◌, ◌≤◌, ◌<◌, ℕ, List, [], length, map, IfOk, IfErr, OnOk, None, slice_index_or};
 ghost use Rattle.layout_file.specs.Layout.{layout_of};
 ghost use Rattle.link_symbols.specs.Passes.{IsFaultOf, numbered_objects};
+ghost use Rattle.link_symbols.specs.CommonNames.{borrowed, common_names};
 ghost use Rattle.link_symbols.specs.Names.{stands_for};
 ghost use Rattle.link_symbols.specs.Resolved.{items_of, meanings_of};
 ghost use Rattle.link_symbols.specs.Refusals.{unresolved};
 ghost use Rattle.link_symbols.specs.Symbols.{symbols_of};
+ghost use Rattle.link_symbols.specs.internal.Founds.{AreNumbered};
 ghost use Rattle.link_symbols.specs.internal.Groups.{names_fault, stand_fault};
 ghost use Rattle.link_symbols.specs.internal.Layouts.{AreShort};
 ghost use Rattle.link_symbols.specs.internal.Maps.{meaning_of_name, KnowsFirsts};
 ghost use Rattle.link_symbols.specs.internal.Meanings.{AllOwnMeanings, AreMeanings};
 
 use crate::check::{check_entries, check_places, check_symbols, check_vectors};
+use crate::commons::commons_of;
 use crate::fault::LinkFault;
 use crate::item::{Item, sections_of};
 use crate::names::{Names, names_of};
 use crate::symbol::Meaning;
 use elf_objects::Object;
 use layout_file::Layout;
-use std::alloc::Global;
+use std::alloc::{AllocError, Global};
 use std::marker::Model;
 
 /// Objects whose names are resolved: what is placed, and what names and symbols stand for.
@@ -35,6 +38,7 @@ impl<'a> Model for Resolved<'a> {
     ghost use Rattle.std.specs.Prelude.{◌≡◌};
     ghost use Rattle.link_symbols.specs.Names.{stands_for};
     ghost use Rattle.link_symbols.specs.Resolved.{ResolvedValue};
+    ghost use Rattle.link_symbols.specs.internal.Founds.{AreNumbered};
     ghost use Rattle.link_symbols.specs.internal.Maps.{meaning_of_name};
     ghost use Rattle.link_symbols.specs.internal.Meanings.{AreMeanings};
 
@@ -42,8 +46,8 @@ impl<'a> Model for Resolved<'a> {
 
     ghost view = { λ r. record { objects = r.objects.now; items = r.items.items } };
 
-    ghost invariant = { λ r. (meaning_of_name r.names ≡ stands_for r.objects.now) × AreMeanings (stands_for
-        r.objects.now) r.objects.now r.meanings.items };
+    ghost invariant = { λ r. (meaning_of_name r.names ≡ stands_for r.objects.now) × (AreMeanings (stands_for
+        r.objects.now) r.objects.now r.meanings.items × AreNumbered r.names r.objects.now) };
 }
 
 impl<'a> Resolved<'a> {
@@ -68,6 +72,21 @@ impl<'a> Resolved<'a> {
     {
         &self.meanings[object]
     }
+
+    /// The names of the commons, in the order in which they are placed.
+    pub fn commons(&self, alloc: Global) -> Result<Vec<&'a [u8]>, AllocError>
+        requires few { length self.now.objects ≤ 64 }
+        ensures { IfOk result (λ found. borrowed found.items ≡ common_names self.now.objects) }
+    {
+        commons_of(alloc, &self.names, self.objects)
+    }
+
+    /// What is placed, for a new owner.
+    pub fn into_items(self) -> Vec<Item>
+        ensures { result.items ≡ self.entry.items }
+    {
+        self.items
+    }
 }
 
 // The names of all objects, and what is placed.
@@ -91,6 +110,7 @@ fn read_input<'a>(
         ≡ stands_for objects.entry.now q) }
     ensures own { IfOk result (λ r. AllOwnMeanings (meaning_of_name r.names) (numbered_objects objects.entry.now)) }
     ensures firsts { IfOk result (λ r. KnowsFirsts r.names (symbols_of objects.entry.now)) }
+    ensures numbered { IfOk result (λ r. AreNumbered r.names objects.entry.now) }
     ensures sound { OnOk result (names_fault (layout_of layout.now) objects.entry.now ≡ None) }
     ensures refusal { IfErr result (IsFaultOf (names_fault (layout_of layout.now) objects.entry.now)) }
 {

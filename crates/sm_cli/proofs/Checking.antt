@@ -13,14 +13,15 @@ use Rattle.written_machine.specs.Peers.{section, Peers}
 use Rattle.peer_rows.specs.Laws.{DifferInData, AcceptedArePeers}
 use Rattle.cli_files.specs.declared.answers.Status.TheVariants.{Done}
 use Rattle.cli_files.specs.Files.{Held, an_image, certificates, image_with, arms_file, need, Holds, HoldAll}
-use Rattle.sm_cli.specs.Command.{Command, Answer, judges, Comes, Answers, IsJudged, IsAnswer}
-use Rattle.sm_cli.specs.Verdicts.{verdict_status}
+use Rattle.cli_calls.specs.Command.{Command, Answer, judges, Comes, Answers, IsJudged, IsAnswer}
+use Rattle.cli_calls.specs.Verdicts.{verdict_status}
 use Rattle.sm_cli.specs.CheckCommand.{checked_by, check_command}
 use Rattle.sm_cli.specs.BalanceCommand.{balanced_by, balance_command}
 use Rattle.sm_cli.specs.Checked.{IsCheck, IsBalance}
-use Rattle.sm_cli.specs.Serve.{call_of, Serves}
+use Rattle.sm_cli.specs.Serve.{call_of}
+use Rattle.cli_calls.specs.Calls.{Serves}
 use Rattle.sm_cli.proofs.ShortText.{short_text}
-use Rattle.sm_cli.proofs.Needed.{one_outcome}
+use Rattle.cli_calls.proofs.Outcomes.{one_outcome}
 
 only_yes : (v : Verdict) → verdict_status v ≡ Done → v ≡ Yes
 only_yes Yes e = refl

@@ -21,15 +21,17 @@ use Rattle.written_machine.specs.View.{View, view_of}
 use Rattle.isolation.specs.Laws.{SameTraces, SameViews}
 use Rattle.peer_rows.specs.Laws.{DifferInData, AcceptedArePeers}
 use Rattle.cli_files.specs.Files.{Held, an_image, a_schedule, a_layout, an_object, layout_file, object_file, image_file, need, object_needs, schedule_needs, Holds, HoldAll, IsScheduleOf}
-use Rattle.sm_cli.specs.Command.{Answer, Answers, IsAnswer, run_status, trace_answer}
+use Rattle.cli_calls.specs.Command.{Answer, Answers, IsAnswer, run_status, trace_answer}
 use Rattle.sm_cli.specs.ImageCommand.{image_command}
 use Rattle.sm_cli.specs.Joins.{AreFiles, IsLinked, SaysYes, RunsAlike}
-use Rattle.sm_cli.specs.LinkCommand.{link_command, link_outcome, linked, linked_by, text_answer, text_outcome}
+use Rattle.sm_cli.specs.LinkCommand.{link_command, link_outcome, text_answer, text_outcome}
+use Rattle.cli_calls.specs.Linking.{linked, linked_by}
 use Rattle.sm_cli.specs.RunCommand.{run_command}
 use Rattle.sm_cli.proofs.Checking.{check_accepted, balance_accepted}
 use Rattle.sm_cli.proofs.KeyBytes.{key_bytes}
-use Rattle.sm_cli.proofs.Needed.{one_answer}
-use Rattle.sm_cli.proofs.Running.{image_comes, linked_runs, objects_of_helds, runs_answer}
+use Rattle.cli_calls.proofs.Outcomes.{one_answer}
+use Rattle.sm_cli.proofs.Running.{image_comes, linked_runs}
+use Rattle.cli_calls.proofs.Given.{objects_of_helds, runs_answer}
 use Rattle.sm_cli.proofs.ShortText.{short_text}
 
 module _ (files : FileMap) (layout_name : List ℕ) (names : List (List ℕ)) where

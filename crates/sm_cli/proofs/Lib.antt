@@ -1,6 +1,5 @@
 pub mod Alike
 pub mod Checking
-pub mod Clap
 pub mod Counting
 pub mod Joins
 pub mod KeyBytes

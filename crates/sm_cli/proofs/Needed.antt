@@ -1,91 +1,21 @@
--- The files that a command needs: each holds one thing or has a fault, so that one thing comes of a command.
-use Rattle.std.proofs.Common.{◌≡◌, ℕ, ◌<◌, List, [], ◌∷◌, length, Option, Some, None, refl, sym, ◌∙◌, ap, ap₂, subst, arith, inl, inr, ◌⊎◌, ⊎_elim}
+-- Of every command, on files that are told, something comes, or a file has a fault; and of every command line an answer.
+use Rattle.std.proofs.Common.{◌≡◌, ℕ, ◌<◌, List, [], ◌∷◌, length, Option, Some, None, refl, sym, ap, subst, inl, inr, ◌⊎◌, ⊎_elim}
 use Rattle.std.specs.Prelude.{IsSomeAnd}
 use Rattle.std.proofs.lemmas.Bool.{cases_lt}
 use Rattle.sm_io.specs.Files.{FileMap}
-use Rattle.flow_rule.specs.Verdict.{start_of}
-use Rattle.flow_rule.specs.Arms.{flow_with}
 use Rattle.link_symbols.specs.declared.fault.LinkFault.{LinkFault}
 use Rattle.cli_files.specs.declared.answers.FileFault.{FileFault}
 use Rattle.cli_files.specs.declared.answers.FileFault.TheVariants as fault
-use Rattle.cli_files.specs.Files.{Held, IsHeld, most_bytes, HasFault, Need, Holds, HoldAll, IsFirstFault}
+use Rattle.cli_files.specs.Files.{Held, most_bytes, HasFault, Need, Holds, HoldAll, IsFirstFault}
 use Rattle.sm_cli.specs.CommandLine.{command_of}
-use Rattle.sm_cli.specs.Words.{Text}
-use Rattle.sm_cli.specs.Command.{Command, Outcome, gives, runs, refuses, judges, nothing, Answer, IfAnswered, trace_answer, Comes, IsAnswer, IsJudged, verdict_answer, Answers}
+use Rattle.cli_calls.specs.Words.{Text}
+use Rattle.cli_calls.specs.Command.{Command, Outcome, refuses, nothing, Answer, IfAnswered, Comes, IsAnswer}
+use Rattle.cli_calls.proofs.Outcomes.{some_answer}
 use Rattle.sm_cli.specs.Laws.{IsDecided, IsAnswered}
-use Rattle.cli_files.proofs.OneContent.{one_held, accepted, examined}
-use Rattle.flow_rule.proofs.Ends.{some_verdict}
-use Rattle.flow_rule.proofs.OneVerdict.{one_verdict}
+use Rattle.cli_files.proofs.OneContent.{examined}
 use Rattle.sm_cli.proofs.Something.{something}
 
--- Outcomes
-
-one_told : (outcome : Outcome) (a b : Answer) → Answers outcome a → Answers outcome b → a ≡ b
-one_told (gives own) a b r s = sym r ∙ s
-one_told (runs value entries cycles) a b r s = sym r ∙ s
-one_told (judges owner text arms) a b r s =
-    r.tells ∙ ap verdict_answer (one_verdict (flow_with owner text arms) (start_of owner text) owner.text.start r.verdict s.verdict r.is s.is) ∙ sym s.tells
-one_told (refuses fault name) a b r s = absurd r
-one_told nothing a b r s = absurd r
-
--- Files
-
 module _ (map : FileMap) where
-  -- a file that serves has no fault
-  serves : (wanted : Need) (held : Held) (f : FileFault) → Holds (Some map) wanted held → HasFault wanted.kind (map wanted.name) f → ⊥
-  serves wanted held fault.Absent r h = let is = r.file in cc
-  serves wanted held fault.TooLong r h =
-      let long = subst (λ o. IsSomeAnd o (λ bytes. most_bytes < length bytes)) r.file h in
-      omega (arith, r.short, long)
-  serves wanted held (fault.Image refusal) r h = accepted wanted.kind r.bytes held (fault.Image refusal) r.is (subst (λ o. HasFault wanted.kind o (fault.Image refusal)) r.file h).1
-  serves wanted held (fault.NoModule id) r h = accepted wanted.kind r.bytes held (fault.NoModule id) r.is (subst (λ o. HasFault wanted.kind o (fault.NoModule id)) r.file h).1
-  serves wanted held (fault.Schedule refusal) r h = accepted wanted.kind r.bytes held (fault.Schedule refusal) r.is (subst (λ o. HasFault wanted.kind o (fault.Schedule refusal)) r.file h).1
-  serves wanted held (fault.Challenges refusal) r h = accepted wanted.kind r.bytes held (fault.Challenges refusal) r.is (subst (λ o. HasFault wanted.kind o (fault.Challenges refusal)) r.file h).1
-  serves wanted held (fault.Trace refusal) r h = accepted wanted.kind r.bytes held (fault.Trace refusal) r.is (subst (λ o. HasFault wanted.kind o (fault.Trace refusal)) r.file h).1
-  serves wanted held (fault.Arms refusal) r h = accepted wanted.kind r.bytes held (fault.Arms refusal) r.is (subst (λ o. HasFault wanted.kind o (fault.Arms refusal)) r.file h).1
-  serves wanted held (fault.Layout refusal) r h = accepted wanted.kind r.bytes held (fault.Layout refusal) r.is (subst (λ o. HasFault wanted.kind o (fault.Layout refusal)) r.file h).1
-  serves wanted held (fault.Object refusal) r h = accepted wanted.kind r.bytes held (fault.Object refusal) r.is (subst (λ o. HasFault wanted.kind o (fault.Object refusal)) r.file h).1
-  serves wanted held (fault.Script refusal) r h = accepted wanted.kind r.bytes held (fault.Script refusal) r.is (subst (λ o. HasFault wanted.kind o (fault.Script refusal)) r.file h).1
-  serves wanted held (fault.Source refusal) r h = accepted wanted.kind r.bytes held (fault.Source refusal) r.is (subst (λ o. HasFault wanted.kind o (fault.Source refusal)) r.file h).1
-
-  one_thing : (wanted : Need) (a b : Held) → Holds (Some map) wanted a → Holds (Some map) wanted b → a ≡ b
-  one_thing wanted a b r s =
-      let same : Some s.bytes ≡ Some r.bytes = sym s.file ∙ r.file in
-      let bytes : s.bytes ≡ r.bytes = cc in
-      one_held wanted.kind r.bytes a b r.is (subst (λ l. IsHeld wanted.kind l b) bytes s.is)
-
-  one_list : (needs : List Need) (xs ys : List Held) → HoldAll (Some map) needs xs → HoldAll (Some map) needs ys → xs ≡ ys
-  one_list [] [] [] r s = refl
-  one_list [] [] (y ∷ ys) r s = absurd s
-  one_list [] (x ∷ xs) ys r s = absurd r
-  one_list (wanted ∷ needs) [] ys r s = absurd r
-  one_list (wanted ∷ needs) (x ∷ xs) [] r s = absurd s
-  one_list (wanted ∷ needs) (x ∷ xs) (y ∷ ys) r s = ap₂ (λ (h : Held) (l : List Held). h ∷ l) (one_thing wanted x y r.0 s.0) (one_list needs xs ys r.1 s.1)
-
-  -- one thing comes of a command
-  pub one_outcome : (command : Command) (a b : Outcome) → Comes (Some map) command a → Comes (Some map) command b → a ≡ b
-  one_outcome command a b r s = sym r.is ∙ ap command.outcome (one_list command.needs r.helds s.helds r.hold s.hold) ∙ s.is
-
-  pub one_answer : (command : Command) (a b : Answer) → IsAnswer (Some map) command a → IsAnswer (Some map) command b → a ≡ b
-  one_answer command a b r s = one_told r.outcome a b r.is (subst (λ o. Answers o b) (one_outcome command s.outcome r.outcome s.comes r.comes) s.is)
-
-  all_serve : (needs : List Need) (helds : List Held) → HoldAll (Some map) needs helds → (name : List ℕ) (f : FileFault) → IsFirstFault (Some map) needs name f → ⊥
-  all_serve [] helds r name f h = h
-  all_serve (wanted ∷ needs) [] r name f h = r
-  all_serve (wanted ∷ needs) (held ∷ helds) r name f (inl h) = serves wanted held f r.0 (subst (λ n. HasFault wanted.kind (map n) f) (sym h.0) h.1)
-  all_serve (wanted ∷ needs) (held ∷ helds) r name f (inr h) = all_serve needs helds r.1 name f h.1
-
-  -- where something comes of a command, no file has a fault
-  pub no_first_fault : (command : Command) (outcome : Outcome) → Comes (Some map) command outcome → (name : List ℕ) (f : FileFault) → IsFirstFault (Some map) command.needs name f → ⊥
-  no_first_fault command outcome r name f h = all_serve command.needs r.helds r.hold name f h
-
-  pub no_fault_of_answer : (command : Command) (answer : Answer) → IsAnswer (Some map) command answer → (name : List ℕ) (f : FileFault) → IsFirstFault (Some map) command.needs name f → ⊥
-  no_fault_of_answer command answer a name f h = no_first_fault command a.outcome a.comes name f h
-
-  -- nor do its files refuse to link where it has an answer
-  pub no_refusal_of_answer : (command : Command) (answer : Answer) → IsAnswer (Some map) command answer → (fault : LinkFault) (name : List ℕ) → Comes (Some map) command (refuses fault name) → ⊥
-  no_refusal_of_answer command answer a fault name r = subst (λ o. Answers o answer) (one_outcome command a.outcome (refuses fault name) a.comes r) a.is
-
   -- a file serves, or has a fault
   found : (wanted : Need) → ((held : Held) × Holds (Some map) wanted held) ⊎ ((f : FileFault) × HasFault wanted.kind (map wanted.name) f)
   found wanted = by (map wanted.name) refl
@@ -115,18 +45,10 @@ module _ (map : FileMap) where
 pub decided : IsDecided
 decided map command = ⊎_elim (λ h. inl (command.outcome h.0, record { helds = h.0; hold = h.1; is = refl })) (λ f. inr f) (all_found map command.needs)
 
--- what holds of each answer that comes of files holds of one that there is, since every text has a verdict
+-- what holds of each answer that comes of files holds of one that there is
 pub if_answered : (words : List Text) (map : FileMap) (command : Command) (outcome : Outcome) (P : Answer → Type 0) → command_of words ≡ Some command → Comes (Some map) command outcome
     → ((answer : Answer) → IsAnswer (Some map) command answer → P answer) → IfAnswered outcome P
-if_answered words map command (gives own) P asked c p = (own, refl, p own (record { outcome = gives own; comes = c; is = refl }))
-if_answered words map command (runs value entries cycles) P asked c p =
-    (trace_answer value entries cycles, refl, p (trace_answer value entries cycles) (record { outcome = runs value entries cycles; comes = c; is = refl }))
-if_answered words map command (judges owner text arms) P asked c p =
-    let v = some_verdict (flow_with owner text arms) (start_of owner text) owner.text.start in
-    let told : IsJudged owner text arms (verdict_answer v.0) = record { verdict = v.0; is = v.1; tells = refl } in
-    (verdict_answer v.0, told, p (verdict_answer v.0) (record { outcome = judges owner text arms; comes = c; is = told }))
-if_answered words map command (refuses fault name) P asked c p = tt
-if_answered words map command nothing P asked c p = something words map command nothing asked c refl
+if_answered words map command outcome P asked c p = some_answer map command outcome P (something words map command outcome asked c) c p
 
 pub answered : IsAnswered
 answered words map command outcome asked c = by outcome (if_answered words map command outcome (λ answer. IsAnswer (Some map) command answer) asked c (λ answer a. a))

@@ -1,5 +1,5 @@
 -- Something comes of the files of every command line.
-use Rattle.std.proofs.Common.{◌≡◌, ℕ, ◌%◌, ◌==◌, ◌&&◌, nat_le, Bool, true, false, if◌then◌else◌, is_some, List, [], ◌∷◌, Option, Some, None, option_map, ◌∙◌, subst}
+use Rattle.std.proofs.Common.{◌≡◌, ℕ, ◌%◌, ◌==◌, ◌&&◌, nat_le, true, is_some, List, [], ◌∷◌, Option, Some, None, option_map, ◌∙◌}
 use Rattle.std.specs.Prelude.{codes, option_and_then}
 use Rattle.std.specs.Str.{bytes_eq}
 use Rattle.sm_io.specs.Files.{FileMap}
@@ -7,16 +7,13 @@ use Rattle.texts.specs.Hexadecimals.{read_hex_word, read_hex_key}
 use Rattle.mod_layout.specs.declared.Module.{Module}
 use Rattle.mod_layout.specs.Table.{module_of}
 use Rattle.image_text.specs.Image.{Image}
-use Rattle.layout_file.specs.Values.{LayoutValue}
-use Rattle.elf_objects.specs.Object.{ObjectValue}
-use Rattle.link_symbols.specs.declared.fault.LinkFault.{LinkFault}
 use Rattle.linker.specs.Refusals.{link_fault_of}
 use Rattle.arm_balance.specs.declared.Arm.{Arm}
 use Rattle.vendor_tool.specs.declared.Challenge.{Challenge}
-use Rattle.cli_files.specs.Files.{Held, an_image, a_schedule, the_challenges, the_replies, certificates, a_layout, a_script, a_unit, HoldAll}
-use Rattle.sm_cli.specs.Words.{Text, values_in}
+use Rattle.cli_files.specs.Files.{an_image, a_schedule, the_challenges, the_replies, certificates, a_layout, a_script, a_unit}
+use Rattle.cli_calls.specs.Words.{Text, values_in}
 use Rattle.sm_cli.specs.Arguments.{id_of, cycles_of, file_named}
-use Rattle.sm_cli.specs.Command.{Command, Outcome, runs, nothing, Comes}
+use Rattle.cli_calls.specs.Command.{Command, Outcome, gives, runs, nothing, Comes}
 use Rattle.sm_cli.specs.CommandLine.{command_by, command_of}
 use Rattle.sm_cli.specs.AsmCommand.{asm_command, asm_of}
 use Rattle.sm_cli.specs.BalanceCommand.{balanced_by, balance_command, balance_in, balance_of}
@@ -25,7 +22,9 @@ use Rattle.sm_cli.specs.CheckCommand.{checked_by, check_command, check_of}
 use Rattle.sm_cli.specs.DisCommand.{dis_command, range_command, dis_of}
 use Rattle.sm_cli.specs.ImageCommand.{image_command, image_of}
 use Rattle.sm_cli.specs.KeyCommand.{keys_by, key_command, key_of}
-use Rattle.sm_cli.specs.LinkCommand.{linked_by, link_command, link_of, objects_in, text_outcome}
+use Rattle.cli_calls.specs.Linking.{objects_in}
+use Rattle.cli_calls.proofs.Sound.{Sound, some_linked, IfSound, if_none, if_some, if_map, if_then, if_else}
+use Rattle.sm_cli.specs.LinkCommand.{link_command, link_of, text_outcome}
 use Rattle.sm_cli.specs.LoneCommand.{lone_by, lone_command, lone_with, lone_of}
 use Rattle.sm_cli.specs.MakeCommand.{make_command, make_of, seed_of}
 use Rattle.sm_cli.specs.MonitorCommand.{monitor_command, monitor_of}
@@ -33,10 +32,6 @@ use Rattle.sm_cli.specs.declared.pairs.Pair.{Pair}
 use Rattle.sm_cli.specs.Pairs.{core_with, pairs_in}
 use Rattle.sm_cli.specs.RunCommand.{run_command, run_of}
 use Rattle.sm_cli.specs.VendorCommand.{report_by, vendor_command, vendor_of}
-
--- what files that serve the command hold comes to something
-abbrev Sound : Command → Type 0
-Sound command = (map : FileMap) (helds : List Held) → HoldAll (Some map) command.needs helds → command.outcome helds ≡ nothing → ⊥
 
 -- ---- the commands
 
@@ -103,12 +98,6 @@ sound_balance name id arms map (an_image value ∷ certificates own ∷ held ∷
 sound_balance name id arms map (an_image value ∷ second ∷ more) h e = h.1.0.is
 sound_balance name id arms map (held ∷ second ∷ more) h e = h.0.is
 
--- objects link, or they do not
-some_linked : (layout : LayoutValue) (objects : List ObjectValue) (outcome : Image → Outcome) (fault : Option LinkFault) → ((image : Image) → outcome image ≡ nothing → ⊥)
-    → linked_by layout objects outcome fault ≡ nothing → ⊥
-some_linked layout objects outcome None s e = s _ e
-some_linked layout objects outcome (Some fault) s e = cc
-
 sound_link : (layout : Text) (objects : List Text) → Sound (link_command layout objects)
 sound_link name objects map [] h e = h
 sound_link name objects map (a_layout layout ∷ more) h e = some_linked layout (objects_in more) text_outcome (link_fault_of layout (objects_in more)) (λ image e. cc) e
@@ -158,27 +147,6 @@ sound_make : (seed : ℕ) → Sound (make_command seed)
 sound_make seed map helds h e = cc
 
 -- ---- the command of words
-
-abbrev IfSound : Option Command → Type 0
-IfSound o = (command : Command) → o ≡ Some command → Sound command
-
-if_none : IfSound None
-if_none command e = absurd cc
-
-if_some : (own : Command) → Sound own → IfSound (Some own)
-if_some own s command e = let same : own ≡ command = cc in subst Sound same s
-
-if_map : {A : Type 0} (f : A → Command) (o : Option A) → ((a : A) → Sound (f a)) → IfSound (option_map f o)
-if_map f None s = if_none
-if_map f (Some a) s = if_some (f a) (s a)
-
-if_then : {A : Type 0} (f : A → Option Command) (o : Option A) → ((a : A) → IfSound (f a)) → IfSound (option_and_then f o)
-if_then f None s = if_none
-if_then f (Some a) s = s a
-
-if_else : (b : Bool) (x y : Option Command) → IfSound x → IfSound y → IfSound (if b then x else y)
-if_else true x y s t = s
-if_else false x y s t = t
 
 of_image : (vs : List Text) → IfSound (image_of vs)
 of_image (name ∷ schedule ∷ cycles ∷ []) = if_map (image_command name (file_named schedule)) (cycles_of cycles) (sound_image name (file_named schedule))

@@ -16,7 +16,7 @@ use Rattle.written_machine.specs.View.{at, boot}
 use Rattle.isolation.specs.Calls.{stop_in}
 use Rattle.isolation.specs.Laws.{StopTold, StopRefused}
 use Rattle.cli_files.specs.declared.answers.Status.TheVariants.{Stopped}
-use Rattle.sm_cli.specs.Command.{run_status, trace_answer}
+use Rattle.cli_calls.specs.Command.{run_status, trace_answer}
 use Rattle.sm_cli.specs.Laws.{StopsIn, RunsStop}
 
 -- a text has this part

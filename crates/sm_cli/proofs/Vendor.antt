@@ -14,11 +14,11 @@ use Rattle.written_machine.specs.View.{boot}
 use Rattle.machine_replies.specs.Laws.{MachineTracesAreRead, sent_after}
 use Rattle.cli_files.specs.declared.answers.Status.TheVariants.{Done}
 use Rattle.cli_files.specs.Files.{Held, an_image, the_challenges, the_replies, Need, need, trace_file, HoldAll, most_bytes}
-use Rattle.sm_cli.specs.Command.{Answer}
+use Rattle.cli_calls.specs.Command.{Answer}
 use Rattle.sm_cli.specs.Joins.{AreTagged, VendorTells}
 use Rattle.sm_cli.specs.VendorCommand.{key_under, report_answer, report_by, report_status, vendor_command}
-use Rattle.sm_cli.proofs.Needed.{one_answer}
-use Rattle.sm_cli.proofs.Running.{gives_answer}
+use Rattle.cli_calls.proofs.Outcomes.{one_answer}
+use Rattle.cli_calls.proofs.Given.{gives_answer}
 
 -- ---- all are genuine exactly where all are tagged
 

@@ -1,9 +1,9 @@
 -- `asm SOURCE`: the object of a program.
 use Rattle.std.specs.Prelude.{List, [], ◌∷◌, Option, Some, None}
 use Rattle.obj_write.specs.Object.{object_of}
-use Rattle.sm_cli.specs.Words.{Text}
+use Rattle.cli_calls.specs.Words.{Text}
 use Rattle.cli_files.specs.Files.{Held, a_unit, source_file, need}
-use Rattle.sm_cli.specs.Command.{Outcome, done, nothing, Command}
+use Rattle.cli_calls.specs.Command.{Outcome, done, nothing, Command}
 
 abbrev pub asm_outcome : List Held → Outcome
 asm_outcome (a_unit unit ∷ []) = done (object_of unit)

@@ -6,10 +6,10 @@ use Rattle.mod_layout.specs.declared.Module.{Module}
 use Rattle.mod_layout.specs.Table.{module_of}
 use Rattle.image_text.specs.Image.{Image}
 use Rattle.written_machine.specs.Peers.{section}
-use Rattle.sm_cli.specs.Words.{Text}
+use Rattle.cli_calls.specs.Words.{Text}
 use Rattle.sm_cli.specs.Arguments.{id_of}
 use Rattle.cli_files.specs.Files.{Held, an_image, certificates, arms_file, image_with, need}
-use Rattle.sm_cli.specs.Command.{Outcome, judges, nothing, Command}
+use Rattle.cli_calls.specs.Command.{Outcome, judges, nothing, Command}
 
 abbrev pub balanced_by : Image → List Arm → Option Module → Outcome
 balanced_by value arms (Some owner) = judges owner (section owner.text value.memory) arms

@@ -1,9 +1,9 @@
 -- `challenge CHALLENGES`: the schedule that sends a vendor's challenges.
 use Rattle.std.specs.Prelude.{List, [], ◌∷◌, Option, Some, None}
 use Rattle.vendor_tool.specs.NonceSchedule.{entries_of, entries_text}
-use Rattle.sm_cli.specs.Words.{Text}
+use Rattle.cli_calls.specs.Words.{Text}
 use Rattle.cli_files.specs.Files.{Held, the_challenges, challenges_file, need}
-use Rattle.sm_cli.specs.Command.{Outcome, done, nothing, Command}
+use Rattle.cli_calls.specs.Command.{Outcome, done, nothing, Command}
 
 abbrev pub challenge_outcome : List Held → Outcome
 challenge_outcome (the_challenges list ∷ []) = done (entries_text (entries_of list))

@@ -5,10 +5,10 @@ use Rattle.mod_layout.specs.declared.Module.{Module}
 use Rattle.mod_layout.specs.Table.{module_of}
 use Rattle.image_text.specs.Image.{Image}
 use Rattle.written_machine.specs.Peers.{section}
-use Rattle.sm_cli.specs.Words.{Text}
+use Rattle.cli_calls.specs.Words.{Text}
 use Rattle.sm_cli.specs.Arguments.{id_of}
 use Rattle.cli_files.specs.Files.{Held, an_image, image_with, need}
-use Rattle.sm_cli.specs.Command.{Outcome, judges, nothing, Command}
+use Rattle.cli_calls.specs.Command.{Outcome, judges, nothing, Command}
 
 abbrev pub checked_by : Image → Option Module → Outcome
 checked_by value (Some owner) = judges owner (section owner.text value.memory) []

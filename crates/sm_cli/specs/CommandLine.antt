@@ -1,8 +1,8 @@
 -- The command of the words after the program's name.
 use Rattle.std.specs.Prelude.{List, [], ◌∷◌, Option, None, option_and_then, codes, if◌then◌else◌}
 use Rattle.std.specs.Str.{bytes_eq}
-use Rattle.sm_cli.specs.Words.{Text, values_in}
-use Rattle.sm_cli.specs.Command.{Command}
+use Rattle.cli_calls.specs.Words.{Text, values_in}
+use Rattle.cli_calls.specs.Command.{Command}
 use Rattle.sm_cli.specs.ImageCommand.{image_of}
 use Rattle.sm_cli.specs.KeyCommand.{key_of}
 use Rattle.sm_cli.specs.DisCommand.{dis_of}

@@ -5,9 +5,9 @@ use Rattle.sm_words.specs.Words.{word_of}
 use Rattle.insn_decode.specs.declared.insn.Insn.{Insn}
 use Rattle.insn_decode.specs.Code.{insn_of, length_at, length_or_one}
 use Rattle.insn_decode.specs.Text.{text_of}
-use Rattle.sm_cli.specs.Words.{Text}
+use Rattle.cli_calls.specs.Words.{Text}
 use Rattle.cli_files.specs.Files.{Held, an_image, image_file, need}
-use Rattle.sm_cli.specs.Command.{Outcome, done, nothing, Command}
+use Rattle.cli_calls.specs.Command.{Outcome, done, nothing, Command}
 
 -- the word at an address
 abbrev pub word_in : List ℕ → ℕ → ℕ

@@ -7,12 +7,12 @@ use Rattle.layout_file.specs.Values.{LayoutValue}
 use Rattle.elf_objects.specs.Object.{ObjectValue}
 use Rattle.linker.specs.Refusals.{link_fault_of}
 use Rattle.schedule_file.specs.declared.Entry.{Entry}
-use Rattle.sm_cli.specs.Words.{Text}
+use Rattle.cli_calls.specs.Words.{Text}
 use Rattle.written_machine.specs.declared.ScriptLine.{ScriptLine}
 use Rattle.cli_files.specs.Files.{IsScheduleOf, need, layout_file, a_layout, object_needs, an_object, script_file, a_script, Holds, HoldAll}
 use Rattle.sm_cli.specs.CommandLine.{command_of}
 use Rattle.sm_cli.specs.ImageCommand.{image_command}
-use Rattle.sm_cli.specs.LinkCommand.{linked_image}
+use Rattle.linker.specs.Image.{linked_image}
 use Rattle.sm_cli.specs.MonitorCommand.{monitor_command}
 use Rattle.sm_cli.specs.RunCommand.{run_command}
 

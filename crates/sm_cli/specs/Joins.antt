@@ -17,8 +17,8 @@ use Rattle.machine_replies.specs.Laws.{sent_after}
 use Rattle.peer_rows.specs.Laws.{DifferInData}
 use Rattle.cli_files.specs.declared.answers.Status.TheVariants.{Done}
 use Rattle.cli_files.specs.Files.{IsScheduleOf, Holds, need, image_with, an_image, challenges_file, the_challenges}
-use Rattle.sm_cli.specs.Words.{Text}
-use Rattle.sm_cli.specs.Command.{Answer, Command, IsAnswer, trace_answer}
+use Rattle.cli_calls.specs.Words.{Text}
+use Rattle.cli_calls.specs.Command.{Answer, Command, IsAnswer, trace_answer}
 use Rattle.sm_cli.specs.BalanceCommand.{balance_command}
 use Rattle.sm_cli.specs.CheckCommand.{check_command}
 use Rattle.sm_cli.specs.ImageCommand.{image_command}

@@ -7,10 +7,10 @@ use Rattle.mod_layout.specs.Table.{module_of}
 use Rattle.mod_keys.specs.Keys.{provider_key, module_key}
 use Rattle.image_text.specs.Image.{Image}
 use Rattle.written_machine.specs.Peers.{section}
-use Rattle.sm_cli.specs.Words.{Text}
+use Rattle.cli_calls.specs.Words.{Text}
 use Rattle.sm_cli.specs.Arguments.{id_of}
 use Rattle.cli_files.specs.Files.{Held, an_image, image_with, need}
-use Rattle.sm_cli.specs.Command.{Outcome, done, nothing, Command}
+use Rattle.cli_calls.specs.Command.{Outcome, done, nothing, Command}
 
 -- the line of a key
 abbrev pub key_line : List ℕ → List ℕ → List ℕ

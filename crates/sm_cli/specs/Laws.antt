@@ -16,12 +16,12 @@ use Rattle.cli_files.specs.declared.answers.Status.{Status}
 use Rattle.cli_files.specs.declared.answers.Status.TheVariants.{Stopped}
 use Rattle.cli_files.specs.Files.{IsFirstFault}
 use Rattle.cli_files.specs.Refusal.{line_of}
-use Rattle.sm_cli.specs.Command.{Command, Outcome, refuses, Comes, Answer, IsAnswer, trace_answer}
+use Rattle.cli_calls.specs.Command.{Command, Outcome, refuses, Comes, Answer, IsAnswer, trace_answer}
 use Rattle.link_symbols.specs.declared.fault.LinkFault.{LinkFault}
 use Rattle.sm_cli.specs.CommandLine.{command_of}
 use Rattle.sm_cli.specs.MakeCommand.{run_text, start_of}
-use Rattle.sm_cli.specs.Serve.{Call, Serves, IsCalledFor, Refuses}
-use Rattle.sm_cli.specs.Words.{Text}
+use Rattle.cli_calls.specs.Calls.{Call, Serves, IsCalledFor, Refuses}
+use Rattle.cli_calls.specs.Words.{Text}
 
 -- Of every command, on files that are told, something comes, or there is a first file that does not serve.
 abbrev pub IsDecided : Type 0
@@ -40,13 +40,13 @@ module _ {S : Type 0} (taken : S → Option (List ℕ)) (faults sure : S → ℕ
   -- A sink that is sure of as many bytes as each answer of a call has is not cut off within one.
   abbrev pub AnswersAreTaken : Type 0
   AnswersAreTaken = (call : Call) (ended : Status) (old new : S) →
-      ((command : Command) (answer : Answer) → command_of call.words ≡ Some command → IsAnswer call.files command answer → length answer.text ≤ sure old) →
+      ((command : Command) (answer : Answer) → call.asked ≡ Some command → IsAnswer call.files command answer → length answer.text ≤ sure old) →
       ¬ (Serves call ended (CutOff taken faults sure old new))
 
   -- And where it is sure of as many as each line of a refusal has, not within such a line.
   abbrev pub LinesAreTaken : Type 0
   LinesAreTaken = (call : Call) (ended : Status) (old new : S) →
-      ((refused : Refusal) (name : List ℕ) → IsCalledFor call refused name → length (line_of refused name) ≤ sure old) →
+      ((refused : Refusal) (name : List ℕ) → IsCalledFor call refused name → length (line_of call.program refused name) ≤ sure old) →
       ¬ (Refuses call ended (CutOff taken faults sure old new))
 
 -- in cycle k of this run a check is refused first, the machine stops by it, and the trace has its line

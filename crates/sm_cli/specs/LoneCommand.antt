@@ -14,12 +14,12 @@ use Rattle.lone_run.specs.declared.Outcome.{Outcome as End}
 use Rattle.lone_run.specs.declared.Outcome.TheVariants.{Exit, Closed, Broken, Running}
 use Rattle.cli_files.specs.declared.answers.Status.TheVariants as status
 use Rattle.sm_cli.specs.declared.pairs.Pair.{Pair}
-use Rattle.sm_cli.specs.Words.{Text}
+use Rattle.cli_calls.specs.Words.{Text}
 use Rattle.sm_cli.specs.Arguments.{id_of, cycles_of}
 use Rattle.sm_cli.specs.Numbers.{number_line}
 use Rattle.sm_cli.specs.Pairs.{pairs_in, core_with}
 use Rattle.cli_files.specs.Files.{Held, an_image, image_with, need}
-use Rattle.sm_cli.specs.Command.{Answer, Outcome, gives, nothing, Command}
+use Rattle.cli_calls.specs.Command.{Answer, Outcome, gives, nothing, Command}
 
 -- the caller's id where no module calls
 abbrev pub no_caller : ℕ

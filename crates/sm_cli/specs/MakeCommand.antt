@@ -13,8 +13,8 @@ use Rattle.written_machine.specs.Trace.{end_line_of}
 use Rattle.written_machine.specs.View.{boot}
 use Rattle.sm_cli.specs.declared.commands.make.TheConstants.{CYCLES, MAX_SEED}
 use Rattle.sm_cli.specs.Numbers.{number_line}
-use Rattle.sm_cli.specs.Words.{Text}
-use Rattle.sm_cli.specs.Command.{done, Command}
+use Rattle.cli_calls.specs.Words.{Text}
+use Rattle.cli_calls.specs.Command.{done, Command}
 
 abbrev pub seed_of : Text → Option ℕ
 seed_of word = read_decimal MAX_SEED word

@@ -7,7 +7,7 @@ use Rattle.texts.specs.Decimals.{read_decimal}
 use Rattle.texts.specs.Hexadecimals.{read_hex_word}
 use Rattle.sm_cli.specs.declared.pairs.Pair.{Pair}
 use Rattle.sm_cli.specs.declared.pairs.TheConstants.{LAST_REGISTER, REGISTER_LETTER, EQUALS, VALUE_LENGTH}
-use Rattle.sm_cli.specs.Words.{Text}
+use Rattle.cli_calls.specs.Words.{Text}
 
 -- a register that a pair may name: neither PC, which is the entry, nor the constant generator
 abbrev pub free : ℕ → Option ℕ

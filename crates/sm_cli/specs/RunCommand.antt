@@ -1,11 +1,11 @@
 -- `run LAYOUT SCHEDULE CYCLES OBJ..`: the outside trace of the image that objects link to.
 use Rattle.std.specs.Prelude.{ℕ, List, [], ◌∷◌, ◌++◌, Option, Some, None}
 use Rattle.std.specs.Option.{option_map}
-use Rattle.sm_cli.specs.Words.{Text}
+use Rattle.cli_calls.specs.Words.{Text}
 use Rattle.sm_cli.specs.Arguments.{file_named, cycles_of}
 use Rattle.cli_files.specs.Files.{Held, a_schedule, a_layout, layout_file, need, schedule_needs, object_needs}
-use Rattle.sm_cli.specs.Command.{Outcome, runs, nothing, Command}
-use Rattle.sm_cli.specs.LinkCommand.{objects_in, linked}
+use Rattle.cli_calls.specs.Command.{Outcome, runs, nothing, Command}
+use Rattle.cli_calls.specs.Linking.{objects_in, linked}
 
 -- with a schedule's file, or with none
 abbrev pub run_outcome : Option Text → ℕ → List Held → Outcome

@@ -1,82 +1,9 @@
--- What a call of `serve` gives.
-use Rattle.std.specs.Prelude.{◌≡◌, ℕ, false, List, Option, Some, None, map, ◌⊎◌, String}
-use Rattle.std.specs.String.{string_bytes}
-use Rattle.std.specs.declared.alloc.Global.{Global}
-use Rattle.sm_io.specs.Faults.{HasCause}
+-- What a call of `serve` is given.
+use Rattle.std.specs.Prelude.{ℕ, List, Option, codes}
 use Rattle.sm_io.specs.Files.{FileMap}
-use Rattle.cli_files.specs.declared.answers.Status.{Status}
-use Rattle.cli_files.specs.declared.answers.Status.TheVariants as status
-use Rattle.cli_files.specs.declared.answers.Refusal.{Refusal}
-use Rattle.cli_files.specs.declared.answers.Refusal.TheVariants as refusal
-use Rattle.cli_files.specs.Files.{IsFirstFault, IsReached}
-use Rattle.sm_cli.specs.Command.{Answer, Command, Comes, refuses, IsAnswer}
+use Rattle.cli_calls.specs.Calls.{Call, called}
 use Rattle.sm_cli.specs.CommandLine.{command_of}
-use Rattle.cli_files.specs.Refusal.{is_read_fault, status_of, line_of}
 
--- the bytes of the words
-abbrev pub texts : List (String Global) → List (List ℕ)
-texts words = map string_bytes words
-
--- what a call was given: its words, the files where they are told, and their count of faults before and after
-pub record Call : Type 0 where
-  pub words : List (List ℕ)
-  pub files : Option FileMap
-  pub before : ℕ
-  pub after : ℕ
-
+-- its words, the files where they are told, and their count of faults before and after
 abbrev pub call_of : List (List ℕ) → Option FileMap → ℕ → ℕ → Call
-call_of words files before after = record { words = words; files = files; before = before; after = after }
-
--- Answers
-
--- the words are a command that the files serve, no read failed, and its answer has this status and a text with P
-pub record Serves (call : Call) (ended : Status) (P : List ℕ → Type 0) : Type 0 where
-  pub command : Command
-  pub answer : Answer
-  pub asked : command_of call.words ≡ Some command
-  pub served : IsAnswer call.files command answer
-  pub quiet : HasCause call.before call.after false
-  pub status : answer.status ≡ ended
-  pub text : P answer.text
-
--- Refusals
-
--- the words and the files call for this refusal
-abbrev pub IsCalledFor : Call → Refusal → List ℕ → Type 0
-IsCalledFor call refusal.Usage name = command_of call.words ≡ None
-IsCalledFor call (refusal.BadFile fault) name = (command : Command) × (command_of call.words ≡ Some command) × IsFirstFault call.files command.needs name fault
-IsCalledFor call refusal.CannotRead name = (command : Command) × (command_of call.words ≡ Some command) × IsReached call.files command.needs name
-IsCalledFor call (refusal.Link fault) name = (command : Command) × (command_of call.words ≡ Some command) × Comes call.files command (refuses fault name)
-IsCalledFor call refusal.NoMemory name = Unit {0}
-
--- the refusal has its cause
-abbrev pub IsCause : Call → Refusal → List ℕ → Type 0
-IsCause call refused name = IsCalledFor call refused name × HasCause call.before call.after (is_read_fault refused)
-
--- some refusal has its cause, and this status, and its line has P
-pub record Refuses (call : Call) (ended : Status) (P : List ℕ → Type 0) : Type 0 where
-  pub refused : Refusal
-  pub name : List ℕ
-  pub status : status_of refused ≡ ended
-  pub cause : IsCause call refused name
-  pub line : P (line_of refused name)
-
--- Completeness
-
--- this status, or that of a fault outside or of want of memory
-abbrev pub IsOrOutside : Status → Status → Type 0
-IsOrOutside wanted status.ReadFault = Unit {0}
-IsOrOutside wanted status.WriteFault = Unit {0}
-IsOrOutside wanted status.NoMemory = Unit {0}
-IsOrOutside wanted ended = ended ≡ wanted
-
--- what a command that its files serve is answered: its whole text with its status; or that a sink failed, within this text
--- or within the line that was told; or that a read failed, or want of memory
-abbrev pub Completes : Status → Answer → (took cut : List ℕ → Type 0) (told : Type 0) → Type 0
-Completes status.Done answer took cut told = (answer.status ≡ status.Done) × took answer.text
-Completes status.Stopped answer took cut told = (answer.status ≡ status.Stopped) × took answer.text
-Completes status.CheckNo answer took cut told = (answer.status ≡ status.CheckNo) × took answer.text
-Completes status.WriteFault answer took cut told = cut answer.text ⊎ told
-Completes status.ReadFault answer took cut told = Unit {0}
-Completes status.NoMemory answer took cut told = Unit {0}
-Completes _ answer took cut told = ⊥
+call_of words files before after = called (codes "sancus") (command_of words) files before after

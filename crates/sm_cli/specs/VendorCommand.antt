@@ -11,10 +11,10 @@ use Rattle.vendor_tool.specs.Report.{report_text, all_genuine}
 use Rattle.written_machine.specs.Peers.{section}
 use Rattle.cli_files.specs.declared.answers.Status.{Status}
 use Rattle.cli_files.specs.declared.answers.Status.TheVariants as status
-use Rattle.sm_cli.specs.Words.{Text}
+use Rattle.cli_calls.specs.Words.{Text}
 use Rattle.sm_cli.specs.Arguments.{id_of}
 use Rattle.cli_files.specs.Files.{Held, an_image, the_challenges, the_replies, image_with, challenges_file, trace_file, Need, need}
-use Rattle.sm_cli.specs.Command.{Answer, Outcome, gives, nothing, Command}
+use Rattle.cli_calls.specs.Command.{Answer, Outcome, gives, nothing, Command}
 
 -- the status of a report where all are genuine, or not
 abbrev pub report_status : Bool → Status

@@ -1,4 +1,3 @@
-pub mod App
 pub mod AsmCommand
 pub mod BalanceCommand
 pub mod ChallengeCommand
@@ -12,5 +11,4 @@ pub mod LoneCommand
 pub mod MakeCommand
 pub mod MonitorCommand
 pub mod RunCommand
-pub mod Serve
 pub mod VendorCommand

@@ -16,20 +16,20 @@ ghost use Rattle.written_machine.specs.declared.ScriptLine.{ScriptLine as Script
 ghost use Rattle.cli_files.specs.declared.answers.Status.{Status as Statuses};
 ghost use Rattle.cli_files.specs.declared.answers.FileFault.{FileFault as FileFaults};
 ghost use Rattle.sm_cli.specs.Checked.{IsCheck, IsBalance};
-ghost use Rattle.sm_cli.specs.Command.{Command, Outcome, Comes, IfAnswered, refuses, run_status};
+ghost use Rattle.cli_calls.specs.Command.{Command, Outcome, Comes, IfAnswered, refuses, run_status};
 ghost use Rattle.link_symbols.specs.declared.fault.LinkFault.{LinkFault as LinkFaults};
 ghost use Rattle.sm_cli.specs.CommandLine.{command_of};
 ghost use Rattle.cli_files.specs.Files.{IsFirstFault};
 ghost use Rattle.sm_cli.specs.Input.{IsInput, IsScriptInput};
 ghost use Rattle.sm_cli.specs.MonitorCommand.{start_of, script_answer};
-ghost use Rattle.cli_files.specs.NameText.{name_text};
-ghost use Rattle.cli_files.specs.Refusal.{status_of, line_of};
-ghost use Rattle.sm_cli.specs.internal.Serve.{Ended, TellsAs};
-ghost use Rattle.sm_cli.specs.Serve.{texts, call_of, Serves, Refuses, IsOrOutside, Completes};
+ghost use Rattle.cli_calls.specs.Words.{texts};
+ghost use Rattle.sm_cli.specs.Serve.{call_of};
+ghost use Rattle.cli_calls.specs.Calls.{Serves, Refuses, IsOrOutside, Completes};
 
-use crate::commands::{Answering, read_command};
-use cli_files::{NO_MEMORY, Name, Refusal, Refused, Status, put_refusal};
-use sm_io::{Failed, Files, Sink};
+use crate::commands::read_command;
+use cli_calls::end_call;
+use cli_files::Status;
+use sm_io::{Files, Sink};
 use std::alloc::Global;
 
 /// Does all that the program does: the command that the words are, on files and two sinks.
@@ -138,63 +138,6 @@ pub fn serve<F: Files, O: Sink, E: Sink>(
     isolation::two_runs();
     isolation::texts();
     peer_rows::accepted_are_peers();
-    answer_words(alloc, words, files, out, err)
-}
-
-// Answers the words, or tells why not.
-fn answer_words<F: Files, O: Sink, E: Sink>(
-    alloc: Global,
-    words: &[String],
-    files: &mut F,
-    out: &mut O,
-    err: &mut E,
-) -> Status
-    ensures ended { Ended (call_of (texts words.now) (F.content files.old) (F.faults files.old) (F.faults files.new)) result
-        (Took O.taken O.faults O.sure out.old out.new) (CutOff O.taken O.faults O.sure out.old out.new)
-        (Took E.taken E.faults E.sure err.old err.new) (CutOff E.taken E.faults E.sure err.old err.new)
-        (err.new ≡ err.old) (out.new ≡ out.old) }
-    ensures sound { IsTrue (F.sound files.old) →
-        (result ≢ Status.ReadFault) × (F.faults files.new ≡ F.faults files.old) }
-    ensures same_sound { F.sound files.new ≡ F.sound files.old }
-    ensures same_files { F.content files.new ≡ F.content files.old }
-    ensures unread { result ≡ Status.Usage → files.new ≡ files.old }
-{
-    let command = match read_command(alloc, words) {
-        Ok(Some(command)) => command,
-        Ok(None) => return tell(
-            err,
-            Refused {
-                refusal: Refusal::Usage,
-                name: Name::Word(""),
-            },
-        ),
-        Err(_) => return tell(err, NO_MEMORY),
-    };
-    match command.answer(alloc, files, out) {
-        Ok(status) => status,
-        Err(refused) => tell(err, refused),
-    }
-}
-
-// Puts the line of a refusal, and gives its status.
-fn tell<E: Sink>(err: &mut E, refused: Refused<'_>) -> Status
-    ensures told { TellsAs result refused.entry.refusal (name_text refused.entry.name)
-        (Took E.taken E.faults E.sure err.old err.new) (CutOff E.taken E.faults E.sure err.old err.new) }
-{
-    match put_refusal(err, &refused) {
-        Ok(()) => status_for(refused.refusal),
-        Err(Failed) => Status::WriteFault,
-    }
-}
-
-fn status_for(refusal: Refusal) -> Status
-    ensures { result ≡ status_of refusal }
-{
-    match refusal {
-        Refusal::Usage => Status::Usage,
-        Refusal::BadFile(_) => Status::BadFile,
-        Refusal::CannotRead => Status::ReadFault,
-        Refusal::Link(_) => Status::LinkRefused,
-        Refusal::NoMemory => Status::NoMemory,
-    }
+    let read = read_command(alloc, words);
+    end_call(alloc, b"sancus", read, files, out, err)
 }

@@ -5,9 +5,9 @@ ghost use Rattle.mod_layout.specs.Table.{size_of};
 ghost use Rattle.mod_layout.specs.Tables.{IsModule};
 ghost use Rattle.written_machine.specs.Peers.{section};
 ghost use Rattle.sm_io.specs.Sink.{Took, CutOff, Puts};
-ghost use Rattle.sm_cli.specs.Command.{verdict_answer};
-ghost use Rattle.sm_cli.specs.internal.Serve.{EndsAs};
-ghost use Rattle.sm_cli.specs.Verdicts.{no_line, reason_name, verdict_line, verdict_status};
+ghost use Rattle.cli_calls.specs.Command.{verdict_answer};
+ghost use Rattle.cli_calls.specs.Runs.{EndsAs};
+ghost use Rattle.cli_calls.specs.Verdicts.{no_line, reason_name, verdict_line, verdict_status};
 
 use cli_files::{Chosen, Status, put_named};
 use flow_check::{Reason, Verdict};

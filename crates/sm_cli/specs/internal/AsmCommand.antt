@@ -1,6 +1,6 @@
 -- What the code's own invariants say of: AsmCommand.
 use Rattle.sm_cli.specs.declared.commands.asm.AsmCommand.{AsmCommand}
-use Rattle.sm_cli.specs.Command.{Command}
+use Rattle.cli_calls.specs.Command.{Command}
 use Rattle.sm_cli.specs.AsmCommand.{asm_command}
 
 -- what the program's value asks for

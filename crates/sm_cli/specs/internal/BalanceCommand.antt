@@ -1,6 +1,6 @@
 -- What the code's own invariants say of: BalanceCommand.
 use Rattle.sm_cli.specs.declared.commands.balance.BalanceCommand.{BalanceCommand}
-use Rattle.sm_cli.specs.Command.{Command}
+use Rattle.cli_calls.specs.Command.{Command}
 use Rattle.sm_cli.specs.BalanceCommand.{balance_command}
 
 -- what the program's value asks for

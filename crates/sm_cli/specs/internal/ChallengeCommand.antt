@@ -1,6 +1,6 @@
 -- What the code's own invariants say of: ChallengeCommand.
 use Rattle.sm_cli.specs.declared.commands.challenge.ChallengeCommand.{ChallengeCommand}
-use Rattle.sm_cli.specs.Command.{Command}
+use Rattle.cli_calls.specs.Command.{Command}
 use Rattle.sm_cli.specs.ChallengeCommand.{challenge_command}
 
 -- what the program's value asks for

@@ -1,6 +1,6 @@
 -- What the code's own invariants say of: DisCommand.
 use Rattle.sm_cli.specs.declared.commands.dis.DisCommand.{DisCommand}
-use Rattle.sm_cli.specs.Command.{Command}
+use Rattle.cli_calls.specs.Command.{Command}
 use Rattle.sm_cli.specs.DisCommand.{dis_command}
 
 -- what the program's value asks for

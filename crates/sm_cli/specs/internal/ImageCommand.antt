@@ -5,7 +5,7 @@ use Rattle.written_machine.specs.Cycle.{after_cycles}
 use Rattle.written_machine.specs.State.{State}
 use Rattle.written_machine.specs.Trace.{lines_after, end_line_of}
 use Rattle.sm_cli.specs.declared.commands.image.ImageCommand.{ImageCommand}
-use Rattle.sm_cli.specs.Command.{Answer, Command, run_status}
+use Rattle.cli_calls.specs.Command.{Answer, Command, run_status}
 use Rattle.sm_cli.specs.ImageCommand.{image_command}
 
 -- what a run of that many cycles from a state writes, and its status

@@ -1,6 +1,6 @@
 -- What the code's own invariants say of: KeyCommand.
 use Rattle.sm_cli.specs.declared.commands.key.KeyCommand.{KeyCommand}
-use Rattle.sm_cli.specs.Command.{Command}
+use Rattle.cli_calls.specs.Command.{Command}
 use Rattle.sm_cli.specs.KeyCommand.{key_command}
 
 -- what the program's value asks for

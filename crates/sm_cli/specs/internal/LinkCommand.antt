@@ -1,6 +1,6 @@
 -- What the code's own invariants say of: LinkCommand.
 use Rattle.sm_cli.specs.declared.commands.link.LinkCommand.{LinkCommand}
-use Rattle.sm_cli.specs.Command.{Command}
+use Rattle.cli_calls.specs.Command.{Command}
 use Rattle.std.specs.Prelude.{map}
 use Rattle.sm_cli.specs.LinkCommand.{link_command}
 

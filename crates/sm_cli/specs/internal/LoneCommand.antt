@@ -1,7 +1,7 @@
 -- What the code's own invariants say of: LoneCommand.
 use Rattle.sm_cli.specs.declared.commands.lone.LoneCommand.{LoneCommand}
 use Rattle.sm_cli.specs.Pairs.{core_with}
-use Rattle.sm_cli.specs.Command.{Command}
+use Rattle.cli_calls.specs.Command.{Command}
 use Rattle.sm_cli.specs.LoneCommand.{lone_command}
 
 -- what the program's value asks for

@@ -1,6 +1,6 @@
 -- What the code's own invariants say of: MakeCommand.
 use Rattle.sm_cli.specs.declared.commands.make.MakeCommand.{MakeCommand}
-use Rattle.sm_cli.specs.Command.{Command}
+use Rattle.cli_calls.specs.Command.{Command}
 use Rattle.sm_cli.specs.MakeCommand.{make_command}
 
 -- what the program's value asks for

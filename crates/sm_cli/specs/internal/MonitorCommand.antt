@@ -1,7 +1,7 @@
 -- What the code's own invariants say of: MonitorCommand.
 use Rattle.std.specs.Option.{option_copied}
 use Rattle.sm_cli.specs.declared.commands.script.MonitorCommand.{MonitorCommand}
-use Rattle.sm_cli.specs.Command.{Command}
+use Rattle.cli_calls.specs.Command.{Command}
 use Rattle.sm_cli.specs.MonitorCommand.{monitor_command}
 
 -- what the program's value asks for

@@ -1,6 +1,6 @@
 -- What the code's own invariants say of: VendorCommand.
 use Rattle.sm_cli.specs.declared.commands.vendor.VendorCommand.{VendorCommand}
-use Rattle.sm_cli.specs.Command.{Command}
+use Rattle.cli_calls.specs.Command.{Command}
 use Rattle.sm_cli.specs.VendorCommand.{vendor_command}
 
 -- what the program's value asks for

@@ -2,12 +2,11 @@
 ghost use Rattle.std.specs.Prelude.{◌≡◌, IfOk, map, drop, option_map, option_and_then};
 ghost use Rattle.sm_cli.specs.AsmCommand.{asm_of};
 ghost use Rattle.sm_cli.specs.internal.AsmCommand.{asm_asked};
-ghost use Rattle.sm_cli.specs.Serve.{texts};
-ghost use Rattle.sm_cli.specs.Words.{values_in};
+ghost use Rattle.cli_calls.specs.Words.{texts};
+ghost use Rattle.cli_calls.specs.Words.{values_in};
 
-use crate::commands::Answering;
-use crate::words::values_of;
 use asm_text::AsmUnit;
+use cli_calls::{Answering, values_of};
 use cli_files::{NO_MEMORY, Refused, Status, load, status_after};
 use obj_write::write_object;
 use sm_io::{Files, Sink, put_all};

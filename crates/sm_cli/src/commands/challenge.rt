@@ -2,11 +2,10 @@
 ghost use Rattle.std.specs.Prelude.{◌≡◌, IfOk, map, drop, option_map, option_and_then};
 ghost use Rattle.sm_cli.specs.ChallengeCommand.{challenge_of};
 ghost use Rattle.sm_cli.specs.internal.ChallengeCommand.{challenge_asked};
-ghost use Rattle.sm_cli.specs.Serve.{texts};
-ghost use Rattle.sm_cli.specs.Words.{values_in};
+ghost use Rattle.cli_calls.specs.Words.{texts};
+ghost use Rattle.cli_calls.specs.Words.{values_in};
 
-use crate::commands::Answering;
-use crate::words::values_of;
+use cli_calls::{Answering, values_of};
 use cli_files::{NO_MEMORY, Refused, Status, load, status_after};
 use sm_io::{Files, Sink, put_all};
 use std::alloc::{AllocError, Global};

@@ -5,13 +5,12 @@ ghost use Rattle.mod_layout.specs.Tables.{IsModule};
 ghost use Rattle.written_machine.specs.Peers.{section};
 ghost use Rattle.sm_cli.specs.CheckCommand.{check_of};
 ghost use Rattle.sm_cli.specs.internal.CheckCommand.{check_asked};
-ghost use Rattle.sm_cli.specs.Serve.{texts};
-ghost use Rattle.sm_cli.specs.Words.{values_in};
+ghost use Rattle.cli_calls.specs.Words.{texts};
+ghost use Rattle.cli_calls.specs.Words.{values_in};
 
 use crate::arguments::id_of;
-use crate::commands::Answering;
 use crate::verdicts::{put_verdict, text_of};
-use crate::words::values_of;
+use cli_calls::{Answering, values_of};
 use cli_files::{Chosen, NO_MEMORY, Refused, Status, load_with};
 use flow_check::Verdict;
 use sm_io::{Files, Sink};

@@ -7,12 +7,11 @@ ghost use Rattle.sm_io.specs.Sink.{Puts};
 ghost use Rattle.sm_cli.specs.DisCommand as spec;
 ghost use Rattle.sm_cli.specs.DisCommand.{dis_of, listing};
 ghost use Rattle.sm_cli.specs.internal.DisCommand.{dis_asked};
-ghost use Rattle.sm_cli.specs.Serve.{texts};
-ghost use Rattle.sm_cli.specs.Words.{values_in};
+ghost use Rattle.cli_calls.specs.Words.{texts};
+ghost use Rattle.cli_calls.specs.Words.{values_in};
 
-use crate::commands::Answering;
-use crate::words::values_of;
 use arrayvec::ArrayString;
+use cli_calls::{Answering, values_of};
 use cli_files::{Refused, Status, load, status_after};
 use image_text::Image;
 use insn_decode::{Insn, decode, show};

@@ -4,14 +4,13 @@ ghost use Rattle.sm_io.specs.Sink.{Took, CutOff};
 ghost use Rattle.sm_cli.specs.declared.arguments.TheConstants.{MAX_CYCLES};
 ghost use Rattle.sm_cli.specs.ImageCommand.{image_of};
 ghost use Rattle.sm_cli.specs.internal.ImageCommand.{image_asked, answer_from};
-ghost use Rattle.sm_cli.specs.Serve.{texts};
-ghost use Rattle.sm_cli.specs.internal.Serve.{EndsAs};
-ghost use Rattle.sm_cli.specs.Words.{values_in};
+ghost use Rattle.cli_calls.specs.Words.{texts};
+ghost use Rattle.cli_calls.specs.Runs.{EndsAs};
+ghost use Rattle.cli_calls.specs.Words.{values_in};
 
 use crate::arguments::{cycles_of, file_named};
-use crate::commands::Answering;
-use crate::words::values_of;
 use board::{Board, Ran};
+use cli_calls::{Answering, values_of};
 use cli_files::{NO_MEMORY, Refused, Status, load, load_schedule};
 use image_text::Image;
 use sm_io::{Failed, Files, Sink};

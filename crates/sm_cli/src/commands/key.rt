@@ -5,13 +5,12 @@ ghost use Rattle.mod_layout.specs.Tables.{IsModule};
 ghost use Rattle.sm_io.specs.Sink.{Puts};
 ghost use Rattle.sm_cli.specs.KeyCommand.{key_of, key_lines, key_line, two_lines};
 ghost use Rattle.sm_cli.specs.internal.KeyCommand.{key_asked};
-ghost use Rattle.sm_cli.specs.Serve.{texts};
-ghost use Rattle.sm_cli.specs.Words.{values_in};
+ghost use Rattle.cli_calls.specs.Words.{texts};
+ghost use Rattle.cli_calls.specs.Words.{values_in};
 
 use crate::arguments::id_of;
-use crate::commands::Answering;
 use crate::verdicts::text_of;
-use crate::words::values_of;
+use cli_calls::{Answering, values_of};
 use cli_files::{Chosen, Refused, Status, load_with, put_named, status_after};
 use mod_keys::{TAG_LENGTH, module_key, provider_key};
 use sm_io::{Failed, Files, Sink};

@@ -2,11 +2,10 @@
 ghost use Rattle.std.specs.Prelude.{◌≡◌, IfOk, IfSome, ◌≤◌, length, map, drop, option_map, option_and_then};
 ghost use Rattle.sm_cli.specs.LinkCommand.{link_of};
 ghost use Rattle.sm_cli.specs.internal.LinkCommand.{link_asked};
-ghost use Rattle.sm_cli.specs.Serve.{texts};
-ghost use Rattle.sm_cli.specs.Words.{values_in};
+ghost use Rattle.cli_calls.specs.Words.{texts};
+ghost use Rattle.cli_calls.specs.Words.{values_in};
 
-use crate::commands::Answering;
-use crate::words::values_of;
+use cli_calls::{Answering, values_of};
 use cli_files::{NO_MEMORY, Refused, Status, linked_image, load, load_objects, status_after};
 use layout_file::Layout;
 use sm_io::{Files, Sink, put_all};

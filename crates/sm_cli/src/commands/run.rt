@@ -4,14 +4,13 @@ ghost use Rattle.image_text.specs.Image.{IsImage};
 ghost use Rattle.sm_cli.specs.declared.arguments.TheConstants.{MAX_CYCLES};
 ghost use Rattle.sm_cli.specs.RunCommand.{run_of};
 ghost use Rattle.sm_cli.specs.internal.RunCommand.{run_asked};
-ghost use Rattle.sm_cli.specs.Serve.{texts};
-ghost use Rattle.sm_cli.specs.Words.{values_in};
+ghost use Rattle.cli_calls.specs.Words.{texts};
+ghost use Rattle.cli_calls.specs.Words.{values_in};
 
 use crate::arguments::{cycles_of, file_named};
-use crate::commands::Answering;
 use crate::commands::image::put_trace;
-use crate::words::values_of;
 use board::Board;
+use cli_calls::{Answering, values_of};
 use cli_files::{NO_MEMORY, Refused, Status, linked_image, load, load_objects, load_schedule};
 use image_text::Image;
 use layout_file::Layout;

@@ -4,14 +4,13 @@ ghost use Rattle.monitor.specs.Bounds.{all_cycles};
 ghost use Rattle.sm_io.specs.Sink.{Took, CutOff};
 ghost use Rattle.sm_cli.specs.MonitorCommand.{monitor_of, play_answer};
 ghost use Rattle.sm_cli.specs.internal.MonitorCommand.{monitor_asked};
-ghost use Rattle.sm_cli.specs.Serve.{texts};
-ghost use Rattle.sm_cli.specs.internal.Serve.{EndsAs};
-ghost use Rattle.sm_cli.specs.Words.{values_in};
+ghost use Rattle.cli_calls.specs.Words.{texts};
+ghost use Rattle.cli_calls.specs.Runs.{EndsAs};
+ghost use Rattle.cli_calls.specs.Words.{values_in};
 
 use crate::arguments::file_named;
-use crate::commands::Answering;
-use crate::words::values_of;
 use board::{Board, Ran};
+use cli_calls::{Answering, values_of};
 use cli_files::{NO_MEMORY, Playable, Refused, Status, load, load_schedule};
 use image_text::Image;
 use monitor::{Script, play};

@@ -1,23 +1,13 @@
-use Rattle.std.proofs.Common.{sym, ◌∙◌}
-use Rattle.cli_files.specs.Refusal.{line_of}
+use Rattle.std.proofs.Common.{◌++◌, codes}
+use Rattle.sm_io.proofs.Putting.{cut_first, puts_last}
+use Rattle.cli_files.specs.NameText.{name_text}
+use Rattle.cli_files.specs.Refusal.{refusal_text, line_of}
 use Rattle.cli_files.proofs.lines.put_refusal.Goals as goal
 
-pub returns-in-Usage : goal.returns-in-Usage
+pub returns-in-Err : goal.returns-in-Err
 unfolding line_of
-returns-in-Usage g c = rw c.in-Usage.is c.put_all.ensures.put
+returns-in-Err g c = cut_first g.S.Sink.taken g.S.Sink.faults g.S.Sink.sure _ _ (c.args.program.now ++ codes ": ") (refusal_text c.args.refused.now.refusal (name_text c.args.refused.now.name)) c.in-Err.ensures
 
-pub returns-in-NoMemory : goal.returns-in-NoMemory
+pub returns-in-Ok : goal.returns-in-Ok
 unfolding line_of
-returns-in-NoMemory g c = rw c.in-NoMemory.is c.put_all-in-NoMemory.ensures.put
-
-pub returns-in-CannotRead : goal.returns-in-CannotRead
-unfolding line_of
-returns-in-CannotRead g c = rw (c.in-CannotRead.is, sym (c.as_bytes-name.ensures.value ∙ c.as_str.ensures)) c.put_named.ensures
-
-pub returns-in-BadFile : goal.returns-in-BadFile
-unfolding line_of
-returns-in-BadFile g c = rw (c.in-BadFile.is, sym (c.as_bytes-name.ensures.value ∙ c.as_str.ensures)) c.put_bad_file.ensures
-
-pub returns-in-Link : goal.returns-in-Link
-unfolding line_of
-returns-in-Link g c = rw (c.in-Link.is, sym (c.as_bytes-name.ensures.value ∙ c.as_str.ensures)) c.put_link_refusal.ensures
+returns-in-Ok g c = puts_last g.S.Sink.taken g.S.Sink.faults g.S.Sink.sure _ _ _ (c.args.program.now ++ codes ": ") _ _ c.in-Ok.ensures c.put_refusal_text.ensures

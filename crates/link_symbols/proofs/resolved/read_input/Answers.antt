@@ -6,7 +6,7 @@ use Rattle.link_symbols.specs.Refusals.{no_place}
 use Rattle.link_symbols.specs.internal.Groups.{names_fault}
 use Rattle.link_symbols.specs.Parts.{section_items}
 use Rattle.link_symbols.proofs.OrderLemmas.{skip, hit}
-use Rattle.link_symbols.proofs.InputLemmas.{names_are, items_are}
+use Rattle.link_symbols.proofs.InputLemmas.{names_are, items_are, numbered_are}
 use Rattle.link_symbols.proofs.OwnLemmas.{own_all}
 use Rattle.link_symbols.proofs.resolved.read_input.Goals as goal
 
@@ -40,3 +40,8 @@ returns-in-Ok-names_of-clause-own c =
     let b = subst (λ (ms : List ModuleSpec). c.in-Ok.items.items ≡ section_items (map module_of ms) c.args.objects.now) c.as_slice.ensures.value c.in-Ok.ensures.items in
     own_all c.in-Ok-names_of.names c.args.objects.now c.in-Ok-names_of.ensures.sound
     (names_are (layout_of c.args.layout.now) c.args.objects.now c.in-Ok-names_of.names c.in-Ok.items.items c.names_of.new.items.items b c.in-Ok-names_of.ensures.definitions c.in-Ok-names_of.ensures.commons)
+
+pub returns-in-Ok-names_of-clause-numbered : goal.returns-in-Ok-names_of-clause-numbered
+returns-in-Ok-names_of-clause-numbered c =
+    let b = subst (λ (ms : List ModuleSpec). c.in-Ok.items.items ≡ section_items (map module_of ms) c.args.objects.now) c.as_slice.ensures.value c.in-Ok.ensures.items in
+    numbered_are (layout_of c.args.layout.now) c.args.objects.now c.in-Ok-names_of.names c.in-Ok.items.items c.names_of.new.items.items b c.in-Ok-names_of.ensures.definitions c.in-Ok-names_of.ensures.commons

@@ -22,7 +22,7 @@ pub invariant_of-result : goal.invariant_of-result
 invariant_of-result c =
     let os = c.args.objects.now in
     let f = ext (meaning_of_name c.in-Ok.input.names) (stands_for os) c.in-Ok.ensures.names in
-    (f, subst (λ (g : List ℕ → Option Meaning). map listed c.in-Ok-check_names.meanings.items ≡ map (meanings_in g) (numbered_objects os)) f c.in-Ok-check_names.ensures.meanings)
+    (f, (subst (λ (g : List ℕ → Option Meaning). map listed c.in-Ok-check_names.meanings.items ≡ map (meanings_in g) (numbered_objects os)) f c.in-Ok-check_names.ensures.meanings, c.in-Ok.ensures.numbered))
 
 pub returns-in-Ok-check_names-clause-sound : goal.returns-in-Ok-check_names-clause-sound
 returns-in-Ok-check_names-clause-sound c =

@@ -1,4 +1,5 @@
-use Rattle.sm_cli.proofs.Needed.{decided, answered, one_answer}
+use Rattle.sm_cli.proofs.Needed.{decided, answered}
+use Rattle.cli_calls.proofs.Outcomes.{one_answer}
 use Rattle.sm_cli.proofs.laws.every_command.Goals as goal
 
 pub returns : goal.returns

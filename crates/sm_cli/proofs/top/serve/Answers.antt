@@ -1,11 +1,13 @@
 use Rattle.std.proofs.Common.{[], refl, subst}
 use Rattle.sm_io.specs.Sink.{Took}
-use Rattle.sm_cli.specs.Command.{gives, runs, trace_answer}
+use Rattle.cli_calls.specs.Command.{gives, runs, trace_answer}
+use Rattle.sm_cli.specs.CommandLine.{command_of}
 use Rattle.sm_cli.specs.MonitorCommand.{script_answer}
 use Rattle.sm_cli.specs.declared.commands.script.TheConstants.{MOST_MARKS}
-use Rattle.sm_cli.specs.Serve.{texts}
+use Rattle.cli_calls.specs.Words.{texts}
 use Rattle.cli_files.specs.declared.answers.Status.TheVariants as status
-use Rattle.sm_cli.proofs.Serving.{at, no_command, bad_file, link_refused, completes, whole, run_input, script_input, cut_rose}
+use Rattle.cli_calls.proofs.Ending.{at, no_command, bad_file, link_refused, completes, whole, cut_rose}
+use Rattle.sm_cli.proofs.Serving.{run_input, script_input}
 use Rattle.sm_cli.proofs.Checking.{checked_peers, balanced_peers}
 use Rattle.sm_cli.proofs.Needed.{if_answered}
 use Rattle.sm_cli.proofs.top.serve.Goals as goal
@@ -15,12 +17,12 @@ returns g c =
     let words = texts c.args.words.now in
     let files = g.F.Files.content c.args.files.now in
     let before = g.F.Files.faults c.args.files.now in
-    let after = g.F.Files.faults c.answer_words.new.files in
-    let took = Took g.O.Sink.taken g.O.Sink.faults g.O.Sink.sure c.args.out.now c.answer_words.new.out in
-    let ended = c.answer_words.result in
-    let end = c.answer_words.ensures.ended in
-    let out_rose = cut_rose g.O.Sink.taken g.O.Sink.faults g.O.Sink.sure c.args.out.now c.answer_words.new.out in
-    let err_rose = cut_rose g.E.Sink.taken g.E.Sink.faults g.E.Sink.sure c.args.err.now c.answer_words.new.err in
+    let after = g.F.Files.faults c.end_call.new.files in
+    let took = Took g.O.Sink.taken g.O.Sink.faults g.O.Sink.sure c.args.out.now c.end_call.new.out in
+    let ended = c.end_call.result in
+    let end = c.end_call.ensures.ended (command_of words) c.read_command-read.ensures.command in
+    let out_rose = cut_rose g.O.Sink.taken g.O.Sink.faults g.O.Sink.sure c.args.out.now c.end_call.new.out in
+    let err_rose = cut_rose g.E.Sink.taken g.E.Sink.faults g.E.Sink.sure c.args.err.now c.end_call.new.err in
     record {
       headline = λ value entries cycles i no_read no_out no_err room.
           let input = run_input words files value entries cycles i in
@@ -29,7 +31,7 @@ returns g c =
             all.0,
             all.1,
             λ other m peers. (
-              subst (λ t. Took g.O.Sink.taken g.O.Sink.faults g.O.Sink.sure c.args.out.now c.answer_words.new.out t) (c.texts.ensures.traces value other m entries cycles peers) all.0.0,
+              subst (λ t. Took g.O.Sink.taken g.O.Sink.faults g.O.Sink.sure c.args.out.now c.end_call.new.out t) (c.texts.ensures.traces value other m entries cycles peers) all.0.0,
               λ k within. c.two_runs.ensures.views value other m entries k peers,
             ),
           );
@@ -39,7 +41,7 @@ returns g c =
           let all = whole _ _ _ _ _ _ _ input.map input.command input.told input.asked ended end (gives answer) answer input.comes refl room no_read
           (λ h. no_out (out_rose _ h)) (λ text h. no_err (err_rose text h)) in (
             all.0,
-            λ other m peers. subst (λ t. Took g.O.Sink.taken g.O.Sink.faults g.O.Sink.sure c.args.out.now c.answer_words.new.out t)
+            λ other m peers. subst (λ t. Took g.O.Sink.taken g.O.Sink.faults g.O.Sink.sure c.args.out.now c.end_call.new.out t)
                 (c.texts.ensures.scripts value other m entries MOST_MARKS 0 [] script peers) all.0.0,
           );
       checked = λ e value other id owner i d. checked_peers words files before after took value other id owner i d (at _ _ _ _ _ _ _ ended status.Done end e).0 c.accepted_are_peers.ensures.peers;
@@ -57,8 +59,8 @@ returns g c =
       complete_bad_file = λ map command name fault told asked first. bad_file _ _ _ _ _ _ _ map command told asked ended end name fault first;
       complete_link_refused = λ map command fault name told asked comes. link_refused _ _ _ _ _ _ _ map command told asked ended end name fault comes;
       complete = λ map command outcome told asked comes. if_answered words map command outcome _ asked comes (λ answer is. completes _ _ _ _ _ _ _ map command told asked ended end answer is);
-      sound = c.answer_words.ensures.sound;
-      same_sound = c.answer_words.ensures.same_sound;
-      same_files = c.answer_words.ensures.same_files;
-      unread = c.answer_words.ensures.unread;
+      sound = c.end_call.ensures.sound;
+      same_sound = c.end_call.ensures.same_sound;
+      same_files = c.end_call.ensures.same_files;
+      unread = c.end_call.ensures.unread;
     }

@@ -1,7 +1,7 @@
 use Rattle.std.proofs.Common.{◌++◌, codes}
 use Rattle.texts.specs.Hexadecimals.{hex_word}
 use Rattle.sm_io.proofs.Putting.{cut_first, cut_later, puts_last}
-use Rattle.sm_cli.specs.Verdicts.{reason_name}
+use Rattle.cli_calls.specs.Verdicts.{reason_name}
 use Rattle.sm_cli.proofs.verdicts.put_no.Goals as goal
 
 pub returns-in-Err : goal.returns-in-Err

@@ -1,7 +1,7 @@
 use Rattle.std.proofs.Common.{IfOk, sym, subst}
 use Rattle.sm_io.specs.Sink.{Took, CutOff}
 use Rattle.sm_cli.specs.internal.CommandLine.{asked}
-use Rattle.sm_cli.specs.internal.Serve.{IsRun}
+use Rattle.cli_calls.specs.Runs.{IsRun}
 use Rattle.sm_cli.proofs.commands.CommandLineAnswering.answer.Goals as goal
 
 pub returns-in-Image-clause-ok : goal.returns-in-Image-clause-ok

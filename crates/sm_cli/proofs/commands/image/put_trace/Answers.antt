@@ -4,7 +4,7 @@ use Rattle.written_machine.specs.State.{State}
 use Rattle.written_machine.specs.Trace.{lines_after, end_line_of}
 use Rattle.board.specs.Ran.{RanWhole}
 use Rattle.sm_io.proofs.Putting.{cut_first, cut_later, cut_same, took_same, took_then}
-use Rattle.sm_cli.specs.Command.{run_status}
+use Rattle.cli_calls.specs.Command.{run_status}
 use Rattle.sm_cli.proofs.commands.image.put_trace.Goals as goal
 use Rattle.sm_cli.proofs.commands.image.put_trace.Goals.{in-Done, in-Stopped}
 

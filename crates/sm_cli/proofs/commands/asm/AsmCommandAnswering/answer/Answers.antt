@@ -4,7 +4,7 @@ use Rattle.obj_write.specs.Object.{object_of}
 use Rattle.cli_files.specs.declared.answers.Status.TheVariants.{Done}
 use Rattle.cli_files.specs.Files.{a_unit}
 use Rattle.sm_cli.specs.AsmCommand.{asm_command}
-use Rattle.sm_cli.proofs.Running.{put_answer}
+use Rattle.cli_calls.proofs.Given.{put_answer}
 use Rattle.sm_cli.proofs.commands.asm.AsmCommandAnswering.answer.Goals as goal
 
 pub returns-in-Ok-write_object-clause-ok : goal.returns-in-Ok-write_object-clause-ok

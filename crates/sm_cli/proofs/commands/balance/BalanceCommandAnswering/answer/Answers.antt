@@ -1,7 +1,7 @@
 use Rattle.std.proofs.Common.{[], ◌∷◌, refl, ap, subst}
 use Rattle.written_machine.specs.Peers.{section}
 use Rattle.sm_cli.specs.BalanceCommand.{balanced_by}
-use Rattle.sm_cli.specs.Command.{judges, verdict_answer}
+use Rattle.cli_calls.specs.Command.{judges, verdict_answer}
 use Rattle.cli_files.specs.Files.{an_image, certificates, arms_file, need, Holds}
 use Rattle.sm_cli.proofs.commands.balance.BalanceCommandAnswering.answer.Goals as goal
 

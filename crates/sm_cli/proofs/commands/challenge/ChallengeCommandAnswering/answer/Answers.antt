@@ -3,7 +3,7 @@ use Rattle.vendor_tool.specs.NonceSchedule.{entries_of, entries_text}
 use Rattle.cli_files.specs.declared.answers.Status.TheVariants.{Done}
 use Rattle.cli_files.specs.Files.{the_challenges}
 use Rattle.sm_cli.specs.ChallengeCommand.{challenge_command}
-use Rattle.sm_cli.proofs.Running.{put_answer}
+use Rattle.cli_calls.proofs.Given.{put_answer}
 use Rattle.sm_cli.proofs.commands.challenge.ChallengeCommandAnswering.answer.Goals as goal
 
 pub returns-in-Ok-schedule_text-clause-ok : goal.returns-in-Ok-schedule_text-clause-ok

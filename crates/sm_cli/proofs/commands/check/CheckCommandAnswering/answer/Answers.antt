@@ -1,7 +1,7 @@
 use Rattle.std.proofs.Common.{[], ◌∷◌, refl, ap}
 use Rattle.written_machine.specs.Peers.{section}
 use Rattle.sm_cli.specs.CheckCommand.{checked_by}
-use Rattle.sm_cli.specs.Command.{judges, verdict_answer}
+use Rattle.cli_calls.specs.Command.{judges, verdict_answer}
 use Rattle.cli_files.specs.Files.{an_image}
 use Rattle.sm_cli.proofs.commands.check.CheckCommandAnswering.answer.Goals as goal
 

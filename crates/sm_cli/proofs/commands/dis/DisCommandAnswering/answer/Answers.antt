@@ -3,7 +3,7 @@ use Rattle.cli_files.specs.declared.answers.Status.TheVariants.{Done}
 use Rattle.sm_cli.specs.DisCommand.{listing}
 use Rattle.sm_cli.specs.internal.DisCommand.{dis_asked}
 use Rattle.cli_files.specs.Files.{an_image}
-use Rattle.sm_cli.proofs.Running.{put_answer}
+use Rattle.cli_calls.proofs.Given.{put_answer}
 use Rattle.sm_cli.proofs.commands.dis.DisCommandAnswering.answer.Goals as goal
 
 pub returns-clause-ok : goal.returns-clause-ok

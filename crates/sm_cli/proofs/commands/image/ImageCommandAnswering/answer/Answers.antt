@@ -3,11 +3,12 @@ use Rattle.std.specs.Option.{option_copied}
 use Rattle.written_machine.specs.Marks.{Marked}
 use Rattle.sm_io.specs.Sink.{Took, CutOff}
 use Rattle.cli_files.specs.Files.{IsScheduleOf}
-use Rattle.sm_cli.specs.Command.{trace_answer}
+use Rattle.cli_calls.specs.Command.{trace_answer}
 use Rattle.sm_cli.specs.internal.ImageCommand.{answer_from}
-use Rattle.sm_cli.specs.internal.Serve.{EndsAs}
+use Rattle.cli_calls.specs.Runs.{EndsAs}
 use Rattle.sm_cli.specs.ImageCommand.{image_command}
-use Rattle.sm_cli.proofs.Running.{image_comes, runs_answer}
+use Rattle.sm_cli.proofs.Running.{image_comes}
+use Rattle.cli_calls.proofs.Given.{runs_answer}
 use Rattle.sm_cli.proofs.commands.image.ImageCommandAnswering.answer.Goals as goal
 
 pub returns-in-Ok-new-clause-ok : goal.returns-in-Ok-new-clause-ok

@@ -3,7 +3,7 @@ use Rattle.cli_files.specs.declared.answers.Status.TheVariants.{Done}
 use Rattle.cli_files.specs.Files.{an_image}
 use Rattle.sm_cli.specs.KeyCommand.{key_lines, keys_by}
 use Rattle.sm_cli.specs.internal.KeyCommand.{key_asked}
-use Rattle.sm_cli.proofs.Running.{put_answer}
+use Rattle.cli_calls.proofs.Given.{put_answer}
 use Rattle.sm_cli.proofs.commands.key.KeyCommandAnswering.answer.Goals as goal
 
 pub returns-clause-ok : goal.returns-clause-ok

@@ -3,17 +3,19 @@ use Rattle.layout_file.specs.Layout.{layout_of}
 use Rattle.elf_objects.specs.Object.{ObjectValue}
 use Rattle.image_text.specs.ImageText.{image_text}
 use Rattle.linker.specs.Refusals.{link_fault_of}
-use Rattle.sm_cli.specs.Command.{gives, refuses}
+use Rattle.cli_calls.specs.Command.{gives, refuses}
 use Rattle.cli_files.specs.Causes.{IsNeedCause}
 use Rattle.cli_files.specs.SymbolNames.{symbol_name}
 use Rattle.cli_files.specs.Unlinked.{IsUnlinked}
 use Rattle.cli_files.specs.NameText.{name_text}
 use Rattle.cli_files.specs.Files.{need, layout_file, a_layout, an_object, object_needs, HoldAll}
-use Rattle.sm_cli.specs.LinkCommand.{linked_image, text_answer, text_outcome}
+use Rattle.linker.specs.Image.{linked_image}
+use Rattle.sm_cli.specs.LinkCommand.{text_answer, text_outcome}
 use Rattle.sm_cli.specs.internal.LinkCommand.{link_asked}
 use Rattle.cli_files.proofs.Objects.{cause_moved}
-use Rattle.sm_cli.proofs.Running.{link_comes, linked_gives, linked_refuses, put_answer, cause_first, cause_next, cause_unlinked}
-use Rattle.sm_cli.proofs.Serving.{by_needs}
+use Rattle.sm_cli.proofs.Running.{link_comes}
+use Rattle.cli_calls.proofs.Given.{linked_gives, linked_refuses, put_answer, cause_first, cause_next, cause_unlinked}
+use Rattle.cli_calls.proofs.Given.{by_needs}
 use Rattle.sm_cli.proofs.commands.link.LinkCommandAnswering.answer.Goals as goal
 
 abbrev text_of : Bor (List ℕ) → List ℕ

@@ -6,8 +6,8 @@ use Rattle.cli_files.specs.Files.{an_image}
 use Rattle.sm_cli.specs.LoneCommand.{end_of, end_answer, lone_by}
 use Rattle.sm_cli.specs.internal.LoneCommand.{lone_asked}
 use Rattle.sm_cli.specs.Pairs.{core_with}
-use Rattle.sm_cli.specs.internal.Serve.{EndsAs}
-use Rattle.sm_cli.proofs.Running.{gives_answer}
+use Rattle.cli_calls.specs.Runs.{EndsAs}
+use Rattle.cli_calls.proofs.Given.{gives_answer}
 use Rattle.sm_cli.proofs.commands.lone.LoneCommandAnswering.answer.Goals as goal
 
 pub returns-in-Ok-end_of-clause-ok : goal.returns-in-Ok-end_of-clause-ok

@@ -2,7 +2,7 @@ use Rattle.std.proofs.Common.{[], refl}
 use Rattle.cli_files.specs.declared.answers.Status.TheVariants.{Done}
 use Rattle.sm_cli.specs.MakeCommand.{make_command, make_text, runs_text, second_data}
 use Rattle.sm_cli.proofs.Counting.{starts, told}
-use Rattle.sm_cli.proofs.Running.{put_answer}
+use Rattle.cli_calls.proofs.Given.{put_answer}
 use Rattle.sm_cli.proofs.commands.make.MakeCommandAnswering.answer.Goals as goal
 
 pub put_runs-requires-clause-first : goal.put_runs-requires-clause-first

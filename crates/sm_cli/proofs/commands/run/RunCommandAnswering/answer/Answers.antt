@@ -6,19 +6,20 @@ use Rattle.image_text.specs.Image.{Image, IsImage}
 use Rattle.linker.specs.Refusals.{link_fault_of}
 use Rattle.written_machine.specs.Marks.{Marked}
 use Rattle.sm_io.specs.Sink.{Took, CutOff}
-use Rattle.sm_cli.specs.Command.{runs, refuses, trace_answer}
-use Rattle.sm_cli.specs.internal.Serve.{EndsAs}
+use Rattle.cli_calls.specs.Command.{runs, refuses, trace_answer}
+use Rattle.cli_calls.specs.Runs.{EndsAs}
 use Rattle.cli_files.specs.Causes.{IsNeedCause}
 use Rattle.cli_files.specs.SymbolNames.{symbol_name}
 use Rattle.cli_files.specs.Unlinked.{IsUnlinked}
 use Rattle.cli_files.specs.NameText.{name_text}
 use Rattle.cli_files.specs.Files.{need, layout_file, a_layout, an_object, schedule_needs, object_needs, HoldAll, IsScheduleOf}
 use Rattle.sm_cli.specs.internal.ImageCommand.{answer_from}
-use Rattle.sm_cli.specs.LinkCommand.{linked_image}
+use Rattle.linker.specs.Image.{linked_image}
 use Rattle.sm_cli.specs.internal.RunCommand.{run_asked}
 use Rattle.cli_files.proofs.Objects.{cause_moved}
-use Rattle.sm_cli.proofs.Running.{run_comes, linked_runs, runs_answer, linked_refuses, cause_first, cause_next, cause_schedule, cause_scheduled, cause_unlinked}
-use Rattle.sm_cli.proofs.Serving.{by_needs}
+use Rattle.sm_cli.proofs.Running.{run_comes, linked_runs}
+use Rattle.cli_calls.proofs.Given.{runs_answer, linked_refuses, cause_first, cause_next, cause_schedule, cause_scheduled, cause_unlinked}
+use Rattle.cli_calls.proofs.Given.{by_needs}
 use Rattle.sm_cli.proofs.commands.run.RunCommandAnswering.answer.Goals as goal
 
 abbrev text_of : Bor (List ℕ) → List ℕ

@@ -4,8 +4,9 @@ use Rattle.written_machine.specs.Marks.{Marked}
 use Rattle.sm_io.specs.Sink.{Took, CutOff}
 use Rattle.cli_files.specs.Files.{need, script_file, a_script, Holds, IsScheduleOf}
 use Rattle.sm_cli.specs.MonitorCommand.{monitor_command, play_answer, script_answer, start_of}
-use Rattle.sm_cli.specs.internal.Serve.{EndsAs}
-use Rattle.sm_cli.proofs.Running.{gives_answer, monitor_comes}
+use Rattle.cli_calls.specs.Runs.{EndsAs}
+use Rattle.cli_calls.proofs.Given.{gives_answer}
+use Rattle.sm_cli.proofs.Running.{monitor_comes}
 use Rattle.sm_cli.proofs.commands.script.MonitorCommandAnswering.answer.Goals as goal
 
 pub returns-in-Ok-with_marks-clause-ok : goal.returns-in-Ok-with_marks-clause-ok

@@ -3,9 +3,9 @@ use Rattle.sm_io.specs.Files.{FileMap}
 use Rattle.sm_io.specs.Sink.{Took, CutOff}
 use Rattle.std.specs.Prelude.{Option}
 use Rattle.cli_files.specs.Files.{an_image, the_challenges, the_replies, need, challenges_file, trace_file, Holds}
-use Rattle.sm_cli.specs.internal.Serve.{EndsAs}
+use Rattle.cli_calls.specs.Runs.{EndsAs}
 use Rattle.sm_cli.specs.VendorCommand.{vendor_command, key_under, report_answer, report_by}
-use Rattle.sm_cli.proofs.Running.{gives_answer}
+use Rattle.cli_calls.proofs.Given.{gives_answer}
 use Rattle.sm_cli.proofs.commands.vendor.VendorCommandAnswering.answer.Goals as goal
 
 pub returns-clause-ok : goal.returns-clause-ok

@@ -1,0 +1,5 @@
+pub mod Clap
+pub mod Given
+pub mod Outcomes
+pub mod Ending
+pub mod Sound

@@ -1,0 +1,7 @@
+pub mod Words
+pub mod Verdicts
+pub mod Command
+pub mod Linking
+pub mod Runs
+pub mod Calls
+pub mod internal

@@ -1,0 +1,3 @@
+pub mod MapCommand
+pub mod CommandLine
+pub mod internal

@@ -1,0 +1,2 @@
+pub mod MapCommand
+pub mod CommandLine

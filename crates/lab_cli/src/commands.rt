@@ -1,0 +1,65 @@
+//! The commands: which there are.
+ghost use Rattle.std.specs.Prelude.{◌≡◌, IfOk, IfSome, drop, option_map};
+ghost use Rattle.cli_calls.specs.Words.{texts};
+ghost use Rattle.lab_cli.specs.CommandLine.{command_by, command_of};
+ghost use Rattle.lab_cli.specs.internal.CommandLine.{asked, IsBounded};
+
+use crate::map::{self, MapCommand};
+use cli_calls::Answering;
+use cli_files::{Refused, Status};
+use sm_io::{Files, Sink};
+use std::alloc::{AllocError, Global};
+
+/// A command with its arguments.
+#[derive(Drop)]
+pub enum LabCommand<'a> {
+    Map(MapCommand<'a>),
+}
+
+/// The command that the words are.
+#[tactic(auto, unfolding(crate::specs::CommandLine::command_of))]
+pub fn read_command<'a>(
+    alloc: Global,
+    words: &'a [String],
+) -> Result<Option<LabCommand<'a>>, AllocError>
+    ensures command { IfOk result (λ o. option_map asked o ≡ command_of (texts words.entry.now)) }
+    ensures bounds { IfOk result (λ o. IfSome o IsBounded) }
+{
+    if words.is_empty() {
+        return Ok(None);
+    }
+    command_by(alloc, words[0].as_str(), words)
+}
+
+// The command of a name, with the words after the first.
+fn command_by<'a>(
+    alloc: Global,
+    name: &str,
+    words: &'a [String],
+) -> Result<Option<LabCommand<'a>>, AllocError>
+    ensures command { IfOk result (λ o. option_map asked o ≡ command_by name.now (drop 1 (texts words.entry.now))) }
+    ensures bounds { IfOk result (λ o. IfSome o IsBounded) }
+{
+    if name == "map" {
+        Ok(map::read(alloc, words)?.map(LabCommand::Map))
+    } else {
+        Ok(None)
+    }
+}
+
+impl Answering for LabCommand<'_> {
+    ghost asked = { λ line. asked line };
+
+    ghost bounds = { λ line. IsBounded line };
+
+    fn answer<F: Files, O: Sink>(
+        &self,
+        alloc: Global,
+        files: &mut F,
+        out: &mut O,
+    ) -> Result<Status, Refused<'_>> {
+        match self {
+            LabCommand::Map(command) => command.answer(alloc, files, out),
+        }
+    }
+}

@@ -1,0 +1,8 @@
+//! The second program, for who owns the code: parses the words, runs the command, writes its answer or its refusal.
+#![tactic(auto)]
+
+mod commands;
+mod map;
+mod top;
+
+pub use top::serve;

@@ -1,0 +1,61 @@
+//! The program's whole call.
+ghost use Rattle.std.specs.Prelude.{◌≡◌, ◌≢◌, ℕ, List, Some, None, IsTrue, codes};
+ghost use Rattle.sm_io.specs.Files.{FileMap};
+ghost use Rattle.sm_io.specs.Sink.{Took, CutOff};
+ghost use Rattle.link_symbols.specs.declared.fault.LinkFault.{LinkFault as LinkFaults};
+ghost use Rattle.cli_files.specs.declared.answers.FileFault.{FileFault as FileFaults};
+ghost use Rattle.cli_files.specs.declared.answers.Status.{Status as Statuses};
+ghost use Rattle.cli_files.specs.Files.{IsFirstFault};
+ghost use Rattle.cli_calls.specs.Calls.{Completes, Ended, IsOrOutside, Refuses, called};
+ghost use Rattle.cli_calls.specs.Command.{Command, Comes, IfAnswered, Outcome, refuses};
+ghost use Rattle.cli_calls.specs.Words.{texts};
+ghost use Rattle.lab_cli.specs.CommandLine.{command_of};
+
+use crate::commands::read_command;
+use cli_calls::end_call;
+use cli_files::Status;
+use sm_io::{Files, Sink};
+use std::alloc::Global;
+
+/// Does all that the program does: the command that the words are, on files and two sinks.
+pub fn serve<F: Files, O: Sink, E: Sink>(
+    alloc: Global,
+    words: &[String],
+    files: &mut F,
+    out: &mut O,
+    err: &mut E,
+) -> Status
+    // An answer, or the line of a refusal, as words and files call for.
+    ensures ended { Ended (called (codes "sancus-lab") (command_of (texts words.now)) (F.content files.old)
+        (F.faults files.old) (F.faults files.new)) result
+        (Took O.taken O.faults O.sure out.old out.new) (CutOff O.taken O.faults O.sure out.old out.new)
+        (Took E.taken E.faults E.sure err.old err.new) (CutOff E.taken E.faults E.sure err.old err.new)
+        (err.new ≡ err.old) (out.new ≡ out.old) }
+
+    // Completeness: what the words and the files call for is answered, unless the system fails or memory runs out.
+    ensures complete_usage { command_of (texts words.now) ≡ None → IsOrOutside Status.Usage result }
+    ensures complete_bad_file { (map : FileMap) (command : Command) (name : List ℕ) (fault : FileFaults) →
+        F.content files.old ≡ Some map → command_of (texts words.now) ≡ Some command →
+        IsFirstFault (Some map) command.needs name fault → IsOrOutside Status.BadFile result }
+    ensures complete_link_refused { (map : FileMap) (command : Command) (fault : LinkFaults) (name : List ℕ) →
+        F.content files.old ≡ Some map → command_of (texts words.now) ≡ Some command →
+        Comes (Some map) command (refuses fault name) → IsOrOutside Status.LinkRefused result }
+    ensures complete { (map : FileMap) (command : Command) (outcome : Outcome) →
+        F.content files.old ≡ Some map → command_of (texts words.now) ≡ Some command →
+        Comes (Some map) command outcome →
+        let call = called (codes "sancus-lab") (command_of (texts words.now)) (F.content files.old) (F.faults files.old)
+        (F.faults files.new) in
+        IfAnswered outcome (λ answer. Completes result answer
+        (Took O.taken O.faults O.sure out.old out.new) (CutOff O.taken O.faults O.sure out.old out.new)
+        ((ended : Statuses) × Refuses call ended (CutOff E.taken E.faults E.sure err.old err.new))) }
+
+    // Files that are sound are read without a fault.
+    ensures sound { IsTrue (F.sound files.old) →
+        (result ≢ Status.ReadFault) × (F.faults files.new ≡ F.faults files.old) }
+    ensures same_sound { F.sound files.new ≡ F.sound files.old }
+    ensures same_files { F.content files.new ≡ F.content files.old }
+    ensures unread { result ≡ Status.Usage → files.new ≡ files.old }
+{
+    let read = read_command(alloc, words);
+    end_call(alloc, b"sancus-lab", read, files, out, err)
+}

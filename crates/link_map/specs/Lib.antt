@@ -1,0 +1,5 @@
+pub mod Lines
+pub mod Modules
+pub mod Parts
+pub mod Map
+pub mod internal

@@ -1,0 +1,34 @@
+-- Values of the code's own records.
+use Rattle.std.specs.Prelude.{ℕ, suc, List, [], ◌∷◌, nat_lt, if◌then◌else◌}
+use Rattle.std.specs.Fmt.{decimal}
+use Rattle.layout_file.specs.Views.{module_of}
+use Rattle.link_map.specs.declared.lines.Piece.{Piece}
+use Rattle.link_map.specs.declared.lines.Piece.TheVariants.{Word, Number, Address, Name}
+use Rattle.link_map.specs.declared.modules.Booted.{Booted}
+use Rattle.link_map.specs.declared.parts.Numbered.{Numbered}
+use Rattle.link_map.specs.declared.parts.Part.{Part}
+use Rattle.link_symbols.specs.Passes.{NumberedObject}
+use Rattle.link_map.specs.Lines.{address_text, shown}
+use Rattle.link_map.specs.Modules.{PlacedModule}
+use Rattle.link_map.specs.Parts.{PartValue}
+
+-- the text of a word of a line
+abbrev pub piece_text : Piece → List ℕ
+piece_text (Word word) = word.now
+piece_text (Number n) = decimal n
+piece_text (Address a) = address_text a
+piece_text (Name name) = shown name.now
+
+abbrev pub booted_value : Booted → PlacedModule
+booted_value b = record { number = b.number; value = module_of b.spec.now }
+
+abbrev pub part_value : Part → PartValue
+part_value p = record { at = p.at; end = p.end; object = p.object; section = p.section; name = p.name.now }
+
+abbrev pub numbered_value : Numbered → NumberedObject
+numbered_value x = record { number = x.number; first = x.first; object = x.object.now }
+
+-- where a part at this address comes: before the first that stands higher
+abbrev pub place_in : List PartValue → ℕ → ℕ
+place_in [] at = 0
+place_in (q ∷ qs) at = if nat_lt at q.at then 0 else suc (place_in qs at)

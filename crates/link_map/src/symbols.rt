@@ -1,0 +1,174 @@
+//! The commons, and the symbols in memory.
+
+ghost use Rattle.std.specs.Prelude.{◌≡◌, ◌≤◌, ◌^◌, ◌++◌, ℕ, length, map, flat_map, slice_index, OnOk};
+ghost use Rattle.elf_objects.specs.Object.{IsSymbol, IsHome};
+ghost use Rattle.linker.specs.Linkage.{listed_numbers};
+ghost use Rattle.link_symbols.specs.CommonNames.{borrowed};
+ghost use Rattle.linker.specs.Numbers.{Linking, numbers_in};
+ghost use Rattle.link_symbols.specs.Passes.{numbered_objects, part};
+ghost use Rattle.linker.specs.Placement.{item_at};
+ghost use Rattle.link_map.specs.Lines.{text_at};
+ghost use Rattle.link_map.specs.Map.{has_line, symbol_text_if, symbol_lines};
+ghost use Rattle.link_map.specs.Map as spec;
+ghost use Rattle.link_map.specs.internal.Values.{numbered_value};
+
+use crate::lines::{MapText, Piece};
+use crate::modules::id_at;
+use crate::parts::Numbered;
+use elf_objects::{Binding, Home, Object, Symbol};
+use link_symbols::Item;
+use linker::{Linkage, address_of};
+use mod_layout::ModuleTable;
+use std::alloc::AllocError;
+
+// How many bytes an item has.
+fn size_of(items: &[Item], item: usize) -> u32
+    ensures { result ≡ (item_at items.now item).size }
+{
+    match items.get(item) {
+        Some(item) => item.size,
+        None => 0,
+    }
+}
+
+fn put_common(
+    out: &mut MapText,
+    linkage: &Linkage<'_>,
+    item: usize,
+    name: &[u8],
+) -> Result<(), AllocError>
+    requires { (k : ℕ) → slice_index linkage.now.addresses.items k ≤ 65536 }
+    ensures { OnOk result (out.new.text.items ≡ out.old.text.items ++ spec.common_text
+        (slice_index linkage.now.addresses.items item) (item_at linkage.now.items.items item).size name.now) }
+{
+    let at = address_of(linkage.addresses.as_slice(), item);
+    let words = [
+        Piece::Address(at),
+        Piece::Address(at + u64::from(size_of(linkage.items.as_slice(), item))),
+        Piece::Name(name),
+    ];
+    out.put_line(b"common", &words)
+}
+
+/// A line for each common, whose items are numbered from `first` on.
+pub fn put_commons(out: &mut MapText, linkage: &Linkage<'_>, first: usize) -> Result<(), AllocError>
+    requires first { first ≤ 2 ^ 31 }
+    requires low { (k : ℕ) → slice_index linkage.now.addresses.items k ≤ 65536 }
+    ensures { OnOk result (out.new.text.items ≡ out.old.text.items ++ text_at (spec.common_line
+        (slice_index linkage.now.addresses.items) linkage.now.items.items first) 0 (borrowed linkage.now.commons.items)) }
+{
+    for (k, name) in linkage.commons.iter().enumerate() {
+        put_common(out, linkage, first + k, name)?;
+    }
+    Ok(())
+}
+
+fn kind_text(binding: Binding) -> &'static [u8]
+    ensures { result.now ≡ spec.kind_text binding }
+{
+    match binding {
+        Binding::Local => b"local",
+        Binding::Global => b"global",
+        Binding::Weak => b"weak",
+    }
+}
+
+fn is_placed(object: &Object, home: Home) -> bool
+    requires { IsHome (length object.now.sections) home }
+    ensures { result ≡ spec.is_placed object.now home }
+{
+    match home {
+        Home::Undefined => false,
+        Home::Absolute => false,
+        Home::Common => true,
+        Home::In(k) => object.section(k).is_loaded(),
+    }
+}
+
+fn put_symbol(
+    out: &mut MapText,
+    table: &ModuleTable,
+    x: Numbered<'_>,
+    symbol: Symbol,
+    number: u64,
+) -> Result<(), AllocError>
+    requires symbol { IsSymbol (length x.object.now.file) (length x.object.now.sections) symbol }
+    ensures { OnOk result (out.new.text.items ≡ out.old.text.items ++ spec.symbol_text table.now number symbol.binding
+        x.entry.number (part x.entry.object.now symbol.name)) }
+{
+    let words = [
+        Piece::Address(number),
+        Piece::Number(id_at(table, number)),
+        Piece::Word(kind_text(symbol.binding)),
+        Piece::Number(x.number as u64),
+        Piece::Name(x.object.part(symbol.name)),
+    ];
+    out.put_line(b"symbol", &words)
+}
+
+// A line for a symbol of this number, where it has one.
+fn put_symbol_if(
+    out: &mut MapText,
+    table: &ModuleTable,
+    x: Numbered<'_>,
+    k: usize,
+    symbol: Symbol,
+    number: u64,
+) -> Result<(), AllocError>
+    requires symbol { IsSymbol (length x.object.now.file) (length x.object.now.sections) symbol }
+    ensures { OnOk result (out.new.text.items ≡ out.old.text.items ++ symbol_text_if
+        (has_line x.entry.object.now k symbol)
+        (spec.symbol_text table.now number symbol.binding x.entry.number (part x.entry.object.now symbol.name))) }
+{
+    if k > 0 && !x.object.part(symbol.name).is_empty() && is_placed(x.object, symbol.home) {
+        put_symbol(out, table, x, symbol, number)?;
+    }
+    Ok(())
+}
+
+fn put_symbols_of(
+    out: &mut MapText,
+    table: &ModuleTable,
+    x: Numbered<'_>,
+    numbers: &[u64],
+) -> Result<(), AllocError>
+    requires count { length numbers.now ≡ length x.object.now.symbols }
+    ensures { OnOk result ((l : Linking) → numbers.now ≡ numbers_in l (numbered_value x.entry) →
+        out.new.text.items ≡ out.old.text.items ++ symbol_lines l table.now (numbered_value x.entry)) }
+{
+    let object = x.object;
+    for (k, symbol) in object.symbols().iter().enumerate() {
+        put_symbol_if(out, table, x, k, *symbol, numbers[k])?;
+    }
+    Ok(())
+}
+
+/// A line for each symbol in memory that has a name.
+pub fn put_symbols(
+    out: &mut MapText,
+    table: &ModuleTable,
+    objects: &[Object],
+    numbers: &[Vec<u64>],
+) -> Result<(), AllocError>
+    requires few { length objects.now ≤ 64 }
+    requires numbers { (l : Linking) × (listed_numbers numbers.now ≡ map (numbers_in l) (numbered_objects objects.now)) }
+    ensures { OnOk result ((l : Linking) → listed_numbers numbers.now ≡ map (numbers_in l) (numbered_objects objects.now) →
+        out.new.text.items ≡ out.old.text.items ++ flat_map (symbol_lines l table.now) (numbered_objects objects.now)) }
+{
+    let mut first = 0;
+    for (number, object) in objects.iter().enumerate() {
+        let own = numbers[number].as_slice();
+        put_symbols_of(
+            out,
+            table,
+            Numbered {
+                object,
+                number,
+                first,
+            },
+            own,
+        )?;
+        first += object.sections().len();
+    }
+    Ok(())
+}
