@@ -1,7 +1,6 @@
 -- The first refusal among the accesses of format I.
-use Rattle.std.proofs.Common.{◌≡◌, ℕ, List, [], ◌∷◌, ◌++◌, refl, sym, ap, ◌∙◌, Bool, true, Option, Some, None}
+use Rattle.std.proofs.Common.{◌≡◌, ℕ, List, [], ◌∷◌, ◌++◌, refl, sym, ap, ◌∙◌, Option, Some, None}
 use Rattle.std.specs.Option.{option_or}
-use Rattle.sm_words.specs.declared.width.Width.{Width}
 use Rattle.mod_layout.specs.Table.{Table}
 use Rattle.pc_access.specs.Rights.{first_denied, right}
 use Rattle.pc_access.specs.declared.Access.{Access}

@@ -1,11 +1,8 @@
 -- What the code's own invariants say of: Ran.
-use Rattle.std.specs.Prelude.{◌≡◌, ℕ, ◌<◌, Option, Some, None, false, ◌&&◌}
-use Rattle.pc_access.specs.declared.Stop.{Stop}
+use Rattle.std.specs.Prelude.{◌≡◌, ℕ, ◌<◌, false, ◌&&◌}
 use Rattle.written_machine.specs.State.{State}
 use Rattle.written_machine.specs.Cycle.{after_cycles}
 use Rattle.written_machine.specs.Standing.{stands_at}
-use Rattle.board.specs.declared.Ran.{Ran}
-use Rattle.board.specs.declared.Ran.TheVariants as ran
 
 -- before none of the next n cycles it stands at an address
 abbrev pub Apart : ℕ → ℕ → State → Type 0
