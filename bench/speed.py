@@ -3,9 +3,10 @@
 
     python3 bench/speed.py [PROGRAM[,OTHER..] [RUNS [NAME..]]]
 
-PROGRAM, and each OTHER in turn with it, is called as `PROGRAM image IMAGE - CYCLES`, mspdebug (0.22, Debian) as `mspdebug -q sim`, once bare and once with its tracer.
-A line for each program, and each PROGRAM: the least processor time of RUNS (3), taken in turn, in seconds; PROGRAM's part of each of mspdebug's; and, where
-valgrind is installed, host instructions for each instruction of the program.
+PROGRAM, and each OTHER in turn with it, is called as `PROGRAM image IMAGE - CYCLES`, mspdebug (0.22, Debian) as
+`mspdebug -q sim`, once bare and once with its tracer. A line for each program, and each PROGRAM: the least processor time
+of RUNS (3), taken in turn, in seconds; PROGRAM's part of each of mspdebug's; and, where valgrind is installed, host
+instructions for each instruction of the program.
 mspdebug has no modules and no timer of this machine: `module` is timed alone.
 """
 import os
