@@ -1,6 +1,8 @@
--- From how a call ends to what comes of its words and files.
-use Rattle.std.proofs.Common.{◌≡◌, ◌≢◌, ℕ, List, Option, Some, None, refl, sym, ◌∙◌, subst, inl, inr}
+-- From how a call ended to what it gives.
+use Rattle.std.proofs.Common.{◌≡◌, ◌≢◌, ℕ, List, Option, Some, None, refl, sym, ◌∙◌, subst, inl, inr, ◌⊎◌}
+use Rattle.sm_io.specs.Faults.{Rose}
 use Rattle.sm_io.specs.Files.{FileMap}
+use Rattle.sm_io.specs.Sink.{CutOff}
 use Rattle.link_symbols.specs.declared.fault.LinkFault.{LinkFault}
 use Rattle.cli_files.specs.declared.answers.FileFault.{FileFault}
 use Rattle.cli_files.specs.declared.answers.Refusal.{Refusal}
@@ -8,11 +10,15 @@ use Rattle.cli_files.specs.declared.answers.Refusal.TheVariants as refusal
 use Rattle.cli_files.specs.declared.answers.Status.{Status}
 use Rattle.cli_files.specs.declared.answers.Status.TheVariants as status
 use Rattle.cli_files.specs.Files.{IsFirstFault}
-use Rattle.cli_files.specs.Refusal.{status_of}
-use Rattle.cli_calls.specs.Calls.{Call, Ends, answered, refused, IsCause, Told, Refuses, IsOrOutside, Completes}
-use Rattle.cli_calls.specs.Command.{Command, Answer, Outcome, refuses, nothing, Comes, IsAnswer, IfAnswered}
-use Rattle.cli_calls.specs.Runs.{EndsAs, IsRun, IsCommandCause}
-use Rattle.cli_calls.proofs.Outcomes.{one_answer, no_first_fault, no_fault_of_answer, no_refusal_of_answer, some_answer}
+use Rattle.cli_files.specs.Refusal.{status_of, line_of}
+use Rattle.cli_calls.specs.Calls.{Call, Serves, Refuses, IsCalledFor, IsCause, Completes, IsOrOutside, WasRun, WasTold, TellsAs, Ended, was_run, was_told}
+use Rattle.cli_calls.specs.Command.{Command, Answer, Answers, Outcome, refuses, Comes, IsAnswer}
+use Rattle.cli_calls.specs.Runs.{EndsAs, IsCommandCause, IsSound}
+use Rattle.cli_calls.proofs.Outcomes.{one_answer, one_outcome, no_first_fault, no_fault_of_answer, no_refusal_of_answer}
+
+-- the words are one command
+one_command : (asked : Option Command) (own other : Command) → Some own ≡ asked → asked ≡ Some other → own ≡ other
+one_command asked own other c d = let same : Some own ≡ Some other = c ∙ d in cc
 
 -- what a command's files call for, the call calls for
 pub cause_of : (call : Call) (own : Command) (r : Refusal) (name : List ℕ) → call.asked ≡ Some own → IsCommandCause call.files call.before call.after own r name → IsCause call r name
@@ -20,105 +26,162 @@ cause_of call own refusal.Usage name c f = absurd f
 cause_of call own refusal.NoMemory name c f = (tt, f)
 cause_of call own _ name c f = ((own, c, f.0), f.1)
 
-some_none : {B : Type 0} (asked : Option Command) (own : Command) → asked ≡ Some own → asked ≡ None → B
-some_none asked own c none = let clash : Some own ≡ None = sym c ∙ none in absurd (cc)
+-- How a call ended
 
-one_command : (asked : Option Command) (own other : Command) → asked ≡ Some own → asked ≡ Some other → own ≡ other
-one_command asked own other c d = let same : Some own ≡ Some other = sym c ∙ d in cc
+pub cut_rose : {S : Type 0} (taken : S → Option (List ℕ)) (faults sure : S → ℕ) (old new : S) (text : List ℕ) → CutOff taken faults sure old new text → Rose (faults old) (faults new)
+cut_rose taken faults sure old new text h = h.rose.1
 
--- a status that is wanted, or that of a fault outside, is that of the whole line, or of a part of it
-told_or : (wanted : Status) (program : List ℕ) (r : Refusal) (name : List ℕ) (took cut : List ℕ → Type 0) (ended : Status) → IsOrOutside wanted (status_of r)
-    → Told program r name took cut ended → IsOrOutside wanted ended
-told_or wanted program r name took cut ended h (inl t) = subst (λ s. IsOrOutside wanted s) (sym t.0) h
-told_or wanted program r name took cut ended h (inr t) = subst (λ s. IsOrOutside wanted s) (sym t.0) tt
+module _ (call : Call) (took cut told part : List ℕ → Type 0) (same_err same_out : Type 0) where
+  -- what is said of each status
+  abbrev pub Says : Status → Type 0
+  Says status.Done = Serves call status.Done took × same_err
+  Says status.Stopped = Serves call status.Stopped took × same_err
+  Says status.CheckNo = Serves call status.CheckNo took × same_err
+  Says status.WriteFault = ((s : Status) × Serves call s cut × same_err) ⊎ ((s : Status) × Refuses call s part × same_out)
+  Says s = Refuses call s told × same_out
 
--- an answer completes the call
-run_completes : (ended : Status) (answer : Answer) (took cut : List ℕ → Type 0) (told : Type 0) → EndsAs ended answer took cut → Completes ended answer took cut told
-run_completes status.Done answer took cut told b = (b.1, b.0)
-run_completes status.Stopped answer took cut told b = (b.1, b.0)
-run_completes status.CheckNo answer took cut told b = (b.1, b.0)
-run_completes status.WriteFault answer took cut told b = inl b
-run_completes _ answer took cut told b = absurd b
+  serves : (ended s : Status) (P : List ℕ → Type 0) (r : WasRun call ended took cut) → r.run.answer.status ≡ s → P r.run.answer.text → Serves call s P
+  serves ended s P r e t = record { command = r.command; answer = r.run.answer; asked = r.asked; served = r.run.served; quiet = r.quiet; status = e; text = t }
 
--- files that are told, of the command that the words are
-module _ (call : Call) (map : FileMap) (other : Command) (is : call.files ≡ Some map) (asked : call.asked ≡ Some other) where
-  comes_here : (own : Command) (outcome : Outcome) → call.asked ≡ Some own → Comes call.files own outcome → Comes (Some map) other outcome
-  comes_here own outcome c h = subst (λ k. Comes (Some map) k outcome) (one_command call.asked own other c asked) (subst (λ o. Comes o own outcome) is h)
+  run_says : (ended : Status) → WasRun call ended took cut → same_err → Says ended
+  run_says status.Done r e = (serves status.Done status.Done took r r.run.ends.1 r.run.ends.0, e)
+  run_says status.Stopped r e = (serves status.Stopped status.Stopped took r r.run.ends.1 r.run.ends.0, e)
+  run_says status.CheckNo r e = (serves status.CheckNo status.CheckNo took r r.run.ends.1 r.run.ends.0, e)
+  run_says status.WriteFault r e = inl (r.run.answer.status, serves status.WriteFault r.run.answer.status cut r refl r.run.ends, e)
+  run_says _ r e = absurd r.run.ends
 
-  first_here : (own : Command) (name : List ℕ) (fault : FileFault) → call.asked ≡ Some own → IsFirstFault call.files own.needs name fault → IsFirstFault (Some map) other.needs name fault
-  first_here own name fault c h = subst (λ (k : Command). IsFirstFault (Some map) k.needs name fault) (one_command call.asked own other c asked) (subst (λ o. IsFirstFault o own.needs name fault) is h)
+  tells : (q : Refusal) (name : List ℕ) (P : List ℕ → Type 0) → IsCause call q name → P (line_of call.program q name) → Refuses call (status_of q) P
+  tells q name P c t = record { refused = q; name = name; status = refl; cause = c; line = t }
 
-  answer_here : (own : Command) (answer : Answer) → call.asked ≡ Some own → IsAnswer call.files own answer → IsAnswer (Some map) other answer
-  answer_here own answer c h = subst (λ k. IsAnswer (Some map) k answer) (one_command call.asked own other c asked) (subst (λ o. IsAnswer o own answer) is h)
+  told_says : (q : Refusal) (name : List ℕ) → IsCause call q name → told (line_of call.program q name) → same_out → Says (status_of q)
+  told_says refusal.Usage name c t o = (tells refusal.Usage name told c t, o)
+  told_says q name c t o = (tells q name told c t, o)
 
-  -- why a command is refused one of whose files does not serve
-  bad_file_status : (first : List ℕ) (fault : FileFault) → IsFirstFault (Some map) other.needs first fault → (name : List ℕ) (q : Refusal) → IsCause call q name → IsOrOutside status.BadFile (status_of q)
-  bad_file_status first fault x name refusal.Usage h = some_none call.asked other asked h.0
-  bad_file_status first fault x name (refusal.BadFile own_fault) h = refl
-  bad_file_status first fault x name refusal.CannotRead h = tt
-  bad_file_status first fault x name (refusal.Link link) h = absurd (no_first_fault map other (refuses link name) (comes_here h.0.0 (refuses link name) h.0.1 h.0.2) first fault x)
-  bad_file_status first fault x name refusal.NoMemory h = tt
+  says : (ended : Status) → Ended call ended took cut told part same_err same_out → Says ended
+  says ended (was_run r e) = run_says ended r e
+  says ended (was_told r o) = by r.tells
+    where
+      by : TellsAs call.program ended r.refused r.name told part → Says ended
+      by (inl t) = subst Says (sym t.0) (told_says r.refused r.name r.cause t.1 o)
+      by (inr t) = subst Says (sym t.0) (inr (status_of r.refused, tells r.refused r.name part r.cause t.1, o))
 
-  -- why one is whose files serve and do not link
-  link_status : (symbol : List ℕ) (fault : LinkFault) → Comes (Some map) other (refuses fault symbol) → (name : List ℕ) (q : Refusal) → IsCause call q name → IsOrOutside status.LinkRefused (status_of q)
-  link_status symbol fault x name refusal.Usage h = some_none call.asked other asked h.0
-  link_status symbol fault x name (refusal.BadFile own_fault) h = absurd (no_first_fault map other (refuses fault symbol) x name own_fault (first_here h.0.0 name own_fault h.0.1 h.0.2))
-  link_status symbol fault x name refusal.CannotRead h = tt
-  link_status symbol fault x name (refusal.Link link) h = refl
-  link_status symbol fault x name refusal.NoMemory h = tt
+  pub at : (ended s : Status) → Ended call ended took cut told part same_err same_out → ended ≡ s → Says s
+  at ended s h e = subst Says e (says ended h)
 
-  -- and why one is that has an answer
-  answered_status : (answer : Answer) → IsAnswer (Some map) other answer → (took cut : List ℕ → Type 0) (told : Type 0) (name : List ℕ) (q : Refusal) → IsCause call q name → Completes (status_of q) answer took cut told
-  answered_status answer a took cut told name refusal.Usage h = some_none call.asked other asked h.0
-  answered_status answer a took cut told name (refusal.BadFile fault) h = absurd (no_fault_of_answer map other answer a name fault (first_here h.0.0 name fault h.0.1 h.0.2))
-  answered_status answer a took cut told name refusal.CannotRead h = tt
-  answered_status answer a took cut told name (refusal.Link link) h = absurd (no_refusal_of_answer map other answer a link name (comes_here h.0.0 (refuses link name) h.0.1 h.0.2))
-  answered_status answer a took cut told name refusal.NoMemory h = tt
+  -- a refusal that was told is this one, or of the outside or of want of memory
+  or_outside : (wanted ended : Status) (r : WasTold call ended told part) → ((q : Refusal) → IsCalledFor call q r.name → IsOrOutside wanted (status_of q)) → IsOrOutside wanted ended
+  or_outside wanted ended r of = by r.tells
+    where
+      by : TellsAs call.program ended r.refused r.name told part → IsOrOutside wanted ended
+      by (inl t) = subst (IsOrOutside wanted) (sym t.0) (of r.refused r.cause.0)
+      by (inr t) = subst (IsOrOutside wanted) (sym t.0) tt
 
-usage_status : (call : Call) (name : List ℕ) (q : Refusal) → call.asked ≡ None → IsCause call q name → IsOrOutside status.Usage (status_of q)
-usage_status call name refusal.Usage none h = refl
-usage_status call name (refusal.BadFile fault) none h = some_none call.asked h.0.0 h.0.1 none
-usage_status call name refusal.CannotRead none h = tt
-usage_status call name (refusal.Link fault) none h = some_none call.asked h.0.0 h.0.1 none
-usage_status call name refusal.NoMemory none h = tt
+  -- Words that are no command
 
-module _ (call : Call) (out_took out_cut : List ℕ → Type 0) (out_same : Type 0) (err_took err_cut : List ℕ → Type 0) (err_same : Type 0) (ended : Status) where
-  abbrev Ended : Type 0
-  Ended = Ends call out_took out_cut out_same err_took err_cut err_same ended
+  pub no_command : (ended : Status) → Ended call ended took cut told part same_err same_out → call.asked ≡ None → IsOrOutside status.Usage ended
+  no_command ended (was_run r e) none = let clash : Some r.command ≡ None = sym r.asked ∙ none in absurd (cc)
+  no_command ended (was_told r o) none = or_outside status.Usage ended r of
+    where
+      clash : (own : Command) → call.asked ≡ Some own → ⊥
+      clash own c = let both : Some own ≡ None = sym c ∙ none in cc
 
-  pub ends_usage : Ended → call.asked ≡ None → IsOrOutside status.Usage ended
-  ends_usage (answered own c run quiet same) none = some_none call.asked own c none
-  ends_usage (refused r name cause told same) none = told_or status.Usage call.program r name err_took err_cut ended (usage_status call name r none cause) told
+      of : (q : Refusal) → IsCalledFor call q r.name → IsOrOutside status.Usage (status_of q)
+      of refusal.Usage c = refl
+      of (refusal.BadFile fault) c = absurd (clash c.0 c.1)
+      of (refusal.Link fault) c = absurd (clash c.0 c.1)
+      of _ c = tt
 
-  pub ends_bad_file : Ended → (map : FileMap) (command : Command) (name : List ℕ) (fault : FileFault) → call.files ≡ Some map → call.asked ≡ Some command → IsFirstFault (Some map) command.needs name fault
-      → IsOrOutside status.BadFile ended
-  ends_bad_file (answered own c run quiet same) map command name fault is asked first =
-      absurd (no_fault_of_answer map command run.answer (answer_here call map command is asked own run.answer c run.served) name fault first)
-  ends_bad_file (refused r own_name cause told same) map command name fault is asked first =
-      told_or status.BadFile call.program r own_name err_took err_cut ended (bad_file_status call map command is asked name fault first own_name r cause) told
+  -- Files that are told, of the command that the words are
 
-  pub ends_link_refused : Ended → (map : FileMap) (command : Command) (fault : LinkFault) (name : List ℕ) → call.files ≡ Some map → call.asked ≡ Some command → Comes (Some map) command (refuses fault name)
-      → IsOrOutside status.LinkRefused ended
-  ends_link_refused (answered own c run quiet same) map command fault name is asked comes =
-      absurd (no_refusal_of_answer map command run.answer (answer_here call map command is asked own run.answer c run.served) fault name comes)
-  ends_link_refused (refused r own_name cause told same) map command fault name is asked comes =
-      told_or status.LinkRefused call.program r own_name err_took err_cut ended (link_status call map command is asked name fault comes own_name r cause) told
+  module _ (map : FileMap) (other : Command) (is : call.files ≡ Some map) (d : call.asked ≡ Some other) where
+    here : (P : Option FileMap → Command → Type 0) (own : Command) → call.asked ≡ Some own → P call.files own → P (Some map) other
+    here P own c h = subst (λ k. P (Some map) k) (one_command call.asked own other (sym c) d) (subst (λ o. P o own) is h)
 
-  -- the line of a refusal was cut off
-  abbrev CutShort : Type 0
-  CutShort = (s : Status) × Refuses call s err_cut
+    no_usage : call.asked ≡ None → ⊥
+    no_usage none = let both : None ≡ Some other = sym none ∙ d in cc
 
-  completes : Ended → (map : FileMap) (command : Command) → call.files ≡ Some map → call.asked ≡ Some command → (answer : Answer) → IsAnswer (Some map) command answer
-      → Completes ended answer out_took out_cut CutShort
-  completes (answered own c run quiet same) map command is asked answer a =
-      let one = one_answer map command run.answer answer (answer_here call map command is asked own run.answer c run.served) a in
-      run_completes ended answer out_took out_cut CutShort (subst (λ x. EndsAs ended x out_took out_cut) one run.ends)
-  completes (refused r name cause (inl t) same) map command is asked answer a =
-      subst (λ s. Completes s answer out_took out_cut CutShort) (sym t.0) (answered_status call map command is asked answer a out_took out_cut CutShort name r cause)
-  completes (refused r name cause (inr t) same) map command is asked answer a =
-      subst (λ s. Completes s answer out_took out_cut CutShort) (sym t.0) (inr (status_of r, record { refused = r; name = name; status = refl; cause = cause; line = t.1 }))
+    -- none of them has a fault, and they link, where something comes of the command
+    no_fault : (outcome : Outcome) → Comes (Some map) other outcome → (name : List ℕ) (fault : FileFault) → IsCalledFor call (refusal.BadFile fault) name → ⊥
+    no_fault outcome comes name fault c = no_first_fault map other outcome comes name fault (here (λ o k. IsFirstFault o k.needs name fault) c.0 c.1 c.2)
 
-  pub ends_complete : Ended → (map : FileMap) (command : Command) (outcome : Outcome) → call.files ≡ Some map → call.asked ≡ Some command → Comes (Some map) command outcome → (outcome ≡ nothing → ⊥)
-      → IfAnswered outcome (λ answer. Completes ended answer out_took out_cut CutShort)
-  ends_complete e map command outcome is asked comes some =
-      some_answer map command outcome (λ answer. Completes ended answer out_took out_cut CutShort) some comes (completes e map command is asked)
+    no_link : (answer : Answer) → IsAnswer (Some map) other answer → (name : List ℕ) (fault : LinkFault) → IsCalledFor call (refusal.Link fault) name → ⊥
+    no_link answer a name fault c = no_refusal_of_answer map other answer a fault name (here (λ o k. Comes o k (refuses fault name)) c.0 c.1 c.2)
+
+    answer_here : (ended : Status) (r : WasRun call ended took cut) → IsAnswer (Some map) other r.run.answer
+    answer_here ended r = here (λ o k. IsAnswer o k r.run.answer) r.command r.asked r.run.served
+
+    ends_here : (ended : Status) (r : WasRun call ended took cut) (answer : Answer) → IsAnswer (Some map) other answer → EndsAs ended answer took cut
+    ends_here ended r answer a = subst (λ x. EndsAs ended x took cut) (one_answer map other r.run.answer answer (answer_here ended r) a) r.run.ends
+
+    pub bad_file : (ended : Status) → Ended call ended took cut told part same_err same_out → (name : List ℕ) (fault : FileFault) → IsFirstFault (Some map) other.needs name fault → IsOrOutside status.BadFile ended
+    bad_file ended (was_run r e) name fault x = absurd (no_fault_of_answer map other r.run.answer (answer_here ended r) name fault x)
+    bad_file ended (was_told r o) name fault x = or_outside status.BadFile ended r of
+      where
+        of : (q : Refusal) → IsCalledFor call q r.name → IsOrOutside status.BadFile (status_of q)
+        of refusal.Usage c = absurd (no_usage c)
+        of (refusal.BadFile own) c = refl
+        of (refusal.Link own) c = absurd (no_first_fault map other (refuses own r.name) (here (λ o k. Comes o k (refuses own r.name)) c.0 c.1 c.2) name fault x)
+        of _ c = tt
+
+    pub link_refused : (ended : Status) → Ended call ended took cut told part same_err same_out → (name : List ℕ) (fault : LinkFault) → Comes (Some map) other (refuses fault name) → IsOrOutside status.LinkRefused ended
+    link_refused ended (was_run r e) name fault x = absurd (no_refusal_of_answer map other r.run.answer (answer_here ended r) fault name x)
+    link_refused ended (was_told r o) name fault x = or_outside status.LinkRefused ended r of
+      where
+        of : (q : Refusal) → IsCalledFor call q r.name → IsOrOutside status.LinkRefused (status_of q)
+        of refusal.Usage c = absurd (no_usage c)
+        of (refusal.BadFile own) c = absurd (no_fault (refuses fault name) x r.name own c)
+        of (refusal.Link own) c = refl
+        of _ c = tt
+
+    abbrev pub Complete : Answer → Status → Type 0
+    Complete answer ended = Completes ended answer took cut ((s : Status) × Refuses call s part)
+
+    pub completes : (ended : Status) → Ended call ended took cut told part same_err same_out → (answer : Answer) → IsAnswer (Some map) other answer → Complete answer ended
+    completes ended (was_run r e) answer a = by ended (ends_here ended r answer a)
+      where
+        by : (s : Status) → EndsAs s answer took cut → Complete answer s
+        by status.Done b = (b.1, b.0)
+        by status.Stopped b = (b.1, b.0)
+        by status.CheckNo b = (b.1, b.0)
+        by status.WriteFault b = inl b
+        by _ b = absurd b
+    completes ended (was_told r o) answer a = by r.tells
+      where
+        of : (q : Refusal) → IsCalledFor call q r.name → Complete answer (status_of q)
+        of refusal.Usage c = absurd (no_usage c)
+        of (refusal.BadFile fault) c = absurd (no_fault a.outcome a.comes r.name fault c)
+        of (refusal.Link fault) c = absurd (no_link answer a r.name fault c)
+        of _ c = tt
+
+        by : TellsAs call.program ended r.refused r.name told part → Complete answer ended
+        by (inl t) = subst (Complete answer) (sym t.0) (of r.refused r.cause.0)
+        by (inr t) = subst (Complete answer) (sym t.0) (inr (status_of r.refused, tells r.refused r.name part r.cause t.1))
+
+    -- the whole answer, and what is run is an image, where memory is there and neither the files nor a sink failed
+    pub whole : (ended : Status) → Ended call ended took cut told part same_err same_out → (outcome : Outcome) (answer : Answer) → Comes (Some map) other outcome → Answers outcome answer
+        → ended ≢ status.NoMemory → (Rose call.before call.after → ⊥) → (cut answer.text → ⊥) → ((text : List ℕ) → part text → ⊥)
+        → (took answer.text × same_err × (ended ≡ answer.status)) × IsSound outcome
+    whole ended (was_run r e) outcome answer comes a some no_read no_cut no_part =
+        (by ended (ends_here ended r answer (record { outcome = outcome; comes = comes; is = a })), sound)
+      where
+        by : (s : Status) → EndsAs s answer took cut → took answer.text × same_err × (s ≡ answer.status)
+        by status.Done b = (b.0, e, sym b.1)
+        by status.Stopped b = (b.0, e, sym b.1)
+        by status.CheckNo b = (b.0, e, sym b.1)
+        by status.WriteFault b = absurd (no_cut b)
+        by _ b = absurd b
+
+        sound : IsSound outcome
+        sound = subst IsSound (one_outcome map other r.run.served.outcome outcome (here (λ o k. Comes o k r.run.served.outcome) r.command r.asked r.run.served.comes) comes) r.run.sound
+    whole ended (was_told r o) outcome answer comes a some no_read no_cut no_part = absurd (by r.tells)
+      where
+        of : (q : Refusal) → IsCause call q r.name → ended ≡ status_of q → ⊥
+        of refusal.Usage c e = no_usage c.0
+        of (refusal.BadFile fault) c e = no_fault outcome comes r.name fault c.0
+        of refusal.CannotRead c e = no_read c.1.1
+        of (refusal.Link fault) c e = no_link answer (record { outcome = outcome; comes = comes; is = a }) r.name fault c.0
+        of refusal.NoMemory c e = some e
+
+        by : TellsAs call.program ended r.refused r.name told part → ⊥
+        by (inl t) = of r.refused r.cause t.0
+        by (inr t) = no_part (line_of call.program r.refused r.name) t.1

@@ -49,12 +49,6 @@ IsCalledFor call refusal.NoMemory name = Unit {0}
 abbrev pub IsCause : Call → Refusal → List ℕ → Type 0
 IsCause call refused name = IsCalledFor call refused name × HasCause call.before call.after (is_read_fault refused)
 
--- its line was told, or a part of it where the sink failed
-abbrev pub Told : List ℕ → Refusal → List ℕ → (took cut : List ℕ → Type 0) → Status → Type 0
-Told program refused name took cut ended =
-    ((ended ≡ status_of refused) × took (line_of program refused name))
-    ⊎ ((ended ≡ status.WriteFault) × cut (line_of program refused name))
-
 -- some refusal has its cause, and this status, and its line has P
 pub record Refuses (call : Call) (ended : Status) (P : List ℕ → Type 0) : Type 0 where
   pub refused : Refusal
@@ -63,14 +57,31 @@ pub record Refuses (call : Call) (ended : Status) (P : List ℕ → Type 0) : Ty
   pub cause : IsCause call refused name
   pub line : P (line_of call.program refused name)
 
--- How a call ends
+-- How a call ended
 
--- by an answer that it calls for, or by the line of a refusal; a sink that failed took a part, and the other one nothing
-pub data Ends (call : Call) (out_took out_cut : List ℕ → Type 0) (out_same : Type 0) (err_took err_cut : List ℕ → Type 0) (err_same : Type 0) (ended : Status) : Type 0 where
-  answered : (command : Command) → call.asked ≡ Some command → IsRun call.files command ended out_took out_cut → HasCause call.before call.after false → err_same
-      → Ends call out_took out_cut out_same err_took err_cut err_same ended
-  refused : (refused : Refusal) → (name : List ℕ) → IsCause call refused name → Told call.program refused name err_took err_cut ended → out_same
-      → Ends call out_took out_cut out_same err_took err_cut err_same ended
+-- the command that the words are was answered so
+pub record WasRun (call : Call) (ended : Status) (took cut : List ℕ → Type 0) : Type 0 where
+  pub command : Command
+  pub asked : call.asked ≡ Some command
+  pub run : IsRun call.files command ended took cut
+  pub quiet : HasCause call.before call.after false
+
+-- the line of a refusal, which begins with the program's name, was taken, or cut off
+abbrev pub TellsAs : List ℕ → Status → Refusal → List ℕ → (took cut : List ℕ → Type 0) → Type 0
+TellsAs program ended refused name took cut =
+    ((ended ≡ status_of refused) × took (line_of program refused name)) ⊎ ((ended ≡ status.WriteFault) × cut (line_of program refused name))
+
+-- a refusal that has its cause was told so
+pub record WasTold (call : Call) (ended : Status) (took cut : List ℕ → Type 0) : Type 0 where
+  pub refused : Refusal
+  pub name : List ℕ
+  pub cause : IsCause call refused name
+  pub tells : TellsAs call.program ended refused name took cut
+
+-- one of the two, where the other sink is as it was
+pub data Ended (call : Call) (ended : Status) (took cut told part : List ℕ → Type 0) (same_err same_out : Type 0) : Type 0 where
+  was_run : WasRun call ended took cut → same_err → Ended call ended took cut told part same_err same_out
+  was_told : WasTold call ended told part → same_out → Ended call ended took cut told part same_err same_out
 
 -- Completeness
 

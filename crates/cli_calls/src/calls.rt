@@ -2,7 +2,7 @@
 ghost use Rattle.std.specs.Prelude.{◌≡◌, ◌≢◌, IfOk, IfSome, IsTrue, Option, option_map};
 ghost use Rattle.sm_io.specs.Sink.{Took, CutOff};
 ghost use Rattle.cli_files.specs.NameText.{name_text};
-ghost use Rattle.cli_calls.specs.Calls.{Ends, Told, called};
+ghost use Rattle.cli_calls.specs.Calls.{Ended, TellsAs, called};
 ghost use Rattle.cli_calls.specs.Command.{Command};
 
 use crate::answering::Answering;
@@ -20,11 +20,11 @@ pub fn end_call<C: Answering + Drop, F: Files, O: Sink, E: Sink>(
     err: &mut E,
 ) -> Status
     requires bounds { IfOk read (λ o. IfSome o C.bounds) }
-    ensures ends { (asked : Option Command) → IfOk read (λ o. option_map C.asked o ≡ asked) →
-        Ends (called program.now asked (F.content files.old) (F.faults files.old) (F.faults files.new))
-        (Took O.taken O.faults O.sure out.old out.new) (CutOff O.taken O.faults O.sure out.old out.new) (out.new ≡ out.old)
-        (Took E.taken E.faults E.sure err.old err.new) (CutOff E.taken E.faults E.sure err.old err.new) (err.new ≡ err.old)
-        result }
+    ensures ended { (asked : Option Command) → IfOk read (λ o. option_map C.asked o ≡ asked) →
+        Ended (called program.now asked (F.content files.old) (F.faults files.old) (F.faults files.new)) result
+        (Took O.taken O.faults O.sure out.old out.new) (CutOff O.taken O.faults O.sure out.old out.new)
+        (Took E.taken E.faults E.sure err.old err.new) (CutOff E.taken E.faults E.sure err.old err.new)
+        (err.new ≡ err.old) (out.new ≡ out.old) }
     ensures sound { IsTrue (F.sound files.old) →
         (result ≢ Status.ReadFault) × (F.faults files.new ≡ F.faults files.old) }
     ensures same_sound { F.sound files.new ≡ F.sound files.old }
@@ -44,8 +44,8 @@ pub fn end_call<C: Answering + Drop, F: Files, O: Sink, E: Sink>(
 
 /// Puts the line of a refusal, which begins with the program's name, and gives its status.
 pub fn tell<E: Sink>(err: &mut E, program: &[u8], refused: Refused<'_>) -> Status
-    ensures told { Told program.now refused.entry.refusal (name_text refused.entry.name)
-        (Took E.taken E.faults E.sure err.old err.new) (CutOff E.taken E.faults E.sure err.old err.new) result }
+    ensures told { TellsAs program.now result refused.entry.refusal (name_text refused.entry.name)
+        (Took E.taken E.faults E.sure err.old err.new) (CutOff E.taken E.faults E.sure err.old err.new) }
 {
     match put_refusal(err, program, &refused) {
         Ok(()) => refused.refusal.status(),

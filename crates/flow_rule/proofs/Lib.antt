@@ -7,14 +7,13 @@ pub mod Labelling
 pub mod Runs
 pub mod Instruction
 pub mod Decoding
-pub mod Calls
+pub mod Starts
 pub mod Stub
 pub mod Open
 pub mod Begin
 pub mod Rows
 pub mod Arms
-pub mod WithArms
-pub mod Bare
+pub mod Calls
 pub mod Absorbing
 pub mod AbsorbingDone
 pub mod Resting

@@ -143,5 +143,6 @@ step_arms step arms m text x = step_arms_by (met m.text text x.pair.addr) step a
 abbrev pub flow_with : Module → List ℕ → List Arm → Point → Step
 flow_with m text arms = step_arms (flow_step m text) arms m text
 
+-- the verdict of a text, with these certificates or with none
 abbrev pub VerdictWith : Module → List ℕ → List Arm → Verdict → Type 0
 VerdictWith m text arms a = Decided (flow_with m text arms) (start_of m text) m.text.start a

@@ -1,12 +1,11 @@
 -- The laws of the rule.
-use Rattle.std.specs.Prelude.{◌≡◌, ◌<◌, ◌↔◌, ℕ, List, [], length, slice_index}
+use Rattle.std.specs.Prelude.{◌≡◌, ◌<◌, ℕ, List, length, slice_index}
 use Rattle.mod_layout.specs.declared.Module.{Module}
 use Rattle.mod_layout.specs.Table.{size_of}
-use Rattle.mod_layout.specs.Tables.{IsModule}
+use Rattle.mod_layout.specs.Tables.{IsSection}
 use Rattle.cpu_step.specs.Lone.{AlwaysEven}
 use Rattle.flow_rule.specs.declared.Verdict.{Verdict}
 use Rattle.flow_rule.specs.declared.Verdict.TheVariants.{Yes}
-use Rattle.flow_rule.specs.Verdict.{VerdictOf}
 use Rattle.arm_balance.specs.declared.Arm.{Arm}
 use Rattle.flow_rule.specs.Arms.{VerdictWith}
 
@@ -19,17 +18,9 @@ pub record IsData (m : Module) (d : List ℕ) : Type 0 where
 abbrev pub EvenForAll : Module → List ℕ → Type 0
 EvenForAll m text = (key d1 d2 : List ℕ) → IsData m d1 → IsData m d2 → AlwaysEven key m text d1 d2
 
--- a text that the rule accepts is even for every two data
+-- a text that the rule accepts, under any certificates, is even for every two data
 abbrev pub Evenness : Type 0
-Evenness = (given : ℕ) (m : Module) (text : List ℕ) → IsModule given m → length text ≡ size_of m.text → VerdictOf m text Yes → EvenForAll m text
-
--- the same with certificates of balanced branches
-abbrev pub EvennessWithArms : Type 0
-EvennessWithArms = (given : ℕ) (m : Module) (text : List ℕ) (arms : List Arm) → IsModule given m → VerdictWith m text arms Yes → EvenForAll m text
-
--- without certificates the verdict is that of the rule without them
-abbrev pub WithoutArms : Type 0
-WithoutArms = (m : Module) (text : List ℕ) (v : Verdict) → VerdictWith m text [] v ↔ VerdictOf m text v
+Evenness = (m : Module) (text : List ℕ) (arms : List Arm) → IsSection m.text → IsSection m.ram → VerdictWith m text arms Yes → EvenForAll m text
 
 -- every text has a verdict, under any certificates: the rounds end
 abbrev pub SomeVerdict : Type 0

@@ -1,4 +1,4 @@
--- The start of the labelling, and the verdict of a text.
+-- The start of the labelling, and what decides a verdict.
 use Rattle.flow_rule.specs.declared.Verdict.{Verdict}
 use Rattle.flow_rule.specs.declared.Verdict.TheVariants.{Yes, No}
 use Rattle.std.specs.Prelude.{◌≡◌, ◌<◌, ◌≤◌, ◌⊎◌, ℕ, ◌+◌, ◌*◌, List, [], ◌∷◌, length, replicate, slice_set, if◌then◌else◌}
@@ -46,6 +46,3 @@ Decided step start begin (No addr reason value) =
     let r : Found = record { addr = addr; why = reason; value = value } in
     ((xs : List Point) × IsLabelling step start xs × (length xs ≤ most_pairs) × AmongThem r (all_reasons step xs) × BeforeAll r (all_reasons step xs))
     ⊎ ((n : ℕ) × (most_pairs < length (rounds step start n)) × (r ≡ record { addr = begin; why = TooMany; value = 0 }))
-
-abbrev pub VerdictOf : Module → List ℕ → Verdict → Type 0
-VerdictOf m text a = Decided (flow_step m text) (start_of m text) m.text.start a

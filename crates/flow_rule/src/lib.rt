@@ -2,7 +2,7 @@
 #![tactic(auto)]
 
 ghost use Rattle.flow_rule.specs.Absorbs.{ArmsRest};
-ghost use Rattle.flow_rule.specs.Laws.{Evenness, EvennessWithArms, WithoutArms, SomeVerdict, OneVerdict};
+ghost use Rattle.flow_rule.specs.Laws.{Evenness, SomeVerdict, OneVerdict};
 
 use pc_access::Kind;
 use sm_words::Width;
@@ -70,19 +70,9 @@ pub enum Verdict {
     },
 }
 
-/// Where the verdict is yes, no list of calls tells two data apart, under any key.
+/// Where the verdict is yes, whatever the certificates, no list of calls tells two data apart, under any key.
 pub fn evenness()
     ensures even { Evenness }
-{}
-
-/// The same with certificates of balanced branches.
-pub fn evenness_with_arms()
-    ensures even { EvennessWithArms }
-{}
-
-/// No certificates change nothing.
-pub fn without_arms()
-    ensures same { WithoutArms }
 {}
 
 /// What no reason says of a branch's arms under a label holds of every label that it absorbs.

@@ -23,7 +23,7 @@ pub fn read<'a>(alloc: Global, words: &'a [String]) -> Result<Option<MapCommand<
         ≡ option_and_then map_of (values_in 2 65 (drop 1 (texts words.entry.now)))) }
     ensures bounds { IfOk result (λ o. IfSome o (λ c. length c.objects.items ≤ 64)) }
 {
-    match values_of(alloc, words, 2, 65)? {
+    match values_of(alloc, "map", words, 2, 65)? {
         Some(values) => command_in(alloc, values.as_slice()),
         None => Ok(None),
     }

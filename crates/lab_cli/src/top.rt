@@ -6,7 +6,7 @@ ghost use Rattle.link_symbols.specs.declared.fault.LinkFault.{LinkFault as LinkF
 ghost use Rattle.cli_files.specs.declared.answers.FileFault.{FileFault as FileFaults};
 ghost use Rattle.cli_files.specs.declared.answers.Status.{Status as Statuses};
 ghost use Rattle.cli_files.specs.Files.{IsFirstFault};
-ghost use Rattle.cli_calls.specs.Calls.{Completes, Ends, IsOrOutside, Refuses, called};
+ghost use Rattle.cli_calls.specs.Calls.{Completes, Ended, IsOrOutside, Refuses, called};
 ghost use Rattle.cli_calls.specs.Command.{Command, Comes, IfAnswered, Outcome, refuses};
 ghost use Rattle.cli_calls.specs.Words.{texts};
 ghost use Rattle.lab_cli.specs.CommandLine.{command_of};
@@ -26,11 +26,11 @@ pub fn serve<F: Files, O: Sink, E: Sink>(
     err: &mut E,
 ) -> Status
     // An answer, or the line of a refusal, as words and files call for.
-    ensures ends { Ends (called (codes "sancus-lab") (command_of (texts words.now)) (F.content files.old)
-        (F.faults files.old) (F.faults files.new))
-        (Took O.taken O.faults O.sure out.old out.new) (CutOff O.taken O.faults O.sure out.old out.new) (out.new ≡ out.old)
-        (Took E.taken E.faults E.sure err.old err.new) (CutOff E.taken E.faults E.sure err.old err.new) (err.new ≡ err.old)
-        result }
+    ensures ended { Ended (called (codes "sancus-lab") (command_of (texts words.now)) (F.content files.old)
+        (F.faults files.old) (F.faults files.new)) result
+        (Took O.taken O.faults O.sure out.old out.new) (CutOff O.taken O.faults O.sure out.old out.new)
+        (Took E.taken E.faults E.sure err.old err.new) (CutOff E.taken E.faults E.sure err.old err.new)
+        (err.new ≡ err.old) (out.new ≡ out.old) }
 
     // Completeness: what the words and the files call for is answered, unless the system fails or memory runs out.
     ensures complete_usage { command_of (texts words.now) ≡ None → IsOrOutside Status.Usage result }

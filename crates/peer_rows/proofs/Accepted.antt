@@ -10,7 +10,7 @@ use Rattle.arm_balance.specs.declared.Arm.{Arm}
 use Rattle.flow_rule.specs.declared.Verdict.TheVariants.{Yes}
 use Rattle.flow_rule.specs.Arms.{VerdictWith}
 use Rattle.flow_rule.specs.Laws.{IsData}
-use Rattle.flow_rule.proofs.WithArms.{even_with}
+use Rattle.flow_rule.proofs.Calls.{even_lists}
 use Rattle.written_machine.specs.Peers.{section, Peers}
 use Rattle.peer_rows.specs.Laws.{DifferInData}
 
@@ -45,6 +45,6 @@ accepted a b m owner arms d v =
       owner = owner;
       owned = d.owned;
       elsewhere = d.elsewhere;
-      even = λ es n h. even_with a.node_key a.table.given owner (section owner.text a.memory) arms n es (section owner.ram a.memory) (section owner.ram b.memory) is v
+      even = λ es n h. even_lists a.node_key owner (section owner.text a.memory) arms n es (section owner.ram a.memory) (section owner.ram b.memory) is.text_ok is.ram_ok v
           (record { long = da.long; bytes = da.bytes }) (record { long = db.long; bytes = db.bytes }) h;
     }

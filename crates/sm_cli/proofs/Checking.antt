@@ -1,5 +1,5 @@
 -- Where the check of a module is answered yes, the rule of flow accepts its text.
-use Rattle.std.proofs.Common.{◌≡◌, ℕ, ◌≤◌, List, [], ◌∷◌, length, is_some, Some, Option, refl, sym, ◌∙◌, ap, subst}
+use Rattle.std.proofs.Common.{◌≡◌, ℕ, List, [], ◌∷◌, is_some, Some, Option, refl, sym, ◌∙◌, ap, subst}
 use Rattle.sm_io.specs.Files.{FileMap}
 use Rattle.mod_layout.specs.declared.Module.{Module}
 use Rattle.mod_layout.specs.Table.{module_of}
@@ -12,7 +12,7 @@ use Rattle.flow_rule.specs.Arms.{VerdictWith}
 use Rattle.written_machine.specs.Peers.{section, Peers}
 use Rattle.peer_rows.specs.Laws.{DifferInData, AcceptedArePeers}
 use Rattle.cli_files.specs.declared.answers.Status.TheVariants.{Done}
-use Rattle.cli_files.specs.Files.{Held, an_image, certificates, image_with, arms_file, need, Holds, HoldAll, most_bytes}
+use Rattle.cli_files.specs.Files.{Held, an_image, certificates, image_with, arms_file, need, Holds, HoldAll}
 use Rattle.cli_calls.specs.Command.{Command, Answer, judges, Comes, Answers, IsJudged, IsAnswer}
 use Rattle.cli_calls.specs.Verdicts.{verdict_status}
 use Rattle.sm_cli.specs.CheckCommand.{checked_by, check_command}

@@ -1,6 +1,6 @@
 -- Cycles are run, and their events counted.
 use Rattle.std.proofs.Common.{◌≡◌, ℕ, ◌+◌, ◌*◌, ◌≤◌, ap, ap₂, arith}
-use Rattle.written_machine.specs.Cycle.{cycle, after_cycles}
+use Rattle.written_machine.specs.Cycle.{after_cycles}
 use Rattle.written_machine.specs.State.{State}
 use Rattle.written_machine.specs.Marks.{Marked, unmarked}
 use Rattle.sm_cli.specs.MakeCommand.{events_after, runs_text, start_of, second_data, make_text}

@@ -1,5 +1,5 @@
 -- Objects, the image that they link to, and its peers.
-use Rattle.std.proofs.Common.{◌≡◌, ℕ, ◌≤◌, Bool, is_some, List, [], ◌∷◌, length, map, Option, Some, None, refl, sym, ◌∙◌, ap, ap₂, subst, inl, inr}
+use Rattle.std.proofs.Common.{◌≡◌, ℕ, Bool, is_some, List, [], ◌∷◌, map, Option, Some, None, refl, sym, ◌∙◌, ap, ap₂, subst, inl, inr}
 use Rattle.std.specs.Prelude.{All, IfOk}
 use Rattle.std.proofs.lemmas.List.Elements.{All-nil, All-cons}
 use Rattle.sm_io.specs.Files.{FileMap}
@@ -20,8 +20,8 @@ use Rattle.written_machine.specs.Peers.{Peers}
 use Rattle.written_machine.specs.View.{View, view_of}
 use Rattle.isolation.specs.Laws.{SameTraces, SameViews}
 use Rattle.peer_rows.specs.Laws.{DifferInData, AcceptedArePeers}
-use Rattle.cli_files.specs.Files.{Held, an_image, a_schedule, a_layout, an_object, layout_file, object_file, image_file, need, object_needs, schedule_needs, Holds, HoldAll, IsScheduleOf, most_bytes}
-use Rattle.cli_calls.specs.Command.{Answer, Answers, Command, IsAnswer, run_status, trace_answer}
+use Rattle.cli_files.specs.Files.{Held, an_image, a_schedule, a_layout, an_object, layout_file, object_file, image_file, need, object_needs, schedule_needs, Holds, HoldAll, IsScheduleOf}
+use Rattle.cli_calls.specs.Command.{Answer, Answers, IsAnswer, run_status, trace_answer}
 use Rattle.sm_cli.specs.ImageCommand.{image_command}
 use Rattle.sm_cli.specs.Joins.{AreFiles, IsLinked, SaysYes, RunsAlike}
 use Rattle.sm_cli.specs.LinkCommand.{link_command, link_outcome, text_answer, text_outcome}

@@ -1,5 +1,5 @@
 -- The key of a layout that was read is bytes.
-use Rattle.std.proofs.Common.{◌≡◌, ℕ, ◌<◌, Bool, true, false, List, Option, Some, None, Result, Ok, Err, sym, ◌∙◌, ap, subst}
+use Rattle.std.proofs.Common.{◌≡◌, ℕ, ◌<◌, Bool, true, List, Option, Some, None, Result, Ok, Err, sym, ◌∙◌, ap, subst}
 use Rattle.std.specs.Prelude.{if◌then◌else◌}
 use Rattle.std.specs.Result.{result_ok}
 use Rattle.std.specs.Str.{is_utf8}
@@ -11,7 +11,6 @@ use Rattle.toml.specs.Data.{Members, as_str}
 use Rattle.toml.specs.Parse.{parse_document}
 use Rattle.layout_file.proofs.SoundLemmas.{bind-ok}
 use Rattle.layout_file.specs.Checked.{Checked}
-use Rattle.layout_file.specs.Clashes.{first_clash}
 use Rattle.layout_file.specs.Layout as layout
 use Rattle.layout_file.specs.Layout.{LayoutOf}
 use Rattle.layout_file.specs.Rows as rows

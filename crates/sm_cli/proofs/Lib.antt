@@ -5,7 +5,6 @@ pub mod Joins
 pub mod KeyBytes
 pub mod Listing
 pub mod Needed
-pub mod OneValue
 pub mod Running
 pub mod Serving
 pub mod ShortText

@@ -1,5 +1,5 @@
 -- The text of an image is no longer than a file may be.
-use Rattle.std.proofs.Common.{◌≡◌, ℕ, zero, suc, ◌+◌, ◌*◌, ◌≤◌, ◌==◌, ◌⊎◌, inl, inr, Bool, true, false, List, [], ◌∷◌, ◌++◌, length, length-append, take, drop, refl, arith}
+use Rattle.std.proofs.Common.{◌≡◌, ℕ, zero, suc, ◌+◌, ◌*◌, ◌≤◌, ◌==◌, ◌⊎◌, inl, inr, Bool, true, false, List, [], ◌∷◌, length, length-append, take, drop, refl, arith}
 use Rattle.std.specs.Fmt.{decimal}
 use Rattle.std.specs.Prelude.{codes, if◌then◌else◌}
 use Rattle.std.proofs.lemmas.Fmt.{length-decimal-le_succ}
@@ -9,7 +9,7 @@ use Rattle.hex.proofs.HexLemmas.{length-encode_with}
 use Rattle.texts.specs.Hexadecimals.{hex_key}
 use Rattle.mod_layout.specs.declared.Module.{Module}
 use Rattle.image_text.specs.Image.{Image, IsImage}
-use Rattle.image_text.specs.ImageText.{ended, first_line, key_line, handler_line, count_line, count_text, module_line, modules_text, is_zero, row_line, row_text, rows_text, end_line, memory_text, text_after_key, image_text}
+use Rattle.image_text.specs.ImageText.{ended, first_line, key_line, handler_line, count_line, count_text, module_line, modules_text, is_zero, row_line, rows_text, end_line, memory_text, text_after_key, image_text}
 use Rattle.cli_files.specs.Files.{most_bytes}
 
 long_ended : (line rest : List ℕ) → length (ended line rest) ≡ length line + 1 + length rest

@@ -1,5 +1,5 @@
 -- A run stops in the cycle in which a check is refused, and tells it.
-use Rattle.std.proofs.Common.{◌≡◌, ◌⊎◌, inl, inr, ⊎_elim, ℕ, zero, suc, ◌<◌, Bool, true, false, is_some, List, [], ◌∷◌, ◌++◌, append_assoc, Option, Some, None, refl, sym, ◌∙◌, ap, subst, arith}
+use Rattle.std.proofs.Common.{◌≡◌, ⊎_elim, ℕ, zero, suc, ◌<◌, is_some, List, [], ◌∷◌, ◌++◌, append_assoc, Option, Some, None, refl, sym, ◌∙◌, ap, subst, arith}
 use Rattle.std.specs.Prelude.{◌↔◌}
 use Rattle.std.proofs.lemmas.Bool.{cases_lt}
 use Rattle.schedule_file.specs.declared.Entry.{Entry}
@@ -11,7 +11,7 @@ use Rattle.tracer.specs.declared.Event.TheVariants.{Stop as StopEvent}
 use Rattle.written_machine.specs.Checks.{refused_in}
 use Rattle.written_machine.specs.Cycle.{cycle, cycle_by, after_cycles}
 use Rattle.written_machine.specs.State.{State}
-use Rattle.written_machine.specs.Trace.{lines_of, lines_after, trace, end_line_of}
+use Rattle.written_machine.specs.Trace.{lines_of, lines_after, end_line_of}
 use Rattle.written_machine.specs.View.{at, boot}
 use Rattle.isolation.specs.Calls.{stop_in}
 use Rattle.isolation.specs.Laws.{StopTold, StopRefused}

@@ -1,5 +1,5 @@
 -- The vendor's report on the trace of a machine.
-use Rattle.std.proofs.Common.{◌≡◌, ℕ, zero, suc, ◌+◌, ◌^◌, ◌<◌, ◌≤◌, ◌&&◌, Bool, true, false, is_some, List, [], ◌∷◌, length, Option, Some, None, Ok, refl, sym, ◌∙◌, ap, subst, arith}
+use Rattle.std.proofs.Common.{◌≡◌, ℕ, zero, suc, ◌+◌, ◌≤◌, ◌&&◌, Bool, true, false, List, [], ◌∷◌, length, Some, refl, sym, ◌∙◌, ap, subst, arith}
 use Rattle.std.specs.Prelude.{slice_get, ◌↔◌}
 use Rattle.std.proofs.lemmas.Bool.{and_parts}
 use Rattle.sm_io.specs.Files.{FileMap}
@@ -12,8 +12,8 @@ use Rattle.vendor_tool.specs.Report.{judgement, is_genuine, all_genuine_from}
 use Rattle.written_machine.specs.Trace.{trace}
 use Rattle.written_machine.specs.View.{boot}
 use Rattle.machine_replies.specs.Laws.{MachineTracesAreRead, sent_after}
-use Rattle.cli_files.specs.declared.answers.Status.TheVariants.{Done, CheckNo}
-use Rattle.cli_files.specs.Files.{Held, an_image, the_challenges, the_replies, Need, need, trace_file, Holds, HoldAll, most_bytes}
+use Rattle.cli_files.specs.declared.answers.Status.TheVariants.{Done}
+use Rattle.cli_files.specs.Files.{Held, an_image, the_challenges, the_replies, Need, need, trace_file, HoldAll, most_bytes}
 use Rattle.cli_calls.specs.Command.{Answer}
 use Rattle.sm_cli.specs.Joins.{AreTagged, VendorTells}
 use Rattle.sm_cli.specs.VendorCommand.{key_under, report_answer, report_by, report_status, vendor_command}

@@ -1,7 +1,6 @@
 -- The command of the words after the program's name.
 use Rattle.std.specs.Prelude.{List, [], ◌∷◌, Option, None, option_and_then, codes, if◌then◌else◌}
 use Rattle.std.specs.Str.{bytes_eq}
-use Rattle.sm_cli.specs.declared.commands.CommandLine.TheVariants as line
 use Rattle.cli_calls.specs.Words.{Text, values_in}
 use Rattle.cli_calls.specs.Command.{Command}
 use Rattle.sm_cli.specs.ImageCommand.{image_of}

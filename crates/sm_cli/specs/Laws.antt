@@ -1,6 +1,7 @@
 -- The laws of a command's files and of workloads. Each is what a function of this crate ensures.
-use Rattle.std.specs.Prelude.{◌≡◌, ◌<◌, ◌↔◌, ◌++◌, ℕ, List, Some, None, ◌⊎◌}
+use Rattle.std.specs.Prelude.{◌≡◌, ◌<◌, ◌≤◌, ◌↔◌, ◌++◌, ℕ, List, length, Option, Some, None, ◌⊎◌}
 use Rattle.sm_io.specs.Files.{FileMap}
+use Rattle.sm_io.specs.Sink.{CutOff}
 use Rattle.schedule_file.specs.declared.Entry.{Entry}
 use Rattle.pc_access.specs.declared.Stop.{Stop}
 use Rattle.image_text.specs.Image.{Image}
@@ -10,12 +11,16 @@ use Rattle.written_machine.specs.Checks.{refused_in}
 use Rattle.written_machine.specs.Trace.{trace}
 use Rattle.written_machine.specs.View.{at}
 use Rattle.cli_files.specs.declared.answers.FileFault.{FileFault}
+use Rattle.cli_files.specs.declared.answers.Refusal.{Refusal}
+use Rattle.cli_files.specs.declared.answers.Status.{Status}
 use Rattle.cli_files.specs.declared.answers.Status.TheVariants.{Stopped}
 use Rattle.cli_files.specs.Files.{IsFirstFault}
+use Rattle.cli_files.specs.Refusal.{line_of}
 use Rattle.cli_calls.specs.Command.{Command, Outcome, refuses, Comes, Answer, IsAnswer, trace_answer}
 use Rattle.link_symbols.specs.declared.fault.LinkFault.{LinkFault}
 use Rattle.sm_cli.specs.CommandLine.{command_of}
 use Rattle.sm_cli.specs.MakeCommand.{run_text, start_of}
+use Rattle.cli_calls.specs.Calls.{Call, Serves, IsCalledFor, Refuses}
 use Rattle.cli_calls.specs.Words.{Text}
 
 -- Of every command, on files that are told, something comes, or there is a first file that does not serve.
@@ -30,6 +35,19 @@ IsAnswered = (words : List Text) (map : FileMap) (command : Command) (outcome : 
 -- And no other answer comes of it.
 abbrev pub HasOneAnswer : Type 0
 HasOneAnswer = (map : FileMap) (command : Command) (a b : Answer) → IsAnswer (Some map) command a → IsAnswer (Some map) command b → a ≡ b
+
+module _ {S : Type 0} (taken : S → Option (List ℕ)) (faults sure : S → ℕ) where
+  -- A sink that is sure of as many bytes as each answer of a call has is not cut off within one.
+  abbrev pub AnswersAreTaken : Type 0
+  AnswersAreTaken = (call : Call) (ended : Status) (old new : S) →
+      ((command : Command) (answer : Answer) → call.asked ≡ Some command → IsAnswer call.files command answer → length answer.text ≤ sure old) →
+      ¬ (Serves call ended (CutOff taken faults sure old new))
+
+  -- And where it is sure of as many as each line of a refusal has, not within such a line.
+  abbrev pub LinesAreTaken : Type 0
+  LinesAreTaken = (call : Call) (ended : Status) (old new : S) →
+      ((refused : Refusal) (name : List ℕ) → IsCalledFor call refused name → length (line_of call.program refused name) ≤ sure old) →
+      ¬ (Refuses call ended (CutOff taken faults sure old new))
 
 -- in cycle k of this run a check is refused first, the machine stops by it, and the trace has its line
 pub record StopsIn (value : Image) (entries : List Entry) (cycles k : ℕ) : Type 0 where

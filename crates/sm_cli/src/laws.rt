@@ -1,6 +1,8 @@
 //! The laws of commands and of workloads, each the contract of a function with an empty body.
 ghost use Rattle.sm_cli.specs.Joins.{LinkWritesImages, CommandsJoin, VendorTells};
-ghost use Rattle.sm_cli.specs.Laws.{IsDecided, IsAnswered, HasOneAnswer, RunsAreAlike, RunsStop};
+ghost use Rattle.sm_cli.specs.Laws.{AnswersAreTaken, HasOneAnswer, IsAnswered, IsDecided, LinesAreTaken, RunsAreAlike, RunsStop};
+
+use sm_io::Sink;
 
 /// Whatever the files are that are told, a command has one answer, or one of its files is refused, or objects do not link.
 pub fn every_command()
@@ -38,6 +40,13 @@ pub fn runs_stop()
     // Lemma call, no effect at run time: a machine stops, and tells it, by the first check that is refused.
     isolation::tells();
 }
+
+/// A sink that is sure of as many bytes as an answer, or a refusal's line, may have is not cut off within one, so `serve` on two
+/// such sinks does not answer `WriteFault`.
+pub fn sure_sinks_take_all<S: Sink>()
+    ensures answers { AnswersAreTaken S.taken S.faults S.sure }
+    ensures lines { LinesAreTaken S.taken S.faults S.sure }
+{}
 
 /// The runs of a seed are told alike, whatever their module's data, and so both runs of `make`.
 pub fn runs_are_alike()

@@ -27,13 +27,10 @@ ghost use Rattle.sm_cli.specs.Serve.{call_of};
 ghost use Rattle.cli_calls.specs.Calls.{Serves, Refuses, IsOrOutside, Completes};
 
 use crate::commands::read_command;
-use cli_calls::{Answering, tell};
-use cli_files::{NO_MEMORY, Status, USAGE};
+use cli_calls::end_call;
+use cli_files::Status;
 use sm_io::{Files, Sink};
 use std::alloc::Global;
-
-/// What lines of refusals begin with.
-const PROGRAM: &[u8] = b"sancus";
 
 /// Does all that the program does: the command that the words are, on files and two sinks.
 pub fn serve<F: Files, O: Sink, E: Sink>(
@@ -141,13 +138,6 @@ pub fn serve<F: Files, O: Sink, E: Sink>(
     isolation::two_runs();
     isolation::texts();
     peer_rows::accepted_are_peers();
-    let command = match read_command(alloc, words) {
-        Ok(Some(command)) => command,
-        Ok(None) => return tell(err, PROGRAM, USAGE),
-        Err(_) => return tell(err, PROGRAM, NO_MEMORY),
-    };
-    match command.answer(alloc, files, out) {
-        Ok(status) => status,
-        Err(refused) => tell(err, PROGRAM, refused),
-    }
+    let read = read_command(alloc, words);
+    end_call(alloc, b"sancus", read, files, out, err)
 }

@@ -1,5 +1,4 @@
 -- What the code's own invariants say of: DisCommand.
-use Rattle.std.specs.Prelude.{◌-◌}
 use Rattle.sm_cli.specs.declared.commands.dis.DisCommand.{DisCommand}
 use Rattle.cli_calls.specs.Command.{Command}
 use Rattle.sm_cli.specs.DisCommand.{dis_command}

@@ -4,7 +4,6 @@ use Rattle.std.specs.Option.{option_copied}
 use Rattle.written_machine.specs.Cycle.{after_cycles}
 use Rattle.written_machine.specs.State.{State}
 use Rattle.written_machine.specs.Trace.{lines_after, end_line_of}
-use Rattle.cli_files.specs.declared.answers.Status.TheVariants as status
 use Rattle.sm_cli.specs.declared.commands.image.ImageCommand.{ImageCommand}
 use Rattle.cli_calls.specs.Command.{Answer, Command, run_status}
 use Rattle.sm_cli.specs.ImageCommand.{image_command}

@@ -1,6 +1,4 @@
 -- What the code's own invariants say of: LoneCommand.
-use Rattle.cpu_step.specs.Lone as lone
-use Rattle.cli_files.specs.declared.answers.Status.TheVariants as status
 use Rattle.sm_cli.specs.declared.commands.lone.LoneCommand.{LoneCommand}
 use Rattle.sm_cli.specs.Pairs.{core_with}
 use Rattle.cli_calls.specs.Command.{Command}

@@ -1,5 +1,4 @@
 -- What the code's own invariants say of: VendorCommand.
-use Rattle.cli_files.specs.declared.answers.Status.TheVariants as status
 use Rattle.sm_cli.specs.declared.commands.vendor.VendorCommand.{VendorCommand}
 use Rattle.cli_calls.specs.Command.{Command}
 use Rattle.sm_cli.specs.VendorCommand.{vendor_command}

@@ -19,12 +19,11 @@ pub struct AsmCommand<'a> {
 }
 
 /// The argument that the words after the first are.
-#[tactic(auto, using(crate::proofs::OneValue::one_source))]
 pub fn read<'a>(alloc: Global, words: &'a [String]) -> Result<Option<AsmCommand<'a>>, AllocError>
     ensures { IfOk result (λ o. option_map asm_asked o ≡ option_and_then asm_of
         (values_in 1 1 (drop 1 (texts words.entry.now)))) }
 {
-    match values_of(alloc, words, 1, 2)? {
+    match values_of(alloc, "asm", words, 1, 1)? {
         Some(values) => Ok(command_in(values.as_slice())),
         None => Ok(None),
     }

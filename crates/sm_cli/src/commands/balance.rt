@@ -32,7 +32,7 @@ pub fn read<'a>(
     ensures { IfOk result (λ o. option_map balance_asked o ≡
         option_and_then balance_of (values_in 3 3 (drop 1 (texts words.entry.now)))) }
 {
-    match values_of(alloc, words, 3, 3)? {
+    match values_of(alloc, "balance", words, 3, 3)? {
         Some(values) => Ok(command_in(values.as_slice())),
         None => Ok(None),
     }

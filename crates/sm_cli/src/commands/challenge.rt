@@ -18,7 +18,6 @@ pub struct ChallengeCommand<'a> {
 }
 
 /// The argument that the words after the first are.
-#[tactic(auto, using(crate::proofs::OneValue::one_name))]
 pub fn read<'a>(
     alloc: Global,
     words: &'a [String],
@@ -26,7 +25,7 @@ pub fn read<'a>(
     ensures { IfOk result (λ o. option_map challenge_asked o
         ≡ option_and_then challenge_of (values_in 1 1 (drop 1 (texts words.entry.now)))) }
 {
-    match values_of(alloc, words, 1, 2)? {
+    match values_of(alloc, "challenge", words, 1, 1)? {
         Some(values) => Ok(command_in(values.as_slice())),
         None => Ok(None),
     }

@@ -28,7 +28,7 @@ pub fn read<'a>(alloc: Global, words: &'a [String]) -> Result<Option<CheckComman
     ensures { IfOk result (λ o. option_map check_asked o ≡
         option_and_then check_of (values_in 2 2 (drop 1 (texts words.entry.now)))) }
 {
-    match values_of(alloc, words, 2, 2)? {
+    match values_of(alloc, "check", words, 2, 2)? {
         Some(values) => Ok(command_in(values.as_slice())),
         None => Ok(None),
     }
@@ -77,7 +77,5 @@ fn verdict_of(alloc: Global, chosen: &Chosen) -> Result<Verdict, AllocError>
     ensures { IfOk result (λ v. VerdictWith chosen.now.«module»
         (section chosen.now.«module».text chosen.now.image.memory) [] v) }
 {
-    // Lemma call, no effect at run time: an empty list of certificates changes no verdict.
-    flow_rule::without_arms();
     flow_check::check(alloc, &chosen.module, text_of(chosen))
 }

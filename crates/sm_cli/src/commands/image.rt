@@ -30,7 +30,7 @@ pub fn read<'a>(alloc: Global, words: &'a [String]) -> Result<Option<ImageComman
         ≡ option_and_then image_of (values_in 3 3 (drop 1 (texts words.entry.now)))) }
     ensures bounds { IfOk result (λ o. IfSome o (λ c. c.cycles ≤ MAX_CYCLES)) }
 {
-    match values_of(alloc, words, 3, 3)? {
+    match values_of(alloc, "image", words, 3, 3)? {
         Some(values) => Ok(command_in(values.as_slice())),
         None => Ok(None),
     }

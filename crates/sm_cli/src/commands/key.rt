@@ -28,7 +28,7 @@ pub fn read<'a>(alloc: Global, words: &'a [String]) -> Result<Option<KeyCommand<
     ensures { IfOk result (λ o. option_map key_asked o ≡ option_and_then key_of
         (values_in 2 2 (drop 1 (texts words.entry.now)))) }
 {
-    match values_of(alloc, words, 2, 2)? {
+    match values_of(alloc, "key", words, 2, 2)? {
         Some(values) => Ok(command_in(values.as_slice())),
         None => Ok(None),
     }

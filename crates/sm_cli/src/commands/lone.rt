@@ -45,7 +45,7 @@ pub fn read<'a>(alloc: Global, words: &'a [String]) -> Result<Option<LoneCommand
         ≡ option_and_then lone_of (values_in 3 17 (drop 1 (texts words.entry.now)))) }
     ensures bounds { IfOk result (λ o. IfSome o (λ c. c.limit ≤ MAX_CYCLES)) }
 {
-    match values_of(alloc, words, 3, 17)? {
+    match values_of(alloc, "lone", words, 3, 17)? {
         Some(values) => command_in(alloc, values.as_slice()),
         None => Ok(None),
     }

@@ -41,12 +41,11 @@ pub struct MakeCommand {
 }
 
 /// The argument that the words after the first are.
-#[tactic(auto, using(crate::proofs::OneValue::one_seed))]
 pub fn read(alloc: Global, words: &[String]) -> Result<Option<MakeCommand>, AllocError>
     ensures { IfOk result (λ o. option_map make_asked o ≡ option_and_then make_of
         (values_in 1 1 (drop 1 (texts words.now)))) }
 {
-    match values_of(alloc, words, 1, 2)? {
+    match values_of(alloc, "make", words, 1, 1)? {
         Some(values) => Ok(command_in(values.as_slice())),
         None => Ok(None),
     }

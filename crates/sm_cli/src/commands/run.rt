@@ -33,7 +33,7 @@ pub fn read<'a>(alloc: Global, words: &'a [String]) -> Result<Option<RunCommand<
     ensures objects { IfOk result (λ o. IfSome o (λ c. length c.objects.items ≤ 64)) }
     ensures cycles { IfOk result (λ o. IfSome o (λ c. c.cycles ≤ MAX_CYCLES)) }
 {
-    match values_of(alloc, words, 4, 67)? {
+    match values_of(alloc, "run", words, 4, 67)? {
         Some(values) => command_in(alloc, values.as_slice()),
         None => Ok(None),
     }

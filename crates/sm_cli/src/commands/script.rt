@@ -39,7 +39,7 @@ pub fn read<'a>(
     ensures { IfOk result (λ o. option_map monitor_asked o
         ≡ option_and_then monitor_of (values_in 3 3 (drop 1 (texts words.entry.now)))) }
 {
-    match values_of(alloc, words, 3, 3)? {
+    match values_of(alloc, "monitor", words, 3, 3)? {
         Some(values) => Ok(command_in(values.as_slice())),
         None => Ok(None),
     }

@@ -38,7 +38,7 @@ pub fn read<'a>(alloc: Global, words: &'a [String]) -> Result<Option<VendorComma
     ensures { IfOk result (λ o. option_map vendor_asked o ≡ option_and_then vendor_of
         (values_in 5 5 (drop 1 (texts words.entry.now)))) }
 {
-    match values_of(alloc, words, 5, 5)? {
+    match values_of(alloc, "vendor", words, 5, 5)? {
         Some(values) => Ok(command_in(values.as_slice())),
         None => Ok(None),
     }

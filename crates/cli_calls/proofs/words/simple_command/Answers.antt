@@ -1,4 +1,4 @@
-use Rattle.std.proofs.Common.{rules, ◌≡◌, ℕ, max, Some, ap, ap₂, ◌∙◌, codes, true, arith}
+use Rattle.std.proofs.Common.{rules, ◌≡◌, ℕ, max, Some, ap, ap₂, ◌∙◌, true, arith}
 use Rattle.std.proofs.lemmas.Result.{IfOk-weaker}
 use Rattle.clap.specs.Walk.{rule_of}
 use Rattle.clap.specs.Simple.{Shape, app_of, app_of_fields, new_app, with_rule, on_top}
@@ -18,6 +18,6 @@ returns c =
     let num : c.num_args-values.result.num_vals ≡ Some (record { start_inclusive = least; end_inclusive = most }) =
     range.1 ∙ ap (λ (r : ValueRange). Some r) (range.2 ∙ ap₂ bounds from to) in
     let rule_is : rule_of c.num_args-values.result ≡ several least most = ap rule_of c.num_args-values.ensures.0 ∙ rw num (search rules) in
-    let start_is : app_of c.disable_help_flag.result ≡ on_top (λ s. record s { disable_help_flag = true }) (new_app (codes "sancus")) =
+    let start_is : app_of c.disable_help_flag.result ≡ on_top (λ s. record s { disable_help_flag = true }) (new_app c.args.name.now) =
     ap app_of_fields c.disable_help_flag.ensures ∙ ap (on_top (λ (s : Shape). record s { disable_help_flag = true })) c.new-3.ensures.app in
     IfOk-weaker c.arg.result _ _ (λ command added. added.shape (search rules) ∙ ap₂ with_rule start_is rule_is) c.arg.ensures

@@ -1,0 +1,125 @@
+-- Where a call begins.
+use Rattle.std.proofs.Common.{◌≡◌, inl, ℕ, zero, suc, ◌+◌, ◌%◌, ◌<◌, List, set, replicate, refl, sym, ap, ◌∙◌, subst, arith, true, false}
+use Rattle.std.proofs.lemmas.Bool.Decides.{nat_tests}
+use Rattle.sm_words.specs.Words.{reg, nth}
+use Rattle.mod_layout.specs.declared.Module.{Module}
+use Rattle.mod_layout.specs.declared.Section.{Section}
+use Rattle.mod_layout.specs.Table.{holds}
+use Rattle.mod_layout.specs.Tables.{IsSection}
+use Rattle.cpu_step.specs.Lone.{Entrance, starts, job_of, outcome, alike}
+use Rattle.sm_words.specs.Words.{IsCore}
+use Rattle.cpu_step.specs.Lone.{IsEntry}
+use Rattle.flow_rule.specs.declared.Val.TheVariants.{Away, Public, Secret}
+use Rattle.flow_rule.specs.Values.{val}
+use Rattle.flow_rule.specs.Stub.{word_number}
+use Rattle.flow_rule.specs.Verdict.{no_secret, begins}
+use Rattle.flow_rule.proofs.Meaning.{Agrees}
+use Rattle.flow_rule.proofs.Words.{Shape, IsData}
+use Rattle.flow_rule.proofs.Instruction.{AgreeAt}
+use Rattle.flow_rule.proofs.Stub.{StubFacts}
+use Rattle.flow_rule.proofs.Open.{AtStub}
+use Rattle.flow_rule.proofs.Begin.{Calm}
+
+pub shape_of : (m : Module) → IsSection m.text → IsSection m.ram → Shape m
+shape_of m text ram =
+    record { text_order = text.order; ram_order = ram.order; text_start = text.even_start; text_end = text.even_end; ram_start = ram.even_start; ram_end = ram.even_end; text_high = text.high }
+
+-- ---- where a call begins
+publics : (s : Section) (k n a : ℕ) → Agrees s (nth n (replicate k Public) Secret) a a
+publics s zero n a = tt
+publics s (suc k) zero a = refl
+publics s (suc k) (suc n) a = publics s k n a
+
+secrets : (s : Section) (k n a b : ℕ) → Agrees s (nth n (replicate k Secret) Secret) a b
+secrets s zero n a b = tt
+secrets s (suc k) zero a b = tt
+secrets s (suc k) (suc n) a b = secrets s k n a b
+
+starts_at : (s : Section) (c : List ℕ) (pc : ℕ) → reg c 0 ≡ pc → reg c 3 ≡ 0 → (n : ℕ) → Agrees s (val (no_secret pc) n) (reg c n) (reg c n)
+starts_at s c pc e z zero = (e, e)
+starts_at s c pc e z (suc zero) = refl
+starts_at s c pc e z (suc (suc zero)) = refl
+starts_at s c pc e z (suc (suc (suc zero))) = (z, z)
+starts_at s c pc e z (suc (suc (suc (suc n)))) = publics s 12 n (reg c (suc (suc (suc (suc n)))))
+
+pub begins_at : (m : Module) (c da db : List ℕ) (pc : ℕ) → IsCore c → reg c 0 ≡ pc → holds m.text pc ≡ true → IsData m da → IsData m db → AgreeAt m (begins pc (no_secret pc)) c da c db
+begins_at m c da db pc ok e t pa pb =
+    record {
+      pc_a = e;
+      pc_b = e;
+      core = record {
+        short = omega arith;
+        long_a = ok.sixteen;
+        long_b = ok.sixteen;
+        at = starts_at m.text c pc e ok.zero_three;
+        mode_same = refl;
+        nine_a = ok.nine_bits;
+        nine_b = ok.nine_bits;
+        even_pc = ok.even_pc;
+        zero_a = ok.zero_three;
+        zero_b = ok.zero_three;
+      };
+      words = record { is_a = pa; is_b = pb; at = λ i. secrets m.text 256 i _ _ };
+      in_text = t;
+    }
+
+pub start_in : (m : Module) → m.text.start < m.text.end → holds m.text m.text.start ≡ true
+start_in m lt = grind (arith, nat_tests)
+
+-- one call ends alike; what it leaves may be any data
+abbrev pub CallsAlike : List ℕ → Module → List ℕ → Type 1
+CallsAlike key m text = (n : ℕ) (R : List ℕ → List ℕ → Type 0) → ((da db : List ℕ) → IsData m da → IsData m db → R da db) →
+    (e : Entrance) → IsEntry m e → (da db : List ℕ) → IsData m da → IsData m db → alike R (outcome (job_of key m text e.caller) n (starts e da)) (outcome (job_of key m text e.caller) n (starts e db))
+
+pub away_start : (s : Section) (c : List ℕ) (pc : ℕ) → reg c 0 ≡ pc → reg c 3 ≡ 0 → reg c 7 < 65536 → holds s (reg c 7) ≡ false → (n : ℕ) → Agrees s (val (set (no_secret pc) 7 Away) n) (reg c n) (reg c n)
+away_start s c pc e z small out zero = (e, e)
+away_start s c pc e z small out (suc zero) = refl
+away_start s c pc e z small out (suc (suc zero)) = refl
+away_start s c pc e z small out (suc (suc (suc zero))) = (z, z)
+away_start s c pc e z small out (suc (suc (suc (suc zero)))) = refl
+away_start s c pc e z small out (suc (suc (suc (suc (suc zero))))) = refl
+away_start s c pc e z small out (suc (suc (suc (suc (suc (suc zero)))))) = refl
+away_start s c pc e z small out (suc (suc (suc (suc (suc (suc (suc zero))))))) = (refl, small, out)
+away_start s c pc e z small out (suc (suc (suc (suc (suc (suc (suc (suc n)))))))) = publics s 8 n (reg c (suc (suc (suc (suc (suc (suc (suc (suc n)))))))))
+
+-- where the start's own way through a stub ends
+pub stub_begins : (m : Module) (text : List ℕ) (n p : ℕ) → Shape m → StubFacts m text n p → (c da db : List ℕ) (six seven : ℕ) → seven < 65536 → holds m.text seven ≡ false → Calm c (m.text.start + 20) six seven → six < n → IsData m da → IsData m db →
+    AtStub m n (begins (m.text.start + 20) (set (no_secret (m.text.start + 20)) 7 Away)) c da c db
+stub_begins m text n p shape facts c da db six seven small out h few pa pb =
+    let pc = m.text.start + 20 in
+    let s0 = shape.text_start in
+    record {
+      agree = record {
+        pc_a = h.here;
+        pc_b = h.here;
+        core = record {
+          short = omega arith;
+          long_a = h.long;
+          long_b = h.long;
+          at = away_start m.text c pc h.here h.three (subst (λ i. i < 65536) (sym h.seven_is) small) (ap (λ i. holds m.text i) h.seven_is ∙ out);
+          mode_same = refl;
+          nine_a = h.nine;
+          nine_b = h.nine;
+          even_pc = ap (λ i. i % 2) h.here ∙ even_20;
+          zero_a = h.three;
+          zero_b = h.three;
+        };
+        words = record { is_a = pa; is_b = pb; at = λ i. secrets m.text 256 i _ _ };
+        in_text = inside;
+      };
+      open_ok = λ f. (inl at_10, subst (λ i. i < n) (sym h.six_is) few, refl);
+      entry_ok = λ f. absurd (not_17 f);
+      low_ok = λ f. inl (inl at_10);
+    }
+  where
+    even_20 : (m.text.start + 20) % 2 ≡ 0
+    even_20 = let s0 = shape.text_start in omega arith
+
+    at_10 : word_number m (m.text.start + 20) ≡ 10
+    at_10 = omega arith
+
+    not_17 : word_number m (m.text.start + 20) ≡ 17 → ⊥
+    not_17 f = omega arith
+
+    inside : holds m.text (m.text.start + 20) ≡ true
+    inside = let r = facts.room in let o = shape.text_order in let lt : m.text.start + 20 < m.text.end = omega arith in grind (arith, nat_tests)
