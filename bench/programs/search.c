@@ -39,7 +39,7 @@ static word find(const char *wanted, word size, word count)
 int main(void)
 {
     static const char *const words[] = {"it is", "daughters", "neighbourhood", "wife", "nowhere"};
-    static const word places[] = {0, 345, 204, 111, 0xffff};
+    static const word places[] = {0, 360, 203, 110, 0xffff};
     word wrong = 0, count = length(text);
     for (word n = 0; n < TIMES / 5; n++)
         for (byte k = 0; k < 5; k++)
