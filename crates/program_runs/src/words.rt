@@ -1,12 +1,14 @@
 //! Words that are a command, and words that are none.
 
-use crate::player::{assert_gave, call_with, play, played, words_of};
+use crate::player::{assert_gave, call_into, call_with, play, played, words_of};
 use crate::served::{COMMANDS, FILES, MAKE, served_of};
-use sm_cli::{Status, serve};
+use sm_cli::Status;
 use sm_io::{MemFiles, MemSink};
 use std::alloc::Global;
 use std::process::Abort;
 use std::test::Fail;
+
+const USAGE: &str = "sancus: usage\n";
 
 // Words, and what is told of them.
 const NO_COMMANDS: &str = "\
@@ -289,17 +291,26 @@ fn options(rt: HostRuntime) -> Result<(), Fail> {
     assert_no_options(&rt, rt.alloc(), &mut files, served_of(MAKE)?.words)
 }
 
-// No word at all is no command, and a line that fills a sink whole is told.
+// No word at all is no command. A line of 14 bytes that fills a sink whole is told; where a byte has no room, the call
+// ends so.
 #[test]
 fn no_words(rt: HostRuntime) -> Result<(), Fail> {
     let alloc = rt.alloc();
     let mut files = MemFiles::new(alloc);
-    let mut out = MemSink::new(alloc, 0)?;
-    let mut err = MemSink::new(alloc, "sancus: usage\n".len())?;
-    let first = serve(alloc, &[], &mut files, &mut out, &mut err);
-    assert_eq!(rt; first, Status::Usage);
-    assert_eq!(rt; err.taken(), b"sancus: usage\n".as_slice());
-    let second = serve(alloc, &[], &mut files, &mut out, &mut err);
-    assert_eq!(rt; second, Status::WriteFault);
+    let out = MemSink::new(alloc, 0)?;
+    let err = MemSink::new(alloc, USAGE.len())?;
+    let given = call_into(alloc, &[], &mut files, out, err);
+    assert_gave(
+        &rt,
+        &given,
+        Status::Usage.number(),
+        b"",
+        USAGE.as_bytes(),
+        "no words",
+    );
+    let out = MemSink::new(alloc, 0)?;
+    let full = MemSink::new(alloc, 13)?;
+    let given = call_into(alloc, &[], &mut files, out, full);
+    assert_eq!(rt; given.status, Status::WriteFault.number());
     Ok(())
 }
