@@ -58,47 +58,7 @@ module 0007 0300 0304 0400 0440
 at 0200 31400006d24340003740140232d23040
 at 0210 00030343ff3f00000000000000000000
 at 0300 80130047000000000000000000000000
-at ffe0 00000005000000000000000000000000
-at fff0 00000000000000000000000000000002
-end
-";
-
-// Sets SP and the timer's limit 999, starts the timer with its interrupt in cycle 7, and sleeps with GIE set. The
-// handler at 0x0500 is RETI.
-const RINGER: &str = "\
-sancus-image 1
-key 00000000000000000000000000000000
-handler 0600
-at 0200 31400006b240e7036401b24003006001
-at 0210 32d01800ff3f00000000000000000000
-at 0500 00130000000000000000000000000000
-at fff0 00050000000000000000000000000002
-end
-";
-
-// Sets SP, enables line 0, sets the timer's limit 999, starts the timer without its interrupt in cycle 11, and sleeps
-// with GIE set. The handler at 0x0500 reads the timer's count into R4 and its control into R5, and is left by RETI.
-const READER: &str = "\
-sancus-image 1
-key 00000000000000000000000000000000
-handler 0600
-at 0200 31400006d2434000b240e70364019243
-at 0210 600132d01800ff3f0000000000000000
-at 0500 14426201554260010013000000000000
-at ffe0 00000005000000000000000000000000
-at fff0 00000000000000000000000000000002
-end
-";
-
-// Sets SP, enables line 0 and sets GIE, and then moves a word from memory to memory in cycles 7 to 12; at 0x0210 it
-// loops. The handler at 0x0500 is RETI.
-const MOVER: &str = "\
-sancus-image 1
-key 00000000000000000000000000000000
-handler 0600
-at 0200 31400006d243400032d2924220022202
-at 0210 ff3f0000000000000000000000000000
-at 0500 00130000000000000000000000000000
+at 0400 34120000000000000000000000000000
 at ffe0 00000005000000000000000000000000
 at fff0 00000000000000000000000000000002
 end
@@ -112,12 +72,6 @@ handler 0000
 end
 ";
 
-const NO_PULSE: &str = "\
-12 enter 1 from 0
-16 leave 1 pc 0214
-end 40 outside 0214 0600 0008 0000 0000 0000 0000 0214 0000 0000 0000 0000 0000 0000 0000 0000
-";
-
 const PULSE_AT_13: &str = "\
 12 enter 1 from 0
 13 hide 1 vector 1
@@ -127,80 +81,11 @@ const PULSE_AT_13: &str = "\
 end 40 outside 0214 0600 0008 0000 0000 0000 0000 0214 0000 0000 0000 0000 0000 0000 0000 0000
 ";
 
-const PULSE_AT_15: &str = "\
-12 enter 1 from 0
-15 hide 1 vector 1
-27 handler pc 0500
-32 resume 1
-33 leave 1 pc 0214
-end 40 outside 0214 0600 0008 0000 0000 0000 0000 0214 0000 0000 0000 0000 0000 0000 0000 0000
-";
-
-const PULSE_AT_16: &str = "\
-12 enter 1 from 0
-16 leave 1 pc 0214
-16 irq 1
-22 reti
-end 40 outside 0214 0600 0008 0000 0000 0000 0000 0214 0000 0000 0000 0000 0000 0000 0000 0000
-";
-
-const PULSE_AT_12: &str = "\
-12 irq 1
-18 reti
-23 enter 1 from 0
-27 leave 1 pc 0214
-end 40 outside 0214 0600 0008 0000 0000 0000 0000 0214 0000 0000 0000 0000 0000 0000 0000 0000
-";
-
-const PULSE_IN_SLEEP: &str = "\
-500000000 irq 1
-500000006 reti
-end 1000000000 outside 020c 0600 0018 0000 0000 0000 0000 0000 0000 0000 0000 0000 0000 0000 0000 0000
-";
-
 // It sleeps from cycle 8 on, and again once the 6 cycles of the arrival and the 5 of RETI have passed.
 const PULSE_IN_SHORT_SLEEP: &str = "\
 20 irq 1
 26 reti
 end 40 outside 020c 0600 0018 0000 0000 0000 0000 0000 0000 0000 0000 0000 0000 0000 0000 0000
-";
-
-const NEVER_WOKEN: &str = "\
-end 1000000 outside 0204 0000 0010 0000 0000 0000 0000 0000 0000 0000 0000 0000 0000 0000 0000 0000
-";
-
-// The count is first 1 in cycle 8, so 999 in cycle 1006: it becomes 0 in the next cycle, and each 1,000 cycles from
-// there.
-const RINGS_IN_SLEEP: &str = "\
-1007 irq 8
-1013 reti
-2007 irq 8
-2013 reti
-end 2500 outside 0214 0600 0018 0000 0000 0000 0000 0000 0000 0000 0000 0000 0000 0000 0000 0000
-";
-
-// The count is read in cycle 10006, 9,995 cycles after the timer was started: 995, or 0x03e3, after nine rounds. It
-// runs (1), and its flag is set (4).
-const LIMIT_PASSED_IN_SLEEP: &str = "\
-10000 irq 1
-10012 reti
-end 11000 outside 0216 0600 0018 0000 03e3 0005 0000 0000 0000 0000 0000 0000 0000 0000 0000 0000
-";
-
-const BEFORE_THE_MOVE: &str = "\
-7 irq 1
-13 reti
-end 40 outside 0210 0600 0008 0000 0000 0000 0000 0000 0000 0000 0000 0000 0000 0000 0000 0000
-";
-
-const NOT_SEEN: &str = "\
-end 40 outside 0210 0600 0008 0000 0000 0000 0000 0000 0000 0000 0000 0000 0000 0000 0000 0000
-";
-
-const AFTER_THE_MOVE: &str = "\
-13 irq 1
-19 reti
-end 40 outside 0210 0600 0008 0000 0000 0000 0000 0000 0000 0000 0000 0000 0000 0000 0000 0000
 ";
 
 /// What is done to a board.
@@ -255,25 +140,6 @@ fn last_at_the_mark() -> &'static [Answered] {
     ]
 }
 
-// An instruction of 6 cycles outside, begun in cycle 7, and a level in each of its cycles: before the first it is
-// interrupted; in the others a pulse is missed, and a level that lasts is seen at its end.
-fn pulses_in_a_move() -> &'static [(&'static str, &'static str)] {
-    &[
-        ("7 line 0 up\n8 line 0 down\n", BEFORE_THE_MOVE),
-        ("8 line 0 up\n9 line 0 down\n", NOT_SEEN),
-        ("9 line 0 up\n10 line 0 down\n", NOT_SEEN),
-        ("10 line 0 up\n11 line 0 down\n", NOT_SEEN),
-        ("11 line 0 up\n12 line 0 down\n", NOT_SEEN),
-        ("12 line 0 up\n13 line 0 down\n", NOT_SEEN),
-        ("8 line 0 up\n14 line 0 down\n", AFTER_THE_MOVE),
-        ("9 line 0 up\n14 line 0 down\n", AFTER_THE_MOVE),
-        ("10 line 0 up\n14 line 0 down\n", AFTER_THE_MOVE),
-        ("11 line 0 up\n14 line 0 down\n", AFTER_THE_MOVE),
-        ("12 line 0 up\n14 line 0 down\n", AFTER_THE_MOVE),
-        ("13 line 0 up\n14 line 0 down\n", AFTER_THE_MOVE),
-    ]
-}
-
 // In a sleep it stands before each cycle, and so before the last one.
 fn last_of_a_sleep() -> &'static [Answered] {
     &[
@@ -292,15 +158,6 @@ fn board_of(alloc: Global, image: &str, schedule: &str) -> Result<Board, Fail>
     let image = image_text::read(alloc, image.as_bytes())?;
     let schedule = read_schedule(alloc, schedule.as_bytes())?;
     Ok(Board::with_marks(alloc, &image, &schedule, 2)?)
-}
-
-// The lines of so many cycles and the end line.
-fn told(alloc: Global, image: &str, schedule: &str, cycles: u32) -> Result<MemSink, Fail> {
-    let mut board = board_of(alloc, image, schedule)?;
-    let mut sink = MemSink::new(alloc, 256)?;
-    let _ = board.run(u64::from(cycles), &mut sink);
-    let _ = board.finish(&mut sink);
-    Ok(sink)
 }
 
 // Runs to cycle 40 by way of a mark, other cycles, and the way back.
@@ -355,45 +212,6 @@ fn first_other(
         }
     }
     Ok(None)
-}
-
-#[test]
-fn runs(rt: HostRuntime) -> Result<(), Fail> {
-    let cases = [
-        (IMAGE, "", 40, NO_PULSE),
-        (IMAGE, "13 line 0 up\n14 line 0 down\n", 40, PULSE_AT_13),
-        (IMAGE, "15 line 0 up\n16 line 0 down\n", 40, PULSE_AT_15),
-        (IMAGE, "16 line 0 up\n17 line 0 down\n", 40, PULSE_AT_16),
-        (IMAGE, "12 line 0 up\n13 line 0 down\n", 40, PULSE_AT_12),
-        (
-            SLEEPER,
-            "500000000 line 0 up\n500000001 line 0 down\n",
-            1_000_000_000,
-            PULSE_IN_SLEEP,
-        ),
-        (UNWOKEN, "", 1_000_000, NEVER_WOKEN),
-        (RINGER, "", 2500, RINGS_IN_SLEEP),
-        (
-            READER,
-            "10000 line 0 up\n10001 line 0 down\n",
-            11_000,
-            LIMIT_PASSED_IN_SLEEP,
-        ),
-    ];
-    for (image, schedule, cycles, text) in cases {
-        let sink = told(rt.alloc(), image, schedule, cycles)?;
-        assert_eq!(rt; sink.taken(), text.as_bytes(), "{schedule}");
-    }
-    Ok(())
-}
-
-#[test]
-fn is_interrupted_between_instructions(rt: HostRuntime) -> Result<(), Fail> {
-    for (schedule, text) in pulses_in_a_move() {
-        let sink = told(rt.alloc(), MOVER, schedule, 40)?;
-        assert_eq!(rt; sink.taken(), text.as_bytes(), "{schedule}");
-    }
-    Ok(())
 }
 
 // From a mark on the board does what it did, and tells it again.
@@ -529,6 +347,21 @@ fn views(rt: HostRuntime) -> Result<(), Fail> {
             (seen.table().room(), seen.bus().sent(), seen.stop()),
             (8, None, None)
         );
+    }
+    Ok(())
+}
+
+// Once a module has given itself up, its data are 0 and anyone may look at them.
+#[test]
+fn closed_data_are_cleared(rt: HostRuntime) -> Result<(), Fail> {
+    let mut board = board_of(rt.alloc(), CLOSER, "")?;
+    let mut sink = MemSink::new(rt.alloc(), 256)?;
+    assert_eq!(rt; board.run(50, &mut sink), Ran::Done);
+    assert_eq!(rt; board.view(Hidden::Only(2)).byte(0x0400), Some(0x34));
+    assert!(rt; number(&board) <= 50);
+    assert_eq!(rt; board.run(1, &mut sink), Ran::Done);
+    for addr in 0x0400..0x0440u16 {
+        assert_eq!(rt; board.view(Hidden::All).byte(addr), Some(0), "at {addr}");
     }
     Ok(())
 }

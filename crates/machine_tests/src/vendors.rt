@@ -1,11 +1,11 @@
-//! Challenges at their bounds, the schedule of one, traces of every form and of none, and the three judgements.
+//! Challenges at their bounds, the schedule of one, traces of every form, and the three judgements.
 use arrayvec::ArrayString;
 use schedule_file::{Entry, What, read_schedule};
 use sm_io::{Failed, MemSink};
 use std::test::Fail;
 use texts::{push_decimal, push_hex_byte};
 use vendor_tool::{
-    Challenge, ChallengeFault, TraceFault, read_challenges, read_replies, report, schedule_text,
+    Challenge, ChallengeFault, read_challenges, read_replies, report, schedule_text,
 };
 
 const NONCE: [u8; 16] = [0, 1, 2, 3, 4, 5, 6, 7, 8, 9, 10, 11, 12, 13, 14, 15];
@@ -59,47 +59,6 @@ fn challenges_are_read(rt: HostRuntime) -> Result<(), Fail> {
         assert_eq!(rt; challenges.list.as_slice(), wanted);
     }
     Ok(())
-}
-
-// Texts that hold no challenges, and why.
-fn wrong_challenges() -> &'static [(&'static [u8], ChallengeFault)] {
-    &[
-        (
-            b"100 000102030405060708090a0b0c0d0e0f\n1699 000102030405060708090a0b0c0d0e0f\n",
-            ChallengeFault::NotRising { n: 2 },
-        ),
-        (
-            b"100000000000000000 000102030405060708090a0b0c0d0e0f\n",
-            ChallengeFault::Line { n: 1 },
-        ),
-        (
-            b"0100 000102030405060708090a0b0c0d0e0f\n",
-            ChallengeFault::Line { n: 1 },
-        ),
-        (
-            b"100 000102030405060708090A0b0c0d0e0f\n",
-            ChallengeFault::Line { n: 1 },
-        ),
-        (
-            b"100 000102030405060708090a0b0c0d0e\n",
-            ChallengeFault::Line { n: 1 },
-        ),
-        (b"100", ChallengeFault::Line { n: 1 }),
-        (
-            b"100 000102030405060708090a0b0c0d0e0f\n\n",
-            ChallengeFault::Line { n: 2 },
-        ),
-    ]
-}
-
-#[test]
-fn other_texts_are_refused(rt: HostRuntime) {
-    for (text, fault) in wrong_challenges() {
-        match read_challenges(rt.alloc(), text) {
-            Ok(_) => panic!(rt; "no refusal"),
-            Err(refusal) => assert_eq!(rt; refusal, *fault),
-        }
-    }
 }
 
 #[test]
@@ -162,39 +121,6 @@ fn replies_are_read(rt: HostRuntime) -> Result<(), Fail> {
         assert_eq!(rt; replies.as_slice(), wanted);
     }
     Ok(())
-}
-
-// Texts that are no trace, and why.
-fn wrong_traces() -> &'static [(&'static [u8], TraceFault)] {
-    &[
-        (b"", TraceFault::NoEnd),
-        (b"0 out 4a\n", TraceFault::NoEnd),
-        (b"end 0 stopped", TraceFault::Line { n: 1 }),
-        (b"end 0 stopped\n0 out 4a\n", TraceFault::Line { n: 2 }),
-        (b"end 0 stopped\n0", TraceFault::Line { n: 2 }),
-        (b"0 out 4a\n0 out 4A\n", TraceFault::Line { n: 2 }),
-        (b"0 out 4a \nend 0 stopped\n", TraceFault::Line { n: 1 }),
-        (b"0  out 4a\nend 0 stopped\n", TraceFault::Line { n: 1 }),
-        (b"00 out 4a\nend 0 stopped\n", TraceFault::Line { n: 1 }),
-        (b"0 out 4\nend 0 stopped\n", TraceFault::Line { n: 1 }),
-        (
-            b"0 stop Fetch pc 0302 addr 0302 module 1\nend 0 stopped\n",
-            TraceFault::Line { n: 1 },
-        ),
-        (b"\nend 0 stopped\n", TraceFault::Line { n: 1 }),
-        (b"end 0 outside 0208\n", TraceFault::Line { n: 1 }),
-        (b"0 stopped\n", TraceFault::Line { n: 1 }),
-    ]
-}
-
-#[test]
-fn other_traces_are_refused(rt: HostRuntime) {
-    for (trace, fault) in wrong_traces() {
-        match read_replies(rt.alloc(), trace) {
-            Ok(_) => panic!(rt; "no refusal"),
-            Err(refusal) => assert_eq!(rt; refusal, *fault),
-        }
-    }
 }
 
 #[test]

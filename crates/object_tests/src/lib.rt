@@ -4,8 +4,6 @@
 #[cfg(test)]
 mod elf_files;
 #[cfg(test)]
-mod linking;
-#[cfg(test)]
 mod relocations;
 #[cfg(test)]
 mod stubs;

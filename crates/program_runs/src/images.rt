@@ -1,201 +1,159 @@
-//! Small images of one shape, by their words.
+//! Small images of one shape, by their texts, and certificates.
 
-use std::alloc::Global;
-use std::test::Fail;
+/// The images that runs and command lines name, and a file of no bytes.
+pub const IMAGES: &str = "\
+file empty.img
+sancus-image 1
+key 00000000000000000000000000000000
+handler 0000
+end
 
-/// An image of code, modules and a handler. All that is not named is 0.
-#[derive(Clone, Copy)]
-pub struct Picture {
-    /// 1, or 2 with room for more modules.
-    pub version: u16,
-    pub handler_sp: u16,
-    /// Where the text and the data of each module start and end.
-    pub modules: &'static [[u16; 4]],
-    /// The words from 0x0200 on.
-    pub main: &'static [u16],
-    /// The words from 0x0300 on, where the first module's text starts.
-    pub first: &'static [u16],
-    /// The word at 0x0400, where the first module's data start.
-    pub data: u16,
-    /// The words from 0x0500 on.
-    pub handler: &'static [u16],
-    /// The words from 0x0700 on, where the second module's text starts.
-    pub second: &'static [u16],
-    /// The word of vector 1.
-    pub vector: u16,
-    /// The word of the reset vector.
-    pub reset: u16,
-}
+file constant.img
+sancus-image 1
+key 00000000000000000000000000000000
+handler 0000
+at 0200 354034120343ff3f0000000000000000
+at fff0 00000000000000000000000000000002
+end
 
-/// Zeros alone.
-pub const EMPTY: Picture = Picture {
-    version: 1,
-    handler_sp: 0,
-    modules: &[],
-    main: &[],
-    first: &[],
-    data: 0,
-    handler: &[],
-    second: &[],
-    vector: 0,
-    reset: 0,
-};
+file back.img
+sancus-image 1
+key 00000000000000000000000000000000
+handler 0000
+module 0007 0300 0302 0400 0402
+at 0200 3740080230400003ff3f000000000000
+at 0300 00470000000000000000000000000000
+at fff0 00000000000000000000000000000002
+end
 
-/// Loads a constant, and loops.
-pub const CONSTANT: Picture = Picture {
-    main: &[0x4035, 0x1234, 0x4303, 0x3fff],
-    reset: 0x0200,
-    ..EMPTY
-};
+file called.img
+sancus-image 1
+key 00000000000000000000000000000000
+handler 0600
+module 0007 0300 0306 0400 0402
+at 0200 31400006d24340003740140232d23040
+at 0210 00030343ff3f00000000000000000000
+at 0300 03430343004700000000000000000000
+at 0500 00130000000000000000000000000000
+at ffe0 00000005000000000000000000000000
+at fff0 00000000000000000000000000000002
+end
 
-/// Calls a module that goes straight back to 0x0208, and loops there.
-pub const BACK: Picture = Picture {
-    modules: &[[0x0300, 0x0302, 0x0400, 0x0402]],
-    main: &[0x4037, 0x0208, 0x4030, 0x0300, 0x3fff],
-    first: &[0x4700],
-    reset: 0x0200,
-    ..EMPTY
-};
+file balanced.img
+sancus-image 1
+key 00000000000000000000000000000000
+handler 0600
+module 0007 0300 0322 0400 0402
+at 0200 31400006d24340003740140232d23040
+at 0210 00030343ff3f00000000000000000000
+at 0300 829300040424154200040343053c0343
+at 0310 034303430343003c054332c007013040
+at 0320 14020000000000000000000000000000
+at 0500 00130000000000000000000000000000
+at ffe0 00000005000000000000000000000000
+at fff0 00000000000000000000000000000002
+end
 
-/// Sets SP, enables line 0, sets R7 and GIE, and calls a module of four cycles, which goes back to 0x0214. The
-/// handler of line 0 is RETI.
-pub const CALLED: Picture = Picture {
-    handler_sp: 0x0600,
-    modules: &[[0x0300, 0x0306, 0x0400, 0x0402]],
-    main: &[
-        0x4031, 0x0600, 0x43d2, 0x0040, 0x4037, 0x0214, 0xd232, 0x4030, 0x0300, 0x4303, 0x3fff,
-    ],
-    first: &[0x4303, 0x4303, 0x4700],
-    handler: &[0x1300],
-    vector: 0x0500,
-    reset: 0x0200,
-    ..EMPTY
-};
+file unbalanced.img
+sancus-image 1
+key 00000000000000000000000000000000
+handler 0600
+module 0007 0300 0322 0400 0402
+at 0200 31400006d24340003740140232d23040
+at 0210 00030343ff3f00000000000000000000
+at 0300 829300040424034303430343053c0343
+at 0310 034303430343003c054332c007013040
+at 0320 14020000000000000000000000000000
+at 0500 00130000000000000000000000000000
+at ffe0 00000005000000000000000000000000
+at fff0 00000000000000000000000000000002
+end
 
-/// The same with a module that takes one of two arms by a bit of its data, in equal cycles.
-pub const BALANCED: Picture = Picture {
-    modules: &[[0x0300, 0x0322, 0x0400, 0x0402]],
-    first: &[
-        0x9382, 0x0400, 0x2404, 0x4215, 0x0400, 0x4303, 0x3c05, 0x4303, 0x4303, 0x4303, 0x4303,
-        0x3c00, 0x4305, 0xc032, 0x0107, 0x4030, 0x0214,
-    ],
-    ..CALLED
-};
+file blind.img
+sancus-image 1
+key 00000000000000000000000000000000
+handler 0600
+module 0007 0300 0306 0400 0402
+at 0200 31400006d24340003740140232d23040
+at 0210 00030343ff3f00000000000000000000
+at 0300 05433040140200000000000000000000
+at 0500 00130000000000000000000000000000
+at ffe0 00000005000000000000000000000000
+at fff0 00000000000000000000000000000002
+end
 
-/// The same but that one arm is a cycle shorter.
-pub const UNBALANCED: Picture = Picture {
-    first: &[
-        0x9382, 0x0400, 0x2404, 0x4303, 0x4303, 0x4303, 0x3c05, 0x4303, 0x4303, 0x4303, 0x4303,
-        0x3c00, 0x4305, 0xc032, 0x0107, 0x4030, 0x0214,
-    ],
-    ..BALANCED
-};
+file asking.img
+sancus-image 1
+key 00000000000000000000000000000000
+handler 0600
+module 0007 0300 0306 0400 0402
+at 0200 31400006d24340003740140232d23040
+at 0210 00030343ff3f00000000000000000000
+at 0300 03438413004700000000000000000000
+at 0500 00130000000000000000000000000000
+at ffe0 00000005000000000000000000000000
+at fff0 00000000000000000000000000000002
+end
 
-/// The same with a module that clears R5 and goes back, and never looks at its data.
-pub const BLIND: Picture = Picture {
-    first: &[0x4305, 0x4030, 0x0214],
-    ..CALLED
-};
+file caller.img
+sancus-image 1
+key 00000000000000000000000000000000
+handler 0600
+module 0007 0300 0304 0400 0402
+at 0200 31400006d24340003740140232d23040
+at 0210 00030343ff3f00000000000000000000
+at 0300 86130047000000000000000000000000
+at 0500 00130000000000000000000000000000
+at ffe0 00000005000000000000000000000000
+at fff0 00000000000000000000000000000002
+end
 
-/// The same with a module that asks for the id of an address.
-pub const ASKING: Picture = Picture {
-    first: &[0x4303, 0x1384, 0x4700],
-    ..CALLED
-};
+file ninth.img
+sancus-image 1
+key 00000000000000000000000000000000
+handler 0000
+module 0007 0300 0302 0308 030a
+module 0007 0310 0312 0318 031a
+module 0007 0320 0322 0328 032a
+module 0007 0330 0332 0338 033a
+module 0007 0340 0342 0348 034a
+module 0007 0350 0352 0358 035a
+module 0007 0360 0362 0368 036a
+module 0007 0370 0372 0378 037a
+at 0200 3c40000a3d40020a3e40100a3f40120a
+at 0210 8113ff3f000000000000000000000000
+at fff0 00000000000000000000000000000002
+end
 
-/// The same with a module that asks for its caller's id.
-pub const CALLER: Picture = Picture {
-    modules: &[[0x0300, 0x0304, 0x0400, 0x0402]],
-    first: &[0x1386, 0x4700],
-    ..CALLED
-};
+file closing.img
+sancus-image 1
+key 00000000000000000000000000000000
+handler 0600
+module 0007 0300 0304 0400 0440
+at 0200 31400006d24340003740140232d23040
+at 0210 00030343ff3f00000000000000000000
+at 0300 80130047000000000000000000000000
+at 0500 00130000000000000000000000000000
+at ffe0 00000005000000000000000000000000
+at fff0 00000000000000000000000000000002
+end
 
-/// Protects 0x0a00 to 0x0a02 with data from 0x0a10 to 0x0a12, while there are eight modules.
-pub const NINTH: Picture = Picture {
-    modules: &[
-        [0x0300, 0x0302, 0x0308, 0x030a],
-        [0x0310, 0x0312, 0x0318, 0x031a],
-        [0x0320, 0x0322, 0x0328, 0x032a],
-        [0x0330, 0x0332, 0x0338, 0x033a],
-        [0x0340, 0x0342, 0x0348, 0x034a],
-        [0x0350, 0x0352, 0x0358, 0x035a],
-        [0x0360, 0x0362, 0x0368, 0x036a],
-        [0x0370, 0x0372, 0x0378, 0x037a],
-    ],
-    main: &[
-        0x403c, 0x0a00, 0x403d, 0x0a02, 0x403e, 0x0a10, 0x403f, 0x0a12, 0x1381, 0x3fff,
-    ],
-    reset: 0x0200,
-    ..EMPTY
-};
+file empty
+";
 
-/// The same with a module that gives itself up.
-pub const CLOSING: Picture = Picture {
-    modules: &[[0x0300, 0x0304, 0x0400, 0x0440]],
-    first: &[0x1380, 0x4700],
-    ..CALLED
-};
+/// Certificates of their branches.
+pub const ARMS: &str = "\
+file at_6.txt
+0304 0318 6
 
-impl Picture {
-    /// The image's text.
-    pub fn text(&self, alloc: Global) -> Result<String, Fail> {
-        let mut text = String::new(alloc);
-        write!(
-            text,
-            "sancus-image {}\nkey 00000000000000000000000000000000\nhandler {:04x}\n",
-            self.version, self.handler_sp
-        )?;
-        if self.version == 2 {
-            write!(text, "modules {}\n", self.modules.len())?;
-        }
-        self.put_modules(&mut text)?;
-        for row in 0x0020..0x1000u16 {
-            self.put_row(16 * row, &mut text)?;
-        }
-        text.push_str("end\n")?;
-        Ok(text)
-    }
+file at_7.txt
+0304 0318 7
 
-    fn put_modules(&self, text: &mut String) -> Result<(), Fail> {
-        for [text_start, text_end, data_start, data_end] in self.modules {
-            write!(
-                text,
-                "module 0007 {text_start:04x} {text_end:04x} {data_start:04x} {data_end:04x}\n"
-            )?;
-        }
-        Ok(())
-    }
+file later.txt
+0304 031a 7
 
-    // A row of 16 bytes, unless all are 0.
-    fn put_row(&self, addr: u16, text: &mut String) -> Result<(), Fail> {
-        let words = [0, 2, 4, 6, 8, 10, 12, 14].map(|at| self.word(addr.wrapping_add(at)));
-        if words == [0; 8] {
-            return Ok(());
-        }
-        write!(text, "at {addr:04x} ")?;
-        for word in words {
-            let [low, high] = word.to_le_bytes();
-            write!(text, "{low:02x}{high:02x}")?;
-        }
-        text.push_str("\n")?;
-        Ok(())
-    }
+file none.txt
 
-    fn word(&self, addr: u16) -> u16 {
-        match addr {
-            0x0200..=0x02ff => nth(self.main, addr - 0x0200),
-            0x0300..=0x03ff => nth(self.first, addr - 0x0300),
-            0x0400 => self.data,
-            0x0500..=0x05ff => nth(self.handler, addr - 0x0500),
-            0x0700..=0x07ff => nth(self.second, addr - 0x0700),
-            0xffe2 => self.vector,
-            0xfffe => self.reset,
-            _ => 0,
-        }
-    }
-}
-
-// The word at an even offset, and 0 past the last.
-fn nth(words: &[u16], offset: u16) -> u16 {
-    words.get(usize::from(offset / 2)).copied().unwrap_or(0)
-}
+file short.txt
+304 0318 6
+";

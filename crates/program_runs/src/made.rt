@@ -1,6 +1,6 @@
 //! Workloads, by calls of `serve`.
 
-use crate::calls::call;
+use crate::player::{call, play};
 use sm_cli::Status;
 use sm_io::MemFiles;
 use std::alloc::Global;
@@ -56,7 +56,7 @@ fn assert_alike(rt: &impl Abort, alloc: Global, seed: &str) -> Result<(), Fail> 
     let given = call(alloc, line.as_str(), &mut MemFiles::new(alloc))?;
     let again = call(alloc, line.as_str(), &mut MemFiles::new(alloc))?;
     let lines = lines_of(alloc, given.out.taken())?;
-    assert_eq!(rt; given.status, Status::Done);
+    assert_eq!(rt; given.status, Status::Done.number());
     assert_eq!(rt; given.out.taken(), again.out.taken());
     assert!(rt; given.out.taken().starts_with(head.as_bytes()));
     assert_eq!(rt; lines.len(), 5);
@@ -93,26 +93,25 @@ fn tells_of_the_trace(rt: HostRuntime) -> Result<(), Fail> {
     let end = trace.last().map_or("", |line| line.as_str());
     let told = format!(in alloc; "seed 1\nlines {count}\n{end}\nlines {count}\n{end}\n")?;
     let made = call(alloc, "make 1", &mut MemFiles::new(alloc))?;
-    assert_eq!(rt; image.status, Status::Done);
+    assert_eq!(rt; image.status, Status::Done.number());
     assert_eq!(rt; made.out.taken(), told.as_bytes());
     Ok(())
 }
 
+// Words that hold no seed.
+const NO_SEEDS: &str = "\
+rows words 2
+sancus: usage
+make
+make 4294967296
+make 01
+make +1
+make -1
+make 0 1
+make ''
+";
+
 #[test]
 fn takes_one_seed(rt: HostRuntime) -> Result<(), Fail> {
-    for line in [
-        "make",
-        "make 4294967296",
-        "make 01",
-        "make +1",
-        "make -1",
-        "make 0 1",
-        "make ",
-    ] {
-        let given = call(rt.alloc(), line, &mut MemFiles::new(rt.alloc()))?;
-        assert_eq!(rt; given.status, Status::Usage, "{line}");
-        assert_eq!(rt; given.out.taken(), b"".as_slice(), "{line}");
-        assert_eq!(rt; given.err.taken(), b"sancus: usage\n".as_slice(), "{line}");
-    }
-    Ok(())
+    play(&rt, rt.alloc(), &[NO_SEEDS])
 }
