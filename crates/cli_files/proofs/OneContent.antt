@@ -30,8 +30,8 @@ use Rattle.elf_objects.specs.Object.{ObjectValue, elf_fault_of}
 use Rattle.elf_objects.specs.Relocation.{relocations_of}
 use Rattle.elf_objects.specs.Symbol.{symbols_of}
 use Rattle.written_machine.specs.declared.ScriptLine.{ScriptLine}
-use Rattle.monitor.specs.declared.ScriptFault.{ScriptFault}
-use Rattle.monitor.specs.Reading.{script_of}
+use Rattle.script_file.specs.declared.ScriptFault.{ScriptFault}
+use Rattle.script_file.specs.Reading.{script_of}
 use Rattle.cli_files.specs.declared.answers.FileFault.{FileFault}
 use Rattle.cli_files.specs.declared.answers.FileFault.TheVariants as fault
 use Rattle.cli_files.specs.Files.{Kind, image_file, image_with, schedule_file, challenges_file, trace_file, arms_file, layout_file, object_file, script_file, Held, an_image, a_schedule, the_challenges, the_replies, certificates, a_layout, an_object, a_script, IsTextOf, IsHeld, HasNoModule, IsRefused, most_bytes, HasFault, source_file, a_unit}

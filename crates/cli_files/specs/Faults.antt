@@ -13,8 +13,8 @@ use Rattle.vendor_tool.specs.declared.TraceFault.{TraceFault}
 use Rattle.vendor_tool.specs.declared.TraceFault.TheVariants as trace_fault
 use Rattle.arm_balance.specs.declared.ArmsFault.{ArmsFault}
 use Rattle.arm_balance.specs.declared.ArmsFault.TheVariants as arms_fault
-use Rattle.monitor.specs.declared.ScriptFault.{ScriptFault}
-use Rattle.monitor.specs.declared.ScriptFault.TheVariants as script_fault
+use Rattle.script_file.specs.declared.ScriptFault.{ScriptFault}
+use Rattle.script_file.specs.declared.ScriptFault.TheVariants as script_fault
 use Rattle.elf_objects.specs.declared.fault.ElfFault.{ElfFault}
 use Rattle.elf_objects.specs.declared.fault.ElfFault.TheVariants as elf_fault
 use Rattle.asm_text.specs.declared.unit.AsmFault.{AsmFault}

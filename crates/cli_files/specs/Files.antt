@@ -16,7 +16,7 @@ use Rattle.layout_file.specs.Layout.{LayoutOf}
 use Rattle.layout_file.specs.Values.{LayoutValue}
 use Rattle.elf_objects.specs.Object.{ObjectValue, IsObject, elf_fault_of}
 use Rattle.written_machine.specs.declared.ScriptLine.{ScriptLine}
-use Rattle.monitor.specs.Reading.{script_of}
+use Rattle.script_file.specs.Reading.{script_of}
 use Rattle.asm_text.specs.Assembly.{assembled}
 use Rattle.asm_text.specs.Parts.{UnitValue}
 use Rattle.cli_files.specs.declared.answers.FileFault.{FileFault}

@@ -11,8 +11,8 @@ use elf_objects::ElfFault;
 use image_text::ImageFault;
 use layout_file::LayoutFault;
 use linker::LinkFault;
-use monitor::ScriptFault;
 use schedule_file::ScheduleFault;
+use script_file::ScriptFault;
 use sm_io::Failed;
 use vendor_tool::{ChallengeFault, TraceFault};
 

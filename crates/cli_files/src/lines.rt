@@ -16,8 +16,8 @@ use arm_balance::ArmsFault;
 use image_text::ImageFault;
 use linker::LinkFault;
 use mod_layout::TableFault;
-use monitor::ScriptFault;
 use schedule_file::ScheduleFault;
+use script_file::ScriptFault;
 use sm_io::{Failed, Sink, put_all};
 use vendor_tool::{ChallengeFault, TraceFault};
 

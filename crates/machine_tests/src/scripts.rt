@@ -3,8 +3,9 @@
 ghost use Rattle.std.specs.Prelude.{◌≡◌, ◌≤◌, IfOk, length};
 
 use board::{Board, Hidden, Ran};
-use monitor::{play, read_script};
+use monitor::play;
 use schedule_file::read_schedule;
+use script_file::read_script;
 use sm_io::MemSink;
 use std::alloc::Global;
 use std::test::Fail;

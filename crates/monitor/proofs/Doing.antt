@@ -25,7 +25,7 @@ use Rattle.board.specs.Ran.{ran_of}
 use Rattle.board.specs.declared.Ran.{Ran}
 use Rattle.board.specs.declared.Ran.TheVariants as ran
 use Rattle.board.proofs.Runs.{state_more}
-use Rattle.monitor.specs.Bounds.{most_cycles, all_cycles}
+use Rattle.script_file.specs.Bounds.{most_cycles, all_cycles}
 use Rattle.monitor.specs.Played.{Whole, CutShort, Plays, PeersPlay}
 use Rattle.monitor.specs.internal.Played.{Does}
 

@@ -1,4 +1,2 @@
-pub mod Loop
-pub mod LineLemmas
 pub mod Doing
 pub mod Pieces

@@ -1,6 +1,2 @@
-pub mod Bounds
-pub mod Line
-pub mod Laws
-pub mod Reading
 pub mod internal
 pub mod Played

@@ -5,14 +5,14 @@ ghost use Rattle.board.specs.Ran.{ran_of};
 ghost use Rattle.sm_io.specs.Sink.{Puts};
 ghost use Rattle.written_machine.specs.Script.{cycle_moves, line_moves};
 ghost use Rattle.written_machine.specs.Standing.{cycles_until};
-ghost use Rattle.monitor.specs.Bounds.{IsBounded, most_cycles, all_cycles};
+ghost use Rattle.script_file.specs.Bounds.{IsBounded, most_cycles, all_cycles};
 ghost use Rattle.monitor.specs.Played.{Plays, PeersPlay};
 ghost use Rattle.monitor.specs.internal.Played.{Does};
 
 use crate::commands::{back, last, mark};
 use crate::showing::{Line, mem_line, regs_line};
-use crate::{Script, ScriptLine};
 use board::{Board, Hidden, Ran};
+use script_file::{Script, ScriptLine};
 use sm_io::{Failed, Sink, put_all};
 
 /// Does the lines of a script in their order, puts what they write, and then puts the end line. A stopped board does

@@ -1,6 +1,6 @@
 //! `monitor IMAGE SCHEDULE SCRIPT`: what a script writes on the machine of an image.
 ghost use Rattle.std.specs.Prelude.{◌≡◌, ◌≤◌, ◌+◌, ◌^◌, IfOk, map, drop, option_map, option_and_then};
-ghost use Rattle.monitor.specs.Bounds.{all_cycles};
+ghost use Rattle.script_file.specs.Bounds.{all_cycles};
 ghost use Rattle.sm_io.specs.Sink.{Took, CutOff};
 ghost use Rattle.sm_cli.specs.MonitorCommand.{monitor_of, play_answer};
 ghost use Rattle.sm_cli.specs.internal.MonitorCommand.{monitor_asked};
@@ -13,7 +13,8 @@ use board::{Board, Ran};
 use cli_calls::{Answering, values_of};
 use cli_files::{NO_MEMORY, Playable, Refused, Status, load, load_schedule};
 use image_text::Image;
-use monitor::{Script, play};
+use monitor::play;
+use script_file::Script;
 use sm_io::{Files, Sink};
 use std::alloc::{AllocError, Global};
 

@@ -1,5 +1,5 @@
 use Rattle.std.proofs.Common.{◌+◌, ◌≤◌, ◌^◌, drop}
-use Rattle.monitor.specs.Bounds.{all_cycles}
+use Rattle.script_file.specs.Bounds.{all_cycles}
 use Rattle.monitor.proofs.Doing.{Playing}
 use Rattle.monitor.proofs.playing.play.Given as goal
 

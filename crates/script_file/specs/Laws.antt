@@ -1,8 +1,8 @@
 -- The law of lines. It is what a function of this crate ensures.
 use Rattle.std.specs.Result.{result_ok}
 use Rattle.texts.specs.Laws.{IsReadExactly}
-use Rattle.monitor.specs.Bounds.{IsLine}
-use Rattle.monitor.specs.Line.{form_of, line_text, checked}
+use Rattle.script_file.specs.Bounds.{IsLine}
+use Rattle.script_file.specs.Line.{form_of, line_text, checked}
 
 -- A text is taken as a line exactly where it is that line's text, with its numbers in their bounds.
 abbrev pub LinesAreRead : Type 0

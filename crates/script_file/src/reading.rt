@@ -1,9 +1,9 @@
 //! The text of a script, line by line.
 
 ghost use Rattle.std.specs.Prelude.{◌≡◌, ◌≢◌, ◌*◌, ◌≤◌, Ok, Err, IfOk, IfErr, length};
-ghost use Rattle.monitor.specs.Bounds.{all_cycles};
-ghost use Rattle.monitor.specs.declared.TheConstants.{MAX_CYCLES};
-ghost use Rattle.monitor.specs.Reading.{script_of};
+ghost use Rattle.script_file.specs.Bounds.{all_cycles};
+ghost use Rattle.script_file.specs.declared.TheConstants.{MAX_CYCLES};
+ghost use Rattle.script_file.specs.Reading.{script_of};
 
 use crate::line::{LineFault, line_of};
 use crate::{Script, ScriptFault};

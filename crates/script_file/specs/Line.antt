@@ -6,10 +6,10 @@ use Rattle.texts.specs.Decimals.{is_decimal, number_in}
 use Rattle.texts.specs.Hexadecimals.{hex_word, read_hex_word}
 use Rattle.written_machine.specs.declared.ScriptLine.{ScriptLine}
 use Rattle.written_machine.specs.declared.ScriptLine.TheVariants.{Go, Until, Regs, Mem, Mark, Back, Last}
-use Rattle.monitor.specs.declared.line.Operands.{Operands}
-use Rattle.monitor.specs.declared.line.LineFault.{LineFault}
-use Rattle.monitor.specs.declared.line.LineFault.TheVariants.{Form, Bounds}
-use Rattle.monitor.specs.Bounds.{is_bounded}
+use Rattle.script_file.specs.declared.line.Operands.{Operands}
+use Rattle.script_file.specs.declared.line.LineFault.{LineFault}
+use Rattle.script_file.specs.declared.line.LineFault.TheVariants.{Form, Bounds}
+use Rattle.script_file.specs.Bounds.{is_bounded}
 
 -- ---- what stands in a line
 

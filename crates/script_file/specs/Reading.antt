@@ -2,11 +2,11 @@
 use Rattle.std.specs.Prelude.{ℕ, ◌+◌, List, [], ◌∷◌, ◌++◌, Result, Ok, Err}
 use Rattle.texts.specs.Lines.{lines_of}
 use Rattle.written_machine.specs.declared.ScriptLine.{ScriptLine}
-use Rattle.monitor.specs.declared.ScriptFault.{ScriptFault}
-use Rattle.monitor.specs.declared.ScriptFault.TheVariants.{Line, Number}
-use Rattle.monitor.specs.declared.line.LineFault.{LineFault}
-use Rattle.monitor.specs.declared.line.LineFault.TheVariants.{Form, Bounds}
-use Rattle.monitor.specs.Line.{form_of, checked}
+use Rattle.script_file.specs.declared.ScriptFault.{ScriptFault}
+use Rattle.script_file.specs.declared.ScriptFault.TheVariants.{Line, Number}
+use Rattle.script_file.specs.declared.line.LineFault.{LineFault}
+use Rattle.script_file.specs.declared.line.LineFault.TheVariants.{Form, Bounds}
+use Rattle.script_file.specs.Line.{form_of, checked}
 
 -- these lines before those that were read
 abbrev pub after_lines : List ScriptLine → Result (List ScriptLine) ScriptFault → Result (List ScriptLine) ScriptFault

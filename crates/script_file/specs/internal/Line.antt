@@ -1,8 +1,8 @@
 -- What the code's own invariants say of: Line.
 use Rattle.std.specs.Prelude.{ℕ, nat_le, if◌then◌else◌, Option, Some, None, Result, Ok, Err}
-use Rattle.monitor.specs.declared.line.Operands.{Operands}
-use Rattle.monitor.specs.declared.line.LineFault.{LineFault}
-use Rattle.monitor.specs.declared.line.LineFault.TheVariants.{Form, Bounds}
+use Rattle.script_file.specs.declared.line.Operands.{Operands}
+use Rattle.script_file.specs.declared.line.LineFault.{LineFault}
+use Rattle.script_file.specs.declared.line.LineFault.TheVariants.{Form, Bounds}
 
 -- a number that is at most this
 abbrev pub up_to : ℕ → Option ℕ → Result ℕ LineFault

@@ -13,11 +13,11 @@ use Rattle.texts.proofs.DecimalLemmas.{decimal_of_number, is_decimal-decimal, nu
 use Rattle.texts.proofs.LawLemmas.{words_are_read}
 use Rattle.written_machine.specs.declared.ScriptLine.{ScriptLine}
 use Rattle.written_machine.specs.declared.ScriptLine.TheVariants.{Go, Until, Regs, Mem, Mark, Back, Last}
-use Rattle.monitor.specs.declared.line.Operands.{Operands}
-use Rattle.monitor.specs.declared.line.LineFault.TheVariants as fault
-use Rattle.monitor.specs.Bounds.{is_bounded, IsBounded, IsAddressed, IsLine}
-use Rattle.monitor.specs.Laws.{LinesAreRead}
-use Rattle.monitor.specs.Line.{number_of, both, operands_of, go_form, until_form, mem_form, back_form, last_form, bare_form, begins, form_of, line_text, checked}
+use Rattle.script_file.specs.declared.line.Operands.{Operands}
+use Rattle.script_file.specs.declared.line.LineFault.TheVariants as fault
+use Rattle.script_file.specs.Bounds.{is_bounded, IsBounded, IsAddressed, IsLine}
+use Rattle.script_file.specs.Laws.{LinesAreRead}
+use Rattle.script_file.specs.Line.{number_of, both, operands_of, go_form, until_form, mem_form, back_form, last_form, bare_form, begins, form_of, line_text, checked}
 
 -- ---- from a text to its line
 

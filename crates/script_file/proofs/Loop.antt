@@ -6,12 +6,12 @@ use Rattle.std.proofs.lemmas.Bool.Decides.{nat_tests}
 use Rattle.texts.specs.Lines.{lines_of}
 use Rattle.written_machine.specs.declared.ScriptLine.{ScriptLine}
 use Rattle.written_machine.specs.declared.ScriptLine.TheVariants.{Go, Until}
-use Rattle.monitor.specs.Bounds.{IsBounded, most_cycles, all_cycles}
-use Rattle.monitor.specs.declared.TheConstants.{MAX_CYCLES}
-use Rattle.monitor.specs.Line.{form_of, checked}
-use Rattle.monitor.specs.Reading.{after_lines, from_line, script_from, script_of}
-use Rattle.monitor.specs.declared.ScriptFault.{ScriptFault}
-use Rattle.monitor.specs.declared.line.LineFault.{LineFault}
+use Rattle.script_file.specs.Bounds.{IsBounded, most_cycles, all_cycles}
+use Rattle.script_file.specs.declared.TheConstants.{MAX_CYCLES}
+use Rattle.script_file.specs.Line.{form_of, checked}
+use Rattle.script_file.specs.Reading.{after_lines, from_line, script_from, script_of}
+use Rattle.script_file.specs.declared.ScriptFault.{ScriptFault}
+use Rattle.script_file.specs.declared.line.LineFault.{LineFault}
 
 pub record IsRead (bytes : List ℕ) (lines : List ScriptLine) (rest : List ℕ) (n : ℕ) : Type 0 where
   pub total : script_of bytes ≡ after_lines lines (script_from n (lines_of rest))

@@ -1,9 +1,9 @@
 //! One line of a script.
 
 ghost use Rattle.std.specs.Prelude.{◌≡◌, ◌≤◌, ◌<◌, ◌^◌, IfOk};
-ghost use Rattle.monitor.specs.Bounds.{IsBounded};
-ghost use Rattle.monitor.specs.Line as spec;
-ghost use Rattle.monitor.specs.internal.Line as inner;
+ghost use Rattle.script_file.specs.Bounds.{IsBounded};
+ghost use Rattle.script_file.specs.Line as spec;
+ghost use Rattle.script_file.specs.internal.Line as inner;
 
 use crate::{MAX_BYTES, MAX_CYCLES, MAX_MARK, MEMORY_END, ScriptLine};
 use mod_layout::DEVICES_END;

@@ -3,7 +3,7 @@ use Rattle.std.specs.Prelude.{◌≡◌, ℕ, ◌+◌, ◌<◌, Bool, true, ◌&
 use Rattle.mod_layout.specs.declared.TheConstants.{DEVICES_END}
 use Rattle.written_machine.specs.declared.ScriptLine.{ScriptLine}
 use Rattle.written_machine.specs.declared.ScriptLine.TheVariants.{Go, Until, Regs, Mem, Mark, Back, Last}
-use Rattle.monitor.specs.declared.TheConstants.{MAX_CYCLES, MAX_BYTES, MEMORY_END, MAX_MARK}
+use Rattle.script_file.specs.declared.TheConstants.{MAX_CYCLES, MAX_BYTES, MEMORY_END, MAX_MARK}
 
 -- whether the numbers of a line are in their bounds: bytes are shown from past the devices to the end of memory
 abbrev pub is_bounded : ScriptLine → Bool

@@ -1,7 +1,7 @@
 use Rattle.std.specs.Result.{is_ok}
 use Rattle.std.proofs.Common.{not, true, ◌≡◌, ◌∙◌, ap, arith}
-use Rattle.monitor.proofs.Loop.{IsRead-start, IsRead-push}
-use Rattle.monitor.proofs.reading.read_script.Goals as goal
+use Rattle.script_file.proofs.Loop.{IsRead-start, IsRead-push}
+use Rattle.script_file.proofs.reading.read_script.Goals as goal
 
 pub loop-text-init : goal.loop-text-init
 loop-text-init c = rw c.new-lines.ensures.items (IsRead-start c.args.bytes.now)

@@ -1,5 +1,0 @@
-use Rattle.monitor.proofs.LineLemmas.{lines_are_read}
-use Rattle.monitor.proofs.laws.one_text_a_line.Goals as goal
-
-pub returns : goal.returns
-returns c = record { read = lines_are_read }

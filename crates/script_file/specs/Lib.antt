@@ -1,0 +1,5 @@
+pub mod Bounds
+pub mod Line
+pub mod Laws
+pub mod Reading
+pub mod internal
