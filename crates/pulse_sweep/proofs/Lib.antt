@@ -1,0 +1,5 @@
+pub mod Firsts
+pub mod Running
+pub mod Counts
+pub mod Differing
+pub mod Peers

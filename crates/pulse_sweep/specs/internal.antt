@@ -1,0 +1,2 @@
+-- What the code's own invariants say of.
+pub mod Told
