@@ -15,7 +15,7 @@ use std::process::ExitCode;
 const NAME: &str = "sancus-lab";
 
 /// The version of the repository's programs, as the newest one of CHANGELOG.md.
-const VERSION: &str = "1.2.0";
+const VERSION: &str = "1.3.0";
 
 /// At most so many objects are linked.
 const MOST_OBJECTS: usize = 64;
@@ -44,11 +44,20 @@ fn described<'a>(alloc: Global) -> Result<Command<'a>, AllocError> {
         .about("Writes where all that objects link to stands, by name")
         .arg(Arg::new(alloc, "LAYOUT").required(true))?
         .arg(objects)?;
+    let images = Arg::new(alloc, "IMAGE").required(true).num_args(2..=2);
+    let sweep = Command::new(alloc, "sweep")
+        .about("Runs two images with a pulse in each cycle of a span, and compares their traces")
+        .arg(images)?
+        .arg(Arg::new(alloc, "LINE").required(true))?
+        .arg(Arg::new(alloc, "FROM").required(true))?
+        .arg(Arg::new(alloc, "TO").required(true))?
+        .arg(Arg::new(alloc, "CYCLES").required(true))?;
     Command::new(alloc, NAME)
         .version(VERSION)
         .about("Tells the owner of an image of protected modules what sancus leaves out")
         .disable_help_subcommand(true)
         .subcommand(map)
+        .subcommand(sweep)
 }
 
 // What clap answers to a line that is no command.
