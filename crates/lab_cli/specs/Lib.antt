@@ -1,3 +1,5 @@
 pub mod MapCommand
+pub mod SweepCommand
 pub mod CommandLine
+pub mod Sweeps
 pub mod internal

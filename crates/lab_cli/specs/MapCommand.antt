@@ -1,5 +1,5 @@
 -- `map LAYOUT OBJ..`: where everything stands in the image that objects link to.
-use Rattle.std.specs.Prelude.{List, [], ◌∷◌, Option, Some, None}
+use Rattle.std.specs.Prelude.{List, ◌∷◌, Option, Some, None}
 use Rattle.cli_files.specs.Files.{Held, a_layout, layout_file, need, object_needs}
 use Rattle.cli_calls.specs.Command.{Command, Outcome, done, nothing}
 use Rattle.cli_calls.specs.Linking.{linked, objects_in}

@@ -1,2 +1,3 @@
 pub mod MapCommand
+pub mod SweepCommand
 pub mod CommandLine

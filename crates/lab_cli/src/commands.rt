@@ -5,6 +5,7 @@ ghost use Rattle.lab_cli.specs.CommandLine.{command_by, command_of};
 ghost use Rattle.lab_cli.specs.internal.CommandLine.{asked, IsBounded};
 
 use crate::map::{self, MapCommand};
+use crate::sweep::{self, SweepCommand};
 use cli_calls::Answering;
 use cli_files::{Refused, Status};
 use sm_io::{Files, Sink};
@@ -14,6 +15,7 @@ use std::alloc::{AllocError, Global};
 #[derive(Drop)]
 pub enum LabCommand<'a> {
     Map(MapCommand<'a>),
+    Sweep(SweepCommand<'a>),
 }
 
 /// The command that the words are.
@@ -42,6 +44,8 @@ fn command_by<'a>(
 {
     if name == "map" {
         Ok(map::read(alloc, words)?.map(LabCommand::Map))
+    } else if name == "sweep" {
+        Ok(sweep::read(alloc, words)?.map(LabCommand::Sweep))
     } else {
         Ok(None)
     }
@@ -60,6 +64,7 @@ impl Answering for LabCommand<'_> {
     ) -> Result<Status, Refused<'_>> {
         match self {
             LabCommand::Map(command) => command.answer(alloc, files, out),
+            LabCommand::Sweep(command) => command.answer(alloc, files, out),
         }
     }
 }

@@ -3,6 +3,7 @@
 
 mod commands;
 mod map;
+mod sweep;
 mod top;
 
 pub use top::serve;

@@ -9,7 +9,10 @@ ghost use Rattle.cli_files.specs.Files.{IsFirstFault};
 ghost use Rattle.cli_calls.specs.Calls.{Completes, Ended, IsOrOutside, Refuses, called};
 ghost use Rattle.cli_calls.specs.Command.{Command, Comes, IfAnswered, Outcome, refuses};
 ghost use Rattle.cli_calls.specs.Words.{texts};
+ghost use Rattle.image_text.specs.Image.{Image};
+ghost use Rattle.written_machine.specs.Peers.{Peers};
 ghost use Rattle.lab_cli.specs.CommandLine.{command_of};
+ghost use Rattle.lab_cli.specs.Sweeps.{IsSweep};
 
 use crate::commands::read_command;
 use cli_calls::end_call;
@@ -49,6 +52,10 @@ pub fn serve<F: Files, O: Sink, E: Sink>(
         (Took O.taken O.faults O.sure out.old out.new) (CutOff O.taken O.faults O.sure out.old out.new)
         ((ended : Statuses) × Refuses call ended (CutOff E.taken E.faults E.sure err.old err.new))) }
 
+    // Of images that differ in one confined module's data alone no row of a sweep differs.
+    ensures peers { (first second : Image) (id : ℕ) → IsSweep (texts words.now) (F.content files.old) first second →
+        Peers first second id → result ≢ Status.CheckNo }
+
     // Files that are sound are read without a fault.
     ensures sound { IsTrue (F.sound files.old) →
         (result ≢ Status.ReadFault) × (F.faults files.new ≡ F.faults files.old) }
@@ -56,6 +63,7 @@ pub fn serve<F: Files, O: Sink, E: Sink>(
     ensures same_files { F.content files.new ≡ F.content files.old }
     ensures unread { result ≡ Status.Usage → files.new ≡ files.old }
 {
+    pulse_sweep::laws::peers();
     let read = read_command(alloc, words);
     end_call(alloc, b"sancus-lab", read, files, out, err)
 }

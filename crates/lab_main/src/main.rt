@@ -44,11 +44,20 @@ fn described<'a>(alloc: Global) -> Result<Command<'a>, AllocError> {
         .about("Writes where all that objects link to stands, by name")
         .arg(Arg::new(alloc, "LAYOUT").required(true))?
         .arg(objects)?;
+    let images = Arg::new(alloc, "IMAGE").required(true).num_args(2..=2);
+    let sweep = Command::new(alloc, "sweep")
+        .about("Runs two images with a pulse in each cycle of a span, and compares their traces")
+        .arg(images)?
+        .arg(Arg::new(alloc, "LINE").required(true))?
+        .arg(Arg::new(alloc, "FROM").required(true))?
+        .arg(Arg::new(alloc, "TO").required(true))?
+        .arg(Arg::new(alloc, "CYCLES").required(true))?;
     Command::new(alloc, NAME)
         .version(VERSION)
         .about("Tells the owner of an image of protected modules what sancus leaves out")
         .disable_help_subcommand(true)
-        .subcommand(map)
+        .subcommand(map)?
+        .subcommand(sweep)
 }
 
 // What clap answers to a line that is no command.

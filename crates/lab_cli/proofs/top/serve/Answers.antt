@@ -1,8 +1,11 @@
+use Rattle.std.proofs.Common.{Some}
 use Rattle.cli_calls.specs.Words.{texts}
 use Rattle.cli_calls.proofs.Ending.{no_command, bad_file, link_refused, completes}
 use Rattle.cli_calls.proofs.Outcomes.{some_answer}
 use Rattle.lab_cli.specs.CommandLine.{command_of}
-use Rattle.lab_cli.proofs.Serving.{something}
+use Rattle.cli_calls.proofs.Given.{gives_answer}
+use Rattle.lab_cli.specs.SweepCommand.{sweep_answer, sweep_command}
+use Rattle.lab_cli.proofs.Serving.{no_row_differs, something, sweep_comes}
 use Rattle.lab_cli.proofs.top.serve.Goals as goal
 
 pub returns-clause-ended : goal.returns-clause-ended
@@ -21,3 +24,11 @@ pub returns-clause-complete : goal.returns-clause-complete
 returns-clause-complete g c = λ map command outcome is asked comes.
     some_answer map command outcome _ (something (texts c.args.words.now) map command outcome asked comes) comes
     (λ answer a. completes _ _ _ _ _ _ _ map command is asked _ (returns-clause-ended g c) answer a)
+
+pub returns-clause-peers : goal.returns-clause-peers
+returns-clause-peers g c = λ first second id is peers.
+    let answer = sweep_answer is.pulses first second in
+    let command = sweep_command is.first_name is.second_name is.pulses in
+    let comes = sweep_comes (Some is.map) is.first_name is.second_name is.pulses first second is.first_is is.second_is in
+    no_row_differs _ is.pulses first second _ _ _ (c.peers.ensures.none is.pulses first second id peers)
+    (completes _ _ _ _ _ _ _ is.map command is.told is.command _ (returns-clause-ended g c) answer (gives_answer (Some is.map) command answer comes))
