@@ -2,7 +2,7 @@
 # Tries the scripts of this folder.
 #     tools/check.sh [SANCUS [SANCUS_LAB]]
 # SANCUS and SANCUS_LAB stand for ./sancus and ./sancus-lab where they are given.
-# Without the second the rows of maps are left out. The last line is 'N passed, M failed'.
+# Without the second the rows of maps and sweeps are left out. The last line is 'N passed, M failed'.
 here=$(dirname -- "$(readlink -f -- "$0")") || exit 1
 top=${here%/*}
 sancus=$(readlink -f -- "${1:-$top/sancus}") || exit 1
@@ -75,6 +75,12 @@ if [ -x "$lab" ]; then
     echo 'status 5' >>wanted
     lab map "$layout" "$top/examples/runtime/product.o"
     check 'a map of an object that does not link'
+    printf '%s\n' 'sancus-lab: usage' 'status 2' >wanted
+    lab sweep shop.img shop.img 4 0 9 9
+    check 'a sweep of a line that is none'
+    printf '%s\n' 'sancus-lab: bad file none.img: Absent' 'status 4' >wanted
+    lab sweep none.img neither.img 3 0 9 9
+    check 'a sweep of images that are not there'
     for words in c/layout.toml=c/meter.o c_units/layout.toml=c_units/units.o \
         c_check/layout.toml=c_check/vault.o c_devices/layout.toml=c_devices/devices.o; do
         "$lab" map "$top/examples/${words%=*}" "$top/examples/${words#*=}" >one.map 2>/dev/null

@@ -56,7 +56,7 @@ fn described<'a>(alloc: Global) -> Result<Command<'a>, AllocError> {
         .version(VERSION)
         .about("Tells the owner of an image of protected modules what sancus leaves out")
         .disable_help_subcommand(true)
-        .subcommand(map)
+        .subcommand(map)?
         .subcommand(sweep)
 }
 
