@@ -1,8 +1,8 @@
 #!/bin/sh
-# Runs the commands of all pages, in their order: each `./sancus` and `./sancus-lab` line of the README, of docs/ and of the pages here,
-# compared with the block of text after it, whose last line is `status N` where the command ends with another status
-# than 0; each `clang` line, compared with the object in the folder, where clang 14 is there; the commands of the
-# manual, and its files by the command beside each. Then it draws the figure again.
+# Runs the commands of all pages, in their order: each line of the README, of docs/ and of the pages here that begins with `./sancus`,
+# `./sancus-lab` or a script of `tools/`, compared with the block of text after it, whose last line is `status N` where the command ends
+# with another status than 0; each `clang` line, compared with the object in the folder, and each `llvm-symbolizer` line, where clang 14
+# is there; the commands of the manual, and its files by the command beside each. Then it draws the figure again.
 #     examples/check.sh [PROGRAM [LAB]]
 # PROGRAM stands for ./sancus where it is given, LAB for ./sancus-lab. The last line is 'N commands, M differ, K not run'.
 here=$(dirname -- "$(readlink -f -- "$0")") || exit 1
@@ -17,6 +17,7 @@ cp -r "$here" examples
 ln -s "$program" sancus
 ln -s "$lab" sancus-lab
 ln -s "$top/include" include
+ln -s "$top/tools" tools
 compiler=$(clang --version 2>/dev/null | sed -n 's/.*clang version \([0-9]*\)\..*/\1/p')
 
 total=0
@@ -30,7 +31,7 @@ split_page() {
         /^    / {
             line = substr($0, 5)
             if (going_on) command[n] = command[n] " " line
-            else if (line ~ /^(\.\/sancus(-lab)?|clang) /) { command[++n] = line; printing = 1 }
+            else if (line ~ /^(\.\/sancus(-lab)?|clang|llvm-symbolizer|tools\/[a-z]+) /) { command[++n] = line; printing = 1 }
             else if (printing) wanted[n] = wanted[n] line "\n"
             going_on = line ~ /\\$/
             next
@@ -65,7 +66,7 @@ check_page() {
     split_page "$1"
     number=1
     while [ -f "command.$number" ]; do
-        if [ "$compiler" != 14 ] && grep -q '^clang ' "command.$number"; then
+        if [ "$compiler" != 14 ] && grep -Eq '^(clang|llvm-symbolizer) ' "command.$number"; then
             not_run=$((not_run + 1))
         else
             run "./command.$number"
@@ -114,6 +115,6 @@ for object in examples/*/*.o examples/attacks/*/*.o; do
 done
 examples/channel/draw.sh "$program" >got
 compare 'examples/channel/draw.sh' examples/channel/latency.svg
-[ "$not_run" -eq 0 ] || printf 'the lines that begin with clang were not run: there is no clang 14\n'
+[ "$not_run" -eq 0 ] || printf 'the lines that begin with clang or llvm-symbolizer were not run: there is no clang 14\n'
 printf '%s commands, %s differ, %s not run\n' "$total" "$differ" "$not_run"
 [ "$differ" -eq 0 ]
