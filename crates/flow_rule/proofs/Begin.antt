@@ -17,7 +17,7 @@ use Rattle.insn_decode.specs.declared.insn.Insn.TheVariants.{Two, Jump}
 use Rattle.mod_layout.specs.declared.Module.{Module}
 use Rattle.mod_layout.specs.Table.{holds}
 use Rattle.cpu_step.specs.Asked.{asks, effect}
-use Rattle.cpu_step.specs.Lone.{Job, lone_does, all_inside, lone_who, Does, doing, job_of, outcome, alike, Running, later, is_alone}
+use Rattle.cpu_step.specs.Lone.{Job, lone_does, all_inside, lone_who, Does, doing, job_of, outcome, alike_but, Running, later, is_alone}
 use Rattle.arm_balance.specs.Met.{text_byte, met}
 use Rattle.entry_stubs.specs.Stub.{stub_front}
 use Rattle.flow_rule.proofs.Cores.{put_other_reg, carry_bit, confined_small, confined_kept, away_even}
@@ -122,7 +122,7 @@ module _ (key : List ℕ) (m : Module) (text : List ℕ) (caller : ℕ) (shape :
 
   -- from this core on the two calls end alike
   abbrev pub Alike : List ℕ → Type 0
-  Alike c = (i : ℕ) → alike R (outcome j i (at_rest c da)) (outcome j i (at_rest c db))
+  Alike c = (i : ℕ) → alike_but [] R (outcome j i (at_rest c da)) (outcome j i (at_rest c db))
 
   word_is : (k w : ℕ) → k < 38 → nth k (stub_front t0 m.text.end m.ram.start n p) 0 ≡ w → word_at (text_byte m.text text) (t0 + 2 * k) ≡ w
   word_is k w lt e = facts.words k lt ∙ e
@@ -221,7 +221,7 @@ module _ (key : List ℕ) (m : Module) (text : List ℕ) (caller : ℕ) (shape :
 
   loops : (c : List ℕ) (six seven : ℕ) → Calm c (t0 + 12) six seven → Alike c
   loops c six seven h i =
-      subst (λ o. alike R o (outcome j i (at_rest c db))) (sym (loops_by (suc i) c da six seven h i (omega arith))) (subst (λ o. alike R Running o) (sym (loops_by (suc i) c db six seven h i (omega arith))) tt)
+      subst (λ o. alike_but [] R o (outcome j i (at_rest c db))) (sym (loops_by (suc i) c da six seven h i (omega arith))) (subst (λ o. alike_but [] R Running o) (sym (loops_by (suc i) c db six seven h i (omega arith))) tt)
 
   -- ---- an unknown entry: the module is left
   module _ (six seven : ℕ) (small6 : six < 65536) (small7 : seven < 65536) (out : holds m.text seven ≡ false) (rest : R da db) where

@@ -1,12 +1,12 @@
 -- Where a call begins.
-use Rattle.std.proofs.Common.{◌≡◌, inl, ℕ, zero, suc, ◌+◌, ◌%◌, ◌<◌, List, set, replicate, refl, sym, ap, ◌∙◌, subst, arith, true, false}
+use Rattle.std.proofs.Common.{◌≡◌, inl, ℕ, zero, suc, ◌+◌, ◌%◌, ◌<◌, List, [], set, replicate, refl, sym, ap, ◌∙◌, subst, arith, true, false}
 use Rattle.std.proofs.lemmas.Bool.Decides.{nat_tests}
 use Rattle.sm_words.specs.Words.{reg, nth}
 use Rattle.mod_layout.specs.declared.Module.{Module}
 use Rattle.mod_layout.specs.declared.Section.{Section}
 use Rattle.mod_layout.specs.Table.{holds}
 use Rattle.mod_layout.specs.Tables.{IsSection}
-use Rattle.cpu_step.specs.Lone.{Entrance, starts, job_of, outcome, alike}
+use Rattle.cpu_step.specs.Lone.{Entrance, starts, job_of, outcome, alike_but}
 use Rattle.sm_words.specs.Words.{IsCore}
 use Rattle.cpu_step.specs.Lone.{IsEntry}
 use Rattle.flow_rule.specs.declared.Val.TheVariants.{Away, Public, Secret}
@@ -69,7 +69,7 @@ start_in m lt = grind (arith, nat_tests)
 -- one call ends alike; what it leaves may be any data
 abbrev pub CallsAlike : List ℕ → Module → List ℕ → Type 1
 CallsAlike key m text = (n : ℕ) (R : List ℕ → List ℕ → Type 0) → ((da db : List ℕ) → IsData m da → IsData m db → R da db) →
-    (e : Entrance) → IsEntry m e → (da db : List ℕ) → IsData m da → IsData m db → alike R (outcome (job_of key m text e.caller) n (starts e da)) (outcome (job_of key m text e.caller) n (starts e db))
+    (e : Entrance) → IsEntry m e → (da db : List ℕ) → IsData m da → IsData m db → alike_but [] R (outcome (job_of key m text e.caller) n (starts e da)) (outcome (job_of key m text e.caller) n (starts e db))
 
 pub away_start : (s : Section) (c : List ℕ) (pc : ℕ) → reg c 0 ≡ pc → reg c 3 ≡ 0 → reg c 7 < 65536 → holds s (reg c 7) ≡ false → (n : ℕ) → Agrees s (val (set (no_secret pc) 7 Away) n) (reg c n) (reg c n)
 away_start s c pc e z small out zero = (e, e)

@@ -45,6 +45,7 @@ accepted a b m owner arms d v =
       owner = owner;
       owned = d.owned;
       elsewhere = d.elsewhere;
+      answers_ok = refl;
       even = λ es n h. even_lists a.node_key owner (section owner.text a.memory) arms n es (section owner.ram a.memory) (section owner.ram b.memory) is.text_ok is.ram_ok v
           (record { long = da.long; bytes = da.bytes }) (record { long = db.long; bytes = db.bytes }) h;
     }
