@@ -1,5 +1,5 @@
 -- An accepted text makes peers.
-use Rattle.std.proofs.Common.{◌<◌, ℕ, zero, suc, List, [], ◌∷◌, take, drop, slice_index, arith}
+use Rattle.std.proofs.Common.{◌<◌, ℕ, zero, suc, List, [], ◌∷◌, take, drop, slice_index, arith, refl}
 use Rattle.std.proofs.lemmas.List.{length-drop, length-take}
 use Rattle.mod_layout.proofs.Found.{module_found}
 use Rattle.mod_layout.specs.declared.Module.{Module}
