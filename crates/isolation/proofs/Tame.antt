@@ -2,6 +2,7 @@
 use Rattle.std.proofs.Common.{◌≡◌, ◌≢◌, ◌⊎◌, inl, inr, ⊎_elim, ℕ, zero, suc, ◌+◌, ◌-◌, ◌<◌, List, [], ◌∷◌, ◌++◌, refl, sym, ap, ◌∙◌, subst, arith, Bool, true, false, ◌==◌, Option, Some, None, zero-add, cond, filter}
 use Rattle.std.proofs.lemmas.Bool.Decides.{nat_tests}
 use Rattle.schedule_file.specs.declared.Entry.{Entry as Scheduled}
+use Rattle.pc_access.specs.Rights.{is_id}
 use Rattle.pc_access.specs.declared.Stop.{Stop}
 use Rattle.image_text.specs.Image.{Image}
 use Rattle.reg_backup.specs.Saved.{closing_after}
@@ -9,7 +10,7 @@ use Rattle.reg_backup.specs.declared.backup.After.{After}
 use Rattle.reg_backup.specs.declared.backup.After.TheVariants.{Next, Handler, Resume, Close}
 use Rattle.reg_backup.specs.declared.backup.Phase.TheVariants.{Run, Pad}
 use Rattle.tracer.specs.declared.Event.{Event}
-use Rattle.written_machine.specs.Cycle.{Step, quiet, told, rest_of, settle, ticked, arrive_inside, perform, padded, turn, sent_event, counted_by, move, cycle_by, after_cycles}
+use Rattle.written_machine.specs.Cycle.{Step, quiet, told, rest_of, settle, ticked, arrive_inside, perform, padded, turn, sent_event, counted_by, move, cycle_by, cycle, after_cycles}
 use Rattle.written_machine.specs.State.{State}
 use Rattle.written_machine.specs.View.{at, boot}
 use Rattle.isolation.specs.Calls.{Ends, ends_call, Hides, Handles}
@@ -257,6 +258,24 @@ move_filter m s = let u = settle (ticked s) in let t = turn u.left u.state in co
 pub cycle_ends : (m : ℕ) (o : Option Stop) (s : State) → s.stop ≡ o → Ends m (cycle_by o s).events → (s.stop ≡ None) × Ends m (settle (ticked s)).events
 cycle_ends m (Some stop) s e h = absurd h
 cycle_ends m None s e h = (e, move_ends m s h)
+
+-- the module is active that they end
+module _ (m : ℕ) where
+  one_end : (id : ℕ) → (id == m) ≡ false → ((id ≡ m) ⊎ ⊥) → ⊥
+  one_end id n h = let ne : id ≢ m = grind (arith, nat_tests) in ⊎_elim ne (λ x. x) h
+
+  pub idle_ends : (s : State) → is_id m s.active ≡ false → Ends m (settle s).events → ⊥
+  idle_ends s n =
+      settle_ways s (λ u. Ends m u.events → ⊥) (λ h. h) (λ b fs e h. h) (λ id x a o. one_end id (ap (is_id m) (sym a) ∙ n)) (λ e h. h)
+      (λ id a. one_end id (ap (is_id m) (sym a) ∙ n))
+
+  pub ends_active : (s : State) → Ends m (cycle s).events → is_id m s.active ≡ true
+  unfolding ticked
+  ends_active s h = by (is_id m s.active) refl
+    where
+      by : (c : Bool) → is_id m s.active ≡ c → is_id m s.active ≡ true
+      by true e = e
+      by false e = absurd (idle_ends (ticked s) e (cycle_ends m s.stop s refl h).1)
 
 -- the number of a machine that runs
 pub numbered : (a : Image) (schedule : List Scheduled) (k : ℕ) → (at a schedule k).stop ≡ None → (at a schedule k).cycle ≡ k

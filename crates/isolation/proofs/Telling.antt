@@ -85,19 +85,22 @@ module _ (m : ℕ) (s t : State) (v : view_of s (Only m) ≡ view_of t (Only m))
   unfolding view_of
   seen_cycle = ap (λ x. x.cycle) v
 
-  seen_active : s.active ≡ t.active
+  pub seen_active : s.active ≡ t.active
   unfolding view_of
   seen_active = ap (λ x. x.active) v
 
-  seen_core : s.active ≡ None → s.core ≡ t.core
+  pub seen_core : is_hidden_by (Only m) s.active ≡ false → s.core ≡ t.core
   unfolding view_of
   seen_core e =
       let a : Some s.core ≡ Some t.core =
-      sym (ap (λ o. cond (is_hidden_by (Only m) o) None (Some s.core)) e) ∙ ap (λ x. x.registers) v ∙ ap (λ o. cond (is_hidden_by (Only m) o) None (Some t.core)) (sym seen_active ∙ e) in
+      sym (ap (λ c. cond c None (Some s.core)) e) ∙ ap (λ x. x.registers) v ∙ ap (λ c. cond c None (Some t.core)) (ap (is_hidden_by (Only m)) (sym seen_active) ∙ e) in
       cc
 
+  outside_core : s.active ≡ None → s.core ≡ t.core
+  outside_core e = seen_core (ap (is_hidden_by (Only m)) e)
+
   core_same : (o : Option ℕ) → s.active ≡ o → end_by None o s.core ≡ end_by None o t.core
-  core_same None e = ap (end_by None None) (seen_core e)
+  core_same None e = ap (end_by None None) (outside_core e)
   core_same (Some id) e = refl
 
   end_same : (o : Option Stop) → end_by o s.active s.core ≡ end_by o s.active t.core
@@ -110,7 +113,7 @@ module _ (m : ℕ) (s t : State) (v : view_of s (Only m) ≡ view_of t (Only m))
       ap (λ c. end_line_at c (end_by s.stop s.active s.core)) seen_cycle
       ∙ ap (end_line_at t.cycle) (end_same s.stop ∙ ap (λ x. end_by x.stop s.active t.core) v ∙ ap (λ a. end_by t.stop a t.core) seen_active)
 
-  all_seen : view_of s AllHidden ≡ view_of t AllHidden
+  pub all_seen : view_of s AllHidden ≡ view_of t AllHidden
   all_seen = sym (all_hidden m s) ∙ ap coarse v ∙ all_hidden m t
 
 -- while the answers agree
@@ -159,7 +162,7 @@ module _ (a b : Image) (m : ℕ) (schedule : List Scheduled) (peers : Peers a b 
   stands_same addr k =
       let s = at a schedule k in
       let t = at b schedule k in
-      stands_by s t addr s.active refl (sym (seen_active m s t (views_equal a b m schedule peers k))) (λ e. phases_equal a b m schedule peers k (ap (is_id m) e)) (seen_core m s t (views_equal a b m schedule peers k))
+      stands_by s t addr s.active refl (sym (seen_active m s t (views_equal a b m schedule peers k))) (λ e. phases_equal a b m schedule peers k (ap (is_id m) e)) (outside_core m s t (views_equal a b m schedule peers k))
 
   -- what is seen where every module is hidden
   pub outside_equal : (k : ℕ) → view_of (at a schedule k) AllHidden ≡ view_of (at b schedule k) AllHidden

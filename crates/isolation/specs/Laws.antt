@@ -1,5 +1,5 @@
 -- The laws of the written machine. Each is what a function of this crate ensures.
-use Rattle.std.specs.Prelude.{◌≡◌, ℕ, suc, ◌+◌, ◌<◌, ◌≤◌, List, filter, length, slice_index, true, false, is_some, Option, Some, None}
+use Rattle.std.specs.Prelude.{◌≡◌, ◌≢◌, ℕ, suc, ◌+◌, ◌<◌, ◌≤◌, List, filter, length, slice_index, true, false, is_some, Option, Some, None}
 use Rattle.sm_words.specs.Sums.{one_if}
 use Rattle.sm_words.specs.Words.{IsCore}
 use Rattle.schedule_file.specs.declared.Entry.{Entry}
@@ -125,6 +125,17 @@ EndsAlike = (a b : Image) (m : ℕ) (answers : List ℕ) (schedule : List Entry)
 abbrev pub AnswersAlone : Type 0
 AnswersAlone = (a b : Image) (m : ℕ) (answers : List ℕ) (schedule : List Entry) (n : ℕ) → PeersBut a b m answers → AnswersAgree a b m answers schedule n →
     Ends m (cycle (at a schedule n)).events → blank answers (at a schedule n).core ≡ blank answers (at b schedule n).core
+
+-- Two modules that answer, where image c is between a and b: it has b's data in m, and a's in p. While the answers of both agree in a and
+-- b, the views are equal, where every module is hidden,
+abbrev pub ViewsOfTwo : Type 0
+ViewsOfTwo = (a c b : Image) (m p : ℕ) (answers replies : List ℕ) (schedule : List Entry) (n : ℕ) → m ≢ p → PeersBut a c m answers → PeersBut c b p replies →
+    AnswersAgree a b m answers schedule n → AnswersAgree a b p replies schedule n → view_of (at a schedule n) AllHidden ≡ view_of (at b schedule n) AllHidden
+
+-- and the outside trace is one text.
+abbrev pub TracesOfTwo : Type 0
+TracesOfTwo = (a c b : Image) (m p : ℕ) (answers replies : List ℕ) (schedule : List Entry) (n : ℕ) → m ≢ p → PeersBut a c m answers → PeersBut c b p replies →
+    AnswersAgree a b m answers schedule n → AnswersAgree a b p replies schedule n → trace a schedule n ≡ trace b schedule n
 
 -- ---- one run of one image
 

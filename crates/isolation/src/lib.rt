@@ -4,7 +4,7 @@
 //! Each law is what a function here ensures; `specs/Laws.antt` states them in words.
 #![tactic(auto)]
 
-ghost use Rattle.isolation.specs.Laws.{SameViews, SameEvents, SamePhases, SameCallers, SameGie, SameOnceGone, SameTraces, SameLines, SameEnds, SameOutsideViews, SameStanding, SamePlays, SameLeads, ViewsWhile, EventsWhile, TracesWhile, EndsAlike, AnswersAlone, EnteredIsKnown, Transparency, Cost, HandlerAfterHide, HideBeforeHandler, Numbered, CoreKept, MemoryFull, MemoryBytes, TableKept, ModuleOnce, FramesFew, Passing, EventsFew, StopTold, StopRefused, TextReadable, ZerosWritable};
+ghost use Rattle.isolation.specs.Laws.{SameViews, SameEvents, SamePhases, SameCallers, SameGie, SameOnceGone, SameTraces, SameLines, SameEnds, SameOutsideViews, SameStanding, SamePlays, SameLeads, ViewsWhile, EventsWhile, TracesWhile, EndsAlike, AnswersAlone, ViewsOfTwo, TracesOfTwo, EnteredIsKnown, Transparency, Cost, HandlerAfterHide, HideBeforeHandler, Numbered, CoreKept, MemoryFull, MemoryBytes, TableKept, ModuleOnce, FramesFew, Passing, EventsFew, StopTold, StopRefused, TextReadable, ZerosWritable};
 
 /// Two runs of peers are seen alike by all but the one module, and tell the same, in every cycle of every schedule.
 pub fn two_runs()
@@ -35,6 +35,8 @@ pub fn released()
     ensures traces { TracesWhile }
     ensures ends { EndsAlike }
     ensures registers { AnswersAlone }
+    ensures views_of_two { ViewsOfTwo }
+    ensures traces_of_two { TracesOfTwo }
 {}
 
 /// A module that is interrupted does what it does by itself.
