@@ -1,5 +1,5 @@
 -- Cores that are equal but for some registers.
-use Rattle.std.proofs.Common.{◌≡◌, ℕ, zero, suc, List, [], ◌∷◌, get_or, set, true, refl, sym, ap, ap₂, ◌∙◌, ⊎_elim, arith, All, get_or-set_other, set-set}
+use Rattle.std.proofs.Common.{◌≡◌, ℕ, zero, suc, List, [], ◌∷◌, get_or, set, true, refl, sym, ap, ap₂, ◌∙◌, ⊎_elim, All, get_or-set_other, set-set}
 use Rattle.std.proofs.lemmas.Bool.{and_parts, cases_eq}
 use Rattle.std.proofs.lemmas.List.{set-get_or}
 use Rattle.std.proofs.lemmas.List.Elements.{All-head, All-tail}

@@ -1,5 +1,5 @@
 -- The cycles of a call are its own, and those between its hides and resumes.
-use Rattle.std.proofs.Common.{◌≡◌, ◌≢◌, ℕ, zero, suc, ◌+◌, ◌<◌, ◌≤◌, List, [], ◌∷◌, ◌++◌, refl, sym, ap, ◌∙◌, subst, arith, Bool, true, false, cond, ◌&&◌, ◌==◌, Option, Some, None, is_none, ◌⊎◌, ⊎_elim}
+use Rattle.std.proofs.Common.{◌≡◌, ◌≢◌, ℕ, zero, suc, ◌+◌, ◌<◌, ◌≤◌, List, [], ◌∷◌, ◌++◌, refl, sym, ap, ◌∙◌, subst, arith, Bool, true, false, cond, ◌&&◌, ◌==◌, Option, Some, None, is_none}
 use Rattle.std.proofs.lemmas.Bool.Decides.{nat_tests}
 use Rattle.isolation.proofs.Tame.{ticked_active, cycle_number, runs_so_far, cycle_ends, idle_ends}
 use Rattle.sm_words.specs.Words.{IsCore}
@@ -25,7 +25,7 @@ use Rattle.mod_layout.specs.Table.{module_of}
 use Rattle.image_text.specs.Image.{Image, IsImage}
 use Rattle.written_machine.specs.View.{at}
 use Rattle.cpu_step.proofs.LoneLemmas.{after_step}
-use Rattle.isolation.proofs.Ways.{sent_tells, settle_ways}
+use Rattle.isolation.proofs.Ways.{sent_tells}
 
 -- while it is active all the cycles so far are its own or between a hide and its resume; while it is held, those up to the hide
 abbrev pub Balance : Bool → ℕ → Away → ℕ → Type 0

@@ -2,7 +2,7 @@
 use Rattle.std.proofs.Common.{◌≡◌, ◌⊎◌, inl, inr, ℕ, zero, suc, ◌+◌, List, [], ◌∷◌, refl, sym, ap, ◌∙◌, subst, arith, Bool, true, false, ◌==◌, Option, Some, None}
 use Rattle.std.specs.List.{list_all}
 use Rattle.sm_words.specs.Sums.{one_if}
-use Rattle.sm_words.specs.Words.{cleared, reg}
+use Rattle.sm_words.specs.Words.{cleared}
 use Rattle.insn_decode.specs.declared.insn.Insn.{Insn}
 use Rattle.mod_layout.specs.Table.{size_of, holds, without}
 use Rattle.mod_layout.specs.declared.Module.{Module}

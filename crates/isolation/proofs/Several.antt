@@ -1,15 +1,13 @@
 -- Two modules that answer, in one image: the runs are alike while the answers of both agree, by an image between the two.
-use Rattle.std.proofs.Common.{◌≡◌, ◌≢◌, ◌⊎◌, ⊎_elim, ℕ, zero, suc, ◌+◌, ◌<◌, List, ◌++◌, refl, sym, ap, ◌∙◌, subst, arith, Bool, true, false, ◌==◌, Option, Some, None, All, cond}
+use Rattle.std.proofs.Common.{◌≡◌, ◌≢◌, ⊎_elim, ℕ, zero, suc, List, sym, ap, ◌∙◌, subst, arith, true, false, ◌==◌, Option, All}
 use Rattle.std.proofs.lemmas.Bool.{cases_eq}
 use Rattle.std.proofs.lemmas.Bool.Decides.{nat_tests}
 use Rattle.sm_words.specs.Words.{reg}
 use Rattle.schedule_file.specs.declared.Entry.{Entry as Scheduled}
 use Rattle.pc_access.specs.Rights.{is_id}
 use Rattle.image_text.specs.Image.{Image}
-use Rattle.tracer.specs.declared.Event.{Event}
 use Rattle.written_machine.specs.Cycle.{cycle}
 use Rattle.written_machine.specs.Peers.{PeersBut}
-use Rattle.written_machine.specs.State.{State}
 use Rattle.written_machine.specs.Trace.{trace}
 use Rattle.written_machine.specs.View.{at, is_hidden_by, view_of}
 use Rattle.written_machine.specs.declared.Hidden.TheVariants.{All as AllHidden, Only}

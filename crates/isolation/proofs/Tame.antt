@@ -7,7 +7,7 @@ use Rattle.pc_access.specs.declared.Stop.{Stop}
 use Rattle.image_text.specs.Image.{Image}
 use Rattle.reg_backup.specs.Saved.{closing_after}
 use Rattle.reg_backup.specs.declared.backup.After.{After}
-use Rattle.reg_backup.specs.declared.backup.After.TheVariants.{Next, Handler, Resume, Close}
+use Rattle.reg_backup.specs.declared.backup.After.TheVariants.{Next, Handler}
 use Rattle.reg_backup.specs.declared.backup.Phase.TheVariants.{Run, Pad}
 use Rattle.tracer.specs.declared.Event.{Event}
 use Rattle.written_machine.specs.Cycle.{Step, quiet, told, rest_of, settle, ticked, arrive_inside, perform, padded, turn, sent_event, counted_by, move, cycle_by, cycle, after_cycles}
