@@ -1,3 +1,4 @@
+pub mod Blank
 pub mod Forms
 pub mod LoneLemmas
 pub mod ThroughLemmas

@@ -1,8 +1,8 @@
 -- A module by itself: what it does from an entry, and what it leaves.
-use Rattle.std.specs.Prelude.{◌≡◌, ℕ, zero, suc, ◌+◌, ◌-◌, ◌<◌, List, [], ◌∷◌, map, slice_index, slice_set, if◌then◌else◌, Bool, true, false, ◌&&◌, ◌||◌, not, Option, Some, None, All}
+use Rattle.std.specs.Prelude.{◌≡◌, ℕ, zero, suc, ◌+◌, ◌-◌, ◌<◌, List, [], ◌∷◌, map, slice_index, slice_set, if◌then◌else◌, Bool, true, false, ◌&&◌, ◌||◌, ◌==◌, nat_lt, not, Option, Some, None, All}
 use Rattle.std.specs.List.{list_all}
 use Rattle.sm_words.specs.Words.{IsCore, reg, word_at, low_byte, high_byte}
-use Rattle.sm_words.specs.declared.registers.TheConstants.{PC}
+use Rattle.sm_words.specs.declared.registers.TheConstants.{PC, CG}
 use Rattle.sm_words.specs.declared.width.Width.{Width}
 use Rattle.sm_words.specs.declared.width.Width.TheVariants.{Byte, Word}
 use Rattle.insn_decode.specs.declared.insn.Insn.{Insn}
@@ -183,23 +183,32 @@ abbrev pub outcome : Job → ℕ → Lone → Outcome
 outcome j zero l = at_once (doing j l) l
 outcome j (suc n) l = in_time (doing j l) (outcome j n) j l
 
--- two ends that are alike, with what must hold of the data left
-abbrev pub alike : (List ℕ → List ℕ → Type 0) → Outcome → Outcome → Type 0
-alike rest Running Running = Unit {0}
-alike rest (Closing c d k) (Closing c' d' k') = (c ≡ c') × (k ≡ k')
-alike rest (Exit c d k) (Exit c' d' k') = (c ≡ c') × (k ≡ k') × rest d d'
-alike rest _ _ = ⊥
+-- the registers that may be answers: all but PC, by which a call leaves, and R3, which is 0
+abbrev pub is_answer : ℕ → Bool
+is_answer r = not (r == PC) && not (r == CG) && nat_lt r 16
+
+-- a core with the registers of these numbers as 0
+abbrev pub blank : List ℕ → List ℕ → List ℕ
+blank [] core = core
+blank (r ∷ rs) core = slice_set (blank rs core) r 0
+
+-- two ends that are alike, where the cores may differ in the answers; where they do not differ at all, rest must hold of the data left
+abbrev pub alike_but : List ℕ → (List ℕ → List ℕ → Type 0) → Outcome → Outcome → Type 0
+alike_but answers rest Running Running = Unit {0}
+alike_but answers rest (Closing c d k) (Closing c' d' k') = (blank answers c ≡ blank answers c') × (k ≡ k')
+alike_but answers rest (Exit c d k) (Exit c' d' k') = (blank answers c ≡ blank answers c') × (k ≡ k') × (c ≡ c' → rest d d')
+alike_but answers rest _ _ = ⊥
 
 -- the call of a module with this text
 abbrev pub job_of : List ℕ → Module → List ℕ → ℕ → Job
 job_of key m text caller = record { key = key; owner = m; text = text; caller = caller }
 
--- these calls, one after another, end alike from both data, within n cycles each
-abbrev pub Even : List ℕ → Module → List ℕ → ℕ → List Entrance → List ℕ → List ℕ → Type 0
-Even key m text n [] d1 d2 = Unit {0}
-Even key m text n (e ∷ es) d1 d2 =
+-- these calls, one after another, end alike but for the answers from both data, within n cycles each
+abbrev pub EvenBut : List ℕ → List ℕ → Module → List ℕ → ℕ → List Entrance → List ℕ → List ℕ → Type 0
+EvenBut answers key m text n [] d1 d2 = Unit {0}
+EvenBut answers key m text n (e ∷ es) d1 d2 =
     let j = job_of key m text e.caller in
-    alike (Even key m text n es) (outcome j n (starts e d1)) (outcome j n (starts e d2))
+    alike_but answers (EvenBut answers key m text n es) (outcome j n (starts e d1)) (outcome j n (starts e d2))
 
 -- an entry of the module: a core whose PC is the text's start, and a caller id
 pub record IsEntry (m : Module) (e : Entrance) : Type 0 where
@@ -207,6 +216,10 @@ pub record IsEntry (m : Module) (e : Entrance) : Type 0 where
   pub at_start : reg e.core PC ≡ m.text.start
   pub caller_ok : e.caller < 0x10000
 
--- two data that no list of calls and no number of cycles tells apart
+-- two data that no list of calls and no number of cycles tells apart but by the answers
+abbrev pub AlwaysEvenBut : List ℕ → List ℕ → Module → List ℕ → List ℕ → List ℕ → Type 0
+AlwaysEvenBut answers key m text d1 d2 = (es : List Entrance) (n : ℕ) → All (IsEntry m) es → EvenBut answers key m text n es d1 d2
+
+-- the same where no register is an answer
 abbrev pub AlwaysEven : List ℕ → Module → List ℕ → List ℕ → List ℕ → Type 0
-AlwaysEven key m text d1 d2 = (es : List Entrance) (n : ℕ) → All (IsEntry m) es → Even key m text n es d1 d2
+AlwaysEven key m text d1 d2 = AlwaysEvenBut [] key m text d1 d2

@@ -1,23 +1,24 @@
 -- The least of the reasons that are found.
 use Rattle.std.proofs.Common.{◌≢◌, ◌==◌, ◌≡◌, ℕ, zero, suc, ◌+◌, ◌-◌, ◌<◌, ◌≤◌, List, [], ◌∷◌, ◌++◌, map, length, refl, sym, ap, ◌∙◌, arith, Bool, true, false, cond, Option, append_assoc}
 use Rattle.std.specs.Prelude.{ℤ, Some}
-use Rattle.sm_words.specs.Words.{word_at}
+use Rattle.sm_words.specs.Words.{nth, word_at}
 use Rattle.insn_decode.specs.declared.insn.Insn.{Insn}
 use Rattle.insn_decode.specs.declared.insn.Insn.TheVariants.{Jump, Reti}
 use Rattle.mod_layout.specs.declared.Module.{Module}
+use Rattle.flow_rule.specs.Terms.{Terms}
 use Rattle.flow_rule.specs.declared.Val.{Val}
 use Rattle.flow_rule.specs.declared.Label.{Label}
 use Rattle.flow_rule.specs.declared.Reach.{Reach}
-use Rattle.flow_rule.specs.declared.Reason.TheVariants.{SecretAtExit}
+use Rattle.flow_rule.specs.declared.Reason.TheVariants.{SecretAtExit, DataAtExit}
 use Rattle.std.proofs.lemmas.Bool.Decides.{nat_tests}
 use Rattle.attest.specs.Units.{unit_named}
-use Rattle.flow_rule.specs.declared.Val.TheVariants.{Public}
+use Rattle.flow_rule.specs.declared.Val.TheVariants.{Public, Secret}
 use Rattle.flow_rule.specs.declared.Reason.TheVariants.{Illegal, UnknownTarget, SecretBranch, Unit as UnitWord}
 use Rattle.flow_rule.specs.Rounds.{Found, Step, Point}
 use Rattle.flow_rule.specs.Values.{is_secret, val, put_val}
 use Rattle.arm_balance.specs.Met.{text_byte}
-use Rattle.flow_rule.specs.Does.{past_val, plan_val, does_val, read_val, read_reaches, write_reaches, writes_val}
-use Rattle.flow_rule.specs.Reasons.{exit_reasons, reach_reasons, reach_reasons_by, because_if}
+use Rattle.flow_rule.specs.Does.{word_no, past_val, plan_val, does_val, read_val, read_reaches, write_reaches, writes_val}
+use Rattle.flow_rule.specs.Reasons.{exit_reasons, word_reasons, reach_reasons, reach_reasons_by, because_if}
 use Rattle.flow_rule.specs.Going.{goes, also, both, fails}
 use Rattle.flow_rule.specs.Returns.{turn_of}
 use Rattle.flow_rule.specs.Steps.{goes_unless, step_plain, step_jump, step_unit, step_insn, step_of}
@@ -34,6 +35,11 @@ noted_append (x ∷ xs) ys o = noted_append xs ys _
 pub reach_more : (m : Module) (pc : ℕ) (x : Reach) (xs : List Reach) (o p : Option Violation) → p ≡ noted (reach_reasons_by x.addr m pc x) o →
     noted (reach_reasons m pc (x ∷ xs)) o ≡ noted (reach_reasons m pc xs) p
 reach_more m pc x xs o p e = noted_append (reach_reasons_by x.addr m pc x) (reach_reasons m pc xs) o ∙ ap (noted (reach_reasons m pc xs)) (sym e)
+
+pub word_more : (m : Module) (pc a : ℕ) (words : List Val) (addrs : List ℕ) (o p : Option Violation) → p ≡ noted (because_if (is_secret (nth (word_no m a) words Secret)) pc DataAtExit a) o →
+    noted (word_reasons m pc words (a ∷ addrs)) o ≡ noted (word_reasons m pc words addrs) p
+word_more m pc a words addrs o p e =
+    noted_append (because_if (is_secret (nth (word_no m a) words Secret)) pc DataAtExit a) (word_reasons m pc words addrs) o ∙ ap (noted (word_reasons m pc words addrs)) (sym e)
 
 -- ---- the lowest register that is Secret
 found_by : (k n pc : ℕ) (core : List Val) (o : Option Violation) (b : Bool) → is_secret (val core n) ≡ b → b ≡ true →
@@ -75,26 +81,31 @@ same_written m ws xs ys [] h = none_written m ws xs ∙ sym (none_written m ws y
 same_written m ws xs ys (v ∷ vs) h = absurd cc
 
 -- ---- an instruction of format I or II
-pub plain_least : (m : Module) (text : List ℕ) (insn : Insn) (pc : ℕ) (rs : CallString) (label : Label) (xs : List Reach) (values core : List Val) (stops : Bool) (o0 o1 o2 o3 : Option Violation) →
-    xs ≡ plan_val insn pc label.core → values ≡ map (read_val m text label.words) (read_reaches xs) → core ≡ (does_val insn pc label.core values).core →
+pub plain_least : (terms : Terms) (m : Module) (text : List ℕ) (insn : Insn) (pc : ℕ) (rs : CallString) (label : Label) (xs : List Reach) (values stored core words : List Val) (stops : Bool) (o0 o1 o2 o3 : Option Violation) →
+    xs ≡ plan_val insn pc label.core → values ≡ map (read_val m text label.words) (read_reaches xs) → core ≡ (does_val insn pc label.core values).core → stored ≡ (does_val insn pc label.core values).stored →
+    words ≡ writes_val m label.words (write_reaches xs) stored →
     o1 ≡ noted (reach_reasons m pc xs) o0 → o2 ≡ noted (turn_of insn pc (list_of rs) values).reasons o1 → stops ≡ (turn_of insn pc (list_of rs) values).stops →
-    ((returns : List ℕ) (words : List Val) → o3 ≡ noted (goes_unless stops m pc returns core words).reasons o2) →
-    o3 ≡ noted (step_plain m text insn (point_of pc rs label)).reasons o0
-plain_least m text insn pc rs label xs values core stops o0 o1 o2 o3 ex ev ec e1 e2 es e3 =
+    ((returns : List ℕ) → o3 ≡ noted (goes_unless terms stops m pc returns core words).reasons o2) →
+    o3 ≡ noted (step_plain terms m text insn (point_of pc rs label)).reasons o0
+plain_least terms m text insn pc rs label xs values stored core words stops o0 o1 o2 o3 ex ev ec ed ew e1 e2 es e3 =
     let r : List ℕ = list_of rs in
+    let p : List Reach = plan_val insn pc label.core in
     let vals : List Reach → List Val = λ xs. map (read_val m text label.words) (read_reaches xs) in
-    let evs : values ≡ vals (plan_val insn pc label.core) = ev ∙ ap vals ex in
-    let first : o1 ≡ noted (reach_reasons m pc (plan_val insn pc label.core)) o0 = e1 ∙ ap (λ x. noted (reach_reasons m pc x) o0) ex in
-    let second : o2 ≡ noted (turn_of insn pc r (vals (plan_val insn pc label.core))).reasons o1 = e2 ∙ ap (λ v. noted (turn_of insn pc r v).reasons o1) evs in
-    let v : List Val = vals (plan_val insn pc label.core) in
+    let v : List Val = vals p in
+    let evs : values ≡ v = ev ∙ ap vals ex in
+    let first : o1 ≡ noted (reach_reasons m pc p) o0 = e1 ∙ ap (λ x. noted (reach_reasons m pc x) o0) ex in
+    let second : o2 ≡ noted (turn_of insn pc r v).reasons o1 = e2 ∙ ap (λ v. noted (turn_of insn pc r v).reasons o1) evs in
     let d = does_val insn pc label.core v in
     let t = turn_of insn pc r v in
-    let ws : List Val = writes_val m label.words (write_reaches (plan_val insn pc label.core)) d.stored in
-    let third : o3 ≡ noted (goes_unless t.stops m pc t.returns d.core ws).reasons o2 =
-    e3 t.returns ws ∙ ap (λ s. noted (goes_unless s m pc t.returns core ws).reasons o2) (es ∙ ap (λ v. (turn_of insn pc r v).stops) evs)
-    ∙ ap (λ c. noted (goes_unless t.stops m pc t.returns c ws).reasons o2) (ec ∙ ap (λ v. (does_val insn pc label.core v).core) evs) in
-    let xs0 : List Found = reach_reasons m pc (plan_val insn pc label.core) in
-    let gs : List Found = (goes_unless t.stops m pc t.returns d.core ws).reasons in
+    let ws : List Val = writes_val m label.words (write_reaches p) d.stored in
+    let to_stored : stored ≡ d.stored = ed ∙ ap (λ v. (does_val insn pc label.core v).stored) evs in
+    let to_words : words ≡ ws = ew ∙ ap (λ x. writes_val m label.words (write_reaches x) stored) ex ∙ ap (writes_val m label.words (write_reaches p)) to_stored in
+    let third : o3 ≡ noted (goes_unless terms t.stops m pc t.returns d.core ws).reasons o2 =
+    e3 t.returns ∙ ap (λ s. noted (goes_unless terms s m pc t.returns core words).reasons o2) (es ∙ ap (λ v. (turn_of insn pc r v).stops) evs)
+    ∙ ap (λ c. noted (goes_unless terms t.stops m pc t.returns c words).reasons o2) (ec ∙ ap (λ v. (does_val insn pc label.core v).core) evs)
+    ∙ ap (λ w. noted (goes_unless terms t.stops m pc t.returns d.core w).reasons o2) to_words in
+    let xs0 : List Found = reach_reasons m pc p in
+    let gs : List Found = (goes_unless terms t.stops m pc t.returns d.core ws).reasons in
     third
     ∙ ap (noted gs) (second ∙ ap (noted t.reasons) first ∙ sym (noted_append xs0 t.reasons o0))
     ∙ sym (noted_append (xs0 ++ t.reasons) gs o0)
@@ -112,42 +123,42 @@ pub both_addrs : (xs ys : List Point) (t0 t1 t2 : List ℕ) → t1 ≡ t0 ++ add
 both_addrs xs ys t0 t1 t2 e1 e2 =
     e2 ∙ ap (λ l. l ++ addrs_of ys) e1 ∙ append_assoc t0 (addrs_of xs) (addrs_of ys) ∙ ap (λ l. t0 ++ l) (sym (addrs_append xs ys))
 
-pub jump_seven : (m : Module) (text : List ℕ) (insn : Insn) (cond_no : ℕ) (x : Point) → cond_no ≡ 7 →
-    step_jump m text insn cond_no x ≡ goes m x.pair.addr x.pair.returns (does_val insn x.pair.addr x.label.core []).core x.label.words
-jump_seven m text insn cond_no x e = by (cond_no == 7) (let t : (cond_no == 7) ≡ true = grind (arith, nat_tests) in t)
+pub jump_seven : (terms : Terms) (m : Module) (text : List ℕ) (insn : Insn) (cond_no : ℕ) (x : Point) → cond_no ≡ 7 →
+    step_jump terms m text insn cond_no x ≡ goes terms m x.pair.addr x.pair.returns (does_val insn x.pair.addr x.label.core []).core x.label.words
+jump_seven terms m text insn cond_no x e = by (cond_no == 7) (let t : (cond_no == 7) ≡ true = grind (arith, nat_tests) in t)
   where
-    by : (b : Bool) → b ≡ true → cond b (goes m x.pair.addr x.pair.returns (does_val insn x.pair.addr x.label.core []).core x.label.words)
-        (also (because_if (is_secret (val x.label.core 2)) x.pair.addr SecretBranch 0) (both (goes m x.pair.addr x.pair.returns (does_val insn x.pair.addr x.label.core []).core x.label.words) (goes m x.pair.addr x.pair.returns (past_val insn x.pair.addr x.label.core) x.label.words)))
-        ≡ goes m x.pair.addr x.pair.returns (does_val insn x.pair.addr x.label.core []).core x.label.words
+    by : (b : Bool) → b ≡ true → cond b (goes terms m x.pair.addr x.pair.returns (does_val insn x.pair.addr x.label.core []).core x.label.words)
+        (also (because_if (is_secret (val x.label.core 2)) x.pair.addr SecretBranch 0) (both (goes terms m x.pair.addr x.pair.returns (does_val insn x.pair.addr x.label.core []).core x.label.words) (goes terms m x.pair.addr x.pair.returns (past_val insn x.pair.addr x.label.core) x.label.words)))
+        ≡ goes terms m x.pair.addr x.pair.returns (does_val insn x.pair.addr x.label.core []).core x.label.words
     by true e = refl
     by false e = absurd cc
 
-pub jump_other : (m : Module) (text : List ℕ) (insn : Insn) (cond_no : ℕ) (x : Point) → cond_no ≢ 7 →
-    step_jump m text insn cond_no x ≡ also (because_if (is_secret (val x.label.core 2)) x.pair.addr SecretBranch 0) (both (goes m x.pair.addr x.pair.returns (does_val insn x.pair.addr x.label.core []).core x.label.words) (goes m x.pair.addr x.pair.returns (past_val insn x.pair.addr x.label.core) x.label.words))
-jump_other m text insn cond_no x e = by (cond_no == 7) (let t : (cond_no == 7) ≡ false = grind (arith, nat_tests) in t)
+pub jump_other : (terms : Terms) (m : Module) (text : List ℕ) (insn : Insn) (cond_no : ℕ) (x : Point) → cond_no ≢ 7 →
+    step_jump terms m text insn cond_no x ≡ also (because_if (is_secret (val x.label.core 2)) x.pair.addr SecretBranch 0) (both (goes terms m x.pair.addr x.pair.returns (does_val insn x.pair.addr x.label.core []).core x.label.words) (goes terms m x.pair.addr x.pair.returns (past_val insn x.pair.addr x.label.core) x.label.words))
+jump_other terms m text insn cond_no x e = by (cond_no == 7) (let t : (cond_no == 7) ≡ false = grind (arith, nat_tests) in t)
   where
-    by : (b : Bool) → b ≡ false → cond b (goes m x.pair.addr x.pair.returns (does_val insn x.pair.addr x.label.core []).core x.label.words)
-        (also (because_if (is_secret (val x.label.core 2)) x.pair.addr SecretBranch 0) (both (goes m x.pair.addr x.pair.returns (does_val insn x.pair.addr x.label.core []).core x.label.words) (goes m x.pair.addr x.pair.returns (past_val insn x.pair.addr x.label.core) x.label.words)))
-        ≡ also (because_if (is_secret (val x.label.core 2)) x.pair.addr SecretBranch 0) (both (goes m x.pair.addr x.pair.returns (does_val insn x.pair.addr x.label.core []).core x.label.words) (goes m x.pair.addr x.pair.returns (past_val insn x.pair.addr x.label.core) x.label.words))
+    by : (b : Bool) → b ≡ false → cond b (goes terms m x.pair.addr x.pair.returns (does_val insn x.pair.addr x.label.core []).core x.label.words)
+        (also (because_if (is_secret (val x.label.core 2)) x.pair.addr SecretBranch 0) (both (goes terms m x.pair.addr x.pair.returns (does_val insn x.pair.addr x.label.core []).core x.label.words) (goes terms m x.pair.addr x.pair.returns (past_val insn x.pair.addr x.label.core) x.label.words)))
+        ≡ also (because_if (is_secret (val x.label.core 2)) x.pair.addr SecretBranch 0) (both (goes terms m x.pair.addr x.pair.returns (does_val insn x.pair.addr x.label.core []).core x.label.words) (goes terms m x.pair.addr x.pair.returns (past_val insn x.pair.addr x.label.core) x.label.words))
     by false e = refl
     by true e = absurd cc
 
-pub unit_fails : (m : Module) (insn : Insn) (n : ℕ) (x : Point) → 1 ≤ n → n ≤ 4 → step_unit m insn (unit_named n) n x ≡ fails x.pair.addr UnitWord n
-unit_fails m insn zero x a b = absurd (omega (arith, a))
-unit_fails m insn (suc (suc (suc (suc (suc n))))) x a b = absurd (omega (arith, b))
-unit_fails m insn (suc _) x a b = refl
+pub unit_fails : (terms : Terms) (m : Module) (insn : Insn) (n : ℕ) (x : Point) → 1 ≤ n → n ≤ 4 → step_unit terms m insn (unit_named n) n x ≡ fails x.pair.addr UnitWord n
+unit_fails terms m insn zero x a b = absurd (omega (arith, a))
+unit_fails terms m insn (suc (suc (suc (suc (suc n))))) x a b = absurd (omega (arith, b))
+unit_fails terms m insn (suc _) x a b = refl
 
-pub unit_goes : (m : Module) (insn : Insn) (n : ℕ) (x : Point) → 5 ≤ n → step_unit m insn (unit_named n) n x ≡ goes m x.pair.addr x.pair.returns (put_val (past_val insn x.pair.addr x.label.core) 15 Public) x.label.words
-unit_goes m insn (suc (suc (suc (suc (suc zero))))) x a = refl
-unit_goes m insn (suc (suc (suc (suc (suc (suc zero)))))) x a = refl
-unit_goes m insn (suc (suc (suc (suc (suc (suc (suc n))))))) x a = refl
-unit_goes m insn _ x a = absurd (omega (arith, a))
+pub unit_goes : (terms : Terms) (m : Module) (insn : Insn) (n : ℕ) (x : Point) → 5 ≤ n → step_unit terms m insn (unit_named n) n x ≡ goes terms m x.pair.addr x.pair.returns (put_val (past_val insn x.pair.addr x.label.core) 15 Public) x.label.words
+unit_goes terms m insn (suc (suc (suc (suc (suc zero))))) x a = refl
+unit_goes terms m insn (suc (suc (suc (suc (suc (suc zero)))))) x a = refl
+unit_goes terms m insn (suc (suc (suc (suc (suc (suc (suc n))))))) x a = refl
+unit_goes terms m insn _ x a = absurd (omega (arith, a))
 
-pub jump_same : (m : Module) (text : List ℕ) (insn : Insn) (cond_no : ℕ) (off : ℤ) (x : Point) → insn ≡ Jump cond_no off → step_jump m text insn cond_no x ≡ step_insn m text (Some insn) x
-jump_same m text insn cond_no off x e = ap (λ i. step_jump m text i cond_no x) e ∙ sym (ap (λ i. step_insn m text (Some i) x) e)
+pub jump_same : (terms : Terms) (m : Module) (text : List ℕ) (insn : Insn) (cond_no : ℕ) (off : ℤ) (x : Point) → insn ≡ Jump cond_no off → step_jump terms m text insn cond_no x ≡ step_insn terms m text (Some insn) x
+jump_same terms m text insn cond_no off x e = ap (λ i. step_jump terms m text i cond_no x) e ∙ sym (ap (λ i. step_insn terms m text (Some i) x) e)
 
-pub reti_same : (m : Module) (text : List ℕ) (insn : Insn) (x : Point) → insn ≡ Reti → fails x.pair.addr Illegal (word_at (text_byte m.text text) x.pair.addr) ≡ step_insn m text (Some insn) x
-reti_same m text insn x e = sym (ap (λ i. step_insn m text (Some i) x) e)
+pub reti_same : (terms : Terms) (m : Module) (text : List ℕ) (insn : Insn) (x : Point) → insn ≡ Reti → fails x.pair.addr Illegal (word_at (text_byte m.text text) x.pair.addr) ≡ step_insn terms m text (Some insn) x
+reti_same terms m text insn x e = sym (ap (λ i. step_insn terms m text (Some i) x) e)
 
 -- ---- steps into the closed words of a stub
 shut_same : (m : Module) (pc : ℕ) (gs : List Point) → shut_reasons m pc gs ≡ shut_at m pc (addrs_of gs)
@@ -162,19 +173,19 @@ pub shut_after : (m : Module) (pc : ℕ) (s : Step) (ts : List ℕ) (o0 o1 o2 : 
 shut_after m pc s ts o0 o1 o2 e1 et e2 =
     e2 ∙ ap (λ t. noted (shut_at m pc t) o1) et ∙ ap (λ rs. noted rs o1) (sym (shut_same m pc s.gives)) ∙ ap (noted (shut_reasons m pc s.gives)) e1 ∙ sym (noted_append s.reasons (shut_reasons m pc s.gives) o0)
 
-pub stub_open : (m : Module) (text : List ℕ) (x : Point) → (word_number m x.pair.addr == 17) ≡ false → is_open (word_number m x.pair.addr) ≡ true → step_of m text x ≡ step_stub m text x
+pub stub_open : (terms : Terms) (m : Module) (text : List ℕ) (x : Point) → (word_number m x.pair.addr == 17) ≡ false → is_open (word_number m x.pair.addr) ≡ true → step_of terms m text x ≡ step_stub terms m text x
 unfolding step_stub
-stub_open m text x e f = by (word_number m x.pair.addr == 17) (is_open (word_number m x.pair.addr)) e f
+stub_open terms m text x e f = by (word_number m x.pair.addr == 17) (is_open (word_number m x.pair.addr)) e f
   where
-    by : (a b : Bool) → a ≡ false → b ≡ true → step_of m text x ≡ cond a (step_entries m text x) (shut_if b m x.pair.addr (step_of m text x))
+    by : (a b : Bool) → a ≡ false → b ≡ true → step_of terms m text x ≡ cond a (step_entries m text x) (shut_if b m x.pair.addr (step_of terms m text x))
     by false true e f = refl
     by _ _ e f = absurd cc
 
-pub stub_shut : (m : Module) (text : List ℕ) (x : Point) → (word_number m x.pair.addr == 17) ≡ false → is_open (word_number m x.pair.addr) ≡ false → shut_if false m x.pair.addr (step_of m text x) ≡ step_stub m text x
+pub stub_shut : (terms : Terms) (m : Module) (text : List ℕ) (x : Point) → (word_number m x.pair.addr == 17) ≡ false → is_open (word_number m x.pair.addr) ≡ false → shut_if false m x.pair.addr (step_of terms m text x) ≡ step_stub terms m text x
 unfolding step_stub
-stub_shut m text x e f = by (word_number m x.pair.addr == 17) (is_open (word_number m x.pair.addr)) e f
+stub_shut terms m text x e f = by (word_number m x.pair.addr == 17) (is_open (word_number m x.pair.addr)) e f
   where
-    by : (a b : Bool) → a ≡ false → b ≡ false → shut_if false m x.pair.addr (step_of m text x) ≡ cond a (step_entries m text x) (shut_if b m x.pair.addr (step_of m text x))
+    by : (a b : Bool) → a ≡ false → b ≡ false → shut_if false m x.pair.addr (step_of terms m text x) ≡ cond a (step_entries m text x) (shut_if b m x.pair.addr (step_of terms m text x))
     by false false e f = refl
     by _ _ e f = absurd cc
 

@@ -2,6 +2,7 @@ pub mod Carries
 pub mod Points
 pub mod Violations
 pub mod Stubs
+pub mod Terms
 pub mod Weights
 pub mod Arms
 pub mod Labellings

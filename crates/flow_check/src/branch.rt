@@ -8,6 +8,7 @@ ghost use Rattle.flow_rule.specs.Does.{past_val, does_val};
 ghost use Rattle.flow_rule.specs.Arms.{find_arm, arm_start};
 ghost use Rattle.flow_check.specs.internal.Violations.{noted};
 ghost use Rattle.flow_check.specs.internal.Points.{point_at};
+ghost use Rattle.flow_check.specs.internal.Terms.{terms_of};
 ghost use Rattle.flow_check.specs.internal.Programs.{flow_at};
 ghost use Rattle.flow_check.specs.internal.Summaries.{clobbered};
 ghost use Rattle.flow_check.specs.internal.Arms.{site_by};
@@ -145,7 +146,8 @@ pub fn walk_arms(
 )
     ensures least { least.new ≡ noted (flow_at program.now site.now (point_at from.now)).reasons least.old }
     ensures told { told.new
-        ≡ clobbered program.now.module.now program.now.text.now site.now (point_at from.now) told.old }
+        ≡ clobbered (terms_of program.now) program.now.module.now program.now.text.now site.now (point_at from.now)
+        told.old }
 {
     let BranchSite { insn, target, arm } = *site;
     let mut tally = Tally {

@@ -33,7 +33,7 @@ pub fn word_number(module: &Module, addr: u16) -> usize
 }
 
 /// What is known of a word of the data.
-fn known(words: &[Val; 256], n: usize) -> Val
+pub fn known(words: &[Val; 256], n: usize) -> Val
     ensures { result ≡ nth n words.now Val.Secret }
 {
     match words.get(n) {

@@ -7,7 +7,7 @@ ghost use Rattle.flow_check.specs.internal.Stubs.{IsStub};
 use arm_balance::Arm;
 use mod_layout::Module;
 
-/// A module with its text and the certificates of its balanced branches.
+/// A module with its text, the certificates of its balanced branches, and the terms under which it is checked.
 #[derive(Drop)]
 pub struct Program<'a> {
     pub module: &'a Module,
@@ -15,6 +15,10 @@ pub struct Program<'a> {
     /// The number of the entries, where the text begins with its stub.
     pub stub: Option<u16>,
     pub arms: &'a [Arm],
+    /// The registers that may hold anything where a call ends, by their numbers, 2 for the flags.
+    pub answers: &'a [u8],
+    /// The addresses of the data words that are public where a call begins, and have to be so again where it leaves.
+    pub public: &'a [u16],
     pub ghost exact: { IsStub module.now text.now stub },
     pub ghost few: { ForSome stub (λ n. n ≤ 64) },
 }

@@ -5,6 +5,8 @@
 ghost use Rattle.std.specs.Prelude.{◌≡◌, ◌≢◌, ◌≤◌, ◌<◌, ◌%◌, ℕ, List, IfSome, IfOk, Some};
 ghost use Rattle.std.specs.Prelude.{None, true, slice_get, All, []};
 ghost use Rattle.mod_layout.specs.declared.Module.{Module};
+ghost use Rattle.flow_rule.specs.Terms.{Terms};
+ghost use Rattle.flow_check.specs.internal.Terms.{terms_of};
 ghost use Rattle.flow_check.specs.internal.Points.{addrs_of, point_at, point_of};
 ghost use Rattle.flow_check.specs.internal.Programs.{flow, flow_at, AreSummaries};
 ghost use Rattle.flow_check.specs.internal.Summaries.{branch_step, blank, branch_from, OpensTo, IsSummary};
@@ -71,7 +73,7 @@ fn walked(
     state: &Label,
     relevance: &mut Relevance,
 ) -> Summary
-    ensures is { IsSummary program.now.module.now program.now.text.now result }
+    ensures is { IsSummary (terms_of program.now) program.now.module.now program.now.text.now result }
     ensures branch { result.branch ≡ pc }
     ensures site { result.site ≡ site.now }
     ensures state { result.state ≡ state.now }
@@ -98,8 +100,9 @@ fn walked(
 
 /// Walks the arms of a branch under its state, and writes what they write where there is no violation.
 fn applied(program: &Program<'_>, site: &BranchSite, pc: u16, state: &mut Label) -> Outcome
-    ensures open { result ≡ Outcome.Open → (returns : List ℕ) → OpensTo program.now.module.now program.now.text.now
-        site.now (branch_from pc returns state.old) state.new }
+    ensures open { result ≡ Outcome.Open → (returns : List ℕ) →
+        OpensTo (terms_of program.now) program.now.module.now program.now.text.now site.now
+        (branch_from pc returns state.old) state.new }
     ensures shut { result ≡ Outcome.Shut → (returns : List ℕ) →
         (flow_at program.now site.now (branch_from pc returns state.old)).reasons ≢ [] }
 {
@@ -117,8 +120,8 @@ fn applied(program: &Program<'_>, site: &BranchSite, pc: u16, state: &mut Label)
 /// Puts a summary in this place, or behind all others.
 #[tactic(auto, using(crate::proofs::Subsuming::kept_push, crate::proofs::Subsuming::kept_set))]
 fn put(list: &mut Vec<Summary>, place: usize, summary: Summary) -> Result<(), AllocError>
-    ensures { IfOk result (λ _. (m : Module) (text : List ℕ) → IsSummary m text summary →
-        All (IsSummary m text) list.old.items → All (IsSummary m text) list.new.items) }
+    ensures { IfOk result (λ _. (terms : Terms) (m : Module) (text : List ℕ) → IsSummary terms m text summary →
+        All (IsSummary terms m text) list.old.items → All (IsSummary terms m text) list.new.items) }
 {
     if place < list.len() {
         list[place] = summary;
@@ -149,7 +152,7 @@ fn learned(
     pc: u16,
     state: &Label,
 ) -> Summary
-    ensures { IsSummary program.now.module.now program.now.text.now result }
+    ensures { IsSummary (terms_of program.now) program.now.module.now program.now.text.now result }
 {
     let mut none = Relevance::new(false);
     if let Some(near) = near
@@ -176,7 +179,7 @@ fn learned(
 impl Summaries {
     /// No summary.
     pub fn new(alloc: Global) -> Summaries
-        ensures { (m : Module) (text : List ℕ) → All (IsSummary m text) result.list.items }
+        ensures { (terms : Terms) (m : Module) (text : List ℕ) → All (IsSummary terms m text) result.list.items }
     {
         Summaries {
             list: Vec::new(alloc),
@@ -204,12 +207,12 @@ impl Summaries {
 
     /// What the summary there says of a branch under a state. Where the branch is open, its arms then write.
     fn answer(&self, place: usize, site: &BranchSite, pc: u16, state: &mut Label) -> Option<Outcome>
-        ensures open { result ≡ Some Outcome.Open → (m : Module) (text returns : List ℕ) → m.text.start % 2 ≡ 0 →
-            All (IsSummary m text) self.now.list.items →
-            OpensTo m text site.now (branch_from pc returns state.old) state.new }
-        ensures shut { result ≡ Some Outcome.Shut → (m : Module) (text returns : List ℕ) → m.text.start % 2 ≡ 0 →
-            All (IsSummary m text) self.now.list.items →
-            (branch_step m text site.now (branch_from pc returns state.old)).reasons ≢ [] }
+        ensures open { result ≡ Some Outcome.Open → (terms : Terms) (m : Module) (text returns : List ℕ) → m.text.start % 2 ≡ 0 →
+            All (IsSummary terms m text) self.now.list.items →
+            OpensTo terms m text site.now (branch_from pc returns state.old) state.new }
+        ensures shut { result ≡ Some Outcome.Shut → (terms : Terms) (m : Module) (text returns : List ℕ) → m.text.start % 2 ≡ 0 →
+            All (IsSummary terms m text) self.now.list.items →
+            (branch_step terms m text site.now (branch_from pc returns state.old)).reasons ≢ [] }
         ensures silent { result ≡ None → state.new ≡ state.old }
     {
         arms_rest();
@@ -243,12 +246,12 @@ impl Summaries {
         pc: u16,
         state: &mut Label,
     ) -> Option<Outcome>
-        ensures open { result ≡ Some Outcome.Open → (m : Module) (text returns : List ℕ) → m.text.start % 2 ≡ 0 →
-            All (IsSummary m text) self.now.list.items →
-            OpensTo m text site.now (branch_from pc returns state.old) state.new }
-        ensures shut { result ≡ Some Outcome.Shut → (m : Module) (text returns : List ℕ) → m.text.start % 2 ≡ 0 →
-            All (IsSummary m text) self.now.list.items →
-            (branch_step m text site.now (branch_from pc returns state.old)).reasons ≢ [] }
+        ensures open { result ≡ Some Outcome.Open → (terms : Terms) (m : Module) (text returns : List ℕ) → m.text.start % 2 ≡ 0 →
+            All (IsSummary terms m text) self.now.list.items →
+            OpensTo terms m text site.now (branch_from pc returns state.old) state.new }
+        ensures shut { result ≡ Some Outcome.Shut → (terms : Terms) (m : Module) (text returns : List ℕ) → m.text.start % 2 ≡ 0 →
+            All (IsSummary terms m text) self.now.list.items →
+            (branch_step terms m text site.now (branch_from pc returns state.old)).reasons ≢ [] }
         ensures silent { result ≡ None → state.new ≡ state.old }
     {
         if let Some(place) = own
@@ -261,8 +264,8 @@ impl Summaries {
 
     /// Keeps a summary in a point's own place, and tells the place.
     fn keep(&mut self, own: Option<usize>, summary: Summary) -> Result<usize, AllocError>
-        ensures summaries { IfOk result (λ _. (m : Module) (text : List ℕ) → IsSummary m text summary →
-            All (IsSummary m text) self.old.list.items → All (IsSummary m text) self.new.list.items) }
+        ensures summaries { IfOk result (λ _. (terms : Terms) (m : Module) (text : List ℕ) → IsSummary terms m text summary →
+            All (IsSummary terms m text) self.old.list.items → All (IsSummary terms m text) self.new.list.items) }
     {
         let place = match own {
             Some(place) => place,
@@ -284,7 +287,7 @@ impl Summaries {
     ) -> Result<Outcome, AllocError>
         requires summaries { AreSummaries program.now self.old.list.items }
         ensures open { IfOk result (λ outcome. outcome ≡ Outcome.Open → (returns : List ℕ) →
-            OpensTo program.now.module.now program.now.text.now site.now
+            OpensTo (terms_of program.now) program.now.module.now program.now.text.now site.now
             (branch_from pc returns state.old) state.new) }
         ensures shut { IfOk result (λ outcome. outcome ≡ Outcome.Shut → (returns : List ℕ) →
             (flow_at program.now site.now (branch_from pc returns state.old)).reasons ≢ []) }
@@ -305,9 +308,9 @@ impl Summaries {
 
     /// Whether it is known that a branch has no violation under its state.
     pub fn is_open(&self, own: Option<usize>, site: &BranchSite, pc: u16, state: &Label) -> bool
-        ensures { result ≡ true → (m : Module) (text returns : List ℕ) → m.text.start % 2 ≡ 0 →
-            All (IsSummary m text) self.now.list.items →
-            (branch_step m text site.now (branch_from pc returns state.now)).reasons ≡ [] }
+        ensures { result ≡ true → (terms : Terms) (m : Module) (text returns : List ℕ) → m.text.start % 2 ≡ 0 →
+            All (IsSummary terms m text) self.now.list.items →
+            (branch_step terms m text site.now (branch_from pc returns state.now)).reasons ≡ [] }
     {
         let mut state = *state;
         match self.known(own, site, pc, &mut state) {

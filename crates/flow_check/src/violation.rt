@@ -18,7 +18,7 @@ pub struct Violation {
 /// The number of a reason.
 fn number(reason: Reason) -> u32
     ensures exact { result ≡ number_of reason }
-    ensures few { result ≤ 10 }
+    ensures few { result ≤ 11 }
 {
     match reason {
         Reason::SecretBranch => 1,
@@ -31,6 +31,7 @@ fn number(reason: Reason) -> u32
         Reason::TooMany => 8,
         Reason::Arm => 9,
         Reason::ArmTime => 10,
+        Reason::DataAtExit => 11,
     }
 }
 

@@ -23,6 +23,7 @@ use Rattle.mod_layout.specs.declared.Section.{Section}
 use Rattle.mod_layout.specs.Table.{holds}
 use Rattle.cpu_step.specs.Asked.{asks}
 use Rattle.cpu_step.specs.Lone.{Job, Lone, lone_step, job_of}
+use Rattle.flow_rule.specs.Terms.{Terms}
 use Rattle.flow_rule.specs.declared.Val.{Val}
 use Rattle.flow_rule.specs.declared.Val.TheVariants.{Known, Away, Public, Secret}
 use Rattle.flow_rule.specs.Values.{is_secret, val, put_val, kept_val}
@@ -101,7 +102,7 @@ passes_on j (suc k) i l l' l2 p q = subst (λ n. Passes j n l l2) (suc_plus k i)
     suc_plus : (k i : ℕ) → suc (k + i) ≡ suc k + i
     suc_plus k i = omega arith
 
-module _ (key : List ℕ) (m : Module) (text : List ℕ) (caller : ℕ) (shape : Shape m) where
+module _ (terms : Terms) (key : List ℕ) (m : Module) (text : List ℕ) (caller : ℕ) (shape : Shape m) where
   abbrev j : Job
   j = job_of key m text caller
 
@@ -110,7 +111,7 @@ module _ (key : List ℕ) (m : Module) (text : List ℕ) (caller : ℕ) (shape :
     core : List ℕ
     data_left : List ℕ
     pass : Passes j cycles (at_rest c d) (at_rest core data_left)
-    single : Single m gives core data_left core data_left
+    single : Single terms m gives core data_left core data_left
     regs : (k : ℕ) → k ≢ 0 → k ≢ 2 → NotIn k rs → reg core k ≡ reg c k
     words : (i : ℕ) → NotIn i ws → word data_left i ≡ word d i
     long : length core ≡ 16
@@ -149,9 +150,9 @@ module _ (key : List ℕ) (m : Module) (text : List ℕ) (caller : ℕ) (shape :
   at_other x ca da cb db h =
       record { pc_a = h.pc_b; pc_b = h.pc_b; core = core_other x.label.core ca cb (ap (λ i. i % 2) (h.pc_b ∙ sym h.pc_a) ∙ h.core.even_pc) h.core; words = data_other x.label.words da db h.words; in_text = h.in_text }
 
-  single_self : (gives : List Point) (ca da cb db : List ℕ) → Single m gives ca da cb db → Single m gives ca da ca da
+  single_self : (gives : List Point) (ca da cb db : List ℕ) → Single terms m gives ca da cb db → Single terms m gives ca da ca da
   single_self gives ca da cb db (Here y one at) = Here y one (at_self y ca da cb db at)
-  single_self gives ca da cb db (Gone nothing e o p q) = Gone nothing refl o p p
+  single_self gives ca da cb db (Gone nothing same out_a out_b p q agree) = Gone nothing refl out_a out_a p p (λ i d lt. refl)
 
   conf_mode : (c x : List ℕ) → length x ≡ 16 → mode (reg (confined true c x) 2) ≡ mode (reg c 2)
   unfolding confined
@@ -166,7 +167,7 @@ module _ (key : List ℕ) (m : Module) (text : List ℕ) (caller : ℕ) (shape :
   conf_long c x = length-set x 2 _
 
   -- length and mode by the agreement that the instruction leaves
-  by_parts : (insn : Insn) (x : Point) (gives : List Point) (c d : List ℕ) (q : Parts key m text caller shape insn gives c d c d) → 0 < cycles_of insn → (rs ws : List ℕ) →
+  by_parts : (insn : Insn) (x : Point) (gives : List Point) (c d : List ℕ) (q : Parts terms key m text caller shape insn gives c d c d) → 0 < cycles_of insn → (rs ws : List ℕ) →
       length (next_core insn c q.values_a) ≡ 16 →
       ((k : ℕ) → k ≢ 0 → k ≢ 2 → NotIn k rs → reg (next_core insn c q.values_a) k ≡ reg c k) → ((i : ℕ) → NotIn i ws → word q.left_a i ≡ word d i) → Moved x gives c d (cycles_of insn) rs ws
   by_parts insn x gives c d q some rs ws long regs words =
@@ -215,8 +216,8 @@ module _ (key : List ℕ) (m : Module) (text : List ℕ) (caller : ℕ) (shape :
   is_seven true b c to next e = refl
   is_seven false b c to next e = absurd cc
 
-  jump_move : (cn : ℕ) (off : ℤ) (x : Point) (c d : List ℕ) → AgreeAt m x c d c d → met m.text text x.pair.addr ≡ Some (Jump cn off) → (cn == 7) ≡ true → (step_jump m text (Jump cn off) cn x).reasons ≡ [] →
-      Moved x (step_jump m text (Jump cn off) cn x).gives c d (cycles_of (Jump cn off)) [] (met_words (Some (Jump cn off)) m x)
+  jump_move : (cn : ℕ) (off : ℤ) (x : Point) (c d : List ℕ) → AgreeAt m x c d c d → met m.text text x.pair.addr ≡ Some (Jump cn off) → (cn == 7) ≡ true → (step_jump terms m text (Jump cn off) cn x).reasons ≡ [] →
+      Moved x (step_jump terms m text (Jump cn off) cn x).gives c d (cycles_of (Jump cn off)) [] (met_words (Some (Jump cn off)) m x)
   unfolding does_val cycles_of asks plan
   jump_move cn off x c d at e seven none = by (cn == 7) seven none
     where
@@ -224,10 +225,10 @@ module _ (key : List ℕ) (m : Module) (text : List ℕ) (caller : ℕ) (shape :
       insn = Jump cn off
 
       goes_on : Step
-      goes_on = goes m x.pair.addr x.pair.returns (way_val key m text caller shape cn off x c d c d at e true) x.label.words
+      goes_on = goes terms m x.pair.addr x.pair.returns (way_val terms key m text caller shape cn off x c d c d at e true) x.label.words
 
       other : Step
-      other = also (because_if (is_secret (val x.label.core 2)) x.pair.addr SecretBranch 0) (both goes_on (goes m x.pair.addr x.pair.returns (past_val (Jump cn off) x.pair.addr x.label.core) x.label.words))
+      other = also (because_if (is_secret (val x.label.core 2)) x.pair.addr SecretBranch 0) (both goes_on (goes terms m x.pair.addr x.pair.returns (past_val (Jump cn off) x.pair.addr x.label.core) x.label.words))
 
       taken : jumps cn (reg c 2) ≡ true
       taken = let k : cn ≡ 7 = grind (arith, nat_tests) in ap (λ i. jumps i (reg c 2)) k
@@ -242,9 +243,9 @@ module _ (key : List ℕ) (m : Module) (text : List ℕ) (caller : ℕ) (shape :
             core = confined true c x1;
             data_left = d;
             pass = does_it j c d (confined true c x1) d (Jump cn off) 1 false
-                (fetched key m text caller shape c d (Jump cn off) at.core.even_pc (ap (λ a. holds m.text a) at.pc_a ∙ at.in_text) (ap (λ a. met m.text text a) at.pc_a ∙ e) refl refl)
-                (jump_so key m text caller shape cn off c d ∙ ap (λ t. after (confined true c (cond t x1 c1)) d 1 false) taken);
-            single = way_single key m text caller shape cn off x c d c d at e true none;
+                (fetched terms key m text caller shape c d (Jump cn off) at.core.even_pc (ap (λ a. holds m.text a) at.pc_a ∙ at.in_text) (ap (λ a. met m.text text a) at.pc_a ∙ e) refl refl)
+                (jump_so terms key m text caller shape cn off c d ∙ ap (λ t. after (confined true c (cond t x1 c1)) d 1 false) taken);
+            single = way_single terms key m text caller shape cn off x c d c d at e true none;
             regs = λ k n0 n2 no. conf_reg c x1 k n2 ∙ put_other_reg c1 0 (add16 (reg c1 0) (distance off)) k n0 ∙ past_kept (Jump cn off) c k n0;
             words = λ i no. refl;
             long = conf_long c x1 ∙ len;
@@ -252,31 +253,31 @@ module _ (key : List ℕ) (m : Module) (text : List ℕ) (caller : ℕ) (shape :
           }
 
   -- one instruction of an arm
-  arm_move : (x : Point) (c d : List ℕ) (join next : ℕ) → AgreeAt m x c d c d → arm_next join x.pair.addr (met m.text text x.pair.addr) ≡ Some next → (step_of m text x).reasons ≡ [] →
-      Moved x (step_of m text x).gives c d (met_cycles (met m.text text x.pair.addr)) (met_regs (met m.text text x.pair.addr)) (met_words (met m.text text x.pair.addr) m x)
+  arm_move : (x : Point) (c d : List ℕ) (join next : ℕ) → AgreeAt m x c d c d → arm_next join x.pair.addr (met m.text text x.pair.addr) ≡ Some next → (step_of terms m text x).reasons ≡ [] →
+      Moved x (step_of terms m text x).gives c d (met_cycles (met m.text text x.pair.addr)) (met_regs (met m.text text x.pair.addr)) (met_words (met m.text text x.pair.addr) m x)
   unfolding step_of
   arm_move x c d join next at on none = by (met m.text text x.pair.addr) refl on none
     where
-      by : (o : Option Insn) → met m.text text x.pair.addr ≡ o → arm_next join x.pair.addr o ≡ Some next → (step_insn m text o x).reasons ≡ [] → Moved x (step_insn m text o x).gives c d (met_cycles o) (met_regs o) (met_words o m x)
+      by : (o : Option Insn) → met m.text text x.pair.addr ≡ o → arm_next join x.pair.addr o ≡ Some next → (step_insn terms m text o x).reasons ≡ [] → Moved x (step_insn terms m text o x).gives c d (met_cycles o) (met_regs o) (met_words o m x)
       by None e on none = absurd cc
       by (Some (Two op w s dst)) e on none =
-          let h = two_alike key m text caller shape op w s dst (met_regular m text x.pair.addr (Two op w s dst) e) in
-          let q = plain_parts key m text caller shape (Two op w s dst) h x c d c d at e none in
-          by_parts (Two op w s dst) x (step_plain m text (Two op w s dst) x).gives c d q (two_cycles_some op w s dst) _ _ (two_long op w s dst c q.values_a at.core.long_a)
-          (λ k n0 n2 no. two_regs op w s dst c q.values_a k n0 n2 no) (λ i no. plain_kept key m text caller shape (Two op w s dst) h x c d c d at e none i no)
+          let h = two_alike terms key m text caller shape op w s dst (met_regular m text x.pair.addr (Two op w s dst) e) in
+          let q = plain_parts terms key m text caller shape (Two op w s dst) h x c d c d at e none in
+          by_parts (Two op w s dst) x (step_plain terms m text (Two op w s dst) x).gives c d q (two_cycles_some op w s dst) _ _ (two_long op w s dst c q.values_a at.core.long_a)
+          (λ k n0 n2 no. two_regs op w s dst c q.values_a k n0 n2 no) (λ i no. plain_kept terms key m text caller shape (Two op w s dst) h x c d c d at e none i no)
       by (Some (One op w a)) e on none = one op (not_call op on) e none
         where
           not_call : (op : OneOp) → arm_next join x.pair.addr (Some (One op w a)) ≡ Some next → op ≢ Call
           not_call Call on f = absurd cc
           not_call _ on f = absurd cc
 
-          one : (op : OneOp) → op ≢ Call → met m.text text x.pair.addr ≡ Some (One op w a) → (step_plain m text (One op w a) x).reasons ≡ [] → Moved x (step_plain m text (One op w a) x).gives c d (cycles_of (One op w a)) (written_regs (One op w a)) (met_words (Some (One op w a)) m x)
+          one : (op : OneOp) → op ≢ Call → met m.text text x.pair.addr ≡ Some (One op w a) → (step_plain terms m text (One op w a) x).reasons ≡ [] → Moved x (step_plain terms m text (One op w a) x).gives c d (cycles_of (One op w a)) (written_regs (One op w a)) (met_words (Some (One op w a)) m x)
           one op nc e none =
               let r = met_regular m text x.pair.addr (One op w a) e in
-              let h = one_alike key m text caller shape op w a r.0 in
-              let q = plain_parts key m text caller shape (One op w a) h x c d c d at e none in
-              by_parts (One op w a) x (step_plain m text (One op w a) x).gives c d q r.1 _ _ (one_long op w a c q.values_a nc at.core.long_a)
-              (λ k n0 n2 no. one_regs op w a c q.values_a k n0 n2 nc no) (λ i no. plain_kept key m text caller shape (One op w a) h x c d c d at e none i no)
+              let h = one_alike terms key m text caller shape op w a r.0 in
+              let q = plain_parts terms key m text caller shape (One op w a) h x c d c d at e none in
+              by_parts (One op w a) x (step_plain terms m text (One op w a) x).gives c d q r.1 _ _ (one_long op w a c q.values_a nc at.core.long_a)
+              (λ k n0 n2 no. one_regs op w a c q.values_a k n0 n2 nc no) (λ i no. plain_kept terms key m text caller shape (One op w a) h x c d c d at e none i no)
       by (Some (Jump cn off)) e on none = jump_move cn off x c d at e (is_seven (cn == 7) _ _ _ next on) none
       by (Some Reti) e on none = absurd cc
       by (Some (UnitOp n)) e on none = absurd cc
@@ -301,7 +302,7 @@ module _ (key : List ℕ) (m : Module) (text : List ℕ) (caller : ℕ) (shape :
 
   -- other steps that do along an arm what the plain ones do
   abbrev pub Refines : (Point → Step) → Type 0
-  Refines S = (x : Point) (c d : List ℕ) (join next : ℕ) → AgreeAt m x c d c d → arm_next join x.pair.addr (met m.text text x.pair.addr) ≡ Some next → (S x).reasons ≡ [] → ((step_of m text x).reasons ≡ []) × ((S x).gives ≡ (step_of m text x).gives)
+  Refines S = (x : Point) (c d : List ℕ) (join next : ℕ) → AgreeAt m x c d c d → arm_next join x.pair.addr (met m.text text x.pair.addr) ≡ Some next → (S x).reasons ≡ [] → ((step_of terms m text x).reasons ≡ []) × ((S x).gives ≡ (step_of terms m text x).gives)
 
   module _ (S : Point → Step) (refine : Refines S) where
     -- past its first instruction
@@ -321,8 +322,8 @@ module _ (key : List ℕ) (m : Module) (text : List ℕ) (caller : ℕ) (shape :
         mv : Moved x (S x).gives c d (met_cycles (met m.text text x.pair.addr)) (met_regs (met m.text text x.pair.addr)) (met_words (met m.text text x.pair.addr) m x)
         mv = let r = refine x c d join next at on er in subst (λ g. Moved x g c d (met_cycles (met m.text text x.pair.addr)) (met_regs (met m.text text x.pair.addr)) (met_words (met m.text text x.pair.addr) m x)) (sym r.1) (arm_move x c d join next at on r.0)
 
-        by : Single m (S x).gives mv.core mv.data_left mv.core mv.data_left → Walked (walked m text x (walk S m text branch join fuel y)) join c d
-        by (Gone nothing e o p q) = absurd (empty (eg_to nothing))
+        by : Single terms m (S x).gives mv.core mv.data_left mv.core mv.data_left → Walked (walked m text x (walk S m text branch join fuel y)) join c d
+        by (Gone nothing same out_a out_b p q agree) = absurd (empty (eg_to nothing))
           where
             eg_to : (S x).gives ≡ [] → (y ∷ ys) ≡ []
             eg_to e = sym eg ∙ e
@@ -449,9 +450,9 @@ module _ (s : Section) where
   blot_at (k ∷ ns) v n a b h = blot_at ns (set v k Secret) n a b (λ no. one_blot_word v n k a b (λ ne. h (ne, no)))
 
 -- ---- both arms
-module _ (key : List ℕ) (m : Module) (text : List ℕ) (caller : ℕ) (shape : Shape m) (S : Point → Step) (refine : Refines key m text caller shape S) (At : Standing) (down : (x : Point) (ca da cb db : List ℕ) → At x ca da cb db → AgreeAt m x ca da cb db)
+module _ (terms : Terms) (key : List ℕ) (m : Module) (text : List ℕ) (caller : ℕ) (shape : Shape m) (S : Point → Step) (refine : Refines terms key m text caller shape S) (At : Standing) (down : (x : Point) (ca da cb db : List ℕ) → At x ca da cb db → AgreeAt m x ca da cb db)
     (up : (x : Point) (ca da cb db : List ℕ) → At x ca da cb db → (cn : ℕ) (off : ℤ) → met m.text text x.pair.addr ≡ Some (Jump cn off) → (y : Point) (pa qa pb qb : List ℕ) → kept 0 (add16 x.pair.addr 2) ≤ y.pair.addr → AgreeAt m y pa qa pb qb → At y pa qa pb qb)
-    (base : (x : Point) (ca da cb db : List ℕ) → At x ca da cb db → (S x).reasons ≡ [] → Crossing m (job_of key m text caller) At (S x).gives (at_rest ca da) (at_rest cb db)) where
+    (base : (x : Point) (ca da cb db : List ℕ) → At x ca da cb db → (S x).reasons ≡ [] → Crossing terms m (job_of key m text caller) At (S x).gives (at_rest ca da) (at_rest cb db)) where
   abbrev jj : Job
   jj = job_of key m text caller
 
@@ -490,12 +491,12 @@ module _ (key : List ℕ) (m : Module) (text : List ℕ) (caller : ℕ) (shape :
     unfolding asks plan
     arm_crossed t c d self turn inn none time =
         let ev : pc0 % 2 ≡ 0 = ap (λ i. i % 2) (sym self.pc_a) ∙ self.core.even_pc in
-        let ways = way_agrees key m text caller shape cn off x c d c d self met_it t in
+        let ways = way_agrees terms key m text caller shape cn off x c d c d self met_it t in
         let first : Passes jj 2 (at_rest c d) (at_rest (jumped t c) d) =
         does_it jj c d (jumped t c) d (Jump cn off) 1 false
-        (fetched key m text caller shape c d (Jump cn off) self.core.even_pc (ap (λ a. holds m.text a) self.pc_a ∙ self.in_text) (ap (λ a. met m.text text a) self.pc_a ∙ met_it) refl refl)
-        (jump_so key m text caller shape cn off c d ∙ ap (λ t. after (jumped t c) d 1 false) turn) in
-        let w = walk_arm key m text caller shape S refine pc0 arm.join (suc arm.join) inn (start_of_arm t) (jumped t c) d (record { pc = lands_at t c self.pc_a ev self.core.long_a; core = from_ways t ways; words = self.words }) none in
+        (fetched terms key m text caller shape c d (Jump cn off) self.core.even_pc (ap (λ a. holds m.text a) self.pc_a ∙ self.in_text) (ap (λ a. met m.text text a) self.pc_a ∙ met_it) refl refl)
+        (jump_so terms key m text caller shape cn off c d ∙ ap (λ t. after (jumped t c) d 1 false) turn) in
+        let w = walk_arm terms key m text caller shape S refine pc0 arm.join (suc arm.join) inn (start_of_arm t) (jumped t c) d (record { pc = lands_at t c self.pc_a ev self.core.long_a; core = from_ways t ways; words = self.words }) none in
         record {
           core = w.core;
           data_left = w.data_left;
@@ -508,7 +509,7 @@ module _ (key : List ℕ) (m : Module) (text : List ℕ) (caller : ℕ) (shape :
           sr = w.sr ∙ jump_mode t self.core.long_a;
         }
       where
-        from_ways : (t : Bool) → AgreeCore m.text (way_val key m text caller shape cn off x c d c d self met_it t) (jumped t c) (jumped t c) → AgreeCore m.text (core_of t) (jumped t c) (jumped t c)
+        from_ways : (t : Bool) → AgreeCore m.text (way_val terms key m text caller shape cn off x c d c d self met_it t) (jumped t c) (jumped t c) → AgreeCore m.text (core_of t) (jumped t c) (jumped t c)
         from_ways true h = h
         from_ways false h = h
 
@@ -520,17 +521,17 @@ module _ (key : List ℕ) (m : Module) (text : List ℕ) (caller : ℕ) (shape :
         jump_keeps false k n0 n2 = conf_reg c (inner false) k n2 ∙ past_kept (Jump cn off) c k n0
 
         jump_mode : (t : Bool) → length c ≡ 16 → mode (reg (jumped t c) 2) ≡ mode (reg c 2)
-        jump_mode true long = conf_mode key m text caller shape c (inner true) (length-set (past (Jump cn off) c) 0 _ ∙ length-set c 0 _ ∙ long)
-        jump_mode false long = conf_mode key m text caller shape c (inner false) (length-set c 0 _ ∙ long)
+        jump_mode true long = conf_mode terms key m text caller shape c (inner true) (length-set (past (Jump cn off) c) 0 _ ∙ length-set c 0 _ ∙ long)
+        jump_mode false long = conf_mode terms key m text caller shape c (inner false) (length-set c 0 _ ∙ long)
 
         lands_at : (t : Bool) (c : List ℕ) → reg c 0 ≡ pc0 → pc0 % 2 ≡ 0 → length c ≡ 16 → reg (jumped t c) 0 ≡ kept 0 (cond t target (add16 pc0 2))
         lands_at true c e ev long =
             let c1 = past (Jump cn off) c in
             let len : length c1 ≡ 16 = length-set c 0 _ ∙ long in
             conf_reg c (put c1 0 (add16 (reg c1 0) (distance off))) 0 (λ e. absurd (omega arith)) ∙ get_or-set_same c1 0 (kept 0 (add16 (reg c1 0) (distance off))) 0 (subst (λ i. 0 < i) (sym len) (omega arith))
-            ∙ ap (λ i. kept 0 (add16 i (distance off))) (past_pc key m text caller shape (Jump cn off) pc0 c refl e ev long)
+            ∙ ap (λ i. kept 0 (add16 i (distance off))) (past_pc terms key m text caller shape (Jump cn off) pc0 c refl e ev long)
         lands_at false c e ev long =
-            conf_reg c (past (Jump cn off) c) 0 (λ e. absurd (omega arith)) ∙ past_pc key m text caller shape (Jump cn off) pc0 c refl e ev long ∙ stays
+            conf_reg c (past (Jump cn off) c) 0 (λ e. absurd (omega arith)) ∙ past_pc terms key m text caller shape (Jump cn off) pc0 c refl e ev long ∙ stays
           where
             stays : add16 pc0 2 ≡ kept 0 (add16 pc0 2)
             stays = omega arith
@@ -603,7 +604,7 @@ module _ (key : List ℕ) (m : Module) (text : List ℕ) (caller : ℕ) (shape :
             subst (λ u. Agrees m.text u (reg p.core n) (reg q.core n)) (sym (get_or-set_other blotted 0 n (Known arm.join) Secret n0))
             (blot_core_at m.text ((walk_of false).regs ++ (walk_of true).regs) x.label.core n (reg p.core n) (reg q.core n) (zeros n) (others n n0 (n == 2) refl))
 
-    arm_crossing : At x ca da cb db → (step_arm S m text (Jump cn off) target arm x).reasons ≡ [] → Crossing m jj At (step_arm S m text (Jump cn off) target arm x).gives (at_rest ca da) (at_rest cb db)
+    arm_crossing : At x ca da cb db → (step_arm S m text (Jump cn off) target arm x).reasons ≡ [] → Crossing terms m jj At (step_arm S m text (Jump cn off) target arm x).gives (at_rest ca da) (at_rest cb db)
     unfolding does_val
     arm_crossing standing none =
         let r0 = because_if (not (holds m.text arm.join)) pc0 ArmInsn arm.join in
@@ -624,8 +625,8 @@ module _ (key : List ℕ) (m : Module) (text : List ℕ) (caller : ℕ) (shape :
         let t1 : w1.cycles ≡ arm.cycles = same_time w1.cycles (not_not (w1.cycles == arm.cycles) (none_if (not (w1.cycles == arm.cycles)) pc0 ArmTime 1 n2)) in
         let ta = jumps cn (reg ca 2) in
         let tb = jumps cn (reg cb 2) in
-        let p = arm_crossed ta ca da (at_self key m text caller shape x ca da cb db at) refl inn (pick_none ta n8 n6) (pick_time ta t0 t1) in
-        let q = arm_crossed tb cb db (at_other key m text caller shape x ca da cb db at) refl inn (pick_none tb n8 n6) (pick_time tb t0 t1) in
+        let p = arm_crossed ta ca da (at_self terms key m text caller shape x ca da cb db at) refl inn (pick_none ta n8 n6) (pick_time ta t0 t1) in
+        let q = arm_crossed tb cb db (at_other terms key m text caller shape x ca da cb db at) refl inn (pick_none tb n8 n6) (pick_time tb t0 t1) in
         record {
           cycles = 2 + arm.cycles;
           some = omega arith;
@@ -633,7 +634,7 @@ module _ (key : List ℕ) (m : Module) (text : List ℕ) (caller : ℕ) (shape :
           to_b = at_rest q.core q.data_left;
           pass_a = p.pass;
           pass_b = q.pass;
-          ending = Stays joined_point (inl refl) p.core p.data_left q.core q.data_left (up x ca da cb db standing cn off met_it joined_point p.core p.data_left q.core q.data_left (walk_reach key m text caller shape S refine pc0 arm.join (suc arm.join) (start_of_arm false) n8) (joined_at ta tb p q inn)) refl refl;
+          ending = Stays joined_point (inl refl) p.core p.data_left q.core q.data_left (up x ca da cb db standing cn off met_it joined_point p.core p.data_left q.core q.data_left (walk_reach terms key m text caller shape S refine pc0 arm.join (suc arm.join) (start_of_arm false) n8) (joined_at ta tb p q inn)) refl refl;
         }
       where
         not_not : (b : Bool) → not b ≡ false → b ≡ true
@@ -653,26 +654,26 @@ module _ (key : List ℕ) (m : Module) (text : List ℕ) (caller : ℕ) (shape :
 
   -- ---- every step, with certificates
   pub arms_crossing : (arms : List Arm) (x : Point) (ca da cb db : List ℕ) → At x ca da cb db → (step_arms S arms m text x).reasons ≡ [] →
-      Crossing m jj At (step_arms S arms m text x).gives (at_rest ca da) (at_rest cb db)
+      Crossing terms m jj At (step_arms S arms m text x).gives (at_rest ca da) (at_rest cb db)
   unfolding step_arms
   arms_crossing arms x ca da cb db at none = by (met m.text text x.pair.addr) refl none
     where
-      plain : (S x).reasons ≡ [] → Crossing m jj At (S x).gives (at_rest ca da) (at_rest cb db)
+      plain : (S x).reasons ≡ [] → Crossing terms m jj At (S x).gives (at_rest ca da) (at_rest cb db)
       plain none = base x ca da cb db at none
 
       found : (cn : ℕ) (off : ℤ) → met m.text text x.pair.addr ≡ Some (Jump cn off) → is_secret (val x.label.core 2) ≡ true → (o : Option Arm) →
           (step_branch o S m text (Jump cn off) x (add16 (add16 x.pair.addr 2) (distance off))).reasons ≡ [] →
-          Crossing m jj At (step_branch o S m text (Jump cn off) x (add16 (add16 x.pair.addr 2) (distance off))).gives (at_rest ca da) (at_rest cb db)
+          Crossing terms m jj At (step_branch o S m text (Jump cn off) x (add16 (add16 x.pair.addr 2) (distance off))).gives (at_rest ca da) (at_rest cb db)
       found cn off e s None none = plain none
       found cn off e s (Some arm) none = arm_crossing cn off arm x ca da cb db (down x ca da cb db at) e s at none
 
       jump_by : (cn : ℕ) (off : ℤ) → met m.text text x.pair.addr ≡ Some (Jump cn off) → (a b : Bool) → is_secret (val x.label.core 2) ≡ b →
           (cond (a && b) (step_branch (find_arm arms x.pair.addr) S m text (Jump cn off) x (add16 (add16 x.pair.addr 2) (distance off))) (S x)).reasons ≡ [] →
-          Crossing m jj At (cond (a && b) (step_branch (find_arm arms x.pair.addr) S m text (Jump cn off) x (add16 (add16 x.pair.addr 2) (distance off))) (S x)).gives (at_rest ca da) (at_rest cb db)
+          Crossing terms m jj At (cond (a && b) (step_branch (find_arm arms x.pair.addr) S m text (Jump cn off) x (add16 (add16 x.pair.addr 2) (distance off))) (S x)).gives (at_rest ca da) (at_rest cb db)
       jump_by cn off e true true s none = found cn off e s (find_arm arms x.pair.addr) none
       jump_by cn off e true false s none = plain none
       jump_by cn off e false b s none = plain none
 
-      by : (o : Option Insn) → met m.text text x.pair.addr ≡ o → (step_arms_by o S arms m text x).reasons ≡ [] → Crossing m jj At (step_arms_by o S arms m text x).gives (at_rest ca da) (at_rest cb db)
+      by : (o : Option Insn) → met m.text text x.pair.addr ≡ o → (step_arms_by o S arms m text x).reasons ≡ [] → Crossing terms m jj At (step_arms_by o S arms m text x).gives (at_rest ca da) (at_rest cb db)
       by (Some (Jump cn off)) e none = jump_by cn off e (not (cn == 7)) (is_secret (val x.label.core 2)) refl none
       by _ e none = plain none

@@ -17,8 +17,10 @@ use Rattle.insn_decode.specs.declared.insn.Insn.TheVariants.{Two, Jump}
 use Rattle.mod_layout.specs.declared.Module.{Module}
 use Rattle.mod_layout.specs.Table.{holds}
 use Rattle.cpu_step.specs.Asked.{asks, effect}
-use Rattle.cpu_step.specs.Lone.{Job, lone_does, all_inside, lone_who, Does, doing, job_of, outcome, alike, Running, later, is_alone}
+use Rattle.cpu_step.specs.Lone.{Job, lone_does, all_inside, lone_who, Does, doing, job_of, outcome, Running, later, is_alone}
 use Rattle.arm_balance.specs.Met.{text_byte, met}
+use Rattle.flow_rule.specs.Terms.{Terms}
+use Rattle.flow_rule.specs.Laws.{ends_but}
 use Rattle.entry_stubs.specs.Stub.{stub_front}
 use Rattle.flow_rule.proofs.Cores.{put_other_reg, carry_bit, confined_small, confined_kept, away_even}
 use Rattle.flow_rule.proofs.Words.{Shape}
@@ -113,7 +115,7 @@ jump_calm k off pc to six seven c false ev small e h =
     let p = past_calm (Jump k off) 1 pc six seven c refl ev small h in
     calm_of c (past (Jump k off) c) (pc + 2) six seven p.0 p.1 p.2 p.3 p.4
 
-module _ (key : List ℕ) (m : Module) (text : List ℕ) (caller : ℕ) (shape : Shape m) (n p : ℕ) (facts : StubFacts m text n p) (R : List ℕ → List ℕ → Type 0) (da db : List ℕ) where
+module _ (terms : Terms) (key : List ℕ) (m : Module) (text : List ℕ) (caller : ℕ) (shape : Shape m) (n p : ℕ) (facts : StubFacts m text n p) (R : List ℕ → List ℕ → Type 0) (da db : List ℕ) where
   abbrev j : Job
   j = job_of key m text caller
 
@@ -122,7 +124,7 @@ module _ (key : List ℕ) (m : Module) (text : List ℕ) (caller : ℕ) (shape :
 
   -- from this core on the two calls end alike
   abbrev pub Alike : List ℕ → Type 0
-  Alike c = (i : ℕ) → alike R (outcome j i (at_rest c da)) (outcome j i (at_rest c db))
+  Alike c = (i : ℕ) → ends_but terms.answers R (outcome j i (at_rest c da)) (outcome j i (at_rest c db))
 
   word_is : (k w : ℕ) → k < 38 → nth k (stub_front t0 m.text.end m.ram.start n p) 0 ≡ w → word_at (text_byte m.text text) (t0 + 2 * k) ≡ w
   word_is k w lt e = facts.words k lt ∙ e
@@ -140,11 +142,11 @@ module _ (key : List ℕ) (m : Module) (text : List ℕ) (caller : ℕ) (shape :
   before : (insn : Insn) (c c' : List ℕ) (r : ℕ) → doing j (at_rest c da) ≡ Does insn → doing j (at_rest c db) ≡ Does insn →
       lone_does j insn (at_rest c da) ≡ after c' da r false → lone_does j insn (at_rest c db) ≡ after c' db r false → Alike c' → Alike c
   before insn c c' r ea eb fa fb h i =
-      crossing_alike R m j (suc r) (at_rest c da) (at_rest c db) (at_rest c' da) (at_rest c' db) (does_it j c da c' da insn r false ea fa) (does_it j c db c' db insn r false eb fb) i (λ i e. h i)
+      crossing_alike terms.answers R m j (suc r) (at_rest c da) (at_rest c db) (at_rest c' da) (at_rest c' db) (does_it j c da c' da insn r false ea fa) (does_it j c db c' db insn r false eb fb) i (λ i e. h i)
 
   does_at : (insn : Insn) (k : ℕ) (c d : List ℕ) → k < 38 → reg c 0 ≡ t0 + 2 * k → met m.text text (t0 + 2 * k) ≡ Some insn → is_alone insn ≡ true → all_inside j (asks (lone_who j) insn c) ≡ true → doing j (at_rest c d) ≡ Does insn
   does_at insn k c d lt e met_it alone ins =
-      fetched key m text caller shape c d insn (ap (λ a. a % 2) e ∙ even_at k) (ap (λ a. holds m.text a) e ∙ in_stub (t0 + 2 * k) (omega arith) (omega arith)) (ap (λ a. met m.text text a) e ∙ met_it) alone ins
+      fetched terms key m text caller shape c d insn (ap (λ a. a % 2) e ∙ even_at k) (ap (λ a. holds m.text a) e ∙ in_stub (t0 + 2 * k) (omega arith) (omega arith)) (ap (λ a. met m.text text a) e ∙ met_it) alone ins
 
   before_cmp : (x r k : ℕ) (c : List ℕ) → k < 38 → reg c 0 ≡ t0 + 2 * k → met m.text text (t0 + 2 * k) ≡ Some (compares x r) → Alike (next_core (compares x r) c []) → Alike c
   unfolding lone_does asks effect does plan
@@ -155,7 +157,7 @@ module _ (key : List ℕ) (m : Module) (text : List ℕ) (caller : ℕ) (shape :
   unfolding asks plan
   before_jump cn off k c t lt e met_it et h =
       before (Jump cn off) c (jump_core cn off t c) 1 (does_at (Jump cn off) k c da lt e met_it refl refl) (does_at (Jump cn off) k c db lt e met_it refl refl)
-      (jump_so key m text caller shape cn off c da ∙ ap (λ t. after (jump_core cn off t c) da 1 false) et) (jump_so key m text caller shape cn off c db ∙ ap (λ t. after (jump_core cn off t c) db 1 false) et) h
+      (jump_so terms key m text caller shape cn off c da ∙ ap (λ t. after (jump_core cn off t c) da 1 false) et) (jump_so terms key m text caller shape cn off c db ∙ ap (λ t. after (jump_core cn off t c) db 1 false) et) h
 
   -- ---- the instructions
   met_2 : met m.text text (t0 + 4) ≡ Some (Jump 2 (pos 4))
@@ -207,7 +209,7 @@ module _ (key : List ℕ) (m : Module) (text : List ℕ) (caller : ℕ) (shape :
       let c' = jump_core 7 (negsuc 0) true c in
       let goes : kept 0 (add16 (t0 + 12 + 2) (distance (negsuc 0))) ≡ t0 + 12 = back in
       let h' : Calm c' (t0 + 12) six seven = jump_calm 7 (negsuc 0) (t0 + 12) (t0 + 12) six seven c true (even_at 6) (omega (arith, small_at 6)) goes h in
-      let pass = does_it j c d c' d (Jump 7 (negsuc 0)) 1 false (does_at (Jump 7 (negsuc 0)) 6 c d (omega arith) h.here met_6 refl refl) (jump_so key m text caller shape 7 (negsuc 0) c d) in
+      let pass = does_it j c d c' d (Jump 7 (negsuc 0)) 1 false (does_at (Jump 7 (negsuc 0)) 6 c d (omega arith) h.here met_6 refl refl) (jump_so terms key m text caller shape 7 (negsuc 0) c d) in
       by (cases_lt i 2) pass (λ i lt. loops_by fuel c' d six seven h' i lt)
     where
       back : kept 0 (add16 (t0 + 12 + 2) (distance (negsuc 0))) ≡ t0 + 12
@@ -221,7 +223,7 @@ module _ (key : List ℕ) (m : Module) (text : List ℕ) (caller : ℕ) (shape :
 
   loops : (c : List ℕ) (six seven : ℕ) → Calm c (t0 + 12) six seven → Alike c
   loops c six seven h i =
-      subst (λ o. alike R o (outcome j i (at_rest c db))) (sym (loops_by (suc i) c da six seven h i (omega arith))) (subst (λ o. alike R Running o) (sym (loops_by (suc i) c db six seven h i (omega arith))) tt)
+      subst (λ o. ends_but terms.answers R o (outcome j i (at_rest c db))) (sym (loops_by (suc i) c da six seven h i (omega arith))) (subst (λ o. ends_but terms.answers R Running o) (sym (loops_by (suc i) c db six seven h i (omega arith))) tt)
 
   -- ---- an unknown entry: the module is left
   module _ (six seven : ℕ) (small6 : six < 65536) (small7 : seven < 65536) (out : holds m.text seven ≡ false) (rest : R da db) where
@@ -248,10 +250,10 @@ module _ (key : List ℕ) (m : Module) (text : List ℕ) (caller : ℕ) (shape :
         let pc2 : reg d2 0 ≡ kept 0 (low Word seven) =
         conf_reg d1 y 0 (λ e. absurd (omega arith)) ∙ get_or-set_same y2 0 (kept 0 (low Word (reg y1 7))) 0 (subst (λ i. 0 < i) (sym len2) (omega arith))
         ∙ ap (λ v. kept 0 (low Word v)) (put_other_reg d1 0 (add16 (reg d1 0) (2 * length_of i2)) 7 (λ e. absurd (omega arith)) ∙ h1.seven_is) in
-        let gone : holds m.text (reg d2 0) ≡ false = ap (λ a. holds m.text a) (pc2 ∙ floor) ∙ away_even m.text (even key m text caller shape) seven out in
+        let gone : holds m.text (reg d2 0) ≡ false = ap (λ a. holds m.text a) (pc2 ∙ floor) ∙ away_even m.text (even terms key m text caller shape) seven out in
         before i1 c d1 0 (does_at i1 36 c da (omega arith) h.here met_36 refl refl) (does_at i1 36 c db (omega arith) h.here met_36 refl refl) refl refl
         (before i2 d1 d2 1 (does_at i2 37 d1 da (omega arith) here1 met_37 refl refl) (does_at i2 37 d1 db (omega arith) here1 met_37 refl refl) refl refl
-        (λ i. left_alike R j i d2 da db gone rest))
+        (λ i. left_alike terms.answers R j i d2 da d2 db refl gone gone rest))
       where
         floor : kept 0 (low Word seven) ≡ seven - seven % 2
         floor = omega arith
@@ -284,13 +286,13 @@ module _ (key : List ℕ) (m : Module) (text : List ℕ) (caller : ℕ) (shape :
             next : Calm (jump_core 3 (pos 26) false c1) (t0 + 18 + 2) six seven → Alike (jump_core 3 (pos 26) false c1)
             next h = go _ (record { long = h.long; nine = h.nine; three = h.three; six_is = h.six_is; seven_is = h.seven_is; here = h.here ∙ (let e : t0 + 18 + 2 ≡ t0 + 20 = omega arith in e) }) (says false e)
 
-module _ (key : List ℕ) (m : Module) (text : List ℕ) (caller : ℕ) (shape : Shape m) (n p : ℕ) (facts : StubFacts m text n p) (R : List ℕ → List ℕ → Type 0) (da db : List ℕ) (six seven : ℕ) (small6 : six < 65536) (small7 : seven < 65536)
-    (rest : R da db) (go : holds m.text seven ≡ false → (c : List ℕ) → Calm c (m.text.start + 20) six seven → six < n → Alike key m text caller shape n p facts R da db c) where
+module _ (terms : Terms) (key : List ℕ) (m : Module) (text : List ℕ) (caller : ℕ) (shape : Shape m) (n p : ℕ) (facts : StubFacts m text n p) (R : List ℕ → List ℕ → Type 0) (da db : List ℕ) (six seven : ℕ) (small6 : six < 65536) (small7 : seven < 65536)
+    (rest : R da db) (go : holds m.text seven ≡ false → (c : List ℕ) → Calm c (m.text.start + 20) six seven → six < n → Alike terms key m text caller shape n p facts R da db c) where
   abbrev k0 : ℕ
   k0 = m.text.start
 
   abbrev pub Ends_alike : List ℕ → Type 0
-  Ends_alike c = Alike key m text caller shape n p facts R da db c
+  Ends_alike c = Alike terms key m text caller shape n p facts R da db c
 
   moved : (c : List ℕ) (pc pc' : ℕ) → pc ≡ pc' → Calm c pc six seven → Calm c pc' six seven
   moved c pc pc' e h = record { long = h.long; nine = h.nine; three = h.three; six_is = h.six_is; seven_is = h.seven_is; here = h.here ∙ e }
@@ -317,7 +319,7 @@ module _ (key : List ℕ) (m : Module) (text : List ℕ) (caller : ℕ) (shape :
       by true true e = absurd (grind (arith, nat_tests))
 
   seven_on : holds m.text seven ≡ false → (c : List ℕ) → Calm c (k0 + 14) six seven → Ends_alike c
-  seven_on out c h = from_7 key m text caller shape n p facts R da db six seven small6 small7 out rest (go out) c h
+  seven_on out c h = from_7 terms key m text caller shape n p facts R da db six seven small6 small7 out rest (go out) c h
 
   from_3 : (c : List ℕ) → Calm c (k0 + 6) six seven → Ends_alike c
   from_3 c h =
@@ -326,7 +328,7 @@ module _ (key : List ℕ) (m : Module) (text : List ℕ) (caller : ℕ) (shape :
       let h1 : Calm c1 (k0 + 6 + 4) six seven = cmp_calm e 7 (k0 + 6) six seven c (even_k 3) (omega (arith, small_k 5)) h in
       let carry : bit 1 (reg c1 2) ≡ one_if (carry_of e seven) = cmp_carry e 7 seven c h.long (put_other_reg c 0 _ 7 (λ e. absurd (omega arith)) ∙ h.seven_is) in
       let hi = shape.text_high in
-      before_cmp key m text caller shape n p facts R da db e 7 3 c (omega arith) h.here (met_3 key m text caller shape n p facts R da db)
+      before_cmp terms key m text caller shape n p facts R da db e 7 3 c (omega arith) h.here (met_3 terms key m text caller shape n p facts R da db)
       (turn c1 (moved c1 (k0 + 6 + 4) (k0 + 10) (omega arith) h1) carry (carry_of e seven) refl (carry_says e seven (omega arith) small7 (carry_of e seven) refl))
     where
       far : kept 0 (add16 (k0 + 10 + 2) (distance (pos 1))) ≡ k0 + 14
@@ -334,18 +336,18 @@ module _ (key : List ℕ) (m : Module) (text : List ℕ) (caller : ℕ) (shape :
 
       turn : (c1 : List ℕ) → Calm c1 (k0 + 10) six seven → bit 1 (reg c1 2) ≡ one_if (carry_of m.text.end seven) → (b : Bool) → carry_of m.text.end seven ≡ b → cond (carry_of m.text.end seven) (m.text.end ≤ seven) (seven < m.text.end) → Ends_alike c1
       turn c1 h carry true e says =
-          before_jump key m text caller shape n p facts R da db 3 (pos 1) 5 c1 true (omega arith) h.here (met_5 key m text caller shape n p facts R da db) (ap (λ b. b == 1) carry ∙ ap (λ b. one_if b == 1) e)
+          before_jump terms key m text caller shape n p facts R da db 3 (pos 1) 5 c1 true (omega arith) h.here (met_5 terms key m text caller shape n p facts R da db) (ap (λ b. b == 1) carry ∙ ap (λ b. one_if b == 1) e)
           (seven_on (out_high (subst (λ b. cond b (m.text.end ≤ seven) (seven < m.text.end)) e says)) _ (jump_calm 3 (pos 1) (k0 + 10) (k0 + 14) six seven c1 true (even_k 5) (omega (arith, small_k 5)) far h))
       turn c1 h carry false e says =
-          before_jump key m text caller shape n p facts R da db 3 (pos 1) 5 c1 false (omega arith) h.here (met_5 key m text caller shape n p facts R da db) (ap (λ b. b == 1) carry ∙ ap (λ b. one_if b == 1) e)
-          (loops key m text caller shape n p facts R da db _ six seven (moved _ (k0 + 10 + 2) (k0 + 12) (omega arith) (jump_calm 3 (pos 1) (k0 + 10) (k0 + 14) six seven c1 false (even_k 5) (omega (arith, small_k 5)) far h)))
+          before_jump terms key m text caller shape n p facts R da db 3 (pos 1) 5 c1 false (omega arith) h.here (met_5 terms key m text caller shape n p facts R da db) (ap (λ b. b == 1) carry ∙ ap (λ b. one_if b == 1) e)
+          (loops terms key m text caller shape n p facts R da db _ six seven (moved _ (k0 + 10 + 2) (k0 + 12) (omega arith) (jump_calm 3 (pos 1) (k0 + 10) (k0 + 14) six seven c1 false (even_k 5) (omega (arith, small_k 5)) far h)))
 
   pub from_0 : (c : List ℕ) → Calm c (k0 + 0) six seven → Ends_alike c
   from_0 c h =
       let c1 = next_core (compares k0 7) c [] in
       let h1 : Calm c1 (k0 + 0 + 4) six seven = cmp_calm k0 7 (k0 + 0) six seven c (even_k 0) (omega (arith, small_k 5)) h in
       let carry : bit 1 (reg c1 2) ≡ one_if (carry_of k0 seven) = cmp_carry k0 7 seven c h.long (put_other_reg c 0 _ 7 (λ e. absurd (omega arith)) ∙ h.seven_is) in
-      before_cmp key m text caller shape n p facts R da db k0 7 0 c (omega arith) h.here (met_0 key m text caller shape n p facts R da db)
+      before_cmp terms key m text caller shape n p facts R da db k0 7 0 c (omega arith) h.here (met_0 terms key m text caller shape n p facts R da db)
       (turn c1 (moved c1 (k0 + 0 + 4) (k0 + 4) (omega arith) h1) carry (carry_of k0 seven) refl (carry_says k0 seven (omega (arith, small_k 5)) small7 (carry_of k0 seven) refl))
     where
       far : kept 0 (add16 (k0 + 4 + 2) (distance (pos 4))) ≡ k0 + 14
@@ -353,8 +355,8 @@ module _ (key : List ℕ) (m : Module) (text : List ℕ) (caller : ℕ) (shape :
 
       turn : (c1 : List ℕ) → Calm c1 (k0 + 4) six seven → bit 1 (reg c1 2) ≡ one_if (carry_of k0 seven) → (b : Bool) → carry_of k0 seven ≡ b → cond (carry_of k0 seven) (k0 ≤ seven) (seven < k0) → Ends_alike c1
       turn c1 h carry false e says =
-          before_jump key m text caller shape n p facts R da db 2 (pos 4) 2 c1 true (omega arith) h.here (met_2 key m text caller shape n p facts R da db) (ap (λ b. b == 0) carry ∙ ap (λ b. one_if b == 0) e)
+          before_jump terms key m text caller shape n p facts R da db 2 (pos 4) 2 c1 true (omega arith) h.here (met_2 terms key m text caller shape n p facts R da db) (ap (λ b. b == 0) carry ∙ ap (λ b. one_if b == 0) e)
           (seven_on (out_low (subst (λ b. cond b (k0 ≤ seven) (seven < k0)) e says)) _ (jump_calm 2 (pos 4) (k0 + 4) (k0 + 14) six seven c1 true (even_k 2) (omega (arith, small_k 5)) far h))
       turn c1 h carry true e says =
-          before_jump key m text caller shape n p facts R da db 2 (pos 4) 2 c1 false (omega arith) h.here (met_2 key m text caller shape n p facts R da db) (ap (λ b. b == 0) carry ∙ ap (λ b. one_if b == 0) e)
+          before_jump terms key m text caller shape n p facts R da db 2 (pos 4) 2 c1 false (omega arith) h.here (met_2 terms key m text caller shape n p facts R da db) (ap (λ b. b == 0) carry ∙ ap (λ b. one_if b == 0) e)
           (from_3 _ (moved _ (k0 + 4 + 2) (k0 + 6) (omega arith) (jump_calm 2 (pos 4) (k0 + 4) (k0 + 14) six seven c1 false (even_k 2) (omega (arith, small_k 5)) far h)))

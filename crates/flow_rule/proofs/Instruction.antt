@@ -1,8 +1,6 @@
 -- One instruction of two runs that stand at one point.
-use Rattle.std.proofs.Common.{◌≡◌, ◌⊎◌, inl, inr, ℕ, zero, suc, ◌+◌, ◌-◌, ◌*◌, ◌/◌, ◌%◌, ◌<◌, ◌≤◌, List, [], ◌∷◌, ◌++◌, length, map, refl, sym, ap, ◌∙◌, subst, arith, Bool, true, false, cond, nat_lt, ◌==◌, ◌&&◌, ◌||◌, not, Option, Some, None, get_or-set_same, ℤ}
-use Rattle.std.proofs.lemmas.Bool.{cases_lt}
+use Rattle.std.proofs.Common.{◌≡◌, ◌⊎◌, inl, inr, ℕ, zero, suc, ◌+◌, ◌-◌, ◌*◌, ◌/◌, ◌%◌, ◌<◌, ◌≤◌, List, [], ◌∷◌, ◌++◌, length, map, refl, sym, ap, ◌∙◌, subst, arith, Bool, true, false, cond, nat_lt, ◌==◌, ◌&&◌, ◌||◌, not, Option, Some, None, get_or-set_same, length-set, ℤ}
 use Rattle.std.proofs.lemmas.Bool.Decides.{nat_tests}
-use Rattle.std.proofs.lemmas.Grind.{same_number_lists}
 use Rattle.sm_words.specs.Words.{reg, put, kept, add16, word_at}
 use Rattle.insn_decode.specs.Code.{insn_of, length_of}
 use Rattle.cycle_table.specs.Cycles.{cycles_of}
@@ -22,17 +20,19 @@ use Rattle.cpu_step.specs.Fetched.{insn_at, later_word, word_in, insn_from}
 use Rattle.attest.specs.Accesses.{reads_of, writes_of}
 use Rattle.attest.specs.Units.{UnitName, Unprotect, OwnId, CallerId, unit_named, Effect, unit_plan, unit_effect}
 use Rattle.cpu_step.specs.Asked.{asks, effect}
-use Rattle.cpu_step.specs.Lone.{Job, Lone, lone_byte, lone_who, is_alone, unit_alone, all_inside, may_do, next_insn, lone_read, lone_writes, lone_does, Does, doing, doing_by, lone_step_by, job_of}
+use Rattle.cpu_step.specs.Lone.{Job, Lone, lone_byte, lone_who, is_alone, unit_alone, all_inside, may_do, next_insn, lone_read, lone_writes, lone_does, Does, doing, doing_by, lone_step_by, job_of, blank}
+use Rattle.flow_rule.specs.Terms.{Terms}
 use Rattle.flow_rule.specs.declared.Val.{Val}
 use Rattle.flow_rule.specs.declared.Val.TheVariants.{Known, Away, Public, Secret}
 use Rattle.flow_rule.specs.Values.{is_secret, val, put_val}
-use Rattle.flow_rule.specs.declared.Reason.TheVariants.{SecretAtExit, SecretBranch}
+use Rattle.flow_rule.specs.declared.Reason.TheVariants.{SecretBranch}
 use Rattle.flow_rule.specs.Rounds.{Point, Step}
 use Rattle.flow_rule.specs.Does.{plan_val, does_val, past_val, read_val, writes_val, read_reaches, write_reaches}
-use Rattle.flow_rule.specs.Reasons.{because, because_if, reach_reasons, exit_reasons}
-use Rattle.flow_rule.specs.Going.{goes_in, goes_by, goes, both, also}
+use Rattle.flow_rule.specs.Reasons.{because_if, reach_reasons, exit_reasons, bare, word_reasons}
+use Rattle.flow_rule.specs.Going.{leaves, goes_in, goes_by, goes, both, also}
 use Rattle.flow_rule.specs.Returns.{turn_of}
 use Rattle.flow_rule.specs.Steps.{goes_unless, step_plain, step_jump, step_unit, step_insn, step_of}
+use Rattle.flow_rule.specs.Laws.{AgreeOn}
 use Rattle.flow_rule.proofs.Meaning.{Agrees, same}
 use Rattle.flow_rule.proofs.Cores.{Even_section, AgreeCore, put_agrees, put_other_reg, confined_agrees, ends_so}
 use Rattle.flow_rule.proofs.Effects.{Regular, AgreeList, DoneAgrees, one_does, two_does, past_agrees}
@@ -40,6 +40,7 @@ use Rattle.flow_rule.proofs.Plans.{Reached, fixed, inside, one_reached, two_reac
 use Rattle.flow_rule.specs.Arms.{written_words}
 use Rattle.arm_balance.specs.Met.{text_byte, met}
 use Rattle.flow_rule.proofs.Words.{NotIn, word, writes_keep, Shape, IsData, AgreeData, reads_agree, writes_agree, word_text}
+use Rattle.flow_rule.proofs.Telling.{on_list, blanked, same_reg, same_but, agrees_on}
 use Rattle.flow_rule.proofs.Labelling.{Under, Among, among_left, among_right}
 use Rattle.flow_rule.proofs.Runs.{at_rest, Busy, Passes, Ending, Stays, Left, Shut, Crossing}
 
@@ -78,67 +79,60 @@ RegularInsn (One op w a) = Regular a × (0 < cycles_of (One op w a))
 RegularInsn _ = Unit {0}
 
 -- where an instruction leads
-pub data Landing (m : Module) (gives : List Point) (ca da cb db : List ℕ) : Type 0 where
-  In : (y : Point) (among : Among y gives) (at : AgreeAt m y ca da cb db) → Landing m gives ca da cb db
-  Out : (equal : ca ≡ cb) (out : holds m.text (reg ca 0) ≡ false) (ok_a : IsData m da) (ok_b : IsData m db) → Landing m gives ca da cb db
+pub data Landing (terms : Terms) (m : Module) (gives : List Point) (ca da cb db : List ℕ) : Type 0 where
+  In : (y : Point) (among : Among y gives) (at : AgreeAt m y ca da cb db) → Landing terms m gives ca da cb db
+  Out : (same : blank terms.answers ca ≡ blank terms.answers cb) (out_a : holds m.text (reg ca 0) ≡ false) (out_b : holds m.text (reg cb 0) ≡ false) (ok_a : IsData m da) (ok_b : IsData m db) (agree : AgreeOn m terms.public da db) →
+      Landing terms m gives ca da cb db
 
 -- the one way of an instruction that is no branch
-pub data Single (m : Module) (gives : List Point) (ca da cb db : List ℕ) : Type 0 where
-  Here : (y : Point) (one : gives ≡ y ∷ []) (at : AgreeAt m y ca da cb db) → Single m gives ca da cb db
-  Gone : (nothing : gives ≡ []) (equal : ca ≡ cb) (out : holds m.text (reg ca 0) ≡ false) (ok_a : IsData m da) (ok_b : IsData m db) → Single m gives ca da cb db
+pub data Single (terms : Terms) (m : Module) (gives : List Point) (ca da cb db : List ℕ) : Type 0 where
+  Here : (y : Point) (one : gives ≡ y ∷ []) (at : AgreeAt m y ca da cb db) → Single terms m gives ca da cb db
+  Gone : (nothing : gives ≡ []) (same : blank terms.answers ca ≡ blank terms.answers cb) (out_a : holds m.text (reg ca 0) ≡ false) (out_b : holds m.text (reg cb 0) ≡ false) (ok_a : IsData m da) (ok_b : IsData m db)
+      (agree : AgreeOn m terms.public da db) → Single terms m gives ca da cb db
 
-pub landing_of : (m : Module) (gives : List Point) (ca da cb db : List ℕ) → Single m gives ca da cb db → Landing m gives ca da cb db
-landing_of m gives ca da cb db (Here y one at) = In y (subst (λ g. Among y g) (sym one) (inl refl)) at
-landing_of m gives ca da cb db (Gone nothing e o p q) = Out e o p q
+pub landing_of : (terms : Terms) (m : Module) (gives : List Point) (ca da cb db : List ℕ) → Single terms m gives ca da cb db → Landing terms m gives ca da cb db
+landing_of terms m gives ca da cb db (Here y one at) = In y (subst (λ g. Among y g) (sym one) (inl refl)) at
+landing_of terms m gives ca da cb db (Gone nothing same out_a out_b p q agree) = Out same out_a out_b p q agree
 
-module _ (m : Module) where
-  no_secret : (k n pc : ℕ) (v : List Val) → exit_reasons k n pc v ≡ [] → (i : ℕ) → n ≤ i → i < n + k → is_secret (val v i) ≡ false
-  no_secret zero n pc v e i low high = absurd (omega arith)
-  no_secret (suc k) n pc v e i low high = by (is_secret (val v n)) refl e (cases_lt n i) (λ e lt. no_secret k (n + 1) pc v e i (omega arith) (omega arith))
-    where
-      by : (c : Bool) → is_secret (val v n) ≡ c → cond c (because pc SecretAtExit n) (exit_reasons k (n + 1) pc v) ≡ [] → (n < i) ⊎ (i ≤ n) →
-          (exit_reasons k (n + 1) pc v ≡ [] → n < i → is_secret (val v i) ≡ false) → is_secret (val v i) ≡ false
-      by true f e h go = absurd cc
-      by false f e (inl lt) go = go e lt
-      by false f e (inr ge) go = let g : i ≡ n = omega arith in ap (λ x. is_secret (val v x)) g ∙ f
-
-  all_equal : (pc : ℕ) (v : List Val) (ca cb : List ℕ) → AgreeCore m.text v ca cb → exit_reasons 16 0 pc v ≡ [] → ca ≡ cb
-  all_equal pc v ca cb h e =
-      let la = h.long_a in
-      same_number_lists ca cb (h.long_a ∙ sym h.long_b)
-      (λ k lt. same m.text (val v k) (reg ca k) (reg cb k) (h.at k) (no_secret 16 0 pc v e k (omega arith) (omega arith)))
+module _ (terms : Terms) (m : Module) where
+  gone : (pc : ℕ) (v words : List Val) (ca da cb db : List ℕ) → AgreeCore m.text v ca cb → AgreeData m words da db → (leaves terms m pc v words).reasons ≡ [] → holds m.text (reg ca 0) ≡ false → holds m.text (reg cb 0) ≡ false →
+      Single terms m [] ca da cb db
+  gone pc v words ca da cb db h d e out_a out_b =
+      let ws = word_reasons m pc words terms.public in
+      let rs = exit_reasons 16 0 pc (bare terms.answers v) in
+      Gone refl (same_but m.text terms.answers pc v ca cb h (none_right ws rs e)) out_a out_b d.is_a d.is_b (agrees_on m terms.public pc words da db d (none_left ws rs e))
 
   lands_in : (t : Bool) (to pc : ℕ) (returns : List ℕ) (v words : List Val) (ca da cb db : List ℕ) → AgreeCore m.text v ca cb → AgreeData m words da db → reg ca 0 ≡ to → reg cb 0 ≡ to → holds m.text to ≡ t →
-      (goes_in t to pc returns v words).reasons ≡ [] → Single m (goes_in t to pc returns v words).gives ca da cb db
+      (goes_in terms t m to pc returns v words).reasons ≡ [] → Single terms m (goes_in terms t m to pc returns v words).gives ca da cb db
   lands_in true to pc returns v words ca da cb db h d ea eb t e =
       Here (record { pair = record { addr = to; returns = returns }; label = record { core = v; words = words } }) refl
       (record { pc_a = ea; pc_b = eb; core = h; words = d; in_text = t })
   lands_in false to pc returns v words ca da cb db h d ea eb t e =
-      Gone refl (all_equal pc v ca cb h e) (ap (λ a. holds m.text a) ea ∙ t) d.is_a d.is_b
+      gone pc v words ca da cb db h d e (ap (λ a. holds m.text a) ea ∙ t) (ap (λ a. holds m.text a) eb ∙ t)
 
   lands_by : (p : Val) (pc : ℕ) (returns : List ℕ) (v words : List Val) (ca da cb db : List ℕ) → AgreeCore m.text v ca cb → AgreeData m words da db → Agrees m.text p (reg ca 0) (reg cb 0) →
-      (goes_by p m pc returns v words).reasons ≡ [] → Single m (goes_by p m pc returns v words).gives ca da cb db
+      (goes_by terms p m pc returns v words).reasons ≡ [] → Single terms m (goes_by terms p m pc returns v words).gives ca da cb db
   lands_by (Known to) pc returns v words ca da cb db h d g e = lands_in (holds m.text to) to pc returns v words ca da cb db h d g.0 g.1 refl e
-  lands_by Away pc returns v words ca da cb db h d g e = Gone refl (all_equal pc v ca cb h e) g.2 d.is_a d.is_b
+  lands_by Away pc returns v words ca da cb db h d g e = gone pc v words ca da cb db h d e g.2 (ap (λ a. holds m.text a) (sym g.0) ∙ g.2)
   lands_by Public pc returns v words ca da cb db h d g e = absurd cc
   lands_by Secret pc returns v words ca da cb db h d g e = absurd cc
 
   pub lands : (pc : ℕ) (returns : List ℕ) (v words : List Val) (ca da cb db : List ℕ) → AgreeCore m.text v ca cb → AgreeData m words da db →
-      (goes m pc returns v words).reasons ≡ [] → Single m (goes m pc returns v words).gives ca da cb db
+      (goes terms m pc returns v words).reasons ≡ [] → Single terms m (goes terms m pc returns v words).gives ca da cb db
   lands pc returns v words ca da cb db h d e = lands_by (val v 0) pc returns v words ca da cb db h d (h.at 0) e
 
   lands_unless : (b : Bool) (pc : ℕ) (returns : List ℕ) (v words : List Val) (ca da cb db : List ℕ) → AgreeCore m.text v ca cb → AgreeData m words da db →
-      (goes_unless b m pc returns v words).reasons ≡ [] → Single m (goes_unless b m pc returns v words).gives ca da cb db
+      (goes_unless terms b m pc returns v words).reasons ≡ [] → Single terms m (goes_unless terms b m pc returns v words).gives ca da cb db
   lands_unless true pc returns v words ca da cb db h d e = absurd cc
   lands_unless false pc returns v words ca da cb db h d e = lands pc returns v words ca da cb db h d e
 
-  land_left : (gs hs : List Point) (ca da cb db : List ℕ) → Landing m gs ca da cb db → Landing m (gs ++ hs) ca da cb db
+  land_left : (gs hs : List Point) (ca da cb db : List ℕ) → Landing terms m gs ca da cb db → Landing terms m (gs ++ hs) ca da cb db
   land_left gs hs ca da cb db (In y among at) = In y (among_left y gs hs among) at
-  land_left gs hs ca da cb db (Out e o p q) = Out e o p q
+  land_left gs hs ca da cb db (Out same out_a out_b p q agree) = Out same out_a out_b p q agree
 
-  land_right : (gs hs : List Point) (ca da cb db : List ℕ) → Landing m hs ca da cb db → Landing m (gs ++ hs) ca da cb db
+  land_right : (gs hs : List Point) (ca da cb db : List ℕ) → Landing terms m hs ca da cb db → Landing terms m (gs ++ hs) ca da cb db
   land_right gs hs ca da cb db (In y among at) = In y (among_right y gs hs among) at
-  land_right gs hs ca da cb db (Out e o p q) = Out e o p q
+  land_right gs hs ca da cb db (Out same out_a out_b p q agree) = Out same out_a out_b p q agree
 
 abbrev pub after : List ℕ → List ℕ → ℕ → Bool → Lone
 after c d rest closing = record { core = c; data_bytes = d; rest = rest; closing = closing }
@@ -159,7 +153,7 @@ module _ (j : Job) where
   unfolding doing
   doing_next c d insn e f = ap (λ t. doing_by 0 false t (next_insn j (at_rest c d))) e ∙ ap (doing_by 0 false true) f
 
-module _ (key : List ℕ) (m : Module) (text : List ℕ) (caller : ℕ) (shape : Shape m) where
+module _ (terms : Terms) (key : List ℕ) (m : Module) (text : List ℕ) (caller : ℕ) (shape : Shape m) where
   abbrev pub j : Job
   j = job_of key m text caller
 
@@ -212,7 +206,7 @@ module _ (key : List ℕ) (m : Module) (text : List ℕ) (caller : ℕ) (shape :
 
   -- ---- from an instruction to a crossing
   crossing : (gives : List Point) (ca da cb db ca' da' cb' db' : List ℕ) (insn : Insn) (r : ℕ) → doing j (at_rest ca da) ≡ Does insn → doing j (at_rest cb db) ≡ Does insn →
-      lone_does j insn (at_rest ca da) ≡ after ca' da' r false → lone_does j insn (at_rest cb db) ≡ after cb' db' r false → Landing m gives ca' da' cb' db' → Crossing m j (AgreeAt m) gives (at_rest ca da) (at_rest cb db)
+      lone_does j insn (at_rest ca da) ≡ after ca' da' r false → lone_does j insn (at_rest cb db) ≡ after cb' db' r false → Landing terms m gives ca' da' cb' db' → Crossing terms m j (AgreeAt m) gives (at_rest ca da) (at_rest cb db)
   crossing gives ca da cb db ca' da' cb' db' insn r ea eb fa fb l =
       record {
         cycles = suc r;
@@ -224,9 +218,9 @@ module _ (key : List ℕ) (m : Module) (text : List ℕ) (caller : ℕ) (shape :
         ending = by l;
       }
     where
-      by : Landing m gives ca' da' cb' db' → Ending m j (AgreeAt m) gives (at_rest ca' da') (at_rest cb' db')
+      by : Landing terms m gives ca' da' cb' db' → Ending terms m j (AgreeAt m) gives (at_rest ca' da') (at_rest cb' db')
       by (In y among at) = Stays y among ca' da' cb' db' at refl refl
-      by (Out e o p q) = Left ca' da' db' o p q refl (ap (λ c. at_rest c db') (sym e))
+      by (Out same out_a out_b p q agree) = Left ca' da' cb' db' same out_a out_b p q agree refl refl
 
   -- an instruction that reads and writes, by what is shown of its plan and its effect
   pub record Does_alike (insn : Insn) : Type 0 where
@@ -258,10 +252,10 @@ module _ (key : List ℕ) (m : Module) (text : List ℕ) (caller : ℕ) (shape :
     pub doing_b : doing j (at_rest cb db) ≡ Does insn
     pub so_a : lone_does j insn (at_rest ca da) ≡ after (confined true ca (does_freely insn ca values_a).core) left_a rest false
     pub so_b : lone_does j insn (at_rest cb db) ≡ after (confined true cb (does_freely insn cb values_b).core) left_b rest false
-    pub landing : Single m gives (confined true ca (does_freely insn ca values_a).core) left_a (confined true cb (does_freely insn cb values_b).core) left_b
+    pub landing : Single terms m gives (confined true ca (does_freely insn ca values_a).core) left_a (confined true cb (does_freely insn cb values_b).core) left_b
 
-  pub plain_parts : (insn : Insn) → Does_alike insn → (x : Point) (ca da cb db : List ℕ) → AgreeAt m x ca da cb db → met m.text text x.pair.addr ≡ Some insn → (step_plain m text insn x).reasons ≡ [] →
-      Parts insn (step_plain m text insn x).gives ca da cb db
+  pub plain_parts : (insn : Insn) → Does_alike insn → (x : Point) (ca da cb db : List ℕ) → AgreeAt m x ca da cb db → met m.text text x.pair.addr ≡ Some insn → (step_plain terms m text insn x).reasons ≡ [] →
+      Parts insn (step_plain terms m text insn x).gives ca da cb db
   plain_parts insn h x ca da cb db at e none =
       let pc = x.pair.addr in
       let v = x.label.core in
@@ -269,7 +263,7 @@ module _ (key : List ℕ) (m : Module) (text : List ℕ) (caller : ℕ) (shape :
       let vs = map (read_val m text x.label.words) (read_reaches rs) in
       let dv = does_val insn pc v vs in
       let t = turn_of insn pc x.pair.returns vs in
-      let g = goes_unless t.stops m pc t.returns dv.core (writes_val m x.label.words (write_reaches rs) dv.stored) in
+      let g = goes_unless terms t.stops m pc t.returns dv.core (writes_val m x.label.words (write_reaches rs) dv.stored) in
       let n1 = none_left (reach_reasons m pc rs ++ t.reasons) g.reasons none in
       let n2 = none_right (reach_reasons m pc rs ++ t.reasons) g.reasons none in
       let n3 = none_left (reach_reasons m pc rs) t.reasons n1 in
@@ -295,11 +289,11 @@ module _ (key : List ℕ) (m : Module) (text : List ℕ) (caller : ℕ) (shape :
         doing_b = fetched cb db insn ev_b (ap (λ a. holds m.text a) at.pc_b ∙ at.in_text) (ap (λ a. met m.text text a) at.pc_b ∙ e) h.alone (ap (all_inside j) (h.asks_is cb ∙ f.1) ∙ ins);
         so_a = does_so insn h ca da xs refl;
         so_b = does_so insn h cb db xs f.1;
-        landing = lands_unless m t.stops pc t.returns dv.core (writes_val m x.label.words (write_reaches rs) dv.stored) _ _ _ _ core words n2;
+        landing = lands_unless terms m t.stops pc t.returns dv.core (writes_val m x.label.words (write_reaches rs) dv.stored) _ _ _ _ core words n2;
       }
 
   -- the words of the data that it does not write
-  pub plain_kept : (insn : Insn) (h : Does_alike insn) (x : Point) (ca da cb db : List ℕ) (at : AgreeAt m x ca da cb db) (e : met m.text text x.pair.addr ≡ Some insn) (none : (step_plain m text insn x).reasons ≡ []) →
+  pub plain_kept : (insn : Insn) (h : Does_alike insn) (x : Point) (ca da cb db : List ℕ) (at : AgreeAt m x ca da cb db) (e : met m.text text x.pair.addr ≡ Some insn) (none : (step_plain terms m text insn x).reasons ≡ []) →
       (i : ℕ) → NotIn i (written_words m (write_reaches (plan_val insn x.pair.addr x.label.core))) → word (plain_parts insn h x ca da cb db at e none).left_a i ≡ word da i
   unfolding plain_parts
   plain_kept insn h x ca da cb db at e none i k =
@@ -309,16 +303,16 @@ module _ (key : List ℕ) (m : Module) (text : List ℕ) (caller : ℕ) (shape :
       let vs = map (read_val m text x.label.words) (read_reaches rs) in
       let dv = does_val insn pc v vs in
       let t = turn_of insn pc x.pair.returns vs in
-      let g = goes_unless t.stops m pc t.returns dv.core (writes_val m x.label.words (write_reaches rs) dv.stored) in
+      let g = goes_unless terms t.stops m pc t.returns dv.core (writes_val m x.label.words (write_reaches rs) dv.stored) in
       let n3 = none_left (reach_reasons m pc rs) t.reasons (none_left (reach_reasons m pc rs ++ t.reasons) g.reasons none) in
       let f = fixed m pc rs (plan insn ca) (plan insn cb) (h.reached pc v ca cb at.pc_a at.pc_b at.core) n3 in
       writes_keep m shape da rs (plan insn ca) (does_freely insn ca (map (lone_read j da) (reads_of (plan insn ca)))).stored i f.0 k
 
-  plain_crossing : (insn : Insn) → Does_alike insn → (x : Point) (ca da cb db : List ℕ) → AgreeAt m x ca da cb db → met m.text text x.pair.addr ≡ Some insn → (step_plain m text insn x).reasons ≡ [] →
-      Crossing m j (AgreeAt m) (step_plain m text insn x).gives (at_rest ca da) (at_rest cb db)
+  plain_crossing : (insn : Insn) → Does_alike insn → (x : Point) (ca da cb db : List ℕ) → AgreeAt m x ca da cb db → met m.text text x.pair.addr ≡ Some insn → (step_plain terms m text insn x).reasons ≡ [] →
+      Crossing terms m j (AgreeAt m) (step_plain terms m text insn x).gives (at_rest ca da) (at_rest cb db)
   plain_crossing insn h x ca da cb db at e none =
       let p = plain_parts insn h x ca da cb db at e none in
-      crossing (step_plain m text insn x).gives ca da cb db _ _ _ _ insn p.rest p.doing_a p.doing_b p.so_a p.so_b (landing_of m _ _ _ _ _ p.landing)
+      crossing (step_plain terms m text insn x).gives ca da cb db _ _ _ _ insn p.rest p.doing_a p.doing_b p.so_a p.so_b (landing_of terms m _ _ _ _ _ p.landing)
 
   pub two_alike : (op : TwoOp) (w : Width) (s d : Operand) → Regular s → Does_alike (Two op w s d)
   unfolding asks effect does
@@ -394,7 +388,7 @@ module _ (key : List ℕ) (m : Module) (text : List ℕ) (caller : ℕ) (shape :
         confined_agrees m.text even _ ca cb (past insn ca) (past insn cb) at.core.mode_same
         (ends_so m.text even _ _ _ _ _ h1 (put_other_reg ca 0 _ 2 (λ e. absurd (omega arith))) (put_other_reg cb 0 _ 2 (λ e. absurd (omega arith))))
 
-    pub way_crossing : (t : Bool) (gives : List Point) → jumps cond_no (reg ca 2) ≡ t → jumps cond_no (reg cb 2) ≡ t → Landing m gives (way t ca) da (way t cb) db → Crossing m j (AgreeAt m) gives (at_rest ca da) (at_rest cb db)
+    pub way_crossing : (t : Bool) (gives : List Point) → jumps cond_no (reg ca 2) ≡ t → jumps cond_no (reg cb 2) ≡ t → Landing terms m gives (way t ca) da (way t cb) db → Crossing terms m j (AgreeAt m) gives (at_rest ca da) (at_rest cb db)
     unfolding asks plan
     way_crossing t gives ea eb l =
         let ev_b : reg cb 0 % 2 ≡ 0 = ap (λ i. i % 2) (at.pc_b ∙ sym at.pc_a) ∙ at.core.even_pc in
@@ -404,15 +398,15 @@ module _ (key : List ℕ) (m : Module) (text : List ℕ) (caller : ℕ) (shape :
         (jump_so cond_no off ca da ∙ ap (λ t. after (way t ca) da 1 false) ea) (jump_so cond_no off cb db ∙ ap (λ t. after (way t cb) db 1 false) eb) l
 
     abbrev pub way_goes : Bool → Step
-    way_goes t = goes m pc x.pair.returns (way_val t) x.label.words
+    way_goes t = goes terms m pc x.pair.returns (way_val t) x.label.words
 
-    pub way_single : (t : Bool) → (way_goes t).reasons ≡ [] → Single m (way_goes t).gives (way t ca) da (way t cb) db
-    way_single t e = lands m pc x.pair.returns (way_val t) x.label.words (way t ca) da (way t cb) db (way_agrees t) at.words e
+    pub way_single : (t : Bool) → (way_goes t).reasons ≡ [] → Single terms m (way_goes t).gives (way t ca) da (way t cb) db
+    way_single t e = lands terms m pc x.pair.returns (way_val t) x.label.words (way t ca) da (way t cb) db (way_agrees t) at.words e
 
-    way_lands : (t : Bool) → (way_goes t).reasons ≡ [] → Landing m (way_goes t).gives (way t ca) da (way t cb) db
-    way_lands t e = landing_of m _ _ _ _ _ (way_single t e)
+    way_lands : (t : Bool) → (way_goes t).reasons ≡ [] → Landing terms m (way_goes t).gives (way t ca) da (way t cb) db
+    way_lands t e = landing_of terms m _ _ _ _ _ (way_single t e)
 
-    jump_crossing : (step_jump m text insn cond_no x).reasons ≡ [] → Crossing m j (AgreeAt m) (step_jump m text insn cond_no x).gives (at_rest ca da) (at_rest cb db)
+    jump_crossing : (step_jump terms m text insn cond_no x).reasons ≡ [] → Crossing terms m j (AgreeAt m) (step_jump terms m text insn cond_no x).gives (at_rest ca da) (at_rest cb db)
     unfolding does_val
     jump_crossing none = by (cond_no == 7) refl none
       where
@@ -420,7 +414,7 @@ module _ (key : List ℕ) (m : Module) (text : List ℕ) (caller : ℕ) (shape :
         abbrev_either = also (because_if (is_secret (val x.label.core 2)) pc SecretBranch 0) (both (way_goes true) (way_goes false))
 
         by : (c : Bool) → (cond_no == 7) ≡ c → (cond c (way_goes true) (also (because_if (is_secret (val x.label.core 2)) pc SecretBranch 0) (both (way_goes true) (way_goes false)))).reasons ≡ [] →
-            Crossing m j (AgreeAt m) (cond c (way_goes true) (also (because_if (is_secret (val x.label.core 2)) pc SecretBranch 0) (both (way_goes true) (way_goes false)))).gives (at_rest ca da) (at_rest cb db)
+            Crossing terms m j (AgreeAt m) (cond c (way_goes true) (also (because_if (is_secret (val x.label.core 2)) pc SecretBranch 0) (both (way_goes true) (way_goes false)))).gives (at_rest ca da) (at_rest cb db)
         by true e none =
             let k : cond_no ≡ 7 = grind (arith, nat_tests) in
             way_crossing true (way_goes true).gives (ap (λ i. jumps i (reg ca 2)) k) (ap (λ i. jumps i (reg cb 2)) k) (way_lands true none)
@@ -431,9 +425,9 @@ module _ (key : List ℕ) (m : Module) (text : List ℕ) (caller : ℕ) (shape :
             turn (jumps cond_no (reg ca 2)) refl (ap (λ i. jumps cond_no i) (sym sr)) (none_left (way_goes true).reasons (way_goes false).reasons n2) (none_right (way_goes true).reasons (way_goes false).reasons n2)
           where
             turn : (t : Bool) → jumps cond_no (reg ca 2) ≡ t → jumps cond_no (reg cb 2) ≡ jumps cond_no (reg ca 2) → (way_goes true).reasons ≡ [] → (way_goes false).reasons ≡ [] →
-                Crossing m j (AgreeAt m) ((way_goes true).gives ++ (way_goes false).gives) (at_rest ca da) (at_rest cb db)
-            turn true ea eb p q = way_crossing true _ ea (eb ∙ ea) (land_left m (way_goes true).gives (way_goes false).gives _ _ _ _ (way_lands true p))
-            turn false ea eb p q = way_crossing false _ ea (eb ∙ ea) (land_right m (way_goes true).gives (way_goes false).gives _ _ _ _ (way_lands false q))
+                Crossing terms m j (AgreeAt m) ((way_goes true).gives ++ (way_goes false).gives) (at_rest ca da) (at_rest cb db)
+            turn true ea eb p q = way_crossing true _ ea (eb ∙ ea) (land_left terms m (way_goes true).gives (way_goes false).gives _ _ _ _ (way_lands true p))
+            turn false ea eb p q = way_crossing false _ ea (eb ∙ ea) (land_right terms m (way_goes true).gives (way_goes false).gives _ _ _ _ (way_lands false q))
 
   -- ---- unit instructions
   unit_does : UnitName → List ℕ → List ℕ → Lone
@@ -460,21 +454,20 @@ module _ (key : List ℕ) (m : Module) (text : List ℕ) (caller : ℕ) (shape :
 
     tell_crossing : (value : ℕ) → unit_plan (lone_who j) u ca ≡ [] → unit_plan (lone_who j) u cb ≡ [] →
         unit_does u ca da ≡ after (put (past (UnitOp 0) ca) 15 value) da 5 false → unit_does u cb db ≡ after (put (past (UnitOp 0) cb) 15 value) db 5 false →
-        (goes m x.pair.addr x.pair.returns (put_val (past_val (UnitOp n) x.pair.addr x.label.core) 15 Public) x.label.words).reasons ≡ [] →
-        Crossing m j (AgreeAt m) (goes m x.pair.addr x.pair.returns (put_val (past_val (UnitOp n) x.pair.addr x.label.core) 15 Public) x.label.words).gives (at_rest ca da) (at_rest cb db)
+        (goes terms m x.pair.addr x.pair.returns (put_val (past_val (UnitOp n) x.pair.addr x.label.core) 15 Public) x.label.words).reasons ≡ [] →
+        Crossing terms m j (AgreeAt m) (goes terms m x.pair.addr x.pair.returns (put_val (past_val (UnitOp n) x.pair.addr x.label.core) 15 Public) x.label.words).gives (at_rest ca da) (at_rest cb db)
     tell_crossing value pa pb ea eb none =
         let h1 = past_agrees m.text even (UnitOp n) x.pair.addr x.label.core ca cb at.pc_a at.pc_b at.core in
         let h2 = put_agrees m.text even (past_val (UnitOp n) x.pair.addr x.label.core) (past (UnitOp n) ca) (past (UnitOp n) cb) 15 Public value value (λ e. absurd (omega arith)) h1 refl in
         crossing _ ca da cb db (put (past (UnitOp 0) ca) 15 value) da (put (past (UnitOp 0) cb) 15 value) db (UnitOp n) 5
         (unit_fetched_a (ap (all_inside j) pa)) (unit_fetched_b (ap (all_inside j) pb)) (unit_so n u ca da named ∙ ea) (unit_so n u cb db named ∙ eb)
-        (landing_of m _ _ _ _ _ (lands m x.pair.addr x.pair.returns _ x.label.words _ da _ db h2 at.words none))
+        (landing_of terms m _ _ _ _ _ (lands terms m x.pair.addr x.pair.returns _ x.label.words _ da _ db h2 at.words none))
 
     shut_crossing : (r : ℕ) → unit_plan (lone_who j) u ca ≡ [] → unit_plan (lone_who j) u cb ≡ [] →
         unit_does u ca da ≡ after (past (UnitOp 0) ca) da r true → unit_does u cb db ≡ after (past (UnitOp 0) cb) db r true →
-        exit_reasons 16 0 x.pair.addr x.label.core ≡ [] → Crossing m j (AgreeAt m) [] (at_rest ca da) (at_rest cb db)
+        exit_reasons 16 0 x.pair.addr (bare terms.answers x.label.core) ≡ [] → Crossing terms m j (AgreeAt m) [] (at_rest ca da) (at_rest cb db)
     unfolding doing
     shut_crossing r pa pb ea eb none =
-        let e = all_equal m x.pair.addr x.label.core ca cb at.core none in
         record {
           cycles = suc r;
           some = omega arith;
@@ -482,11 +475,19 @@ module _ (key : List ℕ) (m : Module) (text : List ℕ) (caller : ℕ) (shape :
           to_b = after (past (UnitOp 0) cb) db 0 true;
           pass_a = does_it j ca da _ _ (UnitOp n) r true (unit_fetched_a (ap (all_inside j) pa)) (unit_so n u ca da named ∙ ea);
           pass_b = does_it j cb db _ _ (UnitOp n) r true (unit_fetched_b (ap (all_inside j) pb)) (unit_so n u cb db named ∙ eb);
-          ending = Shut (ap (λ c. past (UnitOp 0) c) e) refl refl;
+          ending = Shut (blanked terms.answers (past (UnitOp 0) ca) (past (UnitOp 0) cb) (length-set ca 0 _ ∙ at.core.long_a) (length-set cb 0 _ ∙ at.core.long_b) past_same) refl refl;
         }
+      where
+        even_here : x.pair.addr % 2 ≡ 0
+        even_here = ap (λ i. i % 2) (sym at.pc_a) ∙ at.core.even_pc
 
-  unit_crossing : (n : ℕ) (u : UnitName) → unit_named n ≡ u → (x : Point) (ca da cb db : List ℕ) → AgreeAt m x ca da cb db → met m.text text x.pair.addr ≡ Some (UnitOp n) → (step_unit m (UnitOp n) u n x).reasons ≡ [] →
-      Crossing m j (AgreeAt m) (step_unit m (UnitOp n) u n x).gives (at_rest ca da) (at_rest cb db)
+        past_same : (k : ℕ) → k < 16 → on_list terms.answers k ≡ false → reg (past (UnitOp 0) ca) k ≡ reg (past (UnitOp 0) cb) k
+        past_same zero lt off = past_pc (UnitOp 0) x.pair.addr ca refl at.pc_a even_here at.core.long_a ∙ sym (past_pc (UnitOp 0) x.pair.addr cb refl at.pc_b even_here at.core.long_b)
+        past_same (suc k) lt off =
+            put_other_reg ca 0 _ (suc k) (λ e. absurd (omega arith)) ∙ same_reg m.text terms.answers x.pair.addr x.label.core ca cb at.core none (suc k) lt off ∙ sym (put_other_reg cb 0 _ (suc k) (λ e. absurd (omega arith)))
+
+  unit_crossing : (n : ℕ) (u : UnitName) → unit_named n ≡ u → (x : Point) (ca da cb db : List ℕ) → AgreeAt m x ca da cb db → met m.text text x.pair.addr ≡ Some (UnitOp n) → (step_unit terms m (UnitOp n) u n x).reasons ≡ [] →
+      Crossing terms m j (AgreeAt m) (step_unit terms m (UnitOp n) u n x).gives (at_rest ca da) (at_rest cb db)
   unfolding unit_does unit_plan unit_effect
   unit_crossing n Unprotect e x ca da cb db at met_it none = shut_crossing n Unprotect e x ca da cb db at met_it (ap unit_alone e) (6 + size_of m.ram / 2 - 1) refl refl refl refl none
   unit_crossing n OwnId e x ca da cb db at met_it none = tell_crossing n OwnId e x ca da cb db at met_it (ap unit_alone e) m.id refl refl refl refl none
@@ -494,11 +495,11 @@ module _ (key : List ℕ) (m : Module) (text : List ℕ) (caller : ℕ) (shape :
   unit_crossing n _ e x ca da cb db at met_it none = absurd cc
 
   -- ---- any instruction
-  pub step_crossing : ((pc : ℕ) (insn : Insn) → met m.text text pc ≡ Some insn → RegularInsn insn) → (x : Point) (ca da cb db : List ℕ) → AgreeAt m x ca da cb db → (step_of m text x).reasons ≡ [] → Crossing m j (AgreeAt m) (step_of m text x).gives (at_rest ca da) (at_rest cb db)
+  pub step_crossing : ((pc : ℕ) (insn : Insn) → met m.text text pc ≡ Some insn → RegularInsn insn) → (x : Point) (ca da cb db : List ℕ) → AgreeAt m x ca da cb db → (step_of terms m text x).reasons ≡ [] → Crossing terms m j (AgreeAt m) (step_of terms m text x).gives (at_rest ca da) (at_rest cb db)
   unfolding step_of
   step_crossing regular x ca da cb db at none = by (met m.text text x.pair.addr) refl none
     where
-      by : (o : Option Insn) → met m.text text x.pair.addr ≡ o → (step_insn m text o x).reasons ≡ [] → Crossing m j (AgreeAt m) (step_insn m text o x).gives (at_rest ca da) (at_rest cb db)
+      by : (o : Option Insn) → met m.text text x.pair.addr ≡ o → (step_insn terms m text o x).reasons ≡ [] → Crossing terms m j (AgreeAt m) (step_insn terms m text o x).gives (at_rest ca da) (at_rest cb db)
       by None e none = absurd cc
       by (Some (Two op w s d)) e none = plain_crossing (Two op w s d) (two_alike op w s d (regular x.pair.addr (Two op w s d) e)) x ca da cb db at e none
       by (Some (One op w a)) e none = plain_crossing (One op w a) (one_alike op w a (regular x.pair.addr (One op w a) e).0) x ca da cb db at e none

@@ -3,6 +3,7 @@ pub mod Cores
 pub mod Effects
 pub mod Plans
 pub mod Words
+pub mod Telling
 pub mod Labelling
 pub mod Runs
 pub mod Instruction

@@ -78,7 +78,8 @@ reason_of n =
     else if n == 7 then reason.Unit
     else if n == 8 then reason.TooMany
     else if n == 9 then reason.Arm
-    else reason.ArmTime
+    else if n == 10 then reason.ArmTime
+    else reason.DataAtExit
 
 numbered : (r : Reason) → reason_of (number_of r) ≡ r
 numbered reason.SecretBranch = refl

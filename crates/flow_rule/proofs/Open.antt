@@ -20,6 +20,7 @@ use Rattle.mod_layout.specs.declared.Module.{Module}
 use Rattle.mod_layout.specs.Table.{holds}
 use Rattle.cpu_step.specs.Asked.{asks, effect}
 use Rattle.cpu_step.specs.Lone.{Job, Lone, lone_byte, lone_does, lone_writes, all_inside, lone_who, Does, doing, job_of}
+use Rattle.flow_rule.specs.Terms.{Terms}
 use Rattle.flow_rule.specs.declared.Val.{Val}
 use Rattle.flow_rule.specs.declared.Val.TheVariants.{Known}
 use Rattle.flow_rule.specs.Values.{val, put_val}
@@ -101,7 +102,7 @@ past_pc_of insn len pc c one e ev small long =
     even_kept : kept 0 (add16 pc (2 * len)) ≡ pc + 2 * len
     even_kept = omega arith
 
-module _ (key : List ℕ) (m : Module) (text : List ℕ) (caller : ℕ) (shape : Shape m) (n p : ℕ) (facts : StubFacts m text n p) where
+module _ (terms : Terms) (key : List ℕ) (m : Module) (text : List ℕ) (caller : ℕ) (shape : Shape m) (n p : ℕ) (facts : StubFacts m text n p) where
   abbrev j : Job
   j = job_of key m text caller
 
@@ -125,29 +126,29 @@ module _ (key : List ℕ) (m : Module) (text : List ℕ) (caller : ℕ) (shape :
   word_at_place k = omega arith
 
   -- ---- the closed words are not met from outside
-  outside_crossing : (x : Point) (ca da cb db : List ℕ) → AtStub m n x ca da cb db → (shut_if false m x.pair.addr (step_of m text x)).reasons ≡ [] →
-      Crossing m j (AtStub m n) (step_of m text x).gives (at_rest ca da) (at_rest cb db)
+  outside_crossing : (x : Point) (ca da cb db : List ℕ) → AtStub m n x ca da cb db → (shut_if false m x.pair.addr (step_of terms m text x)).reasons ≡ [] →
+      Crossing terms m j (AtStub m n) (step_of terms m text x).gives (at_rest ca da) (at_rest cb db)
   outside_crossing x ca da cb db at none =
-      let s = step_of m text x in
+      let s = step_of terms m text x in
       let n1 = none_right s.reasons (shut_reasons m x.pair.addr s.gives) none in
       let n2 = none_left s.reasons (shut_reasons m x.pair.addr s.gives) none in
-      let k = step_crossing key m text caller shape regular x ca da cb db at.agree n2 in
+      let k = step_crossing terms key m text caller shape regular x ca da cb db at.agree n2 in
       record { cycles = k.cycles; some = k.some; to_a = k.to_a; to_b = k.to_b; pass_a = k.pass_a; pass_b = k.pass_b; ending = by k.to_a k.to_b n1 k.ending }
     where
-      by : (la lb : Lone) → shut_reasons m x.pair.addr (step_of m text x).gives ≡ [] → Ending m j (AgreeAt m) (step_of m text x).gives la lb → Ending m j (AtStub m n) (step_of m text x).gives la lb
+      by : (la lb : Lone) → shut_reasons m x.pair.addr (step_of terms m text x).gives ≡ [] → Ending terms m j (AgreeAt m) (step_of terms m text x).gives la lb → Ending terms m j (AtStub m n) (step_of terms m text x).gives la lb
       by la lb e (Stays y among ca da cb db at ea eb) =
-          let k = not_shut m x.pair.addr (step_of m text x).gives e y among in
+          let k = not_shut m x.pair.addr (step_of terms m text x).gives e y among in
           Stays y among ca da cb db (record { agree = at; open_ok = λ f. absurd (shut_open (word_number m y.pair.addr) k f); entry_ok = λ f. absurd (shut_entry (word_number m y.pair.addr) k f); low_ok = λ f. absurd (shut_low (word_number m y.pair.addr) k f) }) ea eb
-      by la lb e (Left c da db out ok_a ok_b ea eb) = Left c da db out ok_a ok_b ea eb
+      by la lb e (Left ca da cb db same out_a out_b ok_a ok_b agree ea eb) = Left ca da cb db same out_a out_b ok_a ok_b agree ea eb
       by la lb e (Shut same ea eb) = Shut same ea eb
 
   -- ---- an instruction among the words 10 to 16, to word k
   abbrev Next : ℕ → List ℕ → List ℕ → Type 0
   Next k ca cb = (is_open k ≡ true → IsOpen k × (reg ca 6 < n) × (reg ca 6 ≡ reg cb 6)) × (k ≡ 17 → (i : ℕ) × (i < n) × (reg ca 6 ≡ 2 * i) × (reg cb 6 ≡ 2 * i)) × (nat_le k 18 ≡ true → IsOpen k ⊎ (k ≡ 17))
 
-  open_crossing : (insn : Insn) (gives : List Point) (ca da cb db : List ℕ) (k : ℕ) (q : Parts key m text caller shape insn gives ca da cb db) →
+  open_crossing : (insn : Insn) (gives : List Point) (ca da cb db : List ℕ) (k : ℕ) (q : Parts terms key m text caller shape insn gives ca da cb db) →
       reg (confined true ca (does_freely insn ca q.values_a).core) 0 ≡ t0 + 2 * k → holds m.text (t0 + 2 * k) ≡ true →
-      Next k (confined true ca (does_freely insn ca q.values_a).core) (confined true cb (does_freely insn cb q.values_b).core) → Crossing m j (AtStub m n) gives (at_rest ca da) (at_rest cb db)
+      Next k (confined true ca (does_freely insn ca q.values_a).core) (confined true cb (does_freely insn cb q.values_b).core) → Crossing terms m j (AtStub m n) gives (at_rest ca da) (at_rest cb db)
   open_crossing insn gives ca da cb db k q pc inn next =
       record {
         cycles = suc q.rest;
@@ -156,22 +157,22 @@ module _ (key : List ℕ) (m : Module) (text : List ℕ) (caller : ℕ) (shape :
         to_b = at_rest _ q.left_b;
         pass_a = does_it j ca da _ q.left_a insn q.rest false q.doing_a q.so_a;
         pass_b = does_it j cb db _ q.left_b insn q.rest false q.doing_b q.so_b;
-        ending = by _ _ pc next (landing_of m _ _ _ _ _ q.landing);
+        ending = by _ _ pc next (landing_of terms m _ _ _ _ _ q.landing);
       }
     where
-      by : (ca' cb' : List ℕ) → reg ca' 0 ≡ t0 + 2 * k → Next k ca' cb' → Landing m gives ca' q.left_a cb' q.left_b → Ending m j (AtStub m n) gives (at_rest ca' q.left_a) (at_rest cb' q.left_b)
+      by : (ca' cb' : List ℕ) → reg ca' 0 ≡ t0 + 2 * k → Next k ca' cb' → Landing terms m gives ca' q.left_a cb' q.left_b → Ending terms m j (AtStub m n) gives (at_rest ca' q.left_a) (at_rest cb' q.left_b)
       by ca' cb' pc next (In y among at) =
           let e : word_number m y.pair.addr ≡ k = ap (word_number m) (sym at.pc_a ∙ pc) ∙ word_at_place k in
           Stays y among ca' q.left_a cb' q.left_b
           (record { agree = at; open_ok = subst (λ k. is_open k ≡ true → IsOpen k × (reg ca' 6 < n) × (reg ca' 6 ≡ reg cb' 6)) (sym e) next.0; entry_ok = subst (λ k. k ≡ 17 → (i : ℕ) × (i < n) × (reg ca' 6 ≡ 2 * i) × (reg cb' 6 ≡ 2 * i)) (sym e) next.1; low_ok = subst (λ k. nat_le k 18 ≡ true → IsOpen k ⊎ (k ≡ 17)) (sym e) next.2 }) refl refl
-      by ca' cb' pc next (Out e o p q) = absurd (clash (holds m.text (reg ca' 0)) (ap (λ a. holds m.text a) pc ∙ inn) o)
+      by ca' cb' pc next (Out same o out_b p q agree) = absurd (clash (holds m.text (reg ca' 0)) (ap (λ a. holds m.text a) pc ∙ inn) o)
         where
           clash : (b : Bool) → b ≡ true → b ≡ false → ⊥
           clash b e f = cc
 
-  step_is : (x : Point) (insn : Insn) → met m.text text x.pair.addr ≡ Some insn → step_of m text x ≡ step_insn m text (Some insn) x
+  step_is : (x : Point) (insn : Insn) → met m.text text x.pair.addr ≡ Some insn → step_of terms m text x ≡ step_insn terms m text (Some insn) x
   unfolding step_of
-  step_is x insn e = ap (λ o. step_insn m text o x) e
+  step_is x insn e = ap (λ o. step_insn terms m text o x) e
 
   -- what the four instructions do to PC and R6
   moved_out : (r a pc : ℕ) (c vs : List ℕ) → reg c 0 ≡ pc → pc % 2 ≡ 0 → pc + 4 < 65536 → length c ≡ 16 →
@@ -256,19 +257,19 @@ module _ (key : List ℕ) (m : Module) (text : List ℕ) (caller : ℕ) (shape :
       next_word = ap (λ i. word_at (text_byte m.text text) i) (let e : t0 + 34 + 2 ≡ t0 + 36 = omega arith in e) ∙ stub_word 18 (t0 + 76) (omega arith) refl
 
   -- each of the four
-  module _ (x : Point) (ca da cb db : List ℕ) (at : AgreeAt m x ca da cb db) (few : reg ca 6 < n) (equal : reg ca 6 ≡ reg cb 6) (none : (step_of m text x).reasons ≡ []) where
+  module _ (x : Point) (ca da cb db : List ℕ) (at : AgreeAt m x ca da cb db) (few : reg ca 6 < n) (equal : reg ca 6 ≡ reg cb 6) (none : (step_of terms m text x).reasons ≡ []) where
     abbrev Crosses : Type 0
-    Crosses = Crossing m j (AtStub m n) (step_of m text x).gives (at_rest ca da) (at_rest cb db)
+    Crosses = Crossing terms m j (AtStub m n) (step_of terms m text x).gives (at_rest ca da) (at_rest cb db)
 
-    by_parts : (insn : Insn) (k k' : ℕ) → x.pair.addr ≡ t0 + 2 * k → k < 38 → k' < 38 → met m.text text (t0 + 2 * k) ≡ Some insn → step_insn m text (Some insn) x ≡ step_plain m text insn x → Does_alike key m text caller shape insn →
+    by_parts : (insn : Insn) (k k' : ℕ) → x.pair.addr ≡ t0 + 2 * k → k < 38 → k' < 38 → met m.text text (t0 + 2 * k) ≡ Some insn → step_insn terms m text (Some insn) x ≡ step_plain terms m text insn x → Does_alike terms key m text caller shape insn →
         ((c vs : List ℕ) → reg c 0 ≡ t0 + 2 * k → length c ≡ 16 → reg c 6 < n → reg (confined true c (does_freely insn c vs).core) 0 ≡ t0 + 2 * k') →
         ((vs ws : List ℕ) → Next k' (confined true ca (does_freely insn ca vs).core) (confined true cb (does_freely insn cb ws).core)) → Crosses
     by_parts insn k k' here lt lt' met_it plain alike pc next =
         let met_x : met m.text text x.pair.addr ≡ Some insn = ap (λ a. met m.text text a) here ∙ met_it in
-        let e : step_of m text x ≡ step_plain m text insn x = step_is x insn met_x ∙ plain in
-        let q = plain_parts key m text caller shape insn alike x ca da cb db at met_x (ap (λ s. s.reasons) (sym e) ∙ none) in
-        subst (λ s. Crossing m j (AtStub m n) s.gives (at_rest ca da) (at_rest cb db)) (sym e)
-        (open_crossing insn (step_plain m text insn x).gives ca da cb db k' q (pc ca q.values_a (at.pc_a ∙ here) at.core.long_a few) (in_place k' lt') (next q.values_a q.values_b))
+        let e : step_of terms m text x ≡ step_plain terms m text insn x = step_is x insn met_x ∙ plain in
+        let q = plain_parts terms key m text caller shape insn alike x ca da cb db at met_x (ap (λ s. s.reasons) (sym e) ∙ none) in
+        subst (λ s. Crossing terms m j (AtStub m n) s.gives (at_rest ca da) (at_rest cb db)) (sym e)
+        (open_crossing insn (step_plain terms m text insn x).gives ca da cb db k' q (pc ca q.values_a (at.pc_a ∙ here) at.core.long_a few) (in_place k' lt') (next q.values_a q.values_b))
 
     sixes : (k' : ℕ) (ca' cb' : List ℕ) → is_open k' ≡ true → IsOpen k' → reg ca' 6 ≡ reg ca 6 → reg cb' 6 ≡ reg cb 6 → Next k' ca' cb'
     sixes k' ca' cb' o is ea eb = ((λ f. (is, subst (λ i. i < n) (sym ea) few, ea ∙ equal ∙ sym eb)), λ f. absurd (never f), λ f. inl is)
@@ -278,26 +279,26 @@ module _ (key : List ℕ) (m : Module) (text : List ℕ) (caller : ℕ) (shape :
 
     at_10 : x.pair.addr ≡ t0 + 2 * 10 → Crosses
     at_10 here =
-        by_parts (Two Mov Word (Reg 1) (Absolute m.ram.start)) 10 12 here (omega arith) (omega arith) met_10 refl (two_alike key m text caller shape Mov Word (Reg 1) (Absolute m.ram.start) tt)
+        by_parts (Two Mov Word (Reg 1) (Absolute m.ram.start)) 10 12 here (omega arith) (omega arith) met_10 refl (two_alike terms key m text caller shape Mov Word (Reg 1) (Absolute m.ram.start) tt)
         (λ c vs e long few. (moved_out 1 m.ram.start (t0 + 20) c vs e (even_place 10) (omega (arith, high_bits 12)) long).0 ∙ (let e : t0 + 20 + 4 ≡ t0 + 24 = omega arith in e))
         (λ vs ws. sixes 12 (next_core (Two Mov Word (Reg 1) (Absolute m.ram.start)) ca vs) (next_core (Two Mov Word (Reg 1) (Absolute m.ram.start)) cb ws) refl (inr (inl refl)) (moved_out 1 m.ram.start (t0 + 20) ca vs (at.pc_a ∙ here) (even_place 10) (omega (arith, high_bits 12)) at.core.long_a).1 (moved_out 1 m.ram.start (t0 + 20) cb ws (at.pc_b ∙ here) (even_place 10) (omega (arith, high_bits 12)) at.core.long_b).1)
 
     at_12 : x.pair.addr ≡ t0 + 2 * 12 → Crosses
     at_12 here =
-        by_parts (Two Mov Word (Reg 7) (Absolute (m.ram.start + 2))) 12 14 here (omega arith) (omega arith) met_12 refl (two_alike key m text caller shape Mov Word (Reg 7) (Absolute (m.ram.start + 2)) tt)
+        by_parts (Two Mov Word (Reg 7) (Absolute (m.ram.start + 2))) 12 14 here (omega arith) (omega arith) met_12 refl (two_alike terms key m text caller shape Mov Word (Reg 7) (Absolute (m.ram.start + 2)) tt)
         (λ c vs e long few. (moved_out 7 (m.ram.start + 2) (t0 + 24) c vs e (even_place 12) (omega (arith, high_bits 14)) long).0 ∙ (let e : t0 + 24 + 4 ≡ t0 + 28 = omega arith in e))
         (λ vs ws. sixes 14 (next_core (Two Mov Word (Reg 7) (Absolute (m.ram.start + 2))) ca vs) (next_core (Two Mov Word (Reg 7) (Absolute (m.ram.start + 2))) cb ws) refl (inr (inr (inl refl))) (moved_out 7 (m.ram.start + 2) (t0 + 24) ca vs (at.pc_a ∙ here) (even_place 12) (omega (arith, high_bits 14)) at.core.long_a).1 (moved_out 7 (m.ram.start + 2) (t0 + 24) cb ws (at.pc_b ∙ here) (even_place 12) (omega (arith, high_bits 14)) at.core.long_b).1)
 
     at_14 : x.pair.addr ≡ t0 + 2 * 14 → Crosses
     at_14 here =
-        by_parts (Two Mov Word (Imm p) (Reg 1)) 14 16 here (omega arith) (omega arith) met_14 refl (two_alike key m text caller shape Mov Word (Imm p) (Reg 1) tt)
+        by_parts (Two Mov Word (Imm p) (Reg 1)) 14 16 here (omega arith) (omega arith) met_14 refl (two_alike terms key m text caller shape Mov Word (Imm p) (Reg 1) tt)
         (λ c vs e long few. (moved_in p (t0 + 28) c vs e (even_place 14) (omega (arith, high_bits 16)) long).0 ∙ (let e : t0 + 28 + 4 ≡ t0 + 32 = omega arith in e))
         (λ vs ws. sixes 16 (next_core (Two Mov Word (Imm p) (Reg 1)) ca vs) (next_core (Two Mov Word (Imm p) (Reg 1)) cb ws) refl (inr (inr (inr refl))) (moved_in p (t0 + 28) ca vs (at.pc_a ∙ here) (even_place 14) (omega (arith, high_bits 16)) at.core.long_a).1 (moved_in p (t0 + 28) cb ws (at.pc_b ∙ here) (even_place 14) (omega (arith, high_bits 16)) at.core.long_b).1)
 
     at_16 : x.pair.addr ≡ t0 + 2 * 16 → Crosses
     at_16 here =
         let f = facts.few in
-        by_parts (Two Add Word (Reg 6) (Reg 6)) 16 17 here (omega arith) (omega arith) met_16 refl (two_alike key m text caller shape Add Word (Reg 6) (Reg 6) tt)
+        by_parts (Two Add Word (Reg 6) (Reg 6)) 16 17 here (omega arith) (omega arith) met_16 refl (two_alike terms key m text caller shape Add Word (Reg 6) (Reg 6) tt)
         (λ c vs e long few. (doubled (t0 + 32) c vs e (even_place 16) (omega (arith, high_bits 17)) long (omega arith)).0 ∙ (let e : t0 + 32 + 2 ≡ t0 + 34 = omega arith in e))
         (λ vs ws. (
           (λ f. absurd (closed_17 f)),
@@ -398,8 +399,8 @@ module _ (key : List ℕ) (m : Module) (text : List ℕ) (caller : ℕ) (shape :
 
     lowered_both : AgreeCore m.text core_val (lowered (past (call_entry m) ca)) (lowered (past (call_entry m) cb))
     lowered_both =
-        lowered_agrees m.text (even key m text caller shape) (past_val (call_entry m) x.pair.addr x.label.core) (past (call_entry m) ca) (past (call_entry m) cb)
-        (past_agrees m.text (even key m text caller shape) (call_entry m) x.pair.addr x.label.core ca cb at.pc_a at.pc_b at.core)
+        lowered_agrees m.text (even terms key m text caller shape) (past_val (call_entry m) x.pair.addr x.label.core) (past (call_entry m) ca) (past (call_entry m) cb)
+        (past_agrees m.text (even terms key m text caller shape) (call_entry m) x.pair.addr x.label.core ca cb at.pc_a at.pc_b at.core)
 
     pushed : Fixed m (push ∷ []) (push_access (pushes_at ca) ∷ []) × ((push_access (pushes_at cb) ∷ []) ≡ (push_access (pushes_at ca) ∷ []))
     pushed =
@@ -447,10 +448,10 @@ module _ (key : List ℕ) (m : Module) (text : List ℕ) (caller : ℕ) (shape :
 
     core_both : AgreeCore m.text (put_val core_val 0 (Known goal_of)) (entered ca (entry_word ca da)) (entered cb (entry_word cb db))
     core_both =
-        let h3 = put_agrees m.text (even key m text caller shape) core_val (lowered (past (call_entry m) ca)) (lowered (past (call_entry m) cb)) 0 (Known goal_of) (entry_word ca da) (entry_word cb db)
+        let h3 = put_agrees m.text (even terms key m text caller shape) core_val (lowered (past (call_entry m) ca)) (lowered (past (call_entry m) cb)) 0 (Known goal_of) (entry_word ca da) (entry_word cb db)
         (λ e. absurd (omega arith)) lowered_both (value_is ca da six_a, value_is cb db six_b) in
-        confined_agrees m.text (even key m text caller shape) (put_val core_val 0 (Known goal_of)) ca cb _ _ at.core.mode_same
-        (ends_so m.text (even key m text caller shape) _ _ _ _ _ h3 (sr_kept ca (entry_word ca da)) (sr_kept cb (entry_word cb db)))
+        confined_agrees m.text (even terms key m text caller shape) (put_val core_val 0 (Known goal_of)) ca cb _ _ at.core.mode_same
+        (ends_so m.text (even terms key m text caller shape) _ _ _ _ _ h3 (sr_kept ca (entry_word ca da)) (sr_kept cb (entry_word cb db)))
       where
         sr_kept : (c : List ℕ) (v : ℕ) → reg (put (lowered (past (call_entry m) c)) 0 v) 2 ≡ reg c 2
         sr_kept c v =
@@ -479,10 +480,10 @@ module _ (key : List ℕ) (m : Module) (text : List ℕ) (caller : ℕ) (shape :
 
     calls_entry : (c d : List ℕ) → reg c 0 ≡ x.pair.addr → reg c 6 ≡ 2 * i → pushes_at c ≡ pushes_at ca → doing j (at_rest c d) ≡ Does (call_entry m)
     calls_entry c d e six same =
-        fetched key m text caller shape c d (call_entry m) (ap (λ a. a % 2) (e ∙ here) ∙ even_place 17) (ap (λ a. holds m.text a) (e ∙ here) ∙ in_place 17 (omega arith)) (ap (λ a. met m.text text a) (e ∙ here) ∙ met_17) refl
+        fetched terms key m text caller shape c d (call_entry m) (ap (λ a. a % 2) (e ∙ here) ∙ even_place 17) (ap (λ a. holds m.text a) (e ∙ here) ∙ in_place 17 (omega arith)) (ap (λ a. met m.text text a) (e ∙ here) ∙ met_17) refl
         (call_inside c (ap (λ a. holds m.text a) (place_is c six) ∙ in_table) (ap (λ a. a % 2) (place_is c six) ∙ even_place (38 + i)) (ap (λ a. holds m.ram a) same ∙ push_fine.0) (ap (λ a. a % 2) same ∙ push_fine.1))
 
-    entry_crossing : Crossing m j (AtStub m n) (step_entries m text x).gives (at_rest ca da) (at_rest cb db)
+    entry_crossing : Crossing terms m j (AtStub m n) (step_entries m text x).gives (at_rest ca da) (at_rest cb db)
     entry_crossing =
         let va = entry_word ca da in
         let vb = entry_word cb db in
@@ -520,21 +521,21 @@ module _ (key : List ℕ) (m : Module) (text : List ℕ) (caller : ℕ) (shape :
             small l = let h = shape.text_high in omega arith
 
   -- ---- every step
-  pub stub_crossing : (x : Point) (ca da cb db : List ℕ) → AtStub m n x ca da cb db → (step_stub m text x).reasons ≡ [] → Crossing m j (AtStub m n) (step_stub m text x).gives (at_rest ca da) (at_rest cb db)
+  pub stub_crossing : (x : Point) (ca da cb db : List ℕ) → AtStub m n x ca da cb db → (step_stub terms m text x).reasons ≡ [] → Crossing terms m j (AtStub m n) (step_stub terms m text x).gives (at_rest ca da) (at_rest cb db)
   unfolding step_stub
   stub_crossing x ca da cb db at none = by (word_number m x.pair.addr == 17) (is_open (word_number m x.pair.addr)) refl refl none
     where
       place : (k : ℕ) → word_number m x.pair.addr ≡ k → x.pair.addr ≡ t0 + 2 * k
       place k e = place_of_word x.pair.addr k e (ap (λ i. i % 2) (sym at.agree.pc_a) ∙ at.agree.core.even_pc) at.agree.in_text
 
-      opened : IsOpen (word_number m x.pair.addr) → reg ca 6 < n → reg ca 6 ≡ reg cb 6 → (step_of m text x).reasons ≡ [] → Crossing m j (AtStub m n) (step_of m text x).gives (at_rest ca da) (at_rest cb db)
+      opened : IsOpen (word_number m x.pair.addr) → reg ca 6 < n → reg ca 6 ≡ reg cb 6 → (step_of terms m text x).reasons ≡ [] → Crossing terms m j (AtStub m n) (step_of terms m text x).gives (at_rest ca da) (at_rest cb db)
       opened (inl e) few equal none = at_10 x ca da cb db at.agree few equal none (place 10 e)
       opened (inr (inl e)) few equal none = at_12 x ca da cb db at.agree few equal none (place 12 e)
       opened (inr (inr (inl e))) few equal none = at_14 x ca da cb db at.agree few equal none (place 14 e)
       opened (inr (inr (inr e))) few equal none = at_16 x ca da cb db at.agree few equal none (place 16 e)
 
       by : (a b : Bool) → (word_number m x.pair.addr == 17) ≡ a → is_open (word_number m x.pair.addr) ≡ b →
-          (cond a (step_entries m text x) (shut_if b m x.pair.addr (step_of m text x))).reasons ≡ [] → Crossing m j (AtStub m n) (cond a (step_entries m text x) (shut_if b m x.pair.addr (step_of m text x))).gives (at_rest ca da) (at_rest cb db)
+          (cond a (step_entries m text x) (shut_if b m x.pair.addr (step_of terms m text x))).reasons ≡ [] → Crossing terms m j (AtStub m n) (cond a (step_entries m text x) (shut_if b m x.pair.addr (step_of terms m text x))).gives (at_rest ca da) (at_rest cb db)
       by true b e f none =
           let k : word_number m x.pair.addr ≡ 17 = is_17 (word_number m x.pair.addr) e in
           let h = at.entry_ok k in

@@ -19,6 +19,7 @@ use Rattle.cpu_step.specs.Fetched.{insn_at, later_word, word_in, insn_from}
 use Rattle.arm_balance.specs.declared.Arm.{Arm}
 use Rattle.arm_balance.specs.Met.{text_byte, met}
 use Rattle.arm_balance.specs.Balance.{met_cycles, next_if, arm_next, arm_on}
+use Rattle.flow_rule.specs.Terms.{Terms}
 use Rattle.flow_rule.specs.declared.Val.{Val}
 use Rattle.flow_rule.specs.declared.Val.TheVariants.{Known, Secret}
 use Rattle.flow_rule.specs.declared.Label.{Label}
@@ -69,10 +70,10 @@ record Some_gives (s : Step) : Type 0 where
   rest : List Point
   gives : s.gives ≡ first ∷ rest
 
-module _ (m : Module) (pc : ℕ) where
+module _ (terms : Terms) (m : Module) (pc : ℕ) where
   in_keeps : (t : Bool) (to : ℕ) (r q : List ℕ) (ts ws vs us : List Val) → to % 2 ≡ 0 → AbsorbsEach ts vs →
-      AbsorbsEach ws us → Some_gives (goes_in t to pc r ts ws) →
-      Leads (goes_in t to pc r ts ws) (goes_in t to pc q vs us)
+      AbsorbsEach ws us → Some_gives (goes_in terms t m to pc r ts ws) →
+      Leads (goes_in terms t m to pc r ts ws) (goes_in terms t m to pc q vs us)
   in_keeps true to r q ts ws vs us even p d g =
       record {
         y = point to r (record { core = ts; words = ws });
@@ -86,16 +87,16 @@ module _ (m : Module) (pc : ℕ) where
 
   by_keeps : (t v : Val) (r q : List ℕ) (ts ws vs us : List Val) → AbsorbsVal t v →
       ((a : ℕ) → t ≡ Known a → a % 2 ≡ 0) → AbsorbsEach ts vs → AbsorbsEach ws us →
-      Some_gives (goes_by t m pc r ts ws) →
-      Leads (goes_by t m pc r ts ws) (goes_by v m pc q vs us)
+      Some_gives (goes_by terms t m pc r ts ws) →
+      Leads (goes_by terms t m pc r ts ws) (goes_by terms v m pc q vs us)
   by_keeps (Known to) (Known b) r q ts ws vs us h even p d g =
-      subst (λ b. Leads (goes_by (Known to) m pc r ts ws) (goes_by (Known b) m pc q vs us)) (sym h)
+      subst (λ b. Leads (goes_by terms (Known to) m pc r ts ws) (goes_by terms (Known b) m pc q vs us)) (sym h)
       (in_keeps (holds m.text to) to r q ts ws vs us (even to refl) p d g)
   by_keeps (Known to) _ r q ts ws vs us h even p d g = absurd h
   by_keeps _ v r q ts ws vs us h even p d g = let e = g.gives in absurd cc
 
   goes_keeps : (r q : List ℕ) (ts ws vs us : List Val) → EvenPc ts → AbsorbsEach ts vs → AbsorbsEach ws us →
-      Some_gives (goes m pc r ts ws) → Leads (goes m pc r ts ws) (goes m pc q vs us)
+      Some_gives (goes terms m pc r ts ws) → Leads (goes terms m pc r ts ws) (goes terms m pc q vs us)
   goes_keeps r q ts ws vs us even p d g =
       by_keeps (val ts 0) (val vs 0) r q ts ws vs us (nth_keeps ts vs 0 p) even p d g
 
@@ -134,7 +135,7 @@ no_more : (xs ys : List Found) → xs ≡ [] → ys ≡ [] → (xs ++ []) ++ ys 
 no_more xs ys p q = ap (λ i. (i ++ []) ++ ys) p ∙ q
 
 -- ---- one instruction of an arm
-module _ (m : Module) (text : List ℕ) where
+module _ (terms : Terms) (m : Module) (text : List ℕ) where
   -- what is read, over these accesses
   abbrev given : Label → List Reach → List Val
   given l xs = map (read_val m text l.words) (read_reaches xs)
@@ -144,11 +145,11 @@ module _ (m : Module) (text : List ℕ) where
   plain insn pc l xs t =
       let d = does_val insn pc l.core (given l xs) in
       also (reach_reasons m pc xs ++ t.reasons)
-      (goes_unless t.stops m pc t.returns d.core (writes_val m l.words (write_reaches xs) d.stored))
+      (goes_unless terms t.stops m pc t.returns d.core (writes_val m l.words (write_reaches xs) d.stored))
 
   is_plain : (insn : Insn) (pc : ℕ) (r : List ℕ) (l : Label) (xs : List Reach) → plan_val insn pc l.core ≡ xs →
       ((vs : List Val) → turn_of insn pc r vs ≡ quiet r) →
-      step_plain m text insn (point pc r l) ≡ plain insn pc l xs (quiet r)
+      step_plain terms m text insn (point pc r l) ≡ plain insn pc l xs (quiet r)
   is_plain insn pc r l xs e turn =
       ap (λ t. plain insn pc l (plan_val insn pc l.core) t) (turn (given l (plan_val insn pc l.core)))
       ∙ ap (λ xs. plain insn pc l xs (quiet r)) e
@@ -159,7 +160,7 @@ module _ (m : Module) (text : List ℕ) where
   plain_leads insn pc r q top low xs o e g =
       let k = does_keeps insn pc top.core low.core (given top xs) (given low xs) o.core
       (reads_keep m text (read_reaches xs) top.words low.words o.words) in
-      let h = goes_keeps m pc r q _ _ _ _ k.even_pc k.core_kept
+      let h = goes_keeps terms m pc r q _ _ _ _ k.even_pc k.core_kept
       (writes_keep m (write_reaches xs) top.words low.words _ _ o.words k.stored_kept)
       (record { first = g.first; rest = g.rest; gives = g.gives }) in
       record { y = h.y; z = h.z; to_y = h.to_y; to_z = h.to_z; none = no_more _ _ e h.none; near = h.near }
@@ -171,8 +172,8 @@ module _ (m : Module) (text : List ℕ) where
 
   plain_goes : (insn : Insn) (pc : ℕ) (r q : List ℕ) (top low : Label) →
       ((r : List ℕ) (vs : List Val) → turn_of insn pc r vs ≡ quiet r) → Over top low →
-      (step_plain m text insn (point pc r top)).reasons ≡ [] → Some_gives (step_plain m text insn (point pc r top)) →
-      Goes (Some insn) pc top low (step_plain m text insn (point pc r top)) (step_plain m text insn (point pc q low))
+      (step_plain terms m text insn (point pc r top)).reasons ≡ [] → Some_gives (step_plain terms m text insn (point pc r top)) →
+      Goes (Some insn) pc top low (step_plain terms m text insn (point pc r top)) (step_plain terms m text insn (point pc q low))
   plain_goes insn pc r q top low turn o none g =
       let xs = plan_val insn pc top.core in
       let free : reach_reasons m pc xs ≡ [] = none_left _ _ (none_left _ _ none) in
@@ -182,35 +183,35 @@ module _ (m : Module) (text : List ℕ) where
       let P : Step → Type 0 = λ s. Some_gives s in
       let k = plain_leads insn pc r q top low xs o free (subst P a g) in
       record {
-        leads = subst (λ s. Leads s (step_plain m text insn (point pc q low))) (sym a)
+        leads = subst (λ s. Leads s (step_plain terms m text insn (point pc q low))) (sym a)
             (subst (λ s. Leads (plain insn pc top xs (quiet r)) s) (sym b) k);
         same_words = λ r r'. ap (λ xs. written_words m (write_reaches xs)) same;
       }
 
   jump_goes : (cn : ℕ) (off : ℤ) (pc : ℕ) (r q : List ℕ) (top low : Label) → (cn == 7) ≡ true → Over top low →
-      Some_gives (step_jump m text (Jump cn off) cn (point pc r top)) →
-      Goes (Some (Jump cn off)) pc top low (step_jump m text (Jump cn off) cn (point pc r top))
-      (step_jump m text (Jump cn off) cn (point pc q low))
+      Some_gives (step_jump terms m text (Jump cn off) cn (point pc r top)) →
+      Goes (Some (Jump cn off)) pc top low (step_jump terms m text (Jump cn off) cn (point pc r top))
+      (step_jump terms m text (Jump cn off) cn (point pc q low))
   unfolding plan_val
   jump_goes cn off pc r q top low seven o g = record { leads = by (cn == 7) seven g; same_words = λ r r'. refl }
     where
       taken : List ℕ → Label → Step
-      taken r l = goes m pc r (does_val (Jump cn off) pc l.core []).core l.words
+      taken r l = goes terms m pc r (does_val (Jump cn off) pc l.core []).core l.words
 
       other : List ℕ → Label → Step
       other r l = also (because_if (is_secret (val l.core 2)) pc SecretBranch 0)
-          (both (taken r l) (goes m pc r (past_val (Jump cn off) pc l.core) l.words))
+          (both (taken r l) (goes terms m pc r (past_val (Jump cn off) pc l.core) l.words))
 
       by : (c : Bool) → c ≡ true → Some_gives (cond c (taken r top) (other r top)) →
           Leads (cond c (taken r top) (other r top)) (cond c (taken q low) (other q low))
       by false e g = absurd cc
       by true e g = let k = does_keeps (Jump cn off) pc top.core low.core [] [] o.core tt in
-          goes_keeps m pc r q _ _ _ _ k.even_pc k.core_kept o.words g
+          goes_keeps terms m pc r q _ _ _ _ k.even_pc k.core_kept o.words g
 
   insn_goes : (o : Option Insn) (join next pc : ℕ) (r q : List ℕ) (top low : Label) → arm_next join pc o ≡ Some next →
-      Over top low → (step_insn m text o (point pc r top)).reasons ≡ [] →
-      Some_gives (step_insn m text o (point pc r top)) →
-      Goes o pc top low (step_insn m text o (point pc r top)) (step_insn m text o (point pc q low))
+      Over top low → (step_insn terms m text o (point pc r top)).reasons ≡ [] →
+      Some_gives (step_insn terms m text o (point pc r top)) →
+      Goes o pc top low (step_insn terms m text o (point pc r top)) (step_insn terms m text o (point pc q low))
   insn_goes None join next pc r q top low on p none g = absurd cc
   insn_goes (Some (Two op w s d)) join next pc r q top low on p none g =
       plain_goes (Two op w s d) pc r q top low (λ r vs. two_quiet join pc next op w s d r vs on) p none g
@@ -228,7 +229,7 @@ module _ (m : Module) (text : List ℕ) where
       Some_gives (S (point pc r top)) →
       Goes (met m.text text pc) pc top low (S (point pc r top)) (S (point pc q low))
 
-  plain_alike : Alike (step_of m text)
+  plain_alike : Alike (step_of terms m text)
   unfolding step_of
   plain_alike join next pc r q top low even inn on o none g =
       insn_goes (met m.text text pc) join next pc r q top low on o none g
@@ -257,16 +258,16 @@ module _ (m : Module) (text : List ℕ) where
       let f : word_number m pc ≡ k = grind (arith, nat_tests) in
       omega arith
 
-  stub_alike : m.text.start % 2 ≡ 0 → has_stub m text ≡ true → Alike (step_stub m text)
+  stub_alike : m.text.start % 2 ≡ 0 → has_stub m text ≡ true → Alike (step_stub terms m text)
   unfolding step_stub
   stub_alike start stub join next pc r q top low even inn on o none g =
       by (word_number m pc == 17) (is_open (word_number m pc)) refl none g
     where
       from_top : Step
-      from_top = step_of m text (point pc r top)
+      from_top = step_of terms m text (point pc r top)
 
       from_low : Step
-      from_low = step_of m text (point pc q low)
+      from_low = step_of terms m text (point pc q low)
 
       by : (a b : Bool) → (word_number m pc == 17) ≡ a →
           (cond a (step_entries m text (point pc r top)) (shut_if b m pc from_top)).reasons ≡ [] →
@@ -421,10 +422,10 @@ module _ (m : Module) (text : List ℕ) where
 
   pub arms_rest : (insn : Insn) (target : ℕ) (arm : Arm) (top x : Point) → m.text.start % 2 ≡ 0 →
       x.pair.addr ≡ top.pair.addr → Absorbs top.label x.label →
-      (step_arm (flow_step m text) m text insn target arm top).reasons ≡ [] →
-      Rests (flow_step m text) insn target arm top x
+      (step_arm (flow_step terms m text) m text insn target arm top).reasons ≡ [] →
+      Rests (flow_step terms m text) insn target arm top x
   arms_rest insn target arm top x even e a none =
-      subst (λ pc. Rests (flow_step m text) insn target arm top (point pc x.pair.returns x.label)) (sym e)
+      subst (λ pc. Rests (flow_step terms m text) insn target arm top (point pc x.pair.returns x.label)) (sym e)
       (by (has_stub m text) refl none)
     where
       low : Point
@@ -437,7 +438,7 @@ module _ (m : Module) (text : List ℕ) where
           (record { core = of_joins _ _ a.core; words = of_joins _ _ a.words }) none
 
       by : (b : Bool) → has_stub m text ≡ b →
-          (step_arm (cond b (step_stub m text) (step_of m text)) m text insn target arm top).reasons ≡ [] →
-          Rests (cond b (step_stub m text) (step_of m text)) insn target arm top low
-      by true stub none = of_step (step_stub m text) (stub_alike even stub) none
-      by false stub none = of_step (step_of m text) plain_alike none
+          (step_arm (cond b (step_stub terms m text) (step_of terms m text)) m text insn target arm top).reasons ≡ [] →
+          Rests (cond b (step_stub terms m text) (step_of terms m text)) insn target arm top low
+      by true stub none = of_step (step_stub terms m text) (stub_alike even stub) none
+      by false stub none = of_step (step_of terms m text) plain_alike none

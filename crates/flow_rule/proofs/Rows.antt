@@ -3,6 +3,7 @@ use Rattle.std.proofs.Common.{◌≡◌, ℕ, ◌%◌, ◌/◌, List, [], ◌∷
 use Rattle.std.specs.Prelude.{replicate}
 use Rattle.insn_decode.specs.Code.{insn_of}
 use Rattle.insn_decode.specs.declared.insn.Insn.TheVariants.{Jump}
+use Rattle.flow_rule.specs.Terms.{no_terms}
 use Rattle.flow_rule.specs.declared.Val.{Val}
 use Rattle.flow_rule.specs.declared.Val.TheVariants.{Known, Public, Secret}
 use Rattle.mod_layout.specs.declared.Module.{Module}
@@ -26,10 +27,10 @@ abbrev module_of : ℕ → ℕ → ℕ → ℕ → Module
 module_of a b c d = record { id = 1; vendor = 7; text = record { start = a; end = b }; ram = record { start = c; end = d } }
 
 abbrev after_rounds : ℕ → Module → List ℕ → List Point
-after_rounds n m text = rounds (flow_step m text) (start_of m text) n
+after_rounds n m text = rounds (flow_step no_terms m text) (start_of m text) n
 
 abbrev reasons_after : ℕ → Module → List ℕ → List Found
-reasons_after n m text = all_reasons (flow_step m text) (after_rounds n m text)
+reasons_after n m text = all_reasons (flow_step no_terms m text) (after_rounds n m text)
 
 row_22_yes : reasons_after 3 (module_of 0x0300 0x0306 0x0400 0x0402) (bytes_of (0x4305 ∷ 0x4030 ∷ 0x0214 ∷ [])) ≡ []
 unfolding bytes_of met step_of step_stub has_stub plan_val does_val insn_of
@@ -117,8 +118,8 @@ branch_told x =
     let m = module_of 0x0300 0x0310 0x0400 0x0402 in
     let text = bytes_of branch_text in
     let arm : Arm = record { branch = 0x0300; join = 0x030e; cycles = 6 } in (
-      first_walk (flow_step m text) m text (Jump 1 (pos 3)) arm x,
-      second_walk (flow_step m text) m text
+      first_walk (flow_step no_terms m text) m text (Jump 1 (pos 3)) arm x,
+      second_walk (flow_step no_terms m text) m text
           (Jump 1 (pos 3)) 0x0308 arm x,
     )
 

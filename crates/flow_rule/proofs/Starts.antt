@@ -1,20 +1,23 @@
 -- Where a call begins.
-use Rattle.std.proofs.Common.{◌≡◌, inl, ℕ, zero, suc, ◌+◌, ◌%◌, ◌<◌, List, set, replicate, refl, sym, ap, ◌∙◌, subst, arith, true, false}
+use Rattle.std.proofs.Common.{◌≡◌, inl, ℕ, zero, suc, ◌+◌, ◌%◌, ◌<◌, List, [], set, replicate, refl, sym, ap, ◌∙◌, subst, arith, true, false}
 use Rattle.std.proofs.lemmas.Bool.Decides.{nat_tests}
 use Rattle.sm_words.specs.Words.{reg, nth}
 use Rattle.mod_layout.specs.declared.Module.{Module}
 use Rattle.mod_layout.specs.declared.Section.{Section}
 use Rattle.mod_layout.specs.Table.{holds}
 use Rattle.mod_layout.specs.Tables.{IsSection}
-use Rattle.cpu_step.specs.Lone.{Entrance, starts, job_of, outcome, alike}
+use Rattle.cpu_step.specs.Lone.{Entrance, starts, job_of, outcome}
 use Rattle.sm_words.specs.Words.{IsCore}
 use Rattle.cpu_step.specs.Lone.{IsEntry}
+use Rattle.flow_rule.specs.Terms.{Terms}
 use Rattle.flow_rule.specs.declared.Val.TheVariants.{Away, Public, Secret}
 use Rattle.flow_rule.specs.Values.{val}
 use Rattle.flow_rule.specs.Stub.{word_number}
 use Rattle.flow_rule.specs.Verdict.{no_secret, begins}
+use Rattle.flow_rule.specs.Laws.{AgreeOn, ends_but}
 use Rattle.flow_rule.proofs.Meaning.{Agrees}
 use Rattle.flow_rule.proofs.Words.{Shape, IsData}
+use Rattle.flow_rule.proofs.Telling.{opened_at}
 use Rattle.flow_rule.proofs.Instruction.{AgreeAt}
 use Rattle.flow_rule.proofs.Stub.{StubFacts}
 use Rattle.flow_rule.proofs.Open.{AtStub}
@@ -42,8 +45,8 @@ starts_at s c pc e z (suc (suc zero)) = refl
 starts_at s c pc e z (suc (suc (suc zero))) = (z, z)
 starts_at s c pc e z (suc (suc (suc (suc n)))) = publics s 12 n (reg c (suc (suc (suc (suc n)))))
 
-pub begins_at : (m : Module) (c da db : List ℕ) (pc : ℕ) → IsCore c → reg c 0 ≡ pc → holds m.text pc ≡ true → IsData m da → IsData m db → AgreeAt m (begins pc (no_secret pc)) c da c db
-begins_at m c da db pc ok e t pa pb =
+pub begins_at : (terms : Terms) (m : Module) (c da db : List ℕ) (pc : ℕ) → IsCore c → reg c 0 ≡ pc → holds m.text pc ≡ true → IsData m da → IsData m db → AgreeOn m terms.public da db → AgreeAt m (begins terms m pc (no_secret pc)) c da c db
+begins_at terms m c da db pc ok e t pa pb agree =
     record {
       pc_a = e;
       pc_b = e;
@@ -59,17 +62,18 @@ begins_at m c da db pc ok e t pa pb =
         zero_a = ok.zero_three;
         zero_b = ok.zero_three;
       };
-      words = record { is_a = pa; is_b = pb; at = λ i. secrets m.text 256 i _ _ };
+      words = record { is_a = pa; is_b = pb; at = opened_at m terms.public (replicate 256 Secret) da db agree (λ i. secrets m.text 256 i _ _) };
       in_text = t;
     }
 
 pub start_in : (m : Module) → m.text.start < m.text.end → holds m.text m.text.start ≡ true
 start_in m lt = grind (arith, nat_tests)
 
--- one call ends alike; what it leaves may be any data
-abbrev pub CallsAlike : List ℕ → Module → List ℕ → Type 1
-CallsAlike key m text = (n : ℕ) (R : List ℕ → List ℕ → Type 0) → ((da db : List ℕ) → IsData m da → IsData m db → R da db) →
-    (e : Entrance) → IsEntry m e → (da db : List ℕ) → IsData m da → IsData m db → alike R (outcome (job_of key m text e.caller) n (starts e da)) (outcome (job_of key m text e.caller) n (starts e db))
+-- one call ends alike but for the answers; what it leaves may be any data that agree on the public words
+abbrev pub CallsAlike : Terms → List ℕ → Module → List ℕ → Type 1
+CallsAlike terms key m text = (n : ℕ) (R : List ℕ → List ℕ → Type 0) → ((da db : List ℕ) → IsData m da → IsData m db → AgreeOn m terms.public da db → R da db) →
+    (e : Entrance) → IsEntry m e → (da db : List ℕ) → IsData m da → IsData m db → AgreeOn m terms.public da db →
+    ends_but terms.answers R (outcome (job_of key m text e.caller) n (starts e da)) (outcome (job_of key m text e.caller) n (starts e db))
 
 pub away_start : (s : Section) (c : List ℕ) (pc : ℕ) → reg c 0 ≡ pc → reg c 3 ≡ 0 → reg c 7 < 65536 → holds s (reg c 7) ≡ false → (n : ℕ) → Agrees s (val (set (no_secret pc) 7 Away) n) (reg c n) (reg c n)
 away_start s c pc e z small out zero = (e, e)
@@ -83,9 +87,9 @@ away_start s c pc e z small out (suc (suc (suc (suc (suc (suc (suc zero))))))) =
 away_start s c pc e z small out (suc (suc (suc (suc (suc (suc (suc (suc n)))))))) = publics s 8 n (reg c (suc (suc (suc (suc (suc (suc (suc (suc n)))))))))
 
 -- where the start's own way through a stub ends
-pub stub_begins : (m : Module) (text : List ℕ) (n p : ℕ) → Shape m → StubFacts m text n p → (c da db : List ℕ) (six seven : ℕ) → seven < 65536 → holds m.text seven ≡ false → Calm c (m.text.start + 20) six seven → six < n → IsData m da → IsData m db →
-    AtStub m n (begins (m.text.start + 20) (set (no_secret (m.text.start + 20)) 7 Away)) c da c db
-stub_begins m text n p shape facts c da db six seven small out h few pa pb =
+pub stub_begins : (terms : Terms) (m : Module) (text : List ℕ) (n p : ℕ) → Shape m → StubFacts m text n p → (c da db : List ℕ) (six seven : ℕ) → seven < 65536 → holds m.text seven ≡ false → Calm c (m.text.start + 20) six seven → six < n → IsData m da → IsData m db → AgreeOn m terms.public da db →
+    AtStub m n (begins terms m (m.text.start + 20) (set (no_secret (m.text.start + 20)) 7 Away)) c da c db
+stub_begins terms m text n p shape facts c da db six seven small out h few pa pb agree =
     let pc = m.text.start + 20 in
     let s0 = shape.text_start in
     record {
@@ -104,7 +108,7 @@ stub_begins m text n p shape facts c da db six seven small out h few pa pb =
           zero_a = h.three;
           zero_b = h.three;
         };
-        words = record { is_a = pa; is_b = pb; at = λ i. secrets m.text 256 i _ _ };
+        words = record { is_a = pa; is_b = pb; at = opened_at m terms.public (replicate 256 Secret) da db agree (λ i. secrets m.text 256 i _ _) };
         in_text = inside;
       };
       open_ok = λ f. (inl at_10, subst (λ i. i < n) (sym h.six_is) few, refl);

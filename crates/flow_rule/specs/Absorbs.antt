@@ -3,6 +3,7 @@ use Rattle.std.specs.Prelude.{◌≡◌, ℕ, ◌%◌, List, []}
 use Rattle.insn_decode.specs.declared.insn.Insn.{Insn}
 use Rattle.mod_layout.specs.declared.Module.{Module}
 use Rattle.arm_balance.specs.declared.Arm.{Arm}
+use Rattle.flow_rule.specs.Terms.{Terms}
 use Rattle.flow_rule.specs.declared.Label.{Label}
 use Rattle.flow_rule.specs.Values.{join_each}
 use Rattle.flow_rule.specs.Rounds.{Point}
@@ -16,9 +17,9 @@ pub record Absorbs (top low : Label) : Type 0 where
 
 -- where a branch has no reason under a label, its arms tell the same under each label that this one absorbs
 abbrev pub ArmsRest : Type 0
-ArmsRest = (m : Module) (text : List ℕ) (insn : Insn) (target : ℕ) (arm : Arm) (top x : Point) → m.text.start % 2 ≡ 0 →
+ArmsRest = (terms : Terms) (m : Module) (text : List ℕ) (insn : Insn) (target : ℕ) (arm : Arm) (top x : Point) → m.text.start % 2 ≡ 0 →
     x.pair.addr ≡ top.pair.addr → Absorbs top.label x.label →
-    let step = flow_step m text in
+    let step = flow_step terms m text in
     (step_arm step m text insn target arm top).reasons ≡ [] →
     (first_walk step m text insn arm x ≡ first_walk step m text insn arm top)
     × (second_walk step m text insn target arm x ≡ second_walk step m text insn target arm top)

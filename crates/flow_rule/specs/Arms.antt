@@ -13,6 +13,7 @@ use Rattle.insn_decode.specs.declared.insn.Insn.{Insn}
 use Rattle.insn_decode.specs.declared.insn.Insn.TheVariants.{Two, One, Jump}
 use Rattle.mod_layout.specs.declared.Module.{Module}
 use Rattle.mod_layout.specs.Table.{holds}
+use Rattle.flow_rule.specs.Terms.{Terms, no_terms}
 use Rattle.flow_rule.specs.declared.Val.{Val}
 use Rattle.flow_rule.specs.declared.Val.TheVariants.{Known, Secret}
 use Rattle.flow_rule.specs.Values.{is_secret, val, put_val}
@@ -22,7 +23,7 @@ use Rattle.flow_rule.specs.declared.Reach.{Reach}
 use Rattle.flow_rule.specs.Does.{plan_val, write_reaches, word_no, does_val, past_val}
 use Rattle.flow_rule.specs.declared.Verdict.{Verdict}
 use Rattle.flow_rule.specs.Reasons.{because, because_if}
-use Rattle.flow_rule.specs.Verdict.{start_of, flow_step, Decided}
+use Rattle.flow_rule.specs.Verdict.{start_under, flow_step, Decided}
 
 -- what an instruction writes
 abbrev pub stepped_regs : Operand → List ℕ
@@ -140,9 +141,17 @@ step_arms_by o step arms m text x = step x
 unfoldable pub step_arms : (Point → Step) → List Arm → Module → List ℕ → Point → Step
 step_arms step arms m text x = step_arms_by (met m.text text x.pair.addr) step arms m text x
 
-abbrev pub flow_with : Module → List ℕ → List Arm → Point → Step
-flow_with m text arms = step_arms (flow_step m text) arms m text
+-- the step under terms and with certificates
+abbrev pub flow_under : Terms → Module → List ℕ → List Arm → Point → Step
+flow_under terms m text arms = step_arms (flow_step terms m text) arms m text
 
--- the verdict of a text, with these certificates or with none
+-- the verdict of a text under terms, with these certificates or with none
+abbrev pub VerdictUnder : Terms → Module → List ℕ → List Arm → Verdict → Type 0
+VerdictUnder terms m text arms a = Decided (flow_under terms m text arms) (start_under terms m text) m.text.start a
+
+-- the same where nothing is told
+abbrev pub flow_with : Module → List ℕ → List Arm → Point → Step
+flow_with m text arms = flow_under no_terms m text arms
+
 abbrev pub VerdictWith : Module → List ℕ → List Arm → Verdict → Type 0
-VerdictWith m text arms a = Decided (flow_with m text arms) (start_of m text) m.text.start a
+VerdictWith m text arms a = VerdictUnder no_terms m text arms a

@@ -2,32 +2,38 @@
 use Rattle.std.specs.Prelude.{ℕ, List, [], ◌∷◌, ◌++◌, Bool, true, false}
 use Rattle.mod_layout.specs.declared.Module.{Module}
 use Rattle.mod_layout.specs.Table.{holds}
+use Rattle.flow_rule.specs.Terms.{Terms}
 use Rattle.flow_rule.specs.declared.Val.{Val}
 use Rattle.flow_rule.specs.declared.Val.TheVariants.{Known, Away}
 use Rattle.flow_rule.specs.Values.{val}
 use Rattle.flow_rule.specs.declared.Reason.{Reason}
 use Rattle.flow_rule.specs.declared.Reason.TheVariants.{UnknownTarget}
 use Rattle.flow_rule.specs.Rounds.{Found, Step}
-use Rattle.flow_rule.specs.Reasons.{because, exit_reasons}
+use Rattle.flow_rule.specs.Reasons.{because, exit_reasons, bare, word_reasons}
 
--- to leave, no register and no flag may be secret
-abbrev pub leaves : ℕ → List Val → Step
-leaves pc core = record { reasons = exit_reasons 16 0 pc core; gives = [] }
+-- to close, no register and no flag may be secret but the answers: the data become 0
+abbrev pub closes : Terms → ℕ → List Val → Step
+closes terms pc core = record { reasons = exit_reasons 16 0 pc (bare terms.answers core); gives = [] }
+
+-- to leave, no public word of the data either
+abbrev pub leaves : Terms → Module → ℕ → List Val → List Val → Step
+leaves terms m pc core words = record { reasons = word_reasons m pc words terms.public ++ exit_reasons 16 0 pc (bare terms.answers core); gives = [] }
 
 -- inside the text the label is handed on
-abbrev pub goes_in : Bool → ℕ → ℕ → List ℕ → List Val → List Val → Step
-goes_in true to pc returns core words = record { reasons = []; gives = record { pair = record { addr = to; returns = returns }; label = record { core = core; words = words } } ∷ [] }
-goes_in false to pc returns core words = leaves pc core
+abbrev pub goes_in : Terms → Bool → Module → ℕ → ℕ → List ℕ → List Val → List Val → Step
+goes_in terms true m to pc returns core words =
+    record { reasons = []; gives = record { pair = record { addr = to; returns = returns }; label = record { core = core; words = words } } ∷ [] }
+goes_in terms false m to pc returns core words = leaves terms m pc core words
 
 -- on from pc with this core: to a known place, or away
-abbrev pub goes_by : Val → Module → ℕ → List ℕ → List Val → List Val → Step
-goes_by (Known to) m pc returns core words = goes_in (holds m.text to) to pc returns core words
-goes_by Away m pc returns core words = leaves pc core
-goes_by _ m pc returns core words = record { reasons = because pc UnknownTarget 0; gives = [] }
+abbrev pub goes_by : Terms → Val → Module → ℕ → List ℕ → List Val → List Val → Step
+goes_by terms (Known to) m pc returns core words = goes_in terms (holds m.text to) m to pc returns core words
+goes_by terms Away m pc returns core words = leaves terms m pc core words
+goes_by terms _ m pc returns core words = record { reasons = because pc UnknownTarget 0; gives = [] }
 
 -- on from pc, to where PC then points
-abbrev pub goes : Module → ℕ → List ℕ → List Val → List Val → Step
-goes m pc returns core words = goes_by (val core 0) m pc returns core words
+abbrev pub goes : Terms → Module → ℕ → List ℕ → List Val → List Val → Step
+goes terms m pc returns core words = goes_by terms (val core 0) m pc returns core words
 
 -- a branch that goes both ways
 abbrev pub both : Step → Step → Step

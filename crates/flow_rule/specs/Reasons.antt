@@ -1,14 +1,15 @@
 -- Why a text is refused, and where: each reason has the address of its instruction and a value; and their order.
-use Rattle.std.specs.Prelude.{◌≡◌, ◌<◌, ◌≤◌, ◌⊎◌, ℕ, zero, suc, ◌+◌, List, [], ◌∷◌, ◌++◌, if◌then◌else◌, Bool, true, false, not}
+use Rattle.std.specs.Prelude.{◌≡◌, ◌<◌, ◌≤◌, ◌⊎◌, ℕ, zero, suc, ◌+◌, List, [], ◌∷◌, ◌++◌, slice_set, if◌then◌else◌, Bool, true, false, not}
+use Rattle.sm_words.specs.Words.{nth}
 use Rattle.mod_layout.specs.declared.Module.{Module}
 use Rattle.flow_rule.specs.declared.Val.{Val}
-use Rattle.flow_rule.specs.declared.Val.TheVariants.{Known, Secret}
+use Rattle.flow_rule.specs.declared.Val.TheVariants.{Known, Public, Secret}
 use Rattle.flow_rule.specs.Values.{is_secret, val}
 use Rattle.flow_rule.specs.declared.Reason.{Reason}
-use Rattle.flow_rule.specs.declared.Reason.TheVariants.{SecretBranch, SecretAddress, OutsideAccess, SecretAtExit, UnknownTarget, Illegal, Unit as UnitWord, TooMany, Arm as ArmInsn, ArmTime}
+use Rattle.flow_rule.specs.declared.Reason.TheVariants.{SecretBranch, SecretAddress, OutsideAccess, SecretAtExit, UnknownTarget, Illegal, Unit as UnitWord, TooMany, Arm as ArmInsn, ArmTime, DataAtExit}
 use Rattle.flow_rule.specs.Rounds.{Found}
 use Rattle.flow_rule.specs.declared.Reach.{Reach}
-use Rattle.flow_rule.specs.Does.{may_reach}
+use Rattle.flow_rule.specs.Does.{may_reach, word_no}
 
 -- one reason
 abbrev pub because : ℕ → Reason → ℕ → List Found
@@ -33,6 +34,16 @@ abbrev pub exit_reasons : ℕ → ℕ → ℕ → List Val → List Found
 exit_reasons zero n pc core = []
 exit_reasons (suc k) n pc core = if is_secret (val core n) then because pc SecretAtExit n else exit_reasons k (n + 1) pc core
 
+-- the registers of these numbers as if they were Public
+abbrev pub bare : List ℕ → List Val → List Val
+bare [] core = core
+bare (r ∷ rs) core = bare rs (slice_set core r Public)
+
+-- each word at these addresses that is Secret
+abbrev pub word_reasons : Module → ℕ → List Val → List ℕ → List Found
+word_reasons m pc words [] = []
+word_reasons m pc words (a ∷ addrs) = because_if (is_secret (nth (word_no m a) words Secret)) pc DataAtExit a ++ word_reasons m pc words addrs
+
 -- the reasons by their numbers
 abbrev pub number_of : Reason → ℕ
 number_of SecretBranch = 1
@@ -45,6 +56,7 @@ number_of UnitWord = 7
 number_of TooMany = 8
 number_of ArmInsn = 9
 number_of ArmTime = 10
+number_of DataAtExit = 11
 
 -- by address, then number, then value
 abbrev pub NotAfter : Found → Found → Type 0

@@ -6,6 +6,7 @@ use Rattle.insn_decode.specs.declared.insn.Insn.TheVariants.{Jump, Reti, Unit as
 use Rattle.mod_layout.specs.declared.Module.{Module}
 use Rattle.arm_balance.specs.Met.{text_byte, met}
 use Rattle.attest.specs.Units.{UnitName, Unprotect, OwnId, CallerId, unit_named}
+use Rattle.flow_rule.specs.Terms.{Terms}
 use Rattle.flow_rule.specs.declared.Val.{Val}
 use Rattle.flow_rule.specs.declared.Val.TheVariants.{Public}
 use Rattle.flow_rule.specs.Values.{is_secret, val, put_val}
@@ -13,46 +14,46 @@ use Rattle.flow_rule.specs.declared.Reason.TheVariants.{SecretBranch, UnknownTar
 use Rattle.flow_rule.specs.Rounds.{Point, Step}
 use Rattle.flow_rule.specs.Does.{plan_val, read_val, writes_val, read_reaches, write_reaches, does_val, past_val}
 use Rattle.flow_rule.specs.Reasons.{because_if, reach_reasons}
-use Rattle.flow_rule.specs.Going.{leaves, goes, both, also, fails}
+use Rattle.flow_rule.specs.Going.{closes, goes, both, also, fails}
 use Rattle.flow_rule.specs.Returns.{turn_of}
 
 -- a return to another place than the newest address is refused
-abbrev pub goes_unless : Bool → Module → ℕ → List ℕ → List Val → List Val → Step
-goes_unless true m pc returns core words = fails pc UnknownTarget 0
-goes_unless false m pc returns core words = goes m pc returns core words
+abbrev pub goes_unless : Terms → Bool → Module → ℕ → List ℕ → List Val → List Val → Step
+goes_unless terms true m pc returns core words = fails pc UnknownTarget 0
+goes_unless terms false m pc returns core words = goes terms m pc returns core words
 
 -- reads, the operation, the list of return addresses, writes
-abbrev pub step_plain : Module → List ℕ → Insn → Point → Step
-step_plain m text insn x =
+abbrev pub step_plain : Terms → Module → List ℕ → Insn → Point → Step
+step_plain terms m text insn x =
     let pc = x.pair.addr in
     let xs = plan_val insn pc x.label.core in
     let values = map (read_val m text x.label.words) (read_reaches xs) in
     let d = does_val insn pc x.label.core values in
     let t = turn_of insn pc x.pair.returns values in
-    also (reach_reasons m pc xs ++ t.reasons) (goes_unless t.stops m pc t.returns d.core (writes_val m x.label.words (write_reaches xs) d.stored))
+    also (reach_reasons m pc xs ++ t.reasons) (goes_unless terms t.stops m pc t.returns d.core (writes_val m x.label.words (write_reaches xs) d.stored))
 
 -- a jump that is always taken has one way; any other has both, and its flags may not be secret
-abbrev pub step_jump : Module → List ℕ → Insn → ℕ → Point → Step
-step_jump m text insn cond x =
+abbrev pub step_jump : Terms → Module → List ℕ → Insn → ℕ → Point → Step
+step_jump terms m text insn cond x =
     let pc = x.pair.addr in
-    let taken = goes m pc x.pair.returns (does_val insn pc x.label.core []).core x.label.words in
+    let taken = goes terms m pc x.pair.returns (does_val insn pc x.label.core []).core x.label.words in
     if cond == 7 then taken
-    else also (because_if (is_secret (val x.label.core 2)) pc SecretBranch 0) (both taken (goes m pc x.pair.returns (past_val insn pc x.label.core) x.label.words))
+    else also (because_if (is_secret (val x.label.core 2)) pc SecretBranch 0) (both taken (goes terms m pc x.pair.returns (past_val insn pc x.label.core) x.label.words))
 
--- unprotect leaves; own id and caller id are public; the others are refused
-abbrev pub step_unit : Module → Insn → UnitName → ℕ → Point → Step
-step_unit m insn Unprotect n x = leaves x.pair.addr x.label.core
-step_unit m insn OwnId n x = goes m x.pair.addr x.pair.returns (put_val (past_val insn x.pair.addr x.label.core) 15 Public) x.label.words
-step_unit m insn CallerId n x = goes m x.pair.addr x.pair.returns (put_val (past_val insn x.pair.addr x.label.core) 15 Public) x.label.words
-step_unit m insn u n x = fails x.pair.addr UnitWord n
+-- unprotect closes; own id and caller id are public; the others are refused
+abbrev pub step_unit : Terms → Module → Insn → UnitName → ℕ → Point → Step
+step_unit terms m insn Unprotect n x = closes terms x.pair.addr x.label.core
+step_unit terms m insn OwnId n x = goes terms m x.pair.addr x.pair.returns (put_val (past_val insn x.pair.addr x.label.core) 15 Public) x.label.words
+step_unit terms m insn CallerId n x = goes terms m x.pair.addr x.pair.returns (put_val (past_val insn x.pair.addr x.label.core) 15 Public) x.label.words
+step_unit terms m insn u n x = fails x.pair.addr UnitWord n
 
-abbrev pub step_insn : Module → List ℕ → Option Insn → Point → Step
-step_insn m text None x = fails x.pair.addr Illegal (word_at (text_byte m.text text) x.pair.addr)
-step_insn m text (Some Reti) x = fails x.pair.addr Illegal (word_at (text_byte m.text text) x.pair.addr)
-step_insn m text (Some (Jump cond off)) x = step_jump m text (Jump cond off) cond x
-step_insn m text (Some (UnitOp n)) x = step_unit m (UnitOp n) (unit_named n) n x
-step_insn m text (Some insn) x = step_plain m text insn x
+abbrev pub step_insn : Terms → Module → List ℕ → Option Insn → Point → Step
+step_insn terms m text None x = fails x.pair.addr Illegal (word_at (text_byte m.text text) x.pair.addr)
+step_insn terms m text (Some Reti) x = fails x.pair.addr Illegal (word_at (text_byte m.text text) x.pair.addr)
+step_insn terms m text (Some (Jump cond off)) x = step_jump terms m text (Jump cond off) cond x
+step_insn terms m text (Some (UnitOp n)) x = step_unit terms m (UnitOp n) (unit_named n) n x
+step_insn terms m text (Some insn) x = step_plain terms m text insn x
 
 -- the step at a pair: what is met at its address
-unfoldable pub step_of : Module → List ℕ → Point → Step
-step_of m text x = step_insn m text (met m.text text x.pair.addr) x
+unfoldable pub step_of : Terms → Module → List ℕ → Point → Step
+step_of terms m text x = step_insn terms m text (met m.text text x.pair.addr) x

@@ -11,6 +11,7 @@ use Rattle.mod_layout.specs.declared.Module.{Module}
 use Rattle.mod_layout.specs.Table.{size_of}
 use Rattle.entry_stubs.specs.Stub.{stub_front, front_words, most_entries, count_word, body_word, stack_word, call_word, table_word, unknown_word, stub_size}
 use Rattle.arm_balance.specs.Met.{text_byte}
+use Rattle.flow_rule.specs.Terms.{Terms}
 use Rattle.flow_rule.specs.declared.Val.{Val}
 use Rattle.flow_rule.specs.declared.Val.TheVariants.{Known}
 use Rattle.flow_rule.specs.Values.{val, put_val}
@@ -96,7 +97,7 @@ step_entries m text x =
     }
 
 -- the call goes to each entry; every other word does its own step
-unfoldable pub step_stub : Module → List ℕ → Point → Step
-step_stub m text x =
+unfoldable pub step_stub : Terms → Module → List ℕ → Point → Step
+step_stub terms m text x =
     let k = word_number m x.pair.addr in
-    if k == call_word then step_entries m text x else shut_if (is_open k) m x.pair.addr (step_of m text x)
+    if k == call_word then step_entries m text x else shut_if (is_open k) m x.pair.addr (step_of terms m text x)

@@ -4,10 +4,12 @@ use Rattle.flow_rule.specs.declared.Verdict.TheVariants.{Yes, No}
 use Rattle.std.specs.Prelude.{◌≡◌, ◌<◌, ◌≤◌, ◌⊎◌, ℕ, ◌+◌, ◌*◌, List, [], ◌∷◌, length, replicate, slice_set, if◌then◌else◌}
 use Rattle.mod_layout.specs.declared.Module.{Module}
 use Rattle.entry_stubs.specs.Stub.{body_word}
+use Rattle.flow_rule.specs.Terms.{Terms, no_terms}
 use Rattle.flow_rule.specs.declared.Val.{Val}
 use Rattle.flow_rule.specs.declared.Val.TheVariants.{Known, Away, Public, Secret}
 use Rattle.flow_rule.specs.declared.Reason.TheVariants.{TooMany}
 use Rattle.flow_rule.specs.Rounds.{Point, Found, Step, IsLabelling, rounds, all_reasons}
+use Rattle.flow_rule.specs.Does.{word_no}
 use Rattle.flow_rule.specs.Reasons.{BeforeAll, AmongThem}
 use Rattle.flow_rule.specs.Steps.{step_of}
 use Rattle.flow_rule.specs.Stub.{has_stub, step_stub}
@@ -24,20 +26,29 @@ most_pairs = 16384
 abbrev pub no_secret : ℕ → List Val
 no_secret pc = Known pc ∷ Public ∷ Public ∷ Known 0 ∷ replicate 12 Public
 
--- a pair with nothing known of the data
-abbrev pub begins : ℕ → List Val → Point
-begins pc core = record { pair = record { addr = pc; returns = [] }; label = record { core = core; words = replicate known_words Secret } }
+-- the words at these addresses are Public
+abbrev pub opened : Module → List ℕ → List Val → List Val
+opened m [] words = words
+opened m (a ∷ addrs) words = opened m addrs (slice_set words (word_no m a) Public)
+
+-- a pair with nothing known of the data but that the public words are equal
+abbrev pub begins : Terms → Module → ℕ → List Val → Point
+begins terms m pc core = record { pair = record { addr = pc; returns = [] }; label = record { core = core; words = opened m terms.public (replicate known_words Secret) } }
 
 -- the start: no return address, nothing secret in the registers and flags; behind a stub's first words R7 is Away
-abbrev pub start_of : Module → List ℕ → Point
-start_of m text =
+abbrev pub start_under : Terms → Module → List ℕ → Point
+start_under terms m text =
     let t = m.text.start in
     let body = t + 2 * body_word in
-    if has_stub m text then begins body (slice_set (no_secret body) 7 Away) else begins t (no_secret t)
+    if has_stub m text then begins terms m body (slice_set (no_secret body) 7 Away) else begins terms m t (no_secret t)
+
+-- the start where no data are public
+abbrev pub start_of : Module → List ℕ → Point
+start_of m text = start_under no_terms m text
 
 -- the step of a text, with or without a stub
-abbrev pub flow_step : Module → List ℕ → Point → Step
-flow_step m text = if has_stub m text then step_stub m text else step_of m text
+abbrev pub flow_step : Terms → Module → List ℕ → Point → Step
+flow_step terms m text = if has_stub m text then step_stub terms m text else step_of terms m text
 
 -- Yes where no pair of the labelling has a reason; No with the least reason; TooMany as soon as a round has too many pairs
 abbrev pub Decided : (Point → Step) → Point → ℕ → Verdict → Type 0

@@ -2,7 +2,7 @@
 #![tactic(auto)]
 
 ghost use Rattle.flow_rule.specs.Absorbs.{ArmsRest};
-ghost use Rattle.flow_rule.specs.Laws.{Evenness, SomeVerdict, OneVerdict};
+ghost use Rattle.flow_rule.specs.Laws.{Evenness, Released, Kept, SomeVerdict, OneVerdict};
 
 use pc_access::Kind;
 use sm_words::Width;
@@ -57,6 +57,7 @@ pub enum Reason {
     TooMany,
     Arm,
     ArmTime,
+    DataAtExit,
 }
 
 /// Whether a text is even for every two data.
@@ -75,12 +76,19 @@ pub fn evenness()
     ensures even { Evenness }
 {}
 
+/// Where the verdict is yes under terms, no list of calls tells two data apart that agree on the public words, but by the
+/// answers; and each call leaves data that agree on them, whatever its answers are.
+pub fn released()
+    ensures even { Released }
+    ensures kept { Kept }
+{}
+
 /// What no reason says of a branch's arms under a label holds of every label that it absorbs.
 pub fn arms_rest()
     ensures rest { ArmsRest }
 {}
 
-/// Every text has one verdict, whatever the module and the certificates.
+/// Every text has one verdict, whatever the module, the terms and the certificates.
 pub fn one_verdict()
     ensures some { SomeVerdict }
     ensures one { OneVerdict }

@@ -8,6 +8,7 @@ use std::process::Abort;
 use std::test::Fail;
 
 mod modes;
+mod released;
 mod stubs;
 mod summaries;
 mod violations;

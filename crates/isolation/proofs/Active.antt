@@ -52,30 +52,30 @@ module _ (m : ℕ) (own : Module) (key text : List ℕ) where
   moved_hidden : (s : State) (l' : Lone) (memory : List ℕ) → is_id m s.active ≡ true → cleared own.ram.start (size_of own.ram) memory ≡ cleared own.ram.start (size_of own.ram) s.memory → veil_core l'.core ≡ veil_core s.core → hide m own (moved s l' memory) ≡ hide_by true m own s
   moved_hidden s l' memory act rest gie = rw (act, gie, rest) refl
 
-  moved_alike : (a b : State) (la lb : Lone) (ma mb : List ℕ) → Keeps m own key text a → Keeps m own key text b → is_id m a.active ≡ true → is_id m b.active ≡ true → hide_by true m own a ≡ hide_by true m own b →
+  moved_alike : (answers : List ℕ) (a b : State) (la lb : Lone) (ma mb : List ℕ) → Keeps m own key text a → Keeps m own key text b → is_id m a.active ≡ true → is_id m b.active ≡ true → hide_by true m own a ≡ hide_by true m own b →
       section own.ram ma ≡ la.data_bytes → section own.ram mb ≡ lb.data_bytes →
       cleared own.ram.start (size_of own.ram) ma ≡ cleared own.ram.start (size_of own.ram) a.memory → cleared own.ram.start (size_of own.ram) mb ≡ cleared own.ram.start (size_of own.ram) b.memory →
       section own.text ma ≡ section own.text a.memory → section own.text mb ≡ section own.text b.memory →
       veil_core la.core ≡ veil_core a.core → veil_core lb.core ≡ veil_core b.core →
-      Evenly key own text (job_of key own text a.caller) la lb → Twins m own key text (moved a la ma) (moved b lb mb)
-  moved_alike a b la lb ma mb ka kb act_a act_b seen da db ra rb ta tb ga gb ev =
+      Evenly answers key own text (job_of key own text a.caller) la lb → Twins m own key text answers (moved a la ma) (moved b lb mb)
+  moved_alike answers a b la lb ma mb ka kb act_a act_b seen da db ra rb ta tb ga gb ev =
       let xa : Backup = record { «module» = m; caller = a.caller; core = la.core; rest = la.rest; closing = la.closing } in
       let xb : Backup = record { «module» = m; caller = b.caller; core = lb.core; rest = lb.rest; closing = lb.closing } in
-      let s : Secret m own key text (Some xa) (Some xb) la.data_bytes lb.data_bytes = (ap (λ u. u.caller) seen, ev) in
+      let s : Secret m own key text answers (Some xa) (Some xb) la.data_bytes lb.data_bytes = (ap (λ u. u.caller) seen, ev) in
       record {
         seen = moved_hidden a la ma act_a ra ga ∙ seen ∙ sym (moved_hidden b lb mb act_b rb gb);
-        secret = same_secret m own key text (moved_run m a la ma act_a) (moved_run m b lb mb act_b) da db s;
+        secret = same_secret m own key text answers (moved_run m a la ma act_a) (moved_run m b lb mb act_b) da db s;
         keeps_a = moved_keeps a la ma ka ta;
         keeps_b = moved_keeps b lb mb kb tb;
         open_a = λ h. absurd (let x : true ≡ false = sym act_a ∙ h in cc);
         open_b = λ h. absurd (let x : true ≡ false = sym act_b ∙ h in cc);
       }
 
-  pub moves_alike : (a b : State) (la lb : Lone) (ua ub : Step) → Keeps m own key text a → Keeps m own key text b → is_id m a.active ≡ true → is_id m b.active ≡ true → hide_by true m own a ≡ hide_by true m own b → Moves own a la ua → Moves own b lb ub → veil_core la.core ≡ veil_core a.core → veil_core lb.core ≡ veil_core b.core → Evenly key own text (job_of key own text a.caller) la lb → Alike m own key text ua ub
-  moves_alike a b la lb ua ub ka kb act_a act_b seen va vb ga gb ev =
-      let t = moved_alike a b la lb va.memory vb.memory ka kb act_a act_b seen va.bytes vb.bytes va.rest vb.rest va.text vb.text ga gb ev in
-      let t1 = subst (λ u. Twins m own key text u.state (moved b lb vb.memory)) (sym va.is) t in
-      let t2 = subst (λ u. Twins m own key text ua.state u.state) (sym vb.is) t1 in
+  pub moves_alike : (answers : List ℕ) (a b : State) (la lb : Lone) (ua ub : Step) → Keeps m own key text a → Keeps m own key text b → is_id m a.active ≡ true → is_id m b.active ≡ true → hide_by true m own a ≡ hide_by true m own b → Moves own a la ua → Moves own b lb ub → veil_core la.core ≡ veil_core a.core → veil_core lb.core ≡ veil_core b.core → Evenly answers key own text (job_of key own text a.caller) la lb → Alike m own key text answers ua ub
+  moves_alike answers a b la lb ua ub ka kb act_a act_b seen va vb ga gb ev =
+      let t = moved_alike answers a b la lb va.memory vb.memory ka kb act_a act_b seen va.bytes vb.bytes va.rest vb.rest va.text vb.text ga gb ev in
+      let t1 = subst (λ u. Twins m own key text answers u.state (moved b lb vb.memory)) (sym va.is) t in
+      let t2 = subst (λ u. Twins m own key text answers ua.state u.state) (sym vb.is) t1 in
       record { events = ap (λ u. u.events) va.is ∙ sym (ap (λ u. u.events) vb.is); related = inr t2 }
 
 pub active_some : (m : ℕ) (a : Option ℕ) → is_id m a ≡ true → a ≡ Some m
@@ -194,9 +194,9 @@ pub arrived_none : (m v id : ℕ) (s : State) → is_id m (arrive_inside v id s)
 unfolding arrive_inside
 arrived_none m v id s = refl
 
-module _ (m : ℕ) (own : Module) (key text : List ℕ) (a b : State) (ready : Ready m own key text a b) (act_a : is_id m a.active ≡ true) (ok_a : IsCore a.core) (ok_b : IsCore b.core) where
-  both : BothActive m own key text a b
-  both = both_active m own key text a b ready.twins act_a
+module _ (m : ℕ) (own : Module) (key text answers : List ℕ) (a b : State) (ready : Ready m own key text answers a b) (act_a : is_id m a.active ≡ true) (ok_a : IsCore a.core) (ok_b : IsCore b.core) where
+  both : BothActive m own key text answers a b
+  both = both_active m own key text answers a b ready.twins act_a
 
   some_a : a.active ≡ Some m
   some_a = active_some m a.active act_a
@@ -211,9 +211,9 @@ module _ (m : ℕ) (own : Module) (key text : List ℕ) (a b : State) (ready : R
   open_b = subst (λ c. IsOpenNow m own key text (run_by c m b) (section own.ram b.memory)) both.other ready.now_b
 
   -- an arrival, which sees no secret
-  arrives : (v : ℕ) → Alike m own key text (arrive_inside v m a) (arrive_inside v m b)
+  arrives : (v : ℕ) → Alike m own key text answers (arrive_inside v m a) (arrive_inside v m b)
   arrives v =
-      outer_alike m own key text a b (arrive_inside v m a) (arrive_inside v m b) (arrive_inside v m (hide_by true m own a)) (arrive_inside v m (hide_by true m own b)) ready
+      outer_alike m own key text answers a b (arrive_inside v m a) (arrive_inside v m b) (arrive_inside v m (hide_by true m own a)) (arrive_inside v m (hide_by true m own b)) ready
       (outer a ready.twins.keeps_a some_a) (outer b ready.twins.keeps_b some_b) (ap (arrive_inside v m) both.seen)
     where
       outer : (s : State) → Keeps m own key text s → s.active ≡ Some m → Outer m own key text s (arrive_inside v m s) (arrive_inside v m (hide_by true m own s))
@@ -227,22 +227,22 @@ module _ (m : ℕ) (own : Module) (key text : List ℕ) (a b : State) (ready : R
       doing (job_of key own text a.caller) (lone_of (backup_of m a) (section own.ram a.memory)) ≡ x →
       doing (job_of key own text b.caller) (lone_of (backup_of m b) (section own.ram b.memory)) ≡ y →
       GoesOn x → GoesOn y →
-      Evenly key own text (job_of key own text a.caller) (lone_step_by x (job_of key own text a.caller) (lone_of (backup_of m a) (section own.ram a.memory))) (lone_step_by y (job_of key own text b.caller) (lone_of (backup_of m b) (section own.ram b.memory))) → Alike m own key text (turn left a) (turn left b)
+      Evenly answers key own text (job_of key own text a.caller) (lone_step_by x (job_of key own text a.caller) (lone_of (backup_of m a) (section own.ram a.memory))) (lone_step_by y (job_of key own text b.caller) (lone_of (backup_of m b) (section own.ram b.memory))) → Alike m own key text answers (turn left a) (turn left b)
   finish left x y da db ea eb ga gb ev =
       let va = turn_moves m own key text a ready.twins.keeps_a some_a left x ok_a da ea ga in
       let vb = turn_moves m own key text b ready.twins.keeps_b some_b left y ok_b db eb gb in
-      moves_alike m own key text a b (lone_step_by x (job_of key own text a.caller) (lone_of (backup_of m a) (section own.ram a.memory))) (lone_step_by y (job_of key own text b.caller) (lone_of (backup_of m b) (section own.ram b.memory))) (turn left a) (turn left b) ready.twins.keeps_a ready.twins.keeps_b act_a both.other both.seen va.0 vb.0 va.1 vb.1 ev
+      moves_alike m own key text answers a b (lone_step_by x (job_of key own text a.caller) (lone_of (backup_of m a) (section own.ram a.memory))) (lone_step_by y (job_of key own text b.caller) (lone_of (backup_of m b) (section own.ram b.memory))) (turn left a) (turn left b) ready.twins.keeps_a ready.twins.keeps_b act_a both.other both.seen va.0 vb.0 va.1 vb.1 ev
 
   -- both go on
   go : (left : ℕ) (x y : Doing) → due a ≡ None → due b ≡ None →
       doing (job_of key own text a.caller) (lone_of (backup_of m a) (section own.ram a.memory)) ≡ x →
       doing (job_of key own text b.caller) (lone_of (backup_of m b) (section own.ram b.memory)) ≡ y →
       IsOpen x → IsOpen y →
-      Together key own text (job_of key own text a.caller) x y (lone_of (backup_of m a) (section own.ram a.memory)) (lone_of (backup_of m b) (section own.ram b.memory)) → Alike m own key text (turn left a) (turn left b)
+      Together answers key own text (job_of key own text a.caller) x y (lone_of (backup_of m a) (section own.ram a.memory)) (lone_of (backup_of m b) (section own.ram b.memory)) → Alike m own key text answers (turn left a) (turn left b)
   go left (Waits r) (Waits r') da db ea eb oa ob t = finish left (Waits r) (Waits r') da db ea eb tt tt t
-  go left (Waits r) (Does i) da db ea eb oa ob t = finish left (Waits r) (Does i) da db ea eb tt tt (subst (λ j. Evenly key own text (job_of key own text a.caller) (record (lone_of (backup_of m a) (section own.ram a.memory)) { rest = r }) (lone_does j i (lone_of (backup_of m b) (section own.ram b.memory)))) (sym both.job) t)
+  go left (Waits r) (Does i) da db ea eb oa ob t = finish left (Waits r) (Does i) da db ea eb tt tt (subst (λ j. Evenly answers key own text (job_of key own text a.caller) (record (lone_of (backup_of m a) (section own.ram a.memory)) { rest = r }) (lone_does j i (lone_of (backup_of m b) (section own.ram b.memory)))) (sym both.job) t)
   go left (Does i) (Waits r) da db ea eb oa ob t = finish left (Does i) (Waits r) da db ea eb tt tt t
-  go left (Does i) (Does i') da db ea eb oa ob t = finish left (Does i) (Does i') da db ea eb tt tt (subst (λ j. Evenly key own text (job_of key own text a.caller) (lone_does (job_of key own text a.caller) i (lone_of (backup_of m a) (section own.ram a.memory))) (lone_does j i' (lone_of (backup_of m b) (section own.ram b.memory)))) (sym both.job) t)
+  go left (Does i) (Does i') da db ea eb oa ob t = finish left (Does i) (Does i') da db ea eb tt tt (subst (λ j. Evenly answers key own text (job_of key own text a.caller) (lone_does (job_of key own text a.caller) i (lone_of (backup_of m a) (section own.ram a.memory))) (lone_does j i' (lone_of (backup_of m b) (section own.ram b.memory)))) (sym both.job) t)
   go left Closes y da db ea eb oa ob t = absurd oa
   go left Leaves y da db ea eb oa ob t = absurd oa
   go left _ _ da db ea eb oa ob t = absurd t
@@ -250,13 +250,13 @@ module _ (m : ℕ) (own : Module) (key text : List ℕ) (a b : State) (ready : R
   due_same : due a ≡ due b
   due_same = sym (due_hidden m own a) ∙ ap due ready.twins.seen ∙ due_hidden m own b
 
-  by_due : (left : ℕ) (d : Option ℕ) → due a ≡ d → due b ≡ d → Alike m own key text (turn left a) (turn left b)
+  by_due : (left : ℕ) (d : Option ℕ) → due a ≡ d → due b ≡ d → Alike m own key text answers (turn left a) (turn left b)
   by_due left None da db =
-      go left _ _ da db refl refl open_a open_b (subst (λ j. Together key own text (job_of key own text a.caller) (doing (job_of key own text a.caller) (lone_of (backup_of m a) (section own.ram a.memory))) (doing j (lone_of (backup_of m b) (section own.ram b.memory))) (lone_of (backup_of m a) (section own.ram a.memory)) (lone_of (backup_of m b) (section own.ram b.memory))) (sym both.job) (next_together key own text (job_of key own text a.caller) _ _ both.secret.1))
+      go left _ _ da db refl refl open_a open_b (subst (λ j. Together answers key own text (job_of key own text a.caller) (doing (job_of key own text a.caller) (lone_of (backup_of m a) (section own.ram a.memory))) (doing j (lone_of (backup_of m b) (section own.ram b.memory))) (lone_of (backup_of m a) (section own.ram a.memory)) (lone_of (backup_of m b) (section own.ram b.memory))) (sym both.job) (next_together answers key own text (job_of key own text a.caller) _ _ both.secret.1))
   by_due left (Some v) da db =
       let pa = ready.twins.keeps_a.proper act_a in
       let pb = ready.twins.keeps_b.proper both.other in
       rw (arrives_at m v left a some_a pa.0 da, arrives_at m v left b some_b pb.0 db) (arrives v)
 
-  pub active_turn : (left : ℕ) → Alike m own key text (turn left a) (turn left b)
+  pub active_turn : (left : ℕ) → Alike m own key text answers (turn left a) (turn left b)
   active_turn left = by_due left (due a) refl (sym due_same)

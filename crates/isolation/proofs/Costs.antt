@@ -1,7 +1,7 @@
 -- The cycles of a call are its own, and those between its hides and resumes.
-use Rattle.std.proofs.Common.{◌≡◌, ◌≢◌, ℕ, zero, suc, ◌+◌, ◌<◌, ◌≤◌, List, [], ◌∷◌, ◌++◌, refl, sym, ap, ◌∙◌, subst, arith, Bool, true, false, cond, ◌&&◌, ◌==◌, Option, Some, None, is_none, ◌⊎◌, ⊎_elim}
+use Rattle.std.proofs.Common.{◌≡◌, ◌≢◌, ℕ, zero, suc, ◌+◌, ◌<◌, ◌≤◌, List, [], ◌∷◌, ◌++◌, refl, sym, ap, ◌∙◌, subst, arith, Bool, true, false, cond, ◌&&◌, ◌==◌, Option, Some, None, is_none}
 use Rattle.std.proofs.lemmas.Bool.Decides.{nat_tests}
-use Rattle.isolation.proofs.Tame.{ticked_active, cycle_number, runs_so_far, cycle_ends}
+use Rattle.isolation.proofs.Tame.{ticked_active, cycle_number, runs_so_far, cycle_ends, idle_ends}
 use Rattle.sm_words.specs.Words.{IsCore}
 use Rattle.mod_layout.specs.declared.Module.{Module}
 use Rattle.pc_access.specs.Rights.{is_id}
@@ -25,7 +25,7 @@ use Rattle.mod_layout.specs.Table.{module_of}
 use Rattle.image_text.specs.Image.{Image, IsImage}
 use Rattle.written_machine.specs.View.{at}
 use Rattle.cpu_step.proofs.LoneLemmas.{after_step}
-use Rattle.isolation.proofs.Ways.{sent_tells, settle_ways}
+use Rattle.isolation.proofs.Ways.{sent_tells}
 
 -- while it is active all the cycles so far are its own or between a hide and its resume; while it is held, those up to the hide
 abbrev pub Balance : Bool → ℕ → Away → ℕ → Type 0
@@ -167,15 +167,6 @@ module _ (j : Job) where
       by _ f o n h = absurd (subst IsOpen f o)
 
 -- ---- where it is told that the module ends
-module _ (m : ℕ) where
-  one_end : (id : ℕ) → (id == m) ≡ false → ((id ≡ m) ⊎ ⊥) → ⊥
-  one_end id n h = let ne : id ≢ m = grind (arith, nat_tests) in ⊎_elim ne (λ x. x) h
-
-  idle_ends : (s : State) → is_id m s.active ≡ false → Ends m (settle s).events → ⊥
-  idle_ends s n =
-      settle_ways s (λ u. Ends m u.events → ⊥) (λ h. h) (λ b fs e h. h) (λ id x a o. one_end id (ap (is_id m) (sym a) ∙ n)) (λ e h. h)
-      (λ id a. one_end id (ap (is_id m) (sym a) ∙ n))
-
 module _ (m : ℕ) (own : Module) (key text : List ℕ) (from : ℕ) where
   as_ends : (x : Doing) (s : State) → Ends m (settled_as m own key text x s).events → IsEnd x
   as_ends Closes s h = tt

@@ -1,7 +1,8 @@
 -- Settling in both runs, and a whole cycle.
 use Rattle.std.proofs.Common.{◌≡◌, ◌⊎◌, inl, inr, ℕ, zero, suc, ◌+◌, List, [], ◌∷◌, refl, sym, ap, ◌∙◌, subst, arith, Bool, true, false, ◌==◌, Option, Some, None}
+use Rattle.std.specs.List.{list_all}
 use Rattle.sm_words.specs.Sums.{one_if}
-use Rattle.sm_words.specs.Words.{cleared, reg}
+use Rattle.sm_words.specs.Words.{cleared}
 use Rattle.insn_decode.specs.declared.insn.Insn.{Insn}
 use Rattle.mod_layout.specs.Table.{size_of, holds, without}
 use Rattle.mod_layout.specs.declared.Module.{Module}
@@ -15,11 +16,13 @@ use Rattle.reg_backup.specs.declared.backup.Phase.TheVariants.{Run}
 use Rattle.reg_backup.specs.declared.frames.Frame.{Frame}
 use Rattle.reg_backup.specs.declared.frames.Frame.TheVariants.{Plain, Module as Held}
 use Rattle.attest.specs.Done.{own_of}
-use Rattle.cpu_step.specs.Lone.{Doing, Waits, Closes, Leaves, Does, doing, doing_by, next_insn, job_of}
+use Rattle.cpu_step.specs.Lone.{Doing, Waits, Closes, Leaves, Does, doing, doing_by, next_insn, job_of, is_answer, blank}
+use Rattle.cpu_step.proofs.Blank.{pc_equal}
 use Rattle.tracer.specs.declared.Event.{Event}
 use Rattle.written_machine.specs.Cycle.{Settled, unsettled, pc_of, rest_of, in_text, leave_if, close_of, settle_by, settle_in, settle}
 use Rattle.written_machine.specs.Peers.{section}
 use Rattle.written_machine.specs.State.{State}
+use Rattle.isolation.specs.Calls.{Ends}
 use Rattle.isolation.proofs.Active.{active_some, said}
 use Rattle.isolation.proofs.EvenBy.{AlwaysEvenBy}
 use Rattle.isolation.proofs.Evenly.{Together, next_together}
@@ -88,102 +91,115 @@ module _ (m : ℕ) (own : Module) (key text : List ℕ) where
     no_times = let a : one_if (is_id m s.active) ≡ 1 = ap one_if act in let k1 = k.once in omega arith
 
   -- ---- settled alike
-  pub record Settles (ua ub : Settled) : Type 0 where
-    pub events : ua.events ≡ ub.events
-    pub left : ua.left ≡ ub.left
-    pub states : (ua.state ≡ ub.state) ⊎ Ready m own key text ua.state ub.state
+  module _ (answers : List ℕ) where
+    pub record Settles (ua ub : Settled) : Type 0 where
+      pub left : ua.left ≡ ub.left
+      pub states : (ua.state ≡ ub.state) ⊎ Ready m own key text answers ua.state ub.state
 
-  module _ (a b : State) (twins : Twins m own key text a b) where
-    pub outside_settles : is_id m a.active ≡ false → Settles (settle a) (settle b)
-    outside_settles out_a =
-        let out_b : is_id m b.active ≡ false = ap (is_id m) (sym (seen_active m own key text a b twins.seen)) ∙ out_a in
-        let v = seen_veiled m own key text a b twins.seen out_a in
-        let h : hide_settled m own (settle a) ≡ hide_settled m own (settle b) = sym (settle_veiled m own a out_a) ∙ ap settle v ∙ settle_veiled m own b out_b in
-        let r : Ready m own key text a b = record { twins = twins; now_a = twins.open_a out_a; now_b = twins.open_b out_b } in
-        record {
-          events = ap (λ u. u.events) h;
-          left = ap (λ u. u.left) h;
-          states = inr (twins_stay m own key text a b (settle a).state (settle b).state r (settle_stays m own key text a twins.keeps_a out_a) (settle_stays m own key text b twins.keeps_b out_b) (ap (λ u. u.state) h));
-        }
+    -- they tell the same; where that ends a call, its cores are equal but for the answers; and if in these too, they go on alike
+    pub record SettlesBut (a b : State) (ua ub : Settled) : Type 0 where
+      pub events : ua.events ≡ ub.events
+      pub cores : Ends m ua.events → blank answers a.core ≡ blank answers b.core
+      pub settles : (Ends m ua.events → a.core ≡ b.core) → Settles ua ub
 
-    module _ (act_a : is_id m a.active ≡ true) where
-      both : BothActive m own key text a b
-      both = both_active m own key text a b twins act_a
-
-      frames_alike : a.frames ≡ b.frames
-      frames_alike =
-          sym (frames_same m a.frames (no_times a twins.keeps_a act_a)) ∙ ap (λ s. s.frames) both.seen ∙ frames_same m b.frames (no_times b twins.keeps_b both.other)
-
-      closed_same : a.core ≡ b.core → rest_of a.phase ≡ 0 → rest_of b.phase ≡ 0 → closed_state a ≡ closed_state b
-      closed_same core ra rb =
-          let pa = (twins.keeps_a.proper act_a).0 ∙ ap Run ra in
-          let pb = (twins.keeps_b.proper both.other).0 ∙ ap Run rb in
-          let build : State → List ℕ → List Frame → Phase → State = λ h c fs p. record h { core = c; frames = fs; phase = p; table = without m h.table; active = None; after = Next } in
-          ap (λ h. build h a.core a.frames a.phase) both.seen ∙ ap (λ c. build (hide_by true m own b) c a.frames a.phase) core
-          ∙ ap (λ fs. build (hide_by true m own b) b.core fs a.phase) frames_alike ∙ ap (build (hide_by true m own b) b.core b.frames) (pa ∙ sym pb)
-
-      left_ready : a.core ≡ b.core → AlwaysEvenBy key own text (section own.ram a.memory) (section own.ram b.memory) → rest_of a.phase ≡ 0 → rest_of b.phase ≡ 0 → is_close a.after ≡ false → is_close b.after ≡ false → Ready m own key text (left_state a) (left_state b)
-      left_ready core even ra rb ca cb =
-          let pa = (twins.keeps_a.proper act_a).0 ∙ ap Run ra in
-          let pb = (twins.keeps_b.proper both.other).0 ∙ ap Run rb in
-          let aa = (twins.keeps_a.proper act_a).1 ∙ ap closing_after ca in
-          let ab = (twins.keeps_b.proper both.other).1 ∙ ap closing_after cb in
-          let build : State → List ℕ → Phase → After → State = λ h c p f. record h { core = c; phase = p; after = f; active = None } in
-          let seen : hide m own (left_state a) ≡ hide m own (left_state b) =
-          ap (λ h. build h a.core a.phase a.after) both.seen ∙ ap (λ c. build (hide_by true m own b) c a.phase a.after) core
-          ∙ ap (λ p. build (hide_by true m own b) b.core p a.after) (pa ∙ sym pb) ∙ ap (build (hide_by true m own b) b.core b.phase) (aa ∙ sym ab) in
-          let fa = none_found m a.frames (no_times a twins.keeps_a act_a) in
-          let fb = none_found m b.frames (no_times b twins.keeps_b both.other) in
-          let oa = subst (λ r. IsOpenNow m own key text r (section own.ram a.memory)) (sym fa) tt in
-          let ob = subst (λ r. IsOpenNow m own key text r (section own.ram b.memory)) (sym fb) tt in
-          let ta = no_times a twins.keeps_a act_a in
-          let tb = no_times b twins.keeps_b both.other in
+    module _ (a b : State) (twins : Twins m own key text answers a b) where
+      pub outside_settles : is_id m a.active ≡ false → SettlesBut a b (settle a) (settle b)
+      outside_settles out_a =
+          let out_b : is_id m b.active ≡ false = ap (is_id m) (sym (seen_active m own key text a b twins.seen)) ∙ out_a in
+          let v = seen_veiled m own key text a b twins.seen out_a in
+          let h : hide_settled m own (settle a) ≡ hide_settled m own (settle b) = sym (settle_veiled m own a out_a) ∙ ap settle v ∙ settle_veiled m own b out_b in
+          let r : Ready m own key text answers a b = record { twins = twins; now_a = twins.open_a out_a; now_b = twins.open_b out_b } in
           record {
-            twins = record {
-              seen = seen;
-              secret = same_secret m own key text fa fb refl refl even;
-              keeps_a = left_keeps a twins.keeps_a ta;
-              keeps_b = left_keeps b twins.keeps_b tb;
-              open_a = λ h. oa;
-              open_b = λ h. ob;
+            events = ap (λ u. u.events) h;
+            cores = λ e. ap (λ (s : State). blank answers s.core) v;
+            settles = λ same. record {
+              left = ap (λ u. u.left) h;
+              states = inr (twins_stay m own key text answers a b (settle a).state (settle b).state r (settle_stays m own key text a twins.keeps_a out_a) (settle_stays m own key text b twins.keeps_b out_b) (ap (λ u. u.state) h));
             };
-            now_a = oa;
-            now_b = ob;
           }
-        where
-          left_keeps : (s : State) → Keeps m own key text s → times m s.frames ≡ 0 → Keeps m own key text (left_state s)
-          left_keeps s k t = record { sound = k.sound; key_is = k.key_is; text_is = k.text_is; once = omega arith; proper = λ h. absurd cc }
 
-      still : (x y : Doing) → doing (job_of key own text a.caller) (lone_of (backup_of m a) (section own.ram a.memory)) ≡ x → doing (job_of key own text b.caller) (lone_of (backup_of m b) (section own.ram b.memory)) ≡ y → IsOpen x → IsOpen y → Settles (unsettled a) (unsettled b)
-      still x y ea eb oa ob =
-          let na = subst (λ c. IsOpenNow m own key text (run_by c m a) (section own.ram a.memory)) (sym act_a) (subst IsOpen (sym ea) oa) in
-          let nb = subst (λ c. IsOpenNow m own key text (run_by c m b) (section own.ram b.memory)) (sym both.other) (subst IsOpen (sym eb) ob) in
-          record { events = refl; left = refl; states = inr (record { twins = twins; now_a = na; now_b = nb }) }
+      module _ (answers_ok : list_all is_answer answers ≡ true) (act_a : is_id m a.active ≡ true) where
+        both : BothActive m own key text answers a b
+        both = both_active m own key text answers a b twins act_a
 
-      inside_by : (x y : Doing) → doing (job_of key own text a.caller) (lone_of (backup_of m a) (section own.ram a.memory)) ≡ x → doing (job_of key own text b.caller) (lone_of (backup_of m b) (section own.ram b.memory)) ≡ y →
-          Together key own text (job_of key own text a.caller) x y (lone_of (backup_of m a) (section own.ram a.memory)) (lone_of (backup_of m b) (section own.ram b.memory)) → Settles (settled_as x a) (settled_as y b)
-      unfolding doing
-      inside_by Closes Closes ea eb t =
-          let na = said (rest_of a.phase) (is_close a.after) (holds own.text (pc_of a)) _ Closes ea in
-          let nb = said (rest_of b.phase) (is_close b.after) (holds own.text (pc_of b)) _ Closes eb in
-          record { events = refl; left = refl; states = inl (closed_same t na.0 nb.0) }
-      inside_by Leaves Leaves ea eb t =
-          let na = said (rest_of a.phase) (is_close a.after) (holds own.text (pc_of a)) _ Leaves ea in
-          let nb = said (rest_of b.phase) (is_close b.after) (holds own.text (pc_of b)) _ Leaves eb in
-          record { events = ap (λ c. Event.Leave m (reg c 0) ∷ []) t.0; left = refl; states = inr (left_ready t.0 t.1 na.0 nb.0 na.1 nb.1) }
-      inside_by (Waits r) (Waits r') ea eb t = still (Waits r) (Waits r') ea eb tt tt
-      inside_by (Waits r) (Does i) ea eb t = still (Waits r) (Does i) ea eb tt tt
-      inside_by (Does i) (Waits r) ea eb t = still (Does i) (Waits r) ea eb tt tt
-      inside_by (Does i) (Does i') ea eb t = still (Does i) (Does i') ea eb tt tt
-      inside_by _ _ ea eb t = absurd t
+        frames_alike : a.frames ≡ b.frames
+        frames_alike =
+            sym (frames_same m a.frames (no_times a twins.keeps_a act_a)) ∙ ap (λ s. s.frames) both.seen ∙ frames_same m b.frames (no_times b twins.keeps_b both.other)
 
-      pub inside_settles : Settles (settle a) (settle b)
-      inside_settles =
-          let la = lone_of (backup_of m a) (section own.ram a.memory) in
-          let lb = lone_of (backup_of m b) (section own.ram b.memory) in
-          let ja = job_of key own text a.caller in
-          let jb = job_of key own text b.caller in
-          let t = next_together key own text ja la lb both.secret.1 in
-          let t' = subst (λ j. Together key own text ja (doing ja la) (doing j lb) la lb) (sym both.job) t in
-          let r = inside_by (doing ja la) (doing jb lb) refl refl t' in
-          subst (λ u. Settles u (settle b)) (sym (settled_doing a twins.keeps_a act_a)) (subst (λ u. Settles (settled_as (doing ja la) a) u) (sym (settled_doing b twins.keeps_b both.other)) r)
+        closed_same : a.core ≡ b.core → rest_of a.phase ≡ 0 → rest_of b.phase ≡ 0 → closed_state a ≡ closed_state b
+        closed_same core ra rb =
+            let pa = (twins.keeps_a.proper act_a).0 ∙ ap Run ra in
+            let pb = (twins.keeps_b.proper both.other).0 ∙ ap Run rb in
+            let build : State → List ℕ → List Frame → Phase → State = λ h c fs p. record h { core = c; frames = fs; phase = p; table = without m h.table; active = None; after = Next } in
+            ap (λ h. build h a.core a.frames a.phase) both.seen ∙ ap (λ c. build (hide_by true m own b) c a.frames a.phase) core
+            ∙ ap (λ fs. build (hide_by true m own b) b.core fs a.phase) frames_alike ∙ ap (build (hide_by true m own b) b.core b.frames) (pa ∙ sym pb)
+
+        left_ready : a.core ≡ b.core → AlwaysEvenBy answers key own text (section own.ram a.memory) (section own.ram b.memory) → rest_of a.phase ≡ 0 → rest_of b.phase ≡ 0 → is_close a.after ≡ false → is_close b.after ≡ false → Ready m own key text answers (left_state a) (left_state b)
+        left_ready core even ra rb ca cb =
+            let pa = (twins.keeps_a.proper act_a).0 ∙ ap Run ra in
+            let pb = (twins.keeps_b.proper both.other).0 ∙ ap Run rb in
+            let aa = (twins.keeps_a.proper act_a).1 ∙ ap closing_after ca in
+            let ab = (twins.keeps_b.proper both.other).1 ∙ ap closing_after cb in
+            let build : State → List ℕ → Phase → After → State = λ h c p f. record h { core = c; phase = p; after = f; active = None } in
+            let seen : hide m own (left_state a) ≡ hide m own (left_state b) =
+            ap (λ h. build h a.core a.phase a.after) both.seen ∙ ap (λ c. build (hide_by true m own b) c a.phase a.after) core
+            ∙ ap (λ p. build (hide_by true m own b) b.core p a.after) (pa ∙ sym pb) ∙ ap (build (hide_by true m own b) b.core b.phase) (aa ∙ sym ab) in
+            let fa = none_found m a.frames (no_times a twins.keeps_a act_a) in
+            let fb = none_found m b.frames (no_times b twins.keeps_b both.other) in
+            let oa = subst (λ r. IsOpenNow m own key text r (section own.ram a.memory)) (sym fa) tt in
+            let ob = subst (λ r. IsOpenNow m own key text r (section own.ram b.memory)) (sym fb) tt in
+            let ta = no_times a twins.keeps_a act_a in
+            let tb = no_times b twins.keeps_b both.other in
+            record {
+              twins = record {
+                seen = seen;
+                secret = same_secret m own key text answers fa fb refl refl even;
+                keeps_a = left_keeps a twins.keeps_a ta;
+                keeps_b = left_keeps b twins.keeps_b tb;
+                open_a = λ h. oa;
+                open_b = λ h. ob;
+              };
+              now_a = oa;
+              now_b = ob;
+            }
+          where
+            left_keeps : (s : State) → Keeps m own key text s → times m s.frames ≡ 0 → Keeps m own key text (left_state s)
+            left_keeps s k t = record { sound = k.sound; key_is = k.key_is; text_is = k.text_is; once = omega arith; proper = λ h. absurd cc }
+
+        still : (x y : Doing) → doing (job_of key own text a.caller) (lone_of (backup_of m a) (section own.ram a.memory)) ≡ x → doing (job_of key own text b.caller) (lone_of (backup_of m b) (section own.ram b.memory)) ≡ y → IsOpen x → IsOpen y → SettlesBut a b (unsettled a) (unsettled b)
+        still x y ea eb oa ob =
+            let na = subst (λ c. IsOpenNow m own key text (run_by c m a) (section own.ram a.memory)) (sym act_a) (subst IsOpen (sym ea) oa) in
+            let nb = subst (λ c. IsOpenNow m own key text (run_by c m b) (section own.ram b.memory)) (sym both.other) (subst IsOpen (sym eb) ob) in
+            record { events = refl; cores = λ e. absurd e; settles = λ same. record { left = refl; states = inr (record { twins = twins; now_a = na; now_b = nb }) } }
+
+        inside_by : (x y : Doing) → doing (job_of key own text a.caller) (lone_of (backup_of m a) (section own.ram a.memory)) ≡ x → doing (job_of key own text b.caller) (lone_of (backup_of m b) (section own.ram b.memory)) ≡ y →
+            Together answers key own text (job_of key own text a.caller) x y (lone_of (backup_of m a) (section own.ram a.memory)) (lone_of (backup_of m b) (section own.ram b.memory)) → SettlesBut a b (settled_as x a) (settled_as y b)
+        unfolding doing
+        inside_by Closes Closes ea eb t =
+            let na = said (rest_of a.phase) (is_close a.after) (holds own.text (pc_of a)) _ Closes ea in
+            let nb = said (rest_of b.phase) (is_close b.after) (holds own.text (pc_of b)) _ Closes eb in
+            record { events = refl; cores = λ e. t; settles = λ same. record { left = refl; states = inl (closed_same (same (inl refl)) na.0 nb.0) } }
+        inside_by Leaves Leaves ea eb t =
+            let na = said (rest_of a.phase) (is_close a.after) (holds own.text (pc_of a)) _ Leaves ea in
+            let nb = said (rest_of b.phase) (is_close b.after) (holds own.text (pc_of b)) _ Leaves eb in
+            record {
+              events = ap (λ pc. Event.Leave m pc ∷ []) (pc_equal answers a.core b.core answers_ok t.0);
+              cores = λ e. t.0;
+              settles = λ same. let core = same (inl refl) in record { left = refl; states = inr (left_ready core (t.1 core) na.0 nb.0 na.1 nb.1) };
+            }
+        inside_by (Waits r) (Waits r') ea eb t = still (Waits r) (Waits r') ea eb tt tt
+        inside_by (Waits r) (Does i) ea eb t = still (Waits r) (Does i) ea eb tt tt
+        inside_by (Does i) (Waits r) ea eb t = still (Does i) (Waits r) ea eb tt tt
+        inside_by (Does i) (Does i') ea eb t = still (Does i) (Does i') ea eb tt tt
+        inside_by _ _ ea eb t = absurd t
+
+        pub inside_settles : SettlesBut a b (settle a) (settle b)
+        inside_settles =
+            let la = lone_of (backup_of m a) (section own.ram a.memory) in
+            let lb = lone_of (backup_of m b) (section own.ram b.memory) in
+            let ja = job_of key own text a.caller in
+            let jb = job_of key own text b.caller in
+            let t = next_together answers key own text ja la lb both.secret.1 in
+            let t' = subst (λ j. Together answers key own text ja (doing ja la) (doing j lb) la lb) (sym both.job) t in
+            let r = inside_by (doing ja la) (doing jb lb) refl refl t' in
+            subst (λ u. SettlesBut a b u (settle b)) (sym (settled_doing a twins.keeps_a act_a)) (subst (λ u. SettlesBut a b (settled_as (doing ja la) a) u) (sym (settled_doing b twins.keeps_b both.other)) r)

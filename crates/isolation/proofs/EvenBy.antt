@@ -1,7 +1,7 @@
 -- Even calls with a bound for each call, which the proofs follow, and that one bound for all says as much.
 use Rattle.std.proofs.Common.{◌≡◌, ℕ, List, [], ◌∷◌, false, zero, suc, ◌+◌, ◌≤◌, max, refl, sym, ap, ◌∙◌, subst, arith, Bool, true, nat_lt, cond}
 use Rattle.mod_layout.specs.declared.Module.{Module}
-use Rattle.cpu_step.specs.Lone.{starts, Lone, outcome, alike, job_of, Job, Entrance, Outcome, Exit, Closing, Broken, Running, later, Doing, Waits, Closes, Leaves, Breaks, Does, doing, lone_does, at_once, in_time, Even, IsEntry, AlwaysEven}
+use Rattle.cpu_step.specs.Lone.{starts, Lone, outcome, alike_but, job_of, Job, Entrance, Outcome, Exit, Closing, Broken, Running, later, Doing, Waits, Closes, Leaves, Breaks, Does, doing, lone_does, at_once, in_time, EvenBut, IsEntry, AlwaysEvenBut}
 use Rattle.isolation.proofs.Each.{Each}
 use Rattle.std.proofs.lemmas.Bool.Decides.{nat_tests}
 use Rattle.std.proofs.lemmas.List.Elements.{All-nil, All-cons}
@@ -21,14 +21,14 @@ begins e d = starts (entrance e) d
 abbrev pub IsCall : Module → Call_of → Type 0
 IsCall m e = IsEntry m (entrance e)
 
-abbrev pub EvenBy : List ℕ → Module → List ℕ → List Call_of → List ℕ → List ℕ → Type 0
-EvenBy key m text [] d1 d2 = Unit {0}
-EvenBy key m text (e ∷ es) d1 d2 =
+abbrev pub EvenBy : List ℕ → List ℕ → Module → List ℕ → List Call_of → List ℕ → List ℕ → Type 0
+EvenBy answers key m text [] d1 d2 = Unit {0}
+EvenBy answers key m text (e ∷ es) d1 d2 =
     let j = job_of key m text e.caller in
-    alike (EvenBy key m text es) (outcome j e.within (begins e d1)) (outcome j e.within (begins e d2))
+    alike_but answers (EvenBy answers key m text es) (outcome j e.within (begins e d1)) (outcome j e.within (begins e d2))
 
-abbrev pub AlwaysEvenBy : List ℕ → Module → List ℕ → List ℕ → List ℕ → Type 0
-AlwaysEvenBy key m text d1 d2 = (es : List Call_of) → Each (IsCall m) es → EvenBy key m text es d1 d2
+abbrev pub AlwaysEvenBy : List ℕ → List ℕ → Module → List ℕ → List ℕ → List ℕ → Type 0
+AlwaysEvenBy answers key m text d1 d2 = (es : List Call_of) → Each (IsCall m) es → EvenBy answers key m text es d1 d2
 
 -- what of an outcome is there within n cycles
 abbrev pub cut : ℕ → Outcome → Outcome
@@ -85,17 +85,18 @@ module _ (j : Job) where
   outcome_cut (suc n) zero l le = absurd (omega arith)
   outcome_cut (suc n) (suc m) l le = suc_cut (doing j l) n (outcome j n) (outcome j m) l (λ l'. outcome_cut n m l' (omega arith))
 
-  alike_if : (P : List ℕ → List ℕ → Type 0) (b : Bool) (o p : Outcome) → alike P o p → alike P (cond b o Running) (cond b p Running)
+module _ (answers : List ℕ) where
+  alike_if : (P : List ℕ → List ℕ → Type 0) (b : Bool) (o p : Outcome) → alike_but answers P o p → alike_but answers P (cond b o Running) (cond b p Running)
   alike_if P true o p h = h
   alike_if P false o p h = tt
 
-  alike_cut : (P Q : List ℕ → List ℕ → Type 0) (n : ℕ) (o p : Outcome) → ((d d' : List ℕ) → P d d' → Q d d') → alike P o p → alike Q (cut n o) (cut n p)
+  alike_cut : (P Q : List ℕ → List ℕ → Type 0) (n : ℕ) (o p : Outcome) → ((d d' : List ℕ) → P d d' → Q d d') → alike_but answers P o p → alike_but answers Q (cut n o) (cut n p)
   alike_cut P Q n Running Running f h = tt
-  alike_cut P Q n (Closing c d k) (Closing c' d' k') f h = subst (λ i. alike Q (cut n (Closing c d k)) (cond (nat_lt i (suc n)) (Closing c' d' k') Running)) h.1 (alike_if Q (nat_lt k (suc n)) (Closing c d k) (Closing c' d' k') h)
-  alike_cut P Q n (Exit c d k) (Exit c' d' k') f h = subst (λ i. alike Q (cut n (Exit c d k)) (cond (nat_lt i (suc n)) (Exit c' d' k') Running)) h.1 (alike_if Q (nat_lt k (suc n)) (Exit c d k) (Exit c' d' k') (h.0, h.1, f d d' h.2))
+  alike_cut P Q n (Closing c d k) (Closing c' d' k') f h = subst (λ i. alike_but answers Q (cut n (Closing c d k)) (cond (nat_lt i (suc n)) (Closing c' d' k') Running)) h.1 (alike_if Q (nat_lt k (suc n)) (Closing c d k) (Closing c' d' k') h)
+  alike_cut P Q n (Exit c d k) (Exit c' d' k') f h = subst (λ i. alike_but answers Q (cut n (Exit c d k)) (cond (nat_lt i (suc n)) (Exit c' d' k') Running)) h.1 (alike_if Q (nat_lt k (suc n)) (Exit c d k) (Exit c' d' k') (h.0, h.1, λ same. f d d' (h.2 same)))
   alike_cut P Q n _ _ f h = absurd h
 
-module _ (key : List ℕ) (own : Module) (text : List ℕ) where
+module _ (answers key : List ℕ) (own : Module) (text : List ℕ) where
   abbrev plain : List Call_of → List Entrance
   plain [] = []
   plain (e ∷ es) = entrance e ∷ plain es
@@ -104,17 +105,17 @@ module _ (key : List ℕ) (own : Module) (text : List ℕ) where
   most [] = 0
   most (e ∷ es) = max e.within (most es)
 
-  lower : (n : ℕ) (es : List Call_of) (d1 d2 : List ℕ) → most es ≤ n → Even key own text n (plain es) d1 d2 → EvenBy key own text es d1 d2
+  lower : (n : ℕ) (es : List Call_of) (d1 d2 : List ℕ) → most es ≤ n → EvenBut answers key own text n (plain es) d1 d2 → EvenBy answers key own text es d1 d2
   lower n [] d1 d2 le h = tt
   lower n (e ∷ es) d1 d2 le h =
       let j = job_of key own text e.caller in
-      let a = alike_cut j (Even key own text n (plain es)) (EvenBy key own text es) e.within (outcome j n (begins e d1)) (outcome j n (begins e d2)) (λ x y. lower n es x y (omega arith)) h in
-      let a1 = subst (λ o. alike (EvenBy key own text es) o (cut e.within (outcome j n (begins e d2)))) (sym (outcome_cut j e.within n (begins e d1) (omega arith))) a in
-      subst (λ o. alike (EvenBy key own text es) (outcome j e.within (begins e d1)) o) (sym (outcome_cut j e.within n (begins e d2) (omega arith))) a1
+      let a = alike_cut answers (EvenBut answers key own text n (plain es)) (EvenBy answers key own text es) e.within (outcome j n (begins e d1)) (outcome j n (begins e d2)) (λ x y. lower n es x y (omega arith)) h in
+      let a1 = subst (λ o. alike_but answers (EvenBy answers key own text es) o (cut e.within (outcome j n (begins e d2)))) (sym (outcome_cut j e.within n (begins e d1) (omega arith))) a in
+      subst (λ o. alike_but answers (EvenBy answers key own text es) (outcome j e.within (begins e d1)) o) (sym (outcome_cut j e.within n (begins e d2) (omega arith))) a1
 
   plain_entries : (es : List Call_of) → Each (IsCall own) es → All (IsEntry own) (plain es)
   plain_entries [] h = All-nil (IsEntry own)
   plain_entries (e ∷ es) h = All-cons (IsEntry own) (entrance e) (plain es) h.0 (plain_entries es h.1)
 
-  pub each_bound : (d1 d2 : List ℕ) → AlwaysEven key own text d1 d2 → AlwaysEvenBy key own text d1 d2
+  pub each_bound : (d1 d2 : List ℕ) → AlwaysEvenBut answers key own text d1 d2 → AlwaysEvenBy answers key own text d1 d2
   each_bound d1 d2 h es es_ok = lower (most es) es d1 d2 (omega arith) (h (plain es) (most es) (plain_entries es es_ok))

@@ -1,47 +1,47 @@
 -- Two calls that are even go on together.
 use Rattle.std.proofs.Common.{◌≡◌, ℕ, zero, suc, List, [], arith}
 use Rattle.mod_layout.specs.declared.Module.{Module}
-use Rattle.cpu_step.specs.Lone.{Job, Lone, Outcome, Exit, Closing, Broken, Running, later, Doing, Waits, Closes, Leaves, Breaks, Does, doing, lone_does, at_once, in_time, outcome, alike}
+use Rattle.cpu_step.specs.Lone.{Job, Lone, Outcome, Exit, Closing, Broken, Running, later, Doing, Waits, Closes, Leaves, Breaks, Does, doing, lone_does, at_once, in_time, outcome, blank, alike_but}
 use Rattle.isolation.proofs.Each.{Each}
 use Rattle.isolation.proofs.EvenBy.{Call_of, EvenBy, IsCall, AlwaysEvenBy}
 
 -- from here on the two calls, and all that come after, are even
-pub record Evenly (key : List ℕ) (own : Module) (text : List ℕ) (j : Job) (la lb : Lone) : Type 0 where
-  pub always : (n : ℕ) (es : List Call_of) → Each (IsCall own) es → alike (EvenBy key own text es) (outcome j n la) (outcome j n lb)
+pub record Evenly (answers key : List ℕ) (own : Module) (text : List ℕ) (j : Job) (la lb : Lone) : Type 0 where
+  pub always : (n : ℕ) (es : List Call_of) → Each (IsCall own) es → alike_but answers (EvenBy answers key own text es) (outcome j n la) (outcome j n lb)
 
 -- what both do next
-abbrev pub Together : List ℕ → Module → List ℕ → Job → Doing → Doing → Lone → Lone → Type 0
-Together key own text j Closes Closes la lb = la.core ≡ lb.core
-Together key own text j Leaves Leaves la lb = (la.core ≡ lb.core) × AlwaysEvenBy key own text la.data_bytes lb.data_bytes
-Together key own text j (Waits r) (Waits r') la lb = Evenly key own text j (record la { rest = r }) (record lb { rest = r' })
-Together key own text j (Waits r) (Does i) la lb = Evenly key own text j (record la { rest = r }) (lone_does j i lb)
-Together key own text j (Does i) (Waits r) la lb = Evenly key own text j (lone_does j i la) (record lb { rest = r })
-Together key own text j (Does i) (Does i') la lb = Evenly key own text j (lone_does j i la) (lone_does j i' lb)
-Together key own text j _ _ la lb = ⊥
+abbrev pub Together : List ℕ → List ℕ → Module → List ℕ → Job → Doing → Doing → Lone → Lone → Type 0
+Together answers key own text j Closes Closes la lb = blank answers la.core ≡ blank answers lb.core
+Together answers key own text j Leaves Leaves la lb = (blank answers la.core ≡ blank answers lb.core) × (la.core ≡ lb.core → AlwaysEvenBy answers key own text la.data_bytes lb.data_bytes)
+Together answers key own text j (Waits r) (Waits r') la lb = Evenly answers key own text j (record la { rest = r }) (record lb { rest = r' })
+Together answers key own text j (Waits r) (Does i) la lb = Evenly answers key own text j (record la { rest = r }) (lone_does j i lb)
+Together answers key own text j (Does i) (Waits r) la lb = Evenly answers key own text j (lone_does j i la) (record lb { rest = r })
+Together answers key own text j (Does i) (Does i') la lb = Evenly answers key own text j (lone_does j i la) (lone_does j i' lb)
+Together answers key own text j _ _ la lb = ⊥
 
-later_alike : (P : List ℕ → List ℕ → Type 0) (o p : Outcome) → alike P (later o) (later p) → alike P o p
-later_alike P Running Running h = tt
-later_alike P (Closing c d k) (Closing c' d' k') h = (h.0, omega (arith, h.1))
-later_alike P (Exit c d k) (Exit c' d' k') h = (h.0, omega (arith, h.1), h.2)
-later_alike P _ _ h = h
+later_alike : (answers : List ℕ) (P : List ℕ → List ℕ → Type 0) (o p : Outcome) → alike_but answers P (later o) (later p) → alike_but answers P o p
+later_alike answers P Running Running h = tt
+later_alike answers P (Closing c d k) (Closing c' d' k') h = (h.0, omega (arith, h.1))
+later_alike answers P (Exit c d k) (Exit c' d' k') h = (h.0, omega (arith, h.1), h.2)
+later_alike answers P _ _ h = h
 
-module _ (key : List ℕ) (own : Module) (text : List ℕ) (j : Job) (la lb : Lone) where
+module _ (answers key : List ℕ) (own : Module) (text : List ℕ) (j : Job) (la lb : Lone) where
   abbrev Now : Doing → Doing → Type 0
-  Now x y = (es : List Call_of) → Each (IsCall own) es → alike (EvenBy key own text es) (at_once x la) (at_once y lb)
+  Now x y = (es : List Call_of) → Each (IsCall own) es → alike_but answers (EvenBy answers key own text es) (at_once x la) (at_once y lb)
 
   abbrev Soon : Doing → Doing → Type 0
-  Soon x y = (n : ℕ) (es : List Call_of) → Each (IsCall own) es → alike (EvenBy key own text es) (in_time x (outcome j n) j la) (in_time y (outcome j n) j lb)
+  Soon x y = (n : ℕ) (es : List Call_of) → Each (IsCall own) es → alike_but answers (EvenBy answers key own text es) (in_time x (outcome j n) j la) (in_time y (outcome j n) j lb)
 
-  go_on : (x y : Lone) → ((n : ℕ) (es : List Call_of) → Each (IsCall own) es → alike (EvenBy key own text es) (later (outcome j n x)) (later (outcome j n y))) → Evenly key own text j x y
-  go_on x y h = record { always = λ n es v. later_alike (EvenBy key own text es) (outcome j n x) (outcome j n y) (h n es v) }
+  go_on : (x y : Lone) → ((n : ℕ) (es : List Call_of) → Each (IsCall own) es → alike_but answers (EvenBy answers key own text es) (later (outcome j n x)) (later (outcome j n y))) → Evenly answers key own text j x y
+  go_on x y h = record { always = λ n es v. later_alike answers (EvenBy answers key own text es) (outcome j n x) (outcome j n y) (h n es v) }
 
-  broken_right : (o : Outcome) → alike (EvenBy key own text []) (later o) (Broken lb.data_bytes 0) → ⊥
+  broken_right : (o : Outcome) → alike_but answers (EvenBy answers key own text []) (later o) (Broken lb.data_bytes 0) → ⊥
   broken_right Running h = h
   broken_right _ h = h
 
-  together : (x y : Doing) → Now x y → Soon x y → Together key own text j x y la lb
+  together : (x y : Doing) → Now x y → Soon x y → Together answers key own text j x y la lb
   together Closes Closes now soon = (now [] tt).0
-  together Leaves Leaves now soon = ((now [] tt).0, λ es h. (now es h).2)
+  together Leaves Leaves now soon = ((now [] tt).0, λ same es h. (now es h).2 same)
   together (Waits r) (Waits r') now soon = go_on (record la { rest = r }) (record lb { rest = r' }) soon
   together (Waits r) (Does i) now soon = go_on (record la { rest = r }) (lone_does j i lb) soon
   together (Does i) (Waits r) now soon = go_on (lone_does j i la) (record lb { rest = r }) soon
@@ -51,5 +51,5 @@ module _ (key : List ℕ) (own : Module) (text : List ℕ) (j : Job) (la lb : Lo
   together Breaks y now soon = soon 0 [] tt
   together _ _ now soon = now [] tt
 
-  pub next_together : Evenly key own text j la lb → Together key own text j (doing j la) (doing j lb) la lb
+  pub next_together : Evenly answers key own text j la lb → Together answers key own text j (doing j la) (doing j lb) la lb
   next_together e = together (doing j la) (doing j lb) (λ es h. e.always zero es h) (λ n es h. e.always (suc n) es h)

@@ -26,6 +26,7 @@ pub mod Costs
 pub mod Tame
 pub mod Padding
 pub mod Telling
+pub mod Several
 pub mod Moves
 pub mod Playing
 pub mod Told

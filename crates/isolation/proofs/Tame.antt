@@ -1,18 +1,19 @@
 -- What a cycle does to its number, its phase and what is settled next, and which events tell of it.
-use Rattle.std.proofs.Common.{◌≡◌, ◌≢◌, ◌⊎◌, inl, inr, ⊎_elim, ℕ, zero, suc, ◌+◌, ◌-◌, ◌<◌, List, [], ◌∷◌, ◌++◌, refl, sym, ap, ◌∙◌, subst, arith, Bool, true, false, ◌==◌, Option, Some, None, zero-add}
+use Rattle.std.proofs.Common.{◌≡◌, ◌≢◌, ◌⊎◌, inl, inr, ⊎_elim, ℕ, zero, suc, ◌+◌, ◌-◌, ◌<◌, List, [], ◌∷◌, ◌++◌, refl, sym, ap, ◌∙◌, subst, arith, Bool, true, false, ◌==◌, Option, Some, None, zero-add, cond, filter}
 use Rattle.std.proofs.lemmas.Bool.Decides.{nat_tests}
 use Rattle.schedule_file.specs.declared.Entry.{Entry as Scheduled}
+use Rattle.pc_access.specs.Rights.{is_id}
 use Rattle.pc_access.specs.declared.Stop.{Stop}
 use Rattle.image_text.specs.Image.{Image}
 use Rattle.reg_backup.specs.Saved.{closing_after}
 use Rattle.reg_backup.specs.declared.backup.After.{After}
-use Rattle.reg_backup.specs.declared.backup.After.TheVariants.{Next, Handler, Resume, Close}
+use Rattle.reg_backup.specs.declared.backup.After.TheVariants.{Next, Handler}
 use Rattle.reg_backup.specs.declared.backup.Phase.TheVariants.{Run, Pad}
 use Rattle.tracer.specs.declared.Event.{Event}
-use Rattle.written_machine.specs.Cycle.{Step, quiet, told, rest_of, settle, ticked, arrive_inside, perform, padded, turn, sent_event, counted_by, move, cycle_by, after_cycles}
+use Rattle.written_machine.specs.Cycle.{Step, quiet, told, rest_of, settle, ticked, arrive_inside, perform, padded, turn, sent_event, counted_by, move, cycle_by, cycle, after_cycles}
 use Rattle.written_machine.specs.State.{State}
 use Rattle.written_machine.specs.View.{at, boot}
-use Rattle.isolation.specs.Calls.{Ends, Hides, Handles}
+use Rattle.isolation.specs.Calls.{Ends, ends_call, Hides, Handles}
 use Rattle.isolation.proofs.Each.{Each, each_map}
 use Rattle.isolation.proofs.Ways.{perform_tells, sent_tells, EachAct, EachTurn, each_turn, Lasting, always, settle_ways}
 
@@ -61,6 +62,19 @@ late_ends m (Event.Close id ∷ xs) ys h g = ⊎_elim inl (λ r. inr (late_ends 
 late_ends m (Event.Leave id pc ∷ xs) ys h g = ⊎_elim inl (λ r. inr (late_ends m xs ys h r)) g
 late_ends m (_ ∷ xs) ys h g = late_ends m xs ys h g
 late_ends m [] (_ ∷ ys) h g = late_ends m [] ys h.1 g
+
+ends_front : (m : ℕ) (xs ys : List Event) → Ends m xs → Ends m (xs ++ ys)
+ends_front m [] ys g = absurd g
+ends_front m (Event.Close id ∷ xs) ys g = ⊎_elim inl (λ r. inr (ends_front m xs ys r)) g
+ends_front m (Event.Leave id pc ∷ xs) ys g = ⊎_elim inl (λ r. inr (ends_front m xs ys r)) g
+ends_front m (_ ∷ xs) ys g = ends_front m xs ys g
+
+late_filter : (m : ℕ) (xs ys : List Event) → Late ys → filter (ends_call m) (xs ++ ys) ≡ filter (ends_call m) xs
+late_filter m [] [] h = refl
+late_filter m [] (Event.Close id ∷ ys) h = absurd h.0
+late_filter m [] (Event.Leave id pc ∷ ys) h = absurd h.0
+late_filter m [] (_ ∷ ys) h = late_filter m [] ys h.1
+late_filter m (x ∷ xs) ys h = ap (λ l. cond (ends_call m x) (x ∷ l) l) (late_filter m xs ys h)
 
 pub late_handles : (xs ys : List Event) → Late ys → Handles (xs ++ ys) → Handles xs
 late_handles [] [] h g = g
@@ -222,9 +236,46 @@ move_ends m s h =
     let t = turn u.left u.state in
     ends_counted m t.state.stop u.events t (turn_late u.left u.state) h
 
+-- and each end that settling tells
+counted_ends : (m : ℕ) (o : Option Stop) (es : List Event) (t : Step) → Ends m es → Ends m (counted_by o (told es t)).events
+counted_ends m (Some stop) es t h = ends_front m es t.events h
+counted_ends m None es t h = ends_front m (es ++ t.events) (sent_event t.state.devices.sent) (ends_front m es t.events h)
+
+pub settled_ends : (m : ℕ) (s : State) → Ends m (settle (ticked s)).events → Ends m (move s).events
+unfolding move
+settled_ends m s h = let u = settle (ticked s) in let t = turn u.left u.state in counted_ends m t.state.stop u.events t h
+
+counted_filter : (m : ℕ) (o : Option Stop) (es : List Event) (t : Step) → Late t.events → filter (ends_call m) (counted_by o (told es t)).events ≡ filter (ends_call m) es
+counted_filter m (Some stop) es t l = late_filter m es t.events l
+counted_filter m None es t l =
+    late_filter m (es ++ t.events) (sent_event t.state.devices.sent) (sent_tells Late tt (λ b. (tt, tt)) t.state.devices.sent)
+    ∙ late_filter m es t.events l
+
+pub move_filter : (m : ℕ) (s : State) → filter (ends_call m) (move s).events ≡ filter (ends_call m) (settle (ticked s)).events
+unfolding move
+move_filter m s = let u = settle (ticked s) in let t = turn u.left u.state in counted_filter m t.state.stop u.events t (turn_late u.left u.state)
+
 pub cycle_ends : (m : ℕ) (o : Option Stop) (s : State) → s.stop ≡ o → Ends m (cycle_by o s).events → (s.stop ≡ None) × Ends m (settle (ticked s)).events
 cycle_ends m (Some stop) s e h = absurd h
 cycle_ends m None s e h = (e, move_ends m s h)
+
+-- the module is active that they end
+module _ (m : ℕ) where
+  one_end : (id : ℕ) → (id == m) ≡ false → ((id ≡ m) ⊎ ⊥) → ⊥
+  one_end id n h = let ne : id ≢ m = grind (arith, nat_tests) in ⊎_elim ne (λ x. x) h
+
+  pub idle_ends : (s : State) → is_id m s.active ≡ false → Ends m (settle s).events → ⊥
+  idle_ends s n =
+      settle_ways s (λ u. Ends m u.events → ⊥) (λ h. h) (λ b fs e h. h) (λ id x a o. one_end id (ap (is_id m) (sym a) ∙ n)) (λ e h. h)
+      (λ id a. one_end id (ap (is_id m) (sym a) ∙ n))
+
+  pub ends_active : (s : State) → Ends m (cycle s).events → is_id m s.active ≡ true
+  unfolding ticked
+  ends_active s h = by (is_id m s.active) refl
+    where
+      by : (c : Bool) → is_id m s.active ≡ c → is_id m s.active ≡ true
+      by true e = e
+      by false e = absurd (idle_ends (ticked s) e (cycle_ends m s.stop s refl h).1)
 
 -- the number of a machine that runs
 pub numbered : (a : Image) (schedule : List Scheduled) (k : ℕ) → (at a schedule k).stop ≡ None → (at a schedule k).cycle ≡ k

@@ -11,16 +11,17 @@ use Rattle.reg_backup.specs.declared.frames.Frame.{Frame}
 use Rattle.reg_backup.specs.declared.frames.Frame.TheVariants.{Plain, Module as Held}
 use Rattle.tracer.specs.Lines.{end_line_at}
 use Rattle.written_machine.specs.Cycle.{cycle}
-use Rattle.written_machine.specs.Peers.{Peers}
+use Rattle.written_machine.specs.Peers.{PeersBut, Peers}
 use Rattle.written_machine.specs.Standing.{stands_at}
 use Rattle.written_machine.specs.State.{State}
 use Rattle.written_machine.specs.Trace.{lines_of, end_by, end_line_of, lines_after, trace}
 use Rattle.written_machine.specs.View.{boot, at, is_hidden_by, Seen, SeenPlain, SeenHidden, SeenWhole, seen_frame, seen_byte, View, view_of}
 use Rattle.written_machine.specs.declared.Hidden.TheVariants.{All as AllHidden, Only}
-use Rattle.std.proofs.Common.{◌≡◌, ℕ, zero, suc, ◌+◌, List, [], ◌∷◌, ◌++◌, map, refl, sym, ap, ◌∙◌, Bool, true, false, nat_lt, cond, ◌==◌, Option, Some, None, is_some}
+use Rattle.std.proofs.Common.{◌≡◌, ℕ, zero, suc, ◌+◌, List, [], ◌∷◌, ◌++◌, map, refl, sym, ap, ◌∙◌, arith, Bool, true, false, nat_lt, cond, ◌==◌, Option, Some, None, is_some}
 use mathlib.Core.Path.{fun_ext}
+use Rattle.isolation.specs.Calls.{AnswersAgree}
 use Rattle.isolation.proofs.Follow.{after_more}
-use Rattle.isolation.proofs.Whole.{views_equal, events_equal, phases_equal}
+use Rattle.isolation.proofs.Whole.{views_while, events_while, none_differs, views_equal, phases_equal}
 
 -- ---- a view that hides all modules, from one that hides one
 coarse_frame : Seen → Seen
@@ -84,19 +85,22 @@ module _ (m : ℕ) (s t : State) (v : view_of s (Only m) ≡ view_of t (Only m))
   unfolding view_of
   seen_cycle = ap (λ x. x.cycle) v
 
-  seen_active : s.active ≡ t.active
+  pub seen_active : s.active ≡ t.active
   unfolding view_of
   seen_active = ap (λ x. x.active) v
 
-  seen_core : s.active ≡ None → s.core ≡ t.core
+  pub seen_core : is_hidden_by (Only m) s.active ≡ false → s.core ≡ t.core
   unfolding view_of
   seen_core e =
       let a : Some s.core ≡ Some t.core =
-      sym (ap (λ o. cond (is_hidden_by (Only m) o) None (Some s.core)) e) ∙ ap (λ x. x.registers) v ∙ ap (λ o. cond (is_hidden_by (Only m) o) None (Some t.core)) (sym seen_active ∙ e) in
+      sym (ap (λ c. cond c None (Some s.core)) e) ∙ ap (λ x. x.registers) v ∙ ap (λ c. cond c None (Some t.core)) (ap (is_hidden_by (Only m)) (sym seen_active) ∙ e) in
       cc
 
+  outside_core : s.active ≡ None → s.core ≡ t.core
+  outside_core e = seen_core (ap (is_hidden_by (Only m)) e)
+
   core_same : (o : Option ℕ) → s.active ≡ o → end_by None o s.core ≡ end_by None o t.core
-  core_same None e = ap (end_by None None) (seen_core e)
+  core_same None e = ap (end_by None None) (outside_core e)
   core_same (Some id) e = refl
 
   end_same : (o : Option Stop) → end_by o s.active s.core ≡ end_by o s.active t.core
@@ -109,27 +113,44 @@ module _ (m : ℕ) (s t : State) (v : view_of s (Only m) ≡ view_of t (Only m))
       ap (λ c. end_line_at c (end_by s.stop s.active s.core)) seen_cycle
       ∙ ap (end_line_at t.cycle) (end_same s.stop ∙ ap (λ x. end_by x.stop s.active t.core) v ∙ ap (λ a. end_by t.stop a t.core) seen_active)
 
-  all_seen : view_of s AllHidden ≡ view_of t AllHidden
+  pub all_seen : view_of s AllHidden ≡ view_of t AllHidden
   all_seen = sym (all_hidden m s) ∙ ap coarse v ∙ all_hidden m t
+
+-- while the answers agree
+module _ (a b : Image) (m : ℕ) (answers : List ℕ) (schedule : List Scheduled) (peers : PeersBut a b m answers) where
+  cycles_while : (k : ℕ) → AnswersAgree a b m answers schedule k → (at a schedule k).cycle ≡ (at b schedule k).cycle
+  cycles_while k agree = seen_cycle m (at a schedule k) (at b schedule k) (views_while a b m answers schedule peers k agree)
+
+  lines_same : (k : ℕ) → AnswersAgree a b m answers schedule (suc k) → lines_of (at a schedule k).cycle (cycle (at a schedule k)).events ≡ lines_of (at b schedule k).cycle (cycle (at b schedule k)).events
+  lines_same k agree =
+      ap (λ c. lines_of c (cycle (at a schedule k)).events) (cycles_while k (λ j lt. agree j (omega arith)))
+      ∙ ap (lines_of (at b schedule k).cycle) (events_while a b m answers schedule peers k agree)
+
+  lines_while : (k n : ℕ) → AnswersAgree a b m answers schedule (n + k) → lines_after (at a schedule k) n ≡ lines_after (at b schedule k) n
+  lines_while k zero agree = refl
+  lines_while k (suc n) agree =
+      rw (lines_while k n (λ j lt. agree j (omega arith)), after_more a schedule k n, after_more b schedule k n, lines_same (n + k) (λ j lt. agree j (omega arith))) refl
+
+  ends_while : (k : ℕ) → AnswersAgree a b m answers schedule k → end_line_of (at a schedule k) ≡ end_line_of (at b schedule k)
+  ends_while k agree = end_lines m (at a schedule k) (at b schedule k) (views_while a b m answers schedule peers k agree)
+
+  -- both have one trace
+  pub traces_while : (n : ℕ) → AnswersAgree a b m answers schedule n → trace a schedule n ≡ trace b schedule n
+  traces_while n agree =
+      ap (λ l. l ++ end_line_of (at a schedule n)) (lines_while 0 n (λ j lt. agree j (omega arith))) ∙ ap (λ l. lines_after (boot b schedule) n ++ l) (ends_while n agree)
 
 module _ (a b : Image) (m : ℕ) (schedule : List Scheduled) (peers : Peers a b m) where
   pub cycles_same : (k : ℕ) → (at a schedule k).cycle ≡ (at b schedule k).cycle
-  cycles_same k = seen_cycle m (at a schedule k) (at b schedule k) (views_equal a b m schedule peers k)
-
-  lines_same : (k : ℕ) → lines_of (at a schedule k).cycle (cycle (at a schedule k)).events ≡ lines_of (at b schedule k).cycle (cycle (at b schedule k)).events
-  lines_same k =
-      ap (λ c. lines_of c (cycle (at a schedule k)).events) (seen_cycle m (at a schedule k) (at b schedule k) (views_equal a b m schedule peers k)) ∙ ap (lines_of (at b schedule k).cycle) (events_equal a b m schedule peers k)
+  cycles_same k = cycles_while a b m [] schedule peers k (none_differs a b m schedule k)
 
   pub lines_from : (k n : ℕ) → lines_after (at a schedule k) n ≡ lines_after (at b schedule k) n
-  lines_from k zero = refl
-  lines_from k (suc n) = rw (lines_from k n, after_more a schedule k n, after_more b schedule k n, lines_same (n + k)) refl
+  lines_from k n = lines_while a b m [] schedule peers k n (none_differs a b m schedule (n + k))
 
   pub ends_same : (k : ℕ) → end_line_of (at a schedule k) ≡ end_line_of (at b schedule k)
-  ends_same k = end_lines m (at a schedule k) (at b schedule k) (views_equal a b m schedule peers k)
+  ends_same k = ends_while a b m [] schedule peers k (none_differs a b m schedule k)
 
-  -- peers have one trace
   pub traces_equal : (n : ℕ) → trace a schedule n ≡ trace b schedule n
-  traces_equal n = ap (λ l. l ++ end_line_of (at a schedule n)) (lines_from 0 n) ∙ ap (λ l. lines_after (boot b schedule) n ++ l) (ends_same n)
+  traces_equal n = traces_while a b m [] schedule peers n (none_differs a b m schedule n)
 
   -- ---- where the outside stands
   stands_by : (s t : State) (addr : ℕ) (o : Option ℕ) → s.active ≡ o → t.active ≡ o → (s.active ≡ None → (s.phase ≡ t.phase) × (s.after ≡ t.after)) → (s.active ≡ None → s.core ≡ t.core) → stands_at addr s ≡ stands_at addr t
@@ -141,7 +162,7 @@ module _ (a b : Image) (m : ℕ) (schedule : List Scheduled) (peers : Peers a b 
   stands_same addr k =
       let s = at a schedule k in
       let t = at b schedule k in
-      stands_by s t addr s.active refl (sym (seen_active m s t (views_equal a b m schedule peers k))) (λ e. phases_equal a b m schedule peers k (ap (is_id m) e)) (seen_core m s t (views_equal a b m schedule peers k))
+      stands_by s t addr s.active refl (sym (seen_active m s t (views_equal a b m schedule peers k))) (λ e. phases_equal a b m schedule peers k (ap (is_id m) e)) (outside_core m s t (views_equal a b m schedule peers k))
 
   -- what is seen where every module is hidden
   pub outside_equal : (k : ℕ) → view_of (at a schedule k) AllHidden ≡ view_of (at b schedule k) AllHidden

@@ -163,7 +163,7 @@ module _ (m : ℕ) (own : Module) (key text : List ℕ) where
   unfolding start doing
   start_doing left s k ok p = ap (λ h. doing_by 0 false h (next_insn (job_of key own text left) (start left s))) (in_its_text s k ok p)
 
-  module _ (a b : State) (ready : Ready m own key text a b) (out_a : is_id m a.active ≡ false) (ok_a : IsCore a.core) (ok_b : IsCore b.core) where
+  module _ (answers : List ℕ) (a b : State) (ready : Ready m own key text answers a b) (out_a : is_id m a.active ≡ false) (ok_a : IsCore a.core) (ok_b : IsCore b.core) where
     ka : Keeps m own key text a
     ka = ready.twins.keeps_a
 
@@ -179,39 +179,39 @@ module _ (m : ℕ) (own : Module) (key text : List ℕ) where
     veiled : veil m own a ≡ veil m own b
     veiled = seen_veiled m own key text a b ready.twins.seen out_a
 
-    join : (f : State → Step) → Outer m own key text a (f a) (f (veil m own a)) → Outer m own key text b (f b) (f (veil m own b)) → Alike m own key text (f a) (f b)
-    join f oa ob = outer_alike m own key text a b (f a) (f b) (f (veil m own a)) (f (veil m own b)) ready oa ob (ap f veiled)
+    join : (f : State → Step) → Outer m own key text a (f a) (f (veil m own a)) → Outer m own key text b (f b) (f (veil m own b)) → Alike m own key text answers (f a) (f b)
+    join f oa ob = outer_alike m own key text answers a b (f a) (f b) (f (veil m own a)) (f (veil m own b)) ready oa ob (ap f veiled)
 
     -- a step that is light in both
     both_light : (f : State → Step) → ((s : State) → f (veil m own s) ≡ veil_step m own (f s)) →
-        ((s : State) (k : Keeps m own key text s) (n : is_id m s.active ≡ false) → Light m own key text s k n (f s).state) → Alike m own key text (f a) (f b)
+        ((s : State) (k : Keeps m own key text s) (n : is_id m s.active ≡ false) → Light m own key text s k n (f s).state) → Alike m own key text answers (f a) (f b)
     both_light f e l = join f (light_outer f a ka out_a (e a) (l a ka out_a)) (light_outer f b kb out_b (e b) (l b kb out_b))
 
     check_same : check a ≡ check b
     check_same = sym (check_veiled a) ∙ ap check veiled ∙ check_veiled b
 
     -- both calls begin with the same core
-    evenly_start : (left : ℕ) → left < 65536 → place_of a.table (pc_of a) ≡ Entry m → find_held m a.frames ≡ None → find_held m b.frames ≡ None → Evenly key own text (job_of key own text left) (start left a) (start left b)
+    evenly_start : (left : ℕ) → left < 65536 → place_of a.table (pc_of a) ≡ Entry m → find_held m a.frames ≡ None → find_held m b.frames ≡ None → Evenly answers key own text (job_of key own text left) (start left a) (start left b)
     unfolding start
     evenly_start left small p fa fb =
         let ra : run_of m a ≡ None = ap (λ c. run_by c m a) out_a ∙ fa in
         let rb : run_of m b ≡ None = ap (λ c. run_by c m b) out_b ∙ fb in
-        let even : AlwaysEvenBy key own text (section own.ram a.memory) (section own.ram b.memory) = same_secret m own key text (sym ra) (sym rb) refl refl ready.twins.secret in
+        let even : AlwaysEvenBy answers key own text (section own.ram a.memory) (section own.ram b.memory) = same_secret m own key text answers (sym ra) (sym rb) refl refl ready.twins.secret in
         let core : a.core ≡ b.core = ap (λ s. s.core) veiled in
-        let ev : Evenly key own text (job_of key own text left) (start left a) (begins (record { core = a.core; caller = left; within = 0 }) (section own.ram b.memory)) =
+        let ev : Evenly answers key own text (job_of key own text left) (start left a) (begins (record { core = a.core; caller = left; within = 0 }) (section own.ram b.memory)) =
         record { always = λ n es h. even (record { core = a.core; caller = left; within = n } ∷ es) (record { core_ok = ok_a; at_start = at_start a ka ok_a p; caller_ok = small }, h) } in
-        subst (λ c. Evenly key own text (job_of key own text left) (start left a) (record { core = c; data_bytes = section own.ram b.memory; rest = 0; closing = false })) core ev
+        subst (λ c. Evenly answers key own text (job_of key own text left) (start left a) (record { core = c; data_bytes = section own.ram b.memory; rest = 0; closing = false })) core ev
 
-    first_together : (left : ℕ) (na nb : Option Insn) → next_insn (job_of key own text left) (start left a) ≡ na → next_insn (job_of key own text left) (start left b) ≡ nb → place_of a.table (pc_of a) ≡ Entry m → place_of b.table (pc_of b) ≡ Entry m → is_held m (held_ids a.frames) ≡ false → is_held m (held_ids b.frames) ≡ false → Together key own text (job_of key own text left) (doing_by 0 false true na) (doing_by 0 false true nb) (start left a) (start left b) → Alike m own key text (act (at_entry left a)) (act (at_entry left b))
+    first_together : (left : ℕ) (na nb : Option Insn) → next_insn (job_of key own text left) (start left a) ≡ na → next_insn (job_of key own text left) (start left b) ≡ nb → place_of a.table (pc_of a) ≡ Entry m → place_of b.table (pc_of b) ≡ Entry m → is_held m (held_ids a.frames) ≡ false → is_held m (held_ids b.frames) ≡ false → Together answers key own text (job_of key own text left) (doing_by 0 false true na) (doing_by 0 false true nb) (start left a) (start left b) → Alike m own key text answers (act (at_entry left a)) (act (at_entry left b))
     unfolding entered start
     first_together left (Some i) (Some i') ea eb pa pb fa fb t =
         let seen : hide_by true m own (entered left a) ≡ hide_by true m own (entered left b) = ap (λ (v : State). let u : State = record v { core = veil_core v.core; active = Some m; caller = left; phase = Run 0; after = Next } in u) veiled in
-        moves_alike m own key text (entered left a) (entered left b) (lone_does (job_of key own text left) i (start left a)) (lone_does (job_of key own text left) i' (start left b)) (act (at_entry left a)) (act (at_entry left b))
+        moves_alike m own key text answers (entered left a) (entered left b) (lone_does (job_of key own text left) i (start left a)) (lone_does (job_of key own text left) i' (start left b)) (act (at_entry left a)) (act (at_entry left b))
         (entered_keeps left a ka fa) (entered_keeps left b kb fb) (own_id m) (own_id m) seen (entered_moves left a i ka ok_a pa ea) (entered_moves left b i' kb ok_b pb eb)
         (does_gie (job_of key own text left) (start left a) i ea ok_a.sixteen) (does_gie (job_of key own text left) (start left b) i' eb ok_b.sixteen) t
     first_together left _ _ ea eb pa pb fa fb t = absurd t
 
-    enters : (left : ℕ) → left < 65536 → check a ≡ None → place_of a.table (pc_of a) ≡ Entry m → a.active ≡ None → Alike m own key text (begin left a) (begin left b)
+    enters : (left : ℕ) → left < 65536 → check a ≡ None → place_of a.table (pc_of a) ≡ Entry m → a.active ≡ None → Alike m own key text answers (begin left a) (begin left b)
     enters left small e p o =
         let eb : check b ≡ None = sym check_same ∙ e in
         let pb : place_of b.table (pc_of b) ≡ Entry m = ap (λ (s : State). place_of s.table (reg s.core 0)) (sym veiled) ∙ p in
@@ -220,59 +220,59 @@ module _ (m : ℕ) (own : Module) (key text : List ℕ) where
         let fb = entry_free m b eb pb in
         let ev = evenly_start left small p (none_found m a.frames (times_none m a.frames fa)) (none_found m b.frames (times_none m b.frames fb)) in
         let j = job_of key own text left in
-        let t0 = next_together key own text j (start left a) (start left b) ev in
-        let t1 = subst (λ d. Together key own text j d (doing j (start left b)) (start left a) (start left b)) (start_doing left a ka ok_a p) t0 in
-        let t2 = subst (λ d. Together key own text j (doing_by 0 false true (next_insn j (start left a))) d (start left a) (start left b)) (start_doing left b kb ok_b pb) t1 in
+        let t0 = next_together answers key own text j (start left a) (start left b) ev in
+        let t1 = subst (λ d. Together answers key own text j d (doing j (start left b)) (start left a) (start left b)) (start_doing left a ka ok_a p) t0 in
+        let t2 = subst (λ d. Together answers key own text j (doing_by 0 false true (next_insn j (start left a))) d (start left a) (start left b)) (start_doing left b kb ok_b pb) t1 in
         let r = first_together left (next_insn j (start left a)) (next_insn j (start left b)) refl refl p pb fa fb t2 in
         let ba : begin left a ≡ told (Event.Enter m left ∷ []) (act (at_entry left a)) = begin_by left a None e ∙ ap (λ u. told u.events (act u.state)) (entered_is m left a p o) in
         let bb : begin left b ≡ told (Event.Enter m left ∷ []) (act (at_entry left b)) = begin_by left b None eb ∙ ap (λ u. told u.events (act u.state)) (entered_is m left b pb ob) in
-        let x : Alike m own key text (told (Event.Enter m left ∷ []) (act (at_entry left a))) (told (Event.Enter m left ∷ []) (act (at_entry left b))) = record { events = ap (λ es. Event.Enter m left ∷ es) r.events; related = r.related } in
-        subst (λ u. Alike m own key text u (begin left b)) (sym ba) (subst (λ u. Alike m own key text (told (Event.Enter m left ∷ []) (act (at_entry left a))) u) (sym bb) x)
+        let x : Alike m own key text answers (told (Event.Enter m left ∷ []) (act (at_entry left a))) (told (Event.Enter m left ∷ []) (act (at_entry left b))) = record { events = ap (λ es. Event.Enter m left ∷ es) r.events; related = r.related } in
+        subst (λ u. Alike m own key text answers u (begin left b)) (sym ba) (subst (λ u. Alike m own key text answers (told (Event.Enter m left ∷ []) (act (at_entry left a))) u) (sym bb) x)
 
     -- ---- an instruction begins
     enter_same : (left : ℕ) → (enter left a).state.active ≡ (enter left b).state.active
     enter_same left =
         ap (λ u. u.state.active) (sym (enter_veiled m own left a)) ∙ ap (λ s. (enter left s).state.active) veiled ∙ ap (λ u. u.state.active) (enter_veiled m own left b)
 
-    begin_free : (left : ℕ) (c : Bool) → left < 65536 → check a ≡ None → is_id m (enter left a).state.active ≡ c → Alike m own key text (begin left a) (begin left b)
+    begin_free : (left : ℕ) (c : Bool) → left < 65536 → check a ≡ None → is_id m (enter left a).state.active ≡ c → Alike m own key text answers (begin left a) (begin left b)
     begin_free left true small e h = let p = enters_it m left a out_a h in enters left small e p.0 p.1
     begin_free left false small e h =
         join (begin left) (begin_outer left a ka out_a h ok_a e) (begin_outer left b kb out_b (ap (is_id m) (sym (enter_same left)) ∙ h) ok_b (sym check_same ∙ e))
 
-    begin_checked : (left : ℕ) (d : Option Denied) → left < 65536 → check a ≡ d → Alike m own key text (begin left a) (begin left b)
+    begin_checked : (left : ℕ) (d : Option Denied) → left < 65536 → check a ≡ d → Alike m own key text answers (begin left a) (begin left b)
     begin_checked left None small e = begin_free left (is_id m (enter left a).state.active) small e refl
     begin_checked left (Some d) small e =
         let eb : check b ≡ Some d = sym check_same ∙ e in
         let r = both_light (denied d) (λ s. refl) (λ s k n. (refl, refl, refl, refl, refl)) in
-        subst (λ u. Alike m own key text u (begin left b)) (sym (begin_by left a (Some d) e)) (subst (λ u. Alike m own key text (denied d a) u) (sym (begin_by left b (Some d) eb)) r)
+        subst (λ u. Alike m own key text answers u (begin left b)) (sym (begin_by left a (Some d) e)) (subst (λ u. Alike m own key text answers (denied d a) u) (sym (begin_by left b (Some d) eb)) r)
 
-    begin_alike : (left : ℕ) → left < 65536 → Alike m own key text (begin left a) (begin left b)
+    begin_alike : (left : ℕ) → left < 65536 → Alike m own key text answers (begin left a) (begin left b)
     begin_alike left small = begin_checked left (check a) small refl
 
-    unless_alike : (x : Bool) (left : ℕ) → left < 65536 → Alike m own key text (turn_unless x left a) (turn_unless x left b)
+    unless_alike : (x : Bool) (left : ℕ) → left < 65536 → Alike m own key text answers (turn_unless x left a) (turn_unless x left b)
     unless_alike true left small = both_light quiet (λ s. refl) (λ s k n. (refl, refl, refl, refl, refl))
     unless_alike false left small = begin_alike left small
 
     -- ---- the cases of a turn
-    by_cases : (d o : Option ℕ) (p : Phase) (left : ℕ) → left < 65536 → a.active ≡ o → Alike m own key text (turn_at d o p left a) (turn_at d o p left b)
+    by_cases : (d o : Option ℕ) (p : Phase) (left : ℕ) → left < 65536 → a.active ≡ o → Alike m own key text answers (turn_at d o p left a) (turn_at d o p left b)
     by_cases d o (Pad n) left small e = both_light (λ s. quiet (padded (n - 1) s)) (λ s. refl) (λ s k n. (refl, refl, refl, refl, refl))
     by_cases (Some v) (Some id) (Run r) left small e =
         join (arrive_inside v id) (inside_outer v id a ka e out_a) (inside_outer v id b kb (sym same_active ∙ e) out_b)
     by_cases (Some v) None (Run zero) left small e = join (arrive_outside v) (arrive_outside_outer m own key text a ka out_a v) (arrive_outside_outer m own key text b kb out_b v)
     by_cases None None (Run (suc r)) left small e = both_light (λ s. quiet (record s { phase = Run r })) (λ s. refl) (λ s k n. (refl, refl, refl, refl, refl))
     by_cases None None (Run zero) left small e =
-        subst (λ x. Alike m own key text (turn_unless (asleep a) left a) (turn_unless x left b)) (ap asleep veiled) (unless_alike (asleep a) left small)
+        subst (λ x. Alike m own key text answers (turn_unless (asleep a) left a) (turn_unless x left b)) (ap asleep veiled) (unless_alike (asleep a) left small)
     by_cases None (Some id) (Run zero) left small e = begin_alike left small
     by_cases _ _ (Run (suc r)) left small e = both_light (λ s. quiet (record s { phase = Run r })) (λ s. refl) (λ s k n. (refl, refl, refl, refl, refl))
 
-    pub outside_turn : (left : ℕ) → left < 65536 → Alike m own key text (turn left a) (turn left b)
+    pub outside_turn : (left : ℕ) → left < 65536 → Alike m own key text answers (turn left a) (turn left b)
     outside_turn left small =
         let d : due a ≡ due b = sym (due_hidden m own a) ∙ ap due ready.twins.seen ∙ due_hidden m own b in
         let r = by_cases (due a) a.active a.phase left small refl in
-        let r1 = subst (λ x. Alike m own key text (turn_at (due a) a.active a.phase left a) (turn_at x a.active a.phase left b)) d r in
-        let r2 = subst (λ x. Alike m own key text (turn_at (due a) a.active a.phase left a) (turn_at (due b) x a.phase left b)) same_active r1 in
-        let r3 = subst (λ x. Alike m own key text (turn_at (due a) a.active a.phase left a) (turn_at (due b) b.active x left b)) (ap (λ (s : State). s.phase) veiled) r2 in
-        subst (λ t. Alike m own key text t (turn left b)) (sym (turn_is left a)) (subst (λ t. Alike m own key text (turn_at (due a) a.active a.phase left a) t) (sym (turn_is left b)) r3)
+        let r1 = subst (λ x. Alike m own key text answers (turn_at (due a) a.active a.phase left a) (turn_at x a.active a.phase left b)) d r in
+        let r2 = subst (λ x. Alike m own key text answers (turn_at (due a) a.active a.phase left a) (turn_at (due b) x a.phase left b)) same_active r1 in
+        let r3 = subst (λ x. Alike m own key text answers (turn_at (due a) a.active a.phase left a) (turn_at (due b) b.active x left b)) (ap (λ (s : State). s.phase) veiled) r2 in
+        subst (λ t. Alike m own key text answers t (turn left b)) (sym (turn_is left a)) (subst (λ t. Alike m own key text answers (turn_at (due a) a.active a.phase left a) t) (sym (turn_is left b)) r3)
 
   -- ---- one run alone: while the module is held, no turn moves it
   module _ (s : State) (k : Keeps m own key text s) (out : is_id m s.active ≡ false) (ok : IsCore s.core) (r : Backup) (held : find_held m s.frames ≡ Some r) where

@@ -1,6 +1,7 @@
--- What a run shows of one call of a module, from its entry to its end.
-use Rattle.std.specs.Prelude.{◌≡◌, ◌≢◌, ◌⊎◌, ℕ, zero, suc, ◌+◌, ◌-◌, ◌<◌, ◌≤◌, List, [], ◌∷◌, Bool, true, false, ◌&&◌, ◌==◌, if◌then◌else◌, Option, Some, None, is_none}
+-- What a run shows of one call of a module, from its entry to its end, and of its end in two runs.
+use Rattle.std.specs.Prelude.{◌≡◌, ◌≢◌, ◌⊎◌, ℕ, zero, suc, ◌+◌, ◌-◌, ◌<◌, ◌≤◌, List, [], ◌∷◌, Bool, true, false, ◌&&◌, ◌==◌, if◌then◌else◌, Option, Some, None, is_none, All}
 use Rattle.sm_words.specs.Sums.{one_if}
+use Rattle.sm_words.specs.Words.{reg}
 use Rattle.schedule_file.specs.declared.Entry.{Entry}
 use Rattle.mod_layout.specs.Table.{module_of}
 use Rattle.mod_layout.specs.declared.Module.{Module}
@@ -39,6 +40,12 @@ Ends m [] = ⊥
 Ends m (Left id pc ∷ es) = (id ≡ m) ⊎ Ends m es
 Ends m (Closed id ∷ es) = (id ≡ m) ⊎ Ends m es
 Ends m (_ ∷ es) = Ends m es
+
+-- whether an event ends a call of module m
+abbrev pub ends_call : ℕ → Event → Bool
+ends_call m (Left id pc) = id == m
+ends_call m (Closed id) = id == m
+ends_call m _ = false
 
 -- some module is hidden
 abbrev pub Hides : List Event → Type 0
@@ -178,3 +185,11 @@ notes m k (e ∷ es) w = notes m k es (note m k e w)
 abbrev pub away : ℕ → State → ℕ → Away
 away m s zero = record { since = None; sum = 0 }
 away m s (suc n) = notes m n (cycle (after_cycles s n)).events (away m s n)
+
+-- ---- two runs
+
+-- the answers are equal in both runs wherever one of the first n cycles ends a call of module m in the first of them: before
+-- that cycle the registers are still the module's
+abbrev pub AnswersAgree : Image → Image → ℕ → List ℕ → List Entry → ℕ → Type 0
+AnswersAgree a b m answers schedule n = (j : ℕ) → j < n → Ends m (cycle (at a schedule j)).events →
+    All (λ r. reg (at a schedule j).core r ≡ reg (at b schedule j).core r) answers

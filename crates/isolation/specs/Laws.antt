@@ -1,5 +1,5 @@
 -- The laws of the written machine. Each is what a function of this crate ensures.
-use Rattle.std.specs.Prelude.{◌≡◌, ℕ, suc, ◌+◌, ◌<◌, ◌≤◌, List, length, slice_index, true, false, is_some, Option, Some, None}
+use Rattle.std.specs.Prelude.{◌≡◌, ◌≢◌, ℕ, suc, ◌+◌, ◌<◌, ◌≤◌, List, filter, length, slice_index, true, false, is_some, Option, Some, None}
 use Rattle.sm_words.specs.Sums.{one_if}
 use Rattle.sm_words.specs.Words.{IsCore}
 use Rattle.schedule_file.specs.declared.Entry.{Entry}
@@ -13,11 +13,11 @@ use Rattle.image_text.specs.Image.{Image, IsImage}
 use Rattle.reg_backup.specs.declared.frames.TheConstants.{MOST_FRAMES}
 use Rattle.irq_padding.specs.declared.TheConstants.{PADDING}
 use Rattle.attest.specs.Units.{each_byte, text_reads}
-use Rattle.cpu_step.specs.Lone.{outcome, lone_after}
+use Rattle.cpu_step.specs.Lone.{outcome, lone_after, blank}
 use Rattle.written_machine.specs.Checks.{refused_in}
 use Rattle.written_machine.specs.Cycle.{cycle, after_cycles}
 use Rattle.written_machine.specs.Passing.{OnlyPass, Leads, passed}
-use Rattle.written_machine.specs.Peers.{Peers}
+use Rattle.written_machine.specs.Peers.{PeersBut, Peers}
 use Rattle.written_machine.specs.Script.{play, led, moves}
 use Rattle.written_machine.specs.Standing.{stands_at}
 use Rattle.written_machine.specs.State.{State}
@@ -26,7 +26,7 @@ use Rattle.written_machine.specs.View.{view_of, at}
 use Rattle.written_machine.specs.declared.Hidden.TheVariants.{All as AllHidden, Only}
 use Rattle.written_machine.specs.declared.ScriptLine.{ScriptLine}
 use Rattle.isolation.specs.Moments.{moment}
-use Rattle.isolation.specs.Calls.{Enters, Ends, Hides, Handles, stop_in, UnderWay, entry_state, entry_job, entry_lone, worked, NotBroken, Takes, Stands, times, away}
+use Rattle.isolation.specs.Calls.{Enters, Ends, ends_call, AnswersAgree, Hides, Handles, stop_in, UnderWay, entry_state, entry_job, entry_lone, worked, NotBroken, Takes, Stands, times, away}
 use Rattle.sm_words.specs.Status.{is_gie}
 
 -- ---- two runs of peers, on every schedule
@@ -98,6 +98,44 @@ SameLeads = (a b : Image) (m : ℕ) (schedule : List Entry) (most k : ℕ) (ks :
     (let x = moment a schedule most k ks in
     let y = moment b schedule most k ks in
     (after : ℕ) × (marked : List ℕ) × (led x (moves x script) ≡ moment a schedule most after marked) × (led y (moves y script) ≡ moment b schedule most after marked))
+
+-- ---- two runs of images that are peers but for answers, up to the first call that ends with another answer
+
+-- While the answers agree, the views are equal, where the one module alone is hidden.
+abbrev pub ViewsWhile : Type 0
+ViewsWhile = (a b : Image) (m : ℕ) (answers : List ℕ) (schedule : List Entry) (n : ℕ) → PeersBut a b m answers → AnswersAgree a b m answers schedule n →
+    view_of (at a schedule n) (Only m) ≡ view_of (at b schedule n) (Only m)
+
+-- The events of a cycle are equal, if it does not end a call with another answer either.
+abbrev pub EventsWhile : Type 0
+EventsWhile = (a b : Image) (m : ℕ) (answers : List ℕ) (schedule : List Entry) (n : ℕ) → PeersBut a b m answers → AnswersAgree a b m answers schedule (suc n) →
+    (cycle (at a schedule n)).events ≡ (cycle (at b schedule n)).events
+
+-- The outside trace is one text.
+abbrev pub TracesWhile : Type 0
+TracesWhile = (a b : Image) (m : ℕ) (answers : List ℕ) (schedule : List Entry) (n : ℕ) → PeersBut a b m answers → AnswersAgree a b m answers schedule n →
+    trace a schedule n ≡ trace b schedule n
+
+-- The next cycle ends a call of the module in both, with the same event, or in neither: whatever the answers,
+abbrev pub EndsAlike : Type 0
+EndsAlike = (a b : Image) (m : ℕ) (answers : List ℕ) (schedule : List Entry) (n : ℕ) → PeersBut a b m answers → AnswersAgree a b m answers schedule n →
+    filter (ends_call m) (cycle (at a schedule n)).events ≡ filter (ends_call m) (cycle (at b schedule n)).events
+
+-- and then all registers but the answers are equal.
+abbrev pub AnswersAlone : Type 0
+AnswersAlone = (a b : Image) (m : ℕ) (answers : List ℕ) (schedule : List Entry) (n : ℕ) → PeersBut a b m answers → AnswersAgree a b m answers schedule n →
+    Ends m (cycle (at a schedule n)).events → blank answers (at a schedule n).core ≡ blank answers (at b schedule n).core
+
+-- Two modules that answer, where image c is between a and b: it has b's data in m, and a's in p. While the answers of both agree in a and
+-- b, the views are equal, where every module is hidden,
+abbrev pub ViewsOfTwo : Type 0
+ViewsOfTwo = (a c b : Image) (m p : ℕ) (answers replies : List ℕ) (schedule : List Entry) (n : ℕ) → m ≢ p → PeersBut a c m answers → PeersBut c b p replies →
+    AnswersAgree a b m answers schedule n → AnswersAgree a b p replies schedule n → view_of (at a schedule n) AllHidden ≡ view_of (at b schedule n) AllHidden
+
+-- and the outside trace is one text.
+abbrev pub TracesOfTwo : Type 0
+TracesOfTwo = (a c b : Image) (m p : ℕ) (answers replies : List ℕ) (schedule : List Entry) (n : ℕ) → m ≢ p → PeersBut a c m answers → PeersBut c b p replies →
+    AnswersAgree a b m answers schedule n → AnswersAgree a b p replies schedule n → trace a schedule n ≡ trace b schedule n
 
 -- ---- one run of one image
 

@@ -4,7 +4,7 @@
 //! Each law is what a function here ensures; `specs/Laws.antt` states them in words.
 #![tactic(auto)]
 
-ghost use Rattle.isolation.specs.Laws.{SameViews, SameEvents, SamePhases, SameCallers, SameGie, SameOnceGone, SameTraces, SameLines, SameEnds, SameOutsideViews, SameStanding, SamePlays, SameLeads, EnteredIsKnown, Transparency, Cost, HandlerAfterHide, HideBeforeHandler, Numbered, CoreKept, MemoryFull, MemoryBytes, TableKept, ModuleOnce, FramesFew, Passing, EventsFew, StopTold, StopRefused, TextReadable, ZerosWritable};
+ghost use Rattle.isolation.specs.Laws.{SameViews, SameEvents, SamePhases, SameCallers, SameGie, SameOnceGone, SameTraces, SameLines, SameEnds, SameOutsideViews, SameStanding, SamePlays, SameLeads, ViewsWhile, EventsWhile, TracesWhile, EndsAlike, AnswersAlone, ViewsOfTwo, TracesOfTwo, EnteredIsKnown, Transparency, Cost, HandlerAfterHide, HideBeforeHandler, Numbered, CoreKept, MemoryFull, MemoryBytes, TableKept, ModuleOnce, FramesFew, Passing, EventsFew, StopTold, StopRefused, TextReadable, ZerosWritable};
 
 /// Two runs of peers are seen alike by all but the one module, and tell the same, in every cycle of every schedule.
 pub fn two_runs()
@@ -25,6 +25,18 @@ pub fn texts()
     ensures stands { SameStanding }
     ensures scripts { SamePlays }
     ensures leads { SameLeads }
+{}
+
+/// Two images that no lone calls of the module tell apart but by its answers run alike until one of its calls ends with
+/// another answer. It then ends in both in the same cycle, at the same place, with all other registers equal.
+pub fn released()
+    ensures views { ViewsWhile }
+    ensures events { EventsWhile }
+    ensures traces { TracesWhile }
+    ensures ends { EndsAlike }
+    ensures registers { AnswersAlone }
+    ensures views_of_two { ViewsOfTwo }
+    ensures traces_of_two { TracesOfTwo }
 {}
 
 /// A module that is interrupted does what it does by itself.

@@ -17,7 +17,7 @@ use Rattle.cycle_table.specs.Cycles.{cycles_of}
 use Rattle.mod_layout.specs.Table.{holds}
 use Rattle.cpu_step.specs.Asked.{asks, effect}
 use Rattle.cpu_step.specs.Effect.{does_freely, confined, does}
-use Rattle.cpu_step.specs.Lone.{Job, Lone, IsEntry, Outcome, Exit, Closing, Running, later, Does, Leaves, doing_by, doing, next_insn, lone_does, at_once, in_time, outcome, alike, job_of, Even, AlwaysEven}
+use Rattle.cpu_step.specs.Lone.{Job, Lone, IsEntry, Outcome, Exit, Closing, Running, later, Does, Leaves, doing_by, doing, next_insn, lone_does, at_once, in_time, outcome, alike_but, job_of, EvenBut, AlwaysEven}
 use Rattle.cpu_step.specs.Plan.{plan}
 use Rattle.written_machine.specs.Peers.{section}
 use Rattle.peer_rows.specs.Rows.{called, memory_of, image_of, returning, ReturningPeers}
@@ -64,7 +64,7 @@ places core s = by (holds (called 0x0302).text (reg core PC)) refl
 
 -- ---- two calls
 
-later_alike : (R : List ℕ → List ℕ → Type 0) (o p : Outcome) → alike R o p → alike R (later o) (later p)
+later_alike : (R : List ℕ → List ℕ → Type 0) (o p : Outcome) → alike_but [] R o p → alike_but [] R (later o) (later p)
 later_alike R Running Running h = tt
 later_alike R (Closing c d k) (Closing c' d' k') h = (h.0, ap (λ i. i + 1) h.1)
 later_alike R (Exit c d k) (Exit c' d' k') h = (h.0, ap (λ i. i + 1) h.1, h.2)
@@ -91,18 +91,18 @@ module _ (key : List ℕ) (caller : ℕ) where
       ap (λ x. in_time x (outcome job n) job (stands core d 0)) (begins core d start) ∙ ap (λ l. later (outcome job n l)) (does_back core d)
 
   module _ (R : List ℕ → List ℕ → Type 0) (d e : List ℕ) (r : R d e) where
-    both : (x y o p : Outcome) → x ≡ o → y ≡ p → alike R o p → alike R x y
-    both x y o p f g h = subst (λ z. alike R z y) (sym f) (subst (λ z. alike R o z) (sym g) h)
+    both : (x y o p : Outcome) → x ≡ o → y ≡ p → alike_but [] R o p → alike_but [] R x y
+    both x y o p f g h = subst (λ z. alike_but [] R z y) (sym f) (subst (λ z. alike_but [] R o z) (sym g) h)
 
-    leaves : (n : ℕ) (core : List ℕ) → holds (called 0x0302).text (reg core PC) ≡ false → alike R (outcome job n (stands core d 0)) (outcome job n (stands core e 0))
+    leaves : (n : ℕ) (core : List ℕ) → holds (called 0x0302).text (reg core PC) ≡ false → alike_but [] R (outcome job n (stands core d 0)) (outcome job n (stands core e 0))
     leaves zero core out =
         both (outcome job 0 (stands core d 0)) (outcome job 0 (stands core e 0)) (Exit core d 0) (Exit core e 0)
-        (ap (λ x. at_once x (stands core d 0)) (ends core d out)) (ap (λ x. at_once x (stands core e 0)) (ends core e out)) (refl, refl, r)
+        (ap (λ x. at_once x (stands core d 0)) (ends core d out)) (ap (λ x. at_once x (stands core e 0)) (ends core e out)) (refl, refl, λ same. r)
     leaves (suc n) core out =
         both (outcome job (suc n) (stands core d 0)) (outcome job (suc n) (stands core e 0)) (Exit core d 0) (Exit core e 0)
-        (ap (λ x. in_time x (outcome job n) job (stands core d 0)) (ends core d out)) (ap (λ x. in_time x (outcome job n) job (stands core e 0)) (ends core e out)) (refl, refl, r)
+        (ap (λ x. in_time x (outcome job n) job (stands core d 0)) (ends core d out)) (ap (λ x. in_time x (outcome job n) job (stands core e 0)) (ends core e out)) (refl, refl, λ same. r)
 
-    ends_alike : (n rest : ℕ) (core : List ℕ) → IsCore core → alike R (outcome job n (stands core d rest)) (outcome job n (stands core e rest))
+    ends_alike : (n rest : ℕ) (core : List ℕ) → IsCore core → alike_but [] R (outcome job n (stands core d rest)) (outcome job n (stands core e rest))
     unfolding doing
     ends_alike zero (suc k) core s = tt
     ends_alike (suc n) (suc k) core s = later_alike R (outcome job n (stands core d k)) (outcome job n (stands core e k)) (ends_alike n k core s)
@@ -125,7 +125,7 @@ module _ (key : List ℕ) (caller : ℕ) where
 even : (key d e : List ℕ) → AlwaysEven key (called 0x0302) (bytes_of returning) d e
 even key d e [] n h = tt
 even key d e (x ∷ xs) n h =
-    ends_alike key x.caller (Even key (called 0x0302) (bytes_of returning) n xs) d e (even key d e xs n (All-tail (IsEntry (called 0x0302)) x xs h))
+    ends_alike key x.caller (EvenBut [] key (called 0x0302) (bytes_of returning) n xs) d e (even key d e xs n (All-tail (IsEntry (called 0x0302)) x xs h))
     n 0 x.core (All-head (IsEntry (called 0x0302)) x xs h).core_ok
 
 -- ---- the peers
@@ -150,5 +150,6 @@ returning_peers =
       owner = m;
       owned = d.owned;
       elsewhere = d.elsewhere;
+      answers_ok = refl;
       even = subst (λ t. AlwaysEven a.node_key m t (section m.ram a.memory) (section m.ram b.memory)) (sym returning_text) (even a.node_key (section m.ram a.memory) (section m.ram b.memory));
     }

@@ -3,6 +3,7 @@ use Rattle.std.specs.Prelude.{◌≡◌, ◌++◌, ℕ, []}
 use Rattle.insn_decode.specs.declared.insn.Insn.{Insn}
 use Rattle.insn_decode.specs.declared.insn.Insn.TheVariants.{Jump}
 use Rattle.mod_layout.specs.declared.Module.{Module}
+use Rattle.flow_rule.specs.Terms.{Terms}
 use Rattle.flow_rule.specs.declared.Label.{Label}
 use Rattle.flow_rule.specs.declared.Val.TheVariants.{Public}
 use Rattle.flow_rule.specs.Rounds.{Step}
@@ -26,17 +27,17 @@ pub record Tells (step : Step) (old new : Stepped) (state : Label) : Type 0 wher
   pub successors : SuccessorsAlike step new.call_string state
 
 -- the step to where a jump goes
-abbrev pub jump_step : Module → Insn → ℕ → CallString → Label → Step
-jump_step m insn pc returns label = goes m pc (list_of returns) (does_val insn pc label.core []).core label.words
+abbrev pub jump_step : Terms → Module → Insn → ℕ → CallString → Label → Step
+jump_step terms m insn pc returns label = goes terms m pc (list_of returns) (does_val insn pc label.core []).core label.words
 
 -- the step to the next instruction
-abbrev pub next_step : Module → Insn → ℕ → CallString → Label → Step
-next_step m insn pc returns label = goes m pc (list_of returns) (past_val insn pc label.core) label.words
+abbrev pub next_step : Terms → Module → Insn → ℕ → CallString → Label → Step
+next_step terms m insn pc returns label = goes terms m pc (list_of returns) (past_val insn pc label.core) label.words
 
 -- the step past an instruction that names a module in R15
-abbrev pub id_step : Module → Insn → ℕ → CallString → Label → Step
-id_step m insn pc returns label =
-    goes m pc (list_of returns) (put_val (past_val insn pc label.core) 15 Public) label.words
+abbrev pub id_step : Terms → Module → Insn → ℕ → CallString → Label → Step
+id_step terms m insn pc returns label =
+    goes terms m pc (list_of returns) (put_val (past_val insn pc label.core) 15 Public) label.words
 
 -- a jump with this condition
 abbrev pub IsJump : Insn → ℕ → Type 0

@@ -8,6 +8,7 @@ use Rattle.flow_check.specs.internal.Points.{point_of, addrs_of, list_of}
 use Rattle.flow_check.specs.internal.Arms.{told}
 use Rattle.flow_check.specs.internal.Points.{point_at}
 use Rattle.flow_check.proofs.Walking.{calm_step, same_successors, same_points, successors_first, successors_none, walk_leaves, walk_goes}
+use Rattle.flow_check.specs.internal.Terms.{terms_of}
 use Rattle.flow_check.proofs.arm.walk_on.Goals as goal
 
 pub returns-in-None-clause-ends : goal.returns-in-None-clause-ends
@@ -15,7 +16,7 @@ returns-in-None-clause-ends c = λ _ steps.
     let m = c.args.program.now.module.now in
     let text : List ℕ = c.args.program.now.text.now in
     let p = c.args.point.now in
-    let S : Point → Step = flow_step m text in
+    let S : Point → Step = flow_step (terms_of c.args.program.now) m text in
     let r0 = c.new-stepped.result.call_string in
     let new = c.step_base.new.stepped in
     let gs : List Point = (S (point_of p.addr p.call_string p.state)).gives in
@@ -33,7 +34,7 @@ returns-in-Some-first_of-clause-on c = λ _ steps.
     let p = c.args.point.now in
     let t = c.args.tally.now in
     let insn = c.in-Some.insn in
-    let S : Point → Step = flow_step m text in
+    let S : Point → Step = flow_step (terms_of c.args.program.now) m text in
     let r0 = c.new-stepped.result.call_string in
     let new = c.step_base.new.stepped in
     let gs : List Point = (S (point_of p.addr p.call_string p.state)).gives in

@@ -10,13 +10,14 @@ use Rattle.flow_check.specs.internal.Violations.{noted}
 use Rattle.flow_check.specs.internal.Arms.{told}
 use Rattle.flow_check.specs.internal.Points.{point_at}
 use Rattle.flow_check.proofs.Walking.{site_least, site_told}
+use Rattle.flow_check.specs.internal.Terms.{terms_of}
 use Rattle.flow_check.proofs.branch.walk_arms.Goals as goal
 
 pub returns-clause-least : goal.returns-clause-least
 returns-clause-least c =
     let m = c.args.program.now.module.now in
     let text : List ℕ = c.args.program.now.text.now in
-    let S : Point → Step = flow_step m text in
+    let S : Point → Step = flow_step (terms_of c.args.program.now) m text in
     let b = c.args.site.now in
     let x : Point = point_at c.args.from.now in
     let t0 : Tally = record { least = c.note_if.new.least; cycles = 0; state = c.args.told.now } in
@@ -34,7 +35,7 @@ pub returns-clause-told : goal.returns-clause-told
 returns-clause-told c =
     let m = c.args.program.now.module.now in
     let text : List ℕ = c.args.program.now.text.now in
-    let S : Point → Step = flow_step m text in
+    let S : Point → Step = flow_step (terms_of c.args.program.now) m text in
     let b = c.args.site.now in
     let x : Point = point_at c.args.from.now in
     let t0 : Tally = record { least = c.note_if.new.least; cycles = 0; state = c.args.told.now } in

@@ -7,6 +7,7 @@ use Rattle.flow_check.specs.internal.Violations.{noted}
 use Rattle.flow_check.proofs.Successors.{none_found, some_found}
 use Rattle.flow_check.proofs.Walking.{by_site, by_none}
 use Rattle.flow_check.proofs.Subsuming.{site_successors, stirred}
+use Rattle.flow_check.specs.internal.Terms.{terms_of}
 use Rattle.flow_check.proofs.summaries.step_with.Goals as goal
 
 pub returns-in-Open-clause-calm : goal.returns-in-Open-clause-calm
@@ -25,7 +26,7 @@ pub returns-in-Open-clause-successors : goal.returns-in-Open-clause-successors
 returns-in-Open-clause-successors c = λ _ _.
     let p = c.args.program.now in
     let x : Point = point_of c.args.pc c.args.stepped.now.call_string c.args.state.now in
-    site_successors p.module.now p.text.now c.in-Some.site x (flow p x) c.apply.new.state (by_site p x c.site_of.result c.in-Some.site c.site_of.ensures c.in-Some.is)
+    site_successors (terms_of p) p.module.now p.text.now c.in-Some.site x (flow p x) c.apply.new.state (by_site p x c.site_of.result c.in-Some.site c.site_of.ensures c.in-Some.is)
     (c.in_ok-apply-in-Some.ensures.open c.in-Open.is (list_of c.args.stepped.now.call_string)).1
 
 pub returns-in-Shut-clause-stirred : goal.returns-in-Shut-clause-stirred

@@ -1,0 +1,6 @@
+-- The terms under which a program is checked.
+use Rattle.flow_rule.specs.Terms.{Terms}
+use Rattle.flow_check.specs.declared.program.Program.{Program}
+
+abbrev pub terms_of : Program → Terms
+terms_of p = record { answers = p.answers.now; public = p.public.now }
