@@ -9,12 +9,12 @@ use Rattle.asm_text.specs.declared.unit.AsmFault.{AsmFault}
 use Rattle.asm_text.specs.declared.unit.SectionKind.TheVariants.{Code as CodeKind}
 use Rattle.asm_text.specs.declared.statement.Statement.{Statement}
 use Rattle.asm_text.specs.declared.statement.Statement.TheVariants.{Word, Space, Jump, Code}
-use Rattle.asm_text.specs.Emission.{Meanings, Emitted, nothing, emitted, emitted_next, emitted_from}
+use Rattle.asm_text.specs.Emission.{Meanings, Emitted, nothing, emitted, emitted_from}
 use Rattle.asm_text.specs.internal.Emitted.{HasRoom}
 use Rattle.asm_text.specs.internal.Known.{AreKnown}
 use Rattle.asm_text.specs.Parts.{SectionValue}
 use Rattle.asm_text.specs.internal.Placed.{IsPlaced, AreSmall}
-use Rattle.asm_text.specs.Placing.{Placed, placed, placed_next, placed_from}
+use Rattle.asm_text.specs.Placing.{Placed, placed, unrefused, placed_from}
 use Rattle.asm_text.specs.Statements.{size_of}
 use Rattle.asm_text.proofs.LockLemmas.{Shape, shape_of, head_shape, Agree, same_number, last_there, IsTaken, taken, agree_more}
 use Rattle.asm_text.proofs.PlacedLemmas.{placed_kept}
@@ -71,7 +71,7 @@ pub record IsNextPlace (n : ℕ) (p : Placed) (s : Statement ℕ) (rest : List (
 pub next_place : (n : ℕ) (p : Placed) (s : Statement ℕ) (rest : List (Statement ℕ)) (end : Placed) → placed_from n p (s ∷ rest) ≡ Ok end → IsNextPlace n p s rest end
 next_place n p s rest end e = by (placed n p s) refl e
   where
-    by : (r : Result Placed AsmFault) → placed n p s ≡ r → placed_next r (λ q. placed_from (n + 1) q rest) ≡ Ok end → IsNextPlace n p s rest end
+    by : (r : Result Placed AsmFault) → placed n p s ≡ r → unrefused r (λ q. placed_from (n + 1) q rest) ≡ Ok end → IsNextPlace n p s rest end
     by (Ok q) is k = record { after = q; is = is; goes = k }
     by (Err fault) is k = absurd cc
 
@@ -95,7 +95,7 @@ emitting_room m names statements end i e d g low =
     has_room m (i + 1) e g.place x.after (get_or statements i d) g.agree g.kept.small x.is
 
 next_total : (m : Meanings) (names : ℕ) (statements : List (Statement ℕ)) (end : Placed) (i : ℕ) (e : Emitted) (d : Statement ℕ) → IsEmitting m names statements end i e → i < length statements
-    → emitted_from m 1 nothing statements ≡ emitted_next (emitted m (i + 1) e (get_or statements i d)) (λ f. emitted_from m (i + 1 + 1) f (drop (i + 1) statements))
+    → emitted_from m 1 nothing statements ≡ unrefused (emitted m (i + 1) e (get_or statements i d)) (λ f. emitted_from m (i + 1 + 1) f (drop (i + 1) statements))
 next_total m names statements end i e d g low = g.total ∙ ap (emitted_from m (i + 1) e) (drop_more statements i d low)
 
 pub emitting_more : (m : Meanings) (names : ℕ) (statements : List (Statement ℕ)) (end : Placed) (i : ℕ) (e f : Emitted) (d : Statement ℕ) → IsEmitting m names statements end i e → AreKnown names statements → i < length statements
@@ -103,7 +103,7 @@ pub emitting_more : (m : Meanings) (names : ℕ) (statements : List (Statement �
 emitting_more m names statements end i e f d g known low is =
     let x = at_line m names statements end i e d g low in
     record {
-      total = next_total m names statements end i e d g low ∙ ap (λ r. emitted_next r (λ y. emitted_from m (i + 1 + 1) y (drop (i + 1) statements))) is;
+      total = next_total m names statements end i e d g low ∙ ap (λ r. unrefused r (λ y. emitted_from m (i + 1 + 1) y (drop (i + 1) statements))) is;
       place = x.after;
       goes = x.goes;
       kept = placed_kept names (i + 1) g.place x.after (get_or statements i d) g.kept (known i d low) x.is;
@@ -121,6 +121,6 @@ all_agree m n e f p q (s ∷ rest) a j k =
     by x.after x.is (λ z a' k'. all_agree m (n + 1) z f x.after q rest a' x.goes k') (emitted m n e s) refl k
   where
     by : (y : Placed) → placed n p s ≡ Ok y → ((z : Emitted) → Agree m z y → emitted_from m (n + 1) z rest ≡ Ok f → Agree m f q)
-        → (r : Result Emitted AsmFault) → emitted m n e s ≡ r → emitted_next r (λ z. emitted_from m (n + 1) z rest) ≡ Ok f → Agree m f q
+        → (r : Result Emitted AsmFault) → emitted m n e s ≡ r → unrefused r (λ z. emitted_from m (n + 1) z rest) ≡ Ok f → Agree m f q
     by y is again (Ok z) was k' = again z (agree_more m n e z p y s a is was) k'
     by y is again (Err fault) was k' = absurd cc

@@ -17,7 +17,7 @@ use Rattle.asm_text.specs.internal.Emitted.{AreNames}
 use Rattle.asm_text.specs.internal.Kept.{IsSource}
 use Rattle.asm_text.specs.internal.Known.{IsBelow, IsKnown, AreKnown, IsNamed, AreNamed}
 use Rattle.asm_text.specs.Lines.{statement_of}
-use Rattle.asm_text.specs.Names.{place_of, noted_by, noted, Tables, no_tables, noted_option, number_option, tables_after, numbered}
+use Rattle.asm_text.specs.Names.{name_number, noted_by, noted, Tables, no_tables, noted_option, number_option, tables_after, numbered}
 use Rattle.asm_text.specs.Parts.{is_name}
 use Rattle.asm_text.specs.Source.{Source, more, source_by, source_from, source_of}
 use Rattle.asm_text.proofs.PlaceLemmas.{place_none}
@@ -43,16 +43,16 @@ not_there names name none k d low same =
     let hit : bytes_eq (get_or names k d) name ≡ true = (bytes_eq-Decides (get_or names k d) name).1 same in
     absurd cc
 
-pub is_noted : (names : List (List ℕ)) (name : List ℕ) → IsTable names → is_name name ≡ true → IsNoted names (noted names name) (place_of names name)
-is_noted names name t named = by (nat_lt (place_of names name) (length names)) refl
+pub is_noted : (names : List (List ℕ)) (name : List ℕ) → IsTable names → is_name name ≡ true → IsNoted names (noted names name) (name_number names name)
+is_noted names name t named = by (nat_lt (name_number names name) (length names)) refl
   where
-    by_place : (o : Option ℕ) (c : Bool) → position (λ n. bytes_eq n name) names ≡ o → nat_lt (place_of names name) (length names) ≡ c → cond c (Some (place_of names name)) None ≡ o → IsNoted names (noted_by (is_some o) names name) (place_of names name)
+    by_place : (o : Option ℕ) (c : Bool) → position (λ n. bytes_eq n name) names ≡ o → nat_lt (name_number names name) (length names) ≡ c → cond c (Some (name_number names name)) None ≡ o → IsNoted names (noted_by (is_some o) names name) (name_number names name)
     by_place (Some i) true is low e = record { table = t; least = omega arith; most = omega arith; low = grind (arith, nat_tests) }
     by_place (Some i) false is low e = absurd cc
     by_place None true is low e = absurd cc
     by_place None false is low e =
         let size = length-append names (name ∷ []) in
-        let past : place_of names name ≡ length names = place_none (λ n. bytes_eq n name) names is in
+        let past : name_number names name ≡ length names = place_none (λ n. bytes_eq n name) names is in
         record {
           table = record { are = All-push (λ n. is_name n ≡ true) names name t.are named; differ = all_pairs_push (λ (a b : List ℕ). a ≢ b) names name t.differ (not_there names name is) };
           least = omega arith;
@@ -60,8 +60,8 @@ is_noted names name t named = by (nat_lt (place_of names name) (length names)) r
           low = omega arith;
         }
 
-    by : (c : Bool) → nat_lt (place_of names name) (length names) ≡ c → IsNoted names (noted names name) (place_of names name)
-    by c low = by_place (position (λ n. bytes_eq n name) names) c refl low (ap (λ b. cond b (Some (place_of names name)) None) (sym low))
+    by : (c : Bool) → nat_lt (name_number names name) (length names) ≡ c → IsNoted names (noted names name) (name_number names name)
+    by c low = by_place (position (λ n. bytes_eq n name) names) c refl low (ap (λ b. cond b (Some (name_number names name)) None) (sym low))
 
 -- ---- a statement
 

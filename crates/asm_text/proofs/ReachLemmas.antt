@@ -18,7 +18,7 @@ use Rattle.asm_text.specs.declared.unit.AsmFault.{AsmFault}
 use Rattle.asm_text.specs.declared.unit.SectionKind.TheVariants.{Code as CodeKind, Data as DataKind, Bss as BssKind}
 use Rattle.asm_text.specs.declared.unit.SectionKind.{SectionKind}
 use Rattle.asm_text.specs.Assembly.{names_of, symbol_order, meanings, unit_for, with_emitted, with_stop, with_placed, assembled_source, assembled}
-use Rattle.asm_text.specs.Emission.{Meanings, Emitted, nothing, emitted, emitted_next, emitted_from, bytes_of, field_number, with_statement, in_last, grown, opened, reach, is_near, jump_word, jump_over, jump_bytes}
+use Rattle.asm_text.specs.Emission.{Meanings, Emitted, nothing, emitted, emitted_from, bytes_of, field_number, with_statement, in_last, grown, opened, reach, is_near, jump_word, jump_over, jump_bytes}
 use Rattle.asm_text.specs.internal.Emitted.{last_of}
 use Rattle.asm_text.specs.Encoding.{word_bytes, code_bytes, is_coded}
 use Rattle.asm_text.specs.Jumps.{LeadsToLabel, JumpsReachLabels, LabelsAreEven}
@@ -26,7 +26,7 @@ use Rattle.asm_text.specs.internal.Kept.{IsSource}
 use Rattle.asm_text.specs.internal.Known.{IsKnown}
 use Rattle.asm_text.specs.Parts.{SectionValue, SymbolValue, UnitValue, kept_size}
 use Rattle.asm_text.specs.Places.{StandsAt, Writes, CodeIsWritten, WordsAreWritten}
-use Rattle.asm_text.specs.Placing.{Placed, nowhere, spot_of, last_head, placed, placed_next, placed_from}
+use Rattle.asm_text.specs.Placing.{Placed, nowhere, spot_of, last_head, placed, unrefused, placed_from}
 use Rattle.asm_text.specs.Source.{Source, source_of}
 use Rattle.asm_text.specs.Statements.{size_of, takes}
 use Rattle.asm_text.specs.Symbols.{is_global, local_labels, once, once_by, below, order_of, symbol_number, symbol_by, symbol_for, symbols_for}
@@ -124,7 +124,7 @@ pub record IsNextLine (m : Meanings) (n : ℕ) (e : Emitted) (s : Statement ℕ)
 pub next_line : (m : Meanings) (n : ℕ) (e : Emitted) (s : Statement ℕ) (rest : List (Statement ℕ)) (end : Emitted) → emitted_from m n e (s ∷ rest) ≡ Ok end → IsNextLine m n e s rest end
 next_line m n e s rest end k = by (emitted m n e s) refl k
   where
-    by : (r : Result Emitted AsmFault) → emitted m n e s ≡ r → emitted_next r (λ f. emitted_from m (n + 1) f rest) ≡ Ok end → IsNextLine m n e s rest end
+    by : (r : Result Emitted AsmFault) → emitted m n e s ≡ r → unrefused r (λ f. emitted_from m (n + 1) f rest) ≡ Ok end → IsNextLine m n e s rest end
     by (Ok f) is j = record { after = f; is = is; goes = j }
     by (Err fault) is j = absurd cc
 
@@ -180,7 +180,7 @@ at_line m n (suc number) e f p q (x ∷ rest) s a even are j k is =
       after = r.after;
       written = r.written;
       next = r.next;
-      goes = ap (λ y. placed_next y (λ z. placed_from (n + 1) z (take number rest))) place.is ∙ r.goes;
+      goes = ap (λ y. unrefused y (λ z. placed_from (n + 1) z (take number rest))) place.is ∙ r.goes;
       even = r.even;
       places = r.places;
       agree = r.agree;

@@ -27,14 +27,14 @@ use Rattle.insn_decode.specs.declared.insn.Operand.TheVariants.{Reg, Const, Imm,
 use Rattle.insn_decode.specs.declared.insn.Insn.{Insn}
 use Rattle.insn_decode.specs.declared.insn.Insn.TheVariants.{Two, One, Jump, Reti, Unit as UnitOp}
 use Rattle.insn_decode.specs.Code.{words_of, is_constant}
-use Rattle.insn_decode.specs.Text.{two_name, one_name, suffix_of, hex_text, operand_text, text_of}
+use Rattle.insn_decode.specs.Text.{two_name, one_name, suffix_of, hex_text, operand_text, insn_text}
 use Rattle.asm_text.specs.declared.statement.Field.TheVariants.{Number}
 use Rattle.asm_text.specs.declared.statement.Statement.TheVariants.{Code}
 use Rattle.asm_text.specs.Encoding.{extension, extensions, is_plain, is_source, is_dest, is_coded}
 use Rattle.asm_text.specs.Laws.{ShownIsRead, is_placeless_operand, is_placeless, AreWords}
 use Rattle.texts.specs.Words.{is_space, words}
 use Rattle.asm_text.specs.Lines.{width_of, base_of, two_op_of, one_op_of, cond_of, by_words, statement_of}
-use Rattle.asm_text.specs.Operands.{before, field_of, of_field, plain, number_by, number_of, indirect_of, indexed_at, indexed_of, operand_of}
+use Rattle.asm_text.specs.Operands.{before, field_of, of_field, plain, number_by, immediate_of, indirect_of, indexed_at, indexed_of, operand_of}
 use Rattle.asm_text.specs.Parts.{is_name}
 use Rattle.asm_text.proofs.CodedLemmas.{decoded_coded}
 use Rattle.asm_text.proofs.MeaningLemmas.{coded_means}
@@ -147,7 +147,7 @@ indexed_read x at small =
     (at_register 8) (at_register 9) (at_register 10) (at_register 11) (at_register 12) (at_register 13) (at_register 14) (at_register 15)
 
 operand_read : (o : Operand) (at : ℕ) → IsShown o → IsRead o at
-unfolding operand_of number_of indirect_of read_decimal is_name digits
+unfolding operand_of immediate_of indirect_of read_decimal is_name digits
 operand_read (Reg r) at h = sixteen (λ r. IsRead (Reg r) at) refl refl refl refl refl refl refl refl refl refl refl refl refl refl refl refl r h
 operand_read (Const c) at h = constants (λ c. IsRead (Const c) at) refl refl refl refl refl refl c h
 operand_read (Imm x) at h = ap (λ f. number_by f (hex_text x)) (field_read x h)
@@ -253,7 +253,7 @@ words_front (x ∷ xs) ys h =
     let rest = words_front xs ys (All-tail (λ word. word < 65536) x (xs ++ ys) h) in
     (All-cons (λ word. word < 65536) x xs (h 0 0 (omega arith)) rest.0, rest.1)
 
-insn_read : (insn : Insn) (at : ℕ) → is_coded insn ≡ true → is_placeless insn ≡ true → AreWords (extensions insn) → statement_of (text_of insn at) ≡ Some (Code insn None None)
+insn_read : (insn : Insn) (at : ℕ) → is_coded insn ≡ true → is_placeless insn ≡ true → AreWords (extensions insn) → statement_of (insn_text insn at) ≡ Some (Code insn None None)
 unfolding statement_of words
 insn_read (Two op w s d) at is h small =
     let coded = and_parts (is_source s) (is_dest d) is in

@@ -18,13 +18,13 @@ use Rattle.asm_text.specs.declared.statement.Field.TheVariants.{Name}
 use Rattle.asm_text.specs.declared.statement.Statement.{Statement}
 use Rattle.asm_text.specs.declared.statement.Statement.TheVariants.{Section, Label, Global, Word, Space, Jump, Code}
 use Rattle.asm_text.specs.Assembly.{names_of, symbol_order, meanings, unit_for}
-use Rattle.asm_text.specs.Emission.{Meanings, Emitted, nothing, emitted, emitted_next, emitted_from, bytes_of, relocation_at, relocation_if, relocations_of, second_word, with_statement, in_last, grown, opened}
+use Rattle.asm_text.specs.Emission.{Meanings, Emitted, nothing, emitted, emitted_from, bytes_of, relocation_at, relocation_if, relocations_of, second_word, with_statement, in_last, grown, opened}
 use Rattle.asm_text.specs.internal.Emitted.{last_of, AreNames}
 use Rattle.asm_text.specs.internal.Kept.{IsSource}
 use Rattle.asm_text.specs.internal.Known.{AreNamed, IsNamed}
 use Rattle.asm_text.specs.Parts.{SectionValue, SymbolValue, is_name, IsSection, IsSymbol, IsRelocation, IsUnit}
 use Rattle.asm_text.specs.internal.Placed.{IsPlaced, names_in}
-use Rattle.asm_text.specs.Placing.{Placed, nowhere, spot_of, has_section, with_section, within, last_head, placed, placed_from}
+use Rattle.asm_text.specs.Placing.{Placed, nowhere, spot_of, has_section, with_section, within, last_head, placed, placed_from, unrefused}
 use Rattle.asm_text.specs.Source.{Source}
 use Rattle.asm_text.specs.Statements.{size_of}
 use Rattle.asm_text.specs.Symbols.{is_global, local_labels, once, once_by, below, order_of, symbol_by, symbol_for, symbols_for, symbol_number, symbol_numbers}
@@ -271,7 +271,7 @@ all_tied m symbols lines n e f (s ∷ rest) has t k =
     by (λ z t' k'. all_tied m symbols (lines + 1) (n + 1) z f rest has t' k') (emitted m n e s) refl k
   where
     by : ((z : Emitted) → IsTied symbols (lines + 1) z → emitted_from m (n + 1) z rest ≡ Ok f → IsTied symbols (lines + 1 + length rest) f)
-        → (r : Result Emitted AsmFault) → emitted m n e s ≡ r → emitted_next r (λ z. emitted_from m (n + 1) z rest) ≡ Ok f → IsTied symbols (lines + length (s ∷ rest)) f
+        → (r : Result Emitted AsmFault) → emitted m n e s ≡ r → unrefused r (λ z. emitted_from m (n + 1) z rest) ≡ Ok f → IsTied symbols (lines + length (s ∷ rest)) f
     by again (Ok z) was k' =
         let same : lines + 1 + length rest ≡ lines + length (s ∷ rest) = omega arith in
         subst (λ l. IsTied symbols l f) same (again z (tied_more m symbols lines n e z s has t was) k')

@@ -24,7 +24,7 @@ use Rattle.asm_text.specs.declared.statement.Statement.TheVariants.{Section, Lab
 use Rattle.asm_text.specs.Encoding.{is_coded}
 use Rattle.texts.specs.Words.{is_space, words}
 use Rattle.asm_text.specs.Lines.{coded, width_of, base_of, two_op_of, one_op_of, cond_of, one_coded, two_coded, kind_of, section_of, even_size, space_of, unit_of, alone, jump_or_one, with_one, two_operands, with_two, by_words, statement_of}
-use Rattle.asm_text.specs.Operands.{behind, before, name_of, field_by, field_of, register_of, of_field, plain, number_by, number_of, indirect_by, indirect_of, indexed_at, indexed_by, without_end, indexed_of, register_operand, absolute_of, behind_or, operand_of}
+use Rattle.asm_text.specs.Operands.{behind, before, name_of, field_by, field_of, register_of, of_field, plain, number_by, immediate_of, indirect_by, indirect_of, indexed_at, indexed_by, without_end, indexed_of, register_operand, absolute_of, behind_or, operand_of}
 use Rattle.asm_text.specs.Parts.{is_name}
 use Rattle.asm_text.specs.Statements.{OperandValue}
 
@@ -77,8 +77,8 @@ of_field_named : (make : ℕ → Operand) (f : Field (List ℕ)) → NamedField 
 of_field_named make (Number n) h = tt
 of_field_named make (Name name) h = h
 
-number_some : (text : List ℕ) (v : OperandValue) → number_of text ≡ Some v → NamedOption v.name
-unfolding number_of
+number_some : (text : List ℕ) (v : OperandValue) → immediate_of text ≡ Some v → NamedOption v.name
+unfolding immediate_of
 number_some text v e = by (bytes_eq text (codes "-1")) e
   where
     by_field : (o : Option (Field (List ℕ))) → field_of text ≡ o → number_by o text ≡ Some v → NamedOption v.name
@@ -120,7 +120,7 @@ operand_some : (text : List ℕ) (v : OperandValue) → operand_of text ≡ Some
 unfolding operand_of
 operand_some text v e = by (behind (codes "r") text) (behind (codes "#") text) (behind (codes "&") text) (behind (codes "@r") text) (behind (codes "0x") text) e
   where
-    by : (c d f g h : Option (List ℕ)) → behind_or c register_operand (behind_or d number_of (behind_or f absolute_of (behind_or g indirect_of (behind_or h indexed_of None)))) ≡ Some v → NamedOption v.name
+    by : (c d f g h : Option (List ℕ)) → behind_or c register_operand (behind_or d immediate_of (behind_or f absolute_of (behind_or g indirect_of (behind_or h indexed_of None)))) ≡ Some v → NamedOption v.name
     by (Some rest) d f g h k = plain_some Reg (register_of rest) v k
     by None (Some rest) f g h k = number_some rest v k
     by None None (Some rest) g h k = absolute_some rest v k

@@ -14,7 +14,7 @@ use Rattle.asm_text.specs.declared.unit.AsmRelocation.{AsmRelocation}
 use Rattle.asm_text.specs.declared.unit.SectionKind.{SectionKind}
 use Rattle.asm_text.specs.Encoding.{word_bytes, code_bytes}
 use Rattle.asm_text.specs.Parts.{SectionValue}
-use Rattle.asm_text.specs.Placing.{spot_of}
+use Rattle.asm_text.specs.Placing.{spot_of, unrefused}
 use Rattle.asm_text.specs.Statements.{size_of}
 
 -- the names of the sections, and of each name where its label stands, and the place of its symbol
@@ -119,10 +119,6 @@ emitted m n e (Label name) = Ok e
 emitted m n e (Global name) = Ok e
 emitted m n e s = in_last m n e (slice_get e.sections (length e.sections - 1)) s
 
-abbrev pub emitted_next : Result Emitted AsmFault → (Emitted → Result Emitted AsmFault) → Result Emitted AsmFault
-emitted_next (Ok e) rest = rest e
-emitted_next (Err fault) rest = Err fault
-
 abbrev pub emitted_from : Meanings → ℕ → Emitted → List (Statement ℕ) → Result Emitted AsmFault
 emitted_from m n e [] = Ok e
-emitted_from m n e (s ∷ ss) = emitted_next (emitted m n e s) (λ f. emitted_from m (n + 1) f ss)
+emitted_from m n e (s ∷ ss) = unrefused (emitted m n e s) (λ f. emitted_from m (n + 1) f ss)

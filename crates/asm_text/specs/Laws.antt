@@ -6,7 +6,7 @@ use Rattle.insn_decode.specs.declared.insn.Insn.{Insn}
 use Rattle.insn_decode.specs.declared.insn.Insn.TheVariants.{Two, One, Jump}
 use Rattle.insn_decode.specs.Code.{insn_of, length_of, IsDecoded}
 use Rattle.insn_decode.specs.Means.{Means}
-use Rattle.insn_decode.specs.Text.{text_of}
+use Rattle.insn_decode.specs.Text.{insn_text}
 use Rattle.asm_text.specs.declared.statement.Statement.TheVariants.{Code}
 use Rattle.asm_text.specs.Emission.{reach, is_near, jump_word}
 use Rattle.asm_text.specs.Encoding.{extensions, words_of, is_coded, IsMeant}
@@ -45,7 +45,7 @@ AreWords words = All (λ word. word < 65536) words
 -- The text that `show` writes of such an instruction, at any address, is read as that instruction, which its words mean.
 abbrev pub ShownIsRead : Type 0
 ShownIsRead = (insn : Insn) (at : ℕ) → IsDecoded insn → is_placeless insn ≡ true → AreWords (extensions insn) →
-    (statement_of (text_of insn at) ≡ Some (Code insn None None)) × IsMeant insn
+    (statement_of (insn_text insn at) ≡ Some (Code insn None None)) × IsMeant insn
 
 abbrev pub is_jump : Insn → Bool
 is_jump (Jump cond offset) = true

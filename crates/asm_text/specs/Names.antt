@@ -7,8 +7,8 @@ use Rattle.asm_text.specs.declared.statement.Statement.{Statement}
 use Rattle.asm_text.specs.declared.statement.Statement.TheVariants.{Section, Label, Global, Word, Space, Jump, Code}
 
 -- where a name stands in a list of names, and the length of the list where it does not
-abbrev pub place_of : List (List ℕ) → List ℕ → ℕ
-place_of names name = position_or_len (λ n. bytes_eq n name) names
+abbrev pub name_number : List (List ℕ) → List ℕ → ℕ
+name_number names name = position_or_len (λ n. bytes_eq n name) names
 
 abbrev pub noted_by : Bool → List (List ℕ) → List ℕ → List (List ℕ)
 noted_by true names name = names
@@ -34,7 +34,7 @@ noted_option names (Some name) = noted names name
 
 abbrev pub number_option : List (List ℕ) → Option (List ℕ) → Option ℕ
 number_option names None = None
-number_option names (Some name) = Some (place_of names name)
+number_option names (Some name) = Some (name_number names name)
 
 -- the tables with the names of a statement
 abbrev pub tables_after : Tables → Statement (List ℕ) → Tables
@@ -49,11 +49,11 @@ tables_after t (Code insn first second) = record { sections = t.sections; names 
 
 -- a statement that follows those of the tables, with its names by their numbers
 abbrev pub numbered : Tables → Statement (List ℕ) → Statement ℕ
-numbered t (Section name kind) = Section (place_of t.sections name) kind
-numbered t (Label name) = Label (place_of t.names name)
-numbered t (Global name) = Global (place_of t.names name)
-numbered t (Word (Name name)) = Word (Name (place_of t.names name))
+numbered t (Section name kind) = Section (name_number t.sections name) kind
+numbered t (Label name) = Label (name_number t.names name)
+numbered t (Global name) = Global (name_number t.names name)
+numbered t (Word (Name name)) = Word (Name (name_number t.names name))
 numbered t (Word (Number n)) = Word (Number n)
 numbered t (Space size) = Space size
-numbered t (Jump cond target) = Jump cond (place_of t.names target)
+numbered t (Jump cond target) = Jump cond (name_number t.names target)
 numbered t (Code insn first second) = Code insn (number_option t.names first) (number_option (noted_option t.names first) second)

@@ -48,8 +48,8 @@ abbrev pub number_by : Option (Field (List ℕ)) → List ℕ → Option Operand
 number_by (Some field) text = Some (of_field Imm field)
 number_by None text = option_map (λ n. plain (Const n)) (read_decimal 8 text)
 
-unfoldable pub number_of : List ℕ → Option OperandValue
-number_of text = if bytes_eq text (codes "-1") then Some (plain (Const 65535)) else number_by (field_of text) text
+unfoldable pub immediate_of : List ℕ → Option OperandValue
+immediate_of text = if bytes_eq text (codes "-1") then Some (plain (Const 65535)) else number_by (field_of text) text
 
 -- behind `@r`: a register, and `+` where it rises
 abbrev pub indirect_by : Option (List ℕ) → List ℕ → Option OperandValue
@@ -93,7 +93,7 @@ behind_or None read other = other
 unfoldable pub operand_of : List ℕ → Option OperandValue
 operand_of text =
     behind_or (behind (codes "r") text) register_operand
-    (behind_or (behind (codes "#") text) number_of
+    (behind_or (behind (codes "#") text) immediate_of
     (behind_or (behind (codes "&") text) absolute_of
     (behind_or (behind (codes "@r") text) indirect_of
     (behind_or (behind (codes "0x") text) indexed_of None))))

@@ -69,10 +69,11 @@ placed n p s = in_section n p (last_head p.heads) s
 
 -- ---- all lines
 
-abbrev pub placed_next : Result Placed AsmFault → (Placed → Result Placed AsmFault) → Result Placed AsmFault
-placed_next (Ok p) rest = rest p
-placed_next (Err fault) rest = Err fault
+-- what follows, where nothing was refused
+abbrev pub unrefused : {A : Type 0} → Result A AsmFault → (A → Result A AsmFault) → Result A AsmFault
+unrefused (Ok a) rest = rest a
+unrefused (Err fault) rest = Err fault
 
 abbrev pub placed_from : ℕ → Placed → List (Statement ℕ) → Result Placed AsmFault
 placed_from n p [] = Ok p
-placed_from n p (s ∷ ss) = placed_next (placed n p s) (λ q. placed_from (n + 1) q ss)
+placed_from n p (s ∷ ss) = unrefused (placed n p s) (λ q. placed_from (n + 1) q ss)

@@ -35,7 +35,7 @@ impl<'a> Names<'a> {
     /// The number of a name, which is noted where it was not there.
     pub fn number(&mut self, name: &'a [u8]) -> Result<usize, AllocError>
         requires indexed { IsIndexed self.old }
-        ensures number { IfOk result (λ number. number ≡ spec.place_of (texts_of self.old) name.entry.now) }
+        ensures number { IfOk result (λ number. number ≡ spec.name_number (texts_of self.old) name.entry.now) }
         ensures noted { OnOk result (texts_of self.new ≡ spec.noted (texts_of self.old) name.entry.now) }
         ensures indexed { OnOk result (IsIndexed self.new) }
     {

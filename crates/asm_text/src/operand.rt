@@ -99,9 +99,9 @@ fn register_operand<'a>(text: &[u8]) -> Option<Value<'a>>
 }
 
 // What stands behind `#`: -1, a number of four digits or a name, or a small number.
-#[tactic(auto, unfolding(crate::specs::Operands::number_of))]
-fn number_of(text: &[u8]) -> Option<Value<'_>>
-    ensures { option_map value_of result ≡ spec.number_of text.now }
+#[tactic(auto, unfolding(crate::specs::Operands::immediate_of))]
+fn immediate_of(text: &[u8]) -> Option<Value<'_>>
+    ensures { option_map value_of result ≡ spec.immediate_of text.now }
 {
     if text == b"-1".as_slice() {
         return Some(plain(Operand::Const(0xffff)));
@@ -172,7 +172,7 @@ pub fn operand_of(text: &[u8]) -> Option<Value<'_>>
     if let Some(rest) = text.strip_prefix(b"r") {
         register_operand(rest)
     } else if let Some(rest) = text.strip_prefix(b"#") {
-        number_of(rest)
+        immediate_of(rest)
     } else if let Some(rest) = text.strip_prefix(b"&") {
         absolute_of(rest)
     } else if let Some(rest) = text.strip_prefix(b"@r") {

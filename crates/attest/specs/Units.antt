@@ -28,7 +28,7 @@ pub data UnitName : Type 0 where
   CallerId : UnitName
 
 abbrev pub unit_named : ℕ → UnitName
-unit_named n = nth n (Unprotect ∷ Protect ∷ Attest ∷ Tag ∷ IdOf ∷ OwnId ∷ CallerId ∷ []) OwnId
+unit_named n = nth n (Unprotect ∷ Protect ∷ Attest ∷ Tag ∷ IdOf ∷ OwnId ∷ []) CallerId
 
 -- the one who does it: its module, or none outside; its caller's id; the table; and the node's key
 pub record Doer : Type 0 where

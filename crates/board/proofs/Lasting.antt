@@ -114,6 +114,6 @@ pub executed_lasting : (insn : Insn) (core : List ℕ) (inside : Bool) (m : Mach
     lasting_of (record m { port = q }) ≡ lasting_of m
 executed_lasting insn core inside m q e =
     let g = take_reads (port_of m.port) (reads_of (plan insn core)) in
-    let d = does insn core g.values inside in
+    let d = does insn core g.value inside in
     ap (λ (r : Surroundings). lasting_of (record m { port = r })) (e ∙ ap (λ (t : AfterThrough Surroundings). t.state) (through_is insn core inside m.port))
     ∙ ap (at_schedule m) (writes_schedule g.port (writes_of (plan insn core)) d.stored ∙ reads_schedule (port_of m.port) (reads_of (plan insn core)))

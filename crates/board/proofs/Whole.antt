@@ -10,7 +10,7 @@ use Rattle.pc_access.specs.declared.Rule.TheVariants.{Illegal}
 use Rattle.cpu_step.specs.Fetched.{insn_at}
 use Rattle.written_machine.specs.State.{State}
 use Rattle.mod_layout.specs.Table.{Table}
-use Rattle.written_machine.specs.Cycle.{pc_of, byte_of, home_word, is_home, stopped, act_by, act_on, act_first, act_home, act}
+use Rattle.written_machine.specs.Cycle.{pc_of, byte_of, home_word, is_home, stopped, act_on, act_first, act_home, act}
 
 -- no instruction by any later words
 pub act_none : (s : State) (v1 v2 : ℕ) → insn_of (word_at (byte_of s) (pc_of s)) v1 v2 ≡ None → act s ≡ stopped Illegal (pc_of s) 0 s
@@ -62,7 +62,7 @@ near : (t : Table) (active : Option ℕ) (pc n k : ℕ) → k < n → home_word 
 near t active pc n k l h = grind (arith, nat_tests)
 
 -- where all its words are at home, it is done
-pub home_done : (s : State) (insn : Insn) → insn_of (word_at (byte_of s) (pc_of s)) (word_at (byte_of s) (add16 (pc_of s) 2)) (word_at (byte_of s) (add16 (pc_of s) 4)) ≡ Some insn → is_home s.table s.active (pc_of s) (length_of insn) ≡ true → act_home (is_home s.table s.active (pc_of s) (length_of insn)) (length_of insn) s ≡ act_by insn s
+pub home_done : (s : State) (insn : Insn) → insn_of (word_at (byte_of s) (pc_of s)) (word_at (byte_of s) (add16 (pc_of s) 2)) (word_at (byte_of s) (add16 (pc_of s) 4)) ≡ Some insn → is_home s.table s.active (pc_of s) (length_of insn) ≡ true → act_home (is_home s.table s.active (pc_of s) (length_of insn)) (length_of insn) s ≡ act_on (Some insn) s
 home_done s insn e h =
     let n : ℕ = length_of insn in
     let one : 1 < n → word_at (byte_of s) (add16 (pc_of s) 2) ≡ word_at (byte_of s) (pc_of s + 2) =

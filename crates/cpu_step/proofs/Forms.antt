@@ -1,5 +1,5 @@
 -- The definitions of one instruction, unfolded once, over the values that a step of the code has computed.
-use Rattle.std.proofs.Common.{◌≡◌, ℕ, ◌*◌, List, ◌++◌, sym, ap, ◌∙◌, Bool, true, Option}
+use Rattle.std.proofs.Common.{◌≡◌, ℕ, ◌*◌, List, ◌++◌, refl, sym, ap, ◌∙◌, Bool, true, Option}
 use Rattle.std.specs.Prelude.{ℤ}
 use Rattle.sm_words.specs.Words.{reg, bit, add16}
 use Rattle.sm_words.specs.declared.registers.TheConstants.{PC, SP, SR}
@@ -11,10 +11,17 @@ use Rattle.insn_decode.specs.declared.insn.Insn.TheVariants.{Two, One, Jump}
 use Rattle.insn_decode.specs.declared.insn.OneOp.{OneOp}
 use Rattle.insn_decode.specs.declared.insn.Operand.{Operand}
 use Rattle.insn_decode.specs.declared.insn.TwoOp.{TwoOp}
+use Rattle.insn_decode.specs.declared.insn.TwoOp.TheVariants.{Mov}
 use Rattle.pc_access.specs.declared.Kind.TheVariants.{Read, Write}
 use Rattle.cpu_step.specs.Plan.{past, place, stepped, lowered, access_if, reads_dst, writes_dst, one_writes, plan}
-use Rattle.cpu_step.specs.Effect.{given, after_given, old_value, two_result, written, one_done, jumps, jumped, Done, does_freely}
+use Rattle.cpu_step.specs.Effect.{given, after_given, two_result, written, one_done, jumps, jumped, Done, does_freely}
 use Rattle.cpu_step.specs.declared.result.Computed.{Computed}
+use Rattle.cpu_step.specs.internal.Through.{old_value}
+
+-- no result takes the old value of a destination that is not read
+unread : (op : TwoOp) (w : Width) (a b c : ℕ) → two_result op w a (old_value (reads_dst op) b) c ≡ two_result op w a b c
+unread Mov w a b c = refl
+unread _ w a b c = refl
 
 module _ (insn : Insn) (core values : List ℕ) where
   pub two_form : (op : TwoOp) (w : Width) (s d : Operand) (core1 core2 : List ℕ) (a b c : ℕ) (r : Computed) →
@@ -24,11 +31,12 @@ module _ (insn : Insn) (core values : List ℕ) where
   unfolding does_freely
   two_form op w s d core1 core2 a b c r e0 e1 ea e2 eb ec er =
       let out : Computed → List ℕ → Done = λ r y. written (writes_dst op) d r y in
-      let old : List ℕ → ℕ = λ y. old_value (reads_dst op) (given d w y (after_given s values)) in
+      let old : List ℕ → ℕ = λ y. given d w y (after_given s values) in
       let first : core1 ≡ past (Two op w s d) core = e1 ∙ ap (λ i. past i core) e0 in
       ap (λ r. out r core2) er
       ∙ ap (λ x. out (two_result op w a b x) core2) ec
       ∙ ap (λ x. out (two_result op w a x (bit CARRY (reg core SR))) core2) eb
+      ∙ ap (λ x. out x core2) (unread op w a (old core2) (bit CARRY (reg core SR)))
       ∙ ap (λ x. out (two_result op w x (old core2) (bit CARRY (reg core SR))) core2) ea
       ∙ ap (λ y. out (two_result op w (given s w core1 values) (old y) (bit CARRY (reg core SR))) y) e2
       ∙ ap (λ x. out (two_result op w (given s w x values) (old (stepped w s x)) (bit CARRY (reg core SR))) (stepped w s x)) first

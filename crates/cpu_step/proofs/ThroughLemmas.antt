@@ -24,10 +24,10 @@ use Rattle.pc_access.specs.Rights.{misaligned}
 use Rattle.pc_access.specs.declared.Access.{Access}
 use Rattle.pc_access.specs.declared.Kind.TheVariants.{Read, Write}
 use Rattle.cpu_step.specs.Plan.{past, place, stepped, lowered, access_if, reads_dst, writes_dst, one_writes, plan}
-use Rattle.cpu_step.specs.Effect.{given, in_memory, after_given, old_value, two_result, written, one_done, set_flags, value_of, Done, does_freely}
+use Rattle.cpu_step.specs.Effect.{given, in_memory, after_given, two_result, written, one_done, set_flags, value_of, Done, does_freely}
 use Rattle.cpu_step.specs.declared.result.Computed.{Computed}
 use Rattle.cpu_step.specs.Through.{AreAligned, Taken, taken, stored_in}
-use Rattle.cpu_step.specs.internal.Through.{freely_through}
+use Rattle.cpu_step.specs.internal.Through.{freely_through, old_value}
 use Rattle.cpu_step.proofs.Forms.{plan_two_form, plan_one_form, two_form, one_form}
 
 -- a test of each

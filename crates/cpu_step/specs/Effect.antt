@@ -17,7 +17,7 @@ use Rattle.insn_decode.specs.declared.insn.Operand.{Operand}
 use Rattle.insn_decode.specs.declared.insn.Operand.TheVariants.{Reg, Const, Imm}
 use Rattle.insn_decode.specs.declared.insn.TwoOp.{TwoOp}
 use Rattle.insn_decode.specs.declared.insn.TwoOp.TheVariants.{Mov, Add, Addc, Subc, Sub, Cmp, Dadd, Bit, Bic, Bis, Xor, And}
-use Rattle.cpu_step.specs.Plan.{past, stepped, lowered, reads_dst, writes_dst}
+use Rattle.cpu_step.specs.Plan.{past, stepped, lowered, writes_dst}
 use Rattle.cpu_step.specs.declared.result.Computed.{Computed}
 use Rattle.cpu_step.specs.declared.result.Computed.TheVariants.{Plain, Flagged}
 
@@ -102,7 +102,7 @@ written false _ res core = record { core = set_flags res core; stored = [] }
 abbrev pub jumps : ℕ → ℕ → Bool
 jumps cond sr =
     let c = bit CARRY sr in let z = bit ZERO sr in let n = bit NEGATIVE sr in let v = bit OVERFLOW sr in
-    nth cond ((z == 0) ∷ (z == 1) ∷ (c == 0) ∷ (c == 1) ∷ (n == 1) ∷ (n == v) ∷ not (n == v) ∷ true ∷ []) false
+    nth cond ((z == 0) ∷ (z == 1) ∷ (c == 0) ∷ (c == 1) ∷ (n == 1) ∷ (n == v) ∷ not (n == v) ∷ []) true
 
 -- the core past a jump that is taken, or not
 abbrev pub jumped : Bool → ℤ → List ℕ → List ℕ
@@ -112,11 +112,6 @@ jumped false offset core = core
 -- the core that RETI leaves: SR and PC are what it read, and SP rises by 4
 abbrev pub returned : ℕ → ℕ → List ℕ → List ℕ
 returned sr pc core = put (put (put core SR sr) PC pc) SP (add16 (reg core SP) 4)
-
--- the old value of a destination that is read, and else 0
-abbrev pub old_value : Bool → ℕ → ℕ
-old_value true v = v
-old_value false v = 0
 
 -- format II, where the operand is read and its increment is done: PUSH and CALL store at the lowered SP
 abbrev pub one_done : OneOp → Width → Operand → ℕ → ℕ → List ℕ → Done
@@ -131,7 +126,7 @@ does_freely (Two op w s d) core values =
     let core2 = stepped w s core1 in
     let a = given s w core1 values in
     let b = given d w core2 (after_given s values) in
-    written (writes_dst op) d (two_result op w a (old_value (reads_dst op) b) (bit CARRY (reg core SR))) core2
+    written (writes_dst op) d (two_result op w a b (bit CARRY (reg core SR))) core2
 does_freely (One op w arg) core values =
     let core1 = past (One op w arg) core in
     one_done op w arg (given arg w core1 values) (bit CARRY (reg core SR)) (stepped w arg core1)

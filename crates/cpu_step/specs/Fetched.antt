@@ -1,7 +1,7 @@
 -- The instruction at an address, over any memory that gives the byte at an address.
 use Rattle.std.specs.Prelude.{ℕ, ◌+◌, ◌*◌, nat_lt, if◌then◌else◌, Bool, ◌&&◌, ◌||◌, not, Option, Some, None}
 use Rattle.sm_words.specs.Words.{word_at}
-use Rattle.insn_decode.specs.Code.{insn_of, length_of}
+use Rattle.insn_decode.specs.Code.{insn_of, begun_by, length_of}
 use Rattle.insn_decode.specs.declared.insn.Insn.{Insn}
 use Rattle.mod_layout.specs.declared.Section.{Section}
 use Rattle.mod_layout.specs.Table.{holds}
@@ -26,4 +26,4 @@ insn_from (Some first) byte s pc =
 
 -- the instruction at an address of a section, where all its words are in the section
 abbrev pub insn_in : (ℕ → ℕ) → Section → ℕ → Option Insn
-insn_in byte s pc = insn_from (insn_of (word_at byte pc) 0 0) byte s pc
+insn_in byte s pc = insn_from (begun_by (word_at byte pc)) byte s pc

@@ -32,13 +32,13 @@ place (Increment r) core ext = Some (reg core r)
 place _ core ext = None
 
 -- by how much a register rises past its operand: SP by 2 always
-abbrev pub step_of : Width → ℕ → ℕ
-step_of Byte r = if r == SP then 2 else 1
-step_of Word r = 2
+abbrev pub increment_of : Width → ℕ → ℕ
+increment_of Byte r = if r == SP then 2 else 1
+increment_of Word r = 2
 
 -- the core after an operand's increment
 abbrev pub stepped : Width → Operand → List ℕ → List ℕ
-stepped w (Increment r) core = put core r (add16 (reg core r) (step_of w r))
+stepped w (Increment r) core = put core r (add16 (reg core r) (increment_of w r))
 stepped w _ core = core
 
 -- the core once SP is lowered by 2

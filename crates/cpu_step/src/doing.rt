@@ -7,9 +7,9 @@ ghost use Rattle.sm_words.specs.declared.registers.TheConstants.{SP};
 ghost use Rattle.pc_access.specs.declared.Kind.TheVariants.{Read, Write};
 ghost use Rattle.pc_access.specs.Rights.{misaligned};
 ghost use Rattle.cpu_step.specs.Plan.{access_if, lowered, one_writes, plan, reads_dst, writes_dst};
-ghost use Rattle.cpu_step.specs.Effect.{given, in_memory, old_value, one_done, written};
+ghost use Rattle.cpu_step.specs.Effect.{given, in_memory, one_done, written};
 ghost use Rattle.cpu_step.specs.Through.{AreAligned, stored_in, taken};
-ghost use Rattle.cpu_step.specs.internal.Through.{freely_through};
+ghost use Rattle.cpu_step.specs.internal.Through.{freely_through, old_value};
 
 use crate::accesses::{
     extension, lower, reads_destination, second_extension, step_past, writes_destination,

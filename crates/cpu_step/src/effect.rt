@@ -56,8 +56,7 @@ fn jumps(cond: u8, sr: u16) -> bool
         4 => n,
         5 => n == v,
         6 => n != v,
-        7 => true,
-        _ => false,
+        _ => true,
     }
 }
 

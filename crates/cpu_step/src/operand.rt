@@ -1,7 +1,7 @@
 //! Operands: where they stand, and what they give.
 
 ghost use Rattle.std.specs.Prelude.{◌≡◌, List, ℕ, false};
-ghost use Rattle.cpu_step.specs.Plan.{place, step_of, stepped};
+ghost use Rattle.cpu_step.specs.Plan.{place, increment_of, stepped};
 ghost use Rattle.cpu_step.specs.Effect.{given, in_memory};
 
 use insn_decode::Operand;
@@ -23,7 +23,7 @@ pub fn place(operand: Operand, core: &Core, ext: u16) -> Option<u16>
 
 /// By how much a register rises past its operand.
 fn step(width: Width, reg: u8) -> u16
-    ensures { result ≡ step_of width reg }
+    ensures { result ≡ increment_of width reg }
 {
     match width {
         Width::Byte if reg != SP => 1,

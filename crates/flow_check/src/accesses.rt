@@ -4,7 +4,7 @@ ghost use Rattle.std.specs.Prelude.{◌≡◌, true, ◌+◌, ◌*◌, ◌<◌, 
 ghost use Rattle.arrayvec.specs.ArrayVec.{array_vec_len};
 ghost use Rattle.sm_words.specs.Words.{add16};
 ghost use Rattle.insn_decode.specs.Code.{words_of};
-ghost use Rattle.cpu_step.specs.Plan.{step_of, reads_dst, writes_dst};
+ghost use Rattle.cpu_step.specs.Plan.{increment_of, reads_dst, writes_dst};
 ghost use Rattle.flow_rule.specs.Does.{place_val, past_val, stepped_val, lowered_val, reach_if, one_reach, plan_val};
 
 use crate::domain::{Core, get, plus, put};
@@ -31,7 +31,7 @@ pub fn lower(core: &mut Core)
 
 /// By how much a register rises past its operand.
 fn step(width: Width, reg: u8) -> u16
-    ensures { result ≡ step_of width reg }
+    ensures { result ≡ increment_of width reg }
 {
     match width {
         Width::Byte if reg != 1 => 1,

@@ -4,7 +4,7 @@ use Rattle.std.proofs.lemmas.List.{set-set}
 use Rattle.sm_words.specs.Words.{nth, add16, bit, word_at}
 use Rattle.insn_decode.specs.Code.{words_of, distance}
 use Rattle.cpu_step.specs.Effect.{value_of, two_result, one_result, in_memory}
-use Rattle.cpu_step.specs.Plan.{step_of, reads_dst, writes_dst}
+use Rattle.cpu_step.specs.Plan.{increment_of, reads_dst, writes_dst}
 use Rattle.sm_words.specs.declared.width.Width.{Width}
 use Rattle.sm_words.specs.declared.width.Width.TheVariants.{Byte, Word}
 use Rattle.insn_decode.specs.declared.insn.TwoOp.{TwoOp}
@@ -45,7 +45,7 @@ place_keeps (Imm x) ts vs ext p = tt
 stepped_keeps : (w : Width) (o : Operand) (ts vs : List Val) → AbsorbsEach ts vs →
     AbsorbsEach (stepped_val w o ts) (stepped_val w o vs)
 stepped_keeps w (Increment r) ts vs p =
-    put_keeps ts vs r _ _ p (over_one_keeps (λ v. add16 v (step_of w r)) (val ts r) (val vs r) (nth_keeps ts vs r p))
+    put_keeps ts vs r _ _ p (over_one_keeps (λ v. add16 v (increment_of w r)) (val ts r) (val vs r) (nth_keeps ts vs r p))
 stepped_keeps w o ts vs p = p
 
 lowered_keeps : (ts vs : List Val) → AbsorbsEach ts vs → AbsorbsEach (lowered_val ts) (lowered_val vs)

@@ -1,10 +1,10 @@
 use Rattle.arm_balance.specs.Met.{text_byte, met}
 -- An increment that was decoded is none of SR.
 use Rattle.std.proofs.Common.{◌≡◌, ◌≢◌, ℕ, zero, suc, ◌<◌, ◌-◌, ◌/◌, ◌%◌, List, [], ◌∷◌, refl, subst, arith, Bool, true, false, cond, nat_lt, ◌==◌, ◌&&◌, Option, Some, None}
-use Rattle.std.specs.Prelude.{slice_get}
+use Rattle.std.specs.Prelude.{slice_get, option_and_then}
 use Rattle.std.proofs.lemmas.Bool.Decides.{nat_tests}
 use Rattle.sm_words.specs.Words.{word_at, nth}
-use Rattle.insn_decode.specs.Code.{source_row, source_of, dest_of, words_of, width_of, two_ops, one_ops, two_and, two_with, two_of, one_fits, one_with, one_of, insn_of, length_of, offset_of}
+use Rattle.insn_decode.specs.Code.{source_row, source_of, dest_of, words_of, width_of, two_ops, one_ops, two_of, one_fits, one_of, insn_of, length_of, offset_of}
 use Rattle.sm_words.specs.declared.width.Width.{Width}
 use Rattle.insn_decode.specs.declared.insn.TwoOp.{TwoOp}
 use Rattle.insn_decode.specs.declared.insn.OneOp.{OneOp}
@@ -72,11 +72,11 @@ two_fine : (op : Option TwoOp) (w0 w1 w2 : ℕ) → Fine (two_of op w0 w1 w2)
 two_fine None w0 w1 w2 = fine_none
 two_fine (Some op) w0 w1 w2 = by (source_of ((w0 / 16) % 4) ((w0 / 256) % 16) w1) (source_good ((w0 / 16) % 4) ((w0 / 256) % 16) w1) (λ s. dest_of ((w0 / 128) % 2) (w0 % 16) (cond (words_of s == 1) w2 w1))
   where
-    and_dest : (s : Operand) → Regular s → (d : Option Operand) → Fine (two_and op (width_of ((w0 / 64) % 2)) s d)
+    and_dest : (s : Operand) → Regular s → (d : Option Operand) → Fine (option_and_then (λ d. Some (Two op (width_of ((w0 / 64) % 2)) s d)) d)
     and_dest s h None = fine_none
     and_dest s h (Some d) = fine_some (Two op (width_of ((w0 / 64) % 2)) s d) h
 
-    by : (o : Option Operand) → Good o → (dest : Operand → Option Operand) → Fine (two_with op (width_of ((w0 / 64) % 2)) o dest)
+    by : (o : Option Operand) → Good o → (dest : Operand → Option Operand) → Fine (option_and_then (λ s. option_and_then (λ d. Some (Two op (width_of ((w0 / 64) % 2)) s d)) (dest s)) o)
     by None h dest = fine_none
     by (Some s) h dest = and_dest s (h s refl) (dest s)
 
@@ -93,7 +93,7 @@ one_fine : (op : Option OneOp) (w0 w1 : ℕ) → Fine (one_of op w0 w1)
 one_fine None w0 w1 = fine_none
 one_fine (Some op) w0 w1 = by (source_of ((w0 / 16) % 4) (w0 % 16) w1) (source_good ((w0 / 16) % 4) (w0 % 16) w1)
   where
-    by : (o : Option Operand) → Good o → Fine (one_with op (width_of ((w0 / 64) % 2)) o)
+    by : (o : Option Operand) → Good o → Fine (option_and_then (λ a. cond (one_fits op (width_of ((w0 / 64) % 2)) a) (Some (One op (width_of ((w0 / 64) % 2)) a)) None) o)
     by None h = fine_none
     by (Some a) h = fits (one_fits op (width_of ((w0 / 64) % 2)) a) refl
       where

@@ -7,7 +7,7 @@ use Rattle.insn_decode.specs.Code.{words_of, length_of, distance}
 use Rattle.sm_words.specs.Status.{has_all_flags}
 use Rattle.sm_words.specs.Sums.{low}
 use Rattle.cpu_step.specs.Effect.{value_of, two_result, one_result, in_memory}
-use Rattle.cpu_step.specs.Plan.{step_of, reads_dst, writes_dst}
+use Rattle.cpu_step.specs.Plan.{increment_of, reads_dst, writes_dst}
 use Rattle.sm_words.specs.declared.width.Width.{Width}
 use Rattle.sm_words.specs.declared.width.Width.TheVariants.{Byte, Word}
 use Rattle.insn_decode.specs.declared.insn.TwoOp.{TwoOp}
@@ -42,7 +42,7 @@ abbrev pub past_val : Insn → ℕ → List Val → List Val
 past_val insn pc core = put_val core 0 (Known (add16 pc (2 * length_of insn)))
 
 abbrev pub stepped_val : Width → Operand → List Val → List Val
-stepped_val w (Increment r) core = put_val core r (over_one (λ v. add16 v (step_of w r)) (val core r))
+stepped_val w (Increment r) core = put_val core r (over_one (λ v. add16 v (increment_of w r)) (val core r))
 stepped_val w _ core = core
 
 abbrev pub lowered_val : List Val → List Val

@@ -1,7 +1,7 @@
 -- The code table as a function and as a relation are one.
 use Rattle.std.proofs.Common.{◌≡◌, ◌≢◌, ⊎_elim, ℕ, ◌+◌, ◌-◌, ◌/◌, ◌<◌, ◌≤◌, ◌%◌, refl, sym, ap, ◌∙◌, subst, arith, Bool, true, false, cond, ◌==◌, Option, Some, None}
 use Rattle.std.proofs.lemmas.Bool.{cases_eq, cases_lt}
-use Rattle.std.specs.Prelude.{slice_get}
+use Rattle.std.specs.Prelude.{slice_get, option_and_then}
 use Rattle.std.proofs.lemmas.Option.{same_Some}
 use Rattle.insn_decode.specs.declared.insn.TwoOp.{TwoOp}
 use Rattle.insn_decode.specs.declared.insn.TwoOp.TheVariants.{Mov}
@@ -10,7 +10,7 @@ use Rattle.insn_decode.specs.declared.insn.OneOp.TheVariants.{Rrc}
 use Rattle.insn_decode.specs.declared.insn.Operand.{Operand}
 use Rattle.insn_decode.specs.declared.insn.Insn.{Insn}
 use Rattle.insn_decode.specs.declared.insn.Insn.TheVariants.{Two, One, Jump, Reti, Unit as UnitOp}
-use Rattle.insn_decode.specs.Code.{insn_of, two_of, two_with, two_and, one_of, one_with, one_fits, two_ops, one_ops, offset_of, source_of, dest_of, width_of, words_of, length_of}
+use Rattle.insn_decode.specs.Code.{insn_of, two_of, one_of, one_fits, two_ops, one_ops, offset_of, source_of, dest_of, width_of, words_of, length_of}
 use Rattle.insn_decode.specs.Means.{two_code, one_code, Source, Means, format_one, format_two, jump, return, unit}
 use Rattle.insn_decode.proofs.Forms.{form_two, form_jump, form_return, form_unit, form_one, form_below, form_between}
 use Rattle.insn_decode.proofs.Rows.{apart, source_found, source_read, destination_found, destination_read, two_found, two_read, one_found, one_read}
@@ -20,13 +20,13 @@ use Rattle.insn_decode.proofs.Rows.{apart, source_found, source_read, destinatio
 two_means : (w0 w1 w2 : ℕ) (insn : Insn) → 16383 < w0 → two_of (slice_get two_ops (w0 / 4096 - 4)) w0 w1 w2 ≡ Some insn → Means w0 w1 w2 insn (length_of insn)
 two_means w0 w1 w2 insn h = with_op (slice_get two_ops (w0 / 4096 - 4)) refl
   where
-    with_dest : (op : TwoOp) → w0 / 4096 ≡ two_code op → (s : Operand) → Source ((w0 / 16) % 4) ((w0 / 256) % 16) w1 s → (d : Option Operand) → dest_of ((w0 / 128) % 2) (w0 % 16) (cond (words_of s == 1) w2 w1) ≡ d → two_and op (width_of ((w0 / 64) % 2)) s d ≡ Some insn → Means w0 w1 w2 insn (length_of insn)
+    with_dest : (op : TwoOp) → w0 / 4096 ≡ two_code op → (s : Operand) → Source ((w0 / 16) % 4) ((w0 / 256) % 16) w1 s → (d : Option Operand) → dest_of ((w0 / 128) % 2) (w0 % 16) (cond (words_of s == 1) w2 w1) ≡ d → option_and_then (λ d. Some (Two op (width_of ((w0 / 64) % 2)) s d)) d ≡ Some insn → Means w0 w1 w2 insn (length_of insn)
     with_dest op c s src None q e = absurd cc
     with_dest op c s src (Some d) q e =
         subst (λ (i : Insn). Means w0 w1 w2 i (length_of i)) (same_Some (Two op (width_of ((w0 / 64) % 2)) s d) insn e)
         (format_one op s d c src (destination_read ((w0 / 128) % 2) (w0 % 16) (cond (words_of s == 1) w2 w1) d (omega arith) q))
 
-    with_source : (op : TwoOp) → w0 / 4096 ≡ two_code op → (s : Option Operand) → source_of ((w0 / 16) % 4) ((w0 / 256) % 16) w1 ≡ s → two_with op (width_of ((w0 / 64) % 2)) s (λ s. dest_of ((w0 / 128) % 2) (w0 % 16) (cond (words_of s == 1) w2 w1)) ≡ Some insn → Means w0 w1 w2 insn (length_of insn)
+    with_source : (op : TwoOp) → w0 / 4096 ≡ two_code op → (s : Option Operand) → source_of ((w0 / 16) % 4) ((w0 / 256) % 16) w1 ≡ s → option_and_then (λ s. option_and_then (λ d. Some (Two op (width_of ((w0 / 64) % 2)) s d)) (dest_of ((w0 / 128) % 2) (w0 % 16) (cond (words_of s == 1) w2 w1))) s ≡ Some insn → Means w0 w1 w2 insn (length_of insn)
     with_source op c None q e = absurd cc
     with_source op c (Some s) q e = with_dest op c s (source_read ((w0 / 16) % 4) ((w0 / 256) % 16) w1 s q) (dest_of ((w0 / 128) % 2) (w0 % 16) (cond (words_of s == 1) w2 w1)) refl e
 
@@ -45,7 +45,7 @@ one_means w0 w1 w2 insn h = with_op (slice_get one_ops ((w0 / 128) % 8)) refl
         subst (λ (i : Insn). Means w0 w1 w2 i (length_of i)) (same_Some (One op (width_of ((w0 / 64) % 2)) a) insn e)
         (format_two op a h c src q)
 
-    with_source : (op : OneOp) → (w0 / 128) % 8 ≡ one_code op → (s : Option Operand) → source_of ((w0 / 16) % 4) (w0 % 16) w1 ≡ s → one_with op (width_of ((w0 / 64) % 2)) s ≡ Some insn → Means w0 w1 w2 insn (length_of insn)
+    with_source : (op : OneOp) → (w0 / 128) % 8 ≡ one_code op → (s : Option Operand) → source_of ((w0 / 16) % 4) (w0 % 16) w1 ≡ s → option_and_then (λ a. cond (one_fits op (width_of ((w0 / 64) % 2)) a) (Some (One op (width_of ((w0 / 64) % 2)) a)) None) s ≡ Some insn → Means w0 w1 w2 insn (length_of insn)
     with_source op c None q e = absurd cc
     with_source op c (Some a) q e = where_fits op c a (source_read ((w0 / 16) % 4) (w0 % 16) w1 a q) (one_fits op (width_of ((w0 / 64) % 2)) a) refl e
 
@@ -95,14 +95,14 @@ means_insn {w0} {w1} {w2} (format_one op s d c src dst) =
     let least : 4 ≤ two_code op = two_code_least op in (
       form_two w0 w1 w2 (omega arith)
           ∙ ap (λ (o : Option TwoOp). two_of o w0 w1 w2) (ap (λ (k : ℕ). slice_get two_ops (k - 4)) c ∙ two_found op)
-          ∙ ap (λ (o : Option Operand). two_with op (width_of ((w0 / 64) % 2)) o (λ s. dest_of ((w0 / 128) % 2) (w0 % 16) (cond (words_of s == 1) w2 w1))) (source_found src)
-          ∙ ap (λ (o : Option Operand). two_and op (width_of ((w0 / 64) % 2)) s o) (destination_found dst),
+          ∙ ap (λ (o : Option Operand). option_and_then (λ s. option_and_then (λ d. Some (Two op (width_of ((w0 / 64) % 2)) s d)) (dest_of ((w0 / 128) % 2) (w0 % 16) (cond (words_of s == 1) w2 w1))) o) (source_found src)
+          ∙ ap (λ (o : Option Operand). option_and_then (λ d. Some (Two op (width_of ((w0 / 64) % 2)) s d)) o) (destination_found dst),
       refl,
     )
 means_insn {w0} {w1} {w2} (format_two op a h c src fits) = (
   form_one w0 w1 w2 (omega arith) (omega arith) (not_return op c) (beyond op c)
       ∙ ap (λ (o : Option OneOp). one_of o w0 w1) (ap (slice_get one_ops) c ∙ one_found op)
-      ∙ ap (λ (o : Option Operand). one_with op (width_of ((w0 / 64) % 2)) o) (source_found src)
+      ∙ ap (λ (o : Option Operand). option_and_then (λ a. cond (one_fits op (width_of ((w0 / 64) % 2)) a) (Some (One op (width_of ((w0 / 64) % 2)) a)) None) o) (source_found src)
       ∙ ap (λ (b : Bool). cond b (Some (One op (width_of ((w0 / 64) % 2)) a)) None) fits,
   refl,
 )

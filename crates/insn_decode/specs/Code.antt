@@ -1,7 +1,8 @@
 -- The code table: what the words of an instruction mean, by quotients and remainders of the first
 -- (MSP430x1xx Family User's Guide SLAU049, sections 3.3 and 3.4; the unit instructions are this project's).
-use Rattle.std.specs.Prelude.{◌≡◌, ℕ, ◌+◌, ◌-◌, ◌*◌, ◌/◌, ◌%◌, ◌<◌, List, [], ◌∷◌, slice_get, ◌==◌, nat_lt, if◌then◌else◌, Bool, true, false, ◌&&◌, ◌||◌, Option, Some, None, ℤ, pos, negsuc, ◌-ℤ◌, IsTrue}
+use Rattle.std.specs.Prelude.{◌≡◌, ℕ, zero, suc, ◌+◌, ◌-◌, ◌*◌, ◌/◌, ◌%◌, ◌^◌, ◌<◌, List, [], ◌∷◌, slice_get, ◌==◌, nat_lt, if◌then◌else◌, Bool, true, false, ◌&&◌, ◌||◌, Option, Some, None, option_and_then, ℤ, pos, negsuc, ◌-ℤ◌, IsTrue}
 use Rattle.sm_words.specs.Words.{nth}
+use Rattle.sm_words.specs.declared.registers.TheConstants.{PC, SR, CG}
 use Rattle.sm_words.specs.declared.width.Width.{Width}
 use Rattle.sm_words.specs.declared.width.Width.TheVariants.{Byte, Word}
 use Rattle.insn_decode.specs.declared.insn.TwoOp.{TwoOp}
@@ -13,12 +14,17 @@ use Rattle.insn_decode.specs.declared.insn.Operand.TheVariants.{Reg, Const, Imm,
 use Rattle.insn_decode.specs.declared.insn.Insn.{Insn}
 use Rattle.insn_decode.specs.declared.insn.Insn.TheVariants.{Two, One, Jump, Reti, Unit as UnitOp}
 
+-- bits hi to lo of a word, numbered as in the Guide
+abbrev pub bits : ℕ → ℕ → ℕ → ℕ
+bits hi zero w = w % 2 ^ (hi + 1)
+bits hi (suc lo) w = w / 2 ^ suc lo % 2 ^ (hi - lo)
+
 -- a register's row of the source modes 0 to 3; x is the extension word
 abbrev pub source_row : ℕ → ℕ → List (Option Operand)
 source_row r x =
-    if r == 0 then Some (Reg 0) ∷ Some (Symbolic x) ∷ None ∷ Some (Imm x) ∷ []
-    else (if r == 2 then Some (Reg 2) ∷ Some (Absolute x) ∷ Some (Const 4) ∷ Some (Const 8) ∷ []
-    else (if r == 3 then Some (Const 0) ∷ Some (Const 1) ∷ Some (Const 2) ∷ Some (Const 65535) ∷ []
+    if r == PC then Some (Reg PC) ∷ Some (Symbolic x) ∷ None ∷ Some (Imm x) ∷ []
+    else (if r == SR then Some (Reg SR) ∷ Some (Absolute x) ∷ Some (Const 4) ∷ Some (Const 8) ∷ []
+    else (if r == CG then Some (Const 0) ∷ Some (Const 1) ∷ Some (Const 2) ∷ Some (Const 65535) ∷ []
     else Some (Reg r) ∷ Some (Indexed r x) ∷ Some (Indirect r) ∷ Some (Increment r) ∷ []))
 
 -- a source operand by its mode and register
@@ -28,7 +34,10 @@ source_of mode r x = nth mode (source_row r x) None
 -- a destination operand
 abbrev pub dest_of : ℕ → ℕ → ℕ → Option Operand
 dest_of mode r x =
-    if mode == 0 then Some (Reg r) else (if r == 3 then None else (if r == 0 then Some (Symbolic x) else (if r == 2 then Some (Absolute x) else Some (Indexed r x))))
+    if mode == 0 then Some (Reg r)
+    else (if r == CG then None
+    else (if r == PC then Some (Symbolic x)
+    else (if r == SR then Some (Absolute x) else Some (Indexed r x))))
 
 -- the number of extension words
 abbrev pub words_of : Operand → ℕ
@@ -56,21 +65,18 @@ two_ops = Mov ∷ Add ∷ Addc ∷ Subc ∷ Sub ∷ Cmp ∷ Dadd ∷ Bit ∷ Bic
 abbrev pub one_ops : List OneOp
 one_ops = Rrc ∷ Swpb ∷ Rra ∷ Sxt ∷ Push ∷ Call ∷ []
 
--- with a destination, if there is one
-abbrev pub two_and : TwoOp → Width → Operand → Option Operand → Option Insn
-two_and op w s None = None
-two_and op w s (Some d) = Some (Two op w s d)
-
--- with a source, if there is one
-abbrev pub two_with : TwoOp → Width → Option Operand → (Operand → Option Operand) → Option Insn
-two_with op w None dest = None
-two_with op w (Some s) dest = two_and op w s (dest s)
+-- where a part has no meaning, the whole has none
+infixl 10 ◌>>=◌
+abbrev pub ◌>>=◌ : {A B : Type 0} → Option A → (A → Option B) → Option B
+part >>= rest = option_and_then rest part
 
 -- format I; the source's extension word stands before the destination's
 abbrev pub two_of : Option TwoOp → ℕ → ℕ → ℕ → Option Insn
-two_of None w0 w1 w2 = None
-two_of (Some op) w0 w1 w2 =
-    two_with op (width_of ((w0 / 64) % 2)) (source_of ((w0 / 16) % 4) ((w0 / 256) % 16) w1) (λ s. dest_of ((w0 / 128) % 2) (w0 % 16) (if words_of s == 1 then w2 else w1))
+two_of op w0 w1 w2 = do
+    op ← op
+    src ← source_of (bits 5 4 w0) (bits 11 8 w0) w1
+    dst ← dest_of (bits 7 7 w0) (bits 3 0 w0) (if words_of src == 1 then w2 else w1)
+    Some (Two op (width_of (bits 6 6 w0)) src dst)
 
 -- what format II takes: three operations have no byte form, and a result needs a place
 abbrev pub one_fits : OneOp → Width → Operand → Bool
@@ -83,15 +89,12 @@ one_fits op w (Imm x) = false
 one_fits op w (Const c) = false
 one_fits op w a = true
 
--- with an operand that it takes, if there is one
-abbrev pub one_with : OneOp → Width → Option Operand → Option Insn
-one_with op w None = None
-one_with op w (Some a) = if one_fits op w a then Some (One op w a) else None
-
 -- format II
 abbrev pub one_of : Option OneOp → ℕ → ℕ → Option Insn
-one_of None w0 w1 = None
-one_of (Some op) w0 w1 = one_with op (width_of ((w0 / 64) % 2)) (source_of ((w0 / 16) % 4) (w0 % 16) w1)
+one_of op w0 w1 = do
+    op ← op
+    arg ← source_of (bits 5 4 w0) (bits 3 0 w0) w1
+    if one_fits op (width_of (bits 6 6 w0)) arg then Some (One op (width_of (bits 6 6 w0)) arg) else None
 
 -- a jump's offset in words: ten bits, signed
 abbrev pub offset_of : ℕ → ℤ
@@ -106,11 +109,15 @@ distance (negsuc n) = 65536 - (2 * (n + 1)) % 65536
 unfoldable pub insn_of : ℕ → ℕ → ℕ → Option Insn
 insn_of w0 w1 w2 =
     if nat_lt 0x3fff w0 then two_of (slice_get two_ops (w0 / 4096 - 4)) w0 w1 w2
-    else (if w0 / 8192 == 1 then Some (Jump ((w0 / 1024) % 8) (offset_of (w0 % 1024)))
+    else (if w0 / 8192 == 1 then Some (Jump (bits 12 10 w0) (offset_of (bits 9 0 w0)))
     else (if w0 == 0x1300 then Some Reti
     else (if nat_lt 0x137f w0 && nat_lt w0 0x1387 then Some (UnitOp (w0 - 0x1380))
-    else (if w0 / 1024 == 4 then one_of (slice_get one_ops ((w0 / 128) % 8)) w0 w1
+    else (if w0 / 1024 == 4 then one_of (slice_get one_ops (bits 9 7 w0)) w0 w1
     else None))))
+
+-- what a first word alone means: whether it begins an instruction, and how long that is, hangs on no later word
+abbrev pub begun_by : ℕ → Option Insn
+begun_by w0 = insn_of w0 0 0
 
 -- the length of an instruction, and 1 where there is none
 abbrev pub length_or_one : Option Insn → ℕ
@@ -119,7 +126,7 @@ length_or_one None = 1
 
 -- the number of words that a first word calls for, and 1 where it is outside the table
 abbrev pub length_at : ℕ → ℕ
-length_at w0 = length_or_one (insn_of w0 0 0)
+length_at w0 = length_or_one (begun_by w0)
 
 -- an instruction that some words mean
 pub record IsDecoded (insn : Insn) : Type 0 where

@@ -65,9 +65,9 @@ operand_text (Indirect r) at = codes "@r" ++ decimal r
 operand_text (Increment r) at = codes "@r" ++ decimal r ++ codes "+"
 
 -- an instruction at an address
-abbrev pub text_of : Insn → ℕ → List ℕ
-text_of (Two op w s d) at = two_name op ++ suffix_of w ++ codes " " ++ operand_text s (add16 at 2) ++ codes ", " ++ operand_text d (add16 at (2 + 2 * words_of s))
-text_of (One op w a) at = one_name op ++ suffix_of w ++ codes " " ++ operand_text a (add16 at 2)
-text_of (Jump cond offset) at = jump_name cond ++ codes " " ++ hex_text (add16 (add16 at 2) (distance offset))
-text_of Reti at = codes "reti"
-text_of (UnitOp n) at = codes "unit " ++ decimal n
+abbrev pub insn_text : Insn → ℕ → List ℕ
+insn_text (Two op w s d) at = two_name op ++ suffix_of w ++ codes " " ++ operand_text s (add16 at 2) ++ codes ", " ++ operand_text d (add16 at (2 + 2 * words_of s))
+insn_text (One op w a) at = one_name op ++ suffix_of w ++ codes " " ++ operand_text a (add16 at 2)
+insn_text (Jump cond offset) at = jump_name cond ++ codes " " ++ hex_text (add16 (add16 at 2) (distance offset))
+insn_text Reti at = codes "reti"
+insn_text (UnitOp n) at = codes "unit " ++ decimal n

@@ -4,7 +4,7 @@ ghost use Rattle.std.specs.Fmt.{decimal};
 ghost use Rattle.arrayvec.specs.ArrayString.{array_string_len};
 ghost use Rattle.sm_words.specs.Words.{add16};
 ghost use Rattle.insn_decode.specs.Code.{IsDecoded, HasForm, HasParts, distance};
-ghost use Rattle.insn_decode.specs.Text.{two_name, one_name, jump_name, suffix_of, hex_text, constant_text, operand_text, text_of};
+ghost use Rattle.insn_decode.specs.Text.{two_name, one_name, jump_name, suffix_of, hex_text, constant_text, operand_text, insn_text};
 
 use crate::insn::{Insn, OneOp, Operand, TwoOp};
 use arrayvec::ArrayString;
@@ -15,7 +15,7 @@ use texts::{push_decimal, push_hex_word};
 /// symbolic operand the address that it means.
 pub fn show(insn: &Insn, at: u16, out: &mut ArrayString<48>)
     requires decoded { IsDecoded insn.now }
-    ensures text { out.new.bytes ≡ text_of insn.now at }
+    ensures text { out.new.bytes ≡ insn_text insn.now at }
 {
     out.clear();
     push_insn(insn, at, out);
@@ -25,7 +25,7 @@ pub fn show(insn: &Insn, at: u16, out: &mut ArrayString<48>)
 fn push_insn(insn: &Insn, at: u16, out: &mut ArrayString<48>)
     requires form { HasForm insn.now }
     requires empty { out.old.bytes ≡ [] }
-    ensures { out.new.bytes ≡ text_of insn.now at }
+    ensures { out.new.bytes ≡ insn_text insn.now at }
 {
     match *insn {
         Insn::Two {
@@ -58,7 +58,7 @@ fn push_two(op: TwoOp, width: Width, src: Operand, dst: Operand, at: u16, out: &
     requires source { HasParts src }
     requires destination { HasParts dst }
     requires empty { out.old.bytes ≡ [] }
-    ensures { out.new.bytes ≡ text_of (Insn.Two op width src dst) at }
+    ensures { out.new.bytes ≡ insn_text (Insn.Two op width src dst) at }
 {
     out.push_str(two_name(op));
     out.push_str(suffix(width));

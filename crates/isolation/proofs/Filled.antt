@@ -70,7 +70,7 @@ unfolding perform
 perform_filled insn s h =
     let xs = asks (who_of s) insn s.core in
     let g = take_reads (port_of s) (reads_of xs) in
-    let e = effect (who_of s) insn s.core g.values in
+    let e = effect (who_of s) insn s.core g.value in
     puts_filled (writes_of xs) g.port e.stored (subst Filled (sym (take_reads_memory 0 0 (reads_of xs) (port_of s))) h)
 
 pub enter_filled : (left : ℕ) (s : State) → Kept s (enter left s).state

@@ -22,7 +22,7 @@ use Rattle.attest.specs.Accesses.{reads_of, writes_of}
 use Rattle.cpu_step.specs.Asked.{asks, effect}
 use Rattle.cpu_step.specs.Fetched.{later_word, insn_at}
 use Rattle.tracer.specs.declared.Event.{Event}
-use Rattle.written_machine.specs.Cycle.{Step, pc_of, byte_of, vector_in, push_both, pushes, plain_if, arrive_outside, at_home, home_word, is_home, who_of, port_of, perform, attempt, returned_by, reti_by, reti_of, act_by, act_on, act_home, act_first, act, unless}
+use Rattle.written_machine.specs.Cycle.{Step, pc_of, byte_of, vector_in, push_both, pushes, plain_if, arrive_outside, at_home, home_word, is_home, who_of, port_of, perform, attempt, returned_by, reti_by, act_on, act_home, act_first, act, unless}
 use Rattle.written_machine.specs.Ports.{take_reads, put_writes}
 use Rattle.written_machine.specs.State.{State}
 use Rattle.isolation.proofs.Bytes.{Out, get_cleared}
@@ -115,7 +115,7 @@ module _ (m : ℕ) (own : Module) (t : Table) (sound : Sound m own t) where
         let xs = asks (who_of s) insn s.core in
         let p = port_of s in
         let g = take_reads p (reads_of xs) in
-        let e = effect (who_of s) insn s.core g.values in
+        let e = effect (who_of s) insn s.core g.value in
         rw (take_reads_veiled own.ram.start (size_of own.ram) (reads_of xs) p out_r, put_writes_veiled own.ram.start (size_of own.ram) (writes_of xs) g.port e.stored out_w) refl
 
     pub attempt_veiled : (insn : Insn) → attempt insn (veil m own s) ≡ veil_step m own (attempt insn s)
@@ -145,15 +145,15 @@ module _ (m : ℕ) (own : Module) (t : Table) (sound : Sound m own t) where
     attempt_reti =
         ap (λ u. returned_by u.state.stop u) (attempt_veiled Reti) ∙ returned_veiled (attempt Reti s).state.stop (attempt Reti s)
 
-    reti_veiled : (fs : List Frame) → reti_by (veil_frames m fs) (veil m own s) ≡ veil_step m own (reti_by fs s)
+    reti_veiled : (fs : List Frame) → reti_by None (veil_frames m fs) (veil m own s) ≡ veil_step m own (reti_by None fs s)
     reti_veiled (Held b ∷ fs) = refl
     reti_veiled _ = attempt_reti
 
-    reti_of_veiled : (o : Option ℕ) → reti_of o (veil m own s) ≡ veil_step m own (reti_of o s)
+    reti_of_veiled : (o : Option ℕ) → reti_by o (veil m own s).frames (veil m own s) ≡ veil_step m own (reti_by o s.frames s)
     reti_of_veiled (Some id) = refl
     reti_of_veiled None = reti_veiled s.frames
 
-    act_by_veiled : (insn : Insn) → act_by insn (veil m own s) ≡ veil_step m own (act_by insn s)
+    act_by_veiled : (insn : Insn) → act_on (Some insn) (veil m own s) ≡ veil_step m own (act_on (Some insn) s)
     act_by_veiled Reti = reti_of_veiled s.active
     act_by_veiled insn = attempt_veiled insn
 

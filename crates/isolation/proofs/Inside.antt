@@ -27,7 +27,7 @@ use Rattle.attest.specs.Units.{Doer, UnitName, Unprotect, Protect, Attest, Tag, 
 use Rattle.cpu_step.specs.Asked.{asks, effect, table_after}
 use Rattle.cpu_step.specs.Fetched.{later_word, insn_at, word_in, insn_from, insn_in}
 use Rattle.cpu_step.specs.Lone.{Job, Lone, lone_byte, lone_who, unit_alone, is_alone, is_inside, all_inside, lone_read, lone_write, lone_writes, may_do, next_insn, lone_does}
-use Rattle.written_machine.specs.Cycle.{Step, pc_of, byte_of, at_home, home_word, is_home, who_of, port_of, made_events, perform, attempt, act_by, act_on, act_home, act_first, act}
+use Rattle.written_machine.specs.Cycle.{Step, pc_of, byte_of, at_home, home_word, is_home, who_of, port_of, made_events, perform, attempt, act_on, act_home, act_first, act}
 use Rattle.written_machine.specs.Peers.{section}
 use Rattle.written_machine.specs.Ports.{Port, read_in, read_byte, read_width, write_byte, write_width, take_reads, put_writes}
 use Rattle.written_machine.specs.State.{State}
@@ -137,7 +137,7 @@ module _ (m : ℕ) (own : Module) (t : Table) (sound : Sound m own t) (j : Job) 
   read_same Byte p text_is k a h = rw (read_in_same p a h, same_byte p.memory text_is a h) refl
   read_same Word p text_is k a h = rw (read_in_same p a h.0, read_in_same p (a + 1) h.1, same_word p.memory text_is a h) refl
 
-  pub reads_same : (xs : List Access) (p : Port) → section own.text p.memory ≡ j.text → Each (λ x. InBy x.width in_sections x.addr) xs → take_reads p xs ≡ record { port = p; values = map (lone_read j (section own.ram p.memory)) xs }
+  pub reads_same : (xs : List Access) (p : Port) → section own.text p.memory ≡ j.text → Each (λ x. InBy x.width in_sections x.addr) xs → take_reads p xs ≡ record { port = p; value = map (lone_read j (section own.ram p.memory)) xs }
   reads_same [] p text_is h = refl
   reads_same (x ∷ xs) p text_is h = rw (read_same x.width p text_is x.kind x.addr h.0, reads_same xs p text_is h.1) refl
 
@@ -298,7 +298,7 @@ module _ (m : ℕ) (own : Module) (t : Table) (sound : Sound m own t) (j : Job) 
     attempt_inside insn xs xs_is h =
         rw (xs_is, table_is, active_is, all_allowed (held_ids s.frames) xs h) refl
 
-    act_by_alone : (insn : Insn) → is_alone insn ≡ true → act_by insn s ≡ attempt insn s
+    act_by_alone : (insn : Insn) → is_alone insn ≡ true → act_on (Some insn) s ≡ attempt insn s
     act_by_alone Reti e = cc
     act_by_alone _ e = refl
 

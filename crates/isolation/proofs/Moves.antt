@@ -4,7 +4,7 @@ use Rattle.std.proofs.lemmas.Grind.{flat_map-append}
 use Rattle.std.proofs.lemmas.List.{append_assoc, append-nil}
 use Rattle.written_machine.specs.Cycle.{cycle, after_cycles}
 use Rattle.written_machine.specs.Marks.{Marked, at_state}
-use Rattle.written_machine.specs.Script.{Move, cycle_move, cycle_moves, led, text_of}
+use Rattle.written_machine.specs.Script.{Move, cycle_move, cycle_moves, led, moves_text}
 use Rattle.written_machine.specs.State.{State}
 use Rattle.written_machine.specs.Trace.{lines_of, lines_after}
 
@@ -13,7 +13,7 @@ pub led_append : (g : Marked) (ms ns : List Move) → led g (ms ++ ns) ≡ led (
 led_append g [] ns = refl
 led_append g (m ∷ ms) ns = led_append m.after ms ns
 
-pub text_append : (ms ns : List Move) → text_of (ms ++ ns) ≡ text_of ms ++ text_of ns
+pub text_append : (ms ns : List Move) → moves_text (ms ++ ns) ≡ moves_text ms ++ moves_text ns
 text_append ms ns = flat_map-append (λ (m : Move). m.text) ms ns
 
 -- cycles lead to the state after them, under the same marks
@@ -22,7 +22,7 @@ led_cycles g zero = refl
 led_cycles g (suc n) = led_append g (cycle_moves g n) (cycle_move (at_state g (after_cycles g.present n)) ∷ [])
 
 -- and write their lines
-pub text_cycles : (g : Marked) (n : ℕ) → text_of (cycle_moves g n) ≡ lines_after g.present n
+pub text_cycles : (g : Marked) (n : ℕ) → moves_text (cycle_moves g n) ≡ lines_after g.present n
 text_cycles g zero = refl
 text_cycles g (suc n) =
     let t = after_cycles g.present n in

@@ -14,7 +14,7 @@ use Rattle.reg_backup.specs.declared.frames.Frame.{Frame}
 use Rattle.reg_backup.specs.declared.frames.Frame.TheVariants.{Module as Held}
 use Rattle.attest.specs.Accesses.{reads_of, writes_of}
 use Rattle.cpu_step.specs.Asked.{asks, effect}
-use Rattle.written_machine.specs.Cycle.{Step, stopped, denied, pc_of, push_both, pushes, plain_if, arrive_outside, port_of, who_of, perform, attempt, returned_by, reti_by, reti_of, act}
+use Rattle.written_machine.specs.Cycle.{Step, stopped, denied, pc_of, push_both, pushes, plain_if, arrive_outside, port_of, who_of, perform, attempt, returned_by, reti_by, act}
 use Rattle.written_machine.specs.Peers.{section}
 use Rattle.written_machine.specs.Ports.{take_reads}
 use Rattle.written_machine.specs.State.{State}
@@ -100,7 +100,7 @@ module _ (m : ℕ) (own : Module) (key text : List ℕ) where
     perform_stays insn fs f t e =
         let xs = asks (who_of s) insn s.core in
         let g = take_reads (port_of s) (reads_of xs) in
-        let x = effect (who_of s) insn s.core g.values in
+        let x = effect (who_of s) insn s.core g.value in
         let same = take_reads_memory own.ram.start (size_of own.ram) (reads_of xs) (port_of s) in
         stays_by s (record (perform insn s).state { frames = fs }) k other other
         (put_writes_part own.ram.start (size_of own.ram) (writes_of xs) g.port x.stored (writes_out m own s.table k.sound s.active (held_ids s.frames) other xs e) ∙ ap (section own.ram) same)
@@ -119,12 +119,12 @@ module _ (m : ℕ) (own : Module) (key text : List ℕ) where
         by (Some stop) e = (refl, perform_stays Reti s.frames refl refl e)
         by None e = (refl, perform_stays Reti (drop 1 s.frames) f t e)
 
-    reti_acts : (fs : List Frame) → s.frames ≡ fs → Acts (reti_by fs s)
-    reti_acts (Held b ∷ fs) e = light_acts (reti_by (Held b ∷ fs) s) (refl, refl, refl, refl, refl)
+    reti_acts : (fs : List Frame) → s.frames ≡ fs → Acts (reti_by None fs s)
+    reti_acts (Held b ∷ fs) e = light_acts (reti_by None (Held b ∷ fs) s) (refl, refl, refl, refl, refl)
     reti_acts _ e = returned_acts (rw e refl) (rw e refl)
 
-    reti_of_acts : (a : Option ℕ) → Acts (reti_of a s)
-    reti_of_acts (Some id) = light_acts (reti_of (Some id) s) (refl, refl, refl, refl, refl)
+    reti_of_acts : (a : Option ℕ) → Acts (reti_by a s.frames s)
+    reti_of_acts (Some id) = light_acts (reti_by (Some id) s.frames s) (refl, refl, refl, refl, refl)
     reti_of_acts None = reti_acts s.frames refl
 
     act_acts : Acts (act s)

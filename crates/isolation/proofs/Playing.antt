@@ -9,7 +9,7 @@ use Rattle.std.specs.Option.{option_and_then}
 use Rattle.written_machine.specs.Cycle.{after_cycles}
 use Rattle.written_machine.specs.Marks.{Marked, at_state, cut_at, last_from}
 use Rattle.written_machine.specs.Peers.{Peers}
-use Rattle.written_machine.specs.Script.{Move, regs_text, mem_text, mark_text, back_text, no_mark_text, last_text, not_there_text, at_cycle, cycle_moves, mark_move, back_move, last_move, line_moves, led, moves, text_of, play}
+use Rattle.written_machine.specs.Script.{Move, regs_text, mem_text, mark_text, back_text, no_mark_text, last_text, not_there_text, at_cycle, cycle_moves, mark_move, back_move, last_move, line_moves, led, moves, moves_text, play}
 use Rattle.written_machine.specs.Standing.{stands_at, one_more_unless, cycles_until, this_or, last_standing}
 use Rattle.written_machine.specs.State.{State}
 use Rattle.written_machine.specs.View.{at}
@@ -55,7 +55,7 @@ module _ (a b : Image) (m : ℕ) (schedule : List Scheduled) (peers : Peers a b 
 
   -- both do what writes the same, and leads to the same cycles
   record Same (x y : Marked) (ms ns : List Move) : Type 0 where
-    text : text_of ms ≡ text_of ns
+    text : moves_text ms ≡ moves_text ns
     leads : Alike (led x ms) (led y ns)
 
   -- one command

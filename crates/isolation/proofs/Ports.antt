@@ -3,7 +3,7 @@ use Rattle.std.proofs.Common.{◌≡◌, ℕ, ◌+◌, ◌/◌, ◌%◌, List, [
 use Rattle.sm_words.specs.declared.width.Width.{Width}
 use Rattle.sm_words.specs.declared.width.Width.TheVariants.{Byte, Word}
 use Rattle.pc_access.specs.declared.Access.{Access}
-use Rattle.written_machine.specs.Ports.{Port, Got, Gots, read_in, read_byte, write_in, write_byte, read_width, write_width, take_reads, put_writes}
+use Rattle.written_machine.specs.Ports.{Port, Got, read_in, read_byte, write_in, write_byte, read_width, write_width, take_reads, put_writes}
 use Rattle.isolation.proofs.Bytes.{Out, get_cleared, set_cleared, part_set_out}
 use Rattle.isolation.proofs.Each.{Each}
 use Rattle.sm_words.specs.Words.{cleared}
@@ -19,23 +19,20 @@ OutAccess lo n x = OutBy x.width lo n x.addr
 abbrev pub veil_port : ℕ → ℕ → Port → Port
 veil_port lo n p = record p { memory = cleared lo n p.memory }
 
-abbrev pub veil_got : ℕ → ℕ → Got → Got
+abbrev pub veil_got : {A : Type 0} → ℕ → ℕ → Got A → Got A
 veil_got lo n g = record g { port = veil_port lo n g.port }
-
-abbrev pub veil_gots : ℕ → ℕ → Gots → Gots
-veil_gots lo n g = record g { port = veil_port lo n g.port }
 
 module _ (lo n : ℕ) where
   read_in_veiled : (b : Bool) (p : Port) (a : ℕ) → Out lo n a → read_in b (veil_port lo n p) a ≡ veil_got lo n (read_in b p a)
   read_in_veiled true p a out = refl
-  read_in_veiled false p a out = ap (λ v. let g : Got = record { port = veil_port lo n p; value = v } in g) (get_cleared lo n p.memory a out)
+  read_in_veiled false p a out = ap (λ v. let g : Got ℕ = record { port = veil_port lo n p; value = v } in g) (get_cleared lo n p.memory a out)
 
   read_width_veiled : (w : Width) (p : Port) (a : ℕ) → OutBy w lo n a → read_width w (veil_port lo n p) a ≡ veil_got lo n (read_width w p a)
   read_width_veiled Byte p a out = read_in_veiled (nat_lt a 512) p a out
   read_width_veiled Word p a out =
       rw (read_in_veiled (nat_lt a 512) p a out.0, read_in_veiled (nat_lt (a + 1) 512) (read_byte p a).port (a + 1) out.1) refl
 
-  pub take_reads_veiled : (xs : List Access) (p : Port) → Each (OutAccess lo n) xs → take_reads (veil_port lo n p) xs ≡ veil_gots lo n (take_reads p xs)
+  pub take_reads_veiled : (xs : List Access) (p : Port) → Each (OutAccess lo n) xs → take_reads (veil_port lo n p) xs ≡ veil_got lo n (take_reads p xs)
   take_reads_veiled [] p out = refl
   take_reads_veiled (x ∷ xs) p out =
       rw (read_width_veiled x.width p x.addr out.0, take_reads_veiled xs (read_width x.width p x.addr).port out.1) refl

@@ -25,7 +25,7 @@ use Rattle.attest.specs.Units.{Doer, UnitName, Unprotect, unit_named, unit_plan}
 use Rattle.cpu_step.specs.Asked.{asks}
 use Rattle.cpu_step.specs.Fetched.{insn_at, later_word}
 use Rattle.written_machine.specs.Checks.{active_at, entered, first_word, insn_at_pc, asked_to_return, asked_by, returns_inside, check_of, later_checks, insn_checks, first_refused, stop_at, stop_of, refused_in}
-use Rattle.written_machine.specs.Cycle.{Step, told, pc_of, byte_of, settle, ticked, due, arrive_inside, arrive_outside, push_both, pushes, who_of, perform, attempt, returned_by, reti_by, reti_of, act_by, act_on, act_home, act_first, act, is_home, enter_at, enter, fetch, begin, asleep, turn, move, cycle_by, cycle, unless}
+use Rattle.written_machine.specs.Cycle.{Step, told, pc_of, byte_of, settle, ticked, due, arrive_inside, arrive_outside, push_both, pushes, who_of, perform, attempt, returned_by, reti_by, act_on, act_home, act_first, act, is_home, enter_at, enter, fetch, begin, asleep, turn, move, cycle_by, cycle, unless}
 use Rattle.written_machine.specs.State.{State}
 use Rattle.isolation.proofs.Told.{settle_settles}
 use Rattle.isolation.proofs.Cases.{turn_at, turn_unless, turn_is, checks_at, checks_unless, checks_are}
@@ -58,7 +58,7 @@ returned_stop : (o : Option Stop) (t : Step) → (returned_by o t).state.stop �
 returned_stop (Some stop) t = refl
 returned_stop None t = refl
 
-reti_stops : (fs : List Frame) (s : State) → s.stop ≡ None → Stops (reti_by fs s) (refusal (asked_to_return fs s) s) s
+reti_stops : (fs : List Frame) (s : State) → s.stop ≡ None → Stops (reti_by None fs s) (refusal (asked_to_return fs s) s) s
 reti_stops (Held b ∷ fs) s h = h
 reti_stops _ s h = returned_stop (attempt Reti s).state.stop (attempt Reti s) ∙ attempt_stops Reti s h
 
@@ -66,11 +66,11 @@ reti_stops _ s h = returned_stop (attempt Reti s).state.stop (attempt Reti s) �
 abbrev late : Option Insn → Option ℕ → State → Option Denied
 late o active s = option_or (refuse_if (returns_inside o active) RetiInside (pc_of s) 0) (refusal (asked_by o s) s)
 
-reti_of_stops : (a : Option ℕ) (s : State) → s.stop ≡ None → Stops (reti_of a s) (late (Some Reti) a s) s
+reti_of_stops : (a : Option ℕ) (s : State) → s.stop ≡ None → Stops (reti_by a s.frames s) (late (Some Reti) a s) s
 reti_of_stops (Some id) s h = refl
 reti_of_stops None s h = reti_stops s.frames s h
 
-act_by_stops : (insn : Insn) (s : State) → s.stop ≡ None → Stops (act_by insn s) (late (Some insn) s.active s) s
+act_by_stops : (insn : Insn) (s : State) → s.stop ≡ None → Stops (act_on (Some insn) s) (late (Some insn) s.active s) s
 act_by_stops Reti s h = reti_of_stops s.active s h
 act_by_stops insn s h = attempt_stops insn s h
 

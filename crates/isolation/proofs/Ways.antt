@@ -31,7 +31,7 @@ use Rattle.cpu_step.specs.Fetched.{insn_at}
 use Rattle.cpu_step.specs.Plan.{past}
 use Rattle.tracer.specs.declared.Event.{Event}
 use Rattle.tracer.specs.declared.Event.TheVariants.{Enter as Entered}
-use Rattle.written_machine.specs.Cycle.{Step, Settled, quiet, told, stopped, denied, unsettled, pc_of, byte_of, in_text, resume_from, close_of, leave_if, settle_by, settle_in, settle, ticked, due, arrive_inside, arrive_outside, push_both, pushes, who_of, perform, attempt, returned_by, reti_by, reti_of, act_by, act_on, act_home, act_first, act, is_home, enter_at, enter, fetch, begin, padded, asleep, turn, sent_event, counted_by, move, cycle_by, unless}
+use Rattle.written_machine.specs.Cycle.{Step, Settled, quiet, told, stopped, denied, unsettled, pc_of, byte_of, in_text, resume_from, close_of, leave_if, settle_by, settle_in, settle, ticked, due, arrive_inside, arrive_outside, push_both, pushes, who_of, perform, attempt, returned_by, reti_by, act_on, act_home, act_first, act, is_home, enter_at, enter, fetch, begin, padded, asleep, turn, sent_event, counted_by, move, cycle_by, unless}
 use Rattle.written_machine.specs.State.{State}
 use Rattle.written_machine.specs.View.{at, boot}
 use Rattle.isolation.proofs.Cases.{turn_at, turn_unless, turn_is}
@@ -48,8 +48,8 @@ module _ (s : State) (P : Step → Type 0) where
   attempt_ways insn refused done = unless_ways insn (first_denied s.table s.active (held_ids s.frames) (asks (who_of s) insn s.core)) refl refused done
 
   -- what is at PC, with what a return gives
-  module _ (stops : (rule : Rule) → P (stopped rule (pc_of s) 0 s)) (returns : P (reti_of s.active s)) (attempts : (insn : Insn) → P (attempt insn s)) where
-    by_insn : (insn : Insn) → P (act_by insn s)
+  module _ (stops : (rule : Rule) → P (stopped rule (pc_of s) 0 s)) (returns : P (reti_by s.active s.frames s)) (attempts : (insn : Insn) → P (attempt insn s)) where
+    by_insn : (insn : Insn) → P (act_on (Some insn) s)
     by_insn Reti = returns
     by_insn insn = attempts insn
 
@@ -70,13 +70,13 @@ module _ (s : State) (P : Step → Type 0) where
     act_with = by_first (insn_of (word_at (byte_of s) (pc_of s)) 0 0)
 
   -- what is at PC: a stop, a return to a module, another return, or another instruction
-  module _ (stops : (rule : Rule) → P (stopped rule (pc_of s) 0 s)) (resumes : (b : Backup) (fs : List Frame) → s.active ≡ None → P (reti_by (Held b ∷ fs) s))
+  module _ (stops : (rule : Rule) → P (stopped rule (pc_of s) 0 s)) (resumes : (b : Backup) (fs : List Frame) → s.active ≡ None → P (reti_by None (Held b ∷ fs) s))
       (returns : P (let t = attempt Reti s in returned_by t.state.stop t)) (attempts : (insn : Insn) → P (attempt insn s)) where
-    by_frames : (fs : List Frame) → s.active ≡ None → P (reti_by fs s)
+    by_frames : (fs : List Frame) → s.active ≡ None → P (reti_by None fs s)
     by_frames (Held b ∷ fs) e = resumes b fs e
     by_frames _ e = returns
 
-    by_active : (a : Option ℕ) → s.active ≡ a → P (reti_of a s)
+    by_active : (a : Option ℕ) → s.active ≡ a → P (reti_by a s.frames s)
     by_active (Some id) e = stops RetiInside
     by_active None e = by_frames s.frames e
 

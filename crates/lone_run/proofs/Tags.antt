@@ -148,12 +148,12 @@ module _ (j : Job) (core ram : List ℕ) where
       ∙ ap (λ k. record { core = put (next core) 15 1; data_bytes = lone_writes j.owner ram (each_byte Write (reg core 14) 16) tag; rest = 6 + 64 * blocks k - 1; closing = false }) (sym en)
       ∙ ap (λ o. record { core = put (next core) 15 1; data_bytes = lone_writes j.owner ram (each_byte Write o 16) tag; rest = 6 + 64 * blocks n - 1; closing = false }) (sym eo)
 
--- the module's own id
-pub own_done : (j : Job) (core ram : List ℕ) (op : ℕ) → unit_alone (unit_named op) ≡ true → op ≢ 0 → op ≢ 3 → op ≢ 6 →
-    lone_does j (UnitOp op) (between core ram) ≡ record { core = put (next core) 15 j.owner.id; data_bytes = ram; rest = 6 - 1; closing = false }
+-- the caller's id
+pub caller_done : (j : Job) (core ram : List ℕ) (op : ℕ) → unit_alone (unit_named op) ≡ true → op ≢ 0 → op ≢ 3 → op ≢ 5 →
+    lone_does j (UnitOp op) (between core ram) ≡ record { core = put (next core) 15 j.caller; data_bytes = ram; rest = 6 - 1; closing = false }
 unfolding lone_does asks effect unit_plan unit_effect
-own_done j core ram zero a b c d = absurd (b refl)
-own_done j core ram (suc (suc (suc zero))) a b c d = absurd (c refl)
-own_done j core ram (suc (suc (suc (suc (suc (suc zero)))))) a b c d = absurd (d refl)
-own_done j core ram (suc (suc (suc (suc (suc _))))) a b c d = refl
-own_done j core ram (suc _) a b c d = absurd cc
+caller_done j core ram zero a b c d = absurd (b refl)
+caller_done j core ram (suc (suc (suc zero))) a b c d = absurd (c refl)
+caller_done j core ram (suc (suc (suc (suc (suc zero))))) a b c d = absurd (d refl)
+caller_done j core ram (suc (suc (suc (suc (suc (suc n)))))) a b c d = refl
+caller_done j core ram (suc _) a b c d = absurd cc

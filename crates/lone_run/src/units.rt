@@ -14,7 +14,7 @@ use crate::job::{Job, Lasts};
 use crate::next::has_ranges;
 use crate::tagging::{store, tag_of};
 use attest::{BLOCK_CYCLES, SHORT_CYCLES, hmac_blocks};
-use insn_decode::units::{CALLER_ID, TAG, UNPROTECT};
+use insn_decode::units::{OWN_ID, TAG, UNPROTECT};
 use sm_words::{Core, PC};
 
 /// Moves PC past the instruction.
@@ -73,25 +73,25 @@ fn tag(job: &Job<'_>, ram: &mut [u8], core: &mut Core) -> Lasts
     )
 }
 
-/// R15 is the caller's id.
+/// R15 is the module's own id.
 #[tactic(auto, unfolding(cpu_step::specs::Lone::lone_does, cpu_step::specs::Asked::asks, cpu_step::specs::Asked::effect, attest::specs::Units::unit_plan, attest::specs::Units::unit_effect))]
-fn caller_id(job: &Job<'_>, ram: &[u8], core: &mut Core) -> Lasts
-    ensures done { lone_does (call_of job.now) (UnitOp 6) (between core.old ram.now) ≡ lasting core.new ram.now result }
+fn own_id(job: &Job<'_>, ram: &[u8], core: &mut Core) -> Lasts
+    ensures done { lone_does (call_of job.now) (UnitOp 5) (between core.old ram.now) ≡ lasting core.new ram.now result }
     ensures some { 1 ≤ result.cycles }
 {
-    answer(core, job.caller, SHORT_CYCLES)
+    answer(core, job.owner.id, SHORT_CYCLES)
 }
 
-/// R15 is the module's own id.
-#[tactic(auto, using(crate::proofs::Tags::own_done))]
-fn own_id(job: &Job<'_>, ram: &[u8], core: &mut Core, op: u8) -> Lasts
+/// R15 is the caller's id.
+#[tactic(auto, using(crate::proofs::Tags::caller_done))]
+fn caller_id(job: &Job<'_>, ram: &[u8], core: &mut Core, op: u8) -> Lasts
     requires alone { unit_alone (unit_named op) ≡ true }
-    requires other { (op ≢ 0) × (op ≢ 3) × (op ≢ 6) }
+    requires other { (op ≢ 0) × (op ≢ 3) × (op ≢ 5) }
     ensures done { lone_does (call_of job.now) (UnitOp op) (between core.old ram.now)
         ≡ lasting core.new ram.now result }
     ensures some { 1 ≤ result.cycles }
 {
-    answer(core, job.owner.id, SHORT_CYCLES)
+    answer(core, job.caller, SHORT_CYCLES)
 }
 
 /// Does a unit instruction.
@@ -106,7 +106,7 @@ pub fn do_unit(job: &Job<'_>, ram: &mut [u8], core: &mut Core, op: u8) -> Lasts
     match op {
         UNPROTECT => unprotect(job, ram, core),
         TAG => tag(job, ram, core),
-        CALLER_ID => caller_id(job, ram, core),
-        _ => own_id(job, ram, core, op),
+        OWN_ID => own_id(job, ram, core),
+        _ => caller_id(job, ram, core, op),
     }
 }

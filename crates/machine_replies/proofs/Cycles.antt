@@ -33,7 +33,7 @@ use Rattle.cpu_step.specs.Asked.{asks, effect, table_after}
 use Rattle.cpu_step.specs.Fetched.{insn_at, later_word}
 use Rattle.tracer.specs.Laws.{IsWord, IsEvent}
 use Rattle.tracer.specs.declared.Event.{Event}
-use Rattle.written_machine.specs.Cycle.{Step, told, stopped, pc_of, byte_of, in_text, resume_from, close_of, leave_if, settle_by, settle_in, settle, ticked, due, arrive_inside, arrive_outside, push_both, pushes, port_of, who_of, perform, attempt, returned_by, reti_by, reti_of, act_by, act_on, act_home, act_first, act, is_home, enter_at, enter, fetch, begin, asleep, turn, sent_event, counted_by, move, cycle_by, cycle, unless}
+use Rattle.written_machine.specs.Cycle.{Step, told, stopped, pc_of, byte_of, in_text, resume_from, close_of, leave_if, settle_by, settle_in, settle, ticked, due, arrive_inside, arrive_outside, push_both, pushes, port_of, who_of, perform, attempt, returned_by, reti_by, act_on, act_home, act_first, act, is_home, enter_at, enter, fetch, begin, asleep, turn, sent_event, counted_by, move, cycle_by, cycle, unless}
 use Rattle.written_machine.specs.Ports.{Port, read_in, read_byte, read_width, write_in, write_byte, write_width, take_reads, put_writes}
 use Rattle.written_machine.specs.State.{State}
 use Rattle.written_machine.specs.View.{at}
@@ -84,16 +84,16 @@ returned_event : (o : Option Stop) (t : Step) → AreEvents t.events → AreEven
 returned_event (Some stop) t h = h
 returned_event None t h = (tt, h)
 
-reti_event : (fs : List Frame) (s : State) → Fine s → AreEvents (reti_by fs s).events
+reti_event : (fs : List Frame) (s : State) → Fine s → AreEvents (reti_by None fs s).events
 reti_event [] s f = returned_event (attempt Reti s).state.stop (attempt Reti s) (attempt_event Reti s f tt)
 reti_event (Plain ∷ fs) s f = returned_event (attempt Reti s).state.stop (attempt Reti s) (attempt_event Reti s f tt)
 reti_event (Held b ∷ fs) s f = tt
 
-reti_of_event : (a : Option ℕ) (s : State) → Fine s → AreEvents (reti_of a s).events
+reti_of_event : (a : Option ℕ) (s : State) → Fine s → AreEvents (reti_by a s.frames s).events
 reti_of_event (Some id) s f = stopped_event _ (pc_of s) 0 s f.core_ok (pc_word s f.core_ok) (omega arith)
 reti_of_event None s f = reti_event s.frames s f
 
-act_by_event : (insn : Insn) (s : State) → Fine s → IsWordInsn insn → AreEvents (act_by insn s).events
+act_by_event : (insn : Insn) (s : State) → Fine s → IsWordInsn insn → AreEvents (act_on (Some insn) s).events
 act_by_event Reti s f h = reti_of_event s.active s f
 act_by_event (Two op w a b) s f h = attempt_event (Two op w a b) s f h
 act_by_event (One op w a) s f h = attempt_event (One op w a) s f h
@@ -311,7 +311,7 @@ unfolding perform
 perform_sends insn s = λ k.
     let xs = asks (who_of s) insn s.core in
     let g = take_reads (port_of s) (reads_of xs) in
-    puts_send (writes_of xs) g.port (effect (who_of s) insn s.core g.values).stored (reads_send (reads_of xs) (port_of s) k)
+    puts_send (writes_of xs) g.port (effect (who_of s) insn s.core g.value).stored (reads_send (reads_of xs) (port_of s) k)
 
 unless_sends : (d : Option Denied) (insn : Insn) (s : State) → Goes s (unless d s (perform insn s)).state
 unless_sends (Some d) insn s = λ k. k
@@ -325,16 +325,16 @@ returned_sends : (o : Option Stop) (t : Step) → IsMaybeByte t.state.devices.se
 returned_sends (Some stop) t h = h
 returned_sends None t h = h
 
-reti_sends : (fs : List Frame) (s : State) → Goes s (reti_by fs s).state
+reti_sends : (fs : List Frame) (s : State) → Goes s (reti_by None fs s).state
 reti_sends [] s = λ k. returned_sends (attempt Reti s).state.stop (attempt Reti s) (attempt_sends Reti s k)
 reti_sends (Plain ∷ fs) s = λ k. returned_sends (attempt Reti s).state.stop (attempt Reti s) (attempt_sends Reti s k)
 reti_sends (Held b ∷ fs) s = λ k. k
 
-reti_of_sends : (a : Option ℕ) (s : State) → Goes s (reti_of a s).state
+reti_of_sends : (a : Option ℕ) (s : State) → Goes s (reti_by a s.frames s).state
 reti_of_sends (Some id) s = λ k. k
 reti_of_sends None s = reti_sends s.frames s
 
-act_by_sends : (insn : Insn) (s : State) → Goes s (act_by insn s).state
+act_by_sends : (insn : Insn) (s : State) → Goes s (act_on (Some insn) s).state
 act_by_sends Reti s = reti_of_sends s.active s
 act_by_sends (Two op w a b) s = attempt_sends (Two op w a b) s
 act_by_sends (One op w a) s = attempt_sends (One op w a) s

@@ -12,7 +12,7 @@ use Rattle.isolation.proofs.Moves.{led_append, text_append, led_cycles, text_cyc
 use Rattle.isolation.specs.Laws.{SamePlays}
 use Rattle.written_machine.specs.Cycle.{after_cycles}
 use Rattle.written_machine.specs.Marks.{Marked, at_state, cut_at, last_from, last_at}
-use Rattle.written_machine.specs.Script.{Move, shown, cycle_move, cycle_moves, line_moves, last_move, not_there_text, no_mark_text, led, moves, text_of, play}
+use Rattle.written_machine.specs.Script.{Move, shown, cycle_move, cycle_moves, line_moves, last_move, not_there_text, no_mark_text, led, moves, moves_text, play}
 use Rattle.written_machine.specs.Trace.{end_line_of, lines_after}
 use Rattle.written_machine.specs.declared.ScriptLine.{ScriptLine}
 use Rattle.board.specs.Alike.{TookLines}
@@ -60,7 +60,7 @@ module _ {S : Type 0} (taken : S → Option (List ℕ)) (faults sure : S → ℕ
   pub whole_then : (a b c : Marked) (s t u : S) (ms ns : List Move) → Whole taken faults sure a b s t ms → Whole taken faults sure b c t u ns → Whole taken faults sure a c s u (ms ++ ns)
   whole_then a b c s t u ms ns x y = record {
     state = y.state ∙ ap (λ g. led g ns) x.state ∙ sym (led_append a ms ns);
-    text = took_same taken faults sure s u (text_of ms ++ text_of ns) (text_of (ms ++ ns)) (sym (text_append ms ns)) (took_then taken faults sure s t u (text_of ms) (text_of ns) x.text y.text);
+    text = took_same taken faults sure s u (moves_text ms ++ moves_text ns) (moves_text (ms ++ ns)) (sym (text_append ms ns)) (took_then taken faults sure s t u (moves_text ms) (moves_text ns) x.text y.text);
   }
 
   pub cut_after : (a b c : Marked) (s t u : S) (ms ns : List Move) → Whole taken faults sure a b s t ms → CutShort taken faults sure c t u ns → CutShort taken faults sure c s u (ms ++ ns)
@@ -72,10 +72,10 @@ module _ {S : Type 0} (taken : S → Option (List ℕ)) (faults sure : S → ℕ
     state = y.state;
     front = y.front;
     shorter = y.shorter;
-    bytes = appends_same (taken s) (taken u) (text_of ms ++ (text_of y.earlier ++ take y.front y.move.text)) (text_of (ms ++ y.earlier) ++ take y.front y.move.text)
-        (sym (append_assoc (text_of ms) (text_of y.earlier) (take y.front y.move.text)) ∙ ap (λ l. l ++ take y.front y.move.text) (sym (text_append ms y.earlier)))
-        (appends_then (taken s) (taken t) (taken u) (text_of ms) (text_of y.earlier ++ take y.front y.move.text) x.text.whole y.bytes);
-    cut = cut_same taken faults sure s u (text_of ms ++ text_of ns) (text_of (ms ++ ns)) (sym (text_append ms ns)) (cut_later taken faults sure s t u (text_of ms) (text_of ns) x.text y.cut);
+    bytes = appends_same (taken s) (taken u) (moves_text ms ++ (moves_text y.earlier ++ take y.front y.move.text)) (moves_text (ms ++ y.earlier) ++ take y.front y.move.text)
+        (sym (append_assoc (moves_text ms) (moves_text y.earlier) (take y.front y.move.text)) ∙ ap (λ l. l ++ take y.front y.move.text) (sym (text_append ms y.earlier)))
+        (appends_then (taken s) (taken t) (taken u) (moves_text ms) (moves_text y.earlier ++ take y.front y.move.text) x.text.whole y.bytes);
+    cut = cut_same taken faults sure s u (moves_text ms ++ moves_text ns) (moves_text (ms ++ ns)) (sym (text_append ms ns)) (cut_later taken faults sure s t u (moves_text ms) (moves_text ns) x.text y.cut);
   }
 
   pub cut_before : (c : Marked) (s u : S) (ms ns : List Move) → CutShort taken faults sure c s u ms → CutShort taken faults sure c s u (ms ++ ns)
@@ -88,7 +88,7 @@ module _ {S : Type 0} (taken : S → Option (List ℕ)) (faults sure : S → ℕ
     front = y.front;
     shorter = y.shorter;
     bytes = y.bytes;
-    cut = cut_same taken faults sure s u (text_of ms ++ text_of ns) (text_of (ms ++ ns)) (sym (text_append ms ns)) (cut_first taken faults sure s u (text_of ms) (text_of ns) y.cut);
+    cut = cut_same taken faults sure s u (moves_text ms ++ moves_text ns) (moves_text (ms ++ ns)) (sym (text_append ms ns)) (cut_first taken faults sure s u (moves_text ms) (moves_text ns) y.cut);
   }
 
   -- ---- one command, whose text was put
@@ -118,7 +118,7 @@ module _ {S : Type 0} (taken : S → Option (List ℕ)) (faults sure : S → ℕ
   pub cycles_done : (n : ℕ) (old new : Marked) (before after : S) → RanWhole taken faults sure n old.present new.present before after → new ≡ at_state old new.present → Whole taken faults sure old new before after (cycle_moves old n)
   cycles_done n old new before after x keeps = record {
     state = keeps ∙ ap (at_state old) x.state ∙ sym (led_cycles old n);
-    text = took_same taken faults sure before after (lines_after old.present n) (text_of (cycle_moves old n)) (sym (text_cycles old n)) x.lines;
+    text = took_same taken faults sure before after (lines_after old.present n) (moves_text (cycle_moves old n)) (sym (text_cycles old n)) x.lines;
   }
 
   pub cycles_cut : (n : ℕ) (old new : Marked) (before after : S) → RanCutOff taken faults sure n old.present new.present before after → new ≡ at_state old new.present → CutShort taken faults sure new before after (cycle_moves old n)
@@ -137,8 +137,8 @@ module _ {S : Type 0} (taken : S → Option (List ℕ)) (faults sure : S → ℕ
         state = keeps ∙ ap (at_state old) (x.state ∙ state_more c s);
         front = x.front;
         shorter = x.shorter;
-        bytes = appends_same (taken before) (taken after) (lines_after s c ++ take x.front m.text) (text_of (cycle_moves old c) ++ take x.front m.text) (ap (λ l. l ++ take x.front m.text) (sym (text_cycles old c))) x.bytes;
-        cut = cut_same taken faults sure before after (lines_after s n) (text_of (cycle_moves old n)) (sym (text_cycles old n)) x.cut;
+        bytes = appends_same (taken before) (taken after) (lines_after s c ++ take x.front m.text) (moves_text (cycle_moves old c) ++ take x.front m.text) (ap (λ l. l ++ take x.front m.text) (sym (text_cycles old c))) x.bytes;
+        cut = cut_same taken faults sure before after (lines_after s n) (moves_text (cycle_moves old n)) (sym (text_cycles old n)) x.cut;
       }
 
   -- ---- a script

@@ -6,7 +6,7 @@ use Rattle.image_text.specs.Image.{Image}
 use Rattle.sm_io.specs.Sink.{Took, CutOff}
 use Rattle.written_machine.specs.Marks.{Marked}
 use Rattle.written_machine.specs.Peers.{Peers}
-use Rattle.written_machine.specs.Script.{Move, led, moves, text_of, play}
+use Rattle.written_machine.specs.Script.{Move, led, moves, moves_text, play}
 use Rattle.written_machine.specs.declared.ScriptLine.{ScriptLine}
 use Rattle.isolation.specs.Moments.{moment}
 use Rattle.board.specs.declared.Ran.{Ran}
@@ -17,7 +17,7 @@ module _ {S : Type 0} (taken : S → Option (List ℕ)) (faults sure : S → ℕ
   -- all these moves were done, and the sink took their text
   pub record Whole (old new : Marked) (before after : S) (ms : List Move) : Type 0 where
     pub state : new ≡ led old ms
-    pub text : Took taken faults sure before after (text_of ms)
+    pub text : Took taken faults sure before after (moves_text ms)
 
   -- the sink failed within the text of one of these moves: it took the text of those before it, and a front of its own that is
   -- shorter; and the machine stands where that move leads
@@ -29,8 +29,8 @@ module _ {S : Type 0} (taken : S → Option (List ℕ)) (faults sure : S → ℕ
     pub state : new ≡ move.after
     pub front : ℕ
     pub shorter : front < length move.text
-    pub bytes : Appends (taken before) (taken after) (text_of earlier ++ take front move.text)
-    pub cut : CutOff taken faults sure before after (text_of ms)
+    pub bytes : Appends (taken before) (taken after) (moves_text earlier ++ take front move.text)
+    pub cut : CutOff taken faults sure before after (moves_text ms)
 
   -- a script that is played to its end, or cut short by the sink
   abbrev pub Plays : List ScriptLine → Marked → Marked → S → S → Ran → Type 0

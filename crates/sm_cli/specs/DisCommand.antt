@@ -4,7 +4,7 @@ use Rattle.texts.specs.Hexadecimals.{hex_word, read_hex_word}
 use Rattle.sm_words.specs.Words.{word_of}
 use Rattle.insn_decode.specs.declared.insn.Insn.{Insn}
 use Rattle.insn_decode.specs.Code.{insn_of, length_at, length_or_one}
-use Rattle.insn_decode.specs.Text.{text_of}
+use Rattle.insn_decode.specs.Text.{insn_text}
 use Rattle.cli_calls.specs.Words.{Text}
 use Rattle.cli_files.specs.Files.{Held, an_image, image_file, need}
 use Rattle.cli_calls.specs.Command.{Outcome, done, nothing, Command}
@@ -32,15 +32,15 @@ words_text memory at count =
     ++ (if nat_lt 2 count then word_text memory (at + 4) else [])
 
 -- an instruction's text, or that of a word that is none
-abbrev pub insn_text : Option Insn → ℕ → List ℕ
-insn_text (Some insn) at = text_of insn at
-insn_text None at = codes "?"
+abbrev pub dis_text : Option Insn → ℕ → List ℕ
+dis_text (Some insn) at = insn_text insn at
+dis_text None at = codes "?"
 
 -- the line of what stands at an address
 unfoldable pub line_at : List ℕ → ℕ → List ℕ
 line_at memory at =
     let insn = insn_in memory at in
-    (((hex_word at ++ codes ": ") ++ words_text memory at (length_or_one insn)) ++ insn_text insn at) ++ codes "\n"
+    (((hex_word at ++ codes ": ") ++ words_text memory at (length_or_one insn)) ++ dis_text insn at) ++ codes "\n"
 
 -- the lines from an address on while it is below the end, no more than this many
 unfoldable pub lines_below : ℕ → List ℕ → ℕ → ℕ → List ℕ

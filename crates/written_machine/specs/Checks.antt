@@ -2,7 +2,7 @@
 use Rattle.std.specs.Prelude.{ℕ, List, [], ◌∷◌, map, Bool, true, false, not, Option, Some, None, is_none}
 use Rattle.std.specs.Option.{option_or}
 use Rattle.sm_words.specs.Words.{word_at}
-use Rattle.insn_decode.specs.Code.{insn_of, length_at}
+use Rattle.insn_decode.specs.Code.{begun_by, length_at}
 use Rattle.insn_decode.specs.declared.insn.Insn.{Insn}
 use Rattle.insn_decode.specs.declared.insn.Insn.TheVariants.{Reti}
 use Rattle.mod_layout.specs.Table.{place_of}
@@ -65,7 +65,7 @@ check_of active s x = right s.table active (held_ids s.frames) x
 -- the first word is in the code table, the later words are where it is, and RETI is outside; then the accesses
 abbrev pub later_checks : State → List (Option Denied)
 later_checks s =
-    refuse_if (is_none (insn_of (first_word s) 0 0)) Illegal (pc_of s) 0
+    refuse_if (is_none (begun_by (first_word s))) Illegal (pc_of s) 0
     ∷ refuse_if (not (is_home s.table s.active (pc_of s) (length_at (first_word s)))) Straddle (pc_of s) 0
     ∷ refuse_if (returns_inside (insn_at_pc s) s.active) RetiInside (pc_of s) 0
     ∷ map (check_of s.active s) (asked_by (insn_at_pc s) s)

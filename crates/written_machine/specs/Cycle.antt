@@ -4,7 +4,7 @@ use Rattle.sm_words.specs.Status.{interrupted_sr, is_cpu_off, is_gie}
 use Rattle.sm_words.specs.Words.{reg, put, sub16, word_at, cleared}
 use Rattle.sm_words.specs.declared.registers.TheConstants.{PC, SP, SR}
 use Rattle.sm_words.specs.declared.width.Width.TheVariants.{Word}
-use Rattle.insn_decode.specs.Code.{insn_of, length_of}
+use Rattle.insn_decode.specs.Code.{begun_by, length_of}
 use Rattle.insn_decode.specs.declared.insn.Insn.{Insn}
 use Rattle.insn_decode.specs.declared.insn.Insn.TheVariants.{Reti}
 use Rattle.mod_layout.specs.Table.{Table, holds, own_of, size_of, place_of, without}
@@ -33,13 +33,13 @@ use Rattle.reg_backup.specs.declared.frames.TheConstants.{MOST_FRAMES}
 use Rattle.irq_padding.specs.declared.TheConstants.{PADDING, ARRIVAL, RESUMPTION}
 use Rattle.reg_backup.specs.declared.frames.Frame.{Frame}
 use Rattle.reg_backup.specs.declared.frames.Frame.TheVariants.{Plain, Module as Held}
-use Rattle.attest.specs.Units.{Doer, Effect}
+use Rattle.attest.specs.Units.{Doer}
 use Rattle.cpu_step.specs.Asked.{asks, effect, table_after}
 use Rattle.cpu_step.specs.Fetched.{insn_at}
 use Rattle.cpu_step.specs.Plan.{past}
 use Rattle.tracer.specs.declared.Event.{Event}
 use Rattle.tracer.specs.declared.Event.TheVariants.{Resume as Resumed, Close as Closed, Handler as Handling, Leave as Left, Hide as Hid, Irq, Enter as Entered, Reti as Returned, Protect as Protected, Out as Sent, Stop as Stopped}
-use Rattle.written_machine.specs.Ports.{Port, Gots, take_reads, put_writes}
+use Rattle.written_machine.specs.Ports.{Port, take_reads, put_writes}
 use Rattle.written_machine.specs.State.{State}
 
 -- a state with the events that led to it
@@ -50,6 +50,10 @@ pub record Step : Type 0 where
 -- a state without events
 abbrev pub quiet : State → Step
 quiet s = record { state = s; events = [] }
+
+-- a state that one event led to
+abbrev pub telling : Event → State → Step
+telling e s = record { state = s; events = e ∷ [] }
 
 -- these events came before
 abbrev pub told : List Event → Step → Step
@@ -63,7 +67,7 @@ pc_of s = reg s.core PC
 abbrev pub stopped : Rule → ℕ → ℕ → State → Step
 stopped rule addr id s =
     let stop : Stop = record { rule = rule; pc = pc_of s; addr = addr; «module» = id } in
-    record { state = record s { stop = Some stop }; events = Stopped stop ∷ [] }
+    telling (Stopped stop) (record s { stop = Some stop })
 
 -- it stops by a refused access
 abbrev pub denied : Denied → State → Step
@@ -92,24 +96,22 @@ pub record Settled : Type 0 where
 abbrev pub unsettled : State → Settled
 unsettled s = record { state = s; events = []; left = 0 }
 
+-- one thing is settled, and no module is left
+abbrev pub settled : Event → State → Settled
+settled e s = record { state = s; events = e ∷ []; left = 0 }
+
 -- Resume: the newest frame is taken off, and its module goes on with its rest
 abbrev pub resume_from : List Frame → State → Settled
 resume_from (Held b ∷ fs) s =
-    record {
-      state = record s { core = b.core; active = Some b.module; caller = b.caller; frames = fs; phase = Run b.rest; after = closing_after b.closing };
-      events = Resumed b.module ∷ [];
-      left = 0;
-    }
+    settled (Resumed b.module)
+    (record s { core = b.core; active = Some b.module; caller = b.caller; frames = fs; phase = Run b.rest; after = closing_after b.closing })
 resume_from _ s = unsettled s
 
 -- Close: the active module's data become 0, and it leaves the table
 abbrev pub close_of : Option ℕ → Option Module → State → Settled
 close_of (Some id) (Some m) s =
-    record {
-      state = record s { memory = cleared m.ram.start (size_of m.ram) s.memory; table = without id s.table; active = None; after = Next };
-      events = Closed id ∷ [];
-      left = 0;
-    }
+    settled (Closed id)
+    (record s { memory = cleared m.ram.start (size_of m.ram) s.memory; table = without id s.table; active = None; after = Next })
 close_of _ _ s = unsettled s
 
 -- whether the module's text holds the address
@@ -126,7 +128,7 @@ leave_if _ _ s = unsettled s
 abbrev pub settle_by : After → State → Settled
 settle_by Resume s = resume_from s.frames s
 settle_by Close s = close_of s.active (own_of s.active s.table) s
-settle_by Handler s = record { state = record s { after = Next }; events = Handling (pc_of s) ∷ []; left = 0 }
+settle_by Handler s = settled (Handling (pc_of s)) (record s { after = Next })
 settle_by Next s = leave_if (in_text (own_of s.active s.table) (pc_of s)) s.active s
 
 -- only where no cycle is left
@@ -166,10 +168,8 @@ unfoldable pub arrive_inside : ℕ → ℕ → State → Step
 arrive_inside v id s =
     let b = saved id s.caller s.core (rest_of s.phase) s.after in
     let core = put (put (replicate 16 0) PC (vector_in s.memory v)) SP s.handler_sp in
-    record {
-      state = record s { core = core; active = None; frames = Held b ∷ s.frames; phase = Pad PADDING; after = Next; devices = accepted s.devices v };
-      events = Hid id v ∷ [];
-    }
+    telling (Hid id v)
+    (record s { core = core; active = None; frames = Held b ∷ s.frames; phase = Pad PADDING; after = Next; devices = accepted s.devices v })
 
 -- the writes of PC and then SR below SP
 abbrev pub pushes : State → List Access
@@ -188,10 +188,8 @@ abbrev pub push_both : ℕ → State → Step
 push_both v s =
     let p = put_writes (record { devices = s.devices; memory = s.memory }) (pushes s) (reg s.core PC ∷ reg s.core SR ∷ []) in
     let core = put (put (put s.core SP (sub16 (reg s.core SP) 4)) SR (interrupted_sr (reg s.core SR))) PC (vector_in p.memory v) in
-    record {
-      state = record s { core = core; memory = p.memory; frames = plain_if s.frames; phase = Run ARRIVAL; devices = accepted p.devices v };
-      events = Irq v ∷ [];
-    }
+    telling (Irq v)
+    (record s { core = core; memory = p.memory; frames = plain_if s.frames; phase = Run ARRIVAL; devices = accepted p.devices v })
 
 -- the outside is interrupted, where both pushes are allowed
 unfoldable pub arrive_outside : ℕ → State → Step
@@ -226,50 +224,42 @@ port_of s = record { devices = s.devices; memory = s.memory }
 abbrev pub made_events : Table → Table → List Event
 made_events old new = if new.given == old.given then [] else Protected new.given ∷ []
 
--- the writes, the table, the rest and what is settled after it
-abbrev pub done_by : State → Insn → Gots → Effect → Step
-done_by s insn g e =
-    let p = put_writes g.port (writes_of (asks (who_of s) insn s.core)) e.stored in
+-- the accesses and changes of an instruction, where nothing is refused: its reads, its effect, its writes, and what is
+-- settled once its cycles have passed
+unfoldable pub perform : Insn → State → Step
+perform insn s =
+    let accesses = asks (who_of s) insn s.core in
+    let g = take_reads (port_of s) (reads_of accesses) in
+    let e = effect (who_of s) insn s.core g.value in
+    let p = put_writes g.port (writes_of accesses) e.stored in
     let table = table_after s.table insn s.core in
     record {
       state = record s { core = e.core; memory = p.memory; devices = p.devices; table = table; phase = Run (e.cycles - 1); after = closing_after e.closing };
       events = made_events s.table table;
     }
 
--- the accesses and changes of an instruction, where nothing is refused
-unfoldable pub perform : Insn → State → Step
-perform insn s =
-    let g = take_reads (port_of s) (reads_of (asks (who_of s) insn s.core)) in
-    done_by s insn g (effect (who_of s) insn s.core g.values)
-
 -- an instruction whose accesses are checked in their order before any is done
 unfoldable pub attempt : Insn → State → Step
-attempt insn s = unless (first_denied s.table s.active (held_ids s.frames) (asks (who_of s) insn s.core)) s (perform insn s)
+attempt insn s =
+    unless (first_denied s.table s.active (held_ids s.frames) (asks (who_of s) insn s.core)) s (perform insn s)
 
 -- the newest frame, a Plain one, goes, unless the machine stopped
 abbrev pub returned_by : Option Stop → Step → Step
 returned_by (Some stop) t = t
 returned_by None t = record { state = record t.state { frames = drop 1 t.state.frames }; events = Returned ∷ t.events }
 
--- RETI with a module in the newest frame pops nothing, takes 5 cycles and is settled by Resume
-abbrev pub reti_by : List Frame → State → Step
-reti_by (Held b ∷ fs) s = quiet (record s { core = past Reti s.core; phase = Run RESUMPTION; after = Resume })
-reti_by _ s = let t = attempt Reti s in returned_by t.state.stop t
+-- RETI, by the active module and the frames: inside a module it stops the machine; with a module in the newest
+-- frame it pops nothing, takes 5 cycles and is settled by Resume
+abbrev pub reti_by : Option ℕ → List Frame → State → Step
+reti_by (Some id) frames s = stopped RetiInside (pc_of s) 0 s
+reti_by None (Held b ∷ fs) s = quiet (record s { core = past Reti s.core; phase = Run RESUMPTION; after = Resume })
+reti_by None _ s = let t = attempt Reti s in returned_by t.state.stop t
 
--- inside a module RETI stops the machine
-abbrev pub reti_of : Option ℕ → State → Step
-reti_of (Some id) s = stopped RetiInside (pc_of s) 0 s
-reti_of None s = reti_by s.frames s
-
--- by the instruction
-abbrev pub act_by : Insn → State → Step
-act_by Reti s = reti_of s.active s
-act_by insn s = attempt insn s
-
--- where there is one
+-- by the instruction, where there is one
 abbrev pub act_on : Option Insn → State → Step
 act_on None s = stopped Illegal (pc_of s) 0 s
-act_on (Some insn) s = act_by insn s
+act_on (Some Reti) s = reti_by s.active s.frames s
+act_on (Some insn) s = attempt insn s
 
 -- where all its words are at home
 abbrev pub act_home : Bool → ℕ → State → Step
@@ -283,11 +273,11 @@ act_first (Some first) s = act_home (is_home s.table s.active (pc_of s) (length_
 
 -- the instruction at PC, once its fetch is allowed and a module that it enters is active
 unfoldable pub act : State → Step
-act s = act_first (insn_of (word_at (byte_of s) (pc_of s)) 0 0) s
+act s = act_first (begun_by (word_at (byte_of s) (pc_of s))) s
 
 -- the module at whose entry PC is, where none is active, becomes active
 abbrev pub enter_at : Place → Option ℕ → ℕ → State → Step
-enter_at (Entry id) None left s = record { state = record s { active = Some id; caller = left; after = Next }; events = Entered id left ∷ [] }
+enter_at (Entry id) None left s = telling (Entered id left) (record s { active = Some id; caller = left; after = Next })
 enter_at _ _ left s = quiet s
 
 -- the entry at PC, with the module left in this cycle as the caller
@@ -301,7 +291,8 @@ fetch s = record { kind = Fetch; addr = pc_of s; width = Word }
 -- an instruction begins: its fetch is checked, then a module may be entered, and the instruction is done
 unfoldable pub begin : ℕ → State → Step
 begin left s =
-    unless (right s.table s.active (held_ids s.frames) (fetch s)) s (let e = enter left s in told e.events (act e.state))
+    let e = enter left s in
+    unless (right s.table s.active (held_ids s.frames) (fetch s)) s (told e.events (act e.state))
 
 -- ---- what a cycle ends in
 

@@ -13,23 +13,18 @@ pub record Port : Type 0 where
   pub devices : Devices
   pub memory : List ℕ
 
--- a value with the port after it was read
-pub record Got : Type 0 where
+-- what a read gave, or the list of what several gave, with the port after it
+pub record Got (A : Type 0) : Type 0 where
   pub port : Port
-  pub value : ℕ
-
--- the values of several reads, with the port after them
-pub record Gots : Type 0 where
-  pub port : Port
-  pub values : List ℕ
+  pub value : A
 
 -- a byte from the devices, or from memory
-abbrev pub read_in : Bool → Port → ℕ → Got
+abbrev pub read_in : Bool → Port → ℕ → Got ℕ
 read_in true p a = record { port = record p { devices = after_read p.devices a }; value = read_of p.devices a }
 read_in false p a = record { port = p; value = slice_index p.memory a }
 
 -- below are the devices
-abbrev pub read_byte : Port → ℕ → Got
+abbrev pub read_byte : Port → ℕ → Got ℕ
 read_byte p a = read_in (nat_lt a DEVICES_END) p a
 
 -- a byte to the devices, or to memory
@@ -42,7 +37,7 @@ abbrev pub write_byte : Port → ℕ → ℕ → Port
 write_byte p a v = write_in (nat_lt a DEVICES_END) p a v
 
 -- a word is two bytes, the lower address first
-abbrev pub read_width : Width → Port → ℕ → Got
+abbrev pub read_width : Width → Port → ℕ → Got ℕ
 read_width Byte p a = read_byte p a
 read_width Word p a =
     let lo = read_byte p a in
@@ -55,12 +50,12 @@ write_width Byte p a v = write_byte p a (low_byte v)
 write_width Word p a v = write_byte (write_byte p a (low_byte v)) (a + 1) (high_byte v)
 
 -- the reads in their order
-abbrev pub take_reads : Port → List Access → Gots
-take_reads p [] = record { port = p; values = [] }
+abbrev pub take_reads : Port → List Access → Got (List ℕ)
+take_reads p [] = record { port = p; value = [] }
 take_reads p (x ∷ xs) =
     let g = read_width x.width p x.addr in
     let r = take_reads g.port xs in
-    record { port = r.port; values = g.value ∷ r.values }
+    record { port = r.port; value = g.value ∷ r.value }
 
 -- the writes in their order, each with its value
 abbrev pub put_writes : Port → List Access → List ℕ → Port

@@ -141,9 +141,9 @@ moves g [] = shown (end_line_of g.present) g ∷ []
 moves g (l ∷ ls) = let ms = line_moves g l in ms ++ moves (led g ms) ls
 
 -- what moves write
-abbrev pub text_of : List Move → List ℕ
-text_of ms = flat_map (λ m. m.text) ms
+abbrev pub moves_text : List Move → List ℕ
+moves_text ms = flat_map (λ m. m.text) ms
 
 -- what a script writes
 abbrev pub play : Marked → List ScriptLine → List ℕ
-play g ls = text_of (moves g ls)
+play g ls = moves_text (moves g ls)

@@ -152,7 +152,7 @@ fn line_at(memory: &[u8], at: u16, insn: Option<Insn>) -> ArrayString<80>
 fn push_text(insn: Option<Insn>, at: u16, line: &mut ArrayString<80>)
     requires decoded { IfSome insn (λ insn. IsDecoded insn) }
     requires room { array_string_len line.old ≤ 21 }
-    ensures text { line.new.bytes ≡ line.old.bytes ++ spec.insn_text insn at }
+    ensures text { line.new.bytes ≡ line.old.bytes ++ spec.dis_text insn at }
     ensures most { array_string_len line.new ≤ array_string_len line.old + 48 }
 {
     match insn {
