@@ -61,9 +61,9 @@ whole byte pc v1 v2 insn e one two = by (length_of insn) refl
 near : (t : Table) (active : Option ℕ) (pc n k : ℕ) → k < n → home_word t active pc n k ≡ true → pc + 2 * k < 65536
 near t active pc n k l h = grind (arith, nat_tests)
 
--- where all its words are at home, it is done
-pub home_done : (s : State) (insn : Insn) → insn_of (word_at (byte_of s) (pc_of s)) (word_at (byte_of s) (add16 (pc_of s) 2)) (word_at (byte_of s) (add16 (pc_of s) 4)) ≡ Some insn → is_home s.table s.active (pc_of s) (length_of insn) ≡ true → act_home (is_home s.table s.active (pc_of s) (length_of insn)) (length_of insn) s ≡ act_on (Some insn) s
-home_done s insn e h =
+-- where all its words are at home, it is the instruction at PC
+pub home_whole : (s : State) (insn : Insn) → insn_of (word_at (byte_of s) (pc_of s)) (word_at (byte_of s) (add16 (pc_of s) 2)) (word_at (byte_of s) (add16 (pc_of s) 4)) ≡ Some insn → is_home s.table s.active (pc_of s) (length_of insn) ≡ true → insn_at (byte_of s) (pc_of s) (length_of insn) ≡ Some insn
+home_whole s insn e h =
     let n : ℕ = length_of insn in
     let one : 1 < n → word_at (byte_of s) (add16 (pc_of s) 2) ≡ word_at (byte_of s) (pc_of s + 2) =
     λ l. let k : pc_of s + 2 * 1 < 65536 = near s.table s.active (pc_of s) n 1 l (and_parts (home_word s.table s.active (pc_of s) n 1) (home_word s.table s.active (pc_of s) n 2) h).0 in
@@ -73,5 +73,8 @@ home_done s insn e h =
     λ l. let k : pc_of s + 2 * 2 < 65536 = near s.table s.active (pc_of s) n 2 l (and_parts (home_word s.table s.active (pc_of s) n 1) (home_word s.table s.active (pc_of s) n 2) h).1 in
     ap (λ (a : ℕ). word_at (byte_of s) a) (let m : add16 (pc_of s) 4 ≡ pc_of s + 4 = omega arith in m)
     in
-    ap (λ (b : Bool). act_home b n s) h
-    ∙ ap (λ (o : Option Insn). act_on o s) (whole (byte_of s) (pc_of s) (word_at (byte_of s) (add16 (pc_of s) 2)) (word_at (byte_of s) (add16 (pc_of s) 4)) insn e one two)
+    whole (byte_of s) (pc_of s) (word_at (byte_of s) (add16 (pc_of s) 2)) (word_at (byte_of s) (add16 (pc_of s) 4)) insn e one two
+
+-- and it is done
+pub home_done : (s : State) (insn : Insn) → insn_of (word_at (byte_of s) (pc_of s)) (word_at (byte_of s) (add16 (pc_of s) 2)) (word_at (byte_of s) (add16 (pc_of s) 4)) ≡ Some insn → is_home s.table s.active (pc_of s) (length_of insn) ≡ true → act_home (is_home s.table s.active (pc_of s) (length_of insn)) (length_of insn) s ≡ act_on (Some insn) s
+home_done s insn e h = ap (λ (b : Bool). act_home b (length_of insn) s) h ∙ ap (λ (o : Option Insn). act_on o s) (home_whole s insn e h)

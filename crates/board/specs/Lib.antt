@@ -3,3 +3,4 @@ pub mod Ran
 pub mod Shown
 pub mod Alike
 pub mod Faults
+pub mod Watched

@@ -14,11 +14,13 @@ ghost use Rattle.board.specs.Alike.{PeersTell, PeersShow, PeersRun, PeersEnd};
 ghost use Rattle.board.specs.Ran.{Runs};
 ghost use Rattle.board.specs.Ran.{ran_of};
 ghost use Rattle.board.specs.internal.Ran.{NoneMissed};
+ghost use Rattle.board.specs.Watched.{Watched};
 
 use crate::machine::Machine;
 use crate::moment::Moment;
 use crate::port::Surroundings;
 use crate::view::View;
+use crate::watching::Watch;
 use crate::{NoMemory, Ran};
 use arrayvec::{ArrayString, ArrayVec};
 use devices::Bus;
@@ -125,6 +127,27 @@ impl Board {
         events
     }
 
+    /// One cycle, as `tick` does it, with a look at all of the machine once it is settled.
+    pub fn tick_watched<W: Watch>(&mut self, watch: &mut W) -> ArrayVec<Event, 4>
+        requires number { self.old.present.cycle < 2 ^ 62 }
+        ensures state { self.new.present ≡ (cycle self.old.present).state }
+        ensures events { result.items ≡ (cycle self.old.present).events }
+        ensures number { self.new.present.cycle ≤ self.old.present.cycle + 1 }
+        ensures marks { self.new ≡ at_state self.old self.new.present }
+        ensures looked { Watched W.looks self.old.present watch.old watch.new }
+    {
+        let mut events = ArrayVec::new();
+        self.machine.tick_watched(&mut events, watch);
+        events
+    }
+
+    /// The registers, whoever runs.
+    pub fn core(&self) -> Core
+        ensures { result ≡ self.now.present.core }
+    {
+        self.machine.core
+    }
+
     // One cycle. Sets `events` to its events, in the order of its steps.
     #[inline(always)]
     pub(crate) fn step(&mut self, events: &mut ArrayVec<Event, 4>)
@@ -180,8 +203,8 @@ impl Board {
         self.machine.pass_idle(most)
     }
 
-    // Whether it is stopped.
-    pub(crate) fn is_stopped(&self) -> bool
+    /// Whether it is stopped.
+    pub fn is_stopped(&self) -> bool
         ensures { result ≡ is_some self.now.present.stop }
     {
         self.machine.stop.is_some()
@@ -244,7 +267,7 @@ impl Board {
 /// Puts the lines of a cycle's events.
 // (inlined: most cycles have none)
 #[inline(always)]
-pub(crate) fn put_lines<S: Sink>(sink: &mut S, cycle: u64, events: &[Event]) -> Result<(), Failed>
+pub fn put_lines<S: Sink>(sink: &mut S, cycle: u64, events: &[Event]) -> Result<(), Failed>
     ensures { Puts S.taken S.faults S.sure sink.old sink.new (lines_of cycle events.now) result }
 {
     for event in events {

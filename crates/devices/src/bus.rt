@@ -114,6 +114,22 @@ impl Model for BusMark {
     } };
 }
 
+#[tactic(auto, unfolding(crate::specs::Devices::read_of, crate::specs::Devices::after_read))]
+impl BusMark {
+    /// Reads the byte at an address, as the bus of that moment reads it.
+    pub fn read(&mut self, addr: u16) -> u8
+        ensures byte { result ≡ read_of self.old.devices addr }
+        ensures mark { self.new ≡ record self.old { devices = after_read self.old.devices addr } }
+    {
+        match addr {
+            LINES_ENABLE | LINES_LEVELS => self.present.lines.read(addr),
+            SERIAL_CONTROL | SERIAL_DATA => self.present.serial.read(addr),
+            TIMER_CONTROL..=TIMER_LIMIT_HIGH => self.present.timer.read(addr),
+            _ => 0,
+        }
+    }
+}
+
 /// The three devices and the schedule that moves them, cycle by cycle from 0.
 #[derive(Debug, Drop)]
 pub struct Bus {
