@@ -1,0 +1,46 @@
+-- What an instruction reads and writes, in the order in which it does.
+use Rattle.std.specs.Prelude.{ℕ, false, List, [], ◌∷◌, ◌++◌}
+use Rattle.sm_words.specs.declared.width.Width.{Width}
+use Rattle.insn_decode.specs.declared.insn.Insn.{Insn}
+use Rattle.insn_decode.specs.declared.insn.Insn.TheVariants.{Reti, Unit as UnitOp}
+use Rattle.pc_access.specs.declared.Kind.{Kind}
+use Rattle.pc_access.specs.declared.Kind.TheVariants.{Read, Write}
+use Rattle.reg_backup.specs.declared.frames.Frame.{Frame}
+use Rattle.reg_backup.specs.declared.frames.Frame.TheVariants.{Module as Held}
+use Rattle.cpu_step.specs.Through.{through}
+use Rattle.written_machine.specs.Cycle.{port_of}
+use Rattle.written_machine.specs.Ports.{Port, read_width}
+use Rattle.written_machine.specs.State.{State}
+use Rattle.owner_steps.specs.declared.touching.Touch.{Touch}
+
+-- an access with the value that is read or written
+abbrev pub touch : Kind → Width → ℕ → ℕ → Touch
+touch kind w a v = record { access = record { kind = kind; addr = a; width = w }; value = v }
+
+-- devices and memory, and what was read and written there
+pub record Traced : Type 0 where
+  pub port : Port
+  pub touched : List Touch
+
+abbrev pub answered : Traced → Width → ℕ → ℕ
+answered t w a = (read_width w t.port a).value
+
+abbrev pub after_read : Traced → Width → ℕ → Traced
+after_read t w a = record { port = (read_width w t.port a).port; touched = t.touched ++ (touch Read w a (answered t w a) ∷ []) }
+
+-- an instruction reads nothing once it has written, so what it writes need not be there
+abbrev pub after_write : Traced → Width → ℕ → ℕ → Traced
+after_write t w a v = record t { touched = t.touched ++ (touch Write w a v ∷ []) }
+
+-- by an instruction, whoever does it
+abbrev pub touched : Insn → State → List Touch
+touched insn s = (through answered after_read after_write insn s.core false (record { port = port_of s; touched = [] })).state.touched
+
+-- what is shown of it: RETI touches nothing where it resumes a module, and what unit instructions touch is not shown
+abbrev pub shown_by : Insn → List Frame → State → List Touch
+shown_by (UnitOp n) fs s = []
+shown_by Reti (Held b ∷ fs) s = []
+shown_by insn fs s = touched insn s
+
+abbrev pub shown : Insn → State → List Touch
+shown insn s = shown_by insn s.frames s
