@@ -69,7 +69,8 @@ def read_sources(crate, files):
 def find(*paths):
     """What the first of these paths means that means a definition, (module, name), or a type of src/, (crate, name)."""
     for path in paths:
-        crate, *rest = path.removeprefix("Rattle.").split(".")
+        path = path.removeprefix("Rattle.")
+        crate, *rest = path.split(".")
         passed = []
         if crate in sources and rest and (rest[0] != "specs" or rest[1:2] == ["declared"]):
             name = rest[rest.index("TheVariants") - 1] if "TheVariants" in rest else rest[-1]
@@ -82,7 +83,7 @@ def find(*paths):
                 return (module, specs[module].makers.get(name, name))
             if module in specs:
                 passed += [".".join([path, *rest[at + 1 :]]) for path in specs[module].uses.get(name, [])]
-        if found := find(*passed):
+        if found := find(*(other for other in passed if other.removeprefix("Rattle.") != path)):  # a module may have its crate's name
             return found
     return None
 
