@@ -2,12 +2,14 @@
 //! them, and some that there are.
 #![tactic(auto)]
 
-ghost use Rattle.peer_rows.specs.Laws.{AcceptedArePeers};
+ghost use Rattle.peer_rows.specs.Laws.{AcceptedArePeers, AcceptedButAnswers};
 ghost use Rattle.peer_rows.specs.Rows.{BlindPeers, BalancedPeers, ReturningPeers, PeersAreInterrupted};
 
-/// Two images that differ in the data of a module alone are peers, where the rule of flow accepts the module's text.
+/// Two images that differ in the data of a module alone are peers, where the rule of flow accepts the module's text. Where it
+/// does so under terms, and no public word differs, they are peers but for the answers.
 pub fn accepted_are_peers()
     ensures peers { AcceptedArePeers }
+    ensures answers { AcceptedButAnswers }
 {}
 
 /// There are peers: a called module that never looks at its data, one whose data decide a branch with arms of equal
