@@ -19,6 +19,7 @@ reason_name reason.Unit = codes "Unit"
 reason_name reason.TooMany = codes "TooMany"
 reason_name reason.Arm = codes "Arm"
 reason_name reason.ArmTime = codes "ArmTime"
+reason_name reason.DataAtExit = codes "DataAtExit"
 
 -- `no`, the address, the reason and its value
 abbrev pub no_line : ℕ → Reason → ℕ → List ℕ

@@ -97,5 +97,6 @@ fn put_reason<O: Sink>(out: &mut O, reason: Reason) -> Result<(), Failed>
         Reason::TooMany => put_all(out, b"TooMany"),
         Reason::Arm => put_all(out, b"Arm"),
         Reason::ArmTime => put_all(out, b"ArmTime"),
+        Reason::DataAtExit => put_all(out, b"DataAtExit"),
     }
 }
