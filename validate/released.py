@@ -1,0 +1,118 @@
+#!/usr/bin/env python3
+"""Random texts that `sancus-lab released` accepts under random terms: by `sancus lone` two data that agree on the public
+words give the same ends but for the answers, and by `sancus-lab steps` two images run alike on a random schedule until
+a call ends with another answer.
+
+    python3 validate/released.py PROGRAM LAB [TEXTS] [SEED]
+
+Texts are drawn until TEXTS (1000) are accepted. Needs Python 3 alone.
+"""
+import os
+import random
+import re
+import sys
+import tempfile
+
+import flow
+import machine
+
+REGISTERS = [1, 2, *range(4, 16)]
+STEP = re.compile(r"(\d+) \d+ ([0-9a-f]{4}): ((?:(?!dadd )[0-9a-f]{4} )+)")
+END = re.compile(r"(\d+) (?:leave 1 pc [0-9a-f]{4}|close 1)$")
+
+
+def terms_of(rng):
+    """Registers that may be answers, and words of the data that are public."""
+    answers = sorted(rng.sample(REGISTERS, rng.choice([1, 4, 10, 14])))
+    public = [at for at in range(flow.DATA, flow.DATA_END, 2) if rng.randrange(3) == 0]
+    return answers, public
+
+
+def text_of(answers, public):
+    return "".join([f"answer r{number}\n" for number in answers] + [f"public {at:04x}\n" for at in public])
+
+
+def data_pair(rng, public):
+    """Two data that agree on the public words."""
+    one, other = (bytearray(rng.randbytes(flow.DATA_END - flow.DATA)) for _ in range(2))
+    for at in public:
+        place = at - flow.DATA
+        other[place : place + 2] = one[place : place + 2]
+    return one, other
+
+
+def but(answers, end):
+    """How a call ends, with the registers that are no answers."""
+    words = end.split()
+    if words[0] in ("exit", "closed"):
+        return words[:2] + [word for number, word in enumerate(words[2:]) if number not in answers]
+    return words
+
+
+def ends_of(steps):
+    """The trace's lines before each end of a call of module 1, and its line with the registers before it."""
+    core, lines, ends = [0] * 16, [], []
+    for line in steps.splitlines():
+        if step := STEP.match(line):
+            core[0] = int(step[2], 16) + len(step[3]) // 5 * 2
+        elif line.startswith("  "):
+            for name, word in re.findall(r"r(\d+)=([0-9a-f]{4})", line):
+                core[int(name)] = int(word, 16)
+        else:
+            if END.match(line):
+                ends.append((list(lines), line, list(core)))
+            lines.append(line)
+    return ends, lines
+
+
+def runs_differ(one, other, answers):
+    """Whether two runs are told apart before a call ends with another answer, or that end is another but for the answers."""
+    (ends, lines), (ends_2, lines_2) = ends_of(one), ends_of(other)
+    for (before, line, core), (before_2, line_2, core_2) in zip(ends, ends_2):
+        if (before, line) != (before_2, line_2):
+            return True
+        if core != core_2:
+            return any(core[number] != core_2[number] for number in range(16) if number not in answers)
+    return lines != lines_2
+
+
+def main():
+    program, lab = sys.argv[1], sys.argv[2]
+    wanted = int(sys.argv[3]) if len(sys.argv) > 3 else 1000
+    rng = random.Random(int(sys.argv[4]) if len(sys.argv) > 4 else 1)
+    tried, accepted, refused_before, wrong, cut = 0, 0, 0, [], 0
+    with tempfile.TemporaryDirectory() as folder:
+        arms_path, terms_path, schedule_path = (os.path.join(folder, name) for name in ("arms", "terms", "schedule"))
+        while accepted < wanted:
+            words, arms = flow.text_of(rng)
+            answers, public = terms_of(rng)
+            tried += 1
+            for path, text in (arms_path, arms), (terms_path, text_of(answers, public)):
+                with open(path, "w", encoding="ascii") as it:
+                    it.write(text)
+            plain = flow.image_of(words, bytes(flow.DATA_END - flow.DATA))
+            if machine.sancus(lab, folder, plain, "released", "IMAGE", "1", terms_path, arms_path)[:2] != ("yes\n", 0):
+                continue
+            accepted += 1
+            refused_before += machine.sancus(program, folder, plain, "balance", "IMAGE", "1", arms_path)[1] != 0
+            images = [flow.image_of(words, data) for data in data_pair(rng, public)]
+            pairs = [f"r{number}={rng.randrange(65536):04x}" for number in range(4, 16)]
+            calls = [machine.sancus(program, folder, image, "lone", "IMAGE", "1", str(flow.LIMIT), *pairs)[0] for image in images]
+            schedule = flow.schedule_of(rng)
+            if schedule != "-":
+                with open(schedule_path, "w", encoding="ascii") as it:
+                    it.write(schedule)
+                schedule = schedule_path
+            runs = [machine.sancus(lab, folder, image, "steps", "IMAGE", schedule, str(flow.CYCLES))[0] for image in images]
+            cut += [end[2] for end in ends_of(runs[0])[0]] != [end[2] for end in ends_of(runs[1])[0]]
+            if but(answers, calls[0]) != but(answers, calls[1]) or runs_differ(*runs, answers):
+                wrong.append(([f"{word:04x}" for word in words], answers, public, calls))
+    for found in wrong[:10]:
+        print(*found)
+    print(f"{tried} texts were drawn, {accepted} accepted, {refused_before} of them by terms alone; {cut} pairs of runs were cut by an answer")
+    print(f"{2 * accepted} cases, {len(wrong)} differences{', each explained' if not wrong else ''}")
+    return 1 if wrong else 0
+
+
+if __name__ == "__main__":
+    sys.exit(main())
