@@ -2,8 +2,9 @@
 use Rattle.std.proofs.Common.{◌≡◌, ℕ, ◌<◌, List, [], ◌∷◌, length, Option, Some, None, refl, sym, ◌∙◌, ap, ap₂, subst, arith, inl, inr}
 use Rattle.std.specs.Prelude.{IsSomeAnd}
 use Rattle.sm_io.specs.Files.{FileMap}
-use Rattle.flow_rule.specs.Verdict.{start_of}
-use Rattle.flow_rule.specs.Arms.{flow_with}
+use Rattle.flow_rule.specs.Terms.{no_terms}
+use Rattle.flow_rule.specs.Verdict.{start_under}
+use Rattle.flow_rule.specs.Arms.{flow_under}
 use Rattle.link_symbols.specs.declared.fault.LinkFault.{LinkFault}
 use Rattle.cli_files.specs.declared.answers.FileFault.{FileFault}
 use Rattle.cli_files.specs.declared.answers.FileFault.TheVariants as fault
@@ -19,7 +20,7 @@ one_told : (outcome : Outcome) (a b : Answer) → Answers outcome a → Answers 
 one_told (gives own) a b r s = sym r ∙ s
 one_told (runs value entries cycles) a b r s = sym r ∙ s
 one_told (judges owner text arms) a b r s =
-    r.tells ∙ ap verdict_answer (one_verdict (flow_with owner text arms) (start_of owner text) owner.text.start r.verdict s.verdict r.is s.is) ∙ sym s.tells
+    r.tells ∙ ap verdict_answer (one_verdict (flow_under no_terms owner text arms) (start_under no_terms owner text) owner.text.start r.verdict s.verdict r.is s.is) ∙ sym s.tells
 one_told (refuses fault name) a b r s = absurd r
 one_told nothing a b r s = absurd r
 
@@ -88,7 +89,7 @@ some_answer map command (gives own) P some c p = (own, refl, p own (record { out
 some_answer map command (runs value entries cycles) P some c p =
     (trace_answer value entries cycles, refl, p (trace_answer value entries cycles) (record { outcome = runs value entries cycles; comes = c; is = refl }))
 some_answer map command (judges owner text arms) P some c p =
-    let v = some_verdict (flow_with owner text arms) (start_of owner text) owner.text.start in
+    let v = some_verdict (flow_under no_terms owner text arms) (start_under no_terms owner text) owner.text.start in
     let told : IsJudged owner text arms (verdict_answer v.0) = record { verdict = v.0; is = v.1; tells = refl } in
     (verdict_answer v.0, told, p (verdict_answer v.0) (record { outcome = judges owner text arms; comes = c; is = told }))
 some_answer map command (refuses fault name) P some c p = tt

@@ -12,11 +12,11 @@ use Rattle.flow_rule.specs.Rounds.{Point, Found, rounds, all_reasons}
 use Rattle.flow_rule.specs.Does.{plan_val, does_val}
 use Rattle.cycle_table.specs.Cycles.{cycles_of}
 use Rattle.arm_balance.specs.declared.Arm.{Arm}
-use Rattle.flow_rule.specs.Arms.{Walk, refused, first_walk, second_walk, flow_with, step_arms}
+use Rattle.flow_rule.specs.Arms.{Walk, refused, first_walk, second_walk, flow_under, step_arms}
 use Rattle.flow_rule.specs.Reasons.{because}
 use Rattle.flow_rule.specs.Steps.{step_of}
 use Rattle.flow_rule.specs.Stub.{step_stub, has_stub}
-use Rattle.flow_rule.specs.Verdict.{flow_step, start_of}
+use Rattle.flow_rule.specs.Verdict.{flow_step, start_under}
 use Rattle.arm_balance.specs.Met.{met}
 
 bytes_of : List ℕ → List ℕ
@@ -27,7 +27,7 @@ abbrev module_of : ℕ → ℕ → ℕ → ℕ → Module
 module_of a b c d = record { id = 1; vendor = 7; text = record { start = a; end = b }; ram = record { start = c; end = d } }
 
 abbrev after_rounds : ℕ → Module → List ℕ → List Point
-after_rounds n m text = rounds (flow_step no_terms m text) (start_of m text) n
+after_rounds n m text = rounds (flow_step no_terms m text) (start_under no_terms m text) n
 
 abbrev reasons_after : ℕ → Module → List ℕ → List Found
 reasons_after n m text = all_reasons (flow_step no_terms m text) (after_rounds n m text)
@@ -74,7 +74,7 @@ unfolding row_10_text bytes_of
 with_arms arms =
     let m = module_of 0x0300 0x0322 0x0400 0x0402 in
     let text = bytes_of row_10_text in
-    all_reasons (flow_with m text arms) (rounds (flow_with m text arms) (start_of m text) 20)
+    all_reasons (flow_under no_terms m text arms) (rounds (flow_under no_terms m text arms) (start_under no_terms m text) 20)
 
 arms_yes : with_arms (record { branch = 0x0304; join = 0x0318; cycles = 6 } ∷ []) ≡ []
 unfolding with_arms row_10_text bytes_of step_arms met step_of step_stub has_stub plan_val does_val insn_of cycles_of

@@ -150,8 +150,5 @@ abbrev pub VerdictUnder : Terms → Module → List ℕ → List Arm → Verdict
 VerdictUnder terms m text arms a = Decided (flow_under terms m text arms) (start_under terms m text) m.text.start a
 
 -- the same where nothing is told
-abbrev pub flow_with : Module → List ℕ → List Arm → Point → Step
-flow_with m text arms = flow_under no_terms m text arms
-
 abbrev pub VerdictWith : Module → List ℕ → List Arm → Verdict → Type 0
 VerdictWith m text arms a = VerdictUnder no_terms m text arms a

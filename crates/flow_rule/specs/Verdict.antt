@@ -4,7 +4,7 @@ use Rattle.flow_rule.specs.declared.Verdict.TheVariants.{Yes, No}
 use Rattle.std.specs.Prelude.{◌≡◌, ◌<◌, ◌≤◌, ◌⊎◌, ℕ, ◌+◌, ◌*◌, List, [], ◌∷◌, length, replicate, slice_set, if◌then◌else◌}
 use Rattle.mod_layout.specs.declared.Module.{Module}
 use Rattle.entry_stubs.specs.Stub.{body_word}
-use Rattle.flow_rule.specs.Terms.{Terms, no_terms}
+use Rattle.flow_rule.specs.Terms.{Terms}
 use Rattle.flow_rule.specs.declared.Val.{Val}
 use Rattle.flow_rule.specs.declared.Val.TheVariants.{Known, Away, Public, Secret}
 use Rattle.flow_rule.specs.declared.Reason.TheVariants.{TooMany}
@@ -41,10 +41,6 @@ start_under terms m text =
     let t = m.text.start in
     let body = t + 2 * body_word in
     if has_stub m text then begins terms m body (slice_set (no_secret body) 7 Away) else begins terms m t (no_secret t)
-
--- the start where no data are public
-abbrev pub start_of : Module → List ℕ → Point
-start_of m text = start_under no_terms m text
 
 -- the step of a text, with or without a stub
 abbrev pub flow_step : Terms → Module → List ℕ → Point → Step

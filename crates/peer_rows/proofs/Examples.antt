@@ -8,13 +8,14 @@ use Rattle.mod_layout.specs.Tables.{IsModule}
 use Rattle.image_text.specs.Image.{IsImage}
 use Rattle.arm_balance.specs.declared.Arm.{Arm}
 use Rattle.arm_balance.specs.Met.{met}
+use Rattle.flow_rule.specs.Terms.{no_terms}
 use Rattle.flow_rule.specs.declared.Verdict.TheVariants.{Yes}
 use Rattle.flow_rule.specs.Does.{plan_val, does_val}
 use Rattle.flow_rule.specs.Rounds.{Point, Step, rounds, all_reasons}
 use Rattle.flow_rule.specs.Steps.{step_of}
 use Rattle.flow_rule.specs.Stub.{step_stub, has_stub}
-use Rattle.flow_rule.specs.Verdict.{start_of}
-use Rattle.flow_rule.specs.Arms.{step_arms, flow_with, VerdictWith}
+use Rattle.flow_rule.specs.Verdict.{start_under}
+use Rattle.flow_rule.specs.Arms.{step_arms, flow_under, VerdictWith}
 use Rattle.written_machine.specs.Peers.{section}
 use Rattle.peer_rows.specs.Laws.{DifferInData}
 use Rattle.peer_rows.specs.Rows.{with_words, called, caller, memory_of, image_of, blind, balanced, BlindPeers, BalancedPeers}
@@ -109,21 +110,21 @@ balanced_text = refl
 blind_accepted : VerdictWith (called 0x0306) (bytes_of blind) [] Yes
 unfolding bytes_of step_arms met step_of step_stub has_stub plan_val does_val insn_of
 blind_accepted =
-    let step : Point → Step = flow_with (called 0x0306) (bytes_of blind) [] in
-    let start : Point = start_of (called 0x0306) (bytes_of blind) in
+    let step : Point → Step = flow_under no_terms (called 0x0306) (bytes_of blind) [] in
+    let start : Point = start_under no_terms (called 0x0306) (bytes_of blind) in
     (rounds step start 3, record { rounds_to = 3; is = refl; stays = refl }, lit≤ tt, refl)
 
 unfoldable pub meet : List Arm
 meet = record { branch = 0x0304; join = 0x0318; cycles = 6 } ∷ []
 
 abbrev balanced_points : ℕ → List Point
-balanced_points n = rounds (flow_with (called 0x0322) (bytes_of balanced) meet) (start_of (called 0x0322) (bytes_of balanced)) n
+balanced_points n = rounds (flow_under no_terms (called 0x0322) (bytes_of balanced) meet) (start_under no_terms (called 0x0322) (bytes_of balanced)) n
 
 balanced_stays : balanced_points 6 ≡ balanced_points 5
 unfolding bytes_of meet step_arms met step_of step_stub has_stub plan_val does_val insn_of cycles_of
 balanced_stays = refl
 
-balanced_reasons : all_reasons (flow_with (called 0x0322) (bytes_of balanced) meet) (balanced_points 5) ≡ []
+balanced_reasons : all_reasons (flow_under no_terms (called 0x0322) (bytes_of balanced) meet) (balanced_points 5) ≡ []
 unfolding bytes_of meet step_arms met step_of step_stub has_stub plan_val does_val insn_of cycles_of
 balanced_reasons = refl
 
