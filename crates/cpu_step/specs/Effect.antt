@@ -98,7 +98,7 @@ written true (Reg r) res core = record { core = into_register (r == SR) r res co
 written true _ res core = record { core = set_flags res core; stored = value_of res ∷ [] }
 written false _ res core = record { core = set_flags res core; stored = [] }
 
--- whether a jump is taken: JNE, JEQ, JNC, JC, JN, JGE, JL, JMP
+-- whether a jump is taken: JNE, JEQ, JNC, JC, JN, JGE, JL, and JMP always
 abbrev pub jumps : ℕ → ℕ → Bool
 jumps cond sr =
     let c = bit CARRY sr in let z = bit ZERO sr in let n = bit NEGATIVE sr in let v = bit OVERFLOW sr in

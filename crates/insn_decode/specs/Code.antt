@@ -73,10 +73,10 @@ part >>= rest = option_and_then rest part
 -- format I; the source's extension word stands before the destination's
 abbrev pub two_of : Option TwoOp → ℕ → ℕ → ℕ → Option Insn
 two_of op w0 w1 w2 = do
-    op ← op
-    src ← source_of (bits 5 4 w0) (bits 11 8 w0) w1
-    dst ← dest_of (bits 7 7 w0) (bits 3 0 w0) (if words_of src == 1 then w2 else w1)
-    Some (Two op (width_of (bits 6 6 w0)) src dst)
+  op ← op
+  src ← source_of (bits 5 4 w0) (bits 11 8 w0) w1
+  dst ← dest_of (bits 7 7 w0) (bits 3 0 w0) (if words_of src == 1 then w2 else w1)
+  Some (Two op (width_of (bits 6 6 w0)) src dst)
 
 -- what format II takes: three operations have no byte form, and a result needs a place
 abbrev pub one_fits : OneOp → Width → Operand → Bool
@@ -92,9 +92,9 @@ one_fits op w a = true
 -- format II
 abbrev pub one_of : Option OneOp → ℕ → ℕ → Option Insn
 one_of op w0 w1 = do
-    op ← op
-    arg ← source_of (bits 5 4 w0) (bits 3 0 w0) w1
-    if one_fits op (width_of (bits 6 6 w0)) arg then Some (One op (width_of (bits 6 6 w0)) arg) else None
+  op ← op
+  arg ← source_of (bits 5 4 w0) (bits 3 0 w0) w1
+  if one_fits op (width_of (bits 6 6 w0)) arg then Some (One op (width_of (bits 6 6 w0)) arg) else None
 
 -- a jump's offset in words: ten bits, signed
 abbrev pub offset_of : ℕ → ℤ

@@ -6,7 +6,7 @@ use Rattle.std.specs.Prelude.{nat_lt}
 use Rattle.insn_decode.specs.declared.insn.Insn.{Insn}
 use Rattle.insn_decode.specs.declared.insn.Insn.TheVariants.{Reti}
 use Rattle.insn_decode.specs.Code.{length_or_one}
-use Rattle.sm_cli.specs.DisCommand.{insn_in, line_at, lines_below}
+use Rattle.sm_cli.specs.DisCommand.{dis_insn, line_at, lines_below}
 
 -- no lines are left at the end
 pub lines_end : (left : ℕ) (memory : List ℕ) (at end : ℕ) → end ≤ at → lines_below left memory at end ≡ []
@@ -22,7 +22,7 @@ some_word _ = omega arith
 
 -- the address after what stands at this one
 abbrev pub after : List ℕ → ℕ → ℕ
-after memory at = at + 2 * length_or_one (insn_in memory at)
+after memory at = at + 2 * length_or_one (dis_insn memory at)
 
 -- one line more
 pub record More (left : ℕ) (memory : List ℕ) (at end : ℕ) : Type 0 where
@@ -33,7 +33,7 @@ pub record More (left : ℕ) (memory : List ℕ) (at end : ℕ) : Type 0 where
 pub lines_more : (left : ℕ) (memory : List ℕ) (at end : ℕ) → at < end → end ≤ at + left → More left memory at end
 unfolding lines_below
 lines_more zero memory at end h low = absurd (omega (arith, h, low))
-lines_more (suc more) memory at end h low = record { left_after = more; enough = omega (arith, low, some_word (insn_in memory at)); lines = let on : nat_lt at end ≡ true = grind (arith, nat_tests) in rw on refl }
+lines_more (suc more) memory at end h low = record { left_after = more; enough = omega (arith, low, some_word (dis_insn memory at)); lines = let on : nat_lt at end ≡ true = grind (arith, nat_tests) in rw on refl }
 
 pub all_lines : (done : List ℕ) (left : ℕ) (memory : List ℕ) (at end : ℕ) (text : List ℕ) → end ≤ at → done ++ lines_below left memory at end ≡ text → done ≡ text
 all_lines done left memory at end text h is = sym (append-nil done) ∙ ap (λ (l : List ℕ). done ++ l) (sym (lines_end left memory at end h)) ∙ is

@@ -10,19 +10,19 @@ use Rattle.cli_files.specs.Files.{Held, an_image, image_file, need}
 use Rattle.cli_calls.specs.Command.{Outcome, done, nothing, Command}
 
 -- the word at an address
-abbrev pub word_in : List ℕ → ℕ → ℕ
-word_in memory at = word_of (slice_index memory at) (slice_index memory (at + 1))
+abbrev pub dis_word : List ℕ → ℕ → ℕ
+dis_word memory at = word_of (slice_index memory at) (slice_index memory (at + 1))
 
 -- the instruction at an address, where its words do not go past the last address
-unfoldable pub insn_in : List ℕ → ℕ → Option Insn
-insn_in memory at =
-    if nat_le (at + 2 * length_at (word_in memory at)) 65536
-    then insn_of (word_in memory at) (word_in memory (at + 2)) (word_in memory (at + 4))
+unfoldable pub dis_insn : List ℕ → ℕ → Option Insn
+dis_insn memory at =
+    if nat_le (at + 2 * length_at (dis_word memory at)) 65536
+    then insn_of (dis_word memory at) (dis_word memory (at + 2)) (dis_word memory (at + 4))
     else None
 
 -- a word and a space
 abbrev pub word_text : List ℕ → ℕ → List ℕ
-word_text memory at = hex_word (word_in memory at) ++ codes " "
+word_text memory at = hex_word (dis_word memory at) ++ codes " "
 
 -- one to three words
 abbrev pub words_text : List ℕ → ℕ → ℕ → List ℕ
@@ -39,14 +39,14 @@ dis_text None at = codes "?"
 -- the line of what stands at an address
 unfoldable pub line_at : List ℕ → ℕ → List ℕ
 line_at memory at =
-    let insn = insn_in memory at in
+    let insn = dis_insn memory at in
     (((hex_word at ++ codes ": ") ++ words_text memory at (length_or_one insn)) ++ dis_text insn at) ++ codes "\n"
 
 -- the lines from an address on while it is below the end, no more than this many
 unfoldable pub lines_below : ℕ → List ℕ → ℕ → ℕ → List ℕ
 lines_below zero memory at end = []
 lines_below (suc more) memory at end =
-    if nat_lt at end then line_at memory at ++ lines_below more memory (at + 2 * length_or_one (insn_in memory at)) end else []
+    if nat_lt at end then line_at memory at ++ lines_below more memory (at + 2 * length_or_one (dis_insn memory at)) end else []
 
 abbrev pub listing : List ℕ → ℕ → ℕ → List ℕ
 listing memory start end = lines_below (end - start) memory start end

@@ -85,7 +85,7 @@ fn put_listing<O: Sink>(memory: &[u8], start: u16, end: u16, out: &mut O) -> Res
 {
     let mut at = u32::from(start);
     while at < u32::from(end) {
-        let insn = insn_in(memory, at as u16);
+        let insn = dis_insn(memory, at as u16);
         let line = line_at(memory, at as u16, insn);
         match put_all(out, line.as_str().as_bytes()) {
             Ok(()) => {}
@@ -97,15 +97,15 @@ fn put_listing<O: Sink>(memory: &[u8], start: u16, end: u16, out: &mut O) -> Res
 }
 
 // The instruction at an address, where its words do not go past the last address.
-#[tactic(auto, unfolding(crate::specs::DisCommand::insn_in))]
-fn insn_in(memory: &[u8], at: u16) -> Option<Insn>
-    ensures exact { result ≡ spec.insn_in memory.now at }
+#[tactic(auto, unfolding(crate::specs::DisCommand::dis_insn))]
+fn dis_insn(memory: &[u8], at: u16) -> Option<Insn>
+    ensures exact { result ≡ spec.dis_insn memory.now at }
     ensures decoded { IfSome result (λ insn. IsDecoded insn) }
 {
     let at = usize::from(at);
-    let first = word_in(memory, at);
+    let first = dis_word(memory, at);
     if at + 2 * usize::from(insn_decode::length(first)) <= 65536 {
-        decode(first, word_in(memory, at + 2), word_in(memory, at + 4))
+        decode(first, dis_word(memory, at + 2), dis_word(memory, at + 4))
     } else {
         None
     }
@@ -123,9 +123,9 @@ fn length_or_one(insn: Option<Insn>) -> u16
 }
 
 // The word at an address, of which bytes past the last address are 0.
-fn word_in(memory: &[u8], at: usize) -> u16
+fn dis_word(memory: &[u8], at: usize) -> u16
     requires { at ≤ 65540 }
-    ensures { result ≡ spec.word_in memory.now at }
+    ensures { result ≡ spec.dis_word memory.now at }
 {
     let low = memory.get(at).copied().unwrap_or(0);
     let high = memory.get(at + 1).copied().unwrap_or(0);
@@ -135,7 +135,7 @@ fn word_in(memory: &[u8], at: usize) -> u16
 // The line of an instruction, or of a word that is none.
 #[tactic(auto, unfolding(crate::specs::DisCommand::line_at))]
 fn line_at(memory: &[u8], at: u16, insn: Option<Insn>) -> ArrayString<80>
-    requires here { insn ≡ spec.insn_in memory.now at }
+    requires here { insn ≡ spec.dis_insn memory.now at }
     requires decoded { IfSome insn (λ insn. IsDecoded insn) }
     ensures { result.bytes ≡ spec.line_at memory.now at }
 {
@@ -172,12 +172,12 @@ fn push_words(memory: &[u8], at: usize, count: u16, line: &mut ArrayString<80>)
     ensures text { line.new.bytes ≡ line.old.bytes ++ spec.words_text memory.now at count }
     ensures most { array_string_len line.new ≤ array_string_len line.old + 15 }
 {
-    push_word(word_in(memory, at), line);
+    push_word(dis_word(memory, at), line);
     if count > 1 {
-        push_word(word_in(memory, at + 2), line);
+        push_word(dis_word(memory, at + 2), line);
     }
     if count > 2 {
-        push_word(word_in(memory, at + 4), line);
+        push_word(dis_word(memory, at + 4), line);
     }
 }
 

@@ -2,7 +2,7 @@ use Rattle.std.proofs.Common.{◌≡◌, ◌+◌, ◌-◌, ◌*◌, ◌<◌, ◌
 use Rattle.std.proofs.lemmas.List.{append_assoc}
 use Rattle.insn_decode.specs.Code.{length_or_one}
 use Rattle.sm_io.proofs.Putting.{took_nothing, took_then, took_same, cut_same, cut_within}
-use Rattle.sm_cli.specs.DisCommand.{insn_in, line_at, lines_below, listing}
+use Rattle.sm_cli.specs.DisCommand.{dis_insn, line_at, lines_below, listing}
 use Rattle.sm_cli.proofs.Listing.{after, lines_more, next_lines, all_lines}
 use Rattle.sm_cli.proofs.commands.dis.put_listing.Goals as goal
 
@@ -38,7 +38,7 @@ loop-at-preserved g c =
     let below : at < end = omega arith in
     let more = lines_more i.1 memory at end below i.2 in
     let bytes : c.as_bytes.result.now ≡ line_at memory at = c.as_bytes.ensures.value ∙ c.as_str.ensures.value ∙ c.line_at-line.ensures in
-    let words : c.length_or_one.result ≡ length_or_one (insn_in memory at) = c.length_or_one.ensures.exact ∙ ap length_or_one c.insn_in-insn.ensures.exact in
+    let words : c.length_or_one.result ≡ length_or_one (dis_insn memory at) = c.length_or_one.ensures.exact ∙ ap length_or_one c.dis_insn-insn.ensures.exact in
     let step : at + 2 * c.from-in-loop-at.result ≡ after memory at = omega (arith, words) in (
       i.0 ++ line,
       more.left_after,
