@@ -1,6 +1,6 @@
 //! The board: a machine that a caller runs.
 
-ghost use Rattle.std.specs.Prelude.{◌≡◌, ◌+◌, ◌<◌, ◌≤◌, ◌^◌, [], IfOk, IsSome, is_some, None};
+ghost use Rattle.std.specs.Prelude.{◌≡◌, ◌+◌, ◌<◌, ◌≤◌, ◌^◌, [], IfOk, IsSome, is_some, None, length};
 ghost use Rattle.isolation.specs.Calls.{stop_in};
 ghost use Rattle.written_machine.specs.Checks.{refused_in};
 ghost use Rattle.written_machine.specs.Cycle.{cycle};
@@ -35,6 +35,9 @@ use std::alloc::Global;
 use std::marker::Model;
 use tracer::{EndState, Event};
 use written_machine::Hidden;
+
+/// No end line has more bytes.
+pub const MOST_END_LINE: usize = 113;
 
 /// A running machine.
 ///
@@ -220,9 +223,10 @@ impl Board {
         }
     }
 
-    /// The end line.
+    /// The end line, which has at most [`MOST_END_LINE`](crate::MOST_END_LINE) bytes.
     pub fn finish<S: Sink>(&self, sink: &mut S) -> Result<(), Failed>
         ensures line { Puts S.taken S.faults S.sure sink.old sink.new (end_line_of self.now.present) result }
+        ensures few { length (end_line_of self.now.present) ≤ MOST_END_LINE }
 
         // It is that of each image that differs in one confined module's data alone.
         ensures peers { PeersEnd S.taken S.faults S.sure self.now.present sink.old sink.new result }

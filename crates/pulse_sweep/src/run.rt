@@ -9,11 +9,11 @@ ghost use Rattle.pulse_sweep.specs.internal.Told.{joined, columns_of};
 use crate::columns::{Columns, columns_of};
 use crate::{NoMemory, Pulses};
 use arrayvec::ArrayString;
-use board::Board;
+use board::{Board, MOST_END_LINE};
 use image_text::Image;
 use schedule_file::{Entry, Schedule, What};
 use sm_io::{Failed, MemSink};
-use std::alloc::{AllocError, Global};
+use std::alloc::Global;
 use tracer::Event;
 use written_machine::Hidden;
 
@@ -79,14 +79,14 @@ impl Run {
         ensures columns { self.new.columns ≡ self.old.columns }
         ensures trace { OnOk result (self.new.trace.items ≡ self.old.trace.items ++ end_line_of board.now.present) }
     {
-        let mut line = MemSink::new(alloc, END_LINE)?;
+        let mut line = MemSink::new(alloc, MOST_END_LINE)?;
         match board.finish(&mut line) {
             Ok(()) => {
                 self.trace.extend_from_slice(line.taken())?;
                 Ok(())
             }
             // It has room for each end line.
-            Err(Failed) => Err(AllocError),
+            Err(Failed) => unreachable!(),
         }
     }
 }
@@ -98,9 +98,6 @@ fn cycle_of(board: &Board) -> u64
 {
     board.view(Hidden::All).cycle()
 }
-
-// No end line has more bytes.
-const END_LINE: usize = 113;
 
 // Appends the lines of a cycle's events.
 fn push_lines(cycle: u64, events: &[Event], trace: &mut Vec<u8>) -> Result<(), NoMemory>
