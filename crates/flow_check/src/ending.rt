@@ -95,8 +95,8 @@ pub fn close(program: &Program<'_>, pc: u16, core: &Core, least: &mut Option<Vio
 /// Leaves the module with this state.
 #[tactic(auto, using(crate::proofs::Violations::noted_append))]
 pub fn leave(program: &Program<'_>, pc: u16, state: &Label, least: &mut Option<Violation>)
-    ensures { least.new ≡ noted (leaves (terms_of program.now) program.now.module.now pc state.now.core state.now.words).reasons
-        least.old }
+    ensures { least.new ≡ noted
+        (leaves (terms_of program.now) program.now.module.now pc state.now.core state.now.words).reasons least.old }
 {
     check_words(program.module, pc, &state.words, program.public, least);
     close(program, pc, &state.core, least);

@@ -207,11 +207,11 @@ impl Summaries {
 
     /// What the summary there says of a branch under a state. Where the branch is open, its arms then write.
     fn answer(&self, place: usize, site: &BranchSite, pc: u16, state: &mut Label) -> Option<Outcome>
-        ensures open { result ≡ Some Outcome.Open → (terms : Terms) (m : Module) (text returns : List ℕ) → m.text.start % 2 ≡ 0 →
-            All (IsSummary terms m text) self.now.list.items →
+        ensures open { result ≡ Some Outcome.Open → (terms : Terms) (m : Module) (text returns : List ℕ) →
+            m.text.start % 2 ≡ 0 → All (IsSummary terms m text) self.now.list.items →
             OpensTo terms m text site.now (branch_from pc returns state.old) state.new }
-        ensures shut { result ≡ Some Outcome.Shut → (terms : Terms) (m : Module) (text returns : List ℕ) → m.text.start % 2 ≡ 0 →
-            All (IsSummary terms m text) self.now.list.items →
+        ensures shut { result ≡ Some Outcome.Shut → (terms : Terms) (m : Module) (text returns : List ℕ) →
+            m.text.start % 2 ≡ 0 → All (IsSummary terms m text) self.now.list.items →
             (branch_step terms m text site.now (branch_from pc returns state.old)).reasons ≢ [] }
         ensures silent { result ≡ None → state.new ≡ state.old }
     {
@@ -246,11 +246,11 @@ impl Summaries {
         pc: u16,
         state: &mut Label,
     ) -> Option<Outcome>
-        ensures open { result ≡ Some Outcome.Open → (terms : Terms) (m : Module) (text returns : List ℕ) → m.text.start % 2 ≡ 0 →
-            All (IsSummary terms m text) self.now.list.items →
+        ensures open { result ≡ Some Outcome.Open → (terms : Terms) (m : Module) (text returns : List ℕ) →
+            m.text.start % 2 ≡ 0 → All (IsSummary terms m text) self.now.list.items →
             OpensTo terms m text site.now (branch_from pc returns state.old) state.new }
-        ensures shut { result ≡ Some Outcome.Shut → (terms : Terms) (m : Module) (text returns : List ℕ) → m.text.start % 2 ≡ 0 →
-            All (IsSummary terms m text) self.now.list.items →
+        ensures shut { result ≡ Some Outcome.Shut → (terms : Terms) (m : Module) (text returns : List ℕ) →
+            m.text.start % 2 ≡ 0 → All (IsSummary terms m text) self.now.list.items →
             (branch_step terms m text site.now (branch_from pc returns state.old)).reasons ≢ [] }
         ensures silent { result ≡ None → state.new ≡ state.old }
     {
@@ -264,8 +264,9 @@ impl Summaries {
 
     /// Keeps a summary in a point's own place, and tells the place.
     fn keep(&mut self, own: Option<usize>, summary: Summary) -> Result<usize, AllocError>
-        ensures summaries { IfOk result (λ _. (terms : Terms) (m : Module) (text : List ℕ) → IsSummary terms m text summary →
-            All (IsSummary terms m text) self.old.list.items → All (IsSummary terms m text) self.new.list.items) }
+        ensures summaries { IfOk result (λ _. (terms : Terms) (m : Module) (text : List ℕ) →
+            IsSummary terms m text summary → All (IsSummary terms m text) self.old.list.items →
+            All (IsSummary terms m text) self.new.list.items) }
     {
         let place = match own {
             Some(place) => place,

@@ -76,8 +76,8 @@ pub fn evenness()
     ensures even { Evenness }
 {}
 
-/// Where the verdict is yes under terms, no list of calls tells two data apart that agree on the public words, but by the
-/// answers; and each call leaves data that agree on them, whatever its answers are.
+/// Where the verdict is yes under terms, no list of calls tells two data apart that agree on the public words, but by
+/// the answers; and each call leaves data that agree on them, whatever its answers are.
 pub fn released()
     ensures even { Released }
     ensures kept { Kept }
