@@ -5,7 +5,6 @@ use Rattle.texts.specs.Decimals.{read_decimal}
 use Rattle.texts.specs.Hexadecimals.{read_hex_word}
 use Rattle.texts.specs.Rows.{Rows, rows_of}
 use Rattle.cpu_step.specs.Lone.{is_answer}
-use Rattle.flow_rule.specs.Terms.{Terms}
 use Rattle.terms_file.specs.declared.Term.{Term}
 use Rattle.terms_file.specs.declared.Term.TheVariants.{Answer, Public}
 use Rattle.terms_file.specs.declared.TermsFault.{TermsFault}
@@ -57,6 +56,9 @@ abbrev pub public_in : Term → List ℕ
 public_in (Answer n) = []
 public_in (Public a) = a ∷ []
 
--- what these lines say
-abbrev pub told_by : List Term → Terms
-told_by terms = record { answers = flat_map answer_in terms; public = flat_map public_in terms }
+-- the registers that may be answers, and the addresses of the public words
+abbrev pub registers_in : List Term → List ℕ
+registers_in terms = flat_map answer_in terms
+
+abbrev pub addresses_in : List Term → List ℕ
+addresses_in terms = flat_map public_in terms

@@ -8,7 +8,7 @@ use std::alloc::{AllocError, Global};
 
 /// The registers of the answers, in their order. An error means that an allocation failed.
 pub fn answers(alloc: Global, terms: &[Term]) -> Result<Vec<u8>, AllocError>
-    ensures { IfOk result (λ list. list.items ≡ (spec.told_by terms.now).answers) }
+    ensures { IfOk result (λ list. list.items ≡ spec.registers_in terms.now) }
 {
     let mut list = Vec::new(alloc);
     for term in terms {
@@ -19,7 +19,7 @@ pub fn answers(alloc: Global, terms: &[Term]) -> Result<Vec<u8>, AllocError>
 
 /// The addresses of the public words, in their order. An error means that an allocation failed.
 pub fn public(alloc: Global, terms: &[Term]) -> Result<Vec<u16>, AllocError>
-    ensures { IfOk result (λ list. list.items ≡ (spec.told_by terms.now).public) }
+    ensures { IfOk result (λ list. list.items ≡ spec.addresses_in terms.now) }
 {
     let mut list = Vec::new(alloc);
     for term in terms {
