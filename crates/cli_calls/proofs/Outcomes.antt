@@ -2,7 +2,6 @@
 use Rattle.std.proofs.Common.{◌≡◌, ℕ, ◌<◌, List, [], ◌∷◌, length, Option, Some, None, refl, sym, ◌∙◌, ap, ap₂, subst, arith, inl, inr}
 use Rattle.std.specs.Prelude.{IsSomeAnd}
 use Rattle.sm_io.specs.Files.{FileMap}
-use Rattle.flow_rule.specs.Terms.{no_terms}
 use Rattle.flow_rule.specs.Verdict.{start_under}
 use Rattle.flow_rule.specs.Arms.{flow_under}
 use Rattle.link_symbols.specs.declared.fault.LinkFault.{LinkFault}
@@ -19,8 +18,8 @@ use Rattle.flow_rule.proofs.OneVerdict.{one_verdict}
 one_told : (outcome : Outcome) (a b : Answer) → Answers outcome a → Answers outcome b → a ≡ b
 one_told (gives own) a b r s = sym r ∙ s
 one_told (runs value entries cycles) a b r s = sym r ∙ s
-one_told (judges owner text arms) a b r s =
-    r.tells ∙ ap verdict_answer (one_verdict (flow_under no_terms owner text arms) (start_under no_terms owner text) owner.text.start r.verdict s.verdict r.is s.is) ∙ sym s.tells
+one_told (judges terms owner text arms) a b r s =
+    r.tells ∙ ap verdict_answer (one_verdict (flow_under terms owner text arms) (start_under terms owner text) owner.text.start r.verdict s.verdict r.is s.is) ∙ sym s.tells
 one_told (refuses fault name) a b r s = absurd r
 one_told nothing a b r s = absurd r
 
@@ -39,6 +38,7 @@ module _ (map : FileMap) where
   serves wanted held (fault.Challenges refusal) r h = accepted wanted.kind r.bytes held (fault.Challenges refusal) r.is (subst (λ o. HasFault wanted.kind o (fault.Challenges refusal)) r.file h).1
   serves wanted held (fault.Trace refusal) r h = accepted wanted.kind r.bytes held (fault.Trace refusal) r.is (subst (λ o. HasFault wanted.kind o (fault.Trace refusal)) r.file h).1
   serves wanted held (fault.Arms refusal) r h = accepted wanted.kind r.bytes held (fault.Arms refusal) r.is (subst (λ o. HasFault wanted.kind o (fault.Arms refusal)) r.file h).1
+  serves wanted held (fault.Terms refusal) r h = accepted wanted.kind r.bytes held (fault.Terms refusal) r.is (subst (λ o. HasFault wanted.kind o (fault.Terms refusal)) r.file h).1
   serves wanted held (fault.Layout refusal) r h = accepted wanted.kind r.bytes held (fault.Layout refusal) r.is (subst (λ o. HasFault wanted.kind o (fault.Layout refusal)) r.file h).1
   serves wanted held (fault.Object refusal) r h = accepted wanted.kind r.bytes held (fault.Object refusal) r.is (subst (λ o. HasFault wanted.kind o (fault.Object refusal)) r.file h).1
   serves wanted held (fault.Script refusal) r h = accepted wanted.kind r.bytes held (fault.Script refusal) r.is (subst (λ o. HasFault wanted.kind o (fault.Script refusal)) r.file h).1
@@ -88,9 +88,9 @@ pub some_answer : (map : FileMap) (command : Command) (outcome : Outcome) (P : A
 some_answer map command (gives own) P some c p = (own, refl, p own (record { outcome = gives own; comes = c; is = refl }))
 some_answer map command (runs value entries cycles) P some c p =
     (trace_answer value entries cycles, refl, p (trace_answer value entries cycles) (record { outcome = runs value entries cycles; comes = c; is = refl }))
-some_answer map command (judges owner text arms) P some c p =
-    let v = some_verdict (flow_under no_terms owner text arms) (start_under no_terms owner text) owner.text.start in
-    let told : IsJudged owner text arms (verdict_answer v.0) = record { verdict = v.0; is = v.1; tells = refl } in
-    (verdict_answer v.0, told, p (verdict_answer v.0) (record { outcome = judges owner text arms; comes = c; is = told }))
+some_answer map command (judges terms owner text arms) P some c p =
+    let v = some_verdict (flow_under terms owner text arms) (start_under terms owner text) owner.text.start in
+    let told : IsJudged terms owner text arms (verdict_answer v.0) = record { verdict = v.0; is = v.1; tells = refl } in
+    (verdict_answer v.0, told, p (verdict_answer v.0) (record { outcome = judges terms owner text arms; comes = c; is = told }))
 some_answer map command (refuses fault name) P some c p = tt
 some_answer map command nothing P some c p = absurd (some refl)

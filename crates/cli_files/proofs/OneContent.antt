@@ -18,6 +18,9 @@ use Rattle.vendor_tool.specs.Replies.{replies_of}
 use Rattle.arm_balance.specs.declared.Arm.{Arm}
 use Rattle.arm_balance.specs.declared.ArmsFault.{ArmsFault}
 use Rattle.arm_balance.specs.Certificates.{arms_of}
+use Rattle.terms_file.specs.declared.Term.{Term}
+use Rattle.terms_file.specs.declared.TermsFault.{TermsFault}
+use Rattle.terms_file.specs.Terms.{terms_of}
 use Rattle.layout_file.specs.declared.fault.LayoutFault.{LayoutFault}
 use Rattle.layout_file.specs.Layout.{LayoutOf}
 use Rattle.layout_file.specs.Values.{LayoutValue}
@@ -34,7 +37,7 @@ use Rattle.script_file.specs.declared.ScriptFault.{ScriptFault}
 use Rattle.script_file.specs.Reading.{script_of}
 use Rattle.cli_files.specs.declared.answers.FileFault.{FileFault}
 use Rattle.cli_files.specs.declared.answers.FileFault.TheVariants as fault
-use Rattle.cli_files.specs.Files.{Kind, image_file, image_with, schedule_file, challenges_file, trace_file, arms_file, layout_file, object_file, script_file, Held, an_image, a_schedule, the_challenges, the_replies, certificates, a_layout, an_object, a_script, IsTextOf, IsHeld, HasNoModule, IsRefused, most_bytes, HasFault, source_file, a_unit}
+use Rattle.cli_files.specs.Files.{Kind, image_file, image_with, schedule_file, challenges_file, trace_file, arms_file, terms_file, layout_file, object_file, script_file, Held, an_image, a_schedule, the_challenges, the_replies, certificates, the_terms, a_layout, an_object, a_script, IsTextOf, IsHeld, HasNoModule, IsRefused, most_bytes, HasFault, source_file, a_unit}
 use Rattle.asm_text.specs.declared.unit.AsmFault.{AsmFault}
 use Rattle.asm_text.specs.Assembly.{assembled}
 use Rattle.asm_text.specs.Parts.{UnitValue}
@@ -48,6 +51,7 @@ Content schedule_file = List Entry
 Content challenges_file = List Challenge
 Content trace_file = List ℕ
 Content arms_file = List Arm
+Content terms_file = List Term
 Content layout_file = LayoutValue
 Content object_file = ObjectValue
 Content script_file = List ScriptLine
@@ -60,6 +64,7 @@ as_held schedule_file entries = a_schedule entries
 as_held challenges_file list = the_challenges list
 as_held trace_file sent = the_replies sent
 as_held arms_file arms = certificates arms
+as_held terms_file terms = the_terms terms
 as_held layout_file layout = a_layout layout
 as_held object_file object = an_object object
 as_held script_file script = a_script script
@@ -73,6 +78,7 @@ own_content schedule_file bytes (a_schedule entries) h = (entries, refl)
 own_content challenges_file bytes (the_challenges list) h = (list, refl)
 own_content trace_file bytes (the_replies sent) h = (sent, refl)
 own_content arms_file bytes (certificates arms) h = (arms, refl)
+own_content terms_file bytes (the_terms terms) h = (terms, refl)
 own_content layout_file bytes (a_layout layout) h = (layout, refl)
 own_content object_file bytes (an_object object) h = (object, refl)
 own_content script_file bytes (a_script script) h = (script, refl)
@@ -100,6 +106,7 @@ one_content schedule_file bytes a b r s = let same = sym r ∙ s in cc
 one_content challenges_file bytes a b r s = let same = sym r ∙ s in cc
 one_content trace_file bytes a b r s = let same = sym r ∙ s in cc
 one_content arms_file bytes a b r s = let same = sym r ∙ s in cc
+one_content terms_file bytes a b r s = let same = sym r ∙ s in cc
 one_content layout_file bytes a b r s = let same = sym r ∙ s in cc
 one_content object_file bytes a b r s = ap an_object (one_object bytes a b r s)
 one_content script_file bytes a b r s = let same = sym r ∙ s in cc
@@ -131,6 +138,7 @@ not_refused schedule_file bytes entries (fault.Schedule refusal) r h = let clash
 not_refused challenges_file bytes list (fault.Challenges refusal) r h = let clash = sym r ∙ h in cc
 not_refused trace_file bytes sent (fault.Trace refusal) r h = let clash = sym r ∙ h in cc
 not_refused arms_file bytes arms (fault.Arms refusal) r h = let clash = sym r ∙ h in cc
+not_refused terms_file bytes terms (fault.Terms refusal) r h = let clash = sym r ∙ h in cc
 not_refused layout_file bytes layout (fault.Layout refusal) r h = let clash = sym r ∙ h in cc
 not_refused object_file bytes object (fault.Object refusal) r h = let clash = sym r.0.sound ∙ ap elf_fault_of r.1 ∙ h in cc
 not_refused script_file bytes script (fault.Script refusal) r h = let clash = sym r ∙ h in cc
@@ -173,6 +181,10 @@ arms_examined : (bytes : List ℕ) (r : Result (List Arm) ArmsFault) → arms_of
 arms_examined bytes (Ok arms) e = inl (certificates arms, e)
 arms_examined bytes (Err refusal) e = inr (fault.Arms refusal, λ short. (short, e))
 
+terms_examined : (bytes : List ℕ) (r : Result (List Term) TermsFault) → terms_of bytes ≡ r → Examined terms_file bytes
+terms_examined bytes (Ok terms) e = inl (the_terms terms, e)
+terms_examined bytes (Err refusal) e = inr (fault.Terms refusal, λ short. (short, e))
+
 layout_examined : (bytes : List ℕ) (r : Result LayoutValue LayoutFault) → LayoutOf bytes ≡ r → Examined layout_file bytes
 layout_examined bytes (Ok layout) e = inl (a_layout layout, e)
 layout_examined bytes (Err refusal) e = inr (fault.Layout refusal, λ short. (short, e))
@@ -199,6 +211,7 @@ examined schedule_file bytes = schedule_examined bytes (schedule_of bytes) refl
 examined challenges_file bytes = challenges_examined bytes (challenges_of bytes) refl
 examined trace_file bytes = trace_examined bytes (replies_of bytes) refl
 examined arms_file bytes = arms_examined bytes (arms_of bytes) refl
+examined terms_file bytes = terms_examined bytes (terms_of bytes) refl
 examined layout_file bytes = layout_examined bytes (LayoutOf bytes) refl
 examined object_file bytes = object_examined bytes (elf_fault_of bytes) refl
 examined script_file bytes = script_examined bytes (script_of bytes) refl

@@ -13,6 +13,8 @@ use Rattle.vendor_tool.specs.declared.TraceFault.{TraceFault}
 use Rattle.vendor_tool.specs.declared.TraceFault.TheVariants as trace_fault
 use Rattle.arm_balance.specs.declared.ArmsFault.{ArmsFault}
 use Rattle.arm_balance.specs.declared.ArmsFault.TheVariants as arms_fault
+use Rattle.terms_file.specs.declared.TermsFault.{TermsFault}
+use Rattle.terms_file.specs.declared.TermsFault.TheVariants as terms_fault
 use Rattle.script_file.specs.declared.ScriptFault.{ScriptFault}
 use Rattle.script_file.specs.declared.ScriptFault.TheVariants as script_fault
 use Rattle.elf_objects.specs.declared.fault.ElfFault.{ElfFault}
@@ -64,6 +66,12 @@ arms_fault_text arms_fault.TooMany = codes "TooMany"
 arms_fault_text (arms_fault.Line n) = codes "Line " ++ decimal n
 arms_fault_text (arms_fault.NotRising n) = codes "NotRising " ++ decimal n
 arms_fault_text arms_fault.NoMemory = codes "NoMemory"
+
+abbrev pub terms_fault_text : TermsFault → List ℕ
+terms_fault_text terms_fault.TooMany = codes "TooMany"
+terms_fault_text (terms_fault.Line n) = codes "Line " ++ decimal n
+terms_fault_text (terms_fault.NotRising n) = codes "NotRising " ++ decimal n
+terms_fault_text terms_fault.NoMemory = codes "NoMemory"
 
 abbrev pub script_fault_text : ScriptFault → List ℕ
 script_fault_text (script_fault.Line n) = codes "Line " ++ decimal n
@@ -140,6 +148,7 @@ fault_text (fault.Schedule refusal) = schedule_fault_text refusal
 fault_text (fault.Challenges refusal) = challenge_fault_text refusal
 fault_text (fault.Trace refusal) = trace_fault_text refusal
 fault_text (fault.Arms refusal) = arms_fault_text refusal
+fault_text (fault.Terms refusal) = terms_fault_text refusal
 fault_text (fault.Layout refusal) = layout_fault_text refusal
 fault_text (fault.Object refusal) = object_fault_text refusal
 fault_text (fault.Script refusal) = script_fault_text refusal

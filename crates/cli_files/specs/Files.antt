@@ -12,6 +12,8 @@ use Rattle.vendor_tool.specs.ChallengeText.{challenges_of}
 use Rattle.vendor_tool.specs.Replies.{replies_of}
 use Rattle.arm_balance.specs.declared.Arm.{Arm}
 use Rattle.arm_balance.specs.Certificates.{arms_of}
+use Rattle.terms_file.specs.declared.Term.{Term}
+use Rattle.terms_file.specs.Terms.{terms_of}
 use Rattle.layout_file.specs.Layout.{LayoutOf}
 use Rattle.layout_file.specs.Values.{LayoutValue}
 use Rattle.elf_objects.specs.Object.{ObjectValue, IsObject, elf_fault_of}
@@ -32,6 +34,8 @@ pub data Kind : Type 0 where
   trace_file : Kind
   -- certificates of balanced branches
   arms_file : Kind
+  -- what a module may answer, and which of its data are public
+  terms_file : Kind
   layout_file : Kind
   object_file : Kind
   script_file : Kind
@@ -46,6 +50,7 @@ pub data Held : Type 0 where
   -- the bytes that a trace says were sent
   the_replies : (sent : List ℕ) → Held
   certificates : (arms : List Arm) → Held
+  the_terms : (terms : List Term) → Held
   a_layout : (layout : LayoutValue) → Held
   an_object : (object : ObjectValue) → Held
   a_script : (script : List ScriptLine) → Held
@@ -64,6 +69,7 @@ IsHeld schedule_file bytes (a_schedule entries) = schedule_of bytes ≡ Ok entri
 IsHeld challenges_file bytes (the_challenges list) = challenges_of bytes ≡ Ok list
 IsHeld trace_file bytes (the_replies sent) = replies_of bytes ≡ Ok sent
 IsHeld arms_file bytes (certificates arms) = arms_of bytes ≡ Ok arms
+IsHeld terms_file bytes (the_terms terms) = terms_of bytes ≡ Ok terms
 IsHeld layout_file bytes (a_layout layout) = LayoutOf bytes ≡ Ok layout
 IsHeld object_file bytes (an_object object) = IsObject object × (object.file ≡ bytes)
 IsHeld script_file bytes (a_script script) = script_of bytes ≡ Ok script
@@ -85,6 +91,7 @@ IsRefused schedule_file bytes (fault.Schedule refusal) = schedule_of bytes ≡ E
 IsRefused challenges_file bytes (fault.Challenges refusal) = challenges_of bytes ≡ Err refusal
 IsRefused trace_file bytes (fault.Trace refusal) = replies_of bytes ≡ Err refusal
 IsRefused arms_file bytes (fault.Arms refusal) = arms_of bytes ≡ Err refusal
+IsRefused terms_file bytes (fault.Terms refusal) = terms_of bytes ≡ Err refusal
 IsRefused layout_file bytes (fault.Layout refusal) = LayoutOf bytes ≡ Err refusal
 IsRefused object_file bytes (fault.Object refusal) = elf_fault_of bytes ≡ Some refusal
 IsRefused script_file bytes (fault.Script refusal) = script_of bytes ≡ Err refusal

@@ -14,6 +14,7 @@ use linker::LinkFault;
 use schedule_file::ScheduleFault;
 use script_file::ScriptFault;
 use sm_io::Failed;
+use terms_file::TermsFault;
 use vendor_tool::{ChallengeFault, TraceFault};
 
 /// The status of a call.
@@ -58,6 +59,8 @@ pub enum FileFault {
     Trace(TraceFault),
     /// It is no certificates' text.
     Arms(ArmsFault),
+    /// It is no text of terms.
+    Terms(TermsFault),
     /// It is no layout.
     Layout(LayoutFault),
     /// It is no object.

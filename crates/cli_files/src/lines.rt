@@ -2,7 +2,7 @@
 ghost use Rattle.std.specs.Prelude.{◌++◌, codes};
 ghost use Rattle.std.specs.Fmt.{decimal};
 ghost use Rattle.sm_io.specs.Sink.{Puts};
-ghost use Rattle.cli_files.specs.Faults.{challenge_fault_text, fault_text, image_fault_text, schedule_fault_text, table_fault_text, trace_fault_text, arms_fault_text, script_fault_text};
+ghost use Rattle.cli_files.specs.Faults.{challenge_fault_text, fault_text, image_fault_text, schedule_fault_text, table_fault_text, trace_fault_text, arms_fault_text, terms_fault_text, script_fault_text};
 ghost use Rattle.cli_files.specs.Refusal.{line_of, refusal_text, link_end};
 ghost use Rattle.cli_files.specs.NameText.{name_text};
 ghost use Rattle.cli_files.specs.LinkFaults.{link_fault_text};
@@ -19,6 +19,7 @@ use mod_layout::TableFault;
 use schedule_file::ScheduleFault;
 use script_file::ScriptFault;
 use sm_io::{Failed, Sink, put_all};
+use terms_file::TermsFault;
 use vendor_tool::{ChallengeFault, TraceFault};
 
 /// Puts a name and a number.
@@ -116,6 +117,17 @@ fn put_arms_fault<S: Sink>(sink: &mut S, fault: ArmsFault) -> Result<(), Failed>
     }
 }
 
+fn put_terms_fault<S: Sink>(sink: &mut S, fault: TermsFault) -> Result<(), Failed>
+    ensures { Puts S.taken S.faults S.sure sink.old sink.new (terms_fault_text fault) result }
+{
+    match fault {
+        TermsFault::TooMany => put_all(sink, b"TooMany"),
+        TermsFault::Line { n } => put_field(sink, b"Line ", n),
+        TermsFault::NotRising { n } => put_field(sink, b"NotRising ", n),
+        TermsFault::NoMemory => put_all(sink, b"NoMemory"),
+    }
+}
+
 fn put_script_fault<S: Sink>(sink: &mut S, fault: ScriptFault) -> Result<(), Failed>
     ensures { Puts S.taken S.faults S.sure sink.old sink.new (script_fault_text fault) result }
 {
@@ -138,6 +150,7 @@ fn put_fault<S: Sink>(sink: &mut S, fault: FileFault) -> Result<(), Failed>
         FileFault::Challenges(fault) => put_challenge_fault(sink, fault),
         FileFault::Trace(fault) => put_trace_fault(sink, fault),
         FileFault::Arms(fault) => put_arms_fault(sink, fault),
+        FileFault::Terms(fault) => put_terms_fault(sink, fault),
         FileFault::Layout(fault) => put_layout_fault(sink, fault),
         FileFault::Object(fault) => put_object_fault(sink, fault),
         FileFault::Script(fault) => put_script_fault(sink, fault),

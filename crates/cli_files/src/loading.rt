@@ -9,7 +9,7 @@ ghost use Rattle.mod_layout.specs.Table.{module_of};
 ghost use Rattle.mod_layout.specs.Tables.{IsModule};
 ghost use Rattle.script_file.specs.Bounds.{all_cycles};
 ghost use Rattle.cli_files.specs.Content.{IsContentRefusal};
-ghost use Rattle.cli_files.specs.Files.{Kind, Held, an_image, a_schedule, the_challenges, the_replies, image_file, image_with, schedule_file, challenges_file, trace_file, need, schedule_needs, HasFile, IsHeld, Holds, IsScheduleOf, most_bytes, certificates, arms_file, a_layout, an_object, layout_file, object_file, object_needs, HoldAll, a_script, script_file, a_unit, source_file};
+ghost use Rattle.cli_files.specs.Files.{Kind, Held, an_image, a_schedule, the_challenges, the_replies, image_file, image_with, schedule_file, challenges_file, trace_file, need, schedule_needs, HasFile, IsHeld, Holds, IsScheduleOf, most_bytes, certificates, arms_file, the_terms, terms_file, a_layout, an_object, layout_file, object_file, object_needs, HoldAll, a_script, script_file, a_unit, source_file};
 ghost use Rattle.cli_files.specs.NameText.{name_text};
 ghost use Rattle.cli_files.specs.Causes.{IsNeedCause};
 
@@ -25,6 +25,7 @@ use schedule_file::{Schedule, ScheduleFault};
 use script_file::{Script, ScriptFault, read_script};
 use sm_io::{Files, ReadFault, read_whole};
 use std::alloc::Global;
+use terms_file::{Terms, TermsFault, read_terms};
 use vendor_tool::{ChallengeFault, Challenges, TraceFault, read_challenges, read_replies};
 
 /// What a file of one kind holds.
@@ -128,6 +129,20 @@ impl Content for Arms {
             Ok(arms) => Ok(arms),
             Err(ArmsFault::NoMemory) => Err(Refusal::NoMemory),
             Err(fault) => Err(Refusal::BadFile(FileFault::Arms(fault))),
+        }
+    }
+}
+
+impl Content for Terms {
+    ghost kind = { terms_file };
+
+    ghost held = { λ terms. the_terms terms.list.items };
+
+    fn examine(alloc: Global, bytes: Vec<u8>) -> Result<Self, Refusal> {
+        match read_terms(alloc, &bytes) {
+            Ok(terms) => Ok(terms),
+            Err(TermsFault::NoMemory) => Err(Refusal::NoMemory),
+            Err(fault) => Err(Refusal::BadFile(FileFault::Terms(fault))),
         }
     }
 }

@@ -1,10 +1,14 @@
 -- What comes of the files of every command line.
-use Rattle.std.proofs.Common.{◌≡◌, ◌≢◌, ℕ, List, [], ◌∷◌, map, Option, Some, refl, sym, ◌∙◌, ap, subst}
+use Rattle.std.proofs.Common.{◌≡◌, ◌≢◌, ℕ, List, [], ◌∷◌, map, Option, Some, None, is_some, true, refl, sym, ◌∙◌, ap, subst}
 use Rattle.std.specs.Prelude.{codes}
 use Rattle.std.specs.Str.{bytes_eq}
 use Rattle.sm_io.specs.Files.{FileMap}
 use Rattle.elf_objects.specs.Object.{ObjectValue}
 use Rattle.layout_file.specs.Values.{LayoutValue}
+use Rattle.arm_balance.specs.declared.Arm.{Arm}
+use Rattle.mod_layout.specs.declared.Module.{Module}
+use Rattle.mod_layout.specs.Table.{module_of}
+use Rattle.terms_file.specs.declared.Term.{Term}
 use Rattle.image_text.specs.Image.{Image}
 use Rattle.linker.specs.Refusals.{link_fault_of}
 use Rattle.link_map.specs.Map.{map_text}
@@ -12,14 +16,16 @@ use Rattle.pulse_sweep.specs.Sweep.{different, sweep_text}
 use Rattle.pulse_sweep.specs.declared.Pulses.{Pulses}
 use Rattle.cli_files.specs.declared.answers.Status.{Status}
 use Rattle.cli_files.specs.declared.answers.Status.TheVariants as status
-use Rattle.cli_files.specs.Files.{need, image_file, layout_file, a_layout, an_image, an_object, object_needs, Holds, HoldAll}
+use Rattle.cli_files.specs.Files.{need, image_file, layout_file, a_layout, an_image, the_terms, certificates, an_object, object_needs, Holds, HoldAll}
 use Rattle.cli_calls.specs.Calls.{Completes}
 use Rattle.cli_calls.specs.Command.{Command, Outcome, done, gives, nothing, Comes}
 use Rattle.cli_calls.specs.Linking.{linked, objects_in}
+use Rattle.cli_calls.specs.Ids.{id_of}
 use Rattle.cli_calls.specs.Words.{Text, values_in}
 use Rattle.cli_calls.proofs.Sound.{Sound, some_linked, IfSound, if_none, if_some, if_map, if_then, if_else}
 use Rattle.lab_cli.specs.CommandLine.{command_by, command_of}
 use Rattle.lab_cli.specs.MapCommand.{map_command, map_of}
+use Rattle.lab_cli.specs.ReleasedCommand.{released_by, released_command, released_in, released_of}
 use Rattle.lab_cli.specs.SweepCommand.{pulses_of, sweep_answer, sweep_command, sweep_of, sweep_status}
 
 -- what comes of a layout and objects
@@ -33,6 +39,20 @@ sound_map name objects map [] h e = h
 sound_map name objects map (a_layout layout ∷ more) h e =
     some_linked layout (objects_in more) (λ image. done (map_text layout (objects_in more))) (link_fault_of layout (objects_in more)) (λ image e. cc) e
 sound_map name objects map (held ∷ more) h e = h.0.is
+
+some_released : (value : Image) (terms : List Term) (arms : List Arm) (o : Option Module) → is_some o ≡ true → released_by value terms arms o ≡ nothing → ⊥
+some_released value terms arms None s e = cc
+some_released value terms arms (Some owner) s e = cc
+
+sound_released : (name : Text) (id : ℕ) (terms arms : Text) → Sound (released_command name id terms arms)
+sound_released name id terms arms map [] h e = h
+sound_released name id terms arms map (held ∷ []) h e = h.1
+sound_released name id terms arms map (held ∷ second ∷ []) h e = h.1.1
+sound_released name id terms arms map (an_image value ∷ the_terms told ∷ certificates own ∷ []) h e = some_released value told own (module_of id value.table) h.0.is.1 e
+sound_released name id terms arms map (an_image value ∷ the_terms told ∷ certificates own ∷ held ∷ more) h e = h.1.1.1
+sound_released name id terms arms map (an_image value ∷ the_terms told ∷ held ∷ more) h e = h.1.1.0.is
+sound_released name id terms arms map (an_image value ∷ held ∷ third ∷ more) h e = h.1.0.is
+sound_released name id terms arms map (held ∷ second ∷ third ∷ more) h e = h.0.is
 
 sound_sweep : (first second : Text) (pulses : Pulses) → Sound (sweep_command first second pulses)
 sound_sweep first second pulses map [] h e = h
@@ -59,6 +79,10 @@ of_map : (vs : List Text) → IfSound (map_of vs)
 of_map (layout ∷ objects) = if_some (map_command layout objects) (sound_map layout objects)
 of_map [] = if_none
 
+of_released : (vs : List Text) → IfSound (released_of vs)
+of_released (name ∷ id ∷ terms ∷ arms ∷ []) = if_map (released_in name terms arms) (id_of id) (λ own. sound_released name own terms arms)
+of_released _ = if_none
+
 of_sweep : (vs : List Text) → IfSound (sweep_of vs)
 of_sweep (first ∷ second ∷ line ∷ from ∷ to ∷ cycles ∷ []) = if_map (sweep_command first second) (pulses_of line from to cycles) (sound_sweep first second)
 of_sweep _ = if_none
@@ -66,8 +90,9 @@ of_sweep _ = if_none
 of_name : (name : Text) (words : List Text) → IfSound (command_by name words)
 of_name name words =
     if_else (bytes_eq name (codes "map")) _ _ (if_then map_of (values_in 2 65 words) of_map) (
+    if_else (bytes_eq name (codes "released")) _ _ (if_then released_of (values_in 4 4 words) of_released) (
     if_else (bytes_eq name (codes "sweep")) _ _ (if_then sweep_of (values_in 6 6 words) of_sweep) (
-    if_none))
+    if_none)))
 
 -- what comes of the files of a command line is something
 pub something : (words : List Text) (map : FileMap) (command : Command) (outcome : Outcome) → command_of words ≡ Some command → Comes (Some map) command outcome → outcome ≡ nothing → ⊥

@@ -1,5 +1,7 @@
 pub mod MapCommand
+pub mod ReleasedCommand
 pub mod SweepCommand
 pub mod CommandLine
 pub mod Sweeps
+pub mod Releases
 pub mod internal

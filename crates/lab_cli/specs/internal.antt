@@ -1,3 +1,4 @@
 pub mod MapCommand
+pub mod ReleasedCommand
 pub mod SweepCommand
 pub mod CommandLine

@@ -5,6 +5,7 @@ ghost use Rattle.lab_cli.specs.CommandLine.{command_by, command_of};
 ghost use Rattle.lab_cli.specs.internal.CommandLine.{asked, IsBounded};
 
 use crate::map::{self, MapCommand};
+use crate::released::{self, ReleasedCommand};
 use crate::sweep::{self, SweepCommand};
 use cli_calls::Answering;
 use cli_files::{Refused, Status};
@@ -15,6 +16,7 @@ use std::alloc::{AllocError, Global};
 #[derive(Drop)]
 pub enum LabCommand<'a> {
     Map(MapCommand<'a>),
+    Released(ReleasedCommand<'a>),
     Sweep(SweepCommand<'a>),
 }
 
@@ -44,6 +46,8 @@ fn command_by<'a>(
 {
     if name == "map" {
         Ok(map::read(alloc, words)?.map(LabCommand::Map))
+    } else if name == "released" {
+        Ok(released::read(alloc, words)?.map(LabCommand::Released))
     } else if name == "sweep" {
         Ok(sweep::read(alloc, words)?.map(LabCommand::Sweep))
     } else {
@@ -64,6 +68,7 @@ impl Answering for LabCommand<'_> {
     ) -> Result<Status, Refused<'_>> {
         match self {
             LabCommand::Map(command) => command.answer(alloc, files, out),
+            LabCommand::Released(command) => command.answer(alloc, files, out),
             LabCommand::Sweep(command) => command.answer(alloc, files, out),
         }
     }

@@ -3,6 +3,7 @@
 
 mod commands;
 mod map;
+mod released;
 mod sweep;
 mod top;
 

@@ -10,8 +10,14 @@ ghost use Rattle.cli_calls.specs.Calls.{Completes, Ended, IsOrOutside, Refuses, 
 ghost use Rattle.cli_calls.specs.Command.{Command, Comes, IfAnswered, Outcome, refuses};
 ghost use Rattle.cli_calls.specs.Words.{texts};
 ghost use Rattle.image_text.specs.Image.{Image};
-ghost use Rattle.written_machine.specs.Peers.{Peers};
+ghost use Rattle.mod_layout.specs.declared.Module.{Module};
+ghost use Rattle.flow_rule.specs.Laws.{AgreeOn};
+ghost use Rattle.peer_rows.specs.Laws.{DifferInData};
+ghost use Rattle.terms_file.specs.declared.Term.{Term};
+ghost use Rattle.written_machine.specs.Peers.{Peers, PeersBut, section};
 ghost use Rattle.lab_cli.specs.CommandLine.{command_of};
+ghost use Rattle.lab_cli.specs.ReleasedCommand.{told_by};
+ghost use Rattle.lab_cli.specs.Releases.{IsRelease};
 ghost use Rattle.lab_cli.specs.Sweeps.{IsSweep};
 
 use crate::commands::read_command;
@@ -56,6 +62,12 @@ pub fn serve<F: Files, O: Sink, E: Sink>(
     ensures peers { (first second : Image) (id : ℕ) → IsSweep (texts words.now) (F.content files.old) first second →
         Peers first second id → result ≢ Status.CheckNo }
 
+    // A module judged yes under terms: every image that differs in its data alone, and in no public word, is a peer but for the answers.
+    ensures released { result ≡ Status.Done → (value other : Image) (id : ℕ) (owner : Module) (terms : List Term) →
+        IsRelease (texts words.now) (F.content files.old) value id terms → DifferInData value other id owner →
+        AgreeOn owner (told_by terms).public (section owner.ram value.memory) (section owner.ram other.memory) →
+        PeersBut value other id (told_by terms).answers }
+
     // Files that are sound are read without a fault.
     ensures sound { IsTrue (F.sound files.old) →
         (result ≢ Status.ReadFault) × (F.faults files.new ≡ F.faults files.old) }
@@ -64,6 +76,8 @@ pub fn serve<F: Files, O: Sink, E: Sink>(
     ensures unread { result ≡ Status.Usage → files.new ≡ files.old }
 {
     pulse_sweep::laws::peers();
+    peer_rows::accepted_are_peers();
+    terms_file::laws::terms_name_answers();
     let read = read_command(alloc, words);
     end_call(alloc, b"sancus-lab", read, files, out, err)
 }

@@ -9,6 +9,7 @@ use Rattle.arm_balance.specs.declared.Arm.{Arm}
 use Rattle.flow_rule.specs.declared.Verdict.{Verdict}
 use Rattle.flow_rule.specs.declared.Verdict.TheVariants.{Yes, No}
 use Rattle.flow_rule.specs.Arms.{VerdictWith}
+use Rattle.flow_rule.specs.Terms.{no_terms}
 use Rattle.written_machine.specs.Peers.{section, Peers}
 use Rattle.peer_rows.specs.Laws.{DifferInData, AcceptedArePeers}
 use Rattle.cli_files.specs.declared.answers.Status.TheVariants.{Done}
@@ -31,10 +32,10 @@ module _ (map : FileMap) (name : List ℕ) (value : Image) (id : ℕ) (owner : M
   held : Holds (Some map) (need name (image_with id)) (an_image value)
   held = record { bytes = image_text value; file = file; short = short_text value image; is = (record { image = image; text = refl }, ap is_some owned) }
 
-  accepted_by : (command : Command) (arms : List Arm) (answer : Answer) → Comes (Some map) command (judges owner (section owner.text value.memory) arms) → answer.status ≡ Done → IsAnswer (Some map) command answer → VerdictWith owner (section owner.text value.memory) arms Yes
+  accepted_by : (command : Command) (arms : List Arm) (answer : Answer) → Comes (Some map) command (judges no_terms owner (section owner.text value.memory) arms) → answer.status ≡ Done → IsAnswer (Some map) command answer → VerdictWith owner (section owner.text value.memory) arms Yes
   accepted_by command arms answer comes status a =
       let text = section owner.text value.memory in
-      let j : IsJudged owner text arms answer = subst (λ o. Answers o answer) (one_outcome map command a.outcome (judges owner text arms) a.comes comes) a.is in
+      let j : IsJudged no_terms owner text arms answer = subst (λ o. Answers o answer) (one_outcome map command a.outcome (judges no_terms owner text arms) a.comes comes) a.is in
       let yes : j.verdict ≡ Yes = only_yes j.verdict (ap (λ (b : Answer). b.status) (sym j.tells) ∙ status) in
       subst (λ v. VerdictWith owner text arms v) yes j.is
 
@@ -44,7 +45,7 @@ module _ (map : FileMap) (name : List ℕ) (value : Image) (id : ℕ) (owner : M
 
   module _ (arms_name : List ℕ) where
     abbrev BalanceComes : Type 0
-    BalanceComes = (arms : List Arm) × Comes (Some map) (balance_command name id arms_name) (judges owner (section owner.text value.memory) arms)
+    BalanceComes = (arms : List Arm) × Comes (Some map) (balance_command name id arms_name) (judges no_terms owner (section owner.text value.memory) arms)
 
     balance_with : (arms : Held) → Holds (Some map) (need arms_name arms_file) arms → BalanceComes
     balance_with (certificates arms) h = (arms, record { helds = an_image value ∷ certificates arms ∷ []; hold = (held, (h, tt)); is = ap (balanced_by value arms) owned })

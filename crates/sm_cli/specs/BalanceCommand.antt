@@ -2,17 +2,18 @@
 use Rattle.std.specs.Prelude.{ℕ, List, [], ◌∷◌, Option, Some, None}
 use Rattle.std.specs.Option.{option_map}
 use Rattle.arm_balance.specs.declared.Arm.{Arm}
+use Rattle.flow_rule.specs.Terms.{no_terms}
 use Rattle.mod_layout.specs.declared.Module.{Module}
 use Rattle.mod_layout.specs.Table.{module_of}
 use Rattle.image_text.specs.Image.{Image}
 use Rattle.written_machine.specs.Peers.{section}
 use Rattle.cli_calls.specs.Words.{Text}
-use Rattle.sm_cli.specs.Arguments.{id_of}
+use Rattle.cli_calls.specs.Ids.{id_of}
 use Rattle.cli_files.specs.Files.{Held, an_image, certificates, arms_file, image_with, need}
 use Rattle.cli_calls.specs.Command.{Outcome, judges, nothing, Command}
 
 abbrev pub balanced_by : Image → List Arm → Option Module → Outcome
-balanced_by value arms (Some owner) = judges owner (section owner.text value.memory) arms
+balanced_by value arms (Some owner) = judges no_terms owner (section owner.text value.memory) arms
 balanced_by value arms None = nothing
 
 abbrev pub balance_outcome : ℕ → List Held → Outcome

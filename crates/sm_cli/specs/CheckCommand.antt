@@ -1,17 +1,18 @@
 -- `check IMAGE ID`: the verdict of a module's text.
 use Rattle.std.specs.Prelude.{ℕ, List, [], ◌∷◌, Option, Some, None}
 use Rattle.std.specs.Option.{option_map}
+use Rattle.flow_rule.specs.Terms.{no_terms}
 use Rattle.mod_layout.specs.declared.Module.{Module}
 use Rattle.mod_layout.specs.Table.{module_of}
 use Rattle.image_text.specs.Image.{Image}
 use Rattle.written_machine.specs.Peers.{section}
 use Rattle.cli_calls.specs.Words.{Text}
-use Rattle.sm_cli.specs.Arguments.{id_of}
+use Rattle.cli_calls.specs.Ids.{id_of}
 use Rattle.cli_files.specs.Files.{Held, an_image, image_with, need}
 use Rattle.cli_calls.specs.Command.{Outcome, judges, nothing, Command}
 
 abbrev pub checked_by : Image → Option Module → Outcome
-checked_by value (Some owner) = judges owner (section owner.text value.memory) []
+checked_by value (Some owner) = judges no_terms owner (section owner.text value.memory) []
 checked_by value None = nothing
 
 abbrev pub check_outcome : ℕ → List Held → Outcome

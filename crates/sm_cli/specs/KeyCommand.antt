@@ -8,7 +8,7 @@ use Rattle.mod_keys.specs.Keys.{provider_key, module_key}
 use Rattle.image_text.specs.Image.{Image}
 use Rattle.written_machine.specs.Peers.{section}
 use Rattle.cli_calls.specs.Words.{Text}
-use Rattle.sm_cli.specs.Arguments.{id_of}
+use Rattle.cli_calls.specs.Ids.{id_of}
 use Rattle.cli_files.specs.Files.{Held, an_image, image_with, need}
 use Rattle.cli_calls.specs.Command.{Outcome, done, nothing, Command}
 

@@ -12,7 +12,7 @@ use Rattle.written_machine.specs.Peers.{section}
 use Rattle.cli_files.specs.declared.answers.Status.{Status}
 use Rattle.cli_files.specs.declared.answers.Status.TheVariants as status
 use Rattle.cli_calls.specs.Words.{Text}
-use Rattle.sm_cli.specs.Arguments.{id_of}
+use Rattle.cli_calls.specs.Ids.{id_of}
 use Rattle.cli_files.specs.Files.{Held, an_image, the_challenges, the_replies, image_with, challenges_file, trace_file, Need, need}
 use Rattle.cli_calls.specs.Command.{Answer, Outcome, gives, nothing, Command}
 

@@ -8,9 +8,7 @@ ghost use Rattle.sm_cli.specs.internal.BalanceCommand.{balance_asked};
 ghost use Rattle.cli_calls.specs.Words.{texts};
 ghost use Rattle.cli_calls.specs.Words.{values_in};
 
-use crate::arguments::id_of;
-use crate::verdicts::{put_verdict, text_of};
-use cli_calls::{Answering, values_of};
+use cli_calls::{Answering, id_of, put_verdict, text_of, values_of};
 use cli_files::{Chosen, NO_MEMORY, Refused, Status, load, load_with};
 use flow_check::{Arms, Verdict};
 use sm_io::{Files, Sink};

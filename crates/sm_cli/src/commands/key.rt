@@ -8,9 +8,7 @@ ghost use Rattle.sm_cli.specs.internal.KeyCommand.{key_asked};
 ghost use Rattle.cli_calls.specs.Words.{texts};
 ghost use Rattle.cli_calls.specs.Words.{values_in};
 
-use crate::arguments::id_of;
-use crate::verdicts::text_of;
-use cli_calls::{Answering, values_of};
+use cli_calls::{Answering, id_of, text_of, values_of};
 use cli_files::{Chosen, Refused, Status, load_with, put_named, status_after};
 use mod_keys::{TAG_LENGTH, module_key, provider_key};
 use sm_io::{Failed, Files, Sink};

@@ -15,11 +15,10 @@ ghost use Rattle.cli_calls.specs.Words.{texts};
 ghost use Rattle.cli_calls.specs.Runs.{EndsAs};
 ghost use Rattle.cli_calls.specs.Words.{values_in};
 
-use crate::arguments::{cycles_of, id_of};
+use crate::arguments::cycles_of;
 use crate::pairs::{Pair, core_with, pairs_in};
-use crate::verdicts::text_of;
 use arrayvec::ArrayString;
-use cli_calls::{Answering, values_of};
+use cli_calls::{Answering, id_of, text_of, values_of};
 use cli_files::{Chosen, NO_MEMORY, Refused, Status, load_with};
 use lone_run::{Entry, Outcome, call};
 use sm_io::{Failed, Files, Sink, put_all};

@@ -12,9 +12,7 @@ ghost use Rattle.sm_cli.specs.VendorCommand.{vendor_of, exchange_needs, key_unde
 ghost use Rattle.sm_cli.specs.internal.VendorCommand.{vendor_asked};
 ghost use Rattle.cli_calls.specs.Words.{values_in};
 
-use crate::arguments::id_of;
-use crate::verdicts::text_of;
-use cli_calls::{Answering, values_of};
+use cli_calls::{Answering, id_of, text_of, values_of};
 use cli_files::{Chosen, Refusal, Refused, Replies, Status, load, load_with};
 use mod_keys::{TAG_LENGTH, module_key_from};
 use sm_io::{Failed, Files, Sink};

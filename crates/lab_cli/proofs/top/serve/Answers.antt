@@ -1,10 +1,12 @@
 use Rattle.std.proofs.Common.{Some}
 use Rattle.cli_calls.specs.Words.{texts}
-use Rattle.cli_calls.proofs.Ending.{no_command, bad_file, link_refused, completes}
+use Rattle.cli_files.specs.declared.answers.Status.TheVariants as status
+use Rattle.cli_calls.proofs.Ending.{at, no_command, bad_file, link_refused, completes}
 use Rattle.cli_calls.proofs.Outcomes.{some_answer}
 use Rattle.lab_cli.specs.CommandLine.{command_of}
 use Rattle.cli_calls.proofs.Given.{gives_answer}
 use Rattle.lab_cli.specs.SweepCommand.{sweep_answer, sweep_command}
+use Rattle.lab_cli.proofs.Releasing.{released_peers}
 use Rattle.lab_cli.proofs.Serving.{no_row_differs, something, sweep_comes}
 use Rattle.lab_cli.proofs.top.serve.Goals as goal
 
@@ -32,3 +34,7 @@ returns-clause-peers g c = λ first second id is peers.
     let comes = sweep_comes (Some is.map) is.first_name is.second_name is.pulses first second is.first_is is.second_is in
     no_row_differs _ is.pulses first second _ _ _ (c.peers.ensures.none is.pulses first second id peers)
     (completes _ _ _ _ _ _ _ is.map command is.told is.command _ (returns-clause-ended g c) answer (gives_answer (Some is.map) command answer comes))
+
+pub returns-clause-released : goal.returns-clause-released
+returns-clause-released g c = λ e value other id owner terms i d agree.
+    released_peers _ _ _ _ _ value other id owner terms i d agree (at _ _ _ _ _ _ _ _ status.Done (returns-clause-ended g c) e).0 c.accepted_are_peers.ensures.answers c.terms_name_answers.ensures

@@ -1,4 +1,5 @@
 use Rattle.std.proofs.Common.{[], ◌∷◌, refl, ap, subst}
+use Rattle.flow_rule.specs.Terms.{no_terms}
 use Rattle.written_machine.specs.Peers.{section}
 use Rattle.sm_cli.specs.BalanceCommand.{balanced_by}
 use Rattle.cli_calls.specs.Command.{judges, verdict_answer}
@@ -14,7 +15,7 @@ returns-in-Ok-verdict_with-clause-ok g c =
     record {
       answer = verdict_answer verdict;
       served = record {
-        outcome = judges chosen.«module» (section chosen.«module».text chosen.image.memory) arms;
+        outcome = judges no_terms chosen.«module» (section chosen.«module».text chosen.image.memory) arms;
         comes = record { helds = an_image chosen.image ∷ certificates arms ∷ []; hold = (c.in-Ok.ensures.holds, (held, tt)); is = ap (balanced_by chosen.image arms) c.in-Ok.ensures.chosen };
         is = record { verdict = verdict; is = c.in-Ok-verdict_with.ensures; tells = refl };
       };

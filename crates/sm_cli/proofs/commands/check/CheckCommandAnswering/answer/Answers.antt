@@ -1,4 +1,5 @@
 use Rattle.std.proofs.Common.{[], ◌∷◌, refl, ap}
+use Rattle.flow_rule.specs.Terms.{no_terms}
 use Rattle.written_machine.specs.Peers.{section}
 use Rattle.sm_cli.specs.CheckCommand.{checked_by}
 use Rattle.cli_calls.specs.Command.{judges, verdict_answer}
@@ -12,7 +13,7 @@ returns-in-Ok-verdict_of-clause-ok g c =
     record {
       answer = verdict_answer verdict;
       served = record {
-        outcome = judges chosen.«module» (section chosen.«module».text chosen.image.memory) [];
+        outcome = judges no_terms chosen.«module» (section chosen.«module».text chosen.image.memory) [];
         comes = record { helds = an_image chosen.image ∷ []; hold = (c.in-Ok.ensures.holds, tt); is = ap (checked_by chosen.image) c.in-Ok.ensures.chosen };
         is = record { verdict = verdict; is = c.in-Ok-verdict_of.ensures; tells = refl };
       };

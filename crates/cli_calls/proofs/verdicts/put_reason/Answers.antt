@@ -1,4 +1,4 @@
-use Rattle.sm_cli.proofs.verdicts.put_reason.Goals as goal
+use Rattle.cli_calls.proofs.verdicts.put_reason.Goals as goal
 
 pub returns-in-SecretBranch : goal.returns-in-SecretBranch
 returns-in-SecretBranch g c = rw c.in-SecretBranch.is c.put_all.ensures.put

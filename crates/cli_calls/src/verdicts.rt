@@ -10,7 +10,7 @@ ghost use Rattle.cli_calls.specs.Runs.{EndsAs};
 ghost use Rattle.cli_calls.specs.Verdicts.{no_line, reason_name, verdict_line, verdict_status};
 
 use cli_files::{Chosen, Status, put_named};
-use flow_check::{Reason, Verdict};
+use flow_rule::{Reason, Verdict};
 use sm_io::{Failed, Sink, put_all};
 
 /// The text of the module.

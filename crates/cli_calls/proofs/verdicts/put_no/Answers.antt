@@ -2,7 +2,7 @@ use Rattle.std.proofs.Common.{◌++◌, codes}
 use Rattle.texts.specs.Hexadecimals.{hex_word}
 use Rattle.sm_io.proofs.Putting.{cut_first, cut_later, puts_last}
 use Rattle.cli_calls.specs.Verdicts.{reason_name}
-use Rattle.sm_cli.proofs.verdicts.put_no.Goals as goal
+use Rattle.cli_calls.proofs.verdicts.put_no.Goals as goal
 
 pub returns-in-Err : goal.returns-in-Err
 returns-in-Err g c = cut_first g.O.Sink.taken g.O.Sink.faults g.O.Sink.sure _ _ (codes "no " ++ (hex_word c.args.addr ++ codes " ")) _ c.in-Err.ensures
