@@ -1,4 +1,5 @@
 pub mod Words
+pub mod Values
 pub mod Verdicts
 pub mod Command
 pub mod Linking

@@ -1,5 +1,6 @@
 pub mod MapCommand
 pub mod SweepCommand
+pub mod StepsCommand
 pub mod CommandLine
 pub mod Sweeps
 pub mod internal

@@ -1,3 +1,4 @@
 pub mod MapCommand
 pub mod SweepCommand
+pub mod StepsCommand
 pub mod CommandLine

@@ -5,6 +5,7 @@ ghost use Rattle.lab_cli.specs.CommandLine.{command_by, command_of};
 ghost use Rattle.lab_cli.specs.internal.CommandLine.{asked, IsBounded};
 
 use crate::map::{self, MapCommand};
+use crate::steps::{self, StepsCommand};
 use crate::sweep::{self, SweepCommand};
 use cli_calls::Answering;
 use cli_files::{Refused, Status};
@@ -16,6 +17,7 @@ use std::alloc::{AllocError, Global};
 pub enum LabCommand<'a> {
     Map(MapCommand<'a>),
     Sweep(SweepCommand<'a>),
+    Steps(StepsCommand<'a>),
 }
 
 /// The command that the words are.
@@ -46,6 +48,8 @@ fn command_by<'a>(
         Ok(map::read(alloc, words)?.map(LabCommand::Map))
     } else if name == "sweep" {
         Ok(sweep::read(alloc, words)?.map(LabCommand::Sweep))
+    } else if name == "steps" {
+        Ok(steps::read(alloc, words)?.map(LabCommand::Steps))
     } else {
         Ok(None)
     }
@@ -65,6 +69,7 @@ impl Answering for LabCommand<'_> {
         match self {
             LabCommand::Map(command) => command.answer(alloc, files, out),
             LabCommand::Sweep(command) => command.answer(alloc, files, out),
+            LabCommand::Steps(command) => command.answer(alloc, files, out),
         }
     }
 }

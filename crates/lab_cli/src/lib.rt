@@ -3,6 +3,7 @@
 
 mod commands;
 mod map;
+mod steps;
 mod sweep;
 mod top;
 
