@@ -1,17 +1,8 @@
 -- Values of a command's words.
-use Rattle.std.specs.Prelude.{ℕ, Option, Some, None, codes, if◌then◌else◌, ◌==◌, option_and_then}
-use Rattle.std.specs.Str.{bytes_eq}
+use Rattle.std.specs.Prelude.{ℕ, Option, Some, None, if◌then◌else◌, ◌==◌, option_and_then}
 use Rattle.texts.specs.Decimals.{read_decimal}
-use Rattle.sm_cli.specs.declared.arguments.TheConstants.{MAX_CYCLES, MAX_ID}
+use Rattle.sm_cli.specs.declared.arguments.TheConstants.{MAX_ID}
 use Rattle.cli_calls.specs.Words.{Text}
-
--- the file that a word names; `-` names none
-abbrev pub file_named : Text → Option Text
-file_named word = if bytes_eq word (codes "-") then None else Some word
-
--- a number of cycles
-abbrev pub cycles_of : Text → Option ℕ
-cycles_of word = read_decimal MAX_CYCLES word
 
 -- a module's id, which is not 0
 abbrev pub not_zero : ℕ → Option ℕ

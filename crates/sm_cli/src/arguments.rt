@@ -1,33 +1,14 @@
 // Values of a command's words.
-ghost use Rattle.std.specs.Prelude.{◌≡◌, ◌≤◌, IfSome};
-ghost use Rattle.std.specs.Option.{option_copied};
-ghost use Rattle.sm_cli.specs.Arguments.{file_named, cycles_of, id_of};
+ghost use Rattle.std.specs.Prelude.{◌≡◌};
+ghost use Rattle.sm_cli.specs.Arguments.{id_of};
 
 use texts::read_decimal;
-
-/// A run is at most so long.
-const MAX_CYCLES: u64 = 1_000_000_000;
 
 /// The largest id of a module.
 const MAX_ID: u64 = 65_535;
 
-// What the rules say of them: a changed number is refused here.
-const _: () = prove!(MAX_CYCLES == 1_000_000_000 && MAX_ID == 65_535);
-
-/// The name of a file, or nothing for `-`.
-pub fn file_named(word: &str) -> Option<&str>
-    ensures { option_copied result ≡ file_named word.now }
-{
-    if word == "-" { None } else { Some(word) }
-}
-
-/// A number of cycles.
-pub fn cycles_of(word: &str) -> Option<u64>
-    ensures exact { result ≡ cycles_of word.now }
-    ensures limit { IfSome result (λ cycles. cycles ≤ MAX_CYCLES) }
-{
-    read_decimal(word.as_bytes(), MAX_CYCLES)
-}
+// What the rules say of it: a changed number is refused here.
+const _: () = prove!(MAX_ID == 65_535);
 
 /// A module's id.
 pub fn id_of(word: &str) -> Option<u16>
