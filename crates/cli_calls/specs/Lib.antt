@@ -1,5 +1,6 @@
 pub mod Words
 pub mod Ids
+pub mod Values
 pub mod Verdicts
 pub mod Command
 pub mod Linking

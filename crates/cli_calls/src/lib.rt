@@ -1,14 +1,16 @@
-//! What the programs have in common above their files: the words of a call, what a command is, and how a call ends.
+//! What the programs have in common above their files: the words of a call and their values, what a command is, and how a call ends.
 #![tactic(auto)]
 
 mod answering;
 mod calls;
 mod ids;
+mod values;
 mod verdicts;
 mod words;
 
 pub use answering::Answering;
 pub use calls::{end_call, tell};
 pub use ids::id_of;
+pub use values::{cycles_of, file_named};
 pub use verdicts::{put_verdict, text_of};
 pub use words::values_of;

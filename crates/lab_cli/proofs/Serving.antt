@@ -10,22 +10,25 @@ use Rattle.mod_layout.specs.declared.Module.{Module}
 use Rattle.mod_layout.specs.Table.{module_of}
 use Rattle.terms_file.specs.declared.Term.{Term}
 use Rattle.image_text.specs.Image.{Image}
+use Rattle.schedule_file.specs.declared.Entry.{Entry}
 use Rattle.linker.specs.Refusals.{link_fault_of}
 use Rattle.link_map.specs.Map.{map_text}
 use Rattle.pulse_sweep.specs.Sweep.{different, sweep_text}
 use Rattle.pulse_sweep.specs.declared.Pulses.{Pulses}
 use Rattle.cli_files.specs.declared.answers.Status.{Status}
 use Rattle.cli_files.specs.declared.answers.Status.TheVariants as status
-use Rattle.cli_files.specs.Files.{need, image_file, layout_file, a_layout, an_image, the_terms, certificates, an_object, object_needs, Holds, HoldAll}
+use Rattle.cli_files.specs.Files.{need, image_file, layout_file, a_layout, a_schedule, an_image, the_terms, certificates, an_object, object_needs, Holds, HoldAll, IsScheduleOf}
 use Rattle.cli_calls.specs.Calls.{Completes}
 use Rattle.cli_calls.specs.Command.{Command, Outcome, done, gives, nothing, Comes}
 use Rattle.cli_calls.specs.Linking.{linked, objects_in}
 use Rattle.cli_calls.specs.Ids.{id_of}
+use Rattle.cli_calls.specs.Values.{cycles_of, file_named}
 use Rattle.cli_calls.specs.Words.{Text, values_in}
 use Rattle.cli_calls.proofs.Sound.{Sound, some_linked, IfSound, if_none, if_some, if_map, if_then, if_else}
 use Rattle.lab_cli.specs.CommandLine.{command_by, command_of}
 use Rattle.lab_cli.specs.MapCommand.{map_command, map_of}
 use Rattle.lab_cli.specs.ReleasedCommand.{released_by, released_command, released_in, released_of}
+use Rattle.lab_cli.specs.StepsCommand.{steps_answer, steps_command, steps_of}
 use Rattle.lab_cli.specs.SweepCommand.{pulses_of, sweep_answer, sweep_command, sweep_of, sweep_status}
 
 -- what comes of a layout and objects
@@ -67,6 +70,17 @@ pub sweep_comes : (files : Option FileMap) (first_name second_name : Text) (puls
     → Comes files (sweep_command first_name second_name pulses) (gives (sweep_answer pulses first second))
 sweep_comes files first_name second_name pulses first second a b = record { helds = an_image first ∷ an_image second ∷ []; hold = (a, (b, tt)); is = refl }
 
+sound_steps : (name : Text) (schedule : Option Text) (cycles : ℕ) → Sound (steps_command name schedule cycles)
+sound_steps name schedule cycles map [] h e = h
+sound_steps name schedule cycles map (an_image value ∷ more) h e = cc
+sound_steps name schedule cycles map (held ∷ more) h e = h.0.is
+
+-- what comes of an image and a schedule
+pub steps_comes : (files : Option FileMap) (name : Text) (schedule : Option Text) (cycles : ℕ) (value : Image) (entries : List Entry)
+    → Holds files (need name image_file) (an_image value) → IsScheduleOf files schedule entries → Comes files (steps_command name schedule cycles) (gives (steps_answer value entries cycles))
+steps_comes files name None cycles value entries h s = record { helds = an_image value ∷ []; hold = (h, tt); is = ap (λ es. gives (steps_answer value es cycles)) (sym s) }
+steps_comes files name (Some own) cycles value entries h s = record { helds = an_image value ∷ a_schedule entries ∷ []; hold = (h, (s, tt)); is = refl }
+
 -- a sweep of which no row differs does not end as a no
 pub no_row_differs : (ended : Status) (pulses : Pulses) (first second : Image) (took cut : List ℕ → Type 0) (told : Type 0) → different pulses first second ≡ 0
     → Completes ended (sweep_answer pulses first second) took cut told → ended ≢ status.CheckNo
@@ -87,12 +101,17 @@ of_sweep : (vs : List Text) → IfSound (sweep_of vs)
 of_sweep (first ∷ second ∷ line ∷ from ∷ to ∷ cycles ∷ []) = if_map (sweep_command first second) (pulses_of line from to cycles) (sound_sweep first second)
 of_sweep _ = if_none
 
+of_steps : (vs : List Text) → IfSound (steps_of vs)
+of_steps (name ∷ schedule ∷ cycles ∷ []) = if_map (steps_command name (file_named schedule)) (cycles_of cycles) (sound_steps name (file_named schedule))
+of_steps _ = if_none
+
 of_name : (name : Text) (words : List Text) → IfSound (command_by name words)
 of_name name words =
     if_else (bytes_eq name (codes "map")) _ _ (if_then map_of (values_in 2 65 words) of_map) (
     if_else (bytes_eq name (codes "released")) _ _ (if_then released_of (values_in 4 4 words) of_released) (
     if_else (bytes_eq name (codes "sweep")) _ _ (if_then sweep_of (values_in 6 6 words) of_sweep) (
-    if_none)))
+    if_else (bytes_eq name (codes "steps")) _ _ (if_then steps_of (values_in 3 3 words) of_steps) (
+    if_none))))
 
 -- what comes of the files of a command line is something
 pub something : (words : List Text) (map : FileMap) (command : Command) (outcome : Outcome) → command_of words ≡ Some command → Comes (Some map) command outcome → outcome ≡ nothing → ⊥

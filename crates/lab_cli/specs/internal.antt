@@ -1,4 +1,5 @@
 pub mod MapCommand
 pub mod ReleasedCommand
 pub mod SweepCommand
+pub mod StepsCommand
 pub mod CommandLine

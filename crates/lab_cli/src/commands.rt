@@ -6,6 +6,7 @@ ghost use Rattle.lab_cli.specs.internal.CommandLine.{asked, IsBounded};
 
 use crate::map::{self, MapCommand};
 use crate::released::{self, ReleasedCommand};
+use crate::steps::{self, StepsCommand};
 use crate::sweep::{self, SweepCommand};
 use cli_calls::Answering;
 use cli_files::{Refused, Status};
@@ -18,6 +19,7 @@ pub enum LabCommand<'a> {
     Map(MapCommand<'a>),
     Released(ReleasedCommand<'a>),
     Sweep(SweepCommand<'a>),
+    Steps(StepsCommand<'a>),
 }
 
 /// The command that the words are.
@@ -50,6 +52,8 @@ fn command_by<'a>(
         Ok(released::read(alloc, words)?.map(LabCommand::Released))
     } else if name == "sweep" {
         Ok(sweep::read(alloc, words)?.map(LabCommand::Sweep))
+    } else if name == "steps" {
+        Ok(steps::read(alloc, words)?.map(LabCommand::Steps))
     } else {
         Ok(None)
     }
@@ -70,6 +74,7 @@ impl Answering for LabCommand<'_> {
             LabCommand::Map(command) => command.answer(alloc, files, out),
             LabCommand::Released(command) => command.answer(alloc, files, out),
             LabCommand::Sweep(command) => command.answer(alloc, files, out),
+            LabCommand::Steps(command) => command.answer(alloc, files, out),
         }
     }
 }

@@ -4,6 +4,7 @@
 mod commands;
 mod map;
 mod released;
+mod steps;
 mod sweep;
 mod top;
 

@@ -44,6 +44,11 @@ fn described<'a>(alloc: Global) -> Result<Command<'a>, AllocError> {
         .about("Writes where all that objects link to stands, by name")
         .arg(Arg::new(alloc, "LAYOUT").required(true))?
         .arg(objects)?;
+    let steps = Command::new(alloc, "steps")
+        .about("Runs an image, and writes each instruction with what it reads, writes and changes")
+        .arg(Arg::new(alloc, "IMAGE").required(true))?
+        .arg(Arg::new(alloc, "SCHEDULE").required(true))?
+        .arg(Arg::new(alloc, "CYCLES").required(true))?;
     let images = Arg::new(alloc, "IMAGE").required(true).num_args(2..=2);
     let sweep = Command::new(alloc, "sweep")
         .about("Runs two images with a pulse in each cycle of a span, and compares their traces")
@@ -57,6 +62,7 @@ fn described<'a>(alloc: Global) -> Result<Command<'a>, AllocError> {
         .about("Tells the owner of an image of protected modules what sancus leaves out")
         .disable_help_subcommand(true)
         .subcommand(map)?
+        .subcommand(steps)?
         .subcommand(sweep)
 }
 

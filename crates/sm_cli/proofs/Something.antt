@@ -13,7 +13,7 @@ use Rattle.vendor_tool.specs.declared.Challenge.{Challenge}
 use Rattle.cli_files.specs.Files.{an_image, a_schedule, the_challenges, the_replies, certificates, a_layout, a_script, a_unit}
 use Rattle.cli_calls.specs.Words.{Text, values_in}
 use Rattle.cli_calls.specs.Ids.{id_of}
-use Rattle.sm_cli.specs.Arguments.{cycles_of, file_named}
+use Rattle.cli_calls.specs.Values.{cycles_of, file_named}
 use Rattle.cli_calls.specs.Command.{Command, Outcome, gives, runs, nothing, Comes}
 use Rattle.sm_cli.specs.CommandLine.{command_by, command_of}
 use Rattle.sm_cli.specs.AsmCommand.{asm_command, asm_of}

@@ -3,7 +3,7 @@ use Rattle.std.specs.Prelude.{ℕ, List, [], ◌∷◌, Option, None}
 use Rattle.std.specs.Option.{option_map}
 use Rattle.schedule_file.specs.declared.Entry.{Entry}
 use Rattle.cli_calls.specs.Words.{Text}
-use Rattle.sm_cli.specs.Arguments.{file_named, cycles_of}
+use Rattle.cli_calls.specs.Values.{file_named, cycles_of}
 use Rattle.cli_files.specs.Files.{Held, an_image, a_schedule, image_file, need, schedule_needs}
 use Rattle.cli_calls.specs.Command.{Outcome, runs, nothing, Command}
 

@@ -16,7 +16,7 @@ use Rattle.cli_files.specs.declared.answers.Status.TheVariants as status
 use Rattle.sm_cli.specs.declared.pairs.Pair.{Pair}
 use Rattle.cli_calls.specs.Words.{Text}
 use Rattle.cli_calls.specs.Ids.{id_of}
-use Rattle.sm_cli.specs.Arguments.{cycles_of}
+use Rattle.cli_calls.specs.Values.{cycles_of}
 use Rattle.sm_cli.specs.Numbers.{number_line}
 use Rattle.sm_cli.specs.Pairs.{pairs_in, core_with}
 use Rattle.cli_files.specs.Files.{Held, an_image, image_with, need}

@@ -8,7 +8,7 @@ use Rattle.written_machine.specs.View.{boot}
 use Rattle.written_machine.specs.declared.ScriptLine.{ScriptLine}
 use Rattle.sm_cli.specs.declared.commands.script.TheConstants.{MOST_MARKS}
 use Rattle.cli_calls.specs.Words.{Text}
-use Rattle.sm_cli.specs.Arguments.{file_named}
+use Rattle.cli_calls.specs.Values.{file_named}
 use Rattle.cli_files.specs.Files.{Held, an_image, a_schedule, a_script, image_file, script_file, need, schedule_needs}
 use Rattle.cli_calls.specs.Command.{Answer, Outcome, gives, nothing, Command, run_status}
 

@@ -2,7 +2,7 @@
 use Rattle.std.specs.Prelude.{ℕ, List, [], ◌∷◌, ◌++◌, Option, Some, None}
 use Rattle.std.specs.Option.{option_map}
 use Rattle.cli_calls.specs.Words.{Text}
-use Rattle.sm_cli.specs.Arguments.{file_named, cycles_of}
+use Rattle.cli_calls.specs.Values.{file_named, cycles_of}
 use Rattle.cli_files.specs.Files.{Held, a_schedule, a_layout, layout_file, need, schedule_needs, object_needs}
 use Rattle.cli_calls.specs.Command.{Outcome, runs, nothing, Command}
 use Rattle.cli_calls.specs.Linking.{objects_in, linked}

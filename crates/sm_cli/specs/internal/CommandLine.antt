@@ -2,7 +2,7 @@
 use Rattle.std.specs.Prelude.{◌≡◌, ◌≤◌, ◌%◌, length}
 use Rattle.sm_cli.specs.declared.commands.CommandLine.{CommandLine}
 use Rattle.sm_cli.specs.declared.commands.CommandLine.TheVariants as line
-use Rattle.sm_cli.specs.declared.arguments.TheConstants.{MAX_CYCLES}
+use Rattle.cli_calls.specs.declared.values.TheConstants.{MAX_CYCLES}
 use Rattle.cli_calls.specs.Command.{Command}
 use Rattle.sm_cli.specs.internal.ImageCommand.{image_asked}
 use Rattle.sm_cli.specs.internal.KeyCommand.{key_asked}

@@ -1,16 +1,15 @@
 //! `image IMAGE SCHEDULE CYCLES`: the outside trace of an image.
 ghost use Rattle.std.specs.Prelude.{◌≡◌, ◌≤◌, ◌+◌, ◌^◌, IfOk, IfSome, map, drop, option_map, option_and_then};
 ghost use Rattle.sm_io.specs.Sink.{Took, CutOff};
-ghost use Rattle.sm_cli.specs.declared.arguments.TheConstants.{MAX_CYCLES};
+ghost use Rattle.cli_calls.specs.declared.values.TheConstants.{MAX_CYCLES};
 ghost use Rattle.sm_cli.specs.ImageCommand.{image_of};
 ghost use Rattle.sm_cli.specs.internal.ImageCommand.{image_asked, answer_from};
 ghost use Rattle.cli_calls.specs.Words.{texts};
 ghost use Rattle.cli_calls.specs.Runs.{EndsAs};
 ghost use Rattle.cli_calls.specs.Words.{values_in};
 
-use crate::arguments::{cycles_of, file_named};
 use board::{Board, Ran};
-use cli_calls::{Answering, values_of};
+use cli_calls::{Answering, cycles_of, file_named, values_of};
 use cli_files::{NO_MEMORY, Refused, Status, load, load_schedule};
 use image_text::Image;
 use sm_io::{Failed, Files, Sink};

@@ -1,16 +1,15 @@
 //! `run LAYOUT SCHEDULE CYCLES OBJ..`: the outside trace of the image that objects link to.
 ghost use Rattle.std.specs.Prelude.{◌≡◌, ◌≤◌, IfOk, IfSome, length, map, drop, option_map, option_and_then};
 ghost use Rattle.image_text.specs.Image.{IsImage};
-ghost use Rattle.sm_cli.specs.declared.arguments.TheConstants.{MAX_CYCLES};
+ghost use Rattle.cli_calls.specs.declared.values.TheConstants.{MAX_CYCLES};
 ghost use Rattle.sm_cli.specs.RunCommand.{run_of};
 ghost use Rattle.sm_cli.specs.internal.RunCommand.{run_asked};
 ghost use Rattle.cli_calls.specs.Words.{texts};
 ghost use Rattle.cli_calls.specs.Words.{values_in};
 
-use crate::arguments::{cycles_of, file_named};
 use crate::commands::image::put_trace;
 use board::Board;
-use cli_calls::{Answering, values_of};
+use cli_calls::{Answering, cycles_of, file_named, values_of};
 use cli_files::{NO_MEMORY, Refused, Status, linked_image, load, load_objects, load_schedule};
 use image_text::Image;
 use layout_file::Layout;

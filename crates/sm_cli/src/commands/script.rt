@@ -8,9 +8,8 @@ ghost use Rattle.cli_calls.specs.Words.{texts};
 ghost use Rattle.cli_calls.specs.Runs.{EndsAs};
 ghost use Rattle.cli_calls.specs.Words.{values_in};
 
-use crate::arguments::file_named;
 use board::{Board, Ran};
-use cli_calls::{Answering, values_of};
+use cli_calls::{Answering, file_named, values_of};
 use cli_files::{NO_MEMORY, Playable, Refused, Status, load, load_schedule};
 use image_text::Image;
 use monitor::play;

@@ -2,8 +2,8 @@
 use Rattle.std.specs.Prelude.{ℕ, Option, Some, None, codes, if◌then◌else◌}
 use Rattle.std.specs.Str.{bytes_eq}
 use Rattle.texts.specs.Decimals.{read_decimal}
-use Rattle.sm_cli.specs.declared.arguments.TheConstants.{MAX_CYCLES}
 use Rattle.cli_calls.specs.Words.{Text}
+use Rattle.cli_calls.specs.declared.values.TheConstants.{MAX_CYCLES}
 
 -- the file that a word names; `-` names none
 abbrev pub file_named : Text → Option Text

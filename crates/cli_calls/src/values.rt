@@ -1,12 +1,12 @@
 // Values of a command's words.
 ghost use Rattle.std.specs.Prelude.{◌≡◌, ◌≤◌, IfSome};
 ghost use Rattle.std.specs.Option.{option_copied};
-ghost use Rattle.sm_cli.specs.Arguments.{file_named, cycles_of};
+ghost use Rattle.cli_calls.specs.Values.{cycles_of, file_named};
 
 use texts::read_decimal;
 
 /// A run is at most so long.
-const MAX_CYCLES: u64 = 1_000_000_000;
+pub const MAX_CYCLES: u64 = 1_000_000_000;
 
 // What the rules say of it: a changed number is refused here.
 const _: () = prove!(MAX_CYCLES == 1_000_000_000);

@@ -1,0 +1,4 @@
+use Rattle.lab_cli.proofs.commands.LabCommandAnswering.answer.Goals as goal
+
+pub returns-in-Steps-clause-ok : goal.returns-in-Steps-clause-ok
+returns-in-Steps-clause-ok g c = rw c.in-Steps.is c.answer-in-Steps.ensures.ok
