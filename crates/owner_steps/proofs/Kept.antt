@@ -74,5 +74,5 @@ all_kept insn core t none few =
     let r : Taken Traced = taken answered after_read t (reads_of xs) in
     let empty : length t.touched ≡ 0 = ap length none in
     ap (λ (r : Taken Traced). stored_in write_kept r.state (writes_of xs) (does insn core r.values false).stored)
-        (reads_same (reads_of xs) t (omega (arith, empty, few, parts xs)))
+    (reads_same (reads_of xs) t (omega (arith, empty, few, parts xs)))
     ∙ writes_same (writes_of xs) (does insn core r.values false).stored r.state (omega (arith, empty, few, parts xs, reads_long (reads_of xs) t))
