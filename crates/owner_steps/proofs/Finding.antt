@@ -1,5 +1,5 @@
 -- What a look at a settled cycle finds is what begins.
-use Rattle.std.proofs.Common.{◌≡◌, ℕ, List, [], ◌∷◌, map, Bool, true, false, not, Option, Some, None, is_none, is_some, option_map, refl, sym, ◌∙◌, ap, subst, arith}
+use Rattle.std.proofs.Common.{◌≡◌, ℕ, List, [], ◌∷◌, map, Bool, true, false, not, Option, Some, None, is_none, is_some, option_map, refl, sym, ◌∙◌, ap, arith}
 use Rattle.std.specs.Option.{option_or}
 use Rattle.sm_words.specs.Words.{add16, word_at}
 use Rattle.insn_decode.specs.Code.{insn_of, length_at, length_of}

@@ -1,5 +1,5 @@
 -- An instruction reads and writes three times at most, so all of it is kept.
-use Rattle.std.proofs.Common.{◌≡◌, ℕ, suc, ◌+◌, ◌<◌, ◌≤◌, nat_lt, List, [], ◌∷◌, ◌++◌, length, filter, Bool, true, false, ◌&&◌, cond, if◌then◌else◌, refl, ap, ◌∙◌, sym, arith, length-append}
+use Rattle.std.proofs.Common.{◌≡◌, ℕ, suc, ◌+◌, ◌<◌, ◌≤◌, nat_lt, List, [], ◌∷◌, ◌++◌, length, Bool, true, false, cond, if◌then◌else◌, refl, ap, ◌∙◌, arith, length-append}
 use Rattle.std.proofs.lemmas.Bool.Decides.{nat_tests}
 use Rattle.insn_decode.specs.declared.insn.Insn.{Insn}
 use Rattle.pc_access.specs.Accesses.{is_read, is_write, reads_of, writes_of}

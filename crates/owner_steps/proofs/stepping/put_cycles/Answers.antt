@@ -1,4 +1,4 @@
-use Rattle.std.proofs.Common.{◌≡◌, ◌+◌, ◌-◌, ◌<◌, ◌++◌, true, is_some, ◌∙◌, ap, subst, arith, rules}
+use Rattle.std.proofs.Common.{◌≡◌, ◌+◌, ◌-◌, ◌<◌, ◌++◌, true, is_some, ◌∙◌, ap, arith, rules}
 use Rattle.sm_io.proofs.Putting.{cut_within, took_same, took_then}
 use Rattle.written_machine.specs.Cycle.{after_cycles}
 use Rattle.owner_steps.specs.Steps.{lines_with, owner_lines, run_with}

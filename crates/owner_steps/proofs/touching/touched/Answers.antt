@@ -1,4 +1,4 @@
-use Rattle.std.proofs.Common.{◌≡◌, ◌≤◌, ℕ, List, length, ◌∙◌, ap, sym, arith, rules}
+use Rattle.std.proofs.Common.{◌≤◌, ℕ, List, length, ◌∙◌, ap, arith, rules}
 use Rattle.cpu_step.specs.Plan.{plan}
 use Rattle.owner_steps.specs.internal.Touching.{traced_of}
 use Rattle.owner_steps.proofs.Touched.{aligned_test, start_is, touched_is}
