@@ -80,7 +80,10 @@ impl Settled<'_> {
     pub fn entered(&self) -> Option<u16>
         ensures { result ≡ (entered self.now).active }
     {
-        match (self.machine.active, self.machine.table.at(self.machine.pc())) {
+        match (
+            self.machine.active,
+            self.machine.table.at(self.machine.pc()),
+        ) {
             (Some(id), _) => Some(id),
             (None, Place::Entry(id)) => Some(id),
             _ => None,

@@ -1,5 +1,5 @@
 -- What a look at a settled cycle finds is what begins.
-use Rattle.std.proofs.Common.{◌≡◌, ℕ, List, [], ◌∷◌, map, Bool, true, false, not, Option, Some, None, is_none, is_some, option_map, refl, sym, ◌∙◌, ap, subst, arith}
+use Rattle.std.proofs.Common.{◌≡◌, ℕ, List, [], ◌∷◌, map, Bool, true, false, not, Option, Some, None, is_none, is_some, option_map, refl, sym, ◌∙◌, ap, arith}
 use Rattle.std.specs.Option.{option_or}
 use Rattle.sm_words.specs.Words.{add16, word_at}
 use Rattle.insn_decode.specs.Code.{insn_of, length_at, length_of}
@@ -126,13 +126,13 @@ one_there s insn f b e core_is past_is lines_are refused =
     let home : is_home t.table t.active (pc_of t) (length_of insn) ≡ true = ap (λ (n : ℕ). is_home t.table t.active (pc_of t) n) long ∙ un.home in
     let at : insn_at_pc t ≡ Some insn = ap (λ (n : ℕ). insn_at (byte_of t) (pc_of t) n) (sym long) ∙ home_whole t insn e home in
     let accesses : first_denied t.table t.active (held_ids t.frames) (asked_by (Some insn) t) ≡ None =
-        ap (λ (o : Option Insn). first_denied t.table t.active (held_ids t.frames) (asked_by o t)) (sym at) ∙ un.accesses
+    ap (λ (o : Option Insn). first_denied t.table t.active (held_ids t.frames) (asked_by o t)) (sym at) ∙ un.accesses
     in
     let lines : f.lines.bytes ≡ (begun_as t insn).lines = lines_are (shown_aligned insn t accesses) in
     let same : begun_of f ≡ begun_as t insn =
-        ap (λ (c : List ℕ). of_parts c f.past f.lines.bytes) core_is
-        ∙ ap (λ (p : List ℕ). of_parts s.core p f.lines.bytes) past_is
-        ∙ ap (λ (l : List ℕ). of_parts s.core (past insn s.core) l) lines
+    ap (λ (c : List ℕ). of_parts c f.past f.lines.bytes) core_is
+    ∙ ap (λ (p : List ℕ). of_parts s.core p f.lines.bytes) past_is
+    ∙ ap (λ (l : List ℕ). of_parts s.core (past insn s.core) l) lines
     in
     ap (λ (x : Begun). Some x) same
     ∙ sym (ap (λ (x : Turn). begun_in x t) turn ∙ ap (λ (o : Option Insn). option_map (begun_as t) o) at)

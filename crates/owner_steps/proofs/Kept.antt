@@ -1,5 +1,5 @@
 -- An instruction reads and writes three times at most, so all of it is kept.
-use Rattle.std.proofs.Common.{◌≡◌, ℕ, suc, ◌+◌, ◌<◌, ◌≤◌, nat_lt, List, [], ◌∷◌, ◌++◌, length, filter, Bool, true, false, ◌&&◌, cond, if◌then◌else◌, refl, ap, ◌∙◌, sym, arith, length-append}
+use Rattle.std.proofs.Common.{◌≡◌, ℕ, suc, ◌+◌, ◌<◌, ◌≤◌, nat_lt, List, [], ◌∷◌, ◌++◌, length, Bool, true, false, cond, if◌then◌else◌, refl, ap, ◌∙◌, arith, length-append}
 use Rattle.std.proofs.lemmas.Bool.Decides.{nat_tests}
 use Rattle.insn_decode.specs.declared.insn.Insn.{Insn}
 use Rattle.pc_access.specs.Accesses.{is_read, is_write, reads_of, writes_of}
@@ -74,5 +74,5 @@ all_kept insn core t none few =
     let r : Taken Traced = taken answered after_read t (reads_of xs) in
     let empty : length t.touched ≡ 0 = ap length none in
     ap (λ (r : Taken Traced). stored_in write_kept r.state (writes_of xs) (does insn core r.values false).stored)
-        (reads_same (reads_of xs) t (omega (arith, empty, few, parts xs)))
+    (reads_same (reads_of xs) t (omega (arith, empty, few, parts xs)))
     ∙ writes_same (writes_of xs) (does insn core r.values false).stored r.state (omega (arith, empty, few, parts xs, reads_long (reads_of xs) t))

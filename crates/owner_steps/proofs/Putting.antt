@@ -1,5 +1,5 @@
 -- The lines of a cycle as they are put, and how a run ends.
-use Rattle.std.proofs.Common.{◌≡◌, ℕ, List, ◌++◌, drop, take, Option, Some, None, option_map, refl, sym, ◌∙◌, ap, subst}
+use Rattle.std.proofs.Common.{◌≡◌, ℕ, List, drop, take, Option, Some, None, refl, sym, ◌∙◌, ap, subst}
 use Rattle.sm_io.specs.Sink.{Took}
 use Rattle.pc_access.specs.declared.Stop.{Stop}
 use Rattle.tracer.specs.declared.Event.{Event}

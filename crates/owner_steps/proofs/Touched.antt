@@ -25,7 +25,7 @@ use Rattle.owner_steps.proofs.Kept.{all_kept}
 pub aligned_test : (xs ys : List Access) (b : Bool) → AreAligned xs → ys ≡ xs → b ≡ list_all (λ x. not (misaligned x.width x.addr)) ys → b ≡ false → ⊥
 aligned_test xs ys b aligned same test fails =
     let yes : list_all (λ (x : Access). not (misaligned x.width x.addr)) xs ≡ true =
-        list_all-from_AllPass (λ (x : Access). not (misaligned x.width x.addr)) xs (λ k d l. ap not (aligned k d l))
+    list_all-from_AllPass (λ (x : Access). not (misaligned x.width x.addr)) xs (λ k d l. ap not (aligned k d l))
     in
     false≢true (sym fails ∙ test ∙ ap (list_all (λ (x : Access). not (misaligned x.width x.addr))) same ∙ yes)
 

@@ -154,12 +154,7 @@ fn put_between<S: Sink>(
     }
 }
 
-fn put_found<S: Sink>(
-    old: &Core,
-    found: &Found,
-    new: &Core,
-    sink: &mut S,
-) -> Result<(), Failed>
+fn put_found<S: Sink>(old: &Core, found: &Found, new: &Core, sink: &mut S) -> Result<(), Failed>
     ensures { Puts S.taken S.faults S.sure sink.old sink.new
         (registers_line old.now found.now.core ++ found.now.lines.bytes ++ registers_line found.now.past new.now) result }
 {

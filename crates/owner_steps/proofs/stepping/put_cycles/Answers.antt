@@ -1,4 +1,4 @@
-use Rattle.std.proofs.Common.{◌≡◌, ◌+◌, ◌-◌, ◌<◌, ◌++◌, true, is_some, ◌∙◌, ap, subst, arith, rules}
+use Rattle.std.proofs.Common.{◌≡◌, ◌+◌, ◌-◌, ◌<◌, ◌++◌, true, is_some, ◌∙◌, ap, arith, rules}
 use Rattle.sm_io.proofs.Putting.{cut_within, took_same, took_then}
 use Rattle.written_machine.specs.Cycle.{after_cycles}
 use Rattle.owner_steps.specs.Steps.{lines_with, owner_lines, run_with}
@@ -19,8 +19,8 @@ returns-in-Err-clause-lines g c =
     let s = c.args.board.now.present in
     let within : n < c.args.cycles = omega (arith, i.within, c.loop-left-test.true) in
     cut_within g.S.Sink.taken g.S.Sink.faults g.S.Sink.sure _ _ _ (run_with owner_lines s n) (lines_with owner_lines c.loop-left.board.present)
-        (run_with owner_lines (after_cycles s (n + 1)) (c.args.cycles - (n + 1))) (run_with owner_lines s c.args.cycles)
-        (run_within n c.args.cycles s c.loop-left.board.present within i.state) i.lines c.in-Err.ensures.lines
+    (run_with owner_lines (after_cycles s (n + 1)) (c.args.cycles - (n + 1))) (run_with owner_lines s c.args.cycles)
+    (run_within n c.args.cycles s c.loop-left.board.present within i.state) i.lines c.in-Err.ensures.lines
 
 pub loop-left-preserved : goal.loop-left-preserved
 loop-left-preserved g c =

@@ -16,13 +16,13 @@ returns-in-Ok-finish g c =
     let s = c.args.board.present in
     let n = c.args.cycles in
     stepped g.S.Sink.taken g.S.Sink.faults g.S.Sink.sure n s c.put_cycles.new.board.present _ _ _
-        (took_then g.S.Sink.taken g.S.Sink.faults g.S.Sink.sure _ _ _ (run_with owner_lines s n) (end_line_of (after_cycles s n)) c.in-Ok.ensures.lines
-        (took_same g.S.Sink.taken g.S.Sink.faults g.S.Sink.sure _ _ _ (end_line_of (after_cycles s n)) (ap end_line_of c.in-Ok.ensures.state) c.in-Ok-finish.ensures.line))
-        c.in-Ok.ensures.state c.ended.ensures.ended
+    (took_then g.S.Sink.taken g.S.Sink.faults g.S.Sink.sure _ _ _ (run_with owner_lines s n) (end_line_of (after_cycles s n)) c.in-Ok.ensures.lines
+    (took_same g.S.Sink.taken g.S.Sink.faults g.S.Sink.sure _ _ _ (end_line_of (after_cycles s n)) (ap end_line_of c.in-Ok.ensures.state) c.in-Ok-finish.ensures.line))
+    c.in-Ok.ensures.state c.ended.ensures.ended
 
 pub returns : goal.returns
 returns g c =
     let s = c.args.board.present in
     let n = c.args.cycles in
     cut_later g.S.Sink.taken g.S.Sink.faults g.S.Sink.sure _ _ _ (run_with owner_lines s n) (end_line_of (after_cycles s n)) c.in-Ok.ensures.lines
-        (cut_same g.S.Sink.taken g.S.Sink.faults g.S.Sink.sure _ _ _ (end_line_of (after_cycles s n)) (ap end_line_of c.in-Ok.ensures.state) c.in-Err-finish.ensures.line)
+    (cut_same g.S.Sink.taken g.S.Sink.faults g.S.Sink.sure _ _ _ (end_line_of (after_cycles s n)) (ap end_line_of c.in-Ok.ensures.state) c.in-Err-finish.ensures.line)

@@ -13,4 +13,4 @@ returns-in-Some c =
     let all = c.words-first.ensures in
     let found = c.begin_with.ensures in
     one_read c.args.settled.now words.0 words.1 words.2 c.decode.result c.in-Some.insn c.begin_with.result (search rules) all.first all.second all.third c.decode.ensures.exact c.in-Some.is
-        found.core found.past found.lines
+    found.core found.past found.lines
