@@ -76,8 +76,7 @@ def find(*paths):
             name = rest[rest.index("TheVariants") - 1] if "TheVariants" in rest else rest[-1]
             if (crate, name) in declared:
                 return (crate, name)
-            # (not itself, where a module has its crate's name)
-            passed = [use for file in sources[crate] if name in file.passed for use in file.uses[name] if use != path]
+            passed = [path for file in sources[crate] if name in file.passed for path in file.uses[name]]
         for at, name in enumerate(rest):
             module = ".".join(["Rattle", crate, *rest[:at]])
             if module in specs and name in specs[module].defs | specs[module].makers:

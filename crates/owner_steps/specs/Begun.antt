@@ -7,7 +7,7 @@ use Rattle.sm_words.specs.Words.{add16, low_byte, word_at}
 use Rattle.sm_words.specs.declared.width.Width.{Width}
 use Rattle.sm_words.specs.declared.width.Width.TheVariants.{Byte, Word}
 use Rattle.insn_decode.specs.Code.{length_of}
-use Rattle.insn_decode.specs.Text.{text_of}
+use Rattle.insn_decode.specs.Text.{insn_text}
 use Rattle.insn_decode.specs.declared.insn.Insn.{Insn}
 use Rattle.pc_access.specs.declared.Kind.{Kind}
 use Rattle.pc_access.specs.declared.Kind.TheVariants.{Write}
@@ -38,7 +38,7 @@ place_text s = decimal s.cycle ++ codes " " ++ decimal (unwrap_or s.active 0) ++
 
 -- with its words and its text
 abbrev pub insn_line : State → Insn → List ℕ
-insn_line s insn = place_text s ++ words_text s (length_of insn) ++ text_of insn (pc_of s) ++ codes "\n"
+insn_line s insn = place_text s ++ words_text s (length_of insn) ++ insn_text insn (pc_of s) ++ codes "\n"
 
 -- ---- the lines of what it touches
 

@@ -5,7 +5,7 @@ ghost use Rattle.std.specs.List.{flat_map};
 ghost use Rattle.arrayvec.specs.ArrayString.{array_string_len};
 ghost use Rattle.texts.specs.Hexadecimals.{hex_word};
 ghost use Rattle.insn_decode.specs.Code.{IsDecoded};
-ghost use Rattle.insn_decode.specs.Text.{text_of};
+ghost use Rattle.insn_decode.specs.Text.{insn_text};
 ghost use Rattle.cpu_step.specs.Through.{AreAligned};
 ghost use Rattle.written_machine.specs.Checks.{entered};
 ghost use Rattle.owner_steps.specs.Begun as spec;
@@ -89,7 +89,7 @@ fn push_word(word: u16, line: &mut ArrayString<160>)
 fn push_text(insn: &Insn, at: u16, line: &mut ArrayString<160>)
     requires decoded { IsDecoded insn.now }
     requires room { array_string_len line.old ≤ 48 }
-    ensures text { line.new.bytes ≡ line.old.bytes ++ text_of insn.now at }
+    ensures text { line.new.bytes ≡ line.old.bytes ++ insn_text insn.now at }
     ensures most { array_string_len line.new ≤ array_string_len line.old + 48 }
 {
     let mut text = ArrayString::<48>::new();
