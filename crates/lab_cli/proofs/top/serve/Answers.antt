@@ -37,4 +37,4 @@ returns-clause-peers g c = λ first second id is peers.
 
 pub returns-clause-released : goal.returns-clause-released
 returns-clause-released g c = λ e value other id owner terms i d agree.
-    released_peers _ _ _ _ _ value other id owner terms i d agree (at _ _ _ _ _ _ _ _ status.Done (returns-clause-ended g c) e).0 c.accepted_are_peers.ensures.answers c.terms_name_answers.ensures
+    released_peers _ _ _ _ _ value other id owner terms i d agree (at _ _ _ _ _ _ _ _ status.Done (returns-clause-ended g c) e).0 c.accepted_are_peers.ensures.answers c.terms_name_answers.ensures.registers
