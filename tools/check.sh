@@ -78,6 +78,21 @@ if [ -x "$lab" ]; then
     printf '%s\n' 'sancus-lab: usage' 'status 2' >wanted
     lab sweep shop.img shop.img 4 0 9 9
     check 'a sweep of a line that is none'
+    printf '%s\n' 'sancus-lab: usage' 'status 2' >wanted
+    lab steps shop.img - 1000000001
+    check 'steps of too many cycles'
+    printf '%s\n' 'sancus-lab: bad file none.txt: Absent' 'status 4' >wanted
+    lab steps shop.img none.txt 9
+    check 'steps on a schedule that is not there'
+    for words in channel/module_1.img=interrupts/pulse_inside.txt interrupts/called.img=interrupts/pulse_inside.txt \
+        channel/plain_1.img=-; do
+        image=$top/examples/${words%=*}
+        schedule=${words#*=}
+        [ "$schedule" = - ] || schedule=$top/examples/$schedule
+        "$sancus" image "$image" "$schedule" 400 >wanted 2>&1
+        "$lab" steps "$image" "$schedule" 400 2>&1 | grep -Ev '^  |^[0-9]+ [0-9]+ [0-9a-f]{4}: ' >got
+        check "steps of $words without the owner's lines"
+    done
     printf '%s\n' 'sancus-lab: bad file none.img: Absent' 'status 4' >wanted
     lab sweep none.img neither.img 3 0 9 9
     check 'a sweep of images that are not there'
