@@ -1,5 +1,4 @@
-//! What the programs have in common above their files: the words of a call and their values, what a command is, and how
-//! a call ends.
+//! What the programs have in common above their files: the words of a call and their values, what a command is, and how a call ends.
 #![tactic(auto)]
 
 mod answering;

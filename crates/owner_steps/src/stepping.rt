@@ -37,8 +37,7 @@ pub fn steps<S: Sink>(board: Board, cycles: u64, sink: &mut S) -> Ran
 // That many cycles, or fewer where the machine stops, with their lines.
 fn put_cycles<S: Sink>(board: &mut Board, cycles: u64, sink: &mut S) -> Result<(), Failed>
     requires number { board.old.present.cycle + cycles ≤ 2 ^ 62 }
-    ensures lines { Puts S.taken S.faults S.sure sink.old sink.new
-        (run_with owner_lines board.old.present cycles) result }
+    ensures lines { Puts S.taken S.faults S.sure sink.old sink.new (run_with owner_lines board.old.present cycles) result }
     ensures state { OnOk result (board.new.present ≡ after_cycles board.old.present cycles) }
 {
     let mut left = cycles;
@@ -147,8 +146,7 @@ fn put_between<S: Sink>(
     new: &Core,
     sink: &mut S,
 ) -> Result<(), Failed>
-    ensures { Puts S.taken S.faults S.sure sink.old sink.new
-        (between old.now (option_map begun_of found) new.now) result }
+    ensures { Puts S.taken S.faults S.sure sink.old sink.new (between old.now (option_map begun_of found) new.now) result }
 {
     match found {
         None => put_registers(old, new, sink),
@@ -158,8 +156,7 @@ fn put_between<S: Sink>(
 
 fn put_found<S: Sink>(old: &Core, found: &Found, new: &Core, sink: &mut S) -> Result<(), Failed>
     ensures { Puts S.taken S.faults S.sure sink.old sink.new
-        (registers_line old.now found.now.core ++ found.now.lines.bytes
-        ++ registers_line found.now.past new.now) result }
+        (registers_line old.now found.now.core ++ found.now.lines.bytes ++ registers_line found.now.past new.now) result }
 {
     match put_registers(old, &found.core, sink) {
         Ok(()) => {}
