@@ -2,3 +2,6 @@ use Rattle.lab_cli.proofs.commands.LabCommandAnswering.answer.Goals as goal
 
 pub returns-in-Steps-clause-ok : goal.returns-in-Steps-clause-ok
 returns-in-Steps-clause-ok g c = rw c.in-Steps.is c.answer-in-Steps.ensures.ok
+
+pub returns-in-Released-clause-ok : goal.returns-in-Released-clause-ok
+returns-in-Released-clause-ok g c = rw c.in-Released.is c.answer-in-Released.ensures.ok
