@@ -17,7 +17,7 @@ import flow
 import machine
 
 REGISTERS = [1, 2, *range(4, 16)]
-STEP = re.compile(r"(\d+) \d+ ([0-9a-f]{4}): ((?:(?!dadd )[0-9a-f]{4} )+)")
+STEP = re.compile(r"(\d+) \d+ ([0-9a-f]{4}): ((?:(?!dadd |addc )[0-9a-f]{4} )+)")
 END = re.compile(r"(\d+) (?:leave 1 pc [0-9a-f]{4}|close 1)$")
 
 
