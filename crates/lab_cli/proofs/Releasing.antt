@@ -15,34 +15,30 @@ use Rattle.peer_rows.specs.Laws.{DifferInData, AcceptedButAnswers}
 use Rattle.terms_file.specs.declared.Term.{Term}
 use Rattle.terms_file.specs.Laws.{AnswersMayBe}
 use Rattle.cli_files.specs.declared.answers.Status.TheVariants.{Done}
-use Rattle.cli_files.specs.Files.{Held, an_image, the_terms, certificates, image_with, terms_file, arms_file, need, Holds, HoldAll}
+use Rattle.cli_files.specs.Files.{Held, an_image, the_terms, image_with, terms_file, need, Holds, HoldAll}
 use Rattle.cli_calls.specs.Calls.{Serves, called}
 use Rattle.cli_calls.specs.Command.{Answer, judges, Comes, Answers, IsJudged, IsAnswer}
 use Rattle.cli_calls.specs.Verdicts.{verdict_status}
 use Rattle.cli_calls.specs.Words.{Text}
 use Rattle.cli_calls.proofs.Outcomes.{one_outcome}
 use Rattle.lab_cli.specs.CommandLine.{command_of}
-use Rattle.lab_cli.specs.ReleasedCommand.{released_by, released_command, told_by}
+use Rattle.lab_cli.specs.ReleasedCommand.{arms_in, released_by, released_command, told_by, told_needs}
 use Rattle.lab_cli.specs.Releases.{IsRelease}
 
 only_yes : (v : Verdict) → verdict_status v ≡ Done → v ≡ Yes
 only_yes Yes e = refl
 only_yes (No addr why value) e = cc
 
-module _ (map : FileMap) (name terms_name arms_name : Text) (value : Image) (id : ℕ) (owner : Module) (terms : List Term) (owned : module_of id value.table ≡ Some owner)
+module _ (map : FileMap) (name terms_name : Text) (arms_name : Option Text) (value : Image) (id : ℕ) (owner : Module) (terms : List Term) (owned : module_of id value.table ≡ Some owner)
     (image_is : Holds (Some map) (need name (image_with id)) (an_image value)) (terms_are : Holds (Some map) (need terms_name terms_file) (the_terms terms)) where
   abbrev ReleaseComes : Type 0
   ReleaseComes = (arms : List Arm) × Comes (Some map) (released_command name id terms_name arms_name) (judges (told_by terms) owner (section owner.text value.memory) arms)
 
-  with_arms : (arms : Held) → Holds (Some map) (need arms_name arms_file) arms → ReleaseComes
-  with_arms (certificates arms) h = (arms, record { helds = an_image value ∷ the_terms terms ∷ certificates arms ∷ []; hold = (image_is, (terms_are, (h, tt))); is = ap (released_by value terms arms) owned })
-  with_arms _ h = absurd h.is
-
-  release_comes : (helds : List Held) → HoldAll (Some map) (need name (image_with id) ∷ need terms_name terms_file ∷ need arms_name arms_file ∷ []) helds → ReleaseComes
+  release_comes : (helds : List Held) → HoldAll (Some map) (need name (image_with id) ∷ told_needs terms_name arms_name) helds → ReleaseComes
   release_comes [] h = absurd h
   release_comes (first ∷ []) h = absurd h.1
-  release_comes (first ∷ second ∷ []) h = absurd h.1.1
-  release_comes (first ∷ second ∷ third ∷ helds) h = with_arms third h.1.1.0
+  release_comes (first ∷ second ∷ more) h =
+      (arms_in more, record { helds = an_image value ∷ the_terms terms ∷ more; hold = (image_is, (terms_are, h.1.1)); is = ap (released_by value terms (arms_in more)) owned })
 
   accepted : (answer : Answer) → answer.status ≡ Done → IsAnswer (Some map) (released_command name id terms_name arms_name) answer → (arms : List Arm) × VerdictUnder (told_by terms) owner (section owner.text value.memory) arms Yes
   accepted answer status a =

@@ -13,13 +13,14 @@ use Rattle.image_text.specs.Image.{Image}
 use Rattle.schedule_file.specs.declared.Entry.{Entry}
 use Rattle.linker.specs.Refusals.{link_fault_of}
 use Rattle.link_map.specs.Map.{map_text}
+use Rattle.written_machine.specs.Peers.{section}
 use Rattle.pulse_sweep.specs.Sweep.{different, sweep_text}
 use Rattle.pulse_sweep.specs.declared.Pulses.{Pulses}
 use Rattle.cli_files.specs.declared.answers.Status.{Status}
 use Rattle.cli_files.specs.declared.answers.Status.TheVariants as status
-use Rattle.cli_files.specs.Files.{need, image_file, layout_file, a_layout, a_schedule, an_image, the_terms, certificates, an_object, object_needs, Holds, HoldAll, IsScheduleOf}
+use Rattle.cli_files.specs.Files.{need, image_file, image_with, terms_file, layout_file, a_layout, a_schedule, an_image, the_terms, certificates, an_object, object_needs, Holds, HoldAll, IsScheduleOf}
 use Rattle.cli_calls.specs.Calls.{Completes}
-use Rattle.cli_calls.specs.Command.{Command, Outcome, done, gives, nothing, Comes}
+use Rattle.cli_calls.specs.Command.{Command, Outcome, done, gives, judges, nothing, Comes}
 use Rattle.cli_calls.specs.Linking.{linked, objects_in}
 use Rattle.cli_calls.specs.Ids.{id_of}
 use Rattle.cli_calls.specs.Values.{cycles_of, file_named}
@@ -27,7 +28,8 @@ use Rattle.cli_calls.specs.Words.{Text, values_in}
 use Rattle.cli_calls.proofs.Sound.{Sound, some_linked, IfSound, if_none, if_some, if_map, if_then, if_else}
 use Rattle.lab_cli.specs.CommandLine.{command_by, command_of}
 use Rattle.lab_cli.specs.MapCommand.{map_command, map_of}
-use Rattle.lab_cli.specs.ReleasedCommand.{released_by, released_command, released_in, released_of}
+use Rattle.lab_cli.specs.ReleasedCommand.{arms_in, released_by, released_command, released_in, released_of, told_by}
+use Rattle.lab_cli.specs.internal.ReleasedCommand.{AreArmsOf}
 use Rattle.lab_cli.specs.StepsCommand.{steps_answer, steps_command, steps_of}
 use Rattle.lab_cli.specs.SweepCommand.{pulses_of, sweep_answer, sweep_command, sweep_of, sweep_status}
 
@@ -47,15 +49,21 @@ some_released : (value : Image) (terms : List Term) (arms : List Arm) (o : Optio
 some_released value terms arms None s e = cc
 some_released value terms arms (Some owner) s e = cc
 
-sound_released : (name : Text) (id : ℕ) (terms arms : Text) → Sound (released_command name id terms arms)
+sound_released : (name : Text) (id : ℕ) (terms : Text) (arms : Option Text) → Sound (released_command name id terms arms)
 sound_released name id terms arms map [] h e = h
 sound_released name id terms arms map (held ∷ []) h e = h.1
-sound_released name id terms arms map (held ∷ second ∷ []) h e = h.1.1
-sound_released name id terms arms map (an_image value ∷ the_terms told ∷ certificates own ∷ []) h e = some_released value told own (module_of id value.table) h.0.is.1 e
-sound_released name id terms arms map (an_image value ∷ the_terms told ∷ certificates own ∷ held ∷ more) h e = h.1.1.1
-sound_released name id terms arms map (an_image value ∷ the_terms told ∷ held ∷ more) h e = h.1.1.0.is
-sound_released name id terms arms map (an_image value ∷ held ∷ third ∷ more) h e = h.1.0.is
-sound_released name id terms arms map (held ∷ second ∷ third ∷ more) h e = h.0.is
+sound_released name id terms arms map (an_image value ∷ the_terms told ∷ more) h e = some_released value told (arms_in more) (module_of id value.table) h.0.is.1 e
+sound_released name id terms arms map (an_image value ∷ held ∷ more) h e = h.1.0.is
+sound_released name id terms arms map (held ∷ second ∷ more) h e = h.0.is
+
+-- what comes of an image, terms and certificates
+pub released_comes : (files : Option FileMap) (name : Text) (id : ℕ) (terms_name : Text) (arms_name : Option Text) (value : Image) (owner : Module) (terms : List Term) (arms : List Arm)
+    → Holds files (need name (image_with id)) (an_image value) → Holds files (need terms_name terms_file) (the_terms terms) → AreArmsOf files arms_name arms → module_of id value.table ≡ Some owner
+    → Comes files (released_command name id terms_name arms_name) (judges (told_by terms) owner (section owner.text value.memory) arms)
+released_comes files name id terms_name None value owner terms arms h t a owned =
+    record { helds = an_image value ∷ the_terms terms ∷ []; hold = (h, (t, tt)); is = ap (released_by value terms []) owned ∙ ap (judges (told_by terms) owner (section owner.text value.memory)) (sym a) }
+released_comes files name id terms_name (Some own) value owner terms arms h t a owned =
+    record { helds = an_image value ∷ the_terms terms ∷ certificates arms ∷ []; hold = (h, (t, (a, tt))); is = ap (released_by value terms arms) owned }
 
 sound_sweep : (first second : Text) (pulses : Pulses) → Sound (sweep_command first second pulses)
 sound_sweep first second pulses map [] h e = h
@@ -94,7 +102,7 @@ of_map (layout ∷ objects) = if_some (map_command layout objects) (sound_map la
 of_map [] = if_none
 
 of_released : (vs : List Text) → IfSound (released_of vs)
-of_released (name ∷ id ∷ terms ∷ arms ∷ []) = if_map (released_in name terms arms) (id_of id) (λ own. sound_released name own terms arms)
+of_released (name ∷ id ∷ terms ∷ arms ∷ []) = if_map (released_in name terms (file_named arms)) (id_of id) (λ own. sound_released name own terms (file_named arms))
 of_released _ = if_none
 
 of_sweep : (vs : List Text) → IfSound (sweep_of vs)

@@ -8,13 +8,13 @@ use Rattle.cli_calls.specs.Words.{Text}
 use Rattle.lab_cli.specs.CommandLine.{command_of}
 use Rattle.lab_cli.specs.ReleasedCommand.{released_command}
 
--- the words are `released` with this id, a file that holds this image, one that holds these terms, and some file of certificates
+-- the words are `released` with this id, a file that holds this image, one that holds these terms, and some file of certificates or none
 pub record IsRelease (words : List Text) (files : Option FileMap) (value : Image) (id : ℕ) (terms : List Term) : Type 0 where
   pub map : FileMap
   pub told : files ≡ Some map
   pub name : Text
   pub terms_name : Text
-  pub arms : Text
+  pub arms : Option Text
   pub command : command_of words ≡ Some (released_command name id terms_name arms)
   pub image_is : Holds (Some map) (need name (image_with id)) (an_image value)
   pub terms_are : Holds (Some map) (need terms_name terms_file) (the_terms terms)
