@@ -24,7 +24,8 @@ SM_FUNCTION(mac) unsigned absorb(unsigned first, unsigned second)
 
 SM_FUNCTION(mac) unsigned tag(unsigned low)
 {
-    return low ? right : left;
+    unsigned first = left, second = right;
+    return low ? second : first;
 }
 
 SM_START(0x0e00);
