@@ -1,5 +1,7 @@
 -- Modules, their places in the address space, and the table that holds them.
-use Rattle.std.specs.Prelude.{ℕ, ◌+◌, ◌-◌, ◌%◌, List, [], ◌∷◌, ◌++◌, ◌==◌, nat_lt, nat_le, if◌then◌else◌, Bool, true, false, ◌&&◌, ◌||◌, not, Option, Some, None, is_none, length}
+use Rattle.std.specs.Prelude.{ℕ, ◌+◌, ◌-◌, ◌%◌, List, [], ◌∷◌, ◌++◌, ◌==◌, nat_lt, nat_le, if◌then◌else◌, Bool, true, false, ◌&&◌, ◌||◌, not, find, Option, Some, None, is_none, option_map, length}
+use Rattle.std.specs.Bool.{then_some}
+use Rattle.std.specs.Option.{option_or}
 use Rattle.mod_layout.specs.declared.TheConstants.{DEVICES_END, FIRST_VECTOR}
 use Rattle.mod_layout.specs.declared.Section.{Section}
 use Rattle.mod_layout.specs.declared.Module.{Module}
@@ -48,8 +50,7 @@ place_of t a = place_in t.modules a
 
 -- the module with this id
 abbrev pub find_module : ℕ → List Module → Option Module
-find_module id [] = None
-find_module id (m ∷ ms) = if m.id == id then Some m else find_module id ms
+find_module id ms = find (λ m. m.id == id) ms
 
 -- the module with this id that a table holds
 abbrev pub module_of : ℕ → Table → Option Module
@@ -88,8 +89,7 @@ least id None = id
 least id (Some x) = if nat_lt x id then x else id
 
 abbrev pub met_if : Bool → ℕ → Option ℕ → Option ℕ
-met_if true id rest = Some (least id rest)
-met_if false id rest = rest
+met_if met id rest = if met then Some (least id rest) else rest
 
 -- the lowest id of a module that these sections meet
 abbrev pub lowest_met : Section → Section → List Module → Option ℕ
@@ -98,14 +98,11 @@ lowest_met text ram (m ∷ ms) = met_if (meets text ram m) m.id (lowest_met text
 
 -- this fault where the test says so, and else what comes after
 abbrev pub fault_if : Bool → TableFault → Option TableFault → Option TableFault
-fault_if true f rest = Some f
-fault_if false f rest = rest
+fault_if refused f rest = option_or (then_some refused f) rest
 
 -- sections that meet a held module, or else each other, and else what comes after
 abbrev pub overlap_or : Option ℕ → Bool → Option TableFault → Option TableFault
-overlap_or (Some id) own rest = Some (Overlap id)
-overlap_or None true rest = Some (Overlap 0)
-overlap_or None false rest = rest
+overlap_or met own rest = option_or (option_map Overlap met) (fault_if own (Overlap 0) rest)
 
 -- why a table refuses a module with these sections: the first that applies
 abbrev pub fault_of : Table → Section → Section → Option TableFault
