@@ -1,5 +1,6 @@
 -- The unit instructions: protect and unprotect modules, tags and attestation, ids.
 use Rattle.std.specs.Prelude.{ℕ, zero, suc, ◌+◌, ◌-◌, ◌*◌, ◌/◌, List, [], ◌∷◌, ◌++◌, nat_le, if◌then◌else◌, Bool, true, false, ◌&&◌, Option, Some, None, take, drop, replicate, bytes_eq}
+use Rattle.std.specs.Option.{option_map_or}
 use Rattle.sm_words.specs.Words.{reg, put, nth, add16}
 use Rattle.sm_words.specs.declared.registers.TheConstants.{PC}
 use Rattle.sm_words.specs.declared.width.Width.TheVariants.{Byte}
@@ -119,12 +120,10 @@ unprotected None core = answer core 0 SHORT_CYCLES
 unprotected (Some own) core = record { core = next core; stored = []; cycles = SHORT_CYCLES + size_of own.ram / 2; closing = true }
 
 abbrev pub id_or_zero : Option Module → ℕ
-id_or_zero None = 0
-id_or_zero (Some m) = m.id
+id_or_zero own = option_map_or (λ m. m.id) own 0
 
 abbrev pub caller_or_zero : Option Module → ℕ → ℕ
-caller_or_zero None c = 0
-caller_or_zero (Some m) c = c
+caller_or_zero own c = option_map_or (λ m. c) own 0
 
 abbrev pub place_id : Place → ℕ
 place_id Open = 0

@@ -1,5 +1,5 @@
 -- One cycle of the machine, by its steps.
-use Rattle.std.specs.Prelude.{ℕ, zero, suc, ◌+◌, ◌-◌, ◌*◌, List, [], ◌∷◌, ◌++◌, drop, length, slice_index, ◌==◌, nat_lt, if◌then◌else◌, Bool, true, false, ◌&&◌, ◌||◌, not, Option, Some, None, replicate}
+use Rattle.std.specs.Prelude.{ℕ, zero, suc, ◌+◌, ◌-◌, ◌*◌, List, [], ◌∷◌, ◌++◌, drop, length, map, option_to_list, slice_index, ◌==◌, nat_lt, if◌then◌else◌, Bool, true, false, ◌&&◌, ◌||◌, not, Option, Some, None, replicate}
 use Rattle.sm_words.specs.Status.{interrupted_sr, is_cpu_off, is_gie}
 use Rattle.sm_words.specs.Words.{reg, put, sub16, word_at, cleared}
 use Rattle.sm_words.specs.declared.registers.TheConstants.{PC, SP, SR}
@@ -323,8 +323,7 @@ turn left s = turn_by (case_of s) left s
 
 -- the byte sent in this cycle, before a stop's line
 abbrev pub sent_event : Option ℕ → List Event
-sent_event None = []
-sent_event (Some b) = Sent b ∷ []
+sent_event sent = map Sent (option_to_list sent)
 
 -- the cycle number rises unless the machine stopped
 abbrev pub counted_by : Option Stop → Step → Step

@@ -1,5 +1,6 @@
 -- What the outside sees of a state, and the runs from an image.
 use Rattle.std.specs.Prelude.{ℕ, List, [], map, slice_index, ◌==◌, nat_lt, if◌then◌else◌, Bool, true, false, Option, Some, None, replicate}
+use Rattle.std.specs.Option.{option_map_or}
 use Rattle.sm_words.specs.Words.{put, word_at}
 use Rattle.sm_words.specs.declared.registers.TheConstants.{PC}
 use Rattle.schedule_file.specs.declared.Entry.{Entry}
@@ -43,8 +44,7 @@ seen_byte h _ b = Some b
 
 -- whether the active module is hidden
 abbrev pub is_hidden_by : Hidden → Option ℕ → Bool
-is_hidden_by h None = false
-is_hidden_by h (Some id) = is_hidden h id
+is_hidden_by h active = option_map_or (is_hidden h) active false
 
 -- what is seen: bytes past the devices, registers where no hidden module is active, and the rest as it is; frames, the newest first
 pub record View : Type 0 where
