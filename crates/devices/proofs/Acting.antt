@@ -4,11 +4,15 @@ use Rattle.std.proofs.lemmas.Bool.Decides.{nat_tests}
 use Rattle.schedule_file.specs.declared.Entry.{Entry}
 use Rattle.schedule_file.specs.declared.What.{What}
 use Rattle.schedule_file.specs.declared.What.TheVariants.{Serial}
-use Rattle.devices.specs.Devices.{Devices, ticked_devices, counts, counts_by, scheduled, happens, happens_if}
+use Rattle.devices.specs.Devices.{Devices, ticked_devices, counts, counts_by, scheduled, happens}
 use Rattle.devices.specs.Time.{ticked_by}
 use Rattle.devices.specs.internal.Time.{counted_by}
 use Rattle.devices.specs.internal.Bus.{acted_before, past_count}
 use Rattle.devices.proofs.Order.{Rises, Rises-below}
+
+-- what a device does where an entry acts
+abbrev pub happens_if : Bool → What → Devices → Devices
+happens_if b w d = cond b (happens w d) d
 
 -- nothing is sent any more
 abbrev pub clear : Devices → Devices

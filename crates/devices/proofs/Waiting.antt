@@ -2,11 +2,11 @@
 use Rattle.std.proofs.Common.{ℕ, suc, ◌≡◌, ◌+◌, ◌-◌, ◌≤◌, ◌<◌, ◌∙◌, min, List, [], ◌∷◌, length, get_or, Bool, true, false, cond, ◌&&◌, refl, ap, subst, arith, nat_lt, nat_le}
 use Rattle.std.proofs.lemmas.Bool.Decides.{nat_tests}
 use Rattle.schedule_file.specs.declared.Entry.{Entry}
-use Rattle.devices.specs.Devices.{Devices, happens_if}
+use Rattle.devices.specs.Devices.{Devices}
 use Rattle.devices.specs.Time.{before_entries}
 use Rattle.devices.specs.internal.Bus.{past_count}
 use Rattle.devices.proofs.Order.{Rises}
-use Rattle.devices.proofs.Acting.{acted_within}
+use Rattle.devices.proofs.Acting.{acted_within, happens_if}
 
 pub before_entries-le : (es : List Entry) (k q : ℕ) → before_entries es k q ≤ q
 before_entries-le [] k q = omega arith

@@ -1,5 +1,5 @@
 -- The state of the devices: four lines, a serial device and a timer, moved by a schedule, cycle by cycle.
-use Rattle.std.specs.Prelude.{ℕ, ◌+◌, ◌*◌, ◌/◌, ◌%◌, ◌^◌, List, [], ◌∷◌, ◌==◌, nat_le, if◌then◌else◌, Bool, true, false, ◌&&◌, ◌||◌, Option, Some, None}
+use Rattle.std.specs.Prelude.{ℕ, ◌+◌, ◌-◌, ◌*◌, ◌/◌, ◌%◌, ◌^◌, List, [], ◌∷◌, map, find, ◌==◌, nat_le, if◌then◌else◌, Bool, true, false, ◌&&◌, ◌||◌, Option, Some, None}
 use Rattle.std.specs.Int.{bit_at}
 use Rattle.std.specs.Option.{option_or}
 use Rattle.schedule_file.specs.declared.Entry.{Entry}
@@ -36,14 +36,10 @@ happens (Serial b) d = record d { got = true; lost = d.lost || d.got; byte = b }
 happens (Up n) d = record d { levels = with_bit d.levels n 1 }
 happens (Down n) d = record d { levels = with_bit d.levels n 0 }
 
-abbrev pub happens_if : Bool → What → Devices → Devices
-happens_if true w d = happens w d
-happens_if false w d = d
-
 -- the entries of cycle k act in the list's order
 abbrev pub scheduled : List Entry → ℕ → Devices → Devices
 scheduled [] k d = d
-scheduled (e ∷ es) k d = scheduled es k (happens_if (e.cycle == k) e.what d)
+scheduled (e ∷ es) k d = scheduled es k (if e.cycle == k then happens e.what d else d)
 
 -- one tick of a timer: whether it runs, and whether the count is the limit
 abbrev pub counts_by : Bool → Bool → Devices → Devices
@@ -70,11 +66,7 @@ abbrev pub serial_line : Devices → Option ℕ
 serial_line d = if d.listening && d.got then Some SERIAL_VECTOR else None
 
 abbrev pub highest_line : Devices → Option ℕ
-highest_line d =
-    if line_raised d 3 then Some (LINES_VECTOR + 3)
-    else (if line_raised d 2 then Some (LINES_VECTOR + 2)
-    else (if line_raised d 1 then Some (LINES_VECTOR + 1)
-    else (if line_raised d 0 then Some (LINES_VECTOR + 0) else None)))
+highest_line d = find (λ v. line_raised d (v - LINES_VECTOR)) (map (λ n. LINES_VECTOR + n) (3 ∷ 2 ∷ 1 ∷ 0 ∷ []))
 
 unfoldable pub line_of : Devices → Option ℕ
 line_of d = option_or (timer_line d) (option_or (serial_line d) (highest_line d))
@@ -85,8 +77,7 @@ accepted d v = if v == TIMER_VECTOR then record d { flag = false } else d
 
 -- a bit of a control register
 abbrev pub bit_if : Bool → ℕ → ℕ
-bit_if true weight = weight
-bit_if false weight = 0
+bit_if b weight = if b then weight else 0
 
 -- the byte at an address: of the lines, the serial device or the timer
 unfoldable pub read_of : Devices → ℕ → ℕ

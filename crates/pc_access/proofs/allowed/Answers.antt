@@ -1,4 +1,4 @@
-use Rattle.std.proofs.Common.{◌≡◌, None, sym, ◌∙◌, refl}
+use Rattle.std.proofs.Common.{sym, ◌∙◌, refl}
 use Rattle.pc_access.specs.Rights.{access_of, IsRightful}
 use Rattle.pc_access.proofs.RightLemmas.{right_misaligned, right_aligned, rightful, unrefused}
 use Rattle.pc_access.proofs.allowed.Goals as goal
