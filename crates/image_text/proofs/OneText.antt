@@ -1,5 +1,5 @@
 -- The text of an image is not refused, and no other image has it.
-use Rattle.std.proofs.Common.{◌≡◌, ◌⊎◌, inl, inr, ⊎_elim, ℕ, zero, suc, ◌+◌, ◌*◌, ◌/◌, ◌%◌, ◌<◌, ◌≤◌, List, [], ◌∷◌, ◌++◌, length, take, drop, get_or, slice_index, codes, Bool, true, false, nat_lt, cond, not, ◌&&◌, ◌||◌, ◌==◌, Option, Some, None, refl, sym, ap, ◌∙◌, subst, arith, lit<, length-append, length-take, length-drop}
+use Rattle.std.proofs.Common.{◌≡◌, ◌⊎◌, inl, inr, ⊎_elim, ℕ, zero, suc, ◌+◌, ◌*◌, ◌/◌, ◌%◌, ◌<◌, ◌≤◌, min, List, [], ◌∷◌, ◌++◌, map, length, take, drop, get_or, slice_index, codes, Bool, true, false, nat_lt, cond, not, ◌&&◌, ◌||◌, ◌==◌, Option, Some, None, refl, sym, ap, ◌∙◌, subst, arith, lit<, length-append, length-take, length-drop}
 use Rattle.std.proofs.lemmas.List.{append-nil, append_cancel_left, take-append-drop, nil_from_length}
 use Rattle.std.proofs.lemmas.Bool.{and_parts, eqb-true, not-true, and_left, and_right, or_from, agree_below_at}
 use Rattle.std.proofs.lemmas.Bool.Decides.{nat_tests}
@@ -8,8 +8,9 @@ use Rattle.mod_layout.specs.declared.Section.{Section}
 use Rattle.mod_layout.specs.declared.Module.{Module}
 use Rattle.mod_layout.specs.declared.TableFault.{TableFault}
 use Rattle.mod_layout.specs.declared.TableFault.TheVariants.{Empty, Odd, Reserved, Full, Spent}
-use Rattle.mod_layout.specs.Table.{Table, fault_of, with_module, empty_table, shares, lowest_met, met_if, fault_if, overlap_or, is_empty, is_odd, is_reserved}
-use Rattle.mod_layout.specs.Tables.{Apart, IsSection, IsModule, Separate, SeparateFrom, AreModules}
+use Rattle.mod_layout.specs.Table.{Table, fault_of, with_module, empty_table, shares, lowest_met, meets, fault_if, overlap_or, is_empty, is_odd, is_reserved}
+use Rattle.mod_layout.specs.Tables.{Apart, IsSection, IsModule, Separate, AreModules}
+use Rattle.mod_layout.proofs.Found.{SeparateFrom}
 use Rattle.texts.specs.Lines.{is_line_feed, ended_lines, unended}
 use Rattle.texts.proofs.LawLemmas.{decimals_are_read, word_bytes}
 use Rattle.image_text.specs.declared.numbers.TheConstants.{MAX_COUNT}
@@ -18,7 +19,7 @@ use Rattle.std.specs.Char.{is_ascii_digit}
 use Rattle.std.proofs.lemmas.Fmt.{digits_decimal}
 use Rattle.texts.proofs.DecimalLemmas.{digits_model}
 use Rattle.texts.proofs.LineLemmas.{ended_lines-before, unended-before}
-use Rattle.std.specs.List.{All, list_all}
+use Rattle.std.specs.List.{All, filter, list_all, reduce}
 use Rattle.std.proofs.lemmas.List.Sums.{AllPass-from_list_all}
 use Rattle.texts.specs.Hexadecimals.{hex_word}
 use Rattle.image_text.specs.declared.ImageFault.{ImageFault}
@@ -480,7 +481,7 @@ lowest_none (x ∷ xs) m h =
     let s = h.0 in
     let none = meet_not (shares m.text x.text) (shares m.text x.ram) (shares m.ram x.text) (shares m.ram x.ram)
     (shares_not x.text m.text s.texts).1 (shares_not x.ram m.text s.ram_text).1 (shares_not x.text m.ram s.text_ram).1 (shares_not x.ram m.ram s.rams).1 in
-    ap (λ (b : Bool). met_if b x.id (lowest_met m.text m.ram xs)) none ∙ lowest_none xs m h.1
+    ap (λ (b : Bool). reduce min (map (λ (y : Module). y.id) (cond b (x ∷ filter (meets m.text m.ram) xs) (filter (meets m.text m.ram) xs)))) none ∙ lowest_none xs m h.1
   where
     meet_not : (a b c d : Bool) → a ≡ false → b ≡ false → c ≡ false → d ≡ false → (a || b || c || d) ≡ false
     meet_not a b c d e f g h = rw (e, f, g, h) refl

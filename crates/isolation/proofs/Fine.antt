@@ -4,7 +4,7 @@ use Rattle.sm_words.specs.Words.{IsCore}
 use Rattle.insn_decode.specs.declared.insn.Insn.{Insn}
 use Rattle.insn_decode.specs.declared.insn.Insn.TheVariants.{Reti}
 use Rattle.schedule_file.specs.declared.Entry.{Entry as Scheduled}
-use Rattle.mod_layout.specs.Table.{Table, place_by, place_in, place_of, holds}
+use Rattle.mod_layout.specs.Table.{Table, place_in, place_of, holds}
 use Rattle.mod_layout.specs.Tables.{AreModules, IsTable}
 use Rattle.mod_layout.specs.declared.Module.{Module}
 use Rattle.mod_layout.specs.declared.Place.{Place}
@@ -19,6 +19,7 @@ use Rattle.written_machine.specs.View.{at}
 use Rattle.isolation.proofs.Each.{Each}
 use Rattle.isolation.proofs.Gie.{effect_keeps, past_keeps}
 use Rattle.mod_layout.proofs.TableLemmas.{taken, table_more, table_dropped}
+use Rattle.mod_layout.proofs.Found.{place_by}
 use Rattle.sm_words.proofs.Cores.{put_core}
 use Rattle.isolation.proofs.Tables.{table_keeps}
 use Rattle.isolation.proofs.Ways.{Lasting, always, enter_ways, settle_ways}

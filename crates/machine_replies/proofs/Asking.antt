@@ -14,12 +14,12 @@ use Rattle.insn_decode.specs.declared.insn.Operand.{Operand}
 use Rattle.insn_decode.specs.declared.insn.Operand.TheVariants.{Indexed, Symbolic, Absolute, Indirect, Increment}
 use Rattle.insn_decode.proofs.Table.{insn_means}
 use Rattle.sm_words.proofs.Cores.{put_core}
-use Rattle.mod_layout.specs.Table.{Table, own_of, place_by, place_in, place_of, module_of, is_entry, holds, size_of, takes}
+use Rattle.mod_layout.specs.Table.{Table, own_of, place_in, place_of, module_of, is_entry, holds, size_of, takes}
 use Rattle.mod_layout.specs.Tables.{AreModules, IsModule, IsTable}
 use Rattle.mod_layout.specs.declared.Module.{Module}
 use Rattle.mod_layout.specs.declared.Place.{Place}
 use Rattle.mod_layout.specs.declared.Place.TheVariants.{Open, Entry, Text, Data}
-use Rattle.mod_layout.proofs.Found.{module_found, and_true}
+use Rattle.mod_layout.proofs.Found.{module_found, and_true, place_by}
 use Rattle.mod_layout.proofs.TableLemmas.{taken}
 use Rattle.pc_access.specs.Rights.{right, right_at, refuse_if, misaligned, first_denied}
 use Rattle.pc_access.specs.declared.Rule.TheVariants.{Misaligned}

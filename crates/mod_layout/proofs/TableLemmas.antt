@@ -1,5 +1,5 @@
 -- The table's definitions along a list of modules, and what a table keeps as modules come and go.
-use Rattle.std.proofs.Common.{◌≡◌, inl, inr, ⊎_elim, ℕ, ◌+◌, ◌%◌, ◌<◌, ◌≤◌, min, map, List, [], ◌∷◌, ◌++◌, length, length-append, Bool, true, false, nat_lt, nat_le, cond, not, ◌&&◌, ◌||◌, ◌==◌, Option, Some, None, IsSome, is_none, refl, sym, ◌∙◌, subst, arith, one-add}
+use Rattle.std.proofs.Common.{◌≡◌, inl, inr, ⊎_elim, ℕ, ◌+◌, ◌%◌, ◌<◌, ◌≤◌, min, map, List, [], ◌∷◌, ◌++◌, length, length-append, Bool, true, false, nat_lt, nat_le, cond, not, ◌&&◌, ◌||◌, ◌==◌, Option, Some, None, IsSome, is_none, refl, sym, ap, ◌∙◌, subst, arith, one-add}
 use Rattle.std.specs.List.{filter, fold, reduce, remove, position_or_len, position}
 use Rattle.std.proofs.lemmas.Bool.Decides.{nat_tests}
 use Rattle.std.proofs.lemmas.Bool.{not-false, and_from, and_parts, or_parts}
@@ -8,20 +8,16 @@ use Rattle.mod_layout.specs.declared.Section.{Section}
 use Rattle.mod_layout.specs.declared.Module.{Module}
 use Rattle.mod_layout.specs.declared.TableFault.{TableFault}
 use Rattle.mod_layout.specs.declared.TableFault.TheVariants.{Empty, Odd, Reserved, Full, Spent}
-use Rattle.mod_layout.specs.Table.{Table, holds, place_in, place_of, find_module, without, drop_module, shares, meets, is_empty, is_odd, is_reserved, least, met_if, lowest_met, fault_if, overlap_or, fault_of, takes, with_module}
-use Rattle.mod_layout.specs.Tables.{Apart, IsSection, IsModule, Separate, SeparateFrom, AreModules, IsTable}
+use Rattle.mod_layout.specs.Table.{Table, holds, place_in, place_of, find_module, without, drop_module, shares, meets, is_empty, is_odd, is_reserved, lowest_met, fault_if, overlap_or, fault_of, takes, with_module}
+use Rattle.mod_layout.specs.Tables.{Apart, IsSection, IsModule, Separate, AreModules, IsTable}
+use Rattle.mod_layout.proofs.Found.{SeparateFrom}
 
 -- ---- look-ups
 
--- the first module that the test on ids finds
-pub find_is : (id : ℕ) (ms : List Module) → find (λ (m : Module). m.id == id) ms ≡ find_module id ms
-find_is id [] = refl
-find_is id (m ∷ ms) = ap (λ (r : Option Module). cond (m.id == id) (Some m) r) (find_is id ms)
-
--- the lower of two ids, each of which may be none
-abbrev pub lower_of : Option ℕ → Option ℕ → Option ℕ
-lower_of None rest = rest
-lower_of (Some id) rest = Some (least id rest)
+-- the lowest of an id, which may be none, and these
+abbrev pub lowest_from : Option ℕ → List ℕ → Option ℕ
+lowest_from None ids = reduce min ids
+lowest_from (Some id) ids = Some (fold min id ids)
 
 -- where the module with an id stands
 pub record FoundAt (id : ℕ) (ms : List Module) (i : ℕ) : Type 0 where
@@ -126,7 +122,8 @@ pub none_met : (text ram : Section) (ms : List Module) → lowest_met text ram m
 none_met text ram [] e = refl
 none_met text ram (x ∷ ms) e = by (meets text ram x) e (λ f. none_met text ram ms f)
   where
-    by : (c : Bool) → met_if c x.id (lowest_met text ram ms) ≡ None → (lowest_met text ram ms ≡ None → meets_any text ram ms ≡ false) → (c || meets_any text ram ms) ≡ false
+    by : (c : Bool) → reduce min (map (λ (m : Module). m.id) (cond c (x ∷ filter (meets text ram) ms) (filter (meets text ram) ms))) ≡ None
+        → (lowest_met text ram ms ≡ None → meets_any text ram ms ≡ false) → (c || meets_any text ram ms) ≡ false
     by true f r = absurd cc
     by false f r = r f
 

@@ -1,6 +1,7 @@
 -- Modules, their places in the address space, and the table that holds them.
-use Rattle.std.specs.Prelude.{ℕ, ◌+◌, ◌-◌, ◌%◌, List, [], ◌∷◌, ◌++◌, min, map, filter, ◌==◌, nat_lt, nat_le, if◌then◌else◌, Bool, ◌&&◌, ◌||◌, not, find, Option, None, is_none, option_map, option_and_then, length}
+use Rattle.std.specs.Prelude.{ℕ, ◌+◌, ◌-◌, ◌%◌, List, [], ◌∷◌, ◌++◌, min, map, filter, ◌==◌, nat_lt, nat_le, if◌then◌else◌, Bool, true, false, ◌&&◌, ◌||◌, not, find, Option, Some, None, is_none, option_map, option_and_then, length}
 use Rattle.std.specs.Bool.{then_some}
+use Rattle.std.specs.List.{reduce}
 use Rattle.std.specs.Option.{option_or}
 use Rattle.mod_layout.specs.declared.TheConstants.{DEVICES_END, FIRST_VECTOR}
 use Rattle.mod_layout.specs.declared.Section.{Section}
@@ -30,17 +31,12 @@ is_entry text a = (a == text.start) || (a == text.start + 1)
 abbrev pub size_of : Section → ℕ
 size_of s = s.end - s.start
 
--- the first that fits: entry word, rest of the text, data, or what comes after
-abbrev pub place_by : Bool → Bool → Bool → ℕ → Place → Place
-place_by true text ram id rest = Entry id
-place_by false true ram id rest = Text id
-place_by false false true id rest = Data id
-place_by false false false id rest = rest
-
--- what an address is to these modules
+-- what an address is to these modules, the first that fits: entry word, rest of a text, data, or open
 abbrev pub place_in : List Module → ℕ → Place
 place_in [] a = Open
-place_in (m ∷ ms) a = place_by (is_entry m.text a) (holds m.text a) (holds m.ram a) m.id (place_in ms a)
+place_in (m ∷ ms) a =
+    if is_entry m.text a then Entry m.id
+    else (if holds m.text a then Text m.id else (if holds m.ram a then Data m.id else place_in ms a))
 
 -- what an address is to a table
 unfoldable pub place_of : Table → ℕ → Place
@@ -58,8 +54,7 @@ module_of id t = find_module id t.modules
 
 -- the active module of a table
 abbrev pub own_of : Option ℕ → Table → Option Module
-own_of None t = None
-own_of (Some id) t = module_of id t
+own_of active t = option_and_then (λ id. module_of id t) active
 
 -- ---- a new module
 
@@ -83,18 +78,9 @@ is_odd s = not ((s.start % 2 == 0) && (s.end % 2 == 0))
 abbrev pub is_reserved : Section → Bool
 is_reserved s = nat_lt s.start DEVICES_END || nat_lt FIRST_VECTOR s.end
 
--- the lower of two ids, where the second may be none
-abbrev pub least : ℕ → Option ℕ → ℕ
-least id None = id
-least id (Some x) = if nat_lt x id then x else id
-
-abbrev pub met_if : Bool → ℕ → Option ℕ → Option ℕ
-met_if met id rest = if met then Some (least id rest) else rest
-
 -- the lowest id of a module that these sections meet
 abbrev pub lowest_met : Section → Section → List Module → Option ℕ
-lowest_met text ram [] = None
-lowest_met text ram (m ∷ ms) = met_if (meets text ram m) m.id (lowest_met text ram ms)
+lowest_met text ram ms = reduce min (map (λ m. m.id) (filter (meets text ram) ms))
 
 -- this fault where the test says so, and else what comes after
 abbrev pub fault_if : Bool → TableFault → Option TableFault → Option TableFault

@@ -1,5 +1,6 @@
 -- What a module table keeps.
 use Rattle.std.specs.Prelude.{◌≡◌, ◌≢◌, ◌⊎◌, ℕ, ◌+◌, ◌%◌, ◌<◌, ◌≤◌, List, [], ◌∷◌, length}
+use Rattle.std.specs.List.{AllByRecursion}
 use Rattle.mod_layout.specs.declared.TheConstants.{DEVICES_END, FIRST_VECTOR}
 use Rattle.mod_layout.specs.declared.Section.{Section}
 use Rattle.mod_layout.specs.declared.Module.{Module}
@@ -33,15 +34,10 @@ pub record Separate (x y : Module) : Type 0 where
   pub rams : Apart x.ram y.ram
   pub ids : x.id ≢ y.id
 
--- a module is separate from each of these
-abbrev pub SeparateFrom : Module → List Module → Type 0
-SeparateFrom x [] = Unit {0}
-SeparateFrom x (y ∷ ys) = Separate x y × SeparateFrom x ys
-
 -- each of these is a module, and separate from those after it
 abbrev pub AreModules : ℕ → List Module → Type 0
 AreModules given [] = Unit {0}
-AreModules given (x ∷ xs) = IsModule given x × SeparateFrom x xs × AreModules given xs
+AreModules given (x ∷ xs) = IsModule given x × AllByRecursion (Separate x) xs × AreModules given xs
 
 -- what every table keeps: modules that share nothing, no more than its room, which is 8 or 32
 pub record IsTable (t : Table) : Type 0 where

@@ -216,12 +216,12 @@ fn index_of(modules: &[Module], id: u16) -> Option<usize>
 fn lowest_met(text: Section, ram: Section, modules: &[Module]) -> Option<u16>
     ensures { result ≡ lowest_met_in text ram modules.now }
 {
-    let mut lowest = None;
+    let mut lowest: Option<u16> = None;
     for module in modules {
         if module.meets(text, ram) {
             lowest = Some(match lowest {
                 None => module.id,
-                Some(id) => module.id.min(id),
+                Some(id) => id.min(module.id),
             });
         }
     }
