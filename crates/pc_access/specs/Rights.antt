@@ -2,7 +2,7 @@
 use Rattle.std.specs.Prelude.{◌≡◌, ℕ, ◌+◌, ◌%◌, List, [], ◌∷◌, ◌==◌, nat_lt, Bool, true, false, not, Option, None}
 use Rattle.std.specs.Bool.{then_some}
 use Rattle.std.specs.List.{list_all, list_any}
-use Rattle.std.specs.Option.{option_or}
+use Rattle.std.specs.Option.{option_or, option_map_or}
 use Rattle.sm_words.specs.declared.width.Width.{Width}
 use Rattle.sm_words.specs.declared.width.Width.TheVariants.{Byte, Word}
 use Rattle.mod_layout.specs.declared.TheConstants.{DEVICES_END}
@@ -39,8 +39,7 @@ grants own Open kind = true
 
 -- whether this module is active
 abbrev pub is_id : ℕ → Option ℕ → Bool
-is_id id None = false
-is_id id (Some x) = x == id
+is_id id active = option_map_or (λ x. x == id) active false
 
 -- whether the module to which a place belongs is active
 abbrev pub is_own : Option ℕ → Place → Bool
@@ -60,8 +59,7 @@ abbrev pub is_held : ℕ → List ℕ → Bool
 is_held id held = list_any (λ x. x == id) held
 
 abbrev pub refuse_if : Bool → Rule → ℕ → ℕ → Option Denied
-refuse_if true rule addr id = Some record { rule = rule; addr = addr; «module» = id }
-refuse_if false rule addr id = None
+refuse_if refused rule addr id = then_some refused record { rule = rule; addr = addr; «module» = id }
 
 -- a word access at an odd address
 abbrev pub misaligned : Width → ℕ → Bool
