@@ -2,9 +2,10 @@
 use Rattle.std.proofs.Common.{◌≡◌, ℕ, zero, suc, ◌+◌, ◌-◌, ◌<◌, ◌≤◌, Bool, true, false, Option, Some, None, is_some, refl, sym, ◌∙◌, ap, subst, arith}
 use Rattle.sm_words.specs.Sums.{one_if}
 use Rattle.pc_access.specs.declared.Stop.{Stop}
-use Rattle.written_machine.specs.Cycle.{Step, told, ticked, settle, turn, counted_by, move, cycle, cycle_by, after_cycles}
+use Rattle.written_machine.specs.Cycle.{Step, told, ticked, settle, turn, counted_by, move, cycle, after_cycles}
 use Rattle.written_machine.specs.Standing.{stands_at, this_or, last_standing}
 use Rattle.written_machine.specs.State.{State}
+use Rattle.written_machine.proofs.Stops.{cycle_by}
 use Rattle.isolation.proofs.Tame.{cycle_number, runs_so_far, settle_same, turn_same, ticked_same}
 use Rattle.board.specs.internal.Sound.{ended_at, RunsTo, LeadsTo, number_of}
 use Rattle.board.proofs.Runs.{state_split, stays, stopped_state}

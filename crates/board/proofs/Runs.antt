@@ -8,10 +8,11 @@ use Rattle.sm_io.proofs.Putting.{appends_then, appends_same, took_same, took_the
 use Rattle.pc_access.specs.declared.Stop.{Stop}
 use Rattle.tracer.specs.Lines.{event_line}
 use Rattle.tracer.specs.declared.Event.{Event}
-use Rattle.written_machine.specs.Cycle.{Step, quiet, cycle, cycle_by, after_cycles}
+use Rattle.written_machine.specs.Cycle.{Step, quiet, cycle, after_cycles}
 use Rattle.written_machine.specs.Passing.{Leads}
 use Rattle.written_machine.specs.State.{State}
 use Rattle.written_machine.specs.Trace.{lines_of, lines_after}
+use Rattle.written_machine.proofs.Stops.{cycle_by}
 use Rattle.board.specs.declared.Ran.{Ran}
 use Rattle.board.specs.Ran.{lines_now, RanWhole, RanCutOff, Runs}
 use Rattle.board.specs.Ran.{ran_of}

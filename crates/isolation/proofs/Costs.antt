@@ -8,7 +8,7 @@ use Rattle.pc_access.specs.Rights.{is_id}
 use Rattle.pc_access.specs.declared.Stop.{Stop}
 use Rattle.cpu_step.specs.Lone.{Lone, Doing, Closes, Leaves, Breaks, doing, lone_after, outcome, job_of, Job, Outcome, Broken, Running, later, Waits, Does, lone_does, lone_step, lone_step_by, in_time, at_once}
 use Rattle.tracer.specs.declared.Event.{Event}
-use Rattle.written_machine.specs.Cycle.{Step, told, unsettled, due, ticked, settle, turn, arrive_inside, sent_event, counted_by, move, cycle_by, cycle, after_cycles}
+use Rattle.written_machine.specs.Cycle.{Step, told, unsettled, due, ticked, settle, turn, arrive_inside, sent_event, counted_by, move, cycle, after_cycles}
 use Rattle.written_machine.specs.Peers.{section}
 use Rattle.written_machine.specs.State.{State}
 use Rattle.isolation.specs.Calls.{entry_job, entry_lone, works, worked, NoEnd, NotBroken, Away, back_from, notes, away, backup_of, run_by, lone_of, find_held, Enters, Ends, Takes}
@@ -24,6 +24,7 @@ use Rattle.schedule_file.specs.declared.Entry.{Entry as Scheduled}
 use Rattle.mod_layout.specs.Table.{module_of}
 use Rattle.image_text.specs.Image.{Image, IsImage}
 use Rattle.written_machine.specs.View.{at}
+use Rattle.written_machine.proofs.Stops.{cycle_by}
 use Rattle.cpu_step.proofs.LoneLemmas.{after_step}
 use Rattle.isolation.proofs.Ways.{sent_tells}
 

@@ -13,9 +13,10 @@ use Rattle.reg_backup.specs.Held.{held_ids}
 use Rattle.reg_backup.specs.declared.backup.After.TheVariants.{Next}
 use Rattle.tracer.specs.declared.Event.{Event}
 use Rattle.tracer.specs.declared.Event.TheVariants.{Enter as Entered}
-use Rattle.written_machine.specs.Cycle.{Step, told, pc_of, settle, ticked, arrive_inside, act, fetch, turn, sent_event, counted_by, move, cycle_by, cycle}
+use Rattle.written_machine.specs.Cycle.{Step, told, pc_of, settle, ticked, arrive_inside, act, fetch, turn, sent_event, counted_by, move, cycle}
 use Rattle.written_machine.specs.State.{State}
 use Rattle.written_machine.specs.View.{at}
+use Rattle.written_machine.proofs.Stops.{cycle_by}
 use Rattle.isolation.specs.Calls.{Enters}
 use Rattle.isolation.proofs.Ways.{perform_tells, sent_tells, EachAct, EachTurn, each_turn, settle_ways}
 

@@ -4,8 +4,9 @@ use Rattle.isolation.proofs.Tame.{ticked_stop}
 use Rattle.pc_access.specs.declared.Stop.{Stop}
 use Rattle.cpu_step.specs.Asked.{table_after}
 use Rattle.tracer.specs.declared.Event.{Event}
-use Rattle.written_machine.specs.Cycle.{Step, Settled, cycle, told, settle, ticked, arrive_inside, perform, turn, sent_event, counted_by, move, cycle_by}
+use Rattle.written_machine.specs.Cycle.{Step, Settled, cycle, told, settle, ticked, arrive_inside, perform, turn, sent_event, counted_by, move}
 use Rattle.written_machine.specs.State.{State}
+use Rattle.written_machine.proofs.Stops.{cycle_by}
 use Rattle.isolation.specs.Calls.{stop_in}
 use Rattle.isolation.proofs.Ways.{perform_tells, sent_tells, EachAct, EachTurn, each_turn, settle_ways}
 use Rattle.std.proofs.lemmas.Bool.Decides.{nat_tests}

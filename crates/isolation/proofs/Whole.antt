@@ -21,11 +21,12 @@ use Rattle.reg_backup.specs.declared.frames.Frame.TheVariants.{Plain, Module as 
 use Rattle.tracer.specs.declared.Event.{Event}
 use Rattle.cpu_step.specs.Lone.{is_answer, blank}
 use Rattle.cpu_step.proofs.Blank.{no_answer_differs}
-use Rattle.written_machine.specs.Cycle.{Step, Settled, told, settle, ticked, turn, sent_event, counted_by, move, cycle_by, cycle}
+use Rattle.written_machine.specs.Cycle.{Step, Settled, told, settle, ticked, turn, sent_event, counted_by, move, cycle}
 use Rattle.written_machine.specs.Peers.{section, PeersBut, Peers}
 use Rattle.written_machine.specs.State.{State}
 use Rattle.written_machine.specs.View.{boot, at, is_hidden_by, Seen, seen_frame, seen_byte, View, view_of}
 use Rattle.written_machine.specs.declared.Hidden.TheVariants.{Only}
+use Rattle.written_machine.proofs.Stops.{cycle_by}
 use Rattle.isolation.specs.Calls.{Ends, ends_call, AnswersAgree}
 use Rattle.isolation.proofs.Active.{active_turn}
 use Rattle.isolation.proofs.EvenBy.{each_bound}

@@ -10,10 +10,11 @@ use Rattle.image_text.specs.Image.{Image, IsImage}
 use Rattle.tracer.specs.Laws.{IsEvent}
 use Rattle.tracer.specs.Lines.{event_line}
 use Rattle.tracer.specs.declared.Event.{Event}
-use Rattle.written_machine.specs.Cycle.{Step, settle, ticked, told, turn, counted_by, move, cycle_by, cycle, after_cycles}
+use Rattle.written_machine.specs.Cycle.{Step, settle, ticked, told, turn, counted_by, move, cycle, after_cycles}
 use Rattle.written_machine.specs.State.{State}
 use Rattle.written_machine.specs.Trace.{lines_of, lines_after, end_by, end_of, end_line_of}
 use Rattle.written_machine.specs.View.{at, boot}
+use Rattle.written_machine.proofs.Stops.{cycle_by}
 use Rattle.vendor_tool.specs.Laws.{TimedEvent, IsTold, IsEndState, StandsInPlace, events_text, sent_in, sent}
 use Rattle.vendor_tool.specs.declared.Judgement.TheVariants.{Genuine}
 use Rattle.vendor_tool.specs.Replies.{replies_of}

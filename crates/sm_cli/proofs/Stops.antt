@@ -9,10 +9,11 @@ use Rattle.tracer.specs.Lines.{event_line}
 use Rattle.tracer.specs.declared.Event.{Event}
 use Rattle.tracer.specs.declared.Event.TheVariants.{Stop as StopEvent}
 use Rattle.written_machine.specs.Checks.{refused_in}
-use Rattle.written_machine.specs.Cycle.{cycle, cycle_by, after_cycles}
+use Rattle.written_machine.specs.Cycle.{cycle, after_cycles}
 use Rattle.written_machine.specs.State.{State}
 use Rattle.written_machine.specs.Trace.{lines_of, lines_after, end_line_of}
 use Rattle.written_machine.specs.View.{at, boot}
+use Rattle.written_machine.proofs.Stops.{cycle_by}
 use Rattle.isolation.specs.Calls.{stop_in}
 use Rattle.isolation.specs.Laws.{StopTold, StopRefused}
 use Rattle.cli_files.specs.declared.answers.Status.TheVariants.{Stopped}

@@ -1,5 +1,6 @@
 -- One cycle of the machine, by its steps.
 use Rattle.std.specs.Prelude.{ℕ, zero, suc, ◌+◌, ◌-◌, ◌*◌, List, [], ◌∷◌, ◌++◌, drop, length, map, option_to_list, slice_index, ◌==◌, nat_lt, if◌then◌else◌, Bool, true, false, ◌&&◌, ◌||◌, not, Option, Some, None, replicate}
+use Rattle.std.specs.Option.{option_map_or}
 use Rattle.sm_words.specs.Status.{interrupted_sr, is_cpu_off, is_gie}
 use Rattle.sm_words.specs.Words.{reg, put, sub16, word_at, cleared}
 use Rattle.sm_words.specs.declared.registers.TheConstants.{PC, SP, SR}
@@ -116,8 +117,7 @@ close_of _ _ s = unsettled s
 
 -- whether the module's text holds the address
 abbrev pub in_text : Option Module → ℕ → Bool
-in_text None a = false
-in_text (Some m) a = holds m.text a
+in_text own a = option_map_or (λ m. holds m.text a) own false
 
 -- Next: an active module whose text does not hold PC is left
 abbrev pub leave_if : Bool → Option ℕ → State → Settled
@@ -337,14 +337,9 @@ move s =
     let t = turn u.left u.state in
     counted_by t.state.stop (told u.events t)
 
--- a stopped machine has no steps
-abbrev pub cycle_by : Option Stop → State → Step
-cycle_by (Some stop) s = quiet s
-cycle_by None s = move s
-
 -- a stopped machine changes nothing
 abbrev pub cycle : State → Step
-cycle s = cycle_by s.stop s
+cycle s = elim s.stop [ Some stop ↦ quiet s | None ↦ move s ]
 
 -- the state after n cycles
 abbrev pub after_cycles : State → ℕ → State
