@@ -9,8 +9,8 @@ use Rattle.irq_padding.specs.declared.turn.Turn.TheVariants.{Pad, Inside, Outsid
 pub data Turn : Type 0 where
   -- one cycle of padding, after which so many are left
   Pads : (left : ℕ) → Turn
-  -- a vector arrives while this module is active, at any cycle of its instruction
-  InterruptsModule : (vector id : ℕ) → Turn
+  -- a vector arrives while this module is active, at any cycle of its instruction, which still needs so many
+  InterruptsModule : (vector id rest : ℕ) → Turn
   -- a vector arrives outside, between two instructions
   InterruptsOutside : (vector : ℕ) → Turn
   -- one cycle of an instruction that was begun, after which so many are left
@@ -23,7 +23,7 @@ pub data Turn : Type 0 where
 -- the first that fits, by the vector that is due, the active module, and whether CPUOFF is set
 abbrev pub turn_of : Phase → (due active : Option ℕ) → (off : Bool) → Turn
 turn_of (Padding left) due active off = Pads (left - 1)
-turn_of (Run rest) (Some vector) (Some id) off = InterruptsModule vector id
+turn_of (Run rest) (Some vector) (Some id) off = InterruptsModule vector id rest
 turn_of (Run zero) (Some vector) None off = InterruptsOutside vector
 turn_of (Run (suc rest)) due active off = Continues rest
 turn_of (Run zero) None None true = Sleeps
@@ -32,7 +32,7 @@ turn_of (Run zero) None active off = Begins
 -- the kind alone
 abbrev pub kind_of : Turn → Kind
 kind_of (Pads left) = Pad
-kind_of (InterruptsModule vector id) = Inside
+kind_of (InterruptsModule vector id rest) = Inside
 kind_of (InterruptsOutside vector) = Outside
 kind_of (Continues rest) = Wait
 kind_of Sleeps = Sleep

@@ -8,7 +8,7 @@ use Rattle.reg_backup.specs.declared.backup.Backup.{Backup}
 use Rattle.reg_backup.specs.declared.backup.Phase.TheVariants.{Run}
 use Rattle.cpu_step.specs.LoneLaws.{GoesOn}
 use Rattle.cpu_step.specs.Lone.{Lone, job_of, Job, Doing, Waits, Closes, Leaves, Breaks, Does, doing, doing_by, next_insn, lone_does, lone_step_by, lone_read, lone_who, lone_byte, is_alone}
-use Rattle.written_machine.specs.Cycle.{Step, act, quiet, told, pc_of, rest_of, due, arrive_inside, turn, begin, enter_at, enter, fetch, unless}
+use Rattle.written_machine.specs.Cycle.{Step, act, quiet, told, pc_of, due, arrive_inside, turn, begin, enter_at, enter, fetch, unless}
 use Rattle.written_machine.specs.Peers.{section}
 use Rattle.written_machine.specs.State.{State}
 use Rattle.isolation.proofs.Evenly.{Evenly, Together, next_together}
@@ -34,7 +34,8 @@ use Rattle.cpu_step.specs.Asked.{asks}
 use Rattle.cpu_step.specs.Fetched.{insn_in}
 use Rattle.isolation.proofs.Gie.{effect_gie}
 use Rattle.isolation.proofs.Settling.{arrive_hidden, due_hidden}
-use Rattle.isolation.proofs.Cases.{turn_at, turn_is}
+use Rattle.isolation.proofs.Cases.{turn_at, turn_is, interrupted}
+use Rattle.isolation.specs.Calls.{rest_of}
 
 abbrev pub moved : State → Lone → List ℕ → State
 moved s l' memory = record s { core = l'.core; memory = memory; phase = Run l'.rest; after = closing_after l'.closing }
@@ -186,11 +187,11 @@ module _ (m : ℕ) (own : Module) (key text : List ℕ) (s : State) (k : Keeps m
       (does_moves left i d ok.even_pc w.0 w.1 w.2, does_gie (job_of key own text s.caller) (lone_of (backup_of m s) (section own.ram s.memory)) i w.2 ok.sixteen)
   turn_moves left _ ok d e g = absurd g
 
-pub arrives_at : (m v left : ℕ) (s : State) → s.active ≡ Some m → s.phase ≡ Run (rest_of s.phase) → due s ≡ Some v → turn left s ≡ arrive_inside v m s
+pub arrives_at : (m v left : ℕ) (s : State) → s.active ≡ Some m → s.phase ≡ Run (rest_of s.phase) → due s ≡ Some v → turn left s ≡ interrupted v m s
 arrives_at m v left s e p d =
     turn_is left s ∙ ap (λ x. turn_at x s.active s.phase left s) d ∙ ap (λ x. turn_at (Some v) x s.phase left s) e ∙ ap (λ x. turn_at (Some v) (Some m) x left s) p
 
-pub arrived_none : (m v id : ℕ) (s : State) → is_id m (arrive_inside v id s).state.active ≡ false
+pub arrived_none : (m v id : ℕ) (s : State) → is_id m (interrupted v id s).state.active ≡ false
 unfolding arrive_inside
 arrived_none m v id s = refl
 
@@ -211,15 +212,15 @@ module _ (m : ℕ) (own : Module) (key text answers : List ℕ) (a b : State) (r
   open_b = subst (λ c. IsOpenNow m own key text (run_by c m b) (section own.ram b.memory)) both.other ready.now_b
 
   -- an arrival, which sees no secret
-  arrives : (v : ℕ) → Alike m own key text answers (arrive_inside v m a) (arrive_inside v m b)
+  arrives : (v : ℕ) → Alike m own key text answers (interrupted v m a) (interrupted v m b)
   arrives v =
-      outer_alike m own key text answers a b (arrive_inside v m a) (arrive_inside v m b) (arrive_inside v m (hide_by true m own a)) (arrive_inside v m (hide_by true m own b)) ready
-      (outer a ready.twins.keeps_a some_a) (outer b ready.twins.keeps_b some_b) (ap (arrive_inside v m) both.seen)
+      outer_alike m own key text answers a b (interrupted v m a) (interrupted v m b) (interrupted v m (hide_by true m own a)) (interrupted v m (hide_by true m own b)) ready
+      (outer a ready.twins.keeps_a some_a) (outer b ready.twins.keeps_b some_b) (ap (interrupted v m) both.seen)
     where
-      outer : (s : State) → Keeps m own key text s → s.active ≡ Some m → Outer m own key text s (arrive_inside v m s) (arrive_inside v m (hide_by true m own s))
+      outer : (s : State) → Keeps m own key text s → s.active ≡ Some m → Outer m own key text s (interrupted v m s) (interrupted v m (hide_by true m own s))
       outer s k e =
           record {
-            same = arrive_hidden m own true s.table k.sound v m s (own_id m) ∙ ap (λ c. let u : Step = record (arrive_inside v m s) { state = hide_by c m own (arrive_inside v m s).state } in u) (sym (arrived_none m v m s));
+            same = arrive_hidden m own true s.table k.sound v m s (own_id m) ∙ ap (λ c. let u : Step = record (interrupted v m s) { state = hide_by c m own (interrupted v m s).state } in u) (sym (arrived_none m v m s));
             stays = arrive_inside_stays m own key text v m s k e;
           }
 

@@ -5,14 +5,19 @@ use Rattle.pc_access.specs.declared.Denied.{Denied}
 use Rattle.reg_backup.specs.declared.backup.Phase.{Phase}
 use Rattle.reg_backup.specs.declared.backup.Phase.TheVariants.{Run}
 use Rattle.written_machine.specs.Checks.{checks_by, checks}
-use Rattle.written_machine.specs.Cycle.{Step, asleep, due, turn_by, turn}
+use Rattle.written_machine.specs.Cycle.{Step, asleep, due, turn_by, turn, arrive_inside}
 use Rattle.written_machine.specs.State.{State}
+use Rattle.isolation.specs.Calls.{rest_of}
 
 abbrev pub turn_at : Option ℕ → Option ℕ → Phase → ℕ → State → Step
 turn_at due active phase left s = turn_by (turn_of phase due active (asleep s)) left s
 
 abbrev pub checks_at : Option ℕ → Option ℕ → Phase → State → List (Option Denied)
 checks_at due active phase s = checks_by (turn_of phase due active (asleep s)) s
+
+-- a vector arrives while this module is active
+abbrev pub interrupted : ℕ → ℕ → State → Step
+interrupted v id s = arrive_inside v id (rest_of s.phase) s
 
 -- outside, at the end of an instruction and with no vector due
 abbrev pub turn_unless : Bool → ℕ → State → Step

@@ -27,13 +27,14 @@ use Rattle.written_machine.specs.View.{at}
 use Rattle.written_machine.proofs.Stops.{cycle_by}
 use Rattle.cpu_step.proofs.LoneLemmas.{after_step}
 use Rattle.isolation.proofs.Ways.{sent_tells}
+use Rattle.isolation.proofs.Cases.{interrupted}
 
 -- while it is active all the cycles so far are its own or between a hide and its resume; while it is held, those up to the hide
 abbrev pub Balance : Bool → ℕ → Away → ℕ → Type 0
 Balance true i w c = (w.since ≡ None) × (w.sum + c ≡ i)
 Balance false i w c = (h : ℕ) × (w.since ≡ Some h) × (h ≤ i) × (w.sum + c ≡ h)
 
-arrived : (v id : ℕ) (s : State) → ((arrive_inside v id s).events ≡ Event.Hide id v ∷ []) × ((arrive_inside v id s).state.active ≡ None)
+arrived : (v id : ℕ) (s : State) → ((interrupted v id s).events ≡ Event.Hide id v ∷ []) × ((interrupted v id s).state.active ≡ None)
 unfolding arrive_inside
 arrived v id s = (refl, refl)
 

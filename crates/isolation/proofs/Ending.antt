@@ -19,10 +19,10 @@ use Rattle.attest.specs.Done.{own_of}
 use Rattle.cpu_step.specs.Lone.{Doing, Waits, Closes, Leaves, Does, doing, doing_by, next_insn, job_of, is_answer, blank}
 use Rattle.cpu_step.proofs.Blank.{pc_equal}
 use Rattle.tracer.specs.declared.Event.{Event}
-use Rattle.written_machine.specs.Cycle.{Settled, unsettled, pc_of, rest_of, in_text, leave_if, close_of, settle_by, settle_in, settle}
+use Rattle.written_machine.specs.Cycle.{Settled, unsettled, pc_of, in_text, leave_if, close_of, settle_by, settle_in, settle}
 use Rattle.written_machine.specs.Peers.{section}
 use Rattle.written_machine.specs.State.{State}
-use Rattle.isolation.specs.Calls.{Ends}
+use Rattle.isolation.specs.Calls.{Ends, rest_of}
 use Rattle.isolation.proofs.Active.{active_some, said}
 use Rattle.isolation.proofs.EvenBy.{AlwaysEvenBy}
 use Rattle.isolation.proofs.Evenly.{Together, next_together}

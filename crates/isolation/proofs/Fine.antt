@@ -23,6 +23,7 @@ use Rattle.mod_layout.proofs.Found.{place_by}
 use Rattle.sm_words.proofs.Cores.{put_core}
 use Rattle.isolation.proofs.Tables.{table_keeps}
 use Rattle.isolation.proofs.Ways.{Lasting, always, enter_ways, settle_ways}
+use Rattle.isolation.proofs.Cases.{interrupted}
 
 -- ---- a write of a register keeps a core
 zeros_core : IsCore (replicate 16 0)
@@ -74,7 +75,7 @@ pub settled_fine : (s : State) → Fine s → FineSettled (settle (ticked s))
 settled_fine s f = settle_fine (ticked s) (ticked_fine s f)
 
 -- ---- arrivals
-inside_fine : (v id : ℕ) (s : State) → Fine s → s.active ≡ Some id → Fine (arrive_inside v id s).state
+inside_fine : (v id : ℕ) (s : State) → Fine s → s.active ≡ Some id → Fine (interrupted v id s).state
 unfolding arrive_inside
 inside_fine v id s f e =
     record { core_ok = put_core _ 1 _ (put_core _ 0 _ zeros_core); frames_ok = ((f.core_ok, subst Small e f.active_small), f.frames_ok); active_small = tt; table_ok = f.table_ok; given_small = f.given_small }

@@ -8,7 +8,7 @@ use Rattle.pc_access.specs.declared.Stop.{Stop}
 use Rattle.reg_backup.specs.declared.backup.Backup.{Backup}
 use Rattle.cpu_step.specs.Lone.{Job, Lone, Doing, Closes, Leaves, Breaks, doing, lone_step_by, lone_step, job_of, Outcome, Exit, Closing, Broken, Running, later, Waits, Does, lone_does, lone_after, in_time, outcome, next_insn, doing_by}
 use Rattle.tracer.specs.declared.Event.{Event}
-use Rattle.written_machine.specs.Cycle.{Step, told, due, ticked, settle, turn, arrive_inside, sent_event, counted_by, move, pc_of, act, cycle, after_cycles}
+use Rattle.written_machine.specs.Cycle.{Step, told, due, ticked, settle, turn, sent_event, counted_by, move, pc_of, act, cycle, after_cycles}
 use Rattle.written_machine.specs.Peers.{section}
 use Rattle.written_machine.specs.State.{State}
 use Rattle.isolation.specs.Calls.{entry_state, entry_job, entry_lone, works, NoEnd, worked, Enters, NotBroken, Stands, backup_of, run_by}
@@ -34,6 +34,7 @@ use Rattle.cpu_step.proofs.LoneLemmas.{after_step}
 use Rattle.isolation.proofs.EvenBy.{cut, outcome_cut}
 use Rattle.isolation.proofs.Entering.{Enters_now, cycle_entering}
 use Rattle.isolation.proofs.Tables.{sound_from}
+use Rattle.isolation.proofs.Cases.{interrupted}
 
 pub works_is : (m : ℕ) (o : Option Stop) (s : State) → s.stop ≡ o → works m s ≡ (let u = settle (ticked s) in is_none o && is_id m u.state.active && is_none (due u.state))
 works_is m o s e = ap (λ x. is_none x && is_id m (settle (ticked s)).state.active && is_none (due (settle (ticked s)).state)) e
@@ -129,7 +130,7 @@ module _ (m : ℕ) (own : Module) (key text : List ℕ) (from : ℕ) where
       let a = active_some m s.active act in
       let st = arrive_inside_stays m own key text v m s f.follows.keeps a in
       let o = f.now in
-      subst (λ u. Follows u.state la) (sym (arrives_at m v left s a (f.follows.keeps.proper act).0 e)) (follow_stays s (arrive_inside v m s).state la f.follows st (λ h. o))
+      subst (λ u. Follows u.state la) (sym (arrives_at m v left s a (f.follows.keeps.proper act).0 e)) (follow_stays s (interrupted v m s).state la f.follows st (λ h. o))
 
   turn_follows : (left : ℕ) (c : Bool) (s : State) (la : Lone) → Now s la → is_id m s.active ≡ c → IsCore s.core → ((c && is_none (due s)) ≡ true → doing job la ≢ Breaks) → Follows (turn left s).state (stepped (c && is_none (due s)) la)
   turn_follows left true s la f e ok nb = turn_active left (due s) s la f e ok refl nb

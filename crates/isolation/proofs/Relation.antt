@@ -9,7 +9,7 @@ use Rattle.reg_backup.specs.declared.backup.Phase.TheVariants.{Run}
 use Rattle.reg_backup.specs.declared.frames.Frame.{Frame}
 use Rattle.reg_backup.specs.declared.frames.Frame.TheVariants.{Plain, Module as Held}
 use Rattle.cpu_step.specs.Lone.{Doing, Closes, Leaves, doing, job_of}
-use Rattle.written_machine.specs.Cycle.{Step, rest_of}
+use Rattle.written_machine.specs.Cycle.{Step}
 use Rattle.written_machine.specs.Peers.{section}
 use Rattle.written_machine.specs.State.{State}
 pub use Rattle.isolation.specs.Calls.{found_if, find_held, times, backup_of, run_by, run_of, lone_of}
@@ -17,6 +17,7 @@ use Rattle.isolation.proofs.EvenBy.{AlwaysEvenBy}
 use Rattle.isolation.proofs.Evenly.{Evenly}
 use Rattle.isolation.proofs.Hide.{veil, hide_by, hide}
 use Rattle.isolation.proofs.Rights.{Sound}
+use Rattle.isolation.specs.Calls.{rest_of}
 
 -- a module in no frame is not found
 found_by : (c : Bool) (b : Backup) (o : Option Backup) (n : ℕ) → one_if c + n ≡ 0 → o ≡ None → found_if c b o ≡ None

@@ -20,6 +20,7 @@ use Rattle.isolation.proofs.Outside.{light, stays_by}
 use Rattle.isolation.proofs.Relation.{find_held, found_if, times, backup_of, run_by, Keeps, Stays, stays_self}
 use Rattle.isolation.proofs.Tables.{sound_without}
 use Rattle.isolation.proofs.Ways.{settle_ways}
+use Rattle.isolation.proofs.Cases.{interrupted}
 
 pub close_is : (c : Bool) → is_close (closing_after c) ≡ c
 close_is true = refl
@@ -89,7 +90,7 @@ module _ (m : ℕ) (own : Module) (key text : List ℕ) where
         (λ id a. stays_by m own key text s (leave_if false (Some id) s).state k other refl refl refl refl refl refl k.sound)
 
   -- ---- an arrival inside a module, also this one
-  pub arrive_inside_stays : (v id : ℕ) (s : State) → Keeps m own key text s → s.active ≡ Some id → St s (arrive_inside v id s).state
+  pub arrive_inside_stays : (v id : ℕ) (s : State) → Keeps m own key text s → s.active ≡ Some id → St s (interrupted v id s).state
   unfolding arrive_inside
   arrive_inside_stays v id s k e =
       let a : one_if (is_id m s.active) ≡ one_if (id == m) = ap (λ o. one_if (is_id m o)) e in

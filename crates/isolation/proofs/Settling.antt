@@ -22,6 +22,7 @@ use Rattle.written_machine.specs.State.{State}
 use Rattle.isolation.proofs.Bytes.{cleared_comm}
 use Rattle.isolation.proofs.Hide.{veil_core, veil_if, veil_frames, veil, veil_step, hide_by, hide, length_veiled, vector_veiled}
 use Rattle.isolation.proofs.Rights.{Sound}
+use Rattle.isolation.proofs.Cases.{interrupted}
 use Rattle.sm_words.specs.Status.{is_gie}
 
 abbrev pub hide_settled : ℕ → Module → Settled → Settled
@@ -54,7 +55,7 @@ module _ (m : ℕ) (own : Module) where
   due_hidden s = due_by (is_id m s.active) s
 
   -- ---- an arrival inside a module
-  pub arrive_hidden : (c : Bool) (t : Table) → Sound m own t → (v id : ℕ) (s : State) → (id == m) ≡ c → arrive_inside v id (hide_by c m own s) ≡ veil_step m own (arrive_inside v id s)
+  pub arrive_hidden : (c : Bool) (t : Table) → Sound m own t → (v id : ℕ) (s : State) → (id == m) ≡ c → interrupted v id (hide_by c m own s) ≡ veil_step m own (interrupted v id s)
   unfolding arrive_inside
   arrive_hidden true t sound v id s e = rw (vector_veiled m own t sound s v, e) refl
   arrive_hidden false t sound v id s e = rw (vector_veiled m own t sound s v, e) refl

@@ -22,7 +22,7 @@ use Rattle.reg_backup.specs.declared.frames.Frame.{Frame}
 use Rattle.reg_backup.specs.declared.frames.Frame.TheVariants.{Plain, Module as Held}
 use Rattle.cpu_step.specs.Lone.{Lone, doing, doing_by, next_insn, lone_does, job_of}
 use Rattle.tracer.specs.declared.Event.{Event}
-use Rattle.written_machine.specs.Cycle.{Step, quiet, told, denied, pc_of, due, arrive_inside, arrive_outside, asleep, padded, turn, begin, enter_at, enter, fetch, act, unless}
+use Rattle.written_machine.specs.Cycle.{Step, quiet, told, denied, pc_of, due, arrive_outside, asleep, padded, turn, begin, enter_at, enter, fetch, act, unless, arrive_inside}
 use Rattle.written_machine.specs.Peers.{section}
 use Rattle.written_machine.specs.State.{State}
 use Rattle.isolation.proofs.Active.{arrived_none, does_gie, moves_alike}
@@ -35,8 +35,9 @@ use Rattle.isolation.proofs.Relation.{find_held, times, none_found, run_by, run_
 use Rattle.isolation.proofs.Rights.{own_id, holds_in}
 use Rattle.isolation.proofs.Settled.{arrive_inside_stays}
 use Rattle.isolation.proofs.Settling.{arrive_hidden, due_hidden, enter_veiled}
-use Rattle.isolation.proofs.Cases.{turn_at, turn_unless, turn_is}
+use Rattle.isolation.proofs.Cases.{turn_at, turn_unless, turn_is, interrupted}
 use Rattle.isolation.proofs.Ways.{begin_ways, enter_ways, turn_ways}
+use Rattle.isolation.specs.Calls.{rest_of}
 
 -- ---- a fetch that is allowed
 fetch_data : (m : ℕ) (p : Place) (active : Option ℕ) (held : List ℕ) (a : ℕ) → right_at p active held Fetch a ≡ None → p ≢ Data m
@@ -118,11 +119,11 @@ module _ (m : ℕ) (own : Module) (key text : List ℕ) where
       f (veil m own s) ≡ veil_step m own (f s) → Light m own key text s k n (f s).state → Outer m own key text s (f s) (f (veil m own s))
   light_outer f s k n e l = outer_by m own key text s k n (f s) (f (veil m own s)) l.0 e (light m own key text s k n (f s).state l)
 
-  inside_outer : (v id : ℕ) (s : State) → Keeps m own key text s → s.active ≡ Some id → is_id m s.active ≡ false → Outer m own key text s (arrive_inside v id s) (arrive_inside v id (veil m own s))
+  inside_outer : (v id : ℕ) (s : State) → Keeps m own key text s → s.active ≡ Some id → is_id m s.active ≡ false → Outer m own key text s (interrupted v id s) (interrupted v id (veil m own s))
   inside_outer v id s k e o =
       let ne : (id == m) ≡ false = ap (is_id m) (sym e) ∙ o in
       record {
-        same = arrive_hidden m own false s.table k.sound v id s ne ∙ ap (λ c. let u : Step = record (arrive_inside v id s) { state = hide_by c m own (arrive_inside v id s).state } in u) (sym (arrived_none m v id s));
+        same = arrive_hidden m own false s.table k.sound v id s ne ∙ ap (λ c. let u : Step = record (interrupted v id s) { state = hide_by c m own (interrupted v id s).state } in u) (sym (arrived_none m v id s));
         stays = arrive_inside_stays m own key text v id s k e;
       }
 
@@ -254,21 +255,23 @@ module _ (m : ℕ) (own : Module) (key text : List ℕ) where
     unless_alike false left small = begin_alike left small
 
     -- ---- the cases of a turn
-    by_cases : (d o : Option ℕ) (p : Phase) (left : ℕ) → left < 65536 → a.active ≡ o → Alike m own key text answers (turn_at d o p left a) (turn_at d o p left b)
-    by_cases d o (Pad n) left small e = both_light (λ s. quiet (padded (n - 1) s)) (λ s. refl) (λ s k n. (refl, refl, refl, refl, refl))
-    by_cases (Some v) (Some id) (Run r) left small e =
-        join (arrive_inside v id) (inside_outer v id a ka e out_a) (inside_outer v id b kb (sym same_active ∙ e) out_b)
-    by_cases (Some v) None (Run zero) left small e = join (arrive_outside v) (arrive_outside_outer m own key text a ka out_a v) (arrive_outside_outer m own key text b kb out_b v)
-    by_cases None None (Run (suc r)) left small e = both_light (λ s. quiet (record s { phase = Run r })) (λ s. refl) (λ s k n. (refl, refl, refl, refl, refl))
-    by_cases None None (Run zero) left small e =
+    by_cases : (d o : Option ℕ) (p : Phase) (left : ℕ) → left < 65536 → a.active ≡ o → a.phase ≡ p → b.phase ≡ p → Alike m own key text answers (turn_at d o p left a) (turn_at d o p left b)
+    by_cases d o (Pad n) left small e f g = both_light (λ s. quiet (padded (n - 1) s)) (λ s. refl) (λ s k n. (refl, refl, refl, refl, refl))
+    by_cases (Some v) (Some id) (Run r) left small e f g =
+        subst (λ rest. Alike m own key text answers (arrive_inside v id rest a) (arrive_inside v id r b)) (ap rest_of f)
+        (subst (λ rest. Alike m own key text answers (interrupted v id a) (arrive_inside v id rest b)) (ap rest_of g)
+        (join (interrupted v id) (inside_outer v id a ka e out_a) (inside_outer v id b kb (sym same_active ∙ e) out_b)))
+    by_cases (Some v) None (Run zero) left small e f g = join (arrive_outside v) (arrive_outside_outer m own key text a ka out_a v) (arrive_outside_outer m own key text b kb out_b v)
+    by_cases None None (Run (suc r)) left small e f g = both_light (λ s. quiet (record s { phase = Run r })) (λ s. refl) (λ s k n. (refl, refl, refl, refl, refl))
+    by_cases None None (Run zero) left small e f g =
         subst (λ x. Alike m own key text answers (turn_unless (asleep a) left a) (turn_unless x left b)) (ap asleep veiled) (unless_alike (asleep a) left small)
-    by_cases None (Some id) (Run zero) left small e = begin_alike left small
-    by_cases _ _ (Run (suc r)) left small e = both_light (λ s. quiet (record s { phase = Run r })) (λ s. refl) (λ s k n. (refl, refl, refl, refl, refl))
+    by_cases None (Some id) (Run zero) left small e f g = begin_alike left small
+    by_cases _ _ (Run (suc r)) left small e f g = both_light (λ s. quiet (record s { phase = Run r })) (λ s. refl) (λ s k n. (refl, refl, refl, refl, refl))
 
     pub outside_turn : (left : ℕ) → left < 65536 → Alike m own key text answers (turn left a) (turn left b)
     outside_turn left small =
         let d : due a ≡ due b = sym (due_hidden m own a) ∙ ap due ready.twins.seen ∙ due_hidden m own b in
-        let r = by_cases (due a) a.active a.phase left small refl in
+        let r = by_cases (due a) a.active a.phase left small refl refl (sym (ap (λ (s : State). s.phase) veiled)) in
         let r1 = subst (λ x. Alike m own key text answers (turn_at (due a) a.active a.phase left a) (turn_at x a.active a.phase left b)) d r in
         let r2 = subst (λ x. Alike m own key text answers (turn_at (due a) a.active a.phase left a) (turn_at (due b) x a.phase left b)) same_active r1 in
         let r3 = subst (λ x. Alike m own key text answers (turn_at (due a) a.active a.phase left a) (turn_at (due b) b.active x left b)) (ap (λ (s : State). s.phase) veiled) r2 in

@@ -1,5 +1,5 @@
 -- What holds of each way that a step can go holds of the step.
-use Rattle.std.proofs.Common.{◌≡◌, ℕ, zero, suc, ◌+◌, ◌-◌, List, [], ◌∷◌, refl, sym, subst, Bool, true, false, cond, Option, Some, None, drop}
+use Rattle.std.proofs.Common.{◌≡◌, ℕ, zero, suc, ◌+◌, ◌-◌, List, [], ◌∷◌, refl, sym, subst, Bool, true, false, cond, Option, Some, None, drop, ap}
 use Rattle.sm_words.specs.Words.{word_at}
 use Rattle.insn_decode.specs.Code.{insn_of, length_of}
 use Rattle.insn_decode.specs.declared.insn.Insn.{Insn}
@@ -31,11 +31,12 @@ use Rattle.cpu_step.specs.Fetched.{insn_at}
 use Rattle.cpu_step.specs.Plan.{past}
 use Rattle.tracer.specs.declared.Event.{Event}
 use Rattle.tracer.specs.declared.Event.TheVariants.{Enter as Entered}
-use Rattle.written_machine.specs.Cycle.{Step, Settled, quiet, told, stopped, denied, unsettled, pc_of, byte_of, in_text, resume_from, close_of, leave_if, settle_by, settle_in, settle, ticked, due, arrive_inside, arrive_outside, push_both, pushes, who_of, perform, attempt, returned_by, reti_by, act_on, act_home, act_first, act, is_home, enter_at, enter, fetch, begin, padded, asleep, turn, sent_event, counted_by, move, unless}
+use Rattle.written_machine.specs.Cycle.{Step, Settled, quiet, told, stopped, denied, unsettled, pc_of, byte_of, in_text, resume_from, close_of, leave_if, settle_by, settle_in, settle, ticked, due, arrive_outside, push_both, pushes, who_of, perform, attempt, returned_by, reti_by, act_on, act_home, act_first, act, is_home, enter_at, enter, fetch, begin, padded, asleep, turn, sent_event, counted_by, move, unless, arrive_inside}
 use Rattle.written_machine.specs.State.{State}
 use Rattle.written_machine.specs.View.{at, boot}
 use Rattle.written_machine.proofs.Stops.{cycle_by}
-use Rattle.isolation.proofs.Cases.{turn_at, turn_unless, turn_is}
+use Rattle.isolation.proofs.Cases.{turn_at, turn_unless, turn_is, interrupted}
+use Rattle.isolation.specs.Calls.{rest_of}
 
 module _ (s : State) (P : Step → Type 0) where
   unless_ways : (insn : Insn) (d : Option Denied) → first_denied s.table s.active (held_ids s.frames) (asks (who_of s) insn s.core) ≡ d → ((d : Denied) → P (denied d s))
@@ -114,14 +115,14 @@ module _ (s : State) (P : Step → Type 0) where
 
   -- a settled cycle
   module _ (left : ℕ) (pads : (n : ℕ) → s.phase ≡ Pad n → P (quiet (padded (n - 1) s))) (waits : (r : ℕ) → P (quiet (record s { phase = Run r }))) (sleeps : P (quiet s)) (begins : P (begin left s))
-      (inside : (v id : ℕ) → due s ≡ Some v → s.active ≡ Some id → P (arrive_inside v id s)) (outside : (v : ℕ) → due s ≡ Some v → P (arrive_outside v s)) where
+      (inside : (v id : ℕ) → due s ≡ Some v → s.active ≡ Some id → P (interrupted v id s)) (outside : (v : ℕ) → due s ≡ Some v → P (arrive_outside v s)) where
     by_asleep : (x : Bool) → P (turn_unless x left s)
     by_asleep true = sleeps
     by_asleep false = begins
 
     by_case : (d o : Option ℕ) (p : Phase) → due s ≡ d → s.active ≡ o → s.phase ≡ p → P (turn_at d o p left s)
     by_case d o (Pad n) e a f = pads n f
-    by_case (Some v) (Some id) (Run r) e a f = inside v id e a
+    by_case (Some v) (Some id) (Run r) e a f = subst (λ rest. P (arrive_inside v id rest s)) (ap rest_of f) (inside v id e a)
     by_case (Some v) None (Run zero) e a f = outside v e
     by_case None None (Run (suc r)) e a f = waits r
     by_case None None (Run zero) e a f = by_asleep (asleep s)
@@ -194,7 +195,7 @@ pub record EachTurn (A P : State → Step → Type 0) : Type 0 where
   pub pads : (n : ℕ) (s : State) → s.phase ≡ Pad n → P s (quiet (padded (n - 1) s))
   pub waits : (r : ℕ) (s : State) → P s (quiet (record s { phase = Run r }))
   pub sleeps : (s : State) → P s (quiet s)
-  pub inside : (v id : ℕ) (s : State) → due s ≡ Some v → s.active ≡ Some id → P s (arrive_inside v id s)
+  pub inside : (v id : ℕ) (s : State) → due s ≡ Some v → s.active ≡ Some id → P s (interrupted v id s)
   pub pushes : (v : ℕ) (s : State) → due s ≡ Some v → P s (push_both v s)
 
 module _ (A : State → Step → Type 0) (each : EachAct A) where
@@ -233,7 +234,7 @@ pub record Lasting (I : State → Type 0) : Type 0 where
       place_of s.table (pc_of s) ≡ Entry id → s.active ≡ None →
       I s → I (record s { active = Some id; caller = left; after = Next })
   pub pads : (n : ℕ) (s : State) → I s → I (padded n s)
-  pub inside : (v id : ℕ) (s : State) → due s ≡ Some v → s.active ≡ Some id → I s → I (arrive_inside v id s).state
+  pub inside : (v id : ℕ) (s : State) → due s ≡ Some v → s.active ≡ Some id → I s → I (interrupted v id s).state
   pub pushes : (v : ℕ) (s : State) → due s ≡ Some v → I s → I (push_both v s).state
   pub settles : (s : State) → I s → I (settle s).state
 

@@ -10,12 +10,14 @@ use Rattle.pc_access.specs.declared.Stop.{Stop}
 use Rattle.image_text.specs.Image.{Image, IsImage}
 use Rattle.reg_backup.specs.Saved.{saved}
 use Rattle.reg_backup.specs.declared.backup.Backup.{Backup}
+use Rattle.reg_backup.specs.declared.backup.Phase.{Phase}
+use Rattle.reg_backup.specs.declared.backup.Phase.TheVariants.{Run, Pad}
 use Rattle.reg_backup.specs.declared.frames.Frame.{Frame}
 use Rattle.reg_backup.specs.declared.frames.Frame.TheVariants.{Plain, Module as Held}
 use Rattle.cpu_step.specs.Lone.{Job, Lone, Outcome, Exit, Closing, Broken, Running, job_of, starts}
 use Rattle.tracer.specs.declared.Event.{Event}
 use Rattle.tracer.specs.declared.Event.TheVariants.{Resume as Resumed, Close as Closed, Handler as Handling, Leave as Left, Hide as Hid, Enter as Entered, Stop as Stopped}
-use Rattle.written_machine.specs.Cycle.{ticked, settle, due, cycle, after_cycles, rest_of}
+use Rattle.written_machine.specs.Cycle.{ticked, settle, due, cycle, after_cycles}
 use Rattle.written_machine.specs.Peers.{section}
 use Rattle.written_machine.specs.State.{State}
 use Rattle.written_machine.specs.View.{at}
@@ -127,6 +129,11 @@ abbrev pub times : ℕ → List Frame → ℕ
 times m [] = 0
 times m (Plain ∷ fs) = times m fs
 times m (Held b ∷ fs) = one_if (b.module == m) + times m fs
+
+-- the cycles that an instruction still needs
+abbrev pub rest_of : Phase → ℕ
+rest_of (Run rest) = rest
+rest_of (Pad left) = 0
 
 -- what a frame would hold of the module that is active
 abbrev pub backup_of : ℕ → State → Backup

@@ -188,9 +188,9 @@ outside_event v s f g =
     push_event (first_denied s.table None (held_ids s.frames) (pushes s)) v s f g
     (denied_word s.table None (held_ids s.frames) (pushes s) (f.table_ok, f.given_small) (omega arith, (omega arith, tt)))
 
-inside_event : (v id : ℕ) (s : State) → v < 256 → IsWord id → AreEvents (arrive_inside v id s).events
+inside_event : (v id rest : ℕ) (s : State) → v < 256 → IsWord id → AreEvents (arrive_inside v id rest s).events
 unfolding arrive_inside
-inside_event v id s g h = ((h, g), tt)
+inside_event v id rest s g h = ((h, g), tt)
 
 -- ---- the case of a cycle
 
@@ -199,7 +199,7 @@ asleep_event true left s f m g = tt
 asleep_event false left s f m g = begin_event left s f m g
 
 case_event : (d o : Option ℕ) (p : Phase) (left : ℕ) (s : State) → Fine s → Filled s.memory → IsWord left → IsMaybeByte d → s.active ≡ o → AreEvents (turn_at d o p left s).events
-case_event (Some v) (Some id) (Run r) left s f m g h e = inside_event v id s h (subst Small e f.active_small)
+case_event (Some v) (Some id) (Run r) left s f m g h e = inside_event v id r s h (subst Small e f.active_small)
 case_event (Some v) None (Run zero) left s f m g h e = outside_event v s f h
 case_event None None (Run zero) left s f m g h e = asleep_event (asleep s) left s f m g
 case_event None (Some id) (Run zero) left s f m g h e = begin_event left s f m g
@@ -388,12 +388,12 @@ outside_sends : (v : ℕ) (s : State) → Goes s (arrive_outside v s).state
 unfolding arrive_outside
 outside_sends v s = push_sends (first_denied s.table None (held_ids s.frames) (pushes s)) v s
 
-inside_sends : (v id : ℕ) (s : State) → Goes s (arrive_inside v id s).state
+inside_sends : (v id rest : ℕ) (s : State) → Goes s (arrive_inside v id rest s).state
 unfolding arrive_inside
-inside_sends v id s = accepted_sends s.devices v
+inside_sends v id rest s = accepted_sends s.devices v
 
 case_sends : (d o : Option ℕ) (p : Phase) (left : ℕ) (s : State) → Goes s (turn_at d o p left s).state
-case_sends (Some v) (Some id) (Run r) left s = inside_sends v id s
+case_sends (Some v) (Some id) (Run r) left s = inside_sends v id r s
 case_sends (Some v) None (Run zero) left s = outside_sends v s
 case_sends None None (Run zero) left s = asleep_sends (asleep s) left s
 case_sends None (Some id) (Run zero) left s = begin_sends left s

@@ -158,15 +158,10 @@ byte_of s a = slice_index s.memory a
 abbrev pub vector_in : List ℕ → ℕ → ℕ
 vector_in mem v = word_at (λ a. slice_index mem a) (FIRST_VECTOR + 2 * v)
 
--- the cycles that the instruction still needs
-abbrev pub rest_of : Phase → ℕ
-rest_of (Run rest) = rest
-rest_of (Pad left) = 0
-
 -- a module is interrupted: a frame takes it, the registers are 0 but for PC and SP, and the padding begins
-unfoldable pub arrive_inside : ℕ → ℕ → State → Step
-arrive_inside v id s =
-    let b = saved id s.caller s.core (rest_of s.phase) s.after in
+unfoldable pub arrive_inside : ℕ → ℕ → ℕ → State → Step
+arrive_inside v id rest s =
+    let b = saved id s.caller s.core rest s.after in
     let core = put (put (replicate 16 0) PC (vector_in s.memory v)) SP s.handler_sp in
     telling (Hid id v)
     (record s { core = core; active = None; frames = Held b ∷ s.frames; phase = Pad PADDING; after = Next; devices = accepted s.devices v })
@@ -311,7 +306,7 @@ case_of s = turn_of s.phase (due s) s.active (asleep s)
 -- by what it is, where left is the module left in this cycle, or 0
 abbrev pub turn_by : Turn → ℕ → State → Step
 turn_by (Pads n) left s = quiet (padded n s)
-turn_by (InterruptsModule vector id) left s = arrive_inside vector id s
+turn_by (InterruptsModule vector id rest) left s = arrive_inside vector id rest s
 turn_by (InterruptsOutside vector) left s = arrive_outside vector s
 turn_by (Continues rest) left s = quiet (record s { phase = Run rest })
 turn_by Sleeps left s = quiet s

@@ -8,6 +8,7 @@ use Rattle.reg_backup.specs.declared.backup.Phase.{Phase}
 use Rattle.reg_backup.specs.declared.backup.Phase.TheVariants.{Run, Pad}
 use Rattle.written_machine.specs.Cycle.{Step, quiet, arrive_inside, arrive_outside, begin, padded}
 use Rattle.written_machine.specs.State.{State}
+use Rattle.isolation.specs.Calls.{rest_of}
 
 -- the raised vector, where GIE is set
 unfoldable pub raised : State → Option ℕ
@@ -26,7 +27,7 @@ waited phase = phase
 -- what the board does for a kind, by the raised vector, the active module and the phase
 abbrev pub turn_as : Turn → Option ℕ → Option ℕ → Phase → ℕ → State → Step
 turn_as PadTurn vector active phase left s = quiet (padded (padding_left phase - 1) s)
-turn_as Inside vector active phase left s = arrive_inside (unwrap_or vector 0) (unwrap_or active 0) s
+turn_as Inside vector active phase left s = arrive_inside (unwrap_or vector 0) (unwrap_or active 0) (rest_of phase) s
 turn_as Outside vector active phase left s = arrive_outside (unwrap_or vector 0) s
 turn_as Wait vector active phase left s = quiet (record s { phase = waited phase })
 turn_as Sleep vector active phase left s = quiet s
