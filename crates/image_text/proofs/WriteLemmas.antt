@@ -3,7 +3,7 @@ use Rattle.std.proofs.Common.{◌≡◌, ℕ, zero, suc, ◌+◌, ◌-◌, ◌*�
 use Rattle.std.proofs.lemmas.Bool.Decides.{nat_tests}
 use Rattle.texts.specs.Hexadecimals.{hex_word}
 use Rattle.mod_layout.specs.declared.Module.{Module}
-use Rattle.mod_layout.specs.Table.{find_module}
+use Rattle.mod_layout.proofs.Found.{find_module}
 use Rattle.image_text.specs.Image.{Image, AreNumbered}
 use Rattle.image_text.specs.ImageText.{ended, is_zero, row_line, row_text, rows_text, section_words, module_line, modules_text, count_text, count_line, first_line, key_line, handler_line, end_line, memory_text, image_text}
 

@@ -1,5 +1,5 @@
 -- Modules, their places in the address space, and the table that holds them.
-use Rattle.std.specs.Prelude.{ℕ, ◌+◌, ◌-◌, ◌%◌, List, [], ◌∷◌, ◌++◌, min, map, filter, ◌==◌, nat_lt, nat_le, if◌then◌else◌, Bool, true, false, ◌&&◌, ◌||◌, not, find, Option, Some, None, is_none, option_map, option_and_then, length}
+use Rattle.std.specs.Prelude.{ℕ, ◌+◌, ◌-◌, ◌%◌, List, [], ◌∷◌, ◌++◌, min, map, filter, ◌==◌, nat_lt, nat_le, if◌then◌else◌, Bool, ◌&&◌, ◌||◌, not, find, Option, None, is_none, option_map, option_and_then, length}
 use Rattle.std.specs.Bool.{then_some}
 use Rattle.std.specs.List.{reduce}
 use Rattle.std.specs.Option.{option_or}
@@ -45,12 +45,8 @@ place_of t a = place_in t.modules a
 -- ---- look-ups by id
 
 -- the module with this id
-abbrev pub find_module : ℕ → List Module → Option Module
-find_module id ms = find (λ m. m.id == id) ms
-
--- the module with this id that a table holds
 abbrev pub module_of : ℕ → Table → Option Module
-module_of id t = find_module id t.modules
+module_of id t = find (λ m. m.id == id) t.modules
 
 -- the active module of a table
 abbrev pub own_of : Option ℕ → Table → Option Module
