@@ -1,5 +1,5 @@
 -- The unit instructions: protect and unprotect modules, tags and attestation, ids.
-use Rattle.std.specs.Prelude.{ℕ, zero, suc, ◌+◌, ◌-◌, ◌*◌, ◌/◌, List, [], ◌∷◌, ◌++◌, nat_le, if◌then◌else◌, Bool, true, false, ◌&&◌, Option, Some, None, take, drop, replicate, bytes_eq}
+use Rattle.std.specs.Prelude.{ℕ, zero, suc, ◌+◌, ◌-◌, ◌*◌, ◌/◌, List, [], ◌∷◌, ◌++◌, nat_le, if◌then◌else◌, Bool, true, false, ◌&&◌, Option, Some, None, is_some, take, drop, replicate, bytes_eq}
 use Rattle.std.specs.Option.{option_map_or}
 use Rattle.sm_words.specs.Words.{reg, put, nth, add16}
 use Rattle.sm_words.specs.declared.registers.TheConstants.{PC}
@@ -119,12 +119,6 @@ abbrev pub unprotected : Option Module → List ℕ → Effect
 unprotected None core = answer core 0 SHORT_CYCLES
 unprotected (Some own) core = record { core = next core; stored = []; cycles = SHORT_CYCLES + size_of own.ram / 2; closing = true }
 
-abbrev pub id_or_zero : Option Module → ℕ
-id_or_zero own = option_map_or (λ m. m.id) own 0
-
-abbrev pub caller_or_zero : Option Module → ℕ → ℕ
-caller_or_zero own c = option_map_or (λ m. c) own 0
-
 abbrev pub place_id : Place → ℕ
 place_id Open = 0
 place_id (Entry id) = id
@@ -165,8 +159,8 @@ unit_effect who Protect core values =
 unit_effect who Attest core values = attest_answer who.key who.own (attested who core) core values
 unit_effect who Tag core values = tag_answer who.key who.own core values
 unit_effect who IdOf core values = answer core (place_id (place_of who.table (reg core 12))) SHORT_CYCLES
-unit_effect who OwnId core values = answer core (id_or_zero who.own) SHORT_CYCLES
-unit_effect who CallerId core values = answer core (caller_or_zero who.own who.caller) SHORT_CYCLES
+unit_effect who OwnId core values = answer core (option_map_or (λ m. m.id) who.own 0) SHORT_CYCLES
+unit_effect who CallerId core values = answer core (if is_some who.own then who.caller else 0) SHORT_CYCLES
 
 -- the table after a unit instruction: only protect changes it
 abbrev pub table_by : UnitName → Table → List ℕ → Table

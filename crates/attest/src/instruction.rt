@@ -1,11 +1,12 @@
 //! One unit instruction.
 
-ghost use Rattle.std.specs.Prelude.{◌≡◌, ◌+◌, ◌<◌, ◌^◌, ◌&&◌, ℕ, List, Some, None, false, if◌then◌else◌, IfOk, IfErr, OnErr, OnOk, IfSome};
+ghost use Rattle.std.specs.Prelude.{◌≡◌, ◌+◌, ◌<◌, ◌^◌, ◌&&◌, ℕ, List, Some, None, false, if◌then◌else◌, IfOk, IfErr, OnErr, OnOk, IfSome, is_some};
+ghost use Rattle.std.specs.Option.{option_map_or};
 ghost use Rattle.sm_words.specs.Words.{put};
 ghost use Rattle.mod_layout.specs.Table.{place_of};
 ghost use Rattle.mod_layout.specs.Tables.{IsModule, IsTable};
 ghost use Rattle.pc_access.specs.Rights.{first_denied};
-ghost use Rattle.attest.specs.Units.{Attest, CallerId, IdOf, OwnId, Protect, Tag, Unprotect, blocks, caller_or_zero, id_or_zero, in_range, new_ram, new_text, place_id, text_at, unit_named, unit_plan};
+ghost use Rattle.attest.specs.Units.{Attest, CallerId, IdOf, OwnId, Protect, Tag, Unprotect, blocks, in_range, new_ram, new_text, place_id, text_at, unit_named, unit_plan};
 ghost use Rattle.attest.specs.Done.{IsDone, doer};
 ghost use Rattle.mem_map.specs.Contents.{SameMarks};
 
@@ -260,7 +261,7 @@ fn place_id(place: Place) -> u16
 }
 
 fn id_or_zero(own: Option<Module>) -> u16
-    ensures { result ≡ id_or_zero own }
+    ensures { result ≡ option_map_or (λ m. m.id) own 0 }
 {
     match own {
         None => 0,
@@ -269,7 +270,7 @@ fn id_or_zero(own: Option<Module>) -> u16
 }
 
 fn caller_or_zero(own: Option<Module>, caller: u16) -> u16
-    ensures { result ≡ caller_or_zero own caller }
+    ensures { result ≡ (if is_some own then caller else 0) }
 {
     match own {
         None => 0,
