@@ -3,8 +3,7 @@
 ghost use Rattle.std.specs.Prelude.{◌≡◌, ◌≤◌, ◌<◌, ◌+◌, ◌^◌, ℕ, true, None};
 ghost use Rattle.reg_backup.specs.declared.backup.After.TheVariants.{Next};
 ghost use Rattle.reg_backup.specs.declared.backup.Phase.TheVariants.{Pad};
-ghost use Rattle.written_machine.specs.Cycle.{asleep};
-ghost use Rattle.written_machine.specs.Passing.{Calm, Leads, OnlyPass, passed};
+ghost use Rattle.written_machine.specs.Passing.{Calm, Leads, OnlyPass, passed, asleep};
 ghost use Rattle.board.specs.internal.Ran.{NoneMissed};
 ghost use Rattle.board.specs.internal.Standing.{state_of, lasting_of};
 ghost use Rattle.board.specs.internal.Sound.{Stands};

@@ -2,7 +2,8 @@
 
 ghost use Rattle.std.specs.Prelude.{◌≡◌, ◌+◌, ◌≤◌, ◌∷◌, [], IfSome, None};
 ghost use Rattle.sm_words.specs.Words.{IsCore};
-ghost use Rattle.written_machine.specs.Cycle.{pc_of, asleep, stopped, denied, vector_in, has_room};
+ghost use Rattle.written_machine.specs.Cycle.{pc_of, stopped, denied, vector_in, has_room};
+ghost use Rattle.written_machine.specs.Passing.{asleep};
 ghost use Rattle.board.specs.internal.Standing.{state_of, clock_of, lasting_of};
 ghost use Rattle.board.specs.Watched.{is_held_first};
 ghost use Rattle.board.specs.internal.Turned.{raised};

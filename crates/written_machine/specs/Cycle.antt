@@ -295,13 +295,9 @@ begin left s =
 abbrev pub padded : ℕ → State → State
 padded left s = let p = padding left in record s { phase = p.0; after = p.1 }
 
--- whether the processor is off
-abbrev pub asleep : State → Bool
-asleep s = is_cpu_off s.core
-
 -- what a settled cycle ends in
 abbrev pub case_of : State → Turn
-case_of s = turn_of s.phase (due s) s.active (asleep s)
+case_of s = turn_of s.phase (due s) s.active (is_cpu_off s.core)
 
 -- by what it is, where left is the module left in this cycle, or 0
 abbrev pub turn_by : Turn → ℕ → State → Step

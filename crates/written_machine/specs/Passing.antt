@@ -1,6 +1,6 @@
 -- Cycles that only pass: of padding, of the rest of an instruction, and of sleep.
-use Rattle.std.specs.Prelude.{◌≡◌, ℕ, ◌+◌, ◌-◌, ◌≤◌, ◌<◌, [], true, ◌&&◌, if◌then◌else◌, Option, None}
-use Rattle.sm_words.specs.Status.{is_gie}
+use Rattle.std.specs.Prelude.{◌≡◌, ℕ, ◌+◌, ◌-◌, ◌≤◌, ◌<◌, [], Bool, true, ◌&&◌, if◌then◌else◌, Option, None}
+use Rattle.sm_words.specs.Status.{is_cpu_off, is_gie}
 use Rattle.devices.specs.Devices.{line_of}
 use Rattle.devices.specs.Time.{ticked_by}
 use Rattle.irq_padding.specs.Padding.{padding}
@@ -8,8 +8,12 @@ use Rattle.reg_backup.specs.declared.backup.After.{After}
 use Rattle.reg_backup.specs.declared.backup.After.TheVariants.{Next}
 use Rattle.reg_backup.specs.declared.backup.Phase.{Phase}
 use Rattle.reg_backup.specs.declared.backup.Phase.TheVariants.{Run, Pad}
-use Rattle.written_machine.specs.Cycle.{asleep, cycle, after_cycles, has_room}
+use Rattle.written_machine.specs.Cycle.{cycle, after_cycles, has_room}
 use Rattle.written_machine.specs.State.{State}
+
+-- whether the processor is off
+abbrev pub asleep : State → Bool
+asleep s = is_cpu_off s.core
 
 -- the vector that is due once the devices have moved n times
 abbrev pub due_after : ℕ → State → Option ℕ

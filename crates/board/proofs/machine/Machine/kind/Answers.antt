@@ -1,7 +1,8 @@
 use Rattle.std.proofs.Common.{◌≡◌, ◌&&◌, false, is_some, ap, ◌∙◌, Bool}
 use Rattle.irq_padding.specs.Turns.{turn_of, kind_of}
-use Rattle.written_machine.specs.Cycle.{asleep, due, has_room}
+use Rattle.written_machine.specs.Cycle.{due, has_room}
 use Rattle.written_machine.specs.State.{State}
+use Rattle.written_machine.specs.Passing.{asleep}
 use Rattle.board.specs.internal.Standing.{state_of}
 use Rattle.board.specs.internal.Turned.{raised}
 use Rattle.board.proofs.Cycles.{is_due}
