@@ -2,7 +2,7 @@
 use Rattle.std.proofs.Common.{ℕ, zero, suc, ◌≡◌, ◌+◌, ◌-◌, ◌≤◌, ◌<◌, ◌∙◌, List, length, drop, get_or, Bool, true, false, cond, ◌&&◌, Option, Some, None, refl, sym, ap, subst, arith, nat_eq, min}
 use Rattle.std.specs.Option.{option_or}
 use Rattle.schedule_file.specs.declared.Entry.{Entry}
-use Rattle.devices.specs.Devices.{Devices, counts_by, line_of, timer_line, serial_line, highest_line}
+use Rattle.devices.specs.Devices.{Devices, line_of, timer_line, serial_line, highest_line}
 use Rattle.devices.specs.Time.{ticked_by, before_entries, timer_quiet, quiet_of}
 use Rattle.devices.specs.internal.Time.{counted_by}
 use Rattle.devices.specs.Parts.{LinesPart, SerialPart, TimerPart, serial_alone, timer_alone}
@@ -11,7 +11,7 @@ use Rattle.devices.specs.internal.Bus.{acted_before, past_count, IsDue}
 use Rattle.devices.proofs.Still.{ticked_by-serial}
 use Rattle.devices.proofs.Timing.{ticked_by-timer}
 use Rattle.devices.proofs.Order.{Rises, Rises-all, past_count-le-length}
-use Rattle.devices.proofs.Acting.{cleared, acted_within, ticked_by-within, within-before}
+use Rattle.devices.proofs.Acting.{cleared, acted_within, ticked_by-within, within-before, counts_by}
 use Rattle.devices.proofs.Waiting.{within-quiet, before_entries-le, before_entries-due, before_entries-done, past_count-cycle}
 use Rattle.std.proofs.lemmas.List.{get_or-drop, length-drop}
 

@@ -3,10 +3,11 @@ use Rattle.std.proofs.Common.{ℕ, zero, suc, ◌≡◌, ◌≢◌, ◌+◌, ◌
 use Rattle.std.proofs.Math.Nat.{mod-eq_of_lt, mod-eq-sub-mod}
 use Rattle.std.proofs.lemmas.Bool.Decides.{nat_tests}
 use Rattle.std.proofs.lemmas.Bool.{cases_Bool}
-use Rattle.devices.specs.Devices.{Devices, ticked_devices, counts_by, line_of}
+use Rattle.devices.specs.Devices.{Devices, ticked_devices, line_of}
 use Rattle.devices.specs.Parts.{TimerPart, timer_alone}
 use Rattle.devices.specs.Time.{ticked_by}
 use Rattle.devices.specs.internal.Time.{counted_by}
+use Rattle.devices.proofs.Acting.{counts_by}
 
 abbrev pub timer_of : Bool → Bool → Bool → ℕ → ℕ → Devices
 timer_of r a f c l = timer_alone record { running = r; alarm = a; flag = f; count = c; limit = l }
