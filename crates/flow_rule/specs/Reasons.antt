@@ -1,5 +1,5 @@
 -- Why a text is refused, and where: each reason has the address of its instruction and a value; and their order.
-use Rattle.std.specs.Prelude.{◌≡◌, ◌<◌, ◌≤◌, ◌⊎◌, ℕ, zero, suc, ◌+◌, List, [], ◌∷◌, ◌++◌, slice_set, if◌then◌else◌, Bool, true, false, not}
+use Rattle.std.specs.Prelude.{◌≡◌, ◌<◌, ◌≤◌, ◌⊎◌, ℕ, zero, suc, ◌+◌, List, [], ◌∷◌, flat_map, slice_set, if◌then◌else◌, Bool, true, false, not}
 use Rattle.sm_words.specs.Words.{nth}
 use Rattle.mod_layout.specs.declared.Module.{Module}
 use Rattle.flow_rule.specs.declared.Val.{Val}
@@ -26,8 +26,7 @@ reach_reasons_by Secret m pc x = because pc SecretAddress 0
 reach_reasons_by _ m pc x = because pc OutsideAccess 0
 
 abbrev pub reach_reasons : Module → ℕ → List Reach → List Found
-reach_reasons m pc [] = []
-reach_reasons m pc (x ∷ xs) = reach_reasons_by x.addr m pc x ++ reach_reasons m pc xs
+reach_reasons m pc xs = flat_map (λ x. reach_reasons_by x.addr m pc x) xs
 
 -- the lowest register that is Secret, SR standing for the flags
 abbrev pub exit_reasons : ℕ → ℕ → ℕ → List Val → List Found
@@ -41,8 +40,7 @@ bare (r ∷ rs) core = bare rs (slice_set core r Public)
 
 -- each word at these addresses that is Secret
 abbrev pub word_reasons : Module → ℕ → List Val → List ℕ → List Found
-word_reasons m pc words [] = []
-word_reasons m pc words (a ∷ addrs) = because_if (is_secret (nth (word_no m a) words Secret)) pc DataAtExit a ++ word_reasons m pc words addrs
+word_reasons m pc words addrs = flat_map (λ a. because_if (is_secret (nth (word_no m a) words Secret)) pc DataAtExit a) addrs
 
 -- the reasons by their numbers
 abbrev pub number_of : Reason → ℕ

@@ -1,5 +1,5 @@
 -- A text that begins with its entry stub, and the steps there.
-use Rattle.std.specs.Prelude.{ℕ, zero, suc, ◌+◌, ◌-◌, ◌*◌, ◌/◌, ◌%◌, List, [], ◌∷◌, ◌++◌, ◌==◌, nat_lt, nat_le, if◌then◌else◌, Bool, true, false, ◌&&◌, ◌||◌}
+use Rattle.std.specs.Prelude.{ℕ, zero, suc, ◌+◌, ◌-◌, ◌*◌, ◌/◌, ◌%◌, List, [], ◌∷◌, ◌++◌, flat_map, ◌==◌, nat_lt, nat_le, if◌then◌else◌, Bool, true, false, ◌&&◌, ◌||◌}
 use Rattle.sm_words.specs.Words.{word_at}
 use Rattle.sm_words.specs.declared.width.Width.TheVariants.{Word}
 use Rattle.insn_decode.specs.declared.insn.OneOp.TheVariants.{Call}
@@ -66,8 +66,7 @@ is_open k = nat_le body_word k && nat_le k (call_word - 1)
 
 -- a step from outside into the stub's closed words
 abbrev pub shut_reasons : Module → ℕ → List Point → List Found
-shut_reasons m pc [] = []
-shut_reasons m pc (x ∷ xs) = because_if (is_shut (word_number m x.pair.addr)) pc UnknownTarget 0 ++ shut_reasons m pc xs
+shut_reasons m pc xs = flat_map (λ x. because_if (is_shut (word_number m x.pair.addr)) pc UnknownTarget 0) xs
 
 -- an instruction that is none of the open words may not go there
 abbrev pub shut_if : Bool → Module → ℕ → Step → Step
