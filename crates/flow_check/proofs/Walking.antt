@@ -1,5 +1,5 @@
 -- A walk along an arm, step by step, and the step of a branch with its certificate.
-use Rattle.std.proofs.Common.{◌≡◌, ◌≢◌, ℕ, zero, suc, ◌+◌, ◌<◌, ◌==◌, List, [], ◌∷◌, ◌++◌, refl, sym, ap, ◌∙◌, subst, arith, Bool, true, false, cond, ◌&&◌, ◌||◌, not, Option, Some, None, is_some}
+use Rattle.std.proofs.Common.{◌≡◌, ◌≢◌, ℕ, zero, suc, ◌+◌, ◌<◌, ◌==◌, List, [], ◌∷◌, ◌++◌, find, refl, sym, ap, ◌∙◌, subst, arith, Bool, true, false, cond, ◌&&◌, ◌||◌, not, Option, Some, None, is_some}
 use Rattle.flow_check.specs.declared.call_string.CallString.{CallString}
 use Rattle.std.specs.List.{slice_get}
 use Rattle.std.proofs.lemmas.Bool.Decides.{nat_tests}
@@ -19,7 +19,7 @@ use Rattle.flow_rule.specs.Rounds.{Found, Point, Step}
 use Rattle.flow_rule.specs.Values.{is_secret, val}
 use Rattle.flow_rule.specs.Does.{plan_val, write_reaches, past_val, does_val}
 use Rattle.flow_rule.specs.Reasons.{because_if}
-use Rattle.flow_rule.specs.Arms.{written_regs, written_words, met_regs, met_words, blot, blot_core, Walk, ended, walk_past, walk_on, walk, arm_start, find_arm, step_arm, step_branch, step_arms_by, step_arms}
+use Rattle.flow_rule.specs.Arms.{written_regs, written_words, met_regs, met_words, blot, blot_core, Walk, ended, walk_past, walk_on, walk, arm_start, step_arm, step_branch, step_arms_by, step_arms}
 use Rattle.flow_check.specs.declared.violation.Violation.{Violation}
 use Rattle.flow_check.specs.declared.branch.BranchSite.{BranchSite}
 use Rattle.flow_check.specs.declared.arm.Tally.{Tally}
@@ -114,7 +114,7 @@ unfolding step_arms
 site_is S arms m text x = by (met m.text text x.pair.addr)
   where
     by : (o : Option Insn) → step_arms_by o S arms m text x ≡ step_at (site_by o arms x.pair.addr (val x.label.core 2)) S m text x
-    by (Some (Jump c off)) = jump (not (c == 7) && is_secret (val x.label.core 2)) (find_arm arms x.pair.addr)
+    by (Some (Jump c off)) = jump (not (c == 7) && is_secret (val x.label.core 2)) (find (λ arm. arm.branch == x.pair.addr) arms)
       where
         target : ℕ
         target = add16 (add16 x.pair.addr 2) (distance off)

@@ -1,11 +1,11 @@
 //! Secret branches whose arms meet again in equal times.
 
-ghost use Rattle.std.specs.Prelude.{◌≡◌, [], true};
+ghost use Rattle.std.specs.Prelude.{◌≡◌, ◌==◌, [], true, find};
 ghost use Rattle.sm_words.specs.Words.{kept, add16};
 ghost use Rattle.arm_balance.specs.Met.{met};
 ghost use Rattle.flow_rule.specs.Values.{val};
 ghost use Rattle.flow_rule.specs.Does.{past_val, does_val};
-ghost use Rattle.flow_rule.specs.Arms.{find_arm, arm_start};
+ghost use Rattle.flow_rule.specs.Arms.{arm_start};
 ghost use Rattle.flow_check.specs.internal.Violations.{noted};
 ghost use Rattle.flow_check.specs.internal.Points.{point_at};
 ghost use Rattle.flow_check.specs.internal.Terms.{terms_of};
@@ -70,7 +70,7 @@ pub fn is_same(one: &BranchSite, other: &BranchSite) -> bool
 
 /// The certificate of a branch.
 fn find_arm(arms: &[Arm], branch: u16) -> Option<Arm>
-    ensures { result ≡ find_arm arms.now branch }
+    ensures { result ≡ find (λ arm. arm.branch == branch) arms.now }
 {
     for arm in arms {
         if arm.branch == branch {

@@ -1,5 +1,5 @@
 -- One run along one arm.
-use Rattle.std.proofs.Common.{◌≡◌, ◌≢◌, ◌⊎◌, inl, inr, ℕ, zero, suc, ◌+◌, ◌*◌, ◌%◌, ◌<◌, ◌≤◌, List, [], ◌∷◌, ◌++◌, length, set, refl, sym, ap, ◌∙◌, subst, arith, Bool, true, false, cond, nat_lt, ◌==◌, ◌&&◌, ◌||◌, not, Option, Some, None, get_or-set_same, get_or-set_other, length-set, ℤ}
+use Rattle.std.proofs.Common.{◌≡◌, ◌≢◌, ◌⊎◌, inl, inr, ℕ, zero, suc, ◌+◌, ◌*◌, ◌%◌, ◌<◌, ◌≤◌, List, [], ◌∷◌, ◌++◌, find, length, set, refl, sym, ap, ◌∙◌, subst, arith, Bool, true, false, cond, nat_lt, ◌==◌, ◌&&◌, ◌||◌, not, Option, Some, None, get_or-set_same, get_or-set_other, length-set, ℤ}
 use Rattle.std.proofs.lemmas.Bool.{cases_lt}
 use Rattle.std.proofs.lemmas.List.{set_past, get_or_past}
 use Rattle.std.proofs.lemmas.Bool.Decides.{nat_tests}
@@ -37,7 +37,7 @@ use Rattle.flow_rule.proofs.Meaning.{Agrees}
 use Rattle.flow_rule.proofs.Cores.{AgreeCore, put_other_reg, mode, confined_kept}
 use Rattle.flow_rule.proofs.Plans.{none_left, none_right, none_if}
 use Rattle.arm_balance.specs.declared.Arm.{Arm}
-use Rattle.flow_rule.specs.Arms.{stepped_regs, written_reg, written_regs, blot, blot_core, Walk, ended, met_regs, met_words, walked, walk_past, walk_on, walk, arm_start, step_arm, find_arm, step_branch, step_arms_by, step_arms}
+use Rattle.flow_rule.specs.Arms.{stepped_regs, written_reg, written_regs, blot, blot_core, Walk, ended, met_regs, met_words, walked, walk_past, walk_on, walk, arm_start, step_arm, step_branch, step_arms_by, step_arms}
 use Rattle.arm_balance.specs.Met.{met}
 use Rattle.arm_balance.specs.Balance.{next_if, arm_next, met_cycles}
 use Rattle.flow_rule.proofs.Words.{NotIn, word, Shape, IsData, AgreeData}
@@ -668,9 +668,9 @@ module _ (terms : Terms) (key : List ℕ) (m : Module) (text : List ℕ) (caller
       found cn off e s (Some arm) none = arm_crossing cn off arm x ca da cb db (down x ca da cb db at) e s at none
 
       jump_by : (cn : ℕ) (off : ℤ) → met m.text text x.pair.addr ≡ Some (Jump cn off) → (a b : Bool) → is_secret (val x.label.core 2) ≡ b →
-          (cond (a && b) (step_branch (find_arm arms x.pair.addr) S m text (Jump cn off) x (add16 (add16 x.pair.addr 2) (distance off))) (S x)).reasons ≡ [] →
-          Crossing terms m jj At (cond (a && b) (step_branch (find_arm arms x.pair.addr) S m text (Jump cn off) x (add16 (add16 x.pair.addr 2) (distance off))) (S x)).gives (at_rest ca da) (at_rest cb db)
-      jump_by cn off e true true s none = found cn off e s (find_arm arms x.pair.addr) none
+          (cond (a && b) (step_branch (find (λ arm. arm.branch == x.pair.addr) arms) S m text (Jump cn off) x (add16 (add16 x.pair.addr 2) (distance off))) (S x)).reasons ≡ [] →
+          Crossing terms m jj At (cond (a && b) (step_branch (find (λ arm. arm.branch == x.pair.addr) arms) S m text (Jump cn off) x (add16 (add16 x.pair.addr 2) (distance off))) (S x)).gives (at_rest ca da) (at_rest cb db)
+      jump_by cn off e true true s none = found cn off e s (find (λ arm. arm.branch == x.pair.addr) arms) none
       jump_by cn off e true false s none = plain none
       jump_by cn off e false b s none = plain none
 

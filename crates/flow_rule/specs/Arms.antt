@@ -2,7 +2,7 @@
 use Rattle.arm_balance.specs.declared.Arm.{Arm}
 use Rattle.arm_balance.specs.Met.{met}
 use Rattle.arm_balance.specs.Balance.{arm_on, met_cycles}
-use Rattle.std.specs.Prelude.{ℕ, zero, suc, ◌+◌, List, [], ◌∷◌, ◌++◌, slice_set, ◌==◌, if◌then◌else◌, Bool, true, ◌&&◌, ◌||◌, not, Option, Some, None}
+use Rattle.std.specs.Prelude.{ℕ, zero, suc, ◌+◌, List, [], ◌∷◌, ◌++◌, slice_set, find, ◌==◌, if◌then◌else◌, Bool, true, ◌&&◌, ◌||◌, not, Option, Some, None}
 use Rattle.sm_words.specs.Words.{add16, kept}
 use Rattle.insn_decode.specs.Code.{distance}
 use Rattle.cpu_step.specs.Plan.{writes_dst}
@@ -124,10 +124,6 @@ step_arm step m text insn target arm x =
       } ∷ [];
     }
 
-abbrev pub find_arm : List Arm → ℕ → Option Arm
-find_arm [] a = None
-find_arm (x ∷ xs) a = if x.branch == a then Some x else find_arm xs a
-
 abbrev pub step_branch : Option Arm → (Point → Step) → Module → List ℕ → Insn → Point → ℕ → Step
 step_branch None step m text insn x target = step x
 step_branch (Some arm) step m text insn x target = step_arm step m text insn target arm x
@@ -135,7 +131,7 @@ step_branch (Some arm) step m text insn x target = step_arm step m text insn tar
 -- only a conditional jump with Secret flags whose address is a branch of the list is taken otherwise
 abbrev pub step_arms_by : Option Insn → (Point → Step) → List Arm → Module → List ℕ → Point → Step
 step_arms_by (Some (Jump cond_no off)) step arms m text x =
-    if not (cond_no == 7) && is_secret (val x.label.core 2) then step_branch (find_arm arms x.pair.addr) step m text (Jump cond_no off) x (add16 (add16 x.pair.addr 2) (distance off)) else step x
+    if not (cond_no == 7) && is_secret (val x.label.core 2) then step_branch (find (λ arm. arm.branch == x.pair.addr) arms) step m text (Jump cond_no off) x (add16 (add16 x.pair.addr 2) (distance off)) else step x
 step_arms_by o step arms m text x = step x
 
 unfoldable pub step_arms : (Point → Step) → List Arm → Module → List ℕ → Point → Step

@@ -1,5 +1,5 @@
 -- What the arms of a secret branch tell, gathered along the way.
-use Rattle.std.specs.Prelude.{ℕ, ◌+◌, ◌==◌, ◌&&◌, not, true, if◌then◌else◌, List, [], ◌∷◌, Option, Some, None}
+use Rattle.std.specs.Prelude.{ℕ, ◌+◌, ◌==◌, ◌&&◌, not, true, if◌then◌else◌, List, [], ◌∷◌, find, Option, Some, None}
 use Rattle.insn_decode.specs.declared.insn.Insn.{Insn}
 use Rattle.insn_decode.specs.declared.insn.Insn.TheVariants.{Jump}
 use Rattle.insn_decode.specs.declared.insn.OneOp.{OneOp}
@@ -12,7 +12,7 @@ use Rattle.arm_balance.specs.declared.Arm.{Arm}
 use Rattle.flow_rule.specs.declared.Val.{Val}
 use Rattle.flow_rule.specs.Values.{is_secret}
 use Rattle.flow_rule.specs.Rounds.{Point, Step}
-use Rattle.flow_rule.specs.Arms.{Walk, written_reg, blot, blot_core, find_arm, step_arm}
+use Rattle.flow_rule.specs.Arms.{Walk, written_reg, blot, blot_core, step_arm}
 use Rattle.flow_check.specs.declared.arm.Tally.{Tally}
 use Rattle.flow_check.specs.declared.branch.BranchSite.{BranchSite}
 use Rattle.flow_check.specs.internal.Violations.{noted}
@@ -32,7 +32,7 @@ site_from (Some arm) insn target = Some (record { insn = insn; target = target; 
 -- a conditional jump with Secret flags whose address is a branch of the certificates
 abbrev pub site_by : Option Insn → List Arm → ℕ → Val → Option BranchSite
 site_by (Some (Jump c off)) arms pc flags =
-    if not (c == 7) && is_secret flags then site_from (find_arm arms pc) (Jump c off) (add16 (add16 pc 2) (distance off))
+    if not (c == 7) && is_secret flags then site_from (find (λ arm. arm.branch == pc) arms) (Jump c off) (add16 (add16 pc 2) (distance off))
     else None
 site_by insn arms pc flags = None
 
