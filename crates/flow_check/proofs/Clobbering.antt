@@ -2,13 +2,13 @@
 use Rattle.std.proofs.Common.{◌≡◌, ℕ, List, [], ◌∷◌, ◌++◌, set, refl}
 use Rattle.flow_rule.specs.declared.Val.{Val}
 use Rattle.flow_rule.specs.declared.Val.TheVariants.{Secret}
-use Rattle.flow_rule.specs.Values.{put_val}
-use Rattle.flow_rule.specs.Arms.{blot, blot_core}
+use Rattle.flow_rule.specs.Values.{set_each, put_val}
+use Rattle.flow_rule.specs.Arms.{blot_core}
 
 pub core_append : (xs ys : List ℕ) (core : List Val) → blot_core (xs ++ ys) core ≡ blot_core ys (blot_core xs core)
 core_append [] ys core = refl
 core_append (x ∷ xs) ys core = core_append xs ys (put_val core x Secret)
 
-pub words_append : (xs ys : List ℕ) (words : List Val) → blot (xs ++ ys) words ≡ blot ys (blot xs words)
+pub words_append : (xs ys : List ℕ) (words : List Val) → set_each (xs ++ ys) Secret words ≡ set_each ys Secret (set_each xs Secret words)
 words_append [] ys words = refl
 words_append (x ∷ xs) ys words = words_append xs ys (set words x Secret)

@@ -3,8 +3,8 @@ use Rattle.std.proofs.Common.{◌≡◌, ℕ, zero, suc, List, [], ◌∷◌, le
 use Rattle.std.specs.Prelude.{replicate}
 use Rattle.flow_rule.specs.declared.Val.{Val}
 use Rattle.flow_rule.specs.declared.Val.TheVariants.{Known, Public, Secret}
-use Rattle.flow_rule.specs.Values.{kept_val, put_val}
-use Rattle.flow_rule.specs.Arms.{blot, blot_core}
+use Rattle.flow_rule.specs.Values.{set_each, kept_val, put_val}
+use Rattle.flow_rule.specs.Arms.{blot_core}
 use Rattle.flow_check.specs.internal.Summaries.{laid, overlay}
 
 over_set : (b c : List Val) (n : ℕ) (v : Val) → ((x : Val) → laid v x ≡ v) →
@@ -29,9 +29,9 @@ over_core [] b c = refl
 over_core (n ∷ ns) b c = over_core ns (put_val b n Secret) c
     ∙ ap (blot_core ns) (over_set b c n (kept_val n Secret) (never_public n))
 
-over_words : (ns : List ℕ) (b c : List Val) → overlay (blot ns b) c ≡ blot ns (overlay b c)
+over_words : (ns : List ℕ) (b c : List Val) → overlay (set_each ns Secret b) c ≡ set_each ns Secret (overlay b c)
 over_words [] b c = refl
-over_words (n ∷ ns) b c = over_words ns (set b n Secret) c ∙ ap (blot ns) (over_set b c n Secret (λ x. refl))
+over_words (n ∷ ns) b c = over_words ns (set b n Secret) c ∙ ap (set_each ns Secret) (over_set b c n Secret (λ x. refl))
 
 blank : (n : ℕ) (c : List Val) → length c ≡ n → overlay (replicate n Public) c ≡ c
 blank zero [] e = refl
@@ -44,5 +44,5 @@ pub overlay_core : (ns : List ℕ) (core : List Val) → length core ≡ 16 →
 overlay_core ns core e = over_core ns (replicate 16 Public) core ∙ ap (blot_core ns) (blank 16 core e)
 
 pub overlay_words : (ns : List ℕ) (words : List Val) → length words ≡ 256 →
-    overlay (blot ns (replicate 256 Public)) words ≡ blot ns words
-overlay_words ns words e = over_words ns (replicate 256 Public) words ∙ ap (blot ns) (blank 256 words e)
+    overlay (set_each ns Secret (replicate 256 Public)) words ≡ set_each ns Secret words
+overlay_words ns words e = over_words ns (replicate 256 Public) words ∙ ap (set_each ns Secret) (blank 256 words e)

@@ -7,13 +7,14 @@ use Rattle.mod_layout.specs.declared.Module.{Module}
 use Rattle.mod_layout.specs.Table.{holds}
 use Rattle.flow_rule.specs.Terms.{Terms}
 use Rattle.flow_rule.specs.declared.Val.{Val}
-use Rattle.flow_rule.specs.declared.Val.TheVariants.{Public}
+use Rattle.flow_rule.specs.declared.Val.TheVariants.{Public, Secret}
+use Rattle.flow_rule.specs.Values.{set_each}
 use Rattle.flow_rule.specs.declared.Label.{Label}
 use Rattle.flow_rule.specs.declared.Reason.TheVariants.{Arm as ArmInsn, ArmTime}
 use Rattle.flow_rule.specs.Reasons.{because_if}
 use Rattle.flow_rule.specs.Rounds.{Found, Point, Step, given_by}
 use Rattle.flow_rule.specs.Verdict.{flow_step}
-use Rattle.flow_rule.specs.Arms.{Walk, first_walk, second_walk, blot, blot_core}
+use Rattle.flow_rule.specs.Arms.{Walk, first_walk, second_walk, blot_core}
 use Rattle.flow_rule.specs.Absorbs.{Absorbs, ArmsRest}
 use Rattle.flow_check.specs.internal.Summaries.{laid, overlay}
 use Rattle.flow_check.specs.declared.branch.BranchSite.{BranchSite}
@@ -57,7 +58,7 @@ module _ (rest : ArmsRest) (terms : Terms) (m : Module) (text : List ℕ) (even 
         ap (λ w. clobbered_by w (second_walk S m text c.insn c.target c.arm x)) first ∙ ap (λ w. clobbered_by (first_walk S m text c.insn c.arm top) w) second
       where
         clobbered_by : Walk → Walk → Label
-        clobbered_by w0 w1 = record { core = blot_core (w0.regs ++ w1.regs) l.core; words = blot (w0.words ++ w1.words) l.words }
+        clobbered_by w0 w1 = record { core = blot_core (w0.regs ++ w1.regs) l.core; words = set_each (w0.words ++ w1.words) Secret l.words }
 
 -- what was written into a blank state, laid over another
 laid_over : (terms : Terms) (m : Module) (text : List ℕ) (c : BranchSite) (x : Point) (l : Label) → length l.core ≡ 16 → length l.words ≡ 256 →
@@ -65,7 +66,7 @@ laid_over : (terms : Terms) (m : Module) (text : List ℕ) (c : BranchSite) (x :
 laid_over terms m text c x l core words =
     let w0 : Walk = first_walk (flow_step terms m text) m text c.insn c.arm x in
     let w1 : Walk = second_walk (flow_step terms m text) m text c.insn c.target c.arm x in
-    ap (λ v. record { core = v; words = overlay (blot (w0.words ++ w1.words) (replicate 256 Public)) l.words }) (overlay_core (w0.regs ++ w1.regs) l.core core)
+    ap (λ v. record { core = v; words = overlay (set_each (w0.words ++ w1.words) Secret (replicate 256 Public)) l.words }) (overlay_core (w0.regs ++ w1.regs) l.core core)
     ∙ ap (λ v. record { core = blot_core (w0.regs ++ w1.regs) l.core; words = v }) (overlay_words (w0.words ++ w1.words) l.words words)
 
 -- an open summary, of a state that it subsumes

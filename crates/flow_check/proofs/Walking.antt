@@ -16,10 +16,11 @@ use Rattle.arm_balance.specs.declared.Arm.{Arm}
 use Rattle.flow_rule.specs.declared.Label.{Label}
 use Rattle.flow_rule.specs.declared.Reason.TheVariants.{Arm as ArmInsn, ArmTime}
 use Rattle.flow_rule.specs.Rounds.{Found, Point, Step}
-use Rattle.flow_rule.specs.Values.{is_secret, val}
+use Rattle.flow_rule.specs.declared.Val.TheVariants.{Secret}
+use Rattle.flow_rule.specs.Values.{is_secret, set_each, val}
 use Rattle.flow_rule.specs.Does.{plan_val, write_reaches, past_val, does_val}
 use Rattle.flow_rule.specs.Reasons.{because_if}
-use Rattle.flow_rule.specs.Arms.{written_regs, written_words, met_regs, met_words, blot, blot_core, Walk, ended, walk_past, walk_on, walk, arm_start, step_arm, step_branch, step_arms_by, step_arms}
+use Rattle.flow_rule.specs.Arms.{written_regs, written_words, met_regs, met_words, blot_core, Walk, ended, walk_past, walk_on, walk, arm_start, step_arm, step_branch, step_arms_by, step_arms}
 use Rattle.flow_check.specs.declared.violation.Violation.{Violation}
 use Rattle.flow_check.specs.declared.branch.BranchSite.{BranchSite}
 use Rattle.flow_check.specs.declared.arm.Tally.{Tally}
@@ -73,14 +74,14 @@ module _ (S : Point → Step) (m : Module) (text : List ℕ) (branch join : ℕ)
   pub walk_goes : (steps : ℕ) (x y : Point) (ys : List Point) (t : Tally) (next : ℕ) (insn : Insn) → x.pair.addr ≢ join → arm_on m.text text join x.pair.addr ≡ Some next → met m.text text x.pair.addr ≡ Some insn →
       (S x).reasons ≡ [] → (S x).gives ≡ y ∷ ys →
       told (walk S m text branch join (suc steps) x) t
-      ≡ told (walk S m text branch join steps y) (record t { cycles = t.cycles + cycles_of insn; state = record { core = blot_core (written_regs insn) t.state.core; words = blot (written_words m (write_reaches (plan_val insn x.pair.addr x.label.core))) t.state.words } })
+      ≡ told (walk S m text branch join steps y) (record t { cycles = t.cycles + cycles_of insn; state = record { core = blot_core (written_regs insn) t.state.core; words = set_each (written_words m (write_reaches (plan_val insn x.pair.addr x.label.core))) Secret t.state.words } })
   walk_goes steps x y ys t next insn ne on it none go =
       ap (λ w. told w t)
       (calm steps x next ne on none ∙ ap (λ gs. walk_past [] gs branch (holds m.text join || not (next == join)) next m text x (walk S m text branch join steps)) go
       ∙ ap (λ o. record { reasons = rest.reasons; cycles = met_cycles o + rest.cycles; regs = met_regs o ++ rest.regs; words = met_words o m x ++ rest.words }) it)
-      ∙ ap (λ c. record { least = noted rest.reasons t.least; cycles = c; state = record { core = blot_core (written_regs insn ++ rest.regs) t.state.core; words = blot (ws ++ rest.words) t.state.words } })
+      ∙ ap (λ c. record { least = noted rest.reasons t.least; cycles = c; state = record { core = blot_core (written_regs insn ++ rest.regs) t.state.core; words = set_each (ws ++ rest.words) Secret t.state.words } })
       (let e : t.cycles + (cycles_of insn + rest.cycles) ≡ t.cycles + cycles_of insn + rest.cycles = omega arith in e)
-      ∙ ap (λ c. record { least = noted rest.reasons t.least; cycles = t.cycles + cycles_of insn + rest.cycles; state = record { core = c; words = blot (ws ++ rest.words) t.state.words } }) (core_append (written_regs insn) rest.regs t.state.core)
+      ∙ ap (λ c. record { least = noted rest.reasons t.least; cycles = t.cycles + cycles_of insn + rest.cycles; state = record { core = c; words = set_each (ws ++ rest.words) Secret t.state.words } }) (core_append (written_regs insn) rest.regs t.state.core)
       ∙ ap (λ w. record { least = noted rest.reasons t.least; cycles = t.cycles + cycles_of insn + rest.cycles; state = record { core = blot_core rest.regs (blot_core (written_regs insn) t.state.core); words = w } }) (words_append ws rest.words t.state.words)
     where
       rest : Walk
@@ -159,11 +160,11 @@ module _ (S : Point → Step) (m : Module) (text : List ℕ) (insn : Insn) (targ
         ∙ ap (noted b) (noted_append (a ++ w0.reasons) w1.reasons o ∙ ap (noted w1.reasons) (noted_append a w0.reasons o))))
 
     -- Secret where the arms wrote
-    pub site_told : t2.state ≡ record { core = blot_core (w0.regs ++ w1.regs) t0.state.core; words = blot (w0.words ++ w1.words) t0.state.words }
+    pub site_told : t2.state ≡ record { core = blot_core (w0.regs ++ w1.regs) t0.state.core; words = set_each (w0.words ++ w1.words) Secret t0.state.words }
     site_told =
         ap (λ t. t.state) second
-        ∙ ap (λ l. record { core = blot_core w1.regs l.core; words = blot w1.words l.words }) (ap (λ t. t.state) first)
-        ∙ ap (λ c. record { core = c; words = blot w1.words (blot w0.words t0.state.words) }) (sym (core_append w0.regs w1.regs t0.state.core))
+        ∙ ap (λ l. record { core = blot_core w1.regs l.core; words = set_each w1.words Secret l.words }) (ap (λ t. t.state) first)
+        ∙ ap (λ c. record { core = c; words = set_each w1.words Secret (set_each w0.words Secret t0.state.words) }) (sym (core_append w0.regs w1.regs t0.state.core))
         ∙ ap (λ w. record { core = blot_core (w0.regs ++ w1.regs) t0.state.core; words = w }) (sym (words_append w0.words w1.words t0.state.words))
 
 -- a step by what stands at the branch

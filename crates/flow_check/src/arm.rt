@@ -3,8 +3,10 @@
 ghost use Rattle.std.specs.Prelude.{◌≡◌, ◌≢◌, ◌≤◌, ◌<◌, ◌+◌, ◌*◌, suc, true, false, ℕ, Some, None, IfSome, slice_get};
 ghost use Rattle.std.specs.Prelude.{◌||◌, ◌==◌, not};
 ghost use Rattle.mod_layout.specs.Table.{holds};
+ghost use Rattle.flow_rule.specs.declared.Val.{Val};
+ghost use Rattle.flow_rule.specs.Values.{set_each};
 ghost use Rattle.flow_rule.specs.Does.{write_reaches};
-ghost use Rattle.flow_rule.specs.Arms.{walk, written_regs, written_words, blot, blot_core};
+ghost use Rattle.flow_rule.specs.Arms.{walk, written_regs, written_words, blot_core};
 ghost use Rattle.flow_check.specs.internal.Arms.{told};
 ghost use Rattle.flow_check.specs.internal.Points.{point_at};
 ghost use Rattle.flow_check.specs.internal.Programs.{base_flow};
@@ -39,8 +41,8 @@ fn tell(module: &Module, insn: &Insn, reaches: &[Reach], time: u8, tally: &mut T
       state = record {
         core = blot_core
             (written_regs insn.now) tally.old.state.core;
-        words = blot
-            (written_words module.now (write_reaches reaches.now)) tally.old.state.words;
+        words = set_each
+            (written_words module.now (write_reaches reaches.now)) Val.Secret tally.old.state.words;
       };
     } }
 {

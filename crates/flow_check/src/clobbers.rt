@@ -2,9 +2,11 @@
 
 ghost use Rattle.std.specs.Prelude.{◌≡◌, ◌∷◌, List};
 ghost use Rattle.flow_rule.specs.declared.Reach.{Reach};
+ghost use Rattle.flow_rule.specs.declared.Val.{Val};
+ghost use Rattle.flow_rule.specs.Values.{set_each};
 ghost use Rattle.flow_rule.specs.Does.{write_reaches};
 ghost use Rattle.flow_check.specs.internal.Arms.{one_regs};
-ghost use Rattle.flow_rule.specs.Arms.{stepped_regs, written_reg, written_regs, written_words, blot, blot_core};
+ghost use Rattle.flow_rule.specs.Arms.{stepped_regs, written_reg, written_regs, written_words, blot_core};
 
 use crate::accesses::writes_destination;
 use crate::domain::{Core, put};
@@ -63,8 +65,9 @@ fn clobber_operand(op: OneOp, arg: Operand, core: &mut Core)
 
 /// The word that an access writes, before others.
 fn clobber_reach(module: &Module, reach: &Reach, words: &mut [Val; 256])
-    ensures { (rest : List Reach) → blot (written_words module.now (write_reaches (reach.now ∷ rest))) words.old
-        ≡ blot (written_words module.now (write_reaches rest)) words.new }
+    ensures { (rest : List Reach) → set_each
+        (written_words module.now (write_reaches (reach.now ∷ rest))) Val.Secret words.old
+        ≡ set_each (written_words module.now (write_reaches rest)) Val.Secret words.new }
 {
     if reach.kind == Kind::Write
         && let Val::Known(addr) = reach.addr
@@ -75,7 +78,7 @@ fn clobber_reach(module: &Module, reach: &Reach, words: &mut [Val; 256])
 
 /// The words that these accesses write.
 pub fn clobber_words(module: &Module, reaches: &[Reach], words: &mut [Val; 256])
-    ensures { words.new ≡ blot (written_words module.now (write_reaches reaches.now)) words.old }
+    ensures { words.new ≡ set_each (written_words module.now (write_reaches reaches.now)) Val.Secret words.old }
 {
     for reach in reaches {
         clobber_reach(module, reach, words);

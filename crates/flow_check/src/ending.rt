@@ -2,7 +2,8 @@
 
 ghost use Rattle.std.specs.Prelude.{◌≡◌, ◌∷◌, List, ℕ, slice_set};
 ghost use Rattle.flow_rule.specs.declared.Val.{Val};
-ghost use Rattle.flow_rule.specs.Reasons.{bare, exit_reasons, word_reasons};
+ghost use Rattle.flow_rule.specs.Values.{set_each};
+ghost use Rattle.flow_rule.specs.Reasons.{exit_reasons, word_reasons};
 ghost use Rattle.flow_rule.specs.Going.{closes, leaves};
 ghost use Rattle.flow_check.specs.internal.Violations.{noted};
 ghost use Rattle.flow_check.specs.internal.Terms.{terms_of};
@@ -37,14 +38,14 @@ fn set_public(core: &mut Core, n: u8)
 
 /// One answer is as if it were Public, before others.
 fn bare_one(core: &mut Core, answer: u8)
-    ensures { (rest : List ℕ) → bare (answer ∷ rest) core.old ≡ bare rest core.new }
+    ensures { (rest : List ℕ) → set_each (answer ∷ rest) Val.Public core.old ≡ set_each rest Val.Public core.new }
 {
     set_public(core, answer);
 }
 
 /// The registers with the answers as if they were Public.
 fn bare(core: &Core, answers: &[u8]) -> Core
-    ensures { result ≡ bare answers.now core.now }
+    ensures { result ≡ set_each answers.now Val.Public core.now }
 {
     let mut bare = *core;
     for answer in answers {

@@ -26,7 +26,7 @@ use Rattle.cpu_step.specs.Lone.{Job, Lone, lone_step, job_of}
 use Rattle.flow_rule.specs.Terms.{Terms}
 use Rattle.flow_rule.specs.declared.Val.{Val}
 use Rattle.flow_rule.specs.declared.Val.TheVariants.{Known, Away, Public, Secret}
-use Rattle.flow_rule.specs.Values.{is_secret, val, put_val, kept_val}
+use Rattle.flow_rule.specs.Values.{is_secret, set_each, val, put_val, kept_val}
 use Rattle.flow_rule.specs.declared.Reason.TheVariants.{SecretBranch, Arm as ArmInsn, ArmTime}
 use Rattle.flow_rule.specs.Rounds.{Point, Found, Step}
 use Rattle.flow_rule.specs.Does.{does_val, past_val}
@@ -37,7 +37,7 @@ use Rattle.flow_rule.proofs.Meaning.{Agrees}
 use Rattle.flow_rule.proofs.Cores.{AgreeCore, put_other_reg, mode, confined_kept}
 use Rattle.flow_rule.proofs.Plans.{none_left, none_right, none_if}
 use Rattle.arm_balance.specs.declared.Arm.{Arm}
-use Rattle.flow_rule.specs.Arms.{stepped_regs, written_reg, written_regs, blot, blot_core, Walk, ended, met_regs, met_words, walked, walk_past, walk_on, walk, arm_start, step_arm, step_branch, step_arms_by, step_arms}
+use Rattle.flow_rule.specs.Arms.{stepped_regs, written_reg, written_regs, blot_core, Walk, ended, met_regs, met_words, walked, walk_past, walk_on, walk, arm_start, step_arm, step_branch, step_arms_by, step_arms}
 use Rattle.arm_balance.specs.Met.{met}
 use Rattle.arm_balance.specs.Balance.{next_if, arm_next, met_cycles}
 use Rattle.flow_rule.proofs.Words.{NotIn, word, Shape, IsData, AgreeData}
@@ -445,7 +445,7 @@ module _ (s : Section) where
       by true e = here (cases_lt k (length v)) (grind (arith, nat_tests))
       by false e = let ne : n ≢ k = grind (arith, nat_tests) in subst (λ u. Agrees s u a b) (sym (get_or-set_other v k n Secret Secret ne)) (h ne)
 
-  blot_at : (ns : List ℕ) (v : List Val) (n a b : ℕ) → (NotIn n ns → Agrees s (nth n v Secret) a b) → Agrees s (nth n (blot ns v) Secret) a b
+  blot_at : (ns : List ℕ) (v : List Val) (n a b : ℕ) → (NotIn n ns → Agrees s (nth n v Secret) a b) → Agrees s (nth n (set_each ns Secret v) Secret) a b
   blot_at [] v n a b h = h tt
   blot_at (k ∷ ns) v n a b h = blot_at ns (set v k Secret) n a b (λ no. one_blot_word v n k a b (λ ne. h (ne, no)))
 
@@ -548,7 +548,7 @@ module _ (terms : Terms) (key : List ℕ) (m : Module) (text : List ℕ) (caller
     joined_core = set (blot_core ((walk_of false).regs ++ (walk_of true).regs) x.label.core) 0 (Known arm.join)
 
     abbrev joined_point : Point
-    joined_point = record { pair = record { addr = arm.join; returns = x.pair.returns }; label = record { core = joined_core; words = blot ((walk_of false).words ++ (walk_of true).words) x.label.words } }
+    joined_point = record { pair = record { addr = arm.join; returns = x.pair.returns }; label = record { core = joined_core; words = set_each ((walk_of false).words ++ (walk_of true).words) Secret x.label.words } }
 
     joined_at : (ta tb : Bool) (p : Crossed ta ca da) (q : Crossed tb cb db) → holds m.text arm.join ≡ true → AgreeAt m joined_point p.core p.data_left q.core q.data_left
     joined_at ta tb p q inn =

@@ -24,11 +24,11 @@ use Rattle.cpu_step.specs.Lone.{Job, Lone, lone_byte, lone_who, is_alone, unit_a
 use Rattle.flow_rule.specs.Terms.{Terms}
 use Rattle.flow_rule.specs.declared.Val.{Val}
 use Rattle.flow_rule.specs.declared.Val.TheVariants.{Known, Away, Public, Secret}
-use Rattle.flow_rule.specs.Values.{is_secret, val, put_val}
+use Rattle.flow_rule.specs.Values.{is_secret, set_each, val, put_val}
 use Rattle.flow_rule.specs.declared.Reason.TheVariants.{SecretBranch}
 use Rattle.flow_rule.specs.Rounds.{Point, Step}
 use Rattle.flow_rule.specs.Does.{plan_val, does_val, past_val, read_val, writes_val, read_reaches, write_reaches}
-use Rattle.flow_rule.specs.Reasons.{because_if, reach_reasons, exit_reasons, bare, word_reasons}
+use Rattle.flow_rule.specs.Reasons.{because_if, reach_reasons, exit_reasons, word_reasons}
 use Rattle.flow_rule.specs.Going.{leaves, goes_in, goes_by, goes, both, also}
 use Rattle.flow_rule.specs.Returns.{turn_of}
 use Rattle.flow_rule.specs.Steps.{goes_unless, step_plain, step_jump, step_unit, step_insn, step_of}
@@ -99,7 +99,7 @@ module _ (terms : Terms) (m : Module) where
       Single terms m [] ca da cb db
   gone pc v words ca da cb db h d e out_a out_b =
       let ws = word_reasons m pc words terms.public in
-      let rs = exit_reasons 16 0 pc (bare terms.answers v) in
+      let rs = exit_reasons 16 0 pc (set_each terms.answers Public v) in
       Gone refl (same_but m.text terms.answers pc v ca cb h (none_right ws rs e)) out_a out_b d.is_a d.is_b (agrees_on m terms.public pc words da db d (none_left ws rs e))
 
   lands_in : (t : Bool) (to pc : ℕ) (returns : List ℕ) (v words : List Val) (ca da cb db : List ℕ) → AgreeCore m.text v ca cb → AgreeData m words da db → reg ca 0 ≡ to → reg cb 0 ≡ to → holds m.text to ≡ t →
@@ -465,7 +465,7 @@ module _ (terms : Terms) (key : List ℕ) (m : Module) (text : List ℕ) (caller
 
     shut_crossing : (r : ℕ) → unit_plan (lone_who j) u ca ≡ [] → unit_plan (lone_who j) u cb ≡ [] →
         unit_does u ca da ≡ after (past (UnitOp 0) ca) da r true → unit_does u cb db ≡ after (past (UnitOp 0) cb) db r true →
-        exit_reasons 16 0 x.pair.addr (bare terms.answers x.label.core) ≡ [] → Crossing terms m j (AgreeAt m) [] (at_rest ca da) (at_rest cb db)
+        exit_reasons 16 0 x.pair.addr (set_each terms.answers Public x.label.core) ≡ [] → Crossing terms m j (AgreeAt m) [] (at_rest ca da) (at_rest cb db)
     unfolding doing
     shut_crossing r pa pb ea eb none =
         record {

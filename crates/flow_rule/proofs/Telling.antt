@@ -1,5 +1,5 @@
 -- Cores that are alike but for the answers, and data that agree on the public words.
-use Rattle.std.proofs.Common.{◌≡◌, ◌≢◌, ◌⊎◌, inl, inr, ℕ, zero, suc, ◌+◌, ◌<◌, ◌≤◌, List, [], ◌∷◌, length, set, refl, sym, ap, ◌∙◌, subst, arith, Bool, true, false, cond, ◌==◌, ◌||◌, length-set, get_or-set_other}
+use Rattle.std.proofs.Common.{◌≡◌, ◌≢◌, ◌⊎◌, inl, inr, ℕ, zero, suc, ◌+◌, ◌<◌, ◌≤◌, List, [], ◌∷◌, length, map, set, refl, sym, ap, ◌∙◌, subst, arith, Bool, true, false, cond, ◌==◌, ◌||◌, length-set, get_or-set_other}
 use Rattle.std.proofs.lemmas.Bool.{cases_lt}
 use Rattle.std.proofs.lemmas.Bool.Decides.{nat_tests}
 use Rattle.std.proofs.lemmas.Grind.{same_number_lists}
@@ -9,11 +9,10 @@ use Rattle.mod_layout.specs.declared.Module.{Module}
 use Rattle.cpu_step.specs.Lone.{blank}
 use Rattle.flow_rule.specs.declared.Val.{Val}
 use Rattle.flow_rule.specs.declared.Val.TheVariants.{Public, Secret}
-use Rattle.flow_rule.specs.Values.{is_secret, val}
+use Rattle.flow_rule.specs.Values.{is_secret, set_each, val}
 use Rattle.flow_rule.specs.declared.Reason.TheVariants.{SecretAtExit, DataAtExit}
 use Rattle.flow_rule.specs.Does.{word_no}
-use Rattle.flow_rule.specs.Reasons.{because, because_if, exit_reasons, bare, word_reasons}
-use Rattle.flow_rule.specs.Verdict.{opened}
+use Rattle.flow_rule.specs.Reasons.{because, because_if, exit_reasons, word_reasons}
 use Rattle.flow_rule.specs.Laws.{AgreeOn}
 use Rattle.flow_rule.proofs.Meaning.{Agrees, same}
 use Rattle.flow_rule.proofs.Cores.{AgreeCore}
@@ -56,11 +55,11 @@ blanked rs ca cb la lb h =
     by k false e h = is ca k false e ∙ h e ∙ sym (is cb k false e)
 
 -- a register that is no answer is looked at
-val_bare : (rs : List ℕ) (v : List Val) (k : ℕ) → on_list rs k ≡ false → val (bare rs v) k ≡ val v k
+val_bare : (rs : List ℕ) (v : List Val) (k : ℕ) → on_list rs k ≡ false → val (set_each rs Public v) k ≡ val v k
 val_bare [] v k e = refl
 val_bare (r ∷ rs) v k e = by (k == r) refl e (val_bare rs (set v r Public) k)
   where
-    by : (b : Bool) → (k == r) ≡ b → (b || on_list rs k) ≡ false → (on_list rs k ≡ false → val (bare rs (set v r Public)) k ≡ val (set v r Public) k) → val (bare rs (set v r Public)) k ≡ val v k
+    by : (b : Bool) → (k == r) ≡ b → (b || on_list rs k) ≡ false → (on_list rs k ≡ false → val (set_each rs Public (set v r Public)) k ≡ val (set v r Public) k) → val (set_each rs Public (set v r Public)) k ≡ val v k
     by true f e go = absurd cc
     by false f e go = let ne : k ≢ r = grind (arith, nat_tests) in go e ∙ get_or-set_other v r k Public Secret ne
 
@@ -75,11 +74,11 @@ no_secret (suc k) n pc v e i low high = by (is_secret (val v n)) refl e (cases_l
     by false f e (inr ge) go = let g : i ≡ n = omega arith in ap (λ x. is_secret (val v x)) g ∙ f
 
 -- a register that is no answer is equal where a call ends
-pub same_reg : (s : Section) (answers : List ℕ) (pc : ℕ) (v : List Val) (ca cb : List ℕ) → AgreeCore s v ca cb → exit_reasons 16 0 pc (bare answers v) ≡ [] → (k : ℕ) → k < 16 → on_list answers k ≡ false → reg ca k ≡ reg cb k
+pub same_reg : (s : Section) (answers : List ℕ) (pc : ℕ) (v : List Val) (ca cb : List ℕ) → AgreeCore s v ca cb → exit_reasons 16 0 pc (set_each answers Public v) ≡ [] → (k : ℕ) → k < 16 → on_list answers k ≡ false → reg ca k ≡ reg cb k
 same_reg s answers pc v ca cb h e k lt off =
-    same s (val v k) (reg ca k) (reg cb k) (h.at k) (ap is_secret (sym (val_bare answers v k off)) ∙ no_secret 16 0 pc (bare answers v) e k (omega arith) (omega arith))
+    same s (val v k) (reg ca k) (reg cb k) (h.at k) (ap is_secret (sym (val_bare answers v k off)) ∙ no_secret 16 0 pc (set_each answers Public v) e k (omega arith) (omega arith))
 
-pub same_but : (s : Section) (answers : List ℕ) (pc : ℕ) (v : List Val) (ca cb : List ℕ) → AgreeCore s v ca cb → exit_reasons 16 0 pc (bare answers v) ≡ [] → blank answers ca ≡ blank answers cb
+pub same_but : (s : Section) (answers : List ℕ) (pc : ℕ) (v : List Val) (ca cb : List ℕ) → AgreeCore s v ca cb → exit_reasons 16 0 pc (set_each answers Public v) ≡ [] → blank answers ca ≡ blank answers cb
 same_but s answers pc v ca cb h e = blanked answers ca cb h.long_a h.long_b (λ k lt off. same_reg s answers pc v ca cb h e k lt off)
 
 -- ---- the public words
@@ -101,7 +100,7 @@ one_open s (x ∷ v) (suc k) zero a b e h = h
 one_open s (x ∷ v) (suc k) (suc n) a b e h = one_open s v k n a b (λ f. e (ap suc f)) h
 
 pub opened_at : (m : Module) (addrs : List ℕ) (v : List Val) (da db : List ℕ) → AgreeOn m addrs da db → ((i : ℕ) → Agrees m.text (nth i v Secret) (word da i) (word db i)) →
-    (i : ℕ) → Agrees m.text (nth i (opened m addrs v) Secret) (word da i) (word db i)
+    (i : ℕ) → Agrees m.text (nth i (set_each (map (word_no m) addrs) Public v) Secret) (word da i) (word db i)
 opened_at m [] v da db agree h = h
 opened_at m (a ∷ addrs) v da db agree h =
     let here : word da (word_no m a) ≡ word db (word_no m a) = agree zero a (omega arith) in

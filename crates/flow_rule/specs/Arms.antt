@@ -2,7 +2,7 @@
 use Rattle.arm_balance.specs.declared.Arm.{Arm}
 use Rattle.arm_balance.specs.Met.{met}
 use Rattle.arm_balance.specs.Balance.{arm_on, met_cycles}
-use Rattle.std.specs.Prelude.{ℕ, zero, suc, ◌+◌, List, [], ◌∷◌, ◌++◌, slice_set, find, ◌==◌, if◌then◌else◌, Bool, true, ◌&&◌, ◌||◌, not, Option, Some, None}
+use Rattle.std.specs.Prelude.{ℕ, zero, suc, ◌+◌, List, [], ◌∷◌, ◌++◌, slice_set, fold, find, ◌==◌, if◌then◌else◌, Bool, true, ◌&&◌, ◌||◌, not, Option, Some, None}
 use Rattle.sm_words.specs.Words.{add16, kept}
 use Rattle.insn_decode.specs.Code.{distance}
 use Rattle.cpu_step.specs.Plan.{writes_dst}
@@ -16,7 +16,7 @@ use Rattle.mod_layout.specs.Table.{holds}
 use Rattle.flow_rule.specs.Terms.{Terms, no_terms}
 use Rattle.flow_rule.specs.declared.Val.{Val}
 use Rattle.flow_rule.specs.declared.Val.TheVariants.{Known, Secret}
-use Rattle.flow_rule.specs.Values.{is_secret, val, put_val}
+use Rattle.flow_rule.specs.Values.{is_secret, set_each, val, put_val}
 use Rattle.flow_rule.specs.declared.Reason.TheVariants.{Arm as ArmInsn, ArmTime}
 use Rattle.flow_rule.specs.Rounds.{Point, Found, Step}
 use Rattle.flow_rule.specs.declared.Reach.{Reach}
@@ -44,14 +44,9 @@ abbrev pub written_words : Module → List Reach → List ℕ
 written_words m [] = []
 written_words m (x ∷ xs) = elim x.addr [ Known a ↦ word_no m a ∷ written_words m xs | _ ↦ written_words m xs ]
 
-abbrev pub blot : List ℕ → List Val → List Val
-blot [] vs = vs
-blot (n ∷ ns) vs = blot ns (slice_set vs n Secret)
-
--- registers keep their rules: R3 stays Known 0
+-- Secret in these registers, which keep their rules: R3 stays Known 0
 abbrev pub blot_core : List ℕ → List Val → List Val
-blot_core [] vs = vs
-blot_core (n ∷ ns) vs = blot_core ns (put_val vs n Secret)
+blot_core regs core = fold (λ vs n. put_val vs n Secret) core regs
 
 pub record Walk : Type 0 where
   pub reasons : List Found
@@ -120,7 +115,7 @@ step_arm step m text insn target arm x =
           ++ because_if (not (w0.cycles == arm.cycles)) pc ArmTime 0 ++ because_if (not (w1.cycles == arm.cycles)) pc ArmTime 1;
       gives = record {
         pair = record { addr = arm.join; returns = x.pair.returns };
-        label = record { core = slice_set (blot_core (w0.regs ++ w1.regs) x.label.core) 0 (Known arm.join); words = blot (w0.words ++ w1.words) x.label.words };
+        label = record { core = slice_set (blot_core (w0.regs ++ w1.regs) x.label.core) 0 (Known arm.join); words = set_each (w0.words ++ w1.words) Secret x.label.words };
       } ∷ [];
     }
 

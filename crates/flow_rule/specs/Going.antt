@@ -4,20 +4,20 @@ use Rattle.mod_layout.specs.declared.Module.{Module}
 use Rattle.mod_layout.specs.Table.{holds}
 use Rattle.flow_rule.specs.Terms.{Terms}
 use Rattle.flow_rule.specs.declared.Val.{Val}
-use Rattle.flow_rule.specs.declared.Val.TheVariants.{Known, Away}
-use Rattle.flow_rule.specs.Values.{val}
+use Rattle.flow_rule.specs.declared.Val.TheVariants.{Known, Away, Public}
+use Rattle.flow_rule.specs.Values.{set_each, val}
 use Rattle.flow_rule.specs.declared.Reason.{Reason}
 use Rattle.flow_rule.specs.declared.Reason.TheVariants.{UnknownTarget}
 use Rattle.flow_rule.specs.Rounds.{Found, Step}
-use Rattle.flow_rule.specs.Reasons.{because, exit_reasons, bare, word_reasons}
+use Rattle.flow_rule.specs.Reasons.{because, exit_reasons, word_reasons}
 
--- to close, no register and no flag may be secret but the answers: the data become 0
+-- to close, no register and no flag may be secret but the answers, which are as if they were Public: the data become 0
 abbrev pub closes : Terms → ℕ → List Val → Step
-closes terms pc core = record { reasons = exit_reasons 16 0 pc (bare terms.answers core); gives = [] }
+closes terms pc core = record { reasons = exit_reasons 16 0 pc (set_each terms.answers Public core); gives = [] }
 
 -- to leave, no public word of the data either
 abbrev pub leaves : Terms → Module → ℕ → List Val → List Val → Step
-leaves terms m pc core words = record { reasons = word_reasons m pc words terms.public ++ exit_reasons 16 0 pc (bare terms.answers core); gives = [] }
+leaves terms m pc core words = record { reasons = word_reasons m pc words terms.public ++ exit_reasons 16 0 pc (set_each terms.answers Public core); gives = [] }
 
 -- inside the text the label is handed on
 abbrev pub goes_in : Terms → Bool → Module → ℕ → ℕ → List ℕ → List Val → List Val → Step

@@ -1,9 +1,9 @@
 -- Why a text is refused, and where: each reason has the address of its instruction and a value; and their order.
-use Rattle.std.specs.Prelude.{◌≡◌, ◌<◌, ◌≤◌, ◌⊎◌, ℕ, zero, suc, ◌+◌, List, [], ◌∷◌, flat_map, slice_set, if◌then◌else◌, Bool, true, false, not}
+use Rattle.std.specs.Prelude.{◌≡◌, ◌<◌, ◌≤◌, ◌⊎◌, ℕ, zero, suc, ◌+◌, List, [], ◌∷◌, flat_map, if◌then◌else◌, Bool, true, false, not}
 use Rattle.sm_words.specs.Words.{nth}
 use Rattle.mod_layout.specs.declared.Module.{Module}
 use Rattle.flow_rule.specs.declared.Val.{Val}
-use Rattle.flow_rule.specs.declared.Val.TheVariants.{Known, Public, Secret}
+use Rattle.flow_rule.specs.declared.Val.TheVariants.{Known, Secret}
 use Rattle.flow_rule.specs.Values.{is_secret, val}
 use Rattle.flow_rule.specs.declared.Reason.{Reason}
 use Rattle.flow_rule.specs.declared.Reason.TheVariants.{SecretBranch, SecretAddress, OutsideAccess, SecretAtExit, UnknownTarget, Illegal, Unit as UnitWord, TooMany, Arm as ArmInsn, ArmTime, DataAtExit}
@@ -32,11 +32,6 @@ reach_reasons m pc xs = flat_map (λ x. reach_reasons_by x.addr m pc x) xs
 abbrev pub exit_reasons : ℕ → ℕ → ℕ → List Val → List Found
 exit_reasons zero n pc core = []
 exit_reasons (suc k) n pc core = if is_secret (val core n) then because pc SecretAtExit n else exit_reasons k (n + 1) pc core
-
--- the registers of these numbers as if they were Public
-abbrev pub bare : List ℕ → List Val → List Val
-bare [] core = core
-bare (r ∷ rs) core = bare rs (slice_set core r Public)
 
 -- each word at these addresses that is Secret
 abbrev pub word_reasons : Module → ℕ → List Val → List ℕ → List Found

@@ -1,12 +1,13 @@
 -- The start of the labelling, and what decides a verdict.
 use Rattle.flow_rule.specs.declared.Verdict.{Verdict}
 use Rattle.flow_rule.specs.declared.Verdict.TheVariants.{Yes, No}
-use Rattle.std.specs.Prelude.{◌≡◌, ◌<◌, ◌≤◌, ◌⊎◌, ℕ, ◌+◌, ◌*◌, List, [], ◌∷◌, length, replicate, slice_set, if◌then◌else◌}
+use Rattle.std.specs.Prelude.{◌≡◌, ◌<◌, ◌≤◌, ◌⊎◌, ℕ, ◌+◌, ◌*◌, List, [], ◌∷◌, length, map, replicate, slice_set, if◌then◌else◌}
 use Rattle.mod_layout.specs.declared.Module.{Module}
 use Rattle.entry_stubs.specs.Stub.{body_word}
 use Rattle.flow_rule.specs.Terms.{Terms}
 use Rattle.flow_rule.specs.declared.Val.{Val}
 use Rattle.flow_rule.specs.declared.Val.TheVariants.{Known, Away, Public, Secret}
+use Rattle.flow_rule.specs.Values.{set_each}
 use Rattle.flow_rule.specs.declared.Reason.TheVariants.{TooMany}
 use Rattle.flow_rule.specs.Rounds.{Point, Found, Step, IsLabelling, rounds, all_reasons}
 use Rattle.flow_rule.specs.Does.{word_no}
@@ -26,14 +27,9 @@ most_pairs = 16384
 abbrev pub no_secret : ℕ → List Val
 no_secret pc = Known pc ∷ Public ∷ Public ∷ Known 0 ∷ replicate 12 Public
 
--- the words at these addresses are Public
-abbrev pub opened : Module → List ℕ → List Val → List Val
-opened m [] words = words
-opened m (a ∷ addrs) words = opened m addrs (slice_set words (word_no m a) Public)
-
 -- a pair with nothing known of the data but that the public words are equal
 abbrev pub begins : Terms → Module → ℕ → List Val → Point
-begins terms m pc core = record { pair = record { addr = pc; returns = [] }; label = record { core = core; words = opened m terms.public (replicate known_words Secret) } }
+begins terms m pc core = record { pair = record { addr = pc; returns = [] }; label = record { core = core; words = set_each (map (word_no m) terms.public) Public (replicate known_words Secret) } }
 
 -- the start: no return address, nothing secret in the registers and flags; behind a stub's first words R7 is Away
 abbrev pub start_under : Terms → Module → List ℕ → Point

@@ -10,9 +10,10 @@ use Rattle.sm_words.specs.Words.{add16}
 use Rattle.mod_layout.specs.declared.Module.{Module}
 use Rattle.arm_balance.specs.declared.Arm.{Arm}
 use Rattle.flow_rule.specs.declared.Val.{Val}
-use Rattle.flow_rule.specs.Values.{is_secret}
+use Rattle.flow_rule.specs.declared.Val.TheVariants.{Secret}
+use Rattle.flow_rule.specs.Values.{is_secret, set_each}
 use Rattle.flow_rule.specs.Rounds.{Point, Step}
-use Rattle.flow_rule.specs.Arms.{Walk, written_reg, blot, blot_core, step_arm}
+use Rattle.flow_rule.specs.Arms.{Walk, written_reg, blot_core, step_arm}
 use Rattle.flow_check.specs.declared.arm.Tally.{Tally}
 use Rattle.flow_check.specs.declared.branch.BranchSite.{BranchSite}
 use Rattle.flow_check.specs.internal.Violations.{noted}
@@ -22,7 +23,7 @@ abbrev pub told : Walk → Tally → Tally
 told w t = record {
   least = noted w.reasons t.least;
   cycles = t.cycles + w.cycles;
-  state = record { core = blot_core w.regs t.state.core; words = blot w.words t.state.words };
+  state = record { core = blot_core w.regs t.state.core; words = set_each w.words Secret t.state.words };
 }
 
 abbrev pub site_from : Option Arm → Insn → ℕ → Option BranchSite

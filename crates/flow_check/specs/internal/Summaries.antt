@@ -4,9 +4,10 @@ use Rattle.mod_layout.specs.declared.Module.{Module}
 use Rattle.flow_rule.specs.Terms.{Terms}
 use Rattle.flow_rule.specs.declared.Label.{Label}
 use Rattle.flow_rule.specs.declared.Val.{Val}
-use Rattle.flow_rule.specs.declared.Val.TheVariants.{Public}
+use Rattle.flow_rule.specs.declared.Val.TheVariants.{Public, Secret}
+use Rattle.flow_rule.specs.Values.{set_each}
 use Rattle.flow_rule.specs.Rounds.{Point, Step}
-use Rattle.flow_rule.specs.Arms.{blot, blot_core, first_walk, second_walk, step_arm}
+use Rattle.flow_rule.specs.Arms.{blot_core, first_walk, second_walk, step_arm}
 use Rattle.flow_rule.specs.Verdict.{flow_step}
 use Rattle.flow_check.specs.declared.branch.BranchSite.{BranchSite}
 use Rattle.flow_check.specs.declared.summaries.Answer.{Answer}
@@ -22,7 +23,7 @@ abbrev pub clobbered : Terms → Module → List ℕ → BranchSite → Point �
 clobbered terms m text c x l =
     let w0 = first_walk (flow_step terms m text) m text c.insn c.arm x in
     let w1 = second_walk (flow_step terms m text) m text c.insn c.target c.arm x in
-    record { core = blot_core (w0.regs ++ w1.regs) l.core; words = blot (w0.words ++ w1.words) l.words }
+    record { core = blot_core (w0.regs ++ w1.regs) l.core; words = set_each (w0.words ++ w1.words) Secret l.words }
 
 -- nothing is written
 abbrev pub blank : Label

@@ -1,8 +1,9 @@
 use Rattle.std.proofs.Common.{◌≡◌, ◌∙◌, ◌+◌, ap, sym, ℕ, List, slice_set}
-use Rattle.flow_rule.specs.declared.Val.TheVariants.{Known}
+use Rattle.flow_rule.specs.declared.Val.TheVariants.{Known, Secret}
+use Rattle.flow_rule.specs.Values.{set_each}
 use Rattle.flow_rule.specs.Does.{plan_val, write_reaches}
 use Rattle.flow_rule.specs.Verdict.{flow_step}
-use Rattle.flow_rule.specs.Arms.{walk, written_regs, written_words, blot, blot_core}
+use Rattle.flow_rule.specs.Arms.{walk, written_regs, written_words, blot_core}
 use Rattle.flow_rule.specs.Rounds.{Point, Step}
 use Rattle.flow_check.specs.internal.Points.{point_of, addrs_of, list_of}
 use Rattle.flow_check.specs.internal.Arms.{told}
@@ -46,6 +47,6 @@ returns-in-Some-first_of-clause-on c = λ _ steps.
     let reached : c.as_slice-reached.result.now ≡ plan_val insn p.addr p.state.core = c.as_slice-reached.ensures.value ∙ c.reaches-reaches.ensures in
     walk_goes S m text c.args.branch c.args.join steps (point_at p) y first.0 t c.in-Some.next insn c.requires.before c.in-Some.ensures.goes_on c.in-Some.ensures.met none first.1
     ∙ ap (told (walk S m text c.args.branch c.args.join steps y))
-    (ap (λ n. record t { cycles = t.cycles + n; state = record { core = blot_core (written_regs insn) t.state.core; words = blot (written_words m (write_reaches (plan_val insn p.addr p.state.core))) t.state.words } }) (sym c.cycles.ensures.exact)
-    ∙ ap (λ xs. record t { cycles = t.cycles + c.cycles.result; state = record { core = blot_core (written_regs insn) t.state.core; words = blot (written_words m (write_reaches xs)) t.state.words } }) (sym reached)
+    (ap (λ n. record t { cycles = t.cycles + n; state = record { core = blot_core (written_regs insn) t.state.core; words = set_each (written_words m (write_reaches (plan_val insn p.addr p.state.core))) Secret t.state.words } }) (sym c.cycles.ensures.exact)
+    ∙ ap (λ xs. record t { cycles = t.cycles + c.cycles.result; state = record { core = blot_core (written_regs insn) t.state.core; words = set_each (written_words m (write_reaches xs)) Secret t.state.words } }) (sym reached)
     ∙ sym c.tell.ensures)
