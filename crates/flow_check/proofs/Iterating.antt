@@ -1,5 +1,6 @@
 -- An iteration needs only the steps of the program points whose state changed in the iteration before.
-use Rattle.std.proofs.Common.{◌≡◌, ◌⊎◌, inl, inr, ℕ, suc, ◌<◌, List, [], ◌∷◌, ◌++◌, length, refl, sym, ap, ◌∙◌, subst, arith, Bool, true, false, cond, ◌==◌, ◌&&◌}
+use Rattle.std.proofs.Common.{◌≡◌, ◌⊎◌, inl, inr, ℕ, suc, ◌<◌, List, [], ◌∷◌, ◌++◌, length, refl, sym, ap, ◌∙◌, subst, arith, Bool, true, false, cond, nat_eq, ◌==◌, ◌&&◌}
+use Rattle.std.specs.Cmp.Lexicographic.{pointwise}
 use Rattle.std.proofs.lemmas.Bool.Decides.{nat_tests}
 use Rattle.std.proofs.lemmas.Bool.{both_ways}
 use Rattle.flow_rule.specs.declared.Val.{Val}
@@ -7,7 +8,7 @@ use Rattle.flow_rule.specs.declared.Val.TheVariants.{Known, Away, Public, Secret
 use Rattle.flow_rule.specs.declared.Label.{Label}
 use Rattle.flow_rule.specs.Values.{join, join_each}
 use Rattle.flow_rule.specs.Absorbs.{Absorbs}
-use Rattle.flow_rule.specs.Rounds.{same_list, Pair, Point, Step, same_pair, join_label, join_in, join_all, given_by, given, round, rounds, IsLabelling}
+use Rattle.flow_rule.specs.Rounds.{Pair, Point, Step, same_pair, join_label, join_in, join_all, given_by, given, round, rounds, IsLabelling}
 use Rattle.flow_check.specs.declared.labelling.Node.{Node}
 use Rattle.flow_check.specs.internal.Points.{point_at, points_of}
 use Rattle.flow_check.proofs.Joins.{join_own}
@@ -70,12 +71,12 @@ each_self (v ∷ vs) = ap (λ i. i ∷ join_each vs vs) (join_own v) ∙ ap (λ 
 pub absorbs_own : (l : Label) → Absorbs l l
 absorbs_own l = record { core = each_self l.core; words = each_self l.words }
 
-same_lists : (xs : List ℕ) → same_list xs xs ≡ true
+same_lists : (xs : List ℕ) → pointwise nat_eq xs xs ≡ true
 same_lists [] = refl
-same_lists (x ∷ xs) = ap (λ b. b && same_list xs xs) (same_num x) ∙ same_lists xs
+same_lists (x ∷ xs) = ap (λ b. b && pointwise nat_eq xs xs) (same_num x) ∙ same_lists xs
 
 pub pair_self : (p : Pair) → same_pair p p ≡ true
-pair_self p = ap (λ b. b && same_list p.returns p.returns) (same_num p.addr) ∙ same_lists p.returns
+pair_self p = ap (λ b. b && pointwise nat_eq p.returns p.returns) (same_num p.addr) ∙ same_lists p.returns
 
 -- ---- states and lists of points
 absorbs_joined : (a l : Label) → Absorbs (join_label a l) l

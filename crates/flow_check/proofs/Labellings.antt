@@ -1,27 +1,28 @@
 -- Joining a point to distinct ones: its own state rises, or it comes last.
-use Rattle.std.proofs.Common.{◌≡◌, ℕ, zero, suc, ◌<◌, List, [], ◌∷◌, ◌++◌, length, All, set, refl, sym, ap, ◌∙◌, subst, arith, Bool, true, false, cond, ◌==◌, Option, Some}
+use Rattle.std.proofs.Common.{◌≡◌, ℕ, zero, suc, ◌<◌, List, [], ◌∷◌, ◌++◌, length, All, set, refl, sym, ap, ◌∙◌, subst, arith, Bool, true, false, cond, nat_eq, ◌==◌, Option, Some}
+use Rattle.std.specs.Cmp.Lexicographic.{pointwise}
 use Rattle.std.specs.List.{slice_get}
 use Rattle.std.proofs.lemmas.Bool.{and_parts, eqb-true, both_ways}
 use Rattle.std.proofs.lemmas.List.Elements.{All-nil, All-cons}
 use Rattle.std.proofs.lemmas.List.Kept.{AllPairs-cons}
 use Rattle.std.proofs.lemmas.Option.{same_Some}
-use Rattle.flow_rule.specs.Rounds.{Pair, Point, same_list, same_pair, join_in}
+use Rattle.flow_rule.specs.Rounds.{Pair, Point, same_pair, join_in}
 use Rattle.flow_check.specs.declared.point.Point.{Point as CodePoint}
 use Rattle.flow_check.specs.declared.labelling.Node.{Node}
 use Rattle.flow_check.proofs.Iterating.{pair_self}
 use Rattle.flow_check.specs.internal.Points.{pair_of, point_at, points_of}
 use Rattle.flow_check.specs.internal.Labellings.{same_found, same_at, Other, Distinct, joined}
 
-list_is : (xs ys : List ℕ) → same_list xs ys ≡ true → xs ≡ ys
+list_is : (xs ys : List ℕ) → pointwise nat_eq xs ys ≡ true → xs ≡ ys
 list_is [] [] e = refl
-list_is (x ∷ xs) (y ∷ ys) e = let h = and_parts (x == y) (same_list xs ys) e in ap (λ i. i ∷ xs) (eqb-true x y h.0) ∙ ap (λ l. y ∷ l) (list_is xs ys h.1)
+list_is (x ∷ xs) (y ∷ ys) e = let h = and_parts (x == y) (pointwise nat_eq xs ys) e in ap (λ i. i ∷ xs) (eqb-true x y h.0) ∙ ap (λ l. y ∷ l) (list_is xs ys h.1)
 list_is _ _ e = absurd cc
 
 abbrev make : ℕ → List ℕ → Pair
 make a r = record { addr = a; returns = r }
 
 pair_is : (p q : Pair) → same_pair p q ≡ true → p ≡ q
-pair_is p q e = let h = and_parts (p.addr == q.addr) (same_list p.returns q.returns) e in ap (λ a. make a p.returns) (eqb-true p.addr q.addr h.0) ∙ ap (make q.addr) (list_is p.returns q.returns h.1)
+pair_is p q e = let h = and_parts (p.addr == q.addr) (pointwise nat_eq p.returns q.returns) e in ap (λ a. make a p.returns) (eqb-true p.addr q.addr h.0) ∙ ap (make q.addr) (list_is p.returns q.returns h.1)
 
 other_way : (p q : Pair) → same_pair p q ≡ false → same_pair q p ≡ false
 other_way p q e = by (same_pair q p) refl

@@ -1,9 +1,9 @@
 //! Lists of at most eight return addresses.
 
-ghost use Rattle.std.specs.Prelude.{◌≡◌, ◌≤◌, ◌<◌, ◌++◌, ◌∷◌, [], length, true, nat_lt, not};
+ghost use Rattle.std.specs.Prelude.{◌≡◌, ◌≤◌, ◌<◌, ◌++◌, ◌∷◌, [], length, true, nat_eq, nat_lt, not};
+ghost use Rattle.std.specs.Cmp.Lexicographic.{pointwise};
 ghost use Rattle.sm_words.specs.Words.{nth};
 ghost use Rattle.flow_rule.specs.Returns.{last_is, but_last};
-ghost use Rattle.flow_rule.specs.Rounds.{same_list};
 ghost use Rattle.flow_check.specs.internal.Carries.{is_known};
 ghost use Rattle.flow_check.specs.internal.Points.{list_of};
 
@@ -80,7 +80,7 @@ impl CallString {
 
     /// Whether two lists are the same.
     pub fn same(&self, other: &CallString) -> bool
-        ensures { result ≡ same_list (list_of self.now) (list_of other.now) }
+        ensures { result ≡ pointwise nat_eq (list_of self.now) (list_of other.now) }
     {
         self.addrs[..self.len()] == other.addrs[..other.len()]
     }
