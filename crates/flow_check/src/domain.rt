@@ -1,9 +1,9 @@
 //! The abstract domain: what is known of a word in both runs, of the registers and of the data, with its join.
 
 ghost use Rattle.std.specs.Prelude.{◌≡◌, length, ◌≤◌, ◌<◌, ◌+◌, ◌*◌, ◌++◌, suc, take, drop, true, false};
-ghost use Rattle.std.specs.Prelude.{Some, None, ◌%◌};
+ghost use Rattle.std.specs.Prelude.{Some, None, ◌%◌, ◌∷◌, []};
 ghost use Rattle.sm_words.specs.Words.{add16, bit};
-ghost use Rattle.flow_rule.specs.Values.{is_secret, join, over_one, blurred, blurred_all, narrow, val};
+ghost use Rattle.flow_rule.specs.Values.{is_secret, join, over_one, blurred, narrow, val};
 ghost use Rattle.flow_rule.specs.Values.{kept_val, put_val, join_each};
 ghost use Rattle.flow_rule.specs.Does.{half};
 ghost use Rattle.flow_check.specs.internal.Carries.{IsCarry};
@@ -38,9 +38,20 @@ pub fn join(a: Val, b: Val) -> Val
 
 /// Secret or Public.
 pub fn blurred(value: Val) -> Val
-    ensures { result ≡ blurred value }
+    ensures { result ≡ blurred (value ∷ []) }
 {
-    if value == Val::Secret {
+    if is_secret(value) {
+        Val::Secret
+    } else {
+        Val::Public
+    }
+}
+
+/// What is told by two values that are not both Known: Secret where one is, else Public.
+pub fn blurred_both(a: Val, b: Val) -> Val
+    ensures { result ≡ blurred (a ∷ b ∷ []) }
+{
+    if is_secret(a) || is_secret(b) {
         Val::Secret
     } else {
         Val::Public
@@ -49,9 +60,9 @@ pub fn blurred(value: Val) -> Val
 
 /// What is told by three values that are not all Known: Secret where one is, else Public.
 pub fn blurred_all(a: Val, b: Val, c: Val) -> Val
-    ensures { result ≡ blurred_all a b c }
+    ensures { result ≡ blurred (a ∷ b ∷ c ∷ []) }
 {
-    if a == Val::Secret || b == Val::Secret || c == Val::Secret {
+    if is_secret(a) || is_secret(b) || is_secret(c) {
         Val::Secret
     } else {
         Val::Public

@@ -4,7 +4,7 @@ ghost use Rattle.std.specs.Prelude.{◌≡◌, ◌<◌, ◌&&◌, slice_set};
 ghost use Rattle.sm_words.specs.Words.{nth};
 ghost use Rattle.flow_rule.specs.Does.{may_reach, word_no, read_at, read_val, write_at, write_val};
 
-use crate::domain::{blurred_all, half, narrow};
+use crate::domain::{blurred_both, half, narrow};
 use arm_balance::{byte, word};
 use flow_rule::{Reach, Val};
 use mod_layout::Module;
@@ -93,7 +93,7 @@ fn write_at(module: &Module, words: &mut [Val; 256], width: Width, addr: u16, va
         Width::Word => put_word(words, n, narrow(Width::Word, value)),
         Width::Byte => {
             let old = known(words, n);
-            put_word(words, n, blurred_all(old, value, Val::Public));
+            put_word(words, n, blurred_both(old, value));
         }
     }
 }

@@ -13,7 +13,7 @@ ghost use Rattle.flow_rule.specs.Does.{cleared_if, carry_val, one_done_val, does
 ghost use Rattle.flow_check.specs.internal.Carries.{IsCarry};
 
 use crate::accesses::{increment, lower, reads_destination, step_past, writes_destination};
-use crate::domain::{Core, blurred_all, carry, get, narrow, put};
+use crate::domain::{Core, blurred_all, blurred_both, carry, get, narrow, put};
 use arm_balance::target;
 use arrayvec::ArrayVec;
 use cpu_step::{one_result, two_result};
@@ -78,8 +78,7 @@ fn value_of_two(op: TwoOp, width: Width, s: Val, d: Val, c: Val) -> Val
         (Val::Known(x), Val::Known(y), Val::Known(z)) => {
             Val::Known(two_result(op, width, x, y, z == 1).value())
         }
-        (Val::Secret, _, _) | (_, Val::Secret, _) | (_, _, Val::Secret) => Val::Secret,
-        _ => Val::Public,
+        _ => blurred_all(s, d, c),
     }
 }
 
@@ -90,8 +89,7 @@ fn value_of_one(op: OneOp, width: Width, a: Val, c: Val) -> Val
 {
     match (a, c) {
         (Val::Known(x), Val::Known(z)) => Val::Known(one_result(op, width, x, z == 1).value()),
-        (Val::Secret, _) | (_, Val::Secret) => Val::Secret,
-        _ => Val::Public,
+        _ => blurred_all(a, c, Val::Known(0)),
     }
 }
 
@@ -148,7 +146,7 @@ fn single(op: OneOp, width: Width, a: Val, c: Val) -> Told
     let c = read_if(one_reads_carry(op), c);
     Told {
         value: value_of_one(op, width, a, c),
-        flags: flags_if(one_sets_flags(op), blurred_all(a, c, Val::Known(0))),
+        flags: flags_if(one_sets_flags(op), blurred_both(a, c)),
     }
 }
 

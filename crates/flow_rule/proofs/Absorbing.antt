@@ -1,5 +1,5 @@
 -- Values that absorb others: operations keep it, and what is known of them is known of the others.
-use Rattle.std.proofs.Common.{◌≡◌, ℕ, zero, suc, ◌*◌, ◌%◌, List, [], ◌∷◌, drop, set, refl, sym, ap, ◌∙◌, subst, arith, Bool, true, false, cond, ◌==◌, Option, Some, None}
+use Rattle.std.proofs.Common.{◌≡◌, ℕ, zero, suc, ◌*◌, ◌%◌, List, [], ◌∷◌, drop, set, refl, sym, ap, ◌∙◌, subst, arith, Bool, true, false, cond, ◌==◌, ◌||◌, Option, Some, None}
 use Rattle.std.proofs.lemmas.Bool.Decides.{nat_tests}
 use Rattle.sm_words.specs.Words.{nth, kept, add16}
 use Rattle.insn_decode.specs.Code.{length_of}
@@ -9,7 +9,7 @@ use Rattle.sm_words.specs.declared.width.Width.TheVariants.{Byte, Word}
 use Rattle.insn_decode.specs.declared.insn.Insn.{Insn}
 use Rattle.flow_rule.specs.declared.Val.{Val}
 use Rattle.flow_rule.specs.declared.Val.TheVariants.{Known, Away, Public, Secret}
-use Rattle.flow_rule.specs.Values.{is_secret, join, join_each, over, over_one, over_two, blurred, blurred_all, on_known, narrow, val, kept_val, put_val}
+use Rattle.flow_rule.specs.Values.{is_secret, join, join_each, over, over_one, over_two, blurred, on_known, narrow, val, kept_val, put_val}
 use Rattle.flow_rule.specs.Does.{past_val}
 
 -- joining the second to the first changes nothing
@@ -86,16 +86,26 @@ pub over_two_keeps : (f : ℕ → ℕ → ℕ) (t u t' u' : Val) → AbsorbsVal 
     AbsorbsVal (over_two f t u) (over_two f t' u')
 over_two_keeps f t u t' u' p q = over_keeps (λ x y z. f x y) t u (Known 0) t' u' (Known 0) p q refl
 
-blurred_keeps : (t v : Val) → AbsorbsVal t v → AbsorbsVal (blurred t) (blurred v)
+blurred_keeps : (t v : Val) → AbsorbsVal t v → AbsorbsVal (blurred (t ∷ [])) (blurred (v ∷ []))
 blurred_keeps Secret v p = tt
 blurred_keeps (Known a) Secret p = absurd p
 blurred_keeps Away Secret p = absurd p
 blurred_keeps Public Secret p = absurd p
 blurred_keeps t v p = tt
 
+all_public : (u v w : Val) → is_secret u ≡ false → is_secret v ≡ false → is_secret w ≡ false → AbsorbsVal Public (blurred (u ∷ v ∷ w ∷ []))
+all_public u v w p q r = by (is_secret u) (is_secret v) (is_secret w) p q r
+  where
+    by : (a b c : Bool) → a ≡ false → b ≡ false → c ≡ false → AbsorbsVal Public (cond (a || (b || (c || false))) Secret Public)
+    by false false false p q r = tt
+    by _ _ _ p q r = absurd cc
+
 pub blurred_all_keeps : (t u s t' u' s' : Val) → AbsorbsVal t t' → AbsorbsVal u u' → AbsorbsVal s s' →
-    AbsorbsVal (blurred_all t u s) (blurred_all t' u' s')
-blurred_all_keeps t u s t' u' s' p q r = blurred_keeps _ _ (over_keeps (λ x y z. 0) t u s t' u' s' p q r)
+    AbsorbsVal (blurred (t ∷ u ∷ s ∷ [])) (blurred (t' ∷ u' ∷ s' ∷ []))
+blurred_all_keeps Secret u s t' u' s' p q r = tt
+blurred_all_keeps t Secret s t' u' s' p q r = tt
+blurred_all_keeps t u Secret t' u' s' p q r = tt
+blurred_all_keeps t u s t' u' s' p q r = all_public t' u' s' (not_secret t t' refl p) (not_secret u u' refl q) (not_secret s s' refl r)
 
 on_known_keeps : (f : ℕ → ℕ) (t v : Val) → AbsorbsVal t v → AbsorbsVal (on_known f t) (on_known f v)
 on_known_keeps f (Known a) (Known b) p = ap f p
@@ -112,8 +122,8 @@ narrow_keeps Byte t v p = over_one_keeps (low Byte) t v p
 kept_keeps : (n : ℕ) (t v : Val) → AbsorbsVal t v → AbsorbsVal (kept_val n t) (kept_val n v)
 kept_keeps n t v p = by (n == 2) (n == 3)
   where
-    by : (c d : Bool) → AbsorbsVal (cond c (blurred t) (cond d (Known 0) (on_known (kept n) t)))
-        (cond c (blurred v) (cond d (Known 0) (on_known (kept n) v)))
+    by : (c d : Bool) → AbsorbsVal (cond c (blurred (t ∷ [])) (cond d (Known 0) (on_known (kept n) t)))
+        (cond c (blurred (v ∷ [])) (cond d (Known 0) (on_known (kept n) v)))
     by true d = blurred_keeps t v p
     by false true = refl
     by false false = on_known_keeps (kept n) t v p

@@ -257,7 +257,7 @@ clears_too (Known x) (Known y) p e = ap (λ i. clears (Known i)) p ∙ e
 clears_too (Known x) _ p e = absurd p
 clears_too _ b p e = absurd cc
 
-blurred_public : (t : Val) → AbsorbsVal (blurred t) Public
+blurred_public : (t : Val) → AbsorbsVal (blurred (t ∷ [])) Public
 blurred_public (Known a) = tt
 blurred_public _ = tt
 
@@ -284,8 +284,8 @@ cleared_keeps Bic Word (Reg r) a b x y ts vs q t p h =
     by true true true f k = put_keeps _ _ 2 Public Public k tt
     by true true false f k = let g : false ≡ true = f refl in absurd cc
     by true false true f k = subst (λ i. AbsorbsEach (put_val ts 2 x.value) i)
-        (sym (set-set vs 2 (blurred y.value) Public))
-        (set_keeps ts vs 2 (blurred x.value) Public p (blurred_public x.value))
+        (sym (set-set vs 2 (blurred (y.value ∷ [])) Public))
+        (set_keeps ts vs 2 (blurred (x.value ∷ [])) Public p (blurred_public x.value))
     by true false false f k = k
     by false c e f k = k
 cleared_keeps op w d a b x y ts vs q t p h = written_keeps (writes_dst op) d x y ts vs t p h

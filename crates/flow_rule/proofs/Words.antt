@@ -17,7 +17,7 @@ use Rattle.attest.specs.Accesses.{is_read, is_write, reads_of, writes_of}
 use Rattle.cpu_step.specs.Lone.{value_at, Job, lone_byte, lone_read, lone_write, lone_writes, job_of}
 use Rattle.flow_rule.specs.declared.Val.{Val}
 use Rattle.flow_rule.specs.declared.Val.TheVariants.{Known, Public, Secret}
-use Rattle.flow_rule.specs.Values.{over_one, blurred_all, narrow}
+use Rattle.flow_rule.specs.Values.{over_one, blurred, narrow}
 use Rattle.flow_rule.specs.declared.Reach.{Reach}
 use Rattle.flow_rule.specs.Does.{may_reach, word_no, half, read_at, read_val, write_at, write_val, writes_val, read_reaches, write_reaches}
 use Rattle.flow_rule.specs.Arms.{written_words}
@@ -302,7 +302,7 @@ module _ (m : Module) (shape : Shape m) where
       let t0 = t.0 in let t1 = t.1 in
       let n = x - m.ram.start in
       let fits : n < size_of m.ram = omega arith in
-      set_word v a b (set a n (p % 256)) (set b n (q % 256)) (n / 2) (blurred_all (nth (n / 2) v Secret) w Public) h
+      set_word v a b (set a n (p % 256)) (set b n (q % 256)) (n / 2) (blurred (nth (n / 2) v Secret ∷ w ∷ [])) h
       (set_bytes a n (p % 256) (omega arith) h.is_a) (set_bytes b n (q % 256) (omega arith) h.is_b)
       (byte_new n p q _ _ _ (word a (n / 2)) (word b (n / 2)) (blurred_same m.text (nth (n / 2) v Secret) w Public (word a (n / 2)) p 0 (word b (n / 2)) q 0 (h.at (n / 2)) g refl)
       (put_byte_same a n (p % 256) h.is_a (subst (λ l. n < l) (sym h.is_a.long) fits)) (put_byte_same b n (q % 256) h.is_b (subst (λ l. n < l) (sym h.is_b.long) fits)))

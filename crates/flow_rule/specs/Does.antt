@@ -26,7 +26,7 @@ use Rattle.arm_balance.specs.Met.{text_byte}
 use Rattle.pc_access.specs.Rights.{misaligned}
 use Rattle.flow_rule.specs.declared.Val.{Val}
 use Rattle.flow_rule.specs.declared.Val.TheVariants.{Known, Public, Secret}
-use Rattle.flow_rule.specs.Values.{over, over_one, over_two, blurred_all, narrow, val, put_val}
+use Rattle.flow_rule.specs.Values.{over, over_one, over_two, blurred, narrow, val, put_val}
 
 -- ---- accesses
 
@@ -98,7 +98,7 @@ read_val m text words x = elim x.addr [ Known a ↦ read_at m text words x.width
 
 abbrev pub write_at : Module → List Val → Width → ℕ → Val → List Val
 write_at m words Word a v = slice_set words (word_no m a) (narrow Word v)
-write_at m words Byte a v = slice_set words (word_no m a) (blurred_all (nth (word_no m a) words Secret) v Public)
+write_at m words Byte a v = slice_set words (word_no m a) (blurred (nth (word_no m a) words Secret ∷ v ∷ []))
 
 abbrev pub write_val : Module → List Val → Reach → Val → List Val
 write_val m words x v = elim x.addr [ Known a ↦ write_at m words x.width a v | _ ↦ words ]
@@ -143,7 +143,7 @@ flags_if true v = Some v
 flags_if false v = None
 
 abbrev pub worked : TwoOp → Width → Val → Val → Val → Told
-worked op w s d c = record { value = over (λ x y z. value_of (two_result op w x y z)) s d c; flags = flags_if (sets_flags op) (blurred_all s d c) }
+worked op w s d c = record { value = over (λ x y z. value_of (two_result op w x y z)) s d c; flags = flags_if (sets_flags op) (blurred (s ∷ d ∷ c ∷ [])) }
 
 -- a word MOV copies
 abbrev pub two_val : TwoOp → Width → Val → Val → Val → Told
@@ -163,7 +163,7 @@ one_sets_flags _ = false
 abbrev pub one_val : OneOp → Width → Val → Val → Told
 one_val op w a c =
     let c1 = read_if (one_reads_carry op) c in
-    record { value = over_two (λ x y. value_of (one_result op w x y)) a c1; flags = flags_if (one_sets_flags op) (blurred_all a c1 (Known 0)) }
+    record { value = over_two (λ x y. value_of (one_result op w x y)) a c1; flags = flags_if (one_sets_flags op) (blurred (a ∷ c1 ∷ [])) }
 
 abbrev pub set_flags_by : Option Val → List Val → List Val
 set_flags_by None core = core
