@@ -11,7 +11,7 @@ use Rattle.cycle_table.specs.Cycles.{cycles_of}
 use Rattle.mod_layout.specs.declared.Section.{Section}
 use Rattle.mod_layout.specs.Table.{holds}
 use Rattle.arm_balance.specs.Met.{met}
-use Rattle.arm_balance.specs.Balance.{not_pc, next_if, ends_by, arm_next, arm_on, met_cycles, with_rest, time_on, time_from, time_of}
+use Rattle.arm_balance.specs.Balance.{not_pc, ends_by, arm_next, arm_on, met_cycles, with_rest, time_on, time_from, time_of}
 
 -- ---- where an arm goes on
 
@@ -40,7 +40,7 @@ on_stop s text pc join insn m n = by (holds s pc && nat_lt pc join)
 
 -- ---- it goes up
 
-next_up : (b : Bool) (pc a join next : ℕ) → (b ≡ true → (pc < a) × (a ≤ join)) → next_if b a ≡ Some next → (pc < next) × (next ≤ join)
+next_up : (b : Bool) (pc a join next : ℕ) → (b ≡ true → (pc < a) × (a ≤ join)) → cond b (Some a) None ≡ Some next → (pc < next) × (next ≤ join)
 next_up true pc a join next f e = let g : a ≡ next = cc in let h = f refl in subst (λ n. (pc < n) × (n ≤ join)) g h
 next_up false pc a join next f e = absurd (let g : ⊥ = cc in g)
 

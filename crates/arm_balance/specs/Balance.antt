@@ -1,5 +1,5 @@
 -- The arms of a branch: which instructions may stand there, and how long they take.
-use Rattle.std.specs.Prelude.{ℕ, zero, suc, ◌+◌, ◌*◌, ◌==◌, nat_lt, nat_le, if◌then◌else◌, Bool, true, false, ◌&&◌, not, List, Option, Some, None, Result, Ok, Err}
+use Rattle.std.specs.Prelude.{ℕ, zero, suc, ◌+◌, ◌*◌, ◌==◌, nat_lt, nat_le, if◌then◌else◌, Bool, true, ◌&&◌, not, List, Option, Some, None, Result, Ok, Err}
 use Rattle.sm_words.specs.Words.{add16}
 use Rattle.insn_decode.specs.Code.{length_of, distance}
 use Rattle.insn_decode.specs.declared.insn.Insn.{Insn}
@@ -16,13 +16,9 @@ abbrev pub not_pc : Operand → Bool
 not_pc (Reg r) = not (r == 0)
 not_pc _ = true
 
-abbrev pub next_if : Bool → ℕ → Option ℕ
-next_if true a = Some a
-next_if false a = None
-
 -- the end of an instruction at pc, where PC is not written and it ends at most at the join
 abbrev pub ends_by : Operand → Insn → ℕ → ℕ → Option ℕ
-ends_by o insn join pc = next_if (not_pc o && nat_le (pc + 2 * length_of insn) join) (pc + 2 * length_of insn)
+ends_by o insn join pc = let to = pc + 2 * length_of insn in if not_pc o && nat_le to join then Some to else None
 
 -- where an instruction of an arm goes on; none where it may not stand there: no call, no return from an interrupt, no
 -- unit instruction and no conditional jump, no write to PC, and nothing back or past the join
@@ -32,7 +28,7 @@ arm_next join pc (Some (Two op w s d)) = ends_by d (Two op w s d) join pc
 arm_next join pc (Some (One Call w a)) = None
 arm_next join pc (Some (One op w a)) = ends_by a (One op w a) join pc
 arm_next join pc (Some (Jump cond_no off)) =
-    let to = add16 (add16 pc 2) (distance off) in next_if ((cond_no == 7) && nat_lt pc to && nat_le to join) to
+    let to = add16 (add16 pc 2) (distance off) in if (cond_no == 7) && nat_lt pc to && nat_le to join then Some to else None
 arm_next join pc (Some insn) = None
 
 -- where the arm goes on from an address of the text below the join

@@ -1,11 +1,11 @@
 //! An arm: the instructions that are met from its start, up to the join.
 
-ghost use Rattle.std.specs.Prelude.{◌≡◌, ◌<◌, ◌≤◌, ◌+◌, ◌*◌, ◌&&◌, nat_le, not, Some, None, IfSome, IfNone, IsFalse};
+ghost use Rattle.std.specs.Prelude.{◌≡◌, ◌<◌, ◌≤◌, ◌+◌, ◌*◌, ◌&&◌, nat_le, if◌then◌else◌, not, Some, None, IfSome, IfNone, IsFalse};
 ghost use Rattle.std.specs.Prelude.{MatchResult, Ok, Err};
 ghost use Rattle.sm_words.specs.Words.{add16};
 ghost use Rattle.insn_decode.specs.Code.{IsDecoded, is_unit, distance};
 ghost use Rattle.arm_balance.specs.Met.{met};
-ghost use Rattle.arm_balance.specs.Balance.{not_pc, next_if, arm_next, arm_on, met_cycles, time_of};
+ghost use Rattle.arm_balance.specs.Balance.{not_pc, arm_next, arm_on, met_cycles, time_of};
 
 use crate::text::met;
 use cycle_table::cycles;
@@ -41,7 +41,7 @@ fn is_pc(operand: Operand) -> bool
 
 /// The address past an instruction, where it ends at most at `join`.
 fn up_to(pc: u16, length: u16, join: u16) -> Option<u16>
-    ensures { result ≡ next_if (nat_le (pc + 2 * length) join) (pc + 2 * length) }
+    ensures { result ≡ (if nat_le (pc + 2 * length) join then Some (pc + 2 * length) else None) }
 {
     let next = usize::from(pc) + 2 * usize::from(length);
     if next <= usize::from(join) {

@@ -39,7 +39,7 @@ use Rattle.flow_rule.proofs.Plans.{none_left, none_right, none_if}
 use Rattle.arm_balance.specs.declared.Arm.{Arm}
 use Rattle.flow_rule.specs.Arms.{stepped_regs, written_reg, written_regs, blot_core, Walk, ended, met_regs, met_words, walked, walk_past, walk_on, walk, arm_start, step_arm, step_branch, step_arms_by, step_arms}
 use Rattle.arm_balance.specs.Met.{met}
-use Rattle.arm_balance.specs.Balance.{next_if, arm_next, met_cycles}
+use Rattle.arm_balance.specs.Balance.{arm_next, met_cycles}
 use Rattle.flow_rule.proofs.Words.{NotIn, word, Shape, IsData, AgreeData}
 use Rattle.flow_rule.proofs.Runs.{at_rest, Passes, Stays, Crossing, Standing}
 use Rattle.flow_rule.proofs.Instruction.{AgreeAt, Single, Here, Gone, after, does_it, jump_so, past_pc, Parts, plain_parts, plain_kept, two_alike, one_alike, way_agrees, way_single, way_val, fetched}
@@ -212,7 +212,7 @@ module _ (terms : Terms) (key : List ℕ) (m : Module) (text : List ℕ) (caller
       let insn = One op w a in
       conf_long c (does_freely insn c vs).core ∙ written_long true a _ (stepped w a (past insn c)) ∙ stepped_long w a (past insn c) ∙ length-set c 0 _ ∙ long
 
-  is_seven : (a b c : Bool) (to next : ℕ) → next_if (a && b && c) to ≡ Some next → a ≡ true
+  is_seven : (a b c : Bool) (to next : ℕ) → cond (a && b && c) (Some to) None ≡ Some next → a ≡ true
   is_seven true b c to next e = refl
   is_seven false b c to next e = absurd cc
 

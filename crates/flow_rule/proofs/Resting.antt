@@ -18,7 +18,7 @@ use Rattle.mod_layout.specs.Table.{holds}
 use Rattle.cpu_step.specs.Fetched.{insn_at, later_word, word_in, insn_from}
 use Rattle.arm_balance.specs.declared.Arm.{Arm}
 use Rattle.arm_balance.specs.Met.{text_byte, met}
-use Rattle.arm_balance.specs.Balance.{met_cycles, next_if, arm_next, arm_on}
+use Rattle.arm_balance.specs.Balance.{met_cycles, arm_next, arm_on}
 use Rattle.flow_rule.specs.Terms.{Terms}
 use Rattle.flow_rule.specs.declared.Val.{Val}
 use Rattle.flow_rule.specs.declared.Val.TheVariants.{Known, Secret}
@@ -104,11 +104,11 @@ module _ (terms : Terms) (m : Module) (pc : ℕ) where
 abbrev quiet : List ℕ → Turn
 quiet returns = record { reasons = []; returns = returns; stops = false }
 
-if_first : (a b : Bool) (to next : ℕ) → next_if (a && b) to ≡ Some next → a ≡ true
+if_first : (a b : Bool) (to next : ℕ) → cond (a && b) (Some to) None ≡ Some next → a ≡ true
 if_first true b to next e = refl
 if_first false b to next e = absurd cc
 
-if_seven : (a b c : Bool) (to next : ℕ) → next_if (a && b && c) to ≡ Some next → a ≡ true
+if_seven : (a b c : Bool) (to next : ℕ) → cond (a && b && c) (Some to) None ≡ Some next → a ≡ true
 if_seven true b c to next e = refl
 if_seven false b c to next e = absurd cc
 
