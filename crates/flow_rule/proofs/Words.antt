@@ -162,7 +162,7 @@ module _ (key : List ℕ) (m : Module) (text : List ℕ) (caller : ℕ) (shape :
 
   reads_by : (v : List Val) (a b : List ℕ) (k l : Kind) (r : Reach) (x : Access) (rs : List Reach) (xs : List Access) → AgreeData m v a b → l ≡ k → r.addr ≡ Known x.addr → x.width ≡ r.width → may_reach m k r.width x.addr ≡ true →
       AgreeList m.text (map (read_val m text v) rs) (map (lone_read j a) xs) (map (lone_read j b) xs) →
-      AgreeList m.text (map (read_val m text v) (elim k [ Read ↦ r ∷ rs | _ ↦ rs ])) (map (lone_read j a) (cond (is_read l) (x ∷ xs) xs)) (map (lone_read j b) (cond (is_read l) (x ∷ xs) xs))
+      AgreeList m.text (map (read_val m text v) (cond (is_read k) (r ∷ rs) rs)) (map (lone_read j a) (cond (is_read l) (x ∷ xs) xs)) (map (lone_read j b) (cond (is_read l) (x ∷ xs) xs))
   reads_by v a b Read Read r x rs xs h kl ea ew e t = (read_one v a b r x h ea ew e, t)
   reads_by v a b Write Write r x rs xs h kl ea ew e t = t
   reads_by v a b Fetch Fetch r x rs xs h kl ea ew e t = t
@@ -327,7 +327,7 @@ module _ (m : Module) (shape : Shape m) where
   writes_agree v a b (r ∷ rs) (x ∷ xs) us ps qs h f g = by r.kind x.kind (λ v a b us ps qs h g. writes_agree v a b rs xs us ps qs h f.4 g) us ps qs f.1 f.3 g
     where
       by : (k l : Kind) (go : (v : List Val) (a b : List ℕ) (us : List Val) (ps qs : List ℕ) → AgreeData m v a b → AgreeList m.text us ps qs → AgreeData m (writes_val m v (write_reaches rs) us) (lone_writes m a (writes_of xs) ps) (lone_writes m b (writes_of xs) qs)) (us : List Val) (ps qs : List ℕ) → l ≡ k → may_reach m k r.width x.addr ≡ true → AgreeList m.text us ps qs →
-          AgreeData m (writes_val m v (elim k [ Write ↦ r ∷ write_reaches rs | _ ↦ write_reaches rs ]) us) (lone_writes m a (cond (is_write l) (x ∷ writes_of xs) (writes_of xs)) ps) (lone_writes m b (cond (is_write l) (x ∷ writes_of xs) (writes_of xs)) qs)
+          AgreeData m (writes_val m v (cond (is_write k) (r ∷ write_reaches rs) (write_reaches rs)) us) (lone_writes m a (cond (is_write l) (x ∷ writes_of xs) (writes_of xs)) ps) (lone_writes m b (cond (is_write l) (x ∷ writes_of xs) (writes_of xs)) qs)
       by Write Write go [] [] [] e k g = h
       by Write Write go (u ∷ us) (p ∷ ps) (q ∷ qs) e k g = go (write_val m v r u) (lone_write m x.width a x.addr p) (lone_write m x.width b x.addr q) us ps qs (write_one v a b r x u p q h f.0 f.2 k g.0) g.1
       by Write Write go _ _ _ e k g = absurd g
@@ -359,7 +359,7 @@ module _ (m : Module) (shape : Shape m) where
       split (Known a) e h = let g : a ≡ x.addr = cc in (λ z. h.0 (z ∙ ap (word_no m) (sym g)), h.1)
       split _ e h = absurd cc
 
-      by : (k l : Kind) (vs : List ℕ) → l ≡ k → may_reach m k r.width x.addr ≡ true → NotIn i (written_words m (elim k [ Write ↦ r ∷ write_reaches rs | _ ↦ write_reaches rs ])) →
+      by : (k l : Kind) (vs : List ℕ) → l ≡ k → may_reach m k r.width x.addr ≡ true → NotIn i (written_words m (cond (is_write k) (r ∷ write_reaches rs) (write_reaches rs))) →
           ((d : List ℕ) (vs : List ℕ) → NotIn i (written_words m (write_reaches rs)) → word (lone_writes m d (writes_of xs) vs) i ≡ word d i) →
           word (lone_writes m d (cond (is_write l) (x ∷ writes_of xs) (writes_of xs)) vs) i ≡ word d i
       by Write Write [] e k h go = refl

@@ -1,7 +1,7 @@
 -- What an instruction reaches and does, over values.
 use Rattle.flow_rule.specs.declared.Reach.{Reach}
 use Rattle.flow_rule.specs.declared.Told.{Told}
-use Rattle.std.specs.Prelude.{ℕ, ◌-◌, ◌*◌, ◌/◌, ◌%◌, List, [], ◌∷◌, ◌++◌, drop, slice_set, ◌==◌, if◌then◌else◌, Bool, true, false, ◌&&◌, ◌||◌, not, Option, Some, None}
+use Rattle.std.specs.Prelude.{ℕ, ◌-◌, ◌*◌, ◌/◌, ◌%◌, List, [], ◌∷◌, ◌++◌, drop, filter, slice_set, ◌==◌, if◌then◌else◌, Bool, true, false, ◌&&◌, ◌||◌, not, Option, Some, None}
 use Rattle.sm_words.specs.Words.{nth, add16, bit, word_at}
 use Rattle.insn_decode.specs.Code.{words_of, length_of, distance}
 use Rattle.sm_words.specs.Status.{has_all_flags}
@@ -20,6 +20,7 @@ use Rattle.insn_decode.specs.declared.insn.Insn.{Insn}
 use Rattle.insn_decode.specs.declared.insn.Insn.TheVariants.{Two, One, Jump}
 use Rattle.pc_access.specs.declared.Kind.{Kind}
 use Rattle.pc_access.specs.declared.Kind.TheVariants.{Fetch, Read, Write}
+use Rattle.pc_access.specs.Accesses.{is_read, is_write}
 use Rattle.mod_layout.specs.declared.Module.{Module}
 use Rattle.mod_layout.specs.Table.{holds}
 use Rattle.arm_balance.specs.Met.{text_byte}
@@ -109,12 +110,10 @@ writes_val m words (x ∷ xs) [] = words
 writes_val m words (x ∷ xs) (v ∷ values) = writes_val m (write_val m words x v) xs values
 
 abbrev pub read_reaches : List Reach → List Reach
-read_reaches [] = []
-read_reaches (x ∷ xs) = elim x.kind [ Read ↦ x ∷ read_reaches xs | _ ↦ read_reaches xs ]
+read_reaches xs = filter (λ x. is_read x.kind) xs
 
 abbrev pub write_reaches : List Reach → List Reach
-write_reaches [] = []
-write_reaches (x ∷ xs) = elim x.kind [ Write ↦ x ∷ write_reaches xs | _ ↦ write_reaches xs ]
+write_reaches xs = filter (λ x. is_write x.kind) xs
 
 -- ---- results
 
