@@ -6,14 +6,16 @@ use Rattle.sm_words.specs.Words.{nth, add16, bit, word_at}
 use Rattle.insn_decode.specs.Code.{words_of, length_of, distance}
 use Rattle.sm_words.specs.Status.{has_all_flags}
 use Rattle.sm_words.specs.Sums.{low}
+use Rattle.cpu_step.specs.declared.result.Computed.{Computed}
+use Rattle.cpu_step.specs.declared.result.Computed.TheVariants.{Plain, Flagged}
 use Rattle.cpu_step.specs.Effect.{value_of, two_result, one_result, in_memory}
 use Rattle.cpu_step.specs.Plan.{increment_of, reads_dst, writes_dst}
 use Rattle.sm_words.specs.declared.width.Width.{Width}
 use Rattle.sm_words.specs.declared.width.Width.TheVariants.{Byte, Word}
 use Rattle.insn_decode.specs.declared.insn.TwoOp.{TwoOp}
-use Rattle.insn_decode.specs.declared.insn.TwoOp.TheVariants.{Mov, Addc, Subc, Dadd, Bic, Bis}
+use Rattle.insn_decode.specs.declared.insn.TwoOp.TheVariants.{Mov, Addc, Subc, Dadd, Bic}
 use Rattle.insn_decode.specs.declared.insn.OneOp.{OneOp}
-use Rattle.insn_decode.specs.declared.insn.OneOp.TheVariants.{Rrc, Rra, Sxt, Push, Call}
+use Rattle.insn_decode.specs.declared.insn.OneOp.TheVariants.{Rrc, Push, Call}
 use Rattle.insn_decode.specs.declared.insn.Operand.{Operand}
 use Rattle.insn_decode.specs.declared.insn.Operand.TheVariants.{Reg, Const, Imm, Indexed, Symbolic, Absolute, Indirect, Increment}
 use Rattle.insn_decode.specs.declared.insn.Insn.{Insn}
@@ -127,11 +129,13 @@ reads_carry Subc = true
 reads_carry Dadd = true
 reads_carry _ = false
 
+-- an operation sets the flags where its result has them
+abbrev pub is_flagged : Computed → Bool
+is_flagged (Plain v) = false
+is_flagged (Flagged s) = true
+
 abbrev pub sets_flags : TwoOp → Bool
-sets_flags Mov = false
-sets_flags Bic = false
-sets_flags Bis = false
-sets_flags _ = true
+sets_flags op = is_flagged (two_result op Word 0 0 0)
 
 abbrev pub read_if : Bool → Val → Val
 read_if true v = v
@@ -154,10 +158,7 @@ one_reads_carry Rrc = true
 one_reads_carry _ = false
 
 abbrev pub one_sets_flags : OneOp → Bool
-one_sets_flags Rrc = true
-one_sets_flags Rra = true
-one_sets_flags Sxt = true
-one_sets_flags _ = false
+one_sets_flags op = is_flagged (one_result op Word 0 0)
 
 abbrev pub one_val : OneOp → Width → Val → Val → Told
 one_val op w a c =
