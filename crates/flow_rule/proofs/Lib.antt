@@ -1,4 +1,5 @@
 pub mod Meaning
+pub mod Goes
 pub mod Cores
 pub mod Effects
 pub mod Plans

@@ -1,5 +1,5 @@
 -- Where an instruction goes on: to a place in the text with its label, or out of the text.
-use Rattle.std.specs.Prelude.{ℕ, List, [], ◌∷◌, ◌++◌, Bool, true, false}
+use Rattle.std.specs.Prelude.{ℕ, List, [], ◌∷◌, ◌++◌, if◌then◌else◌}
 use Rattle.mod_layout.specs.declared.Module.{Module}
 use Rattle.mod_layout.specs.Table.{holds}
 use Rattle.flow_rule.specs.Terms.{Terms}
@@ -19,15 +19,11 @@ closes terms pc core = record { reasons = exit_reasons 16 0 pc (set_each terms.a
 abbrev pub leaves : Terms → Module → ℕ → List Val → List Val → Step
 leaves terms m pc core words = record { reasons = word_reasons m pc words terms.public ++ exit_reasons 16 0 pc (set_each terms.answers Public core); gives = [] }
 
--- inside the text the label is handed on
-abbrev pub goes_in : Terms → Bool → Module → ℕ → ℕ → List ℕ → List Val → List Val → Step
-goes_in terms true m to pc returns core words =
-    record { reasons = []; gives = record { pair = record { addr = to; returns = returns }; label = record { core = core; words = words } } ∷ [] }
-goes_in terms false m to pc returns core words = leaves terms m pc core words
-
--- on from pc with this core: to a known place, or away
+-- on from pc with this core: to a known place, where inside the text the label is handed on, or away
 abbrev pub goes_by : Terms → Val → Module → ℕ → List ℕ → List Val → List Val → Step
-goes_by terms (Known to) m pc returns core words = goes_in terms (holds m.text to) m to pc returns core words
+goes_by terms (Known to) m pc returns core words =
+    if holds m.text to then record { reasons = []; gives = record { pair = record { addr = to; returns = returns }; label = record { core = core; words = words } } ∷ [] }
+    else leaves terms m pc core words
 goes_by terms Away m pc returns core words = leaves terms m pc core words
 goes_by terms _ m pc returns core words = record { reasons = because pc UnknownTarget 0; gives = [] }
 

@@ -1,0 +1,13 @@
+-- Where a step goes on, with the test that decides it as an argument.
+use Rattle.std.proofs.Common.{ℕ, List, [], ◌∷◌, Bool, if◌then◌else◌}
+use Rattle.mod_layout.specs.declared.Module.{Module}
+use Rattle.flow_rule.specs.Terms.{Terms}
+use Rattle.flow_rule.specs.declared.Val.{Val}
+use Rattle.flow_rule.specs.Rounds.{Step}
+use Rattle.flow_rule.specs.Going.{leaves}
+
+-- to a known place, inside the text or not
+abbrev pub goes_in : Terms → Bool → Module → ℕ → ℕ → List ℕ → List Val → List Val → Step
+goes_in terms inside m to pc returns core words =
+    if inside then record { reasons = []; gives = record { pair = record { addr = to; returns = returns }; label = record { core = core; words = words } } ∷ [] }
+    else leaves terms m pc core words
