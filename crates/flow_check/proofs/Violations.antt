@@ -21,7 +21,8 @@ use Rattle.flow_rule.specs.Does.{word_no, past_val, plan_val, does_val, read_val
 use Rattle.flow_rule.specs.Reasons.{exit_reasons, word_reasons, reach_reasons, reach_reasons_by, because_if}
 use Rattle.flow_rule.specs.Going.{goes, also, both, fails}
 use Rattle.flow_rule.specs.Returns.{turn_of}
-use Rattle.flow_rule.specs.Steps.{goes_unless, step_plain, step_jump, step_unit, step_insn, step_of}
+use Rattle.flow_rule.proofs.Goes.{goes_unless}
+use Rattle.flow_rule.specs.Steps.{step_plain, step_jump, step_unit, step_insn, step_of}
 use Rattle.flow_rule.specs.Stub.{shut_reasons, shut_if, is_shut, is_open, word_number, step_stub, step_entries, to_entries, word_of}
 use Rattle.flow_check.specs.declared.violation.Violation.{Violation}
 use Rattle.flow_check.specs.declared.call_string.CallString.{CallString}

@@ -31,8 +31,8 @@ use Rattle.flow_rule.specs.Does.{plan_val, does_val, past_val, read_val, writes_
 use Rattle.flow_rule.specs.Reasons.{because_if, reach_reasons, exit_reasons, word_reasons}
 use Rattle.flow_rule.specs.Going.{leaves, goes_by, goes, both, also}
 use Rattle.flow_rule.specs.Returns.{turn_of}
-use Rattle.flow_rule.specs.Steps.{goes_unless, step_plain, step_jump, step_unit, step_insn, step_of}
-use Rattle.flow_rule.proofs.Goes.{goes_in}
+use Rattle.flow_rule.specs.Steps.{step_plain, step_jump, step_unit, step_insn, step_of}
+use Rattle.flow_rule.proofs.Goes.{goes_in, goes_unless}
 use Rattle.flow_rule.specs.Laws.{AgreeOn}
 use Rattle.flow_rule.proofs.Meaning.{Agrees, same}
 use Rattle.flow_rule.proofs.Cores.{Even_section, AgreeCore, put_agrees, put_other_reg, confined_agrees, ends_so}

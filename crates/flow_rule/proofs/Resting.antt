@@ -31,8 +31,8 @@ use Rattle.flow_rule.specs.Does.{plan_val, read_val, writes_val, read_reaches, w
 use Rattle.flow_rule.specs.Reasons.{because_if, reach_reasons}
 use Rattle.flow_rule.specs.Going.{goes_by, goes, both, also}
 use Rattle.flow_rule.specs.Returns.{Turn, turn_of, but_last, last_is}
-use Rattle.flow_rule.specs.Steps.{goes_unless, step_plain, step_jump, step_insn, step_of}
-use Rattle.flow_rule.proofs.Goes.{goes_in}
+use Rattle.flow_rule.specs.Steps.{step_plain, step_jump, step_insn, step_of}
+use Rattle.flow_rule.proofs.Goes.{goes_in, goes_unless}
 use Rattle.flow_rule.specs.Stub.{word_number, is_open, shut_reasons, shut_if, step_entries, step_stub, has_stub}
 use Rattle.flow_rule.specs.Verdict.{flow_step}
 use Rattle.flow_rule.specs.Arms.{Walk, ended, met_regs, written_words, met_words, walked, walk_past, walk_on, walk, first_walk, second_walk, step_arm}

@@ -1,5 +1,5 @@
 -- One instruction's step at a pair: its reasons, and the pairs and labels that it gives.
-use Rattle.std.specs.Prelude.{ℕ, List, [], ◌++◌, map, ◌==◌, if◌then◌else◌, Bool, true, false, Option, Some, None}
+use Rattle.std.specs.Prelude.{ℕ, List, [], ◌++◌, map, ◌==◌, if◌then◌else◌, Option, Some, None}
 use Rattle.sm_words.specs.Words.{word_at}
 use Rattle.insn_decode.specs.declared.insn.Insn.{Insn}
 use Rattle.insn_decode.specs.declared.insn.Insn.TheVariants.{Jump, Reti, Unit as UnitOp}
@@ -17,12 +17,8 @@ use Rattle.flow_rule.specs.Reasons.{because_if, reach_reasons}
 use Rattle.flow_rule.specs.Going.{closes, goes, both, also, fails}
 use Rattle.flow_rule.specs.Returns.{turn_of}
 
--- a return to another place than the newest address is refused
-abbrev pub goes_unless : Terms → Bool → Module → ℕ → List ℕ → List Val → List Val → Step
-goes_unless terms true m pc returns core words = fails pc UnknownTarget 0
-goes_unless terms false m pc returns core words = goes terms m pc returns core words
-
 -- reads, the operation, the list of return addresses, writes
+-- a return to another place than the newest address is refused
 abbrev pub step_plain : Terms → Module → List ℕ → Insn → Point → Step
 step_plain terms m text insn x =
     let pc = x.pair.addr in
@@ -30,7 +26,8 @@ step_plain terms m text insn x =
     let values = map (read_val m text x.label.words) (read_reaches xs) in
     let d = does_val insn pc x.label.core values in
     let t = turn_of insn pc x.pair.returns values in
-    also (reach_reasons m pc xs ++ t.reasons) (goes_unless terms t.stops m pc t.returns d.core (writes_val m x.label.words (write_reaches xs) d.stored))
+    also (reach_reasons m pc xs ++ t.reasons)
+    (if t.stops then fails pc UnknownTarget 0 else goes terms m pc t.returns d.core (writes_val m x.label.words (write_reaches xs) d.stored))
 
 -- a jump that is always taken has one way; any other has both, and its flags may not be secret
 abbrev pub step_jump : Terms → Module → List ℕ → Insn → ℕ → Point → Step
