@@ -1,14 +1,14 @@
 //! What an instruction does to what is known.
 
-ghost use Rattle.std.specs.Prelude.{◌≡◌, ◌==◌, [], ◌∷◌, true};
+ghost use Rattle.std.specs.Prelude.{◌≡◌, ◌==◌, [], ◌∷◌, true, if◌then◌else◌};
 ghost use Rattle.sm_words.specs.Sums.{low};
 ghost use Rattle.sm_words.specs.Words.{nth};
 ghost use Rattle.cpu_step.specs.Plan.{writes_dst};
 ghost use Rattle.cpu_step.specs.Effect.{in_memory, value_of, two_result, one_result};
-ghost use Rattle.flow_rule.specs.Values.{over, over_one, over_two};
+ghost use Rattle.flow_rule.specs.Values.{over, over_one, over_two, put_val};
 ghost use Rattle.flow_rule.specs.Does.{reads_carry, sets_flags, read_if, flags_if, worked, two_val, one_reads_carry};
 ghost use Rattle.flow_rule.specs.Does.{one_sets_flags, one_val, set_flags_by, given_val, after_val};
-ghost use Rattle.flow_rule.specs.Does.{into_register_val, written_val, clears, clears_flags, cleared_core};
+ghost use Rattle.flow_rule.specs.Does.{into_register_val, written_val, clears, clears_flags};
 ghost use Rattle.flow_rule.specs.Does.{cleared_if, carry_val, one_done_val, does_val};
 ghost use Rattle.flow_check.specs.internal.Carries.{IsCarry};
 
@@ -271,7 +271,7 @@ fn clears_flags(op: TwoOp, width: Width, dst: Operand, source: Val) -> bool
 
 /// Makes the flags Public where they become 0.
 fn clear_if(cleared: bool, core: &mut Core)
-    ensures { core.new ≡ cleared_core cleared core.old }
+    ensures { core.new ≡ (if cleared then put_val core.old 2 Val.Public else core.old) }
 {
     if cleared {
         put(core, 2, Val::Public);

@@ -25,7 +25,7 @@ use Rattle.flow_rule.specs.declared.Val.TheVariants.{Known, Away, Public, Secret
 use Rattle.flow_rule.specs.declared.Reach.{Reach}
 use Rattle.flow_rule.specs.declared.Told.{Told}
 use Rattle.flow_rule.specs.Values.{over_one, blurred, val, put_val}
-use Rattle.flow_rule.specs.Does.{place_val, stepped_val, lowered_val, reach_if, one_reach, plan_val, word_no, half, read_at, read_val, write_at, writes_val, Done_val, reads_carry, sets_flags, read_if, flags_if, worked, two_val, one_reads_carry, one_sets_flags, one_val, set_flags_by, given_val, after_val, into_register_val, written_val, clears, clears_flags, cleared_core, cleared_if, carry_val, one_done_val, does_val}
+use Rattle.flow_rule.specs.Does.{place_val, stepped_val, lowered_val, reach_if, one_reach, plan_val, word_no, half, read_at, read_val, write_at, writes_val, Done_val, reads_carry, sets_flags, read_if, flags_if, worked, two_val, one_reads_carry, one_sets_flags, one_val, set_flags_by, given_val, after_val, into_register_val, written_val, clears, clears_flags, cleared_if, carry_val, one_done_val, does_val}
 use Rattle.flow_rule.specs.Reasons.{reach_reasons, reach_reasons_by}
 use Rattle.flow_rule.proofs.Plans.{none_left, none_right}
 use Rattle.flow_rule.proofs.Absorbing.{AbsorbsVal, AbsorbsEach, AbsorbsOption, over_keeps, over_one_keeps, over_two_keeps, blurred_all_keeps, narrow_keeps, nth_keeps, set_keeps, drop_keeps, put_keeps, past_keeps, EvenPc, put_even, past_even}
@@ -261,6 +261,9 @@ blurred_public : (t : Val) → AbsorbsVal (blurred (t ∷ [])) Public
 blurred_public (Known a) = tt
 blurred_public _ = tt
 
+abbrev cleared_core : Bool → List Val → List Val
+cleared_core c core = cond c (put_val core 2 Public) core
+
 cleared_even : (c : Bool) (ts : List Val) → EvenPc ts → EvenPc (cleared_core c ts)
 cleared_even true ts h = put_even ts 2 Public h
 cleared_even false ts h = h
@@ -274,7 +277,7 @@ cleared_keeps Bic Word (Reg r) a b x y ts vs q t p h =
     record {
       core_kept = by (r == 2) (clears a) (clears b) (clears_too a b q) k.core_kept;
       stored_kept = tt;
-      even_pc = cleared_even ((r == 2) && clears a) _ k.even_pc;
+      even_pc = cleared_even ((r == 2) && clears a) (written_val true (Reg r) x ts).core k.even_pc;
     }
   where
     by : (two c e : Bool) → (c ≡ true → e ≡ true) →

@@ -198,12 +198,8 @@ abbrev pub clears_flags : TwoOp → Width → Operand → Val → Bool
 clears_flags Bic Word (Reg r) s = (r == 2) && clears s
 clears_flags _ w d s = false
 
-abbrev pub cleared_core : Bool → List Val → List Val
-cleared_core true core = put_val core 2 Public
-cleared_core false core = core
-
 abbrev pub cleared_if : Bool → Done_val → Done_val
-cleared_if c x = record { core = cleared_core c x.core; stored = x.stored }
+cleared_if c x = record { core = if c then put_val x.core 2 Public else x.core; stored = x.stored }
 
 -- the carry, as the flags' value has it
 abbrev pub carry_val : List Val → Val
