@@ -19,7 +19,7 @@ use Rattle.flow_rule.specs.Rounds.{Found, Point, Step}
 use Rattle.flow_rule.specs.declared.Val.TheVariants.{Secret}
 use Rattle.flow_rule.specs.Values.{is_secret, set_each, val}
 use Rattle.flow_rule.specs.Does.{plan_val, write_reaches, past_val, does_val}
-use Rattle.flow_rule.specs.Reasons.{because_if}
+use Rattle.flow_rule.specs.Reasons.{because, because_if}
 use Rattle.flow_rule.specs.Arms.{written_regs, written_words, met_regs, met_words, blot_core, Walk, ended, walk_past, walk_on, walk, arm_start, step_arm, step_branch, step_arms_by, step_arms}
 use Rattle.flow_check.specs.declared.violation.Violation.{Violation}
 use Rattle.flow_check.specs.declared.branch.BranchSite.{BranchSite}
@@ -43,32 +43,28 @@ module _ (S : Point → Step) (m : Module) (text : List ℕ) (branch join : ℕ)
   -- at the join
   pub walk_joins : (steps : ℕ) (x : Point) → x.pair.addr ≡ join → walk S m text branch join (suc steps) x ≡ ended
   walk_joins steps x e =
-      ap (λ b. cond b ended (walk_on (arm_on m.text text join x.pair.addr) (S x) branch (holds m.text join) join m text x (walk S m text branch join steps)))
+      ap (λ b. cond b ended (walk_on (arm_on m.text text join x.pair.addr) (S x) branch m text x (walk S m text branch join steps)))
       (let f : (x.pair.addr == join) ≡ true = grind (arith, nat_tests) in f)
 
   walk_at : (steps : ℕ) (x : Point) (o : Option ℕ) → x.pair.addr ≢ join → arm_on m.text text join x.pair.addr ≡ o →
-      walk S m text branch join (suc steps) x ≡ walk_on o (S x) branch (holds m.text join) join m text x (walk S m text branch join steps)
+      walk S m text branch join (suc steps) x ≡ walk_on o (S x) branch m text x (walk S m text branch join steps)
   walk_at steps x o ne e =
-      ap (λ b. cond b ended (walk_on (arm_on m.text text join x.pair.addr) (S x) branch (holds m.text join) join m text x (walk S m text branch join steps)))
+      ap (λ b. cond b ended (walk_on (arm_on m.text text join x.pair.addr) (S x) branch m text x (walk S m text branch join steps)))
       (let f : (x.pair.addr == join) ≡ false = grind (arith, nat_tests) in f)
-      ∙ ap (λ o. walk_on o (S x) branch (holds m.text join) join m text x (walk S m text branch join steps)) e
+      ∙ ap (λ o. walk_on o (S x) branch m text x (walk S m text branch join steps)) e
 
   calm : (steps : ℕ) (x : Point) (next : ℕ) → x.pair.addr ≢ join → arm_on m.text text join x.pair.addr ≡ Some next → (S x).reasons ≡ [] →
-      walk S m text branch join (suc steps) x ≡ walk_past [] (S x).gives branch (holds m.text join || not (next == join)) next m text x (walk S m text branch join steps)
+      walk S m text branch join (suc steps) x ≡ walk_past [] (S x).gives branch next m text x (walk S m text branch join steps)
   calm steps x next ne on none =
-      walk_at steps x (Some next) ne on ∙ ap (λ rs. walk_past rs (S x).gives branch (holds m.text join || not (next == join)) next m text x (walk S m text branch join steps)) none
+      walk_at steps x (Some next) ne on ∙ ap (λ rs. walk_past rs (S x).gives branch next m text x (walk S m text branch join steps)) none
 
   -- an instruction that leaves the text
-  pub walk_leaves : (steps : ℕ) (x : Point) (t : Tally) (next : ℕ) (lost : Bool) (l : Option Violation) → x.pair.addr ≢ join → arm_on m.text text join x.pair.addr ≡ Some next → (S x).reasons ≡ [] → (S x).gives ≡ [] →
-      lost ≡ (holds m.text join || not (next == join)) → l ≡ noted (because_if lost branch ArmInsn next) t.least → told (walk S m text branch join (suc steps) x) t ≡ record t { least = l }
-  walk_leaves steps x t next lost l ne on none out el e =
-      ap (λ w. told w t) (calm steps x next ne on none ∙ ap (λ gs. walk_past [] gs branch (holds m.text join || not (next == join)) next m text x (walk S m text branch join steps)) out)
-      ∙ by (holds m.text join || not (next == join)) (sym el)
-    where
-      by : (b : Bool) → b ≡ lost → told (record ended { reasons = because_if b branch ArmInsn next }) t ≡ record t { least = l }
-      by b f =
-          ap (λ c. record { least = noted (because_if b branch ArmInsn next) t.least; cycles = c; state = t.state }) (let g : t.cycles + 0 ≡ t.cycles = omega arith in g)
-          ∙ ap (λ l. record t { least = l }) (ap (λ b. noted (because_if b branch ArmInsn next) t.least) f ∙ sym e)
+  pub walk_leaves : (steps : ℕ) (x : Point) (t : Tally) (next : ℕ) (l : Option Violation) → x.pair.addr ≢ join → arm_on m.text text join x.pair.addr ≡ Some next → (S x).reasons ≡ [] → (S x).gives ≡ [] →
+      l ≡ noted (because branch ArmInsn next) t.least → told (walk S m text branch join (suc steps) x) t ≡ record t { least = l }
+  walk_leaves steps x t next l ne on none out e =
+      ap (λ w. told w t) (calm steps x next ne on none ∙ ap (λ gs. walk_past [] gs branch next m text x (walk S m text branch join steps)) out)
+      ∙ ap (λ c. record { least = noted (because branch ArmInsn next) t.least; cycles = c; state = t.state }) (let g : t.cycles + 0 ≡ t.cycles = omega arith in g)
+      ∙ ap (λ l. record t { least = l }) (sym e)
 
   -- an instruction that goes on
   pub walk_goes : (steps : ℕ) (x y : Point) (ys : List Point) (t : Tally) (next : ℕ) (insn : Insn) → x.pair.addr ≢ join → arm_on m.text text join x.pair.addr ≡ Some next → met m.text text x.pair.addr ≡ Some insn →
@@ -77,7 +73,7 @@ module _ (S : Point → Step) (m : Module) (text : List ℕ) (branch join : ℕ)
       ≡ told (walk S m text branch join steps y) (record t { cycles = t.cycles + cycles_of insn; state = record { core = blot_core (written_regs insn) t.state.core; words = set_each (written_words m (write_reaches (plan_val insn x.pair.addr x.label.core))) Secret t.state.words } })
   walk_goes steps x y ys t next insn ne on it none go =
       ap (λ w. told w t)
-      (calm steps x next ne on none ∙ ap (λ gs. walk_past [] gs branch (holds m.text join || not (next == join)) next m text x (walk S m text branch join steps)) go
+      (calm steps x next ne on none ∙ ap (λ gs. walk_past [] gs branch next m text x (walk S m text branch join steps)) go
       ∙ ap (λ o. record { reasons = rest.reasons; cycles = met_cycles o + rest.cycles; regs = met_regs o ++ rest.regs; words = met_words o m x ++ rest.words }) it)
       ∙ ap (λ c. record { least = noted rest.reasons t.least; cycles = c; state = record { core = blot_core (written_regs insn ++ rest.regs) t.state.core; words = set_each (ws ++ rest.words) Secret t.state.words } })
       (let e : t.cycles + (cycles_of insn + rest.cycles) ≡ t.cycles + cycles_of insn + rest.cycles = omega arith in e)

@@ -1,12 +1,12 @@
 //! An arm of a secret branch, walked from its start to the join.
 
 ghost use Rattle.std.specs.Prelude.{◌≡◌, ◌≢◌, ◌≤◌, ◌<◌, ◌+◌, ◌*◌, suc, true, false, ℕ, Some, None, IfSome, slice_get};
-ghost use Rattle.std.specs.Prelude.{◌||◌, ◌==◌, not};
-ghost use Rattle.mod_layout.specs.Table.{holds};
 ghost use Rattle.flow_rule.specs.declared.Val.{Val};
 ghost use Rattle.flow_rule.specs.Values.{set_each};
 ghost use Rattle.flow_rule.specs.Does.{write_reaches};
 ghost use Rattle.flow_rule.specs.Arms.{walk, written_regs, written_words, blot_core};
+ghost use Rattle.flow_rule.specs.Reasons.{because};
+ghost use Rattle.flow_check.specs.internal.Violations.{noted};
 ghost use Rattle.flow_check.specs.internal.Arms.{told};
 ghost use Rattle.flow_check.specs.internal.Points.{point_at};
 ghost use Rattle.flow_check.specs.internal.Programs.{base_flow};
@@ -18,7 +18,7 @@ use crate::program::Program;
 use crate::relevant::Relevance;
 use crate::step::{Stepped, Targets};
 use crate::stub::step_base;
-use crate::violation::{Violation, note, note_if};
+use crate::violation::{Violation, note};
 use arm_balance::met_arm;
 use cycle_table::cycles;
 use flow_rule::{Label, Reach, Reason, Val};
@@ -58,11 +58,11 @@ fn first_of(targets: &Targets) -> Option<u16>
     targets.first().copied()
 }
 
-/// Whether an arm that left the text can't go on: there is no arm's instruction, and no join either.
-fn is_lost(module: &Module, join: u16, next: u16) -> bool
-    ensures { result ≡ (holds module.now.text join || not (next == join)) }
+/// What is wrong with an arm that leaves the text: where it goes on there is no arm's instruction.
+fn note_left(branch: u16, next: u16, least: &mut Option<Violation>)
+    ensures { least.new ≡ noted (because branch Reason.Arm next) least.old }
 {
-    module.text.holds(usize::from(join)) || next != join
+    note(least, branch, Reason::Arm, next);
 }
 
 /// Does the arm's instruction at this point, and tells whether the arm goes on.
@@ -110,8 +110,7 @@ fn walk_on(
         }
         None => {
             relevance.leave();
-            let lost = is_lost(module, join, next);
-            note_if(lost, &mut tally.least, branch, Reason::Arm, next);
+            note_left(branch, next, &mut tally.least);
             false
         }
     }

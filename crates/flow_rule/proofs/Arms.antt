@@ -309,14 +309,10 @@ module _ (terms : Terms) (key : List ℕ) (m : Module) (text : List ℕ) (caller
     walk_more : (branch join fuel : ℕ) → holds m.text join ≡ true → (x : Point) (c d : List ℕ) → AgreeAt m x c d c d → (next : ℕ) → arm_next join x.pair.addr (met m.text text x.pair.addr) ≡ Some next →
         ((y : Point) (c d : List ℕ) → Alone y c d → (walk S m text branch join fuel y).reasons ≡ [] → Walked (walk S m text branch join fuel y) join c d) →
         (rs : List Found) (gs : List Point) → (S x).reasons ≡ rs → (S x).gives ≡ gs →
-        (walk_past rs gs branch (holds m.text join || not (next == join)) next m text x (walk S m text branch join fuel)).reasons ≡ [] →
-        Walked (walk_past rs gs branch (holds m.text join || not (next == join)) next m text x (walk S m text branch join fuel)) join c d
+        (walk_past rs gs branch next m text x (walk S m text branch join fuel)).reasons ≡ [] →
+        Walked (walk_past rs gs branch next m text x (walk S m text branch join fuel)) join c d
     walk_more branch join fuel inn x c d at next on go (r ∷ rs) gs er eg none = absurd cc
-    walk_more branch join fuel inn x c d at next on go [] [] er eg none = absurd (clash (holds m.text join) (not (next == join)) inn (none_if (holds m.text join || not (next == join)) branch ArmInsn next none))
-      where
-        clash : (b c : Bool) → b ≡ true → (b || c) ≡ false → ⊥
-        clash true c e f = cc
-        clash false c e f = cc
+    walk_more branch join fuel inn x c d at next on go [] [] er eg none = absurd cc
     walk_more branch join fuel inn x c d at next on go [] (y ∷ ys) er eg none = by mv.single
       where
         mv : Moved x (S x).gives c d (met_cycles (met m.text text x.pair.addr)) (met_regs (met m.text text x.pair.addr)) (met_words (met m.text text x.pair.addr) m x)
@@ -362,7 +358,7 @@ module _ (terms : Terms) (key : List ℕ) (m : Module) (text : List ℕ) (caller
         lt_le a e = let k : a < join = grind (arith, nat_tests) in omega arith
 
         by : (b : Bool) → (x.pair.addr == join) ≡ b → (p q : Bool) → nat_lt x.pair.addr join ≡ q →
-            (cond b ended (walk_on (cond (p && q) (arm_next join x.pair.addr (met m.text text x.pair.addr)) None) (S x) branch (holds m.text join) join m text x (walk S m text branch join fuel))).reasons ≡ [] → x.pair.addr ≤ join
+            (cond b ended (walk_on (cond (p && q) (arm_next join x.pair.addr (met m.text text x.pair.addr)) None) (S x) branch m text x (walk S m text branch join fuel))).reasons ≡ [] → x.pair.addr ≤ join
         by true e p q f none = eq_le x.pair.addr e
         by false e true true f none = lt_le x.pair.addr f
         by false e true false f none = absurd cc
@@ -380,22 +376,22 @@ module _ (terms : Terms) (key : List ℕ) (m : Module) (text : List ℕ) (caller
 
         by_next : (o : Option ℕ) → arm_next join x.pair.addr (met m.text text x.pair.addr) ≡ o → holds m.text x.pair.addr ≡ true →
             ((y : Point) (c d : List ℕ) → Alone y c d → (walk S m text branch join fuel y).reasons ≡ [] → Walked (walk S m text branch join fuel y) join c d) →
-            (walk_on o (S x) branch (holds m.text join) join m text x rest).reasons ≡ [] → Walked (walk_on o (S x) branch (holds m.text join) join m text x rest) join c d
+            (walk_on o (S x) branch m text x rest).reasons ≡ [] → Walked (walk_on o (S x) branch m text x rest) join c d
         by_next None e t go none = absurd cc
         by_next (Some next) e t go none =
             walk_more branch join fuel inn x c d (record { pc_a = at.pc; pc_b = at.pc; core = at.core; words = at.words; in_text = t }) next e go (S x).reasons (S x).gives refl refl none
 
         by_test : (p q : Bool) → holds m.text x.pair.addr ≡ p →
             ((y : Point) (c d : List ℕ) → Alone y c d → (walk S m text branch join fuel y).reasons ≡ [] → Walked (walk S m text branch join fuel y) join c d) →
-            (walk_on (cond (p && q) (arm_next join x.pair.addr (met m.text text x.pair.addr)) None) (S x) branch (holds m.text join) join m text x rest).reasons ≡ [] →
-            Walked (walk_on (cond (p && q) (arm_next join x.pair.addr (met m.text text x.pair.addr)) None) (S x) branch (holds m.text join) join m text x rest) join c d
+            (walk_on (cond (p && q) (arm_next join x.pair.addr (met m.text text x.pair.addr)) None) (S x) branch m text x rest).reasons ≡ [] →
+            Walked (walk_on (cond (p && q) (arm_next join x.pair.addr (met m.text text x.pair.addr)) None) (S x) branch m text x rest) join c d
         by_test true true e go none = by_next (arm_next join x.pair.addr (met m.text text x.pair.addr)) refl e go none
         by_test true false e go none = absurd cc
         by_test false q e go none = absurd cc
 
         by : (b : Bool) → (x.pair.addr == join) ≡ b →
             ((y : Point) (c d : List ℕ) → Alone y c d → (walk S m text branch join fuel y).reasons ≡ [] → Walked (walk S m text branch join fuel y) join c d) →
-            (cond b ended (walk_on on (S x) branch (holds m.text join) join m text x rest)).reasons ≡ [] → Walked (cond b ended (walk_on on (S x) branch (holds m.text join) join m text x rest)) join c d
+            (cond b ended (walk_on on (S x) branch m text x rest)).reasons ≡ [] → Walked (cond b ended (walk_on on (S x) branch m text x rest)) join c d
         by true e go none =
             record { core = c; data_left = d; pass = refl; here = at.pc ∙ same_addr x.pair.addr e; fine = (x.label.core, at.core); is_data = at.words.is_a; regs = λ k n0 n2 no. refl; words = λ i no. refl; sr = refl }
           where

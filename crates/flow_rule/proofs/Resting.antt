@@ -316,7 +316,7 @@ module _ (terms : Terms) (m : Module) (text : List ℕ) where
     -- after this step of a point
     abbrev further : ℕ → ℕ → Step → Point → Walk
     further fuel next s x =
-        walk_past s.reasons s.gives branch (holds m.text join || not (next == join)) next m text x (onward fuel)
+        walk_past s.reasons s.gives branch next m text x (onward fuel)
 
     walk_more : (fuel next pc : ℕ) (r q : List ℕ) (top low : Label) → pc % 2 ≡ 0 → holds m.text pc ≡ true →
         arm_next join pc (met m.text text pc) ≡ Some next → Over top low → Same fuel →
@@ -335,10 +335,6 @@ module _ (terms : Terms) (m : Module) (text : List ℕ) where
               words = ws ++ rest.words;
             }
 
-        clash : (b c : Bool) → b ≡ true → (b || c) ≡ false → ⊥
-        clash true c e f = cc
-        clash false c e f = cc
-
         first_same : (a b : Point) (bs : List Point) → a ∷ [] ≡ b ∷ bs → a ≡ b
         first_same a b bs e = cc
 
@@ -347,7 +343,7 @@ module _ (terms : Terms) (m : Module) (text : List ℕ) where
             further fuel next (S (point pc q low)) (point pc q low)
             ≡ further fuel next (record { reasons = rs; gives = gs }) (point pc r top)
         by (x ∷ rs) gs er eg none = absurd cc
-        by [] [] er eg none = absurd (clash (holds m.text join) _ inn (none_if _ branch ArmInsn next none))
+        by [] [] er eg none = absurd cc
         by [] (y ∷ ys) er eg none =
             let k = alike join next pc r q top low even here on o er (record { first = y; rest = ys; gives = eg }) in
             let l = k.leads in
@@ -361,7 +357,7 @@ module _ (terms : Terms) (m : Module) (text : List ℕ) where
 
     -- a step more, by whether the join is here and by where an instruction of an arm goes on
     abbrev onward_by : ℕ → Bool → Option ℕ → Point → Walk
-    onward_by fuel c n x = cond c ended (walk_on n (S x) branch (holds m.text join) join m text x (onward fuel))
+    onward_by fuel c n x = cond c ended (walk_on n (S x) branch m text x (onward fuel))
 
     walk_at : (fuel pc : ℕ) (r q : List ℕ) (top low : Label) → pc % 2 ≡ 0 → Over top low → Same fuel →
         (onward (suc fuel) (point pc r top)).reasons ≡ [] →

@@ -2,7 +2,7 @@
 use Rattle.arm_balance.specs.declared.Arm.{Arm}
 use Rattle.arm_balance.specs.Met.{met}
 use Rattle.arm_balance.specs.Balance.{arm_on, met_cycles}
-use Rattle.std.specs.Prelude.{ℕ, zero, suc, ◌+◌, List, [], ◌∷◌, ◌++◌, slice_set, fold, find, ◌==◌, if◌then◌else◌, Bool, true, ◌&&◌, ◌||◌, not, Option, Some, None}
+use Rattle.std.specs.Prelude.{ℕ, zero, suc, ◌+◌, List, [], ◌∷◌, ◌++◌, slice_set, fold, find, ◌==◌, if◌then◌else◌, Bool, true, ◌&&◌, not, Option, Some, None}
 use Rattle.sm_words.specs.Words.{add16, kept}
 use Rattle.insn_decode.specs.Code.{distance}
 use Rattle.cpu_step.specs.Plan.{writes_dst}
@@ -75,21 +75,21 @@ walked m text x rest =
     record { reasons = rest.reasons; cycles = met_cycles o + rest.cycles; regs = met_regs o ++ rest.regs; words = met_words o m x ++ rest.words }
 
 -- after a step with these reasons and gives; where it leaves the text, the address where it goes on is no arm instruction's
-abbrev pub walk_past : List Found → List Point → ℕ → Bool → ℕ → Module → List ℕ → Point → (Point → Walk) → Walk
-walk_past [] [] branch lost next m text x rest = record ended { reasons = because_if lost branch ArmInsn next }
-walk_past [] (y ∷ ys) branch lost next m text x rest = walked m text x (rest y)
-walk_past (r ∷ rs) gs branch lost next m text x rest = refused branch x.pair.addr
+abbrev pub walk_past : List Found → List Point → ℕ → ℕ → Module → List ℕ → Point → (Point → Walk) → Walk
+walk_past [] [] branch next m text x rest = refused branch next
+walk_past [] (y ∷ ys) branch next m text x rest = walked m text x (rest y)
+walk_past (r ∷ rs) gs branch next m text x rest = refused branch x.pair.addr
 
-abbrev pub walk_on : Option ℕ → Step → ℕ → Bool → ℕ → Module → List ℕ → Point → (Point → Walk) → Walk
-walk_on None s branch join_in join m text x rest = refused branch x.pair.addr
-walk_on (Some next) s branch join_in join m text x rest = walk_past s.reasons s.gives branch (join_in || not (next == join)) next m text x rest
+abbrev pub walk_on : Option ℕ → Step → ℕ → Module → List ℕ → Point → (Point → Walk) → Walk
+walk_on None s branch m text x rest = refused branch x.pair.addr
+walk_on (Some next) s branch m text x rest = walk_past s.reasons s.gives branch next m text x rest
 
 -- from a point to the join, by these steps
 abbrev pub walk : (Point → Step) → Module → List ℕ → ℕ → ℕ → ℕ → Point → Walk
 walk step m text branch join zero x = refused branch x.pair.addr
 walk step m text branch join (suc fuel) x =
     if x.pair.addr == join then ended
-    else walk_on (arm_on m.text text join x.pair.addr) (step x) branch (holds m.text join) join m text x (walk step m text branch join fuel)
+    else walk_on (arm_on m.text text join x.pair.addr) (step x) branch m text x (walk step m text branch join fuel)
 
 -- where an arm begins: past the jump, or at its target
 abbrev pub arm_start : Insn → ℕ → Point → List Val → Point

@@ -24,9 +24,9 @@ returns-in-None-clause-ends c = λ _ steps.
     let none = calm_step S p.addr r0 p.call_string p.state c.new-stepped.result.least new.least c.new-stepped.ensures.call_string c.new-stepped.ensures.least c.step_base.ensures.least (sym c.is_some.ensures ∙ c.if-is_some.false) in
     let targets : new.targets.items ≡ addrs_of gs = same_successors S p.addr r0 p.call_string p.state c.new-stepped.result.targets.items new.targets.items c.new-stepped.ensures.call_string c.new-stepped.ensures.targets c.step_base.ensures.targets in
     let points = same_points S p.addr r0 p.call_string p.state c.step_base.new.state (list_of new.call_string) c.new-stepped.ensures.call_string none c.step_base.ensures.successors in
-    walk_leaves S m text c.args.branch c.args.join steps (point_at p) c.args.tally.now c.in-Some.next c.is_lost-lost.result c.note_if.new.least c.requires.before c.in-Some.ensures.goes_on none
+    walk_leaves S m text c.args.branch c.args.join steps (point_at p) c.args.tally.now c.in-Some.next c.note_left.new.least c.requires.before c.in-Some.ensures.goes_on none
     (successors_none gs new.targets.items (list_of new.call_string) c.step_base.new.state targets points (sym c.first_of.ensures ∙ c.in-None.is))
-    c.is_lost-lost.ensures c.note_if.ensures
+    c.note_left.ensures
 
 pub returns-in-Some-first_of-clause-on : goal.returns-in-Some-first_of-clause-on
 returns-in-Some-first_of-clause-on c = λ _ steps.
