@@ -5,7 +5,7 @@ ghost use Rattle.sm_words.specs.Sums.{low};
 ghost use Rattle.sm_words.specs.Words.{nth};
 ghost use Rattle.cpu_step.specs.Plan.{writes_dst};
 ghost use Rattle.cpu_step.specs.Effect.{in_memory, value_of, two_result, one_result};
-ghost use Rattle.flow_rule.specs.Values.{over, over_one, over_two, put_val};
+ghost use Rattle.flow_rule.specs.Values.{over, over_one, put_val};
 ghost use Rattle.flow_rule.specs.Does.{reads_carry, sets_flags, read_if, flags_if, worked, two_val, one_reads_carry};
 ghost use Rattle.flow_rule.specs.Does.{one_sets_flags, one_val, set_flags_by, given_val, after_val};
 ghost use Rattle.flow_rule.specs.Does.{into_register_val, written_val, clears, clears_flags};
@@ -85,7 +85,7 @@ fn value_of_two(op: TwoOp, width: Width, s: Val, d: Val, c: Val) -> Val
 /// What format II gives of these values.
 fn value_of_one(op: OneOp, width: Width, a: Val, c: Val) -> Val
     requires { IsCarry c }
-    ensures { result ≡ over_two (λ x y. value_of (one_result op width x y)) a c }
+    ensures { result ≡ over (λ x y z. value_of (one_result op width x y)) a c (Val.Known 0) }
 {
     match (a, c) {
         (Val::Known(x), Val::Known(z)) => Val::Known(one_result(op, width, x, z == 1).value()),

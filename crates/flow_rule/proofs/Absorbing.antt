@@ -9,7 +9,7 @@ use Rattle.sm_words.specs.declared.width.Width.TheVariants.{Byte, Word}
 use Rattle.insn_decode.specs.declared.insn.Insn.{Insn}
 use Rattle.flow_rule.specs.declared.Val.{Val}
 use Rattle.flow_rule.specs.declared.Val.TheVariants.{Known, Away, Public, Secret}
-use Rattle.flow_rule.specs.Values.{is_secret, join, join_each, over, over_one, over_two, blurred, on_known, narrow, val, kept_val, put_val}
+use Rattle.flow_rule.specs.Values.{is_secret, join, join_each, over, over_one, blurred, on_known, narrow, val, kept_val, put_val}
 use Rattle.flow_rule.specs.Does.{past_val}
 
 -- joining the second to the first changes nothing
@@ -83,7 +83,7 @@ pub over_one_keeps : (f : ℕ → ℕ) (t v : Val) → AbsorbsVal t v → Absorb
 over_one_keeps f t v p = over_keeps (λ x y z. f x) t (Known 0) (Known 0) v (Known 0) (Known 0) p refl refl
 
 pub over_two_keeps : (f : ℕ → ℕ → ℕ) (t u t' u' : Val) → AbsorbsVal t t' → AbsorbsVal u u' →
-    AbsorbsVal (over_two f t u) (over_two f t' u')
+    AbsorbsVal (over (λ x y z. f x y) t u (Known 0)) (over (λ x y z. f x y) t' u' (Known 0))
 over_two_keeps f t u t' u' p q = over_keeps (λ x y z. f x y) t u (Known 0) t' u' (Known 0) p q refl
 
 blurred_keeps : (t v : Val) → AbsorbsVal t v → AbsorbsVal (blurred (t ∷ [])) (blurred (v ∷ []))

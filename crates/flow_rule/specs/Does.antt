@@ -29,7 +29,7 @@ use Rattle.arm_balance.specs.Met.{text_byte}
 use Rattle.pc_access.specs.Rights.{misaligned}
 use Rattle.flow_rule.specs.declared.Val.{Val}
 use Rattle.flow_rule.specs.declared.Val.TheVariants.{Known, Public, Secret}
-use Rattle.flow_rule.specs.Values.{over, over_one, over_two, blurred, narrow, val, put_val}
+use Rattle.flow_rule.specs.Values.{over, over_one, blurred, narrow, val, put_val}
 
 -- ---- accesses
 
@@ -163,7 +163,7 @@ one_sets_flags op = is_flagged (one_result op Word 0 0)
 abbrev pub one_val : OneOp → Width → Val → Val → Told
 one_val op w a c =
     let c1 = read_if (one_reads_carry op) c in
-    record { value = over_two (λ x y. value_of (one_result op w x y)) a c1; flags = flags_if (one_sets_flags op) (blurred (a ∷ c1 ∷ [])) }
+    record { value = over (λ x y z. value_of (one_result op w x y)) a c1 (Known 0); flags = flags_if (one_sets_flags op) (blurred (a ∷ c1 ∷ [])) }
 
 abbrev pub set_flags_by : Option Val → List Val → List Val
 set_flags_by None core = core
