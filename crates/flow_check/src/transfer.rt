@@ -1,12 +1,12 @@
 //! What an instruction does to what is known.
 
-ghost use Rattle.std.specs.Prelude.{◌≡◌, ◌==◌, [], ◌∷◌, true, if◌then◌else◌};
+ghost use Rattle.std.specs.Prelude.{◌≡◌, ◌==◌, [], ◌∷◌, true, if◌then◌else◌, Some, None};
 ghost use Rattle.sm_words.specs.Sums.{low};
 ghost use Rattle.sm_words.specs.Words.{nth};
 ghost use Rattle.cpu_step.specs.Plan.{writes_dst};
 ghost use Rattle.cpu_step.specs.Effect.{in_memory, value_of, two_result, one_result};
 ghost use Rattle.flow_rule.specs.Values.{over, over_one, put_val};
-ghost use Rattle.flow_rule.specs.Does.{reads_carry, sets_flags, read_if, flags_if, worked, two_val, one_reads_carry};
+ghost use Rattle.flow_rule.specs.Does.{reads_carry, sets_flags, worked, two_val, one_reads_carry};
 ghost use Rattle.flow_rule.specs.Does.{one_sets_flags, one_val, set_flags_by, given_val, after_val};
 ghost use Rattle.flow_rule.specs.Does.{into_register_val, written_val, clears, clears_flags};
 ghost use Rattle.flow_rule.specs.Does.{cleared_if, carry_val, one_done_val, does_val};
@@ -57,14 +57,14 @@ pub fn sets_flags(op: TwoOp) -> bool
 
 /// What is read, or 0.
 fn read_if(read: bool, value: Val) -> Val
-    ensures { result ≡ read_if read value }
+    ensures { result ≡ (if read then value else Val.Known 0) }
 {
     if read { value } else { Val::Known(0) }
 }
 
 /// What the flags become, if they are set.
 fn flags_if(set: bool, value: Val) -> Option<Val>
-    ensures { result ≡ flags_if set value }
+    ensures { result ≡ (if set then Some value else None) }
 {
     if set { Some(value) } else { None }
 }

@@ -25,8 +25,9 @@ use Rattle.flow_rule.specs.declared.Val.TheVariants.{Known, Away, Public, Secret
 use Rattle.flow_rule.specs.declared.Reach.{Reach}
 use Rattle.flow_rule.specs.declared.Told.{Told}
 use Rattle.flow_rule.specs.Values.{over_one, blurred, val, put_val}
-use Rattle.flow_rule.specs.Does.{place_val, stepped_val, lowered_val, reach_if, one_reach, plan_val, word_no, half, read_at, read_val, write_at, writes_val, Done_val, reads_carry, sets_flags, read_if, flags_if, worked, two_val, one_reads_carry, one_sets_flags, one_val, set_flags_by, given_val, after_val, into_register_val, written_val, clears, clears_flags, cleared_if, carry_val, one_done_val, does_val}
+use Rattle.flow_rule.specs.Does.{place_val, stepped_val, lowered_val, reach_if, one_reach, plan_val, word_no, half, read_at, read_val, write_at, writes_val, Done_val, reads_carry, sets_flags, worked, two_val, one_reads_carry, one_sets_flags, one_val, set_flags_by, given_val, after_val, into_register_val, written_val, clears, clears_flags, cleared_if, carry_val, one_done_val, does_val}
 use Rattle.flow_rule.specs.Reasons.{reach_reasons, reach_reasons_by}
+use Rattle.flow_rule.proofs.Meaning.{read_if, flags_if}
 use Rattle.flow_rule.proofs.Plans.{none_left, none_right}
 use Rattle.flow_rule.proofs.Absorbing.{AbsorbsVal, AbsorbsEach, AbsorbsOption, over_keeps, over_one_keeps, over_two_keeps, blurred_all_keeps, narrow_keeps, nth_keeps, set_keeps, drop_keeps, put_keeps, past_keeps, EvenPc, put_even, past_even}
 
@@ -179,7 +180,7 @@ worked_keeps : (op : TwoOp) (w : Width) (s d c s' d' c' : Val) → AbsorbsVal s 
 worked_keeps op w s d c s' d' c' p q r =
     record {
       value = over_keeps (λ x y z. value_of (two_result op w x y z)) s d c s' d' c' p q r;
-      flags = flags_keep (sets_flags op) _ _ (blurred_all_keeps s d c s' d' c' p q r);
+      flags = flags_keep (sets_flags op) (blurred (s ∷ d ∷ c ∷ [])) (blurred (s' ∷ d' ∷ c' ∷ [])) (blurred_all_keeps s d c s' d' c' p q r);
     }
 
 two_keeps : (op : TwoOp) (w : Width) (s d c s' d' c' : Val) → AbsorbsVal s s' → AbsorbsVal d d' → AbsorbsVal c c' →
@@ -196,7 +197,7 @@ one_keeps op w a c a' c' p q =
     record {
       value = over_two_keeps (λ x y. value_of (one_result op w x y)) a (read_if (one_reads_carry op) c) a'
           (read_if (one_reads_carry op) c') p k;
-      flags = flags_keep (one_sets_flags op) _ _
+      flags = flags_keep (one_sets_flags op) (blurred (a ∷ read_if (one_reads_carry op) c ∷ [])) (blurred (a' ∷ read_if (one_reads_carry op) c' ∷ []))
           (blurred_all_keeps a (read_if (one_reads_carry op) c) (Known 0) a' (read_if (one_reads_carry op) c')
           (Known 0) p k refl);
     }

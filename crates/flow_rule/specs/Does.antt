@@ -137,21 +137,14 @@ is_flagged (Flagged s) = true
 abbrev pub sets_flags : TwoOp → Bool
 sets_flags op = is_flagged (two_result op Word 0 0 0)
 
-abbrev pub read_if : Bool → Val → Val
-read_if true v = v
-read_if false v = Known 0
-
-abbrev pub flags_if : Bool → Val → Option Val
-flags_if true v = Some v
-flags_if false v = None
-
 abbrev pub worked : TwoOp → Width → Val → Val → Val → Told
-worked op w s d c = record { value = over (λ x y z. value_of (two_result op w x y z)) s d c; flags = flags_if (sets_flags op) (blurred (s ∷ d ∷ c ∷ [])) }
+worked op w s d c =
+    record { value = over (λ x y z. value_of (two_result op w x y z)) s d c; flags = if sets_flags op then Some (blurred (s ∷ d ∷ c ∷ [])) else None }
 
--- a word MOV copies
+-- a word MOV copies; what an operation does not read counts as 0
 abbrev pub two_val : TwoOp → Width → Val → Val → Val → Told
 two_val Mov Word s d c = record { value = s; flags = None }
-two_val op w s d c = worked op w s (read_if (reads_dst op) d) (read_if (reads_carry op) c)
+two_val op w s d c = worked op w s (if reads_dst op then d else Known 0) (if reads_carry op then c else Known 0)
 
 abbrev pub one_reads_carry : OneOp → Bool
 one_reads_carry Rrc = true
@@ -162,8 +155,8 @@ one_sets_flags op = is_flagged (one_result op Word 0 0)
 
 abbrev pub one_val : OneOp → Width → Val → Val → Told
 one_val op w a c =
-    let c1 = read_if (one_reads_carry op) c in
-    record { value = over (λ x y z. value_of (one_result op w x y)) a c1 (Known 0); flags = flags_if (one_sets_flags op) (blurred (a ∷ c1 ∷ [])) }
+    let c1 = if one_reads_carry op then c else Known 0 in
+    record { value = over (λ x y z. value_of (one_result op w x y)) a c1 (Known 0); flags = if one_sets_flags op then Some (blurred (a ∷ c1 ∷ [])) else None }
 
 abbrev pub set_flags_by : Option Val → List Val → List Val
 set_flags_by None core = core
