@@ -29,10 +29,8 @@ pub fn join(a: Val, b: Val) -> Val
 {
     if a == b {
         a
-    } else if a == Val::Secret || b == Val::Secret {
-        Val::Secret
     } else {
-        Val::Public
+        blurred_both(a, b)
     }
 }
 
