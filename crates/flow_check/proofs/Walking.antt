@@ -11,7 +11,7 @@ use Rattle.cycle_table.specs.Cycles.{cycles_of}
 use Rattle.mod_layout.specs.declared.Module.{Module}
 use Rattle.mod_layout.specs.Table.{holds}
 use Rattle.arm_balance.specs.Met.{met}
-use Rattle.arm_balance.specs.Balance.{arm_on, met_cycles}
+use Rattle.arm_balance.specs.Balance.{arm_on}
 use Rattle.arm_balance.specs.declared.Arm.{Arm}
 use Rattle.flow_rule.specs.declared.Label.{Label}
 use Rattle.flow_rule.specs.declared.Reason.TheVariants.{Arm as ArmInsn, ArmTime}
@@ -20,7 +20,7 @@ use Rattle.flow_rule.specs.declared.Val.TheVariants.{Secret}
 use Rattle.flow_rule.specs.Values.{is_secret, set_each, val}
 use Rattle.flow_rule.specs.Does.{plan_val, write_reaches, past_val, does_val}
 use Rattle.flow_rule.specs.Reasons.{because, because_if}
-use Rattle.flow_rule.specs.Arms.{written_regs, written_words, met_regs, met_words, blot_core, Walk, ended, walk_past, walk_on, walk, arm_start, step_arm, step_branch, step_arms_by, step_arms}
+use Rattle.flow_rule.specs.Arms.{written_regs, written_words, blot_core, Walk, ended, walked, walk_past, walk_on, walk, arm_start, step_arm, step_branch, step_arms_by, step_arms}
 use Rattle.flow_check.specs.declared.violation.Violation.{Violation}
 use Rattle.flow_check.specs.declared.branch.BranchSite.{BranchSite}
 use Rattle.flow_check.specs.declared.arm.Tally.{Tally}
@@ -74,7 +74,7 @@ module _ (S : Point → Step) (m : Module) (text : List ℕ) (branch join : ℕ)
   walk_goes steps x y ys t next insn ne on it none go =
       ap (λ w. told w t)
       (calm steps x next ne on none ∙ ap (λ gs. walk_past [] gs branch next m text x (walk S m text branch join steps)) go
-      ∙ ap (λ o. record { reasons = rest.reasons; cycles = met_cycles o + rest.cycles; regs = met_regs o ++ rest.regs; words = met_words o m x ++ rest.words }) it)
+      ∙ ap (λ o. walked o m x rest) it)
       ∙ ap (λ c. record { least = noted rest.reasons t.least; cycles = c; state = record { core = blot_core (written_regs insn ++ rest.regs) t.state.core; words = set_each (ws ++ rest.words) Secret t.state.words } })
       (let e : t.cycles + (cycles_of insn + rest.cycles) ≡ t.cycles + cycles_of insn + rest.cycles = omega arith in e)
       ∙ ap (λ c. record { least = noted rest.reasons t.least; cycles = t.cycles + cycles_of insn + rest.cycles; state = record { core = c; words = set_each (ws ++ rest.words) Secret t.state.words } }) (core_append (written_regs insn) rest.regs t.state.core)

@@ -37,9 +37,10 @@ use Rattle.flow_rule.proofs.Meaning.{Agrees}
 use Rattle.flow_rule.proofs.Cores.{AgreeCore, put_other_reg, mode, confined_kept}
 use Rattle.flow_rule.proofs.Plans.{none_left, none_right, none_if}
 use Rattle.arm_balance.specs.declared.Arm.{Arm}
-use Rattle.flow_rule.specs.Arms.{stepped_regs, written_reg, written_regs, blot_core, Walk, ended, met_regs, met_words, walked, walk_past, walk_on, walk, arm_start, step_arm, step_branch, step_arms_by, step_arms}
+use Rattle.flow_rule.specs.Arms.{stepped_regs, written_reg, written_regs, blot_core, Walk, ended, walked, walk_past, walk_on, walk, arm_start, step_arm, step_branch, step_arms_by, step_arms}
 use Rattle.arm_balance.specs.Met.{met}
 use Rattle.arm_balance.specs.Balance.{arm_next, met_cycles}
+use Rattle.flow_rule.proofs.Walks.{met_regs, met_words, with_met, is_met, met_none}
 use Rattle.flow_rule.proofs.Words.{NotIn, word, Shape, IsData, AgreeData}
 use Rattle.flow_rule.proofs.Runs.{at_rest, Passes, Stays, Crossing, Standing}
 use Rattle.flow_rule.proofs.Instruction.{AgreeAt, Single, Here, Gone, after, does_it, jump_so, past_pc, Parts, plain_parts, plain_kept, two_alike, one_alike, way_agrees, way_single, way_val, fetched}
@@ -318,7 +319,7 @@ module _ (terms : Terms) (key : List ℕ) (m : Module) (text : List ℕ) (caller
         mv : Moved x (S x).gives c d (met_cycles (met m.text text x.pair.addr)) (met_regs (met m.text text x.pair.addr)) (met_words (met m.text text x.pair.addr) m x)
         mv = let r = refine x c d join next at on er in subst (λ g. Moved x g c d (met_cycles (met m.text text x.pair.addr)) (met_regs (met m.text text x.pair.addr)) (met_words (met m.text text x.pair.addr) m x)) (sym r.1) (arm_move x c d join next at on r.0)
 
-        by : Single terms m (S x).gives mv.core mv.data_left mv.core mv.data_left → Walked (walked m text x (walk S m text branch join fuel y)) join c d
+        by : Single terms m (S x).gives mv.core mv.data_left mv.core mv.data_left → Walked (walked (met m.text text x.pair.addr) m x (walk S m text branch join fuel y)) join c d
         by (Gone nothing same out_a out_b p q agree) = absurd (empty (eg_to nothing))
           where
             eg_to : (S x).gives ≡ [] → (y ∷ ys) ≡ []
@@ -329,8 +330,10 @@ module _ (terms : Terms) (key : List ℕ) (m : Module) (text : List ℕ) (caller
         by (Here y1 one at1) =
             let e : y1 ≡ y = ap first_of_points (sym one ∙ eg) in
             let al : Alone y mv.core mv.data_left = subst (λ z. Alone z mv.core mv.data_left) e (record { pc = at1.pc_a; core = at1.core; words = at1.words }) in
-            let w = go y mv.core mv.data_left al none in
             let o = met m.text text x.pair.addr in
+            let rest = walk S m text branch join fuel y in
+            let w = go y mv.core mv.data_left al (met_none o m x rest none) in
+            let is : Walked (with_met o m x rest) join c d =
             record {
               core = w.core;
               data_left = w.data_left;
@@ -341,7 +344,8 @@ module _ (terms : Terms) (key : List ℕ) (m : Module) (text : List ℕ) (caller
               regs = λ k n0 n2 no. w.regs k n0 n2 (not_right k (met_regs o) (walk S m text branch join fuel y).regs no) ∙ mv.regs k n0 n2 (not_left k (met_regs o) (walk S m text branch join fuel y).regs no);
               words = λ i no. w.words i (not_right i (met_words o m x) (walk S m text branch join fuel y).words no) ∙ mv.words i (not_left i (met_words o m x) (walk S m text branch join fuel y).words no);
               sr = w.sr ∙ mv.sr;
-            }
+            } in
+            subst (λ z. Walked z join c d) (sym (is_met o m x rest)) is
           where
             first_of_points : List Point → Point
             first_of_points [] = y

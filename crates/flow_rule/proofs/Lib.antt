@@ -14,6 +14,7 @@ pub mod Stub
 pub mod Open
 pub mod Begin
 pub mod Rows
+pub mod Walks
 pub mod Arms
 pub mod Calls
 pub mod Absorbing

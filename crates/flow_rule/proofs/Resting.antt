@@ -19,6 +19,7 @@ use Rattle.cpu_step.specs.Fetched.{insn_at, later_word, word_in, insn_from}
 use Rattle.arm_balance.specs.declared.Arm.{Arm}
 use Rattle.arm_balance.specs.Met.{text_byte, met}
 use Rattle.arm_balance.specs.Balance.{met_cycles, arm_next, arm_on}
+use Rattle.flow_rule.proofs.Walks.{met_regs, met_words, is_met, met_none}
 use Rattle.flow_rule.specs.Terms.{Terms}
 use Rattle.flow_rule.specs.declared.Val.{Val}
 use Rattle.flow_rule.specs.declared.Val.TheVariants.{Known, Secret}
@@ -35,7 +36,7 @@ use Rattle.flow_rule.specs.Steps.{step_plain, step_jump, step_insn, step_of}
 use Rattle.flow_rule.proofs.Goes.{goes_in, goes_unless}
 use Rattle.flow_rule.specs.Stub.{word_number, is_open, shut_reasons, shut_if, step_entries, step_stub, has_stub}
 use Rattle.flow_rule.specs.Verdict.{flow_step}
-use Rattle.flow_rule.specs.Arms.{Walk, ended, met_regs, written_words, met_words, walked, walk_past, walk_on, walk, first_walk, second_walk, step_arm}
+use Rattle.flow_rule.specs.Arms.{Walk, ended, written_words, walked, walk_past, walk_on, walk, first_walk, second_walk, step_arm}
 use Rattle.flow_rule.specs.Absorbs.{Absorbs}
 use Rattle.flow_rule.proofs.Plans.{none_left, none_right, none_if}
 use Rattle.flow_rule.proofs.Stub.{stub_facts}
@@ -325,13 +326,15 @@ module _ (terms : Terms) (m : Module) (text : List ℕ) where
     walk_more fuel next pc r q top low even here on o go s es none =
         by s.reasons s.gives (ap (λ s. s.reasons) es) (ap (λ s. s.gives) es) none
       where
+        it : Option Insn
+        it = met m.text text pc
+
         with_words : List ℕ → Walk → Walk
         with_words ws rest =
-            let o = met m.text text pc in
             record {
               reasons = rest.reasons;
-              cycles = met_cycles o + rest.cycles;
-              regs = met_regs o ++ rest.regs;
+              cycles = met_cycles it + rest.cycles;
+              regs = met_regs it ++ rest.regs;
               words = ws ++ rest.words;
             }
 
@@ -352,8 +355,9 @@ module _ (terms : Terms) (m : Module) (text : List ℕ) where
             ap (λ rs. further fuel next (record { reasons = rs; gives = (S (point pc q low)).gives }) (point pc q low))
             l.none
             ∙ ap (λ gs. further fuel next (record { reasons = []; gives = gs }) (point pc q low)) l.to_z
-            ∙ ap (walked m text (point pc q low)) (go y l.z near none)
-            ∙ ap (λ ws. with_words ws (onward fuel y)) (k.same_words r q)
+            ∙ ap (walked it m (point pc q low)) (go y l.z near (met_none it m (point pc r top) (onward fuel y) none))
+            ∙ is_met it m (point pc q low) (onward fuel y) ∙ ap (λ ws. with_words ws (onward fuel y)) (k.same_words r q)
+            ∙ sym (is_met it m (point pc r top) (onward fuel y))
 
     -- a step more, by whether the join is here and by where an instruction of an arm goes on
     abbrev onward_by : ℕ → Bool → Option ℕ → Point → Walk

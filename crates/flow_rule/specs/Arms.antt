@@ -1,7 +1,8 @@
 -- Secret branches whose arms meet again in equal times.
 use Rattle.arm_balance.specs.declared.Arm.{Arm}
 use Rattle.arm_balance.specs.Met.{met}
-use Rattle.arm_balance.specs.Balance.{arm_on, met_cycles}
+use Rattle.arm_balance.specs.Balance.{arm_on}
+use Rattle.cycle_table.specs.Cycles.{cycles_of}
 use Rattle.std.specs.Prelude.{ℕ, zero, suc, ◌+◌, List, [], ◌∷◌, ◌++◌, slice_set, fold, find, ◌==◌, if◌then◌else◌, Bool, true, ◌&&◌, not, Option, Some, None}
 use Rattle.sm_words.specs.Words.{add16, kept}
 use Rattle.insn_decode.specs.Code.{distance}
@@ -60,24 +61,17 @@ ended = record { reasons = []; cycles = 0; regs = []; words = [] }
 abbrev pub refused : ℕ → ℕ → Walk
 refused branch pc = record { reasons = because branch ArmInsn pc; cycles = 0; regs = []; words = [] }
 
-abbrev pub met_regs : Option Insn → List ℕ
-met_regs None = []
-met_regs (Some insn) = written_regs insn
-
-abbrev pub met_words : Option Insn → Module → Point → List ℕ
-met_words None m x = []
-met_words (Some insn) m x = written_words m (write_reaches (plan_val insn x.pair.addr x.label.core))
-
 -- an instruction of an arm, and the rest of it
-abbrev pub walked : Module → List ℕ → Point → Walk → Walk
-walked m text x rest =
-    let o = met m.text text x.pair.addr in
-    record { reasons = rest.reasons; cycles = met_cycles o + rest.cycles; regs = met_regs o ++ rest.regs; words = met_words o m x ++ rest.words }
+abbrev pub walked : Option Insn → Module → Point → Walk → Walk
+walked None m x rest = rest
+walked (Some insn) m x rest =
+    let ws = written_words m (write_reaches (plan_val insn x.pair.addr x.label.core)) in
+    record { reasons = rest.reasons; cycles = cycles_of insn + rest.cycles; regs = written_regs insn ++ rest.regs; words = ws ++ rest.words }
 
 -- after a step with these reasons and gives; where it leaves the text, the address where it goes on is no arm instruction's
 abbrev pub walk_past : List Found → List Point → ℕ → ℕ → Module → List ℕ → Point → (Point → Walk) → Walk
 walk_past [] [] branch next m text x rest = refused branch next
-walk_past [] (y ∷ ys) branch next m text x rest = walked m text x (rest y)
+walk_past [] (y ∷ ys) branch next m text x rest = walked (met m.text text x.pair.addr) m x (rest y)
 walk_past (r ∷ rs) gs branch next m text x rest = refused branch x.pair.addr
 
 abbrev pub walk_on : Option ℕ → Step → ℕ → Module → List ℕ → Point → (Point → Walk) → Walk
