@@ -1,5 +1,5 @@
 -- The return addresses of a pair, the newest last.
-use Rattle.std.specs.Prelude.{ℕ, ◌*◌, List, [], ◌∷◌, ◌++◌, length, ◌==◌, nat_le, if◌then◌else◌, Bool, false, ◌&&◌, not}
+use Rattle.std.specs.Prelude.{ℕ, ◌-◌, ◌*◌, List, [], ◌∷◌, ◌++◌, length, take, slice_index, ◌==◌, nat_lt, nat_le, if◌then◌else◌, Bool, false, ◌&&◌, not}
 use Rattle.sm_words.specs.Words.{nth, add16}
 use Rattle.insn_decode.specs.Code.{length_of}
 use Rattle.sm_words.specs.declared.width.Width.TheVariants.{Word}
@@ -20,16 +20,12 @@ most_returns = 8
 
 -- this value is the newest return address
 abbrev pub last_is : Val → List ℕ → Bool
-last_is (Known v) [] = false
-last_is (Known v) (x ∷ []) = v == x
-last_is (Known v) (x ∷ y ∷ ys) = last_is (Known v) (y ∷ ys)
+last_is (Known v) xs = nat_lt 0 (length xs) && (v == slice_index xs (length xs - 1))
 last_is _ xs = false
 
 -- without the newest
 abbrev pub but_last : List ℕ → List ℕ
-but_last [] = []
-but_last (x ∷ []) = []
-but_last (x ∷ y ∷ ys) = x ∷ but_last (y ∷ ys)
+but_last xs = take (length xs - 1) xs
 
 -- what an instruction makes of the list
 pub record Turn : Type 0 where
