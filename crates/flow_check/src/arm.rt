@@ -109,7 +109,6 @@ fn walk_on(
             true
         }
         None => {
-            relevance.leave();
             note_left(branch, next, &mut tally.least);
             false
         }

@@ -2,7 +2,7 @@
 //! alone: what it says is tried by a walk before anything rests on it.
 
 use crate::accesses::{reads_destination, writes_destination};
-use crate::domain::join;
+use crate::domain::is_secret;
 use crate::memory::word_number;
 use crate::transfer::{one_reads_carry, one_sets_flags, reads_carry, sets_flags};
 use flow_rule::{Label, Reach, Val};
@@ -52,13 +52,11 @@ impl Origins {
     }
 }
 
-/// Along an arm: of which values of the branch's state each value is made, which of them have to be Known, and which
-/// may not be Secret.
+/// Along an arm: of which values of the branch's state each value is made, and which of them have to be Known.
 #[derive(Drop)]
 pub struct Relevance {
     of: [Origins; 272],
     known: Origins,
-    open: Origins,
     /// Whether instructions are followed.
     follows: bool,
 }
@@ -85,13 +83,21 @@ fn word_of(module: &Module, reach: Option<&Reach>) -> Option<usize> {
     }
 }
 
+/// The number of the value in an operand.
+fn place(module: &Module, operand: Operand, reach: Option<&Reach>) -> Option<usize> {
+    match operand {
+        Operand::Reg(reg) => Some(usize::from(reg)),
+        Operand::Const(_) | Operand::Imm(_) => None,
+        _ => word_of(module, reach),
+    }
+}
+
 impl Relevance {
     /// Nothing is needed so far.
     pub fn new(follows: bool) -> Relevance {
         Relevance {
             of: [Origins::NONE; 272],
             known: Origins::NONE,
-            open: Origins::NONE,
             follows,
         }
     }
@@ -124,15 +130,6 @@ impl Relevance {
     fn need(&mut self, operand: Operand) {
         if let Some(reg) = base(operand) {
             self.known = self.known.with(self.get(usize::from(reg)));
-        }
-    }
-
-    /// The number of the value in an operand.
-    fn place(&self, module: &Module, operand: Operand, reach: Option<&Reach>) -> Option<usize> {
-        match operand {
-            Operand::Reg(reg) => Some(usize::from(reg)),
-            Operand::Const(_) | Operand::Imm(_) => None,
-            _ => word_of(module, reach),
         }
     }
 
@@ -175,7 +172,7 @@ impl Relevance {
         reaches: &[Reach],
     ) {
         self.need(arg);
-        let from = self.place(module, arg, reaches.first());
+        let from = place(module, arg, reaches.first());
         let made = self.at(from).with(self.carry(one_reads_carry(op)));
         if one_sets_flags(op) {
             self.set(usize::from(FLAGS), made);
@@ -202,8 +199,8 @@ impl Relevance {
             } => {
                 self.need(src);
                 self.need(dst);
-                let source = self.at(self.place(module, src, reaches.first()));
-                let into = self.place(module, dst, reaches.last());
+                let source = self.at(place(module, src, reaches.first()));
+                let into = place(module, dst, reaches.last());
                 let old = if reads_destination(op) {
                     self.at(into)
                 } else {
@@ -222,43 +219,20 @@ impl Relevance {
         }
     }
 
-    /// Where an arm leaves the text, no register may be Secret.
-    pub fn leave(&mut self) {
-        for value in 0..REGISTERS {
-            self.open = self.open.with(self.get(value));
-        }
-    }
-
-    /// A value of a state with as little in it as is needed.
-    fn lower(&self, number: usize, value: Val) -> Val {
-        if self.known.has(number) {
-            value
-        } else if self.open.has(number) {
-            join(value, Val::Public)
-        } else {
-            Val::Secret
-        }
-    }
-
     /// A state that subsumes this one and has as little in it as was needed.
     pub fn least(&self, state: &Label) -> Label {
         let mut top = *state;
         for n in 0..16 {
-            top.core[n] = self.lower(n, state.core[n]);
+            if !self.known.has(n) {
+                top.core[n] = Val::Secret;
+            }
         }
         for n in 0..256 {
-            top.words[n] = self.lower(REGISTERS + n, state.words[n]);
+            if !self.known.has(REGISTERS + n) {
+                top.words[n] = Val::Secret;
+            }
         }
         top
-    }
-}
-
-/// A value with as little in it as another has.
-fn as_little(near: Val, value: Val) -> Val {
-    match near {
-        Val::Known(_) => value,
-        Val::Away | Val::Public => join(value, Val::Public),
-        Val::Secret => Val::Secret,
     }
 }
 
@@ -266,10 +240,14 @@ fn as_little(near: Val, value: Val) -> Val {
 pub fn like(near: &Label, state: &Label) -> Label {
     let mut top = *state;
     for n in 0..16 {
-        top.core[n] = as_little(near.core[n], state.core[n]);
+        if is_secret(near.core[n]) {
+            top.core[n] = Val::Secret;
+        }
     }
     for n in 0..256 {
-        top.words[n] = as_little(near.words[n], state.words[n]);
+        if is_secret(near.words[n]) {
+            top.words[n] = Val::Secret;
+        }
     }
     top
 }
