@@ -1,5 +1,5 @@
 -- What the changed program points give, one after another.
-use Rattle.std.proofs.Common.{◌≡◌, ℕ, List, [], ◌∷◌, refl, sym, ap, ◌∙◌, Bool, true, false, Option, Some, None}
+use Rattle.std.proofs.Common.{◌≡◌, ℕ, List, [], ◌∷◌, refl, sym, ap, ◌∙◌, Bool, true, false, Option, Some, None, is_some}
 use Rattle.flow_check.proofs.Iterating.{join_append}
 use Rattle.flow_rule.specs.declared.Label.{Label}
 use Rattle.flow_rule.specs.Rounds.{Found, Step, Point, join_all, given_by, given}
@@ -23,6 +23,10 @@ lesser_some (Some d) c = by _
 noted_some : (rs : List Found) (o : Option Violation) → SomeOne o → SomeOne (noted rs o)
 noted_some [] o h = h
 noted_some (r ∷ rs) o h = noted_some rs (lesser o (violation_of r)) (lesser_some o (violation_of r))
+
+pub none_some : (o : Option Violation) → is_some o ≡ false → o ≡ None
+none_some None e = refl
+none_some (Some c) e = absurd cc
 
 pub none_found : (rs : List Found) → noted rs None ≡ None → rs ≡ []
 none_found [] e = refl

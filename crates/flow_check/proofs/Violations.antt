@@ -1,5 +1,5 @@
 -- The least of the reasons that are found.
-use Rattle.std.proofs.Common.{◌≢◌, ◌==◌, ◌≡◌, ℕ, zero, suc, ◌+◌, ◌-◌, ◌<◌, ◌≤◌, List, [], ◌∷◌, ◌++◌, map, length, refl, sym, ap, ◌∙◌, arith, Bool, true, false, cond, Option, append_assoc}
+use Rattle.std.proofs.Common.{◌≢◌, ◌==◌, ◌≡◌, ℕ, zero, suc, ◌+◌, ◌-◌, ◌<◌, ◌≤◌, List, [], ◌∷◌, ◌++◌, length, refl, sym, ap, ◌∙◌, arith, true, false, cond, Option, append_assoc}
 use Rattle.std.specs.Prelude.{ℤ, Some}
 use Rattle.sm_words.specs.Words.{nth, word_at}
 use Rattle.insn_decode.specs.declared.insn.Insn.{Insn}
@@ -7,7 +7,6 @@ use Rattle.insn_decode.specs.declared.insn.Insn.TheVariants.{Jump, Reti}
 use Rattle.mod_layout.specs.declared.Module.{Module}
 use Rattle.flow_rule.specs.Terms.{Terms}
 use Rattle.flow_rule.specs.declared.Val.{Val}
-use Rattle.flow_rule.specs.declared.Label.{Label}
 use Rattle.flow_rule.specs.declared.Reach.{Reach}
 use Rattle.flow_rule.specs.declared.Reason.TheVariants.{SecretAtExit, DataAtExit}
 use Rattle.std.proofs.lemmas.Bool.Decides.{nat_tests}
@@ -17,17 +16,14 @@ use Rattle.flow_rule.specs.declared.Reason.TheVariants.{Illegal, UnknownTarget, 
 use Rattle.flow_rule.specs.Rounds.{Found, Step, Point}
 use Rattle.flow_rule.specs.Values.{is_secret, val, put_val}
 use Rattle.arm_balance.specs.Met.{text_byte}
-use Rattle.flow_rule.specs.Does.{word_no, past_val, plan_val, does_val, read_val, read_reaches, write_reaches, writes_val}
-use Rattle.flow_rule.specs.Reasons.{exit_reasons, word_reasons, reach_reasons, reach_reasons_by, because_if}
+use Rattle.flow_rule.specs.Does.{word_no, past_val, does_val, writes_val}
+use Rattle.flow_rule.specs.Reasons.{exit_reasons, word_reasons, reach_reasons, reach_reasons_by, because, because_if}
 use Rattle.flow_rule.specs.Going.{goes, also, both, fails}
-use Rattle.flow_rule.specs.Returns.{turn_of}
-use Rattle.flow_rule.proofs.Goes.{goes_unless}
-use Rattle.flow_rule.specs.Steps.{step_plain, step_jump, step_unit, step_insn, step_of}
+use Rattle.flow_rule.specs.Steps.{step_jump, step_unit, step_insn, step_of}
 use Rattle.flow_rule.specs.Stub.{shut_reasons, shut_if, is_shut, is_open, word_number, step_stub, step_entries, to_entries, word_of}
 use Rattle.flow_check.specs.declared.violation.Violation.{Violation}
-use Rattle.flow_check.specs.declared.call_string.CallString.{CallString}
 use Rattle.flow_check.specs.internal.Violations.{lesser, noted, shut_at, entry_addrs}
-use Rattle.flow_check.specs.internal.Points.{list_of, point_of, addrs_of}
+use Rattle.flow_check.specs.internal.Points.{addrs_of}
 
 pub noted_append : (xs ys : List Found) (o : Option Violation) → noted (xs ++ ys) o ≡ noted ys (noted xs o)
 noted_append [] ys o = refl
@@ -43,30 +39,17 @@ word_more m pc a words addrs o p e =
     noted_append (because_if (is_secret (nth (word_no m a) words Secret)) pc DataAtExit a) (word_reasons m pc words addrs) o ∙ ap (noted (word_reasons m pc words addrs)) (sym e)
 
 -- ---- the lowest register that is Secret
-found_by : (k n pc : ℕ) (core : List Val) (o : Option Violation) (b : Bool) → is_secret (val core n) ≡ b → b ≡ true →
-    noted (exit_reasons (suc k) n pc core) o ≡ lesser o record { addr = pc; reason = SecretAtExit; value = n }
-found_by k n pc core o b e f = by (is_secret (val core n)) (e ∙ f)
-  where
-    by : (c : Bool) → c ≡ true → noted (cond c (record { addr = pc; why = SecretAtExit; value = n } ∷ []) (exit_reasons k (n + 1) pc core)) o ≡ lesser o record { addr = pc; reason = SecretAtExit; value = n }
-    by true e = refl
-    by false e = absurd cc
-
-next_by : (k n pc : ℕ) (core : List Val) (o : Option Violation) → is_secret (val core n) ≡ false →
-    noted (exit_reasons (suc k) n pc core) o ≡ noted (exit_reasons k (n + 1) pc core) o
-next_by k n pc core o e = by (is_secret (val core n)) e
-  where
-    by : (c : Bool) → c ≡ false → noted (cond c (record { addr = pc; why = SecretAtExit; value = n } ∷ []) (exit_reasons k (n + 1) pc core)) o ≡ noted (exit_reasons k (n + 1) pc core) o
-    by false e = refl
-    by true e = absurd cc
-
 pub exit_found : (n pc : ℕ) (core : List Val) (o : Option Violation) → n < 16 → is_secret (val core n) ≡ true →
     noted (exit_reasons (16 - n) n pc core) o ≡ lesser o record { addr = pc; reason = SecretAtExit; value = n }
-exit_found n pc core o lt e = ap (λ k. noted (exit_reasons k n pc core) o) (let f : 16 - n ≡ suc (15 - n) = omega arith in f) ∙ found_by (15 - n) n pc core o true e refl
+exit_found n pc core o lt e =
+    ap (λ k. noted (exit_reasons k n pc core) o) (let f : 16 - n ≡ suc (15 - n) = omega arith in f)
+    ∙ ap (λ b. noted (cond b (because pc SecretAtExit n) (exit_reasons (15 - n) (n + 1) pc core)) o) e
 
 pub exit_next : (n pc : ℕ) (core : List Val) (o : Option Violation) → n < 16 → is_secret (val core n) ≡ false →
     noted (exit_reasons (16 - n) n pc core) o ≡ noted (exit_reasons (16 - (n + 1)) (n + 1) pc core) o
 exit_next n pc core o lt e =
-    ap (λ k. noted (exit_reasons k n pc core) o) (let f : 16 - n ≡ suc (15 - n) = omega arith in f) ∙ next_by (15 - n) n pc core o e
+    ap (λ k. noted (exit_reasons k n pc core) o) (let f : 16 - n ≡ suc (15 - n) = omega arith in f)
+    ∙ ap (λ b. noted (cond b (because pc SecretAtExit n) (exit_reasons (15 - n) (n + 1) pc core)) o) e
     ∙ ap (λ k. noted (exit_reasons k (n + 1) pc core) o) (let f : 15 - n ≡ 16 - (n + 1) = omega arith in f)
 
 pub exit_done : (n pc : ℕ) (core : List Val) (o : Option Violation) → 16 ≤ n → noted (exit_reasons (16 - n) n pc core) o ≡ o
@@ -81,36 +64,6 @@ pub same_written : (m : Module) (ws : List Val) (xs ys : List Reach) (values : L
 same_written m ws xs ys [] h = none_written m ws xs ∙ sym (none_written m ws ys)
 same_written m ws xs ys (v ∷ vs) h = absurd cc
 
--- ---- an instruction of format I or II
-pub plain_least : (terms : Terms) (m : Module) (text : List ℕ) (insn : Insn) (pc : ℕ) (rs : CallString) (label : Label) (xs : List Reach) (values stored core words : List Val) (stops : Bool) (o0 o1 o2 o3 : Option Violation) →
-    xs ≡ plan_val insn pc label.core → values ≡ map (read_val m text label.words) (read_reaches xs) → core ≡ (does_val insn pc label.core values).core → stored ≡ (does_val insn pc label.core values).stored →
-    words ≡ writes_val m label.words (write_reaches xs) stored →
-    o1 ≡ noted (reach_reasons m pc xs) o0 → o2 ≡ noted (turn_of insn pc (list_of rs) values).reasons o1 → stops ≡ (turn_of insn pc (list_of rs) values).stops →
-    ((returns : List ℕ) → o3 ≡ noted (goes_unless terms stops m pc returns core words).reasons o2) →
-    o3 ≡ noted (step_plain terms m text insn (point_of pc rs label)).reasons o0
-plain_least terms m text insn pc rs label xs values stored core words stops o0 o1 o2 o3 ex ev ec ed ew e1 e2 es e3 =
-    let r : List ℕ = list_of rs in
-    let p : List Reach = plan_val insn pc label.core in
-    let vals : List Reach → List Val = λ xs. map (read_val m text label.words) (read_reaches xs) in
-    let v : List Val = vals p in
-    let evs : values ≡ v = ev ∙ ap vals ex in
-    let first : o1 ≡ noted (reach_reasons m pc p) o0 = e1 ∙ ap (λ x. noted (reach_reasons m pc x) o0) ex in
-    let second : o2 ≡ noted (turn_of insn pc r v).reasons o1 = e2 ∙ ap (λ v. noted (turn_of insn pc r v).reasons o1) evs in
-    let d = does_val insn pc label.core v in
-    let t = turn_of insn pc r v in
-    let ws : List Val = writes_val m label.words (write_reaches p) d.stored in
-    let to_stored : stored ≡ d.stored = ed ∙ ap (λ v. (does_val insn pc label.core v).stored) evs in
-    let to_words : words ≡ ws = ew ∙ ap (λ x. writes_val m label.words (write_reaches x) stored) ex ∙ ap (writes_val m label.words (write_reaches p)) to_stored in
-    let third : o3 ≡ noted (goes_unless terms t.stops m pc t.returns d.core ws).reasons o2 =
-    e3 t.returns ∙ ap (λ s. noted (goes_unless terms s m pc t.returns core words).reasons o2) (es ∙ ap (λ v. (turn_of insn pc r v).stops) evs)
-    ∙ ap (λ c. noted (goes_unless terms t.stops m pc t.returns c words).reasons o2) (ec ∙ ap (λ v. (does_val insn pc label.core v).core) evs)
-    ∙ ap (λ w. noted (goes_unless terms t.stops m pc t.returns d.core w).reasons o2) to_words in
-    let xs0 : List Found = reach_reasons m pc p in
-    let gs : List Found = (goes_unless terms t.stops m pc t.returns d.core ws).reasons in
-    third
-    ∙ ap (noted gs) (second ∙ ap (noted t.reasons) first ∙ sym (noted_append xs0 t.reasons o0))
-    ∙ sym (noted_append (xs0 ++ t.reasons) gs o0)
-
 -- ---- a jump, and a unit instruction
 pub addrs_append : (xs ys : List Point) → addrs_of (xs ++ ys) ≡ addrs_of xs ++ addrs_of ys
 addrs_append [] ys = refl
@@ -124,25 +77,23 @@ pub both_addrs : (xs ys : List Point) (t0 t1 t2 : List ℕ) → t1 ≡ t0 ++ add
 both_addrs xs ys t0 t1 t2 e1 e2 =
     e2 ∙ ap (λ l. l ++ addrs_of ys) e1 ∙ append_assoc t0 (addrs_of xs) (addrs_of ys) ∙ ap (λ l. t0 ++ l) (sym (addrs_append xs ys))
 
+abbrev taken_to : Terms → Module → Insn → Point → Step
+taken_to terms m insn x = goes terms m x.pair.addr x.pair.returns (does_val insn x.pair.addr x.label.core []).core x.label.words
+
+abbrev either_way : Terms → Module → Insn → Point → Step
+either_way terms m insn x =
+    also (because_if (is_secret (val x.label.core 2)) x.pair.addr SecretBranch 0)
+    (both (taken_to terms m insn x) (goes terms m x.pair.addr x.pair.returns (past_val insn x.pair.addr x.label.core) x.label.words))
+
 pub jump_seven : (terms : Terms) (m : Module) (text : List ℕ) (insn : Insn) (cond_no : ℕ) (x : Point) → cond_no ≡ 7 →
-    step_jump terms m text insn cond_no x ≡ goes terms m x.pair.addr x.pair.returns (does_val insn x.pair.addr x.label.core []).core x.label.words
-jump_seven terms m text insn cond_no x e = by (cond_no == 7) (let t : (cond_no == 7) ≡ true = grind (arith, nat_tests) in t)
-  where
-    by : (b : Bool) → b ≡ true → cond b (goes terms m x.pair.addr x.pair.returns (does_val insn x.pair.addr x.label.core []).core x.label.words)
-        (also (because_if (is_secret (val x.label.core 2)) x.pair.addr SecretBranch 0) (both (goes terms m x.pair.addr x.pair.returns (does_val insn x.pair.addr x.label.core []).core x.label.words) (goes terms m x.pair.addr x.pair.returns (past_val insn x.pair.addr x.label.core) x.label.words)))
-        ≡ goes terms m x.pair.addr x.pair.returns (does_val insn x.pair.addr x.label.core []).core x.label.words
-    by true e = refl
-    by false e = absurd cc
+    step_jump terms m text insn cond_no x ≡ taken_to terms m insn x
+jump_seven terms m text insn cond_no x e =
+    ap (λ b. cond b (taken_to terms m insn x) (either_way terms m insn x)) (let t : (cond_no == 7) ≡ true = grind (arith, nat_tests) in t)
 
 pub jump_other : (terms : Terms) (m : Module) (text : List ℕ) (insn : Insn) (cond_no : ℕ) (x : Point) → cond_no ≢ 7 →
-    step_jump terms m text insn cond_no x ≡ also (because_if (is_secret (val x.label.core 2)) x.pair.addr SecretBranch 0) (both (goes terms m x.pair.addr x.pair.returns (does_val insn x.pair.addr x.label.core []).core x.label.words) (goes terms m x.pair.addr x.pair.returns (past_val insn x.pair.addr x.label.core) x.label.words))
-jump_other terms m text insn cond_no x e = by (cond_no == 7) (let t : (cond_no == 7) ≡ false = grind (arith, nat_tests) in t)
-  where
-    by : (b : Bool) → b ≡ false → cond b (goes terms m x.pair.addr x.pair.returns (does_val insn x.pair.addr x.label.core []).core x.label.words)
-        (also (because_if (is_secret (val x.label.core 2)) x.pair.addr SecretBranch 0) (both (goes terms m x.pair.addr x.pair.returns (does_val insn x.pair.addr x.label.core []).core x.label.words) (goes terms m x.pair.addr x.pair.returns (past_val insn x.pair.addr x.label.core) x.label.words)))
-        ≡ also (because_if (is_secret (val x.label.core 2)) x.pair.addr SecretBranch 0) (both (goes terms m x.pair.addr x.pair.returns (does_val insn x.pair.addr x.label.core []).core x.label.words) (goes terms m x.pair.addr x.pair.returns (past_val insn x.pair.addr x.label.core) x.label.words))
-    by false e = refl
-    by true e = absurd cc
+    step_jump terms m text insn cond_no x ≡ either_way terms m insn x
+jump_other terms m text insn cond_no x e =
+    ap (λ b. cond b (taken_to terms m insn x) (either_way terms m insn x)) (let t : (cond_no == 7) ≡ false = grind (arith, nat_tests) in t)
 
 pub unit_fails : (terms : Terms) (m : Module) (insn : Insn) (n : ℕ) (x : Point) → 1 ≤ n → n ≤ 4 → step_unit terms m insn (unit_named n) n x ≡ fails x.pair.addr UnitWord n
 unit_fails terms m insn zero x a b = absurd (omega (arith, a))
@@ -176,19 +127,15 @@ shut_after m pc s ts o0 o1 o2 e1 et e2 =
 
 pub stub_open : (terms : Terms) (m : Module) (text : List ℕ) (x : Point) → (word_number m x.pair.addr == 17) ≡ false → is_open (word_number m x.pair.addr) ≡ true → step_of terms m text x ≡ step_stub terms m text x
 unfolding step_stub
-stub_open terms m text x e f = by (word_number m x.pair.addr == 17) (is_open (word_number m x.pair.addr)) e f
-  where
-    by : (a b : Bool) → a ≡ false → b ≡ true → step_of terms m text x ≡ cond a (step_entries m text x) (shut_if b m x.pair.addr (step_of terms m text x))
-    by false true e f = refl
-    by _ _ e f = absurd cc
+stub_open terms m text x e f =
+    sym (ap (λ b. cond b (step_entries m text x) (shut_if (is_open (word_number m x.pair.addr)) m x.pair.addr (step_of terms m text x))) e
+    ∙ ap (λ b. shut_if b m x.pair.addr (step_of terms m text x)) f)
 
 pub stub_shut : (terms : Terms) (m : Module) (text : List ℕ) (x : Point) → (word_number m x.pair.addr == 17) ≡ false → is_open (word_number m x.pair.addr) ≡ false → shut_if false m x.pair.addr (step_of terms m text x) ≡ step_stub terms m text x
 unfolding step_stub
-stub_shut terms m text x e f = by (word_number m x.pair.addr == 17) (is_open (word_number m x.pair.addr)) e f
-  where
-    by : (a b : Bool) → a ≡ false → b ≡ false → shut_if false m x.pair.addr (step_of terms m text x) ≡ cond a (step_entries m text x) (shut_if b m x.pair.addr (step_of terms m text x))
-    by false false e f = refl
-    by _ _ e f = absurd cc
+stub_shut terms m text x e f =
+    sym (ap (λ b. cond b (step_entries m text x) (shut_if (is_open (word_number m x.pair.addr)) m x.pair.addr (step_of terms m text x))) e
+    ∙ ap (λ b. shut_if b m x.pair.addr (step_of terms m text x)) f)
 
 pub entries_least : (m : Module) (pc : ℕ) (push : Reach) (ts : List Found) (o0 o1 o2 : Option Violation) → noted (reach_reasons m pc (push ∷ [])) o0 ≡ o1 → o2 ≡ noted ts o1 → o2 ≡ noted (reach_reasons m pc (push ∷ []) ++ ts) o0
 entries_least m pc push ts o0 o1 o2 e1 e2 = e2 ∙ ap (noted ts) (sym e1) ∙ sym (noted_append (reach_reasons m pc (push ∷ [])) ts o0)
@@ -201,8 +148,4 @@ pub entries_more : (m : Module) (text : List ℕ) (n k : ℕ) (ts us : List ℕ)
 entries_more m text n k ts us lt e =
     ap (λ j. ts ++ entry_addrs m text j) (let f : n - k ≡ suc (n - (k + 1)) = omega arith in f)
     ∙ ap (λ j. ts ++ word_of m text (38 + j) ∷ entry_addrs m text (n - (k + 1))) (let f : n - (k + 1) ≡ n - 1 - k = omega arith in f)
-    ∙ sym (assoc ts (word_of m text (38 + (n - 1 - k))) (entry_addrs m text (n - (k + 1)))) ∙ ap (λ u. u ++ entry_addrs m text (n - (k + 1))) (sym e)
-  where
-    assoc : (a : List ℕ) (x : ℕ) (b : List ℕ) → (a ++ x ∷ []) ++ b ≡ a ++ x ∷ b
-    assoc [] x b = refl
-    assoc (y ∷ a) x b = ap (λ l. y ∷ l) (assoc a x b)
+    ∙ sym (append_assoc ts (word_of m text (38 + (n - 1 - k)) ∷ []) (entry_addrs m text (n - (k + 1)))) ∙ ap (λ u. u ++ entry_addrs m text (n - (k + 1))) (sym e)

@@ -1,6 +1,5 @@
 -- A walk along an arm, step by step, and the step of a branch with its certificate.
-use Rattle.std.proofs.Common.{◌≡◌, ◌≢◌, ℕ, zero, suc, ◌+◌, ◌<◌, ◌==◌, List, [], ◌∷◌, ◌++◌, find, refl, sym, ap, ◌∙◌, subst, arith, Bool, true, false, cond, ◌&&◌, ◌||◌, not, Option, Some, None, is_some}
-use Rattle.flow_check.specs.declared.call_string.CallString.{CallString}
+use Rattle.std.proofs.Common.{◌≡◌, ◌≢◌, ℕ, zero, suc, ◌+◌, ◌<◌, ◌==◌, List, [], ◌∷◌, ◌++◌, find, refl, sym, ap, ◌∙◌, arith, Bool, true, false, cond, ◌&&◌, not, Option, Some, None}
 use Rattle.std.specs.List.{slice_get}
 use Rattle.std.proofs.lemmas.Bool.Decides.{nat_tests}
 use Rattle.sm_words.specs.Words.{add16}
@@ -27,11 +26,10 @@ use Rattle.flow_check.specs.declared.arm.Tally.{Tally}
 use Rattle.flow_check.specs.internal.Violations.{noted}
 use Rattle.flow_check.specs.declared.program.Program.{Program}
 use Rattle.flow_check.specs.internal.Programs.{flow, base_flow, flow_at}
-use Rattle.flow_check.specs.internal.Points.{point_of, addrs_of, points_at, label_at}
+use Rattle.flow_check.specs.internal.Points.{addrs_of, points_at, label_at}
 use Rattle.flow_check.specs.internal.Arms.{told, site_from, site_by, step_at}
 use Rattle.flow_check.proofs.Clobbering.{core_append, words_append}
 use Rattle.flow_check.proofs.Violations.{noted_append}
-use Rattle.flow_check.proofs.Successors.{none_found}
 
 -- ---- one step
 
@@ -172,23 +170,3 @@ by_site p x o c e f = site_is (base_flow p) p.arms.now p.module.now p.text.now x
 
 pub by_none : (p : Program) (x : Point) (o : Option BranchSite) → o ≡ site_there p x → o ≡ None → flow p x ≡ base_flow p x
 by_none p x o e f = site_is (base_flow p) p.arms.now p.module.now p.text.now x ∙ ap (λ o. step_at o (base_flow p) p.module.now p.text.now x) (sym e ∙ f)
-
--- ---- what the code's step tells
-
-pub calm_step : (S : Point → Step) (pc : ℕ) (r0 r : CallString) (l : Label) (o0 o : Option Violation) → r0 ≡ r → o0 ≡ None → o ≡ noted (S (point_of pc r0 l)).reasons o0 → is_some o ≡ false → (S (point_of pc r l)).reasons ≡ []
-calm_step S pc r0 r l o0 o er eo e none =
-    none_found (S (point_of pc r l)).reasons
-    (sym (e ∙ ap (λ r. noted (S (point_of pc r l)).reasons o0) er ∙ ap (λ o. noted (S (point_of pc r l)).reasons o) eo) ∙ nothing o none)
-  where
-    nothing : (o : Option Violation) → is_some o ≡ false → o ≡ None
-    nothing None e = refl
-    nothing (Some c) e = absurd cc
-
-pub same_successors : (S : Point → Step) (pc : ℕ) (r0 r : CallString) (l : Label) (t0 t : List ℕ) → r0 ≡ r → t0 ≡ [] → t ≡ t0 ++ addrs_of (S (point_of pc r0 l)).gives → t ≡ addrs_of (S (point_of pc r l)).gives
-same_successors S pc r0 r l t0 t er et e = e ∙ ap (λ t0. t0 ++ addrs_of (S (point_of pc r0 l)).gives) et ∙ ap (λ r. addrs_of (S (point_of pc r l)).gives) er
-
-pub same_points : (S : Point → Step) (pc : ℕ) (r0 r : CallString) (l l1 : Label) (rs : List ℕ) → r0 ≡ r → (S (point_of pc r l)).reasons ≡ [] →
-    ((S (point_of pc r0 l)).reasons ≡ [] → (S (point_of pc r0 l)).gives ≡ points_at (addrs_of (S (point_of pc r0 l)).gives) rs l1) → (S (point_of pc r l)).gives ≡ points_at (addrs_of (S (point_of pc r l)).gives) rs l1
-same_points S pc r0 r l l1 rs er none h =
-    let Q : CallString → Type 0 = λ r. (S (point_of pc r l)).reasons ≡ [] → (S (point_of pc r l)).gives ≡ points_at (addrs_of (S (point_of pc r l)).gives) rs l1 in
-    subst Q er h none

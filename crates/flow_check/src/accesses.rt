@@ -14,6 +14,9 @@ use insn_decode::{Insn, OneOp, Operand, TwoOp};
 use pc_access::Kind;
 use sm_words::Width;
 
+/// The accesses of an instruction.
+pub type Reaches = ArrayVec<Reach, 3>;
+
 /// Moves PC past the instruction at `pc`.
 pub fn step_past(insn: &Insn, pc: u16, core: &mut Core)
     ensures { core.new ≡ past_val insn.now pc core.old }
@@ -77,7 +80,7 @@ pub fn writes_destination(op: TwoOp) -> bool
 }
 
 /// Adds an access, if it is wanted and has an address.
-fn add(reaches: &mut ArrayVec<Reach, 3>, wanted: bool, kind: Kind, width: Width, addr: Option<Val>)
+fn add(reaches: &mut Reaches, wanted: bool, kind: Kind, width: Width, addr: Option<Val>)
     requires { array_vec_len reaches.old < 3 }
     ensures items { reaches.new.items ≡ reaches.old.items ++ reach_if wanted kind width addr }
     ensures length { array_vec_len reaches.new ≤ array_vec_len reaches.old + 1 }
@@ -90,31 +93,16 @@ fn add(reaches: &mut ArrayVec<Reach, 3>, wanted: bool, kind: Kind, width: Width,
 }
 
 /// What an instruction of format I reaches, whose operands have these addresses.
-fn reaches_two(
-    op: TwoOp,
-    width: Width,
-    source: Option<Val>,
-    destination: Option<Val>,
-) -> ArrayVec<Reach, 3>
+fn reaches_two(op: TwoOp, width: Width, source: Option<Val>, destination: Option<Val>) -> Reaches
     ensures { result.items ≡ reach_if true Kind.Read width source ++ reach_if (reads_dst op) Kind.Read width destination
         ++ reach_if (writes_dst op) Kind.Write width destination }
 {
-    let mut reaches = ArrayVec::new();
+    let reads = reads_destination(op);
+    let writes = writes_destination(op);
+    let mut reaches = Reaches::new();
     add(&mut reaches, true, Kind::Read, width, source);
-    add(
-        &mut reaches,
-        reads_destination(op),
-        Kind::Read,
-        width,
-        destination,
-    );
-    add(
-        &mut reaches,
-        writes_destination(op),
-        Kind::Write,
-        width,
-        destination,
-    );
+    add(&mut reaches, reads, Kind::Read, width, destination);
+    add(&mut reaches, writes, Kind::Write, width, destination);
     reaches
 }
 
@@ -133,13 +121,7 @@ fn second(ext: u16, src: Operand) -> u16
 }
 
 /// Adds what an instruction of format II writes.
-fn add_write(
-    reaches: &mut ArrayVec<Reach, 3>,
-    op: OneOp,
-    width: Width,
-    operand: Option<Val>,
-    sp: Val,
-)
+fn add_write(reaches: &mut Reaches, op: OneOp, width: Width, operand: Option<Val>, sp: Val)
     requires { array_vec_len reaches.old < 3 }
     ensures { reaches.new.items ≡ reaches.old.items ++ one_reach op width operand sp }
 {
@@ -153,10 +135,10 @@ fn add_write(
 }
 
 /// What an instruction of format II reaches, whose operand has this address, with SP lowered.
-fn reaches_one(op: OneOp, width: Width, operand: Option<Val>, sp: Val) -> ArrayVec<Reach, 3>
+fn reaches_one(op: OneOp, width: Width, operand: Option<Val>, sp: Val) -> Reaches
     ensures { result.items ≡ reach_if true Kind.Read width operand ++ one_reach op width operand sp }
 {
-    let mut reaches = ArrayVec::new();
+    let mut reaches = Reaches::new();
     add(&mut reaches, true, Kind::Read, width, operand);
     add_write(&mut reaches, op, width, operand, sp);
     reaches
@@ -164,7 +146,7 @@ fn reaches_one(op: OneOp, width: Width, operand: Option<Val>, sp: Val) -> ArrayV
 
 /// What the instruction at `pc` reaches, in order.
 #[tactic(auto, unfolding(flow_rule::specs::Does::plan_val))]
-pub fn reaches(insn: &Insn, pc: u16, core: &Core) -> ArrayVec<Reach, 3>
+pub fn reaches(insn: &Insn, pc: u16, core: &Core) -> Reaches
     ensures { result.items ≡ plan_val insn.now pc core.now }
 {
     let mut after = *core;
@@ -188,6 +170,6 @@ pub fn reaches(insn: &Insn, pc: u16, core: &Core) -> ArrayVec<Reach, 3>
             lower(&mut after);
             reaches_one(op, width, operand, get(&after, 1))
         }
-        Insn::Jump { .. } | Insn::Reti | Insn::Unit(_) => ArrayVec::new(),
+        Insn::Jump { .. } | Insn::Reti | Insn::Unit(_) => Reaches::new(),
     }
 }

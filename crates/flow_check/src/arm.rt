@@ -16,8 +16,8 @@ use crate::clobbers::{clobber_registers, clobber_words};
 use crate::point::Point;
 use crate::program::Program;
 use crate::relevant::Relevance;
-use crate::step::{Stepped, Targets};
-use crate::stub::step_base;
+use crate::step::Targets;
+use crate::stub::step_point;
 use crate::violation::{Violation, note};
 use arm_balance::met_arm;
 use cycle_table::cycles;
@@ -87,17 +87,17 @@ fn walk_on(
     ensures cycles { tally.new.cycles ≤ tally.old.cycles + 6 }
 {
     let module = program.module;
-    let Some((insn, next)) = met_arm(module.text, program.text, point.addr, join) else {
-        note(&mut tally.least, branch, Reason::Arm, point.addr);
+    let pc = point.addr;
+    let Some((insn, next)) = met_arm(module.text, program.text, pc, join) else {
+        note(&mut tally.least, branch, Reason::Arm, pc);
         return false;
     };
-    let reaches = reaches(&insn, point.addr, &point.state.core);
+    let reaches = reaches(&insn, pc, &point.state.core);
     let reached = reaches.as_slice();
     relevance.follow(module, &insn, reached);
-    let mut stepped = Stepped::new(&point.call_string);
-    step_base(program, point.addr, &mut point.state, &mut stepped);
+    let stepped = step_point(program, point);
     if stepped.least.is_some() {
-        note(&mut tally.least, branch, Reason::Arm, point.addr);
+        note(&mut tally.least, branch, Reason::Arm, pc);
         return false;
     }
     match first_of(&stepped.targets) {

@@ -8,7 +8,6 @@ ghost use Rattle.flow_rule.specs.Does.{past_val, does_val};
 ghost use Rattle.flow_rule.specs.Arms.{arm_start};
 ghost use Rattle.flow_check.specs.internal.Violations.{noted};
 ghost use Rattle.flow_check.specs.internal.Points.{point_at};
-ghost use Rattle.flow_check.specs.internal.Terms.{terms_of};
 ghost use Rattle.flow_check.specs.internal.Programs.{flow_at};
 ghost use Rattle.flow_check.specs.internal.Summaries.{clobbered};
 ghost use Rattle.flow_check.specs.internal.Arms.{site_by};
@@ -40,14 +39,9 @@ pub struct BranchSite {
 fn is_same_jump(one: &Insn, other: &Insn) -> bool
     ensures { result ≡ true → one.now ≡ other.now }
 {
-    match *one {
-        Insn::Jump { cond, offset } => match *other {
-            Insn::Jump {
-                cond: other_cond,
-                offset: other_offset,
-            } => cond == other_cond && offset == other_offset,
-            _ => false,
-        },
+    match (*one, *other) {
+        (Insn::Jump { cond, offset }, Insn::Jump { cond: c, offset: o }) => cond == c
+            && offset == o,
         _ => false,
     }
 }
@@ -145,40 +139,27 @@ pub fn walk_arms(
     relevance: &mut Relevance,
 )
     ensures least { least.new ≡ noted (flow_at program.now site.now (point_at from.now)).reasons least.old }
-    ensures told { told.new
-        ≡ clobbered (terms_of program.now) program.now.module.now program.now.text.now site.now (point_at from.now)
-        told.old }
+    ensures told { told.new ≡ clobbered program.now site.now (point_at from.now) told.old }
 {
+    let pc = from.addr;
     let BranchSite { insn, target, arm } = *site;
+    let wanted = u32::from(arm.cycles);
     let mut tally = Tally {
         least: *least,
         cycles: 0,
         state: *told,
     };
     let apart = !program.module.text.holds(usize::from(arm.join));
-    note_if(apart, &mut tally.least, from.addr, Reason::Arm, arm.join);
+    note_if(apart, &mut tally.least, pc, Reason::Arm, arm.join);
     let first = first_arm(&insn, from);
     let second = second_arm(&insn, target, from);
-    walk(program, from.addr, arm.join, &first, &mut tally, relevance);
-    let first_time = tally.cycles;
+    walk(program, pc, arm.join, &first, &mut tally, relevance);
+    let first_late = tally.cycles != wanted;
     tally.cycles = 0;
-    walk(program, from.addr, arm.join, &second, &mut tally, relevance);
-    let second_time = tally.cycles;
-    let wanted = u32::from(arm.cycles);
-    note_if(
-        first_time != wanted,
-        &mut tally.least,
-        from.addr,
-        Reason::ArmTime,
-        0,
-    );
-    note_if(
-        second_time != wanted,
-        &mut tally.least,
-        from.addr,
-        Reason::ArmTime,
-        1,
-    );
+    walk(program, pc, arm.join, &second, &mut tally, relevance);
+    let second_late = tally.cycles != wanted;
+    note_if(first_late, &mut tally.least, pc, Reason::ArmTime, 0);
+    note_if(second_late, &mut tally.least, pc, Reason::ArmTime, 1);
     *least = tally.least;
     *told = tally.state;
 }

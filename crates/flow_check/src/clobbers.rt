@@ -9,7 +9,7 @@ ghost use Rattle.flow_check.specs.internal.Arms.{one_regs};
 ghost use Rattle.flow_rule.specs.Arms.{stepped_regs, written_reg, written_regs, written_words, blot_core};
 
 use crate::accesses::writes_destination;
-use crate::domain::{Core, put};
+use crate::domain::{Core, Words, put};
 use crate::memory::{put_word, word_number};
 use flow_rule::{Reach, Val};
 use insn_decode::{Insn, OneOp, Operand};
@@ -64,7 +64,7 @@ fn clobber_operand(op: OneOp, arg: Operand, core: &mut Core)
 }
 
 /// The word that an access writes, before others.
-fn clobber_reach(module: &Module, reach: &Reach, words: &mut [Val; 256])
+fn clobber_reach(module: &Module, reach: &Reach, words: &mut Words)
     ensures { (rest : List Reach) → set_each
         (written_words module.now (write_reaches (reach.now ∷ rest))) Val.Secret words.old
         ≡ set_each (written_words module.now (write_reaches rest)) Val.Secret words.new }
@@ -77,7 +77,7 @@ fn clobber_reach(module: &Module, reach: &Reach, words: &mut [Val; 256])
 }
 
 /// The words that these accesses write.
-pub fn clobber_words(module: &Module, reaches: &[Reach], words: &mut [Val; 256])
+pub fn clobber_words(module: &Module, reaches: &[Reach], words: &mut Words)
     ensures { words.new ≡ set_each (written_words module.now (write_reaches reaches.now)) Val.Secret words.old }
 {
     for reach in reaches {

@@ -27,11 +27,7 @@ pub fn is_secret(value: Val) -> bool
 pub fn join(a: Val, b: Val) -> Val
     ensures { result ≡ join a b }
 {
-    if a == b {
-        a
-    } else {
-        blurred_both(a, b)
-    }
+    if a == b { a } else { blurred_both(a, b) }
 }
 
 /// Secret or Public.
@@ -111,6 +107,9 @@ pub fn carry(flags: Val) -> Val
 
 /// What is known of each register, by its number: PC's value is the program point's address, SR's is the flags'.
 pub type Core = [Val; 16];
+
+/// What is known of each word of the data.
+pub type Words = [Val; 256];
 
 /// What a register keeps of a value.
 fn kept(n: u8, value: Val) -> Val

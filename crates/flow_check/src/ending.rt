@@ -8,7 +8,7 @@ ghost use Rattle.flow_rule.specs.Going.{closes, leaves};
 ghost use Rattle.flow_check.specs.internal.Violations.{noted};
 ghost use Rattle.flow_check.specs.internal.Terms.{terms_of};
 
-use crate::domain::{Core, get, is_secret};
+use crate::domain::{Core, Words, get, is_secret};
 use crate::memory::{known, word_number};
 use crate::program::Program;
 use crate::violation::{Violation, note, note_if};
@@ -56,13 +56,7 @@ fn bare(core: &Core, answers: &[u8]) -> Core
 
 /// What is wrong with a public word, before others.
 #[tactic(auto, using(crate::proofs::Violations::word_more))]
-fn check_word(
-    module: &Module,
-    pc: u16,
-    words: &[Val; 256],
-    addr: u16,
-    least: &mut Option<Violation>,
-)
+fn check_word(module: &Module, pc: u16, words: &Words, addr: u16, least: &mut Option<Violation>)
     ensures { (rest : List ℕ) → noted (word_reasons module.now pc words.now (addr ∷ rest)) least.old
         ≡ noted (word_reasons module.now pc words.now rest) least.new }
 {
@@ -74,7 +68,7 @@ fn check_word(
 fn check_words(
     module: &Module,
     pc: u16,
-    words: &[Val; 256],
+    words: &Words,
     public: &[u16],
     least: &mut Option<Violation>,
 )

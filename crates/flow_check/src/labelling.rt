@@ -172,17 +172,11 @@ impl Labelling {
         ensures none { result ≡ None → mark_at self.now i ≡ false }
     {
         match self.nodes.get(i) {
-            Some(node) => {
-                if node.changed {
-                    Some(Changed {
-                        place: i,
-                        point: node.point,
-                    })
-                } else {
-                    None
-                }
-            }
-            None => None,
+            Some(node) if node.changed => Some(Changed {
+                place: i,
+                point: node.point,
+            }),
+            Some(_) | None => None,
         }
     }
 

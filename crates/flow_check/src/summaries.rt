@@ -4,14 +4,11 @@
 
 ghost use Rattle.std.specs.Prelude.{◌≡◌, ◌≢◌, ◌≤◌, ◌<◌, ◌%◌, ℕ, List, IfSome, IfOk, Some};
 ghost use Rattle.std.specs.Prelude.{None, true, slice_get, All, []};
-ghost use Rattle.mod_layout.specs.declared.Module.{Module};
-ghost use Rattle.flow_rule.specs.Terms.{Terms};
-ghost use Rattle.flow_check.specs.internal.Terms.{terms_of};
-ghost use Rattle.flow_check.specs.internal.Points.{addrs_of, point_at, point_of};
-ghost use Rattle.flow_check.specs.internal.Programs.{flow, flow_at, AreSummaries};
-ghost use Rattle.flow_check.specs.internal.Summaries.{branch_step, blank, branch_from, OpensTo, IsSummary};
+ghost use Rattle.flow_check.specs.declared.program.Program.{Program};
+ghost use Rattle.flow_check.specs.internal.Points.{addrs_of, point_at};
+ghost use Rattle.flow_check.specs.internal.Programs.{flow, flow_at};
+ghost use Rattle.flow_check.specs.internal.Summaries.{blank, branch_from, OpensTo, IsSummary, AreSummaries};
 ghost use Rattle.flow_check.specs.declared.summaries.Outcome.{Outcome};
-ghost use Rattle.arrayvec.specs.ArrayVec.{array_vec_len};
 ghost use Rattle.flow_rule.specs.Rounds.{given_by};
 ghost use Rattle.flow_check.specs.declared.violation.Violation.{Violation};
 ghost use Rattle.flow_check.specs.internal.Violations.{noted};
@@ -24,7 +21,7 @@ use crate::point::Point;
 use crate::program::Program;
 use crate::relevant::{Relevance, like};
 use crate::step::Stepped;
-use crate::stub::step_base;
+use crate::stub::{step_base, step_point};
 use crate::violation::{Violation, note};
 use flow_rule::{Label, Reason, arms_rest};
 use std::alloc::{AllocError, Global};
@@ -73,7 +70,7 @@ fn walked(
     state: &Label,
     relevance: &mut Relevance,
 ) -> Summary
-    ensures is { IsSummary (terms_of program.now) program.now.module.now program.now.text.now result }
+    ensures is { IsSummary program.now result }
     ensures branch { result.branch ≡ pc }
     ensures site { result.site ≡ site.now }
     ensures state { result.state ≡ state.now }
@@ -101,8 +98,7 @@ fn walked(
 /// Walks the arms of a branch under its state, and writes what they write where there is no violation.
 fn applied(program: &Program<'_>, site: &BranchSite, pc: u16, state: &mut Label) -> Outcome
     ensures open { result ≡ Outcome.Open → (returns : List ℕ) →
-        OpensTo (terms_of program.now) program.now.module.now program.now.text.now site.now
-        (branch_from pc returns state.old) state.new }
+        OpensTo program.now site.now (branch_from pc returns state.old) state.new }
     ensures shut { result ≡ Outcome.Shut → (returns : List ℕ) →
         (flow_at program.now site.now (branch_from pc returns state.old)).reasons ≢ [] }
 {
@@ -120,8 +116,8 @@ fn applied(program: &Program<'_>, site: &BranchSite, pc: u16, state: &mut Label)
 /// Puts a summary in this place, or behind all others.
 #[tactic(auto, using(crate::proofs::Subsuming::kept_push, crate::proofs::Subsuming::kept_set))]
 fn put(list: &mut Vec<Summary>, place: usize, summary: Summary) -> Result<(), AllocError>
-    ensures { IfOk result (λ _. (terms : Terms) (m : Module) (text : List ℕ) → IsSummary terms m text summary →
-        All (IsSummary terms m text) list.old.items → All (IsSummary terms m text) list.new.items) }
+    ensures { IfOk result (λ _. (p : Program) → IsSummary p summary →
+        AreSummaries p list.old.items → AreSummaries p list.new.items) }
 {
     if place < list.len() {
         list[place] = summary;
@@ -152,7 +148,7 @@ fn learned(
     pc: u16,
     state: &Label,
 ) -> Summary
-    ensures { IsSummary (terms_of program.now) program.now.module.now program.now.text.now result }
+    ensures { IsSummary program.now result }
 {
     let mut none = Relevance::new(false);
     if let Some(near) = near
@@ -179,7 +175,7 @@ fn learned(
 impl Summaries {
     /// No summary.
     pub fn new(alloc: Global) -> Summaries
-        ensures { (terms : Terms) (m : Module) (text : List ℕ) → All (IsSummary terms m text) result.list.items }
+        ensures { (p : Program) → AreSummaries p result.list.items }
     {
         Summaries {
             list: Vec::new(alloc),
@@ -194,25 +190,17 @@ impl Summaries {
         ensures there { IfSome result (λ p. slice_get self.now.list.items place ≡ Some p) }
     {
         match self.list.get(place) {
-            Some(summary) => {
-                if summary.branch == pc && is_same(&summary.site, site) {
-                    Some(*summary)
-                } else {
-                    None
-                }
-            }
-            None => None,
+            Some(summary) if summary.branch == pc && is_same(&summary.site, site) => Some(*summary),
+            Some(_) | None => None,
         }
     }
 
     /// What the summary there says of a branch under a state. Where the branch is open, its arms then write.
     fn answer(&self, place: usize, site: &BranchSite, pc: u16, state: &mut Label) -> Option<Outcome>
-        ensures open { result ≡ Some Outcome.Open → (terms : Terms) (m : Module) (text returns : List ℕ) →
-            m.text.start % 2 ≡ 0 → All (IsSummary terms m text) self.now.list.items →
-            OpensTo terms m text site.now (branch_from pc returns state.old) state.new }
-        ensures shut { result ≡ Some Outcome.Shut → (terms : Terms) (m : Module) (text returns : List ℕ) →
-            m.text.start % 2 ≡ 0 → All (IsSummary terms m text) self.now.list.items →
-            (branch_step terms m text site.now (branch_from pc returns state.old)).reasons ≢ [] }
+        ensures open { result ≡ Some Outcome.Open → (p : Program) (returns : List ℕ) →
+            AreSummaries p self.now.list.items → OpensTo p site.now (branch_from pc returns state.old) state.new }
+        ensures shut { result ≡ Some Outcome.Shut → (p : Program) (returns : List ℕ) →
+            AreSummaries p self.now.list.items → (flow_at p site.now (branch_from pc returns state.old)).reasons ≢ [] }
         ensures silent { result ≡ None → state.new ≡ state.old }
     {
         arms_rest();
@@ -246,12 +234,10 @@ impl Summaries {
         pc: u16,
         state: &mut Label,
     ) -> Option<Outcome>
-        ensures open { result ≡ Some Outcome.Open → (terms : Terms) (m : Module) (text returns : List ℕ) →
-            m.text.start % 2 ≡ 0 → All (IsSummary terms m text) self.now.list.items →
-            OpensTo terms m text site.now (branch_from pc returns state.old) state.new }
-        ensures shut { result ≡ Some Outcome.Shut → (terms : Terms) (m : Module) (text returns : List ℕ) →
-            m.text.start % 2 ≡ 0 → All (IsSummary terms m text) self.now.list.items →
-            (branch_step terms m text site.now (branch_from pc returns state.old)).reasons ≢ [] }
+        ensures open { result ≡ Some Outcome.Open → (p : Program) (returns : List ℕ) →
+            AreSummaries p self.now.list.items → OpensTo p site.now (branch_from pc returns state.old) state.new }
+        ensures shut { result ≡ Some Outcome.Shut → (p : Program) (returns : List ℕ) →
+            AreSummaries p self.now.list.items → (flow_at p site.now (branch_from pc returns state.old)).reasons ≢ [] }
         ensures silent { result ≡ None → state.new ≡ state.old }
     {
         if let Some(place) = own
@@ -264,9 +250,8 @@ impl Summaries {
 
     /// Keeps a summary in a point's own place, and tells the place.
     fn keep(&mut self, own: Option<usize>, summary: Summary) -> Result<usize, AllocError>
-        ensures summaries { IfOk result (λ _. (terms : Terms) (m : Module) (text : List ℕ) →
-            IsSummary terms m text summary → All (IsSummary terms m text) self.old.list.items →
-            All (IsSummary terms m text) self.new.list.items) }
+        ensures summaries { IfOk result (λ _. (p : Program) → IsSummary p summary →
+            AreSummaries p self.old.list.items → AreSummaries p self.new.list.items) }
     {
         let place = match own {
             Some(place) => place,
@@ -288,8 +273,7 @@ impl Summaries {
     ) -> Result<Outcome, AllocError>
         requires summaries { AreSummaries program.now self.old.list.items }
         ensures open { IfOk result (λ outcome. outcome ≡ Outcome.Open → (returns : List ℕ) →
-            OpensTo (terms_of program.now) program.now.module.now program.now.text.now site.now
-            (branch_from pc returns state.old) state.new) }
+            OpensTo program.now site.now (branch_from pc returns state.old) state.new) }
         ensures shut { IfOk result (λ outcome. outcome ≡ Outcome.Shut → (returns : List ℕ) →
             (flow_at program.now site.now (branch_from pc returns state.old)).reasons ≢ []) }
         ensures summaries { IfOk result (λ _. AreSummaries program.now self.new.list.items) }
@@ -309,9 +293,8 @@ impl Summaries {
 
     /// Whether it is known that a branch has no violation under its state.
     pub fn is_open(&self, own: Option<usize>, site: &BranchSite, pc: u16, state: &Label) -> bool
-        ensures { result ≡ true → (terms : Terms) (m : Module) (text returns : List ℕ) → m.text.start % 2 ≡ 0 →
-            All (IsSummary terms m text) self.now.list.items →
-            (branch_step terms m text site.now (branch_from pc returns state.now)).reasons ≡ [] }
+        ensures { result ≡ true → (p : Program) (returns : List ℕ) → AreSummaries p self.now.list.items →
+            (flow_at p site.now (branch_from pc returns state.now)).reasons ≡ [] }
     {
         let mut state = *state;
         match self.known(own, site, pc, &mut state) {
@@ -321,42 +304,40 @@ impl Summaries {
     }
 }
 
-/// The step of a program point, of whose violations only this is told: whether there is one.
+/// The step of a program point, whose state becomes that of all that it gives; of its violations only this is told:
+/// whether there is one.
 pub fn step_with(
     program: &Program<'_>,
     summaries: &mut Summaries,
     own: &mut Option<usize>,
-    pc: u16,
-    state: &mut Label,
-    stepped: &mut Stepped,
-) -> Result<(), AllocError>
+    point: &mut Point,
+) -> Result<Stepped, AllocError>
     requires summaries { AreSummaries program.now summaries.old.list.items }
-    requires none { array_vec_len stepped.old.targets ≡ 0 }
-    requires empty { stepped.old.targets.items ≡ [] }
-    requires calm { stepped.old.least ≡ None }
-    ensures calm { IfOk result (λ _. stepped.new.least ≡ None →
-        (flow program.now (point_of pc stepped.old.call_string state.old)).reasons ≡ []) }
-    ensures stirred { IfOk result (λ _. (c : Violation) → stepped.new.least ≡ Some c →
-        given_by (flow program.now (point_of pc stepped.old.call_string state.old)) ≡ []) }
-    ensures targets { IfOk result (λ _. stepped.new.least ≡ None → stepped.new.targets.items
-        ≡ addrs_of (flow program.now (point_of pc stepped.old.call_string state.old)).gives) }
-    ensures successors { IfOk result (λ _. stepped.new.least ≡ None →
-        SuccessorsAlike (flow program.now (point_of pc stepped.old.call_string state.old))
-        stepped.new.call_string state.new) }
+    ensures calm { IfOk result (λ s. s.least ≡ None → (flow program.now (point_at point.old)).reasons ≡ []) }
+    ensures stirred { IfOk result (λ s. (c : Violation) → s.least ≡ Some c →
+        given_by (flow program.now (point_at point.old)) ≡ []) }
+    ensures targets { IfOk result (λ s. s.least ≡ None → s.targets.items
+        ≡ addrs_of (flow program.now (point_at point.old)).gives) }
+    ensures successors { IfOk result (λ s. s.least ≡ None →
+        SuccessorsAlike (flow program.now (point_at point.old)) s.call_string point.new.state) }
     ensures summaries { IfOk result (λ _. AreSummaries program.now summaries.new.list.items) }
 {
-    match site_of(program, pc, state) {
+    let pc = point.addr;
+    match site_of(program, pc, &point.state) {
         Some(site) => {
-            match summaries.apply(program, &site, own, pc, state)? {
-                Outcome::Open => stepped.targets.push(site.arm.join),
-                Outcome::Shut => note(&mut stepped.least, pc, Reason::Arm, pc),
+            let mut stepped = Stepped::new(&point.call_string);
+            match summaries.apply(program, &site, own, pc, &mut point.state)? {
+                Outcome::Open => {
+                    stepped.targets.push(site.arm.join);
+                    Ok(stepped)
+                }
+                Outcome::Shut => {
+                    note(&mut stepped.least, pc, Reason::Arm, pc);
+                    Ok(stepped)
+                }
             }
-            Ok(())
         }
-        None => {
-            step_base(program, pc, state, stepped);
-            Ok(())
-        }
+        None => Ok(step_point(program, point)),
     }
 }
 

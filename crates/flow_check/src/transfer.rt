@@ -114,13 +114,11 @@ fn two(op: TwoOp, width: Width, s: Val, d: Val, c: Val) -> Told
             value: s,
             flags: None,
         },
-        _ => worked(
-            op,
-            width,
-            s,
-            read_if(reads_destination(op), d),
-            read_if(reads_carry(op), c),
-        ),
+        _ => {
+            let d = read_if(reads_destination(op), d);
+            let c = read_if(reads_carry(op), c);
+            worked(op, width, s, d, c)
+        }
     }
 }
 

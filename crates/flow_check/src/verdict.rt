@@ -7,7 +7,8 @@ ghost use Rattle.flow_rule.specs.Rounds.{all_reasons, Point, IsLabelling};
 ghost use Rattle.flow_rule.specs.Verdict.{Decided};
 ghost use Rattle.flow_check.specs.internal.Violations.{verdict_of, noted};
 ghost use Rattle.flow_check.specs.internal.Points.{points_of};
-ghost use Rattle.flow_check.specs.internal.Programs.{flow, AreSummaries};
+ghost use Rattle.flow_check.specs.internal.Programs.{flow};
+ghost use Rattle.flow_check.specs.internal.Summaries.{AreSummaries};
 
 use crate::labelling::{Changed, Labelling};
 use crate::program::Program;
@@ -53,16 +54,10 @@ fn verdict_of(least: Option<Violation>) -> Verdict
     ensures { result ≡ verdict_of least }
 {
     match least {
-        Some(
-            Violation {
-                addr,
-                reason,
-                value,
-            },
-        ) => Verdict::No {
-            addr,
-            reason,
-            value,
+        Some(violation) => Verdict::No {
+            addr: violation.addr,
+            reason: violation.reason,
+            value: violation.value,
         },
         None => Verdict::Yes,
     }

@@ -3,12 +3,12 @@
 ghost use Rattle.std.specs.Prelude.{◌≡◌, ◌≤◌, ◌<◌, ◌∷◌, List, length, true, false, IfOk};
 ghost use Rattle.flow_rule.specs.Rounds.{join_all, given};
 ghost use Rattle.flow_check.specs.internal.Points.{fronts_of, points_of};
-ghost use Rattle.flow_check.specs.internal.Programs.{flow, AreSummaries};
+ghost use Rattle.flow_check.specs.internal.Programs.{flow};
+ghost use Rattle.flow_check.specs.internal.Summaries.{AreSummaries};
 ghost use Rattle.flow_check.specs.internal.Labellings.{Kept, NoMark, StillKept};
 
 use crate::labelling::{Changed, Labelling};
 use crate::program::Program;
-use crate::step::Stepped;
 use crate::summaries::{Summaries, step_with};
 use std::alloc::{AllocError, Global};
 
@@ -31,25 +31,14 @@ fn give(
     ensures kept { IfOk result (λ _. StillKept all.old all.new) }
     ensures summaries { IfOk result (λ _. AreSummaries program.now summaries.new.list.items) }
 {
-    let mut stepped = Stepped::new(&changed.point.call_string);
-    let mut state = changed.point.state;
-    let mut own = all.summary(changed.place);
-    step_with(
-        program,
-        summaries,
-        &mut own,
-        changed.point.addr,
-        &mut state,
-        &mut stepped,
-    )?;
-    all.set_summary(changed.place, own);
+    let from = changed.place;
+    let mut point = changed.point;
+    let mut own = all.summary(from);
+    let stepped = step_with(program, summaries, &mut own, &mut point)?;
+    all.set_summary(from, own);
     if stepped.least.is_none() {
-        all.take(
-            changed.place,
-            &mut state,
-            stepped.targets.as_slice(),
-            &stepped.call_string,
-        )?;
+        let targets = stepped.targets.as_slice();
+        all.take(from, &mut point.state, targets, &stepped.call_string)?;
     }
     Ok(())
 }

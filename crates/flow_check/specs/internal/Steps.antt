@@ -1,5 +1,5 @@
 -- Steps as the code tells them: addresses, with one list of return addresses and one state but for PC.
-use Rattle.std.specs.Prelude.{◌≡◌, ◌++◌, ℕ, []}
+use Rattle.std.specs.Prelude.{◌≡◌, ◌++◌, ℕ, [], None}
 use Rattle.insn_decode.specs.declared.insn.Insn.{Insn}
 use Rattle.insn_decode.specs.declared.insn.Insn.TheVariants.{Jump}
 use Rattle.mod_layout.specs.declared.Module.{Module}
@@ -26,6 +26,12 @@ pub record Tells (step : Step) (old new : Stepped) (state : Label) : Type 0 wher
   pub targets : new.targets.items ≡ old.targets.items ++ addrs_of step.gives
   pub successors : SuccessorsAlike step new.call_string state
 
+-- the same where nothing was told before
+pub record Gives (step : Step) (new : Stepped) (state : Label) : Type 0 where
+  pub least : new.least ≡ noted step.reasons None
+  pub targets : new.targets.items ≡ addrs_of step.gives
+  pub successors : SuccessorsAlike step new.call_string state
+
 -- the step to where a jump goes
 abbrev pub jump_step : Terms → Module → Insn → ℕ → CallString → Label → Step
 jump_step terms m insn pc returns label = goes terms m pc (list_of returns) (does_val insn pc label.core []).core label.words
@@ -39,7 +45,7 @@ abbrev pub id_step : Terms → Module → Insn → ℕ → CallString → Label 
 id_step terms m insn pc returns label =
     goes terms m pc (list_of returns) (put_val (past_val insn pc label.core) 15 Public) label.words
 
--- a jump with this condition
-abbrev pub IsJump : Insn → ℕ → Type 0
-IsJump (Jump c offset) cond = c ≡ cond
-IsJump insn cond = ⊥
+-- a jump
+abbrev pub IsJump : Insn → Type 0
+IsJump (Jump cond offset) = Unit {0}
+IsJump insn = ⊥

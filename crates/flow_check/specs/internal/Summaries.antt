@@ -1,28 +1,23 @@
 -- One walk along the arms of a branch serves many states.
-use Rattle.std.specs.Prelude.{◌≡◌, ◌≢◌, ℕ, List, [], ◌∷◌, ◌++◌, replicate}
-use Rattle.mod_layout.specs.declared.Module.{Module}
-use Rattle.flow_rule.specs.Terms.{Terms}
+use Rattle.std.specs.Prelude.{◌≡◌, ◌≢◌, ℕ, List, [], ◌∷◌, ◌++◌, replicate, All}
 use Rattle.flow_rule.specs.declared.Label.{Label}
 use Rattle.flow_rule.specs.declared.Val.{Val}
 use Rattle.flow_rule.specs.declared.Val.TheVariants.{Public, Secret}
 use Rattle.flow_rule.specs.Values.{set_each}
-use Rattle.flow_rule.specs.Rounds.{Point, Step}
-use Rattle.flow_rule.specs.Arms.{blot_core, first_walk, second_walk, step_arm}
-use Rattle.flow_rule.specs.Verdict.{flow_step}
+use Rattle.flow_rule.specs.Rounds.{Point}
+use Rattle.flow_rule.specs.Arms.{blot_core, first_walk, second_walk}
+use Rattle.flow_check.specs.declared.program.Program.{Program}
 use Rattle.flow_check.specs.declared.branch.BranchSite.{BranchSite}
 use Rattle.flow_check.specs.declared.summaries.Answer.{Answer}
 use Rattle.flow_check.specs.declared.summaries.Answer.TheVariants.{Open, Shut}
 use Rattle.flow_check.specs.declared.summaries.Summary.{Summary}
-
--- the step of a branch by its certificate
-abbrev pub branch_step : Terms → Module → List ℕ → BranchSite → Point → Step
-branch_step terms m text c x = step_arm (flow_step terms m text) m text c.insn c.target c.arm x
+use Rattle.flow_check.specs.internal.Programs.{base_flow, flow_at}
 
 -- a state with Secret where the arms write
-abbrev pub clobbered : Terms → Module → List ℕ → BranchSite → Point → Label → Label
-clobbered terms m text c x l =
-    let w0 = first_walk (flow_step terms m text) m text c.insn c.arm x in
-    let w1 = second_walk (flow_step terms m text) m text c.insn c.target c.arm x in
+abbrev pub clobbered : Program → BranchSite → Point → Label → Label
+clobbered p c x l =
+    let w0 = first_walk (base_flow p) p.module.now p.text.now c.insn c.arm x in
+    let w1 = second_walk (base_flow p) p.module.now p.text.now c.insn c.target c.arm x in
     record { core = blot_core (w0.regs ++ w1.regs) l.core; words = set_each (w0.words ++ w1.words) Secret l.words }
 
 -- nothing is written
@@ -44,14 +39,17 @@ abbrev pub branch_from : ℕ → List ℕ → Label → Point
 branch_from a returns l = record { pair = record { addr = a; returns = returns }; label = l }
 
 -- no reason at a branch, and what its state becomes
-abbrev pub OpensTo : Terms → Module → List ℕ → BranchSite → Point → Label → Type 0
-OpensTo terms m text c x l = ((branch_step terms m text c x).reasons ≡ []) × (l ≡ clobbered terms m text c x x.label)
+abbrev pub OpensTo : Program → BranchSite → Point → Label → Type 0
+OpensTo p c x l = ((flow_at p c x).reasons ≡ []) × (l ≡ clobbered p c x x.label)
 
 -- what the arms of a branch come to
-abbrev pub ComesTo : Terms → Module → List ℕ → BranchSite → Point → Answer → Type 0
-ComesTo terms m text c x (Open told) = ((branch_step terms m text c x).reasons ≡ []) × (told ≡ clobbered terms m text c x blank)
-ComesTo terms m text c x Shut = (branch_step terms m text c x).reasons ≢ []
+abbrev pub ComesTo : Program → BranchSite → Point → Answer → Type 0
+ComesTo p c x (Open told) = ((flow_at p c x).reasons ≡ []) × (told ≡ clobbered p c x blank)
+ComesTo p c x Shut = (flow_at p c x).reasons ≢ []
 
 -- what is kept of a branch's arms is so under its own state
-abbrev pub IsSummary : Terms → Module → List ℕ → Summary → Type 0
-IsSummary terms m text p = ComesTo terms m text p.site (branch_from p.branch [] p.state) p.answer
+abbrev pub IsSummary : Program → Summary → Type 0
+IsSummary p s = ComesTo p s.site (branch_from s.branch [] s.state) s.answer
+
+abbrev pub AreSummaries : Program → List Summary → Type 0
+AreSummaries p list = All (IsSummary p) list

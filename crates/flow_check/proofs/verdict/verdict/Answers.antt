@@ -7,7 +7,6 @@ use Rattle.flow_check.proofs.Iterating.{reached_more}
 use Rattle.flow_check.proofs.Taking.{points_long}
 use Rattle.flow_check.proofs.Verdicts.{rests_there, decided_many}
 use Rattle.flow_check.proofs.Weights.{ends}
-use Rattle.flow_check.specs.internal.Terms.{terms_of}
 use Rattle.flow_check.proofs.verdict.verdict.Goals as goal
 
 abbrev start_at : ℕ → Label → Point
@@ -45,7 +44,7 @@ pub loop-front-init : goal.loop-front-init
 loop-front-init c = (
   c.in_ok-all.ensures.few,
   c.in_ok-all.ensures.reached (flow c.args.program.now),
-  c.new-summaries.ensures (terms_of c.args.program.now) c.args.program.now.module.now c.args.program.now.text.now,
+  c.new-summaries.ensures c.args.program.now,
 )
 
 pub decide-requires-clause-fit : goal.decide-requires-clause-fit

@@ -1,7 +1,8 @@
 use Rattle.std.proofs.Common.{◌≤◌, ◌+◌, ◌-◌, ◌*◌, length, []}
 use Rattle.flow_check.specs.internal.Points.{points_of}
 use Rattle.flow_check.specs.internal.Labellings.{Reached}
-use Rattle.flow_check.specs.internal.Programs.{flow, AreSummaries}
+use Rattle.flow_check.specs.internal.Programs.{flow}
+use Rattle.flow_check.specs.internal.Summaries.{AreSummaries}
 use Rattle.flow_check.specs.internal.Weights.{weight_of, has_mark}
 use Rattle.flow_check.proofs.verdict.verdict.Given as goal
 

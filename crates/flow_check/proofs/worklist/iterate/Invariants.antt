@@ -2,7 +2,8 @@ use Rattle.std.proofs.Common.{◌≡◌, drop}
 use Rattle.flow_rule.specs.Rounds.{join_all, given}
 use Rattle.flow_check.specs.internal.Points.{points_of, fronts_of}
 use Rattle.flow_check.specs.internal.Labellings.{Kept}
-use Rattle.flow_check.specs.internal.Programs.{flow, AreSummaries}
+use Rattle.flow_check.specs.internal.Programs.{flow}
+use Rattle.flow_check.specs.internal.Summaries.{AreSummaries}
 use Rattle.flow_check.proofs.worklist.iterate.Given as goal
 
 abbrev pub invariant-loop-changed : goal.invariant-loop-changed
