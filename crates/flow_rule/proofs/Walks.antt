@@ -2,7 +2,6 @@
 use Rattle.std.proofs.Common.{◌≡◌, ℕ, ◌+◌, List, [], ◌++◌, refl, ap, arith, Option, Some, None}
 use Rattle.insn_decode.specs.declared.insn.Insn.{Insn}
 use Rattle.mod_layout.specs.declared.Module.{Module}
-use Rattle.cycle_table.specs.Cycles.{cycles_of}
 use Rattle.arm_balance.specs.Balance.{met_cycles}
 use Rattle.flow_rule.specs.Rounds.{Point}
 use Rattle.flow_rule.specs.Does.{plan_val, write_reaches}

@@ -7,7 +7,6 @@ use Rattle.mod_layout.specs.declared.Module.{Module}
 use Rattle.arm_balance.specs.Met.{text_byte, met}
 use Rattle.attest.specs.Units.{UnitName, Unprotect, OwnId, CallerId, unit_named}
 use Rattle.flow_rule.specs.Terms.{Terms}
-use Rattle.flow_rule.specs.declared.Val.{Val}
 use Rattle.flow_rule.specs.declared.Val.TheVariants.{Public}
 use Rattle.flow_rule.specs.Values.{is_secret, val, put_val}
 use Rattle.flow_rule.specs.declared.Reason.TheVariants.{SecretBranch, UnknownTarget, Illegal, Unit as UnitWord}
