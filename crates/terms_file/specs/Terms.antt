@@ -1,8 +1,9 @@
 -- The text of terms: lines `answer rN`, then lines `public AAAA`.
-use Rattle.std.specs.Prelude.{ℕ, ◌+◌, ◌%◌, ◌==◌, if◌then◌else◌, List, [], ◌∷◌, drop, codes, Option, Some, None, Result}
+use Rattle.std.specs.Prelude.{ℕ, ◌+◌, ◌%◌, ◌==◌, if◌then◌else◌, List, [], ◌∷◌, ◌++◌, drop, codes, Option, Some, None, Result}
+use Rattle.std.specs.Fmt.{decimal}
 use Rattle.std.specs.List.{starts_with, flat_map}
 use Rattle.texts.specs.Decimals.{read_decimal}
-use Rattle.texts.specs.Hexadecimals.{read_hex_word}
+use Rattle.texts.specs.Hexadecimals.{hex_word, read_hex_word}
 use Rattle.texts.specs.Rows.{Rows, rows_of}
 use Rattle.cpu_step.specs.Lone.{is_answer}
 use Rattle.terms_file.specs.declared.Term.{Term}
@@ -62,3 +63,15 @@ registers_in terms = flat_map answer_in terms
 
 abbrev pub addresses_in : List Term → List ℕ
 addresses_in terms = flat_map public_in terms
+
+-- a term as its line, and with the LF that ends it
+abbrev pub term_text : Term → List ℕ
+term_text (Answer n) = codes "answer r" ++ decimal n
+term_text (Public a) = codes "public " ++ hex_word a
+
+abbrev pub term_line : Term → List ℕ
+term_line term = term_text term ++ codes "\n"
+
+-- the text of terms, a line each
+abbrev pub terms_text : List Term → List ℕ
+terms_text terms = flat_map term_line terms

@@ -8,9 +8,11 @@
 pub mod laws;
 mod lists;
 mod reading;
+mod writing;
 
 pub use lists::{answers, public};
 pub use reading::read_terms;
+pub use writing::terms_text;
 
 /// What one line says.
 #[derive(Clone, Copy, Debug, PartialEq, Eq)]

@@ -1,5 +1,5 @@
 use Rattle.std.specs.Result.{is_ok}
-use Rattle.std.proofs.Common.{not, true, sym, ◌≡◌, ◌∙◌, ap, ◌≤◌, arith, rules}
+use Rattle.std.proofs.Common.{not, true, sym, ◌≡◌, ◌∙◌, ap, arith}
 use Rattle.texts.proofs.RowLemmas.{IsRead-start, IsRead-push}
 use Rattle.terms_file.specs.Terms.{term_rows}
 use Rattle.terms_file.proofs.reading.read_terms.Goals as goal
