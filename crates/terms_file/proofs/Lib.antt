@@ -1,2 +1,3 @@
 pub mod Pushing
 pub mod Registers
+pub mod ReadingBack
