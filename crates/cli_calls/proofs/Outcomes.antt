@@ -1,17 +1,21 @@
 -- The files that a command needs: each holds one thing or has a fault, so that one thing comes of a command.
-use Rattle.std.proofs.Common.{◌≡◌, ℕ, ◌<◌, List, [], ◌∷◌, length, Option, Some, None, refl, sym, ◌∙◌, ap, ap₂, subst, arith, inl, inr}
+use Rattle.std.proofs.Common.{◌≡◌, ℕ, ◌<◌, List, [], ◌∷◌, length, Some, refl, sym, ◌∙◌, ap, ap₂, subst, arith, inl, inr}
 use Rattle.std.specs.Prelude.{IsSomeAnd}
 use Rattle.sm_io.specs.Files.{FileMap}
 use Rattle.flow_rule.specs.Verdict.{start_under}
 use Rattle.flow_rule.specs.Arms.{flow_under}
 use Rattle.link_symbols.specs.declared.fault.LinkFault.{LinkFault}
+use Rattle.terms_file.specs.declared.Term.{Term}
+use Rattle.terms_file.specs.Terms.{terms_text}
+use Rattle.flow_rule.specs.declared.Verdict.{Verdict}
 use Rattle.cli_files.specs.declared.answers.FileFault.{FileFault}
 use Rattle.cli_files.specs.declared.answers.FileFault.TheVariants as fault
 use Rattle.cli_files.specs.Files.{Held, IsHeld, most_bytes, HasFault, Need, Holds, HoldAll, IsFirstFault}
-use Rattle.cli_calls.specs.Command.{Command, Outcome, gives, runs, refuses, judges, nothing, Answer, IfAnswered, trace_answer, Comes, IsAnswer, IsJudged, verdict_answer, Answers}
+use Rattle.cli_calls.specs.Command.{Command, Outcome, gives, runs, refuses, judges, offers, nothing, Answer, IfAnswered, trace_answer, Comes, IsAnswer, IsJudged, IsOffer, verdict_answer, offer_answer, Answers}
 use Rattle.cli_files.proofs.OneContent.{one_held, accepted}
 use Rattle.flow_rule.proofs.Ends.{some_verdict}
 use Rattle.flow_rule.proofs.OneVerdict.{one_verdict}
+use Rattle.cli_calls.proofs.Offering.{one_offer, some_offer}
 
 -- Outcomes
 
@@ -20,6 +24,9 @@ one_told (gives own) a b r s = sym r ∙ s
 one_told (runs value entries cycles) a b r s = sym r ∙ s
 one_told (judges terms owner text arms) a b r s =
     r.tells ∙ ap verdict_answer (one_verdict (flow_under terms owner text arms) (start_under terms owner text) owner.text.start r.verdict s.verdict r.is s.is) ∙ sym s.tells
+one_told (offers granted owner text arms) a b r s =
+    let same = one_offer owner text arms granted (length granted) [] r.terms s.terms r.verdict s.verdict r.is s.is in
+    r.tells ∙ ap₂ (λ (ts : List Term) (v : Verdict). offer_answer (terms_text ts) v) same.0 same.1 ∙ sym s.tells
 one_told (refuses fault name) a b r s = absurd r
 one_told nothing a b r s = absurd r
 
@@ -92,5 +99,10 @@ some_answer map command (judges terms owner text arms) P some c p =
     let v = some_verdict (flow_under terms owner text arms) (start_under terms owner text) owner.text.start in
     let told : IsJudged terms owner text arms (verdict_answer v.0) = record { verdict = v.0; is = v.1; tells = refl } in
     (verdict_answer v.0, told, p (verdict_answer v.0) (record { outcome = judges terms owner text arms; comes = c; is = told }))
+some_answer map command (offers granted owner text arms) P some c p =
+    let o = some_offer owner text arms granted (length granted) [] in
+    let answer = offer_answer (terms_text o.0) o.1 in
+    let told : IsOffer granted owner text arms answer = record { terms = o.0; verdict = o.1; is = o.2; tells = refl } in
+    (answer, told, p answer (record { outcome = offers granted owner text arms; comes = c; is = told }))
 some_answer map command (refuses fault name) P some c p = tt
 some_answer map command nothing P some c p = absurd (some refl)

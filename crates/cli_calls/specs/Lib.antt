@@ -2,6 +2,7 @@ pub mod Words
 pub mod Ids
 pub mod Values
 pub mod Verdicts
+pub mod Offers
 pub mod Command
 pub mod Linking
 pub mod Runs

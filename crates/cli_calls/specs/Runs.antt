@@ -1,12 +1,11 @@
 -- What a command is answered, and why it is refused.
-use Rattle.std.specs.Prelude.{◌≡◌, ℕ, true, false, List, Option}
+use Rattle.std.specs.Prelude.{◌≡◌, ℕ, false, List, Option}
 use Rattle.sm_io.specs.Faults.{HasCause}
 use Rattle.sm_io.specs.Files.{FileMap}
 use Rattle.cli_files.specs.declared.answers.Status.{Status}
 use Rattle.cli_files.specs.declared.answers.Status.TheVariants as status
 use Rattle.cli_files.specs.declared.answers.Refusal.{Refusal}
 use Rattle.cli_files.specs.declared.answers.Refusal.TheVariants as refusal
-use Rattle.cli_files.specs.Files.{Need, IsFirstFault, IsReached}
 use Rattle.cli_files.specs.Causes.{IsNeedCause}
 use Rattle.image_text.specs.Image.{IsImage}
 use Rattle.cli_calls.specs.Command.{Answer, Command, Comes, Outcome, runs, refuses, IsAnswer}
