@@ -84,6 +84,24 @@ if [ -x "$lab" ]; then
     printf '%s\n' 'sancus-lab: bad file none.txt: Absent' 'status 4' >wanted
     lab steps shop.img none.txt 9
     check 'steps on a schedule that is not there'
+    "$sancus" link "$top/examples/answers/mac.toml" "$top/examples/answers/mac.o" >mac.img
+    cp "$top/examples/answers/mac.terms" own.terms
+    printf '%s\n' yes 'status 0' >wanted
+    lab released mac.img 1 own.terms -
+    check 'a module that answers in a register'
+    cp own.terms wanted
+    echo 'status 0' >>wanted
+    lab terms mac.img 1 own.terms -
+    check 'terms that are granted and needed'
+    printf '%s\n' 'sancus-lab: usage' 'status 2' >wanted
+    lab terms mac.img 0 own.terms -
+    check 'terms of no module'
+    printf '%s\n' 'public 0000' >outside.terms
+    printf '%s\n' 'no 0000 NotData' 'status 9' >wanted
+    lab released mac.img 1 outside.terms -
+    check 'a public word outside the data'
+    lab terms mac.img 1 outside.terms -
+    check 'a granted word outside the data'
     for words in channel/module_1.img=interrupts/pulse_inside.txt interrupts/called.img=interrupts/pulse_inside.txt \
         channel/plain_1.img=-; do
         image=$top/examples/${words%=*}

@@ -7,6 +7,7 @@ use Rattle.lab_cli.specs.MapCommand.{map_of}
 use Rattle.lab_cli.specs.ReleasedCommand.{released_of}
 use Rattle.lab_cli.specs.SweepCommand.{sweep_of}
 use Rattle.lab_cli.specs.StepsCommand.{steps_of}
+use Rattle.lab_cli.specs.TermsCommand.{offer_of}
 
 -- by the first word, with the fewest and the most values that may follow
 abbrev pub command_by : Text → List Text → Option Command
@@ -15,6 +16,7 @@ command_by name words =
     else if bytes_eq name (codes "released") then option_and_then released_of (values_in 4 4 words)
     else if bytes_eq name (codes "sweep") then option_and_then sweep_of (values_in 6 6 words)
     else if bytes_eq name (codes "steps") then option_and_then steps_of (values_in 3 3 words)
+    else if bytes_eq name (codes "terms") then option_and_then offer_of (values_in 4 4 words)
     else None
 
 -- what the words ask for, or none

@@ -1,8 +1,12 @@
 pub mod MapCommand
+pub mod PublicWords
+pub mod UnderTerms
 pub mod ReleasedCommand
 pub mod SweepCommand
 pub mod StepsCommand
+pub mod TermsCommand
 pub mod CommandLine
 pub mod Sweeps
 pub mod Releases
+pub mod Offerings
 pub mod internal

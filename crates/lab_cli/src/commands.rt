@@ -8,6 +8,7 @@ use crate::map::{self, MapCommand};
 use crate::released::{self, ReleasedCommand};
 use crate::steps::{self, StepsCommand};
 use crate::sweep::{self, SweepCommand};
+use crate::terms::{self, TermsCommand};
 use cli_calls::Answering;
 use cli_files::{Refused, Status};
 use sm_io::{Files, Sink};
@@ -20,6 +21,7 @@ pub enum LabCommand<'a> {
     Released(ReleasedCommand<'a>),
     Sweep(SweepCommand<'a>),
     Steps(StepsCommand<'a>),
+    Terms(TermsCommand<'a>),
 }
 
 /// The command that the words are.
@@ -54,6 +56,8 @@ fn command_by<'a>(
         Ok(sweep::read(alloc, words)?.map(LabCommand::Sweep))
     } else if name == "steps" {
         Ok(steps::read(alloc, words)?.map(LabCommand::Steps))
+    } else if name == "terms" {
+        Ok(terms::read(alloc, words)?.map(LabCommand::Terms))
     } else {
         Ok(None)
     }
@@ -75,6 +79,7 @@ impl Answering for LabCommand<'_> {
             LabCommand::Released(command) => command.answer(alloc, files, out),
             LabCommand::Sweep(command) => command.answer(alloc, files, out),
             LabCommand::Steps(command) => command.answer(alloc, files, out),
+            LabCommand::Terms(command) => command.answer(alloc, files, out),
         }
     }
 }

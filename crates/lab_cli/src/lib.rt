@@ -3,9 +3,11 @@
 
 mod commands;
 mod map;
+mod public_words;
 mod released;
 mod steps;
 mod sweep;
+mod terms;
 mod top;
 
 pub use top::serve;

@@ -8,10 +8,13 @@ ghost use Rattle.sm_io.specs.Faults.{HasCause};
 ghost use Rattle.cli_files.specs.Causes.{IsNeedCause};
 ghost use Rattle.cli_files.specs.Files.{Holds, need, terms_file, the_terms};
 ghost use Rattle.cli_files.specs.NameText.{name_text};
+ghost use Rattle.cli_calls.specs.Offers.{told_by};
 ghost use Rattle.cli_calls.specs.Words.{texts, values_in};
-ghost use Rattle.lab_cli.specs.ReleasedCommand.{arms_needs, told_needs, released_of, told_by};
+ghost use Rattle.lab_cli.specs.ReleasedCommand.{released_of};
+ghost use Rattle.lab_cli.specs.UnderTerms.{arms_needs, told_needs};
 ghost use Rattle.lab_cli.specs.internal.ReleasedCommand.{AreArmsOf, released_asked};
 
+use crate::public_words::{not_data, put_not_data};
 use cli_calls::{Answering, file_named, id_of, put_verdict, text_of, values_of};
 use cli_files::{Chosen, NO_MEMORY, Refusal, Refused, Status, load, load_with};
 use flow_check::{Arms, Verdict, check_under};
@@ -78,22 +81,25 @@ impl Answering for ReleasedCommand<'_> {
             Ok(told) => told,
             Err(refused) => return Err(refused),
         };
-        match verdict_under(alloc, &chosen, &told) {
+        if let Some(addr) = not_data(&chosen.module, told.terms.list.as_slice()) {
+            return Ok(put_not_data(out, addr));
+        }
+        match verdict_under(alloc, &chosen, &told.terms, &told.arms) {
             Ok(verdict) => Ok(put_verdict(out, verdict)),
             Err(AllocError) => Err(NO_MEMORY),
         }
     }
 }
 
-// What the owner of a module says of it.
+/// What the owner of a module says of it.
 #[derive(Drop)]
-struct Told {
-    terms: Terms,
-    arms: Arms,
+pub struct Told {
+    pub terms: Terms,
+    pub arms: Arms,
 }
 
-// What the files of terms and of certificates hold.
-fn load_told<'a, F: Files>(
+/// What the files of terms and of certificates hold.
+pub fn load_told<'a, F: Files>(
     alloc: Global,
     terms: &'a str,
     arms: Option<&'a str>,
@@ -149,19 +155,24 @@ fn load_arms<'a, F: Files>(
     }
 }
 
-// The verdict of a module's text under these terms, with these certificates.
-fn verdict_under(alloc: Global, chosen: &Chosen, told: &Told) -> Result<Verdict, AllocError>
+/// The verdict of a module's text under these terms, with these certificates.
+pub fn verdict_under(
+    alloc: Global,
+    chosen: &Chosen,
+    terms: &Terms,
+    arms: &Arms,
+) -> Result<Verdict, AllocError>
     requires { IsModule chosen.now.image.table.given chosen.now.«module» }
-    ensures { IfOk result (λ v. VerdictUnder (told_by told.now.terms.list.items) chosen.now.«module»
-        (section chosen.now.«module».text chosen.now.image.memory) told.now.arms.list.items v) }
+    ensures { IfOk result (λ v. VerdictUnder (told_by terms.now.list.items) chosen.now.«module»
+        (section chosen.now.«module».text chosen.now.image.memory) arms.now.list.items v) }
 {
-    let answers = terms_file::answers(alloc, told.terms.list.as_slice())?;
-    let public = terms_file::public(alloc, told.terms.list.as_slice())?;
+    let answers = terms_file::answers(alloc, terms.list.as_slice())?;
+    let public = terms_file::public(alloc, terms.list.as_slice())?;
     check_under(
         alloc,
         &chosen.module,
         text_of(chosen),
-        &told.arms,
+        arms,
         answers.as_slice(),
         public.as_slice(),
     )

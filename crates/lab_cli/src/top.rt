@@ -8,6 +8,7 @@ ghost use Rattle.cli_files.specs.declared.answers.Status.{Status as Statuses};
 ghost use Rattle.cli_files.specs.Files.{IsFirstFault};
 ghost use Rattle.cli_calls.specs.Calls.{Completes, Ended, IsOrOutside, Refuses, called};
 ghost use Rattle.cli_calls.specs.Command.{Command, Comes, IfAnswered, Outcome, refuses};
+ghost use Rattle.cli_calls.specs.Offers.{told_by};
 ghost use Rattle.cli_calls.specs.Words.{texts};
 ghost use Rattle.image_text.specs.Image.{Image};
 ghost use Rattle.mod_layout.specs.declared.Module.{Module};
@@ -16,7 +17,7 @@ ghost use Rattle.peer_rows.specs.Laws.{DifferInData};
 ghost use Rattle.terms_file.specs.declared.Term.{Term};
 ghost use Rattle.written_machine.specs.Peers.{Peers, PeersBut, section};
 ghost use Rattle.lab_cli.specs.CommandLine.{command_of};
-ghost use Rattle.lab_cli.specs.ReleasedCommand.{told_by};
+ghost use Rattle.lab_cli.specs.Offerings.{AreAccepted, IsOffering};
 ghost use Rattle.lab_cli.specs.Releases.{IsRelease};
 ghost use Rattle.lab_cli.specs.Sweeps.{IsSweep};
 
@@ -67,6 +68,11 @@ pub fn serve<F: Files, O: Sink, E: Sink>(
         IsRelease (texts words.now) (F.content files.old) value id terms → DifferInData value other id owner →
         AgreeOn owner (told_by terms).public (section owner.ram value.memory) (section owner.ram other.memory) →
         PeersBut value other id (told_by terms).answers }
+
+    // Terms that are offered are some of the granted ones, and the module is judged yes under them.
+    ensures offered { result ≡ Status.Done → (value : Image) (owner : Module) (granted : List Term) →
+        IsOffering (texts words.now) (F.content files.old) value owner granted →
+        AreAccepted value owner granted (Took O.taken O.faults O.sure out.old out.new) }
 
     // Files that are sound are read without a fault.
     ensures sound { IsTrue (F.sound files.old) →

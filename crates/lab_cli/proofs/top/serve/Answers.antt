@@ -6,6 +6,7 @@ use Rattle.cli_calls.proofs.Outcomes.{some_answer}
 use Rattle.lab_cli.specs.CommandLine.{command_of}
 use Rattle.cli_calls.proofs.Given.{gives_answer}
 use Rattle.lab_cli.specs.SweepCommand.{sweep_answer, sweep_command}
+use Rattle.lab_cli.proofs.Accepting.{are_accepted}
 use Rattle.lab_cli.proofs.Releasing.{released_peers}
 use Rattle.lab_cli.proofs.Serving.{no_row_differs, something, sweep_comes}
 use Rattle.lab_cli.proofs.top.serve.Goals as goal
@@ -38,3 +39,7 @@ returns-clause-peers g c = λ first second id is peers.
 pub returns-clause-released : goal.returns-clause-released
 returns-clause-released g c = λ e value other id owner terms i d agree.
     released_peers _ _ _ _ _ value other id owner terms i d agree (at _ _ _ _ _ _ _ _ status.Done (returns-clause-ended g c) e).0 c.accepted_are_peers.ensures.answers c.terms_name_answers.ensures.registers
+
+pub returns-clause-offered : goal.returns-clause-offered
+returns-clause-offered g c = λ e value owner granted i.
+    are_accepted _ _ _ _ _ value owner granted i (at _ _ _ _ _ _ _ _ status.Done (returns-clause-ended g c) e).0

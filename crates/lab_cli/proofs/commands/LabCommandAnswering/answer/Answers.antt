@@ -5,3 +5,6 @@ returns-in-Steps-clause-ok g c = rw c.in-Steps.is c.answer-in-Steps.ensures.ok
 
 pub returns-in-Released-clause-ok : goal.returns-in-Released-clause-ok
 returns-in-Released-clause-ok g c = rw c.in-Released.is c.answer-in-Released.ensures.ok
+
+pub returns-in-Terms-clause-ok : goal.returns-in-Terms-clause-ok
+returns-in-Terms-clause-ok g c = rw c.in-Terms.is c.answer-in-Terms.ensures.ok
