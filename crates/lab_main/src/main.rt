@@ -35,6 +35,16 @@ fn words_of(rt: &HostRuntime, alloc: Global) -> Result<Vec<String>, AllocError> 
     Ok(words)
 }
 
+// A command that judges a module under terms.
+fn judging<'a>(alloc: Global, name: &'a str, about: &'a str) -> Result<Command<'a>, AllocError> {
+    Command::new(alloc, name)
+        .about(about)
+        .arg(Arg::new(alloc, "IMAGE").required(true))?
+        .arg(Arg::new(alloc, "ID").required(true))?
+        .arg(Arg::new(alloc, "TERMS").required(true))?
+        .arg(Arg::new(alloc, "ARMS").required(true))
+}
+
 // What clap tells of the program.
 fn described<'a>(alloc: Global) -> Result<Command<'a>, AllocError> {
     let objects = Arg::new(alloc, "OBJ")
@@ -44,6 +54,11 @@ fn described<'a>(alloc: Global) -> Result<Command<'a>, AllocError> {
         .about("Writes where all that objects link to stands, by name")
         .arg(Arg::new(alloc, "LAYOUT").required(true))?
         .arg(objects)?;
+    let released = judging(
+        alloc,
+        "released",
+        "Says whether a module tells nothing but its answers",
+    )?;
     let steps = Command::new(alloc, "steps")
         .about("Runs an image, and writes each instruction with what it reads, writes and changes")
         .arg(Arg::new(alloc, "IMAGE").required(true))?
@@ -57,13 +72,16 @@ fn described<'a>(alloc: Global) -> Result<Command<'a>, AllocError> {
         .arg(Arg::new(alloc, "FROM").required(true))?
         .arg(Arg::new(alloc, "TO").required(true))?
         .arg(Arg::new(alloc, "CYCLES").required(true))?;
+    let terms = judging(alloc, "terms", "Writes the terms that a module needs, of those granted")?;
     Command::new(alloc, NAME)
         .version(VERSION)
         .about("Tells the owner of an image of protected modules what sancus leaves out")
         .disable_help_subcommand(true)
         .subcommand(map)?
+        .subcommand(released)?
         .subcommand(steps)?
-        .subcommand(sweep)
+        .subcommand(sweep)?
+        .subcommand(terms)
 }
 
 // What clap answers to a line that is no command.
