@@ -1,14 +1,10 @@
--- The order of refusals: some conditions one after another, some at each index.
--- the first one, else the other
-use Rattle.std.specs.Prelude.{◌≡◌, ◌≢◌, ℕ, zero, suc, Bool, true, false, List, [], ◌∷◌, ◌++◌, Option, Some, None, Result, Ok, Err}
+-- The order of refusals: some conditions one after another, some at each index. `refuse_if` is a refusal where its
+-- condition holds, and `or_else` the first one, else the other.
+use Rattle.std.specs.Prelude.{◌≡◌, ◌≢◌, ℕ, zero, suc, List, [], ◌∷◌, ◌++◌, Option, Some, None, Result, Ok, Err}
 use Rattle.elf_objects.specs.declared.fault.ElfFault.{ElfFault}
 use Rattle.elf_objects.specs.declared.fault.ElfFault.TheVariants as fault
+pub use Rattle.std.specs.Bool.{then_some as refuse_if}
 pub use Rattle.std.specs.Option.{option_or as or_else}
-
--- this refusal, where its condition holds
-abbrev pub refuse_if : {F : Type 0} → Bool → F → Option F
-refuse_if true fault = Some fault
-refuse_if false fault = None
 
 -- the first refusal of a list
 abbrev pub first_of : {F : Type 0} → List (Option F) → Option F
