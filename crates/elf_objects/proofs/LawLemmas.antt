@@ -6,6 +6,7 @@ use Rattle.std.proofs.lemmas.List.Elements.{All-append, All-push, All-nil, All-s
 use Rattle.std.proofs.lemmas.Option.{slice_get_within, get_or_from_slice_get, slice_get-get_or}
 use Rattle.std.specs.Prelude.{slice_get, IfSome}
 use Rattle.std.specs.List.{All, position_from}
+use Rattle.std.specs.Option.{option_map}
 use Rattle.elf_objects.specs.declared.fault.ElfFault.{ElfFault}
 use Rattle.elf_objects.specs.declared.section.Header.{Header}
 use Rattle.elf_objects.specs.declared.object.Span.{Span}
@@ -17,7 +18,7 @@ use Rattle.elf_objects.specs.Passes.{or_else, refuse_if, first_below, each_below
 use Rattle.elf_objects.specs.Header.{section_count, name_table, table_fault}
 use Rattle.elf_objects.specs.Section.{header_of, is_absent, section_fault, link_fault, name_table_fault, content, section_faults, link_faults, symbol_table, index_if, is_kept_table, is_kind, is_loaded, is_loaded_header}
 use Rattle.elf_objects.specs.Names.{name_end, name_span, section_names, name_fault, name_faults, section_of, sections_of}
-use Rattle.elf_objects.specs.Symbol.{entry_of, count_in, strings_of, symbol_fault, symbol_of, home_of, symbols_header, header_at, count_of, faults_in, symbol_faults, symbols_in, symbols_of}
+use Rattle.elf_objects.specs.Symbol.{entry_of, count_in, strings_of, symbol_fault, symbol_of, home_of, symbols_header, count_of, faults_in, symbol_faults, symbols_in, symbols_of}
 use Rattle.elf_objects.specs.Relocation.{relocation_of, entry_fault, relocation_fault, relocation_faults, relocations_at, relocations_of}
 use Rattle.elf_objects.specs.Object.{elf_fault_of, contents_fault, ObjectValue, IsObject, IsWithin, IsSection, IsHome, IsSymbol, IsRelocation}
 use Rattle.elf_objects.proofs.PassLemmas.{length_each_below, at_each}
@@ -239,7 +240,7 @@ symbols_law file s sound found e =
     all_each_below (IsSymbol (length file) (section_count file)) (symbol_of file (header_of file s)) (count_in (header_of file s))
     (λ k lt. symbol_law file (header_of file s) k ends (below_none _ _ k e lt))
 
-all_symbols_by : (file : List ℕ) (o : Option ℕ) → IsSound file → symbol_table file ≡ o → faults_in file (header_at file o) ≡ None → All (IsSymbol (length file) (section_count file)) (symbols_in file (header_at file o))
+all_symbols_by : (file : List ℕ) (o : Option ℕ) → IsSound file → symbol_table file ≡ o → faults_in file (option_map (header_of file) o) ≡ None → All (IsSymbol (length file) (section_count file)) (symbols_in file (option_map (header_of file) o))
 all_symbols_by file None sound found e = All-nil _
 all_symbols_by file (Some s) sound found e = symbols_law file s sound found e
 
@@ -283,7 +284,7 @@ count_few file s sound found =
     let ends = section_ends file s (below_none _ _ s sound.sections at.0) (grind (arith, nat_tests)) in
     omega (arith, ends)
 
-symbols_few_by : (file : List ℕ) (o : Option ℕ) → IsSound file → symbol_table file ≡ o → 16 * length (symbols_in file (header_at file o)) ≤ length file
+symbols_few_by : (file : List ℕ) (o : Option ℕ) → IsSound file → symbol_table file ≡ o → 16 * length (symbols_in file (option_map (header_of file) o)) ≤ length file
 symbols_few_by file None sound found = omega arith
 symbols_few_by file (Some s) sound found =
     let e = length_each_below (symbol_of file (header_of file s)) (count_in (header_of file s)) in

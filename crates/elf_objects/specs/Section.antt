@@ -1,5 +1,7 @@
 -- Section headers (TIS ELF 1.2, "Sections"), what is loaded, and which sections are refused.
-use Rattle.std.specs.Prelude.{ℕ, ◌+◌, ◌*◌, ◌%◌, List, [], ◌∷◌, length, take, drop, Bool, true, false, not, ◌&&◌, ◌||◌, ◌==◌, nat_lt, if◌then◌else◌, Option, Some, None}
+use Rattle.std.specs.Prelude.{ℕ, ◌+◌, ◌*◌, ◌%◌, List, [], ◌∷◌, length, take, drop, Bool, false, not, ◌&&◌, ◌||◌, ◌==◌, nat_lt, if◌then◌else◌, Option}
+use Rattle.std.specs.Bool.{then_some}
+use Rattle.std.specs.Option.{option_map_or}
 use Rattle.std.specs.List.{list_any}
 use Rattle.elf_objects.specs.declared.fault.ElfFault.{ElfFault}
 use Rattle.elf_objects.specs.declared.fault.ElfFault.TheVariants as fault
@@ -57,16 +59,14 @@ abbrev pub is_kind : List ℕ → ℕ → ℕ → Bool
 is_kind file kind i = nat_lt i (section_count file) && (header_of file i).kind == kind
 
 abbrev pub index_if : Bool → ℕ → Option ℕ
-index_if true i = Some i
-index_if false i = None
+index_if found i = then_some found i
 
 -- the first SYMTAB
 unfoldable pub symbol_table : List ℕ → Option ℕ
 symbol_table file = first_below (λ i. index_if ((header_of file i).kind == symtab) i) (section_count file)
 
 abbrev pub is_this : Option ℕ → ℕ → Bool
-is_this None i = false
-is_this (Some s) i = i == s
+is_this found i = option_map_or (λ s. i == s) found false
 
 -- a SYMTAB that is not the first one, or whose link is no STRTAB, or whose entries do not have their size
 abbrev pub is_bad_symbol_table : List ℕ → ℕ → Header → Bool

@@ -1,5 +1,6 @@
 -- Symbols (TIS ELF 1.2, "Symbol Table"), and which are refused.
-use Rattle.std.specs.Prelude.{ℕ, zero, suc, ◌+◌, ◌*◌, ◌/◌, List, [], slice_index, Bool, not, ◌&&◌, ◌||◌, ◌==◌, nat_lt, if◌then◌else◌, Option, Some, None, is_none}
+use Rattle.std.specs.Prelude.{ℕ, zero, suc, ◌+◌, ◌*◌, ◌/◌, List, [], slice_index, Bool, not, ◌&&◌, ◌||◌, ◌==◌, nat_lt, if◌then◌else◌, Option, None, is_none, option_map, option_and_then}
+use Rattle.std.specs.Option.{option_map_or}
 use Rattle.elf_objects.specs.declared.fault.ElfFault.{ElfFault}
 use Rattle.elf_objects.specs.declared.fault.ElfFault.TheVariants as fault
 use Rattle.elf_objects.specs.declared.section.Header.{Header}
@@ -69,28 +70,21 @@ symbol_of file table (suc k) = let e = entry_of file table (suc k) in record {
   home = home_of e.section;
 }
 
-abbrev pub header_at : List ℕ → Option ℕ → Option Header
-header_at file None = None
-header_at file (Some i) = Some (header_of file i)
-
 -- the file's symbol table, if there is one
 unfoldable pub symbols_header : List ℕ → Option Header
-symbols_header file = header_at file (symbol_table file)
+symbols_header file = option_map (header_of file) (symbol_table file)
 
 abbrev pub count_of : Option Header → ℕ
-count_of None = 0
-count_of (Some table) = count_in table
+count_of table = option_map_or count_in table 0
 
 abbrev pub faults_in : List ℕ → Option Header → Option ElfFault
-faults_in file None = None
-faults_in file (Some table) = first_below (symbol_fault file table) (count_in table)
+faults_in file table = option_and_then (λ t. first_below (symbol_fault file t) (count_in t)) table
 
 unfoldable pub symbol_faults : List ℕ → Option ElfFault
 symbol_faults file = faults_in file (symbols_header file)
 
 abbrev pub symbols_in : List ℕ → Option Header → List Symbol
-symbols_in file None = []
-symbols_in file (Some table) = each_below (symbol_of file table) (count_in table)
+symbols_in file table = option_map_or (λ t. each_below (symbol_of file t) (count_in t)) table []
 
 unfoldable pub symbols_of : List ℕ → List Symbol
 symbols_of file = symbols_in file (symbols_header file)

@@ -1,6 +1,7 @@
 -- The entries of the tables of symbols and relocations of a unit's file, as they are read.
 use Rattle.std.proofs.Common.{◌≡◌, ℕ, zero, suc, ◌+◌, ◌*◌, ◌/◌, ◌%◌, ◌<◌, ◌≤◌, ◌^◌, List, [], ◌∷◌, ◌++◌, refl, ap, subst, ◌∙◌, arith, length, take, drop, get_or, length-append, Bool, true, false, not, cond, ltb, eqb, ◌&&◌, ◌||◌, Option, Some, None, is_none}
 use Rattle.std.specs.List.{flat_map}
+use Rattle.std.specs.Option.{option_map}
 use Rattle.std.proofs.lemmas.List.{length-map, length-take, take-append-drop}
 use Rattle.std.proofs.lemmas.List.Concat.{flat_map-append}
 use Rattle.std.proofs.lemmas.List.Elements.{All-get_or, All-filter}
@@ -13,7 +14,7 @@ use Rattle.elf_objects.specs.declared.symbol.Entry.{Entry}
 use Rattle.elf_objects.specs.Header.{section_count, header_fault, table_fault}
 use Rattle.elf_objects.specs.Section.{header_of, content, is_alignment, is_loaded_header, is_kept_table}
 use Rattle.elf_objects.specs.Names.{end_in, name_end}
-use Rattle.elf_objects.specs.Symbol.{entry_of, count_in, strings_of, is_bad_common, is_bad_home, symbol_fault, header_at, symbols_header, count_of, faults_in, symbol_faults}
+use Rattle.elf_objects.specs.Symbol.{entry_of, count_in, strings_of, is_bad_common, is_bad_home, symbol_fault, symbols_header, count_of, faults_in, symbol_faults}
 use Rattle.elf_objects.specs.Relocation.{relocation_of, entry_fault, relocation_fault, relocation_faults}
 use Rattle.elf_objects.specs.Object.{contents_fault, elf_fault_of}
 use Rattle.asm_text.specs.declared.unit.SectionKind.{SectionKind}
@@ -48,7 +49,7 @@ strings_read unit = header (record (strings_head (name_at (section_names unit) (
 
 pub symbols_header_is : (unit : UnitValue) → IsUnit unit → symbols_header (object_of unit) ≡ Some (symbols_read unit)
 unfolding symbols_header
-symbols_header_is unit is = ap (header_at (object_of unit)) (first_table unit is) ∙ ap Some (symtab_read unit is)
+symbols_header_is unit is = ap (option_map (header_of (object_of unit))) (first_table unit is) ∙ ap Some (symtab_read unit is)
 
 pub symbol_count : (unit : UnitValue) → count_in (symbols_read unit) ≡ suc (length unit.symbols)
 symbol_count unit = let n = length_symbols unit.symbols in omega (arith, n)
