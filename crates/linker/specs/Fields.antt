@@ -1,5 +1,7 @@
 -- Relocated fields in a memory, and which are refused.
-use Rattle.std.specs.Prelude.{ℤ, ℕ, ◌+◌, List, Option, Some, None, Result, Ok, Err, ◌%◌, fold, slice_get, ◌-◌, slice_index, pos, ◌+ℤ◌, replicate}
+use Rattle.std.specs.Prelude.{ℤ, ℕ, ◌+◌, List, Option, option_map, Result, ◌%◌, fold, slice_get, ◌-◌, slice_index, pos, ◌+ℤ◌, replicate}
+use Rattle.std.specs.Option.{option_map_or}
+use Rattle.std.specs.Result.{result_err, result_unwrap_or}
 use Rattle.elf_objects.specs.declared.object.SectionHead.{SectionHead}
 use Rattle.elf_objects.specs.declared.object.Relocation.{Relocation}
 use Rattle.reloc_apply.specs.declared.RelocFault.{RelocFault}
@@ -11,8 +13,7 @@ use Rattle.linker.specs.Bytes.{put, bytes_at}
 use Rattle.link_symbols.specs.declared.fault.LinkFault.TheVariants as fault
 
 abbrev pub size_by : Option SectionHead → ℕ
-size_by None = 0
-size_by (Some head) = head.bytes.end - head.bytes.start
+size_by head = option_map_or (λ h. h.bytes.end - h.bytes.start) head 0
 
 -- how many bytes the target has in the file
 abbrev pub target_size : NumberedObject → Relocation → ℕ
@@ -30,8 +31,7 @@ abbrev pub with_field : (ℕ → ℕ) → List ℕ → NumberedObject → Reloca
 with_field address numbers x r bytes = relocated r.kind ((target_address address x r + r.offset) % 65536) (sum_of numbers r) r.offset bytes
 
 abbrev pub or_same : List ℕ → Result (List ℕ) RelocFault → List ℕ
-or_same bytes (Ok new) = new
-or_same bytes (Err f) = bytes
+or_same bytes new = result_unwrap_or new bytes
 
 -- the memory with one field more
 unfoldable pub put_field : (ℕ → ℕ) → List ℕ → NumberedObject → List ℕ → Relocation → List ℕ
@@ -44,8 +44,7 @@ put_fields l memory x = fold (put_field l.address (numbers_in l x) x) memory x.o
 
 -- 8: whether a field is refused does not depend on the bytes
 abbrev pub reloc_fault_by : NumberedObject → Relocation → Result (List ℕ) RelocFault → Option LinkFault
-reloc_fault_by x r (Ok bytes) = None
-reloc_fault_by x r (Err f) = Some (fault.Reloc x.number r.table r.entry f)
+reloc_fault_by x r new = option_map (fault.Reloc x.number r.table r.entry) (result_err new)
 
 unfoldable pub reloc_fault : (ℕ → ℕ) → List ℕ → NumberedObject → Relocation → Option LinkFault
 reloc_fault address numbers x r = reloc_fault_by x r (with_field address numbers x r (replicate (target_size x r) 0))

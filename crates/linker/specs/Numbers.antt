@@ -1,5 +1,6 @@
 -- The numbers of symbols, once everything has an address.
-use Rattle.std.specs.Prelude.{ℕ, ◌+◌, List, Option, Some, None}
+use Rattle.std.specs.Prelude.{ℕ, ◌+◌, List, Option}
+use Rattle.std.specs.Option.{option_map_or}
 use Rattle.elf_objects.specs.Object.{ObjectValue}
 use Rattle.elf_objects.specs.declared.object.Symbol.{Symbol}
 use Rattle.layout_file.specs.Values.{LayoutValue}
@@ -17,8 +18,7 @@ number_of address (meaning.Number n) = n
 number_of address (meaning.Place item offset) = address item + offset
 
 abbrev pub number_or_zero : (ℕ → ℕ) → Option Meaning → ℕ
-number_or_zero address None = 0
-number_or_zero address (Some m) = number_of address m
+number_or_zero address found = option_map_or (number_of address) found 0
 
 -- what names stand for, and where items stand
 pub record Linking : Type 0 where
