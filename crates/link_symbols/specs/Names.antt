@@ -1,5 +1,5 @@
 -- What names and symbols stand for.
-use Rattle.std.specs.Prelude.{ℕ, List, length, Option, Some, None, ◌==◌, if◌then◌else◌, sum_by, option_map}
+use Rattle.std.specs.Prelude.{ℕ, List, length, Option, Some, ◌==◌, if◌then◌else◌, sum_by, option_map, unwrap_or}
 use Rattle.elf_objects.specs.Object.{ObjectValue}
 use Rattle.elf_objects.specs.declared.object.Binding.{Binding}
 use Rattle.elf_objects.specs.declared.object.Binding.TheVariants as binding
@@ -11,15 +11,9 @@ use Rattle.link_symbols.specs.Definitions.{meaning_in, strong_of, weak_of}
 use Rattle.link_symbols.specs.Commons.{commons_of, common_at}
 use Rattle.link_symbols.specs.declared.symbol.Meaning.TheVariants as meaning
 
-abbrev pub place_of_common : ℕ → Meaning
-place_of_common item = meaning.Place item 0
-
-abbrev pub meaning_of : Definition → Meaning
-meaning_of d = d.meaning
-
 -- its strong definition; else its common; else its first weak definition
 abbrev pub stands_by : Option Definition → Option ℕ → Option Meaning → Option Meaning
-stands_by strong common weak = or_else (option_map meaning_of strong) (or_else (option_map place_of_common common) weak)
+stands_by strong common weak = or_else (option_map (λ d. d.meaning) strong) (or_else (option_map (λ item. meaning.Place item 0) common) weak)
 
 abbrev pub count_sections : List ObjectValue → ℕ
 count_sections objects = sum_by (λ o. length o.sections) objects
@@ -29,14 +23,10 @@ stands_for objects name = let symbols = symbols_of objects in
     stands_by (strong_of symbols name) (common_at (count_sections objects) (commons_of symbols) name) (weak_of symbols name)
 
 -- a weak symbol whose name stands for nothing is the number 0
-abbrev pub or_zero : Option Meaning → Option Meaning
-or_zero (Some m) = Some m
-or_zero None = Some (meaning.Number 0)
-
 abbrev pub symbol_meaning_by : (List ℕ → Option Meaning) → NamedValue → Binding → Option Meaning
 symbol_meaning_by names s binding.Local = meaning_in s.what
 symbol_meaning_by names s binding.Global = names s.name
-symbol_meaning_by names s binding.Weak = or_zero (names s.name)
+symbol_meaning_by names s binding.Weak = Some (unwrap_or (names s.name) (meaning.Number 0))
 
 -- symbol 0 is the number 0
 unfoldable pub symbol_meaning : (List ℕ → Option Meaning) → NamedValue → Option Meaning

@@ -6,6 +6,7 @@ use Rattle.elf_objects.specs.declared.object.SectionHead.{SectionHead}
 use Rattle.layout_file.specs.Values.{ModuleValue, LayoutValue, VectorValue}
 use Rattle.elf_objects.specs.declared.object.Symbol.{Symbol}
 use Rattle.std.specs.List.{list_any}
+use Rattle.std.specs.Option.{option_map_or}
 use Rattle.elf_objects.specs.declared.object.Relocation.{Relocation}
 use Rattle.elf_objects.specs.Passes.{first_of}
 use Rattle.link_symbols.specs.declared.fault.LinkFault.{LinkFault}
@@ -77,12 +78,10 @@ no_entry names modules = first_at (no_entry_in names) 0 modules
 
 -- 6: no place in the module's code, or an odd one, or one not below its section's size
 abbrev pub is_code_of : ℕ → Option Part → Bool
-is_code_of i None = false
-is_code_of i (Some p) = (p.region == 2 + 2 * i) && (p.rank == 0)
+is_code_of i part = option_map_or (λ p. (p.region == 2 + 2 * i) && (p.rank == 0)) part false
 
 abbrev pub is_entry_in : ℕ → ℕ → Option Item → Bool
-is_entry_in i offset None = false
-is_entry_in i offset (Some item) = is_code_of i item.part && (offset % 2 == 0) && nat_lt offset item.size
+is_entry_in i offset item = option_map_or (λ x. is_code_of i x.part && (offset % 2 == 0) && nat_lt offset x.size) item false
 
 abbrev pub is_entry : List Item → ℕ → Option Meaning → Bool
 is_entry items i (Some (meaning.Place item offset)) = is_entry_in i offset (slice_get items item)
