@@ -1,6 +1,7 @@
 -- Why bytes are no image's text: the first line that does not serve.
-use Rattle.std.specs.Prelude.{ℕ, ◌+◌, ◌-◌, ◌*◌, ◌%◌, ◌==◌, nat_lt, if◌then◌else◌, Bool, true, false, not, ◌&&◌, List, [], ◌∷◌, length, drop, nat_eq, slice_range, codes, unwrap_or, Option, Some, None}
+use Rattle.std.specs.Prelude.{ℕ, ◌+◌, ◌-◌, ◌*◌, ◌%◌, ◌==◌, nat_lt, if◌then◌else◌, Bool, true, false, not, ◌&&◌, List, [], ◌∷◌, length, drop, nat_eq, slice_range, codes, unwrap_or, Option, Some, None, option_map}
 use Rattle.std.specs.List.{starts_with}
+use Rattle.std.specs.Option.{option_map_or, option_or}
 use Rattle.std.specs.Cmp.Lexicographic.{pointwise}
 use Rattle.texts.specs.Decimals.{read_decimal}
 use Rattle.texts.specs.Hexadecimals.{is_hex_digit, read_hex, read_hex_word}
@@ -63,8 +64,7 @@ bad_digit (mark ∷ form) [] at = None
 bad_digit (mark ∷ form) (b ∷ line) at = if is_bad mark b then Some at else bad_digit form line (at + 1)
 
 abbrev pub digit_or : Option ℕ → Option ImageFault → Option ImageFault
-digit_or (Some at) rest = Some (Digit at)
-digit_or None rest = rest
+digit_or bad rest = option_or (option_map Digit bad) rest
 
 -- a line that should have this form: Line where it has not, Digit where a digit is none, and else what comes after
 abbrev pub formed : List ℕ → Spot → List ℕ → Option ImageFault → Option ImageFault
@@ -115,8 +115,7 @@ rows_refusal last s (line ∷ more) tail =
 
 -- the next module, where the table takes it
 abbrev pub taken : Option TableFault → ℕ → Option ImageFault → Option ImageFault
-taken (Some fault) id rest = Some (TableRefuses id fault)
-taken None id rest = rest
+taken refused id rest = option_or (option_map (TableRefuses id) refused) rest
 
 -- the table with the module of a line
 abbrev pub added : Table → List ℕ → Table
@@ -128,8 +127,7 @@ is_due None line = has_form module_form line
 is_due (Some n) line = not (n == 0)
 
 abbrev pub one_less : Option ℕ → Option ℕ
-one_less None = None
-one_less (Some n) = Some (n - 1)
+one_less due = option_map (λ n. n - 1) due
 
 abbrev pub modules_refusal : Table → Option ℕ → Spot → List (List ℕ) → List ℕ → Option ImageFault
 modules_refusal t due s [] tail = line_fault s
@@ -161,8 +159,7 @@ key_refusal room s [] tail = line_fault s
 key_refusal room s (line ∷ more) tail = formed key_form s line (handler_refusal room (past line s) more tail)
 
 abbrev pub version_or_line : Option ℕ → Spot → Option ImageFault
-version_or_line (Some n) s = Some (Version n)
-version_or_line None s = line_fault s
+version_or_line version s = Some (option_map_or Version version (Line s.number))
 
 -- a first line that is none of versions 1 and 2: Version where it is one of another version
 abbrev pub version_refusal : Spot → List ℕ → Option ImageFault
