@@ -1,5 +1,6 @@
 -- When a relocation applies: what is not refused, by conditions on the number of bytes alone; and what it then writes.
-use Rattle.std.specs.Prelude.{◌≡◌, ◌≤◌, ◌≤ℤ◌, ◌↔◌, ℕ, ◌+◌, ◌%◌, ℤ, List, length, drop, true, false, Option, Some, None, IsOk, Ok}
+use Rattle.std.specs.Prelude.{◌≡◌, ◌≤◌, ◌≤ℤ◌, ◌↔◌, ℕ, ◌+◌, ◌%◌, ℤ, List, length, drop, true, false, Option, Some, IsOk, Ok}
+use Rattle.std.specs.Option.{option_map_or}
 use Rattle.byteorder.specs.Endian.{little_number}
 use Rattle.reloc_apply.specs.declared.Row.{Row}
 use Rattle.reloc_apply.specs.Fields.{row_of, size_of, limit_of, width_of, is_jump, is_odd, difference_of, value_of, modulo, relocated, ChangesOnly}
@@ -24,13 +25,12 @@ TakenExactly = (kind place : ℕ) (sum : ℤ) (offset : ℕ) (bytes : List ℕ) 
 
 -- what a field's numbers are below; with no field there is only 0
 abbrev pub limit_by : Option Row → ℕ
-limit_by None = 1
-limit_by (Some r) = limit_of r.field
+limit_by row = option_map_or (λ r. limit_of r.field) row 1
 
 -- the number that a field is given
 abbrev pub number_by : Option Row → ℕ → ℤ → ℕ
-number_by None place sum = 0
-number_by (Some r) place sum = modulo (value_of (is_jump r.field) (difference_of r.relative place sum)) (limit_of r.field)
+number_by row place sum =
+    option_map_or (λ r. modulo (value_of (is_jump r.field) (difference_of r.relative place sum)) (limit_of r.field)) row 0
 
 -- as many bytes, the same outside a field, which holds its number, a jump in its low ten bits
 pub record Sets (row : Option Row) (place : ℕ) (sum : ℤ) (offset : ℕ) (old new : List ℕ) : Type 0 where

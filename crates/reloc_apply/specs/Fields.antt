@@ -1,6 +1,7 @@
 -- What a relocation of the MSP430 makes of a section's bytes, and when it is refused. The kinds are those
 -- of ELF for machine 105.
 use Rattle.std.specs.Prelude.{◌≡◌, ◌<◌, ◌≤◌, ℕ, ◌+◌, ◌-◌, ◌*◌, ◌/◌, ◌%◌, ℤ, pos, negsuc, ◌-ℤ◌, int_div, int_le, unsigned_abs, List, length, take, drop, ◌++◌, slice_index, Bool, true, false, not, ◌&&◌, ◌||◌, ◌==◌, nat_lt, if◌then◌else◌, Option, Some, None, Result, Ok, Err}
+use Rattle.std.specs.Option.{option_map_or}
 use Rattle.byteorder.specs.Endian.{little_number, little_bytes}
 use Rattle.reloc_apply.specs.declared.RelocFault.{RelocFault}
 use Rattle.reloc_apply.specs.declared.RelocFault.TheVariants as fault
@@ -102,5 +103,4 @@ pub record ChangesOnly (old new : List ℕ) (offset size : ℕ) : Type 0 where
 
 -- how many bytes a kind's field lies in
 abbrev pub width_of : Option Row → ℕ
-width_of None = 0
-width_of (Some r) = size_of r.field
+width_of found = option_map_or (λ r. size_of r.field) found 0
