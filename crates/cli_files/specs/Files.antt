@@ -1,5 +1,5 @@
 -- The files that a command needs: what they hold, and why one does not serve.
-use Rattle.std.specs.Prelude.{◌≡◌, ℕ, ◌<◌, ◌≤◌, List, [], ◌∷◌, length, Option, Some, None, IfSome, IsSomeAnd, is_some, true, ◌⊎◌, Ok, Err}
+use Rattle.std.specs.Prelude.{◌≡◌, ℕ, ◌<◌, ◌≤◌, List, [], ◌∷◌, length, map, Option, Some, None, option_to_list, IfSome, IsSomeAnd, is_some, true, ◌⊎◌, Ok, Err}
 use Rattle.sm_io.specs.Files.{FileMap}
 use Rattle.mod_layout.specs.Table.{module_of}
 use Rattle.image_text.specs.Image.{Image, IsImage}
@@ -149,8 +149,7 @@ IsReached files (wanted ∷ needs) name = (wanted.name ≡ name) ⊎ (IsServed f
 
 -- the file of a schedule; none where no name is given
 abbrev pub schedule_needs : Option (List ℕ) → List Need
-schedule_needs None = []
-schedule_needs (Some name) = need name schedule_file ∷ []
+schedule_needs name = map (λ n. need n schedule_file) (option_to_list name)
 
 -- the file of a schedule holds these entries; with no file there are none
 abbrev pub IsScheduleOf : Option FileMap → Option (List ℕ) → List Entry → Type 0
@@ -159,5 +158,4 @@ IsScheduleOf files (Some name) entries = Holds files (need name schedule_file) (
 
 -- the files of objects
 abbrev pub object_needs : List (List ℕ) → List Need
-object_needs [] = []
-object_needs (name ∷ names) = need name object_file ∷ object_needs names
+object_needs names = map (λ name. need name object_file) names
