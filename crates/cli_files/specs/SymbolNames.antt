@@ -1,33 +1,23 @@
 -- The symbol that a fault of linking names.
-use Rattle.std.specs.Prelude.{ℕ, List, [], Option, Some, None, ◌==◌, ◌&&◌, nat_le, if◌then◌else◌, slice_get, slice_range, map, find}
+use Rattle.std.specs.Prelude.{ℕ, List, [], Option, ◌==◌, ◌&&◌, nat_le, if◌then◌else◌, slice_get, map, find, unwrap_or}
+use Rattle.std.specs.Option.{option_map_or}
 use Rattle.layout_file.specs.Values.{LayoutValue, ModuleValue, VectorValue}
 use Rattle.elf_objects.specs.Object.{ObjectValue}
-use Rattle.elf_objects.specs.declared.object.Symbol.{Symbol}
 use Rattle.link_symbols.specs.declared.fault.LinkFault.{LinkFault}
 use Rattle.link_symbols.specs.declared.fault.LinkFault.TheVariants as link_fault
+use Rattle.link_symbols.specs.Passes.{part}
 
 -- the name of an object's symbol
-abbrev pub name_of_symbol : ObjectValue → Option Symbol → List ℕ
-name_of_symbol object (Some symbol) = slice_range object.file symbol.name.start symbol.name.end
-name_of_symbol object None = []
-
 abbrev pub symbol_of : Option ObjectValue → ℕ → List ℕ
-symbol_of (Some object) n = name_of_symbol object (slice_get object.symbols n)
-symbol_of None n = []
+symbol_of object n = option_map_or (λ o. option_map_or (λ s. part o s.name) (slice_get o.symbols n) []) object []
 
 -- the name of a vector
 abbrev pub vector_name : Option VectorValue → List ℕ
-vector_name (Some vector) = vector.name
-vector_name None = []
+vector_name vector = option_map_or (λ v. v.name) vector []
 
 -- the name of a module's entry
-abbrev pub name_or_none : Option (List ℕ) → List ℕ
-name_or_none (Some name) = name
-name_or_none None = []
-
 abbrev pub entry_of : Option ModuleValue → ℕ → List ℕ
-entry_of (Some m) n = name_or_none (slice_get m.entries n)
-entry_of None n = []
+entry_of owner n = option_map_or (λ m. unwrap_or (slice_get m.entries n) []) owner []
 
 abbrev pub name_in : LayoutValue → List ObjectValue → LinkFault → List ℕ
 name_in layout objects (link_fault.Duplicate first_object first_symbol object symbol) = symbol_of (slice_get objects object) symbol
