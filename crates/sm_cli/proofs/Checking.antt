@@ -16,7 +16,7 @@ use Rattle.cli_files.specs.declared.answers.Status.TheVariants.{Done}
 use Rattle.cli_files.specs.Files.{Held, an_image, certificates, image_with, arms_file, need, Holds, HoldAll}
 use Rattle.cli_calls.specs.Command.{Command, Answer, judges, Comes, Answers, IsJudged, IsAnswer}
 use Rattle.cli_calls.specs.Verdicts.{verdict_status}
-use Rattle.sm_cli.specs.CheckCommand.{checked_by, check_command}
+use Rattle.sm_cli.specs.CheckCommand.{check_command}
 use Rattle.sm_cli.specs.BalanceCommand.{balanced_by, balance_command}
 use Rattle.sm_cli.specs.Checked.{IsCheck, IsBalance}
 use Rattle.sm_cli.specs.Serve.{call_of}
@@ -41,7 +41,7 @@ module _ (map : FileMap) (name : List ℕ) (value : Image) (id : ℕ) (owner : M
 
   pub check_accepted : (answer : Answer) → answer.status ≡ Done → IsAnswer (Some map) (check_command name id) answer → VerdictWith owner (section owner.text value.memory) [] Yes
   check_accepted answer status a =
-      accepted_by (check_command name id) [] answer (record { helds = an_image value ∷ []; hold = (held, tt); is = ap (checked_by value) owned }) status a
+      accepted_by (check_command name id) [] answer (record { helds = an_image value ∷ []; hold = (held, tt); is = ap (balanced_by value []) owned }) status a
 
   module _ (arms_name : List ℕ) where
     abbrev BalanceComes : Type 0

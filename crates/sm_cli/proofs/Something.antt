@@ -19,7 +19,7 @@ use Rattle.sm_cli.specs.CommandLine.{command_by, command_of}
 use Rattle.sm_cli.specs.AsmCommand.{asm_command, asm_of}
 use Rattle.sm_cli.specs.BalanceCommand.{balanced_by, balance_command, balance_in, balance_of}
 use Rattle.sm_cli.specs.ChallengeCommand.{challenge_command, challenge_of}
-use Rattle.sm_cli.specs.CheckCommand.{checked_by, check_command, check_of}
+use Rattle.sm_cli.specs.CheckCommand.{check_command, check_of}
 use Rattle.sm_cli.specs.DisCommand.{dis_command, range_command, dis_of}
 use Rattle.sm_cli.specs.ImageCommand.{image_command, image_of}
 use Rattle.sm_cli.specs.KeyCommand.{keys_by, key_command, key_of}
@@ -77,7 +77,7 @@ sound_vendor image challenges trace id provider map (an_image value ∷ the_chal
 sound_vendor image challenges trace id provider map (an_image value ∷ second ∷ third ∷ more) h e = h.1.0.is
 sound_vendor image challenges trace id provider map (held ∷ second ∷ third ∷ more) h e = h.0.is
 
-some_check : (value : Image) (o : Option Module) → is_some o ≡ true → checked_by value o ≡ nothing → ⊥
+some_check : (value : Image) (o : Option Module) → is_some o ≡ true → balanced_by value [] o ≡ nothing → ⊥
 some_check value None s e = cc
 some_check value (Some m) s e = cc
 

@@ -1,22 +1,15 @@
 -- `check IMAGE ID`: the verdict of a module's text.
-use Rattle.std.specs.Prelude.{ℕ, List, [], ◌∷◌, Option, Some, None}
+use Rattle.std.specs.Prelude.{ℕ, List, [], ◌∷◌, Option, None}
 use Rattle.std.specs.Option.{option_map}
-use Rattle.flow_rule.specs.Terms.{no_terms}
-use Rattle.mod_layout.specs.declared.Module.{Module}
 use Rattle.mod_layout.specs.Table.{module_of}
-use Rattle.image_text.specs.Image.{Image}
-use Rattle.written_machine.specs.Peers.{section}
 use Rattle.cli_calls.specs.Words.{Text}
 use Rattle.cli_calls.specs.Ids.{id_of}
 use Rattle.cli_files.specs.Files.{Held, an_image, image_with, need}
-use Rattle.cli_calls.specs.Command.{Outcome, judges, nothing, Command}
-
-abbrev pub checked_by : Image → Option Module → Outcome
-checked_by value (Some owner) = judges no_terms owner (section owner.text value.memory) []
-checked_by value None = nothing
+use Rattle.cli_calls.specs.Command.{Outcome, nothing, Command}
+use Rattle.sm_cli.specs.BalanceCommand.{balanced_by}
 
 abbrev pub check_outcome : ℕ → List Held → Outcome
-check_outcome id (an_image value ∷ []) = checked_by value (module_of id value.table)
+check_outcome id (an_image value ∷ []) = balanced_by value [] (module_of id value.table)
 check_outcome id _ = nothing
 
 abbrev pub check_command : Text → ℕ → Command

@@ -1,7 +1,7 @@
 use Rattle.std.proofs.Common.{[], ◌∷◌, refl, ap}
 use Rattle.flow_rule.specs.Terms.{no_terms}
 use Rattle.written_machine.specs.Peers.{section}
-use Rattle.sm_cli.specs.CheckCommand.{checked_by}
+use Rattle.sm_cli.specs.BalanceCommand.{balanced_by}
 use Rattle.cli_calls.specs.Command.{judges, verdict_answer}
 use Rattle.cli_files.specs.Files.{an_image}
 use Rattle.sm_cli.proofs.commands.check.CheckCommandAnswering.answer.Goals as goal
@@ -14,7 +14,7 @@ returns-in-Ok-verdict_of-clause-ok g c =
       answer = verdict_answer verdict;
       served = record {
         outcome = judges no_terms chosen.«module» (section chosen.«module».text chosen.image.memory) [];
-        comes = record { helds = an_image chosen.image ∷ []; hold = (c.in-Ok.ensures.holds, tt); is = ap (checked_by chosen.image) c.in-Ok.ensures.chosen };
+        comes = record { helds = an_image chosen.image ∷ []; hold = (c.in-Ok.ensures.holds, tt); is = ap (balanced_by chosen.image []) c.in-Ok.ensures.chosen };
         is = record { verdict = verdict; is = c.in-Ok-verdict_of.ensures; tells = refl };
       };
       sound = tt;
