@@ -1,5 +1,6 @@
 -- Faults as they are told: a name, then its fields, each after a space; numbers in decimal, a fault within it in the same way.
-use Rattle.std.specs.Prelude.{List, [], ◌∷◌, ℕ, ◌++◌, codes, flat_map, Option, Some, None}
+use Rattle.std.specs.Prelude.{List, [], ◌∷◌, ℕ, ◌++◌, codes, flat_map, Option}
+use Rattle.std.specs.Option.{option_map_or}
 use Rattle.std.specs.Fmt.{decimal, signed_decimal}
 use Rattle.mod_layout.specs.declared.TableFault.{TableFault}
 use Rattle.mod_layout.specs.declared.TableFault.TheVariants as table_fault
@@ -110,8 +111,7 @@ object_fault_text elf_fault.NoMemory = codes "NoMemory"
 
 -- a module's number, or `-`
 abbrev pub module_number : Option ℕ → List ℕ
-module_number (Some n) = decimal n
-module_number None = codes "-"
+module_number number = option_map_or decimal number (codes "-")
 
 -- a name and a spot after it
 abbrev pub with_spot : List ℕ → Spot → List ℕ
