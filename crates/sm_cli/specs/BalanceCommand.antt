@@ -1,6 +1,6 @@
 -- `balance IMAGE ID ARMS`: the verdict of a module's text, with certificates of balanced branches.
-use Rattle.std.specs.Prelude.{ℕ, List, [], ◌∷◌, Option, Some, None}
-use Rattle.std.specs.Option.{option_map}
+use Rattle.std.specs.Prelude.{ℕ, List, [], ◌∷◌, Option, None}
+use Rattle.std.specs.Option.{option_map, option_map_or}
 use Rattle.arm_balance.specs.declared.Arm.{Arm}
 use Rattle.flow_rule.specs.Terms.{no_terms}
 use Rattle.mod_layout.specs.declared.Module.{Module}
@@ -13,8 +13,7 @@ use Rattle.cli_files.specs.Files.{Held, an_image, certificates, arms_file, image
 use Rattle.cli_calls.specs.Command.{Outcome, judges, nothing, Command}
 
 abbrev pub balanced_by : Image → List Arm → Option Module → Outcome
-balanced_by value arms (Some owner) = judges no_terms owner (section owner.text value.memory) arms
-balanced_by value arms None = nothing
+balanced_by value arms owner = option_map_or (λ m. judges no_terms m (section m.text value.memory) arms) owner nothing
 
 abbrev pub balance_outcome : ℕ → List Held → Outcome
 balance_outcome id (an_image value ∷ certificates arms ∷ []) = balanced_by value arms (module_of id value.table)

@@ -1,5 +1,6 @@
 -- `dis IMAGE START END`: the instructions of an image, one a line.
 use Rattle.std.specs.Prelude.{ℕ, zero, suc, ◌+◌, ◌-◌, ◌*◌, ◌%◌, ◌==◌, ◌&&◌, nat_lt, nat_le, List, [], ◌∷◌, ◌++◌, Option, Some, None, option_and_then, codes, slice_index, if◌then◌else◌}
+use Rattle.std.specs.Option.{option_map_or}
 use Rattle.texts.specs.Hexadecimals.{hex_word, read_hex_word}
 use Rattle.sm_words.specs.Words.{word_of}
 use Rattle.insn_decode.specs.declared.insn.Insn.{Insn}
@@ -33,8 +34,7 @@ words_text memory at count =
 
 -- an instruction's text, or that of a word that is none
 abbrev pub dis_text : Option Insn → ℕ → List ℕ
-dis_text (Some insn) at = insn_text insn at
-dis_text None at = codes "?"
+dis_text insn at = option_map_or (λ i. insn_text i at) insn (codes "?")
 
 -- the line of what stands at an address
 unfoldable pub line_at : List ℕ → ℕ → List ℕ

@@ -1,6 +1,6 @@
 -- `key IMAGE ID`: the key of a module's vendor, and the module's.
-use Rattle.std.specs.Prelude.{ℕ, List, [], ◌∷◌, ◌++◌, Option, Some, None, codes}
-use Rattle.std.specs.Option.{option_map}
+use Rattle.std.specs.Prelude.{ℕ, List, [], ◌∷◌, ◌++◌, Option, None, codes}
+use Rattle.std.specs.Option.{option_map, option_map_or}
 use Rattle.texts.specs.Hexadecimals.{hex_key}
 use Rattle.mod_layout.specs.declared.Module.{Module}
 use Rattle.mod_layout.specs.Table.{module_of}
@@ -23,8 +23,7 @@ abbrev pub key_lines : Image → Module → List ℕ
 key_lines value m = two_lines (provider_key value.node_key m.vendor) (module_key value.node_key m (section m.text value.memory))
 
 abbrev pub keys_by : Image → Option Module → Outcome
-keys_by value (Some m) = done (key_lines value m)
-keys_by value None = nothing
+keys_by value owner = option_map_or (λ m. done (key_lines value m)) owner nothing
 
 abbrev pub key_outcome : ℕ → List Held → Outcome
 key_outcome id (an_image value ∷ []) = keys_by value (module_of id value.table)

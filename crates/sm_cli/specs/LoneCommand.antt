@@ -1,6 +1,7 @@
 -- `lone IMAGE ID LIMIT PAIR..`: how a call of a module by itself ends.
 use Rattle.std.specs.Prelude.{ℕ, List, [], ◌∷◌, ◌++◌, Option, Some, None, codes}
 use Rattle.std.specs.Fmt.{decimal}
+use Rattle.std.specs.Option.{option_map_or}
 use Rattle.sm_words.specs.Words.{put}
 use Rattle.sm_words.specs.declared.registers.TheConstants.{PC}
 use Rattle.mod_layout.specs.declared.Module.{Module}
@@ -50,8 +51,8 @@ abbrev pub end_answer : ℕ → End → Answer
 end_answer limit end = record { text = end_line limit end; status = status.Done }
 
 abbrev pub lone_by : Image → List ℕ → ℕ → Option Module → Outcome
-lone_by value registers limit (Some owner) = gives (end_answer limit (answer_of (end_of value owner registers limit)))
-lone_by value registers limit None = nothing
+lone_by value registers limit owner =
+    option_map_or (λ m. gives (end_answer limit (answer_of (end_of value m registers limit)))) owner nothing
 
 abbrev pub lone_outcome : ℕ → ℕ → List ℕ → List Held → Outcome
 lone_outcome id limit registers (an_image value ∷ []) = lone_by value registers limit (module_of id value.table)

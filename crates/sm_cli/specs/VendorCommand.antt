@@ -1,6 +1,6 @@
 -- `vendor IMAGE ID PROVIDER CHALLENGES TRACE`: a vendor's report on the replies to its challenges.
-use Rattle.std.specs.Prelude.{ℕ, Bool, true, false, List, [], ◌∷◌, Option, Some, None, option_and_then}
-use Rattle.std.specs.Option.{option_map}
+use Rattle.std.specs.Prelude.{ℕ, Bool, true, false, List, [], ◌∷◌, Option, None, option_and_then}
+use Rattle.std.specs.Option.{option_map, option_map_or}
 use Rattle.texts.specs.Hexadecimals.{read_hex_key}
 use Rattle.mod_layout.specs.declared.Module.{Module}
 use Rattle.mod_layout.specs.Table.{module_of}
@@ -30,8 +30,8 @@ abbrev pub key_under : List ℕ → Image → Module → List ℕ
 key_under provider value m = module_key_from provider m (section m.text value.memory)
 
 abbrev pub report_by : List ℕ → Image → List Challenge → List ℕ → Option Module → Outcome
-report_by provider value challenges sent (Some m) = gives (report_answer (key_under provider value m) challenges sent)
-report_by provider value challenges sent None = nothing
+report_by provider value challenges sent owner =
+    option_map_or (λ m. gives (report_answer (key_under provider value m) challenges sent)) owner nothing
 
 abbrev pub vendor_outcome : ℕ → List ℕ → List Held → Outcome
 vendor_outcome id provider (an_image value ∷ the_challenges list ∷ the_replies sent ∷ []) = report_by provider value list sent (module_of id value.table)
