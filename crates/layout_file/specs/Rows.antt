@@ -1,6 +1,7 @@
 -- The refusals of a key, and one function for each kind of value that a key may have.
 use Rattle.std.specs.Prelude.{ℕ, ℤ, pos, negsuc, ◌%◌, ◌==◌, ◌&&◌, ◌||◌, not, Bool, true, false, nat_le, if◌then◌else◌, List, [], ◌∷◌, length, codes, Option, Some, None, option_map, option_and_then, Ok, Err}
 use Rattle.std.specs.List.{list_all, list_any}
+use Rattle.std.specs.Option.{ok_or, option_map_or}
 use Rattle.std.specs.Result.{result_ok}
 use Rattle.std.specs.Str.{bytes_eq}
 use Rattle.std.specs.Char.{is_ascii_alphanumeric}
@@ -19,13 +20,11 @@ use Rattle.layout_file.specs.declared.rows.Bounds.{Bounds}
 
 -- MissingKey: a key that is not optional is absent
 abbrev pub present : Spot → Option Data → Checked Data
-present spot None = Err (MissingKey spot)
-present spot (Some d) = Ok d
+present spot found = ok_or found (MissingKey spot)
 
 -- WrongKind: the value's type, or the form of a key, name or array, is another
 abbrev pub of_kind : {A : Type 0} → Spot → Option A → Checked A
-of_kind spot None = Err (WrongKind spot)
-of_kind spot (Some a) = Ok a
+of_kind spot found = ok_or found (WrongKind spot)
 
 -- TooMany: there are more than `most`
 abbrev pub at_most : {A : Type 0} → Spot → ℕ → List A → Checked (List A)
@@ -76,8 +75,7 @@ needed spot table = present spot (at spot table)
 
 -- what f makes of a value, and nothing where an optional one is absent
 abbrev pub if_there : {A B : Type 0} → (A → Checked (List B)) → Option A → Checked (List B)
-if_there f None = Ok []
-if_there f (Some a) = f a
+if_there f found = option_map_or f found (Ok [])
 
 -- ---- an integer
 
