@@ -9,12 +9,13 @@ use Rattle.written_machine.specs.declared.ScriptLine.TheVariants.{Go, Until}
 use Rattle.script_file.specs.Bounds.{IsBounded, most_cycles, all_cycles}
 use Rattle.script_file.specs.declared.TheConstants.{MAX_CYCLES}
 use Rattle.script_file.specs.Line.{form_of, checked}
-use Rattle.script_file.specs.Reading.{after_lines, from_line, script_from, script_of}
+use Rattle.texts.specs.Rows.{after_these}
+use Rattle.script_file.specs.Reading.{from_line, script_from, script_of}
 use Rattle.script_file.specs.declared.ScriptFault.{ScriptFault}
 use Rattle.script_file.specs.declared.line.LineFault.{LineFault}
 
 pub record IsRead (bytes : List ℕ) (lines : List ScriptLine) (rest : List ℕ) (n : ℕ) : Type 0 where
-  pub total : script_of bytes ≡ after_lines lines (script_from n (lines_of rest))
+  pub total : script_of bytes ≡ after_these lines (script_from n (lines_of rest))
   pub bounds : All IsBounded lines
   pub room : n + length rest ≤ length bytes + 1
   pub few : all_cycles lines + MAX_CYCLES * length rest ≤ MAX_CYCLES * length bytes
@@ -29,11 +30,11 @@ most_bounded (Go n) b = grind (arith, nat_tests)
 most_bounded (Until addr n) b = grind (arith, nat_tests)
 most_bounded _ b = omega arith
 
-nothing_before : (r : Result (List ScriptLine) ScriptFault) → r ≡ after_lines [] r
+nothing_before : (r : Result (List ScriptLine) ScriptFault) → r ≡ after_these [] r
 nothing_before (Ok lines) = refl
 nothing_before (Err fault) = refl
 
-one_more : (lines : List ScriptLine) (line : ScriptLine) (r : Result (List ScriptLine) ScriptFault) → after_lines lines (after_lines (line ∷ []) r) ≡ after_lines (lines ++ line ∷ []) r
+one_more : (lines : List ScriptLine) (line : ScriptLine) (r : Result (List ScriptLine) ScriptFault) → after_these lines (after_these (line ∷ []) r) ≡ after_these (lines ++ line ∷ []) r
 one_more lines line (Ok more) = ap Ok (sym (append_assoc lines (line ∷ []) more))
 one_more lines line (Err fault) = refl
 
@@ -44,9 +45,9 @@ IsRead-start bytes = record { total = nothing_before (script_from 1 (lines_of by
 
 -- at one more line
 pub IsRead-line : (bytes : List ℕ) (lines : List ScriptLine) (rest text after : List ℕ) (n : ℕ) (r : Result ScriptLine LineFault) → IsRead bytes lines rest n
-    → lines_of rest ≡ text ∷ lines_of after → r ≡ checked (form_of text) → script_of bytes ≡ after_lines lines (from_line n r (script_from (n + 1) (lines_of after)))
+    → lines_of rest ≡ text ∷ lines_of after → r ≡ checked (form_of text) → script_of bytes ≡ after_these lines (from_line n r (script_from (n + 1) (lines_of after)))
 IsRead-line bytes lines rest text after n r read cut is =
-    read.total ∙ ap (λ ls. after_lines lines (script_from n ls)) cut ∙ ap (λ x. after_lines lines (from_line n x (script_from (n + 1) (lines_of after)))) (sym is)
+    read.total ∙ ap (λ ls. after_these lines (script_from n ls)) cut ∙ ap (λ x. after_these lines (from_line n x (script_from (n + 1) (lines_of after)))) (sym is)
 
 -- after it, where it is read
 pub IsRead-push : (bytes : List ℕ) (lines : List ScriptLine) (rest text after : List ℕ) (n : ℕ) (line : ScriptLine) → IsRead bytes lines rest n

@@ -1,6 +1,7 @@
 -- What the text of a script gives: its lines, or the first refusal.
-use Rattle.std.specs.Prelude.{ℕ, ◌+◌, List, [], ◌∷◌, ◌++◌, Result, Ok, Err}
+use Rattle.std.specs.Prelude.{ℕ, ◌+◌, List, [], ◌∷◌, Result, Ok, Err}
 use Rattle.texts.specs.Lines.{lines_of}
+use Rattle.texts.specs.Rows.{after_these}
 use Rattle.written_machine.specs.declared.ScriptLine.{ScriptLine}
 use Rattle.script_file.specs.declared.ScriptFault.{ScriptFault}
 use Rattle.script_file.specs.declared.ScriptFault.TheVariants.{Line, Number}
@@ -8,14 +9,9 @@ use Rattle.script_file.specs.declared.line.LineFault.{LineFault}
 use Rattle.script_file.specs.declared.line.LineFault.TheVariants.{Form, Bounds}
 use Rattle.script_file.specs.Line.{form_of, checked}
 
--- these lines before those that were read
-abbrev pub after_lines : List ScriptLine → Result (List ScriptLine) ScriptFault → Result (List ScriptLine) ScriptFault
-after_lines before (Ok lines) = Ok (before ++ lines)
-after_lines before (Err fault) = Err fault
-
 -- line n, before what the lines after it give
 abbrev pub from_line : ℕ → Result ScriptLine LineFault → Result (List ScriptLine) ScriptFault → Result (List ScriptLine) ScriptFault
-from_line n (Ok line) rest = after_lines (line ∷ []) rest
+from_line n (Ok line) rest = after_these (line ∷ []) rest
 from_line n (Err Form) rest = Err (Line n)
 from_line n (Err Bounds) rest = Err (Number n)
 

@@ -3,7 +3,7 @@ use Rattle.std.proofs.Common.{◌≡◌, ℕ, ◌+◌, ◌%◌, List, [], ◌∷
 use Rattle.std.specs.List.{list_all, flat_map}
 use Rattle.texts.specs.Decimals.{read_decimal}
 use Rattle.texts.specs.Hexadecimals.{read_hex_word}
-use Rattle.texts.specs.Rows.{after_rows, from_row, rows_from}
+use Rattle.texts.specs.Rows.{after_these, from_row, rows_from}
 use Rattle.cpu_step.specs.Lone.{is_answer}
 use Rattle.texts.specs.Lines.{lines_of}
 use Rattle.terms_file.specs.declared.Term.{Term}
@@ -52,11 +52,11 @@ term_may_be line t e = by _ _ e
 
 -- a line, where what the lines behind it give is so
 module _ (rest : ℕ → Result (List Term) TermsFault) (behind : (next : ℕ) (more : List Term) → rest next ≡ Ok more → AllMayBe more) (n low : ℕ) (ts : List Term) where
-  with_rest : (r : Result (List Term) TermsFault) (t : Term) → rest (place_of t + 1) ≡ r → MayBe t → after_rows (t ∷ []) r ≡ Ok ts → AllMayBe ts
+  with_rest : (r : Result (List Term) TermsFault) (t : Term) → rest (place_of t + 1) ≡ r → MayBe t → after_these (t ∷ []) r ≡ Ok ts → AllMayBe ts
   with_rest (Err fault) t g h e = absurd cc
   with_rest (Ok more) t g h e = let same : t ∷ more ≡ ts = cc in subst AllMayBe same (more_may_be t more h (behind (place_of t + 1) more g))
 
-  in_place : (b : Bool) (t : Term) → MayBe t → cond b (Err (NotRising n)) (after_rows (t ∷ []) (rest (place_of t + 1))) ≡ Ok ts → AllMayBe ts
+  in_place : (b : Bool) (t : Term) → MayBe t → cond b (Err (NotRising n)) (after_these (t ∷ []) (rest (place_of t + 1))) ≡ Ok ts → AllMayBe ts
   in_place true t h e = absurd cc
   in_place false t h e = with_rest (rest (place_of t + 1)) t refl h e
 

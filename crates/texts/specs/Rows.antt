@@ -13,15 +13,15 @@ pub record Rows (X F : Type 0) : Type 0 where
   pub no_row : ℕ → F
   pub not_rising : ℕ → F
 
--- these rows before those that were read
-abbrev pub after_rows : {X F : Type 0} → List X → Result (List X) F → Result (List X) F
-after_rows before (Ok rows) = Ok (before ++ rows)
-after_rows before (Err fault) = Err fault
+-- what was read, after these
+abbrev pub after_these : {X F : Type 0} → List X → Result (List X) F → Result (List X) F
+after_these before (Ok rows) = Ok (before ++ rows)
+after_these before (Err fault) = Err fault
 
 -- line n, whose place may not be below `low`; `rest` is what the lines behind it give
 abbrev pub from_row : {X F : Type 0} → Rows X F → ℕ → ℕ → Option X → (ℕ → Result (List X) F) → Result (List X) F
 from_row rows n low None rest = Err (rows.no_row n)
-from_row rows n low (Some x) rest = if nat_lt (rows.place x) low then Err (rows.not_rising n) else after_rows (x ∷ []) (rest (rows.behind x))
+from_row rows n low (Some x) rest = if nat_lt (rows.place x) low then Err (rows.not_rising n) else after_these (x ∷ []) (rest (rows.behind x))
 
 -- the lines from line n on
 abbrev pub rows_from : {X F : Type 0} → Rows X F → ℕ → ℕ → List (List ℕ) → Result (List X) F

@@ -15,7 +15,7 @@ use Rattle.schedule_file.specs.declared.What.TheVariants.{Serial}
 use Rattle.schedule_file.specs.Entries.{IsEntry}
 use Rattle.schedule_file.specs.Laws.{EntriesAreRead}
 use Rattle.schedule_file.specs.Line.{entry_of, entry_text}
-use Rattle.texts.specs.Rows.{after_rows, rows_from}
+use Rattle.texts.specs.Rows.{after_these, rows_from}
 use Rattle.schedule_file.specs.Reading.{entry_rows, schedule_of}
 use Rattle.vendor_tool.specs.declared.Challenge.{Challenge}
 use Rattle.vendor_tool.specs.Challenges.{last_cycle, nonce_cycles, byte_step, IsChallenge, AreChallenges, AreApart}
@@ -83,7 +83,7 @@ entries_are law n low (e ∷ es) few r =
     let not_last : nat_eq n 65537 ≡ false = grind (arith, nat_tests) in
     let is : entry_of (entry_text e) ≡ Some e = (law (entry_text e) e).1 (r.0.entry, refl) in
     let not_below : nat_lt e.cycle low ≡ false = grind (arith, nat_tests) in
-    rw (not_last, is, not_below) (ap (after_rows (e ∷ [])) (entries_are law (n + 1) e.cycle es (omega arith) r.1))
+    rw (not_last, is, not_below) (ap (after_these (e ∷ [])) (entries_are law (n + 1) e.cycle es (omega arith) r.1))
 
 pub schedule_is : EntriesAreRead → (es : List Entry) → length es ≤ 65536 → Rise 0 es → schedule_of (entries_text es) ≡ Ok es
 unfolding schedule_of

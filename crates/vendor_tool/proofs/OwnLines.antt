@@ -28,7 +28,8 @@ use Rattle.vendor_tool.specs.declared.trace_line.Kind.TheVariants.{Resume, Close
 use Rattle.vendor_tool.specs.declared.trace_line.Word.TheVariants.{Address, RuleName}
 use Rattle.texts.specs.Words.{is_space, words}
 use Rattle.vendor_tool.specs.Laws.{TimedEvent, IsTold, IsEndState, events_text, sent_in, sent, TracesAreRead}
-use Rattle.vendor_tool.specs.Replies.{last_byte, sent_by, ends, at_end, after_bytes, by_end, from_kind, replies_from, replies_of}
+use Rattle.texts.specs.Rows.{after_these}
+use Rattle.vendor_tool.specs.Replies.{last_byte, sent_by, ends, at_end, by_end, from_kind, replies_from, replies_of}
 use Rattle.vendor_tool.proofs.Plain.{IsPlain, decimal_plain, byte_plain, word_plain, each, no_space, no_feed}
 use Rattle.vendor_tool.specs.TraceLines.{fits, all_fit, form_of, kinds, kind_of}
 
@@ -281,8 +282,8 @@ line_read n line rest bytes more r next =
     ∙ ap (λ t. replies_from n (line ∷ ended_lines rest) t) (unended-before line rest r.clean)
     ∙ ap (λ k. from_kind n k line (at_end (n + 1) (ended_lines rest) (unended rest)) (replies_from (n + 1) (ended_lines rest) (unended rest))) r.is
     ∙ ap (λ e. by_end e (sent_by r.kind line) (at_end (n + 1) (ended_lines rest) (unended rest)) (replies_from (n + 1) (ended_lines rest) (unended rest))) r.ends_so
-    ∙ ap (λ bs. after_bytes bs (replies_from (n + 1) (ended_lines rest) (unended rest))) r.sent_so
-    ∙ ap (after_bytes bytes) next
+    ∙ ap (λ bs. after_these bs (replies_from (n + 1) (ended_lines rest) (unended rest))) r.sent_so
+    ∙ ap (after_these bytes) next
 
 nothing_after : (n : ℕ) → at_end n (ended_lines []) (unended []) ≡ Ok []
 unfolding ended_lines unended

@@ -6,11 +6,12 @@ use Rattle.texts.proofs.LawLemmas.{texts_are_lines}
 use Rattle.vendor_tool.specs.declared.TraceFault.{TraceFault}
 use Rattle.vendor_tool.specs.declared.TraceFault.TheVariants.{Line}
 use Rattle.vendor_tool.specs.declared.trace_line.Kind.{Kind}
-use Rattle.vendor_tool.specs.Replies.{sent_by, ends, at_end, after_bytes, by_end, from_kind, replies_from, replies_of}
+use Rattle.texts.specs.Rows.{after_these}
+use Rattle.vendor_tool.specs.Replies.{sent_by, ends, at_end, by_end, from_kind, replies_from, replies_of}
 use Rattle.vendor_tool.specs.TraceLines.{kind_of}
 
 pub record IsReplied (trace replies rest : List ℕ) (before : ℕ) : Type 0 where
-  pub total : replies_of trace ≡ after_bytes replies (replies_from (before + 1) (ended_lines rest) (unended rest))
+  pub total : replies_of trace ≡ after_these replies (replies_from (before + 1) (ended_lines rest) (unended rest))
   pub counted : before + length rest ≤ length trace
 
 -- before the first line
@@ -18,7 +19,7 @@ pub IsReplied-start : (trace : List ℕ) → IsReplied trace [] trace 0
 unfolding replies_of
 IsReplied-start trace = record { total = by (replies_from 1 (ended_lines trace) (unended trace)); counted = omega arith }
   where
-    by : (r : Result (List ℕ) TraceFault) → r ≡ after_bytes [] r
+    by : (r : Result (List ℕ) TraceFault) → r ≡ after_these [] r
     by (Ok bytes) = refl
     by (Err fault) = refl
 
@@ -30,30 +31,30 @@ pub record IsNext (rest line after : List ℕ) : Type 0 where
 
 -- what a line gives
 pub by_kind : (trace replies rest line after : List ℕ) (before : ℕ) → IsReplied trace replies rest before → IsNext rest line after
-    → replies_of trace ≡ after_bytes replies (from_kind (before + 1) (kind_of line) line (at_end (before + 1 + 1) (ended_lines after) (unended after)) (replies_from (before + 1 + 1) (ended_lines after) (unended after)))
+    → replies_of trace ≡ after_these replies (from_kind (before + 1) (kind_of line) line (at_end (before + 1 + 1) (ended_lines after) (unended after)) (replies_from (before + 1 + 1) (ended_lines after) (unended after)))
 by_kind trace replies rest line after before r n =
     r.total
-    ∙ ap (λ ls. after_bytes replies (replies_from (before + 1) ls (unended rest))) n.lines
-    ∙ ap (λ t. after_bytes replies (replies_from (before + 1) (line ∷ ended_lines after) t)) n.behind
+    ∙ ap (λ ls. after_these replies (replies_from (before + 1) ls (unended rest))) n.lines
+    ∙ ap (λ t. after_these replies (replies_from (before + 1) (line ∷ ended_lines after) t)) n.behind
 
 -- a line of a kind, by whether it ends the trace
 with_kind : (trace replies rest line after : List ℕ) (before : ℕ) (kind : Kind) (end : Bool) → IsReplied trace replies rest before → IsNext rest line after
     → kind_of line ≡ Some kind → ends kind ≡ end
-    → replies_of trace ≡ after_bytes replies (by_end end (sent_by kind line) (at_end (before + 1 + 1) (ended_lines after) (unended after)) (replies_from (before + 1 + 1) (ended_lines after) (unended after)))
+    → replies_of trace ≡ after_these replies (by_end end (sent_by kind line) (at_end (before + 1 + 1) (ended_lines after) (unended after)) (replies_from (before + 1 + 1) (ended_lines after) (unended after)))
 with_kind trace replies rest line after before kind end r n some is =
     by_kind trace replies rest line after before r n
-    ∙ ap (λ k. after_bytes replies (from_kind (before + 1) k line (at_end (before + 1 + 1) (ended_lines after) (unended after)) (replies_from (before + 1 + 1) (ended_lines after) (unended after)))) some
-    ∙ ap (λ e. after_bytes replies (by_end e (sent_by kind line) (at_end (before + 1 + 1) (ended_lines after) (unended after)) (replies_from (before + 1 + 1) (ended_lines after) (unended after)))) is
+    ∙ ap (λ k. after_these replies (from_kind (before + 1) k line (at_end (before + 1 + 1) (ended_lines after) (unended after)) (replies_from (before + 1 + 1) (ended_lines after) (unended after)))) some
+    ∙ ap (λ e. after_these replies (by_end e (sent_by kind line) (at_end (before + 1 + 1) (ended_lines after) (unended after)) (replies_from (before + 1 + 1) (ended_lines after) (unended after)))) is
 
 -- after one more line
 pub IsReplied-more : (trace replies more rest line after : List ℕ) (before : ℕ) (kind : Kind) → IsReplied trace replies rest before → IsNext rest line after
     → kind_of line ≡ Some kind → ends kind ≡ false → more ≡ replies ++ sent_by kind line → IsReplied trace more after (before + 1)
 IsReplied-more trace replies more rest line after before kind r n some goes is = record {
-  total = with_kind trace replies rest line after before kind false r n some goes ∙ by (replies_from (before + 1 + 1) (ended_lines after) (unended after)) ∙ ap (λ bs. after_bytes bs (replies_from (before + 1 + 1) (ended_lines after) (unended after))) (sym is);
+  total = with_kind trace replies rest line after before kind false r n some goes ∙ by (replies_from (before + 1 + 1) (ended_lines after) (unended after)) ∙ ap (λ bs. after_these bs (replies_from (before + 1 + 1) (ended_lines after) (unended after))) (sym is);
   counted = let old = r.counted in omega (arith, ap length n.cut, length-append line (10 ∷ after));
 }
   where
-    by : (rs : Result (List ℕ) TraceFault) → after_bytes replies (after_bytes (sent_by kind line) rs) ≡ after_bytes (replies ++ sent_by kind line) rs
+    by : (rs : Result (List ℕ) TraceFault) → after_these replies (after_these (sent_by kind line) rs) ≡ after_these (replies ++ sent_by kind line) rs
     by (Ok bytes) = ap Ok (sym (append_assoc replies (sent_by kind line) bytes))
     by (Err fault) = refl
 
@@ -76,7 +77,7 @@ pub IsReplied-ends : (trace replies rest line after : List ℕ) (before : ℕ) (
     → kind_of line ≡ Some kind → ends kind ≡ true → length after ≡ 0 → replies_of trace ≡ Ok replies
 IsReplied-ends trace replies rest line after before kind r n some goes is =
     with_kind trace replies rest line after before kind true r n some goes
-    ∙ ap (after_bytes replies) (nothing_follows (before + 1 + 1) after is)
+    ∙ ap (after_these replies) (nothing_follows (before + 1 + 1) after is)
     ∙ ap Ok (append-nil replies)
 
 -- an end line that something follows
@@ -85,5 +86,5 @@ pub IsReplied-follows : (trace replies rest line after : List ℕ) (before : ℕ
 IsReplied-follows trace replies rest line after before kind r n some goes more =
     let next : before + 1 + 1 ≡ before + 2 = omega arith in
     with_kind trace replies rest line after before kind true r n some goes
-    ∙ ap (after_bytes replies) (something_follows (before + 1 + 1) after more)
+    ∙ ap (after_these replies) (something_follows (before + 1 + 1) after more)
     ∙ ap (λ k. Err (Line k)) next

@@ -1,8 +1,9 @@
 -- What a trace says that the machine sent: the bytes of its `out` lines up to the end line, or the first refusal.
-use Rattle.std.specs.Prelude.{ℕ, ◌+◌, ◌-◌, Bool, true, false, if◌then◌else◌, List, [], ◌∷◌, ◌++◌, length, drop, Option, Some, None, Result, Ok, Err}
+use Rattle.std.specs.Prelude.{ℕ, ◌+◌, ◌-◌, Bool, true, false, if◌then◌else◌, List, [], ◌∷◌, length, drop, Option, Some, None, Result, Ok, Err}
 use Rattle.std.specs.Option.{option_to_list}
 use Rattle.texts.specs.Hexadecimals.{read_hex_byte}
 use Rattle.texts.specs.Lines.{ended_lines, unended}
+use Rattle.texts.specs.Rows.{after_these}
 use Rattle.vendor_tool.specs.declared.TraceFault.{TraceFault}
 use Rattle.vendor_tool.specs.declared.TraceFault.TheVariants.{Line, NoEnd}
 use Rattle.vendor_tool.specs.declared.trace_line.Kind.{Kind}
@@ -33,15 +34,10 @@ abbrev pub at_end : ℕ → List (List ℕ) → List ℕ → Result (List ℕ) T
 at_end n [] [] = Ok []
 at_end n _ _ = Err (Line n)
 
--- these bytes before those of the lines that follow
-abbrev pub after_bytes : List ℕ → Result (List ℕ) TraceFault → Result (List ℕ) TraceFault
-after_bytes bytes (Ok more) = Ok (bytes ++ more)
-after_bytes bytes (Err fault) = Err fault
-
 -- by whether a line ends the trace, where `last` is what may follow an end line and `more` what other lines give
 abbrev pub by_end : Bool → List ℕ → Result (List ℕ) TraceFault → Result (List ℕ) TraceFault → Result (List ℕ) TraceFault
 by_end true bytes last more = last
-by_end false bytes last more = after_bytes bytes more
+by_end false bytes last more = after_these bytes more
 
 -- line n, by its kind
 abbrev pub from_kind : ℕ → Option Kind → List ℕ → Result (List ℕ) TraceFault → Result (List ℕ) TraceFault → Result (List ℕ) TraceFault
