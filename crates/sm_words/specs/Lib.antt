@@ -1,4 +1,5 @@
 pub mod Words
+pub mod Bytes
 pub mod Status
 pub mod Sums
 pub mod Decimals

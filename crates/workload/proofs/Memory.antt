@@ -5,7 +5,8 @@ use Rattle.std.specs.List.{flat_map}
 use Rattle.std.proofs.lemmas.List.{get_or_append_left, get_or-replicate, length-append, length-replicate}
 use Rattle.mod_layout.specs.declared.TheConstants.{RESET_VECTOR}
 use Rattle.workload.specs.declared.program.TheConstants.{PROGRAM, TEXT, DATA, HANDLER, LINE_VECTOR}
-use Rattle.workload.specs.Program.{word_bytes, placed, memory}
+use Rattle.sm_words.specs.Bytes.{word_bytes}
+use Rattle.workload.specs.Program.{placed, memory}
 
 -- the bytes of the devices are 0
 pub record IsLow (bytes : List ℕ) : Type 0 where

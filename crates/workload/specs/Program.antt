@@ -1,15 +1,11 @@
 -- The image of a workload.
 use Rattle.std.specs.Prelude.{ℕ, ◌-◌, List, [], ◌∷◌, ◌++◌, length, replicate}
 use Rattle.std.specs.List.{flat_map}
-use Rattle.sm_words.specs.Words.{low_byte, high_byte}
+use Rattle.sm_words.specs.Bytes.{word_bytes}
 use Rattle.mod_layout.specs.Table.{Table, empty_table, with_module}
 use Rattle.mod_layout.specs.declared.TheConstants.{RESET_VECTOR}
 use Rattle.image_text.specs.Image.{Image}
 use Rattle.workload.specs.declared.program.TheConstants.{START, PROGRAM, TEXT, MODULE, DATA, VENDOR, HANDLER, LINE_VECTOR, HANDLER_STACK, RETI}
-
--- a word as it stands in memory
-abbrev pub word_bytes : ℕ → List ℕ
-word_bytes w = low_byte w ∷ high_byte w ∷ []
 
 -- words at an address, with zeros before them
 unfoldable pub placed : ℕ → List ℕ → List ℕ → List ℕ

@@ -14,7 +14,8 @@ use Rattle.image_text.specs.Image.{IsImage}
 use Rattle.peer_rows.specs.Laws.{DifferInData}
 use Rattle.peer_rows.specs.Rows.{called}
 use Rattle.workload.specs.declared.program.TheConstants.{START, PROGRAM, TEXT, DATA, HANDLER, LINE_VECTOR}
-use Rattle.workload.specs.Program.{word_bytes, placed, memory, image}
+use Rattle.sm_words.specs.Bytes.{word_bytes}
+use Rattle.workload.specs.Program.{placed, memory, image}
 use Rattle.workload.proofs.Memory.{low_memory}
 use Rattle.peer_rows.proofs.Sound.{none_at}
 

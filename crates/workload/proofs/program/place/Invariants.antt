@@ -1,6 +1,6 @@
 use Rattle.std.proofs.Common.{◌≡◌, ◌+◌, ◌*◌, ◌++◌, length, take}
 use Rattle.std.specs.List.{flat_map}
-use Rattle.workload.specs.Program.{word_bytes}
+use Rattle.sm_words.specs.Bytes.{word_bytes}
 use Rattle.workload.proofs.program.place.Given as goal
 
 abbrev pub invariant-loop-word : goal.invariant-loop-word
