@@ -4,16 +4,16 @@ use Rattle.cli_files.specs.declared.answers.Status.{Status}
 use Rattle.cli_files.specs.declared.answers.Status.TheVariants as status
 use Rattle.sm_io.specs.declared.sink.Failed.{Failed}
 
-abbrev pub number_of : Status → ℕ
-number_of status.Done = 0
-number_of status.Usage = 2
-number_of status.Stopped = 3
-number_of status.BadFile = 4
-number_of status.LinkRefused = 5
-number_of status.ReadFault = 6
-number_of status.WriteFault = 7
-number_of status.NoMemory = 8
-number_of status.CheckNo = 9
+abbrev pub status_number : Status → ℕ
+status_number status.Done = 0
+status_number status.Usage = 2
+status_number status.Stopped = 3
+status_number status.BadFile = 4
+status_number status.LinkRefused = 5
+status_number status.ReadFault = 6
+status_number status.WriteFault = 7
+status_number status.NoMemory = 8
+status_number status.CheckNo = 9
 
 -- by what putting the whole of an output did
 abbrev pub status_after : Result (Unit {0}) Failed → Status

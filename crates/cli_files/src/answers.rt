@@ -2,7 +2,7 @@
 ghost use Rattle.std.specs.Prelude.{◌≡◌};
 ghost use Rattle.cli_files.specs.NameText.{name_text};
 ghost use Rattle.cli_files.specs.Refusal.{status_of};
-ghost use Rattle.cli_files.specs.StatusNumbers.{number_of};
+ghost use Rattle.cli_files.specs.StatusNumbers.{status_number};
 ghost use Rattle.cli_files.specs.StatusNumbers.{status_after};
 
 use arm_balance::ArmsFault;
@@ -34,7 +34,7 @@ pub enum Status {
 impl Status {
     /// The number with which the program ends.
     pub fn number(self) -> u8
-        ensures { result ≡ number_of self }
+        ensures { result ≡ status_number self }
     {
         self as u8
     }

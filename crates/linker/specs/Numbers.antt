@@ -13,12 +13,12 @@ use Rattle.linker.specs.Placement.{starts_of, filled_end, address_at}
 use Rattle.link_symbols.specs.declared.symbol.Meaning.TheVariants as meaning
 
 -- a number, or an address and an offset
-abbrev pub number_of : (ℕ → ℕ) → Meaning → ℕ
-number_of address (meaning.Number n) = n
-number_of address (meaning.Place item offset) = address item + offset
+abbrev pub meaning_number : (ℕ → ℕ) → Meaning → ℕ
+meaning_number address (meaning.Number n) = n
+meaning_number address (meaning.Place item offset) = address item + offset
 
 abbrev pub number_or_zero : (ℕ → ℕ) → Option Meaning → ℕ
-number_or_zero address found = option_map_or (number_of address) found 0
+number_or_zero address found = option_map_or (meaning_number address) found 0
 
 -- what names stand for, and where items stand
 pub record Linking : Type 0 where

@@ -17,7 +17,7 @@ use Rattle.script_file.specs.declared.line.Operands.{Operands}
 use Rattle.script_file.specs.declared.line.LineFault.TheVariants as fault
 use Rattle.script_file.specs.Bounds.{is_bounded, IsBounded, IsAddressed, IsLine}
 use Rattle.script_file.specs.Laws.{LinesAreRead}
-use Rattle.script_file.specs.Line.{number_of, both, operands_of, go_form, until_form, mem_form, back_form, last_form, bare_form, begins, form_of, line_text, checked}
+use Rattle.script_file.specs.Line.{read_any_decimal, both, operands_of, go_form, until_form, mem_form, back_form, last_form, bare_form, begins, form_of, line_text, checked}
 
 -- ---- from a text to its line
 
@@ -30,14 +30,14 @@ record IsNumber (text : List ℕ) (n : ℕ) : Type 0 where
   decimal_is : is_decimal text ≡ true
   number_is : number_in text ≡ n
 
-number_from : (text : List ℕ) (n : ℕ) → number_of text ≡ Some n → IsNumber text n
+number_from : (text : List ℕ) (n : ℕ) → read_any_decimal text ≡ Some n → IsNumber text n
 number_from text n e = by (is_decimal text) refl e
   where
     by : (c : Bool) → is_decimal text ≡ c → cond c (Some (number_in text)) None ≡ Some n → IsNumber text n
     by true is e = record { decimal_is = is; number_is = cc }
     by false is e = absurd cc
 
-number_text : (text : List ℕ) (n : ℕ) → number_of text ≡ Some n → n < 2 ^ 64 → text ≡ decimal n
+number_text : (text : List ℕ) (n : ℕ) → read_any_decimal text ≡ Some n → n < 2 ^ 64 → text ≡ decimal n
 number_text text n e small =
     let is = number_from text n e in
     sym (decimal_of_number text is.decimal_is (subst (λ m. m < 2 ^ 64) (sym is.number_is) small)) ∙ ap decimal is.number_is
@@ -45,7 +45,7 @@ number_text text n e small =
 -- what a text with an address and a number has
 record IsOperands (text : List ℕ) (a : Operands) : Type 0 where
   addr_is : read_hex_word (take 4 text) ≡ Some a.addr
-  number_is : number_of (drop 5 text) ≡ Some a.number
+  number_is : read_any_decimal (drop 5 text) ≡ Some a.number
   long : 5 ≤ length text
   space : get_or text 4 0 ≡ 32
 
@@ -57,7 +57,7 @@ operands_from : (text : List ℕ) (a : Operands) → operands_of text ≡ Some a
 unfolding operands_of
 operands_from text a e = by (nat_le 5 (length text)) (get_or text 4 0 == 32) refl refl e
   where
-    by : (c d : Bool) → nat_le 5 (length text) ≡ c → (get_or text 4 0 == 32) ≡ d → cond (c && d) (both (read_hex_word (take 4 text)) (number_of (drop 5 text))) None ≡ Some a → IsOperands text a
+    by : (c d : Bool) → nat_le 5 (length text) ≡ c → (get_or text 4 0 == 32) ≡ d → cond (c && d) (both (read_hex_word (take 4 text)) (read_any_decimal (drop 5 text))) None ≡ Some a → IsOperands text a
     by true true p q e =
         let parts = both_parts _ _ a e in
         record { addr_is = parts.0; number_is = parts.1; long = grind (arith, nat_tests); space = grind (arith, nat_tests) }
@@ -104,7 +104,7 @@ most_bytes addr n e =
 
 go_from : (text rest : List ℕ) (l : ScriptLine) → text ≡ codes "go " ++ rest → go_form rest ≡ Some l → IsBounded l → IsText text l
 go_from text rest l front e =
-    let n = numbered Go (number_of rest) l e in
+    let n = numbered Go (read_any_decimal rest) l e in
     subst (λ l. IsBounded l → IsText text l) n.2 (λ bounded. (tt, front ∙ ap (λ t. codes "go " ++ t) (number_text rest n.0 n.1 (most_cycles n.0 bounded))))
 
 until_from : (text rest : List ℕ) (l : ScriptLine) → text ≡ codes "until " ++ rest → until_form rest ≡ Some l → IsBounded l → IsText text l
@@ -119,7 +119,7 @@ mem_from text rest l front e =
 
 back_from : (text rest : List ℕ) (l : ScriptLine) → text ≡ codes "back " ++ rest → back_form rest ≡ Some l → IsBounded l → IsText text l
 back_from text rest l front e =
-    let n = numbered Back (number_of rest) l e in
+    let n = numbered Back (read_any_decimal rest) l e in
     subst (λ l. IsBounded l → IsText text l) n.2 (λ bounded. (tt, front ∙ ap (λ t. codes "back " ++ t) (number_text rest n.0 n.1 (most_marks n.0 bounded))))
 
 last_from : (text rest : List ℕ) (l : ScriptLine) → text ≡ codes "last " ++ rest → last_form rest ≡ Some l → IsBounded l → IsText text l
@@ -158,7 +158,7 @@ taken (Some k) l e = by (is_bounded k) refl e
 
 -- ---- from a line to its text
 
-number_to : (n : ℕ) → n < 2 ^ 64 → number_of (decimal n) ≡ Some n
+number_to : (n : ℕ) → n < 2 ^ 64 → read_any_decimal (decimal n) ≡ Some n
 number_to n small = rw (is_decimal-decimal n small, number_in-decimal n small) refl
 
 operands_to : (addr n : ℕ) → addr < 65536 → n < 2 ^ 64 → operands_of (hex_word addr ++ codes " " ++ decimal n) ≡ Some (record { addr = addr; number = n })

@@ -14,8 +14,8 @@ use Rattle.script_file.specs.Bounds.{is_bounded}
 -- ---- what stands in a line
 
 -- a decimal of any size
-abbrev pub number_of : List ℕ → Option ℕ
-number_of text = if is_decimal text then Some (number_in text) else None
+abbrev pub read_any_decimal : List ℕ → Option ℕ
+read_any_decimal text = if is_decimal text then Some (number_in text) else None
 
 abbrev pub both : Option ℕ → Option ℕ → Option Operands
 both (Some addr) (Some n) = Some (record { addr = addr; number = n })
@@ -23,12 +23,12 @@ both _ _ = None
 
 -- four digits, a space and a decimal
 unfoldable pub operands_of : List ℕ → Option Operands
-operands_of text = if nat_le 5 (length text) && slice_index text 4 == 32 then both (read_hex_word (take 4 text)) (number_of (drop 5 text)) else None
+operands_of text = if nat_le 5 (length text) && slice_index text 4 == 32 then both (read_hex_word (take 4 text)) (read_any_decimal (drop 5 text)) else None
 
 -- ---- the forms, by what stands behind the name
 
 abbrev pub go_form : List ℕ → Option ScriptLine
-go_form text = option_map Go (number_of text)
+go_form text = option_map Go (read_any_decimal text)
 
 abbrev pub until_form : List ℕ → Option ScriptLine
 until_form text = option_map (λ a. Until a.addr a.number) (operands_of text)
@@ -37,7 +37,7 @@ abbrev pub mem_form : List ℕ → Option ScriptLine
 mem_form text = option_map (λ a. Mem a.addr a.number) (operands_of text)
 
 abbrev pub back_form : List ℕ → Option ScriptLine
-back_form text = option_map Back (number_of text)
+back_form text = option_map Back (read_any_decimal text)
 
 abbrev pub last_form : List ℕ → Option ScriptLine
 last_form text = option_map (λ a. Last a.addr a.number) (operands_of text)

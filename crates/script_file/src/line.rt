@@ -153,7 +153,7 @@ fn read_operands(text: &[u8], most: u64) -> Result<Operands, LineFault>
 // A number that is at most `most`.
 #[tactic(auto, unfolding(texts::specs::Decimals::read_decimal))]
 fn read_number(text: &[u8], most: u64) -> Result<u64, LineFault>
-    ensures number { result ≡ inner.up_to most (spec.number_of text.now) }
+    ensures number { result ≡ inner.up_to most (spec.read_any_decimal text.now) }
     ensures most { IfOk result (λ n. n ≤ most) }
 {
     if !is_decimal(text) {

@@ -7,9 +7,9 @@ IsDecimal zero a = Unit {0}
 IsDecimal (suc n) a = (a % 16 < 10) × IsDecimal n (a / 16)
 
 -- the decimal number that these digits write
-abbrev pub number_of : ℕ → ℕ → ℕ
-number_of zero a = 0
-number_of (suc n) a = a % 16 + 10 * number_of n (a / 16)
+abbrev pub digits_number : ℕ → ℕ → ℕ
+digits_number zero a = 0
+digits_number (suc n) a = a % 16 + 10 * digits_number n (a / 16)
 
 -- the first decimal number that n digits are too few for
 abbrev pub bound_of : ℕ → ℕ

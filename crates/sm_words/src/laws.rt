@@ -3,7 +3,7 @@ ghost use Rattle.std.specs.Prelude.{◌≡◌, ◌+◌, ◌*◌, ◌/◌, ◌%�
 ghost use Rattle.sm_words.specs.Words.{bit, core_of, IsCore};
 ghost use Rattle.sm_words.specs.Sums.{limit, low, is_negative, signed, one_if, is_outside, sum_of, complement, dadd_of, digits, rrc_of, rra_of, sxt_of, swpb_of, and_of, xor_of};
 ghost use Rattle.sm_words.specs.declared.width.Width.TheVariants.{Byte, Word};
-ghost use Rattle.sm_words.specs.Decimals.{IsDecimal, number_of, bound_of};
+ghost use Rattle.sm_words.specs.Decimals.{IsDecimal, digits_number, bound_of};
 
 use crate::width::Width;
 
@@ -48,8 +48,8 @@ pub fn decimal_addition(a: u16, b: u16, c: bool, width: Width)
     ensures decimal { IsDecimal (digits width) (dadd_of width a b (one_if c)).value }
     ensures whole { let s = dadd_of width a b (one_if c) in
         let n = digits width in
-        number_of n s.value + bound_of n * one_if s.c
-        ≡ number_of n (low width a) + number_of n (low width b) + one_if c }
+        digits_number n s.value + bound_of n * one_if s.c
+        ≡ digits_number n (low width a) + digits_number n (low width b) + one_if c }
 {}
 
 /// A rotation through the carry turns the carry and the byte or word as one number: it is halved, its
