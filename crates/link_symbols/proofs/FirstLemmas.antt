@@ -5,7 +5,7 @@ use Rattle.elf_objects.specs.Object.{ObjectValue}
 use Rattle.elf_objects.specs.declared.object.Symbol.{Symbol}
 use Rattle.link_symbols.specs.declared.symbol.Meaning.{Meaning}
 use Rattle.link_symbols.specs.Passes.{map_at, NumberedObject, numbered_objects_from}
-use Rattle.link_symbols.specs.Symbols.{NamedValue, symbol_of, symbols_in}
+use Rattle.link_symbols.specs.Symbols.{NamedValue, named_symbol, named_symbols_in}
 use Rattle.link_symbols.specs.internal.Maps.{IsFirst, AreFirsts}
 use Rattle.link_symbols.proofs.Steps.{numbered_step}
 use Rattle.link_symbols.proofs.MeaningLemmas.{length_at}
@@ -49,11 +49,11 @@ firsts_split weak (x ∷ xs) ys (o ∷ os) f =
 
 -- an object's, those of the later ones, and that there are so many
 pub firsts_at : (weak : List ℕ → Option Meaning) (os : List ObjectValue) (i first : ℕ) (o : ObjectValue) (fs : List (Option Meaning)) → i < length os → o ≡ get_or os i o →
-    AreFirsts weak (flat_map symbols_in (numbered_objects_from i first (drop i os))) fs →
-    AreFirsts weak (symbols_in (record { number = i; first = first; object = o })) (take (length o.symbols) fs)
-    × (AreFirsts weak (flat_map symbols_in (numbered_objects_from (i + 1) (first + length o.sections) (drop (i + 1) os))) (drop (length o.symbols) fs) × (length o.symbols ≤ length fs))
+    AreFirsts weak (flat_map named_symbols_in (numbered_objects_from i first (drop i os))) fs →
+    AreFirsts weak (named_symbols_in (record { number = i; first = first; object = o })) (take (length o.symbols) fs)
+    × (AreFirsts weak (flat_map named_symbols_in (numbered_objects_from (i + 1) (first + length o.sections) (drop (i + 1) os))) (drop (length o.symbols) fs) × (length o.symbols ≤ length fs))
 firsts_at weak os i first o fs h is f =
     let x : NumberedObject = record { number = i; first = first; object = o } in
-    let later = flat_map symbols_in (numbered_objects_from (i + 1) (first + length o.sections) (drop (i + 1) os)) in
-    subst (λ (n : ℕ). AreFirsts weak (symbols_in x) (take n fs) × (AreFirsts weak later (drop n fs) × (n ≤ length fs))) (length_at (symbol_of x) 0 o.symbols)
-    (firsts_split weak (symbols_in x) later fs (subst (λ (xs : List NumberedObject). AreFirsts weak (flat_map symbols_in xs) fs) (numbered_step os i first o h is) f))
+    let later = flat_map named_symbols_in (numbered_objects_from (i + 1) (first + length o.sections) (drop (i + 1) os)) in
+    subst (λ (n : ℕ). AreFirsts weak (named_symbols_in x) (take n fs) × (AreFirsts weak later (drop n fs) × (n ≤ length fs))) (length_at (named_symbol x) 0 o.symbols)
+    (firsts_split weak (named_symbols_in x) later fs (subst (λ (xs : List NumberedObject). AreFirsts weak (flat_map named_symbols_in xs) fs) (numbered_step os i first o h is) f))

@@ -13,7 +13,7 @@ use Rattle.link_symbols.specs.Commons.{Common, commons_of, commons_with, commons
 use Rattle.link_symbols.specs.Definitions.{strong_of}
 use Rattle.link_symbols.specs.CommonNames.{common_name}
 use Rattle.link_symbols.specs.Passes.{or_else, some_if}
-use Rattle.link_symbols.specs.Symbols.{NamedValue, symbols_of}
+use Rattle.link_symbols.specs.Symbols.{NamedValue, named_symbols}
 use Rattle.link_symbols.specs.internal.Founds.{is_common, is_common_by, with_name, Found}
 use Rattle.link_symbols.specs.internal.Maps.{name_entry}
 use Rattle.link_symbols.proofs.CommonLemmas.{joined_new, common_at_append}
@@ -123,11 +123,11 @@ module _ (names : Names) (first : ℕ) (all : List Common) (numbers : (q : List 
       Found names first all (with_name (is_common names s (first + length found)) found s.name) rest
   found_more found s f = record { now = with_symbol strong f.now s; named = by_what f.now s found s.what f.named f.same; same = f.same }
 
-pub found_none : (names : Names) (first : ℕ) (os : List ObjectValue) → ((q : List ℕ) → name_entry names.strong q ≡ strong_of (symbols_of os) q) → Found names first (commons_of (symbols_of os)) [] (symbols_of os)
+pub found_none : (names : Names) (first : ℕ) (os : List ObjectValue) → ((q : List ℕ) → name_entry names.strong q ≡ strong_of (named_symbols os) q) → Found names first (commons_of (named_symbols os)) [] (named_symbols os)
 found_none names first os h = record {
   now = [];
   named = refl;
-  same = ap (λ (f : List ℕ → Option Definition). fold (with_symbol f) [] (symbols_of os)) (sym (ext (name_entry names.strong) (strong_of (symbols_of os)) h));
+  same = ap (λ (f : List ℕ → Option Definition). fold (with_symbol f) [] (named_symbols os)) (sym (ext (name_entry names.strong) (strong_of (named_symbols os)) h));
 }
 
 pub found_all : (names : Names) (first : ℕ) (all : List Common) (found : List (List ℕ)) (rest : List NamedValue) → rest ≡ [] → Found names first all found rest → found ≡ map common_name all

@@ -13,7 +13,7 @@ use Rattle.link_symbols.specs.declared.names.Names.{Names}
 use Rattle.link_symbols.specs.declared.names.Definition.{Definition}
 use Rattle.link_symbols.specs.Parts.{items_in, section_items}
 use Rattle.link_symbols.specs.Commons.{with_symbol, common_item, common_at, commons_of}
-use Rattle.link_symbols.specs.Symbols.{symbols_of}
+use Rattle.link_symbols.specs.Symbols.{named_symbols}
 use Rattle.link_symbols.specs.Definitions.{strong_of, weak_of}
 use Rattle.link_symbols.specs.Names.{stands_by, stands_for, count_sections}
 use Rattle.link_symbols.specs.Resolved.{items_of}
@@ -42,32 +42,32 @@ pub count_items : (modules : List ModuleValue) (os : List ObjectValue) → lengt
 count_items modules os = let e = length_items modules os 0 in omega (arith, e)
 
 -- what the code's items and names are
-pub items_are : (layout : LayoutValue) (os : List ObjectValue) (names : Names) (before after : List Item) → before ≡ section_items layout.modules os → Holds names (symbols_of os) →
-    HoldsCommons names after before (fold (with_symbol (name_entry names.strong)) [] (symbols_of os)) → after ≡ items_of layout os
+pub items_are : (layout : LayoutValue) (os : List ObjectValue) (names : Names) (before after : List Item) → before ≡ section_items layout.modules os → Holds names (named_symbols os) →
+    HoldsCommons names after before (fold (with_symbol (name_entry names.strong)) [] (named_symbols os)) → after ≡ items_of layout os
 items_are layout os names before after b h c =
-    let e : name_entry names.strong ≡ strong_of (symbols_of os) = ext (name_entry names.strong) (strong_of (symbols_of os)) h.strong in
-    c.items_are ∙ (ap (λ (l : List Item). l ++ map common_item (fold (with_symbol (name_entry names.strong)) [] (symbols_of os))) b
-    ∙ ap (λ (f : List ℕ → Option Definition). section_items layout.modules os ++ map common_item (fold (with_symbol f) [] (symbols_of os))) e)
+    let e : name_entry names.strong ≡ strong_of (named_symbols os) = ext (name_entry names.strong) (strong_of (named_symbols os)) h.strong in
+    c.items_are ∙ (ap (λ (l : List Item). l ++ map common_item (fold (with_symbol (name_entry names.strong)) [] (named_symbols os))) b
+    ∙ ap (λ (f : List ℕ → Option Definition). section_items layout.modules os ++ map common_item (fold (with_symbol f) [] (named_symbols os))) e)
 
-pub names_are : (layout : LayoutValue) (os : List ObjectValue) (names : Names) (before after : List Item) → before ≡ section_items layout.modules os → Holds names (symbols_of os) →
-    HoldsCommons names after before (fold (with_symbol (name_entry names.strong)) [] (symbols_of os)) → (q : List ℕ) → meaning_of_name names q ≡ stands_for os q
+pub names_are : (layout : LayoutValue) (os : List ObjectValue) (names : Names) (before after : List Item) → before ≡ section_items layout.modules os → Holds names (named_symbols os) →
+    HoldsCommons names after before (fold (with_symbol (name_entry names.strong)) [] (named_symbols os)) → (q : List ℕ) → meaning_of_name names q ≡ stands_for os q
 unfolding stands_for
 names_are layout os names before after b h c q =
-    let e : name_entry names.strong ≡ strong_of (symbols_of os) = ext (name_entry names.strong) (strong_of (symbols_of os)) h.strong in
+    let e : name_entry names.strong ≡ strong_of (named_symbols os) = ext (name_entry names.strong) (strong_of (named_symbols os)) h.strong in
     let n : length before ≡ count_sections os = ap length b ∙ count_items layout.modules os in
     ap (λ o. stands_by o (name_entry names.commons q) (name_entry names.weak q)) (h.strong q)
-    ∙ (ap (λ o. stands_by (strong_of (symbols_of os) q) (name_entry names.commons q) o) (h.weak q)
-    ∙ (ap (λ o. stands_by (strong_of (symbols_of os) q) o (weak_of (symbols_of os) q)) (c.numbers q)
-    ∙ (ap (λ k. stands_by (strong_of (symbols_of os) q) (common_at k (fold (with_symbol (name_entry names.strong)) [] (symbols_of os)) q) (weak_of (symbols_of os) q)) n
-    ∙ ap (λ (f : List ℕ → Option Definition). stands_by (strong_of (symbols_of os) q) (common_at (count_sections os) (fold (with_symbol f) [] (symbols_of os)) q) (weak_of (symbols_of os) q)) e)))
+    ∙ (ap (λ o. stands_by (strong_of (named_symbols os) q) (name_entry names.commons q) o) (h.weak q)
+    ∙ (ap (λ o. stands_by (strong_of (named_symbols os) q) o (weak_of (named_symbols os) q)) (c.numbers q)
+    ∙ (ap (λ k. stands_by (strong_of (named_symbols os) q) (common_at k (fold (with_symbol (name_entry names.strong)) [] (named_symbols os)) q) (weak_of (named_symbols os) q)) n
+    ∙ ap (λ (f : List ℕ → Option Definition). stands_by (strong_of (named_symbols os) q) (common_at (count_sections os) (fold (with_symbol f) [] (named_symbols os)) q) (weak_of (named_symbols os) q)) e)))
 
-pub numbered_are : (layout : LayoutValue) (os : List ObjectValue) (names : Names) (before after : List Item) → before ≡ section_items layout.modules os → Holds names (symbols_of os) →
-    HoldsCommons names after before (fold (with_symbol (name_entry names.strong)) [] (symbols_of os)) → AreNumbered names os
+pub numbered_are : (layout : LayoutValue) (os : List ObjectValue) (names : Names) (before after : List Item) → before ≡ section_items layout.modules os → Holds names (named_symbols os) →
+    HoldsCommons names after before (fold (with_symbol (name_entry names.strong)) [] (named_symbols os)) → AreNumbered names os
 numbered_are layout os names before after b h c =
-    let e : name_entry names.strong ≡ strong_of (symbols_of os) = ext (name_entry names.strong) (strong_of (symbols_of os)) h.strong in
+    let e : name_entry names.strong ≡ strong_of (named_symbols os) = ext (name_entry names.strong) (strong_of (named_symbols os)) h.strong in
     let n : length before ≡ count_sections os = ap length b ∙ count_items layout.modules os in
     record {
       strong = h.strong;
-      commons = λ q. c.numbers q ∙ (ap (λ k. common_at k (fold (with_symbol (name_entry names.strong)) [] (symbols_of os)) q) n
-          ∙ ap (λ (f : List ℕ → Option Definition). common_at (count_sections os) (fold (with_symbol f) [] (symbols_of os)) q) e);
+      commons = λ q. c.numbers q ∙ (ap (λ k. common_at k (fold (with_symbol (name_entry names.strong)) [] (named_symbols os)) q) n
+          ∙ ap (λ (f : List ℕ → Option Definition). common_at (count_sections os) (fold (with_symbol f) [] (named_symbols os)) q) e);
     }

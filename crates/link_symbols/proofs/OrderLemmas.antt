@@ -7,7 +7,7 @@ use Rattle.layout_file.specs.Values.{LayoutValue}
 use Rattle.link_symbols.specs.Passes.{or_else}
 use Rattle.link_symbols.specs.Names.{stands_for}
 use Rattle.link_symbols.specs.Resolved.{items_of}
-use Rattle.link_symbols.specs.Symbols.{symbols_of}
+use Rattle.link_symbols.specs.Symbols.{named_symbols}
 use Rattle.link_symbols.specs.Refusals.{no_place, duplicate, undefined, no_vector, no_entry, elsewhere, unresolved}
 use Rattle.link_symbols.specs.internal.Groups.{names_fault, stand_fault}
 use Rattle.link_symbols.proofs.Steps.{or_else_none}
@@ -51,5 +51,5 @@ pub in_groups : (layout : LayoutValue) (os : List ObjectValue) →
 unfolding unresolved names_fault stand_fault
 in_groups layout os =
     let names = stands_for os in
-    grouped (no_place layout.modules os) (duplicate [] (symbols_of os)) (undefined names os) (no_vector names layout.vectors) (no_entry names layout.modules)
+    grouped (no_place layout.modules os) (duplicate [] (named_symbols os)) (undefined names os) (no_vector names layout.vectors) (no_entry names layout.modules)
     (elsewhere names (items_of layout os) layout.modules)

@@ -8,7 +8,7 @@ use Rattle.link_symbols.specs.declared.names.Definition.{Definition}
 use Rattle.link_symbols.specs.declared.names.Names.{Names}
 use Rattle.link_symbols.specs.declared.symbol.Meaning.{Meaning}
 use Rattle.link_symbols.specs.Passes.{or_else, some_if, map_at, NumberedObject, numbered_objects, numbered_objects_from}
-use Rattle.link_symbols.specs.Symbols.{NamedValue, symbol_of, symbols_in, symbols_of}
+use Rattle.link_symbols.specs.Symbols.{NamedValue, named_symbol, named_symbols_in, named_symbols}
 use Rattle.link_symbols.specs.Definitions.{definition, strong_by, strong_of, weak_of, if_named}
 use Rattle.link_symbols.specs.Commons.{commons_of, common_at}
 use Rattle.link_symbols.specs.Refusals.{duplicate, duplicate_by, duplicate_of}
@@ -52,13 +52,13 @@ strong_here before s after d e is =
     ∙ (ap (λ b. or_else (some_if b (strong_by s)) (strong_of after s.name)) same
     ∙ ap (λ o. or_else o (strong_of after s.name)) is)))
 
-own_here : (os : List ObjectValue) (before : List NamedValue) (s : NamedValue) (after : List NamedValue) → symbols_of os ≡ before ++ (s ∷ after) → duplicate [] (symbols_of os) ≡ None → OwnMeaning (stands_for os) s
+own_here : (os : List ObjectValue) (before : List NamedValue) (s : NamedValue) (after : List NamedValue) → named_symbols os ≡ before ++ (s ∷ after) → duplicate [] (named_symbols os) ≡ None → OwnMeaning (stands_for os) s
 unfolding stands_for
 own_here os before s after e none = λ m global defined.
     let d = definition s m in
-    let h : strong_of (symbols_of os) s.name ≡ Some d = subst (λ (l : List NamedValue). strong_of l s.name ≡ Some d) (sym e)
+    let h : strong_of (named_symbols os) s.name ≡ Some d = subst (λ (l : List NamedValue). strong_of l s.name ≡ Some d) (sym e)
     (strong_here before s after d (subst (λ (l : List NamedValue). duplicate [] l ≡ None) e none) (strong_some s m defined global)) in
-    ap (λ o. stands_by o (common_at (count_sections os) (commons_of (symbols_of os)) s.name) (weak_of (symbols_of os) s.name)) h
+    ap (λ o. stands_by o (common_at (count_sections os) (commons_of (named_symbols os)) s.name) (weak_of (named_symbols os) s.name)) h
 
 -- ---- the symbols of an object
 
@@ -82,23 +82,23 @@ around f (x ∷ xs) i (suc k) d h =
       whole = ap (λ l. f i x ∷ l) r.whole ∙ ap (λ (n : ℕ). f i x ∷ (r.front ++ (f n (get_or xs k d) ∷ r.later))) e;
     }
 
-own_in : (os : List ObjectValue) (before : List NamedValue) (x : NumberedObject) (after : List NamedValue) → symbols_of os ≡ before ++ (symbols_in x ++ after) → duplicate [] (symbols_of os) ≡ None → OwnMeanings (stands_for os) x
+own_in : (os : List ObjectValue) (before : List NamedValue) (x : NumberedObject) (after : List NamedValue) → named_symbols os ≡ before ++ (named_symbols_in x ++ after) → duplicate [] (named_symbols os) ≡ None → OwnMeanings (stands_for os) x
 own_in os before x after e none = λ k d h.
-    let r = around (symbol_of x) x.object.symbols 0 k d h in
-    let s = symbol_of x k (get_or x.object.symbols k d) in
+    let r = around (named_symbol x) x.object.symbols 0 k d h in
+    let s = named_symbol x k (get_or x.object.symbols k d) in
     let z : 0 + k ≡ k = omega arith in
-    let whole : symbols_in x ≡ r.front ++ (s ∷ r.later) = r.whole ∙ ap (λ (n : ℕ). r.front ++ (symbol_of x n (get_or x.object.symbols k d) ∷ r.later)) z in
+    let whole : named_symbols_in x ≡ r.front ++ (s ∷ r.later) = r.whole ∙ ap (λ (n : ℕ). r.front ++ (named_symbol x n (get_or x.object.symbols k d) ∷ r.later)) z in
     own_here os (before ++ r.front) s (r.later ++ after)
     (e ∙ (ap (λ l. before ++ (l ++ after)) whole ∙ (ap (λ l. before ++ l) (append_assoc r.front (s ∷ r.later) after) ∙ sym (append_assoc before r.front (s ∷ (r.later ++ after)))))) none
 
 -- ---- all objects
 
-own_all_by : (os : List ObjectValue) (before : List NamedValue) (xs : List NumberedObject) → symbols_of os ≡ before ++ flat_map symbols_in xs → duplicate [] (symbols_of os) ≡ None → AllOwnMeanings (stands_for os) xs
+own_all_by : (os : List ObjectValue) (before : List NamedValue) (xs : List NumberedObject) → named_symbols os ≡ before ++ flat_map named_symbols_in xs → duplicate [] (named_symbols os) ≡ None → AllOwnMeanings (stands_for os) xs
 own_all_by os before [] e none = tt
 own_all_by os before (x ∷ xs) e none =
-    (own_in os before x (flat_map symbols_in xs) e none, own_all_by os (before ++ symbols_in x) xs (e ∙ sym (append_assoc before (symbols_in x) (flat_map symbols_in xs))) none)
+    (own_in os before x (flat_map named_symbols_in xs) e none, own_all_by os (before ++ named_symbols_in x) xs (e ∙ sym (append_assoc before (named_symbols_in x) (flat_map named_symbols_in xs))) none)
 
-pub own_all : (names : Names) (os : List ObjectValue) → duplicate [] (symbols_of os) ≡ None → ((q : List ℕ) → meaning_of_name names q ≡ stands_for os q) → AllOwnMeanings (meaning_of_name names) (numbered_objects os)
+pub own_all : (names : Names) (os : List ObjectValue) → duplicate [] (named_symbols os) ≡ None → ((q : List ℕ) → meaning_of_name names q ≡ stands_for os q) → AllOwnMeanings (meaning_of_name names) (numbered_objects os)
 own_all names os none known =
     subst (λ (f : List ℕ → Option Meaning). AllOwnMeanings f (numbered_objects os)) (sym (ext (meaning_of_name names) (stands_for os) known)) (own_all_by os [] (numbered_objects os) refl none)
 

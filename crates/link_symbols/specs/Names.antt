@@ -6,7 +6,7 @@ use Rattle.elf_objects.specs.declared.object.Binding.TheVariants as binding
 use Rattle.link_symbols.specs.declared.names.Definition.{Definition}
 use Rattle.link_symbols.specs.declared.symbol.Meaning.{Meaning}
 use Rattle.link_symbols.specs.Passes.{or_else}
-use Rattle.link_symbols.specs.Symbols.{NamedValue, symbols_of}
+use Rattle.link_symbols.specs.Symbols.{NamedValue, named_symbols}
 use Rattle.link_symbols.specs.Definitions.{meaning_in, strong_of, weak_of}
 use Rattle.link_symbols.specs.Commons.{commons_of, common_at}
 use Rattle.link_symbols.specs.declared.symbol.Meaning.TheVariants as meaning
@@ -19,7 +19,7 @@ abbrev pub count_sections : List ObjectValue → ℕ
 count_sections objects = sum_by (λ o. length o.sections) objects
 
 unfoldable pub stands_for : List ObjectValue → List ℕ → Option Meaning
-stands_for objects name = let symbols = symbols_of objects in
+stands_for objects name = let symbols = named_symbols objects in
     stands_by (strong_of symbols name) (common_at (count_sections objects) (commons_of symbols) name) (weak_of symbols name)
 
 -- a weak symbol whose name stands for nothing is the number 0

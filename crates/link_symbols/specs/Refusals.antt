@@ -16,7 +16,7 @@ use Rattle.link_symbols.specs.declared.names.Definition.{Definition}
 use Rattle.link_symbols.specs.declared.symbol.Meaning.{Meaning}
 use Rattle.link_symbols.specs.Passes.{refuse_if, or_else, first_in, first_at, NumberedObject, numbered_objects}
 use Rattle.link_symbols.specs.Parts.{is_loaded_head, item_of}
-use Rattle.link_symbols.specs.Symbols.{NamedValue, symbol_of, symbols_of}
+use Rattle.link_symbols.specs.Symbols.{NamedValue, named_symbol, named_symbols}
 use Rattle.link_symbols.specs.Definitions.{strong_by, strong_of}
 use Rattle.link_symbols.specs.Names.{stands_for, symbol_meaning}
 use Rattle.link_symbols.specs.Resolved.{items_of}
@@ -51,7 +51,7 @@ is_used relocations k = list_any (λ r. r.symbol == k) relocations
 
 unfoldable pub undefined_at : (List ℕ → Option Meaning) → NumberedObject → ℕ → Symbol → Option LinkFault
 undefined_at names x k s =
-    refuse_if (is_used x.object.relocations k && is_none (symbol_meaning names (symbol_of x k s))) (fault.Undefined x.number k)
+    refuse_if (is_used x.object.relocations k && is_none (symbol_meaning names (named_symbol x k s))) (fault.Undefined x.number k)
 
 abbrev pub undefined_in : (List ℕ → Option Meaning) → NumberedObject → Option LinkFault
 undefined_in names x = first_at (undefined_at names x) 0 x.object.symbols
@@ -100,7 +100,7 @@ elsewhere names items modules = first_at (elsewhere_in names items) 0 modules
 unfoldable pub unresolved : LayoutValue → List ObjectValue → Option LinkFault
 unresolved layout objects = let names = stands_for objects in first_of (
     no_place layout.modules objects
-    ∷ duplicate [] (symbols_of objects)
+    ∷ duplicate [] (named_symbols objects)
     ∷ undefined names objects
     ∷ no_vector names layout.vectors
     ∷ no_entry names layout.modules

@@ -7,16 +7,16 @@ use Rattle.link_symbols.specs.declared.item.Item.{Item}
 use Rattle.link_symbols.specs.declared.symbol.Meaning.{Meaning}
 use Rattle.link_symbols.specs.Passes.{map_at, NumberedObject, numbered_objects}
 use Rattle.link_symbols.specs.Parts.{section_items}
-use Rattle.link_symbols.specs.Symbols.{symbol_of, symbols_of}
+use Rattle.link_symbols.specs.Symbols.{named_symbol, named_symbols}
 use Rattle.link_symbols.specs.Commons.{commons_of, common_item}
 use Rattle.link_symbols.specs.Names.{stands_for, symbol_meaning}
 
 -- the sections of all objects, then the commons
 abbrev pub items_of : LayoutValue → List ObjectValue → List Item
-items_of layout objects = section_items layout.modules objects ++ map common_item (commons_of (symbols_of objects))
+items_of layout objects = section_items layout.modules objects ++ map common_item (commons_of (named_symbols objects))
 
 abbrev pub meaning_at : (List ℕ → Option Meaning) → NumberedObject → ℕ → Symbol → Option Meaning
-meaning_at names x k s = symbol_meaning names (symbol_of x k s)
+meaning_at names x k s = symbol_meaning names (named_symbol x k s)
 
 -- what each symbol of an object stands for
 abbrev pub meanings_in : (List ℕ → Option Meaning) → NumberedObject → List (Option Meaning)

@@ -32,12 +32,12 @@ what_at x s home.Absolute = what.Defined (meaning.Number s.value)
 what_at x s home.Common = what.Common s.size s.value
 what_at x s (home.In k) = defined_in (slice_get x.object.sections k) (meaning.Place (x.first + k) s.value)
 
-abbrev pub symbol_of : NumberedObject → ℕ → Symbol → NamedValue
-symbol_of x k s = record { object = x.number; symbol = k; name = part x.object s.name; binding = s.binding; what = what_at x s s.home }
+abbrev pub named_symbol : NumberedObject → ℕ → Symbol → NamedValue
+named_symbol x k s = record { object = x.number; symbol = k; name = part x.object s.name; binding = s.binding; what = what_at x s s.home }
 
-abbrev pub symbols_in : NumberedObject → List NamedValue
-symbols_in x = map_at (symbol_of x) 0 x.object.symbols
+abbrev pub named_symbols_in : NumberedObject → List NamedValue
+named_symbols_in x = map_at (named_symbol x) 0 x.object.symbols
 
 -- the symbols of all objects, in order of object and index
-abbrev pub symbols_of : List ObjectValue → List NamedValue
-symbols_of objects = flat_map symbols_in (numbered_objects objects)
+abbrev pub named_symbols : List ObjectValue → List NamedValue
+named_symbols objects = flat_map named_symbols_in (numbered_objects objects)

@@ -5,7 +5,7 @@ ghost use Rattle.layout_file.specs.Views.{module_of, vector_of, strings_of};
 ghost use Rattle.link_symbols.specs.Passes.{NumberedObject, numbered_objects, first_at, first_in, IsFaultOf, Answers};
 ghost use Rattle.link_symbols.specs.Passes.{numbered_object};
 ghost use Rattle.link_symbols.specs.internal.Values.{value_of};
-ghost use Rattle.link_symbols.specs.Symbols.{symbols_in, symbols_of};
+ghost use Rattle.link_symbols.specs.Symbols.{named_symbols_in, named_symbols};
 ghost use Rattle.link_symbols.specs.Definitions.{is_global};
 ghost use Rattle.link_symbols.specs.internal.Maps.{meaning_of_name, name_entry, IsFirst, AreFirsts, KnowsFirsts};
 ghost use Rattle.link_symbols.specs.Names.{symbol_meaning};
@@ -82,7 +82,7 @@ fn meanings_of<'a>(
 ) -> Result<Vec<Option<Meaning>>, AllocError>
     requires small { first ≤ 2 ^ 31 }
     requires own { OwnMeanings (meaning_of_name names.now) (numbered_object number first object.now) }
-    requires firsts { AreFirsts (name_entry names.now.weak) (symbols_in (numbered_object number first object.now))
+    requires firsts { AreFirsts (name_entry names.now.weak) (named_symbols_in (numbered_object number first object.now))
         firsts.now }
     ensures { IfOk result (λ v. v.items ≡ meanings_in (meaning_of_name names.now) (numbered_object number first
         object.entry.now)) }
@@ -160,7 +160,7 @@ fn check_object<'a>(
 ) -> Result<Vec<Option<Meaning>>, LinkFault>
     requires small { first ≤ 2 ^ 31 }
     requires own { OwnMeanings (meaning_of_name names.now) (numbered_object number first object.now) }
-    requires firsts { AreFirsts (name_entry names.now.weak) (symbols_in (numbered_object number first object.now))
+    requires firsts { AreFirsts (name_entry names.now.weak) (named_symbols_in (numbered_object number first object.now))
         firsts.now }
     ensures sound { OnOk result (undefined_in (meaning_of_name names.now) (numbered_object number first
         object.entry.now) ≡ None) }
@@ -188,7 +188,7 @@ pub fn check_symbols<'a>(
 ) -> Result<Vec<Vec<Option<Meaning>>>, LinkFault>
     requires few { length objects.now ≤ 64 }
     requires own { AllOwnMeanings (meaning_of_name names.now) (numbered_objects objects.now) }
-    requires firsts { KnowsFirsts names.now (symbols_of objects.now) }
+    requires firsts { KnowsFirsts names.now (named_symbols objects.now) }
     ensures sound { OnOk result (undefined (meaning_of_name names.now) objects.entry.now ≡ None) }
     ensures meanings { IfOk result (λ v. AreMeanings (meaning_of_name names.now) objects.entry.now v.items) }
     ensures refusal { IfErr result (IsFaultOf (undefined (meaning_of_name names.now) objects.entry.now)) }

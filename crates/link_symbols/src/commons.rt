@@ -5,7 +5,7 @@ ghost use Rattle.link_symbols.specs.CommonNames.{borrowed, common_names};
 ghost use Rattle.link_symbols.specs.Commons.{Common, common_at};
 ghost use Rattle.link_symbols.specs.Names.{count_sections};
 ghost use Rattle.link_symbols.specs.Passes.{numbered_object};
-ghost use Rattle.link_symbols.specs.Symbols.{NamedValue, symbols_in};
+ghost use Rattle.link_symbols.specs.Symbols.{NamedValue, named_symbols_in};
 ghost use Rattle.link_symbols.specs.internal.Founds.{is_common, with_name, Found, AreNumbered};
 ghost use Rattle.link_symbols.specs.internal.Maps.{name_entry};
 ghost use Rattle.link_symbols.specs.internal.Values.{value_of};
@@ -47,7 +47,7 @@ fn find_commons<'a>(
     ensures { OnOk result ((all : List Common) (rest : List NamedValue) →
         ((q : List ℕ) → name_entry names.now.commons q ≡ common_at first_common all q) →
         Found names.now first_common all (borrowed found.old.items)
-        (symbols_in (numbered_object number first object.entry.now) ++ rest) →
+        (named_symbols_in (numbered_object number first object.entry.now) ++ rest) →
         Found names.now first_common all (borrowed found.new.items) rest) }
 {
     for (k, symbol) in object.symbols().iter().enumerate() {

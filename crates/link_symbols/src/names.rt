@@ -10,7 +10,7 @@ ghost use Rattle.link_symbols.specs.internal.Values.{joined_item};
 ghost use Rattle.link_symbols.specs.Names.{stands_by, stands_for};
 ghost use Rattle.link_symbols.specs.Definitions.{weak_of, is_global, definition, definition_of, strong_of};
 ghost use Rattle.link_symbols.specs.internal.Values.{value_of};
-ghost use Rattle.link_symbols.specs.Symbols.{symbols_in, symbols_of, NamedValue};
+ghost use Rattle.link_symbols.specs.Symbols.{named_symbols_in, named_symbols, NamedValue};
 ghost use Rattle.link_symbols.specs.internal.Maps.{last_bytes, name_entry, meaning_of_name, Notes, Holds, HoldsCommons};
 ghost use Rattle.link_symbols.specs.Refusals.{duplicate_by, duplicate_of, duplicate};
 ghost use Rattle.link_symbols.specs.declared.item.Item.{Item};
@@ -252,11 +252,11 @@ impl<'a> Names<'a> {
     fn note_all(&mut self, object: &'a Object, number: usize, first: usize) -> Result<(), LinkFault>
         requires small { first ≤ 2 ^ 31 }
         ensures noted { OnOk result ((before : List NamedValue) → Holds self.old before → Holds self.new (before
-            ++ symbols_in (numbered_object number first object.entry.now))) }
+            ++ named_symbols_in (numbered_object number first object.entry.now))) }
         ensures sound { OnOk result ((before : List NamedValue) → Holds self.old before → duplicate before
-            (symbols_in (numbered_object number first object.entry.now)) ≡ None) }
+            (named_symbols_in (numbered_object number first object.entry.now)) ≡ None) }
         ensures refusal { IfErr result (λ f. (before : List NamedValue) → Holds self.old before → IsFaultOf
-            (duplicate before (symbols_in (numbered_object number first object.entry.now))) f) }
+            (duplicate before (named_symbols_in (numbered_object number first object.entry.now))) f) }
         ensures commons { OnOk result (self.new.commons ≡ self.old.commons) }
     {
         for (k, symbol) in object.symbols().iter().enumerate() {
@@ -334,7 +334,7 @@ impl<'a> Names<'a> {
         requires small { first ≤ 2 ^ 31 }
         ensures noted { OnOk result ((sections : List Item) (cs : List Common) → HoldsCommons self.old
             items.old.items sections cs → HoldsCommons self.new items.new.items sections (fold (with_symbol
-            (name_entry self.old.strong)) cs (symbols_in (numbered_object number first object.entry.now)))) }
+            (name_entry self.old.strong)) cs (named_symbols_in (numbered_object number first object.entry.now)))) }
         ensures strong { OnOk result (self.new.strong ≡ self.old.strong) }
         ensures weak { OnOk result (self.new.weak ≡ self.old.weak) }
         ensures firsts { OnOk result (self.new.firsts ≡ self.old.firsts) }
@@ -363,10 +363,10 @@ fn join(items: &mut Vec<Item>, number: usize, size: u32, align: u32)
 // The definitions of all objects.
 fn definitions_of<'a>(alloc: Global, objects: &'a [Object]) -> Result<Names<'a>, LinkFault>
     requires few { length objects.now ≤ 64 }
-    ensures noted { IfOk result (λ names. Holds names (symbols_of objects.entry.now)) }
+    ensures noted { IfOk result (λ names. Holds names (named_symbols objects.entry.now)) }
     ensures commons { IfOk result (λ names. (q : List ℕ) → name_entry names.commons q ≡ None) }
-    ensures sound { OnOk result (duplicate [] (symbols_of objects.entry.now) ≡ None) }
-    ensures refusal { IfErr result (IsFaultOf (duplicate [] (symbols_of objects.entry.now))) }
+    ensures sound { OnOk result (duplicate [] (named_symbols objects.entry.now) ≡ None) }
+    ensures refusal { IfErr result (IsFaultOf (duplicate [] (named_symbols objects.entry.now))) }
 {
     let mut names = Names::new(alloc);
     let mut first = 0;
@@ -388,7 +388,7 @@ fn gather_commons<'a>(
     requires few { length objects.now ≤ 64 }
     requires fresh { (q : List ℕ) → name_entry names.old.commons q ≡ None }
     ensures commons { OnOk result (HoldsCommons names.new items.new.items items.old.items (fold (with_symbol
-        (name_entry names.old.strong)) [] (symbols_of objects.entry.now))) }
+        (name_entry names.old.strong)) [] (named_symbols objects.entry.now))) }
     ensures strong { OnOk result (names.new.strong ≡ names.old.strong) }
     ensures weak { OnOk result (names.new.weak ≡ names.old.weak) }
     ensures firsts { OnOk result (names.new.firsts ≡ names.old.firsts) }
@@ -408,11 +408,11 @@ pub fn names_of<'a>(
     objects: &'a [Object],
 ) -> Result<Names<'a>, LinkFault>
     requires few { length objects.now ≤ 64 }
-    ensures sound { OnOk result (duplicate [] (symbols_of objects.entry.now) ≡ None) }
-    ensures refusal { IfErr result (IsFaultOf (duplicate [] (symbols_of objects.entry.now))) }
-    ensures definitions { IfOk result (λ names. Holds names (symbols_of objects.entry.now)) }
+    ensures sound { OnOk result (duplicate [] (named_symbols objects.entry.now) ≡ None) }
+    ensures refusal { IfErr result (IsFaultOf (duplicate [] (named_symbols objects.entry.now))) }
+    ensures definitions { IfOk result (λ names. Holds names (named_symbols objects.entry.now)) }
     ensures commons { IfOk result (λ names. HoldsCommons names items.new.items items.old.items (fold
-        (with_symbol (name_entry names.strong)) [] (symbols_of objects.entry.now))) }
+        (with_symbol (name_entry names.strong)) [] (named_symbols objects.entry.now))) }
 {
     let mut names = match definitions_of(alloc, objects) {
         Ok(names) => names,

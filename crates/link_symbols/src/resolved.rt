@@ -7,7 +7,7 @@ ghost use Rattle.link_symbols.specs.CommonNames.{borrowed, common_names};
 ghost use Rattle.link_symbols.specs.Names.{stands_for};
 ghost use Rattle.link_symbols.specs.Resolved.{items_of, meanings_of};
 ghost use Rattle.link_symbols.specs.Refusals.{unresolved};
-ghost use Rattle.link_symbols.specs.Symbols.{symbols_of};
+ghost use Rattle.link_symbols.specs.Symbols.{named_symbols};
 ghost use Rattle.link_symbols.specs.internal.Founds.{AreNumbered};
 ghost use Rattle.link_symbols.specs.internal.Groups.{names_fault, stand_fault};
 ghost use Rattle.link_symbols.specs.internal.Layouts.{AreShort};
@@ -109,7 +109,7 @@ fn read_input<'a>(
     ensures names { IfOk result (λ r. (q : List ℕ) → meaning_of_name r.names q
         ≡ stands_for objects.entry.now q) }
     ensures own { IfOk result (λ r. AllOwnMeanings (meaning_of_name r.names) (numbered_objects objects.entry.now)) }
-    ensures firsts { IfOk result (λ r. KnowsFirsts r.names (symbols_of objects.entry.now)) }
+    ensures firsts { IfOk result (λ r. KnowsFirsts r.names (named_symbols objects.entry.now)) }
     ensures numbered { IfOk result (λ r. AreNumbered r.names objects.entry.now) }
     ensures sound { OnOk result (names_fault (layout_of layout.now) objects.entry.now ≡ None) }
     ensures refusal { IfErr result (IsFaultOf (names_fault (layout_of layout.now) objects.entry.now)) }
@@ -136,7 +136,7 @@ fn check_names<'a>(
     requires few { length objects.now ≤ 64 }
     requires modules { length layout.now.modules.items ≤ 32 }
     requires own { AllOwnMeanings (meaning_of_name names.now) (numbered_objects objects.now) }
-    requires firsts { KnowsFirsts names.now (symbols_of objects.now) }
+    requires firsts { KnowsFirsts names.now (named_symbols objects.now) }
     ensures sound { OnOk result (stand_fault (meaning_of_name names.now) items.now (layout_of layout.entry.now)
         objects.entry.now ≡ None) }
     ensures meanings { IfOk result (λ v. AreMeanings (meaning_of_name names.now) objects.entry.now v.items) }

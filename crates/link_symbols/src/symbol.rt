@@ -4,7 +4,7 @@ ghost use Rattle.std.specs.Prelude.{◌≡◌, ◌≤◌, ◌^◌, length};
 ghost use Rattle.elf_objects.specs.Object.{IsSymbol, IsHome};
 ghost use Rattle.link_symbols.specs.Passes.{NumberedObject};
 ghost use Rattle.link_symbols.specs.Passes.{numbered_object};
-ghost use Rattle.link_symbols.specs.Symbols.{what_at, symbol_of};
+ghost use Rattle.link_symbols.specs.Symbols.{what_at, named_symbol};
 ghost use Rattle.link_symbols.specs.internal.Values.{value_of};
 ghost use Rattle.link_symbols.specs.Definitions.{definition_of};
 
@@ -89,7 +89,7 @@ pub fn symbol_at(
 ) -> Named<'_>
     requires symbol { IsSymbol (length object.now.file) (length object.now.sections) symbol }
     requires small { first ≤ 2 ^ 31 }
-    ensures { value_of result ≡ symbol_of (numbered_object number first object.now) k symbol }
+    ensures { value_of result ≡ named_symbol (numbered_object number first object.now) k symbol }
 {
     Named {
         object: number,

@@ -13,7 +13,7 @@ use Rattle.link_symbols.specs.declared.item.Part.{Part}
 use Rattle.link_symbols.specs.Passes.{first_at, or_else, part}
 use Rattle.link_symbols.specs.Parts.{part_at, code_part, data_part, part_in, part_of, item_of, is_loaded_head, items_in, section_items}
 use Rattle.link_symbols.specs.Commons.{commons_of}
-use Rattle.link_symbols.specs.Symbols.{symbols_of}
+use Rattle.link_symbols.specs.Symbols.{named_symbols}
 use Rattle.linker.specs.internal.Placed.{AreIn, IsInBy}
 use Rattle.link_symbols.specs.Resolved.{items_of}
 use Rattle.linker.specs.Placement.{starts_of, module_starts}
@@ -69,8 +69,8 @@ sections_in ms (o ∷ os) =
 
 pub items_are_in : (layout : LayoutValue) (os : List ObjectValue) → AreIn (2 + 2 * length layout.modules) (items_of layout os)
 items_are_in layout os =
-    All-append (λ (i : Item). IsInBy (2 + 2 * length layout.modules) i.part) (section_items layout.modules os) (map _ (commons_of (symbols_of os)))
-    (sections_in layout.modules os) (common_in (2 + 2 * length layout.modules) (commons_of (symbols_of os)) (omega arith))
+    All-append (λ (i : Item). IsInBy (2 + 2 * length layout.modules) i.part) (section_items layout.modules os) (map _ (commons_of (named_symbols os)))
+    (sections_in layout.modules os) (common_in (2 + 2 * length layout.modules) (commons_of (named_symbols os)) (omega arith))
 
 -- ---- where regions end
 

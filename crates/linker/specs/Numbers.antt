@@ -6,7 +6,7 @@ use Rattle.elf_objects.specs.declared.object.Symbol.{Symbol}
 use Rattle.layout_file.specs.Values.{LayoutValue}
 use Rattle.link_symbols.specs.declared.symbol.Meaning.{Meaning}
 use Rattle.link_symbols.specs.Passes.{map_at, NumberedObject}
-use Rattle.link_symbols.specs.Symbols.{symbol_of}
+use Rattle.link_symbols.specs.Symbols.{named_symbol}
 use Rattle.link_symbols.specs.Names.{stands_for, symbol_meaning}
 use Rattle.link_symbols.specs.Resolved.{items_of}
 use Rattle.linker.specs.Placement.{starts_of, filled_end, address_at}
@@ -34,7 +34,7 @@ end_in layout objects = filled_end (starts_of layout) (items_of layout objects)
 
 -- the number of a symbol of an object
 abbrev pub symbol_number : Linking → NumberedObject → ℕ → Symbol → ℕ
-symbol_number l x k s = number_or_zero l.address (symbol_meaning l.names (symbol_of x k s))
+symbol_number l x k s = number_or_zero l.address (symbol_meaning l.names (named_symbol x k s))
 
 abbrev pub numbers_in : Linking → NumberedObject → List ℕ
 numbers_in l x = map_at (symbol_number l x) 0 x.object.symbols

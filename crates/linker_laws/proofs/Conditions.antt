@@ -23,7 +23,7 @@ use Rattle.link_symbols.specs.declared.symbol.Meaning.TheVariants as meaning
 use Rattle.mod_layout.specs.declared.Section.{Section}
 use Rattle.link_symbols.specs.Passes.{NumberedObject, numbered_objects, first_in, refuse_if, part}
 use Rattle.link_symbols.specs.Parts.{is_loaded_head, code_part, part_of, item_of}
-use Rattle.link_symbols.specs.Symbols.{symbol_of, symbols_of}
+use Rattle.link_symbols.specs.Symbols.{named_symbol, named_symbols}
 use Rattle.link_symbols.specs.Names.{stands_for, symbol_meaning}
 use Rattle.link_symbols.specs.Resolved.{items_of}
 use Rattle.linker.specs.Placement.{item_at, text_of, ram_of}
@@ -98,17 +98,17 @@ user_of [] k e = cc
 user_of (r ∷ rs) k e = user_by r rs k (r.symbol == k) refl e (user_of rs k)
 
 abbrev Stand : (List ℕ → Option Meaning) → NumberedObject → ℕ → Option Symbol → Type 0
-Stand names x k o = IfSome o (λ s. symbol_meaning names (symbol_of x k s) ≢ None)
+Stand names x k o = IfSome o (λ s. symbol_meaning names (named_symbol x k s) ≢ None)
 
 stand_by : (names : List ℕ → Option Meaning) (x : NumberedObject) (k : ℕ) (b : Bool) (s : Symbol) → b ≡ true →
-    refuse_if (b && is_none (symbol_meaning names (symbol_of x k s))) (fault.Undefined x.number k) ≡ None →
-    symbol_meaning names (symbol_of x k s) ≢ None
-stand_by names x k true s u e = some_is (symbol_meaning names (symbol_of x k s)) (refused_not _ _ e)
+    refuse_if (b && is_none (symbol_meaning names (named_symbol x k s))) (fault.Undefined x.number k) ≡ None →
+    symbol_meaning names (named_symbol x k s) ≢ None
+stand_by names x k true s u e = some_is (symbol_meaning names (named_symbol x k s)) (refused_not _ _ e)
 stand_by names x k false s u e = cc
 
 stands_at : (names : List ℕ → Option Meaning) (x : NumberedObject) (k : ℕ) (s : Symbol) →
     is_used x.object.relocations k ≡ true → undefined_at names x k s ≡ None →
-    symbol_meaning names (symbol_of x k s) ≢ None
+    symbol_meaning names (named_symbol x k s) ≢ None
 unfolding undefined_at
 stands_at names x k s u e = stand_by names x k (is_used x.object.relocations k) s u e
 
@@ -118,7 +118,7 @@ used_stand_by : (names : List ℕ → Option Meaning) (x : NumberedObject) (k : 
 used_stand_by names x k None q u e = tt
 used_stand_by names x k (Some s) q u e =
     let g = got x.object.symbols k s q in
-    subst (λ (t : Symbol). symbol_meaning names (symbol_of x k t) ≢ None) (g.1 s) (stands_at names x k (get_or x.object.symbols k s) u (at_none (undefined_at names x) x.object.symbols e k s g.0))
+    subst (λ (t : Symbol). symbol_meaning names (named_symbol x k t) ≢ None) (g.1 s) (stands_at names x k (get_or x.object.symbols k s) u (at_none (undefined_at names x) x.object.symbols e k s g.0))
 
 used_stand : (names : List ℕ → Option Meaning) (objects : List ObjectValue) → undefined names objects ≡ None →
     UsedStand names objects
@@ -130,7 +130,7 @@ used_stand names objects e = λ n x l j r m.
 
 gap_none : (names : List ℕ → Option Meaning) (x : NumberedObject) (k : ℕ) (s : Symbol) (b : Bool) →
     is_used x.object.relocations k ≡ b → slice_get x.object.symbols k ≡ Some s →
-    All (λ r. Stand names x r.symbol (slice_get x.object.symbols r.symbol)) x.object.relocations → refuse_if (b && is_none (symbol_meaning names (symbol_of x k s))) (fault.Undefined x.number k) ≡ None
+    All (λ r. Stand names x r.symbol (slice_get x.object.symbols r.symbol)) x.object.relocations → refuse_if (b && is_none (symbol_meaning names (named_symbol x k s))) (fault.Undefined x.number k) ≡ None
 gap_none names x k s false u g h = refl
 gap_none names x k s true u g h =
     let j = user_of x.object.relocations k u in
@@ -338,7 +338,7 @@ can_link layout objects e =
     let h = both_none _ _ all.1 in
     record {
       sections_placed = placed layout.modules objects a.0;
-      one_strong_each = no_duplicates (symbols_of objects) b.0;
+      one_strong_each = no_duplicates (named_symbols objects) b.0;
       used_stand = used_stand names objects c.0;
       vectors_stand = vectors names layout.vectors d.0;
       entries_stand = entries names (items_of layout objects) layout.modules g.0;
@@ -353,7 +353,7 @@ links layout objects h =
     let names = stands_for objects in
     or_none _ _
     (or_none _ _ (not_placed layout.modules objects h.sections_placed)
-    (or_none _ _ (duplicates (symbols_of objects) h.one_strong_each)
+    (or_none _ _ (duplicates (named_symbols objects) h.one_strong_each)
     (or_none _ _ (not_undefined names objects h.used_stand)
     (or_none _ _ (not_vectors names layout.vectors h.vectors_stand)
     (or_none _ _ (no_entry_if names (items_of layout objects) layout.modules h.entries_stand)

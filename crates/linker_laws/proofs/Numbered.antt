@@ -10,7 +10,7 @@ use Rattle.link_symbols.specs.declared.item.Item.{Item}
 use Rattle.link_symbols.specs.Passes.{NumberedObject, numbered_objects, numbered_objects_from}
 use Rattle.link_symbols.specs.Parts.{items_in, section_items, item_of}
 use Rattle.link_symbols.specs.Commons.{commons_of, common_item}
-use Rattle.link_symbols.specs.Symbols.{symbols_of}
+use Rattle.link_symbols.specs.Symbols.{named_symbols}
 use Rattle.link_symbols.specs.Resolved.{items_of}
 use Rattle.linker.specs.Placement.{item_at}
 use Rattle.linker.proofs.FitLemmas.{item_here}
@@ -73,4 +73,4 @@ item_from modules (o ∷ os) number front commons (suc n) k x d e l =
 pub section_item : (layout : LayoutValue) (os : List ObjectValue) (n k : ℕ) (x : NumberedObject) (d : SectionHead) →
     slice_get (numbered_objects os) n ≡ Some x → k < length x.object.sections →
     item_at (items_of layout os) (x.first + k) ≡ item_of layout.modules x.object (get_or x.object.sections k d)
-section_item layout os n k x d e l = item_from layout.modules os 0 [] (map common_item (commons_of (symbols_of os))) n k x d e l
+section_item layout os n k x d e l = item_from layout.modules os 0 [] (map common_item (commons_of (named_symbols os))) n k x d e l

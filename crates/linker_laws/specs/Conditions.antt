@@ -10,7 +10,7 @@ use Rattle.link_symbols.specs.declared.symbol.Meaning.TheVariants as meaning
 use Rattle.link_symbols.specs.declared.symbol.What.TheVariants as what
 use Rattle.link_symbols.specs.Passes.{numbered_objects, part}
 use Rattle.link_symbols.specs.Parts.{is_loaded_head, code_part, part_of}
-use Rattle.link_symbols.specs.Symbols.{NamedValue, symbol_of, symbols_of}
+use Rattle.link_symbols.specs.Symbols.{NamedValue, named_symbol, named_symbols}
 use Rattle.link_symbols.specs.Names.{stands_for, symbol_meaning}
 use Rattle.link_symbols.specs.Resolved.{items_of}
 use Rattle.linker.specs.Placement.{item_at, text_of, ram_of}
@@ -37,7 +37,7 @@ OneStrongEach symbols = AllPairs (λ s t. IsStrong s → IsStrong t → s.name �
 -- each symbol that a relocation uses stands for something
 abbrev pub UsedStand : (List ℕ → Option Meaning) → List ObjectValue → Type 0
 UsedStand names objects = All (λ x. All (λ r.
-    IfSome (slice_get x.object.symbols r.symbol) (λ s. symbol_meaning names (symbol_of x r.symbol s) ≢ None))
+    IfSome (slice_get x.object.symbols r.symbol) (λ s. symbol_meaning names (named_symbol x r.symbol s) ≢ None))
     x.object.relocations) (numbered_objects objects)
 
 -- each vector's name stands for something
@@ -75,7 +75,7 @@ RelocationsApply l objects = All (λ x. All (λ r.
 
 pub record CanLink (layout : LayoutValue) (objects : List ObjectValue) : Type 0 where
   pub sections_placed : SectionsPlaced layout.modules objects
-  pub one_strong_each : OneStrongEach (symbols_of objects)
+  pub one_strong_each : OneStrongEach (named_symbols objects)
   pub used_stand : UsedStand (stands_for objects) objects
   pub vectors_stand : VectorsStand (stands_for objects) layout.vectors
   pub entries_stand : EntriesStand (stands_for objects) (items_of layout objects) layout.modules

@@ -9,7 +9,7 @@ use Rattle.link_symbols.specs.CommonNames.{common_name}
 use Rattle.link_symbols.specs.Commons.{Common, commons_of, common_at, with_symbol}
 use Rattle.link_symbols.specs.Definitions.{strong_of}
 use Rattle.link_symbols.specs.Names.{count_sections}
-use Rattle.link_symbols.specs.Symbols.{NamedValue, symbols_of}
+use Rattle.link_symbols.specs.Symbols.{NamedValue, named_symbols}
 use Rattle.link_symbols.specs.internal.Maps.{name_entry}
 
 -- whether a symbol is a common with this number, where its name has no strong definition
@@ -33,5 +33,5 @@ pub record Found (names : Names) (first : ℕ) (all : List Common) (found : List
 
 -- the maps have the strong definitions of objects, and the numbers of their commons
 pub record AreNumbered (names : Names) (objects : List ObjectValue) : Type 0 where
-  pub strong : (q : List ℕ) → name_entry names.strong q ≡ strong_of (symbols_of objects) q
-  pub commons : (q : List ℕ) → name_entry names.commons q ≡ common_at (count_sections objects) (commons_of (symbols_of objects)) q
+  pub strong : (q : List ℕ) → name_entry names.strong q ≡ strong_of (named_symbols objects) q
+  pub commons : (q : List ℕ) → name_entry names.commons q ≡ common_at (count_sections objects) (commons_of (named_symbols objects)) q

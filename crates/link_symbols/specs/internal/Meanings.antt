@@ -7,7 +7,7 @@ use Rattle.elf_objects.specs.declared.object.Relocation.{Relocation}
 use Rattle.link_symbols.specs.declared.fault.LinkFault.{LinkFault}
 use Rattle.link_symbols.specs.declared.symbol.Meaning.{Meaning}
 use Rattle.link_symbols.specs.Passes.{refuse_if, first_at, NumberedObject, numbered_objects}
-use Rattle.link_symbols.specs.Symbols.{symbol_of, NamedValue}
+use Rattle.link_symbols.specs.Symbols.{named_symbol, NamedValue}
 use Rattle.link_symbols.specs.Resolved.{meanings_in}
 use Rattle.link_symbols.specs.Refusals.{is_used}
 use Rattle.link_symbols.specs.declared.fault.LinkFault.TheVariants as fault
@@ -42,7 +42,7 @@ OwnMeaning names s = (m : Meaning) → is_global s.binding ≡ true → definiti
 
 -- so it is with each symbol of an object, and of all objects
 abbrev pub OwnMeanings : (List ℕ → Option Meaning) → NumberedObject → Type 0
-OwnMeanings names x = (k : ℕ) (d : Symbol) → k < length x.object.symbols → OwnMeaning names (symbol_of x k (slice_index_or x.object.symbols k d))
+OwnMeanings names x = (k : ℕ) (d : Symbol) → k < length x.object.symbols → OwnMeaning names (named_symbol x k (slice_index_or x.object.symbols k d))
 
 abbrev pub AllOwnMeanings : (List ℕ → Option Meaning) → List NumberedObject → Type 0
 AllOwnMeanings names [] = Unit {0}

@@ -1,6 +1,6 @@
 use Rattle.std.proofs.Common.{◌≡◌, ◌+◌, ◌∷◌, ◌++◌, ℕ, List, sym, subst, drop}
 use Rattle.link_symbols.specs.Passes.{NumberedObject, map_at}
-use Rattle.link_symbols.specs.Symbols.{NamedValue, symbol_of}
+use Rattle.link_symbols.specs.Symbols.{NamedValue, named_symbol}
 use Rattle.link_symbols.specs.CommonNames.{borrowed}
 use Rattle.link_symbols.specs.internal.Founds.{Found}
 use Rattle.link_symbols.specs.internal.Values.{value_of}
@@ -11,9 +11,9 @@ use Rattle.link_symbols.proofs.commons.find_commons.Goals as goal
 pub loop-k-preserved : goal.loop-k-preserved
 loop-k-preserved c = λ all rest numbers h.
     let x : NumberedObject = record { number = c.args.number; first = c.args.first; object = c.args.object.now } in
-    let more = map_at (symbol_of x) (c.loop-k.k + 1) (drop (c.loop-k.k + 1) c.args.object.now.symbols) in
+    let more = map_at (named_symbol x) (c.loop-k.k + 1) (drop (c.loop-k.k + 1) c.args.object.now.symbols) in
     let r = subst (λ (l : List NamedValue). Found c.args.names.now c.args.first_common all (borrowed c.loop-k.found.items) (l ++ rest))
-    (map_at_at (symbol_of x) c.args.object.now.symbols c.symbols-symbol-items.result.now c.loop-k.k _ c.symbols-symbol-items.ensures.value c.loop-k-test.true)
+    (map_at_at (named_symbol x) c.args.object.now.symbols c.symbols-symbol-items.result.now c.loop-k.k _ c.symbols-symbol-items.ensures.value c.loop-k-test.true)
     (c.loop-k.invariant all rest numbers h) in
     found_next c.args.names.now c.args.first_common all numbers (more ++ rest) (borrowed c.loop-k.found.items) (borrowed c.find_common.new.found.items) (value_of c.symbol_at-named.result) _ c.symbol_at-named.ensures c.in_ok-find_common.ensures r
 
@@ -21,5 +21,5 @@ pub returns : goal.returns
 returns c = λ all rest numbers h.
     let x : NumberedObject = record { number = c.args.number; first = c.args.first; object = c.args.object.now } in
     subst (λ (l : List NamedValue). Found c.args.names.now c.args.first_common all (borrowed c.loop-k.found.items) (l ++ rest))
-    (map_at_over (symbol_of x) c.args.object.now.symbols c.symbols-symbol-items.result.now c.loop-k.k c.loop-k.k c.symbols-symbol-items.ensures.value c.loop-k-test.false)
+    (map_at_over (named_symbol x) c.args.object.now.symbols c.symbols-symbol-items.result.now c.loop-k.k c.loop-k.k c.symbols-symbol-items.ensures.value c.loop-k-test.false)
     (c.loop-k.invariant all rest numbers h)
