@@ -8,23 +8,23 @@ use Rattle.link_symbols.specs.declared.fault.LinkFault.TheVariants as link_fault
 use Rattle.link_symbols.specs.Passes.{part}
 
 -- the name of an object's symbol
-abbrev pub symbol_of : Option ObjectValue → ℕ → List ℕ
-symbol_of object n = option_map_or (λ o. option_map_or (λ s. part o s.name) (slice_get o.symbols n) []) object []
+abbrev pub object_symbol_name : Option ObjectValue → ℕ → List ℕ
+object_symbol_name object n = option_map_or (λ o. option_map_or (λ s. part o s.name) (slice_get o.symbols n) []) object []
 
 -- the name of a vector
 abbrev pub vector_name : Option VectorValue → List ℕ
 vector_name vector = option_map_or (λ v. v.name) vector []
 
 -- the name of a module's entry
-abbrev pub entry_of : Option ModuleValue → ℕ → List ℕ
-entry_of owner n = option_map_or (λ m. unwrap_or (slice_get m.entries n) []) owner []
+abbrev pub module_entry_name : Option ModuleValue → ℕ → List ℕ
+module_entry_name owner n = option_map_or (λ m. unwrap_or (slice_get m.entries n) []) owner []
 
 abbrev pub name_in : LayoutValue → List ObjectValue → LinkFault → List ℕ
-name_in layout objects (link_fault.Duplicate first_object first_symbol object symbol) = symbol_of (slice_get objects object) symbol
-name_in layout objects (link_fault.Undefined object symbol) = symbol_of (slice_get objects object) symbol
+name_in layout objects (link_fault.Duplicate first_object first_symbol object symbol) = object_symbol_name (slice_get objects object) symbol
+name_in layout objects (link_fault.Undefined object symbol) = object_symbol_name (slice_get objects object) symbol
 name_in layout objects (link_fault.NoVector n) = vector_name (find (λ v. v.vector == n) layout.vectors)
-name_in layout objects (link_fault.NoEntry m n) = entry_of (slice_get layout.modules m) n
-name_in layout objects (link_fault.EntryElsewhere m n) = entry_of (slice_get layout.modules m) n
+name_in layout objects (link_fault.NoEntry m n) = module_entry_name (slice_get layout.modules m) n
+name_in layout objects (link_fault.EntryElsewhere m n) = module_entry_name (slice_get layout.modules m) n
 name_in layout objects _ = []
 
 -- `?`

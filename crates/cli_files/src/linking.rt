@@ -85,7 +85,7 @@ fn name_in<'a>(layout: &'a Layout, objects: &'a [Object], fault: LinkFault) -> &
 }
 
 fn symbol_of(objects: &[Object], object: u64, symbol: u64) -> &[u8]
-    ensures { result.now ≡ spec.symbol_of (slice_get objects.entry.now object) symbol }
+    ensures { result.now ≡ spec.object_symbol_name (slice_get objects.entry.now object) symbol }
 {
     let Some(object) = objects.get(object as usize) else {
         return b"";
@@ -115,7 +115,7 @@ fn vector_with(vectors: &[VectorName], number: u64) -> Option<&VectorName>
 }
 
 fn entry_of(layout: &Layout, module: u64, entry: u64) -> &[u8]
-    ensures { result.now ≡ spec.entry_of (slice_get (layout_of layout.entry.now).modules «module») entry }
+    ensures { result.now ≡ spec.module_entry_name (slice_get (layout_of layout.entry.now).modules «module») entry }
 {
     let Some(module) = layout.modules.get(module as usize) else {
         return b"";
