@@ -3,7 +3,7 @@
 ghost use Rattle.std.specs.Prelude.{◌≡◌, ◌==◌, option_map, true, IfOk, string_bytes};
 ghost use Rattle.asm_text.specs.Parts as parts;
 ghost use Rattle.asm_text.specs.Operands as spec;
-ghost use Rattle.asm_text.specs.internal.Statements.{field_with_text, value_of};
+ghost use Rattle.asm_text.specs.internal.Statements.{field_with_text, operand_value};
 ghost use Rattle.std.specs.Option.{option_copied};
 ghost use Rattle.std.specs.List.{list_all};
 
@@ -83,7 +83,7 @@ fn register_of(text: &[u8]) -> Option<u8>
 }
 
 fn plain<'a>(operand: Operand) -> Value<'a>
-    ensures { value_of result ≡ spec.plain operand }
+    ensures { operand_value result ≡ spec.plain operand }
 {
     Value {
         operand,
@@ -93,7 +93,7 @@ fn plain<'a>(operand: Operand) -> Value<'a>
 
 // What stands behind `r`: a register.
 fn register_operand<'a>(text: &[u8]) -> Option<Value<'a>>
-    ensures { option_map value_of result ≡ spec.register_operand text.now }
+    ensures { option_map operand_value result ≡ spec.register_operand text.now }
 {
     Some(plain(Operand::Reg(register_of(text)?)))
 }
@@ -101,7 +101,7 @@ fn register_operand<'a>(text: &[u8]) -> Option<Value<'a>>
 // What stands behind `#`: -1, a number of four digits or a name, or a small number.
 #[tactic(auto, unfolding(crate::specs::Operands::immediate_of))]
 fn immediate_of(text: &[u8]) -> Option<Value<'_>>
-    ensures { option_map value_of result ≡ spec.immediate_of text.now }
+    ensures { option_map operand_value result ≡ spec.immediate_of text.now }
 {
     if text == b"-1".as_slice() {
         return Some(plain(Operand::Const(0xffff)));
@@ -117,7 +117,7 @@ fn immediate_of(text: &[u8]) -> Option<Value<'_>>
 }
 
 fn small_number_of<'a>(text: &[u8]) -> Option<Value<'a>>
-    ensures { option_map value_of result ≡ spec.number_by None text.now }
+    ensures { option_map operand_value result ≡ spec.number_by None text.now }
 {
     match read_decimal(text, 8) {
         Some(number) => Some(plain(Operand::Const(number as u16))),
@@ -127,7 +127,7 @@ fn small_number_of<'a>(text: &[u8]) -> Option<Value<'a>>
 
 // What stands behind `&`: a number of four digits or a name.
 fn absolute_of(text: &[u8]) -> Option<Value<'_>>
-    ensures { option_map value_of result ≡ spec.absolute_of text.now }
+    ensures { option_map operand_value result ≡ spec.absolute_of text.now }
 {
     match field_of(text)? {
         Field::Number(number) => Some(plain(Operand::Absolute(number))),
@@ -141,7 +141,7 @@ fn absolute_of(text: &[u8]) -> Option<Value<'_>>
 // What stands behind `@r`: a register, and `+` where it rises.
 #[tactic(auto, unfolding(crate::specs::Operands::indirect_of))]
 fn indirect_of<'a>(text: &[u8]) -> Option<Value<'a>>
-    ensures { option_map value_of result ≡ spec.indirect_of text.now }
+    ensures { option_map operand_value result ≡ spec.indirect_of text.now }
 {
     match text.strip_suffix(b"+") {
         Some(register) => Some(plain(Operand::Increment(register_of(register)?))),
@@ -152,7 +152,7 @@ fn indirect_of<'a>(text: &[u8]) -> Option<Value<'a>>
 // What stands behind `0x`: four digits, and a register in parentheses.
 #[tactic(auto, unfolding(crate::specs::Operands::indexed_of))]
 fn indexed_of<'a>(text: &[u8]) -> Option<Value<'a>>
-    ensures { option_map value_of result ≡ spec.indexed_of text.now }
+    ensures { option_map operand_value result ≡ spec.indexed_of text.now }
 {
     if text.len() < 4 {
         return None;
@@ -167,7 +167,7 @@ fn indexed_of<'a>(text: &[u8]) -> Option<Value<'a>>
 /// The operand that a text writes, in the forms `rN`, `#NUMBER`, `&NUMBER`, `@rN`, `@rN+` and `0xHHHH(rN)`.
 #[tactic(auto, unfolding(crate::specs::Operands::operand_of))]
 pub fn operand_of(text: &[u8]) -> Option<Value<'_>>
-    ensures { option_map value_of result ≡ spec.operand_of text.now }
+    ensures { option_map operand_value result ≡ spec.operand_of text.now }
 {
     if let Some(rest) = text.strip_prefix(b"r") {
         register_operand(rest)

@@ -4,7 +4,7 @@ ghost use Rattle.std.specs.Prelude.{◌≡◌, ◌≤◌, ◌<◌, ◌+◌, ◌*
 ghost use Rattle.layout_file.specs.Views.{module_of, vector_of, strings_of};
 ghost use Rattle.link_symbols.specs.Passes.{NumberedObject, numbered_objects, first_at, first_in, IsFaultOf, Answers};
 ghost use Rattle.link_symbols.specs.Passes.{numbered_object};
-ghost use Rattle.link_symbols.specs.internal.Values.{value_of};
+ghost use Rattle.link_symbols.specs.internal.Values.{named_value};
 ghost use Rattle.link_symbols.specs.Symbols.{named_symbols_in, named_symbols};
 ghost use Rattle.link_symbols.specs.Definitions.{is_global};
 ghost use Rattle.link_symbols.specs.internal.Maps.{meaning_of_name, name_entry, IsFirst, AreFirsts, KnowsFirsts};
@@ -25,7 +25,7 @@ use std::alloc::{AllocError, Global};
 // What a global symbol's name stands for. Where the symbol defines it, no search is wanted.
 fn global_meaning<'a>(names: &Names<'a>, s: Named<'a>) -> Option<Meaning>
     requires global { is_global s.binding ≡ true }
-    requires own { OwnMeaning (meaning_of_name names.now) (value_of s) }
+    requires own { OwnMeaning (meaning_of_name names.now) (named_value s) }
     ensures { result ≡ meaning_of_name names.now s.entry.name.now }
 {
     match s.definition() {
@@ -37,9 +37,9 @@ fn global_meaning<'a>(names: &Names<'a>, s: Named<'a>) -> Option<Meaning>
 // What a relocation's symbol resolves to.
 #[tactic(auto, unfolding(crate::specs::Names::symbol_meaning))]
 fn symbol_meaning<'a>(names: &Names<'a>, s: Named<'a>, first: Option<Meaning>) -> Option<Meaning>
-    requires own { OwnMeaning (meaning_of_name names.now) (value_of s) }
-    requires first { IsFirst (name_entry names.now.weak) (value_of s) first }
-    ensures { result ≡ symbol_meaning (meaning_of_name names.now) (value_of s.entry) }
+    requires own { OwnMeaning (meaning_of_name names.now) (named_value s) }
+    requires first { IsFirst (name_entry names.now.weak) (named_value s) first }
+    ensures { result ≡ symbol_meaning (meaning_of_name names.now) (named_value s.entry) }
 {
     if s.symbol == 0 {
         return Some(Meaning::Number(0));

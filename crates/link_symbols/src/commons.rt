@@ -8,7 +8,7 @@ ghost use Rattle.link_symbols.specs.Passes.{numbered_object};
 ghost use Rattle.link_symbols.specs.Symbols.{NamedValue, named_symbols_in};
 ghost use Rattle.link_symbols.specs.internal.Founds.{is_common, with_name, Found, AreNumbered};
 ghost use Rattle.link_symbols.specs.internal.Maps.{name_entry};
-ghost use Rattle.link_symbols.specs.internal.Values.{value_of};
+ghost use Rattle.link_symbols.specs.internal.Values.{named_value};
 
 use crate::names::Names;
 use crate::symbol::{Named, symbol_at};
@@ -24,7 +24,7 @@ fn find_common<'a>(
 ) -> Result<(), AllocError>
     requires low { first_common ≤ 2 ^ 31 }
     ensures { OnOk result (borrowed found.new.items ≡ with_name
-        (is_common names.now (value_of s.entry) (first_common + length (borrowed found.old.items)))
+        (is_common names.now (named_value s.entry) (first_common + length (borrowed found.old.items)))
         (borrowed found.old.items) s.entry.name.now) }
 {
     if names.is_common(s, first_common + found.len()) {

@@ -9,7 +9,7 @@ ghost use Rattle.link_symbols.specs.internal.Founds.{is_common};
 ghost use Rattle.link_symbols.specs.internal.Values.{joined_item};
 ghost use Rattle.link_symbols.specs.Names.{stands_by, stands_for};
 ghost use Rattle.link_symbols.specs.Definitions.{weak_of, is_global, definition, definition_of, strong_of};
-ghost use Rattle.link_symbols.specs.internal.Values.{value_of};
+ghost use Rattle.link_symbols.specs.internal.Values.{named_value};
 ghost use Rattle.link_symbols.specs.Symbols.{named_symbols_in, named_symbols, NamedValue};
 ghost use Rattle.link_symbols.specs.internal.Maps.{last_bytes, name_entry, meaning_of_name, Notes, Holds, HoldsCommons};
 ghost use Rattle.link_symbols.specs.Refusals.{duplicate_by, duplicate_of, duplicate};
@@ -122,11 +122,11 @@ fn note_first<'a>(
     s: Named<'a>,
     meaning: Meaning,
 ) -> Result<(), LinkFault>
-    ensures noted { OnOk result (Notes strong.old strong.new s.entry.name.now (definition (value_of s.entry)
+    ensures noted { OnOk result (Notes strong.old strong.new s.entry.name.now (definition (named_value s.entry)
         meaning)) }
-    ensures sound { OnOk result (duplicate_by (value_of s.entry) (Some (definition (value_of s.entry) meaning))
+    ensures sound { OnOk result (duplicate_by (named_value s.entry) (Some (definition (named_value s.entry) meaning))
         (name_entry strong.old s.entry.name.now) ≡ None) }
-    ensures refusal { IfErr result (IsFaultOf (duplicate_by (value_of s.entry) (Some (definition (value_of
+    ensures refusal { IfErr result (IsFaultOf (duplicate_by (named_value s.entry) (Some (definition (named_value
         s.entry) meaning)) (name_entry strong.old s.entry.name.now))) }
 {
     let definition = Definition {
@@ -192,7 +192,7 @@ impl<'a> Names<'a> {
 
     /// Whether a symbol is a common that is placed as the item of this number.
     pub fn is_common(&self, s: Named<'a>, number: usize) -> bool
-        ensures { result ≡ is_common self.now (value_of s.entry) number }
+        ensures { result ≡ is_common self.now (named_value s.entry) number }
     {
         let What::Common { .. } = s.what else {
             return false;
@@ -207,14 +207,14 @@ impl<'a> Names<'a> {
     }
 
     fn note_global(&mut self, s: Named<'a>, meaning: Meaning) -> Result<(), LinkFault>
-        requires defined { definition_of (value_of s) ≡ Some meaning }
+        requires defined { definition_of (named_value s) ≡ Some meaning }
         requires global { is_global s.binding ≡ true }
         ensures noted { OnOk result ((before : List NamedValue) → Holds self.old before → Holds self.new (before
-            ++ value_of s.entry ∷ [])) }
+            ++ named_value s.entry ∷ [])) }
         ensures sound { OnOk result ((before : List NamedValue) → Holds self.old before → duplicate_of before
-            (value_of s.entry) ≡ None) }
+            (named_value s.entry) ≡ None) }
         ensures refusal { IfErr result (λ f. (before : List NamedValue) → Holds self.old before → IsFaultOf
-            (duplicate_of before (value_of s.entry)) f) }
+            (duplicate_of before (named_value s.entry)) f) }
         ensures commons { OnOk result (self.new.commons ≡ self.old.commons) }
     {
         if let Err(fault) = note_first(&mut self.strong, s, meaning) {
@@ -226,11 +226,11 @@ impl<'a> Names<'a> {
 
     fn note(&mut self, s: Named<'a>) -> Result<(), LinkFault>
         ensures noted { OnOk result ((before : List NamedValue) → Holds self.old before → Holds self.new (before
-            ++ value_of s.entry ∷ [])) }
+            ++ named_value s.entry ∷ [])) }
         ensures sound { OnOk result ((before : List NamedValue) → Holds self.old before → duplicate_of before
-            (value_of s.entry) ≡ None) }
+            (named_value s.entry) ≡ None) }
         ensures refusal { IfErr result (λ f. (before : List NamedValue) → Holds self.old before → IsFaultOf
-            (duplicate_of before (value_of s.entry)) f) }
+            (duplicate_of before (named_value s.entry)) f) }
         ensures commons { OnOk result (self.new.commons ≡ self.old.commons) }
     {
         match s.definition() {
@@ -279,7 +279,7 @@ impl<'a> Names<'a> {
             sections cs) }
         ensures noted { OnOk result ((sections : List Item) (cs : List Common) → HoldsCommons self.old
             items.old.items sections cs → HoldsCommons self.new items.new.items sections (with_common
-            (name_entry self.old.strong) cs (value_of s.entry) (what.Common size align))) }
+            (name_entry self.old.strong) cs (named_value s.entry) (what.Common size align))) }
         ensures strong { OnOk result (self.new.strong ≡ self.old.strong) }
         ensures weak { OnOk result (self.new.weak ≡ self.old.weak) }
         ensures firsts { OnOk result (self.new.firsts ≡ self.old.firsts) }
@@ -311,7 +311,7 @@ impl<'a> Names<'a> {
             sections cs) }
         ensures noted { OnOk result ((sections : List Item) (cs : List Common) → HoldsCommons self.old
             items.old.items sections cs → HoldsCommons self.new items.new.items sections (with_symbol
-            (name_entry self.old.strong) cs (value_of s.entry))) }
+            (name_entry self.old.strong) cs (named_value s.entry))) }
         ensures strong { OnOk result (self.new.strong ≡ self.old.strong) }
         ensures weak { OnOk result (self.new.weak ≡ self.old.weak) }
         ensures firsts { OnOk result (self.new.firsts ≡ self.old.firsts) }

@@ -5,7 +5,7 @@ ghost use Rattle.elf_objects.specs.Object.{IsSymbol, IsHome};
 ghost use Rattle.link_symbols.specs.Passes.{NumberedObject};
 ghost use Rattle.link_symbols.specs.Passes.{numbered_object};
 ghost use Rattle.link_symbols.specs.Symbols.{what_at, named_symbol};
-ghost use Rattle.link_symbols.specs.internal.Values.{value_of};
+ghost use Rattle.link_symbols.specs.internal.Values.{named_value};
 ghost use Rattle.link_symbols.specs.Definitions.{definition_of};
 
 use elf_objects::{Binding, Home, Object, Symbol};
@@ -41,7 +41,7 @@ impl Named<'_> {
     /// What it defines its name as, if other objects see it.
     #[tactic(auto, unfolding(crate::specs::Definitions::definition_of))]
     pub fn definition(&self) -> Option<Meaning>
-        ensures { result ≡ definition_of (value_of self.now) }
+        ensures { result ≡ definition_of (named_value self.now) }
     {
         if self.name.is_empty() || self.binding == Binding::Local {
             return None;
@@ -89,7 +89,7 @@ pub fn symbol_at(
 ) -> Named<'_>
     requires symbol { IsSymbol (length object.now.file) (length object.now.sections) symbol }
     requires small { first ≤ 2 ^ 31 }
-    ensures { value_of result ≡ named_symbol (numbered_object number first object.now) k symbol }
+    ensures { named_value result ≡ named_symbol (numbered_object number first object.now) k symbol }
 {
     Named {
         object: number,

@@ -6,12 +6,12 @@ use Rattle.std.proofs.lemmas.Bool.Decides.{nat_tests}
 use Rattle.reloc_apply.specs.declared.RelocFault.{RelocFault}
 use Rattle.reloc_apply.specs.declared.RelocFault.TheVariants as fault
 use Rattle.reloc_apply.specs.declared.Row.{Row}
-use Rattle.reloc_apply.specs.Fields.{relocated, relocated_by, relocated_at, written, row_of, size_of, limit_of, is_in_bounds, is_odd, is_jump, difference_of, value_of, kept_of, modulo, with_number}
+use Rattle.reloc_apply.specs.Fields.{relocated, relocated_by, relocated_at, written, row_of, size_of, limit_of, is_in_bounds, is_odd, is_jump, difference_of, field_value, kept_of, modulo, with_number}
 use Rattle.reloc_apply.specs.Applies.{Takes, Applies, no_field, a_field}
 
 -- the number that a field is given
 abbrev pub number_of : Row → ℤ → List ℕ → ℕ → ℕ
-number_of r d bytes offset = kept_of (is_jump r.field) bytes offset + modulo (value_of (is_jump r.field) d) (limit_of r.field)
+number_of r d bytes offset = kept_of (is_jump r.field) bytes offset + modulo (field_value (is_jump r.field) d) (limit_of r.field)
 
 holds : (b : Bool) → b ≡ true → T b
 holds true e = tt
@@ -37,8 +37,8 @@ none_odd false o h = refl
 
 takes_by : (r : Row) (d : ℤ) (offset : ℕ) (bytes new : List ℕ) (a b c : Bool) →
     nat_lt (length bytes) (offset + size_of r.field) ≡ a → (is_jump r.field && is_odd d) ≡ b →
-    is_in_bounds r (value_of (is_jump r.field) d) ≡ c →
-    IsOk {T = List ℕ} {E = RelocFault} (if a then Err fault.Outside else if b then Err (fault.Odd d) else if not c then Err (fault.Range (value_of (is_jump r.field) d)) else Ok new) → Takes r d offset (length bytes)
+    is_in_bounds r (field_value (is_jump r.field) d) ≡ c →
+    IsOk {T = List ℕ} {E = RelocFault} (if a then Err fault.Outside else if b then Err (fault.Odd d) else if not c then Err (fault.Range (field_value (is_jump r.field) d)) else Ok new) → Takes r d offset (length bytes)
 takes_by r d offset bytes new true b c p q s ok = cc
 takes_by r d offset bytes new false true c p q s ok = cc
 takes_by r d offset bytes new false false false p q s ok = cc
@@ -62,7 +62,7 @@ takes_ok r d offset bytes t =
     let within = t.within in
     let p : nat_lt (length bytes) (offset + size_of r.field) ≡ false = grind (arith, nat_tests) in
     let q = none_odd (is_jump r.field) (is_odd d) t.even in
-    let s : is_in_bounds r (value_of (is_jump r.field) d) ≡ true = both _ _ (tested r.low _ t.low) (tested _ r.high t.high) in
+    let s : is_in_bounds r (field_value (is_jump r.field) d) ≡ true = both _ _ (tested r.low _ t.low) (tested _ r.high t.high) in
     rw (p, q, s) refl
 
 applies_at : (o : Option Row) (kind place : ℕ) (sum : ℤ) (offset : ℕ) (bytes : List ℕ) → row_of kind ≡ o →

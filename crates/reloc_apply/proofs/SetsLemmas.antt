@@ -8,7 +8,7 @@ use Rattle.reloc_apply.specs.declared.RelocFault.{RelocFault}
 use Rattle.reloc_apply.specs.declared.Field.{Field}
 use Rattle.reloc_apply.specs.declared.Field.TheVariants as field
 use Rattle.reloc_apply.specs.declared.Row.{Row}
-use Rattle.reloc_apply.specs.Fields.{relocated, row_of, width_of, size_of, limit_of, is_jump, difference_of, value_of, modulo, kept_of, with_number}
+use Rattle.reloc_apply.specs.Fields.{relocated, row_of, width_of, size_of, limit_of, is_jump, difference_of, field_value, modulo, kept_of, with_number}
 use Rattle.reloc_apply.specs.Applies.{Takes, Applies, no_field, a_field, Sets}
 use Rattle.reloc_apply.proofs.AppliesLemmas.{number_of, ok_applies, relocated_is, relocated_0, none_at_0}
 use Rattle.reloc_apply.proofs.FieldLemmas.{changes_only}
@@ -90,7 +90,7 @@ sets_some r place sum offset bytes t =
       as_many = number_size bytes offset (size_of r.field) number w;
       elsewhere = changes_only bytes offset (size_of r.field) number w;
       number = value_by r.field (drop offset (with_number bytes offset (size_of r.field) number)) number (λ n h. number_in bytes offset (size_of r.field) number n (omega (arith, w)) h)
-          ∙ remains r.field (kept_of (is_jump r.field) bytes offset) (modulo (value_of (is_jump r.field) d) (limit_of r.field)) (kept_by (is_jump r.field) bytes offset) (below (value_of (is_jump r.field) d) r.field);
+          ∙ remains r.field (kept_of (is_jump r.field) bytes offset) (modulo (field_value (is_jump r.field) d) (limit_of r.field)) (kept_by (is_jump r.field) bytes offset) (below (field_value (is_jump r.field) d) r.field);
     }
 
 -- what a relocation that applies makes of the bytes

@@ -52,8 +52,8 @@ abbrev pub difference_of : Bool → ℕ → ℤ → ℤ
 difference_of relative place sum = if relative then sum -ℤ pos place else sum
 
 -- a jump counts words from the one that follows it
-abbrev pub value_of : Bool → ℤ → ℤ
-value_of jump difference = if jump then int_div difference (pos 2) -ℤ pos 1 else difference
+abbrev pub field_value : Bool → ℤ → ℤ
+field_value jump difference = if jump then int_div difference (pos 2) -ℤ pos 1 else difference
 
 -- a negative value is taken modulo its field
 abbrev pub modulo : ℤ → ℕ → ℕ
@@ -85,7 +85,7 @@ unfoldable pub relocated_by : Row → ℤ → ℕ → List ℕ → Result (List 
 relocated_by r difference offset bytes =
     if nat_lt (length bytes) (offset + size_of r.field) then Err fault.Outside
     else if is_jump r.field && is_odd difference then Err (fault.Odd difference)
-    else written r offset bytes (value_of (is_jump r.field) difference)
+    else written r offset bytes (field_value (is_jump r.field) difference)
 
 abbrev pub relocated_at : Option Row → ℕ → ℕ → ℤ → ℕ → List ℕ → Result (List ℕ) RelocFault
 relocated_at None kind place sum offset bytes = Err (fault.Kind kind)

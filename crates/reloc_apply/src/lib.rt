@@ -2,7 +2,7 @@
 #![tactic(auto)]
 
 ghost use Rattle.std.specs.Prelude.{◌≡◌, ◌<◌, ◌≤◌, ◌+◌, ◌≤ℤ◌, ◌^◌, Ok, Err, pos, negsuc, length, IfErr, OnOk, OnErr, true};
-ghost use Rattle.reloc_apply.specs.Fields.{row_of, size_of, limit_of, is_jump, difference_of, value_of, modulo, kept_of, with_number, is_odd, is_in_bounds, written, relocated_by, relocated, ChangesOnly, width_of};
+ghost use Rattle.reloc_apply.specs.Fields.{row_of, size_of, limit_of, is_jump, difference_of, field_value, modulo, kept_of, with_number, is_odd, is_in_bounds, written, relocated_by, relocated, ChangesOnly, width_of};
 ghost use Rattle.reloc_apply.specs.internal.Leaves.{Leaves};
 
 use byteorder::{ByteOrder, LittleEndian};
@@ -129,10 +129,10 @@ fn difference_of(relative: bool, place: u16, sum: i64) -> i64
     }
 }
 
-fn value_of(jump: bool, difference: i64) -> i64
+fn field_value(jump: bool, difference: i64) -> i64
     requires low { negsuc 9000000000 ≤ℤ difference }
     requires high { difference ≤ℤ pos 9000000000 }
-    ensures { result ≡ value_of jump difference }
+    ensures { result ≡ field_value jump difference }
 {
     if jump { difference / 2 - 1 } else { difference }
 }
@@ -209,7 +209,7 @@ fn apply_row(row: Row, difference: i64, offset: u32, bytes: &mut [u8]) -> Result
     if jump && is_odd(difference) {
         return Err(RelocFault::Odd { value: difference });
     }
-    write(row, offset, bytes, value_of(jump, difference))
+    write(row, offset, bytes, field_value(jump, difference))
 }
 
 /// Writes the field of a relocation of this kind at `offset` of a section's bytes. `place` is the

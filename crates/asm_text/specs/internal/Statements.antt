@@ -29,5 +29,5 @@ with_texts s = renamed (λ (name : Bor (List ℕ)). name.now) s
 abbrev pub field_with_text : Field (Bor (List ℕ)) → Field (List ℕ)
 field_with_text f = renamed_field (λ (name : Bor (List ℕ)). name.now) f
 
-abbrev pub value_of : Value → OperandValue
-value_of v = record { operand = v.operand; name = option_copied v.name }
+abbrev pub operand_value : Value → OperandValue
+operand_value v = record { operand = v.operand; name = option_copied v.name }

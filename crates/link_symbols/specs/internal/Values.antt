@@ -9,5 +9,5 @@ abbrev pub joined_item : Item → ℕ → ℕ → Item
 joined_item i size align = record { part = i.part; align = max i.align align; size = max i.size size }
 
 -- what the code's record of a symbol stands for
-abbrev pub value_of : Named → NamedValue
-value_of s = record { object = s.object; symbol = s.symbol; name = s.name.now; binding = s.binding; what = s.what }
+abbrev pub named_value : Named → NamedValue
+named_value s = record { object = s.object; symbol = s.symbol; name = s.name.now; binding = s.binding; what = s.what }

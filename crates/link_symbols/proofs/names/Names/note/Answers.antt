@@ -2,14 +2,14 @@ use Rattle.std.proofs.Common.{◌≡◌, None, Some, sym, ap}
 use Rattle.std.specs.Prelude.{bytes_eq}
 use Rattle.link_symbols.specs.Definitions.{definition_of, strong_of}
 use Rattle.link_symbols.specs.internal.Maps.{name_entry}
-use Rattle.link_symbols.specs.internal.Values.{value_of}
+use Rattle.link_symbols.specs.internal.Values.{named_value}
 use Rattle.link_symbols.specs.Refusals.{duplicate_by}
 use Rattle.link_symbols.proofs.NameLemmas.{holds_more, strong_none, weak_none, strong_weak, weak_some, stays, none_first, some_first}
 use Rattle.link_symbols.proofs.names.Names.note.Goals as goal
 
 pub returns-in_ok-push-in-None-clause-noted : goal.returns-in_ok-push-in-None-clause-noted
 returns-in_ok-push-in-None-clause-noted c = λ before h.
-    let s = value_of c.args.s in
+    let s = named_value c.args.s in
     let e : definition_of s ≡ None = sym c.in-None.ensures in
     holds_more c.args.self.now _ before s None None (strong_none s e) (weak_none s e)
     (λ q. stays (name_entry c.args.self.now.strong q) (bytes_eq s.name q)) (λ q. stays (name_entry c.args.self.now.weak q) (bytes_eq s.name q))
@@ -17,13 +17,13 @@ returns-in_ok-push-in-None-clause-noted c = λ before h.
 
 pub returns-in_ok-push-in-None-clause-sound : goal.returns-in_ok-push-in-None-clause-sound
 returns-in_ok-push-in-None-clause-sound c = λ before h.
-    let s = value_of c.args.s in
+    let s = named_value c.args.s in
     let e : definition_of s ≡ None = sym c.in-None.ensures in
     ap (λ d. duplicate_by s d (strong_of before s.name)) (strong_none s e)
 
 pub returns-in_ok-push-in-Some-clause-noted : goal.returns-in_ok-push-in-Some-clause-noted
 returns-in_ok-push-in-Some-clause-noted c = λ before h.
-    let s = value_of c.args.s in
+    let s = named_value c.args.s in
     let e : definition_of s ≡ Some c.in-Some.meaning = sym c.in-Some.ensures in
     let g = sym c.if-is_global.ensures in
     holds_more c.args.self.now _ before s None (Some c.in-Some.meaning) (strong_weak s g) (weak_some s c.in-Some.meaning e g)
@@ -32,6 +32,6 @@ returns-in_ok-push-in-Some-clause-noted c = λ before h.
 
 pub returns-in_ok-push-in-Some-clause-sound : goal.returns-in_ok-push-in-Some-clause-sound
 returns-in_ok-push-in-Some-clause-sound c = λ before h.
-    let s = value_of c.args.s in
+    let s = named_value c.args.s in
     let g = sym c.if-is_global.ensures in
     ap (λ d. duplicate_by s d (strong_of before s.name)) (strong_weak s g)
