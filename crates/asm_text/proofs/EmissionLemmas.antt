@@ -9,7 +9,7 @@ use Rattle.asm_text.specs.declared.statement.Statement.{Statement}
 use Rattle.asm_text.specs.Emission.{Meanings, Emitted, bytes_of, relocations_of, grown, with_statement, in_last}
 use Rattle.asm_text.specs.internal.Emitted.{last_of}
 use Rattle.asm_text.specs.Parts.{SectionValue}
-use Rattle.asm_text.specs.Statements.{size_of}
+use Rattle.asm_text.specs.Statements.{statement_size}
 use Rattle.asm_text.specs.Views.{section_of}
 
 pub last_section : (xs : List AsmSection) (i : ℕ) (x : AsmSection) → i + 1 ≡ length xs → x ≡ get_or xs i x → last_of (map section_of xs) ≡ Some (section_of x)
@@ -28,13 +28,13 @@ abbrev index_of : Emitted → ℕ
 index_of e = length e.sections - 1
 
 pub in_last_ok : (m : Meanings) (n : ℕ) (e e' : Emitted) (i : ℕ) (last : SectionValue) (s : Statement ℕ) (bytes : List ℕ) → last_of e.sections ≡ Some last → index_of e ≡ i
-    → bytes_of m n i last.size s ≡ Ok bytes → e'.sections ≡ set e.sections i (grown last (size_of s) bytes) → e'.relocations ≡ e.relocations ++ relocations_of m i last.size s
+    → bytes_of m n i last.size s ≡ Ok bytes → e'.sections ≡ set e.sections i (grown last (statement_size s) bytes) → e'.relocations ≡ e.relocations ++ relocations_of m i last.size s
     → in_last m n e (last_of e.sections) s ≡ Ok e'
 in_last_ok m n e e' i last s bytes is at gives sections relocations =
     ap (λ o. in_last m n e o s) is
     ∙ ap (λ j. with_statement m e last s (bytes_of m n j last.size s)) at
     ∙ ap (with_statement m e last s) gives
-    ∙ ap (λ j. Ok (record { sections = set e.sections j (grown last (size_of s) bytes); relocations = e.relocations ++ relocations_of m j last.size s })) at
+    ∙ ap (λ j. Ok (record { sections = set e.sections j (grown last (statement_size s) bytes); relocations = e.relocations ++ relocations_of m j last.size s })) at
     ∙ ap (λ ss. Ok (record { sections = ss; relocations = e.relocations ++ relocations_of m i last.size s })) (sym sections)
     ∙ ap (λ rs. Ok (record { sections = e'.sections; relocations = rs })) (sym relocations)
 

@@ -15,7 +15,7 @@ use Rattle.asm_text.specs.internal.Known.{AreKnown}
 use Rattle.asm_text.specs.Parts.{SectionValue}
 use Rattle.asm_text.specs.internal.Placed.{IsPlaced, AreSmall}
 use Rattle.asm_text.specs.Placing.{Placed, placed, unrefused, placed_from}
-use Rattle.asm_text.specs.Statements.{size_of}
+use Rattle.asm_text.specs.Statements.{statement_size}
 use Rattle.asm_text.proofs.LockLemmas.{Shape, shape_of, head_shape, Agree, same_number, last_there, IsTaken, taken, agree_more}
 use Rattle.asm_text.proofs.PlacedLemmas.{placed_kept}
 
@@ -42,19 +42,19 @@ last_small m e p a small last is =
     let size : (get_or e.sections (length e.sections - 1) last).size ≡ last.size = ap (λ (s : SectionValue). s.size) there in
     omega arith
 
-taken_room : (m : Meanings) (e : Emitted) (p q : Placed) (s : Statement ℕ) → Agree m e p → IsTaken p q s → HasRoom e.sections (size_of s)
+taken_room : (m : Meanings) (e : Emitted) (p q : Placed) (s : Statement ℕ) → Agree m e p → IsTaken p q s → HasRoom e.sections (statement_size s)
 taken_room m e p q s a t last is =
     let there = last_there m e p t.head a t.is in
     let same : there.last ≡ last = some_same there.last last (sym there.lasts.last_is ∙ is) in
     let size : there.last.size ≡ t.head.size = ap (λ (x : Shape). x.size) there.lasts.same in
     let sizes : there.last.size ≡ last.size = ap (λ (x : SectionValue). x.size) same in
-    let room : t.head.size + size_of s ≤ MAX_SIZE = t.grown_by.room in
-    subst (λ n. n + size_of s ≤ MAX_SIZE) (sym size ∙ sizes) room
+    let room : t.head.size + statement_size s ≤ MAX_SIZE = t.grown_by.room in
+    subst (λ n. n + statement_size s ≤ MAX_SIZE) (sym size ∙ sizes) room
   where
     some_same : (a b : SectionValue) → Some a ≡ Some b → a ≡ b
     some_same a b k = cc
 
-has_room : (m : Meanings) (n : ℕ) (e : Emitted) (p q : Placed) (s : Statement ℕ) → Agree m e p → AreSmall p.heads → placed n p s ≡ Ok q → HasRoom e.sections (size_of s)
+has_room : (m : Meanings) (n : ℕ) (e : Emitted) (p q : Placed) (s : Statement ℕ) → Agree m e p → AreSmall p.heads → placed n p s ≡ Ok q → HasRoom e.sections (statement_size s)
 has_room m n e p q (Word field) a small j = taken_room m e p q (Word field) a (taken n p q (Word field) (λ h. refl) j)
 has_room m n e p q (Space size) a small j = taken_room m e p q (Space size) a (taken n p q (Space size) (λ h. refl) j)
 has_room m n e p q (Jump c t) a small j = taken_room m e p q (Jump c t) a (taken n p q (Jump c t) (λ h. refl) j)
@@ -89,7 +89,7 @@ at_line m names statements end i e d g low =
     next_place (i + 1) g.place (get_or statements i d) (drop (i + 1) statements) end (ap (placed_from (i + 1) g.place) (sym (drop_more statements i d low)) ∙ g.goes)
 
 pub emitting_room : (m : Meanings) (names : ℕ) (statements : List (Statement ℕ)) (end : Placed) (i : ℕ) (e : Emitted) (d : Statement ℕ) → IsEmitting m names statements end i e → i < length statements
-    → HasRoom e.sections (size_of (get_or statements i d))
+    → HasRoom e.sections (statement_size (get_or statements i d))
 emitting_room m names statements end i e d g low =
     let x = at_line m names statements end i e d g low in
     has_room m (i + 1) e g.place x.after (get_or statements i d) g.agree g.kept.small x.is

@@ -17,7 +17,7 @@ use Rattle.asm_text.specs.Lines.{statement_of}
 use Rattle.asm_text.specs.Names.{Tables, no_tables, tables_after, numbered}
 use Rattle.asm_text.specs.Placing.{Placed, nowhere, has_section, with_section, spot_of, with_label, with_bytes, within, in_section, last_head, placed, placed_from}
 use Rattle.asm_text.specs.Source.{more, source_by, source_from, source_of}
-use Rattle.asm_text.specs.Statements.{size_of, takes}
+use Rattle.asm_text.specs.Statements.{statement_size, takes}
 use Rattle.asm_text.proofs.EmittingLemmas.{next_place}
 use Rattle.asm_text.proofs.LockLemmas.{ok_is}
 use Rattle.asm_text.proofs.PlacedLemmas.{is_last, or_not, new_head, more_heads, spot_here, more_labels, grown_head, more_bytes}
@@ -28,7 +28,7 @@ use Rattle.texts.specs.Lines.{ended_lines, unended}
 -- ---- statements
 
 abbrev pub IsEven : Statement ℕ → Type 0
-IsEven s = size_of s % 2 ≡ 0
+IsEven s = statement_size s % 2 ≡ 0
 
 abbrev pub AreEven : List (Statement ℕ) → Type 0
 AreEven statements = All IsEven statements
@@ -125,7 +125,7 @@ within_even n p q h (Global name) i k last e = bytes_even n p q h 0 i refl last 
 within_even n p q h (Word field) i k last e = bytes_even n p q h 2 i refl last e
 within_even n p q h (Space size) i k last e = bytes_even n p q h size i k last e
 within_even n p q h (Jump c t) i k last e = bytes_even n p q h 2 i refl last e
-within_even n p q h (Code insn a b) i k last e = bytes_even n p q h (size_of (Code insn a b)) i k last e
+within_even n p q h (Code insn a b) i k last e = bytes_even n p q h (statement_size (Code insn a b)) i k last e
 
 in_section_even : (n : ℕ) (p q : Placed) (s : Statement ℕ) → IsEvenPlaced p → IsEven s → in_section n p (last_head p.heads) s ≡ Ok q → IsEvenPlaced q
 in_section_even n p q s i k e = by (last_head p.heads) refl e

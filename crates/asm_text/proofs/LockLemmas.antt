@@ -25,7 +25,7 @@ use Rattle.asm_text.specs.internal.Emitted.{last_of}
 use Rattle.asm_text.specs.Encoding.{word_bytes, extension, code_bytes, first_word}
 use Rattle.asm_text.specs.Parts.{SectionValue, kept_size}
 use Rattle.asm_text.specs.Placing.{Placed, with_section, with_bytes, with_label, within, in_section, last_head, placed, has_section, spot_of}
-use Rattle.asm_text.specs.Statements.{size_of, takes}
+use Rattle.asm_text.specs.Statements.{statement_size, takes}
 
 -- what a section and its head share
 pub record Shape : Type 0 where
@@ -123,7 +123,7 @@ jump_size n section here cond' (Some spot) bytes e = by (nat_eq spot.section sec
     by true e = two_bytes n cond' (reach here spot.offset) bytes e
     by false e = absurd cc
 
-pub bytes_size : (m : Meanings) (n section here : ℕ) (kind : SectionKind) (s : Statement ℕ) (bytes : List ℕ) → takes kind s ≡ true → bytes_of m n section here s ≡ Ok bytes → length bytes ≡ kept_size kind (size_of s)
+pub bytes_size : (m : Meanings) (n section here : ℕ) (kind : SectionKind) (s : Statement ℕ) (bytes : List ℕ) → takes kind s ≡ true → bytes_of m n section here s ≡ Ok bytes → length bytes ≡ kept_size kind (statement_size s)
 bytes_size m n section here CodeKind (Word field) bytes t e = let same : word_bytes (field_number field) ≡ bytes = cc in ap length (sym same)
 bytes_size m n section here CodeKind (Space size) bytes t e = absurd cc
 bytes_size m n section here CodeKind (Jump c target) bytes t e = jump_size n section here c (spot_of m.spots target) bytes e
@@ -162,13 +162,13 @@ pub record IsTaken (p q : Placed) (s : Statement ℕ) : Type 0 where
   pub head : Head
   pub is : last_head p.heads ≡ Some head
   pub takes_it : takes head.kind s ≡ true
-  pub grown_by : IsGrown p q head (size_of s)
+  pub grown_by : IsGrown p q head (statement_size s)
 
-pub taken : (n : ℕ) (p q : Placed) (s : Statement ℕ) → ((h : Head) → within n p h s ≡ with_bytes n p h (size_of s)) → in_section n p (last_head p.heads) s ≡ Ok q → IsTaken p q s
+pub taken : (n : ℕ) (p q : Placed) (s : Statement ℕ) → ((h : Head) → within n p h s ≡ with_bytes n p h (statement_size s)) → in_section n p (last_head p.heads) s ≡ Ok q → IsTaken p q s
 taken n p q s plain e = by (last_head p.heads) refl e
   where
     by_kind : (h : Head) (c : Bool) → last_head p.heads ≡ Some h → takes h.kind s ≡ c → cond c (within n p h s) (Err (Place n)) ≡ Ok q → IsTaken p q s
-    by_kind h true last t e = record { head = h; is = last; takes_it = t; grown_by = is_grown n p q h (size_of s) (sym (plain h) ∙ e) }
+    by_kind h true last t e = record { head = h; is = last; takes_it = t; grown_by = is_grown n p q h (statement_size s) (sym (plain h) ∙ e) }
     by_kind h false last t e = absurd cc
 
     by : (o : Option Head) → last_head p.heads ≡ o → in_section n p o s ≡ Ok q → IsTaken p q s
@@ -186,29 +186,29 @@ taken_agree m n e f p q s a t goes =
     with_bytes_of last l (Err fault) is g = absurd cc
     with_bytes_of last l (Ok bytes) is g =
         let same = ok_is _ f g in
-        let sections : set e.sections (length e.sections - 1) (grown last (size_of s) bytes) ≡ f.sections = ap (λ (x : Emitted). x.sections) same in
+        let sections : set e.sections (length e.sections - 1) (grown last (statement_size s) bytes) ≡ f.sections = ap (λ (x : Emitted). x.sections) same in
         let kinds : last.kind ≡ t.head.kind = ap (λ (x : Shape). x.kind) l.same in
         let sizes : last.size ≡ t.head.size = ap (λ (x : Shape). x.size) l.same in
         let names : last.name ≡ slice_index_or m.sections t.head.name [] = ap (λ (x : Shape). x.name) l.same in
         let n' = same_number m e p a in
         let at : length e.sections - 1 ≡ length p.heads - 1 = omega arith in
-        let bytes_are : length bytes ≡ kept_size last.kind (size_of s) = bytes_size m n (length e.sections - 1) last.size last.kind s bytes (ap (λ k. takes k s) kinds ∙ t.takes_it) is in
-        let full : IsFilled (grown last (size_of s) bytes) = length-append last.bytes bytes ∙ (ap (λ k. k + length bytes) l.filled ∙ (ap (λ k. kept_size last.kind last.size + k) bytes_are ∙ kept_more last.kind last.size (size_of s))) in
-        let shape : shape_of (grown last (size_of s) bytes) ≡ head_shape m (record { name = t.head.name; kind = t.head.kind; size = t.head.size + size_of s }) = shape_more last names kinds sizes in
+        let bytes_are : length bytes ≡ kept_size last.kind (statement_size s) = bytes_size m n (length e.sections - 1) last.size last.kind s bytes (ap (λ k. takes k s) kinds ∙ t.takes_it) is in
+        let full : IsFilled (grown last (statement_size s) bytes) = length-append last.bytes bytes ∙ (ap (λ k. k + length bytes) l.filled ∙ (ap (λ k. kept_size last.kind last.size + k) bytes_are ∙ kept_more last.kind last.size (statement_size s))) in
+        let shape : shape_of (grown last (statement_size s) bytes) ≡ head_shape m (record { name = t.head.name; kind = t.head.kind; size = t.head.size + statement_size s }) = shape_more last names kinds sizes in
         record {
           shapes = ap (map shape_of) (sym sections)
-              ∙ (map-set shape_of e.sections (length e.sections - 1) (grown last (size_of s) bytes)
+              ∙ (map-set shape_of e.sections (length e.sections - 1) (grown last (statement_size s) bytes)
               ∙ (ap (λ x. set (map shape_of e.sections) (length e.sections - 1) x) shape
-              ∙ (ap (λ xs. set xs (length e.sections - 1) (head_shape m (record { name = t.head.name; kind = t.head.kind; size = t.head.size + size_of s }))) a.shapes
-              ∙ (ap (λ i. set (map (head_shape m) p.heads) i (head_shape m (record { name = t.head.name; kind = t.head.kind; size = t.head.size + size_of s }))) at
-              ∙ (sym (map-set (head_shape m) p.heads (length p.heads - 1) (record { name = t.head.name; kind = t.head.kind; size = t.head.size + size_of s }))
+              ∙ (ap (λ xs. set xs (length e.sections - 1) (head_shape m (record { name = t.head.name; kind = t.head.kind; size = t.head.size + statement_size s }))) a.shapes
+              ∙ (ap (λ i. set (map (head_shape m) p.heads) i (head_shape m (record { name = t.head.name; kind = t.head.kind; size = t.head.size + statement_size s }))) at
+              ∙ (sym (map-set (head_shape m) p.heads (length p.heads - 1) (record { name = t.head.name; kind = t.head.kind; size = t.head.size + statement_size s }))
               ∙ ap (map (head_shape m)) (sym t.grown_by.heads))))));
-          filled = subst (All IsFilled) sections (All-set IsFilled e.sections (length e.sections - 1) (grown last (size_of s) bytes) full a.filled);
+          filled = subst (All IsFilled) sections (All-set IsFilled e.sections (length e.sections - 1) (grown last (statement_size s) bytes) full a.filled);
         }
       where
         shape_more : (last : SectionValue) → last.name ≡ slice_index_or m.sections t.head.name [] → last.kind ≡ t.head.kind → last.size ≡ t.head.size
-            → shape_of (grown last (size_of s) bytes) ≡ head_shape m (record { name = t.head.name; kind = t.head.kind; size = t.head.size + size_of s })
-        shape_more last names kinds sizes = λ i. record { name = names i; kind = kinds i; size = sizes i + size_of s }
+            → shape_of (grown last (statement_size s) bytes) ≡ head_shape m (record { name = t.head.name; kind = t.head.kind; size = t.head.size + statement_size s })
+        shape_more last names kinds sizes = λ i. record { name = names i; kind = kinds i; size = sizes i + statement_size s }
 
 -- ---- a line
 

@@ -18,7 +18,7 @@ use Rattle.asm_text.specs.declared.statement.Statement.TheVariants.{Section, Lab
 use Rattle.asm_text.specs.internal.Known.{IsKnown}
 use Rattle.asm_text.specs.internal.Placed.{IsPlaced, names_in}
 use Rattle.asm_text.specs.Placing.{Placed, has_section, with_section, spot_of, with_label, with_bytes, within, in_section, last_head, placed}
-use Rattle.asm_text.specs.Statements.{size_of, takes}
+use Rattle.asm_text.specs.Statements.{statement_size, takes}
 
 -- ---- the last section
 
@@ -158,7 +158,7 @@ within_kept names n p q h (Global name) i k last e = with_bytes_kept names n p q
 within_kept names n p q h (Word field) i k last e = with_bytes_kept names n p q h 2 i last e
 within_kept names n p q h (Space size) i k last e = with_bytes_kept names n p q h size i last e
 within_kept names n p q h (Jump c t) i k last e = with_bytes_kept names n p q h 2 i last e
-within_kept names n p q h (Code insn a b) i k last e = with_bytes_kept names n p q h (size_of (Code insn a b)) i last e
+within_kept names n p q h (Code insn a b) i k last e = with_bytes_kept names n p q h (statement_size (Code insn a b)) i last e
 
 in_section_kept : (names n : ℕ) (p q : Placed) (s : Statement ℕ) → IsPlaced names p → IsKnown names s → in_section n p (last_head p.heads) s ≡ Ok q → IsPlaced names q
 in_section_kept names n p q s i k e = by (last_head p.heads) refl e

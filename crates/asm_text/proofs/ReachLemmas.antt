@@ -28,7 +28,7 @@ use Rattle.asm_text.specs.Parts.{SectionValue, SymbolValue, UnitValue, kept_size
 use Rattle.asm_text.specs.Places.{StandsAt, Writes, CodeIsWritten, WordsAreWritten}
 use Rattle.asm_text.specs.Placing.{Placed, nowhere, spot_of, last_head, placed, unrefused, placed_from}
 use Rattle.asm_text.specs.Source.{Source, source_of}
-use Rattle.asm_text.specs.Statements.{size_of, takes}
+use Rattle.asm_text.specs.Statements.{statement_size, takes}
 use Rattle.asm_text.specs.Symbols.{is_global, local_labels, once, once_by, below, order_of, symbol_number, symbol_by, symbol_for, symbols_for}
 use Rattle.asm_text.proofs.EmittingLemmas.{next_place}
 use Rattle.asm_text.proofs.EvenLemmas.{AreEven, IsSound, source_sound, IsEvenPlaced, source_even, nowhere_even, even_head, placed_even, all_even}
@@ -100,7 +100,7 @@ last_keeps m n e f s k = by (last_of e.sections) refl k
   where
     by_bytes : (last : SectionValue) (r : Result (List ℕ) AsmFault) → last_of e.sections ≡ Some last → with_statement m e last s r ≡ Ok f → Keeps e.sections f.sections
     by_bytes last (Err fault) is j = absurd cc
-    by_bytes last (Ok bytes) is j = subst (λ (x : Emitted). Keeps e.sections x.sections) (ok_is _ f j) (keeps_set e.sections (length e.sections - 1) (size_of s) last bytes is)
+    by_bytes last (Ok bytes) is j = subst (λ (x : Emitted). Keeps e.sections x.sections) (ok_is _ f j) (keeps_set e.sections (length e.sections - 1) (statement_size s) last bytes is)
 
     by : (o : Option SectionValue) → last_of e.sections ≡ o → in_last m n e o s ≡ Ok f → Keeps e.sections f.sections
     by None is j = subst (λ (x : Emitted). Keeps e.sections x.sections) (ok_is e f j) (keeps_same e.sections)
@@ -261,10 +261,10 @@ has_bytes m n e next f p q s full a t emits keeps =
         let sizes : there.last.size ≡ t.head.size = ap (λ (x : Shape). x.size) there.lasts.same in
         let kinds : there.last.kind ≡ t.head.kind = ap (λ (x : Shape). x.kind) there.lasts.same in
         let filled : length there.last.bytes ≡ there.last.size = there.lasts.filled ∙ (ap (λ kind. kept_size kind there.last.size) kinds ∙ full t.head.kind t.takes_it there.last.size) in
-        let sections : set e.sections (length e.sections - 1) (grown there.last (size_of s) bytes) ≡ next.sections = ap (λ (x : Emitted). x.sections) (ok_is _ next k) in
-        let new : slice_get next.sections (length p.heads - 1) ≡ Some (grown there.last (size_of s) bytes) =
-        ap (slice_get next.sections) (sym at) ∙ (ap (λ xs. slice_get xs (length e.sections - 1)) (sym sections) ∙ set_there e.sections (length e.sections - 1) (grown there.last (size_of s) bytes) there.lasts.low) in
-        let kept = keeps (length p.heads - 1) (grown there.last (size_of s) bytes) new in
+        let sections : set e.sections (length e.sections - 1) (grown there.last (statement_size s) bytes) ≡ next.sections = ap (λ (x : Emitted). x.sections) (ok_is _ next k) in
+        let new : slice_get next.sections (length p.heads - 1) ≡ Some (grown there.last (statement_size s) bytes) =
+        ap (slice_get next.sections) (sym at) ∙ (ap (λ xs. slice_get xs (length e.sections - 1)) (sym sections) ∙ set_there e.sections (length e.sections - 1) (grown there.last (statement_size s) bytes) there.lasts.low) in
+        let kept = keeps (length p.heads - 1) (grown there.last (statement_size s) bytes) new in
         record {
           head = t.head;
           last = t.is;

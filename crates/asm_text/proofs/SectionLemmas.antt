@@ -15,7 +15,7 @@ use Rattle.asm_text.specs.Parts.{SectionValue, UnitValue}
 use Rattle.asm_text.specs.Placing.{Placed, nowhere, spot_of, placed, placed_from}
 use Rattle.asm_text.specs.Sections.{Line, Puts, begins_section, up_to_section, by_section, bytes_in_order, SectionsAreLines}
 use Rattle.asm_text.specs.Source.{Source, source_of}
-use Rattle.asm_text.specs.Statements.{size_of}
+use Rattle.asm_text.specs.Statements.{statement_size}
 use Rattle.asm_text.proofs.EmittingLemmas.{next_place}
 use Rattle.asm_text.proofs.LockLemmas.{Agree, last_there, ok_is, jump_size, IsTaken, taken, agree_more}
 use Rattle.asm_text.proofs.ReachLemmas.{next_line, accepted}
@@ -76,7 +76,7 @@ put_last m n e f p q s puts a t goes =
     by last is (Ok bytes) made k = record {
       bytes = bytes;
       put = puts (length e.sections - 1) last.size bytes made;
-      after = ap (λ (x : Emitted). bytes_in x.sections) (sym (ok_is _ f k)) ∙ set_last e.sections last (grown last (size_of s) bytes) bytes is refl;
+      after = ap (λ (x : Emitted). bytes_in x.sections) (sym (ok_is _ f k)) ∙ set_last e.sections last (grown last (statement_size s) bytes) bytes is refl;
     }
 
 -- ---- all lines

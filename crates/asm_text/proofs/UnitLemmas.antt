@@ -26,7 +26,7 @@ use Rattle.asm_text.specs.Parts.{SectionValue, SymbolValue, is_name, IsSection, 
 use Rattle.asm_text.specs.internal.Placed.{IsPlaced, names_in}
 use Rattle.asm_text.specs.Placing.{Placed, nowhere, spot_of, has_section, with_section, within, last_head, placed, placed_from, unrefused}
 use Rattle.asm_text.specs.Source.{Source}
-use Rattle.asm_text.specs.Statements.{size_of}
+use Rattle.asm_text.specs.Statements.{statement_size}
 use Rattle.asm_text.specs.Symbols.{is_global, local_labels, once, once_by, below, order_of, symbol_by, symbol_for, symbols_for, symbol_number, symbol_numbers}
 use Rattle.asm_text.proofs.EmittingLemmas.{all_agree, small_sections, next_place, some_head}
 use Rattle.asm_text.proofs.LockLemmas.{Agree, Shape, shape_of, head_shape, same_number, ok_is, IsTaken, taken, label_heads}
@@ -63,7 +63,7 @@ named_taken : (k : ℕ) (p q : Placed) (s : Statement ℕ) → All (λ (h : Head
 named_taken k p q s are t =
     let within = slice_get_within p.heads (length p.heads - 1) t.head t.is in
     let here : t.head.name < k = subst (λ (h : Head). h.name < k) (last_at t.head t.is) (are (length p.heads - 1) t.head within) in
-    subst (All (λ (h : Head). h.name < k)) (sym t.grown_by.heads) (All-set (λ (h : Head). h.name < k) p.heads (length p.heads - 1) (record { name = t.head.name; kind = t.head.kind; size = t.head.size + size_of s }) here are)
+    subst (All (λ (h : Head). h.name < k)) (sym t.grown_by.heads) (All-set (λ (h : Head). h.name < k) p.heads (length p.heads - 1) (record { name = t.head.name; kind = t.head.kind; size = t.head.size + statement_size s }) here are)
   where
     last_at : (h : Head) → last_head p.heads ≡ Some h → get_or p.heads (length p.heads - 1) h ≡ h
     last_at h is = get_or_from_slice_get p.heads (length p.heads - 1) h h is
@@ -235,7 +235,7 @@ tied_last m symbols lines n e f s has t goes = by (last_of e.sections) refl goes
     by_bytes last (Err fault) is k = absurd cc
     by_bytes last (Ok bytes) is k =
         let low : length e.sections - 1 < length e.sections = slice_get_within e.sections (length e.sections - 1) last is in
-        let size : length (set e.sections (length e.sections - 1) (grown last (size_of s) bytes)) ≡ length e.sections = length-set e.sections (length e.sections - 1) (grown last (size_of s) bytes) in
+        let size : length (set e.sections (length e.sections - 1) (grown last (statement_size s) bytes)) ≡ length e.sections = length-set e.sections (length e.sections - 1) (grown last (statement_size s) bytes) in
         let few = t.few in
         let two = count_of m (length e.sections - 1) last.size s in
         subst (IsTied symbols (lines + 1)) (ok_is _ f k) (record {

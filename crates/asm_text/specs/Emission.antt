@@ -15,7 +15,7 @@ use Rattle.asm_text.specs.declared.unit.SectionKind.{SectionKind}
 use Rattle.asm_text.specs.Encoding.{word_bytes, code_bytes}
 use Rattle.asm_text.specs.Parts.{SectionValue}
 use Rattle.asm_text.specs.Placing.{spot_of, unrefused}
-use Rattle.asm_text.specs.Statements.{size_of}
+use Rattle.asm_text.specs.Statements.{statement_size}
 
 -- the names of the sections, and of each name where its label stands, and the place of its symbol
 pub record Meanings : Type 0 where
@@ -100,7 +100,7 @@ grown s size bytes = record { name = s.name; kind = s.kind; size = s.size + size
 abbrev pub with_statement : Meanings → Emitted → SectionValue → Statement ℕ → Result (List ℕ) AsmFault → Result Emitted AsmFault
 with_statement m e last s (Err fault) = Err fault
 with_statement m e last s (Ok bytes) = Ok (record {
-  sections = slice_set e.sections (length e.sections - 1) (grown last (size_of s) bytes);
+  sections = slice_set e.sections (length e.sections - 1) (grown last (statement_size s) bytes);
   relocations = e.relocations ++ relocations_of m (length e.sections - 1) last.size s;
 })
 

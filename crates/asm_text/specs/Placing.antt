@@ -9,7 +9,7 @@ use Rattle.asm_text.specs.declared.placing.Head.{Head}
 use Rattle.asm_text.specs.declared.placing.Spot.{Spot}
 use Rattle.asm_text.specs.declared.statement.Statement.{Statement}
 use Rattle.asm_text.specs.declared.statement.Statement.TheVariants.{Section, Label, Global}
-use Rattle.asm_text.specs.Statements.{size_of, takes}
+use Rattle.asm_text.specs.Statements.{statement_size, takes}
 
 -- the sections so far, the numbers of the labels in their order, and where the label of each name stands
 pub record Placed : Type 0 where
@@ -52,7 +52,7 @@ with_bytes n p h size =
 -- a statement that the kind of its section takes
 abbrev pub within : ℕ → Placed → Head → Statement ℕ → Result Placed AsmFault
 within n p h (Label name) = with_label n p h name
-within n p h s = with_bytes n p h (size_of s)
+within n p h s = with_bytes n p h (statement_size s)
 
 abbrev pub in_section : ℕ → Placed → Option Head → Statement ℕ → Result Placed AsmFault
 in_section n p None s = Err (Place n)

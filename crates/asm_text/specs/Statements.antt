@@ -17,12 +17,12 @@ pub record OperandValue : Type 0 where
 -- ---- what a statement is to its section
 
 -- the bytes that it takes
-abbrev pub size_of : Statement ℕ → ℕ
-size_of (Word field) = 2
-size_of (Space size) = size
-size_of (Jump cond target) = 2
-size_of (Code insn first second) = 2 * length_of insn
-size_of _ = 0
+abbrev pub statement_size : Statement ℕ → ℕ
+statement_size (Word field) = 2
+statement_size (Space size) = size
+statement_size (Jump cond target) = 2
+statement_size (Code insn first second) = 2 * length_of insn
+statement_size _ = 0
 
 -- whether it may stand in a section of this kind
 abbrev pub takes : SectionKind → Statement ℕ → Bool

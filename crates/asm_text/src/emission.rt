@@ -8,13 +8,13 @@ ghost use Rattle.asm_text.specs.internal.Emitted.{meanings_of, emitted_of, last_
 ghost use Rattle.asm_text.specs.internal.Known.{IsBelow, IsKnown, IsNamed, AreKnown, AreNamed};
 ghost use Rattle.asm_text.specs.internal.Placed.{ArePlaced};
 ghost use Rattle.asm_text.specs.internal.Maps.{texts_in};
-ghost use Rattle.asm_text.specs.Statements.{size_of};
+ghost use Rattle.asm_text.specs.Statements.{statement_size};
 ghost use Rattle.asm_text.specs.Views.{section_of};
 ghost use Rattle.asm_text.specs.Encoding as encoding;
 
 use crate::encoding::first_word;
 use crate::operand::string_of;
-use crate::placing::{Spot, size_of};
+use crate::placing::{Spot, statement_size};
 use crate::statement::{Field, Statement};
 use crate::unit::{AsmFault, AsmRelocation, AsmSection, SectionKind};
 use arrayvec::ArrayVec;
@@ -292,7 +292,7 @@ impl Emission {
         statement: Statement<usize>,
     ) -> Result<(), AsmFault>
         requires few { length self.old.sections.items ≤ 256 }
-        requires room { HasRoom (emitted_of self.old).sections (size_of statement) }
+        requires room { HasRoom (emitted_of self.old).sections (statement_size statement) }
         requires spots { IsKnown (length meanings.now.spots.now) statement }
         requires symbols { IsKnown (length meanings.now.symbols.now) statement }
         ensures emitted { OnOk result (spec.in_last (meanings_of meanings.now) n (emitted_of self.old)
@@ -312,7 +312,7 @@ impl Emission {
         self.add_relocations(meanings, last, here, statement)?;
         grow(
             &mut self.sections[last],
-            size_of(statement),
+            statement_size(statement),
             bytes.as_slice(),
         )?;
         Ok(())
@@ -349,7 +349,7 @@ impl Emission {
         statement: Statement<usize>,
     ) -> Result<(), AsmFault>
         requires few { length self.old.sections.items ≤ 256 }
-        requires room { HasRoom (emitted_of self.old).sections (size_of statement) }
+        requires room { HasRoom (emitted_of self.old).sections (statement_size statement) }
         requires spots { IsKnown (length meanings.now.spots.now) statement }
         requires symbols { IsKnown (length meanings.now.symbols.now) statement }
         requires named { IsNamed (length meanings.now.sections.now) statement }

@@ -35,8 +35,8 @@ pub struct Layout {
 }
 
 /// The bytes that a statement takes.
-pub fn size_of(statement: Statement<usize>) -> u32
-    ensures exact { result ≡ statements.size_of statement }
+pub fn statement_size(statement: Statement<usize>) -> u32
+    ensures exact { result ≡ statements.statement_size statement }
 {
     match statement {
         Statement::Word(_) | Statement::Jump { .. } => 2,
@@ -156,7 +156,7 @@ impl Layout {
         if let Statement::Label(name) = statement {
             return self.add_label(n, head, name);
         }
-        self.grow(n, head, size_of(statement))
+        self.grow(n, head, statement_size(statement))
     }
 
     // A statement that is in some section.

@@ -16,7 +16,7 @@ use Rattle.layout_file.specs.Overlaps.{ShareNoByte}
 use Rattle.image_text.specs.Image.{Image}
 use Rattle.layout_file.specs.Sound.{IsLayout}
 use Rattle.layout_file.specs.Values.{VectorValue, ModuleValue, LayoutValue}
-use Rattle.reloc_apply.specs.Fields.{row_of, width_of}
+use Rattle.reloc_apply.specs.Fields.{row_of, row_size}
 use Rattle.reloc_apply.specs.Applies.{Applies, no_field, a_field, limit_by, number_by}
 use Rattle.reloc_apply.proofs.SetsLemmas.{width_within}
 use Rattle.reloc_apply.proofs.AppliesLemmas.{none_at_0}
@@ -212,8 +212,8 @@ module _ (layout : LayoutValue) (objects : List ObjectValue) (kept : IsLayout la
       fields.Clear l low x r a
   clear_by x r a place sum (no_field z) out = by (cases_lt a (target_address address x r + r.offset))
     where
-      none : width_of (row_of r.kind) ≡ 0
-      none = ap (λ (k : ℕ). width_of (row_of k)) z ∙ ap width_of none_at_0
+      none : row_size (row_of r.kind) ≡ 0
+      none = ap (λ (k : ℕ). row_size (row_of k)) z ∙ ap row_size none_at_0
 
       by : (a < target_address address x r + r.offset) ⊎ (target_address address x r + r.offset ≤ a) →
           fields.Clear l low x r a
@@ -221,8 +221,8 @@ module _ (layout : LayoutValue) (objects : List ObjectValue) (kept : IsLayout la
       by (inr h) = inr (omega (arith, none))
   clear_by x r a place sum (a_field row f t) out =
       let w = t.within in
-      let z = ap width_of f in
-      out_within (target_address address x r) (target_size x r) (target_address address x r + r.offset) (width_of (row_of r.kind)) a (omega arith) (omega (arith, w, z)) out
+      let z = ap row_size f in
+      out_within (target_address address x r) (target_size x r) (target_address address x r + r.offset) (row_size (row_of r.kind)) a (omega arith) (omega (arith, w, z)) out
 
   clear_of : (n : ℕ) (d : NumberedObject) (a : ℕ) → n < length xs →
       ((j : ℕ) (s : SectionHead) → IsLoaded objects (get_or xs n d) j s → Out (address ((get_or xs n d).first + j)) (size s) a) →
@@ -330,7 +330,7 @@ module _ (layout : LayoutValue) (objects : List ObjectValue) (kept : IsLayout la
       own i d f q =
           let same : get_or xs i d ≡ x = ap (λ (j : ℕ). get_or xs j d) q ∙ (got xs h.number x h.object).1 d in
           subst (λ (y : NumberedObject). fields.ClearOf l low y (address (x.first + k) + n)) (sym same)
-          (λ j r c. outside (address (x.first + (get_or x.object.relocations j r).target) + (get_or x.object.relocations j r).offset) (width_of (row_of (get_or x.object.relocations j r).kind)) (address (x.first + k) + n) (out j r c))
+          (λ j r c. outside (address (x.first + (get_or x.object.relocations j r).target) + (get_or x.object.relocations j r).offset) (row_size (row_of (get_or x.object.relocations j r).kind)) (address (x.first + k) + n) (out j r c))
 
       other : (i : ℕ) (d : NumberedObject) (f : i < length xs) →
           ((j : ℕ) (t : SectionHead) → IsLoaded objects (get_or xs i d) j t → x.first + k ≢ (get_or xs i d).first + j) →
@@ -352,8 +352,8 @@ module _ (layout : LayoutValue) (objects : List ObjectValue) (kept : IsLayout la
   field_numbers n j x r f g apart =
       fields.still_set l low x r with_fields whole (λ k b. words_keep (place k) (item_stubs item region (place k) goes (held k b)) (item_vectors item region (place k) goes (held k b)))
       (fields.objects_set l low xs with_sections n j x r sections_long good o.0 o.1 c.0 c.1
-      (λ k b i d h w. apart_out (field_span layout objects x r) (address (x.first + (get_or x.object.relocations i d).target) + (get_or x.object.relocations i d).offset) (width_of (row_of (get_or x.object.relocations i d).kind)) (place k)
-      (apart i (get_or x.object.relocations i d) h (gets x.object.relocations i d w)) (among (address (x.first + r.target) + r.offset) (width_of (row_of r.kind)) k b))
+      (λ k b i d h w. apart_out (field_span layout objects x r) (address (x.first + (get_or x.object.relocations i d).target) + (get_or x.object.relocations i d).offset) (row_size (row_of (get_or x.object.relocations i d).kind)) (place k)
+      (apart i (get_or x.object.relocations i d) h (gets x.object.relocations i d w)) (among (address (x.first + r.target) + r.offset) (row_size (row_of r.kind)) k b))
       (λ k b i d h w. clear_of i d (place k) w (λ m t v. section_away x (get_or xs i d) r.target m s t (place k) loaded v (apart_numbers n i r.target m x (get_or xs i d) f (gets xs i d w) section.0 h) (held k b))))
     where
       o : (n < length xs) × ((d : NumberedObject) → get_or xs n d ≡ x)
@@ -393,9 +393,9 @@ module _ (layout : LayoutValue) (objects : List ObjectValue) (kept : IsLayout la
       within w offset room k (inl z) h = absurd (omega (arith, z, h))
       within w offset room k (inr b) h = omega (arith, b, h)
 
-      held : (k : ℕ) → k < width_of (row_of r.kind) → holds (item_span item) (place k) ≡ true
+      held : (k : ℕ) → k < row_size (row_of r.kind) → holds (item_span item) (place k) ≡ true
       held k b =
-          let w = within (width_of (row_of r.kind)) r.offset (target_size x r) k (width_within r.kind (fields.place l low x r) (fields.sum l low x r) r.offset (target_size x r) applies.applies) b in
+          let w = within (row_size (row_of r.kind)) r.offset (target_size x r) k (width_within r.kind (fields.place l low x r) (fields.sum l low x r) r.offset (target_size x r) applies.applies) b in
           let q = target.1.1 in
           let z : address (x.first + r.target) + r.offset + k ≡ address (x.first + r.target) + (r.offset + k) = omega arith in
           ap (holds (item_span item)) z ∙ among_item x r.target s (r.offset + k) loaded (omega (arith, w, q))
@@ -513,7 +513,7 @@ section_bytes_law layout objects image i x k s h n b out =
 
 pub field_numbers_law : FieldNumbers
 field_numbers_law layout objects image i n j x r f g apart =
-    of_image layout objects image (λ m. little_number (width_of (row_of r.kind)) (drop (section_address layout objects x r.target + r.offset) m) % limit_by (row_of r.kind)
+    of_image layout objects image (λ m. little_number (row_size (row_of r.kind)) (drop (section_address layout objects x r.target + r.offset) m) % limit_by (row_of r.kind)
     ≡ number_by (row_of r.kind) ((section_address layout objects x r.target + r.offset) % 65536) (sum_of (numbers_in (linking_of layout objects) x) r)) i.links
     (field_numbers layout objects i.layout_kept i.objects_kept i.links.unrefused n j x r f g apart)
 

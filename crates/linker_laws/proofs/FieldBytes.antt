@@ -5,7 +5,7 @@ use Rattle.std.proofs.lemmas.List.{get_or-drop}
 use Rattle.byteorder.specs.Endian.{little_number, little_from}
 use Rattle.elf_objects.specs.declared.object.Relocation.{Relocation}
 use Rattle.reloc_apply.specs.declared.RelocFault.{RelocFault}
-use Rattle.reloc_apply.specs.Fields.{row_of, width_of, relocated, ChangesOnly}
+use Rattle.reloc_apply.specs.Fields.{row_of, row_size, relocated, ChangesOnly}
 use Rattle.reloc_apply.specs.Applies.{Applies, limit_by, number_by, Sets}
 use Rattle.reloc_apply.proofs.SetsLemmas.{applies_sets, width_within}
 use Rattle.link_symbols.specs.Passes.{NumberedObject}
@@ -42,7 +42,7 @@ module _ (l : Linking) (low : (k : ℕ) → l.address k ≤ 65536) where
   sum x r = sum_of (numbers_in l x) r
 
   abbrev pub width : Relocation → ℕ
-  width r = width_of (row_of r.kind)
+  width r = row_size (row_of r.kind)
 
   -- a relocation's section lies in the memory, and the relocation applies to it
   pub record IsGood (x : NumberedObject) (r : Relocation) : Type 0 where

@@ -12,7 +12,7 @@ use Rattle.image_text.specs.Image.{Image}
 use Rattle.layout_file.specs.Overlaps.{ShareNoByte}
 use Rattle.layout_file.specs.Sound.{IsLayout}
 use Rattle.layout_file.specs.Values.{VectorValue, ModuleValue, LayoutValue}
-use Rattle.reloc_apply.specs.Fields.{row_of, width_of}
+use Rattle.reloc_apply.specs.Fields.{row_of, row_size}
 use Rattle.reloc_apply.specs.Applies.{limit_by, number_by}
 use Rattle.link_symbols.specs.Passes.{NumberedObject, numbered_objects}
 use Rattle.link_symbols.specs.Parts.{is_loaded_head}
@@ -44,7 +44,7 @@ section_address layout objects x k = address_at (starts_of layout) (items_of lay
 
 -- the bytes that a relocation writes
 abbrev pub field_span : LayoutValue → List ObjectValue → NumberedObject → Relocation → Section
-field_span layout objects x r = span (section_address layout objects x r.target + r.offset) (width_of (row_of r.kind))
+field_span layout objects x r = span (section_address layout objects x r.target + r.offset) (row_size (row_of r.kind))
 
 -- a byte of a loaded section that no relocation writes is the file's
 abbrev pub SectionBytes : Type 0
@@ -65,7 +65,7 @@ FieldNumbers = (layout : LayoutValue) (objects : List ObjectValue) (image : Imag
     ShareNoByte (field_span layout objects x r) (field_span layout objects x q)) →
     let start = section_address layout objects x r.target + r.offset in
     let row = row_of r.kind in
-    little_number (width_of row) (drop start image.memory) % limit_by row
+    little_number (row_size row) (drop start image.memory) % limit_by row
     ≡ number_by row (start % 65536) (sum_of (numbers_in (linking_of layout objects) x) r)
 
 -- each module's text begins with its stub

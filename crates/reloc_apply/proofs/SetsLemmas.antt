@@ -8,7 +8,7 @@ use Rattle.reloc_apply.specs.declared.RelocFault.{RelocFault}
 use Rattle.reloc_apply.specs.declared.Field.{Field}
 use Rattle.reloc_apply.specs.declared.Field.TheVariants as field
 use Rattle.reloc_apply.specs.declared.Row.{Row}
-use Rattle.reloc_apply.specs.Fields.{relocated, row_of, width_of, size_of, limit_of, is_jump, difference_of, field_value, modulo, kept_of, with_number}
+use Rattle.reloc_apply.specs.Fields.{relocated, row_of, row_size, field_size, limit_of, is_jump, difference_of, field_value, modulo, kept_of, with_number}
 use Rattle.reloc_apply.specs.Applies.{Takes, Applies, no_field, a_field, Sets}
 use Rattle.reloc_apply.proofs.AppliesLemmas.{number_of, ok_applies, relocated_is, relocated_0, none_at_0}
 use Rattle.reloc_apply.proofs.FieldLemmas.{changes_only}
@@ -24,8 +24,8 @@ number_in bytes offset size number n h l =
     ∙ get_or_append_left (little_bytes size number) (drop (offset + size) bytes) 0 n (let w : length (little_bytes size number) ≡ size = length-bytes_low_first 0 size number in omega (arith, w))))
 
 value_by : (f : Field) (m : List ℕ) (number : ℕ) →
-    ((n : ℕ) → n < size_of f → slice_index m n ≡ slice_index (little_bytes (size_of f) number) n) →
-    little_number (size_of f) m % limit_of f ≡ number % limit_of f
+    ((n : ℕ) → n < field_size f → slice_index m n ≡ slice_index (little_bytes (field_size f) number) n) →
+    little_number (field_size f) m % limit_of f ≡ number % limit_of f
 value_by field.Byte m number h =
     let a : slice_index m 0 ≡ number % 256 = h 0 (omega arith) in
     omega (arith, a)
@@ -81,15 +81,15 @@ sets_none place sum offset bytes = record { as_many = refl; elsewhere = record {
 
 sets_some : (r : Row) (place : ℕ) (sum : ℤ) (offset : ℕ) (bytes : List ℕ) →
     Takes r (difference_of r.relative place sum) offset (length bytes) →
-    Sets (Some r) place sum offset bytes (with_number bytes offset (size_of r.field) (number_of r (difference_of r.relative place sum) bytes offset))
+    Sets (Some r) place sum offset bytes (with_number bytes offset (field_size r.field) (number_of r (difference_of r.relative place sum) bytes offset))
 sets_some r place sum offset bytes t =
     let d = difference_of r.relative place sum in
     let number = number_of r d bytes offset in
     let w = t.within in
     record {
-      as_many = number_size bytes offset (size_of r.field) number w;
-      elsewhere = changes_only bytes offset (size_of r.field) number w;
-      number = value_by r.field (drop offset (with_number bytes offset (size_of r.field) number)) number (λ n h. number_in bytes offset (size_of r.field) number n (omega (arith, w)) h)
+      as_many = number_size bytes offset (field_size r.field) number w;
+      elsewhere = changes_only bytes offset (field_size r.field) number w;
+      number = value_by r.field (drop offset (with_number bytes offset (field_size r.field) number)) number (λ n h. number_in bytes offset (field_size r.field) number n (omega (arith, w)) h)
           ∙ remains r.field (kept_of (is_jump r.field) bytes offset) (modulo (field_value (is_jump r.field) d) (limit_of r.field)) (kept_by (is_jump r.field) bytes offset) (below (field_value (is_jump r.field) d) r.field);
     }
 
@@ -101,7 +101,7 @@ applies_sets kind place sum offset bytes (no_field z) =
     let none : row_of kind ≡ None = ap row_of z ∙ none_at_0 in
     (bytes, (relocated_0 kind place sum offset bytes z, subst (λ (o : Option Row). Sets o place sum offset bytes bytes) (sym none) (sets_none place sum offset bytes)))
 applies_sets kind place sum offset bytes (a_field r e t) =
-    let new = with_number bytes offset (size_of r.field) (number_of r (difference_of r.relative place sum) bytes offset) in
+    let new = with_number bytes offset (field_size r.field) (number_of r (difference_of r.relative place sum) bytes offset) in
     (new, (relocated_is kind place sum offset bytes r e t, subst (λ (o : Option Row). Sets o place sum offset bytes new) (sym e) (sets_some r place sum offset bytes t)))
 
 same_ok : (a b : List ℕ) → (let r : Result (List ℕ) RelocFault = Ok a in r) ≡ Ok b → a ≡ b
@@ -115,6 +115,6 @@ sets_field kind place sum offset old new e =
 
 -- a field lies within the bytes
 pub width_within : (kind place : ℕ) (sum : ℤ) (offset size : ℕ) → Applies kind place sum offset size →
-    (width_of (row_of kind) ≡ 0) ⊎ (offset + width_of (row_of kind) ≤ size)
-width_within kind place sum offset size (no_field z) = inl (ap width_of (ap row_of z ∙ none_at_0))
-width_within kind place sum offset size (a_field r e t) = inr (let w = t.within in let q : width_of (row_of kind) ≡ size_of r.field = ap width_of e in omega (arith, w, q))
+    (row_size (row_of kind) ≡ 0) ⊎ (offset + row_size (row_of kind) ≤ size)
+width_within kind place sum offset size (no_field z) = inl (ap row_size (ap row_of z ∙ none_at_0))
+width_within kind place sum offset size (a_field r e t) = inr (let w = t.within in let q : row_size (row_of kind) ≡ field_size r.field = ap row_size e in omega (arith, w, q))

@@ -3,11 +3,11 @@ use Rattle.std.specs.Prelude.{◌≡◌, ◌≤◌, ◌≤ℤ◌, ◌↔◌, ℕ
 use Rattle.std.specs.Option.{option_map_or}
 use Rattle.byteorder.specs.Endian.{little_number}
 use Rattle.reloc_apply.specs.declared.Row.{Row}
-use Rattle.reloc_apply.specs.Fields.{row_of, size_of, limit_of, width_of, is_jump, is_odd, difference_of, field_value, modulo, relocated, ChangesOnly}
+use Rattle.reloc_apply.specs.Fields.{row_of, field_size, limit_of, row_size, is_jump, is_odd, difference_of, field_value, modulo, relocated, ChangesOnly}
 
 -- a field lies within so many bytes, and its number is in its bounds; a jump's difference is even
 pub record Takes (r : Row) (difference : ℤ) (offset size : ℕ) : Type 0 where
-  pub within : offset + size_of r.field ≤ size
+  pub within : offset + field_size r.field ≤ size
   pub even : is_jump r.field ≡ true → is_odd difference ≡ false
   pub low : r.low ≤ℤ field_value (is_jump r.field) difference
   pub high : field_value (is_jump r.field) difference ≤ℤ r.high
@@ -35,8 +35,8 @@ number_by row place sum =
 -- as many bytes, the same outside a field, which holds its number, a jump in its low ten bits
 pub record Sets (row : Option Row) (place : ℕ) (sum : ℤ) (offset : ℕ) (old new : List ℕ) : Type 0 where
   pub as_many : length new ≡ length old
-  pub elsewhere : ChangesOnly old new offset (width_of row)
-  pub number : little_number (width_of row) (drop offset new) % limit_by row ≡ number_by row place sum
+  pub elsewhere : ChangesOnly old new offset (row_size row)
+  pub number : little_number (row_size row) (drop offset new) % limit_by row ≡ number_by row place sum
 
 -- a relocation that is taken sets its field and nothing else
 abbrev pub SetsField : Type 0

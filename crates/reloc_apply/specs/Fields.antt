@@ -28,11 +28,11 @@ row_of kind =
     else None
 
 -- how many bytes a field lies in
-abbrev pub size_of : Field → ℕ
-size_of field.Byte = 1
-size_of field.Half = 2
-size_of field.Word = 4
-size_of field.Jump = 2
+abbrev pub field_size : Field → ℕ
+field_size field.Byte = 1
+field_size field.Half = 2
+field_size field.Word = 4
+field_size field.Jump = 2
 
 -- what a field's numbers are below
 abbrev pub limit_of : Field → ℕ
@@ -78,12 +78,12 @@ is_in_bounds r value = int_le r.low value && int_le value r.high
 unfoldable pub written : Row → ℕ → List ℕ → ℤ → Result (List ℕ) RelocFault
 written r offset bytes value =
     if not (is_in_bounds r value) then Err (fault.Range value)
-    else Ok (with_number bytes offset (size_of r.field) (kept_of (is_jump r.field) bytes offset + modulo value (limit_of r.field)))
+    else Ok (with_number bytes offset (field_size r.field) (kept_of (is_jump r.field) bytes offset + modulo value (limit_of r.field)))
 
 -- the field lies in the section, and a jump's difference is even
 unfoldable pub relocated_by : Row → ℤ → ℕ → List ℕ → Result (List ℕ) RelocFault
 relocated_by r difference offset bytes =
-    if nat_lt (length bytes) (offset + size_of r.field) then Err fault.Outside
+    if nat_lt (length bytes) (offset + field_size r.field) then Err fault.Outside
     else if is_jump r.field && is_odd difference then Err (fault.Odd difference)
     else written r offset bytes (field_value (is_jump r.field) difference)
 
@@ -102,5 +102,5 @@ pub record ChangesOnly (old new : List ℕ) (offset size : ℕ) : Type 0 where
   pub after : (k : ℕ) → offset + size ≤ k → slice_index new k ≡ slice_index old k
 
 -- how many bytes a kind's field lies in
-abbrev pub width_of : Option Row → ℕ
-width_of found = option_map_or (λ r. size_of r.field) found 0
+abbrev pub row_size : Option Row → ℕ
+row_size found = option_map_or (λ r. field_size r.field) found 0

@@ -2,7 +2,7 @@
 #![tactic(auto)]
 
 ghost use Rattle.std.specs.Prelude.{◌≡◌, ◌<◌, ◌≤◌, ◌+◌, ◌≤ℤ◌, ◌^◌, Ok, Err, pos, negsuc, length, IfErr, OnOk, OnErr, true};
-ghost use Rattle.reloc_apply.specs.Fields.{row_of, size_of, limit_of, is_jump, difference_of, field_value, modulo, kept_of, with_number, is_odd, is_in_bounds, written, relocated_by, relocated, ChangesOnly, width_of};
+ghost use Rattle.reloc_apply.specs.Fields.{row_of, field_size, limit_of, is_jump, difference_of, field_value, modulo, kept_of, with_number, is_odd, is_in_bounds, written, relocated_by, relocated, ChangesOnly, row_size};
 ghost use Rattle.reloc_apply.specs.internal.Leaves.{Leaves};
 
 use byteorder::{ByteOrder, LittleEndian};
@@ -37,7 +37,7 @@ enum Field {
 
 impl Field {
     fn size(self) -> usize
-        ensures { result ≡ size_of self }
+        ensures { result ≡ field_size self }
     {
         match self {
             Field::Byte => 1,
@@ -182,9 +182,9 @@ fn with_number(bytes: &mut [u8], offset: usize, size: usize, number: u64)
 
 #[tactic(auto, using(crate::proofs::FieldLemmas::fits), unfolding(crate::specs::Fields::written))]
 fn write(row: Row, offset: usize, bytes: &mut [u8], value: i64) -> Result<(), RelocFault>
-    requires { offset + size_of row.field ≤ length bytes.old }
+    requires { offset + field_size row.field ≤ length bytes.old }
     ensures value { Leaves bytes.old bytes.new result (written row offset bytes.old value) }
-    ensures elsewhere { OnOk result (ChangesOnly bytes.old bytes.new offset (size_of row.field)) }
+    ensures elsewhere { OnOk result (ChangesOnly bytes.old bytes.new offset (field_size row.field)) }
 {
     if !is_in_bounds(row, value) {
         return Err(RelocFault::Range { value });
@@ -199,7 +199,7 @@ fn apply_row(row: Row, difference: i64, offset: u32, bytes: &mut [u8]) -> Result
     requires low { negsuc 9000000000 ≤ℤ difference }
     requires high { difference ≤ℤ pos 9000000000 }
     ensures value { Leaves bytes.old bytes.new result (relocated_by row difference offset bytes.old) }
-    ensures elsewhere { OnOk result (ChangesOnly bytes.old bytes.new offset (size_of row.field)) }
+    ensures elsewhere { OnOk result (ChangesOnly bytes.old bytes.new offset (field_size row.field)) }
 {
     let offset = offset as usize;
     if bytes.len() < offset + row.field.size() {
@@ -239,7 +239,7 @@ pub fn apply(
     ensures written { OnOk result (relocated kind place sum offset bytes.old ≡ Ok bytes.new) }
     ensures refused { IfErr result (λ fault. relocated kind place sum offset bytes.old ≡ Err fault) }
     ensures unchanged { OnErr result (bytes.new ≡ bytes.old) }
-    ensures elsewhere { ChangesOnly bytes.old bytes.new offset (width_of (row_of kind)) }
+    ensures elsewhere { ChangesOnly bytes.old bytes.new offset (row_size (row_of kind)) }
 {
     if kind == 0 {
         return Ok(());
