@@ -6,7 +6,7 @@ use Rattle.std.proofs.lemmas.Bool.Decides.{nat_tests}
 use Rattle.reloc_apply.specs.declared.RelocFault.{RelocFault}
 use Rattle.reloc_apply.specs.declared.RelocFault.TheVariants as fault
 use Rattle.reloc_apply.specs.declared.Row.{Row}
-use Rattle.reloc_apply.specs.Fields.{relocated, relocated_by, relocated_at, written, row_of, field_size, limit_of, is_in_bounds, is_odd, is_jump, difference_of, field_value, kept_of, modulo, with_number}
+use Rattle.reloc_apply.specs.Fields.{relocated, relocated_by, relocated_at, written, row_of, field_size, limit_of, is_in_bounds, is_odd_integer, is_jump, difference_of, field_value, kept_of, modulo, with_number}
 use Rattle.reloc_apply.specs.Applies.{Takes, Applies, no_field, a_field}
 
 -- the number that a field is given
@@ -36,7 +36,7 @@ none_odd true o h = h refl
 none_odd false o h = refl
 
 takes_by : (r : Row) (d : ℤ) (offset : ℕ) (bytes new : List ℕ) (a b c : Bool) →
-    nat_lt (length bytes) (offset + field_size r.field) ≡ a → (is_jump r.field && is_odd d) ≡ b →
+    nat_lt (length bytes) (offset + field_size r.field) ≡ a → (is_jump r.field && is_odd_integer d) ≡ b →
     is_in_bounds r (field_value (is_jump r.field) d) ≡ c →
     IsOk {T = List ℕ} {E = RelocFault} (if a then Err fault.Outside else if b then Err (fault.Odd d) else if not c then Err (fault.Range (field_value (is_jump r.field) d)) else Ok new) → Takes r d offset (length bytes)
 takes_by r d offset bytes new true b c p q s ok = cc
@@ -44,7 +44,7 @@ takes_by r d offset bytes new false true c p q s ok = cc
 takes_by r d offset bytes new false false false p q s ok = cc
 takes_by r d offset bytes new false false true p q s ok =
     let bounds = and_parts _ _ s in
-    record { within = grind (arith, nat_tests); even = odd_not (is_jump r.field) (is_odd d) q; low = at_most r.low _ bounds.0; high = at_most _ r.high bounds.1 }
+    record { within = grind (arith, nat_tests); even = odd_not (is_jump r.field) (is_odd_integer d) q; low = at_most r.low _ bounds.0; high = at_most _ r.high bounds.1 }
 
 ok_takes : (r : Row) (d : ℤ) (offset : ℕ) (bytes : List ℕ) → IsOk (relocated_by r d offset bytes) →
     Takes r d offset (length bytes)
@@ -61,7 +61,7 @@ unfolding relocated_by written
 takes_ok r d offset bytes t =
     let within = t.within in
     let p : nat_lt (length bytes) (offset + field_size r.field) ≡ false = grind (arith, nat_tests) in
-    let q = none_odd (is_jump r.field) (is_odd d) t.even in
+    let q = none_odd (is_jump r.field) (is_odd_integer d) t.even in
     let s : is_in_bounds r (field_value (is_jump r.field) d) ≡ true = both _ _ (tested r.low _ t.low) (tested _ r.high t.high) in
     rw (p, q, s) refl
 

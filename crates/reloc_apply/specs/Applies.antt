@@ -3,12 +3,12 @@ use Rattle.std.specs.Prelude.{◌≡◌, ◌≤◌, ◌≤ℤ◌, ◌↔◌, ℕ
 use Rattle.std.specs.Option.{option_map_or}
 use Rattle.byteorder.specs.Endian.{little_number}
 use Rattle.reloc_apply.specs.declared.Row.{Row}
-use Rattle.reloc_apply.specs.Fields.{row_of, field_size, limit_of, row_size, is_jump, is_odd, difference_of, field_value, modulo, relocated, ChangesOnly}
+use Rattle.reloc_apply.specs.Fields.{row_of, field_size, limit_of, row_size, is_jump, is_odd_integer, difference_of, field_value, modulo, relocated, ChangesOnly}
 
 -- a field lies within so many bytes, and its number is in its bounds; a jump's difference is even
 pub record Takes (r : Row) (difference : ℤ) (offset size : ℕ) : Type 0 where
   pub within : offset + field_size r.field ≤ size
-  pub even : is_jump r.field ≡ true → is_odd difference ≡ false
+  pub even : is_jump r.field ≡ true → is_odd_integer difference ≡ false
   pub low : r.low ≤ℤ field_value (is_jump r.field) difference
   pub high : field_value (is_jump r.field) difference ≤ℤ r.high
 

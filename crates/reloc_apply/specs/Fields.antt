@@ -68,8 +68,8 @@ kept_of jump bytes offset = if jump then little_number 2 (drop offset bytes) / 1
 abbrev pub with_number : List ℕ → ℕ → ℕ → ℕ → List ℕ
 with_number bytes offset size number = take offset bytes ++ (little_bytes size number ++ drop (offset + size) bytes)
 
-abbrev pub is_odd : ℤ → Bool
-is_odd difference = unsigned_abs difference % 2 == 1
+abbrev pub is_odd_integer : ℤ → Bool
+is_odd_integer difference = unsigned_abs difference % 2 == 1
 
 abbrev pub is_in_bounds : Row → ℤ → Bool
 is_in_bounds r value = int_le r.low value && int_le value r.high
@@ -84,7 +84,7 @@ written r offset bytes value =
 unfoldable pub relocated_by : Row → ℤ → ℕ → List ℕ → Result (List ℕ) RelocFault
 relocated_by r difference offset bytes =
     if nat_lt (length bytes) (offset + field_size r.field) then Err fault.Outside
-    else if is_jump r.field && is_odd difference then Err (fault.Odd difference)
+    else if is_jump r.field && is_odd_integer difference then Err (fault.Odd difference)
     else written r offset bytes (field_value (is_jump r.field) difference)
 
 abbrev pub relocated_at : Option Row → ℕ → ℕ → ℤ → ℕ → List ℕ → Result (List ℕ) RelocFault

@@ -2,7 +2,7 @@
 #![tactic(auto)]
 
 ghost use Rattle.std.specs.Prelude.{◌≡◌, ◌<◌, ◌≤◌, ◌+◌, ◌≤ℤ◌, ◌^◌, Ok, Err, pos, negsuc, length, IfErr, OnOk, OnErr, true};
-ghost use Rattle.reloc_apply.specs.Fields.{row_of, field_size, limit_of, is_jump, difference_of, field_value, modulo, kept_of, with_number, is_odd, is_in_bounds, written, relocated_by, relocated, ChangesOnly, row_size};
+ghost use Rattle.reloc_apply.specs.Fields.{row_of, field_size, limit_of, is_jump, difference_of, field_value, modulo, kept_of, with_number, is_odd_integer, is_in_bounds, written, relocated_by, relocated, ChangesOnly, row_size};
 ghost use Rattle.reloc_apply.specs.internal.Leaves.{Leaves};
 
 use byteorder::{ByteOrder, LittleEndian};
@@ -137,8 +137,8 @@ fn field_value(jump: bool, difference: i64) -> i64
     if jump { difference / 2 - 1 } else { difference }
 }
 
-fn is_odd(difference: i64) -> bool
-    ensures { result ≡ is_odd difference }
+fn is_odd_integer(difference: i64) -> bool
+    ensures { result ≡ is_odd_integer difference }
 {
     difference.unsigned_abs() % 2 == 1
 }
@@ -206,7 +206,7 @@ fn apply_row(row: Row, difference: i64, offset: u32, bytes: &mut [u8]) -> Result
         return Err(RelocFault::Outside);
     }
     let jump = row.field.is_jump();
-    if jump && is_odd(difference) {
+    if jump && is_odd_integer(difference) {
         return Err(RelocFault::Odd { value: difference });
     }
     write(row, offset, bytes, field_value(jump, difference))
