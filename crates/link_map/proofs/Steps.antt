@@ -19,7 +19,7 @@ use Rattle.link_map.specs.Map.{has_line, symbol_line, symbol_text, symbol_text_i
 use Rattle.link_map.specs.Modules.{PlacedModule, has_boot, placed_module}
 use Rattle.mod_layout.specs.Table.{Table}
 use Rattle.link_map.specs.Parts.{PartValue, insert_part}
-use Rattle.link_map.specs.internal.Values.{place_in}
+use Rattle.link_map.specs.internal.Values.{insertion_place}
 
 pub piece_more : (cur new piece rest total : List ℕ) → cur ++ (piece ++ rest) ≡ total → new ≡ cur ++ piece → new ++ rest ≡ total
 piece_more cur new piece rest total e made = ap (λ (l : List ℕ). l ++ rest) made ∙ (append_assoc cur piece rest ∙ e)
@@ -116,12 +116,12 @@ boots_more value f old new n e made =
 
 -- ---- the parts in rising address
 
-inserted_by : (p q : PartValue) (qs : List PartValue) (b : Bool) → nat_lt p.at q.at ≡ b → insert_part p qs ≡ insert qs (place_in qs p.at) p →
-    insert_part p (q ∷ qs) ≡ insert (q ∷ qs) (place_in (q ∷ qs) p.at) p
+inserted_by : (p q : PartValue) (qs : List PartValue) (b : Bool) → nat_lt p.at q.at ≡ b → insert_part p qs ≡ insert qs (insertion_place qs p.at) p →
+    insert_part p (q ∷ qs) ≡ insert (q ∷ qs) (insertion_place (q ∷ qs) p.at) p
 inserted_by p q qs true e ih = rw e refl
 inserted_by p q qs false e ih = rw e (ap (λ l. q ∷ l) ih)
 
-pub inserted : (p : PartValue) (xs : List PartValue) → insert_part p xs ≡ insert xs (place_in xs p.at) p
+pub inserted : (p : PartValue) (xs : List PartValue) → insert_part p xs ≡ insert xs (insertion_place xs p.at) p
 inserted p [] = refl
 inserted p (q ∷ qs) = inserted_by p q qs (nat_lt p.at q.at) refl (inserted p qs)
 
@@ -132,20 +132,20 @@ over : (a b : ℕ) → b ≤ a → nat_lt a b ≡ false
 over a b h = grind (arith, nat_tests)
 
 pub place_here : {X : Type 0} (value : X → PartValue) (xs : List X) (i at total : ℕ) (x d : X) → i < length xs → x ≡ get_or xs i d → at < (value x).at →
-    total ≡ i + place_in (map value (drop i xs)) at → i ≡ total
+    total ≡ i + insertion_place (map value (drop i xs)) at → i ≡ total
 place_here value xs i at total x d h is low e =
-    let z : place_in (map value (drop i xs)) at ≡ 0 = ap (λ l. place_in l at) (map_here value xs i x d h is) ∙ rw (under at (value x).at low) refl in
+    let z : insertion_place (map value (drop i xs)) at ≡ 0 = ap (λ l. insertion_place l at) (map_here value xs i x d h is) ∙ rw (under at (value x).at low) refl in
     omega (arith, e, z)
 
 pub place_next : {X : Type 0} (value : X → PartValue) (xs : List X) (i at total : ℕ) (x d : X) → i < length xs → x ≡ get_or xs i d → (value x).at ≤ at →
-    total ≡ i + place_in (map value (drop i xs)) at → total ≡ i + 1 + place_in (map value (drop (i + 1) xs)) at
+    total ≡ i + insertion_place (map value (drop i xs)) at → total ≡ i + 1 + insertion_place (map value (drop (i + 1) xs)) at
 place_next value xs i at total x d h is high e =
-    let z : place_in (map value (drop i xs)) at ≡ suc (place_in (map value (drop (i + 1) xs)) at) = ap (λ l. place_in l at) (map_here value xs i x d h is) ∙ rw (over at (value x).at high) refl in
+    let z : insertion_place (map value (drop i xs)) at ≡ suc (insertion_place (map value (drop (i + 1) xs)) at) = ap (λ l. insertion_place l at) (map_here value xs i x d h is) ∙ rw (over at (value x).at high) refl in
     omega (arith, e, z)
 
-pub place_end : {X : Type 0} (value : X → PartValue) (xs : List X) (i at total : ℕ) → i ≡ length xs → total ≡ i + place_in (map value (drop i xs)) at → i ≡ total
+pub place_end : {X : Type 0} (value : X → PartValue) (xs : List X) (i at total : ℕ) → i ≡ length xs → total ≡ i + insertion_place (map value (drop i xs)) at → i ≡ total
 place_end value xs i at total h e =
-    let z : place_in (map value (drop i xs)) at ≡ 0 = ap (λ l. place_in l at) (map_over value xs i (omega arith)) in
+    let z : insertion_place (map value (drop i xs)) at ≡ 0 = ap (λ l. insertion_place l at) (map_over value xs i (omega arith)) in
     omega (arith, e, z)
 
 map_insert : {X Y : Type 0} (f : X → Y) (xs : List X) (i : ℕ) (x : X) → map f (insert xs i x) ≡ insert (map f xs) i (f x)
@@ -154,7 +154,7 @@ map_insert f [] (suc i) x = refl
 map_insert f (y ∷ ys) zero x = refl
 map_insert f (y ∷ ys) (suc i) x = ap (λ l. f y ∷ l) (map_insert f ys i x)
 
-pub part_inserted : {X : Type 0} (value : X → PartValue) (old new : List X) (x : X) (i : ℕ) → new ≡ insert old i x → i ≡ place_in (map value old) (value x).at →
+pub part_inserted : {X : Type 0} (value : X → PartValue) (old new : List X) (x : X) (i : ℕ) → new ≡ insert old i x → i ≡ insertion_place (map value old) (value x).at →
     map value new ≡ insert_part (value x) (map value old)
 part_inserted value old new x i made is =
     ap (map value) made ∙ (map_insert value old i x ∙ (ap (λ k. insert (map value old) k (value x)) is ∙ sym (inserted (value x) (map value old))))
@@ -243,11 +243,11 @@ word_read g xs i d cur a new total h e blank made =
     (ap (λ l. cur ++ after_blanks l) (sym (map_here g xs i (get_or xs i d) d h refl)) ∙ e) blank made
 
 pub place_next_read : {X : Type 0} (value : X → PartValue) (xs : List X) (i at total : ℕ) (d : X) → i < length xs → (value (get_or xs i d)).at ≤ at →
-    total ≡ i + place_in (map value (drop i xs)) at → total ≡ i + 1 + place_in (map value (drop (i + 1) xs)) at
+    total ≡ i + insertion_place (map value (drop i xs)) at → total ≡ i + 1 + insertion_place (map value (drop (i + 1) xs)) at
 place_next_read value xs i at total d h high e = place_next value xs i at total (get_or xs i d) d h refl high e
 
 pub place_here_read : {X : Type 0} (value : X → PartValue) (xs : List X) (i at total : ℕ) (d : X) → i < length xs → at < (value (get_or xs i d)).at →
-    total ≡ i + place_in (map value (drop i xs)) at → i ≡ total
+    total ≡ i + insertion_place (map value (drop i xs)) at → i ≡ total
 place_here_read value xs i at total d h low e = place_here value xs i at total (get_or xs i d) d h refl low e
 
 -- a line for a symbol, whose number was read

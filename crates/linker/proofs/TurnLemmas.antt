@@ -6,7 +6,7 @@ use Rattle.std.proofs.lemmas.Nat.{mod-mul-add}
 use Rattle.link_symbols.specs.declared.item.Item.{Item}
 use Rattle.link_symbols.specs.declared.item.Part.{Part}
 use Rattle.link_symbols.specs.Commons.{some_item}
-use Rattle.linker.specs.Placement.{item_at, filled_end, address_at, end_of, place_in, goes_to}
+use Rattle.linker.specs.Placement.{item_at, filled_end, address_at, end_of, item_start, goes_to}
 use Rattle.linker.specs.internal.Placed.{start_of}
 use Rattle.linker.proofs.BoundLemmas.{end_above, start_up, end_within, round_up_above, up_to_3}
 use Rattle.linker.proofs.PlaceLemmas.{more_in, address_is, goes_yes, start_next, some_not, filled_is}
@@ -30,7 +30,7 @@ module _ (starts : List ℕ) (items : List Item) where
   ahead k p = end_of (start_of starts items p.region p.rank) (filter (goes_to p.region p.rank) (take k items))
 
   pub address_of : (k : ℕ) (p : Part) → (item_at items k).part ≡ Some p →
-      address_at starts items k ≡ place_in (ahead k p) (item_at items k)
+      address_at starts items k ≡ item_start (ahead k p) (item_at items k)
   unfolding address_at
   address_of k p e = address_is starts items k (item_at items k) (item_at items k).part p e
 

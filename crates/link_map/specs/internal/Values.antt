@@ -29,6 +29,6 @@ abbrev pub numbered_value : Numbered → NumberedObject
 numbered_value x = record { number = x.number; first = x.first; object = x.object.now }
 
 -- where a part at this address comes: before the first that stands higher
-abbrev pub place_in : List PartValue → ℕ → ℕ
-place_in [] at = 0
-place_in (q ∷ qs) at = if nat_lt at q.at then 0 else suc (place_in qs at)
+abbrev pub insertion_place : List PartValue → ℕ → ℕ
+insertion_place [] at = 0
+insertion_place (q ∷ qs) at = if nat_lt at q.at then 0 else suc (insertion_place qs at)
