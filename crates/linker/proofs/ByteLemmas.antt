@@ -16,9 +16,9 @@ use Rattle.link_symbols.specs.Parts.{is_loaded_head}
 use Rattle.linker.specs.Numbers.{Linking, numbers_in}
 use Rattle.linker.specs.Bytes.{put, bytes_at, word_bytes}
 use Rattle.linker.specs.Sections.{put_section_if, put_section, put_sections}
-use Rattle.linker.specs.Fields.{put_field, put_fields, with_field, or_same, target_address, target_size, sum_of}
+use Rattle.linker.specs.Fields.{put_field, put_fields, with_field, or_same, target_address, target_size, symbol_sum}
 use Rattle.linker.specs.Stubs.{word_named, stub_of, put_stub, put_vector}
-use Rattle.linker.specs.Image.{memory_by, zeros}
+use Rattle.linker.specs.Image.{memory_by, blank_memory}
 use Rattle.linker.specs.Laws.{AreBytes}
 
 -- past its end a list reads as 0
@@ -76,7 +76,7 @@ field_bytes address numbers x m r h =
     let old = bytes_at m at (target_size x r) in
     let b = All-take IsByte (target_size x r) (drop at m) (All-drop IsByte at m h) in
     put_bytes m at (or_same old (with_field address numbers x r old)) h
-    (same_bytes old (with_field address numbers x r old) b (keeps_bytes r.kind ((at + r.offset) % 65536) (sum_of numbers r) r.offset old b))
+    (same_bytes old (with_field address numbers x r old) b (keeps_bytes r.kind ((at + r.offset) % 65536) (symbol_sum numbers r) r.offset old b))
 
 fields_by : (address : ℕ → ℕ) (numbers : List ℕ) (x : NumberedObject) (rs : List Relocation) (m : List ℕ) → AreBytes m → AreBytes (fold (put_field address numbers x) m rs)
 fields_by address numbers x [] m h = h
@@ -107,11 +107,11 @@ vectors_by l [] m h = h
 vectors_by l (v ∷ vs) m h =
     vectors_by l vs (put_vector l m v) (put_bytes m (65504 + 2 * v.vector) (word_bytes (word_named l v.name)) h (word_small (word_named l v.name)))
 
-zeros_small : AreBytes zeros
-unfolding zeros
+zeros_small : AreBytes blank_memory
+unfolding blank_memory
 zeros_small = All-replicate IsByte 65536 0 (omega arith)
 
 -- each byte of the image's memory is one
-pub memory_bytes : (l : Linking) (end : ℕ → ℕ) (layout : LayoutValue) (os : List ObjectValue) → All (λ (o : ObjectValue). AreBytes o.file) os → AreBytes (memory_by l end layout os zeros)
+pub memory_bytes : (l : Linking) (end : ℕ → ℕ) (layout : LayoutValue) (os : List ObjectValue) → All (λ (o : ObjectValue). AreBytes o.file) os → AreBytes (memory_by l end layout os blank_memory)
 memory_bytes l end layout os h =
-    vectors_by l layout.vectors _ (stubs_by l end 0 layout.modules _ (all_fields l (numbered_objects os) _ (all_sections l.address (numbered_objects os) zeros (files_from os 0 0 h) zeros_small)))
+    vectors_by l layout.vectors _ (stubs_by l end 0 layout.modules _ (all_fields l (numbered_objects os) _ (all_sections l.address (numbered_objects os) blank_memory (files_from os 0 0 h) zeros_small)))

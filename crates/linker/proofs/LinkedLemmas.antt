@@ -6,7 +6,7 @@ use Rattle.image_text.specs.Image.{Image, IsImage}
 use Rattle.layout_file.specs.Sound.{IsLayout}
 use Rattle.layout_file.specs.Values.{LayoutValue}
 use Rattle.linker.specs.Laws.{AreBytes}
-use Rattle.linker.specs.Image.{Links, linked_image, linked_memory, linked_table, table_by, memory_by, zeros}
+use Rattle.linker.specs.Image.{Links, linked_image, linked_memory, linked_table, table_by, memory_by, blank_memory}
 use Rattle.linker.specs.Numbers.{linking_of, end_in}
 use Rattle.linker.specs.Placement.{starts_of, address_at}
 use Rattle.link_symbols.specs.Resolved.{items_of}
@@ -34,7 +34,7 @@ pub none_over : (layout : LayoutValue) (os : List ObjectValue) → link_fault_of
 unfolding fill_fault
 none_over layout os e = (both_none _ _ (both_none _ _ (sym (in_groups layout os) ∙ e)).1).0
 
-pub memory_is : (layout : LayoutValue) (os : List ObjectValue) (image : Image) → Links layout os image → image.memory ≡ memory_by (linking_of layout os) (end_in layout os) layout os zeros
+pub memory_is : (layout : LayoutValue) (os : List ObjectValue) (image : Image) → Links layout os image → image.memory ≡ memory_by (linking_of layout os) (end_in layout os) layout os blank_memory
 unfolding linked_image linked_memory
 memory_is layout os image h = ap (λ (i : Image). i.memory) h.linked
 

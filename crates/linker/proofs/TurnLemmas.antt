@@ -6,7 +6,7 @@ use Rattle.std.proofs.lemmas.Nat.{mod-mul-add}
 use Rattle.link_symbols.specs.declared.item.Item.{Item}
 use Rattle.link_symbols.specs.declared.item.Part.{Part}
 use Rattle.link_symbols.specs.Commons.{some_item}
-use Rattle.linker.specs.Placement.{item_at, filled_end, address_at, end_of, item_start, goes_to}
+use Rattle.linker.specs.Placement.{item_at, filled_end, address_at, items_end, item_start, goes_to}
 use Rattle.linker.specs.internal.Placed.{start_of}
 use Rattle.linker.proofs.BoundLemmas.{end_above, start_up, end_within, round_up_above, up_to_3}
 use Rattle.linker.proofs.PlaceLemmas.{more_in, address_is, goes_yes, start_next, some_not, filled_is}
@@ -27,7 +27,7 @@ module _ (starts : List ℕ) (items : List Item) where
 
   -- what stands before the k-th item in its part ends here
   abbrev ahead : ℕ → Part → ℕ
-  ahead k p = end_of (start_of starts items p.region p.rank) (filter (goes_to p.region p.rank) (take k items))
+  ahead k p = items_end (start_of starts items p.region p.rank) (filter (goes_to p.region p.rank) (take k items))
 
   pub address_of : (k : ℕ) (p : Part) → (item_at items k).part ≡ Some p →
       address_at starts items k ≡ item_start (ahead k p) (item_at items k)
@@ -88,7 +88,7 @@ module _ (starts : List ℕ) (items : List Item) where
       let s = start_of starts items p.region p.rank in
       let a = end_is j p e in
       let w = end_within g s (j + 1) (take k items) in
-      let t = ap (λ (l : List Item). end_of s (filter g l)) (take_take (j + 1) k (omega arith)) in
+      let t = ap (λ (l : List Item). items_end s (filter g l)) (take_take (j + 1) k (omega arith)) in
       let b = above k p f in
       omega (arith, a, w, t, b)
 

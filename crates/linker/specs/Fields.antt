@@ -23,12 +23,12 @@ abbrev pub target_address : (ℕ → ℕ) → NumberedObject → Relocation → 
 target_address address x r = address (x.first + r.target)
 
 -- symbol plus addend
-abbrev pub sum_of : List ℕ → Relocation → ℤ
-sum_of numbers r = pos (slice_index numbers r.symbol) +ℤ r.addend
+abbrev pub symbol_sum : List ℕ → Relocation → ℤ
+symbol_sum numbers r = pos (slice_index numbers r.symbol) +ℤ r.addend
 
 -- these bytes of a section with one field more, or why not
 abbrev pub with_field : (ℕ → ℕ) → List ℕ → NumberedObject → Relocation → List ℕ → Result (List ℕ) RelocFault
-with_field address numbers x r bytes = relocated r.kind ((target_address address x r + r.offset) % 65536) (sum_of numbers r) r.offset bytes
+with_field address numbers x r bytes = relocated r.kind ((target_address address x r + r.offset) % 65536) (symbol_sum numbers r) r.offset bytes
 
 abbrev pub or_same : List ℕ → Result (List ℕ) RelocFault → List ℕ
 or_same bytes new = result_unwrap_or new bytes

@@ -15,17 +15,17 @@ use Rattle.linker.specs.Stubs.{put_stub, put_vector}
 
 -- all bytes that nothing sets are 0
 abbrev pub memory_by : Linking → (ℕ → ℕ) → LayoutValue → List ObjectValue → List ℕ → List ℕ
-memory_by l end layout objects zeros =
-    let sections = fold (put_sections l.address) zeros (numbered_objects objects) in
+memory_by l end layout objects blank_memory =
+    let sections = fold (put_sections l.address) blank_memory (numbered_objects objects) in
     let fields = fold (put_fields l) sections (numbered_objects objects) in
     let stubs = fold_at (put_stub l end) fields 0 layout.modules in
     fold (put_vector l) stubs layout.vectors
 
-unfoldable pub zeros : List ℕ
-zeros = replicate 65536 0
+unfoldable pub blank_memory : List ℕ
+blank_memory = replicate 65536 0
 
 unfoldable pub linked_memory : LayoutValue → List ObjectValue → List ℕ
-linked_memory layout objects = memory_by (linking_of layout objects) (end_in layout objects) layout objects zeros
+linked_memory layout objects = memory_by (linking_of layout objects) (end_in layout objects) layout objects blank_memory
 
 -- a module with this boot is protected
 abbrev pub with_boot : (ℕ → ℕ) → ℕ → Table → ℕ → ModuleValue → Table

@@ -28,7 +28,7 @@ use Rattle.link_symbols.specs.Names.{stands_for, symbol_meaning}
 use Rattle.link_symbols.specs.Resolved.{items_of}
 use Rattle.linker.specs.Placement.{item_at, text_of, ram_of}
 use Rattle.linker.specs.Numbers.{Linking, linking_of, numbers_in, end_in}
-use Rattle.linker.specs.Fields.{target_address, target_size, sum_of, reloc_fault, reloc_fault_by, reloc_fault_in}
+use Rattle.linker.specs.Fields.{target_address, target_size, symbol_sum, reloc_fault, reloc_fault_by, reloc_fault_in}
 use Rattle.link_symbols.specs.Refusals.{no_place, no_place_at, no_place_in, is_used, undefined, undefined_at, undefined_in, no_vector, no_vector_at, no_entry, no_entry_at, no_entry_in, is_code_of, is_entry, is_entry_in, elsewhere, elsewhere_at, elsewhere_in, unresolved}
 use Rattle.linker.specs.Refusals.{overfull, overfull_at, overfull_in, link_fault_of}
 use Rattle.link_symbols.proofs.OrderLemmas.{both_none}
@@ -293,20 +293,20 @@ ok_none x r (Ok bytes) e = refl
 ok_none x r (Err f) e = cc
 
 abbrev AppliesTo : (ℕ → ℕ) → List ℕ → NumberedObject → Relocation → ℕ → Type 0
-AppliesTo address numbers x r size = Applies r.kind ((target_address address x r + r.offset) % 65536) (sum_of numbers r) r.offset size
+AppliesTo address numbers x r size = Applies r.kind ((target_address address x r + r.offset) % 65536) (symbol_sum numbers r) r.offset size
 
 applies : (address : ℕ → ℕ) (numbers : List ℕ) (x : NumberedObject) (r : Relocation) →
     reloc_fault address numbers x r ≡ None → AppliesTo address numbers x r (target_size x r)
 unfolding reloc_fault
 applies address numbers x r e =
     subst (AppliesTo address numbers x r) (length-replicate (target_size x r) 0)
-    (ok_applies r.kind ((target_address address x r + r.offset) % 65536) (sum_of numbers r) r.offset (replicate (target_size x r) 0) (none_ok x r _ e))
+    (ok_applies r.kind ((target_address address x r + r.offset) % 65536) (symbol_sum numbers r) r.offset (replicate (target_size x r) 0) (none_ok x r _ e))
 
 not_applies : (address : ℕ → ℕ) (numbers : List ℕ) (x : NumberedObject) (r : Relocation) →
     AppliesTo address numbers x r (target_size x r) → reloc_fault address numbers x r ≡ None
 unfolding reloc_fault
 not_applies address numbers x r h =
-    ok_none x r _ (applies_ok r.kind ((target_address address x r + r.offset) % 65536) (sum_of numbers r) r.offset (replicate (target_size x r) 0)
+    ok_none x r _ (applies_ok r.kind ((target_address address x r + r.offset) % 65536) (symbol_sum numbers r) r.offset (replicate (target_size x r) 0)
     (subst (AppliesTo address numbers x r) (sym (length-replicate (target_size x r) 0)) h))
 
 pub relocations : (l : Linking) (objects : List ObjectValue) →

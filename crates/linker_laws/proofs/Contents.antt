@@ -29,9 +29,9 @@ use Rattle.linker.specs.Placement.{item_at, starts_of, address_at, stub_size, te
 use Rattle.linker.specs.Numbers.{Linking, linking_of, numbers_in, end_in}
 use Rattle.linker.specs.Bytes.{bytes_at, word_bytes}
 use Rattle.linker.specs.Sections.{put_sections}
-use Rattle.linker.specs.Fields.{put_fields, target_size, target_address, sum_of}
+use Rattle.linker.specs.Fields.{put_fields, target_size, target_address, symbol_sum}
 use Rattle.linker.specs.Stubs.{word_named, stub_of, put_stub, put_vector}
-use Rattle.linker.specs.Image.{Links, zeros, memory_by}
+use Rattle.linker.specs.Image.{Links, blank_memory, memory_by}
 use Rattle.linker.specs.Refusals.{link_fault_of}
 use Rattle.linker.proofs.BoundLemmas.{all_low}
 use Rattle.linker.proofs.ClearLemmas.{zero_at, stub_size_is}
@@ -66,12 +66,12 @@ part_of_item ms o s = refl
 long_zeros : (n : ℕ) → n ≡ 65536 → Long (replicate n 0)
 long_zeros n e = let h = length-replicate {A = ℕ} n 0 in omega (arith, h, e)
 
-zeros_long : Long zeros
-unfolding zeros
+zeros_long : Long blank_memory
+unfolding blank_memory
 zeros_long = long_zeros 65536 refl
 
-zero_there : (a : ℕ) → slice_index zeros a ≡ 0
-unfolding zeros
+zero_there : (a : ℕ) → slice_index blank_memory a ≡ 0
+unfolding blank_memory
 zero_there a = zero_at 65536 a
 
 by_bool : (b : Bool) → (b ≡ true → ⊥) → b ≡ false
@@ -237,7 +237,7 @@ module _ (layout : LayoutValue) (objects : List ObjectValue) (kept : IsLayout la
   -- ---- the layers of the memory
 
   abbrev with_sections : List ℕ
-  with_sections = fold (put_sections address) zeros xs
+  with_sections = fold (put_sections address) blank_memory xs
 
   abbrev with_fields : List ℕ
   with_fields = fold (put_fields l) with_sections xs
@@ -252,7 +252,7 @@ module _ (layout : LayoutValue) (objects : List ObjectValue) (kept : IsLayout la
   starts_low i d h = let t = (kept.modules_kept i d h).text_region in let a = t.in_order in let b = t.below_vectors in omega (arith, a, b)
 
   sections_long : Long with_sections
-  sections_long = sections.objects_long address low xs zeros zeros_long
+  sections_long = sections.objects_long address low xs blank_memory zeros_long
 
   fields_long : Long with_fields
   fields_long = fields.objects_long l low xs with_sections sections_long
@@ -308,7 +308,7 @@ module _ (layout : LayoutValue) (objects : List ObjectValue) (kept : IsLayout la
       let g = got x.object.sections k s h.section in
       let z = part_length x k s h in
       let held = among_item x k s n h b in
-      sections.object_set address low xs zeros h.number k n x s zeros_long o.0 o.1 g.0 g.1 h.loaded (omega (arith, b, z))
+      sections.object_set address low xs blank_memory h.number k n x s zeros_long o.0 o.1 g.0 g.1 h.loaded (omega (arith, b, z))
       (λ j d c f t. section_away x x k j s (get_or x.object.sections j d) a h (record { number = h.number; object = h.object; section = gets x.object.sections j d f; loaded = t }) (λ q. absurd (omega (arith, q, c))) held)
       (λ i d c f j v w t. section_away x (get_or xs i d) k j s (get_or (get_or xs i d).object.sections j v) a h (loaded_at i j d v f w t) (apart_numbers h.number i k j x (get_or xs i d) h.object (gets xs i d f) g.0 c) held)
       ∙ file_byte x.object s n b
@@ -493,7 +493,7 @@ module _ (layout : LayoutValue) (objects : List ObjectValue) (kept : IsLayout la
       (λ i d h. let m = get_or layout.modules i d in outside m.text.start (stub_size m) a (by_bool _ (λ t. none (by_stub i m (gets layout.modules i d h) t))))
       (λ i d h. let v = get_or layout.vectors i d in outside (words.start l v) 2 a (by_bool _ (λ t. none (by_vector i v (gets layout.vectors i d h) t))))
       ∙ (fields.objects_keep l low xs with_sections a sections_long good (λ n d h. clear_of n d a h (λ j s g. away (get_or xs n d) j s g))
-      ∙ (sections.objects_keep address low xs zeros a zeros_long (λ n d h j s b t. away (get_or xs n d) j (get_or (get_or xs n d).object.sections j s) (loaded_at n j d s h b t))
+      ∙ (sections.objects_keep address low xs blank_memory a zeros_long (λ n d h j s b t. away (get_or xs n d) j (get_or (get_or xs n d).object.sections j s) (loaded_at n j d s h b t))
       ∙ zero_there a))
     where
       away : (x : NumberedObject) (j : ℕ) (s : SectionHead) → IsLoaded objects x j s →
@@ -504,7 +504,7 @@ module _ (layout : LayoutValue) (objects : List ObjectValue) (kept : IsLayout la
 
 of_image : (layout : LayoutValue) (objects : List ObjectValue) (image : Image) (P : List ℕ → Type 0) →
     Links layout objects image →
-    P (memory_by (linking_of layout objects) (end_in layout objects) layout objects zeros) → P image.memory
+    P (memory_by (linking_of layout objects) (end_in layout objects) layout objects blank_memory) → P image.memory
 of_image layout objects image P links h = subst P (sym (memory_is layout objects image links)) h
 
 pub section_bytes_law : SectionBytes
@@ -514,7 +514,7 @@ section_bytes_law layout objects image i x k s h n b out =
 pub field_numbers_law : FieldNumbers
 field_numbers_law layout objects image i n j x r f g apart =
     of_image layout objects image (λ m. little_number (row_size (row_of r.kind)) (drop (section_address layout objects x r.target + r.offset) m) % limit_by (row_of r.kind)
-    ≡ number_by (row_of r.kind) ((section_address layout objects x r.target + r.offset) % 65536) (sum_of (numbers_in (linking_of layout objects) x) r)) i.links
+    ≡ number_by (row_of r.kind) ((section_address layout objects x r.target + r.offset) % 65536) (symbol_sum (numbers_in (linking_of layout objects) x) r)) i.links
     (field_numbers layout objects i.layout_kept i.objects_kept i.links.unrefused n j x r f g apart)
 
 pub stub_bytes_law : StubBytes

@@ -10,7 +10,7 @@ use Rattle.reloc_apply.specs.Applies.{Applies, limit_by, number_by, Sets}
 use Rattle.reloc_apply.proofs.SetsLemmas.{applies_sets, width_within}
 use Rattle.link_symbols.specs.Passes.{NumberedObject}
 use Rattle.linker.specs.Bytes.{put, bytes_at}
-use Rattle.linker.specs.Fields.{put_field, put_fields, with_field, or_same, target_address, target_size, sum_of}
+use Rattle.linker.specs.Fields.{put_field, put_fields, with_field, or_same, target_address, target_size, symbol_sum}
 use Rattle.linker.specs.Numbers.{Linking, numbers_in}
 use Rattle.linker_laws.proofs.Writes.{Out, out_less, out_or, put_long, put_out, put_in, read_at, size_at}
 use Rattle.linker_laws.proofs.SectionBytes.{Long}
@@ -39,7 +39,7 @@ module _ (l : Linking) (low : (k : ℕ) → l.address k ≤ 65536) where
   place x r = (at x r + r.offset) % 65536
 
   abbrev pub sum : NumberedObject → Relocation → ℤ
-  sum x r = sum_of (numbers_in l x) r
+  sum x r = symbol_sum (numbers_in l x) r
 
   abbrev pub width : Relocation → ℕ
   width r = row_size (row_of r.kind)

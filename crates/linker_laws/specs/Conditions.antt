@@ -15,7 +15,7 @@ use Rattle.link_symbols.specs.Names.{stands_for, symbol_meaning}
 use Rattle.link_symbols.specs.Resolved.{items_of}
 use Rattle.linker.specs.Placement.{item_at, text_of, ram_of}
 use Rattle.linker.specs.Numbers.{Linking, linking_of, numbers_in, end_in}
-use Rattle.linker.specs.Fields.{target_address, target_size, sum_of}
+use Rattle.linker.specs.Fields.{target_address, target_size, symbol_sum}
 use Rattle.linker.specs.Refusals.{link_fault_of}
 
 -- each loaded section goes to a part of a region
@@ -70,7 +70,7 @@ pub record ContentsFit (layout : LayoutValue) (end : ℕ → ℕ) : Type 0 where
 -- each relocation applies to its section's bytes, at its address
 abbrev pub RelocationsApply : Linking → List ObjectValue → Type 0
 RelocationsApply l objects = All (λ x. All (λ r.
-    Applies r.kind ((target_address l.address x r + r.offset) % 65536) (sum_of (numbers_in l x) r) r.offset (target_size x r))
+    Applies r.kind ((target_address l.address x r + r.offset) % 65536) (symbol_sum (numbers_in l x) r) r.offset (target_size x r))
     x.object.relocations) (numbered_objects objects)
 
 pub record CanLink (layout : LayoutValue) (objects : List ObjectValue) : Type 0 where

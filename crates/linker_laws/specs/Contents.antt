@@ -20,7 +20,7 @@ use Rattle.linker.specs.Placement.{starts_of, address_at, stub_size}
 use Rattle.link_symbols.specs.Resolved.{items_of}
 use Rattle.linker.specs.Numbers.{linking_of, numbers_in, end_in}
 use Rattle.linker.specs.Bytes.{bytes_at, word_bytes}
-use Rattle.linker.specs.Fields.{sum_of}
+use Rattle.linker.specs.Fields.{symbol_sum}
 use Rattle.linker.specs.Stubs.{word_named, stub_of}
 use Rattle.linker.specs.Image.{Links}
 use Rattle.linker_laws.specs.Places.{span}
@@ -66,7 +66,7 @@ FieldNumbers = (layout : LayoutValue) (objects : List ObjectValue) (image : Imag
     let start = section_address layout objects x r.target + r.offset in
     let row = row_of r.kind in
     little_number (row_size row) (drop start image.memory) % limit_by row
-    ≡ number_by row (start % 65536) (sum_of (numbers_in (linking_of layout objects) x) r)
+    ≡ number_by row (start % 65536) (symbol_sum (numbers_in (linking_of layout objects) x) r)
 
 -- each module's text begins with its stub
 abbrev pub StubBytes : Type 0

@@ -2,12 +2,12 @@
 use Rattle.std.specs.Prelude.{zero, suc, filter, ℕ, ◌≡◌, List, length, Option, Some, None, All, ◌<◌, slice_index}
 use Rattle.link_symbols.specs.declared.item.Part.{Part}
 use Rattle.link_symbols.specs.declared.item.Item.{Item}
-use Rattle.linker.specs.Placement.{end_of, goes_to, item_at, address_at}
+use Rattle.linker.specs.Placement.{items_end, goes_to, item_at, address_at}
 
 -- where a part starts: where those of lower rank in its region end
 unfoldable pub start_of : List ℕ → List Item → ℕ → ℕ → ℕ
 start_of starts items region zero = slice_index starts region
-start_of starts items region (suc rank) = end_of (start_of starts items region rank) (filter (goes_to region rank) items)
+start_of starts items region (suc rank) = items_end (start_of starts items region rank) (filter (goes_to region rank) items)
 
 abbrev pub BelowBy : ℕ → Option Part → Type 0
 BelowBy rank None = ⊥
