@@ -47,20 +47,20 @@ abbrev pub common_line : (ℕ → ℕ) → List Item → ℕ → ℕ → List �
 common_line address items first k name = common_text (address (first + k)) (item_at items (first + k)).size name
 
 -- the word at an address
-abbrev pub word_at : List ℕ → ℕ → ℕ
-word_at memory a = slice_index memory a + 256 * slice_index memory (a + 1)
+abbrev pub memory_word : List ℕ → ℕ → ℕ
+memory_word memory a = slice_index memory a + 256 * slice_index memory (a + 1)
 
 -- `entry ADDRESS ID K NAME`: the address that the table of the module's stub has for the k-th entry
 abbrev pub entry_line : List ℕ → ℕ → ℕ → ℕ → List ℕ → List ℕ
 entry_line memory start id k name =
-    line (codes "entry") (address_text (word_at memory (start + 2 * front_words + 2 * k)) ∷ decimal id ∷ decimal k ∷ shown name ∷ [])
+    line (codes "entry") (address_text (memory_word memory (start + 2 * front_words + 2 * k)) ∷ decimal id ∷ decimal k ∷ shown name ∷ [])
 
 abbrev pub entry_lines : List ℕ → ℕ → PlacedModule → List ℕ
 entry_lines memory id p = text_at (entry_line memory p.value.text.start id) 0 p.value.entries
 
 -- `vector V ADDRESS NAME`: the word of the vector
 abbrev pub vector_line : List ℕ → VectorValue → List ℕ
-vector_line memory v = line (codes "vector") (decimal v.vector ∷ address_text (word_at memory (FIRST_VECTOR + 2 * v.vector)) ∷ shown v.name ∷ [])
+vector_line memory v = line (codes "vector") (decimal v.vector ∷ address_text (memory_word memory (FIRST_VECTOR + 2 * v.vector)) ∷ shown v.name ∷ [])
 
 abbrev pub kind_text : Binding → List ℕ
 kind_text binding.Local = codes "local"

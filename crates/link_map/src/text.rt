@@ -16,7 +16,7 @@ ghost use Rattle.linker.specs.Room.{IsSmall};
 ghost use Rattle.link_map.specs.Map.{map_text, vector_line};
 
 use crate::lines::{MapText, Piece};
-use crate::modules::{by_id, put_entries, put_modules, word_at};
+use crate::modules::{by_id, put_entries, put_modules, memory_word};
 use crate::parts::put_parts;
 use crate::symbols::{put_commons, put_symbols};
 use elf_objects::Object;
@@ -34,7 +34,7 @@ fn put_vector(out: &mut MapText, memory: &[u8], vector: &VectorName) -> Result<(
     let name = vector.name.as_bytes();
     let words = [
         Piece::Number(u64::from(vector.vector)),
-        Piece::Address(word_at(memory, at)),
+        Piece::Address(memory_word(memory, at)),
         Piece::Name(name),
     ];
     out.put_line(b"vector", &words)

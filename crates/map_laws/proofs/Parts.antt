@@ -10,7 +10,7 @@ use Rattle.link_symbols.specs.Parts.{is_loaded_head}
 use Rattle.link_symbols.specs.Passes.{NumberedObject, numbered_objects, fold_at}
 use Rattle.linker_laws.specs.Contents.{IsLoaded, SectionBytes, field_span}
 use Rattle.mod_layout.specs.Table.{holds}
-use Rattle.link_map.specs.Parts.{PartValue, insert_part, part_at, with_part, with_section, with_sections, parts_of}
+use Rattle.link_map.specs.Parts.{PartValue, insert_part, section_part, with_part, with_section, with_sections, parts_of}
 use Rattle.map_laws.specs.Laws.{IsPart, Each, Rises, PartBytes, map_parts}
 
 -- ---- what holds of each
@@ -26,7 +26,7 @@ each_inserted P p (q ∷ qs) h hs = insert_by P p q qs (nat_lt p.at q.at) refl h
 -- a section of an object, among those from an index on
 abbrev pub Sections : (PartValue → Type 0) → (ℕ → ℕ) → NumberedObject → ℕ → List SectionHead → Type 0
 Sections P address x i [] = Unit {0}
-Sections P address x i (s ∷ ss) = (is_loaded_head s ≡ true → 0 < s.size → P (part_at address x i s)) × Sections P address x (i + 1) ss
+Sections P address x i (s ∷ ss) = (is_loaded_head s ≡ true → 0 < s.size → P (section_part address x i s)) × Sections P address x (i + 1) ss
 
 both : (a b : Bool) → (a && b) ≡ true → (a ≡ true) × (b ≡ true)
 both true b e = (refl, e)
@@ -43,7 +43,7 @@ sections_more : (P : PartValue → Type 0) (address : ℕ → ℕ) (x : Numbered
 sections_more P address x i [] ps h hs = hs
 sections_more P address x i (s ∷ ss) ps h hs =
     sections_more P address x (i + 1) ss (with_section address x ps i s) h.1
-    (part_more P (is_loaded_head s && nat_lt 0 s.size) (part_at address x i s) ps (λ e. let t = both (is_loaded_head s) (nat_lt 0 s.size) e in h.0 t.0 (above_zero s.size t.1)) hs)
+    (part_more P (is_loaded_head s && nat_lt 0 s.size) (section_part address x i s) ps (λ e. let t = both (is_loaded_head s) (nat_lt 0 s.size) e in h.0 t.0 (above_zero s.size t.1)) hs)
 
 abbrev pub Objects : (PartValue → Type 0) → (ℕ → ℕ) → List NumberedObject → Type 0
 Objects P address [] = Unit {0}
@@ -55,7 +55,7 @@ objects_more P address (x ∷ xs) ps h hs = objects_more P address xs (with_sect
 
 -- what holds of each loaded section with bytes holds of each part
 pub each_part : (P : PartValue → Type 0) (address : ℕ → ℕ) (os : List ObjectValue) →
-    ((x : NumberedObject) (k : ℕ) (s : SectionHead) → IsLoaded os x k s → 0 < s.size → P (part_at address x k s)) → Each P (parts_of address os)
+    ((x : NumberedObject) (k : ℕ) (s : SectionHead) → IsLoaded os x k s → 0 < s.size → P (section_part address x k s)) → Each P (parts_of address os)
 each_part P address os h = objects_more P address (numbered_objects os) [] (all_objects (numbered_objects os) 0 (λ n x e. let k : 0 + n ≡ n = omega arith in subst (λ j. slice_get (numbered_objects os) j ≡ Some x) (sym k) e)) tt
   where
     all_sections : (x : NumberedObject) (number : ℕ) → slice_get (numbered_objects os) number ≡ Some x → (ss : List SectionHead) (i : ℕ) →
@@ -99,7 +99,7 @@ part_rises false p ps h = h
 
 sections_rise : (address : ℕ → ℕ) (x : NumberedObject) (i : ℕ) (ss : List SectionHead) (ps : List PartValue) → Rises ps → Rises (fold_at (with_section address x) ps i ss)
 sections_rise address x i [] ps h = h
-sections_rise address x i (s ∷ ss) ps h = sections_rise address x (i + 1) ss (with_section address x ps i s) (part_rises (is_loaded_head s && nat_lt 0 s.size) (part_at address x i s) ps h)
+sections_rise address x i (s ∷ ss) ps h = sections_rise address x (i + 1) ss (with_section address x ps i s) (part_rises (is_loaded_head s && nat_lt 0 s.size) (section_part address x i s) ps h)
 
 objects_rise : (address : ℕ → ℕ) (xs : List NumberedObject) (ps : List PartValue) → Rises ps → Rises (fold (with_sections address) ps xs)
 objects_rise address [] ps h = h

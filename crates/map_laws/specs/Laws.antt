@@ -11,8 +11,8 @@ use Rattle.linker.specs.Numbers.{linking_of}
 use Rattle.link_symbols.specs.Passes.{NumberedObject}
 use Rattle.linker.specs.Stubs.{word_named}
 use Rattle.linker_laws.specs.Contents.{IsLinked, IsLoaded, field_span}
-use Rattle.link_map.specs.Map.{word_at}
-use Rattle.link_map.specs.Parts.{PartValue, part_at, parts_of}
+use Rattle.link_map.specs.Map.{memory_word}
+use Rattle.link_map.specs.Parts.{PartValue, section_part, parts_of}
 
 -- the parts of a map
 abbrev pub map_parts : LayoutValue → List ObjectValue → List PartValue
@@ -25,7 +25,7 @@ pub record IsPart (layout : LayoutValue) (objects : List ObjectValue) (p : PartV
   pub section : SectionHead
   pub loaded : IsLoaded objects object index section
   pub some : 0 < section.size
-  pub same : p ≡ part_at (linking_of layout objects).address object index section
+  pub same : p ≡ section_part (linking_of layout objects).address object index section
 
 abbrev pub Each : {X : Type 0} → (X → Type 0) → List X → Type 0
 Each P [] = Unit {0}
@@ -45,7 +45,7 @@ PartsRise = (layout : LayoutValue) (objects : List ObjectValue) → Rises (map_p
 -- A part's byte that no relocation writes is its section's in the image.
 abbrev pub PartBytes : Type 0
 PartBytes = (layout : LayoutValue) (objects : List ObjectValue) (image : Image) → IsLinked layout objects image →
-    (p : PartValue) (x : NumberedObject) (k : ℕ) (s : SectionHead) → IsLoaded objects x k s → p ≡ part_at (linking_of layout objects).address x k s →
+    (p : PartValue) (x : NumberedObject) (k : ℕ) (s : SectionHead) → IsLoaded objects x k s → p ≡ section_part (linking_of layout objects).address x k s →
     (n : ℕ) → s.bytes.start + n < s.bytes.end →
     All (λ r. holds (field_span layout objects x r) (p.at + n) ≡ false) x.object.relocations →
     slice_index image.memory (p.at + n) ≡ slice_index x.object.file (s.bytes.start + n)
@@ -54,9 +54,9 @@ PartBytes = (layout : LayoutValue) (objects : List ObjectValue) (image : Image) 
 abbrev pub EntryWords : Type 0
 EntryWords = (layout : LayoutValue) (objects : List ObjectValue) (image : Image) → IsLinked layout objects image →
     (i k : ℕ) (m : ModuleValue) (name : List ℕ) → slice_get layout.modules i ≡ Some m → slice_get m.entries k ≡ Some name →
-    word_at image.memory (m.text.start + 2 * front_words + 2 * k) ≡ word_named (linking_of layout objects) name
+    memory_word image.memory (m.text.start + 2 * front_words + 2 * k) ≡ word_named (linking_of layout objects) name
 
 abbrev pub VectorLines : Type 0
 VectorLines = (layout : LayoutValue) (objects : List ObjectValue) (image : Image) → IsLinked layout objects image →
     (k : ℕ) (v : VectorValue) → slice_get layout.vectors k ≡ Some v →
-    word_at image.memory (FIRST_VECTOR + 2 * v.vector) ≡ word_named (linking_of layout objects) v.name
+    memory_word image.memory (FIRST_VECTOR + 2 * v.vector) ≡ word_named (linking_of layout objects) v.name
