@@ -16,7 +16,7 @@ use Rattle.image_text.specs.declared.ImageFault.{ImageFault}
 use Rattle.image_text.specs.declared.ImageFault.TheVariants.{Line, Twice}
 use Rattle.image_text.specs.Image.{Image}
 use Rattle.image_text.specs.ImageText.{ended, first_line, key_line, handler_line, end_line}
-use Rattle.image_text.specs.Refusal.{Spot, past, line_fault, has_form, bad_digit, digit_or, formed, key_form, handler_form, module_form, row_form, bytes_at, word_at, section_at, count_of, counted, count_refusal, modules_refusal, handler_refusal, key_refusal, version_or_line, version_refusal, first_refusal, end_refusal, is_row, placed, rows_refusal, taken, added, one_less, refusal_of}
+use Rattle.image_text.specs.Refusal.{Spot, past, line_fault, has_form, bad_digit, digit_or, formed, key_form, handler_form, module_form, row_form, digits_bytes, digits_word, section_at, count_of, counted, count_refusal, modules_refusal, handler_refusal, key_refusal, version_or_line, version_refusal, first_refusal, end_refusal, is_row, placed, rows_refusal, taken, added, one_less, refusal_of}
 use Rattle.image_text.specs.internal.Reading.{Unread, on, ReadLine, HasForm, PassedCount, due_next, AddsModule, ModulesSoFar, PassedModules, RowsSoFar, PassedMemory}
 use Rattle.image_text.specs.Laws.{Complete}
 use Rattle.image_text.proofs.FormLemmas.{has_form_of}
@@ -118,7 +118,7 @@ key_stage room u e =
     let f = formed_none key_form u.spot h.line _ (sym (line_on (key_refusal room) u h.next h.line h.read) ∙ e) in
     let k = key_line_of h.line f.has in
     let c = k.coded in
-    record { key = bytes_at 4 16 h.line; sixteen = c.count; bytes = c.are_bytes; went = went (handler_refusal room) u (key_line (bytes_at 4 16 h.line)) h k.text f.after }
+    record { key = digits_bytes 4 16 h.line; sixteen = c.count; bytes = c.are_bytes; went = went (handler_refusal room) u (key_line (digits_bytes 4 16 h.line)) h k.text f.after }
 
 record HandlerLine (room : ℕ) (u : Unread) : Type 0 where
   pub sp : ℕ
@@ -127,18 +127,18 @@ record HandlerLine (room : ℕ) (u : Unread) : Type 0 where
   pub went : Went (handler_line sp) (count_refusal room) u
 
 handler_stage : (room : ℕ) (u : Unread) → on u (handler_refusal room) ≡ None → HandlerLine room u
-handler_stage room u e = by (word_at 8 h.line % 2 == 0) refl f.after
+handler_stage room u e = by (digits_word 8 h.line % 2 == 0) refl f.after
   where
     h : HasLine u
     h = must_line (handler_refusal room) (λ s tail. refl) u e
 
-    f : IsFormed handler_form h.line (cond (word_at 8 h.line % 2 == 0) (count_refusal room (past h.line u.spot) (ended_lines h.next.rest) (unended h.next.rest)) (line_fault u.spot))
+    f : IsFormed handler_form h.line (cond (digits_word 8 h.line % 2 == 0) (count_refusal room (past h.line u.spot) (ended_lines h.next.rest) (unended h.next.rest)) (line_fault u.spot))
     f = formed_none handler_form u.spot h.line _ (sym (line_on (handler_refusal room) u h.next h.line h.read) ∙ e)
 
-    by : (c : Bool) → (word_at 8 h.line % 2 == 0) ≡ c → cond c (count_refusal room (past h.line u.spot) (ended_lines h.next.rest) (unended h.next.rest)) (line_fault u.spot) ≡ None → HandlerLine room u
+    by : (c : Bool) → (digits_word 8 h.line % 2 == 0) ≡ c → cond c (count_refusal room (past h.line u.spot) (ended_lines h.next.rest) (unended h.next.rest)) (line_fault u.spot) ≡ None → HandlerLine room u
     by true p e =
         let k = handler_line_of h.line f.has in
-        record { sp = word_at 8 h.line; even = grind (arith, nat_tests); small = k.small; went = went (count_refusal room) u (handler_line (word_at 8 h.line)) h k.text e }
+        record { sp = digits_word 8 h.line; even = grind (arith, nat_tests); small = k.small; went = went (count_refusal room) u (handler_line (digits_word 8 h.line)) h k.text e }
     by false p e = absurd cc
 
 record CountLine (room : ℕ) (u : Unread) : Type 0 where
@@ -196,7 +196,7 @@ modules_stage (suc n) room due start t u left short so e = by (due_next left (en
         let m = module_stage u t left h p e in
         let line = h.line in
         let a : AddsModule u h.next t (added t line) = record { line = line; read = h.read; form = m.has; taken = m.free; table = refl } in
-        let ok = table_more t (word_at 7 line) (section_at 12 line) (section_at 22 line) so.table_ok (ap is_none m.free) in
+        let ok = table_more t (digits_word 7 line) (section_at 12 line) (section_at 22 line) so.table_ok (ap is_none m.free) in
         more h.next (added t line) (let l = h.shorter in omega arith) (one_less left) (modules_more room due start t (added t line) u h.next left so a ok p)
         (sym (past_module u h.next t (added t line) left a p) ∙ e)
 
@@ -215,18 +215,18 @@ ended_none u e = by u.rest (λ l. not_ended_yet u.spot u.rest l)
 
 record RowLine (last : ℕ) (u : Unread) (h : HasLine u) : Type 0 where
   pub has : HasForm row_form h.line
-  pub row : is_row last (word_at 3 h.line) (bytes_at 8 16 h.line) ≡ true
-  pub above : (word_at 3 h.line == last) ≡ false
+  pub row : is_row last (digits_word 3 h.line) (digits_bytes 8 16 h.line) ≡ true
+  pub above : (digits_word 3 h.line == last) ≡ false
 
 row_stage : (last : ℕ) (u : Unread) (h : HasLine u) → pointwise nat_eq h.line end_line ≡ false → on u (rows_refusal last) ≡ None → RowLine last u h
 row_stage last u h other e =
-    by (is_row last (word_at 3 h.line) (bytes_at 8 16 h.line)) (word_at 3 h.line == last) refl refl f.after
+    by (is_row last (digits_word 3 h.line) (digits_bytes 8 16 h.line)) (digits_word 3 h.line == last) refl refl f.after
   where
-    f : IsFormed row_form h.line (placed last u.spot h.line (rows_refusal (word_at 3 h.line) (past h.line u.spot) (ended_lines h.next.rest) (unended h.next.rest)))
+    f : IsFormed row_form h.line (placed last u.spot h.line (rows_refusal (digits_word 3 h.line) (past h.line u.spot) (ended_lines h.next.rest) (unended h.next.rest)))
     f = formed_none row_form u.spot h.line _ (sym (row_on last u h.next h.line h.read other) ∙ e)
 
-    by : (a b : Bool) → is_row last (word_at 3 h.line) (bytes_at 8 16 h.line) ≡ a → (word_at 3 h.line == last) ≡ b
-        → cond a (cond b (Some (Twice (word_at 3 h.line))) (rows_refusal (word_at 3 h.line) (past h.line u.spot) (ended_lines h.next.rest) (unended h.next.rest))) (line_fault u.spot) ≡ None → RowLine last u h
+    by : (a b : Bool) → is_row last (digits_word 3 h.line) (digits_bytes 8 16 h.line) ≡ a → (digits_word 3 h.line == last) ≡ b
+        → cond a (cond b (Some (Twice (digits_word 3 h.line))) (rows_refusal (digits_word 3 h.line) (past h.line u.spot) (ended_lines h.next.rest) (unended h.next.rest))) (line_fault u.spot) ≡ None → RowLine last u h
     by true false p q e = record { has = f.has; row = p; above = q }
     by _ _ p q e = absurd cc
 
@@ -244,7 +244,7 @@ rows_stage (suc n) start last memory u short even so e =
         → MemoryLines start
     by true p more =
         let w = went end_refusal u end_line h ((bytes_eq-Decides h.line end_line).0 p)
-        (sym (line_on (rows_refusal last) u h.next h.line h.read ∙ ap (λ b. cond b (end_refusal (past h.line u.spot) (ended_lines h.next.rest) (unended h.next.rest)) (formed row_form u.spot h.line (placed last u.spot h.line (rows_refusal (word_at 3 h.line) (past h.line u.spot) (ended_lines h.next.rest) (unended h.next.rest))))) p) ∙ e) in
+        (sym (line_on (rows_refusal last) u h.next h.line h.read ∙ ap (λ b. cond b (end_refusal (past h.line u.spot) (ended_lines h.next.rest) (unended h.next.rest)) (formed row_form u.spot h.line (placed last u.spot h.line (rows_refusal (digits_word 3 h.line) (past h.line u.spot) (ended_lines h.next.rest) (unended h.next.rest))))) p) ∙ e) in
         let none = ended_none w.next w.none in
         record {
           memory = memory ++ replicate (65536 - length memory) 0;
@@ -252,8 +252,8 @@ rows_stage (suc n) start last memory u short even so e =
         }
     by false p more =
         let r = row_stage last u h p e in
-        let at = word_at 3 h.line in
-        let grown : List ℕ = (memory ++ replicate (at - length memory) 0) ++ bytes_at 8 16 h.line in
+        let at = digits_word 3 h.line in
+        let grown : List ℕ = (memory ++ replicate (at - length memory) 0) ++ digits_bytes 8 16 h.line in
         let a = adds_row last u h.next h.line h.read p r.has at memory grown refl r.row r.above refl in
         more h.next at grown (let l = h.shorter in omega arith) a.even (rows_more start.rest last at memory grown u h.next a.even so a) (sym a.refusal ∙ e)
 

@@ -10,7 +10,7 @@ use Rattle.texts.proofs.HexLemmas.{read_hex-encode}
 use Rattle.texts.proofs.LawLemmas.{words_are_read, word_bytes}
 use Rattle.texts.specs.Hexadecimals.{hex_word}
 use Rattle.image_text.specs.declared.ImageFault.{ImageFault}
-use Rattle.image_text.specs.Refusal.{Spot, fits, has_form, is_bad, bad_digit, formed, bytes_at, word_at}
+use Rattle.image_text.specs.Refusal.{Spot, fits, has_form, is_bad, bad_digit, formed, digits_bytes, digits_word}
 use Rattle.image_text.specs.internal.Reading.{HasForm, CodedAt}
 
 pub form_length : (form line : List ℕ) → has_form form line ≡ true → length form ≡ length line
@@ -106,12 +106,12 @@ digit_is c e =
 
 -- bytes that stand as digits at a place
 pub coded_at : (line rest : List ℕ) (from n : ℕ) (bytes : List ℕ) → 0 < n → IsBytes bytes → length bytes ≡ n → drop from line ≡ encode_lower bytes ++ rest
-    → CodedAt line from n × (bytes_at from n line ≡ bytes)
+    → CodedAt line from n × (digits_bytes from n line ≡ bytes)
 coded_at line rest from n bytes some are len e =
     let twice : length (encode_lower bytes) ≡ 2 * n = omega (arith, length-encode_with lower_digits bytes, len) in
     let range : from + 2 * n - from ≡ 2 * n = omega arith in
     let part : slice_range line from (from + 2 * n) ≡ encode_lower bytes = rw range (ap (take (2 * n)) e ∙ take_at (encode_lower bytes) rest (2 * n) twice) in
-    let value : bytes_at from n line ≡ bytes = ap (λ (l : List ℕ). unwrap_or (read_hex n l) []) part ∙ ap (λ o. unwrap_or o []) (read_hex-encode n bytes len are) in (
+    let value : digits_bytes from n line ≡ bytes = ap (λ (l : List ℕ). unwrap_or (read_hex n l) []) part ∙ ap (λ o. unwrap_or o []) (read_hex-encode n bytes len are) in (
       record {
         within = omega (arith, length-drop from line, ap length e, length-append (encode_lower bytes) rest, twice, some);
         are_bytes = subst IsBytes (sym value) are;
@@ -192,7 +192,7 @@ after_four form line h = by d.bytes d.is d.are d.count
     by _ is are e = absurd (omega arith)
 
 -- a word at a place of a line
-pub word_here : (line rest : List ℕ) (from w : ℕ) → w < 65536 → drop from line ≡ hex_word w ++ rest → CodedAt line from 2 × (word_at from line ≡ w)
+pub word_here : (line rest : List ℕ) (from w : ℕ) → w < 65536 → drop from line ≡ hex_word w ++ rest → CodedAt line from 2 × (digits_word from line ≡ w)
 unfolding encode_with
 word_here line rest from w l e =
     let c = coded_at line rest from 2 (w / 256 ∷ w % 256 ∷ []) (omega arith) (word_bytes w l) refl e in

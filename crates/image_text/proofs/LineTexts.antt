@@ -4,13 +4,13 @@ use Rattle.std.proofs.lemmas.List.{append-nil}
 use Rattle.hex.specs.Hex.{encode_with, encode_lower}
 use Rattle.texts.specs.Hexadecimals.{hex_word}
 use Rattle.image_text.specs.ImageText.{key_line, handler_line, module_line, row_line}
-use Rattle.image_text.specs.Refusal.{key_form, handler_form, module_form, row_form, bytes_at, word_at, section_at}
+use Rattle.image_text.specs.Refusal.{key_form, handler_form, module_form, row_form, digits_bytes, digits_word, section_at}
 use Rattle.image_text.specs.internal.Reading.{HasForm, CodedAt}
 use Rattle.image_text.proofs.FormLemmas.{after_word, after_digits, after_four, word_here, coded_at, nothing_left, marks}
 
 pub record IsKeyLine (line : List ℕ) : Type 0 where
   pub coded : CodedAt line 4 16
-  pub text : line ≡ key_line (bytes_at 4 16 line)
+  pub text : line ≡ key_line (digits_bytes 4 16 line)
 
 pub key_line_of : (line : List ℕ) → HasForm key_form line → IsKeyLine line
 key_line_of line h =
@@ -25,8 +25,8 @@ key_line_of line h =
 
 pub record IsHandlerLine (line : List ℕ) : Type 0 where
   pub coded : CodedAt line 8 2
-  pub small : word_at 8 line < 65536
-  pub text : line ≡ handler_line (word_at 8 line)
+  pub small : digits_word 8 line < 65536
+  pub text : line ≡ handler_line (digits_word 8 line)
 
 pub handler_line_of : (line : List ℕ) → HasForm handler_form line → IsHandlerLine line
 handler_line_of line h =
@@ -43,8 +43,8 @@ handler_line_of line h =
 pub record IsRowLine (line : List ℕ) : Type 0 where
   pub at : CodedAt line 3 2
   pub row : CodedAt line 8 16
-  pub small : word_at 3 line < 65536
-  pub text : line ≡ row_line (word_at 3 line) (bytes_at 8 16 line)
+  pub small : digits_word 3 line < 65536
+  pub text : line ≡ row_line (digits_word 3 line) (digits_bytes 8 16 line)
 
 pub row_line_of : (line : List ℕ) → HasForm row_form line → IsRowLine line
 unfolding encode_with
@@ -63,7 +63,7 @@ row_line_of line h =
       row = r.0;
       small = let l = a.small in omega (arith, c.1);
       text = whole ∙ ap (λ (l : List ℕ). codes "at " ++ (hex_word a.word ++ (32 ∷ l))) (ap (λ (l : List ℕ). encode_lower d.bytes ++ l) none ∙ append-nil (encode_lower d.bytes) ∙ ap encode_lower (sym r.1))
-          ∙ ap (λ (n : ℕ). codes "at " ++ (hex_word n ++ (32 ∷ encode_lower (bytes_at 8 16 line)))) (sym c.1);
+          ∙ ap (λ (n : ℕ). codes "at " ++ (hex_word n ++ (32 ∷ encode_lower (digits_bytes 8 16 line)))) (sym c.1);
     }
 
 -- a module's line, by its five words
@@ -76,8 +76,8 @@ pub record IsModuleLine (line : List ℕ) : Type 0 where
   pub text_end : CodedAt line 17 2
   pub ram_start : CodedAt line 22 2
   pub ram_end : CodedAt line 27 2
-  pub small : word_at 7 line < 65536
-  pub text : (id : ℕ) → line ≡ module_line record { id = id; vendor = word_at 7 line; text = section_at 12 line; ram = section_at 22 line }
+  pub small : digits_word 7 line < 65536
+  pub text : (id : ℕ) → line ≡ module_line record { id = id; vendor = digits_word 7 line; text = section_at 12 line; ram = section_at 22 line }
 
 pub module_line_of : (line : List ℕ) → HasForm module_form line → IsModuleLine line
 unfolding encode_with
@@ -112,8 +112,8 @@ module_line_of line h =
       small = let l = v.small in omega (arith, w7.1);
       text = λ id. whole
           ∙ ap (λ (n : ℕ). words_line n a.word b.word c.word d.word []) (sym w7.1)
-          ∙ ap (λ (n : ℕ). words_line (word_at 7 line) n b.word c.word d.word []) (sym w12.1)
-          ∙ ap (λ (n : ℕ). words_line (word_at 7 line) (word_at 12 line) n c.word d.word []) (sym w17.1)
-          ∙ ap (λ (n : ℕ). words_line (word_at 7 line) (word_at 12 line) (word_at 17 line) n d.word []) (sym w22.1)
-          ∙ ap (λ (n : ℕ). words_line (word_at 7 line) (word_at 12 line) (word_at 17 line) (word_at 22 line) n []) (sym w27.1);
+          ∙ ap (λ (n : ℕ). words_line (digits_word 7 line) n b.word c.word d.word []) (sym w12.1)
+          ∙ ap (λ (n : ℕ). words_line (digits_word 7 line) (digits_word 12 line) n c.word d.word []) (sym w17.1)
+          ∙ ap (λ (n : ℕ). words_line (digits_word 7 line) (digits_word 12 line) (digits_word 17 line) n d.word []) (sym w22.1)
+          ∙ ap (λ (n : ℕ). words_line (digits_word 7 line) (digits_word 12 line) (digits_word 17 line) (digits_word 22 line) n []) (sym w27.1);
     }

@@ -26,7 +26,7 @@ use Rattle.image_text.specs.declared.ImageFault.{ImageFault}
 use Rattle.image_text.specs.declared.ImageFault.TheVariants.{Line, Twice}
 use Rattle.image_text.specs.Image.{Image, IsImage, AreNumbered}
 use Rattle.image_text.specs.ImageText.{ended, first_line, key_line, handler_line, count_line, module_line, row_line, end_line, count_text, modules_text, is_zero, rows_text, memory_text, text_after_key, image_text}
-use Rattle.image_text.specs.Refusal.{Spot, past, key_form, handler_form, module_form, row_form, fits, has_form, is_bad, bytes_at, word_at, section_at, count_of, is_row, rows_refusal, end_refusal, taken, added, one_less, modules_refusal, counted, count_refusal, handler_refusal, key_refusal, first_refusal, refusal_of}
+use Rattle.image_text.specs.Refusal.{Spot, past, key_form, handler_form, module_form, row_form, fits, has_form, is_bad, digits_bytes, digits_word, section_at, count_of, is_row, rows_refusal, end_refusal, taken, added, one_less, modules_refusal, counted, count_refusal, handler_refusal, key_refusal, first_refusal, refusal_of}
 use Rattle.image_text.specs.internal.Reading.{HasForm, due_next}
 use Rattle.image_text.proofs.WholeText.{few}
 use Rattle.image_text.proofs.FormLemmas.{formed_ok, marks, bytes_cons, bytes_nil, word_here, coded_at}
@@ -121,7 +121,7 @@ lined_four w form line l h = lined_bytes 2 (w / 256 ∷ w % 256 ∷ []) form lin
 
 record KeyText (key : List ℕ) : Type 0 where
   pub lined : Lined key_form (key_line key)
-  pub key_is : bytes_at 4 16 (key_line key) ≡ key
+  pub key_is : digits_bytes 4 16 (key_line key) ≡ key
 
 key_text : (key : List ℕ) → length key ≡ 16 → IsBytes key → KeyText key
 key_text key e b = record {
@@ -131,7 +131,7 @@ key_text key e b = record {
 
 record HandlerText (sp : ℕ) : Type 0 where
   pub lined : Lined handler_form (handler_line sp)
-  pub sp_is : word_at 8 (handler_line sp) ≡ sp
+  pub sp_is : digits_word 8 (handler_line sp) ≡ sp
 
 handler_text : (sp : ℕ) → sp < 65536 → HandlerText sp
 unfolding encode_with
@@ -142,8 +142,8 @@ handler_text sp l = record {
 
 record RowText (at : ℕ) (row : List ℕ) : Type 0 where
   pub lined : Lined row_form (row_line at row)
-  pub at_is : word_at 3 (row_line at row) ≡ at
-  pub row_is : bytes_at 8 16 (row_line at row) ≡ row
+  pub at_is : digits_word 3 (row_line at row) ≡ at
+  pub row_is : digits_bytes 8 16 (row_line at row) ≡ row
 
 text_of_row : (at : ℕ) (row : List ℕ) → at < 65536 → length row ≡ 16 → IsBytes row → RowText at row
 unfolding encode_with
@@ -164,7 +164,7 @@ record IsSmall (m : Module) : Type 0 where
 
 record ModuleText (m : Module) : Type 0 where
   pub lined : Lined module_form (module_line m)
-  pub vendor_is : word_at 7 (module_line m) ≡ m.vendor
+  pub vendor_is : digits_word 7 (module_line m) ≡ m.vendor
   pub text_is : section_at 12 (module_line m) ≡ m.text
   pub ram_is : section_at 22 (module_line m) ≡ m.ram
 
@@ -258,7 +258,7 @@ modules_one (m ∷ ms) (n ∷ ns) k g h r s a b c d p q e =
     let t = line_one (module_line m) (module_line n) (modules_text ms r) (modules_text ns s) x.lined.plain y.lined.plain e in
     let u = modules_one ms ns (k + 1) g h r s a.2 b.2 c.2 d.2 p q t.1 in
     let one : m ≡ n = same_module m n (a.0 ∙ sym b.0)
-    (sym x.vendor_is ∙ ap (word_at 7) t.0 ∙ y.vendor_is)
+    (sym x.vendor_is ∙ ap (digits_word 7) t.0 ∙ y.vendor_is)
     (sym x.text_is ∙ ap (section_at 12) t.0 ∙ y.text_is)
     (sym x.ram_is ∙ ap (section_at 22) t.0 ∙ y.ram_is) in
     (ap (λ (z : Module). z ∷ ms) one ∙ ap (λ (z : List Module). n ∷ z) u.0, u.1)
@@ -289,7 +289,7 @@ row_one a b x y r s la lb lx ly p q e =
     let t = text_of_row a x la lx p in
     let u = text_of_row b y lb ly q in
     let k = line_one (row_line a x) (row_line b y) r s t.lined.plain u.lined.plain e in
-    (sym t.at_is ∙ ap (word_at 3) k.0 ∙ u.at_is, sym t.row_is ∙ ap (bytes_at 8 16) k.0 ∙ u.row_is, k.1)
+    (sym t.at_is ∙ ap (digits_word 3) k.0 ∙ u.at_is, sym t.row_is ∙ ap (digits_bytes 8 16) k.0 ∙ u.row_is, k.1)
 
 first_row : (n : ℕ) (memory : List ℕ) → length memory ≡ 16 * suc n → length (take 16 memory) ≡ 16
 first_row n memory l = omega (arith, length-take 16 memory)
@@ -385,11 +385,11 @@ images_of_one_text i j p q e =
     let ki = key_text i.node_key p.sixteen p.key_bytes in
     let kj = key_text j.node_key q.sixteen q.key_bytes in
     let b = line_one (key_line i.node_key) (key_line j.node_key) _ _ ki.lined.plain kj.lined.plain a.1 in
-    let key : i.node_key ≡ j.node_key = sym ki.key_is ∙ ap (bytes_at 4 16) b.0 ∙ kj.key_is in
+    let key : i.node_key ≡ j.node_key = sym ki.key_is ∙ ap (digits_bytes 4 16) b.0 ∙ kj.key_is in
     let hi = handler_text i.handler_sp p.small_sp in
     let hj = handler_text j.handler_sp q.small_sp in
     let c = line_one (handler_line i.handler_sp) (handler_line j.handler_sp) _ _ hi.lined.plain hj.lined.plain b.1 in
-    let sp : i.handler_sp ≡ j.handler_sp = sym hi.sp_is ∙ ap (word_at 8) c.0 ∙ hj.sp_is in
+    let sp : i.handler_sp ≡ j.handler_sp = sym hi.sp_is ∙ ap (digits_word 8) c.0 ∙ hj.sp_is in
     let d = count_one j.table.room i.table.given j.table.given (modules_text i.table.modules rest_i) (modules_text j.table.modules rest_j) (few_given i p) (few_given j q)
     (sym (ap (λ (n : ℕ). count_text n i.table.given (modules_text i.table.modules rest_i)) room) ∙ c.1) in
     let f = modules_one i.table.modules j.table.modules 1 i.table.given j.table.given rest_i rest_j p.numbered q.numbered pt.modules qt.modules
@@ -426,7 +426,7 @@ row_ok at last row rest s even high small above len are filled =
     let next : Spot = past line s in
     at_line (rows_refusal last) s line rest t.lined.plain
     ∙ formed_ok row_form s (row_line at row) _ t.lined.has
-    ∙ ap (λ (a : ℕ). placed_by last s a (bytes_at 8 16 line) (says (rows_refusal a) next rest)) t.at_is
+    ∙ ap (λ (a : ℕ). placed_by last s a (digits_bytes 8 16 line) (says (rows_refusal a) next rest)) t.at_is
     ∙ ap (λ (r : List ℕ). placed_by last s at r (says (rows_refusal at) next rest)) t.row_is
     ∙ ap (λ (b : Bool). cond b (cond (at == last) (Some (Twice at)) (says (rows_refusal at) next rest)) (Some (Line s.number))) k.0
     ∙ ap (λ (b : Bool). cond b (Some (Twice at)) (says (rows_refusal at) next rest)) k.1

@@ -9,7 +9,7 @@ use Rattle.std.specs.Cmp.Lexicographic.{pointwise}
 use Rattle.std.proofs.lemmas.Bool.{not-true, and_parts}
 use Rattle.image_text.specs.declared.ImageFault.{ImageFault}
 use Rattle.image_text.specs.declared.ImageFault.TheVariants.{Line, Twice}
-use Rattle.image_text.specs.Refusal.{Spot, past, formed, row_form, placed, is_row, word_at, bytes_at, rows_refusal, end_refusal}
+use Rattle.image_text.specs.Refusal.{Spot, past, formed, row_form, placed, is_row, digits_word, digits_bytes, rows_refusal, end_refusal}
 use Rattle.image_text.proofs.FormLemmas.{formed_ok}
 use Rattle.image_text.proofs.LineTexts.{row_line_of}
 use Rattle.image_text.proofs.StageLemmas.{line_on, next_on}
@@ -153,7 +153,7 @@ is_placed last a row e =
 module _ (last : ℕ) (old new : Unread) (line : List ℕ) (read : ReadLine old line new) (other : pointwise nat_eq line end_line ≡ false) where
   -- what the rules say behind this row
   abbrev behind : Option ImageFault
-  behind = rows_refusal (word_at 3 line) (past line old.spot) (ended_lines new.rest) (unended new.rest)
+  behind = rows_refusal (digits_word 3 line) (past line old.spot) (ended_lines new.rest) (unended new.rest)
 
   pub row_on : on old (rows_refusal last) ≡ formed row_form old.spot line (placed last old.spot line behind)
   row_on =
@@ -161,31 +161,31 @@ module _ (last : ℕ) (old new : Unread) (line : List ℕ) (read : ReadLine old 
       ∙ ap (λ b. cond b (end_refusal (past line old.spot) (ended_lines new.rest) (unended new.rest)) (formed row_form old.spot line (placed last old.spot line behind))) other
 
   module _ (form : HasForm row_form line) where
-    pub row_says : (c d : Bool) → is_row last (word_at 3 line) (bytes_at 8 16 line) ≡ c → (word_at 3 line == last) ≡ d
-        → on old (rows_refusal last) ≡ cond c (cond d (Some (Twice (word_at 3 line))) behind) (Some (Line old.spot.number))
+    pub row_says : (c d : Bool) → is_row last (digits_word 3 line) (digits_bytes 8 16 line) ≡ c → (digits_word 3 line == last) ≡ d
+        → on old (rows_refusal last) ≡ cond c (cond d (Some (Twice (digits_word 3 line))) behind) (Some (Line old.spot.number))
     row_says c d e f =
         row_on ∙ formed_ok row_form old.spot line _ form
-        ∙ ap (λ b. cond b (cond (word_at 3 line == last) (Some (Twice (word_at 3 line))) behind) (Some (Line old.spot.number))) e
-        ∙ ap (λ b. cond c (cond b (Some (Twice (word_at 3 line))) behind) (Some (Line old.spot.number))) f
+        ∙ ap (λ b. cond b (cond (digits_word 3 line == last) (Some (Twice (digits_word 3 line))) behind) (Some (Line old.spot.number))) e
+        ∙ ap (λ b. cond c (cond b (Some (Twice (digits_word 3 line))) behind) (Some (Line old.spot.number))) f
 
     -- the row is added
-    pub adds_row : (at : ℕ) (memory grown : List ℕ) → at ≡ word_at 3 line → is_row last (word_at 3 line) (bytes_at 8 16 line) ≡ true → (word_at 3 line == last) ≡ false
-        → grown ≡ (memory ++ replicate (at - length memory) 0) ++ bytes_at 8 16 line → AddsRow last at old new memory grown
+    pub adds_row : (at : ℕ) (memory grown : List ℕ) → at ≡ digits_word 3 line → is_row last (digits_word 3 line) (digits_bytes 8 16 line) ≡ true → (digits_word 3 line == last) ≡ false
+        → grown ≡ (memory ++ replicate (at - length memory) 0) ++ digits_bytes 8 16 line → AddsRow last at old new memory grown
     adds_row at memory grown is e f m =
         let k = row_line_of line form in
         let r = k.row in
-        let p = is_placed last (word_at 3 line) (bytes_at 8 16 line) e in
+        let p = is_placed last (digits_word 3 line) (digits_bytes 8 16 line) e in
         let above = p.above in
-        let other_than : word_at 3 line ≢ last = grind (arith, nat_tests) in
+        let other_than : digits_word 3 line ≢ last = grind (arith, nat_tests) in
         record {
-          row = bytes_at 8 16 line;
+          row = digits_bytes 8 16 line;
           sixteen = r.count;
           are_bytes = r.are_bytes;
           small = let l = k.small in omega (arith, is);
           filled = p.filled;
           even = ap (λ (n : ℕ). n % 16) is ∙ p.even;
           above = omega arith;
-          text = let t = read in t.text ∙ ap (λ (l : List ℕ). ended l new.rest) (k.text ∙ ap (λ (n : ℕ). row_line n (bytes_at 8 16 line)) (sym is));
-          refusal = row_says true false e f ∙ next_on (rows_refusal (word_at 3 line)) old new line read ∙ ap (λ (n : ℕ). on new (rows_refusal n)) (sym is);
+          text = let t = read in t.text ∙ ap (λ (l : List ℕ). ended l new.rest) (k.text ∙ ap (λ (n : ℕ). row_line n (digits_bytes 8 16 line)) (sym is));
+          refusal = row_says true false e f ∙ next_on (rows_refusal (digits_word 3 line)) old new line read ∙ ap (λ (n : ℕ). on new (rows_refusal n)) (sym is);
           memory_is = m;
         }

@@ -11,7 +11,7 @@ use Rattle.image_text.specs.declared.ImageFault.{ImageFault}
 use Rattle.image_text.specs.declared.ImageFault.TheVariants.{Line, Table as TableRefuses}
 use Rattle.image_text.specs.Image.{AreNumbered}
 use Rattle.image_text.specs.ImageText.{ended, modules_text, module_line}
-use Rattle.image_text.specs.Refusal.{Spot, past, formed, module_form, modules_refusal, rows_refusal, end_refusal, section_at, word_at, added, taken, one_less}
+use Rattle.image_text.specs.Refusal.{Spot, past, formed, module_form, modules_refusal, rows_refusal, end_refusal, section_at, digits_word, added, taken, one_less}
 use Rattle.image_text.specs.internal.Reading.{Unread, on, ReadLine, HasForm, due_next, AddsModule, IsLeft, IsGiven, ModulesSoFar, PassedModules}
 use Rattle.image_text.proofs.FormLemmas.{formed_ok}
 use Rattle.image_text.proofs.LineTexts.{module_line_of}
@@ -109,7 +109,7 @@ pub modules_more : (room : ℕ) (due : Option ℕ) (start : Unread) (t u : Table
     → ModulesSoFar room due start t now left → AddsModule now next t u → IsTable u → due_next left (ended_lines now.rest) ≡ true → ModulesSoFar room due start u next (one_less left)
 modules_more room due start t u now next left h a ok e =
     let line = a.line in
-    let m : Module = record { id = t.given + 1; vendor = word_at 7 line; text = section_at 12 line; ram = section_at 22 line } in
+    let m : Module = record { id = t.given + 1; vendor = digits_word 7 line; text = section_at 12 line; ram = section_at 22 line } in
     let k = module_line_of line a.form in
     let r = a.read in
     let held = h.all_held in

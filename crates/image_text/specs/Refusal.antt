@@ -73,15 +73,15 @@ formed form s line rest = if has_form form line then digit_or (bad_digit form li
 -- ---- values
 
 -- the bytes that so many pairs of digits write from a place of a line on
-abbrev pub bytes_at : ℕ → ℕ → List ℕ → List ℕ
-bytes_at from count line = unwrap_or (read_hex count (slice_range line from (from + 2 * count))) []
+abbrev pub digits_bytes : ℕ → ℕ → List ℕ → List ℕ
+digits_bytes from count line = unwrap_or (read_hex count (slice_range line from (from + 2 * count))) []
 
 -- the word of the four digits at a place of a line
-abbrev pub word_at : ℕ → List ℕ → ℕ
-word_at from line = unwrap_or (read_hex_word (slice_range line from (from + 4))) 0
+abbrev pub digits_word : ℕ → List ℕ → ℕ
+digits_word from line = unwrap_or (read_hex_word (slice_range line from (from + 4))) 0
 
 abbrev pub section_at : ℕ → List ℕ → Section
-section_at from line = record { start = word_at from line; end = word_at (from + 5) line }
+section_at from line = record { start = digits_word from line; end = digits_word (from + 5) line }
 
 -- how many modules a line announces
 abbrev pub count_of : List ℕ → Option ℕ
@@ -101,8 +101,8 @@ is_row last a row = (a % 16 == 0) && not (nat_lt a FIRST_ROW) && not (is_zero ro
 
 abbrev pub placed : ℕ → Spot → List ℕ → Option ImageFault → Option ImageFault
 placed last s line rest =
-    if is_row last (word_at 3 line) (bytes_at 8 16 line)
-    then (if word_at 3 line == last then Some (Twice (word_at 3 line)) else rest)
+    if is_row last (digits_word 3 line) (digits_bytes 8 16 line)
+    then (if digits_word 3 line == last then Some (Twice (digits_word 3 line)) else rest)
     else line_fault s
 
 -- the rows and the end; `last` is the address of the row before, at first that of the row below all
@@ -111,7 +111,7 @@ rows_refusal last s [] tail = line_fault s
 rows_refusal last s (line ∷ more) tail =
     if pointwise nat_eq line end_line
     then end_refusal (past line s) more tail
-    else formed row_form s line (placed last s line (rows_refusal (word_at 3 line) (past line s) more tail))
+    else formed row_form s line (placed last s line (rows_refusal (digits_word 3 line) (past line s) more tail))
 
 -- the next module, where the table takes it
 abbrev pub taken : Option TableFault → ℕ → Option ImageFault → Option ImageFault
@@ -119,7 +119,7 @@ taken refused id rest = option_or (option_map (TableRefuses id) refused) rest
 
 -- the table with the module of a line
 abbrev pub added : Table → List ℕ → Table
-added t line = with_module t (word_at 7 line) (section_at 12 line) (section_at 22 line)
+added t line = with_module t (digits_word 7 line) (section_at 12 line) (section_at 22 line)
 
 -- whether the next line should be a module's: in version 2 so many are due, in version 1 the line's form tells
 abbrev pub is_due : Option ℕ → List ℕ → Bool
@@ -152,7 +152,7 @@ count_refusal room s lines tail = if room == 8 then modules_refusal (empty_table
 abbrev pub handler_refusal : ℕ → Spot → List (List ℕ) → List ℕ → Option ImageFault
 handler_refusal room s [] tail = line_fault s
 handler_refusal room s (line ∷ more) tail =
-    formed handler_form s line (if word_at 8 line % 2 == 0 then count_refusal room (past line s) more tail else line_fault s)
+    formed handler_form s line (if digits_word 8 line % 2 == 0 then count_refusal room (past line s) more tail else line_fault s)
 
 abbrev pub key_refusal : ℕ → Spot → List (List ℕ) → List ℕ → Option ImageFault
 key_refusal room s [] tail = line_fault s

@@ -1,7 +1,7 @@
 //! The forms of lines, in which `#` stands for a hexadecimal digit.
 
 ghost use Rattle.std.specs.Prelude.{◌≡◌, ◌+◌, ◌*◌, ◌<◌, ◌^◌, ◌≤◌, length, Option, Some, OnOk, IfErr};
-ghost use Rattle.image_text.specs.Refusal.{has_form as has_form_lem, fits as fits_lem, is_bad as is_bad_lem, bad_digit as bad_digit_lem, bytes_at as bytes_at_lem, word_at as word_at_lem, section_at as section_at_lem, Spot, formed as formed_lem};
+ghost use Rattle.image_text.specs.Refusal.{has_form as has_form_lem, fits as fits_lem, is_bad as is_bad_lem, bad_digit as bad_digit_lem, digits_bytes as digits_bytes_lem, digits_word as digits_word_lem, section_at as section_at_lem, Spot, formed as formed_lem};
 ghost use Rattle.image_text.specs.internal.Reading.{HasForm, CodedAt};
 
 use crate::ImageFault;
@@ -84,7 +84,7 @@ pub(crate) fn formed(line: Line<'_>, form: &[u8]) -> Result<(), ImageFault>
 /// The sixteen bytes that stand as digits at a place of a line.
 pub(crate) fn sixteen_at(line: &[u8], from: usize) -> [u8; 16]
     requires { CodedAt line.now from 16 }
-    ensures { result ≡ bytes_at_lem from 16 line.now }
+    ensures { result ≡ digits_bytes_lem from 16 line.now }
 {
     match read_hex_key(&line[from..from + 32]) {
         Some(bytes) => bytes,
@@ -93,9 +93,9 @@ pub(crate) fn sixteen_at(line: &[u8], from: usize) -> [u8; 16]
 }
 
 /// The word of the four digits at a place of a line.
-pub(crate) fn word_at(line: &[u8], from: usize) -> u16
+pub(crate) fn digits_word(line: &[u8], from: usize) -> u16
     requires { CodedAt line.now from 2 }
-    ensures { result ≡ word_at_lem from line.now }
+    ensures { result ≡ digits_word_lem from line.now }
 {
     match read_hex_word(&line[from..from + 4]) {
         Some(word) => word,
@@ -110,7 +110,7 @@ pub(crate) fn section_at(line: &[u8], from: usize) -> Section
     ensures { result ≡ section_at_lem from line.now }
 {
     Section {
-        start: word_at(line, from),
-        end: word_at(line, from + 5),
+        start: digits_word(line, from),
+        end: digits_word(line, from + 5),
     }
 }

@@ -11,7 +11,7 @@ ghost use Rattle.image_text.specs.declared.numbers.TheConstants.{BEFORE_ROWS, FI
 ghost use Rattle.mod_layout.specs.Table.{empty_table};
 ghost use Rattle.mod_layout.specs.Tables.{IsTable};
 
-use crate::forms::{HANDLER, KEY, MODULE, ROW, formed, section_at, sixteen_at, word_at};
+use crate::forms::{HANDLER, KEY, MODULE, ROW, formed, section_at, sixteen_at, digits_word};
 use crate::lines::Lines;
 use crate::numbers::{BEFORE_ROWS, FIRST_ROW, count_of, other_version};
 use crate::{Image, ImageFault};
@@ -55,7 +55,7 @@ pub(crate) fn read_handler(lines: &mut Lines<'_>) -> Result<u16, ImageFault>
 {
     let line = lines.next()?;
     formed(line, HANDLER)?;
-    let handler_sp = word_at(line.text, 8);
+    let handler_sp = digits_word(line.text, 8);
     if handler_sp % 2 != 0 {
         return Err(ImageFault::Line { n: line.number });
     }
@@ -107,7 +107,7 @@ fn add_module(lines: &mut Lines<'_>, table: &mut ModuleTable, module: u64) -> Re
 {
     let line = lines.next()?;
     formed(line, MODULE)?;
-    let vendor = word_at(line.text, 7);
+    let vendor = digits_word(line.text, 7);
     let text = section_at(line.text, 12);
     let ram = section_at(line.text, 22);
     match table.add(vendor, text, ram) {
@@ -198,7 +198,7 @@ fn next_row(
         return Ok(None);
     }
     formed(line, ROW)?;
-    let at = word_at(line.text, 3);
+    let at = digits_word(line.text, 3);
     let row = sixteen_at(line.text, 8);
     if !is_row(last, at, &row) {
         return Err(ImageFault::Line { n: line.number });

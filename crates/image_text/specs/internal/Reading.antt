@@ -5,7 +5,7 @@ use Rattle.image_text.specs.declared.numbers.TheConstants.{BEFORE_ROWS, FIRST_RO
 use Rattle.image_text.specs.declared.ImageFault.{ImageFault}
 use Rattle.image_text.specs.Image.{AreNumbered}
 use Rattle.image_text.specs.ImageText.{ended, count_line, modules_text, memory_text, row_line, end_line, is_zero, rows_text}
-use Rattle.image_text.specs.Refusal.{Spot, past, has_form, bad_digit, bytes_at, count_refusal, modules_refusal, rows_refusal, end_refusal, module_form, section_at, added}
+use Rattle.image_text.specs.Refusal.{Spot, past, has_form, bad_digit, digits_bytes, count_refusal, modules_refusal, rows_refusal, end_refusal, module_form, section_at, added}
 use Rattle.mod_layout.specs.Table.{Table, empty_table, fault_of}
 use Rattle.mod_layout.specs.Tables.{IsTable}
 use Rattle.hex.specs.Hex.{IsBytes, encode_lower}
@@ -34,9 +34,9 @@ pub record HasForm (form line : List ℕ) : Type 0 where
 -- at this place of a line so many bytes stand as digits
 pub record CodedAt (line : List ℕ) (from n : ℕ) : Type 0 where
   pub within : from + 2 * n ≤ length line
-  pub are_bytes : IsBytes (bytes_at from n line)
-  pub count : length (bytes_at from n line) ≡ n
-  pub text : slice_range line from (from + 2 * n) ≡ encode_lower (bytes_at from n line)
+  pub are_bytes : IsBytes (digits_bytes from n line)
+  pub count : length (digits_bytes from n line) ≡ n
+  pub text : slice_range line from (from + 2 * n) ≡ encode_lower (digits_bytes from n line)
 
 -- a line was read: what the rules say of the text from it on is what they say from the next line on
 pub record Passed (line : List ℕ) (before after : Spot → List (List ℕ) → List ℕ → Option ImageFault) (old new : Unread) : Type 0 where

@@ -14,8 +14,8 @@ returns-in_err-formed-clause-refused c = let p = err_from_is_err_and c.from_resi
     (due_line c.args.lines.now c.next.new.self c.args.table.now left c.in_ok-line.line.text.now c.in_ok-line.ensures.line due)
     c.in_ok-line.ensures.spot.0 c.in_ok-line.ensures.spot.1 c.in_err-formed.ensures.err)
 
-pub word_at-vendor-requires : goal.word_at-vendor-requires
-word_at-vendor-requires c = let k = module_line_of c.in_ok-line.line.text.now c.in_ok-formed.ensures.ok in k.vendor
+pub digits_word-vendor-requires : goal.digits_word-vendor-requires
+digits_word-vendor-requires c = let k = module_line_of c.in_ok-line.line.text.now c.in_ok-formed.ensures.ok in k.vendor
 
 pub section_at-text-requires-clause-start : goal.section_at-text-requires-clause-start
 section_at-text-requires-clause-start c = let k = module_line_of c.in_ok-line.line.text.now c.in_ok-formed.ensures.ok in k.text_start
