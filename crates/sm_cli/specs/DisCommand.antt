@@ -2,7 +2,7 @@
 use Rattle.std.specs.Prelude.{ℕ, zero, suc, ◌+◌, ◌-◌, ◌*◌, ◌%◌, ◌==◌, ◌&&◌, nat_lt, nat_le, List, [], ◌∷◌, ◌++◌, Option, Some, None, option_and_then, codes, slice_index, if◌then◌else◌}
 use Rattle.std.specs.Option.{option_map_or}
 use Rattle.texts.specs.Hexadecimals.{hex_word, read_hex_word}
-use Rattle.sm_words.specs.Words.{word_of}
+use Rattle.sm_words.specs.Words.{word_at}
 use Rattle.insn_decode.specs.declared.insn.Insn.{Insn}
 use Rattle.insn_decode.specs.Code.{insn_of, length_at, length_or_one}
 use Rattle.insn_decode.specs.Text.{insn_text}
@@ -10,20 +10,16 @@ use Rattle.cli_calls.specs.Words.{Text}
 use Rattle.cli_files.specs.Files.{Held, an_image, image_file, need}
 use Rattle.cli_calls.specs.Command.{Outcome, done, nothing, Command}
 
--- the word at an address
-abbrev pub dis_word : List ℕ → ℕ → ℕ
-dis_word memory at = word_of (slice_index memory at) (slice_index memory (at + 1))
-
 -- the instruction at an address, where its words do not go past the last address
 unfoldable pub dis_insn : List ℕ → ℕ → Option Insn
 dis_insn memory at =
-    if nat_le (at + 2 * length_at (dis_word memory at)) 65536
-    then insn_of (dis_word memory at) (dis_word memory (at + 2)) (dis_word memory (at + 4))
+    if nat_le (at + 2 * length_at (word_at (slice_index memory) at)) 65536
+    then insn_of (word_at (slice_index memory) at) (word_at (slice_index memory) (at + 2)) (word_at (slice_index memory) (at + 4))
     else None
 
 -- a word and a space
 abbrev pub word_text : List ℕ → ℕ → List ℕ
-word_text memory at = hex_word (dis_word memory at) ++ codes " "
+word_text memory at = hex_word (word_at (slice_index memory) at) ++ codes " "
 
 -- one to three words
 abbrev pub words_text : List ℕ → ℕ → ℕ → List ℕ

@@ -1,6 +1,7 @@
 //! `dis IMAGE START END`: the instructions of an image, one a line.
-ghost use Rattle.std.specs.Prelude.{◌≡◌, ◌≤◌, ◌+◌, ◌%◌, ◌++◌, ℕ, IfOk, IfSome, map, drop, length, codes, option_map, option_and_then};
+ghost use Rattle.std.specs.Prelude.{◌≡◌, ◌≤◌, ◌+◌, ◌%◌, ◌++◌, ℕ, IfOk, IfSome, map, drop, length, codes, option_map, option_and_then, slice_index};
 ghost use Rattle.arrayvec.specs.ArrayString.{array_string_len};
+ghost use Rattle.sm_words.specs.Words.{word_at};
 ghost use Rattle.insn_decode.specs.Code.{IsDecoded, length_or_one};
 ghost use Rattle.texts.specs.Hexadecimals.{hex_word};
 ghost use Rattle.sm_io.specs.Sink.{Puts};
@@ -125,7 +126,7 @@ fn length_or_one(insn: Option<Insn>) -> u16
 // The word at an address, of which bytes past the last address are 0.
 fn dis_word(memory: &[u8], at: usize) -> u16
     requires { at ≤ 65540 }
-    ensures { result ≡ spec.dis_word memory.now at }
+    ensures { result ≡ word_at (slice_index memory.now) at }
 {
     let low = memory.get(at).copied().unwrap_or(0);
     let high = memory.get(at + 1).copied().unwrap_or(0);
