@@ -1,5 +1,5 @@
 -- The memory of a linked image holds bytes.
-use Rattle.std.proofs.Common.{◌⊎◌, inl, inr, ℕ, suc, ◌+◌, ◌-◌, ◌*◌, ◌/◌, ◌%◌, ◌<◌, ◌≤◌, List, [], ◌∷◌, ◌++◌, take, drop, length, Bool, true, false, Result, Ok, Err, arith, fold}
+use Rattle.std.proofs.Common.{◌⊎◌, inl, inr, ℕ, suc, ◌+◌, ◌-◌, ◌*◌, ◌/◌, ◌%◌, ◌<◌, ◌≤◌, List, [], ◌∷◌, ◌++◌, take, drop, length, Bool, true, false, cond, Result, Ok, Err, arith, fold}
 use Rattle.std.specs.Prelude.{All, slice_index}
 use Rattle.std.specs.List.{flat_map}
 use Rattle.std.proofs.lemmas.Bool.{cases_lt}
@@ -15,7 +15,7 @@ use Rattle.link_symbols.specs.Passes.{NumberedObject, numbered_objects, numbered
 use Rattle.link_symbols.specs.Parts.{is_loaded_head}
 use Rattle.linker.specs.Numbers.{Linking, numbers_in}
 use Rattle.linker.specs.Bytes.{put, bytes_at, word_bytes}
-use Rattle.linker.specs.Sections.{put_section_if, put_section, put_sections}
+use Rattle.linker.specs.Sections.{put_section, put_sections}
 use Rattle.linker.specs.Fields.{put_field, put_fields, with_field, or_same, target_address, target_size, symbol_sum}
 use Rattle.linker.specs.Stubs.{word_named, stub_of, put_stub, put_vector}
 use Rattle.linker.specs.Image.{memory_by, blank_memory}
@@ -47,7 +47,7 @@ files_from (o ∷ os) number first h = (h 0 o (omega arith), files_from os (numb
 
 -- ---- sections
 
-section_by : (b : Bool) (address : ℕ → ℕ) (x : NumberedObject) (m : List ℕ) (k : ℕ) (head : SectionHead) → AreBytes x.object.file → AreBytes m → AreBytes (put_section_if b address x m k head)
+section_by : (b : Bool) (address : ℕ → ℕ) (x : NumberedObject) (m : List ℕ) (k : ℕ) (head : SectionHead) → AreBytes x.object.file → AreBytes m → AreBytes (cond b (put m (address (x.first + k)) (part x.object head.bytes)) m)
 section_by false address x m k head f h = h
 section_by true address x m k head f h =
     put_bytes m (address (x.first + k)) (part x.object head.bytes) h
