@@ -14,7 +14,7 @@ use Rattle.link_symbols.specs.Definitions.{strong_of}
 use Rattle.link_symbols.specs.CommonNames.{common_name}
 use Rattle.link_symbols.specs.Passes.{or_else, some_if}
 use Rattle.link_symbols.specs.Symbols.{NamedValue, named_symbols}
-use Rattle.link_symbols.specs.internal.Founds.{is_common, is_common_by, with_name, Found}
+use Rattle.link_symbols.specs.internal.Founds.{is_common, is_common_by, with_name, FoundSoFar}
 use Rattle.link_symbols.specs.internal.Maps.{name_entry}
 use Rattle.link_symbols.proofs.CommonLemmas.{joined_new, common_at_append}
 use Rattle.link_symbols.proofs.OrderLemmas.{ext}
@@ -119,21 +119,21 @@ module _ (names : Names) (first : ℕ) (all : List Common) (numbers : (q : List 
   by_what now s found (what.Common size align) named same = by_strong now (record { name = s.name; size = size; align = align }) found (strong s.name) named same
   by_what now s found _ named same = named
 
-  pub found_more : (found : List (List ℕ)) (s : NamedValue) → Found names first all found (s ∷ rest) →
-      Found names first all (with_name (is_common names s (first + length found)) found s.name) rest
+  pub found_more : (found : List (List ℕ)) (s : NamedValue) → FoundSoFar names first all found (s ∷ rest) →
+      FoundSoFar names first all (with_name (is_common names s (first + length found)) found s.name) rest
   found_more found s f = record { now = with_symbol strong f.now s; named = by_what f.now s found s.what f.named f.same; same = f.same }
 
-pub found_none : (names : Names) (first : ℕ) (os : List ObjectValue) → ((q : List ℕ) → name_entry names.strong q ≡ strong_of (named_symbols os) q) → Found names first (commons_of (named_symbols os)) [] (named_symbols os)
+pub found_none : (names : Names) (first : ℕ) (os : List ObjectValue) → ((q : List ℕ) → name_entry names.strong q ≡ strong_of (named_symbols os) q) → FoundSoFar names first (commons_of (named_symbols os)) [] (named_symbols os)
 found_none names first os h = record {
   now = [];
   named = refl;
   same = ap (λ (f : List ℕ → Option Definition). fold (with_symbol f) [] (named_symbols os)) (sym (ext (name_entry names.strong) (strong_of (named_symbols os)) h));
 }
 
-pub found_all : (names : Names) (first : ℕ) (all : List Common) (found : List (List ℕ)) (rest : List NamedValue) → rest ≡ [] → Found names first all found rest → found ≡ map common_name all
+pub found_all : (names : Names) (first : ℕ) (all : List Common) (found : List (List ℕ)) (rest : List NamedValue) → rest ≡ [] → FoundSoFar names first all found rest → found ≡ map common_name all
 found_all names first all found rest e f = f.named ∙ ap (map common_name) (sym (f.same ∙ ap (fold (with_symbol (name_entry names.strong)) f.now) e))
 
 pub found_next : (names : Names) (first : ℕ) (all : List Common) → ((q : List ℕ) → name_entry names.commons q ≡ common_at first all q) → (rest : List NamedValue) (found new : List (List ℕ)) (s t : NamedValue) → s ≡ t →
-    new ≡ with_name (is_common names s (first + length found)) found s.name → Found names first all found (t ∷ rest) → Found names first all new rest
+    new ≡ with_name (is_common names s (first + length found)) found s.name → FoundSoFar names first all found (t ∷ rest) → FoundSoFar names first all new rest
 found_next names first all numbers rest found new s t e made f =
-    subst (λ l. Found names first all l rest) (sym made) (found_more names first all numbers rest found s (subst (λ x. Found names first all found (x ∷ rest)) (sym e) f))
+    subst (λ l. FoundSoFar names first all l rest) (sym made) (found_more names first all numbers rest found s (subst (λ x. FoundSoFar names first all found (x ∷ rest)) (sym e) f))

@@ -17,9 +17,9 @@ use Rattle.link_symbols.specs.Symbols.{named_symbols}
 use Rattle.link_symbols.specs.Definitions.{strong_of, weak_of}
 use Rattle.link_symbols.specs.Names.{stands_by, stands_for, count_sections}
 use Rattle.link_symbols.specs.Resolved.{items_of}
-use Rattle.link_symbols.specs.internal.Founds.{AreNumbered}
+use Rattle.link_symbols.specs.internal.Founds.{CommonsNumbered}
 use Rattle.link_symbols.specs.internal.Layouts.{AreShort}
-use Rattle.link_symbols.specs.internal.Maps.{name_entry, meaning_of_name, Holds, HoldsCommons}
+use Rattle.link_symbols.specs.internal.Maps.{name_entry, meaning_of_name, HoldsNames, HoldsCommons}
 use Rattle.link_symbols.proofs.OrderLemmas.{ext}
 
 pub module_kept : (l : Layout) (k : ℕ) (d : ModuleSpec) → k < length l.modules.items → IsModule l.room (module_of (get_or l.modules.items k d))
@@ -42,14 +42,14 @@ pub count_items : (modules : List ModuleValue) (os : List ObjectValue) → lengt
 count_items modules os = let e = length_items modules os 0 in omega (arith, e)
 
 -- what the code's items and names are
-pub items_are : (layout : LayoutValue) (os : List ObjectValue) (names : Names) (before after : List Item) → before ≡ section_items layout.modules os → Holds names (named_symbols os) →
+pub items_are : (layout : LayoutValue) (os : List ObjectValue) (names : Names) (before after : List Item) → before ≡ section_items layout.modules os → HoldsNames names (named_symbols os) →
     HoldsCommons names after before (fold (with_symbol (name_entry names.strong)) [] (named_symbols os)) → after ≡ items_of layout os
 items_are layout os names before after b h c =
     let e : name_entry names.strong ≡ strong_of (named_symbols os) = ext (name_entry names.strong) (strong_of (named_symbols os)) h.strong in
     c.items_are ∙ (ap (λ (l : List Item). l ++ map common_item (fold (with_symbol (name_entry names.strong)) [] (named_symbols os))) b
     ∙ ap (λ (f : List ℕ → Option Definition). section_items layout.modules os ++ map common_item (fold (with_symbol f) [] (named_symbols os))) e)
 
-pub names_are : (layout : LayoutValue) (os : List ObjectValue) (names : Names) (before after : List Item) → before ≡ section_items layout.modules os → Holds names (named_symbols os) →
+pub names_are : (layout : LayoutValue) (os : List ObjectValue) (names : Names) (before after : List Item) → before ≡ section_items layout.modules os → HoldsNames names (named_symbols os) →
     HoldsCommons names after before (fold (with_symbol (name_entry names.strong)) [] (named_symbols os)) → (q : List ℕ) → meaning_of_name names q ≡ stands_for os q
 unfolding stands_for
 names_are layout os names before after b h c q =
@@ -61,8 +61,8 @@ names_are layout os names before after b h c q =
     ∙ (ap (λ k. stands_by (strong_of (named_symbols os) q) (common_at k (fold (with_symbol (name_entry names.strong)) [] (named_symbols os)) q) (weak_of (named_symbols os) q)) n
     ∙ ap (λ (f : List ℕ → Option Definition). stands_by (strong_of (named_symbols os) q) (common_at (count_sections os) (fold (with_symbol f) [] (named_symbols os)) q) (weak_of (named_symbols os) q)) e)))
 
-pub numbered_are : (layout : LayoutValue) (os : List ObjectValue) (names : Names) (before after : List Item) → before ≡ section_items layout.modules os → Holds names (named_symbols os) →
-    HoldsCommons names after before (fold (with_symbol (name_entry names.strong)) [] (named_symbols os)) → AreNumbered names os
+pub numbered_are : (layout : LayoutValue) (os : List ObjectValue) (names : Names) (before after : List Item) → before ≡ section_items layout.modules os → HoldsNames names (named_symbols os) →
+    HoldsCommons names after before (fold (with_symbol (name_entry names.strong)) [] (named_symbols os)) → CommonsNumbered names os
 numbered_are layout os names before after b h c =
     let e : name_entry names.strong ≡ strong_of (named_symbols os) = ext (name_entry names.strong) (strong_of (named_symbols os)) h.strong in
     let n : length before ≡ count_sections os = ap length b ∙ count_items layout.modules os in

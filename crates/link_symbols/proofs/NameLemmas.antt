@@ -10,7 +10,7 @@ use Rattle.link_symbols.specs.Passes.{or_else, some_if, first_in, IsFaultOf}
 use Rattle.link_symbols.specs.Refusals.{duplicate, duplicate_of}
 use Rattle.link_symbols.specs.Symbols.{NamedValue}
 use Rattle.link_symbols.specs.Definitions.{definition, definition_of, strong_by, weak_by, strong_of, weak_of, if_named, is_global}
-use Rattle.link_symbols.specs.internal.Maps.{name_entry, Holds, IsFirst, AreFirsts}
+use Rattle.link_symbols.specs.internal.Maps.{name_entry, HoldsNames, IsFirst, AreFirsts}
 use Rattle.link_symbols.proofs.Steps.{or_else_none, or_else_assoc}
 
 -- a name that is not there is noted
@@ -96,7 +96,7 @@ pub holds_more : (old new : Names) (before : List NamedValue) (s : NamedValue) (
     ((q : List ℕ) → name_entry new.strong q ≡ or_else (name_entry old.strong q) (some_if (bytes_eq s.name q) d)) →
     ((q : List ℕ) → name_entry new.weak q ≡ or_else (name_entry old.weak q) (some_if (bytes_eq s.name q) w)) →
     (o : Option Meaning) → IsFirst (name_entry new.weak) s o → new.firsts.items ≡ old.firsts.items ++ o ∷ [] →
-    Holds old before → Holds new (before ++ s ∷ [])
+    HoldsNames old before → HoldsNames new (before ++ s ∷ [])
 holds_more old new before s d w ds ws strong weak o is pushed h = record {
   strong = λ q. strong q ∙ (ap (λ o. or_else o (some_if (bytes_eq s.name q) d)) (h.strong q) ∙ (ap (λ o. or_else (strong_of before q) (some_if (bytes_eq s.name q) o)) (sym ds) ∙ sym (strong_more before s q)));
   weak = λ q. weak q ∙ (ap (λ o. or_else o (some_if (bytes_eq s.name q) w)) (h.weak q) ∙ (ap (λ o. or_else (weak_of before q) (some_if (bytes_eq s.name q) o)) (sym ws) ∙ sym (weak_more before s q)));
@@ -122,12 +122,12 @@ duplicate_one before s = or_else_none (duplicate_of before s)
 -- some of these symbols are noted, and the others are still to come
 pub record Reached (names : Names) (before symbols rest : List NamedValue) : Type 0 where
   pub now : List NamedValue
-  pub holds : Holds names now
+  pub holds : HoldsNames names now
   pub whole : now ++ rest ≡ before ++ symbols
   pub same : duplicate before symbols ≡ duplicate now rest
 
 pub reached_more : (old new : Names) (before symbols xs rest : List NamedValue) → Reached old before symbols (xs ++ rest) →
-    ((now : List NamedValue) → Holds old now → Holds new (now ++ xs)) → ((now : List NamedValue) → Holds old now → duplicate now xs ≡ None) →
+    ((now : List NamedValue) → HoldsNames old now → HoldsNames new (now ++ xs)) → ((now : List NamedValue) → HoldsNames old now → duplicate now xs ≡ None) →
     Reached new before symbols rest
 reached_more old new before symbols xs rest r noted sound = record {
   now = r.now ++ xs;
@@ -137,22 +137,22 @@ reached_more old new before symbols xs rest r noted sound = record {
 }
 
 pub reached_hit : (names : Names) (before symbols xs rest : List NamedValue) (f : LinkFault) → Reached names before symbols (xs ++ rest) →
-    ((now : List NamedValue) → Holds names now → IsFaultOf (duplicate now xs) f) → IsFaultOf (duplicate before symbols) f
+    ((now : List NamedValue) → HoldsNames names now → IsFaultOf (duplicate now xs) f) → IsFaultOf (duplicate before symbols) f
 reached_hit names before symbols xs rest f r hit = λ ne.
     r.same ∙ (duplicate_append r.now xs rest ∙ ap (λ o. or_else o (duplicate (r.now ++ xs) rest)) (hit r.now r.holds ne))
 
-pub reached_end : (names : Names) (before symbols : List NamedValue) → Reached names before symbols [] → Holds names (before ++ symbols) × (duplicate before symbols ≡ None)
+pub reached_end : (names : Names) (before symbols : List NamedValue) → Reached names before symbols [] → HoldsNames names (before ++ symbols) × (duplicate before symbols ≡ None)
 unfolding duplicate
 reached_end names before symbols r =
-    (subst (λ l. Holds names l) (sym (append-nil r.now) ∙ r.whole) r.holds, r.same)
+    (subst (λ l. HoldsNames names l) (sym (append-nil r.now) ∙ r.whole) r.holds, r.same)
 
 pub reached_one : (old new : Names) (before symbols rest : List NamedValue) (s t : NamedValue) → s ≡ t → Reached old before symbols (t ∷ rest) →
-    ((now : List NamedValue) → Holds old now → Holds new (now ++ s ∷ [])) → ((now : List NamedValue) → Holds old now → duplicate_of now s ≡ None) →
+    ((now : List NamedValue) → HoldsNames old now → HoldsNames new (now ++ s ∷ [])) → ((now : List NamedValue) → HoldsNames old now → duplicate_of now s ≡ None) →
     Reached new before symbols rest
 reached_one old new before symbols rest s t e r noted sound =
     reached_more old new before symbols (s ∷ []) rest (subst (λ x. Reached old before symbols (x ∷ rest)) (sym e) r) noted (λ now h. duplicate_one now s ∙ sound now h)
 
 pub reached_one_hit : (names : Names) (before symbols rest : List NamedValue) (s t : NamedValue) (f : LinkFault) → s ≡ t → Reached names before symbols (t ∷ rest) →
-    ((now : List NamedValue) → Holds names now → IsFaultOf (duplicate_of now s) f) → IsFaultOf (duplicate before symbols) f
+    ((now : List NamedValue) → HoldsNames names now → IsFaultOf (duplicate_of now s) f) → IsFaultOf (duplicate before symbols) f
 reached_one_hit names before symbols rest s t f e r hit =
     reached_hit names before symbols (s ∷ []) rest f (subst (λ x. Reached names before symbols (x ∷ rest)) (sym e) r) (λ now h ne. duplicate_one now s ∙ hit now h ne)

@@ -6,7 +6,7 @@ ghost use Rattle.link_symbols.specs.Commons.{Common, common_at};
 ghost use Rattle.link_symbols.specs.Names.{count_sections};
 ghost use Rattle.link_symbols.specs.Passes.{numbered_object};
 ghost use Rattle.link_symbols.specs.Symbols.{NamedValue, named_symbols_in};
-ghost use Rattle.link_symbols.specs.internal.Founds.{is_common, with_name, Found, AreNumbered};
+ghost use Rattle.link_symbols.specs.internal.Founds.{is_common, with_name, FoundSoFar, CommonsNumbered};
 ghost use Rattle.link_symbols.specs.internal.Maps.{name_entry};
 ghost use Rattle.link_symbols.specs.internal.Values.{named_value};
 
@@ -46,9 +46,9 @@ fn find_commons<'a>(
     requires low { first_common ≤ 2 ^ 31 }
     ensures { OnOk result ((all : List Common) (rest : List NamedValue) →
         ((q : List ℕ) → name_entry names.now.commons q ≡ common_at first_common all q) →
-        Found names.now first_common all (borrowed found.old.items)
+        FoundSoFar names.now first_common all (borrowed found.old.items)
         (named_symbols_in (numbered_object number first object.entry.now) ++ rest) →
-        Found names.now first_common all (borrowed found.new.items) rest) }
+        FoundSoFar names.now first_common all (borrowed found.new.items) rest) }
 {
     for (k, symbol) in object.symbols().iter().enumerate() {
         let named = symbol_at(object, number, first, k, *symbol);
@@ -77,7 +77,7 @@ pub fn commons_of<'a>(
     objects: &'a [Object],
 ) -> Result<Vec<&'a [u8]>, AllocError>
     requires few { length objects.now ≤ 64 }
-    requires numbered { AreNumbered names.now objects.now }
+    requires numbered { CommonsNumbered names.now objects.now }
     ensures { IfOk result (λ found. borrowed found.items ≡ common_names objects.entry.now) }
 {
     let first_common = section_count(objects);

@@ -11,7 +11,7 @@ ghost use Rattle.link_symbols.specs.Names.{stands_by, stands_for};
 ghost use Rattle.link_symbols.specs.Definitions.{weak_of, is_global, definition, definition_of, strong_of};
 ghost use Rattle.link_symbols.specs.internal.Values.{named_value};
 ghost use Rattle.link_symbols.specs.Symbols.{named_symbols_in, named_symbols, NamedValue};
-ghost use Rattle.link_symbols.specs.internal.Maps.{last_bytes, name_entry, meaning_of_name, Notes, Holds, HoldsCommons};
+ghost use Rattle.link_symbols.specs.internal.Maps.{last_bytes, name_entry, meaning_of_name, Notes, HoldsNames, HoldsCommons};
 ghost use Rattle.link_symbols.specs.Refusals.{duplicate_by, duplicate_of, duplicate};
 ghost use Rattle.link_symbols.specs.declared.item.Item.{Item};
 ghost use Rattle.link_symbols.specs.declared.symbol.What.TheVariants as what;
@@ -148,7 +148,7 @@ fn note_first<'a>(
 impl<'a> Names<'a> {
     #[tactic(auto, unfolding(crate::specs::Definitions::strong_of, crate::specs::Definitions::weak_of))]
     fn new(alloc: Global) -> Self
-        ensures definitions { Holds result [] }
+        ensures definitions { HoldsNames result [] }
         ensures commons { (q : List ℕ) → name_entry result.commons q ≡ None }
     {
         Names {
@@ -209,11 +209,11 @@ impl<'a> Names<'a> {
     fn note_global(&mut self, s: Named<'a>, meaning: Meaning) -> Result<(), LinkFault>
         requires defined { definition_of (named_value s) ≡ Some meaning }
         requires global { is_global s.binding ≡ true }
-        ensures noted { OnOk result ((before : List NamedValue) → Holds self.old before → Holds self.new (before
+        ensures noted { OnOk result ((before : List NamedValue) → HoldsNames self.old before → HoldsNames self.new (before
             ++ named_value s.entry ∷ [])) }
-        ensures sound { OnOk result ((before : List NamedValue) → Holds self.old before → duplicate_of before
+        ensures sound { OnOk result ((before : List NamedValue) → HoldsNames self.old before → duplicate_of before
             (named_value s.entry) ≡ None) }
-        ensures refusal { IfErr result (λ f. (before : List NamedValue) → Holds self.old before → IsFaultOf
+        ensures refusal { IfErr result (λ f. (before : List NamedValue) → HoldsNames self.old before → IsFaultOf
             (duplicate_of before (named_value s.entry)) f) }
         ensures commons { OnOk result (self.new.commons ≡ self.old.commons) }
     {
@@ -225,11 +225,11 @@ impl<'a> Names<'a> {
     }
 
     fn note(&mut self, s: Named<'a>) -> Result<(), LinkFault>
-        ensures noted { OnOk result ((before : List NamedValue) → Holds self.old before → Holds self.new (before
+        ensures noted { OnOk result ((before : List NamedValue) → HoldsNames self.old before → HoldsNames self.new (before
             ++ named_value s.entry ∷ [])) }
-        ensures sound { OnOk result ((before : List NamedValue) → Holds self.old before → duplicate_of before
+        ensures sound { OnOk result ((before : List NamedValue) → HoldsNames self.old before → duplicate_of before
             (named_value s.entry) ≡ None) }
-        ensures refusal { IfErr result (λ f. (before : List NamedValue) → Holds self.old before → IsFaultOf
+        ensures refusal { IfErr result (λ f. (before : List NamedValue) → HoldsNames self.old before → IsFaultOf
             (duplicate_of before (named_value s.entry)) f) }
         ensures commons { OnOk result (self.new.commons ≡ self.old.commons) }
     {
@@ -251,11 +251,11 @@ impl<'a> Names<'a> {
 
     fn note_all(&mut self, object: &'a Object, number: usize, first: usize) -> Result<(), LinkFault>
         requires small { first ≤ 2 ^ 31 }
-        ensures noted { OnOk result ((before : List NamedValue) → Holds self.old before → Holds self.new (before
+        ensures noted { OnOk result ((before : List NamedValue) → HoldsNames self.old before → HoldsNames self.new (before
             ++ named_symbols_in (numbered_object number first object.entry.now))) }
-        ensures sound { OnOk result ((before : List NamedValue) → Holds self.old before → duplicate before
+        ensures sound { OnOk result ((before : List NamedValue) → HoldsNames self.old before → duplicate before
             (named_symbols_in (numbered_object number first object.entry.now)) ≡ None) }
-        ensures refusal { IfErr result (λ f. (before : List NamedValue) → Holds self.old before → IsFaultOf
+        ensures refusal { IfErr result (λ f. (before : List NamedValue) → HoldsNames self.old before → IsFaultOf
             (duplicate before (named_symbols_in (numbered_object number first object.entry.now))) f) }
         ensures commons { OnOk result (self.new.commons ≡ self.old.commons) }
     {
@@ -363,7 +363,7 @@ fn join(items: &mut Vec<Item>, number: usize, size: u32, align: u32)
 // The definitions of all objects.
 fn definitions_of<'a>(alloc: Global, objects: &'a [Object]) -> Result<Names<'a>, LinkFault>
     requires few { length objects.now ≤ 64 }
-    ensures noted { IfOk result (λ names. Holds names (named_symbols objects.entry.now)) }
+    ensures noted { IfOk result (λ names. HoldsNames names (named_symbols objects.entry.now)) }
     ensures commons { IfOk result (λ names. (q : List ℕ) → name_entry names.commons q ≡ None) }
     ensures sound { OnOk result (duplicate [] (named_symbols objects.entry.now) ≡ None) }
     ensures refusal { IfErr result (IsFaultOf (duplicate [] (named_symbols objects.entry.now))) }
@@ -410,7 +410,7 @@ pub fn names_of<'a>(
     requires few { length objects.now ≤ 64 }
     ensures sound { OnOk result (duplicate [] (named_symbols objects.entry.now) ≡ None) }
     ensures refusal { IfErr result (IsFaultOf (duplicate [] (named_symbols objects.entry.now))) }
-    ensures definitions { IfOk result (λ names. Holds names (named_symbols objects.entry.now)) }
+    ensures definitions { IfOk result (λ names. HoldsNames names (named_symbols objects.entry.now)) }
     ensures commons { IfOk result (λ names. HoldsCommons names items.new.items items.old.items (fold
         (with_symbol (name_entry names.strong)) [] (named_symbols objects.entry.now))) }
 {

@@ -8,7 +8,7 @@ ghost use Rattle.link_symbols.specs.Names.{stands_for};
 ghost use Rattle.link_symbols.specs.Resolved.{items_of, meanings_of};
 ghost use Rattle.link_symbols.specs.Refusals.{unresolved};
 ghost use Rattle.link_symbols.specs.Symbols.{named_symbols};
-ghost use Rattle.link_symbols.specs.internal.Founds.{AreNumbered};
+ghost use Rattle.link_symbols.specs.internal.Founds.{CommonsNumbered};
 ghost use Rattle.link_symbols.specs.internal.Groups.{names_fault, stand_fault};
 ghost use Rattle.link_symbols.specs.internal.Layouts.{AreShort};
 ghost use Rattle.link_symbols.specs.internal.Maps.{meaning_of_name, KnowsFirsts};
@@ -38,7 +38,7 @@ impl<'a> Model for Resolved<'a> {
     ghost use Rattle.std.specs.Prelude.{◌≡◌};
     ghost use Rattle.link_symbols.specs.Names.{stands_for};
     ghost use Rattle.link_symbols.specs.Resolved.{ResolvedValue};
-    ghost use Rattle.link_symbols.specs.internal.Founds.{AreNumbered};
+    ghost use Rattle.link_symbols.specs.internal.Founds.{CommonsNumbered};
     ghost use Rattle.link_symbols.specs.internal.Maps.{meaning_of_name};
     ghost use Rattle.link_symbols.specs.internal.Meanings.{AreMeanings};
 
@@ -47,7 +47,7 @@ impl<'a> Model for Resolved<'a> {
     ghost view = { λ r. record { objects = r.objects.now; items = r.items.items } };
 
     ghost invariant = { λ r. (meaning_of_name r.names ≡ stands_for r.objects.now) × (AreMeanings (stands_for
-        r.objects.now) r.objects.now r.meanings.items × AreNumbered r.names r.objects.now) };
+        r.objects.now) r.objects.now r.meanings.items × CommonsNumbered r.names r.objects.now) };
 }
 
 impl<'a> Resolved<'a> {
@@ -110,7 +110,7 @@ fn read_input<'a>(
         ≡ stands_for objects.entry.now q) }
     ensures own { IfOk result (λ r. AllOwnMeanings (meaning_of_name r.names) (numbered_objects objects.entry.now)) }
     ensures firsts { IfOk result (λ r. KnowsFirsts r.names (named_symbols objects.entry.now)) }
-    ensures numbered { IfOk result (λ r. AreNumbered r.names objects.entry.now) }
+    ensures numbered { IfOk result (λ r. CommonsNumbered r.names objects.entry.now) }
     ensures sound { OnOk result (names_fault (layout_of layout.now) objects.entry.now ≡ None) }
     ensures refusal { IfErr result (IsFaultOf (names_fault (layout_of layout.now) objects.entry.now)) }
 {

@@ -10,7 +10,7 @@ use Rattle.layout_file.specs.Sound.{IsLayout}
 use Rattle.layout_file.specs.Values.{ModuleValue, LayoutValue}
 use Rattle.link_symbols.specs.Passes.{fold_at}
 use Rattle.linker.specs.Placement.{text_of, ram_of}
-use Rattle.linker.specs.internal.Tables.{Held}
+use Rattle.linker.specs.internal.Tables.{AllHeld}
 use Rattle.linker.specs.Image.{with_boot, with_boots, table_by}
 use Rattle.linker.specs.internal.Tables.{spec_at, some_spec, Drawn, TableFits}
 use Rattle.linker.proofs.ImageLemmas.{held_more, fold_range_more}
@@ -23,7 +23,7 @@ module _ (end : ℕ → ℕ) (layout : LayoutValue) (s : IsLayout layout) (fits 
   -- a table of the layout's room that holds the modules up to this boot, and of the next boot those of lower numbers
   record Made (boot number : ℕ) (t : Table) : Type 0 where
     drawn : Drawn end ms boot number t
-    held : Held t
+    held : AllHeld t
     is : IsTable t
     room : t.room ≡ layout.room
 
@@ -42,7 +42,7 @@ module _ (end : ℕ → ℕ) (layout : LayoutValue) (s : IsLayout layout) (fits 
   -- ---- one module
 
   step_by : (boot number : ℕ) (t : Table) (b : Bool) → ((spec_at ms number).boot == boot + 1) ≡ b → number < length ms → boot < layout.room → Made boot number t
-      → (let m = spec_at ms number in Held (if b then with_module t m.vendor (text_of end number m) (ram_of end number m) else t) × IsTable (if b then with_module t m.vendor (text_of end number m) (ram_of end number m) else t))
+      → (let m = spec_at ms number in AllHeld (if b then with_module t m.vendor (text_of end number m) (ram_of end number m) else t) × IsTable (if b then with_module t m.vendor (text_of end number m) (ram_of end number m) else t))
   step_by boot number t false e l low h = (h.held, h.is)
   step_by boot number t true e l low h =
       let m = spec_at ms number in
@@ -98,5 +98,5 @@ module _ (end : ℕ → ℕ) (layout : LayoutValue) (s : IsLayout layout) (fits 
       subst (λ (k : ℕ). Made k 0 (fold (with_boots end ms) (empty_table layout.room) (range_with_len 1 k))) up
       (subst (Made (n + 1) 0) (sym (fold_range_more (with_boots end ms) (empty_table layout.room) n)) (next_boot n _ (omega arith) (boots n (omega arith))))
 
-  pub table_made : IsTable (table_by end layout) × Held (table_by end layout)
+  pub table_made : IsTable (table_by end layout) × AllHeld (table_by end layout)
   table_made = let m = boots layout.room (omega arith) in (m.is, m.held)

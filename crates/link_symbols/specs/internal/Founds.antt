@@ -26,12 +26,12 @@ with_name true found name = found ++ name ∷ []
 with_name false found name = found
 
 -- of these commons, which have numbers from here on, those whose names were found are there before the rest of the symbols
-pub record Found (names : Names) (first : ℕ) (all : List Common) (found : List (List ℕ)) (rest : List NamedValue) : Type 0 where
+pub record FoundSoFar (names : Names) (first : ℕ) (all : List Common) (found : List (List ℕ)) (rest : List NamedValue) : Type 0 where
   pub now : List Common
   pub named : found ≡ map common_name now
   pub same : all ≡ fold (with_symbol (name_entry names.strong)) now rest
 
 -- the maps have the strong definitions of objects, and the numbers of their commons
-pub record AreNumbered (names : Names) (objects : List ObjectValue) : Type 0 where
+pub record CommonsNumbered (names : Names) (objects : List ObjectValue) : Type 0 where
   pub strong : (q : List ℕ) → name_entry names.strong q ≡ strong_of (named_symbols objects) q
   pub commons : (q : List ℕ) → name_entry names.commons q ≡ common_at (count_sections objects) (commons_of (named_symbols objects)) q

@@ -54,7 +54,7 @@ abbrev pub KnowsFirsts : Names → List NamedValue → Type 0
 KnowsFirsts names symbols = AreFirsts (name_entry names.weak) symbols names.firsts.items
 
 -- the definitions of these symbols are noted, and no common
-pub record Holds (names : Names) (symbols : List NamedValue) : Type 0 where
+pub record HoldsNames (names : Names) (symbols : List NamedValue) : Type 0 where
   pub strong : (q : List ℕ) → name_entry names.strong q ≡ strong_of symbols q
   pub weak : (q : List ℕ) → name_entry names.weak q ≡ weak_of symbols q
   pub firsts : KnowsFirsts names symbols

@@ -18,7 +18,7 @@ abbrev pub RankBelow : ℕ → List Item → ℕ → Type 0
 RankBelow rank items k = BelowBy rank (item_at items k).part
 
 -- the items of lower rank stand, and this is where those of this rank begin
-pub record Placed (starts : List ℕ) (items : List Item) (rank : ℕ) (addresses ends : List ℕ) : Type 0 where
+pub record PlacedBelow (starts : List ℕ) (items : List Item) (rank : ℕ) (addresses ends : List ℕ) : Type 0 where
   pub count : length addresses ≡ length items
   pub regions : length ends ≡ length starts
   pub begun : (r : ℕ) → r < length ends → slice_index ends r ≡ start_of starts items r rank

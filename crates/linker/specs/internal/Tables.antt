@@ -13,7 +13,7 @@ abbrev pub spec_at : List ModuleValue → ℕ → ModuleValue
 spec_at modules j = slice_index_or modules j some_spec
 
 -- a held module is one with a boot up to this, or with the next one and a lower number
-pub record Comes (end : ℕ → ℕ) (modules : List ModuleValue) (boot number : ℕ) (m : Module) : Type 0 where
+pub record ComesFrom (end : ℕ → ℕ) (modules : List ModuleValue) (boot number : ℕ) (m : Module) : Type 0 where
   pub place : ℕ
   pub within : place < length modules
   pub text : m.text ≡ text_of end place (spec_at modules place)
@@ -26,7 +26,7 @@ CountsTo modules boot number count = ((count ≤ boot) × ((j : ℕ) → j < num
 
 -- the modules up to this boot are held, and of the next boot those of lower numbers
 pub record Drawn (end : ℕ → ℕ) (modules : List ModuleValue) (boot number : ℕ) (t : Table) : Type 0 where
-  pub from : All (Comes end modules boot number) t.modules
+  pub from : All (ComesFrom end modules boot number) t.modules
   pub count : CountsTo modules boot number (length t.modules)
 
 -- the regions of modules are apart, their boots differ, and their sections are as a table wants them
@@ -39,6 +39,6 @@ pub record TableFits (end : ℕ → ℕ) (modules : List ModuleValue) : Type 0 w
   pub boots : (j k : ℕ) → j < k → k < length modules → (spec_at modules j).boot ≢ (spec_at modules k).boot
 
 -- the ids of a table are those from 1 on, all of them held
-pub record Held (t : Table) : Type 0 where
+pub record AllHeld (t : Table) : Type 0 where
   pub numbered_from_1 : AreNumbered 1 t.modules
   pub all_held : length t.modules ≡ t.given
