@@ -22,7 +22,7 @@ use Rattle.asm_text.specs.Emission.{Meanings, Emitted, nothing, emitted, emitted
 use Rattle.asm_text.specs.internal.Emitted.{last_of, AreNames}
 use Rattle.asm_text.specs.internal.Kept.{IsSource}
 use Rattle.asm_text.specs.internal.Known.{AreNamed, IsNamed}
-use Rattle.asm_text.specs.Parts.{SectionValue, SymbolValue, is_name, IsSection, IsSymbol, IsRelocation, IsUnit}
+use Rattle.asm_text.specs.Parts.{SectionValue, SymbolValue, is_name, IsSectionValue, IsSymbolValue, IsAsmRelocation, IsUnit}
 use Rattle.asm_text.specs.internal.Placed.{IsPlaced, names_in}
 use Rattle.asm_text.specs.Placing.{Placed, nowhere, spot_of, has_section, with_section, within, last_head, placed, placed_from, unrefused}
 use Rattle.asm_text.specs.Source.{Source}
@@ -97,7 +97,7 @@ section_shape m e p a k d low =
 section_name : (m : Meanings) (e : Emitted) (p : Placed) → Agree m e p → (k : ℕ) (d : SectionValue) → k < length e.sections → (get_or e.sections k d).name ≡ slice_index_or m.sections (get_or p.heads k some_head).name []
 section_name m e p a k d low = ap (λ (x : Shape). x.name) (section_shape m e p a k d low)
 
-sections_are : (m : Meanings) (e : Emitted) (p : Placed) (names : ℕ) → Agree m e p → IsPlaced names p → AreNames m.sections → All (λ (h : Head). h.name < length m.sections) p.heads → All IsSection e.sections
+sections_are : (m : Meanings) (e : Emitted) (p : Placed) (names : ℕ) → Agree m e p → IsPlaced names p → AreNames m.sections → All (λ (h : Head). h.name < length m.sections) p.heads → All IsSectionValue e.sections
 sections_are m e p names a sound are heads k d low =
     let n = same_number m e p a in
     let within : k < length p.heads = omega arith in
@@ -126,7 +126,7 @@ sections_apart m e p names a sound differ heads i j d less low same =
 
 -- ---- symbols
 
-symbol_is : (sections : ℕ) (global : Bool) (name : List ℕ) (spot : Option Spot) → is_name name ≡ true → ((s : Spot) → spot ≡ Some s → s.section < sections) → IsSymbol sections (symbol_by global name spot)
+symbol_is : (sections : ℕ) (global : Bool) (name : List ℕ) (spot : Option Spot) → is_name name ≡ true → ((s : Spot) → spot ≡ Some s → s.section < sections) → IsSymbolValue sections (symbol_by global name spot)
 symbol_is sections global name None named low = record { named = named; local = λ e. absurd cc; home = λ k e. absurd cc }
 symbol_is sections global name (Some s) named low = record { named = named; local = λ e f. cc; home = λ k e. let same : s.section ≡ k = cc in let less = low s refl in omega arith }
 
@@ -135,11 +135,11 @@ symbol_text global name None = refl
 symbol_text global name (Some s) = refl
 
 symbols_are : (sections : ℕ) (statements : List (Statement ℕ)) (p : Placed) (names : List (List ℕ)) (order : List ℕ) → IsOrder (length names) order → AreNames names
-    → ((k : ℕ) (s : Spot) → spot_of p.spots k ≡ Some s → s.section < sections) → All (IsSymbol sections) (symbols_for statements p names order)
+    → ((k : ℕ) (s : Spot) → spot_of p.spots k ≡ Some s → s.section < sections) → All (IsSymbolValue sections) (symbols_for statements p names order)
 symbols_are sections statements p names order o are within k d low =
     let here : k < length order = omega (arith, length-map order (symbol_for statements p names)) in
     let number : get_or order k 0 < length names = o.low k 0 here in
-    subst (IsSymbol sections) (sym (get_or-map (symbol_for statements p names) order k 0 d here))
+    subst (IsSymbolValue sections) (sym (get_or-map (symbol_for statements p names) order k 0 d here))
     (symbol_is sections (is_global statements (get_or order k 0)) (slice_index_or names (get_or order k 0) []) (spot_of p.spots (get_or order k 0)) (are (get_or order k 0) [] number) (within (get_or order k 0)))
 
 symbols_apart : (statements : List (Statement ℕ)) (p : Placed) (names : List (List ℕ)) (order : List ℕ) → IsOrder (length names) order → AllPairs (λ x y. x ≢ y) names
@@ -189,21 +189,21 @@ order_size statements p names =
 abbrev HasSymbols : Meanings → ℕ → Type 0
 HasSymbols m symbols = (k x : ℕ) → slice_index_or m.symbols k None ≡ Some x → x < symbols
 
-more_sections : (a b symbols : ℕ) (rs : List AsmRelocation) → a ≤ b → All (IsRelocation a symbols) rs → All (IsRelocation b symbols) rs
+more_sections : (a b symbols : ℕ) (rs : List AsmRelocation) → a ≤ b → All (IsAsmRelocation a symbols) rs → All (IsAsmRelocation b symbols) rs
 more_sections a b symbols rs most are k d low = let r = are k d low in record { section = let s = r.section in omega arith; symbol = r.symbol }
 
-tied_if : (m : Meanings) (symbols sections section offset : ℕ) (name : Option ℕ) → HasSymbols m symbols → section < sections → All (IsRelocation sections symbols) (relocation_if m section offset name)
+tied_if : (m : Meanings) (symbols sections section offset : ℕ) (name : Option ℕ) → HasSymbols m symbols → section < sections → All (IsAsmRelocation sections symbols) (relocation_if m section offset name)
 tied_if m symbols sections section offset None has low = λ k d h. absurd (omega (arith, h))
 tied_if m symbols sections section offset (Some name) has low = by (slice_index_or m.symbols name None) refl
   where
-    by : (o : Option ℕ) → slice_index_or m.symbols name None ≡ o → All (IsRelocation sections symbols) (relocation_at section offset o)
+    by : (o : Option ℕ) → slice_index_or m.symbols name None ≡ o → All (IsAsmRelocation sections symbols) (relocation_at section offset o)
     by None is = λ k d h. absurd (omega (arith, h))
-    by (Some x) is = All-cons (IsRelocation sections symbols) (record { section = section; offset = offset; symbol = x }) [] (record { section = low; symbol = has name x is }) (λ k d h. absurd (omega (arith, h)))
+    by (Some x) is = All-cons (IsAsmRelocation sections symbols) (record { section = section; offset = offset; symbol = x }) [] (record { section = low; symbol = has name x is }) (λ k d h. absurd (omega (arith, h)))
 
-tied_of : (m : Meanings) (symbols sections section here : ℕ) (s : Statement ℕ) → HasSymbols m symbols → section < sections → All (IsRelocation sections symbols) (relocations_of m section here s)
+tied_of : (m : Meanings) (symbols sections section here : ℕ) (s : Statement ℕ) → HasSymbols m symbols → section < sections → All (IsAsmRelocation sections symbols) (relocations_of m section here s)
 tied_of m symbols sections section here (Word (Name name)) has low = tied_if m symbols sections section here (Some name) has low
 tied_of m symbols sections section here (Code insn x y) has low =
-    All-append (IsRelocation sections symbols) (relocation_if m section (here + 2) x) (relocation_if m section (here + second_word insn) y)
+    All-append (IsAsmRelocation sections symbols) (relocation_if m section (here + 2) x) (relocation_if m section (here + second_word insn) y)
     (tied_if m symbols sections section (here + 2) x has low) (tied_if m symbols sections section (here + second_word insn) y has low)
 tied_of m symbols sections section here _ has low = λ k d h. absurd (omega (arith, h))
 
@@ -225,7 +225,7 @@ count_of m section here _ = omega arith
 
 -- relocations from line to line
 pub record IsTied (symbols : ℕ) (lines : ℕ) (e : Emitted) : Type 0 where
-  pub tied : All (IsRelocation (length e.sections) symbols) e.relocations
+  pub tied : All (IsAsmRelocation (length e.sections) symbols) e.relocations
   pub few : length e.relocations ≤ 2 * lines
 
 tied_last : (m : Meanings) (symbols lines n : ℕ) (e f : Emitted) (s : Statement ℕ) → HasSymbols m symbols → IsTied symbols lines e → in_last m n e (last_of e.sections) s ≡ Ok f → IsTied symbols (lines + 1) f
@@ -239,8 +239,8 @@ tied_last m symbols lines n e f s has t goes = by (last_of e.sections) refl goes
         let few = t.few in
         let two = count_of m (length e.sections - 1) last.size s in
         subst (IsTied symbols (lines + 1)) (ok_is _ f k) (record {
-          tied = subst (λ n. All (IsRelocation n symbols) (e.relocations ++ relocations_of m (length e.sections - 1) last.size s)) (sym size)
-              (All-append (IsRelocation (length e.sections) symbols) e.relocations (relocations_of m (length e.sections - 1) last.size s) t.tied (tied_of m symbols (length e.sections) (length e.sections - 1) last.size s has low));
+          tied = subst (λ n. All (IsAsmRelocation n symbols) (e.relocations ++ relocations_of m (length e.sections - 1) last.size s)) (sym size)
+              (All-append (IsAsmRelocation (length e.sections) symbols) e.relocations (relocations_of m (length e.sections - 1) last.size s) t.tied (tied_of m symbols (length e.sections) (length e.sections - 1) last.size s has low));
           few = omega (arith, length-append e.relocations (relocations_of m (length e.sections - 1) last.size s));
         })
 
@@ -311,7 +311,7 @@ unit_kept s p e kept sound goes is =
       few_relocations = let a = tied.few in let b = kept.few_statements in omega arith;
       sections_kept = sections_are m e p (names_of s) agree sound kept.sections heads;
       symbols_kept = symbols_are (length e.sections) s.statements p s.tables.names (symbol_order s p) order kept.names (λ k spot at. let low : spot.section < length p.heads = sound.within k spot at in omega arith);
-      relocations_kept = subst (λ n. All (IsRelocation (length e.sections) n) e.relocations) (sym symbols) tied.tied;
+      relocations_kept = subst (λ n. All (IsAsmRelocation (length e.sections) n) e.relocations) (sym symbols) tied.tied;
       sections_differ = sections_apart m e p (names_of s) agree sound kept.sections_differ heads;
       symbols_differ = symbols_apart s.statements p s.tables.names (symbol_order s p) order kept.names_differ;
     }

@@ -49,18 +49,18 @@ kept_size Code size = size
 kept_size Data size = size
 kept_size Bss size = 0
 
-pub record IsSection (s : SectionValue) : Type 0 where
+pub record IsSectionValue (s : SectionValue) : Type 0 where
   pub named : IsTrue (is_name s.name)
   pub small : s.size ≤ MAX_SIZE
   pub filled : length s.bytes ≡ kept_size s.kind s.size
 
 -- a local symbol has a home, and a home is a section
-pub record IsSymbol (sections : ℕ) (s : SymbolValue) : Type 0 where
+pub record IsSymbolValue (sections : ℕ) (s : SymbolValue) : Type 0 where
   pub named : IsTrue (is_name s.name)
   pub local : s.global ≡ false → s.home ≢ None
   pub home : (k : ℕ) → s.home ≡ Some k → k < sections
 
-pub record IsRelocation (sections symbols : ℕ) (r : AsmRelocation) : Type 0 where
+pub record IsAsmRelocation (sections symbols : ℕ) (r : AsmRelocation) : Type 0 where
   pub section : r.section < sections
   pub symbol : r.symbol < symbols
 
@@ -68,8 +68,8 @@ pub record IsUnit (u : UnitValue) : Type 0 where
   pub few_sections : length u.sections ≤ MAX_SECTIONS
   pub few_symbols : length u.symbols ≤ MAX_ENTRIES
   pub few_relocations : length u.relocations ≤ MAX_ENTRIES
-  pub sections_kept : All IsSection u.sections
-  pub symbols_kept : All (IsSymbol (length u.sections)) u.symbols
-  pub relocations_kept : All (IsRelocation (length u.sections) (length u.symbols)) u.relocations
+  pub sections_kept : All IsSectionValue u.sections
+  pub symbols_kept : All (IsSymbolValue (length u.sections)) u.symbols
+  pub relocations_kept : All (IsAsmRelocation (length u.sections) (length u.symbols)) u.relocations
   pub sections_differ : AllPairs (λ a b. a.name ≢ b.name) u.sections
   pub symbols_differ : AllPairs (λ a b. a.name ≢ b.name) u.symbols

@@ -20,7 +20,7 @@ use Rattle.elf_objects.specs.Section.{header_of, is_absent, section_fault, link_
 use Rattle.elf_objects.specs.Names.{name_end, name_span, section_names, name_fault, name_faults, section_of, sections_of}
 use Rattle.elf_objects.specs.Symbol.{entry_of, count_in, strings_of, symbol_fault, symbol_of, home_of, symbols_header, count_of, faults_in, symbol_faults, symbols_in, symbols_of}
 use Rattle.elf_objects.specs.Relocation.{relocation_of, entry_fault, relocation_fault, relocation_faults, relocations_at, relocations_of}
-use Rattle.elf_objects.specs.Object.{elf_fault_of, contents_fault, ObjectValue, IsObject, IsWithin, IsSection, IsHome, IsSymbol, IsRelocation}
+use Rattle.elf_objects.specs.Object.{elf_fault_of, contents_fault, ObjectValue, IsObject, IsSpanWithin, IsSectionHead, IsHome, IsSymbol, IsRelocation}
 use Rattle.elf_objects.proofs.PassLemmas.{length_each_below, at_each}
 use Rattle.elf_objects.proofs.ObjectLemmas.{no_sections_lists}
 
@@ -104,11 +104,11 @@ section_ends : (file : List ℕ) (i : ℕ) → section_fault file i ≡ None →
 unfolding section_fault
 section_ends file i e present = let no = not_refused _ _ e in grind (arith, nat_tests)
 
-bytes_within_by : (file : List ℕ) (h : Header) (b : Bool) → (b ≡ false → h.offset + h.size ≤ length file) → IsWithin (length file) (cond b (record { start = 0; end = 0 }) (record { start = h.offset; end = h.offset + h.size }))
+bytes_within_by : (file : List ℕ) (h : Header) (b : Bool) → (b ≡ false → h.offset + h.size ≤ length file) → IsSpanWithin (length file) (cond b (record { start = 0; end = 0 }) (record { start = h.offset; end = h.offset + h.size }))
 bytes_within_by file h true e = record { ordered = omega arith; within = omega arith }
 bytes_within_by file h false e = let k = e refl in record { ordered = omega arith; within = omega (arith, k) }
 
-bytes_within : (file : List ℕ) (i : ℕ) → IsSound file → i < section_count file → IsWithin (length file) ((section_of file i).bytes)
+bytes_within : (file : List ℕ) (i : ℕ) → IsSound file → i < section_count file → IsSpanWithin (length file) ((section_of file i).bytes)
 unfolding section_of
 bytes_within file i sound lt = bytes_within_by file (header_of file i) (is_absent (header_of file i)) (section_ends file i (below_none _ _ i sound.sections lt))
 
@@ -130,7 +130,7 @@ position_within : (p : ℕ → Bool) (at : ℕ) (bytes : List ℕ) (n : ℕ) →
 position_within p at [] n e = cc
 position_within p at (byte ∷ bytes) n e = position_by (p byte) at n (length bytes) (position_from p (at + 1) bytes) e (position_within p (at + 1) bytes n)
 
-name_within_by : (file : List ℕ) (strings : Header) (offset : ℕ) (o : Option ℕ) → name_end file strings offset ≡ o → is_none o ≡ false → strings.offset + strings.size ≤ length file → IsWithin (length file) (record { start = strings.offset + offset; end = strings.offset + unwrap_or o offset })
+name_within_by : (file : List ℕ) (strings : Header) (offset : ℕ) (o : Option ℕ) → name_end file strings offset ≡ o → is_none o ≡ false → strings.offset + strings.size ≤ length file → IsSpanWithin (length file) (record { start = strings.offset + offset; end = strings.offset + unwrap_or o offset })
 unfolding name_end
 name_within_by file strings offset None e some ends = cc
 name_within_by file strings offset (Some n) e some ends =
@@ -141,7 +141,7 @@ name_within_by file strings offset (Some n) e some ends =
     record { ordered = omega arith; within = omega arith }
 
 -- a name of a string table that is in the file
-name_within : (file : List ℕ) (strings : Header) (offset : ℕ) → is_none (name_end file strings offset) ≡ false → strings.offset + strings.size ≤ length file → IsWithin (length file) (name_span file strings offset)
+name_within : (file : List ℕ) (strings : Header) (offset : ℕ) → is_none (name_end file strings offset) ≡ false → strings.offset + strings.size ≤ length file → IsSpanWithin (length file) (name_span file strings offset)
 name_within file strings offset some ends = name_within_by file strings offset (name_end file strings offset) refl some ends
 
 -- a section that is a string table is in the file
@@ -161,7 +161,7 @@ named_by : (file : List ℕ) (i : ℕ) → name_fault file i ≡ None → is_non
 unfolding name_fault
 named_by file i e = not_refused _ _ e
 
-section_name_within : (file : List ℕ) (i : ℕ) → IsSound file → i < section_count file → IsWithin (length file) ((section_of file i).name)
+section_name_within : (file : List ℕ) (i : ℕ) → IsSound file → i < section_count file → IsSpanWithin (length file) ((section_of file i).name)
 unfolding section_of
 section_name_within file i sound lt =
     let at = table_index file sound.name_table in
@@ -174,15 +174,15 @@ pub length_sections : (file : List ℕ) → length (sections_of file) ≡ sectio
 unfolding sections_of
 length_sections file = length_each_below (section_of file) (section_count file)
 
-all_sections_of : (file : List ℕ) → elf_fault_of file ≡ None → All (IsSection (length file)) (sections_of file)
+all_sections_of : (file : List ℕ) → elf_fault_of file ≡ None → All (IsSectionHead (length file)) (sections_of file)
 unfolding sections_of
 all_sections_of file e =
-    all_each_below (IsSection (length file)) (section_of file) (section_count file)
+    all_each_below (IsSectionHead (length file)) (section_of file) (section_count file)
     (λ i lt. let sound = sound_of file e (omega arith) in record { name = section_name_within file i sound lt; bytes = bytes_within file i sound lt; sized = bytes_sized file i })
 
 -- the spans of sections are of the file
-pub all_sections : (object : ObjectValue) → IsObject object → All (IsSection (length object.file)) object.sections
-all_sections object is = All-same (IsSection (length object.file)) object.sections (sections_of object.file) is.sections (all_sections_of object.file is.sound)
+pub all_sections : (object : ObjectValue) → IsObject object → All (IsSectionHead (length object.file)) object.sections
+all_sections object is = All-same (IsSectionHead (length object.file)) object.sections (sections_of object.file) is.sections (all_sections_of object.file is.sound)
 
 -- ---- symbols
 

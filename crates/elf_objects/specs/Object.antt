@@ -46,14 +46,14 @@ pub record IsObject (object : ObjectValue) : Type 0 where
   pub relocations : object.relocations ≡ relocations_of object.file
 
 -- a span of a file of this length
-pub record IsWithin (size : ℕ) (span : Span) : Type 0 where
+pub record IsSpanWithin (size : ℕ) (span : Span) : Type 0 where
   pub ordered : span.start ≤ span.end
   pub within : span.end ≤ size
 
 -- a section's spans are of the file, and it has no more bytes there than its size
-pub record IsSection (size : ℕ) (section : SectionHead) : Type 0 where
-  pub name : IsWithin size section.name
-  pub bytes : IsWithin size section.bytes
+pub record IsSectionHead (size : ℕ) (section : SectionHead) : Type 0 where
+  pub name : IsSpanWithin size section.name
+  pub bytes : IsSpanWithin size section.bytes
   pub sized : section.bytes.end ≤ section.bytes.start + section.size
 
 -- a symbol that lies in a section lies in one of these
@@ -65,7 +65,7 @@ IsHome sections (home.In k) = k < sections
 
 -- a symbol's name is of the file, and its section is one of these
 pub record IsSymbol (size sections : ℕ) (symbol : Symbol) : Type 0 where
-  pub name : IsWithin size symbol.name
+  pub name : IsSpanWithin size symbol.name
   pub home : IsHome sections symbol.home
 
 -- a relocation's table and target are among these sections, the target is loaded, and its symbol is among so many symbols

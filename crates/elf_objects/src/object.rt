@@ -6,7 +6,7 @@ ghost use Rattle.elf_objects.specs.Section.{is_loaded};
 ghost use Rattle.elf_objects.specs.Names.{sections_of};
 ghost use Rattle.elf_objects.specs.Symbol.{symbols_of};
 ghost use Rattle.elf_objects.specs.internal.Relocation.{ends_of};
-ghost use Rattle.elf_objects.specs.Object.{ObjectValue, IsObject, IsSection, IsSymbol, IsRelocation, elf_fault_of, contents_fault};
+ghost use Rattle.elf_objects.specs.Object.{ObjectValue, IsObject, IsSectionHead, IsSymbol, IsRelocation, elf_fault_of, contents_fault};
 
 use crate::fault::ElfFault;
 use crate::header::{check_header, check_table, section_count};
@@ -138,7 +138,7 @@ impl Object {
     /// The sections, by their index.
     pub fn sections(&self) -> &[SectionHead]
         ensures value { result.now ≡ self.now.sections }
-        ensures within { All (IsSection (length self.now.file)) result.now }
+        ensures within { All (IsSectionHead (length self.now.file)) result.now }
         ensures few { length result.now < 65536 }
     {
         let file = self.file.as_slice();
@@ -166,7 +166,7 @@ impl Object {
     pub fn section(&self, index: u32) -> SectionHead
         requires there { index < length self.now.sections }
         ensures value { slice_get self.now.sections index ≡ Some result }
-        ensures within { IsSection (length self.now.file) result }
+        ensures within { IsSectionHead (length self.now.file) result }
     {
         self.sections()[index as usize]
     }

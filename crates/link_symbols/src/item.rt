@@ -2,7 +2,7 @@
 
 ghost use Rattle.std.specs.Prelude.{◌≡◌, ◌+◌, ◌*◌, ◌<◌, ◌≤◌, ◌++◌, ◌^◌, List, Vec, length, map, string_bytes, OnOk, IfOk, IfErr, None};
 ghost use Rattle.layout_file.specs.Views.{module_of};
-ghost use Rattle.elf_objects.specs.Object.{ObjectValue, IsSection};
+ghost use Rattle.elf_objects.specs.Object.{ObjectValue, IsSectionHead};
 ghost use Rattle.link_symbols.specs.internal.Layouts.{AreShort};
 ghost use Rattle.link_symbols.specs.Parts.{code_part as code_part_of, data_part as data_part_of, is_named, part_in, part_of, item_of, items_in, section_items};
 ghost use Rattle.link_symbols.specs.Passes.{IsFaultOf, first_at, first_in, NumberedObject};
@@ -125,7 +125,7 @@ fn part_of(modules: &[ModuleSpec], name: &[u8], head: SectionHead) -> Option<Par
 fn item_of(modules: &[ModuleSpec], object: &Object, head: SectionHead) -> Item
     requires few { length modules.now ≤ 32 }
     requires names { AreShort modules.now }
-    requires section { IsSection (length object.now.file) head }
+    requires section { IsSectionHead (length object.now.file) head }
     ensures { result ≡ item_of (map module_of modules.now) object.now head }
 {
     let part = if head.is_loaded() {
@@ -152,7 +152,7 @@ fn placed_item(
 ) -> Result<Item, LinkFault>
     requires few { length modules.now ≤ 32 }
     requires names { AreShort modules.now }
-    requires section { IsSection (length object.now.file) head }
+    requires section { IsSectionHead (length object.now.file) head }
     ensures item { IfOk result (λ i. i ≡ item_of (map module_of modules.now) object.now head) }
     ensures sound { OnOk result (no_place_at (map module_of modules.now) (numbered_object number first
         object.now) k head ≡ None) }

@@ -20,7 +20,7 @@ use Rattle.elf_objects.specs.Object.{contents_fault, elf_fault_of}
 use Rattle.asm_text.specs.declared.unit.SectionKind.{SectionKind}
 use Rattle.asm_text.specs.declared.unit.SectionKind.TheVariants.{Code}
 use Rattle.asm_text.specs.declared.unit.AsmRelocation.{AsmRelocation}
-use Rattle.asm_text.specs.Parts.{SymbolValue, UnitValue, IsUnit, IsSymbol, IsRelocation}
+use Rattle.asm_text.specs.Parts.{SymbolValue, UnitValue, IsUnit, IsSymbolValue, IsAsmRelocation}
 use Rattle.elf_objects.specs.Numbers.{symbol_size}
 use Rattle.obj_write.specs.Bytes.{half_bytes, word_bytes, zeros}
 use Rattle.obj_write.specs.Strings.{terminated, string_table, name_at}
@@ -146,7 +146,7 @@ pub entry_given : (unit : UnitValue) → IsUnit unit → (k : ℕ) → k < lengt
 unfolding symbol_entry_at
 entry_given unit is k lt =
     let s : SymbolValue = get_or unit.symbols k no_symbol in
-    let h = All-get_or (IsSymbol (length unit.sections)) unit.symbols k no_symbol lt is.symbols_kept in
+    let h = All-get_or (IsSymbolValue (length unit.sections)) unit.symbols k no_symbol lt is.symbols_kept in
     let home = home_few (length unit.sections) s.home is.few_sections h.home in
     let few = is.few_sections in
     let name = symbol_name_few unit k in
@@ -160,7 +160,7 @@ symbol_by unit is k lt =
     let table : Header = symbols_read unit in
     let names : List (List ℕ) = symbol_names unit.symbols in
     let s : SymbolValue = get_or unit.symbols k no_symbol in
-    let h = All-get_or (IsSymbol (length unit.sections)) unit.symbols k no_symbol lt is.symbols_kept in
+    let h = All-get_or (IsSymbolValue (length unit.sections)) unit.symbols k no_symbol lt is.symbols_kept in
     let home = home_few (length unit.sections) s.home is.few_sections h.home in
     let few = is.few_sections in
     let e = entry_given unit is k lt in
@@ -231,8 +231,8 @@ relocation_entry_by unit is j i symbols lt count e within =
     let n = length_relocations unit.relocations target in
     let inside : e < length list = omega (arith, n) in
     let r : AsmRelocation = get_or list e no_relocation in
-    let kept = All-get_or (IsRelocation (length unit.sections) (length unit.symbols)) list e no_relocation inside
-    (All-filter (λ (q : AsmRelocation). eqb q.section target) (IsRelocation (length unit.sections) (length unit.symbols)) unit.relocations is.relocations_kept) in
+    let kept = All-get_or (IsAsmRelocation (length unit.sections) (length unit.symbols)) list e no_relocation inside
+    (All-filter (λ (q : AsmRelocation). eqb q.section target) (IsAsmRelocation (length unit.sections) (length unit.symbols)) unit.relocations is.relocations_kept) in
     let symbol = kept.symbol in
     let few = is.few_symbols in
     let info = info_read file at r (omega (arith, symbol, few)) (relocation_stands file (relocations_head_read unit j).offset unit.relocations target e inside (relocations_stand unit is j lt)) in

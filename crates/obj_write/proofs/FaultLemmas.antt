@@ -11,7 +11,7 @@ use Rattle.elf_objects.specs.Section.{header_of, content, ends_past, is_absent, 
 use Rattle.elf_objects.specs.Names.{end_in, name_end, name_fault, name_faults}
 use Rattle.asm_text.specs.declared.unit.SectionKind.{SectionKind}
 use Rattle.asm_text.specs.declared.unit.SectionKind.TheVariants.{Code, Data, Bss}
-use Rattle.asm_text.specs.Parts.{SectionValue, UnitValue, IsUnit, IsSection, kept_size}
+use Rattle.asm_text.specs.Parts.{SectionValue, UnitValue, IsUnit, IsSectionValue, kept_size}
 use Rattle.obj_write.specs.Strings.{string_table, name_at}
 use Rattle.obj_write.specs.Sections.{FileSection, no_section, content_at}
 use Rattle.obj_write.specs.Object.{no_part, kind_of, flags_of, strings_head, relocated_in, section_names, file_sections, shstrtab_index, object_of}
@@ -47,7 +47,7 @@ part_fault unit is k lt =
     let s : SectionValue = get_or unit.sections k no_part in
     let within = ends_within unit is k (omega arith) in
     let sized : length ((get_or (file_sections unit) k no_section).content) ≡ length s.bytes = ap (λ (t : FileSection). length t.content) (part_at unit k lt) ∙ ap length (part_content unit k) in
-    let h = All-get_or IsSection unit.sections k no_part lt is.sections_kept in
+    let h = All-get_or IsSectionValue unit.sections k no_part lt is.sections_kept in
     rw (part_read unit is k lt) (part_sound s.kind (length (object_of unit)) (content_at (file_sections unit) k) s.size (length s.bytes) (fault.Section (suc k)) h.filled (omega (arith, within, sized)))
 
 -- a table that stands in the file has no fault

@@ -21,13 +21,13 @@ use Rattle.elf_objects.specs.Object.{ObjectValue, IsObject}
 use Rattle.asm_text.specs.declared.unit.SectionKind.{SectionKind}
 use Rattle.asm_text.specs.declared.unit.SectionKind.TheVariants.{Code}
 use Rattle.asm_text.specs.declared.unit.AsmRelocation.{AsmRelocation}
-use Rattle.asm_text.specs.Parts.{SectionValue, SymbolValue, UnitValue, IsUnit, IsSymbol, IsRelocation}
+use Rattle.asm_text.specs.Parts.{SectionValue, SymbolValue, UnitValue, IsUnit, IsSymbolValue, IsAsmRelocation}
 use Rattle.obj_write.specs.Bytes.{word_bytes}
 use Rattle.obj_write.specs.Strings.{string_table}
 use Rattle.obj_write.specs.Symbols.{no_symbol, info_of, home_index, symbol_names}
 use Rattle.obj_write.specs.Relocations.{relocation_entry, relocations_in}
 use Rattle.obj_write.specs.Object.{no_part, kind_of, flags_of, relocated_in, object_of}
-use Rattle.obj_write.specs.Reader.{IsPart, IsSymbolOf, binding_read, home_read, no_relocation, relocation_read, table_read, IsObjectOf}
+use Rattle.obj_write.specs.Reader.{IsPartRead, IsSymbolOf, binding_read, home_read, no_relocation, relocation_read, table_read, IsObjectOf}
 use Rattle.obj_write.proofs.PassLemmas.{each_below_same}
 use Rattle.obj_write.proofs.ReadLemmas.{Stands, stands_left, stands_right, word_read, word_low, header}
 use Rattle.obj_write.proofs.FileLemmas.{no_head}
@@ -62,7 +62,7 @@ symbol_given unit is k lt =
     let table : Header = symbols_read unit in
     let s : SymbolValue = get_or unit.symbols k no_symbol in
     let e = entry_given unit is k lt in
-    let h = All-get_or (IsSymbol (length unit.sections)) unit.symbols k no_symbol lt is.symbols_kept in
+    let h = All-get_or (IsSymbolValue (length unit.sections)) unit.symbols k no_symbol lt is.symbols_kept in
     let home = home_few (length unit.sections) s.home is.few_sections h.home in
     let few = is.few_sections in
     let counted : length (symbol_names unit.symbols) ≡ length unit.symbols = length-map unit.symbols (λ (t : SymbolValue). t.name) in
@@ -112,8 +112,8 @@ relocation_given unit is j lt e inside =
     let list : List AsmRelocation = relocations_in unit.relocations target in
     let at : ℕ = (relocations_head_read unit j).offset + 12 * e in
     let r : AsmRelocation = get_or list e no_relocation in
-    let kept = All-get_or (IsRelocation (length unit.sections) (length unit.symbols)) list e no_relocation inside
-    (All-filter (λ (q : AsmRelocation). eqb q.section target) (IsRelocation (length unit.sections) (length unit.symbols)) unit.relocations is.relocations_kept) in
+    let kept = All-get_or (IsAsmRelocation (length unit.sections) (length unit.symbols)) list e no_relocation inside
+    (All-filter (λ (q : AsmRelocation). eqb q.section target) (IsAsmRelocation (length unit.sections) (length unit.symbols)) unit.relocations is.relocations_kept) in
     let symbol = kept.symbol in
     let few = is.few_symbols in
     let stands = relocation_stands file (relocations_head_read unit j).offset unit.relocations target e inside (relocations_stand unit is j lt) in
@@ -240,7 +240,7 @@ object_given unit is object same read =
           let at = given_at object.sections (section_of file) n (k + 1) head sections found in
           let what : get_or unit.sections k no_part ≡ s = get_or_from_slice_get unit.sections k s no_part there in
           let place : section_of file (suc k) ≡ head = ap (section_of file) (sym (add-one k)) ∙ at.1 in
-          subst (λ (l : List ℕ). IsPart l s head) (sym same) (subst (λ (x : SectionValue). IsPart file x head) what (subst (IsPart file (get_or unit.sections k no_part)) place (part_given unit is k lt)));
+          subst (λ (l : List ℕ). IsPartRead l s head) (sym same) (subst (λ (x : SectionValue). IsPartRead file x head) what (subst (IsPartRead file (get_or unit.sections k no_part)) place (part_given unit is k lt)));
       null = λ head found.
           let at = given_at object.sections (section_of file) n 0 head sections found in
           ap (λ (h : SectionHead). is_loaded h.kind h.flags) (sym at.1) ∙ not_loaded file 0 (header no_head) (zero_header unit is) refl;

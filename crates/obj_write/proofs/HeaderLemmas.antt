@@ -7,7 +7,7 @@ use Rattle.elf_objects.specs.Header.{section_count}
 use Rattle.elf_objects.specs.Section.{header_of}
 use Rattle.asm_text.specs.declared.unit.SectionKind.{SectionKind}
 use Rattle.asm_text.specs.declared.unit.SectionKind.TheVariants.{Code}
-use Rattle.asm_text.specs.Parts.{SymbolValue, UnitValue, IsUnit, IsSection}
+use Rattle.asm_text.specs.Parts.{SymbolValue, UnitValue, IsUnit, IsSectionValue}
 use Rattle.obj_write.specs.declared.sections.Head.{Head}
 use Rattle.obj_write.specs.Bytes.{zeros, gap, padded}
 use Rattle.obj_write.specs.Strings.{string_table, name_at}
@@ -91,7 +91,7 @@ small_part unit is k lt =
     let kind = kind_small (get_or unit.sections k no_part).kind in
     let flags = flags_small (get_or unit.sections k no_part).kind in
     let at = offset_few unit is k (omega (arith, n)) in
-    let h = All-get_or IsSection unit.sections k no_part lt is.sections_kept in
+    let h = All-get_or IsSectionValue unit.sections k no_part lt is.sections_kept in
     let size = h.small in
     subst IsSmall (sym (part_of_file unit k lt)) record {
       name = omega (arith, name);

@@ -10,7 +10,7 @@ use Rattle.std.proofs.lemmas.Bool.{and_from, and_parts}
 use Rattle.elf_objects.specs.declared.section.Header.{Header}
 use Rattle.elf_objects.specs.Section.{content}
 use Rattle.elf_objects.specs.Names.{end_in}
-use Rattle.asm_text.specs.Parts.{SectionValue, SymbolValue, UnitValue, IsUnit, IsSection, IsSymbol, is_name, is_name_byte, is_digit}
+use Rattle.asm_text.specs.Parts.{SectionValue, SymbolValue, UnitValue, IsUnit, IsSectionValue, IsSymbolValue, is_name, is_name_byte, is_digit}
 use Rattle.obj_write.specs.Strings.{terminated, string_table, name_at}
 use Rattle.obj_write.specs.Symbols.{symbol_names}
 use Rattle.obj_write.specs.Object.{no_part, table_names, part_names, relocation_name, relocated_in, section_names}
@@ -85,12 +85,12 @@ content_read file h bytes sized s =
 pub symbol_strings : (unit : UnitValue) → IsUnit unit → All (IsString 64) (symbol_names unit.symbols)
 symbol_strings unit is =
     All-map (IsString 64) (λ (s : SymbolValue). s.name) unit.symbols
-    (All-weaker (IsSymbol (length unit.sections)) (λ s. IsString 64 s.name) (λ s h. name_is s.name h.named) unit.symbols is.symbols_kept)
+    (All-weaker (IsSymbolValue (length unit.sections)) (λ s. IsString 64 s.name) (λ s h. name_is s.name h.named) unit.symbols is.symbols_kept)
 
 part_strings : (unit : UnitValue) → IsUnit unit → All (IsString 69) (part_names unit.sections)
 part_strings unit is =
     All-map (IsString 69) (λ (s : SectionValue). s.name) unit.sections
-    (All-weaker IsSection (λ s. IsString 69 s.name) (λ s h. let n = name_is s.name h.named in record { short = let l = n.short in omega (arith, l); bytes = n.bytes }) unit.sections is.sections_kept)
+    (All-weaker IsSectionValue (λ s. IsString 69 s.name) (λ s h. let n = name_is s.name h.named in record { short = let l = n.short in omega (arith, l); bytes = n.bytes }) unit.sections is.sections_kept)
 
 table_strings : All (IsString 69) table_names
 table_strings =
@@ -102,7 +102,7 @@ table_strings =
 
 relocation_string : (unit : UnitValue) → IsUnit unit → (i : ℕ) → i < length unit.sections → IsString 69 (relocation_name unit.sections i)
 relocation_string unit is i lt =
-    let h = All-get_or IsSection unit.sections i no_part lt is.sections_kept in
+    let h = All-get_or IsSectionValue unit.sections i no_part lt is.sections_kept in
     let n = name_is (get_or unit.sections i no_part).name h.named in
     let l = n.short in
     record { short = omega (arith, l); bytes = n.bytes }

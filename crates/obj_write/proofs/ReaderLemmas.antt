@@ -11,11 +11,11 @@ use Rattle.elf_objects.specs.Section.{header_of, content, content_span}
 use Rattle.elf_objects.specs.Names.{end_in, name_end, name_span, section_of}
 use Rattle.asm_text.specs.declared.unit.SectionKind.{SectionKind}
 use Rattle.asm_text.specs.declared.unit.SectionKind.TheVariants.{Code, Data, Bss}
-use Rattle.asm_text.specs.Parts.{SectionValue, UnitValue, IsUnit, IsSection, kept_size}
+use Rattle.asm_text.specs.Parts.{SectionValue, UnitValue, IsUnit, IsSectionValue, kept_size}
 use Rattle.obj_write.specs.Strings.{terminated, string_table, name_at}
 use Rattle.obj_write.specs.Sections.{FileSection, no_section, content_at}
 use Rattle.obj_write.specs.Object.{no_part, kind_of, strings_head, part_names, table_names, relocation_name, relocated_in, section_names, file_sections, shstrtab_index, object_of}
-use Rattle.obj_write.specs.Reader.{IsPart}
+use Rattle.obj_write.specs.Reader.{IsPartRead}
 use Rattle.obj_write.proofs.ReadLemmas.{Stands, stands_left, stands_right, stands_drop, stands_each, header}
 use Rattle.obj_write.proofs.ObjectLemmas.{length_names}
 use Rattle.obj_write.proofs.SizeLemmas.{length_sections, part_at, shstrtab_at}
@@ -89,13 +89,13 @@ bytes_by file Code at size bytes e s = range_by file at (at + size) bytes (omega
 bytes_by file Data at size bytes e s = range_by file at (at + size) bytes (omega (arith, e)) s
 bytes_by file Bss at size bytes e s = sym (nil_from_length bytes e)
 
-pub part_given : (unit : UnitValue) → IsUnit unit → (k : ℕ) → k < length unit.sections → IsPart (object_of unit) (get_or unit.sections k no_part) (section_of (object_of unit) (suc k))
+pub part_given : (unit : UnitValue) → IsUnit unit → (k : ℕ) → k < length unit.sections → IsPartRead (object_of unit) (get_or unit.sections k no_part) (section_of (object_of unit) (suc k))
 unfolding section_of
 part_given unit is k lt =
     let file : List ℕ = object_of unit in
     let s : SectionValue = get_or unit.sections k no_part in
     let read = part_read unit is k lt in
-    let h = All-get_or IsSection unit.sections k no_part lt is.sections_kept in
+    let h = All-get_or IsSectionValue unit.sections k no_part lt is.sections_kept in
     let n = length_names unit in
     let strings : Header = header_of file (name_table file) in
     let stands : Stands file strings.offset (string_table (section_names unit)) = subst (λ (x : Header). Stands file x.offset (string_table (section_names unit))) (sym (names_header unit is)) (names_stand unit is) in

@@ -7,7 +7,7 @@ use Rattle.std.proofs.lemmas.List.Elements.{All-get_or, All-take, All-weaker}
 use Rattle.elf_objects.specs.Passes.{each_below}
 use Rattle.asm_text.specs.declared.unit.SectionKind.{SectionKind}
 use Rattle.asm_text.specs.declared.unit.SectionKind.TheVariants.{Code}
-use Rattle.asm_text.specs.Parts.{SymbolValue, UnitValue, IsUnit, IsSection, kept_size}
+use Rattle.asm_text.specs.Parts.{SymbolValue, UnitValue, IsUnit, IsSectionValue, kept_size}
 use Rattle.obj_write.specs.Bytes.{padded}
 use Rattle.obj_write.specs.Strings.{string_table, name_at}
 use Rattle.obj_write.specs.Sections.{FileSection, contents_of}
@@ -60,7 +60,7 @@ kept_few _ size = omega arith
 
 part_few : (unit : UnitValue) → IsUnit unit → (k : ℕ) → k < length unit.sections → length (padded (part_section unit k).content) ≤ 65537
 part_few unit is k lt =
-    let h = All-get_or IsSection unit.sections k no_part lt is.sections_kept in
+    let h = All-get_or IsSectionValue unit.sections k no_part lt is.sections_kept in
     let a = h.small in
     let b = h.filled in
     let c = kept_few (get_or unit.sections k no_part).kind (get_or unit.sections k no_part).size in

@@ -16,7 +16,7 @@ use Rattle.obj_write.specs.Relocations.{word_field, relocations_in}
 use Rattle.obj_write.specs.Object.{section_align, kind_of, flags_of, relocated_in}
 
 -- the section is the unit's, with its name and its bytes
-pub record IsPart (file : List ℕ) (s : SectionValue) (head : SectionHead) : Type 0 where
+pub record IsPartRead (file : List ℕ) (s : SectionValue) (head : SectionHead) : Type 0 where
   pub name : slice_range file head.name.start head.name.end ≡ s.name
   pub kind : head.kind ≡ kind_of s.kind
   pub flags : head.flags ≡ flags_of s.kind
@@ -64,7 +64,7 @@ table_read unit j = let section = slice_index_or (relocated_in unit) j 0 in let 
 -- the object has the unit's sections, symbols and relocations, and beside them only section 0, symbol 0 and tables
 pub record IsObjectOf (unit : UnitValue) (object : ObjectValue) : Type 0 where
   pub section_count : length object.sections ≡ length unit.sections + 4 + length (relocated_in unit)
-  pub sections : (k : ℕ) (s : SectionValue) (head : SectionHead) → slice_get unit.sections k ≡ Some s → slice_get object.sections (k + 1) ≡ Some head → IsPart object.file s head
+  pub sections : (k : ℕ) (s : SectionValue) (head : SectionHead) → slice_get unit.sections k ≡ Some s → slice_get object.sections (k + 1) ≡ Some head → IsPartRead object.file s head
   pub null : (head : SectionHead) → slice_get object.sections 0 ≡ Some head → is_loaded head.kind head.flags ≡ false
   pub tables : (k : ℕ) (head : SectionHead) → length unit.sections < k → slice_get object.sections k ≡ Some head → is_loaded head.kind head.flags ≡ false
   pub symbol_count : length object.symbols ≡ length unit.symbols + 1

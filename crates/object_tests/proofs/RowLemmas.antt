@@ -3,7 +3,7 @@ use Rattle.std.proofs.Common.{◌≡◌, ◌≢◌, ℕ, ◌<◌, List, [], ◌�
 use Rattle.std.specs.List.{AllPairs}
 use Rattle.std.proofs.lemmas.List.Elements.{All-nil, All-cons}
 use Rattle.std.proofs.lemmas.List.Kept.{AllPairs-cons}
-use Rattle.asm_text.specs.Parts.{SectionValue, SymbolValue, IsUnit, IsSection, IsSymbol, IsRelocation, is_name, is_name_byte}
+use Rattle.asm_text.specs.Parts.{SectionValue, SymbolValue, IsUnit, IsSectionValue, IsSymbolValue, IsAsmRelocation, is_name, is_name_byte}
 use Rattle.object_tests.specs.internal.Rows.{text_value, here_value, main_value}
 
 no_pairs : {X : Type 0} (R : X → X → Type 0) → AllPairs R []
@@ -22,11 +22,11 @@ row_is = record {
   few_sections = omega arith;
   few_symbols = omega arith;
   few_relocations = omega arith;
-  sections_kept = All-cons IsSection text_value [] (record { named = refl; small = omega arith; filled = refl }) (All-nil IsSection);
+  sections_kept = All-cons IsSectionValue text_value [] (record { named = refl; small = omega arith; filled = refl }) (All-nil IsSectionValue);
   symbols_kept =
-      All-cons (IsSymbol 1) here_value (main_value ∷ []) (record { named = refl; local = λ _ e. cc; home = first_home })
-      (All-cons (IsSymbol 1) main_value [] (record { named = refl; local = λ e _. cc; home = first_home }) (All-nil (IsSymbol 1)));
-  relocations_kept = All-nil (IsRelocation 1 2);
+      All-cons (IsSymbolValue 1) here_value (main_value ∷ []) (record { named = refl; local = λ _ e. cc; home = first_home })
+      (All-cons (IsSymbolValue 1) main_value [] (record { named = refl; local = λ e _. cc; home = first_home }) (All-nil (IsSymbolValue 1)));
+  relocations_kept = All-nil (IsAsmRelocation 1 2);
   sections_differ = AllPairs-cons (λ (a b : SectionValue). a.name ≢ b.name) text_value [] (All-nil (λ b. text_value.name ≢ b.name)) (no_pairs (λ a b. a.name ≢ b.name));
   symbols_differ =
       AllPairs-cons (λ (a b : SymbolValue). a.name ≢ b.name) here_value (main_value ∷ [])
