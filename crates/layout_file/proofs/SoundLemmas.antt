@@ -24,7 +24,7 @@ use Rattle.layout_file.proofs.ClashLemmas.{AllPairs-first_clash, AllPairs-weaker
 use Rattle.layout_file.specs.Layout as layout
 use Rattle.layout_file.specs.Layout.{LayoutOf}
 use Rattle.layout_file.specs.Values.{VectorValue, ModuleValue, LayoutValue, regions, names_of, boots_of}
-use Rattle.layout_file.specs.Sound.{IsRegion, AreVectors, IsModule, IsLayout}
+use Rattle.layout_file.specs.Sound.{IsRegion, AreVectors, IsModuleValue, IsLayout}
 use Rattle.layout_file.specs.declared.fault.Spot.{Spot}
 use Rattle.layout_file.specs.declared.fault.LayoutFault.{LayoutFault}
 use Rattle.layout_file.specs.declared.fault.LayoutFault.TheVariants.{OutOfRange, TooMany, Utf8OrToml, Overlap, SameName, SameBoot}
@@ -299,7 +299,7 @@ length-tables spot most table ts h = by (rows.at spot table) h
 -- what a module's table gives
 record IsRow (version n : ℕ) (m : ModuleValue) : Type 0 where
   pub first_version : (version == 1) ≡ true → m.boot ≡ n + 1
-  pub is_module : n < layout.room_of version → IsModule (layout.room_of version) m
+  pub is_module : n < layout.room_of version → IsModuleValue (layout.room_of version) m
 
 record IsBoot (first : Bool) (n boot : ℕ) : Type 0 where
   first_version : first ≡ true → boot ≡ n + 1
@@ -390,7 +390,7 @@ first_of_room version h = by (version == 1) h
     by false h = absurd (omega arith)
 
 record AreModules (version : ℕ) (ms : List ModuleValue) : Type 0 where
-  each : All (IsModule (layout.room_of version)) ms
+  each : All (IsModuleValue (layout.room_of version)) ms
   few : length ms ≤ layout.room_of version
   in_order : layout.room_of version ≡ 8 → (k d : ℕ) → k < length ms → get_or (boots_of ms) k d ≡ k + 1
 

@@ -20,7 +20,7 @@ pub record AreVectors (vectors : List VectorValue) : Type 0 where
   pub below_16 : All (λ v. v.vector < 16) vectors
   pub rising : AllPairs (λ v w. v.vector < w.vector) vectors
 
-pub record IsModule (room : ℕ) (m : ModuleValue) : Type 0 where
+pub record IsModuleValue (room : ℕ) (m : ModuleValue) : Type 0 where
   pub some_name : 1 ≤ length m.name
   pub short_name : length m.name ≤ 32
   pub name_bytes : AllPass is_name_byte m.name
@@ -44,7 +44,7 @@ pub record IsLayout (l : LayoutValue) : Type 0 where
   pub text_region : IsRegion l.text
   pub ram_region : IsRegion l.ram
   pub vectors_kept : AreVectors l.vectors
-  pub modules_kept : All (IsModule l.room) l.modules
+  pub modules_kept : All (IsModuleValue l.room) l.modules
   pub few_modules : length l.modules ≤ l.room
   pub regions_apart : AllPairs ShareNoByte (regions l.text l.ram l.modules)
   pub names_differ : AllPairs (λ a b. a ≢ b) (names_of l.modules)

@@ -33,7 +33,7 @@ use Rattle.link_symbols.specs.Refusals.{no_place, no_place_at, no_place_in, is_u
 use Rattle.linker.specs.Refusals.{overfull, overfull_at, overfull_in, link_fault_of}
 use Rattle.link_symbols.proofs.OrderLemmas.{both_none}
 use Rattle.linker.proofs.BoundLemmas.{not_over}
-use Rattle.linker_laws.specs.Conditions.{SectionsPlaced, UsedStand, VectorsStand, IsEntry, EntriesStand, ContentsFit, RelocationsApply, CanLink, LinksExactly}
+use Rattle.linker_laws.specs.Conditions.{SectionsPlaced, UsedStand, VectorsStand, IsEntryPlace, EntriesStand, ContentsFit, RelocationsApply, CanLink, LinksExactly}
 use Rattle.linker_laws.proofs.Searches.{or_none, in_none, none_in, at_none, none_at, refused_not, not_refused, some_is, is_some_by, got, gets}
 use Rattle.linker_laws.proofs.Strong.{duplicates, no_duplicates}
 
@@ -189,7 +189,7 @@ item_by : (items : List Item) (k : ℕ) (x : Item) → slice_get items k ≡ Som
 item_by items k x e = (got items k x e).1 _
 
 entry_by : (items : List Item) (i k offset : ℕ) (o : Option Item) → slice_get items k ≡ o →
-    is_entry_in i offset o ≡ true → IsEntry items i (Some (meaning.Place k offset))
+    is_entry_in i offset o ≡ true → IsEntryPlace items i (Some (meaning.Place k offset))
 entry_by items i k offset None q e = cc
 entry_by items i k offset (Some x) q e =
     let b = and_parts (is_code_of i x.part && (offset % 2 == 0)) (nat_lt offset x.size) e in
@@ -205,7 +205,7 @@ entry_by items i k offset (Some x) q e =
       within = let t = b.1 in let w : offset < x.size = grind (arith, nat_tests) in omega (arith, w, size);
     }
 
-entry_of : (items : List Item) (i : ℕ) (m : Option Meaning) → is_entry items i m ≡ true → IsEntry items i m
+entry_of : (items : List Item) (i : ℕ) (m : Option Meaning) → is_entry items i m ≡ true → IsEntryPlace items i m
 entry_of items i None e = cc
 entry_of items i (Some (meaning.Number n)) e = cc
 entry_of items i (Some (meaning.Place k offset)) e = entry_by items i k offset (slice_get items k) refl e
@@ -228,7 +228,7 @@ item_in items i k offset (Some x) q code even within =
     let w : offset < x.size = omega (arith, within, size) in
     three (is_code_of i x.part) (offset % 2 == 0) (nat_lt offset x.size) (by_code i x.part (ap (λ (y : Item). y.part) (sym same) ∙ code)) (grind (arith, nat_tests)) (grind (arith, nat_tests))
 
-is_entry_by : (items : List Item) (i : ℕ) (m : Option Meaning) → IsEntry items i m → is_entry items i m ≡ true
+is_entry_by : (items : List Item) (i : ℕ) (m : Option Meaning) → IsEntryPlace items i m → is_entry items i m ≡ true
 is_entry_by items i m h = ap (is_entry items i) h.place ∙ item_in items i h.item h.offset (slice_get items h.item) refl h.code h.even h.within
 
 entries : (names : List ℕ → Option Meaning) (items : List Item) (ms : List ModuleValue) →
@@ -245,7 +245,7 @@ not_elsewhere names items ms h = none_at (elsewhere_in names items) ms (λ i d l
     let x = get_or ms i d in
     none_at (elsewhere_at names items i) x.entries (λ k name m. not_refused _ _ (is_not _ (is_entry_by items i (names (get_or x.entries k name)) (h i d l k name m)))))
 
-stands_if : (items : List Item) (i : ℕ) (m : Option Meaning) → IsEntry items i m → is_none m ≡ false
+stands_if : (items : List Item) (i : ℕ) (m : Option Meaning) → IsEntryPlace items i m → is_none m ≡ false
 stands_if items i m h = ap is_none h.place
 
 no_entry_if : (names : List ℕ → Option Meaning) (items : List Item) (ms : List ModuleValue) →

@@ -45,7 +45,7 @@ abbrev pub VectorsStand : (List ℕ → Option Meaning) → List VectorValue →
 VectorsStand names vectors = All (λ v. names v.name ≢ None) vectors
 
 -- an even place in a section of the code of module i
-pub record IsEntry (items : List Item) (i : ℕ) (found : Option Meaning) : Type 0 where
+pub record IsEntryPlace (items : List Item) (i : ℕ) (found : Option Meaning) : Type 0 where
   pub item : ℕ
   pub offset : ℕ
   pub place : found ≡ Some (meaning.Place item offset)
@@ -56,7 +56,7 @@ pub record IsEntry (items : List Item) (i : ℕ) (found : Option Meaning) : Type
 -- each entry's name stands for one in its own module
 abbrev pub EntriesStand : (List ℕ → Option Meaning) → List Item → List ModuleValue → Type 0
 EntriesStand names items modules = (i : ℕ) (d : ModuleValue) → i < length modules →
-    All (λ name. IsEntry items i (names name)) (slice_index_or modules i d).entries
+    All (λ name. IsEntryPlace items i (names name)) (slice_index_or modules i d).entries
 
 -- each region's contents end within it, a module's at an even address
 pub record ContentsFit (layout : LayoutValue) (end : ℕ → ℕ) : Type 0 where

@@ -11,7 +11,7 @@ use Rattle.link_symbols.specs.Passes.{NumberedObject, numbered_objects, fold_at}
 use Rattle.linker_laws.specs.Contents.{IsLoaded, SectionBytes, field_span}
 use Rattle.mod_layout.specs.Table.{holds}
 use Rattle.link_map.specs.Parts.{PartValue, insert_part, section_part, with_part, with_section, with_sections, parts_of}
-use Rattle.map_laws.specs.Laws.{IsPart, Each, Rises, PartBytes, map_parts}
+use Rattle.map_laws.specs.Laws.{IsSectionPart, Each, Rises, PartBytes, map_parts}
 
 -- ---- what holds of each
 
@@ -75,8 +75,8 @@ each_part P address os h = objects_more P address (numbered_objects os) [] (all_
           all_objects xs (i + 1) (λ n y g. let k : i + suc n ≡ i + 1 + n = omega arith in subst (λ j. slice_get (numbered_objects os) j ≡ Some y) k (e (suc n) y g)),
         )
 
-pub parts_sections : (layout : LayoutValue) (os : List ObjectValue) → Each (IsPart layout os) (map_parts layout os)
-parts_sections layout os = each_part (IsPart layout os) (linking_of layout os).address os
+pub parts_sections : (layout : LayoutValue) (os : List ObjectValue) → Each (IsSectionPart layout os) (map_parts layout os)
+parts_sections layout os = each_part (IsSectionPart layout os) (linking_of layout os).address os
     (λ x k s loaded some. record { object = x; index = k; section = s; loaded = loaded; some = some; same = refl })
 
 -- ---- in rising address

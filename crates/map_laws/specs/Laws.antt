@@ -19,7 +19,7 @@ abbrev pub map_parts : LayoutValue → List ObjectValue → List PartValue
 map_parts layout objects = parts_of (linking_of layout objects).address objects
 
 -- a part is a loaded section that has bytes
-pub record IsPart (layout : LayoutValue) (objects : List ObjectValue) (p : PartValue) : Type 0 where
+pub record IsSectionPart (layout : LayoutValue) (objects : List ObjectValue) (p : PartValue) : Type 0 where
   pub object : NumberedObject
   pub index : ℕ
   pub section : SectionHead
@@ -32,7 +32,7 @@ Each P [] = Unit {0}
 Each P (x ∷ xs) = P x × Each P xs
 
 abbrev pub PartsAreSections : Type 0
-PartsAreSections = (layout : LayoutValue) (objects : List ObjectValue) → Each (IsPart layout objects) (map_parts layout objects)
+PartsAreSections = (layout : LayoutValue) (objects : List ObjectValue) → Each (IsSectionPart layout objects) (map_parts layout objects)
 
 abbrev pub Rises : List PartValue → Type 0
 Rises [] = Unit {0}

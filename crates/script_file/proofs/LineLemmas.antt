@@ -16,7 +16,7 @@ use Rattle.written_machine.specs.declared.ScriptLine.TheVariants.{Go, Until, Reg
 use Rattle.script_file.specs.declared.line.Operands.{Operands}
 use Rattle.script_file.specs.declared.line.LineFault.TheVariants as fault
 use Rattle.script_file.specs.Bounds.{is_bounded, IsBounded, IsAddressed, IsLine}
-use Rattle.script_file.specs.Laws.{LinesAreRead}
+use Rattle.script_file.specs.Laws.{ScriptLinesAreRead}
 use Rattle.script_file.specs.Line.{read_any_decimal, both, operands_of, go_form, until_form, mem_form, back_form, last_form, bare_form, begins, form_of, line_text, checked}
 
 -- ---- from a text to its line
@@ -181,7 +181,7 @@ form_to (Last addr k) h = ap (option_map (λ (a : Operands). Last a.addr a.numbe
 taken_to : (l : ScriptLine) → IsBounded l → result_ok (checked (Some l)) ≡ Some l
 taken_to l bounded = ap (λ c. result_ok (cond c (Ok l) (Err fault.Bounds))) bounded
 
-pub lines_are_read : LinesAreRead
+pub lines_are_read : ScriptLinesAreRead
 lines_are_read text l = (
   λ e. let t = taken (form_of text) l e in let is = form_from text l t.0 t.1 in (record { addressed = is.0; bounded = t.1 }, is.1),
   λ h. ap (λ t. result_ok (checked (form_of t))) h.1 ∙ ap (λ o. result_ok (checked o)) (form_to l h.0) ∙ taken_to l h.0.bounded,

@@ -5,5 +5,5 @@ use Rattle.script_file.specs.Bounds.{IsLine}
 use Rattle.script_file.specs.Line.{form_of, line_text, checked}
 
 -- A text is taken as a line exactly where it is that line's text, with its numbers in their bounds.
-abbrev pub LinesAreRead : Type 0
-LinesAreRead = IsReadExactly (λ text. result_ok (checked (form_of text))) line_text IsLine
+abbrev pub ScriptLinesAreRead : Type 0
+ScriptLinesAreRead = IsReadExactly (λ text. result_ok (checked (form_of text))) line_text IsLine
