@@ -13,7 +13,7 @@ use Rattle.asm_text.specs.Emission.{Meanings, Emitted, nothing, emitted, emitted
 use Rattle.asm_text.specs.internal.Emitted.{last_of}
 use Rattle.asm_text.specs.Parts.{SectionValue, UnitValue}
 use Rattle.asm_text.specs.Placing.{Placed, nowhere, spot_of, placed, placed_from}
-use Rattle.asm_text.specs.Sections.{Line, Puts, begins_section, up_to_section, by_section, bytes_in_order, SectionsAreLines}
+use Rattle.asm_text.specs.Sections.{Line, PutsBytes, begins_section, up_to_section, by_section, bytes_in_order, SectionsAreLines}
 use Rattle.asm_text.specs.Source.{Source, source_of}
 use Rattle.asm_text.specs.Statements.{statement_size}
 use Rattle.asm_text.proofs.EmittingLemmas.{next_place}
@@ -62,10 +62,10 @@ set_last (x ∷ z ∷ xs) last y more is same =
 -- what a line put at the end of the last section
 record PutLast (e f : Emitted) (s : Statement ℕ) : Type 0 where
   pub bytes : List ℕ
-  pub put : Puts s bytes
+  pub put : PutsBytes s bytes
   pub after : bytes_in f.sections ≡ after_last (bytes_in e.sections) bytes
 
-put_last : (m : Meanings) (n : ℕ) (e f : Emitted) (p q : Placed) (s : Statement ℕ) → ((section here : ℕ) (bytes : List ℕ) → bytes_of m n section here s ≡ Ok bytes → Puts s bytes) → Agree m e p → IsTaken p q s
+put_last : (m : Meanings) (n : ℕ) (e f : Emitted) (p q : Placed) (s : Statement ℕ) → ((section here : ℕ) (bytes : List ℕ) → bytes_of m n section here s ≡ Ok bytes → PutsBytes s bytes) → Agree m e p → IsTaken p q s
     → in_last m n e (last_of e.sections) s ≡ Ok f → PutLast e f s
 put_last m n e f p q s puts a t goes =
     let there = last_there m e p t.head a t.is in
@@ -85,14 +85,14 @@ put_last m n e f p q s puts a t goes =
 record Written (e f : Emitted) (statements : List (Statement ℕ)) : Type 0 where
   pub lines : List Line
   pub are : map (λ l. l.statement) lines ≡ statements
-  pub put : All (λ l. Puts l.statement l.bytes) lines
+  pub put : All (λ l. PutsBytes l.statement l.bytes) lines
   pub sections : bytes_in f.sections ≡ after_last (bytes_in e.sections) (bytes_in_order (up_to_section lines)) ++ map bytes_in_order (by_section lines)
 
 abbrev line : Statement ℕ → List ℕ → Line
 line s bytes = record { statement = s; bytes = bytes }
 
-put_more : (s : Statement ℕ) (bytes : List ℕ) (lines : List Line) → Puts s bytes → All (λ l. Puts l.statement l.bytes) lines → All (λ l. Puts l.statement l.bytes) (line s bytes ∷ lines)
-put_more s bytes lines h all = All-cons (λ (l : Line). Puts l.statement l.bytes) (line s bytes) lines h all
+put_more : (s : Statement ℕ) (bytes : List ℕ) (lines : List Line) → PutsBytes s bytes → All (λ l. PutsBytes l.statement l.bytes) lines → All (λ l. PutsBytes l.statement l.bytes) (line s bytes ∷ lines)
+put_more s bytes lines h all = All-cons (λ (l : Line). PutsBytes l.statement l.bytes) (line s bytes) lines h all
 
 section_written : (m : Meanings) (n : ℕ) (e g f : Emitted) (rest : List (Statement ℕ)) (name : ℕ) (kind : SectionKind) → g.sections ≡ e.sections ++ opened m name kind ∷ [] → Written g f rest → Written e f (Section name kind ∷ rest)
 section_written m n e g f rest name kind new w =
@@ -109,7 +109,7 @@ section_written m n e g f rest name kind new w =
     }
 
 -- a line that puts nothing
-passed_written : (e f : Emitted) (rest : List (Statement ℕ)) (s : Statement ℕ) → Puts s [] → begins_section s ≡ false → Written e f rest → Written e f (s ∷ rest)
+passed_written : (e f : Emitted) (rest : List (Statement ℕ)) (s : Statement ℕ) → PutsBytes s [] → begins_section s ≡ false → Written e f rest → Written e f (s ∷ rest)
 passed_written e f rest s none other w = record {
   lines = line s [] ∷ w.lines;
   are = ap (λ l. s ∷ l) w.are;
@@ -134,7 +134,7 @@ put_written e g f rest s other x w =
     }
 
 in_last_written : (m : Meanings) (n : ℕ) (e g f : Emitted) (p q : Placed) (rest : List (Statement ℕ)) (s : Statement ℕ) → begins_section s ≡ false
-    → ((section here : ℕ) (bytes : List ℕ) → bytes_of m n section here s ≡ Ok bytes → Puts s bytes) → Agree m e p → IsTaken p q s
+    → ((section here : ℕ) (bytes : List ℕ) → bytes_of m n section here s ≡ Ok bytes → PutsBytes s bytes) → Agree m e p → IsTaken p q s
     → in_last m n e (last_of e.sections) s ≡ Ok g → Written g f rest → Written e f (s ∷ rest)
 in_last_written m n e g f p q rest s other puts a t goes w = put_written e g f rest s other (put_last m n e g p q s puts a t goes) w
 
@@ -155,7 +155,7 @@ all_lines : (m : Meanings) (n : ℕ) (e f : Emitted) (p q : Placed) (statements 
 all_lines m n e f p q [] a j k = record {
   lines = [];
   are = refl;
-  put = All-nil (λ (l : Line). Puts l.statement l.bytes);
+  put = All-nil (λ (l : Line). PutsBytes l.statement l.bytes);
   sections = ap (λ (x : Emitted). bytes_in x.sections) (sym (ok_is e f k)) ∙ (sym (after_none (bytes_in e.sections)) ∙ sym (append-nil (after_last (bytes_in e.sections) [])));
 }
 all_lines m n e f p q (s ∷ rest) a j k =

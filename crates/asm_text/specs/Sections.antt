@@ -14,11 +14,11 @@ pub record Line : Type 0 where
   pub bytes : List ℕ
 
 -- an instruction puts its words, with 0 for names, a number its word, a jump one word, and another line nothing
-abbrev pub Puts : Statement ℕ → List ℕ → Type 0
-Puts (Code insn first second) bytes = bytes ≡ code_bytes insn
-Puts (Word field) bytes = bytes ≡ word_bytes (field_number field)
-Puts (Jump cond target) bytes = length bytes ≡ 2
-Puts _ bytes = bytes ≡ []
+abbrev pub PutsBytes : Statement ℕ → List ℕ → Type 0
+PutsBytes (Code insn first second) bytes = bytes ≡ code_bytes insn
+PutsBytes (Word field) bytes = bytes ≡ word_bytes (field_number field)
+PutsBytes (Jump cond target) bytes = length bytes ≡ 2
+PutsBytes _ bytes = bytes ≡ []
 
 abbrev pub begins_section : Statement ℕ → Bool
 begins_section (Section name kind) = true
@@ -42,7 +42,7 @@ bytes_in_order lines = flat_map (λ l. l.bytes) lines
 pub record HoldLines (sections : List SectionValue) (statements : List (Statement ℕ)) : Type 0 where
   pub lines : List Line
   pub are : map (λ l. l.statement) lines ≡ statements
-  pub put : All (λ l. Puts l.statement l.bytes) lines
+  pub put : All (λ l. PutsBytes l.statement l.bytes) lines
   pub in_order : map (λ s. s.bytes) sections ≡ map bytes_in_order (by_section lines)
 
 -- The bytes of a section are those of its lines in their order, with nothing between them and nothing after.

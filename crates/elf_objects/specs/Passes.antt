@@ -27,10 +27,10 @@ all_below values_at zero = []
 all_below values_at (suc n) = all_below values_at n ++ values_at n
 
 -- a check answers this refusal, if there is one
-abbrev pub Answers : {F : Type 0} → Result (Unit {0}) F → Option F → Type 0
-Answers (Ok _) refusal = refusal ≡ None
-Answers (Err f) refusal = refusal ≡ Some f
+abbrev pub FaultIs : {F : Type 0} → Result (Unit {0}) F → Option F → Type 0
+FaultIs (Ok _) refusal = refusal ≡ None
+FaultIs (Err f) refusal = refusal ≡ Some f
 
 -- unless memory ran out, this is the refusal
 abbrev pub IsFaultOf : Option ElfFault → ElfFault → Type 0
-IsFaultOf refusal f = f ≢ fault.NoMemory → Answers (Err f) refusal
+IsFaultOf refusal f = f ≢ fault.NoMemory → FaultIs (Err f) refusal

@@ -1,7 +1,7 @@
 //! The header of an object file.
 
 ghost use Rattle.std.specs.Prelude.{◌≡◌, length, ◌<◌, ◌^◌};
-ghost use Rattle.elf_objects.specs.Passes.{Answers};
+ghost use Rattle.elf_objects.specs.Passes.{FaultIs};
 ghost use Rattle.elf_objects.specs.Header.{header_fault, table_fault, table_offset, section_count, name_table};
 
 use crate::bytes::{byte_at, half_at, word_at};
@@ -40,7 +40,7 @@ pub fn name_table(file: &[u8]) -> u16
 
 #[tactic(auto, unfolding(crate::specs::Header::header_fault))]
 pub fn check_header(file: &[u8]) -> Result<(), ElfFault>
-    ensures { Answers result (header_fault file.now) }
+    ensures { FaultIs result (header_fault file.now) }
 {
     if file.len() < HEADER_SIZE {
         return Err(ElfFault::Short {
@@ -74,7 +74,7 @@ pub fn check_header(file: &[u8]) -> Result<(), ElfFault>
 
 #[tactic(auto, unfolding(crate::specs::Header::table_fault))]
 pub fn check_table(file: &[u8]) -> Result<(), ElfFault>
-    ensures { Answers result (table_fault file.now) }
+    ensures { FaultIs result (table_fault file.now) }
 {
     let entry_size = half_at(file, 46);
     if entry_size != SECTION_HEADER_SIZE {

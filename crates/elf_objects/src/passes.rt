@@ -1,7 +1,7 @@
 //! Refusals at each index.
 
 ghost use Rattle.std.specs.Prelude.{◌≡◌, ◌<◌, ℕ, Option};
-ghost use Rattle.elf_objects.specs.Passes.{refuse_if, first_below, Answers};
+ghost use Rattle.elf_objects.specs.Passes.{refuse_if, first_below, FaultIs};
 ghost use Rattle.elf_objects.specs.internal.Passes.{FindsBelow};
 
 use crate::fault::ElfFault;
@@ -27,7 +27,7 @@ pub fn first_below<T: Drop, F: Fn(u32) -> Option<T>>(count: u32, found_at: F) ->
 
 /// The refusal as an error, if there is one.
 pub fn refuse(fault: Option<ElfFault>) -> Result<(), ElfFault>
-    ensures { Answers result fault }
+    ensures { FaultIs result fault }
 {
     match fault {
         None => Ok(()),

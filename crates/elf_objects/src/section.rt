@@ -1,7 +1,7 @@
 //! Section headers, what is loaded, and which sections are refused.
 
 ghost use Rattle.std.specs.Prelude.{◌≡◌, length, ◌<◌, ◌≤◌, ◌^◌, ◌+◌};
-ghost use Rattle.elf_objects.specs.Passes.{Answers};
+ghost use Rattle.elf_objects.specs.Passes.{FaultIs};
 ghost use Rattle.elf_objects.specs.Header.{section_count, name_table};
 ghost use Rattle.elf_objects.specs.Section.{header_of, is_absent, is_loaded, is_loaded_header, is_alignment, content, ends_past, section_fault, is_kind, index_if, symbol_table, is_this, is_bad_symbol_table, is_kept_table, is_bad_kept_table, is_bad_link, link_fault, name_table_fault, compressed_fault, rel_fault, content_span, section_faults, link_faults, compressed_faults, rel_faults};
 
@@ -266,7 +266,7 @@ fn rel_fault(file: &[u8], i: u32) -> Option<ElfFault>
 /// Each section's bytes are in the file, and a loaded one's alignment is one.
 #[tactic(auto, unfolding(crate::specs::Section::section_faults))]
 pub fn check_sections(file: &[u8]) -> Result<(), ElfFault>
-    ensures { Answers result (section_faults file.now) }
+    ensures { FaultIs result (section_faults file.now) }
 {
     let count = u32::from(section_count(file));
     refuse(first_below(count, |i| section_fault(file, i)))
@@ -275,7 +275,7 @@ pub fn check_sections(file: &[u8]) -> Result<(), ElfFault>
 /// Each section points to what it must.
 #[tactic(auto, unfolding(crate::specs::Section::link_faults))]
 pub fn check_links(file: &[u8]) -> Result<(), ElfFault>
-    ensures { Answers result (link_faults file.now) }
+    ensures { FaultIs result (link_faults file.now) }
 {
     let count = u32::from(section_count(file));
     let symbols = symbol_table(file);
@@ -286,7 +286,7 @@ pub fn check_links(file: &[u8]) -> Result<(), ElfFault>
 /// No loaded section is compressed.
 #[tactic(auto, unfolding(crate::specs::Section::compressed_faults))]
 pub fn check_compressed(file: &[u8]) -> Result<(), ElfFault>
-    ensures { Answers result (compressed_faults file.now) }
+    ensures { FaultIs result (compressed_faults file.now) }
 {
     let count = u32::from(section_count(file));
     refuse(first_below(count, |i| compressed_fault(file, i)))
@@ -295,7 +295,7 @@ pub fn check_compressed(file: &[u8]) -> Result<(), ElfFault>
 /// No loaded section has a REL.
 #[tactic(auto, unfolding(crate::specs::Section::rel_faults))]
 pub fn check_rel(file: &[u8]) -> Result<(), ElfFault>
-    ensures { Answers result (rel_faults file.now) }
+    ensures { FaultIs result (rel_faults file.now) }
 {
     let count = u32::from(section_count(file));
     refuse(first_below(count, |i| rel_fault(file, i)))

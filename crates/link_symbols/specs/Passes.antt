@@ -4,7 +4,7 @@ use Rattle.elf_objects.specs.declared.object.Span.{Span}
 use Rattle.elf_objects.specs.Object.{ObjectValue}
 use Rattle.link_symbols.specs.declared.fault.LinkFault.{LinkFault}
 use Rattle.link_symbols.specs.declared.fault.LinkFault.TheVariants as fault
-pub use Rattle.elf_objects.specs.Passes.{or_else, refuse_if, Answers}
+pub use Rattle.elf_objects.specs.Passes.{or_else, refuse_if, FaultIs}
 
 -- this one, where a test says so
 abbrev pub some_if : {A : Type 0} → Bool → Option A → Option A
