@@ -4,7 +4,7 @@ ghost use Rattle.std.specs.Prelude.{◌≡◌, ◌<◌, ◌≤◌, ◌+◌, ◌^
 ghost use Rattle.std.specs.List.Sorted.{IsNonDecreasing, IsPartitionPoint};
 ghost use Rattle.memchr.specs.Find.{is_byte, places};
 ghost use Rattle.elf_objects.specs.Passes.{IsFaultOf};
-ghost use Rattle.elf_objects.specs.internal.Names.{AreNames, first_from};
+ghost use Rattle.elf_objects.specs.internal.Names.{AreNameEnds, first_from};
 ghost use Rattle.elf_objects.specs.Names.{section_names, name_fault, name_faults, section_of, sections_of};
 
 use crate::fault::ElfFault;
@@ -52,7 +52,7 @@ fn first_from(zeros: &[u32], offset: u32) -> Option<u32>
 impl Names {
     #[tactic(auto, using(crate::proofs::ZeroLemmas::rises, crate::proofs::ZeroLemmas::ends), unfolding(crate::specs::Names::name_end))]
     pub fn of(alloc: Global, file: &[u8], strings: &Header) -> Result<Names, AllocError>
-        ensures { IfOk result (AreNames file.now strings.now) }
+        ensures { IfOk result (AreNameEnds file.now strings.now) }
     {
         let zeros = zeros_in(alloc, strings.content(file))?;
         Ok(Names {
@@ -91,7 +91,7 @@ fn section_names(file: &[u8]) -> Header
 
 #[tactic(auto, unfolding(crate::specs::Names::name_fault))]
 fn name_fault(file: &[u8], names: &Names, i: u32) -> Option<ElfFault>
-    requires { AreNames file.now (section_names file.now) names.now }
+    requires { AreNameEnds file.now (section_names file.now) names.now }
     ensures { result ≡ name_fault file.now i }
 {
     let refused = names.end(header_of(file, i).name).is_none();
@@ -105,7 +105,7 @@ fn name_fault(file: &[u8], names: &Names, i: u32) -> Option<ElfFault>
 
 #[tactic(auto, unfolding(crate::specs::Names::section_of))]
 fn section_of(file: &[u8], names: &Names, i: u32) -> SectionHead
-    requires { AreNames file.now (section_names file.now) names.now }
+    requires { AreNameEnds file.now (section_names file.now) names.now }
     ensures { result ≡ section_of file.now i }
 {
     let h = header_of(file, i);
@@ -121,7 +121,7 @@ fn section_of(file: &[u8], names: &Names, i: u32) -> SectionHead
 
 #[tactic(auto, unfolding(crate::specs::Names::name_faults))]
 fn name_faults(file: &[u8], names: &Names) -> Option<ElfFault>
-    requires { AreNames file.now (section_names file.now) names.now }
+    requires { AreNameEnds file.now (section_names file.now) names.now }
     ensures { result ≡ name_faults file.now }
 {
     first_below(
@@ -132,7 +132,7 @@ fn name_faults(file: &[u8], names: &Names) -> Option<ElfFault>
 
 #[tactic(auto, using(crate::proofs::PassLemmas::each_below_more, crate::proofs::PassLemmas::each_below_zero), unfolding(crate::specs::Names::sections_of))]
 fn sections_of(alloc: Global, file: &[u8], names: &Names) -> Result<Vec<SectionHead>, AllocError>
-    requires { AreNames file.now (section_names file.now) names.now }
+    requires { AreNameEnds file.now (section_names file.now) names.now }
     ensures { IfOk result (λ v. v.items ≡ sections_of file.now) }
 {
     let mut sections = Vec::new(alloc);

@@ -2,7 +2,7 @@
 
 ghost use Rattle.std.specs.Prelude.{◌≡◌, ◌<◌, ◌^◌, IfOk, IfErr, OnOk, Some, None};
 ghost use Rattle.elf_objects.specs.Passes.{IsFaultOf};
-ghost use Rattle.elf_objects.specs.internal.Names.{AreNames};
+ghost use Rattle.elf_objects.specs.internal.Names.{AreNameEnds};
 ghost use Rattle.elf_objects.specs.Symbol.{entry_of, count_in, strings_of, is_bad_common, is_bad_home, is_bad_symbol, symbol_fault, binding_of, home_of, symbol_of, symbols_header, count_of, faults_in, symbol_faults, symbols_in, symbols_of};
 
 use crate::bytes::{byte_at, half_at, word_at};
@@ -70,7 +70,7 @@ fn is_bad_home(file: &[u8], e: &Entry) -> bool
 }
 
 fn is_bad_symbol(file: &[u8], table: &Header, names: &Names, e: &Entry) -> bool
-    requires { AreNames file.now (strings_of file.now table.now) names.now }
+    requires { AreNameEnds file.now (strings_of file.now table.now) names.now }
     ensures { result ≡ is_bad_symbol file.now table.now e.now }
 {
     names.end(e.name).is_none() || 2 < e.binding || is_bad_home(file, e) || is_bad_common(e)
@@ -78,7 +78,7 @@ fn is_bad_symbol(file: &[u8], table: &Header, names: &Names, e: &Entry) -> bool
 
 #[tactic(auto, unfolding(crate::specs::Symbol::symbol_fault))]
 fn symbol_fault(file: &[u8], table: &Header, names: &Names, index: u32) -> Option<ElfFault>
-    requires { AreNames file.now (strings_of file.now table.now) names.now }
+    requires { AreNameEnds file.now (strings_of file.now table.now) names.now }
     ensures { result ≡ symbol_fault file.now table.now index }
 {
     if index == 0 {
@@ -116,7 +116,7 @@ fn home_of(section: u16) -> Home
 
 #[tactic(auto, unfolding(crate::specs::Symbol::symbol_of))]
 fn symbol_of(file: &[u8], table: &Header, names: &Names, index: u32) -> Symbol
-    requires { AreNames file.now (strings_of file.now table.now) names.now }
+    requires { AreNameEnds file.now (strings_of file.now table.now) names.now }
     ensures { result ≡ symbol_of file.now table.now index }
 {
     if index == 0 {
@@ -160,7 +160,7 @@ pub fn count_of(table: Option<Header>) -> u32
 }
 
 fn faults_in(file: &[u8], table: &Header, names: &Names) -> Option<ElfFault>
-    requires { AreNames file.now (strings_of file.now table.now) names.now }
+    requires { AreNameEnds file.now (strings_of file.now table.now) names.now }
     ensures { result ≡ faults_in file.now (Some table.now) }
 {
     first_below(count_in(table), |k| symbol_fault(file, table, names, k))
@@ -173,7 +173,7 @@ fn symbols_in(
     table: &Header,
     names: &Names,
 ) -> Result<Vec<Symbol>, AllocError>
-    requires { AreNames file.now (strings_of file.now table.now) names.now }
+    requires { AreNameEnds file.now (strings_of file.now table.now) names.now }
     ensures { IfOk result (λ v. v.items ≡ symbols_in file.now (Some table.now)) }
 {
     let mut symbols = Vec::with_capacity(alloc, count_in(table) as usize)?;

@@ -17,7 +17,7 @@ use Rattle.image_text.specs.declared.ImageFault.TheVariants.{Line, Twice}
 use Rattle.image_text.specs.Image.{Image}
 use Rattle.image_text.specs.ImageText.{ended, first_line, key_line, handler_line, end_line}
 use Rattle.image_text.specs.Refusal.{Spot, past, line_fault, has_form, bad_digit, digit_or, formed, key_form, handler_form, module_form, row_form, digits_bytes, digits_word, section_at, count_of, counted, count_refusal, modules_refusal, handler_refusal, key_refusal, version_or_line, version_refusal, first_refusal, end_refusal, is_row, placed, rows_refusal, taken, added, one_less, refusal_of}
-use Rattle.image_text.specs.internal.Reading.{Unread, on, ReadLine, HasForm, PassedCount, due_next, AddsModule, ModulesSoFar, PassedModules, RowsSoFar, PassedMemory}
+use Rattle.image_text.specs.internal.Reading.{Unread, on, ReadLine, HasLineForm, PassedCount, due_next, AddsModule, ModulesSoFar, PassedModules, RowsSoFar, PassedMemory}
 use Rattle.image_text.specs.Laws.{Complete}
 use Rattle.image_text.proofs.FormLemmas.{has_form_of}
 use Rattle.image_text.proofs.LineTexts.{key_line_of, handler_line_of}
@@ -56,7 +56,7 @@ must_line R wants u e = ⊎_elim (λ h. h) (λ none. absurd (clash (ap (λ (l : 
     clash f = cc
 
 record IsFormed (form line : List ℕ) (rest : Option ImageFault) : Type 0 where
-  pub has : HasForm form line
+  pub has : HasLineForm form line
   pub after : rest ≡ None
 
 -- a line of a form that is not refused has the form, and what comes after is not refused
@@ -167,7 +167,7 @@ taken_none None id rest e = (refl, e)
 taken_none (Some fault) id rest e = absurd cc
 
 record ModuleLine (t : Table) (line : List ℕ) : Type 0 where
-  pub has : HasForm module_form line
+  pub has : HasLineForm module_form line
   pub free : fault_of t (section_at 12 line) (section_at 22 line) ≡ None
 
 -- a module's line, where one is due
@@ -214,7 +214,7 @@ ended_none u e = by u.rest (λ l. not_ended_yet u.spot u.rest l)
     by (b ∷ text) f = absurd (let x = f (omega arith) in cc)
 
 record RowLine (last : ℕ) (u : Unread) (h : HasLine u) : Type 0 where
-  pub has : HasForm row_form h.line
+  pub has : HasLineForm row_form h.line
   pub row : is_row last (digits_word 3 h.line) (digits_bytes 8 16 h.line) ≡ true
   pub above : (digits_word 3 h.line == last) ≡ false
 

@@ -11,7 +11,7 @@ use Rattle.texts.proofs.LawLemmas.{words_are_read, word_bytes}
 use Rattle.texts.specs.Hexadecimals.{hex_word}
 use Rattle.image_text.specs.declared.ImageFault.{ImageFault}
 use Rattle.image_text.specs.Refusal.{Spot, fits, has_form, is_bad, bad_digit, formed, digits_bytes, digits_word}
-use Rattle.image_text.specs.internal.Reading.{HasForm, CodedAt}
+use Rattle.image_text.specs.internal.Reading.{HasLineForm, CodedAt}
 
 pub form_length : (form line : List ℕ) → has_form form line ≡ true → length form ≡ length line
 form_length [] [] e = refl
@@ -35,16 +35,16 @@ bad_none (mark ∷ form) (b ∷ line) at from e = by (is_bad mark b) e (λ f. ba
     by false f r = r f
 bad_none _ _ at from e = refl
 
-pub has_form_of : (form line : List ℕ) (at : ℕ) → has_form form line ≡ true → bad_digit form line at ≡ None → HasForm form line
+pub has_form_of : (form line : List ℕ) (at : ℕ) → has_form form line ≡ true → bad_digit form line at ≡ None → HasLineForm form line
 has_form_of form line at e f = record { formed = e; digits = λ from. bad_none form line at from f }
 
 -- a line of the form leaves what comes after
-pub formed_ok : (form : List ℕ) (s : Spot) (line : List ℕ) (rest : Option ImageFault) → HasForm form line → formed form s line rest ≡ rest
+pub formed_ok : (form : List ℕ) (s : Spot) (line : List ℕ) (rest : Option ImageFault) → HasLineForm form line → formed form s line rest ≡ rest
 formed_ok form s line rest h = rw (h.formed, h.digits s.at) refl
 
 -- ---- the parts of a line
 
-head_fits : (mark b : ℕ) (form line : List ℕ) → HasForm (mark ∷ form) (b ∷ line) → fits mark b ≡ true
+head_fits : (mark b : ℕ) (form line : List ℕ) → HasLineForm (mark ∷ form) (b ∷ line) → fits mark b ≡ true
 head_fits mark b form line h = (and_parts (fits mark b) (has_form form line) h.formed).0
 
 tail_bad : (mark b : ℕ) (form line : List ℕ) (at : ℕ) → bad_digit (mark ∷ form) (b ∷ line) at ≡ None → (is_bad mark b ≡ false) × (bad_digit form line (at + 1) ≡ None)
@@ -54,13 +54,13 @@ tail_bad mark b form line at e = by (is_bad mark b) refl e
     by true f g = absurd cc
     by false f g = (f, g)
 
-tail_form : (mark b : ℕ) (form line : List ℕ) → HasForm (mark ∷ form) (b ∷ line) → HasForm form line
+tail_form : (mark b : ℕ) (form line : List ℕ) → HasLineForm (mark ∷ form) (b ∷ line) → HasLineForm form line
 tail_form mark b form line h = record {
   formed = (and_parts (fits mark b) (has_form form line) h.formed).1;
   digits = λ at. bad_none form line 1 at (tail_bad mark b form line 0 (h.digits 0)).1;
 }
 
-pub nothing_left : (line : List ℕ) → HasForm [] line → line ≡ []
+pub nothing_left : (line : List ℕ) → HasLineForm [] line → line ≡ []
 nothing_left [] h = refl
 nothing_left (b ∷ line) h = let e = h.formed in absurd cc
 
@@ -72,9 +72,9 @@ no_marks (c ∷ text) = not (c == 35) && no_marks text
 pub record AfterWord (text form line : List ℕ) : Type 0 where
   pub rest : List ℕ
   pub is : line ≡ text ++ rest
-  pub next : HasForm form rest
+  pub next : HasLineForm form rest
 
-pub after_word : (text form line : List ℕ) → no_marks text ≡ true → HasForm (text ++ form) line → AfterWord text form line
+pub after_word : (text form line : List ℕ) → no_marks text ≡ true → HasLineForm (text ++ form) line → AfterWord text form line
 after_word [] form line n h = record { rest = line; is = refl; next = h }
 after_word (c ∷ text) form [] n h = let e = h.formed in absurd cc
 after_word (c ∷ text) form (b ∷ line) n h =
@@ -127,7 +127,7 @@ abbrev pub marks : ℕ → List ℕ
 marks zero = []
 marks (suc n) = 35 ∷ 35 ∷ marks n
 
-digit_head : (b : ℕ) (form line : List ℕ) → HasForm (35 ∷ form) (b ∷ line) → is_hex_digit b ≡ true
+digit_head : (b : ℕ) (form line : List ℕ) → HasLineForm (35 ∷ form) (b ∷ line) → is_hex_digit b ≡ true
 digit_head b form line h = not-false (is_hex_digit b) (tail_bad 35 b form line 0 (h.digits 0)).0
 
 pub bytes_cons : (b : ℕ) (bytes : List ℕ) → b < 256 → IsBytes bytes → IsBytes (b ∷ bytes)
@@ -143,10 +143,10 @@ pub record AfterDigits (n : ℕ) (form line : List ℕ) : Type 0 where
   pub is : line ≡ encode_lower bytes ++ rest
   pub are : IsBytes bytes
   pub count : length bytes ≡ n
-  pub next : HasForm form rest
+  pub next : HasLineForm form rest
 
 -- the digits of so many bytes
-pub after_digits : (n : ℕ) (form line : List ℕ) → HasForm (marks n ++ form) line → AfterDigits n form line
+pub after_digits : (n : ℕ) (form line : List ℕ) → HasLineForm (marks n ++ form) line → AfterDigits n form line
 unfolding encode_with
 after_digits zero form line h = record { bytes = []; rest = line; is = refl; are = bytes_nil; count = refl; next = h }
 after_digits (suc n) form [] h = absurd (let e = h.formed in cc)
@@ -171,10 +171,10 @@ pub record AfterFour (form line : List ℕ) : Type 0 where
   pub rest : List ℕ
   pub is : line ≡ hex_word word ++ rest
   pub small : word < 65536
-  pub next : HasForm form rest
+  pub next : HasLineForm form rest
 
 -- the four digits of a word
-pub after_four : (form line : List ℕ) → HasForm (35 ∷ 35 ∷ 35 ∷ 35 ∷ form) line → AfterFour form line
+pub after_four : (form line : List ℕ) → HasLineForm (35 ∷ 35 ∷ 35 ∷ 35 ∷ form) line → AfterFour form line
 unfolding encode_with
 after_four form line h = by d.bytes d.is d.are d.count
   where

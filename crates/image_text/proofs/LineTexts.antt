@@ -5,14 +5,14 @@ use Rattle.hex.specs.Hex.{encode_with, encode_lower}
 use Rattle.texts.specs.Hexadecimals.{hex_word}
 use Rattle.image_text.specs.ImageText.{key_line, handler_line, module_line, row_line}
 use Rattle.image_text.specs.Refusal.{key_form, handler_form, module_form, row_form, digits_bytes, digits_word, section_at}
-use Rattle.image_text.specs.internal.Reading.{HasForm, CodedAt}
+use Rattle.image_text.specs.internal.Reading.{HasLineForm, CodedAt}
 use Rattle.image_text.proofs.FormLemmas.{after_word, after_digits, after_four, word_here, coded_at, nothing_left, marks}
 
 pub record IsKeyLine (line : List ℕ) : Type 0 where
   pub coded : CodedAt line 4 16
   pub text : line ≡ key_line (digits_bytes 4 16 line)
 
-pub key_line_of : (line : List ℕ) → HasForm key_form line → IsKeyLine line
+pub key_line_of : (line : List ℕ) → HasLineForm key_form line → IsKeyLine line
 key_line_of line h =
     let w = after_word (codes "key ") (marks 16) line refl h in
     let d = after_digits 16 [] w.rest w.next in
@@ -28,7 +28,7 @@ pub record IsHandlerLine (line : List ℕ) : Type 0 where
   pub small : digits_word 8 line < 65536
   pub text : line ≡ handler_line (digits_word 8 line)
 
-pub handler_line_of : (line : List ℕ) → HasForm handler_form line → IsHandlerLine line
+pub handler_line_of : (line : List ℕ) → HasLineForm handler_form line → IsHandlerLine line
 handler_line_of line h =
     let w = after_word (codes "handler ") (marks 2) line refl h in
     let d = after_four [] w.rest w.next in
@@ -46,7 +46,7 @@ pub record IsRowLine (line : List ℕ) : Type 0 where
   pub small : digits_word 3 line < 65536
   pub text : line ≡ row_line (digits_word 3 line) (digits_bytes 8 16 line)
 
-pub row_line_of : (line : List ℕ) → HasForm row_form line → IsRowLine line
+pub row_line_of : (line : List ℕ) → HasLineForm row_form line → IsRowLine line
 unfolding encode_with
 row_line_of line h =
     let w = after_word (codes "at ") (marks 2 ++ (32 ∷ marks 16)) line refl h in
@@ -79,7 +79,7 @@ pub record IsModuleLine (line : List ℕ) : Type 0 where
   pub small : digits_word 7 line < 65536
   pub text : (id : ℕ) → line ≡ module_line record { id = id; vendor = digits_word 7 line; text = section_at 12 line; ram = section_at 22 line }
 
-pub module_line_of : (line : List ℕ) → HasForm module_form line → IsModuleLine line
+pub module_line_of : (line : List ℕ) → HasLineForm module_form line → IsModuleLine line
 unfolding encode_with
 module_line_of line h =
     let w = after_word (codes "module ") (marks 2 ++ (32 ∷ (marks 2 ++ (32 ∷ (marks 2 ++ (32 ∷ (marks 2 ++ (32 ∷ marks 2)))))))) line refl h in

@@ -27,7 +27,7 @@ use Rattle.image_text.specs.declared.ImageFault.TheVariants.{Line, Twice}
 use Rattle.image_text.specs.Image.{Image, IsImage, AreNumbered}
 use Rattle.image_text.specs.ImageText.{ended, first_line, key_line, handler_line, count_line, module_line, row_line, end_line, count_text, modules_text, is_zero, rows_text, memory_text, text_after_key, image_text}
 use Rattle.image_text.specs.Refusal.{Spot, past, key_form, handler_form, module_form, row_form, fits, has_form, is_bad, digits_bytes, digits_word, section_at, count_of, is_row, rows_refusal, end_refusal, taken, added, one_less, modules_refusal, counted, count_refusal, handler_refusal, key_refusal, first_refusal, refusal_of}
-use Rattle.image_text.specs.internal.Reading.{HasForm, due_next}
+use Rattle.image_text.specs.internal.Reading.{HasLineForm, due_next}
 use Rattle.image_text.proofs.WholeText.{few}
 use Rattle.image_text.proofs.FormLemmas.{formed_ok, marks, bytes_cons, bytes_nil, word_here, coded_at}
 use Rattle.image_text.proofs.StageLemmas.{Stage, none_due, one_due}
@@ -65,7 +65,7 @@ line_one k l r s p q e =
 -- ---- forms
 
 record Lined (form line : List ℕ) : Type 0 where
-  pub has : HasForm form line
+  pub has : HasLineForm form line
   pub plain : no_lf line ≡ true
 
 lined_nil : Lined [] []
@@ -552,7 +552,7 @@ due_over : (left : Option ℕ) (lines : List (List ℕ)) → AreDue left 0 → d
 due_over None lines d h = h
 due_over (Some k) lines d h = let z : (k == 0) ≡ true = grind (arith, nat_tests) in ap not z
 
-module_ok : (t u : Table) (left : Option ℕ) (s : Spot) (line rest : List ℕ) → no_lf line ≡ true → HasForm module_form line → due_next left (line ∷ ended_lines rest) ≡ true
+module_ok : (t u : Table) (left : Option ℕ) (s : Spot) (line rest : List ℕ) → no_lf line ≡ true → HasLineForm module_form line → due_next left (line ∷ ended_lines rest) ≡ true
     → fault_of t (section_at 12 line) (section_at 22 line) ≡ None → added t line ≡ u
     → says (modules_refusal t left) s (ended line rest) ≡ says (modules_refusal u (one_less left)) (past line s) rest
 module_ok t u left s line rest plain has due none is =

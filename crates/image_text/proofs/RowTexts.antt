@@ -13,7 +13,7 @@ use Rattle.image_text.specs.Refusal.{Spot, past, formed, row_form, placed, is_ro
 use Rattle.image_text.proofs.FormLemmas.{formed_ok}
 use Rattle.image_text.proofs.LineTexts.{row_line_of}
 use Rattle.image_text.proofs.StageLemmas.{line_on, next_on}
-use Rattle.image_text.specs.internal.Reading.{Unread, on, ReadLine, HasForm, AddsRow, RowsSoFar, PassedMemory}
+use Rattle.image_text.specs.internal.Reading.{Unread, on, ReadLine, HasLineForm, AddsRow, RowsSoFar, PassedMemory}
 
 -- rows, and more rows
 pub rows_append : (n k at : ℕ) (m1 m2 rest : List ℕ) → length m1 ≡ 16 * n → rows_text (n + k) at (m1 ++ m2) rest ≡ rows_text n at m1 (rows_text k (at + 16 * n) m2 rest)
@@ -160,7 +160,7 @@ module _ (last : ℕ) (old new : Unread) (line : List ℕ) (read : ReadLine old 
       line_on (rows_refusal last) old new line read
       ∙ ap (λ b. cond b (end_refusal (past line old.spot) (ended_lines new.rest) (unended new.rest)) (formed row_form old.spot line (placed last old.spot line behind))) other
 
-  module _ (form : HasForm row_form line) where
+  module _ (form : HasLineForm row_form line) where
     pub row_says : (c d : Bool) → is_row last (digits_word 3 line) (digits_bytes 8 16 line) ≡ c → (digits_word 3 line == last) ≡ d
         → on old (rows_refusal last) ≡ cond c (cond d (Some (Twice (digits_word 3 line))) behind) (Some (Line old.spot.number))
     row_says c d e f =

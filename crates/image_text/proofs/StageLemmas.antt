@@ -12,7 +12,7 @@ use Rattle.image_text.specs.declared.ImageFault.TheVariants.{Line, Table as Tabl
 use Rattle.image_text.specs.Image.{AreNumbered}
 use Rattle.image_text.specs.ImageText.{ended, modules_text, module_line}
 use Rattle.image_text.specs.Refusal.{Spot, past, formed, module_form, modules_refusal, rows_refusal, end_refusal, section_at, digits_word, added, taken, one_less}
-use Rattle.image_text.specs.internal.Reading.{Unread, on, ReadLine, HasForm, due_next, AddsModule, IsLeft, IsGiven, ModulesSoFar, PassedModules}
+use Rattle.image_text.specs.internal.Reading.{Unread, on, ReadLine, HasLineForm, due_next, AddsModule, IsLeft, IsGivenCount, ModulesSoFar, PassedModules}
 use Rattle.image_text.proofs.FormLemmas.{formed_ok}
 use Rattle.image_text.proofs.LineTexts.{module_line_of}
 
@@ -60,7 +60,7 @@ left_less None None given lines h e = tt
 left_less (Some n) (Some k) given lines h e = let some : 0 < k = grind (arith, nat_tests) in omega (arith, h)
 left_less _ _ given lines h e = absurd h
 
-pub all_given : (due left : Option ℕ) (given : ℕ) (lines : List (List ℕ)) → IsLeft due left given → due_next left lines ≡ false → IsGiven due given
+pub all_given : (due left : Option ℕ) (given : ℕ) (lines : List (List ℕ)) → IsLeft due left given → due_next left lines ≡ false → IsGivenCount due given
 all_given None left given lines h e = tt
 all_given (Some n) None given lines h e = absurd h
 all_given (Some n) (Some k) given lines h e = let none : k ≡ 0 = grind (arith, nat_tests) in omega (arith, h)
@@ -99,7 +99,7 @@ module _ (old new : Unread) (t : Table) (left : Option ℕ) (line : List ℕ) (r
   pub due_line : on old (modules_refusal t left) ≡ formed module_form old.spot line (taken (fault_of t (section_at 12 line) (section_at 22 line)) (t.given + 1) (modules_refusal (added t line) (one_less left) (past line old.spot) (ended_lines new.rest) (unended new.rest)))
   due_line = line_on (modules_refusal t left) old new line read ∙ one_due t left old.spot line _ _ (ap (due_next left) (sym read.lines) ∙ due)
 
-  pub module_refused : (fault : TableFault) → HasForm module_form line → fault_of t (section_at 12 line) (section_at 22 line) ≡ Some fault → on old (modules_refusal t left) ≡ Some (TableRefuses (t.given + 1) fault)
+  pub module_refused : (fault : TableFault) → HasLineForm module_form line → fault_of t (section_at 12 line) (section_at 22 line) ≡ Some fault → on old (modules_refusal t left) ≡ Some (TableRefuses (t.given + 1) fault)
   module_refused fault h e =
       due_line ∙ formed_ok module_form old.spot line _ h
       ∙ ap (λ (o : Option TableFault). taken o (t.given + 1) (modules_refusal (added t line) (one_less left) (past line old.spot) (ended_lines new.rest) (unended new.rest))) e

@@ -3,14 +3,14 @@ use Rattle.std.proofs.Common.{◌≡◌, ◌⊎◌, ⊎_elim, ℕ, ◌%◌, ◌<
 use Rattle.mod_layout.specs.Table.{Table}
 use Rattle.image_text.specs.Image.{Image, IsImage}
 use Rattle.image_text.specs.ImageText.{ended, first_line, key_line, handler_line, count_text, modules_text, memory_text, image_text}
-use Rattle.image_text.specs.internal.Reading.{Unread, IsCountOf, IsGiven, count_part, PassedModules, PassedMemory}
+use Rattle.image_text.specs.internal.Reading.{Unread, IsCountOf, IsGivenCount, count_part, PassedModules, PassedMemory}
 
-count_is : (room given : ℕ) (due : Option ℕ) (rest : List ℕ) → IsCountOf room due → IsGiven due given → count_part due rest ≡ count_text room given rest
+count_is : (room given : ℕ) (due : Option ℕ) (rest : List ℕ) → IsCountOf room due → IsGivenCount due given → count_part due rest ≡ count_text room given rest
 count_is room given None rest k g = rw k refl
 count_is room given (Some n) rest k g = rw (k, g) refl
 
 -- the whole text, line by line
-pub whole_text : (image : Image) (room : ℕ) (due : Option ℕ) (u0 u1 u2 u3 u4 u5 : List ℕ) → image.table.room ≡ room → IsCountOf room due → IsGiven due image.table.given
+pub whole_text : (image : Image) (room : ℕ) (due : Option ℕ) (u0 u1 u2 u3 u4 u5 : List ℕ) → image.table.room ≡ room → IsCountOf room due → IsGivenCount due image.table.given
     → u0 ≡ ended (first_line room) u1 → u1 ≡ ended (key_line image.node_key) u2 → u2 ≡ ended (handler_line image.handler_sp) u3 → u3 ≡ count_part due u4
     → u4 ≡ modules_text image.table.modules u5 → u5 ≡ memory_text image.memory → u0 ≡ image_text image
 unfolding image_text

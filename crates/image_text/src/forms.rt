@@ -2,7 +2,7 @@
 
 ghost use Rattle.std.specs.Prelude.{◌≡◌, ◌+◌, ◌*◌, ◌<◌, ◌^◌, ◌≤◌, length, Option, Some, OnOk, IfErr};
 ghost use Rattle.image_text.specs.Refusal.{has_form as has_form_lem, fits as fits_lem, is_bad as is_bad_lem, bad_digit as bad_digit_lem, digits_bytes as digits_bytes_lem, digits_word as digits_word_lem, section_at as section_at_lem, Spot, formed as formed_lem};
-ghost use Rattle.image_text.specs.internal.Reading.{HasForm, CodedAt};
+ghost use Rattle.image_text.specs.internal.Reading.{HasLineForm, CodedAt};
 
 use crate::ImageFault;
 use crate::lines::Line;
@@ -67,7 +67,7 @@ fn is_bad(mark: u8, byte: u8) -> bool
 /// Line where a line has not this form, and Digit where a digit is none.
 pub(crate) fn formed(line: Line<'_>, form: &[u8]) -> Result<(), ImageFault>
     requires { line.at + length line.text.now < 2 ^ 63 }
-    ensures ok { OnOk result (HasForm form.now line.entry.text.now) }
+    ensures ok { OnOk result (HasLineForm form.now line.entry.text.now) }
     ensures err { IfErr result (λ fault. (rest : Option ImageFault) →
         formed_lem form.now record { number = line.entry.number; at = line.entry.at } line.entry.text.now rest ≡
         Some fault) }

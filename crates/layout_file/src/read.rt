@@ -1,7 +1,7 @@
 //! Reads a layout table by table.
 ghost use Rattle.std.specs.Prelude.{◌≡◌, ◌≢◌, ◌<◌, ◌≤◌, ◌==◌, ◌⊎◌, MatchResult, Ok, Err, IfOk, IfErr, length, map};
 ghost use Rattle.toml.specs.View.{table_view};
-ghost use Rattle.layout_file.specs.internal.Checked.{Reads};
+ghost use Rattle.layout_file.specs.internal.Checked.{ReadsAs};
 ghost use Rattle.layout_file.specs.Views.{module_of, modules_of};
 ghost use Rattle.layout_file.specs.internal.Views.{tables_of};
 ghost use Rattle.layout_file.specs.Layout.{layout_of, LayoutOf};
@@ -116,7 +116,7 @@ fn module(
     number: u32,
 ) -> Result<ModuleSpec, LayoutFault>
     requires { number < 32 }
-    ensures { Reads module_of result (layout.module_row version number (table_view table.now)) }
+    ensures { ReadsAs module_of result (layout.module_row version number (table_view table.now)) }
 {
     listed(table, module_keys(version), Some(number))?;
     let name = name(alloc, table, in_module(number, Key::Name), 32)?;
@@ -140,7 +140,7 @@ fn module(
 /// The modules of the tables, in order.
 fn modules(alloc: Global, tables: &[&Table], version: u16) -> Result<Vec<ModuleSpec>, LayoutFault>
     requires { length tables.now ≤ 32 }
-    ensures modules { Reads modules_of result (layout.modules_in version (map (λ t. table_view t.now) tables.now)) }
+    ensures modules { ReadsAs modules_of result (layout.modules_in version (map (λ t. table_view t.now) tables.now)) }
     ensures few { IfOk result (λ v. length v.items ≤ 32) }
 {
     let mut found = Vec::new(alloc);
@@ -258,7 +258,7 @@ fn room_of(version: u16) -> u16
 
 /// The layout of a document's table.
 fn layout(alloc: Global, table: &Table) -> Result<Layout, LayoutFault>
-    ensures { Reads layout_of result (layout.layout_in (table_view table.now)) }
+    ensures { ReadsAs layout_of result (layout.layout_in (table_view table.now)) }
 {
     listed(table, TOP_KEYS.as_slice(), None)?;
     let version = integer(table, at_top(Key::Version), between(1, 2))?;

@@ -7,7 +7,7 @@ ghost use Rattle.std.specs.Map.{keys_of};
 ghost use Rattle.std.specs.Str.{bytes_eq};
 ghost use Rattle.layout_file.specs.Rows as rows;
 ghost use Rattle.layout_file.specs.Checked.{map_ok};
-ghost use Rattle.layout_file.specs.internal.Checked.{Reads};
+ghost use Rattle.layout_file.specs.internal.Checked.{ReadsAs};
 ghost use Rattle.layout_file.specs.Views.{strings_of, vectors_of};
 ghost use Rattle.layout_file.specs.internal.Views.{tables_of, vector_list};
 ghost use Rattle.layout_file.specs.Rows.{is_name_byte};
@@ -172,7 +172,7 @@ fn is_name(text: &str, most: usize) -> bool
 
 /// A row with a name of at most `most` bytes.
 pub fn name(alloc: Global, table: &Table, spot: Spot, most: usize) -> Result<String, LayoutFault>
-    ensures { Reads string_bytes result (rows.name spot most (table_view table.now)) }
+    ensures { ReadsAs string_bytes result (rows.name spot most (table_view table.now)) }
 {
     let text = needed(table, spot)?
         .as_str()
@@ -185,7 +185,7 @@ pub fn name(alloc: Global, table: &Table, spot: Spot, most: usize) -> Result<Str
 
 /// A copy of a value that is a string.
 fn string(alloc: Global, value: &Value, spot: Spot) -> Result<String, LayoutFault>
-    ensures { Reads string_bytes result (rows.string spot (view value.now)) }
+    ensures { ReadsAs string_bytes result (rows.string spot (view value.now)) }
 {
     let text = value.as_str().ok_or(LayoutFault::WrongKind { spot })?;
     Ok(String::from_str(alloc, text)?)
@@ -193,7 +193,7 @@ fn string(alloc: Global, value: &Value, spot: Spot) -> Result<String, LayoutFaul
 
 /// Copies of the values of an array, each a string.
 fn strings(alloc: Global, items: &[Value], spot: Spot) -> Result<Vec<String>, LayoutFault>
-    ensures { Reads strings_of result (rows.strings spot (rows.list_of (items_view items.now))) }
+    ensures { ReadsAs strings_of result (rows.strings spot (rows.list_of (items_view items.now))) }
 {
     let mut names = Vec::new(alloc);
     for item in items {
@@ -209,7 +209,7 @@ pub fn entries(
     spot: Spot,
     most: usize,
 ) -> Result<Vec<String>, LayoutFault>
-    ensures { Reads strings_of result (rows.entries spot most (table_view table.now)) }
+    ensures { ReadsAs strings_of result (rows.entries spot most (table_view table.now)) }
 {
     let items = needed(table, spot)?
         .as_array()
@@ -262,7 +262,7 @@ fn vector_at(
     key: &str,
     spot: Spot,
 ) -> Result<Option<VectorName>, LayoutFault>
-    ensures { Reads vector_list result (rows.vector_at spot (table_view table.now) number key.now) }
+    ensures { ReadsAs vector_list result (rows.vector_at spot (table_view table.now) number key.now) }
 {
     match value_at(table, key) {
         Some(value) => {
@@ -278,7 +278,7 @@ fn vector_at(
 
 /// The names in a table of vectors.
 fn named_vectors(alloc: Global, table: &Table, spot: Spot) -> Result<Vec<VectorName>, LayoutFault>
-    ensures { Reads vectors_of result (rows.named_vectors spot (table_view table.now)) }
+    ensures { ReadsAs vectors_of result (rows.named_vectors spot (table_view table.now)) }
 {
     let mut vectors = Vec::new(alloc);
     for number in 0..16u8 {
@@ -301,7 +301,7 @@ fn known_vectors(table: &Table) -> Result<(), LayoutFault>
 
 /// The names in a table of vectors alone.
 fn vectors_in(alloc: Global, table: &Table, spot: Spot) -> Result<Vec<VectorName>, LayoutFault>
-    ensures { Reads vectors_of result (rows.vectors_in spot (table_view table.now)) }
+    ensures { ReadsAs vectors_of result (rows.vectors_in spot (table_view table.now)) }
 {
     known_vectors(table)?;
     named_vectors(alloc, table, spot)
@@ -309,7 +309,7 @@ fn vectors_in(alloc: Global, table: &Table, spot: Spot) -> Result<Vec<VectorName
 
 /// The row of the vectors, in rising order.
 pub fn vectors(alloc: Global, table: &Table, spot: Spot) -> Result<Vec<VectorName>, LayoutFault>
-    ensures { Reads vectors_of result (rows.vectors spot (table_view table.now)) }
+    ensures { ReadsAs vectors_of result (rows.vectors spot (table_view table.now)) }
 {
     match at(table, spot) {
         None => Ok(Vec::new(alloc)),
@@ -326,7 +326,7 @@ fn inner_table(value: &Value, spot: Spot) -> Result<&Table, LayoutFault>
 
 /// The values of an array, each a table.
 fn inner_tables(alloc: Global, items: &[Value], spot: Spot) -> Result<Vec<&Table>, LayoutFault>
-    ensures { Reads tables_of result (rows.inner_tables spot (rows.list_of (items_view items.now))) }
+    ensures { ReadsAs tables_of result (rows.inner_tables spot (rows.list_of (items_view items.now))) }
 {
     let mut found = Vec::new(alloc);
     for item in items {
@@ -342,7 +342,7 @@ pub fn tables(
     spot: Spot,
     most: usize,
 ) -> Result<Vec<&Table>, LayoutFault>
-    ensures tables { Reads tables_of result (rows.tables spot most (table_view table.now)) }
+    ensures tables { ReadsAs tables_of result (rows.tables spot most (table_view table.now)) }
     ensures few { IfOk result (λ v. length v.items ≤ most) }
 {
     let Some(value) = at(table, spot) else {

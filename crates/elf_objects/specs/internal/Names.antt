@@ -11,7 +11,7 @@ first_from [] offset = None
 first_from (z ∷ zs) offset = if nat_lt z offset then first_from zs offset else Some z
 
 -- the zeros of this string table
-pub record AreNames (file : List ℕ) (strings : Header) (names : Names) : Type 0 where
+pub record AreNameEnds (file : List ℕ) (strings : Header) (names : Names) : Type 0 where
   pub start : names.start ≡ strings.offset
   pub rises : IsNonDecreasing names.zeros.items
   pub ends : (k : ℕ) → first_from names.zeros.items k ≡ name_end file strings k

@@ -27,7 +27,7 @@ pub record ReadLine (old : Unread) (line : List ℕ) (new : Unread) : Type 0 whe
   pub spot : new.spot ≡ past line old.spot
 
 -- a line has this form, and its digits are digits
-pub record HasForm (form line : List ℕ) : Type 0 where
+pub record HasLineForm (form line : List ℕ) : Type 0 where
   pub formed : has_form form line ≡ true
   pub digits : (at : ℕ) → bad_digit form line at ≡ None
 
@@ -59,9 +59,9 @@ pub record PassedCount (room : ℕ) (due : Option ℕ) (old new : Unread) : Type
   pub refusal : on old (count_refusal room) ≡ on new (modules_refusal (empty_table room) due)
 
 -- as many modules as were due
-abbrev pub IsGiven : Option ℕ → ℕ → Type 0
-IsGiven None given = Unit {0}
-IsGiven (Some n) given = given ≡ n
+abbrev pub IsGivenCount : Option ℕ → ℕ → Type 0
+IsGivenCount None given = Unit {0}
+IsGivenCount (Some n) given = given ≡ n
 
 pub record PassedModules (room : ℕ) (due : Option ℕ) (table : Table) (old new : Unread) : Type 0 where
   pub text : old.rest ≡ modules_text table.modules new.rest
@@ -70,7 +70,7 @@ pub record PassedModules (room : ℕ) (due : Option ℕ) (table : Table) (old ne
   pub room_is : table.room ≡ room
   pub numbered : AreNumbered 1 table.modules
   pub all_held : length table.modules ≡ table.given
-  pub count : IsGiven due table.given
+  pub count : IsGivenCount due table.given
 
 -- the rest of a text is that of a memory
 pub record PassedMemory (memory : List ℕ) (old : Unread) : Type 0 where
@@ -93,7 +93,7 @@ head_has_form form (line ∷ more) = has_form form line
 pub record AddsModule (old new : Unread) (t u : Table) : Type 0 where
   pub line : List ℕ
   pub read : ReadLine old line new
-  pub form : HasForm module_form line
+  pub form : HasLineForm module_form line
   pub taken : fault_of t (section_at 12 line) (section_at 22 line) ≡ None
   pub table : u ≡ added t line
 
