@@ -4,7 +4,7 @@ use Rattle.asm_text.specs.declared.unit.AsmFault.{AsmFault}
 use Rattle.asm_text.specs.declared.unit.AsmFault.TheVariants.{Line}
 use Rattle.asm_text.specs.Emission.{Meanings, Emitted, nothing, emitted_from}
 use Rattle.asm_text.specs.Parts.{UnitValue}
-use Rattle.asm_text.specs.Placing.{Placed, nowhere, placed_from}
+use Rattle.asm_text.specs.Placing.{Placed, nowhere, placed_from, unrefused}
 use Rattle.asm_text.specs.Source.{Source, source_of}
 use Rattle.asm_text.specs.Symbols.{order_of, symbols_for, symbol_numbers}
 
@@ -28,8 +28,7 @@ unit_for s p e = record {
 
 -- the jumps come last: all lines are read and placed before
 abbrev pub with_emitted : Source → Placed → Result Emitted AsmFault → Result UnitValue AsmFault
-with_emitted s p (Err fault) = Err fault
-with_emitted s p (Ok e) = Ok (unit_for s p e)
+with_emitted s p emitted = unrefused emitted (λ e. Ok (unit_for s p e))
 
 -- a line without a form follows those that were placed
 abbrev pub with_stop : Source → Placed → Option ℕ → Result UnitValue AsmFault
@@ -37,8 +36,7 @@ with_stop s p (Some n) = Err (Line n)
 with_stop s p None = with_emitted s p (emitted_from (meanings s p) 1 nothing s.statements)
 
 abbrev pub with_placed : Source → Result Placed AsmFault → Result UnitValue AsmFault
-with_placed s (Err fault) = Err fault
-with_placed s (Ok p) = with_stop s p s.stopped
+with_placed s placing = unrefused placing (λ p. with_stop s p s.stopped)
 
 abbrev pub assembled_source : Source → Result UnitValue AsmFault
 assembled_source s = with_placed s (placed_from 1 (nowhere (names_of s)) s.statements)

@@ -1,5 +1,5 @@
 -- The bytes of the sections, line by line and without a gap, and the relocations; or the first jump that is refused.
-use Rattle.std.specs.Prelude.{ℕ, ◌+◌, ◌-◌, ◌*◌, ◌/◌, ◌==◌, nat_le, nat_lt, Bool, if◌then◌else◌, List, [], ◌∷◌, ◌++◌, length, slice_index_or, slice_get, slice_set, Option, Some, None, Result, Ok, Err, ℤ, pos, negsuc, ◌-ℤ◌}
+use Rattle.std.specs.Prelude.{ℕ, ◌+◌, ◌-◌, ◌*◌, ◌/◌, ◌==◌, nat_le, nat_lt, Bool, if◌then◌else◌, List, [], ◌∷◌, ◌++◌, length, slice_index_or, slice_get, slice_set, Option, Some, None, option_and_then, Result, Ok, Err, ℤ, pos, negsuc, ◌-ℤ◌}
 use Rattle.insn_decode.specs.declared.insn.Insn.{Insn}
 use Rattle.insn_decode.specs.declared.insn.Insn.TheVariants.{Two}
 use Rattle.insn_decode.specs.Code.{words_of as words_in}
@@ -77,8 +77,7 @@ relocation_at section offset None = []
 relocation_at section offset (Some symbol) = (record { section = section; offset = offset; symbol = symbol }) ∷ []
 
 abbrev pub relocation_if : Meanings → ℕ → ℕ → Option ℕ → List AsmRelocation
-relocation_if m section offset None = []
-relocation_if m section offset (Some name) = relocation_at section offset (slice_index_or m.symbols name None)
+relocation_if m section offset name = relocation_at section offset (option_and_then (λ n. slice_index_or m.symbols n None) name)
 
 -- the offset of the word of the second operand, from the start of the instruction
 abbrev pub second_word : Insn → ℕ
@@ -98,11 +97,10 @@ grown s size bytes = record { name = s.name; kind = s.kind; size = s.size + size
 
 -- a statement in the last section, which is this one
 abbrev pub with_statement : Meanings → Emitted → SectionValue → Statement ℕ → Result (List ℕ) AsmFault → Result Emitted AsmFault
-with_statement m e last s (Err fault) = Err fault
-with_statement m e last s (Ok bytes) = Ok (record {
+with_statement m e last s given = unrefused given (λ bytes. Ok (record {
   sections = slice_set e.sections (length e.sections - 1) (grown last (statement_size s) bytes);
   relocations = e.relocations ++ relocations_of m (length e.sections - 1) last.size s;
-})
+}))
 
 abbrev pub in_last : Meanings → ℕ → Emitted → Option SectionValue → Statement ℕ → Result Emitted AsmFault
 in_last m n e None s = Ok e

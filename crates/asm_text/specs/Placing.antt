@@ -70,7 +70,7 @@ placed n p s = in_section n p (last_head p.heads) s
 -- ---- all lines
 
 -- what follows, where nothing was refused
-abbrev pub unrefused : {A : Type 0} → Result A AsmFault → (A → Result A AsmFault) → Result A AsmFault
+abbrev pub unrefused : {A B : Type 0} → Result A AsmFault → (A → Result B AsmFault) → Result B AsmFault
 unrefused (Ok a) rest = rest a
 unrefused (Err fault) rest = Err fault
 
