@@ -7,7 +7,7 @@ use Rattle.std.proofs.lemmas.List.Elements.{All-push}
 use Rattle.std.proofs.lemmas.List.Quantifiers.{all_pairs_push}
 use Rattle.std.proofs.lemmas.List.Sums.{fails_before_first}
 use Rattle.std.proofs.lemmas.Slice.Eq.{bytes_eq-Decides}
-use Rattle.texts.specs.Lines.{ended_lines, unended, text_of}
+use Rattle.texts.specs.Lines.{ended_lines, unended, lines_text}
 use Rattle.texts.proofs.LawLemmas.{texts_are_lines}
 use Rattle.asm_text.specs.declared.TheConstants.{MAX_SOURCE}
 use Rattle.asm_text.specs.declared.statement.Field.TheVariants.{Number, Name}
@@ -182,9 +182,9 @@ whole_from n size t statements (line ∷ lines) tail k few =
         let two = two_bytes line s is in
         again (tables_after t s) (more t statements s) (kept_more t statements s k (statement_some line s is)) (omega (arith, length-append statements (numbered t s ∷ [])))
 
-lines_size : (lines : List (List ℕ)) (tail : List ℕ) → size_of_lines lines ≤ length (text_of lines tail)
+lines_size : (lines : List (List ℕ)) (tail : List ℕ) → size_of_lines lines ≤ length (lines_text lines tail)
 lines_size [] tail = omega arith
-lines_size (line ∷ lines) tail = let rest = lines_size lines tail in omega (arith, length-append line (10 ∷ text_of lines tail))
+lines_size (line ∷ lines) tail = let rest = lines_size lines tail in omega (arith, length-append line (10 ∷ lines_text lines tail))
 
 pub source_kept : (text : List ℕ) → length text ≤ MAX_SOURCE → IsSource (source_of text)
 unfolding source_of

@@ -5,7 +5,7 @@ use Rattle.mod_layout.specs.declared.Module.{Module}
 use Rattle.mod_layout.specs.declared.TableFault.{TableFault}
 use Rattle.mod_layout.specs.Table.{Table, fault_of, empty_table}
 use Rattle.mod_layout.specs.Tables.{IsTable}
-use Rattle.texts.specs.Lines.{ended_lines, unended, text_of}
+use Rattle.texts.specs.Lines.{ended_lines, unended, lines_text}
 use Rattle.texts.proofs.LawLemmas.{texts_are_lines}
 use Rattle.image_text.specs.declared.ImageFault.{ImageFault}
 use Rattle.image_text.specs.declared.ImageFault.TheVariants.{Line, Table as TableRefuses}
@@ -87,7 +87,7 @@ pub not_ended : (s : Spot) (b : ℕ) (bytes : List ℕ) → end_refusal s (ended
 not_ended s b bytes = by (ended_lines (b ∷ bytes)) refl
   where
     by : (l : List (List ℕ)) → ended_lines (b ∷ bytes) ≡ l → end_refusal s l (unended (b ∷ bytes)) ≡ Some (Line s.number)
-    by [] e = ap (λ (t : List ℕ). end_refusal s [] t) (sym (texts_are_lines (b ∷ bytes) ∙ ap (λ (l : List (List ℕ)). text_of l (unended (b ∷ bytes))) e))
+    by [] e = ap (λ (t : List ℕ). end_refusal s [] t) (sym (texts_are_lines (b ∷ bytes) ∙ ap (λ (l : List (List ℕ)). lines_text l (unended (b ∷ bytes))) e))
     by (x ∷ l) e = refl
 
 pub not_ended_yet : (s : Spot) (bytes : List ℕ) → 0 < length bytes → end_refusal s (ended_lines bytes) (unended bytes) ≡ Some (Line s.number)

@@ -12,7 +12,7 @@ use Rattle.std.proofs.lemmas.List.Elements.{All-head, All-tail}
 use Rattle.hex.specs.Hex.{IsBytes, encode_lower}
 use Rattle.texts.specs.Decimals.{number_in, read_decimal}
 use Rattle.texts.specs.Hexadecimals.{hex_byte, hex_word, read_hex, read_hex_byte, read_hex_word, read_hex_key}
-use Rattle.texts.specs.Lines.{is_line_feed, but_last, last_of, ended_lines, unended, text_of}
+use Rattle.texts.specs.Lines.{is_line_feed, but_last, last_of, ended_lines, unended, lines_text}
 use Rattle.texts.specs.Laws.{DecimalsAreRead, DigitsAreCounted, BytesAreRead, WordsAreRead, KeysAreRead, TextsAreLines, LinesAreRead, HasNoFeed}
 use Rattle.texts.proofs.DecimalLemmas.{digits_model, decimal_parts, decimal_of_number, is_decimal-decimal, number_in-decimal, read_decimal-some, read_decimal-parts}
 use Rattle.texts.proofs.HexLemmas.{read_hex-encode, read_hex-parts, hex_byte-is, hex_word-is}
@@ -117,8 +117,8 @@ lines_are_read [] behind all clean = let parts = slice_split_none is_line_feed b
 lines_are_read (line ∷ lines) behind all clean =
     let first = All-head HasNoFeed line lines all in
     let more = lines_are_read lines behind (All-tail HasNoFeed line lines all) clean in (
-      ended_lines-before line (text_of lines behind) first ∙ ap (λ ls. line ∷ ls) more.0,
-      unended-before line (text_of lines behind) first ∙ more.1,
+      ended_lines-before line (lines_text lines behind) first ∙ ap (λ ls. line ∷ ls) more.0,
+      unended-before line (lines_text lines behind) first ∙ more.1,
     )
 
 pub texts_are_lines : TextsAreLines
@@ -126,15 +126,15 @@ unfolding ended_lines unended
 texts_are_lines [] = refl
 texts_are_lines (b ∷ text) = by (is_line_feed b) refl (texts_are_lines text)
   where
-    onto : (parts : List (List ℕ)) → SomeParts parts → text_of (but_last (onto_first b parts)) (last_of (onto_first b parts)) ≡ b ∷ text_of (but_last parts) (last_of parts)
+    onto : (parts : List (List ℕ)) → SomeParts parts → lines_text (but_last (onto_first b parts)) (last_of (onto_first b parts)) ≡ b ∷ lines_text (but_last parts) (last_of parts)
     onto [] s = absurd (let e = s.are in cc)
     onto (part ∷ []) s = refl
     onto (part ∷ next ∷ more) s = refl
 
-    by : (c : Bool) → is_line_feed b ≡ c → text ≡ text_of (but_last (slice_split is_line_feed text)) (last_of (slice_split is_line_feed text)) → b ∷ text ≡ text_of (but_last (cond c ([] ∷ slice_split is_line_feed text) (onto_first b (slice_split is_line_feed text)))) (last_of (cond c ([] ∷ slice_split is_line_feed text) (onto_first b (slice_split is_line_feed text))))
+    by : (c : Bool) → is_line_feed b ≡ c → text ≡ lines_text (but_last (slice_split is_line_feed text)) (last_of (slice_split is_line_feed text)) → b ∷ text ≡ lines_text (but_last (cond c ([] ∷ slice_split is_line_feed text) (onto_first b (slice_split is_line_feed text)))) (last_of (cond c ([] ∷ slice_split is_line_feed text) (onto_first b (slice_split is_line_feed text))))
     by true e more =
         let is : b ≡ 10 = grind (arith, nat_tests) in
         let some = some_parts text in
         ap (λ c. c ∷ text) is ∙ ap (λ t. 10 ∷ t) more
-        ∙ sym (ap (λ ls. text_of ls (last_of ([] ∷ slice_split is_line_feed text))) (but_last-before [] (slice_split is_line_feed text) some) ∙ ap (λ t. 10 ∷ text_of (but_last (slice_split is_line_feed text)) t) (last_of-before [] (slice_split is_line_feed text) some))
+        ∙ sym (ap (λ ls. lines_text ls (last_of ([] ∷ slice_split is_line_feed text))) (but_last-before [] (slice_split is_line_feed text) some) ∙ ap (λ t. 10 ∷ lines_text (but_last (slice_split is_line_feed text)) t) (last_of-before [] (slice_split is_line_feed text) some))
     by false e more = ap (λ t. b ∷ t) more ∙ sym (onto (slice_split is_line_feed text) (some_parts text))

@@ -5,7 +5,7 @@ use Rattle.std.specs.Fmt.{decimal}
 use Rattle.hex.specs.Hex.{IsBytes}
 use Rattle.texts.specs.Decimals.{is_decimal, number_in, read_decimal}
 use Rattle.texts.specs.Hexadecimals.{hex_byte, hex_word, hex_key, read_hex_byte, read_hex_word, read_hex_key}
-use Rattle.texts.specs.Lines.{is_line_feed, ended_lines, unended, text_of}
+use Rattle.texts.specs.Lines.{is_line_feed, ended_lines, unended, lines_text}
 
 -- A text is read as a value exactly where it is the text of that value, and the value is one of these.
 abbrev pub IsReadExactly : {A : Type 0} → (List ℕ → Option A) → (A → List ℕ) → (A → Type 0) → Type 0
@@ -29,7 +29,7 @@ DigitsAreCounted = (text : List ℕ) (n : ℕ) → is_decimal text ≡ true → 
 
 -- A text is its lines and what stands behind the last LF.
 abbrev pub TextsAreLines : Type 0
-TextsAreLines = (text : List ℕ) → text ≡ text_of (ended_lines text) (unended text)
+TextsAreLines = (text : List ℕ) → text ≡ lines_text (ended_lines text) (unended text)
 
 -- no byte of these is LF
 abbrev pub HasNoFeed : List ℕ → Type 0
@@ -38,4 +38,4 @@ HasNoFeed line = All (λ b. is_line_feed b ≡ false) line
 -- Lines that are written are read back, and so is what stands behind them.
 abbrev pub LinesAreRead : Type 0
 LinesAreRead = (lines : List (List ℕ)) (behind : List ℕ) → All HasNoFeed lines → HasNoFeed behind →
-    (ended_lines (text_of lines behind) ≡ lines) × (unended (text_of lines behind) ≡ behind)
+    (ended_lines (lines_text lines behind) ≡ lines) × (unended (lines_text lines behind) ≡ behind)

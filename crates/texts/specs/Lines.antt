@@ -36,6 +36,6 @@ abbrev pub lines_of : List ℕ → List (List ℕ)
 lines_of text = ended_lines text ++ last_line (unended text)
 
 -- the text of lines that LF ends, and of what stands behind them
-abbrev pub text_of : List (List ℕ) → List ℕ → List ℕ
-text_of [] behind = behind
-text_of (line ∷ lines) behind = line ++ 10 ∷ text_of lines behind
+abbrev pub lines_text : List (List ℕ) → List ℕ → List ℕ
+lines_text [] behind = behind
+lines_text (line ∷ lines) behind = line ++ 10 ∷ lines_text lines behind

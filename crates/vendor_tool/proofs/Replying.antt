@@ -1,7 +1,7 @@
 -- What reading a trace keeps from line to line.
 use Rattle.std.proofs.Common.{ℕ, ◌≡◌, ◌+◌, ◌<◌, ◌≤◌, Bool, true, false, List, [], ◌∷◌, ◌++◌, length, Some, Result, Ok, Err, refl, ap, sym, ◌∙◌, append_assoc, length-append, arith}
 use Rattle.std.proofs.lemmas.List.{append-nil}
-use Rattle.texts.specs.Lines.{ended_lines, unended, text_of}
+use Rattle.texts.specs.Lines.{ended_lines, unended, lines_text}
 use Rattle.texts.proofs.LawLemmas.{texts_are_lines}
 use Rattle.vendor_tool.specs.declared.TraceFault.{TraceFault}
 use Rattle.vendor_tool.specs.declared.TraceFault.TheVariants.{Line}
@@ -67,7 +67,7 @@ nothing_follows n (b ∷ after) none = absurd (omega arith)
 something_follows : (n : ℕ) (after : List ℕ) → 0 < length after → at_end n (ended_lines after) (unended after) ≡ Err (Line n)
 something_follows n after some = by (ended_lines after) (unended after) (texts_are_lines after)
   where
-    by : (lines : List (List ℕ)) (tail : List ℕ) → after ≡ text_of lines tail → at_end n lines tail ≡ Err (Line n)
+    by : (lines : List (List ℕ)) (tail : List ℕ) → after ≡ lines_text lines tail → at_end n lines tail ≡ Err (Line n)
     by [] [] is = absurd (omega (arith, ap length is))
     by [] (b ∷ tail) is = refl
     by (line ∷ lines) tail is = refl
