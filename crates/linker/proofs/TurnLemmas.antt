@@ -7,7 +7,7 @@ use Rattle.link_symbols.specs.declared.item.Item.{Item}
 use Rattle.link_symbols.specs.declared.item.Part.{Part}
 use Rattle.link_symbols.specs.Commons.{some_item}
 use Rattle.linker.specs.Placement.{item_at, filled_end, address_at, items_end, item_start, goes_to}
-use Rattle.linker.specs.internal.Placed.{start_of}
+use Rattle.linker.specs.internal.Placed.{part_start}
 use Rattle.linker.proofs.BoundLemmas.{end_above, start_up, end_within, round_up_above, up_to_3}
 use Rattle.linker.proofs.PlaceLemmas.{more_in, address_is, goes_yes, start_next, some_not, filled_is}
 
@@ -27,7 +27,7 @@ module _ (starts : List ℕ) (items : List Item) where
 
   -- what stands before the k-th item in its part ends here
   abbrev ahead : ℕ → Part → ℕ
-  ahead k p = items_end (start_of starts items p.region p.rank) (filter (goes_to p.region p.rank) (take k items))
+  ahead k p = items_end (part_start starts items p.region p.rank) (filter (goes_to p.region p.rank) (take k items))
 
   pub address_of : (k : ℕ) (p : Part) → (item_at items k).part ≡ Some p →
       address_at starts items k ≡ item_start (ahead k p) (item_at items k)
@@ -37,29 +37,29 @@ module _ (starts : List ℕ) (items : List Item) where
   end_is : (k : ℕ) (p : Part) → (item_at items k).part ≡ Some p → ends k ≡ ahead (k + 1) p
   end_is k p e =
       let a = address_of k p e in
-      let t = more_in (goes_to p.region p.rank) (start_of starts items p.region p.rank) k items some_item (in_list items k p e) (goes_yes p.region p.rank (item_at items k).part p e refl refl) in
+      let t = more_in (goes_to p.region p.rank) (part_start starts items p.region p.rank) k items some_item (in_list items k p e) (goes_yes p.region p.rank (item_at items k).part p e refl refl) in
       omega (arith, a, t)
 
   above : (k : ℕ) (p : Part) → (item_at items k).part ≡ Some p → ahead k p ≤ address_at starts items k
   above k p e = let a = address_of k p e in let r = round_up_above (max (item_at items k).align 2) (ahead k p) (omega arith) in omega (arith, a, r)
 
   rank_above : (k : ℕ) (p : Part) → (item_at items k).part ≡ Some p →
-      start_of starts items p.region p.rank ≤ address_at starts items k
-  rank_above k p e = let a = above k p e in let b = end_above (start_of starts items p.region p.rank) (filter (goes_to p.region p.rank) (take k items)) in omega (arith, a, b)
+      part_start starts items p.region p.rank ≤ address_at starts items k
+  rank_above k p e = let a = above k p e in let b = end_above (part_start starts items p.region p.rank) (filter (goes_to p.region p.rank) (take k items)) in omega (arith, a, b)
 
-  start_at : (p : Part) → slice_index starts p.region ≤ start_of starts items p.region p.rank
-  unfolding start_of
-  start_at p = let u = start_up starts items p.region 0 p.rank in let z : p.rank + 0 ≡ p.rank = omega arith in let e = ap (start_of starts items p.region) z in omega (arith, u, e)
+  start_at : (p : Part) → slice_index starts p.region ≤ part_start starts items p.region p.rank
+  unfolding part_start
+  start_at p = let u = start_up starts items p.region 0 p.rank in let z : p.rank + 0 ≡ p.rank = omega arith in let e = ap (part_start starts items p.region) z in omega (arith, u, e)
 
   -- it stands above where its region has room
   pub item_low : (k : ℕ) (p : Part) → (item_at items k).part ≡ Some p →
       slice_index starts p.region ≤ address_at starts items k
   item_low k p e = let a = rank_above k p e in let b = start_at p in omega (arith, a, b)
 
-  part_end : (k : ℕ) (p : Part) → (item_at items k).part ≡ Some p → ends k ≤ start_of starts items p.region (p.rank + 1)
+  part_end : (k : ℕ) (p : Part) → (item_at items k).part ≡ Some p → ends k ≤ part_start starts items p.region (p.rank + 1)
   part_end k p e =
       let a = end_is k p e in
-      let w = end_within (goes_to p.region p.rank) (start_of starts items p.region p.rank) (k + 1) items in
+      let w = end_within (goes_to p.region p.rank) (part_start starts items p.region p.rank) (k + 1) items in
       let n = start_next starts items p.region p.rank in
       omega (arith, a, w, n)
 
@@ -85,7 +85,7 @@ module _ (starts : List ℕ) (items : List Item) where
       ends j ≤ address_at starts items k
   earlier j k p e f h =
       let g = goes_to p.region p.rank in
-      let s = start_of starts items p.region p.rank in
+      let s = part_start starts items p.region p.rank in
       let a = end_is j p e in
       let w = end_within g s (j + 1) (take k items) in
       let t = ap (λ (l : List Item). items_end s (filter g l)) (take_take (j + 1) k (omega arith)) in
@@ -99,8 +99,8 @@ module _ (starts : List ℕ) (items : List Item) where
       let a = part_end j p e in
       let u = start_up starts items p.region (p.rank + 1) (q.rank - (p.rank + 1)) in
       let z : (q.rank - (p.rank + 1)) + (p.rank + 1) ≡ q.rank = omega arith in
-      let t = ap (start_of starts items p.region) z in
-      let v = ap (λ (n : ℕ). start_of starts items n q.rank) r in
+      let t = ap (part_start starts items p.region) z in
+      let v = ap (λ (n : ℕ). part_start starts items n q.rank) r in
       let b = rank_above k q f in
       omega (arith, a, u, t, v, b)
 
@@ -129,7 +129,7 @@ module _ (starts : List ℕ) (items : List Item) where
 
   -- a region's contents end no earlier than they begin
   pub room_for : (r : ℕ) → slice_index starts r ≤ filled_end starts items r
-  unfolding start_of
+  unfolding part_start
   room_for r = let u = start_up starts items r 0 3 in let w = filled_is starts items r in omega (arith, u, w)
 
   -- an item stands at a multiple of its alignment

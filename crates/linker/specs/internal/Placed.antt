@@ -5,9 +5,9 @@ use Rattle.link_symbols.specs.declared.item.Item.{Item}
 use Rattle.linker.specs.Placement.{items_end, goes_to, item_at, address_at}
 
 -- where a part starts: where those of lower rank in its region end
-unfoldable pub start_of : List ℕ → List Item → ℕ → ℕ → ℕ
-start_of starts items region zero = slice_index starts region
-start_of starts items region (suc rank) = items_end (start_of starts items region rank) (filter (goes_to region rank) items)
+unfoldable pub part_start : List ℕ → List Item → ℕ → ℕ → ℕ
+part_start starts items region zero = slice_index starts region
+part_start starts items region (suc rank) = items_end (part_start starts items region rank) (filter (goes_to region rank) items)
 
 abbrev pub BelowBy : ℕ → Option Part → Type 0
 BelowBy rank None = ⊥
@@ -21,7 +21,7 @@ RankBelow rank items k = BelowBy rank (item_at items k).part
 pub record PlacedBelow (starts : List ℕ) (items : List Item) (rank : ℕ) (addresses ends : List ℕ) : Type 0 where
   pub count : length addresses ≡ length items
   pub regions : length ends ≡ length starts
-  pub begun : (r : ℕ) → r < length ends → slice_index ends r ≡ start_of starts items r rank
+  pub begun : (r : ℕ) → r < length ends → slice_index ends r ≡ part_start starts items r rank
   pub stand : (k : ℕ) → RankBelow rank items k → slice_index addresses k ≡ address_at starts items k
   pub nowhere : (k : ℕ) → (item_at items k).part ≡ None → slice_index addresses k ≡ 0
 
