@@ -23,7 +23,7 @@ use Rattle.asm_text.specs.declared.statement.Statement.{Statement}
 use Rattle.asm_text.specs.declared.statement.Statement.TheVariants.{Section, Label, Global, Word, Space, Jump, Code}
 use Rattle.asm_text.specs.Encoding.{is_coded}
 use Rattle.texts.specs.Words.{is_space, words}
-use Rattle.asm_text.specs.Lines.{coded, width_of, base_of, two_op_of, one_op_of, cond_of, one_coded, two_coded, kind_of, section_of, even_size, space_of, unit_of, alone, jump_or_one, with_one, two_operands, with_two, by_words, statement_of}
+use Rattle.asm_text.specs.Lines.{coded, width_of, base_of, two_op_of, one_op_of, cond_of, one_coded, two_coded, section_kind, section_of, even_size, space_of, unit_of, alone, jump_or_one, with_one, two_operands, with_two, by_words, statement_of}
 use Rattle.asm_text.specs.Operands.{behind, before, name_of, field_by, field_of, register_of, of_field, plain, number_by, immediate_of, indirect_by, indirect_of, indexed_at, indexed_by, without_end, indexed_of, register_operand, absolute_of, behind_or, operand_of}
 use Rattle.asm_text.specs.Parts.{is_name}
 use Rattle.asm_text.specs.Statements.{OperandValue}
@@ -239,8 +239,8 @@ with_two_some word first second s e = by (bytes_eq word (codes "section")) e
     by_comma (Some source) k = two_some (width_of word) (two_op_of (base_of word)) source second s k
     by_comma None k = absurd cc
 
-    by : (c : Bool) → cond c (section_of (name_of first) (kind_of second)) (two_operands (before (codes ",") first) word second) ≡ Some s → IsWritten s
-    by true k = section_some first (kind_of second) s k
+    by : (c : Bool) → cond c (section_of (name_of first) (section_kind second)) (two_operands (before (codes ",") first) word second) ≡ Some s → IsWritten s
+    by true k = section_some first (section_kind second) s k
     by false k = by_comma (before (codes ",") first) k
 
 alone_some : (word : List ℕ) (s : Statement (List ℕ)) → alone word ≡ Some s → IsWritten s

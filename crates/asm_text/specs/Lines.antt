@@ -63,8 +63,8 @@ two_coded w _ _ _ = None
 
 -- ---- lines by their words
 
-abbrev pub kind_of : List ℕ → Option SectionKind
-kind_of word =
+abbrev pub section_kind : List ℕ → Option SectionKind
+section_kind word =
     if bytes_eq word (codes "code") then Some CodeKind
     else (if bytes_eq word (codes "data") then Some DataKind
     else (if bytes_eq word (codes "bss") then Some BssKind else None))
@@ -108,7 +108,7 @@ two_operands None word dest = None
 
 abbrev pub with_two : List ℕ → List ℕ → List ℕ → Option (Statement (List ℕ))
 with_two word first second =
-    if bytes_eq word (codes "section") then section_of (name_of first) (kind_of second)
+    if bytes_eq word (codes "section") then section_of (name_of first) (section_kind second)
     else two_operands (before (codes ",") first) word second
 
 abbrev pub by_words : List (List ℕ) → Option (Statement (List ℕ))

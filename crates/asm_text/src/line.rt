@@ -140,7 +140,7 @@ fn with_two<'a>(word: &[u8], first: &'a [u8], second: &'a [u8]) -> Option<Statem
 {
     if word == b"section".as_slice() {
         let name = name_of(first)?;
-        let kind = kind_of(second)?;
+        let kind = section_kind(second)?;
         return Some(Statement::Section { name, kind });
     }
     two_operands(word, first.strip_suffix(b",")?, second)
@@ -165,8 +165,8 @@ fn two_operands<'a>(word: &[u8], source: &'a [u8], dest: &'a [u8]) -> Option<Sta
     )
 }
 
-fn kind_of(word: &[u8]) -> Option<SectionKind>
-    ensures { result ≡ spec.kind_of word.now }
+fn section_kind(word: &[u8]) -> Option<SectionKind>
+    ensures { result ≡ spec.section_kind word.now }
 {
     if word == b"code".as_slice() {
         Some(SectionKind::Code)
