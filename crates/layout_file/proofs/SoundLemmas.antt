@@ -16,7 +16,7 @@ use Rattle.hex.proofs.HexLemmas.{decode_sized-ok, decode_sized-twice, decode_of-
 use Rattle.toml.specs.Data.{Data, Members, get_member, as_integer, as_str, as_array}
 use Rattle.toml.specs.Parse.{parse_document}
 use Rattle.layout_file.specs.Checked.{Checked, ◌>>=◌, map_ok, gather, one}
-use Rattle.layout_file.specs.Rows.{fits, in_bounds, in_order, of_kind, needed, is_name_byte}
+use Rattle.layout_file.specs.Rows.{is_within, in_bounds, in_order, of_kind, needed, is_name_byte}
 use Rattle.layout_file.specs.Rows as rows
 use Rattle.layout_file.specs.Clashes.{first_clash, share_byte}
 use Rattle.layout_file.specs.Overlaps.{ShareNoByte}
@@ -52,7 +52,7 @@ pub record Within (b : Bounds) (n : ℕ) : Type 0 where
   pub most : n ≤ b.most
   pub even : b.even ≡ true → n % 2 ≡ 0
 
-Within-fits : (b : Bounds) (n : ℕ) → fits b n ≡ true → Within b n
+Within-fits : (b : Bounds) (n : ℕ) → is_within b n ≡ true → Within b n
 Within-fits b n h =
     let parts = and_parts _ _ h in
     let ends = and_parts _ _ parts.0 in
@@ -70,9 +70,9 @@ Within-fits b n h =
     not_both false e odd = absurd (cc)
 
 Within-in_bounds : (spot : Spot) (b : Bounds) (z : ℤ) (n : ℕ) → in_bounds spot b z ≡ Ok n → Within b n
-Within-in_bounds spot b (pos m) n h = by (fits b m) refl h
+Within-in_bounds spot b (pos m) n h = by (is_within b m) refl h
   where
-    by : (c : Bool) → fits b m ≡ c → (if c then Ok m else Err (OutOfRange spot (pos m))) ≡ Ok n → Within b n
+    by : (c : Bool) → is_within b m ≡ c → (if c then Ok m else Err (OutOfRange spot (pos m))) ≡ Ok n → Within b n
     by true e h = let same : m ≡ n = cc in subst (Within b) same (Within-fits b m e)
     by false e h = absurd (cc)
 Within-in_bounds spot b (negsuc m) n h = absurd (cc)

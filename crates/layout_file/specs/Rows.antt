@@ -31,12 +31,12 @@ abbrev pub at_most : {A : Type 0} → Spot → ℕ → List A → Checked (List 
 at_most spot most xs = if nat_le (length xs) most then Ok xs else Err (TooMany spot)
 
 -- from `least` to `most`, and even where the bounds say so
-abbrev pub fits : Bounds → ℕ → Bool
-fits b n = (nat_le b.least n && nat_le n b.most) && (not b.even || n % 2 == 0)
+abbrev pub is_within : Bounds → ℕ → Bool
+is_within b n = (nat_le b.least n && nat_le n b.most) && (not b.even || n % 2 == 0)
 
 -- OutOfRange: an integer is outside its bounds
 abbrev pub in_bounds : Spot → Bounds → ℤ → Checked ℕ
-in_bounds spot b (pos n) = if fits b n then Ok n else Err (OutOfRange spot (pos n))
+in_bounds spot b (pos n) = if is_within b n then Ok n else Err (OutOfRange spot (pos n))
 in_bounds spot b (negsuc n) = Err (OutOfRange spot (negsuc n))
 
 -- OutOfRange: the second of a pair is below the first

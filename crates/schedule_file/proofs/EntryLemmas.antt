@@ -21,7 +21,7 @@ use Rattle.schedule_file.specs.declared.What.{What}
 use Rattle.schedule_file.specs.declared.What.TheVariants.{Serial, Up, Down}
 use Rattle.schedule_file.specs.Entries.{IsEntry, IsWhat}
 use Rattle.texts.specs.Words.{is_space}
-use Rattle.schedule_file.specs.Line.{move_of, what_of, at_cycle, entry_of, what_text, entry_text}
+use Rattle.schedule_file.specs.Line.{move_of, what_of, entry_at, entry_of, what_text, entry_text}
 use Rattle.schedule_file.specs.Laws.{EntriesAreRead}
 
 -- ---- what happens
@@ -93,7 +93,7 @@ what_to (Down line) h =
 
 -- ---- a line
 
-at_cycle-parts : (o : Option ℕ) (p : Option What) (e : Entry) → at_cycle o p ≡ Some e → (o ≡ Some e.cycle) × (p ≡ Some e.what)
+at_cycle-parts : (o : Option ℕ) (p : Option What) (e : Entry) → entry_at o p ≡ Some e → (o ≡ Some e.cycle) × (p ≡ Some e.what)
 at_cycle-parts (Some cycle) (Some what) e h = (cc, cc)
 at_cycle-parts (Some cycle) None e h = absurd cc
 at_cycle-parts None (Some what) e h = absurd cc
@@ -127,10 +127,10 @@ entry_to e h =
     let cut = cut_off is_space 32 (what_text e.what) refl (decimal e.cycle) (decimal_has_no 32 e.cycle (omega arith) fits) in
     let read = (decimals_are_read MAX_CYCLE (lit< tt) (decimal e.cycle) e.cycle).1 (omega arith, refl) in
     ap entry_of (append_assoc (decimal e.cycle) (codes " ") (what_text e.what))
-    ∙ ap (λ b. at_cycle (read_decimal MAX_CYCLE b) (what_of (after_first is_space (decimal e.cycle ++ 32 ∷ what_text e.what)))) cut.before
-    ∙ ap (λ a. at_cycle (read_decimal MAX_CYCLE (decimal e.cycle)) (what_of a)) cut.after
-    ∙ ap (λ o. at_cycle o (what_of (what_text e.what))) read
-    ∙ ap (at_cycle (Some e.cycle)) (what_to e.what h.1)
+    ∙ ap (λ b. entry_at (read_decimal MAX_CYCLE b) (what_of (after_first is_space (decimal e.cycle ++ 32 ∷ what_text e.what)))) cut.before
+    ∙ ap (λ a. entry_at (read_decimal MAX_CYCLE (decimal e.cycle)) (what_of a)) cut.after
+    ∙ ap (λ o. entry_at o (what_of (what_text e.what))) read
+    ∙ ap (entry_at (Some e.cycle)) (what_to e.what h.1)
 
 pub entries_are_read : EntriesAreRead
 entries_are_read line e = (entry_from line e, λ h. ap entry_of h.1 ∙ entry_to e h.0)

@@ -26,13 +26,13 @@ what_of text =
     else (if starts_with (λ a b. a == b) text (codes "line ") then move_of (drop 5 text) else None)
 
 -- an entry of this cycle
-abbrev pub at_cycle : Option ℕ → Option What → Option Entry
-at_cycle (Some cycle) (Some what) = Some (record { cycle = cycle; what = what })
-at_cycle _ _ = None
+abbrev pub entry_at : Option ℕ → Option What → Option Entry
+entry_at (Some cycle) (Some what) = Some (record { cycle = cycle; what = what })
+entry_at _ _ = None
 
 -- the entry that a line writes, where it is of one of the three forms
 unfoldable pub entry_of : List ℕ → Option Entry
-entry_of line = at_cycle (read_decimal MAX_CYCLE (before_first is_space line)) (what_of (after_first is_space line))
+entry_of line = entry_at (read_decimal MAX_CYCLE (before_first is_space line)) (what_of (after_first is_space line))
 
 -- ---- the text of an entry
 

@@ -13,11 +13,11 @@ use Rattle.texts.proofs.LawLemmas.{decimals_are_read, keys_are_read}
 use Rattle.vendor_tool.specs.declared.Challenge.{Challenge}
 use Rattle.vendor_tool.specs.Challenges.{last_cycle, IsChallenge}
 use Rattle.texts.specs.Words.{is_space}
-use Rattle.vendor_tool.specs.ChallengeText.{at_cycle, challenge_of, challenge_text}
+use Rattle.vendor_tool.specs.ChallengeText.{challenge_at, challenge_of, challenge_text}
 use Rattle.vendor_tool.specs.Laws.{ChallengesAreRead}
 use Rattle.vendor_tool.proofs.LineLemmas.{nothing_is_no_key}
 
-at_cycle-parts : (o : Option ℕ) (p : Option (List ℕ)) (c : Challenge) → at_cycle o p ≡ Some c → (o ≡ Some c.cycle) × (p ≡ Some c.nonce)
+at_cycle-parts : (o : Option ℕ) (p : Option (List ℕ)) (c : Challenge) → challenge_at o p ≡ Some c → (o ≡ Some c.cycle) × (p ≡ Some c.nonce)
 at_cycle-parts (Some cycle) (Some nonce) c h = (cc, cc)
 at_cycle-parts _ _ c h = absurd cc
 
@@ -53,10 +53,10 @@ challenge_to c h =
     let read = (decimals_are_read last_cycle (lit< tt) (decimal c.cycle) c.cycle).1 (low, refl) in
     let key = (keys_are_read (hex_key c.nonce) c.nonce).1 ((h.length, h.bytes), refl) in
     ap challenge_of (append_assoc (decimal c.cycle) (codes " ") (hex_key c.nonce))
-    ∙ ap (λ b. at_cycle (read_decimal last_cycle b) (read_hex_key (after_first is_space (decimal c.cycle ++ 32 ∷ hex_key c.nonce)))) cut.before
-    ∙ ap (λ a. at_cycle (read_decimal last_cycle (decimal c.cycle)) (read_hex_key a)) cut.after
-    ∙ ap (λ o. at_cycle o (read_hex_key (hex_key c.nonce))) read
-    ∙ ap (at_cycle (Some c.cycle)) key
+    ∙ ap (λ b. challenge_at (read_decimal last_cycle b) (read_hex_key (after_first is_space (decimal c.cycle ++ 32 ∷ hex_key c.nonce)))) cut.before
+    ∙ ap (λ a. challenge_at (read_decimal last_cycle (decimal c.cycle)) (read_hex_key a)) cut.after
+    ∙ ap (λ o. challenge_at o (read_hex_key (hex_key c.nonce))) read
+    ∙ ap (challenge_at (Some c.cycle)) key
 
 pub challenges_are_read : ChallengesAreRead
 challenges_are_read line c = (challenge_from line c, λ h. ap challenge_of h.1 ∙ challenge_to c h.0)

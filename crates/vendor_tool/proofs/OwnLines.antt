@@ -31,7 +31,7 @@ use Rattle.vendor_tool.specs.Laws.{TimedEvent, IsTold, IsEndState, events_text, 
 use Rattle.texts.specs.Rows.{after_these}
 use Rattle.vendor_tool.specs.Replies.{last_byte, sent_by, ends, at_end, by_end, from_kind, replies_from, replies_of}
 use Rattle.vendor_tool.proofs.Plain.{IsPlain, decimal_plain, byte_plain, word_plain, each, no_space, no_feed}
-use Rattle.vendor_tool.specs.TraceLines.{fits, all_fit, form_of, kinds, kind_of}
+use Rattle.vendor_tool.specs.TraceLines.{fits_word, all_fit, form_of, kinds, kind_of}
 
 -- ---- words that single spaces part
 
@@ -74,7 +74,7 @@ address word small = ap is_some ((words_are_read (hex_word word) word).1 (small,
 byte_word : (byte : ℕ) → byte < 256 → is_some (read_hex_byte (hex_byte byte)) ≡ true
 byte_word byte small = ap is_some ((bytes_are_read (hex_byte byte) byte).1 (small, refl))
 
-a_rule : (rule : Rule) → fits RuleName (rule_name rule) ≡ true
+a_rule : (rule : Rule) → fits_word RuleName (rule_name rule) ≡ true
 a_rule FetchNotEntry = refl
 a_rule _ = refl
 
@@ -101,7 +101,7 @@ module _ (c : List ℕ) (cycle : is_decimal c ≡ true) where
   out : (b : List ℕ) → is_some (read_hex_byte b) ≡ true → kind_by (c ∷ codes "out" ∷ b ∷ []) ≡ Some Out
   out b byte = rw (cycle, byte) refl
 
-  stop : (r p a m : List ℕ) → fits RuleName r ≡ true → is_some (read_hex_word p) ≡ true → is_some (read_hex_word a) ≡ true → is_decimal m ≡ true
+  stop : (r p a m : List ℕ) → fits_word RuleName r ≡ true → is_some (read_hex_word p) ≡ true → is_some (read_hex_word a) ≡ true → is_decimal m ≡ true
       → kind_by (c ∷ codes "stop" ∷ r ∷ codes "pc" ∷ p ∷ codes "addr" ∷ a ∷ codes "module" ∷ m ∷ []) ≡ Some Stop
   stop r p a m rule pc addr id = rw (cycle, rule, pc, addr, id) refl
 

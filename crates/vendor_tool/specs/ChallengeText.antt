@@ -11,13 +11,13 @@ use Rattle.vendor_tool.specs.declared.ChallengeFault.{ChallengeFault}
 use Rattle.vendor_tool.specs.declared.ChallengeFault.TheVariants.{TooMany, Line, NotRising}
 use Rattle.vendor_tool.specs.Challenges.{most_challenges, last_cycle, nonce_cycles}
 
-abbrev pub at_cycle : Option ℕ → Option (List ℕ) → Option Challenge
-at_cycle (Some cycle) (Some nonce) = Some (record { cycle = cycle; nonce = nonce })
-at_cycle _ _ = None
+abbrev pub challenge_at : Option ℕ → Option (List ℕ) → Option Challenge
+challenge_at (Some cycle) (Some nonce) = Some (record { cycle = cycle; nonce = nonce })
+challenge_at _ _ = None
 
 -- the challenge that a line writes: a cycle, a space, and the 32 digits of a nonce
 unfoldable pub challenge_of : List ℕ → Option Challenge
-challenge_of line = at_cycle (read_decimal last_cycle (before_first is_space line)) (read_hex_key (after_first is_space line))
+challenge_of line = challenge_at (read_decimal last_cycle (before_first is_space line)) (read_hex_key (after_first is_space line))
 
 -- the text of a challenge
 abbrev pub challenge_text : Challenge → List ℕ

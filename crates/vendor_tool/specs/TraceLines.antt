@@ -65,18 +65,18 @@ abbrev pub rules : List Rule
 rules = FetchNotEntry ∷ FetchData ∷ ReadData ∷ WriteData ∷ WriteText ∷ Reenter ∷ RetiInside ∷ Straddle ∷ Misaligned ∷ Illegal ∷ FetchDevice ∷ []
 
 -- whether a text is such a word; a number may be of any size
-abbrev pub fits : Word → List ℕ → Bool
-fits Number text = is_decimal text
-fits Byte text = is_some (read_hex_byte text)
-fits Address text = is_some (read_hex_word text)
-fits RuleName text = list_any (λ rule. bytes_eq text (rule_name rule)) rules
-fits (Keyword kind) text = bytes_eq text (keyword kind)
-fits (Mark label) text = bytes_eq text (label_text label)
+abbrev pub fits_word : Word → List ℕ → Bool
+fits_word Number text = is_decimal text
+fits_word Byte text = is_some (read_hex_byte text)
+fits_word Address text = is_some (read_hex_word text)
+fits_word RuleName text = list_any (λ rule. bytes_eq text (rule_name rule)) rules
+fits_word (Keyword kind) text = bytes_eq text (keyword kind)
+fits_word (Mark label) text = bytes_eq text (label_text label)
 
 -- whether these are all the words of a form
 abbrev pub all_fit : List Word → List (List ℕ) → Bool
 all_fit [] [] = true
-all_fit (word ∷ form) (text ∷ texts) = fits word text && all_fit form texts
+all_fit (word ∷ form) (text ∷ texts) = fits_word word text && all_fit form texts
 all_fit _ _ = false
 
 abbrev pub has_form : List ℕ → Kind → Bool

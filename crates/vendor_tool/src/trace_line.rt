@@ -245,13 +245,13 @@ fn has_form(line: &[u8], form: &[Word]) -> bool
         return false;
     };
     match split_word(line) {
-        None => fits(*word, line) && more.is_empty(),
-        Some((first, rest)) => fits(*word, first) && has_form(rest, more),
+        None => fits_word(*word, line) && more.is_empty(),
+        Some((first, rest)) => fits_word(*word, first) && has_form(rest, more),
     }
 }
 
-fn fits(word: Word, text: &[u8]) -> bool
-    ensures { result ≡ spec.fits word text.now }
+fn fits_word(word: Word, text: &[u8]) -> bool
+    ensures { result ≡ spec.fits_word word text.now }
 {
     match word {
         Word::Number => is_decimal(text),
@@ -264,7 +264,7 @@ fn fits(word: Word, text: &[u8]) -> bool
 }
 
 fn is_rule_name(text: &[u8]) -> bool
-    ensures { result ≡ spec.fits (Word.RuleName) text.now }
+    ensures { result ≡ spec.fits_word (Word.RuleName) text.now }
 {
     text == b"FetchNotEntry".as_slice()
         || text == b"FetchData".as_slice()
