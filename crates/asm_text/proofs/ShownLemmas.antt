@@ -34,7 +34,7 @@ use Rattle.asm_text.specs.Encoding.{extension, extensions, is_plain, is_source, 
 use Rattle.asm_text.specs.Laws.{ShownIsRead, is_placeless_operand, is_placeless, AreWords}
 use Rattle.texts.specs.Words.{is_space, words}
 use Rattle.asm_text.specs.Lines.{width_of, base_of, two_op_of, one_op_of, cond_of, by_words, statement_of}
-use Rattle.asm_text.specs.Operands.{before, field_of, of_field, plain, number_by, immediate_of, indirect_of, indexed_at, indexed_of, operand_of}
+use Rattle.asm_text.specs.Operands.{without_ending, field_of, of_field, plain, number_by, immediate_of, indirect_of, indexed_at, indexed_of, operand_of}
 use Rattle.asm_text.specs.Parts.{is_name}
 use Rattle.asm_text.proofs.CodedLemmas.{decoded_coded}
 use Rattle.asm_text.proofs.MeaningLemmas.{coded_means}
@@ -204,7 +204,7 @@ one_named _ _ = record { whole = refl; no_label = refl; no_global = refl; no_wor
 -- ---- instructions
 
 -- what stands before the comma
-comma_read : (text : List ℕ) → before (codes ",") (text ++ codes ",") ≡ Some text
+comma_read : (text : List ℕ) → without_ending (codes ",") (text ++ codes ",") ≡ Some text
 comma_read text =
     let size : length (text ++ codes ",") - 1 ≡ length text = omega (arith, length-append text (codes ",")) in
     let end : drop (length (text ++ codes ",") - 1) (text ++ codes ",") ≡ codes "," = drop_at text (codes ",") (length (text ++ codes ",") - 1) (sym size) in

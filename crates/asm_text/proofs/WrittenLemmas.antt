@@ -24,7 +24,7 @@ use Rattle.asm_text.specs.declared.statement.Statement.TheVariants.{Section, Lab
 use Rattle.asm_text.specs.Encoding.{is_coded}
 use Rattle.texts.specs.Words.{is_space, words}
 use Rattle.asm_text.specs.Lines.{coded, width_of, base_of, two_op_of, one_op_of, cond_of, one_coded, two_coded, section_kind, section_of, even_size, space_of, unit_of, alone, jump_or_one, with_one, two_operands, with_two, by_words, statement_of}
-use Rattle.asm_text.specs.Operands.{behind, before, name_of, field_by, field_of, register_of, of_field, plain, number_by, immediate_of, indirect_by, indirect_of, indexed_at, indexed_by, without_end, indexed_of, register_operand, absolute_of, behind_or, operand_of}
+use Rattle.asm_text.specs.Operands.{behind, without_ending, name_of, field_by, field_of, register_of, of_field, plain, number_by, immediate_of, indirect_by, indirect_of, indexed_at, indexed_by, without_end, indexed_of, register_operand, absolute_of, behind_or, operand_of}
 use Rattle.asm_text.specs.Parts.{is_name}
 use Rattle.asm_text.specs.Statements.{OperandValue}
 
@@ -98,7 +98,7 @@ absolute_some text v e = by (field_of text) refl e
 
 indirect_some : (text : List ℕ) (v : OperandValue) → indirect_of text ≡ Some v → NamedOption v.name
 unfolding indirect_of
-indirect_some text v e = by (before (codes "+") text) e
+indirect_some text v e = by (without_ending (codes "+") text) e
   where
     by : (o : Option (List ℕ)) → indirect_by o text ≡ Some v → NamedOption v.name
     by (Some register) k = plain_some Increment (register_of register) v k
@@ -239,9 +239,9 @@ with_two_some word first second s e = by (bytes_eq word (codes "section")) e
     by_comma (Some source) k = two_some (width_of word) (two_op_of (base_of word)) source second s k
     by_comma None k = absurd cc
 
-    by : (c : Bool) → cond c (section_of (name_of first) (section_kind second)) (two_operands (before (codes ",") first) word second) ≡ Some s → IsWritten s
+    by : (c : Bool) → cond c (section_of (name_of first) (section_kind second)) (two_operands (without_ending (codes ",") first) word second) ≡ Some s → IsWritten s
     by true k = section_some first (section_kind second) s k
-    by false k = by_comma (before (codes ",") first) k
+    by false k = by_comma (without_ending (codes ",") first) k
 
 alone_some : (word : List ℕ) (s : Statement (List ℕ)) → alone word ≡ Some s → IsWritten s
 alone_some word s e = by (bytes_eq word (codes "reti")) e

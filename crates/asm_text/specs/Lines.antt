@@ -17,7 +17,7 @@ use Rattle.asm_text.specs.declared.statement.Statement.{Statement}
 use Rattle.asm_text.specs.declared.statement.Statement.TheVariants.{Section, Label, Global, Word, Space, Jump, Code}
 use Rattle.asm_text.specs.declared.TheConstants.{MAX_SIZE}
 use Rattle.asm_text.specs.Encoding.{is_coded}
-use Rattle.asm_text.specs.Operands.{name_of, field_of, operand_of, before}
+use Rattle.asm_text.specs.Operands.{name_of, field_of, operand_of, without_ending}
 use Rattle.asm_text.specs.Statements.{OperandValue}
 
 -- ---- instructions
@@ -28,14 +28,14 @@ coded insn first second = if is_coded insn then Some (Code insn first second) el
 
 -- the mnemonic before `.b`, if it ends so
 abbrev pub width_of : List ℕ → Width
-width_of word = by (before (codes ".b") word)
+width_of word = by (without_ending (codes ".b") word)
   where
     by : Option (List ℕ) → Width
     by (Some base) = Byte
     by None = WordWidth
 
 abbrev pub base_of : List ℕ → List ℕ
-base_of word = by (before (codes ".b") word)
+base_of word = by (without_ending (codes ".b") word)
   where
     by : Option (List ℕ) → List ℕ
     by (Some base) = base
@@ -109,7 +109,7 @@ two_operands None word dest = None
 abbrev pub with_two : List ℕ → List ℕ → List ℕ → Option (Statement (List ℕ))
 with_two word first second =
     if bytes_eq word (codes "section") then section_of (name_of first) (section_kind second)
-    else two_operands (before (codes ",") first) word second
+    else two_operands (without_ending (codes ",") first) word second
 
 abbrev pub by_words : List (List ℕ) → Option (Statement (List ℕ))
 by_words (word ∷ []) = alone word

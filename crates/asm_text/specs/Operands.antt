@@ -16,8 +16,8 @@ abbrev pub behind : List ℕ → List ℕ → Option (List ℕ)
 behind front text = if starts_with (λ a b. a == b) text front then Some (drop (length front) text) else None
 
 -- what stands before this end, if the text ends so
-abbrev pub before : List ℕ → List ℕ → Option (List ℕ)
-before end text = if ends_with (λ a b. a == b) text end then Some (take (length text - length end) text) else None
+abbrev pub without_ending : List ℕ → List ℕ → Option (List ℕ)
+without_ending end text = if ends_with (λ a b. a == b) text end then Some (take (length text - length end) text) else None
 
 abbrev pub name_of : List ℕ → Option (List ℕ)
 name_of text = if is_name text then Some text else None
@@ -57,7 +57,7 @@ indirect_by (Some register) text = option_map (λ r. plain (Increment r)) (regis
 indirect_by None text = option_map (λ r. plain (Indirect r)) (register_of text)
 
 unfoldable pub indirect_of : List ℕ → Option OperandValue
-indirect_of text = indirect_by (before (codes "+") text) text
+indirect_of text = indirect_by (without_ending (codes "+") text) text
 
 -- a number and a register
 abbrev pub indexed_at : Option ℕ → Option ℕ → Option OperandValue
@@ -71,7 +71,7 @@ indexed_by digits (Some register) = indexed_at (read_hex_word digits) (register_
 
 abbrev pub without_end : Option (List ℕ) → Option (List ℕ)
 without_end None = None
-without_end (Some text) = before (codes ")") text
+without_end (Some text) = without_ending (codes ")") text
 
 unfoldable pub indexed_of : List ℕ → Option OperandValue
 indexed_of text = indexed_by (take 4 text) (without_end (behind (codes "(r") (drop 4 text)))

@@ -11,8 +11,8 @@ section_of s = record { name = string_bytes s.name; kind = s.kind; size = s.size
 abbrev pub sections_of : Vec AsmSection Global → List SectionValue
 sections_of v = map section_of v.items
 
-abbrev pub symbol_of : AsmSymbol → SymbolValue
-symbol_of s = record { name = string_bytes s.name; global = s.global; home = s.home; value = s.value }
+abbrev pub symbol_value : AsmSymbol → SymbolValue
+symbol_value s = record { name = string_bytes s.name; global = s.global; home = s.home; value = s.value }
 
-abbrev pub symbols_of : Vec AsmSymbol Global → List SymbolValue
-symbols_of v = map symbol_of v.items
+abbrev pub symbol_values : Vec AsmSymbol Global → List SymbolValue
+symbol_values v = map symbol_value v.items

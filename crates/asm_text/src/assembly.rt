@@ -93,7 +93,7 @@ fn symbols_of(
         (spec.names_of (source_value source.now)) }
     requires order { resolved.now.order.names.items ≡ spec.symbol_order (source_value source.now)
         (placed_of layout.now) }
-    ensures { IfOk result (λ symbols. views.symbols_of symbols
+    ensures { IfOk result (λ symbols. views.symbol_values symbols
         ≡ symbols_for source.now.statements.items (placed_of layout.now) (source_value source.now).tables.names
         (spec.symbol_order (source_value source.now) (placed_of layout.now))) }
 {

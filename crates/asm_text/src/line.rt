@@ -6,7 +6,7 @@ ghost use Rattle.insn_decode.specs.Code as code;
 ghost use Rattle.insn_decode.specs.Text as names;
 ghost use Rattle.asm_text.specs.Lines as spec;
 ghost use Rattle.texts.specs.Words as spaced;
-ghost use Rattle.asm_text.specs.Operands.{before};
+ghost use Rattle.asm_text.specs.Operands.{without_ending};
 ghost use Rattle.asm_text.specs.internal.Statements.{with_texts, operand_value};
 
 use crate::MAX_SIZE;

@@ -10,7 +10,7 @@ ghost use Rattle.asm_text.specs.declared.placing.Spot.{Spot};
 ghost use Rattle.asm_text.specs.internal.Numbering.{IsNumbering, AreBelow};
 ghost use Rattle.asm_text.specs.Symbols as spec;
 ghost use Rattle.asm_text.specs.internal.Symbols as inner;
-ghost use Rattle.asm_text.specs.Views.{symbol_of, symbols_of};
+ghost use Rattle.asm_text.specs.Views.{symbol_value, symbol_values};
 
 use crate::operand::string_of;
 use crate::placing::Spot;
@@ -142,7 +142,7 @@ fn symbol_for(
 ) -> Result<AsmSymbol, AllocError>
     requires name { is_name name.now ≡ true }
     requires spot { IfSome spot (λ s. s.section < 2 ^ 32) }
-    ensures { IfOk result (λ symbol. symbol_of symbol ≡ spec.symbol_by global name.now spot) }
+    ensures { IfOk result (λ symbol. symbol_value symbol ≡ spec.symbol_by global name.now spot) }
 {
     let name = string_of(alloc, name)?;
     match spot {
@@ -174,7 +174,7 @@ pub fn symbols_in(
     requires globals { length globals.now ≡ length names.now }
     requires spots { length spots.now ≡ length names.now }
     requires sections { (k : ℕ) (spot : Spot) → spot_of spots.now k ≡ Some spot → spot.section < 2 ^ 32 }
-    ensures { IfOk result (λ symbols. symbols_of symbols ≡ map
+    ensures { IfOk result (λ symbols. symbol_values symbols ≡ map
         (λ k. spec.symbol_by (slice_index_or globals.now k false) (slice_index_or (texts_in names.now) k [])
         (spot_of spots.now k)) order.now) }
 {

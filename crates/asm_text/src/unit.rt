@@ -2,7 +2,7 @@
 ghost use Rattle.std.specs.Prelude.{◌≡◌};
 ghost use Rattle.asm_text.specs.declared.unit.AsmFault.TheVariants.{NoMemory};
 ghost use Rattle.asm_text.specs.Parts.{IsUnit};
-ghost use Rattle.asm_text.specs.Views.{sections_of, symbols_of};
+ghost use Rattle.asm_text.specs.Views.{sections_of, symbol_values};
 
 use std::alloc::{AllocError, AllocFailed};
 

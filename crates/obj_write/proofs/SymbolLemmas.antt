@@ -9,7 +9,7 @@ use Rattle.elf_objects.specs.Passes.{all_below}
 use Rattle.elf_objects.proofs.PassLemmas.{all_below_more, all_below_zero}
 use Rattle.asm_text.specs.declared.unit.AsmSymbol.{AsmSymbol}
 use Rattle.asm_text.specs.Parts.{SymbolValue}
-use Rattle.asm_text.specs.Views.{symbol_of}
+use Rattle.asm_text.specs.Views.{symbol_value}
 use Rattle.obj_write.specs.declared.strings.Strings.{Strings}
 use Rattle.elf_objects.specs.Numbers.{symbol_size}
 use Rattle.obj_write.specs.Bytes.{zeros}
@@ -17,43 +17,43 @@ use Rattle.obj_write.specs.Strings.{name_at}
 use Rattle.obj_write.specs.internal.Strings.{IsTableOf}
 use Rattle.obj_write.specs.Symbols.{no_symbol, symbol_entry, symbol_entry_at, symbol_names, symbol_table, first_global}
 
-entry_at_is : (xs : List AsmSymbol) (i name : ℕ) (x : AsmSymbol) → i < length xs → x ≡ get_or xs i x → name ≡ name_at (symbol_names (map symbol_of xs)) i
-    → symbol_entry name (symbol_of x) ≡ symbol_entry_at (map symbol_of xs) i
+entry_at_is : (xs : List AsmSymbol) (i name : ℕ) (x : AsmSymbol) → i < length xs → x ≡ get_or xs i x → name ≡ name_at (symbol_names (map symbol_value xs)) i
+    → symbol_entry name (symbol_value x) ≡ symbol_entry_at (map symbol_value xs) i
 unfolding symbol_entry_at
 entry_at_is xs i name x lt is at =
-    ap (λ (n : ℕ). symbol_entry n (symbol_of x)) at
-    ∙ ap (symbol_entry (name_at (symbol_names (map symbol_of xs)) i)) (ap symbol_of is ∙ sym (get_or-map symbol_of xs i x no_symbol lt))
+    ap (λ (n : ℕ). symbol_entry n (symbol_value x)) at
+    ∙ ap (symbol_entry (name_at (symbol_names (map symbol_value xs)) i)) (ap symbol_value is ∙ sym (get_or-map symbol_value xs i x no_symbol lt))
 
 -- one entry more
 pub entry_added : (xs : List AsmSymbol) (i name : ℕ) (x : AsmSymbol) (strings : Strings) (old new : List ℕ) → i < length xs → x ≡ get_or xs i x
-    → IsTableOf (symbol_names (map symbol_of xs)) strings
+    → IsTableOf (symbol_names (map symbol_value xs)) strings
     → ((names : List (List ℕ)) → IsTableOf names strings → i < length names → name ≡ name_at names i)
-    → new ≡ old ++ symbol_entry name (symbol_of x)
-    → old ≡ zeros symbol_size ++ all_below (symbol_entry_at (map symbol_of xs)) i
-    → new ≡ zeros symbol_size ++ all_below (symbol_entry_at (map symbol_of xs)) (i + 1)
+    → new ≡ old ++ symbol_entry name (symbol_value x)
+    → old ≡ zeros symbol_size ++ all_below (symbol_entry_at (map symbol_value xs)) i
+    → new ≡ zeros symbol_size ++ all_below (symbol_entry_at (map symbol_value xs)) (i + 1)
 entry_added xs i name x strings old new lt is table place more so_far =
     let z : List ℕ = zeros symbol_size in
-    let f : ℕ → List ℕ = symbol_entry_at (map symbol_of xs) in
-    let counted : length (symbol_names (map symbol_of xs)) ≡ length xs = length-map (map symbol_of xs) (λ (s : SymbolValue). s.name) ∙ length-map xs symbol_of in
-    let at : name ≡ name_at (symbol_names (map symbol_of xs)) i = place (symbol_names (map symbol_of xs)) table (omega (arith, counted)) in
-    more ∙ (ap (λ l. l ++ symbol_entry name (symbol_of x)) so_far
-    ∙ (append_assoc z (all_below f i) (symbol_entry name (symbol_of x))
+    let f : ℕ → List ℕ = symbol_entry_at (map symbol_value xs) in
+    let counted : length (symbol_names (map symbol_value xs)) ≡ length xs = length-map (map symbol_value xs) (λ (s : SymbolValue). s.name) ∙ length-map xs symbol_value in
+    let at : name ≡ name_at (symbol_names (map symbol_value xs)) i = place (symbol_names (map symbol_value xs)) table (omega (arith, counted)) in
+    more ∙ (ap (λ l. l ++ symbol_entry name (symbol_value x)) so_far
+    ∙ (append_assoc z (all_below f i) (symbol_entry name (symbol_value x))
     ∙ ap (λ l. z ++ l) (ap (λ l. all_below f i ++ l) (entry_at_is xs i name x lt is at) ∙ sym (all_below_more f i))))
 
-no_entries : (xs : List AsmSymbol) → zeros symbol_size ≡ zeros symbol_size ++ all_below (symbol_entry_at (map symbol_of xs)) 0
-no_entries xs = sym (ap (λ l. zeros symbol_size ++ l) (all_below_zero (symbol_entry_at (map symbol_of xs))) ∙ append-nil (zeros symbol_size))
+no_entries : (xs : List AsmSymbol) → zeros symbol_size ≡ zeros symbol_size ++ all_below (symbol_entry_at (map symbol_value xs)) 0
+no_entries xs = sym (ap (λ l. zeros symbol_size ++ l) (all_below_zero (symbol_entry_at (map symbol_value xs))) ∙ append-nil (zeros symbol_size))
 
-pub table_begun : (xs : List AsmSymbol) (table : List ℕ) → table ≡ zeros symbol_size → table ≡ zeros symbol_size ++ all_below (symbol_entry_at (map symbol_of xs)) 0
+pub table_begun : (xs : List AsmSymbol) (table : List ℕ) → table ≡ zeros symbol_size → table ≡ zeros symbol_size ++ all_below (symbol_entry_at (map symbol_value xs)) 0
 table_begun xs table is = is ∙ no_entries xs
 
 pub table_whole : (xs : List AsmSymbol) (table : List ℕ) (n : ℕ) → n ≡ length xs
-    → table ≡ zeros symbol_size ++ all_below (symbol_entry_at (map symbol_of xs)) n → table ≡ symbol_table (map symbol_of xs)
+    → table ≡ zeros symbol_size ++ all_below (symbol_entry_at (map symbol_value xs)) n → table ≡ symbol_table (map symbol_value xs)
 unfolding symbol_table
-table_whole xs table n all is = is ∙ ap (λ k. zeros symbol_size ++ all_below (symbol_entry_at (map symbol_of xs)) k) (all ∙ sym (length-map xs symbol_of))
+table_whole xs table n all is = is ∙ ap (λ k. zeros symbol_size ++ all_below (symbol_entry_at (map symbol_value xs)) k) (all ∙ sym (length-map xs symbol_value))
 
 -- ---- the first global one
 
-position_value : (xs : List AsmSymbol) → position_or_len (λ (s : SymbolValue). s.global) (map symbol_of xs) ≡ position_or_len (λ (s : AsmSymbol). s.global) xs
+position_value : (xs : List AsmSymbol) → position_or_len (λ (s : SymbolValue). s.global) (map symbol_value xs) ≡ position_or_len (λ (s : AsmSymbol). s.global) xs
 position_value [] = refl
 position_value (x ∷ xs) = ap (λ n. cond (not x.global) (1 + n) 0) (position_value xs)
 
@@ -61,7 +61,7 @@ found_by : (k n : ℕ) (b : Bool) → ltb k n ≡ b → k ≤ n → unwrap_or (c
 found_by k n true is le = refl
 found_by k n false is le = let ge : n ≤ k = grind (arith, nat_tests) in omega arith
 
-pub first_global_is : (xs : List AsmSymbol) → 1 + unwrap_or (position (λ (s : AsmSymbol). s.global) xs) (length xs) ≡ first_global (map symbol_of xs)
+pub first_global_is : (xs : List AsmSymbol) → 1 + unwrap_or (position (λ (s : AsmSymbol). s.global) xs) (length xs) ≡ first_global (map symbol_value xs)
 unfolding first_global
 first_global_is xs =
     let k : ℕ = position_or_len (λ (s : AsmSymbol). s.global) xs in

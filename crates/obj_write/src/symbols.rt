@@ -1,7 +1,7 @@
 //! The table of symbols and that of their names.
 
 ghost use Rattle.std.specs.Prelude.{◌≡◌, ◌++◌, IfOk, OnOk, map, position};
-ghost use Rattle.asm_text.specs.Views.{symbol_of};
+ghost use Rattle.asm_text.specs.Views.{symbol_value};
 ghost use Rattle.obj_write.specs.internal.Strings.{IsTableOf};
 ghost use Rattle.obj_write.specs.Symbols.{info_of, home_index, symbol_entry, symbol_names, symbol_table, first_global};
 
@@ -36,7 +36,7 @@ fn home_index(home: Option<u32>) -> usize
 
 #[tactic(auto, unfolding(crate::specs::Symbols::symbol_entry))]
 fn put_entry(out: &mut Vec<u8>, name: usize, symbol: &AsmSymbol) -> Result<(), AllocError>
-    ensures { OnOk result (out.new.items ≡ out.old.items ++ symbol_entry name (symbol_of symbol.now)) }
+    ensures { OnOk result (out.new.items ≡ out.old.items ++ symbol_entry name (symbol_value symbol.now)) }
 {
     put_word(out, name)?;
     put_word(out, symbol.value as usize)?;
@@ -48,7 +48,7 @@ fn put_entry(out: &mut Vec<u8>, name: usize, symbol: &AsmSymbol) -> Result<(), A
 
 /// The table of the symbols' names.
 pub fn name_table(alloc: Global, symbols: &[AsmSymbol]) -> Result<Strings, AllocError>
-    ensures { IfOk result (IsTableOf (symbol_names (map symbol_of symbols.now))) }
+    ensures { IfOk result (IsTableOf (symbol_names (map symbol_value symbols.now))) }
 {
     let mut strings = Strings::new(alloc)?;
     for symbol in symbols {
@@ -63,8 +63,8 @@ pub fn symbol_table(
     symbols: &[AsmSymbol],
     strings: &Strings,
 ) -> Result<Vec<u8>, AllocError>
-    requires { IsTableOf (symbol_names (map symbol_of symbols.now)) strings.now }
-    ensures { IfOk result (λ v. v.items ≡ symbol_table (map symbol_of symbols.now)) }
+    requires { IsTableOf (symbol_names (map symbol_value symbols.now)) strings.now }
+    ensures { IfOk result (λ v. v.items ≡ symbol_table (map symbol_value symbols.now)) }
 {
     let mut table = Vec::new(alloc);
     table.extend_from_slice(&[0; SYMBOL_SIZE])?;
@@ -83,7 +83,7 @@ fn position_of_global(symbols: &[AsmSymbol]) -> Option<usize>
 /// The index of the first global entry, or the number of entries where none is global.
 #[tactic(auto, using(crate::proofs::SymbolLemmas::first_global_is))]
 pub fn first_global(symbols: &[AsmSymbol]) -> usize
-    ensures { result ≡ first_global (map symbol_of symbols.now) }
+    ensures { result ≡ first_global (map symbol_value symbols.now) }
 {
     1 + position_of_global(symbols).unwrap_or(symbols.len())
 }

@@ -1,7 +1,7 @@
 //! Worked objects.
 
 ghost use Rattle.std.specs.Prelude.{◌≡◌, IfOk};
-ghost use Rattle.asm_text.specs.Views.{section_of, symbol_of};
+ghost use Rattle.asm_text.specs.Views.{section_of, symbol_value};
 ghost use Rattle.object_tests.specs.internal.Rows.{text_value, here_value, main_value};
 
 use asm_text::{AsmSection, AsmSymbol, AsmUnit, SectionKind};
@@ -28,7 +28,7 @@ fn section(alloc: Global) -> Result<AsmSection, AllocError>
 
 /// A place of the text, 6 bytes from its start.
 fn here(alloc: Global) -> Result<AsmSymbol, AllocError>
-    ensures { IfOk result (λ s. symbol_of s ≡ here_value) }
+    ensures { IfOk result (λ s. symbol_value s ≡ here_value) }
 {
     Ok(AsmSymbol {
         name: String::from_str(alloc, "here")?,
@@ -40,7 +40,7 @@ fn here(alloc: Global) -> Result<AsmSymbol, AllocError>
 
 /// The start of the text, seen by other objects.
 fn main_symbol(alloc: Global) -> Result<AsmSymbol, AllocError>
-    ensures { IfOk result (λ s. symbol_of s ≡ main_value) }
+    ensures { IfOk result (λ s. symbol_value s ≡ main_value) }
 {
     Ok(AsmSymbol {
         name: String::from_str(alloc, "main")?,
