@@ -16,7 +16,7 @@ use Rattle.image_text.specs.declared.ImageFault.{ImageFault}
 use Rattle.image_text.specs.declared.ImageFault.TheVariants.{Line, Twice}
 use Rattle.image_text.specs.Image.{Image}
 use Rattle.image_text.specs.ImageText.{ended, first_line, key_line, handler_line, end_line}
-use Rattle.image_text.specs.Refusal.{Spot, past, line_fault, has_form, bad_digit, digit_or, formed, key_form, handler_form, module_form, row_form, digits_bytes, digits_word, section_at, count_of, counted, count_refusal, modules_refusal, handler_refusal, key_refusal, version_or_line, version_refusal, first_refusal, end_refusal, is_row, placed, rows_refusal, taken, added, one_less, refusal_of}
+use Rattle.image_text.specs.Refusal.{Spot, past, line_fault, has_form, bad_digit, digit_or, formed, key_form, handler_form, module_form, row_form, digits_bytes, digits_word, section_at, count_of, counted, count_refusal, modules_refusal, handler_refusal, key_refusal, version_or_line, version_refusal, first_refusal, end_refusal, is_row, row_or, rows_refusal, taken_or, added, one_less, refusal_of}
 use Rattle.image_text.specs.internal.Reading.{Unread, on, ReadLine, HasLineForm, PassedCount, due_next, AddsModule, ModulesSoFar, PassedModules, RowsSoFar, PassedMemory}
 use Rattle.image_text.specs.Laws.{Complete}
 use Rattle.image_text.proofs.FormLemmas.{has_form_of}
@@ -162,7 +162,7 @@ count_stage room u (inr second) e = by (count_of h.line) refl (sym (line_on (cou
 
 -- ---- the modules
 
-taken_none : (o : Option TableFault) (id : ℕ) (rest : Option ImageFault) → taken o id rest ≡ None → (o ≡ None) × (rest ≡ None)
+taken_none : (o : Option TableFault) (id : ℕ) (rest : Option ImageFault) → taken_or o id rest ≡ None → (o ≡ None) × (rest ≡ None)
 taken_none None id rest e = (refl, e)
 taken_none (Some fault) id rest e = absurd cc
 
@@ -222,7 +222,7 @@ row_stage : (last : ℕ) (u : Unread) (h : HasLine u) → pointwise nat_eq h.lin
 row_stage last u h other e =
     by (is_row last (digits_word 3 h.line) (digits_bytes 8 16 h.line)) (digits_word 3 h.line == last) refl refl f.after
   where
-    f : IsFormed row_form h.line (placed last u.spot h.line (rows_refusal (digits_word 3 h.line) (past h.line u.spot) (ended_lines h.next.rest) (unended h.next.rest)))
+    f : IsFormed row_form h.line (row_or last u.spot h.line (rows_refusal (digits_word 3 h.line) (past h.line u.spot) (ended_lines h.next.rest) (unended h.next.rest)))
     f = formed_none row_form u.spot h.line _ (sym (row_on last u h.next h.line h.read other) ∙ e)
 
     by : (a b : Bool) → is_row last (digits_word 3 h.line) (digits_bytes 8 16 h.line) ≡ a → (digits_word 3 h.line == last) ≡ b
@@ -244,7 +244,7 @@ rows_stage (suc n) start last memory u short even so e =
         → MemoryLines start
     by true p more =
         let w = went end_refusal u end_line h ((bytes_eq-Decides h.line end_line).0 p)
-        (sym (line_on (rows_refusal last) u h.next h.line h.read ∙ ap (λ b. cond b (end_refusal (past h.line u.spot) (ended_lines h.next.rest) (unended h.next.rest)) (formed row_form u.spot h.line (placed last u.spot h.line (rows_refusal (digits_word 3 h.line) (past h.line u.spot) (ended_lines h.next.rest) (unended h.next.rest))))) p) ∙ e) in
+        (sym (line_on (rows_refusal last) u h.next h.line h.read ∙ ap (λ b. cond b (end_refusal (past h.line u.spot) (ended_lines h.next.rest) (unended h.next.rest)) (formed row_form u.spot h.line (row_or last u.spot h.line (rows_refusal (digits_word 3 h.line) (past h.line u.spot) (ended_lines h.next.rest) (unended h.next.rest))))) p) ∙ e) in
         let none = ended_none w.next w.none in
         record {
           memory = memory ++ replicate (65536 - length memory) 0;

@@ -26,7 +26,7 @@ use Rattle.image_text.specs.declared.ImageFault.{ImageFault}
 use Rattle.image_text.specs.declared.ImageFault.TheVariants.{Line, Twice}
 use Rattle.image_text.specs.Image.{Image, IsImage, AreNumbered}
 use Rattle.image_text.specs.ImageText.{ended, first_line, key_line, handler_line, count_line, module_line, row_line, end_line, count_text, modules_text, is_zero, rows_text, memory_text, text_after_key, image_text}
-use Rattle.image_text.specs.Refusal.{Spot, past, key_form, handler_form, module_form, row_form, fits, has_form, is_bad, digits_bytes, digits_word, section_at, count_of, is_row, rows_refusal, end_refusal, taken, added, one_less, modules_refusal, counted, count_refusal, handler_refusal, key_refusal, first_refusal, refusal_of}
+use Rattle.image_text.specs.Refusal.{Spot, past, key_form, handler_form, module_form, row_form, fits, has_form, is_bad, digits_bytes, digits_word, section_at, count_of, is_row, rows_refusal, end_refusal, taken_or, added, one_less, modules_refusal, counted, count_refusal, handler_refusal, key_refusal, first_refusal, refusal_of}
 use Rattle.image_text.specs.internal.Reading.{HasLineForm, due_next}
 use Rattle.image_text.proofs.WholeText.{few}
 use Rattle.image_text.proofs.FormLemmas.{formed_ok, marks, bytes_cons, bytes_nil, word_here, coded_at}
@@ -559,7 +559,7 @@ module_ok t u left s line rest plain has due none is =
     at_line (modules_refusal t left) s line rest plain
     ∙ one_due t left s line (ended_lines rest) (unended rest) due
     ∙ formed_ok module_form s line _ has
-    ∙ ap (λ (o : Option TableFault). taken o (t.given + 1) (says (modules_refusal (added t line) (one_less left)) (past line s) rest)) none
+    ∙ ap (λ (o : Option TableFault). taken_or o (t.given + 1) (says (modules_refusal (added t line) (one_less left)) (past line s) rest)) none
     ∙ ap (λ (v : Table). says (modules_refusal v (one_less left)) (past line s) rest) is
 
 modules_ok : (ms xs : List Module) (g k room : ℕ) (left : Option ℕ) (s : Spot) (rest : List ℕ) → g ≡ length xs → length xs + length ms ≤ room → room ≤ 32 → AreNumbered (g + 1) ms → AreModules k ms → AllApart xs ms

@@ -9,7 +9,7 @@ use Rattle.std.specs.Cmp.Lexicographic.{pointwise}
 use Rattle.std.proofs.lemmas.Bool.{not-true, and_parts}
 use Rattle.image_text.specs.declared.ImageFault.{ImageFault}
 use Rattle.image_text.specs.declared.ImageFault.TheVariants.{Line, Twice}
-use Rattle.image_text.specs.Refusal.{Spot, past, formed, row_form, placed, is_row, digits_word, digits_bytes, rows_refusal, end_refusal}
+use Rattle.image_text.specs.Refusal.{Spot, past, formed, row_form, row_or, is_row, digits_word, digits_bytes, rows_refusal, end_refusal}
 use Rattle.image_text.proofs.FormLemmas.{formed_ok}
 use Rattle.image_text.proofs.LineTexts.{row_line_of}
 use Rattle.image_text.proofs.StageLemmas.{line_on, next_on}
@@ -155,10 +155,10 @@ module _ (last : ℕ) (old new : Unread) (line : List ℕ) (read : ReadLine old 
   abbrev behind : Option ImageFault
   behind = rows_refusal (digits_word 3 line) (past line old.spot) (ended_lines new.rest) (unended new.rest)
 
-  pub row_on : on old (rows_refusal last) ≡ formed row_form old.spot line (placed last old.spot line behind)
+  pub row_on : on old (rows_refusal last) ≡ formed row_form old.spot line (row_or last old.spot line behind)
   row_on =
       line_on (rows_refusal last) old new line read
-      ∙ ap (λ b. cond b (end_refusal (past line old.spot) (ended_lines new.rest) (unended new.rest)) (formed row_form old.spot line (placed last old.spot line behind))) other
+      ∙ ap (λ b. cond b (end_refusal (past line old.spot) (ended_lines new.rest) (unended new.rest)) (formed row_form old.spot line (row_or last old.spot line behind))) other
 
   module _ (form : HasLineForm row_form line) where
     pub row_says : (c d : Bool) → is_row last (digits_word 3 line) (digits_bytes 8 16 line) ≡ c → (digits_word 3 line == last) ≡ d

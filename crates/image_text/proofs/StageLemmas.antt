@@ -11,7 +11,7 @@ use Rattle.image_text.specs.declared.ImageFault.{ImageFault}
 use Rattle.image_text.specs.declared.ImageFault.TheVariants.{Line, Table as TableRefuses}
 use Rattle.image_text.specs.Image.{AreNumbered}
 use Rattle.image_text.specs.ImageText.{ended, modules_text, module_line}
-use Rattle.image_text.specs.Refusal.{Spot, past, formed, module_form, modules_refusal, rows_refusal, end_refusal, section_at, digits_word, added, taken, one_less}
+use Rattle.image_text.specs.Refusal.{Spot, past, formed, module_form, modules_refusal, rows_refusal, end_refusal, section_at, digits_word, added, taken_or, one_less}
 use Rattle.image_text.specs.internal.Reading.{Unread, on, ReadLine, HasLineForm, due_next, AddsModule, IsLeft, IsGivenCount, ModulesSoFar, PassedModules}
 use Rattle.image_text.proofs.FormLemmas.{formed_ok}
 use Rattle.image_text.proofs.LineTexts.{module_line_of}
@@ -43,7 +43,7 @@ none_due t (Some n) s (line ∷ more) tail e = rw e refl
 
 -- where one is due, its line is the next
 pub one_due : (t : Table) (left : Option ℕ) (s : Spot) (line : List ℕ) (more : List (List ℕ)) (tail : List ℕ) → due_next left (line ∷ more) ≡ true
-    → modules_refusal t left s (line ∷ more) tail ≡ formed module_form s line (taken (fault_of t (section_at 12 line) (section_at 22 line)) (t.given + 1) (modules_refusal (added t line) (one_less left) (past line s) more tail))
+    → modules_refusal t left s (line ∷ more) tail ≡ formed module_form s line (taken_or (fault_of t (section_at 12 line) (section_at 22 line)) (t.given + 1) (modules_refusal (added t line) (one_less left) (past line s) more tail))
 one_due t None s line more tail e = rw e refl
 one_due t (Some n) s line more tail e = rw e refl
 
@@ -76,7 +76,7 @@ past_module old new t u left a e =
     line_on (modules_refusal t left) old new a.line r
     ∙ one_due t left old.spot a.line _ _ (ap (due_next left) (sym r.lines) ∙ e)
     ∙ formed_ok module_form old.spot a.line _ a.form
-    ∙ ap (λ (o : Option _). taken o (t.given + 1) (modules_refusal (added t a.line) (one_less left) (past a.line old.spot) (ended_lines new.rest) (unended new.rest))) a.taken
+    ∙ ap (λ (o : Option _). taken_or o (t.given + 1) (modules_refusal (added t a.line) (one_less left) (past a.line old.spot) (ended_lines new.rest) (unended new.rest))) a.taken
     ∙ ap (λ (v : Table). modules_refusal v (one_less left) (past a.line old.spot) (ended_lines new.rest) (unended new.rest)) (sym a.table)
     ∙ next_on (modules_refusal u (one_less left)) old new a.line r
 
@@ -96,13 +96,13 @@ not_ended_yet s (b ∷ bytes) l = not_ended s b bytes
 
 -- a module's line that has not the form, and one whose module the table refuses
 module _ (old new : Unread) (t : Table) (left : Option ℕ) (line : List ℕ) (read : ReadLine old line new) (due : due_next left (ended_lines old.rest) ≡ true) where
-  pub due_line : on old (modules_refusal t left) ≡ formed module_form old.spot line (taken (fault_of t (section_at 12 line) (section_at 22 line)) (t.given + 1) (modules_refusal (added t line) (one_less left) (past line old.spot) (ended_lines new.rest) (unended new.rest)))
+  pub due_line : on old (modules_refusal t left) ≡ formed module_form old.spot line (taken_or (fault_of t (section_at 12 line) (section_at 22 line)) (t.given + 1) (modules_refusal (added t line) (one_less left) (past line old.spot) (ended_lines new.rest) (unended new.rest)))
   due_line = line_on (modules_refusal t left) old new line read ∙ one_due t left old.spot line _ _ (ap (due_next left) (sym read.lines) ∙ due)
 
   pub module_refused : (fault : TableFault) → HasLineForm module_form line → fault_of t (section_at 12 line) (section_at 22 line) ≡ Some fault → on old (modules_refusal t left) ≡ Some (TableRefuses (t.given + 1) fault)
   module_refused fault h e =
       due_line ∙ formed_ok module_form old.spot line _ h
-      ∙ ap (λ (o : Option TableFault). taken o (t.given + 1) (modules_refusal (added t line) (one_less left) (past line old.spot) (ended_lines new.rest) (unended new.rest))) e
+      ∙ ap (λ (o : Option TableFault). taken_or o (t.given + 1) (modules_refusal (added t line) (one_less left) (past line old.spot) (ended_lines new.rest) (unended new.rest))) e
 
 -- one module more
 pub modules_more : (room : ℕ) (due : Option ℕ) (start : Unread) (t u : Table) (now next : Unread) (left : Option ℕ)

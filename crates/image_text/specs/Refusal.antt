@@ -99,8 +99,8 @@ end_refusal s (line ∷ more) tail = line_fault s
 abbrev pub is_row : ℕ → ℕ → List ℕ → Bool
 is_row last a row = (a % 16 == 0) && not (nat_lt a FIRST_ROW) && not (is_zero row) && not (nat_lt a last)
 
-abbrev pub placed : ℕ → Spot → List ℕ → Option ImageFault → Option ImageFault
-placed last s line rest =
+abbrev pub row_or : ℕ → Spot → List ℕ → Option ImageFault → Option ImageFault
+row_or last s line rest =
     if is_row last (digits_word 3 line) (digits_bytes 8 16 line)
     then (if digits_word 3 line == last then Some (Twice (digits_word 3 line)) else rest)
     else line_fault s
@@ -111,11 +111,11 @@ rows_refusal last s [] tail = line_fault s
 rows_refusal last s (line ∷ more) tail =
     if pointwise nat_eq line end_line
     then end_refusal (past line s) more tail
-    else formed row_form s line (placed last s line (rows_refusal (digits_word 3 line) (past line s) more tail))
+    else formed row_form s line (row_or last s line (rows_refusal (digits_word 3 line) (past line s) more tail))
 
 -- the next module, where the table takes it
-abbrev pub taken : Option TableFault → ℕ → Option ImageFault → Option ImageFault
-taken refused id rest = option_or (option_map (TableRefuses id) refused) rest
+abbrev pub taken_or : Option TableFault → ℕ → Option ImageFault → Option ImageFault
+taken_or refused id rest = option_or (option_map (TableRefuses id) refused) rest
 
 -- the table with the module of a line
 abbrev pub added : Table → List ℕ → Table
@@ -133,7 +133,7 @@ abbrev pub modules_refusal : Table → Option ℕ → Spot → List (List ℕ) �
 modules_refusal t due s [] tail = line_fault s
 modules_refusal t due s (line ∷ more) tail =
     if is_due due line
-    then formed module_form s line (taken (fault_of t (section_at 12 line) (section_at 22 line)) (t.given + 1) (modules_refusal (added t line) (one_less due) (past line s) more tail))
+    then formed module_form s line (taken_or (fault_of t (section_at 12 line) (section_at 22 line)) (t.given + 1) (modules_refusal (added t line) (one_less due) (past line s) more tail))
     else rows_refusal BEFORE_ROWS s (line ∷ more) tail
 
 abbrev pub counted : Option ℕ → Spot → Option ImageFault → Option ImageFault

@@ -18,8 +18,8 @@ abbrev pub address_text : ℕ → List ℕ
 address_text a = if nat_lt a 65536 then hex_word a else digits 16 false a
 
 -- a name as refusals show it: `?` for each byte that is no visible character
-abbrev pub shown : List ℕ → List ℕ
-shown name = map shown_byte name
+abbrev pub name_shown : List ℕ → List ℕ
+name_shown name = map shown_byte name
 
 -- what each element gives, one after another, the elements being numbered from here on
 abbrev pub text_at : {X : Type 0} → (ℕ → X → List ℕ) → ℕ → List X → List ℕ

@@ -23,24 +23,24 @@ use Rattle.link_symbols.specs.Resolved.{items_of}
 use Rattle.mod_layout.specs.declared.TheConstants.{FIRST_VECTOR}
 use Rattle.mod_layout.specs.declared.Section.{Section}
 use Rattle.mod_layout.specs.Table.{Table}
-use Rattle.link_map.specs.Lines.{line, address_text, shown, text_at}
+use Rattle.link_map.specs.Lines.{line, address_text, name_shown, text_at}
 use Rattle.link_map.specs.Modules.{PlacedModule, by_id, id_at}
 use Rattle.link_map.specs.Parts.{PartValue, parts_of}
 
 -- `module ID NAME` and its two sections in the image
 abbrev pub module_text : ℕ → List ℕ → Section → Section → List ℕ
-module_text id name text ram = line (codes "module") (decimal id ∷ shown name ∷ address_text text.start ∷ address_text text.end ∷ address_text ram.start ∷ address_text ram.end ∷ [])
+module_text id name text ram = line (codes "module") (decimal id ∷ name_shown name ∷ address_text text.start ∷ address_text text.end ∷ address_text ram.start ∷ address_text ram.end ∷ [])
 
 abbrev pub module_line : (ℕ → ℕ) → ℕ → PlacedModule → List ℕ
 module_line end id p = module_text id p.value.name (text_of end p.number p.value) (ram_of end p.number p.value)
 
 -- `part START END ID OBJECT SECTION NAME`, where ID is that of the module that has it
 abbrev pub part_line : Table → PartValue → List ℕ
-part_line table p = line (codes "part") (address_text p.at ∷ address_text p.end ∷ decimal (id_at table p.at) ∷ decimal p.object ∷ decimal p.section ∷ shown p.name ∷ [])
+part_line table p = line (codes "part") (address_text p.at ∷ address_text p.end ∷ decimal (id_at table p.at) ∷ decimal p.object ∷ decimal p.section ∷ name_shown p.name ∷ [])
 
 -- `common START END NAME`
 abbrev pub common_text : ℕ → ℕ → List ℕ → List ℕ
-common_text at size name = line (codes "common") (address_text at ∷ address_text (at + size) ∷ shown name ∷ [])
+common_text at size name = line (codes "common") (address_text at ∷ address_text (at + size) ∷ name_shown name ∷ [])
 
 -- of the k-th, whose item comes after those of the sections
 abbrev pub common_line : (ℕ → ℕ) → List Item → ℕ → ℕ → List ℕ → List ℕ
@@ -53,14 +53,14 @@ memory_word memory a = slice_index memory a + 256 * slice_index memory (a + 1)
 -- `entry ADDRESS ID K NAME`: the address that the table of the module's stub has for the k-th entry
 abbrev pub entry_line : List ℕ → ℕ → ℕ → ℕ → List ℕ → List ℕ
 entry_line memory start id k name =
-    line (codes "entry") (address_text (memory_word memory (start + 2 * front_words + 2 * k)) ∷ decimal id ∷ decimal k ∷ shown name ∷ [])
+    line (codes "entry") (address_text (memory_word memory (start + 2 * front_words + 2 * k)) ∷ decimal id ∷ decimal k ∷ name_shown name ∷ [])
 
 abbrev pub entry_lines : List ℕ → ℕ → PlacedModule → List ℕ
 entry_lines memory id p = text_at (entry_line memory p.value.text.start id) 0 p.value.entries
 
 -- `vector V ADDRESS NAME`: the word of the vector
 abbrev pub vector_line : List ℕ → VectorValue → List ℕ
-vector_line memory v = line (codes "vector") (decimal v.vector ∷ address_text (memory_word memory (FIRST_VECTOR + 2 * v.vector)) ∷ shown v.name ∷ [])
+vector_line memory v = line (codes "vector") (decimal v.vector ∷ address_text (memory_word memory (FIRST_VECTOR + 2 * v.vector)) ∷ name_shown v.name ∷ [])
 
 abbrev pub kind_text : Binding → List ℕ
 kind_text binding.Local = codes "local"
@@ -80,7 +80,7 @@ is_placed o (home.In k) = is_loaded_some (slice_get o.sections k)
 
 -- `symbol NUMBER ID KIND OBJECT NAME`
 abbrev pub symbol_text : Table → ℕ → Binding → ℕ → List ℕ → List ℕ
-symbol_text table n kind object name = line (codes "symbol") (address_text n ∷ decimal (id_at table n) ∷ kind_text kind ∷ decimal object ∷ shown name ∷ [])
+symbol_text table n kind object name = line (codes "symbol") (address_text n ∷ decimal (id_at table n) ∷ kind_text kind ∷ decimal object ∷ name_shown name ∷ [])
 
 abbrev pub symbol_text_if : Bool → List ℕ → List ℕ
 symbol_text_if true text = text

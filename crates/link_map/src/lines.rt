@@ -1,7 +1,7 @@
 //! The lines of a map.
 
 ghost use Rattle.std.specs.Prelude.{◌≡◌, ◌++◌, [], OnOk, map};
-ghost use Rattle.link_map.specs.Lines.{line, address_text, shown};
+ghost use Rattle.link_map.specs.Lines.{line, address_text, name_shown};
 ghost use Rattle.link_map.specs.internal.Values.{piece_text};
 
 use cli_files::shown;
@@ -58,7 +58,7 @@ impl MapText {
     }
 
     fn put_name(&mut self, name: &[u8]) -> Result<(), AllocError>
-        ensures { OnOk result (self.new.text.items ≡ self.old.text.items ++ shown name.now) }
+        ensures { OnOk result (self.new.text.items ≡ self.old.text.items ++ name_shown name.now) }
     {
         let name = shown(self.alloc, name)?;
         self.put(name.as_str().as_bytes())

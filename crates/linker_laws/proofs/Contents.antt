@@ -17,7 +17,7 @@ use Rattle.image_text.specs.Image.{Image}
 use Rattle.layout_file.specs.Sound.{IsLayout}
 use Rattle.layout_file.specs.Values.{VectorValue, ModuleValue, LayoutValue}
 use Rattle.reloc_apply.specs.Fields.{row_of, row_size}
-use Rattle.reloc_apply.specs.Applies.{Applies, no_field, a_field, limit_by, number_by}
+use Rattle.reloc_apply.specs.Applies.{Applies, no_field, a_field, limit_by, row_number}
 use Rattle.reloc_apply.proofs.SetsLemmas.{width_within}
 use Rattle.reloc_apply.proofs.AppliesLemmas.{none_at_0}
 use Rattle.link_symbols.specs.declared.item.Item.{Item}
@@ -514,7 +514,7 @@ section_bytes_law layout objects image i x k s h n b out =
 pub field_numbers_law : FieldNumbers
 field_numbers_law layout objects image i n j x r f g apart =
     of_image layout objects image (λ m. little_number (row_size (row_of r.kind)) (drop (section_address layout objects x r.target + r.offset) m) % limit_by (row_of r.kind)
-    ≡ number_by (row_of r.kind) ((section_address layout objects x r.target + r.offset) % 65536) (symbol_sum (numbers_in (linking_of layout objects) x) r)) i.links
+    ≡ row_number (row_of r.kind) ((section_address layout objects x r.target + r.offset) % 65536) (symbol_sum (numbers_in (linking_of layout objects) x) r)) i.links
     (field_numbers layout objects i.layout_kept i.objects_kept i.links.unrefused n j x r f g apart)
 
 pub stub_bytes_law : StubBytes

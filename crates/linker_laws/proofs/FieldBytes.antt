@@ -6,7 +6,7 @@ use Rattle.byteorder.specs.Endian.{little_number, little_from}
 use Rattle.elf_objects.specs.declared.object.Relocation.{Relocation}
 use Rattle.reloc_apply.specs.declared.RelocFault.{RelocFault}
 use Rattle.reloc_apply.specs.Fields.{row_of, row_size, relocated, ChangesOnly}
-use Rattle.reloc_apply.specs.Applies.{Applies, limit_by, number_by, Sets}
+use Rattle.reloc_apply.specs.Applies.{Applies, limit_by, row_number, Sets}
 use Rattle.reloc_apply.proofs.SetsLemmas.{applies_sets, width_within}
 use Rattle.link_symbols.specs.Passes.{NumberedObject}
 use Rattle.linker.specs.Bytes.{put, bytes_at}
@@ -115,7 +115,7 @@ module _ (l : Linking) (low : (k : ℕ) → l.address k ≤ 65536) where
 
   -- the field holds its number
   abbrev pub IsSet : NumberedObject → Relocation → List ℕ → Type 0
-  IsSet x r m = little_number (width r) (drop (at x r + r.offset) m) % limit_by (row_of r.kind) ≡ number_by (row_of r.kind) (place x r) (sum x r)
+  IsSet x r m = little_number (width r) (drop (at x r + r.offset) m) % limit_by (row_of r.kind) ≡ row_number (row_of r.kind) (place x r) (sum x r)
 
   within_by : (w offset size n : ℕ) → (w ≡ 0) ⊎ (offset + w ≤ size) → n < w → offset + n < size
   within_by w offset size n (inl z) h = absurd (omega (arith, z, h))

@@ -13,7 +13,7 @@ use Rattle.layout_file.specs.Overlaps.{ShareNoByte}
 use Rattle.layout_file.specs.Sound.{IsLayout}
 use Rattle.layout_file.specs.Values.{VectorValue, ModuleValue, LayoutValue}
 use Rattle.reloc_apply.specs.Fields.{row_of, row_size}
-use Rattle.reloc_apply.specs.Applies.{limit_by, number_by}
+use Rattle.reloc_apply.specs.Applies.{limit_by, row_number}
 use Rattle.link_symbols.specs.Passes.{NumberedObject, numbered_objects}
 use Rattle.link_symbols.specs.Parts.{is_loaded_head}
 use Rattle.linker.specs.Placement.{starts_of, address_at, stub_size}
@@ -66,7 +66,7 @@ FieldNumbers = (layout : LayoutValue) (objects : List ObjectValue) (image : Imag
     let start = section_address layout objects x r.target + r.offset in
     let row = row_of r.kind in
     little_number (row_size row) (drop start image.memory) % limit_by row
-    ≡ number_by row (start % 65536) (symbol_sum (numbers_in (linking_of layout objects) x) r)
+    ≡ row_number row (start % 65536) (symbol_sum (numbers_in (linking_of layout objects) x) r)
 
 -- each module's text begins with its stub
 abbrev pub StubBytes : Type 0

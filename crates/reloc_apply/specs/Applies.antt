@@ -28,15 +28,15 @@ abbrev pub limit_by : Option Row → ℕ
 limit_by row = option_map_or (λ r. limit_of r.field) row 1
 
 -- the number that a field is given
-abbrev pub number_by : Option Row → ℕ → ℤ → ℕ
-number_by row place sum =
+abbrev pub row_number : Option Row → ℕ → ℤ → ℕ
+row_number row place sum =
     option_map_or (λ r. modulo (field_value (is_jump r.field) (difference_of r.relative place sum)) (limit_of r.field)) row 0
 
 -- as many bytes, the same outside a field, which holds its number, a jump in its low ten bits
 pub record Sets (row : Option Row) (place : ℕ) (sum : ℤ) (offset : ℕ) (old new : List ℕ) : Type 0 where
   pub as_many : length new ≡ length old
   pub elsewhere : ChangesOnly old new offset (row_size row)
-  pub number : little_number (row_size row) (drop offset new) % limit_by row ≡ number_by row place sum
+  pub number : little_number (row_size row) (drop offset new) % limit_by row ≡ row_number row place sum
 
 -- a relocation that is taken sets its field and nothing else
 abbrev pub SetsField : Type 0

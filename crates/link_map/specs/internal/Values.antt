@@ -8,7 +8,7 @@ use Rattle.link_map.specs.declared.modules.Booted.{Booted}
 use Rattle.link_map.specs.declared.parts.Numbered.{Numbered}
 use Rattle.link_map.specs.declared.parts.Part.{Part}
 use Rattle.link_symbols.specs.Passes.{NumberedObject}
-use Rattle.link_map.specs.Lines.{address_text, shown}
+use Rattle.link_map.specs.Lines.{address_text, name_shown}
 use Rattle.link_map.specs.Modules.{PlacedModule}
 use Rattle.link_map.specs.Parts.{PartValue}
 
@@ -17,7 +17,7 @@ abbrev pub piece_text : Piece → List ℕ
 piece_text (Word word) = word.now
 piece_text (Number n) = decimal n
 piece_text (Address a) = address_text a
-piece_text (Name name) = shown name.now
+piece_text (Name name) = name_shown name.now
 
 abbrev pub booted_value : Booted → PlacedModule
 booted_value b = record { number = b.number; value = module_of b.spec.now }
