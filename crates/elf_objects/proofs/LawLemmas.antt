@@ -17,8 +17,8 @@ use Rattle.elf_objects.specs.declared.object.Relocation.{Relocation}
 use Rattle.elf_objects.specs.Passes.{or_else, refuse_if, first_below, each_below, all_below}
 use Rattle.elf_objects.specs.Header.{section_count, name_table, table_fault}
 use Rattle.elf_objects.specs.Section.{header_of, is_absent, section_fault, link_fault, name_table_fault, content, section_faults, link_faults, symbol_table, index_if, is_kept_table, is_kind, is_loaded, is_loaded_header}
-use Rattle.elf_objects.specs.Names.{name_end, name_span, section_names, name_fault, name_faults, section_of, sections_of}
-use Rattle.elf_objects.specs.Symbol.{entry_of, count_in, strings_of, symbol_fault, symbol_of, home_of, symbols_header, count_of, faults_in, symbol_faults, symbols_in, symbols_of}
+use Rattle.elf_objects.specs.Names.{name_end, name_span, names_header, name_fault, name_faults, section_of, sections_of}
+use Rattle.elf_objects.specs.Symbol.{table_entry, count_in, strings_of, symbol_fault, symbol_of, home_of, symbols_header, count_of, faults_in, symbol_faults, symbols_in, symbols_of}
 use Rattle.elf_objects.specs.Relocation.{relocation_of, entry_fault, relocation_fault, relocation_faults, relocations_at, relocations_of}
 use Rattle.elf_objects.specs.Object.{elf_fault_of, contents_fault, ObjectValue, IsObject, IsSpanWithin, IsSectionHead, IsHome, IsSymbol, IsRelocation}
 use Rattle.elf_objects.proofs.PassLemmas.{length_each_below, at_each}
@@ -149,7 +149,7 @@ strings_end : (file : List ℕ) (i : ℕ) → IsSound file → i < section_count
 strings_end file i sound lt kind = section_ends file i (below_none _ _ i sound.sections lt) (grind (arith, nat_tests))
 
 -- the name table is a string table
-table_kind : (file : List ℕ) → link_fault file (name_table file) ≡ None → eqb (section_names file).kind 3 ≡ true
+table_kind : (file : List ℕ) → link_fault file (name_table file) ≡ None → eqb (names_header file).kind 3 ≡ true
 unfolding link_fault
 table_kind file e = let no = not_refused _ _ e in grind (arith, nat_tests)
 
@@ -157,7 +157,7 @@ table_index : (file : List ℕ) → name_table_fault file ≡ None → name_tabl
 unfolding name_table_fault
 table_index file e = let no = not_refused _ _ e in grind (arith, nat_tests)
 
-named_by : (file : List ℕ) (i : ℕ) → name_fault file i ≡ None → is_none (name_end file (section_names file) ((header_of file i).name)) ≡ false
+named_by : (file : List ℕ) (i : ℕ) → name_fault file i ≡ None → is_none (name_end file (names_header file) ((header_of file i).name)) ≡ false
 unfolding name_fault
 named_by file i e = not_refused _ _ e
 
@@ -166,7 +166,7 @@ unfolding section_of
 section_name_within file i sound lt =
     let at = table_index file sound.name_table in
     let kind = table_kind file (below_none _ _ (name_table file) sound.links at) in
-    name_within file (section_names file) ((header_of file i).name) (named_by file i (below_none _ _ i sound.names lt)) (strings_end file (name_table file) sound at kind)
+    name_within file (names_header file) ((header_of file i).name) (named_by file i (below_none _ _ i sound.names lt)) (strings_end file (name_table file) sound at kind)
 
 -- ---- sections
 
@@ -203,8 +203,8 @@ symbol_law file table zero ends e = record { name = record { ordered = omega ari
 symbol_law file table (suc k) ends e =
     let parts = bad_parts _ _ _ _ (not_refused _ _ e) in
     record {
-      name = name_within file (strings_of file table) ((entry_of file table (suc k)).name) parts.0 ends;
-      home = home_in (section_count file) ((entry_of file table (suc k)).section) parts.1;
+      name = name_within file (strings_of file table) ((table_entry file table (suc k)).name) parts.0 ends;
+      home = home_in (section_count file) ((table_entry file table (suc k)).section) parts.1;
     }
 
 index_if_some : (b : Bool) (i s : ℕ) → index_if b i ≡ Some s → (b ≡ true) × (i ≡ s)

@@ -5,5 +5,5 @@ use Rattle.byteorder.specs.Endian.{little_number}
 unfoldable pub half_at : List ℕ → ℕ → ℕ
 half_at file at = if nat_lt (length file) (at + 2) then 0 else little_number 2 (drop at file)
 
-unfoldable pub word_at : List ℕ → ℕ → ℕ
-word_at file at = if nat_lt (length file) (at + 4) then 0 else little_number 4 (drop at file)
+unfoldable pub long_at : List ℕ → ℕ → ℕ
+long_at file at = if nat_lt (length file) (at + 4) then 0 else little_number 4 (drop at file)

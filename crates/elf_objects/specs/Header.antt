@@ -2,13 +2,13 @@
 use Rattle.std.specs.Prelude.{ℕ, ◌+◌, ◌*◌, List, [], ◌∷◌, length, not, ◌||◌, ◌==◌, nat_lt, slice_index, Option}
 use Rattle.elf_objects.specs.declared.fault.ElfFault.{ElfFault}
 use Rattle.elf_objects.specs.declared.fault.ElfFault.TheVariants as fault
-use Rattle.elf_objects.specs.Bytes.{half_at, word_at}
+use Rattle.elf_objects.specs.Bytes.{half_at, long_at}
 use Rattle.elf_objects.specs.Numbers.{file_header_size, relocatable, msp430, current_version, magic, class_32, low_byte_first, section_header_size}
 use Rattle.elf_objects.specs.Passes.{refuse_if, first_of}
 
 -- e_shoff: where the table of section headers starts
 abbrev pub table_offset : List ℕ → ℕ
-table_offset file = word_at file 32
+table_offset file = long_at file 32
 
 -- e_shnum
 abbrev pub section_count : List ℕ → ℕ
@@ -22,10 +22,10 @@ name_table file = half_at file 50
 unfoldable pub header_fault : List ℕ → Option ElfFault
 header_fault file = first_of (
     refuse_if (nat_lt (length file) file_header_size) (fault.Short (length file))
-    ∷ refuse_if (not (word_at file 0 == magic)) fault.Magic
+    ∷ refuse_if (not (long_at file 0 == magic)) fault.Magic
     ∷ refuse_if (not (slice_index file 4 == class_32)) fault.Class
     ∷ refuse_if (not (slice_index file 5 == low_byte_first)) fault.Order
-    ∷ refuse_if (not (slice_index file 6 == current_version) || not (word_at file 20 == current_version)) fault.Version
+    ∷ refuse_if (not (slice_index file 6 == current_version) || not (long_at file 20 == current_version)) fault.Version
     ∷ refuse_if (not (half_at file 18 == msp430)) (fault.Machine (half_at file 18))
     ∷ refuse_if (not (half_at file 16 == relocatable)) (fault.Kind (half_at file 16))
     ∷ [])

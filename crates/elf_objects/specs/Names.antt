@@ -24,12 +24,12 @@ name_span file strings offset =
     record { start = strings.offset + offset; end = strings.offset + unwrap_or (name_end file strings offset) offset }
 
 -- where the sections' names are
-abbrev pub section_names : List ℕ → Header
-section_names file = header_of file (name_table file)
+abbrev pub names_header : List ℕ → Header
+names_header file = header_of file (name_table file)
 
 -- at an index: the name does not start or does not end in the table
 unfoldable pub name_fault : List ℕ → ℕ → Option ElfFault
-name_fault file i = refuse_if (is_none (name_end file (section_names file) (header_of file i).name)) (fault.Name i)
+name_fault file i = refuse_if (is_none (name_end file (names_header file) (header_of file i).name)) (fault.Name i)
 
 unfoldable pub name_faults : List ℕ → Option ElfFault
 name_faults file = first_below (name_fault file) (section_count file)
@@ -37,7 +37,7 @@ name_faults file = first_below (name_fault file) (section_count file)
 -- what is given of a section
 unfoldable pub section_of : List ℕ → ℕ → SectionHead
 section_of file i = let h = header_of file i in record {
-  name = name_span file (section_names file) h.name;
+  name = name_span file (names_header file) h.name;
   kind = h.kind;
   flags = h.flags;
   size = h.size;

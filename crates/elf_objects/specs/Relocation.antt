@@ -5,7 +5,7 @@ use Rattle.elf_objects.specs.declared.fault.ElfFault.{ElfFault}
 use Rattle.elf_objects.specs.declared.fault.ElfFault.TheVariants as fault
 use Rattle.elf_objects.specs.declared.section.Header.{Header}
 use Rattle.elf_objects.specs.declared.object.Relocation.{Relocation}
-use Rattle.elf_objects.specs.Bytes.{word_at}
+use Rattle.elf_objects.specs.Bytes.{long_at}
 use Rattle.elf_objects.specs.Numbers.{relocation_size}
 use Rattle.elf_objects.specs.Passes.{refuse_if, first_below, each_below, all_below}
 use Rattle.elf_objects.specs.Header.{section_count}
@@ -18,10 +18,10 @@ relocation_of file index table entry = let at = table.offset + relocation_size *
   table = index;
   entry = entry;
   target = table.info;
-  offset = word_at file at;
-  symbol = word_at file (at + 4) / 256;
-  kind = word_at file (at + 4) % 256;
-  addend = cast_signed w32 (word_at file (at + 8));
+  offset = long_at file at;
+  symbol = long_at file (at + 4) / 256;
+  kind = long_at file (at + 4) % 256;
+  addend = cast_signed w32 (long_at file (at + 8));
 }
 
 -- at one entry: with so many symbols in all

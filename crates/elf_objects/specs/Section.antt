@@ -7,7 +7,7 @@ use Rattle.elf_objects.specs.declared.fault.ElfFault.{ElfFault}
 use Rattle.elf_objects.specs.declared.fault.ElfFault.TheVariants as fault
 use Rattle.elf_objects.specs.declared.section.Header.{Header}
 use Rattle.elf_objects.specs.declared.object.Span.{Span}
-use Rattle.elf_objects.specs.Bytes.{word_at}
+use Rattle.elf_objects.specs.Bytes.{long_at}
 use Rattle.elf_objects.specs.Numbers.{section_header_size, null, symtab, strtab, rela, nobits, rel, alloc_flag, compressed_flag, has_flag, symbol_size, relocation_size}
 use Rattle.elf_objects.specs.Passes.{refuse_if, or_else, first_below}
 use Rattle.elf_objects.specs.Header.{table_offset, section_count, name_table}
@@ -15,15 +15,15 @@ use Rattle.elf_objects.specs.Header.{table_offset, section_count, name_table}
 -- the header of this index, the fields that are looked at
 unfoldable pub header_of : List ℕ → ℕ → Header
 header_of file index = let at = table_offset file + section_header_size * index in record {
-  name = word_at file at;
-  kind = word_at file (at + 4);
-  flags = word_at file (at + 8);
-  offset = word_at file (at + 16);
-  size = word_at file (at + 20);
-  link = word_at file (at + 24);
-  info = word_at file (at + 28);
-  align = word_at file (at + 32);
-  entry_size = word_at file (at + 36);
+  name = long_at file at;
+  kind = long_at file (at + 4);
+  flags = long_at file (at + 8);
+  offset = long_at file (at + 16);
+  size = long_at file (at + 20);
+  link = long_at file (at + 24);
+  info = long_at file (at + 28);
+  align = long_at file (at + 32);
+  entry_size = long_at file (at + 36);
 }
 
 -- NULL and NOBITS have no bytes in the file

@@ -10,7 +10,7 @@ use Rattle.elf_objects.specs.declared.object.Binding.{Binding}
 use Rattle.elf_objects.specs.declared.object.Binding.TheVariants as binding
 use Rattle.elf_objects.specs.declared.object.Home.{Home}
 use Rattle.elf_objects.specs.declared.object.Home.TheVariants as home
-use Rattle.elf_objects.specs.Bytes.{half_at, word_at}
+use Rattle.elf_objects.specs.Bytes.{half_at, long_at}
 use Rattle.elf_objects.specs.Numbers.{undefined_index, absolute_index, common_index, symbol_size, local_binding, weak_binding}
 use Rattle.elf_objects.specs.Passes.{refuse_if, first_below, each_below}
 use Rattle.elf_objects.specs.Header.{section_count}
@@ -18,11 +18,11 @@ use Rattle.elf_objects.specs.Section.{header_of, symbol_table, is_alignment}
 use Rattle.elf_objects.specs.Names.{name_end, name_span}
 
 -- the entry of this index of a symbol table
-unfoldable pub entry_of : List ℕ → Header → ℕ → Entry
-entry_of file table index = let at = table.offset + symbol_size * index in record {
-  name = word_at file at;
-  value = word_at file (at + 4);
-  size = word_at file (at + 8);
+unfoldable pub table_entry : List ℕ → Header → ℕ → Entry
+table_entry file table index = let at = table.offset + symbol_size * index in record {
+  name = long_at file at;
+  value = long_at file (at + 4);
+  size = long_at file (at + 8);
   binding = slice_index file (at + 12) / 16;
   section = half_at file (at + 14);
 }
@@ -49,7 +49,7 @@ is_bad_symbol file table e =
 -- at an index, from 1 on
 unfoldable pub symbol_fault : List ℕ → Header → ℕ → Option ElfFault
 symbol_fault file table zero = None
-symbol_fault file table (suc k) = refuse_if (is_bad_symbol file table (entry_of file table (suc k))) (fault.Symbol (suc k))
+symbol_fault file table (suc k) = refuse_if (is_bad_symbol file table (table_entry file table (suc k))) (fault.Symbol (suc k))
 
 abbrev pub binding_of : ℕ → Binding
 binding_of zero = binding.Local
@@ -62,7 +62,7 @@ home_of n = if n == undefined_index then home.Undefined else if n == absolute_in
 -- symbol 0 is given as nothing, whatever its bytes are
 unfoldable pub symbol_of : List ℕ → Header → ℕ → Symbol
 symbol_of file table zero = record { name = record { start = 0; end = 0 }; value = 0; size = 0; binding = binding.Local; home = home.Undefined }
-symbol_of file table (suc k) = let e = entry_of file table (suc k) in record {
+symbol_of file table (suc k) = let e = table_entry file table (suc k) in record {
   name = name_span file (strings_of file table) e.name;
   value = e.value;
   size = e.size;

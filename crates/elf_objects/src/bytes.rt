@@ -1,7 +1,7 @@
 //! Little-endian numbers of a file. A number that does not lie wholly in the file reads as 0.
 
 ghost use Rattle.std.specs.Prelude.{◌≡◌, ◌<◌, ◌^◌, slice_index};
-ghost use Rattle.elf_objects.specs.Bytes.{half_at, word_at};
+ghost use Rattle.elf_objects.specs.Bytes.{half_at, long_at};
 
 use byteorder::{ByteOrder, LittleEndian};
 
@@ -22,10 +22,10 @@ pub fn half_at(file: &[u8], at: usize) -> u16
     LittleEndian::read_u16(&file[at..])
 }
 
-#[tactic(auto, unfolding(crate::specs::Bytes::word_at))]
-pub fn word_at(file: &[u8], at: usize) -> u32
+#[tactic(auto, unfolding(crate::specs::Bytes::long_at))]
+pub fn long_at(file: &[u8], at: usize) -> u32
     requires { at < 2 ^ 40 }
-    ensures { result ≡ word_at file.now at }
+    ensures { result ≡ long_at file.now at }
 {
     if file.len() < at + 4 {
         return 0;

@@ -4,7 +4,7 @@ ghost use Rattle.std.specs.Prelude.{◌≡◌, length, ◌<◌, ◌^◌};
 ghost use Rattle.elf_objects.specs.Passes.{FaultIs};
 ghost use Rattle.elf_objects.specs.Header.{header_fault, table_fault, table_offset, section_count, name_table};
 
-use crate::bytes::{byte_at, half_at, word_at};
+use crate::bytes::{byte_at, half_at, long_at};
 use crate::fault::ElfFault;
 
 /// `7f 45 4c 46`, read as a number.
@@ -22,7 +22,7 @@ const SECTION_HEADER_SIZE: u16 = 40;
 pub fn table_offset(file: &[u8]) -> u32
     ensures { result ≡ table_offset file.now }
 {
-    word_at(file, 32)
+    long_at(file, 32)
 }
 
 pub fn section_count(file: &[u8]) -> u16
@@ -47,7 +47,7 @@ pub fn check_header(file: &[u8]) -> Result<(), ElfFault>
             at: file.len() as u64,
         });
     }
-    if word_at(file, 0) != MAGIC {
+    if long_at(file, 0) != MAGIC {
         return Err(ElfFault::Magic);
     }
     if byte_at(file, 4) != 1 {
@@ -56,7 +56,7 @@ pub fn check_header(file: &[u8]) -> Result<(), ElfFault>
     if byte_at(file, 5) != 1 {
         return Err(ElfFault::Order);
     }
-    if byte_at(file, 6) != 1 || word_at(file, 20) != 1 {
+    if byte_at(file, 6) != 1 || long_at(file, 20) != 1 {
         return Err(ElfFault::Version);
     }
     let machine = half_at(file, 18);

@@ -5,7 +5,7 @@ ghost use Rattle.std.specs.List.Sorted.{IsNonDecreasing, IsPartitionPoint};
 ghost use Rattle.memchr.specs.Find.{is_byte, places};
 ghost use Rattle.elf_objects.specs.Passes.{IsFaultOf};
 ghost use Rattle.elf_objects.specs.internal.Names.{AreNameEnds, first_from};
-ghost use Rattle.elf_objects.specs.Names.{section_names, name_fault, name_faults, section_of, sections_of};
+ghost use Rattle.elf_objects.specs.Names.{names_header, name_fault, name_faults, section_of, sections_of};
 
 use crate::fault::ElfFault;
 use crate::header::{name_table, section_count};
@@ -83,15 +83,15 @@ impl Names {
     }
 }
 
-fn section_names(file: &[u8]) -> Header
-    ensures { result ≡ section_names file.now }
+fn names_header(file: &[u8]) -> Header
+    ensures { result ≡ names_header file.now }
 {
     header_of(file, u32::from(name_table(file)))
 }
 
 #[tactic(auto, unfolding(crate::specs::Names::name_fault))]
 fn name_fault(file: &[u8], names: &Names, i: u32) -> Option<ElfFault>
-    requires { AreNameEnds file.now (section_names file.now) names.now }
+    requires { AreNameEnds file.now (names_header file.now) names.now }
     ensures { result ≡ name_fault file.now i }
 {
     let refused = names.end(header_of(file, i).name).is_none();
@@ -105,7 +105,7 @@ fn name_fault(file: &[u8], names: &Names, i: u32) -> Option<ElfFault>
 
 #[tactic(auto, unfolding(crate::specs::Names::section_of))]
 fn section_of(file: &[u8], names: &Names, i: u32) -> SectionHead
-    requires { AreNameEnds file.now (section_names file.now) names.now }
+    requires { AreNameEnds file.now (names_header file.now) names.now }
     ensures { result ≡ section_of file.now i }
 {
     let h = header_of(file, i);
@@ -121,7 +121,7 @@ fn section_of(file: &[u8], names: &Names, i: u32) -> SectionHead
 
 #[tactic(auto, unfolding(crate::specs::Names::name_faults))]
 fn name_faults(file: &[u8], names: &Names) -> Option<ElfFault>
-    requires { AreNameEnds file.now (section_names file.now) names.now }
+    requires { AreNameEnds file.now (names_header file.now) names.now }
     ensures { result ≡ name_faults file.now }
 {
     first_below(
@@ -132,7 +132,7 @@ fn name_faults(file: &[u8], names: &Names) -> Option<ElfFault>
 
 #[tactic(auto, using(crate::proofs::PassLemmas::each_below_more, crate::proofs::PassLemmas::each_below_zero), unfolding(crate::specs::Names::sections_of))]
 fn sections_of(alloc: Global, file: &[u8], names: &Names) -> Result<Vec<SectionHead>, AllocError>
-    requires { AreNameEnds file.now (section_names file.now) names.now }
+    requires { AreNameEnds file.now (names_header file.now) names.now }
     ensures { IfOk result (λ v. v.items ≡ sections_of file.now) }
 {
     let mut sections = Vec::new(alloc);
@@ -148,7 +148,7 @@ pub fn read_sections(alloc: Global, file: &[u8]) -> Result<Vec<SectionHead>, Elf
     ensures list { IfOk result (λ v. v.items ≡ sections_of file.now) }
     ensures refusal { IfErr result (IsFaultOf (name_faults file.now)) }
 {
-    let names = Names::of(alloc, file, &section_names(file))?;
+    let names = Names::of(alloc, file, &names_header(file))?;
     refuse(name_faults(file, &names))?;
     Ok(sections_of(alloc, file, &names)?)
 }

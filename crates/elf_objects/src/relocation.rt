@@ -7,7 +7,7 @@ ghost use Rattle.elf_objects.specs.Relocation.{relocation_of, entry_fault, reloc
 ghost use Rattle.elf_objects.specs.internal.Relocation.{count_below, ends_of, IsIn};
 ghost use Rattle.elf_objects.specs.Header.{section_count};
 
-use crate::bytes::word_at;
+use crate::bytes::long_at;
 use crate::fault::ElfFault;
 use crate::header::section_count;
 use crate::object::Relocation;
@@ -21,15 +21,15 @@ fn relocation_of(file: &[u8], index: u32, table: &Header, entry: u32) -> Relocat
     ensures { result ≡ relocation_of file.now index table.now entry }
 {
     let at = table.offset as usize + 12 * entry as usize;
-    let info = word_at(file, at + 4);
+    let info = long_at(file, at + 4);
     Relocation {
         table: index,
         entry,
         target: table.info,
-        offset: word_at(file, at),
+        offset: long_at(file, at),
         symbol: info / 256,
         kind: (info % 256) as u8,
-        addend: word_at(file, at + 8).cast_signed(),
+        addend: long_at(file, at + 8).cast_signed(),
     }
 }
 

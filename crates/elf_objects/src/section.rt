@@ -5,7 +5,7 @@ ghost use Rattle.elf_objects.specs.Passes.{FaultIs};
 ghost use Rattle.elf_objects.specs.Header.{section_count, name_table};
 ghost use Rattle.elf_objects.specs.Section.{header_of, is_absent, is_loaded, is_loaded_header, is_alignment, content, ends_past, section_fault, is_kind, index_if, symbol_table, is_this, is_bad_symbol_table, is_kept_table, is_bad_kept_table, is_bad_link, link_fault, name_table_fault, compressed_fault, rel_fault, content_span, section_faults, link_faults, compressed_faults, rel_faults};
 
-use crate::bytes::word_at;
+use crate::bytes::long_at;
 use crate::fault::ElfFault;
 use crate::header::{name_table, section_count, table_offset};
 use crate::object::Span;
@@ -43,15 +43,15 @@ pub fn header_of(file: &[u8], index: u32) -> Header
 {
     let at = table_offset(file) as usize + 40 * index as usize;
     Header {
-        name: word_at(file, at),
-        kind: word_at(file, at + 4),
-        flags: word_at(file, at + 8),
-        offset: word_at(file, at + 16),
-        size: word_at(file, at + 20),
-        link: word_at(file, at + 24),
-        info: word_at(file, at + 28),
-        align: word_at(file, at + 32),
-        entry_size: word_at(file, at + 36),
+        name: long_at(file, at),
+        kind: long_at(file, at + 4),
+        flags: long_at(file, at + 8),
+        offset: long_at(file, at + 16),
+        size: long_at(file, at + 20),
+        link: long_at(file, at + 24),
+        info: long_at(file, at + 28),
+        align: long_at(file, at + 32),
+        entry_size: long_at(file, at + 36),
     }
 }
 

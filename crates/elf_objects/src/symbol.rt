@@ -3,9 +3,9 @@
 ghost use Rattle.std.specs.Prelude.{◌≡◌, ◌<◌, ◌^◌, IfOk, IfErr, OnOk, Some, None};
 ghost use Rattle.elf_objects.specs.Passes.{IsFaultOf};
 ghost use Rattle.elf_objects.specs.internal.Names.{AreNameEnds};
-ghost use Rattle.elf_objects.specs.Symbol.{entry_of, count_in, strings_of, is_bad_common, is_bad_home, is_bad_symbol, symbol_fault, binding_of, home_of, symbol_of, symbols_header, count_of, faults_in, symbol_faults, symbols_in, symbols_of};
+ghost use Rattle.elf_objects.specs.Symbol.{table_entry, count_in, strings_of, is_bad_common, is_bad_home, is_bad_symbol, symbol_fault, binding_of, home_of, symbol_of, symbols_header, count_of, faults_in, symbol_faults, symbols_in, symbols_of};
 
-use crate::bytes::{byte_at, half_at, word_at};
+use crate::bytes::{byte_at, half_at, long_at};
 use crate::fault::ElfFault;
 use crate::header::section_count;
 use crate::names::Names;
@@ -31,15 +31,15 @@ pub struct Entry {
     pub section: u16,
 }
 
-#[tactic(auto, unfolding(crate::specs::Symbol::entry_of))]
-fn entry_of(file: &[u8], table: &Header, index: u32) -> Entry
-    ensures { result ≡ entry_of file.now table.now index }
+#[tactic(auto, unfolding(crate::specs::Symbol::table_entry))]
+fn table_entry(file: &[u8], table: &Header, index: u32) -> Entry
+    ensures { result ≡ table_entry file.now table.now index }
 {
     let at = table.offset as usize + 16 * index as usize;
     Entry {
-        name: word_at(file, at),
-        value: word_at(file, at + 4),
-        size: word_at(file, at + 8),
+        name: long_at(file, at),
+        value: long_at(file, at + 4),
+        size: long_at(file, at + 8),
         binding: byte_at(file, at + 12) / 16,
         section: half_at(file, at + 14),
     }
@@ -84,7 +84,7 @@ fn symbol_fault(file: &[u8], table: &Header, names: &Names, index: u32) -> Optio
     if index == 0 {
         return None;
     }
-    let refused = is_bad_symbol(file, table, names, &entry_of(file, table, index));
+    let refused = is_bad_symbol(file, table, names, &table_entry(file, table, index));
     refuse_if(
         refused,
         ElfFault::Symbol {
@@ -128,7 +128,7 @@ fn symbol_of(file: &[u8], table: &Header, names: &Names, index: u32) -> Symbol
             home: Home::Undefined,
         };
     }
-    let e = entry_of(file, table, index);
+    let e = table_entry(file, table, index);
     Symbol {
         name: names.span(e.name),
         value: e.value,

@@ -7,14 +7,14 @@ use Rattle.std.proofs.lemmas.List.Concat.{flat_map-append}
 use Rattle.std.proofs.lemmas.List.Elements.{All-get_or, All-filter}
 use Rattle.std.proofs.lemmas.Bool.{and_left, lt-ltb}
 use Rattle.elf_objects.specs.declared.fault.ElfFault.TheVariants as fault
-use Rattle.elf_objects.specs.Bytes.{word_at}
+use Rattle.elf_objects.specs.Bytes.{long_at}
 use Rattle.elf_objects.specs.Passes.{all_below, refuse_if, first_below, or_else}
 use Rattle.elf_objects.specs.declared.section.Header.{Header}
 use Rattle.elf_objects.specs.declared.symbol.Entry.{Entry}
 use Rattle.elf_objects.specs.Header.{section_count, header_fault, table_fault}
 use Rattle.elf_objects.specs.Section.{header_of, content, is_alignment, is_loaded_header, is_kept_table}
 use Rattle.elf_objects.specs.Names.{end_in, name_end}
-use Rattle.elf_objects.specs.Symbol.{entry_of, count_in, strings_of, is_bad_common, is_bad_home, symbol_fault, symbols_header, count_of, faults_in, symbol_faults}
+use Rattle.elf_objects.specs.Symbol.{table_entry, count_in, strings_of, is_bad_common, is_bad_home, symbol_fault, symbols_header, count_of, faults_in, symbol_faults}
 use Rattle.elf_objects.specs.Relocation.{relocation_of, entry_fault, relocation_fault, relocation_faults}
 use Rattle.elf_objects.specs.Object.{contents_fault, elf_fault_of}
 use Rattle.asm_text.specs.declared.unit.SectionKind.{SectionKind}
@@ -101,8 +101,8 @@ pub record IsEntry (name : ℕ) (s : SymbolValue) (e : Entry) : Type 0 where
   pub binding : e.binding ≡ info_of s.global / 16
   pub section : e.section ≡ home_index s.home
 
-pub entry_read : (file : List ℕ) (table : Header) (index name : ℕ) (s : SymbolValue) → name < 2 ^ 32 → home_index s.home < 2 ^ 16 → Stands file (table.offset + 16 * index) (symbol_entry name s) → IsEntry name s (entry_of file table index)
-unfolding entry_of symbol_entry
+pub entry_read : (file : List ℕ) (table : Header) (index name : ℕ) (s : SymbolValue) → name < 2 ^ 32 → home_index s.home < 2 ^ 16 → Stands file (table.offset + 16 * index) (symbol_entry name s) → IsEntry name s (table_entry file table index)
+unfolding table_entry symbol_entry
 entry_read file table index name s small home stands =
     let at : ℕ = table.offset + 16 * index in
     let t₃ : List ℕ = info_of s.global ∷ (0 ∷ half_bytes (home_index s.home)) in
@@ -142,7 +142,7 @@ symbol_name_few unit k =
 
 -- the entry of a symbol of the unit
 pub entry_given : (unit : UnitValue) → IsUnit unit → (k : ℕ) → k < length unit.symbols
-    → IsEntry (name_at (symbol_names unit.symbols) k) (get_or unit.symbols k no_symbol) (entry_of (object_of unit) (symbols_read unit) (suc k))
+    → IsEntry (name_at (symbol_names unit.symbols) k) (get_or unit.symbols k no_symbol) (table_entry (object_of unit) (symbols_read unit) (suc k))
 unfolding symbol_entry_at
 entry_given unit is k lt =
     let s : SymbolValue = get_or unit.symbols k no_symbol in
@@ -165,7 +165,7 @@ symbol_by unit is k lt =
     let few = is.few_sections in
     let e = entry_given unit is k lt in
     let counted : length names ≡ length unit.symbols = length-map unit.symbols (λ (t : SymbolValue). t.name) in
-    let entry : Entry = entry_of file table (suc k) in
+    let entry : Entry = table_entry file table (suc k) in
     let ends : is_none (end_in (content file (strings_of file table)) entry.name) ≡ false
     = ap (λ l. is_none (end_in l entry.name)) (strings_content unit is) ∙ (ap (λ n. is_none (end_in (string_table names) n)) e.name_is
     ∙ ap (λ (o : Option ℕ). is_none o) (name_ends names 64 k (omega (arith, counted)) (symbol_strings unit is))) in
@@ -212,7 +212,7 @@ relocation_stands file at rs section e lt s =
     let at_entry : at + length (flat_map relocation_entry (take e list)) ≡ at + 12 * e = omega (arith, n, m) in
     subst (λ (k : ℕ). Stands file k (relocation_entry (get_or list e no_relocation))) at_entry (stands_each file at relocation_entry list e no_relocation lt s)
 
-pub info_read : (file : List ℕ) (at : ℕ) (r : AsmRelocation) → r.symbol < 1048576 → Stands file at (relocation_entry r) → word_at file (at + 4) ≡ (r.symbol + 1) * 256 + 5
+pub info_read : (file : List ℕ) (at : ℕ) (r : AsmRelocation) → r.symbol < 1048576 → Stands file at (relocation_entry r) → long_at file (at + 4) ≡ (r.symbol + 1) * 256 + 5
 unfolding relocation_entry
 info_read file at r few s =
     let info : ℕ = (r.symbol + 1) * 256 + 5 in
@@ -236,8 +236,8 @@ relocation_entry_by unit is j i symbols lt count e within =
     let symbol = kept.symbol in
     let few = is.few_symbols in
     let info = info_read file at r (omega (arith, symbol, few)) (relocation_stands file (relocations_head_read unit j).offset unit.relocations target e inside (relocations_stand unit is j lt)) in
-    let there : word_at file (at + 4) / 256 < symbols = omega (arith, info, symbol, count) in
-    ap (λ b. refuse_if (not b) (fault.Relocation i e)) (lt-ltb (word_at file (at + 4) / 256) symbols there)
+    let there : long_at file (at + 4) / 256 < symbols = omega (arith, info, symbol, count) in
+    ap (λ b. refuse_if (not b) (fault.Relocation i e)) (lt-ltb (long_at file (at + 4) / 256) symbols there)
 
 not_kept_by : (file : List ℕ) (symbols i : ℕ) (h : Header) → header_of file i ≡ h → eqb h.kind 4 ≡ false → relocation_fault file symbols i ≡ None
 unfolding relocation_fault

@@ -2,7 +2,7 @@
 use Rattle.std.proofs.Common.{◌≡◌, ℕ, zero, suc, ◌+◌, ◌*◌, ◌<◌, ◌≤◌, ◌^◌, List, [], ◌∷◌, ◌++◌, refl, ap, sym, subst, ◌∙◌, arith, length, length-append, false, ltb, slice_index, Option, None}
 use Rattle.std.proofs.lemmas.Bool.Decides.{nat_tests}
 use Rattle.std.proofs.lemmas.List.{append-nil}
-use Rattle.elf_objects.specs.Bytes.{half_at, word_at}
+use Rattle.elf_objects.specs.Bytes.{half_at, long_at}
 use Rattle.elf_objects.specs.Passes.{all_below, first_below}
 use Rattle.elf_objects.specs.Header.{table_offset, section_count, name_table, header_fault, table_fault}
 use Rattle.elf_objects.specs.Section.{header_of}
@@ -21,8 +21,8 @@ unfolding first_below
 nothing_below f zero each = refl
 nothing_below f (suc n) each = rw (nothing_below f n (λ k lt. each k (omega arith))) (each n (omega arith))
 
-header_fault_none : (file : List ℕ) → ltb (length file) 52 ≡ false → word_at file 0 ≡ 0x464c457f → slice_index file 4 ≡ 1 → slice_index file 5 ≡ 1 → slice_index file 6 ≡ 1
-    → word_at file 20 ≡ 1 → half_at file 18 ≡ 105 → half_at file 16 ≡ 1 → header_fault file ≡ None
+header_fault_none : (file : List ℕ) → ltb (length file) 52 ≡ false → long_at file 0 ≡ 0x464c457f → slice_index file 4 ≡ 1 → slice_index file 5 ≡ 1 → slice_index file 6 ≡ 1
+    → long_at file 20 ≡ 1 → half_at file 18 ≡ 105 → half_at file 16 ≡ 1 → header_fault file ≡ None
 unfolding header_fault
 header_fault_none file short magic class order version version_too machine kind = rw (short, magic, class, order, version, version_too, machine, kind) refl
 
@@ -63,14 +63,14 @@ length_headers sections =
 
 -- the fields of the header that are read
 record IsHeaded (file : List ℕ) (table count names : ℕ) : Type 0 where
-  magic : word_at file 0 ≡ 0x464c457f
+  magic : long_at file 0 ≡ 0x464c457f
   class : slice_index file 4 ≡ 1
   order : slice_index file 5 ≡ 1
   version : slice_index file 6 ≡ 1
   kind : half_at file 16 ≡ 1
   machine : half_at file 18 ≡ 105
-  version_too : word_at file 20 ≡ 1
-  table_at : word_at file 32 ≡ table
+  version_too : long_at file 20 ≡ 1
+  table_at : long_at file 32 ≡ table
   entry : half_at file 46 ≡ 40
   counted : half_at file 48 ≡ count
   strings_at : half_at file 50 ≡ names

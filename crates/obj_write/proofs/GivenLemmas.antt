@@ -6,7 +6,7 @@ use Rattle.std.proofs.lemmas.Bool.Decides.{nat_tests}
 use Rattle.std.proofs.lemmas.List.{length-map, get_or-map}
 use Rattle.std.proofs.lemmas.List.Elements.{All-get_or, All-filter}
 use Rattle.std.proofs.lemmas.Option.{slice_get_within, get_or_from_slice_get}
-use Rattle.elf_objects.specs.Bytes.{word_at}
+use Rattle.elf_objects.specs.Bytes.{long_at}
 use Rattle.elf_objects.specs.Passes.{each_below, all_below}
 use Rattle.elf_objects.proofs.PassLemmas.{length_each_below, at_each}
 use Rattle.elf_objects.specs.declared.section.Header.{Header}
@@ -15,7 +15,7 @@ use Rattle.elf_objects.specs.declared.object.Relocation.{Relocation}
 use Rattle.elf_objects.specs.Header.{section_count}
 use Rattle.elf_objects.specs.Section.{header_of, is_loaded, is_loaded_header, is_kept_table}
 use Rattle.elf_objects.specs.Names.{section_of, sections_of}
-use Rattle.elf_objects.specs.Symbol.{entry_of, strings_of, binding_of, home_of, symbol_of, symbols_in, symbols_of}
+use Rattle.elf_objects.specs.Symbol.{table_entry, strings_of, binding_of, home_of, symbol_of, symbols_in, symbols_of}
 use Rattle.elf_objects.specs.Relocation.{relocation_of, relocations_at, relocations_of}
 use Rattle.elf_objects.specs.Object.{ObjectValue, IsObject}
 use Rattle.asm_text.specs.declared.unit.SectionKind.{SectionKind}
@@ -69,7 +69,7 @@ symbol_given unit is k lt =
     let stands : Stands file ((strings_of file table).offset) (string_table (symbol_names unit.symbols))
     = subst (λ (x : Header). Stands file x.offset (string_table (symbol_names unit.symbols))) (sym (strings_header unit is)) (strings_stand unit is) in
     record {
-      name = name_range file (strings_of file table) (symbol_names unit.symbols) 64 k ((entry_of file table (suc k)).name) (strings_content unit is) stands e.name_is (omega (arith, counted)) (symbol_strings unit is) ∙ symbol_name unit k lt;
+      name = name_range file (strings_of file table) (symbol_names unit.symbols) 64 k ((table_entry file table (suc k)).name) (strings_content unit is) stands e.name_is (omega (arith, counted)) (symbol_strings unit is) ∙ symbol_name unit k lt;
       value = e.value;
       size = e.size;
       binding = ap binding_of e.binding ∙ bindings s.global;
@@ -89,11 +89,11 @@ relocation_same : (a b c d e f a' b' c' d' e' f' : ℕ) (g g' : ℤ) → a ≡ a
     let y : Relocation = record { table = a'; entry = b'; target = c'; offset = d'; symbol = e'; kind = f'; addend = g' } in x ≡ y
 relocation_same a b c d e f a' b' c' d' e' f' g g' p₁ p₂ p₃ p₄ p₅ p₆ p₇ = rw (p₁, p₂, p₃, p₄, p₅, p₆, p₇) refl
 
-offset_read : (file : List ℕ) (at : ℕ) (r : AsmRelocation) → Stands file at (relocation_entry r) → word_at file at ≡ r.offset % 2 ^ 32
+offset_read : (file : List ℕ) (at : ℕ) (r : AsmRelocation) → Stands file at (relocation_entry r) → long_at file at ≡ r.offset % 2 ^ 32
 unfolding relocation_entry
 offset_read file at r s = word_low file at r.offset (stands_left file at (word_bytes r.offset) (word_bytes ((r.symbol + 1) * 256 + 5) ++ (word_bytes 0 ++ [])) s)
 
-addend_read : (file : List ℕ) (at : ℕ) (r : AsmRelocation) → Stands file at (relocation_entry r) → word_at file (at + 8) ≡ 0
+addend_read : (file : List ℕ) (at : ℕ) (r : AsmRelocation) → Stands file at (relocation_entry r) → long_at file (at + 8) ≡ 0
 unfolding relocation_entry
 addend_read file at r s =
     let info : List ℕ = word_bytes ((r.symbol + 1) * 256 + 5) in

@@ -6,7 +6,7 @@ use Rattle.std.proofs.lemmas.Bool.Decides.{nat_tests}
 use Rattle.std.proofs.lemmas.List.{drop_at, get_or_at}
 use Rattle.byteorder.specs.Endian.{little_number}
 use Rattle.byteorder.specs.Numbers.{little_number-reads_back}
-use Rattle.elf_objects.specs.Bytes.{half_at, word_at}
+use Rattle.elf_objects.specs.Bytes.{half_at, long_at}
 use Rattle.elf_objects.specs.Passes.{all_below}
 use Rattle.elf_objects.specs.declared.section.Header.{Header}
 use Rattle.elf_objects.specs.Header.{table_offset}
@@ -48,8 +48,8 @@ unless : (b : Bool) (n : ℕ) → b ≡ false → cond b 0 n ≡ n
 unless false n e = refl
 unless true n e = cc
 
-pub word_read : (file : List ℕ) (at n : ℕ) → n < 2 ^ 32 → Stands file at (word_bytes n) → word_at file at ≡ n
-unfolding word_at
+pub word_read : (file : List ℕ) (at n : ℕ) → n < 2 ^ 32 → Stands file at (word_bytes n) → long_at file at ≡ n
+unfolding long_at
 word_read file at n small s =
     let w : at + 4 ≤ length file = stands_within file at (word_bytes n) s in
     unless (ltb (length file) (at + 4)) (little_number 4 (drop at file)) (grind (arith, nat_tests))
@@ -65,7 +65,7 @@ word_bytes_low n =
     four_bytes (n % 256) (n / 256 % 256) (n / 65536 % 256) (n / 16777216 % 256) (m % 256) (m / 256 % 256) (m / 65536 % 256) (m / 16777216 % 256)
     (omega arith) (omega arith) (omega arith) (omega arith)
 
-pub word_low : (file : List ℕ) (at n : ℕ) → Stands file at (word_bytes n) → word_at file at ≡ n % 2 ^ 32
+pub word_low : (file : List ℕ) (at n : ℕ) → Stands file at (word_bytes n) → long_at file at ≡ n % 2 ^ 32
 word_low file at n s = word_read file at (n % 4294967296) (omega arith) (subst (Stands file at) (word_bytes_low n) s)
 
 pub half_read : (file : List ℕ) (at n : ℕ) → n < 2 ^ 16 → Stands file at (half_bytes n) → half_at file at ≡ n
