@@ -6,12 +6,12 @@ use Rattle.std.proofs.lemmas.Bool.Decides.{nat_tests}
 use Rattle.reloc_apply.specs.declared.RelocFault.{RelocFault}
 use Rattle.reloc_apply.specs.declared.RelocFault.TheVariants as fault
 use Rattle.reloc_apply.specs.declared.Row.{Row}
-use Rattle.reloc_apply.specs.Fields.{relocated, relocated_by, relocated_at, written, row_of, field_size, limit_of, is_in_bounds, is_odd_integer, is_jump, difference_of, field_value, kept_of, modulo, with_number}
-use Rattle.reloc_apply.specs.Applies.{Takes, Applies, no_field, a_field}
+use Rattle.reloc_apply.specs.Fields.{relocated, relocated_by, relocated_at, field_written, row_of, field_size, limit_of, is_in_bounds, is_odd_integer, is_jump_field, difference_of, field_value, kept_of, modulo, with_number}
+use Rattle.reloc_apply.specs.Applies.{FieldTakes, Applies, no_field, a_field}
 
 -- the number that a field is given
 abbrev pub number_of : Row → ℤ → List ℕ → ℕ → ℕ
-number_of r d bytes offset = kept_of (is_jump r.field) bytes offset + modulo (field_value (is_jump r.field) d) (limit_of r.field)
+number_of r d bytes offset = kept_of (is_jump_field r.field) bytes offset + modulo (field_value (is_jump_field r.field) d) (limit_of r.field)
 
 holds : (b : Bool) → b ≡ true → T b
 holds true e = tt
@@ -36,33 +36,33 @@ none_odd true o h = h refl
 none_odd false o h = refl
 
 takes_by : (r : Row) (d : ℤ) (offset : ℕ) (bytes new : List ℕ) (a b c : Bool) →
-    nat_lt (length bytes) (offset + field_size r.field) ≡ a → (is_jump r.field && is_odd_integer d) ≡ b →
-    is_in_bounds r (field_value (is_jump r.field) d) ≡ c →
-    IsOk {T = List ℕ} {E = RelocFault} (if a then Err fault.Outside else if b then Err (fault.Odd d) else if not c then Err (fault.Range (field_value (is_jump r.field) d)) else Ok new) → Takes r d offset (length bytes)
+    nat_lt (length bytes) (offset + field_size r.field) ≡ a → (is_jump_field r.field && is_odd_integer d) ≡ b →
+    is_in_bounds r (field_value (is_jump_field r.field) d) ≡ c →
+    IsOk {T = List ℕ} {E = RelocFault} (if a then Err fault.Outside else if b then Err (fault.Odd d) else if not c then Err (fault.Range (field_value (is_jump_field r.field) d)) else Ok new) → FieldTakes r d offset (length bytes)
 takes_by r d offset bytes new true b c p q s ok = cc
 takes_by r d offset bytes new false true c p q s ok = cc
 takes_by r d offset bytes new false false false p q s ok = cc
 takes_by r d offset bytes new false false true p q s ok =
     let bounds = and_parts _ _ s in
-    record { within = grind (arith, nat_tests); even = odd_not (is_jump r.field) (is_odd_integer d) q; low = at_most r.low _ bounds.0; high = at_most _ r.high bounds.1 }
+    record { within = grind (arith, nat_tests); even = odd_not (is_jump_field r.field) (is_odd_integer d) q; low = at_most r.low _ bounds.0; high = at_most _ r.high bounds.1 }
 
 ok_takes : (r : Row) (d : ℤ) (offset : ℕ) (bytes : List ℕ) → IsOk (relocated_by r d offset bytes) →
-    Takes r d offset (length bytes)
-unfolding relocated_by written
+    FieldTakes r d offset (length bytes)
+unfolding relocated_by field_written
 ok_takes r d offset bytes ok = takes_by r d offset bytes (with_number bytes offset (field_size r.field) (number_of r d bytes offset)) _ _ _ refl refl refl ok
 
 both : (a b : Bool) → a ≡ true → b ≡ true → (a && b) ≡ true
 both a b p q = rw (p, q) refl
 
 -- what a field that is taken becomes
-pub takes_ok : (r : Row) (d : ℤ) (offset : ℕ) (bytes : List ℕ) → Takes r d offset (length bytes) →
+pub takes_ok : (r : Row) (d : ℤ) (offset : ℕ) (bytes : List ℕ) → FieldTakes r d offset (length bytes) →
     relocated_by r d offset bytes ≡ Ok (with_number bytes offset (field_size r.field) (number_of r d bytes offset))
-unfolding relocated_by written
+unfolding relocated_by field_written
 takes_ok r d offset bytes t =
     let within = t.within in
     let p : nat_lt (length bytes) (offset + field_size r.field) ≡ false = grind (arith, nat_tests) in
-    let q = none_odd (is_jump r.field) (is_odd_integer d) t.even in
-    let s : is_in_bounds r (field_value (is_jump r.field) d) ≡ true = both _ _ (tested r.low _ t.low) (tested _ r.high t.high) in
+    let q = none_odd (is_jump_field r.field) (is_odd_integer d) t.even in
+    let s : is_in_bounds r (field_value (is_jump_field r.field) d) ≡ true = both _ _ (tested r.low _ t.low) (tested _ r.high t.high) in
     rw (p, q, s) refl
 
 applies_at : (o : Option Row) (kind place : ℕ) (sum : ℤ) (offset : ℕ) (bytes : List ℕ) → row_of kind ≡ o →
@@ -95,7 +95,7 @@ not_0 kind r e = by (kind == 0) refl
 
 -- the bytes with a field that is taken
 pub relocated_is : (kind place : ℕ) (sum : ℤ) (offset : ℕ) (bytes : List ℕ) (r : Row) → row_of kind ≡ Some r →
-    Takes r (difference_of r.relative place sum) offset (length bytes) →
+    FieldTakes r (difference_of r.relative place sum) offset (length bytes) →
     relocated kind place sum offset bytes ≡ Ok (with_number bytes offset (field_size r.field) (number_of r (difference_of r.relative place sum) bytes offset))
 unfolding relocated
 relocated_is kind place sum offset bytes r e t = rw (not_0 kind r e, e) (takes_ok r (difference_of r.relative place sum) offset bytes t)

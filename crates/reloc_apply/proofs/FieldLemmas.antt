@@ -5,10 +5,10 @@ use Rattle.byteorder.specs.Endian.{little_bytes}
 use Rattle.byteorder.specs.Numbers.{length-bytes_low_first}
 use Rattle.reloc_apply.specs.declared.Field.{Field}
 use Rattle.reloc_apply.specs.declared.Field.TheVariants as field
-use Rattle.reloc_apply.specs.Fields.{field_size, limit_of, is_jump, kept_of, with_number, ChangesOnly}
+use Rattle.reloc_apply.specs.Fields.{field_size, limit_of, is_jump_field, kept_of, with_number, ChangesOnly}
 
 -- what a field keeps and takes is below 256 to the power of its size
-pub fits : (f : Field) (bytes : List ℕ) (offset number : ℕ) → kept_of (is_jump f) bytes offset ≤ 64512 → number < limit_of f → kept_of (is_jump f) bytes offset + number < 256 ^ field_size f
+pub fits : (f : Field) (bytes : List ℕ) (offset number : ℕ) → kept_of (is_jump_field f) bytes offset ≤ 64512 → number < limit_of f → kept_of (is_jump_field f) bytes offset + number < 256 ^ field_size f
 fits field.Byte bytes offset number kept below = omega arith
 fits _ bytes offset number kept below = omega arith
 

@@ -8,8 +8,8 @@ use Rattle.reloc_apply.specs.declared.RelocFault.{RelocFault}
 use Rattle.reloc_apply.specs.declared.Field.{Field}
 use Rattle.reloc_apply.specs.declared.Field.TheVariants as field
 use Rattle.reloc_apply.specs.declared.Row.{Row}
-use Rattle.reloc_apply.specs.Fields.{relocated, row_of, row_size, field_size, limit_of, is_jump, difference_of, field_value, modulo, kept_of, with_number}
-use Rattle.reloc_apply.specs.Applies.{Takes, Applies, no_field, a_field, Sets}
+use Rattle.reloc_apply.specs.Fields.{relocated, row_of, row_size, field_size, limit_of, is_jump_field, difference_of, field_value, modulo, kept_of, with_number}
+use Rattle.reloc_apply.specs.Applies.{FieldTakes, Applies, no_field, a_field, Sets}
 use Rattle.reloc_apply.proofs.AppliesLemmas.{number_of, ok_applies, relocated_is, relocated_0, none_at_0}
 use Rattle.reloc_apply.proofs.FieldLemmas.{changes_only}
 use Rattle.reloc_apply.proofs.FaultLemmas.{number_size}
@@ -65,7 +65,7 @@ below (ℤ.negsuc n) field.Half = omega arith
 below (ℤ.negsuc n) field.Word = omega arith
 below (ℤ.negsuc n) field.Jump = omega arith
 
-remains : (f : Field) (kept n : ℕ) → (kept ≡ 0) ⊎ ((is_jump f ≡ true) × ((q : ℕ) × (kept ≡ q * 1024))) →
+remains : (f : Field) (kept n : ℕ) → (kept ≡ 0) ⊎ ((is_jump_field f ≡ true) × ((q : ℕ) × (kept ≡ q * 1024))) →
     n < limit_of f → (kept + n) % limit_of f ≡ n
 remains field.Byte kept n (inl e) h = omega arith
 remains field.Half kept n (inl e) h = omega arith
@@ -80,7 +80,7 @@ sets_none : (place : ℕ) (sum : ℤ) (offset : ℕ) (bytes : List ℕ) → Sets
 sets_none place sum offset bytes = record { as_many = refl; elsewhere = record { before = λ k h. refl; after = λ k h. refl }; number = refl }
 
 sets_some : (r : Row) (place : ℕ) (sum : ℤ) (offset : ℕ) (bytes : List ℕ) →
-    Takes r (difference_of r.relative place sum) offset (length bytes) →
+    FieldTakes r (difference_of r.relative place sum) offset (length bytes) →
     Sets (Some r) place sum offset bytes (with_number bytes offset (field_size r.field) (number_of r (difference_of r.relative place sum) bytes offset))
 sets_some r place sum offset bytes t =
     let d = difference_of r.relative place sum in
@@ -90,7 +90,7 @@ sets_some r place sum offset bytes t =
       as_many = number_size bytes offset (field_size r.field) number w;
       elsewhere = changes_only bytes offset (field_size r.field) number w;
       number = value_by r.field (drop offset (with_number bytes offset (field_size r.field) number)) number (λ n h. number_in bytes offset (field_size r.field) number n (omega (arith, w)) h)
-          ∙ remains r.field (kept_of (is_jump r.field) bytes offset) (modulo (field_value (is_jump r.field) d) (limit_of r.field)) (kept_by (is_jump r.field) bytes offset) (below (field_value (is_jump r.field) d) r.field);
+          ∙ remains r.field (kept_of (is_jump_field r.field) bytes offset) (modulo (field_value (is_jump_field r.field) d) (limit_of r.field)) (kept_by (is_jump_field r.field) bytes offset) (below (field_value (is_jump_field r.field) d) r.field);
     }
 
 -- what a relocation that applies makes of the bytes

@@ -3,19 +3,19 @@ use Rattle.std.specs.Prelude.{◌≡◌, ◌≤◌, ◌≤ℤ◌, ◌↔◌, ℕ
 use Rattle.std.specs.Option.{option_map_or}
 use Rattle.byteorder.specs.Endian.{little_number}
 use Rattle.reloc_apply.specs.declared.Row.{Row}
-use Rattle.reloc_apply.specs.Fields.{row_of, field_size, limit_of, row_size, is_jump, is_odd_integer, difference_of, field_value, modulo, relocated, ChangesOnly}
+use Rattle.reloc_apply.specs.Fields.{row_of, field_size, limit_of, row_size, is_jump_field, is_odd_integer, difference_of, field_value, modulo, relocated, ChangesOnly}
 
 -- a field lies within so many bytes, and its number is in its bounds; a jump's difference is even
-pub record Takes (r : Row) (difference : ℤ) (offset size : ℕ) : Type 0 where
+pub record FieldTakes (r : Row) (difference : ℤ) (offset size : ℕ) : Type 0 where
   pub within : offset + field_size r.field ≤ size
-  pub even : is_jump r.field ≡ true → is_odd_integer difference ≡ false
-  pub low : r.low ≤ℤ field_value (is_jump r.field) difference
-  pub high : field_value (is_jump r.field) difference ≤ℤ r.high
+  pub even : is_jump_field r.field ≡ true → is_odd_integer difference ≡ false
+  pub low : r.low ≤ℤ field_value (is_jump_field r.field) difference
+  pub high : field_value (is_jump_field r.field) difference ≤ℤ r.high
 
 -- the kind is 0, which writes nothing, or has a field that takes the number
 pub data Applies (kind place : ℕ) (sum : ℤ) (offset size : ℕ) : Type 0 where
   no_field : kind ≡ 0 → Applies kind place sum offset size
-  a_field : (r : Row) → row_of kind ≡ Some r → Takes r (difference_of r.relative place sum) offset size →
+  a_field : (r : Row) → row_of kind ≡ Some r → FieldTakes r (difference_of r.relative place sum) offset size →
       Applies kind place sum offset size
 
 -- a relocation is taken exactly where it applies
@@ -30,7 +30,7 @@ limit_by row = option_map_or (λ r. limit_of r.field) row 1
 -- the number that a field is given
 abbrev pub row_number : Option Row → ℕ → ℤ → ℕ
 row_number row place sum =
-    option_map_or (λ r. modulo (field_value (is_jump r.field) (difference_of r.relative place sum)) (limit_of r.field)) row 0
+    option_map_or (λ r. modulo (field_value (is_jump_field r.field) (difference_of r.relative place sum)) (limit_of r.field)) row 0
 
 -- as many bytes, the same outside a field, which holds its number, a jump in its low ten bits
 pub record Sets (row : Option Row) (place : ℕ) (sum : ℤ) (offset : ℕ) (old new : List ℕ) : Type 0 where

@@ -41,11 +41,11 @@ limit_of field.Half = 65536
 limit_of field.Word = 4294967296
 limit_of field.Jump = 1024
 
-abbrev pub is_jump : Field → Bool
-is_jump field.Byte = false
-is_jump field.Half = false
-is_jump field.Word = false
-is_jump field.Jump = true
+abbrev pub is_jump_field : Field → Bool
+is_jump_field field.Byte = false
+is_jump_field field.Half = false
+is_jump_field field.Word = false
+is_jump_field field.Jump = true
 
 -- symbol plus addend, less the place where the kind is relative
 abbrev pub difference_of : Bool → ℕ → ℤ → ℤ
@@ -75,17 +75,17 @@ abbrev pub is_in_bounds : Row → ℤ → Bool
 is_in_bounds r value = int_le r.low value && int_le value r.high
 
 -- the value is written, if it is in its bounds
-unfoldable pub written : Row → ℕ → List ℕ → ℤ → Result (List ℕ) RelocFault
-written r offset bytes value =
+unfoldable pub field_written : Row → ℕ → List ℕ → ℤ → Result (List ℕ) RelocFault
+field_written r offset bytes value =
     if not (is_in_bounds r value) then Err (fault.Range value)
-    else Ok (with_number bytes offset (field_size r.field) (kept_of (is_jump r.field) bytes offset + modulo value (limit_of r.field)))
+    else Ok (with_number bytes offset (field_size r.field) (kept_of (is_jump_field r.field) bytes offset + modulo value (limit_of r.field)))
 
 -- the field lies in the section, and a jump's difference is even
 unfoldable pub relocated_by : Row → ℤ → ℕ → List ℕ → Result (List ℕ) RelocFault
 relocated_by r difference offset bytes =
     if nat_lt (length bytes) (offset + field_size r.field) then Err fault.Outside
-    else if is_jump r.field && is_odd_integer difference then Err (fault.Odd difference)
-    else written r offset bytes (field_value (is_jump r.field) difference)
+    else if is_jump_field r.field && is_odd_integer difference then Err (fault.Odd difference)
+    else field_written r offset bytes (field_value (is_jump_field r.field) difference)
 
 abbrev pub relocated_at : Option Row → ℕ → ℕ → ℤ → ℕ → List ℕ → Result (List ℕ) RelocFault
 relocated_at None kind place sum offset bytes = Err (fault.Kind kind)

@@ -2,7 +2,7 @@
 #![tactic(auto)]
 
 ghost use Rattle.std.specs.Prelude.{◌≡◌, ◌<◌, ◌≤◌, ◌+◌, ◌≤ℤ◌, ◌^◌, Ok, Err, pos, negsuc, length, IfErr, OnOk, OnErr, true};
-ghost use Rattle.reloc_apply.specs.Fields.{row_of, field_size, limit_of, is_jump, difference_of, field_value, modulo, kept_of, with_number, is_odd_integer, is_in_bounds, written, relocated_by, relocated, ChangesOnly, row_size};
+ghost use Rattle.reloc_apply.specs.Fields.{row_of, field_size, limit_of, is_jump_field, difference_of, field_value, modulo, kept_of, with_number, is_odd_integer, is_in_bounds, field_written, relocated_by, relocated, ChangesOnly, row_size};
 ghost use Rattle.reloc_apply.specs.internal.Leaves.{Leaves};
 
 use byteorder::{ByteOrder, LittleEndian};
@@ -59,7 +59,7 @@ impl Field {
     }
 
     fn is_jump(self) -> bool
-        ensures { result ≡ is_jump self }
+        ensures { result ≡ is_jump_field self }
     {
         match self {
             Field::Jump => true,
@@ -180,10 +180,10 @@ fn with_number(bytes: &mut [u8], offset: usize, size: usize, number: u64)
     LittleEndian::write_uint(&mut bytes[offset..], number, size);
 }
 
-#[tactic(auto, using(crate::proofs::FieldLemmas::fits), unfolding(crate::specs::Fields::written))]
+#[tactic(auto, using(crate::proofs::FieldLemmas::fits), unfolding(crate::specs::Fields::field_written))]
 fn write(row: Row, offset: usize, bytes: &mut [u8], value: i64) -> Result<(), RelocFault>
     requires { offset + field_size row.field ≤ length bytes.old }
-    ensures value { Leaves bytes.old bytes.new result (written row offset bytes.old value) }
+    ensures value { Leaves bytes.old bytes.new result (field_written row offset bytes.old value) }
     ensures elsewhere { OnOk result (ChangesOnly bytes.old bytes.new offset (field_size row.field)) }
 {
     if !is_in_bounds(row, value) {
