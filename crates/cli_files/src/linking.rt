@@ -2,7 +2,7 @@
 ghost use Rattle.std.specs.Prelude.{◌≡◌, ◌≤◌, ◌==◌, All, length, map, IfOk, IfErr, OnOk, Some, None, slice_get, find, string_bytes};
 ghost use Rattle.std.specs.Option.{option_copied};
 ghost use Rattle.layout_file.specs.Layout.{layout_of};
-ghost use Rattle.link_symbols.specs.Passes.{IsFaultOf};
+ghost use Rattle.link_symbols.specs.Passes.{IsLinkFaultOf};
 ghost use Rattle.linker.specs.Refusals.{link_fault_of};
 ghost use Rattle.linker.specs.Room.{IsSmall};
 ghost use Rattle.linker.specs.Image.{linked_image};
@@ -43,7 +43,7 @@ pub fn unlinked<'a>(
     objects: &[Object],
     fault: LinkFault,
 ) -> Refused<'a>
-    requires { IsFaultOf (link_fault_of (layout_of layout.now) objects.now) fault }
+    requires { IsLinkFaultOf (link_fault_of (layout_of layout.now) objects.now) fault }
     ensures { IsUnlinked (layout_of layout.now) objects.now result.refusal (name_text result.name) }
 {
     if let LinkFault::NoMemory = fault {

@@ -10,7 +10,7 @@ ghost use Rattle.link_symbols.specs.CommonNames.{borrowed, common_names};
 ghost use Rattle.link_symbols.specs.Names.{count_sections};
 ghost use Rattle.linker.specs.Numbers.{linking_of, end_in, numbers_in};
 ghost use Rattle.link_symbols.specs.Resolved.{items_of};
-ghost use Rattle.link_symbols.specs.Passes.{numbered_objects, IsFaultOf};
+ghost use Rattle.link_symbols.specs.Passes.{numbered_objects, IsLinkFaultOf};
 ghost use Rattle.linker.specs.Refusals.{link_fault_of};
 ghost use Rattle.linker.specs.Room.{IsSmall};
 ghost use Rattle.link_map.specs.Map.{map_text, vector_line};
@@ -110,7 +110,7 @@ fn map_in<'a>(
     requires small { All IsSmall objects.now }
     ensures text { IfOk result (λ text. text.items ≡ map_text (layout_of layout.entry.now) objects.entry.now) }
     ensures sound { OnOk result (link_fault_of (layout_of layout.entry.now) objects.entry.now ≡ None) }
-    ensures refusal { IfErr result (IsFaultOf (link_fault_of (layout_of layout.entry.now) objects.entry.now)) }
+    ensures refusal { IfErr result (IsLinkFaultOf (link_fault_of (layout_of layout.entry.now) objects.entry.now)) }
 {
     let linkage = match linkage_of(alloc, layout, objects) {
         Ok(linkage) => linkage,
@@ -128,7 +128,7 @@ pub fn map_of(alloc: Global, layout: &Layout, objects: &[Object]) -> Result<Vec<
     requires small { All IsSmall objects.now }
     ensures text { IfOk result (λ text. text.items ≡ map_text (layout_of layout.now) objects.now) }
     ensures sound { OnOk result (link_fault_of (layout_of layout.now) objects.now ≡ None) }
-    ensures refusal { IfErr result (IsFaultOf (link_fault_of (layout_of layout.now) objects.now)) }
+    ensures refusal { IfErr result (IsLinkFaultOf (link_fault_of (layout_of layout.now) objects.now)) }
 {
     map_in(alloc, layout, objects)
 }

@@ -9,7 +9,7 @@ use Rattle.link_symbols.specs.declared.symbol.Meaning.{Meaning}
 use Rattle.link_symbols.specs.Passes.{or_else, first_at, map_at, NumberedObject, numbered_objects_from}
 use Rattle.link_symbols.specs.Resolved.{meaning_at, meanings_in, meanings_of}
 use Rattle.link_symbols.specs.Names.{stands_for}
-use Rattle.link_symbols.specs.internal.Meanings.{listed, all_stand, gap_if, gap_at}
+use Rattle.link_symbols.specs.internal.Meanings.{listed_meanings, all_stand, gap_if, gap_at}
 use Rattle.link_symbols.specs.Refusals.{is_used, undefined_at}
 use Rattle.link_symbols.proofs.Steps.{numbered_step}
 
@@ -40,16 +40,16 @@ length_at f i (x ∷ xs) = ap suc (length_at f (i + 1) xs)
 
 pub found_more : (names : List ℕ → Option Meaning) (vs new : List (Vec (Option Meaning) Global)) (v : Vec (Option Meaning) Global) (os : List ObjectValue) (all : List (List (Option Meaning))) (i first n : ℕ) (o : ObjectValue) → i < length os → o ≡ get_or os i o → n ≡ length o.sections →
     new ≡ vs ++ v ∷ [] → v.items ≡ meanings_in names (record { number = i; first = first; object = o }) →
-    map listed vs ++ map (meanings_in names) (numbered_objects_from i first (drop i os)) ≡ all →
-    map listed new ++ map (meanings_in names) (numbered_objects_from (i + 1) (first + n) (drop (i + 1) os)) ≡ all
+    map listed_meanings vs ++ map (meanings_in names) (numbered_objects_from i first (drop i os)) ≡ all →
+    map listed_meanings new ++ map (meanings_in names) (numbered_objects_from (i + 1) (first + n) (drop (i + 1) os)) ≡ all
 found_more names vs new v os all i first n o h is same pushed value e =
     let rest = map (meanings_in names) (numbered_objects_from (i + 1) (first + length o.sections) (drop (i + 1) os)) in
-    ap (λ k. map listed new ++ map (meanings_in names) (numbered_objects_from (i + 1) (first + k) (drop (i + 1) os))) same
-    ∙ (ap (λ l. map listed l ++ rest) pushed
-    ∙ (ap (λ l. l ++ rest) (map-append listed vs (v ∷ []))
-    ∙ (append_assoc (map listed vs) (v.items ∷ []) rest
-    ∙ (ap (λ m. map listed vs ++ (m ∷ rest)) value
-    ∙ (ap (λ l. map listed vs ++ map (meanings_in names) l) (sym (numbered_step os i first o h is)) ∙ e)))))
+    ap (λ k. map listed_meanings new ++ map (meanings_in names) (numbered_objects_from (i + 1) (first + k) (drop (i + 1) os))) same
+    ∙ (ap (λ l. map listed_meanings l ++ rest) pushed
+    ∙ (ap (λ l. l ++ rest) (map-append listed_meanings vs (v ∷ []))
+    ∙ (append_assoc (map listed_meanings vs) (v.items ∷ []) rest
+    ∙ (ap (λ m. map listed_meanings vs ++ (m ∷ rest)) value
+    ∙ (ap (λ l. map listed_meanings vs ++ map (meanings_in names) l) (sym (numbered_step os i first o h is)) ∙ e)))))
 
 -- ---- the meanings of one object
 
@@ -57,10 +57,10 @@ length_numbered : (number first : ℕ) (os : List ObjectValue) → length (numbe
 length_numbered number first [] = refl
 length_numbered number first (o ∷ os) = ap suc (length_numbered (number + 1) (first + length o.sections) os)
 
-pub meanings_count : (vs : List (Vec (Option Meaning) Global)) (os : List ObjectValue) → map listed vs ≡ meanings_of os → length vs ≡ length os
+pub meanings_count : (vs : List (Vec (Option Meaning) Global)) (os : List ObjectValue) → map listed_meanings vs ≡ meanings_of os → length vs ≡ length os
 meanings_count vs os all =
-    sym (length-map vs listed) ∙ (ap length all ∙ (length-map (numbered_objects_from 0 0 os) (meanings_in (stands_for os)) ∙ length_numbered 0 0 os))
+    sym (length-map vs listed_meanings) ∙ (ap length all ∙ (length-map (numbered_objects_from 0 0 os) (meanings_in (stands_for os)) ∙ length_numbered 0 0 os))
 
-pub meanings_at : (vs : List (Vec (Option Meaning) Global)) (os : List ObjectValue) (k : ℕ) (d : Vec (Option Meaning) Global) → k < length vs → map listed vs ≡ meanings_of os
+pub meanings_at : (vs : List (Vec (Option Meaning) Global)) (os : List ObjectValue) (k : ℕ) (d : Vec (Option Meaning) Global) → k < length vs → map listed_meanings vs ≡ meanings_of os
     → (get_or vs k d).items ≡ get_or (meanings_of os) k []
-meanings_at vs os k d within all = sym (get_or-map listed vs k d [] within) ∙ ap (λ l. get_or l k []) all
+meanings_at vs os k d within all = sym (get_or-map listed_meanings vs k d [] within) ∙ ap (λ l. get_or l k []) all

@@ -6,7 +6,7 @@ use Rattle.link_symbols.specs.declared.names.Definition.{Definition}
 use Rattle.link_symbols.specs.declared.symbol.Meaning.{Meaning}
 use Rattle.link_symbols.specs.declared.names.Names.{Names}
 use Rattle.link_symbols.specs.declared.fault.LinkFault.{LinkFault}
-use Rattle.link_symbols.specs.Passes.{or_else, some_if, first_in, IsFaultOf}
+use Rattle.link_symbols.specs.Passes.{or_else, some_if, first_in, IsLinkFaultOf}
 use Rattle.link_symbols.specs.Refusals.{duplicate, duplicate_of}
 use Rattle.link_symbols.specs.Symbols.{NamedValue}
 use Rattle.link_symbols.specs.Definitions.{definition, definition_of, strong_by, weak_by, strong_of, weak_of, if_named, is_global}
@@ -137,7 +137,7 @@ reached_more old new before symbols xs rest r noted sound = record {
 }
 
 pub reached_hit : (names : Names) (before symbols xs rest : List NamedValue) (f : LinkFault) → Reached names before symbols (xs ++ rest) →
-    ((now : List NamedValue) → HoldsNames names now → IsFaultOf (duplicate now xs) f) → IsFaultOf (duplicate before symbols) f
+    ((now : List NamedValue) → HoldsNames names now → IsLinkFaultOf (duplicate now xs) f) → IsLinkFaultOf (duplicate before symbols) f
 reached_hit names before symbols xs rest f r hit = λ ne.
     r.same ∙ (duplicate_append r.now xs rest ∙ ap (λ o. or_else o (duplicate (r.now ++ xs) rest)) (hit r.now r.holds ne))
 
@@ -153,6 +153,6 @@ reached_one old new before symbols rest s t e r noted sound =
     reached_more old new before symbols (s ∷ []) rest (subst (λ x. Reached old before symbols (x ∷ rest)) (sym e) r) noted (λ now h. duplicate_one now s ∙ sound now h)
 
 pub reached_one_hit : (names : Names) (before symbols rest : List NamedValue) (s t : NamedValue) (f : LinkFault) → s ≡ t → Reached names before symbols (t ∷ rest) →
-    ((now : List NamedValue) → HoldsNames names now → IsFaultOf (duplicate_of now s) f) → IsFaultOf (duplicate before symbols) f
+    ((now : List NamedValue) → HoldsNames names now → IsLinkFaultOf (duplicate_of now s) f) → IsLinkFaultOf (duplicate before symbols) f
 reached_one_hit names before symbols rest s t f e r hit =
     reached_hit names before symbols (s ∷ []) rest f (subst (λ x. Reached names before symbols (x ∷ rest)) (sym e) r) (λ now h ne. duplicate_one now s ∙ hit now h ne)

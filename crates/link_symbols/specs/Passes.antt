@@ -52,5 +52,5 @@ abbrev pub part : ObjectValue → Span → List ℕ
 part o span = slice_range o.file span.start span.end
 
 -- unless memory ran out, this is the refusal
-abbrev pub IsFaultOf : Option LinkFault → LinkFault → Type 0
-IsFaultOf refusal f = f ≢ fault.NoMemory → refusal ≡ Some f
+abbrev pub IsLinkFaultOf : Option LinkFault → LinkFault → Type 0
+IsLinkFaultOf refusal f = f ≢ fault.NoMemory → refusal ≡ Some f

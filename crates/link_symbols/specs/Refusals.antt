@@ -83,12 +83,12 @@ is_code_of i part = option_map_or (λ p. (p.region == 2 + 2 * i) && (p.rank == 0
 abbrev pub is_entry_in : ℕ → ℕ → Option Item → Bool
 is_entry_in i offset item = option_map_or (λ x. is_code_of i x.part && (offset % 2 == 0) && nat_lt offset x.size) item false
 
-abbrev pub is_entry : List Item → ℕ → Option Meaning → Bool
-is_entry items i (Some (meaning.Place item offset)) = is_entry_in i offset (slice_get items item)
-is_entry items i _ = false
+abbrev pub is_module_entry : List Item → ℕ → Option Meaning → Bool
+is_module_entry items i (Some (meaning.Place item offset)) = is_entry_in i offset (slice_get items item)
+is_module_entry items i _ = false
 
 abbrev pub elsewhere_at : (List ℕ → Option Meaning) → List Item → ℕ → ℕ → List ℕ → Option LinkFault
-elsewhere_at names items i k name = refuse_if (not (is_entry items i (names name))) (fault.EntryElsewhere i k)
+elsewhere_at names items i k name = refuse_if (not (is_module_entry items i (names name))) (fault.EntryElsewhere i k)
 
 abbrev pub elsewhere_in : (List ℕ → Option Meaning) → List Item → ℕ → ModuleValue → Option LinkFault
 elsewhere_in names items i m = first_at (elsewhere_at names items i) 0 m.entries

@@ -2,7 +2,7 @@
 
 ghost use Rattle.std.specs.Prelude.{◌≡◌, ◌≤◌, ◌<◌, ◌+◌, ◌*◌, ◌^◌, ℕ, List, length, map, IfOk, IfErr, OnOk, None, slice_index_or, true, false, All};
 ghost use Rattle.layout_file.specs.Views.{module_of, vector_of, strings_of};
-ghost use Rattle.link_symbols.specs.Passes.{NumberedObject, numbered_objects, first_at, first_in, IsFaultOf, FaultIs};
+ghost use Rattle.link_symbols.specs.Passes.{NumberedObject, numbered_objects, first_at, first_in, IsLinkFaultOf, FaultIs};
 ghost use Rattle.link_symbols.specs.Passes.{numbered_object};
 ghost use Rattle.link_symbols.specs.internal.Values.{named_value};
 ghost use Rattle.link_symbols.specs.Symbols.{named_symbols_in, named_symbols};
@@ -12,7 +12,7 @@ ghost use Rattle.link_symbols.specs.Names.{symbol_meaning};
 ghost use Rattle.link_symbols.specs.internal.Meanings.{OwnMeaning, OwnMeanings, AllOwnMeanings};
 ghost use Rattle.link_symbols.specs.Resolved.{meanings_in};
 ghost use Rattle.link_symbols.specs.internal.Meanings.{AreMeanings, all_stand, gap_if, gaps};
-ghost use Rattle.link_symbols.specs.Refusals.{is_used, undefined_in, undefined, no_vector, no_entry_in, no_entry, is_code_of, is_entry, elsewhere_in, elsewhere};
+ghost use Rattle.link_symbols.specs.Refusals.{is_used, undefined_in, undefined, no_vector, no_entry_in, no_entry, is_code_of, is_module_entry, elsewhere_in, elsewhere};
 
 use crate::fault::LinkFault;
 use crate::item::Item;
@@ -135,7 +135,7 @@ fn check_used(
 ) -> Result<(), LinkFault>
     requires count { length meanings.now ≡ length object.now.symbols }
     ensures sound { OnOk result (gaps number object.now.relocations meanings.now ≡ None) }
-    ensures refusal { IfErr result (IsFaultOf (gaps number object.now.relocations meanings.now)) }
+    ensures refusal { IfErr result (IsLinkFaultOf (gaps number object.now.relocations meanings.now)) }
 {
     if all_stand(meanings) {
         return Ok(());
@@ -166,7 +166,7 @@ fn check_object<'a>(
         object.entry.now) ≡ None) }
     ensures meanings { IfOk result (λ v. v.items ≡ meanings_in (meaning_of_name names.now) (numbered_object
         number first object.entry.now)) }
-    ensures refusal { IfErr result (IsFaultOf (undefined_in (meaning_of_name names.now) (numbered_object number
+    ensures refusal { IfErr result (IsLinkFaultOf (undefined_in (meaning_of_name names.now) (numbered_object number
         first object.entry.now))) }
 {
     let meanings = match meanings_of(alloc, names, firsts, object, number, first) {
@@ -191,7 +191,7 @@ pub fn check_symbols<'a>(
     requires firsts { KnowsFirsts names.now (named_symbols objects.now) }
     ensures sound { OnOk result (undefined (meaning_of_name names.now) objects.entry.now ≡ None) }
     ensures meanings { IfOk result (λ v. AreMeanings (meaning_of_name names.now) objects.entry.now v.items) }
-    ensures refusal { IfErr result (IsFaultOf (undefined (meaning_of_name names.now) objects.entry.now)) }
+    ensures refusal { IfErr result (IsLinkFaultOf (undefined (meaning_of_name names.now) objects.entry.now)) }
 {
     let mut meanings = Vec::new(alloc);
     let mut first = 0;
@@ -257,9 +257,9 @@ pub fn check_entries<'a>(names: &Names<'a>, modules: &'a [ModuleSpec]) -> Result
 }
 
 // Whether this is an even place in a section of the module's code.
-fn is_entry(items: &[Item], number: usize, meaning: Option<Meaning>) -> bool
+fn is_module_entry(items: &[Item], number: usize, meaning: Option<Meaning>) -> bool
     requires few { number < 2 ^ 32 }
-    ensures { result ≡ is_entry items.now number meaning }
+    ensures { result ≡ is_module_entry items.now number meaning }
 {
     match meaning {
         Some(Meaning::Place { item, offset }) => match items.get(item as usize) {
@@ -293,7 +293,7 @@ fn check_places_of<'a>(
         spec.entry.now)) }
 {
     for (k, entry) in spec.entries.iter().enumerate() {
-        if !is_entry(items, number, names.stands_for(entry.as_bytes())) {
+        if !is_module_entry(items, number, names.stands_for(entry.as_bytes())) {
             return Err(LinkFault::EntryElsewhere {
                 module: number as u64,
                 entry: k as u64,

@@ -5,7 +5,7 @@ ghost use Rattle.layout_file.specs.Views.{module_of};
 ghost use Rattle.elf_objects.specs.Object.{ObjectValue, IsSectionHead};
 ghost use Rattle.link_symbols.specs.internal.Layouts.{AreShort};
 ghost use Rattle.link_symbols.specs.Parts.{code_part as code_part_of, data_part as data_part_of, is_named, part_in, part_of, item_of, items_in, section_items};
-ghost use Rattle.link_symbols.specs.Passes.{IsFaultOf, first_at, first_in, NumberedObject};
+ghost use Rattle.link_symbols.specs.Passes.{IsLinkFaultOf, first_at, first_in, NumberedObject};
 ghost use Rattle.link_symbols.specs.Passes.{numbered_object};
 ghost use Rattle.link_symbols.specs.Refusals.{no_place_at, no_place_in, no_place};
 
@@ -184,7 +184,7 @@ fn push_sections(
         object.now) }
     ensures sound { OnOk result (no_place_in (map module_of modules.now) (numbered_object number first
         object.now) ≡ None) }
-    ensures refusal { IfErr result (IsFaultOf (no_place_in (map module_of modules.now) (numbered_object number
+    ensures refusal { IfErr result (IsLinkFaultOf (no_place_in (map module_of modules.now) (numbered_object number
         first object.now))) }
 {
     for (k, head) in object.sections().iter().enumerate() {
@@ -208,7 +208,7 @@ pub fn sections_of(
     requires names { AreShort modules.now }
     ensures items { IfOk result (λ items. items.items ≡ section_items (map module_of modules.now) objects.now) }
     ensures sound { OnOk result (no_place (map module_of modules.now) objects.now ≡ None) }
-    ensures refusal { IfErr result (IsFaultOf (no_place (map module_of modules.now) objects.now)) }
+    ensures refusal { IfErr result (IsLinkFaultOf (no_place (map module_of modules.now) objects.now)) }
 {
     let mut items = Vec::new(alloc);
     let mut first = 0;

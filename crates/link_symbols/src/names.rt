@@ -2,7 +2,7 @@
 
 ghost use Rattle.std.specs.Prelude.{◌≡◌, ◌≤◌, ◌+◌, ◌*◌, ◌^◌, ◌++◌, List, [], ◌∷◌, ℕ, length, Some, None, OnOk, IfOk, IfErr, bytes_eq, fold, ◌<◌, slice_set, slice_index_or, true, map};
 ghost use Rattle.elf_objects.specs.Object.{IsSymbol};
-ghost use Rattle.link_symbols.specs.Passes.{NumberedObject, numbered_objects, IsFaultOf, some_if, or_else};
+ghost use Rattle.link_symbols.specs.Passes.{NumberedObject, numbered_objects, IsLinkFaultOf, some_if, or_else};
 ghost use Rattle.link_symbols.specs.Passes.{numbered_object};
 ghost use Rattle.link_symbols.specs.Commons.{common_item, commons_of, common_at, some_item, Common, with_common, with_symbol};
 ghost use Rattle.link_symbols.specs.internal.Founds.{is_common};
@@ -126,7 +126,7 @@ fn note_first<'a>(
         meaning)) }
     ensures sound { OnOk result (duplicate_by (named_value s.entry) (Some (definition (named_value s.entry) meaning))
         (name_entry strong.old s.entry.name.now) ≡ None) }
-    ensures refusal { IfErr result (IsFaultOf (duplicate_by (named_value s.entry) (Some (definition (named_value
+    ensures refusal { IfErr result (IsLinkFaultOf (duplicate_by (named_value s.entry) (Some (definition (named_value
         s.entry) meaning)) (name_entry strong.old s.entry.name.now))) }
 {
     let definition = Definition {
@@ -213,7 +213,7 @@ impl<'a> Names<'a> {
             ++ named_value s.entry ∷ [])) }
         ensures sound { OnOk result ((before : List NamedValue) → HoldsNames self.old before → duplicate_of before
             (named_value s.entry) ≡ None) }
-        ensures refusal { IfErr result (λ f. (before : List NamedValue) → HoldsNames self.old before → IsFaultOf
+        ensures refusal { IfErr result (λ f. (before : List NamedValue) → HoldsNames self.old before → IsLinkFaultOf
             (duplicate_of before (named_value s.entry)) f) }
         ensures commons { OnOk result (self.new.commons ≡ self.old.commons) }
     {
@@ -229,7 +229,7 @@ impl<'a> Names<'a> {
             ++ named_value s.entry ∷ [])) }
         ensures sound { OnOk result ((before : List NamedValue) → HoldsNames self.old before → duplicate_of before
             (named_value s.entry) ≡ None) }
-        ensures refusal { IfErr result (λ f. (before : List NamedValue) → HoldsNames self.old before → IsFaultOf
+        ensures refusal { IfErr result (λ f. (before : List NamedValue) → HoldsNames self.old before → IsLinkFaultOf
             (duplicate_of before (named_value s.entry)) f) }
         ensures commons { OnOk result (self.new.commons ≡ self.old.commons) }
     {
@@ -255,7 +255,7 @@ impl<'a> Names<'a> {
             ++ named_symbols_in (numbered_object number first object.entry.now))) }
         ensures sound { OnOk result ((before : List NamedValue) → HoldsNames self.old before → duplicate before
             (named_symbols_in (numbered_object number first object.entry.now)) ≡ None) }
-        ensures refusal { IfErr result (λ f. (before : List NamedValue) → HoldsNames self.old before → IsFaultOf
+        ensures refusal { IfErr result (λ f. (before : List NamedValue) → HoldsNames self.old before → IsLinkFaultOf
             (duplicate before (named_symbols_in (numbered_object number first object.entry.now))) f) }
         ensures commons { OnOk result (self.new.commons ≡ self.old.commons) }
     {
@@ -366,7 +366,7 @@ fn definitions_of<'a>(alloc: Global, objects: &'a [Object]) -> Result<Names<'a>,
     ensures noted { IfOk result (λ names. HoldsNames names (named_symbols objects.entry.now)) }
     ensures commons { IfOk result (λ names. (q : List ℕ) → name_entry names.commons q ≡ None) }
     ensures sound { OnOk result (duplicate [] (named_symbols objects.entry.now) ≡ None) }
-    ensures refusal { IfErr result (IsFaultOf (duplicate [] (named_symbols objects.entry.now))) }
+    ensures refusal { IfErr result (IsLinkFaultOf (duplicate [] (named_symbols objects.entry.now))) }
 {
     let mut names = Names::new(alloc);
     let mut first = 0;
@@ -409,7 +409,7 @@ pub fn names_of<'a>(
 ) -> Result<Names<'a>, LinkFault>
     requires few { length objects.now ≤ 64 }
     ensures sound { OnOk result (duplicate [] (named_symbols objects.entry.now) ≡ None) }
-    ensures refusal { IfErr result (IsFaultOf (duplicate [] (named_symbols objects.entry.now))) }
+    ensures refusal { IfErr result (IsLinkFaultOf (duplicate [] (named_symbols objects.entry.now))) }
     ensures definitions { IfOk result (λ names. HoldsNames names (named_symbols objects.entry.now)) }
     ensures commons { IfOk result (λ names. HoldsCommons names items.new.items items.old.items (fold
         (with_symbol (name_entry names.strong)) [] (named_symbols objects.entry.now))) }

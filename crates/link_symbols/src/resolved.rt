@@ -2,7 +2,7 @@
 
 ghost use Rattle.std.specs.Prelude.{◌≡◌, ◌≤◌, ◌<◌, ℕ, List, [], length, map, IfOk, IfErr, OnOk, None, slice_index_or};
 ghost use Rattle.layout_file.specs.Layout.{layout_of};
-ghost use Rattle.link_symbols.specs.Passes.{IsFaultOf, numbered_objects};
+ghost use Rattle.link_symbols.specs.Passes.{IsLinkFaultOf, numbered_objects};
 ghost use Rattle.link_symbols.specs.CommonNames.{borrowed, common_names};
 ghost use Rattle.link_symbols.specs.Names.{stands_for};
 ghost use Rattle.link_symbols.specs.Resolved.{items_of, meanings_of};
@@ -112,7 +112,7 @@ fn read_input<'a>(
     ensures firsts { IfOk result (λ r. KnowsFirsts r.names (named_symbols objects.entry.now)) }
     ensures numbered { IfOk result (λ r. CommonsNumbered r.names objects.entry.now) }
     ensures sound { OnOk result (names_fault (layout_of layout.now) objects.entry.now ≡ None) }
-    ensures refusal { IfErr result (IsFaultOf (names_fault (layout_of layout.now) objects.entry.now)) }
+    ensures refusal { IfErr result (IsLinkFaultOf (names_fault (layout_of layout.now) objects.entry.now)) }
 {
     let mut items = match sections_of(alloc, layout.modules.as_slice(), objects) {
         Ok(items) => items,
@@ -140,7 +140,7 @@ fn check_names<'a>(
     ensures sound { OnOk result (stand_fault (meaning_of_name names.now) items.now (layout_of layout.entry.now)
         objects.entry.now ≡ None) }
     ensures meanings { IfOk result (λ v. AreMeanings (meaning_of_name names.now) objects.entry.now v.items) }
-    ensures refusal { IfErr result (IsFaultOf (stand_fault (meaning_of_name names.now) items.now (layout_of
+    ensures refusal { IfErr result (IsLinkFaultOf (stand_fault (meaning_of_name names.now) items.now (layout_of
         layout.entry.now) objects.entry.now)) }
 {
     let meanings = match check_symbols(alloc, names, objects) {
@@ -170,7 +170,7 @@ pub fn resolve<'a>(
     ensures objects { IfOk result (λ r. r.objects ≡ objects.entry.now) }
     ensures items { IfOk result (λ r. r.items ≡ items_of (layout_of layout.entry.now) objects.entry.now) }
     ensures sound { OnOk result (unresolved (layout_of layout.entry.now) objects.entry.now ≡ None) }
-    ensures refusal { IfErr result (IsFaultOf (unresolved (layout_of layout.entry.now) objects.entry.now)) }
+    ensures refusal { IfErr result (IsLinkFaultOf (unresolved (layout_of layout.entry.now) objects.entry.now)) }
 {
     let input = match read_input(alloc, layout, objects) {
         Ok(input) => input,

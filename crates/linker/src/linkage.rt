@@ -5,7 +5,7 @@ ghost use Rattle.std.specs.Prelude.{◌≡◌, ◌≤◌, ◌+◌, ◌*◌, ℕ,
 ghost use Rattle.layout_file.specs.Views.{module_of};
 ghost use Rattle.layout_file.specs.Layout.{layout_of};
 ghost use Rattle.link_symbols.specs.CommonNames.{borrowed, common_names};
-ghost use Rattle.link_symbols.specs.Passes.{IsFaultOf, numbered_objects};
+ghost use Rattle.link_symbols.specs.Passes.{IsLinkFaultOf, numbered_objects};
 ghost use Rattle.link_symbols.specs.Refusals.{no_place};
 ghost use Rattle.link_symbols.specs.Resolved.{items_of};
 ghost use Rattle.linker.specs.Image.{Links, linked_image};
@@ -122,7 +122,7 @@ fn linkage_by<'a>(
     ensures commons { IfOk result (λ w. borrowed w.commons.items ≡ common_names objects.entry.now) }
     ensures sound { OnOk result (fill_fault (end_in (layout_of layout.entry.now) objects.entry.now) (linking_of
         (layout_of layout.entry.now) objects.entry.now) (layout_of layout.entry.now) objects.entry.now ≡ None) }
-    ensures refusal { IfErr result (IsFaultOf (fill_fault (end_in (layout_of layout.entry.now)
+    ensures refusal { IfErr result (IsLinkFaultOf (fill_fault (end_in (layout_of layout.entry.now)
         objects.entry.now) (linking_of (layout_of layout.entry.now) objects.entry.now) (layout_of
         layout.entry.now) objects.entry.now)) }
 {
@@ -161,7 +161,7 @@ pub fn linkage_of<'a>(
         ≡ map (numbers_in (linking_of (layout_of layout.entry.now) objects.entry.now)) (numbered_objects objects.entry.now)) }
     ensures commons { IfOk result (λ w. borrowed w.commons.items ≡ common_names objects.entry.now) }
     ensures sound { OnOk result (link_fault_of (layout_of layout.entry.now) objects.entry.now ≡ None) }
-    ensures refusal { IfErr result (IsFaultOf (link_fault_of (layout_of layout.entry.now) objects.entry.now)) }
+    ensures refusal { IfErr result (IsLinkFaultOf (link_fault_of (layout_of layout.entry.now) objects.entry.now)) }
 {
     let resolved = match resolve(alloc, layout, objects) {
         Ok(resolved) => resolved,

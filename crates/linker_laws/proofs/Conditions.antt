@@ -29,7 +29,7 @@ use Rattle.link_symbols.specs.Resolved.{items_of}
 use Rattle.linker.specs.Placement.{item_at, text_of, ram_of}
 use Rattle.linker.specs.Numbers.{Linking, linking_of, numbers_in, end_in}
 use Rattle.linker.specs.Fields.{target_address, target_size, symbol_sum, reloc_fault, reloc_fault_by, reloc_fault_in}
-use Rattle.link_symbols.specs.Refusals.{no_place, no_place_at, no_place_in, is_used, undefined, undefined_at, undefined_in, no_vector, no_vector_at, no_entry, no_entry_at, no_entry_in, is_code_of, is_entry, is_entry_in, elsewhere, elsewhere_at, elsewhere_in, unresolved}
+use Rattle.link_symbols.specs.Refusals.{no_place, no_place_at, no_place_in, is_used, undefined, undefined_at, undefined_in, no_vector, no_vector_at, no_entry, no_entry_at, no_entry_in, is_code_of, is_module_entry, is_entry_in, elsewhere, elsewhere_at, elsewhere_in, unresolved}
 use Rattle.linker.specs.Refusals.{overfull, overfull_at, overfull_in, link_fault_of}
 use Rattle.link_symbols.proofs.OrderLemmas.{both_none}
 use Rattle.linker.proofs.BoundLemmas.{not_over}
@@ -205,7 +205,7 @@ entry_by items i k offset (Some x) q e =
       within = let t = b.1 in let w : offset < x.size = grind (arith, nat_tests) in omega (arith, w, size);
     }
 
-entry_of : (items : List Item) (i : ℕ) (m : Option Meaning) → is_entry items i m ≡ true → IsEntryPlace items i m
+entry_of : (items : List Item) (i : ℕ) (m : Option Meaning) → is_module_entry items i m ≡ true → IsEntryPlace items i m
 entry_of items i None e = cc
 entry_of items i (Some (meaning.Number n)) e = cc
 entry_of items i (Some (meaning.Place k offset)) e = entry_by items i k offset (slice_get items k) refl e
@@ -228,8 +228,8 @@ item_in items i k offset (Some x) q code even within =
     let w : offset < x.size = omega (arith, within, size) in
     three (is_code_of i x.part) (offset % 2 == 0) (nat_lt offset x.size) (by_code i x.part (ap (λ (y : Item). y.part) (sym same) ∙ code)) (grind (arith, nat_tests)) (grind (arith, nat_tests))
 
-is_entry_by : (items : List Item) (i : ℕ) (m : Option Meaning) → IsEntryPlace items i m → is_entry items i m ≡ true
-is_entry_by items i m h = ap (is_entry items i) h.place ∙ item_in items i h.item h.offset (slice_get items h.item) refl h.code h.even h.within
+is_entry_by : (items : List Item) (i : ℕ) (m : Option Meaning) → IsEntryPlace items i m → is_module_entry items i m ≡ true
+is_entry_by items i m h = ap (is_module_entry items i) h.place ∙ item_in items i h.item h.offset (slice_get items h.item) refl h.code h.even h.within
 
 entries : (names : List ℕ → Option Meaning) (items : List Item) (ms : List ModuleValue) →
     elsewhere names items ms ≡ None → EntriesStand names items ms

@@ -13,12 +13,12 @@ use Rattle.link_symbols.specs.Refusals.{is_used}
 use Rattle.link_symbols.specs.declared.fault.LinkFault.TheVariants as fault
 use Rattle.link_symbols.specs.Definitions.{is_global, definition_of}
 
-abbrev pub listed : Vec (Option Meaning) Global → List (Option Meaning)
-listed v = v.items
+abbrev pub listed_meanings : Vec (Option Meaning) Global → List (Option Meaning)
+listed_meanings v = v.items
 
 -- these are the meanings of all objects' symbols
 abbrev pub AreMeanings : (List ℕ → Option Meaning) → List ObjectValue → List (Vec (Option Meaning) Global) → Type 0
-AreMeanings names objects meanings = map listed meanings ≡ map (meanings_in names) (numbered_objects objects)
+AreMeanings names objects meanings = map listed_meanings meanings ≡ map (meanings_in names) (numbered_objects objects)
 
 abbrev pub all_stand : List (Option Meaning) → Bool
 all_stand [] = true

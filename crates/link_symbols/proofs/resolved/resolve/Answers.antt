@@ -7,7 +7,7 @@ use Rattle.link_symbols.specs.Passes.{numbered_objects}
 use Rattle.link_symbols.specs.Resolved.{items_of, meanings_in}
 use Rattle.link_symbols.specs.internal.Groups.{stand_fault}
 use Rattle.link_symbols.specs.internal.Maps.{meaning_of_name}
-use Rattle.link_symbols.specs.internal.Meanings.{listed}
+use Rattle.link_symbols.specs.internal.Meanings.{listed_meanings}
 use Rattle.link_symbols.proofs.InputLemmas.{short_names}
 use Rattle.link_symbols.proofs.OrderLemmas.{skip, hit, ext, in_groups}
 use Rattle.link_symbols.proofs.resolved.resolve.Goals as goal
@@ -22,7 +22,7 @@ pub invariant_of-result : goal.invariant_of-result
 invariant_of-result c =
     let os = c.args.objects.now in
     let f = ext (meaning_of_name c.in-Ok.input.names) (stands_for os) c.in-Ok.ensures.names in
-    (f, (subst (λ (g : List ℕ → Option Meaning). map listed c.in-Ok-check_names.meanings.items ≡ map (meanings_in g) (numbered_objects os)) f c.in-Ok-check_names.ensures.meanings, c.in-Ok.ensures.numbered))
+    (f, (subst (λ (g : List ℕ → Option Meaning). map listed_meanings c.in-Ok-check_names.meanings.items ≡ map (meanings_in g) (numbered_objects os)) f c.in-Ok-check_names.ensures.meanings, c.in-Ok.ensures.numbered))
 
 pub returns-in-Ok-check_names-clause-sound : goal.returns-in-Ok-check_names-clause-sound
 returns-in-Ok-check_names-clause-sound c =
