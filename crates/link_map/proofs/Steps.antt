@@ -10,7 +10,7 @@ use Rattle.elf_objects.specs.declared.object.Symbol.{Symbol}
 use Rattle.layout_file.specs.declared.parts.ModuleSpec.{ModuleSpec}
 use Rattle.layout_file.specs.Views.{module_of}
 use Rattle.linker.specs.Linkage.{listed_numbers, numbers_in_list}
-use Rattle.linker.specs.Numbers.{Linking, numbers_in, symbol_number}
+use Rattle.linker.specs.Numbers.{Linking, numbers_in, linked_number}
 use Rattle.link_symbols.specs.Passes.{NumberedObject, numbered_objects_from, map_at, part}
 use Rattle.link_symbols.proofs.MeaningLemmas.{length_at}
 use Rattle.link_symbols.proofs.Steps.{numbered_step, numbered_over}
@@ -196,11 +196,11 @@ number_at f (y ∷ ys) (suc i) start x h is = let n : start + 1 + i ≡ start + 
 
 -- what the numbers have for a symbol
 pub own_number : (l : Linking) (x : NumberedObject) (numbers : List ℕ) (i n : ℕ) (s : Symbol) → numbers ≡ numbers_in l x → i < length x.object.symbols → s ≡ get_or x.object.symbols i s →
-    i < length numbers → n ≡ get_or numbers i n → n ≡ symbol_number l x i s
+    i < length numbers → n ≡ get_or numbers i n → n ≡ linked_number l x i s
 own_number l x numbers i n s e h is within read =
     let zero_first : 0 + i ≡ i = omega arith in
     let n0 : n ≡ get_or numbers i 0 = read ∙ get_or_default numbers i n 0 within in
-    n0 ∙ (ap (λ (ns : List ℕ). get_or ns i 0) e ∙ (number_at (symbol_number l x) x.object.symbols i 0 s h is ∙ ap (λ k. symbol_number l x k s) zero_first))
+    n0 ∙ (ap (λ (ns : List ℕ). get_or ns i 0) e ∙ (number_at (linked_number l x) x.object.symbols i 0 s h is ∙ ap (λ k. linked_number l x k s) zero_first))
 
 pub symbols_more : (f : ℕ → Symbol → List ℕ) (xs : List Symbol) (i : ℕ) (s : Symbol) (cur new total : List ℕ) → i < length xs → s ≡ get_or xs i s →
     cur ++ text_at f i (drop i xs) ≡ total → new ≡ cur ++ f i s → new ++ text_at f (i + 1) (drop (i + 1) xs) ≡ total
@@ -219,7 +219,7 @@ pub lists_count : (l : Linking) (numbers : List (Vec ℕ Global)) (os : List Obj
 lists_count l numbers os e = sym (length-map numbers numbers_in_list) ∙ (ap length e ∙ (length-map (numbered_objects_from 0 0 os) (numbers_in l) ∙ numbered_count os 0 0))
 
 pub symbols_count : (l : Linking) (x : NumberedObject) (numbers : List ℕ) → numbers ≡ numbers_in l x → length numbers ≡ length x.object.symbols
-symbols_count l x numbers e = ap length e ∙ length_at (symbol_number l x) 0 x.object.symbols
+symbols_count l x numbers e = ap length e ∙ length_at (linked_number l x) 0 x.object.symbols
 
 pub listed_at : (numbers : List (Vec ℕ Global)) (i : ℕ) (v : Vec ℕ Global) → i < length numbers → v ≡ get_or numbers i v → get_or (listed_numbers numbers) i [] ≡ v.items
 listed_at [] i v h is = absurd (omega arith)
@@ -263,8 +263,8 @@ symbol_read l table x numbers xs i d cur new total e exs h inv made =
     let is : s ≡ get_or x.object.symbols i d = ap (λ (ys : List Symbol). get_or ys i d) exs in
     let own : s ≡ get_or x.object.symbols i s = is ∙ get_or_default x.object.symbols i d s hs in
     let zero_first : 0 + i ≡ i = omega arith in
-    let n : get_or numbers i 0 ≡ symbol_number l x i s =
-    ap (λ (ns : List ℕ). get_or ns i 0) e ∙ (number_at (symbol_number l x) x.object.symbols i 0 s hs own ∙ ap (λ k. symbol_number l x k s) zero_first) in
+    let n : get_or numbers i 0 ≡ linked_number l x i s =
+    ap (λ (ns : List ℕ). get_or ns i 0) e ∙ (number_at (linked_number l x) x.object.symbols i 0 s hs own ∙ ap (λ k. linked_number l x k s) zero_first) in
     let whole : new ≡ cur ++ f i s = made ∙ ap (λ k. cur ++ symbol_text_if (has_line x.object i s) (symbol_text table k s.binding x.number (part x.object s.name))) n in
     piece_more cur new (f i s) rest total (ap (λ (ys : List Symbol). cur ++ text_at f i ys) (sym (here x.object.symbols i s d hs is)) ∙ inv) whole
 

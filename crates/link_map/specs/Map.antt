@@ -15,7 +15,7 @@ use Rattle.link_symbols.specs.declared.item.Item.{Item}
 use Rattle.linker.specs.Image.{linked_image}
 use Rattle.link_symbols.specs.CommonNames.{common_names}
 use Rattle.link_symbols.specs.Names.{count_sections}
-use Rattle.linker.specs.Numbers.{Linking, linking_of, end_in, symbol_number}
+use Rattle.linker.specs.Numbers.{Linking, linking_of, region_end, linked_number}
 use Rattle.link_symbols.specs.Parts.{is_loaded_head}
 use Rattle.link_symbols.specs.Passes.{NumberedObject, numbered_objects, part}
 use Rattle.linker.specs.Placement.{item_at, text_of, ram_of}
@@ -92,7 +92,7 @@ has_line o k s = nat_lt 0 k && not (length (part o s.name) == 0) && is_placed o 
 
 abbrev pub symbol_line : Linking → Table → NumberedObject → ℕ → Symbol → List ℕ
 symbol_line l table x k s = symbol_text_if (has_line x.object k s)
-    (symbol_text table (symbol_number l x k s) s.binding x.number (part x.object s.name))
+    (symbol_text table (linked_number l x k s) s.binding x.number (part x.object s.name))
 
 abbrev pub symbol_lines : Linking → Table → NumberedObject → List ℕ
 symbol_lines l table x = text_at (symbol_line l table x) 0 x.object.symbols
@@ -110,4 +110,4 @@ map_by l end image layout objects =
 
 -- the map of objects that link
 unfoldable pub map_text : LayoutValue → List ObjectValue → List ℕ
-map_text layout objects = map_by (linking_of layout objects) (end_in layout objects) (linked_image layout objects) layout objects
+map_text layout objects = map_by (linking_of layout objects) (region_end layout objects) (linked_image layout objects) layout objects

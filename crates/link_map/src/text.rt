@@ -8,7 +8,7 @@ ghost use Rattle.linker.specs.Image.{linked_image};
 ghost use Rattle.linker.specs.Linkage.{listed_numbers};
 ghost use Rattle.link_symbols.specs.CommonNames.{borrowed, common_names};
 ghost use Rattle.link_symbols.specs.Names.{count_sections};
-ghost use Rattle.linker.specs.Numbers.{linking_of, end_in, numbers_in};
+ghost use Rattle.linker.specs.Numbers.{linking_of, region_end, numbers_in};
 ghost use Rattle.link_symbols.specs.Resolved.{items_of};
 ghost use Rattle.link_symbols.specs.Passes.{numbered_objects, IsLinkFaultOf};
 ghost use Rattle.linker.specs.Refusals.{link_fault_of};
@@ -76,7 +76,7 @@ fn text_of<'a>(
     requires items { linkage.now.items.items ≡ items_of (layout_of layout.now) objects.now }
     requires addresses { slice_index linkage.now.addresses.items ≡ (linking_of (layout_of layout.now) objects.now).address }
     requires low { (k : ℕ) → slice_index linkage.now.addresses.items k ≤ 65536 }
-    requires ends { slice_index linkage.now.ends.items ≡ end_in (layout_of layout.now) objects.now }
+    requires ends { slice_index linkage.now.ends.items ≡ region_end (layout_of layout.now) objects.now }
     requires small { (r : ℕ) → slice_index linkage.now.ends.items r ≤ FIRST_VECTOR }
     requires regions { length linkage.now.ends.items ≡ 2 + 2 * length layout.now.modules.items }
     requires numbers { listed_numbers linkage.now.numbers.items

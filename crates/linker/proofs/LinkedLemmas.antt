@@ -6,8 +6,8 @@ use Rattle.image_text.specs.Image.{Image, IsImage}
 use Rattle.layout_file.specs.Sound.{IsLayout}
 use Rattle.layout_file.specs.Values.{LayoutValue}
 use Rattle.linker.specs.Laws.{AreBytes}
-use Rattle.linker.specs.Image.{Links, linked_image, linked_memory, linked_table, table_by, memory_by, blank_memory}
-use Rattle.linker.specs.Numbers.{linking_of, end_in}
+use Rattle.linker.specs.Image.{Links, linked_image, linked_memory, linked_table, booted_table, memory_by, blank_memory}
+use Rattle.linker.specs.Numbers.{linking_of, region_end}
 use Rattle.linker.specs.Placement.{starts_of, address_at}
 use Rattle.link_symbols.specs.Resolved.{items_of}
 use Rattle.linker.specs.Refusals.{link_fault_of, overfull}
@@ -30,11 +30,11 @@ each_placed layout os e = (both_none _ _ e).0
 all_placed : (layout : LayoutValue) (os : List ObjectValue) → link_fault_of layout os ≡ None → no_place layout.modules os ≡ None
 all_placed layout os e = each_placed layout os (both_none _ _ (sym (in_groups layout os) ∙ e)).0
 
-pub none_over : (layout : LayoutValue) (os : List ObjectValue) → link_fault_of layout os ≡ None → overfull layout (end_in layout os) ≡ None
+pub none_over : (layout : LayoutValue) (os : List ObjectValue) → link_fault_of layout os ≡ None → overfull layout (region_end layout os) ≡ None
 unfolding fill_fault
 none_over layout os e = (both_none _ _ (both_none _ _ (sym (in_groups layout os) ∙ e)).1).0
 
-pub memory_is : (layout : LayoutValue) (os : List ObjectValue) (image : Image) → Links layout os image → image.memory ≡ memory_by (linking_of layout os) (end_in layout os) layout os blank_memory
+pub memory_is : (layout : LayoutValue) (os : List ObjectValue) (image : Image) → Links layout os image → image.memory ≡ memory_by (linking_of layout os) (region_end layout os) layout os blank_memory
 unfolding linked_image linked_memory
 memory_is layout os image h = ap (λ (i : Image). i.memory) h.linked
 
@@ -42,7 +42,7 @@ pub linked_is_image : (layout : LayoutValue) (os : List ObjectValue) → IsLayou
     → link_fault_of layout os ≡ None → IsImage (linked_image layout os)
 unfolding linked_image linked_memory linked_table
 linked_is_image layout os s key are bytes e =
-    let end = end_in layout os in
+    let end = region_end layout os in
     let over = none_over layout os e in
     let kept = ends_kept layout os s over in
     let room = items_fit (starts_of layout) (items_of layout os) (2 + 2 * length layout.modules) (address_at (starts_of layout) (items_of layout os)) (items_are_in layout os) (starts_high layout s) kept (λ k. refl) in
@@ -60,7 +60,7 @@ linked_is_image layout os s key are bytes e =
       table_ok = made.0;
       numbered = made.1.numbered_from_1;
       all_held = made.1.all_held;
-      given_small = given_small (table_by end layout) made.0 made.1;
+      given_small = given_small (booted_table end layout) made.0 made.1;
       even_sp = s.even_handler_sp;
       small_sp = omega (arith, sp);
     }

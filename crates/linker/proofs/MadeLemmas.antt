@@ -11,7 +11,7 @@ use Rattle.layout_file.specs.Values.{ModuleValue, LayoutValue}
 use Rattle.link_symbols.specs.Passes.{fold_at}
 use Rattle.linker.specs.Placement.{text_of, ram_of}
 use Rattle.linker.specs.internal.Tables.{AllHeld}
-use Rattle.linker.specs.Image.{with_boot, with_boots, table_by}
+use Rattle.linker.specs.Image.{with_boot, with_boots, booted_table}
 use Rattle.linker.specs.internal.Tables.{spec_at, some_spec, Drawn, TableFits}
 use Rattle.linker.proofs.ImageLemmas.{held_more, fold_range_more}
 use Rattle.linker.proofs.TableLemmas.{taken, more_by, drawn_next, none_lower, room_by}
@@ -98,5 +98,5 @@ module _ (end : ℕ → ℕ) (layout : LayoutValue) (s : IsLayout layout) (fits 
       subst (λ (k : ℕ). Made k 0 (fold (with_boots end ms) (empty_table layout.room) (range_with_len 1 k))) up
       (subst (Made (n + 1) 0) (sym (fold_range_more (with_boots end ms) (empty_table layout.room) n)) (next_boot n _ (omega arith) (boots n (omega arith))))
 
-  pub table_made : IsTable (table_by end layout) × AllHeld (table_by end layout)
+  pub table_made : IsTable (booted_table end layout) × AllHeld (booted_table end layout)
   table_made = let m = boots layout.room (omega arith) in (m.is, m.held)

@@ -6,11 +6,11 @@ use Rattle.link_symbols.specs.declared.symbol.Meaning.{Meaning}
 use Rattle.link_symbols.specs.Passes.{map_at, NumberedObject, numbered_objects_from}
 use Rattle.link_symbols.specs.Resolved.{meaning_at, meanings_in}
 use Rattle.link_symbols.proofs.Steps.{numbered_step}
-use Rattle.linker.specs.Numbers.{Linking, number_or_zero, symbol_number, numbers_in}
+use Rattle.linker.specs.Numbers.{Linking, number_or_zero, linked_number, numbers_in}
 
-pub numbers_are : (l : Linking) (x : NumberedObject) (i : ℕ) (ss : List Symbol) → map (number_or_zero l.address) (map_at (meaning_at l.names x) i ss) ≡ map_at (symbol_number l x) i ss
+pub numbers_are : (l : Linking) (x : NumberedObject) (i : ℕ) (ss : List Symbol) → map (number_or_zero l.address) (map_at (meaning_at l.names x) i ss) ≡ map_at (linked_number l x) i ss
 numbers_are l x i [] = refl
-numbers_are l x i (s ∷ ss) = ap (λ t. symbol_number l x i s ∷ t) (numbers_are l x (i + 1) ss)
+numbers_are l x i (s ∷ ss) = ap (λ t. linked_number l x i s ∷ t) (numbers_are l x (i + 1) ss)
 
 -- ---- one object of all
 

@@ -6,7 +6,7 @@ use Rattle.layout_file.specs.Values.{LayoutValue}
 use Rattle.link_symbols.specs.Passes.{or_else, numbered_objects, first_in}
 use Rattle.link_symbols.specs.Refusals.{unresolved}
 use Rattle.link_symbols.proofs.Steps.{or_else_none}
-use Rattle.linker.specs.Numbers.{linking_of, end_in}
+use Rattle.linker.specs.Numbers.{linking_of, region_end}
 use Rattle.linker.specs.Fields.{reloc_fault_in}
 use Rattle.linker.specs.Refusals.{overfull, link_fault_of}
 use Rattle.linker.specs.internal.Groups.{fill_fault}
@@ -17,6 +17,6 @@ grouped None (Some x) c = refl
 grouped None None c = or_else_none c
 
 pub in_groups : (layout : LayoutValue) (os : List ObjectValue) →
-    link_fault_of layout os ≡ or_else (unresolved layout os) (fill_fault (end_in layout os) (linking_of layout os) layout os)
+    link_fault_of layout os ≡ or_else (unresolved layout os) (fill_fault (region_end layout os) (linking_of layout os) layout os)
 unfolding link_fault_of fill_fault
-in_groups layout os = grouped (unresolved layout os) (overfull layout (end_in layout os)) (first_in (reloc_fault_in (linking_of layout os)) (numbered_objects os))
+in_groups layout os = grouped (unresolved layout os) (overfull layout (region_end layout os)) (first_in (reloc_fault_in (linking_of layout os)) (numbered_objects os))

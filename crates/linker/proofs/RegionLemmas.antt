@@ -17,7 +17,7 @@ use Rattle.link_symbols.specs.Symbols.{named_symbols}
 use Rattle.linker.specs.internal.Placed.{AreIn, IsInBy}
 use Rattle.link_symbols.specs.Resolved.{items_of}
 use Rattle.linker.specs.Placement.{starts_of, module_starts}
-use Rattle.linker.specs.Numbers.{end_in}
+use Rattle.linker.specs.Numbers.{region_end}
 use Rattle.linker.specs.Refusals.{overfull}
 use Rattle.linker.proofs.BoundLemmas.{ends_within}
 use Rattle.linker.proofs.ImageLemmas.{common_in}
@@ -82,17 +82,17 @@ pub starts_count : (layout : LayoutValue) → length (starts_of layout) ≡ 2 + 
 unfolding starts_of
 starts_count layout = omega (arith, starts_more layout.modules)
 
-pub ends_kept : (layout : LayoutValue) (os : List ObjectValue) → IsLayout layout → overfull layout (end_in layout os) ≡ None → (r : ℕ) → r < 2 + 2 * length layout.modules → end_in layout os r ≤ 65504
+pub ends_kept : (layout : LayoutValue) (os : List ObjectValue) → IsLayout layout → overfull layout (region_end layout os) ≡ None → (r : ℕ) → r < 2 + 2 * length layout.modules → region_end layout os r ≤ 65504
 ends_kept layout os s e =
-    ends_within layout (end_in layout os) e s.text_region.below_vectors s.ram_region.below_vectors
+    ends_within layout (region_end layout os) e s.text_region.below_vectors s.ram_region.below_vectors
     (λ k d l. ((s.modules_kept k d l).text_region.below_vectors, (s.modules_kept k d l).ram_region.below_vectors))
 
-end_by : (layout : LayoutValue) (os : List ObjectValue) → IsLayout layout → overfull layout (end_in layout os) ≡ None → (r : ℕ) → (r < 2 + 2 * length layout.modules) ⊎ (2 + 2 * length layout.modules ≤ r) → end_in layout os r ≤ 65504
+end_by : (layout : LayoutValue) (os : List ObjectValue) → IsLayout layout → overfull layout (region_end layout os) ≡ None → (r : ℕ) → (r < 2 + 2 * length layout.modules) ⊎ (2 + 2 * length layout.modules ≤ r) → region_end layout os r ≤ 65504
 end_by layout os s e r (inl l) = ends_kept layout os s e r l
 end_by layout os s e r (inr l) =
     let none = start_none (starts_of layout) (items_of layout os) (2 + 2 * length layout.modules) r 3 (items_are_in layout os) (omega (arith, starts_count layout)) l in
     let w = filled_is (starts_of layout) (items_of layout os) r in
     omega (arith, none, w)
 
-pub ends_low : (layout : LayoutValue) (os : List ObjectValue) → IsLayout layout → overfull layout (end_in layout os) ≡ None → (r : ℕ) → end_in layout os r ≤ 65504
+pub ends_low : (layout : LayoutValue) (os : List ObjectValue) → IsLayout layout → overfull layout (region_end layout os) ≡ None → (r : ℕ) → region_end layout os r ≤ 65504
 ends_low layout os s e r = end_by layout os s e r (cases_lt r (2 + 2 * length layout.modules))

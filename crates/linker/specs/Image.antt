@@ -7,7 +7,7 @@ use Rattle.mod_layout.specs.Table.{Table, with_module, empty_table}
 use Rattle.image_text.specs.Image.{Image}
 use Rattle.link_symbols.specs.Passes.{fold_at, numbered_objects}
 use Rattle.linker.specs.Placement.{text_of, ram_of}
-use Rattle.linker.specs.Numbers.{Linking, linking_of, end_in}
+use Rattle.linker.specs.Numbers.{Linking, linking_of, region_end}
 use Rattle.linker.specs.Refusals.{link_fault_of}
 use Rattle.linker.specs.Sections.{put_sections}
 use Rattle.linker.specs.Fields.{put_fields}
@@ -25,7 +25,7 @@ unfoldable pub blank_memory : List ℕ
 blank_memory = replicate 65536 0
 
 unfoldable pub linked_memory : LayoutValue → List ObjectValue → List ℕ
-linked_memory layout objects = memory_by (linking_of layout objects) (end_in layout objects) layout objects blank_memory
+linked_memory layout objects = memory_by (linking_of layout objects) (region_end layout objects) layout objects blank_memory
 
 -- a module with this boot is protected
 abbrev pub with_boot : (ℕ → ℕ) → ℕ → Table → ℕ → ModuleValue → Table
@@ -34,12 +34,12 @@ with_boot end boot t i m = if m.boot == boot then with_module t m.vendor (text_o
 abbrev pub with_boots : (ℕ → ℕ) → List ModuleValue → Table → ℕ → Table
 with_boots end modules t boot = fold_at (with_boot end boot) t 0 modules
 
-abbrev pub table_by : (ℕ → ℕ) → LayoutValue → Table
-table_by end layout = fold (with_boots end layout.modules) (empty_table layout.room) (range_with_len 1 layout.room)
+abbrev pub booted_table : (ℕ → ℕ) → LayoutValue → Table
+booted_table end layout = fold (with_boots end layout.modules) (empty_table layout.room) (range_with_len 1 layout.room)
 
 -- modules get ids from 1 in rising boot, in a table of the layout's room
 unfoldable pub linked_table : LayoutValue → List ObjectValue → Table
-linked_table layout objects = table_by (end_in layout objects) layout
+linked_table layout objects = booted_table (region_end layout objects) layout
 
 -- the image that objects link to
 unfoldable pub linked_image : LayoutValue → List ObjectValue → Image

@@ -29,12 +29,12 @@ abbrev pub linking_of : LayoutValue → List ObjectValue → Linking
 linking_of layout objects = record { names = stands_for objects; address = address_at (starts_of layout) (items_of layout objects) }
 
 -- where the contents of each region end
-abbrev pub end_in : LayoutValue → List ObjectValue → ℕ → ℕ
-end_in layout objects = filled_end (starts_of layout) (items_of layout objects)
+abbrev pub region_end : LayoutValue → List ObjectValue → ℕ → ℕ
+region_end layout objects = filled_end (starts_of layout) (items_of layout objects)
 
 -- the number of a symbol of an object
-abbrev pub symbol_number : Linking → NumberedObject → ℕ → Symbol → ℕ
-symbol_number l x k s = number_or_zero l.address (symbol_meaning l.names (named_symbol x k s))
+abbrev pub linked_number : Linking → NumberedObject → ℕ → Symbol → ℕ
+linked_number l x k s = number_or_zero l.address (symbol_meaning l.names (named_symbol x k s))
 
 abbrev pub numbers_in : Linking → NumberedObject → List ℕ
-numbers_in l x = map_at (symbol_number l x) 0 x.object.symbols
+numbers_in l x = map_at (linked_number l x) 0 x.object.symbols

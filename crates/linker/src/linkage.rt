@@ -10,7 +10,7 @@ ghost use Rattle.link_symbols.specs.Refusals.{no_place};
 ghost use Rattle.link_symbols.specs.Resolved.{items_of};
 ghost use Rattle.linker.specs.Image.{Links, linked_image};
 ghost use Rattle.linker.specs.Linkage.{listed_numbers};
-ghost use Rattle.linker.specs.Numbers.{linking_of, end_in, numbers_in};
+ghost use Rattle.linker.specs.Numbers.{linking_of, region_end, numbers_in};
 ghost use Rattle.linker.specs.Refusals.{link_fault_of};
 ghost use Rattle.linker.specs.Room.{IsSmall};
 ghost use Rattle.linker.specs.internal.Groups.{fill_fault};
@@ -114,15 +114,15 @@ fn linkage_by<'a>(
     ensures addresses { IfOk result (λ w. slice_index w.addresses.items
         ≡ (linking_of (layout_of layout.entry.now) objects.entry.now).address) }
     ensures low { IfOk result (λ w. (k : ℕ) → slice_index w.addresses.items k ≤ 65536) }
-    ensures ends { IfOk result (λ w. slice_index w.ends.items ≡ end_in (layout_of layout.entry.now) objects.entry.now) }
+    ensures ends { IfOk result (λ w. slice_index w.ends.items ≡ region_end (layout_of layout.entry.now) objects.entry.now) }
     ensures small { IfOk result (λ w. (r : ℕ) → slice_index w.ends.items r ≤ FIRST_VECTOR) }
     ensures regions { IfOk result (λ w. length w.ends.items ≡ 2 + 2 * length layout.entry.now.modules.items) }
     ensures numbers { IfOk result (λ w. listed_numbers w.numbers.items
         ≡ map (numbers_in (linking_of (layout_of layout.entry.now) objects.entry.now)) (numbered_objects objects.entry.now)) }
     ensures commons { IfOk result (λ w. borrowed w.commons.items ≡ common_names objects.entry.now) }
-    ensures sound { OnOk result (fill_fault (end_in (layout_of layout.entry.now) objects.entry.now) (linking_of
+    ensures sound { OnOk result (fill_fault (region_end (layout_of layout.entry.now) objects.entry.now) (linking_of
         (layout_of layout.entry.now) objects.entry.now) (layout_of layout.entry.now) objects.entry.now ≡ None) }
-    ensures refusal { IfErr result (IsLinkFaultOf (fill_fault (end_in (layout_of layout.entry.now)
+    ensures refusal { IfErr result (IsLinkFaultOf (fill_fault (region_end (layout_of layout.entry.now)
         objects.entry.now) (linking_of (layout_of layout.entry.now) objects.entry.now) (layout_of
         layout.entry.now) objects.entry.now)) }
 {
@@ -154,7 +154,7 @@ pub fn linkage_of<'a>(
     ensures addresses { IfOk result (λ w. slice_index w.addresses.items
         ≡ (linking_of (layout_of layout.entry.now) objects.entry.now).address) }
     ensures low { IfOk result (λ w. (k : ℕ) → slice_index w.addresses.items k ≤ 65536) }
-    ensures ends { IfOk result (λ w. slice_index w.ends.items ≡ end_in (layout_of layout.entry.now) objects.entry.now) }
+    ensures ends { IfOk result (λ w. slice_index w.ends.items ≡ region_end (layout_of layout.entry.now) objects.entry.now) }
     ensures small { IfOk result (λ w. (r : ℕ) → slice_index w.ends.items r ≤ FIRST_VECTOR) }
     ensures regions { IfOk result (λ w. length w.ends.items ≡ 2 + 2 * length layout.entry.now.modules.items) }
     ensures numbers { IfOk result (λ w. listed_numbers w.numbers.items

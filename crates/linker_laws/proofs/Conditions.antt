@@ -27,7 +27,7 @@ use Rattle.link_symbols.specs.Symbols.{named_symbol, named_symbols}
 use Rattle.link_symbols.specs.Names.{stands_for, symbol_meaning}
 use Rattle.link_symbols.specs.Resolved.{items_of}
 use Rattle.linker.specs.Placement.{item_at, text_of, ram_of}
-use Rattle.linker.specs.Numbers.{Linking, linking_of, numbers_in, end_in}
+use Rattle.linker.specs.Numbers.{Linking, linking_of, numbers_in, region_end}
 use Rattle.linker.specs.Fields.{target_address, target_size, symbol_sum, reloc_fault, reloc_fault_by, reloc_fault_in}
 use Rattle.link_symbols.specs.Refusals.{no_place, no_place_at, no_place_in, is_used, undefined, undefined_at, undefined_in, no_vector, no_vector_at, no_entry, no_entry_at, no_entry_in, is_code_of, is_module_entry, is_entry_in, elsewhere, elsewhere_at, elsewhere_in, unresolved}
 use Rattle.linker.specs.Refusals.{overfull, overfull_at, overfull_in, link_fault_of}
@@ -342,7 +342,7 @@ can_link layout objects e =
       used_stand = used_stand names objects c.0;
       vectors_stand = vectors names layout.vectors d.0;
       entries_stand = entries names (items_of layout objects) layout.modules g.0;
-      contents_fit = contents layout (end_in layout objects) h.0;
+      contents_fit = contents layout (region_end layout objects) h.0;
       relocations_apply = relocations (linking_of layout objects) objects (both_none _ _ h.1).0;
     }
 
@@ -358,7 +358,7 @@ links layout objects h =
     (or_none _ _ (not_vectors names layout.vectors h.vectors_stand)
     (or_none _ _ (no_entry_if names (items_of layout objects) layout.modules h.entries_stand)
     (or_none _ _ (not_elsewhere names (items_of layout objects) layout.modules h.entries_stand) refl))))))
-    (or_none _ _ (not_overfull layout (end_in layout objects) h.contents_fit)
+    (or_none _ _ (not_overfull layout (region_end layout objects) h.contents_fit)
     (or_none _ _ (not_relocations (linking_of layout objects) objects h.relocations_apply) refl))
 
 pub links_exactly : LinksExactly

@@ -25,9 +25,9 @@ use Rattle.link_symbols.specs.declared.item.Part.{Part}
 use Rattle.link_symbols.specs.Passes.{NumberedObject, numbered_objects, part, fold_at}
 use Rattle.link_symbols.specs.Parts.{is_loaded_head, item_of, part_of}
 use Rattle.link_symbols.specs.Resolved.{items_of}
-use Rattle.linker.specs.Placement.{item_at, starts_of, address_at, stub_size, text_of}
-use Rattle.linker.specs.Numbers.{Linking, linking_of, numbers_in, end_in}
-use Rattle.linker.specs.Bytes.{bytes_at, word_bytes}
+use Rattle.linker.specs.Placement.{item_at, starts_of, address_at, module_stub_size, text_of}
+use Rattle.linker.specs.Numbers.{Linking, linking_of, numbers_in, region_end}
+use Rattle.linker.specs.Bytes.{memory_part, word_bytes}
 use Rattle.linker.specs.Sections.{put_sections}
 use Rattle.linker.specs.Fields.{put_fields, target_size, target_address, symbol_sum}
 use Rattle.linker.specs.Stubs.{word_named, stub_of, put_stub, put_vector}
@@ -83,7 +83,7 @@ module _ (layout : LayoutValue) (objects : List ObjectValue) (kept : IsLayout la
   l = linking_of layout objects
 
   abbrev end : ℕ → ℕ
-  end = end_in layout objects
+  end = region_end layout objects
 
   abbrev xs : List NumberedObject
   xs = numbered_objects objects
@@ -264,17 +264,17 @@ module _ (layout : LayoutValue) (objects : List ObjectValue) (kept : IsLayout la
   whole_long = words.vectors_long l with_stubs layout.vectors kept.vectors_kept.below_16 stubs_long
 
   -- outside the stubs and the vectors, fields are the last
-  words_keep : (a : ℕ) → All (λ m. Out m.text.start (stub_size m) a) layout.modules →
+  words_keep : (a : ℕ) → All (λ m. Out m.text.start (module_stub_size m) a) layout.modules →
       All (λ v. Out (words.start l v) 2 a) layout.vectors → slice_index whole a ≡ slice_index with_fields a
   words_keep a stubs vectors = words.vectors_keep l with_stubs layout.vectors a kept.vectors_kept.below_16 stubs_long vectors ∙ words.stubs_keep l end with_fields 0 layout.modules a starts_low fields_long stubs
 
   -- an address in an item is outside stubs and vectors
   item_stubs : (k : ℕ) (p : Part) (a : ℕ) → (item_at items k).part ≡ Some p → holds (item_span k) a ≡ true →
-      All (λ m. Out m.text.start (stub_size m) a) layout.modules
+      All (λ m. Out m.text.start (module_stub_size m) a) layout.modules
   item_stubs k p a f h i d b =
       let m = get_or layout.modules i d in
       let x = lies_at layout objects k p f in
-      apart_out (item_span k) m.text.start (stub_size m) a (lie_apart layout objects kept e (an_item k) (a_stub i) _ _ _ _ x.1 (stub_lies i m (gets layout.modules i d b)) (λ z. let c : an_item k ≡ a_stub i = z in cc)) h
+      apart_out (item_span k) m.text.start (module_stub_size m) a (lie_apart layout objects kept e (an_item k) (a_stub i) _ _ _ _ x.1 (stub_lies i m (gets layout.modules i d b)) (λ z. let c : an_item k ≡ a_stub i = z in cc)) h
 
   item_vectors : (k : ℕ) (p : Part) (a : ℕ) → (item_at items k).part ≡ Some p → holds (item_span k) a ≡ true →
       All (λ v. Out (words.start l v) 2 a) layout.vectors
@@ -402,24 +402,24 @@ module _ (layout : LayoutValue) (objects : List ObjectValue) (kept : IsLayout la
 
   -- ---- stubs
 
-  stub_byte : (i n : ℕ) (m : ModuleValue) → slice_get layout.modules i ≡ Some m → n < stub_size m →
+  stub_byte : (i n : ℕ) (m : ModuleValue) → slice_get layout.modules i ≡ Some m → n < module_stub_size m →
       slice_index whole (m.text.start + n) ≡ slice_index (words.bytes_of l end i m) n
   stub_byte i n m f b =
       words.vectors_keep l with_stubs layout.vectors (m.text.start + n) kept.vectors_kept.below_16 stubs_long (λ k v h.
       let low_v = kept.vectors_kept.below_16 k v h in
       out_within 65504 32 (words.start l (get_or layout.vectors k v)) 2 (m.text.start + n) (omega arith) (omega (arith, low_v))
-      (apart_out (span m.text.start (stub_size m)) 65504 32 (m.text.start + n) (lie_apart layout objects kept e (a_stub i) the_vectors _ _ _ _ (stub_lies i m f) vectors_lie (λ z. let c : a_stub i ≡ the_vectors = z in cc)) held))
+      (apart_out (span m.text.start (module_stub_size m)) 65504 32 (m.text.start + n) (lie_apart layout objects kept e (a_stub i) the_vectors _ _ _ _ (stub_lies i m f) vectors_lie (λ z. let c : a_stub i ≡ the_vectors = z in cc)) held))
       ∙ (words.stubs_set l end with_fields 0 layout.modules i n m starts_low fields_long g.0 g.1 b (λ j d h w.
       let o = get_or layout.modules j d in
-      apart_out (span m.text.start (stub_size m)) o.text.start (stub_size o) (m.text.start + n)
+      apart_out (span m.text.start (module_stub_size m)) o.text.start (module_stub_size o) (m.text.start + n)
       (lie_apart layout objects kept e (a_stub i) (a_stub j) _ _ _ _ (stub_lies i m f) (stub_lies j o (gets layout.modules j d w)) (λ z. let q = ap index z in absurd (omega (arith, q, h)))) held)
       ∙ ap (λ (k : ℕ). slice_index (words.bytes_of l end k m) n) (let z : 0 + i ≡ i = omega arith in z))
     where
       g : (i < length layout.modules) × ((d : ModuleValue) → get_or layout.modules i d ≡ m)
       g = got layout.modules i m f
 
-      held : holds (span m.text.start (stub_size m)) (m.text.start + n) ≡ true
-      held = among m.text.start (stub_size m) n b
+      held : holds (span m.text.start (module_stub_size m)) (m.text.start + n) ≡ true
+      held = among m.text.start (module_stub_size m) n b
 
       index : Piece → ℕ
       index (an_item k) = 0
@@ -427,7 +427,7 @@ module _ (layout : LayoutValue) (objects : List ObjectValue) (kept : IsLayout la
       index (a_stack k) = 0
       index the_vectors = 0
 
-  stub_high : (i : ℕ) (m : ModuleValue) → slice_get layout.modules i ≡ Some m → m.text.start + stub_size m ≤ 65504
+  stub_high : (i : ℕ) (m : ModuleValue) → slice_get layout.modules i ≡ Some m → m.text.start + module_stub_size m ≤ 65504
   stub_high i m f =
       let a = (lies_inside layout objects kept e (a_stub i) _ _ (stub_lies i m f)).end in
       let g = got layout.modules i m f in
@@ -436,15 +436,15 @@ module _ (layout : LayoutValue) (objects : List ObjectValue) (kept : IsLayout la
       omega (arith, a, b, q)
 
   bytes_same : (start count : ℕ) (bytes : List ℕ) → start + count ≤ 65536 → length bytes ≡ count →
-      ((n : ℕ) → n < count → slice_index whole (start + n) ≡ slice_index bytes n) → bytes_at whole start count ≡ bytes
+      ((n : ℕ) → n < count → slice_index whole (start + n) ≡ slice_index bytes n) → memory_part whole start count ≡ bytes
   bytes_same start count bytes fit long each =
       let long_whole = whole_long in
       let n = size_at whole start count (omega (arith, long_whole)) in
-      ext_get_or 0 (bytes_at whole start count) bytes (n ∙ sym long) (λ i h. let b : i < count = omega (arith, n, h) in read_at whole start count i b ∙ each i b)
+      ext_get_or 0 (memory_part whole start count) bytes (n ∙ sym long) (λ i h. let b : i < count = omega (arith, n, h) in read_at whole start count i b ∙ each i b)
 
   stub_bytes : (i : ℕ) (m : ModuleValue) → slice_get layout.modules i ≡ Some m →
-      bytes_at whole m.text.start (stub_size m) ≡ words.bytes_of l end i m
-  stub_bytes i m f = let h = stub_high i m f in bytes_same m.text.start (stub_size m) (words.bytes_of l end i m) (omega (arith, h)) (words.stub_length l end i m) (λ n b. stub_byte i n m f b)
+      memory_part whole m.text.start (module_stub_size m) ≡ words.bytes_of l end i m
+  stub_bytes i m f = let h = stub_high i m f in bytes_same m.text.start (module_stub_size m) (words.bytes_of l end i m) (omega (arith, h)) (words.stub_length l end i m) (λ n b. stub_byte i n m f b)
 
   -- the word of an entry in the stub
   table_word : (i k : ℕ) (m : ModuleValue) (name : List ℕ) → slice_get m.entries k ≡ Some name →
@@ -458,7 +458,7 @@ module _ (layout : LayoutValue) (objects : List ObjectValue) (kept : IsLayout la
 
   table_words : (i k : ℕ) (m : ModuleValue) (name : List ℕ) → slice_get layout.modules i ≡ Some m →
       slice_get m.entries k ≡ Some name →
-      bytes_at whole (m.text.start + 76 + 2 * k) 2 ≡ word_bytes (word_named l name)
+      memory_part whole (m.text.start + 76 + 2 * k) 2 ≡ word_bytes (word_named l name)
   table_words i k m name f g =
       let h = got m.entries k name g in
       let high = stub_high i m f in
@@ -474,7 +474,7 @@ module _ (layout : LayoutValue) (objects : List ObjectValue) (kept : IsLayout la
   -- ---- vectors
 
   vector_words : (k : ℕ) (v : VectorValue) → slice_get layout.vectors k ≡ Some v →
-      bytes_at whole (65504 + 2 * v.vector) 2 ≡ word_bytes (word_named l v.name)
+      memory_part whole (65504 + 2 * v.vector) 2 ≡ word_bytes (word_named l v.name)
   vector_words k v f =
       let g = got layout.vectors k v f in
       let low_v = kept.vectors_kept.below_16 k v g.0 in
@@ -490,7 +490,7 @@ module _ (layout : LayoutValue) (objects : List ObjectValue) (kept : IsLayout la
   zero_elsewhere : (a : ℕ) → (IsGiven layout objects a → ⊥) → slice_index whole a ≡ 0
   zero_elsewhere a none =
       words_keep a
-      (λ i d h. let m = get_or layout.modules i d in outside m.text.start (stub_size m) a (by_bool _ (λ t. none (by_stub i m (gets layout.modules i d h) t))))
+      (λ i d h. let m = get_or layout.modules i d in outside m.text.start (module_stub_size m) a (by_bool _ (λ t. none (by_stub i m (gets layout.modules i d h) t))))
       (λ i d h. let v = get_or layout.vectors i d in outside (words.start l v) 2 a (by_bool _ (λ t. none (by_vector i v (gets layout.vectors i d h) t))))
       ∙ (fields.objects_keep l low xs with_sections a sections_long good (λ n d h. clear_of n d a h (λ j s g. away (get_or xs n d) j s g))
       ∙ (sections.objects_keep address low xs blank_memory a zeros_long (λ n d h j s b t. away (get_or xs n d) j (get_or (get_or xs n d).object.sections j s) (loaded_at n j d s h b t))
@@ -504,7 +504,7 @@ module _ (layout : LayoutValue) (objects : List ObjectValue) (kept : IsLayout la
 
 of_image : (layout : LayoutValue) (objects : List ObjectValue) (image : Image) (P : List ℕ → Type 0) →
     Links layout objects image →
-    P (memory_by (linking_of layout objects) (end_in layout objects) layout objects blank_memory) → P image.memory
+    P (memory_by (linking_of layout objects) (region_end layout objects) layout objects blank_memory) → P image.memory
 of_image layout objects image P links h = subst P (sym (memory_is layout objects image links)) h
 
 pub section_bytes_law : SectionBytes
@@ -519,15 +519,15 @@ field_numbers_law layout objects image i n j x r f g apart =
 
 pub stub_bytes_law : StubBytes
 stub_bytes_law layout objects image i k m f =
-    of_image layout objects image (λ c. bytes_at c m.text.start (stub_size m) ≡ flat_map word_bytes (stub_of (linking_of layout objects) (end_in layout objects) k m)) i.links (stub_bytes layout objects i.layout_kept i.objects_kept i.links.unrefused k m f)
+    of_image layout objects image (λ c. memory_part c m.text.start (module_stub_size m) ≡ flat_map word_bytes (stub_of (linking_of layout objects) (region_end layout objects) k m)) i.links (stub_bytes layout objects i.layout_kept i.objects_kept i.links.unrefused k m f)
 
 pub table_words_law : TableWords
 table_words_law layout objects image i j k m name f g =
-    of_image layout objects image (λ c. bytes_at c (m.text.start + 76 + 2 * k) 2 ≡ word_bytes (word_named (linking_of layout objects) name)) i.links (table_words layout objects i.layout_kept i.objects_kept i.links.unrefused j k m name f g)
+    of_image layout objects image (λ c. memory_part c (m.text.start + 76 + 2 * k) 2 ≡ word_bytes (word_named (linking_of layout objects) name)) i.links (table_words layout objects i.layout_kept i.objects_kept i.links.unrefused j k m name f g)
 
 pub vector_words_law : VectorWords
 vector_words_law layout objects image i k v f =
-    of_image layout objects image (λ c. bytes_at c (65504 + 2 * v.vector) 2 ≡ word_bytes (word_named (linking_of layout objects) v.name)) i.links (vector_words layout objects i.layout_kept i.objects_kept i.links.unrefused k v f)
+    of_image layout objects image (λ c. memory_part c (65504 + 2 * v.vector) 2 ≡ word_bytes (word_named (linking_of layout objects) v.name)) i.links (vector_words layout objects i.layout_kept i.objects_kept i.links.unrefused k v f)
 
 pub zero_elsewhere_law : ZeroElsewhere
 zero_elsewhere_law layout objects image i a none = of_image layout objects image (λ m. slice_index m a ≡ 0) i.links (zero_elsewhere layout objects i.layout_kept i.objects_kept i.links.unrefused a none)

@@ -13,8 +13,8 @@ use Rattle.layout_file.specs.Values.{ModuleValue, LayoutValue, regions, regions_
 use Rattle.link_symbols.specs.declared.item.Item.{Item}
 use Rattle.link_symbols.specs.declared.item.Part.{Part}
 use Rattle.link_symbols.specs.Resolved.{items_of}
-use Rattle.linker.specs.Placement.{item_at, starts_of, address_at, stub_size, round_up}
-use Rattle.linker.specs.Numbers.{end_in}
+use Rattle.linker.specs.Placement.{item_at, starts_of, address_at, module_stub_size, round_up}
+use Rattle.linker.specs.Numbers.{region_end}
 use Rattle.linker.proofs.BoundLemmas.{round_up_above, region_by}
 use Rattle.linker.proofs.FitLemmas.{text_starts, ram_starts, first_two}
 use Rattle.linker.proofs.TableLemmas.{regions_count}
@@ -72,8 +72,8 @@ ram_region : (layout : LayoutValue) (i : ℕ) → region_at layout (3 + 2 * i) �
 ram_region layout i = let q : 3 + 2 * i ≡ suc (suc (suc (i + i))) = omega arith in ap (region_at layout) q ∙ region_odd layout.modules i
 
 pub text_start : (layout : LayoutValue) (i : ℕ) (m : ModuleValue) → slice_get layout.modules i ≡ Some m →
-    slice_index (starts_of layout) (2 + 2 * i) ≡ m.text.start + stub_size m
-text_start layout i m e = let g = got layout.modules i m e in text_starts layout i m g.0 ∙ ap (λ (x : ModuleValue). x.text.start + stub_size x) (g.1 m)
+    slice_index (starts_of layout) (2 + 2 * i) ≡ m.text.start + module_stub_size m
+text_start layout i m e = let g = got layout.modules i m e in text_starts layout i m g.0 ∙ ap (λ (x : ModuleValue). x.text.start + module_stub_size x) (g.1 m)
 
 ram_start : (layout : LayoutValue) (i : ℕ) (m : ModuleValue) → slice_get layout.modules i ≡ Some m →
     slice_index (starts_of layout) (3 + 2 * i) ≡ m.ram.start + 4 + m.stack
@@ -82,20 +82,20 @@ ram_start layout i m e = let g = got layout.modules i m e in ram_starts layout i
 -- a region has room for its contents, and ends below the vectors
 pub record Bounded (layout : LayoutValue) (objects : List ObjectValue) (n : ℕ) (r : Section) : Type 0 where
   pub low : r.start ≤ slice_index (starts_of layout) n
-  pub high : end_in layout objects n ≤ r.end
+  pub high : region_end layout objects n ≤ r.end
   pub below : r.end ≤ 65504
   pub above : 512 ≤ r.start
 
-module _ (layout : LayoutValue) (objects : List ObjectValue) (s : IsLayout layout) (fit : ContentsFit layout (end_in layout objects)) where
+module _ (layout : LayoutValue) (objects : List ObjectValue) (s : IsLayout layout) (fit : ContentsFit layout (region_end layout objects)) where
   pub text_bounded : (i : ℕ) (m : ModuleValue) → slice_get layout.modules i ≡ Some m →
       Bounded layout objects (2 + 2 * i) m.text
   text_bounded i m e =
       let g = got layout.modules i m e in
       let b = text_start layout i m e in
-      let h : round_up 2 (end_in layout objects (2 + 2 * i)) ≤ (get_or layout.modules i m).text.end = fit.module_text i m g.0 in
+      let h : round_up 2 (region_end layout objects (2 + 2 * i)) ≤ (get_or layout.modules i m).text.end = fit.module_text i m g.0 in
       let t = ap (λ (x : ModuleValue). x.text.end) (g.1 m) in
       let f = ap (λ (x : ModuleValue). x.text.start) (g.1 m) in
-      let u = round_up_above 2 (end_in layout objects (2 + 2 * i)) (omega arith) in
+      let u = round_up_above 2 (region_end layout objects (2 + 2 * i)) (omega arith) in
       let k = (s.modules_kept i m g.0).text_region in
       let v = k.below_vectors in let w = k.above_devices in
       record { low = omega (arith, b); high = omega (arith, h, t, u); below = omega (arith, v, t); above = omega (arith, w, f) }
@@ -105,10 +105,10 @@ module _ (layout : LayoutValue) (objects : List ObjectValue) (s : IsLayout layou
   ram_bounded i m e =
       let g = got layout.modules i m e in
       let b = ram_start layout i m e in
-      let h : round_up 2 (end_in layout objects (3 + 2 * i)) ≤ (get_or layout.modules i m).ram.end = fit.module_ram i m g.0 in
+      let h : round_up 2 (region_end layout objects (3 + 2 * i)) ≤ (get_or layout.modules i m).ram.end = fit.module_ram i m g.0 in
       let t = ap (λ (x : ModuleValue). x.ram.end) (g.1 m) in
       let f = ap (λ (x : ModuleValue). x.ram.start) (g.1 m) in
-      let u = round_up_above 2 (end_in layout objects (3 + 2 * i)) (omega arith) in
+      let u = round_up_above 2 (region_end layout objects (3 + 2 * i)) (omega arith) in
       let k = (s.modules_kept i m g.0).ram_region in
       let v = k.below_vectors in let w = k.above_devices in
       record { low = omega (arith, b); high = omega (arith, h, t, u); below = omega (arith, v, t); above = omega (arith, w, f) }
@@ -171,7 +171,7 @@ module _ (layout : LayoutValue) (objects : List ObjectValue) (s : IsLayout layou
       record { region = f; inside = record { start = omega (arith, u, l); end = omega (arith, v, h) } }
 
   pub stub_sits : (i : ℕ) (m : ModuleValue) → slice_get layout.modules i ≡ Some m →
-      Sits (2 + 2 * i) (span m.text.start (stub_size m)) m.text
+      Sits (2 + 2 * i) (span m.text.start (module_stub_size m)) m.text
   stub_sits i m e =
       let h = (text_bounded i m e).high in
       let b = text_start layout i m e in
@@ -227,10 +227,10 @@ module _ (layout : LayoutValue) (objects : List ObjectValue) (s : IsLayout layou
 
   item_stub : (k i : ℕ) (p : Part) (a : Section) (m : ModuleValue) → (item_at items k).part ≡ Some p →
       region_at layout p.region ≡ Some a → slice_get layout.modules i ≡ Some m →
-      (p.region ≡ 2 + 2 * i) ⊎ (p.region ≢ 2 + 2 * i) → ShareNoByte (item_span k) (span m.text.start (stub_size m))
+      (p.region ≡ 2 + 2 * i) ⊎ (p.region ≢ 2 + 2 * i) → ShareNoByte (item_span k) (span m.text.start (module_stub_size m))
   item_stub k i p a m e f g (inl r) =
       let l = item_low starts items k p e in let t = ap (slice_index starts) r in let b = text_start layout i m g in
-      turn _ _ (one_before (span m.text.start (stub_size m)) (item_span k) (omega (arith, l, t, b)))
+      turn _ _ (one_before (span m.text.start (module_stub_size m)) (item_span k) (omega (arith, l, t, b)))
   item_stub k i p a m e f g (inr r) = away p.region (2 + 2 * i) _ _ a m.text (item_sits k p a e f) (stub_sits i m g) r
 
   item_stack : (k i : ℕ) (p : Part) (a : Section) (m : ModuleValue) → (item_at items k).part ≡ Some p →
@@ -243,7 +243,7 @@ module _ (layout : LayoutValue) (objects : List ObjectValue) (s : IsLayout layou
 
   stub_stack : (i j : ℕ) (m o : ModuleValue) → slice_get layout.modules i ≡ Some m →
       slice_get layout.modules j ≡ Some o →
-      ShareNoByte (span m.text.start (stub_size m)) (span o.ram.start (4 + o.stack))
+      ShareNoByte (span m.text.start (module_stub_size m)) (span o.ram.start (4 + o.stack))
   stub_stack i j m o e f = away (2 + 2 * i) (3 + 2 * j) _ _ m.text o.ram (stub_sits i m e) (stack_sits j o f) (λ z. absurd (omega (arith, z)))
 
   -- nothing reaches the vectors

@@ -4,7 +4,7 @@ use Rattle.std.specs.Prelude.{All, slice_index}
 use Rattle.std.specs.List.{flat_map}
 use Rattle.layout_file.specs.Values.{VectorValue, ModuleValue}
 use Rattle.link_symbols.specs.Passes.{fold_at}
-use Rattle.linker.specs.Placement.{stub_size}
+use Rattle.linker.specs.Placement.{module_stub_size}
 use Rattle.linker.specs.Numbers.{Linking}
 use Rattle.linker.specs.Bytes.{word_bytes}
 use Rattle.linker.specs.Stubs.{word_named, stub_of, put_stub, put_vector}
@@ -16,7 +16,7 @@ module _ (l : Linking) (end : ℕ → ℕ) where
   abbrev pub bytes_of : ℕ → ModuleValue → List ℕ
   bytes_of i x = flat_map word_bytes (stub_of l end i x)
 
-  pub stub_length : (i : ℕ) (x : ModuleValue) → length (bytes_of i x) ≡ stub_size x
+  pub stub_length : (i : ℕ) (x : ModuleValue) → length (bytes_of i x) ≡ module_stub_size x
   stub_length i x = let n = words_size (stub_of l end i x) in let k = stub_size_is l end i x in omega (arith, n, k)
 
   stub_long : (m : List ℕ) (i : ℕ) (x : ModuleValue) → x.text.start ≤ 65536 → Long m → Long (put_stub l end m i x)
@@ -24,11 +24,11 @@ module _ (l : Linking) (end : ℕ → ℕ) where
   stub_long m i x low h = let p = put_long m x.text.start (bytes_of i x) (omega arith) in omega (arith, p)
 
   stub_keep : (m : List ℕ) (i : ℕ) (x : ModuleValue) (a : ℕ) → x.text.start ≤ 65536 → Long m →
-      Out x.text.start (stub_size x) a → slice_index (put_stub l end m i x) a ≡ slice_index m a
+      Out x.text.start (module_stub_size x) a → slice_index (put_stub l end m i x) a ≡ slice_index m a
   unfolding put_stub
-  stub_keep m i x a low h out = let n = stub_length i x in put_out m x.text.start (bytes_of i x) a (omega arith) (out_less x.text.start (stub_size x) (length (bytes_of i x)) a (omega (arith, n)) out)
+  stub_keep m i x a low h out = let n = stub_length i x in put_out m x.text.start (bytes_of i x) a (omega arith) (out_less x.text.start (module_stub_size x) (length (bytes_of i x)) a (omega (arith, n)) out)
 
-  stub_set : (m : List ℕ) (i : ℕ) (x : ModuleValue) (n : ℕ) → x.text.start ≤ 65536 → Long m → n < stub_size x →
+  stub_set : (m : List ℕ) (i : ℕ) (x : ModuleValue) (n : ℕ) → x.text.start ≤ 65536 → Long m → n < module_stub_size x →
       slice_index (put_stub l end m i x) (x.text.start + n) ≡ slice_index (bytes_of i x) n
   unfolding put_stub
   stub_set m i x n low h b = let k = stub_length i x in put_in m x.text.start (bytes_of i x) n (omega arith) (omega (arith, k, b))
@@ -42,7 +42,7 @@ module _ (l : Linking) (end : ℕ → ℕ) where
   stubs_long m i (x ∷ xs) low h = stubs_long (put_stub l end m i x) (i + 1) xs (λ k d b. low (suc k) d (omega arith)) (stub_long m i x (low 0 x (omega arith)) h)
 
   pub stubs_keep : (m : List ℕ) (i : ℕ) (xs : List ModuleValue) (a : ℕ) → Low xs → Long m →
-      All (λ x. Out x.text.start (stub_size x) a) xs →
+      All (λ x. Out x.text.start (module_stub_size x) a) xs →
       slice_index (fold_at (put_stub l end) m i xs) a ≡ slice_index m a
   stubs_keep m i [] a low h out = refl
   stubs_keep m i (x ∷ xs) a low h out =
@@ -50,8 +50,8 @@ module _ (l : Linking) (end : ℕ → ℕ) where
       ∙ stub_keep m i x a (low 0 x (omega arith)) h (out 0 x (omega arith))
 
   pub stubs_set : (m : List ℕ) (i : ℕ) (xs : List ModuleValue) (k n : ℕ) (x : ModuleValue) → Low xs → Long m →
-      k < length xs → ((d : ModuleValue) → get_or xs k d ≡ x) → n < stub_size x →
-      ((j : ℕ) (d : ModuleValue) → k < j → j < length xs → Out (get_or xs j d).text.start (stub_size (get_or xs j d)) (x.text.start + n)) →
+      k < length xs → ((d : ModuleValue) → get_or xs k d ≡ x) → n < module_stub_size x →
+      ((j : ℕ) (d : ModuleValue) → k < j → j < length xs → Out (get_or xs j d).text.start (module_stub_size (get_or xs j d)) (x.text.start + n)) →
       slice_index (fold_at (put_stub l end) m i xs) (x.text.start + n) ≡ slice_index (bytes_of (i + k) x) n
   stubs_set m i [] k n x low h b is c out = absurd (omega arith)
   stubs_set m i (y ∷ ys) zero n x low h b is c out =

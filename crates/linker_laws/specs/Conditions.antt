@@ -14,7 +14,7 @@ use Rattle.link_symbols.specs.Symbols.{NamedValue, named_symbol, named_symbols}
 use Rattle.link_symbols.specs.Names.{stands_for, symbol_meaning}
 use Rattle.link_symbols.specs.Resolved.{items_of}
 use Rattle.linker.specs.Placement.{item_at, text_of, ram_of}
-use Rattle.linker.specs.Numbers.{Linking, linking_of, numbers_in, end_in}
+use Rattle.linker.specs.Numbers.{Linking, linking_of, numbers_in, region_end}
 use Rattle.linker.specs.Fields.{target_address, target_size, symbol_sum}
 use Rattle.linker.specs.Refusals.{link_fault_of}
 
@@ -79,7 +79,7 @@ pub record CanLink (layout : LayoutValue) (objects : List ObjectValue) : Type 0 
   pub used_stand : UsedStand (stands_for objects) objects
   pub vectors_stand : VectorsStand (stands_for objects) layout.vectors
   pub entries_stand : EntriesStand (stands_for objects) (items_of layout objects) layout.modules
-  pub contents_fit : ContentsFit layout (end_in layout objects)
+  pub contents_fit : ContentsFit layout (region_end layout objects)
   pub relocations_apply : RelocationsApply (linking_of layout objects) objects
 
 -- objects link exactly where these hold

@@ -16,10 +16,10 @@ use Rattle.reloc_apply.specs.Fields.{row_of, row_size}
 use Rattle.reloc_apply.specs.Applies.{limit_by, row_number}
 use Rattle.link_symbols.specs.Passes.{NumberedObject, numbered_objects}
 use Rattle.link_symbols.specs.Parts.{is_loaded_head}
-use Rattle.linker.specs.Placement.{starts_of, address_at, stub_size}
+use Rattle.linker.specs.Placement.{starts_of, address_at, module_stub_size}
 use Rattle.link_symbols.specs.Resolved.{items_of}
-use Rattle.linker.specs.Numbers.{linking_of, numbers_in, end_in}
-use Rattle.linker.specs.Bytes.{bytes_at, word_bytes}
+use Rattle.linker.specs.Numbers.{linking_of, numbers_in, region_end}
+use Rattle.linker.specs.Bytes.{memory_part, word_bytes}
 use Rattle.linker.specs.Fields.{symbol_sum}
 use Rattle.linker.specs.Stubs.{word_named, stub_of}
 use Rattle.linker.specs.Image.{Links}
@@ -72,29 +72,29 @@ FieldNumbers = (layout : LayoutValue) (objects : List ObjectValue) (image : Imag
 abbrev pub StubBytes : Type 0
 StubBytes = (layout : LayoutValue) (objects : List ObjectValue) (image : Image) → IsLinked layout objects image →
     (i : ℕ) (m : ModuleValue) → slice_get layout.modules i ≡ Some m →
-    bytes_at image.memory m.text.start (stub_size m)
-    ≡ flat_map word_bytes (stub_of (linking_of layout objects) (end_in layout objects) i m)
+    memory_part image.memory m.text.start (module_stub_size m)
+    ≡ flat_map word_bytes (stub_of (linking_of layout objects) (region_end layout objects) i m)
 
 -- whose table has the address of each entry
 abbrev pub TableWords : Type 0
 TableWords = (layout : LayoutValue) (objects : List ObjectValue) (image : Image) → IsLinked layout objects image →
     (i k : ℕ) (m : ModuleValue) (name : List ℕ) →
     slice_get layout.modules i ≡ Some m → slice_get m.entries k ≡ Some name →
-    bytes_at image.memory (m.text.start + 2 * front_words + 2 * k) 2
+    memory_part image.memory (m.text.start + 2 * front_words + 2 * k) 2
     ≡ word_bytes (word_named (linking_of layout objects) name)
 
 -- each vector of the layout has the low word of what its name stands for
 abbrev pub VectorWords : Type 0
 VectorWords = (layout : LayoutValue) (objects : List ObjectValue) (image : Image) → IsLinked layout objects image →
     (k : ℕ) (v : VectorValue) → slice_get layout.vectors k ≡ Some v →
-    bytes_at image.memory (FIRST_VECTOR + 2 * v.vector) 2 ≡ word_bytes (word_named (linking_of layout objects) v.name)
+    memory_part image.memory (FIRST_VECTOR + 2 * v.vector) 2 ≡ word_bytes (word_named (linking_of layout objects) v.name)
 
 -- an address with a byte of a loaded section, of a stub or of a vector
 pub data IsGiven (layout : LayoutValue) (objects : List ObjectValue) (a : ℕ) : Type 0 where
   by_section : (x : NumberedObject) (k : ℕ) (s : SectionHead) → IsLoaded objects x k s →
       holds (span (section_address layout objects x k) (s.bytes.end - s.bytes.start)) a ≡ true → IsGiven layout objects a
   by_stub : (i : ℕ) (m : ModuleValue) → slice_get layout.modules i ≡ Some m →
-      holds (span m.text.start (stub_size m)) a ≡ true → IsGiven layout objects a
+      holds (span m.text.start (module_stub_size m)) a ≡ true → IsGiven layout objects a
   by_vector : (k : ℕ) (v : VectorValue) → slice_get layout.vectors k ≡ Some v →
       holds (span (FIRST_VECTOR + 2 * v.vector) 2) a ≡ true → IsGiven layout objects a
 

@@ -8,7 +8,7 @@ use Rattle.layout_file.specs.Sound.{IsLayout}
 use Rattle.layout_file.specs.Values.{ModuleValue, LayoutValue, regions}
 use Rattle.link_symbols.specs.declared.item.Part.{Part}
 use Rattle.link_symbols.specs.Resolved.{items_of}
-use Rattle.linker.specs.Placement.{item_at, starts_of, address_at, stub_size}
+use Rattle.linker.specs.Placement.{item_at, starts_of, address_at, module_stub_size}
 use Rattle.linker.specs.Refusals.{link_fault_of}
 
 -- what takes bytes: a section or a common, by its number among the items; the entry stub of a module, with its table;
@@ -34,7 +34,7 @@ pub data Lies (layout : LayoutValue) (objects : List ObjectValue) : Piece → Se
       slice_get (regions layout.text layout.ram layout.modules) p.region ≡ Some r →
       Lies layout objects (an_item k) (item_span layout objects k) r
   stub_lies : (i : ℕ) (m : ModuleValue) → slice_get layout.modules i ≡ Some m →
-      Lies layout objects (a_stub i) (span m.text.start (stub_size m)) m.text
+      Lies layout objects (a_stub i) (span m.text.start (module_stub_size m)) m.text
   stack_lies : (i : ℕ) (m : ModuleValue) → slice_get layout.modules i ≡ Some m →
       Lies layout objects (a_stack i) (span m.ram.start (4 + m.stack)) m.ram
   vectors_lie : Lies layout objects the_vectors (span FIRST_VECTOR 32) (span FIRST_VECTOR 32)

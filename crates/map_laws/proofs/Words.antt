@@ -4,20 +4,20 @@ use Rattle.std.specs.Prelude.{slice_index}
 use Rattle.std.proofs.lemmas.List.{get_or-take, get_or-drop}
 use Rattle.entry_stubs.specs.Stub.{front_words}
 use Rattle.mod_layout.specs.declared.TheConstants.{FIRST_VECTOR}
-use Rattle.linker.specs.Bytes.{bytes_at, word_bytes}
+use Rattle.linker.specs.Bytes.{memory_part, word_bytes}
 use Rattle.linker.specs.Numbers.{linking_of, number_or_zero, Linking}
 use Rattle.linker.specs.Stubs.{word_named}
 use Rattle.linker_laws.specs.Contents.{TableWords, VectorWords}
 use Rattle.link_map.specs.Map.{memory_word}
 use Rattle.map_laws.specs.Laws.{EntryWords, VectorLines}
 
-byte_here : (memory bytes : List ℕ) (a k : ℕ) → k < 2 → bytes_at memory a 2 ≡ bytes → slice_index memory (a + k) ≡ get_or bytes k 0
+byte_here : (memory bytes : List ℕ) (a k : ℕ) → k < 2 → memory_part memory a 2 ≡ bytes → slice_index memory (a + k) ≡ get_or bytes k 0
 byte_here memory bytes a k h e = sym (get_or-drop a memory k 0) ∙ (sym (get_or-take 2 (drop a memory) k 0 h) ∙ ap (λ l. get_or l k 0) e)
 
 whole : (w : ℕ) → w < 65536 → w % 256 + 256 * (w / 256 % 256) ≡ w
 whole w h = omega arith
 
-pub word_here : (memory : List ℕ) (a w : ℕ) → w < 65536 → bytes_at memory a 2 ≡ word_bytes w → memory_word memory a ≡ w
+pub word_here : (memory : List ℕ) (a w : ℕ) → w < 65536 → memory_part memory a 2 ≡ word_bytes w → memory_word memory a ≡ w
 word_here memory a w h e =
     let first : slice_index memory (a + 0) ≡ w % 256 = byte_here memory (word_bytes w) a 0 (omega arith) e in
     let second : slice_index memory (a + 1) ≡ w / 256 % 256 = byte_here memory (word_bytes w) a 1 (omega arith) e in

@@ -10,7 +10,7 @@ use Rattle.link_symbols.specs.declared.item.Part.{Part}
 use Rattle.link_symbols.specs.declared.item.Item.{Item}
 use Rattle.link_symbols.specs.Passes.{NumberedObject}
 use Rattle.link_symbols.specs.Parts.{is_loaded_head}
-use Rattle.linker.specs.Placement.{stub_size, item_at}
+use Rattle.linker.specs.Placement.{module_stub_size, item_at}
 use Rattle.linker.specs.Fields.{target_size, target_address}
 
 -- a place of so many bytes above the devices and below the vectors
@@ -46,7 +46,7 @@ pub record StubFits (end : ℕ → ℕ) (i : ℕ) (m : ModuleValue) : Type 0 whe
   pub even_stack : m.stack % 2 ≡ 0
   pub stack : m.ram.start + 4 + m.stack ≤ FIRST_VECTOR
   pub above_devices : DEVICES_END ≤ m.text.start
-  pub text : m.text.start + stub_size m ≤ end (2 + 2 * i)
+  pub text : m.text.start + module_stub_size m ≤ end (2 + 2 * i)
   pub ram : m.ram.start + 4 + m.stack ≤ end (3 + 2 * i)
 
 abbrev pub StubsFit : (ℕ → ℕ) → List ModuleValue → Type 0

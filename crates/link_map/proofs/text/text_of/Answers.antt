@@ -11,7 +11,7 @@ use Rattle.linker.specs.Image.{linked_image}
 use Rattle.linker.specs.Linkage.{listed_numbers}
 use Rattle.link_symbols.specs.CommonNames.{borrowed, common_names}
 use Rattle.link_symbols.specs.Names.{count_sections}
-use Rattle.linker.specs.Numbers.{linking_of, end_in}
+use Rattle.linker.specs.Numbers.{linking_of, region_end}
 use Rattle.link_symbols.specs.Passes.{numbered_objects}
 use Rattle.link_symbols.specs.Resolved.{items_of}
 use Rattle.mod_layout.specs.Table.{Table}
@@ -28,7 +28,7 @@ pub returns : goal.returns
 unfolding map_text
 returns c =
     let l = layout_of c.args.layout.now in let os = c.args.objects.now in
-    let k = linking_of l os in let end = end_in l os in let image = linked_image l os in
+    let k = linking_of l os in let end = region_end l os in let image = linked_image l os in
     let view = c.image.view_is ∙ c.requires.image in
     let table : c.image.inside.table ≡ image.table = ap (λ (i : Image). i.table) view in
     let memory : c.image.inside.memory.items ≡ image.memory = ap (λ (i : Image). i.memory) view in
