@@ -8,8 +8,8 @@ use Rattle.texts.specs.Lines.{ended_lines, unended}
 use Rattle.texts.proofs.LawLemmas.{decimals_are_read}
 use Rattle.mod_layout.specs.Table.{empty_table}
 use Rattle.image_text.specs.declared.numbers.TheConstants.{MAX_COUNT}
-use Rattle.image_text.specs.ImageText.{ended, count_line}
-use Rattle.image_text.specs.Refusal.{past, count_of, counted, count_refusal, modules_refusal}
+use Rattle.image_text.specs.ImageText.{line_before, count_line}
+use Rattle.image_text.specs.Refusal.{next_spot, announced_count, counted_or_line, count_refusal, modules_refusal}
 use Rattle.image_text.specs.internal.Reading.{Unread, ReadLine, PassedCount}
 use Rattle.image_text.proofs.StageLemmas.{line_on, next_on}
 
@@ -19,7 +19,7 @@ begins text front e =
     let same = (bytes_eq-Decides front (take (length front) text)).0 e in
     sym (take-append-drop (length front) text) ∙ ap (λ t. t ++ drop (length front) text) (sym same)
 
-pub count_line_of : (line : List ℕ) (n : ℕ) → count_of line ≡ Some n → line ≡ count_line n
+pub count_line_of : (line : List ℕ) (n : ℕ) → announced_count line ≡ Some n → line ≡ count_line n
 count_line_of line n e = by (starts_with nat_eq line (codes "modules ")) refl e
   where
     by : (c : Bool) → starts_with nat_eq line (codes "modules ") ≡ c → cond c (read_decimal MAX_COUNT (drop 8 line)) None ≡ Some n → line ≡ count_line n
@@ -27,11 +27,11 @@ count_line_of line n e = by (starts_with nat_eq line (codes "modules ")) refl e
     by false is e = absurd cc
 
 -- such a line was read
-pub passed_count : (room n : ℕ) (old new : Unread) (line : List ℕ) → room ≡ 32 → ReadLine old line new → count_of line ≡ Some n → PassedCount room (Some n) old new
+pub passed_count : (room n : ℕ) (old new : Unread) (line : List ℕ) → room ≡ 32 → ReadLine old line new → announced_count line ≡ Some n → PassedCount room (Some n) old new
 passed_count room n old new line e read is = subst (λ r. PassedCount r (Some n) old new) (sym e) record {
   kind = refl;
-  text = let t = read in t.text ∙ ap (λ (l : List ℕ). ended l new.rest) (count_line_of line n is);
+  text = let t = read in t.text ∙ ap (λ (l : List ℕ). line_before l new.rest) (count_line_of line n is);
   refusal = line_on (count_refusal 32) old new line read
-      ∙ ap (λ (o : Option ℕ). counted o old.spot (modules_refusal (empty_table 32) o (past line old.spot) (ended_lines new.rest) (unended new.rest))) is
+      ∙ ap (λ (o : Option ℕ). counted_or_line o old.spot (modules_refusal (empty_table 32) o (next_spot line old.spot) (ended_lines new.rest) (unended new.rest))) is
       ∙ next_on (modules_refusal (empty_table 32) (Some n)) old new line read;
 }

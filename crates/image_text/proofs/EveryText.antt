@@ -15,8 +15,8 @@ use Rattle.image_text.specs.declared.numbers.TheConstants.{MAX_VERSION}
 use Rattle.image_text.specs.declared.ImageFault.{ImageFault}
 use Rattle.image_text.specs.declared.ImageFault.TheVariants.{Line, Twice}
 use Rattle.image_text.specs.Image.{Image}
-use Rattle.image_text.specs.ImageText.{ended, first_line, key_line, handler_line, end_line}
-use Rattle.image_text.specs.Refusal.{Spot, past, line_fault, has_form, bad_digit, digit_or, formed, key_form, handler_form, module_form, row_form, digits_bytes, digits_word, section_at, count_of, counted, count_refusal, modules_refusal, handler_refusal, key_refusal, version_or_line, version_refusal, first_refusal, end_refusal, is_row, row_or, rows_refusal, taken_or, added, one_less, refusal_of}
+use Rattle.image_text.specs.ImageText.{line_before, first_line, key_line, handler_line, end_line}
+use Rattle.image_text.specs.Refusal.{Spot, next_spot, line_fault, has_form, bad_digit, digit_or, formed, key_form, handler_form, module_form, row_form, digits_bytes, digits_word, section_at, announced_count, counted_or_line, count_refusal, modules_refusal, handler_refusal, key_refusal, version_or_line, version_refusal, first_refusal, end_refusal, is_row, row_or, rows_refusal, taken_or, added, one_less, refusal_of}
 use Rattle.image_text.specs.internal.Reading.{Unread, on, ReadLine, HasLineForm, PassedCount, due_next, AddsModule, ModulesSoFar, PassedModules, RowsSoFar, PassedMemory}
 use Rattle.image_text.specs.Laws.{Complete}
 use Rattle.image_text.proofs.FormLemmas.{has_form_of}
@@ -43,7 +43,7 @@ next_line u = by (position is_line_feed u.rest) refl
         let c = cut_at u.rest i e in
         inl record {
           line = take i u.rest;
-          next = record { rest = drop (i + 1) u.rest; spot = past (take i u.rest) u.spot };
+          next = record { rest = drop (i + 1) u.rest; spot = next_spot (take i u.rest) u.spot };
           read = record { text = c.cut; lines = c.lines; tail = c.behind; spot = refl };
           shorter = omega (arith, ap length c.cut, length-append (take i u.rest) (10 ∷ drop (i + 1) u.rest));
         }
@@ -70,13 +70,13 @@ formed_none form s line rest e = by (has_form form line) (bad_digit form line s.
 -- a line of the text, and what the next rule says of the text behind it
 record Went (line : List ℕ) (R : Stage) (u : Unread) : Type 0 where
   pub next : Unread
-  pub text : u.rest ≡ ended line next.rest
+  pub text : u.rest ≡ line_before line next.rest
   pub none : on next R ≡ None
 
-went : (R : Stage) (u : Unread) (line : List ℕ) (h : HasLine u) → h.line ≡ line → R (past h.line u.spot) (ended_lines h.next.rest) (unended h.next.rest) ≡ None → Went line R u
+went : (R : Stage) (u : Unread) (line : List ℕ) (h : HasLine u) → h.line ≡ line → R (next_spot h.line u.spot) (ended_lines h.next.rest) (unended h.next.rest) ≡ None → Went line R u
 went R u line h is e = record {
   next = h.next;
-  text = let r = h.read in r.text ∙ ap (λ (l : List ℕ). ended l h.next.rest) is;
+  text = let r = h.read in r.text ∙ ap (λ (l : List ℕ). line_before l h.next.rest) is;
   none = sym (next_on R u h.next h.line h.read) ∙ e;
 }
 
@@ -101,7 +101,7 @@ first_stage u e = by (pointwise nat_eq h.line (codes "sancus-image 1")) (pointwi
         version _ _ f = cc
 
     by : (a b : Bool) → pointwise nat_eq h.line (codes "sancus-image 1") ≡ a → pointwise nat_eq h.line (codes "sancus-image 2") ≡ b
-        → cond a (key_refusal 8 (past h.line u.spot) (ended_lines h.next.rest) (unended h.next.rest)) (cond b (key_refusal 32 (past h.line u.spot) (ended_lines h.next.rest) (unended h.next.rest)) (version_refusal u.spot h.line)) ≡ None → FirstLine u
+        → cond a (key_refusal 8 (next_spot h.line u.spot) (ended_lines h.next.rest) (unended h.next.rest)) (cond b (key_refusal 32 (next_spot h.line u.spot) (ended_lines h.next.rest) (unended h.next.rest)) (version_refusal u.spot h.line)) ≡ None → FirstLine u
     by true b p q e = record { room = 8; known = inl refl; went = went (key_refusal 8) u (codes "sancus-image 1") h ((bytes_eq-Decides h.line (codes "sancus-image 1")).0 p) e }
     by false true p q e = record { room = 32; known = inr refl; went = went (key_refusal 32) u (codes "sancus-image 2") h ((bytes_eq-Decides h.line (codes "sancus-image 2")).0 q) e }
     by false false p q e = absurd (refused e)
@@ -132,10 +132,10 @@ handler_stage room u e = by (digits_word 8 h.line % 2 == 0) refl f.after
     h : HasLine u
     h = must_line (handler_refusal room) (λ s tail. refl) u e
 
-    f : IsFormed handler_form h.line (cond (digits_word 8 h.line % 2 == 0) (count_refusal room (past h.line u.spot) (ended_lines h.next.rest) (unended h.next.rest)) (line_fault u.spot))
+    f : IsFormed handler_form h.line (cond (digits_word 8 h.line % 2 == 0) (count_refusal room (next_spot h.line u.spot) (ended_lines h.next.rest) (unended h.next.rest)) (line_fault u.spot))
     f = formed_none handler_form u.spot h.line _ (sym (line_on (handler_refusal room) u h.next h.line h.read) ∙ e)
 
-    by : (c : Bool) → (digits_word 8 h.line % 2 == 0) ≡ c → cond c (count_refusal room (past h.line u.spot) (ended_lines h.next.rest) (unended h.next.rest)) (line_fault u.spot) ≡ None → HandlerLine room u
+    by : (c : Bool) → (digits_word 8 h.line % 2 == 0) ≡ c → cond c (count_refusal room (next_spot h.line u.spot) (ended_lines h.next.rest) (unended h.next.rest)) (line_fault u.spot) ≡ None → HandlerLine room u
     by true p e =
         let k = handler_line_of h.line f.has in
         record { sp = digits_word 8 h.line; even = grind (arith, nat_tests); small = k.small; went = went (count_refusal room) u (handler_line (digits_word 8 h.line)) h k.text e }
@@ -148,7 +148,7 @@ record CountLine (room : ℕ) (u : Unread) : Type 0 where
 
 count_stage : (room : ℕ) (u : Unread) → (room ≡ 8) ⊎ (room ≡ 32) → on u (count_refusal room) ≡ None → CountLine room u
 count_stage room u (inl first) e = subst (λ r. CountLine r u) (sym first) record { due = None; next = u; passed = record { kind = refl; text = refl; refusal = refl } }
-count_stage room u (inr second) e = by (count_of h.line) refl (sym (line_on (count_refusal 32) u h.next h.line h.read) ∙ announced)
+count_stage room u (inr second) e = by (announced_count h.line) refl (sym (line_on (count_refusal 32) u h.next h.line h.read) ∙ announced)
   where
     announced : on u (count_refusal 32) ≡ None
     announced = subst (λ r. on u (count_refusal r) ≡ None) second e
@@ -156,7 +156,7 @@ count_stage room u (inr second) e = by (count_of h.line) refl (sym (line_on (cou
     h : HasLine u
     h = must_line (count_refusal 32) (λ s tail. refl) u announced
 
-    by : (o : Option ℕ) → count_of h.line ≡ o → counted o u.spot (modules_refusal (empty_table 32) o (past h.line u.spot) (ended_lines h.next.rest) (unended h.next.rest)) ≡ None → CountLine room u
+    by : (o : Option ℕ) → announced_count h.line ≡ o → counted_or_line o u.spot (modules_refusal (empty_table 32) o (next_spot h.line u.spot) (ended_lines h.next.rest) (unended h.next.rest)) ≡ None → CountLine room u
     by None p e = absurd cc
     by (Some n) p e = record { due = Some n; next = h.next; passed = passed_count room n u h.next h.line second h.read p }
 
@@ -222,11 +222,11 @@ row_stage : (last : ℕ) (u : Unread) (h : HasLine u) → pointwise nat_eq h.lin
 row_stage last u h other e =
     by (is_row last (digits_word 3 h.line) (digits_bytes 8 16 h.line)) (digits_word 3 h.line == last) refl refl f.after
   where
-    f : IsFormed row_form h.line (row_or last u.spot h.line (rows_refusal (digits_word 3 h.line) (past h.line u.spot) (ended_lines h.next.rest) (unended h.next.rest)))
+    f : IsFormed row_form h.line (row_or last u.spot h.line (rows_refusal (digits_word 3 h.line) (next_spot h.line u.spot) (ended_lines h.next.rest) (unended h.next.rest)))
     f = formed_none row_form u.spot h.line _ (sym (row_on last u h.next h.line h.read other) ∙ e)
 
     by : (a b : Bool) → is_row last (digits_word 3 h.line) (digits_bytes 8 16 h.line) ≡ a → (digits_word 3 h.line == last) ≡ b
-        → cond a (cond b (Some (Twice (digits_word 3 h.line))) (rows_refusal (digits_word 3 h.line) (past h.line u.spot) (ended_lines h.next.rest) (unended h.next.rest))) (line_fault u.spot) ≡ None → RowLine last u h
+        → cond a (cond b (Some (Twice (digits_word 3 h.line))) (rows_refusal (digits_word 3 h.line) (next_spot h.line u.spot) (ended_lines h.next.rest) (unended h.next.rest))) (line_fault u.spot) ≡ None → RowLine last u h
     by true false p q e = record { has = f.has; row = p; above = q }
     by _ _ p q e = absurd cc
 
@@ -244,11 +244,11 @@ rows_stage (suc n) start last memory u short even so e =
         → MemoryLines start
     by true p more =
         let w = went end_refusal u end_line h ((bytes_eq-Decides h.line end_line).0 p)
-        (sym (line_on (rows_refusal last) u h.next h.line h.read ∙ ap (λ b. cond b (end_refusal (past h.line u.spot) (ended_lines h.next.rest) (unended h.next.rest)) (formed row_form u.spot h.line (row_or last u.spot h.line (rows_refusal (digits_word 3 h.line) (past h.line u.spot) (ended_lines h.next.rest) (unended h.next.rest))))) p) ∙ e) in
+        (sym (line_on (rows_refusal last) u h.next h.line h.read ∙ ap (λ b. cond b (end_refusal (next_spot h.line u.spot) (ended_lines h.next.rest) (unended h.next.rest)) (formed row_form u.spot h.line (row_or last u.spot h.line (rows_refusal (digits_word 3 h.line) (next_spot h.line u.spot) (ended_lines h.next.rest) (unended h.next.rest))))) p) ∙ e) in
         let none = ended_none w.next w.none in
         record {
           memory = memory ++ replicate (65536 - length memory) 0;
-          passed = rows_done start last memory (memory ++ replicate (65536 - length memory) 0) u.rest even so (w.text ∙ ap (λ (l : List ℕ). ended end_line l) none) refl;
+          passed = rows_done start last memory (memory ++ replicate (65536 - length memory) 0) u.rest even so (w.text ∙ ap (λ (l : List ℕ). line_before end_line l) none) refl;
         }
     by false p more =
         let r = row_stage last u h p e in

@@ -25,8 +25,8 @@ use Rattle.texts.specs.Hexadecimals.{hex_word}
 use Rattle.image_text.specs.declared.ImageFault.{ImageFault}
 use Rattle.image_text.specs.declared.ImageFault.TheVariants.{Line, Twice}
 use Rattle.image_text.specs.Image.{Image, IsImage, AreNumbered}
-use Rattle.image_text.specs.ImageText.{ended, first_line, key_line, handler_line, count_line, module_line, row_line, end_line, count_text, modules_text, is_zero, rows_text, memory_text, text_after_key, image_text}
-use Rattle.image_text.specs.Refusal.{Spot, past, key_form, handler_form, module_form, row_form, fits, has_form, is_bad, digits_bytes, digits_word, section_at, count_of, is_row, rows_refusal, end_refusal, taken_or, added, one_less, modules_refusal, counted, count_refusal, handler_refusal, key_refusal, first_refusal, refusal_of}
+use Rattle.image_text.specs.ImageText.{line_before, first_line, key_line, handler_line, count_line, module_line, row_line, end_line, count_text, modules_text, is_zero, rows_text, memory_text, text_after_key, image_text}
+use Rattle.image_text.specs.Refusal.{Spot, next_spot, key_form, handler_form, module_form, row_form, fits, has_form, is_bad, digits_bytes, digits_word, section_at, announced_count, is_row, rows_refusal, end_refusal, taken_or, added, one_less, modules_refusal, counted_or_line, count_refusal, handler_refusal, key_refusal, first_refusal, refusal_of}
 use Rattle.image_text.specs.internal.Reading.{HasLineForm, due_next}
 use Rattle.image_text.proofs.WholeText.{few}
 use Rattle.image_text.proofs.FormLemmas.{formed_ok, marks, bytes_cons, bytes_nil, word_here, coded_at}
@@ -40,25 +40,25 @@ no_lf line = list_all (λ b. not (b == 10)) line
 has_no_feed : (line : List ℕ) → no_lf line ≡ true → All (λ b. is_line_feed b ≡ false) line
 has_no_feed line e k d l = not-true (get_or line k d == 10) (AllPass-from_list_all (λ b. not (b == 10)) line e k d l)
 
-lines_of : (line rest : List ℕ) → no_lf line ≡ true → ended_lines (ended line rest) ≡ line ∷ ended_lines rest
+lines_of : (line rest : List ℕ) → no_lf line ≡ true → ended_lines (line_before line rest) ≡ line ∷ ended_lines rest
 lines_of line rest e = ended_lines-before line rest (has_no_feed line e)
 
-tail_of : (line rest : List ℕ) → no_lf line ≡ true → unended (ended line rest) ≡ unended rest
+tail_of : (line rest : List ℕ) → no_lf line ≡ true → unended (line_before line rest) ≡ unended rest
 tail_of line rest e = unended-before line rest (has_no_feed line e)
 
 -- what a rule says of a text
 abbrev says : Stage → Spot → List ℕ → Option ImageFault
 says R s text = R s (ended_lines text) (unended text)
 
-at_line : (R : Stage) (s : Spot) (line rest : List ℕ) → no_lf line ≡ true → says R s (ended line rest) ≡ R s (line ∷ ended_lines rest) (unended rest)
-at_line R s line rest e = ap (λ (l : List (List ℕ)). R s l (unended (ended line rest))) (lines_of line rest e) ∙ ap (λ (t : List ℕ). R s (line ∷ ended_lines rest) t) (tail_of line rest e)
+at_line : (R : Stage) (s : Spot) (line rest : List ℕ) → no_lf line ≡ true → says R s (line_before line rest) ≡ R s (line ∷ ended_lines rest) (unended rest)
+at_line R s line rest e = ap (λ (l : List (List ℕ)). R s l (unended (line_before line rest))) (lines_of line rest e) ∙ ap (λ (t : List ℕ). R s (line ∷ ended_lines rest) t) (tail_of line rest e)
 
 -- equal texts begin with equal lines
-line_one : (k l r s : List ℕ) → no_lf k ≡ true → no_lf l ≡ true → ended k r ≡ ended l s → (k ≡ l) × (r ≡ s)
+line_one : (k l r s : List ℕ) → no_lf k ≡ true → no_lf l ≡ true → line_before k r ≡ line_before l s → (k ≡ l) × (r ≡ s)
 line_one k l r s p q e =
     let both : k ∷ ended_lines r ≡ l ∷ ended_lines s = sym (lines_of k r p) ∙ ap ended_lines e ∙ lines_of l s q in
     let same : k ≡ l = cc in
-    let ends : 10 ∷ r ≡ 10 ∷ s = append_cancel_left l (10 ∷ r) (10 ∷ s) (sym (ap (λ (x : List ℕ). ended x r) same) ∙ e) in
+    let ends : 10 ∷ r ≡ 10 ∷ s = append_cancel_left l (10 ∷ r) (10 ∷ s) (sym (ap (λ (x : List ℕ). line_before x r) same) ∙ e) in
     let rest : r ≡ s = cc in
     (same, rest)
 
@@ -199,7 +199,7 @@ text_of_module m k =
 
 record CountText (n : ℕ) : Type 0 where
   pub plain : no_lf (count_line n) ≡ true
-  pub count_is : count_of (count_line n) ≡ Some n
+  pub count_is : announced_count (count_line n) ≡ Some n
 
 digits_plain : (text : List ℕ) → list_all is_ascii_digit text ≡ true → no_lf text ≡ true
 digits_plain [] e = refl
@@ -237,13 +237,13 @@ other_place a b n r s ne p q e = let same : a ≡ b = sym p ∙ ap (λ (l : List
 abbrev NoModule : List ℕ → Type 0
 NoModule text = (x : List ℕ) → 109 ∷ x ≡ text → ⊥
 
-no_module : (n at : ℕ) (memory : List ℕ) → NoModule (rows_text n at memory (ended end_line []))
+no_module : (n at : ℕ) (memory : List ℕ) → NoModule (rows_text n at memory (line_before end_line []))
 unfolding rows_text
 no_module zero at memory x e = other_place 109 101 0 _ _ refl refl refl e
 no_module (suc n) at memory x e = by (is_zero (take 16 memory)) e (no_module n (at + 16) (drop 16 memory) x)
   where
-    by : (c : Bool) → 109 ∷ x ≡ cond c (rows_text n (at + 16) (drop 16 memory) (ended end_line [])) (ended (row_line at (take 16 memory)) (rows_text n (at + 16) (drop 16 memory) (ended end_line [])))
-        → (109 ∷ x ≡ rows_text n (at + 16) (drop 16 memory) (ended end_line []) → ⊥) → ⊥
+    by : (c : Bool) → 109 ∷ x ≡ cond c (rows_text n (at + 16) (drop 16 memory) (line_before end_line [])) (line_before (row_line at (take 16 memory)) (rows_text n (at + 16) (drop 16 memory) (line_before end_line [])))
+        → (109 ∷ x ≡ rows_text n (at + 16) (drop 16 memory) (line_before end_line []) → ⊥) → ⊥
     by true f r = r f
     by false f r = other_place 109 97 0 _ _ refl refl refl f
 
@@ -284,7 +284,7 @@ zeros_one (x ∷ xs) (y ∷ ys) l p q =
     ap (λ (z : ℕ). z ∷ xs) first ∙ ap (λ (z : List ℕ). y ∷ z) rest
 zeros_one _ _ l p q = absurd (omega arith)
 
-row_one : (a b : ℕ) (x y r s : List ℕ) → a < 65536 → b < 65536 → length x ≡ 16 → length y ≡ 16 → IsBytes x → IsBytes y → ended (row_line a x) r ≡ ended (row_line b y) s → (a ≡ b) × (x ≡ y) × (r ≡ s)
+row_one : (a b : ℕ) (x y r s : List ℕ) → a < 65536 → b < 65536 → length x ≡ 16 → length y ≡ 16 → IsBytes x → IsBytes y → line_before (row_line a x) r ≡ line_before (row_line b y) s → (a ≡ b) × (x ≡ y) × (r ≡ s)
 row_one a b x y r s la lb lx ly p q e =
     let t = text_of_row a x la lx p in
     let u = text_of_row b y lb ly q in
@@ -298,14 +298,14 @@ later_rows : (n : ℕ) (memory : List ℕ) → length memory ≡ 16 * suc n → 
 later_rows n memory l = omega (arith, length-drop 16 memory)
 
 -- no line of these rows is for a row before them
-no_line : (n at next : ℕ) (row memory rest : List ℕ) → at < next → next + 16 * n ≤ 65536 → length row ≡ 16 → IsBytes row → length memory ≡ 16 * n → IsBytes memory → ended (row_line at row) rest ≡ rows_text n next memory (ended end_line []) → ⊥
+no_line : (n at next : ℕ) (row memory rest : List ℕ) → at < next → next + 16 * n ≤ 65536 → length row ≡ 16 → IsBytes row → length memory ≡ 16 * n → IsBytes memory → line_before (row_line at row) rest ≡ rows_text n next memory (line_before end_line []) → ⊥
 unfolding rows_text
 no_line zero at next row memory rest l m len p mem q e = other_place 97 101 0 _ _ refl refl refl e
 no_line (suc n) at next row memory rest l m len p mem q e =
     by (is_zero (take 16 memory)) e (no_line n at (next + 16) row (drop 16 memory) rest (omega arith) (omega arith) len p (later_rows n memory mem) (bytes_drop 16 memory q))
   where
-    by : (c : Bool) → ended (row_line at row) rest ≡ cond c (rows_text n (next + 16) (drop 16 memory) (ended end_line [])) (ended (row_line next (take 16 memory)) (rows_text n (next + 16) (drop 16 memory) (ended end_line [])))
-        → (ended (row_line at row) rest ≡ rows_text n (next + 16) (drop 16 memory) (ended end_line []) → ⊥) → ⊥
+    by : (c : Bool) → line_before (row_line at row) rest ≡ cond c (rows_text n (next + 16) (drop 16 memory) (line_before end_line [])) (line_before (row_line next (take 16 memory)) (rows_text n (next + 16) (drop 16 memory) (line_before end_line [])))
+        → (line_before (row_line at row) rest ≡ rows_text n (next + 16) (drop 16 memory) (line_before end_line []) → ⊥) → ⊥
     by true f r = r f
     by false f r = let k = row_one at next row (take 16 memory) rest _ (omega arith) (omega arith) len (first_row n memory mem) p (bytes_take 16 memory q) f in omega (arith, k.0)
 
@@ -313,7 +313,7 @@ joined_parts : (n : ℕ) (m k : List ℕ) → take n m ≡ take n k → drop n m
 joined_parts n m k a b = sym (take-append-drop n m) ∙ ap (λ (l : List ℕ). l ++ drop n m) a ∙ ap (λ (l : List ℕ). take n k ++ l) b ∙ take-append-drop n k
 
 rows_one : (n at : ℕ) (m k : List ℕ) → at + 16 * n ≤ 65536 → length m ≡ 16 * n → length k ≡ 16 * n → IsBytes m → IsBytes k
-    → rows_text n at m (ended end_line []) ≡ rows_text n at k (ended end_line []) → m ≡ k
+    → rows_text n at m (line_before end_line []) ≡ rows_text n at k (line_before end_line []) → m ≡ k
 unfolding rows_text
 rows_one zero at m k room lm lk p q e = nil_from_length m (omega (arith, lm)) ∙ sym (nil_from_length k (omega (arith, lk)))
 rows_one (suc n) at m k room lm lk p q e =
@@ -321,9 +321,9 @@ rows_one (suc n) at m k room lm lk p q e =
     (rows_one n (at + 16) (drop 16 m) (drop 16 k) (omega arith) (later_rows n m lm) (later_rows n k lk) (bytes_drop 16 m p) (bytes_drop 16 k q))
   where
     by : (b c : Bool) → is_zero (take 16 m) ≡ b → is_zero (take 16 k) ≡ c
-        → cond b (rows_text n (at + 16) (drop 16 m) (ended end_line [])) (ended (row_line at (take 16 m)) (rows_text n (at + 16) (drop 16 m) (ended end_line [])))
-        ≡ cond c (rows_text n (at + 16) (drop 16 k) (ended end_line [])) (ended (row_line at (take 16 k)) (rows_text n (at + 16) (drop 16 k) (ended end_line [])))
-        → (rows_text n (at + 16) (drop 16 m) (ended end_line []) ≡ rows_text n (at + 16) (drop 16 k) (ended end_line []) → drop 16 m ≡ drop 16 k) → m ≡ k
+        → cond b (rows_text n (at + 16) (drop 16 m) (line_before end_line [])) (line_before (row_line at (take 16 m)) (rows_text n (at + 16) (drop 16 m) (line_before end_line [])))
+        ≡ cond c (rows_text n (at + 16) (drop 16 k) (line_before end_line [])) (line_before (row_line at (take 16 k)) (rows_text n (at + 16) (drop 16 k) (line_before end_line [])))
+        → (rows_text n (at + 16) (drop 16 m) (line_before end_line []) ≡ rows_text n (at + 16) (drop 16 k) (line_before end_line []) → drop 16 m ≡ drop 16 k) → m ≡ k
     by true true y z f r = joined_parts 16 m k (zeros_one (take 16 m) (take 16 k) (first_row n m lm ∙ sym (first_row n k lk)) y z) (r f)
     by true false y z f r = absurd (no_line n at (at + 16) (take 16 k) (drop 16 m) _ (omega arith) (omega arith) (first_row n k lk) (bytes_take 16 k q) (later_rows n m lm) (bytes_drop 16 m p) (sym f))
     by false true y z f r = absurd (no_line n at (at + 16) (take 16 m) (drop 16 k) _ (omega arith) (omega arith) (first_row n m lm) (bytes_take 16 m p) (later_rows n k lk) (bytes_drop 16 k q) f)
@@ -358,7 +358,7 @@ first_one a b (inr p) (inl q) e =
 count_one : (room a b : ℕ) (r s : List ℕ) → a ≤ 32 → b ≤ 32 → count_text room a r ≡ count_text room b s → r ≡ s
 count_one room a b r s la lb e = by (room == 8) e
   where
-    by : (c : Bool) → cond c r (ended (count_line a) r) ≡ cond c s (ended (count_line b) s) → r ≡ s
+    by : (c : Bool) → cond c r (line_before (count_line a) r) ≡ cond c s (line_before (count_line b) s) → r ≡ s
     by true f = f
     by false f = let x = text_of_count a la in let y = text_of_count b lb in (line_one (count_line a) (count_line b) r s x.plain y.plain f).1
 
@@ -418,12 +418,12 @@ row_serves at last row even high above filled =
     all x y z w e f g h = rw (e, f, g, h) refl
 
 row_ok : (at last : ℕ) (row rest : List ℕ) (s : Spot) → at % 16 ≡ 0 → 512 ≤ at → at < 65536 → last < at → length row ≡ 16 → IsBytes row → is_zero row ≡ false
-    → says (rows_refusal last) s (ended (row_line at row) rest) ≡ says (rows_refusal at) (past (row_line at row) s) rest
+    → says (rows_refusal last) s (line_before (row_line at row) rest) ≡ says (rows_refusal at) (next_spot (row_line at row) s) rest
 row_ok at last row rest s even high small above len are filled =
     let t = text_of_row at row small len are in
     let k = row_serves at last row even high above filled in
     let line : List ℕ = row_line at row in
-    let next : Spot = past line s in
+    let next : Spot = next_spot line s in
     at_line (rows_refusal last) s line rest t.lined.plain
     ∙ formed_ok row_form s (row_line at row) _ t.lined.has
     ∙ ap (λ (a : ℕ). placed_by last s a (digits_bytes 8 16 line) (says (rows_refusal a) next rest)) t.at_is
@@ -436,34 +436,34 @@ unfolding ended_lines unended
 at_end s = refl
 
 rows_ok : (n at last : ℕ) (memory : List ℕ) (s : Spot) → at % 16 ≡ 0 → 512 ≤ at → at + 16 * n ≤ 65536 → last < at → length memory ≡ 16 * n → IsBytes memory
-    → says (rows_refusal last) s (rows_text n at memory (ended end_line [])) ≡ None
+    → says (rows_refusal last) s (rows_text n at memory (line_before end_line [])) ≡ None
 unfolding rows_text
-rows_ok zero at last memory s even high room above len are = at_line (rows_refusal last) s end_line [] refl ∙ at_end (past end_line s)
+rows_ok zero at last memory s even high room above len are = at_line (rows_refusal last) s end_line [] refl ∙ at_end (next_spot end_line s)
 rows_ok (suc n) at last memory s even high room above len are =
     by (is_zero (take 16 memory)) refl
     (λ l q below. rows_ok n (at + 16) l (drop 16 memory) q (omega arith) (omega arith) (omega arith) below (later_rows n memory len) (bytes_drop 16 memory are))
   where
     by : (c : Bool) → is_zero (take 16 memory) ≡ c
-        → ((l : ℕ) (q : Spot) → l < at + 16 → says (rows_refusal l) q (rows_text n (at + 16) (drop 16 memory) (ended end_line [])) ≡ None)
-        → says (rows_refusal last) s (cond c (rows_text n (at + 16) (drop 16 memory) (ended end_line [])) (ended (row_line at (take 16 memory)) (rows_text n (at + 16) (drop 16 memory) (ended end_line [])))) ≡ None
+        → ((l : ℕ) (q : Spot) → l < at + 16 → says (rows_refusal l) q (rows_text n (at + 16) (drop 16 memory) (line_before end_line [])) ≡ None)
+        → says (rows_refusal last) s (cond c (rows_text n (at + 16) (drop 16 memory) (line_before end_line [])) (line_before (row_line at (take 16 memory)) (rows_text n (at + 16) (drop 16 memory) (line_before end_line [])))) ≡ None
     by true z rest = rest last s (omega arith)
     by false z rest =
-        row_ok at last (take 16 memory) (rows_text n (at + 16) (drop 16 memory) (ended end_line [])) s even high (omega arith) above (first_row n memory len) (bytes_take 16 memory are) z
-        ∙ rest at (past (row_line at (take 16 memory)) s) (omega arith)
+        row_ok at last (take 16 memory) (rows_text n (at + 16) (drop 16 memory) (line_before end_line [])) s even high (omega arith) above (first_row n memory len) (bytes_take 16 memory are) z
+        ∙ rest at (next_spot (row_line at (take 16 memory)) s) (omega arith)
 
 -- no row's line is a module's
-rows_not_due : (n at : ℕ) (memory : List ℕ) → at + 16 * n ≤ 65536 → length memory ≡ 16 * n → IsBytes memory → due_next None (ended_lines (rows_text n at memory (ended end_line []))) ≡ false
+rows_not_due : (n at : ℕ) (memory : List ℕ) → at + 16 * n ≤ 65536 → length memory ≡ 16 * n → IsBytes memory → due_next None (ended_lines (rows_text n at memory (line_before end_line []))) ≡ false
 unfolding rows_text
 rows_not_due zero at memory room len are = ap (due_next None) (lines_of end_line [] refl)
 rows_not_due (suc n) at memory room len are =
     by (is_zero (take 16 memory)) (rows_not_due n (at + 16) (drop 16 memory) (omega arith) (later_rows n memory len) (bytes_drop 16 memory are))
   where
-    by : (c : Bool) → due_next None (ended_lines (rows_text n (at + 16) (drop 16 memory) (ended end_line []))) ≡ false
-        → due_next None (ended_lines (cond c (rows_text n (at + 16) (drop 16 memory) (ended end_line [])) (ended (row_line at (take 16 memory)) (rows_text n (at + 16) (drop 16 memory) (ended end_line []))))) ≡ false
+    by : (c : Bool) → due_next None (ended_lines (rows_text n (at + 16) (drop 16 memory) (line_before end_line []))) ≡ false
+        → due_next None (ended_lines (cond c (rows_text n (at + 16) (drop 16 memory) (line_before end_line [])) (line_before (row_line at (take 16 memory)) (rows_text n (at + 16) (drop 16 memory) (line_before end_line []))))) ≡ false
     by true rest = rest
     by false rest =
         let t = text_of_row at (take 16 memory) (omega arith) (first_row n memory len) (bytes_take 16 memory are) in
-        ap (due_next None) (lines_of (row_line at (take 16 memory)) (rows_text n (at + 16) (drop 16 memory) (ended end_line [])) t.lined.plain)
+        ap (due_next None) (lines_of (row_line at (take 16 memory)) (rows_text n (at + 16) (drop 16 memory) (line_before end_line [])) t.lined.plain)
 
 -- ---- no refusal: the modules
 
@@ -554,13 +554,13 @@ due_over (Some k) lines d h = let z : (k == 0) ≡ true = grind (arith, nat_test
 
 module_ok : (t u : Table) (left : Option ℕ) (s : Spot) (line rest : List ℕ) → no_lf line ≡ true → HasLineForm module_form line → due_next left (line ∷ ended_lines rest) ≡ true
     → fault_of t (section_at 12 line) (section_at 22 line) ≡ None → added t line ≡ u
-    → says (modules_refusal t left) s (ended line rest) ≡ says (modules_refusal u (one_less left)) (past line s) rest
+    → says (modules_refusal t left) s (line_before line rest) ≡ says (modules_refusal u (one_less left)) (next_spot line s) rest
 module_ok t u left s line rest plain has due none is =
     at_line (modules_refusal t left) s line rest plain
     ∙ one_due t left s line (ended_lines rest) (unended rest) due
     ∙ formed_ok module_form s line _ has
-    ∙ ap (λ (o : Option TableFault). taken_or o (t.given + 1) (says (modules_refusal (added t line) (one_less left)) (past line s) rest)) none
-    ∙ ap (λ (v : Table). says (modules_refusal v (one_less left)) (past line s) rest) is
+    ∙ ap (λ (o : Option TableFault). taken_or o (t.given + 1) (says (modules_refusal (added t line) (one_less left)) (next_spot line s) rest)) none
+    ∙ ap (λ (v : Table). says (modules_refusal v (one_less left)) (next_spot line s) rest) is
 
 modules_ok : (ms xs : List Module) (g k room : ℕ) (left : Option ℕ) (s : Spot) (rest : List ℕ) → g ≡ length xs → length xs + length ms ≤ room → room ≤ 32 → AreNumbered (g + 1) ms → AreModules k ms → AllApart xs ms
     → AreDue left (length ms) → due_next None (ended_lines rest) ≡ false → ((q : Spot) → says (rows_refusal 496) q rest ≡ None)
@@ -579,24 +579,24 @@ modules_ok (m ∷ ms) xs g k room left s rest gl held small num mods apart due o
     let with_id = λ (i : ℕ). let n : Module = record { id = i; vendor = m.vendor; text = m.text; ram = m.ram } in let v : Table = record { modules = xs ++ n ∷ []; given = g + 1; room = room } in v in
     let is : added t line ≡ u = by_vendor ∙ ap with_id (sym num.0) in
     module_ok t u left s line (modules_text ms rest) x.lined.plain x.lined.has (due_here left (length ms) line (ended_lines (modules_text ms rest)) due (let f = x.lined.has in f.formed)) none is
-    ∙ modules_ok ms (xs ++ m ∷ []) (g + 1) k room (one_less left) (past line s) rest (omega (arith, gl, length-append xs (m ∷ []))) (omega (arith, held, length-append xs (m ∷ []))) small num.2 mods.2 (more_apart xs m ms apart mods.1) (due_less left (length ms) due) other after
+    ∙ modules_ok ms (xs ++ m ∷ []) (g + 1) k room (one_less left) (next_spot line s) rest (omega (arith, gl, length-append xs (m ∷ []))) (omega (arith, held, length-append xs (m ∷ []))) small num.2 mods.2 (more_apart xs m ms apart mods.1) (due_less left (length ms) due) other after
 
 -- ---- no refusal: the first lines
 
-first_ok : (room : ℕ) (s : Spot) (rest : List ℕ) → (room ≡ 8) ⊎ (room ≡ 32) → says first_refusal s (ended (first_line room) rest) ≡ says (key_refusal room) (past (first_line room) s) rest
+first_ok : (room : ℕ) (s : Spot) (rest : List ℕ) → (room ≡ 8) ⊎ (room ≡ 32) → says first_refusal s (line_before (first_line room) rest) ≡ says (key_refusal room) (next_spot (first_line room) s) rest
 first_ok room s rest (inl e) = rw e (at_line first_refusal s (codes "sancus-image 1") rest refl)
 first_ok room s rest (inr e) = rw e (at_line first_refusal s (codes "sancus-image 2") rest refl)
 
-key_ok : (room : ℕ) (s : Spot) (key rest : List ℕ) → length key ≡ 16 → IsBytes key → says (key_refusal room) s (ended (key_line key) rest) ≡ says (handler_refusal room) (past (key_line key) s) rest
+key_ok : (room : ℕ) (s : Spot) (key rest : List ℕ) → length key ≡ 16 → IsBytes key → says (key_refusal room) s (line_before (key_line key) rest) ≡ says (handler_refusal room) (next_spot (key_line key) s) rest
 key_ok room s key rest len are =
     let t = key_text key len are in
     at_line (key_refusal room) s (key_line key) rest t.lined.plain ∙ formed_ok key_form s (key_line key) _ t.lined.has
 
-handler_ok : (room : ℕ) (s : Spot) (sp : ℕ) (rest : List ℕ) → sp < 65536 → sp % 2 ≡ 0 → says (handler_refusal room) s (ended (handler_line sp) rest) ≡ says (count_refusal room) (past (handler_line sp) s) rest
+handler_ok : (room : ℕ) (s : Spot) (sp : ℕ) (rest : List ℕ) → sp < 65536 → sp % 2 ≡ 0 → says (handler_refusal room) s (line_before (handler_line sp) rest) ≡ says (count_refusal room) (next_spot (handler_line sp) s) rest
 handler_ok room s sp rest small even =
     let t = handler_text sp small in
     let z : (sp % 2 == 0) ≡ true = grind (arith, nat_tests) in
-    let next = says (count_refusal room) (past (handler_line sp) s) rest in
+    let next = says (count_refusal room) (next_spot (handler_line sp) s) rest in
     at_line (handler_refusal room) s (handler_line sp) rest t.lined.plain ∙ formed_ok handler_form s (handler_line sp) _ t.lined.has
     ∙ ap (λ (w : ℕ). cond (w % 2 == 0) next (Some (Line s.number))) t.sp_is
     ∙ ap (λ (b : Bool). cond b next (Some (Line s.number))) z
@@ -606,9 +606,9 @@ count_ok : (room n : ℕ) (s : Spot) (rest : List ℕ) → (room ≡ 8) ⊎ (roo
 count_ok room n s rest (inl e) small after = let none = after None s tt in rw e (rw e at none)
 count_ok room n s rest (inr e) small after =
     let t = text_of_count n small in
-    let none = after (Some n) (past (count_line n) s) refl in
+    let none = after (Some n) (next_spot (count_line n) s) refl in
     rw e (at_line (count_refusal 32) s (count_line n) rest t.plain
-    ∙ ap (λ (o : Option ℕ). counted o s (says (modules_refusal (empty_table 32) o) (past (count_line n) s) rest)) t.count_is ∙ (rw e at none))
+    ∙ ap (λ (o : Option ℕ). counted_or_line o s (says (modules_refusal (empty_table 32) o) (next_spot (count_line n) s) rest)) t.count_is ∙ (rw e at none))
 
 -- the text of an image is not refused
 pub text_has_no_refusal : (i : Image) → IsImage i → refusal_of (image_text i) ≡ None
@@ -629,7 +629,7 @@ text_has_no_refusal i h =
     λ left q due. modules_ok i.table.modules [] 0 i.table.given i.table.room left q rest refl (omega (arith, fits)) small h.numbered t.modules tt (subst (AreDue left) (sym held) due)
     (rows_not_due 4064 512 (drop 512 i.memory) (omega arith) len are)
     (λ p. rows_ok 4064 512 496 (drop 512 i.memory) p refl (omega arith) (omega arith) (omega arith) len are) in
-    first_ok i.table.room start (ended (key_line i.node_key) (text_after_key i)) t.room_ok
-    ∙ key_ok i.table.room (past (first_line i.table.room) start) i.node_key (text_after_key i) h.sixteen h.key_bytes
-    ∙ handler_ok i.table.room (past (key_line i.node_key) (past (first_line i.table.room) start)) i.handler_sp (count_text i.table.room i.table.given more) h.small_sp h.even_sp
-    ∙ count_ok i.table.room i.table.given (past (handler_line i.handler_sp) (past (key_line i.node_key) (past (first_line i.table.room) start))) more t.room_ok (few_given i h) after
+    first_ok i.table.room start (line_before (key_line i.node_key) (text_after_key i)) t.room_ok
+    ∙ key_ok i.table.room (next_spot (first_line i.table.room) start) i.node_key (text_after_key i) h.sixteen h.key_bytes
+    ∙ handler_ok i.table.room (next_spot (key_line i.node_key) (next_spot (first_line i.table.room) start)) i.handler_sp (count_text i.table.room i.table.given more) h.small_sp h.even_sp
+    ∙ count_ok i.table.room i.table.given (next_spot (handler_line i.handler_sp) (next_spot (key_line i.node_key) (next_spot (first_line i.table.room) start))) more t.room_ok (few_given i h) after

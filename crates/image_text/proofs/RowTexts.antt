@@ -4,12 +4,12 @@ use Rattle.std.proofs.lemmas.Bool.Decides.{nat_tests}
 use Rattle.std.proofs.lemmas.List.{append-nil, take-append-le, drop-append-le, take_at, length-replicate, replicate-append-replicate, get_or-replicate, get_or_append_left, nil_from_length}
 use Rattle.hex.specs.Hex.{IsBytes}
 use Rattle.texts.specs.Lines.{ended_lines, unended}
-use Rattle.image_text.specs.ImageText.{ended, end_line, is_zero, row_line, row_text, rows_text}
+use Rattle.image_text.specs.ImageText.{line_before, end_line, is_zero, row_line, row_text, rows_text}
 use Rattle.std.specs.Cmp.Lexicographic.{pointwise}
 use Rattle.std.proofs.lemmas.Bool.{not-true, and_parts}
 use Rattle.image_text.specs.declared.ImageFault.{ImageFault}
 use Rattle.image_text.specs.declared.ImageFault.TheVariants.{Line, Twice}
-use Rattle.image_text.specs.Refusal.{Spot, past, formed, row_form, row_or, is_row, digits_word, digits_bytes, rows_refusal, end_refusal}
+use Rattle.image_text.specs.Refusal.{Spot, next_spot, formed, row_form, row_or, is_row, digits_word, digits_bytes, rows_refusal, end_refusal}
 use Rattle.image_text.proofs.FormLemmas.{formed_ok}
 use Rattle.image_text.proofs.LineTexts.{row_line_of}
 use Rattle.image_text.proofs.StageLemmas.{line_on, next_on}
@@ -47,10 +47,10 @@ rows_zeros (suc k) at rest =
     ap (λ (m : List ℕ). rows_text (suc k) at m rest) split ∙ rows_zeros k (at + 16) rest
 
 -- one row that is not all zeros
-pub row_alone : (at : ℕ) (row rest : List ℕ) → length row ≡ 16 → is_zero row ≡ false → rows_text 1 at row rest ≡ ended (row_line at row) rest
+pub row_alone : (at : ℕ) (row rest : List ℕ) → length row ≡ 16 → is_zero row ≡ false → rows_text 1 at row rest ≡ line_before (row_line at row) rest
 unfolding rows_text
 row_alone at row rest len e =
-    ap (λ (r : List ℕ). row_text at r rest) (ap (take 16) (sym (append-nil row)) ∙ take_at row [] 16 len) ∙ ap (λ b. cond b rest (ended (row_line at row) rest)) e
+    ap (λ (r : List ℕ). row_text at r rest) (ap (take 16) (sym (append-nil row)) ∙ take_at row [] 16 len) ∙ ap (λ b. cond b rest (line_before (row_line at row) rest)) e
 
 -- the low part stays as memory grows
 low_kept : (memory more : List ℕ) → 512 ≤ length memory → ((a : ℕ) → a < 512 → slice_index memory a ≡ 0) → (a : ℕ) → a < 512 → slice_index (memory ++ more) a ≡ 0
@@ -109,7 +109,7 @@ rows_none rest memory e = record {
 }
 
 -- the memory is whole
-pub rows_done : (start : Unread) (last : ℕ) (memory filled : List ℕ) (left : List ℕ) → last % 16 ≡ 0 → RowsSoFar start.rest last memory left → left ≡ ended end_line [] → filled ≡ memory ++ replicate (65536 - length memory) 0 → PassedMemory filled start
+pub rows_done : (start : Unread) (last : ℕ) (memory filled : List ℕ) (left : List ℕ) → last % 16 ≡ 0 → RowsSoFar start.rest last memory left → left ≡ line_before end_line [] → filled ≡ memory ++ replicate (65536 - length memory) 0 → PassedMemory filled start
 rows_done start last memory filled left even h is e =
     let small = h.small in
     let k = h.rows in
@@ -125,10 +125,10 @@ rows_done start last memory filled left even h is e =
     let joined : filled ≡ memory ++ z = e ∙ ap (λ (n : ℕ). memory ++ replicate n 0) gap in
     let dropped : drop 512 filled ≡ d ++ z = ap (drop 512) joined ∙ drop-append-le 512 memory z (omega arith) in
     record {
-      text = h.text ∙ ap (λ (t : List ℕ). rows_text k 512 d t) (is ∙ sym (rows_zeros j (512 + 16 * k) (ended end_line [])))
-          ∙ sym (rows_append k j 512 d z (ended end_line []) dlen)
-          ∙ ap (λ (c : ℕ). rows_text c 512 (d ++ z) (ended end_line [])) whole
-          ∙ ap (λ (m : List ℕ). rows_text 4064 512 m (ended end_line [])) (sym dropped);
+      text = h.text ∙ ap (λ (t : List ℕ). rows_text k 512 d t) (is ∙ sym (rows_zeros j (512 + 16 * k) (line_before end_line [])))
+          ∙ sym (rows_append k j 512 d z (line_before end_line []) dlen)
+          ∙ ap (λ (c : ℕ). rows_text c 512 (d ++ z) (line_before end_line [])) whole
+          ∙ ap (λ (m : List ℕ). rows_text 4064 512 m (line_before end_line [])) (sym dropped);
       full = omega (arith, ap length joined, length-append memory z, zlen);
       low = λ b l. ap (λ (m : List ℕ). slice_index m b) joined ∙ low_kept memory z (omega arith) h.low b l;
       are_bytes = subst IsBytes (sym joined) (bytes_append memory z h.are_bytes (bytes_zeros (16 * j)));
@@ -153,12 +153,12 @@ is_placed last a row e =
 module _ (last : ℕ) (old new : Unread) (line : List ℕ) (read : ReadLine old line new) (other : pointwise nat_eq line end_line ≡ false) where
   -- what the rules say behind this row
   abbrev behind : Option ImageFault
-  behind = rows_refusal (digits_word 3 line) (past line old.spot) (ended_lines new.rest) (unended new.rest)
+  behind = rows_refusal (digits_word 3 line) (next_spot line old.spot) (ended_lines new.rest) (unended new.rest)
 
   pub row_on : on old (rows_refusal last) ≡ formed row_form old.spot line (row_or last old.spot line behind)
   row_on =
       line_on (rows_refusal last) old new line read
-      ∙ ap (λ b. cond b (end_refusal (past line old.spot) (ended_lines new.rest) (unended new.rest)) (formed row_form old.spot line (row_or last old.spot line behind))) other
+      ∙ ap (λ b. cond b (end_refusal (next_spot line old.spot) (ended_lines new.rest) (unended new.rest)) (formed row_form old.spot line (row_or last old.spot line behind))) other
 
   module _ (form : HasLineForm row_form line) where
     pub row_says : (c d : Bool) → is_row last (digits_word 3 line) (digits_bytes 8 16 line) ≡ c → (digits_word 3 line == last) ≡ d
@@ -185,7 +185,7 @@ module _ (last : ℕ) (old new : Unread) (line : List ℕ) (read : ReadLine old 
           filled = p.filled;
           even = ap (λ (n : ℕ). n % 16) is ∙ p.even;
           above = omega arith;
-          text = let t = read in t.text ∙ ap (λ (l : List ℕ). ended l new.rest) (k.text ∙ ap (λ (n : ℕ). row_line n (digits_bytes 8 16 line)) (sym is));
+          text = let t = read in t.text ∙ ap (λ (l : List ℕ). line_before l new.rest) (k.text ∙ ap (λ (n : ℕ). row_line n (digits_bytes 8 16 line)) (sym is));
           refusal = row_says true false e f ∙ next_on (rows_refusal (digits_word 3 line)) old new line read ∙ ap (λ (n : ℕ). on new (rows_refusal n)) (sym is);
           memory_is = m;
         }

@@ -10,8 +10,8 @@ use Rattle.texts.proofs.LawLemmas.{texts_are_lines}
 use Rattle.image_text.specs.declared.ImageFault.{ImageFault}
 use Rattle.image_text.specs.declared.ImageFault.TheVariants.{Line, Table as TableRefuses}
 use Rattle.image_text.specs.Image.{AreNumbered}
-use Rattle.image_text.specs.ImageText.{ended, modules_text, module_line}
-use Rattle.image_text.specs.Refusal.{Spot, past, formed, module_form, modules_refusal, rows_refusal, end_refusal, section_at, digits_word, added, taken_or, one_less}
+use Rattle.image_text.specs.ImageText.{line_before, modules_text, module_line}
+use Rattle.image_text.specs.Refusal.{Spot, next_spot, formed, module_form, modules_refusal, rows_refusal, end_refusal, section_at, digits_word, added, taken_or, one_less}
 use Rattle.image_text.specs.internal.Reading.{Unread, on, ReadLine, HasLineForm, due_next, AddsModule, IsLeft, IsGivenCount, ModulesSoFar, PassedModules}
 use Rattle.image_text.proofs.FormLemmas.{formed_ok}
 use Rattle.image_text.proofs.LineTexts.{module_line_of}
@@ -29,7 +29,7 @@ pub line_on : (R : Stage) (old new : Unread) (line : List ℕ) → ReadLine old 
 line_on R old new line h = ap (λ (l : List (List ℕ)). R old.spot l (unended old.rest)) h.lines ∙ ap (λ (t : List ℕ). R old.spot (line ∷ ended_lines new.rest) t) h.tail
 
 -- and from the next line on
-pub next_on : (R : Stage) (old new : Unread) (line : List ℕ) → ReadLine old line new → R (past line old.spot) (ended_lines new.rest) (unended new.rest) ≡ on new R
+pub next_on : (R : Stage) (old new : Unread) (line : List ℕ) → ReadLine old line new → R (next_spot line old.spot) (ended_lines new.rest) (unended new.rest) ≡ on new R
 next_on R old new line h = ap (λ (s : Spot). R s (ended_lines new.rest) (unended new.rest)) (sym h.spot)
 
 -- ---- modules
@@ -43,7 +43,7 @@ none_due t (Some n) s (line ∷ more) tail e = rw e refl
 
 -- where one is due, its line is the next
 pub one_due : (t : Table) (left : Option ℕ) (s : Spot) (line : List ℕ) (more : List (List ℕ)) (tail : List ℕ) → due_next left (line ∷ more) ≡ true
-    → modules_refusal t left s (line ∷ more) tail ≡ formed module_form s line (taken_or (fault_of t (section_at 12 line) (section_at 22 line)) (t.given + 1) (modules_refusal (added t line) (one_less left) (past line s) more tail))
+    → modules_refusal t left s (line ∷ more) tail ≡ formed module_form s line (taken_or (fault_of t (section_at 12 line) (section_at 22 line)) (t.given + 1) (modules_refusal (added t line) (one_less left) (next_spot line s) more tail))
 one_due t None s line more tail e = rw e refl
 one_due t (Some n) s line more tail e = rw e refl
 
@@ -51,9 +51,9 @@ pub numbered_more : (id : ℕ) (ms : List Module) (m : Module) → AreNumbered i
 numbered_more id [] m h e v = (omega (arith, e), v, tt)
 numbered_more id (x ∷ ms) m h e v = (h.0, h.1, numbered_more (id + 1) ms m h.2 (omega (arith, e)) v)
 
-pub modules_text_more : (ms : List Module) (m : Module) (rest : List ℕ) → modules_text (ms ++ m ∷ []) rest ≡ modules_text ms (ended (module_line m) rest)
+pub modules_text_more : (ms : List Module) (m : Module) (rest : List ℕ) → modules_text (ms ++ m ∷ []) rest ≡ modules_text ms (line_before (module_line m) rest)
 modules_text_more [] m rest = refl
-modules_text_more (x ∷ ms) m rest = ap (λ (l : List ℕ). ended (module_line x) l) (modules_text_more ms m rest)
+modules_text_more (x ∷ ms) m rest = ap (λ (l : List ℕ). line_before (module_line x) l) (modules_text_more ms m rest)
 
 pub left_less : (due left : Option ℕ) (given : ℕ) (lines : List (List ℕ)) → IsLeft due left given → due_next left lines ≡ true → IsLeft due (one_less left) (given + 1)
 left_less None None given lines h e = tt
@@ -76,8 +76,8 @@ past_module old new t u left a e =
     line_on (modules_refusal t left) old new a.line r
     ∙ one_due t left old.spot a.line _ _ (ap (due_next left) (sym r.lines) ∙ e)
     ∙ formed_ok module_form old.spot a.line _ a.form
-    ∙ ap (λ (o : Option _). taken_or o (t.given + 1) (modules_refusal (added t a.line) (one_less left) (past a.line old.spot) (ended_lines new.rest) (unended new.rest))) a.taken
-    ∙ ap (λ (v : Table). modules_refusal v (one_less left) (past a.line old.spot) (ended_lines new.rest) (unended new.rest)) (sym a.table)
+    ∙ ap (λ (o : Option _). taken_or o (t.given + 1) (modules_refusal (added t a.line) (one_less left) (next_spot a.line old.spot) (ended_lines new.rest) (unended new.rest))) a.taken
+    ∙ ap (λ (v : Table). modules_refusal v (one_less left) (next_spot a.line old.spot) (ended_lines new.rest) (unended new.rest)) (sym a.table)
     ∙ next_on (modules_refusal u (one_less left)) old new a.line r
 
 -- ---- the end
@@ -96,13 +96,13 @@ not_ended_yet s (b ∷ bytes) l = not_ended s b bytes
 
 -- a module's line that has not the form, and one whose module the table refuses
 module _ (old new : Unread) (t : Table) (left : Option ℕ) (line : List ℕ) (read : ReadLine old line new) (due : due_next left (ended_lines old.rest) ≡ true) where
-  pub due_line : on old (modules_refusal t left) ≡ formed module_form old.spot line (taken_or (fault_of t (section_at 12 line) (section_at 22 line)) (t.given + 1) (modules_refusal (added t line) (one_less left) (past line old.spot) (ended_lines new.rest) (unended new.rest)))
+  pub due_line : on old (modules_refusal t left) ≡ formed module_form old.spot line (taken_or (fault_of t (section_at 12 line) (section_at 22 line)) (t.given + 1) (modules_refusal (added t line) (one_less left) (next_spot line old.spot) (ended_lines new.rest) (unended new.rest)))
   due_line = line_on (modules_refusal t left) old new line read ∙ one_due t left old.spot line _ _ (ap (due_next left) (sym read.lines) ∙ due)
 
   pub module_refused : (fault : TableFault) → HasLineForm module_form line → fault_of t (section_at 12 line) (section_at 22 line) ≡ Some fault → on old (modules_refusal t left) ≡ Some (TableRefuses (t.given + 1) fault)
   module_refused fault h e =
       due_line ∙ formed_ok module_form old.spot line _ h
-      ∙ ap (λ (o : Option TableFault). taken_or o (t.given + 1) (modules_refusal (added t line) (one_less left) (past line old.spot) (ended_lines new.rest) (unended new.rest))) e
+      ∙ ap (λ (o : Option TableFault). taken_or o (t.given + 1) (modules_refusal (added t line) (one_less left) (next_spot line old.spot) (ended_lines new.rest) (unended new.rest))) e
 
 -- one module more
 pub modules_more : (room : ℕ) (due : Option ℕ) (start : Unread) (t u : Table) (now next : Unread) (left : Option ℕ)
@@ -118,7 +118,7 @@ modules_more room due start t u now next left h a ok e =
       room_is = h.room_is;
       all_held = omega (arith, held, length-append t.modules (m ∷ []));
       numbered = numbered_more 1 t.modules m h.numbered (omega (arith, held)) k.small;
-      text = h.text ∙ ap (λ (l : List ℕ). modules_text t.modules l) (r.text ∙ ap (λ (l : List ℕ). ended l next.rest) (k.text (t.given + 1))) ∙ sym (modules_text_more t.modules m next.rest);
+      text = h.text ∙ ap (λ (l : List ℕ). modules_text t.modules l) (r.text ∙ ap (λ (l : List ℕ). line_before l next.rest) (k.text (t.given + 1))) ∙ sym (modules_text_more t.modules m next.rest);
       refusal = h.refusal ∙ past_module now next t u left a e ∙ ap (λ (v : Table). on next (modules_refusal v (one_less left))) a.table;
       count = left_less due left t.given (ended_lines now.rest) h.count e;
     } in

@@ -5,7 +5,7 @@ use Rattle.texts.specs.Hexadecimals.{hex_word}
 use Rattle.mod_layout.specs.declared.Module.{Module}
 use Rattle.mod_layout.proofs.Found.{find_module}
 use Rattle.image_text.specs.Image.{Image, AreNumbered}
-use Rattle.image_text.specs.ImageText.{ended, is_zero, row_line, row_text, rows_text, section_words, module_line, modules_text, count_text, count_line, first_line, key_line, handler_line, end_line, memory_text, image_text}
+use Rattle.image_text.specs.ImageText.{line_before, is_zero, row_line, row_text, rows_text, section_words, module_line, modules_text, count_text, count_line, first_line, key_line, handler_line, end_line, memory_text, image_text}
 
 place : (k i : ℕ) → suc i + k ≡ i + (k + 1)
 place k i = omega arith
@@ -54,20 +54,20 @@ number_held ms i h = by (find_module (i + 1) ms) refl
     by (Some m) e = let l = below_of ms i m (found_number 1 ms i m h e) in grind (arith, nat_tests)
 
 -- a line, and what is left
-pub ended_then : (line rest : List ℕ) → ended line [] ++ rest ≡ ended line rest
+pub ended_then : (line rest : List ℕ) → line_before line [] ++ rest ≡ line_before line rest
 ended_then line rest = append_assoc line (10 ∷ []) rest
 
 pub row_then : (at : ℕ) (row rest : List ℕ) → row_text at row [] ++ rest ≡ row_text at row rest
 row_then at row rest = by (is_zero row)
   where
-    by : (c : Bool) → cond c [] (ended (row_line at row) []) ++ rest ≡ cond c rest (ended (row_line at row) rest)
+    by : (c : Bool) → cond c [] (line_before (row_line at row) []) ++ rest ≡ cond c rest (line_before (row_line at row) rest)
     by true = refl
     by false = ended_then (row_line at row) rest
 
 pub count_then : (room n : ℕ) (rest : List ℕ) → count_text room n [] ++ rest ≡ count_text room n rest
 count_then room n rest = by (room == 8)
   where
-    by : (c : Bool) → cond c [] (ended (count_line n) []) ++ rest ≡ cond c rest (ended (count_line n) rest)
+    by : (c : Bool) → cond c [] (line_before (count_line n) []) ++ rest ≡ cond c rest (line_before (count_line n) rest)
     by true = refl
     by false = ended_then (count_line n) rest
 
@@ -89,15 +89,15 @@ unfolding rows_text
 rows_over at memory rest = refl
 
 -- one module more is written
-pub module_written : (old new start : List ℕ) (ms : List Module) (i : ℕ) (m : Module) → AreNumbered 1 ms → find_module (i + 1) ms ≡ Some m → new ≡ old ++ ended (module_line m) []
+pub module_written : (old new start : List ℕ) (ms : List Module) (i : ℕ) (m : Module) → AreNumbered 1 ms → find_module (i + 1) ms ≡ Some m → new ≡ old ++ line_before (module_line m) []
     → ((rest : List ℕ) → old ++ modules_text (drop i ms) rest ≡ start ++ modules_text ms rest) → (rest : List ℕ) → new ++ modules_text (drop (i + 1) ms) rest ≡ start ++ modules_text ms rest
 module_written old new start ms i m h f e inv rest =
     let at = found_number 1 ms i m h f in
     let next : i + 1 ≡ suc i = omega arith in
     ap (λ (l : List ℕ). l ++ modules_text (drop (i + 1) ms) rest) e
-    ∙ append_assoc old (ended (module_line m) []) (modules_text (drop (i + 1) ms) rest)
+    ∙ append_assoc old (line_before (module_line m) []) (modules_text (drop (i + 1) ms) rest)
     ∙ ap (λ (l : List ℕ). old ++ l) (ended_then (module_line m) (modules_text (drop (i + 1) ms) rest)
-    ∙ ap (λ (n : ℕ). ended (module_line m) (modules_text (drop n ms) rest)) next
+    ∙ ap (λ (n : ℕ). line_before (module_line m) (modules_text (drop n ms) rest)) next
     ∙ sym (ap (λ (l : List Module). modules_text l rest) at))
     ∙ inv rest
 
@@ -117,22 +117,22 @@ row_written old new start n to memory l t e inv rest =
 
 -- the whole text is written
 pub all_written : (image : Image) (t1 t2 t3 t4 t5 t6 t7 : List ℕ) → length image.table.modules ≡ image.table.given
-    → t1 ≡ [] ++ ended (first_line image.table.room) [] → t2 ≡ t1 ++ ended (key_line image.node_key) [] → t3 ≡ t2 ++ ended (handler_line image.handler_sp) []
+    → t1 ≡ [] ++ line_before (first_line image.table.room) [] → t2 ≡ t1 ++ line_before (key_line image.node_key) [] → t3 ≡ t2 ++ line_before (handler_line image.handler_sp) []
     → t4 ≡ t3 ++ count_text image.table.room (length image.table.modules) [] → ((rest : List ℕ) → t5 ++ rest ≡ t4 ++ modules_text image.table.modules rest)
-    → ((rest : List ℕ) → t6 ++ rest ≡ t5 ++ rows_text 4064 512 (drop 512 image.memory) rest) → t7 ≡ t6 ++ ended end_line [] → t7 ≡ image_text image
+    → ((rest : List ℕ) → t6 ++ rest ≡ t5 ++ rows_text 4064 512 (drop 512 image.memory) rest) → t7 ≡ t6 ++ line_before end_line [] → t7 ≡ image_text image
 unfolding image_text
 all_written image t1 t2 t3 t4 t5 t6 t7 held e1 e2 e3 e4 e5 e6 e7 =
     let tail = memory_text image.memory in
     let body = modules_text image.table.modules tail in
     let counted = count_text image.table.room image.table.given body in
-    let handled = ended (handler_line image.handler_sp) counted in
-    let f6 : t7 ≡ t5 ++ tail = e7 ∙ e6 (ended end_line []) in
+    let handled = line_before (handler_line image.handler_sp) counted in
+    let f6 : t7 ≡ t5 ++ tail = e7 ∙ e6 (line_before end_line []) in
     let f5 : t7 ≡ t4 ++ body = f6 ∙ e5 tail in
     let f4 : t7 ≡ t3 ++ counted = f5 ∙ ap (λ (l : List ℕ). l ++ body) e4 ∙ append_assoc t3 (count_text image.table.room (length image.table.modules) []) body
     ∙ ap (λ (l : List ℕ). t3 ++ l) (count_then image.table.room (length image.table.modules) body ∙ ap (λ (n : ℕ). count_text image.table.room n body) held) in
-    let f3 : t7 ≡ t2 ++ handled = f4 ∙ ap (λ (l : List ℕ). l ++ counted) e3 ∙ append_assoc t2 (ended (handler_line image.handler_sp) []) counted ∙ ap (λ (l : List ℕ). t2 ++ l) (ended_then (handler_line image.handler_sp) counted) in
-    let f2 : t7 ≡ t1 ++ ended (key_line image.node_key) handled = f3 ∙ ap (λ (l : List ℕ). l ++ handled) e2 ∙ append_assoc t1 (ended (key_line image.node_key) []) handled ∙ ap (λ (l : List ℕ). t1 ++ l) (ended_then (key_line image.node_key) handled) in
-    f2 ∙ ap (λ (l : List ℕ). l ++ ended (key_line image.node_key) handled) e1 ∙ ended_then (first_line image.table.room) (ended (key_line image.node_key) handled)
+    let f3 : t7 ≡ t2 ++ handled = f4 ∙ ap (λ (l : List ℕ). l ++ counted) e3 ∙ append_assoc t2 (line_before (handler_line image.handler_sp) []) counted ∙ ap (λ (l : List ℕ). t2 ++ l) (ended_then (handler_line image.handler_sp) counted) in
+    let f2 : t7 ≡ t1 ++ line_before (key_line image.node_key) handled = f3 ∙ ap (λ (l : List ℕ). l ++ handled) e2 ∙ append_assoc t1 (line_before (key_line image.node_key) []) handled ∙ ap (λ (l : List ℕ). t1 ++ l) (ended_then (key_line image.node_key) handled) in
+    f2 ∙ ap (λ (l : List ℕ). l ++ line_before (key_line image.node_key) handled) e1 ∙ ended_then (first_line image.table.room) (line_before (key_line image.node_key) handled)
 
 -- ---- a module's line, part by part
 
@@ -140,7 +140,7 @@ joined : (t a b c d e f g : List ℕ) → ((((((t ++ a) ++ b) ++ c) ++ d) ++ e) 
 joined t a b c d e f g = simp append_assoc
 
 pub module_put : (m : Module) (t0 t1 t2 t3 t4 t5 t6 t7 : List ℕ) → t1 ≡ t0 ++ codes "module " → t2 ≡ t1 ++ hex_word m.vendor → t3 ≡ t2 ++ codes " "
-    → t4 ≡ t3 ++ section_words m.text → t5 ≡ t4 ++ codes " " → t6 ≡ t5 ++ section_words m.ram → t7 ≡ t6 ++ codes "\n" → t7 ≡ t0 ++ ended (module_line m) []
+    → t4 ≡ t3 ++ section_words m.text → t5 ≡ t4 ++ codes " " → t6 ≡ t5 ++ section_words m.ram → t7 ≡ t6 ++ codes "\n" → t7 ≡ t0 ++ line_before (module_line m) []
 module_put m t0 t1 t2 t3 t4 t5 t6 t7 e1 e2 e3 e4 e5 e6 e7 =
     let s2 = e2 ∙ ap (λ (t : List ℕ). t ++ hex_word m.vendor) e1 in
     let s3 = e3 ∙ ap (λ (t : List ℕ). t ++ codes " ") s2 in

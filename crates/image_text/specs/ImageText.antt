@@ -9,8 +9,8 @@ use Rattle.image_text.specs.Image.{Image}
 use Rattle.image_text.specs.declared.numbers.TheConstants.{FIRST_ROW, ROW_COUNT}
 
 -- a line, and the text behind it
-abbrev pub ended : List ℕ → List ℕ → List ℕ
-ended line rest = line ++ (10 ∷ rest)
+abbrev pub line_before : List ℕ → List ℕ → List ℕ
+line_before line rest = line ++ (10 ∷ rest)
 
 -- ---- the lines
 
@@ -44,19 +44,19 @@ end_line = codes "end"
 
 -- in version 2 alone, how many modules follow
 abbrev pub count_text : ℕ → ℕ → List ℕ → List ℕ
-count_text room n rest = if room == 8 then rest else ended (count_line n) rest
+count_text room n rest = if room == 8 then rest else line_before (count_line n) rest
 
 -- a line for each module
 abbrev pub modules_text : List Module → List ℕ → List ℕ
 modules_text [] rest = rest
-modules_text (m ∷ ms) rest = ended (module_line m) (modules_text ms rest)
+modules_text (m ∷ ms) rest = line_before (module_line m) (modules_text ms rest)
 
 abbrev pub is_zero : List ℕ → Bool
 is_zero row = list_all (λ b. b == 0) row
 
 -- the line of a row, which is left out where all of it is 0
 abbrev pub row_text : ℕ → List ℕ → List ℕ → List ℕ
-row_text at row rest = if is_zero row then rest else ended (row_line at row) rest
+row_text at row rest = if is_zero row then rest else line_before (row_line at row) rest
 
 -- a line for each of this many rows of 16 bytes, from an address on
 unfoldable pub rows_text : ℕ → ℕ → List ℕ → List ℕ → List ℕ
@@ -65,12 +65,12 @@ rows_text (suc n) at memory rest = row_text at (take 16 memory) (rows_text n (at
 
 -- the rows from the first on, and the end
 abbrev pub memory_text : List ℕ → List ℕ
-memory_text memory = rows_text ROW_COUNT FIRST_ROW (drop FIRST_ROW memory) (ended end_line [])
+memory_text memory = rows_text ROW_COUNT FIRST_ROW (drop FIRST_ROW memory) (line_before end_line [])
 
 -- what stands behind the key
 abbrev pub text_after_key : Image → List ℕ
 text_after_key i =
-    ended (handler_line i.handler_sp) (count_text i.table.room i.table.given (modules_text i.table.modules (memory_text i.memory)))
+    line_before (handler_line i.handler_sp) (count_text i.table.room i.table.given (modules_text i.table.modules (memory_text i.memory)))
 
 unfoldable pub image_text : Image → List ℕ
-image_text i = ended (first_line i.table.room) (ended (key_line i.node_key) (text_after_key i))
+image_text i = line_before (first_line i.table.room) (line_before (key_line i.node_key) (text_after_key i))

@@ -22,8 +22,8 @@ pub record Spot : Type 0 where
   pub at : ℕ
 
 -- where the line after this one stands
-abbrev pub past : List ℕ → Spot → Spot
-past line s = record { number = s.number + 1; at = s.at + length line + 1 }
+abbrev pub next_spot : List ℕ → Spot → Spot
+next_spot line s = record { number = s.number + 1; at = s.at + length line + 1 }
 
 abbrev pub line_fault : Spot → Option ImageFault
 line_fault s = Some (Line s.number)
@@ -84,8 +84,8 @@ abbrev pub section_at : ℕ → List ℕ → Section
 section_at from line = record { start = digits_word from line; end = digits_word (from + 5) line }
 
 -- how many modules a line announces
-abbrev pub count_of : List ℕ → Option ℕ
-count_of line = if starts_with nat_eq line (codes "modules ") then read_decimal MAX_COUNT (drop 8 line) else None
+abbrev pub announced_count : List ℕ → Option ℕ
+announced_count line = if starts_with nat_eq line (codes "modules ") then read_decimal MAX_COUNT (drop 8 line) else None
 
 -- ---- the refusals, from the last line back to the first
 
@@ -110,8 +110,8 @@ abbrev pub rows_refusal : ℕ → Spot → List (List ℕ) → List ℕ → Opti
 rows_refusal last s [] tail = line_fault s
 rows_refusal last s (line ∷ more) tail =
     if pointwise nat_eq line end_line
-    then end_refusal (past line s) more tail
-    else formed row_form s line (row_or last s line (rows_refusal (digits_word 3 line) (past line s) more tail))
+    then end_refusal (next_spot line s) more tail
+    else formed row_form s line (row_or last s line (rows_refusal (digits_word 3 line) (next_spot line s) more tail))
 
 -- the next module, where the table takes it
 abbrev pub taken_or : Option TableFault → ℕ → Option ImageFault → Option ImageFault
@@ -133,12 +133,12 @@ abbrev pub modules_refusal : Table → Option ℕ → Spot → List (List ℕ) �
 modules_refusal t due s [] tail = line_fault s
 modules_refusal t due s (line ∷ more) tail =
     if is_due due line
-    then formed module_form s line (taken_or (fault_of t (section_at 12 line) (section_at 22 line)) (t.given + 1) (modules_refusal (added t line) (one_less due) (past line s) more tail))
+    then formed module_form s line (taken_or (fault_of t (section_at 12 line) (section_at 22 line)) (t.given + 1) (modules_refusal (added t line) (one_less due) (next_spot line s) more tail))
     else rows_refusal BEFORE_ROWS s (line ∷ more) tail
 
-abbrev pub counted : Option ℕ → Spot → Option ImageFault → Option ImageFault
-counted None s rest = line_fault s
-counted (Some n) s rest = rest
+abbrev pub counted_or_line : Option ℕ → Spot → Option ImageFault → Option ImageFault
+counted_or_line None s rest = line_fault s
+counted_or_line (Some n) s rest = rest
 
 -- in version 2 alone, the number of modules
 abbrev pub count_refusal : ℕ → Spot → List (List ℕ) → List ℕ → Option ImageFault
@@ -146,17 +146,17 @@ count_refusal room s lines tail = if room == 8 then modules_refusal (empty_table
   where
     announced : Spot → List (List ℕ) → List ℕ → Option ImageFault
     announced s [] tail = line_fault s
-    announced s (line ∷ more) tail = counted (count_of line) s (modules_refusal (empty_table 32) (count_of line) (past line s) more tail)
+    announced s (line ∷ more) tail = counted_or_line (announced_count line) s (modules_refusal (empty_table 32) (announced_count line) (next_spot line s) more tail)
 
 -- an even start of the handlers' stack
 abbrev pub handler_refusal : ℕ → Spot → List (List ℕ) → List ℕ → Option ImageFault
 handler_refusal room s [] tail = line_fault s
 handler_refusal room s (line ∷ more) tail =
-    formed handler_form s line (if digits_word 8 line % 2 == 0 then count_refusal room (past line s) more tail else line_fault s)
+    formed handler_form s line (if digits_word 8 line % 2 == 0 then count_refusal room (next_spot line s) more tail else line_fault s)
 
 abbrev pub key_refusal : ℕ → Spot → List (List ℕ) → List ℕ → Option ImageFault
 key_refusal room s [] tail = line_fault s
-key_refusal room s (line ∷ more) tail = formed key_form s line (handler_refusal room (past line s) more tail)
+key_refusal room s (line ∷ more) tail = formed key_form s line (handler_refusal room (next_spot line s) more tail)
 
 abbrev pub version_or_line : Option ℕ → Spot → Option ImageFault
 version_or_line version s = Some (option_map_or Version version (Line s.number))
@@ -171,8 +171,8 @@ version_refusal s line =
 abbrev pub first_refusal : Spot → List (List ℕ) → List ℕ → Option ImageFault
 first_refusal s [] tail = line_fault s
 first_refusal s (line ∷ more) tail =
-    if pointwise nat_eq line (codes "sancus-image 1") then key_refusal 8 (past line s) more tail
-    else if pointwise nat_eq line (codes "sancus-image 2") then key_refusal 32 (past line s) more tail
+    if pointwise nat_eq line (codes "sancus-image 1") then key_refusal 8 (next_spot line s) more tail
+    else if pointwise nat_eq line (codes "sancus-image 2") then key_refusal 32 (next_spot line s) more tail
     else version_refusal s line
 
 -- the refusal of a text, or none

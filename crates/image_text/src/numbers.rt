@@ -1,7 +1,7 @@
 //! The decimals of the first lines.
 
 ghost use Rattle.std.specs.Prelude.{◌≡◌, ◌≤◌, Some, IfSome};
-ghost use Rattle.image_text.specs.Refusal.{count_of as count_of_lem, version_refusal, Spot};
+ghost use Rattle.image_text.specs.Refusal.{announced_count as count_of_lem, version_refusal, Spot};
 
 use crate::ImageFault;
 use crate::lines::Line;
@@ -42,7 +42,7 @@ pub(crate) fn other_version(line: Line<'_>) -> ImageFault
 }
 
 /// How many modules a line of version 2 announces.
-pub(crate) fn count_of(line: &[u8]) -> Option<u64>
+pub(crate) fn announced_count(line: &[u8]) -> Option<u64>
     ensures { result ≡ count_of_lem line.now }
 {
     if !line.starts_with(b"modules ") {

@@ -13,7 +13,7 @@ ghost use Rattle.mod_layout.specs.Tables.{IsTable};
 
 use crate::forms::{HANDLER, KEY, MODULE, ROW, formed, section_at, sixteen_at, digits_word};
 use crate::lines::Lines;
-use crate::numbers::{BEFORE_ROWS, FIRST_ROW, count_of, other_version};
+use crate::numbers::{BEFORE_ROWS, FIRST_ROW, announced_count, other_version};
 use crate::{Image, ImageFault};
 use mod_layout::ModuleTable;
 use std::alloc::{AllocError, Global};
@@ -72,7 +72,7 @@ pub(crate) fn read_count(lines: &mut Lines<'_>, room: u16) -> Result<Option<u64>
         return Ok(None);
     }
     let line = lines.next()?;
-    match count_of(line.text) {
+    match announced_count(line.text) {
         None => Err(ImageFault::Line { n: line.number }),
         Some(n) => Ok(Some(n)),
     }

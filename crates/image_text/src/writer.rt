@@ -5,7 +5,7 @@ ghost use Rattle.image_text.specs.declared.numbers.TheConstants.{FIRST_ROW, ROW_
 ghost use Rattle.mod_layout.specs.Table.{module_of};
 ghost use Rattle.texts.specs.Hexadecimals.{hex_word};
 ghost use Rattle.image_text.specs.Image.{AreNumbered};
-ghost use Rattle.image_text.specs.ImageText.{ended, first_line, key_line, handler_line, count_line, section_words, module_line, row_line, row_text, rows_text, count_text, modules_text, image_text};
+ghost use Rattle.image_text.specs.ImageText.{line_before, first_line, key_line, handler_line, count_line, section_words, module_line, row_line, row_text, rows_text, count_text, modules_text, image_text};
 
 use crate::Image;
 use crate::numbers::FIRST_ROW;
@@ -31,7 +31,7 @@ pub fn write(alloc: Global, image: &Image) -> Result<Vec<u8>, AllocError>
 }
 
 fn put_first(text: &mut Vec<u8>, room: u16) -> Result<(), AllocError>
-    ensures { OnOk result (text.new.items ≡ text.old.items ++ ended (first_line room) []) }
+    ensures { OnOk result (text.new.items ≡ text.old.items ++ line_before (first_line room) []) }
 {
     if room == 8 {
         text.extend_from_slice(b"sancus-image 1\n")?;
@@ -42,7 +42,7 @@ fn put_first(text: &mut Vec<u8>, room: u16) -> Result<(), AllocError>
 }
 
 fn put_key(text: &mut Vec<u8>, key: &[u8; 16]) -> Result<(), AllocError>
-    ensures { OnOk result (text.new.items ≡ text.old.items ++ ended (key_line key.now) []) }
+    ensures { OnOk result (text.new.items ≡ text.old.items ++ line_before (key_line key.now) []) }
 {
     text.extend_from_slice(b"key ")?;
     text.extend_from_slice(hex_key(key).as_str().as_bytes())?;
@@ -51,7 +51,7 @@ fn put_key(text: &mut Vec<u8>, key: &[u8; 16]) -> Result<(), AllocError>
 }
 
 fn put_handler(text: &mut Vec<u8>, handler_sp: u16) -> Result<(), AllocError>
-    ensures { OnOk result (text.new.items ≡ text.old.items ++ ended (handler_line handler_sp) []) }
+    ensures { OnOk result (text.new.items ≡ text.old.items ++ line_before (handler_line handler_sp) []) }
 {
     text.extend_from_slice(b"handler ")?;
     put_word(text, handler_sp)?;
@@ -108,7 +108,7 @@ fn put_modules(text: &mut Vec<u8>, table: &ModuleTable) -> Result<(), AllocError
 }
 
 fn put_module(text: &mut Vec<u8>, module: Module) -> Result<(), AllocError>
-    ensures { OnOk result (text.new.items ≡ text.old.items ++ ended (module_line «module») []) }
+    ensures { OnOk result (text.new.items ≡ text.old.items ++ line_before (module_line «module») []) }
 {
     text.extend_from_slice(b"module ")?;
     put_word(text, module.vendor)?;

@@ -9,10 +9,10 @@ use Rattle.hex.proofs.HexLemmas.{length-encode_with}
 use Rattle.texts.specs.Hexadecimals.{hex_key}
 use Rattle.mod_layout.specs.declared.Module.{Module}
 use Rattle.image_text.specs.Image.{Image, IsImage}
-use Rattle.image_text.specs.ImageText.{ended, first_line, key_line, handler_line, count_line, count_text, module_line, modules_text, is_zero, row_line, rows_text, end_line, memory_text, text_after_key, image_text}
+use Rattle.image_text.specs.ImageText.{line_before, first_line, key_line, handler_line, count_line, count_text, module_line, modules_text, is_zero, row_line, rows_text, end_line, memory_text, text_after_key, image_text}
 use Rattle.cli_files.specs.Files.{most_bytes}
 
-long_ended : (line rest : List ℕ) → length (ended line rest) ≡ length line + 1 + length rest
+long_ended : (line rest : List ℕ) → length (line_before line rest) ≡ length line + 1 + length rest
 long_ended line rest = let e = length-append line (10 ∷ rest) in omega (arith, e)
 
 long_key : (bytes : List ℕ) → length (hex_key bytes) ≡ 2 * length bytes
@@ -30,14 +30,14 @@ rows_long zero at memory rest = omega arith
 rows_long (suc n) at memory rest = by (is_zero (take 16 memory)) (rows_long n (at + 16) (drop 16 memory) rest)
   where
     by : (b : Bool) → length (rows_text n (at + 16) (drop 16 memory) rest) ≤ 41 * n + length rest
-        → length (if b then rows_text n (at + 16) (drop 16 memory) rest else ended (row_line at (take 16 memory)) (rows_text n (at + 16) (drop 16 memory) rest)) ≤ 41 * suc n + length rest
+        → length (if b then rows_text n (at + 16) (drop 16 memory) rest else line_before (row_line at (take 16 memory)) (rows_text n (at + 16) (drop 16 memory) rest)) ≤ 41 * suc n + length rest
     by true h = omega (arith, h)
     by false h =
         let line = long_ended (row_line at (take 16 memory)) (rows_text n (at + 16) (drop 16 memory) rest) in
         omega (arith, h, line, long_row at (take 16 memory), length-take 16 memory)
 
 memory_long : (memory : List ℕ) → length (memory_text memory) ≤ 166628
-memory_long memory = let rows = rows_long 4064 0x0200 (drop 0x0200 memory) (ended end_line []) in omega (arith, rows)
+memory_long memory = let rows = rows_long 4064 0x0200 (drop 0x0200 memory) (line_before end_line []) in omega (arith, rows)
 
 modules_long : (ms : List Module) (rest : List ℕ) → length (modules_text ms rest) ≡ 32 * length ms + length rest
 modules_long [] rest = omega arith
@@ -48,7 +48,7 @@ modules_long (m ∷ ms) rest =
 count_long : (room n : ℕ) (rest : List ℕ) → n ≤ 32 → length (count_text room n rest) ≤ 42 + length rest
 count_long room n rest h = by (room == 8)
   where
-    by : (b : Bool) → length (if b then rest else ended (count_line n) rest) ≤ 42 + length rest
+    by : (b : Bool) → length (if b then rest else line_before (count_line n) rest) ≤ 42 + length rest
     by true = omega arith
     by false =
         let line = length-append (codes "modules ") (decimal n) in
@@ -77,7 +77,7 @@ short_text i image =
       image.sixteen,
       long_key i.node_key,
       first_long i.table.room,
-      long_ended (first_line i.table.room) (ended (key_line i.node_key) (text_after_key i)),
+      long_ended (first_line i.table.room) (line_before (key_line i.node_key) (text_after_key i)),
       long_ended (key_line i.node_key) (text_after_key i),
       long_ended (handler_line i.handler_sp) tail,
       count_long i.table.room i.table.given (modules_text i.table.modules (memory_text i.memory)) few,

@@ -4,8 +4,8 @@ use Rattle.texts.specs.Lines.{ended_lines, unended}
 use Rattle.image_text.specs.declared.numbers.TheConstants.{BEFORE_ROWS, FIRST_ROW}
 use Rattle.image_text.specs.declared.ImageFault.{ImageFault}
 use Rattle.image_text.specs.Image.{AreNumbered}
-use Rattle.image_text.specs.ImageText.{ended, count_line, modules_text, memory_text, row_line, end_line, is_zero, rows_text}
-use Rattle.image_text.specs.Refusal.{Spot, past, has_form, bad_digit, digits_bytes, count_refusal, modules_refusal, rows_refusal, end_refusal, module_form, section_at, added}
+use Rattle.image_text.specs.ImageText.{line_before, count_line, modules_text, memory_text, row_line, end_line, is_zero, rows_text}
+use Rattle.image_text.specs.Refusal.{Spot, next_spot, has_form, bad_digit, digits_bytes, count_refusal, modules_refusal, rows_refusal, end_refusal, module_form, section_at, added}
 use Rattle.mod_layout.specs.Table.{Table, empty_table, fault_of}
 use Rattle.mod_layout.specs.Tables.{IsTable}
 use Rattle.hex.specs.Hex.{IsBytes, encode_lower}
@@ -24,7 +24,7 @@ pub record ReadLine (old : Unread) (line : List ℕ) (new : Unread) : Type 0 whe
   pub text : old.rest ≡ line ++ (10 ∷ new.rest)
   pub lines : ended_lines old.rest ≡ line ∷ ended_lines new.rest
   pub tail : unended old.rest ≡ unended new.rest
-  pub spot : new.spot ≡ past line old.spot
+  pub spot : new.spot ≡ next_spot line old.spot
 
 -- a line has this form, and its digits are digits
 pub record HasLineForm (form line : List ℕ) : Type 0 where
@@ -40,13 +40,13 @@ pub record CodedAt (line : List ℕ) (from n : ℕ) : Type 0 where
 
 -- a line was read: what the rules say of the text from it on is what they say from the next line on
 pub record Passed (line : List ℕ) (before after : Spot → List (List ℕ) → List ℕ → Option ImageFault) (old new : Unread) : Type 0 where
-  pub text : old.rest ≡ ended line new.rest
+  pub text : old.rest ≡ line_before line new.rest
   pub refusal : on old before ≡ on new after
 
 -- the line that says how many modules follow, where there is one
 abbrev pub count_part : Option ℕ → List ℕ → List ℕ
 count_part None rest = rest
-count_part (Some n) rest = ended (count_line n) rest
+count_part (Some n) rest = line_before (count_line n) rest
 
 -- version 1 has no such line, version 2 has one
 abbrev pub IsCountOf : ℕ → Option ℕ → Type 0
@@ -123,12 +123,12 @@ pub record AddsRow (last at : ℕ) (old new : Unread) (memory grown : List ℕ) 
   pub filled : is_zero row ≡ false
   pub even : at % 16 ≡ 0
   pub above : last < at
-  pub text : old.rest ≡ ended (row_line at row) new.rest
+  pub text : old.rest ≡ line_before (row_line at row) new.rest
   pub refusal : on old (rows_refusal last) ≡ on new (rows_refusal at)
   pub memory_is : grown ≡ (memory ++ replicate (at - length memory) 0) ++ row
 
 pub record AtEnd (last : ℕ) (old new : Unread) (memory grown : List ℕ) : Type 0 where
-  pub text : old.rest ≡ ended end_line new.rest
+  pub text : old.rest ≡ line_before end_line new.rest
   pub refusal : on old (rows_refusal last) ≡ on new end_refusal
   pub same : grown ≡ memory
 

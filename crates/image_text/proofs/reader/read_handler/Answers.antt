@@ -3,8 +3,8 @@ use Rattle.std.proofs.lemmas.Bool.Decides.{nat_tests}
 use Rattle.std.proofs.lemmas.Result.{err_from_is_err_and}
 use Rattle.texts.specs.Lines.{ended_lines, unended}
 use Rattle.image_text.specs.declared.ImageFault.TheVariants.{Line}
-use Rattle.image_text.specs.ImageText.{ended, handler_line}
-use Rattle.image_text.specs.Refusal.{Spot, past, line_fault, handler_form, digits_word, handler_refusal, count_refusal}
+use Rattle.image_text.specs.ImageText.{line_before, handler_line}
+use Rattle.image_text.specs.Refusal.{Spot, next_spot, line_fault, handler_form, digits_word, handler_refusal, count_refusal}
 use Rattle.image_text.proofs.FormLemmas.{formed_ok}
 use Rattle.image_text.proofs.LineTexts.{handler_line_of}
 use Rattle.image_text.proofs.StageLemmas.{line_on, form_fails, next_on}
@@ -25,7 +25,7 @@ returns-then-handler_sp-ne0-clause-refused c = λ room.
     let odd = c.if-handler_sp-ne0.true in
     let e : (digits_word 8 c.in_ok-line.line.text.now % 2 == 0) ≡ false = rw (← is) (grind (arith, nat_tests)) in
     line_on (handler_refusal room) c.args.lines.now c.next.new.self c.in_ok-line.line.text.now c.in_ok-line.ensures.line ∙ formed_ok handler_form c.args.lines.now.spot c.in_ok-line.line.text.now _ c.in_ok-formed.ensures.ok
-    ∙ ap (λ b. cond b (count_refusal room (past c.in_ok-line.line.text.now c.args.lines.now.spot) (ended_lines c.next.new.self.rest) (unended c.next.new.self.rest)) (line_fault c.args.lines.now.spot)) e
+    ∙ ap (λ b. cond b (count_refusal room (next_spot c.in_ok-line.line.text.now c.args.lines.now.spot) (ended_lines c.next.new.self.rest) (unended c.next.new.self.rest)) (line_fault c.args.lines.now.spot)) e
     ∙ ap (λ (n : ℕ). Some (Line n)) (sym c.in_ok-line.ensures.spot.0)
 
 pub returns-clause-passed : goal.returns-clause-passed
@@ -36,8 +36,8 @@ returns-clause-passed c = λ room.
     let even = c.if-handler_sp-ne0.false in
     let e : (digits_word 8 c.in_ok-line.line.text.now % 2 == 0) ≡ true = rw (← is) (grind (arith, nat_tests)) in
     record {
-      text = r.text ∙ ap (λ (l : List ℕ). ended l c.next.new.self.rest) (k.text ∙ ap handler_line (sym is));
+      text = r.text ∙ ap (λ (l : List ℕ). line_before l c.next.new.self.rest) (k.text ∙ ap handler_line (sym is));
       refusal = line_on (handler_refusal room) c.args.lines.now c.next.new.self c.in_ok-line.line.text.now r ∙ formed_ok handler_form c.args.lines.now.spot c.in_ok-line.line.text.now _ c.in_ok-formed.ensures.ok
-          ∙ ap (λ b. cond b (count_refusal room (past c.in_ok-line.line.text.now c.args.lines.now.spot) (ended_lines c.next.new.self.rest) (unended c.next.new.self.rest)) (line_fault c.args.lines.now.spot)) e
+          ∙ ap (λ b. cond b (count_refusal room (next_spot c.in_ok-line.line.text.now c.args.lines.now.spot) (ended_lines c.next.new.self.rest) (unended c.next.new.self.rest)) (line_fault c.args.lines.now.spot)) e
           ∙ next_on (count_refusal room) c.args.lines.now c.next.new.self c.in_ok-line.line.text.now r;
     }

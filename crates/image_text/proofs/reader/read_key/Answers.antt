@@ -1,7 +1,7 @@
 use Rattle.std.proofs.Common.{ℕ, refl, sym, ap, ◌∙◌, List}
 use Rattle.std.proofs.lemmas.Result.{err_from_is_err_and}
-use Rattle.image_text.specs.ImageText.{ended, key_line}
-use Rattle.image_text.specs.Refusal.{past, key_form, key_refusal, handler_refusal}
+use Rattle.image_text.specs.ImageText.{line_before, key_line}
+use Rattle.image_text.specs.Refusal.{next_spot, key_form, key_refusal, handler_refusal}
 use Rattle.image_text.proofs.FormLemmas.{formed_ok}
 use Rattle.image_text.proofs.LineTexts.{key_line_of}
 use Rattle.image_text.proofs.StageLemmas.{line_on, form_fails, next_on}
@@ -21,7 +21,7 @@ returns-clause-passed c = λ room.
     let k = key_line_of c.in_ok-line.line.text.now c.in_ok-formed.ensures.ok in
     let r = c.in_ok-line.ensures.line in
     record {
-      text = r.text ∙ ap (λ (l : List ℕ). ended l c.next.new.self.rest) (k.text ∙ ap key_line (sym c.sixteen_at.ensures));
+      text = r.text ∙ ap (λ (l : List ℕ). line_before l c.next.new.self.rest) (k.text ∙ ap key_line (sym c.sixteen_at.ensures));
       refusal = line_on (key_refusal room) c.args.lines.now c.next.new.self c.in_ok-line.line.text.now r ∙ formed_ok key_form c.args.lines.now.spot c.in_ok-line.line.text.now _ c.in_ok-formed.ensures.ok
           ∙ next_on (handler_refusal room) c.args.lines.now c.next.new.self c.in_ok-line.line.text.now r;
     }
