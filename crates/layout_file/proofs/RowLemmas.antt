@@ -8,7 +8,7 @@ use Rattle.std.specs.Prelude.{position, not, if◌then◌else◌}
 use Rattle.std.proofs.lemmas.List.{length-map, map-append, take-map}
 use Rattle.layout_file.specs.Clashes.{clash_after, first_clash}
 use Rattle.layout_file.specs.Checked.{Checked, map_ok, ◌>>=◌, gather}
-use Rattle.layout_file.specs.Rows.{two, all_keys, list_of}
+use Rattle.layout_file.specs.Rows.{two, all_keys, item_list}
 use Rattle.std.specs.Map.{keys_of}
 use Rattle.toml.specs.Data.{Data}
 use Rattle.toml.specs.View.{view, items_view, members_view}
@@ -63,7 +63,7 @@ module _ {A B : Type 0} (f : ℕ → A → Checked (List B)) where
 -- ---- the values of an array
 
 abbrev pub data_of : List Value → List Data
-data_of vs = list_of (items_view vs)
+data_of vs = item_list (items_view vs)
 
 data_seen : (vs : List Value) → data_of vs ≡ map view vs
 data_seen [] = refl

@@ -16,14 +16,14 @@ use Rattle.hex.proofs.HexLemmas.{decode_sized-ok, decode_sized-twice, decode_of-
 use Rattle.toml.specs.Data.{Data, Members, get_member, as_integer, as_str, as_array}
 use Rattle.toml.specs.Parse.{parse_document}
 use Rattle.layout_file.specs.Checked.{Checked, ◌>>=◌, map_ok, gather, one}
-use Rattle.layout_file.specs.Rows.{is_within, in_bounds, in_order, of_kind, needed, is_name_byte}
+use Rattle.layout_file.specs.Rows.{is_within, in_bounds, in_order, of_kind, needed, is_layout_name_byte}
 use Rattle.layout_file.specs.Rows as rows
 use Rattle.layout_file.specs.Clashes.{first_clash, share_byte}
 use Rattle.layout_file.specs.Overlaps.{ShareNoByte}
 use Rattle.layout_file.proofs.ClashLemmas.{AllPairs-first_clash, AllPairs-weaker, ShareNoByte-share_byte}
 use Rattle.layout_file.specs.Layout as layout
 use Rattle.layout_file.specs.Layout.{LayoutOf}
-use Rattle.layout_file.specs.Values.{VectorValue, ModuleValue, LayoutValue, regions, names_of, boots_of}
+use Rattle.layout_file.specs.Values.{VectorValue, ModuleValue, LayoutValue, regions, module_names, boots_of}
 use Rattle.layout_file.specs.Sound.{IsRegion, AreVectors, IsModuleValue, IsLayout}
 use Rattle.layout_file.specs.declared.fault.Spot.{Spot}
 use Rattle.layout_file.specs.declared.fault.LayoutFault.{LayoutFault}
@@ -91,7 +91,7 @@ in_order-ok spot start end s h = by (nat_le start end) refl h
     by true e h = (leb-true _ _ e, cc)
     by false e h = absurd (cc)
 
-pub IsRegion-section : (spot : Spot) (table : Members) (s : Section) → rows.section spot layout.region table ≡ Ok s → IsRegion s
+pub IsRegion-section : (spot : Spot) (table : Members) (s : Section) → rows.section_member spot layout.region table ≡ Ok s → IsRegion s
 IsRegion-section spot table s h =
     let value = bind-ok (needed spot table) _ s h in
     let pair = bind-ok (of_kind spot (rows.as_pair value.0)) _ s value.2 in
@@ -123,7 +123,7 @@ length-decode_sized s n bytes h =
     let long = decode_sized-ok s n bytes h in
     omega (arith, long, (decode_of-ok s bytes (sym (decode_sized-twice s n long) ∙ h)).2)
 
-pub length-hex_key : (spot : Spot) (table : Members) (key : List ℕ) → rows.hex_key spot table ≡ Ok key → length key ≡ 16
+pub length-hex_key : (spot : Spot) (table : Members) (key : List ℕ) → rows.key_member spot table ≡ Ok key → length key ≡ 16
 length-hex_key spot table key h =
     let value = bind-ok (needed spot table) _ key h in
     let text = bind-ok (of_kind spot (as_str value.0)) _ key value.2 in
@@ -134,12 +134,12 @@ length-hex_key spot table key h =
 pub record IsName (s : List ℕ) : Type 0 where
   pub some : 1 ≤ length s
   pub short : length s ≤ 32
-  pub bytes : AllPass is_name_byte s
+  pub bytes : AllPass is_layout_name_byte s
 
-name_of-ok : (s t : List ℕ) → rows.name_of 32 s ≡ Some t → IsName t
-name_of-ok s t h = by (rows.is_name 32 s) refl h
+name_of-ok : (s t : List ℕ) → rows.layout_name 32 s ≡ Some t → IsName t
+name_of-ok s t h = by (rows.is_layout_name 32 s) refl h
   where
-    by : (c : Bool) → rows.is_name 32 s ≡ c → (if c then Some s else None) ≡ Some t → IsName t
+    by : (c : Bool) → rows.is_layout_name 32 s ≡ c → (if c then Some s else None) ≡ Some t → IsName t
     by true e h =
         let same : s ≡ t = cc in
         let parts = and_parts _ _ e in
@@ -169,7 +169,7 @@ pub length-entries : (spot : Spot) (table : Members) (names : List (List ℕ)) �
 length-entries spot table names h =
     let value = bind-ok (needed spot table) _ names h in
     let items = bind-ok (of_kind spot (as_array value.0)) _ names value.2 in
-    let strings = bind-ok (rows.strings spot (rows.list_of items.0)) _ names items.2 in
+    let strings = bind-ok (rows.strings spot (rows.item_list items.0)) _ names items.2 in
     let few = bind-ok (rows.at_most spot 64 strings.0) _ names strings.2 in
     let some = at_least_one-ok spot few.0 names few.2 in
     let most = length-at_most spot 64 strings.0 few.0 few.1 in
@@ -275,7 +275,7 @@ AreVectors-within : (vs : List VectorValue) → RiseWithin 0 16 vs → AreVector
 AreVectors-within vs h = record { below_16 = h.below_high; rising = h.rising }
 
 pub AreVectors-vectors : (spot : Spot) (table : Members) (vs : List VectorValue) → rows.vectors spot table ≡ Ok vs → AreVectors vs
-AreVectors-vectors spot table vs h = by (rows.at spot table) h
+AreVectors-vectors spot table vs h = by (rows.member_at spot table) h
   where
     by : (o : Option Data) → rows.if_there (λ d. rows.inner_table spot d >>= rows.vectors_in spot) o ≡ Ok vs → AreVectors vs
     by None h = let same : [] ≡ vs = cc in subst AreVectors same (AreVectors-within [] (RiseWithin-nil 0 16))
@@ -287,13 +287,13 @@ AreVectors-vectors spot table vs h = by (rows.at spot table) h
 -- ---- modules
 
 pub length-tables : (spot : Spot) (most : ℕ) (table : Members) (ts : List Members) → rows.tables spot most table ≡ Ok ts → length ts ≤ most
-length-tables spot most table ts h = by (rows.at spot table) h
+length-tables spot most table ts h = by (rows.member_at spot table) h
   where
     by : (o : Option Data) → rows.if_there (rows.tables_in spot most) o ≡ Ok ts → length ts ≤ most
     by None h = let same : [] ≡ ts = cc in rw (← same) (omega arith)
     by (Some d) h =
         let items = bind-ok (of_kind spot (as_array d)) _ ts h in
-        let found = bind-ok (rows.inner_tables spot (rows.list_of items.0)) _ ts items.2 in
+        let found = bind-ok (rows.inner_tables spot (rows.item_list items.0)) _ ts items.2 in
         length-at_most spot most found.0 ts found.2
 
 -- what a module's table gives
@@ -317,11 +317,11 @@ IsRow-module_row version n table m h =
     let known = bind-ok (rows.listed (layout.module_keys version) (Some n) table) _ m h in
     let name = bind-ok (rows.name (layout.in_module n Name) 32 table) _ m known.2 in
     let vendor = bind-ok (rows.integer (layout.in_module n Vendor) (layout.between 0 65535) table) _ m name.2 in
-    let text = bind-ok (rows.section (layout.in_module n Text) layout.region table) _ m vendor.2 in
-    let ram = bind-ok (rows.section (layout.in_module n DataKey) layout.region table) _ m text.2 in
+    let text = bind-ok (rows.section_member (layout.in_module n Text) layout.region table) _ m vendor.2 in
+    let ram = bind-ok (rows.section_member (layout.in_module n DataKey) layout.region table) _ m text.2 in
     let stack = bind-ok (rows.integer (layout.in_module n Stack) (layout.evens 2 32768) table) _ m ram.2 in
     let entries = bind-ok (rows.entries (layout.in_module n Entries) 64 table) _ m stack.2 in
-    let boot = bind-ok (layout.boot version n table) _ m entries.2 in
+    let boot = bind-ok (layout.module_boot version n table) _ m entries.2 in
     let booted = IsBoot-choice (version == 1) n table boot.0 boot.1 in
     let made : record { name = name.0; vendor = vendor.0; text = text.0; ram = ram.0; stack = stack.0; entries = entries.0; boot = boot.0 } ≡ m = ok_same _ m boot.2 in
     let name_ok = IsName-name (layout.in_module n Name) table name.0 name.1 in
@@ -357,18 +357,18 @@ no_pair-ok fault (Some p) u h = absurd (cc)
 
 record AreClear (text ram : Section) (ms : List ModuleValue) : Type 0 where
   apart : AllPairs ShareNoByte (regions text ram ms)
-  names : AllPairs (λ a b. a ≢ b) (names_of ms)
+  names : AllPairs (λ a b. a ≢ b) (module_names ms)
   boots : AllPairs (λ a b. a ≢ b) (boots_of ms)
 
 AreClear-clear : (text ram : Section) (ms : List ModuleValue) (u : Unit {0}) → layout.clear text ram ms ≡ Ok u → AreClear text ram ms
 AreClear-clear text ram ms u h =
     let apart = bind-ok (layout.no_pair Overlap (first_clash share_byte (regions text ram ms))) _ u h in
-    let named = bind-ok (layout.no_pair SameName (first_clash bytes_eq (names_of ms))) _ u apart.2 in
+    let named = bind-ok (layout.no_pair SameName (first_clash bytes_eq (module_names ms))) _ u apart.2 in
     record {
       apart = AllPairs-weaker (λ a b. share_byte a b ≡ false) ShareNoByte ShareNoByte-share_byte (regions text ram ms)
           (AllPairs-first_clash share_byte (regions text ram ms) (no_pair-ok Overlap _ apart.0 apart.1));
-      names = AllPairs-weaker (λ a b. bytes_eq a b ≡ false) (λ a b. a ≢ b) differ-bytes_eq (names_of ms)
-          (AllPairs-first_clash bytes_eq (names_of ms) (no_pair-ok SameName _ named.0 named.1));
+      names = AllPairs-weaker (λ a b. bytes_eq a b ≡ false) (λ a b. a ≢ b) differ-bytes_eq (module_names ms)
+          (AllPairs-first_clash bytes_eq (module_names ms) (no_pair-ok SameName _ named.0 named.1));
       boots = AllPairs-weaker (λ a b. (a == b) ≡ false) (λ a b. a ≢ b) eqb-false (boots_of ms)
           (AllPairs-first_clash (λ a b. a == b) (boots_of ms) (no_pair-ok SameBoot _ u named.2));
     }
@@ -417,10 +417,10 @@ pub IsLayout-layout_in : (top : Members) (l : LayoutValue) → layout.layout_in 
 IsLayout-layout_in top l h =
     let known = bind-ok (rows.listed layout.top_keys None top) _ l h in
     let version = bind-ok (rows.integer (layout.at_top Version) (layout.between 1 2) top) _ l known.2 in
-    let key = bind-ok (rows.hex_key (layout.at_top Key) top) _ l version.2 in
+    let key = bind-ok (rows.key_member (layout.at_top Key) top) _ l version.2 in
     let handler_sp = bind-ok (rows.integer (layout.at_top HandlerSp) (layout.evens 0 65534) top) _ l key.2 in
-    let text = bind-ok (rows.section (layout.at_top Text) layout.region top) _ l handler_sp.2 in
-    let ram = bind-ok (rows.section (layout.at_top DataKey) layout.region top) _ l text.2 in
+    let text = bind-ok (rows.section_member (layout.at_top Text) layout.region top) _ l handler_sp.2 in
+    let ram = bind-ok (rows.section_member (layout.at_top DataKey) layout.region top) _ l text.2 in
     let vectors = bind-ok (rows.vectors (layout.at_top Vectors) top) _ l ram.2 in
     let tables = bind-ok (rows.tables (layout.at_top Module) (layout.room_of version.0) top) _ l vectors.2 in
     let modules = bind-ok (layout.modules_in version.0 tables.0) _ l tables.2 in

@@ -9,9 +9,9 @@ use Rattle.toml.specs.Parse.{parse_document}
 use Rattle.mod_layout.specs.declared.TheConstants.{DEVICES_END, FIRST_VECTOR}
 use Rattle.layout_file.specs.Checked.{Checked, ◌>>=◌, map_ok, gather, one}
 use Rattle.layout_file.specs.Rows as rows
-use Rattle.layout_file.specs.Rows.{listed, integer, section, hex_key, vectors, tables}
+use Rattle.layout_file.specs.Rows.{listed, integer, section_member, key_member, vectors, tables}
 use Rattle.layout_file.specs.Clashes.{first_clash, share_byte}
-use Rattle.layout_file.specs.Values.{ModuleValue, LayoutValue, regions, names_of, boots_of}
+use Rattle.layout_file.specs.Values.{ModuleValue, LayoutValue, regions, module_names, boots_of}
 use Rattle.layout_file.specs.Views.{vectors_of, modules_of}
 use Rattle.layout_file.specs.declared.fault.Key.{Key as LayoutKey}
 use Rattle.layout_file.specs.declared.fault.Key.TheVariants.{Version, Key, HandlerSp, Text, Data, Vectors, Module, Name, Vendor, Stack, Entries, Boot}
@@ -49,8 +49,8 @@ room_of version = if version == 1 then 8 else 32
 -- ---- the table of a module
 
 -- in version 1 a module's boot is its number plus 1
-abbrev pub boot : ℕ → ℕ → Members → Checked ℕ
-boot version n table = if version == 1 then Ok (n + 1) else integer (in_module n Boot) (between 1 32) table
+abbrev pub module_boot : ℕ → ℕ → Members → Checked ℕ
+module_boot version n table = if version == 1 then Ok (n + 1) else integer (in_module n Boot) (between 1 32) table
 
 abbrev pub module_keys : ℕ → List LayoutKey
 module_keys version =
@@ -62,11 +62,11 @@ module_row version n table = do
   known ← listed (module_keys version) (Some n) table
   name ← rows.name (in_module n Name) 32 table
   vendor ← integer (in_module n Vendor) (between 0 65535) table
-  text ← section (in_module n Text) region table
-  ram ← section (in_module n Data) region table
+  text ← section_member (in_module n Text) region table
+  ram ← section_member (in_module n Data) region table
   stack ← integer (in_module n Stack) (evens 2 32768) table
   entries ← rows.entries (in_module n Entries) 64 table
-  boot ← boot version n table
+  boot ← module_boot version n table
   Ok (record { name = name; vendor = vendor; text = text; ram = ram; stack = stack; entries = entries; boot = boot })
 
 abbrev pub modules_in : ℕ → List Members → Checked (List ModuleValue)
@@ -82,7 +82,7 @@ no_pair fault (Some p) = Err (fault p.0 p.1)
 abbrev pub clear : Section → Section → List ModuleValue → Checked (Unit {0})
 clear text ram modules = do
   apart ← no_pair Overlap (first_clash share_byte (regions text ram modules))
-  named ← no_pair SameName (first_clash bytes_eq (names_of modules))
+  named ← no_pair SameName (first_clash bytes_eq (module_names modules))
   no_pair SameBoot (first_clash (λ a b. a == b) (boots_of modules))
 
 -- ---- the top table
@@ -94,10 +94,10 @@ abbrev pub layout_in : Members → Checked LayoutValue
 layout_in top = do
   known ← listed top_keys None top
   version ← integer (at_top Version) (between 1 2) top
-  key ← hex_key (at_top Key) top
+  key ← key_member (at_top Key) top
   handler_sp ← integer (at_top HandlerSp) (evens 0 65534) top
-  text ← section (at_top Text) region top
-  ram ← section (at_top Data) region top
+  text ← section_member (at_top Text) region top
+  ram ← section_member (at_top Data) region top
   vectors ← vectors (at_top Vectors) top
   tables ← tables (at_top Module) (room_of version) top
   modules ← modules_in version tables

@@ -51,8 +51,8 @@ at_least_one spot (x ∷ xs) = Ok (x ∷ xs)
 
 -- ---- the refusal of a table: UnknownKey, it has a key that is not listed
 
-abbrev pub is_listed : List LayoutKey → List ℕ → Bool
-is_listed keys name = list_any (λ key. bytes_eq (key_name key) name) keys
+abbrev pub is_known_key : List LayoutKey → List ℕ → Bool
+is_known_key keys name = list_any (λ key. bytes_eq (key_name key) name) keys
 
 abbrev pub all_keys : (List ℕ → Bool) → Members → Bool
 all_keys is_known no_members = true
@@ -63,15 +63,15 @@ known true «module» = Ok tt
 known false «module» = Err (UnknownKey «module»)
 
 abbrev pub listed : List LayoutKey → Option ℕ → Members → Checked (Unit {0})
-listed keys «module» table = known (all_keys (is_listed keys) table) «module»
+listed keys «module» table = known (all_keys (is_known_key keys) table) «module»
 
 -- ---- the value at a key
 
-abbrev pub at : Spot → Members → Option Data
-at spot table = get_member (key_name spot.key) table
+abbrev pub member_at : Spot → Members → Option Data
+member_at spot table = get_member (key_name spot.key) table
 
 abbrev pub needed : Spot → Members → Checked Data
-needed spot table = present spot (at spot table)
+needed spot table = present spot (member_at spot table)
 
 -- what f makes of a value, and nothing where an optional one is absent
 abbrev pub if_there : {A B : Type 0} → (A → Checked (List B)) → Option A → Checked (List B)
@@ -97,8 +97,8 @@ two_integers p = option_and_then (λ a. option_map (λ b. (a, b)) (as_integer p.
 abbrev pub as_pair : Data → Option (ℤ × ℤ)
 as_pair d = option_and_then two_integers (option_and_then two (as_array d))
 
-abbrev pub section : Spot → Bounds → Members → Checked Section
-section spot b table = do
+abbrev pub section_member : Spot → Bounds → Members → Checked Section
+section_member spot b table = do
   d ← needed spot table
   p ← of_kind spot (as_pair d)
   start ← in_bounds spot b p.0
@@ -107,8 +107,8 @@ section spot b table = do
 
 -- ---- a string of 32 hexadecimal digits of either case
 
-abbrev pub hex_key : Spot → Members → Checked (List ℕ)
-hex_key spot table = do
+abbrev pub key_member : Spot → Members → Checked (List ℕ)
+key_member spot table = do
   d ← needed spot table
   s ← of_kind spot (as_str d)
   of_kind spot (result_ok (decode_sized s 16))
@@ -116,26 +116,26 @@ hex_key spot table = do
 -- ---- a string of 1 to `most` letters, digits and `_`
 
 -- `_` is 95
-abbrev pub is_name_byte : ℕ → Bool
-is_name_byte c = is_ascii_alphanumeric c || c == 95
+abbrev pub is_layout_name_byte : ℕ → Bool
+is_layout_name_byte c = is_ascii_alphanumeric c || c == 95
 
-abbrev pub is_name : ℕ → List ℕ → Bool
-is_name most s = nat_le 1 (length s) && (nat_le (length s) most && list_all is_name_byte s)
+abbrev pub is_layout_name : ℕ → List ℕ → Bool
+is_layout_name most s = nat_le 1 (length s) && (nat_le (length s) most && list_all is_layout_name_byte s)
 
-abbrev pub name_of : ℕ → List ℕ → Option (List ℕ)
-name_of most s = if is_name most s then Some s else None
+abbrev pub layout_name : ℕ → List ℕ → Option (List ℕ)
+layout_name most s = if is_layout_name most s then Some s else None
 
 abbrev pub name : Spot → ℕ → Members → Checked (List ℕ)
 name spot most table = do
   d ← needed spot table
   s ← of_kind spot (as_str d)
-  of_kind spot (name_of most s)
+  of_kind spot (layout_name most s)
 
 -- ---- an array of 1 to `most` strings
 
-abbrev pub list_of : Items → List Data
-list_of no_items = []
-list_of (item d ds) = d ∷ list_of ds
+abbrev pub item_list : Items → List Data
+item_list no_items = []
+item_list (item d ds) = d ∷ item_list ds
 
 abbrev pub string : Spot → Data → Checked (List ℕ)
 string spot d = of_kind spot (as_str d)
@@ -147,7 +147,7 @@ abbrev pub entries : Spot → ℕ → Members → Checked (List (List ℕ))
 entries spot most table = do
   d ← needed spot table
   ds ← of_kind spot (as_array d)
-  names ← strings spot (list_of ds)
+  names ← strings spot (item_list ds)
   few ← at_most spot most names
   at_least_one spot few
 
@@ -180,7 +180,7 @@ vectors_in spot table = do
   named_vectors spot table
 
 abbrev pub vectors : Spot → Members → Checked (List VectorValue)
-vectors spot table = if_there (λ d. inner_table spot d >>= vectors_in spot) (at spot table)
+vectors spot table = if_there (λ d. inner_table spot d >>= vectors_in spot) (member_at spot table)
 
 -- ---- an optional array of at most `most` tables
 
@@ -190,8 +190,8 @@ inner_tables spot = gather (λ _ d. map_ok one (inner_table spot d)) 0
 abbrev pub tables_in : Spot → ℕ → Data → Checked (List Members)
 tables_in spot most d = do
   ds ← of_kind spot (as_array d)
-  found ← inner_tables spot (list_of ds)
+  found ← inner_tables spot (item_list ds)
   at_most spot most found
 
 abbrev pub tables : Spot → ℕ → Members → Checked (List Members)
-tables spot most table = if_there (tables_in spot most) (at spot table)
+tables spot most table = if_there (tables_in spot most) (member_at spot table)

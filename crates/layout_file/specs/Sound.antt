@@ -2,8 +2,8 @@
 use Rattle.std.specs.Prelude.{◌≡◌, ◌≢◌, ℕ, ◌+◌, ◌<◌, ◌≤◌, ◌%◌, ◌==◌, ◌||◌, List, length, slice_index_or, IsTrue, All, AllPairs}
 use Rattle.std.specs.List.{AllPass}
 use Rattle.layout_file.specs.Overlaps.{ShareNoByte}
-use Rattle.layout_file.specs.Rows.{is_name_byte}
-use Rattle.layout_file.specs.Values.{VectorValue, ModuleValue, LayoutValue, regions, names_of, boots_of}
+use Rattle.layout_file.specs.Rows.{is_layout_name_byte}
+use Rattle.layout_file.specs.Values.{VectorValue, ModuleValue, LayoutValue, regions, module_names, boots_of}
 use Rattle.mod_layout.specs.declared.TheConstants.{DEVICES_END, FIRST_VECTOR}
 use Rattle.mod_layout.specs.declared.Section.{Section}
 
@@ -23,7 +23,7 @@ pub record AreVectors (vectors : List VectorValue) : Type 0 where
 pub record IsModuleValue (room : ℕ) (m : ModuleValue) : Type 0 where
   pub some_name : 1 ≤ length m.name
   pub short_name : length m.name ≤ 32
-  pub name_bytes : AllPass is_name_byte m.name
+  pub name_bytes : AllPass is_layout_name_byte m.name
   pub vendor_word : m.vendor ≤ 65535
   pub text_region : IsRegion m.text
   pub ram_region : IsRegion m.ram
@@ -47,7 +47,7 @@ pub record IsLayout (l : LayoutValue) : Type 0 where
   pub modules_kept : All (IsModuleValue l.room) l.modules
   pub few_modules : length l.modules ≤ l.room
   pub regions_apart : AllPairs ShareNoByte (regions l.text l.ram l.modules)
-  pub names_differ : AllPairs (λ a b. a ≢ b) (names_of l.modules)
+  pub names_differ : AllPairs (λ a b. a ≢ b) (module_names l.modules)
   pub boots_differ : AllPairs (λ a b. a ≢ b) (boots_of l.modules)
   -- version 1 protects the modules in their order
   pub boots_in_order : l.room ≡ 8 → (k d : ℕ) → k < length l.modules → slice_index_or (boots_of l.modules) k d ≡ k + 1

@@ -32,8 +32,8 @@ regions_of m = m.text ∷ m.ram ∷ []
 abbrev pub regions : Section → Section → List ModuleValue → List Section
 regions text ram modules = text ∷ ram ∷ flat_map regions_of modules
 
-abbrev pub names_of : List ModuleValue → List (List ℕ)
-names_of modules = map (λ m. m.name) modules
+abbrev pub module_names : List ModuleValue → List (List ℕ)
+module_names modules = map (λ m. m.name) modules
 
 abbrev pub boots_of : List ModuleValue → List ℕ
 boots_of modules = map (λ m. m.boot) modules

@@ -2,19 +2,19 @@
 ghost use Rattle.std.specs.Prelude.{◌≡◌, ◌≢◌, ◌<◌, ◌≤◌, ◌==◌, ◌⊎◌, MatchResult, Ok, Err, IfOk, IfErr, length, map};
 ghost use Rattle.toml.specs.View.{table_view};
 ghost use Rattle.layout_file.specs.internal.Checked.{ReadsAs};
-ghost use Rattle.layout_file.specs.Views.{module_of, modules_of};
-ghost use Rattle.layout_file.specs.internal.Views.{tables_of};
+ghost use Rattle.layout_file.specs.Views.{module_value, modules_of};
+ghost use Rattle.layout_file.specs.internal.Views.{table_members};
 ghost use Rattle.layout_file.specs.Layout.{layout_of, LayoutOf};
 ghost use Rattle.layout_file.specs.Layout as layout;
 ghost use Rattle.layout_file.specs.Clashes.{first_clash as first_clash_of, share_byte};
-ghost use Rattle.layout_file.specs.Values.{regions as regions_in, names_of, boots_of};
+ghost use Rattle.layout_file.specs.Values.{regions as regions_in, module_names, boots_of};
 ghost use Rattle.std.specs.Str.{bytes_eq};
 
 use crate::clash::first_clash;
 use crate::fault::{Key, LayoutFault, Spot};
 use crate::layout::Layout;
 use crate::parts::ModuleSpec;
-use crate::rows::{Bounds, entries, hex_key, integer, listed, name, section, tables, vectors};
+use crate::rows::{Bounds, entries, integer, key_member, listed, name, section_member, tables, vectors};
 use mod_layout::{DEVICES_END, FIRST_VECTOR, Section};
 use std::alloc::Global;
 use toml::Table;
@@ -97,9 +97,9 @@ fn module_keys(version: u16) -> &'static [Key]
 }
 
 /// When a module is protected.
-fn boot(table: &Table, version: u16, number: u32) -> Result<u16, LayoutFault>
+fn module_boot(table: &Table, version: u16, number: u32) -> Result<u16, LayoutFault>
     requires { number < 32 }
-    ensures { result ≡ layout.boot version number (table_view table.now) }
+    ensures { result ≡ layout.module_boot version number (table_view table.now) }
 {
     if version == 1 {
         Ok(number as u16 + 1)
@@ -116,16 +116,16 @@ fn module(
     number: u32,
 ) -> Result<ModuleSpec, LayoutFault>
     requires { number < 32 }
-    ensures { ReadsAs module_of result (layout.module_row version number (table_view table.now)) }
+    ensures { ReadsAs module_value result (layout.module_row version number (table_view table.now)) }
 {
     listed(table, module_keys(version), Some(number))?;
     let name = name(alloc, table, in_module(number, Key::Name), 32)?;
     let vendor = integer(table, in_module(number, Key::Vendor), between(0, 65535))?;
-    let text = section(table, in_module(number, Key::Text), REGION)?;
-    let ram = section(table, in_module(number, Key::Data), REGION)?;
+    let text = section_member(table, in_module(number, Key::Text), REGION)?;
+    let ram = section_member(table, in_module(number, Key::Data), REGION)?;
     let stack = integer(table, in_module(number, Key::Stack), evens(2, 32768))?;
     let entries = entries(alloc, table, in_module(number, Key::Entries), 64)?;
-    let boot = boot(table, version, number)?;
+    let boot = module_boot(table, version, number)?;
     Ok(ModuleSpec {
         name,
         vendor,
@@ -196,7 +196,7 @@ fn regions(
     ram: Section,
     modules: &[ModuleSpec],
 ) -> Result<Vec<Section>, LayoutFault>
-    ensures { MatchResult result (λ v. v.items ≡ regions_in text ram (map module_of modules.now))
+    ensures { MatchResult result (λ v. v.items ≡ regions_in text ram (map module_value modules.now))
         (λ e. e ≡ LayoutFault.NoMemory) }
 {
     let mut regions = Vec::new(alloc);
@@ -211,7 +211,7 @@ fn regions(
 
 /// The names of the modules, in order.
 fn names(alloc: Global, modules: &[ModuleSpec]) -> Result<Vec<&str>, LayoutFault>
-    ensures { MatchResult result (λ v. map (λ n. n.now) v.items ≡ names_of (map module_of modules.now))
+    ensures { MatchResult result (λ v. map (λ n. n.now) v.items ≡ module_names (map module_value modules.now))
         (λ e. e ≡ LayoutFault.NoMemory) }
 {
     let mut names: Vec<&str> = Vec::new(alloc);
@@ -223,7 +223,7 @@ fn names(alloc: Global, modules: &[ModuleSpec]) -> Result<Vec<&str>, LayoutFault
 
 /// The boots of the modules, in order.
 fn boots(alloc: Global, modules: &[ModuleSpec]) -> Result<Vec<u16>, LayoutFault>
-    ensures { MatchResult result (λ v. v.items ≡ boots_of (map module_of modules.now)) (λ e. e ≡ LayoutFault.NoMemory) }
+    ensures { MatchResult result (λ v. v.items ≡ boots_of (map module_value modules.now)) (λ e. e ≡ LayoutFault.NoMemory) }
 {
     let mut boots = Vec::new(alloc);
     for module in modules {
@@ -239,7 +239,7 @@ fn clear(
     ram: Section,
     modules: &[ModuleSpec],
 ) -> Result<(), LayoutFault>
-    ensures { (result ≡ layout.clear text ram (map module_of modules.now)) ⊎ (result ≡ Err LayoutFault.NoMemory) }
+    ensures { (result ≡ layout.clear text ram (map module_value modules.now)) ⊎ (result ≡ Err LayoutFault.NoMemory) }
 {
     let regions = regions(alloc, text, ram, modules)?;
     let names = names(alloc, modules)?;
@@ -262,10 +262,10 @@ fn layout(alloc: Global, table: &Table) -> Result<Layout, LayoutFault>
 {
     listed(table, TOP_KEYS.as_slice(), None)?;
     let version = integer(table, at_top(Key::Version), between(1, 2))?;
-    let key = hex_key(table, at_top(Key::Key))?;
+    let key = key_member(table, at_top(Key::Key))?;
     let handler_sp = integer(table, at_top(Key::HandlerSp), evens(0, 65534))?;
-    let text = section(table, at_top(Key::Text), REGION)?;
-    let ram = section(table, at_top(Key::Data), REGION)?;
+    let text = section_member(table, at_top(Key::Text), REGION)?;
+    let ram = section_member(table, at_top(Key::Data), REGION)?;
     let vectors = vectors(alloc, table, at_top(Key::Vectors))?;
     let room = room_of(version);
     let tables = tables(alloc, table, at_top(Key::Module), usize::from(room))?;

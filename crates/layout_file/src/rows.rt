@@ -8,9 +8,9 @@ ghost use Rattle.std.specs.Str.{bytes_eq};
 ghost use Rattle.layout_file.specs.Rows as rows;
 ghost use Rattle.layout_file.specs.Checked.{map_ok};
 ghost use Rattle.layout_file.specs.internal.Checked.{ReadsAs};
-ghost use Rattle.layout_file.specs.Views.{strings_of, vectors_of};
-ghost use Rattle.layout_file.specs.internal.Views.{tables_of, vector_list};
-ghost use Rattle.layout_file.specs.Rows.{is_name_byte};
+ghost use Rattle.layout_file.specs.Views.{string_values, vectors_of};
+ghost use Rattle.layout_file.specs.internal.Views.{table_members, vector_list};
+ghost use Rattle.layout_file.specs.Rows.{is_layout_name_byte};
 
 use crate::fault::{Key, LayoutFault, Spot};
 use crate::parts::VectorName;
@@ -28,17 +28,17 @@ pub struct Bounds {
 }
 
 /// The key is one of these.
-fn is_listed(keys: &[Key], name: &str) -> bool
-    ensures { result ≡ rows.is_listed keys.now name.now }
+fn is_known_key(keys: &[Key], name: &str) -> bool
+    ensures { result ≡ rows.is_known_key keys.now name.now }
 {
     keys.iter().any(|key| key.name() == name)
 }
 
 /// The table has no key that is not listed.
 fn has_listed_keys(table: &Table, keys: &[Key]) -> bool
-    ensures { result ≡ list_all (λ k. rows.is_listed keys.now (string_bytes k)) (keys_of table.now.entries) }
+    ensures { result ≡ list_all (λ k. rows.is_known_key keys.now (string_bytes k)) (keys_of table.now.entries) }
 {
-    table.keys().all(|key| is_listed(keys, key.as_str()))
+    table.keys().all(|key| is_known_key(keys, key.as_str()))
 }
 
 /// Refuses a table with a key that is not known.
@@ -68,8 +68,8 @@ fn value_at<'a>(table: &'a Table, name: &str) -> Option<&'a Value>
 }
 
 /// The value at a key.
-fn at(table: &Table, spot: Spot) -> Option<&Value>
-    ensures { option_map (λ v. view v.now) result ≡ rows.at spot (table_view table.now) }
+fn member_at(table: &Table, spot: Spot) -> Option<&Value>
+    ensures { option_map (λ v. view v.now) result ≡ rows.member_at spot (table_view table.now) }
 {
     value_at(table, spot.key.name())
 }
@@ -78,7 +78,7 @@ fn at(table: &Table, spot: Spot) -> Option<&Value>
 pub fn needed(table: &Table, spot: Spot) -> Result<&Value, LayoutFault>
     ensures { map_ok (λ v. view v.now) result ≡ rows.needed spot (table_view table.now) }
 {
-    at(table, spot).ok_or(LayoutFault::MissingKey { spot })
+    member_at(table, spot).ok_or(LayoutFault::MissingKey { spot })
 }
 
 /// The integer, if it is within the bounds.
@@ -125,8 +125,8 @@ fn as_pair(value: &Value) -> Option<(i64, i64)>
 }
 
 /// A row with two integers within the bounds, the first not above the second.
-pub fn section(table: &Table, spot: Spot, bounds: Bounds) -> Result<Section, LayoutFault>
-    ensures { result ≡ rows.section spot bounds (table_view table.now) }
+pub fn section_member(table: &Table, spot: Spot, bounds: Bounds) -> Result<Section, LayoutFault>
+    ensures { result ≡ rows.section_member spot bounds (table_view table.now) }
 {
     let (first, second) = as_pair(needed(table, spot)?).ok_or(LayoutFault::WrongKind { spot })?;
     let start = in_bounds(spot, bounds, first)?;
@@ -142,8 +142,8 @@ pub fn section(table: &Table, spot: Spot, bounds: Bounds) -> Result<Section, Lay
 }
 
 /// A row with a key of 32 hexadecimal digits.
-pub fn hex_key(table: &Table, spot: Spot) -> Result<[u8; 16], LayoutFault>
-    ensures { result ≡ rows.hex_key spot (table_view table.now) }
+pub fn key_member(table: &Table, spot: Spot) -> Result<[u8; 16], LayoutFault>
+    ensures { result ≡ rows.key_member spot (table_view table.now) }
 {
     let text = needed(table, spot)?
         .as_str()
@@ -156,7 +156,7 @@ pub fn hex_key(table: &Table, spot: Spot) -> Result<[u8; 16], LayoutFault>
 
 /// The text has letters, digits and `_` alone.
 fn has_name_bytes(text: &str) -> bool
-    ensures { result ≡ list_all is_name_byte text.now }
+    ensures { result ≡ list_all is_layout_name_byte text.now }
 {
     text.as_bytes()
         .iter()
@@ -164,8 +164,8 @@ fn has_name_bytes(text: &str) -> bool
 }
 
 /// The text is 1 to `most` letters, digits and `_`.
-fn is_name(text: &str, most: usize) -> bool
-    ensures { result ≡ rows.is_name most text.now }
+fn is_layout_name(text: &str, most: usize) -> bool
+    ensures { result ≡ rows.is_layout_name most text.now }
 {
     1 <= text.len() && text.len() <= most && has_name_bytes(text)
 }
@@ -177,7 +177,7 @@ pub fn name(alloc: Global, table: &Table, spot: Spot, most: usize) -> Result<Str
     let text = needed(table, spot)?
         .as_str()
         .ok_or(LayoutFault::WrongKind { spot })?;
-    if !is_name(text, most) {
+    if !is_layout_name(text, most) {
         return Err(LayoutFault::WrongKind { spot });
     }
     Ok(String::from_str(alloc, text)?)
@@ -193,7 +193,7 @@ fn string(alloc: Global, value: &Value, spot: Spot) -> Result<String, LayoutFaul
 
 /// Copies of the values of an array, each a string.
 fn strings(alloc: Global, items: &[Value], spot: Spot) -> Result<Vec<String>, LayoutFault>
-    ensures { ReadsAs strings_of result (rows.strings spot (rows.list_of (items_view items.now))) }
+    ensures { ReadsAs string_values result (rows.strings spot (rows.item_list (items_view items.now))) }
 {
     let mut names = Vec::new(alloc);
     for item in items {
@@ -209,7 +209,7 @@ pub fn entries(
     spot: Spot,
     most: usize,
 ) -> Result<Vec<String>, LayoutFault>
-    ensures { ReadsAs strings_of result (rows.entries spot most (table_view table.now)) }
+    ensures { ReadsAs string_values result (rows.entries spot most (table_view table.now)) }
 {
     let items = needed(table, spot)?
         .as_array()
@@ -311,7 +311,7 @@ fn vectors_in(alloc: Global, table: &Table, spot: Spot) -> Result<Vec<VectorName
 pub fn vectors(alloc: Global, table: &Table, spot: Spot) -> Result<Vec<VectorName>, LayoutFault>
     ensures { ReadsAs vectors_of result (rows.vectors spot (table_view table.now)) }
 {
-    match at(table, spot) {
+    match member_at(table, spot) {
         None => Ok(Vec::new(alloc)),
         Some(value) => vectors_in(alloc, inner_table(value, spot)?, spot),
     }
@@ -326,7 +326,7 @@ fn inner_table(value: &Value, spot: Spot) -> Result<&Table, LayoutFault>
 
 /// The values of an array, each a table.
 fn inner_tables(alloc: Global, items: &[Value], spot: Spot) -> Result<Vec<&Table>, LayoutFault>
-    ensures { ReadsAs tables_of result (rows.inner_tables spot (rows.list_of (items_view items.now))) }
+    ensures { ReadsAs table_members result (rows.inner_tables spot (rows.item_list (items_view items.now))) }
 {
     let mut found = Vec::new(alloc);
     for item in items {
@@ -342,10 +342,10 @@ pub fn tables(
     spot: Spot,
     most: usize,
 ) -> Result<Vec<&Table>, LayoutFault>
-    ensures tables { ReadsAs tables_of result (rows.tables spot most (table_view table.now)) }
+    ensures tables { ReadsAs table_members result (rows.tables spot most (table_view table.now)) }
     ensures few { IfOk result (λ v. length v.items ≤ most) }
 {
-    let Some(value) = at(table, spot) else {
+    let Some(value) = member_at(table, spot) else {
         return Ok(Vec::new(alloc));
     };
     let items = value.as_array().ok_or(LayoutFault::WrongKind { spot })?;

@@ -8,7 +8,7 @@ use Rattle.std.specs.declared.alloc.Global.{Global}
 use Rattle.elf_objects.specs.Object.{ObjectValue}
 use Rattle.elf_objects.specs.declared.object.Symbol.{Symbol}
 use Rattle.layout_file.specs.declared.parts.ModuleSpec.{ModuleSpec}
-use Rattle.layout_file.specs.Views.{module_of}
+use Rattle.layout_file.specs.Views.{module_value}
 use Rattle.linker.specs.Linkage.{listed_numbers, numbers_in_list}
 use Rattle.linker.specs.Numbers.{Linking, numbers_in, linked_number}
 use Rattle.link_symbols.specs.Passes.{NumberedObject, numbered_objects_from, map_at, part}
@@ -84,19 +84,19 @@ one_first p x xs true e = rw e refl
 one_first p x xs false e = rw e refl
 
 pub booted_more : {X : Type 0} (value : X → PlacedModule) (old new : List X) (modules : List ModuleSpec) (boot i : ℕ) (m : ModuleSpec) (total : List PlacedModule) → i < length modules → m ≡ get_or modules i m →
-    map value old ++ filter (has_boot boot) (map_at placed_module i (map module_of (drop i modules))) ≡ total →
-    map value new ≡ map value old ++ filter (has_boot boot) (placed_module i (module_of m) ∷ []) →
-    map value new ++ filter (has_boot boot) (map_at placed_module (i + 1) (map module_of (drop (i + 1) modules))) ≡ total
+    map value old ++ filter (has_boot boot) (map_at placed_module i (map module_value (drop i modules))) ≡ total →
+    map value new ≡ map value old ++ filter (has_boot boot) (placed_module i (module_value m) ∷ []) →
+    map value new ++ filter (has_boot boot) (map_at placed_module (i + 1) (map module_value (drop (i + 1) modules))) ≡ total
 booted_more value old new modules boot i m total h is e made =
-    let rest = map_at placed_module (i + 1) (map module_of (drop (i + 1) modules)) in
-    let first = filter (has_boot boot) (placed_module i (module_of m) ∷ []) in
+    let rest = map_at placed_module (i + 1) (map module_value (drop (i + 1) modules)) in
+    let first = filter (has_boot boot) (placed_module i (module_value m) ∷ []) in
     ap (λ l. l ++ filter (has_boot boot) rest) made ∙ (append_assoc (map value old) first (filter (has_boot boot) rest)
-    ∙ (ap (λ l. map value old ++ l) (sym (one_first (has_boot boot) (placed_module i (module_of m)) rest (has_boot boot (placed_module i (module_of m))) refl))
-    ∙ (ap (λ l. map value old ++ filter (has_boot boot) (map_at placed_module i l)) (sym (map_here module_of modules i m m h is)) ∙ e)))
+    ∙ (ap (λ l. map value old ++ l) (sym (one_first (has_boot boot) (placed_module i (module_value m)) rest (has_boot boot (placed_module i (module_value m))) refl))
+    ∙ (ap (λ l. map value old ++ filter (has_boot boot) (map_at placed_module i l)) (sym (map_here module_value modules i m m h is)) ∙ e)))
 
 pub booted_end : {X : Type 0} (value : X → PlacedModule) (old : List X) (modules : List ModuleSpec) (boot i j : ℕ) (total : List PlacedModule) → length modules ≤ i →
-    map value old ++ filter (has_boot boot) (map_at placed_module j (map module_of (drop i modules))) ≡ total → map value old ≡ total
-booted_end value old modules boot i j total h e = sym (append-nil (map value old)) ∙ (ap (λ l. map value old ++ filter (has_boot boot) (map_at placed_module j l)) (sym (map_over module_of modules i h)) ∙ e)
+    map value old ++ filter (has_boot boot) (map_at placed_module j (map module_value (drop i modules))) ≡ total → map value old ≡ total
+booted_end value old modules boot i j total h e = sym (append-nil (map value old)) ∙ (ap (λ l. map value old ++ filter (has_boot boot) (map_at placed_module j l)) (sym (map_over module_value modules i h)) ∙ e)
 
 range_more : (a n : ℕ) → range_with_len a (suc n) ≡ range_with_len a n ++ (a + n) ∷ []
 range_more a zero = ap (λ (k : ℕ). k ∷ []) (omega arith)

@@ -7,7 +7,7 @@ use Rattle.layout_file.specs.declared.layout.Layout.{Layout}
 use Rattle.layout_file.specs.declared.parts.ModuleSpec.{ModuleSpec}
 use Rattle.layout_file.specs.Sound.{IsModuleValue}
 use Rattle.layout_file.specs.Values.{ModuleValue, LayoutValue}
-use Rattle.layout_file.specs.Views.{module_of}
+use Rattle.layout_file.specs.Views.{module_value}
 use Rattle.link_symbols.specs.declared.item.Item.{Item}
 use Rattle.link_symbols.specs.declared.names.Names.{Names}
 use Rattle.link_symbols.specs.declared.names.Definition.{Definition}
@@ -22,10 +22,10 @@ use Rattle.link_symbols.specs.internal.Layouts.{AreShort}
 use Rattle.link_symbols.specs.internal.Maps.{name_entry, meaning_of_name, HoldsNames, HoldsCommons}
 use Rattle.link_symbols.proofs.OrderLemmas.{ext}
 
-pub module_kept : (l : Layout) (k : ℕ) (d : ModuleSpec) → k < length l.modules.items → IsModuleValue l.room (module_of (get_or l.modules.items k d))
+pub module_kept : (l : Layout) (k : ℕ) (d : ModuleSpec) → k < length l.modules.items → IsModuleValue l.room (module_value (get_or l.modules.items k d))
 module_kept l k d h =
-    let n : length (map module_of l.modules.items) ≡ length l.modules.items = length-map l.modules.items module_of in
-    subst (λ (m : ModuleValue). IsModuleValue l.room m) (get_or-map module_of l.modules.items k d) (l.sound.modules_kept k (module_of d) (omega (arith, n)))
+    let n : length (map module_value l.modules.items) ≡ length l.modules.items = length-map l.modules.items module_value in
+    subst (λ (m : ModuleValue). IsModuleValue l.room m) (get_or-map module_value l.modules.items k d) (l.sound.modules_kept k (module_value d) (omega (arith, n)))
 
 pub short_names : (l : Layout) → AreShort l.modules.items
 short_names l = λ k d h. (module_kept l k d h).short_name

@@ -1,7 +1,7 @@
 //! Names that must stand for something.
 
 ghost use Rattle.std.specs.Prelude.{◌≡◌, ◌≤◌, ◌<◌, ◌+◌, ◌*◌, ◌^◌, ℕ, List, length, map, IfOk, IfErr, OnOk, None, slice_index_or, true, false, All};
-ghost use Rattle.layout_file.specs.Views.{module_of, vector_of, strings_of};
+ghost use Rattle.layout_file.specs.Views.{module_value, vector_of, string_values};
 ghost use Rattle.link_symbols.specs.Passes.{NumberedObject, numbered_objects, first_at, first_in, IsLinkFaultOf, FaultIs};
 ghost use Rattle.link_symbols.specs.Passes.{numbered_object};
 ghost use Rattle.link_symbols.specs.internal.Values.{named_value};
@@ -230,7 +230,7 @@ fn check_entries_of<'a>(
     spec: &'a ModuleSpec,
     number: usize,
 ) -> Result<(), LinkFault>
-    ensures { FaultIs result (no_entry_in (meaning_of_name names.now) number (module_of spec.entry.now)) }
+    ensures { FaultIs result (no_entry_in (meaning_of_name names.now) number (module_value spec.entry.now)) }
 {
     for (k, entry) in spec.entries.iter().enumerate() {
         if names.stands_for(entry.as_bytes()).is_none() {
@@ -246,7 +246,7 @@ fn check_entries_of<'a>(
 /// Each entry's name stands for something.
 #[tactic(auto, using(crate::proofs::Steps::first_at_map_step, crate::proofs::Steps::first_at_map_hit, crate::proofs::Steps::first_at_map_end), unfolding(crate::specs::Refusals::no_entry))]
 pub fn check_entries<'a>(names: &Names<'a>, modules: &'a [ModuleSpec]) -> Result<(), LinkFault>
-    ensures { FaultIs result (no_entry (meaning_of_name names.now) (map module_of modules.entry.now)) }
+    ensures { FaultIs result (no_entry (meaning_of_name names.now) (map module_value modules.entry.now)) }
 {
     for (number, spec) in modules.iter().enumerate() {
         if let Err(fault) = check_entries_of(names, spec, number) {
@@ -289,7 +289,7 @@ fn check_places_of<'a>(
     number: usize,
 ) -> Result<(), LinkFault>
     requires few { number < 2 ^ 32 }
-    ensures { FaultIs result (elsewhere_in (meaning_of_name names.now) items.now number (module_of
+    ensures { FaultIs result (elsewhere_in (meaning_of_name names.now) items.now number (module_value
         spec.entry.now)) }
 {
     for (k, entry) in spec.entries.iter().enumerate() {
@@ -311,7 +311,7 @@ pub fn check_places<'a>(
     modules: &'a [ModuleSpec],
 ) -> Result<(), LinkFault>
     requires few { length modules.now ≤ 32 }
-    ensures { FaultIs result (elsewhere (meaning_of_name names.now) items.now (map module_of modules.entry.now)) }
+    ensures { FaultIs result (elsewhere (meaning_of_name names.now) items.now (map module_value modules.entry.now)) }
 {
     for (number, spec) in modules.iter().enumerate() {
         if let Err(fault) = check_places_of(names, items, spec, number) {

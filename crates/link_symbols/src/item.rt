@@ -1,7 +1,7 @@
 //! What is placed: the sections of all objects in order, then the commons.
 
 ghost use Rattle.std.specs.Prelude.{◌≡◌, ◌+◌, ◌*◌, ◌<◌, ◌≤◌, ◌++◌, ◌^◌, List, Vec, length, map, string_bytes, OnOk, IfOk, IfErr, None};
-ghost use Rattle.layout_file.specs.Views.{module_of};
+ghost use Rattle.layout_file.specs.Views.{module_value};
 ghost use Rattle.elf_objects.specs.Object.{ObjectValue, IsSectionHead};
 ghost use Rattle.link_symbols.specs.internal.Layouts.{AreShort};
 ghost use Rattle.link_symbols.specs.Parts.{code_part as code_part_of, data_part as data_part_of, is_named, part_in, part_of, item_of, items_in, section_items};
@@ -74,7 +74,7 @@ fn is_named(name: &[u8], own: &[u8], ending: &[u8]) -> bool
 fn part_in(number: usize, spec: &ModuleSpec, name: &[u8]) -> Option<Part>
     requires number { number < 2 ^ 32 }
     requires short { length (string_bytes spec.now.name) ≤ 32 }
-    ensures { result ≡ part_in number (module_of spec.now) name.now }
+    ensures { result ≡ part_in number (module_value spec.now) name.now }
 {
     let own = spec.name.as_bytes();
     if is_named(name, own, b".text") {
@@ -93,7 +93,7 @@ fn part_in(number: usize, spec: &ModuleSpec, name: &[u8]) -> Option<Part>
 fn module_part(modules: &[ModuleSpec], name: &[u8]) -> Option<Part>
     requires few { length modules.now ≤ 32 }
     requires names { AreShort modules.now }
-    ensures { result ≡ first_at (λ i m. part_in i m name.now) 0 (map module_of modules.now) }
+    ensures { result ≡ first_at (λ i m. part_in i m name.now) 0 (map module_value modules.now) }
 {
     for (number, module) in modules.iter().enumerate() {
         if let Some(part) = part_in(number, module, name) {
@@ -108,7 +108,7 @@ fn module_part(modules: &[ModuleSpec], name: &[u8]) -> Option<Part>
 fn part_of(modules: &[ModuleSpec], name: &[u8], head: SectionHead) -> Option<Part>
     requires few { length modules.now ≤ 32 }
     requires names { AreShort modules.now }
-    ensures { result ≡ part_of (map module_of modules.now) name.now head }
+    ensures { result ≡ part_of (map module_value modules.now) name.now head }
 {
     if name.starts_with(b".sm.") {
         return module_part(modules, name);
@@ -126,7 +126,7 @@ fn item_of(modules: &[ModuleSpec], object: &Object, head: SectionHead) -> Item
     requires few { length modules.now ≤ 32 }
     requires names { AreShort modules.now }
     requires section { IsSectionHead (length object.now.file) head }
-    ensures { result ≡ item_of (map module_of modules.now) object.now head }
+    ensures { result ≡ item_of (map module_value modules.now) object.now head }
 {
     let part = if head.is_loaded() {
         part_of(modules, object.part(head.name), head)
@@ -153,10 +153,10 @@ fn placed_item(
     requires few { length modules.now ≤ 32 }
     requires names { AreShort modules.now }
     requires section { IsSectionHead (length object.now.file) head }
-    ensures item { IfOk result (λ i. i ≡ item_of (map module_of modules.now) object.now head) }
-    ensures sound { OnOk result (no_place_at (map module_of modules.now) (numbered_object number first
+    ensures item { IfOk result (λ i. i ≡ item_of (map module_value modules.now) object.now head) }
+    ensures sound { OnOk result (no_place_at (map module_value modules.now) (numbered_object number first
         object.now) k head ≡ None) }
-    ensures refusal { IfErr result (λ f. no_place_at (map module_of modules.now) (numbered_object number first
+    ensures refusal { IfErr result (λ f. no_place_at (map module_value modules.now) (numbered_object number first
         object.now) k head ≡ Some f) }
 {
     let item = item_of(modules, object, head);
@@ -180,11 +180,11 @@ fn push_sections(
 ) -> Result<(), LinkFault>
     requires few { length modules.now ≤ 32 }
     requires names { AreShort modules.now }
-    ensures items { OnOk result (items.new.items ≡ items.old.items ++ items_in (map module_of modules.now)
+    ensures items { OnOk result (items.new.items ≡ items.old.items ++ items_in (map module_value modules.now)
         object.now) }
-    ensures sound { OnOk result (no_place_in (map module_of modules.now) (numbered_object number first
+    ensures sound { OnOk result (no_place_in (map module_value modules.now) (numbered_object number first
         object.now) ≡ None) }
-    ensures refusal { IfErr result (IsLinkFaultOf (no_place_in (map module_of modules.now) (numbered_object number
+    ensures refusal { IfErr result (IsLinkFaultOf (no_place_in (map module_value modules.now) (numbered_object number
         first object.now))) }
 {
     for (k, head) in object.sections().iter().enumerate() {
@@ -206,9 +206,9 @@ pub fn sections_of(
     requires some { length objects.now ≤ 64 }
     requires few { length modules.now ≤ 32 }
     requires names { AreShort modules.now }
-    ensures items { IfOk result (λ items. items.items ≡ section_items (map module_of modules.now) objects.now) }
-    ensures sound { OnOk result (no_place (map module_of modules.now) objects.now ≡ None) }
-    ensures refusal { IfErr result (IsLinkFaultOf (no_place (map module_of modules.now) objects.now)) }
+    ensures items { IfOk result (λ items. items.items ≡ section_items (map module_value modules.now) objects.now) }
+    ensures sound { OnOk result (no_place (map module_value modules.now) objects.now ≡ None) }
+    ensures refusal { IfErr result (IsLinkFaultOf (no_place (map module_value modules.now) objects.now)) }
 {
     let mut items = Vec::new(alloc);
     let mut first = 0;

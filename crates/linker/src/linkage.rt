@@ -2,7 +2,7 @@
 
 ghost use Rattle.mod_layout.specs.declared.TheConstants.{FIRST_VECTOR};
 ghost use Rattle.std.specs.Prelude.{◌≡◌, ◌≤◌, ◌+◌, ◌*◌, ℕ, length, map, IfOk, IfErr, OnOk, None, slice_index, All};
-ghost use Rattle.layout_file.specs.Views.{module_of};
+ghost use Rattle.layout_file.specs.Views.{module_value};
 ghost use Rattle.layout_file.specs.Layout.{layout_of};
 ghost use Rattle.link_symbols.specs.CommonNames.{borrowed, common_names};
 ghost use Rattle.link_symbols.specs.Passes.{IsLinkFaultOf, numbered_objects};
@@ -108,7 +108,7 @@ fn linkage_by<'a>(
     requires items { resolved.items ≡ items_of (layout_of layout.now) objects.now }
     requires resolved { resolved.objects ≡ objects.now }
     requires small { All IsSmall objects.now }
-    requires somewhere { no_place (map module_of layout.now.modules.items) objects.now ≡ None }
+    requires somewhere { no_place (map module_value layout.now.modules.items) objects.now ≡ None }
     ensures linked { IfOk result (λ w. w.image ≡ linked_image (layout_of layout.entry.now) objects.entry.now) }
     ensures items { IfOk result (λ w. w.items.items ≡ items_of (layout_of layout.entry.now) objects.entry.now) }
     ensures addresses { IfOk result (λ w. slice_index w.addresses.items

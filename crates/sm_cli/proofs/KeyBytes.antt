@@ -25,7 +25,7 @@ decoded : (spot : Spot) (r : Result (List ℕ) FromHexError) (key : List ℕ) �
 decoded spot (Ok bytes) key h = let same : bytes ≡ key = cc in ap Ok same
 decoded spot (Err e) key h = absurd cc
 
-row_bytes : (spot : Spot) (table : Members) (key : List ℕ) → rows.hex_key spot table ≡ Ok key → IsBytes key
+row_bytes : (spot : Spot) (table : Members) (key : List ℕ) → rows.key_member spot table ≡ Ok key → IsBytes key
 row_bytes spot table key h =
     let value = bind-ok (needed spot table) _ key h in
     let text = bind-ok (of_kind spot (as_str value.0)) _ key value.2 in
@@ -40,10 +40,10 @@ table_bytes : (top : Members) (l : LayoutValue) → layout.layout_in top ≡ Ok 
 table_bytes top l h =
     let known = bind-ok (rows.listed layout.top_keys None top) _ l h in
     let version = bind-ok (rows.integer (layout.at_top Version) (layout.between 1 2) top) _ l known.2 in
-    let key = bind-ok (rows.hex_key (layout.at_top Key) top) _ l version.2 in
+    let key = bind-ok (rows.key_member (layout.at_top Key) top) _ l version.2 in
     let handler_sp = bind-ok (rows.integer (layout.at_top HandlerSp) (layout.evens 0 65534) top) _ l key.2 in
-    let text = bind-ok (rows.section (layout.at_top Text) layout.region top) _ l handler_sp.2 in
-    let ram = bind-ok (rows.section (layout.at_top Data) layout.region top) _ l text.2 in
+    let text = bind-ok (rows.section_member (layout.at_top Text) layout.region top) _ l handler_sp.2 in
+    let ram = bind-ok (rows.section_member (layout.at_top Data) layout.region top) _ l text.2 in
     let vectors = bind-ok (rows.vectors (layout.at_top Vectors) top) _ l ram.2 in
     let tables = bind-ok (rows.tables (layout.at_top Module) (layout.room_of version.0) top) _ l vectors.2 in
     let modules = bind-ok (layout.modules_in version.0 tables.0) _ l tables.2 in

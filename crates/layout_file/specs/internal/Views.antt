@@ -14,5 +14,5 @@ abbrev pub vector_list : Option VectorName → List VectorValue
 vector_list None = []
 vector_list (Some v) = vector_of v ∷ []
 
-abbrev pub tables_of : Vec (Bor (BTreeMap (String Global) Value)) Global → List Members
-tables_of v = map (λ t. table_view t.now) v.items
+abbrev pub table_members : Vec (Bor (BTreeMap (String Global) Value)) Global → List Members
+table_members v = map (λ t. table_view t.now) v.items

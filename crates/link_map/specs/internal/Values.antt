@@ -1,7 +1,7 @@
 -- Values of the code's own records.
 use Rattle.std.specs.Prelude.{ℕ, suc, List, [], ◌∷◌, nat_lt, if◌then◌else◌}
 use Rattle.std.specs.Fmt.{decimal}
-use Rattle.layout_file.specs.Views.{module_of}
+use Rattle.layout_file.specs.Views.{module_value}
 use Rattle.link_map.specs.declared.lines.Piece.{Piece}
 use Rattle.link_map.specs.declared.lines.Piece.TheVariants.{Word, Number, Address, Name}
 use Rattle.link_map.specs.declared.modules.Booted.{Booted}
@@ -20,7 +20,7 @@ piece_text (Address a) = address_text a
 piece_text (Name name) = name_shown name.now
 
 abbrev pub booted_value : Booted → PlacedModule
-booted_value b = record { number = b.number; value = module_of b.spec.now }
+booted_value b = record { number = b.number; value = module_value b.spec.now }
 
 abbrev pub part_value : Part → PartValue
 part_value p = record { at = p.at; end = p.end; object = p.object; section = p.section; name = p.name.now }

@@ -8,7 +8,7 @@ use Rattle.toml.specs.View.{table_view}
 use Rattle.toml.specs.declared.value.Value.{Value}
 use Rattle.layout_file.specs.Checked.{map_ok, one}
 use Rattle.layout_file.specs.Layout.{module_row}
-use Rattle.layout_file.specs.Views.{module_of, modules_of}
+use Rattle.layout_file.specs.Views.{module_value, modules_of}
 use Rattle.layout_file.specs.declared.fault.LayoutFault.TheVariants.{NoMemory}
 use Rattle.layout_file.proofs.RowLemmas.{list-stop, list-more}
 use Rattle.layout_file.proofs.read.modules.Goals as goal
@@ -36,7 +36,7 @@ loop-number-preserved c =
     record {
       read = elim c.in_ok-module.ensures [
         | inl h ↦ rw (c.in_ok-push.ensures.items, map-append) (list-more (λ (n : ℕ) (t : Members). map_ok one (module_row c.args.version n t)) (map see c.args.tables.now)
-            c.loop-number.number (see c.index-tables-number.result) (modules_of c.loop-number.found) (module_of c.in_ok-module.field-0 ∷ []) inside
+            c.loop-number.number (see c.index-tables-number.result) (modules_of c.loop-number.found) (module_value c.in_ok-module.field-0 ∷ []) inside
             c.loop-number.invariant.read (rw here (ap (map_ok one) (sym h))))
         | inr h ↦ absurd (cc)
       ];

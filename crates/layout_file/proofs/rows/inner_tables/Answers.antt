@@ -5,7 +5,7 @@ use Rattle.toml.specs.Data.{Data}
 use Rattle.toml.specs.View.{table_view}
 use Rattle.layout_file.specs.Checked.{map_ok, one}
 use Rattle.layout_file.specs.Rows.{inner_table}
-use Rattle.layout_file.specs.internal.Views.{tables_of}
+use Rattle.layout_file.specs.internal.Views.{table_members}
 use Rattle.layout_file.proofs.RowLemmas.{values-stop, values-more}
 use Rattle.layout_file.proofs.rows.inner_tables.Goals as goal
 
@@ -15,7 +15,7 @@ returns-in_err-inner_table c =
     let inside : c.loop-item.item-index < length c.args.items.now = omega arith in
     let h = c.in_err-inner_table.ensures in
     rw (p.1, p.2) (inl (sym (values-stop (λ (n : ℕ) (d : Data). map_ok one (inner_table c.args.spot d)) c.args.items.now c.loop-item.item-index
-    c.item-item.result (tables_of c.loop-item.found) c.in_err-inner_table.field-0.0 inside c.loop-item.invariant
+    c.item-item.result (table_members c.loop-item.found) c.in_err-inner_table.field-0.0 inside c.loop-item.invariant
     (rw (← c.item-item.is) (ap (map_ok one) (sym h))))))
 
 pub loop-item-preserved : goal.loop-item-preserved
@@ -23,5 +23,5 @@ loop-item-preserved c =
     let inside : c.loop-item.item-index < length c.args.items.now = omega arith in
     let h = c.in_ok-inner_table.ensures in
     rw (c.in_ok-push.ensures.items, map-append) (values-more (λ (n : ℕ) (d : Data). map_ok one (inner_table c.args.spot d)) c.args.items.now
-    c.loop-item.item-index c.item-item.result (tables_of c.loop-item.found) (table_view c.in_ok-inner_table.field-0.now ∷ []) inside
+    c.loop-item.item-index c.item-item.result (table_members c.loop-item.found) (table_view c.in_ok-inner_table.field-0.now ∷ []) inside
     c.loop-item.invariant (rw (← c.item-item.is) (ap (map_ok one) (sym h))))

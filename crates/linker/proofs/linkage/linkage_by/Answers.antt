@@ -4,7 +4,7 @@ use Rattle.std.proofs.lemmas.List.{length-map}
 use Rattle.std.specs.Prelude.{slice_index}
 use Rattle.image_text.specs.Image.{Image}
 use Rattle.layout_file.specs.Layout.{layout_of}
-use Rattle.layout_file.specs.Views.{module_of}
+use Rattle.layout_file.specs.Views.{module_value}
 use Rattle.link_symbols.specs.declared.fault.LinkFault.{LinkFault}
 use Rattle.link_symbols.specs.declared.item.Item.{Item}
 use Rattle.link_symbols.specs.Passes.{first_in, numbered_objects}
@@ -85,5 +85,5 @@ placed-requires-clause-few c =
 pub placed-requires-clause-regions : goal.placed-requires-clause-regions
 placed-requires-clause-regions c =
     let l = layout_of c.args.layout.now in
-    let n : 2 + 2 * length l.modules ≡ 2 + 2 * length c.args.layout.now.modules.items = ap (λ (m : ℕ). 2 + 2 * m) (length-map c.args.layout.now.modules.items module_of) in
+    let n : 2 + 2 * length l.modules ≡ 2 + 2 * length c.args.layout.now.modules.items = ap (λ (m : ℕ). 2 + 2 * m) (length-map c.args.layout.now.modules.items module_value) in
     subst (λ (k : ℕ). AreIn k c.items.result.now) n (subst (λ (is : List Item). AreIn (2 + 2 * length l.modules) is) (sym (c.items.ensures ∙ c.requires.items)) (items_are_in l c.args.objects.now))
