@@ -5,7 +5,7 @@ use Rattle.insn_decode.specs.declared.insn.Insn.{Insn}
 use Rattle.insn_decode.specs.Code.{words_of as words_in, width_of}
 use Rattle.insn_decode.specs.Means.{Source, register, symbolic, absolute, indexed, indirect, increment, immediate, Destination, to_register, to_symbolic, to_absolute, to_indexed, Means, format_one, format_two, jump, return, unit}
 use Rattle.insn_decode.proofs.Table.{insn_means}
-use Rattle.asm_text.specs.Encoding.{source_mode, source_register, dest_mode, byte_flag, first_word, extension, words_of}
+use Rattle.asm_text.specs.Encoding.{source_mode, source_register, dest_mode, byte_flag, encoded_first, extension, encoded_words}
 use Rattle.asm_text.specs.Laws.{is_jump, WordsComeBack}
 
 -- ---- operands
@@ -65,8 +65,8 @@ one_extension : (a : Operand) (w1 w2 : ℕ) → ((words_in a ≡ 0) × (extensio
 one_extension a w1 w2 (inl e) = rw (e.0, e.1) refl
 one_extension a w1 w2 (inr e) = rw (e.0, e.1) refl
 
-means_back : {w0 w1 w2 n : ℕ} {insn : Insn} → Means w0 w1 w2 insn n → is_jump insn ≡ false → words_of insn ≡ take n (w0 ∷ w1 ∷ w2 ∷ [])
-unfolding first_word
+means_back : {w0 w1 w2 n : ℕ} {insn : Insn} → Means w0 w1 w2 insn n → is_jump insn ≡ false → encoded_words insn ≡ take n (w0 ∷ w1 ∷ w2 ∷ [])
+unfolding encoded_first
 means_back {w0} {w1} {w2} (format_one op s d c source dest) h =
     let a = source_back source (omega arith) in
     let b = dest_back dest (omega arith) in

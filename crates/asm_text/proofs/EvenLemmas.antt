@@ -15,9 +15,9 @@ use Rattle.asm_text.specs.declared.statement.Statement.TheVariants.{Section, Lab
 use Rattle.asm_text.specs.Encoding.{is_coded}
 use Rattle.asm_text.specs.Lines.{statement_of}
 use Rattle.asm_text.specs.Names.{Tables, no_tables, tables_after, numbered}
-use Rattle.asm_text.specs.Placing.{Placed, nowhere, has_section, with_section, spot_of, with_label, with_bytes, within, in_section, last_head, placed, placed_from}
-use Rattle.asm_text.specs.Source.{more, source_by, source_from, source_of}
-use Rattle.asm_text.specs.Statements.{statement_size, takes}
+use Rattle.asm_text.specs.Placing.{Placed, nowhere, has_section, placed_section, spot_of, with_label, with_bytes, within, in_section, last_head, placed, placed_from}
+use Rattle.asm_text.specs.Source.{more, source_by, source_from, source_read}
+use Rattle.asm_text.specs.Statements.{statement_size, kind_takes}
 use Rattle.asm_text.proofs.EmittingLemmas.{next_place}
 use Rattle.asm_text.proofs.LockLemmas.{ok_is}
 use Rattle.asm_text.proofs.PlacedLemmas.{is_last, or_not, new_head, more_heads, spot_here, more_labels, grown_head, more_bytes}
@@ -61,12 +61,12 @@ all_from P each n t statements (line ∷ lines) tail are = by (λ u ss are'. all
     by again None is = are
     by again (Some s) is = again (tables_after t s) (more t statements s) (All-push P statements (numbered t s) are (each t s (statement_some line s is)))
 
-pub source_even : (text : List ℕ) → AreEven (source_of text).statements
-unfolding source_of
+pub source_even : (text : List ℕ) → AreEven (source_read text).statements
+unfolding source_read
 source_even text = all_from IsEven even_statement 1 no_tables [] (ended_lines text) (unended text) (λ k d h. absurd (omega (arith, h)))
 
-pub source_sound : (text : List ℕ) → All IsSound (source_of text).statements
-unfolding source_of
+pub source_sound : (text : List ℕ) → All IsSound (source_read text).statements
+unfolding source_read
 source_sound text = all_from IsSound sound_statement 1 no_tables [] (ended_lines text) (unended text) (λ k d h. absurd (omega (arith, h)))
 
 -- ---- places
@@ -81,7 +81,7 @@ nowhere_even names = record { sizes = λ k d h. absurd (omega (arith, h)); spots
 pub even_head : (p : Placed) (h : Head) → IsEvenPlaced p → last_head p.heads ≡ Some h → h.size % 2 ≡ 0
 even_head p h i last = let l = is_last p.heads h last in subst (λ (x : Head). x.size % 2 ≡ 0) (l.is h) (i.sizes (length p.heads - 1) h l.some)
 
-section_even : (n : ℕ) (p q : Placed) (name : ℕ) (kind : SectionKind) → IsEvenPlaced p → with_section n p name kind ≡ Ok q → IsEvenPlaced q
+section_even : (n : ℕ) (p q : Placed) (name : ℕ) (kind : SectionKind) → IsEvenPlaced p → placed_section n p name kind ≡ Ok q → IsEvenPlaced q
 section_even n p q name kind i e = by (has_section p.heads name) (nat_eq (length p.heads) MAX_SECTIONS) e
   where
     by : (c d : Bool) → cond c (Err (Twice n)) (cond d (Err (TooMany n)) (Ok (more_heads p (new_head name kind)))) ≡ Ok q → IsEvenPlaced q
@@ -136,7 +136,7 @@ in_section_even n p q s i k e = by (last_head p.heads) refl e
 
     by : (o : Option Head) → last_head p.heads ≡ o → in_section n p o s ≡ Ok q → IsEvenPlaced q
     by None last e = absurd cc
-    by (Some h) last e = by_kind h (takes h.kind s) last e
+    by (Some h) last e = by_kind h (kind_takes h.kind s) last e
 
 pub placed_even : (n : ℕ) (p q : Placed) (s : Statement ℕ) → IsEvenPlaced p → IsEven s → placed n p s ≡ Ok q → IsEvenPlaced q
 placed_even n p q (Section name kind) i k e = section_even n p q name kind i e

@@ -17,9 +17,9 @@ use Rattle.asm_text.specs.internal.Emitted.{AreNames}
 use Rattle.asm_text.specs.internal.Kept.{IsSource}
 use Rattle.asm_text.specs.internal.Known.{IsBelow, IsKnown, AreKnown, IsNamed, AreNamed}
 use Rattle.asm_text.specs.Lines.{statement_of}
-use Rattle.asm_text.specs.Names.{name_number, noted_by, noted, Tables, no_tables, noted_option, number_option, tables_after, numbered}
+use Rattle.asm_text.specs.Names.{name_number, noted_by, with_name, Tables, no_tables, noted_option, number_option, tables_after, numbered}
 use Rattle.asm_text.specs.Parts.{is_name}
-use Rattle.asm_text.specs.Source.{Source, more, source_by, source_from, source_of}
+use Rattle.asm_text.specs.Source.{SourceRead, more, source_by, source_from, source_read}
 use Rattle.asm_text.proofs.PlaceLemmas.{place_none}
 use Rattle.asm_text.proofs.WrittenLemmas.{NamedOption, IsWritten, statement_some, two_bytes}
 
@@ -43,7 +43,7 @@ not_there names name none k d low same =
     let hit : bytes_eq (get_or names k d) name ≡ true = (bytes_eq-Decides (get_or names k d) name).1 same in
     absurd cc
 
-pub is_noted : (names : List (List ℕ)) (name : List ℕ) → IsTable names → is_name name ≡ true → IsNoted names (noted names name) (name_number names name)
+pub is_noted : (names : List (List ℕ)) (name : List ℕ) → IsTable names → is_name name ≡ true → IsNoted names (with_name names name) (name_number names name)
 is_noted names name t named = by (nat_lt (name_number names name) (length names)) refl
   where
     by_place : (o : Option ℕ) (c : Bool) → position (λ n. bytes_eq n name) names ≡ o → nat_lt (name_number names name) (length names) ≡ c → cond c (Some (name_number names name)) None ≡ o → IsNoted names (noted_by (is_some o) names name) (name_number names name)
@@ -60,7 +60,7 @@ is_noted names name t named = by (nat_lt (name_number names name) (length names)
           low = omega arith;
         }
 
-    by : (c : Bool) → nat_lt (name_number names name) (length names) ≡ c → IsNoted names (noted names name) (name_number names name)
+    by : (c : Bool) → nat_lt (name_number names name) (length names) ≡ c → IsNoted names (with_name names name) (name_number names name)
     by c low = by_place (position (λ n. bytes_eq n name) names) c refl low (ap (λ b. cond b (Some (name_number names name)) None) (sym low))
 
 -- ---- a statement
@@ -161,7 +161,7 @@ kept_more t statements s k h =
     }
 
 -- what is kept of a source of so many bytes
-pub record IsWhole (s : Source) (size : ℕ) : Type 0 where
+pub record IsWhole (s : SourceRead) (size : ℕ) : Type 0 where
   pub kept : IsKept s.tables s.statements
   pub few : 3 * length s.statements ≤ size
 
@@ -186,8 +186,8 @@ lines_size : (lines : List (List ℕ)) (tail : List ℕ) → size_of_lines lines
 lines_size [] tail = omega arith
 lines_size (line ∷ lines) tail = let rest = lines_size lines tail in omega (arith, length-append line (10 ∷ lines_text lines tail))
 
-pub source_kept : (text : List ℕ) → length text ≤ MAX_SOURCE → IsSource (source_of text)
-unfolding source_of
+pub source_kept : (text : List ℕ) → length text ≤ MAX_SOURCE → IsSource (source_read text)
+unfolding source_read
 source_kept text most =
     let size : size_of_lines (ended_lines text) ≤ length text = let l = lines_size (ended_lines text) (unended text) in omega (arith, ap length (texts_are_lines text)) in
     let none : IsTable [] = record { are = λ k d h. absurd (omega (arith, h)); differ = λ i j d h k. absurd (omega (arith, k)) } in

@@ -10,7 +10,7 @@ use Rattle.std.specs.Map.{lookup, IsKeyTest, AreApart, KeepsOthers}
 use Rattle.std.specs.declared.cmp.Ordering.{Ordering}
 use Rattle.std.proofs.lemmas.Map.Text.{is_eq-slice_cmp}
 use Rattle.std.proofs.lemmas.Slice.Eq.{bytes_eq-Decides}
-use Rattle.asm_text.specs.internal.Maps.{entry_of}
+use Rattle.asm_text.specs.internal.Maps.{map_value}
 
 -- the order of the keys
 abbrev pub bor_cmp : Bor (List ℕ) → Bor (List ℕ) → Ordering
@@ -26,11 +26,11 @@ others : {X : Type 0} (test : Bor (List ℕ) → Bool) (old new : List (Bor (Lis
 unfolding KeepsOthers
 others test old new h = h
 
-noted_by : (m n : BTreeMap (Bor (List ℕ)) ℕ) (bs q : List ℕ) (a : ℕ) (b : Bool) → UpdatesBy bor_cmp (λ k. slice_cmp nat_cmp bs k.now) m n (Some a) → bytes_eq bs q ≡ b → entry_of n q ≡ cond b (Some a) (entry_of m q)
-noted_by m n bs q a true h e = subst (λ (l : List ℕ). entry_of n l ≡ Some a) ((bytes_eq-Decides bs q).0 e) h.1
+noted_by : (m n : BTreeMap (Bor (List ℕ)) ℕ) (bs q : List ℕ) (a : ℕ) (b : Bool) → UpdatesBy bor_cmp (λ k. slice_cmp nat_cmp bs k.now) m n (Some a) → bytes_eq bs q ≡ b → map_value n q ≡ cond b (Some a) (map_value m q)
+noted_by m n bs q a true h e = subst (λ (l : List ℕ). map_value n l ≡ Some a) ((bytes_eq-Decides bs q).0 e) h.1
 noted_by m n bs q a false h e =
     others (λ k. is_eq (slice_cmp nat_cmp bs k.now)) m.entries n.entries h.3 (λ k. is_eq (slice_cmp nat_cmp q k.now)) (λ x y. (eq_by_cmp_equiv nat_list_cmp_total).congr q x.now y.now) (are_apart bs q e)
 
 -- what the map has after a change at a name
-pub entry_more : (m n : BTreeMap (Bor (List ℕ)) ℕ) (bs q : List ℕ) (a : ℕ) → UpdatesBy bor_cmp (λ k. slice_cmp nat_cmp bs k.now) m n (Some a) → entry_of n q ≡ cond (bytes_eq bs q) (Some a) (entry_of m q)
+pub entry_more : (m n : BTreeMap (Bor (List ℕ)) ℕ) (bs q : List ℕ) (a : ℕ) → UpdatesBy bor_cmp (λ k. slice_cmp nat_cmp bs k.now) m n (Some a) → map_value n q ≡ cond (bytes_eq bs q) (Some a) (map_value m q)
 entry_more m n bs q a h = noted_by m n bs q a (bytes_eq bs q) h refl

@@ -20,12 +20,12 @@ use Rattle.asm_text.specs.declared.unit.SectionKind.{SectionKind}
 use Rattle.asm_text.specs.declared.unit.SectionKind.TheVariants.{Code as CodeKind, Data as DataKind, Bss as BssKind}
 use Rattle.asm_text.specs.declared.statement.Statement.{Statement}
 use Rattle.asm_text.specs.declared.statement.Statement.TheVariants.{Section, Label, Global, Word, Space, Jump, Code}
-use Rattle.asm_text.specs.Emission.{Meanings, Emitted, bytes_of, grown, with_statement, in_last, opened, emitted, field_number, jump_bytes, jump_over, reach, is_near, jump_word}
-use Rattle.asm_text.specs.internal.Emitted.{last_of}
-use Rattle.asm_text.specs.Encoding.{word_bytes, extension, code_bytes, first_word}
+use Rattle.asm_text.specs.Emission.{Meanings, Emitted, statement_bytes, grown, with_statement, in_last, opened_section, emitted, field_number, jump_bytes, jump_over, reach, is_near, jump_word}
+use Rattle.asm_text.specs.internal.Emitted.{newest_section}
+use Rattle.asm_text.specs.Encoding.{word_bytes, extension, code_bytes, encoded_first}
 use Rattle.asm_text.specs.Parts.{SectionValue, kept_size}
-use Rattle.asm_text.specs.Placing.{Placed, with_section, with_bytes, with_label, within, in_section, last_head, placed, has_section, spot_of}
-use Rattle.asm_text.specs.Statements.{statement_size, takes}
+use Rattle.asm_text.specs.Placing.{Placed, placed_section, with_bytes, with_label, within, in_section, last_head, placed, has_section, spot_of}
+use Rattle.asm_text.specs.Statements.{statement_size, kind_takes}
 
 -- what a section and its head share
 pub record Shape : Type 0 where
@@ -52,7 +52,7 @@ same_number m e p a = sym (length-map e.sections shape_of) ∙ (ap length a.shap
 -- ---- the last section
 
 pub record Lasts (m : Meanings) (e : Emitted) (p : Placed) (last : SectionValue) (h : Head) : Type 0 where
-  pub last_is : last_of e.sections ≡ Some last
+  pub last_is : newest_section e.sections ≡ Some last
   pub same : shape_of last ≡ head_shape m h
   pub filled : IsFilled last
   pub low : length e.sections - 1 < length e.sections
@@ -102,10 +102,10 @@ code_size (Two op w s d) =
     let one = extension_size s in
     let two = extension_size d in
     let both = flat_append (extension s) (extension d) in
-    omega (arith, length-append (word_bytes (first_word (Two op w s d))) (flat_map word_bytes (extension s ++ extension d)))
+    omega (arith, length-append (word_bytes (encoded_first (Two op w s d))) (flat_map word_bytes (extension s ++ extension d)))
 code_size (One op w a) =
     let one = extension_size a in
-    omega (arith, length-append (word_bytes (first_word (One op w a))) (flat_map word_bytes (extension a)))
+    omega (arith, length-append (word_bytes (encoded_first (One op w a))) (flat_map word_bytes (extension a)))
 code_size _ = refl
 
 two_bytes : (n cond' : ℕ) (offset : ℤ) (bytes : List ℕ) → jump_over n cond' offset ≡ Ok bytes → length bytes ≡ 2
@@ -123,7 +123,7 @@ jump_size n section here cond' (Some spot) bytes e = by (nat_eq spot.section sec
     by true e = two_bytes n cond' (reach here spot.offset) bytes e
     by false e = absurd cc
 
-pub bytes_size : (m : Meanings) (n section here : ℕ) (kind : SectionKind) (s : Statement ℕ) (bytes : List ℕ) → takes kind s ≡ true → bytes_of m n section here s ≡ Ok bytes → length bytes ≡ kept_size kind (statement_size s)
+pub bytes_size : (m : Meanings) (n section here : ℕ) (kind : SectionKind) (s : Statement ℕ) (bytes : List ℕ) → kind_takes kind s ≡ true → statement_bytes m n section here s ≡ Ok bytes → length bytes ≡ kept_size kind (statement_size s)
 bytes_size m n section here CodeKind (Word field) bytes t e = let same : word_bytes (field_number field) ≡ bytes = cc in ap length (sym same)
 bytes_size m n section here CodeKind (Space size) bytes t e = absurd cc
 bytes_size m n section here CodeKind (Jump c target) bytes t e = jump_size n section here c (spot_of m.spots target) bytes e
@@ -161,28 +161,28 @@ is_grown n p q h size e = by (nat_lt MAX_SIZE (h.size + size)) refl e
 pub record IsTaken (p q : Placed) (s : Statement ℕ) : Type 0 where
   pub head : Head
   pub is : last_head p.heads ≡ Some head
-  pub takes_it : takes head.kind s ≡ true
+  pub takes_it : kind_takes head.kind s ≡ true
   pub grown_by : IsGrown p q head (statement_size s)
 
 pub taken : (n : ℕ) (p q : Placed) (s : Statement ℕ) → ((h : Head) → within n p h s ≡ with_bytes n p h (statement_size s)) → in_section n p (last_head p.heads) s ≡ Ok q → IsTaken p q s
 taken n p q s plain e = by (last_head p.heads) refl e
   where
-    by_kind : (h : Head) (c : Bool) → last_head p.heads ≡ Some h → takes h.kind s ≡ c → cond c (within n p h s) (Err (Place n)) ≡ Ok q → IsTaken p q s
+    by_kind : (h : Head) (c : Bool) → last_head p.heads ≡ Some h → kind_takes h.kind s ≡ c → cond c (within n p h s) (Err (Place n)) ≡ Ok q → IsTaken p q s
     by_kind h true last t e = record { head = h; is = last; takes_it = t; grown_by = is_grown n p q h (statement_size s) (sym (plain h) ∙ e) }
     by_kind h false last t e = absurd cc
 
     by : (o : Option Head) → last_head p.heads ≡ o → in_section n p o s ≡ Ok q → IsTaken p q s
     by None last e = absurd cc
-    by (Some h) last e = by_kind h (takes h.kind s) last refl e
+    by (Some h) last e = by_kind h (kind_takes h.kind s) last refl e
 
 -- a section more that is written as it is placed
-taken_agree : (m : Meanings) (n : ℕ) (e f : Emitted) (p q : Placed) (s : Statement ℕ) → Agree m e p → IsTaken p q s → in_last m n e (last_of e.sections) s ≡ Ok f → Agree m f q
+taken_agree : (m : Meanings) (n : ℕ) (e f : Emitted) (p q : Placed) (s : Statement ℕ) → Agree m e p → IsTaken p q s → in_last m n e (newest_section e.sections) s ≡ Ok f → Agree m f q
 taken_agree m n e f p q s a t goes =
     let there = last_there m e p t.head a t.is in
     let l = there.lasts in
-    with_bytes_of there.last l (bytes_of m n (length e.sections - 1) there.last.size s) refl (sym (ap (λ o. in_last m n e o s) l.last_is) ∙ goes)
+    with_bytes_of there.last l (statement_bytes m n (length e.sections - 1) there.last.size s) refl (sym (ap (λ o. in_last m n e o s) l.last_is) ∙ goes)
   where
-    with_bytes_of : (last : SectionValue) → Lasts m e p last t.head → (r : Result (List ℕ) AsmFault) → bytes_of m n (length e.sections - 1) last.size s ≡ r → with_statement m e last s r ≡ Ok f → Agree m f q
+    with_bytes_of : (last : SectionValue) → Lasts m e p last t.head → (r : Result (List ℕ) AsmFault) → statement_bytes m n (length e.sections - 1) last.size s ≡ r → with_statement m e last s r ≡ Ok f → Agree m f q
     with_bytes_of last l (Err fault) is g = absurd cc
     with_bytes_of last l (Ok bytes) is g =
         let same = ok_is _ f g in
@@ -192,7 +192,7 @@ taken_agree m n e f p q s a t goes =
         let names : last.name ≡ slice_index_or m.sections t.head.name [] = ap (λ (x : Shape). x.name) l.same in
         let n' = same_number m e p a in
         let at : length e.sections - 1 ≡ length p.heads - 1 = omega arith in
-        let bytes_are : length bytes ≡ kept_size last.kind (statement_size s) = bytes_size m n (length e.sections - 1) last.size last.kind s bytes (ap (λ k. takes k s) kinds ∙ t.takes_it) is in
+        let bytes_are : length bytes ≡ kept_size last.kind (statement_size s) = bytes_size m n (length e.sections - 1) last.size last.kind s bytes (ap (λ k. kind_takes k s) kinds ∙ t.takes_it) is in
         let full : IsFilled (grown last (statement_size s) bytes) = length-append last.bytes bytes ∙ (ap (λ k. k + length bytes) l.filled ∙ (ap (λ k. kept_size last.kind last.size + k) bytes_are ∙ kept_more last.kind last.size (statement_size s))) in
         let shape : shape_of (grown last (statement_size s) bytes) ≡ head_shape m (record { name = t.head.name; kind = t.head.kind; size = t.head.size + statement_size s }) = shape_more last names kinds sizes in
         record {
@@ -212,7 +212,7 @@ taken_agree m n e f p q s a t goes =
 
 -- ---- a line
 
-section_agree : (m : Meanings) (n : ℕ) (e f : Emitted) (p q : Placed) (name : ℕ) (kind : SectionKind) → Agree m e p → with_section n p name kind ≡ Ok q → emitted m n e (Section name kind) ≡ Ok f → Agree m f q
+section_agree : (m : Meanings) (n : ℕ) (e f : Emitted) (p q : Placed) (name : ℕ) (kind : SectionKind) → Agree m e p → placed_section n p name kind ≡ Ok q → emitted m n e (Section name kind) ≡ Ok f → Agree m f q
 section_agree m n e f p q name kind a placed_ok emitted_ok = by (has_section p.heads name) (nat_eq (length p.heads) MAX_SECTIONS) placed_ok
   where
     new : Head
@@ -223,14 +223,14 @@ section_agree m n e f p q name kind a placed_ok emitted_ok = by (has_section p.h
     by false true k = absurd cc
     by false false k =
         let heads : p.heads ++ (record { name = name; kind = kind; size = 0 }) ∷ [] ≡ q.heads = ap (λ (r : Placed). r.heads) (ok_is _ q k) in
-        let sections : e.sections ++ opened m name kind ∷ [] ≡ f.sections = ap (λ (r : Emitted). r.sections) (ok_is _ f emitted_ok) in
+        let sections : e.sections ++ opened_section m name kind ∷ [] ≡ f.sections = ap (λ (r : Emitted). r.sections) (ok_is _ f emitted_ok) in
         record {
           shapes = ap (map shape_of) (sym sections)
-              ∙ (map-append shape_of e.sections (opened m name kind ∷ [])
+              ∙ (map-append shape_of e.sections (opened_section m name kind ∷ [])
               ∙ (ap (λ xs. xs ++ head_shape m (record { name = name; kind = kind; size = 0 }) ∷ []) a.shapes
               ∙ (sym (map-append (head_shape m) p.heads ((record { name = name; kind = kind; size = 0 }) ∷ []))
               ∙ ap (map (head_shape m)) heads)));
-          filled = subst (All IsFilled) sections (All-push IsFilled e.sections (opened m name kind) a.filled (empty kind));
+          filled = subst (All IsFilled) sections (All-push IsFilled e.sections (opened_section m name kind) a.filled (empty kind));
         }
       where
         empty : (kind : SectionKind) → 0 ≡ kept_size kind 0
@@ -245,7 +245,7 @@ label_heads n p q name e = by (last_head p.heads) e
     by_label h false true k = absurd cc
     by_label h false false k = ap (λ (r : Placed). r.heads) (ok_is _ q k)
 
-    by_kind : (h : Head) (kind : SectionKind) → cond (takes kind (Label name)) (with_label n p h name) (Err (Place n)) ≡ Ok q → p.heads ≡ q.heads
+    by_kind : (h : Head) (kind : SectionKind) → cond (kind_takes kind (Label name)) (with_label n p h name) (Err (Place n)) ≡ Ok q → p.heads ≡ q.heads
     by_kind h CodeKind k = by_label h (is_some (spot_of p.spots name)) (nat_eq (length p.labels) MAX_LABELS) k
     by_kind h _ k = by_label h (is_some (spot_of p.spots name)) (nat_eq (length p.labels) MAX_LABELS) k
 

@@ -13,7 +13,7 @@ use Rattle.insn_decode.specs.declared.insn.Insn.{Insn}
 use Rattle.insn_decode.specs.declared.insn.Insn.TheVariants.{Two, One, Jump, Reti, Unit as UnitOp}
 use Rattle.insn_decode.specs.Code.{words_of as words_in, width_of, one_fits, is_constant}
 use Rattle.insn_decode.specs.Means.{two_code, one_code, Means, IsPlain, Source, register, symbolic, absolute, indexed, indirect, increment, immediate, four, eight, nought, one, two, all_ones, Destination, to_register, to_symbolic, to_absolute, to_indexed, format_one, format_two, return, unit}
-use Rattle.asm_text.specs.Encoding.{source_mode, source_register, dest_mode, byte_flag, first_word, extension, IsMeant, is_plain, is_source, is_dest, is_coded}
+use Rattle.asm_text.specs.Encoding.{source_mode, source_register, dest_mode, byte_flag, encoded_first, extension, IsMeant, is_plain, is_source, is_dest, is_coded}
 
 -- ---- the fields of a first word
 
@@ -186,7 +186,7 @@ pair (Increment r) d = no_source (Increment r) d refl refl
 pair _ d = record { other = 0; source = refl; more = 0; dest = first_of d }
 
 two_means : (op : TwoOp) (w : Width) (s d : Operand) → is_source s ≡ true → is_dest d ≡ true → IsMeant (Two op w s d)
-unfolding first_word
+unfolding encoded_first
 two_means op w s d hs hd =
     let w0 = two_code op * 4096 + source_register s * 256 + dest_mode d * 128 + byte_flag w * 64 + source_mode s * 16 + source_register d in
     let w1 = get_or (extension s ++ extension d) 0 0 in
@@ -201,7 +201,7 @@ two_means op w s d hs hd =
     subst (λ (v : Width). Means w0 w1 w2 (Two op v s d) (1 + words_in s + words_in d)) width (format_one op s d f.op_is source dest)
 
 one_means : (op : OneOp) (w : Width) (a : Operand) → is_source a ≡ true → one_fits op w a ≡ true → IsMeant (One op w a)
-unfolding first_word
+unfolding encoded_first
 one_means op w a ha fits =
     let w0 = 4096 + one_code op * 128 + byte_flag w * 64 + source_mode a * 16 + source_register a in
     let w1 = get_or (extension a) 0 0 in
@@ -214,13 +214,13 @@ one_means op w a ha fits =
     (format_two op a f.form f.op_is source (subst (λ (v : Width). one_fits op v a ≡ true) (sym width) fits))
 
 unit_means : (n : ℕ) → n < 7 → IsMeant (UnitOp n)
-unfolding first_word
+unfolding encoded_first
 unit_means n low =
     let small : n % 8 ≡ n = omega arith in
     subst (λ k. Means (4992 + k) 0 0 (UnitOp n) 1) (sym small) (unit n low refl)
 
 pub coded_means : (insn : Insn) → is_coded insn ≡ true → IsMeant insn
-unfolding first_word
+unfolding encoded_first
 coded_means (Two op w s d) e = let b = and_parts (is_source s) (is_dest d) e in two_means op w s d b.0 b.1
 coded_means (One op w a) e = let b = and_parts (is_source a) (one_fits op w a) e in one_means op w a b.0 b.1
 coded_means (Jump c o) e = absurd cc

@@ -17,8 +17,8 @@ use Rattle.asm_text.specs.declared.statement.Statement.{Statement}
 use Rattle.asm_text.specs.declared.statement.Statement.TheVariants.{Section, Label, Global, Word, Space, Jump, Code}
 use Rattle.asm_text.specs.internal.Known.{IsKnown}
 use Rattle.asm_text.specs.internal.Placed.{IsPlaced, names_in}
-use Rattle.asm_text.specs.Placing.{Placed, has_section, with_section, spot_of, with_label, with_bytes, within, in_section, last_head, placed}
-use Rattle.asm_text.specs.Statements.{statement_size, takes}
+use Rattle.asm_text.specs.Placing.{Placed, has_section, placed_section, spot_of, with_label, with_bytes, within, in_section, last_head, placed}
+use Rattle.asm_text.specs.Statements.{statement_size, kind_takes}
 
 -- ---- the last section
 
@@ -51,7 +51,7 @@ new_head name kind = record { name = name; kind = kind; size = 0 }
 abbrev pub more_heads : Placed → Head → Placed
 more_heads p head = record { heads = p.heads ++ head ∷ []; labels = p.labels; spots = p.spots }
 
-with_section_kept : (names n : ℕ) (p q : Placed) (name : ℕ) (kind : SectionKind) → IsPlaced names p → with_section n p name kind ≡ Ok q → IsPlaced names q
+with_section_kept : (names n : ℕ) (p q : Placed) (name : ℕ) (kind : SectionKind) → IsPlaced names p → placed_section n p name kind ≡ Ok q → IsPlaced names q
 with_section_kept names n p q name kind i e = by (has_section p.heads name) (nat_eq (length p.heads) MAX_SECTIONS) refl refl e
   where
     kept : has_section p.heads name ≡ false → nat_eq (length p.heads) MAX_SECTIONS ≡ false → IsPlaced names (more_heads p (new_head name kind))
@@ -169,7 +169,7 @@ in_section_kept names n p q s i k e = by (last_head p.heads) refl e
 
     by : (o : Option Head) → last_head p.heads ≡ o → in_section n p o s ≡ Ok q → IsPlaced names q
     by None last e = absurd cc
-    by (Some h) last e = by_kind h (takes h.kind s) last e
+    by (Some h) last e = by_kind h (kind_takes h.kind s) last e
 
 pub placed_kept : (names n : ℕ) (p q : Placed) (s : Statement ℕ) → IsPlaced names p → IsKnown names s → placed n p s ≡ Ok q → IsPlaced names q
 placed_kept names n p q (Section name kind) i k e = with_section_kept names n p q name kind i e

@@ -17,9 +17,9 @@ use Rattle.asm_text.specs.declared.unit.AsmFault.TheVariants.{NoLabel, Far}
 use Rattle.asm_text.specs.declared.unit.AsmFault.{AsmFault}
 use Rattle.asm_text.specs.declared.unit.SectionKind.TheVariants.{Code as CodeKind, Data as DataKind, Bss as BssKind}
 use Rattle.asm_text.specs.declared.unit.SectionKind.{SectionKind}
-use Rattle.asm_text.specs.Assembly.{names_of, symbol_order, meanings, unit_for, with_emitted, with_stop, with_placed, assembled_source, assembled}
-use Rattle.asm_text.specs.Emission.{Meanings, Emitted, nothing, emitted, emitted_from, bytes_of, field_number, with_statement, in_last, grown, opened, reach, is_near, jump_word, jump_over, jump_bytes}
-use Rattle.asm_text.specs.internal.Emitted.{last_of}
+use Rattle.asm_text.specs.Assembly.{name_count, symbol_order, meanings, unit_for, with_emitted, with_stop, with_placed, assembled_source, assembled}
+use Rattle.asm_text.specs.Emission.{Meanings, Emitted, nothing, emitted, emitted_from, statement_bytes, field_number, with_statement, in_last, grown, opened_section, reach, is_near, jump_word, jump_over, jump_bytes}
+use Rattle.asm_text.specs.internal.Emitted.{newest_section}
 use Rattle.asm_text.specs.Encoding.{word_bytes, code_bytes, is_coded}
 use Rattle.asm_text.specs.Jumps.{LeadsToLabel, JumpsReachLabels, LabelsAreEven}
 use Rattle.asm_text.specs.internal.Kept.{IsSource}
@@ -27,9 +27,9 @@ use Rattle.asm_text.specs.internal.Known.{IsKnown}
 use Rattle.asm_text.specs.Parts.{SectionValue, SymbolValue, UnitValue, kept_size}
 use Rattle.asm_text.specs.Places.{StandsAt, Writes, CodeIsWritten, WordsAreWritten}
 use Rattle.asm_text.specs.Placing.{Placed, nowhere, spot_of, last_head, placed, unrefused, placed_from}
-use Rattle.asm_text.specs.Source.{Source, source_of}
-use Rattle.asm_text.specs.Statements.{statement_size, takes}
-use Rattle.asm_text.specs.Symbols.{is_global, local_labels, once, once_by, below, order_of, symbol_number, symbol_by, symbol_for, symbols_for}
+use Rattle.asm_text.specs.Source.{SourceRead, source_read}
+use Rattle.asm_text.specs.Statements.{statement_size, kind_takes}
+use Rattle.asm_text.specs.Symbols.{is_global_name, local_labels, once, once_by, below, order_of, symbol_number, symbol_by, symbol_for, symbols_for}
 use Rattle.asm_text.proofs.EmittingLemmas.{next_place}
 use Rattle.asm_text.proofs.EvenLemmas.{AreEven, IsSound, source_sound, IsEvenPlaced, source_even, nowhere_even, even_head, placed_even, all_even}
 use Rattle.asm_text.proofs.JumpLemmas.{jumps_are_meant, jumps_lead}
@@ -95,19 +95,19 @@ keeps_set xs i size last bytes there k s is = by (or_not k i) (subst (λ n. k < 
       bytes = sym (append-nil s.bytes);
     }
 
-last_keeps : (m : Meanings) (n : ℕ) (e f : Emitted) (s : Statement ℕ) → in_last m n e (last_of e.sections) s ≡ Ok f → Keeps e.sections f.sections
-last_keeps m n e f s k = by (last_of e.sections) refl k
+last_keeps : (m : Meanings) (n : ℕ) (e f : Emitted) (s : Statement ℕ) → in_last m n e (newest_section e.sections) s ≡ Ok f → Keeps e.sections f.sections
+last_keeps m n e f s k = by (newest_section e.sections) refl k
   where
-    by_bytes : (last : SectionValue) (r : Result (List ℕ) AsmFault) → last_of e.sections ≡ Some last → with_statement m e last s r ≡ Ok f → Keeps e.sections f.sections
+    by_bytes : (last : SectionValue) (r : Result (List ℕ) AsmFault) → newest_section e.sections ≡ Some last → with_statement m e last s r ≡ Ok f → Keeps e.sections f.sections
     by_bytes last (Err fault) is j = absurd cc
     by_bytes last (Ok bytes) is j = subst (λ (x : Emitted). Keeps e.sections x.sections) (ok_is _ f j) (keeps_set e.sections (length e.sections - 1) (statement_size s) last bytes is)
 
-    by : (o : Option SectionValue) → last_of e.sections ≡ o → in_last m n e o s ≡ Ok f → Keeps e.sections f.sections
+    by : (o : Option SectionValue) → newest_section e.sections ≡ o → in_last m n e o s ≡ Ok f → Keeps e.sections f.sections
     by None is j = subst (λ (x : Emitted). Keeps e.sections x.sections) (ok_is e f j) (keeps_same e.sections)
-    by (Some last) is j = by_bytes last (bytes_of m n (length e.sections - 1) last.size s) is j
+    by (Some last) is j = by_bytes last (statement_bytes m n (length e.sections - 1) last.size s) is j
 
 line_keeps : (m : Meanings) (n : ℕ) (e f : Emitted) (s : Statement ℕ) → emitted m n e s ≡ Ok f → Keeps e.sections f.sections
-line_keeps m n e f (Section name kind) k = subst (λ (x : Emitted). Keeps e.sections x.sections) (ok_is _ f k) (keeps_push e.sections (opened m name kind))
+line_keeps m n e f (Section name kind) k = subst (λ (x : Emitted). Keeps e.sections x.sections) (ok_is _ f k) (keeps_push e.sections (opened_section m name kind))
 line_keeps m n e f (Label name) k = subst (λ (x : Emitted). Keeps e.sections x.sections) (ok_is e f k) (keeps_same e.sections)
 line_keeps m n e f (Global name) k = subst (λ (x : Emitted). Keeps e.sections x.sections) (ok_is e f k) (keeps_same e.sections)
 line_keeps m n e f (Word field) k = last_keeps m n e f (Word field) k
@@ -218,7 +218,7 @@ is_jump m n section here cond' target bytes k = by (spot_of m.spots target) refl
 
 -- a statement that no section of zeros takes
 abbrev IsFull : Statement ℕ → Type 0
-IsFull s = (kind : SectionKind) → takes kind s ≡ true → (size : ℕ) → kept_size kind size ≡ size
+IsFull s = (kind : SectionKind) → kind_takes kind s ≡ true → (size : ℕ) → kept_size kind size ≡ size
 
 word_full : (field : Field ℕ) → IsFull (Word field)
 word_full field CodeKind e size = refl
@@ -240,7 +240,7 @@ pub record HasBytes (m : Meanings) (n : ℕ) (p : Placed) (f : Emitted) (s : Sta
   pub head : Head
   pub last : last_head p.heads ≡ Some head
   pub bytes : List ℕ
-  pub made : bytes_of m n (length p.heads - 1) head.size s ≡ Ok bytes
+  pub made : statement_bytes m n (length p.heads - 1) head.size s ≡ Ok bytes
   pub home : SectionValue
   pub front : List ℕ
   pub back : List ℕ
@@ -248,12 +248,12 @@ pub record HasBytes (m : Meanings) (n : ℕ) (p : Placed) (f : Emitted) (s : Sta
   pub whole : home.bytes ≡ (front ++ bytes) ++ back
   pub size : length front ≡ head.size
 
-has_bytes : (m : Meanings) (n : ℕ) (e next f : Emitted) (p q : Placed) (s : Statement ℕ) → IsFull s → Agree m e p → IsTaken p q s → in_last m n e (last_of e.sections) s ≡ Ok next → Keeps next.sections f.sections → HasBytes m n p f s
+has_bytes : (m : Meanings) (n : ℕ) (e next f : Emitted) (p q : Placed) (s : Statement ℕ) → IsFull s → Agree m e p → IsTaken p q s → in_last m n e (newest_section e.sections) s ≡ Ok next → Keeps next.sections f.sections → HasBytes m n p f s
 has_bytes m n e next f p q s full a t emits keeps =
     let there = last_there m e p t.head a t.is in
-    by there (bytes_of m n (length e.sections - 1) there.last.size s) refl (ap (λ o. in_last m n e o s) (sym there.lasts.last_is) ∙ emits)
+    by there (statement_bytes m n (length e.sections - 1) there.last.size s) refl (ap (λ o. in_last m n e o s) (sym there.lasts.last_is) ∙ emits)
   where
-    by : (there : SomeLast m e p t.head) (r : Result (List ℕ) AsmFault) → bytes_of m n (length e.sections - 1) there.last.size s ≡ r → with_statement m e there.last s r ≡ Ok next → HasBytes m n p f s
+    by : (there : SomeLast m e p t.head) (r : Result (List ℕ) AsmFault) → statement_bytes m n (length e.sections - 1) there.last.size s ≡ r → with_statement m e there.last s r ≡ Ok next → HasBytes m n p f s
     by there (Err fault) is k = absurd cc
     by there (Ok bytes) is k =
         let number = same_number m e p a in
@@ -269,7 +269,7 @@ has_bytes m n e next f p q s full a t emits keeps =
           head = t.head;
           last = t.is;
           bytes = bytes;
-          made = ap (λ k. bytes_of m n k t.head.size s) (sym at) ∙ (ap (λ k. bytes_of m n (length e.sections - 1) k s) (sym sizes) ∙ is);
+          made = ap (λ k. statement_bytes m n k t.head.size s) (sym at) ∙ (ap (λ k. statement_bytes m n (length e.sections - 1) k s) (sym sizes) ∙ is);
           home = kept.found;
           front = there.last.bytes;
           back = kept.more;
@@ -316,25 +316,25 @@ map_has f ks k has = (has.0, (let size = length-map ks f in let low = has.1 in o
 
 -- ---- an accepted source
 
-pub record IsAccepted (s : Source) (u : UnitValue) : Type 0 where
+pub record IsAccepted (s : SourceRead) (u : UnitValue) : Type 0 where
   pub places : Placed
-  pub goes : placed_from 1 (nowhere (names_of s)) s.statements ≡ Ok places
+  pub goes : placed_from 1 (nowhere (name_count s)) s.statements ≡ Ok places
   pub end : Emitted
   pub is : emitted_from (meanings s places) 1 nothing s.statements ≡ Ok end
   pub unit : unit_for s places end ≡ u
 
-pub accepted : (s : Source) (u : UnitValue) → assembled_source s ≡ Ok u → IsAccepted s u
-accepted s u k = by (placed_from 1 (nowhere (names_of s)) s.statements) refl k
+pub accepted : (s : SourceRead) (u : UnitValue) → assembled_source s ≡ Ok u → IsAccepted s u
+accepted s u k = by (placed_from 1 (nowhere (name_count s)) s.statements) refl k
   where
-    by_end : (p : Placed) (r : Result Emitted AsmFault) → placed_from 1 (nowhere (names_of s)) s.statements ≡ Ok p → emitted_from (meanings s p) 1 nothing s.statements ≡ r → with_emitted s p r ≡ Ok u → IsAccepted s u
+    by_end : (p : Placed) (r : Result Emitted AsmFault) → placed_from 1 (nowhere (name_count s)) s.statements ≡ Ok p → emitted_from (meanings s p) 1 nothing s.statements ≡ r → with_emitted s p r ≡ Ok u → IsAccepted s u
     by_end p (Ok e) goes is j = record { places = p; goes = goes; end = e; is = is; unit = ok_is _ u j }
     by_end p (Err fault) goes is j = absurd cc
 
-    by_stop : (p : Placed) (o : Option ℕ) → placed_from 1 (nowhere (names_of s)) s.statements ≡ Ok p → with_stop s p o ≡ Ok u → IsAccepted s u
+    by_stop : (p : Placed) (o : Option ℕ) → placed_from 1 (nowhere (name_count s)) s.statements ≡ Ok p → with_stop s p o ≡ Ok u → IsAccepted s u
     by_stop p None goes j = by_end p (emitted_from (meanings s p) 1 nothing s.statements) goes refl j
     by_stop p (Some n) goes j = absurd cc
 
-    by : (r : Result Placed AsmFault) → placed_from 1 (nowhere (names_of s)) s.statements ≡ r → with_placed s r ≡ Ok u → IsAccepted s u
+    by : (r : Result Placed AsmFault) → placed_from 1 (nowhere (name_count s)) s.statements ≡ r → with_placed s r ≡ Ok u → IsAccepted s u
     by (Ok p) goes j = by_stop p s.stopped goes j
     by (Err fault) goes j = absurd cc
 
@@ -345,18 +345,18 @@ even_symbol global name (Some s) even = even s refl
 pub labels_are_even : LabelsAreEven
 unfolding assembled
 labels_are_even text u k =
-    let s : Source = source_of text in
+    let s : SourceRead = source_read text in
     let a = accepted s u k in
-    let even = all_even 1 (nowhere (names_of s)) a.places s.statements (nowhere_even (names_of s)) (source_even text) a.goes in
+    let even = all_even 1 (nowhere (name_count s)) a.places s.statements (nowhere_even (name_count s)) (source_even text) a.goes in
     subst (λ (v : UnitValue). All (λ s. s.value % 2 ≡ 0) v.symbols) a.unit (λ i d h. by s a.places even i d h)
   where
-    by : (s : Source) (p : Placed) → IsEvenPlaced p → (i : ℕ) (d : SymbolValue) → i < length (symbols_for s.statements p s.tables.names (symbol_order s p)) → (get_or (symbols_for s.statements p s.tables.names (symbol_order s p)) i d).value % 2 ≡ 0
+    by : (s : SourceRead) (p : Placed) → IsEvenPlaced p → (i : ℕ) (d : SymbolValue) → i < length (symbols_for s.statements p s.tables.names (symbol_order s p)) → (get_or (symbols_for s.statements p s.tables.names (symbol_order s p)) i d).value % 2 ≡ 0
     by s p even i d h =
         let make : ℕ → SymbolValue = symbol_for s.statements p s.tables.names in
         let size = length-map (symbol_order s p) make in
         let name : ℕ = get_or (symbol_order s p) i 0 in
         subst (λ (x : SymbolValue). x.value % 2 ≡ 0) (sym (get_or-map make (symbol_order s p) i 0 d (omega arith)))
-        (even_symbol (is_global s.statements name) (slice_index_or s.tables.names name []) (spot_of p.spots name) (λ spot is. even.spots name spot is))
+        (even_symbol (is_global_name s.statements name) (slice_index_or s.tables.names name []) (spot_of p.spots name) (λ spot is. even.spots name spot is))
 
 -- bytes in the midst of others
 bytes_there : (all front bytes back : List ℕ) (here : ℕ) → all ≡ (front ++ bytes) ++ back → length front ≡ here → take (length bytes) (drop here all) ≡ bytes
@@ -365,18 +365,18 @@ bytes_there all front bytes back here whole size =
     ∙ (ap (take (length bytes)) (drop_at front (bytes ++ back) here size) ∙ take_at bytes back (length bytes) refl)
 
 -- the places of the statements of an accepted source
-line_of : (s : Source) (u : UnitValue) (a : IsAccepted s u) (number : ℕ) (x : Statement ℕ) → AreEven s.statements → slice_get s.statements number ≡ Some x → IsLine (meanings s a.places) 1 number (nowhere (names_of s)) a.end s.statements x
+line_of : (s : SourceRead) (u : UnitValue) (a : IsAccepted s u) (number : ℕ) (x : Statement ℕ) → AreEven s.statements → slice_get s.statements number ≡ Some x → IsLine (meanings s a.places) 1 number (nowhere (name_count s)) a.end s.statements x
 line_of s u a number x are is =
-    let none : Agree (meanings s a.places) nothing (nowhere (names_of s)) = record { shapes = refl; filled = λ k d h. absurd (omega (arith, h)) } in
-    at_line (meanings s a.places) 1 number nothing a.end (nowhere (names_of s)) a.places s.statements x none (nowhere_even (names_of s)) are a.goes a.is is
+    let none : Agree (meanings s a.places) nothing (nowhere (name_count s)) = record { shapes = refl; filled = λ k d h. absurd (omega (arith, h)) } in
+    at_line (meanings s a.places) 1 number nothing a.end (nowhere (name_count s)) a.places s.statements x none (nowhere_even (name_count s)) are a.goes a.is is
 
-stands_at : (s : Source) (u : UnitValue) (a : IsAccepted s u) (number : ℕ) (x : Statement ℕ) (line : IsLine (meanings s a.places) 1 number (nowhere (names_of s)) a.end s.statements x)
+stands_at : (s : SourceRead) (u : UnitValue) (a : IsAccepted s u) (number : ℕ) (x : Statement ℕ) (line : IsLine (meanings s a.places) 1 number (nowhere (name_count s)) a.end s.statements x)
     (j : HasBytes (meanings s a.places) line.line line.before a.end x) → StandsAt s number (length line.before.heads - 1) j.head.size
 stands_at s u a number x line j =
     let within : length line.before.heads - 1 < length line.before.heads = slice_get_within line.before.heads (length line.before.heads - 1) j.head j.last in
     record { before = line.before; placed = line.goes; last = omega arith; size = ap (option_map (λ (h : Head). h.size)) j.last }
 
-reached_by : (s : Source) (u : UnitValue) (number c name : ℕ) (a : IsAccepted s u) → c < 8 → name < names_of s → IsEvenPlaced a.places → (line : IsLine (meanings s a.places) 1 number (nowhere (names_of s)) a.end s.statements (Jump c name))
+reached_by : (s : SourceRead) (u : UnitValue) (number c name : ℕ) (a : IsAccepted s u) → c < 8 → name < name_count s → IsEvenPlaced a.places → (line : IsLine (meanings s a.places) 1 number (nowhere (name_count s)) a.end s.statements (Jump c name))
     (b : HasBytes (meanings s a.places) line.line line.before a.end (Jump c name)) → IsJump (meanings s a.places) (length line.before.heads - 1) b.head.size c name b.bytes → LeadsToLabel s u number c name
 reached_by s u number c name a low known even line b j =
     let there : ℕ = j.offset in
@@ -384,9 +384,9 @@ reached_by s u number c name a low known even line b j =
     let section : ℕ = length line.before.heads - 1 in
     let spot : Spot = record { section = section; offset = there } in
     let make : ℕ → SymbolValue = symbol_for s.statements a.places s.tables.names in
-    let label : SymbolValue = symbol_by (is_global s.statements name) (slice_index_or s.tables.names name []) (Some spot) in
-    let is : make name ≡ label = ap (symbol_by (is_global s.statements name) (slice_index_or s.tables.names name [])) j.spot in
-    let has : Contains (symbols_for s.statements a.places s.tables.names (symbol_order s a.places)) (make name) = map_has make (symbol_order s a.places) name (order_has s.statements a.places (names_of s) name known) in
+    let label : SymbolValue = symbol_by (is_global_name s.statements name) (slice_index_or s.tables.names name []) (Some spot) in
+    let is : make name ≡ label = ap (symbol_by (is_global_name s.statements name) (slice_index_or s.tables.names name [])) j.spot in
+    let has : Contains (symbols_for s.statements a.places s.tables.names (symbol_order s a.places)) (make name) = map_has make (symbol_order s a.places) name (order_has s.statements a.places (name_count s) name known) in
     record {
       section = section;
       here = here;
@@ -404,20 +404,20 @@ reached_by s u number c name a low known even line b j =
       reached = sym (jumps_lead here there (even_head line.before b.head line.even b.last) (even.spots name spot j.spot));
     }
 
-leads : (s : Source) (u : UnitValue) (number c name : ℕ) → IsSource s → AreEven s.statements → IsAccepted s u → slice_get s.statements number ≡ Some (Jump c name) → LeadsToLabel s u number c name
+leads : (s : SourceRead) (u : UnitValue) (number c name : ℕ) → IsSource s → AreEven s.statements → IsAccepted s u → slice_get s.statements number ≡ Some (Jump c name) → LeadsToLabel s u number c name
 leads s u number c name kept are a is =
     let m : Meanings = meanings s a.places in
     let line = line_of s u a number (Jump c name) are is in
     let b = has_bytes m line.line line.written line.next a.end line.before line.after (Jump c name) (jump_full c name) line.agree (taken line.line line.before line.after (Jump c name) (λ h. refl) line.places) line.emits line.keeps in
     let j = is_jump m line.line (length line.before.heads - 1) b.head.size c name b.bytes b.made in
-    let even = all_even 1 (nowhere (names_of s)) a.places s.statements (nowhere_even (names_of s)) are a.goes in
+    let even = all_even 1 (nowhere (name_count s)) a.places s.statements (nowhere_even (name_count s)) are a.goes in
     let low : number < length s.statements = slice_get_within s.statements number (Jump c name) is in
     let same : get_or s.statements number (Jump c name) ≡ Jump c name = get_or_from_slice_get s.statements number (Jump c name) (Jump c name) is in
-    let known : IsKnown (names_of s) (Jump c name) = subst (IsKnown (names_of s)) same (kept.known number (Jump c name) low) in
+    let known : IsKnown (name_count s) (Jump c name) = subst (IsKnown (name_count s)) same (kept.known number (Jump c name) low) in
     reached_by s u number c name a known.0 known.1 even line b j
 
 -- what is written of a statement whose bytes no meaning changes
-written : (s : Source) (u : UnitValue) (a : IsAccepted s u) (number : ℕ) (x : Statement ℕ) (wanted : List ℕ) (line : IsLine (meanings s a.places) 1 number (nowhere (names_of s)) a.end s.statements x)
+written : (s : SourceRead) (u : UnitValue) (a : IsAccepted s u) (number : ℕ) (x : Statement ℕ) (wanted : List ℕ) (line : IsLine (meanings s a.places) 1 number (nowhere (name_count s)) a.end s.statements x)
     (b : HasBytes (meanings s a.places) line.line line.before a.end x) → b.bytes ≡ wanted → Writes s u number wanted
 written s u a number x wanted line b same =
     let section : ℕ = length line.before.heads - 1 in
@@ -433,7 +433,7 @@ written s u a number x wanted line b same =
 pub code_is_written : CodeIsWritten
 unfolding assembled
 code_is_written text u k number insn first second is =
-    let s : Source = source_of text in
+    let s : SourceRead = source_read text in
     let x : Statement ℕ = Code insn first second in
     let a = accepted s u k in
     let line = line_of s u a number x (source_even text) is in
@@ -445,7 +445,7 @@ code_is_written text u k number insn first second is =
 pub words_are_written : WordsAreWritten
 unfolding assembled
 words_are_written text u k number field is =
-    let s : Source = source_of text in
+    let s : SourceRead = source_read text in
     let x : Statement ℕ = Word field in
     let a = accepted s u k in
     let line = line_of s u a number x (source_even text) is in
@@ -454,4 +454,4 @@ words_are_written text u k number field is =
 
 pub jumps_reach_labels : JumpsReachLabels
 unfolding assembled
-jumps_reach_labels text u most k number c name is = leads (source_of text) u number c name (source_kept text most) (source_even text) (accepted (source_of text) u k) is
+jumps_reach_labels text u most k number c name is = leads (source_read text) u number c name (source_kept text most) (source_even text) (accepted (source_read text) u k) is

@@ -8,13 +8,13 @@ use Rattle.asm_text.specs.declared.statement.Statement.{Statement}
 use Rattle.asm_text.specs.declared.statement.Statement.TheVariants.{Section, Label, Global, Word, Space, Jump, Code}
 use Rattle.asm_text.specs.declared.unit.AsmFault.{AsmFault}
 use Rattle.asm_text.specs.declared.unit.SectionKind.{SectionKind}
-use Rattle.asm_text.specs.Assembly.{names_of, meanings, assembled}
-use Rattle.asm_text.specs.Emission.{Meanings, Emitted, nothing, emitted, emitted_from, bytes_of, with_statement, in_last, grown, opened}
-use Rattle.asm_text.specs.internal.Emitted.{last_of}
+use Rattle.asm_text.specs.Assembly.{name_count, meanings, assembled}
+use Rattle.asm_text.specs.Emission.{Meanings, Emitted, nothing, emitted, emitted_from, statement_bytes, with_statement, in_last, grown, opened_section}
+use Rattle.asm_text.specs.internal.Emitted.{newest_section}
 use Rattle.asm_text.specs.Parts.{SectionValue, UnitValue}
 use Rattle.asm_text.specs.Placing.{Placed, nowhere, spot_of, placed, placed_from}
 use Rattle.asm_text.specs.Sections.{Line, PutsBytes, begins_section, up_to_section, by_section, bytes_in_order, SectionsAreLines}
-use Rattle.asm_text.specs.Source.{Source, source_of}
+use Rattle.asm_text.specs.Source.{SourceRead, source_read}
 use Rattle.asm_text.specs.Statements.{statement_size}
 use Rattle.asm_text.proofs.EmittingLemmas.{next_place}
 use Rattle.asm_text.proofs.LockLemmas.{Agree, last_there, ok_is, jump_size, IsTaken, taken, agree_more}
@@ -47,14 +47,14 @@ after_twice (x ∷ []) a b = ap (λ l. l ∷ []) (append_assoc x a b)
 after_twice (x ∷ y ∷ []) a b = ap (λ l. x ∷ l ∷ []) (append_assoc y a b)
 after_twice (x ∷ y ∷ z ∷ xs) a b = ap (λ l. x ∷ l) (after_twice (y ∷ z ∷ xs) a b)
 
-set_last : (xs : List SectionValue) (last y : SectionValue) (more : List ℕ) → last_of xs ≡ Some last → y.bytes ≡ last.bytes ++ more → bytes_in (set xs (length xs - 1) y) ≡ after_last (bytes_in xs) more
+set_last : (xs : List SectionValue) (last y : SectionValue) (more : List ℕ) → newest_section xs ≡ Some last → y.bytes ≡ last.bytes ++ more → bytes_in (set xs (length xs - 1) y) ≡ after_last (bytes_in xs) more
 set_last [] last y more is same = absurd cc
 set_last (x ∷ []) last y more is same =
     let one : x ≡ last = cc in
     ap (λ b. b ∷ []) (same ∙ ap (λ (s : SectionValue). s.bytes ++ more) (sym one))
 set_last (x ∷ z ∷ xs) last y more is same =
     let e : length (x ∷ z ∷ xs) - 1 ≡ suc (length (z ∷ xs) - 1) = omega arith in
-    let there : last_of (z ∷ xs) ≡ Some last = sym (ap (slice_get (x ∷ z ∷ xs)) e) ∙ is in
+    let there : newest_section (z ∷ xs) ≡ Some last = sym (ap (slice_get (x ∷ z ∷ xs)) e) ∙ is in
     ap (λ k. bytes_in (set (x ∷ z ∷ xs) k y)) e ∙ ap (λ l. x.bytes ∷ l) (set_last (z ∷ xs) last y more there same)
 
 -- ---- a line
@@ -65,13 +65,13 @@ record PutLast (e f : Emitted) (s : Statement ℕ) : Type 0 where
   pub put : PutsBytes s bytes
   pub after : bytes_in f.sections ≡ after_last (bytes_in e.sections) bytes
 
-put_last : (m : Meanings) (n : ℕ) (e f : Emitted) (p q : Placed) (s : Statement ℕ) → ((section here : ℕ) (bytes : List ℕ) → bytes_of m n section here s ≡ Ok bytes → PutsBytes s bytes) → Agree m e p → IsTaken p q s
-    → in_last m n e (last_of e.sections) s ≡ Ok f → PutLast e f s
+put_last : (m : Meanings) (n : ℕ) (e f : Emitted) (p q : Placed) (s : Statement ℕ) → ((section here : ℕ) (bytes : List ℕ) → statement_bytes m n section here s ≡ Ok bytes → PutsBytes s bytes) → Agree m e p → IsTaken p q s
+    → in_last m n e (newest_section e.sections) s ≡ Ok f → PutLast e f s
 put_last m n e f p q s puts a t goes =
     let there = last_there m e p t.head a t.is in
-    by there.last there.lasts.last_is (bytes_of m n (length e.sections - 1) there.last.size s) refl (ap (λ o. in_last m n e o s) (sym there.lasts.last_is) ∙ goes)
+    by there.last there.lasts.last_is (statement_bytes m n (length e.sections - 1) there.last.size s) refl (ap (λ o. in_last m n e o s) (sym there.lasts.last_is) ∙ goes)
   where
-    by : (last : SectionValue) → last_of e.sections ≡ Some last → (r : Result (List ℕ) AsmFault) → bytes_of m n (length e.sections - 1) last.size s ≡ r → with_statement m e last s r ≡ Ok f → PutLast e f s
+    by : (last : SectionValue) → newest_section e.sections ≡ Some last → (r : Result (List ℕ) AsmFault) → statement_bytes m n (length e.sections - 1) last.size s ≡ r → with_statement m e last s r ≡ Ok f → PutLast e f s
     by last is (Err fault) made k = absurd cc
     by last is (Ok bytes) made k = record {
       bytes = bytes;
@@ -94,12 +94,12 @@ line s bytes = record { statement = s; bytes = bytes }
 put_more : (s : Statement ℕ) (bytes : List ℕ) (lines : List Line) → PutsBytes s bytes → All (λ l. PutsBytes l.statement l.bytes) lines → All (λ l. PutsBytes l.statement l.bytes) (line s bytes ∷ lines)
 put_more s bytes lines h all = All-cons (λ (l : Line). PutsBytes l.statement l.bytes) (line s bytes) lines h all
 
-section_written : (m : Meanings) (n : ℕ) (e g f : Emitted) (rest : List (Statement ℕ)) (name : ℕ) (kind : SectionKind) → g.sections ≡ e.sections ++ opened m name kind ∷ [] → Written g f rest → Written e f (Section name kind ∷ rest)
+section_written : (m : Meanings) (n : ℕ) (e g f : Emitted) (rest : List (Statement ℕ)) (name : ℕ) (kind : SectionKind) → g.sections ≡ e.sections ++ opened_section m name kind ∷ [] → Written g f rest → Written e f (Section name kind ∷ rest)
 section_written m n e g f rest name kind new w =
     let here = bytes_in_order (up_to_section w.lines) in
     let others = map bytes_in_order (by_section w.lines) in
     let old = bytes_in e.sections in
-    let sections : bytes_in g.sections ≡ old ++ [] ∷ [] = ap bytes_in new ∙ map-append (λ (s : SectionValue). s.bytes) e.sections (opened m name kind ∷ []) in
+    let sections : bytes_in g.sections ≡ old ++ [] ∷ [] = ap bytes_in new ∙ map-append (λ (s : SectionValue). s.bytes) e.sections (opened_section m name kind ∷ []) in
     record {
       lines = line (Section name kind) [] ∷ w.lines;
       are = ap (λ l. Section name kind ∷ l) w.are;
@@ -134,8 +134,8 @@ put_written e g f rest s other x w =
     }
 
 in_last_written : (m : Meanings) (n : ℕ) (e g f : Emitted) (p q : Placed) (rest : List (Statement ℕ)) (s : Statement ℕ) → begins_section s ≡ false
-    → ((section here : ℕ) (bytes : List ℕ) → bytes_of m n section here s ≡ Ok bytes → PutsBytes s bytes) → Agree m e p → IsTaken p q s
-    → in_last m n e (last_of e.sections) s ≡ Ok g → Written g f rest → Written e f (s ∷ rest)
+    → ((section here : ℕ) (bytes : List ℕ) → statement_bytes m n section here s ≡ Ok bytes → PutsBytes s bytes) → Agree m e p → IsTaken p q s
+    → in_last m n e (newest_section e.sections) s ≡ Ok g → Written g f rest → Written e f (s ∷ rest)
 in_last_written m n e g f p q rest s other puts a t goes w = put_written e g f rest s other (put_last m n e g p q s puts a t goes) w
 
 one_line : (m : Meanings) (n : ℕ) (e g f : Emitted) (p q : Placed) (rest : List (Statement ℕ)) (s : Statement ℕ) → Agree m e p → placed n p s ≡ Ok q → emitted m n e s ≡ Ok g → Written g f rest → Written e f (s ∷ rest)
@@ -167,8 +167,8 @@ all_lines m n e f p q (s ∷ rest) a j k =
 pub sections_are_lines : SectionsAreLines
 unfolding assembled
 sections_are_lines text u k =
-    let s : Source = source_of text in
+    let s : SourceRead = source_read text in
     let a = accepted s u k in
-    let none : Agree (meanings s a.places) nothing (nowhere (names_of s)) = record { shapes = refl; filled = λ i d h. absurd (omega (arith, h)) } in
-    let w = all_lines (meanings s a.places) 1 nothing a.end (nowhere (names_of s)) a.places s.statements none a.goes a.is in
+    let none : Agree (meanings s a.places) nothing (nowhere (name_count s)) = record { shapes = refl; filled = λ i d h. absurd (omega (arith, h)) } in
+    let w = all_lines (meanings s a.places) 1 nothing a.end (nowhere (name_count s)) a.places s.statements none a.goes a.is in
     record { lines = w.lines; are = w.are; put = w.put; in_order = ap (λ (v : UnitValue). bytes_in v.sections) (sym a.unit) ∙ w.sections }

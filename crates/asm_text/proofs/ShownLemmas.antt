@@ -33,7 +33,7 @@ use Rattle.asm_text.specs.declared.statement.Statement.TheVariants.{Code}
 use Rattle.asm_text.specs.Encoding.{extension, extensions, is_plain, is_source, is_dest, is_coded}
 use Rattle.asm_text.specs.Laws.{ShownIsRead, is_placeless_operand, is_placeless, AreWords}
 use Rattle.texts.specs.Words.{is_space, words}
-use Rattle.asm_text.specs.Lines.{width_of, base_of, two_op_of, one_op_of, cond_of, by_words, statement_of}
+use Rattle.asm_text.specs.Lines.{mnemonic_width, base_of, two_op_of, one_op_of, cond_of, by_words, statement_of}
 use Rattle.asm_text.specs.Operands.{without_ending, field_of, of_field, plain, number_by, immediate_of, indirect_of, indexed_at, indexed_of, operand_of}
 use Rattle.asm_text.specs.Parts.{is_name}
 use Rattle.asm_text.proofs.CodedLemmas.{decoded_coded}
@@ -177,7 +177,7 @@ operand_whole (Increment r) at h = sixteen (λ r. IsWhole (operand_text (Increme
 record IsTwoName (op : TwoOp) (w : Width) (text : List ℕ) : Type 0 where
   pub whole : IsWhole text
   pub other : bytes_eq text (codes "section") ≡ false
-  pub width : width_of text ≡ w
+  pub width : mnemonic_width text ≡ w
   pub op_is : two_op_of (base_of text) ≡ Some op
 
 two_named : (w : Width) (op : TwoOp) → IsTwoName op w (two_name op ++ suffix_of w)
@@ -193,7 +193,7 @@ record IsOneName (op : OneOp) (w : Width) (text : List ℕ) : Type 0 where
   pub no_space : bytes_eq text (codes "space") ≡ false
   pub no_unit : bytes_eq text (codes "unit") ≡ false
   pub no_jump : cond_of text ≡ None
-  pub width : width_of text ≡ w
+  pub width : mnemonic_width text ≡ w
   pub op_is : one_op_of (base_of text) ≡ Some op
 
 one_named : (w : Width) (op : OneOp) → IsOneName op w (one_name op ++ suffix_of w)

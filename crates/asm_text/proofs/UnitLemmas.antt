@@ -17,17 +17,17 @@ use Rattle.asm_text.specs.declared.unit.SectionKind.{SectionKind}
 use Rattle.asm_text.specs.declared.statement.Field.TheVariants.{Name}
 use Rattle.asm_text.specs.declared.statement.Statement.{Statement}
 use Rattle.asm_text.specs.declared.statement.Statement.TheVariants.{Section, Label, Global, Word, Space, Jump, Code}
-use Rattle.asm_text.specs.Assembly.{names_of, symbol_order, meanings, unit_for}
-use Rattle.asm_text.specs.Emission.{Meanings, Emitted, nothing, emitted, emitted_from, bytes_of, relocation_at, relocation_if, relocations_of, second_word, with_statement, in_last, grown, opened}
-use Rattle.asm_text.specs.internal.Emitted.{last_of, AreNames}
+use Rattle.asm_text.specs.Assembly.{name_count, symbol_order, meanings, unit_for}
+use Rattle.asm_text.specs.Emission.{Meanings, Emitted, nothing, emitted, emitted_from, statement_bytes, relocation_at, relocation_if, statement_relocations, second_word, with_statement, in_last, grown, opened_section}
+use Rattle.asm_text.specs.internal.Emitted.{newest_section, AreNames}
 use Rattle.asm_text.specs.internal.Kept.{IsSource}
 use Rattle.asm_text.specs.internal.Known.{AreNamed, IsNamed}
 use Rattle.asm_text.specs.Parts.{SectionValue, SymbolValue, is_name, IsSectionValue, IsSymbolValue, IsAsmRelocation, IsUnit}
 use Rattle.asm_text.specs.internal.Placed.{IsPlaced, names_in}
-use Rattle.asm_text.specs.Placing.{Placed, nowhere, spot_of, has_section, with_section, within, last_head, placed, placed_from, unrefused}
-use Rattle.asm_text.specs.Source.{Source}
+use Rattle.asm_text.specs.Placing.{Placed, nowhere, spot_of, has_section, placed_section, within, last_head, placed, placed_from, unrefused}
+use Rattle.asm_text.specs.Source.{SourceRead}
 use Rattle.asm_text.specs.Statements.{statement_size}
-use Rattle.asm_text.specs.Symbols.{is_global, local_labels, once, once_by, below, order_of, symbol_by, symbol_for, symbols_for, symbol_number, symbol_numbers}
+use Rattle.asm_text.specs.Symbols.{is_global_name, local_labels, once, once_by, below, order_of, symbol_by, symbol_for, symbols_for, symbol_number, symbol_numbers}
 use Rattle.asm_text.proofs.EmittingLemmas.{all_agree, small_sections, next_place, some_head}
 use Rattle.asm_text.proofs.LockLemmas.{Agree, Shape, shape_of, head_shape, same_number, ok_is, IsTaken, taken, label_heads}
 use Rattle.asm_text.proofs.OrderLemmas.{length_below}
@@ -49,7 +49,7 @@ distinct_place xs a b d differ low_a low_b same = by (cases_lt a b)
 
 -- ---- the names of sections
 
-named_section : (k n : ℕ) (p q : Placed) (name : ℕ) (kind : SectionKind) → All (λ (h : Head). h.name < k) p.heads → name < k → with_section n p name kind ≡ Ok q → All (λ (h : Head). h.name < k) q.heads
+named_section : (k n : ℕ) (p q : Placed) (name : ℕ) (kind : SectionKind) → All (λ (h : Head). h.name < k) p.heads → name < k → placed_section n p name kind ≡ Ok q → All (λ (h : Head). h.name < k) q.heads
 named_section k n p q name kind are low e = by (has_section p.heads name) (nat_eq (length p.heads) MAX_SECTIONS) e
   where
     by : (c d : Bool) → cond c (Err (Twice n)) (cond d (Err (TooMany n)) (Ok (record { heads = p.heads ++ (record { name = name; kind = kind; size = 0 }) ∷ []; labels = p.labels; spots = p.spots }))) ≡ Ok q → All (λ (h : Head). h.name < k) q.heads
@@ -140,7 +140,7 @@ symbols_are sections statements p names order o are within k d low =
     let here : k < length order = omega (arith, length-map order (symbol_for statements p names)) in
     let number : get_or order k 0 < length names = o.low k 0 here in
     subst (IsSymbolValue sections) (sym (get_or-map (symbol_for statements p names) order k 0 d here))
-    (symbol_is sections (is_global statements (get_or order k 0)) (slice_index_or names (get_or order k 0) []) (spot_of p.spots (get_or order k 0)) (are (get_or order k 0) [] number) (within (get_or order k 0)))
+    (symbol_is sections (is_global_name statements (get_or order k 0)) (slice_index_or names (get_or order k 0) []) (spot_of p.spots (get_or order k 0)) (are (get_or order k 0) [] number) (within (get_or order k 0)))
 
 symbols_apart : (statements : List (Statement ℕ)) (p : Placed) (names : List (List ℕ)) (order : List ℕ) → IsOrder (length names) order → AllPairs (λ x y. x ≢ y) names
     → AllPairs (λ (x y : SymbolValue). x.name ≢ y.name) (symbols_for statements p names order)
@@ -149,7 +149,7 @@ symbols_apart statements p names order o differ i j d less low same =
     let low_i : i < length order = omega arith in
     let low_j : j < length order = omega arith in
     let text : (k : ℕ) → k < length order → (get_or (symbols_for statements p names order) k d).name ≡ slice_index_or names (get_or order k 0) [] = λ k h.
-    ap (λ (s : SymbolValue). s.name) (get_or-map (symbol_for statements p names) order k 0 d h) ∙ symbol_text (is_global statements (get_or order k 0)) (slice_index_or names (get_or order k 0) []) (spot_of p.spots (get_or order k 0)) in
+    ap (λ (s : SymbolValue). s.name) (get_or-map (symbol_for statements p names) order k 0 d h) ∙ symbol_text (is_global_name statements (get_or order k 0)) (slice_index_or names (get_or order k 0) []) (spot_of p.spots (get_or order k 0)) in
     let texts = sym (text i low_i) ∙ (same ∙ text j low_j) in
     let numbers : get_or order i 0 ≡ get_or order j 0 = distinct_place names (get_or order i 0) (get_or order j 0) [] differ (o.low i 0 low_i) (o.low j 0 low_j) texts in
     o.differ i j 0 less low_j numbers
@@ -180,7 +180,7 @@ unfolding order_of
 order_size statements p names =
     let one = fold_size (fold once [] (local_labels statements p.labels)) (below names) in
     let two = fold_size [] (local_labels statements p.labels) in
-    let three = filter_size (λ k. not (is_global statements k)) p.labels in
+    let three = filter_size (λ k. not (is_global_name statements k)) p.labels in
     let four = length_below names in
     omega arith
 
@@ -200,7 +200,7 @@ tied_if m symbols sections section offset (Some name) has low = by (slice_index_
     by None is = λ k d h. absurd (omega (arith, h))
     by (Some x) is = All-cons (IsAsmRelocation sections symbols) (record { section = section; offset = offset; symbol = x }) [] (record { section = low; symbol = has name x is }) (λ k d h. absurd (omega (arith, h)))
 
-tied_of : (m : Meanings) (symbols sections section here : ℕ) (s : Statement ℕ) → HasSymbols m symbols → section < sections → All (IsAsmRelocation sections symbols) (relocations_of m section here s)
+tied_of : (m : Meanings) (symbols sections section here : ℕ) (s : Statement ℕ) → HasSymbols m symbols → section < sections → All (IsAsmRelocation sections symbols) (statement_relocations m section here s)
 tied_of m symbols sections section here (Word (Name name)) has low = tied_if m symbols sections section here (Some name) has low
 tied_of m symbols sections section here (Code insn x y) has low =
     All-append (IsAsmRelocation sections symbols) (relocation_if m section (here + 2) x) (relocation_if m section (here + second_word insn) y)
@@ -215,7 +215,7 @@ count_if m section offset (Some name) = by (slice_index_or m.symbols name None)
     by None = omega arith
     by (Some x) = omega arith
 
-count_of : (m : Meanings) (section here : ℕ) (s : Statement ℕ) → length (relocations_of m section here s) ≤ 2
+count_of : (m : Meanings) (section here : ℕ) (s : Statement ℕ) → length (statement_relocations m section here s) ≤ 2
 count_of m section here (Word (Name name)) = let one = count_if m section here (Some name) in omega arith
 count_of m section here (Code insn x y) =
     let one = count_if m section (here + 2) x in
@@ -228,10 +228,10 @@ pub record IsTied (symbols : ℕ) (lines : ℕ) (e : Emitted) : Type 0 where
   pub tied : All (IsAsmRelocation (length e.sections) symbols) e.relocations
   pub few : length e.relocations ≤ 2 * lines
 
-tied_last : (m : Meanings) (symbols lines n : ℕ) (e f : Emitted) (s : Statement ℕ) → HasSymbols m symbols → IsTied symbols lines e → in_last m n e (last_of e.sections) s ≡ Ok f → IsTied symbols (lines + 1) f
-tied_last m symbols lines n e f s has t goes = by (last_of e.sections) refl goes
+tied_last : (m : Meanings) (symbols lines n : ℕ) (e f : Emitted) (s : Statement ℕ) → HasSymbols m symbols → IsTied symbols lines e → in_last m n e (newest_section e.sections) s ≡ Ok f → IsTied symbols (lines + 1) f
+tied_last m symbols lines n e f s has t goes = by (newest_section e.sections) refl goes
   where
-    by_bytes : (last : SectionValue) (r : Result (List ℕ) AsmFault) → last_of e.sections ≡ Some last → with_statement m e last s r ≡ Ok f → IsTied symbols (lines + 1) f
+    by_bytes : (last : SectionValue) (r : Result (List ℕ) AsmFault) → newest_section e.sections ≡ Some last → with_statement m e last s r ≡ Ok f → IsTied symbols (lines + 1) f
     by_bytes last (Err fault) is k = absurd cc
     by_bytes last (Ok bytes) is k =
         let low : length e.sections - 1 < length e.sections = slice_get_within e.sections (length e.sections - 1) last is in
@@ -239,21 +239,21 @@ tied_last m symbols lines n e f s has t goes = by (last_of e.sections) refl goes
         let few = t.few in
         let two = count_of m (length e.sections - 1) last.size s in
         subst (IsTied symbols (lines + 1)) (ok_is _ f k) (record {
-          tied = subst (λ n. All (IsAsmRelocation n symbols) (e.relocations ++ relocations_of m (length e.sections - 1) last.size s)) (sym size)
-              (All-append (IsAsmRelocation (length e.sections) symbols) e.relocations (relocations_of m (length e.sections - 1) last.size s) t.tied (tied_of m symbols (length e.sections) (length e.sections - 1) last.size s has low));
-          few = omega (arith, length-append e.relocations (relocations_of m (length e.sections - 1) last.size s));
+          tied = subst (λ n. All (IsAsmRelocation n symbols) (e.relocations ++ statement_relocations m (length e.sections - 1) last.size s)) (sym size)
+              (All-append (IsAsmRelocation (length e.sections) symbols) e.relocations (statement_relocations m (length e.sections - 1) last.size s) t.tied (tied_of m symbols (length e.sections) (length e.sections - 1) last.size s has low));
+          few = omega (arith, length-append e.relocations (statement_relocations m (length e.sections - 1) last.size s));
         })
 
-    by : (o : Option SectionValue) → last_of e.sections ≡ o → in_last m n e o s ≡ Ok f → IsTied symbols (lines + 1) f
+    by : (o : Option SectionValue) → newest_section e.sections ≡ o → in_last m n e o s ≡ Ok f → IsTied symbols (lines + 1) f
     by None is k = subst (IsTied symbols (lines + 1)) (ok_is e f k) (record { tied = t.tied; few = let few = t.few in omega arith })
-    by (Some last) is k = by_bytes last (bytes_of m n (length e.sections - 1) last.size s) is k
+    by (Some last) is k = by_bytes last (statement_bytes m n (length e.sections - 1) last.size s) is k
 
 tied_more : (m : Meanings) (symbols lines n : ℕ) (e f : Emitted) (s : Statement ℕ) → HasSymbols m symbols → IsTied symbols lines e → emitted m n e s ≡ Ok f → IsTied symbols (lines + 1) f
 tied_more m symbols lines n e f (Section name kind) has t k =
-    let size = length-append e.sections (opened m name kind ∷ []) in
+    let size = length-append e.sections (opened_section m name kind ∷ []) in
     let few = t.few in
     subst (IsTied symbols (lines + 1)) (ok_is _ f k) (record {
-      tied = more_sections (length e.sections) (length (e.sections ++ opened m name kind ∷ [])) symbols e.relocations (omega arith) t.tied;
+      tied = more_sections (length e.sections) (length (e.sections ++ opened_section m name kind ∷ [])) symbols e.relocations (omega arith) t.tied;
       few = omega arith;
     })
 tied_more m symbols lines n e f (Label name) has t k = subst (IsTied symbols (lines + 1)) (ok_is e f k) (record { tied = t.tied; few = let few = t.few in omega arith })
@@ -277,41 +277,41 @@ all_tied m symbols lines n e f (s ∷ rest) has t k =
         subst (λ l. IsTied symbols l f) same (again z (tied_more m symbols lines n e z s has t was) k')
     by again (Err fault) was k' = absurd cc
 
-has_symbols : (s : Source) (p : Placed) → HasSymbols (meanings s p) (length (symbol_order s p))
-has_symbols s p k x is = by (cases_lt k (names_of s))
+has_symbols : (s : SourceRead) (p : Placed) → HasSymbols (meanings s p) (length (symbol_order s p))
+has_symbols s p k x is = by (cases_lt k (name_count s))
   where
-    by : (k < names_of s) ⊎ (names_of s ≤ k) → x < length (symbol_order s p)
+    by : (k < name_count s) ⊎ (name_count s ≤ k) → x < length (symbol_order s p)
     by (inl low) =
-        let within : k < length (below (names_of s)) = let e = length_below (names_of s) in omega arith in
-        let at : slice_index_or (symbol_numbers (symbol_order s p) (names_of s)) k None ≡ symbol_number (symbol_order s p) (get_or (below (names_of s)) k 0) = get_or-map (symbol_number (symbol_order s p)) (below (names_of s)) k 0 None within in
-        (position-Some (λ j. nat_eq j (get_or (below (names_of s)) k 0)) (symbol_order s p) x 0 (sym at ∙ is)).0
+        let within : k < length (below (name_count s)) = let e = length_below (name_count s) in omega arith in
+        let at : slice_index_or (symbol_numbers (symbol_order s p) (name_count s)) k None ≡ symbol_number (symbol_order s p) (get_or (below (name_count s)) k 0) = get_or-map (symbol_number (symbol_order s p)) (below (name_count s)) k 0 None within in
+        (position-Some (λ j. nat_eq j (get_or (below (name_count s)) k 0)) (symbol_order s p) x 0 (sym at ∙ is)).0
     by (inr past) =
-        let size : length (symbol_numbers (symbol_order s p) (names_of s)) ≤ k = let e = length_below (names_of s) in omega (arith, length-map (below (names_of s)) (symbol_number (symbol_order s p))) in
-        let none : slice_index_or (symbol_numbers (symbol_order s p) (names_of s)) k None ≡ None = get_or_past (symbol_numbers (symbol_order s p) (names_of s)) k None size in
+        let size : length (symbol_numbers (symbol_order s p) (name_count s)) ≤ k = let e = length_below (name_count s) in omega (arith, length-map (below (name_count s)) (symbol_number (symbol_order s p))) in
+        let none : slice_index_or (symbol_numbers (symbol_order s p) (name_count s)) k None ≡ None = get_or_past (symbol_numbers (symbol_order s p) (name_count s)) k None size in
         absurd cc
 
 -- ---- the unit
 
-pub unit_kept : (s : Source) (p : Placed) (e : Emitted) → IsSource s → IsPlaced (names_of s) p → placed_from 1 (nowhere (names_of s)) s.statements ≡ Ok p → emitted_from (meanings s p) 1 nothing s.statements ≡ Ok e
+pub unit_kept : (s : SourceRead) (p : Placed) (e : Emitted) → IsSource s → IsPlaced (name_count s) p → placed_from 1 (nowhere (name_count s)) s.statements ≡ Ok p → emitted_from (meanings s p) 1 nothing s.statements ≡ Ok e
     → IsUnit (unit_for s p e)
 unit_kept s p e kept sound goes is =
     let m = meanings s p in
-    let none : Agree (meanings s p) nothing (nowhere (names_of s)) = record { shapes = refl; filled = λ k d h. absurd (omega (arith, h)) } in
-    let agree : Agree (meanings s p) e p = all_agree m 1 nothing e (nowhere (names_of s)) p s.statements none goes is in
-    let heads = heads_named (length s.tables.sections) 1 (nowhere (names_of s)) p s.statements (λ k d h. absurd (omega (arith, h))) kept.named goes in
-    let order : IsOrder (names_of s) (symbol_order s p) = order_kept s.statements p (names_of s) sound.known in
+    let none : Agree (meanings s p) nothing (nowhere (name_count s)) = record { shapes = refl; filled = λ k d h. absurd (omega (arith, h)) } in
+    let agree : Agree (meanings s p) e p = all_agree m 1 nothing e (nowhere (name_count s)) p s.statements none goes is in
+    let heads = heads_named (length s.tables.sections) 1 (nowhere (name_count s)) p s.statements (λ k d h. absurd (omega (arith, h))) kept.named goes in
+    let order : IsOrder (name_count s) (symbol_order s p) = order_kept s.statements p (name_count s) sound.known in
     let tied : IsTied (length (symbol_order s p)) (0 + length s.statements) e = all_tied m (length (symbol_order s p)) 0 1 nothing e s.statements (has_symbols s p) (record { tied = λ k d h. absurd (omega (arith, h)); few = omega arith }) is in
     let number = same_number m e p agree in
     let few = sound.few in
     let symbols : length (symbols_for s.statements p s.tables.names (symbol_order s p)) ≡ length (symbol_order s p) = length-map (symbol_order s p) (symbol_for s.statements p s.tables.names) in
-    let size = order_size s.statements p (names_of s) in
+    let size = order_size s.statements p (name_count s) in
     record {
       few_sections = omega arith;
       few_symbols = let a = sound.labels in let b = kept.few_names in omega arith;
       few_relocations = let a = tied.few in let b = kept.few_statements in omega arith;
-      sections_kept = sections_are m e p (names_of s) agree sound kept.sections heads;
+      sections_kept = sections_are m e p (name_count s) agree sound kept.sections heads;
       symbols_kept = symbols_are (length e.sections) s.statements p s.tables.names (symbol_order s p) order kept.names (λ k spot at. let low : spot.section < length p.heads = sound.within k spot at in omega arith);
       relocations_kept = subst (λ n. All (IsAsmRelocation (length e.sections) n) e.relocations) (sym symbols) tied.tied;
-      sections_differ = sections_apart m e p (names_of s) agree sound kept.sections_differ heads;
+      sections_differ = sections_apart m e p (name_count s) agree sound kept.sections_differ heads;
       symbols_differ = symbols_apart s.statements p s.tables.names (symbol_order s p) order kept.names_differ;
     }

@@ -23,7 +23,7 @@ use Rattle.asm_text.specs.declared.statement.Statement.{Statement}
 use Rattle.asm_text.specs.declared.statement.Statement.TheVariants.{Section, Label, Global, Word, Space, Jump, Code}
 use Rattle.asm_text.specs.Encoding.{is_coded}
 use Rattle.texts.specs.Words.{is_space, words}
-use Rattle.asm_text.specs.Lines.{coded, width_of, base_of, two_op_of, one_op_of, cond_of, one_coded, two_coded, section_kind, section_of, even_size, space_of, unit_of, alone, jump_or_one, with_one, two_operands, with_two, by_words, statement_of}
+use Rattle.asm_text.specs.Lines.{coded, mnemonic_width, base_of, two_op_of, one_op_of, cond_of, one_coded, two_coded, section_kind, section_statement, even_size, space_of, unit_statement, alone, jump_or_one, with_one, two_operands, with_two, by_words, statement_of}
 use Rattle.asm_text.specs.Operands.{behind, without_ending, name_of, field_by, field_of, register_of, of_field, plain, number_by, immediate_of, indirect_by, indirect_of, indexed_at, indexed_by, without_end, indexed_of, register_operand, absolute_of, behind_or, operand_of}
 use Rattle.asm_text.specs.Parts.{is_name}
 use Rattle.asm_text.specs.Statements.{OperandValue}
@@ -179,7 +179,7 @@ space_some text s e = by (read_decimal MAX_SIZE text) refl e
     by (Some n) is k = by_even n (nat_le 2 n && nat_eq (n % 2) 0) refl ((decimals_are_read MAX_SIZE (lit< tt) text n).0 is).0 k
     by None is k = absurd cc
 
-unit_some : (text : List ℕ) (s : Statement (List ℕ)) → unit_of text ≡ Some s → IsWritten s
+unit_some : (text : List ℕ) (s : Statement (List ℕ)) → unit_statement text ≡ Some s → IsWritten s
 unit_some text s e = by (read_decimal 6 text) refl e
   where
     low : (n : ℕ) → n ≤ 6 → is_coded (UnitOp n) ≡ true
@@ -212,12 +212,12 @@ jump_some word text s e = by (cond_of word) refl e
   where
     by : (o : Option ℕ) → cond_of word ≡ o → jump_or_one o word text ≡ Some s → IsWritten s
     by (Some c) is k = named_some (Jump c) text s (λ name h. (cond_low word c is, h)) k
-    by None is k = one_some (width_of word) (one_op_of (base_of word)) text s k
+    by None is k = one_some (mnemonic_width word) (one_op_of (base_of word)) text s k
 
 with_one_some : (word text : List ℕ) (s : Statement (List ℕ)) → with_one word text ≡ Some s → IsWritten s
 with_one_some word text s e = by (bytes_eq word (codes "label")) (bytes_eq word (codes "global")) (bytes_eq word (codes "word")) (bytes_eq word (codes "space")) (bytes_eq word (codes "unit")) e
   where
-    by : (c d f g h : Bool) → cond c (option_map Label (name_of text)) (cond d (option_map Global (name_of text)) (cond f (option_map Word (field_of text)) (cond g (space_of text) (cond h (unit_of text) (jump_or_one (cond_of word) word text))))) ≡ Some s → IsWritten s
+    by : (c d f g h : Bool) → cond c (option_map Label (name_of text)) (cond d (option_map Global (name_of text)) (cond f (option_map Word (field_of text)) (cond g (space_of text) (cond h (unit_statement text) (jump_or_one (cond_of word) word text))))) ≡ Some s → IsWritten s
     by true d f g h k = named_some Label text s (λ name is. is) k
     by false true f g h k = named_some Global text s (λ name is. is) k
     by false false true g h k = word_some text s k
@@ -225,10 +225,10 @@ with_one_some word text s e = by (bytes_eq word (codes "label")) (bytes_eq word 
     by false false false false true k = unit_some text s k
     by false false false false false k = jump_some word text s k
 
-section_some : (text : List ℕ) (kind : Option SectionKind) (s : Statement (List ℕ)) → section_of (name_of text) kind ≡ Some s → IsWritten s
+section_some : (text : List ℕ) (kind : Option SectionKind) (s : Statement (List ℕ)) → section_statement (name_of text) kind ≡ Some s → IsWritten s
 section_some text kind s e = by (name_of text) kind refl e
   where
-    by : (o : Option (List ℕ)) (kind : Option SectionKind) → name_of text ≡ o → section_of o kind ≡ Some s → IsWritten s
+    by : (o : Option (List ℕ)) (kind : Option SectionKind) → name_of text ≡ o → section_statement o kind ≡ Some s → IsWritten s
     by (Some name) (Some kind) is k = subst IsWritten (same_Some (Section name kind) s k) (name_some text name is)
     by _ _ is k = absurd cc
 
@@ -236,10 +236,10 @@ with_two_some : (word first second : List ℕ) (s : Statement (List ℕ)) → wi
 with_two_some word first second s e = by (bytes_eq word (codes "section")) e
   where
     by_comma : (o : Option (List ℕ)) → two_operands o word second ≡ Some s → IsWritten s
-    by_comma (Some source) k = two_some (width_of word) (two_op_of (base_of word)) source second s k
+    by_comma (Some source) k = two_some (mnemonic_width word) (two_op_of (base_of word)) source second s k
     by_comma None k = absurd cc
 
-    by : (c : Bool) → cond c (section_of (name_of first) (section_kind second)) (two_operands (without_ending (codes ",") first) word second) ≡ Some s → IsWritten s
+    by : (c : Bool) → cond c (section_statement (name_of first) (section_kind second)) (two_operands (without_ending (codes ",") first) word second) ≡ Some s → IsWritten s
     by true k = section_some first (section_kind second) s k
     by false k = by_comma (without_ending (codes ",") first) k
 

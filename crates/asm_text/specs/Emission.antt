@@ -64,11 +64,11 @@ abbrev pub field_number : Field ℕ → ℕ
 field_number (Number n) = n
 field_number (Name name) = 0
 
-abbrev pub bytes_of : Meanings → ℕ → ℕ → ℕ → Statement ℕ → Result (List ℕ) AsmFault
-bytes_of m n section here (Word field) = Ok (word_bytes (field_number field))
-bytes_of m n section here (Jump cond target) = jump_bytes n section here cond (spot_of m.spots target)
-bytes_of m n section here (Code insn first second) = Ok (code_bytes insn)
-bytes_of m n section here _ = Ok []
+abbrev pub statement_bytes : Meanings → ℕ → ℕ → ℕ → Statement ℕ → Result (List ℕ) AsmFault
+statement_bytes m n section here (Word field) = Ok (word_bytes (field_number field))
+statement_bytes m n section here (Jump cond target) = jump_bytes n section here cond (spot_of m.spots target)
+statement_bytes m n section here (Code insn first second) = Ok (code_bytes insn)
+statement_bytes m n section here _ = Ok []
 
 -- ---- its relocations
 
@@ -84,11 +84,11 @@ abbrev pub second_word : Insn → ℕ
 second_word (Two op w s d) = 2 + 2 * words_in s
 second_word _ = 2
 
-abbrev pub relocations_of : Meanings → ℕ → ℕ → Statement ℕ → List AsmRelocation
-relocations_of m section here (Word (Name name)) = relocation_if m section here (Some name)
-relocations_of m section here (Code insn first second) =
+abbrev pub statement_relocations : Meanings → ℕ → ℕ → Statement ℕ → List AsmRelocation
+statement_relocations m section here (Word (Name name)) = relocation_if m section here (Some name)
+statement_relocations m section here (Code insn first second) =
     relocation_if m section (here + 2) first ++ relocation_if m section (here + second_word insn) second
-relocations_of m section here _ = []
+statement_relocations m section here _ = []
 
 -- ---- line by line
 
@@ -99,20 +99,20 @@ grown s size bytes = record { name = s.name; kind = s.kind; size = s.size + size
 abbrev pub with_statement : Meanings → Emitted → SectionValue → Statement ℕ → Result (List ℕ) AsmFault → Result Emitted AsmFault
 with_statement m e last s given = unrefused given (λ bytes. Ok (record {
   sections = slice_set e.sections (length e.sections - 1) (grown last (statement_size s) bytes);
-  relocations = e.relocations ++ relocations_of m (length e.sections - 1) last.size s;
+  relocations = e.relocations ++ statement_relocations m (length e.sections - 1) last.size s;
 }))
 
 abbrev pub in_last : Meanings → ℕ → Emitted → Option SectionValue → Statement ℕ → Result Emitted AsmFault
 in_last m n e None s = Ok e
-in_last m n e (Some last) s = with_statement m e last s (bytes_of m n (length e.sections - 1) last.size s)
+in_last m n e (Some last) s = with_statement m e last s (statement_bytes m n (length e.sections - 1) last.size s)
 
 -- the first bytes of a section
-abbrev pub opened : Meanings → ℕ → SectionKind → SectionValue
-opened m name kind = record { name = slice_index_or m.sections name []; kind = kind; size = 0; bytes = [] }
+abbrev pub opened_section : Meanings → ℕ → SectionKind → SectionValue
+opened_section m name kind = record { name = slice_index_or m.sections name []; kind = kind; size = 0; bytes = [] }
 
 -- line n
 abbrev pub emitted : Meanings → ℕ → Emitted → Statement ℕ → Result Emitted AsmFault
-emitted m n e (Section name kind) = Ok (record { sections = e.sections ++ opened m name kind ∷ []; relocations = e.relocations })
+emitted m n e (Section name kind) = Ok (record { sections = e.sections ++ opened_section m name kind ∷ []; relocations = e.relocations })
 emitted m n e (Label name) = Ok e
 emitted m n e (Global name) = Ok e
 emitted m n e s = in_last m n e (slice_get e.sections (length e.sections - 1)) s

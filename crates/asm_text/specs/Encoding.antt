@@ -43,12 +43,12 @@ byte_flag Byte = 1
 byte_flag Word = 0
 
 -- the first word; it means the instruction where any word does
-unfoldable pub first_word : Insn → ℕ
-first_word (Two op w s d) = two_code op * 0x1000 + source_register s * 256 + dest_mode d * 128 + byte_flag w * 64 + source_mode s * 16 + source_register d
-first_word (One op w a) = 0x1000 + one_code op * 128 + byte_flag w * 64 + source_mode a * 16 + source_register a
-first_word (Jump cond offset) = 0
-first_word Reti = 0x1300
-first_word (UnitOp n) = 0x1380 + n % 8
+unfoldable pub encoded_first : Insn → ℕ
+encoded_first (Two op w s d) = two_code op * 0x1000 + source_register s * 256 + dest_mode d * 128 + byte_flag w * 64 + source_mode s * 16 + source_register d
+encoded_first (One op w a) = 0x1000 + one_code op * 128 + byte_flag w * 64 + source_mode a * 16 + source_register a
+encoded_first (Jump cond offset) = 0
+encoded_first Reti = 0x1300
+encoded_first (UnitOp n) = 0x1380 + n % 8
 
 -- ---- all words
 
@@ -65,19 +65,19 @@ extensions (Two op w s d) = extension s ++ extension d
 extensions (One op w a) = extension a
 extensions _ = []
 
-abbrev pub words_of : Insn → List ℕ
-words_of insn = first_word insn ∷ extensions insn
+abbrev pub encoded_words : Insn → List ℕ
+encoded_words insn = encoded_first insn ∷ extensions insn
 
 -- the words of an instruction mean it, by the code table
 abbrev pub IsMeant : Insn → Type 0
-IsMeant insn = Means (first_word insn) (slice_index_or (extensions insn) 0 0) (slice_index_or (extensions insn) 1 0) insn (length_of insn)
+IsMeant insn = Means (encoded_first insn) (slice_index_or (extensions insn) 0 0) (slice_index_or (extensions insn) 1 0) insn (length_of insn)
 
 -- a word as two bytes, the low one first
 abbrev pub word_bytes : ℕ → List ℕ
 word_bytes w = w % 256 ∷ w / 256 ∷ []
 
 abbrev pub code_bytes : Insn → List ℕ
-code_bytes insn = flat_map word_bytes (words_of insn)
+code_bytes insn = flat_map word_bytes (encoded_words insn)
 
 -- ---- which instructions have words
 

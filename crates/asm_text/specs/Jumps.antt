@@ -8,7 +8,7 @@ use Rattle.asm_text.specs.Assembly.{assembled}
 use Rattle.asm_text.specs.Encoding.{word_bytes}
 use Rattle.asm_text.specs.Parts.{SectionValue, SymbolValue, UnitValue}
 use Rattle.asm_text.specs.Places.{StandsAt}
-use Rattle.asm_text.specs.Source.{Source, source_of}
+use Rattle.asm_text.specs.Source.{SourceRead, source_read}
 
 -- where a jump at this place leads
 abbrev pub target_of : ℕ → ℤ → ℕ
@@ -16,7 +16,7 @@ target_of here (pos n) = here + 2 + 2 * n
 target_of here (negsuc n) = here + 2 - 2 * (n + 1)
 
 -- The word at the statement's place in the unit means a jump, which leads to the symbol of this name in the same section.
-pub record LeadsToLabel (s : Source) (u : UnitValue) (number cond name : ℕ) : Type 0 where
+pub record LeadsToLabel (s : SourceRead) (u : UnitValue) (number cond name : ℕ) : Type 0 where
   pub section : ℕ
   pub here : ℕ
   pub word : ℕ
@@ -35,7 +35,7 @@ pub record LeadsToLabel (s : Source) (u : UnitValue) (number cond name : ℕ) : 
 -- Each jump of a source that is accepted leads to its label.
 abbrev pub JumpsReachLabels : Type 0
 JumpsReachLabels = (text : List ℕ) (u : UnitValue) → length text ≤ MAX_SOURCE → assembled text ≡ Ok u →
-    (number cond name : ℕ) → slice_get (source_of text).statements number ≡ Some (Jump cond name) → LeadsToLabel (source_of text) u number cond name
+    (number cond name : ℕ) → slice_get (source_read text).statements number ≡ Some (Jump cond name) → LeadsToLabel (source_read text) u number cond name
 
 -- The labels of a source that is accepted are even.
 abbrev pub LabelsAreEven : Type 0

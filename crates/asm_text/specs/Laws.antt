@@ -9,7 +9,7 @@ use Rattle.insn_decode.specs.Means.{Means}
 use Rattle.insn_decode.specs.Text.{insn_text}
 use Rattle.asm_text.specs.declared.statement.Statement.TheVariants.{Code}
 use Rattle.asm_text.specs.Emission.{reach, is_near, jump_word}
-use Rattle.asm_text.specs.Encoding.{extensions, words_of, is_coded, IsMeant}
+use Rattle.asm_text.specs.Encoding.{extensions, encoded_words, is_coded, IsMeant}
 use Rattle.asm_text.specs.Jumps.{target_of}
 use Rattle.asm_text.specs.Lines.{statement_of}
 
@@ -53,4 +53,4 @@ is_jump _ = false
 
 -- An instruction that was decoded, and is no jump, is written with the very words that it was decoded from.
 abbrev pub WordsComeBack : Type 0
-WordsComeBack = (w0 w1 w2 : ℕ) (insn : Insn) → insn_of w0 w1 w2 ≡ Some insn → is_jump insn ≡ false → words_of insn ≡ take (length_of insn) (w0 ∷ w1 ∷ w2 ∷ [])
+WordsComeBack = (w0 w1 w2 : ℕ) (insn : Insn) → insn_of w0 w1 w2 ≡ Some insn → is_jump insn ≡ false → encoded_words insn ≡ take (length_of insn) (w0 ∷ w1 ∷ w2 ∷ [])

@@ -27,8 +27,8 @@ abbrev pub coded : Insn → Option (List ℕ) → Option (List ℕ) → Option (
 coded insn first second = if is_coded insn then Some (Code insn first second) else None
 
 -- the mnemonic before `.b`, if it ends so
-abbrev pub width_of : List ℕ → Width
-width_of word = by (without_ending (codes ".b") word)
+abbrev pub mnemonic_width : List ℕ → Width
+mnemonic_width word = by (without_ending (codes ".b") word)
   where
     by : Option (List ℕ) → Width
     by (Some base) = Byte
@@ -69,9 +69,9 @@ section_kind word =
     else (if bytes_eq word (codes "data") then Some DataKind
     else (if bytes_eq word (codes "bss") then Some BssKind else None))
 
-abbrev pub section_of : Option (List ℕ) → Option SectionKind → Option (Statement (List ℕ))
-section_of (Some name) (Some kind) = Some (Section name kind)
-section_of _ _ = None
+abbrev pub section_statement : Option (List ℕ) → Option SectionKind → Option (Statement (List ℕ))
+section_statement (Some name) (Some kind) = Some (Section name kind)
+section_statement _ _ = None
 
 -- an even number from 2 to 65,534
 abbrev pub even_size : ℕ → Option (Statement (List ℕ))
@@ -80,14 +80,14 @@ even_size n = if nat_le 2 n && (n % 2 == 0) then Some (Space n) else None
 abbrev pub space_of : List ℕ → Option (Statement (List ℕ))
 space_of word = option_and_then even_size (read_decimal MAX_SIZE word)
 
-abbrev pub unit_of : List ℕ → Option (Statement (List ℕ))
-unit_of word = option_map (λ n. Code (UnitOp n) None None) (read_decimal 6 word)
+abbrev pub unit_statement : List ℕ → Option (Statement (List ℕ))
+unit_statement word = option_map (λ n. Code (UnitOp n) None None) (read_decimal 6 word)
 
 abbrev pub alone : List ℕ → Option (Statement (List ℕ))
 alone word = if bytes_eq word (codes "reti") then Some (Code Reti None None) else None
 
 abbrev pub one_operand : List ℕ → List ℕ → Option (Statement (List ℕ))
-one_operand word text = one_coded (width_of word) (one_op_of (base_of word)) (operand_of text)
+one_operand word text = one_coded (mnemonic_width word) (one_op_of (base_of word)) (operand_of text)
 
 abbrev pub jump_or_one : Option ℕ → List ℕ → List ℕ → Option (Statement (List ℕ))
 jump_or_one (Some cond) word text = option_map (Jump cond) (name_of text)
@@ -99,16 +99,16 @@ with_one word text =
     else (if bytes_eq word (codes "global") then option_map Global (name_of text)
     else (if bytes_eq word (codes "word") then option_map Word (field_of text)
     else (if bytes_eq word (codes "space") then space_of text
-    else (if bytes_eq word (codes "unit") then unit_of text
+    else (if bytes_eq word (codes "unit") then unit_statement text
     else jump_or_one (cond_of word) word text))))
 
 abbrev pub two_operands : Option (List ℕ) → List ℕ → List ℕ → Option (Statement (List ℕ))
-two_operands (Some source) word dest = two_coded (width_of word) (two_op_of (base_of word)) (operand_of source) (operand_of dest)
+two_operands (Some source) word dest = two_coded (mnemonic_width word) (two_op_of (base_of word)) (operand_of source) (operand_of dest)
 two_operands None word dest = None
 
 abbrev pub with_two : List ℕ → List ℕ → List ℕ → Option (Statement (List ℕ))
 with_two word first second =
-    if bytes_eq word (codes "section") then section_of (name_of first) (section_kind second)
+    if bytes_eq word (codes "section") then section_statement (name_of first) (section_kind second)
     else two_operands (without_ending (codes ",") first) word second
 
 abbrev pub by_words : List (List ℕ) → Option (Statement (List ℕ))

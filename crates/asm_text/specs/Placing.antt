@@ -9,7 +9,7 @@ use Rattle.asm_text.specs.declared.placing.Head.{Head}
 use Rattle.asm_text.specs.declared.placing.Spot.{Spot}
 use Rattle.asm_text.specs.declared.statement.Statement.{Statement}
 use Rattle.asm_text.specs.declared.statement.Statement.TheVariants.{Section, Label, Global}
-use Rattle.asm_text.specs.Statements.{statement_size, takes}
+use Rattle.asm_text.specs.Statements.{statement_size, kind_takes}
 
 -- the sections so far, the numbers of the labels in their order, and where the label of each name stands
 pub record Placed : Type 0 where
@@ -26,8 +26,8 @@ nowhere names = record { heads = []; labels = []; spots = replicate names None }
 abbrev pub has_section : List Head → ℕ → Bool
 has_section heads name = list_any (λ h. h.name == name) heads
 
-abbrev pub with_section : ℕ → Placed → ℕ → SectionKind → Result Placed AsmFault
-with_section n p name kind =
+abbrev pub placed_section : ℕ → Placed → ℕ → SectionKind → Result Placed AsmFault
+placed_section n p name kind =
     if has_section p.heads name then Err (Twice n)
     else (if length p.heads == MAX_SECTIONS then Err (TooMany n)
     else Ok (record { heads = p.heads ++ (record { name = name; kind = kind; size = 0 }) ∷ []; labels = p.labels; spots = p.spots }))
@@ -56,14 +56,14 @@ within n p h s = with_bytes n p h (statement_size s)
 
 abbrev pub in_section : ℕ → Placed → Option Head → Statement ℕ → Result Placed AsmFault
 in_section n p None s = Err (Place n)
-in_section n p (Some h) s = if takes h.kind s then within n p h s else Err (Place n)
+in_section n p (Some h) s = if kind_takes h.kind s then within n p h s else Err (Place n)
 
 abbrev pub last_head : List Head → Option Head
 last_head heads = slice_get heads (length heads - 1)
 
 -- line n
 abbrev pub placed : ℕ → Placed → Statement ℕ → Result Placed AsmFault
-placed n p (Section name kind) = with_section n p name kind
+placed n p (Section name kind) = placed_section n p name kind
 placed n p (Global name) = Ok p
 placed n p s = in_section n p (last_head p.heads) s
 

@@ -6,7 +6,7 @@ use Rattle.asm_text.specs.Assembly.{assembled}
 use Rattle.asm_text.specs.Emission.{field_number}
 use Rattle.asm_text.specs.Encoding.{word_bytes, code_bytes}
 use Rattle.asm_text.specs.Parts.{SectionValue, UnitValue}
-use Rattle.asm_text.specs.Source.{source_of}
+use Rattle.asm_text.specs.Source.{source_read}
 
 -- a line, and what it puts into its section
 pub record Line : Type 0 where
@@ -47,4 +47,4 @@ pub record HoldLines (sections : List SectionValue) (statements : List (Statemen
 
 -- The bytes of a section are those of its lines in their order, with nothing between them and nothing after.
 abbrev pub SectionsAreLines : Type 0
-SectionsAreLines = (text : List ℕ) (u : UnitValue) → assembled text ≡ Ok u → HoldLines u.sections (source_of text).statements
+SectionsAreLines = (text : List ℕ) (u : UnitValue) → assembled text ≡ Ok u → HoldLines u.sections (source_read text).statements

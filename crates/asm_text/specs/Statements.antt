@@ -25,13 +25,13 @@ statement_size (Code insn first second) = 2 * length_of insn
 statement_size _ = 0
 
 -- whether it may stand in a section of this kind
-abbrev pub takes : SectionKind → Statement ℕ → Bool
-takes BssKind (Word field) = false
-takes _ (Word field) = true
-takes BssKind (Space size) = true
-takes _ (Space size) = false
-takes CodeKind (Jump cond target) = true
-takes _ (Jump cond target) = false
-takes CodeKind (Code insn first second) = true
-takes _ (Code insn first second) = false
-takes _ _ = true
+abbrev pub kind_takes : SectionKind → Statement ℕ → Bool
+kind_takes BssKind (Word field) = false
+kind_takes _ (Word field) = true
+kind_takes BssKind (Space size) = true
+kind_takes _ (Space size) = false
+kind_takes CodeKind (Jump cond target) = true
+kind_takes _ (Jump cond target) = false
+kind_takes CodeKind (Code insn first second) = true
+kind_takes _ (Code insn first second) = false
+kind_takes _ _ = true

@@ -12,8 +12,8 @@ says_global name (Global other) = other == name
 says_global name _ = false
 
 -- whether some line calls the name global
-abbrev pub is_global : List (Statement ℕ) → ℕ → Bool
-is_global statements name = list_any (says_global name) statements
+abbrev pub is_global_name : List (Statement ℕ) → ℕ → Bool
+is_global_name statements name = list_any (says_global name) statements
 
 -- the place of a number in a list
 abbrev pub symbol_number : List ℕ → ℕ → Option ℕ
@@ -34,7 +34,7 @@ below (suc n) = below n ++ n ∷ []
 
 -- the labels that no line calls global
 abbrev pub local_labels : List (Statement ℕ) → List ℕ → List ℕ
-local_labels statements labels = filter (λ k. not (is_global statements k)) labels
+local_labels statements labels = filter (λ k. not (is_global_name statements k)) labels
 
 -- the names of the symbols, by their numbers, of a source of so many names
 unfoldable pub order_of : List (Statement ℕ) → Placed → ℕ → List ℕ
@@ -46,7 +46,7 @@ symbol_by global name None = record { name = name; global = true; home = None; v
 symbol_by global name (Some spot) = record { name = name; global = global; home = Some spot.section; value = spot.offset }
 
 abbrev pub symbol_for : List (Statement ℕ) → Placed → List (List ℕ) → ℕ → SymbolValue
-symbol_for statements p names k = symbol_by (is_global statements k) (slice_index_or names k []) (spot_of p.spots k)
+symbol_for statements p names k = symbol_by (is_global_name statements k) (slice_index_or names k []) (spot_of p.spots k)
 
 abbrev pub symbols_for : List (Statement ℕ) → Placed → List (List ℕ) → List ℕ → List SymbolValue
 symbols_for statements p names order = map (symbol_for statements p names) order

@@ -5,11 +5,11 @@ use Rattle.asm_text.specs.declared.unit.AsmSection.{AsmSection}
 use Rattle.asm_text.specs.declared.unit.AsmSymbol.{AsmSymbol}
 use Rattle.asm_text.specs.Parts.{SectionValue, SymbolValue}
 
-abbrev pub section_of : AsmSection → SectionValue
-section_of s = record { name = string_bytes s.name; kind = s.kind; size = s.size; bytes = s.bytes.items }
+abbrev pub section_value : AsmSection → SectionValue
+section_value s = record { name = string_bytes s.name; kind = s.kind; size = s.size; bytes = s.bytes.items }
 
-abbrev pub sections_of : Vec AsmSection Global → List SectionValue
-sections_of v = map section_of v.items
+abbrev pub section_values : Vec AsmSection Global → List SectionValue
+section_values v = map section_value v.items
 
 abbrev pub symbol_value : AsmSymbol → SymbolValue
 symbol_value s = record { name = string_bytes s.name; global = s.global; home = s.home; value = s.value }

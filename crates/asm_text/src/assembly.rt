@@ -63,16 +63,16 @@ struct Resolved {
 
 fn resolve(alloc: Global, source: &Source<'_>, layout: &Layout) -> Result<Resolved, AllocError>
     requires kept { IsSource (source_value source.now) }
-    requires sound { IsPlaced (spec.names_of (source_value source.now)) (placed_of layout.now) }
-    ensures length { IfOk result (λ r. length r.globals.items ≡ spec.names_of (source_value source.now)) }
+    requires sound { IsPlaced (spec.name_count (source_value source.now)) (placed_of layout.now) }
+    ensures length { IfOk result (λ r. length r.globals.items ≡ spec.name_count (source_value source.now)) }
     ensures globals { IfOk result (λ r. AreGlobals r.globals.items source.now.statements.items
-        (spec.names_of (source_value source.now))) }
+        (spec.name_count (source_value source.now))) }
     ensures order { IfOk result (λ r. r.order.names.items ≡ spec.symbol_order (source_value source.now)
         (placed_of layout.now)) }
-    ensures count { IfOk result (λ r. length r.order.numbers.items ≡ spec.names_of (source_value source.now)) }
+    ensures count { IfOk result (λ r. length r.order.numbers.items ≡ spec.name_count (source_value source.now)) }
     ensures numbers { IfOk result (λ r. r.order.numbers.items
         ≡ symbol_numbers (spec.symbol_order (source_value source.now) (placed_of layout.now))
-        (spec.names_of (source_value source.now))) }
+        (spec.name_count (source_value source.now))) }
 {
     let count = source.tables.names.texts().len();
     let globals = globals_of(alloc, count, &source.statements)?;
@@ -87,10 +87,10 @@ fn symbols_of(
     resolved: &Resolved,
 ) -> Result<Vec<AsmSymbol>, AllocError>
     requires kept { IsSource (source_value source.now) }
-    requires sound { IsPlaced (spec.names_of (source_value source.now)) (placed_of layout.now) }
-    requires length { length resolved.now.globals.items ≡ spec.names_of (source_value source.now) }
+    requires sound { IsPlaced (spec.name_count (source_value source.now)) (placed_of layout.now) }
+    requires length { length resolved.now.globals.items ≡ spec.name_count (source_value source.now) }
     requires globals { AreGlobals resolved.now.globals.items source.now.statements.items
-        (spec.names_of (source_value source.now)) }
+        (spec.name_count (source_value source.now)) }
     requires order { resolved.now.order.names.items ≡ spec.symbol_order (source_value source.now)
         (placed_of layout.now) }
     ensures { IfOk result (λ symbols. views.symbol_values symbols
@@ -114,12 +114,12 @@ fn emit(
     resolved: &Resolved,
 ) -> Result<Emission, AsmFault>
     requires kept { IsSource (source_value source.now) }
-    requires placed { placed_from 1 (nowhere (spec.names_of (source_value source.now))) source.now.statements.items
+    requires placed { placed_from 1 (nowhere (spec.name_count (source_value source.now))) source.now.statements.items
         ≡ Ok (placed_of layout.now) }
-    requires sound { IsPlaced (spec.names_of (source_value source.now)) (placed_of layout.now) }
-    requires count { length resolved.now.order.numbers.items ≡ spec.names_of (source_value source.now) }
+    requires sound { IsPlaced (spec.name_count (source_value source.now)) (placed_of layout.now) }
+    requires count { length resolved.now.order.numbers.items ≡ spec.name_count (source_value source.now) }
     requires numbers { resolved.now.order.numbers.items ≡ symbol_numbers
-        (spec.symbol_order (source_value source.now) (placed_of layout.now)) (spec.names_of (source_value source.now)) }
+        (spec.symbol_order (source_value source.now) (placed_of layout.now)) (spec.name_count (source_value source.now)) }
     ensures emitted { IfOk result
         (λ e. emitted_from (spec.meanings (source_value source.now) (placed_of layout.now)) 1 nothing
         source.now.statements.items ≡ Ok (emitted_of e)) }
@@ -138,9 +138,9 @@ fn emit(
 // The unit of a source whose lines have these places.
 fn unit_for(alloc: Global, source: &Source<'_>, layout: &Layout) -> Result<AsmUnit, AsmFault>
     requires kept { IsSource (source_value source.now) }
-    requires placed { placed_from 1 (nowhere (spec.names_of (source_value source.now))) source.now.statements.items
+    requires placed { placed_from 1 (nowhere (spec.name_count (source_value source.now))) source.now.statements.items
         ≡ Ok (placed_of layout.now) }
-    requires sound { IsPlaced (spec.names_of (source_value source.now)) (placed_of layout.now) }
+    requires sound { IsPlaced (spec.name_count (source_value source.now)) (placed_of layout.now) }
     ensures assembled { IfOk result (λ unit. spec.with_stop (source_value source.now) (placed_of layout.now) None
         ≡ Ok (unit_of unit)) }
     ensures refused { IfErr result (λ fault. fault ≢ AsmFault.NoMemory →

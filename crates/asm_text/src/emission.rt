@@ -4,15 +4,15 @@ ghost use Rattle.std.specs.Prelude.{◌≡◌, ◌≢◌, ◌<◌, ◌≤◌, �
 ghost use Rattle.std.specs.Option.{option_to_list};
 ghost use Rattle.arrayvec.specs.ArrayVec.{array_vec_len};
 ghost use Rattle.asm_text.specs.Emission as spec;
-ghost use Rattle.asm_text.specs.internal.Emitted.{meanings_of, emitted_of, last_of, HasRoom, AreNames};
+ghost use Rattle.asm_text.specs.internal.Emitted.{meanings_value, emitted_of, newest_section, HasRoom, AreNames};
 ghost use Rattle.asm_text.specs.internal.Known.{IsBelow, IsKnown, IsNamed, AreKnown, AreNamed};
 ghost use Rattle.asm_text.specs.internal.Placed.{ArePlaced};
 ghost use Rattle.asm_text.specs.internal.Maps.{texts_in};
 ghost use Rattle.asm_text.specs.Statements.{statement_size};
-ghost use Rattle.asm_text.specs.Views.{section_of};
+ghost use Rattle.asm_text.specs.Views.{section_value};
 ghost use Rattle.asm_text.specs.Encoding as encoding;
 
-use crate::encoding::first_word;
+use crate::encoding::encoded_first;
 use crate::operand::string_of;
 use crate::placing::{Spot, statement_size};
 use crate::statement::{Field, Statement};
@@ -63,7 +63,7 @@ fn code_bytes(insn: Insn) -> Bytes
     ensures { result.items ≡ encoding.code_bytes insn }
 {
     let mut bytes = ArrayVec::new();
-    push_word(first_word(insn), &mut bytes);
+    push_word(encoded_first(insn), &mut bytes);
     match insn {
         Insn::Two { src, dst, .. } => {
             push_extension(src, &mut bytes);
@@ -163,7 +163,7 @@ fn field_number(field: Field<usize>) -> u16
 }
 
 // The bytes of the statement of line n, at `here` in this section.
-fn bytes_of(
+fn statement_bytes(
     meanings: &Meanings<'_>,
     n: u64,
     section: usize,
@@ -172,8 +172,8 @@ fn bytes_of(
 ) -> Result<Bytes, AsmFault>
     requires here { here ≤ 65534 }
     requires known { IsKnown (length meanings.now.spots.now) statement }
-    ensures { MatchResult result (λ bytes. spec.bytes_of (meanings_of meanings.now) n section here statement
-        ≡ Ok bytes.items) (λ fault. spec.bytes_of (meanings_of meanings.now) n section here statement
+    ensures { MatchResult result (λ bytes. spec.statement_bytes (meanings_value meanings.now) n section here statement
+        ≡ Ok bytes.items) (λ fault. spec.statement_bytes (meanings_value meanings.now) n section here statement
         ≡ Err fault) }
 {
     match statement {
@@ -203,7 +203,7 @@ fn second_word(insn: Insn) -> u32
 // A section with a statement more.
 fn grow(section: &mut AsmSection, size: u32, bytes: &[u8]) -> Result<(), AllocError>
     requires { section.old.size + size < 2 ^ 32 }
-    ensures { OnOk result (section_of section.new ≡ spec.grown (section_of section.old) size bytes.now) }
+    ensures { OnOk result (section_value section.new ≡ spec.grown (section_value section.old) size bytes.now) }
 {
     section.bytes.extend_from_slice(bytes)?;
     section.size += size;
@@ -230,7 +230,7 @@ impl Emission {
         requires section { section < 2 ^ 32 }
         requires name { IsBelow (length meanings.now.symbols.now) name }
         ensures relocations { OnOk result (self.new.relocations.items ≡ self.old.relocations.items
-            ++ spec.relocation_if (meanings_of meanings.now) section offset name) }
+            ++ spec.relocation_if (meanings_value meanings.now) section offset name) }
         ensures sections { self.new.sections ≡ self.old.sections }
     {
         let Some(name) = name else {
@@ -257,7 +257,7 @@ impl Emission {
         requires here { here ≤ 65534 }
         requires known { IsKnown (length meanings.now.symbols.now) statement }
         ensures relocations { OnOk result (self.new.relocations.items ≡ self.old.relocations.items
-            ++ spec.relocations_of (meanings_of meanings.now) section here statement) }
+            ++ spec.statement_relocations (meanings_value meanings.now) section here statement) }
         ensures sections { self.new.sections ≡ self.old.sections }
     {
         match statement {
@@ -295,17 +295,17 @@ impl Emission {
         requires room { HasRoom (emitted_of self.old).sections (statement_size statement) }
         requires spots { IsKnown (length meanings.now.spots.now) statement }
         requires symbols { IsKnown (length meanings.now.symbols.now) statement }
-        ensures emitted { OnOk result (spec.in_last (meanings_of meanings.now) n (emitted_of self.old)
-            (last_of (emitted_of self.old).sections) statement ≡ Ok (emitted_of self.new)) }
+        ensures emitted { OnOk result (spec.in_last (meanings_value meanings.now) n (emitted_of self.old)
+            (newest_section (emitted_of self.old).sections) statement ≡ Ok (emitted_of self.new)) }
         ensures refused { IfErr result (λ fault. fault ≢ AsmFault.NoMemory
-            → spec.in_last (meanings_of meanings.now) n (emitted_of self.old)
-            (last_of (emitted_of self.old).sections) statement ≡ Err fault) }
+            → spec.in_last (meanings_value meanings.now) n (emitted_of self.old)
+            (newest_section (emitted_of self.old).sections) statement ≡ Err fault) }
     {
         let Some(last) = self.sections.len().checked_sub(1) else {
             return Ok(());
         };
         let here = self.sections[last].size;
-        let bytes = match bytes_of(meanings, n, last, here, statement) {
+        let bytes = match statement_bytes(meanings, n, last, here, statement) {
             Ok(bytes) => bytes,
             Err(fault) => return Err(fault),
         };
@@ -327,7 +327,7 @@ impl Emission {
     ) -> Result<(), AllocError>
         requires known { name < length meanings.now.sections.now }
         requires names { AreNames (texts_in meanings.now.sections.now) }
-        ensures { OnOk result (spec.emitted (meanings_of meanings.now) 0 (emitted_of self.old)
+        ensures { OnOk result (spec.emitted (meanings_value meanings.now) 0 (emitted_of self.old)
             (Statement.Section name kind) ≡ Ok (emitted_of self.new)) }
     {
         let name = string_of(alloc, meanings.sections[name])?;
@@ -354,10 +354,10 @@ impl Emission {
         requires symbols { IsKnown (length meanings.now.symbols.now) statement }
         requires named { IsNamed (length meanings.now.sections.now) statement }
         requires names { AreNames (texts_in meanings.now.sections.now) }
-        ensures emitted { OnOk result (spec.emitted (meanings_of meanings.now) n (emitted_of self.old) statement
+        ensures emitted { OnOk result (spec.emitted (meanings_value meanings.now) n (emitted_of self.old) statement
             ≡ Ok (emitted_of self.new)) }
         ensures refused { IfErr result (λ fault. fault ≢ AsmFault.NoMemory
-            → spec.emitted (meanings_of meanings.now) n (emitted_of self.old) statement ≡ Err fault) }
+            → spec.emitted (meanings_value meanings.now) n (emitted_of self.old) statement ≡ Err fault) }
     {
         match statement {
             Statement::Section { name, kind } => {
@@ -384,10 +384,10 @@ pub fn emit_all(
     requires named { AreNamed (length meanings.now.sections.now) statements.now }
     requires names { AreNames (texts_in meanings.now.sections.now) }
     requires placed { ArePlaced (length meanings.now.spots.now) statements.now }
-    ensures emitted { IfOk result (λ e. spec.emitted_from (meanings_of meanings.now) 1 spec.nothing statements.now
+    ensures emitted { IfOk result (λ e. spec.emitted_from (meanings_value meanings.now) 1 spec.nothing statements.now
         ≡ Ok (emitted_of e)) }
     ensures refused { IfErr result (λ fault. fault ≢ AsmFault.NoMemory
-        → spec.emitted_from (meanings_of meanings.now) 1 spec.nothing statements.now ≡ Err fault) }
+        → spec.emitted_from (meanings_value meanings.now) 1 spec.nothing statements.now ≡ Err fault) }
 {
     let mut emission = Emission::new(alloc);
     for (index, statement) in statements.iter().enumerate() {

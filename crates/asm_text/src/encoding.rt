@@ -107,9 +107,9 @@ fn byte_flag(width: Width) -> u16
 }
 
 /// The first word of an instruction.
-#[tactic(auto, unfolding(crate::specs::Encoding::first_word))]
-pub fn first_word(insn: Insn) -> u16
-    ensures { result ≡ spec.first_word insn }
+#[tactic(auto, unfolding(crate::specs::Encoding::encoded_first))]
+pub fn encoded_first(insn: Insn) -> u16
+    ensures { result ≡ spec.encoded_first insn }
 {
     match insn {
         Insn::Two {

@@ -70,7 +70,7 @@ fn with_one<'a>(word: &[u8], text: &'a [u8]) -> Option<Statement<&'a [u8]>>
     } else if word == b"space".as_slice() {
         space_of(text)
     } else if word == b"unit".as_slice() {
-        unit_of(text)
+        unit_statement(text)
     } else {
         match cond_of(word) {
             Some(cond) => name_of(text).map(|target| Statement::Jump { cond, target }),
@@ -90,8 +90,8 @@ fn space_of<'a>(word: &[u8]) -> Option<Statement<&'a [u8]>>
     }
 }
 
-fn unit_of<'a>(word: &[u8]) -> Option<Statement<&'a [u8]>>
-    ensures { option_map with_texts result ≡ spec.unit_of word.now }
+fn unit_statement<'a>(word: &[u8]) -> Option<Statement<&'a [u8]>>
+    ensures { option_map with_texts result ≡ spec.unit_statement word.now }
 {
     let number = read_decimal(word, 6)?;
     Some(plain(Insn::Unit(number as u8)))
@@ -120,7 +120,7 @@ fn coded<'a>(
 fn one_operand<'a>(word: &[u8], text: &'a [u8]) -> Option<Statement<&'a [u8]>>
     ensures { option_map with_texts result ≡ spec.one_operand word.now text.now }
 {
-    let width = width_of(word);
+    let width = mnemonic_width(word);
     let op = one_op_of(base_of(word))?;
     let arg = operand_of(text)?;
     coded(
@@ -149,7 +149,7 @@ fn with_two<'a>(word: &[u8], first: &'a [u8], second: &'a [u8]) -> Option<Statem
 fn two_operands<'a>(word: &[u8], source: &'a [u8], dest: &'a [u8]) -> Option<Statement<&'a [u8]>>
     ensures { option_map with_texts result ≡ spec.two_operands (Some source.now) word.now dest.now }
 {
-    let width = width_of(word);
+    let width = mnemonic_width(word);
     let op = two_op_of(base_of(word))?;
     let src = operand_of(source)?;
     let dst = operand_of(dest)?;
@@ -179,8 +179,8 @@ fn section_kind(word: &[u8]) -> Option<SectionKind>
     }
 }
 
-fn width_of(word: &[u8]) -> Width
-    ensures { result ≡ spec.width_of word.now }
+fn mnemonic_width(word: &[u8]) -> Width
+    ensures { result ≡ spec.mnemonic_width word.now }
 {
     match word.strip_suffix(b".b") {
         Some(_) => Width::Byte,

@@ -2,7 +2,7 @@
 
 ghost use Rattle.std.specs.Prelude.{◌≡◌, List, [], ℕ, Some, OnOk, IfOk, bytes_eq, if◌then◌else◌};
 ghost use Rattle.asm_text.specs.Names as spec;
-ghost use Rattle.asm_text.specs.internal.Maps.{entry_of, IsIndexed, texts_of, texts_in};
+ghost use Rattle.asm_text.specs.internal.Maps.{map_value, IsIndexed, texts_of, texts_in};
 
 use std::alloc::{AllocError, Global};
 use std::collections::BTreeMap;
@@ -36,7 +36,7 @@ impl<'a> Names<'a> {
     pub fn number(&mut self, name: &'a [u8]) -> Result<usize, AllocError>
         requires indexed { IsIndexed self.old }
         ensures number { IfOk result (λ number. number ≡ spec.name_number (texts_of self.old) name.entry.now) }
-        ensures noted { OnOk result (texts_of self.new ≡ spec.noted (texts_of self.old) name.entry.now) }
+        ensures noted { OnOk result (texts_of self.new ≡ spec.with_name (texts_of self.old) name.entry.now) }
         ensures indexed { OnOk result (IsIndexed self.new) }
     {
         if let Some(number) = find(&self.numbers, name) {
@@ -50,7 +50,7 @@ impl<'a> Names<'a> {
 }
 
 fn find<'a>(numbers: &BTreeMap<&'a [u8], usize>, name: &'a [u8]) -> Option<usize>
-    ensures { result ≡ entry_of numbers.now name.now }
+    ensures { result ≡ map_value numbers.now name.now }
 {
     numbers.get(&name).copied()
 }
@@ -61,8 +61,8 @@ fn insert<'a>(
     name: &'a [u8],
     number: usize,
 ) -> Result<(), AllocError>
-    ensures { OnOk result ((q : List ℕ) → entry_of numbers.new q
-        ≡ (if bytes_eq name.entry.now q then Some number else entry_of numbers.old q)) }
+    ensures { OnOk result ((q : List ℕ) → map_value numbers.new q
+        ≡ (if bytes_eq name.entry.now q then Some number else map_value numbers.old q)) }
 {
     numbers.insert(name, number)?;
     Ok(())

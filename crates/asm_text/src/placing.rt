@@ -47,8 +47,8 @@ pub fn statement_size(statement: Statement<usize>) -> u32
 }
 
 /// Whether a section of this kind takes the statement.
-fn takes(kind: SectionKind, statement: Statement<usize>) -> bool
-    ensures { result ≡ statements.takes kind statement }
+fn kind_takes(kind: SectionKind, statement: Statement<usize>) -> bool
+    ensures { result ≡ statements.kind_takes kind statement }
 {
     match statement {
         Statement::Word(_) => kind != SectionKind::Bss,
@@ -82,9 +82,9 @@ impl Layout {
     }
 
     fn add_section(&mut self, n: u64, name: usize, kind: SectionKind) -> Result<(), AsmFault>
-        ensures placed { OnOk result (spec.with_section n (placed_of self.old) name kind ≡ Ok (placed_of self.new)) }
+        ensures placed { OnOk result (spec.placed_section n (placed_of self.old) name kind ≡ Ok (placed_of self.new)) }
         ensures refused { IfErr result (λ fault. fault ≢ AsmFault.NoMemory
-            → spec.with_section n (placed_of self.old) name kind ≡ Err fault) }
+            → spec.placed_section n (placed_of self.old) name kind ≡ Err fault) }
     {
         if has_section(&self.heads, name) {
             return Err(AsmFault::Twice { n });
@@ -171,7 +171,7 @@ impl Layout {
         let Some(head) = self.last() else {
             return Err(AsmFault::Place { n });
         };
-        if !takes(head.kind, statement) {
+        if !kind_takes(head.kind, statement) {
             return Err(AsmFault::Place { n });
         }
         self.add_within(n, head, statement)

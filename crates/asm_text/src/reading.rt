@@ -3,7 +3,7 @@
 ghost use Rattle.std.specs.Prelude.{◌≡◌, ◌++◌, ◌∷◌, ◌≤◌, length, List, [], ℕ, Some, OnOk, IfOk};
 ghost use Rattle.asm_text.specs.internal.Maps.{IsIndexed, texts_of};
 ghost use Rattle.asm_text.specs.Names as numbering;
-ghost use Rattle.asm_text.specs.internal.Read.{tables_of, AreIndexed, source_value};
+ghost use Rattle.asm_text.specs.internal.Read.{tables_value, AreIndexed, source_value};
 ghost use Rattle.asm_text.specs.Source as spec;
 ghost use Rattle.asm_text.specs.internal.Statements.{with_texts, field_with_text};
 ghost use Rattle.std.specs.Option.{option_copied};
@@ -74,7 +74,7 @@ fn number_field<'a>(
 
 impl<'a> Tables<'a> {
     fn new(alloc: Global) -> Self
-        ensures none { tables_of result ≡ numbering.no_tables }
+        ensures none { tables_value result ≡ numbering.no_tables }
         ensures indexed { AreIndexed result }
     {
         Tables {
@@ -86,9 +86,9 @@ impl<'a> Tables<'a> {
     // A statement with its names by their numbers.
     fn number(&mut self, statement: Statement<&'a [u8]>) -> Result<Statement<usize>, AllocError>
         requires indexed { AreIndexed self.old }
-        ensures numbered { IfOk result (λ s. s ≡ numbering.numbered (tables_of self.old)
+        ensures numbered { IfOk result (λ s. s ≡ numbering.numbered (tables_value self.old)
             (with_texts statement.entry)) }
-        ensures noted { OnOk result (tables_of self.new ≡ numbering.tables_after (tables_of self.old)
+        ensures noted { OnOk result (tables_value self.new ≡ numbering.tables_after (tables_value self.old)
             (with_texts statement.entry)) }
         ensures indexed { OnOk result (AreIndexed self.new) }
     {
@@ -131,7 +131,7 @@ impl<'a> Tables<'a> {
 /// The statements of a source.
 pub fn read_source(alloc: Global, text: &[u8]) -> Result<Source<'_>, AllocError>
     requires { length text.now ≤ MAX_SOURCE }
-    ensures { IfOk result (λ source. source_value source ≡ spec.source_of text.now) }
+    ensures { IfOk result (λ source. source_value source ≡ spec.source_read text.now) }
 {
     let mut tables = Tables::new(alloc);
     let mut statements = Vec::new(alloc);

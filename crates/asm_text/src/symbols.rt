@@ -34,7 +34,7 @@ pub fn globals_of(
     requires known { AreKnown names statements.now }
     ensures length { IfOk result (λ globals. length globals.items ≡ names) }
     ensures globals { IfOk result (λ globals. (k : ℕ) → k < names →
-        slice_index_or globals.items k false ≡ spec.is_global statements.now k) }
+        slice_index_or globals.items k false ≡ spec.is_global_name statements.now k) }
 {
     let mut globals = vec![in alloc; false; names]?;
     for statement in statements {
@@ -83,7 +83,7 @@ impl Order {
         requires numbering { IsNumbering self.old.numbers.items self.old.names.items }
         ensures few { OnOk result (length self.new.names.items ≤ length self.old.names.items + length labels.now) }
         ensures noted { OnOk result (self.new.names.items ≡ fold spec.once self.old.names.items
-            (filter (inner.is_local globals.now) labels.now)) }
+            (filter (inner.is_local_name globals.now) labels.now)) }
         ensures length { length self.new.numbers.items ≡ length self.old.numbers.items }
         ensures numbering { OnOk result (IsNumbering self.new.numbers.items self.new.names.items) }
     {
@@ -123,7 +123,7 @@ pub fn order_of(
     requires few_names { names ≤ 1048576 }
     requires few_labels { length labels.now ≤ 4096 }
     ensures order { IfOk result (λ order. order.names.items
-        ≡ fold spec.once (fold spec.once [] (filter (inner.is_local globals.now) labels.now)) (spec.below names)) }
+        ≡ fold spec.once (fold spec.once [] (filter (inner.is_local_name globals.now) labels.now)) (spec.below names)) }
     ensures length { IfOk result (λ order. length order.numbers.items ≡ names) }
     ensures numbering { IfOk result (λ order. IsNumbering order.numbers.items order.names.items) }
 {

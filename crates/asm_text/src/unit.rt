@@ -2,7 +2,7 @@
 ghost use Rattle.std.specs.Prelude.{◌≡◌};
 ghost use Rattle.asm_text.specs.declared.unit.AsmFault.TheVariants.{NoMemory};
 ghost use Rattle.asm_text.specs.Parts.{IsUnit};
-ghost use Rattle.asm_text.specs.Views.{sections_of, symbol_values};
+ghost use Rattle.asm_text.specs.Views.{section_values, symbol_values};
 
 use std::alloc::{AllocError, AllocFailed};
 
@@ -53,8 +53,8 @@ pub struct AsmUnit {
     pub symbols: Vec<AsmSymbol>,
     pub relocations: Vec<AsmRelocation>,
     pub ghost sound: { IsUnit (record {
-      sections = sections_of sections;
-      symbols = symbols_of symbols;
+      sections = section_values sections;
+      symbols = symbol_values symbols;
       relocations = relocations.items;
     }) },
 }

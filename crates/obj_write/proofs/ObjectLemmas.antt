@@ -9,7 +9,7 @@ use Rattle.asm_text.specs.declared.unit.AsmSection.{AsmSection}
 use Rattle.asm_text.specs.declared.unit.AsmRelocation.{AsmRelocation}
 use Rattle.asm_text.specs.declared.unit.AsmUnit.{AsmUnit}
 use Rattle.asm_text.specs.Parts.{SectionValue, UnitValue}
-use Rattle.asm_text.specs.Views.{section_of}
+use Rattle.asm_text.specs.Views.{section_value}
 use Rattle.asm_text.specs.Unit.{unit_of}
 use Rattle.obj_write.specs.declared.sections.Head.{Head}
 use Rattle.obj_write.specs.declared.sections.Sections.{Sections}
@@ -42,10 +42,10 @@ relocated_within rs n = relocated_below rs n n (omega arith)
 -- so are these
 pub these_within : (unit : AsmUnit) (list : List ℕ) → list ≡ relocated_in (unit_of unit) → All (λ i. i < length unit.sections.items) list
 these_within unit list is =
-    let n = length-map unit.sections.items section_of in
-    All-weaker (λ i. i < length (map section_of unit.sections.items)) (λ i. i < length unit.sections.items) (λ i lt. omega (arith, n)) list
-    (All-same (λ i. i < length (map section_of unit.sections.items)) list (relocated_in (unit_of unit)) is
-    (relocated_within unit.relocations.items (length (map section_of unit.sections.items))))
+    let n = length-map unit.sections.items section_value in
+    All-weaker (λ i. i < length (map section_value unit.sections.items)) (λ i. i < length unit.sections.items) (λ i lt. omega (arith, n)) list
+    (All-same (λ i. i < length (map section_value unit.sections.items)) list (relocated_in (unit_of unit)) is
+    (relocated_within unit.relocations.items (length (map section_value unit.sections.items))))
 
 length_index : (rs : List AsmRelocation) (i : ℕ) → length (index_where_some rs i) ≤ 1
 length_index [] i = omega arith
@@ -80,8 +80,8 @@ section_name_at unit names k index at table place same within =
     let n = length_names unit in place (section_names unit) table (omega (arith, n)) ∙ ap (name_at (section_names unit)) same
 
 -- how many sections the unit has
-pub part_count : (unit : AsmUnit) → unit.sections.len ≡ length (map section_of unit.sections.items)
-part_count unit = unit.sections.ok.0 ∙ sym (length-map unit.sections.items section_of)
+pub part_count : (unit : AsmUnit) → unit.sections.len ≡ length (map section_value unit.sections.items)
+part_count unit = unit.sections.ok.0 ∙ sym (length-map unit.sections.items section_value)
 
 -- ---- sections of the unit
 
@@ -90,30 +90,30 @@ no_parts unit s is = subst (λ (l : List FileSection). AreSections l s) (sym (ea
 
 part_is : (unit : AsmUnit) (i name : ℕ) (x : AsmSection) → i < length unit.sections.items → x ≡ get_or unit.sections.items i x
     → name ≡ name_at (section_names (unit_of unit)) i
-    → let value : FileSection = record { head = part_head (section_of x) name; content = x.bytes.items } in value ≡ part_section (unit_of unit) i
+    → let value : FileSection = record { head = part_head (section_value x) name; content = x.bytes.items } in value ≡ part_section (unit_of unit) i
 unfolding part_section
 part_is unit i name x lt is at =
     let v : ℕ → SectionValue → FileSection = λ n s. record { head = part_head s n; content = s.bytes } in
-    ap (λ n. v n (section_of x)) at
-    ∙ ap (v (name_at (section_names (unit_of unit)) i)) (ap section_of is ∙ sym (get_or-map section_of unit.sections.items i x no_part lt))
+    ap (λ n. v n (section_value x)) at
+    ∙ ap (v (name_at (section_names (unit_of unit)) i)) (ap section_value is ∙ sym (get_or-map section_value unit.sections.items i x no_part lt))
 
 -- one section more
 pub part_added : (unit : AsmUnit) (names : Strings) (i name : ℕ) (head : Head) (x : AsmSection) (items : List AsmSection) (content : List ℕ) (old new : Sections) → i < length items → x ≡ get_or items i x
     → items ≡ unit.sections.items → content ≡ x.bytes.items
     → IsTableOf (section_names (unit_of unit)) names
     → ((list : List (List ℕ)) → IsTableOf list names → i < length list → name ≡ name_at list i)
-    → head ≡ part_head (section_of x) name
+    → head ≡ part_head (section_value x) name
     → ((sections : List FileSection) → AreSections sections old → AreSections (sections ++ record { head = head; content = content } ∷ []) new)
     → AreSections (each_below (part_section (unit_of unit)) i) old → AreSections (each_below (part_section (unit_of unit)) (i + 1)) new
 part_added unit names i name head x items content old new lt is all held table place made added so_far =
-    let n = length-map unit.sections.items section_of in
+    let n = length-map unit.sections.items section_value in
     let m : length items ≡ length unit.sections.items = ap length all in
     let at : name ≡ name_at (section_names (unit_of unit)) i = section_name_at (unit_of unit) names i i name table place refl (omega (arith, n, m)) in
     let there : x ≡ get_or unit.sections.items i x = is ∙ ap (λ (l : List AsmSection). get_or l i x) all in
     let done : List FileSection = each_below (part_section (unit_of unit)) i in
     subst (λ (l : List FileSection). AreSections l new)
     (ap (λ (h : Head). done ++ record { head = h; content = content } ∷ []) made
-    ∙ (ap (λ (c : List ℕ). done ++ record { head = part_head (section_of x) name; content = c } ∷ []) held
+    ∙ (ap (λ (c : List ℕ). done ++ record { head = part_head (section_value x) name; content = c } ∷ []) held
     ∙ (ap (λ (s : FileSection). done ++ s ∷ []) (part_is unit i name x (omega (arith, m)) there at) ∙ sym (each_below_more (part_section (unit_of unit)) i))))
     (added done so_far)
 
@@ -125,11 +125,11 @@ no_relocations unit s done is =
 
 pub relocations_within : {T : Type 0} (items : T → List ℕ) (unit : AsmUnit) (ts : List T) (list : List ℕ) (j d : ℕ)
     → list ≡ relocated_in (unit_of unit)
-    → map items ts ≡ each_below (relocation_table unit.relocations.items) (length (map section_of unit.sections.items))
+    → map items ts ≡ each_below (relocation_table unit.relocations.items) (length (map section_value unit.sections.items))
     → j < length list → get_or list j d < length ts
 relocations_within items unit ts list j d is tables lt =
-    let n = counted items ts (relocation_table unit.relocations.items) (length (map section_of unit.sections.items)) tables in
-    let m = length-map unit.sections.items section_of in
+    let n = counted items ts (relocation_table unit.relocations.items) (length (map section_value unit.sections.items)) tables in
+    let m = length-map unit.sections.items section_value in
     let w = All-get_or (λ i. i < length unit.sections.items) list j d lt (these_within unit list is) in
     omega (arith, n, m, w)
 
@@ -217,7 +217,7 @@ whole_file s names table count begun out at counted_as first rest list are =
 pub section_small : (unit : AsmUnit) (list : List ℕ) (j : ℕ) → list ≡ relocated_in (unit_of unit) → j < length list → get_or list j 0 < 256
 section_small unit list j is lt =
     let few = unit.sound.few_sections in
-    let m = length-map unit.sections.items section_of in
+    let m = length-map unit.sections.items section_value in
     let w = All-get_or (λ i. i < length unit.sections.items) list j 0 lt (these_within unit list is) in
     omega (arith, few, m, w)
 
@@ -228,6 +228,6 @@ pub relocated_found : {T : Type 0} (items : T → List ℕ) (unit : AsmUnit) (ts
     → list ≡ relocated_in (unit_of unit)
 relocated_found items unit ts these rs count list all counted_as tables same found =
     let n : length these ≡ count = ap length same ∙ counted items ts (relocation_table rs) count tables in
-    let m : length these ≡ length (map section_of unit.sections.items) = n ∙ (counted_as ∙ part_count unit) in
+    let m : length these ≡ length (map section_value unit.sections.items) = n ∙ (counted_as ∙ part_count unit) in
     found unit.relocations.items (ap (map items) same ∙ (tables ∙ (ap (λ r. each_below (relocation_table r) count) all ∙ ap (each_below (relocation_table unit.relocations.items)) (sym n))))
     ∙ ap (relocated unit.relocations.items) m

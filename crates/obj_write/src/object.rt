@@ -4,7 +4,7 @@ ghost use Rattle.std.specs.Prelude.{◌≡◌, ◌+◌, ◌<◌, ◌^◌, ◌++�
 ghost use Rattle.elf_objects.specs.Passes.{each_below};
 ghost use Rattle.elf_objects.specs.Object.{elf_fault_of, ObjectValue, IsObject};
 ghost use Rattle.asm_text.specs.Unit.{unit_of};
-ghost use Rattle.asm_text.specs.Views.{section_of};
+ghost use Rattle.asm_text.specs.Views.{section_value};
 ghost use Rattle.obj_write.specs.internal.Strings.{IsTableOf};
 ghost use Rattle.obj_write.specs.Sections.{FileSection};
 ghost use Rattle.obj_write.specs.internal.Sections.{AreSections};
@@ -71,7 +71,7 @@ fn flags_of(kind: SectionKind) -> usize
 // The names of the unit's sections.
 fn name_parts(strings: &mut Strings, sections: &[AsmSection]) -> Result<(), AllocError>
     ensures { OnOk result ((names : List (List ℕ)) → IsTableOf names strings.old →
-        IsTableOf (names ++ part_names (map section_of sections.now)) strings.new) }
+        IsTableOf (names ++ part_names (map section_value sections.now)) strings.new) }
 {
     for section in sections {
         strings.add(section.name.as_bytes(), &[])?;
@@ -98,7 +98,7 @@ fn name_relocations(
 ) -> Result<(), AllocError>
     requires { All (λ i. i < length sections.now) relocated.now }
     ensures { OnOk result ((names : List (List ℕ)) → IsTableOf names strings.old →
-        IsTableOf (names ++ map (relocation_name (map section_of sections.now)) relocated.now) strings.new) }
+        IsTableOf (names ++ map (relocation_name (map section_value sections.now)) relocated.now) strings.new) }
 {
     for i in relocated {
         strings.add(b".rela", sections[*i].name.as_bytes())?;
@@ -121,7 +121,7 @@ fn name_sections(alloc: Global, unit: &AsmUnit, relocated: &[usize]) -> Result<S
 
 // The header of a section of the unit.
 fn part_head(section: &AsmSection, name: usize) -> Head
-    ensures { result ≡ part_head (section_of section.now) name }
+    ensures { result ≡ part_head (section_value section.now) name }
 {
     Head {
         name,

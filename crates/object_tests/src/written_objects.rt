@@ -1,7 +1,7 @@
 //! Worked objects.
 
 ghost use Rattle.std.specs.Prelude.{◌≡◌, IfOk};
-ghost use Rattle.asm_text.specs.Views.{section_of, symbol_value};
+ghost use Rattle.asm_text.specs.Views.{section_value, symbol_value};
 ghost use Rattle.object_tests.specs.internal.Rows.{text_value, here_value, main_value};
 
 use asm_text::{AsmSection, AsmSymbol, AsmUnit, SectionKind};
@@ -16,7 +16,7 @@ mod whole_file;
 const TEXT: [u8; 8] = [0x35, 0x40, 0x34, 0x12, 0x03, 0x43, 0xff, 0x3f];
 
 fn section(alloc: Global) -> Result<AsmSection, AllocError>
-    ensures { IfOk result (λ s. section_of s ≡ text_value) }
+    ensures { IfOk result (λ s. section_value s ≡ text_value) }
 {
     Ok(AsmSection {
         name: String::from_str(alloc, ".text")?,

@@ -6,20 +6,20 @@ use Rattle.asm_text.specs.declared.emission.Emission.{Emission}
 use Rattle.asm_text.specs.Emission.{Meanings, Emitted}
 use Rattle.asm_text.specs.internal.Maps.{texts_in}
 use Rattle.asm_text.specs.Parts.{SectionValue, is_name}
-use Rattle.asm_text.specs.Views.{sections_of}
+use Rattle.asm_text.specs.Views.{section_values}
 
-abbrev pub meanings_of : MeaningsKept → Meanings
-meanings_of m = record { sections = texts_in m.sections.now; spots = m.spots.now; symbols = m.symbols.now }
+abbrev pub meanings_value : MeaningsKept → Meanings
+meanings_value m = record { sections = texts_in m.sections.now; spots = m.spots.now; symbols = m.symbols.now }
 
 abbrev pub emitted_of : Emission → Emitted
-emitted_of e = record { sections = sections_of e.sections; relocations = e.relocations.items }
+emitted_of e = record { sections = section_values e.sections; relocations = e.relocations.items }
 
-abbrev pub last_of : List SectionValue → Option SectionValue
-last_of sections = slice_get sections (length sections - 1)
+abbrev pub newest_section : List SectionValue → Option SectionValue
+newest_section sections = slice_get sections (length sections - 1)
 
 -- the last section has room for so many bytes
 abbrev pub HasRoom : List SectionValue → ℕ → Type 0
-HasRoom sections size = (last : SectionValue) → last_of sections ≡ Some last → last.size + size ≤ MAX_SIZE
+HasRoom sections size = (last : SectionValue) → newest_section sections ≡ Some last → last.size + size ≤ MAX_SIZE
 
 abbrev pub AreNames : List (List ℕ) → Type 0
 AreNames names = All (λ name. is_name name ≡ true) names

@@ -3,9 +3,9 @@ use Rattle.std.specs.Prelude.{◌≢◌, ◌+◌, ◌*◌, ◌≤◌, length, Al
 use Rattle.asm_text.specs.declared.TheConstants.{MAX_ENTRIES, MAX_LABELS}
 use Rattle.asm_text.specs.internal.Emitted.{AreNames}
 use Rattle.asm_text.specs.internal.Known.{AreKnown, AreNamed}
-use Rattle.asm_text.specs.Source.{Source}
+use Rattle.asm_text.specs.Source.{SourceRead}
 
-pub record IsSource (s : Source) : Type 0 where
+pub record IsSource (s : SourceRead) : Type 0 where
   pub few_names : MAX_LABELS + length s.tables.names ≤ MAX_ENTRIES
   pub few_statements : 2 * length s.statements ≤ MAX_ENTRIES
   pub known : AreKnown (length s.tables.names) s.statements

@@ -2,5 +2,5 @@
 use Rattle.std.specs.Prelude.{ℕ, Bool, false, not, List, slice_index_or}
 
 -- whether these say of a name that it is not global
-abbrev pub is_local : List Bool → ℕ → Bool
-is_local globals k = not (slice_index_or globals k false)
+abbrev pub is_local_name : List Bool → ℕ → Bool
+is_local_name globals k = not (slice_index_or globals k false)

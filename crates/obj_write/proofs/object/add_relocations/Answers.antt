@@ -1,6 +1,6 @@
 use Rattle.std.proofs.Common.{◌≡◌, ◌+◌, ◌∙◌, ap, sym, get_or, length, map, arith}
 use Rattle.asm_text.specs.Unit.{unit_of}
-use Rattle.asm_text.specs.Views.{section_of}
+use Rattle.asm_text.specs.Views.{section_value}
 use Rattle.obj_write.specs.Relocations.{relocation_table}
 use Rattle.obj_write.proofs.ObjectLemmas.{no_relocations, relocations_within, relocation_added, section_small, table_at, part_count}
 use Rattle.obj_write.proofs.object.add_relocations.Goals as goal
@@ -21,13 +21,13 @@ pub loop-j-preserved : goal.loop-j-preserved
 loop-j-preserved c = λ done is.
     let unit = unit_of c.args.unit.now in
     let section = get_or c.args.relocated.now c.loop-j.j 0 in
-    let count : c.len-count.result ≡ length (map section_of c.args.unit.now.sections.items) = c.len-count.ensures ∙ part_count c.args.unit.now in
+    let count : c.len-count.result ≡ length (map section_value c.args.unit.now.sections.items) = c.len-count.ensures ∙ part_count c.args.unit.now in
     let there = relocations_within (λ t. t.items) c.args.unit.now c.args.tables.now c.args.relocated.now c.loop-j.j 0 c.requires.relocated c.requires.tables c.loop-j-test.true in
     let lasts = ap length c.requires.relocated in
     relocation_added unit c.args.names.now c.loop-j.j (c.len-count.result + 3 + c.loop-j.j) c.place.result section c.len.result (c.len-count.result + 1)
     c.deref.result.now c.relocations_head-head.result c.loop-j.sections c.add.new.self done
     (omega (arith, lasts)) c.requires.names c.place.ensures (ap (λ n. n + 3 + c.loop-j.j) count)
     (ap (λ l. get_or l c.loop-j.j 0) c.requires.relocated)
-    (c.deref.ensures.value ∙ table_at (λ t. t.items) c.args.tables.now c.index-tables-i.result (relocation_table c.args.unit.now.relocations.items) (length (map section_of c.args.unit.now.sections.items)) section there c.index-tables-i.is c.requires.tables)
+    (c.deref.ensures.value ∙ table_at (λ t. t.items) c.args.tables.now c.index-tables-i.result (relocation_table c.args.unit.now.relocations.items) (length (map section_value c.args.unit.now.sections.items)) section there c.index-tables-i.is c.requires.tables)
     (c.len.ensures ∙ (c.index-tables-i.result.ok.0 ∙ sym (ap length c.deref.ensures.value)))
     (ap (λ n. n + 1) count) c.relocations_head-head.ensures c.in_ok-add.ensures (c.loop-j.invariant done is)

@@ -1,6 +1,6 @@
 use Rattle.std.proofs.Common.{◌≡◌, ◌+◌, ◌∙◌, ap, sym, length, map, refl, arith, ◌++◌, ◌∷◌, []}
 use Rattle.asm_text.specs.Unit.{unit_of}
-use Rattle.asm_text.specs.Views.{section_of}
+use Rattle.asm_text.specs.Views.{section_value}
 use Rattle.obj_write.specs.Strings.{string_table, name_at}
 use Rattle.obj_write.specs.Symbols.{symbol_names}
 use Rattle.obj_write.specs.Object.{section_names, symtab_section, strtab_section, shstrtab_section}
@@ -11,7 +11,7 @@ use Rattle.obj_write.proofs.UnitLemmas.{strtab_parts, shstrtab_parts}
 pub returns : goal.returns
 returns c = λ done is.
     let unit = unit_of c.args.unit.now in
-    let count : c.len-count.result ≡ length (map section_of c.args.unit.now.sections.items) = c.len-count.ensures ∙ part_count c.args.unit.now in
+    let count : c.len-count.result ≡ length (map section_value c.args.unit.now.sections.items) = c.len-count.ensures ∙ part_count c.args.unit.now in
     let at = section_name_at unit c.args.names.now (length unit.sections) c.len-count.result c.place.result c.requires.names c.place.ensures count (omega arith) in
     let at2 = section_name_at unit c.args.names.now (length unit.sections + 1) (c.len-count.result + 1) c.place-2.result c.requires.names c.place-2.ensures (ap (λ n. n + 1) count) (omega arith) in
     let at3 = section_name_at unit c.args.names.now (length unit.sections + 2) (c.len-count.result + 2) c.place-3.result c.requires.names c.place-3.ensures (ap (λ n. n + 2) count) (omega arith) in
