@@ -22,13 +22,13 @@ use Rattle.asm_text.specs.declared.unit.SectionKind.TheVariants.{Code}
 use Rattle.asm_text.specs.declared.unit.AsmRelocation.{AsmRelocation}
 use Rattle.asm_text.specs.Parts.{SymbolValue, UnitValue, IsUnit, IsSymbolValue, IsAsmRelocation}
 use Rattle.elf_objects.specs.Numbers.{symbol_size}
-use Rattle.obj_write.specs.Bytes.{half_bytes, word_bytes, zeros}
+use Rattle.obj_write.specs.Bytes.{half_bytes, long_bytes, zeros}
 use Rattle.obj_write.specs.Strings.{terminated, string_table, name_at}
 use Rattle.obj_write.specs.Sections.{FileSection, no_section, content_at}
 use Rattle.obj_write.specs.Symbols.{no_symbol, info_of, home_index, symbol_entry, symbol_entry_at, symbol_names}
 use Rattle.obj_write.specs.Symbols as own
 use Rattle.obj_write.specs.Relocations.{relocation_entry, relocation_table, relocations_in}
-use Rattle.obj_write.specs.Object.{no_part, kind_of, symbols_head, strings_head, relocations_head, symtab_index, shstrtab_index, relocated_in, section_names, file_sections, object_of}
+use Rattle.obj_write.specs.Object.{no_part, section_type, symbols_head, strings_head, relocations_head, symtab_index, shstrtab_index, relocated_in, object_section_names, file_sections, object_of}
 use Rattle.obj_write.specs.Reader.{no_relocation}
 use Rattle.obj_write.proofs.ReadLemmas.{Stands, stands_left, stands_right, stands_below, stands_each, length_below, word_read, word_low, half_read, byte_read, header}
 use Rattle.obj_write.proofs.FileLemmas.{nothing_below, no_head}
@@ -42,10 +42,10 @@ use Rattle.obj_write.proofs.LinkLemmas.{first_table, no_link_faults, both_none, 
 -- ---- the table of symbols
 
 abbrev pub symbols_read : UnitValue → Header
-symbols_read unit = header (record (symbols_head (name_at (section_names unit) (length unit.sections)) (length (own.symbol_table unit.symbols)) unit) { offset = content_at (file_sections unit) (length unit.sections + 0) })
+symbols_read unit = header (record (symbols_head (name_at (object_section_names unit) (length unit.sections)) (length (own.symbol_table_bytes unit.symbols)) unit) { offset = content_at (file_sections unit) (length unit.sections + 0) })
 
 abbrev pub strings_read : UnitValue → Header
-strings_read unit = header (record (strings_head (name_at (section_names unit) (length unit.sections + 1)) (length (string_table (symbol_names unit.symbols)))) { offset = content_at (file_sections unit) (length unit.sections + 1) })
+strings_read unit = header (record (strings_head (name_at (object_section_names unit) (length unit.sections + 1)) (length (string_table (symbol_names unit.symbols)))) { offset = content_at (file_sections unit) (length unit.sections + 1) })
 
 pub symbols_header_is : (unit : UnitValue) → IsUnit unit → symbols_header (object_of unit) ≡ Some (symbols_read unit)
 unfolding symbols_header
@@ -54,11 +54,11 @@ symbols_header_is unit is = ap (option_map (header_of (object_of unit))) (first_
 pub symbol_count : (unit : UnitValue) → count_in (symbols_read unit) ≡ suc (length unit.symbols)
 symbol_count unit = let n = length_symbols unit.symbols in omega (arith, n)
 
-symbols_stand : (unit : UnitValue) → IsUnit unit → Stands (object_of unit) (symbols_read unit).offset (own.symbol_table unit.symbols)
+symbols_stand : (unit : UnitValue) → IsUnit unit → Stands (object_of unit) (symbols_read unit).offset (own.symbol_table_bytes unit.symbols)
 symbols_stand unit is =
     let k : ℕ = length unit.sections + 0 in
     let n = length_sections unit in
-    let same : (get_or (file_sections unit) k no_section).content ≡ own.symbol_table unit.symbols = ap (λ (t : FileSection). t.content) (symtab_at unit) ∙ (symtab_parts unit).1 in
+    let same : (get_or (file_sections unit) k no_section).content ≡ own.symbol_table_bytes unit.symbols = ap (λ (t : FileSection). t.content) (symtab_at unit) ∙ (symtab_parts unit).1 in
     subst (λ (l : List ℕ). Stands (object_of unit) (content_at (file_sections unit) k) l) same
     (content_stands (file_sections unit) (shstrtab_index unit) (object_of unit) k (unit_laid unit is) (omega (arith, n)))
 
@@ -81,8 +81,8 @@ strings_content unit is =
 
 -- ---- an entry of it
 
-entry_stands_by : (file : List ℕ) (at : ℕ) (symbols : List SymbolValue) (k : ℕ) → k < length symbols → Stands file at (own.symbol_table symbols) → Stands file (at + 16 * suc k) (symbol_entry_at symbols k)
-unfolding own.symbol_table
+entry_stands_by : (file : List ℕ) (at : ℕ) (symbols : List SymbolValue) (k : ℕ) → k < length symbols → Stands file at (own.symbol_table_bytes symbols) → Stands file (at + 16 * suc k) (symbol_entry_at symbols k)
+unfolding own.symbol_table_bytes
 entry_stands_by file at symbols k lt s =
     let f : ℕ → List ℕ = symbol_entry_at symbols in
     let r = stands_right file at (at + 16) (zeros symbol_size) (all_below f (length symbols)) refl s in
@@ -106,16 +106,16 @@ unfolding table_entry symbol_entry
 entry_read file table index name s small home stands =
     let at : ℕ = table.offset + 16 * index in
     let t₃ : List ℕ = info_of s.global ∷ (0 ∷ half_bytes (home_index s.home)) in
-    let t₂ : List ℕ = word_bytes 0 ++ t₃ in
-    let t₁ : List ℕ = word_bytes s.value ++ t₂ in
-    let s₁ = stands_right file at (at + 4) (word_bytes name) t₁ refl stands in
-    let s₂ = stands_right file (at + 4) (at + 8) (word_bytes s.value) t₂ (omega arith) s₁ in
-    let s₃ = stands_right file (at + 8) (at + 12) (word_bytes 0) t₃ (omega arith) s₂ in
+    let t₂ : List ℕ = long_bytes 0 ++ t₃ in
+    let t₁ : List ℕ = long_bytes s.value ++ t₂ in
+    let s₁ = stands_right file at (at + 4) (long_bytes name) t₁ refl stands in
+    let s₂ = stands_right file (at + 4) (at + 8) (long_bytes s.value) t₂ (omega arith) s₁ in
+    let s₃ = stands_right file (at + 8) (at + 12) (long_bytes 0) t₃ (omega arith) s₂ in
     let s₄ = stands_right file (at + 12) (at + 14) (info_of s.global ∷ (0 ∷ [])) (half_bytes (home_index s.home)) (omega arith) s₃ in
     record {
-      name_is = word_read file at name small (stands_left file at (word_bytes name) t₁ stands);
-      value = word_low file (at + 4) s.value (stands_left file (at + 4) (word_bytes s.value) t₂ s₁);
-      size = word_read file (at + 8) 0 (omega arith) (stands_left file (at + 8) (word_bytes 0) t₃ s₂);
+      name_is = word_read file at name small (stands_left file at (long_bytes name) t₁ stands);
+      value = word_low file (at + 4) s.value (stands_left file (at + 4) (long_bytes s.value) t₂ s₁);
+      size = word_read file (at + 8) 0 (omega arith) (stands_left file (at + 8) (long_bytes 0) t₃ s₂);
       binding = ap (λ n. n / 16) (byte_read file (at + 12) (info_of s.global) (0 ∷ half_bytes (home_index s.home)) s₃);
       section = half_read file (at + 14) (home_index s.home) home s₄;
     }
@@ -192,7 +192,7 @@ no_symbol_faults unit is =
 -- ---- relocations
 
 abbrev pub relocations_head_read : UnitValue → ℕ → Header
-relocations_head_read unit j = header (record (relocations_head (name_at (section_names unit) (length unit.sections + 3 + j)) (length (relocation_table unit.relocations (target_of unit j))) (symtab_index unit) (target_of unit j)) { offset = content_at (file_sections unit) (length unit.sections + (3 + j)) })
+relocations_head_read unit j = header (record (relocations_head (name_at (object_section_names unit) (length unit.sections + 3 + j)) (length (relocation_table unit.relocations (target_of unit j))) (symtab_index unit) (target_of unit j)) { offset = content_at (file_sections unit) (length unit.sections + (3 + j)) })
 
 pub relocations_stand : (unit : UnitValue) → IsUnit unit → (j : ℕ) → j < length (relocated_in unit) → Stands (object_of unit) (relocations_head_read unit j).offset (relocation_table unit.relocations (target_of unit j))
 relocations_stand unit is j lt =
@@ -216,9 +216,9 @@ pub info_read : (file : List ℕ) (at : ℕ) (r : AsmRelocation) → r.symbol < 
 unfolding relocation_entry
 info_read file at r few s =
     let info : ℕ = (r.symbol + 1) * 256 + 5 in
-    let t₂ : List ℕ = word_bytes 0 ++ [] in
-    let t₁ : List ℕ = word_bytes info ++ t₂ in
-    word_read file (at + 4) info (omega arith) (stands_left file (at + 4) (word_bytes info) t₂ (stands_right file at (at + 4) (word_bytes r.offset) t₁ refl s))
+    let t₂ : List ℕ = long_bytes 0 ++ [] in
+    let t₁ : List ℕ = long_bytes info ++ t₂ in
+    word_read file (at + 4) info (omega arith) (stands_left file (at + 4) (long_bytes info) t₂ (stands_right file at (at + 4) (long_bytes r.offset) t₁ refl s))
 
 relocation_entry_by : (unit : UnitValue) → IsUnit unit → (j i symbols : ℕ) → j < length (relocated_in unit) → symbols ≡ suc (length unit.symbols)
     → (e : ℕ) → e < (relocations_head_read unit j).size / 12 → entry_fault (object_of unit) symbols i (relocations_head_read unit j) e ≡ None
@@ -254,7 +254,7 @@ kept_by file symbols i h e each =
       by true none = none
       by false none = refl
 
-part_kind : (K : SectionKind) → eqb (kind_of K) 4 ≡ false
+part_kind : (K : SectionKind) → eqb (section_type K) 4 ≡ false
 part_kind Code = refl
 part_kind _ = refl
 

@@ -14,7 +14,7 @@ use Rattle.asm_text.specs.declared.unit.SectionKind.TheVariants.{Code, Data, Bss
 use Rattle.asm_text.specs.Parts.{SectionValue, UnitValue, IsUnit, IsSectionValue, kept_size}
 use Rattle.obj_write.specs.Strings.{string_table, name_at}
 use Rattle.obj_write.specs.Sections.{FileSection, no_section, content_at}
-use Rattle.obj_write.specs.Object.{no_part, kind_of, flags_of, strings_head, relocated_in, section_names, file_sections, shstrtab_index, object_of}
+use Rattle.obj_write.specs.Object.{no_part, section_type, flags_of, strings_head, relocated_in, object_section_names, file_sections, shstrtab_index, object_of}
 use Rattle.obj_write.proofs.ReadLemmas.{Stands, header}
 use Rattle.obj_write.proofs.FileLemmas.{nothing_below, no_head}
 use Rattle.obj_write.proofs.ObjectLemmas.{length_names}
@@ -36,7 +36,7 @@ unfolding section_fault
 zero_section unit is = rw (zero_header unit is) refl
 
 part_sound : (K : SectionKind) (len at size bytes : ℕ) (f : ElfFault) → bytes ≡ kept_size K size → at + bytes ≤ len
-    → refuse_if ((not (eqb (kind_of K) 0 || eqb (kind_of K) 8) && ltb len (at + size)) || (is_loaded (kind_of K) (flags_of K) && not (is_alignment 2))) f ≡ None
+    → refuse_if ((not (eqb (section_type K) 0 || eqb (section_type K) 8) && ltb len (at + size)) || (is_loaded (section_type K) (flags_of K) && not (is_alignment 2))) f ≡ None
 part_sound Code len at size bytes f e le = let p : ltb len (at + size) ≡ false = le-ltb len (at + size) (omega arith) in rw p refl
 part_sound Data len at size bytes f e le = let p : ltb len (at + size) ≡ false = le-ltb len (at + size) (omega arith) in rw p refl
 part_sound Bss len at size bytes f e le = refl
@@ -90,7 +90,7 @@ unfolding compressed_fault
 compressed_by file i h e flat =
     ap (λ (x : Header). refuse_if (is_loaded_header x && eqb (x.flags / 2048 % 2) 1) (fault.Compressed i)) e ∙ ap (λ b. refuse_if b (fault.Compressed i)) flat
 
-part_flags : (K : SectionKind) → (is_loaded (kind_of K) (flags_of K) && eqb (flags_of K / 2048 % 2) 1) ≡ false
+part_flags : (K : SectionKind) → (is_loaded (section_type K) (flags_of K) && eqb (flags_of K / 2048 % 2) 1) ≡ false
 part_flags Code = refl
 part_flags _ = refl
 
@@ -113,7 +113,7 @@ rel_by file i h e other =
     ap (λ (x : Header). refuse_if (eqb x.kind 9 && is_loaded_header (header_of file x.info)) (fault.RelSection i)) e
     ∙ ap (λ b. refuse_if (b && is_loaded_header (header_of file h.info)) (fault.RelSection i)) other
 
-part_kind : (K : SectionKind) → eqb (kind_of K) 9 ≡ false
+part_kind : (K : SectionKind) → eqb (section_type K) 9 ≡ false
 part_kind Code = refl
 part_kind _ = refl
 
@@ -135,28 +135,28 @@ no_rel_faults unit is =
 pub names_at : (unit : UnitValue) → IsUnit unit → name_table (object_of unit) ≡ suc (length unit.sections + 2)
 names_at unit is = let l = unit_laid unit is in let e = l.strings in omega (arith, e)
 
-pub names_content : (unit : UnitValue) → IsUnit unit → content (object_of unit) (header_of (object_of unit) (name_table (object_of unit))) ≡ string_table (section_names unit)
+pub names_content : (unit : UnitValue) → IsUnit unit → content (object_of unit) (header_of (object_of unit) (name_table (object_of unit))) ≡ string_table (object_section_names unit)
 names_content unit is =
     let file : List ℕ = object_of unit in
     let k : ℕ = length unit.sections + 2 in
-    let h : Header = header (record (strings_head (name_at (section_names unit) (length unit.sections + 2)) (length (string_table (section_names unit)))) { offset = content_at (file_sections unit) k }) in
+    let h : Header = header (record (strings_head (name_at (object_section_names unit) (length unit.sections + 2)) (length (string_table (object_section_names unit)))) { offset = content_at (file_sections unit) k }) in
     let n = length_sections unit in
     let stands = content_stands (file_sections unit) (shstrtab_index unit) file k (unit_laid unit is) (omega (arith, n)) in
-    let same : (get_or (file_sections unit) k no_section).content ≡ string_table (section_names unit) = ap (λ (t : FileSection). t.content) (shstrtab_at unit) ∙ (shstrtab_parts unit).1 in
+    let same : (get_or (file_sections unit) k no_section).content ≡ string_table (object_section_names unit) = ap (λ (t : FileSection). t.content) (shstrtab_at unit) ∙ (shstrtab_parts unit).1 in
     ap (λ i. content file (header_of file i)) (names_at unit is)
     ∙ (ap (content file) (shstrtab_read unit is)
-    ∙ content_read file h (string_table (section_names unit)) refl (subst (λ (l : List ℕ). Stands file (content_at (file_sections unit) k) l) same stands))
+    ∙ content_read file h (string_table (object_section_names unit)) refl (subst (λ (l : List ℕ). Stands file (content_at (file_sections unit) k) l) same stands))
 
-name_by : (unit : UnitValue) → IsUnit unit → (i at end : ℕ) → (header_of (object_of unit) i).name ≡ at → end_in (string_table (section_names unit)) at ≡ Some end → name_fault (object_of unit) i ≡ None
+name_by : (unit : UnitValue) → IsUnit unit → (i at end : ℕ) → (header_of (object_of unit) i).name ≡ at → end_in (string_table (object_section_names unit)) at ≡ Some end → name_fault (object_of unit) i ≡ None
 unfolding name_fault name_end
 name_by unit is i at end e ends =
     ap (λ l. refuse_if (is_none (end_in l ((header_of (object_of unit) i).name))) (fault.Name i)) (names_content unit is)
-    ∙ (ap (λ n. refuse_if (is_none (end_in (string_table (section_names unit)) n)) (fault.Name i)) e
+    ∙ (ap (λ n. refuse_if (is_none (end_in (string_table (object_section_names unit)) n)) (fault.Name i)) e
     ∙ ap (λ (o : Option ℕ). refuse_if (is_none o) (fault.Name i)) ends)
 
 section_name_ends : (unit : UnitValue) → IsUnit unit → (k : ℕ) → k < length unit.sections + (3 + length (relocated_in unit))
-    → end_in (string_table (section_names unit)) (name_at (section_names unit) k) ≡ Some (name_at (section_names unit) k + length (get_or (section_names unit) k []))
-section_name_ends unit is k lt = let n = length_names unit in name_ends (section_names unit) 69 k (omega (arith, n)) (section_strings unit is)
+    → end_in (string_table (object_section_names unit)) (name_at (object_section_names unit) k) ≡ Some (name_at (object_section_names unit) k + length (get_or (object_section_names unit) k []))
+section_name_ends unit is k lt = let n = length_names unit in name_ends (object_section_names unit) 69 k (omega (arith, n)) (section_strings unit is)
 
 pub no_name_faults : (unit : UnitValue) → IsUnit unit → name_faults (object_of unit) ≡ None
 unfolding name_faults
@@ -165,7 +165,7 @@ no_name_faults unit is =
     let n : ℕ = length unit.sections in
     nothing_below (name_fault file) (section_count file)
     (every_index (λ i. name_fault file i ≡ None) unit is
-    (name_by unit is 0 0 0 (ap (λ (h : Header). h.name) (zero_header unit is)) (no_name_ends (section_names unit)))
+    (name_by unit is 0 0 0 (ap (λ (h : Header). h.name) (zero_header unit is)) (no_name_ends (object_section_names unit)))
     (λ k lt. name_by unit is (suc k) _ _ (ap (λ (h : Header). h.name) (part_read unit is k lt)) (section_name_ends unit is k (omega arith)))
     (name_by unit is (suc (n + 0)) _ _ (ap (λ (h : Header). h.name) (symtab_read unit is)) (section_name_ends unit is n (omega arith)))
     (name_by unit is (suc (n + 1)) _ _ (ap (λ (h : Header). h.name) (strtab_read unit is)) (section_name_ends unit is (n + 1) (omega arith)))

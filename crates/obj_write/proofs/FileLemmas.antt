@@ -8,9 +8,9 @@ use Rattle.elf_objects.specs.Header.{table_offset, section_count, name_table, he
 use Rattle.elf_objects.specs.Section.{header_of}
 use Rattle.obj_write.specs.declared.sections.Head.{Head}
 use Rattle.elf_objects.specs.Numbers.{file_header_size, section_header_size}
-use Rattle.obj_write.specs.Bytes.{half_bytes, word_bytes, zeros}
-use Rattle.obj_write.specs.Sections.{FileSection, contents_of, head_of, head_bytes, header_table}
-use Rattle.obj_write.specs.Object.{identification, file_header, file_of}
+use Rattle.obj_write.specs.Bytes.{half_bytes, long_bytes, zeros}
+use Rattle.obj_write.specs.Sections.{FileSection, padded_contents, head_of, head_bytes, header_table}
+use Rattle.obj_write.specs.Object.{identification, file_header, file_bytes}
 use Rattle.obj_write.proofs.ReadLemmas.{Stands, stands_left, stands_right, stands_within, word_read, half_read, byte_read, IsSmall, header, header_read, stands_below, length_below}
 
 -- ---- tests
@@ -34,11 +34,11 @@ table_fault_none file size short = rw (size, short) refl
 
 -- where the table of headers stands
 abbrev pub table_place : List FileSection → ℕ
-table_place sections = file_header_size + length (contents_of sections)
+table_place sections = file_header_size + length (padded_contents sections)
 
 -- what is read of a file of sections
 pub record IsLaid (sections : List FileSection) (names : ℕ) (file : List ℕ) : Type 0 where
-  pub contents : Stands file file_header_size (contents_of sections)
+  pub contents : Stands file file_header_size (padded_contents sections)
   pub headers : Stands file (table_place sections) (header_table sections)
   pub table : table_offset file ≡ table_place sections
   pub count : section_count file ≡ length sections + 1
@@ -84,39 +84,39 @@ headed file table count names small few low s =
     let t₁₀ : List ℕ = half_bytes 0 ++ t₁₁ in
     let t₉ : List ℕ = half_bytes 0 ++ t₁₀ in
     let t₈ : List ℕ = half_bytes 52 ++ t₉ in
-    let t₇ : List ℕ = word_bytes 0 ++ t₈ in
-    let t₆ : List ℕ = word_bytes table ++ t₇ in
-    let t₅ : List ℕ = word_bytes 0 ++ t₆ in
-    let t₄ : List ℕ = word_bytes 0 ++ t₅ in
-    let t₃ : List ℕ = word_bytes 1 ++ t₄ in
+    let t₇ : List ℕ = long_bytes 0 ++ t₈ in
+    let t₆ : List ℕ = long_bytes table ++ t₇ in
+    let t₅ : List ℕ = long_bytes 0 ++ t₆ in
+    let t₄ : List ℕ = long_bytes 0 ++ t₅ in
+    let t₃ : List ℕ = long_bytes 1 ++ t₄ in
     let t₂ : List ℕ = half_bytes 105 ++ t₃ in
     let t₁ : List ℕ = half_bytes 1 ++ t₂ in
     let i₁ : List ℕ = 1 ∷ (1 ∷ (1 ∷ (zeros 9 ++ t₁))) in
     let s₁ = stands_right file 0 16 identification t₁ refl s in
     let s₂ = stands_right file 16 18 (half_bytes 1) t₂ refl s₁ in
     let s₃ = stands_right file 18 20 (half_bytes 105) t₃ refl s₂ in
-    let s₄ = stands_right file 20 24 (word_bytes 1) t₄ refl s₃ in
-    let s₅ = stands_right file 24 28 (word_bytes 0) t₅ refl s₄ in
-    let s₆ = stands_right file 28 32 (word_bytes 0) t₆ refl s₅ in
-    let s₇ = stands_right file 32 36 (word_bytes table) t₇ refl s₆ in
-    let s₈ = stands_right file 36 40 (word_bytes 0) t₈ refl s₇ in
+    let s₄ = stands_right file 20 24 (long_bytes 1) t₄ refl s₃ in
+    let s₅ = stands_right file 24 28 (long_bytes 0) t₅ refl s₄ in
+    let s₆ = stands_right file 28 32 (long_bytes 0) t₆ refl s₅ in
+    let s₇ = stands_right file 32 36 (long_bytes table) t₇ refl s₆ in
+    let s₈ = stands_right file 36 40 (long_bytes 0) t₈ refl s₇ in
     let s₉ = stands_right file 40 42 (half_bytes 52) t₉ refl s₈ in
     let s₁₀ = stands_right file 42 44 (half_bytes 0) t₁₀ refl s₉ in
     let s₁₁ = stands_right file 44 46 (half_bytes 0) t₁₁ refl s₁₀ in
     let s₁₂ = stands_right file 46 48 (half_bytes 40) t₁₂ refl s₁₁ in
     let s₁₃ = stands_right file 48 50 (half_bytes count) t₁₃ refl s₁₂ in
-    let b₄ = stands_right file 0 4 (word_bytes 0x464c457f) i₁ refl s in
+    let b₄ = stands_right file 0 4 (long_bytes 0x464c457f) i₁ refl s in
     let b₅ = stands_right file 4 5 (1 ∷ []) (1 ∷ (1 ∷ (zeros 9 ++ t₁))) refl b₄ in
     let b₆ = stands_right file 5 6 (1 ∷ []) (1 ∷ (zeros 9 ++ t₁)) refl b₅ in
     record {
-      magic = word_read file 0 0x464c457f (omega arith) (stands_left file 0 (word_bytes 0x464c457f) i₁ s);
+      magic = word_read file 0 0x464c457f (omega arith) (stands_left file 0 (long_bytes 0x464c457f) i₁ s);
       class = byte_read file 4 1 (1 ∷ (1 ∷ (zeros 9 ++ t₁))) b₄;
       order = byte_read file 5 1 (1 ∷ (zeros 9 ++ t₁)) b₅;
       version = byte_read file 6 1 (zeros 9 ++ t₁) b₆;
       kind = half_read file 16 1 (omega arith) (stands_left file 16 (half_bytes 1) t₂ s₁);
       machine = half_read file 18 105 (omega arith) (stands_left file 18 (half_bytes 105) t₃ s₂);
-      version_too = word_read file 20 1 (omega arith) (stands_left file 20 (word_bytes 1) t₄ s₃);
-      table_at = word_read file 32 table small (stands_left file 32 (word_bytes table) t₇ s₆);
+      version_too = word_read file 20 1 (omega arith) (stands_left file 20 (long_bytes 1) t₄ s₃);
+      table_at = word_read file 32 table small (stands_left file 32 (long_bytes table) t₇ s₆);
       entry = half_read file 46 40 (omega arith) (stands_left file 46 (half_bytes 40) t₁₂ s₁₁);
       counted = half_read file 48 count few (stands_left file 48 (half_bytes count) t₁₃ s₁₂);
       strings_at = half_read file 50 names low s₁₃;
@@ -126,21 +126,21 @@ length_first : (table count names : ℕ) → length (file_header table count nam
 unfolding file_header
 length_first table count names = refl
 
-pub laid : (sections : List FileSection) (names : ℕ) → table_place sections < 2 ^ 32 → length sections + 1 < 2 ^ 16 → names < 2 ^ 16 → IsLaid sections names (file_of sections names)
-unfolding file_of
+pub laid : (sections : List FileSection) (names : ℕ) → table_place sections < 2 ^ 32 → length sections + 1 < 2 ^ 16 → names < 2 ^ 16 → IsLaid sections names (file_bytes sections names)
+unfolding file_bytes
 laid sections names small few low =
-    let file : List ℕ = file_of sections names in
+    let file : List ℕ = file_bytes sections names in
     let first : List ℕ = file_header (table_place sections) (length sections + 1) names in
-    let s = stands_whole file (first ++ (contents_of sections ++ header_table sections)) refl in
-    let h = headed file (table_place sections) (length sections + 1) names small few low (stands_left file 0 first (contents_of sections ++ header_table sections) s) in
+    let s = stands_whole file (first ++ (padded_contents sections ++ header_table sections)) refl in
+    let h = headed file (table_place sections) (length sections + 1) names small few low (stands_left file 0 first (padded_contents sections ++ header_table sections) s) in
     let fifty_two : length first ≡ 52 = length_first (table_place sections) (length sections + 1) names in
-    let r = stands_right file 0 52 first (contents_of sections ++ header_table sections) (omega (arith, fifty_two)) s in
-    let t = stands_right file 52 (table_place sections) (contents_of sections) (header_table sections) refl r in
+    let r = stands_right file 0 52 first (padded_contents sections ++ header_table sections) (omega (arith, fifty_two)) s in
+    let t = stands_right file 52 (table_place sections) (padded_contents sections) (header_table sections) refl r in
     let within = stands_within file (table_place sections) (header_table sections) t in
     let n = length_headers sections in
     let ends : table_offset file + 40 * section_count file ≤ length file = let a = h.table_at in let b = ap (λ k. 40 * k) h.counted in omega (arith, within, n, a, b) in
     record {
-      contents = stands_left file 52 (contents_of sections) (header_table sections) r;
+      contents = stands_left file 52 (padded_contents sections) (header_table sections) r;
       headers = t;
       table = h.table_at;
       count = h.counted;

@@ -22,11 +22,11 @@ use Rattle.asm_text.specs.declared.unit.SectionKind.{SectionKind}
 use Rattle.asm_text.specs.declared.unit.SectionKind.TheVariants.{Code}
 use Rattle.asm_text.specs.declared.unit.AsmRelocation.{AsmRelocation}
 use Rattle.asm_text.specs.Parts.{SectionValue, SymbolValue, UnitValue, IsUnit, IsSymbolValue, IsAsmRelocation}
-use Rattle.obj_write.specs.Bytes.{word_bytes}
+use Rattle.obj_write.specs.Bytes.{long_bytes}
 use Rattle.obj_write.specs.Strings.{string_table}
 use Rattle.obj_write.specs.Symbols.{no_symbol, info_of, home_index, symbol_names}
 use Rattle.obj_write.specs.Relocations.{relocation_entry, relocations_in}
-use Rattle.obj_write.specs.Object.{no_part, kind_of, flags_of, relocated_in, object_of}
+use Rattle.obj_write.specs.Object.{no_part, section_type, flags_of, relocated_in, object_of}
 use Rattle.obj_write.specs.Reader.{IsPartRead, IsSymbolOf, binding_read, home_read, no_relocation, relocation_read, table_read, IsObjectOf}
 use Rattle.obj_write.proofs.PassLemmas.{each_below_same}
 use Rattle.obj_write.proofs.ReadLemmas.{Stands, stands_left, stands_right, word_read, word_low, header}
@@ -91,16 +91,16 @@ relocation_same a b c d e f a' b' c' d' e' f' g g' p₁ p₂ p₃ p₄ p₅ p₆
 
 offset_read : (file : List ℕ) (at : ℕ) (r : AsmRelocation) → Stands file at (relocation_entry r) → long_at file at ≡ r.offset % 2 ^ 32
 unfolding relocation_entry
-offset_read file at r s = word_low file at r.offset (stands_left file at (word_bytes r.offset) (word_bytes ((r.symbol + 1) * 256 + 5) ++ (word_bytes 0 ++ [])) s)
+offset_read file at r s = word_low file at r.offset (stands_left file at (long_bytes r.offset) (long_bytes ((r.symbol + 1) * 256 + 5) ++ (long_bytes 0 ++ [])) s)
 
 addend_read : (file : List ℕ) (at : ℕ) (r : AsmRelocation) → Stands file at (relocation_entry r) → long_at file (at + 8) ≡ 0
 unfolding relocation_entry
 addend_read file at r s =
-    let info : List ℕ = word_bytes ((r.symbol + 1) * 256 + 5) in
-    let t₂ : List ℕ = word_bytes 0 ++ [] in
-    let s₁ = stands_right file at (at + 4) (word_bytes r.offset) (info ++ t₂) refl s in
+    let info : List ℕ = long_bytes ((r.symbol + 1) * 256 + 5) in
+    let t₂ : List ℕ = long_bytes 0 ++ [] in
+    let s₁ = stands_right file at (at + 4) (long_bytes r.offset) (info ++ t₂) refl s in
     let s₂ = stands_right file (at + 4) (at + 8) info t₂ (omega arith) s₁ in
-    word_read file (at + 8) 0 (omega arith) (stands_left file (at + 8) (word_bytes 0) [] s₂)
+    word_read file (at + 8) 0 (omega arith) (stands_left file (at + 8) (long_bytes 0) [] s₂)
 
 relocation_given : (unit : UnitValue) → IsUnit unit → (j : ℕ) → j < length (relocated_in unit) → (e : ℕ) → e < length (relocations_in unit.relocations (target_of unit j))
     → relocation_of (object_of unit) (suc (length unit.sections + (3 + j))) (relocations_head_read unit j) e
@@ -121,7 +121,7 @@ relocation_given unit is j lt e inside =
     relocation_same _ _ _ _ _ _ (length unit.sections + 4 + j) e (target + 1) (r.offset % 2 ^ 32) (r.symbol + 1) 5 _ (pos 0)
     (omega arith) refl refl (offset_read file at r stands) (omega (arith, info)) (omega (arith, info)) (ap (cast_signed w32) (addend_read file at r stands))
 
-part_loaded : (K : SectionKind) → is_loaded (kind_of K) (flags_of K) ≡ true
+part_loaded : (K : SectionKind) → is_loaded (section_type K) (flags_of K) ≡ true
 part_loaded Code = refl
 part_loaded _ = refl
 
@@ -159,7 +159,7 @@ none_at file i h e other =
     ap (λ (x : Header). cond (is_kept_table file x) (each_below (relocation_of file i x) (x.size / 12)) []) e
     ∙ not_chosen (is_kept_table file h) (each_below (relocation_of file i h) (h.size / 12)) [] other
 
-part_not_kept : (K : SectionKind) (x : Bool) → (eqb (kind_of K) 4 && x) ≡ false
+part_not_kept : (K : SectionKind) (x : Bool) → (eqb (section_type K) 4 && x) ≡ false
 part_not_kept Code x = refl
 part_not_kept _ x = refl
 

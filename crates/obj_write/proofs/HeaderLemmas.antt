@@ -9,12 +9,12 @@ use Rattle.asm_text.specs.declared.unit.SectionKind.{SectionKind}
 use Rattle.asm_text.specs.declared.unit.SectionKind.TheVariants.{Code}
 use Rattle.asm_text.specs.Parts.{SymbolValue, UnitValue, IsUnit, IsSectionValue}
 use Rattle.obj_write.specs.declared.sections.Head.{Head}
-use Rattle.obj_write.specs.Bytes.{zeros, gap, padded}
+use Rattle.obj_write.specs.Bytes.{zeros, gap, padded_bytes}
 use Rattle.obj_write.specs.Strings.{string_table, name_at}
-use Rattle.obj_write.specs.Sections.{FileSection, no_section, contents_of, content_at, head_of}
-use Rattle.obj_write.specs.Symbols.{symbol_names, symbol_table, first_global}
+use Rattle.obj_write.specs.Sections.{FileSection, no_section, padded_contents, content_at, head_of}
+use Rattle.obj_write.specs.Symbols.{symbol_names, symbol_table_bytes, first_global}
 use Rattle.obj_write.specs.Relocations.{relocation_table}
-use Rattle.obj_write.specs.Object.{no_part, kind_of, flags_of, part_head, symbols_head, strings_head, relocations_head, symtab_index, relocated_in, section_names, part_section, symtab_section, strtab_section, shstrtab_section, relocation_section, file_sections, shstrtab_index, object_of}
+use Rattle.obj_write.specs.Object.{no_part, section_type, flags_of, part_head, symbols_head, strings_head, relocations_head, symtab_index, relocated_in, object_section_names, part_section, symtab_section, strtab_section, shstrtab_section, relocation_section, file_sections, shstrtab_index, object_of}
 use Rattle.obj_write.proofs.ReadLemmas.{Stands, stands_left, stands_within, stands_each, IsSmall, header}
 use Rattle.obj_write.proofs.FileLemmas.{table_place, stands_whole, IsLaid, laid, no_head, first_header, next_header}
 use Rattle.obj_write.proofs.ObjectLemmas.{relocated_few, relocated_within}
@@ -29,23 +29,23 @@ head_is sections k s e = ap (λ (t : FileSection). record t.head { offset = cont
 
 pub content_stands : (sections : List FileSection) (names : ℕ) (file : List ℕ) (k : ℕ) → IsLaid sections names file → k < length sections
     → Stands file (content_at sections k) (get_or sections k no_section).content
-unfolding contents_of content_at padded
+unfolding padded_contents content_at padded_bytes
 content_stands sections names file k laid lt =
     let bytes : List ℕ = (get_or sections k no_section).content in
-    stands_left file (content_at sections k) bytes (zeros (gap (length bytes))) (stands_each file 52 (λ (s : FileSection). padded s.content) sections k no_section lt laid.contents)
+    stands_left file (content_at sections k) bytes (zeros (gap (length bytes))) (stands_each file 52 (λ (s : FileSection). padded_bytes s.content) sections k no_section lt laid.contents)
 
 content_below : (sections : List FileSection) (k : ℕ) → k < length sections → content_at sections k + length ((get_or sections k no_section).content) ≤ table_place sections
-unfolding contents_of content_at padded
+unfolding padded_contents content_at padded_bytes
 content_below sections k lt =
     let bytes : List ℕ = (get_or sections k no_section).content in
-    let s = stands_each (contents_of sections) 0 (λ (t : FileSection). padded t.content) sections k no_section lt (stands_whole (contents_of sections) (contents_of sections) refl) in
-    let within = stands_within (contents_of sections) (0 + length (flat_map (λ (t : FileSection). padded t.content) (take k sections))) (padded bytes) s in
+    let s = stands_each (padded_contents sections) 0 (λ (t : FileSection). padded_bytes t.content) sections k no_section lt (stands_whole (padded_contents sections) (padded_contents sections) refl) in
+    let within = stands_within (padded_contents sections) (0 + length (flat_map (λ (t : FileSection). padded_bytes t.content) (take k sections))) (padded_bytes bytes) s in
     let n = length-append bytes (zeros (gap (length bytes))) in
     omega (arith, within, n)
 
 -- ---- fields
 
-kind_small : (k : SectionKind) → kind_of k < 9
+kind_small : (k : SectionKind) → section_type k < 9
 kind_small Code = omega arith
 kind_small _ = omega arith
 
@@ -63,23 +63,23 @@ offset_few unit is k lt = let a = content_below (file_sections unit) k lt in let
 -- ---- the header of each kind of section, with its place
 
 part_of_file : (unit : UnitValue) (k : ℕ) → k < length unit.sections
-    → head_of (file_sections unit) k ≡ record (part_head (get_or unit.sections k no_part) (name_at (section_names unit) k)) { offset = content_at (file_sections unit) k }
+    → head_of (file_sections unit) k ≡ record (part_head (get_or unit.sections k no_part) (name_at (object_section_names unit) k)) { offset = content_at (file_sections unit) k }
 part_of_file unit k lt = head_is (file_sections unit) k (part_section unit k) (part_at unit k lt) ∙ ap (λ (h : Head). record h { offset = content_at (file_sections unit) k }) (part_header unit k)
 
 symtab_of_file : (unit : UnitValue) → head_of (file_sections unit) (length unit.sections + 0)
-    ≡ record (symbols_head (name_at (section_names unit) (length unit.sections)) (length (symbol_table unit.symbols)) unit) { offset = content_at (file_sections unit) (length unit.sections + 0) }
+    ≡ record (symbols_head (name_at (object_section_names unit) (length unit.sections)) (length (symbol_table_bytes unit.symbols)) unit) { offset = content_at (file_sections unit) (length unit.sections + 0) }
 symtab_of_file unit = head_is (file_sections unit) (length unit.sections + 0) (symtab_section unit) (symtab_at unit) ∙ ap (λ (h : Head). record h { offset = content_at (file_sections unit) (length unit.sections + 0) }) (symtab_parts unit).0
 
 strtab_of_file : (unit : UnitValue) → head_of (file_sections unit) (length unit.sections + 1)
-    ≡ record (strings_head (name_at (section_names unit) (length unit.sections + 1)) (length (string_table (symbol_names unit.symbols)))) { offset = content_at (file_sections unit) (length unit.sections + 1) }
+    ≡ record (strings_head (name_at (object_section_names unit) (length unit.sections + 1)) (length (string_table (symbol_names unit.symbols)))) { offset = content_at (file_sections unit) (length unit.sections + 1) }
 strtab_of_file unit = head_is (file_sections unit) (length unit.sections + 1) (strtab_section unit) (strtab_at unit) ∙ ap (λ (h : Head). record h { offset = content_at (file_sections unit) (length unit.sections + 1) }) (strtab_parts unit).0
 
 shstrtab_of_file : (unit : UnitValue) → head_of (file_sections unit) (length unit.sections + 2)
-    ≡ record (strings_head (name_at (section_names unit) (length unit.sections + 2)) (length (string_table (section_names unit)))) { offset = content_at (file_sections unit) (length unit.sections + 2) }
+    ≡ record (strings_head (name_at (object_section_names unit) (length unit.sections + 2)) (length (string_table (object_section_names unit)))) { offset = content_at (file_sections unit) (length unit.sections + 2) }
 shstrtab_of_file unit = head_is (file_sections unit) (length unit.sections + 2) (shstrtab_section unit) (shstrtab_at unit) ∙ ap (λ (h : Head). record h { offset = content_at (file_sections unit) (length unit.sections + 2) }) (shstrtab_parts unit).0
 
 relocations_of_file : (unit : UnitValue) (j : ℕ) → j < length (relocated_in unit) → head_of (file_sections unit) (length unit.sections + (3 + j))
-    ≡ record (relocations_head (name_at (section_names unit) (length unit.sections + 3 + j)) (length (relocation_table unit.relocations (target_of unit j))) (symtab_index unit) (target_of unit j)) { offset = content_at (file_sections unit) (length unit.sections + (3 + j)) }
+    ≡ record (relocations_head (name_at (object_section_names unit) (length unit.sections + 3 + j)) (length (relocation_table unit.relocations (target_of unit j))) (symtab_index unit) (target_of unit j)) { offset = content_at (file_sections unit) (length unit.sections + (3 + j)) }
 relocations_of_file unit j lt = head_is (file_sections unit) (length unit.sections + (3 + j)) (relocation_section unit j) (relocations_at unit j lt) ∙ ap (λ (h : Head). record h { offset = content_at (file_sections unit) (length unit.sections + (3 + j)) }) (relocation_parts unit j).0
 
 -- ---- each field fits a word
@@ -204,23 +204,23 @@ any_header unit is k lt =
     next_header (file_sections unit) (shstrtab_index unit) (object_of unit) k (unit_laid unit is) (omega (arith, n)) (small_heads unit is k lt)
 
 pub part_read : (unit : UnitValue) → IsUnit unit → (k : ℕ) → k < length unit.sections
-    → header_of (object_of unit) (suc k) ≡ header (record (part_head (get_or unit.sections k no_part) (name_at (section_names unit) k)) { offset = content_at (file_sections unit) k })
+    → header_of (object_of unit) (suc k) ≡ header (record (part_head (get_or unit.sections k no_part) (name_at (object_section_names unit) k)) { offset = content_at (file_sections unit) k })
 part_read unit is k lt = any_header unit is k (omega arith) ∙ ap header (part_of_file unit k lt)
 
 pub symtab_read : (unit : UnitValue) → IsUnit unit → header_of (object_of unit) (suc (length unit.sections + 0))
-    ≡ header (record (symbols_head (name_at (section_names unit) (length unit.sections)) (length (symbol_table unit.symbols)) unit) { offset = content_at (file_sections unit) (length unit.sections + 0) })
+    ≡ header (record (symbols_head (name_at (object_section_names unit) (length unit.sections)) (length (symbol_table_bytes unit.symbols)) unit) { offset = content_at (file_sections unit) (length unit.sections + 0) })
 symtab_read unit is = any_header unit is (length unit.sections + 0) (omega arith) ∙ ap header (symtab_of_file unit)
 
 pub strtab_read : (unit : UnitValue) → IsUnit unit → header_of (object_of unit) (suc (length unit.sections + 1))
-    ≡ header (record (strings_head (name_at (section_names unit) (length unit.sections + 1)) (length (string_table (symbol_names unit.symbols)))) { offset = content_at (file_sections unit) (length unit.sections + 1) })
+    ≡ header (record (strings_head (name_at (object_section_names unit) (length unit.sections + 1)) (length (string_table (symbol_names unit.symbols)))) { offset = content_at (file_sections unit) (length unit.sections + 1) })
 strtab_read unit is = any_header unit is (length unit.sections + 1) (omega arith) ∙ ap header (strtab_of_file unit)
 
 pub shstrtab_read : (unit : UnitValue) → IsUnit unit → header_of (object_of unit) (suc (length unit.sections + 2))
-    ≡ header (record (strings_head (name_at (section_names unit) (length unit.sections + 2)) (length (string_table (section_names unit)))) { offset = content_at (file_sections unit) (length unit.sections + 2) })
+    ≡ header (record (strings_head (name_at (object_section_names unit) (length unit.sections + 2)) (length (string_table (object_section_names unit)))) { offset = content_at (file_sections unit) (length unit.sections + 2) })
 shstrtab_read unit is = any_header unit is (length unit.sections + 2) (omega arith) ∙ ap header (shstrtab_of_file unit)
 
 pub relocations_read : (unit : UnitValue) → IsUnit unit → (j : ℕ) → j < length (relocated_in unit) → header_of (object_of unit) (suc (length unit.sections + (3 + j)))
-    ≡ header (record (relocations_head (name_at (section_names unit) (length unit.sections + 3 + j)) (length (relocation_table unit.relocations (target_of unit j))) (symtab_index unit) (target_of unit j)) { offset = content_at (file_sections unit) (length unit.sections + (3 + j)) })
+    ≡ header (record (relocations_head (name_at (object_section_names unit) (length unit.sections + 3 + j)) (length (relocation_table unit.relocations (target_of unit j))) (symtab_index unit) (target_of unit j)) { offset = content_at (file_sections unit) (length unit.sections + (3 + j)) })
 relocations_read unit is j lt = any_header unit is (length unit.sections + (3 + j)) (omega arith) ∙ ap header (relocations_of_file unit j lt)
 
 -- the bytes of a section end in the file

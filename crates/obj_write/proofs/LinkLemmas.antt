@@ -14,7 +14,7 @@ use Rattle.asm_text.specs.declared.unit.SectionKind.TheVariants.{Code}
 use Rattle.asm_text.specs.Parts.{UnitValue, IsUnit}
 use Rattle.obj_write.specs.Symbols as own
 use Rattle.obj_write.specs.Relocations.{relocation_table}
-use Rattle.obj_write.specs.Object.{no_part, kind_of, symtab_index, strtab_index, relocated_in, object_of}
+use Rattle.obj_write.specs.Object.{no_part, section_type, symtab_index, strtab_index, relocated_in, object_of}
 use Rattle.obj_write.proofs.ReadLemmas.{header}
 use Rattle.obj_write.proofs.FileLemmas.{nothing_below, no_head}
 use Rattle.obj_write.proofs.SizeLemmas.{length_relocations, length_symbols}
@@ -44,7 +44,7 @@ three_nots a b c p q r = rw (p, q, r) refl
 no_table : (file : List ℕ) (i : ℕ) (h : Header) → header_of file i ≡ h → eqb h.kind 2 ≡ false → index_if (eqb ((header_of file i).kind) 2) i ≡ None
 no_table file i h e other = ap (λ (x : Header). index_if (eqb x.kind 2) i) e ∙ ap (λ b. index_if b i) other
 
-part_no_table : (K : SectionKind) → eqb (kind_of K) 2 ≡ false
+part_no_table : (K : SectionKind) → eqb (section_type K) 2 ≡ false
 part_no_table Code = refl
 part_no_table _ = refl
 
@@ -75,11 +75,11 @@ link_by file i h e a b c d =
 other_than_names : (unit : UnitValue) → IsUnit unit → (i : ℕ) (x : Bool) → eqb i (suc (length unit.sections + 2)) ≡ false → (eqb i (name_table (object_of unit)) && x) ≡ false
 other_than_names unit is i x other = and_left (eqb i (name_table (object_of unit))) x (ap (eqb i) (names_at unit is) ∙ other)
 
-part_no_relocations : (K : SectionKind) (y : Bool) → ((eqb (kind_of K) 4 || eqb (kind_of K) 9) && y) ≡ false
+part_no_relocations : (K : SectionKind) (y : Bool) → ((eqb (section_type K) 4 || eqb (section_type K) 9) && y) ≡ false
 part_no_relocations Code y = refl
 part_no_relocations _ y = refl
 
-part_not_kept : (K : SectionKind) (x y : Bool) → (eqb (kind_of K) 4 && x && y) ≡ false
+part_not_kept : (K : SectionKind) (x y : Bool) → (eqb (section_type K) 4 && x && y) ≡ false
 part_not_kept Code x y = refl
 part_not_kept _ x y = refl
 
@@ -87,8 +87,8 @@ part_link : (unit : UnitValue) → IsUnit unit → (k : ℕ) → k < length unit
 part_link unit is k lt =
     let K : SectionKind = (get_or unit.sections k no_part).kind in
     link_by (object_of unit) (suc k) _ (part_read unit is k lt)
-    (other_than_names unit is (suc k) (not (eqb (kind_of K) 3)) (other_index (suc k) (suc (length unit.sections + 2)) (omega arith)))
-    (and_left (eqb (kind_of K) 2) _ (part_no_table K)) (part_no_relocations K _) (part_not_kept K _ _)
+    (other_than_names unit is (suc k) (not (eqb (section_type K) 3)) (other_index (suc k) (suc (length unit.sections + 2)) (omega arith)))
+    (and_left (eqb (section_type K) 2) _ (part_no_table K)) (part_no_relocations K _) (part_not_kept K _ _)
 
 strings_kind : (unit : UnitValue) → IsUnit unit → is_kind (object_of unit) 3 (strtab_index unit) ≡ true
 strings_kind unit is =
@@ -105,7 +105,7 @@ is_first unit is i e = ap (λ o. is_this o i) (first_table unit is) ∙ eq-eqb i
 symtab_link : (unit : UnitValue) → IsUnit unit → link_fault (object_of unit) (suc (length unit.sections + 0)) ≡ None
 symtab_link unit is =
     let i : ℕ = suc (length unit.sections + 0) in
-    let size : ℕ = length (own.symbol_table unit.symbols) in
+    let size : ℕ = length (own.symbol_table_bytes unit.symbols) in
     let n = length_symbols unit.symbols in
     let whole : eqb (size % 16) 0 ≡ true = eq-eqb (size % 16) 0 (omega (arith, n)) in
     link_by (object_of unit) i _ (symtab_read unit is)

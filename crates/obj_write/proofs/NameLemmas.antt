@@ -13,7 +13,7 @@ use Rattle.elf_objects.specs.Names.{end_in}
 use Rattle.asm_text.specs.Parts.{SectionValue, SymbolValue, UnitValue, IsUnit, IsSectionValue, IsSymbolValue, is_name, is_name_byte, is_digit}
 use Rattle.obj_write.specs.Strings.{terminated, string_table, name_at}
 use Rattle.obj_write.specs.Symbols.{symbol_names}
-use Rattle.obj_write.specs.Object.{no_part, table_names, part_names, relocation_name, relocated_in, section_names}
+use Rattle.obj_write.specs.Object.{no_part, table_names, part_names, relocation_name, relocated_in, object_section_names}
 use Rattle.obj_write.proofs.ReadLemmas.{Stands, stands_drop}
 use Rattle.obj_write.proofs.ObjectLemmas.{relocated_within}
 
@@ -107,8 +107,8 @@ relocation_string unit is i lt =
     let l = n.short in
     record { short = omega (arith, l); bytes = n.bytes }
 
-pub section_strings : (unit : UnitValue) → IsUnit unit → All (IsString 69) (section_names unit)
-unfolding section_names
+pub section_strings : (unit : UnitValue) → IsUnit unit → All (IsString 69) (object_section_names unit)
+unfolding object_section_names
 section_strings unit is =
     All-append (IsString 69) (part_names unit.sections) (table_names ++ map (relocation_name unit.sections) (relocated_in unit)) (part_strings unit is)
     (All-append (IsString 69) table_names (map (relocation_name unit.sections) (relocated_in unit)) table_strings

@@ -17,11 +17,11 @@ use Rattle.obj_write.specs.declared.strings.Strings.{Strings}
 use Rattle.elf_objects.specs.Numbers.{file_header_size}
 use Rattle.obj_write.specs.Strings.{name_at}
 use Rattle.obj_write.specs.internal.Strings.{IsTableOf}
-use Rattle.obj_write.specs.Sections.{FileSection, contents_of, head_of, header_table}
+use Rattle.obj_write.specs.Sections.{FileSection, padded_contents, head_of, header_table}
 use Rattle.obj_write.specs.internal.Sections.{AreSections}
-use Rattle.obj_write.specs.Symbols.{symbol_table}
-use Rattle.obj_write.specs.Relocations.{relocations_in, relocation_table, index_where_some, relocated}
-use Rattle.obj_write.specs.Object.{no_part, table_names, part_names, relocation_name, relocated_in, section_names, part_head, part_section, relocations_head, symtab_index, relocation_section, symbols_head, strings_head, symtab_section, file_header, file_of}
+use Rattle.obj_write.specs.Symbols.{symbol_table_bytes}
+use Rattle.obj_write.specs.Relocations.{relocations_in, relocation_table, index_where_some, relocated_sections}
+use Rattle.obj_write.specs.Object.{no_part, table_names, part_names, relocation_name, relocated_in, object_section_names, part_head, part_section, relocations_head, symtab_index, relocation_section, symbols_head, strings_head, symtab_section, file_header, file_bytes}
 use Rattle.obj_write.proofs.RelocationLemmas.{counted}
 
 -- ---- the sections with relocations
@@ -30,13 +30,13 @@ index_within : (rs : List AsmRelocation) (i n : ℕ) → i < n → All (λ k. k 
 index_within [] i n lt = All-nil (λ k. k < n)
 index_within (r ∷ rs) i n lt = All-cons (λ k. k < n) i [] lt (All-nil (λ k. k < n))
 
-relocated_below : (rs : List AsmRelocation) (n m : ℕ) → n ≤ m → All (λ k. k < m) (relocated rs n)
-unfolding relocated all_below
+relocated_below : (rs : List AsmRelocation) (n m : ℕ) → n ≤ m → All (λ k. k < m) (relocated_sections rs n)
+unfolding relocated_sections all_below
 relocated_below rs zero m le = All-nil (λ k. k < m)
-relocated_below rs (suc n) m le = All-append (λ k. k < m) (relocated rs n) (index_where_some (relocations_in rs n) n) (relocated_below rs n m (omega arith)) (index_within (relocations_in rs n) n m (omega arith))
+relocated_below rs (suc n) m le = All-append (λ k. k < m) (relocated_sections rs n) (index_where_some (relocations_in rs n) n) (relocated_below rs n m (omega arith)) (index_within (relocations_in rs n) n m (omega arith))
 
 -- they are sections of the unit
-pub relocated_within : (rs : List AsmRelocation) (n : ℕ) → All (λ k. k < n) (relocated rs n)
+pub relocated_within : (rs : List AsmRelocation) (n : ℕ) → All (λ k. k < n) (relocated_sections rs n)
 relocated_within rs n = relocated_below rs n n (omega arith)
 
 -- so are these
@@ -52,19 +52,19 @@ length_index [] i = omega arith
 length_index (r ∷ rs) i = omega arith
 
 -- there are no more of them than sections
-pub relocated_few : (rs : List AsmRelocation) (n : ℕ) → length (relocated rs n) ≤ n
-unfolding relocated all_below
+pub relocated_few : (rs : List AsmRelocation) (n : ℕ) → length (relocated_sections rs n) ≤ n
+unfolding relocated_sections all_below
 relocated_few rs zero = omega arith
 relocated_few rs (suc n) =
-    let a = length-append (relocated rs n) (index_where_some (relocations_in rs n) n) in
+    let a = length-append (relocated_sections rs n) (index_where_some (relocations_in rs n) n) in
     let b = relocated_few rs n in
     let c = length_index (relocations_in rs n) n in
     omega (arith, a, b, c)
 
 -- ---- how many names
 
-pub length_names : (unit : UnitValue) → length (section_names unit) ≡ length unit.sections + (3 + length (relocated_in unit))
-unfolding section_names
+pub length_names : (unit : UnitValue) → length (object_section_names unit) ≡ length unit.sections + (3 + length (relocated_in unit))
+unfolding object_section_names
 length_names unit =
     let a = length-append (part_names unit.sections) (table_names ++ map (relocation_name unit.sections) (relocated_in unit)) in
     let b = length-append table_names (map (relocation_name unit.sections) (relocated_in unit)) in
@@ -73,11 +73,11 @@ length_names unit =
     omega (arith, a, b, c, d)
 
 -- the place of a name of a section
-pub section_name_at : (unit : UnitValue) (names : Strings) (k index at : ℕ) → IsTableOf (section_names unit) names
+pub section_name_at : (unit : UnitValue) (names : Strings) (k index at : ℕ) → IsTableOf (object_section_names unit) names
     → ((list : List (List ℕ)) → IsTableOf list names → index < length list → at ≡ name_at list index)
-    → index ≡ k → k < length unit.sections + (3 + length (relocated_in unit)) → at ≡ name_at (section_names unit) k
+    → index ≡ k → k < length unit.sections + (3 + length (relocated_in unit)) → at ≡ name_at (object_section_names unit) k
 section_name_at unit names k index at table place same within =
-    let n = length_names unit in place (section_names unit) table (omega (arith, n)) ∙ ap (name_at (section_names unit)) same
+    let n = length_names unit in place (object_section_names unit) table (omega (arith, n)) ∙ ap (name_at (object_section_names unit)) same
 
 -- how many sections the unit has
 pub part_count : (unit : AsmUnit) → unit.sections.len ≡ length (map section_value unit.sections.items)
@@ -89,18 +89,18 @@ pub no_parts : (unit : UnitValue) (s : Sections) → AreSections [] s → AreSec
 no_parts unit s is = subst (λ (l : List FileSection). AreSections l s) (sym (each_below_zero (part_section unit))) is
 
 part_is : (unit : AsmUnit) (i name : ℕ) (x : AsmSection) → i < length unit.sections.items → x ≡ get_or unit.sections.items i x
-    → name ≡ name_at (section_names (unit_of unit)) i
+    → name ≡ name_at (object_section_names (unit_of unit)) i
     → let value : FileSection = record { head = part_head (section_value x) name; content = x.bytes.items } in value ≡ part_section (unit_of unit) i
 unfolding part_section
 part_is unit i name x lt is at =
     let v : ℕ → SectionValue → FileSection = λ n s. record { head = part_head s n; content = s.bytes } in
     ap (λ n. v n (section_value x)) at
-    ∙ ap (v (name_at (section_names (unit_of unit)) i)) (ap section_value is ∙ sym (get_or-map section_value unit.sections.items i x no_part lt))
+    ∙ ap (v (name_at (object_section_names (unit_of unit)) i)) (ap section_value is ∙ sym (get_or-map section_value unit.sections.items i x no_part lt))
 
 -- one section more
 pub part_added : (unit : AsmUnit) (names : Strings) (i name : ℕ) (head : Head) (x : AsmSection) (items : List AsmSection) (content : List ℕ) (old new : Sections) → i < length items → x ≡ get_or items i x
     → items ≡ unit.sections.items → content ≡ x.bytes.items
-    → IsTableOf (section_names (unit_of unit)) names
+    → IsTableOf (object_section_names (unit_of unit)) names
     → ((list : List (List ℕ)) → IsTableOf list names → i < length list → name ≡ name_at list i)
     → head ≡ part_head (section_value x) name
     → ((sections : List FileSection) → AreSections sections old → AreSections (sections ++ record { head = head; content = content } ∷ []) new)
@@ -108,7 +108,7 @@ pub part_added : (unit : AsmUnit) (names : Strings) (i name : ℕ) (head : Head)
 part_added unit names i name head x items content old new lt is all held table place made added so_far =
     let n = length-map unit.sections.items section_value in
     let m : length items ≡ length unit.sections.items = ap length all in
-    let at : name ≡ name_at (section_names (unit_of unit)) i = section_name_at (unit_of unit) names i i name table place refl (omega (arith, n, m)) in
+    let at : name ≡ name_at (object_section_names (unit_of unit)) i = section_name_at (unit_of unit) names i i name table place refl (omega (arith, n, m)) in
     let there : x ≡ get_or unit.sections.items i x = is ∙ ap (λ (l : List AsmSection). get_or l i x) all in
     let done : List FileSection = each_below (part_section (unit_of unit)) i in
     subst (λ (l : List FileSection). AreSections l new)
@@ -134,15 +134,15 @@ relocations_within items unit ts list j d is tables lt =
     omega (arith, n, m, w)
 
 relocation_is : (unit : UnitValue) (j name section : ℕ) (content : List ℕ)
-    → name ≡ name_at (section_names unit) (length unit.sections + 3 + j)
+    → name ≡ name_at (object_section_names unit) (length unit.sections + 3 + j)
     → section ≡ get_or (relocated_in unit) j 0 → content ≡ relocation_table unit.relocations section
     → let value : FileSection = record { head = relocations_head name (length content) (symtab_index unit) section; content = content } in value ≡ relocation_section unit j
 unfolding relocation_section
 relocation_is unit j name section content at is held =
     let v : ℕ → List ℕ → ℕ → FileSection = λ n c s. record { head = relocations_head n (length c) (symtab_index unit) s; content = c } in
     ap (λ n. v n content section) at
-    ∙ (ap (λ c. v (name_at (section_names unit) (length unit.sections + 3 + j)) c section) held
-    ∙ ap (λ s. v (name_at (section_names unit) (length unit.sections + 3 + j)) (relocation_table unit.relocations s) s) is)
+    ∙ (ap (λ c. v (name_at (object_section_names unit) (length unit.sections + 3 + j)) c section) held
+    ∙ ap (λ s. v (name_at (object_section_names unit) (length unit.sections + 3 + j)) (relocation_table unit.relocations s) s) is)
 
 -- the table of a section
 pub table_at : {T : Type 0} (items : T → List ℕ) (ts : List T) (t : T) (f : ℕ → List ℕ) (n i : ℕ) → i < length ts → t ≡ get_or ts i t → map items ts ≡ each_below f n → items t ≡ f i
@@ -153,7 +153,7 @@ table_at items ts t f n i lt is tables =
 -- one table more
 pub relocation_added : (unit : UnitValue) (names : Strings) (j index name section size symbols : ℕ) (content : List ℕ) (head : Head) (old new : Sections) (done : List FileSection)
     → j < length (relocated_in unit)
-    → IsTableOf (section_names unit) names
+    → IsTableOf (object_section_names unit) names
     → ((list : List (List ℕ)) → IsTableOf list names → index < length list → name ≡ name_at list index)
     → index ≡ length unit.sections + 3 + j
     → section ≡ get_or (relocated_in unit) j 0 → content ≡ relocation_table unit.relocations section
@@ -162,7 +162,7 @@ pub relocation_added : (unit : UnitValue) (names : Strings) (j index name sectio
     → ((sections : List FileSection) → AreSections sections old → AreSections (sections ++ record { head = head; content = content } ∷ []) new)
     → AreSections (done ++ each_below (relocation_section unit) j) old → AreSections (done ++ each_below (relocation_section unit) (j + 1)) new
 relocation_added unit names j index name section size symbols content head old new done lt table place same is held sized of made added so_far =
-    let at : name ≡ name_at (section_names unit) (length unit.sections + 3 + j) = section_name_at unit names (length unit.sections + 3 + j) index name table place same (omega arith) in
+    let at : name ≡ name_at (object_section_names unit) (length unit.sections + 3 + j) = section_name_at unit names (length unit.sections + 3 + j) index name table place same (omega arith) in
     let before : List FileSection = each_below (relocation_section unit) j in
     let whole : head ≡ relocations_head name (length content) (symtab_index unit) section
     = made ∙ (ap (λ n. relocations_head name n symbols section) sized ∙ ap (λ n. relocations_head name (length content) n section) of) in
@@ -187,17 +187,17 @@ pub three_added : (done : List FileSection) (a b c : FileSection) (s : Sections)
 three_added done a b c s is =
     subst (λ (l : List FileSection). AreSections l s) (ap (λ l. l ++ c ∷ []) (append_assoc done (a ∷ []) (b ∷ [])) ∙ append_assoc done (a ∷ b ∷ []) (c ∷ [])) is
 
-pub symtab_is : (unit : UnitValue) (name size : ℕ) (content : List ℕ) (head : Head) → name ≡ name_at (section_names unit) (length unit.sections)
-    → content ≡ symbol_table unit.symbols → size ≡ length content → head ≡ symbols_head name size unit → head ≡ (symtab_section unit).head
+pub symtab_is : (unit : UnitValue) (name size : ℕ) (content : List ℕ) (head : Head) → name ≡ name_at (object_section_names unit) (length unit.sections)
+    → content ≡ symbol_table_bytes unit.symbols → size ≡ length content → head ≡ symbols_head name size unit → head ≡ (symtab_section unit).head
 unfolding symtab_section
 symtab_is unit name size content head at held sized made =
-    made ∙ (ap (λ n. symbols_head n size unit) at ∙ ap (λ n. symbols_head (name_at (section_names unit) (length unit.sections)) n unit) (sized ∙ ap length held))
+    made ∙ (ap (λ n. symbols_head n size unit) at ∙ ap (λ n. symbols_head (name_at (object_section_names unit) (length unit.sections)) n unit) (sized ∙ ap length held))
 
 pub strings_is : (name at size : ℕ) (content table : List ℕ) (head : Head) → name ≡ at → content ≡ table → size ≡ length content → head ≡ strings_head name size → head ≡ strings_head at (length table)
 strings_is name at size content table head named held sized made =
     made ∙ (ap (λ n. strings_head n size) named ∙ ap (strings_head at) (sized ∙ ap length held))
 
-pub symtab_content : (unit : UnitValue) → (symtab_section unit).content ≡ symbol_table unit.symbols
+pub symtab_content : (unit : UnitValue) → (symtab_section unit).content ≡ symbol_table_bytes unit.symbols
 unfolding symtab_section
 symtab_content unit = refl
 
@@ -205,13 +205,13 @@ symtab_content unit = refl
 
 pub whole_file : (s : Sections) (names table count : ℕ) (begun out : List ℕ) → table ≡ file_header_size + s.contents.len → count ≡ s.heads.len + 1
     → begun ≡ file_header table count names
-    → ((sections : List FileSection) → AreSections sections s → out ≡ begun ++ (contents_of sections ++ header_table sections))
-    → (list : List FileSection) → AreSections list s → out ≡ file_of list names
-unfolding file_of
+    → ((sections : List FileSection) → AreSections sections s → out ≡ begun ++ (padded_contents sections ++ header_table sections))
+    → (list : List FileSection) → AreSections list s → out ≡ file_bytes list names
+unfolding file_bytes
 whole_file s names table count begun out at counted_as first rest list are =
-    let a : table ≡ file_header_size + length (contents_of list) = at ∙ ap (λ n. file_header_size + n) (s.contents.ok.0 ∙ ap length are.contents) in
+    let a : table ≡ file_header_size + length (padded_contents list) = at ∙ ap (λ n. file_header_size + n) (s.contents.ok.0 ∙ ap length are.contents) in
     let b : count ≡ length list + 1 = counted_as ∙ ap (λ n. n + 1) (s.heads.ok.0 ∙ (ap length are.heads ∙ length_each_below (head_of list) (length list))) in
-    rest list are ∙ ap (λ l. l ++ (contents_of list ++ header_table list)) (first ∙ (ap (λ n. file_header n count names) a ∙ ap (λ n. file_header (file_header_size + length (contents_of list)) n names) b))
+    rest list are ∙ ap (λ l. l ++ (padded_contents list ++ header_table list)) (first ∙ (ap (λ n. file_header n count names) a ∙ ap (λ n. file_header (file_header_size + length (padded_contents list)) n names) b))
 
 -- a unit has few sections
 pub section_small : (unit : AsmUnit) (list : List ℕ) (j : ℕ) → list ≡ relocated_in (unit_of unit) → j < length list → get_or list j 0 < 256
@@ -224,10 +224,10 @@ section_small unit list j is lt =
 -- the sections that were found to have relocations
 pub relocated_found : {T : Type 0} (items : T → List ℕ) (unit : AsmUnit) (ts these : List T) (rs : List AsmRelocation) (count : ℕ) (list : List ℕ)
     → rs ≡ unit.relocations.items → count ≡ unit.sections.len → map items ts ≡ each_below (relocation_table rs) count → these ≡ ts
-    → ((r : List AsmRelocation) → map items these ≡ each_below (relocation_table r) (length these) → list ≡ relocated r (length these))
+    → ((r : List AsmRelocation) → map items these ≡ each_below (relocation_table r) (length these) → list ≡ relocated_sections r (length these))
     → list ≡ relocated_in (unit_of unit)
 relocated_found items unit ts these rs count list all counted_as tables same found =
     let n : length these ≡ count = ap length same ∙ counted items ts (relocation_table rs) count tables in
     let m : length these ≡ length (map section_value unit.sections.items) = n ∙ (counted_as ∙ part_count unit) in
     found unit.relocations.items (ap (map items) same ∙ (tables ∙ (ap (λ r. each_below (relocation_table r) count) all ∙ ap (each_below (relocation_table unit.relocations.items)) (sym n))))
-    ∙ ap (relocated unit.relocations.items) m
+    ∙ ap (relocated_sections unit.relocations.items) m

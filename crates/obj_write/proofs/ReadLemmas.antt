@@ -12,7 +12,7 @@ use Rattle.elf_objects.specs.declared.section.Header.{Header}
 use Rattle.elf_objects.specs.Header.{table_offset}
 use Rattle.elf_objects.specs.Section.{header_of}
 use Rattle.obj_write.specs.declared.sections.Head.{Head}
-use Rattle.obj_write.specs.Bytes.{half_bytes, word_bytes}
+use Rattle.obj_write.specs.Bytes.{half_bytes, long_bytes}
 use Rattle.obj_write.specs.Sections.{head_bytes}
 
 -- these bytes stand at this place of the file
@@ -48,24 +48,24 @@ unless : (b : Bool) (n : ℕ) → b ≡ false → cond b 0 n ≡ n
 unless false n e = refl
 unless true n e = cc
 
-pub word_read : (file : List ℕ) (at n : ℕ) → n < 2 ^ 32 → Stands file at (word_bytes n) → long_at file at ≡ n
+pub word_read : (file : List ℕ) (at n : ℕ) → n < 2 ^ 32 → Stands file at (long_bytes n) → long_at file at ≡ n
 unfolding long_at
 word_read file at n small s =
-    let w : at + 4 ≤ length file = stands_within file at (word_bytes n) s in
+    let w : at + 4 ≤ length file = stands_within file at (long_bytes n) s in
     unless (ltb (length file) (at + 4)) (little_number 4 (drop at file)) (grind (arith, nat_tests))
-    ∙ (ap (little_number 4) (stands_drop file at (word_bytes n) s) ∙ little_number-reads_back 4 n s.rest small)
+    ∙ (ap (little_number 4) (stands_drop file at (long_bytes n) s) ∙ little_number-reads_back 4 n s.rest small)
 
 four_bytes : (a b c d a' b' c' d' : ℕ) → a ≡ a' → b ≡ b' → c ≡ c' → d ≡ d' → let x : List ℕ = a ∷ (b ∷ (c ∷ (d ∷ []))) in let y : List ℕ = a' ∷ (b' ∷ (c' ∷ (d' ∷ []))) in x ≡ y
 four_bytes a b c d a' b' c' d' p q r s = rw (p, q, r, s) refl
 
 -- only the low 32 bits are written
-word_bytes_low : (n : ℕ) → word_bytes n ≡ word_bytes (n % 4294967296)
+word_bytes_low : (n : ℕ) → long_bytes n ≡ long_bytes (n % 4294967296)
 word_bytes_low n =
     let m : ℕ = n % 4294967296 in
     four_bytes (n % 256) (n / 256 % 256) (n / 65536 % 256) (n / 16777216 % 256) (m % 256) (m / 256 % 256) (m / 65536 % 256) (m / 16777216 % 256)
     (omega arith) (omega arith) (omega arith) (omega arith)
 
-pub word_low : (file : List ℕ) (at n : ℕ) → Stands file at (word_bytes n) → long_at file at ≡ n % 2 ^ 32
+pub word_low : (file : List ℕ) (at n : ℕ) → Stands file at (long_bytes n) → long_at file at ≡ n % 2 ^ 32
 word_low file at n s = word_read file at (n % 4294967296) (omega arith) (subst (Stands file at) (word_bytes_low n) s)
 
 pub half_read : (file : List ℕ) (at n : ℕ) → n < 2 ^ 16 → Stands file at (half_bytes n) → half_at file at ≡ n
@@ -104,34 +104,34 @@ pub header_read : (file : List ℕ) (index : ℕ) (h : Head) → IsSmall h → S
 unfolding header_of head_bytes
 header_read file index h small s =
     let at : ℕ = table_offset file + 40 * index in
-    let t₉ : List ℕ = word_bytes h.entry_size ++ [] in
-    let t₈ : List ℕ = word_bytes h.align ++ t₉ in
-    let t₇ : List ℕ = word_bytes h.info ++ t₈ in
-    let t₆ : List ℕ = word_bytes h.link ++ t₇ in
-    let t₅ : List ℕ = word_bytes h.size ++ t₆ in
-    let t₄ : List ℕ = word_bytes h.offset ++ t₅ in
-    let t₃ : List ℕ = word_bytes 0 ++ t₄ in
-    let t₂ : List ℕ = word_bytes h.flags ++ t₃ in
-    let t₁ : List ℕ = word_bytes h.kind ++ t₂ in
-    let s₁ = stands_right file at (at + 4) (word_bytes h.name) t₁ refl s in
-    let s₂ = stands_right file (at + 4) (at + 8) (word_bytes h.kind) t₂ (omega arith) s₁ in
-    let s₃ = stands_right file (at + 8) (at + 12) (word_bytes h.flags) t₃ (omega arith) s₂ in
-    let s₄ = stands_right file (at + 12) (at + 16) (word_bytes 0) t₄ (omega arith) s₃ in
-    let s₅ = stands_right file (at + 16) (at + 20) (word_bytes h.offset) t₅ (omega arith) s₄ in
-    let s₆ = stands_right file (at + 20) (at + 24) (word_bytes h.size) t₆ (omega arith) s₅ in
-    let s₇ = stands_right file (at + 24) (at + 28) (word_bytes h.link) t₇ (omega arith) s₆ in
-    let s₈ = stands_right file (at + 28) (at + 32) (word_bytes h.info) t₈ (omega arith) s₇ in
-    let s₉ = stands_right file (at + 32) (at + 36) (word_bytes h.align) t₉ (omega arith) s₈ in
+    let t₉ : List ℕ = long_bytes h.entry_size ++ [] in
+    let t₈ : List ℕ = long_bytes h.align ++ t₉ in
+    let t₇ : List ℕ = long_bytes h.info ++ t₈ in
+    let t₆ : List ℕ = long_bytes h.link ++ t₇ in
+    let t₅ : List ℕ = long_bytes h.size ++ t₆ in
+    let t₄ : List ℕ = long_bytes h.offset ++ t₅ in
+    let t₃ : List ℕ = long_bytes 0 ++ t₄ in
+    let t₂ : List ℕ = long_bytes h.flags ++ t₃ in
+    let t₁ : List ℕ = long_bytes h.kind ++ t₂ in
+    let s₁ = stands_right file at (at + 4) (long_bytes h.name) t₁ refl s in
+    let s₂ = stands_right file (at + 4) (at + 8) (long_bytes h.kind) t₂ (omega arith) s₁ in
+    let s₃ = stands_right file (at + 8) (at + 12) (long_bytes h.flags) t₃ (omega arith) s₂ in
+    let s₄ = stands_right file (at + 12) (at + 16) (long_bytes 0) t₄ (omega arith) s₃ in
+    let s₅ = stands_right file (at + 16) (at + 20) (long_bytes h.offset) t₅ (omega arith) s₄ in
+    let s₆ = stands_right file (at + 20) (at + 24) (long_bytes h.size) t₆ (omega arith) s₅ in
+    let s₇ = stands_right file (at + 24) (at + 28) (long_bytes h.link) t₇ (omega arith) s₆ in
+    let s₈ = stands_right file (at + 28) (at + 32) (long_bytes h.info) t₈ (omega arith) s₇ in
+    let s₉ = stands_right file (at + 32) (at + 36) (long_bytes h.align) t₉ (omega arith) s₈ in
     header_same _ _ _ _ _ _ _ _ _ h.name h.kind h.flags h.offset h.size h.link h.info h.align h.entry_size
-    (word_read file at h.name small.name (stands_left file at (word_bytes h.name) t₁ s))
-    (word_read file (at + 4) h.kind small.kind (stands_left file (at + 4) (word_bytes h.kind) t₂ s₁))
-    (word_read file (at + 8) h.flags small.flags (stands_left file (at + 8) (word_bytes h.flags) t₃ s₂))
-    (word_read file (at + 16) h.offset small.offset (stands_left file (at + 16) (word_bytes h.offset) t₅ s₄))
-    (word_read file (at + 20) h.size small.size (stands_left file (at + 20) (word_bytes h.size) t₆ s₅))
-    (word_read file (at + 24) h.link small.link (stands_left file (at + 24) (word_bytes h.link) t₇ s₆))
-    (word_read file (at + 28) h.info small.info (stands_left file (at + 28) (word_bytes h.info) t₈ s₇))
-    (word_read file (at + 32) h.align small.align (stands_left file (at + 32) (word_bytes h.align) t₉ s₈))
-    (word_read file (at + 36) h.entry_size small.entry_size (stands_left file (at + 36) (word_bytes h.entry_size) [] s₉))
+    (word_read file at h.name small.name (stands_left file at (long_bytes h.name) t₁ s))
+    (word_read file (at + 4) h.kind small.kind (stands_left file (at + 4) (long_bytes h.kind) t₂ s₁))
+    (word_read file (at + 8) h.flags small.flags (stands_left file (at + 8) (long_bytes h.flags) t₃ s₂))
+    (word_read file (at + 16) h.offset small.offset (stands_left file (at + 16) (long_bytes h.offset) t₅ s₄))
+    (word_read file (at + 20) h.size small.size (stands_left file (at + 20) (long_bytes h.size) t₆ s₅))
+    (word_read file (at + 24) h.link small.link (stands_left file (at + 24) (long_bytes h.link) t₇ s₆))
+    (word_read file (at + 28) h.info small.info (stands_left file (at + 28) (long_bytes h.info) t₈ s₇))
+    (word_read file (at + 32) h.align small.align (stands_left file (at + 32) (long_bytes h.align) t₉ s₈))
+    (word_read file (at + 36) h.entry_size small.entry_size (stands_left file (at + 36) (long_bytes h.entry_size) [] s₉))
 
 -- ---- parts of what is joined
 

@@ -14,7 +14,7 @@ use Rattle.asm_text.specs.declared.unit.SectionKind.TheVariants.{Code, Data, Bss
 use Rattle.asm_text.specs.Parts.{SectionValue, UnitValue, IsUnit, IsSectionValue, kept_size}
 use Rattle.obj_write.specs.Strings.{terminated, string_table, name_at}
 use Rattle.obj_write.specs.Sections.{FileSection, no_section, content_at}
-use Rattle.obj_write.specs.Object.{no_part, kind_of, strings_head, part_names, table_names, relocation_name, relocated_in, section_names, file_sections, shstrtab_index, object_of}
+use Rattle.obj_write.specs.Object.{no_part, section_type, strings_head, part_names, table_names, relocation_name, relocated_in, object_section_names, file_sections, shstrtab_index, object_of}
 use Rattle.obj_write.specs.Reader.{IsPartRead}
 use Rattle.obj_write.proofs.ReadLemmas.{Stands, stands_left, stands_right, stands_drop, stands_each, header}
 use Rattle.obj_write.proofs.ObjectLemmas.{length_names}
@@ -56,21 +56,21 @@ name_range file strings names most k at held s is lt all =
 -- ---- sections
 
 abbrev pub names_read : UnitValue → Header
-names_read unit = header (record (strings_head (name_at (section_names unit) (length unit.sections + 2)) (length (string_table (section_names unit)))) { offset = content_at (file_sections unit) (length unit.sections + 2) })
+names_read unit = header (record (strings_head (name_at (object_section_names unit) (length unit.sections + 2)) (length (string_table (object_section_names unit)))) { offset = content_at (file_sections unit) (length unit.sections + 2) })
 
 names_header : (unit : UnitValue) → IsUnit unit → header_of (object_of unit) (name_table (object_of unit)) ≡ names_read unit
 names_header unit is = ap (header_of (object_of unit)) (names_at unit is) ∙ shstrtab_read unit is
 
-names_stand : (unit : UnitValue) → IsUnit unit → Stands (object_of unit) (names_read unit).offset (string_table (section_names unit))
+names_stand : (unit : UnitValue) → IsUnit unit → Stands (object_of unit) (names_read unit).offset (string_table (object_section_names unit))
 names_stand unit is =
     let k : ℕ = length unit.sections + 2 in
     let n = length_sections unit in
-    let same : (get_or (file_sections unit) k no_section).content ≡ string_table (section_names unit) = ap (λ (t : FileSection). t.content) (shstrtab_at unit) ∙ (shstrtab_parts unit).1 in
+    let same : (get_or (file_sections unit) k no_section).content ≡ string_table (object_section_names unit) = ap (λ (t : FileSection). t.content) (shstrtab_at unit) ∙ (shstrtab_parts unit).1 in
     subst (λ (l : List ℕ). Stands (object_of unit) (content_at (file_sections unit) k) l) same
     (content_stands (file_sections unit) (shstrtab_index unit) (object_of unit) k (unit_laid unit is) (omega (arith, n)))
 
-part_name : (unit : UnitValue) (k : ℕ) → k < length unit.sections → get_or (section_names unit) k [] ≡ (get_or unit.sections k no_part).name
-unfolding section_names
+part_name : (unit : UnitValue) (k : ℕ) → k < length unit.sections → get_or (object_section_names unit) k [] ≡ (get_or unit.sections k no_part).name
+unfolding object_section_names
 part_name unit k lt =
     let n = length-map unit.sections (λ (s : SectionValue). s.name) in
     get_or_append_left (part_names unit.sections) (table_names ++ map (relocation_name unit.sections) (relocated_in unit)) [] k (omega (arith, n))
@@ -84,7 +84,7 @@ part_stands unit is k lt =
     (content_stands (file_sections unit) (shstrtab_index unit) (object_of unit) k (unit_laid unit is) (omega (arith, n)))
 
 bytes_by : (file : List ℕ) (K : SectionKind) (at size : ℕ) (bytes : List ℕ) → length bytes ≡ kept_size K size → Stands file at bytes
-    → let span : Span = cond (eqb (kind_of K) 0 || eqb (kind_of K) 8) (record { start = 0; end = 0 }) (record { start = at; end = at + size }) in slice_range file span.start span.end ≡ bytes
+    → let span : Span = cond (eqb (section_type K) 0 || eqb (section_type K) 8) (record { start = 0; end = 0 }) (record { start = at; end = at + size }) in slice_range file span.start span.end ≡ bytes
 bytes_by file Code at size bytes e s = range_by file at (at + size) bytes (omega (arith, e)) s
 bytes_by file Data at size bytes e s = range_by file at (at + size) bytes (omega (arith, e)) s
 bytes_by file Bss at size bytes e s = sym (nil_from_length bytes e)
@@ -98,9 +98,9 @@ part_given unit is k lt =
     let h = All-get_or IsSectionValue unit.sections k no_part lt is.sections_kept in
     let n = length_names unit in
     let strings : Header = header_of file (name_table file) in
-    let stands : Stands file strings.offset (string_table (section_names unit)) = subst (λ (x : Header). Stands file x.offset (string_table (section_names unit))) (sym (names_header unit is)) (names_stand unit is) in
+    let stands : Stands file strings.offset (string_table (object_section_names unit)) = subst (λ (x : Header). Stands file x.offset (string_table (object_section_names unit))) (sym (names_header unit is)) (names_stand unit is) in
     record {
-      name = name_range file strings (section_names unit) 69 k ((header_of file (suc k)).name) (names_content unit is) stands (ap (λ (x : Header). x.name) read) (omega (arith, n)) (section_strings unit is) ∙ part_name unit k lt;
+      name = name_range file strings (object_section_names unit) 69 k ((header_of file (suc k)).name) (names_content unit is) stands (ap (λ (x : Header). x.name) read) (omega (arith, n)) (section_strings unit is) ∙ part_name unit k lt;
       kind = ap (λ (x : Header). x.kind) read;
       flags = ap (λ (x : Header). x.flags) read;
       size = ap (λ (x : Header). x.size) read;

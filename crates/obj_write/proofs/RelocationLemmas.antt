@@ -9,7 +9,7 @@ use Rattle.std.proofs.lemmas.List.Concat.{flat_map-append}
 use Rattle.elf_objects.specs.Passes.{each_below}
 use Rattle.elf_objects.proofs.PassLemmas.{each_below_more, each_below_zero, length_each_below, at_each, all_below_more, all_below_zero}
 use Rattle.asm_text.specs.declared.unit.AsmRelocation.{AsmRelocation}
-use Rattle.obj_write.specs.Relocations.{relocation_entry, relocations_in, relocation_table, index_where_some, relocated}
+use Rattle.obj_write.specs.Relocations.{relocation_entry, relocations_in, relocation_table, index_where_some, relocated_sections}
 
 -- ---- one more
 
@@ -126,15 +126,15 @@ pub relocated_more : {T : Type 0} (items : T → List ℕ) (ts : List T) (t : T)
     → i < length ts → t ≡ get_or ts i t → empty ≡ eqb (length (items t)) 0
     → new ≡ old ++ cond empty [] (i ∷ [])
     → map items ts ≡ each_below (relocation_table rs) (length ts)
-    → old ≡ relocated rs i → new ≡ relocated rs (i + 1)
-unfolding relocated relocation_table
+    → old ≡ relocated_sections rs i → new ≡ relocated_sections rs (i + 1)
+unfolding relocated_sections relocation_table
 relocated_more items ts t i old new empty rs lt is tested more tables so_far =
     let table : items t ≡ relocation_table rs i
     = ap items is ∙ (sym (get_or-map items ts i t [] lt) ∙ (ap (λ (l : List (List ℕ)). get_or l i []) tables ∙ at_each (relocation_table rs) (length ts) i [] lt)) in
     more ∙ (ap (λ l. l ++ cond empty [] (i ∷ [])) so_far
-    ∙ (ap (λ l. relocated rs i ++ l) (sym (relocated_by (relocations_in rs i) i (items t) empty table (λ z. grind (arith, nat_tests)) (λ z. grind (arith, nat_tests))))
+    ∙ (ap (λ l. relocated_sections rs i ++ l) (sym (relocated_by (relocations_in rs i) i (items t) empty table (λ z. grind (arith, nat_tests)) (λ z. grind (arith, nat_tests))))
     ∙ sym (all_below_more (λ k. index_where_some (relocations_in rs k) k) i)))
 
-pub none_relocated : (rs : List AsmRelocation) (l : List ℕ) → l ≡ [] → l ≡ relocated rs 0
-unfolding relocated
+pub none_relocated : (rs : List AsmRelocation) (l : List ℕ) → l ≡ [] → l ≡ relocated_sections rs 0
+unfolding relocated_sections
 none_relocated rs l e = e ∙ sym (all_below_zero (λ k. index_where_some (relocations_in rs k) k))

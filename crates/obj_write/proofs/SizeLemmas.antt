@@ -9,10 +9,10 @@ use Rattle.elf_objects.proofs.PassLemmas.{length_each_below, at_each}
 use Rattle.asm_text.specs.declared.unit.AsmRelocation.{AsmRelocation}
 use Rattle.asm_text.specs.Parts.{SymbolValue, UnitValue}
 use Rattle.elf_objects.specs.Numbers.{symbol_size}
-use Rattle.obj_write.specs.Bytes.{zeros, gap, padded}
+use Rattle.obj_write.specs.Bytes.{zeros, gap, padded_bytes}
 use Rattle.obj_write.specs.Strings.{terminated, string_table, name_at}
 use Rattle.obj_write.specs.Sections.{FileSection, no_section}
-use Rattle.obj_write.specs.Symbols.{symbol_entry, symbol_entry_at, symbol_names, symbol_table}
+use Rattle.obj_write.specs.Symbols.{symbol_entry, symbol_entry_at, symbol_names, symbol_table_bytes}
 use Rattle.obj_write.specs.Relocations.{relocation_entry, relocations_in, relocation_table}
 use Rattle.obj_write.specs.Object.{relocated_in, part_section, symtab_section, strtab_section, shstrtab_section, table_sections, relocation_section, file_sections}
 use Rattle.obj_write.proofs.ReadLemmas.{length_below}
@@ -79,8 +79,8 @@ at_all P unit parts a b c others k lt = elim (cases_lt k (length unit.sections))
 
 -- ---- sizes
 
-pub padded_few : (bytes : List ℕ) → length (padded bytes) ≤ length bytes + 3
-unfolding padded
+pub padded_few : (bytes : List ℕ) → length (padded_bytes bytes) ≤ length bytes + 3
+unfolding padded_bytes
 padded_few bytes =
     let a = length-append bytes (zeros (gap (length bytes))) in
     let b = length-replicate {A = ℕ} (gap (length bytes)) 0 in
@@ -137,8 +137,8 @@ pub length_symbol_at : (symbols : List SymbolValue) (k : ℕ) → length (symbol
 unfolding symbol_entry_at
 length_symbol_at symbols k = length_symbol_entry (name_at (symbol_names symbols) k) _
 
-pub length_symbols : (symbols : List SymbolValue) → length (symbol_table symbols) ≡ 16 + 16 * length symbols
-unfolding symbol_table
+pub length_symbols : (symbols : List SymbolValue) → length (symbol_table_bytes symbols) ≡ 16 + 16 * length symbols
+unfolding symbol_table_bytes
 length_symbols symbols =
     let a = length-append (zeros symbol_size) (all_below (symbol_entry_at symbols) (length symbols)) in
     let b = length_below (symbol_entry_at symbols) 16 (length symbols) (λ k lt. length_symbol_at symbols k) in

@@ -15,7 +15,7 @@ use Rattle.elf_objects.specs.Numbers.{symbol_size}
 use Rattle.obj_write.specs.Bytes.{zeros}
 use Rattle.obj_write.specs.Strings.{name_at}
 use Rattle.obj_write.specs.internal.Strings.{IsTableOf}
-use Rattle.obj_write.specs.Symbols.{no_symbol, symbol_entry, symbol_entry_at, symbol_names, symbol_table, first_global}
+use Rattle.obj_write.specs.Symbols.{no_symbol, symbol_entry, symbol_entry_at, symbol_names, symbol_table_bytes, first_global}
 
 entry_at_is : (xs : List AsmSymbol) (i name : ℕ) (x : AsmSymbol) → i < length xs → x ≡ get_or xs i x → name ≡ name_at (symbol_names (map symbol_value xs)) i
     → symbol_entry name (symbol_value x) ≡ symbol_entry_at (map symbol_value xs) i
@@ -47,8 +47,8 @@ pub table_begun : (xs : List AsmSymbol) (table : List ℕ) → table ≡ zeros s
 table_begun xs table is = is ∙ no_entries xs
 
 pub table_whole : (xs : List AsmSymbol) (table : List ℕ) (n : ℕ) → n ≡ length xs
-    → table ≡ zeros symbol_size ++ all_below (symbol_entry_at (map symbol_value xs)) n → table ≡ symbol_table (map symbol_value xs)
-unfolding symbol_table
+    → table ≡ zeros symbol_size ++ all_below (symbol_entry_at (map symbol_value xs)) n → table ≡ symbol_table_bytes (map symbol_value xs)
+unfolding symbol_table_bytes
 table_whole xs table n all is = is ∙ ap (λ k. zeros symbol_size ++ all_below (symbol_entry_at (map symbol_value xs)) k) (all ∙ sym (length-map xs symbol_value))
 
 -- ---- the first global one

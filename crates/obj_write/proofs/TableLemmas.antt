@@ -8,10 +8,10 @@ use Rattle.obj_write.specs.declared.strings.Strings.{Strings}
 use Rattle.obj_write.specs.declared.sections.Head.{Head}
 use Rattle.obj_write.specs.declared.sections.Sections.{Sections}
 use Rattle.elf_objects.specs.Numbers.{file_header_size, section_header_size}
-use Rattle.obj_write.specs.Bytes.{zeros, padded}
+use Rattle.obj_write.specs.Bytes.{zeros, padded_bytes}
 use Rattle.obj_write.specs.Strings.{terminated, string_table, name_at}
 use Rattle.obj_write.specs.internal.Strings.{IsTableOf}
-use Rattle.obj_write.specs.Sections.{FileSection, no_section, contents_of, content_at, head_of, head_bytes, header_table}
+use Rattle.obj_write.specs.Sections.{FileSection, no_section, padded_contents, content_at, head_of, head_bytes, header_table}
 use Rattle.obj_write.specs.internal.Sections.{AreSections}
 use Rattle.obj_write.proofs.PassLemmas.{each_below_same, flat_map_each}
 
@@ -63,18 +63,18 @@ place_is names s k is lt = ap (λ l. get_or l k 0) is.places ∙ at_each (name_a
 
 -- ---- sections
 
-contents_more : (sections : List FileSection) (s : FileSection) → contents_of (sections ++ s ∷ []) ≡ contents_of sections ++ padded s.content
-unfolding contents_of
-contents_more sections s = sym (flat_map_more (λ (t : FileSection). padded t.content) [] sections s)
+contents_more : (sections : List FileSection) (s : FileSection) → padded_contents (sections ++ s ∷ []) ≡ padded_contents sections ++ padded_bytes s.content
+unfolding padded_contents
+contents_more sections s = sym (flat_map_more (λ (t : FileSection). padded_bytes t.content) [] sections s)
 
 pub content_at-append : (sections more : List FileSection) (k : ℕ) → k ≤ length sections → content_at (sections ++ more) k ≡ content_at sections k
 unfolding content_at
-content_at-append sections more k le = ap (λ l. file_header_size + length (contents_of l)) (take-append-le k sections more le)
+content_at-append sections more k le = ap (λ l. file_header_size + length (padded_contents l)) (take-append-le k sections more le)
 
-content_at_end : (sections more : List FileSection) → content_at (sections ++ more) (length sections) ≡ file_header_size + length (contents_of sections)
+content_at_end : (sections more : List FileSection) → content_at (sections ++ more) (length sections) ≡ file_header_size + length (padded_contents sections)
 unfolding content_at
 content_at_end sections more =
-    ap (λ l. file_header_size + length (contents_of l)) (take-append-le (length sections) sections more (omega arith) ∙ take_all (length sections) sections (omega arith))
+    ap (λ l. file_header_size + length (padded_contents l)) (take-append-le (length sections) sections more (omega arith) ∙ take_all (length sections) sections (omega arith))
 
 head_of-append : (sections more : List FileSection) (k : ℕ) → k < length sections → head_of (sections ++ more) k ≡ head_of sections k
 unfolding head_of
@@ -82,14 +82,14 @@ head_of-append sections more k lt =
     ap (λ (s : FileSection). record s.head { offset = content_at (sections ++ more) k }) (get_or_append_left sections more no_section k lt)
     ∙ ap (λ (at : ℕ). record ((get_or sections k no_section).head) { offset = at }) (content_at-append sections more k (omega arith))
 
-head_of_end : (sections : List FileSection) (s : FileSection) → head_of (sections ++ s ∷ []) (length sections) ≡ record s.head { offset = file_header_size + length (contents_of sections) }
+head_of_end : (sections : List FileSection) (s : FileSection) → head_of (sections ++ s ∷ []) (length sections) ≡ record s.head { offset = file_header_size + length (padded_contents sections) }
 unfolding head_of
 head_of_end sections s =
     ap (λ (t : FileSection). record t.head { offset = content_at (sections ++ s ∷ []) (length sections) }) (get_or_at sections s [] no_section (length sections) refl)
     ∙ ap (λ (at : ℕ). record s.head { offset = at }) (content_at_end sections (s ∷ []))
 
 heads_more : (sections : List FileSection) (s : FileSection)
-    → each_below (head_of (sections ++ s ∷ [])) (length (sections ++ s ∷ [])) ≡ each_below (head_of sections) (length sections) ++ record s.head { offset = file_header_size + length (contents_of sections) } ∷ []
+    → each_below (head_of (sections ++ s ∷ [])) (length (sections ++ s ∷ [])) ≡ each_below (head_of sections) (length sections) ++ record s.head { offset = file_header_size + length (padded_contents sections) } ∷ []
 heads_more sections s =
     ap (each_below (head_of (sections ++ s ∷ []))) (length_push sections s)
     ∙ (each_below_more (head_of (sections ++ s ∷ [])) (length sections)
@@ -97,17 +97,17 @@ heads_more sections s =
     ∙ ap (λ (h : Head). each_below (head_of sections) (length sections) ++ h ∷ []) (head_of_end sections s)))
 
 pub no_sections : (s : Sections) → s.contents.items ≡ [] → s.heads.items ≡ [] → AreSections [] s
-unfolding contents_of
+unfolding padded_contents
 no_sections s contents heads = record { contents = contents; heads = heads ∙ sym (each_below_zero (head_of [])) }
 
 -- a section more
 pub sections_more : (sections : List FileSection) (head : Head) (content : List ℕ) (old new : Sections)
-    → new.contents.items ≡ old.contents.items ++ padded content
+    → new.contents.items ≡ old.contents.items ++ padded_bytes content
     → new.heads.items ≡ old.heads.items ++ record head { offset = file_header_size + length old.contents.items } ∷ []
     → AreSections sections old → AreSections (sections ++ record { head = head; content = content } ∷ []) new
 sections_more sections head content old new contents heads are =
     let s : FileSection = record { head = head; content = content } in record {
-      contents = contents ∙ (ap (λ l. l ++ padded content) are.contents ∙ sym (contents_more sections s));
+      contents = contents ∙ (ap (λ l. l ++ padded_bytes content) are.contents ∙ sym (contents_more sections s));
       heads =
           heads ∙ (ap (λ l. l ++ record head { offset = file_header_size + length old.contents.items } ∷ []) are.heads
           ∙ (ap (λ (l : List ℕ). each_below (head_of sections) (length sections) ++ record head { offset = file_header_size + length l } ∷ []) are.contents
@@ -117,7 +117,7 @@ sections_more sections head content old new contents heads are =
 -- contents and then headers
 pub put_is : (s : Sections) (o r₁ r₂ r₃ : List ℕ)
     → r₁ ≡ o ++ s.contents.items → r₂ ≡ r₁ ++ zeros section_header_size → r₃ ≡ r₂ ++ flat_map head_bytes s.heads.items
-    → (sections : List FileSection) → AreSections sections s → r₃ ≡ o ++ (contents_of sections ++ header_table sections)
+    → (sections : List FileSection) → AreSections sections s → r₃ ≡ o ++ (padded_contents sections ++ header_table sections)
 unfolding header_table
 put_is s o r₁ r₂ r₃ e₁ e₂ e₃ sections are =
     let heads : flat_map head_bytes s.heads.items ≡ all_below (λ k. head_bytes (head_of sections k)) (length sections)
@@ -125,4 +125,4 @@ put_is s o r₁ r₂ r₃ e₁ e₂ e₃ sections are =
     let z : List ℕ = zeros section_header_size in
     let h : List ℕ = all_below (λ k. head_bytes (head_of sections k)) (length sections) in
     e₃ ∙ (ap (λ l. r₂ ++ l) heads ∙ (ap (λ l. l ++ h) (e₂ ∙ ap (λ l. l ++ z) (e₁ ∙ ap (λ l. o ++ l) are.contents))
-    ∙ (append_assoc (o ++ contents_of sections) z h ∙ append_assoc o (contents_of sections) (z ++ h))))
+    ∙ (append_assoc (o ++ padded_contents sections) z h ∙ append_assoc o (padded_contents sections) (z ++ h))))

@@ -8,12 +8,12 @@ use Rattle.elf_objects.specs.Passes.{each_below}
 use Rattle.asm_text.specs.declared.unit.SectionKind.{SectionKind}
 use Rattle.asm_text.specs.declared.unit.SectionKind.TheVariants.{Code}
 use Rattle.asm_text.specs.Parts.{SymbolValue, UnitValue, IsUnit, IsSectionValue, kept_size}
-use Rattle.obj_write.specs.Bytes.{padded}
+use Rattle.obj_write.specs.Bytes.{padded_bytes}
 use Rattle.obj_write.specs.Strings.{string_table, name_at}
-use Rattle.obj_write.specs.Sections.{FileSection, contents_of}
-use Rattle.obj_write.specs.Symbols.{symbol_names, symbol_table}
+use Rattle.obj_write.specs.Sections.{FileSection, padded_contents}
+use Rattle.obj_write.specs.Symbols.{symbol_names, symbol_table_bytes}
 use Rattle.obj_write.specs.Relocations.{relocation_table}
-use Rattle.obj_write.specs.Object.{no_part, part_head, symbols_head, strings_head, relocations_head, symtab_index, relocated_in, section_names, part_section, symtab_section, strtab_section, shstrtab_section, table_sections, relocation_section, file_sections}
+use Rattle.obj_write.specs.Object.{no_part, part_head, symbols_head, strings_head, relocations_head, symtab_index, relocated_in, object_section_names, part_section, symtab_section, strtab_section, shstrtab_section, table_sections, relocation_section, file_sections}
 use Rattle.obj_write.proofs.PassLemmas.{flat_map_each}
 use Rattle.obj_write.proofs.FileLemmas.{table_place}
 use Rattle.obj_write.proofs.ObjectLemmas.{length_names, relocated_few}
@@ -26,19 +26,19 @@ pub part_content : (unit : UnitValue) (k : ℕ) → (part_section unit k).conten
 unfolding part_section
 part_content unit k = refl
 
-pub part_header : (unit : UnitValue) (k : ℕ) → (part_section unit k).head ≡ part_head (get_or unit.sections k no_part) (name_at (section_names unit) k)
+pub part_header : (unit : UnitValue) (k : ℕ) → (part_section unit k).head ≡ part_head (get_or unit.sections k no_part) (name_at (object_section_names unit) k)
 unfolding part_section
 part_header unit k = refl
 
-pub symtab_parts : (unit : UnitValue) → ((symtab_section unit).head ≡ symbols_head (name_at (section_names unit) (length unit.sections)) (length (symbol_table unit.symbols)) unit) × ((symtab_section unit).content ≡ symbol_table unit.symbols)
+pub symtab_parts : (unit : UnitValue) → ((symtab_section unit).head ≡ symbols_head (name_at (object_section_names unit) (length unit.sections)) (length (symbol_table_bytes unit.symbols)) unit) × ((symtab_section unit).content ≡ symbol_table_bytes unit.symbols)
 unfolding symtab_section
 symtab_parts unit = (refl, refl)
 
-pub strtab_parts : (unit : UnitValue) → ((strtab_section unit).head ≡ strings_head (name_at (section_names unit) (length unit.sections + 1)) (length (string_table (symbol_names unit.symbols)))) × ((strtab_section unit).content ≡ string_table (symbol_names unit.symbols))
+pub strtab_parts : (unit : UnitValue) → ((strtab_section unit).head ≡ strings_head (name_at (object_section_names unit) (length unit.sections + 1)) (length (string_table (symbol_names unit.symbols)))) × ((strtab_section unit).content ≡ string_table (symbol_names unit.symbols))
 unfolding strtab_section
 strtab_parts unit = (refl, refl)
 
-pub shstrtab_parts : (unit : UnitValue) → ((shstrtab_section unit).head ≡ strings_head (name_at (section_names unit) (length unit.sections + 2)) (length (string_table (section_names unit)))) × ((shstrtab_section unit).content ≡ string_table (section_names unit))
+pub shstrtab_parts : (unit : UnitValue) → ((shstrtab_section unit).head ≡ strings_head (name_at (object_section_names unit) (length unit.sections + 2)) (length (string_table (object_section_names unit)))) × ((shstrtab_section unit).content ≡ string_table (object_section_names unit))
 unfolding shstrtab_section
 shstrtab_parts unit = (refl, refl)
 
@@ -47,7 +47,7 @@ abbrev pub target_of : UnitValue → ℕ → ℕ
 target_of unit j = get_or (relocated_in unit) j 0
 
 pub relocation_parts : (unit : UnitValue) (j : ℕ)
-    → ((relocation_section unit j).head ≡ relocations_head (name_at (section_names unit) (length unit.sections + 3 + j)) (length (relocation_table unit.relocations (target_of unit j))) (symtab_index unit) (target_of unit j))
+    → ((relocation_section unit j).head ≡ relocations_head (name_at (object_section_names unit) (length unit.sections + 3 + j)) (length (relocation_table unit.relocations (target_of unit j))) (symtab_index unit) (target_of unit j))
     × ((relocation_section unit j).content ≡ relocation_table unit.relocations (target_of unit j))
 unfolding relocation_section
 relocation_parts unit j = (refl, refl)
@@ -58,7 +58,7 @@ kept_few : (k : SectionKind) (size : ℕ) → kept_size k size ≤ size
 kept_few Code size = omega arith
 kept_few _ size = omega arith
 
-part_few : (unit : UnitValue) → IsUnit unit → (k : ℕ) → k < length unit.sections → length (padded (part_section unit k).content) ≤ 65537
+part_few : (unit : UnitValue) → IsUnit unit → (k : ℕ) → k < length unit.sections → length (padded_bytes (part_section unit k).content) ≤ 65537
 part_few unit is k lt =
     let h = All-get_or IsSectionValue unit.sections k no_part lt is.sections_kept in
     let a = h.small in
@@ -68,7 +68,7 @@ part_few unit is k lt =
     let e = ap length (part_content unit k) in
     omega (arith, a, b, c, d, e)
 
-relocation_few : (unit : UnitValue) → IsUnit unit → (j : ℕ) → length (padded (relocation_section unit j).content) ≤ 12582915
+relocation_few : (unit : UnitValue) → IsUnit unit → (j : ℕ) → length (padded_bytes (relocation_section unit j).content) ≤ 12582915
 relocation_few unit is j =
     let a = relocations_few unit.relocations (target_of unit j) in
     let b = is.few_relocations in
@@ -84,35 +84,35 @@ symbol_names_few unit is =
     let c = is.few_symbols in
     omega (arith, a, b, c)
 
-names_short : (unit : UnitValue) → IsUnit unit → All (λ (n : List ℕ). length n ≤ 69) (section_names unit)
-names_short unit is = All-weaker (IsString 69) (λ (n : List ℕ). length n ≤ 69) (λ n h. h.short) (section_names unit) (section_strings unit is)
+names_short : (unit : UnitValue) → IsUnit unit → All (λ (n : List ℕ). length n ≤ 69) (object_section_names unit)
+names_short unit is = All-weaker (IsString 69) (λ (n : List ℕ). length n ≤ 69) (λ n h. h.short) (object_section_names unit) (section_strings unit is)
 
-names_counted : (unit : UnitValue) → IsUnit unit → length (section_names unit) ≤ 515
+names_counted : (unit : UnitValue) → IsUnit unit → length (object_section_names unit) ≤ 515
 names_counted unit is =
     let a = length_names unit in
     let b = relocated_few unit.relocations (length unit.sections) in
     let c = is.few_sections in
     omega (arith, a, b, c)
 
-pub section_names_few : (unit : UnitValue) → IsUnit unit → length (string_table (section_names unit)) ≤ 36051
+pub section_names_few : (unit : UnitValue) → IsUnit unit → length (string_table (object_section_names unit)) ≤ 36051
 section_names_few unit is =
-    let a = table_few (section_names unit) 69 (names_short unit is) in
+    let a = table_few (object_section_names unit) 69 (names_short unit is) in
     let b = names_counted unit is in
     omega (arith, a, b)
 
-pub name_few : (unit : UnitValue) → IsUnit unit → (k : ℕ) → name_at (section_names unit) k ≤ 36051
+pub name_few : (unit : UnitValue) → IsUnit unit → (k : ℕ) → name_at (object_section_names unit) k ≤ 36051
 unfolding name_at
 name_few unit is k =
-    let a = table_few (take k (section_names unit)) 69 (All-take (λ (n : List ℕ). length n ≤ 69) k (section_names unit) (names_short unit is)) in
+    let a = table_few (take k (object_section_names unit)) 69 (All-take (λ (n : List ℕ). length n ≤ 69) k (object_section_names unit) (names_short unit is)) in
     let b = names_counted unit is in
-    let c = length-take k (section_names unit) in
+    let c = length-take k (object_section_names unit) in
     omega (arith, a, b, c)
 
-few_tables : (unit : UnitValue) → IsUnit unit → length (flat_map (λ (s : FileSection). padded s.content) (table_sections unit)) ≤ 84970733
+few_tables : (unit : UnitValue) → IsUnit unit → length (flat_map (λ (s : FileSection). padded_bytes s.content) (table_sections unit)) ≤ 84970733
 few_tables unit is =
-    let a : List ℕ = padded (symtab_section unit).content in
-    let b : List ℕ = padded (strtab_section unit).content in
-    let c : List ℕ = padded (shstrtab_section unit).content in
+    let a : List ℕ = padded_bytes (symtab_section unit).content in
+    let b : List ℕ = padded_bytes (strtab_section unit).content in
+    let c : List ℕ = padded_bytes (shstrtab_section unit).content in
     let e₁ = length-append a (b ++ (c ++ [])) in
     let e₂ = length-append b (c ++ []) in
     let e₃ = length-append c [] in
@@ -130,9 +130,9 @@ few_tables unit is =
 
 -- the file has fewer than 2 ^ 32 bytes before its headers
 pub few_contents : (unit : UnitValue) → IsUnit unit → table_place (file_sections unit) < 2 ^ 32
-unfolding contents_of file_sections
+unfolding padded_contents file_sections
 few_contents unit is =
-    let f : FileSection → List ℕ = λ s. padded s.content in
+    let f : FileSection → List ℕ = λ s. padded_bytes s.content in
     let parts : List FileSection = each_below (part_section unit) (length unit.sections) in
     let others : List FileSection = each_below (relocation_section unit) (length (relocated_in unit)) in
     let e₁ = ap length (flat_map-append f parts (table_sections unit ++ others)) in

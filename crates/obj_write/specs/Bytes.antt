@@ -8,12 +8,12 @@ abbrev pub half_bytes : ℕ → List ℕ
 half_bytes n = little_bytes 2 n
 
 -- the low four bytes of a number
-abbrev pub word_bytes : ℕ → List ℕ
-word_bytes n = little_bytes 4 n
+abbrev pub long_bytes : ℕ → List ℕ
+long_bytes n = little_bytes 4 n
 
 -- several of them
 abbrev pub words_bytes : List ℕ → List ℕ
-words_bytes ns = flat_map word_bytes ns
+words_bytes ns = flat_map long_bytes ns
 
 abbrev pub zeros : ℕ → List ℕ
 zeros n = replicate n 0
@@ -23,5 +23,5 @@ abbrev pub gap : ℕ → ℕ
 gap n = (4 - n % 4) % 4
 
 -- bytes with zeros after them, up to a multiple of 4
-unfoldable pub padded : List ℕ → List ℕ
-padded bytes = bytes ++ zeros (gap (length bytes))
+unfoldable pub padded_bytes : List ℕ → List ℕ
+padded_bytes bytes = bytes ++ zeros (gap (length bytes))

@@ -6,11 +6,11 @@ use Rattle.asm_text.specs.declared.unit.SectionKind.{SectionKind}
 use Rattle.asm_text.specs.declared.unit.SectionKind.TheVariants.{Code, Data, Bss}
 use Rattle.asm_text.specs.Parts.{SectionValue, UnitValue}
 use Rattle.obj_write.specs.declared.sections.Head.{Head}
-use Rattle.obj_write.specs.Bytes.{half_bytes, word_bytes, zeros}
+use Rattle.obj_write.specs.Bytes.{half_bytes, long_bytes, zeros}
 use Rattle.obj_write.specs.Strings.{string_table, name_at}
-use Rattle.obj_write.specs.Sections.{FileSection, contents_of, header_table}
-use Rattle.obj_write.specs.Symbols.{symbol_names, symbol_table, first_global}
-use Rattle.obj_write.specs.Relocations.{relocated, relocation_table}
+use Rattle.obj_write.specs.Sections.{FileSection, padded_contents, header_table}
+use Rattle.obj_write.specs.Symbols.{symbol_names, symbol_table_bytes, first_global}
+use Rattle.obj_write.specs.Relocations.{relocated_sections, relocation_table}
 
 abbrev pub no_part : SectionValue
 no_part = record { name = []; kind = Bss; size = 0; bytes = [] }
@@ -28,11 +28,11 @@ abbrev pub relocation_name : List SectionValue → ℕ → List ℕ
 relocation_name sections i = codes ".rela" ++ (slice_index_or sections i no_part).name
 
 abbrev pub relocated_in : UnitValue → List ℕ
-relocated_in unit = relocated unit.relocations (length unit.sections)
+relocated_in unit = relocated_sections unit.relocations (length unit.sections)
 
 -- by index from 1 on
-unfoldable pub section_names : UnitValue → List (List ℕ)
-section_names unit = part_names unit.sections ++ (table_names ++ map (relocation_name unit.sections) (relocated_in unit))
+unfoldable pub object_section_names : UnitValue → List (List ℕ)
+object_section_names unit = part_names unit.sections ++ (table_names ++ map (relocation_name unit.sections) (relocated_in unit))
 
 -- ---- sections
 
@@ -44,10 +44,10 @@ section_align = 2
 abbrev pub table_align : ℕ
 table_align = 4
 
-abbrev pub kind_of : SectionKind → ℕ
-kind_of Code = progbits
-kind_of Data = progbits
-kind_of Bss = nobits
+abbrev pub section_type : SectionKind → ℕ
+section_type Code = progbits
+section_type Data = progbits
+section_type Bss = nobits
 
 abbrev pub flags_of : SectionKind → ℕ
 flags_of Code = alloc_flag + execute_flag
@@ -56,12 +56,12 @@ flags_of Bss = write_flag + alloc_flag
 
 -- the header of a section of the unit
 abbrev pub part_head : SectionValue → ℕ → Head
-part_head s name = record { name = name; kind = kind_of s.kind; flags = flags_of s.kind; offset = 0; size = s.size; link = 0; info = 0; align = section_align; entry_size = 0 }
+part_head s name = record { name = name; kind = section_type s.kind; flags = flags_of s.kind; offset = 0; size = s.size; link = 0; info = 0; align = section_align; entry_size = 0 }
 
 -- the unit's section of this index
 unfoldable pub part_section : UnitValue → ℕ → FileSection
 part_section unit i = let s = slice_index_or unit.sections i no_part in
-    record { head = part_head s (name_at (section_names unit) i); content = s.bytes }
+    record { head = part_head s (name_at (object_section_names unit) i); content = s.bytes }
 
 -- the indexes of the tables, counted from section 0
 abbrev pub symtab_index : UnitValue → ℕ
@@ -87,23 +87,23 @@ relocations_head name size symbols section = record { name = name; kind = rela; 
 
 -- `.symtab`
 unfoldable pub symtab_section : UnitValue → FileSection
-symtab_section unit = let content = symbol_table unit.symbols in
-    record { head = symbols_head (name_at (section_names unit) (length unit.sections)) (length content) unit; content = content }
+symtab_section unit = let content = symbol_table_bytes unit.symbols in
+    record { head = symbols_head (name_at (object_section_names unit) (length unit.sections)) (length content) unit; content = content }
 
 -- `.strtab`: the names of the symbols
 unfoldable pub strtab_section : UnitValue → FileSection
 strtab_section unit = let content = string_table (symbol_names unit.symbols) in
-    record { head = strings_head (name_at (section_names unit) (length unit.sections + 1)) (length content); content = content }
+    record { head = strings_head (name_at (object_section_names unit) (length unit.sections + 1)) (length content); content = content }
 
 -- `.shstrtab`: the names of the sections
 unfoldable pub shstrtab_section : UnitValue → FileSection
-shstrtab_section unit = let content = string_table (section_names unit) in
-    record { head = strings_head (name_at (section_names unit) (length unit.sections + 2)) (length content); content = content }
+shstrtab_section unit = let content = string_table (object_section_names unit) in
+    record { head = strings_head (name_at (object_section_names unit) (length unit.sections + 2)) (length content); content = content }
 
 -- the relocations of this index among the sections that have some
 unfoldable pub relocation_section : UnitValue → ℕ → FileSection
 relocation_section unit j = let section = slice_index_or (relocated_in unit) j 0 in let content = relocation_table unit.relocations section in
-    record { head = relocations_head (name_at (section_names unit) (length unit.sections + 3 + j)) (length content) (symtab_index unit) section; content = content }
+    record { head = relocations_head (name_at (object_section_names unit) (length unit.sections + 3 + j)) (length content) (symtab_index unit) section; content = content }
 
 abbrev pub table_sections : UnitValue → List FileSection
 table_sections unit = symtab_section unit ∷ strtab_section unit ∷ shstrtab_section unit ∷ []
@@ -123,16 +123,16 @@ identification = 0x7f ∷ 0x45 ∷ 0x4c ∷ 0x46 ∷ class_32 ∷ low_byte_first
 -- the file's header, with the place of the header table, the number of sections and the index of the name table
 unfoldable pub file_header : ℕ → ℕ → ℕ → List ℕ
 file_header table count names =
-    identification ++ (half_bytes relocatable ++ (half_bytes msp430 ++ (word_bytes current_version ++ (word_bytes 0 ++ (word_bytes 0 ++ (word_bytes table
-    ++ (word_bytes 0 ++ (half_bytes file_header_size ++ (half_bytes 0 ++ (half_bytes 0 ++ (half_bytes section_header_size
+    identification ++ (half_bytes relocatable ++ (half_bytes msp430 ++ (long_bytes current_version ++ (long_bytes 0 ++ (long_bytes 0 ++ (long_bytes table
+    ++ (long_bytes 0 ++ (half_bytes file_header_size ++ (half_bytes 0 ++ (half_bytes 0 ++ (half_bytes section_header_size
     ++ (half_bytes count ++ half_bytes names))))))))))))
 
 -- a header, the contents and the header table, where the name table has this index
-unfoldable pub file_of : List FileSection → ℕ → List ℕ
-file_of sections names =
-    file_header (file_header_size + length (contents_of sections)) (length sections + 1) names
-    ++ (contents_of sections ++ header_table sections)
+unfoldable pub file_bytes : List FileSection → ℕ → List ℕ
+file_bytes sections names =
+    file_header (file_header_size + length (padded_contents sections)) (length sections + 1) names
+    ++ (padded_contents sections ++ header_table sections)
 
 -- the object's bytes
 unfoldable pub object_of : UnitValue → List ℕ
-object_of unit = file_of (file_sections unit) (shstrtab_index unit)
+object_of unit = file_bytes (file_sections unit) (shstrtab_index unit)

@@ -26,5 +26,5 @@ index_where_some [] section = []
 index_where_some (r ∷ rs) section = section ∷ []
 
 -- the sections with relocations, of so many
-unfoldable pub relocated : List AsmRelocation → ℕ → List ℕ
-relocated relocations count = all_below (λ i. index_where_some (relocations_in relocations i) i) count
+unfoldable pub relocated_sections : List AsmRelocation → ℕ → List ℕ
+relocated_sections relocations count = all_below (λ i. index_where_some (relocations_in relocations i) i) count

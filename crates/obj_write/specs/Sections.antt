@@ -4,7 +4,7 @@ use Rattle.std.specs.List.{flat_map}
 use Rattle.elf_objects.specs.Numbers.{file_header_size, section_header_size}
 use Rattle.elf_objects.specs.Passes.{all_below}
 use Rattle.obj_write.specs.declared.sections.Head.{Head}
-use Rattle.obj_write.specs.Bytes.{words_bytes, zeros, padded}
+use Rattle.obj_write.specs.Bytes.{words_bytes, zeros, padded_bytes}
 
 -- a section: its header without a place, and its content
 pub record FileSection : Type 0 where
@@ -18,12 +18,12 @@ no_section = record {
 }
 
 -- contents one after the other, each up to a multiple of 4
-unfoldable pub contents_of : List FileSection → List ℕ
-contents_of sections = flat_map (λ s. padded s.content) sections
+unfoldable pub padded_contents : List FileSection → List ℕ
+padded_contents sections = flat_map (λ s. padded_bytes s.content) sections
 
 -- where the content of this index stands: after the file's header and the contents before it
 unfoldable pub content_at : List FileSection → ℕ → ℕ
-content_at sections index = file_header_size + length (contents_of (take index sections))
+content_at sections index = file_header_size + length (padded_contents (take index sections))
 
 -- the header of this index, with its place
 unfoldable pub head_of : List FileSection → ℕ → Head

@@ -4,7 +4,7 @@ use Rattle.std.specs.List.{position_or_len}
 use Rattle.elf_objects.specs.Numbers.{symbol_size, local_binding, global_binding, undefined_index}
 use Rattle.elf_objects.specs.Passes.{all_below}
 use Rattle.asm_text.specs.Parts.{SymbolValue}
-use Rattle.obj_write.specs.Bytes.{half_bytes, word_bytes, zeros}
+use Rattle.obj_write.specs.Bytes.{half_bytes, long_bytes, zeros}
 use Rattle.obj_write.specs.Strings.{name_at}
 
 abbrev pub no_symbol : SymbolValue
@@ -23,7 +23,7 @@ home_index (Some section) = section + 1
 -- an entry; size, type and visibility are 0
 unfoldable pub symbol_entry : ℕ → SymbolValue → List ℕ
 symbol_entry name symbol =
-    word_bytes name ++ (word_bytes symbol.value ++ (word_bytes 0 ++ (info_of symbol.global ∷ 0 ∷ half_bytes (home_index symbol.home))))
+    long_bytes name ++ (long_bytes symbol.value ++ (long_bytes 0 ++ (info_of symbol.global ∷ 0 ∷ half_bytes (home_index symbol.home))))
 
 abbrev pub symbol_names : List SymbolValue → List (List ℕ)
 symbol_names symbols = map (λ s. s.name) symbols
@@ -33,8 +33,8 @@ unfoldable pub symbol_entry_at : List SymbolValue → ℕ → List ℕ
 symbol_entry_at symbols k = symbol_entry (name_at (symbol_names symbols) k) (slice_index_or symbols k no_symbol)
 
 -- entry 0 is zeros, and each symbol has the next index
-unfoldable pub symbol_table : List SymbolValue → List ℕ
-symbol_table symbols = zeros symbol_size ++ all_below (symbol_entry_at symbols) (length symbols)
+unfoldable pub symbol_table_bytes : List SymbolValue → List ℕ
+symbol_table_bytes symbols = zeros symbol_size ++ all_below (symbol_entry_at symbols) (length symbols)
 
 -- the index of the first global entry, or the number of entries where none is global
 unfoldable pub first_global : List SymbolValue → ℕ

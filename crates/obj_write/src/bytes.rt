@@ -1,7 +1,7 @@
 //! Numbers as bytes, and zeros up to a multiple of 4.
 
 ghost use Rattle.std.specs.Prelude.{◌≡◌, ◌++◌, OnOk};
-ghost use Rattle.obj_write.specs.Bytes.{half_bytes, word_bytes, words_bytes, padded};
+ghost use Rattle.obj_write.specs.Bytes.{half_bytes, long_bytes, words_bytes, padded_bytes};
 
 use std::alloc::AllocError;
 
@@ -14,7 +14,7 @@ pub fn put_half(out: &mut Vec<u8>, n: usize) -> Result<(), AllocError>
 
 /// Writes the low four bytes of a number, the lowest first.
 pub fn put_word(out: &mut Vec<u8>, n: usize) -> Result<(), AllocError>
-    ensures { OnOk result (out.new.items ≡ out.old.items ++ word_bytes n) }
+    ensures { OnOk result (out.new.items ≡ out.old.items ++ long_bytes n) }
 {
     out.extend_from_slice(&n.to_le_bytes()[..4])
 }
@@ -30,9 +30,9 @@ pub fn put_words(out: &mut Vec<u8>, ns: &[usize]) -> Result<(), AllocError>
 }
 
 /// Writes bytes, and zeros up to a multiple of 4 of them.
-#[tactic(auto, unfolding(crate::specs::Bytes::padded))]
+#[tactic(auto, unfolding(crate::specs::Bytes::padded_bytes))]
 pub fn put_padded(out: &mut Vec<u8>, bytes: &[u8]) -> Result<(), AllocError>
-    ensures { OnOk result (out.new.items ≡ out.old.items ++ padded bytes.now) }
+    ensures { OnOk result (out.new.items ≡ out.old.items ++ padded_bytes bytes.now) }
 {
     out.extend_from_slice(bytes)?;
     let missing = (4 - bytes.len() % 4) % 4;

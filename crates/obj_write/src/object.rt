@@ -8,16 +8,16 @@ ghost use Rattle.asm_text.specs.Views.{section_value};
 ghost use Rattle.obj_write.specs.internal.Strings.{IsTableOf};
 ghost use Rattle.obj_write.specs.Sections.{FileSection};
 ghost use Rattle.obj_write.specs.internal.Sections.{AreSections};
-ghost use Rattle.obj_write.specs.Symbols.{symbol_names, symbol_table};
+ghost use Rattle.obj_write.specs.Symbols.{symbol_names, symbol_table_bytes};
 ghost use Rattle.obj_write.specs.Relocations.{relocation_table};
-ghost use Rattle.obj_write.specs.Object.{kind_of, flags_of, part_names, table_names, part_head, symbols_head, strings_head, relocations_head, relocation_name, relocated_in, section_names, part_section, table_sections, relocation_section, file_sections, file_header, file_of, object_of};
+ghost use Rattle.obj_write.specs.Object.{section_type, flags_of, part_names, table_names, part_head, symbols_head, strings_head, relocations_head, relocation_name, relocated_in, object_section_names, part_section, table_sections, relocation_section, file_sections, file_header, file_bytes, object_of};
 ghost use Rattle.obj_write.specs.Reader.{IsObjectOf};
 
 use crate::bytes::{put_half, put_word};
-use crate::relocations::{relocated, tables_of};
+use crate::relocations::{relocated_sections, tables_of};
 use crate::sections::{FILE_HEADER_SIZE, Head, SECTION_HEADER_SIZE, Sections};
 use crate::strings::Strings;
-use crate::symbols::{SYMBOL_SIZE, first_global, name_table, symbol_table};
+use crate::symbols::{SYMBOL_SIZE, first_global, name_table, symbol_table_bytes};
 use asm_text::{AsmSection, AsmUnit, SectionKind};
 use std::alloc::{AllocError, Global};
 
@@ -50,8 +50,8 @@ pub const RELOCATABLE: usize = 1;
 /// EM_MSP430.
 pub const MSP430: usize = 105;
 
-fn kind_of(kind: SectionKind) -> usize
-    ensures { result ≡ kind_of kind }
+fn section_type(kind: SectionKind) -> usize
+    ensures { result ≡ section_type kind }
 {
     match kind {
         SectionKind::Code | SectionKind::Data => PROGBITS,
@@ -107,10 +107,10 @@ fn name_relocations(
 }
 
 // The names of all sections after section 0.
-#[tactic(auto, unfolding(crate::specs::Object::section_names))]
+#[tactic(auto, unfolding(crate::specs::Object::object_section_names))]
 fn name_sections(alloc: Global, unit: &AsmUnit, relocated: &[usize]) -> Result<Strings, AllocError>
     requires { relocated.now ≡ relocated_in (unit_of unit.now) }
-    ensures { IfOk result (IsTableOf (section_names (unit_of unit.now))) }
+    ensures { IfOk result (IsTableOf (object_section_names (unit_of unit.now))) }
 {
     let mut strings = Strings::new(alloc)?;
     name_parts(&mut strings, &unit.sections)?;
@@ -125,7 +125,7 @@ fn part_head(section: &AsmSection, name: usize) -> Head
 {
     Head {
         name,
-        kind: kind_of(section.kind),
+        kind: section_type(section.kind),
         flags: flags_of(section.kind),
         offset: 0,
         size: section.size as usize,
@@ -138,7 +138,7 @@ fn part_head(section: &AsmSection, name: usize) -> Head
 
 // The sections of the unit.
 fn parts_of(alloc: Global, unit: &AsmUnit, names: &Strings) -> Result<Sections, AllocError>
-    requires { IsTableOf (section_names (unit_of unit.now)) names.now }
+    requires { IsTableOf (object_section_names (unit_of unit.now)) names.now }
     ensures { IfOk result
         (AreSections (each_below (part_section (unit_of unit.now)) (length (unit_of unit.now).sections))) }
 {
@@ -191,9 +191,9 @@ fn add_tables(
     strings: &Strings,
     symbols: &[u8],
 ) -> Result<(), AllocError>
-    requires names { IsTableOf (section_names (unit_of unit.now)) names.now }
+    requires names { IsTableOf (object_section_names (unit_of unit.now)) names.now }
     requires strings { IsTableOf (symbol_names (unit_of unit.now).symbols) strings.now }
-    requires symbols { symbols.now ≡ symbol_table (unit_of unit.now).symbols }
+    requires symbols { symbols.now ≡ symbol_table_bytes (unit_of unit.now).symbols }
     ensures { OnOk result ((done : List FileSection) → AreSections done sections.old →
         AreSections (done ++ table_sections (unit_of unit.now)) sections.new) }
 {
@@ -233,7 +233,7 @@ fn add_relocations(
     relocated: &[usize],
     tables: &[Vec<u8>],
 ) -> Result<(), AllocError>
-    requires names { IsTableOf (section_names (unit_of unit.now)) names.now }
+    requires names { IsTableOf (object_section_names (unit_of unit.now)) names.now }
     requires relocated { relocated.now ≡ relocated_in (unit_of unit.now) }
     requires tables { map (λ t. t.items) tables.now ≡ each_below (relocation_table (unit_of unit.now).relocations)
         (length (unit_of unit.now).sections) }
@@ -278,10 +278,10 @@ fn file_sections(alloc: Global, unit: &AsmUnit) -> Result<Sections, AllocError>
     ensures { IfOk result (AreSections (file_sections (unit_of unit.now))) }
 {
     let tables = tables_of(alloc, &unit.relocations, unit.sections.len())?;
-    let relocated = relocated(alloc, &tables)?;
+    let relocated = relocated_sections(alloc, &tables)?;
     let names = name_sections(alloc, unit, &relocated)?;
     let strings = name_table(alloc, &unit.symbols)?;
-    let symbols = symbol_table(alloc, &unit.symbols, &strings)?;
+    let symbols = symbol_table_bytes(alloc, &unit.symbols, &strings)?;
     let mut sections = parts_of(alloc, unit, &names)?;
     add_tables(&mut sections, unit, &names, &strings, &symbols)?;
     add_relocations(&mut sections, unit, &names, &relocated, &tables)?;
@@ -289,10 +289,10 @@ fn file_sections(alloc: Global, unit: &AsmUnit) -> Result<Sections, AllocError>
 }
 
 // The file of these sections, where the name table has this index.
-#[tactic(auto, unfolding(crate::specs::Object::file_of))]
-fn file_of(alloc: Global, sections: &Sections, names: usize) -> Result<Vec<u8>, AllocError>
+#[tactic(auto, unfolding(crate::specs::Object::file_bytes))]
+fn file_bytes(alloc: Global, sections: &Sections, names: usize) -> Result<Vec<u8>, AllocError>
     ensures { IfOk result (λ v. (list : List FileSection) → AreSections list sections.now →
-        v.items ≡ file_of list names) }
+        v.items ≡ file_bytes list names) }
 {
     let mut out = Vec::new(alloc);
     let table = FILE_HEADER_SIZE + sections.contents.len();
@@ -313,6 +313,6 @@ pub fn write_object(alloc: Global, unit: &AsmUnit) -> Result<Vec<u8>, AllocError
         IsObjectOf (unit_of unit.now) object) }
 {
     let sections = file_sections(alloc, unit)?;
-    let bytes = file_of(alloc, &sections, unit.sections.len() + 3)?;
+    let bytes = file_bytes(alloc, &sections, unit.sections.len() + 3)?;
     Ok(bytes)
 }

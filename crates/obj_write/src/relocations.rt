@@ -3,7 +3,7 @@
 ghost use Rattle.std.specs.Prelude.{◌≡◌, ◌<◌, ◌++◌, List, [], map, length, All, IfOk, OnOk};
 ghost use Rattle.elf_objects.specs.Passes.{each_below};
 ghost use Rattle.asm_text.specs.declared.unit.AsmRelocation.{AsmRelocation};
-ghost use Rattle.obj_write.specs.Relocations.{relocation_entry, relocation_table, relocated};
+ghost use Rattle.obj_write.specs.Relocations.{relocation_entry, relocation_table, relocated_sections};
 
 use crate::bytes::put_words;
 use asm_text::AsmRelocation;
@@ -48,10 +48,10 @@ fn empty_tables(alloc: Global, count: usize) -> Result<Vec<Vec<u8>>, AllocError>
 }
 
 /// The sections that have relocations.
-pub fn relocated(alloc: Global, tables: &[Vec<u8>]) -> Result<Vec<usize>, AllocError>
+pub fn relocated_sections(alloc: Global, tables: &[Vec<u8>]) -> Result<Vec<usize>, AllocError>
     ensures { (relocations : List AsmRelocation) → map (λ t. t.items) tables.now
         ≡ each_below (relocation_table relocations) (length tables.now) →
-        IfOk result (λ v. v.items ≡ relocated relocations (length tables.now)) }
+        IfOk result (λ v. v.items ≡ relocated_sections relocations (length tables.now)) }
 {
     let mut sections = Vec::new(alloc);
     for (i, table) in tables.iter().enumerate() {

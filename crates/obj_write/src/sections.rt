@@ -2,7 +2,7 @@
 
 ghost use Rattle.std.specs.Prelude.{◌≡◌, ◌++◌, ◌∷◌, List, ℕ, [], IfOk, OnOk};
 ghost use Rattle.std.specs.List.{flat_map};
-ghost use Rattle.obj_write.specs.Sections.{FileSection, head_bytes, contents_of, header_table};
+ghost use Rattle.obj_write.specs.Sections.{FileSection, head_bytes, padded_contents, header_table};
 ghost use Rattle.obj_write.specs.internal.Sections.{AreSections};
 
 use crate::bytes::{put_padded, put_words};
@@ -93,7 +93,7 @@ impl Sections {
     /// Writes the contents and then the table of headers.
     pub fn put(&self, out: &mut Vec<u8>) -> Result<(), AllocError>
         ensures { OnOk result ((sections : List FileSection) → AreSections sections self.now →
-            out.new.items ≡ out.old.items ++ (contents_of sections ++ header_table sections)) }
+            out.new.items ≡ out.old.items ++ (padded_contents sections ++ header_table sections)) }
     {
         out.extend_from_slice(&self.contents)?;
         out.extend_from_slice(&[0; SECTION_HEADER_SIZE])?;

@@ -3,7 +3,7 @@
 ghost use Rattle.std.specs.Prelude.{◌≡◌, ◌++◌, IfOk, OnOk, map, position};
 ghost use Rattle.asm_text.specs.Views.{symbol_value};
 ghost use Rattle.obj_write.specs.internal.Strings.{IsTableOf};
-ghost use Rattle.obj_write.specs.Symbols.{info_of, home_index, symbol_entry, symbol_names, symbol_table, first_global};
+ghost use Rattle.obj_write.specs.Symbols.{info_of, home_index, symbol_entry, symbol_names, symbol_table_bytes, first_global};
 
 use crate::bytes::{put_half, put_word};
 use crate::strings::Strings;
@@ -58,13 +58,13 @@ pub fn name_table(alloc: Global, symbols: &[AsmSymbol]) -> Result<Strings, Alloc
 }
 
 /// The table of the symbols.
-pub fn symbol_table(
+pub fn symbol_table_bytes(
     alloc: Global,
     symbols: &[AsmSymbol],
     strings: &Strings,
 ) -> Result<Vec<u8>, AllocError>
     requires { IsTableOf (symbol_names (map symbol_value symbols.now)) strings.now }
-    ensures { IfOk result (λ v. v.items ≡ symbol_table (map symbol_value symbols.now)) }
+    ensures { IfOk result (λ v. v.items ≡ symbol_table_bytes (map symbol_value symbols.now)) }
 {
     let mut table = Vec::new(alloc);
     table.extend_from_slice(&[0; SYMBOL_SIZE])?;

@@ -2,9 +2,9 @@
 use Rattle.std.specs.Prelude.{◌≡◌, List, length}
 use Rattle.elf_objects.specs.Passes.{each_below}
 use Rattle.obj_write.specs.declared.sections.Sections.{Sections}
-use Rattle.obj_write.specs.Sections.{FileSection, contents_of, head_of}
+use Rattle.obj_write.specs.Sections.{FileSection, padded_contents, head_of}
 
 -- the contents and the headers of these sections
 pub record AreSections (sections : List FileSection) (s : Sections) : Type 0 where
-  pub contents : s.contents.items ≡ contents_of sections
+  pub contents : s.contents.items ≡ padded_contents sections
   pub heads : s.heads.items ≡ each_below (head_of sections) (length sections)

@@ -1,7 +1,7 @@
 use Rattle.std.proofs.Common.{ap, ◌∙◌, ◌+◌, ◌++◌, List, ℕ}
 use Rattle.obj_write.specs.Object.{file_header}
 use Rattle.obj_write.proofs.ObjectLemmas.{whole_file}
-use Rattle.obj_write.proofs.object.file_of.Goals as goal
+use Rattle.obj_write.proofs.object.file_bytes.Goals as goal
 
 pub returns : goal.returns
 returns c =

@@ -2,8 +2,8 @@ use Rattle.std.proofs.Common.{◌≡◌, ◌++◌, ◌∷◌, [], sym, ◌∙◌
 use Rattle.std.proofs.lemmas.Bool.Decides.{nat_tests}
 use Rattle.std.proofs.lemmas.List.{append-nil}
 use Rattle.obj_write.proofs.RelocationLemmas.{none_relocated, relocated_more}
-use Rattle.obj_write.proofs.relocations.relocated.Goals as goal
-use Rattle.obj_write.proofs.relocations.relocated.Goals.{then-not-is_empty+in_ok-push, else-not-is_empty}
+use Rattle.obj_write.proofs.relocations.relocated_sections.Goals as goal
+use Rattle.obj_write.proofs.relocations.relocated_sections.Goals.{then-not-is_empty+in_ok-push, else-not-is_empty}
 
 pub loop-i-init : goal.loop-i-init
 loop-i-init c = λ rs tables. none_relocated rs c.new-sections.result.items c.new-sections.ensures.items

@@ -1,8 +1,0 @@
-use Rattle.std.proofs.Common.{◌≡◌, List, length, map}
-use Rattle.elf_objects.specs.Passes.{each_below}
-use Rattle.asm_text.specs.declared.unit.AsmRelocation.{AsmRelocation}
-use Rattle.obj_write.specs.Relocations.{relocation_table, relocated}
-use Rattle.obj_write.proofs.relocations.relocated.Given as goal
-
-abbrev pub invariant-loop-i : goal.invariant-loop-i
-invariant-loop-i l = (rs : List AsmRelocation) → map (λ t. t.items) l.tables ≡ each_below (relocation_table rs) (length l.tables) → l.sections.items ≡ relocated rs l.i
