@@ -17,12 +17,12 @@ use Rattle.script_file.specs.declared.line.Operands.{Operands}
 use Rattle.script_file.specs.declared.line.LineFault.TheVariants as fault
 use Rattle.script_file.specs.Bounds.{is_bounded, IsBounded, IsAddressed, IsLine}
 use Rattle.script_file.specs.Laws.{ScriptLinesAreRead}
-use Rattle.script_file.specs.Line.{read_any_decimal, both, operands_of, go_form, until_form, mem_form, back_form, last_form, bare_form, begins, form_of, line_text, checked}
+use Rattle.script_file.specs.Line.{read_any_decimal, both_operands, operands_of, go_form, until_form, mem_form, back_form, last_form, bare_form, begins_with, form_of, line_text, checked}
 
 -- ---- from a text to its line
 
 -- a text that begins so
-begins_so : (text front : List ℕ) → begins text front ≡ true → text ≡ front ++ drop (length front) text
+begins_so : (text front : List ℕ) → begins_with text front ≡ true → text ≡ front ++ drop (length front) text
 begins_so text front e = sym (take-append-drop (length front) text) ∙ ap (λ t. t ++ drop (length front) text) ((bytes_eq-Decides (take (length front) text) front).0 e)
 
 -- a decimal of a small number
@@ -49,7 +49,7 @@ record IsOperands (text : List ℕ) (a : Operands) : Type 0 where
   long : 5 ≤ length text
   space : get_or text 4 0 ≡ 32
 
-both_parts : (o p : Option ℕ) (a : Operands) → both o p ≡ Some a → (o ≡ Some a.addr) × (p ≡ Some a.number)
+both_parts : (o p : Option ℕ) (a : Operands) → both_operands o p ≡ Some a → (o ≡ Some a.addr) × (p ≡ Some a.number)
 both_parts (Some addr) (Some n) a e = (cc, cc)
 both_parts _ _ a e = absurd cc
 
@@ -57,7 +57,7 @@ operands_from : (text : List ℕ) (a : Operands) → operands_of text ≡ Some a
 unfolding operands_of
 operands_from text a e = by (nat_le 5 (length text)) (get_or text 4 0 == 32) refl refl e
   where
-    by : (c d : Bool) → nat_le 5 (length text) ≡ c → (get_or text 4 0 == 32) ≡ d → cond (c && d) (both (read_hex_word (take 4 text)) (read_any_decimal (drop 5 text))) None ≡ Some a → IsOperands text a
+    by : (c d : Bool) → nat_le 5 (length text) ≡ c → (get_or text 4 0 == 32) ≡ d → cond (c && d) (both_operands (read_hex_word (take 4 text)) (read_any_decimal (drop 5 text))) None ≡ Some a → IsOperands text a
     by true true p q e =
         let parts = both_parts _ _ a e in
         record { addr_is = parts.0; number_is = parts.1; long = grind (arith, nat_tests); space = grind (arith, nat_tests) }
@@ -137,9 +137,9 @@ bare_from text l e = by (bytes_eq text (codes "regs")) (bytes_eq text (codes "ma
 
 form_from : (text : List ℕ) (l : ScriptLine) → form_of text ≡ Some l → IsBounded l → IsText text l
 unfolding form_of
-form_from text l e bounded = by (begins text (codes "go ")) (begins text (codes "until ")) (begins text (codes "mem ")) (begins text (codes "back ")) (begins text (codes "last ")) refl refl refl refl refl e
+form_from text l e bounded = by (begins_with text (codes "go ")) (begins_with text (codes "until ")) (begins_with text (codes "mem ")) (begins_with text (codes "back ")) (begins_with text (codes "last ")) refl refl refl refl refl e
   where
-    by : (g u m b t : Bool) → begins text (codes "go ") ≡ g → begins text (codes "until ") ≡ u → begins text (codes "mem ") ≡ m → begins text (codes "back ") ≡ b → begins text (codes "last ") ≡ t
+    by : (g u m b t : Bool) → begins_with text (codes "go ") ≡ g → begins_with text (codes "until ") ≡ u → begins_with text (codes "mem ") ≡ m → begins_with text (codes "back ") ≡ b → begins_with text (codes "last ") ≡ t
         → cond g (go_form (drop 3 text)) (cond u (until_form (drop 6 text)) (cond m (mem_form (drop 4 text)) (cond b (back_form (drop 5 text)) (cond t (last_form (drop 5 text)) (bare_form text))))) ≡ Some l → IsText text l
     by true u m b t p q r s w e = go_from text (drop 3 text) l (begins_so text (codes "go ") p) e bounded
     by false true m b t p q r s w e = until_from text (drop 6 text) l (begins_so text (codes "until ") q) e bounded

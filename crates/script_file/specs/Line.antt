@@ -17,13 +17,13 @@ use Rattle.script_file.specs.Bounds.{is_bounded}
 abbrev pub read_any_decimal : List ℕ → Option ℕ
 read_any_decimal text = if is_decimal text then Some (number_in text) else None
 
-abbrev pub both : Option ℕ → Option ℕ → Option Operands
-both (Some addr) (Some n) = Some (record { addr = addr; number = n })
-both _ _ = None
+abbrev pub both_operands : Option ℕ → Option ℕ → Option Operands
+both_operands (Some addr) (Some n) = Some (record { addr = addr; number = n })
+both_operands _ _ = None
 
 -- four digits, a space and a decimal
 unfoldable pub operands_of : List ℕ → Option Operands
-operands_of text = if nat_le 5 (length text) && slice_index text 4 == 32 then both (read_hex_word (take 4 text)) (read_any_decimal (drop 5 text)) else None
+operands_of text = if nat_le 5 (length text) && slice_index text 4 == 32 then both_operands (read_hex_word (take 4 text)) (read_any_decimal (drop 5 text)) else None
 
 -- ---- the forms, by what stands behind the name
 
@@ -45,17 +45,17 @@ last_form text = option_map (λ a. Last a.addr a.number) (operands_of text)
 abbrev pub bare_form : List ℕ → Option ScriptLine
 bare_form text = if bytes_eq text (codes "regs") then Some Regs else (if bytes_eq text (codes "mark") then Some Mark else None)
 
-abbrev pub begins : List ℕ → List ℕ → Bool
-begins text front = bytes_eq (take (length front) text) front
+abbrev pub begins_with : List ℕ → List ℕ → Bool
+begins_with text front = bytes_eq (take (length front) text) front
 
 -- the line that a text has the form of
 unfoldable pub form_of : List ℕ → Option ScriptLine
 form_of text =
-    if begins text (codes "go ") then go_form (drop 3 text)
-    else (if begins text (codes "until ") then until_form (drop 6 text)
-    else (if begins text (codes "mem ") then mem_form (drop 4 text)
-    else (if begins text (codes "back ") then back_form (drop 5 text)
-    else (if begins text (codes "last ") then last_form (drop 5 text)
+    if begins_with text (codes "go ") then go_form (drop 3 text)
+    else (if begins_with text (codes "until ") then until_form (drop 6 text)
+    else (if begins_with text (codes "mem ") then mem_form (drop 4 text)
+    else (if begins_with text (codes "back ") then back_form (drop 5 text)
+    else (if begins_with text (codes "last ") then last_form (drop 5 text)
     else bare_form text))))
 
 -- ---- the text of a line

@@ -4,7 +4,7 @@ use Rattle.std.specs.Prelude.{ℕ, zero, suc, ◌+◌, ◌%◌, List, [], ◌∷
 use Rattle.std.specs.Option.{option_map}
 use Rattle.texts.specs.Decimals.{read_decimal}
 use Rattle.workload.specs.declared.pulses.TheConstants.{COUNT}
-use Rattle.workload.specs.Draws.{next}
+use Rattle.workload.specs.Draws.{next_number}
 use Rattle.workload.specs.Program.{image}
 use Rattle.workload.specs.Pulses.{pulses}
 use Rattle.written_machine.specs.Cycle.{cycle, after_cycles}
@@ -42,7 +42,7 @@ first_data = 0
 
 -- the second run's data are the low word of the number after the seed
 abbrev pub second_data : ℕ → ℕ
-second_data seed = next seed % 65536
+second_data seed = next_number seed % 65536
 
 unfoldable pub make_text : ℕ → List ℕ
 make_text seed = runs_text seed CYCLES (start_of seed first_data) (start_of seed (second_data seed))

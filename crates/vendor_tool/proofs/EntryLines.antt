@@ -20,7 +20,7 @@ use Rattle.schedule_file.specs.Reading.{entry_rows, schedule_of}
 use Rattle.vendor_tool.specs.declared.Challenge.{Challenge}
 use Rattle.vendor_tool.specs.Challenges.{last_cycle, nonce_cycles, byte_step, IsChallenge, AreChallenges, AreApart}
 use Rattle.vendor_tool.proofs.Plain.{byte_plain, each, no_feed}
-use Rattle.vendor_tool.specs.NonceSchedule.{bytes_from, nonce_entries, entries_of, entries_text}
+use Rattle.vendor_tool.specs.NonceSchedule.{bytes_from, nonce_entries, schedule_entries, entries_text}
 
 -- ---- no LF in a line
 
@@ -101,13 +101,13 @@ bytes_rise cycle i low (b ∷ bs) more fit most h bytes next =
       bytes_rise cycle (i + 1) (cycle + byte_step * i) bs more (omega arith) most (omega arith) (λ k. bytes (suc k)) next,
     )
 
-entries_rise : (cs : List Challenge) (low : ℕ) → AreChallenges cs → AreApart cs → All (λ c. low ≤ c.cycle) cs → Rise low (entries_of cs)
+entries_rise : (cs : List Challenge) (low : ℕ) → AreChallenges cs → AreApart cs → All (λ c. low ≤ c.cycle) cs → Rise low (schedule_entries cs)
 entries_rise [] low are apart later = tt
 entries_rise (c ∷ cs) low are apart later =
     let sound : IsChallenge c = are 0 c (omega arith) in
     let first : low ≤ c.cycle = later 0 c (omega arith) in
     let whole = sound.length in
-    bytes_rise c.cycle 0 low c.nonce (entries_of cs) (omega arith) sound.cycle (omega arith) sound.bytes
+    bytes_rise c.cycle 0 low c.nonce (schedule_entries cs) (omega arith) sound.cycle (omega arith) sound.bytes
     (λ last h. entries_rise cs last (All-tail IsChallenge c cs are) (λ i j d l k. apart (suc i) (suc j) d (omega arith) (omega arith))
     (λ k d l. let a : c.cycle + nonce_cycles ≤ (get_or cs k d).cycle = apart 0 (suc k) d (omega arith) (omega arith) in omega arith))
 
@@ -115,14 +115,14 @@ length_from : (cycle i : ℕ) (bytes : List ℕ) → length (bytes_from cycle i 
 length_from cycle i [] = refl
 length_from cycle i (b ∷ bs) = ap suc (length_from cycle (i + 1) bs)
 
-length_of : (cs : List Challenge) → AreChallenges cs → length (entries_of cs) ≡ 16 * length cs
+length_of : (cs : List Challenge) → AreChallenges cs → length (schedule_entries cs) ≡ 16 * length cs
 length_of [] are = refl
 length_of (c ∷ cs) are =
     let sound : IsChallenge c = are 0 c (omega arith) in
     let whole = sound.length in
-    omega (arith, length-append (nonce_entries c) (entries_of cs), length_from c.cycle 0 c.nonce, length_of cs (All-tail IsChallenge c cs are))
+    omega (arith, length-append (nonce_entries c) (schedule_entries cs), length_from c.cycle 0 c.nonce, length_of cs (All-tail IsChallenge c cs are))
 
 -- the schedule of challenges is read as their entries
-pub schedule_read : EntriesAreRead → (cs : List Challenge) (text : List ℕ) → length cs ≤ 4096 → AreChallenges cs → AreApart cs → text ≡ entries_text (entries_of cs) → schedule_of text ≡ Ok (entries_of cs)
+pub schedule_read : EntriesAreRead → (cs : List Challenge) (text : List ℕ) → length cs ≤ 4096 → AreChallenges cs → AreApart cs → text ≡ entries_text (schedule_entries cs) → schedule_of text ≡ Ok (schedule_entries cs)
 schedule_read law cs text few are apart is =
-    ap schedule_of is ∙ schedule_is law (entries_of cs) (omega (arith, length_of cs are)) (entries_rise cs 0 are apart (λ k d l. omega arith))
+    ap schedule_of is ∙ schedule_is law (schedule_entries cs) (omega (arith, length_of cs are)) (entries_rise cs 0 are apart (λ k d l. omega arith))

@@ -31,7 +31,7 @@ use Rattle.vendor_tool.specs.Laws.{TimedEvent, IsTold, IsEndState, events_text, 
 use Rattle.texts.specs.Rows.{after_these}
 use Rattle.vendor_tool.specs.Replies.{last_byte, sent_by, ends, at_end, by_end, from_kind, replies_from, replies_of}
 use Rattle.vendor_tool.proofs.Plain.{IsPlain, decimal_plain, byte_plain, word_plain, each, no_space, no_feed}
-use Rattle.vendor_tool.specs.TraceLines.{fits_word, all_fit, form_of, kinds, kind_of}
+use Rattle.vendor_tool.specs.TraceLines.{fits_word, all_fit, kind_form, line_kinds, kind_of}
 
 -- ---- words that single spaces part
 
@@ -62,7 +62,7 @@ no_feed-joined word (next ∷ more) plain are =
 -- ---- kinds
 
 abbrev kind_by : List (List ℕ) → Option Kind
-kind_by ws = find (λ kind. all_fit (form_of kind) ws) kinds
+kind_by ws = find (λ kind. all_fit (kind_form kind) ws) line_kinds
 
 kind_is : (line : List ℕ) (ws : List (List ℕ)) (kind : Kind) → words line ≡ ws → kind_by ws ≡ Some kind → kind_of line ≡ Some kind
 unfolding kind_of

@@ -16,13 +16,13 @@ abbrev pub nonce_entries : Challenge → List Entry
 nonce_entries c = bytes_from c.cycle 0 c.nonce
 
 -- the entries of the schedule
-abbrev pub entries_of : List Challenge → List Entry
-entries_of cs = flat_map nonce_entries cs
+abbrev pub schedule_entries : List Challenge → List Entry
+schedule_entries cs = flat_map nonce_entries cs
 
 -- an entry's line
-abbrev pub entry_line : Entry → List ℕ
-entry_line e = entry_text e ++ codes "\n"
+abbrev pub schedule_line : Entry → List ℕ
+schedule_line e = entry_text e ++ codes "\n"
 
 -- the text of a schedule
 abbrev pub entries_text : List Entry → List ℕ
-entries_text es = flat_map entry_line es
+entries_text es = flat_map schedule_line es

@@ -42,24 +42,24 @@ label_text Addr = codes "addr"
 label_text Module = codes "module"
 
 -- the words of each kind of line: an event's cycle comes first, and an end line begins with `end`
-abbrev pub form_of : Kind → List Word
-form_of Resume = Number ∷ Keyword Resume ∷ Number ∷ []
-form_of Close = Number ∷ Keyword Close ∷ Number ∷ []
-form_of Handler = Number ∷ Keyword Handler ∷ Mark Pc ∷ Address ∷ []
-form_of Leave = Number ∷ Keyword Leave ∷ Number ∷ Mark Pc ∷ Address ∷ []
-form_of Hide = Number ∷ Keyword Hide ∷ Number ∷ Mark Vector ∷ Number ∷ []
-form_of Irq = Number ∷ Keyword Irq ∷ Number ∷ []
-form_of Enter = Number ∷ Keyword Enter ∷ Number ∷ Mark From ∷ Number ∷ []
-form_of Reti = Number ∷ Keyword Reti ∷ []
-form_of Protect = Number ∷ Keyword Protect ∷ Number ∷ []
-form_of Out = Number ∷ Keyword Out ∷ Byte ∷ []
-form_of Stop = Number ∷ Keyword Stop ∷ RuleName ∷ Mark Pc ∷ Address ∷ Mark Addr ∷ Address ∷ Mark Module ∷ Number ∷ []
-form_of Stopped = Mark End ∷ Number ∷ Keyword Stopped ∷ []
-form_of Inside = Mark End ∷ Number ∷ Keyword Inside ∷ Number ∷ []
-form_of Outside = Mark End ∷ Number ∷ Keyword Outside ∷ replicate 16 Address
+abbrev pub kind_form : Kind → List Word
+kind_form Resume = Number ∷ Keyword Resume ∷ Number ∷ []
+kind_form Close = Number ∷ Keyword Close ∷ Number ∷ []
+kind_form Handler = Number ∷ Keyword Handler ∷ Mark Pc ∷ Address ∷ []
+kind_form Leave = Number ∷ Keyword Leave ∷ Number ∷ Mark Pc ∷ Address ∷ []
+kind_form Hide = Number ∷ Keyword Hide ∷ Number ∷ Mark Vector ∷ Number ∷ []
+kind_form Irq = Number ∷ Keyword Irq ∷ Number ∷ []
+kind_form Enter = Number ∷ Keyword Enter ∷ Number ∷ Mark From ∷ Number ∷ []
+kind_form Reti = Number ∷ Keyword Reti ∷ []
+kind_form Protect = Number ∷ Keyword Protect ∷ Number ∷ []
+kind_form Out = Number ∷ Keyword Out ∷ Byte ∷ []
+kind_form Stop = Number ∷ Keyword Stop ∷ RuleName ∷ Mark Pc ∷ Address ∷ Mark Addr ∷ Address ∷ Mark Module ∷ Number ∷ []
+kind_form Stopped = Mark End ∷ Number ∷ Keyword Stopped ∷ []
+kind_form Inside = Mark End ∷ Number ∷ Keyword Inside ∷ Number ∷ []
+kind_form Outside = Mark End ∷ Number ∷ Keyword Outside ∷ replicate 16 Address
 
-abbrev pub kinds : List Kind
-kinds = Resume ∷ Close ∷ Handler ∷ Leave ∷ Hide ∷ Irq ∷ Enter ∷ Reti ∷ Protect ∷ Out ∷ Stop ∷ Stopped ∷ Inside ∷ Outside ∷ []
+abbrev pub line_kinds : List Kind
+line_kinds = Resume ∷ Close ∷ Handler ∷ Leave ∷ Hide ∷ Irq ∷ Enter ∷ Reti ∷ Protect ∷ Out ∷ Stop ∷ Stopped ∷ Inside ∷ Outside ∷ []
 
 abbrev pub rules : List Rule
 rules = FetchNotEntry ∷ FetchData ∷ ReadData ∷ WriteData ∷ WriteText ∷ Reenter ∷ RetiInside ∷ Straddle ∷ Misaligned ∷ Illegal ∷ FetchDevice ∷ []
@@ -79,9 +79,9 @@ all_fit [] [] = true
 all_fit (word ∷ form) (text ∷ texts) = fits_word word text && all_fit form texts
 all_fit _ _ = false
 
-abbrev pub has_form : List ℕ → Kind → Bool
-has_form line kind = all_fit (form_of kind) (words line)
+abbrev pub is_of_kind : List ℕ → Kind → Bool
+is_of_kind line kind = all_fit (kind_form kind) (words line)
 
 -- the kind of a line, where it has one of the forms
 unfoldable pub kind_of : List ℕ → Option Kind
-kind_of line = find (has_form line) kinds
+kind_of line = find (is_of_kind line) line_kinds

@@ -4,7 +4,7 @@ ghost use Rattle.std.specs.Prelude.{◌≡◌, ◌++◌, ◌≤◌, ◌+◌, ◌
 ghost use Rattle.schedule_file.specs.Reading.{schedule_of};
 ghost use Rattle.schedule_file.specs.declared.What.TheVariants.{Serial};
 ghost use Rattle.vendor_tool.specs.Challenges.{IsChallenge};
-ghost use Rattle.vendor_tool.specs.NonceSchedule.{nonce_entries, entries_of, entry_line, entries_text};
+ghost use Rattle.vendor_tool.specs.NonceSchedule.{nonce_entries, schedule_entries, schedule_line, entries_text};
 
 use crate::{BYTE_STEP, Challenge, Challenges};
 use arrayvec::ArrayString;
@@ -15,8 +15,8 @@ use texts::{push_decimal, push_hex_byte};
 /// The text of the schedule that sends the challenges over the serial line: byte i of a nonce, counted from 0, is
 /// received 100 * i cycles after the challenge's cycle. It is read as exactly these entries.
 pub fn schedule_text(alloc: Global, challenges: &Challenges) -> Result<Vec<u8>, AllocError>
-    ensures text { IfOk result (λ text. text.items ≡ entries_text (entries_of challenges.now.list.items)) }
-    ensures read { IfOk result (λ text. schedule_of text.items ≡ Ok (entries_of challenges.now.list.items)) }
+    ensures text { IfOk result (λ text. text.items ≡ entries_text (schedule_entries challenges.now.list.items)) }
+    ensures read { IfOk result (λ text. schedule_of text.items ≡ Ok (schedule_entries challenges.now.list.items)) }
 {
     one_line_an_entry();
     let mut text = Vec::new(alloc);
@@ -42,7 +42,7 @@ fn push_nonce(challenge: &Challenge, text: &mut Vec<u8>) -> Result<(), AllocErro
 // Appends the line of one byte.
 fn push_entry(cycle: u64, byte: u8, text: &mut Vec<u8>) -> Result<(), AllocError>
     ensures { OnOk result (text.new.items ≡ text.old.items
-        ++ entry_line (record { cycle = cycle; what = Serial byte })) }
+        ++ schedule_line (record { cycle = cycle; what = Serial byte })) }
 {
     let mut line = ArrayString::<32>::new();
     push_decimal(cycle, &mut line);

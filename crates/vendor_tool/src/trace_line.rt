@@ -59,8 +59,8 @@ pub enum Word {
 pub fn kind_of(line: &[u8]) -> Option<Kind>
     ensures kind { result ≡ spec.kind_of line.now }
 {
-    for kind in kinds() {
-        if has_form(line, form_of(*kind)) {
+    for kind in line_kinds() {
+        if has_form(line, kind_form(*kind)) {
             return Some(*kind);
         }
     }
@@ -81,8 +81,8 @@ pub fn tells_byte(kind: Kind) -> bool
     matches!(kind, Kind::Out)
 }
 
-fn kinds() -> &'static [Kind]
-    ensures { result.now ≡ spec.kinds }
+fn line_kinds() -> &'static [Kind]
+    ensures { result.now ≡ spec.line_kinds }
 {
     &[
         Kind::Resume,
@@ -103,8 +103,8 @@ fn kinds() -> &'static [Kind]
 }
 
 // The words of a line of this kind: the event's, or the end line's.
-fn form_of(kind: Kind) -> &'static [Word]
-    ensures { result.now ≡ spec.form_of kind }
+fn kind_form(kind: Kind) -> &'static [Word]
+    ensures { result.now ≡ spec.kind_form kind }
 {
     match kind {
         Kind::Resume => &[Word::Number, Word::Keyword(Kind::Resume), Word::Number],
@@ -125,7 +125,7 @@ fn form_of(kind: Kind) -> &'static [Word]
 }
 
 fn handler_form() -> &'static [Word]
-    ensures { result.now ≡ spec.form_of (Kind.Handler) }
+    ensures { result.now ≡ spec.kind_form (Kind.Handler) }
 {
     &[
         Word::Number,
@@ -136,7 +136,7 @@ fn handler_form() -> &'static [Word]
 }
 
 fn leave_form() -> &'static [Word]
-    ensures { result.now ≡ spec.form_of (Kind.Leave) }
+    ensures { result.now ≡ spec.kind_form (Kind.Leave) }
 {
     &[
         Word::Number,
@@ -148,7 +148,7 @@ fn leave_form() -> &'static [Word]
 }
 
 fn hide_form() -> &'static [Word]
-    ensures { result.now ≡ spec.form_of (Kind.Hide) }
+    ensures { result.now ≡ spec.kind_form (Kind.Hide) }
 {
     &[
         Word::Number,
@@ -160,7 +160,7 @@ fn hide_form() -> &'static [Word]
 }
 
 fn enter_form() -> &'static [Word]
-    ensures { result.now ≡ spec.form_of (Kind.Enter) }
+    ensures { result.now ≡ spec.kind_form (Kind.Enter) }
 {
     &[
         Word::Number,
@@ -172,7 +172,7 @@ fn enter_form() -> &'static [Word]
 }
 
 fn stop_form() -> &'static [Word]
-    ensures { result.now ≡ spec.form_of (Kind.Stop) }
+    ensures { result.now ≡ spec.kind_form (Kind.Stop) }
 {
     &[
         Word::Number,
@@ -189,7 +189,7 @@ fn stop_form() -> &'static [Word]
 
 // The end line's words where the machine is stopped.
 fn stopped_form() -> &'static [Word]
-    ensures { result.now ≡ spec.form_of (Kind.Stopped) }
+    ensures { result.now ≡ spec.kind_form (Kind.Stopped) }
 {
     &[
         Word::Mark(Label::End),
@@ -200,7 +200,7 @@ fn stopped_form() -> &'static [Word]
 
 // The end line's words where a module is active.
 fn inside_form() -> &'static [Word]
-    ensures { result.now ≡ spec.form_of (Kind.Inside) }
+    ensures { result.now ≡ spec.kind_form (Kind.Inside) }
 {
     &[
         Word::Mark(Label::End),
@@ -212,7 +212,7 @@ fn inside_form() -> &'static [Word]
 
 // The end line's words where no module is active, with the sixteen registers.
 fn outside_form() -> &'static [Word]
-    ensures { result.now ≡ spec.form_of (Kind.Outside) }
+    ensures { result.now ≡ spec.kind_form (Kind.Outside) }
 {
     &[
         Word::Mark(Label::End),

@@ -6,7 +6,7 @@ use Rattle.std.proofs.lemmas.List.{get_or_append_left, get_or-replicate, length-
 use Rattle.mod_layout.specs.declared.TheConstants.{RESET_VECTOR}
 use Rattle.workload.specs.declared.program.TheConstants.{PROGRAM, TEXT, DATA, HANDLER, LINE_VECTOR}
 use Rattle.sm_words.specs.Bytes.{word_bytes}
-use Rattle.workload.specs.Program.{placed, memory}
+use Rattle.workload.specs.Program.{placed_words, memory}
 
 -- the bytes of the devices are 0
 pub record IsLow (bytes : List ℕ) : Type 0 where
@@ -28,12 +28,12 @@ low_zeros = record {
   low = λ a small. get_or-replicate 512 a 0 0 small;
 }
 
-low_first : (words : List ℕ) → IsLow (placed 512 words [])
-unfolding placed
+low_first : (words : List ℕ) → IsLow (placed_words 512 words [])
+unfolding placed_words
 low_first words = low_front (replicate 512 0) (flat_map word_bytes words) low_zeros
 
-low_more : (addr : ℕ) (words before : List ℕ) → IsLow before → IsLow (placed addr words before)
-unfolding placed
+low_more : (addr : ℕ) (words before : List ℕ) → IsLow before → IsLow (placed_words addr words before)
+unfolding placed_words
 low_more addr words before h = low_front (before ++ replicate (addr - length before) 0) (flat_map word_bytes words) (low_front before (replicate (addr - length before) 0) h)
 
 pub low_memory : (word : ℕ) → IsLow (memory word)

@@ -6,16 +6,16 @@ use Rattle.std.proofs.lemmas.List.Sorted.{IsNonDecreasingBy-push, IsNonDecreasin
 use Rattle.schedule_file.specs.declared.Entry.{Entry}
 use Rattle.schedule_file.specs.declared.What.TheVariants.{Up, Down}
 use Rattle.schedule_file.specs.Entries.{CyclesNeverFall, HasLine}
-use Rattle.workload.specs.Draws.{next, drawn}
+use Rattle.workload.specs.Draws.{next_number, drawn}
 use Rattle.workload.specs.Pulses.{pulse_cycle, pulses}
 
 -- ---- one more
 
-pub drawn_first : (seed : ℕ) → drawn seed 1 ≡ next seed
+pub drawn_first : (seed : ℕ) → drawn seed 1 ≡ next_number seed
 unfolding drawn
 drawn_first seed = refl
 
-pub drawn_more : (seed n : ℕ) → drawn seed (n + 1) ≡ next (drawn seed n)
+pub drawn_more : (seed n : ℕ) → drawn seed (n + 1) ≡ next_number (drawn seed n)
 unfolding drawn
 drawn_more seed n = let e : n + 1 ≡ suc n = omega arith in ap (λ k. drawn seed k) e
 

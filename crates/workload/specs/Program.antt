@@ -8,18 +8,18 @@ use Rattle.image_text.specs.Image.{Image}
 use Rattle.workload.specs.declared.program.TheConstants.{START, PROGRAM, TEXT, MODULE, DATA, VENDOR, HANDLER, LINE_VECTOR, HANDLER_STACK, RETI}
 
 -- words at an address, with zeros before them
-unfoldable pub placed : ℕ → List ℕ → List ℕ → List ℕ
-placed addr words before = (before ++ replicate (addr - length before) 0) ++ flat_map word_bytes words
+unfoldable pub placed_words : ℕ → List ℕ → List ℕ → List ℕ
+placed_words addr words before = (before ++ replicate (addr - length before) 0) ++ flat_map word_bytes words
 
 -- the bytes of memory, where the module's data is this word
 unfoldable pub memory : ℕ → List ℕ
 memory word =
-    placed RESET_VECTOR (START ∷ [])
-    (placed LINE_VECTOR (HANDLER ∷ [])
-    (placed HANDLER (RETI ∷ [])
-    (placed DATA.start (word ∷ [])
-    (placed TEXT.start MODULE
-    (placed START PROGRAM [])))))
+    placed_words RESET_VECTOR (START ∷ [])
+    (placed_words LINE_VECTOR (HANDLER ∷ [])
+    (placed_words HANDLER (RETI ∷ [])
+    (placed_words DATA.start (word ∷ [])
+    (placed_words TEXT.start MODULE
+    (placed_words START PROGRAM [])))))
 
 -- the table of the one module
 abbrev pub table : Table

@@ -18,7 +18,7 @@ const _: () = prove!(ADDEND == 12_345 && BOUND == 0x8000_0000 && FACTOR == 1_103
 /// The number after this one.
 pub fn next(number: u64) -> u64
     requires seed { number < 2 ^ 32 }
-    ensures next { result ≡ spec.next number }
+    ensures next { result ≡ spec.next_number number }
     ensures bound { result < BOUND }
 {
     (number * FACTOR + ADDEND) % BOUND

@@ -124,10 +124,10 @@ fn fill(memory: &mut Vec<u8>, end: usize) -> Result<(), AllocError>
 }
 
 // Zeros up to an address, and words there.
-#[tactic(auto, unfolding(crate::specs::Program::placed))]
+#[tactic(auto, unfolding(crate::specs::Program::placed_words))]
 fn place(memory: &mut Vec<u8>, addr: u16, words: &[u16]) -> Result<(), AllocError>
     requires order { length memory.old.items ≤ addr }
-    ensures placed { OnOk result (memory.new.items ≡ spec.placed addr words.now memory.old.items) }
+    ensures placed { OnOk result (memory.new.items ≡ spec.placed_words addr words.now memory.old.items) }
     ensures length { OnOk result (length memory.new.items ≡ addr + 2 * length words.now) }
 {
     fill(memory, usize::from(addr))?;

@@ -15,7 +15,7 @@ use Rattle.peer_rows.specs.Laws.{DifferInData}
 use Rattle.peer_rows.specs.Rows.{called}
 use Rattle.workload.specs.declared.program.TheConstants.{START, PROGRAM, TEXT, DATA, HANDLER, LINE_VECTOR}
 use Rattle.sm_words.specs.Bytes.{word_bytes}
-use Rattle.workload.specs.Program.{placed, memory, image}
+use Rattle.workload.specs.Program.{placed_words, memory, image}
 use Rattle.workload.proofs.Memory.{low_memory}
 use Rattle.peer_rows.proofs.Sound.{none_at}
 
@@ -28,8 +28,8 @@ bytes_words : (ws : List ℕ) → Bytes (flat_map word_bytes ws)
 bytes_words [] = All-nil (λ b. b < 256)
 bytes_words (w ∷ ws) = All-cons (λ b. b < 256) (low_byte w) (high_byte w ∷ flat_map word_bytes ws) (omega arith) (All-cons (λ b. b < 256) (high_byte w) (flat_map word_bytes ws) (omega arith) (bytes_words ws))
 
-bytes_placed : (addr : ℕ) (ws before : List ℕ) → Bytes before → Bytes (placed addr ws before)
-unfolding placed
+bytes_placed : (addr : ℕ) (ws before : List ℕ) → Bytes before → Bytes (placed_words addr ws before)
+unfolding placed_words
 bytes_placed addr ws before h =
     All-append (λ b. b < 256) (before ++ replicate (addr - length before) 0) (flat_map word_bytes ws)
     (All-append (λ b. b < 256) before (replicate (addr - length before) 0) h (All-replicate (λ b. b < 256) (addr - length before) 0 (omega arith))) (bytes_words ws)
@@ -55,19 +55,19 @@ pair : ℕ → List ℕ
 pair v = low_byte v ∷ high_byte v ∷ []
 
 memory_is : (v : ℕ) → memory v ≡ (front ++ pair v) ++ back
-unfolding memory placed front back pair
+unfolding memory placed_words front back pair
 memory_is v = refl
 
 full : (v : ℕ) → length (memory v) ≡ 65536
-unfolding memory placed
+unfolding memory placed_words
 full v = refl
 
 front_length : length front ≡ 0x400
-unfolding memory placed front
+unfolding memory placed_words front
 front_length = refl
 
 pair_length : (v : ℕ) → length (front ++ pair v) ≡ 0x402
-unfolding memory placed front pair
+unfolding memory placed_words front pair
 pair_length v = refl
 
 below : (v x : ℕ) → x < 0x400 → slice_index (memory v) x ≡ slice_index front x

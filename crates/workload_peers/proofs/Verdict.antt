@@ -4,11 +4,11 @@ use Rattle.flow_rule.specs.declared.Verdict.TheVariants.{Yes}
 use Rattle.flow_rule.specs.Arms.{VerdictWith}
 use Rattle.written_machine.specs.Peers.{section}
 use Rattle.peer_rows.specs.Rows.{called, balanced}
-use Rattle.workload.specs.Program.{placed, memory, image}
+use Rattle.workload.specs.Program.{placed_words, memory, image}
 use Rattle.peer_rows.proofs.Examples.{bytes_of, meet, balanced_accepted}
 
 text_is : (v : ℕ) → section (called 0x0322).text (image v).memory ≡ bytes_of balanced
-unfolding image memory placed bytes_of
+unfolding image memory placed_words bytes_of
 text_is v = refl
 
 pub accepted : (v : ℕ) → VerdictWith (called 0x0322) (section (called 0x0322).text (image v).memory) meet Yes
