@@ -10,7 +10,7 @@ use Rattle.cli_files.specs.declared.answers.Refusal.TheVariants as refusal
 use Rattle.cli_files.specs.declared.answers.Status.{Status}
 use Rattle.cli_files.specs.declared.answers.Status.TheVariants as status
 use Rattle.cli_files.specs.Files.{IsFirstFault}
-use Rattle.cli_files.specs.Refusal.{status_of, line_of}
+use Rattle.cli_files.specs.Refusal.{status_of, refusal_line}
 use Rattle.cli_calls.specs.Calls.{Call, Serves, Refuses, IsCalledFor, IsCause, Completes, IsOrOutside, WasRun, WasTold, TellsAs, Ended, was_run, was_told}
 use Rattle.cli_calls.specs.Command.{Command, Answer, Answers, Outcome, refuses, Comes, IsAnswer}
 use Rattle.cli_calls.specs.Runs.{EndsAs, IsCommandCause, IsSound}
@@ -50,10 +50,10 @@ module _ (call : Call) (took cut told part : List ℕ → Type 0) (same_err same
   run_says status.WriteFault r e = inl (r.run.answer.status, serves status.WriteFault r.run.answer.status cut r refl r.run.ends, e)
   run_says _ r e = absurd r.run.ends
 
-  tells : (q : Refusal) (name : List ℕ) (P : List ℕ → Type 0) → IsCause call q name → P (line_of call.program q name) → Refuses call (status_of q) P
+  tells : (q : Refusal) (name : List ℕ) (P : List ℕ → Type 0) → IsCause call q name → P (refusal_line call.program q name) → Refuses call (status_of q) P
   tells q name P c t = record { refused = q; name = name; status = refl; cause = c; line = t }
 
-  told_says : (q : Refusal) (name : List ℕ) → IsCause call q name → told (line_of call.program q name) → same_out → Says (status_of q)
+  told_says : (q : Refusal) (name : List ℕ) → IsCause call q name → told (refusal_line call.program q name) → same_out → Says (status_of q)
   told_says refusal.Usage name c t o = (tells refusal.Usage name told c t, o)
   told_says q name c t o = (tells q name told c t, o)
 
@@ -184,4 +184,4 @@ module _ (call : Call) (took cut told part : List ℕ → Type 0) (same_err same
 
         by : TellsAs call.program ended r.refused r.name told part → ⊥
         by (inl t) = of r.refused r.cause t.0
-        by (inr t) = no_part (line_of call.program r.refused r.name) t.1
+        by (inr t) = no_part (refusal_line call.program r.refused r.name) t.1

@@ -7,7 +7,7 @@ use Rattle.cli_files.specs.declared.answers.Status.TheVariants as status
 use Rattle.cli_files.specs.declared.answers.Refusal.{Refusal}
 use Rattle.cli_files.specs.declared.answers.Refusal.TheVariants as refusal
 use Rattle.cli_files.specs.Files.{IsFirstFault, IsReached}
-use Rattle.cli_files.specs.Refusal.{is_read_fault, status_of, line_of}
+use Rattle.cli_files.specs.Refusal.{is_read_fault, status_of, refusal_line}
 use Rattle.cli_calls.specs.Command.{Answer, Command, Comes, refuses, IsAnswer}
 use Rattle.cli_calls.specs.Runs.{IsRun}
 
@@ -55,7 +55,7 @@ pub record Refuses (call : Call) (ended : Status) (P : List ℕ → Type 0) : Ty
   pub name : List ℕ
   pub status : status_of refused ≡ ended
   pub cause : IsCause call refused name
-  pub line : P (line_of call.program refused name)
+  pub line : P (refusal_line call.program refused name)
 
 -- How a call ended
 
@@ -69,7 +69,7 @@ pub record WasRun (call : Call) (ended : Status) (took cut : List ℕ → Type 0
 -- the line of a refusal, which begins with the program's name, was taken, or cut off
 abbrev pub TellsAs : List ℕ → Status → Refusal → List ℕ → (took cut : List ℕ → Type 0) → Type 0
 TellsAs program ended refused name took cut =
-    ((ended ≡ status_of refused) × took (line_of program refused name)) ⊎ ((ended ≡ status.WriteFault) × cut (line_of program refused name))
+    ((ended ≡ status_of refused) × took (refusal_line program refused name)) ⊎ ((ended ≡ status.WriteFault) × cut (refusal_line program refused name))
 
 -- a refusal that has its cause was told so
 pub record WasTold (call : Call) (ended : Status) (took cut : List ℕ → Type 0) : Type 0 where

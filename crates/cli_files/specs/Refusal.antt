@@ -42,5 +42,5 @@ refusal_text (refusal.Link fault) name = codes "link " ++ (link_fault_text fault
 refusal_text refusal.NoMemory name = codes "no memory\n"
 
 -- its line, which begins with the program's name
-unfoldable pub line_of : List ℕ → Refusal → List ℕ → List ℕ
-line_of program refused name = (program ++ codes ": ") ++ refusal_text refused name
+unfoldable pub refusal_line : List ℕ → Refusal → List ℕ → List ℕ
+refusal_line program refused name = (program ++ codes ": ") ++ refusal_text refused name

@@ -3,7 +3,7 @@ ghost use Rattle.std.specs.Prelude.{◌++◌, codes};
 ghost use Rattle.std.specs.Fmt.{decimal};
 ghost use Rattle.sm_io.specs.Sink.{Puts};
 ghost use Rattle.cli_files.specs.Faults.{challenge_fault_text, fault_text, image_fault_text, schedule_fault_text, table_fault_text, trace_fault_text, arms_fault_text, terms_fault_text, script_fault_text};
-ghost use Rattle.cli_files.specs.Refusal.{line_of, refusal_text, link_end};
+ghost use Rattle.cli_files.specs.Refusal.{refusal_line, refusal_text, link_end};
 ghost use Rattle.cli_files.specs.NameText.{name_text};
 ghost use Rattle.cli_files.specs.LinkFaults.{link_fault_text};
 
@@ -243,7 +243,7 @@ pub fn put_refusal<S: Sink>(
     refused: &Refused<'_>,
 ) -> Result<(), Failed>
     ensures { Puts S.taken S.faults S.sure sink.old sink.new
-        (line_of program.now refused.now.refusal (name_text refused.now.name)) result }
+        (refusal_line program.now refused.now.refusal (name_text refused.now.name)) result }
 {
     match put_both(sink, program, b": ") {
         Ok(()) => put_refusal_text(sink, refused),

@@ -15,7 +15,7 @@ use Rattle.cli_files.specs.declared.answers.Refusal.{Refusal}
 use Rattle.cli_files.specs.declared.answers.Status.{Status}
 use Rattle.cli_files.specs.declared.answers.Status.TheVariants.{Stopped}
 use Rattle.cli_files.specs.Files.{IsFirstFault}
-use Rattle.cli_files.specs.Refusal.{line_of}
+use Rattle.cli_files.specs.Refusal.{refusal_line}
 use Rattle.cli_calls.specs.Command.{Command, Outcome, refuses, Comes, Answer, IsAnswer, trace_answer}
 use Rattle.link_symbols.specs.declared.fault.LinkFault.{LinkFault}
 use Rattle.sm_cli.specs.CommandLine.{command_of}
@@ -46,7 +46,7 @@ module _ {S : Type 0} (taken : S → Option (List ℕ)) (faults sure : S → ℕ
   -- And where it is sure of as many as each line of a refusal has, not within such a line.
   abbrev pub LinesAreTaken : Type 0
   LinesAreTaken = (call : Call) (ended : Status) (old new : S) →
-      ((refused : Refusal) (name : List ℕ) → IsCalledFor call refused name → length (line_of call.program refused name) ≤ sure old) →
+      ((refused : Refusal) (name : List ℕ) → IsCalledFor call refused name → length (refusal_line call.program refused name) ≤ sure old) →
       ¬ (Refuses call ended (CutOff taken faults sure old new))
 
 -- in cycle k of this run a check is refused first, the machine stops by it, and the trace has its line
