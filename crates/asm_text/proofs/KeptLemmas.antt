@@ -17,7 +17,7 @@ use Rattle.asm_text.specs.internal.Emitted.{AreNames}
 use Rattle.asm_text.specs.internal.Kept.{IsSource}
 use Rattle.asm_text.specs.internal.Known.{IsBelow, IsKnown, AreKnown, IsNamed, AreNamed}
 use Rattle.asm_text.specs.Lines.{statement_of}
-use Rattle.asm_text.specs.Names.{name_number, noted_by, with_name, Tables, no_tables, noted_option, number_option, tables_after, numbered}
+use Rattle.asm_text.specs.Names.{name_number, noted_by, name_added, Tables, no_tables, noted_option, number_option, tables_after, numbered}
 use Rattle.asm_text.specs.Parts.{is_name}
 use Rattle.asm_text.specs.Source.{SourceRead, more, source_by, source_from, source_read}
 use Rattle.asm_text.proofs.PlaceLemmas.{place_none}
@@ -43,7 +43,7 @@ not_there names name none k d low same =
     let hit : bytes_eq (get_or names k d) name ≡ true = (bytes_eq-Decides (get_or names k d) name).1 same in
     absurd cc
 
-pub is_noted : (names : List (List ℕ)) (name : List ℕ) → IsTable names → is_name name ≡ true → IsNoted names (with_name names name) (name_number names name)
+pub is_noted : (names : List (List ℕ)) (name : List ℕ) → IsTable names → is_name name ≡ true → IsNoted names (name_added names name) (name_number names name)
 is_noted names name t named = by (nat_lt (name_number names name) (length names)) refl
   where
     by_place : (o : Option ℕ) (c : Bool) → position (λ n. bytes_eq n name) names ≡ o → nat_lt (name_number names name) (length names) ≡ c → cond c (Some (name_number names name)) None ≡ o → IsNoted names (noted_by (is_some o) names name) (name_number names name)
@@ -60,7 +60,7 @@ is_noted names name t named = by (nat_lt (name_number names name) (length names)
           low = omega arith;
         }
 
-    by : (c : Bool) → nat_lt (name_number names name) (length names) ≡ c → IsNoted names (with_name names name) (name_number names name)
+    by : (c : Bool) → nat_lt (name_number names name) (length names) ≡ c → IsNoted names (name_added names name) (name_number names name)
     by c low = by_place (position (λ n. bytes_eq n name) names) c refl low (ap (λ b. cond b (Some (name_number names name)) None) (sym low))
 
 -- ---- a statement

@@ -15,8 +15,8 @@ noted_by true names name = names
 noted_by false names name = names ++ name ∷ []
 
 -- the list with this name, which comes last where it was not there
-abbrev pub with_name : List (List ℕ) → List ℕ → List (List ℕ)
-with_name names name = noted_by (is_some (position (λ n. bytes_eq n name) names)) names name
+abbrev pub name_added : List (List ℕ) → List ℕ → List (List ℕ)
+name_added names name = noted_by (is_some (position (λ n. bytes_eq n name) names)) names name
 
 -- the names of sections, and all other names
 pub record Tables : Type 0 where
@@ -30,7 +30,7 @@ no_tables = record { sections = []; names = [] }
 
 abbrev pub noted_option : List (List ℕ) → Option (List ℕ) → List (List ℕ)
 noted_option names None = names
-noted_option names (Some name) = with_name names name
+noted_option names (Some name) = name_added names name
 
 abbrev pub number_option : List (List ℕ) → Option (List ℕ) → Option ℕ
 number_option names None = None
@@ -38,13 +38,13 @@ number_option names (Some name) = Some (name_number names name)
 
 -- the tables with the names of a statement
 abbrev pub tables_after : Tables → Statement (List ℕ) → Tables
-tables_after t (Section name kind) = record { sections = with_name t.sections name; names = t.names }
-tables_after t (Label name) = record { sections = t.sections; names = with_name t.names name }
-tables_after t (Global name) = record { sections = t.sections; names = with_name t.names name }
-tables_after t (Word (Name name)) = record { sections = t.sections; names = with_name t.names name }
+tables_after t (Section name kind) = record { sections = name_added t.sections name; names = t.names }
+tables_after t (Label name) = record { sections = t.sections; names = name_added t.names name }
+tables_after t (Global name) = record { sections = t.sections; names = name_added t.names name }
+tables_after t (Word (Name name)) = record { sections = t.sections; names = name_added t.names name }
 tables_after t (Word (Number n)) = t
 tables_after t (Space size) = t
-tables_after t (Jump cond target) = record { sections = t.sections; names = with_name t.names target }
+tables_after t (Jump cond target) = record { sections = t.sections; names = name_added t.names target }
 tables_after t (Code insn first second) = record { sections = t.sections; names = noted_option (noted_option t.names first) second }
 
 -- a statement that follows those of the tables, with its names by their numbers

@@ -36,7 +36,7 @@ impl<'a> Names<'a> {
     pub fn number(&mut self, name: &'a [u8]) -> Result<usize, AllocError>
         requires indexed { IsIndexed self.old }
         ensures number { IfOk result (λ number. number ≡ spec.name_number (texts_of self.old) name.entry.now) }
-        ensures noted { OnOk result (texts_of self.new ≡ spec.with_name (texts_of self.old) name.entry.now) }
+        ensures noted { OnOk result (texts_of self.new ≡ spec.name_added (texts_of self.old) name.entry.now) }
         ensures indexed { OnOk result (IsIndexed self.new) }
     {
         if let Some(number) = find(&self.numbers, name) {

@@ -14,7 +14,7 @@ use Rattle.layout_file.specs.Values.{VectorValue, ModuleValue, LayoutValue}
 use Rattle.link_symbols.specs.Passes.{NumberedObject, numbered_objects, numbered_objects_from, part, fold_at}
 use Rattle.link_symbols.specs.Parts.{is_loaded_head}
 use Rattle.linker.specs.Numbers.{Linking, numbers_in}
-use Rattle.linker.specs.Bytes.{with_bytes, memory_part, word_bytes}
+use Rattle.linker.specs.Bytes.{bytes_put, memory_part, word_bytes}
 use Rattle.linker.specs.Sections.{put_section, put_sections}
 use Rattle.linker.specs.Fields.{put_field, put_fields, with_field, or_same, target_address, target_size, symbol_sum}
 use Rattle.linker.specs.Stubs.{word_named, stub_of, put_stub, put_vector}
@@ -29,7 +29,7 @@ read_by m a h (inr l) = let z = get_or_past m a 0 l in omega (arith, z)
 pub each_byte : (m : List ℕ) → AreBytes m → (a : ℕ) → slice_index m a < 256
 each_byte m h a = read_by m a h (cases_lt a (length m))
 
-put_bytes : (m : List ℕ) (at : ℕ) (bytes : List ℕ) → AreBytes m → AreBytes bytes → AreBytes (with_bytes m at bytes)
+put_bytes : (m : List ℕ) (at : ℕ) (bytes : List ℕ) → AreBytes m → AreBytes bytes → AreBytes (bytes_put m at bytes)
 put_bytes m at bytes h b =
     All-append IsByte (take at m) (bytes ++ drop (at + length bytes) m) (All-take IsByte at m h)
     (All-append IsByte bytes (drop (at + length bytes) m) b (All-drop IsByte (at + length bytes) m h))
@@ -47,7 +47,7 @@ files_from (o ∷ os) number first h = (h 0 o (omega arith), files_from os (numb
 
 -- ---- sections
 
-section_by : (b : Bool) (address : ℕ → ℕ) (x : NumberedObject) (m : List ℕ) (k : ℕ) (head : SectionHead) → AreBytes x.object.file → AreBytes m → AreBytes (cond b (with_bytes m (address (x.first + k)) (part x.object head.bytes)) m)
+section_by : (b : Bool) (address : ℕ → ℕ) (x : NumberedObject) (m : List ℕ) (k : ℕ) (head : SectionHead) → AreBytes x.object.file → AreBytes m → AreBytes (cond b (bytes_put m (address (x.first + k)) (part x.object head.bytes)) m)
 section_by false address x m k head f h = h
 section_by true address x m k head f h =
     put_bytes m (address (x.first + k)) (part x.object head.bytes) h

@@ -9,7 +9,7 @@ use Rattle.reloc_apply.specs.Fields.{relocated}
 use Rattle.link_symbols.specs.declared.fault.LinkFault.{LinkFault}
 use Rattle.link_symbols.specs.Passes.{first_in, NumberedObject}
 use Rattle.linker.specs.Numbers.{Linking, numbers_in}
-use Rattle.linker.specs.Bytes.{with_bytes, memory_part}
+use Rattle.linker.specs.Bytes.{bytes_put, memory_part}
 use Rattle.link_symbols.specs.declared.fault.LinkFault.TheVariants as fault
 
 abbrev pub size_by : Option SectionHead → ℕ
@@ -36,7 +36,7 @@ or_same bytes new = result_unwrap_or new bytes
 -- the memory with one field more
 unfoldable pub put_field : (ℕ → ℕ) → List ℕ → NumberedObject → List ℕ → Relocation → List ℕ
 put_field address numbers x memory r = let bytes = memory_part memory (target_address address x r) (target_size x r) in
-    with_bytes memory (target_address address x r) (or_same bytes (with_field address numbers x r bytes))
+    bytes_put memory (target_address address x r) (or_same bytes (with_field address numbers x r bytes))
 
 -- in the order of the object's list; where fields overlap, the later one counts
 abbrev pub put_fields : Linking → List ℕ → NumberedObject → List ℕ

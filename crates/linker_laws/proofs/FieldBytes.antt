@@ -9,7 +9,7 @@ use Rattle.reloc_apply.specs.Fields.{row_of, row_size, relocated, ChangesOnly}
 use Rattle.reloc_apply.specs.Applies.{Applies, limit_by, row_number, Sets}
 use Rattle.reloc_apply.proofs.SetsLemmas.{applies_sets, width_within}
 use Rattle.link_symbols.specs.Passes.{NumberedObject}
-use Rattle.linker.specs.Bytes.{with_bytes, memory_part}
+use Rattle.linker.specs.Bytes.{bytes_put, memory_part}
 use Rattle.linker.specs.Fields.{put_field, put_fields, with_field, or_same, target_address, target_size, symbol_sum}
 use Rattle.linker.specs.Numbers.{Linking, numbers_in}
 use Rattle.linker_laws.proofs.Writes.{Out, out_less, out_or, put_long, put_out, put_in, read_at, size_at}
@@ -68,13 +68,13 @@ module _ (l : Linking) (low : (k : ℕ) → l.address k ≤ 65536) where
   -- what a field makes of the memory
   record Made (x : NumberedObject) (m : List ℕ) (r : Relocation) : Type 0 where
     new : List ℕ
-    put_is : with_one x m r ≡ with_bytes m (at x r) new
+    put_is : with_one x m r ≡ bytes_put m (at x r) new
     sets : Sets (row_of r.kind) (place x r) (sum x r) r.offset (old x r m) new
 
   put_is_by : (x : NumberedObject) (m : List ℕ) (r : Relocation) (new : List ℕ) →
-      relocated r.kind (place x r) (sum x r) r.offset (old x r m) ≡ Ok new → with_one x m r ≡ with_bytes m (at x r) new
+      relocated r.kind (place x r) (sum x r) r.offset (old x r m) ≡ Ok new → with_one x m r ≡ bytes_put m (at x r) new
   unfolding put_field
-  put_is_by x m r new e = ap (λ (q : Result (List ℕ) RelocFault). with_bytes m (at x r) (or_same (old x r m) q)) e
+  put_is_by x m r new e = ap (λ (q : Result (List ℕ) RelocFault). bytes_put m (at x r) (or_same (old x r m) q)) e
 
   made : (x : NumberedObject) (m : List ℕ) (r : Relocation) → Long m → IsGood x r → Made x m r
   made x m r h good =
@@ -84,15 +84,15 @@ module _ (l : Linking) (low : (k : ℕ) → l.address k ≤ 65536) where
   -- bytes in place of a section's that are the same at an address
   same_there : (m : List ℕ) (start size a : ℕ) (new : List ℕ) → Long m → start + size ≤ 65536 → length new ≡ size →
       ((n : ℕ) → n < size → a ≡ start + n → slice_index new n ≡ slice_index (memory_part m start size) n) →
-      slice_index (with_bytes m start new) a ≡ slice_index m a
+      slice_index (bytes_put m start new) a ≡ slice_index m a
   same_there m start size a new h fit long same = by (out_or start size a)
     where
       by : Out start size a ⊎ ((n : ℕ) × ((n < size) × (a ≡ start + n))) →
-          slice_index (with_bytes m start new) a ≡ slice_index m a
+          slice_index (bytes_put m start new) a ≡ slice_index m a
       by (inl out) = put_out m start new a (omega arith) (out_less start size (length new) a (omega (arith, long)) out)
       by (inr i) =
           let n = i.0 in let e = i.1.1 in
-          ap (slice_index (with_bytes m start new)) e
+          ap (slice_index (bytes_put m start new)) e
           ∙ (put_in m start new n (omega arith) (let g = i.1.0 in omega (arith, g, long))
           ∙ (same n i.1.0 e ∙ (read_at m start size n i.1.0 ∙ ap (slice_index m) (sym e))))
 
@@ -126,13 +126,13 @@ module _ (l : Linking) (low : (k : ℕ) → l.address k ≤ 65536) where
       let k = made x m r h good in
       let size = k.sets.as_many ∙ old_size x m r h good in
       let f = low (x.first + r.target) in
-      let each : (n : ℕ) → n < width r → slice_index (drop (at x r + r.offset) (with_bytes m (at x r) k.new)) n ≡ slice_index (drop r.offset k.new) n = λ n g.
+      let each : (n : ℕ) → n < width r → slice_index (drop (at x r + r.offset) (bytes_put m (at x r) k.new)) n ≡ slice_index (drop r.offset k.new) n = λ n g.
       let b = within_by (width r) r.offset (target_size x r) n (width_within r.kind (place x r) (sum x r) r.offset (target_size x r) good.applies) g in
-      get_or-drop (at x r + r.offset) (with_bytes m (at x r) k.new) n 0
-      ∙ (ap (slice_index (with_bytes m (at x r) k.new)) (let z : at x r + r.offset + n ≡ at x r + (r.offset + n) = omega arith in z)
+      get_or-drop (at x r + r.offset) (bytes_put m (at x r) k.new) n 0
+      ∙ (ap (slice_index (bytes_put m (at x r) k.new)) (let z : at x r + r.offset + n ≡ at x r + (r.offset + n) = omega arith in z)
       ∙ (put_in m (at x r) k.new (r.offset + n) (omega arith) (omega (arith, b, size)) ∙ sym (get_or-drop r.offset k.new n 0))) in
       ap (λ (q : List ℕ). little_number (width r) (drop (at x r + r.offset) q) % limit_by (row_of r.kind)) k.put_is
-      ∙ (ap (λ (n : ℕ). n % limit_by (row_of r.kind)) (same_number (width r) (drop (at x r + r.offset) (with_bytes m (at x r) k.new)) (drop r.offset k.new) each)
+      ∙ (ap (λ (n : ℕ). n % limit_by (row_of r.kind)) (same_number (width r) (drop (at x r + r.offset) (bytes_put m (at x r) k.new)) (drop r.offset k.new) each)
       ∙ k.sets.number)
 
   -- a memory that is the same at the field

@@ -4,7 +4,7 @@ use Rattle.std.specs.Prelude.{slice_index}
 use Rattle.elf_objects.specs.declared.object.SectionHead.{SectionHead}
 use Rattle.link_symbols.specs.Passes.{NumberedObject, part, fold_at}
 use Rattle.link_symbols.specs.Parts.{is_loaded_head}
-use Rattle.linker.specs.Bytes.{with_bytes}
+use Rattle.linker.specs.Bytes.{bytes_put}
 use Rattle.linker.specs.Sections.{put_section, put_sections}
 use Rattle.linker.proofs.ClearLemmas.{part_size}
 use Rattle.linker_laws.proofs.Writes.{Out, out_less, put_long, put_out, put_in}
@@ -19,7 +19,7 @@ module _ (address : ℕ → ℕ) (low : (k : ℕ) → address k ≤ 65536) where
   Away x k s a = is_loaded_head s ≡ true → Out (address (x.first + k)) (s.bytes.end - s.bytes.start) a
 
   long_by : (b : Bool) (x : NumberedObject) (m : List ℕ) (k : ℕ) (s : SectionHead) → Long m →
-      Long (cond b (with_bytes m (address (x.first + k)) (part x.object s.bytes)) m)
+      Long (cond b (bytes_put m (address (x.first + k)) (part x.object s.bytes)) m)
   long_by false x m k s h = h
   long_by true x m k s h = let w = low (x.first + k) in let p = put_long m (address (x.first + k)) (part x.object s.bytes) (omega arith) in omega (arith, p)
 
@@ -30,7 +30,7 @@ module _ (address : ℕ → ℕ) (low : (k : ℕ) → address k ≤ 65536) where
 
   keep_by : (b : Bool) (x : NumberedObject) (m : List ℕ) (k : ℕ) (s : SectionHead) (a : ℕ) → Long m →
       (b ≡ true → Out (address (x.first + k)) (s.bytes.end - s.bytes.start) a) →
-      slice_index (cond b (with_bytes m (address (x.first + k)) (part x.object s.bytes)) m) a ≡ slice_index m a
+      slice_index (cond b (bytes_put m (address (x.first + k)) (part x.object s.bytes)) m) a ≡ slice_index m a
   keep_by false x m k s a h out = refl
   keep_by true x m k s a h out =
       let w = low (x.first + k) in
@@ -44,7 +44,7 @@ module _ (address : ℕ → ℕ) (low : (k : ℕ) → address k ≤ 65536) where
 
   set_by : (b : Bool) (x : NumberedObject) (m : List ℕ) (k : ℕ) (s : SectionHead) (n : ℕ) → b ≡ true → Long m →
       n < length (part x.object s.bytes) →
-      slice_index (cond b (with_bytes m (address (x.first + k)) (part x.object s.bytes)) m) (address (x.first + k) + n) ≡ slice_index (part x.object s.bytes) n
+      slice_index (cond b (bytes_put m (address (x.first + k)) (part x.object s.bytes)) m) (address (x.first + k) + n) ≡ slice_index (part x.object s.bytes) n
   set_by false x m k s n e h l = cc
   set_by true x m k s n e h l = let w = low (x.first + k) in put_in m (address (x.first + k)) (part x.object s.bytes) n (omega arith) l
 

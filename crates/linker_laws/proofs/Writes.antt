@@ -7,7 +7,7 @@ use Rattle.mod_layout.specs.declared.Section.{Section}
 use Rattle.mod_layout.specs.Table.{holds}
 use Rattle.mod_layout.proofs.Found.{within}
 use Rattle.layout_file.specs.Overlaps.{ShareNoByte}
-use Rattle.linker.specs.Bytes.{with_bytes, memory_part}
+use Rattle.linker.specs.Bytes.{bytes_put, memory_part}
 use Rattle.linker_laws.specs.Places.{span}
 
 -- an address is outside so many bytes
@@ -53,7 +53,7 @@ apart_out s at size a nb e = by (out_or at size a)
 
 -- ---- one write
 
-pub put_long : (m : List ℕ) (at : ℕ) (bytes : List ℕ) → at ≤ length m → length m ≤ length (with_bytes m at bytes)
+pub put_long : (m : List ℕ) (at : ℕ) (bytes : List ℕ) → at ≤ length m → length m ≤ length (bytes_put m at bytes)
 put_long m at bytes h =
     let t : length (take at m) ≡ at = simp length-take (omega arith) in
     let d : length (drop (at + length bytes) m) ≡ length m - (at + length bytes) = simp length-drop refl in
@@ -62,7 +62,7 @@ put_long m at bytes h =
     omega (arith, t, d, a, b)
 
 pub put_out : (m : List ℕ) (at : ℕ) (bytes : List ℕ) (a : ℕ) → at ≤ length m → Out at (length bytes) a →
-    slice_index (with_bytes m at bytes) a ≡ slice_index m a
+    slice_index (bytes_put m at bytes) a ≡ slice_index m a
 put_out m at bytes a fit (inl h) =
     get_or_append_left (take at m) (bytes ++ drop (at + length bytes) m) 0 a (omega (arith, length-take {A = ℕ}))
     ∙ get_or-take at m a 0 h
@@ -73,7 +73,7 @@ put_out m at bytes a fit (inr h) =
     ∙ ap (λ (i : ℕ). get_or m i 0) (omega arith)))
 
 pub put_in : (m : List ℕ) (at : ℕ) (bytes : List ℕ) (n : ℕ) → at ≤ length m → n < length bytes →
-    slice_index (with_bytes m at bytes) (at + n) ≡ slice_index bytes n
+    slice_index (bytes_put m at bytes) (at + n) ≡ slice_index bytes n
 put_in m at bytes n fit h =
     get_or-append_right (take at m) (bytes ++ drop (at + length bytes) m) at (at + n) 0 (omega (arith, length-take {A = ℕ})) (omega arith)
     ∙ (ap (λ (i : ℕ). get_or (bytes ++ drop (at + length bytes) m) i 0) (omega arith)
