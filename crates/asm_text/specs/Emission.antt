@@ -1,5 +1,6 @@
 -- The bytes of the sections, line by line and without a gap, and the relocations; or the first jump that is refused.
 use Rattle.std.specs.Prelude.{ℕ, ◌+◌, ◌-◌, ◌*◌, ◌/◌, ◌==◌, nat_le, nat_lt, Bool, if◌then◌else◌, List, [], ◌∷◌, ◌++◌, length, slice_index_or, slice_get, slice_set, Option, Some, None, option_and_then, Result, Ok, Err, ℤ, pos, negsuc, ◌-ℤ◌}
+use Rattle.sm_words.specs.Bytes.{word_bytes}
 use Rattle.insn_decode.specs.declared.insn.Insn.{Insn}
 use Rattle.insn_decode.specs.declared.insn.Insn.TheVariants.{Two}
 use Rattle.insn_decode.specs.Code.{words_of as words_in}
@@ -12,7 +13,7 @@ use Rattle.asm_text.specs.declared.unit.AsmFault.{AsmFault}
 use Rattle.asm_text.specs.declared.unit.AsmFault.TheVariants.{NoLabel, Far}
 use Rattle.asm_text.specs.declared.unit.AsmRelocation.{AsmRelocation}
 use Rattle.asm_text.specs.declared.unit.SectionKind.{SectionKind}
-use Rattle.asm_text.specs.Encoding.{word_bytes, code_bytes}
+use Rattle.asm_text.specs.Encoding.{code_bytes}
 use Rattle.asm_text.specs.Parts.{SectionValue}
 use Rattle.asm_text.specs.Placing.{spot_of, unrefused}
 use Rattle.asm_text.specs.Statements.{statement_size}

@@ -1,5 +1,6 @@
 -- The words of an instruction (MSP430x1xx Family User's Guide SLAU049, sections 3.3 and 3.4).
 use Rattle.std.specs.Prelude.{ℕ, ◌+◌, ◌*◌, ◌/◌, ◌%◌, ◌==◌, nat_lt, Bool, true, false, not, ◌&&◌, if◌then◌else◌, List, [], ◌∷◌, ◌++◌, slice_index_or, flat_map}
+use Rattle.sm_words.specs.Bytes.{word_bytes}
 use Rattle.sm_words.specs.declared.width.Width.{Width}
 use Rattle.sm_words.specs.declared.width.Width.TheVariants.{Byte, Word}
 use Rattle.insn_decode.specs.declared.insn.Operand.{Operand}
@@ -72,10 +73,7 @@ encoded_words insn = encoded_first insn ∷ extensions insn
 abbrev pub IsMeant : Insn → Type 0
 IsMeant insn = Means (encoded_first insn) (slice_index_or (extensions insn) 0 0) (slice_index_or (extensions insn) 1 0) insn (length_of insn)
 
--- a word as two bytes, the low one first
-abbrev pub word_bytes : ℕ → List ℕ
-word_bytes w = w % 256 ∷ w / 256 ∷ []
-
+-- the bytes of its words
 abbrev pub code_bytes : Insn → List ℕ
 code_bytes insn = flat_map word_bytes (encoded_words insn)
 

@@ -5,7 +5,7 @@ use Rattle.insn_decode.specs.Means.{Means}
 use Rattle.asm_text.specs.declared.TheConstants.{MAX_SOURCE}
 use Rattle.asm_text.specs.declared.statement.Statement.TheVariants.{Jump}
 use Rattle.asm_text.specs.Assembly.{assembled}
-use Rattle.asm_text.specs.Encoding.{word_bytes}
+use Rattle.sm_words.specs.Bytes.{word_bytes}
 use Rattle.asm_text.specs.Parts.{SectionValue, SymbolValue, UnitValue}
 use Rattle.asm_text.specs.Places.{StandsAt}
 use Rattle.asm_text.specs.Source.{SourceRead, source_read}

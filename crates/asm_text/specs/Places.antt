@@ -5,7 +5,8 @@ use Rattle.asm_text.specs.declared.statement.Field.{Field}
 use Rattle.asm_text.specs.declared.statement.Statement.TheVariants.{Word, Code}
 use Rattle.asm_text.specs.Assembly.{name_count, assembled}
 use Rattle.asm_text.specs.Emission.{field_number}
-use Rattle.asm_text.specs.Encoding.{word_bytes, code_bytes, IsMeant}
+use Rattle.sm_words.specs.Bytes.{word_bytes}
+use Rattle.asm_text.specs.Encoding.{code_bytes, IsMeant}
 use Rattle.asm_text.specs.Parts.{SectionValue, UnitValue}
 use Rattle.asm_text.specs.Placing.{Placed, nowhere, last_head, placed_from}
 use Rattle.asm_text.specs.Source.{SourceRead, source_read}

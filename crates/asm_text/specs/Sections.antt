@@ -4,7 +4,8 @@ use Rattle.asm_text.specs.declared.statement.Statement.{Statement}
 use Rattle.asm_text.specs.declared.statement.Statement.TheVariants.{Section, Word, Jump, Code}
 use Rattle.asm_text.specs.Assembly.{assembled}
 use Rattle.asm_text.specs.Emission.{field_number}
-use Rattle.asm_text.specs.Encoding.{word_bytes, code_bytes}
+use Rattle.sm_words.specs.Bytes.{word_bytes}
+use Rattle.asm_text.specs.Encoding.{code_bytes}
 use Rattle.asm_text.specs.Parts.{SectionValue, UnitValue}
 use Rattle.asm_text.specs.Source.{source_read}
 

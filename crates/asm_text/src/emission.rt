@@ -3,6 +3,7 @@
 ghost use Rattle.std.specs.Prelude.{◌≡◌, ◌≢◌, ◌<◌, ◌≤◌, ◌+◌, ◌-◌, ◌*◌, ◌++◌, ◌^◌, ℕ, length, flat_map, Ok, Err, Some, OnOk, IfOk, IfErr, IsTrue, MatchResult};
 ghost use Rattle.std.specs.Option.{option_to_list};
 ghost use Rattle.arrayvec.specs.ArrayVec.{array_vec_len};
+ghost use Rattle.sm_words.specs.Bytes.{word_bytes};
 ghost use Rattle.asm_text.specs.Emission as spec;
 ghost use Rattle.asm_text.specs.internal.Emitted.{meanings_value, emitted_of, newest_section, HasRoom, AreNames};
 ghost use Rattle.asm_text.specs.internal.Known.{IsBelow, IsKnown, IsNamed, AreKnown, AreNamed};
@@ -29,7 +30,7 @@ pub type Bytes = ArrayVec<u8, 6>;
 
 fn push_word(word: u16, bytes: &mut Bytes)
     requires room { array_vec_len bytes.old ≤ 4 }
-    ensures bytes { bytes.new.items ≡ bytes.old.items ++ encoding.word_bytes word }
+    ensures bytes { bytes.new.items ≡ bytes.old.items ++ word_bytes word }
     ensures length { array_vec_len bytes.new ≡ array_vec_len bytes.old + 2 }
 {
     bytes.push((word % 256) as u8);
@@ -51,7 +52,7 @@ fn extension(operand: Operand) -> Option<u16>
 
 fn push_extension(operand: Operand, bytes: &mut Bytes)
     requires room { array_vec_len bytes.old ≤ 4 }
-    ensures bytes { bytes.new.items ≡ bytes.old.items ++ flat_map encoding.word_bytes (encoding.extension operand) }
+    ensures bytes { bytes.new.items ≡ bytes.old.items ++ flat_map word_bytes (encoding.extension operand) }
     ensures length { array_vec_len bytes.new ≤ array_vec_len bytes.old + 2 }
 {
     if let Some(word) = extension(operand) {
@@ -76,7 +77,7 @@ fn code_bytes(insn: Insn) -> Bytes
 }
 
 fn word_bytes(word: u16) -> Bytes
-    ensures { result.items ≡ encoding.word_bytes word }
+    ensures { result.items ≡ word_bytes word }
 {
     let mut bytes = ArrayVec::new();
     push_word(word, &mut bytes);
