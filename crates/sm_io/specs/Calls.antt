@@ -6,6 +6,6 @@ use Rattle.std.specs.List.{list_any}
 abbrev pub is_listed : List ℕ → ℕ → Bool
 is_listed calls call = list_any (λ n. n == call) calls
 
-abbrev pub is_empty : List ℕ → Bool
-is_empty [] = true
-is_empty (n ∷ ns) = false
+abbrev pub has_no_call : List ℕ → Bool
+has_no_call [] = true
+has_no_call (n ∷ ns) = false

@@ -2,7 +2,7 @@
 ghost use Rattle.std.specs.Prelude.{◌≡◌, ◌≤◌, ◌-◌, min, take, drop, ◌∷◌, ◌++◌, [], false, length, Some, IfOk, IsTrue, OnOk, OnErr, map, option_map, if◌then◌else◌};
 ghost use Rattle.std.proofs.Common.{arith};
 ghost use Rattle.sm_io.specs.Faults.{HasCause, counted};
-ghost use Rattle.sm_io.specs.Calls.{is_empty};
+ghost use Rattle.sm_io.specs.Calls.{has_no_call};
 ghost use Rattle.sm_io.specs.Files.{IsPart, ReadGives, read_failed};
 ghost use Rattle.sm_io.specs.MemoryFiles.{file_of, read_answer, buffer_after, files_after};
 ghost use Rattle.sm_io.specs.internal.MemoryFiles.{named_bytes};
@@ -112,7 +112,7 @@ impl Files for MemFiles {
 
     ghost faults = { λ m. counted m.faults };
 
-    ghost sound = { λ m. is_empty m.failing };
+    ghost sound = { λ m. has_no_call m.failing };
 
     ghost counter = { λ m. Prim.omega arith };
 
@@ -125,8 +125,8 @@ impl Files for MemFiles {
         ensures bytes { ReadGives (file_of self.old.files name.now) at buf.new result }
         ensures same_files { Some (file_of self.new.files) ≡ Some (file_of self.old.files) }
         ensures cause { HasCause (counted self.old.faults) (counted self.new.faults) (read_failed result) }
-        ensures same_sound { is_empty self.new.failing ≡ is_empty self.old.failing }
-        ensures never_fails { IsTrue (is_empty self.old.failing) → read_failed result ≡ false }
+        ensures same_sound { has_no_call self.new.failing ≡ has_no_call self.old.failing }
+        ensures never_fails { IsTrue (has_no_call self.old.failing) → read_failed result ≡ false }
     {
         let call = self.calls;
         self.calls = self.calls.saturating_add(1);
