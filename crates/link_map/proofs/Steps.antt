@@ -14,7 +14,7 @@ use Rattle.linker.specs.Numbers.{Linking, numbers_in, linked_number}
 use Rattle.link_symbols.specs.Passes.{NumberedObject, numbered_objects_from, map_at, part}
 use Rattle.link_symbols.proofs.MeaningLemmas.{length_at}
 use Rattle.link_symbols.proofs.Steps.{numbered_step, numbered_over}
-use Rattle.link_map.specs.Lines.{after_blanks, text_at}
+use Rattle.link_map.specs.Lines.{after_blanks, numbered_text}
 use Rattle.link_map.specs.Map.{has_line, symbol_line, symbol_text, symbol_text_if}
 use Rattle.link_map.specs.Modules.{PlacedModule, has_boot, placed_module}
 use Rattle.mod_layout.specs.Table.{Table}
@@ -39,15 +39,15 @@ map_over g xs i h = ap (map g) (drop_all i xs h)
 
 -- the elements being numbered
 pub text_more : {X Y : Type 0} (f : ℕ → Y → List ℕ) (g : X → Y) (xs : List X) (start i n : ℕ) (x d : X) (cur new total : List ℕ) → i < length xs → x ≡ get_or xs i d → n ≡ start + i →
-    cur ++ text_at f (start + i) (map g (drop i xs)) ≡ total → new ≡ cur ++ f n (g x) → new ++ text_at f (start + (i + 1)) (map g (drop (i + 1) xs)) ≡ total
+    cur ++ numbered_text f (start + i) (map g (drop i xs)) ≡ total → new ≡ cur ++ f n (g x) → new ++ numbered_text f (start + (i + 1)) (map g (drop (i + 1) xs)) ≡ total
 text_more f g xs start i n x d cur new total h is number e made =
     let next : start + i + 1 ≡ start + (i + 1) = omega arith in
-    let split = ap (λ l. cur ++ text_at f (start + i) l) (sym (map_here g xs i x d h is)) ∙ e in
-    ap (λ k. new ++ text_at f k (map g (drop (i + 1) xs))) (sym next)
-    ∙ piece_more cur new (f (start + i) (g x)) (text_at f (start + i + 1) (map g (drop (i + 1) xs))) total split (made ∙ ap (λ k. cur ++ f k (g x)) number)
+    let split = ap (λ l. cur ++ numbered_text f (start + i) l) (sym (map_here g xs i x d h is)) ∙ e in
+    ap (λ k. new ++ numbered_text f k (map g (drop (i + 1) xs))) (sym next)
+    ∙ piece_more cur new (f (start + i) (g x)) (numbered_text f (start + i + 1) (map g (drop (i + 1) xs))) total split (made ∙ ap (λ k. cur ++ f k (g x)) number)
 
-pub text_end : {X Y : Type 0} (f : ℕ → Y → List ℕ) (g : X → Y) (xs : List X) (n i : ℕ) (cur total : List ℕ) → length xs ≤ i → cur ++ text_at f n (map g (drop i xs)) ≡ total → cur ≡ total
-text_end f g xs n i cur total h e = sym (append-nil cur) ∙ (ap (λ l. cur ++ text_at f n l) (sym (map_over g xs i h)) ∙ e)
+pub text_end : {X Y : Type 0} (f : ℕ → Y → List ℕ) (g : X → Y) (xs : List X) (n i : ℕ) (cur total : List ℕ) → length xs ≤ i → cur ++ numbered_text f n (map g (drop i xs)) ≡ total → cur ≡ total
+text_end f g xs n i cur total h e = sym (append-nil cur) ∙ (ap (λ l. cur ++ numbered_text f n l) (sym (map_over g xs i h)) ∙ e)
 
 -- and not numbered
 pub flat_more : {X Y : Type 0} (f : Y → List ℕ) (g : X → Y) (xs : List X) (i : ℕ) (x d : X) (cur new total : List ℕ) → i < length xs → x ≡ get_or xs i d →
@@ -203,12 +203,12 @@ own_number l x numbers i n s e h is within read =
     n0 ∙ (ap (λ (ns : List ℕ). get_or ns i 0) e ∙ (number_at (linked_number l x) x.object.symbols i 0 s h is ∙ ap (λ k. linked_number l x k s) zero_first))
 
 pub symbols_more : (f : ℕ → Symbol → List ℕ) (xs : List Symbol) (i : ℕ) (s : Symbol) (cur new total : List ℕ) → i < length xs → s ≡ get_or xs i s →
-    cur ++ text_at f i (drop i xs) ≡ total → new ≡ cur ++ f i s → new ++ text_at f (i + 1) (drop (i + 1) xs) ≡ total
+    cur ++ numbered_text f i (drop i xs) ≡ total → new ≡ cur ++ f i s → new ++ numbered_text f (i + 1) (drop (i + 1) xs) ≡ total
 symbols_more f xs i s cur new total h is e made =
-    piece_more cur new (f i s) (text_at f (i + 1) (drop (i + 1) xs)) total (ap (λ l. cur ++ text_at f i l) (sym (here xs i s s h is)) ∙ e) made
+    piece_more cur new (f i s) (numbered_text f (i + 1) (drop (i + 1) xs)) total (ap (λ l. cur ++ numbered_text f i l) (sym (here xs i s s h is)) ∙ e) made
 
-pub symbols_end : (f : ℕ → Symbol → List ℕ) (xs : List Symbol) (i j : ℕ) (cur total : List ℕ) → length xs ≤ i → cur ++ text_at f j (drop i xs) ≡ total → cur ≡ total
-symbols_end f xs i j cur total h e = sym (append-nil cur) ∙ (ap (λ l. cur ++ text_at f j l) (sym (drop_all i xs h)) ∙ e)
+pub symbols_end : (f : ℕ → Symbol → List ℕ) (xs : List Symbol) (i j : ℕ) (cur total : List ℕ) → length xs ≤ i → cur ++ numbered_text f j (drop i xs) ≡ total → cur ≡ total
+symbols_end f xs i j cur total h e = sym (append-nil cur) ∙ (ap (λ l. cur ++ numbered_text f j l) (sym (drop_all i xs h)) ∙ e)
 
 numbered_count : (os : List ObjectValue) (i first : ℕ) → length (numbered_objects_from i first os) ≡ length os
 numbered_count [] i first = refl
@@ -228,7 +228,7 @@ listed_at (w ∷ ws) (suc i) v h is = listed_at ws i v (omega arith) is
 
 -- the same where what is read is the element itself
 pub text_read : {X Y : Type 0} (f : ℕ → Y → List ℕ) (g : X → Y) (xs : List X) (start i n : ℕ) (d : X) (cur new total : List ℕ) → i < length xs → n ≡ start + i →
-    cur ++ text_at f (start + i) (map g (drop i xs)) ≡ total → new ≡ cur ++ f n (g (get_or xs i d)) → new ++ text_at f (start + (i + 1)) (map g (drop (i + 1) xs)) ≡ total
+    cur ++ numbered_text f (start + i) (map g (drop i xs)) ≡ total → new ≡ cur ++ f n (g (get_or xs i d)) → new ++ numbered_text f (start + (i + 1)) (map g (drop (i + 1) xs)) ≡ total
 text_read f g xs start i n d cur new total h number e made = text_more f g xs start i n (get_or xs i d) d cur new total h refl number e made
 
 pub flat_read : {X Y : Type 0} (f : Y → List ℕ) (g : X → Y) (xs : List X) (i : ℕ) (d : X) (cur new total : List ℕ) → i < length xs →
@@ -252,13 +252,13 @@ place_here_read value xs i at total d h low e = place_here value xs i at total (
 
 -- a line for a symbol, whose number was read
 pub symbol_read : (l : Linking) (table : Table) (x : NumberedObject) (numbers : List ℕ) (xs : List Symbol) (i : ℕ) (d : Symbol) (cur new total : List ℕ) → numbers ≡ numbers_in l x → xs ≡ x.object.symbols → i < length xs →
-    cur ++ text_at (symbol_line l table x) i (drop i x.object.symbols) ≡ total →
+    cur ++ numbered_text (symbol_line l table x) i (drop i x.object.symbols) ≡ total →
     new ≡ cur ++ symbol_text_if (has_line x.object i (get_or xs i d)) (symbol_text table (get_or numbers i 0) (get_or xs i d).binding x.number (part x.object (get_or xs i d).name)) →
-    new ++ text_at (symbol_line l table x) (i + 1) (drop (i + 1) x.object.symbols) ≡ total
+    new ++ numbered_text (symbol_line l table x) (i + 1) (drop (i + 1) x.object.symbols) ≡ total
 symbol_read l table x numbers xs i d cur new total e exs h inv made =
     let s : Symbol = get_or xs i d in
     let f = symbol_line l table x in
-    let rest = text_at f (i + 1) (drop (i + 1) x.object.symbols) in
+    let rest = numbered_text f (i + 1) (drop (i + 1) x.object.symbols) in
     let hs : i < length x.object.symbols = omega (arith, ap length exs) in
     let is : s ≡ get_or x.object.symbols i d = ap (λ (ys : List Symbol). get_or ys i d) exs in
     let own : s ≡ get_or x.object.symbols i s = is ∙ get_or_default x.object.symbols i d s hs in
@@ -266,7 +266,7 @@ symbol_read l table x numbers xs i d cur new total e exs h inv made =
     let n : get_or numbers i 0 ≡ linked_number l x i s =
     ap (λ (ns : List ℕ). get_or ns i 0) e ∙ (number_at (linked_number l x) x.object.symbols i 0 s hs own ∙ ap (λ k. linked_number l x k s) zero_first) in
     let whole : new ≡ cur ++ f i s = made ∙ ap (λ k. cur ++ symbol_text_if (has_line x.object i s) (symbol_text table k s.binding x.number (part x.object s.name))) n in
-    piece_more cur new (f i s) rest total (ap (λ (ys : List Symbol). cur ++ text_at f i ys) (sym (here x.object.symbols i s d hs is)) ∙ inv) whole
+    piece_more cur new (f i s) rest total (ap (λ (ys : List Symbol). cur ++ numbered_text f i ys) (sym (here x.object.symbols i s d hs is)) ∙ inv) whole
 
 -- the numbers of an object, where they were read
 pub own_list : (l : Linking) (numbers : List (Vec ℕ Global)) (os : List ObjectValue) (i first : ℕ) (o : ObjectValue) (v : Vec ℕ Global) → i < length os → o ≡ get_or os i o →

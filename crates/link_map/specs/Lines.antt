@@ -22,6 +22,6 @@ abbrev pub name_shown : List ℕ → List ℕ
 name_shown name = map shown_byte name
 
 -- what each element gives, one after another, the elements being numbered from here on
-abbrev pub text_at : {X : Type 0} → (ℕ → X → List ℕ) → ℕ → List X → List ℕ
-text_at f i [] = []
-text_at f i (x ∷ xs) = f i x ++ text_at f (i + 1) xs
+abbrev pub numbered_text : {X : Type 0} → (ℕ → X → List ℕ) → ℕ → List X → List ℕ
+numbered_text f i [] = []
+numbered_text f i (x ∷ xs) = f i x ++ numbered_text f (i + 1) xs

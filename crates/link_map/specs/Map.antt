@@ -23,7 +23,7 @@ use Rattle.link_symbols.specs.Resolved.{items_of}
 use Rattle.mod_layout.specs.declared.TheConstants.{FIRST_VECTOR}
 use Rattle.mod_layout.specs.declared.Section.{Section}
 use Rattle.mod_layout.specs.Table.{Table}
-use Rattle.link_map.specs.Lines.{line, address_text, name_shown, text_at}
+use Rattle.link_map.specs.Lines.{line, address_text, name_shown, numbered_text}
 use Rattle.link_map.specs.Modules.{PlacedModule, by_id, id_at}
 use Rattle.link_map.specs.Parts.{PartValue, parts_of}
 
@@ -31,8 +31,8 @@ use Rattle.link_map.specs.Parts.{PartValue, parts_of}
 abbrev pub module_text : ℕ → List ℕ → Section → Section → List ℕ
 module_text id name text ram = line (codes "module") (decimal id ∷ name_shown name ∷ address_text text.start ∷ address_text text.end ∷ address_text ram.start ∷ address_text ram.end ∷ [])
 
-abbrev pub module_line : (ℕ → ℕ) → ℕ → PlacedModule → List ℕ
-module_line end id p = module_text id p.value.name (text_of end p.number p.value) (ram_of end p.number p.value)
+abbrev pub map_module_line : (ℕ → ℕ) → ℕ → PlacedModule → List ℕ
+map_module_line end id p = module_text id p.value.name (text_of end p.number p.value) (ram_of end p.number p.value)
 
 -- `part START END ID OBJECT SECTION NAME`, where ID is that of the module that has it
 abbrev pub part_line : Table → PartValue → List ℕ
@@ -56,7 +56,7 @@ entry_line memory start id k name =
     line (codes "entry") (address_text (memory_word memory (start + 2 * front_words + 2 * k)) ∷ decimal id ∷ decimal k ∷ name_shown name ∷ [])
 
 abbrev pub entry_lines : List ℕ → ℕ → PlacedModule → List ℕ
-entry_lines memory id p = text_at (entry_line memory p.value.text.start id) 0 p.value.entries
+entry_lines memory id p = numbered_text (entry_line memory p.value.text.start id) 0 p.value.entries
 
 -- `vector V ADDRESS NAME`: the word of the vector
 abbrev pub vector_line : List ℕ → VectorValue → List ℕ
@@ -95,15 +95,15 @@ symbol_line l table x k s = symbol_text_if (has_line x.object k s)
     (symbol_text table (linked_number l x k s) s.binding x.number (part x.object s.name))
 
 abbrev pub symbol_lines : Linking → Table → NumberedObject → List ℕ
-symbol_lines l table x = text_at (symbol_line l table x) 0 x.object.symbols
+symbol_lines l table x = numbered_text (symbol_line l table x) 0 x.object.symbols
 
 abbrev pub map_by : Linking → (ℕ → ℕ) → Image → LayoutValue → List ObjectValue → List ℕ
 map_by l end image layout objects =
     codes "sancus-map 1\n"
-    ++ (text_at (module_line end) 1 (by_id layout)
+    ++ (numbered_text (map_module_line end) 1 (by_id layout)
     ++ (flat_map (part_line image.table) (parts_of l.address objects)
-    ++ (text_at (common_line l.address (items_of layout objects) (count_sections objects)) 0 (common_names objects)
-    ++ (text_at (entry_lines image.memory) 1 (by_id layout)
+    ++ (numbered_text (common_line l.address (items_of layout objects) (count_sections objects)) 0 (common_names objects)
+    ++ (numbered_text (entry_lines image.memory) 1 (by_id layout)
     ++ (flat_map (vector_line image.memory) layout.vectors
     ++ (flat_map (symbol_lines l image.table) (numbered_objects objects)
     ++ codes "end\n"))))))

@@ -7,7 +7,7 @@ ghost use Rattle.link_symbols.specs.CommonNames.{borrowed};
 ghost use Rattle.linker.specs.Numbers.{Linking, numbers_in};
 ghost use Rattle.link_symbols.specs.Passes.{numbered_objects, part};
 ghost use Rattle.linker.specs.Placement.{item_at};
-ghost use Rattle.link_map.specs.Lines.{text_at};
+ghost use Rattle.link_map.specs.Lines.{numbered_text};
 ghost use Rattle.link_map.specs.Map.{has_line, symbol_text_if, symbol_lines};
 ghost use Rattle.link_map.specs.Map as spec;
 ghost use Rattle.link_map.specs.internal.Values.{numbered_value};
@@ -54,7 +54,7 @@ fn put_common(
 pub fn put_commons(out: &mut MapText, linkage: &Linkage<'_>, first: usize) -> Result<(), AllocError>
     requires first { first ≤ 2 ^ 31 }
     requires low { (k : ℕ) → slice_index linkage.now.addresses.items k ≤ 65536 }
-    ensures { OnOk result (out.new.text.items ≡ out.old.text.items ++ text_at (spec.common_line
+    ensures { OnOk result (out.new.text.items ≡ out.old.text.items ++ numbered_text (spec.common_line
         (slice_index linkage.now.addresses.items) linkage.now.items.items first) 0 (borrowed linkage.now.commons.items)) }
 {
     for (k, name) in linkage.commons.iter().enumerate() {

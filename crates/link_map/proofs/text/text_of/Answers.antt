@@ -16,8 +16,8 @@ use Rattle.link_symbols.specs.Passes.{numbered_objects}
 use Rattle.link_symbols.specs.Resolved.{items_of}
 use Rattle.mod_layout.specs.Table.{Table}
 use Rattle.link_map.specs.declared.modules.Booted.{Booted}
-use Rattle.link_map.specs.Lines.{text_at}
-use Rattle.link_map.specs.Map.{map_text, module_line, part_line, common_line, entry_lines, vector_line, symbol_lines}
+use Rattle.link_map.specs.Lines.{numbered_text}
+use Rattle.link_map.specs.Map.{map_text, map_module_line, part_line, common_line, entry_lines, vector_line, symbol_lines}
 use Rattle.link_map.specs.Modules.{PlacedModule, by_id}
 use Rattle.link_map.specs.Parts.{PartValue, parts_of}
 use Rattle.link_map.specs.internal.Values.{booted_value}
@@ -41,21 +41,21 @@ returns c =
     let t1 = c.put.new.self.text.items in let t2 = c.put_modules.new.out.text.items in let t3 = c.put_parts.new.out.text.items in let t4 = c.put_commons.new.out.text.items in
     let t5 = c.put_entries.new.out.text.items in let t6 = c.put_vectors.new.out.text.items in let t7 = c.put_symbols.new.out.text.items in
     let first = c.section_count-first_common.result in
-    eight (codes "sancus-map 1\n") (text_at (module_line end) 1 (by_id l)) (flat_map (part_line image.table) (parts_of k.address os))
-    (text_at (common_line k.address (items_of l os) (count_sections os)) 0 (common_names os)) (text_at (entry_lines image.memory) 1 (by_id l))
+    eight (codes "sancus-map 1\n") (numbered_text (map_module_line end) 1 (by_id l)) (flat_map (part_line image.table) (parts_of k.address os))
+    (numbered_text (common_line k.address (items_of l os) (count_sections os)) 0 (common_names os)) (numbered_text (entry_lines image.memory) 1 (by_id l))
     (flat_map (vector_line image.memory) l.vectors) (flat_map (symbol_lines k image.table) (numbered_objects os)) (codes "end\n")
     t1 t2 t3 t4 t5 t6 t7 c.put-2.new.self.text.items
     (c.in_ok-put.ensures ∙ ap (λ (t : List ℕ). t ++ codes "sancus-map 1\n") c.new-out.ensures)
-    (c.in_ok-put_modules.ensures ∙ (ap (λ (f : ℕ → ℕ). t1 ++ text_at (module_line f) 1 (map booted_value c.as_slice-2.result.now)) ends
-    ∙ ap (λ (ps : List PlacedModule). t1 ++ text_at (module_line end) 1 ps) order))
+    (c.in_ok-put_modules.ensures ∙ (ap (λ (f : ℕ → ℕ). t1 ++ numbered_text (map_module_line f) 1 (map booted_value c.as_slice-2.result.now)) ends
+    ∙ ap (λ (ps : List PlacedModule). t1 ++ numbered_text (map_module_line end) 1 ps) order))
     (c.in_ok-put_parts.ensures ∙ (ap (λ (t : Table). t2 ++ flat_map (part_line t) (parts_of (slice_index c.as_slice-addresses.result.now) os)) table
     ∙ ap (λ (f : ℕ → ℕ). t2 ++ flat_map (part_line image.table) (parts_of f os)) addresses))
-    (c.in_ok-put_commons.ensures ∙ (ap (λ (f : ℕ → ℕ). t3 ++ text_at (common_line f c.args.linkage.now.items.items first) 0 (borrowed c.args.linkage.now.commons.items)) c.requires.addresses
-    ∙ (ap (λ (is : List Item). t3 ++ text_at (common_line k.address is first) 0 (borrowed c.args.linkage.now.commons.items)) c.requires.items
-    ∙ (ap (λ (n : ℕ). t3 ++ text_at (common_line k.address (items_of l os) n) 0 (borrowed c.args.linkage.now.commons.items)) c.section_count-first_common.ensures.count
-    ∙ ap (λ (ns : List (List ℕ)). t3 ++ text_at (common_line k.address (items_of l os) (count_sections os)) 0 ns) c.requires.commons))))
-    (c.in_ok-put_entries.ensures ∙ (ap (λ (m : List ℕ). t4 ++ text_at (entry_lines m) 1 (map booted_value c.as_slice-4.result.now)) (c.as_slice-3.ensures.value ∙ memory)
-    ∙ ap (λ (ps : List PlacedModule). t4 ++ text_at (entry_lines image.memory) 1 ps) again))
+    (c.in_ok-put_commons.ensures ∙ (ap (λ (f : ℕ → ℕ). t3 ++ numbered_text (common_line f c.args.linkage.now.items.items first) 0 (borrowed c.args.linkage.now.commons.items)) c.requires.addresses
+    ∙ (ap (λ (is : List Item). t3 ++ numbered_text (common_line k.address is first) 0 (borrowed c.args.linkage.now.commons.items)) c.requires.items
+    ∙ (ap (λ (n : ℕ). t3 ++ numbered_text (common_line k.address (items_of l os) n) 0 (borrowed c.args.linkage.now.commons.items)) c.section_count-first_common.ensures.count
+    ∙ ap (λ (ns : List (List ℕ)). t3 ++ numbered_text (common_line k.address (items_of l os) (count_sections os)) 0 ns) c.requires.commons))))
+    (c.in_ok-put_entries.ensures ∙ (ap (λ (m : List ℕ). t4 ++ numbered_text (entry_lines m) 1 (map booted_value c.as_slice-4.result.now)) (c.as_slice-3.ensures.value ∙ memory)
+    ∙ ap (λ (ps : List PlacedModule). t4 ++ numbered_text (entry_lines image.memory) 1 ps) again))
     (c.in_ok-put_vectors.ensures ∙ (ap (λ (m : List ℕ). t5 ++ flat_map (vector_line m) (map vector_of c.as_slice-6.result.now)) (c.as_slice-5.ensures.value ∙ memory)
     ∙ ap (λ vs. t5 ++ flat_map (vector_line image.memory) vs) vectors))
     (c.in_ok-put_symbols.ensures k numbers ∙ ap (λ (t : Table). t6 ++ flat_map (symbol_lines k t) (numbered_objects os)) table)
