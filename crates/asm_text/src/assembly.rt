@@ -119,7 +119,8 @@ fn emit(
     requires sound { IsPlaced (spec.name_count (source_value source.now)) (placed_of layout.now) }
     requires count { length resolved.now.order.numbers.items ≡ spec.name_count (source_value source.now) }
     requires numbers { resolved.now.order.numbers.items ≡ symbol_numbers
-        (spec.symbol_order (source_value source.now) (placed_of layout.now)) (spec.name_count (source_value source.now)) }
+        (spec.symbol_order (source_value source.now) (placed_of layout.now)) (spec.name_count (source_value
+        source.now)) }
     ensures emitted { IfOk result
         (λ e. emitted_from (spec.meanings (source_value source.now) (placed_of layout.now)) 1 nothing
         source.now.statements.items ≡ Ok (emitted_of e)) }

@@ -223,7 +223,8 @@ fn names(alloc: Global, modules: &[ModuleSpec]) -> Result<Vec<&str>, LayoutFault
 
 /// The boots of the modules, in order.
 fn boots(alloc: Global, modules: &[ModuleSpec]) -> Result<Vec<u16>, LayoutFault>
-    ensures { MatchResult result (λ v. v.items ≡ boots_of (map module_value modules.now)) (λ e. e ≡ LayoutFault.NoMemory) }
+    ensures { MatchResult result (λ v. v.items ≡ boots_of (map module_value modules.now)) (λ e. e ≡
+        LayoutFault.NoMemory) }
 {
     let mut boots = Vec::new(alloc);
     for module in modules {

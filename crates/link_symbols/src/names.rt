@@ -209,8 +209,8 @@ impl<'a> Names<'a> {
     fn note_global(&mut self, s: Named<'a>, meaning: Meaning) -> Result<(), LinkFault>
         requires defined { definition_of (named_value s) ≡ Some meaning }
         requires global { is_global s.binding ≡ true }
-        ensures noted { OnOk result ((before : List NamedValue) → HoldsNames self.old before → HoldsNames self.new (before
-            ++ named_value s.entry ∷ [])) }
+        ensures noted { OnOk result ((before : List NamedValue) → HoldsNames self.old before → HoldsNames self.new
+            (before ++ named_value s.entry ∷ [])) }
         ensures sound { OnOk result ((before : List NamedValue) → HoldsNames self.old before → duplicate_of before
             (named_value s.entry) ≡ None) }
         ensures refusal { IfErr result (λ f. (before : List NamedValue) → HoldsNames self.old before → IsLinkFaultOf
@@ -225,8 +225,8 @@ impl<'a> Names<'a> {
     }
 
     fn note(&mut self, s: Named<'a>) -> Result<(), LinkFault>
-        ensures noted { OnOk result ((before : List NamedValue) → HoldsNames self.old before → HoldsNames self.new (before
-            ++ named_value s.entry ∷ [])) }
+        ensures noted { OnOk result ((before : List NamedValue) → HoldsNames self.old before → HoldsNames self.new
+            (before ++ named_value s.entry ∷ [])) }
         ensures sound { OnOk result ((before : List NamedValue) → HoldsNames self.old before → duplicate_of before
             (named_value s.entry) ≡ None) }
         ensures refusal { IfErr result (λ f. (before : List NamedValue) → HoldsNames self.old before → IsLinkFaultOf
@@ -251,8 +251,8 @@ impl<'a> Names<'a> {
 
     fn note_all(&mut self, object: &'a Object, number: usize, first: usize) -> Result<(), LinkFault>
         requires small { first ≤ 2 ^ 31 }
-        ensures noted { OnOk result ((before : List NamedValue) → HoldsNames self.old before → HoldsNames self.new (before
-            ++ named_symbols_in (numbered_object number first object.entry.now))) }
+        ensures noted { OnOk result ((before : List NamedValue) → HoldsNames self.old before → HoldsNames self.new
+            (before ++ named_symbols_in (numbered_object number first object.entry.now))) }
         ensures sound { OnOk result ((before : List NamedValue) → HoldsNames self.old before → duplicate before
             (named_symbols_in (numbered_object number first object.entry.now)) ≡ None) }
         ensures refusal { IfErr result (λ f. (before : List NamedValue) → HoldsNames self.old before → IsLinkFaultOf

@@ -114,7 +114,8 @@ fn linkage_by<'a>(
     ensures addresses { IfOk result (λ w. slice_index w.addresses.items
         ≡ (linking_of (layout_of layout.entry.now) objects.entry.now).address) }
     ensures low { IfOk result (λ w. (k : ℕ) → slice_index w.addresses.items k ≤ 65536) }
-    ensures ends { IfOk result (λ w. slice_index w.ends.items ≡ region_end (layout_of layout.entry.now) objects.entry.now) }
+    ensures ends { IfOk result (λ w. slice_index w.ends.items ≡ region_end (layout_of layout.entry.now)
+        objects.entry.now) }
     ensures small { IfOk result (λ w. (r : ℕ) → slice_index w.ends.items r ≤ FIRST_VECTOR) }
     ensures regions { IfOk result (λ w. length w.ends.items ≡ 2 + 2 * length layout.entry.now.modules.items) }
     ensures numbers { IfOk result (λ w. listed_numbers w.numbers.items
@@ -154,7 +155,8 @@ pub fn linkage_of<'a>(
     ensures addresses { IfOk result (λ w. slice_index w.addresses.items
         ≡ (linking_of (layout_of layout.entry.now) objects.entry.now).address) }
     ensures low { IfOk result (λ w. (k : ℕ) → slice_index w.addresses.items k ≤ 65536) }
-    ensures ends { IfOk result (λ w. slice_index w.ends.items ≡ region_end (layout_of layout.entry.now) objects.entry.now) }
+    ensures ends { IfOk result (λ w. slice_index w.ends.items ≡ region_end (layout_of layout.entry.now)
+        objects.entry.now) }
     ensures small { IfOk result (λ w. (r : ℕ) → slice_index w.ends.items r ≤ FIRST_VECTOR) }
     ensures regions { IfOk result (λ w. length w.ends.items ≡ 2 + 2 * length layout.entry.now.modules.items) }
     ensures numbers { IfOk result (λ w. listed_numbers w.numbers.items
