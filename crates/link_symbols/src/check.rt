@@ -50,10 +50,7 @@ fn symbol_meaning<'a>(names: &Names<'a>, s: Named<'a>, first: Option<Meaning>) -
             _ => None,
         },
         Binding::Global => global_meaning(names, s),
-        Binding::Weak => match names.stands_with(s.name, first) {
-            None => Some(Meaning::Number(0)),
-            found => found,
-        },
+        Binding::Weak => Some(names.stands_with(s.name, first).unwrap_or(Meaning::Number(0))),
     }
 }
 
