@@ -1,5 +1,5 @@
 -- The entries of the tables of symbols and relocations of a unit's file, as they are read.
-use Rattle.std.proofs.Common.{◌≡◌, ℕ, zero, suc, ◌+◌, ◌*◌, ◌/◌, ◌%◌, ◌<◌, ◌≤◌, ◌^◌, List, [], ◌∷◌, ◌++◌, refl, ap, subst, ◌∙◌, arith, length, take, drop, get_or, length-append, Bool, true, false, not, cond, ltb, eqb, ◌&&◌, ◌||◌, Option, Some, None, is_none}
+use Rattle.std.proofs.Common.{◌≡◌, ℕ, zero, suc, ◌+◌, ◌*◌, ◌/◌, ◌%◌, ◌<◌, ◌≤◌, ◌^◌, List, [], ◌∷◌, ◌++◌, refl, ap, subst, ◌∙◌, arith, length, take, drop, get_or, length-append, Bool, true, false, not, cond, ltb, eqb, ◌&&◌, ◌||◌, Option, Some, None, is_none, replicate}
 use Rattle.std.specs.List.{flat_map}
 use Rattle.std.specs.Option.{option_map}
 use Rattle.std.proofs.lemmas.List.{length-map, length-take, take-append-drop}
@@ -22,7 +22,7 @@ use Rattle.asm_text.specs.declared.unit.SectionKind.TheVariants.{Code}
 use Rattle.asm_text.specs.declared.unit.AsmRelocation.{AsmRelocation}
 use Rattle.asm_text.specs.Parts.{SymbolValue, UnitValue, IsUnit, IsSymbolValue, IsAsmRelocation}
 use Rattle.elf_objects.specs.Numbers.{symbol_size}
-use Rattle.obj_write.specs.Bytes.{half_bytes, long_bytes, zeros}
+use Rattle.obj_write.specs.Bytes.{half_bytes, long_bytes}
 use Rattle.obj_write.specs.Strings.{terminated, string_table, name_at}
 use Rattle.obj_write.specs.Sections.{FileSection, no_section, content_at}
 use Rattle.obj_write.specs.Symbols.{no_symbol, info_of, home_index, symbol_entry, symbol_entry_at, symbol_names}
@@ -85,7 +85,7 @@ entry_stands_by : (file : List ℕ) (at : ℕ) (symbols : List SymbolValue) (k :
 unfolding own.symbol_table_bytes
 entry_stands_by file at symbols k lt s =
     let f : ℕ → List ℕ = symbol_entry_at symbols in
-    let r = stands_right file at (at + 16) (zeros symbol_size) (all_below f (length symbols)) refl s in
+    let r = stands_right file at (at + 16) (replicate symbol_size 0) (all_below f (length symbols)) refl s in
     let n = length_below f 16 k (λ j _. length_symbol_at symbols j) in
     let e : at + 16 + length (all_below f k) ≡ at + 16 * suc k = omega (arith, n) in
     subst (λ (m : ℕ). Stands file m (symbol_entry_at symbols k)) e (stands_below file (at + 16) f (length symbols) k lt r)

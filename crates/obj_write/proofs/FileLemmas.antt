@@ -1,5 +1,5 @@
 -- What the object reader reads of a file of sections: its header and the headers of its sections.
-use Rattle.std.proofs.Common.{◌≡◌, ℕ, zero, suc, ◌+◌, ◌*◌, ◌<◌, ◌≤◌, ◌^◌, List, [], ◌∷◌, ◌++◌, refl, ap, sym, subst, ◌∙◌, arith, length, length-append, false, ltb, slice_index, Option, None}
+use Rattle.std.proofs.Common.{◌≡◌, ℕ, zero, suc, ◌+◌, ◌*◌, ◌<◌, ◌≤◌, ◌^◌, List, [], ◌∷◌, ◌++◌, refl, ap, sym, subst, ◌∙◌, arith, length, length-append, false, ltb, slice_index, Option, None, replicate}
 use Rattle.std.proofs.lemmas.Bool.Decides.{nat_tests}
 use Rattle.std.proofs.lemmas.List.{append-nil}
 use Rattle.elf_objects.specs.Bytes.{half_at, long_at}
@@ -8,7 +8,7 @@ use Rattle.elf_objects.specs.Header.{table_offset, section_count, name_table, he
 use Rattle.elf_objects.specs.Section.{header_of}
 use Rattle.obj_write.specs.declared.sections.Head.{Head}
 use Rattle.elf_objects.specs.Numbers.{file_header_size, section_header_size}
-use Rattle.obj_write.specs.Bytes.{half_bytes, long_bytes, zeros}
+use Rattle.obj_write.specs.Bytes.{half_bytes, long_bytes}
 use Rattle.obj_write.specs.Sections.{FileSection, padded_contents, head_of, head_bytes, header_table}
 use Rattle.obj_write.specs.Object.{identification, file_header, file_bytes}
 use Rattle.obj_write.proofs.ReadLemmas.{Stands, stands_left, stands_right, stands_within, word_read, half_read, byte_read, IsSmall, header, header_read, stands_below, length_below}
@@ -57,7 +57,7 @@ pub length_headers : (sections : List FileSection) → length (header_table sect
 unfolding header_table
 length_headers sections =
     let f : ℕ → List ℕ = λ k. head_bytes (head_of sections k) in
-    let a = length-append (zeros section_header_size) (all_below f (length sections)) in
+    let a = length-append (replicate section_header_size 0) (all_below f (length sections)) in
     let b = length_below f 40 (length sections) (λ k lt. length_head_bytes (head_of sections k)) in
     omega (arith, a, b)
 
@@ -91,7 +91,7 @@ headed file table count names small few low s =
     let t₃ : List ℕ = long_bytes 1 ++ t₄ in
     let t₂ : List ℕ = half_bytes 105 ++ t₃ in
     let t₁ : List ℕ = half_bytes 1 ++ t₂ in
-    let i₁ : List ℕ = 1 ∷ (1 ∷ (1 ∷ (zeros 9 ++ t₁))) in
+    let i₁ : List ℕ = 1 ∷ (1 ∷ (1 ∷ (replicate 9 0 ++ t₁))) in
     let s₁ = stands_right file 0 16 identification t₁ refl s in
     let s₂ = stands_right file 16 18 (half_bytes 1) t₂ refl s₁ in
     let s₃ = stands_right file 18 20 (half_bytes 105) t₃ refl s₂ in
@@ -106,13 +106,13 @@ headed file table count names small few low s =
     let s₁₂ = stands_right file 46 48 (half_bytes 40) t₁₂ refl s₁₁ in
     let s₁₃ = stands_right file 48 50 (half_bytes count) t₁₃ refl s₁₂ in
     let b₄ = stands_right file 0 4 (long_bytes 0x464c457f) i₁ refl s in
-    let b₅ = stands_right file 4 5 (1 ∷ []) (1 ∷ (1 ∷ (zeros 9 ++ t₁))) refl b₄ in
-    let b₆ = stands_right file 5 6 (1 ∷ []) (1 ∷ (zeros 9 ++ t₁)) refl b₅ in
+    let b₅ = stands_right file 4 5 (1 ∷ []) (1 ∷ (1 ∷ (replicate 9 0 ++ t₁))) refl b₄ in
+    let b₆ = stands_right file 5 6 (1 ∷ []) (1 ∷ (replicate 9 0 ++ t₁)) refl b₅ in
     record {
       magic = word_read file 0 0x464c457f (omega arith) (stands_left file 0 (long_bytes 0x464c457f) i₁ s);
-      class = byte_read file 4 1 (1 ∷ (1 ∷ (zeros 9 ++ t₁))) b₄;
-      order = byte_read file 5 1 (1 ∷ (zeros 9 ++ t₁)) b₅;
-      version = byte_read file 6 1 (zeros 9 ++ t₁) b₆;
+      class = byte_read file 4 1 (1 ∷ (1 ∷ (replicate 9 0 ++ t₁))) b₄;
+      order = byte_read file 5 1 (1 ∷ (replicate 9 0 ++ t₁)) b₅;
+      version = byte_read file 6 1 (replicate 9 0 ++ t₁) b₆;
       kind = half_read file 16 1 (omega arith) (stands_left file 16 (half_bytes 1) t₂ s₁);
       machine = half_read file 18 105 (omega arith) (stands_left file 18 (half_bytes 105) t₃ s₂);
       version_too = word_read file 20 1 (omega arith) (stands_left file 20 (long_bytes 1) t₄ s₃);
@@ -170,7 +170,7 @@ pub next_header : (sections : List FileSection) (names : ℕ) (file : List ℕ) 
 unfolding header_table
 next_header sections names file k laid lt small =
     let f : ℕ → List ℕ = λ j. head_bytes (head_of sections j) in
-    let r = stands_right file (table_place sections) (table_place sections + 40) (zeros section_header_size) (all_below f (length sections)) refl laid.headers in
+    let r = stands_right file (table_place sections) (table_place sections + 40) (replicate section_header_size 0) (all_below f (length sections)) refl laid.headers in
     let n = length_below f 40 k (λ j l. length_head_bytes (head_of sections j)) in
     let e = laid.table in
     let at : table_place sections + 40 + length (all_below f k) ≡ table_offset file + 40 * suc k = omega (arith, n, e) in

@@ -1,5 +1,5 @@
 -- The headers of a unit's file, as they are read, and the faults that they do not have.
-use Rattle.std.proofs.Common.{◌≡◌, ℕ, suc, ◌+◌, ◌<◌, ◌≤◌, ◌^◌, List, refl, ap, sym, subst, ◌∙◌, arith, length, take, get_or, length-append, not}
+use Rattle.std.proofs.Common.{◌≡◌, ℕ, suc, ◌+◌, ◌<◌, ◌≤◌, ◌^◌, List, refl, ap, sym, subst, ◌∙◌, arith, length, take, get_or, length-append, not, replicate}
 use Rattle.std.specs.List.{flat_map}
 use Rattle.std.proofs.lemmas.List.Elements.{All-get_or}
 use Rattle.std.proofs.lemmas.List.Sums.{prefix_len-le-length}
@@ -9,7 +9,7 @@ use Rattle.asm_text.specs.declared.unit.SectionKind.{SectionKind}
 use Rattle.asm_text.specs.declared.unit.SectionKind.TheVariants.{Code}
 use Rattle.asm_text.specs.Parts.{SymbolValue, UnitValue, IsUnit, IsSectionValue}
 use Rattle.obj_write.specs.declared.sections.Head.{Head}
-use Rattle.obj_write.specs.Bytes.{zeros, gap, padded_bytes}
+use Rattle.obj_write.specs.Bytes.{gap, padded_bytes}
 use Rattle.obj_write.specs.Strings.{string_table, name_at}
 use Rattle.obj_write.specs.Sections.{FileSection, no_section, padded_contents, content_at, head_of}
 use Rattle.obj_write.specs.Symbols.{symbol_names, symbol_table_bytes, first_global}
@@ -32,7 +32,7 @@ pub content_stands : (sections : List FileSection) (names : ℕ) (file : List �
 unfolding padded_contents content_at padded_bytes
 content_stands sections names file k laid lt =
     let bytes : List ℕ = (get_or sections k no_section).content in
-    stands_left file (content_at sections k) bytes (zeros (gap (length bytes))) (stands_each file 52 (λ (s : FileSection). padded_bytes s.content) sections k no_section lt laid.contents)
+    stands_left file (content_at sections k) bytes (replicate (gap (length bytes)) 0) (stands_each file 52 (λ (s : FileSection). padded_bytes s.content) sections k no_section lt laid.contents)
 
 content_below : (sections : List FileSection) (k : ℕ) → k < length sections → content_at sections k + length ((get_or sections k no_section).content) ≤ table_place sections
 unfolding padded_contents content_at padded_bytes
@@ -40,7 +40,7 @@ content_below sections k lt =
     let bytes : List ℕ = (get_or sections k no_section).content in
     let s = stands_each (padded_contents sections) 0 (λ (t : FileSection). padded_bytes t.content) sections k no_section lt (stands_whole (padded_contents sections) (padded_contents sections) refl) in
     let within = stands_within (padded_contents sections) (0 + length (flat_map (λ (t : FileSection). padded_bytes t.content) (take k sections))) (padded_bytes bytes) s in
-    let n = length-append bytes (zeros (gap (length bytes))) in
+    let n = length-append bytes (replicate (gap (length bytes)) 0) in
     omega (arith, within, n)
 
 -- ---- fields

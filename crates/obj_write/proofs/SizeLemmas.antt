@@ -1,5 +1,5 @@
 -- How many bytes the parts of a unit's file have.
-use Rattle.std.proofs.Common.{◌≡◌, ℕ, zero, suc, ◌+◌, ◌*◌, ◌-◌, ◌<◌, ◌≤◌, List, [], ◌∷◌, ◌++◌, refl, ap, sym, subst, ◌∙◌, arith, length, get_or, length-append, Bool, true, false, cond, eqb, inl, inr}
+use Rattle.std.proofs.Common.{◌≡◌, ℕ, zero, suc, ◌+◌, ◌*◌, ◌-◌, ◌<◌, ◌≤◌, List, [], ◌∷◌, ◌++◌, refl, ap, sym, subst, ◌∙◌, arith, length, get_or, length-append, Bool, true, false, cond, eqb, inl, inr, replicate}
 use Rattle.std.specs.List.{flat_map, filter, All}
 use Rattle.std.proofs.lemmas.Bool.{cases_lt}
 use Rattle.std.proofs.lemmas.List.{length-replicate, get_or_append_left, get_or-append-add}
@@ -9,7 +9,7 @@ use Rattle.elf_objects.proofs.PassLemmas.{length_each_below, at_each}
 use Rattle.asm_text.specs.declared.unit.AsmRelocation.{AsmRelocation}
 use Rattle.asm_text.specs.Parts.{SymbolValue, UnitValue}
 use Rattle.elf_objects.specs.Numbers.{symbol_size}
-use Rattle.obj_write.specs.Bytes.{zeros, gap, padded_bytes}
+use Rattle.obj_write.specs.Bytes.{gap, padded_bytes}
 use Rattle.obj_write.specs.Strings.{terminated, string_table, name_at}
 use Rattle.obj_write.specs.Sections.{FileSection, no_section}
 use Rattle.obj_write.specs.Symbols.{symbol_entry, symbol_entry_at, symbol_names, symbol_table_bytes}
@@ -82,7 +82,7 @@ at_all P unit parts a b c others k lt = elim (cases_lt k (length unit.sections))
 pub padded_few : (bytes : List ℕ) → length (padded_bytes bytes) ≤ length bytes + 3
 unfolding padded_bytes
 padded_few bytes =
-    let a = length-append bytes (zeros (gap (length bytes))) in
+    let a = length-append bytes (replicate (gap (length bytes)) 0) in
     let b = length-replicate {A = ℕ} (gap (length bytes)) 0 in
     omega (arith, a, b)
 
@@ -140,6 +140,6 @@ length_symbol_at symbols k = length_symbol_entry (name_at (symbol_names symbols)
 pub length_symbols : (symbols : List SymbolValue) → length (symbol_table_bytes symbols) ≡ 16 + 16 * length symbols
 unfolding symbol_table_bytes
 length_symbols symbols =
-    let a = length-append (zeros symbol_size) (all_below (symbol_entry_at symbols) (length symbols)) in
+    let a = length-append (replicate symbol_size 0) (all_below (symbol_entry_at symbols) (length symbols)) in
     let b = length_below (symbol_entry_at symbols) 16 (length symbols) (λ k lt. length_symbol_at symbols k) in
     omega (arith, a, b)

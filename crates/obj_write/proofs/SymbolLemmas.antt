@@ -1,5 +1,5 @@
 -- Symbols, one after the other.
-use Rattle.std.proofs.Common.{◌≡◌, ℕ, ◌+◌, ◌<◌, ◌≤◌, List, [], ◌∷◌, ◌++◌, map, refl, ap, sym, ◌∙◌, arith, append_assoc, length, get_or, Bool, true, false, not, cond, unwrap_or, Some, None, ltb}
+use Rattle.std.proofs.Common.{◌≡◌, ℕ, ◌+◌, ◌<◌, ◌≤◌, List, [], ◌∷◌, ◌++◌, map, refl, ap, sym, ◌∙◌, arith, append_assoc, length, get_or, Bool, true, false, not, cond, unwrap_or, Some, None, ltb, replicate}
 use Rattle.std.specs.Prelude.{position}
 use Rattle.std.specs.List.{position_or_len}
 use Rattle.std.proofs.lemmas.List.{get_or-map, append-nil, length-map}
@@ -12,7 +12,6 @@ use Rattle.asm_text.specs.Parts.{SymbolValue}
 use Rattle.asm_text.specs.Views.{symbol_value}
 use Rattle.obj_write.specs.declared.strings.Strings.{Strings}
 use Rattle.elf_objects.specs.Numbers.{symbol_size}
-use Rattle.obj_write.specs.Bytes.{zeros}
 use Rattle.obj_write.specs.Strings.{name_at}
 use Rattle.obj_write.specs.internal.Strings.{IsTableOf}
 use Rattle.obj_write.specs.Symbols.{no_symbol, symbol_entry, symbol_entry_at, symbol_names, symbol_table_bytes, first_global}
@@ -29,10 +28,10 @@ pub entry_added : (xs : List AsmSymbol) (i name : ℕ) (x : AsmSymbol) (strings 
     → IsTableOf (symbol_names (map symbol_value xs)) strings
     → ((names : List (List ℕ)) → IsTableOf names strings → i < length names → name ≡ name_at names i)
     → new ≡ old ++ symbol_entry name (symbol_value x)
-    → old ≡ zeros symbol_size ++ all_below (symbol_entry_at (map symbol_value xs)) i
-    → new ≡ zeros symbol_size ++ all_below (symbol_entry_at (map symbol_value xs)) (i + 1)
+    → old ≡ replicate symbol_size 0 ++ all_below (symbol_entry_at (map symbol_value xs)) i
+    → new ≡ replicate symbol_size 0 ++ all_below (symbol_entry_at (map symbol_value xs)) (i + 1)
 entry_added xs i name x strings old new lt is table place more so_far =
-    let z : List ℕ = zeros symbol_size in
+    let z : List ℕ = replicate symbol_size 0 in
     let f : ℕ → List ℕ = symbol_entry_at (map symbol_value xs) in
     let counted : length (symbol_names (map symbol_value xs)) ≡ length xs = length-map (map symbol_value xs) (λ (s : SymbolValue). s.name) ∙ length-map xs symbol_value in
     let at : name ≡ name_at (symbol_names (map symbol_value xs)) i = place (symbol_names (map symbol_value xs)) table (omega (arith, counted)) in
@@ -40,16 +39,16 @@ entry_added xs i name x strings old new lt is table place more so_far =
     ∙ (append_assoc z (all_below f i) (symbol_entry name (symbol_value x))
     ∙ ap (λ l. z ++ l) (ap (λ l. all_below f i ++ l) (entry_at_is xs i name x lt is at) ∙ sym (all_below_more f i))))
 
-no_entries : (xs : List AsmSymbol) → zeros symbol_size ≡ zeros symbol_size ++ all_below (symbol_entry_at (map symbol_value xs)) 0
-no_entries xs = sym (ap (λ l. zeros symbol_size ++ l) (all_below_zero (symbol_entry_at (map symbol_value xs))) ∙ append-nil (zeros symbol_size))
+no_entries : (xs : List AsmSymbol) → replicate symbol_size 0 ≡ replicate symbol_size 0 ++ all_below (symbol_entry_at (map symbol_value xs)) 0
+no_entries xs = sym (ap (λ l. replicate symbol_size 0 ++ l) (all_below_zero (symbol_entry_at (map symbol_value xs))) ∙ append-nil (replicate symbol_size 0))
 
-pub table_begun : (xs : List AsmSymbol) (table : List ℕ) → table ≡ zeros symbol_size → table ≡ zeros symbol_size ++ all_below (symbol_entry_at (map symbol_value xs)) 0
+pub table_begun : (xs : List AsmSymbol) (table : List ℕ) → table ≡ replicate symbol_size 0 → table ≡ replicate symbol_size 0 ++ all_below (symbol_entry_at (map symbol_value xs)) 0
 table_begun xs table is = is ∙ no_entries xs
 
 pub table_whole : (xs : List AsmSymbol) (table : List ℕ) (n : ℕ) → n ≡ length xs
-    → table ≡ zeros symbol_size ++ all_below (symbol_entry_at (map symbol_value xs)) n → table ≡ symbol_table_bytes (map symbol_value xs)
+    → table ≡ replicate symbol_size 0 ++ all_below (symbol_entry_at (map symbol_value xs)) n → table ≡ symbol_table_bytes (map symbol_value xs)
 unfolding symbol_table_bytes
-table_whole xs table n all is = is ∙ ap (λ k. zeros symbol_size ++ all_below (symbol_entry_at (map symbol_value xs)) k) (all ∙ sym (length-map xs symbol_value))
+table_whole xs table n all is = is ∙ ap (λ k. replicate symbol_size 0 ++ all_below (symbol_entry_at (map symbol_value xs)) k) (all ∙ sym (length-map xs symbol_value))
 
 -- ---- the first global one
 

@@ -1,5 +1,5 @@
 -- String tables and the list of sections as they grow.
-use Rattle.std.proofs.Common.{◌≡◌, ℕ, ◌+◌, ◌<◌, ◌≤◌, List, [], ◌∷◌, ◌++◌, refl, ap, sym, ◌∙◌, arith, append_assoc, length, get_or}
+use Rattle.std.proofs.Common.{◌≡◌, ℕ, ◌+◌, ◌<◌, ◌≤◌, List, [], ◌∷◌, ◌++◌, refl, ap, sym, ◌∙◌, arith, append_assoc, length, get_or, replicate}
 use Rattle.std.specs.List.{flat_map}
 use Rattle.std.proofs.lemmas.List.{flat_map_more, take-append-le, take_all, length_push, get_or_at, get_or_append_left}
 use Rattle.elf_objects.specs.Passes.{each_below, all_below}
@@ -8,7 +8,7 @@ use Rattle.obj_write.specs.declared.strings.Strings.{Strings}
 use Rattle.obj_write.specs.declared.sections.Head.{Head}
 use Rattle.obj_write.specs.declared.sections.Sections.{Sections}
 use Rattle.elf_objects.specs.Numbers.{file_header_size, section_header_size}
-use Rattle.obj_write.specs.Bytes.{zeros, padded_bytes}
+use Rattle.obj_write.specs.Bytes.{padded_bytes}
 use Rattle.obj_write.specs.Strings.{terminated, string_table, name_at}
 use Rattle.obj_write.specs.internal.Strings.{IsTableOf}
 use Rattle.obj_write.specs.Sections.{FileSection, no_section, padded_contents, content_at, head_of, head_bytes, header_table}
@@ -116,13 +116,13 @@ sections_more sections head content old new contents heads are =
 
 -- contents and then headers
 pub put_is : (s : Sections) (o r₁ r₂ r₃ : List ℕ)
-    → r₁ ≡ o ++ s.contents.items → r₂ ≡ r₁ ++ zeros section_header_size → r₃ ≡ r₂ ++ flat_map head_bytes s.heads.items
+    → r₁ ≡ o ++ s.contents.items → r₂ ≡ r₁ ++ replicate section_header_size 0 → r₃ ≡ r₂ ++ flat_map head_bytes s.heads.items
     → (sections : List FileSection) → AreSections sections s → r₃ ≡ o ++ (padded_contents sections ++ header_table sections)
 unfolding header_table
 put_is s o r₁ r₂ r₃ e₁ e₂ e₃ sections are =
     let heads : flat_map head_bytes s.heads.items ≡ all_below (λ k. head_bytes (head_of sections k)) (length sections)
     = ap (flat_map head_bytes) are.heads ∙ flat_map_each head_bytes (head_of sections) (length sections) in
-    let z : List ℕ = zeros section_header_size in
+    let z : List ℕ = replicate section_header_size 0 in
     let h : List ℕ = all_below (λ k. head_bytes (head_of sections k)) (length sections) in
     e₃ ∙ (ap (λ l. r₂ ++ l) heads ∙ (ap (λ l. l ++ h) (e₂ ∙ ap (λ l. l ++ z) (e₁ ∙ ap (λ l. o ++ l) are.contents))
     ∙ (append_assoc (o ++ padded_contents sections) z h ∙ append_assoc o (padded_contents sections) (z ++ h))))

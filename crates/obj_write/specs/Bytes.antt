@@ -12,11 +12,8 @@ abbrev pub long_bytes : ℕ → List ℕ
 long_bytes n = little_bytes 4 n
 
 -- several of them
-abbrev pub words_bytes : List ℕ → List ℕ
-words_bytes ns = flat_map long_bytes ns
-
-abbrev pub zeros : ℕ → List ℕ
-zeros n = replicate n 0
+abbrev pub longs_bytes : List ℕ → List ℕ
+longs_bytes ns = flat_map long_bytes ns
 
 -- how many bytes are missing to a multiple of 4
 abbrev pub gap : ℕ → ℕ
@@ -24,4 +21,4 @@ gap n = (4 - n % 4) % 4
 
 -- bytes with zeros after them, up to a multiple of 4
 unfoldable pub padded_bytes : List ℕ → List ℕ
-padded_bytes bytes = bytes ++ zeros (gap (length bytes))
+padded_bytes bytes = bytes ++ replicate (gap (length bytes)) 0

@@ -1,12 +1,12 @@
 -- The file of a unit (TIS ELF 1.2).
-use Rattle.std.specs.Prelude.{ℕ, ◌+◌, List, [], ◌∷◌, ◌++◌, length, map, slice_index_or, codes}
+use Rattle.std.specs.Prelude.{ℕ, ◌+◌, List, [], ◌∷◌, ◌++◌, length, map, slice_index_or, codes, replicate}
 use Rattle.elf_objects.specs.Numbers.{file_header_size, relocatable, msp430, current_version, class_32, low_byte_first, section_header_size, progbits, symtab, strtab, rela, nobits, write_flag, alloc_flag, execute_flag, symbol_size, relocation_size}
 use Rattle.elf_objects.specs.Passes.{each_below}
 use Rattle.asm_text.specs.declared.unit.SectionKind.{SectionKind}
 use Rattle.asm_text.specs.declared.unit.SectionKind.TheVariants.{Code, Data, Bss}
 use Rattle.asm_text.specs.Parts.{SectionValue, UnitValue}
 use Rattle.obj_write.specs.declared.sections.Head.{Head}
-use Rattle.obj_write.specs.Bytes.{half_bytes, long_bytes, zeros}
+use Rattle.obj_write.specs.Bytes.{half_bytes, long_bytes}
 use Rattle.obj_write.specs.Strings.{string_table, name_at}
 use Rattle.obj_write.specs.Sections.{FileSection, padded_contents, header_table}
 use Rattle.obj_write.specs.Symbols.{symbol_names, symbol_table_bytes, first_global}
@@ -118,7 +118,7 @@ file_sections unit =
 
 -- 7f, `ELF`, 32 bits, the low byte first, the version, and nothing more ("ELF Identification")
 abbrev pub identification : List ℕ
-identification = 0x7f ∷ 0x45 ∷ 0x4c ∷ 0x46 ∷ class_32 ∷ low_byte_first ∷ current_version ∷ zeros 9
+identification = 0x7f ∷ 0x45 ∷ 0x4c ∷ 0x46 ∷ class_32 ∷ low_byte_first ∷ current_version ∷ replicate 9 0
 
 -- the file's header, with the place of the header table, the number of sections and the index of the name table
 unfoldable pub file_header : ℕ → ℕ → ℕ → List ℕ

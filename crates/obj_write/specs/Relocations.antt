@@ -3,7 +3,7 @@ use Rattle.std.specs.Prelude.{ℕ, ◌+◌, ◌*◌, ◌==◌, List, [], ◌∷�
 use Rattle.std.specs.List.{filter, flat_map}
 use Rattle.elf_objects.specs.Passes.{all_below}
 use Rattle.asm_text.specs.declared.unit.AsmRelocation.{AsmRelocation}
-use Rattle.obj_write.specs.Bytes.{words_bytes}
+use Rattle.obj_write.specs.Bytes.{longs_bytes}
 
 -- R_MSP430_16_BYTE of the MSP430's kinds of relocations: a word at any address
 abbrev pub word_field : ℕ
@@ -11,7 +11,7 @@ word_field = 5
 
 -- an entry: the symbol has the next index in the file, the kind is that of a word, and the addend is 0
 unfoldable pub relocation_entry : AsmRelocation → List ℕ
-relocation_entry r = words_bytes (r.offset ∷ ((r.symbol + 1) * 256 + word_field) ∷ 0 ∷ [])
+relocation_entry r = longs_bytes (r.offset ∷ ((r.symbol + 1) * 256 + word_field) ∷ 0 ∷ [])
 
 -- those of one section, in order
 abbrev pub relocations_in : List AsmRelocation → ℕ → List AsmRelocation

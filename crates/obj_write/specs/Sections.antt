@@ -1,10 +1,10 @@
 -- The sections of a file after section 0: their headers and where their contents stand (TIS ELF 1.2, "Sections").
-use Rattle.std.specs.Prelude.{ℕ, ◌+◌, List, [], ◌∷◌, ◌++◌, length, take, slice_index_or}
+use Rattle.std.specs.Prelude.{ℕ, ◌+◌, List, [], ◌∷◌, ◌++◌, length, take, slice_index_or, replicate}
 use Rattle.std.specs.List.{flat_map}
 use Rattle.elf_objects.specs.Numbers.{file_header_size, section_header_size}
 use Rattle.elf_objects.specs.Passes.{all_below}
 use Rattle.obj_write.specs.declared.sections.Head.{Head}
-use Rattle.obj_write.specs.Bytes.{words_bytes, zeros, padded_bytes}
+use Rattle.obj_write.specs.Bytes.{longs_bytes, padded_bytes}
 
 -- a section: its header without a place, and its content
 pub record FileSection : Type 0 where
@@ -31,9 +31,9 @@ head_of sections index = record ((slice_index_or sections index no_section).head
 
 -- the ten fields of a header; the address is 0
 unfoldable pub head_bytes : Head → List ℕ
-head_bytes h = words_bytes (h.name ∷ h.kind ∷ h.flags ∷ 0 ∷ h.offset ∷ h.size ∷ h.link ∷ h.info ∷ h.align ∷ h.entry_size ∷ [])
+head_bytes h = longs_bytes (h.name ∷ h.kind ∷ h.flags ∷ 0 ∷ h.offset ∷ h.size ∷ h.link ∷ h.info ∷ h.align ∷ h.entry_size ∷ [])
 
 -- the table of headers; that of section 0 is zeros
 unfoldable pub header_table : List FileSection → List ℕ
 header_table sections =
-    zeros section_header_size ++ all_below (λ k. head_bytes (head_of sections k)) (length sections)
+    replicate section_header_size 0 ++ all_below (λ k. head_bytes (head_of sections k)) (length sections)

@@ -1,10 +1,10 @@
 -- The table of symbols (TIS ELF 1.2, "Symbol Table").
-use Rattle.std.specs.Prelude.{ℕ, ◌+◌, ◌*◌, Bool, true, false, List, [], ◌∷◌, ◌++◌, length, map, slice_index_or, Option, Some, None}
+use Rattle.std.specs.Prelude.{ℕ, ◌+◌, ◌*◌, Bool, true, false, List, [], ◌∷◌, ◌++◌, length, map, slice_index_or, Option, Some, None, replicate}
 use Rattle.std.specs.List.{position_or_len}
 use Rattle.elf_objects.specs.Numbers.{symbol_size, local_binding, global_binding, undefined_index}
 use Rattle.elf_objects.specs.Passes.{all_below}
 use Rattle.asm_text.specs.Parts.{SymbolValue}
-use Rattle.obj_write.specs.Bytes.{half_bytes, long_bytes, zeros}
+use Rattle.obj_write.specs.Bytes.{half_bytes, long_bytes}
 use Rattle.obj_write.specs.Strings.{name_at}
 
 abbrev pub no_symbol : SymbolValue
@@ -34,7 +34,7 @@ symbol_entry_at symbols k = symbol_entry (name_at (symbol_names symbols) k) (sli
 
 -- entry 0 is zeros, and each symbol has the next index
 unfoldable pub symbol_table_bytes : List SymbolValue → List ℕ
-symbol_table_bytes symbols = zeros symbol_size ++ all_below (symbol_entry_at symbols) (length symbols)
+symbol_table_bytes symbols = replicate symbol_size 0 ++ all_below (symbol_entry_at symbols) (length symbols)
 
 -- the index of the first global entry, or the number of entries where none is global
 unfoldable pub first_global : List SymbolValue → ℕ

@@ -1,7 +1,7 @@
 //! Numbers as bytes, and zeros up to a multiple of 4.
 
 ghost use Rattle.std.specs.Prelude.{◌≡◌, ◌++◌, OnOk};
-ghost use Rattle.obj_write.specs.Bytes.{half_bytes, long_bytes, words_bytes, padded_bytes};
+ghost use Rattle.obj_write.specs.Bytes.{half_bytes, long_bytes, longs_bytes, padded_bytes};
 
 use std::alloc::AllocError;
 
@@ -21,7 +21,7 @@ pub fn put_word(out: &mut Vec<u8>, n: usize) -> Result<(), AllocError>
 
 /// Writes the low four bytes of each of some numbers.
 pub fn put_words(out: &mut Vec<u8>, ns: &[usize]) -> Result<(), AllocError>
-    ensures { OnOk result (out.new.items ≡ out.old.items ++ words_bytes ns.now) }
+    ensures { OnOk result (out.new.items ≡ out.old.items ++ longs_bytes ns.now) }
 {
     for n in ns {
         put_word(out, *n)?;

@@ -1,11 +1,10 @@
-use Rattle.std.proofs.Common.{List, ℕ, ◌++◌, ap, ◌∙◌, arith}
+use Rattle.std.proofs.Common.{List, ℕ, ◌++◌, ap, ◌∙◌, arith, replicate}
 use Rattle.elf_objects.specs.Numbers.{symbol_size}
-use Rattle.obj_write.specs.Bytes.{zeros}
 use Rattle.obj_write.proofs.SymbolLemmas.{table_begun, entry_added, table_whole}
 use Rattle.obj_write.proofs.symbols.symbol_table_bytes.Goals as goal
 
 pub loop-k-init : goal.loop-k-init
-loop-k-init c = table_begun c.args.symbols.now c.extend_from_slice.new.self.items (c.in_ok-extend_from_slice.ensures.items ∙ ap (λ (l : List ℕ). l ++ zeros symbol_size) c.new-table.ensures.items)
+loop-k-init c = table_begun c.args.symbols.now c.extend_from_slice.new.self.items (c.in_ok-extend_from_slice.ensures.items ∙ ap (λ (l : List ℕ). l ++ replicate symbol_size 0) c.new-table.ensures.items)
 
 pub loop-k-preserved : goal.loop-k-preserved
 loop-k-preserved c =
