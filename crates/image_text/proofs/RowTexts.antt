@@ -9,7 +9,7 @@ use Rattle.std.specs.Cmp.Lexicographic.{pointwise}
 use Rattle.std.proofs.lemmas.Bool.{not-true, and_parts}
 use Rattle.image_text.specs.declared.ImageFault.{ImageFault}
 use Rattle.image_text.specs.declared.ImageFault.TheVariants.{Line, Twice}
-use Rattle.image_text.specs.Refusal.{Spot, next_spot, formed, row_form, row_or, is_row, digits_word, digits_bytes, rows_refusal, end_refusal}
+use Rattle.image_text.specs.Refusal.{next_spot, formed, row_form, row_or, is_row, digits_word, digits_bytes, rows_refusal, end_refusal}
 use Rattle.image_text.proofs.FormLemmas.{formed_ok}
 use Rattle.image_text.proofs.LineTexts.{row_line_of}
 use Rattle.image_text.proofs.StageLemmas.{line_on, next_on}

@@ -11,7 +11,7 @@ ghost use Rattle.image_text.specs.declared.numbers.TheConstants.{BEFORE_ROWS, FI
 ghost use Rattle.mod_layout.specs.Table.{empty_table};
 ghost use Rattle.mod_layout.specs.Tables.{IsTable};
 
-use crate::forms::{HANDLER, KEY, MODULE, ROW, formed, section_at, sixteen_at, digits_word};
+use crate::forms::{HANDLER, KEY, MODULE, ROW, digits_word, formed, section_at, sixteen_at};
 use crate::lines::Lines;
 use crate::numbers::{BEFORE_ROWS, FIRST_ROW, announced_count, other_version};
 use crate::{Image, ImageFault};

@@ -1,10 +1,10 @@
-use Rattle.std.proofs.Common.{◌≡◌, ℕ, ◌%◌, ◌==◌, true, false, cond, refl, sym, ap, ◌∙◌, List, Some, arith}
+use Rattle.std.proofs.Common.{◌≡◌, ℕ, ◌%◌, ◌==◌, true, false, cond, sym, ap, ◌∙◌, List, Some, arith}
 use Rattle.std.proofs.lemmas.Bool.Decides.{nat_tests}
 use Rattle.std.proofs.lemmas.Result.{err_from_is_err_and}
 use Rattle.texts.specs.Lines.{ended_lines, unended}
 use Rattle.image_text.specs.declared.ImageFault.TheVariants.{Line}
 use Rattle.image_text.specs.ImageText.{line_before, handler_line}
-use Rattle.image_text.specs.Refusal.{Spot, next_spot, line_fault, handler_form, digits_word, handler_refusal, count_refusal}
+use Rattle.image_text.specs.Refusal.{next_spot, line_fault, handler_form, digits_word, handler_refusal, count_refusal}
 use Rattle.image_text.proofs.FormLemmas.{formed_ok}
 use Rattle.image_text.proofs.LineTexts.{handler_line_of}
 use Rattle.image_text.proofs.StageLemmas.{line_on, form_fails, next_on}

@@ -1,7 +1,7 @@
-use Rattle.std.proofs.Common.{ℕ, refl, sym, ap, ◌∙◌, List}
+use Rattle.std.proofs.Common.{ℕ, sym, ap, ◌∙◌, List}
 use Rattle.std.proofs.lemmas.Result.{err_from_is_err_and}
 use Rattle.image_text.specs.ImageText.{line_before, key_line}
-use Rattle.image_text.specs.Refusal.{next_spot, key_form, key_refusal, handler_refusal}
+use Rattle.image_text.specs.Refusal.{key_form, key_refusal, handler_refusal}
 use Rattle.image_text.proofs.FormLemmas.{formed_ok}
 use Rattle.image_text.proofs.LineTexts.{key_line_of}
 use Rattle.image_text.proofs.StageLemmas.{line_on, form_fails, next_on}
