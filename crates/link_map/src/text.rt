@@ -16,7 +16,7 @@ ghost use Rattle.linker.specs.Room.{IsSmall};
 ghost use Rattle.link_map.specs.Map.{map_text, vector_line};
 
 use crate::lines::{MapText, Piece};
-use crate::modules::{by_id, put_entries, put_modules, memory_word};
+use crate::modules::{by_id, memory_word, put_entries, put_modules};
 use crate::parts::put_parts;
 use crate::symbols::{put_commons, put_symbols};
 use elf_objects::Object;
