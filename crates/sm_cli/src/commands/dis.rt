@@ -1,6 +1,7 @@
 //! `dis IMAGE START END`: the instructions of an image, one a line.
-ghost use Rattle.std.specs.Prelude.{◌≡◌, ◌≤◌, ◌+◌, ◌%◌, ◌++◌, ℕ, IfOk, IfSome, map, drop, length, codes, option_map, option_and_then, slice_index};
+ghost use Rattle.std.specs.Prelude.{◌≡◌, ◌≤◌, ◌+◌, ◌%◌, ◌++◌, ℕ, IfOk, IfSome, map, drop, length, codes, option_map, option_and_then};
 ghost use Rattle.arrayvec.specs.ArrayString.{array_string_len};
+ghost use Rattle.std.specs.Prelude.{slice_index};
 ghost use Rattle.sm_words.specs.Words.{word_at};
 ghost use Rattle.insn_decode.specs.Code.{IsDecoded, length_or_one};
 ghost use Rattle.texts.specs.Hexadecimals.{hex_word};
