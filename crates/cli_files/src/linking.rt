@@ -126,23 +126,20 @@ fn entry_of(layout: &Layout, module: u64, entry: u64) -> &[u8]
     }
 }
 
-/// A name with `?` for each byte that is no visible character.
-pub fn shown(alloc: Global, name: &[u8]) -> Result<String, AllocError>
+// A name as it is shown.
+fn shown(alloc: Global, name: &[u8]) -> Result<String, AllocError>
     ensures { IfOk result (λ shown. string_bytes shown ≡ map spec.shown_byte name.now) }
 {
     let mut shown = String::new(alloc);
     for byte in name {
-        shown.push(shown_byte(*byte))?;
+        shown.push(shown_byte(*byte) as char)?;
     }
     Ok(shown)
 }
 
-fn shown_byte(byte: u8) -> char
+/// A byte of a name as it is shown: `?` where it is no visible character.
+pub fn shown_byte(byte: u8) -> u8
     ensures { result ≡ spec.shown_byte byte }
 {
-    if byte.is_ascii_graphic() {
-        byte as char
-    } else {
-        '?'
-    }
+    if byte.is_ascii_graphic() { byte } else { b'?' }
 }

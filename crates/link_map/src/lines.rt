@@ -4,7 +4,7 @@ ghost use Rattle.std.specs.Prelude.{◌≡◌, ◌++◌, [], OnOk, map};
 ghost use Rattle.link_map.specs.Lines.{line, address_text, name_shown};
 ghost use Rattle.link_map.specs.internal.Values.{piece_text};
 
-use cli_files::shown;
+use cli_files::shown_byte;
 use std::alloc::{AllocError, Global};
 use texts::{decimal, hex_word};
 
@@ -60,8 +60,10 @@ impl MapText {
     fn put_name(&mut self, name: &[u8]) -> Result<(), AllocError>
         ensures { OnOk result (self.new.text.items ≡ self.old.text.items ++ name_shown name.now) }
     {
-        let name = shown(self.alloc, name)?;
-        self.put(name.as_str().as_bytes())
+        for byte in name {
+            self.text.push(shown_byte(*byte))?;
+        }
+        Ok(())
     }
 
     fn put_piece(&mut self, piece: Piece<'_>) -> Result<(), AllocError>
