@@ -12,7 +12,7 @@ use Rattle.link_symbols.specs.declared.fault.LinkFault.{LinkFault}
 use Rattle.linker.specs.Image.{linked_image}
 use Rattle.linker.specs.Refusals.{link_fault_of}
 use Rattle.cli_files.specs.Causes.{IsNeedCause}
-use Rattle.cli_files.specs.Files.{need, a_schedule, Holds, IsScheduleOf, schedule_file, Need, schedule_needs, Held, an_object}
+use Rattle.cli_files.specs.Files.{need, a_layout, a_schedule, an_image, Holds, HoldAll, image_file, IsScheduleOf, layout_file, object_needs, schedule_file, Need, schedule_needs, Held, an_object}
 use Rattle.cli_files.specs.StatusNumbers.{status_after}
 use Rattle.cli_files.specs.SymbolNames.{symbol_name}
 use Rattle.cli_files.specs.Unlinked.{IsUnlinked}
@@ -20,8 +20,9 @@ use Rattle.cli_files.specs.declared.answers.Refusal.{Refusal}
 use Rattle.cli_files.specs.declared.answers.Refusal.TheVariants as refusal
 use Rattle.cli_files.specs.declared.answers.Status.{Status}
 use Rattle.cli_files.specs.declared.answers.Status.TheVariants as status
-use Rattle.cli_calls.specs.Command.{Command, Answer, gives, runs, Comes, IsAnswer, Outcome, refuses, trace_answer}
-use Rattle.cli_calls.specs.Linking.{objects_in, linked, linked_by}
+use Rattle.cli_calls.specs.Command.{Command, Answer, done, gives, runs, Comes, IsAnswer, Outcome, refuses, trace_answer}
+use Rattle.cli_calls.specs.ImageRuns.{image_run_command}
+use Rattle.cli_calls.specs.Linking.{objects_command, objects_in, linked, linked_by, text_linked}
 use Rattle.cli_calls.specs.Runs.{IsCommandCause, EndsAs, IsRun}
 
 -- what a command gives is its answer
@@ -49,6 +50,12 @@ abbrev pub runs_answer : (files : Option FileMap) (command : Command) (value : I
     → IsAnswer files command (trace_answer value entries cycles)
 runs_answer files command value entries cycles comes = record { outcome = runs value entries cycles; comes = comes; is = refl }
 
+-- what comes of an image and a schedule
+pub image_run_comes : (files : Option FileMap) (told : Image → List Entry → ℕ → Outcome) (name : List ℕ) (schedule : Option (List ℕ)) (cycles : ℕ) (value : Image) (entries : List Entry)
+    → Holds files (need name image_file) (an_image value) → IsScheduleOf files schedule entries → Comes files (image_run_command told name schedule cycles) (told value entries cycles)
+image_run_comes files told name None cycles value entries h s = record { helds = an_image value ∷ []; hold = (h, tt); is = ap (λ es. told value es cycles) (sym s) }
+image_run_comes files told name (Some own) cycles value entries h s = record { helds = an_image value ∷ a_schedule entries ∷ []; hold = (h, (s, tt)); is = refl }
+
 -- Objects
 
 pub objects_of_helds : (objects : List ObjectValue) → objects_in (map an_object objects) ≡ objects
@@ -63,6 +70,17 @@ module _ (layout : LayoutValue) (objects : List ObjectValue) (outcome : Image �
   -- and others to a refusal
   pub linked_refuses : (fault : LinkFault) → link_fault_of layout objects ≡ Some fault → linked layout (objects_in (map an_object objects)) outcome ≡ refuses fault (symbol_name layout objects fault)
   linked_refuses fault e = ap (λ (l : List ObjectValue). linked layout l outcome) (objects_of_helds objects) ∙ ap (linked_by layout objects outcome) e
+
+-- the same of a text that is written of the layout and the objects
+pub text_given : (layout : LayoutValue) (objects : List ObjectValue) (text : LayoutValue → List ObjectValue → List ℕ) (fault : Option LinkFault) → link_fault_of layout objects ≡ fault
+    → text_linked text layout (objects_in (map an_object objects)) ≡ linked_by layout objects (λ image. done (text layout objects)) fault
+text_given layout objects text fault e = ap (text_linked text layout) (objects_of_helds objects) ∙ ap (linked_by layout objects (λ image. done (text layout objects))) e
+
+-- what comes of a layout and objects
+pub objects_comes : (files : Option FileMap) (text : LayoutValue → List ObjectValue → List ℕ) (name : List ℕ) (names : List (List ℕ)) (layout : LayoutValue) (objects : List ObjectValue) (outcome : Outcome)
+    → Holds files (need name layout_file) (a_layout layout) → HoldAll files (object_needs names) (map an_object objects)
+    → text_linked text layout (objects_in (map an_object objects)) ≡ outcome → Comes files (objects_command text name names) outcome
+objects_comes files text name names layout objects outcome h hs e = record { helds = a_layout layout ∷ map an_object objects; hold = (h, hs); is = e }
 
 -- Refusals
 

@@ -1,14 +1,19 @@
 -- Something comes of the files of a command.
-use Rattle.std.proofs.Common.{◌≡◌, Bool, true, false, if◌then◌else◌, List, Option, Some, None, option_map, subst}
+use Rattle.std.proofs.Common.{◌≡◌, ℕ, Bool, true, false, if◌then◌else◌, List, [], ◌∷◌, Option, Some, None, option_map, subst}
 use Rattle.std.specs.Prelude.{option_and_then}
 use Rattle.sm_io.specs.Files.{FileMap}
 use Rattle.image_text.specs.Image.{Image}
+use Rattle.schedule_file.specs.declared.Entry.{Entry}
 use Rattle.layout_file.specs.Values.{LayoutValue}
 use Rattle.elf_objects.specs.Object.{ObjectValue}
 use Rattle.link_symbols.specs.declared.fault.LinkFault.{LinkFault}
-use Rattle.cli_files.specs.Files.{Held, HoldAll}
-use Rattle.cli_calls.specs.Command.{Command, Outcome, nothing}
-use Rattle.cli_calls.specs.Linking.{linked_by}
+use Rattle.linker.specs.Refusals.{link_fault_of}
+use Rattle.cli_files.specs.Files.{Held, a_layout, an_image, HoldAll}
+use Rattle.cli_calls.specs.Command.{Command, Outcome, done, nothing}
+use Rattle.cli_calls.specs.ImageRuns.{entries_in, image_run_command, read_image_run}
+use Rattle.cli_calls.specs.Linking.{linked_by, objects_command, objects_in, read_objects}
+use Rattle.cli_calls.specs.Values.{cycles_of, file_named}
+use Rattle.cli_calls.specs.Words.{Text}
 
 -- what files that serve the command hold comes to something
 abbrev pub Sound : Command → Type 0
@@ -19,6 +24,22 @@ pub some_linked : (layout : LayoutValue) (objects : List ObjectValue) (outcome :
     → linked_by layout objects outcome fault ≡ nothing → ⊥
 some_linked layout objects outcome None s e = s _ e
 some_linked layout objects outcome (Some fault) s e = cc
+
+-- a text of a layout and objects
+sound_objects : (text : LayoutValue → List ObjectValue → List ℕ) (layout : Text) (objects : List Text) → Sound (objects_command text layout objects)
+sound_objects text name objects map [] h e = h
+sound_objects text name objects map (a_layout layout ∷ more) h e =
+    some_linked layout (objects_in more) (λ image. done (text layout (objects_in more))) (link_fault_of layout (objects_in more)) (λ image e. cc) e
+sound_objects text name objects map (held ∷ more) h e = h.0.is
+
+-- what is told of an image
+abbrev pub IsSomething : (Image → List Entry → ℕ → Outcome) → Type 0
+IsSomething told = (value : Image) (entries : List Entry) (cycles : ℕ) → told value entries cycles ≡ nothing → ⊥
+
+sound_image_run : (told : Image → List Entry → ℕ → Outcome) → IsSomething told → (name : Text) (schedule : Option Text) (cycles : ℕ) → Sound (image_run_command told name schedule cycles)
+sound_image_run told some name schedule cycles map [] h e = h
+sound_image_run told some name schedule cycles map (an_image value ∷ more) h e = some value (entries_in more) cycles e
+sound_image_run told some name schedule cycles map (held ∷ more) h e = h.0.is
 
 -- ---- the command of words
 
@@ -42,3 +63,11 @@ if_then f (Some a) s = s a
 pub if_else : (b : Bool) (x y : Option Command) → IfSound x → IfSound y → IfSound (if b then x else y)
 if_else true x y s t = s
 if_else false x y s t = t
+
+pub of_objects : (text : LayoutValue → List ObjectValue → List ℕ) (vs : List Text) → IfSound (read_objects text vs)
+of_objects text (layout ∷ objects) = if_some (objects_command text layout objects) (sound_objects text layout objects)
+of_objects text [] = if_none
+
+pub of_image_run : (told : Image → List Entry → ℕ → Outcome) → IsSomething told → (vs : List Text) → IfSound (read_image_run told vs)
+of_image_run told some (name ∷ schedule ∷ cycles ∷ []) = if_map (image_run_command told name (file_named schedule)) (cycles_of cycles) (sound_image_run told some name (file_named schedule))
+of_image_run told some _ = if_none

@@ -5,6 +5,7 @@ pub mod Verdicts
 pub mod Offers
 pub mod Command
 pub mod Linking
+pub mod ImageRuns
 pub mod Runs
 pub mod Calls
 pub mod internal

@@ -1,14 +1,15 @@
 -- What comes of a layout and objects.
-use Rattle.std.specs.Prelude.{List, [], ◌∷◌, Option, Some, None}
+use Rattle.std.specs.Prelude.{ℕ, List, [], ◌∷◌, Option, Some, None}
 use Rattle.image_text.specs.Image.{Image}
 use Rattle.layout_file.specs.Values.{LayoutValue}
 use Rattle.elf_objects.specs.Object.{ObjectValue}
 use Rattle.link_symbols.specs.declared.fault.LinkFault.{LinkFault}
 use Rattle.linker.specs.Image.{linked_image}
 use Rattle.linker.specs.Refusals.{link_fault_of}
-use Rattle.cli_files.specs.Files.{Held, an_object}
+use Rattle.cli_files.specs.Files.{Held, a_layout, an_object, layout_file, need, object_needs}
 use Rattle.cli_files.specs.SymbolNames.{symbol_name}
-use Rattle.cli_calls.specs.Command.{Outcome, refuses}
+use Rattle.cli_calls.specs.Command.{Command, Outcome, done, nothing, refuses}
+use Rattle.cli_calls.specs.Words.{Text}
 
 -- the objects among what files hold
 abbrev pub objects_in : List Held → List ObjectValue
@@ -22,3 +23,19 @@ linked_by layout objects outcome (Some fault) = refuses fault (symbol_name layou
 -- what comes of linking: an outcome by the image, or the first refusal
 abbrev pub linked : LayoutValue → List ObjectValue → (Image → Outcome) → Outcome
 linked layout objects outcome = linked_by layout objects outcome (link_fault_of layout objects)
+
+-- ---- `LAYOUT OBJ..`: a text that is written of a layout and the objects that link
+
+abbrev pub text_linked : (LayoutValue → List ObjectValue → List ℕ) → LayoutValue → List ObjectValue → Outcome
+text_linked text layout objects = linked layout objects (λ image. done (text layout objects))
+
+abbrev pub objects_outcome : (LayoutValue → List ObjectValue → List ℕ) → List Held → Outcome
+objects_outcome text (a_layout layout ∷ objects) = text_linked text layout (objects_in objects)
+objects_outcome text _ = nothing
+
+abbrev pub objects_command : (LayoutValue → List ObjectValue → List ℕ) → Text → List Text → Command
+objects_command text layout objects = record { needs = need layout layout_file ∷ object_needs objects; outcome = objects_outcome text }
+
+abbrev pub read_objects : (LayoutValue → List ObjectValue → List ℕ) → List Text → Option Command
+read_objects text (layout ∷ objects) = Some (objects_command text layout objects)
+read_objects text [] = None

@@ -17,7 +17,7 @@ pub trait Answering {
     ghost asked: { Self → Command };
 
     /// Its numbers are within their bounds.
-    ghost bounds: { Self → Type 0 };
+    ghost bounds: { Self → Type 0 } = { λ _. Unit {0} };
 
     /// Reads the files that it needs, in their order, and puts what comes of them. At a refusal nothing was put.
     fn answer<F: Files, O: Sink>(
