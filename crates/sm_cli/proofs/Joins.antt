@@ -21,17 +21,17 @@ use Rattle.written_machine.specs.View.{View, view_of}
 use Rattle.isolation.specs.Laws.{SameTraces, SameViews}
 use Rattle.peer_rows.specs.Laws.{DifferInData, AcceptedArePeers}
 use Rattle.cli_files.specs.Files.{Held, an_image, a_schedule, a_layout, an_object, layout_file, object_file, image_file, need, object_needs, schedule_needs, Holds, HoldAll, IsScheduleOf}
-use Rattle.cli_calls.specs.Command.{Answer, Answers, IsAnswer, run_status, trace_answer}
+use Rattle.cli_calls.specs.Command.{Answer, Answers, IsAnswer, done, run_status, runs, trace_answer}
 use Rattle.sm_cli.specs.ImageCommand.{image_command}
 use Rattle.sm_cli.specs.Joins.{AreFiles, IsLinked, SaysYes, RunsAlike}
-use Rattle.sm_cli.specs.LinkCommand.{link_command, link_outcome, text_answer, text_outcome}
-use Rattle.cli_calls.specs.Linking.{linked, linked_by}
+use Rattle.sm_cli.specs.LinkCommand.{link_command, linked_image_text, text_answer}
+use Rattle.cli_calls.specs.Linking.{linked_by, objects_outcome, text_linked}
 use Rattle.sm_cli.specs.RunCommand.{run_command}
 use Rattle.sm_cli.proofs.Checking.{check_accepted, balance_accepted}
 use Rattle.sm_cli.proofs.KeyBytes.{key_bytes}
 use Rattle.cli_calls.proofs.Outcomes.{one_answer}
-use Rattle.sm_cli.proofs.Running.{image_comes, linked_runs}
-use Rattle.cli_calls.proofs.Given.{objects_of_helds, runs_answer}
+use Rattle.sm_cli.proofs.Running.{linked_runs}
+use Rattle.cli_calls.proofs.Given.{image_run_comes, objects_of_helds, runs_answer}
 use Rattle.sm_cli.proofs.ShortText.{short_text}
 
 module _ (files : FileMap) (layout_name : List ℕ) (names : List (List ℕ)) where
@@ -61,16 +61,16 @@ module _ (files : FileMap) (layout_name : List ℕ) (names : List (List ℕ)) wh
   read_of : (written : Answer) → IsAnswer (Some files) (link_command layout_name names) written → Read written
   read_of written a = by a.comes.helds a.comes.hold (subst (λ o. Answers o written) (sym a.comes.is) a.is)
     where
-      linked_as : (layout : LayoutValue) (objects : List ObjectValue) (fault : Option LinkFault) → link_fault_of layout objects ≡ fault → Answers (linked_by layout objects text_outcome fault) written
+      linked_as : (layout : LayoutValue) (objects : List ObjectValue) (fault : Option LinkFault) → link_fault_of layout objects ≡ fault → Answers (linked_by layout objects (λ image. done (linked_image_text layout objects)) fault) written
           → Holds (Some files) (need layout_name layout_file) (a_layout layout) → HoldAll (Some files) (object_needs names) (map an_object objects) → Read written
       linked_as layout objects None links told h hs = record { layout = layout; layout_is = h; objects = objects; objects_are = hs; links = links; text = sym told }
       linked_as layout objects (Some fault) links told h hs = absurd told
 
-      by : (helds : List Held) → HoldAll (Some files) (need layout_name layout_file ∷ object_needs names) helds → Answers (link_outcome helds) written → Read written
+      by : (helds : List Held) → HoldAll (Some files) (need layout_name layout_file ∷ object_needs names) helds → Answers (objects_outcome linked_image_text helds) written → Read written
       by [] h told = absurd h
       by (a_layout layout ∷ helds) h told =
           let objects = objects_of names helds h.1 in
-          let outcome = ap (λ (l : List Held). link_outcome (a_layout layout ∷ l)) objects.1 ∙ ap (λ (l : List ObjectValue). linked layout l text_outcome) (objects_of_helds objects.0) in
+          let outcome = ap (λ (l : List Held). objects_outcome linked_image_text (a_layout layout ∷ l)) objects.1 ∙ ap (text_linked linked_image_text layout) (objects_of_helds objects.0) in
           linked_as layout objects.0 (link_fault_of layout objects.0) refl (subst (λ o. Answers o written) outcome told) h.0 (subst (λ l. HoldAll (Some files) (object_needs names) l) objects.1 h.1)
       by (held ∷ helds) h told = absurd h.0.is
 
@@ -125,7 +125,7 @@ module _ (files : FileMap) (layout_name : List ℕ) (names : List (List ℕ)) wh
       let helds = s.comes.helds in
       let entries = scheduled name schedule helds s.comes.hold in
       let own = one_answer files (run_command layout_name schedule cycles names) ran _ r (linked.runs schedule cycles entries.0 entries.1) in
-      let theirs = one_answer files (image_command name schedule cycles) shown _ s (runs_answer (Some files) (image_command name schedule cycles) other entries.0 cycles (image_comes (Some files) name schedule cycles other entries.0 (image_holds name other image file) entries.1)) in
+      let theirs = one_answer files (image_command name schedule cycles) shown _ s (runs_answer (Some files) (image_command name schedule cycles) other entries.0 cycles (image_run_comes (Some files) runs name schedule cycles other entries.0 (image_holds name other image file) entries.1)) in
       let stop = ap (λ (v : View). is_some v.stop) (views linked.value other id entries.0 cycles peers) in
       let same : trace_answer linked.value entries.0 cycles ≡ trace_answer other entries.0 cycles = ap₂ told_as (traces linked.value other id entries.0 cycles peers) stop in
       own ∙ same ∙ sym theirs

@@ -12,16 +12,8 @@ use Rattle.cli_files.specs.Files.{image_file, need, an_image, a_schedule, a_scri
 use Rattle.cli_calls.specs.Command.{gives, runs, Comes, Outcome}
 use Rattle.cli_calls.specs.Linking.{objects_in, linked}
 use Rattle.cli_calls.proofs.Given.{linked_gives}
-use Rattle.sm_cli.specs.ImageCommand.{image_command}
-use Rattle.sm_cli.specs.LinkCommand.{link_command, text_outcome}
 use Rattle.sm_cli.specs.MonitorCommand.{monitor_command, script_answer}
 use Rattle.sm_cli.specs.RunCommand.{run_command}
-
--- the run of an image on a schedule
-pub image_comes : (files : Option FileMap) (name : List ℕ) (schedule : Option (List ℕ)) (cycles : ℕ) (value : Image) (entries : List Entry)
-    → Holds files (need name image_file) (an_image value) → IsScheduleOf files schedule entries → Comes files (image_command name schedule cycles) (runs value entries cycles)
-image_comes files name None cycles value entries h s = record { helds = an_image value ∷ []; hold = (h, tt); is = ap (λ es. runs value es cycles) (sym s) }
-image_comes files name (Some own) cycles value entries h s = record { helds = an_image value ∷ a_schedule entries ∷ []; hold = (h, (s, tt)); is = refl }
 
 -- what a script writes on the machine of an image
 pub monitor_comes : (files : Option FileMap) (name : List ℕ) (schedule : Option (List ℕ)) (script_name : List ℕ) (value : Image) (entries : List Entry) (script : List ScriptLine)
@@ -33,11 +25,6 @@ monitor_comes files name (Some own) script_name value entries script h s k =
     record { helds = an_image value ∷ a_schedule entries ∷ a_script script ∷ []; hold = (h, (s, (k, tt))); is = refl }
 
 module _ (files : Option FileMap) (name : List ℕ) (names : List (List ℕ)) (layout : LayoutValue) (objects : List ObjectValue) where
-  -- what comes of a layout and objects
-  pub link_comes : (outcome : Outcome) → Holds files (need name layout_file) (a_layout layout) → HoldAll files (object_needs names) (map an_object objects)
-      → linked layout (objects_in (map an_object objects)) text_outcome ≡ outcome → Comes files (link_command name names) outcome
-  link_comes outcome h hs e = record { helds = a_layout layout ∷ map an_object objects; hold = (h, hs); is = e }
-
   -- what comes of a layout, a schedule and objects
   pub run_comes : (schedule : Option (List ℕ)) (cycles : ℕ) (entries : List Entry) (outcome : Outcome) → Holds files (need name layout_file) (a_layout layout) → IsScheduleOf files schedule entries
       → HoldAll files (object_needs names) (map an_object objects) → linked layout (objects_in (map an_object objects)) (λ image. runs image entries cycles) ≡ outcome

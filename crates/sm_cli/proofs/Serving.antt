@@ -12,7 +12,8 @@ use Rattle.sm_cli.specs.ImageCommand.{image_command}
 use Rattle.sm_cli.specs.Input.{IsInput, IsScriptInput}
 use Rattle.sm_cli.specs.MonitorCommand.{monitor_command, script_answer}
 use Rattle.sm_cli.specs.RunCommand.{run_command}
-use Rattle.sm_cli.proofs.Running.{image_comes, linked_runs, monitor_comes}
+use Rattle.cli_calls.proofs.Given.{image_run_comes}
+use Rattle.sm_cli.proofs.Running.{linked_runs, monitor_comes}
 use Rattle.sm_cli.proofs.ShortText.{short_text}
 
 -- what an input is: files that are told, and what comes of a command of theirs
@@ -32,7 +33,7 @@ run_input words files value entries cycles (inl i) = record {
   command = image_command i.name i.schedule cycles;
   told = i.told;
   asked = i.command;
-  comes = image_comes (Some i.files_map) i.name i.schedule cycles value entries (image_held i.files_map i.name value i.image i.file) i.entries_are;
+  comes = image_run_comes (Some i.files_map) runs i.name i.schedule cycles value entries (image_held i.files_map i.name value i.image i.file) i.entries_are;
 }
 run_input words files value entries cycles (inr i) = record {
   map = i.files_map;

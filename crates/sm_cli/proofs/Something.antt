@@ -14,18 +14,18 @@ use Rattle.cli_files.specs.Files.{an_image, a_schedule, the_challenges, the_repl
 use Rattle.cli_calls.specs.Words.{Text, values_in}
 use Rattle.cli_calls.specs.Ids.{id_of}
 use Rattle.cli_calls.specs.Values.{cycles_of, file_named}
-use Rattle.cli_calls.specs.Command.{Command, Outcome, gives, runs, nothing, Comes}
+use Rattle.cli_calls.specs.Command.{Command, Outcome, runs, nothing, Comes}
 use Rattle.sm_cli.specs.CommandLine.{command_by, command_of}
 use Rattle.sm_cli.specs.AsmCommand.{asm_command, asm_of}
 use Rattle.sm_cli.specs.BalanceCommand.{balanced_by, balance_command, balance_in, balance_of}
 use Rattle.sm_cli.specs.ChallengeCommand.{challenge_command, challenge_of}
 use Rattle.sm_cli.specs.CheckCommand.{check_command, check_of}
 use Rattle.sm_cli.specs.DisCommand.{dis_command, range_command, dis_of}
-use Rattle.sm_cli.specs.ImageCommand.{image_command, image_of}
+use Rattle.sm_cli.specs.ImageCommand.{image_of}
 use Rattle.sm_cli.specs.KeyCommand.{keys_by, key_command, key_of}
 use Rattle.cli_calls.specs.Linking.{objects_in}
-use Rattle.cli_calls.proofs.Sound.{Sound, some_linked, IfSound, if_none, if_some, if_map, if_then, if_else}
-use Rattle.sm_cli.specs.LinkCommand.{link_command, link_of, text_outcome}
+use Rattle.cli_calls.proofs.Sound.{Sound, some_linked, of_image_run, of_objects, IfSound, IsSomething, if_none, if_some, if_map, if_then, if_else}
+use Rattle.sm_cli.specs.LinkCommand.{link_of, linked_image_text}
 use Rattle.sm_cli.specs.LoneCommand.{lone_by, lone_command, lone_with, lone_of}
 use Rattle.sm_cli.specs.MakeCommand.{make_command, make_of, seed_of}
 use Rattle.sm_cli.specs.MonitorCommand.{monitor_command, monitor_of}
@@ -36,10 +36,8 @@ use Rattle.sm_cli.specs.VendorCommand.{report_by, vendor_command, vendor_of}
 
 -- ---- the commands
 
-sound_image : (name : Text) (schedule : Option Text) (cycles : ℕ) → Sound (image_command name schedule cycles)
-sound_image name schedule cycles map [] h e = h
-sound_image name schedule cycles map (an_image value ∷ more) h e = cc
-sound_image name schedule cycles map (held ∷ more) h e = h.0.is
+some_run : IsSomething runs
+some_run value entries cycles e = cc
 
 some_key : (value : Image) (o : Option Module) → is_some o ≡ true → keys_by value o ≡ nothing → ⊥
 some_key value None s e = cc
@@ -99,11 +97,6 @@ sound_balance name id arms map (an_image value ∷ certificates own ∷ held ∷
 sound_balance name id arms map (an_image value ∷ second ∷ more) h e = h.1.0.is
 sound_balance name id arms map (held ∷ second ∷ more) h e = h.0.is
 
-sound_link : (layout : Text) (objects : List Text) → Sound (link_command layout objects)
-sound_link name objects map [] h e = h
-sound_link name objects map (a_layout layout ∷ more) h e = some_linked layout (objects_in more) text_outcome (link_fault_of layout (objects_in more)) (λ image e. cc) e
-sound_link name objects map (held ∷ more) h e = h.0.is
-
 sound_run : (layout : Text) (schedule : Option Text) (cycles : ℕ) (objects : List Text) → Sound (run_command layout schedule cycles objects)
 sound_run name schedule cycles objects map [] h e = h
 sound_run name None cycles objects map (a_layout layout ∷ more) h e =
@@ -149,10 +142,6 @@ sound_make seed map helds h e = cc
 
 -- ---- the command of words
 
-of_image : (vs : List Text) → IfSound (image_of vs)
-of_image (name ∷ schedule ∷ cycles ∷ []) = if_map (image_command name (file_named schedule)) (cycles_of cycles) (sound_image name (file_named schedule))
-of_image _ = if_none
-
 of_key : (vs : List Text) → IfSound (key_of vs)
 of_key (name ∷ id ∷ []) = if_map (key_command name) (id_of id) (sound_key name)
 of_key _ = if_none
@@ -181,10 +170,6 @@ of_balance : (vs : List Text) → IfSound (balance_of vs)
 of_balance (name ∷ id ∷ arms ∷ []) = if_map (balance_in name arms) (id_of id) (λ n. sound_balance name n arms)
 of_balance _ = if_none
 
-of_link : (vs : List Text) → IfSound (link_of vs)
-of_link (layout ∷ objects) = if_some (link_command layout objects) (sound_link layout objects)
-of_link [] = if_none
-
 of_run : (vs : List Text) → IfSound (run_of vs)
 of_run (layout ∷ schedule ∷ cycles ∷ objects) =
     if_map (λ n. run_command layout (file_named schedule) n objects) (cycles_of cycles) (λ n. sound_run layout (file_named schedule) n objects)
@@ -212,14 +197,14 @@ of_make _ = if_none
 
 of_name : (name : Text) (words : List Text) → IfSound (command_by name words)
 of_name name words =
-    if_else (bytes_eq name (codes "image")) _ _ (if_then image_of (values_in 3 3 words) of_image) (
+    if_else (bytes_eq name (codes "image")) _ _ (if_then image_of (values_in 3 3 words) (of_image_run runs some_run)) (
     if_else (bytes_eq name (codes "key")) _ _ (if_then key_of (values_in 2 2 words) of_key) (
     if_else (bytes_eq name (codes "dis")) _ _ (if_then dis_of (values_in 3 3 words) of_dis) (
     if_else (bytes_eq name (codes "challenge")) _ _ (if_then challenge_of (values_in 1 1 words) of_challenge) (
     if_else (bytes_eq name (codes "vendor")) _ _ (if_then vendor_of (values_in 5 5 words) of_vendor) (
     if_else (bytes_eq name (codes "check")) _ _ (if_then check_of (values_in 2 2 words) of_check) (
     if_else (bytes_eq name (codes "balance")) _ _ (if_then balance_of (values_in 3 3 words) of_balance) (
-    if_else (bytes_eq name (codes "link")) _ _ (if_then link_of (values_in 2 65 words) of_link) (
+    if_else (bytes_eq name (codes "link")) _ _ (if_then link_of (values_in 2 65 words) (of_objects linked_image_text)) (
     if_else (bytes_eq name (codes "run")) _ _ (if_then run_of (values_in 4 67 words) of_run) (
     if_else (bytes_eq name (codes "lone")) _ _ (if_then lone_of (values_in 3 17 words) of_lone) (
     if_else (bytes_eq name (codes "monitor")) _ _ (if_then monitor_of (values_in 3 3 words) of_monitor) (

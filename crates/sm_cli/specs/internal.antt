@@ -1,14 +1,3 @@
-pub mod AsmCommand
-pub mod BalanceCommand
-pub mod ChallengeCommand
-pub mod CheckCommand
 pub mod CommandLine
-pub mod DisCommand
 pub mod ImageCommand
-pub mod KeyCommand
-pub mod LinkCommand
-pub mod LoneCommand
-pub mod MakeCommand
-pub mod MonitorCommand
 pub mod RunCommand
-pub mod VendorCommand

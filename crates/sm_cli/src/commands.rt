@@ -5,7 +5,7 @@ ghost use Rattle.sm_cli.specs.internal.CommandLine.{asked, IsBounded};
 ghost use Rattle.sm_cli.specs.MakeCommand.{make_of};
 ghost use Rattle.cli_calls.specs.Words.{texts, values_in};
 
-use cli_calls::Answering;
+use cli_calls::{Answering, ImageRun, ObjectsCommand, read};
 use cli_files::{Refused, Status};
 use sm_io::{Files, Sink};
 use std::alloc::{AllocError, Global};
@@ -29,9 +29,9 @@ use balance::BalanceCommand;
 use challenge::ChallengeCommand;
 use check::CheckCommand;
 use dis::DisCommand;
-use image::ImageCommand;
+use image::Trace;
 use key::KeyCommand;
-use link::LinkCommand;
+use link::ImageText;
 use lone::LoneCommand;
 use make::MakeCommand;
 use run::RunCommand;
@@ -41,14 +41,14 @@ use vendor::VendorCommand;
 /// A command with its arguments.
 #[derive(Drop)]
 pub enum CommandLine<'a> {
-    Image(ImageCommand<'a>),
+    Image(ImageRun<'a, Trace>),
     Key(KeyCommand<'a>),
     Dis(DisCommand<'a>),
     Challenge(ChallengeCommand<'a>),
     Vendor(VendorCommand<'a>),
     Check(CheckCommand<'a>),
     Balance(BalanceCommand<'a>),
-    Link(LinkCommand<'a>),
+    Link(ObjectsCommand<'a, ImageText>),
     Run(RunCommand<'a>),
     Lone(LoneCommand<'a>),
     Monitor(MonitorCommand<'a>),
@@ -81,29 +81,30 @@ fn command_by<'a>(
     ensures bounds { IfOk result (λ o. IfSome o IsBounded) }
 {
     if name == "image" {
-        Ok(image::read(alloc, words)?.map(CommandLine::Image))
+        Ok(read::<ImageRun<Trace>>(alloc, "image", words, 3, 3)?.map(CommandLine::Image))
     } else if name == "key" {
-        Ok(key::read(alloc, words)?.map(CommandLine::Key))
+        Ok(read::<KeyCommand>(alloc, "key", words, 2, 2)?.map(CommandLine::Key))
     } else if name == "dis" {
-        Ok(dis::read(alloc, words)?.map(CommandLine::Dis))
+        Ok(read::<DisCommand>(alloc, "dis", words, 3, 3)?.map(CommandLine::Dis))
     } else if name == "challenge" {
-        Ok(challenge::read(alloc, words)?.map(CommandLine::Challenge))
+        Ok(read::<ChallengeCommand>(alloc, "challenge", words, 1, 1)?.map(CommandLine::Challenge))
     } else if name == "vendor" {
-        Ok(vendor::read(alloc, words)?.map(CommandLine::Vendor))
+        Ok(read::<VendorCommand>(alloc, "vendor", words, 5, 5)?.map(CommandLine::Vendor))
     } else if name == "check" {
-        Ok(check::read(alloc, words)?.map(CommandLine::Check))
+        Ok(read::<CheckCommand>(alloc, "check", words, 2, 2)?.map(CommandLine::Check))
     } else if name == "balance" {
-        Ok(balance::read(alloc, words)?.map(CommandLine::Balance))
+        Ok(read::<BalanceCommand>(alloc, "balance", words, 3, 3)?.map(CommandLine::Balance))
     } else if name == "link" {
-        Ok(link::read(alloc, words)?.map(CommandLine::Link))
+        Ok(read::<ObjectsCommand<ImageText>>(alloc, "link", words, 2, 65)?.map(CommandLine::Link))
     } else if name == "run" {
-        Ok(run::read(alloc, words)?.map(CommandLine::Run))
+        Ok(read::<RunCommand>(alloc, "run", words, 4, 67)?.map(CommandLine::Run))
     } else if name == "lone" {
-        Ok(lone::read(alloc, words)?.map(CommandLine::Lone))
+        // More than fourteen pairs name some register twice.
+        Ok(read::<LoneCommand>(alloc, "lone", words, 3, 17)?.map(CommandLine::Lone))
     } else if name == "monitor" {
-        Ok(script::read(alloc, words)?.map(CommandLine::Monitor))
+        Ok(read::<MonitorCommand>(alloc, "monitor", words, 3, 3)?.map(CommandLine::Monitor))
     } else if name == "asm" {
-        Ok(asm::read(alloc, words)?.map(CommandLine::Asm))
+        Ok(read::<AsmCommand>(alloc, "asm", words, 1, 1)?.map(CommandLine::Asm))
     } else if name == "make" {
         make_line(alloc, words)
     } else {
@@ -117,7 +118,7 @@ fn make_line<'a>(alloc: Global, words: &[String]) -> Result<Option<CommandLine<'
         (values_in 1 1 (drop 1 (texts words.now)))) }
     ensures bounds { IfOk result (λ o. IfSome o IsBounded) }
 {
-    match make::read(alloc, words)? {
+    match read::<MakeCommand>(alloc, "make", words, 1, 1)? {
         Some(command) => Ok(Some(CommandLine::Make(command))),
         None => Ok(None),
     }

@@ -1,12 +1,9 @@
 //! `asm SOURCE`: the object of a program.
 ghost use Rattle.std.specs.Prelude.{◌≡◌, IfOk, map, drop, option_map, option_and_then};
-ghost use Rattle.sm_cli.specs.AsmCommand.{asm_of};
-ghost use Rattle.sm_cli.specs.internal.AsmCommand.{asm_asked};
-ghost use Rattle.cli_calls.specs.Words.{texts};
-ghost use Rattle.cli_calls.specs.Words.{values_in};
+ghost use Rattle.sm_cli.specs.AsmCommand.{asm_command, asm_of};
 
 use asm_text::AsmUnit;
-use cli_calls::{Answering, values_of};
+use cli_calls::{Answering, Reading};
 use cli_files::{NO_MEMORY, Refused, Status, load, status_after};
 use obj_write::write_object;
 use sm_io::{Files, Sink, put_all};
@@ -18,31 +15,20 @@ pub struct AsmCommand<'a> {
     pub source: &'a str,
 }
 
-/// The argument that the words after the first are.
-pub fn read<'a>(alloc: Global, words: &'a [String]) -> Result<Option<AsmCommand<'a>>, AllocError>
-    ensures { IfOk result (λ o. option_map asm_asked o ≡ option_and_then asm_of
-        (values_in 1 1 (drop 1 (texts words.entry.now)))) }
-{
-    match values_of(alloc, "asm", words, 1, 1)? {
-        Some(values) => Ok(command_in(values.as_slice())),
-        None => Ok(None),
-    }
-}
+impl<'a> Reading<'a> for AsmCommand<'a> {
+    ghost asks = { asm_of };
 
-fn command_in<'a>(values: &[&'a str]) -> Option<AsmCommand<'a>>
-    ensures { option_map asm_asked result ≡ asm_of (map (λ w. w.now) values.now) }
-{
-    if values.len() == 1 {
-        Some(AsmCommand { source: values[0] })
-    } else {
-        None
+    fn read_values(_alloc: Global, values: &[&'a str]) -> Result<Option<Self>, AllocError> {
+        if values.len() == 1 {
+            Ok(Some(AsmCommand { source: values[0] }))
+        } else {
+            Ok(None)
+        }
     }
 }
 
 impl Answering for AsmCommand<'_> {
-    ghost asked = { λ c. asm_asked c };
-
-    ghost bounds = { λ _. Unit {0} };
+    ghost asked = { λ c. asm_command c.source.now };
 
     fn answer<F: Files, O: Sink>(
         &self,

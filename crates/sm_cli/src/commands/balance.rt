@@ -3,12 +3,9 @@ ghost use Rattle.std.specs.Prelude.{◌≡◌, IfOk, map, drop, option_map, opti
 ghost use Rattle.flow_rule.specs.Arms.{VerdictWith};
 ghost use Rattle.mod_layout.specs.Tables.{IsModule};
 ghost use Rattle.written_machine.specs.Peers.{section};
-ghost use Rattle.sm_cli.specs.BalanceCommand.{balance_of};
-ghost use Rattle.sm_cli.specs.internal.BalanceCommand.{balance_asked};
-ghost use Rattle.cli_calls.specs.Words.{texts};
-ghost use Rattle.cli_calls.specs.Words.{values_in};
+ghost use Rattle.sm_cli.specs.BalanceCommand.{balance_command, balance_of};
 
-use cli_calls::{Answering, id_of, put_verdict, text_of, values_of};
+use cli_calls::{Answering, Reading, id_of, put_verdict, text_of};
 use cli_files::{Chosen, NO_MEMORY, Refused, Status, load, load_with};
 use flow_check::{Arms, Verdict};
 use sm_io::{Files, Sink};
@@ -22,40 +19,26 @@ pub struct BalanceCommand<'a> {
     pub arms: &'a str,
 }
 
-/// The arguments that the words after the first are.
-pub fn read<'a>(
-    alloc: Global,
-    words: &'a [String],
-) -> Result<Option<BalanceCommand<'a>>, AllocError>
-    ensures { IfOk result (λ o. option_map balance_asked o ≡
-        option_and_then balance_of (values_in 3 3 (drop 1 (texts words.entry.now)))) }
-{
-    match values_of(alloc, "balance", words, 3, 3)? {
-        Some(values) => Ok(command_in(values.as_slice())),
-        None => Ok(None),
-    }
-}
+impl<'a> Reading<'a> for BalanceCommand<'a> {
+    ghost asks = { balance_of };
 
-fn command_in<'a>(values: &[&'a str]) -> Option<BalanceCommand<'a>>
-    ensures { option_map balance_asked result ≡ balance_of (map (λ w. w.now) values.now) }
-{
-    if values.len() != 3 {
-        return None;
-    }
-    match id_of(values[1]) {
-        Some(id) => Some(BalanceCommand {
-            image: values[0],
-            id,
-            arms: values[2],
-        }),
-        None => None,
+    fn read_values(_alloc: Global, values: &[&'a str]) -> Result<Option<Self>, AllocError> {
+        if values.len() != 3 {
+            return Ok(None);
+        }
+        match id_of(values[1]) {
+            Some(id) => Ok(Some(BalanceCommand {
+                image: values[0],
+                id,
+                arms: values[2],
+            })),
+            None => Ok(None),
+        }
     }
 }
 
 impl Answering for BalanceCommand<'_> {
-    ghost asked = { λ c. balance_asked c };
-
-    ghost bounds = { λ _. Unit {0} };
+    ghost asked = { λ c. balance_command c.image.now c.id c.arms.now };
 
     fn answer<F: Files, O: Sink>(
         &self,

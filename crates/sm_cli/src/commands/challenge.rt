@@ -1,11 +1,8 @@
 //! `challenge CHALLENGES`: the schedule that sends a vendor's challenges.
 ghost use Rattle.std.specs.Prelude.{◌≡◌, IfOk, map, drop, option_map, option_and_then};
-ghost use Rattle.sm_cli.specs.ChallengeCommand.{challenge_of};
-ghost use Rattle.sm_cli.specs.internal.ChallengeCommand.{challenge_asked};
-ghost use Rattle.cli_calls.specs.Words.{texts};
-ghost use Rattle.cli_calls.specs.Words.{values_in};
+ghost use Rattle.sm_cli.specs.ChallengeCommand.{challenge_command, challenge_of};
 
-use cli_calls::{Answering, values_of};
+use cli_calls::{Answering, Reading};
 use cli_files::{NO_MEMORY, Refused, Status, load, status_after};
 use sm_io::{Files, Sink, put_all};
 use std::alloc::{AllocError, Global};
@@ -17,36 +14,22 @@ pub struct ChallengeCommand<'a> {
     pub challenges: &'a str,
 }
 
-/// The argument that the words after the first are.
-pub fn read<'a>(
-    alloc: Global,
-    words: &'a [String],
-) -> Result<Option<ChallengeCommand<'a>>, AllocError>
-    ensures { IfOk result (λ o. option_map challenge_asked o
-        ≡ option_and_then challenge_of (values_in 1 1 (drop 1 (texts words.entry.now)))) }
-{
-    match values_of(alloc, "challenge", words, 1, 1)? {
-        Some(values) => Ok(command_in(values.as_slice())),
-        None => Ok(None),
-    }
-}
+impl<'a> Reading<'a> for ChallengeCommand<'a> {
+    ghost asks = { challenge_of };
 
-fn command_in<'a>(values: &[&'a str]) -> Option<ChallengeCommand<'a>>
-    ensures { option_map challenge_asked result ≡ challenge_of (map (λ w. w.now) values.now) }
-{
-    if values.len() == 1 {
-        Some(ChallengeCommand {
-            challenges: values[0],
-        })
-    } else {
-        None
+    fn read_values(_alloc: Global, values: &[&'a str]) -> Result<Option<Self>, AllocError> {
+        if values.len() == 1 {
+            Ok(Some(ChallengeCommand {
+                challenges: values[0],
+            }))
+        } else {
+            Ok(None)
+        }
     }
 }
 
 impl Answering for ChallengeCommand<'_> {
-    ghost asked = { λ c. challenge_asked c };
-
-    ghost bounds = { λ _. Unit {0} };
+    ghost asked = { λ c. challenge_command c.challenges.now };
 
     fn answer<F: Files, O: Sink>(
         &self,

@@ -3,12 +3,9 @@ ghost use Rattle.std.specs.Prelude.{◌≡◌, IfOk, [], map, drop, option_map, 
 ghost use Rattle.flow_rule.specs.Arms.{VerdictWith};
 ghost use Rattle.mod_layout.specs.Tables.{IsModule};
 ghost use Rattle.written_machine.specs.Peers.{section};
-ghost use Rattle.sm_cli.specs.CheckCommand.{check_of};
-ghost use Rattle.sm_cli.specs.internal.CheckCommand.{check_asked};
-ghost use Rattle.cli_calls.specs.Words.{texts};
-ghost use Rattle.cli_calls.specs.Words.{values_in};
+ghost use Rattle.sm_cli.specs.CheckCommand.{check_command, check_of};
 
-use cli_calls::{Answering, id_of, put_verdict, text_of, values_of};
+use cli_calls::{Answering, Reading, id_of, put_verdict, text_of};
 use cli_files::{Chosen, NO_MEMORY, Refused, Status, load_with};
 use flow_check::Verdict;
 use sm_io::{Files, Sink};
@@ -21,36 +18,25 @@ pub struct CheckCommand<'a> {
     pub id: u16,
 }
 
-/// The arguments that the words after the first are.
-pub fn read<'a>(alloc: Global, words: &'a [String]) -> Result<Option<CheckCommand<'a>>, AllocError>
-    ensures { IfOk result (λ o. option_map check_asked o ≡
-        option_and_then check_of (values_in 2 2 (drop 1 (texts words.entry.now)))) }
-{
-    match values_of(alloc, "check", words, 2, 2)? {
-        Some(values) => Ok(command_in(values.as_slice())),
-        None => Ok(None),
-    }
-}
+impl<'a> Reading<'a> for CheckCommand<'a> {
+    ghost asks = { check_of };
 
-fn command_in<'a>(values: &[&'a str]) -> Option<CheckCommand<'a>>
-    ensures { option_map check_asked result ≡ check_of (map (λ w. w.now) values.now) }
-{
-    if values.len() != 2 {
-        return None;
-    }
-    match id_of(values[1]) {
-        Some(id) => Some(CheckCommand {
-            image: values[0],
-            id,
-        }),
-        None => None,
+    fn read_values(_alloc: Global, values: &[&'a str]) -> Result<Option<Self>, AllocError> {
+        if values.len() != 2 {
+            return Ok(None);
+        }
+        match id_of(values[1]) {
+            Some(id) => Ok(Some(CheckCommand {
+                image: values[0],
+                id,
+            })),
+            None => Ok(None),
+        }
     }
 }
 
 impl Answering for CheckCommand<'_> {
-    ghost asked = { λ c. check_asked c };
-
-    ghost bounds = { λ _. Unit {0} };
+    ghost asked = { λ c. check_command c.image.now c.id };
 
     fn answer<F: Files, O: Sink>(
         &self,

@@ -7,13 +7,10 @@ ghost use Rattle.insn_decode.specs.Code.{IsDecoded, length_or_one};
 ghost use Rattle.texts.specs.Hexadecimals.{hex_word};
 ghost use Rattle.sm_io.specs.Sink.{Puts};
 ghost use Rattle.sm_cli.specs.DisCommand as spec;
-ghost use Rattle.sm_cli.specs.DisCommand.{dis_of, listing};
-ghost use Rattle.sm_cli.specs.internal.DisCommand.{dis_asked};
-ghost use Rattle.cli_calls.specs.Words.{texts};
-ghost use Rattle.cli_calls.specs.Words.{values_in};
+ghost use Rattle.sm_cli.specs.DisCommand.{dis_command, dis_of, listing};
 
 use arrayvec::ArrayString;
-use cli_calls::{Answering, values_of};
+use cli_calls::{Answering, Reading};
 use cli_files::{Refused, Status, load, status_after};
 use image_text::Image;
 use insn_decode::{Insn, decode, show};
@@ -29,40 +26,33 @@ pub struct DisCommand<'a> {
     pub end: u16,
 }
 
-/// The arguments that the words after the first are.
-pub fn read<'a>(alloc: Global, words: &'a [String]) -> Result<Option<DisCommand<'a>>, AllocError>
-    ensures command { IfOk result (λ o. option_map dis_asked o
-        ≡ option_and_then dis_of (values_in 3 3 (drop 1 (texts words.entry.now)))) }
-    ensures bounds { IfOk result (λ o. IfSome o (λ c. c.start % 2 ≡ 0)) }
-{
-    match values_of(alloc, "dis", words, 3, 3)? {
-        Some(values) => Ok(command_in(values.as_slice())),
-        None => Ok(None),
-    }
-}
+impl<'a> Reading<'a> for DisCommand<'a> {
+    ghost asks = { dis_of };
 
-fn command_in<'a>(values: &[&'a str]) -> Option<DisCommand<'a>>
-    ensures command { option_map dis_asked result ≡ dis_of (map (λ w. w.now) values.now) }
-    ensures bounds { IfSome result (λ c. c.start % 2 ≡ 0) }
-{
-    if values.len() != 3 {
-        return None;
-    }
-    let start = read_hex_word(values[1].as_bytes())?;
-    let end = read_hex_word(values[2].as_bytes())?;
-    if start % 2 == 0 && start <= end {
-        Some(DisCommand {
-            image: values[0],
-            start,
-            end,
-        })
-    } else {
-        None
+    fn read_values(_alloc: Global, values: &[&'a str]) -> Result<Option<Self>, AllocError> {
+        if values.len() != 3 {
+            return Ok(None);
+        }
+        let Some(start) = read_hex_word(values[1].as_bytes()) else {
+            return Ok(None);
+        };
+        let Some(end) = read_hex_word(values[2].as_bytes()) else {
+            return Ok(None);
+        };
+        if start % 2 == 0 && start <= end {
+            Ok(Some(DisCommand {
+                image: values[0],
+                start,
+                end,
+            }))
+        } else {
+            Ok(None)
+        }
     }
 }
 
 impl Answering for DisCommand<'_> {
-    ghost asked = { λ c. dis_asked c };
+    ghost asked = { λ c. dis_command c.image.now c.start c.end };
 
     ghost bounds = { λ c. c.start % 2 ≡ 0 };
 

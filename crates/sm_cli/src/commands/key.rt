@@ -3,12 +3,9 @@ ghost use Rattle.std.specs.Prelude.{◌≡◌, IfOk, map, drop, option_map, opti
 ghost use Rattle.image_text.specs.Image.{Image as ImageValue};
 ghost use Rattle.mod_layout.specs.Tables.{IsModule};
 ghost use Rattle.sm_io.specs.Sink.{Puts};
-ghost use Rattle.sm_cli.specs.KeyCommand.{key_of, key_lines, key_line, two_lines};
-ghost use Rattle.sm_cli.specs.internal.KeyCommand.{key_asked};
-ghost use Rattle.cli_calls.specs.Words.{texts};
-ghost use Rattle.cli_calls.specs.Words.{values_in};
+ghost use Rattle.sm_cli.specs.KeyCommand.{key_command, key_of, key_lines, key_line, two_lines};
 
-use cli_calls::{Answering, id_of, text_of, values_of};
+use cli_calls::{Answering, Reading, id_of, text_of};
 use cli_files::{Chosen, Refused, Status, load_with, put_named, status_after};
 use mod_keys::{TAG_LENGTH, module_key, provider_key};
 use sm_io::{Failed, Files, Sink};
@@ -21,36 +18,25 @@ pub struct KeyCommand<'a> {
     pub id: u16,
 }
 
-/// The arguments that the words after the first are.
-pub fn read<'a>(alloc: Global, words: &'a [String]) -> Result<Option<KeyCommand<'a>>, AllocError>
-    ensures { IfOk result (λ o. option_map key_asked o ≡ option_and_then key_of
-        (values_in 2 2 (drop 1 (texts words.entry.now)))) }
-{
-    match values_of(alloc, "key", words, 2, 2)? {
-        Some(values) => Ok(command_in(values.as_slice())),
-        None => Ok(None),
-    }
-}
+impl<'a> Reading<'a> for KeyCommand<'a> {
+    ghost asks = { key_of };
 
-fn command_in<'a>(values: &[&'a str]) -> Option<KeyCommand<'a>>
-    ensures { option_map key_asked result ≡ key_of (map (λ w. w.now) values.now) }
-{
-    if values.len() != 2 {
-        return None;
-    }
-    match id_of(values[1]) {
-        Some(id) => Some(KeyCommand {
-            image: values[0],
-            id,
-        }),
-        None => None,
+    fn read_values(_alloc: Global, values: &[&'a str]) -> Result<Option<Self>, AllocError> {
+        if values.len() != 2 {
+            return Ok(None);
+        }
+        match id_of(values[1]) {
+            Some(id) => Ok(Some(KeyCommand {
+                image: values[0],
+                id,
+            })),
+            None => Ok(None),
+        }
     }
 }
 
 impl Answering for KeyCommand<'_> {
-    ghost asked = { λ c. key_asked c };
-
-    ghost bounds = { λ _. Unit {0} };
+    ghost asked = { λ c. key_command c.image.now c.id };
 
     fn answer<F: Files, O: Sink>(
         &self,

@@ -8,16 +8,14 @@ ghost use Rattle.sm_io.specs.Sink.{Took, CutOff};
 ghost use Rattle.tracer.specs.Lines.{registers_from};
 ghost use Rattle.written_machine.specs.Peers.{section};
 ghost use Rattle.cli_calls.specs.declared.values.TheConstants.{MAX_CYCLES};
-ghost use Rattle.sm_cli.specs.LoneCommand.{lone_of, lone_with, end_of, end_answer, end_line, core_line};
-ghost use Rattle.sm_cli.specs.internal.LoneCommand.{lone_asked};
+ghost use Rattle.sm_cli.specs.LoneCommand.{lone_command, lone_of, lone_with, end_of, end_answer, end_line, core_line};
+ghost use Rattle.sm_cli.specs.Pairs.{core_with};
 ghost use Rattle.sm_cli.specs.Numbers.{number_line};
-ghost use Rattle.cli_calls.specs.Words.{texts};
 ghost use Rattle.cli_calls.specs.Runs.{EndsAs};
-ghost use Rattle.cli_calls.specs.Words.{values_in};
 
 use crate::pairs::{Pair, core_with, pairs_in};
 use arrayvec::ArrayString;
-use cli_calls::{Answering, cycles_of, id_of, text_of, values_of};
+use cli_calls::{Answering, Reading, cycles_of, id_of, text_of};
 use cli_files::{Chosen, NO_MEMORY, Refused, Status, load_with};
 use lone_run::{Entry, Outcome, call};
 use sm_io::{Failed, Files, Sink, put_all};
@@ -37,28 +35,17 @@ pub struct LoneCommand<'a> {
     pub pairs: Vec<Pair>,
 }
 
-/// The arguments that the words after the first are. More than fourteen pairs name some register twice.
-pub fn read<'a>(alloc: Global, words: &'a [String]) -> Result<Option<LoneCommand<'a>>, AllocError>
-    ensures command { IfOk result (λ o. option_map lone_asked o
-        ≡ option_and_then lone_of (values_in 3 17 (drop 1 (texts words.entry.now)))) }
-    ensures bounds { IfOk result (λ o. IfSome o (λ c. c.limit ≤ MAX_CYCLES)) }
-{
-    match values_of(alloc, "lone", words, 3, 17)? {
-        Some(values) => command_in(alloc, values.as_slice()),
-        None => Ok(None),
-    }
-}
+impl<'a> Reading<'a> for LoneCommand<'a> {
+    ghost asks = { lone_of };
 
-fn command_in<'a>(alloc: Global, values: &[&'a str]) -> Result<Option<LoneCommand<'a>>, AllocError>
-    ensures command { IfOk result (λ o. option_map lone_asked o ≡ lone_of (map (λ w. w.now) values.now)) }
-    ensures bounds { IfOk result (λ o. IfSome o (λ c. c.limit ≤ MAX_CYCLES)) }
-{
-    match values {
-        [image, id, limit, pairs @ ..] => {
-            let pairs = pairs_in(alloc, pairs)?;
-            Ok(command_with(image, id_of(id), cycles_of(limit), pairs))
+    fn read_values(alloc: Global, values: &[&'a str]) -> Result<Option<Self>, AllocError> {
+        match values {
+            [image, id, limit, pairs @ ..] => {
+                let pairs = pairs_in(alloc, pairs)?;
+                Ok(command_with(image, id_of(id), cycles_of(limit), pairs))
+            }
+            _ => Ok(None),
         }
-        _ => Ok(None),
     }
 }
 
@@ -69,8 +56,8 @@ fn command_with<'a>(
     pairs: Option<Vec<Pair>>,
 ) -> Option<LoneCommand<'a>>
     requires { IfSome limit (λ l. l ≤ MAX_CYCLES) }
-    ensures command { option_map lone_asked result ≡ lone_with image.entry.now id limit
-        (option_map (λ pairs. pairs.items) pairs) }
+    ensures command { option_map (λ c. lone_command c.image.now c.id c.limit (core_with c.pairs.items)) result
+        ≡ lone_with image.entry.now id limit (option_map (λ pairs. pairs.items) pairs) }
     ensures bounds { IfSome result (λ c. c.limit ≤ MAX_CYCLES) }
 {
     Some(LoneCommand {
@@ -82,7 +69,7 @@ fn command_with<'a>(
 }
 
 impl Answering for LoneCommand<'_> {
-    ghost asked = { λ c. lone_asked c };
+    ghost asked = { λ c. lone_command c.image.now c.id c.limit (core_with c.pairs.items) };
 
     ghost bounds = { λ c. c.limit ≤ MAX_CYCLES };
 

@@ -1,18 +1,15 @@
 //! `make SEED`: two runs of the workload of a seed.
 ghost use Rattle.std.specs.Prelude.{◌≡◌, ◌≤◌, ◌+◌, IfOk, map, drop, option_map, option_and_then};
 ghost use Rattle.sm_io.specs.Sink.{Puts};
-ghost use Rattle.sm_cli.specs.MakeCommand.{make_of, seed_of, events_after, run_text, runs_text, start_of, first_data, second_data};
-ghost use Rattle.sm_cli.specs.internal.MakeCommand.{make_asked};
+ghost use Rattle.sm_cli.specs.MakeCommand.{make_command, make_of, seed_of, events_after, run_text, runs_text, start_of, first_data, second_data};
 ghost use Rattle.sm_cli.specs.Numbers.{number_line};
-ghost use Rattle.cli_calls.specs.Words.{texts};
-ghost use Rattle.cli_calls.specs.Words.{values_in};
 ghost use Rattle.written_machine.specs.Cycle.{after_cycles};
 ghost use Rattle.written_machine.specs.Marks.{unmarked};
 ghost use Rattle.written_machine.specs.View.{boot};
 ghost use Rattle.workload.specs.Program.{image};
 
 use board::{Board, NoMemory};
-use cli_calls::{Answering, values_of};
+use cli_calls::{Answering, Reading};
 use cli_files::{NO_MEMORY, Refused, Status, put_named, status_after};
 use schedule_file::Schedule;
 use sm_io::{Failed, Files, Sink};
@@ -40,26 +37,17 @@ pub struct MakeCommand {
     pub seed: u32,
 }
 
-/// The argument that the words after the first are.
-pub fn read(alloc: Global, words: &[String]) -> Result<Option<MakeCommand>, AllocError>
-    ensures { IfOk result (λ o. option_map make_asked o ≡ option_and_then make_of
-        (values_in 1 1 (drop 1 (texts words.now)))) }
-{
-    match values_of(alloc, "make", words, 1, 1)? {
-        Some(values) => Ok(command_in(values.as_slice())),
-        None => Ok(None),
-    }
-}
+impl<'a> Reading<'a> for MakeCommand {
+    ghost asks = { make_of };
 
-fn command_in(values: &[&str]) -> Option<MakeCommand>
-    ensures { option_map make_asked result ≡ make_of (map (λ w. w.now) values.now) }
-{
-    if values.len() != 1 {
-        return None;
-    }
-    match seed_of(values[0]) {
-        Some(seed) => Some(MakeCommand { seed }),
-        None => None,
+    fn read_values(_alloc: Global, values: &[&'a str]) -> Result<Option<Self>, AllocError> {
+        if values.len() != 1 {
+            return Ok(None);
+        }
+        match seed_of(values[0]) {
+            Some(seed) => Ok(Some(MakeCommand { seed })),
+            None => Ok(None),
+        }
     }
 }
 
@@ -73,9 +61,7 @@ fn seed_of(word: &str) -> Option<u32>
 }
 
 impl Answering for MakeCommand {
-    ghost asked = { λ c. make_asked c };
-
-    ghost bounds = { λ _. Unit {0} };
+    ghost asked = { λ c. make_command c.seed };
 
     fn answer<F: Files, O: Sink>(
         &self,

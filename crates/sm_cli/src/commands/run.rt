@@ -4,12 +4,10 @@ ghost use Rattle.image_text.specs.Image.{IsImage};
 ghost use Rattle.cli_calls.specs.declared.values.TheConstants.{MAX_CYCLES};
 ghost use Rattle.sm_cli.specs.RunCommand.{run_of};
 ghost use Rattle.sm_cli.specs.internal.RunCommand.{run_asked};
-ghost use Rattle.cli_calls.specs.Words.{texts};
-ghost use Rattle.cli_calls.specs.Words.{values_in};
 
-use crate::commands::image::put_trace;
+use crate::commands::image::Trace;
 use board::Board;
-use cli_calls::{Answering, cycles_of, file_named, values_of};
+use cli_calls::{Answering, Reading, RunText, cycles_of, file_named};
 use cli_files::{NO_MEMORY, Refused, Status, linked_image, load, load_objects, load_schedule};
 use image_text::Image;
 use layout_file::Layout;
@@ -25,36 +23,24 @@ pub struct RunCommand<'a> {
     pub objects: Vec<&'a str>,
 }
 
-/// The arguments that the words after the first are.
-pub fn read<'a>(alloc: Global, words: &'a [String]) -> Result<Option<RunCommand<'a>>, AllocError>
-    ensures command { IfOk result (λ o. option_map run_asked o
-        ≡ option_and_then run_of (values_in 4 67 (drop 1 (texts words.entry.now)))) }
-    ensures objects { IfOk result (λ o. IfSome o (λ c. length c.objects.items ≤ 64)) }
-    ensures cycles { IfOk result (λ o. IfSome o (λ c. c.cycles ≤ MAX_CYCLES)) }
-{
-    match values_of(alloc, "run", words, 4, 67)? {
-        Some(values) => command_in(alloc, values.as_slice()),
-        None => Ok(None),
-    }
-}
+impl<'a> Reading<'a> for RunCommand<'a> {
+    ghost asks = { run_of };
 
-fn command_in<'a>(alloc: Global, values: &[&'a str]) -> Result<Option<RunCommand<'a>>, AllocError>
-    requires { length values.now ≤ 67 }
-    ensures command { IfOk result (λ o. option_map run_asked o ≡ run_of (map (λ w. w.now) values.now)) }
-    ensures objects { IfOk result (λ o. IfSome o (λ c. length c.objects.items ≤ 64)) }
-    ensures cycles { IfOk result (λ o. IfSome o (λ c. c.cycles ≤ MAX_CYCLES)) }
-{
-    match values {
-        [layout, schedule, cycles, objects @ ..] => match cycles_of(cycles) {
-            Some(cycles) => Ok(Some(RunCommand {
-                layout,
-                schedule: file_named(schedule),
-                cycles,
-                objects: objects.to_vec(alloc)?,
-            })),
-            None => Ok(None),
-        },
-        _ => Ok(None),
+    ghost few = { λ n. n ≤ 67 };
+
+    fn read_values(alloc: Global, values: &[&'a str]) -> Result<Option<Self>, AllocError> {
+        match values {
+            [layout, schedule, cycles, objects @ ..] => match cycles_of(cycles) {
+                Some(cycles) => Ok(Some(RunCommand {
+                    layout,
+                    schedule: file_named(schedule),
+                    cycles,
+                    objects: objects.to_vec(alloc)?,
+                })),
+                None => Ok(None),
+            },
+            _ => Ok(None),
+        }
     }
 }
 
@@ -87,7 +73,7 @@ impl Answering for RunCommand<'_> {
         };
         tell_image(&image);
         match Board::new(alloc, &image, &schedule) {
-            Ok(board) => Ok(put_trace(board, self.cycles, out)),
+            Ok(board) => Ok(Trace::put(board, self.cycles, out)),
             Err(_) => Err(NO_MEMORY),
         }
     }

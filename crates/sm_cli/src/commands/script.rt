@@ -2,14 +2,12 @@
 ghost use Rattle.std.specs.Prelude.{◌≡◌, ◌≤◌, ◌+◌, ◌^◌, IfOk, map, drop, option_map, option_and_then};
 ghost use Rattle.script_file.specs.Bounds.{all_cycles};
 ghost use Rattle.sm_io.specs.Sink.{Took, CutOff};
-ghost use Rattle.sm_cli.specs.MonitorCommand.{monitor_of, play_answer};
-ghost use Rattle.sm_cli.specs.internal.MonitorCommand.{monitor_asked};
-ghost use Rattle.cli_calls.specs.Words.{texts};
+ghost use Rattle.std.specs.Option.{option_copied};
+ghost use Rattle.sm_cli.specs.MonitorCommand.{monitor_command, monitor_of, play_answer};
 ghost use Rattle.cli_calls.specs.Runs.{EndsAs};
-ghost use Rattle.cli_calls.specs.Words.{values_in};
 
 use board::{Board, Ran};
-use cli_calls::{Answering, file_named, values_of};
+use cli_calls::{Answering, Reading, file_named};
 use cli_files::{NO_MEMORY, Playable, Refused, Status, load, load_schedule};
 use image_text::Image;
 use monitor::play;
@@ -31,37 +29,23 @@ pub struct MonitorCommand<'a> {
     pub script: &'a str,
 }
 
-/// The arguments that the words after the first are.
-pub fn read<'a>(
-    alloc: Global,
-    words: &'a [String],
-) -> Result<Option<MonitorCommand<'a>>, AllocError>
-    ensures { IfOk result (λ o. option_map monitor_asked o
-        ≡ option_and_then monitor_of (values_in 3 3 (drop 1 (texts words.entry.now)))) }
-{
-    match values_of(alloc, "monitor", words, 3, 3)? {
-        Some(values) => Ok(command_in(values.as_slice())),
-        None => Ok(None),
-    }
-}
+impl<'a> Reading<'a> for MonitorCommand<'a> {
+    ghost asks = { monitor_of };
 
-fn command_in<'a>(values: &[&'a str]) -> Option<MonitorCommand<'a>>
-    ensures { option_map monitor_asked result ≡ monitor_of (map (λ w. w.now) values.now) }
-{
-    if values.len() != 3 {
-        return None;
+    fn read_values(_alloc: Global, values: &[&'a str]) -> Result<Option<Self>, AllocError> {
+        if values.len() != 3 {
+            return Ok(None);
+        }
+        Ok(Some(MonitorCommand {
+            image: values[0],
+            schedule: file_named(values[1]),
+            script: values[2],
+        }))
     }
-    Some(MonitorCommand {
-        image: values[0],
-        schedule: file_named(values[1]),
-        script: values[2],
-    })
 }
 
 impl Answering for MonitorCommand<'_> {
-    ghost asked = { λ c. monitor_asked c };
-
-    ghost bounds = { λ _. Unit {0} };
+    ghost asked = { λ c. monitor_command c.image.now (option_copied c.schedule) c.script.now };
 
     fn answer<F: Files, O: Sink>(
         &self,

@@ -5,14 +5,11 @@ ghost use Rattle.sm_io.specs.Faults.{HasCause};
 ghost use Rattle.sm_io.specs.Sink.{Took, CutOff};
 ghost use Rattle.cli_files.specs.Files.{Holds, need, challenges_file, trace_file, the_challenges, the_replies};
 ghost use Rattle.cli_files.specs.NameText.{name_text};
-ghost use Rattle.cli_calls.specs.Words.{texts};
 ghost use Rattle.cli_calls.specs.Runs.{EndsAs};
 ghost use Rattle.cli_files.specs.Causes.{IsNeedCause};
-ghost use Rattle.sm_cli.specs.VendorCommand.{vendor_of, exchange_needs, key_under, report_answer};
-ghost use Rattle.sm_cli.specs.internal.VendorCommand.{vendor_asked};
-ghost use Rattle.cli_calls.specs.Words.{values_in};
+ghost use Rattle.sm_cli.specs.VendorCommand.{vendor_command, vendor_of, exchange_needs, key_under, report_answer};
 
-use cli_calls::{Answering, id_of, text_of, values_of};
+use cli_calls::{Answering, Reading, id_of, text_of};
 use cli_files::{Chosen, Refusal, Refused, Replies, Status, load, load_with};
 use mod_keys::{TAG_LENGTH, module_key_from};
 use sm_io::{Failed, Files, Sink};
@@ -31,38 +28,31 @@ pub struct VendorCommand<'a> {
     pub trace: &'a str,
 }
 
-/// The arguments that the words after the first are.
-pub fn read<'a>(alloc: Global, words: &'a [String]) -> Result<Option<VendorCommand<'a>>, AllocError>
-    ensures { IfOk result (λ o. option_map vendor_asked o ≡ option_and_then vendor_of
-        (values_in 5 5 (drop 1 (texts words.entry.now)))) }
-{
-    match values_of(alloc, "vendor", words, 5, 5)? {
-        Some(values) => Ok(command_in(values.as_slice())),
-        None => Ok(None),
-    }
-}
+impl<'a> Reading<'a> for VendorCommand<'a> {
+    ghost asks = { vendor_of };
 
-fn command_in<'a>(values: &[&'a str]) -> Option<VendorCommand<'a>>
-    ensures { option_map vendor_asked result ≡ vendor_of (map (λ w. w.now) values.now) }
-{
-    if values.len() != 5 {
-        return None;
+    fn read_values(_alloc: Global, values: &[&'a str]) -> Result<Option<Self>, AllocError> {
+        if values.len() != 5 {
+            return Ok(None);
+        }
+        let Some(id) = id_of(values[1]) else {
+            return Ok(None);
+        };
+        let Some(provider) = read_hex_key(values[2].as_bytes()) else {
+            return Ok(None);
+        };
+        Ok(Some(VendorCommand {
+            image: values[0],
+            id,
+            provider,
+            challenges: values[3],
+            trace: values[4],
+        }))
     }
-    let id = id_of(values[1])?;
-    let provider = read_hex_key(values[2].as_bytes())?;
-    Some(VendorCommand {
-        image: values[0],
-        id,
-        provider,
-        challenges: values[3],
-        trace: values[4],
-    })
 }
 
 impl Answering for VendorCommand<'_> {
-    ghost asked = { λ c. vendor_asked c };
-
-    ghost bounds = { λ _. Unit {0} };
+    ghost asked = { λ c. vendor_command c.image.now c.challenges.now c.trace.now c.id c.provider };
 
     fn answer<F: Files, O: Sink>(
         &self,

@@ -3,8 +3,7 @@ use Rattle.lone_run.specs.Ends.{answer_of}
 use Rattle.lone_run.specs.declared.Outcome.{Outcome as End}
 use Rattle.sm_io.specs.Sink.{Took, CutOff}
 use Rattle.cli_files.specs.Files.{an_image}
-use Rattle.sm_cli.specs.LoneCommand.{end_of, end_answer, lone_by}
-use Rattle.sm_cli.specs.internal.LoneCommand.{lone_asked}
+use Rattle.sm_cli.specs.LoneCommand.{lone_command, end_of, end_answer, lone_by}
 use Rattle.sm_cli.specs.Pairs.{core_with}
 use Rattle.cli_calls.specs.Runs.{EndsAs}
 use Rattle.cli_calls.proofs.Given.{gives_answer}
@@ -20,7 +19,7 @@ returns-in-Ok-end_of-clause-ok g c =
     let told = end_answer own.limit (answer_of (end_of chosen.image chosen.«module» registers own.limit)) in
     record {
       answer = told;
-      served = gives_answer (g.F.Files.content c.args.files.now) (lone_asked own) told
+      served = gives_answer (g.F.Files.content c.args.files.now) (lone_command own.image.now own.id own.limit (core_with own.pairs.items)) told
           (record { helds = an_image chosen.image ∷ []; hold = (c.in-Ok.ensures.holds, tt); is = ap (lone_by chosen.image registers own.limit) c.in-Ok.ensures.chosen });
       sound = tt;
       ends = subst

@@ -98,13 +98,13 @@ returns-in-Ok-new-clause-ok g c =
     let hold = subst (λ f. HoldAll f (object_needs names) (map an_object objects)) (c.in-Ok-load_schedule.ensures.same_files ∙ c.in-Ok.ensures.same_files) read in
     let sound = subst (λ (l : List ObjectValue). link_fault_of layout l ≡ None) c.as_slice-2.ensures.value c.in-Ok-linked_image.ensures.sound in
     let image = c.in-Ok-linked_image.ensures.image ∙ ap (linked_image layout) c.as_slice-2.ensures.value in
-    let took = Took g.O.Sink.taken g.O.Sink.faults g.O.Sink.sure c.args.out.now c.put_trace.new.out in
-    let cut = CutOff g.O.Sink.taken g.O.Sink.faults g.O.Sink.sure c.args.out.now c.put_trace.new.out in
-    let run = subst (λ (m : Marked). EndsAs c.put_trace.result (answer_from m.present own.cycles) took cut) c.in-Ok-new.ensures.booted c.put_trace.ensures in
+    let took = Took g.O.Sink.taken g.O.Sink.faults g.O.Sink.sure c.args.out.now c.put.new.out in
+    let cut = CutOff g.O.Sink.taken g.O.Sink.faults g.O.Sink.sure c.args.out.now c.put.new.out in
+    let run = subst (λ (m : Marked). EndsAs c.put.result (answer_from m.present own.cycles) took cut) c.in-Ok-new.ensures.booted c.put.ensures in
     record {
       answer = trace_answer (linked_image layout objects) entries own.cycles;
       served = runs_answer files (run_asked own) (linked_image layout objects) entries own.cycles
           (linked_runs files own.layout.now names layout objects schedule own.cycles entries c.in-Ok.ensures.holds scheduled hold sound);
       sound = subst (λ (i : Image). IsImage i) image c.tell_image.ensures;
-      ends = subst (λ (i : Image). EndsAs c.put_trace.result (trace_answer i entries own.cycles) took cut) image run;
+      ends = subst (λ (i : Image). EndsAs c.put.result (trace_answer i entries own.cycles) took cut) image run;
     }

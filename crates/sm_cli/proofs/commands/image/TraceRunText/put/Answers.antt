@@ -5,8 +5,8 @@ use Rattle.written_machine.specs.Trace.{lines_after, end_line_of}
 use Rattle.board.specs.Ran.{RanWhole}
 use Rattle.sm_io.proofs.Putting.{cut_first, cut_later, cut_same, took_same, took_then}
 use Rattle.cli_calls.specs.Command.{run_status}
-use Rattle.sm_cli.proofs.commands.image.put_trace.Goals as goal
-use Rattle.sm_cli.proofs.commands.image.put_trace.Goals.{in-Done, in-Stopped}
+use Rattle.sm_cli.proofs.commands.image.TraceRunText.put.Goals as goal
+use Rattle.sm_cli.proofs.commands.image.TraceRunText.put.Goals.{in-Done, in-Stopped}
 
 pub returns-in-SinkFailed : goal.returns-in-SinkFailed
 returns-in-SinkFailed g c = cut_first g.O.Sink.taken g.O.Sink.faults g.O.Sink.sure _ _ (lines_after c.args.board.present c.args.cycles) (end_line_of (after_cycles c.args.board.present c.args.cycles)) c.in-SinkFailed.ensures.ran.cut
