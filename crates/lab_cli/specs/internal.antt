@@ -1,6 +1,3 @@
-pub mod MapCommand
 pub mod ReleasedCommand
 pub mod SweepCommand
-pub mod StepsCommand
-pub mod TermsCommand
 pub mod CommandLine

@@ -4,12 +4,11 @@ ghost use Rattle.cli_calls.specs.Words.{texts};
 ghost use Rattle.lab_cli.specs.CommandLine.{command_by, command_of};
 ghost use Rattle.lab_cli.specs.internal.CommandLine.{asked, IsBounded};
 
-use crate::map::{self, MapCommand};
+use crate::map::MapText;
 use crate::released::{self, ReleasedCommand};
-use crate::steps::{self, StepsCommand};
-use crate::sweep::{self, SweepCommand};
-use crate::terms::{self, TermsCommand};
-use cli_calls::Answering;
+use crate::steps::Steps;
+use crate::sweep::SweepCommand;
+use cli_calls::{Answering, ImageRun, ObjectsCommand, read};
 use cli_files::{Refused, Status};
 use sm_io::{Files, Sink};
 use std::alloc::{AllocError, Global};
@@ -17,11 +16,10 @@ use std::alloc::{AllocError, Global};
 /// A command with its arguments.
 #[derive(Drop)]
 pub enum LabCommand<'a> {
-    Map(MapCommand<'a>),
+    Map(ObjectsCommand<'a, MapText>),
     Released(ReleasedCommand<'a>),
     Sweep(SweepCommand<'a>),
-    Steps(StepsCommand<'a>),
-    Terms(TermsCommand<'a>),
+    Steps(ImageRun<'a, Steps>),
 }
 
 /// The command that the words are.
@@ -49,15 +47,13 @@ fn command_by<'a>(
     ensures bounds { IfOk result (λ o. IfSome o IsBounded) }
 {
     if name == "map" {
-        Ok(map::read(alloc, words)?.map(LabCommand::Map))
+        Ok(read::<ObjectsCommand<MapText>>(alloc, "map", words, 2, 65)?.map(LabCommand::Map))
     } else if name == "released" {
         Ok(released::read(alloc, words)?.map(LabCommand::Released))
     } else if name == "sweep" {
-        Ok(sweep::read(alloc, words)?.map(LabCommand::Sweep))
+        Ok(read::<SweepCommand>(alloc, "sweep", words, 6, 6)?.map(LabCommand::Sweep))
     } else if name == "steps" {
-        Ok(steps::read(alloc, words)?.map(LabCommand::Steps))
-    } else if name == "terms" {
-        Ok(terms::read(alloc, words)?.map(LabCommand::Terms))
+        Ok(read::<ImageRun<Steps>>(alloc, "steps", words, 3, 3)?.map(LabCommand::Steps))
     } else {
         Ok(None)
     }

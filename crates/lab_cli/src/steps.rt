@@ -1,91 +1,36 @@
 //! `steps IMAGE SCHEDULE CYCLES`: what the owner sees of a run, instruction by instruction.
-ghost use Rattle.std.specs.Prelude.{◌≡◌, ◌≤◌, ◌+◌, ◌^◌, IfOk, IfSome, map, drop, option_map, option_and_then};
-ghost use Rattle.sm_io.specs.Sink.{Took, CutOff};
-ghost use Rattle.cli_calls.specs.Runs.{EndsAs};
-ghost use Rattle.cli_calls.specs.Words.{texts, values_in};
-ghost use Rattle.cli_calls.specs.declared.values.TheConstants.{MAX_CYCLES};
-ghost use Rattle.lab_cli.specs.StepsCommand.{steps_of};
-ghost use Rattle.lab_cli.specs.internal.StepsCommand.{answer_from, steps_asked};
+ghost use Rattle.std.specs.Prelude.{is_some, refl};
+ghost use Rattle.written_machine.specs.Cycle.{after_cycles};
+ghost use Rattle.owner_steps.specs.Steps.{owner_lines, text_with};
+ghost use Rattle.cli_calls.specs.Command.{run_status};
+ghost use Rattle.lab_cli.specs.StepsCommand.{steps_outcome};
 
 use board::{Board, Ran};
-use cli_calls::{Answering, cycles_of, file_named, values_of};
-use cli_files::{NO_MEMORY, Refused, Status, load, load_schedule};
-use image_text::Image;
-use sm_io::{Files, Sink};
-use std::alloc::{AllocError, Global};
+use cli_calls::RunText;
+use cli_files::Status;
+use sm_io::Sink;
 
-/// The arguments, with no schedule where its word is `-`.
+/// What the owner sees.
 #[derive(Clone, Copy)]
-pub struct StepsCommand<'a> {
-    pub image: &'a str,
-    pub schedule: Option<&'a str>,
-    pub cycles: u64,
-}
+pub struct Steps;
 
-/// The arguments that the words after the first are.
-pub fn read<'a>(alloc: Global, words: &'a [String]) -> Result<Option<StepsCommand<'a>>, AllocError>
-    ensures command { IfOk result (λ o. option_map steps_asked o
-        ≡ option_and_then steps_of (values_in 3 3 (drop 1 (texts words.entry.now)))) }
-    ensures bounds { IfOk result (λ o. IfSome o (λ c. c.cycles ≤ MAX_CYCLES)) }
-{
-    match values_of(alloc, "steps", words, 3, 3)? {
-        Some(values) => Ok(command_in(values.as_slice())),
-        None => Ok(None),
-    }
-}
+impl RunText for Steps {
+    ghost told = { steps_outcome };
 
-fn command_in<'a>(values: &[&'a str]) -> Option<StepsCommand<'a>>
-    ensures command { option_map steps_asked result ≡ steps_of (map (λ w. w.now) values.now) }
-    ensures bounds { IfSome result (λ c. c.cycles ≤ MAX_CYCLES) }
-{
-    if values.len() != 3 {
-        return None;
-    }
-    match cycles_of(values[2]) {
-        Some(cycles) => Some(StepsCommand {
-            image: values[0],
-            schedule: file_named(values[1]),
-            cycles,
-        }),
-        None => None,
-    }
-}
+    ghost told_from = { λ s cycles. record {
+        text = text_with owner_lines s cycles;
+        status = run_status (is_some (after_cycles s cycles).stop)
+    } };
 
-impl Answering for StepsCommand<'_> {
-    ghost asked = { λ c. steps_asked c };
+    ghost answers = { λ value entries cycles. refl };
 
-    ghost bounds = { λ c. c.cycles ≤ MAX_CYCLES };
+    ghost sound = { λ value entries cycles image. tt };
 
-    fn answer<F: Files, O: Sink>(
-        &self,
-        alloc: Global,
-        files: &mut F,
-        out: &mut O,
-    ) -> Result<Status, Refused<'_>> {
-        let image = match load::<Image, F>(alloc, self.image, files) {
-            Ok(image) => image,
-            Err(refused) => return Err(refused),
-        };
-        let schedule = match load_schedule(alloc, self.schedule, files) {
-            Ok(schedule) => schedule,
-            Err(refused) => return Err(refused),
-        };
-        match Board::new(alloc, &image, &schedule) {
-            Ok(board) => Ok(put_steps(board, self.cycles, out)),
-            Err(_) => Err(NO_MEMORY),
+    fn put<O: Sink>(board: Board, cycles: u64, out: &mut O) -> Status {
+        match owner_steps::steps(board, cycles, out) {
+            Ran::Done => Status::Done,
+            Ran::Stopped(_) => Status::Stopped,
+            Ran::SinkFailed => Status::WriteFault,
         }
-    }
-}
-
-// Runs the board and puts its steps.
-fn put_steps<O: Sink>(board: Board, cycles: u64, out: &mut O) -> Status
-    requires { board.present.cycle + cycles ≤ 2 ^ 62 }
-    ensures { EndsAs result (answer_from board.present cycles) (Took O.taken O.faults O.sure out.old out.new)
-        (CutOff O.taken O.faults O.sure out.old out.new) }
-{
-    match owner_steps::steps(board, cycles, out) {
-        Ran::Done => Status::Done,
-        Ran::Stopped(_) => Status::Stopped,
-        Ran::SinkFailed => Status::WriteFault,
     }
 }

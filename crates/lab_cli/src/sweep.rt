@@ -1,12 +1,11 @@
 //! `sweep IMAGE IMAGE LINE FROM TO CYCLES`: what a pulse in each cycle of a span does to two images.
-ghost use Rattle.std.specs.Prelude.{◌≡◌, IfOk, IfSome, map, drop, option_map, option_and_then};
+ghost use Rattle.std.specs.Prelude.{◌≡◌, IfSome};
 ghost use Rattle.sm_io.specs.Sink.{Took, CutOff};
 ghost use Rattle.cli_calls.specs.Runs.{EndsAs};
-ghost use Rattle.cli_calls.specs.Words.{texts, values_in};
-ghost use Rattle.lab_cli.specs.SweepCommand.{pulses_of, sweep_of, sweep_status};
-ghost use Rattle.lab_cli.specs.internal.SweepCommand.{IsWithin, sweep_asked};
+ghost use Rattle.lab_cli.specs.SweepCommand.{pulses_of, sweep_command, sweep_of, sweep_status};
+ghost use Rattle.lab_cli.specs.internal.SweepCommand.{IsWithin};
 
-use cli_calls::{Answering, values_of};
+use cli_calls::{Answering, Reading, cycles_of};
 use cli_files::{NO_MEMORY, Refused, Status, load};
 use image_text::Image;
 use pulse_sweep::{Pulses, Swept};
@@ -18,11 +17,8 @@ use texts::read_decimal;
 /// The largest number of a line.
 const MAX_LINE: u64 = 3;
 
-/// A run is at most so long, as one of `sancus image`.
-const MAX_CYCLES: u64 = 1_000_000_000;
-
-// What the rules say of them: a changed number is refused here.
-const _: () = prove!(MAX_LINE == 3 && MAX_CYCLES == 1_000_000_000);
+// What the rules say of it: a changed number is refused here.
+const _: () = prove!(MAX_LINE == 3);
 
 /// The arguments: two images, and the runs of each.
 #[derive(Clone, Copy)]
@@ -32,32 +28,21 @@ pub struct SweepCommand<'a> {
     pub pulses: Pulses,
 }
 
-/// The arguments that the words after the first are.
-pub fn read<'a>(alloc: Global, words: &'a [String]) -> Result<Option<SweepCommand<'a>>, AllocError>
-    ensures command { IfOk result (λ o. option_map sweep_asked o
-        ≡ option_and_then sweep_of (values_in 6 6 (drop 1 (texts words.entry.now)))) }
-    ensures bounds { IfOk result (λ o. IfSome o (λ c. IsWithin c.pulses)) }
-{
-    match values_of(alloc, "sweep", words, 6, 6)? {
-        Some(values) => Ok(command_in(values.as_slice())),
-        None => Ok(None),
-    }
-}
+impl<'a> Reading<'a> for SweepCommand<'a> {
+    ghost asks = { sweep_of };
 
-fn command_in<'a>(values: &[&'a str]) -> Option<SweepCommand<'a>>
-    ensures command { option_map sweep_asked result ≡ sweep_of (map (λ w. w.now) values.now) }
-    ensures bounds { IfSome result (λ c. IsWithin c.pulses) }
-{
-    match values {
-        [first, second, line, from, to, cycles] => match pulses_of(line, from, to, cycles) {
-            Some(pulses) => Some(SweepCommand {
-                first,
-                second,
-                pulses,
-            }),
-            None => None,
-        },
-        _ => None,
+    fn read_values(_alloc: Global, values: &[&'a str]) -> Result<Option<Self>, AllocError> {
+        match values {
+            [first, second, line, from, to, cycles] => match pulses_of(line, from, to, cycles) {
+                Some(pulses) => Ok(Some(SweepCommand {
+                    first,
+                    second,
+                    pulses,
+                })),
+                None => Ok(None),
+            },
+            _ => Ok(None),
+        }
     }
 }
 
@@ -69,12 +54,12 @@ fn pulses_of(line: &str, from: &str, to: &str, cycles: &str) -> Option<Pulses>
         line: read_decimal(line.as_bytes(), MAX_LINE)? as u8,
         from: read_decimal(from.as_bytes(), MAX_CYCLE)?,
         to: read_decimal(to.as_bytes(), MAX_CYCLE)?,
-        cycles: read_decimal(cycles.as_bytes(), MAX_CYCLES)?,
+        cycles: cycles_of(cycles)?,
     })
 }
 
 impl Answering for SweepCommand<'_> {
-    ghost asked = { λ c. sweep_asked c };
+    ghost asked = { λ c. sweep_command c.first.now c.second.now c.pulses };
 
     ghost bounds = { λ c. IsWithin c.pulses };
 

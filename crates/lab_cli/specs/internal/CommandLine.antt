@@ -1,22 +1,24 @@
 -- What the code's own invariants say of: CommandLine.
-use Rattle.std.specs.Prelude.{◌≤◌, length}
+use Rattle.std.specs.Prelude.{◌≤◌, length, map}
+use Rattle.std.specs.Option.{option_copied}
 use Rattle.cli_calls.specs.Command.{Command}
+use Rattle.cli_calls.specs.ImageRuns.{image_run_command}
+use Rattle.cli_calls.specs.Linking.{objects_command}
 use Rattle.cli_calls.specs.declared.values.TheConstants.{MAX_CYCLES}
 use Rattle.lab_cli.specs.declared.commands.LabCommand.{LabCommand}
 use Rattle.lab_cli.specs.declared.commands.LabCommand.TheVariants as line
-use Rattle.lab_cli.specs.internal.MapCommand.{map_asked}
+use Rattle.link_map.specs.Map.{map_text}
 use Rattle.lab_cli.specs.internal.ReleasedCommand.{released_asked}
-use Rattle.lab_cli.specs.internal.SweepCommand.{IsWithin, sweep_asked}
-use Rattle.lab_cli.specs.internal.StepsCommand.{steps_asked}
-use Rattle.lab_cli.specs.internal.TermsCommand.{offer_asked}
+use Rattle.lab_cli.specs.SweepCommand.{sweep_command}
+use Rattle.lab_cli.specs.internal.SweepCommand.{IsWithin}
+use Rattle.lab_cli.specs.StepsCommand.{steps_outcome}
 
 -- what the program's value asks for
 abbrev pub asked : LabCommand → Command
-asked (line.Map c) = map_asked c
+asked (line.Map c) = objects_command map_text c.layout.now (map (λ o. o.now) c.objects.items)
 asked (line.Released c) = released_asked c
-asked (line.Sweep c) = sweep_asked c
-asked (line.Steps c) = steps_asked c
-asked (line.Terms c) = offer_asked c
+asked (line.Sweep c) = sweep_command c.first.now c.second.now c.pulses
+asked (line.Steps c) = image_run_command steps_outcome c.image.now (option_copied c.schedule) c.cycles
 
 -- its numbers are within their bounds
 abbrev pub IsBounded : LabCommand → Type 0

@@ -2,14 +2,8 @@
 use Rattle.std.specs.Prelude.{◌≤◌}
 use Rattle.schedule_file.specs.declared.TheConstants.{MAX_CYCLE}
 use Rattle.pulse_sweep.specs.declared.Pulses.{Pulses}
-use Rattle.cli_calls.specs.Command.{Command}
-use Rattle.lab_cli.specs.declared.sweep.SweepCommand.{SweepCommand}
-use Rattle.lab_cli.specs.declared.sweep.TheConstants.{MAX_CYCLES, MAX_LINE}
-use Rattle.lab_cli.specs.SweepCommand.{sweep_command}
-
--- what the program's value asks for
-abbrev pub sweep_asked : SweepCommand → Command
-sweep_asked c = sweep_command c.first.now c.second.now c.pulses
+use Rattle.cli_calls.specs.declared.values.TheConstants.{MAX_CYCLES}
+use Rattle.lab_cli.specs.declared.sweep.TheConstants.{MAX_LINE}
 
 -- its numbers are within their bounds
 abbrev pub IsWithin : Pulses → Type 0

@@ -4,8 +4,7 @@ use Rattle.cli_files.specs.Files.{an_image, image_file, need, Holds}
 use Rattle.cli_calls.specs.Command.{Answer}
 use Rattle.cli_calls.specs.Runs.{EndsAs}
 use Rattle.cli_calls.proofs.Given.{gives_answer}
-use Rattle.lab_cli.specs.SweepCommand.{sweep_answer, sweep_status}
-use Rattle.lab_cli.specs.internal.SweepCommand.{sweep_asked}
+use Rattle.lab_cli.specs.SweepCommand.{sweep_answer, sweep_command, sweep_status}
 use Rattle.lab_cli.proofs.Serving.{sweep_comes}
 use Rattle.lab_cli.proofs.sweep.SweepCommandAnswering.answer.Goals as goal
 
@@ -22,7 +21,7 @@ returns-in-Ok-sweep-clause-ok g c =
     let comes = sweep_comes files own.first.now own.second.now own.pulses first second c.in-Ok.ensures.holds held in
     record {
       answer = sweep_answer own.pulses first second;
-      served = gives_answer files (sweep_asked own) (sweep_answer own.pulses first second) comes;
+      served = gives_answer files (sweep_command own.first.now own.second.now own.pulses) (sweep_answer own.pulses first second) comes;
       sound = tt;
       ends = subst (λ (a : Answer). EndsAs c.put_swept.result a (Took g.O.Sink.taken g.O.Sink.faults g.O.Sink.sure c.args.out.now c.put_swept.new.out) (CutOff g.O.Sink.taken g.O.Sink.faults g.O.Sink.sure c.args.out.now c.put_swept.new.out))
           (ap₂ told c.in-Ok-sweep.ensures.text c.in-Ok-sweep.ensures.different) c.put_swept.ensures;
