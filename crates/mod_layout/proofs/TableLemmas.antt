@@ -1,5 +1,5 @@
 -- The table's definitions along a list of modules, and what a table keeps as modules come and go.
-use Rattle.std.proofs.Common.{◌≡◌, inl, inr, ⊎_elim, ℕ, ◌+◌, ◌%◌, ◌<◌, ◌≤◌, min, map, List, [], ◌∷◌, ◌++◌, length, length-append, Bool, true, false, nat_lt, nat_le, cond, not, ◌&&◌, ◌||◌, ◌==◌, Option, Some, None, IsSome, is_none, refl, sym, ◌∙◌, subst, arith, one-add}
+use Rattle.std.proofs.Common.{◌≡◌, inl, inr, ⊎_elim, ℕ, ◌+◌, ◌%◌, ◌<◌, ◌≤◌, min, map, List, [], ◌∷◌, ◌++◌, length, length-append, Bool, true, false, nat_lt, nat_le, cond, not, ◌&&◌, ◌||◌, ◌==◌, Option, Some, None, IsSome, is_none, refl, sym, ap, ◌∙◌, subst, arith, one-add}
 use Rattle.std.specs.List.{filter, fold, reduce, remove, position_or_len, position}
 use Rattle.std.proofs.lemmas.Bool.Decides.{nat_tests}
 use Rattle.std.proofs.lemmas.Bool.{not-false, and_from, and_parts, or_parts}
@@ -8,9 +8,9 @@ use Rattle.mod_layout.specs.declared.Section.{Section}
 use Rattle.mod_layout.specs.declared.Module.{Module}
 use Rattle.mod_layout.specs.declared.TableFault.{TableFault}
 use Rattle.mod_layout.specs.declared.TableFault.TheVariants.{Empty, Odd, Reserved, Full, Spent}
-use Rattle.mod_layout.specs.Table.{Table, holds, place_in, place_of, without, drop_module, shares, meets, is_empty, is_odd, is_reserved, lowest_met, fault_if, overlap_or, fault_of, takes, with_module}
+use Rattle.mod_layout.specs.Table.{Table, holds, place_in, place_of, find_module, without, drop_module, shares, meets, is_empty, is_odd, is_reserved, lowest_met, fault_if, overlap_or, fault_of, takes, with_module}
 use Rattle.mod_layout.specs.Tables.{Apart, IsSection, IsModule, Separate, AreModules, IsTable}
-use Rattle.mod_layout.proofs.Found.{SeparateFrom, find_module}
+use Rattle.mod_layout.proofs.Found.{SeparateFrom}
 
 -- ---- look-ups
 
