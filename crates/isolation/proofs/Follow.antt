@@ -8,7 +8,7 @@ use Rattle.pc_access.specs.declared.Stop.{Stop}
 use Rattle.reg_backup.specs.declared.backup.Backup.{Backup}
 use Rattle.cpu_step.specs.Lone.{Job, Lone, Doing, Closes, Leaves, Breaks, doing, lone_step_by, lone_step, job_of, Outcome, Exit, Closing, Broken, Running, later, Waits, Does, lone_does, lone_after, in_time, outcome, next_insn, doing_by}
 use Rattle.tracer.specs.declared.Event.{Event}
-use Rattle.written_machine.specs.Cycle.{Step, told, due, ticked, settle, turn, arrive_inside, sent_event, counted_by, move, pc_of, act, cycle, after_cycles}
+use Rattle.written_machine.specs.Cycle.{Step, told, due, ticked, settle, turn, sent_event, counted_by, move, pc_of, act, cycle, after_cycles}
 use Rattle.written_machine.specs.Peers.{section}
 use Rattle.written_machine.specs.State.{State}
 use Rattle.isolation.specs.Calls.{entry_state, entry_job, entry_lone, works, NoEnd, worked, Enters, NotBroken, Stands, backup_of, run_by}

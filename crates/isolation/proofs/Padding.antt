@@ -6,11 +6,11 @@ use Rattle.image_text.specs.Image.{Image}
 use Rattle.reg_backup.specs.declared.backup.After.TheVariants.{Next, Handler}
 use Rattle.reg_backup.specs.declared.backup.Phase.TheVariants.{Run, Pad}
 use Rattle.tracer.specs.declared.Event.{Event}
-use Rattle.written_machine.specs.Cycle.{Step, Settled, quiet, told, unsettled, pc_of, rest_of, settle_by, settle_in, settle, ticked, due, padded, turn, sent_event, counted_by, move, cycle, after_cycles}
+use Rattle.written_machine.specs.Cycle.{Step, Settled, quiet, told, unsettled, pc_of, settle_by, settle_in, settle, ticked, due, padded, turn, sent_event, counted_by, move, cycle, after_cycles}
 use Rattle.written_machine.specs.State.{State}
 use Rattle.written_machine.specs.View.{at}
 use Rattle.written_machine.proofs.Stops.{cycle_by}
-use Rattle.isolation.specs.Calls.{Hides, Handles}
+use Rattle.isolation.specs.Calls.{Hides, Handles, rest_of}
 use Rattle.isolation.proofs.Tame.{Calm, is_handler, closing_calm, turned, turn_late, Late, bare_hides, late_handles, hides_more, hides_front, cycle_number, ticked_stop}
 use Rattle.isolation.proofs.Cases.{turn_at, turn_is}
 use Rattle.isolation.proofs.Ways.{sent_tells, counted_holds, settle_ways}

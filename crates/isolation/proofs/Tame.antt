@@ -10,11 +10,11 @@ use Rattle.reg_backup.specs.declared.backup.After.{After}
 use Rattle.reg_backup.specs.declared.backup.After.TheVariants.{Next, Handler}
 use Rattle.reg_backup.specs.declared.backup.Phase.TheVariants.{Run, Pad}
 use Rattle.tracer.specs.declared.Event.{Event}
-use Rattle.written_machine.specs.Cycle.{Step, quiet, told, rest_of, settle, ticked, arrive_inside, perform, padded, turn, sent_event, counted_by, move, cycle, after_cycles}
+use Rattle.written_machine.specs.Cycle.{Step, quiet, told, settle, ticked, arrive_inside, perform, padded, turn, sent_event, counted_by, move, cycle, after_cycles}
 use Rattle.written_machine.specs.State.{State}
 use Rattle.written_machine.specs.View.{at, boot}
 use Rattle.written_machine.proofs.Stops.{cycle_by}
-use Rattle.isolation.specs.Calls.{Ends, ends_call, Hides, Handles}
+use Rattle.isolation.specs.Calls.{Ends, ends_call, Hides, Handles, rest_of}
 use Rattle.isolation.proofs.Each.{Each, each_map}
 use Rattle.isolation.proofs.Ways.{perform_tells, sent_tells, EachAct, EachTurn, each_turn, Lasting, always, settle_ways}
 
