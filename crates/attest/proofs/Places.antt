@@ -9,9 +9,9 @@ use Rattle.mod_layout.specs.declared.Module.{Module}
 use Rattle.mod_layout.specs.declared.TheConstants.{DEVICES_END}
 use Rattle.mod_layout.specs.declared.Place.{Place}
 use Rattle.mod_layout.specs.declared.Place.TheVariants.{Open, Entry, Text, Data}
-use Rattle.mod_layout.specs.Table.{Table, holds, size_of, place_in, place_of, find_module, module_of, with_module}
+use Rattle.mod_layout.specs.Table.{Table, holds, size_of, place_in, place_of, module_of, with_module}
 use Rattle.mod_layout.specs.Tables.{Apart, IsModule, Separate, AreModules, IsTable}
-use Rattle.mod_layout.proofs.Found.{outside, no_entry, within, elsewhere, found_first, separate_found, SeparateFrom, place_by}
+use Rattle.mod_layout.proofs.Found.{outside, no_entry, within, elsewhere, found_first, separate_found, SeparateFrom, place_by, find_module}
 pub use Rattle.mod_layout.proofs.Found.{and_true, module_found}
 use Rattle.pc_access.specs.declared.Kind.{Kind}
 use Rattle.pc_access.specs.declared.Kind.TheVariants.{Read, Write}

@@ -2,10 +2,10 @@
 use Rattle.std.proofs.Common.{◌≡◌, ◌⊎◌, inl, inr, ⊎_elim, ℕ, ◌+◌, List, [], ◌∷◌, ◌++◌, refl, ap, ◌∙◌, Bool, true, false, cond, ◌||◌, ◌==◌, Option, Some, None, is_some, arith}
 use Rattle.std.proofs.lemmas.Bool.Decides.{nat_tests}
 use Rattle.schedule_file.specs.declared.Entry.{Entry as Scheduled}
-use Rattle.mod_layout.specs.Table.{place_in, place_of, find_module, module_of, holds}
+use Rattle.mod_layout.specs.Table.{place_in, place_of, module_of, holds}
 use Rattle.mod_layout.specs.declared.Module.{Module}
 use Rattle.mod_layout.specs.declared.Place.TheVariants.{Entry}
-use Rattle.mod_layout.proofs.Found.{place_by}
+use Rattle.mod_layout.proofs.Found.{place_by, find_module}
 use Rattle.pc_access.specs.Rights.{right}
 use Rattle.pc_access.specs.declared.Stop.{Stop}
 use Rattle.image_text.specs.Image.{Image}

@@ -4,7 +4,7 @@ use Rattle.std.proofs.lemmas.Bool.Decides.{nat_tests}
 use Rattle.sm_words.specs.Words.{reg}
 use Rattle.insn_decode.specs.declared.insn.Insn.{Insn}
 use Rattle.insn_decode.specs.declared.insn.Insn.TheVariants.{Unit as UnitOp}
-use Rattle.mod_layout.specs.Table.{Table, place_in, place_of, find_module, module_of, holds, without, drop_module, takes, with_module}
+use Rattle.mod_layout.specs.Table.{Table, place_in, place_of, module_of, holds, without, drop_module, takes, with_module}
 use Rattle.mod_layout.specs.Tables.{Apart, IsSection, IsModule, Separate, AreModules, IsTable}
 use Rattle.mod_layout.specs.declared.Module.{Module}
 use Rattle.mod_layout.specs.declared.Place.{Place}
@@ -14,7 +14,7 @@ use Rattle.attest.specs.Units.{UnitName, Protect, unit_named, new_text, new_ram,
 use Rattle.cpu_step.specs.Asked.{table_after}
 use Rattle.isolation.proofs.Rights.{Sound}
 use Rattle.mod_layout.proofs.TableLemmas.{apart_sym, table_dropped, table_more}
-use Rattle.mod_layout.proofs.Found.{separate_found, outside, elsewhere, no_entry, ends_of, SeparateFrom, place_by}
+use Rattle.mod_layout.proofs.Found.{separate_found, outside, elsewhere, no_entry, ends_of, SeparateFrom, place_by, find_module}
 
 apart_out : (s r : Section) (a : ℕ) → s.start < s.end → r.start < r.end → Apart s r → holds s a ≡ true → holds r a ≡ false
 apart_out s r a so ro h e = let p = ends_of s a e in outside r a (elsewhere r s a p.0 p.1 ro (apart_sym s r h))

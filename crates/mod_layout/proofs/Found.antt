@@ -4,12 +4,12 @@ pub use Rattle.std.proofs.lemmas.Bool.{and_parts as and_true}
 use Rattle.std.proofs.lemmas.Bool.{and_right, leb-true, ltb-true}
 use Rattle.std.proofs.lemmas.Bool.Decides.{nat_tests}
 use Rattle.std.proofs.lemmas.Option.{none-some}
-use Rattle.std.specs.List.{AllByRecursion}
+use Rattle.std.specs.List.{AllByRecursion, find}
 use Rattle.mod_layout.specs.declared.Place.{Place}
 use Rattle.mod_layout.specs.declared.Place.TheVariants.{Entry, Text, Data}
 use Rattle.mod_layout.specs.declared.Section.{Section}
 use Rattle.mod_layout.specs.declared.Module.{Module}
-use Rattle.mod_layout.specs.Table.{Table, holds, find_module, module_of}
+use Rattle.mod_layout.specs.Table.{Table, holds, module_of}
 use Rattle.mod_layout.specs.Tables.{Apart, IsSection, IsModule, Separate, AreModules, IsTable}
 
 -- what an address is, by three tests on the first module: its entry word, the rest of its text, its data
@@ -19,6 +19,10 @@ place_by entry text ram id rest = cond entry (Entry id) (cond text (Text id) (co
 -- a module is separate from each of these
 abbrev pub SeparateFrom : Module → List Module → Type 0
 SeparateFrom x xs = AllByRecursion (Separate x) xs
+
+-- the module with this id among these
+abbrev pub find_module : ℕ → List Module → Option Module
+find_module id ms = find (λ m. m.id == id) ms
 
 -- ---- addresses
 

@@ -8,9 +8,9 @@ use Rattle.mod_layout.specs.declared.Section.{Section}
 use Rattle.mod_layout.specs.declared.Module.{Module}
 use Rattle.mod_layout.specs.declared.TableFault.{TableFault}
 use Rattle.mod_layout.specs.declared.TableFault.TheVariants.{Empty, Odd, Reserved, Full, Spent}
-use Rattle.mod_layout.specs.Table.{Table, holds, place_in, place_of, find_module, without, drop_module, shares, meets, is_empty, is_odd, is_reserved, lowest_met, fault_if, overlap_or, fault_of, takes, with_module}
+use Rattle.mod_layout.specs.Table.{Table, holds, place_in, place_of, without, drop_module, shares, meets, is_empty, is_odd, is_reserved, lowest_met, fault_if, overlap_or, fault_of, takes, with_module}
 use Rattle.mod_layout.specs.Tables.{Apart, IsSection, IsModule, Separate, AreModules, IsTable}
-use Rattle.mod_layout.proofs.Found.{SeparateFrom}
+use Rattle.mod_layout.proofs.Found.{SeparateFrom, find_module}
 
 -- ---- look-ups
 

@@ -1,5 +1,5 @@
 use Rattle.std.proofs.Common.{◌∙◌, ap}
-use Rattle.mod_layout.specs.Table.{Table, module_of, find_module}
+use Rattle.mod_layout.specs.Table.{Table, module_of}
 use Rattle.mod_layout.proofs.table.ModuleTable.get.Goals as goal
 use Rattle.mod_layout.proofs.Found.{find_module}
 
