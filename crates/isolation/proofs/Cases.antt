@@ -5,8 +5,9 @@ use Rattle.pc_access.specs.declared.Denied.{Denied}
 use Rattle.reg_backup.specs.declared.backup.Phase.{Phase}
 use Rattle.reg_backup.specs.declared.backup.Phase.TheVariants.{Run}
 use Rattle.written_machine.specs.Checks.{checks_by, checks}
-use Rattle.written_machine.specs.Cycle.{Step, asleep, due, turn_by, turn, arrive_inside}
+use Rattle.written_machine.specs.Cycle.{Step, due, turn_by, turn, arrive_inside}
 use Rattle.written_machine.specs.State.{State}
+use Rattle.written_machine.specs.Passing.{asleep}
 use Rattle.isolation.specs.Calls.{rest_of}
 
 abbrev pub turn_at : Option ℕ → Option ℕ → Phase → ℕ → State → Step

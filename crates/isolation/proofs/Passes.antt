@@ -11,8 +11,8 @@ use Rattle.reg_backup.specs.declared.backup.After.{After}
 use Rattle.reg_backup.specs.declared.backup.After.TheVariants.{Next}
 use Rattle.reg_backup.specs.declared.backup.Phase.{Phase}
 use Rattle.reg_backup.specs.declared.backup.Phase.TheVariants.{Run, Pad}
-use Rattle.written_machine.specs.Cycle.{Step, Settled, quiet, told, ticked, unsettled, settle, padded, asleep, turn, due, sent_event, counted_by, move, cycle, after_cycles}
-use Rattle.written_machine.specs.Passing.{due_after, Calm, OnlyPass, Pads, WaitsOutside, Waits, Sleeps, passed, Leads}
+use Rattle.written_machine.specs.Cycle.{Step, Settled, quiet, told, ticked, unsettled, settle, padded, turn, due, sent_event, counted_by, move, cycle, after_cycles}
+use Rattle.written_machine.specs.Passing.{due_after, Calm, OnlyPass, Pads, WaitsOutside, Waits, Sleeps, passed, Leads, asleep}
 use Rattle.written_machine.specs.State.{State}
 use Rattle.written_machine.proofs.Stops.{cycle_by}
 use Rattle.isolation.proofs.Cases.{turn_at, turn_unless, turn_is}

@@ -25,9 +25,10 @@ use Rattle.attest.specs.Units.{Doer, UnitName, Unprotect, unit_named, unit_plan}
 use Rattle.cpu_step.specs.Asked.{asks}
 use Rattle.cpu_step.specs.Fetched.{insn_at, later_word}
 use Rattle.written_machine.specs.Checks.{active_at, entered, first_word, insn_at_pc, asked_to_return, asked_by, returns_inside, check_of, later_checks, insn_checks, first_refused, stop_at, stop_of, refused_in}
-use Rattle.written_machine.specs.Cycle.{Step, told, pc_of, byte_of, settle, ticked, due, arrive_inside, arrive_outside, push_both, pushes, who_of, perform, attempt, returned_by, reti_by, act_on, act_home, act_first, act, is_home, enter_at, enter, fetch, begin, asleep, turn, move, cycle, unless}
+use Rattle.written_machine.specs.Cycle.{Step, told, pc_of, byte_of, settle, ticked, due, arrive_inside, arrive_outside, push_both, pushes, who_of, perform, attempt, returned_by, reti_by, act_on, act_home, act_first, act, is_home, enter_at, enter, fetch, begin, turn, move, cycle, unless}
 use Rattle.written_machine.specs.State.{State}
 use Rattle.written_machine.proofs.Stops.{cycle_by}
+use Rattle.written_machine.specs.Passing.{asleep}
 use Rattle.isolation.proofs.Told.{settle_settles}
 use Rattle.isolation.proofs.Cases.{turn_at, turn_unless, turn_is, checks_at, checks_unless, checks_are}
 

@@ -22,7 +22,7 @@ use Rattle.reg_backup.specs.declared.frames.Frame.{Frame}
 use Rattle.reg_backup.specs.declared.frames.Frame.TheVariants.{Plain, Module as Held}
 use Rattle.cpu_step.specs.Lone.{Lone, doing, doing_by, next_insn, lone_does, job_of}
 use Rattle.tracer.specs.declared.Event.{Event}
-use Rattle.written_machine.specs.Cycle.{Step, quiet, told, denied, pc_of, due, arrive_outside, asleep, padded, turn, begin, enter_at, enter, fetch, act, unless, arrive_inside}
+use Rattle.written_machine.specs.Cycle.{Step, quiet, told, denied, pc_of, due, arrive_outside, padded, turn, begin, enter_at, enter, fetch, act, unless, arrive_inside}
 use Rattle.written_machine.specs.Peers.{section}
 use Rattle.written_machine.specs.State.{State}
 use Rattle.written_machine.specs.Passing.{asleep}

@@ -31,10 +31,11 @@ use Rattle.cpu_step.specs.Fetched.{insn_at}
 use Rattle.cpu_step.specs.Plan.{past}
 use Rattle.tracer.specs.declared.Event.{Event}
 use Rattle.tracer.specs.declared.Event.TheVariants.{Enter as Entered}
-use Rattle.written_machine.specs.Cycle.{Step, Settled, quiet, told, stopped, denied, unsettled, pc_of, byte_of, in_text, resume_from, close_of, leave_if, settle_by, settle_in, settle, ticked, due, arrive_outside, push_both, pushes, who_of, perform, attempt, returned_by, reti_by, act_on, act_home, act_first, act, is_home, enter_at, enter, fetch, begin, padded, asleep, turn, sent_event, counted_by, move, unless, arrive_inside}
+use Rattle.written_machine.specs.Cycle.{Step, Settled, quiet, told, stopped, denied, unsettled, pc_of, byte_of, in_text, resume_from, close_of, leave_if, settle_by, settle_in, settle, ticked, due, arrive_outside, push_both, pushes, who_of, perform, attempt, returned_by, reti_by, act_on, act_home, act_first, act, is_home, enter_at, enter, fetch, begin, padded, turn, sent_event, counted_by, move, unless, arrive_inside}
 use Rattle.written_machine.specs.State.{State}
 use Rattle.written_machine.specs.View.{at, boot}
 use Rattle.written_machine.proofs.Stops.{cycle_by}
+use Rattle.written_machine.specs.Passing.{asleep}
 use Rattle.isolation.proofs.Cases.{turn_at, turn_unless, turn_is, interrupted}
 use Rattle.isolation.specs.Calls.{rest_of}
 

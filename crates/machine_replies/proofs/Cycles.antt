@@ -33,11 +33,12 @@ use Rattle.cpu_step.specs.Asked.{asks, effect, table_after}
 use Rattle.cpu_step.specs.Fetched.{insn_at, later_word}
 use Rattle.tracer.specs.Laws.{IsWord, IsEvent}
 use Rattle.tracer.specs.declared.Event.{Event}
-use Rattle.written_machine.specs.Cycle.{Step, told, stopped, pc_of, byte_of, in_text, resume_from, close_of, leave_if, settle_by, settle_in, settle, ticked, due, arrive_inside, arrive_outside, push_both, pushes, port_of, who_of, perform, attempt, returned_by, reti_by, act_on, act_home, act_first, act, is_home, enter_at, enter, fetch, begin, asleep, turn, sent_event, counted_by, move, cycle, unless}
+use Rattle.written_machine.specs.Cycle.{Step, told, stopped, pc_of, byte_of, in_text, resume_from, close_of, leave_if, settle_by, settle_in, settle, ticked, due, arrive_inside, arrive_outside, push_both, pushes, port_of, who_of, perform, attempt, returned_by, reti_by, act_on, act_home, act_first, act, is_home, enter_at, enter, fetch, begin, turn, sent_event, counted_by, move, cycle, unless}
 use Rattle.written_machine.specs.Ports.{Port, read_in, read_byte, read_width, write_in, write_byte, write_width, take_reads, put_writes}
 use Rattle.written_machine.specs.State.{State}
 use Rattle.written_machine.specs.View.{at}
 use Rattle.written_machine.proofs.Stops.{cycle_by}
+use Rattle.written_machine.specs.Passing.{asleep}
 use Rattle.isolation.proofs.Cases.{turn_at, turn_unless, turn_is}
 use Rattle.isolation.proofs.Each.{Each}
 use Rattle.isolation.proofs.Filled.{Filled, settle_filled, ticked_filled, enter_filled, filled_at}
