@@ -4,11 +4,15 @@ use Rattle.std.proofs.lemmas.Bool.Decides.{nat_tests}
 use Rattle.schedule_file.specs.declared.Entry.{Entry}
 use Rattle.schedule_file.specs.declared.What.{What}
 use Rattle.schedule_file.specs.declared.What.TheVariants.{Serial}
-use Rattle.devices.specs.Devices.{Devices, ticked_devices, counts, counts_by, scheduled, happens}
+use Rattle.devices.specs.Devices.{Devices, ticked_devices, counts, scheduled, happens}
 use Rattle.devices.specs.Time.{ticked_by}
 use Rattle.devices.specs.internal.Time.{counted_by}
 use Rattle.devices.specs.internal.Bus.{acted_before, past_count}
 use Rattle.devices.proofs.Order.{Rises, Rises-below}
+
+-- a tick of a timer that runs or not, and whose count is the limit or not
+abbrev pub counts_by : Bool → Bool → Devices → Devices
+counts_by running at_limit d = cond running (cond at_limit (record d { count = 0; flag = true }) (record d { count = (d.count + 1) % 65536 })) d
 
 -- what a device does where an entry acts
 abbrev pub happens_if : Bool → What → Devices → Devices

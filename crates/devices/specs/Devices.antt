@@ -41,12 +41,6 @@ abbrev pub scheduled : List Entry → ℕ → Devices → Devices
 scheduled [] k d = d
 scheduled (e ∷ es) k d = scheduled es k (if e.cycle == k then happens e.what d else d)
 
--- one tick of a timer: whether it runs, and whether the count is the limit
-abbrev pub counts_by : Bool → Bool → Devices → Devices
-counts_by true true d = record d { count = 0; flag = true }
-counts_by true false d = record d { count = (d.count + 1) % 65536 }
-counts_by false at_limit d = d
-
 -- one tick of a timer that runs: a count at the limit comes round
 abbrev pub counts : Devices → Devices
 counts d =

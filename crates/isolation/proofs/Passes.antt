@@ -3,8 +3,8 @@ use Rattle.std.proofs.Common.{◌≡◌, ℕ, zero, suc, ◌+◌, ◌-◌, ◌�
 use Rattle.schedule_file.specs.declared.Entry.{Entry}
 use Rattle.schedule_file.specs.declared.What.{What}
 use Rattle.schedule_file.specs.declared.What.TheVariants.{Serial}
-use Rattle.devices.proofs.Acting.{happens_if}
-use Rattle.devices.specs.Devices.{Devices, ticked_devices, scheduled, counts_by}
+use Rattle.devices.proofs.Acting.{happens_if, counts_by}
+use Rattle.devices.specs.Devices.{Devices, ticked_devices, scheduled}
 use Rattle.irq_padding.specs.Padding.{padding}
 use Rattle.pc_access.specs.declared.Stop.{Stop}
 use Rattle.reg_backup.specs.declared.backup.After.{After}
