@@ -31,7 +31,7 @@ means_coded {w0} (format_one op s d c source dest) h = and_from (is_source s) (i
 means_coded {w0} (format_two op a c k source fits) h = and_from (is_source a) _ (source_coded source (omega arith)) fits
 means_coded (jump c) h = absurd cc
 means_coded (return c) h = refl
-means_coded (unit n low c) h = grind (arith, nat_tests)
+means_coded (unit name c) h = refl
 
 pub decoded_coded : (insn : Insn) → IsDecoded insn → is_placeless insn ≡ true → is_coded insn ≡ true
 decoded_coded insn d h = means_coded (insn_means d.first d.second d.third insn d.means) h

@@ -82,7 +82,7 @@ means_back {w0} {w1} {w2} (format_two op a c k source fits) h =
     ap (λ w. w ∷ extension a) first ∙ (ap (λ ws. w0 ∷ ws) rest ∙ ap (λ n. take n (w0 ∷ w1 ∷ w2 ∷ [])) (sym size))
 means_back (jump c) h = absurd cc
 means_back {w0} (return c) h = ap (λ w. w ∷ []) (sym c)
-means_back {w0} (unit n low c) h = ap (λ w. w ∷ []) (let same : 4992 + n % 8 ≡ w0 = omega arith in same)
+means_back (unit name c) h = ap (λ w. w ∷ []) (sym c)
 
 pub words_come_back : WordsComeBack
 words_come_back w0 w1 w2 insn e h = means_back (insn_means w0 w1 w2 insn e) h

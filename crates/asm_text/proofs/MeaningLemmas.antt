@@ -213,19 +213,10 @@ one_means op w a ha fits =
     subst (λ (v : Width). Means w0 w1 w2 (One op v a) (1 + words_in a)) width
     (format_two op a f.form f.op_is source (subst (λ (v : Width). one_fits op v a ≡ true) (sym width) fits))
 
-unit_means : (n : ℕ) → n < 7 → IsMeant (UnitOp n)
-unfolding encoded_first
-unit_means n low =
-    let small : n % 8 ≡ n = omega arith in
-    subst (λ k. Means (4992 + k) 0 0 (UnitOp n) 1) (sym small) (unit n low refl)
-
 pub coded_means : (insn : Insn) → is_coded insn ≡ true → IsMeant insn
 unfolding encoded_first
 coded_means (Two op w s d) e = let b = and_parts (is_source s) (is_dest d) e in two_means op w s d b.0 b.1
 coded_means (One op w a) e = let b = and_parts (is_source a) (one_fits op w a) e in one_means op w a b.0 b.1
 coded_means (Jump c o) e = absurd cc
 coded_means Reti e = return refl
-coded_means (UnitOp n) e = unit_means n (low n e)
-  where
-    low : (n : ℕ) → nat_lt n 7 ≡ true → n < 7
-    low n k = grind (arith, nat_tests)
+coded_means (UnitOp name) e = unit name refl

@@ -26,7 +26,10 @@ use Rattle.insn_decode.specs.declared.insn.Operand.{Operand}
 use Rattle.insn_decode.specs.declared.insn.Operand.TheVariants.{Reg, Const, Imm, Indexed, Symbolic, Absolute, Indirect, Increment}
 use Rattle.insn_decode.specs.declared.insn.Insn.{Insn}
 use Rattle.insn_decode.specs.declared.insn.Insn.TheVariants.{Two, One, Jump, Reti, Unit as UnitOp}
+use Rattle.insn_decode.specs.declared.insn.UnitName.{UnitName}
+use Rattle.insn_decode.specs.declared.insn.UnitName.TheVariants.{Unprotect}
 use Rattle.insn_decode.specs.Code.{words_of, is_constant}
+use Rattle.insn_decode.specs.Means.{unit_code}
 use Rattle.insn_decode.specs.Text.{two_name, one_name, suffix_of, hex_text, operand_text, insn_text}
 use Rattle.asm_text.specs.declared.statement.Field.TheVariants.{Number}
 use Rattle.asm_text.specs.declared.statement.Statement.TheVariants.{Code}
@@ -242,10 +245,10 @@ unfolding statement_of
 one_read op w a name text n p r is =
     ap by_words (one_word name text n.whole p) ∙ rw (n.no_label, n.no_global, n.no_word, n.no_space, n.no_unit, n.no_jump, n.width, n.op_is, r, is) refl
 
-unit_read : (n : ℕ) → n < 7 → statement_of (codes "unit " ++ decimal n) ≡ Some (Code (UnitOp n) None None)
+unit_read : (name : UnitName) → statement_of (codes "unit " ++ decimal (unit_code name)) ≡ Some (Code (UnitOp name) None None)
 unfolding statement_of words read_decimal digits
-unit_read (suc (suc (suc (suc (suc (suc (suc n))))))) l = absurd (omega arith)
-unit_read _ l = refl
+unit_read Unprotect = refl
+unit_read _ = refl
 
 words_front : (xs ys : List ℕ) → AreWords (xs ++ ys) → AreWords xs × AreWords ys
 words_front [] ys h = (All-nil (λ word. word < 65536), h)
@@ -274,7 +277,7 @@ insn_read (One op w a) at is h small =
     ∙ one_read op w a (one_name op ++ suffix_of w) (operand_text a here) (one_named w op) (operand_whole a here source) (operand_read a here source) is
 insn_read (Jump c o) at is h small = absurd cc
 insn_read Reti at is h small = refl
-insn_read (UnitOp n) at is h small = unit_read n (let low : n < 7 = grind (arith, nat_tests) in low)
+insn_read (UnitOp name) at is h small = unit_read name
 
 pub shown_is_read : ShownIsRead
 shown_is_read insn at d h small = let is = decoded_coded insn d h in (insn_read insn at is h small, coded_means insn is)

@@ -1,7 +1,7 @@
 -- What a statement that a line writes keeps.
 use Rattle.std.proofs.Common.{ℕ, ◌≡◌, ◌<◌, ◌≤◌, Bool, true, false, cond, ◌&&◌, List, [], ◌∷◌, length, take, drop, codes, ◌%◌, Option, Some, None, nat_eq, nat_le, refl, ap, sym, subst, ◌∙◌, arith, lit<}
 use Rattle.std.proofs.lemmas.Bool.Decides.{nat_tests}
-use Rattle.std.specs.Prelude.{option_map, option_and_then}
+use Rattle.std.specs.Prelude.{option_map, option_and_then, slice_get}
 use Rattle.std.specs.Str.{bytes_eq}
 use Rattle.std.proofs.lemmas.Option.{same_Some}
 use Rattle.texts.specs.Decimals.{read_decimal}
@@ -14,6 +14,8 @@ use Rattle.insn_decode.specs.declared.insn.Operand.{Operand}
 use Rattle.insn_decode.specs.declared.insn.Operand.TheVariants.{Reg, Const, Imm, Indexed, Absolute, Indirect, Increment}
 use Rattle.insn_decode.specs.declared.insn.TwoOp.{TwoOp}
 use Rattle.insn_decode.specs.declared.insn.OneOp.{OneOp}
+use Rattle.insn_decode.specs.declared.insn.UnitName.{UnitName}
+use Rattle.insn_decode.specs.Code.{unit_ops}
 use Rattle.insn_decode.specs.Text.{jump_name}
 use Rattle.asm_text.specs.declared.TheConstants.{MAX_SIZE}
 use Rattle.asm_text.specs.declared.unit.SectionKind.{SectionKind}
@@ -23,7 +25,7 @@ use Rattle.asm_text.specs.declared.statement.Statement.{Statement}
 use Rattle.asm_text.specs.declared.statement.Statement.TheVariants.{Section, Label, Global, Word, Space, Jump, Code}
 use Rattle.asm_text.specs.Encoding.{is_coded}
 use Rattle.texts.specs.Words.{is_space, words}
-use Rattle.asm_text.specs.Lines.{coded, mnemonic_width, base_of, two_op_of, one_op_of, cond_of, one_coded, two_coded, section_kind, section_statement, even_size, space_of, unit_statement, alone, jump_or_one, with_one, two_operands, with_two, by_words, statement_of}
+use Rattle.asm_text.specs.Lines.{coded, mnemonic_width, base_of, two_op_of, one_op_of, cond_of, one_coded, two_coded, section_kind, section_statement, even_size, space_of, numbered_unit, unit_statement, alone, jump_or_one, with_one, two_operands, with_two, by_words, statement_of}
 use Rattle.asm_text.specs.Operands.{behind, without_ending, name_of, field_by, field_of, register_of, of_field, plain, number_by, immediate_of, indirect_by, indirect_of, indexed_at, indexed_by, without_end, indexed_of, register_operand, absolute_of, behind_or, operand_of}
 use Rattle.asm_text.specs.Parts.{is_name}
 use Rattle.asm_text.specs.Statements.{OperandValue}
@@ -180,14 +182,21 @@ space_some text s e = by (read_decimal MAX_SIZE text) refl e
     by None is k = absurd cc
 
 unit_some : (text : List ℕ) (s : Statement (List ℕ)) → unit_statement text ≡ Some s → IsWritten s
-unit_some text s e = by (read_decimal 6 text) refl e
+unit_some text s e = by (read_decimal 6 text) e
   where
-    low : (n : ℕ) → n ≤ 6 → is_coded (UnitOp n) ≡ true
-    low n most = grind (arith, nat_tests)
+    by_name : (o : Option UnitName) → option_map (λ name. Code (UnitOp name) None None) o ≡ Some s → IsWritten s
+    by_name (Some name) k = subst IsWritten (same_Some (Code (UnitOp name) None None) s k) (tt, tt, refl)
+    by_name None k = absurd cc
 
-    by : (o : Option ℕ) → read_decimal 6 text ≡ o → option_map (λ n. Code (UnitOp n) None None) o ≡ Some s → IsWritten s
-    by (Some n) is k = subst IsWritten (same_Some (Code (UnitOp n) None None) s k) (tt, tt, low n ((decimals_are_read 6 (lit< tt) text n).0 is).0)
-    by None is k = absurd cc
+    by : (o : Option ℕ) → option_and_then numbered_unit o ≡ Some s → IsWritten s
+    by (Some n) k = by_name (slice_get unit_ops n) k
+    by None k = absurd cc
+
+-- the statement of a number that was read
+pub unit_there : (o : Option ℕ) (n : ℕ) (name : UnitName) (s : Statement (List ℕ)) → o ≡ Some n → slice_get unit_ops n ≡ Some name → s ≡ Code (UnitOp name) None None
+    → Some s ≡ option_and_then numbered_unit o
+unit_there o n name s is there e =
+    ap Some e ∙ sym (ap (option_and_then numbered_unit) is ∙ ap (option_map (λ (u : UnitName). Code (UnitOp u) None None)) there)
 
 cond_low : (word : List ℕ) (c : ℕ) → cond_of word ≡ Some c → c < 8
 cond_low word c e =

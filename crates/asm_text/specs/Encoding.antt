@@ -8,7 +8,7 @@ use Rattle.insn_decode.specs.declared.insn.Operand.TheVariants.{Reg, Const, Imm,
 use Rattle.insn_decode.specs.declared.insn.Insn.{Insn}
 use Rattle.insn_decode.specs.declared.insn.Insn.TheVariants.{Two, One, Jump, Reti, Unit as UnitOp}
 use Rattle.insn_decode.specs.Code.{length_of, one_fits, is_constant}
-use Rattle.insn_decode.specs.Means.{two_code, one_code, Means}
+use Rattle.insn_decode.specs.Means.{two_code, one_code, unit_code, Means}
 
 -- ---- fields of a first word
 
@@ -49,7 +49,7 @@ encoded_first (Two op w s d) = two_code op * 0x1000 + source_register s * 256 + 
 encoded_first (One op w a) = 0x1000 + one_code op * 128 + byte_flag w * 64 + source_mode a * 16 + source_register a
 encoded_first (Jump cond offset) = 0
 encoded_first Reti = 0x1300
-encoded_first (UnitOp n) = 0x1380 + n % 8
+encoded_first (UnitOp name) = 0x1380 + unit_code name
 
 -- ---- all words
 
@@ -107,4 +107,4 @@ is_coded (Two op w s d) = is_source s && is_dest d
 is_coded (One op w a) = is_source a && one_fits op w a
 is_coded (Jump cond offset) = false
 is_coded Reti = true
-is_coded (UnitOp n) = nat_lt n 7
+is_coded (UnitOp name) = true

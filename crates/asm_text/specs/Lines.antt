@@ -1,5 +1,5 @@
 -- The statement that a line writes: words parted by single spaces.
-use Rattle.std.specs.Prelude.{ℕ, ◌%◌, ◌==◌, nat_le, ◌&&◌, if◌then◌else◌, List, [], ◌∷◌, Option, Some, None, option_map, option_and_then, codes, find}
+use Rattle.std.specs.Prelude.{ℕ, ◌%◌, ◌==◌, nat_le, ◌&&◌, if◌then◌else◌, List, [], ◌∷◌, Option, Some, None, option_map, option_and_then, codes, find, slice_get}
 use Rattle.std.specs.Str.{bytes_eq}
 use Rattle.texts.specs.Decimals.{read_decimal}
 use Rattle.texts.specs.Words.{words}
@@ -9,7 +9,7 @@ use Rattle.insn_decode.specs.declared.insn.TwoOp.{TwoOp}
 use Rattle.insn_decode.specs.declared.insn.OneOp.{OneOp}
 use Rattle.insn_decode.specs.declared.insn.Insn.{Insn}
 use Rattle.insn_decode.specs.declared.insn.Insn.TheVariants.{Two, One, Reti, Unit as UnitOp}
-use Rattle.insn_decode.specs.Code.{two_ops, one_ops}
+use Rattle.insn_decode.specs.Code.{two_ops, one_ops, unit_ops}
 use Rattle.insn_decode.specs.Text.{two_name, one_name, jump_name}
 use Rattle.asm_text.specs.declared.unit.SectionKind.{SectionKind}
 use Rattle.asm_text.specs.declared.unit.SectionKind.TheVariants.{Code as CodeKind, Data as DataKind, Bss as BssKind}
@@ -80,8 +80,12 @@ even_size n = if nat_le 2 n && (n % 2 == 0) then Some (Space n) else None
 abbrev pub space_of : List ℕ → Option (Statement (List ℕ))
 space_of word = option_and_then even_size (read_decimal MAX_SIZE word)
 
+-- the unit instruction of a number
+abbrev pub numbered_unit : ℕ → Option (Statement (List ℕ))
+numbered_unit n = option_map (λ name. Code (UnitOp name) None None) (slice_get unit_ops n)
+
 abbrev pub unit_statement : List ℕ → Option (Statement (List ℕ))
-unit_statement word = option_map (λ n. Code (UnitOp n) None None) (read_decimal 6 word)
+unit_statement word = option_and_then numbered_unit (read_decimal 6 word)
 
 abbrev pub alone : List ℕ → Option (Statement (List ℕ))
 alone word = if bytes_eq word (codes "reti") then Some (Code Reti None None) else None

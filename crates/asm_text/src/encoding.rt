@@ -134,7 +134,7 @@ pub fn encoded_first(insn: Insn) -> u16
         }
         Insn::Jump { .. } => 0,
         Insn::Reti => RETI,
-        Insn::Unit(number) => UNIT + u16::from(number) % 8,
+        Insn::Unit(name) => UNIT + u16::from(name.number()),
     }
 }
 
@@ -190,7 +190,6 @@ pub fn is_coded(insn: Insn) -> bool
         Insn::Two { src, dst, .. } => is_source(src) && is_dest(dst),
         Insn::One { op, width, arg } => is_source(arg) && fits(op, width, arg),
         Insn::Jump { .. } => false,
-        Insn::Reti => true,
-        Insn::Unit(number) => number < 7,
+        Insn::Reti | Insn::Unit(_) => true,
     }
 }

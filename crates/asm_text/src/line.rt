@@ -14,7 +14,7 @@ use crate::encoding::is_coded;
 use crate::operand::{field_of, name_of, operand_of};
 use crate::statement::{Statement, Value};
 use crate::unit::SectionKind;
-use insn_decode::{Insn, OneOp, TwoOp};
+use insn_decode::{Insn, OneOp, TwoOp, UnitName};
 use sm_words::Width;
 use texts::{read_decimal, split_word};
 
@@ -90,11 +90,12 @@ fn space_of<'a>(word: &[u8]) -> Option<Statement<&'a [u8]>>
     }
 }
 
+#[tactic(auto, using(crate::proofs::WrittenLemmas::unit_there))]
 fn unit_statement<'a>(word: &[u8]) -> Option<Statement<&'a [u8]>>
     ensures { option_map with_texts result ≡ spec.unit_statement word.now }
 {
     let number = read_decimal(word, 6)?;
-    Some(plain(Insn::Unit(number as u8)))
+    Some(plain(Insn::Unit(UnitName::from_number(number as u16))))
 }
 
 // An instruction with names, where the code table has it.

@@ -1,9 +1,11 @@
 -- The unit instructions: protect and unprotect modules, tags and attestation, ids.
 use Rattle.std.specs.Prelude.{ℕ, zero, suc, ◌+◌, ◌-◌, ◌*◌, ◌/◌, List, [], ◌∷◌, ◌++◌, nat_le, if◌then◌else◌, Bool, true, false, ◌&&◌, Option, Some, None, is_some, take, drop, replicate, bytes_eq}
 use Rattle.std.specs.Option.{option_map_or}
-use Rattle.sm_words.specs.Words.{reg, put, nth, add16}
+use Rattle.sm_words.specs.Words.{reg, put, add16}
 use Rattle.sm_words.specs.declared.registers.TheConstants.{PC}
 use Rattle.sm_words.specs.declared.width.Width.TheVariants.{Byte}
+pub use Rattle.insn_decode.specs.declared.insn.UnitName.{UnitName}
+pub use Rattle.insn_decode.specs.declared.insn.UnitName.TheVariants.{Unprotect, Protect, Attest, Tag, IdOf, OwnId, CallerId}
 use Rattle.mod_layout.specs.declared.TheConstants.{DEVICES_END}
 use Rattle.mod_layout.specs.declared.Section.{Section}
 use Rattle.mod_layout.specs.declared.Module.{Module}
@@ -17,19 +19,6 @@ use Rattle.attest.specs.declared.instruction.TheConstants.{SHORT_CYCLES, BLOCK_C
 use Rattle.pc_access.specs.declared.Kind.{Kind}
 use Rattle.pc_access.specs.declared.Kind.TheVariants.{Read, Write}
 use Rattle.pc_access.specs.declared.Access.{Access}
-
--- by their words, 0x1380 to 0x1386
-pub data UnitName : Type 0 where
-  Unprotect : UnitName
-  Protect : UnitName
-  Attest : UnitName
-  Tag : UnitName
-  IdOf : UnitName
-  OwnId : UnitName
-  CallerId : UnitName
-
-abbrev pub unit_named : ℕ → UnitName
-unit_named n = nth n (Unprotect ∷ Protect ∷ Attest ∷ Tag ∷ IdOf ∷ OwnId ∷ []) CallerId
 
 -- the one who does it: its module, or none outside; its caller's id; the table; and the node's key
 pub record Doer : Type 0 where

@@ -6,7 +6,7 @@ ghost use Rattle.sm_words.specs.Words.{put};
 ghost use Rattle.mod_layout.specs.Table.{place_of};
 ghost use Rattle.mod_layout.specs.Tables.{IsModule, IsTable};
 ghost use Rattle.pc_access.specs.Rights.{first_denied};
-ghost use Rattle.attest.specs.Units.{Attest, CallerId, IdOf, OwnId, Protect, Tag, Unprotect, blocks, in_range, new_ram, new_text, place_id, text_at, unit_named, unit_plan};
+ghost use Rattle.attest.specs.Units.{Attest, CallerId, IdOf, OwnId, Protect, Tag, Unprotect, blocks, in_range, new_ram, new_text, place_id, text_at, unit_plan};
 ghost use Rattle.attest.specs.Done.{IsDone, doer};
 ghost use Rattle.mem_map.specs.Contents.{SameMarks};
 
@@ -14,7 +14,7 @@ use crate::hash::{identity_tag, message_tag};
 use crate::memory::{stands_at, store};
 use crate::rights::{check, in_range};
 use crate::{UnitDone, Who};
-use insn_decode::units::{ATTEST, ID_OF, OWN_ID, PROTECT, TAG, UNPROTECT};
+use insn_decode::UnitName;
 use mem_map::Memory;
 use mod_keys::IDENTITY_TAIL;
 use mod_layout::{Module, ModuleTable, Place, Section};
@@ -33,43 +33,40 @@ const _: () = prove!(BLOCK_CYCLES == 64 && SHORT_CYCLES == 6);
 /// The bytes of a module's identity past its text.
 const TAIL: u32 = IDENTITY_TAIL as u32;
 
-/// Does the unit instruction of the word 0x1380 plus `op`, but that PC stays and that closing is left to
-/// the caller.
+/// Does a unit instruction, but that PC stays and that closing is left to the caller.
 ///
 /// Its accesses are checked byte by byte, in order, before anything is changed. A refusal comes exactly
 /// where one of them is refused, and then nothing is changed.
 pub fn unit(
-    op: u8,
+    name: UnitName,
     core: &mut Core,
     memory: &mut Memory,
     table: &mut ModuleTable,
     who: Who,
     node_key: &[u8; 16],
 ) -> Result<UnitDone, Denied>
-    requires op { op < 7 }
-
     // By the first of its accesses that is refused, whatever modules wait in frames.
     ensures denied { IfErr result (λ denied. (held : List ℕ) → first_denied table.old who.active held
-        (unit_plan (doer table.old who node_key.now) (unit_named op) core.old) ≡ Some denied) }
+        (unit_plan (doer table.old who node_key.now) name core.old) ≡ Some denied) }
     ensures allowed { OnOk result ((held : List ℕ) → first_denied table.old who.active held
-        (unit_plan (doer table.old who node_key.now) (unit_named op) core.old) ≡ None) }
+        (unit_plan (doer table.old who node_key.now) name core.old) ≡ None) }
 
     // Done, all is as the effect says; refused, nothing is changed.
-    ensures done { IfOk result (λ done. IsDone (doer table.old who node_key.now) (unit_named op)
+    ensures done { IfOk result (λ done. IsDone (doer table.old who node_key.now) name
         core.old memory.old.bytes core.new memory.new.bytes table.new done) }
     ensures core_kept { OnErr result (core.new ≡ core.old) }
     ensures memory_kept { OnErr result (memory.new ≡ memory.old) }
     ensures marks_kept { SameMarks memory.old memory.new }
     ensures table_kept { OnErr result (table.new ≡ table.old) }
 {
-    match op {
-        UNPROTECT => Ok(unprotect(core, table, who)),
-        PROTECT => Ok(protect(core, memory, table, who)),
-        ATTEST => attest(core, memory, table, who, node_key),
-        TAG => tag(core, memory, table, who, node_key),
-        ID_OF => Ok(id_of(core, table, who)),
-        OWN_ID => Ok(own_id(core, table, who)),
-        _ => Ok(caller_id(core, table, who)),
+    match name {
+        UnitName::Unprotect => Ok(unprotect(core, table, who)),
+        UnitName::Protect => Ok(protect(core, memory, table, who)),
+        UnitName::Attest => attest(core, memory, table, who, node_key),
+        UnitName::Tag => tag(core, memory, table, who, node_key),
+        UnitName::IdOf => Ok(id_of(core, table, who)),
+        UnitName::OwnId => Ok(own_id(core, table, who)),
+        UnitName::CallerId => Ok(caller_id(core, table, who)),
     }
 }
 

@@ -133,7 +133,7 @@ does_freely (One op w arg) core values =
 does_freely (Jump cond off) core values =
     record { core = jumped (jumps cond (reg core SR)) off (past (Jump cond off) core); stored = [] }
 does_freely Reti core values = record { core = returned (nth 0 values 0) (nth 1 values 0) core; stored = [] }
-does_freely (UnitOp n) core values = record { core = past (UnitOp n) core; stored = [] }
+does_freely (UnitOp name) core values = record { core = past (UnitOp name) core; stored = [] }
 
 -- the new core, where a module runs: SR keeps all bits but C, Z, N and V
 unfoldable pub confined : Bool → List ℕ → List ℕ → List ℕ

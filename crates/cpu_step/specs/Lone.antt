@@ -14,7 +14,7 @@ use Rattle.pc_access.specs.declared.Access.{Access}
 use Rattle.pc_access.specs.declared.Kind.{Kind}
 use Rattle.pc_access.specs.declared.Kind.TheVariants.{Fetch, Read, Write}
 use Rattle.pc_access.specs.Accesses.{reads_of, writes_of, after_writes}
-use Rattle.attest.specs.Units.{Doer, UnitName, Protect, Attest, IdOf, unit_named}
+use Rattle.attest.specs.Units.{Doer, Protect, Attest, IdOf}
 use Rattle.cpu_step.specs.Asked.{asks, effect}
 use Rattle.cpu_step.specs.Fetched.{insn_in}
 
@@ -53,17 +53,12 @@ lone_table j = record { modules = j.owner ∷ []; given = j.owner.id; room = 8 }
 abbrev pub lone_who : Job → Doer
 lone_who j = record { own = Some j.owner; caller = j.caller; table = lone_table j; key = j.key }
 
--- the unit instructions that a module by itself may do
-abbrev pub unit_alone : UnitName → Bool
-unit_alone Protect = false
-unit_alone Attest = false
-unit_alone IdOf = false
-unit_alone _ = true
-
 -- an instruction that a module by itself may do
 abbrev pub is_alone : Insn → Bool
 is_alone Reti = false
-is_alone (UnitOp n) = unit_alone (unit_named n)
+is_alone (UnitOp Protect) = false
+is_alone (UnitOp Attest) = false
+is_alone (UnitOp IdOf) = false
 is_alone _ = true
 
 -- an access of this kind that stays in the two sections

@@ -43,4 +43,4 @@ cycles_of (Two op w s d) = two_cycles s d
 cycles_of (One op w a) = one_cycles a op
 cycles_of (Jump cond offset) = 2
 cycles_of Reti = 5
-cycles_of (UnitOp n) = 6
+cycles_of (UnitOp name) = 6

@@ -20,7 +20,7 @@ use Rattle.cpu_step.specs.Fetched.{insn_at, later_word, word_in, insn_from}
 use Rattle.attest.specs.Accesses.{reads_of, writes_of}
 use Rattle.attest.specs.Units.{UnitName, Unprotect, OwnId, CallerId, unit_named, Effect, unit_plan, unit_effect}
 use Rattle.cpu_step.specs.Asked.{asks, effect}
-use Rattle.cpu_step.specs.Lone.{Job, Lone, lone_byte, lone_who, is_alone, unit_alone, all_inside, may_do, next_insn, lone_read, lone_writes, lone_does, Does, doing, doing_by, lone_step_by, job_of, blank}
+use Rattle.cpu_step.specs.Lone.{Job, Lone, lone_byte, lone_who, is_alone, all_inside, may_do, next_insn, lone_read, lone_writes, lone_does, Does, doing, doing_by, lone_step_by, job_of, blank}
 use Rattle.flow_rule.specs.Terms.{Terms}
 use Rattle.flow_rule.specs.declared.Val.{Val}
 use Rattle.flow_rule.specs.declared.Val.TheVariants.{Known, Away, Public, Secret}
@@ -490,9 +490,9 @@ module _ (terms : Terms) (key : List ℕ) (m : Module) (text : List ℕ) (caller
   unit_crossing : (n : ℕ) (u : UnitName) → unit_named n ≡ u → (x : Point) (ca da cb db : List ℕ) → AgreeAt m x ca da cb db → met m.text text x.pair.addr ≡ Some (UnitOp n) → (step_unit terms m (UnitOp n) u n x).reasons ≡ [] →
       Crossing terms m j (AgreeAt m) (step_unit terms m (UnitOp n) u n x).gives (at_rest ca da) (at_rest cb db)
   unfolding unit_does unit_plan unit_effect
-  unit_crossing n Unprotect e x ca da cb db at met_it none = shut_crossing n Unprotect e x ca da cb db at met_it (ap unit_alone e) (6 + size_of m.ram / 2 - 1) refl refl refl refl none
-  unit_crossing n OwnId e x ca da cb db at met_it none = tell_crossing n OwnId e x ca da cb db at met_it (ap unit_alone e) m.id refl refl refl refl none
-  unit_crossing n CallerId e x ca da cb db at met_it none = tell_crossing n CallerId e x ca da cb db at met_it (ap unit_alone e) caller refl refl refl refl none
+  unit_crossing n Unprotect e x ca da cb db at met_it none = shut_crossing n Unprotect e x ca da cb db at met_it (ap (λ u. is_alone (UnitOp u)) e) (6 + size_of m.ram / 2 - 1) refl refl refl refl none
+  unit_crossing n OwnId e x ca da cb db at met_it none = tell_crossing n OwnId e x ca da cb db at met_it (ap (λ u. is_alone (UnitOp u)) e) m.id refl refl refl refl none
+  unit_crossing n CallerId e x ca da cb db at met_it none = tell_crossing n CallerId e x ca da cb db at met_it (ap (λ u. is_alone (UnitOp u)) e) caller refl refl refl refl none
   unit_crossing n _ e x ca da cb db at met_it none = absurd cc
 
   -- ---- any instruction

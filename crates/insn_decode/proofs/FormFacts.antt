@@ -27,7 +27,7 @@ means_form {w0} (format_one op s d c src dst) = (source_parts (omega arith) src,
 means_form {w0} (format_two op a h c src fits) = (source_parts (omega arith) src, fits)
 means_form {w0} (jump h) = omega arith
 means_form (return h) = tt
-means_form (unit n k h) = k
+means_form (unit name h) = tt
 
 pub decoded_form : (insn : Insn) → IsDecoded insn → HasForm insn
 decoded_form insn d = means_form (insn_means d.first d.second d.third insn d.means)

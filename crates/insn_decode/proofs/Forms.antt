@@ -1,9 +1,11 @@
 -- Which part of the code table a first word belongs to.
-use Rattle.std.proofs.Common.{◌≡◌, ◌≢◌, ℕ, ◌-◌, ◌/◌, ◌<◌, ◌%◌, refl, arith, Some, None}
+use Rattle.std.proofs.Common.{◌≡◌, ◌≢◌, ℕ, ◌-◌, ◌/◌, ◌<◌, ◌%◌, refl, ap, sym, arith, Option, Some, None}
 use Rattle.std.proofs.lemmas.Bool.Decides.{nat_tests}
-use Rattle.std.specs.Prelude.{slice_get}
+use Rattle.std.specs.Prelude.{slice_get, option_map}
+use Rattle.insn_decode.specs.declared.insn.UnitName.{UnitName}
+use Rattle.insn_decode.specs.declared.insn.Insn.{Insn}
 use Rattle.insn_decode.specs.declared.insn.Insn.TheVariants.{Jump, Reti, Unit as UnitOp}
-use Rattle.insn_decode.specs.Code.{insn_of, two_of, one_of, two_ops, one_ops, offset_of}
+use Rattle.insn_decode.specs.Code.{insn_of, two_of, one_of, two_ops, one_ops, unit_ops, offset_of}
 
 pub form_two : (w0 w1 w2 : ℕ) → 16383 < w0 → insn_of w0 w1 w2 ≡ two_of (slice_get two_ops (w0 / 4096 - 4)) w0 w1 w2
 unfolding insn_of
@@ -17,7 +19,7 @@ pub form_return : (w1 w2 : ℕ) → insn_of 4864 w1 w2 ≡ Some Reti
 unfolding insn_of
 form_return w1 w2 = refl
 
-pub form_unit : (w0 w1 w2 : ℕ) → 4991 < w0 → w0 < 4999 → insn_of w0 w1 w2 ≡ Some (UnitOp (w0 - 4992))
+pub form_unit : (w0 w1 w2 : ℕ) → 4991 < w0 → w0 < 4999 → insn_of w0 w1 w2 ≡ option_map UnitOp (slice_get unit_ops (w0 - 4992))
 unfolding insn_of
 form_unit w0 w1 w2 h k = grind (arith, nat_tests)
 
@@ -32,5 +34,9 @@ form_below w0 w1 w2 h = grind (arith, nat_tests)
 pub form_between : (w0 w1 w2 : ℕ) → 5119 < w0 → w0 < 8192 → insn_of w0 w1 w2 ≡ None
 unfolding insn_of
 form_between w0 w1 w2 h k = grind (arith, nat_tests)
+
+-- a unit instruction of the table
+pub unit_is : (o : Option UnitName) (name : UnitName) → o ≡ Some name → ◌≡◌ {A = Option Insn} (Some (UnitOp name)) (option_map UnitOp o)
+unit_is o name e = ap (option_map UnitOp) (sym e)
 
 pub ruleset forms = (form_two, form_jump, form_return, form_unit, form_one, form_below, form_between)

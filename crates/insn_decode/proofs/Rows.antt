@@ -9,10 +9,12 @@ use Rattle.insn_decode.specs.declared.insn.TwoOp.{TwoOp}
 use Rattle.insn_decode.specs.declared.insn.TwoOp.TheVariants.{Mov, Add, Addc, Subc, Sub, Cmp, Dadd, Bit, Bic, Bis, Xor, And}
 use Rattle.insn_decode.specs.declared.insn.OneOp.{OneOp}
 use Rattle.insn_decode.specs.declared.insn.OneOp.TheVariants.{Rrc, Swpb, Rra, Sxt, Push, Call}
+use Rattle.insn_decode.specs.declared.insn.UnitName.{UnitName}
+use Rattle.insn_decode.specs.declared.insn.UnitName.TheVariants.{Unprotect, Protect, Attest, Tag, IdOf, OwnId, CallerId}
 use Rattle.insn_decode.specs.declared.insn.Operand.{Operand}
 use Rattle.insn_decode.specs.declared.insn.Operand.TheVariants.{Reg, Const, Imm, Indexed, Symbolic, Absolute, Indirect, Increment}
-use Rattle.insn_decode.specs.Code.{source_row, source_of, dest_of, two_ops, one_ops}
-use Rattle.insn_decode.specs.Means.{two_code, one_code, IsPlain, Source, register, symbolic, absolute, indexed, indirect, increment, immediate, four, eight, nought, one, two, all_ones, Destination, to_register, to_symbolic, to_absolute, to_indexed}
+use Rattle.insn_decode.specs.Code.{source_row, source_of, dest_of, two_ops, one_ops, unit_ops}
+use Rattle.insn_decode.specs.Means.{two_code, one_code, unit_code, IsPlain, Source, register, symbolic, absolute, indexed, indirect, increment, immediate, four, eight, nought, one, two, all_ones, Destination, to_register, to_symbolic, to_absolute, to_indexed}
 
 pub apart : {A : Type 0} {P : Type 0} (o : Option A) (x : A) → o ≡ None → o ≡ Some x → P
 apart o x e f = cc
@@ -141,3 +143,17 @@ one_read (suc (suc (suc zero))) op e = ap one_code (same_Some Sxt op e)
 one_read (suc (suc (suc (suc zero)))) op e = ap one_code (same_Some Push op e)
 one_read (suc (suc (suc (suc (suc zero))))) op e = ap one_code (same_Some Call op e)
 one_read (suc (suc (suc (suc (suc (suc k)))))) op e = absurd cc
+
+pub unit_found : (name : UnitName) → slice_get unit_ops (unit_code name) ≡ Some name
+unit_found Unprotect = refl
+unit_found _ = refl
+
+pub unit_read : (k : ℕ) (name : UnitName) → slice_get unit_ops k ≡ Some name → k ≡ unit_code name
+unit_read zero name e = ap unit_code (same_Some Unprotect name e)
+unit_read (suc zero) name e = ap unit_code (same_Some Protect name e)
+unit_read (suc (suc zero)) name e = ap unit_code (same_Some Attest name e)
+unit_read (suc (suc (suc zero))) name e = ap unit_code (same_Some Tag name e)
+unit_read (suc (suc (suc (suc zero)))) name e = ap unit_code (same_Some IdOf name e)
+unit_read (suc (suc (suc (suc (suc zero))))) name e = ap unit_code (same_Some OwnId name e)
+unit_read (suc (suc (suc (suc (suc (suc zero)))))) name e = ap unit_code (same_Some CallerId name e)
+unit_read (suc (suc (suc (suc (suc (suc (suc k))))))) name e = absurd cc

@@ -1,19 +1,21 @@
 -- The code table as a function and as a relation are one.
 use Rattle.std.proofs.Common.{◌≡◌, ◌≢◌, ⊎_elim, ℕ, ◌+◌, ◌-◌, ◌/◌, ◌<◌, ◌≤◌, ◌%◌, refl, sym, ap, ◌∙◌, subst, arith, Bool, true, false, cond, ◌==◌, Option, Some, None}
 use Rattle.std.proofs.lemmas.Bool.{cases_eq, cases_lt}
-use Rattle.std.specs.Prelude.{slice_get, option_and_then}
+use Rattle.std.specs.Prelude.{slice_get, option_and_then, option_map}
 use Rattle.std.proofs.lemmas.Option.{same_Some}
 use Rattle.insn_decode.specs.declared.insn.TwoOp.{TwoOp}
 use Rattle.insn_decode.specs.declared.insn.TwoOp.TheVariants.{Mov}
 use Rattle.insn_decode.specs.declared.insn.OneOp.{OneOp}
 use Rattle.insn_decode.specs.declared.insn.OneOp.TheVariants.{Rrc}
+use Rattle.insn_decode.specs.declared.insn.UnitName.{UnitName}
+use Rattle.insn_decode.specs.declared.insn.UnitName.TheVariants.{Unprotect}
 use Rattle.insn_decode.specs.declared.insn.Operand.{Operand}
 use Rattle.insn_decode.specs.declared.insn.Insn.{Insn}
 use Rattle.insn_decode.specs.declared.insn.Insn.TheVariants.{Two, One, Jump, Reti, Unit as UnitOp}
-use Rattle.insn_decode.specs.Code.{insn_of, two_of, one_of, one_fits, two_ops, one_ops, offset_of, source_of, dest_of, width_of, words_of, length_of}
-use Rattle.insn_decode.specs.Means.{two_code, one_code, Source, Means, format_one, format_two, jump, return, unit}
+use Rattle.insn_decode.specs.Code.{insn_of, two_of, one_of, one_fits, two_ops, one_ops, unit_ops, offset_of, source_of, dest_of, width_of, words_of, length_of}
+use Rattle.insn_decode.specs.Means.{two_code, one_code, unit_code, Source, Means, format_one, format_two, jump, return, unit}
 use Rattle.insn_decode.proofs.Forms.{form_two, form_jump, form_return, form_unit, form_one, form_below, form_between}
-use Rattle.insn_decode.proofs.Rows.{apart, source_found, source_read, destination_found, destination_read, two_found, two_read, one_found, one_read}
+use Rattle.insn_decode.proofs.Rows.{apart, source_found, source_read, destination_found, destination_read, two_found, two_read, one_found, one_read, unit_found, unit_read}
 
 -- ---- what the function gives stands in the relation
 
@@ -53,6 +55,12 @@ one_means w0 w1 w2 insn h = with_op (slice_get one_ops ((w0 / 128) % 8)) refl
     with_op None q e = absurd cc
     with_op (Some op) q e = with_source op (one_read ((w0 / 128) % 8) op q) (source_of ((w0 / 16) % 4) (w0 % 16) w1) refl e
 
+unit_means : (w0 w1 w2 : ℕ) (insn : Insn) → 4991 < w0 → (o : Option UnitName) → slice_get unit_ops (w0 - 4992) ≡ o → option_map UnitOp o ≡ Some insn → Means w0 w1 w2 insn (length_of insn)
+unit_means w0 w1 w2 insn h None q e = absurd cc
+unit_means w0 w1 w2 insn h (Some name) q e =
+    let c : w0 - 4992 ≡ unit_code name = unit_read (w0 - 4992) name q in
+    subst (λ (i : Insn). Means w0 w1 w2 i (length_of i)) (same_Some (UnitOp name) insn e) (unit name (omega arith))
+
 pub insn_means : (w0 w1 w2 : ℕ) (insn : Insn) → insn_of w0 w1 w2 ≡ Some insn → Means w0 w1 w2 insn (length_of insn)
 insn_means w0 w1 w2 insn e =
     ⊎_elim (λ (h : w0 < 4096). apart (insn_of w0 w1 w2) insn (form_below w0 w1 w2 h) e)
@@ -66,7 +74,7 @@ insn_means w0 w1 w2 insn e =
     above : 4096 ≤ w0 → w0 < 5120 → w0 ≢ 4864 → 4991 < w0 → Means w0 w1 w2 insn (length_of insn)
     above a h n u =
         ⊎_elim (λ (k : w0 < 4999).
-        subst (λ (i : Insn). Means w0 w1 w2 i (length_of i)) (same_Some (UnitOp (w0 - 4992)) insn (sym (form_unit w0 w1 w2 u k) ∙ e)) (unit (w0 - 4992) (omega arith) (omega arith)))
+        unit_means w0 w1 w2 insn u (slice_get unit_ops (w0 - 4992)) refl (sym (form_unit w0 w1 w2 u k) ∙ e))
         (λ (k : 4999 ≤ w0). one_means w0 w1 w2 insn (omega arith) (sym (form_one w0 w1 w2 (omega arith) h n (λ _. omega arith)) ∙ e))
         (cases_lt w0 4999)
 
@@ -89,6 +97,10 @@ two_code_least _ = omega arith
 one_code_most : (op : OneOp) → one_code op < 6
 one_code_most Rrc = omega arith
 one_code_most _ = omega arith
+
+unit_code_most : (name : UnitName) → unit_code name < 7
+unit_code_most Unprotect = omega arith
+unit_code_most _ = omega arith
 
 pub means_insn : {w0 w1 w2 : ℕ} {insn : Insn} {n : ℕ} → Means w0 w1 w2 insn n → (insn_of w0 w1 w2 ≡ Some insn) × (n ≡ length_of insn)
 means_insn {w0} {w1} {w2} (format_one op s d c src dst) =
@@ -114,4 +126,7 @@ means_insn {w0} {w1} {w2} (format_two op a h c src fits) = (
     beyond op c e = let b : one_code op < 6 = one_code_most op in absurd (omega arith)
 means_insn {w0} {w1} {w2} (jump h) = (form_jump w0 w1 w2 (omega arith) (omega arith), refl)
 means_insn {w0} {w1} {w2} (return h) = (subst (λ (w : ℕ). insn_of w w1 w2 ≡ Some Reti) (sym h) (form_return w1 w2), refl)
-means_insn {w0} {w1} {w2} (unit n k h) = (form_unit w0 w1 w2 (omega arith) (omega arith) ∙ ap (λ (m : ℕ). Some (UnitOp m)) (omega arith), refl)
+means_insn {w0} {w1} {w2} (unit name h) =
+    let most : unit_code name < 7 = unit_code_most name in
+    let number : w0 - 4992 ≡ unit_code name = omega arith in
+    (form_unit w0 w1 w2 (omega arith) (omega arith) ∙ ap (λ (k : ℕ). option_map UnitOp (slice_get unit_ops k)) number ∙ ap (option_map UnitOp) (unit_found name), refl)

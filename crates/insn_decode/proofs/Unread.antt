@@ -97,7 +97,7 @@ other_words {w0} {w1} {w2} v1 v2 (format_two op a h c src fits) =
     (format_two op (with_word a v1) h c (other_source v1 src) (fits_same op (width_of ((w0 / 64) % 2)) a v1 ∙ fits))
 other_words v1 v2 (jump h) = jump h
 other_words v1 v2 (return h) = return h
-other_words v1 v2 (unit n k h) = unit n k h
+other_words v1 v2 (unit name h) = unit name h
 
 -- ---- words past the length
 
@@ -131,7 +131,7 @@ revised_long {w0} {w1} {w2} v2 h (format_one op s d c src dst) =
 revised_long {w0} {w1} {w2} v2 h (format_two op a l c src fits) = ap (λ (o : Operand). One op (width_of ((w0 / 64) % 2)) o) (own_source src)
 revised_long v2 h (jump k) = refl
 revised_long v2 h (return k) = refl
-revised_long v2 h (unit n k l) = refl
+revised_long v2 h (unit name k) = refl
 
 pub unread_both : (w0 w1 w2 v1 v2 : ℕ) → length_at w0 ≤ 1 → insn_of w0 v1 v2 ≡ insn_of w0 w1 w2
 unread_both w0 w1 w2 v1 v2 h = by (insn_of w0 w1 w2) refl

@@ -1,6 +1,6 @@
 -- The code table: what the words of an instruction mean, by quotients and remainders of the first
 -- (MSP430x1xx Family User's Guide SLAU049, sections 3.3 and 3.4; the unit instructions are this project's).
-use Rattle.std.specs.Prelude.{◌≡◌, ℕ, zero, suc, ◌+◌, ◌-◌, ◌*◌, ◌/◌, ◌%◌, ◌^◌, ◌<◌, List, [], ◌∷◌, slice_get, ◌==◌, nat_lt, if◌then◌else◌, Bool, true, false, ◌&&◌, ◌||◌, Option, Some, None, option_and_then, ℤ, pos, negsuc, ◌-ℤ◌, IsTrue}
+use Rattle.std.specs.Prelude.{◌≡◌, ℕ, zero, suc, ◌+◌, ◌-◌, ◌*◌, ◌/◌, ◌%◌, ◌^◌, ◌<◌, List, [], ◌∷◌, slice_get, ◌==◌, nat_lt, if◌then◌else◌, Bool, true, false, ◌&&◌, ◌||◌, Option, Some, None, option_and_then, option_map, ℤ, pos, negsuc, ◌-ℤ◌, IsTrue}
 use Rattle.sm_words.specs.Words.{nth}
 use Rattle.sm_words.specs.declared.registers.TheConstants.{PC, SR, CG}
 use Rattle.sm_words.specs.declared.width.Width.{Width}
@@ -11,6 +11,8 @@ use Rattle.insn_decode.specs.declared.insn.OneOp.{OneOp}
 use Rattle.insn_decode.specs.declared.insn.OneOp.TheVariants.{Rrc, Swpb, Rra, Sxt, Push, Call}
 use Rattle.insn_decode.specs.declared.insn.Operand.{Operand}
 use Rattle.insn_decode.specs.declared.insn.Operand.TheVariants.{Reg, Const, Imm, Indexed, Symbolic, Absolute, Indirect, Increment}
+use Rattle.insn_decode.specs.declared.insn.UnitName.{UnitName}
+use Rattle.insn_decode.specs.declared.insn.UnitName.TheVariants.{Unprotect, Protect, Attest, Tag, IdOf, OwnId, CallerId}
 use Rattle.insn_decode.specs.declared.insn.Insn.{Insn}
 use Rattle.insn_decode.specs.declared.insn.Insn.TheVariants.{Two, One, Jump, Reti, Unit as UnitOp}
 
@@ -65,6 +67,10 @@ two_ops = Mov ∷ Add ∷ Addc ∷ Subc ∷ Sub ∷ Cmp ∷ Dadd ∷ Bit ∷ Bic
 abbrev pub one_ops : List OneOp
 one_ops = Rrc ∷ Swpb ∷ Rra ∷ Sxt ∷ Push ∷ Call ∷ []
 
+-- the unit instructions, from 0x1380 on
+abbrev pub unit_ops : List UnitName
+unit_ops = Unprotect ∷ Protect ∷ Attest ∷ Tag ∷ IdOf ∷ OwnId ∷ CallerId ∷ []
+
 -- where a part has no meaning, the whole has none
 infixl 10 ◌>>=◌
 abbrev pub ◌>>=◌ : {A B : Type 0} → Option A → (A → Option B) → Option B
@@ -111,7 +117,7 @@ insn_of w0 w1 w2 =
     if nat_lt 0x3fff w0 then two_of (slice_get two_ops (w0 / 4096 - 4)) w0 w1 w2
     else (if w0 / 8192 == 1 then Some (Jump (bits 12 10 w0) (offset_of (bits 9 0 w0)))
     else (if w0 == 0x1300 then Some Reti
-    else (if nat_lt 0x137f w0 && nat_lt w0 0x1387 then Some (UnitOp (w0 - 0x1380))
+    else (if nat_lt 0x137f w0 && nat_lt w0 0x1387 then option_map UnitOp (slice_get unit_ops (w0 - 0x1380))
     else (if w0 / 1024 == 4 then one_of (slice_get one_ops (bits 9 7 w0)) w0 w1
     else None))))
 
@@ -137,7 +143,7 @@ pub record IsDecoded (insn : Insn) : Type 0 where
 
 -- whether it is one of the unit instructions
 abbrev pub is_unit : Insn → Bool
-is_unit (UnitOp n) = true
+is_unit (UnitOp name) = true
 is_unit _ = false
 
 -- whether a number needs no extension word
@@ -158,5 +164,4 @@ abbrev pub HasForm : Insn → Type 0
 HasForm (Two op w s d) = HasParts s × HasParts d
 HasForm (One op w a) = HasParts a × IsTrue (one_fits op w a)
 HasForm (Jump cond offset) = cond < 8
-HasForm Reti = Unit {0}
-HasForm (UnitOp n) = n < 7
+HasForm _ = Unit {0}

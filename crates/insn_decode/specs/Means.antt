@@ -6,6 +6,8 @@ use Rattle.insn_decode.specs.declared.insn.OneOp.{OneOp}
 use Rattle.insn_decode.specs.declared.insn.OneOp.TheVariants.{Rrc, Swpb, Rra, Sxt, Push, Call}
 use Rattle.insn_decode.specs.declared.insn.Operand.{Operand}
 use Rattle.insn_decode.specs.declared.insn.Operand.TheVariants.{Reg, Const, Imm, Indexed, Symbolic, Absolute, Indirect, Increment}
+use Rattle.insn_decode.specs.declared.insn.UnitName.{UnitName}
+use Rattle.insn_decode.specs.declared.insn.UnitName.TheVariants.{Unprotect, Protect, Attest, Tag, IdOf, OwnId, CallerId}
 use Rattle.insn_decode.specs.declared.insn.Insn.{Insn}
 use Rattle.insn_decode.specs.declared.insn.Insn.TheVariants.{Two, One, Jump, Reti, Unit as UnitOp}
 use Rattle.insn_decode.specs.Code.{words_of, width_of, offset_of, one_fits}
@@ -33,6 +35,16 @@ one_code Rra = 2
 one_code Sxt = 3
 one_code Push = 4
 one_code Call = 5
+
+-- the number of a unit instruction: its word is 0x1380 and the number
+abbrev pub unit_code : UnitName → ℕ
+unit_code Unprotect = 0
+unit_code Protect = 1
+unit_code Attest = 2
+unit_code Tag = 3
+unit_code IdOf = 4
+unit_code OwnId = 5
+unit_code CallerId = 6
 
 -- R1 and R4 to R15, which have no modes of their own
 pub record IsPlain (r : ℕ) : Type 0 where
@@ -69,7 +81,7 @@ pub data Means (w0 w1 w2 : ℕ) : Insn → ℕ → Type 0 where
   format_two : (op : OneOp) (a : Operand) → w0 / 1024 ≡ 4 → (w0 / 128) % 8 ≡ one_code op → Source ((w0 / 16) % 4) (w0 % 16) w1 a → IsTrue (one_fits op (width_of ((w0 / 64) % 2)) a) → Means w0 w1 w2 (One op (width_of ((w0 / 64) % 2)) a) (1 + words_of a)
   jump : w0 / 8192 ≡ 1 → Means w0 w1 w2 (Jump ((w0 / 1024) % 8) (offset_of (w0 % 1024))) 1
   return : w0 ≡ 0x1300 → Means w0 w1 w2 Reti 1
-  unit : (n : ℕ) → n < 7 → w0 ≡ 0x1380 + n → Means w0 w1 w2 (UnitOp n) 1
+  unit : (name : UnitName) → w0 ≡ 0x1380 + unit_code name → Means w0 w1 w2 (UnitOp name) 1
 
 -- no row of the table has this first word, whatever words follow it
 abbrev pub IsOutside : ℕ → Type 0

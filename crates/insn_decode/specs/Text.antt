@@ -14,6 +14,7 @@ use Rattle.insn_decode.specs.declared.insn.Operand.TheVariants.{Reg, Const, Imm,
 use Rattle.insn_decode.specs.declared.insn.Insn.{Insn}
 use Rattle.insn_decode.specs.declared.insn.Insn.TheVariants.{Two, One, Jump, Reti, Unit as UnitOp}
 use Rattle.insn_decode.specs.Code.{words_of, distance}
+use Rattle.insn_decode.specs.Means.{unit_code}
 
 abbrev pub two_name : TwoOp → List ℕ
 two_name Mov = codes "mov"
@@ -70,4 +71,4 @@ insn_text (Two op w s d) at = two_name op ++ suffix_of w ++ codes " " ++ operand
 insn_text (One op w a) at = one_name op ++ suffix_of w ++ codes " " ++ operand_text a (add16 at 2)
 insn_text (Jump cond offset) at = jump_name cond ++ codes " " ++ hex_text (add16 (add16 at 2) (distance offset))
 insn_text Reti at = codes "reti"
-insn_text (UnitOp n) at = codes "unit " ++ decimal n
+insn_text (UnitOp name) at = codes "unit " ++ decimal (unit_code name)

@@ -1,9 +1,10 @@
 //! The decoder.
-ghost use Rattle.std.specs.Prelude.{◌≡◌, ◌+◌, ◌-◌, ◌/◌, ◌%◌, ◌≤◌, ◌<◌, ◌≢◌, ◌↔◌, ℕ, slice_get, IfSome, IsNone, Some};
-ghost use Rattle.insn_decode.specs.Code.{source_of, dest_of, width_of, two_ops, one_ops, one_fits, offset_of, insn_of, two_of, one_of, length_of, length_at, IsDecoded, HasForm};
+ghost use Rattle.std.specs.Prelude.{◌≡◌, ◌+◌, ◌-◌, ◌/◌, ◌%◌, ◌≤◌, ◌<◌, ◌≢◌, ◌↔◌, ℕ, slice_get, IfSome, IsNone, Some, option_map};
+ghost use Rattle.insn_decode.specs.declared.insn.Insn.TheVariants.{Unit as UnitOp};
+ghost use Rattle.insn_decode.specs.Code.{source_of, dest_of, width_of, two_ops, one_ops, unit_ops, one_fits, offset_of, insn_of, two_of, one_of, length_of, length_at, IsDecoded, HasForm};
 ghost use Rattle.insn_decode.specs.Means.{IsOutside};
 
-use crate::insn::{Insn, OneOp, Operand, TwoOp};
+use crate::insn::{Insn, OneOp, Operand, TwoOp, UnitName};
 use sm_words::Width;
 
 /// The instruction that begins with these three words, or `None` exactly where the first is outside the
@@ -49,7 +50,7 @@ fn by_form(w0: u16, w1: u16, w2: u16) -> Option<Insn>
             offset: offset(w0 % 1024),
         }),
         0x1300 => Some(Insn::Reti),
-        0x1380..=0x1386 => Some(Insn::Unit((w0 - 0x1380) as u8)),
+        0x1380..=0x1386 => decode_unit(w0 - 0x1380),
         0x1000..=0x13ff => decode_one(w0, w1),
         _ => None,
     }
@@ -86,6 +87,15 @@ fn decode_one(w0: u16, w1: u16) -> Option<Insn>
     } else {
         None
     }
+}
+
+/// The unit instruction of this number.
+#[tactic(auto, using(crate::proofs::Forms::unit_is))]
+fn decode_unit(number: u16) -> Option<Insn>
+    requires { number < 7 }
+    ensures { result ≡ option_map UnitOp (slice_get unit_ops number) }
+{
+    Some(Insn::Unit(UnitName::from_number(number)))
 }
 
 /// The operation of format I with this opcode.

@@ -1,6 +1,7 @@
 //! The instructions.
-ghost use Rattle.std.specs.Prelude.{◌≡◌};
-ghost use Rattle.insn_decode.specs.Code.{words_of, length_of};
+ghost use Rattle.std.specs.Prelude.{◌≡◌, ◌<◌, slice_get, Some};
+ghost use Rattle.insn_decode.specs.Code.{words_of, length_of, unit_ops};
+ghost use Rattle.insn_decode.specs.Means.{unit_code};
 
 use sm_words::Width;
 
@@ -30,6 +31,25 @@ pub enum OneOp {
     Sxt,
     Push,
     Call,
+}
+
+/// The unit instructions, by their words from 0x1380 on.
+#[derive(Clone, Copy, PartialEq, Eq, Debug)]
+pub enum UnitName {
+    /// The running module gives itself up.
+    Unprotect,
+    /// A new module is made.
+    Protect,
+    /// Another module is known by its tag.
+    Attest,
+    /// A message is tagged.
+    Tag,
+    /// The id of the module at an address is told.
+    IdOf,
+    /// The running module's id is told.
+    OwnId,
+    /// Its caller's id is told.
+    CallerId,
 }
 
 /// Where an operand's value is. A register is given by its number, 0 to 15.
@@ -76,8 +96,42 @@ pub enum Insn {
     },
     /// The return from an interrupt.
     Reti,
-    /// The unit instruction of this number, 0 to 6, as in [`crate::units`].
-    Unit(u8),
+    /// A unit instruction.
+    Unit(UnitName),
+}
+
+impl UnitName {
+    /// The unit instruction whose word is 0x1380 and this number.
+    pub fn from_number(number: u16) -> UnitName
+        requires { number < 7 }
+        ensures { slice_get unit_ops number ≡ Some result }
+    {
+        match number {
+            0 => UnitName::Unprotect,
+            1 => UnitName::Protect,
+            2 => UnitName::Attest,
+            3 => UnitName::Tag,
+            4 => UnitName::IdOf,
+            5 => UnitName::OwnId,
+            _ => UnitName::CallerId,
+        }
+    }
+
+    /// Its number, 0 to 6.
+    pub fn number(self) -> u8
+        ensures exact { result ≡ unit_code self }
+        ensures most { result < 7 }
+    {
+        match self {
+            UnitName::Unprotect => 0,
+            UnitName::Protect => 1,
+            UnitName::Attest => 2,
+            UnitName::Tag => 3,
+            UnitName::IdOf => 4,
+            UnitName::OwnId => 5,
+            UnitName::CallerId => 6,
+        }
+    }
 }
 
 impl Operand {

@@ -7,8 +7,7 @@ mod decoder;
 mod insn;
 pub mod laws;
 mod text;
-pub mod units;
 
 pub use decoder::{decode, length};
-pub use insn::{Insn, OneOp, Operand, TwoOp};
+pub use insn::{Insn, OneOp, Operand, TwoOp, UnitName};
 pub use text::show;

@@ -46,9 +46,9 @@ fn push_insn(insn: &Insn, at: u16, out: &mut ArrayString<48>)
             push_word(plus(plus(at, 2), distance(offset)), out);
         }
         Insn::Reti => out.push_str("reti"),
-        Insn::Unit(n) => {
+        Insn::Unit(name) => {
             out.push_str("unit ");
-            push_decimal(n, out);
+            push_decimal(name.number(), out);
         }
     }
 }

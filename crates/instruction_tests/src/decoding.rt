@@ -1,6 +1,6 @@
 //! First words of each row of the table, words outside it, and the text of instructions.
 use arrayvec::ArrayString;
-use insn_decode::{Insn, OneOp, Operand, TwoOp, decode, length, show};
+use insn_decode::{Insn, OneOp, Operand, TwoOp, UnitName, decode, length, show};
 use sm_words::Width;
 use std::process::Abort;
 
@@ -137,8 +137,8 @@ fn single_operands(rt: HostRuntime) {
 fn the_rest(rt: HostRuntime) {
     let rows = [
         (0x1300, Some(Insn::Reti)),
-        (0x1380, Some(Insn::Unit(0))),
-        (0x1386, Some(Insn::Unit(6))),
+        (0x1380, Some(Insn::Unit(UnitName::Unprotect))),
+        (0x1386, Some(Insn::Unit(UnitName::CallerId))),
         (0x2000, jump(0, 0)),
         (0x2400, jump(1, 0)),
         (0x2800, jump(2, 0)),

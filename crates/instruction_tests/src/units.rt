@@ -1,6 +1,7 @@
 //! Rows of the unit instructions, and tags that another tool computed.
 
 use attest::{UnitDone, Who, unit};
+use insn_decode::UnitName;
 use mem_map::Memory;
 use mod_layout::{ModuleTable, Section};
 use pc_access::{Denied, Rule};
@@ -119,7 +120,8 @@ fn short_rows(rt: HostRuntime) -> Result<(), Fail> {
             let mut core = core(7, 0x0400, 0x03fe, 0x0402, 0xeeee);
             // Only unprotect inside closes.
             let closing = r15 == 0xeeee;
-            let answer = unit(op, &mut core, &mut memory, &mut table, who, &NODE_KEY);
+            let name = UnitName::from_number(u16::from(op));
+            let answer = unit(name, &mut core, &mut memory, &mut table, who, &NODE_KEY);
             assert_eq!(rt; answer, Ok(done(cycles, closing, 0)), "{op}");
             assert_eq!(rt; (core.get(15), core.get(0)), (r15, 0x0300), "{op}");
         }
@@ -139,38 +141,38 @@ fn ranges(rt: HostRuntime) -> Result<(), Fail> {
     let text = denied(Rule::WriteText, 0x0300, 1);
     let rows = [
         // attest of module 2 by the 16 bytes at R13.
-        (2, 0x0702, 0x01ff, 0, nothing),
-        (2, 0x0702, 0xfff1, 0, nothing),
-        (2, 0x0702, 0xfff0, 0, Ok((0, 262))),
-        (2, 0x0702, 0x0780, 0, read),
-        (2, 0x0702, 0x0779, 0, read),
-        (2, 0x0702, 0x0771, 0, read),
+        (UnitName::Attest, 0x0702, 0x01ff, 0, nothing),
+        (UnitName::Attest, 0x0702, 0xfff1, 0, nothing),
+        (UnitName::Attest, 0x0702, 0xfff0, 0, Ok((0, 262))),
+        (UnitName::Attest, 0x0702, 0x0780, 0, read),
+        (UnitName::Attest, 0x0702, 0x0779, 0, read),
+        (UnitName::Attest, 0x0702, 0x0771, 0, read),
         // tag of R12 to R13 at R14.
-        (3, 0x01fe, 0x0300, 0x0402, nothing),
-        (3, 0x01fe, 0x01fe, 0x0402, nothing),
-        (3, 0x0402, 0x0400, 0x0402, nothing),
-        (3, 0x0400, 0x0402, 0x01fe, nothing),
-        (3, 0x0400, 0x0402, 0xfff1, nothing),
-        (3, 0x0400, 0x0400, 0xfff0, Ok((1, 262))),
-        (3, 0x0780, 0x0784, 0x0402, read),
-        (3, 0x077e, 0x0784, 0x0402, read),
-        (3, 0x077e, 0x0781, 0x0402, read),
-        (3, 0x0400, 0x0402, 0x0300, text),
-        (3, 0x0400, 0x0402, 0x02f8, text),
-        (3, 0x0400, 0x0402, 0x02f1, text),
-        (3, 0x0400, 0x0402, 0x0782, Ok((1, 262))),
+        (UnitName::Tag, 0x01fe, 0x0300, 0x0402, nothing),
+        (UnitName::Tag, 0x01fe, 0x01fe, 0x0402, nothing),
+        (UnitName::Tag, 0x0402, 0x0400, 0x0402, nothing),
+        (UnitName::Tag, 0x0400, 0x0402, 0x01fe, nothing),
+        (UnitName::Tag, 0x0400, 0x0402, 0xfff1, nothing),
+        (UnitName::Tag, 0x0400, 0x0400, 0xfff0, Ok((1, 262))),
+        (UnitName::Tag, 0x0780, 0x0784, 0x0402, read),
+        (UnitName::Tag, 0x077e, 0x0784, 0x0402, read),
+        (UnitName::Tag, 0x077e, 0x0781, 0x0402, read),
+        (UnitName::Tag, 0x0400, 0x0402, 0x0300, text),
+        (UnitName::Tag, 0x0400, 0x0402, 0x02f8, text),
+        (UnitName::Tag, 0x0400, 0x0402, 0x02f1, text),
+        (UnitName::Tag, 0x0400, 0x0402, 0x0782, Ok((1, 262))),
         (
-            3,
+            UnitName::Tag,
             0x0400,
             0x0402,
             0x0781,
             denied(Rule::WriteData, 0x0781, 2),
         ),
     ];
-    for (op, r12, r13, r14, want) in rows {
+    for (name, r12, r13, r14, want) in rows {
         let mut core = core(7, r12, r13, r14, 0xeeee);
         let answer = unit(
-            op % 7,
+            name,
             &mut core,
             &mut memory,
             &mut table,
@@ -178,7 +180,7 @@ fn ranges(rt: HostRuntime) -> Result<(), Fail> {
             &NODE_KEY,
         );
         let got = answer.map(|done| (core.get(15), done.cycles));
-        assert_eq!(rt; got, want, "{op} {r12:04x} {r13:04x} {r14:04x}");
+        assert_eq!(rt; got, want, "{r12:04x} {r13:04x} {r14:04x}");
     }
     Ok(())
 }
@@ -189,7 +191,7 @@ fn tags(rt: HostRuntime) -> Result<(), Fail> {
     let mut table = two_modules()?;
     // The message, the two bytes at 0x0400, is read before its tag is written over it.
     let mut tagging = core(7, 0x0400, 0x0402, 0x0400, 0);
-    let answer = unit(3, &mut tagging, &mut memory, &mut table, INSIDE, &NODE_KEY);
+    let answer = unit(UnitName::Tag, &mut tagging, &mut memory, &mut table, INSIDE, &NODE_KEY);
     assert_eq!(rt; (answer, tagging.get(15)), (Ok(done(262, false, 0)), 1));
     for (addr, byte) in (0x0400..).zip(TAG) {
         assert_eq!(rt; memory.byte(addr), byte, "at {addr:04x}");
@@ -202,7 +204,7 @@ fn tags(rt: HostRuntime) -> Result<(), Fail> {
         memory.set_byte(0x0411, last);
         let mut attesting = core(7, 0x0702, 0x0402, 0, 0xeeee);
         let answer = unit(
-            2,
+            UnitName::Attest,
             &mut attesting,
             &mut memory,
             &mut table,
@@ -224,7 +226,7 @@ fn protected_and_closed(rt: HostRuntime) -> Result<(), Fail> {
     memory.set_byte(0x0a40, 1);
     let mut protecting = core(9, 0x0900, 0x0902, 0x0a00, 0x0a40);
     let answer = unit(
-        1,
+        UnitName::Protect,
         &mut protecting,
         &mut memory,
         &mut table,
@@ -246,10 +248,10 @@ fn protected_and_closed(rt: HostRuntime) -> Result<(), Fail> {
         caller: 0,
     };
     let mut closing = core(0, 0, 0, 0, 0xeeee);
-    let answer = unit(0, &mut closing, &mut memory, &mut table, who, &NODE_KEY);
+    let answer = unit(UnitName::Unprotect, &mut closing, &mut memory, &mut table, who, &NODE_KEY);
     assert_eq!(rt; (answer, closing.get(15)), (Ok(done(38, true, 0)), 0xeeee));
     // Its own caller is none.
-    let answer = unit(6, &mut closing, &mut memory, &mut table, who, &NODE_KEY);
+    let answer = unit(UnitName::CallerId, &mut closing, &mut memory, &mut table, who, &NODE_KEY);
     assert_eq!(rt; (answer, closing.get(15)), (Ok(done(6, false, 0)), 0));
     Ok(())
 }
@@ -258,7 +260,7 @@ fn protected_and_closed(rt: HostRuntime) -> Result<(), Fail> {
 fn protect_ninth(memory: &mut Memory, table: &mut ModuleTable) -> (Option<UnitDone>, u16, bool) {
     memory.set_byte(0x2004, 1);
     let mut core = core(7, 0x2000, 0x2002, 0x2004, 0x2006);
-    let answer = unit(1, &mut core, memory, table, OUTSIDE, &NODE_KEY);
+    let answer = unit(UnitName::Protect, &mut core, memory, table, OUTSIDE, &NODE_KEY);
     (answer.ok(), core.get(15), table.get(9).is_some())
 }
 

@@ -8,7 +8,7 @@ use Rattle.insn_decode.specs.declared.insn.Insn.TheVariants.{Two, One, Jump, Ret
 use Rattle.insn_decode.specs.declared.insn.OneOp.TheVariants.{Push, Call}
 use Rattle.insn_decode.specs.declared.insn.Operand.{Operand}
 use Rattle.insn_decode.specs.declared.insn.Operand.TheVariants.{Reg, Increment}
-use Rattle.attest.specs.Units.{Doer, next, unit_named}
+use Rattle.attest.specs.Units.{Doer, next}
 use Rattle.attest.proofs.Moved.{unit_leaves}
 use Rattle.cpu_step.specs.Asked.{effect}
 use Rattle.cpu_step.specs.Effect.{into_register, written, does_freely, confined, confined_sr, does, set_flags, jumps, jumped}
@@ -66,7 +66,7 @@ module _ (P : List ℕ → Type 0) (keeps : (core : List ℕ) (n v : ℕ) → P 
 
   pub effect_keeps : (insn : Insn) (w : Doer) (core values : List ℕ) → P core → P (effect w insn core values).core
   unfolding effect
-  effect_keeps (UnitOp n) w core values h = unit_leaves core P (λ v. keeps (next core) 15 v (keeps core 0 _ h)) (keeps core 0 _ h) w (unit_named n) values
+  effect_keeps (UnitOp n) w core values h = unit_leaves core P (λ v. keeps (next core) 15 v (keeps core 0 _ h)) (keeps core 0 _ h) w n values
   effect_keeps insn w core values h = does_keeps insn core values (is_some w.own) h
 
 core_length : (insn : Insn) (core values : List ℕ) (n : ℕ) → length core ≡ n → length (does_freely insn core values).core ≡ n
@@ -94,6 +94,6 @@ unfolding effect
 effect_gie (UnitOp n) w core values e s len =
     let same = put_other core 0 (add16 (reg core 0) 2) (λ e. absurd (omega (arith, e))) in
     unit_leaves core (λ c. bit 8 (reg c 2) ≡ bit 8 (reg core 2)) (λ v. ap (bit 8) (put_other (next core) 15 v (λ e. absurd (omega (arith, e))) ∙ same))
-    (ap (bit 8) same) w (unit_named n) values
+    (ap (bit 8) same) w n values
 effect_gie Reti w core values e s len = cc
 effect_gie insn w core values e s len = inside_gie insn core values (is_some w.own) s len

@@ -23,10 +23,10 @@ use Rattle.reg_backup.specs.Saved.{closing_after}
 use Rattle.reg_backup.specs.declared.backup.Phase.TheVariants.{Run}
 use Rattle.attest.specs.Accesses.{is_read, is_write, reads_of, writes_of}
 use Rattle.attest.specs.Done.{own_of}
-use Rattle.attest.specs.Units.{Doer, UnitName, Unprotect, Protect, Attest, Tag, IdOf, OwnId, CallerId, unit_named, unit_plan, unit_effect, Effect, table_by}
+use Rattle.attest.specs.Units.{Doer, UnitName, Unprotect, Protect, Attest, Tag, IdOf, OwnId, CallerId, unit_plan, unit_effect, Effect, table_by}
 use Rattle.cpu_step.specs.Asked.{asks, effect, table_after}
 use Rattle.cpu_step.specs.Fetched.{later_word, insn_at, word_in, insn_from, insn_in}
-use Rattle.cpu_step.specs.Lone.{Job, Lone, lone_byte, lone_who, unit_alone, is_alone, is_inside, all_inside, lone_read, lone_write, lone_writes, may_do, next_insn, lone_does}
+use Rattle.cpu_step.specs.Lone.{Job, Lone, lone_byte, lone_who, is_alone, is_inside, all_inside, lone_read, lone_write, lone_writes, may_do, next_insn, lone_does}
 use Rattle.written_machine.specs.Cycle.{Step, pc_of, byte_of, at_home, home_word, is_home, who_of, port_of, made_events, perform, attempt, act_on, act_home, act_first, act}
 use Rattle.written_machine.specs.Peers.{section}
 use Rattle.written_machine.specs.Ports.{Port, read_in, read_byte, read_width, write_byte, write_width, take_reads, put_writes}
@@ -53,7 +53,7 @@ holds_next : (s : Section) (a : ℕ) → s.end % 2 ≡ 0 → a % 2 ≡ 0 → hol
 holds_next s a end even h = let p = ends_of s a h in holds_in s (a + 1) (omega (arith, p.0)) (omega (arith, p.1))
 
 -- ---- instructions that a module may do by itself do not look at the table
-unit_plan_alone : (x : UnitName) (w w' : Doer) (core : List ℕ) → unit_alone x ≡ true → w.own ≡ w'.own → unit_plan w x core ≡ unit_plan w' x core
+unit_plan_alone : (x : UnitName) (w w' : Doer) (core : List ℕ) → is_alone (UnitOp x) ≡ true → w.own ≡ w'.own → unit_plan w x core ≡ unit_plan w' x core
 unfolding unit_plan
 unit_plan_alone Protect w w' core e o = cc
 unit_plan_alone Attest w w' core e o = cc
@@ -63,10 +63,10 @@ unit_plan_alone _ w w' core e o = refl
 
 asks_alone : (insn : Insn) (w w' : Doer) (core : List ℕ) → is_alone insn ≡ true → w.own ≡ w'.own → asks w insn core ≡ asks w' insn core
 unfolding asks
-asks_alone (UnitOp n) w w' core e o = unit_plan_alone (unit_named n) w w' core e o
+asks_alone (UnitOp n) w w' core e o = unit_plan_alone n w w' core e o
 asks_alone _ w w' core e o = refl
 
-unit_effect_alone : (x : UnitName) (w w' : Doer) (core values : List ℕ) → unit_alone x ≡ true → w.own ≡ w'.own → w.caller ≡ w'.caller → w.key ≡ w'.key → unit_effect w x core values ≡ unit_effect w' x core values
+unit_effect_alone : (x : UnitName) (w w' : Doer) (core values : List ℕ) → is_alone (UnitOp x) ≡ true → w.own ≡ w'.own → w.caller ≡ w'.caller → w.key ≡ w'.key → unit_effect w x core values ≡ unit_effect w' x core values
 unfolding unit_effect
 unit_effect_alone Unprotect w w' core values e o c k = rw o refl
 unit_effect_alone Tag w w' core values e o c k = rw (o, k) refl
@@ -76,16 +76,16 @@ unit_effect_alone _ w w' core values e o c k = cc
 
 effect_alone : (insn : Insn) (w w' : Doer) (core values : List ℕ) → is_alone insn ≡ true → w.own ≡ w'.own → w.caller ≡ w'.caller → w.key ≡ w'.key → effect w insn core values ≡ effect w' insn core values
 unfolding effect
-effect_alone (UnitOp n) w w' core values e o c k = unit_effect_alone (unit_named n) w w' core values e o c k
+effect_alone (UnitOp n) w w' core values e o c k = unit_effect_alone n w w' core values e o c k
 effect_alone _ w w' core values e o c k = rw o refl
 
-table_by_alone : (x : UnitName) (t : Table) (core : List ℕ) → unit_alone x ≡ true → table_by x t core ≡ t
+table_by_alone : (x : UnitName) (t : Table) (core : List ℕ) → is_alone (UnitOp x) ≡ true → table_by x t core ≡ t
 table_by_alone Protect t core e = cc
 table_by_alone _ t core e = refl
 
 pub table_alone : (insn : Insn) (t : Table) (core : List ℕ) → is_alone insn ≡ true → table_after t insn core ≡ t
 unfolding table_after
-table_alone (UnitOp n) t core e = table_by_alone (unit_named n) t core e
+table_alone (UnitOp n) t core e = table_by_alone n t core e
 table_alone _ t core e = refl
 
 -- what the instruction that comes next says

@@ -21,7 +21,7 @@ use Rattle.reg_backup.specs.declared.backup.Phase.{Phase}
 use Rattle.reg_backup.specs.declared.backup.Phase.TheVariants.{Run, Pad}
 use Rattle.reg_backup.specs.declared.frames.Frame.{Frame}
 use Rattle.reg_backup.specs.declared.frames.Frame.TheVariants.{Module as Held}
-use Rattle.attest.specs.Units.{Doer, UnitName, Unprotect, unit_named, unit_plan}
+use Rattle.attest.specs.Units.{Doer, UnitName, Unprotect, unit_plan}
 use Rattle.cpu_step.specs.Asked.{asks}
 use Rattle.cpu_step.specs.Fetched.{insn_at, later_word}
 use Rattle.written_machine.specs.Checks.{active_at, entered, first_word, insn_at_pc, asked_to_return, asked_by, returns_inside, check_of, later_checks, insn_checks, first_refused, stop_at, stop_of, refused_in}
@@ -125,7 +125,7 @@ unit_caller _ who caller core = refl
 
 asks_caller : (insn : Insn) (who : Doer) (caller : ℕ) (core : List ℕ) → asks (record who { caller = caller }) insn core ≡ asks who insn core
 unfolding asks
-asks_caller (UnitOp n) who caller core = unit_caller (unit_named n) who caller core
+asks_caller (UnitOp n) who caller core = unit_caller n who caller core
 asks_caller _ who caller core = refl
 
 -- a state with another caller, and with something else to settle

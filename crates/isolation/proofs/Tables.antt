@@ -10,7 +10,7 @@ use Rattle.mod_layout.specs.declared.Module.{Module}
 use Rattle.mod_layout.specs.declared.Place.{Place}
 use Rattle.mod_layout.specs.declared.Place.TheVariants.{Entry, Text, Data}
 use Rattle.mod_layout.specs.declared.Section.{Section}
-use Rattle.attest.specs.Units.{UnitName, Protect, unit_named, new_text, new_ram, table_by}
+use Rattle.attest.specs.Units.{UnitName, Protect, new_text, new_ram, table_by}
 use Rattle.cpu_step.specs.Asked.{table_after}
 use Rattle.isolation.proofs.Rights.{Sound}
 use Rattle.mod_layout.proofs.TableLemmas.{apart_sym, table_dropped, table_more}
@@ -187,7 +187,7 @@ module _ (P : Table → Type 0) (more : (t : Table) (vendor : ℕ) (text ram : S
 
   pub table_keeps : (insn : Insn) (t : Table) (core : List ℕ) → P t → P (table_after t insn core)
   unfolding table_after
-  table_keeps (UnitOp n) t core h = unit_keeps (unit_named n) t core h
+  table_keeps (UnitOp n) t core h = unit_keeps n t core h
   table_keeps _ t core h = h
 
 pub sound_after : (m : ℕ) (own : Module) (t : Table) (insn : Insn) (core : List ℕ) → Sound m own t → Sound m own (table_after t insn core)

@@ -7,8 +7,8 @@ use Rattle.mod_layout.specs.Table.{holds, size_of}
 use Rattle.pc_access.specs.declared.Kind.{Kind}
 use Rattle.pc_access.specs.declared.Kind.TheVariants.{Read, Write}
 use Rattle.pc_access.specs.declared.Access.{Access}
-use Rattle.attest.specs.Units.{Tag, each_byte, in_range, text_reads, unit_plan, unit_named}
-use Rattle.cpu_step.specs.Lone.{Job, lone_who, is_inside, all_inside, unit_alone}
+use Rattle.attest.specs.Units.{Tag, each_byte, in_range, text_reads, unit_plan}
+use Rattle.cpu_step.specs.Lone.{Job, lone_who, is_inside, all_inside}
 
 pub bytes_next : (j : Job) (kind : Kind) (start k count : ℕ) → k < count → is_inside j record { kind = kind; addr = start + k; width = Byte } ≡ true →
     all_inside j (each_byte kind (start + k) (count - k)) ≡ all_inside j (each_byte kind (start + (k + 1)) (count - (k + 1)))
@@ -70,13 +70,3 @@ tag_ranges j core a n out r w e ea en eo er ew =
 pub tag_none : (j : Job) (core : List ℕ) → (in_range (reg core 12) (reg core 13) && in_range (reg core 14) (reg core 14 + 16)) ≡ false → all_inside j (unit_plan (lone_who j) Tag core) ≡ true
 unfolding unit_plan
 tag_none j core e = ap (λ b. all_inside j (cond b (each_byte Read (reg core 12) (reg core 13 - reg core 12) ++ each_byte Write (reg core 14) 16 ++ text_reads j.owner) [])) e
-
--- another unit instruction that a module may do by itself
-pub no_tag : (j : Job) (core : List ℕ) (op : ℕ) → unit_alone (unit_named op) ≡ true → op ≢ 3 → all_inside j (unit_plan (lone_who j) (unit_named op) core) ≡ true
-unfolding unit_plan
-no_tag j core zero a ne = refl
-no_tag j core (suc (suc (suc zero))) a ne = absurd (ne refl)
-no_tag j core (suc (suc (suc (suc (suc zero))))) a ne = refl
-no_tag j core (suc (suc (suc (suc (suc (suc zero)))))) a ne = refl
-no_tag j core (suc (suc (suc (suc (suc (suc (suc n))))))) a ne = refl
-no_tag j core (suc _) a ne = absurd cc

@@ -50,7 +50,7 @@ pub fn do_insn(job: &Job<'_>, ram: &mut [u8], core: &mut Core, insn: &Insn) -> L
     ensures some { 1 ≤ result.cycles }
 {
     match *insn {
-        Insn::Unit(op) => do_unit(job, ram, core, op),
+        Insn::Unit(name) => do_unit(job, ram, core, name),
         Insn::Two { .. } | Insn::One { .. } | Insn::Jump { .. } | Insn::Reti => {
             do_plain(job, ram, core, insn)
         }

@@ -4,19 +4,19 @@ ghost use Rattle.std.specs.Prelude.{◌≡◌, ◌≤◌, ◌<◌, ◌+◌, ◌*
 ghost use Rattle.sm_words.specs.Words.{reg, word_at};
 ghost use Rattle.sm_words.specs.declared.registers.TheConstants.{PC};
 ghost use Rattle.insn_decode.specs.Code.{IsDecoded, insn_of};
+ghost use Rattle.insn_decode.specs.declared.insn.Insn.TheVariants.{Unit as UnitOp};
 ghost use Rattle.pc_access.specs.declared.Kind.TheVariants.{Read, Write};
-ghost use Rattle.attest.specs.Units.{each_byte, in_range, unit_named, unit_plan, UnitName, Tag};
+ghost use Rattle.attest.specs.Units.{each_byte, in_range, unit_plan, Tag};
 ghost use Rattle.cpu_step.specs.Fetched.{later_word, insn_at, word_in, insn_from, insn_in};
 ghost use Rattle.cpu_step.specs.Asked.{asks};
-ghost use Rattle.cpu_step.specs.Lone.{lone_byte, lone_who, unit_alone, is_alone, all_inside, may_do};
+ghost use Rattle.cpu_step.specs.Lone.{lone_byte, lone_who, is_alone, all_inside, may_do};
 ghost use Rattle.cpu_step.specs.Lone.{next_insn, Lone};
 ghost use Rattle.lone_run.specs.internal.Jobs.{call_of};
 
 use crate::job::{Job, is_inside, word};
 use attest::in_range;
 use cpu_step::{Access, Kind, plan};
-use insn_decode::units::{ATTEST, ID_OF, PROTECT, TAG};
-use insn_decode::{Insn, decode};
+use insn_decode::{Insn, UnitName, decode};
 use sm_words::{Core, PC, Width};
 
 /// Whether word `k` of an instruction of `n` words at `pc`, if there is one, is in the text.
@@ -55,16 +55,16 @@ fn is_alone(insn: &Insn) -> bool
 {
     match *insn {
         Insn::Reti => false,
-        Insn::Unit(op) => is_unit_alone(op),
+        Insn::Unit(name) => is_unit_alone(name),
         Insn::Two { .. } | Insn::One { .. } | Insn::Jump { .. } => true,
     }
 }
 
 /// Whether it may do this unit instruction: all but protect, attest and id of address.
-fn is_unit_alone(op: u8) -> bool
-    ensures { result ≡ unit_alone (unit_named op) }
+fn is_unit_alone(name: UnitName) -> bool
+    ensures { result ≡ is_alone (UnitOp name) }
 {
-    op != PROTECT && op != ATTEST && op != ID_OF
+    !matches!(name, UnitName::Protect | UnitName::Attest | UnitName::IdOf)
 }
 
 /// Whether each of these accesses is aligned and stays in the two sections.
@@ -128,15 +128,27 @@ fn has_tag(job: &Job<'_>, core: &Core) -> bool
     both(reads, writes)
 }
 
+/// Whether the accesses of a unit instruction that the module may do stay in the two sections.
+#[tactic(auto, unfolding(attest::specs::Units::unit_plan))]
+fn stays_in_unit(job: &Job<'_>, name: UnitName, core: &Core) -> bool
+    requires { is_alone (UnitOp name) ≡ true }
+    ensures { result ≡ all_inside (call_of job.now) (unit_plan (lone_who (call_of job.now)) name core.now) }
+{
+    match name {
+        UnitName::Tag => has_tag(job, core),
+        UnitName::Unprotect | UnitName::OwnId | UnitName::CallerId => true,
+        UnitName::Protect | UnitName::Attest | UnitName::IdOf => unreachable!(),
+    }
+}
+
 /// Whether the accesses of an instruction that the module may do stay in the two sections.
-#[tactic(auto, using(crate::proofs::Ranges::no_tag), unfolding(cpu_step::specs::Asked::asks, attest::specs::Units::unit_plan))]
+#[tactic(auto, unfolding(cpu_step::specs::Asked::asks))]
 fn stays(job: &Job<'_>, insn: &Insn, core: &Core) -> bool
     requires { is_alone insn.now ≡ true }
     ensures { result ≡ all_inside (call_of job.now) (asks (lone_who (call_of job.now)) insn.now core.now) }
 {
     match *insn {
-        Insn::Unit(TAG) => has_tag(job, core),
-        Insn::Unit(_) => true,
+        Insn::Unit(name) => stays_in_unit(job, name, core),
         Insn::Two { .. } | Insn::One { .. } | Insn::Jump { .. } | Insn::Reti => {
             all_inside(job, plan(insn, core).as_slice())
         }

@@ -1,12 +1,12 @@
 //! The unit instructions that a module may do by itself.
 
-ghost use Rattle.std.specs.Prelude.{◌≡◌, ◌≢◌, ◌≤◌, ◌-◌, true, false, length};
+ghost use Rattle.std.specs.Prelude.{◌≡◌, ◌≤◌, ◌-◌, true, false, length};
 ghost use Rattle.sm_words.specs.Words.{put};
 ghost use Rattle.insn_decode.specs.declared.insn.Insn.TheVariants.{Unit as UnitOp};
 ghost use Rattle.mod_layout.specs.Table.{size_of};
 ghost use Rattle.mod_layout.specs.Tables.{IsSection};
-ghost use Rattle.attest.specs.Units.{next, unit_named, Tag};
-ghost use Rattle.cpu_step.specs.Lone.{unit_alone, lone_does};
+ghost use Rattle.attest.specs.Units.{next, CallerId, OwnId, Tag, Unprotect};
+ghost use Rattle.cpu_step.specs.Lone.{is_alone, lone_does};
 ghost use Rattle.lone_run.specs.Jobs.{between};
 ghost use Rattle.lone_run.specs.internal.Jobs.{call_of, lasting};
 
@@ -14,7 +14,7 @@ use crate::job::{Job, Lasts};
 use crate::next::has_ranges;
 use crate::tagging::{store, tag_of};
 use attest::{BLOCK_CYCLES, SHORT_CYCLES, hmac_blocks};
-use insn_decode::units::{OWN_ID, TAG, UNPROTECT};
+use insn_decode::UnitName;
 use sm_words::{Core, PC};
 
 /// Moves PC past the instruction.
@@ -42,7 +42,7 @@ fn answer(core: &mut Core, value: u16, cycles: u32) -> Lasts
 #[tactic(auto, unfolding(cpu_step::specs::Lone::lone_does, cpu_step::specs::Asked::asks, cpu_step::specs::Asked::effect, attest::specs::Units::unit_plan, attest::specs::Units::unit_effect))]
 fn unprotect(job: &Job<'_>, ram: &[u8], core: &mut Core) -> Lasts
     requires { IsSection job.now.owner.now.ram }
-    ensures done { lone_does (call_of job.now) (UnitOp 0) (between core.old ram.now) ≡ lasting core.new ram.now result }
+    ensures done { lone_does (call_of job.now) (UnitOp Unprotect) (between core.old ram.now) ≡ lasting core.new ram.now result }
     ensures some { 1 ≤ result.cycles }
 {
     step_past(core);
@@ -56,7 +56,7 @@ fn unprotect(job: &Job<'_>, ram: &[u8], core: &mut Core) -> Lasts
 #[tactic(auto, using(crate::proofs::Tags::tag_short, crate::proofs::Tags::tag_done))]
 fn tag(job: &Job<'_>, ram: &mut [u8], core: &mut Core) -> Lasts
     requires text { length job.now.text.now ≡ size_of job.now.owner.now.text }
-    ensures done { lone_does (call_of job.now) (UnitOp 3) (between core.old ram.old) ≡ lasting core.new ram.new result }
+    ensures done { lone_does (call_of job.now) (UnitOp Tag) (between core.old ram.old) ≡ lasting core.new ram.new result }
     ensures some { 1 ≤ result.cycles }
 {
     if !has_ranges(core) {
@@ -76,37 +76,35 @@ fn tag(job: &Job<'_>, ram: &mut [u8], core: &mut Core) -> Lasts
 /// R15 is the module's own id.
 #[tactic(auto, unfolding(cpu_step::specs::Lone::lone_does, cpu_step::specs::Asked::asks, cpu_step::specs::Asked::effect, attest::specs::Units::unit_plan, attest::specs::Units::unit_effect))]
 fn own_id(job: &Job<'_>, ram: &[u8], core: &mut Core) -> Lasts
-    ensures done { lone_does (call_of job.now) (UnitOp 5) (between core.old ram.now) ≡ lasting core.new ram.now result }
+    ensures done { lone_does (call_of job.now) (UnitOp OwnId) (between core.old ram.now) ≡ lasting core.new ram.now result }
     ensures some { 1 ≤ result.cycles }
 {
     answer(core, job.owner.id, SHORT_CYCLES)
 }
 
 /// R15 is the caller's id.
-#[tactic(auto, using(crate::proofs::Tags::caller_done))]
-fn caller_id(job: &Job<'_>, ram: &[u8], core: &mut Core, op: u8) -> Lasts
-    requires alone { unit_alone (unit_named op) ≡ true }
-    requires other { (op ≢ 0) × (op ≢ 3) × (op ≢ 5) }
-    ensures done { lone_does (call_of job.now) (UnitOp op) (between core.old ram.now)
-        ≡ lasting core.new ram.now result }
+#[tactic(auto, unfolding(cpu_step::specs::Lone::lone_does, cpu_step::specs::Asked::asks, cpu_step::specs::Asked::effect, attest::specs::Units::unit_plan, attest::specs::Units::unit_effect))]
+fn caller_id(job: &Job<'_>, ram: &[u8], core: &mut Core) -> Lasts
+    ensures done { lone_does (call_of job.now) (UnitOp CallerId) (between core.old ram.now) ≡ lasting core.new ram.now result }
     ensures some { 1 ≤ result.cycles }
 {
     answer(core, job.caller, SHORT_CYCLES)
 }
 
 /// Does a unit instruction.
-pub fn do_unit(job: &Job<'_>, ram: &mut [u8], core: &mut Core, op: u8) -> Lasts
-    requires alone { unit_alone (unit_named op) ≡ true }
+pub fn do_unit(job: &Job<'_>, ram: &mut [u8], core: &mut Core, name: UnitName) -> Lasts
+    requires alone { is_alone (UnitOp name) ≡ true }
     requires text { length job.now.text.now ≡ size_of job.now.owner.now.text }
     requires ram { IsSection job.now.owner.now.ram }
-    ensures done { lone_does (call_of job.now) (UnitOp op) (between core.old ram.old)
+    ensures done { lone_does (call_of job.now) (UnitOp name) (between core.old ram.old)
         ≡ lasting core.new ram.new result }
     ensures some { 1 ≤ result.cycles }
 {
-    match op {
-        UNPROTECT => unprotect(job, ram, core),
-        TAG => tag(job, ram, core),
-        OWN_ID => own_id(job, ram, core),
-        _ => caller_id(job, ram, core, op),
+    match name {
+        UnitName::Unprotect => unprotect(job, ram, core),
+        UnitName::Tag => tag(job, ram, core),
+        UnitName::OwnId => own_id(job, ram, core),
+        UnitName::CallerId => caller_id(job, ram, core),
+        UnitName::Protect | UnitName::Attest | UnitName::IdOf => unreachable!(),
     }
 }

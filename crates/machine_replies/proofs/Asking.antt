@@ -28,7 +28,7 @@ use Rattle.pc_access.specs.declared.Denied.{Denied}
 use Rattle.pc_access.specs.declared.Kind.{Kind}
 use Rattle.pc_access.specs.declared.Kind.TheVariants.{Fetch, Read, Write}
 use Rattle.pc_access.specs.declared.Rule.{Rule}
-use Rattle.attest.specs.Units.{Doer, UnitName, Protect, Attest, Tag, unit_named, unit_plan, each_byte, text_reads, attest_plan, tag_plan, in_range, text_at, attested, new_text, new_ram}
+use Rattle.attest.specs.Units.{Doer, UnitName, Protect, Attest, Tag, unit_plan, each_byte, text_reads, attest_plan, tag_plan, in_range, text_at, attested, new_text, new_ram}
 use Rattle.cpu_step.specs.Asked.{asks}
 use Rattle.cpu_step.specs.Plan.{plan, place, past, stepped, lowered, access_if, one_writes, reads_dst, writes_dst}
 use Rattle.tracer.specs.Laws.{IsWord}
@@ -270,7 +270,7 @@ unit_word _ who core ok own = tt
 
 pub asks_word : (who : Doer) (insn : Insn) (core : List ℕ) → IsCore core → IsTable who.table → IsMaybeModule who.table.given who.own → IsWordInsn insn → Each AtWord (asks who insn core)
 unfolding asks
-asks_word who (UnitOp n) core c ok own h = unit_word (unit_named n) who core ok own
+asks_word who (UnitOp n) core c ok own h = unit_word n who core ok own
 asks_word who (Two op w s d) core c ok own h = plan_word (Two op w s d) core c h
 asks_word who (One op w a) core c ok own h = plan_word (One op w a) core c h
 asks_word who (Jump k o) core c ok own h = plan_word (Jump k o) core c h

@@ -1,35 +1,35 @@
--- Each arm has the number of its instruction.
-use Rattle.std.proofs.Common.{◌≡◌, refl, arith}
+-- Each arm has its instruction.
+use Rattle.std.proofs.Common.{◌≡◌, refl}
 use Rattle.attest.specs.Units.{unit_plan}
 use Rattle.attest.proofs.instruction.unit.Goals as goal
 
-pub returns-in-0-clause-allowed : goal.returns-in-0-clause-allowed
+pub returns-in-Unprotect-clause-allowed : goal.returns-in-Unprotect-clause-allowed
 unfolding unit_plan
-returns-in-0-clause-allowed c = λ held. rw c.in-0.is refl
+returns-in-Unprotect-clause-allowed c = λ held. rw c.in-Unprotect.is refl
 
-pub returns-in-0-clause-done : goal.returns-in-0-clause-done
-returns-in-0-clause-done c = rw c.in-0.is (c.unprotect.ensures _ _)
+pub returns-in-Unprotect-clause-done : goal.returns-in-Unprotect-clause-done
+returns-in-Unprotect-clause-done c = rw c.in-Unprotect.is (c.unprotect.ensures _ _)
 
-pub returns-in-1-clause-done : goal.returns-in-1-clause-done
-returns-in-1-clause-done c = rw c.in-1.is (c.protect.ensures.done _)
+pub returns-in-Protect-clause-done : goal.returns-in-Protect-clause-done
+returns-in-Protect-clause-done c = rw c.in-Protect.is (c.protect.ensures.done _)
 
-pub returns-in-4-clause-allowed : goal.returns-in-4-clause-allowed
+pub returns-in-IdOf-clause-allowed : goal.returns-in-IdOf-clause-allowed
 unfolding unit_plan
-returns-in-4-clause-allowed c = λ held. rw c.in-4.is refl
+returns-in-IdOf-clause-allowed c = λ held. rw c.in-IdOf.is refl
 
-pub returns-in-4-clause-done : goal.returns-in-4-clause-done
-returns-in-4-clause-done c = rw c.in-4.is (c.id_of.ensures _ _)
+pub returns-in-IdOf-clause-done : goal.returns-in-IdOf-clause-done
+returns-in-IdOf-clause-done c = rw c.in-IdOf.is (c.id_of.ensures _ _)
 
-pub returns-in-5-clause-allowed : goal.returns-in-5-clause-allowed
+pub returns-in-OwnId-clause-allowed : goal.returns-in-OwnId-clause-allowed
 unfolding unit_plan
-returns-in-5-clause-allowed c = λ held. rw c.in-5.is refl
+returns-in-OwnId-clause-allowed c = λ held. rw c.in-OwnId.is refl
 
-pub returns-in-5-clause-done : goal.returns-in-5-clause-done
-returns-in-5-clause-done c = rw c.in-5.is (c.own_id.ensures _ _)
+pub returns-in-OwnId-clause-done : goal.returns-in-OwnId-clause-done
+returns-in-OwnId-clause-done c = rw c.in-OwnId.is (c.own_id.ensures _ _)
 
-pub returns-in_default-clause-allowed : goal.returns-in_default-clause-allowed
+pub returns-in-CallerId-clause-allowed : goal.returns-in-CallerId-clause-allowed
 unfolding unit_plan
-returns-in_default-clause-allowed c = let six : c.args.op ≡ 6 = omega arith in λ held. rw six refl
+returns-in-CallerId-clause-allowed c = λ held. rw c.in-CallerId.is refl
 
-pub returns-in_default-clause-done : goal.returns-in_default-clause-done
-returns-in_default-clause-done c = let six : c.args.op ≡ 6 = omega arith in rw six (c.caller_id.ensures _ _)
+pub returns-in-CallerId-clause-done : goal.returns-in-CallerId-clause-done
+returns-in-CallerId-clause-done c = rw c.in-CallerId.is (c.caller_id.ensures _ _)
