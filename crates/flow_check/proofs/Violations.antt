@@ -10,7 +10,6 @@ use Rattle.flow_rule.specs.declared.Val.{Val}
 use Rattle.flow_rule.specs.declared.Reach.{Reach}
 use Rattle.flow_rule.specs.declared.Reason.TheVariants.{SecretAtExit, DataAtExit}
 use Rattle.std.proofs.lemmas.Bool.Decides.{nat_tests}
-use Rattle.attest.specs.Units.{unit_named}
 use Rattle.flow_rule.specs.declared.Val.TheVariants.{Public, Secret}
 use Rattle.flow_rule.specs.declared.Reason.TheVariants.{Illegal, UnknownTarget, SecretBranch, Unit as UnitWord}
 use Rattle.flow_rule.specs.Rounds.{Found, Step, Point}
@@ -94,17 +93,6 @@ pub jump_other : (terms : Terms) (m : Module) (text : List ℕ) (insn : Insn) (c
     step_jump terms m text insn cond_no x ≡ either_way terms m insn x
 jump_other terms m text insn cond_no x e =
     ap (λ b. cond b (taken_to terms m insn x) (either_way terms m insn x)) (let t : (cond_no == 7) ≡ false = grind (arith, nat_tests) in t)
-
-pub unit_fails : (terms : Terms) (m : Module) (insn : Insn) (n : ℕ) (x : Point) → 1 ≤ n → n ≤ 4 → step_unit terms m insn (unit_named n) n x ≡ fails x.pair.addr UnitWord n
-unit_fails terms m insn zero x a b = absurd (omega (arith, a))
-unit_fails terms m insn (suc (suc (suc (suc (suc n))))) x a b = absurd (omega (arith, b))
-unit_fails terms m insn (suc _) x a b = refl
-
-pub unit_goes : (terms : Terms) (m : Module) (insn : Insn) (n : ℕ) (x : Point) → 5 ≤ n → step_unit terms m insn (unit_named n) n x ≡ goes terms m x.pair.addr x.pair.returns (put_val (past_val insn x.pair.addr x.label.core) 15 Public) x.label.words
-unit_goes terms m insn (suc (suc (suc (suc (suc zero))))) x a = refl
-unit_goes terms m insn (suc (suc (suc (suc (suc (suc zero)))))) x a = refl
-unit_goes terms m insn (suc (suc (suc (suc (suc (suc (suc n))))))) x a = refl
-unit_goes terms m insn _ x a = absurd (omega (arith, a))
 
 pub jump_same : (terms : Terms) (m : Module) (text : List ℕ) (insn : Insn) (cond_no : ℕ) (off : ℤ) (x : Point) → insn ≡ Jump cond_no off → step_jump terms m text insn cond_no x ≡ step_insn terms m text (Some insn) x
 jump_same terms m text insn cond_no off x e = ap (λ i. step_jump terms m text i cond_no x) e ∙ sym (ap (λ i. step_insn terms m text (Some i) x) e)

@@ -18,7 +18,7 @@ use Rattle.mod_layout.specs.declared.Module.{Module}
 use Rattle.mod_layout.specs.Table.{holds, size_of}
 use Rattle.cpu_step.specs.Fetched.{insn_at, later_word, word_in, insn_from}
 use Rattle.attest.specs.Accesses.{reads_of, writes_of}
-use Rattle.attest.specs.Units.{UnitName, Unprotect, OwnId, CallerId, unit_named, Effect, unit_plan, unit_effect}
+use Rattle.attest.specs.Units.{UnitName, Unprotect, OwnId, CallerId, Effect, unit_plan, unit_effect}
 use Rattle.cpu_step.specs.Asked.{asks, effect}
 use Rattle.cpu_step.specs.Lone.{Job, Lone, lone_byte, lone_who, is_alone, all_inside, may_do, next_insn, lone_read, lone_writes, lone_does, Does, doing, doing_by, lone_step_by, job_of, blank}
 use Rattle.flow_rule.specs.Terms.{Terms}
@@ -437,11 +437,11 @@ module _ (terms : Terms) (key : List ℕ) (m : Module) (text : List ℕ) (caller
       let e = unit_effect (lone_who j) u c (map (lone_read j d) (reads_of xs)) in
       record { core = e.core; data_bytes = lone_writes m d (writes_of xs) e.stored; rest = e.cycles - 1; closing = e.closing }
 
-  unit_so : (n : ℕ) (u : UnitName) (c d : List ℕ) → unit_named n ≡ u → lone_does j (UnitOp n) (at_rest c d) ≡ unit_does u c d
+  unit_so : (n : UnitName) (u : UnitName) (c d : List ℕ) → n ≡ u → lone_does j (UnitOp n) (at_rest c d) ≡ unit_does u c d
   unfolding lone_does asks effect unit_does
   unit_so n u c d e = ap (λ u. unit_does u c d) e
 
-  module _ (n : ℕ) (u : UnitName) (named : unit_named n ≡ u) (x : Point) (ca da cb db : List ℕ) (at : AgreeAt m x ca da cb db) (met_it : met m.text text x.pair.addr ≡ Some (UnitOp n)) (alone : is_alone (UnitOp n) ≡ true) where
+  module _ (n : UnitName) (u : UnitName) (named : n ≡ u) (x : Point) (ca da cb db : List ℕ) (at : AgreeAt m x ca da cb db) (met_it : met m.text text x.pair.addr ≡ Some (UnitOp n)) (alone : is_alone (UnitOp n) ≡ true) where
     even_b : reg cb 0 % 2 ≡ 0
     even_b = ap (λ i. i % 2) (at.pc_b ∙ sym at.pc_a) ∙ at.core.even_pc
 
@@ -454,41 +454,41 @@ module _ (terms : Terms) (key : List ℕ) (m : Module) (text : List ℕ) (caller
     unit_fetched_b ins = fetched cb db (UnitOp n) even_b (ap (λ a. holds m.text a) at.pc_b ∙ at.in_text) (ap (λ a. met m.text text a) at.pc_b ∙ met_it) alone (ap (λ u. all_inside j (unit_plan (lone_who j) u cb)) named ∙ ins)
 
     tell_crossing : (value : ℕ) → unit_plan (lone_who j) u ca ≡ [] → unit_plan (lone_who j) u cb ≡ [] →
-        unit_does u ca da ≡ after (put (past (UnitOp 0) ca) 15 value) da 5 false → unit_does u cb db ≡ after (put (past (UnitOp 0) cb) 15 value) db 5 false →
+        unit_does u ca da ≡ after (put (past (UnitOp Unprotect) ca) 15 value) da 5 false → unit_does u cb db ≡ after (put (past (UnitOp Unprotect) cb) 15 value) db 5 false →
         (goes terms m x.pair.addr x.pair.returns (put_val (past_val (UnitOp n) x.pair.addr x.label.core) 15 Public) x.label.words).reasons ≡ [] →
         Crossing terms m j (AgreeAt m) (goes terms m x.pair.addr x.pair.returns (put_val (past_val (UnitOp n) x.pair.addr x.label.core) 15 Public) x.label.words).gives (at_rest ca da) (at_rest cb db)
     tell_crossing value pa pb ea eb none =
         let h1 = past_agrees m.text even (UnitOp n) x.pair.addr x.label.core ca cb at.pc_a at.pc_b at.core in
         let h2 = put_agrees m.text even (past_val (UnitOp n) x.pair.addr x.label.core) (past (UnitOp n) ca) (past (UnitOp n) cb) 15 Public value value (λ e. absurd (omega arith)) h1 refl in
-        crossing _ ca da cb db (put (past (UnitOp 0) ca) 15 value) da (put (past (UnitOp 0) cb) 15 value) db (UnitOp n) 5
+        crossing _ ca da cb db (put (past (UnitOp Unprotect) ca) 15 value) da (put (past (UnitOp Unprotect) cb) 15 value) db (UnitOp n) 5
         (unit_fetched_a (ap (all_inside j) pa)) (unit_fetched_b (ap (all_inside j) pb)) (unit_so n u ca da named ∙ ea) (unit_so n u cb db named ∙ eb)
         (landing_of terms m _ _ _ _ _ (lands terms m x.pair.addr x.pair.returns _ x.label.words _ da _ db h2 at.words none))
 
     shut_crossing : (r : ℕ) → unit_plan (lone_who j) u ca ≡ [] → unit_plan (lone_who j) u cb ≡ [] →
-        unit_does u ca da ≡ after (past (UnitOp 0) ca) da r true → unit_does u cb db ≡ after (past (UnitOp 0) cb) db r true →
+        unit_does u ca da ≡ after (past (UnitOp Unprotect) ca) da r true → unit_does u cb db ≡ after (past (UnitOp Unprotect) cb) db r true →
         exit_reasons 16 0 x.pair.addr (set_each terms.answers Public x.label.core) ≡ [] → Crossing terms m j (AgreeAt m) [] (at_rest ca da) (at_rest cb db)
     unfolding doing
     shut_crossing r pa pb ea eb none =
         record {
           cycles = suc r;
           some = omega arith;
-          to_a = after (past (UnitOp 0) ca) da 0 true;
-          to_b = after (past (UnitOp 0) cb) db 0 true;
+          to_a = after (past (UnitOp Unprotect) ca) da 0 true;
+          to_b = after (past (UnitOp Unprotect) cb) db 0 true;
           pass_a = does_it j ca da _ _ (UnitOp n) r true (unit_fetched_a (ap (all_inside j) pa)) (unit_so n u ca da named ∙ ea);
           pass_b = does_it j cb db _ _ (UnitOp n) r true (unit_fetched_b (ap (all_inside j) pb)) (unit_so n u cb db named ∙ eb);
-          ending = Shut (blanked terms.answers (past (UnitOp 0) ca) (past (UnitOp 0) cb) (length-set ca 0 _ ∙ at.core.long_a) (length-set cb 0 _ ∙ at.core.long_b) past_same) refl refl;
+          ending = Shut (blanked terms.answers (past (UnitOp Unprotect) ca) (past (UnitOp Unprotect) cb) (length-set ca 0 _ ∙ at.core.long_a) (length-set cb 0 _ ∙ at.core.long_b) past_same) refl refl;
         }
       where
         even_here : x.pair.addr % 2 ≡ 0
         even_here = ap (λ i. i % 2) (sym at.pc_a) ∙ at.core.even_pc
 
-        past_same : (k : ℕ) → k < 16 → on_list terms.answers k ≡ false → reg (past (UnitOp 0) ca) k ≡ reg (past (UnitOp 0) cb) k
-        past_same zero lt off = past_pc (UnitOp 0) x.pair.addr ca refl at.pc_a even_here at.core.long_a ∙ sym (past_pc (UnitOp 0) x.pair.addr cb refl at.pc_b even_here at.core.long_b)
+        past_same : (k : ℕ) → k < 16 → on_list terms.answers k ≡ false → reg (past (UnitOp Unprotect) ca) k ≡ reg (past (UnitOp Unprotect) cb) k
+        past_same zero lt off = past_pc (UnitOp Unprotect) x.pair.addr ca refl at.pc_a even_here at.core.long_a ∙ sym (past_pc (UnitOp Unprotect) x.pair.addr cb refl at.pc_b even_here at.core.long_b)
         past_same (suc k) lt off =
             put_other_reg ca 0 _ (suc k) (λ e. absurd (omega arith)) ∙ same_reg m.text terms.answers x.pair.addr x.label.core ca cb at.core none (suc k) lt off ∙ sym (put_other_reg cb 0 _ (suc k) (λ e. absurd (omega arith)))
 
-  unit_crossing : (n : ℕ) (u : UnitName) → unit_named n ≡ u → (x : Point) (ca da cb db : List ℕ) → AgreeAt m x ca da cb db → met m.text text x.pair.addr ≡ Some (UnitOp n) → (step_unit terms m (UnitOp n) u n x).reasons ≡ [] →
-      Crossing terms m j (AgreeAt m) (step_unit terms m (UnitOp n) u n x).gives (at_rest ca da) (at_rest cb db)
+  unit_crossing : (n : UnitName) (u : UnitName) → n ≡ u → (x : Point) (ca da cb db : List ℕ) → AgreeAt m x ca da cb db → met m.text text x.pair.addr ≡ Some (UnitOp n) → (step_unit terms m (UnitOp n) u x).reasons ≡ [] →
+      Crossing terms m j (AgreeAt m) (step_unit terms m (UnitOp n) u x).gives (at_rest ca da) (at_rest cb db)
   unfolding unit_does unit_plan unit_effect
   unit_crossing n Unprotect e x ca da cb db at met_it none = shut_crossing n Unprotect e x ca da cb db at met_it (ap (λ u. is_alone (UnitOp u)) e) (6 + size_of m.ram / 2 - 1) refl refl refl refl none
   unit_crossing n OwnId e x ca da cb db at met_it none = tell_crossing n OwnId e x ca da cb db at met_it (ap (λ u. is_alone (UnitOp u)) e) m.id refl refl refl refl none
@@ -506,4 +506,4 @@ module _ (terms : Terms) (key : List ℕ) (m : Module) (text : List ℕ) (caller
       by (Some (One op w a)) e none = plain_crossing (One op w a) (one_alike op w a (regular x.pair.addr (One op w a) e).0) x ca da cb db at e none
       by (Some (Jump c off)) e none = jump_crossing c off x ca da cb db at e none
       by (Some Reti) e none = absurd cc
-      by (Some (UnitOp n)) e none = unit_crossing n (unit_named n) refl x ca da cb db at e none
+      by (Some (UnitOp n)) e none = unit_crossing n n refl x ca da cb db at e none

@@ -3,9 +3,10 @@ use Rattle.std.specs.Prelude.{ℕ, List, [], ◌++◌, map, ◌==◌, if◌then�
 use Rattle.sm_words.specs.Words.{word_at}
 use Rattle.insn_decode.specs.declared.insn.Insn.{Insn}
 use Rattle.insn_decode.specs.declared.insn.Insn.TheVariants.{Jump, Reti, Unit as UnitOp}
+use Rattle.insn_decode.specs.Means.{unit_code}
 use Rattle.mod_layout.specs.declared.Module.{Module}
 use Rattle.arm_balance.specs.Met.{text_byte, met}
-use Rattle.attest.specs.Units.{UnitName, Unprotect, OwnId, CallerId, unit_named}
+use Rattle.attest.specs.Units.{UnitName, Unprotect, OwnId, CallerId}
 use Rattle.flow_rule.specs.Terms.{Terms}
 use Rattle.flow_rule.specs.declared.Val.TheVariants.{Public}
 use Rattle.flow_rule.specs.Values.{is_secret, val, put_val}
@@ -37,17 +38,17 @@ step_jump terms m text insn cond x =
     else also (because_if (is_secret (val x.label.core 2)) pc SecretBranch 0) (both taken (goes terms m pc x.pair.returns (past_val insn pc x.label.core) x.label.words))
 
 -- unprotect closes; own id and caller id are public; the others are refused
-abbrev pub step_unit : Terms → Module → Insn → UnitName → ℕ → Point → Step
-step_unit terms m insn Unprotect n x = closes terms x.pair.addr x.label.core
-step_unit terms m insn OwnId n x = goes terms m x.pair.addr x.pair.returns (put_val (past_val insn x.pair.addr x.label.core) 15 Public) x.label.words
-step_unit terms m insn CallerId n x = goes terms m x.pair.addr x.pair.returns (put_val (past_val insn x.pair.addr x.label.core) 15 Public) x.label.words
-step_unit terms m insn u n x = fails x.pair.addr UnitWord n
+abbrev pub step_unit : Terms → Module → Insn → UnitName → Point → Step
+step_unit terms m insn Unprotect x = closes terms x.pair.addr x.label.core
+step_unit terms m insn OwnId x = goes terms m x.pair.addr x.pair.returns (put_val (past_val insn x.pair.addr x.label.core) 15 Public) x.label.words
+step_unit terms m insn CallerId x = goes terms m x.pair.addr x.pair.returns (put_val (past_val insn x.pair.addr x.label.core) 15 Public) x.label.words
+step_unit terms m insn name x = fails x.pair.addr UnitWord (unit_code name)
 
 abbrev pub step_insn : Terms → Module → List ℕ → Option Insn → Point → Step
 step_insn terms m text None x = fails x.pair.addr Illegal (word_at (text_byte m.text text) x.pair.addr)
 step_insn terms m text (Some Reti) x = fails x.pair.addr Illegal (word_at (text_byte m.text text) x.pair.addr)
 step_insn terms m text (Some (Jump cond off)) x = step_jump terms m text (Jump cond off) cond x
-step_insn terms m text (Some (UnitOp n)) x = step_unit terms m (UnitOp n) (unit_named n) n x
+step_insn terms m text (Some (UnitOp name)) x = step_unit terms m (UnitOp name) name x
 step_insn terms m text (Some insn) x = step_plain terms m text insn x
 
 -- the step at a pair: what is met at its address
