@@ -18,8 +18,8 @@ impl RunText for Steps {
     ghost told = { steps_outcome };
 
     ghost told_from = { λ s cycles. record {
-        text = text_with owner_lines s cycles;
-        status = run_status (is_some (after_cycles s cycles).stop)
+      text = text_with owner_lines s cycles;
+      status = run_status (is_some (after_cycles s cycles).stop);
     } };
 
     ghost answers = { λ value entries cycles. refl };

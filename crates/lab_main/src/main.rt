@@ -72,7 +72,11 @@ fn described<'a>(alloc: Global) -> Result<Command<'a>, AllocError> {
         .arg(Arg::new(alloc, "FROM").required(true))?
         .arg(Arg::new(alloc, "TO").required(true))?
         .arg(Arg::new(alloc, "CYCLES").required(true))?;
-    let terms = judging(alloc, "terms", "Writes the terms that a module needs, of those granted")?;
+    let terms = judging(
+        alloc,
+        "terms",
+        "Writes the terms that a module needs, of those granted",
+    )?;
     Command::new(alloc, NAME)
         .version(VERSION)
         .about("Tells the owner of an image of protected modules what sancus leaves out")

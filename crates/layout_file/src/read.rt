@@ -14,7 +14,9 @@ use crate::clash::first_clash;
 use crate::fault::{Key, LayoutFault, Spot};
 use crate::layout::Layout;
 use crate::parts::ModuleSpec;
-use crate::rows::{Bounds, entries, integer, key_member, listed, name, section_member, tables, vectors};
+use crate::rows::{
+    Bounds, entries, integer, key_member, listed, name, section_member, tables, vectors,
+};
 use mod_layout::{DEVICES_END, FIRST_VECTOR, Section};
 use std::alloc::Global;
 use toml::Table;

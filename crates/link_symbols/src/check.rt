@@ -50,7 +50,11 @@ fn symbol_meaning<'a>(names: &Names<'a>, s: Named<'a>, first: Option<Meaning>) -
             _ => None,
         },
         Binding::Global => global_meaning(names, s),
-        Binding::Weak => Some(names.stands_with(s.name, first).unwrap_or(Meaning::Number(0))),
+        Binding::Weak => Some(
+            names
+                .stands_with(s.name, first)
+                .unwrap_or(Meaning::Number(0)),
+        ),
     }
 }
 
