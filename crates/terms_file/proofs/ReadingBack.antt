@@ -10,8 +10,8 @@ use Rattle.hex.specs.Hex.{lower_digits}
 use Rattle.texts.specs.Decimals.{read_decimal}
 use Rattle.texts.specs.Hexadecimals.{hex_digit, hex_word, read_hex_word}
 use Rattle.texts.specs.Laws.{HasNoFeed}
-use Rattle.texts.specs.Lines.{is_line_feed, unended, last_line, lines_of, text_of}
-use Rattle.texts.specs.Rows.{after_rows, from_row, rows_from}
+use Rattle.texts.specs.Lines.{is_line_feed, unended, last_line, lines_of, lines_text}
+use Rattle.texts.specs.Rows.{after_these, from_row, rows_from}
 use Rattle.texts.proofs.LawLemmas.{decimals_are_read, lines_are_read, words_are_read}
 use Rattle.texts.proofs.WordLemmas.{decimal_has_no}
 use Rattle.cpu_step.specs.Lone.{is_answer}
@@ -128,7 +128,7 @@ not_last n l = grind (arith, nat_tests)
 module _ (rest : ℕ → Result (List Term) TermsFault) (n low : ℕ) (ts : List Term)
     (behind : (next : ℕ) (more : List Term) → n + 1 ≤ 271 → rest next ≡ Ok more → Read (n + 1) next more) where
   with_rest : (r : Result (List Term) TermsFault) (t : Term) → n + 1 ≤ 271 → low ≤ place_of t → IsTerm t
-      → rest (place_of t + 1) ≡ r → after_rows (t ∷ []) r ≡ Ok ts → Read n low ts
+      → rest (place_of t + 1) ≡ r → after_these (t ∷ []) r ≡ Ok ts → Read n low ts
   with_rest (Err fault) t m l i g e = absurd cc
   with_rest (Ok more) t m l i g e =
       let same : t ∷ more ≡ ts = cc in
@@ -138,7 +138,7 @@ module _ (rest : ℕ → Result (List Term) TermsFault) (n low : ℕ) (ts : List
       subst (Read n low) same ((l, i, next.0), fits)
 
   in_place : (b : Bool) (t : Term) → nat_lt (place_of t) low ≡ b → n + 1 ≤ 271 → IsTerm t
-      → cond b (Err (NotRising n)) (after_rows (t ∷ []) (rest (place_of t + 1))) ≡ Ok ts → Read n low ts
+      → cond b (Err (NotRising n)) (after_these (t ∷ []) (rest (place_of t + 1))) ≡ Ok ts → Read n low ts
   in_place true t f m i e = absurd cc
   in_place false t f m i e = with_rest (rest (place_of t + 1)) t m (at_least (place_of t) low f) i refl e
 
@@ -181,7 +181,7 @@ some_few test (t ∷ ts) = few_by (test t) t (filter test ts) ts (some_few test 
 
 -- ---- read back
 
-as_lines : (ts : List Term) → terms_text ts ≡ text_of (map term_text ts) []
+as_lines : (ts : List Term) → terms_text ts ≡ lines_text (map term_text ts) []
 as_lines [] = refl
 as_lines (t ∷ ts) = append_assoc (term_text t) (codes "\n") (terms_text ts)
     ∙ ap (λ l. term_text t ++ 10 ∷ l) (as_lines ts)
@@ -199,7 +199,7 @@ lines_are : (low : ℕ) (ts : List Term) → Rise low ts → lines_of (terms_tex
 lines_are low ts r =
     let lines = map term_text ts in
     let law = lines_are_read lines [] (all_clean low ts r) (All-from_recursion IsClean [] tt) in
-    ap lines_of (as_lines ts) ∙ ap (λ l. l ++ last_line (unended (text_of lines []))) law.0
+    ap lines_of (as_lines ts) ∙ ap (λ l. l ++ last_line (unended (lines_text lines []))) law.0
     ∙ ap (λ b. lines ++ last_line b) law.1 ∙ no_more lines
 
 rows_are : (n low : ℕ) (ts : List Term) → n + length ts ≤ 271 → Rise low ts
@@ -209,7 +209,7 @@ rows_are n low (t ∷ ts) few r =
     let last = not_last n (omega (arith, few)) in
     let is = line_read t r.1 in
     let rises = not_below (place_of t) low r.0 in
-    rw (last, is, rises) (ap (after_rows (t ∷ [])) (rows_are (n + 1) (place_of t + 1) ts (omega (arith, few)) r.2))
+    rw (last, is, rises) (ap (after_these (t ∷ [])) (rows_are (n + 1) (place_of t + 1) ts (omega (arith, few)) r.2))
 
 pub are_read_back : AreReadBack
 unfolding terms_of
