@@ -1,5 +1,4 @@
 //! `asm SOURCE`: the object of a program.
-ghost use Rattle.std.specs.Prelude.{◌≡◌, IfOk, map, drop, option_map, option_and_then};
 ghost use Rattle.sm_cli.specs.AsmCommand.{asm_command, asm_of};
 
 use asm_text::AsmUnit;

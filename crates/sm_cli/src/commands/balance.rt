@@ -1,5 +1,5 @@
 //! `balance IMAGE ID ARMS`: the verdict of a module's text, with certificates of balanced branches.
-ghost use Rattle.std.specs.Prelude.{◌≡◌, IfOk, map, drop, option_map, option_and_then};
+ghost use Rattle.std.specs.Prelude.{IfOk};
 ghost use Rattle.flow_rule.specs.Arms.{VerdictWith};
 ghost use Rattle.mod_layout.specs.Tables.{IsModule};
 ghost use Rattle.written_machine.specs.Peers.{section};

@@ -1,5 +1,4 @@
 //! `challenge CHALLENGES`: the schedule that sends a vendor's challenges.
-ghost use Rattle.std.specs.Prelude.{◌≡◌, IfOk, map, drop, option_map, option_and_then};
 ghost use Rattle.sm_cli.specs.ChallengeCommand.{challenge_command, challenge_of};
 
 use cli_calls::{Answering, Reading};

@@ -1,5 +1,5 @@
 //! `dis IMAGE START END`: the instructions of an image, one a line.
-ghost use Rattle.std.specs.Prelude.{◌≡◌, ◌≤◌, ◌+◌, ◌%◌, ◌++◌, ℕ, IfOk, IfSome, map, drop, length, codes, option_map, option_and_then};
+ghost use Rattle.std.specs.Prelude.{◌≡◌, ◌≤◌, ◌+◌, ◌%◌, ◌++◌, IfSome, codes};
 ghost use Rattle.arrayvec.specs.ArrayString.{array_string_len};
 ghost use Rattle.std.specs.Prelude.{slice_index};
 ghost use Rattle.sm_words.specs.Words.{word_at};

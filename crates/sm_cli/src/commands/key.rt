@@ -1,6 +1,4 @@
 //! `key IMAGE ID`: the key of a module's vendor, and the module's.
-ghost use Rattle.std.specs.Prelude.{◌≡◌, IfOk, map, drop, option_map, option_and_then};
-ghost use Rattle.image_text.specs.Image.{Image as ImageValue};
 ghost use Rattle.mod_layout.specs.Tables.{IsModule};
 ghost use Rattle.sm_io.specs.Sink.{Puts};
 ghost use Rattle.sm_cli.specs.KeyCommand.{key_command, key_of, key_lines, key_line, two_lines};

@@ -1,9 +1,8 @@
 //! `lone IMAGE ID LIMIT PAIR..`: how a call of a module by itself ends.
-ghost use Rattle.std.specs.Prelude.{◌≡◌, ◌≤◌, ◌+◌, ◌++◌, IfOk, IfSome, length, map, drop, option_map, option_and_then};
+ghost use Rattle.std.specs.Prelude.{◌≡◌, ◌≤◌, ◌+◌, ◌++◌, IfOk, IfSome, length, option_map};
 ghost use Rattle.arrayvec.specs.ArrayString.{array_string_len};
 ghost use Rattle.lone_run.specs.Ends.{answer_of};
 ghost use Rattle.mod_layout.specs.Tables.{IsModule};
-ghost use Rattle.mod_layout.specs.Table.{size_of};
 ghost use Rattle.sm_io.specs.Sink.{Took, CutOff};
 ghost use Rattle.tracer.specs.Lines.{registers_from};
 ghost use Rattle.written_machine.specs.Peers.{section};

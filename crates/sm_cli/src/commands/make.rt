@@ -1,5 +1,5 @@
 //! `make SEED`: two runs of the workload of a seed.
-ghost use Rattle.std.specs.Prelude.{◌≡◌, ◌≤◌, ◌+◌, IfOk, map, drop, option_map, option_and_then};
+ghost use Rattle.std.specs.Prelude.{◌≡◌, ◌≤◌, IfOk};
 ghost use Rattle.sm_io.specs.Sink.{Puts};
 ghost use Rattle.sm_cli.specs.MakeCommand.{make_command, make_of, seed_of, events_after, run_text, runs_text, start_of, first_data, second_data};
 ghost use Rattle.sm_cli.specs.Numbers.{number_line};

@@ -1,5 +1,5 @@
 //! `run LAYOUT SCHEDULE CYCLES OBJ..`: the outside trace of the image that objects link to.
-ghost use Rattle.std.specs.Prelude.{◌≡◌, ◌≤◌, IfOk, IfSome, length, map, drop, option_map, option_and_then};
+ghost use Rattle.std.specs.Prelude.{◌≤◌, length};
 ghost use Rattle.image_text.specs.Image.{IsImage};
 ghost use Rattle.cli_calls.specs.declared.values.TheConstants.{MAX_CYCLES};
 ghost use Rattle.sm_cli.specs.RunCommand.{run_of};

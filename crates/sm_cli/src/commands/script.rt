@@ -1,5 +1,5 @@
 //! `monitor IMAGE SCHEDULE SCRIPT`: what a script writes on the machine of an image.
-ghost use Rattle.std.specs.Prelude.{◌≡◌, ◌≤◌, ◌+◌, ◌^◌, IfOk, map, drop, option_map, option_and_then};
+ghost use Rattle.std.specs.Prelude.{◌≤◌, ◌+◌, ◌^◌};
 ghost use Rattle.script_file.specs.Bounds.{all_cycles};
 ghost use Rattle.sm_io.specs.Sink.{Took, CutOff};
 ghost use Rattle.std.specs.Option.{option_copied};
