@@ -1,22 +1,22 @@
 //! What an instruction does to what is known.
 
-ghost use Rattle.std.specs.Prelude.{◌≡◌, ◌==◌, [], ◌∷◌, true, if◌then◌else◌, Some, None};
-ghost use Rattle.sm_words.specs.Sums.{low};
+ghost use Rattle.std.specs.Prelude.{◌≡◌, ◌==◌, [], ◌∷◌, true, if◌then◌else◌};
+ghost use Rattle.sm_words.specs.Sums.{low, one_if};
 ghost use Rattle.sm_words.specs.Words.{nth};
 ghost use Rattle.cpu_step.specs.Plan.{writes_dst};
-ghost use Rattle.cpu_step.specs.Effect.{in_memory, value_of, two_result, one_result};
-ghost use Rattle.flow_rule.specs.Values.{over, over_one, put_val};
-ghost use Rattle.flow_rule.specs.Does.{reads_carry, sets_flags, worked, two_val, one_reads_carry};
-ghost use Rattle.flow_rule.specs.Does.{one_sets_flags, one_val, set_flags_by, given_val, after_val};
+ghost use Rattle.cpu_step.specs.Effect.{in_memory, two_result};
+ghost use Rattle.flow_rule.specs.Values.{number, gives, over_one, put_val};
+ghost use Rattle.flow_rule.specs.Does.{two_reads, flags_of, told_of, two_val, one_val};
+ghost use Rattle.flow_rule.specs.Does.{set_flags_by, given_val, after_val};
 ghost use Rattle.flow_rule.specs.Does.{into_register_val, written_val, clears, clears_flags};
 ghost use Rattle.flow_rule.specs.Does.{cleared_if, carry_val, one_done_val, does_val};
 ghost use Rattle.flow_check.specs.internal.Carries.{IsCarry};
 
-use crate::accesses::{increment, lower, reads_destination, step_past, writes_destination};
-use crate::domain::{Core, blurred_all, blurred_both, carry, get, narrow, put};
+use crate::accesses::{increment, lower, step_past, writes_destination};
+use crate::domain::{Core, blurred, blurred_all, blurred_both, carry, get, narrow, put};
 use arm_balance::target;
 use arrayvec::ArrayVec;
-use cpu_step::{one_result, two_result};
+use cpu_step::{Computed, one_result, two_result};
 use flow_rule::{Told, Val};
 use insn_decode::{Insn, OneOp, Operand, TwoOp};
 use sm_words::{Width, status};
@@ -41,66 +41,83 @@ fn carry_of(core: &Core) -> Val
     carry(get(core, 2))
 }
 
-/// Whether an operation reads C.
-pub fn reads_carry(op: TwoOp) -> bool
-    ensures { result ≡ reads_carry op }
+/// The number of a value, where it is Known.
+fn number(value: Val) -> u16
+    ensures { result ≡ number value }
 {
-    matches!(op, TwoOp::Addc | TwoOp::Subc | TwoOp::Dadd)
-}
-
-/// Whether it sets the flags.
-pub fn sets_flags(op: TwoOp) -> bool
-    ensures { result ≡ sets_flags op }
-{
-    !matches!(op, TwoOp::Mov | TwoOp::Bic | TwoOp::Bis)
-}
-
-/// What is read, or 0.
-fn read_if(read: bool, value: Val) -> Val
-    ensures { result ≡ (if read then value else Val.Known 0) }
-{
-    if read { value } else { Val::Known(0) }
-}
-
-/// What the flags become, if they are set.
-fn flags_if(set: bool, value: Val) -> Option<Val>
-    ensures { result ≡ (if set then Some value else None) }
-{
-    if set { Some(value) } else { None }
-}
-
-/// What format I gives of these values.
-fn value_of_two(op: TwoOp, width: Width, s: Val, d: Val, c: Val) -> Val
-    requires { IsCarry c }
-    ensures { result ≡ over (λ x y z. value_of (two_result op width x y z)) s d c }
-{
-    match (s, d, c) {
-        (Val::Known(x), Val::Known(y), Val::Known(z)) => {
-            Val::Known(two_result(op, width, x, y, z == 1).value())
-        }
-        _ => blurred_all(s, d, c),
+    match value {
+        Val::Known(v) => v,
+        _ => 0,
     }
 }
 
-/// What format II gives of these values.
-fn value_of_one(op: OneOp, width: Width, a: Val, c: Val) -> Val
-    requires { IsCarry c }
-    ensures { result ≡ over (λ x y z. value_of (one_result op width x y)) a c (Val.Known 0) }
+/// C as it is added.
+fn is_one(carry: Val) -> bool
+    requires { IsCarry carry }
+    ensures { one_if result ≡ number carry }
 {
-    match (a, c) {
-        (Val::Known(x), Val::Known(z)) => Val::Known(one_result(op, width, x, z == 1).value()),
-        _ => blurred_all(a, c, Val::Known(0)),
+    match carry {
+        Val::Known(v) => v == 1,
+        _ => false,
+    }
+}
+
+/// A result of one value.
+fn gives_one(a: Val, n: u16) -> Val
+    ensures { result ≡ gives (a ∷ []) n }
+{
+    match a {
+        Val::Known(_) => Val::Known(n),
+        _ => blurred(a),
+    }
+}
+
+/// A result of two values.
+fn gives_two(a: Val, b: Val, n: u16) -> Val
+    ensures { result ≡ gives (a ∷ b ∷ []) n }
+{
+    match (a, b) {
+        (Val::Known(_), Val::Known(_)) => Val::Known(n),
+        _ => blurred_both(a, b),
+    }
+}
+
+/// A result of three values.
+fn gives_three(a: Val, b: Val, c: Val, n: u16) -> Val
+    ensures { result ≡ gives (a ∷ b ∷ c ∷ []) n }
+{
+    match (a, b, c) {
+        (Val::Known(_), Val::Known(_), Val::Known(_)) => Val::Known(n),
+        _ => blurred_all(a, b, c),
+    }
+}
+
+/// A value, with flags where the result sets them.
+fn told(value: Val, flags: Val, computed: &Computed) -> Told
+    ensures { result ≡ record { value = value; flags = flags_of computed.now flags } }
+{
+    match computed {
+        Computed::Plain(_) => Told { value, flags: None },
+        Computed::Flagged(_) => Told {
+            value,
+            flags: Some(flags),
+        },
     }
 }
 
 /// Format I, but for a word MOV.
 fn worked(op: TwoOp, width: Width, s: Val, d: Val, c: Val) -> Told
     requires { IsCarry c }
-    ensures { result ≡ worked op width s d c }
+    ensures { result ≡ told_of (two_reads op s d c) (two_result op width (number s) (number d) (number c)) }
 {
-    Told {
-        value: value_of_two(op, width, s, d, c),
-        flags: flags_if(sets_flags(op), blurred_all(s, d, c)),
+    let computed = two_result(op, width, number(s), number(d), is_one(c));
+    let n = computed.value();
+    match op {
+        TwoOp::Mov => told(gives_one(s, n), blurred(s), &computed),
+        TwoOp::Addc | TwoOp::Subc | TwoOp::Dadd => {
+            told(gives_three(s, d, c, n), blurred_all(s, d, c), &computed)
+        }
+        _ => told(gives_two(s, d, n), blurred_both(s, d), &computed),
     }
 }
 
@@ -114,26 +131,8 @@ fn two(op: TwoOp, width: Width, s: Val, d: Val, c: Val) -> Told
             value: s,
             flags: None,
         },
-        _ => {
-            let d = read_if(reads_destination(op), d);
-            let c = read_if(reads_carry(op), c);
-            worked(op, width, s, d, c)
-        }
+        _ => worked(op, width, s, d, c),
     }
-}
-
-/// Whether an operation of format II reads C.
-pub fn one_reads_carry(op: OneOp) -> bool
-    ensures { result ≡ one_reads_carry op }
-{
-    op == OneOp::Rrc
-}
-
-/// Whether it sets the flags.
-pub fn one_sets_flags(op: OneOp) -> bool
-    ensures { result ≡ one_sets_flags op }
-{
-    matches!(op, OneOp::Rrc | OneOp::Rra | OneOp::Sxt)
 }
 
 /// Format II: of the operand and C.
@@ -141,10 +140,11 @@ fn single(op: OneOp, width: Width, a: Val, c: Val) -> Told
     requires { IsCarry c }
     ensures { result ≡ one_val op width a c }
 {
-    let c = read_if(one_reads_carry(op), c);
-    Told {
-        value: value_of_one(op, width, a, c),
-        flags: flags_if(one_sets_flags(op), blurred_both(a, c)),
+    let computed = one_result(op, width, number(a), is_one(c));
+    let n = computed.value();
+    match op {
+        OneOp::Rrc => told(gives_two(a, c, n), blurred_both(a, c), &computed),
+        _ => told(gives_one(a, n), blurred(a), &computed),
     }
 }
 

@@ -29,7 +29,7 @@ use Rattle.arm_balance.specs.Met.{text_byte}
 use Rattle.pc_access.specs.Rights.{misaligned}
 use Rattle.flow_rule.specs.declared.Val.{Val}
 use Rattle.flow_rule.specs.declared.Val.TheVariants.{Known, Public, Secret}
-use Rattle.flow_rule.specs.Values.{over, over_one, blurred, narrow, val, put_val}
+use Rattle.flow_rule.specs.Values.{number, gives, over_one, blurred, narrow, val, put_val}
 
 -- ---- accesses
 
@@ -123,40 +123,35 @@ pub record Done_val : Type 0 where
   pub core : List Val
   pub stored : List Val
 
-abbrev pub reads_carry : TwoOp → Bool
-reads_carry Addc = true
-reads_carry Subc = true
-reads_carry Dadd = true
-reads_carry _ = false
+-- what format I reads of its source, its destination and C
+abbrev pub two_reads : TwoOp → Val → Val → Val → List Val
+two_reads Mov s d c = s ∷ []
+two_reads Addc s d c = s ∷ d ∷ c ∷ []
+two_reads Subc s d c = s ∷ d ∷ c ∷ []
+two_reads Dadd s d c = s ∷ d ∷ c ∷ []
+two_reads op s d c = s ∷ d ∷ []
 
--- an operation sets the flags where its result has them
-abbrev pub is_flagged : Computed → Bool
-is_flagged (Plain v) = false
-is_flagged (Flagged s) = true
+-- format II reads its operand, and RRC C
+abbrev pub one_reads : OneOp → Val → Val → List Val
+one_reads Rrc a c = a ∷ c ∷ []
+one_reads op a c = a ∷ []
 
-abbrev pub sets_flags : TwoOp → Bool
-sets_flags op = is_flagged (two_result op Word 0 0 0)
+-- what a result makes of flags, where it sets them
+abbrev pub flags_of : Computed → Val → Option Val
+flags_of (Plain n) v = None
+flags_of (Flagged s) v = Some v
 
-abbrev pub worked : TwoOp → Width → Val → Val → Val → Told
-worked op w s d c =
-    record { value = over (λ x y z. value_of (two_result op w x y z)) s d c; flags = if sets_flags op then Some (blurred (s ∷ d ∷ c ∷ [])) else None }
+-- what is told of a result of these reads
+abbrev pub told_of : List Val → Computed → Told
+told_of reads r = record { value = gives reads (value_of r); flags = flags_of r (blurred reads) }
 
--- a word MOV copies; what an operation does not read counts as 0
+-- a word MOV copies
 abbrev pub two_val : TwoOp → Width → Val → Val → Val → Told
 two_val Mov Word s d c = record { value = s; flags = None }
-two_val op w s d c = worked op w s (if reads_dst op then d else Known 0) (if reads_carry op then c else Known 0)
-
-abbrev pub one_reads_carry : OneOp → Bool
-one_reads_carry Rrc = true
-one_reads_carry _ = false
-
-abbrev pub one_sets_flags : OneOp → Bool
-one_sets_flags op = is_flagged (one_result op Word 0 0)
+two_val op w s d c = told_of (two_reads op s d c) (two_result op w (number s) (number d) (number c))
 
 abbrev pub one_val : OneOp → Width → Val → Val → Told
-one_val op w a c =
-    let c1 = if one_reads_carry op then c else Known 0 in
-    record { value = over (λ x y z. value_of (one_result op w x y)) a c1 (Known 0); flags = if one_sets_flags op then Some (blurred (a ∷ c1 ∷ [])) else None }
+one_val op w a c = told_of (one_reads op a c) (one_result op w (number a) (number c))
 
 abbrev pub set_flags_by : Option Val → List Val → List Val
 set_flags_by None core = core
