@@ -19,7 +19,7 @@ use Rattle.board.specs.Alike.{TookLines}
 use Rattle.board.specs.Faults.{IsLastFault}
 use Rattle.board.specs.declared.marks.LastFault.{LastFault}
 use Rattle.board.specs.declared.marks.LastFault.TheVariants as fault
-use Rattle.monitor.specs.internal.Shown.{fault_text}
+use Rattle.monitor.specs.internal.Shown.{last_fault_text}
 use Rattle.board.specs.Ran.{RanWhole, RanCutOff}
 use Rattle.board.specs.Ran.{ran_of}
 use Rattle.board.specs.declared.Ran.{Ran}
@@ -30,7 +30,7 @@ use Rattle.monitor.specs.Played.{Whole, CutShort, Plays, PeersPlay}
 use Rattle.monitor.specs.internal.Played.{Does}
 
 -- what is told of a fault of `last`
-last_refused : (addr k : ℕ) (g : Marked) (fault : LastFault) → IsLastFault addr k g fault → last_move addr k g (last_at addr k g) ≡ shown (fault_text fault) g
+last_refused : (addr k : ℕ) (g : Marked) (fault : LastFault) → IsLastFault addr k g fault → last_move addr k g (last_at addr k g) ≡ shown (last_fault_text fault) g
 last_refused addr k g (fault.NoMark j) h =
     let none : last_at addr k g ≡ None = ap (λ o. option_map (cut_at k g) (option_and_then (last_from addr g) o)) (slice_get_past g.marks k h.1) in
     let test : nat_lt k (length g.marks) ≡ false = grind (arith, nat_tests) in
@@ -39,7 +39,7 @@ last_refused addr k g (fault.NotThere a) h =
     let test : nat_lt k (length g.marks) ≡ true = grind (arith, nat_tests) in
     ap (last_move addr k g) h.2 ∙ ap (λ c. shown (cond c (not_there_text addr) (no_mark_text k)) g) test ∙ ap (λ b. shown (not_there_text b) g) (sym h.0)
 
-pub last_refused_text : (addr k : ℕ) (g : Marked) (fault : LastFault) (text : List ℕ) → IsLastFault addr k g fault → text ≡ fault_text fault → text ≡ (last_move addr k g (last_at addr k g)).text
+pub last_refused_text : (addr k : ℕ) (g : Marked) (fault : LastFault) (text : List ℕ) → IsLastFault addr k g fault → text ≡ last_fault_text fault → text ≡ (last_move addr k g (last_at addr k g)).text
 last_refused_text addr k g fault text h is = is ∙ sym (ap (λ (m : Move). m.text) (last_refused addr k g fault h))
 
 pub last_refused_after : (addr k : ℕ) (g new : Marked) (fault : LastFault) → IsLastFault addr k g fault → new ≡ g → new ≡ (last_move addr k g (last_at addr k g)).after

@@ -3,7 +3,7 @@
 ghost use Rattle.std.specs.Prelude.{◌≡◌, ◌≤◌};
 ghost use Rattle.written_machine.specs.Marks.{marked, back_to, last_at};
 ghost use Rattle.written_machine.specs.Script.{mark_move, back_move, last_move};
-ghost use Rattle.monitor.specs.internal.Shown.{fault_text};
+ghost use Rattle.monitor.specs.internal.Shown.{last_fault_text};
 
 use crate::showing::{
     Line, back_line, full_line, last_line, mark_line, no_mark_line, not_there_line,
@@ -49,7 +49,7 @@ pub fn last(board: &mut Board, addr: u16, k: u16) -> Line
 
 // The line that tells why the board does not go back to an address.
 fn fault_line(fault: LastFault) -> Line
-    ensures { result.bytes ≡ fault_text fault }
+    ensures { result.bytes ≡ last_fault_text fault }
 {
     match fault {
         LastFault::NoMark { k } => no_mark_line(k),

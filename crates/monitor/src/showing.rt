@@ -7,7 +7,7 @@ ghost use Rattle.texts.specs.Hexadecimals.{hex_word};
 ghost use Rattle.tracer.specs.Lines.{registers_from};
 ghost use Rattle.written_machine.specs.Script.{regs_text, mem_text, registers_text, refused_or, byte_text, bytes_text, mark_text, full_text, back_text, no_mark_text, last_text, not_there_text, at_cycle};
 ghost use Rattle.written_machine.specs.View.{view_of};
-ghost use Rattle.monitor.specs.internal.Shown.{refusal_text, refusal_or};
+ghost use Rattle.monitor.specs.internal.Shown.{refused_text, refusal_or};
 
 use arrayvec::ArrayString;
 use board::{Board, Hidden, View};
@@ -115,7 +115,7 @@ fn first_refusal(table: &ModuleTable, addr: u16, count: u16) -> Option<Refusal>
 // Appends what is refused.
 fn push_refusal(refusal: Refusal, out: &mut Line)
     requires { array_string_len out.old ≤ 100 }
-    ensures text { out.new.bytes ≡ out.old.bytes ++ refusal_text refusal }
+    ensures text { out.new.bytes ≡ out.old.bytes ++ refused_text refusal }
     ensures most { array_string_len out.new ≤ array_string_len out.old + 60 }
 {
     out.push_str("refused ReadData addr ");

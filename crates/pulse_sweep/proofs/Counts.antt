@@ -6,7 +6,7 @@ use Rattle.std.proofs.lemmas.List.FromFn.{length-range_with_len}
 use Rattle.std.proofs.lemmas.List.Sums.{sum_by-append, sum_by-cons}
 use Rattle.std.specs.List.{count_by, flat_map, range_with_len}
 use Rattle.image_text.specs.Image.{Image}
-use Rattle.pulse_sweep.specs.Sweep.{different, end_text, is_same_at, row_at, sweep_text}
+use Rattle.pulse_sweep.specs.Sweep.{different, sweep_end_text, is_same_at, row_at, sweep_text}
 use Rattle.pulse_sweep.specs.declared.Pulses.{Pulses}
 
 pub range_more : (a n : ℕ) → range_with_len a (n + 1) ≡ range_with_len a n ++ (a + n) ∷ []
@@ -64,14 +64,14 @@ few_added b n old new few more = omega (arith, few, more, one_at_most b)
 
 -- the whole text, of the rows of n pulses and the end line
 pub swept_text : (p : Pulses) (a b : Image) (n : ℕ) (text new : List ℕ) (same d : ℕ) → n ≡ p.to + 1 - p.from → text ≡ flat_map (row_at p a b) (range_with_len p.from n)
-    → d ≡ count_by (λ c. not (is_same_at p a b c)) (range_with_len p.from n) → same ≡ n - d → new ≡ text ++ end_text same d → new ≡ sweep_text p a b
+    → d ≡ count_by (λ c. not (is_same_at p a b c)) (range_with_len p.from n) → same ≡ n - d → new ≡ text ++ sweep_end_text same d → new ≡ sweep_text p a b
 swept_text p a b n text new same d all rows counted rest is =
     let passing : same ≡ count_by (is_same_at p a b) (range_with_len p.from n) = rest ∙ ap (λ k. n - k) counted ∙ passing_count (is_same_at p a b) p.from n in
     is
-    ∙ ap (λ (l : List ℕ). l ++ end_text same d) rows
-    ∙ ap (λ k. flat_map (row_at p a b) (range_with_len p.from n) ++ end_text k d) passing
-    ∙ ap (λ k. flat_map (row_at p a b) (range_with_len p.from n) ++ end_text (count_by (is_same_at p a b) (range_with_len p.from n)) k) counted
-    ∙ ap (λ k. flat_map (row_at p a b) (range_with_len p.from k) ++ end_text (count_by (is_same_at p a b) (range_with_len p.from k)) (count_by (λ c. not (is_same_at p a b c)) (range_with_len p.from k))) all
+    ∙ ap (λ (l : List ℕ). l ++ sweep_end_text same d) rows
+    ∙ ap (λ k. flat_map (row_at p a b) (range_with_len p.from n) ++ sweep_end_text k d) passing
+    ∙ ap (λ k. flat_map (row_at p a b) (range_with_len p.from n) ++ sweep_end_text (count_by (is_same_at p a b) (range_with_len p.from n)) k) counted
+    ∙ ap (λ k. flat_map (row_at p a b) (range_with_len p.from k) ++ sweep_end_text (count_by (is_same_at p a b) (range_with_len p.from k)) (count_by (λ c. not (is_same_at p a b c)) (range_with_len p.from k))) all
 
 -- and the count
 pub swept_count : (p : Pulses) (a b : Image) (n d : ℕ) → n ≡ p.to + 1 - p.from → d ≡ count_by (λ c. not (is_same_at p a b c)) (range_with_len p.from n) → d ≡ different p a b

@@ -7,7 +7,7 @@ use Rattle.written_machine.specs.Cycle.{cycle, after_cycles}
 use Rattle.written_machine.specs.State.{State}
 use Rattle.pulse_sweep.specs.Columns.{columns_after}
 use Rattle.pulse_sweep.specs.declared.columns.Columns.{Columns}
-use Rattle.pulse_sweep.specs.internal.Told.{joined, event_columns, first_columns, columns_of}
+use Rattle.pulse_sweep.specs.internal.Told.{joined_columns, event_columns, first_columns, columns_of}
 
 or_assoc : (a b c : Option ℕ) → option_or (option_or a b) c ≡ option_or a (option_or b c)
 or_assoc None b c = refl
@@ -17,28 +17,28 @@ or_none : (a : Option ℕ) → option_or a None ≡ a
 or_none None = refl
 or_none (Some n) = refl
 
-joined_assoc : (a b c : Columns) → joined (joined a b) c ≡ joined a (joined b c)
+joined_assoc : (a b c : Columns) → joined_columns (joined_columns a b) c ≡ joined_columns a (joined_columns b c)
 joined_assoc a b c = rw (or_assoc a.begins b.begins c.begins, or_assoc a.leaves b.leaves c.leaves, or_assoc a.sends b.sends c.sends) refl
 
 -- with nothing
-joined_none : (a : Columns) → joined a record { begins = None; leaves = None; sends = None } ≡ a
+joined_none : (a : Columns) → joined_columns a record { begins = None; leaves = None; sends = None } ≡ a
 joined_none a = rw (or_none a.begins, or_none a.leaves, or_none a.sends) refl
 
 -- before the first event, at the next, and after the last
-pub firsts_start : (x r : Columns) → x ≡ record { begins = None; leaves = None; sends = None } → joined x r ≡ r
-firsts_start x r e = ap (λ (y : Columns). joined y r) e
+pub firsts_start : (x r : Columns) → x ≡ record { begins = None; leaves = None; sends = None } → joined_columns x r ≡ r
+firsts_start x r e = ap (λ (y : Columns). joined_columns y r) e
 
-pub firsts_next : (c k : ℕ) (es : List Event) (i : ℕ) (d : Event) (x y r : Columns) → i < length es → joined x (first_columns c k (drop i es)) ≡ r
-    → y ≡ joined x (event_columns c k (get_or es i d)) → joined y (first_columns c k (drop (i + 1) es)) ≡ r
+pub firsts_next : (c k : ℕ) (es : List Event) (i : ℕ) (d : Event) (x y r : Columns) → i < length es → joined_columns x (first_columns c k (drop i es)) ≡ r
+    → y ≡ joined_columns x (event_columns c k (get_or es i d)) → joined_columns y (first_columns c k (drop (i + 1) es)) ≡ r
 firsts_next c k es i d x y r h e is =
     let rest = first_columns c k (drop (i + 1) es) in
-    ap (λ (z : Columns). joined z rest) is
+    ap (λ (z : Columns). joined_columns z rest) is
     ∙ joined_assoc x (event_columns c k (get_or es i d)) rest
-    ∙ ap (joined x) (sym (at_drop_more (first_columns c k) es i d h))
+    ∙ ap (joined_columns x) (sym (at_drop_more (first_columns c k) es i d h))
     ∙ e
 
-pub firsts_end : (c k : ℕ) (es : List Event) (x r : Columns) → es ≡ [] → joined x (first_columns c k es) ≡ r → x ≡ r
-firsts_end c k es x r none e = sym (joined_none x) ∙ ap (λ (l : List Event). joined x (first_columns c k l)) (sym none) ∙ e
+pub firsts_end : (c k : ℕ) (es : List Event) (x r : Columns) → es ≡ [] → joined_columns x (first_columns c k es) ≡ r → x ≡ r
+firsts_end c k es x r none e = sym (joined_none x) ∙ ap (λ (l : List Event). joined_columns x (first_columns c k l)) (sym none) ∙ e
 
 -- a cycle from the pulse on
 pub from_pulse : (c k : ℕ) (es : List Event) → nat_le c k ≡ true → first_columns c k es ≡ columns_of c k es
@@ -49,5 +49,5 @@ pub before_pulse : (c k : ℕ) (es : List Event) → nat_le c k ≡ false → re
 before_pulse c k es h = rw h refl
 
 -- one cycle more
-pub columns_more : (c : ℕ) (s : State) (n : ℕ) → columns_after c s (n + 1) ≡ joined (columns_after c s n) (columns_of c (after_cycles s n).cycle (cycle (after_cycles s n)).events)
+pub columns_more : (c : ℕ) (s : State) (n : ℕ) → columns_after c s (n + 1) ≡ joined_columns (columns_after c s n) (columns_of c (after_cycles s n).cycle (cycle (after_cycles s n)).events)
 columns_more c s n = let e : n + 1 ≡ suc n = omega arith in ap (columns_after c s) e

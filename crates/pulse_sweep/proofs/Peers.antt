@@ -9,9 +9,9 @@ use Rattle.tracer.specs.declared.Event.{Event}
 use Rattle.written_machine.specs.Cycle.{cycle}
 use Rattle.written_machine.specs.Peers.{Peers}
 use Rattle.written_machine.specs.View.{View, at, boot, view_of}
-use Rattle.pulse_sweep.specs.Columns.{begins, leaves, sends, first_of, first_after}
+use Rattle.pulse_sweep.specs.Columns.{begins, leaves, sends, first_given, first_after}
 use Rattle.pulse_sweep.specs.Rows.{columns_text}
-use Rattle.pulse_sweep.specs.Sweep.{columns_at, different, is_same_at, pulse, pulse_cycles, row_at, trace_at}
+use Rattle.pulse_sweep.specs.Sweep.{columns_at, different, is_same_at, lone_pulse, pulse_cycles, row_at, trace_at}
 use Rattle.pulse_sweep.proofs.Counts.{none_counted}
 use Rattle.pulse_sweep.specs.declared.Pulses.{Pulses}
 
@@ -20,7 +20,7 @@ unfolding view_of
 same_cycle views a b m schedule k peers = ap (λ (v : View). v.cycle) (views a b m schedule k peers)
 
 -- the same number of a cycle by its number and its events
-now_same : (f : ℕ → Event → Option ℕ) (c i j : ℕ) (es fs : List Event) → i ≡ j → es ≡ fs → cond (nat_le c i) (first_of (f i) es) None ≡ cond (nat_le c j) (first_of (f j) fs) None
+now_same : (f : ℕ → Event → Option ℕ) (c i j : ℕ) (es fs : List Event) → i ≡ j → es ≡ fs → cond (nat_le c i) (first_given (f i) es) None ≡ cond (nat_le c j) (first_given (f j) fs) None
 now_same f c i j es fs e h = rw (e, h) refl
 
 first_same : SameViews → SameEvents → (a b : Image) (m : ℕ) (schedule : List Entry) (f : ℕ → Event → Option ℕ) (c n : ℕ) → Peers a b m
@@ -36,7 +36,7 @@ first_same views events a b m schedule f c (suc n) peers =
 columns_same : SameViews → SameEvents → (p : Pulses) (a b : Image) (m c : ℕ) → Peers a b m → columns_at p a c ≡ columns_at p b c
 unfolding columns_at
 columns_same views events p a b m c peers =
-    let s = pulse p.line c in
+    let s = lone_pulse p.line c in
     rw (first_same views events a b m s (begins c) c p.cycles peers, first_same views events a b m s leaves c p.cycles peers, first_same views events a b m s sends c p.cycles peers) refl
 
 bytes_same : (xs ys : List ℕ) → xs ≡ ys → bytes_eq xs ys ≡ true
@@ -44,7 +44,7 @@ bytes_same xs ys e = (bytes_eq-Decides xs ys).1 e
 
 is_same : SameTraces → (p : Pulses) (a b : Image) (m c : ℕ) → Peers a b m → is_same_at p a b c ≡ true
 unfolding trace_at
-is_same traces p a b m c peers = bytes_same (trace_at p a c) (trace_at p b c) (traces a b m (pulse p.line c) p.cycles peers)
+is_same traces p a b m c peers = bytes_same (trace_at p a c) (trace_at p b c) (traces a b m (lone_pulse p.line c) p.cycles peers)
 
 pub row_same : SameViews → SameEvents → SameTraces → (p : Pulses) (a b : Image) (m c : ℕ) → Peers a b m
     → row_at p a b c ≡ columns_text c (columns_at p a c) (columns_at p a c) ++ codes " same\n"

@@ -25,13 +25,13 @@ sends k (Out byte) = Some k
 sends k _ = None
 
 -- the first number that some events give
-abbrev pub first_of : (Event → Option ℕ) → List Event → Option ℕ
-first_of f [] = None
-first_of f (e ∷ es) = option_or (f e) (first_of f es)
+abbrev pub first_given : (Event → Option ℕ) → List Event → Option ℕ
+first_given f [] = None
+first_given f (e ∷ es) = option_or (f e) (first_given f es)
 
 -- that the next cycle's events give, from cycle c on
 abbrev pub first_now : (ℕ → Event → Option ℕ) → ℕ → State → Option ℕ
-first_now f c s = if nat_le c s.cycle then first_of (f s.cycle) (cycle s).events else None
+first_now f c s = if nat_le c s.cycle then first_given (f s.cycle) (cycle s).events else None
 
 -- that those of the next n cycles give
 abbrev pub first_after : (ℕ → Event → Option ℕ) → ℕ → State → ℕ → Option ℕ

@@ -7,13 +7,13 @@ use Rattle.texts.specs.Lines.{lines_of}
 use Rattle.pulse_sweep.specs.declared.columns.Columns.{Columns}
 
 -- a number, or `-` where there is none
-abbrev pub number_text : Option ℕ → List ℕ
-number_text None = codes "-"
-number_text (Some n) = decimal n
+abbrev pub number_or_dash : Option ℕ → List ℕ
+number_or_dash None = codes "-"
+number_or_dash (Some n) = decimal n
 
 -- a label, and a number of each run
 abbrev pub both_text : List ℕ → Option ℕ → Option ℕ → List ℕ
-both_text label a b = label ++ codes " " ++ number_text a ++ codes " " ++ number_text b
+both_text label a b = label ++ codes " " ++ number_or_dash a ++ codes " " ++ number_or_dash b
 
 -- `pulse C begins B B leave L L out O O`
 abbrev pub columns_text : ℕ → Columns → Columns → List ℕ

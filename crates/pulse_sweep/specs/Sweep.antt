@@ -14,16 +14,16 @@ use Rattle.pulse_sweep.specs.declared.columns.Columns.{Columns}
 use Rattle.pulse_sweep.specs.declared.Pulses.{Pulses}
 
 -- the schedule of a pulse in cycle c alone
-abbrev pub pulse : ℕ → ℕ → List Entry
-pulse line c = record { cycle = c; what = Up line } ∷ []
+abbrev pub lone_pulse : ℕ → ℕ → List Entry
+lone_pulse line c = record { cycle = c; what = Up line } ∷ []
 
 -- the trace of an image with that pulse
 unfoldable pub trace_at : Pulses → Image → ℕ → List ℕ
-trace_at p image c = trace image (pulse p.line c) p.cycles
+trace_at p image c = trace image (lone_pulse p.line c) p.cycles
 
 -- what its run says of that pulse
 unfoldable pub columns_at : Pulses → Image → ℕ → Columns
-columns_at p image c = columns_after c (boot image (pulse p.line c)) p.cycles
+columns_at p image c = columns_after c (boot image (lone_pulse p.line c)) p.cycles
 
 -- the row of that pulse
 unfoldable pub row_at : Pulses → Image → Image → ℕ → List ℕ
@@ -42,8 +42,8 @@ abbrev pub different : Pulses → Image → Image → ℕ
 different p a b = count_by (λ c. not (is_same_at p a b c)) (pulse_cycles p)
 
 -- `end S same D different`
-unfoldable pub end_text : ℕ → ℕ → List ℕ
-end_text same other = codes "end " ++ decimal same ++ codes " same " ++ decimal other ++ codes " different\n"
+unfoldable pub sweep_end_text : ℕ → ℕ → List ℕ
+sweep_end_text same other = codes "end " ++ decimal same ++ codes " same " ++ decimal other ++ codes " different\n"
 
 abbrev pub sweep_text : Pulses → Image → Image → List ℕ
-sweep_text p a b = flat_map (row_at p a b) (pulse_cycles p) ++ end_text (count_by (is_same_at p a b) (pulse_cycles p)) (different p a b)
+sweep_text p a b = flat_map (row_at p a b) (pulse_cycles p) ++ sweep_end_text (count_by (is_same_at p a b) (pulse_cycles p)) (different p a b)

@@ -1,7 +1,7 @@
 //! What the events of a cycle say of a pulse.
 
 ghost use Rattle.std.specs.Prelude.{◌≡◌, ◌≤◌, ◌^◌, None};
-ghost use Rattle.pulse_sweep.specs.internal.Told.{columns_of, event_columns, joined};
+ghost use Rattle.pulse_sweep.specs.internal.Told.{columns_of, event_columns, joined_columns};
 
 use irq_padding::{ARRIVAL, PADDING};
 use tracer::Event;
@@ -31,7 +31,7 @@ impl Columns {
 
     /// These numbers, and where one is not there the other's.
     pub fn or(self, other: Columns) -> Columns
-        ensures { result ≡ joined self other }
+        ensures { result ≡ joined_columns self other }
     {
         Columns {
             begins: self.begins.or(other.begins),

@@ -57,7 +57,7 @@ fn push_both(
 
 // Appends a number, or `-`, after a blank.
 fn push_number(number: Option<u64>, text: &mut Vec<u8>) -> Result<(), NoMemory>
-    ensures { OnOk result (text.new.items ≡ text.old.items ++ codes " " ++ spec.number_text number) }
+    ensures { OnOk result (text.new.items ≡ text.old.items ++ codes " " ++ spec.number_or_dash number) }
 {
     text.extend_from_slice(b" ")?;
     match number {

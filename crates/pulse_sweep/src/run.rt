@@ -3,8 +3,8 @@
 ghost use Rattle.std.specs.Prelude.{◌≡◌, ◌<◌, ◌≤◌, ◌+◌, ◌++◌, ◌^◌, IfOk, OnOk};
 ghost use Rattle.written_machine.specs.Cycle.{cycle};
 ghost use Rattle.written_machine.specs.Trace.{end_line_of, lines_of};
-ghost use Rattle.pulse_sweep.specs.Sweep.{pulse as pulse_alone, trace_at, columns_at};
-ghost use Rattle.pulse_sweep.specs.internal.Told.{joined, columns_of};
+ghost use Rattle.pulse_sweep.specs.Sweep.{lone_pulse as pulse_alone, trace_at, columns_at};
+ghost use Rattle.pulse_sweep.specs.internal.Told.{joined_columns, columns_of};
 
 use crate::columns::{Columns, columns_of};
 use crate::{NoMemory, Pulses};
@@ -61,7 +61,7 @@ impl Run {
         requires number { board.old.present.cycle < 2 ^ 62 }
         ensures state { board.new.present ≡ (cycle board.old.present).state }
         ensures number { board.new.present.cycle ≤ board.old.present.cycle + 1 }
-        ensures columns { OnOk result (self.new.columns ≡ joined self.old.columns
+        ensures columns { OnOk result (self.new.columns ≡ joined_columns self.old.columns
             (columns_of pulse board.old.present.cycle (cycle board.old.present).events)) }
         ensures trace { OnOk result (self.new.trace.items ≡
             self.old.trace.items ++ lines_of board.old.present.cycle (cycle board.old.present).events) }

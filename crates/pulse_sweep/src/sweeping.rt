@@ -69,9 +69,9 @@ impl Swept {
 }
 
 // Appends the end line.
-#[tactic(auto, unfolding(crate::specs::Sweep::end_text))]
+#[tactic(auto, unfolding(crate::specs::Sweep::sweep_end_text))]
 fn push_end(same: u64, different: u64, text: &mut Vec<u8>) -> Result<(), NoMemory>
-    ensures { OnOk result (text.new.items ≡ text.old.items ++ spec.end_text same different) }
+    ensures { OnOk result (text.new.items ≡ text.old.items ++ spec.sweep_end_text same different) }
 {
     text.extend_from_slice(b"end ")?;
     push_decimal(same, text)?;

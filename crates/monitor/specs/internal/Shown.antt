@@ -8,15 +8,15 @@ use Rattle.board.specs.declared.marks.LastFault.TheVariants.{NoMark, NotThere}
 use Rattle.monitor.specs.declared.showing.Refusal.{Refusal}
 
 -- that a byte is refused
-abbrev pub refusal_text : Refusal → List ℕ
-refusal_text refusal = codes "refused ReadData addr " ++ hex_word refusal.addr ++ codes " module " ++ decimal refusal.id
+abbrev pub refused_text : Refusal → List ℕ
+refused_text refusal = codes "refused ReadData addr " ++ hex_word refusal.addr ++ codes " module " ++ decimal refusal.id
 
 -- where one is, or else the rest
 abbrev pub refusal_or : Option Refusal → List ℕ → List ℕ
 refusal_or None rest = rest
-refusal_or (Some refusal) rest = refusal_text refusal
+refusal_or (Some refusal) rest = refused_text refusal
 
 -- why it does not go back to an address
-abbrev pub fault_text : LastFault → List ℕ
-fault_text (NoMark k) = no_mark_text k
-fault_text (NotThere addr) = not_there_text addr
+abbrev pub last_fault_text : LastFault → List ℕ
+last_fault_text (NoMark k) = no_mark_text k
+last_fault_text (NotThere addr) = not_there_text addr

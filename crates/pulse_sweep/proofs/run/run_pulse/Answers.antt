@@ -1,12 +1,12 @@
 use Rattle.std.proofs.Common.{◌≡◌, ◌∙◌, arith}
 use Rattle.written_machine.specs.View.{boot}
-use Rattle.pulse_sweep.specs.Sweep.{pulse}
+use Rattle.pulse_sweep.specs.Sweep.{lone_pulse}
 use Rattle.pulse_sweep.proofs.Running.{state_next, columns_next, lines_next, columns_whole, trace_whole}
 use Rattle.pulse_sweep.proofs.run.run_pulse.Goals as goal
 
 pub loop-i-preserved : goal.loop-i-preserved
 loop-i-preserved c =
-    let s = boot c.args.image.now (pulse c.args.pulses.now.line c.args.pulse) in
+    let s = boot c.args.image.now (lone_pulse c.args.pulses.now.line c.args.pulse) in
     let t = c.loop-i.board.present in
     let n = c.loop-i.i in
     record {
