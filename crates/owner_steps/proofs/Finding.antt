@@ -29,7 +29,7 @@ use Rattle.board.specs.Watched.{Watched, is_begin, watched_by}
 use Rattle.board.proofs.Aligned.{plan_aligned}
 use Rattle.board.proofs.Runs.{stays}
 use Rattle.board.proofs.Whole.{home_whole}
-use Rattle.owner_steps.specs.Begun.{Begun, begun, begun_as, begun_by, begun_in, settled}
+use Rattle.owner_steps.specs.Begun.{Begun, begun, begun_as, begun_unless, begun_in, settled_state}
 use Rattle.owner_steps.specs.internal.Touching.{plan_shown}
 use Rattle.owner_steps.specs.internal.Watching.{Sees, begun_of}
 use Rattle.owner_steps.specs.declared.watching.Found.{Found}
@@ -157,22 +157,22 @@ no_refusal : (o : Option Denied) (s : State) → stop_at o s ≡ None → o ≡ 
 no_refusal None s e = refl
 no_refusal (Some d) s e = absurd cc
 
-none_refused : (s : State) → refused_in s ≡ None → first_refused (checks (settled s)) ≡ None
+none_refused : (s : State) → refused_in s ≡ None → first_refused (checks (settled_state s)) ≡ None
 unfolding refused_in
-none_refused s e = no_refusal (first_refused (checks (settled s))) (settled s) e
+none_refused s e = no_refusal (first_refused (checks (settled_state s))) (settled_state s) e
 
 stop_none : (o : Option Stop) → is_some o ≡ false → o ≡ None
 stop_none None e = refl
 stop_none (Some stop) e = absurd cc
 
-stop_some : (o : Option Stop) (turn : Turn) (s : State) → is_some o ≡ true → begun_by o turn s ≡ None
+stop_some : (o : Option Stop) (turn : Turn) (s : State) → is_some o ≡ true → begun_unless o turn s ≡ None
 stop_some None turn s e = absurd cc
 stop_some (Some stop) turn s e = refl
 
 -- a cycle that stops the machine, or finds it stopped, begins nothing
 pub none_begun : (s t : State) → t ≡ (cycle s).state → is_some t.stop ≡ true → begun s ≡ None
 none_begun s t is stopped =
-    stop_some (cycle s).state.stop (case_of (settled s)) (entered (settled s)) (ap (λ (u : State). is_some u.stop) (sym is) ∙ stopped)
+    stop_some (cycle s).state.stop (case_of (settled_state s)) (entered (settled_state s)) (ap (λ (u : State). is_some u.stop) (sym is) ∙ stopped)
 
 abbrev pub looks : Watcher → State → Watcher → Type 0
 looks old s new = Sees s new.found
@@ -191,4 +191,4 @@ begun_found law s t old new is runs watched = by s.stop refl watched
     by None e sees =
         let refused : refused_in s ≡ None = sym (law s e) ∙ stop in
         sees (none_refused s refused)
-        ∙ sym (ap (λ (o : Option Stop). begun_by o (case_of (settled s)) (entered (settled s))) stop)
+        ∙ sym (ap (λ (o : Option Stop). begun_unless o (case_of (settled_state s)) (entered (settled_state s))) stop)

@@ -10,11 +10,11 @@ use Rattle.cpu_step.specs.Effect.{does}
 use Rattle.cpu_step.specs.Plan.{plan}
 use Rattle.cpu_step.specs.Through.{Taken, stored_in, taken, through}
 use Rattle.written_machine.specs.Ports.{read_width}
-use Rattle.owner_steps.specs.Touched.{Traced, after_read, after_write, answered, touch}
-use Rattle.owner_steps.specs.internal.Touching.{kept, read_kept, write_kept}
+use Rattle.owner_steps.specs.Touched.{Traced, traced_read, traced_write, traced_answer, touch}
+use Rattle.owner_steps.specs.internal.Touching.{kept_touches, read_kept, write_kept}
 use Rattle.owner_steps.specs.declared.touching.Touch.{Touch}
 
-kept_all : (xs : List Touch) (x : Touch) → length xs < 3 → kept xs x ≡ xs ++ (x ∷ [])
+kept_all : (xs : List Touch) (x : Touch) → length xs < 3 → kept_touches xs x ≡ xs ++ (x ∷ [])
 kept_all xs x h =
     let test : nat_lt (length xs) 3 ≡ true = grind (arith, nat_tests) in
     ap (λ (b : Bool). if b then xs ++ (x ∷ []) else xs) test
@@ -22,37 +22,37 @@ kept_all xs x h =
 one_more : (xs : List Touch) (x : Touch) → length (xs ++ (x ∷ [])) ≡ length xs + 1
 one_more xs x = omega (arith, length-append xs (x ∷ []))
 
-read_same : (t : Traced) (x : Access) → length t.touched < 3 → read_kept t x.width x.addr ≡ after_read t x.width x.addr
+read_same : (t : Traced) (x : Access) → length t.touched < 3 → read_kept t x.width x.addr ≡ traced_read t x.width x.addr
 read_same t x h =
     ap (λ (l : List Touch). let u : Traced = record { port = (read_width x.width t.port x.addr).port; touched = l } in u)
-    (kept_all t.touched (touch Read x.width x.addr (answered t x.width x.addr)) h)
+    (kept_all t.touched (touch Read x.width x.addr (traced_answer t x.width x.addr)) h)
 
-write_same : (t : Traced) (x : Access) (v : ℕ) → length t.touched < 3 → write_kept t x.width x.addr v ≡ after_write t x.width x.addr v
+write_same : (t : Traced) (x : Access) (v : ℕ) → length t.touched < 3 → write_kept t x.width x.addr v ≡ traced_write t x.width x.addr v
 write_same t x v h = ap (λ (l : List Touch). let u : Traced = record t { touched = l } in u) (kept_all t.touched (touch Write x.width x.addr v) h)
 
 abbrev value_first : ℕ → Taken Traced → Taken Traced
 value_first v r = record { values = v ∷ r.values; state = r.state }
 
-reads_same : (xs : List Access) (t : Traced) → length t.touched + length xs ≤ 3 → taken answered read_kept t xs ≡ taken answered after_read t xs
+reads_same : (xs : List Access) (t : Traced) → length t.touched + length xs ≤ 3 → taken traced_answer read_kept t xs ≡ taken traced_answer traced_read t xs
 reads_same [] t h = refl
 reads_same (x ∷ xs) t h =
-    let next : Traced = after_read t x.width x.addr in
-    let long : length next.touched ≡ length t.touched + 1 = one_more t.touched (touch Read x.width x.addr (answered t x.width x.addr)) in
-    ap (λ (u : Traced). value_first (answered t x.width x.addr) (taken answered read_kept u xs)) (read_same t x (omega arith))
-    ∙ ap (value_first (answered t x.width x.addr)) (reads_same xs next (omega (arith, long)))
+    let next : Traced = traced_read t x.width x.addr in
+    let long : length next.touched ≡ length t.touched + 1 = one_more t.touched (touch Read x.width x.addr (traced_answer t x.width x.addr)) in
+    ap (λ (u : Traced). value_first (traced_answer t x.width x.addr) (taken traced_answer read_kept u xs)) (read_same t x (omega arith))
+    ∙ ap (value_first (traced_answer t x.width x.addr)) (reads_same xs next (omega (arith, long)))
 
-reads_long : (xs : List Access) (t : Traced) → length (taken answered after_read t xs).state.touched ≡ length t.touched + length xs
+reads_long : (xs : List Access) (t : Traced) → length (taken traced_answer traced_read t xs).state.touched ≡ length t.touched + length xs
 reads_long [] t = omega arith
 reads_long (x ∷ xs) t =
-    let next : Traced = after_read t x.width x.addr in
-    let long : length next.touched ≡ length t.touched + 1 = one_more t.touched (touch Read x.width x.addr (answered t x.width x.addr)) in
+    let next : Traced = traced_read t x.width x.addr in
+    let long : length next.touched ≡ length t.touched + 1 = one_more t.touched (touch Read x.width x.addr (traced_answer t x.width x.addr)) in
     omega (arith, long, reads_long xs next)
 
-writes_same : (xs : List Access) (values : List ℕ) (t : Traced) → length t.touched + length xs ≤ 3 → stored_in write_kept t xs values ≡ stored_in after_write t xs values
+writes_same : (xs : List Access) (values : List ℕ) (t : Traced) → length t.touched + length xs ≤ 3 → stored_in write_kept t xs values ≡ stored_in traced_write t xs values
 writes_same [] values t h = refl
 writes_same (x ∷ xs) [] t h = refl
 writes_same (x ∷ xs) (v ∷ values) t h =
-    let next : Traced = after_write t x.width x.addr v in
+    let next : Traced = traced_write t x.width x.addr v in
     let long : length next.touched ≡ length t.touched + 1 = one_more t.touched (touch Write x.width x.addr v) in
     ap (λ (u : Traced). stored_in write_kept u xs values) (write_same t x v (omega arith))
     ∙ writes_same xs values next (omega (arith, long))
@@ -68,10 +68,10 @@ parts (x ∷ xs) = apart x.kind x (reads_of xs) (writes_of xs) (length xs) (part
 
 -- what three accesses leave is kept
 pub all_kept : (insn : Insn) (core : List ℕ) (t : Traced) → t.touched ≡ [] → length (plan insn core) ≤ 3
-    → (through answered read_kept write_kept insn core false t).state ≡ (through answered after_read after_write insn core false t).state
+    → (through traced_answer read_kept write_kept insn core false t).state ≡ (through traced_answer traced_read traced_write insn core false t).state
 all_kept insn core t none few =
     let xs : List Access = plan insn core in
-    let r : Taken Traced = taken answered after_read t (reads_of xs) in
+    let r : Taken Traced = taken traced_answer traced_read t (reads_of xs) in
     let empty : length t.touched ≡ 0 = ap length none in
     ap (λ (r : Taken Traced). stored_in write_kept r.state (writes_of xs) (does insn core r.values false).stored)
     (reads_same (reads_of xs) t (omega (arith, empty, few, parts xs)))

@@ -10,7 +10,7 @@ use Rattle.board.specs.Ran.{ran_of}
 use Rattle.board.specs.declared.Ran.{Ran}
 use Rattle.owner_steps.specs.Begun.{Begun, begun}
 use Rattle.owner_steps.specs.Stepped.{Stepped}
-use Rattle.owner_steps.specs.Steps.{between, early_count, owner_lines, text_with}
+use Rattle.owner_steps.specs.Steps.{lines_between, early_count, owner_lines, text_with}
 
 -- the lines before an instruction, and those behind it
 abbrev pub early_lines : State → List ℕ
@@ -25,11 +25,11 @@ early_is s number events xs at are is = ap (λ (k : ℕ). lines_of k xs) at ∙ 
 pub late_is : (s : State) (number : ℕ) (events xs : List Event) → number ≡ s.cycle → events ≡ (cycle s).events → xs ≡ drop (early_count events) events → lines_of number xs ≡ late_lines s
 late_is s number events xs at are is = ap (λ (k : ℕ). lines_of k xs) at ∙ ap (lines_of s.cycle) (is ∙ ap (λ (es : List Event). drop (early_count es) es) are)
 
-pub own_is : (s t : State) (old new : List ℕ) (o : Option Begun) → old ≡ s.core → t ≡ (cycle s).state → new ≡ t.core → o ≡ begun s → between old o new ≡ owner_lines s
+pub own_is : (s t : State) (old new : List ℕ) (o : Option Begun) → old ≡ s.core → t ≡ (cycle s).state → new ≡ t.core → o ≡ begun s → lines_between old o new ≡ owner_lines s
 own_is s t old new o before state after begins =
-    ap (λ (c : List ℕ). between c o new) before
-    ∙ ap (λ (b : Option Begun). between s.core b new) begins
-    ∙ ap (λ (c : List ℕ). between s.core (begun s) c) (after ∙ ap (λ (u : State). u.core) state)
+    ap (λ (c : List ℕ). lines_between c o new) before
+    ∙ ap (λ (b : Option Begun). lines_between s.core b new) begins
+    ∙ ap (λ (c : List ℕ). lines_between s.core (begun s) c) (after ∙ ap (λ (u : State). u.core) state)
 
 -- how a run ends whose text was taken
 pub stepped : {S : Type 0} (taken : S → Option (List ℕ)) (faults sure : S → ℕ) (n : ℕ) (s t : State) (before after : S) (r : Ran) → Took taken faults sure before after (text_with owner_lines s n)

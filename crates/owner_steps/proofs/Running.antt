@@ -17,7 +17,7 @@ use Rattle.written_machine.specs.View.{at, boot}
 use Rattle.board.proofs.Runs.{state_more, state_split, stays, stopped_state}
 use Rattle.owner_steps.specs.Begun.{begun}
 use Rattle.owner_steps.specs.Registers.{line_if, register_text, register_unless, registers_line}
-use Rattle.owner_steps.specs.Steps.{between, early_count, lines_with, owner_lines, run_with, text_with}
+use Rattle.owner_steps.specs.Steps.{lines_between, early_count, lines_with, owner_lines, run_with, text_with}
 use Rattle.owner_steps.proofs.Finding.{none_begun}
 
 -- ---- the trace
@@ -86,8 +86,8 @@ silent : (s : State) (stop : Stop) → s.stop ≡ Some stop → lines_with owner
 silent s stop e =
     let rests = stays s stop e in
     let none : begun s ≡ None = none_begun s (cycle s).state refl (ap (λ (t : Step). is_some t.state.stop) rests ∙ ap is_some e) in
-    ap (λ (t : Step). (lines_of s.cycle (take (early_count t.events) t.events) ++ between s.core (begun s) t.state.core) ++ lines_of s.cycle (drop (early_count t.events) t.events)) rests
-    ∙ ap (λ o. between s.core o s.core ++ []) none
+    ap (λ (t : Step). (lines_of s.cycle (take (early_count t.events) t.events) ++ lines_between s.core (begun s) t.state.core) ++ lines_of s.cycle (drop (early_count t.events) t.events)) rests
+    ∙ ap (λ o. lines_between s.core o s.core ++ []) none
     ∙ append-nil (registers_line s.core s.core)
     ∙ no_line s.core
 

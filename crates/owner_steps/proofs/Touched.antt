@@ -16,7 +16,7 @@ use Rattle.cpu_step.specs.Through.{AreAligned, through}
 use Rattle.written_machine.specs.Cycle.{port_of}
 use Rattle.written_machine.specs.State.{State}
 use Rattle.board.specs.Watched.{is_held_first}
-use Rattle.owner_steps.specs.Touched.{Traced, answered, shown, shown_by, touched}
+use Rattle.owner_steps.specs.Touched.{Traced, traced_answer, shown, shown_by, touched}
 use Rattle.owner_steps.specs.internal.Touching.{plan_shown, read_kept, write_kept}
 use Rattle.owner_steps.specs.declared.touching.Touch.{Touch}
 use Rattle.owner_steps.proofs.Kept.{all_kept}
@@ -37,16 +37,16 @@ start_is d b m same marked =
 
 -- what is kept of an instruction is all that it reads and writes
 pub touched_is : (insn : Insn) (s : State) (core : List ℕ) (d : Devices) (xs : List Touch) (after : Traced) → core ≡ s.core → d ≡ s.devices → xs ≡ [] → length (plan insn core) ≤ 3
-    → after ≡ (through answered read_kept write_kept insn core false (record { port = record { devices = d; memory = s.memory }; touched = xs })).state → after.touched ≡ touched insn s
+    → after ≡ (through traced_answer read_kept write_kept insn core false (record { port = record { devices = d; memory = s.memory }; touched = xs })).state → after.touched ≡ touched insn s
 touched_is insn s core d xs after core_is devices_are none few is =
     let begins : List ℕ → Devices → List Touch → Traced = λ c e l. record { port = record { devices = e; memory = s.memory }; touched = l } in
     let small : length (plan insn s.core) ≤ 3 = subst (λ (c : List ℕ). length (plan insn c) ≤ 3) core_is few in
     let start : Traced = record { port = port_of s; touched = [] } in
     ap (λ (t : Traced). t.touched)
     (is
-    ∙ ap (λ (c : List ℕ). (through answered read_kept write_kept insn c false (begins c d xs)).state) core_is
-    ∙ ap (λ (e : Devices). (through answered read_kept write_kept insn s.core false (begins s.core e xs)).state) devices_are
-    ∙ ap (λ (l : List Touch). (through answered read_kept write_kept insn s.core false (begins s.core s.devices l)).state) none
+    ∙ ap (λ (c : List ℕ). (through traced_answer read_kept write_kept insn c false (begins c d xs)).state) core_is
+    ∙ ap (λ (e : Devices). (through traced_answer read_kept write_kept insn s.core false (begins s.core e xs)).state) devices_are
+    ∙ ap (λ (l : List Touch). (through traced_answer read_kept write_kept insn s.core false (begins s.core s.devices l)).state) none
     ∙ all_kept insn s.core start refl small)
 
 -- RETI that resumes a module

@@ -71,14 +71,14 @@ begun_in Begins s = option_map (begun_as s) (insn_at_pc s)
 begun_in _ s = None
 
 -- a refused one did not begin
-abbrev pub begun_by : Option Stop → Turn → State → Option Begun
-begun_by None turn s = begun_in turn s
-begun_by (Some stop) turn s = None
+abbrev pub begun_unless : Option Stop → Turn → State → Option Begun
+begun_unless None turn s = begun_in turn s
+begun_unless (Some stop) turn s = None
 
 -- the state in which a cycle ends in what it is
-abbrev pub settled : State → State
-settled s = (settle (ticked s)).state
+abbrev pub settled_state : State → State
+settled_state s = (settle (ticked s)).state
 
 -- what the next cycle begins, done for the module that it enters
 abbrev pub begun : State → Option Begun
-begun s = begun_by (cycle s).state.stop (case_of (settled s)) (entered (settled s))
+begun s = begun_unless (cycle s).state.stop (case_of (settled_state s)) (entered (settled_state s))

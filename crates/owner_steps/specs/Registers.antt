@@ -14,8 +14,8 @@ abbrev pub register_text : List ℕ → List ℕ → ℕ → List ℕ
 register_text old new n = register_unless (reg old n == reg new n) n (reg new n)
 
 -- the first n registers
-abbrev pub registers_text : List ℕ → List ℕ → ℕ → List ℕ
-registers_text old new n = flat_map (register_text old new) (range_with_len 0 n)
+abbrev pub changed_registers : List ℕ → List ℕ → ℕ → List ℕ
+changed_registers old new n = flat_map (register_text old new) (range_with_len 0 n)
 
 -- a line of a text, where there is one
 abbrev pub line_if : List ℕ → List ℕ
@@ -23,4 +23,4 @@ line_if [] = []
 line_if (byte ∷ text) = codes " " ++ (byte ∷ text) ++ codes "\n"
 
 abbrev pub registers_line : List ℕ → List ℕ → List ℕ
-registers_line old new = line_if (registers_text old new 16)
+registers_line old new = line_if (changed_registers old new 16)

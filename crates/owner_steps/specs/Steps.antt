@@ -24,12 +24,12 @@ abbrev pub early_count : List Event → ℕ
 early_count events = prefix_len is_early events
 
 -- the registers that changed without an instruction, and then the instruction with those that it changed: PC where it is not behind it
-abbrev pub between : List ℕ → Option Begun → List ℕ → List ℕ
-between old None new = registers_line old new
-between old (Some b) new = registers_line old b.core ++ b.lines ++ registers_line b.past new
+abbrev pub lines_between : List ℕ → Option Begun → List ℕ → List ℕ
+lines_between old None new = registers_line old new
+lines_between old (Some b) new = registers_line old b.core ++ b.lines ++ registers_line b.past new
 
 abbrev pub owner_lines : State → List ℕ
-owner_lines s = between s.core (begun s) (cycle s).state.core
+owner_lines s = lines_between s.core (begun s) (cycle s).state.core
 
 -- the lines of the next cycle, with others among them
 abbrev pub lines_with : (State → List ℕ) → State → List ℕ

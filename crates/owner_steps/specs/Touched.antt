@@ -22,19 +22,19 @@ pub record Traced : Type 0 where
   pub port : Port
   pub touched : List Touch
 
-abbrev pub answered : Traced → Width → ℕ → ℕ
-answered t w a = (read_width w t.port a).value
+abbrev pub traced_answer : Traced → Width → ℕ → ℕ
+traced_answer t w a = (read_width w t.port a).value
 
-abbrev pub after_read : Traced → Width → ℕ → Traced
-after_read t w a = record { port = (read_width w t.port a).port; touched = t.touched ++ (touch Read w a (answered t w a) ∷ []) }
+abbrev pub traced_read : Traced → Width → ℕ → Traced
+traced_read t w a = record { port = (read_width w t.port a).port; touched = t.touched ++ (touch Read w a (traced_answer t w a) ∷ []) }
 
 -- an instruction reads nothing once it has written, so what it writes need not be there
-abbrev pub after_write : Traced → Width → ℕ → ℕ → Traced
-after_write t w a v = record t { touched = t.touched ++ (touch Write w a v ∷ []) }
+abbrev pub traced_write : Traced → Width → ℕ → ℕ → Traced
+traced_write t w a v = record t { touched = t.touched ++ (touch Write w a v ∷ []) }
 
 -- by an instruction, whoever does it
 abbrev pub touched : Insn → State → List Touch
-touched insn s = (through answered after_read after_write insn s.core false (record { port = port_of s; touched = [] })).state.touched
+touched insn s = (through traced_answer traced_read traced_write insn s.core false (record { port = port_of s; touched = [] })).state.touched
 
 -- what is shown of it: RETI touches nothing where it resumes a module, and what unit instructions touch is not shown
 abbrev pub shown_by : Insn → List Frame → State → List Touch

@@ -4,7 +4,7 @@ ghost use Rattle.std.specs.Prelude.{◌≡◌, ◌≤◌, ◌<◌, ◌+◌, ◌^
 ghost use Rattle.sm_io.specs.Sink.{Puts};
 ghost use Rattle.written_machine.specs.Cycle.{cycle, after_cycles};
 ghost use Rattle.owner_steps.specs.Begun.{begun};
-ghost use Rattle.owner_steps.specs.Steps.{between, early_count, is_early, lines_with, owner_lines, run_with};
+ghost use Rattle.owner_steps.specs.Steps.{lines_between, early_count, is_early, lines_with, owner_lines, run_with};
 ghost use Rattle.owner_steps.specs.Stepped.{Stepped};
 ghost use Rattle.owner_steps.specs.Registers.{registers_line};
 ghost use Rattle.owner_steps.specs.internal.Watching.{begun_of};
@@ -146,7 +146,7 @@ fn put_between<S: Sink>(
     new: &Core,
     sink: &mut S,
 ) -> Result<(), Failed>
-    ensures { Puts S.taken S.faults S.sure sink.old sink.new (between old.now (option_map begun_of found) new.now) result }
+    ensures { Puts S.taken S.faults S.sure sink.old sink.new (lines_between old.now (option_map begun_of found) new.now) result }
 {
     match found {
         None => put_registers(old, new, sink),

@@ -7,7 +7,7 @@ ghost use Rattle.cpu_step.specs.Plan.{plan};
 ghost use Rattle.cpu_step.specs.Through.{AreAligned};
 ghost use Rattle.written_machine.specs.Ports.{read_byte};
 ghost use Rattle.owner_steps.specs.Touched as spec;
-ghost use Rattle.owner_steps.specs.internal.Touching.{kept, plan_shown, traced_of};
+ghost use Rattle.owner_steps.specs.internal.Touching.{kept_touches, plan_shown, traced_of};
 
 use arrayvec::ArrayVec;
 use board::Settled;
@@ -90,7 +90,7 @@ impl Touching<'_> {
 
     fn keep(&mut self, kind: Kind, addr: u16, width: Width, value: u16)
         ensures { traced_of self.new ≡ record (traced_of self.old)
-            { touched = kept (traced_of self.old).touched (spec.touch kind width addr value) } }
+            { touched = kept_touches (traced_of self.old).touched (spec.touch kind width addr value) } }
     {
         if !self.touched.is_full() {
             self.touched.push(Touch {
@@ -102,14 +102,14 @@ impl Touching<'_> {
 }
 
 impl Port for Touching<'_> {
-    ghost use Rattle.owner_steps.specs.Touched.{Traced, answered};
+    ghost use Rattle.owner_steps.specs.Touched.{Traced, traced_answer};
     ghost use Rattle.owner_steps.specs.internal.Touching.{read_kept, traced_of, write_kept};
 
     ghost State = { Traced };
 
     ghost state = { traced_of };
 
-    ghost answer = { answered };
+    ghost answer = { traced_answer };
 
     ghost after_read = { read_kept };
 

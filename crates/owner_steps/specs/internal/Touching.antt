@@ -9,7 +9,7 @@ use Rattle.reg_backup.specs.declared.frames.Frame.{Frame}
 use Rattle.reg_backup.specs.declared.frames.Frame.TheVariants.{Module as Held}
 use Rattle.cpu_step.specs.Plan.{plan}
 use Rattle.written_machine.specs.Ports.{read_width}
-use Rattle.owner_steps.specs.Touched.{Traced, answered, touch}
+use Rattle.owner_steps.specs.Touched.{Traced, traced_answer, touch}
 use Rattle.owner_steps.specs.declared.touching.Touch.{Touch}
 use Rattle.owner_steps.specs.declared.touching.Touching.{Touching}
 
@@ -21,14 +21,14 @@ traced_of t = record {
 }
 
 -- three are kept, and no more
-abbrev pub kept : List Touch → Touch → List Touch
-kept xs x = if nat_lt (length xs) 3 then xs ++ (x ∷ []) else xs
+abbrev pub kept_touches : List Touch → Touch → List Touch
+kept_touches xs x = if nat_lt (length xs) 3 then xs ++ (x ∷ []) else xs
 
 abbrev pub read_kept : Traced → Width → ℕ → Traced
-read_kept t w a = record { port = (read_width w t.port a).port; touched = kept t.touched (touch Read w a (answered t w a)) }
+read_kept t w a = record { port = (read_width w t.port a).port; touched = kept_touches t.touched (touch Read w a (traced_answer t w a)) }
 
 abbrev pub write_kept : Traced → Width → ℕ → ℕ → Traced
-write_kept t w a v = record t { touched = kept t.touched (touch Write w a v) }
+write_kept t w a v = record t { touched = kept_touches t.touched (touch Write w a v) }
 
 -- the plan of what is shown
 abbrev pub plan_shown : Insn → List Frame → List ℕ → List Access

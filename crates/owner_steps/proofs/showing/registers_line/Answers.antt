@@ -1,5 +1,5 @@
 use Rattle.std.proofs.Common.{◌≡◌, ◌∙◌, ap, arith}
-use Rattle.owner_steps.specs.Registers.{line_if, registers_text}
+use Rattle.owner_steps.specs.Registers.{line_if, changed_registers}
 use Rattle.owner_steps.proofs.Registers.{register_added}
 use Rattle.owner_steps.proofs.showing.registers_line.Goals as goal
 
@@ -12,4 +12,4 @@ loop-n-preserved c = record {
 pub returns : goal.returns
 returns c =
     let all : c.loop-n.n ≡ 16 = omega (arith, c.loop-n-test.false, c.loop-n.auto.n-end) in
-    c.line_if.ensures ∙ ap line_if c.loop-n.invariant.text ∙ ap (λ n. line_if (registers_text c.args.old.now c.args.new.now n)) all
+    c.line_if.ensures ∙ ap line_if c.loop-n.invariant.text ∙ ap (λ n. line_if (changed_registers c.args.old.now c.args.new.now n)) all
