@@ -16,7 +16,7 @@ use Rattle.cpu_step.specs.Through.{AreAligned, through}
 use Rattle.written_machine.specs.Cycle.{port_of}
 use Rattle.written_machine.specs.State.{State}
 use Rattle.board.specs.Watched.{is_held_first}
-use Rattle.owner_steps.specs.Touched.{Traced, traced_answer, shown, shown_by, touched}
+use Rattle.owner_steps.specs.Touched.{Traced, traced_answer, shown_touches, shown_by, touched}
 use Rattle.owner_steps.specs.internal.Touching.{plan_shown, read_kept, write_kept}
 use Rattle.owner_steps.specs.declared.touching.Touch.{Touch}
 use Rattle.owner_steps.proofs.Kept.{all_kept}
@@ -50,18 +50,18 @@ touched_is insn s core d xs after core_is devices_are none few is =
     ∙ all_kept insn s.core start refl small)
 
 -- RETI that resumes a module
-pub resumes : (insn : Insn) (s : State) (xs : List Touch) → insn ≡ Reti → is_held_first s.frames ≡ true → xs ≡ [] → xs ≡ shown insn s
-resumes insn s xs is first none = by s.frames first ∙ ap (λ (i : Insn). shown i s) (sym is)
+pub resumes : (insn : Insn) (s : State) (xs : List Touch) → insn ≡ Reti → is_held_first s.frames ≡ true → xs ≡ [] → xs ≡ shown_touches insn s
+resumes insn s xs is first none = by s.frames first ∙ ap (λ (i : Insn). shown_touches i s) (sym is)
   where
     by : (fs : List Frame) → is_held_first fs ≡ true → xs ≡ shown_by Reti fs s
     by (Held b ∷ fs) h = none
     by _ h = absurd cc
 
 -- and another
-pub returns_plain : (insn : Insn) (s : State) (xs : List Touch) → insn ≡ Reti → is_held_first s.frames ≡ false → (AreAligned (plan insn s.core) → xs ≡ touched insn s) → AreAligned (plan_shown insn s.frames s.core) → xs ≡ shown insn s
+pub returns_plain : (insn : Insn) (s : State) (xs : List Touch) → insn ≡ Reti → is_held_first s.frames ≡ false → (AreAligned (plan insn s.core) → xs ≡ touched insn s) → AreAligned (plan_shown insn s.frames s.core) → xs ≡ shown_touches insn s
 returns_plain insn s xs is first all aligned =
     by s.frames first (subst (λ (i : Insn). AreAligned (plan i s.core) → xs ≡ touched i s) is all) (subst (λ (i : Insn). AreAligned (plan_shown i s.frames s.core)) is aligned)
-    ∙ ap (λ (i : Insn). shown i s) (sym is)
+    ∙ ap (λ (i : Insn). shown_touches i s) (sym is)
   where
     by : (fs : List Frame) → is_held_first fs ≡ false → (AreAligned (plan Reti s.core) → xs ≡ touched Reti s) → AreAligned (plan_shown Reti fs s.core) → xs ≡ shown_by Reti fs s
     by (Held b ∷ fs) h f a = absurd cc

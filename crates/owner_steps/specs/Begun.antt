@@ -17,7 +17,7 @@ use Rattle.cpu_step.specs.Plan.{past}
 use Rattle.written_machine.specs.Checks.{entered, first_word, insn_at_pc}
 use Rattle.written_machine.specs.Cycle.{byte_of, case_of, cycle, pc_of, settle, ticked}
 use Rattle.written_machine.specs.State.{State}
-use Rattle.owner_steps.specs.Touched.{shown}
+use Rattle.owner_steps.specs.Touched.{shown_touches}
 use Rattle.owner_steps.specs.declared.touching.Touch.{Touch}
 
 -- ---- its line
@@ -63,7 +63,7 @@ pub record Begun : Type 0 where
   pub lines : List ℕ
 
 abbrev pub begun_as : State → Insn → Begun
-begun_as s insn = record { core = s.core; past = past insn s.core; lines = insn_line s insn ++ flat_map touch_line (shown insn s) }
+begun_as s insn = record { core = s.core; past = past insn s.core; lines = insn_line s insn ++ flat_map touch_line (shown_touches insn s) }
 
 -- the instruction at PC, where one begins
 abbrev pub begun_in : Turn → State → Option Begun

@@ -42,5 +42,5 @@ shown_by (UnitOp n) fs s = []
 shown_by Reti (Held b ∷ fs) s = []
 shown_by insn fs s = touched insn s
 
-abbrev pub shown : Insn → State → List Touch
-shown insn s = shown_by insn s.frames s
+abbrev pub shown_touches : Insn → State → List Touch
+shown_touches insn s = shown_by insn s.frames s

@@ -12,7 +12,7 @@ ghost use Rattle.owner_steps.specs.Begun as spec;
 ghost use Rattle.owner_steps.specs.Registers.{line_if, register_text, registers_line};
 ghost use Rattle.owner_steps.specs.internal.Touching.{plan_shown};
 
-use crate::touching::{Touch, shown};
+use crate::touching::{Touch, shown_touches};
 use arrayvec::ArrayString;
 use board::Settled;
 use cpu_step::Kind;
@@ -27,7 +27,7 @@ pub fn lines_of(settled: &Settled<'_>, insn: &Insn) -> ArrayString<160>
         result.bytes ≡ (spec.begun_as (entered settled.now) insn.now).lines }
 {
     let mut lines = insn_line(settled, insn);
-    let touched = shown(settled, insn);
+    let touched = shown_touches(settled, insn);
     push_touches(touched.as_slice(), &mut lines);
     lines
 }

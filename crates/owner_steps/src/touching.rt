@@ -25,10 +25,10 @@ pub struct Touch {
 }
 
 /// What an instruction that is shown reads and writes, where all its accesses are aligned.
-pub fn shown(settled: &Settled<'_>, insn: &Insn) -> ArrayVec<Touch, 3>
+pub fn shown_touches(settled: &Settled<'_>, insn: &Insn) -> ArrayVec<Touch, 3>
     requires decoded { IsDecoded insn.now }
     ensures { AreAligned (plan_shown insn.now settled.now.frames settled.now.core) →
-        result.items ≡ spec.shown insn.now settled.now }
+        result.items ≡ spec.shown_touches insn.now settled.now }
 {
     match insn {
         Insn::Unit(_) => ArrayVec::new(),
