@@ -16,7 +16,7 @@ use Rattle.cpu_step.specs.Through.{AreAligned, through}
 use Rattle.written_machine.specs.Cycle.{port_of}
 use Rattle.written_machine.specs.State.{State}
 use Rattle.board.specs.Watched.{is_held_first}
-use Rattle.owner_steps.specs.Touched.{Traced, traced_answer, shown_touches, shown_by, touched}
+use Rattle.owner_steps.specs.Touched.{Traced, traced_answer, shown_touches, shown_by, touches_of}
 use Rattle.owner_steps.specs.internal.Touching.{plan_shown, read_kept, write_kept}
 use Rattle.owner_steps.specs.declared.touching.Touch.{Touch}
 use Rattle.owner_steps.proofs.Kept.{all_kept}
@@ -37,7 +37,7 @@ start_is d b m same marked =
 
 -- what is kept of an instruction is all that it reads and writes
 pub touched_is : (insn : Insn) (s : State) (core : List ℕ) (d : Devices) (xs : List Touch) (after : Traced) → core ≡ s.core → d ≡ s.devices → xs ≡ [] → length (plan insn core) ≤ 3
-    → after ≡ (through traced_answer read_kept write_kept insn core false (record { port = record { devices = d; memory = s.memory }; touched = xs })).state → after.touched ≡ touched insn s
+    → after ≡ (through traced_answer read_kept write_kept insn core false (record { port = record { devices = d; memory = s.memory }; touched = xs })).state → after.touched ≡ touches_of insn s
 touched_is insn s core d xs after core_is devices_are none few is =
     let begins : List ℕ → Devices → List Touch → Traced = λ c e l. record { port = record { devices = e; memory = s.memory }; touched = l } in
     let small : length (plan insn s.core) ≤ 3 = subst (λ (c : List ℕ). length (plan insn c) ≤ 3) core_is few in
@@ -58,11 +58,11 @@ resumes insn s xs is first none = by s.frames first ∙ ap (λ (i : Insn). shown
     by _ h = absurd cc
 
 -- and another
-pub returns_plain : (insn : Insn) (s : State) (xs : List Touch) → insn ≡ Reti → is_held_first s.frames ≡ false → (AreAligned (plan insn s.core) → xs ≡ touched insn s) → AreAligned (plan_shown insn s.frames s.core) → xs ≡ shown_touches insn s
+pub returns_plain : (insn : Insn) (s : State) (xs : List Touch) → insn ≡ Reti → is_held_first s.frames ≡ false → (AreAligned (plan insn s.core) → xs ≡ touches_of insn s) → AreAligned (plan_shown insn s.frames s.core) → xs ≡ shown_touches insn s
 returns_plain insn s xs is first all aligned =
-    by s.frames first (subst (λ (i : Insn). AreAligned (plan i s.core) → xs ≡ touched i s) is all) (subst (λ (i : Insn). AreAligned (plan_shown i s.frames s.core)) is aligned)
+    by s.frames first (subst (λ (i : Insn). AreAligned (plan i s.core) → xs ≡ touches_of i s) is all) (subst (λ (i : Insn). AreAligned (plan_shown i s.frames s.core)) is aligned)
     ∙ ap (λ (i : Insn). shown_touches i s) (sym is)
   where
-    by : (fs : List Frame) → is_held_first fs ≡ false → (AreAligned (plan Reti s.core) → xs ≡ touched Reti s) → AreAligned (plan_shown Reti fs s.core) → xs ≡ shown_by Reti fs s
+    by : (fs : List Frame) → is_held_first fs ≡ false → (AreAligned (plan Reti s.core) → xs ≡ touches_of Reti s) → AreAligned (plan_shown Reti fs s.core) → xs ≡ shown_by Reti fs s
     by (Held b ∷ fs) h f a = absurd cc
     by _ h f a = f a

@@ -33,14 +33,14 @@ abbrev pub traced_write : Traced → Width → ℕ → ℕ → Traced
 traced_write t w a v = record t { touched = t.touched ++ (touch Write w a v ∷ []) }
 
 -- by an instruction, whoever does it
-abbrev pub touched : Insn → State → List Touch
-touched insn s = (through traced_answer traced_read traced_write insn s.core false (record { port = port_of s; touched = [] })).state.touched
+abbrev pub touches_of : Insn → State → List Touch
+touches_of insn s = (through traced_answer traced_read traced_write insn s.core false (record { port = port_of s; touched = [] })).state.touched
 
 -- what is shown of it: RETI touches nothing where it resumes a module, and what unit instructions touch is not shown
 abbrev pub shown_by : Insn → List Frame → State → List Touch
 shown_by (UnitOp n) fs s = []
 shown_by Reti (Held b ∷ fs) s = []
-shown_by insn fs s = touched insn s
+shown_by insn fs s = touches_of insn s
 
 abbrev pub shown_touches : Insn → State → List Touch
 shown_touches insn s = shown_by insn s.frames s

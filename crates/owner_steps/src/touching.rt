@@ -49,7 +49,7 @@ pub fn shown_touches(settled: &Settled<'_>, insn: &Insn) -> ArrayVec<Touch, 3>
 fn touched(settled: &Settled<'_>, insn: &Insn) -> ArrayVec<Touch, 3>
     requires decoded { IsDecoded insn.now }
     requires no_unit { IsFalse (is_unit insn.now) }
-    ensures { AreAligned (plan insn.now settled.now.core) → result.items ≡ spec.touched insn.now settled.now }
+    ensures { AreAligned (plan insn.now settled.now.core) → result.items ≡ spec.touches_of insn.now settled.now }
 {
     let mut core = settled.core();
     let accesses = plan(insn, &core);
