@@ -18,7 +18,7 @@ use Rattle.flow_rule.specs.Verdict.{start_under}
 use Rattle.flow_rule.specs.Arms.{step_arms, flow_under, VerdictWith}
 use Rattle.written_machine.specs.Peers.{section}
 use Rattle.peer_rows.specs.Laws.{DifferInData}
-use Rattle.peer_rows.specs.Rows.{with_words, called, caller, memory_of, image_of, blind, balanced, BlindPeers, BalancedPeers}
+use Rattle.peer_rows.specs.Rows.{with_words, row_module, caller, memory_of, row_image, blind, balanced, BlindPeers, BalancedPeers}
 use Rattle.peer_rows.proofs.Accepted.{accepted}
 use Rattle.peer_rows.proofs.Sound.{Sound, Words, sound_words, sound_zeros, set_else, none_at}
 
@@ -46,7 +46,7 @@ sound_memory text e =
     (sound_words 0x0300 text (with_words 0x0200 caller (replicate 65536 0)) (lit≤ tt) (words_fit text e)
     (sound_words 0x0200 caller (replicate 65536 0) (lit≤ tt) (words_fit caller refl) (sound_zeros 65536 refl)))))
 
-is_called : (text_end : ℕ) → 0x0300 < text_end → text_end % 2 ≡ 0 → text_end ≤ 0x0400 → IsModule 1 (called text_end)
+is_called : (text_end : ℕ) → 0x0300 < text_end → text_end % 2 ≡ 0 → text_end ≤ 0x0400 → IsModule 1 (row_module text_end)
 is_called e low even high = record {
   text_ok = record { order = low; even_start = refl; even_end = even; low = omega arith; high = omega arith };
   ram_ok = record { order = omega arith; even_start = refl; even_end = refl; low = omega arith; high = omega arith };
@@ -55,7 +55,7 @@ is_called e low even high = record {
   known = omega arith;
 }
 
-is_image : (text : List ℕ) (text_end word : ℕ) → all_words text ≡ true → 0x0300 < text_end → text_end % 2 ≡ 0 → text_end ≤ 0x0400 → word < 65536 → IsImage (image_of text text_end word)
+is_image : (text : List ℕ) (text_end word : ℕ) → all_words text ≡ true → 0x0300 < text_end → text_end % 2 ≡ 0 → text_end ≤ 0x0400 → word < 65536 → IsImage (row_image text text_end word)
 is_image text e word fit low even high small =
     let s : Sound (with_words 0x0400 (word ∷ []) (memory_of text)) = sound_words 0x0400 (word ∷ []) (memory_of text) (omega arith) (small, tt) (sound_memory text fit) in
     record {
@@ -72,17 +72,17 @@ is_image text e word fit low even high small =
       small_sp = omega arith;
     }
 
-same_else : (memory : List ℕ) (v w x : ℕ) → holds (called 0).ram x ≡ false → slice_index (with_words 0x0400 (v ∷ []) memory) x ≡ slice_index (with_words 0x0400 (w ∷ []) memory) x
+same_else : (memory : List ℕ) (v w x : ℕ) → holds (row_module 0).ram x ≡ false → slice_index (with_words 0x0400 (v ∷ []) memory) x ≡ slice_index (with_words 0x0400 (w ∷ []) memory) x
 same_else memory v w x e =
-    let a : x ≢ 0x0400 = λ f. absurd (clash (sym (ap (holds (called 0).ram) f) ∙ e)) in
-    let b : x ≢ 0x0401 = λ f. absurd (clash (sym (ap (holds (called 0).ram) f) ∙ e)) in
+    let a : x ≢ 0x0400 = λ f. absurd (clash (sym (ap (holds (row_module 0).ram) f) ∙ e)) in
+    let b : x ≢ 0x0401 = λ f. absurd (clash (sym (ap (holds (row_module 0).ram) f) ∙ e)) in
     set_else (set memory 0x0400 (v % 256)) 0x0401 (v / 256) x b ∙ set_else memory 0x0400 (v % 256) x a
     ∙ sym (set_else (set memory 0x0400 (w % 256)) 0x0401 (w / 256) x b ∙ set_else memory 0x0400 (w % 256) x a)
   where
     clash : true ≡ false → ⊥
     clash e = cc
 
-pub differ : (text : List ℕ) (text_end v w : ℕ) → all_words text ≡ true → 0x0300 < text_end → text_end % 2 ≡ 0 → text_end ≤ 0x0400 → v < 65536 → w < 65536 → DifferInData (image_of text text_end v) (image_of text text_end w) 1 (called text_end)
+pub differ : (text : List ℕ) (text_end v w : ℕ) → all_words text ≡ true → 0x0300 < text_end → text_end % 2 ≡ 0 → text_end ≤ 0x0400 → v < 65536 → w < 65536 → DifferInData (row_image text text_end v) (row_image text text_end w) 1 (row_module text_end)
 differ text e v w fit low even high a b = record {
   image_a = is_image text e v fit low even high a;
   image_b = is_image text e w fit low even high b;
@@ -99,32 +99,32 @@ unfoldable pub bytes_of : List ℕ → List ℕ
 bytes_of [] = []
 bytes_of (w ∷ ws) = w % 256 ∷ w / 256 ∷ bytes_of ws
 
-blind_text : section (called 0x0306).text (image_of blind 0x0306 0).memory ≡ bytes_of blind
+blind_text : section (row_module 0x0306).text (row_image blind 0x0306 0).memory ≡ bytes_of blind
 unfolding memory_of bytes_of
 blind_text = refl
 
-balanced_text : section (called 0x0322).text (image_of balanced 0x0322 0).memory ≡ bytes_of balanced
+balanced_text : section (row_module 0x0322).text (row_image balanced 0x0322 0).memory ≡ bytes_of balanced
 unfolding memory_of bytes_of
 balanced_text = refl
 
-blind_accepted : VerdictWith (called 0x0306) (bytes_of blind) [] Yes
+blind_accepted : VerdictWith (row_module 0x0306) (bytes_of blind) [] Yes
 unfolding bytes_of step_arms met step_of step_stub has_stub plan_val does_val insn_of
 blind_accepted =
-    let step : Point → Step = flow_under no_terms (called 0x0306) (bytes_of blind) [] in
-    let start : Point = start_under no_terms (called 0x0306) (bytes_of blind) in
+    let step : Point → Step = flow_under no_terms (row_module 0x0306) (bytes_of blind) [] in
+    let start : Point = start_under no_terms (row_module 0x0306) (bytes_of blind) in
     (rounds step start 3, record { rounds_to = 3; is = refl; stays = refl }, lit≤ tt, refl)
 
 unfoldable pub meet : List Arm
 meet = record { branch = 0x0304; join = 0x0318; cycles = 6 } ∷ []
 
 abbrev balanced_points : ℕ → List Point
-balanced_points n = rounds (flow_under no_terms (called 0x0322) (bytes_of balanced) meet) (start_under no_terms (called 0x0322) (bytes_of balanced)) n
+balanced_points n = rounds (flow_under no_terms (row_module 0x0322) (bytes_of balanced) meet) (start_under no_terms (row_module 0x0322) (bytes_of balanced)) n
 
 balanced_stays : balanced_points 6 ≡ balanced_points 5
 unfolding bytes_of meet step_arms met step_of step_stub has_stub plan_val does_val insn_of cycles_of
 balanced_stays = refl
 
-balanced_reasons : all_reasons (flow_under no_terms (called 0x0322) (bytes_of balanced) meet) (balanced_points 5) ≡ []
+balanced_reasons : all_reasons (flow_under no_terms (row_module 0x0322) (bytes_of balanced) meet) (balanced_points 5) ≡ []
 unfolding bytes_of meet step_arms met step_of step_stub has_stub plan_val does_val insn_of cycles_of
 balanced_reasons = refl
 
@@ -132,18 +132,18 @@ balanced_few : length (balanced_points 5) ≡ 5
 unfolding bytes_of meet step_arms met step_of step_stub has_stub plan_val does_val insn_of cycles_of
 balanced_few = refl
 
-pub balanced_accepted : VerdictWith (called 0x0322) (bytes_of balanced) meet Yes
+pub balanced_accepted : VerdictWith (row_module 0x0322) (bytes_of balanced) meet Yes
 balanced_accepted =
     (balanced_points 5, record { rounds_to = 5; is = refl; stays = balanced_stays }, subst (λ n. n ≤ 16384) (sym balanced_few) (omega arith), balanced_reasons)
 
 pub blind_peers : BlindPeers
 unfolding all_words
 blind_peers =
-    accepted (image_of blind 0x0306 0) (image_of blind 0x0306 1) 1 (called 0x0306) [] (differ blind 0x0306 0 1 refl (omega arith) refl (omega arith) (omega arith) (omega arith))
-    (subst (λ t. VerdictWith (called 0x0306) t [] Yes) (sym blind_text) blind_accepted)
+    accepted (row_image blind 0x0306 0) (row_image blind 0x0306 1) 1 (row_module 0x0306) [] (differ blind 0x0306 0 1 refl (omega arith) refl (omega arith) (omega arith) (omega arith))
+    (subst (λ t. VerdictWith (row_module 0x0306) t [] Yes) (sym blind_text) blind_accepted)
 
 pub balanced_peers : BalancedPeers
 unfolding all_words
 balanced_peers =
-    accepted (image_of balanced 0x0322 0) (image_of balanced 0x0322 1) 1 (called 0x0322) meet (differ balanced 0x0322 0 1 refl (omega arith) refl (omega arith) (omega arith) (omega arith))
-    (subst (λ t. VerdictWith (called 0x0322) t meet Yes) (sym balanced_text) balanced_accepted)
+    accepted (row_image balanced 0x0322 0) (row_image balanced 0x0322 1) 1 (row_module 0x0322) meet (differ balanced 0x0322 0 1 refl (omega arith) refl (omega arith) (omega arith) (omega arith))
+    (subst (λ t. VerdictWith (row_module 0x0322) t meet Yes) (sym balanced_text) balanced_accepted)

@@ -20,7 +20,7 @@ use Rattle.cpu_step.specs.Effect.{does_freely, confined, does}
 use Rattle.cpu_step.specs.Lone.{Job, Lone, IsEntry, Outcome, Exit, Closing, Running, later, Does, Leaves, doing_by, doing, next_insn, lone_does, at_once, in_time, outcome, alike_but, job_of, EvenBut, AlwaysEven}
 use Rattle.cpu_step.specs.Plan.{plan}
 use Rattle.written_machine.specs.Peers.{section}
-use Rattle.peer_rows.specs.Rows.{called, memory_of, image_of, returning, ReturningPeers}
+use Rattle.peer_rows.specs.Rows.{row_module, memory_of, row_image, returning, ReturningPeers}
 use Rattle.peer_rows.proofs.Examples.{all_words, bytes_of, differ}
 
 -- ---- its one instruction
@@ -55,10 +55,10 @@ starts_at [] e = absurd (omega (arith, e))
 starts_at (pc ∷ others) e = (others, ap (λ x. x ∷ others) e)
 
 -- an even PC is at the start of the text, or outside
-places : (core : List ℕ) → IsCore core → AtStart core ⊎ (holds (called 0x0302).text (reg core PC) ≡ false)
-places core s = by (holds (called 0x0302).text (reg core PC)) refl
+places : (core : List ℕ) → IsCore core → AtStart core ⊎ (holds (row_module 0x0302).text (reg core PC) ≡ false)
+places core s = by (holds (row_module 0x0302).text (reg core PC)) refl
   where
-    by : (b : Bool) → holds (called 0x0302).text (reg core PC) ≡ b → AtStart core ⊎ (holds (called 0x0302).text (reg core PC) ≡ false)
+    by : (b : Bool) → holds (row_module 0x0302).text (reg core PC) ≡ b → AtStart core ⊎ (holds (row_module 0x0302).text (reg core PC) ≡ false)
     by false e = inr e
     by true e = let even = s.even_pc in inl (starts_at core (grind (arith, nat_tests)))
 
@@ -72,7 +72,7 @@ later_alike R _ _ h = absurd h
 
 module _ (key : List ℕ) (caller : ℕ) where
   abbrev job : Job
-  job = job_of key (called 0x0302) (bytes_of returning) caller
+  job = job_of key (row_module 0x0302) (bytes_of returning) caller
 
   does_back : (core d : List ℕ) → lone_does job back (stands core d 0) ≡ stands (next_core core) d 1
   unfolding lone_does asks plan effect does does_freely confined cycles_of next_core
@@ -82,7 +82,7 @@ module _ (key : List ℕ) (caller : ℕ) where
   unfolding doing next_insn insn_of asks plan bytes_of
   begins core d start = subst (λ c. doing job (stands c d 0) ≡ Does back) (sym start.1) refl
 
-  ends : (core d : List ℕ) → holds (called 0x0302).text (reg core PC) ≡ false → doing job (stands core d 0) ≡ Leaves
+  ends : (core d : List ℕ) → holds (row_module 0x0302).text (reg core PC) ≡ false → doing job (stands core d 0) ≡ Leaves
   unfolding doing
   ends core d e = ap (λ b. doing_by 0 false b (next_insn job (stands core d 0))) e
 
@@ -94,7 +94,7 @@ module _ (key : List ℕ) (caller : ℕ) where
     both : (x y o p : Outcome) → x ≡ o → y ≡ p → alike_but [] R o p → alike_but [] R x y
     both x y o p f g h = subst (λ z. alike_but [] R z y) (sym f) (subst (λ z. alike_but [] R o z) (sym g) h)
 
-    leaves : (n : ℕ) (core : List ℕ) → holds (called 0x0302).text (reg core PC) ≡ false → alike_but [] R (outcome job n (stands core d 0)) (outcome job n (stands core e 0))
+    leaves : (n : ℕ) (core : List ℕ) → holds (row_module 0x0302).text (reg core PC) ≡ false → alike_but [] R (outcome job n (stands core d 0)) (outcome job n (stands core e 0))
     leaves zero core out =
         both (outcome job 0 (stands core d 0)) (outcome job 0 (stands core e 0)) (Exit core d 0) (Exit core e 0)
         (ap (λ x. at_once x (stands core d 0)) (ends core d out)) (ap (λ x. at_once x (stands core e 0)) (ends core e out)) (refl, refl, λ same. r)
@@ -122,24 +122,24 @@ module _ (key : List ℕ) (caller : ℕ) where
         (turns n core d start) (turns n core e start) after)
         (leaves (suc n) core) (places core s)
 
-even : (key d e : List ℕ) → AlwaysEven key (called 0x0302) (bytes_of returning) d e
+even : (key d e : List ℕ) → AlwaysEven key (row_module 0x0302) (bytes_of returning) d e
 even key d e [] n h = tt
 even key d e (x ∷ xs) n h =
-    ends_alike key x.caller (EvenBut [] key (called 0x0302) (bytes_of returning) n xs) d e (even key d e xs n (All-tail (IsEntry (called 0x0302)) x xs h))
-    n 0 x.core (All-head (IsEntry (called 0x0302)) x xs h).core_ok
+    ends_alike key x.caller (EvenBut [] key (row_module 0x0302) (bytes_of returning) n xs) d e (even key d e xs n (All-tail (IsEntry (row_module 0x0302)) x xs h))
+    n 0 x.core (All-head (IsEntry (row_module 0x0302)) x xs h).core_ok
 
 -- ---- the peers
 
-returning_text : section (called 0x0302).text (image_of returning 0x0302 0x00ab).memory ≡ bytes_of returning
+returning_text : section (row_module 0x0302).text (row_image returning 0x0302 0x00ab).memory ≡ bytes_of returning
 unfolding memory_of bytes_of
 returning_text = refl
 
 pub returning_peers : ReturningPeers
 unfolding all_words
 returning_peers =
-    let a = image_of returning 0x0302 0x00ab in
-    let b = image_of returning 0x0302 0x00cd in
-    let m = called 0x0302 in
+    let a = row_image returning 0x0302 0x00ab in
+    let b = row_image returning 0x0302 0x00cd in
+    let m = row_module 0x0302 in
     let d = differ returning 0x0302 0x00ab 0x00cd refl (omega arith) refl (omega arith) (omega arith) (omega arith) in
     record {
       image_a = d.image_a;

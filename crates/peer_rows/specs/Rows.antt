@@ -14,8 +14,8 @@ with_words a [] memory = memory
 with_words a (w ∷ ws) memory = with_words (a + 2) ws (slice_set (slice_set memory a (w % 256)) (a + 1) (w / 256))
 
 -- module 1, with its text from 0x0300 on and a word of data at 0x0400
-abbrev pub called : ℕ → Module
-called text_end = record { id = 1; vendor = 7; text = record { start = 0x0300; end = text_end }; ram = record { start = 0x0400; end = 0x0402 } }
+abbrev pub row_module : ℕ → Module
+row_module text_end = record { id = 1; vendor = 7; text = record { start = 0x0300; end = text_end }; ram = record { start = 0x0400; end = 0x0402 } }
 
 -- sets SP, the lines' register, R7 and GIE, and calls module 1; at 0x0214 it loops
 abbrev pub caller : List ℕ
@@ -26,10 +26,10 @@ unfoldable pub memory_of : List ℕ → List ℕ
 memory_of text = with_words 0xfffe (0x0200 ∷ []) (with_words 0xffe2 (0x0500 ∷ []) (with_words 0x0500 (0x1300 ∷ []) (with_words 0x0300 text (with_words 0x0200 caller (replicate 65536 0)))))
 
 -- the image with this word of data
-abbrev pub image_of : List ℕ → ℕ → ℕ → Image
-image_of text text_end word = record {
+abbrev pub row_image : List ℕ → ℕ → ℕ → Image
+row_image text text_end word = record {
   memory = with_words 0x0400 (word ∷ []) (memory_of text);
-  table = record { modules = called text_end ∷ []; given = 1; room = 8 };
+  table = record { modules = row_module text_end ∷ []; given = 1; room = 8 };
   node_key = replicate 16 0;
   handler_sp = 0x0600;
 }
@@ -48,25 +48,25 @@ returning = 0x4700 ∷ []
 
 -- the data 0 and 1
 abbrev pub BlindPeers : Type 0
-BlindPeers = Peers (image_of blind 0x0306 0) (image_of blind 0x0306 1) 1
+BlindPeers = Peers (row_image blind 0x0306 0) (row_image blind 0x0306 1) 1
 
 abbrev pub BalancedPeers : Type 0
-BalancedPeers = Peers (image_of balanced 0x0322 0) (image_of balanced 0x0322 1) 1
+BalancedPeers = Peers (row_image balanced 0x0322 0) (row_image balanced 0x0322 1) 1
 
 -- the data ab 00 and cd 00
 abbrev pub ReturningPeers : Type 0
-ReturningPeers = Peers (image_of returning 0x0302 0x00ab) (image_of returning 0x0302 0x00cd) 1
+ReturningPeers = Peers (row_image returning 0x0302 0x00ab) (row_image returning 0x0302 0x00cd) 1
 
 -- line 0 is up in cycle 13
-abbrev pub pulse : List Entry
-pulse = record { cycle = 13; what = Up 0 } ∷ record { cycle = 14; what = Down 0 } ∷ []
+abbrev pub row_pulse : List Entry
+row_pulse = record { cycle = 13; what = Up 0 } ∷ record { cycle = 14; what = Down 0 } ∷ []
 
 -- module 1 is entered and, in its second cycle, interrupted
 abbrev pub IsInterrupted : Image → Type 0
-IsInterrupted image = lines_after (boot image pulse) 26 ≡ codes "12 enter 1 from 0\n13 hide 1 vector 1\n25 handler pc 0500\n"
+IsInterrupted image = lines_after (boot image row_pulse) 26 ≡ codes "12 enter 1 from 0\n13 hide 1 vector 1\n25 handler pc 0500\n"
 
 -- so is each of these
 abbrev pub PeersAreInterrupted : Type 0
 PeersAreInterrupted =
-    IsInterrupted (image_of returning 0x0302 0x00ab) × IsInterrupted (image_of returning 0x0302 0x00cd)
-    × IsInterrupted (image_of balanced 0x0322 0) × IsInterrupted (image_of balanced 0x0322 1)
+    IsInterrupted (row_image returning 0x0302 0x00ab) × IsInterrupted (row_image returning 0x0302 0x00cd)
+    × IsInterrupted (row_image balanced 0x0322 0) × IsInterrupted (row_image balanced 0x0322 1)

@@ -12,7 +12,7 @@ use Rattle.mod_layout.specs.Table.{holds}
 use Rattle.mod_layout.specs.Tables.{IsModule}
 use Rattle.image_text.specs.Image.{IsImage}
 use Rattle.peer_rows.specs.Laws.{DifferInData}
-use Rattle.peer_rows.specs.Rows.{called}
+use Rattle.peer_rows.specs.Rows.{row_module}
 use Rattle.workload.specs.declared.program.TheConstants.{START, PROGRAM, TEXT, DATA, HANDLER, LINE_VECTOR}
 use Rattle.sm_words.specs.Bytes.{word_bytes}
 use Rattle.workload.specs.Program.{placed_words, memory, image}
@@ -90,7 +90,7 @@ same_else v w x e =
 
 -- ---- images
 
-is_module : IsModule 1 (called 0x0322)
+is_module : IsModule 1 (row_module 0x0322)
 is_module = record {
   text_ok = record { order = omega arith; even_start = refl; even_end = refl; low = omega arith; high = omega arith };
   ram_ok = record { order = omega arith; even_start = refl; even_end = refl; low = omega arith; high = omega arith };
@@ -115,7 +115,7 @@ is_image v small = record {
   small_sp = omega arith;
 }
 
-pub differ : (v w : ℕ) → v < 65536 → w < 65536 → DifferInData (image v) (image w) 1 (called 0x0322)
+pub differ : (v w : ℕ) → v < 65536 → w < 65536 → DifferInData (image v) (image w) 1 (row_module 0x0322)
 unfolding image
 differ v w a b = record {
   image_a = is_image v a;
