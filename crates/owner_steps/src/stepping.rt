@@ -146,7 +146,8 @@ fn put_between<S: Sink>(
     new: &Core,
     sink: &mut S,
 ) -> Result<(), Failed>
-    ensures { Puts S.taken S.faults S.sure sink.old sink.new (lines_between old.now (option_map begun_of found) new.now) result }
+    ensures { Puts S.taken S.faults S.sure sink.old sink.new (lines_between old.now (option_map begun_of found) new.now)
+        result }
 {
     match found {
         None => put_registers(old, new, sink),
