@@ -171,14 +171,7 @@ fn ranges(rt: HostRuntime) -> Result<(), Fail> {
     ];
     for (name, r12, r13, r14, want) in rows {
         let mut core = core(7, r12, r13, r14, 0xeeee);
-        let answer = unit(
-            name,
-            &mut core,
-            &mut memory,
-            &mut table,
-            INSIDE,
-            &NODE_KEY,
-        );
+        let answer = unit(name, &mut core, &mut memory, &mut table, INSIDE, &NODE_KEY);
         let got = answer.map(|done| (core.get(15), done.cycles));
         assert_eq!(rt; got, want, "{r12:04x} {r13:04x} {r14:04x}");
     }
@@ -191,7 +184,14 @@ fn tags(rt: HostRuntime) -> Result<(), Fail> {
     let mut table = two_modules()?;
     // The message, the two bytes at 0x0400, is read before its tag is written over it.
     let mut tagging = core(7, 0x0400, 0x0402, 0x0400, 0);
-    let answer = unit(UnitName::Tag, &mut tagging, &mut memory, &mut table, INSIDE, &NODE_KEY);
+    let answer = unit(
+        UnitName::Tag,
+        &mut tagging,
+        &mut memory,
+        &mut table,
+        INSIDE,
+        &NODE_KEY,
+    );
     assert_eq!(rt; (answer, tagging.get(15)), (Ok(done(262, false, 0)), 1));
     for (addr, byte) in (0x0400..).zip(TAG) {
         assert_eq!(rt; memory.byte(addr), byte, "at {addr:04x}");
@@ -248,10 +248,24 @@ fn protected_and_closed(rt: HostRuntime) -> Result<(), Fail> {
         caller: 0,
     };
     let mut closing = core(0, 0, 0, 0, 0xeeee);
-    let answer = unit(UnitName::Unprotect, &mut closing, &mut memory, &mut table, who, &NODE_KEY);
+    let answer = unit(
+        UnitName::Unprotect,
+        &mut closing,
+        &mut memory,
+        &mut table,
+        who,
+        &NODE_KEY,
+    );
     assert_eq!(rt; (answer, closing.get(15)), (Ok(done(38, true, 0)), 0xeeee));
     // Its own caller is none.
-    let answer = unit(UnitName::CallerId, &mut closing, &mut memory, &mut table, who, &NODE_KEY);
+    let answer = unit(
+        UnitName::CallerId,
+        &mut closing,
+        &mut memory,
+        &mut table,
+        who,
+        &NODE_KEY,
+    );
     assert_eq!(rt; (answer, closing.get(15)), (Ok(done(6, false, 0)), 0));
     Ok(())
 }
@@ -260,7 +274,14 @@ fn protected_and_closed(rt: HostRuntime) -> Result<(), Fail> {
 fn protect_ninth(memory: &mut Memory, table: &mut ModuleTable) -> (Option<UnitDone>, u16, bool) {
     memory.set_byte(0x2004, 1);
     let mut core = core(7, 0x2000, 0x2002, 0x2004, 0x2006);
-    let answer = unit(UnitName::Protect, &mut core, memory, table, OUTSIDE, &NODE_KEY);
+    let answer = unit(
+        UnitName::Protect,
+        &mut core,
+        memory,
+        table,
+        OUTSIDE,
+        &NODE_KEY,
+    );
     (answer.ok(), core.get(15), table.get(9).is_some())
 }
 
